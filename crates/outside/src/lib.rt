@@ -1,13 +1,15 @@
-// A library with one function.
+//! The outside as traits with a written meaning: input, output, the block directory, the local record.
 #![tactic(auto)]
 
-ghost use Rattle.std.specs.Prelude.{◌≡◌};
-ghost use Rattle.outside.specs.Echo.{echo_of};
+mod change;
+mod keeper;
+mod sink;
+mod source;
+mod vault;
 
-// The `ensures` clause is the contract: what `echo` returns is `echo_of` of its argument, a definition
-// in `specs/Echo.antt`, which a caller's clause can cite too.
-pub fn echo(x: usize) -> usize
-    ensures { result ≡ echo_of x }
-{
-    x
-}
+pub use block_id::{Failed, Memory};
+pub use change::{Change, FileName, Pending};
+pub use keeper::Keeper;
+pub use sink::Sink;
+pub use source::Source;
+pub use vault::{GetFail, Vault};

@@ -1,0 +1,24 @@
+// Names of files in the block directory, and changes of them.
+
+use block_id::BlockId;
+
+/// The name of a file: the configuration first, then blocks in order of their ids.
+#[derive(Clone, Copy, Debug, PartialEq, Eq, PartialOrd, Ord)]
+pub enum FileName {
+    Config,
+    Block(BlockId),
+}
+
+/// New bytes of a file, or its removal.
+#[derive(Debug, Drop)]
+pub enum Change {
+    Bytes(Vec<u8>),
+    Removal,
+}
+
+/// A change that isn't written yet.
+#[derive(Debug, Drop)]
+pub struct Pending {
+    pub name: FileName,
+    pub change: Change,
+}
