@@ -1,0 +1,4 @@
+pub mod Instant
+pub mod Names
+pub mod PathTexts
+pub mod Fitting
