@@ -2,6 +2,15 @@
 
 use crate::Moment;
 
+/// The mode of a new directory and of the root, 755 octal.
+pub const DIRECTORY_MODE: u32 = 0o755;
+
+/// The mode of a new file, 644 octal.
+pub const FILE_MODE: u32 = 0o644;
+
+/// The mode of a new link, 777 octal.
+pub const LINK_MODE: u32 = 0o777;
+
 /// What stands at a path.
 #[derive(Clone, Copy, Debug, PartialEq, Eq)]
 pub enum Kind {

@@ -12,14 +12,14 @@ mod parse;
 mod path;
 mod reply;
 
-pub use attr::{Attr, Kind};
+pub use attr::{Attr, DIRECTORY_MODE, FILE_MODE, Kind, LINK_MODE};
 pub use block_id::Memory;
 pub use bytes::ByteText;
 pub use command::Command;
 pub use error::{FsError, PathError};
 pub use limits::{
-    MAX_ENTRIES, MAX_FILE, MAX_GROWTH, MAX_MODE, MAX_NAME, MAX_PATH_TEXT, MAX_READ, MAX_TARGET,
-    NANOS_PER_SEC,
+    ENTRY_SIZE, MAX_ENTRIES, MAX_FILE, MAX_GROWTH, MAX_MODE, MAX_NAME, MAX_PATH_TEXT, MAX_READ,
+    MAX_TARGET, NANOS_PER_SEC,
 };
 pub use moment::Moment;
 pub use name::Name;

@@ -13,7 +13,7 @@ pub const MAX_PATH_TEXT: usize = 4_096;
 pub const MAX_TARGET: usize = 4_095;
 
 /// The greatest mode, 7777 octal.
-pub const MAX_MODE: u32 = 4_095;
+pub const MAX_MODE: u32 = 0o7777;
 
 /// Bytes of a file.
 pub const MAX_FILE: u64 = 68_719_476_736;
@@ -21,7 +21,10 @@ pub const MAX_FILE: u64 = 68_719_476_736;
 /// Bytes by which one command lets a file grow.
 pub const MAX_GROWTH: u64 = 67_108_864;
 
-/// Bytes that the entries of a directory take: 66 and the name for each child.
+/// Bytes of a directory's entry beside its name.
+pub const ENTRY_SIZE: u64 = 66;
+
+/// Bytes that the entries of a directory take.
 pub const MAX_ENTRIES: u64 = 67_108_864;
 
 /// Bytes asked for by one read.
