@@ -1,0 +1,5 @@
+pub mod SubByte
+pub mod Xor
+pub mod States
+pub mod Keys
+pub mod Blocks

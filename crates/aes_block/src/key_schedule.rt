@@ -1,0 +1,100 @@
+// A key, expanded to the keys of the rounds (FIPS 197, 5.2).
+ghost use Rattle.std.specs.Prelude.{◌≡◌, ◌+◌, ◌/◌, ◌%◌, ◌<◌};
+ghost use Rattle.aes_block.specs.KeyExpansion.{add_word, aes256, key_expansion, key_step, x_power};
+
+use crate::cipher::{EXPANDED_LEN, encrypt_with, xtime};
+use crate::sbox::sub_byte;
+use std::marker::Model;
+
+/// A key of 32 bytes, ready to encrypt blocks.
+#[derive(Clone, Copy)]
+pub struct KeySchedule {
+    // The round keys, the first two of which are the key.
+    words: [u8; EXPANDED_LEN],
+}
+
+impl Model for KeySchedule {
+    ghost use Rattle.std.specs.Prelude.{◌≡◌, ℕ, List, take, refl};
+    ghost use Rattle.std.proofs.Common.{sym};
+    ghost use Rattle.aes_block.specs.KeyExpansion.{key_expansion};
+
+    ghost Value = { List ℕ };
+
+    ghost view = { λ keys. take 32 keys.words };
+
+    ghost invariant = { λ keys. keys.words ≡ key_expansion (take 32 keys.words) };
+
+    ghost inverse = { λ key. record { words = key_expansion key } };
+
+    ghost inverse_ok = { λ keys expanded. λ i. record { words = sym expanded i } };
+}
+
+impl KeySchedule {
+    /// Expands the key.
+    pub fn new(key: &[u8; 32]) -> KeySchedule
+        ensures { result ≡ key.now }
+    {
+        KeySchedule { words: expand(key) }
+    }
+
+    /// The block, encrypted by AES-256 under the key.
+    pub fn encrypt(&self, block: [u8; 16]) -> [u8; 16]
+        ensures { result ≡ aes256 self.now block }
+    {
+        encrypt_with(&self.words, block)
+    }
+}
+
+// The 60 words of a key, as bytes.
+fn expand(key: &[u8; 32]) -> [u8; EXPANDED_LEN]
+    ensures { result ≡ key_expansion key.now }
+{
+    let mut k = [0u8; EXPANDED_LEN];
+    'key: for i in 0..32 {
+        k[i] = key[i];
+    }
+    let mut power: u8 = 1;
+    'words: for n in 0..52 {
+        let last = [k[4 * n + 28], k[4 * n + 29], k[4 * n + 30], k[4 * n + 31]];
+        let step = key_step(n, power, last);
+        if n % 8 == 0 {
+            power = xtime(power);
+        }
+        let first = [k[4 * n], k[4 * n + 1], k[4 * n + 2], k[4 * n + 3]];
+        k[4 * n + 32..4 * n + 36].copy_from_slice(&add_word(first, step));
+    }
+    k
+}
+
+// What word n is added to, given word n + 7, for word n + 8.
+#[inline(always)]
+fn key_step(n: usize, power: u8, w: [u8; 4]) -> [u8; 4]
+    requires below { n < 52 }
+    requires power { n % 8 ≡ 0 → power ≡ x_power (n / 8) }
+    ensures { result ≡ key_step (n + 8) w }
+{
+    if n % 8 == 0 {
+        [
+            sub_byte(w[1]) ^ power,
+            sub_byte(w[2]),
+            sub_byte(w[3]),
+            sub_byte(w[0]),
+        ]
+    } else if n % 8 == 4 {
+        [
+            sub_byte(w[0]),
+            sub_byte(w[1]),
+            sub_byte(w[2]),
+            sub_byte(w[3]),
+        ]
+    } else {
+        w
+    }
+}
+
+#[inline(always)]
+fn add_word(v: [u8; 4], w: [u8; 4]) -> [u8; 4]
+    ensures { result ≡ add_word v w }
+{
+    [v[0] ^ w[0], v[1] ^ w[1], v[2] ^ w[2], v[3] ^ w[3]]
+}
