@@ -1,4 +1,5 @@
 pub mod Causes
+pub mod MemoryStreams
 pub mod Streams
 pub mod Trace
 pub mod View

@@ -3,6 +3,8 @@
 
 mod change;
 mod keeper;
+mod memory_sink;
+mod memory_source;
 mod sink;
 mod source;
 mod vault;
@@ -10,6 +12,8 @@ mod vault;
 pub use block_id::{Failed, Memory};
 pub use change::{Change, FileName, Pending};
 pub use keeper::Keeper;
+pub use memory_sink::MemorySink;
+pub use memory_source::MemorySource;
 pub use sink::Sink;
 pub use source::Source;
 pub use vault::{GetFail, Vault};

@@ -1,0 +1,23 @@
+-- What streams in memory hold, and how often they were called.
+use Rattle.std.specs.Prelude.{ℕ, ◌+◌, ◌-◌, ◌^◌, min, List}
+
+-- one call or one fault more; a count stays at its type's end
+abbrev pub one_more : ℕ → ℕ
+one_more count = min (count + 1) (2 ^ 64 - 1)
+
+-- the bytes that are left, the most that one call gives, the numbers of the calls that fail, the calls and the faults so far
+pub record Feed : Type 0 where
+  pub rest : List ℕ
+  pub piece : ℕ
+  pub fails : List ℕ
+  pub calls : ℕ
+  pub faults : ℕ
+
+-- the bytes that were written, the most that one call takes and that all take, the numbers of the calls that fail, the calls and the faults so far
+pub record Drain : Type 0 where
+  pub written : List ℕ
+  pub piece : ℕ
+  pub room : ℕ
+  pub fails : List ℕ
+  pub calls : ℕ
+  pub faults : ℕ
