@@ -1,7 +1,5 @@
 -- One id more, and all of them.
-use Rattle.std.proofs.Common.{◌≡◌, ◌++◌, ◌∙◌, ap, sym, length, take, append_assoc}
-use Rattle.std.specs.List.{concat}
-use Rattle.data_nodes.specs.Layout.{ids_of}
+use Rattle.std.proofs.Common.{◌∙◌}
 use Rattle.data_nodes.proofs.Laws.{concat-next_id, sized_next, sized_all}
 use Rattle.data_nodes.proofs.writing.put_ids.Goals as goal
 

@@ -1,5 +1,5 @@
 -- The text and its fill are the payload.
-use Rattle.std.proofs.Common.{◌≡◌, [], ◌++◌, sym, ◌∙◌, ap}
+use Rattle.std.proofs.Common.{◌≡◌, ◌++◌, ◌∙◌, ap}
 use Rattle.std.specs.Vec.{vec_len}
 use Rattle.data_nodes.specs.Layout.{node_of, text_of}
 use Rattle.data_nodes.proofs.Laws.{sized, written}
