@@ -5,7 +5,7 @@ use Rattle.fs_model.specs.declared.attr.Attr.{Attr}
 use Rattle.fs_model.specs.declared.attr.Kind.{Kind}
 use Rattle.fs_model.specs.declared.attr.Kind.TheVariants.{Directory, File, Link}
 use Rattle.fs_model.specs.declared.attr.TheConstants.{DIRECTORY_MODE, FILE_MODE, LINK_MODE}
-use Rattle.fs_model.specs.declared.limits.TheConstants.{MAX_FILE, MAX_GROWTH, MAX_ENTRIES, MAX_READ, ENTRY_SIZE}
+use Rattle.fs_model.specs.declared.limits.TheConstants.{MAX_FILE, MAX_GROWTH, MAX_ENTRIES, MAX_READ}
 use Rattle.fs_model.specs.declared.error.FsError.{FsError}
 use Rattle.fs_model.specs.declared.error.FsError.TheVariants.{NoEntry, Exists, NotDirectory, IsDirectory, NotEmpty, Invalid, Busy, TooLarge, NotLink}
 use Rattle.fs_model.specs.declared.command.Command.{Command}
@@ -14,7 +14,7 @@ use Rattle.fs_model.specs.declared.reply.ListRow.{ListRow}
 use Rattle.fs_model.specs.declared.reply.Reply.{Reply}
 use Rattle.fs_model.specs.declared.reply.Reply.TheVariants.{Done, Rows, Info, Target, Content, Error}
 use Rattle.fs_model.specs.Instant.{Instant}
-use Rattle.fs_model.specs.Tree.{Path, Tree, Row, upward, parent, last_name, is_root, same_path, is_directory, children, directory_size}
+use Rattle.fs_model.specs.Tree.{Path, Tree, Row, upward, parent, last_name, is_root, same_path, is_directory, children, entry_size, directory_size}
 use Rattle.fs_model.specs.LookUp.{Seen, Found, Free, Bad, look}
 use Rattle.fs_model.specs.Move.{is_above, renamed}
 
@@ -67,7 +67,7 @@ new_row kind mode now bytes = record {
 
 abbrev pub made : Tree → Path → Row → Seen → Stepped
 made t p row (Found old) = refused t Exists
-made t p row Free = cond (nat_lt MAX_ENTRIES (directory_size t (parent p) + (ENTRY_SIZE + length (last_name p)))) (refused t TooLarge) (done (insert t p row))
+made t p row Free = cond (nat_lt MAX_ENTRIES (directory_size t (parent p) + entry_size (last_name p))) (refused t TooLarge) (done (insert t p row))
 made t p row (Bad e) = refused t e
 
 -- Rmdir: an empty directory goes

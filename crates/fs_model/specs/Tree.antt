@@ -85,10 +85,13 @@ child_entries p ((n ∷ q, row) ∷ es) = cond (same_path p q) ((n, row) ∷ chi
 unfoldable pub children : Tree → Path → FinMap name_cmp Row
 children t p = from_entries (child_entries p (entries t))
 
--- the bytes that directory entries take
+-- the bytes that the entry of a name takes
+abbrev pub entry_size : List ℕ → ℕ
+entry_size n = ENTRY_SIZE + length n
+
 abbrev pub entries_size : {X : Type 0} → List (List ℕ × X) → ℕ
 entries_size [] = 0
-entries_size (e ∷ es) = (ENTRY_SIZE + length e.0) + entries_size es
+entries_size (e ∷ es) = entry_size e.0 + entries_size es
 
 -- the bytes that the entries of the directory p take
 abbrev pub directory_size : Tree → Path → ℕ

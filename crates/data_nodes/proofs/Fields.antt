@@ -1,0 +1,114 @@
+-- Parts of a node's text: bytes, the header, the fill, and ids one after the other.
+use Rattle.std.proofs.Common.{◌≡◌, ℕ, zero, suc, ◌+◌, ◌-◌, ◌*◌, ◌/◌, ◌^◌, ◌<◌, ◌≤◌, Bool, true, false, cond, eqb, ltb, List, [], ◌∷◌, ◌++◌, length, get_or, take, drop, replicate, All, refl, sym, ap, ◌∙◌, append_assoc, arith, inl, inr}
+use Rattle.std.specs.Prelude.{slice_index, Option, Some, None}
+use Rattle.std.specs.List.{concat}
+use Rattle.std.specs.Int.{w16, w32, to_le_bytes, from_le_bytes}
+use Rattle.std.proofs.lemmas.Bool.{cases_lt, eqb-true, and_parts, le-ltb}
+use Rattle.std.proofs.lemmas.List.{take_at, drop_at, take-append-drop, length-append, length-take, length-drop, length-replicate, nil_from_length, get_or-drop, get_or-take, get_or_past}
+use Rattle.std.proofs.lemmas.List.Elements.{All-nil, All-cons, All-head, All-tail}
+use Rattle.std.proofs.lemmas.Nat.{le_bytes_2, le_bytes_4, from_le_bytes-to_le_bytes_4}
+use Rattle.data_nodes.specs.Layout.{header}
+use Rattle.data_nodes.specs.Reading.{is_zeros, cut, contents_at, node_at}
+
+abbrev pub IsBytes : List ℕ → Type 0
+IsBytes bytes = (i : ℕ) → get_or bytes i 0 < 256
+
+pub IsBytes-drop : (n : ℕ) (bytes : List ℕ) → IsBytes bytes → IsBytes (drop n bytes)
+IsBytes-drop n bytes fits i = rw get_or-drop (fits (n + i))
+
+pub IsBytes-take : (n : ℕ) (bytes : List ℕ) → IsBytes bytes → IsBytes (take n bytes)
+IsBytes-take n bytes fits i =
+    elim (cases_lt i n) [
+      | inl lt ↦ rw (get_or-take n bytes i 0 lt) (fits i)
+      | inr le ↦ rw (get_or_past (take n bytes) i 0 (omega (arith, length-take n bytes))) (omega arith)
+    ]
+
+-- what a test with no answer let through
+pub some_behind : {A : Type 0} (b : Bool) (x : Option A) (y : A) → cond b None x ≡ Some y → (b ≡ false) × (x ≡ Some y)
+some_behind true x y e = absurd cc
+some_behind false x y e = (refl, e)
+
+-- ---- zeros
+
+pub zeros_are : (bytes : List ℕ) → is_zeros bytes ≡ true → bytes ≡ replicate (length bytes) 0
+zeros_are [] e = refl
+zeros_are (byte ∷ bytes) e =
+    let parts = and_parts (eqb byte 0) (is_zeros bytes) e in
+    let first : byte ≡ 0 = eqb-true byte 0 parts.0 in
+    let rest : bytes ≡ replicate (length bytes) 0 = zeros_are bytes parts.1 in
+    ap (λ b. b ∷ bytes) first ∙ ap (λ bs. 0 ∷ bs) rest
+
+pub zeros_again : (n : ℕ) → is_zeros (replicate n 0) ≡ true
+zeros_again zero = refl
+zeros_again (suc n) = zeros_again n
+
+-- a text with zeros up to the end of the payload
+pub filled : (payload front contents body : List ℕ) (fill : ℕ) → payload ≡ front ++ contents → contents ≡ body ++ replicate fill 0
+    → payload ≡ (front ++ body) ++ replicate (length payload - length (front ++ body)) 0
+filled payload front contents body fill whole parts =
+    let text : payload ≡ (front ++ body) ++ replicate fill 0 = whole ∙ ap (λ rest. front ++ rest) parts ∙ sym (append_assoc front body (replicate fill 0)) in
+    let len : length payload ≡ length (front ++ body) + fill = ap length text ∙ length-append (front ++ body) (replicate fill 0) ∙ ap (λ n. length (front ++ body) + n) (length-replicate fill 0) in
+    let left : length payload - length (front ++ body) ≡ fill = omega arith in
+    text ∙ ap (λ n. (front ++ body) ++ replicate n 0) (sym left)
+
+-- ---- ids
+
+pub cut_next : (rest : List ℕ) → 16 ≤ length rest → cut (length rest / 16) rest ≡ take 16 rest ∷ cut (length (drop 16 rest) / 16) (drop 16 rest)
+cut_next rest long =
+    let count : length rest / 16 ≡ suc (length (drop 16 rest) / 16) = omega (arith, length-drop 16 rest) in
+    ap (λ n. cut n rest) count
+
+pub length-cut : (count : ℕ) (bytes : List ℕ) → length (cut count bytes) ≡ count
+length-cut zero bytes = refl
+length-cut (suc count) bytes = ap suc (length-cut count (drop 16 bytes))
+
+pub concat-cut : (count : ℕ) (bytes : List ℕ) → length bytes ≡ count * 16 → concat (cut count bytes) ≡ bytes
+concat-cut zero bytes len = sym (nil_from_length bytes len)
+concat-cut (suc count) bytes len =
+    let rest : concat (cut count (drop 16 bytes)) ≡ drop 16 bytes = concat-cut count (drop 16 bytes) (omega (arith, length-drop 16 bytes)) in
+    ap (λ b. take 16 bytes ++ b) rest ∙ take-append-drop 16 bytes
+
+pub cut_ids : (count : ℕ) (bytes : List ℕ) → length bytes ≡ count * 16 → All (λ id. length id ≡ 16) (cut count bytes)
+cut_ids zero bytes len = All-nil (λ id. length id ≡ 16)
+cut_ids (suc count) bytes len =
+    All-cons (λ id. length id ≡ 16) (take 16 bytes) (cut count (drop 16 bytes)) (omega (arith, length-take 16 bytes)) (cut_ids count (drop 16 bytes) (omega (arith, length-drop 16 bytes)))
+
+pub length-concat_ids : (ids : List (List ℕ)) → All (λ id. length id ≡ 16) ids → length (concat ids) ≡ length ids * 16
+length-concat_ids [] each = refl
+length-concat_ids (id ∷ ids) each =
+    let first : length id ≡ 16 = All-head (λ id. length id ≡ 16) id ids each in
+    let rest : length (concat ids) ≡ length ids * 16 = length-concat_ids ids (All-tail (λ id. length id ≡ 16) id ids each) in
+    omega (arith, length-append id (concat ids))
+
+pub cut_again : (ids : List (List ℕ)) → All (λ id. length id ≡ 16) ids → cut (length ids) (concat ids) ≡ ids
+cut_again [] each = refl
+cut_again (id ∷ ids) each =
+    let len : length id ≡ 16 = All-head (λ id. length id ≡ 16) id ids each in
+    let first : take 16 (id ++ concat ids) ≡ id = take_at id (concat ids) 16 len in
+    let rest : cut (length ids) (drop 16 (id ++ concat ids)) ≡ ids =
+    ap (cut (length ids)) (drop_at id (concat ids) 16 len) ∙ cut_again ids (All-tail (λ id. length id ≡ 16) id ids each) in
+    ap (λ x. x ∷ cut (length ids) (drop 16 (id ++ concat ids))) first ∙ ap (λ xs. id ∷ xs) rest
+
+-- ---- the header
+
+pub u32_below : (bytes : List ℕ) → IsBytes bytes → from_le_bytes w32 bytes < 2 ^ 32
+u32_below bytes fits = omega (arith, fits 0, fits 1, fits 2, fits 3)
+
+pub header_takes : (payload : List ℕ) → IsBytes payload → 8 ≤ length payload → from_le_bytes w16 (take 2 payload) ≡ 0 → slice_index payload 2 ≡ 0
+    → payload ≡ header (slice_index payload 3) (from_le_bytes w32 (take 4 (drop 4 payload))) ++ drop 8 payload
+header_takes (a ∷ b ∷ c ∷ depth ∷ d ∷ e ∷ f ∷ g ∷ rest) fits long format zero_byte =
+    let payload : List ℕ = a ∷ b ∷ c ∷ depth ∷ d ∷ e ∷ f ∷ g ∷ rest in
+    let first : to_le_bytes w16 0 ≡ take 2 payload = le_bytes_2 (take 2 payload) 0 refl (IsBytes-take 2 payload fits) (sym format) in
+    let size : to_le_bytes w32 (from_le_bytes w32 (take 4 (drop 4 payload))) ≡ take 4 (drop 4 payload) =
+    le_bytes_4 (take 4 (drop 4 payload)) _ refl (IsBytes-take 4 (drop 4 payload) (IsBytes-drop 4 payload fits)) refl in
+    sym (ap (λ u. (u ++ 0 ∷ depth ∷ to_le_bytes w32 (from_le_bytes w32 (take 4 (drop 4 payload)))) ++ rest) first
+    ∙ ap (λ u. (take 2 payload ++ 0 ∷ depth ∷ u) ++ rest) size
+    ∙ ap (λ u. a ∷ b ∷ u ∷ depth ∷ d ∷ e ∷ f ∷ g ∷ rest) (sym zero_byte))
+header_takes payload fits long format zero_byte = absurd (omega arith)
+
+pub header_again : (depth size : ℕ) (contents : List ℕ) → size < 2 ^ 32 → node_at (header depth size ++ contents) ≡ contents_at depth size contents
+unfolding node_at
+header_again depth size contents small =
+    let long : ltb (length (header depth size ++ contents)) 8 ≡ false = le-ltb _ _ (omega (arith, length-append (header depth size) contents)) in
+    let number : from_le_bytes w32 (to_le_bytes w32 size) ≡ size = from_le_bytes-to_le_bytes_4 size small in
+    rw (long, number) refl

@@ -1,0 +1,13 @@
+//! Nodes of the trees that hold blobs, and the payloads that they are written as.
+#![tactic(auto)]
+
+mod node;
+mod reading;
+mod writing;
+
+pub use node::Node;
+pub use reading::{one_reading, read_node};
+pub use writing::write_node;
+
+#[cfg(test)]
+mod tests;
