@@ -1,7 +1,7 @@
 -- The children of edited trees, and the bytes that their entries take.
 use Rattle.std.specs.Prelude.{◌≡◌, ℕ, ◌+◌, ◌≤◌, Bool, true, false, cond, List, [], ◌∷◌, length}
 use Rattle.std.proofs.Common.{refl, sym, ◌∙◌, ap, subst, inl, inr, arith}
-use Rattle.std.specs.FinMap.{FinMap, get, entries, find, insert, remove, empty, get-insert, get-remove, get-entries, entries-insert, same_map, len, empty_of_len, get-empty}
+use Rattle.std.specs.FinMap.{FinMap, get, entries, find, insert, remove, empty, get-insert, get-remove, get-entries, entries-insert, same_map, len, empty_of_len, get-empty, len-entries, len-empty}
 use Rattle.std.specs.FinMap.Entries.{put, by_order}
 use Rattle.std.specs.declared.cmp.Ordering.{Ordering}
 use Rattle.std.specs.declared.cmp.Ordering.TheVariants.{Less, Equal, Greater}
@@ -76,11 +76,18 @@ module _ {X : Type 0} where
     | Some x ↦ λ e. let size = size-remove m n x e in omega arith
   ] refl
 
+  size_of_none : (es : List (List ℕ × X)) → length es ≡ 0 → entries_size es ≡ 0
+  size_of_none [] e = refl
+  size_of_none (x ∷ es) e = absurd (omega arith)
+
   pub empty_names : (m : NameMap X) → len m ≡ 0 → (n : List ℕ) → get m n ≡ None
   empty_names m e n = ap (λ z. get z n) (empty_of_len m e) ∙ get-empty name_cmp n
 
   pub no_names : (m : NameMap X) → ((n : List ℕ) → get m n ≡ None) → m ≡ empty
   no_names m none = same_names m empty (λ n. none n ∙ sym (get-empty name_cmp n))
+
+pub size-empty : (X : Type 0) → map_size (empty {X = X} {R = name_cmp}) ≡ 0
+size-empty X = size_of_none (entries (empty {X = X} {R = name_cmp})) (sym (len-entries (empty {X = X} {R = name_cmp})) ∙ len-empty name_cmp X)
 
 -- the children of a path are the map that has the same rows
 pub same_children : (t : Tree) (p : Path) (m : NameMap Row) → ((n : List ℕ) → get t (n ∷ p) ≡ get m n) → children t p ≡ m
