@@ -1,18 +1,18 @@
 -- The tree after a move: what it has at a path, and that it stays well formed.
-use Rattle.std.specs.Prelude.{◌≡◌, ℕ, ◌+◌, ◌≤◌, ◌||◌, Bool, true, false, cond, List, [], ◌∷◌, ◌++◌, length, is_some}
+use Rattle.std.specs.Prelude.{◌≡◌, ℕ, ◌≤◌, true, false, List, [], ◌∷◌, ◌++◌, length, is_some}
 use Rattle.std.proofs.Common.{refl, sym, ◌∙◌, ap, subst, inl, inr, arith, length-append}
 use Rattle.std.proofs.lemmas.Bool.{or_right, or_left}
-use Rattle.std.specs.FinMap.{get, entries, insert, remove, empty}
+use Rattle.std.specs.FinMap.{get, remove, empty}
 use Rattle.std.specs.declared.option.Option.{Option}
 use Rattle.std.specs.declared.option.Option.TheVariants.{None, Some}
 use Rattle.fs_model.specs.declared.limits.TheConstants.{MAX_ENTRIES}
 use Rattle.fs_model.specs.Instant.{Instant}
-use Rattle.fs_model.specs.Tree.{Path, Tree, Row, same_path, is_directory, is_folder, children, directory_size, entry_size, IsRooted, IsWithinLimits, IsWellFormed}
-use Rattle.fs_model.specs.Move.{is_above, strip, under, renamed}
+use Rattle.fs_model.specs.Tree.{Path, Tree, Row, same_path, is_folder, children, directory_size, IsRooted, IsWithinLimits, IsWellFormed}
+use Rattle.fs_model.specs.Move.{is_above, strip, renamed}
 use Rattle.fs_model.specs.Step.{with_ctime, moved_tree}
-use Rattle.fs_model.proofs.TreeLemmas.{path_split, path_same, name_split, get-children, insert_here, insert_apart, remove_here, remove_apart, none_of}
+use Rattle.fs_model.proofs.TreeLemmas.{path_split, path_same, name_split, get-children, insert_here, insert_apart, remove_here, remove_apart}
 use Rattle.fs_model.proofs.MoveLemmas.{strip-append, strip-is, source, get-renamed}
-use Rattle.fs_model.proofs.SizeLemmas.{NameMap, map_size, same_children, no_names, name_insert_here, name_insert_apart, name_remove_here, name_remove_apart, size-remove-le, size-empty}
+use Rattle.fs_model.proofs.SizeLemmas.{map_size, same_children, no_names, name_remove_here, name_remove_apart, size-remove-le, size-empty}
 
 shorter : (s : Path) (n : List ℕ) (p : Path) → p ≡ s ++ (n ∷ p) → ⊥
 shorter s n p e = omega (arith, ap length e, length-append s (n ∷ p))
@@ -131,6 +131,7 @@ module _ (t : Tree) (now : Instant) (pn : List ℕ) (pd : Path) (qn : List ℕ) 
     where
       refl_q : strip q [] ≡ None
       refl_q = strip_none q [] (λ s e. absurd (omega (arith, ap length e, length-append s q)))
+
       refl_p : strip p [] ≡ None
       refl_p = strip_none p [] (λ s e. absurd (omega (arith, ap length e, length-append s p)))
 
@@ -164,7 +165,7 @@ module _ (t : Tree) (now : Instant) (pn : List ℕ) (pd : Path) (qn : List ℕ) 
   off_size sizes d h differ = elim (strip p d) as (λ o. strip p d ≡ o → directory_size next d ≤ MAX_ENTRIES) [
     | Some s ↦ λ e.
         let none : children next d ≡ empty = no_names (children next d) (λ n.
-            get-children next d n ∙ moved-gone (n ∷ d) (n ∷ s) (child_off_q n d h differ) (ap (strip p) (ap (λ z. n ∷ z) (strip-is p d s e)) ∙ strip-append p (n ∷ s))) in
+        get-children next d n ∙ moved-gone (n ∷ d) (n ∷ s) (child_off_q n d h differ) (ap (strip p) (ap (λ z. n ∷ z) (strip-is p d s e)) ∙ strip-append p (n ∷ s))) in
         empty_fits d none
     | None ↦ λ e. elim (path_split d pd) [
       | inl same ↦
@@ -172,13 +173,14 @@ module _ (t : Tree) (now : Instant) (pn : List ℕ) (pd : Path) (qn : List ℕ) 
           let size = sizes d in let bound = size-remove-le (children t d) pn in let is = ap map_size less in omega arith
       | inr other ↦
           let same : children next d ≡ children t d = same_children next d _ (λ n.
-              moved-off (n ∷ d) (child_off_q n d h differ) (child_off_p n d e (λ z. other (cc))) ∙ sym (get-children t d n)) in
+          moved-off (n ∷ d) (child_off_q n d h differ) (child_off_p n d e (λ z. other (cc))) ∙ sym (get-children t d n)) in
           let size = sizes d in let is = ap map_size same in omega arith
     ]
   ] refl
     where
       empty_fits : (d : Path) → children next d ≡ empty → directory_size next d ≤ MAX_ENTRIES
       empty_fits d none = let is : directory_size next d ≡ 0 = ap map_size none ∙ size-empty Row in omega arith
+
       without_p : (n : List ℕ) (d : Path) → strip q d ≡ None → (d ≡ qd → ⊥) → strip p d ≡ None → d ≡ pd → get next (n ∷ d) ≡ get (remove (children t d) pn) n
       without_p n d h differ e same = elim (name_split n pn) [
         | inl k ↦

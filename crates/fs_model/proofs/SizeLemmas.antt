@@ -1,15 +1,13 @@
 -- The children of edited trees, and the bytes that their entries take.
-use Rattle.std.specs.Prelude.{◌≡◌, ℕ, ◌+◌, ◌≤◌, Bool, true, false, cond, List, [], ◌∷◌, length}
+use Rattle.std.specs.Prelude.{◌≡◌, ℕ, ◌+◌, ◌≤◌, cond, List, [], ◌∷◌, length}
 use Rattle.std.proofs.Common.{refl, sym, ◌∙◌, ap, subst, inl, inr, arith}
 use Rattle.std.specs.FinMap.{FinMap, get, entries, find, insert, remove, empty, get-insert, get-remove, get-entries, entries-insert, same_map, len, empty_of_len, get-empty, len-entries, len-empty}
 use Rattle.std.specs.FinMap.Entries.{put, by_order}
-use Rattle.std.specs.declared.cmp.Ordering.{Ordering}
 use Rattle.std.specs.declared.cmp.Ordering.TheVariants.{Less, Equal, Greater}
-use Rattle.std.specs.declared.option.Option.{Option}
 use Rattle.std.specs.declared.option.Option.TheVariants.{None, Some}
 use Rattle.std.specs.Ordering.{is_eq}
-use Rattle.fs_model.specs.Tree.{Path, Tree, Row, name_cmp, entry_size, entries_size, directory_size, children}
-use Rattle.fs_model.proofs.TreeLemmas.{same_name, name_total, name_exact, name_split, name_apart, name_same, path_split, get-children, insert_here, insert_apart, remove_here, remove_apart}
+use Rattle.fs_model.specs.Tree.{Path, Tree, Row, name_cmp, entry_size, entries_size, children}
+use Rattle.fs_model.proofs.TreeLemmas.{name_total, name_exact, name_split, name_apart, name_same, get-children, insert_here, insert_apart, remove_here, remove_apart}
 
 abbrev pub NameMap : Type 0 → Type 0
 NameMap X = FinMap name_cmp X
@@ -37,7 +35,7 @@ module _ {X : Type 0} where
   size-put n x [] none = omega arith
   size-put n x (e ∷ es) none =
       elim (name_cmp n e.0) as (λ r. name_cmp n e.0 ≡ r → cond (is_eq r) (Some e.1) (find name_cmp n es) ≡ None
-          → entries_size (by_order r ((n, x) ∷ e ∷ es) ((e.0, x) ∷ es) (e ∷ put name_cmp n x es)) ≡ (entry_size e.0 + entries_size es) + entry_size n) [
+      → entries_size (by_order r ((n, x) ∷ e ∷ es) ((e.0, x) ∷ es) (e ∷ put name_cmp n x es)) ≡ (entry_size e.0 + entries_size es) + entry_size n) [
         | Less ↦ λ r h. omega arith
         | Equal ↦ λ r h. cc
         | Greater ↦ λ r h. let rest = size-put n x es h in omega arith

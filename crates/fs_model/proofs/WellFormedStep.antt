@@ -1,10 +1,9 @@
 -- Each command keeps a tree well formed.
-use Rattle.std.specs.Prelude.{◌≡◌, ℕ, ◌+◌, ◌≤◌, ◌<◌, ◌||◌, ◌==◌, max, Bool, true, false, cond, List, [], ◌∷◌, ◌++◌, length, is_some, nat_lt, IsTrue, take, drop, replicate}
+use Rattle.std.specs.Prelude.{◌≡◌, ℕ, ◌+◌, ◌≤◌, ◌==◌, max, Bool, true, false, cond, List, [], ◌∷◌, ◌++◌, length, is_some, nat_lt, take, drop, replicate}
 use Rattle.std.proofs.Common.{◌-◌, refl, sym, ◌∙◌, ap, subst, inl, inr, arith, lit≤, length-append, length-drop}
 use Rattle.std.proofs.lemmas.List.{length-take, length-replicate}
 use Rattle.std.proofs.lemmas.Bool.{cond_both, ltb-false, leb-true, or_parts}
-use Rattle.std.specs.FinMap.{FinMap, get, entries, insert, remove, len}
-use Rattle.std.specs.declared.option.Option.{Option}
+use Rattle.std.specs.FinMap.{get, insert, remove, len}
 use Rattle.std.specs.declared.option.Option.TheVariants.{None, Some}
 use Rattle.fs_model.specs.declared.attr.Attr.{Attr}
 use Rattle.fs_model.specs.declared.attr.Kind.{Kind}
@@ -15,12 +14,12 @@ use Rattle.fs_model.specs.declared.error.FsError.TheVariants.{NotEmpty, NotDirec
 use Rattle.fs_model.specs.declared.command.Command.{Command}
 use Rattle.fs_model.specs.declared.command.Command.TheVariants as command
 use Rattle.fs_model.specs.Instant.{Instant}
-use Rattle.fs_model.specs.Fitting.{IsFitting, is_target}
-use Rattle.fs_model.specs.Tree.{Path, Tree, Row, upward, parent, last_name, is_root, same_path, is_directory, is_folder, children, directory_size, entry_size, root_row, FitsKind, IsRooted, IsWithinLimits, IsWellFormed}
+use Rattle.fs_model.specs.Fitting.{IsFitting}
+use Rattle.fs_model.specs.Tree.{Path, Tree, Row, upward, same_path, is_directory, is_folder, children, directory_size, entry_size, FitsKind, IsRooted, IsWithinLimits, IsWellFormed}
 use Rattle.fs_model.specs.LookUp.{Seen, Found, Free, Bad, look}
 use Rattle.fs_model.specs.Move.{is_above}
-use Rattle.fs_model.specs.Step.{Stepped, answered, refused, done, by_kind, on_file, unless_root, listed, told, made, new_row, removed_directory, removed_file, has_child, target_read, content_read, is_too_long, resized, overwritten, with_content, written, truncated, attributes_set, with_mode, with_owner, with_times, moved_tree, moved_unless_large, moved_onto, moved_to, moved_from, step}
-use Rattle.fs_model.proofs.TreeLemmas.{path_split, same_path_is, path_same, get-children, insert_here, insert_apart, remove_here, remove_apart, none_of, some_of}
+use Rattle.fs_model.specs.Step.{Stepped, refused, done, by_kind, on_file, unless_root, listed, told, made, new_row, removed_directory, removed_file, has_child, target_read, content_read, is_too_long, resized, overwritten, with_content, written, truncated, attributes_set, with_mode, with_owner, with_times, moved_tree, moved_unless_large, moved_onto, moved_to, moved_from, step}
+use Rattle.fs_model.proofs.TreeLemmas.{path_split, path_same, get-children, insert_here, insert_apart, remove_here, remove_apart, none_of}
 use Rattle.fs_model.proofs.LookUpLemmas.{get-found, get-free, IsFree}
 use Rattle.fs_model.proofs.SizeLemmas.{map_size, children-insert, children-insert_apart, children-remove, children-remove_apart, size-insert, size-set, size-remove-le, no_children}
 use Rattle.fs_model.proofs.MovedTree.{CanMove, moved_well_formed}
@@ -48,19 +47,19 @@ rows_remove t rows p r x there = elim (path_split r p) [
 insert_free : (t : Tree) (n : List ℕ) (p : Path) (row : Row) → IsWellFormed t → is_folder (get t p) ≡ true → get t (n ∷ p) ≡ None → IsWithinLimits row
     → directory_size t p + entry_size n ≤ MAX_ENTRIES → IsWellFormed (insert t (n ∷ p) row)
 insert_free t n p row wf folder none limits fits = record {
-    rooted = record {
-      root = insert_apart t (n ∷ p) row [] (λ e. cc) ∙ wf.rooted.root;
-      parents = λ m q there. elim (path_split (m ∷ q) (n ∷ p)) [
-        | inl e ↦ let same : q ≡ p = cc in kept q (ap (λ z. is_folder (get t z)) same ∙ folder)
-        | inr d ↦ kept q (wf.rooted.parents m q (ap is_some (sym (insert_apart t (n ∷ p) row (m ∷ q) d)) ∙ there))
-      ];
-    };
-    rows = rows_insert t wf.rows (n ∷ p) row limits;
-    directories = λ d. elim (path_split d p) [
-      | inl e ↦ subst (λ z. directory_size (insert t (n ∷ p) row) z ≤ MAX_ENTRIES) (sym e)
-          (let size = ap map_size (children-insert t n p row) ∙ size-insert (children t p) n row (get-children t p n ∙ none) in omega arith)
-      | inr other ↦ let size = ap map_size (children-insert_apart t n p row d other) in let bound = wf.directories d in omega arith
+  rooted = record {
+    root = insert_apart t (n ∷ p) row [] (λ e. cc) ∙ wf.rooted.root;
+    parents = λ m q there. elim (path_split (m ∷ q) (n ∷ p)) [
+      | inl e ↦ let same : q ≡ p = cc in kept q (ap (λ z. is_folder (get t z)) same ∙ folder)
+      | inr d ↦ kept q (wf.rooted.parents m q (ap is_some (sym (insert_apart t (n ∷ p) row (m ∷ q) d)) ∙ there))
     ];
+  };
+  rows = rows_insert t wf.rows (n ∷ p) row limits;
+  directories = λ d. elim (path_split d p) [
+    | inl e ↦ subst (λ z. directory_size (insert t (n ∷ p) row) z ≤ MAX_ENTRIES) (sym e)
+        (let size = ap map_size (children-insert t n p row) ∙ size-insert (children t p) n row (get-children t p n ∙ none) in omega arith)
+    | inr other ↦ let size = ap map_size (children-insert_apart t n p row d other) in let bound = wf.directories d in omega arith
+  ];
 }
   where
     kept : (q : Path) → is_folder (get t q) ≡ true → is_folder (get (insert t (n ∷ p) row) q) ≡ true
@@ -73,16 +72,16 @@ insert_free t n p row wf folder none limits fits = record {
 insert_found : (t : Tree) (n : List ℕ) (p : Path) (row old : Row) → IsWellFormed t → get t (n ∷ p) ≡ Some old → is_directory old.attr.kind ≡ is_directory row.attr.kind → IsWithinLimits row
     → IsWellFormed (insert t (n ∷ p) row)
 insert_found t n p row old wf there alike limits = record {
-    rooted = record {
-      root = insert_apart t (n ∷ p) row [] (λ e. cc) ∙ wf.rooted.root;
-      parents = λ m q s. kept q (wf.rooted.parents m q (some_before (m ∷ q) s));
-    };
-    rows = rows_insert t wf.rows (n ∷ p) row limits;
-    directories = λ d. elim (path_split d p) [
-      | inl e ↦ subst (λ z. directory_size (insert t (n ∷ p) row) z ≤ MAX_ENTRIES) (sym e)
-          (let size = ap map_size (children-insert t n p row) ∙ size-set (children t p) n old row (get-children t p n ∙ there) in let bound = wf.directories p in omega arith)
-      | inr other ↦ let size = ap map_size (children-insert_apart t n p row d other) in let bound = wf.directories d in omega arith
-    ];
+  rooted = record {
+    root = insert_apart t (n ∷ p) row [] (λ e. cc) ∙ wf.rooted.root;
+    parents = λ m q s. kept q (wf.rooted.parents m q (some_before (m ∷ q) s));
+  };
+  rows = rows_insert t wf.rows (n ∷ p) row limits;
+  directories = λ d. elim (path_split d p) [
+    | inl e ↦ subst (λ z. directory_size (insert t (n ∷ p) row) z ≤ MAX_ENTRIES) (sym e)
+        (let size = ap map_size (children-insert t n p row) ∙ size-set (children t p) n old row (get-children t p n ∙ there) in let bound = wf.directories p in omega arith)
+    | inr other ↦ let size = ap map_size (children-insert_apart t n p row d other) in let bound = wf.directories d in omega arith
+  ];
 }
   where
     some_before : (r : Path) → is_some (get (insert t (n ∷ p) row) r) ≡ true → is_some (get t r) ≡ true
@@ -90,6 +89,7 @@ insert_found t n p row old wf there alike limits = record {
       | inl e ↦ ap (λ z. is_some (get t z)) e ∙ ap is_some there
       | inr d ↦ ap is_some (sym (insert_apart t (n ∷ p) row r d)) ∙ h
     ]
+
     kept : (q : Path) → is_folder (get t q) ≡ true → is_folder (get (insert t (n ∷ p) row) q) ≡ true
     kept q h = elim (path_split q (n ∷ p)) [
       | inl s ↦ ap (λ z. is_folder (get (insert t (n ∷ p) row) z)) s ∙ (ap is_folder (insert_here t (n ∷ p) row) ∙ (sym alike ∙ (ap is_folder (sym there) ∙ (ap (λ z. is_folder (get t z)) (sym s) ∙ h))))
@@ -99,20 +99,20 @@ insert_found t n p row old wf there alike limits = record {
 -- a row fewer, with nothing below it
 remove_bare : (t : Tree) (n : List ℕ) (p : Path) → IsWellFormed t → ((m : List ℕ) → get t (m ∷ (n ∷ p)) ≡ None) → IsWellFormed (remove t (n ∷ p))
 remove_bare t n p wf bare = record {
-    rooted = record {
-      root = remove_apart t (n ∷ p) [] (λ e. cc) ∙ wf.rooted.root;
-      parents = λ m q s. elim (path_split (m ∷ q) (n ∷ p)) [
-        | inl e ↦ let bad : false ≡ true = ap is_some (sym (remove_here t (n ∷ p))) ∙ (ap (λ z. is_some (get (remove t (n ∷ p)) z)) (sym e) ∙ s) in cc
-        | inr d ↦ let before : is_some (get t (m ∷ q)) ≡ true = ap is_some (sym (remove_apart t (n ∷ p) (m ∷ q) d)) ∙ s in
-            ap is_folder (remove_apart t (n ∷ p) q (λ e. childless m q before e)) ∙ wf.rooted.parents m q before
-      ];
-    };
-    rows = rows_remove t wf.rows (n ∷ p);
-    directories = λ d. elim (path_split d p) [
-      | inl e ↦ subst (λ z. directory_size (remove t (n ∷ p)) z ≤ MAX_ENTRIES) (sym e)
-          (let size = ap map_size (children-remove t n p) in let less = size-remove-le (children t p) n in let bound = wf.directories p in omega arith)
-      | inr other ↦ let size = ap map_size (children-remove_apart t n p d other) in let bound = wf.directories d in omega arith
+  rooted = record {
+    root = remove_apart t (n ∷ p) [] (λ e. cc) ∙ wf.rooted.root;
+    parents = λ m q s. elim (path_split (m ∷ q) (n ∷ p)) [
+      | inl e ↦ let bad : false ≡ true = ap is_some (sym (remove_here t (n ∷ p))) ∙ (ap (λ z. is_some (get (remove t (n ∷ p)) z)) (sym e) ∙ s) in cc
+      | inr d ↦ let before : is_some (get t (m ∷ q)) ≡ true = ap is_some (sym (remove_apart t (n ∷ p) (m ∷ q) d)) ∙ s in
+          ap is_folder (remove_apart t (n ∷ p) q (λ e. childless m q before e)) ∙ wf.rooted.parents m q before
     ];
+  };
+  rows = rows_remove t wf.rows (n ∷ p);
+  directories = λ d. elim (path_split d p) [
+    | inl e ↦ subst (λ z. directory_size (remove t (n ∷ p)) z ≤ MAX_ENTRIES) (sym e)
+        (let size = ap map_size (children-remove t n p) in let less = size-remove-le (children t p) n in let bound = wf.directories p in omega arith)
+    | inr other ↦ let size = ap map_size (children-remove_apart t n p d other) in let bound = wf.directories d in omega arith
+  ];
 }
   where
     childless : (m : List ℕ) (q : Path) → is_some (get t (m ∷ q)) ≡ true → q ≡ n ∷ p → ⊥
@@ -239,11 +239,11 @@ can_move_free t pn pd qn qd row wf found above free = from_free (get-free t wf (
 pub can_move_found : (t : Tree) (pn : List ℕ) (pd : Path) (qn : List ℕ) (qd : Path) (row old : Row) → IsRooted t → look t (pn ∷ pd) ≡ Found row → is_above (pn ∷ pd) (qn ∷ qd) ≡ false → look t (qn ∷ qd) ≡ Found old
     → same_path (pn ∷ pd) (qn ∷ qd) ≡ false → ((m : List ℕ) → get t (m ∷ (qn ∷ qd)) ≡ None) → CanMove t pn pd qn qd row
 can_move_found t pn pd qn qd row old wf found above there differ bare = record {
-    here = get-found t (pn ∷ pd) row found;
-    above = above;
-    differ = λ e. let bad : false ≡ true = sym differ ∙ (ap (λ z. same_path z (qn ∷ qd)) e ∙ path_same (qn ∷ qd)) in cc;
-    folder = wf.parents qn qd (ap is_some (get-found t (qn ∷ qd) old there));
-    bare = bare_below t (qn ∷ qd) wf bare;
+  here = get-found t (pn ∷ pd) row found;
+  above = above;
+  differ = λ e. let bad : false ≡ true = sym differ ∙ (ap (λ z. same_path z (qn ∷ qd)) e ∙ path_same (qn ∷ qd)) in cc;
+  folder = wf.parents qn qd (ap is_some (get-found t (qn ∷ qd) old there));
+  bare = bare_below t (qn ∷ qd) wf bare;
 }
 
 -- q is bare where no test refused it
@@ -271,12 +271,12 @@ moved_from_keeps t now pn pd qn qd Free wf h = wf
 moved_from_keeps t now pn pd qn qd (Bad e) wf h = wf
 
 -- the commands that only look
-listed_stays : (t : Tree) (p : Path) (s : Seen) → (listed t p s).tree ≡ t
+pub listed_stays : (t : Tree) (p : Path) (s : Seen) → (listed t p s).tree ≡ t
 listed_stays t p (Found row) = cond_both (is_directory row.attr.kind) _ _ (λ (s : Stepped). s.tree ≡ t) (λ _. refl) (λ _. refl)
 listed_stays t p Free = refl
 listed_stays t p (Bad e) = refl
 
-told_stays : (t : Tree) (s : Seen) → (told t s).tree ≡ t
+pub told_stays : (t : Tree) (s : Seen) → (told t s).tree ≡ t
 told_stays t (Found row) = refl
 told_stays t Free = refl
 told_stays t (Bad e) = refl
@@ -286,12 +286,12 @@ kind_stays t Directory d f l a b c = a
 kind_stays t File d f l a b c = b
 kind_stays t Link d f l a b c = c
 
-target_stays : (t : Tree) (s : Seen) → (target_read t s).tree ≡ t
+pub target_stays : (t : Tree) (s : Seen) → (target_read t s).tree ≡ t
 target_stays t (Found row) = kind_stays t row.attr.kind _ _ _ refl refl refl
 target_stays t Free = refl
 target_stays t (Bad e) = refl
 
-content_stays : (t : Tree) (from count : ℕ) (s : Seen) → (content_read t from count s).tree ≡ t
+pub content_stays : (t : Tree) (from count : ℕ) (s : Seen) → (content_read t from count s).tree ≡ t
 content_stays t from count (Found row) = kind_stays t row.attr.kind _ _ _ refl (cond_both (nat_lt MAX_READ count) _ _ (λ (s : Stepped). s.tree ≡ t) (λ _. refl) (λ _. refl)) refl
 content_stays t from count Free = refl
 content_stays t from count (Bad e) = refl
