@@ -3,12 +3,12 @@ use Rattle.std.specs.Prelude.{ℕ, ◌+◌, ◌*◌, Bool, true, false, ◌&&◌
 use Rattle.std.specs.Option.{option_map}
 use Rattle.std.specs.Result.{result_ok}
 use Rattle.std.specs.Str.{bytes_eq}
-use Rattle.std.specs.Char.{is_ascii_hexdigit, digit_value}
+use Rattle.std.specs.Char.{is_digit, digit_value}
 use Rattle.hex.specs.Hex.{decode_of}
 
 -- the byte that an escape's digits, of either case, stand for
 abbrev pub byte_of : ℕ → ℕ → Option ℕ
-byte_of high low = cond (is_ascii_hexdigit high && is_ascii_hexdigit low) (Some (16 * digit_value high + digit_value low)) None
+byte_of high low = cond (is_digit high 16 && is_digit low 16) (Some (16 * digit_value high + digit_value low)) None
 
 -- the byte in front of the bytes
 abbrev pub with_byte : Option ℕ → Option (List ℕ) → Option (List ℕ)

@@ -1,7 +1,8 @@
 -- The text of a reply.
-use Rattle.std.specs.Prelude.{ℕ, zero, suc, ◌+◌, ◌/◌, ◌%◌, Bool, false, not, ◌&&◌, ◌==◌, nat_le, cond, codes, List, [], ◌∷◌, ◌++◌, length}
+use Rattle.std.specs.Prelude.{ℕ, zero, suc, ◌+◌, ◌/◌, ◌%◌, Bool, false, not, ◌&&◌, ◌==◌, nat_le, cond, codes, List, [], ◌∷◌, ◌++◌, length, map}
 use Rattle.std.specs.List.{flat_map}
-use Rattle.std.specs.Fmt.{decimal, digits, digit_glyph}
+use Rattle.std.specs.Int.Digits.{digits_of}
+use Rattle.std.specs.Fmt.{decimal, digit_glyph}
 use Rattle.fs_model.specs.Instant.{Instant}
 use Rattle.fs_model.specs.declared.attr.Attr.{Attr}
 use Rattle.fs_model.specs.declared.attr.Kind.{Kind}
@@ -40,8 +41,12 @@ abbrev pub hex_text : List ℕ → List ℕ
 hex_text [] = 45 ∷ []
 hex_text (b ∷ bytes) = flat_map hex_byte (b ∷ bytes)
 
+-- a number in a base up to ten, without zeros first, and 0 as `0`
+unfoldable pub numeral : ℕ → ℕ → List ℕ
+numeral base n = cond (n == 0) (48 ∷ []) (map (λ d. 48 + d) (digits_of base n))
+
 abbrev pub octal : ℕ → List ℕ
-octal n = digits 8 false n
+octal n = numeral 8 n
 
 -- the last k decimal digits of a number, zeros too
 abbrev pub last_digits : ℕ → ℕ → List ℕ

@@ -1,7 +1,7 @@
 // Bytes, numbers and moments at the end of a text.
-ghost use Rattle.std.specs.Prelude.{◌≡◌, ◌+◌, ◌<◌, ◌≤◌, ◌++◌, ◌∷◌, [], false};
-ghost use Rattle.std.specs.Fmt.{digits, digit_glyph};
-ghost use Rattle.script_text.specs.Texts.{hex_byte, last_digits, moment_text, word};
+ghost use Rattle.std.specs.Prelude.{◌≡◌, ◌+◌, ◌<◌, ◌≤◌, ◌∷◌, [], false};
+ghost use Rattle.std.specs.Fmt.{decimal, digit_glyph};
+ghost use Rattle.script_text.specs.Texts.{hex_byte, last_digits, moment_text, numeral, octal, word};
 ghost use Rattle.script_text.specs.Appending.{Appends};
 
 use block_id::Memory;
@@ -36,25 +36,32 @@ fn hex_digit(value: u8) -> u8
     if value < 10 { b'0' + value } else { b'a' + (value - 10) }
 }
 
-/// A space and a number in a base from 2 to 10.
-pub fn push_word(out: &mut Vec<u8>, base: u64, n: u64) -> Result<(), Memory>
-    requires low { 2 ≤ base }
-    requires high { base ≤ 10 }
-    ensures { Appends out.old out.new result (word (digits base false n)) }
+/// A space and a number in decimal digits.
+pub fn push_decimal(out: &mut Vec<u8>, n: u64) -> Result<(), Memory>
+    ensures { Appends out.old out.new result (word (decimal n)) }
 {
     push_byte(out, b' ')?;
-    push_number(out, base, n)
+    push_number(out, 10, n)
+}
+
+/// A space and a number in octal digits.
+pub fn push_octal(out: &mut Vec<u8>, n: u64) -> Result<(), Memory>
+    ensures { Appends out.old out.new result (word (octal n)) }
+{
+    push_byte(out, b' ')?;
+    push_number(out, 8, n)
 }
 
 /// A number in a base from 2 to 10.
 fn push_number(out: &mut Vec<u8>, base: u64, n: u64) -> Result<(), Memory>
     requires low { 2 ≤ base }
     requires high { base ≤ 10 }
-    ensures { Appends out.old out.new result (digits base false n) }
+    ensures { Appends out.old out.new result (numeral base n) }
 {
-    if n >= base {
-        push_number(out, base, n / base)?;
+    if n < base {
+        return push_byte(out, b'0' + n as u8);
     }
+    push_number(out, base, n / base)?;
     push_byte(out, b'0' + (n % base) as u8)
 }
 
@@ -62,7 +69,7 @@ fn push_number(out: &mut Vec<u8>, base: u64, n: u64) -> Result<(), Memory>
 pub fn push_moment(out: &mut Vec<u8>, moment: &Moment) -> Result<(), Memory>
     ensures { Appends out.old out.new result (word (moment_text moment.now)) }
 {
-    push_word(out, 10, moment.secs())?;
+    push_decimal(out, moment.secs())?;
     push_byte(out, b'.')?;
     push_last_digits(out, 9, moment.nanos())
 }

@@ -48,6 +48,7 @@ fn byte_of(high: u8, low: u8) -> Option<u8>
     u8::try_from(16 * high + low).ok()
 }
 
+#[tactic(auto, unfolding(crate::specs::Escapes::bytes_of))]
 /// `-` for no bytes, or two hexadecimal digits of either case for each.
 pub fn bytes(alloc: Global, word: &[u8]) -> Result<Vec<u8>, LineError>
     ensures { Gives (λ bytes. bytes.items) result (formed (bytes_of word.now)) }

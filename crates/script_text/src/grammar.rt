@@ -33,10 +33,10 @@ fn parse(alloc: Global, line: &[u8]) -> Result<Command, LineError>
     if line.len() > MAX_LINE {
         return Err(BAD_LINE);
     }
-    let words = words(alloc, line)?;
-    if has_empty_word(words.as_slice()) {
+    if has_empty_word(line) {
         return Err(BAD_LINE);
     }
+    let words = words(alloc, line)?;
     command_in(alloc, words.as_slice())
 }
 

@@ -4,7 +4,7 @@ ghost use Rattle.std.specs.Vec.{vec_capacity};
 ghost use Rattle.script_text.specs.Texts.{text_of, escaped, hex_text, kind_letter, escape, row_text, rows_text, numbers_text, moments_text, info_text, line, word};
 ghost use Rattle.script_text.specs.Appending.{Appends};
 
-use crate::digits::{push_byte, push_bytes, push_hex, push_moment, push_word};
+use crate::digits::{push_byte, push_bytes, push_decimal, push_hex, push_moment, push_octal};
 use block_id::Memory;
 use fs_model::{Attr, FsError, Kind, ListRow, Reply};
 
@@ -41,7 +41,7 @@ fn push_rows(out: &mut Vec<u8>, rows: &[ListRow]) -> Result<(), Memory>
     ensures { Appends out.old out.new result (rows_text rows.now) }
 {
     push_bytes(out, b"list")?;
-    push_word(out, 10, rows.len() as u64)?;
+    push_decimal(out, rows.len() as u64)?;
     push_byte(out, b'\n')?;
     for row in rows {
         push_row(out, row)?;
@@ -71,10 +71,10 @@ fn push_info(out: &mut Vec<u8>, attr: &Attr, size: u64) -> Result<(), Memory>
 fn push_numbers(out: &mut Vec<u8>, attr: &Attr, size: u64) -> Result<(), Memory>
     ensures { Appends out.old out.new result (numbers_text attr.now size) }
 {
-    push_word(out, 8, u64::from(attr.mode))?;
-    push_word(out, 10, u64::from(attr.uid))?;
-    push_word(out, 10, u64::from(attr.gid))?;
-    push_word(out, 10, size)
+    push_octal(out, u64::from(attr.mode))?;
+    push_decimal(out, u64::from(attr.uid))?;
+    push_decimal(out, u64::from(attr.gid))?;
+    push_decimal(out, size)
 }
 
 fn push_moments(out: &mut Vec<u8>, attr: &Attr) -> Result<(), Memory>

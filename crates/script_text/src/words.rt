@@ -16,10 +16,10 @@ pub fn words(alloc: Global, line: &[u8]) -> Result<Vec<&[u8]>, AllocError>
 }
 
 /// Whether a word has no byte.
-pub fn has_empty_word(words: &[&[u8]]) -> bool
-    ensures { result ≡ list_any is_empty (map (λ w. w.now) words.now) }
+pub fn has_empty_word(line: &[u8]) -> bool
+    ensures { result ≡ list_any is_empty (words line.now) }
 {
-    words.iter().any(|w| w.is_empty())
+    line.split(|b| *b == b' ').any(|word| word.is_empty())
 }
 
 /// The one word.
