@@ -57,7 +57,7 @@ last_digits_step zero n h = absurd (omega arith)
 last_digits_step (suc k) n h = let e : suc k - 1 ≡ k = omega arith in rw e refl
 
 -- a digit's value, in a base up to ten
-digit_value_is : (b : ℕ) → 48 ≤ b → b < 58 → digit_value b ≡ b - 48
+pub digit_value_is : (b : ℕ) → 48 ≤ b → b < 58 → digit_value b ≡ b - 48
 digit_value_is b low high = cond-false (ltb b 48) _ _ (le-ltb b 48 low) ∙ cond-true (ltb b 58) _ _ (lt-ltb b 58 high)
 
 pub digit_in : (base b : ℕ) → 48 ≤ b → b < 48 + base → is_digit_in base b ≡ true

@@ -48,7 +48,7 @@ unescaped_cut w h slash short =
     ap unescaped (one_and w h) ∙ ap (λ c. unescaped (c ∷ drop 1 w)) slash ∙ escape_cut (drop 1 w) (omega (arith, length-drop 1 w))
 
 -- a backslash and what follows it
-escape_here : (w : List ℕ) → 4 ≤ length w → get_or w 0 0 ≡ 92 → unescaped w ≡ with_byte (escape_of (get_or w 1 0) (get_or w 2 0) (get_or w 3 0)) (unescaped (take (length w - 4) (drop 4 w)))
+pub escape_here : (w : List ℕ) → 4 ≤ length w → get_or w 0 0 ≡ 92 → unescaped w ≡ with_byte (escape_of (get_or w 1 0) (get_or w 2 0) (get_or w 3 0)) (unescaped (take (length w - 4) (drop 4 w)))
 escape_here w h slash =
     ap unescaped (four_and w h) ∙ ap (λ c. unescaped (c ∷ get_or w 1 0 ∷ get_or w 2 0 ∷ get_or w 3 0 ∷ drop 4 w)) slash
     ∙ escape_first (get_or w 1 0) (get_or w 2 0) (get_or w 3 0) (drop 4 w) ∙ ap (λ z. with_byte (escape_of (get_or w 1 0) (get_or w 2 0) (get_or w 3 0)) (unescaped z)) (sym (take_rest w 4))

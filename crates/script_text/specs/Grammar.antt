@@ -14,7 +14,7 @@ use Rattle.script_text.specs.declared.verb.Verb.{Verb}
 use Rattle.script_text.specs.declared.verb.Verb.TheVariants as verb
 use Rattle.script_text.specs.declared.verb.TheConstants.{VERBS}
 use Rattle.script_text.specs.declared.grammar.TheConstants.{MAX_LINE}
-use Rattle.script_text.specs.Words.{words, is_empty, one, two, three}
+use Rattle.script_text.specs.Words.{words, is_empty, front, one, two, three}
 use Rattle.script_text.specs.Numbers.{number_of, id_of, mode_of, time_of}
 use Rattle.script_text.specs.Escapes.{unescaped, bytes_of}
 
@@ -186,11 +186,12 @@ sentence verb.Chown words = chown words
 sentence verb.Utime words = utime words
 sentence verb.Sync words = sync words
 
+-- the command of words
 unfoldable pub command_in : List (List ℕ) → Result Command FsError
-command_in [] = Err BadLine
-command_in (name ∷ words) = do
-  verb ← formed (verb_of name)
-  sentence verb words
+command_in all = do
+  parts ← front all
+  verb ← formed (verb_of parts.0)
+  sentence verb parts.1
 
 -- the command of a line, or why it is refused
 unfoldable pub command_of : List ℕ → Result Command FsError

@@ -14,6 +14,11 @@ words line = slice_split is_space line
 abbrev pub is_empty : List ℕ → Bool
 is_empty word = length word == 0
 
+-- the first word, and the others
+abbrev pub front : {A : Type 0} → List A → Result (A × List A) FsError
+front [] = Err BadLine
+front (a ∷ rest) = Ok (a, rest)
+
 -- the words of a command that wants just one, two or three after its name
 abbrev pub one : {A : Type 0} → List A → Result A FsError
 one (a ∷ []) = Ok a

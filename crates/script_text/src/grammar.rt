@@ -1,6 +1,8 @@
 // The command that a line says.
 ghost use Rattle.std.specs.Prelude.{◌≡◌, map, IfOk, IfErr};
+ghost use Rattle.std.specs.List.{list_any};
 ghost use Rattle.fs_model.specs.Fitting.{IsFitting};
+ghost use Rattle.fs_model.specs.PathTexts.{is_zero};
 ghost use Rattle.script_text.specs.Grammar as grammar;
 ghost use Rattle.script_text.specs.Grammar.{command_of, sentence, command_in, only_path};
 ghost use Rattle.script_text.specs.Answers.{Gives, IsRefusal};
@@ -10,7 +12,7 @@ use crate::error::BAD_LINE;
 use crate::escapes::{bytes, unescaped};
 use crate::numbers::{id, mode, number, time};
 use crate::verb::{Verb, verb_of};
-use crate::words::{has_empty_word, one, three, two, words};
+use crate::words::{front, has_empty_word, one, three, two, words};
 use fs_model::{ByteText, Command, FsError, MAX_TARGET, Path, PathError, parse_path};
 use std::alloc::Global;
 
@@ -27,6 +29,7 @@ pub fn parse_line(alloc: Global, line: &[u8]) -> Result<Command, LineError>
     parse(alloc, line)
 }
 
+#[tactic(auto, unfolding(crate::specs::Grammar::command_of))]
 fn parse(alloc: Global, line: &[u8]) -> Result<Command, LineError>
     ensures { Gives (λ command. command) result (command_of line.now) }
 {
@@ -41,16 +44,17 @@ fn parse(alloc: Global, line: &[u8]) -> Result<Command, LineError>
 }
 
 /// The command of words.
+#[tactic(auto, unfolding(crate::specs::Grammar::command_in))]
 fn command_in(alloc: Global, words: &[&[u8]]) -> Result<Command, LineError>
     ensures { Gives (λ command. command) result (command_in (map (λ w. w.now) words.now)) }
 {
-    match words {
-        [] => Err(BAD_LINE),
-        [name, rest @ ..] => sentence(alloc, verb_of(name).ok_or(BAD_LINE)?, rest),
-    }
+    let (name, words) = front(words)?;
+    let verb = verb_of(name).ok_or(BAD_LINE)?;
+    sentence(alloc, verb, words)
 }
 
 /// The command of a verb and the words after it.
+#[tactic(auto, unfolding(crate::specs::Grammar::sentence))]
 fn sentence(alloc: Global, verb: Verb, words: &[&[u8]]) -> Result<Command, LineError>
     ensures { Gives (λ command. command) result (sentence verb (map (λ w. w.now) words.now)) }
 {
@@ -212,11 +216,17 @@ fn path(alloc: Global, text: &[u8]) -> Result<Path, LineError>
 fn target(text: Vec<u8>) -> Result<ByteText, LineError>
     ensures { Gives (λ target. target) result (grammar.target text.items) }
 {
-    if text.iter().any(|b| *b == 0) {
+    if has_zero(text.as_slice()) {
         return Err(LineError::Bad(FsError::Invalid));
     }
     if text.len() > MAX_TARGET {
         return Err(LineError::Bad(FsError::NameTooLong));
     }
     Ok(ByteText::new(text))
+}
+
+fn has_zero(text: &[u8]) -> bool
+    ensures { result ≡ list_any is_zero text.now }
+{
+    text.iter().any(|b| *b == 0)
 }

@@ -1,7 +1,8 @@
 // Replies as text.
 ghost use Rattle.std.specs.Prelude.{◌≡◌, ◌+◌, ◌<◌, ◌≤◌, ◌++◌, ◌∷◌, [], codes, length, vec_len, OnOk, OnErr};
 ghost use Rattle.std.specs.Vec.{vec_capacity};
-ghost use Rattle.script_text.specs.Texts.{text_of, escaped, hex_text, kind_letter, escape, row_text, rows_text, numbers_text, moments_text, info_text, line, word};
+ghost use Rattle.std.specs.List.{flat_map};
+ghost use Rattle.script_text.specs.Texts.{text_of, escaped, hex_byte, hex_text, kind_letter, escape, row_text, rows_text, numbers_text, moments_text, info_text, line, word};
 ghost use Rattle.script_text.specs.Appending.{Appends};
 
 use crate::digits::{push_byte, push_bytes, push_decimal, push_hex, push_moment, push_octal};
@@ -24,6 +25,7 @@ pub fn print_reply(reply: &Reply, out: &mut Vec<u8>) -> Result<(), Memory>
     printed
 }
 
+#[tactic(auto, unfolding(crate::specs::Texts::text_of))]
 fn push_reply(out: &mut Vec<u8>, reply: &Reply) -> Result<(), Memory>
     ensures { Appends out.old out.new result (text_of reply.now) }
 {
@@ -43,6 +45,12 @@ fn push_rows(out: &mut Vec<u8>, rows: &[ListRow]) -> Result<(), Memory>
     push_bytes(out, b"list")?;
     push_decimal(out, rows.len() as u64)?;
     push_byte(out, b'\n')?;
+    push_each_row(out, rows)
+}
+
+fn push_each_row(out: &mut Vec<u8>, rows: &[ListRow]) -> Result<(), Memory>
+    ensures { Appends out.old out.new result (flat_map row_text rows.now) }
+{
     for row in rows {
         push_row(out, row)?;
     }
@@ -100,10 +108,17 @@ fn push_content(out: &mut Vec<u8>, bytes: &[u8]) -> Result<(), Memory>
         return push_bytes(out, b"data -\n");
     }
     push_bytes(out, b"data ")?;
+    push_hex_bytes(out, bytes)?;
+    push_byte(out, b'\n')
+}
+
+fn push_hex_bytes(out: &mut Vec<u8>, bytes: &[u8]) -> Result<(), Memory>
+    ensures { Appends out.old out.new result (flat_map hex_byte bytes.now) }
+{
     for byte in bytes {
         push_hex(out, *byte)?;
     }
-    push_byte(out, b'\n')
+    Ok(())
 }
 
 /// Bytes of a name or a target.
@@ -136,8 +151,9 @@ fn kind_letter(kind: Kind) -> u8
     }
 }
 
+#[tactic(auto, unfolding(crate::specs::Texts::text_of))]
 fn error_line(error: FsError) -> &'static [u8]
-    ensures { result.now ≡ text_of (Error error) }
+    ensures { result.now ≡ text_of (Reply.Error error) }
 {
     match error {
         FsError::NoEntry => b"error no-entry\n",

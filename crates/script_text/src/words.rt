@@ -1,7 +1,7 @@
 // The words of a line.
 ghost use Rattle.std.specs.Prelude.{◌≡◌, map, IfOk, IsTrue};
 ghost use Rattle.std.specs.List.{list_any};
-ghost use Rattle.script_text.specs.Words.{words, is_empty, one, two, three};
+ghost use Rattle.script_text.specs.Words.{words, is_empty, front, one, two, three};
 ghost use Rattle.script_text.specs.Answers.{Gives};
 
 use crate::LineError;
@@ -20,6 +20,16 @@ pub fn has_empty_word(line: &[u8]) -> bool
     ensures { result ≡ list_any is_empty (words line.now) }
 {
     line.split(|b| *b == b' ').any(|word| word.is_empty())
+}
+
+/// The first word, and the others.
+pub fn front<'a, 'b>(words: &'b [&'a [u8]]) -> Result<(&'a [u8], &'b [&'a [u8]]), LineError>
+    ensures { Gives (λ all. (all.0.now, map (λ w. w.now) all.1.now)) result (front (map (λ w. w.now) words.now)) }
+{
+    match words {
+        [first, rest @ ..] => Ok((*first, rest)),
+        [] => Err(BAD_LINE),
+    }
 }
 
 /// The one word.
