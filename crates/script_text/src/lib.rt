@@ -13,4 +13,5 @@ mod words;
 
 pub use error::LineError;
 pub use grammar::{MAX_LINE, parse_line};
+pub use numbers::number;
 pub use print::print_reply;
