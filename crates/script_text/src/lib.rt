@@ -8,6 +8,8 @@ mod escapes;
 mod grammar;
 mod numbers;
 mod print;
+#[cfg(test)]
+mod tests;
 mod verb;
 mod words;
 
