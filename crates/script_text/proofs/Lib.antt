@@ -1,5 +1,6 @@
 pub mod Appended
 pub mod Lines
 pub mod Numerals
+pub mod OneReading
 pub mod Shorts
 pub mod Spelled

@@ -5,3 +5,4 @@ pub mod Grammar
 pub mod Answers
 pub mod Texts
 pub mod Appending
+pub mod Shown
