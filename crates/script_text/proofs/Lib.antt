@@ -4,3 +4,4 @@ pub mod Numerals
 pub mod OneReading
 pub mod Shorts
 pub mod Spelled
+pub mod Unformed

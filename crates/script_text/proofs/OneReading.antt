@@ -1,12 +1,12 @@
 -- Texts can be read in one way only.
-use Rattle.std.proofs.Common.{◌≡◌, ◌≢◌, ℕ, zero, suc, ◌+◌, ◌-◌, ◌*◌, ◌/◌, ◌%◌, ◌^◌, ◌<◌, ◌≤◌, Bool, true, false, cond, not, ◌==◌, ◌&&◌, List, [], ◌∷◌, ◌++◌, length, map, get_or, drop, refl, sym, ap, ◌∙◌, subst, arith, ◌⊎◌, inl, inr, nat_lt, append_assoc}
+use Rattle.std.proofs.Common.{◌≡◌, ◌≢◌, ℕ, zero, suc, ◌+◌, ◌-◌, ◌*◌, ◌/◌, ◌%◌, ◌^◌, ◌<◌, ◌≤◌, Bool, true, false, cond, not, ◌==◌, ◌&&◌, List, [], ◌∷◌, ◌++◌, length, map, get_or, drop, refl, sym, ap, ◌∙◌, subst, arith, inl, inr, nat_lt, append_assoc}
 use Rattle.std.specs.Prelude.{nat_le, codes}
 use Rattle.std.specs.List.{AllByRecursion, flat_map}
 use Rattle.std.specs.Fmt.{decimal, digit_glyph}
 use Rattle.std.specs.Str.{bytes_eq}
 use Rattle.std.specs.Str.Parse.{AllDigits}
 use Rattle.std.specs.Int.Digits.{digits_of, number_from_digits}
-use Rattle.std.proofs.lemmas.Bool.{cases_eq, cases_lt, cases_Bool, cond-true, cond-false, lt-ltb, le-ltb, leb-true, and_parts, not-true, eqb-false, ne_eqb}
+use Rattle.std.proofs.lemmas.Bool.{cases_eq, cases_lt, cond-true, cond-false, lt-ltb, le-ltb, leb-true, and_parts, not-true, eqb-false, ne_eqb}
 use Rattle.std.proofs.lemmas.Fmt.{decimal_is_IsNumeral, decimal_injective}
 use Rattle.std.proofs.lemmas.Int.Digits.{number_digits_of}
 use Rattle.std.proofs.lemmas.List.{same_from_push}
@@ -20,7 +20,7 @@ use Rattle.fs_model.specs.declared.error.FsError.TheVariants.{NoEntry, Exists, N
 use Rattle.fs_model.specs.declared.reply.ListRow.{ListRow}
 use Rattle.fs_model.specs.declared.reply.Reply.{Reply}
 use Rattle.fs_model.specs.declared.reply.Reply.TheVariants.{Done, Rows, Info, Target, Content, Error}
-use Rattle.script_text.specs.Texts.{numeral, octal, hex_byte, is_plain, escape, escaped, hex_text, last_digits, moment_text, kind_letter, row_text, rows_text, numbers_text, moments_text, info_text, error_name, text_of, line, word}
+use Rattle.script_text.specs.Texts.{numeral, octal, hex_byte, is_plain, escape, escaped, hex_text, last_digits, moment_text, kind_letter, row_text, rows_text, info_text, error_name, text_of, line, word}
 use Rattle.script_text.specs.Shown.{AreBytes, IsMoment, IsInfo, AreRows, IsShown, texts_of, HasOneReading}
 use Rattle.script_text.proofs.Numerals.{numeral_some, numeral-zero}
 

@@ -16,6 +16,6 @@ mod words;
 
 pub use error::LineError;
 pub use grammar::{MAX_LINE, parse_line};
-pub use law::texts_have_one_reading;
+pub use law::{bad_lines_have_no_form, texts_have_one_reading};
 pub use numbers::number;
 pub use print::print_reply;
