@@ -1,10 +1,10 @@
 -- The digits of numbers.
-use Rattle.std.proofs.Common.{◌≡◌, ℕ, zero, suc, ◌+◌, ◌-◌, ◌*◌, ◌/◌, ◌%◌, ◌^◌, ◌<◌, ◌≤◌, Bool, true, false, cond, ◌==◌, List, [], ◌∷◌, ◌++◌, length, map, refl, sym, ap, ◌∙◌, arith}
-use Rattle.std.proofs.lemmas.Bool.{eq-eqb, ne_eqb, cond-true, cond-false, cases_eq}
+use Rattle.std.proofs.Common.{◌≡◌, ℕ, zero, suc, ◌+◌, ◌-◌, ◌*◌, ◌/◌, ◌%◌, ◌^◌, ◌<◌, ◌≤◌, true, ◌==◌, List, [], ◌∷◌, ◌++◌, length, map, refl, sym, ap, ◌∙◌, arith}
+use Rattle.std.proofs.lemmas.Bool.{ne_eqb, cond-true, cond-false, cases_eq}
 use Rattle.std.proofs.Common.{inl, inr}
 use Rattle.std.proofs.lemmas.Nat.{le-div}
 use Rattle.std.proofs.Math.Nat.{div-eq_of_lt, mod-eq_of_lt, mul-le-mul_left, pow-suc, pow-le-pow_right}
-use Rattle.std.proofs.Common.{add-one, take, get_or, ltb, leb, ◌&&◌}
+use Rattle.std.proofs.Common.{add-one, take, get_or, ltb, leb}
 use Rattle.std.proofs.lemmas.List.Folds.{list_all_more}
 use Rattle.std.proofs.lemmas.Int.Digits.{digits_value_more}
 use Rattle.std.specs.List.{list_all}
@@ -73,8 +73,7 @@ number_more base word i v small within low high so_far =
     let digit : digit_value b ≡ b - 48 = digit_value_is b low (omega arith) in
     let times : v * base ≤ v * 10 = mul-le-mul_left v small in
     let bound : v < 10 ^ i = so_far.2 in
-    let power : 10 ^ (i + 1) ≡ 10 ^ i * 10 = rw add-one (pow-suc 10 i) in
-    (
+    let power : 10 ^ (i + 1) ≡ 10 ^ i * 10 = rw add-one (pow-suc 10 i) in (
       list_all_more (is_digit_in base) word i 0 within ∙ and_from _ _ so_far.0 here,
       ap (λ n. n * base + (b - 48)) so_far.1 ∙ ap (λ d. digits_value base (take i word) * base + d) (sym digit) ∙ sym (digits_value_more base word i within),
       rw power (omega arith),

@@ -6,12 +6,16 @@ mod digits;
 mod error;
 mod escapes;
 mod grammar;
+mod law;
 mod numbers;
 mod print;
+#[cfg(test)]
+mod tests;
 mod verb;
 mod words;
 
 pub use error::LineError;
 pub use grammar::{MAX_LINE, parse_line};
+pub use law::{bad_lines_have_no_form, texts_have_one_reading};
 pub use numbers::number;
 pub use print::print_reply;

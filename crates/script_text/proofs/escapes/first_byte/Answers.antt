@@ -1,4 +1,4 @@
-use Rattle.std.proofs.Common.{arith, sym}
+use Rattle.std.proofs.Common.{arith}
 use Rattle.std.proofs.Common.{length-take, length-drop}
 use Rattle.script_text.proofs.Spelled.{unescaped_plain, unescaped_cut, unescaped_no_x, unescaped_byte}
 use Rattle.script_text.proofs.escapes.first_byte.Goals as goal
@@ -21,8 +21,7 @@ returns-in_err-byte c =
     rw c.from_residual.ensures (unescaped_byte c.args.word.now _ c.if-word-lt4.false c.if-word-ne92.false c.if-word-ne120.false c.in_err-byte.ensures)
 
 pub returns : goal.returns
-returns c =
-    (
-      unescaped_byte c.args.word.now _ c.if-word-lt4.false c.if-word-ne92.false c.if-word-ne120.false c.in_ok-byte.ensures,
-      simp (length-take, length-drop) (omega arith),
-    )
+returns c = (
+  unescaped_byte c.args.word.now _ c.if-word-lt4.false c.if-word-ne92.false c.if-word-ne120.false c.in_ok-byte.ensures,
+  simp (length-take, length-drop) (omega arith),
+)
