@@ -1,3 +1,6 @@
 pub mod PathLemmas
 pub mod SortedLemmas
 pub mod FindLemmas
+pub mod ChildLemmas
+pub mod EditLemmas
+pub mod EffectLemmas
