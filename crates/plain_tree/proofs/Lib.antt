@@ -4,3 +4,4 @@ pub mod FindLemmas
 pub mod ChildLemmas
 pub mod EditLemmas
 pub mod EffectLemmas
+pub mod ContentLemmas

@@ -1,5 +1,5 @@
 // Commands that change the content or the attributes of one row.
-ghost use Rattle.std.specs.Prelude.{◌≡◌, ◌+◌, ◌<◌, ◌≤◌, ◌^◌, length, max, IfOk, OnOk, OnErr};
+ghost use Rattle.std.specs.Prelude.{◌≡◌, ◌+◌, ◌≤◌, ◌++◌, length, take, drop, IfOk, OnOk, OnErr};
 ghost use Rattle.fs_model.specs.declared.limits.TheConstants.{MAX_FILE};
 ghost use Rattle.fs_model.specs.Tree.{upward};
 ghost use Rattle.fs_model.specs.LookUp.{look};
@@ -113,8 +113,16 @@ fn overwrite(content: &mut Vec<u8>, from: usize, bytes: &[u8]) -> Result<(), Mem
     if end > content.len() {
         content.resize(end, 0)?;
     }
-    content[from..end].copy_from_slice(bytes);
+    put_at(content, from, bytes);
     Ok(())
+}
+
+/// Puts the bytes in place of those at `from`.
+fn put_at(content: &mut [u8], from: usize, bytes: &[u8])
+    requires { from + length bytes.now ≤ length content.old }
+    ensures { content.new ≡ take from content.old ++ bytes.now ++ drop (from + length bytes.now) content.old }
+{
+    content[from..from + bytes.len()].copy_from_slice(bytes);
 }
 
 /// Cuts a file, or fills it with zeros.

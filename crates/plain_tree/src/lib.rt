@@ -8,5 +8,7 @@ mod find;
 mod line;
 mod look;
 mod read;
+mod tree;
 
 pub use block_id::Memory;
+pub use tree::PlainTree;
