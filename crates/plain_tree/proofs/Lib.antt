@@ -5,3 +5,4 @@ pub mod ChildLemmas
 pub mod EditLemmas
 pub mod EffectLemmas
 pub mod ContentLemmas
+pub mod FormedLemmas
