@@ -1,5 +1,5 @@
 -- A line that is read piece by piece.
-use Rattle.std.proofs.Common.{◌≡◌, not, ◌≤◌, ◌<◌, ◌+◌, ◌++◌, [], ◌∷◌, ℕ, List, Bool, true, false, MatchBool, length, ap, ◌∙◌, arith, sym, subst, append_assoc, append-nil, length-append, IsTrue}
+use Rattle.std.proofs.Common.{◌≡◌, not, ◌<◌, ◌++◌, [], ◌∷◌, ℕ, List, Bool, true, false, MatchBool, length, ap, ◌∙◌, arith, sym, subst, append_assoc, append-nil, IsTrue}
 use Rattle.std.specs.declared.option.Option.{Option}
 use Rattle.std.specs.declared.option.Option.TheVariants.{None, Some}
 use Rattle.outside.specs.Streams.{Ends}

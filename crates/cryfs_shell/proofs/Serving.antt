@@ -1,12 +1,12 @@
 -- Lines that are answered one after another.
-use Rattle.std.proofs.Common.{◌≡◌, ◌⊎◌, ◌≤◌, ◌+◌, ◌^◌, ◌++◌, [], ◌∷◌, ℕ, List, inl, inr, ap, ◌∙◌, arith, sym, subst, refl, append_assoc, append-nil}
+use Rattle.std.proofs.Common.{◌≡◌, ◌⊎◌, ◌≤◌, ◌^◌, ◌++◌, [], ◌∷◌, ℕ, List, inl, inr, ap, ◌∙◌, arith, sym, subst, refl, append_assoc, append-nil}
 use Rattle.std.specs.declared.option.Option.{Option}
 use Rattle.std.specs.declared.option.Option.TheVariants.{None, Some}
 use Rattle.outside.specs.Causes.{RoseBy}
 use Rattle.outside.specs.Streams.{appends, Ends}
 use Rattle.cryfs_shell.specs.Lines.{lines}
 use Rattle.cryfs_shell.specs.Reading.{Line, total}
-use Rattle.cryfs_shell.specs.Turns.{in_order, joined, BeginWith, Are, Cut, CutLast, Stream, Failed, TookMost}
+use Rattle.cryfs_shell.specs.Turns.{in_order, joined, BeginWith, Are, Cut, CutLast, Failed, TookMost}
 use Rattle.cryfs_shell.proofs.Flow.{appends-append}
 
 -- the bytes are these lines and what is left, where they are told

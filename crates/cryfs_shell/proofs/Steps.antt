@@ -2,7 +2,6 @@
 use Rattle.std.proofs.Common.{◌≡◌, ◌⊎◌, inl, inr, ◌≤◌, ℕ, Bool, true, false, cond, nat_lt, List, [], length, take, drop, refl, arith, map}
 use Rattle.std.proofs.lemmas.Grind.{common_steps}
 use Rattle.std.proofs.lemmas.Bool.Decides.{nat_tests}
-use Rattle.std.specs.Prelude.{Result, Ok, Err}
 use Rattle.fs_model.specs.Instant.{Instant}
 use Rattle.fs_model.specs.declared.attr.TheConstants.{DIRECTORY_MODE, FILE_MODE, LINK_MODE}
 use Rattle.fs_model.specs.declared.limits.TheConstants.{MAX_ENTRIES}
@@ -15,7 +14,7 @@ use Rattle.fs_model.specs.declared.command.Command.{Command}
 use Rattle.fs_model.specs.declared.command.Command.TheVariants as command
 use Rattle.fs_model.specs.declared.reply.Reply.{Reply}
 use Rattle.fs_model.specs.declared.reply.Reply.TheVariants.{Done, Rows, Info, Target, Content, Error}
-use Rattle.fs_model.specs.Tree.{Path, Tree, Row, upward, parent, is_root, directory_size, same_path, is_directory, children}
+use Rattle.fs_model.specs.Tree.{Path, Tree, Row, upward, parent, is_root, directory_size, is_directory, children}
 use Rattle.std.specs.FinMap.{entries}
 use Rattle.fs_model.specs.LookUp.{Seen, Found, Free, Bad, look}
 use Rattle.fs_model.specs.Step.{Stepped, new_row, with_mode, with_owner, with_times, moved_tree, list_row, answered, refused, done, by_kind, unless_root, listed, told, made, removed_directory, removed_file, target_read, on_file, content_read, written, truncated, attributes_set, moved_onto, moved_to, moved_from, moved_unless_large, step}

@@ -1,5 +1,5 @@
 -- What a trial did, from how its lines were served.
-use Rattle.std.proofs.Common.{◌≡◌, ℕ, List, [], sym, subst}
+use Rattle.std.proofs.Common.{◌≡◌, ℕ, List, sym, subst}
 use Rattle.std.specs.declared.option.Option.{Option}
 use Rattle.fs_model.specs.Instant.{Instant}
 use Rattle.fs_model.specs.Tree.{Tree, empty_tree}
@@ -9,8 +9,8 @@ use Rattle.cryfs_shell.specs.declared.status.Status.{Status}
 use Rattle.cryfs_shell.specs.declared.trial.Trial.{Trial}
 use Rattle.cryfs_shell.specs.Reading.{Reading, coming, fresh}
 use Rattle.cryfs_shell.specs.Trials.{Entry, exchanges, lines_of, texts_of, IsSession}
-use Rattle.cryfs_shell.specs.Turns.{Turn, turn_lines, turn_texts, Went, Stream, EndsAs, Served}
-use Rattle.cryfs_shell.specs.Runs.{Taken, Written, Cause, IsTrial, Tried, status_of}
+use Rattle.cryfs_shell.specs.Turns.{turn_lines, turn_texts, Stream, EndsAs, Served}
+use Rattle.cryfs_shell.specs.Runs.{IsTrial, Tried, status_of}
 use Rattle.cryfs_shell.proofs.Flow.{coming-nil}
 use Rattle.cryfs_shell.proofs.Trying.{answers_line, Entries, went_entries}
 

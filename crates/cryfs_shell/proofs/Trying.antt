@@ -1,5 +1,5 @@
 -- The answers of the plain tree, from its turns.
-use Rattle.std.proofs.Common.{◌≡◌, ◌⊎◌, inl, inr, ◌≤◌, ◌<◌, ◌+◌, ℕ, Bool, true, false, cond, nat_le, List, [], ◌∷◌, ◌++◌, length, codes, refl, sym, ap, ◌∙◌, subst, arith}
+use Rattle.std.proofs.Common.{◌≡◌, inl, inr, ◌≤◌, ◌<◌, ℕ, Bool, true, false, cond, nat_le, List, [], ◌∷◌, length, refl, sym, ap, ◌∙◌, subst, arith}
 use Rattle.std.proofs.lemmas.Bool.Decides.{nat_tests}
 use Rattle.std.specs.Prelude.{Result, Ok, Err}
 use Rattle.std.specs.declared.option.Option.{Option}
@@ -15,7 +15,7 @@ use Rattle.fs_model.specs.declared.reply.Reply.TheVariants.{Done, Rows, Info, Ta
 use Rattle.script_text.specs.Grammar.{command_of}
 use Rattle.script_text.specs.Texts.{text_of}
 use Rattle.script_text.proofs.Lines.{command_of-long}
-use Rattle.script_text.proofs.Shorts.{length-text_of-Done, length-text_of-Error-le}
+use Rattle.script_text.proofs.Shorts.{length-text_of-Done}
 use Rattle.workload.specs.Generated.{generated_of}
 use Rattle.cryfs_shell.specs.Lines.{kept}
 use Rattle.cryfs_shell.specs.Trials.{replied, Follows, AnswersLine, Entry, exchanges, lines_of, texts_of, IsSession, latest}
@@ -23,7 +23,7 @@ use Rattle.cryfs_shell.specs.Summaries.{read_len}
 use Rattle.cryfs_shell.specs.Turns.{Turn, turn_lines, turn_texts, Went}
 use Rattle.cryfs_shell.specs.declared.trial.Trial.{Trial}
 use Rattle.cryfs_shell.specs.declared.trial.TrialAnswer.{TrialAnswer}
-use Rattle.cryfs_shell.specs.declared.trial.TrialAnswer.TheVariants.{Reply as Replied, Memory}
+use Rattle.cryfs_shell.specs.declared.trial.TrialAnswer.TheVariants.{Reply as Replied}
 use Rattle.cryfs_shell.proofs.Steps.{IsShort, IsFair, fair_step}
 
 kept_none : (line : List ℕ) (b : Bool) → nat_le (length line) 1048576 ≡ b → ◌≡◌ {A = Option (List ℕ)} None (cond b (Some line) None) → 1048576 < length line

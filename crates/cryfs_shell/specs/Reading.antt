@@ -2,7 +2,6 @@
 use Rattle.std.specs.Prelude.{◌≡◌, ℕ, ◌+◌, ◌-◌, ◌^◌, Bool, false, List, [], ◌∷◌, ◌++◌, length}
 use Rattle.std.specs.declared.option.Option.{Option}
 use Rattle.std.specs.declared.option.Option.TheVariants.{None, Some}
-use Rattle.outside.specs.Streams.{Ends}
 use Rattle.cryfs_shell.specs.Lines.{lines, kept}
 
 -- the line that was read last, the bytes that were read ahead, how many were read, and whether the input has ended

@@ -1,8 +1,7 @@
 -- The summary of answers.
-use Rattle.std.specs.Prelude.{◌≡◌, ◌≤◌, ◌*◌, ℕ, ◌+◌, Bool, true, false, codes, List, [], ◌∷◌, ◌++◌, length}
+use Rattle.std.specs.Prelude.{◌≤◌, ◌*◌, ℕ, Bool, true, false, codes, List, [], ◌∷◌, ◌++◌, length}
 use Rattle.std.specs.List.{count_by, sum_by}
 use Rattle.std.specs.Fmt.{decimal}
-use Rattle.fs_model.specs.declared.reply.Reply.{Reply}
 use Rattle.fs_model.specs.declared.reply.Reply.TheVariants.{Content, Error}
 use Rattle.cryfs_shell.specs.declared.summary.Summary.{Summary}
 use Rattle.cryfs_shell.specs.declared.trial.TrialAnswer.{TrialAnswer}

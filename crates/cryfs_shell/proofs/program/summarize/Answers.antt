@@ -1,5 +1,5 @@
-use Rattle.std.proofs.Common.{◌≡◌, ◌+◌, List, [], ◌∷◌, length, refl, ap, ◌∙◌, arith}
-use Rattle.fs_model.specs.Tree.{Tree, empty_tree}
+use Rattle.std.proofs.Common.{[], ◌∷◌, length, refl, arith}
+use Rattle.fs_model.specs.Tree.{empty_tree}
 use Rattle.cryfs_shell.specs.Trials.{latest}
 use Rattle.cryfs_shell.proofs.Trying.{follows_at}
 use Rattle.cryfs_shell.proofs.program.summarize.Goals as goal

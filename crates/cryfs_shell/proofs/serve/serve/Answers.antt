@@ -1,8 +1,8 @@
-use Rattle.std.proofs.Common.{◌≡◌, ◌≤◌, List, ℕ, ◌∷◌, [], true, refl, ap, ◌∙◌, arith, sym, subst}
+use Rattle.std.proofs.Common.{List, ℕ, ◌∷◌, [], refl, ap, ◌∙◌, arith, subst}
 use Rattle.outside.specs.Streams.{appends}
-use Rattle.cryfs_shell.specs.Turns.{Turn, Cut, turn_lines, turn_texts}
+use Rattle.cryfs_shell.specs.Turns.{Cut, turn_lines, turn_texts}
 use Rattle.cryfs_shell.proofs.Flow.{appends-nil}
-use Rattle.cryfs_shell.proofs.Serving.{After-none, After-line, After-begins, After-ends, wrote_more, cut_last, input_cause}
+use Rattle.cryfs_shell.proofs.Serving.{After-none, After-line, After-begins, wrote_more, cut_last}
 use Rattle.cryfs_shell.proofs.serve.serve.Goals as goal
 
 pub loop-session-init : goal.loop-session-init

@@ -1,4 +1,4 @@
-use Rattle.std.proofs.Common.{◌≡◌, ◌≤◌, List, ℕ, true}
+use Rattle.std.proofs.Common.{◌≡◌, ◌≤◌, List, true}
 use Rattle.outside.specs.Streams.{appends, Ends}
 use Rattle.cryfs_shell.specs.Reading.{coming, total, remaining}
 use Rattle.cryfs_shell.specs.Turns.{Turn, Went, turn_lines, turn_texts, joined}

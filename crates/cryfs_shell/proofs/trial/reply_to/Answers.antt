@@ -1,4 +1,4 @@
-use Rattle.std.proofs.Common.{◌≡◌, ℕ, List, sym, ap, ◌∙◌, Bor}
+use Rattle.std.proofs.Common.{ℕ, List, sym, ap, ◌∙◌, Bor}
 use Rattle.std.specs.declared.option.Option.{Option}
 use Rattle.std.specs.Option.{option_copied}
 use Rattle.cryfs_shell.proofs.Trying.{long_refused}

@@ -1,8 +1,7 @@
-use Rattle.std.proofs.Common.{◌≡◌, ◌≤◌, ◌<◌, ◌+◌, ◌++◌, ℕ, List, Bool, true, false, not, [], ◌∷◌, length, ap, ◌∙◌, arith, sym, subst, length-append, IsTrue}
+use Rattle.std.proofs.Common.{◌≡◌, ◌≤◌, ◌<◌, ◌+◌, ◌++◌, ℕ, List, [], length, ap, ◌∙◌, arith, sym, subst, length-append}
 use Rattle.std.specs.declared.option.Option.{Option}
-use Rattle.outside.specs.Streams.{Ends}
 use Rattle.cryfs_shell.specs.Lines.{IsUnbroken, kept_on}
-use Rattle.cryfs_shell.specs.Reading.{Reading, coming, total, remaining}
+use Rattle.cryfs_shell.specs.Reading.{Reading, total, remaining}
 use Rattle.cryfs_shell.proofs.Progress.{Part, Part-ahead, Part-more, took_cut, took_last, at_true, at_false, at_not, Ends-less, Ends-rest}
 use Rattle.cryfs_shell.proofs.reader.LineReader.next_line.Goals as goal
 

@@ -1,4 +1,4 @@
-use Rattle.std.proofs.Common.{◌≡◌, ◌≤◌, ◌<◌, ◌+◌, List, [], ◌++◌, ℕ, true, MatchBool, length}
+use Rattle.std.proofs.Common.{◌≡◌, ◌≤◌, ◌<◌, ◌+◌, List, [], ℕ, true, MatchBool, length}
 use Rattle.outside.specs.Streams.{Ends}
 use Rattle.cryfs_shell.specs.Reading.{coming, total, remaining}
 use Rattle.cryfs_shell.proofs.Progress.{Part}

@@ -1,6 +1,6 @@
-use Rattle.std.proofs.Common.{◌≡◌, ◌+◌, ℕ, length, refl, ap, ◌∙◌}
+use Rattle.std.proofs.Common.{◌+◌, ℕ, length, refl, ap}
 use Rattle.fs_model.specs.declared.reply.Reply.TheVariants.{Done, Rows, Info, Target, Content, Error}
-use Rattle.cryfs_shell.specs.declared.trial.TrialAnswer.TheVariants.{Reply as Replied, Memory}
+use Rattle.cryfs_shell.specs.declared.trial.TrialAnswer.TheVariants.{Reply as Replied}
 use Rattle.cryfs_shell.specs.Summaries.{counts_of}
 use Rattle.cryfs_shell.proofs.Counting.{counted}
 use Rattle.cryfs_shell.proofs.summary.Summary.add_reply.Goals as goal
