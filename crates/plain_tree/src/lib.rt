@@ -7,7 +7,12 @@ mod edit;
 mod find;
 mod line;
 mod look;
+mod moves;
+mod prefix;
 mod read;
+mod rebuild;
+#[cfg(test)]
+mod tests;
 mod tree;
 
 pub use block_id::Memory;
