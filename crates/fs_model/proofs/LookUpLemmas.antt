@@ -1,28 +1,13 @@
 -- The look-up by the longest prefix is the walk from the root on.
-use Rattle.std.specs.Prelude.{◌≡◌, ℕ, Bool, true, false, cond, List, [], ◌∷◌, is_some}
+use Rattle.std.specs.Prelude.{◌≡◌, ℕ, true, false, cond, List, [], ◌∷◌, is_some}
 use Rattle.std.proofs.Common.{refl, sym, ◌∙◌, ap}
 use Rattle.std.specs.FinMap.{get}
 use Rattle.std.specs.declared.option.Option.{Option}
 use Rattle.std.specs.declared.option.Option.TheVariants.{None, Some}
 use Rattle.fs_model.specs.declared.error.FsError.TheVariants.{NoEntry, NotDirectory}
 use Rattle.fs_model.specs.Tree.{Path, Tree, Row, root_row, parent, same_path, is_directory, is_folder, IsRooted}
-use Rattle.fs_model.specs.LookUp.{longest, Seen, Found, Free, Bad, missing, seen, look}
-use Rattle.fs_model.proofs.TreeLemmas.{path_same, apart, none_of, some_of}
-
--- the look-up from the root on, name by name
-abbrev pub goes_on : Seen → Option Row → Seen
-goes_on (Found row) (Some next) = cond (is_directory row.attr.kind) (Found next) (Bad NotDirectory)
-goes_on (Found row) None = cond (is_directory row.attr.kind) Free (Bad NotDirectory)
-goes_on Free next = Bad NoEntry
-goes_on (Bad e) next = Bad e
-
-abbrev pub start : Option Row → Seen
-start None = Bad NoEntry
-start (Some row) = Found row
-
-abbrev pub walk : Tree → Path → Seen
-walk t [] = start (get t [])
-walk t (n ∷ p) = goes_on (walk t p) (get t (n ∷ p))
+use Rattle.fs_model.specs.LookUp.{longest, Seen, Found, Free, Bad, missing, seen, look, goes_on, start, walk}
+use Rattle.fs_model.proofs.TreeLemmas.{path_same, apart}
 
 longest_here : (t : Tree) (p : Path) → is_some (get t p) ≡ true → longest t p ≡ p
 longest_here t [] h = refl
@@ -61,7 +46,6 @@ look_on t n p None None e f h =
 pub look-walk : (t : Tree) → IsRooted t → (p : Path) → look t p ≡ walk t p
 look-walk t wf [] = elim (get t []) as (λ o. is_folder o ≡ true → seen t [] o ≡ start o) [ None ↦ λ h. cc | Some row ↦ λ h. refl ] (ap is_folder wf.root)
 look-walk t wf (n ∷ p) = look_on t n p _ _ refl refl (wf.parents n p) ∙ ap (λ s. goes_on s (get t (n ∷ p))) (look-walk t wf p)
-
 
 -- what a look-up that found a row, or a free path, says of the tree
 some_found : (t : Tree) (p : Path) (row : Row) (o : Option Row) → get t p ≡ o → seen t p o ≡ Found row → o ≡ Some row

@@ -1,7 +1,7 @@
 -- Replacing a prefix of paths: what the renamed tree has at a path.
-use Rattle.std.specs.Prelude.{◌≡◌, ℕ, Bool, true, false, cond, List, [], ◌∷◌, ◌++◌, map, length}
+use Rattle.std.specs.Prelude.{◌≡◌, ℕ, true, false, cond, List, [], ◌∷◌, ◌++◌, map, length}
 use Rattle.std.proofs.Common.{refl, sym, ◌∙◌, ap, inl, inr, arith, length-append}
-use Rattle.std.specs.FinMap.{get, entries, find, from_entries, get-from_entries, get-entries}
+use Rattle.std.specs.FinMap.{get, entries, find, get-from_entries, get-entries}
 use Rattle.std.specs.declared.option.Option.{Option}
 use Rattle.std.specs.declared.option.Option.TheVariants.{None, Some}
 use Rattle.fs_model.specs.Tree.{Path, Row, Tree, path_cmp, same_path}
@@ -79,26 +79,27 @@ module _ (p q : Path) where
       let rest = find-moved r es (λ z. tail_free z (free z)) (Some s) b ha hb in
       let is = strip-is q r s ha in
       ap (λ t. cond t (Some e.1) (find path_cmp r (map (move_entry p q) es))) (same_iff r (moved p q e.0) (s ++ p) e.0
-          (λ h. moved_on s e.0 (head_free s (free s)) (sym is ∙ h))
-          (λ h. is ∙ (sym (moved_below s) ∙ ap (moved p q) h)))
+      (λ h. moved_on s e.0 (head_free s (free s)) (sym is ∙ h))
+      (λ h. is ∙ (sym (moved_below s) ∙ ap (moved p q) h)))
       ∙ ap (cond (same_path (s ++ p) e.0) (Some e.1)) rest
     where
       head_free : (z : Path) → find path_cmp (z ++ q) (e ∷ es) ≡ None → e.0 ≡ z ++ q → ⊥
       head_free z h same = let bad : Some e.1 ≡ None = sym (ap (λ t. cond t (Some e.1) (find path_cmp (z ++ q) es)) (ap (same_path (z ++ q)) same ∙ path_same (z ++ q))) ∙ h in cc
+
       tail_free : (z : Path) → find path_cmp (z ++ q) (e ∷ es) ≡ None → find path_cmp (z ++ q) es ≡ None
       tail_free z h = elim (same_path (z ++ q) e.0) as (λ t. cond t (Some e.1) (find path_cmp (z ++ q) es) ≡ None → find path_cmp (z ++ q) es ≡ None) [ true ↦ λ k. cc | false ↦ λ k. k ] h
   find-moved r (e ∷ es) free None None ha hb =
       ap (λ t. cond t (Some e.1) (find path_cmp r (map (move_entry p q) es))) (same_iff r (moved p q e.0) r e.0
-          (λ h. (moved_off r e.0 ha h).1)
-          (λ h. h ∙ sym (ap (λ o. moved_by o q e.0) (ap (strip p) (sym h) ∙ hb))))
+      (λ h. (moved_off r e.0 ha h).1)
+      (λ h. h ∙ sym (ap (λ o. moved_by o q e.0) (ap (strip p) (sym h) ∙ hb))))
       ∙ ap (cond (same_path r e.0) (Some e.1)) (find-moved r es (λ z. tail_free z (free z)) None None ha hb)
     where
       tail_free : (z : Path) → find path_cmp (z ++ q) (e ∷ es) ≡ None → find path_cmp (z ++ q) es ≡ None
       tail_free z h = elim (same_path (z ++ q) e.0) as (λ t. cond t (Some e.1) (find path_cmp (z ++ q) es) ≡ None → find path_cmp (z ++ q) es ≡ None) [ true ↦ λ k. cc | false ↦ λ k. k ] h
   find-moved r (e ∷ es) free None (Some s) ha hb =
       ap (λ t. cond t (Some e.1) (find path_cmp r (map (move_entry p q) es))) (apart r (moved p q e.0) (λ h.
-          let off = moved_off r e.0 ha h in
-          let bad : None ≡ Some s = sym off.0 ∙ (ap (strip p) (sym off.1) ∙ hb) in cc))
+      let off = moved_off r e.0 ha h in
+      let bad : None ≡ Some s = sym off.0 ∙ (ap (strip p) (sym off.1) ∙ hb) in cc))
       ∙ find-moved r es (λ z. tail_free z (free z)) None (Some s) ha hb
     where
       tail_free : (z : Path) → find path_cmp (z ++ q) (e ∷ es) ≡ None → find path_cmp (z ++ q) es ≡ None
@@ -116,4 +117,3 @@ get-renamed t p q r free =
     back (Some s) b = sym (get-entries t (s ++ p))
     back None None = sym (get-entries t r)
     back None (Some s) = refl
-

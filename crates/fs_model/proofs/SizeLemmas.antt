@@ -1,15 +1,13 @@
 -- The children of edited trees, and the bytes that their entries take.
-use Rattle.std.specs.Prelude.{◌≡◌, ℕ, ◌+◌, ◌≤◌, Bool, true, false, cond, List, [], ◌∷◌, length}
+use Rattle.std.specs.Prelude.{◌≡◌, ℕ, ◌+◌, ◌≤◌, cond, List, [], ◌∷◌, length}
 use Rattle.std.proofs.Common.{refl, sym, ◌∙◌, ap, subst, inl, inr, arith}
-use Rattle.std.specs.FinMap.{FinMap, get, entries, find, insert, remove, empty, get-insert, get-remove, get-entries, entries-insert, same_map, len, empty_of_len, get-empty}
+use Rattle.std.specs.FinMap.{FinMap, get, entries, find, insert, remove, empty, get-insert, get-remove, get-entries, entries-insert, same_map, len, empty_of_len, get-empty, len-entries, len-empty}
 use Rattle.std.specs.FinMap.Entries.{put, by_order}
-use Rattle.std.specs.declared.cmp.Ordering.{Ordering}
 use Rattle.std.specs.declared.cmp.Ordering.TheVariants.{Less, Equal, Greater}
-use Rattle.std.specs.declared.option.Option.{Option}
 use Rattle.std.specs.declared.option.Option.TheVariants.{None, Some}
 use Rattle.std.specs.Ordering.{is_eq}
-use Rattle.fs_model.specs.Tree.{Path, Tree, Row, name_cmp, entry_size, entries_size, directory_size, children}
-use Rattle.fs_model.proofs.TreeLemmas.{same_name, name_total, name_exact, name_split, name_apart, name_same, path_split, get-children, insert_here, insert_apart, remove_here, remove_apart}
+use Rattle.fs_model.specs.Tree.{Path, Tree, Row, name_cmp, entry_size, entries_size, children}
+use Rattle.fs_model.proofs.TreeLemmas.{name_total, name_exact, name_split, name_apart, name_same, get-children, insert_here, insert_apart, remove_here, remove_apart}
 
 abbrev pub NameMap : Type 0 → Type 0
 NameMap X = FinMap name_cmp X
@@ -37,7 +35,7 @@ module _ {X : Type 0} where
   size-put n x [] none = omega arith
   size-put n x (e ∷ es) none =
       elim (name_cmp n e.0) as (λ r. name_cmp n e.0 ≡ r → cond (is_eq r) (Some e.1) (find name_cmp n es) ≡ None
-          → entries_size (by_order r ((n, x) ∷ e ∷ es) ((e.0, x) ∷ es) (e ∷ put name_cmp n x es)) ≡ (entry_size e.0 + entries_size es) + entry_size n) [
+      → entries_size (by_order r ((n, x) ∷ e ∷ es) ((e.0, x) ∷ es) (e ∷ put name_cmp n x es)) ≡ (entry_size e.0 + entries_size es) + entry_size n) [
         | Less ↦ λ r h. omega arith
         | Equal ↦ λ r h. cc
         | Greater ↦ λ r h. let rest = size-put n x es h in omega arith
@@ -76,11 +74,18 @@ module _ {X : Type 0} where
     | Some x ↦ λ e. let size = size-remove m n x e in omega arith
   ] refl
 
+  size_of_none : (es : List (List ℕ × X)) → length es ≡ 0 → entries_size es ≡ 0
+  size_of_none [] e = refl
+  size_of_none (x ∷ es) e = absurd (omega arith)
+
   pub empty_names : (m : NameMap X) → len m ≡ 0 → (n : List ℕ) → get m n ≡ None
   empty_names m e n = ap (λ z. get z n) (empty_of_len m e) ∙ get-empty name_cmp n
 
   pub no_names : (m : NameMap X) → ((n : List ℕ) → get m n ≡ None) → m ≡ empty
   no_names m none = same_names m empty (λ n. none n ∙ sym (get-empty name_cmp n))
+
+pub size-empty : (X : Type 0) → map_size (empty {X = X} {R = name_cmp}) ≡ 0
+size-empty X = size_of_none (entries (empty {X = X} {R = name_cmp})) (sym (len-entries (empty {X = X} {R = name_cmp})) ∙ len-empty name_cmp X)
 
 -- the children of a path are the map that has the same rows
 pub same_children : (t : Tree) (p : Path) (m : NameMap Row) → ((n : List ℕ) → get t (n ∷ p) ≡ get m n) → children t p ≡ m

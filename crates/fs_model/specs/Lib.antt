@@ -6,3 +6,4 @@ pub mod Tree
 pub mod LookUp
 pub mod Move
 pub mod Step
+pub mod Laws

@@ -29,3 +29,18 @@ seen t p None = missing p (longest t p) (get t (longest t p))
 
 abbrev pub look : Tree → Path → Seen
 look t p = seen t p (get t p)
+
+-- the walk from the root on, name by name
+abbrev pub goes_on : Seen → Option Row → Seen
+goes_on (Found row) (Some next) = cond (is_directory row.attr.kind) (Found next) (Bad NotDirectory)
+goes_on (Found row) None = cond (is_directory row.attr.kind) Free (Bad NotDirectory)
+goes_on Free next = Bad NoEntry
+goes_on (Bad e) next = Bad e
+
+abbrev pub start : Option Row → Seen
+start None = Bad NoEntry
+start (Some row) = Found row
+
+abbrev pub walk : Tree → Path → Seen
+walk t [] = start (get t [])
+walk t (n ∷ p) = goes_on (walk t p) (get t (n ∷ p))

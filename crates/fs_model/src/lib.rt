@@ -5,6 +5,7 @@ mod attr;
 mod bytes;
 mod command;
 mod error;
+pub mod laws;
 mod limits;
 mod moment;
 mod name;
