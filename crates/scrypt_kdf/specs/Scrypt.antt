@@ -79,4 +79,4 @@ mixed_parts cost b = joined (λ i. ro_mix cost.r (part (128 * cost.r) b i) cost.
 -- scrypt (P, S, N, r, p, dkLen) (steps 1 to 3)
 unfoldable pub scrypt : List ℕ → List ℕ → Cost → ℕ → List ℕ
 scrypt password salt cost len =
-    pbkdf2 password (mixed_parts cost (pbkdf2 password salt (cost.p * 128 * cost.r))) len
+    pbkdf2 password (mixed_parts cost (pbkdf2 password salt (128 * cost.r * cost.p))) len

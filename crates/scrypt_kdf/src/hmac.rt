@@ -7,8 +7,11 @@ ghost use Rattle.scrypt_kdf.specs.Hmac.{hmac_sha256, key_block, key_pad};
 use sha2::{Digest, Sha256};
 
 const BLOCK_LEN: usize = 64;
+
 const DIGEST_LEN: usize = 32;
+
 pub(crate) const INNER_PAD: u8 = 0x36;
+
 pub(crate) const OUTER_PAD: u8 = 0x5c;
 
 /// The HMAC-SHA-256 of `text` under `key` (RFC 2104, section 2).

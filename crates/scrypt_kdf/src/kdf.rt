@@ -25,11 +25,12 @@ pub fn scrypt(
 {
     out.fill(0);
     let len = 128 * params.r() as usize;
-    let mut b = zeros(alloc, params.p() as usize * len)?;
-    let mut v = zeros(alloc, params.n() as usize * len)?;
-    pbkdf2(password, salt, b.as_mut_slice());
-    mix_parts(params, b.as_mut_slice(), v.as_mut_slice());
-    pbkdf2(password, b.as_slice(), out);
+    let mut parts = zeros(alloc, len * params.p() as usize)?;
+    let mut iterates = zeros(alloc, len * params.n() as usize)?;
+    let b = parts.as_mut_slice();
+    pbkdf2(password, salt, b);
+    mix_parts(params, b, iterates.as_mut_slice());
+    pbkdf2(password, b, out);
     Ok(())
 }
 
@@ -42,14 +43,14 @@ fn zeros(alloc: Global, len: usize) -> Result<Vec<u8>, AllocError>
 
 // ROMix of each of the p parts of `b`, in place.
 fn mix_parts(params: &Params, b: &mut [u8], v: &mut [u8])
-    requires len { length b.old ≡ params.now.p * (128 * params.now.r) }
-    requires room { length v.old ≡ params.now.n * (128 * params.now.r) }
+    requires len { length b.old ≡ 128 * params.now.r * params.now.p }
+    requires room { length v.old ≡ 128 * params.now.r * params.now.n }
     ensures { b.new ≡ mixed_parts params.now b.old }
 {
     let r = params.r() as usize;
     let n = params.n() as usize;
     let len = 128 * r;
     for i in 0..params.p() as usize {
-        ro_mix(r, n, &mut b[i * len..i * len + len], v);
+        ro_mix(r, n, &mut b[len * i..len * i + len], v);
     }
 }

@@ -7,8 +7,11 @@ ghost use Rattle.scrypt_kdf.specs.Cost.{Cost, IsAllowed, IsInRange};
 use std::marker::Model;
 
 const MIN_N: u64 = 2;
+
 const MAX_N: u64 = 1 << 20;
+
 const MAX_R: u32 = 8;
+
 const MAX_P: u32 = 16;
 
 /// Why numbers are no parameters of scrypt.
@@ -48,7 +51,7 @@ impl Params {
         ensures out_of_range { (result ≡ Err BadParams.OutOfRange)
             ↔ (IsPowerOfTwo n × ¬ IsInRange (record { n = n; r = r; p = p })) }
     {
-        if !n.is_power_of_two() {
+        if !is_power_of_two(n) {
             return Err(BadParams::NotPower);
         }
         if !is_in_range(n, r, p) {
@@ -80,6 +83,12 @@ impl Params {
     {
         self.p
     }
+}
+
+fn is_power_of_two(n: u64) -> bool
+    ensures { IsTrue result ↔ IsPowerOfTwo n }
+{
+    n.is_power_of_two()
 }
 
 fn is_in_range(n: u64, r: u32, p: u32) -> bool
