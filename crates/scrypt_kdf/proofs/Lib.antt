@@ -1,0 +1,9 @@
+mod Blocks
+mod Digests
+mod Halves
+mod Lanes
+mod Lengths
+mod Numbers
+mod Parts
+mod Powers
+mod Sixteen

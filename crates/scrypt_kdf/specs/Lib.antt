@@ -1,0 +1,6 @@
+pub mod Hmac
+pub mod Pbkdf2
+pub mod Rows
+pub mod Salsa
+pub mod Scrypt
+pub mod Cost
