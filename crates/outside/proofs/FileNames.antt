@@ -1,5 +1,5 @@
 -- What the derived comparisons of names compute.
-use Rattle.std.proofs.Common.{◌≡◌, Bool, refl}
+use Rattle.std.proofs.Common.{◌≡◌, refl}
 use Rattle.outside.specs.declared.change.FileName.{FileName}
 use Rattle.outside.specs.declared.change.FileName.TheVariants.{Config, Block}
 use Rattle.outside.specs.contracts.change.FileNamePartialEq.TheImpl as partial_eq

@@ -1,8 +1,7 @@
 -- A directory in memory whose answers and files nobody replaced stays so, and is honest.
-use Rattle.std.proofs.Common.{◌≡◌, ◌⊎◌, inl, inr, ℕ, ◌+◌, Bool, true, false, not, ◌||◌, cond, List, [], ◌∷◌, ◌++◌, map, reverse, refl, sym, ◌∙◌, ap, subst, arith}
+use Rattle.std.proofs.Common.{◌≡◌, inl, inr, ℕ, ◌+◌, Bool, true, false, not, ◌||◌, cond, List, [], ◌∷◌, ◌++◌, map, reverse, refl, sym, ◌∙◌, ap, subst, arith}
 use Rattle.std.specs.Prelude.{unwrap_or, option_and_then}
 use Rattle.std.specs.Ordering.{is_eq, ordering_reverse, eq_by_cmp}
-use Rattle.std.specs.Str.{bytes_eq}
 use Rattle.std.proofs.lemmas.Slice.Eq.{bytes_eq-Decides}
 use Rattle.std.specs.declared.option.Option.{Option}
 use Rattle.std.specs.declared.option.Option.TheVariants.{None, Some}
@@ -19,7 +18,7 @@ use Rattle.outside.specs.Trace.{At, Call, got, put, removed}
 use Rattle.outside.specs.Names.{same_at, at_cmp}
 use Rattle.outside.specs.NameLaws.{same_ties, at_total, at_exact}
 use Rattle.outside.specs.Changes.{Changes, change_at, set_change, cut}
-use Rattle.outside.specs.Honest.{LastChange, last_change, same_answer, is_left, is_lie, lies}
+use Rattle.outside.specs.Honest.{LastChange, last_change, same_answer, is_left, lies}
 use Rattle.outside.specs.Vaults.{VaultState, answer_at, file_at, given, without, IsLeftBy, IsPlain}
 
 turned : (o : Ordering) → is_eq (ordering_reverse o) ≡ is_eq o
@@ -41,12 +40,12 @@ kept false o = refl
 file_at-set : (n m : At) (change : Option (List ℕ)) (files : Changes) → file_at m (set_change n change files) ≡ cond (same_at n m) change (file_at m files)
 file_at-set n m change files =
     ap (option_and_then (λ c. c)) (find-put at_cmp at_total m n change files ∙ ap (λ b. cond b (Some change) (change_at m files)) (sym (flips n m)))
-      ∙ chosen (same_at n m) change (change_at m files)
+    ∙ chosen (same_at n m) change (change_at m files)
 
 file_at-without : (n m : At) (files : Changes) → file_at m (without n files) ≡ cond (same_at n m) None (file_at m files)
 file_at-without n m files =
     ap (option_and_then (λ c. c)) (find-where_key at_cmp (λ x. not (same_at n x)) m (λ x e. ap (λ y. not (same_at n y)) (sym (at_exact m x e))) files)
-      ∙ kept (same_at n m) (change_at m files)
+    ∙ kept (same_at n m) (change_at m files)
 
 changed_left : (b : Bool) (bytes : Option (List ℕ)) (last : Option LastChange) (file : Option (List ℕ)) → IsLeftBy last file
     → IsLeftBy (cond b (Some (record { bytes = bytes; ok = true })) last) (cond b bytes file)
@@ -66,34 +65,39 @@ pub record AsPlain (v w : VaultState) : Type 0 where
 
 pub plain_same : (v w : VaultState) → AsPlain v w → IsPlain v → IsPlain w
 plain_same v w e p = record {
-    none_replaced = e.answers ∙ p.none_replaced;
-    files_left = λ name. subst (λ t. IsLeftBy (last_change name t) (file_at name w.files)) (sym e.trace)
-      (subst (λ f. IsLeftBy (last_change name v.trace) (file_at name f)) (sym e.files) (p.files_left name)) }
+  none_replaced = e.answers ∙ p.none_replaced;
+  files_left = λ name. subst (λ t. IsLeftBy (last_change name t) (file_at name w.files)) (sym e.trace)
+      (subst (λ f. IsLeftBy (last_change name v.trace) (file_at name f)) (sym e.files) (p.files_left name));
+}
 
 pub plain_got : (v : VaultState) (n : At) (max : ℕ) (answer : Option (List ℕ)) → IsPlain v → IsPlain (record v { trace = got n max answer ∷ v.trace })
 plain_got v n max answer p = record { none_replaced = p.none_replaced; files_left = p.files_left }
 
 pub plain_put : (v : VaultState) (n : At) (bytes : List ℕ) → IsPlain v → IsPlain (record v { trace = put n bytes true ∷ v.trace; files = set_change n (Some bytes) v.files })
 plain_put v n bytes p = record {
-    none_replaced = p.none_replaced;
-    files_left = λ m. subst (IsLeftBy (last_change m (put n bytes true ∷ v.trace))) (sym (file_at-set n m (Some bytes) v.files))
-      (changed_left (same_at n m) (Some bytes) (last_change m v.trace) (file_at m v.files) (p.files_left m)) }
+  none_replaced = p.none_replaced;
+  files_left = λ m. subst (IsLeftBy (last_change m (put n bytes true ∷ v.trace))) (sym (file_at-set n m (Some bytes) v.files))
+      (changed_left (same_at n m) (Some bytes) (last_change m v.trace) (file_at m v.files) (p.files_left m));
+}
 
 pub plain_removed : (v : VaultState) (n : At) → IsPlain v → IsPlain (record v { trace = removed n true ∷ v.trace; files = without n v.files })
 plain_removed v n p = record {
-    none_replaced = p.none_replaced;
-    files_left = λ m. subst (IsLeftBy (last_change m (removed n true ∷ v.trace))) (sym (file_at-without n m v.files))
-      (changed_left (same_at n m) None (last_change m v.trace) (file_at m v.files) (p.files_left m)) }
+  none_replaced = p.none_replaced;
+  files_left = λ m. subst (IsLeftBy (last_change m (removed n true ∷ v.trace))) (sym (file_at-without n m v.files))
+      (changed_left (same_at n m) None (last_change m v.trace) (file_at m v.files) (p.files_left m));
+}
 
 pub plain_failed_put : (v : VaultState) (n : At) (bytes : List ℕ) → IsPlain v → IsPlain (record v { trace = put n bytes false ∷ v.trace })
 plain_failed_put v n bytes p = record {
-    none_replaced = p.none_replaced;
-    files_left = λ m. failed_left (same_at n m) (Some bytes) (last_change m v.trace) (file_at m v.files) (p.files_left m) }
+  none_replaced = p.none_replaced;
+  files_left = λ m. failed_left (same_at n m) (Some bytes) (last_change m v.trace) (file_at m v.files) (p.files_left m);
+}
 
 pub plain_failed_removal : (v : VaultState) (n : At) → IsPlain v → IsPlain (record v { trace = removed n false ∷ v.trace })
 plain_failed_removal v n p = record {
-    none_replaced = p.none_replaced;
-    files_left = λ m. failed_left (same_at n m) None (last_change m v.trace) (file_at m v.files) (p.files_left m) }
+  none_replaced = p.none_replaced;
+  files_left = λ m. failed_left (same_at n m) None (last_change m v.trace) (file_at m v.files) (p.files_left m);
+}
 
 same_itself : (answer : Option (List ℕ)) → same_answer answer answer ≡ true
 same_itself None = refl
@@ -116,7 +120,7 @@ pub honest_get : (v : VaultState) (n : At) (max : ℕ) (answer : Option (List �
 honest_get v n max answer e p =
     let file : answer ≡ cut max (file_at n v.files) = e ∙ ap (cut max) (none_given v n _ p.none_replaced) in
     let left : is_left (last_change n v.trace) max answer ≡ true =
-      ap (is_left (last_change n v.trace) max) file ∙ left_is (last_change n v.trace) max (file_at n v.files) (p.files_left n) in
+    ap (is_left (last_change n v.trace) max) file ∙ left_is (last_change n v.trace) max (file_at n v.files) (p.files_left n) in
     ap (λ b. cond (not b) 1 0 + lies v.trace) left ∙ omega arith
 
 -- a call was pushed onto the events
@@ -129,6 +133,7 @@ pub list_without : (name : FileName) (ps : List Pending) → list_of (filter (λ
 list_without name [] = refl
 list_without name (p ∷ ps) =
     elim (same_at (at_of name) (at_of p.name)) as (λ b. list_of (cond (not b) (p ∷ filter (λ q. not (same_at (at_of name) (at_of q.name))) ps) (filter (λ q. not (same_at (at_of name) (at_of q.name))) ps))
-        ≡ cond (not b) (pending_of p ∷ without (at_of name) (list_of ps)) (without (at_of name) (list_of ps))) [
-      true ↦ list_without name ps
-    | false ↦ ap (λ t. pending_of p ∷ t) (list_without name ps) ]
+    ≡ cond (not b) (pending_of p ∷ without (at_of name) (list_of ps)) (without (at_of name) (list_of ps))) [
+      | true ↦ list_without name ps
+      | false ↦ ap (λ t. pending_of p ∷ t) (list_without name ps)
+    ]

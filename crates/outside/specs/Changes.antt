@@ -1,5 +1,5 @@
 -- Lists of changes, as finite maps from names to new bytes or none.
-use Rattle.std.specs.Prelude.{ℕ, List, [], ◌∷◌, IsTrue, map, take}
+use Rattle.std.specs.Prelude.{ℕ, List, [], ◌∷◌, IsTrue, take}
 use Rattle.std.specs.Option.{option_map}
 use Rattle.std.specs.declared.option.Option.{Option}
 use Rattle.std.specs.FinMap.{find, put, is_sorted}

@@ -19,11 +19,11 @@ honest_step true h m n g l k = absurd (omega arith)
 honest_step false h m n g l k = k (omega arith)
 
 flat_step : (b h : Bool) (m n : ℕ) → IsTrue (not b && h) → (IsTrue h → m ≡ n) → (if b then 1 else 0) + m ≡ n
-flat_step true h m n t k = absurd t
+flat_step true h m n t k = absurd (cc)
 flat_step false h m n t k = omega (arith, k t)
 
 pub honest_where_no_rise : (before new : List Call) → lies (new ++ before) ≤ lies before → IsHonest before new
-honest_where_no_rise before [] h = tt
+honest_where_no_rise before [] h = refl
 honest_where_no_rise before (call ∷ new) h =
     honest_step (is_lie (new ++ before) call) (is_honest before new) (lies (new ++ before)) (lies before) (count_grows is_lie before new) h (honest_where_no_rise before new)
 

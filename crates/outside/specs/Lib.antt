@@ -1,4 +1,5 @@
 pub mod Causes
+pub mod ChangeLaws
 pub mod Changes
 pub mod Honest
 pub mod HonestLaws

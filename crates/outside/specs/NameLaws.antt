@@ -1,13 +1,12 @@
 -- The order of names is total, and names that tie are the same.
-use Rattle.std.specs.Prelude.{◌≡◌, Bool, true, false, ◌≢◌, refl}
-use Rattle.std.proofs.Common.{sym, ◌∙◌, ap, subst, rules}
-use Rattle.std.specs.Ordering.{nat_cmp, eq_by_cmp, ordering_reverse}
+use Rattle.std.specs.Prelude.{◌≡◌, refl}
+use Rattle.std.proofs.Common.{sym, ap}
+use Rattle.std.specs.Ordering.{eq_by_cmp, ordering_reverse}
 use Rattle.std.specs.Cmp.{IsTotalOrder}
-use Rattle.std.specs.Cmp.Lexicographic.{slice_cmp, lists_ties, nat_list_cmp_total}
+use Rattle.std.specs.Cmp.Lexicographic.{nat_list_cmp_total}
 use Rattle.std.proofs.lemmas.Map.Text.{is_eq-slice_cmp}
 use Rattle.std.specs.FinMap.{IsAntisymmetric, slice_cmp-IsAntisymmetric, nat_cmp-IsAntisymmetric}
-use Rattle.std.specs.declared.cmp.Ordering.{Ordering}
-use Rattle.std.specs.declared.cmp.Ordering.TheVariants.{Less, Equal, Greater}
+use Rattle.std.specs.declared.cmp.Ordering.TheVariants.{Less, Equal}
 use Rattle.outside.specs.Trace.{At, config, block}
 use Rattle.outside.specs.Names.{same_at, at_cmp}
 

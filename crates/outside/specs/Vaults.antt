@@ -3,10 +3,10 @@ use Rattle.std.specs.Prelude.{◌≡◌, ◌⊎◌, ℕ, Bool, false, not, ◌||
 use Rattle.std.specs.List.{list_any}
 use Rattle.std.specs.declared.option.Option.{Option}
 use Rattle.std.specs.declared.option.Option.TheVariants.{None, Some}
-use Rattle.outside.specs.Trace.{At, Call, got, put, removed}
+use Rattle.outside.specs.Trace.{At, Call}
 use Rattle.outside.specs.MemoryStreams.{one_more}
 use Rattle.outside.specs.Names.{same_at}
-use Rattle.outside.specs.Changes.{Changes, change_at, set_change}
+use Rattle.outside.specs.Changes.{Changes, change_at}
 use Rattle.outside.specs.Honest.{LastChange, last_change}
 
 pub record VaultState : Type 0 where

@@ -2,7 +2,6 @@
 #![tactic(auto)]
 
 mod change;
-mod count;
 mod event;
 mod keeper;
 mod memory_keeper;

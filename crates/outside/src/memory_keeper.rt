@@ -7,7 +7,6 @@ ghost use Rattle.outside.specs.MemoryStreams.{one_more};
 ghost use Rattle.outside.specs.Keepers.{failure_at, failure_of, kept_by, faults_by};
 ghost use Rattle.outside.specs.View.{bytes_of};
 
-use crate::count::next;
 use crate::{Failed, GetFail, Keeper, Memory};
 use std::alloc::Global;
 use std::marker::Model;
@@ -30,11 +29,12 @@ impl Model for MemoryKeeper {
     ghost Value = { KeeperState };
 
     ghost view = { λ k. record {
-        kept = if k.is_kept then Some k.bytes.items else None;
-        room = vec_capacity k.bytes;
-        faults = k.faults;
-        saves = k.saves;
-        failing = k.failing.items } };
+      kept = if k.is_kept then Some k.bytes.items else None;
+      room = vec_capacity k.bytes;
+      faults = k.faults;
+      saves = k.saves;
+      failing = k.failing.items;
+    } };
 }
 
 // Whether the save of this number keeps its record although it fails, or None where it doesn't fail.
@@ -143,14 +143,14 @@ impl Keeper for MemoryKeeper {
         ensures saves { self.new.saves ≡ one_more self.old.saves }
         ensures failing { self.new.failing ≡ self.old.failing }
     {
-        self.saves = next(self.saves);
+        self.saves = self.saves.saturating_add(1);
         match failure(&self.failing, self.saves) {
             Some(keeps) => {
                 if keeps {
                     keep(&mut self.bytes, bytes);
                     self.is_kept = true;
                 }
-                self.faults = next(self.faults);
+                self.faults = self.faults.saturating_add(1);
                 Err(Failed)
             }
             None => {
@@ -159,5 +159,26 @@ impl Keeper for MemoryKeeper {
                 Ok(())
             }
         }
+    }
+}
+
+#[cfg(test)]
+mod tests {
+    use super::*;
+    use std::test::Fail;
+
+    #[test]
+    fn keeps_what_is_saved_and_fails_as_listed(rt: HostRuntime) -> Result<(), Fail> {
+        let fails = [(2, false), (3, true)].to_vec(rt.alloc())?;
+        let mut keeper = MemoryKeeper::new(rt.alloc(), None, fails);
+        assert!(rt; keeper.load(rt.alloc())?.is_none());
+        keeper.prepare(rt.alloc(), 3)?;
+        keeper.save(&[1, 2])?;
+        assert_eq!(rt; keeper.save(&[3]).err(), Some(Failed));
+        assert_eq!(rt; keeper.kept().ok_or("nothing")?, [1, 2].as_slice());
+        assert_eq!(rt; keeper.save(&[4, 5, 6]).err(), Some(Failed));
+        let answer = keeper.load(rt.alloc())?.ok_or("nothing")?;
+        assert_eq!(rt; answer.as_slice(), [4, 5, 6].as_slice());
+        Ok(())
     }
 }

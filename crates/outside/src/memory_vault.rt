@@ -10,8 +10,7 @@ ghost use Rattle.outside.specs.MemoryStreams.{one_more};
 ghost use Rattle.outside.specs.Vaults.{is_listed, is_from, answer_at, get_fails, change_fails, given, without, after_get, after_failed_get, after_change, after_failed_change, restarted, IsPlain};
 ghost use Rattle.outside.specs.View.{at_of, bytes_of, call_of, list_of, answers_of};
 
-use crate::count::next;
-use crate::{pending_list, Change, Event, FileName, GetFail, Pending, Vault};
+use crate::{Change, Event, FileName, GetFail, Pending, Vault, pending_list};
 use std::alloc::{AllocError, Global};
 use std::marker::Model;
 
@@ -33,19 +32,20 @@ impl Model for MemoryVault {
     ghost use Rattle.std.specs.Prelude.{map, reverse};
     ghost use Rattle.outside.specs.Vaults.{VaultState};
     ghost use Rattle.outside.specs.View.{call_of, list_of, answers_of};
-    
+
     ghost Value = { VaultState };
 
     ghost view = { λ v. record {
-        trace = reverse (map call_of v.trace.items);
-        files = list_of v.files.items;
-        faults = v.faults;
-        calls = v.calls;
-        gets = v.gets;
-        changes = v.changes;
-        failing = v.failing.items;
-        failing_from = v.failing_from;
-        answers = answers_of v.answers.items } };
+      trace = reverse (map call_of v.trace.items);
+      files = list_of v.files.items;
+      faults = v.faults;
+      calls = v.calls;
+      gets = v.gets;
+      changes = v.changes;
+      failing = v.failing.items;
+      failing_from = v.failing_from;
+      answers = answers_of v.answers.items;
+    } };
 }
 
 fn contains(numbers: &[u64], number: u64) -> bool
@@ -180,7 +180,7 @@ impl MemoryVault {
     ) -> Result<Option<Vec<u8>>, AllocError>
         ensures { IfOk result (λ answer. bytes_of answer ≡ cut max (given self.now (at_of name.now))) }
     {
-        if let Some(answer) = replacement(&self.answers, next(self.gets)) {
+        if let Some(answer) = replacement(&self.answers, self.gets.saturating_add(1)) {
             return pending_list::cut(alloc, answer, max);
         }
         match pending_list::lookup(&self.files, name) {
@@ -214,10 +214,10 @@ impl Vault for MemoryVault {
         ensures honest { IsPlain self.old → lies self.new.trace ≡ lies self.old.trace }
         ensures plain { IsPlain self.old → IsPlain self.new }
     {
-        if contains(&self.failing, next(self.calls)) {
-            self.faults = next(self.faults);
-            self.calls = next(self.calls);
-            self.gets = next(self.gets);
+        if contains(&self.failing, self.calls.saturating_add(1)) {
+            self.faults = self.faults.saturating_add(1);
+            self.calls = self.calls.saturating_add(1);
+            self.gets = self.gets.saturating_add(1);
             return Err(GetFail::Failed);
         }
         let answer = self.answer(alloc, name, max)?;
@@ -227,8 +227,8 @@ impl Vault for MemoryVault {
             max,
             answer: told,
         })?;
-        self.calls = next(self.calls);
-        self.gets = next(self.gets);
+        self.calls = self.calls.saturating_add(1);
+        self.gets = self.gets.saturating_add(1);
         Ok(answer)
     }
 
@@ -248,17 +248,17 @@ impl Vault for MemoryVault {
     {
         let told = bytes.to_vec(alloc)?;
         let file = bytes.to_vec(alloc)?;
-        if contains(&self.failing, next(self.calls))
-            || is_reached(self.failing_from, next(self.changes))
+        if contains(&self.failing, self.calls.saturating_add(1))
+            || is_reached(self.failing_from, self.changes.saturating_add(1))
         {
             self.trace.push(Event::Put {
                 name: *name,
                 bytes: told,
                 ok: false,
             })?;
-            self.faults = next(self.faults);
-            self.calls = next(self.calls);
-            self.changes = next(self.changes);
+            self.faults = self.faults.saturating_add(1);
+            self.calls = self.calls.saturating_add(1);
+            self.changes = self.changes.saturating_add(1);
             return Err(GetFail::Failed);
         }
         self.files.reserve(1)?;
@@ -274,8 +274,8 @@ impl Vault for MemoryVault {
                 change: Change::Bytes(file),
             },
         );
-        self.calls = next(self.calls);
-        self.changes = next(self.changes);
+        self.calls = self.calls.saturating_add(1);
+        self.changes = self.changes.saturating_add(1);
         Ok(())
     }
 
@@ -294,16 +294,16 @@ impl Vault for MemoryVault {
         ensures plain { IsPlain self.old → IsPlain self.new }
     {
         let _ = alloc;
-        if contains(&self.failing, next(self.calls))
-            || is_reached(self.failing_from, next(self.changes))
+        if contains(&self.failing, self.calls.saturating_add(1))
+            || is_reached(self.failing_from, self.changes.saturating_add(1))
         {
             self.trace.push(Event::Removed {
                 name: *name,
                 ok: false,
             })?;
-            self.faults = next(self.faults);
-            self.calls = next(self.calls);
-            self.changes = next(self.changes);
+            self.faults = self.faults.saturating_add(1);
+            self.calls = self.calls.saturating_add(1);
+            self.changes = self.changes.saturating_add(1);
             return Err(GetFail::Failed);
         }
         self.trace.push(Event::Removed {
@@ -311,8 +311,78 @@ impl Vault for MemoryVault {
             ok: true,
         })?;
         drop_file(&mut self.files, name);
-        self.calls = next(self.calls);
-        self.changes = next(self.changes);
+        self.calls = self.calls.saturating_add(1);
+        self.changes = self.changes.saturating_add(1);
+        Ok(())
+    }
+}
+
+#[cfg(test)]
+mod tests {
+    use super::*;
+    use block_id::BlockId;
+    use std::test::Fail;
+
+    const BLOCK: FileName = FileName::Block(BlockId([7; 16]));
+
+    #[test]
+    fn gives_what_was_put(rt: HostRuntime) -> Result<(), Fail> {
+        let mut vault = MemoryVault::new(rt.alloc());
+        vault.put(rt.alloc(), &BLOCK, &[1, 2, 3])?;
+        vault.put(rt.alloc(), &FileName::Config, &[4])?;
+        let answer = vault.get(rt.alloc(), &BLOCK, 2)?.ok_or("no file")?;
+        assert_eq!(rt; answer.as_slice(), [1, 2].as_slice());
+        vault.remove(rt.alloc(), &BLOCK)?;
+        assert!(rt; vault.get(rt.alloc(), &BLOCK, 2)?.is_none());
+        assert_eq!(rt; vault.trace().len(), 5);
+        assert_eq!(rt; vault.files().len(), 1);
+        Ok(())
+    }
+
+    #[test]
+    fn fails_in_the_listed_calls(rt: HostRuntime) -> Result<(), Fail> {
+        let mut vault = MemoryVault::new(rt.alloc());
+        vault.fail_calls([2].to_vec(rt.alloc())?);
+        vault.put(rt.alloc(), &BLOCK, &[1])?;
+        assert_eq!(rt;
+            vault.get(rt.alloc(), &BLOCK, 9).err(),
+            Some(GetFail::Failed)
+        );
+        vault.put(rt.alloc(), &FileName::Config, &[2])?;
+        vault.fail_from(2);
+        vault.put(rt.alloc(), &BLOCK, &[3])?;
+        assert_eq!(rt;
+            vault.put(rt.alloc(), &BLOCK, &[4]).err(),
+            Some(GetFail::Failed)
+        );
+        assert_eq!(rt;
+            vault.remove(rt.alloc(), &BLOCK).err(),
+            Some(GetFail::Failed)
+        );
+        let answer = vault.get(rt.alloc(), &BLOCK, 9)?.ok_or("no file")?;
+        assert_eq!(rt; answer.as_slice(), [3].as_slice());
+        assert_eq!(rt; vault.trace().len(), 6);
+        Ok(())
+    }
+
+    #[test]
+    fn gives_other_answers_and_files(rt: HostRuntime) -> Result<(), Fail> {
+        let mut vault = MemoryVault::new(rt.alloc());
+        let mut answers = Vec::new(rt.alloc());
+        answers.push((2, Some([1, 2, 3].to_vec(rt.alloc())?)))?;
+        vault.replace(answers);
+        assert!(rt; vault.get(rt.alloc(), &BLOCK, 9)?.is_none());
+        let answer = vault.get(rt.alloc(), &BLOCK, 2)?.ok_or("no answer")?;
+        assert_eq!(rt; answer.as_slice(), [1, 2].as_slice());
+        let mut files = Vec::new(rt.alloc());
+        files.push(Pending {
+            name: BLOCK,
+            change: Change::Bytes([5].to_vec(rt.alloc())?),
+        })?;
+        vault.set_files(files);
+        let answer = vault.get(rt.alloc(), &BLOCK, 9)?.ok_or("no file")?;
+        assert_eq!(rt; answer.as_slice(), [5].as_slice());
+        assert_eq!(rt; vault.trace().len(), 3);
         Ok(())
     }
 }

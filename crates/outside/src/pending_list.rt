@@ -89,11 +89,7 @@ pub fn cut(
 }
 
 /// A copy of at most `max` of the bytes that a change gives a file.
-pub fn cut_change(
-    alloc: Global,
-    change: &Change,
-    max: usize,
-) -> Result<Option<Vec<u8>>, AllocError>
+pub fn cut_change(alloc: Global, change: &Change, max: usize) -> Result<Option<Vec<u8>>, AllocError>
     ensures { IfOk result (λ answer. bytes_of answer ≡ cut_at max (change_of change.now)) }
 {
     match change {

@@ -10,4 +10,4 @@ returns-in-Ok-clause-items c =
 pub returns-in-Ok-insert-clause-items : goal.returns-in-Ok-insert-clause-items
 returns-in-Ok-insert-clause-items c =
     ap list_of c.in-Ok-insert.ensures.items
-      ∙ was_inserted c.args.list.now.items c.deref.result.now c.in-Err.i c.args.pending c.deref.ensures.value c.in-Err.ensures.absent
+    ∙ was_inserted c.args.list.now.items c.deref.result.now c.in-Err.i c.args.pending c.deref.ensures.value c.in-Err.ensures.absent
