@@ -1,0 +1,5 @@
+pub mod Content
+pub mod Holdings
+pub mod Durables
+pub mod Entries
+pub mod Lists
