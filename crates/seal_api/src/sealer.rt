@@ -1,0 +1,42 @@
+// What a sealer does.
+ghost use Rattle.std.specs.Prelude.{◌≡◌, ◌≤◌, ◌+◌, List, ℕ, length, IfOk, OnOk, OnErr};
+ghost use Rattle.std.specs.declared.option.Option.{Option};
+ghost use Rattle.std.specs.declared.option.Option.TheVariants.{Some};
+ghost use Rattle.std.specs.Option.{option_map};
+ghost use Rattle.seal_api.specs.Sealing.{AppendsSealed, max_len};
+
+use block_id::Memory;
+use std::alloc::Global;
+
+/// Seals plaintexts under a key of 32 bytes, and opens what was sealed.
+pub trait Sealer {
+    /// How many bytes an IV has.
+    ghost iv_size: { Self → ℕ };
+
+    /// The plaintext that a text opens to under a key, if it opens.
+    ghost opens: { Self → List ℕ → List ℕ → Option (List ℕ) };
+
+    /// How many bytes an IV has.
+    fn iv_len(&self) -> usize
+        ensures value { result ≡ iv_size self.now }
+        ensures bound { result ≤ max_len };
+
+    /// Appends the sealed plaintext to `out`: the IV, then what hides and protects the plaintext.
+    fn seal(&self, key: &[u8; 32], iv: &[u8], plain: &[u8], out: &mut Vec<u8>) -> Result<(), Memory>
+        requires iv { length iv.now ≡ iv_size self.now }
+        requires plain { length plain.now ≤ max_len }
+        ensures ok { OnOk result (AppendsSealed (opens self.now key.now) iv.now plain.now out.old.items out.new.items) }
+        ensures err { OnErr result (out.new.items ≡ out.old.items) };
+
+    /// The plaintext of a sealed text, or None where it doesn't open under this key.
+    fn unseal(
+        &self,
+        alloc: Global,
+        key: &[u8; 32],
+        sealed: &[u8],
+    ) -> Result<Option<Vec<u8>>, Memory>
+        ensures { IfOk result (λ answer. option_map (λ plain. plain.items) answer ≡ opens self.now key.now sealed.now) };
+
+    /// A text that opens has 16 bytes more than its IV and its plaintext.
+    ghost lengths: { (s : Self) (key text plain : List ℕ) → opens s key text ≡ Some plain → length text ≡ iv_size s + length plain + 16 };
+}
