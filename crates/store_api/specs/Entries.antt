@@ -1,5 +1,5 @@
 -- A batch as plain data.
-use Rattle.std.specs.Prelude.{ℕ, ◌+◌, List, [], ◌∷◌, map}
+use Rattle.std.specs.Prelude.{ℕ, ◌+◌, Bool, false, List, [], ◌∷◌, map}
 use Rattle.std.specs.FinMap.{from_sorted}
 use Rattle.std.specs.FinMap.Entries.{by_order}
 use Rattle.std.specs.Coded.{Coded, coded_ℕ, coded_list, coded_option}
@@ -9,7 +9,7 @@ use Rattle.std.specs.declared.option.Option.TheVariants.{None, Some}
 use Rattle.block_id.specs.declared.id.BlockId.{BlockId}
 use Rattle.store_api.specs.declared.batch.BatchChange.{BatchChange}
 use Rattle.store_api.specs.declared.batch.BatchChange.TheVariants.{Payload, Removal}
-use Rattle.store_api.specs.Content.{Id, id_cmp, Changes}
+use Rattle.store_api.specs.Content.{Id, id_cmp, same_id, Changes}
 
 abbrev pub change_view : BatchChange → Option (List ℕ)
 change_view (Payload bytes) = Some bytes.items
@@ -31,3 +31,8 @@ changes_code = fin.code (coded_list coded_ℕ) (coded_option (coded_list coded_�
 abbrev pub place : Id → List (Id × Option (List ℕ)) → ℕ
 place id [] = 0
 place id (entry ∷ entries) = by_order (id_cmp id entry.0) 0 0 (place id entries + 1)
+
+-- an entry of this id
+abbrev pub is_entry_of : Id → Option (Id × Option (List ℕ)) → Bool
+is_entry_of id None = false
+is_entry_of id (Some entry) = same_id id entry.0

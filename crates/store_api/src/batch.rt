@@ -1,7 +1,10 @@
 // A list of changes of blocks.
-ghost use Rattle.std.specs.Prelude.{◌≡◌, ◌≤◌, T, length, IfSome, IfNone, OnOk, OnErr};
+ghost use Rattle.std.specs.Prelude.{◌≡◌, ◌≤◌, ◌<◌, T, IsTrue, length, slice_get, IfSome, IfNone, OnOk, OnErr};
 ghost use Rattle.std.specs.FinMap as fin;
-ghost use Rattle.store_api.specs.Entries.{entries_of, change_view, place};
+ghost use Rattle.std.specs.FinMap.{is_sorted};
+ghost use Rattle.std.specs.FinMap.Entries.{put, find as found};
+ghost use Rattle.store_api.specs.Content.{id_cmp};
+ghost use Rattle.store_api.specs.Entries.{entries_of, change_view, place, is_entry_of};
 
 use block_id::{BlockId, Memory};
 use std::alloc::Global;
@@ -49,6 +52,50 @@ fn place_of(entries: &[(BlockId, BatchChange)], id: &BlockId) -> usize
     entries.len()
 }
 
+// Whether the entry at this place is that of the id.
+fn stands_at(entries: &[(BlockId, BatchChange)], at: usize, id: &BlockId) -> bool
+    ensures value { result ≡ is_entry_of id.now.0 (slice_get (entries_of entries.now) at) }
+    ensures in_range { IsTrue result → at < length entries.now }
+{
+    match entries.get(at) {
+        Some(entry) => id.cmp(&entry.0).is_eq(),
+        None => false,
+    }
+}
+
+// The change of this id.
+fn find<'a>(entries: &'a [(BlockId, BatchChange)], id: &BlockId) -> Option<&'a BatchChange>
+    requires { T (is_sorted id_cmp (entries_of entries.now)) }
+    ensures some { IfSome result (λ change. found id_cmp id.now.0 (entries_of entries.now) ≡ Some (change_view change.now)) }
+    ensures none { IfNone result (found id_cmp id.now.0 (entries_of entries.now) ≡ None) }
+{
+    let at = place_of(entries, id);
+    if stands_at(entries, at, id) {
+        Some(&entries[at].1)
+    } else {
+        None
+    }
+}
+
+// Sets the one change of this id.
+fn set(
+    entries: &mut Vec<(BlockId, BatchChange)>,
+    id: &BlockId,
+    change: BatchChange,
+) -> Result<(), Memory>
+    requires { T (is_sorted id_cmp (entries_of entries.old.items)) }
+    ensures ok { OnOk result (entries_of entries.new.items ≡ put id_cmp id.now.0 (change_view change) (entries_of entries.old.items)) }
+    ensures err { OnErr result (entries_of entries.new.items ≡ entries_of entries.old.items) }
+{
+    let at = place_of(entries, id);
+    if stands_at(entries, at, id) {
+        entries[at].1 = change;
+        return Ok(());
+    }
+    entries.insert(at, (*id, change))?;
+    Ok(())
+}
+
 impl Batch {
     /// No changes.
     pub fn new(alloc: Global) -> Batch
@@ -64,5 +111,29 @@ impl Batch {
         ensures { entries_of result.now ≡ fin.entries self.now }
     {
         &self.entries
+    }
+
+    /// What the batch says of this id.
+    pub fn get(&self, id: &BlockId) -> Option<&BatchChange>
+        ensures some { IfSome result (λ change. fin.get self.now id.now.0 ≡ Some (change_view change.now)) }
+        ensures none { IfNone result (fin.get self.now id.now.0 ≡ None) }
+    {
+        find(&self.entries, id)
+    }
+
+    /// Has the id get this payload.
+    pub fn put(&mut self, id: &BlockId, payload: Vec<u8>) -> Result<(), Memory>
+        ensures ok { OnOk result (self.new ≡ fin.insert self.old id.now.0 (Some payload.items)) }
+        ensures err { OnErr result (self.new ≡ self.old) }
+    {
+        set(&mut self.entries, id, BatchChange::Payload(payload))
+    }
+
+    /// Has the id removed.
+    pub fn remove(&mut self, id: &BlockId) -> Result<(), Memory>
+        ensures ok { OnOk result (self.new ≡ fin.insert self.old id.now.0 None) }
+        ensures err { OnErr result (self.new ≡ self.old) }
+    {
+        set(&mut self.entries, id, BatchChange::Removal)
     }
 }
