@@ -1,0 +1,44 @@
+// Bytes of a file or of a link's target.
+ghost use Rattle.std.specs.Prelude.{◌≡◌, IfOk};
+
+use block_id::Memory;
+use std::marker::Model;
+
+/// A list of bytes.
+#[derive(Debug, Drop)]
+pub struct ByteText {
+    bytes: Vec<u8>,
+}
+
+impl Model for ByteText {
+    ghost use Rattle.std.specs.Prelude.{List, ℕ};
+
+    ghost Value = { List ℕ };
+
+    ghost view = { λ t. t.bytes.items };
+}
+
+impl ByteText {
+    /// These bytes.
+    pub fn new(bytes: Vec<u8>) -> ByteText
+        ensures { result ≡ bytes.items }
+    {
+        ByteText { bytes }
+    }
+
+    /// The bytes.
+    pub fn as_slice(&self) -> &[u8]
+        ensures { result.now ≡ self.now }
+    {
+        self.bytes.as_slice()
+    }
+
+    /// The same bytes.
+    pub fn try_clone(&self) -> Result<ByteText, Memory>
+        ensures { IfOk result (λ copy. copy ≡ self.now) }
+    {
+        Ok(ByteText {
+            bytes: self.bytes.clone()?,
+        })
+    }
+}

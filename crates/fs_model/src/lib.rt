@@ -1,0 +1,28 @@
+//! Names, paths, commands and replies of the tree language, and the definition of its step.
+#![tactic(auto)]
+
+mod attr;
+mod bytes;
+mod command;
+mod error;
+mod limits;
+mod moment;
+mod name;
+mod parse;
+mod path;
+mod reply;
+
+pub use attr::{Attr, DIRECTORY_MODE, FILE_MODE, Kind, LINK_MODE};
+pub use block_id::Memory;
+pub use bytes::ByteText;
+pub use command::Command;
+pub use error::{FsError, PathError};
+pub use limits::{
+    ENTRY_SIZE, MAX_ENTRIES, MAX_FILE, MAX_GROWTH, MAX_MODE, MAX_NAME, MAX_PATH_TEXT, MAX_READ,
+    MAX_TARGET, NANOS_PER_SEC,
+};
+pub use moment::Moment;
+pub use name::Name;
+pub use parse::parse_path;
+pub use path::Path;
+pub use reply::{ListRow, Reply, RowList};

@@ -1,0 +1,59 @@
+// A path of the tree.
+ghost use Rattle.std.specs.Prelude.{◌≡◌, [], ◌∷◌, ◌++◌, IfOk, OnOk, OnErr};
+
+use crate::Name;
+use block_id::Memory;
+use std::alloc::Global;
+use std::marker::Model;
+
+/// The names from the root on. The root has none.
+#[derive(Debug, Drop)]
+pub struct Path {
+    names: Vec<Name>,
+}
+
+impl Model for Path {
+    ghost use Rattle.std.specs.Prelude.{List, ℕ};
+
+    ghost Value = { List (List ℕ) };
+
+    ghost view = { λ p. p.names.items };
+}
+
+impl Path {
+    /// The path of no names.
+    pub fn root(alloc: Global) -> Path
+        ensures { result ≡ [] }
+    {
+        Path {
+            names: Vec::new(alloc),
+        }
+    }
+
+    /// The names from the root on.
+    pub fn names(&self) -> &[Name]
+        ensures { result.now ≡ self.now }
+    {
+        self.names.as_slice()
+    }
+
+    /// Puts the name last. After `Memory` the path is as before, and the name is gone.
+    pub fn push(&mut self, name: Name) -> Result<(), Memory>
+        ensures ok { OnOk result (self.new ≡ self.old ++ name ∷ []) }
+        ensures err { OnErr result (self.new ≡ self.old) }
+    {
+        self.names.push(name)?;
+        Ok(())
+    }
+
+    /// The same path.
+    pub fn try_clone(&self) -> Result<Path, Memory>
+        ensures { IfOk result (λ copy. copy ≡ self.now) }
+    {
+        let mut names = Vec::new(*self.names.allocator());
+        for name in &self.names {
+            names.push(name.try_clone()?)?;
+        }
+        Ok(Path { names })
+    }
+}
