@@ -1,5 +1,5 @@
 -- What a store holds: a payload for some of the ids. An id is a list of 16 bytes.
-use Rattle.std.specs.Prelude.{◌≡◌, ℕ, Bool, List, replicate, is_some}
+use Rattle.std.specs.Prelude.{◌≡◌, ℕ, Bool, List, is_some}
 use Rattle.std.specs.Cmp.Lexicographic.{slice_cmp}
 use Rattle.std.specs.Ordering.{nat_cmp, eq_by_cmp}
 use Rattle.std.specs.declared.cmp.Ordering.{Ordering}
@@ -37,7 +37,3 @@ or_else (Some new) old = new
 -- the content after these changes
 abbrev pub over : Changes → Content → Content
 over changes content id = or_else (get changes id) (content id)
-
--- the id that no block has
-abbrev pub zero_id : Id
-zero_id = replicate 16 0

@@ -3,3 +3,4 @@ pub mod Holdings
 pub mod Durables
 pub mod Entries
 pub mod Lists
+pub mod Overlay

@@ -136,4 +136,11 @@ impl Batch {
     {
         set(&mut self.entries, id, BatchChange::Removal)
     }
+
+    /// Forgets all changes.
+    pub fn clear(&mut self)
+        ensures { self.new ≡ fin.empty }
+    {
+        self.entries.clear();
+    }
 }

@@ -4,8 +4,9 @@ ghost use Rattle.std.specs.declared.result.Result.TheVariants.{Err};
 ghost use Rattle.outside.specs.View.{bytes_of};
 ghost use Rattle.outcome.specs.Meanings.{Meanings, Lawful, IsOfBlocks};
 ghost use Rattle.outcome.specs.Outcome.{Outcome};
-ghost use Rattle.store_api.specs.Holdings.{Holdings, Steady, Fits, Changed, IsSpent};
+ghost use Rattle.block_id.specs.Fresh.{IsFirstFree};
 ghost use Rattle.store_api.specs.Content.{Changes};
+ghost use Rattle.store_api.specs.Holdings.{Holdings, Steady, Stays, Fits, Changed, IsSpent, IsFew, is_free, has_id};
 
 use crate::Batch;
 use block_id::{BlockId, Fail};
@@ -29,13 +30,19 @@ pub trait Blocks {
     fn load(&mut self, alloc: Global, id: &BlockId) -> Result<Option<Vec<u8>>, Fail>
         requires { meanings.intact self.old }
         ensures outcome { Outcome meanings Unit self.old self.new result (λ _ answer. bytes_of answer ≡ holdings.content self.old id.now.0) }
+        ensures stays { Stays holdings self.old self.new }
         ensures of_blocks { IfErr result IsOfBlocks }
         ensures none { IfOk result (λ answer. is_some answer ≡ is_some (holdings.content self.old id.now.0)) }
         ensures sized { IfOk result (λ answer. IfSome answer (λ bytes. length bytes.items ≡ holdings.payload self.old)) };
 
     /// Whether the id was ever in the content.
     fn is_used(&self, id: &BlockId) -> bool
-        ensures { result ≡ holdings.used self.now id.now.0 };
+        ensures { result ≡ has_id (holdings.used self.now) id.now.0 };
+
+    /// The first id that is neither used nor zero among `drawn`, the next one and so on.
+    fn fresh(&self, drawn: BlockId) -> BlockId
+        requires { IsFew (holdings.used self.now) }
+        ensures { IsFirstFree (is_free (holdings.used self.now)) drawn.0 result.0 };
 
     /// The length of each payload.
     fn payload(&self) -> usize
@@ -68,4 +75,7 @@ pub trait BlocksMut: Blocks {
         ensures spent { (result ≡ Err ApplyError.Spent) ↔ IsSpent Self.holdings self.old batch.now }
         ensures loaded { OnErr result (Self.meanings.loaded self.old self.new) }
         ensures sound { OnErr result (Self.meanings.sound self.old → Self.meanings.sound self.new) };
+
+    /// Where blocks were only loaded, the store holds what it held.
+    ghost settled: { (a b : Self) → Self.meanings.loaded a b → Stays Self.holdings a b };
 }

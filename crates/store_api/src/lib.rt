@@ -4,7 +4,9 @@
 mod batch;
 mod blocks;
 mod durable;
+mod tx;
 
 pub use batch::{Batch, BatchChange};
 pub use blocks::{ApplyError, Blocks, BlocksMut};
 pub use durable::Durable;
+pub use tx::Tx;

@@ -1,0 +1,57 @@
+-- A store seen through changes that aren't made yet.
+use Rattle.std.specs.Prelude.{◌≡◌, ◌⊎◌, ◌||◌, ℕ, Bool, true, false, not, ◌++◌, List, length, is_some, Option, Some, None, refl}
+use Rattle.std.proofs.Common.{sym, ◌∙◌, ap, subst}
+use Rattle.std.specs.FinMap as fin
+use Rattle.std.specs.FinMap.{contains_key-keys}
+use Rattle.std.specs.Cmp.{tied_itself}
+use Rattle.std.specs.Cmp.Lexicographic.{nat_list_cmp_total}
+use Rattle.std.specs.Ordering.{is_eq}
+use Rattle.std.proofs.lemmas.List.{list_any-append}
+use Rattle.block_id.specs.Fresh.{zero_id}
+use Rattle.outcome.specs.Meanings.{Meanings, Lawful}
+use Rattle.outcome.specs.Lift.{lift, lawful}
+use Rattle.store_api.specs.Content.{Id, Content, id_cmp, same_id, Changes, or_else, over}
+use Rattle.store_api.specs.Holdings.{Holdings, Steady, Fits, MayGet, has_id, is_free}
+
+-- f is the store below, and g are the changes over it
+abbrev pub meanings_over : {A B : Type 0} → (A → B) → (A → Changes) → Meanings B → Holdings B → Meanings A
+meanings_over f g M H = lift f (λ a. Fits H (f a) (g a)) M
+
+abbrev pub holdings_over : {A B : Type 0} → (A → B) → (A → Changes) → Holdings B → Holdings A
+holdings_over f g H = record {
+  content = λ a. over (g a) (H.content (f a));
+  told = λ a. H.told (f a);
+  used = λ a. fin.keys (g a) ++ H.used (f a);
+  spent = λ a. H.spent (f a);
+  payload = λ a. H.payload (f a);
+}
+
+pub lawful_over : {A B : Type 0} (f : A → B) (g : A → Changes) (M : Meanings B) (H : Holdings B) → Lawful M → Lawful (meanings_over f g M H)
+lawful_over f g M H l = lawful f (λ a. Fits H (f a) (g a)) M l
+
+-- an id is used in the changes or in the store
+pub has_id-over : (changes : Changes) (used : List Id) (id : Id) → has_id (fin.keys changes ++ used) id ≡ (is_some (fin.get changes id) || has_id used id)
+has_id-over changes used id = list_any-append (same_id id) (fin.keys changes) used ∙ ap (λ b. b || has_id used id) (sym (contains_key-keys changes id))
+
+used_if : (o : Option (Option (List ℕ))) (c : Option (List ℕ)) (b : Bool) → (is_some c ≡ true → b ≡ true) → is_some (or_else o c) ≡ true → (is_some o || b) ≡ true
+used_if (Some change) c b f h = refl
+used_if None c b f h = f h
+
+-- the changes say nothing of the zero id
+no_zero : {B : Type 0} (M : Meanings B) (H : Holdings B) (s : B) (changes : Changes) → Steady M H → M.intact s → Fits H s changes → (o : Option (Option (List ℕ))) → fin.get changes zero_id ≡ o → is_some o ≡ false
+no_zero M H s changes st i fits None e = refl
+no_zero M H s changes st i fits (Some None) e = let bad : true ≡ false = sym (st.content_used s zero_id i (fits.removes zero_id e)) ∙ st.zero_unused s i in absurd (cc)
+no_zero M H s changes st i fits (Some (Some bytes)) e = elim (fits.gets zero_id bytes e) [
+    | inl there ↦ let bad : true ≡ false = sym (st.content_used s zero_id i there) ∙ st.zero_unused s i in absurd (cc)
+    | inr free ↦ absurd (cc)
+]
+
+pub steady_over : {A B : Type 0} (f : A → B) (g : A → Changes) (M : Meanings B) (H : Holdings B) → Steady M H → Steady (meanings_over f g M H) (holdings_over f g H)
+steady_over f g M H st = record {
+  sound_told = λ a s. st.sound_told (f a) s;
+  at_least = λ a i. st.at_least (f a) i.0;
+  at_most = λ a i. st.at_most (f a) i.0;
+  content_used = λ a id i h. has_id-over (g a) (H.used (f a)) id ∙ used_if (fin.get (g a) id) (H.content (f a) id) (has_id (H.used (f a)) id) (st.content_used (f a) id i.0) h;
+  zero_unused = λ a i. has_id-over (g a) (H.used (f a)) zero_id ∙ ?;
+  sized = λ a id bytes i t h. ?;
+}
