@@ -4,3 +4,4 @@ pub mod Durables
 pub mod Entries
 pub mod Lists
 pub mod Overlay
+pub mod Passing

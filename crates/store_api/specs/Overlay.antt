@@ -1,17 +1,21 @@
 -- A store seen through changes that aren't made yet.
-use Rattle.std.specs.Prelude.{◌≡◌, ◌⊎◌, ◌||◌, ℕ, Bool, true, false, not, ◌++◌, List, length, is_some, Option, Some, None, refl}
-use Rattle.std.proofs.Common.{sym, ◌∙◌, ap, subst}
+use Rattle.std.specs.Prelude.{◌≡◌, ◌⊎◌, ◌||◌, ◌&&◌, ℕ, Bool, true, false, cond, not, ◌++◌, List, length, is_some, Option, Some, None, refl}
+use Rattle.std.proofs.Common.{sym, ◌∙◌, ap, subst, inl, inr}
 use Rattle.std.specs.FinMap as fin
 use Rattle.std.specs.FinMap.{contains_key-keys}
 use Rattle.std.specs.Cmp.{tied_itself}
 use Rattle.std.specs.Cmp.Lexicographic.{nat_list_cmp_total}
 use Rattle.std.specs.Ordering.{is_eq}
-use Rattle.std.proofs.lemmas.List.{list_any-append}
+use Rattle.std.proofs.lemmas.List.Folds.{list_any-append}
 use Rattle.block_id.specs.Fresh.{zero_id}
 use Rattle.outcome.specs.Meanings.{Meanings, Lawful}
 use Rattle.outcome.specs.Lift.{lift, lawful}
 use Rattle.store_api.specs.Content.{Id, Content, id_cmp, same_id, Changes, or_else, over}
 use Rattle.store_api.specs.Holdings.{Holdings, Steady, Fits, MayGet, has_id, is_free}
+
+-- the changes with the removal of an id: an id that the store doesn't know is forgotten
+abbrev pub without : List Id → Changes → Id → Changes
+without used changes id = cond (has_id used id) (fin.insert changes id None) (fin.remove changes id)
 
 -- f is the store below, and g are the changes over it
 abbrev pub meanings_over : {A B : Type 0} → (A → B) → (A → Changes) → Meanings B → Holdings B → Meanings A
@@ -42,9 +46,17 @@ no_zero : {B : Type 0} (M : Meanings B) (H : Holdings B) (s : B) (changes : Chan
 no_zero M H s changes st i fits None e = refl
 no_zero M H s changes st i fits (Some None) e = let bad : true ≡ false = sym (st.content_used s zero_id i (fits.removes zero_id e)) ∙ st.zero_unused s i in absurd (cc)
 no_zero M H s changes st i fits (Some (Some bytes)) e = elim (fits.gets zero_id bytes e) [
-    | inl there ↦ let bad : true ≡ false = sym (st.content_used s zero_id i there) ∙ st.zero_unused s i in absurd (cc)
-    | inr free ↦ absurd (cc)
+  | inl there ↦ let bad : true ≡ false = sym (st.content_used s zero_id i there) ∙ st.zero_unused s i in absurd (cc)
+  | inr free ↦ absurd (never (has_id (H.used s) zero_id) free)
 ]
+  where
+    never : (b : Bool) → (not b && not (same_id zero_id zero_id)) ≡ true → ⊥
+    never true h = absurd (cc)
+    never false h = absurd (cc)
+
+sized_over : (o : Option (Option (List ℕ))) (c : Option (List ℕ)) (bytes : List ℕ) → or_else o c ≡ Some bytes → (o ≡ Some (Some bytes)) ⊎ ((o ≡ None) × (c ≡ Some bytes))
+sized_over None c bytes e = inr (refl, e)
+sized_over (Some change) c bytes e = inl (ap Some e)
 
 pub steady_over : {A B : Type 0} (f : A → B) (g : A → Changes) (M : Meanings B) (H : Holdings B) → Steady M H → Steady (meanings_over f g M H) (holdings_over f g H)
 steady_over f g M H st = record {
@@ -52,6 +64,10 @@ steady_over f g M H st = record {
   at_least = λ a i. st.at_least (f a) i.0;
   at_most = λ a i. st.at_most (f a) i.0;
   content_used = λ a id i h. has_id-over (g a) (H.used (f a)) id ∙ used_if (fin.get (g a) id) (H.content (f a) id) (has_id (H.used (f a)) id) (st.content_used (f a) id i.0) h;
-  zero_unused = λ a i. has_id-over (g a) (H.used (f a)) zero_id ∙ ?;
-  sized = λ a id bytes i t h. ?;
+  zero_unused = λ a i. has_id-over (g a) (H.used (f a)) zero_id
+      ∙ (ap (λ b. b || has_id (H.used (f a)) zero_id) (no_zero M H (f a) (g a) st i.0 i.1 (fin.get (g a) zero_id) refl) ∙ st.zero_unused (f a) i.0);
+  sized = λ a id bytes i t h. elim (sized_over (fin.get (g a) id) (H.content (f a) id) bytes h) [
+    | inl new ↦ i.1.sized id bytes new
+    | inr old ↦ st.sized (f a) id bytes i.0 t old.1
+  ];
 }

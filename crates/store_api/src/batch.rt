@@ -1,5 +1,5 @@
 // A list of changes of blocks.
-ghost use Rattle.std.specs.Prelude.{◌≡◌, ◌≤◌, ◌<◌, T, IsTrue, length, slice_get, IfSome, IfNone, OnOk, OnErr};
+ghost use Rattle.std.specs.Prelude.{◌≡◌, ◌==◌, ◌≤◌, ◌<◌, T, IsTrue, length, slice_get, IfSome, IfNone, OnOk, OnErr};
 ghost use Rattle.std.specs.FinMap as fin;
 ghost use Rattle.std.specs.FinMap.{is_sorted};
 ghost use Rattle.std.specs.FinMap.Entries.{put, find as found};
@@ -121,6 +121,13 @@ impl Batch {
         find(&self.entries, id)
     }
 
+    /// Whether the batch says something of this id.
+    pub fn has(&self, id: &BlockId) -> bool
+        ensures { result ≡ fin.contains_key self.now id.now.0 }
+    {
+        self.get(id).is_some()
+    }
+
     /// Has the id get this payload.
     pub fn put(&mut self, id: &BlockId, payload: Vec<u8>) -> Result<(), Memory>
         ensures ok { OnOk result (self.new ≡ fin.insert self.old id.now.0 (Some payload.items)) }
@@ -142,5 +149,29 @@ impl Batch {
         ensures { self.new ≡ fin.empty }
     {
         self.entries.clear();
+    }
+
+    /// How many ids the batch changes.
+    pub fn len(&self) -> usize
+        ensures { result ≡ fin.len self.now }
+    {
+        self.entries.len()
+    }
+
+    /// Whether the batch changes nothing.
+    pub fn is_empty(&self) -> bool
+        ensures { result ≡ (fin.len self.now == 0) }
+    {
+        self.entries.is_empty()
+    }
+
+    /// Takes back what it says of this id.
+    pub fn forget(&mut self, id: &BlockId)
+        ensures { self.new ≡ fin.remove self.old id.now.0 }
+    {
+        let at = place_of(&self.entries, id);
+        if stands_at(&self.entries, at, id) {
+            let _ = self.entries.remove(at);
+        }
     }
 }

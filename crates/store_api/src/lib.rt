@@ -4,6 +4,7 @@
 mod batch;
 mod blocks;
 mod durable;
+mod fresh;
 mod tx;
 
 pub use batch::{Batch, BatchChange};
