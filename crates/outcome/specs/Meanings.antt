@@ -1,9 +1,9 @@
 -- What a store over an outside that may lie means, whatever it stores.
-use Rattle.std.specs.Prelude.{◌≡◌, ℕ, ◌≤◌}
+use Rattle.std.specs.Prelude.{ℕ, ◌≤◌}
 use Rattle.block_id.specs.declared.fail.Fail.{Fail}
 use Rattle.block_id.specs.declared.fail.Fail.TheVariants.{Memory, Fault, Violation}
 use Rattle.block_id.specs.declared.fail.Why.{Why}
-use Rattle.block_id.specs.declared.fail.Why.TheVariants.{Missing, BadLength, BadPrefix, NotOpened, BadRecord, WrongId, ForeignClient, OldVersion, AheadVersion, Structure}
+use Rattle.block_id.specs.declared.fail.Why.TheVariants.{Structure}
 use Rattle.outside.specs.Causes.{RoseBy}
 
 pub record Meanings (S : Type 0) : Type 1 where

@@ -1,7 +1,7 @@
 -- What every call over a store promises, and how calls in a row make one. `N` is what the call needs of the content.
-use Rattle.std.specs.Prelude.{◌≡◌, ℕ, ◌≤◌, ◌<◌, List, Result, IfOk, IfErr}
+use Rattle.std.specs.Prelude.{ℕ, ◌≤◌, Result, IfOk, IfErr}
 use Rattle.std.specs.declared.result.Result.TheVariants.{Ok, Err}
-use Rattle.std.proofs.Common.{refl, sym, ◌∙◌, ap, subst, arith}
+use Rattle.std.proofs.Common.{arith}
 use Rattle.block_id.specs.declared.fail.Fail.{Fail}
 use Rattle.block_id.specs.declared.fail.Fail.TheVariants.{Memory, Fault, Violation}
 use Rattle.block_id.specs.declared.fail.Why.{Why}

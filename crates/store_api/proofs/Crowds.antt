@@ -1,11 +1,14 @@
 -- Among more ids in a row than are used, one is free.
-use Rattle.std.proofs.Common.{◌≡◌, ◌⊎◌, ℕ, zero, suc, ◌+◌, ◌-◌, ◌^◌, ◌<◌, ◌≤◌, Bool, true, false, cond, List, [], ◌∷◌, length, refl, sym, ◌∙◌, ap, subst, inl, inr, arith, add-one, below_more}
+use Rattle.std.proofs.Common.{◌≡◌, ℕ, zero, suc, ◌+◌, ◌-◌, ◌^◌, ◌<◌, ◌≤◌, Bool, true, false, cond, List, [], ◌∷◌, length, refl, sym, ◌∙◌, ap, subst, arith, add-one, below_more}
 use Rattle.std.specs.Prelude.{nat_le, nat_lt, not, ◌&&◌, ◌||◌, ◌++◌, is_some}
 use Rattle.std.proofs.lemmas.Grind.{common_steps}
 use Rattle.block_id.specs.Name.{next_id}
 use Rattle.block_id.specs.Fresh.{nth_id, zero_id, IsFirstFree}
 use Rattle.block_id.proofs.Candidates.{value, behind, behind-nth_id, nth_id-add}
 use Rattle.std.specs.FinMap as fin
+use Rattle.std.specs.FinMap.{len-entries}
+use Rattle.std.proofs.lemmas.List.{length-map}
+use Rattle.std.proofs.Common.{length-append}
 use Rattle.store_api.specs.Content.{Id, same_id, Changes}
 use Rattle.store_api.specs.Overlay.{has_id-over}
 use Rattle.store_api.specs.Holdings.{has_id, is_free}
@@ -155,3 +158,7 @@ passed-smaller changes used drawn id new next small p f some is =
     let after = passed-few (fin.keys changes ++ used) drawn next (omega arith) q in
     let more : q.steps ≡ p.steps + f.steps + 1 = refl in
     omega (arith, before.0, before.1, after.0, after.1, more)
+
+-- as many ids as the changes and the store have
+pub length-both : (changes : Changes) (used : List Id) → length (fin.keys changes ++ used) ≡ fin.len changes + length used
+length-both changes used = length-append (fin.keys changes) used ∙ ap (λ n. n + length used) (length-map (fin.entries changes) (λ e. e.0) ∙ sym (len-entries changes))

@@ -2,14 +2,14 @@
 use Rattle.std.proofs.Common.{◌≡◌, ◌⊎◌, ℕ, Bool, true, false, List, length, refl, sym, ◌∙◌, ap, subst, inl, inr}
 use Rattle.std.specs.Prelude.{Result, Ok, Err, OnOk, OnErr, IfSome, IfNone, not, cond, ◌&&◌, ◌||◌, ◌++◌, is_some, Option, Some, None}
 use Rattle.std.specs.FinMap as fin
-use Rattle.std.specs.FinMap.{get-empty, get-insert, slice_cmp-IsAntisymmetric, nat_cmp-IsAntisymmetric}
+use Rattle.std.specs.FinMap.{get-empty, get-insert, get-remove, slice_cmp-IsAntisymmetric, nat_cmp-IsAntisymmetric}
 use Rattle.std.specs.Cmp.{IsTotalOrder}
 use Rattle.std.specs.Cmp.Lexicographic.{nat_list_cmp_total}
 use Rattle.std.specs.Ordering.{is_eq}
 use Rattle.std.specs.declared.cmp.Ordering.{Ordering}
 use Rattle.std.specs.declared.cmp.Ordering.TheVariants.{Less, Equal, Greater}
 use Rattle.block_id.specs.Fresh.{zero_id}
-use Rattle.store_api.specs.Content.{Id, Content, id_cmp, same_id, Changes, or_else, over, SameIds}
+use Rattle.store_api.specs.Content.{Id, id_cmp, same_id, Changes, or_else, over}
 use Rattle.store_api.specs.Holdings.{Holdings, Fits, MayGet, Stays, has_id, is_free}
 use Rattle.store_api.specs.Overlay.{has_id-over}
 
@@ -107,3 +107,53 @@ or_true r false b t e = absurd (cc)
 pub or_false : (r a b : Bool) → r ≡ false → r ≡ a → b ≡ (a || b)
 or_false r true b t e = absurd (cc)
 or_false r false b t e = refl
+
+-- an entry of a map with one fewer is an old one of another id
+entry_left : (changes : Changes) (id q : Id) (c : Option (List ℕ)) → fin.get (fin.remove changes id) q ≡ Some c → fin.get changes q ≡ Some c
+entry_left changes id q c e =
+    elim (same_id q id) as (λ b. cond b None (fin.get changes q) ≡ Some c → fin.get changes q ≡ Some c) [
+      | true ↦ λ h. absurd (none_some c h)
+      | false ↦ λ h. h
+    ] (sym (get-remove total changes id q) ∙ e)
+
+pub fits-forget : {S : Type 0} (H : Holdings S) (s : S) (changes : Changes) (id : Id) → Fits H s changes → Fits H s (fin.remove changes id)
+fits-forget H s changes id fits = record {
+  sized = λ q bytes e. fits.sized q bytes (entry_left changes id q (Some bytes) e);
+  gets = λ q bytes e. fits.gets q bytes (entry_left changes id q (Some bytes) e);
+  removes = λ q e. fits.removes q (entry_left changes id q None e);
+}
+
+-- what the changes show of a used id, the store has
+shown : {S : Type 0} (H : Holdings S) (s : S) (changes : Changes) (id : Id) → Fits H s changes → has_id (H.used s) id ≡ true → (o : Option (Option (List ℕ))) → fin.get changes id ≡ o
+    → is_some (or_else o (H.content s id)) ≡ true → is_some (H.content s id) ≡ true
+shown H s changes id fits used None e h = h
+shown H s changes id fits used (Some None) e h = absurd (cc)
+shown H s changes id fits used (Some (Some bytes)) e h = elim (fits.gets id bytes e) [
+  | inl there ↦ there
+  | inr free ↦ absurd (never (has_id (H.used s) id) (not (same_id id zero_id)) used free)
+]
+  where
+    never : (a b : Bool) → a ≡ true → (not a && b) ≡ true → ⊥
+    never true b e h = absurd (cc)
+    never false b e h = absurd (cc)
+
+pub fits-remove : {S : Type 0} (H : Holdings S) (s : S) (changes : Changes) (id : Id) → Fits H s changes → has_id (H.used s) id ≡ true → is_some (over changes (H.content s) id) ≡ true → Fits H s (fin.insert changes id None)
+fits-remove H s changes id fits used there = record {
+  sized = λ q bytes e. elim (entry_cases changes id None q (Some bytes) e) [
+    | inl new ↦ absurd (none_some bytes new.1)
+    | inr old ↦ fits.sized q bytes old
+  ];
+  gets = λ q bytes e. elim (entry_cases changes id None q (Some bytes) e) [
+    | inl new ↦ absurd (none_some bytes new.1)
+    | inr old ↦ fits.gets q bytes old
+  ];
+  removes = λ q e. elim (entry_cases changes id None q None e) [
+    | inl new ↦ subst (λ x. is_some (H.content s x) ≡ true) (sym new.0) (shown H s changes id fits used (fin.get changes id) refl there)
+    | inr old ↦ fits.removes q old
+  ];
+}
+
+pub fits-remove_or_not : {E : Type 0} (r : Result Unit E) {S : Type 0} (H : Holdings S) (s : S) (old new : Changes) (id : Id)
+    → OnOk r (new ≡ fin.insert old id None) → OnErr r (new ≡ old) → Fits H s old → has_id (H.used s) id ≡ true → is_some (over old (H.content s) id) ≡ true → Fits H s new
+fits-remove_or_not (Ok u) H s old new id ok err fits used there = subst (Fits H s) (sym ok) (fits-remove H s old id fits used there)
+fits-remove_or_not (Err e) H s old new id ok err fits used there = subst (Fits H s) (sym err) fits

@@ -1,14 +1,15 @@
 -- Where entries stand in a list that rises.
-use Rattle.std.proofs.Common.{◌≡◌, ℕ, suc, ◌+◌, List, [], ◌∷◌, Bool, true, false, cond, refl, sym, ◌∙◌, ap, subst, add-one}
-use Rattle.std.specs.Prelude.{T, length, Option, Some, None, slice_get, slice_set, ◌&&◌}
-use Rattle.std.specs.List.{insert, slice_index_or}
+use Rattle.std.proofs.Common.{◌≡◌, ℕ, ◌+◌, List, [], ◌∷◌, Bool, true, false, cond, refl, sym, ◌∙◌, ap, subst, add-one}
+use Rattle.std.specs.Prelude.{T, length, Option, Some, None, slice_get, slice_set, not, ◌&&◌}
+use Rattle.std.specs.List.{insert, remove, slice_index_or}
 use Rattle.std.specs.Option.{option_map}
+use Rattle.std.proofs.lemmas.List.{length-map}
 use Rattle.std.proofs.lemmas.Option.{slice_get-map, slice_get-get_or}
 use Rattle.std.specs.Prelude.{◌<◌, Result, Ok, Err, OnOk, OnErr}
 use Rattle.std.specs.FinMap as fin
-use Rattle.std.specs.FinMap.{entries-from_sorted, empty_of_len, len-entries, same_entries_map, entries-insert, is_sorted, get-from_sorted}
-use Rattle.std.specs.FinMap.Entries.{put, find, by_order, below_all, is_sorted-put}
-use Rattle.std.specs.Cmp.{IsTotalOrder}
+use Rattle.std.specs.FinMap.{entries-from_sorted, empty_of_len, len-entries, same_entries_map, entries-insert, is_sorted, get-from_sorted, get-remove, same_map, IsAntisymmetric, slice_cmp-IsAntisymmetric, nat_cmp-IsAntisymmetric}
+use Rattle.std.specs.FinMap.Entries.{put, find, by_order, below_all, is_sorted-put, is_sorted-where_key, find-where_key}
+use Rattle.std.specs.Cmp.{IsTotalOrder, eq_by_cmp_equiv}
 use Rattle.std.specs.Cmp.Lexicographic.{nat_list_cmp_total}
 use Rattle.std.specs.Ordering.{is_eq, is_lt}
 use Rattle.std.specs.declared.cmp.Ordering.{Ordering}
@@ -16,13 +17,21 @@ use Rattle.std.specs.declared.cmp.Ordering.TheVariants.{Less, Equal, Greater}
 use Rattle.block_id.specs.declared.id.BlockId.{BlockId}
 use Rattle.store_api.specs.declared.batch.BatchChange.{BatchChange}
 use Rattle.store_api.specs.Content.{Id, id_cmp, same_id, Changes}
-use Rattle.store_api.specs.Entries.{entry_view, entries_of, changes_of, change_view, place, is_entry_of}
+use Rattle.store_api.specs.Entries.{entry_view, entries_of, changes_of, change_view, place, is_entry_of, others}
 
 abbrev pub Plain : Type 0
 Plain = List (Id × Option (List ℕ))
 
 total : IsTotalOrder id_cmp
 total = nat_list_cmp_total
+
+exact : IsAntisymmetric id_cmp
+exact = slice_cmp-IsAntisymmetric nat_cmp-IsAntisymmetric
+
+lt : (r : Ordering) → T (is_lt r) → r ≡ Less
+lt Less h = refl
+lt Equal h = absurd h
+lt Greater h = absurd h
 
 left : (a b : Bool) → T (a && b) → T a
 left true b h = tt
@@ -86,11 +95,6 @@ none_below id x (e ∷ es) less h =
     let first : id_cmp x e.0 ≡ Less = lt (id_cmp x e.0) (left (is_lt (id_cmp x e.0)) (below_all id_cmp x es) h) in
     let here : id_cmp id e.0 ≡ Less = total.trans id x e.0 less first in
     ap (λ r. cond (is_eq r) (Some e.1) (find id_cmp id es)) here ∙ none_below id x es less (right (is_lt (id_cmp x e.0)) (below_all id_cmp x es) h)
-  where
-    lt : (r : Ordering) → T (is_lt r) → r ≡ Less
-    lt Less h = refl
-    lt Equal h = absurd h
-    lt Greater h = absurd h
 
 -- what a list that rises has at an id is what it has at the id's place
 abbrev pub own_change : Id → Option (Id × Option (List ℕ)) → Option (Option (List ℕ))
@@ -136,3 +140,68 @@ pub kept-changes : {E : Type 0} (r : Result Unit E) (m : Changes) (old new : Lis
     → OnOk r (entries_of new ≡ put id_cmp id change (entries_of old)) → OnOk r (changes_of new ≡ fin.insert m id change)
 kept-changes (Ok u) m old new id change is rises ok = changes-put old new id change rises ok ∙ ap (λ n. fin.insert n id change) is
 kept-changes (Err e) m old new id change is rises ok = tt
+
+-- ids above the first of a list that rises are other ids
+others_above : (id x : Id) (es : Plain) → id_cmp id x ≡ Equal → T (below_all id_cmp x es) → others id es ≡ es
+others_above id x [] same h = refl
+others_above id x (e ∷ es) same h =
+    let first : id_cmp x e.0 ≡ Less = lt (id_cmp x e.0) (left (is_lt (id_cmp x e.0)) (below_all id_cmp x es) h) in
+    let here : id_cmp id e.0 ≡ Less = total.congr id x e.0 same ∙ first in
+    ap (λ r. cond (not (is_eq r)) (e ∷ others id es) (others id es)) here ∙ ap (λ ys. e ∷ ys) (others_above id x es same (right (is_lt (id_cmp x e.0)) (below_all id_cmp x es) h))
+
+others_below : (id x : Id) (es : Plain) → id_cmp id x ≡ Less → T (below_all id_cmp x es) → others id es ≡ es
+others_below id x [] less h = refl
+others_below id x (e ∷ es) less h =
+    let first : id_cmp x e.0 ≡ Less = lt (id_cmp x e.0) (left (is_lt (id_cmp x e.0)) (below_all id_cmp x es) h) in
+    let here : id_cmp id e.0 ≡ Less = total.trans id x e.0 less first in
+    ap (λ r. cond (not (is_eq r)) (e ∷ others id es) (others id es)) here ∙ ap (λ ys. e ∷ ys) (others_below id x es less (right (is_lt (id_cmp x e.0)) (below_all id_cmp x es) h))
+
+-- without the entry at the id's place, or where there is none
+pub entries-remove_at : (es : List (BlockId × BatchChange)) (id : Id) → T (is_sorted id_cmp (entries_of es)) → is_entry_of id (slice_get (entries_of es) (place id (entries_of es))) ≡ true
+    → entries_of (remove es (place id (entries_of es))) ≡ others id (entries_of es)
+entries-remove_at [] id rises is = absurd (cc)
+entries-remove_at (x ∷ xs) id rises is =
+    elim (id_cmp id x.0.0) as (λ r. id_cmp id x.0.0 ≡ r → is_entry_of id (slice_get (entries_of (x ∷ xs)) (by_order r 0 0 (place id (entries_of xs) + 1))) ≡ true
+    → entries_of (remove (x ∷ xs) (by_order r 0 0 (place id (entries_of xs) + 1))) ≡ cond (not (is_eq r)) (entry_view x ∷ others id (entries_of xs)) (others id (entries_of xs))) [
+      | Less ↦ λ p here. let bad : false ≡ true = sym (ap is_eq p) ∙ here in absurd (cc)
+      | Equal ↦ λ p here. sym (others_above id x.0.0 (entries_of xs) p (left (below_all id_cmp x.0.0 (entries_of xs)) (is_sorted id_cmp (entries_of xs)) rises))
+      | Greater ↦ λ p here.
+          ap (λ i. entries_of (remove (x ∷ xs) i)) (add-one (place id (entries_of xs)))
+          ∙ ap (λ ys. entry_view x ∷ ys) (entries-remove_at xs id (right (below_all id_cmp x.0.0 (entries_of xs)) (is_sorted id_cmp (entries_of xs)) rises)
+          (ap (λ i. is_entry_of id (slice_get (entries_of (x ∷ xs)) i)) (sym (add-one (place id (entries_of xs)))) ∙ here))
+    ] refl is
+
+pub entries-no_remove : (id : Id) (es : Plain) → T (is_sorted id_cmp es) → is_entry_of id (slice_get es (place id es)) ≡ false → es ≡ others id es
+entries-no_remove id [] rises is = refl
+entries-no_remove id (x ∷ xs) rises is =
+    elim (id_cmp id x.0) as (λ r. id_cmp id x.0 ≡ r → is_entry_of id (slice_get (x ∷ xs) (by_order r 0 0 (place id xs + 1))) ≡ false → x ∷ xs ≡ cond (not (is_eq r)) (x ∷ others id xs) (others id xs)) [
+      | Less ↦ λ p here. ap (λ ys. x ∷ ys) (sym (others_below id x.0 xs p (left (below_all id_cmp x.0 xs) (is_sorted id_cmp xs) rises)))
+      | Equal ↦ λ p here. let bad : true ≡ false = sym (ap is_eq p) ∙ here in absurd (cc)
+      | Greater ↦ λ p here. ap (λ ys. x ∷ ys) (entries-no_remove id xs (right (below_all id_cmp x.0 xs) (is_sorted id_cmp xs) rises) (ap (λ i. is_entry_of id (slice_get (x ∷ xs) i)) (sym (add-one (place id xs))) ∙ here))
+    ] refl is
+
+pub sorted-others : (old new : List (BlockId × BatchChange)) (id : Id) → T (is_sorted id_cmp (entries_of old)) → entries_of new ≡ others id (entries_of old) → T (is_sorted id_cmp (entries_of new))
+sorted-others old new id rises e = subst (λ es. T (is_sorted id_cmp es)) (sym e) (is_sorted-where_key {X = Option (List ℕ)} id_cmp (λ x. not (same_id id x)) (entries_of old) rises)
+
+-- the batch whose entries are the others
+pub changes-remove : (old new : List (BlockId × BatchChange)) (id : Id) → T (is_sorted id_cmp (entries_of old)) → entries_of new ≡ others id (entries_of old)
+    → changes_of new ≡ fin.remove (changes_of old) id
+changes-remove old new id rises e = same_map total exact _ _ (λ q.
+    get-from_sorted id_cmp (entries_of new) q (sorted-others old new id rises e)
+    ∙ (ap (find id_cmp q) e
+    ∙ (find-where_key {X = Option (List ℕ)} id_cmp (λ x. not (same_id id x)) q (λ x t. ap (λ y. not (same_id id y)) (sym (exact q x t))) (entries_of old)
+    ∙ (turned (same_id id q) (same_id q id) (symmetric id q) (find id_cmp q (entries_of old))
+    ∙ (ap (λ o. cond (same_id q id) None o) (sym (get-from_sorted id_cmp (entries_of old) q rises)) ∙ sym (get-remove total (changes_of old) id q))))))
+  where
+    turned : (a b : Bool) → a ≡ b → (o : Option (Option (List ℕ))) → cond (not a) o None ≡ cond b None o
+    turned true true e o = refl
+    turned false false e o = refl
+    turned true false e o = absurd (cc)
+    turned false true e o = absurd (cc)
+
+    symmetric : (a b : Id) → same_id a b ≡ same_id b a
+    symmetric a b = (eq_by_cmp_equiv total).symm a b
+
+-- how many entries a batch has
+pub len-changes : (m : Changes) (es : List (BlockId × BatchChange)) → entries_of es ≡ fin.entries m → length es ≡ fin.len m
+len-changes m es is = sym (length-map es entry_view) ∙ (ap length is ∙ sym (len-entries m))

@@ -1,5 +1,5 @@
 -- What a store means whose changes wait until they are written out.
-use Rattle.std.specs.Prelude.{◌≡◌, ◌≤◌, ◌<◌, ℕ, Bool, true, false, List, [], length, slice_set}
+use Rattle.std.specs.Prelude.{◌≡◌, ◌<◌, ℕ, Bool, true, false, List, [], length, slice_set}
 use Rattle.std.specs.declared.option.Option.{Option}
 use Rattle.outside.specs.Trace.{At, Call}
 use Rattle.outcome.specs.Meanings.{Meanings}

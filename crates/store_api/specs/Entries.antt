@@ -1,7 +1,7 @@
 -- A batch as plain data.
-use Rattle.std.specs.Prelude.{ℕ, ◌+◌, Bool, false, List, [], ◌∷◌, map}
+use Rattle.std.specs.Prelude.{ℕ, ◌+◌, Bool, false, not, List, [], ◌∷◌, map}
 use Rattle.std.specs.FinMap.{from_sorted}
-use Rattle.std.specs.FinMap.Entries.{by_order}
+use Rattle.std.specs.FinMap.Entries.{by_order, where_key}
 use Rattle.std.specs.Coded.{Coded, coded_ℕ, coded_list, coded_option}
 use Rattle.std.specs.FinMap as fin
 use Rattle.std.specs.declared.option.Option.{Option}
@@ -36,3 +36,7 @@ place id (entry ∷ entries) = by_order (id_cmp id entry.0) 0 0 (place id entrie
 abbrev pub is_entry_of : Id → Option (Id × Option (List ℕ)) → Bool
 is_entry_of id None = false
 is_entry_of id (Some entry) = same_id id entry.0
+
+-- the entries of other ids
+abbrev pub others : Id → List (Id × Option (List ℕ)) → List (Id × Option (List ℕ))
+others id = where_key id_cmp (λ x. not (same_id id x))

@@ -1,7 +1,6 @@
 -- What a store of payloads holds, and what stays of it while blocks are only loaded.
 use Rattle.std.specs.Prelude.{◌≡◌, ◌⊎◌, ◌≤◌, ◌<◌, ◌^◌, ◌&&◌, ℕ, Bool, true, false, not, List, length, is_some}
 use Rattle.std.specs.List.{list_any}
-use Rattle.std.specs.declared.option.Option.{Option}
 use Rattle.std.specs.declared.option.Option.TheVariants.{None, Some}
 use Rattle.std.specs.FinMap.{get}
 use Rattle.block_id.specs.Fresh.{zero_id}

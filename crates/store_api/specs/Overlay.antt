@@ -1,17 +1,14 @@
 -- A store seen through changes that aren't made yet.
-use Rattle.std.specs.Prelude.{◌≡◌, ◌⊎◌, ◌||◌, ◌&&◌, ℕ, Bool, true, false, cond, not, ◌++◌, List, length, is_some, Option, Some, None, refl}
-use Rattle.std.proofs.Common.{sym, ◌∙◌, ap, subst, inl, inr}
+use Rattle.std.specs.Prelude.{◌≡◌, ◌⊎◌, ◌||◌, ◌&&◌, ℕ, Bool, true, false, cond, not, ◌++◌, List, is_some, Option, Some, None, refl}
+use Rattle.std.proofs.Common.{sym, ◌∙◌, ap, inl, inr}
 use Rattle.std.specs.FinMap as fin
 use Rattle.std.specs.FinMap.{contains_key-keys}
-use Rattle.std.specs.Cmp.{tied_itself}
-use Rattle.std.specs.Cmp.Lexicographic.{nat_list_cmp_total}
-use Rattle.std.specs.Ordering.{is_eq}
 use Rattle.std.proofs.lemmas.List.Folds.{list_any-append}
 use Rattle.block_id.specs.Fresh.{zero_id}
 use Rattle.outcome.specs.Meanings.{Meanings, Lawful}
 use Rattle.outcome.specs.Lift.{lift, lawful}
-use Rattle.store_api.specs.Content.{Id, Content, id_cmp, same_id, Changes, or_else, over}
-use Rattle.store_api.specs.Holdings.{Holdings, Steady, Fits, MayGet, has_id, is_free}
+use Rattle.store_api.specs.Content.{Id, same_id, Changes, or_else, over}
+use Rattle.store_api.specs.Holdings.{Holdings, Steady, Fits, has_id}
 
 -- the changes with the removal of an id: an id that the store doesn't know is forgotten
 abbrev pub without : List Id → Changes → Id → Changes

@@ -4,7 +4,7 @@ ghost use Rattle.std.specs.FinMap as fin;
 ghost use Rattle.std.specs.FinMap.{is_sorted};
 ghost use Rattle.std.specs.FinMap.Entries.{put, find as found};
 ghost use Rattle.store_api.specs.Content.{id_cmp};
-ghost use Rattle.store_api.specs.Entries.{entries_of, change_view, place, is_entry_of};
+ghost use Rattle.store_api.specs.Entries.{entries_of, change_view, place, is_entry_of, others};
 
 use block_id::{BlockId, Memory};
 use std::alloc::Global;
@@ -96,6 +96,17 @@ fn set(
     Ok(())
 }
 
+// Takes out the change of this id.
+fn take_out(entries: &mut Vec<(BlockId, BatchChange)>, id: &BlockId)
+    requires { T (is_sorted id_cmp (entries_of entries.old.items)) }
+    ensures { entries_of entries.new.items ≡ others id.now.0 (entries_of entries.old.items) }
+{
+    let at = place_of(entries, id);
+    if stands_at(entries, at, id) {
+        let _ = entries.remove(at);
+    }
+}
+
 impl Batch {
     /// No changes.
     pub fn new(alloc: Global) -> Batch
@@ -155,23 +166,20 @@ impl Batch {
     pub fn len(&self) -> usize
         ensures { result ≡ fin.len self.now }
     {
-        self.entries.len()
+        self.entries().len()
     }
 
     /// Whether the batch changes nothing.
     pub fn is_empty(&self) -> bool
         ensures { result ≡ (fin.len self.now == 0) }
     {
-        self.entries.is_empty()
+        self.len() == 0
     }
 
     /// Takes back what it says of this id.
     pub fn forget(&mut self, id: &BlockId)
         ensures { self.new ≡ fin.remove self.old id.now.0 }
     {
-        let at = place_of(&self.entries, id);
-        if stands_at(&self.entries, at, id) {
-            let _ = self.entries.remove(at);
-        }
+        take_out(&mut self.entries, id);
     }
 }

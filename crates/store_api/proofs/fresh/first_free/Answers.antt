@@ -1,5 +1,5 @@
 use Rattle.std.proofs.Common.{sym, ◌∙◌}
-use Rattle.store_api.proofs.Crowds.{passed-none, ends_free, passed-taken, passed-smaller}
+use Rattle.store_api.proofs.Crowds.{ends_free, passed-taken, passed-smaller}
 use Rattle.store_api.proofs.fresh.first_free.Goals as goal
 
 pub fresh-id-requires : goal.fresh-id-requires

@@ -1,5 +1,4 @@
-use Rattle.std.proofs.Common.{◌≡◌, Some, None, OnOk, OnErr, Result, subst, sym, ap, ◌∙◌}
-use Rattle.std.specs.FinMap as fin
+use Rattle.std.proofs.Common.{None}
 use Rattle.store_api.proofs.Places.{kept-sorted, kept-changes}
 use Rattle.store_api.proofs.batch.Batch.remove.Goals as goal
 
