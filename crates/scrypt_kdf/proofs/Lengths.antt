@@ -1,11 +1,9 @@
 -- The lengths of what Salsa20/8, BlockMix and ROMix give.
-use Rattle.std.proofs.Common.{◌≡◌, ℕ, zero, suc, ◌+◌, ◌-◌, ◌*◌, ◌<◌, ◌≤◌, List, [], ◌∷◌, ◌++◌, length, refl, sym, ap, ◌∙◌, arith, add-one}
-use Rattle.std.proofs.lemmas.List.{length-append, length-map, length-set}
+use Rattle.std.proofs.Common.{◌≡◌, ℕ, zero, suc, ◌+◌, ◌*◌, List, [], ◌∷◌, length, refl, ◌∙◌, arith, add-one}
+use Rattle.std.proofs.lemmas.List.{length-append, length-set}
 use Rattle.std.proofs.lemmas.Simd.{length-zip2}
-use Rattle.std.specs.Int.{w32, to_le_bytes}
-use Rattle.std.specs.List.{flat_map}
 use Rattle.scrypt_kdf.specs.Salsa.{add32, bytes_of, core, double_round, double_rounds, salsa20_8, words}
-use Rattle.scrypt_kdf.specs.Scrypt.{block_mix, chained, iterate, joined, mix_output, part, ro_mix, turned, iterates, looked_up}
+use Rattle.scrypt_kdf.specs.Scrypt.{block_mix, chained, iterate, joined, mix_output, ro_mix, turned, iterates}
 use Rattle.scrypt_kdf.proofs.Parts.{length-joined}
 
 pub length-double_round : (x : List ℕ) → length (double_round x) ≡ length x

@@ -93,7 +93,7 @@ fn xor_into(x: &mut [u8], y: &[u8])
 }
 
 // BlockMix of `b` into `y`, both of 128 * r bytes.
-fn block_mix(r: usize, b: &[u8], y: &mut [u8])
+pub(crate) fn block_mix(r: usize, b: &[u8], y: &mut [u8])
     requires r_low { 1 ≤ r }
     requires r_high { r ≤ 8 }
     requires from { length b.now ≡ 128 * r }

@@ -1,7 +1,7 @@
-use Rattle.std.proofs.Common.{◌≡◌, ℕ, ◌+◌, ◌-◌, ◌*◌, List, ◌++◌, length, take, drop, refl, sym, ap, ◌∙◌, arith, add-one}
+use Rattle.std.proofs.Common.{◌≡◌, ℕ, ◌+◌, ◌*◌, List, ◌++◌, length, take, drop, refl, sym, ap, ◌∙◌, arith, add-one}
 use Rattle.std.proofs.lemmas.List.{length-drop, take-append-drop, take_all}
 use Rattle.scrypt_kdf.specs.Salsa.{salsa20_8}
-use Rattle.scrypt_kdf.specs.Scrypt.{block_mix, chained, joined, mix_output, part, xor_bytes}
+use Rattle.scrypt_kdf.specs.Scrypt.{block_mix, chained, joined, mix_output, xor_bytes}
 use Rattle.scrypt_kdf.proofs.Halves.{evens_more, odds_more}
 use Rattle.scrypt_kdf.proofs.Lengths.{length-mix_output}
 use Rattle.scrypt_kdf.proofs.mix.block_mix.Goals as goal

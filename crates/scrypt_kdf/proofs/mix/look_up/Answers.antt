@@ -1,6 +1,6 @@
-use Rattle.std.proofs.Common.{◌≡◌, ℕ, ◌+◌, ◌*◌, ◌%◌, ◌<◌, List, [], length, slice_index_or, refl, sym, ap, ◌∙◌, arith, add-one}
+use Rattle.std.proofs.Common.{◌≡◌, ℕ, ◌*◌, ◌%◌, ◌<◌, List, [], slice_index_or, refl, sym, ap, ◌∙◌, arith, add-one}
 use Rattle.std.proofs.lemmas.List.FromFn.{get_or-map-range_with_len}
-use Rattle.scrypt_kdf.specs.Scrypt.{block_mix, integerify, iterate, iterates, joined, looked_up, part, turned, xor_bytes}
+use Rattle.scrypt_kdf.specs.Scrypt.{block_mix, integerify, iterate, iterates, looked_up, part, turned, xor_bytes}
 use Rattle.scrypt_kdf.proofs.Lengths.{length-iterate}
 use Rattle.scrypt_kdf.proofs.Parts.{part_of_joined}
 use Rattle.scrypt_kdf.proofs.mix.look_up.Goals as goal

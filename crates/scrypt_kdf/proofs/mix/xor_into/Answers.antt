@@ -1,4 +1,4 @@
-use Rattle.std.proofs.Common.{bit_xor, length, sym, ◌∙◌, arith}
+use Rattle.std.proofs.Common.{bit_xor, sym, ◌∙◌, arith}
 use Rattle.std.proofs.lemmas.List.{ext_get_or}
 use Rattle.std.proofs.lemmas.Simd.{get_or-zip2, length-zip2}
 use Rattle.scrypt_kdf.specs.Scrypt.{xor_bytes}
