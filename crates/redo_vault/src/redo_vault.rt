@@ -56,6 +56,7 @@ fn write_all<V: Vault>(
     ensures ok { OnOk result.1 (V.trace vault.new ≡ after_writes (list_of list.now) (V.trace vault.old)) }
     ensures err { OnErr result.1 (StopsAt (list_of list.now) (V.trace vault.old) (V.trace vault.new) (drop result.0 (list_of list.now))) }
     ensures cause { HasCause (V.faults vault.old) (V.faults vault.new) result.1 }
+    ensures idle { length list.now ≡ 0 → vault.new ≡ vault.old }
 {
     for (i, pending) in list.iter().enumerate() {
         match write(alloc, vault, pending) {
@@ -177,6 +178,7 @@ impl<V: Vault> RedoVault<V> {
         ensures ok { OnOk result (V.trace self.new.vault ≡ after_writes self.old.list (V.trace self.old.vault)) }
         ensures all_left { OnOk result (self.new.list ≡ []) }
         ensures err { OnErr result (StopsAt self.old.list (V.trace self.old.vault) (V.trace self.new.vault) self.new.list) }
+        ensures idle { length self.old.list ≡ 0 → self.new.vault ≡ self.old.vault }
         ensures cause { HasCause (V.faults self.old.vault) (V.faults self.new.vault) result }
     {
         let (written, outcome) = write_all(alloc, &mut self.vault, &self.list);

@@ -176,20 +176,47 @@ mod tests {
         Ok(())
     }
 
+    // The sealed file with one byte changed.
+    fn changed(alloc: Global, at: usize) -> Result<Vec<u8>, Fail> {
+        let mut file = sealed(alloc)?;
+        let byte = file.get_mut(at).ok_or("no such byte")?;
+        *byte ^= 1;
+        Ok(file)
+    }
+
     #[test]
-    fn says_why_a_file_does_not_open(rt: HostRuntime) -> Result<(), Fail> {
+    fn tells_other_prefixes_from_seals_that_do_not_open(rt: HostRuntime) -> Result<(), Fail> {
+        assert!(rt;
+            matches!(
+                seen_of(rt.alloc(), &changed(rt.alloc(), 15)?)?,
+                Seen::BadPrefix
+            )
+        );
+        assert!(rt;
+            matches!(
+                seen_of(rt.alloc(), &changed(rt.alloc(), 16)?)?,
+                Seen::NotOpened
+            )
+        );
+        assert!(rt;
+            matches!(
+                seen_of(rt.alloc(), &changed(rt.alloc(), 127)?)?,
+                Seen::NotOpened
+            )
+        );
+        Ok(())
+    }
+
+    #[test]
+    fn sees_files_that_are_absent_too_long_or_too_short(rt: HostRuntime) -> Result<(), Fail> {
         let mut store = store_over(rt.alloc(), MemoryVault::new(rt.alloc()));
         assert_eq!(rt; store.iv_len(), 16);
         assert_eq!(rt; store.block_size(), 128);
         assert!(rt; matches!(store.get_plain(rt.alloc(), &ID)?, Seen::Absent));
         let mut file = sealed(rt.alloc())?;
-        assert_eq!(rt; file.len(), 128);
-        assert!(rt; matches!(seen_of(rt.alloc(), &file[..127])?, Seen::BadLength));
-        file[127] ^= 1;
-        assert!(rt; matches!(seen_of(rt.alloc(), &file)?, Seen::NotOpened));
-        file[0] ^= 1;
-        assert!(rt; matches!(seen_of(rt.alloc(), &file)?, Seen::BadPrefix));
         file.push(0)?;
+        assert!(rt; matches!(seen_of(rt.alloc(), &file)?, Seen::BadLength));
+        file.truncate(127);
         assert!(rt; matches!(seen_of(rt.alloc(), &file)?, Seen::BadLength));
         Ok(())
     }

@@ -12,4 +12,5 @@ loop-i-preserved g c = record {
   written = written_more c.args.list.now c.loop-i.i c.index-list-i.result (g.V.Vault.trace c.args.vault.now) (g.V.Vault.trace c.loop-i.vault) (g.V.Vault.trace c.write.new.vault)
       c.loop-i-test.true c.index-list-i.is c.loop-i.invariant.written c.in-Ok.ensures.ok;
   grows = omega (arith, c.loop-i.invariant.grows, c.in-Ok.ensures.cause.grows);
+  idle = λ e. absurd (omega arith);
 }

@@ -7,4 +7,5 @@ abbrev pub invariant-loop-i : goal.invariant-loop-i
 invariant-loop-i g l = record {
   written : g.V.Vault.trace l.vault ≡ after_writes (take l.i (list_of l.list)) (g.V.Vault.trace l.initial.vault);
   grows : g.V.Vault.faults l.initial.vault ≤ g.V.Vault.faults l.vault;
+  idle : l.i ≡ 0 → l.vault ≡ l.initial.vault;
 }
