@@ -21,7 +21,7 @@ then_all a b c (Ok v) s x y u ran first second =
       ok = on_ok_weaker s (λ e. e ∙ ap (λ z. z ++ y) joined ∙ append_assoc a.items x y) second.ok;
       err = on_err_weaker s (λ part. (x ++ part.0, part.1 ∙ ap (λ z. z ++ part.0) joined ∙ append_assoc a.items x part.0)) second.err;
       capacity = omega (arith, second.capacity);
-      full = on_err_weaker s (λ short. omega arith) second.full
+      full = on_err_weaker s (λ short. omega arith) second.full;
     }
 then_all a b c (Err e) s x y u ran first second = absurd (cc ran)
 
@@ -42,8 +42,7 @@ Grown f xs i a b = (b.items ≡ a.items ++ flat_map f (take i xs)) × (vec_capac
 pub grown_more : {X A E : Type 0} (f : X → List ℕ) (xs : List X) (i : ℕ) (x : X) (a b c : Vec ℕ A) (r : Result (Unit {0}) E) (u : Unit {0})
     → i < length xs → x ≡ get_or xs i x → r ≡ Ok u → Grown f xs i a b → Appends b c r (f x) → Grown f xs (i + 1) a c
 grown_more f xs i x a b c (Ok v) u within at ran so_far more =
-    let next : take (i + 1) xs ≡ take i xs ++ x ∷ [] = take_more xs i x within ∙ ap (λ y. take i xs ++ y ∷ []) (sym at) in
-    (
+    let next : take (i + 1) xs ≡ take i xs ++ x ∷ [] = take_more xs i x within ∙ ap (λ y. take i xs ++ y ∷ []) (sym at) in (
       more.ok ∙ ap (λ z. z ++ f x) so_far.0 ∙ flat_map_more f a.items (take i xs) x ∙ ap (λ z. a.items ++ flat_map f z) (sym next),
       omega (arith, so_far.1, more.capacity),
     )

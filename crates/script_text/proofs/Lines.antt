@@ -57,9 +57,9 @@ unescaped_some : (w text : List ℕ) → 0 < length w → unescaped w ≡ Some t
 unescaped_some w text some h = elim (cases_eq (get_or w 0 0) 92) [
   | inr plain ↦ with_byte_some (Some (get_or w 0 0)) (unescaped (take (length w - 1) (drop 1 w))) text (sym (unescaped_plain w some plain) ∙ h)
   | inl slash ↦ elim (cases_lt (length w) 4) [
-      | inl short ↦ absurd (none-some text (sym (unescaped_cut w some slash short) ∙ h))
-      | inr long ↦ with_byte_some (escape_of (get_or w 1 0) (get_or w 2 0) (get_or w 3 0)) (unescaped (take (length w - 4) (drop 4 w))) text (sym (escape_here w long slash) ∙ h)
-    ]
+    | inl short ↦ absurd (none-some text (sym (unescaped_cut w some slash short) ∙ h))
+    | inr long ↦ with_byte_some (escape_of (get_or w 1 0) (get_or w 2 0) (get_or w 3 0)) (unescaped (take (length w - 4) (drop 4 w))) text (sym (escape_here w long slash) ∙ h)
+  ]
 ]
 
 not_empty : (w : List ℕ) → is_empty w ≡ false → 0 < length w

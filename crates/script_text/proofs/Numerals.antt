@@ -73,8 +73,7 @@ number_more base word i v small within low high so_far =
     let digit : digit_value b ≡ b - 48 = digit_value_is b low (omega arith) in
     let times : v * base ≤ v * 10 = mul-le-mul_left v small in
     let bound : v < 10 ^ i = so_far.2 in
-    let power : 10 ^ (i + 1) ≡ 10 ^ i * 10 = rw add-one (pow-suc 10 i) in
-    (
+    let power : 10 ^ (i + 1) ≡ 10 ^ i * 10 = rw add-one (pow-suc 10 i) in (
       list_all_more (is_digit_in base) word i 0 within ∙ and_from _ _ so_far.0 here,
       ap (λ n. n * base + (b - 48)) so_far.1 ∙ ap (λ d. digits_value base (take i word) * base + d) (sym digit) ∙ sym (digits_value_more base word i within),
       rw power (omega arith),

@@ -8,9 +8,12 @@ mod escapes;
 mod grammar;
 mod numbers;
 mod print;
+#[cfg(test)]
+mod tests;
 mod verb;
 mod words;
 
 pub use error::LineError;
 pub use grammar::{MAX_LINE, parse_line};
+pub use numbers::number;
 pub use print::print_reply;

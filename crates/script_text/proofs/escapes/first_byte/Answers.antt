@@ -21,8 +21,7 @@ returns-in_err-byte c =
     rw c.from_residual.ensures (unescaped_byte c.args.word.now _ c.if-word-lt4.false c.if-word-ne92.false c.if-word-ne120.false c.in_err-byte.ensures)
 
 pub returns : goal.returns
-returns c =
-    (
-      unescaped_byte c.args.word.now _ c.if-word-lt4.false c.if-word-ne92.false c.if-word-ne120.false c.in_ok-byte.ensures,
-      simp (length-take, length-drop) (omega arith),
-    )
+returns c = (
+  unescaped_byte c.args.word.now _ c.if-word-lt4.false c.if-word-ne92.false c.if-word-ne120.false c.in_ok-byte.ensures,
+  simp (length-take, length-drop) (omega arith),
+)
