@@ -29,19 +29,19 @@ key_of l = upward l.path
 ascending_lines : (ls : List Line) → T (is_sorted path_cmp (map entry_of ls)) → IsSortedBy (λ a b. is_lt (path_cmp (key_of a) (key_of b))) ls
 ascending_lines ls h = λ k d _ lt.
     let up : path_cmp (key_of (get_or ls k d)) (key_of (get_or ls (k + 1) d)) ≡ Less =
-        ap (λ e. path_cmp (key_of (get_or ls k d)) e.0) (sym (get_entry ls (k + 1) d))
-        ∙ (ap (λ e. path_cmp e.0 (get_or (map entry_of ls) (k + 1) (entry_of d)).0) (sym (get_entry ls k d))
-        ∙ ascending (map entry_of ls) k (entry_of d) h (omega (arith, length-map ls entry_of))) in
+    ap (λ e. path_cmp (key_of (get_or ls k d)) e.0) (sym (get_entry ls (k + 1) d))
+    ∙ (ap (λ e. path_cmp e.0 (get_or (map entry_of ls) (k + 1) (entry_of d)).0) (sym (get_entry ls k d))
+    ∙ ascending (map entry_of ls) k (entry_of d) h (omega (arith, length-map ls entry_of))) in
     ap is_lt (turned_less (key_of (get_or ls k d)) (key_of (get_or ls (k + 1) d)) up)
 
 pub searched_line : (ls : List Line) (p : Path) (r : Result ℕ ℕ) → T (is_sorted path_cmp (map entry_of ls)) → IsSearchInRange r (length ls) → IsBinarySearchResult (λ l. path_cmp (key_of l) p) ls r → IfOk r (IsLineAt ls p)
 searched_line ls p (Err i) h range position = tt
 searched_line ls p (Ok i) h range position = record {
-    in_range = range;
-    path = path_is;
-    found = λ d.
-        ap (λ z. find path_cmp z (map entry_of ls)) (sym (path_is d) ∙ ap (λ e. e.0) (sym (get_entry ls i d)))
-        ∙ (find_at (map entry_of ls) i (entry_of d) h (omega (arith, length-map ls entry_of)) ∙ ap (λ e. Some e.1) (get_entry ls i d));
+  in_range = range;
+  path = path_is;
+  found = λ d.
+      ap (λ z. find path_cmp z (map entry_of ls)) (sym (path_is d) ∙ ap (λ e. e.0) (sym (get_entry ls i d)))
+      ∙ (find_at (map entry_of ls) i (entry_of d) h (omega (arith, length-map ls entry_of)) ∙ ap (λ e. Some e.1) (get_entry ls i d));
 }
   where
     path_is : (d : Line) → key_of (get_or ls i d) ≡ p

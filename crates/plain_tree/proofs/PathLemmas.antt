@@ -24,3 +24,6 @@ last_split (n ∷ ns) h =
 
 pub not_root : (ns : List (List ℕ)) → 0 < length ns → is_root (upward ns) ≡ false
 not_root ns h = let s = last_split ns h in ap is_root s.1
+
+pub last_at : (ns : List (List ℕ)) (d : List ℕ) → 0 < length ns → upward ns ≡ get_or ns (length ns - 1) d ∷ upward (take (length ns - 1) ns)
+last_at ns d h = ap upward (sym (take_all (length ns - 1 + 1) ns (omega arith))) ∙ names_more ns (length ns - 1) d (omega arith)

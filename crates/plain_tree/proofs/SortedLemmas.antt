@@ -100,11 +100,11 @@ set_put [] i l d h lt is = absurd (omega arith)
 set_put (x ∷ xs) zero l d h lt is =
     ap (λ z. (z, line_row l) ∷ map entry_of xs) is
     ∙ sym (ap (λ o. by_order o ((upward l.path, line_row l) ∷ map entry_of (x ∷ xs)) ((upward x.path, line_row l) ∷ map entry_of xs) (entry_of x ∷ put path_cmp (upward l.path) (line_row l) (map entry_of xs)))
-        (ap (λ z. path_cmp z (upward x.path)) is ∙ tied_itself path_total (upward x.path)))
+    (ap (λ z. path_cmp z (upward x.path)) is ∙ tied_itself path_total (upward x.path)))
 set_put (x ∷ xs) (suc i) l d h lt is =
     let greater : path_cmp (upward l.path) (upward x.path) ≡ Greater =
-        ap (λ z. path_cmp z (upward x.path)) is
-        ∙ turned_less (upward x.path) (upward (get_or xs i d).path) (ap (λ e. path_cmp (upward x.path) e.0) (sym (get_entry xs i d)) ∙ below_at (upward x.path) (map entry_of xs) i (entry_of d) (head_sorted (entry_of x) (map entry_of xs) h) (omega (arith, length-map xs entry_of))) in
+    ap (λ z. path_cmp z (upward x.path)) is
+    ∙ turned_less (upward x.path) (upward (get_or xs i d).path) (ap (λ e. path_cmp (upward x.path) e.0) (sym (get_entry xs i d)) ∙ below_at (upward x.path) (map entry_of xs) i (entry_of d) (head_sorted (entry_of x) (map entry_of xs) h) (omega (arith, length-map xs entry_of))) in
     ap (λ ys. entry_of x ∷ ys) (set_put xs i l d (tail_sorted (entry_of x) (map entry_of xs) h) (omega arith) is)
     ∙ sym (ap (λ o. by_order o ((upward l.path, line_row l) ∷ map entry_of (x ∷ xs)) ((upward x.path, line_row l) ∷ map entry_of xs) (entry_of x ∷ put path_cmp (upward l.path) (line_row l) (map entry_of xs))) greater)
 
@@ -127,6 +127,6 @@ remove_where (x ∷ xs) zero d h lt =
 remove_where (x ∷ xs) (suc i) d h lt =
     let p = upward (get_or xs i d).path in
     let greater : path_cmp p (upward x.path) ≡ Greater =
-        turned_less (upward x.path) p (ap (λ e. path_cmp (upward x.path) e.0) (sym (get_entry xs i d)) ∙ below_at (upward x.path) (map entry_of xs) i (entry_of d) (head_sorted (entry_of x) (map entry_of xs) h) (omega (arith, length-map xs entry_of))) in
+    turned_less (upward x.path) p (ap (λ e. path_cmp (upward x.path) e.0) (sym (get_entry xs i d)) ∙ below_at (upward x.path) (map entry_of xs) i (entry_of d) (head_sorted (entry_of x) (map entry_of xs) h) (omega (arith, length-map xs entry_of))) in
     ap (λ ys. entry_of x ∷ ys) (remove_where xs i d (tail_sorted (entry_of x) (map entry_of xs) h) (omega arith))
     ∙ sym (ap (λ o. cond (not (is_eq o)) (entry_of x ∷ where_key path_cmp (λ z. not (same_path p z)) (map entry_of xs)) (where_key path_cmp (λ z. not (same_path p z)) (map entry_of xs))) greater)
