@@ -18,10 +18,11 @@ use Rattle.fs_model.specs.Instant.{Instant}
 use Rattle.fs_blobs.specs.Kinds.{byte_of}
 use Rattle.fs_model.specs.declared.limits.TheConstants.{MAX_MODE}
 use Rattle.fs_model.specs.Tree.{name_cmp}
+use Rattle.fs_blobs.proofs.Laws.{IsBytes}
 use Rattle.dir_blob.specs.declared.entry.Entry.{Entry}
 use Rattle.dir_blob.specs.Layout.{Target, Listing, entry_of, listing_of, moment_text, attr_text, entry_text, body_of, IsEntry, IsInOrder, HasModes, IsListing, IsBody}
 use Rattle.dir_blob.specs.Reading.{kind_of, access_at, attr_at, entry_at, rises}
-use Rattle.dir_blob.proofs.Fields.{IsBytes}
+use Rattle.fs_blobs.proofs.Laws.{IsBytes}
 use Rattle.dir_blob.proofs.Entries.{entry_codec}
 
 -- ---- order
