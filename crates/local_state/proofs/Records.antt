@@ -1,6 +1,6 @@
 -- The whole record, read and written.
 use Rattle.std.proofs.Common.{◌≡◌, ℕ, ◌^◌, ◌<◌, Bool, true, cond, eqb, List, [], ◌∷◌, ◌++◌, length, take, drop, Option, Some, None, Result, Ok, Err, refl, sym, ap, subst, ◌∙◌, append_assoc}
-use Rattle.std.specs.Prelude.{nat_eq, nat_lt, IfOk}
+use Rattle.std.specs.Prelude.{◌≢◌, nat_eq, nat_lt, IfOk, IsErrOf}
 use Rattle.std.specs.Int.{w32, to_le_bytes}
 use Rattle.std.specs.List.{starts_with}
 use Rattle.std.specs.Cmp.Lexicographic.{pointwise, bytes_decides}
@@ -11,10 +11,11 @@ use Rattle.std.proofs.lemmas.List.{append-nil, nil_from_length, take-append-drop
 use Rattle.outside.specs.declared.change.Pending.{Pending}
 use Rattle.local_state.specs.declared.state.State.{State}
 use Rattle.local_state.specs.declared.state.StateError.{StateError}
+use Rattle.local_state.specs.declared.state.StateError.TheVariants as errors
 use Rattle.local_state.specs.Known.{Marks}
 use Rattle.local_state.specs.Record.{PlainState, Entry, plain_record, magic, flag, head_bytes, marks_bytes, list_bytes, record_bytes, with_mark, FitsHead, FitsState, HasRecord}
 use Rattle.local_state.specs.Reading.{◌>>=◌, Gives, front_at, number_at, flag_at, magic_at, head_at, table_at, list_at, record_at}
-use Rattle.local_state.proofs.Fields.{IsBytes, IsBytes-drop, bind_some, guard_some, some_is, Takes, Takes-then, front_takes, front_again, wide32, number_takes, number_again, flag_takes, flag_again}
+use Rattle.local_state.proofs.Fields.{IsBytes, IsBytes-drop, bind_some, guard_some, some, some_is, Takes, Takes-then, front_takes, front_again, wide32, number_takes, number_again, flag_takes, flag_again}
 use Rattle.local_state.proofs.Tables.{table_takes, table_again, true_ltb}
 use Rattle.local_state.proofs.Entries.{list_takes, list_again}
 
@@ -151,6 +152,20 @@ has_record bytes (Err e) small given = tt
 pub has_bytes : (bytes : List ℕ) (r : Result (State × Vec Pending) StateError) → IsBytes bytes → Gives plain_record r (record_at bytes) → IfOk r (λ x. bytes ≡ record_bytes (plain_record x).0 (plain_record x).1)
 has_bytes bytes (Ok x) small given = (record_takes bytes (plain_record x) small given).1
 has_bytes bytes (Err e) small given = tt
+
+only_these : (bytes : List ℕ) (r : Result (State × Vec Pending) StateError) (s : PlainState) (list : List Entry) → Gives plain_record r (record_at bytes) → HasRecord s list → bytes ≡ record_bytes s list → Gives plain_record r (some (s, list))
+only_these bytes r s list given has is = subst (λ (o : Option (PlainState × List Entry)). Gives plain_record r o) (ap record_at is ∙ record_again s list has) given
+
+pub has_only : (bytes : List ℕ) (r : Result (State × Vec Pending) StateError) → Gives plain_record r (record_at bytes) → IfOk r (λ x. (s : PlainState) (list : List Entry) → HasRecord s list → bytes ≡ record_bytes s list → plain_record x ≡ (s, list))
+has_only bytes (Ok x) given = λ s list has is. sym (some_is (s, list) (plain_record x) (only_these bytes (Ok x) s list given has is))
+has_only bytes (Err e) given = tt
+
+nothing_found : (x : PlainState × List Entry) → some x ≡ None → ⊥
+nothing_found x e = cc
+
+pub is_bad : (bytes : List ℕ) (r : Result (State × Vec Pending) StateError) → Gives plain_record r (record_at bytes) → IsErrOf r errors.BadState → (s : PlainState) (list : List Entry) → HasRecord s list → bytes ≢ record_bytes s list
+is_bad bytes r given bad s list has is =
+    nothing_found (s, list) (subst (λ (t : Result (State × Vec Pending) StateError). Gives plain_record t (some (s, list))) bad (only_these bytes r s list given has is))
 
 -- ---- laws
 

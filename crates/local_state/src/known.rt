@@ -15,7 +15,7 @@ use std::marker::Model;
 pub struct Spent;
 
 /// A finite map from ids of blocks to a version and whether the block lives. An id is used where it is in the map.
-#[derive(Drop)]
+#[derive(Debug, Drop)]
 pub struct Known {
     marks: HashMap<BlockId, Mark>,
 }

@@ -1,5 +1,5 @@
 // The state and the list of a record, read.
-ghost use Rattle.std.specs.Prelude.{◌≡◌, ◌<◌, ◌^◌, List, [], ℕ, length, None, Some, IfOk, IsErrOf};
+ghost use Rattle.std.specs.Prelude.{◌≡◌, ◌≢◌, ◌<◌, ◌^◌, List, [], ℕ, length, None, Some, IfOk, IsErrOf};
 ghost use Rattle.std.specs.Int.{w32, w64};
 ghost use Rattle.std.specs.Option.{option_map};
 ghost use Rattle.std.specs.FinMap as fin;
@@ -269,9 +269,12 @@ pub fn decode(alloc: Global, bytes: &[u8]) -> Result<(State, Vec<Pending>), Stat
     // What is read has these bytes.
     ensures has_record { IfOk result (λ x. HasRecord (plain_state x.0) (list_of x.1.items)) }
     ensures bytes { IfOk result (λ x. bytes.now ≡ record_bytes (plain_state x.0) (list_of x.1.items)) }
-    // What has these bytes is read, unless memory runs out.
-    ensures only { (state : PlainState) (list : List Entry) → HasRecord state list → bytes.now ≡ record_bytes state list
-        → Gives plain_record result (Some (state, list)) }
+    // No other state and list have them.
+    ensures only { IfOk result (λ x. (state : PlainState) (list : List Entry) → HasRecord state list
+        → bytes.now ≡ record_bytes state list → plain_record x ≡ (state, list)) }
+    // Where no state and list have these bytes.
+    ensures bad_state { IsErrOf result StateError.BadState → (state : PlainState) (list : List Entry) → HasRecord state list
+        → bytes.now ≢ record_bytes state list }
 {
     record_of(alloc, bytes)
 }
