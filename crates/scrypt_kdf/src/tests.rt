@@ -1,6 +1,7 @@
 // The standards' own vectors.
 
 use crate::mix::{block_mix, ro_mix};
+use crate::order::{FROM_DIAGONALS, TO_DIAGONALS, reorder};
 use crate::{BadParams, Params, hmac_sha256, pbkdf2, salsa20_8, scrypt};
 use std::test::Fail;
 
@@ -141,16 +142,19 @@ fn derives_a_key_cut_anywhere(rt: HostRuntime) {
 }
 
 #[test]
-fn mixes_the_blocks_of_rfc_7914(rt: HostRuntime) {
+fn mixes_the_blocks_of_rfc_7914(rt: HostRuntime) -> Result<(), Fail> {
     // Section 8's output is the first block of section 9's.
     assert_eq!(rt; &salsa20_8(&SALSA_INPUT)[..], &MIXED[..64]);
+    let mut x = BLOCKS;
     let mut mixed = [0u8; 128];
-    block_mix(1, &BLOCKS, &mut mixed);
+    reorder(&mut x, TO_DIAGONALS);
+    block_mix(1, &x, &mut mixed);
+    reorder(&mut mixed, FROM_DIAGONALS);
     assert_eq!(rt; &mixed[..], &MIXED[..]);
     let mut x = BLOCKS;
-    let mut v = [0u8; 2048];
-    ro_mix(1, 16, &mut x, &mut v);
+    ro_mix(1, 16, &mut x, &mut Vec::new(rt.alloc()))?;
     assert_eq!(rt; &x[..], &RO_MIXED[..]);
+    Ok(())
 }
 
 // RFC 7914, section 12. Its last output, of N = 1048576 and r = 8, is within the parameters, and isn't
