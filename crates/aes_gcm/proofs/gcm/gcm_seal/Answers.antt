@@ -14,7 +14,7 @@ returns-clause-text c =
     let iv = c.args.iv.now in
     let plain = c.args.plain.now in
     c.in_ok-append_crypted.ensures.ok ∙ ap (λ (l : List ℕ). old ++ l) (
-    ap (λ (block : List ℕ). gctr cipher block plain) c.inc32.ensures
+    ap (λ (block : List ℕ). gctr cipher block plain) c.inc32-next.ensures
     ∙ crypt_from cipher iv c.first_counter-counter.result plain c.first_counter-counter.ensures)
 
 pub returns-clause-tag : goal.returns-clause-tag
@@ -28,7 +28,7 @@ returns-clause-tag c =
     let counter = c.first_counter-counter.result in
     let appended : c.deref.result.now ≡ old ++ text =
     c.deref.ensures.value ∙ c.in_ok-append_crypted.ensures.ok ∙ ap (λ (l : List ℕ). old ++ l) (
-    ap (λ (block : List ℕ). gctr cipher block plain) c.inc32.ensures
+    ap (λ (block : List ℕ). gctr cipher block plain) c.inc32-next.ensures
     ∙ crypt_from cipher iv counter plain c.first_counter-counter.ensures) in
     let end = end_of old text c.deref.result.now c.len-start.result appended (omega (arith, c.len-start.ensures, c.args.out.now.ok)) in
     c.tag_under.ensures
