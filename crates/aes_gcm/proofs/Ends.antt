@@ -1,7 +1,7 @@
 -- A list after a write to its end.
 use Rattle.std.proofs.Common.{◌≡◌, ℕ, ◌+◌, ◌-◌, List, [], ◌++◌, length, take, drop, sym, ap, ◌∙◌, arith, append-nil, length-append, length-drop}
 use Rattle.std.proofs.lemmas.List.{drop_all, drop_at, take_all, take_at}
-use borrow.Rule.Slice.PartMut.{put_mid, post_of}
+use borrow.Rule.Slice.PartMut.{put_mid}
 
 pub end_written : (old added all new rest : List ℕ) (n s : ℕ) → all ≡ old ++ added → s ≡ length old → n ≡ length all → length new ≡ length added
     → take n (put_mid s (length all - s) all new ++ rest) ≡ old ++ new

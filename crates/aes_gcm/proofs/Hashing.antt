@@ -1,5 +1,5 @@
 -- GHASH of one piece after another, each padded to whole blocks.
-use Rattle.std.proofs.Common.{◌≡◌, ℕ, zero, suc, ◌+◌, ◌-◌, ◌*◌, ◌/◌, ◌%◌, ◌<◌, ◌≤◌, List, [], ◌∷◌, ◌++◌, length, take, drop, map, replicate, min, slice_index, bit_xor, refl, sym, ap, ◌∙◌, inl, inr, add-one, arith, append_assoc, append-nil, length-append, length-drop}
+use Rattle.std.proofs.Common.{◌≡◌, ℕ, zero, suc, ◌+◌, ◌-◌, ◌*◌, ◌/◌, ◌%◌, ◌<◌, ◌≤◌, List, [], ◌∷◌, ◌++◌, length, take, drop, map, replicate, slice_index, bit_xor, refl, sym, ap, ◌∙◌, add-one, arith, append-nil, length-append, length-drop}
 use Rattle.std.proofs.Math.Seq.{drop-append-add}
 use Rattle.std.proofs.lemmas.List.{get_or-drop, get_or-take, length-replicate, length-take-le, take-append-le}
 use Rattle.std.proofs.lemmas.List.FromFn.{fill_by_all}
@@ -19,9 +19,9 @@ block_at-front : (a b : List ℕ) (i : ℕ) → 16 * i + 16 ≤ length a → blo
 unfolding block_at
 block_at-front a b i le =
     ap (from_be_bytes w128) (
-        between_is (a ++ b) (16 * i) (16 * i + 16)
-        ∙ ap (drop (16 * i)) (take-append-le (16 * i + 16) a b le)
-        ∙ sym (between_is a (16 * i) (16 * i + 16)))
+    between_is (a ++ b) (16 * i) (16 * i + 16)
+    ∙ ap (drop (16 * i)) (take-append-le (16 * i + 16) a b le)
+    ∙ sym (between_is a (16 * i) (16 * i + 16)))
 
 -- a block of what follows
 block_at-rest : (a b : List ℕ) (p i : ℕ) → length a ≡ 16 * p → block_at (a ++ b) (p + i) ≡ block_at b i
@@ -30,8 +30,8 @@ block_at-rest a b p i len =
     let start : 16 * (p + i) ≡ length a + 16 * i = omega (arith, len) in
     let size : 16 * (p + i) + 16 - 16 * (p + i) ≡ 16 * i + 16 - 16 * i = omega arith in
     ap (from_be_bytes w128) (
-        ap (λ (n : ℕ). take n (drop (16 * (p + i)) (a ++ b))) size
-        ∙ ap (take (16 * i + 16 - 16 * i)) (ap (λ (n : ℕ). drop n (a ++ b)) start ∙ drop-append-add a b (16 * i)))
+    ap (λ (n : ℕ). take n (drop (16 * (p + i)) (a ++ b))) size
+    ∙ ap (take (16 * i + 16 - 16 * i)) (ap (λ (n : ℕ). drop n (a ++ b)) start ∙ drop-append-add a b (16 * i)))
 
 hashed-front : (h y : ℕ) (a b : List ℕ) (p n : ℕ) → length a ≡ 16 * p → n ≤ p → hashed h y (a ++ b) n ≡ hashed h y a n
 unfolding hashed
@@ -94,7 +94,7 @@ padded_block bytes i lt =
     let len : length (take 16 rest) ≡ 16 = length-take-le 16 rest (omega (arith, length-drop (16 * i) whole, length-padded bytes)) in
     ap (λ (n : ℕ). take n rest) size
     ∙ fill_by_all (λ j. slice_index bytes (16 * i + j)) (take 16 rest) 16 0 len
-      (λ j small. get_or-take 16 rest j 0 small ∙ get_or-drop (16 * i) whole j 0 ∙ appended_zeros bytes ((16 - length bytes % 16) % 16) (16 * i + j))
+    (λ j small. get_or-take 16 rest j 0 small ∙ get_or-drop (16 * i) whole j 0 ∙ appended_zeros bytes ((16 - length bytes % 16) % 16) (16 * i + j))
 
 -- a block that was read is the padded one
 pub block_read : (bytes block : List ℕ) (i : ℕ) → 16 * i < length bytes → length block ≡ 16
@@ -126,8 +126,8 @@ ghash_two h a last len =
     let whole = padded_whole last len in
     let p : ℕ = length (padded a) / 16 in
     ap (to_be_bytes w128) (
-        ap (λ (l : List ℕ). hashed h 0 (padded a ++ l) (length (padded a ++ l) / 16)) (sym whole)
-        ∙ absorbed-append h 0 (padded a) last p (omega (arith, length-padded a)))
+    ap (λ (l : List ℕ). hashed h 0 (padded a ++ l) (length (padded a ++ l) / 16)) (sym whole)
+    ∙ absorbed-append h 0 (padded a) last p (omega (arith, length-padded a)))
 
 -- the hash of two pieces and a last block
 pub ghash_three : (h : ℕ) (a b last : List ℕ) → length last ≡ 16
@@ -139,6 +139,6 @@ ghash_three h a b last len =
     let p : ℕ = length front / 16 in
     let blocks : length front ≡ 16 * p = omega (arith, length-append (padded a) (padded b), length-padded a, length-padded b) in
     ap (to_be_bytes w128) (
-        ap (λ (l : List ℕ). hashed h 0 (front ++ l) (length (front ++ l) / 16)) (sym whole)
-        ∙ absorbed-append h 0 front last p blocks
-        ∙ ap (λ (y : ℕ). absorbed h y last) (absorbed-append h 0 (padded a) b (length (padded a) / 16) (omega (arith, length-padded a))))
+    ap (λ (l : List ℕ). hashed h 0 (front ++ l) (length (front ++ l) / 16)) (sym whole)
+    ∙ absorbed-append h 0 front last p blocks
+    ∙ ap (λ (y : ℕ). absorbed h y last) (absorbed-append h 0 (padded a) b (length (padded a) / 16) (omega (arith, length-padded a))))

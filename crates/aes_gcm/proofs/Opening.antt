@@ -1,13 +1,12 @@
 -- What opens: texts of the right length, and what was sealed.
-use Rattle.std.proofs.Common.{◌≡◌, ℕ, ◌+◌, ◌-◌, ◌<◌, ◌≤◌, Bool, true, false, not, cond, List, [], ◌∷◌, ◌++◌, length, take, drop, Option, Some, None, refl, sym, ap, ◌∙◌, inl, inr, arith, append_assoc, length-append, length-drop}
-use Rattle.std.proofs.lemmas.Bool.{cases_lt, le-ltb, lt-ltb}
-use Rattle.std.proofs.lemmas.List.{drop_at, length-take-le, take_at}
+use Rattle.std.proofs.Common.{◌≡◌, ℕ, ◌+◌, ◌-◌, Bool, true, false, not, cond, List, [], ◌++◌, length, take, drop, Some, None, refl, sym, ap, ◌∙◌, arith, append_assoc, length-append}
+use Rattle.std.proofs.lemmas.List.{drop_at, take_at}
 use Rattle.std.proofs.lemmas.Slice.Eq.{bytes_eq-Decides}
 use Rattle.std.specs.List.{slice_range}
 use Rattle.std.specs.Str.{bytes_eq}
 use Rattle.aes_block.specs.KeyExpansion.{aes256}
 use Rattle.aes_gcm.specs.Gcm.{crypt, first_counter, opened, opened_of, sealed_of, tag_of}
-use Rattle.aes_gcm.specs.Gctr.{gctr, inc32}
+use Rattle.aes_gcm.specs.Gctr.{inc32}
 use Rattle.aes_gcm.specs.Ghash.{ghash}
 use Rattle.aes_gcm.specs.Lengths.{length-crypt, length-gctr, opened_of_long}
 use Rattle.aes_gcm.proofs.Streams.{gctr-gctr}

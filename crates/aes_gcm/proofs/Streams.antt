@@ -1,9 +1,8 @@
 -- Counter mode, block by block, and twice.
-use Rattle.std.proofs.Common.{◌≡◌, ℕ, ◌+◌, ◌-◌, ◌*◌, ◌/◌, ◌%◌, ◌<◌, ◌≤◌, List, length, map, slice_index, bit_xor, refl, sym, ap, ◌∙◌, subst, inl, inr, arith}
+use Rattle.std.proofs.Common.{◌≡◌, ℕ, ◌+◌, ◌-◌, ◌*◌, ◌/◌, ◌%◌, ◌<◌, ◌≤◌, List, length, slice_index, bit_xor, sym, ap, ◌∙◌, subst, inl, inr, arith}
 use Rattle.std.proofs.lemmas.Bool.{cases_lt}
-use Rattle.std.proofs.lemmas.List.FromFn.{fill_by_all, get_or-map-range_with_len, length-map-range_with_len}
+use Rattle.std.proofs.lemmas.List.FromFn.{fill_by_all, get_or-map-range_with_len}
 use Rattle.std.proofs.lemmas.Nat.Bits.{bit_at_xor, same_from_bits}
-use Rattle.std.specs.List.{range_with_len}
 use Rattle.aes_gcm.specs.Gctr.{counter_block, gctr, key_byte}
 use Rattle.aes_gcm.specs.Lengths.{length-gctr}
 
@@ -47,6 +46,6 @@ gctr-gctr cipher initial text =
     let once : List ℕ = gctr cipher initial text in
     let byte : (k : ℕ) → k < length text → slice_index text k ≡ bit_xor (slice_index once k) (key_byte cipher initial k) =
     λ k lt. sym (
-        ap (λ (b : ℕ). bit_xor b (key_byte cipher initial k)) (get_or-map-range_with_len (λ n. bit_xor (slice_index text n) (key_byte cipher initial n)) 0 (length text) k k 0 lt (omega arith))
-        ∙ xor_twice (slice_index text k) (key_byte cipher initial k)) in
+    ap (λ (b : ℕ). bit_xor b (key_byte cipher initial k)) (get_or-map-range_with_len (λ n. bit_xor (slice_index text n) (key_byte cipher initial n)) 0 (length text) k k 0 lt (omega arith))
+    ∙ xor_twice (slice_index text k) (key_byte cipher initial k)) in
     sym (gctr_all cipher initial once text (sym (length-gctr cipher initial text)) (λ k lt. byte k (omega (arith, length-gctr cipher initial text))))

@@ -59,19 +59,21 @@ impl Sealer for Aes256Gcm {
         let mut tag = [0u8; TAG_LEN];
         tag.copy_from_slice(&sealed[end..]);
         let keys = KeySchedule::new(key);
-        gcm_unseal(alloc, &keys, &sealed[..IV_LEN], &[], &sealed[IV_LEN..end], &tag)
+        gcm_unseal(
+            alloc,
+            &keys,
+            &sealed[..IV_LEN],
+            &[],
+            &sealed[IV_LEN..end],
+            &tag,
+        )
     }
 
     ghost lengths = { λ _ key text plain opens. length-opened_of key text plain opens };
 }
 
 // Appends a sealed text, or a part of it where memory is refused.
-fn append_sealed(
-    key: &[u8; 32],
-    iv: &[u8],
-    plain: &[u8],
-    out: &mut Vec<u8>,
-) -> Result<(), Memory>
+fn append_sealed(key: &[u8; 32], iv: &[u8], plain: &[u8], out: &mut Vec<u8>) -> Result<(), Memory>
     requires { length iv.now ≡ 16 }
     ensures ok { OnOk result (out.new.items ≡ out.old.items ++ sealed_of key.now iv.now plain.now) }
     ensures err { OnErr result (take (vec_len out.old) out.new.items ≡ out.old.items) }

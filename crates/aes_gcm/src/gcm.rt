@@ -33,8 +33,10 @@ pub fn gcm_seal(
     let start = out.len();
     let hash = HashKey::new(subkey_of(keys));
     let counter = first_counter(keys, &hash, iv);
-    append_crypted(keys, inc32(counter), plain, out)?;
-    Ok(tag_under(keys, &hash, counter, extra, &out[start..]))
+    let next = inc32(counter);
+    append_crypted(keys, next, plain, out)?;
+    let text = &out[start..];
+    Ok(tag_under(keys, &hash, counter, extra, text))
 }
 
 /// The plaintext of a ciphertext, or None where the tag over it and the extra bytes is another

@@ -162,6 +162,7 @@ fn opens_what_was_sealed(rt: HostRuntime) -> Result<(), Fail> {
     let key = key_of(CASES[7].key);
     let iv = tag_of(CASES[7].iv);
     let plain = bytes_of(alloc, CASES[7].plain)?;
+    assert_eq!(rt; plain.len(), 33);
     let mut sealed = Vec::new(alloc);
     Aes256Gcm.seal(&key, &iv, &plain, &mut sealed)?;
     let mut whole = Vec::new(alloc);
@@ -169,9 +170,10 @@ fn opens_what_was_sealed(rt: HostRuntime) -> Result<(), Fail> {
     whole.extend_from_slice(&bytes_of(alloc, CASES[7].text)?)?;
     whole.extend_from_slice(&tag_of(CASES[7].tag))?;
     assert!(rt; sealed.as_slice() == whole.as_slice());
+    assert_eq!(rt; sealed.len(), 65);
     assert_eq!(rt; Aes256Gcm.iv_len(), 16);
     assert!(rt; Aes256Gcm.unseal(alloc, &key, &sealed)? == Some(plain));
     assert!(rt; Aes256Gcm.unseal(alloc, &key, &sealed[1..])?.is_none());
-    assert!(rt; Aes256Gcm.unseal(alloc, &key, &sealed[..31])?.is_none());
+    assert!(rt; Aes256Gcm.unseal(alloc, &key, &[0; 31])?.is_none());
     Ok(())
 }

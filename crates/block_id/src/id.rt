@@ -45,3 +45,45 @@ impl BlockId {
         BlockId(u128::from_be_bytes(self.0).wrapping_add(1).to_be_bytes())
     }
 }
+
+#[cfg(test)]
+mod tests {
+    use super::*;
+    use std::test::Fail;
+
+    #[test]
+    fn ids_and_their_names(rt: HostRuntime) -> Result<(), Fail> {
+        let mut id = [0; 16];
+        id[0] = 0xfe;
+        id[15] = 0x0a;
+        let upper = b"FE00000000000000000000000000000A";
+        let lower = b"fe00000000000000000000000000000a";
+        assert_eq!(rt; BlockId(id).to_name(), *upper);
+        assert_eq!(rt; BlockId::from_name(upper), Some(BlockId(id)));
+        assert_eq!(rt; BlockId::from_name(lower), Some(BlockId(id)));
+        assert_eq!(rt; BlockId::from_name(&upper[1..]), None);
+        assert_eq!(rt;
+            BlockId::from_name(b"FE0000000000000000000000000000000A"),
+            None
+        );
+        assert_eq!(rt;
+            BlockId::from_name(b"FE0000000000000000000000000000xA"),
+            None
+        );
+        Ok(())
+    }
+
+    #[test]
+    fn the_id_after(rt: HostRuntime) -> Result<(), Fail> {
+        let mut one = [0; 16];
+        one[15] = 1;
+        let mut carried = [0; 16];
+        carried[14] = 1;
+        let mut low = [0; 16];
+        low[15] = 0xff;
+        assert_eq!(rt; BlockId([0; 16]).next(), BlockId(one));
+        assert_eq!(rt; BlockId(low).next(), BlockId(carried));
+        assert_eq!(rt; BlockId([0xff; 16]).next(), BlockId([0; 16]));
+        Ok(())
+    }
+}

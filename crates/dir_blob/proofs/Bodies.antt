@@ -1,7 +1,6 @@
 -- Entries one after the other, in the order of their names.
-use Rattle.std.proofs.Common.{◌≡◌, ℕ, zero, suc, ◌+◌, ◌-◌, ◌<◌, ◌≤◌, Bool, true, false, List, [], ◌∷◌, ◌++◌, length, get_or, take, All, refl, sym, ap, subst, ◌∙◌, append_assoc, arith}
-use Rattle.std.specs.Prelude.{◌&&◌, Option, Some, None, map}
-use Rattle.std.specs.List.{flat_map}
+use Rattle.std.proofs.Common.{◌≡◌, ℕ, suc, ◌+◌, ◌-◌, ◌<◌, ◌≤◌, true, false, List, [], ◌∷◌, ◌++◌, length, get_or, take, All, refl, sym, ap, subst, ◌∙◌, append_assoc, arith}
+use Rattle.std.specs.Prelude.{◌&&◌, Some, None}
 use Rattle.std.specs.Ordering.{is_lt}
 use Rattle.std.specs.FinMap.{is_sorted}
 use Rattle.std.specs.FinMap.Entries.{below_all}
@@ -19,10 +18,11 @@ use Rattle.fs_model.specs.Instant.{Instant}
 use Rattle.fs_blobs.specs.Kinds.{byte_of}
 use Rattle.fs_model.specs.declared.limits.TheConstants.{MAX_MODE}
 use Rattle.fs_model.specs.Tree.{name_cmp}
+use Rattle.fs_blobs.proofs.Laws.{IsBytes}
 use Rattle.dir_blob.specs.declared.entry.Entry.{Entry}
 use Rattle.dir_blob.specs.Layout.{Target, Listing, entry_of, listing_of, moment_text, attr_text, entry_text, body_of, IsEntry, IsInOrder, HasModes, IsListing, IsBody}
 use Rattle.dir_blob.specs.Reading.{kind_of, access_at, attr_at, entry_at, rises}
-use Rattle.dir_blob.proofs.Fields.{IsBytes, Takes}
+use Rattle.fs_blobs.proofs.Laws.{IsBytes}
 use Rattle.dir_blob.proofs.Entries.{entry_codec}
 
 -- ---- order

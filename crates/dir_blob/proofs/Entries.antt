@@ -1,6 +1,6 @@
 -- An entry that is read is the entry that was written.
-use Rattle.std.proofs.Common.{◌≡◌, ℕ, zero, suc, ◌+◌, ◌^◌, ◌<◌, ◌≤◌, Bool, true, false, eqb, leb, ltb, List, [], ◌∷◌, ◌++◌, length, get_or, refl, sym, ap, subst, ◌∙◌, append_assoc, arith}
-use Rattle.std.specs.Prelude.{Option, Some, None, not, ◌&&◌}
+use Rattle.std.proofs.Common.{◌≡◌, ℕ, suc, ◌^◌, ◌<◌, true, false, eqb, leb, ltb, List, [], ◌∷◌, ◌++◌, length, get_or, refl, ap, subst, append_assoc, arith}
+use Rattle.std.specs.Prelude.{Some, not, ◌&&◌}
 use Rattle.std.specs.Option.{option_map}
 use Rattle.std.specs.List.{list_any}
 use Rattle.std.specs.Int.{w32, w64, to_le_bytes}
@@ -11,10 +11,10 @@ use Rattle.fs_model.specs.declared.limits.TheConstants.{MAX_NAME, MAX_MODE, NANO
 use Rattle.fs_model.specs.Instant.{Instant}
 use Rattle.fs_model.specs.Names.{is_name, is_dots, is_reserved}
 use Rattle.fs_blobs.specs.Kinds.{byte_of, kind_at}
-use Rattle.fs_blobs.proofs.Laws.{kind_takes, kind_again}
-use Rattle.dir_blob.specs.Layout.{Target, moment_text, attr_text, entry_text, IsMoment, IsAttr, IsEntry}
-use Rattle.dir_blob.specs.Reading.{then_at, where_at, number_at, kind_of, text_at, id_at, moment_at, Parts, attr_of, access_at, owner_at, times_at, attr_at, entry_at}
-use Rattle.dir_blob.proofs.Fields.{IsBytes, mapped, Takes, IsCodec, then_codec, where_codec, map_codec, u32_codec, u64_codec, id_codec, text_codec, none_at}
+use Rattle.fs_blobs.proofs.Laws.{IsBytes, kind_takes, kind_again}
+use Rattle.dir_blob.specs.Layout.{moment_text, attr_text, entry_text, IsMoment, IsAttr, IsEntry}
+use Rattle.dir_blob.specs.Reading.{where_at, number_at, kind_of, text_at, id_at, moment_at, Parts, attr_of, access_at, owner_at, times_at, attr_at, entry_at}
+use Rattle.dir_blob.proofs.Fields.{mapped, Takes, IsCodec, then_codec, where_codec, map_codec, u32_codec, u64_codec, id_codec, text_codec, none_at}
 
 kind_reads : (bytes : List ℕ) (kind : Kind) (rest : List ℕ) → IsBytes bytes → kind_of bytes ≡ Some (kind, rest) → Takes bytes (byte_of kind ∷ []) rest × Unit {0}
 unfolding kind_of

@@ -1,6 +1,6 @@
 -- Readers whose fields are read as they were written.
 use Rattle.std.proofs.Common.{◌≡◌, ℕ, zero, suc, ◌+◌, ◌^◌, ◌<◌, ◌≤◌, Bool, true, false, cond, eqb, ltb, List, [], ◌∷◌, ◌++◌, length, get_or, take, drop, refl, sym, ap, subst, ◌∙◌, append_assoc, arith, inl, inr}
-use Rattle.std.specs.Prelude.{Option, Some, None, option_and_then, ◌||◌}
+use Rattle.std.specs.Prelude.{Option, Some, None, option_and_then}
 use Rattle.std.specs.Option.{option_map}
 use Rattle.std.specs.List.{position, position_or_len, list_any}
 use Rattle.std.specs.Int.{Width, w32, w64, byte_len, to_le_bytes, from_le_bytes}
@@ -9,12 +9,10 @@ use Rattle.std.proofs.lemmas.Bool.{cases_lt, ltb-false, lt-ltb, le-ltb, eqb-true
 use Rattle.std.proofs.lemmas.List.{take_at, drop_at, get_or_at, get_or_append_left, take-append-drop, length-append, length-take, get_or-drop, get_or-take, get_or_past}
 use Rattle.std.proofs.lemmas.List.Quantifiers.{position-Some}
 use Rattle.std.proofs.lemmas.List.Sums.{position_or_len_is}
-use Rattle.std.proofs.lemmas.Option.{cond_some}
+use Rattle.std.proofs.lemmas.Option.{cond_some, same_Some}
 use Rattle.std.proofs.lemmas.Nat.{le_bytes_4, le_bytes_8, from_le_bytes-to_le_bytes_4, from_le_bytes-to_le_bytes_8}
+use Rattle.fs_blobs.proofs.Laws.{IsBytes, some_behind}
 use Rattle.dir_blob.specs.Reading.{Reader, then_at, where_at, map_at, number_at, text_at, id_at}
-
-abbrev pub IsBytes : List ℕ → Type 0
-IsBytes bytes = (i : ℕ) → get_or bytes i 0 < 256
 
 pub IsBytes-drop : (n : ℕ) (bytes : List ℕ) → IsBytes bytes → IsBytes (drop n bytes)
 IsBytes-drop n bytes fits i = rw get_or-drop (fits (n + i))
@@ -34,10 +32,6 @@ bound None f y e = absurd cc
 pub mapped : {A B : Type 0} (o : Option A) (f : A → B) (y : B) → option_map f o ≡ Some y → (x : A) × (o ≡ Some x) × (f x ≡ y)
 mapped (Some x) f y e = (x, refl, cc)
 mapped None f y e = absurd cc
-
-pub some_behind : {A : Type 0} (b : Bool) (x y : A) → cond b None (Some x) ≡ Some y → (b ≡ false) × (x ≡ y)
-some_behind true x y e = absurd cc
-some_behind false x y e = (refl, cc)
 
 -- what a reader took from the front
 pub record Takes (all text rest : List ℕ) : Type 0 where
@@ -124,11 +118,11 @@ wide64 = record {
 number_takes : (w : Width) (limit : ℕ) → IsWide w limit → (bytes : List ℕ) (n : ℕ) (rest : List ℕ) → IsBytes bytes → number_at w bytes ≡ Some (n, rest) → Takes bytes (to_le_bytes w n) rest × (n < limit)
 unfolding number_at
 number_takes w limit wide bytes n rest fits e =
-    let found = some_behind (ltb (length bytes) (byte_len w)) (from_le_bytes w (take (byte_len w) bytes), drop (byte_len w) bytes) (n, rest) e in
+    let found = some_behind (ltb (length bytes) (byte_len w)) (Some (from_le_bytes w (take (byte_len w) bytes), drop (byte_len w) bytes)) (n, rest) e in
     let long : byte_len w ≤ length bytes = ltb-false _ _ found.0 in
     let front : List ℕ = take (byte_len w) bytes in
     let back : to_le_bytes w (from_le_bytes w front) ≡ front = wide.back front (omega (arith, length-take (byte_len w) bytes)) (IsBytes-take (byte_len w) bytes fits) in
-    subst (λ (y : ℕ × List ℕ). Takes bytes (to_le_bytes w y.0) y.1 × (y.0 < limit)) found.1 (
+    subst (λ (y : ℕ × List ℕ). Takes bytes (to_le_bytes w y.0) y.1 × (y.0 < limit)) (same_Some _ _ found.1) (
       record { parts = sym (ap (λ x. x ++ drop (byte_len w) bytes) back ∙ take-append-drop (byte_len w) bytes); bytes = IsBytes-drop (byte_len w) bytes fits },
       wide.below front (IsBytes-take (byte_len w) bytes fits),
     )
@@ -153,9 +147,9 @@ cut_at len bytes = cond (ltb (length bytes) len) None (Some (take len bytes, dro
 
 id_takes : (len : ℕ) (bytes id rest : List ℕ) → IsBytes bytes → cut_at len bytes ≡ Some (id, rest) → Takes bytes id rest × (length id ≡ len)
 id_takes len bytes id rest fits e =
-    let found = some_behind (ltb (length bytes) len) (take len bytes, drop len bytes) (id, rest) e in
+    let found = some_behind (ltb (length bytes) len) (Some (take len bytes, drop len bytes)) (id, rest) e in
     let long : len ≤ length bytes = ltb-false _ _ found.0 in
-    subst (λ (y : List ℕ × List ℕ). Takes bytes y.0 y.1 × (length y.0 ≡ len)) found.1
+    subst (λ (y : List ℕ × List ℕ). Takes bytes y.0 y.1 × (length y.0 ≡ len)) (same_Some _ _ found.1)
     (record { parts = sym (take-append-drop len bytes); bytes = IsBytes-drop len bytes fits }, omega (arith, length-take len bytes))
 
 id_again : (len : ℕ) (id rest : List ℕ) → length id ≡ len → cut_at len (id ++ rest) ≡ Some (id, rest)

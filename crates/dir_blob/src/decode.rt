@@ -3,6 +3,8 @@ ghost use Rattle.std.specs.Prelude.{◌≡◌, ◌==◌, ◌<◌, List, ℕ, len
 ghost use Rattle.std.specs.Option.{option_map};
 ghost use Rattle.std.specs.Int.{w32, w64};
 ghost use Rattle.std.specs.List.{position};
+ghost use Rattle.std.specs.Ordering.{is_lt};
+ghost use Rattle.fs_model.specs.Tree.{name_cmp};
 ghost use Rattle.dir_blob.specs.Layout.{Listing, IsBody, entry_of, listing_of};
 ghost use Rattle.dir_blob.specs.Reading.{number_at, kind_of, moment_at, access_at, owner_at, times_at, attr_at, text_at, id_at, entry_at, rises};
 
@@ -48,8 +50,14 @@ fn comes_after(entries: &[Entry], name: &Name) -> bool
 {
     match entries.last() {
         None => true,
-        Some(last) => last.name.as_slice().cmp(&name.as_slice()).is_lt(),
+        Some(last) => is_below(&last.name, name),
     }
+}
+
+fn is_below(first: &Name, second: &Name) -> bool
+    ensures { result ≡ is_lt (name_cmp first.now second.now) }
+{
+    first.as_slice().cmp(&second.as_slice()).is_lt()
 }
 
 /// The first entry, and what follows it.

@@ -70,7 +70,7 @@ module _ (p q : Path) where
     | Some z ↦ λ h e. let bad : None ≡ Some z = sym none ∙ (ap (strip q) e ∙ strip-append q z) in cc
   ] refl e
 
-  find-moved : (r : Path) (es : List (Path × Row)) → ((s : Path) → find path_cmp (s ++ q) es ≡ None)
+  pub find-moved : (r : Path) (es : List (Path × Row)) → ((s : Path) → find path_cmp (s ++ q) es ≡ None)
       → (a b : Option Path) → strip q r ≡ a → strip p r ≡ b → find path_cmp r (map (move_entry p q) es) ≡ source (λ x. find path_cmp x es) p r a b
   find-moved r [] free (Some s) b ha hb = refl
   find-moved r [] free None None ha hb = refl

@@ -28,7 +28,7 @@ is_above_it p (m ∷ s) n = or_right (same_path p (m ∷ (s ++ p))) (is_above p 
 pub not_above : (p q : Path) → is_above p q ≡ false → (s : Path) (n : List ℕ) → q ≡ n ∷ (s ++ p) → ⊥
 not_above p q h s n e = let bad : false ≡ true = sym h ∙ (ap (is_above p) e ∙ is_above_it p s n) in cc
 
-strip_none : (p r : Path) → ((s : Path) → r ≡ s ++ p → ⊥) → strip p r ≡ None
+pub strip_none : (p r : Path) → ((s : Path) → r ≡ s ++ p → ⊥) → strip p r ≡ None
 strip_none p r off = elim (strip p r) as (λ o. strip p r ≡ o → strip p r ≡ None) [
   | None ↦ λ e. e
   | Some s ↦ λ e. absurd (off s (strip-is p r s e))

@@ -123,19 +123,19 @@ pub none_of : (o : Option Row) → (is_some o ≡ true → ⊥) → o ≡ None
 none_of None h = refl
 none_of (Some row) h = absurd (h refl)
 
-both_T : (a b : Bool) → T a → T b → T (a && b)
+pub both_T : (a b : Bool) → T a → T b → T (a && b)
 both_T true b p q = q
 both_T false b p q = absurd p
 
-left_T : (a b : Bool) → T (a && b) → T a
+pub left_T : (a b : Bool) → T (a && b) → T a
 left_T true b p = tt
 left_T false b p = absurd p
 
-right_T : (a b : Bool) → T (a && b) → T b
+pub right_T : (a b : Bool) → T (a && b) → T b
 right_T true b p = p
 right_T false b p = absurd p
 
-less_then : (a b : Ordering) → is_eq b ≡ true → T (is_lt (ordering_then a b)) → T (is_lt a)
+pub less_then : (a b : Ordering) → is_eq b ≡ true → T (is_lt (ordering_then a b)) → T (is_lt a)
 less_then Less b e h = tt
 less_then Equal Less e h = cc
 less_then Equal Equal e h = h

@@ -3,7 +3,7 @@ use Rattle.std.specs.Prelude.{◌≡◌, ℕ, ◌+◌, ◌≤◌, ◌==◌, max,
 use Rattle.std.proofs.Common.{◌-◌, refl, sym, ◌∙◌, ap, subst, inl, inr, arith, lit≤, length-append, length-drop}
 use Rattle.std.proofs.lemmas.List.{length-take, length-replicate}
 use Rattle.std.proofs.lemmas.Bool.{cond_both, ltb-false, leb-true, or_parts}
-use Rattle.std.specs.FinMap.{get, insert, remove, len}
+use Rattle.std.specs.FinMap.{get, insert, remove, len, empty, get-empty}
 use Rattle.std.specs.declared.option.Option.TheVariants.{None, Some}
 use Rattle.fs_model.specs.declared.attr.Attr.{Attr}
 use Rattle.fs_model.specs.declared.attr.Kind.{Kind}
@@ -15,13 +15,13 @@ use Rattle.fs_model.specs.declared.command.Command.{Command}
 use Rattle.fs_model.specs.declared.command.Command.TheVariants as command
 use Rattle.fs_model.specs.Instant.{Instant}
 use Rattle.fs_model.specs.Fitting.{IsFitting}
-use Rattle.fs_model.specs.Tree.{Path, Tree, Row, upward, same_path, is_directory, is_folder, children, directory_size, entry_size, FitsKind, IsRooted, IsWithinLimits, IsWellFormed}
+use Rattle.fs_model.specs.Tree.{Path, Tree, Row, upward, same_path, is_directory, is_folder, children, directory_size, entry_size, FitsKind, IsRooted, IsWithinLimits, IsWellFormed, empty_tree, root_row, path_cmp}
 use Rattle.fs_model.specs.LookUp.{Seen, Found, Free, Bad, look}
 use Rattle.fs_model.specs.Move.{is_above}
 use Rattle.fs_model.specs.Step.{Stepped, refused, done, by_kind, on_file, unless_root, listed, told, made, new_row, removed_directory, removed_file, has_child, target_read, content_read, is_too_long, resized, overwritten, with_content, written, truncated, attributes_set, with_mode, with_owner, with_times, moved_tree, moved_unless_large, moved_onto, moved_to, moved_from, step}
 use Rattle.fs_model.proofs.TreeLemmas.{path_split, path_same, get-children, insert_here, insert_apart, remove_here, remove_apart, none_of}
 use Rattle.fs_model.proofs.LookUpLemmas.{get-found, get-free, IsFree}
-use Rattle.fs_model.proofs.SizeLemmas.{map_size, children-insert, children-insert_apart, children-remove, children-remove_apart, size-insert, size-set, size-remove-le, no_children}
+use Rattle.fs_model.proofs.SizeLemmas.{map_size, children-insert, children-insert_apart, children-remove, children-remove_apart, size-insert, size-set, size-remove-le, no_children, no_names, size-empty}
 use Rattle.fs_model.proofs.MovedTree.{CanMove, moved_well_formed}
 
 abbrev pub Keeps : Stepped → Type 0
@@ -326,3 +326,20 @@ well_formed-step t now (command.Chown p uid gid) wf fits = unless_keeps t (upwar
 well_formed-step t now (command.Utime p atime mtime) wf fits = unless_keeps t (upward p) _ wf (λ n q e. subst (λ r. Keeps (attributes_set t r (with_times atime mtime now) (look t r))) (sym e)
     (attributes_keep t n q (with_times atime mtime now) _ wf (λ a. refl) (λ a h. h) refl))
 well_formed-step t now command.Sync wf fits = wf
+
+empty_at : (n : List ℕ) (p : Path) → get empty_tree (n ∷ p) ≡ None
+empty_at n p = insert_apart empty [] root_row (n ∷ p) (λ e. cc) ∙ get-empty path_cmp (n ∷ p)
+
+root_row_fits : IsWithinLimits root_row
+root_row_fits = record { content = refl; mode = lit≤ tt }
+
+-- the tree of the root alone
+pub empty_well_formed : IsWellFormed empty_tree
+empty_well_formed = record {
+    rooted = record {
+      root = insert_here empty [] root_row;
+      parents = λ n p there. let bad : false ≡ true = ap is_some (sym (empty_at n p)) ∙ there in cc;
+    };
+    rows = rows_insert empty (λ r x there. let bad : None ≡ Some x = sym (get-empty path_cmp r) ∙ there in cc) [] root_row root_row_fits;
+    directories = λ p. let size : directory_size empty_tree p ≡ 0 = ap map_size (no_names (children empty_tree p) (λ n. get-children empty_tree p n ∙ empty_at n p)) ∙ size-empty Row in omega arith;
+}

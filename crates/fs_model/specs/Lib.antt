@@ -7,3 +7,4 @@ pub mod LookUp
 pub mod Move
 pub mod Step
 pub mod Laws
+pub mod Codes

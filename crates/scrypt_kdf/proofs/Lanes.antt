@@ -1,14 +1,9 @@
 -- Vectors of four words by their lanes, and their bytes.
-use Rattle.std.proofs.Common.{◌≡◌, ℕ, zero, suc, ◌+◌, ◌-◌, ◌*◌, ◌/◌, ◌%◌, ◌^◌, ◌<◌, ◌≤◌, List, [], ◌∷◌, ◌++◌, length, take, drop, get_or, slice_index, bit_or, bit_xor, refl, sym, ap, ◌∙◌, arith}
-use Rattle.std.proofs.lemmas.List.{append_assoc, ext_get_or, length-take-le, take_at}
-use Rattle.std.proofs.lemmas.List.Edits.{get_or-between, length-between}
+use Rattle.std.proofs.Common.{◌≡◌, ℕ, ◌+◌, ◌-◌, ◌*◌, ◌/◌, ◌%◌, ◌^◌, ◌<◌, List, [], ◌∷◌, length, get_or, slice_index, bit_or, bit_xor, refl, sym, ap, ◌∙◌, arith}
 use Rattle.std.proofs.lemmas.List.FromFn.{fill_by_all}
-use Rattle.std.proofs.lemmas.Simd.{below_from_Fits, chunk-fits, get_or-chunk, get_or_narrower, get_or_wider, length-chunk, put_chunk_is}
-use Rattle.std.proofs.Math.Seq.{take-append-add}
+use Rattle.std.proofs.lemmas.Simd.{below_from_Fits, get_or_narrower, get_or_wider, length-chunk}
 use Rattle.std.specs.Int.{w32, from_le_bytes}
-use Rattle.std.specs.List.{slice_range}
-use borrow.Rule.Slice.PartMut.{put_mid}
-use lib.Lanes.{Each1, chunk, digits_l, number_l, put_chunk}
+use lib.Lanes.{Each1, chunk, digits_l, number_l}
 use mir.Syntax.{w8}
 use mir.Val.{Fits}
 use Rattle.scrypt_kdf.specs.Rows.{lanes}
@@ -31,51 +26,18 @@ number_word : (ys : List ℕ) → length ys ≡ 4 → number_l 256 ys ≡ from_l
 number_word (a ∷ b ∷ c ∷ d ∷ []) long = omega arith
 number_word _ long = absurd (omega arith)
 
--- the bytes of lane j of row i are those of word 4 * i + j
-lane_bytes : (block : List ℕ) (i j : ℕ) → length block ≡ 64 → i < 4 → j < 4
-    → chunk (4 * j) 4 (chunk (16 * i) 16 block) ≡ slice_range block (4 * (4 * i + j)) (4 * (4 * i + j) + 4)
-lane_bytes block i j long li lj =
-    let row : List ℕ = chunk (16 * i) 16 block in
-    let sixteen : length row ≡ 16 = length-chunk (16 * i) 16 block (omega arith) in
-    let four : length (chunk (4 * j) 4 row) ≡ 4 = length-chunk (4 * j) 4 row (omega arith) in
-    let word = length-between block (4 * (4 * i + j)) (4 * (4 * i + j) + 4) (omega arith) in
-    ext_get_or 0 (chunk (4 * j) 4 row) (slice_range block (4 * (4 * i + j)) (4 * (4 * i + j) + 4)) (omega arith)
-    (λ k lt.
-    get_or-chunk (4 * j) 4 row k 0 (omega arith)
-    ∙ get_or-chunk (16 * i) 16 block (4 * j + k) 0 (omega arith)
-    ∙ ap (λ (q : ℕ). get_or block q 0) (omega arith)
-    ∙ sym (get_or-between block (4 * (4 * i + j)) (4 * (4 * i + j) + 4) k 0 (omega arith)))
-
--- lane j of row i is word m = 4 * i + j
-pub row_word : (block : List ℕ) (i j m : ℕ) → length block ≡ 64 → ((k : ℕ) → Fits w8 (get_or block k 0)) → i < 4 → j < 4
-    → 4 * i + j ≡ m → get_or (digits_l (2 ^ 32) 4 (number_l 256 (chunk (16 * i) 16 block))) j 0 ≡ word_at block m
-row_word block i j m long bytes li lj place =
-    let row : List ℕ = chunk (16 * i) 16 block in
-    let sixteen : length row ≡ 16 = length-chunk (16 * i) 16 block (omega arith) in
-    let four : length (chunk (4 * j) 4 row) ≡ 4 = length-chunk (4 * j) 4 row (omega arith) in
-    let fits = below_from_Fits w8 row (chunk-fits w8 (16 * i) 16 block bytes) in
-    get_or_wider 256 4 (2 ^ 32) 4 row j refl fits lj
-    ∙ number_word (chunk (4 * j) 4 row) four
-    ∙ ap (from_le_bytes w32) (lane_bytes block i j long li lj)
-    ∙ ap (word_at block) place
-
--- a block after sixteen bytes are written as row i
-pub row_put : (block ys : List ℕ) (i : ℕ) → length block ≡ 64 → length ys ≡ 16 → i < 4
-    → take (16 * i + 16) (put_mid (16 * i) (64 - 16 * i) block (put_chunk 0 (take (64 - 16 * i) (drop (16 * i) block)) ys))
-    ≡ take (16 * i) block ++ ys
-row_put block ys i long row li =
-    let front : List ℕ = take (16 * i) block in
-    let n : length front ≡ 16 * i = length-take-le (16 * i) block (omega arith) in
-    let rest : List ℕ = take (64 - 16 * i) (drop (16 * i) block) in
-    let all : length rest ≡ 64 - 16 * i = length-between block (16 * i) 64 (omega arith) in
-    let tail : List ℕ = drop (length ys) rest in
-    let post : List ℕ = drop (64 - 16 * i) (drop (16 * i) block) in
-    let put : put_chunk 0 rest ys ≡ ys ++ tail = put_chunk_is 0 rest ys (omega arith) in
-    ap (λ (zs : List ℕ). take (16 * i + 16) (front ++ (zs ++ post))) put
-    ∙ ap (λ (k : ℕ). take (k + 16) (front ++ ((ys ++ tail) ++ post))) (sym n)
-    ∙ take-append-add front ((ys ++ tail) ++ post) 16
-    ∙ ap (λ (zs : List ℕ). front ++ take 16 zs) (append_assoc ys tail post)
-    ∙ ap (λ (zs : List ℕ). front ++ zs) (take_at ys (tail ++ post) 16 row)
+-- the words of sixteen bytes, as vectors have them
+pub words_of_bytes : (v : List ℕ) → length v ≡ 16 → Each1 (Fits w8) v
+    → digits_l (2 ^ 32) 4 (number_l 256 v) ≡ lanes (word_at v)
+words_of_bytes v long fits =
+    let bytes = below_from_Fits w8 v fits in
+    let wide : (j : ℕ) → j < 4 → get_or (digits_l (2 ^ 32) 4 (number_l 256 v)) j 0 ≡ number_l 256 (chunk (4 * j) 4 v) =
+    λ j lt. get_or_wider 256 4 (2 ^ 32) 4 v j refl bytes lt in
+    let w0 = wide 0 (omega arith) ∙ number_word (chunk 0 4 v) (length-chunk 0 4 v (omega arith)) in
+    let w1 = wide 1 (omega arith) ∙ number_word (chunk 4 4 v) (length-chunk 4 4 v (omega arith)) in
+    let w2 = wide 2 (omega arith) ∙ number_word (chunk 8 4 v) (length-chunk 8 4 v (omega arith)) in
+    let w3 = wide 3 (omega arith) ∙ number_word (chunk 12 4 v) (length-chunk 12 4 v (omega arith)) in
+    λ t. w0 t ∷ w1 t ∷ w2 t ∷ w3 t ∷ []
 
 -- the bytes of a row, as vectors and as words have them
 pub bytes_of_row : (row : List ℕ) → length row ≡ 4 → Each1 (λ x. x < 2 ^ 32) row

@@ -1,11 +1,10 @@
 -- The lengths of what Salsa20/8, BlockMix and ROMix give.
-use Rattle.std.proofs.Common.{◌≡◌, ℕ, zero, suc, ◌+◌, ◌-◌, ◌*◌, ◌<◌, ◌≤◌, List, [], ◌∷◌, ◌++◌, length, refl, sym, ap, ◌∙◌, arith, add-one}
-use Rattle.std.proofs.lemmas.List.{length-append, length-map, length-set}
+use Rattle.std.proofs.Common.{◌≡◌, ℕ, zero, suc, ◌+◌, ◌*◌, List, [], ◌∷◌, length, refl, ◌∙◌, arith, add-one, bit_xor, ◌≤◌, ◌-◌, sym}
+use Rattle.std.proofs.lemmas.List.Edits.{length-between}
+use Rattle.std.proofs.lemmas.List.{length-append, length-set}
 use Rattle.std.proofs.lemmas.Simd.{length-zip2}
-use Rattle.std.specs.Int.{w32, to_le_bytes}
-use Rattle.std.specs.List.{flat_map}
 use Rattle.scrypt_kdf.specs.Salsa.{add32, bytes_of, core, double_round, double_rounds, salsa20_8, words}
-use Rattle.scrypt_kdf.specs.Scrypt.{block_mix, chained, iterate, joined, mix_output, part, ro_mix, turned, iterates, looked_up}
+use Rattle.scrypt_kdf.specs.Scrypt.{block_mix, chained, iterate, joined, mix_output, ro_mix, turned, iterates, xor_bytes, part}
 use Rattle.scrypt_kdf.proofs.Parts.{length-joined}
 
 pub length-double_round : (x : List ℕ) → length (double_round x) ≡ length x
@@ -31,6 +30,15 @@ unfolding salsa20_8
 length-salsa20_8 block =
     let sixteen : length (core (words block)) ≡ 16 = length-core (words block) in
     length-bytes_of (core (words block)) ∙ omega arith
+
+pub length-xor : (x y : List ℕ) (n : ℕ) → length x ≡ n → length y ≡ n → length (xor_bytes x y) ≡ n
+length-xor x y n long long' = length-zip2 bit_xor x y (long ∙ sym long') ∙ long
+
+pub length-chained : (r : ℕ) (b : List ℕ) (n : ℕ) → 1 ≤ r → length b ≡ 128 * r → length (chained r b n) ≡ 64
+unfolding chained
+length-chained r b zero some long =
+    length-between b (64 * (2 * r - 1)) (64 * (2 * r - 1) + 64) (omega arith) ∙ omega arith
+length-chained r b (suc n) some long = length-salsa20_8 (xor_bytes (chained r b n) (part 64 b n))
 
 pub length-mix_output : (r : ℕ) (b : List ℕ) (i : ℕ) → length (mix_output r b i) ≡ 64
 unfolding chained

@@ -4,6 +4,7 @@ mod Halves
 mod Lanes
 mod Lengths
 mod Numbers
+mod Diagonals
 mod Parts
 mod Powers
 mod Sixteen

@@ -1,33 +1,24 @@
--- The words of a block in four rows of four, and the same rows sheared, as Salsa20/8 works on them.
-use Rattle.std.specs.Prelude.{ℕ, ◌+◌, ◌%◌, List, [], ◌∷◌, slice_index, slice_index_or}
+-- A block as four vectors, and the steps of Salsa20/8 on them, lane by lane.
+use Rattle.std.specs.Prelude.{ℕ, ◌+◌, ◌*◌, ◌%◌, List, [], ◌∷◌, drop, slice_index, take}
 use Rattle.scrypt_kdf.specs.Salsa.{add32, mixed}
 
 -- four lanes, by their places
 abbrev pub lanes : (ℕ → ℕ) → List ℕ
 lanes f = f 0 ∷ f 1 ∷ f 2 ∷ f 3 ∷ []
 
--- lane k of row i
-abbrev pub lane : List (List ℕ) → ℕ → ℕ → ℕ
-lane x i k = slice_index (slice_index_or x i []) k
+-- the four vectors of sixteen bytes of a block
+abbrev pub quarter : List ℕ → ℕ → List ℕ
+quarter b i = take 16 (drop (16 * i) b)
 
--- row i has in lane k what row i + k had, counted modulo 4
-abbrev pub sheared_row : List (List ℕ) → ℕ → List ℕ
-sheared_row x i = lanes (λ k. lane x ((i + k) % 4) k)
+abbrev pub quarters : List ℕ → List (List ℕ)
+quarters b = quarter b 0 ∷ quarter b 1 ∷ quarter b 2 ∷ quarter b 3 ∷ []
 
-abbrev pub sheared : List (List ℕ) → List (List ℕ)
-sheared x = sheared_row x 0 ∷ sheared_row x 1 ∷ sheared_row x 2 ∷ sheared_row x 3 ∷ []
+-- the four diagonals of sixteen words: 0, 5, 10, 15; 4, 9, 14, 3; 8, 13, 2, 7; 12, 1, 6, 11
+abbrev pub diagonal : List ℕ → ℕ → List ℕ
+diagonal x i = lanes (λ k. slice_index x (5 * (4 * i + k) % 16))
 
--- words 4 * i to 4 * i + 3 of a block, with first = 4 * i
-abbrev pub row_from : List ℕ → ℕ → List ℕ
-row_from x first = lanes (λ k. slice_index x (first + k))
-
--- the four rows of a block's words
-abbrev pub rows : List ℕ → List (List ℕ)
-rows x = row_from x 0 ∷ row_from x 4 ∷ row_from x 8 ∷ row_from x 12 ∷ []
-
--- the four diagonals: 0, 5, 10, 15; 4, 9, 14, 3; 8, 13, 2, 7; 12, 1, 6, 11
 abbrev pub diagonals : List ℕ → List (List ℕ)
-diagonals x = sheared (rows x)
+diagonals x = diagonal x 0 ∷ diagonal x 1 ∷ diagonal x 2 ∷ diagonal x 3 ∷ []
 
 -- b ^ R(a + d, n) in each lane
 abbrev pub mixed_lanes : ℕ → List ℕ → List ℕ → List ℕ → List ℕ

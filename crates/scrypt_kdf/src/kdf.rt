@@ -26,10 +26,10 @@ pub fn scrypt(
     out.fill(0);
     let len = 128 * params.r() as usize;
     let mut parts = zeros(alloc, len * params.p() as usize)?;
-    let mut iterates = zeros(alloc, len * params.n() as usize)?;
+    let mut iterates = Vec::with_capacity(alloc, len * params.n() as usize)?;
     let b = parts.as_mut_slice();
     pbkdf2(password, salt, b);
-    mix_parts(params, b, iterates.as_mut_slice());
+    mix_parts(params, b, &mut iterates)?;
     pbkdf2(password, b, out);
     Ok(())
 }
@@ -41,16 +41,16 @@ fn zeros(alloc: Global, len: usize) -> Result<Vec<u8>, AllocError>
     vec![in alloc; 0u8; len]
 }
 
-// ROMix of each of the p parts of `b`, in place.
-fn mix_parts(params: &Params, b: &mut [u8], v: &mut [u8])
-    requires len { length b.old ≡ 128 * params.now.r * params.now.p }
-    requires room { length v.old ≡ 128 * params.now.r * params.now.n }
-    ensures { b.new ≡ mixed_parts params.now b.old }
+// ROMix of each of the p parts of `b`, in place; `v` is to have room for N times a part.
+fn mix_parts(params: &Params, b: &mut [u8], v: &mut Vec<u8>) -> Result<(), AllocError>
+    requires { length b.old ≡ 128 * params.now.r * params.now.p }
+    ensures { OnOk result (b.new ≡ mixed_parts params.now b.old) }
 {
     let r = params.r() as usize;
     let n = params.n() as usize;
     let len = 128 * r;
     for i in 0..params.p() as usize {
-        ro_mix(r, n, &mut b[len * i..len * i + len], v);
+        ro_mix(r, n, &mut b[len * i..len * i + len], v)?;
     }
+    Ok(())
 }

@@ -5,6 +5,7 @@
 mod hmac;
 mod kdf;
 mod mix;
+mod order;
 mod params;
 mod pbkdf;
 mod salsa;

@@ -1,85 +1,104 @@
-// The Salsa20/8 core (RFC 7914, section 3), on four diagonals of a block of words at a time.
+// The Salsa20/8 core (RFC 7914, section 3), on the four diagonals of a block of words at a time.
 
-ghost use Rattle.std.specs.Prelude.{◌≡◌, ◌+◌, ◌*◌, ◌<◌, ℕ, List, [], ◌∷◌, ◌++◌, length, take};
-ghost use Rattle.scrypt_kdf.specs.Salsa.{bytes_of, core, double_round, salsa20_8, word_at, words};
-ghost use Rattle.scrypt_kdf.specs.Rows.{diagonals, lane_sums, mixed_lanes, sheared, turned_lanes};
+ghost use Rattle.std.specs.Prelude.{◌≡◌, ◌+◌, ◌*◌, ◌<◌, ℕ, List, ◌++◌, length, take};
+ghost use Rattle.scrypt_kdf.specs.Order.{on_diagonals};
+ghost use Rattle.scrypt_kdf.specs.Rows.{diagonals, lane_sums, lanes, mixed_lanes, quarters, turned_lanes};
+ghost use Rattle.scrypt_kdf.specs.Salsa.{bytes_of, core, double_round, salsa20_8, word_at};
+ghost use Rattle.scrypt_kdf.specs.Scrypt.{xor_bytes};
 
+use crate::order::{FROM_DIAGONALS, TO_DIAGONALS, reorder};
 use std::simd::{u8x16, u32x4};
 
-// Four rows of the words of a block, or its four diagonals: the places 0, 5, 10, 15; 4, 9, 14, 3;
-// 8, 13, 2, 7; and 12, 1, 6, 11, on which a round works lane by lane.
+// The bytes of a block.
+pub(crate) type Block = [u8x16; 4];
+
+// The words of a block, a diagonal in each vector: a round works on them lane by lane.
 type Rows = [u32x4; 4];
 
 /// The Salsa20/8 core of a block of sixteen words, each low byte first (RFC 7914, section 3).
-#[inline(always)]
 pub fn salsa20_8(block: &[u8; 64]) -> [u8; 64]
     ensures { result ≡ salsa20_8 block.now }
 {
-    bytes_of(core(diagonals(block)))
-}
-
-// The diagonals of a block's words.
-#[inline(always)]
-fn diagonals(block: &[u8; 64]) -> Rows
-    ensures { result ≡ diagonals (words block.now) }
-{
-    sheared([row(block, 0), row(block, 1), row(block, 2), row(block, 3)])
+    let mut x = *block;
+    reorder(&mut x, TO_DIAGONALS);
+    let y = core(load(&x));
+    store(y, &mut x);
+    reorder(&mut x, FROM_DIAGONALS);
+    x
 }
 
 #[inline(always)]
-fn row(block: &[u8], i: usize) -> u32x4
-    requires len { length block.now ≡ 64 }
-    requires row { i < 4 }
-    ensures { result ≡ word_at block.now (4 * i) ∷ word_at block.now (4 * i + 1)
-        ∷ word_at block.now (4 * i + 2) ∷ word_at block.now (4 * i + 3) ∷ [] }
+pub(crate) fn load(block: &[u8]) -> Block
+    requires { length block.now ≡ 64 }
+    ensures { result ≡ quarters block.now }
 {
-    u32x4::from_le_bytes(u8x16::from_slice(&block[16 * i..]))
-}
-
-// The block whose words have these diagonals.
-#[inline(always)]
-fn bytes_of(x: Rows) -> [u8; 64]
-    ensures { (w : List ℕ) → length w ≡ 16 → x ≡ diagonals w → result ≡ bytes_of w }
-{
-    let [a, b, c, d] = x;
-    let [p, s, r, q] = sheared([a, d, c, b]);
-    let mut block = [0u8; 64];
-    put_row(&mut block, 0, p);
-    put_row(&mut block, 1, q);
-    put_row(&mut block, 2, r);
-    put_row(&mut block, 3, s);
-    block
-}
-
-// Writes a row's bytes as row `i` of a block.
-#[inline(always)]
-fn put_row(block: &mut [u8; 64], i: usize, row: u32x4)
-    requires { i < 4 }
-    ensures { take (16 * i + 16) block.new ≡ take (16 * i) block.old ++ bytes_of row }
-{
-    row.to_le_bytes().copy_to_slice(&mut block[16 * i..]);
-}
-
-// Lane k of row i becomes lane k of row i + k, counted modulo 4.
-#[inline(always)]
-fn sheared(x: Rows) -> Rows
-    ensures { result ≡ sheared x }
-{
-    let [p, q, r, s] = x;
-    let pq = p.shuffle(q, [0, 5, 2, 7]);
-    let qr = q.shuffle(r, [0, 5, 2, 7]);
-    let rs = r.shuffle(s, [0, 5, 2, 7]);
-    let sp = s.shuffle(p, [0, 5, 2, 7]);
     [
-        pq.shuffle(rs, [0, 1, 6, 7]),
-        qr.shuffle(sp, [0, 1, 6, 7]),
-        rs.shuffle(pq, [0, 1, 6, 7]),
-        sp.shuffle(qr, [0, 1, 6, 7]),
+        u8x16::from_slice(block),
+        u8x16::from_slice(&block[16..]),
+        u8x16::from_slice(&block[32..]),
+        u8x16::from_slice(&block[48..]),
     ]
 }
 
 #[inline(always)]
-fn core(x: Rows) -> Rows
+pub(crate) fn store(x: Block, block: &mut [u8])
+    requires { length block.old ≡ 64 }
+    ensures { (b : List ℕ) → length b ≡ 64 → x ≡ quarters b → block.new ≡ b }
+{
+    let [p, q, r, s] = x;
+    put(p, 0, block);
+    put(q, 1, block);
+    put(r, 2, block);
+    put(s, 3, block);
+}
+
+// Writes vector `i` of a block.
+#[inline(always)]
+fn put(x: u8x16, i: usize, block: &mut [u8])
+    requires len { length block.old ≡ 64 }
+    requires place { i < 4 }
+    ensures { take (16 * i + 16) block.new ≡ take (16 * i) block.old ++ x }
+{
+    x.copy_to_slice(&mut block[16 * i..]);
+}
+
+#[inline(always)]
+pub(crate) fn xor(x: Block, y: Block) -> Block
+    ensures { (b c : List ℕ) → length b ≡ 64 → length c ≡ 64 → x ≡ quarters b → y ≡ quarters c
+        → result ≡ quarters (xor_bytes b c) }
+{
+    let [a, b, c, d] = x;
+    let [e, f, g, h] = y;
+    [a ^ e, b ^ f, c ^ g, d ^ h]
+}
+
+// The core of a block whose words stand on its diagonals.
+#[inline(always)]
+pub(crate) fn core(x: Block) -> Block
+    ensures { (b : List ℕ) → length b ≡ 64 → x ≡ quarters (on_diagonals b)
+        → result ≡ quarters (on_diagonals (salsa20_8 b)) }
+{
+    let [p, q, r, s] = x;
+    let [a, b, c, d] = core_words([words(p), words(q), words(r), words(s)]);
+    [bytes(a), bytes(b), bytes(c), bytes(d)]
+}
+
+#[inline(always)]
+fn words(x: u8x16) -> u32x4
+    ensures { result ≡ lanes (word_at x) }
+{
+    u32x4::from_le_bytes(x)
+}
+
+#[inline(always)]
+fn bytes(x: u32x4) -> u8x16
+    ensures { result ≡ bytes_of x }
+{
+    x.to_le_bytes()
+}
+
+#[inline(always)]
+fn core_words(x: Rows) -> Rows
     ensures { (w : List ℕ) → length w ≡ 16 → x ≡ diagonals w → result ≡ diagonals (core w) }
 {
     let [a, b, c, d] = x;

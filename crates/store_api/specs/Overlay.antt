@@ -1,12 +1,13 @@
 -- A store seen through changes that aren't made yet.
-use Rattle.std.specs.Prelude.{◌≡◌, ◌⊎◌, ◌||◌, ◌&&◌, ℕ, Bool, true, false, cond, not, ◌++◌, List, is_some, Option, Some, None, refl}
-use Rattle.std.proofs.Common.{sym, ◌∙◌, ap, inl, inr}
+use Rattle.std.specs.Prelude.{◌≡◌, ◌⊎◌, ◌||◌, ◌&&◌, ℕ, Bool, true, false, cond, not, ◌++◌, List, is_some, Option, Some, None, refl, ◌≤◌, Ok}
+use Rattle.std.proofs.Common.{sym, ◌∙◌, ap, subst, inl, inr}
 use Rattle.std.specs.FinMap as fin
 use Rattle.std.specs.FinMap.{contains_key-keys}
 use Rattle.std.proofs.lemmas.List.Folds.{list_any-append}
 use Rattle.block_id.specs.Fresh.{zero_id}
 use Rattle.outcome.specs.Meanings.{Meanings, Lawful}
 use Rattle.outcome.specs.Lift.{lift, lawful}
+use Rattle.outcome.specs.Outcome.{Outcome}
 use Rattle.store_api.specs.Content.{Id, same_id, Changes, or_else, over}
 use Rattle.store_api.specs.Holdings.{Holdings, Steady, Fits, has_id}
 
@@ -67,4 +68,17 @@ steady_over f g M H st = record {
     | inl new ↦ i.1.sized id bytes new
     | inr old ↦ st.sized (f a) id bytes i.0 t old.1
   ];
+}
+
+-- a call, and a change of the changes alone
+pub changed_over : {A B : Type 0} (f : A → B) (g : A → Changes) (M : Meanings B) (H : Holdings B) {T U N : Type 0} {x : T} {y : U} {P : N → T → Type 0} {Q : N → U → Type 0} (a c d : A)
+    → f d ≡ f c → M.intact (f d) × Fits H (f d) (g d) → Outcome (meanings_over f g M H) N a c (Ok x) P → ((n : N) → P n x → Q n y) → Outcome (meanings_over f g M H) N a d (Ok y) Q
+changed_over f g M H a c d same intact o into = record {
+  intact = intact;
+  loaded = subst (M.loaded (f a)) (sym same) o.loaded;
+  sound = λ s h. subst M.sound (sym same) (o.sound s (subst (λ b. M.forgeries b ≤ M.forgeries (f a)) same h));
+  met = tt;
+  fault = tt;
+  value = λ n s h. into n (o.value n s (subst (λ b. M.forgeries b ≤ M.forgeries (f a)) same h));
+  alarm = λ n s h. tt;
 }

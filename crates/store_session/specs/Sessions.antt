@@ -1,13 +1,13 @@
 -- What a session over a durable store and a keeper stands for.
-use Rattle.std.specs.Prelude.{◌≡◌, ◌⊎◌, ◌≤◌, ◌<◌, ℕ, Bool, true, false, List, [], length, Result}
+use Rattle.std.specs.Prelude.{◌≡◌, ◌⊎◌, ◌≤◌, ℕ, false, List, length, Result}
 use Rattle.std.specs.declared.option.Option.{Option}
-use Rattle.std.specs.declared.option.Option.TheVariants.{None, Some}
+use Rattle.std.specs.declared.option.Option.TheVariants.{Some}
 use Rattle.std.specs.declared.result.Result.TheVariants.{Ok, Err}
 use Rattle.outside.specs.Trace.{Call}
 use Rattle.outcome.specs.Meanings.{Meanings}
 use Rattle.store_api.specs.Content.{Content, SameContent}
 use Rattle.store_api.specs.Holdings.{Holdings}
-use Rattle.store_api.specs.Durables.{Durables, Records, mark_place}
+use Rattle.store_api.specs.Durables.{Durables, Records}
 use Rattle.store_session.specs.declared.session.Session.{Session}
 use Rattle.store_session.specs.declared.session.SyncError.{SyncError}
 use Rattle.outside.specs.declared.keeper.Keeper.{Ghosts as KeeperGhosts}

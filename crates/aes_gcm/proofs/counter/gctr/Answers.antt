@@ -1,4 +1,4 @@
-use Rattle.std.proofs.Common.{◌≡◌, ap, refl, ◌∙◌, arith, add-one}
+use Rattle.std.proofs.Common.{ap, refl, ◌∙◌, arith, add-one}
 use Rattle.aes_block.specs.KeyExpansion.{aes256}
 use Rattle.aes_gcm.specs.Gctr.{counter_block, inc32}
 use Rattle.aes_gcm.proofs.Streams.{gctr_all, gctr_more}

@@ -1,4 +1,4 @@
-use Rattle.std.proofs.Common.{List, ℕ, ap, ◌∙◌}
+use Rattle.std.proofs.Common.{ap, ◌∙◌}
 use Rattle.std.specs.Int.{w128, from_be_bytes}
 use Rattle.aes_gcm.specs.Gcm.{hash_subkey}
 use Rattle.aes_gcm.proofs.gcm.subkey_of.Goals as goal

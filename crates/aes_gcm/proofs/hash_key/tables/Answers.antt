@@ -1,4 +1,4 @@
-use Rattle.std.proofs.Common.{◌≡◌, ◌*◌, ◌∙◌, ap, refl, arith, length}
+use Rattle.std.proofs.Common.{◌∙◌, ap, refl, arith}
 use Rattle.std.proofs.lemmas.List.{length-set}
 use Rattle.aes_gcm.specs.Ghash.{next_v, v_at}
 use Rattle.aes_gcm.specs.Tables.{AreTables}

@@ -1,6 +1,5 @@
-use Rattle.std.proofs.Common.{◌≡◌, ℕ, ◌+◌, ◌-◌, ◌*◌, ◌/◌, ◌%◌, ◌^◌, ◌∙◌, ap, sym, refl, arith, slice_index}
+use Rattle.std.proofs.Common.{◌≡◌, ◌-◌, ◌*◌, ◌/◌, ◌%◌, ◌^◌, ◌∙◌, ap, refl, arith, slice_index}
 use Rattle.aes_gcm.specs.Ghash.{z_at}
-use Rattle.aes_gcm.specs.Tables.{AreTables}
 use Rattle.aes_gcm.proofs.Product.{be_byte, times_by_step}
 use Rattle.aes_gcm.proofs.hash_key.times_by.Goals as goal
 

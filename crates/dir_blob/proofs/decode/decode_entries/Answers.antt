@@ -4,7 +4,7 @@ use Rattle.std.proofs.lemmas.Bool.{eqb-false, eqb-true}
 use Rattle.std.proofs.lemmas.List.{map_push}
 use Rattle.dir_blob.specs.Layout.{entry_of, listing_of}
 use Rattle.dir_blob.specs.Reading.{entry_at, rises}
-use Rattle.dir_blob.proofs.Bodies.{Reads, reads_none, reads_next, reads_stuck, reads_unordered, reads_only, after_shorter}
+use Rattle.dir_blob.proofs.Bodies.{reads_next, reads_stuck, reads_unordered, reads_only, after_shorter}
 use Rattle.dir_blob.proofs.decode.decode_entries.Goals as goal
 
 pub returns-in-Ok-None-clause-only : goal.returns-in-Ok-None-clause-only

@@ -1,4 +1,4 @@
-use Rattle.std.proofs.Common.{ℕ, List, bit_xor, get_or, length, refl, arith}
+use Rattle.std.proofs.Common.{ℕ, List, bit_xor, get_or, arith}
 use Rattle.std.proofs.lemmas.List.{get_or_default}
 use Rattle.std.proofs.lemmas.List.Edits.{map_over_more}
 use Rattle.scrypt_kdf.proofs.hmac.padded.Goals as goal

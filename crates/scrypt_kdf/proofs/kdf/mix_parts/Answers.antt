@@ -17,11 +17,11 @@ loop-i-preserved c =
     let b : List ℕ = c.loop-i.b in
     let first : List ℕ = c.args.b.now in
     let whole : length first ≡ len * p =
-    c.requires.len ∙ (λ t. 128 * (sym c.r-r.ensures.value) t * (sym c.p-i-end.ensures.value) t) in
+    c.requires ∙ (λ t. 128 * (sym c.r-r.ensures.value) t * (sym c.p-i-end.ensures.value) t) in
     let same_length : length b ≡ len * p = c.loop-i.auto.b ∙ whole in
     let room : len * i + len ≤ len * p = part_room len i p c.loop-i-test.true in
     let now : c.ro_mix.new.x ≡ ro_mix r (part len first i) n =
-    c.ro_mix.ensures ∙ ap (λ (xs : List ℕ). ro_mix r (take (len * i + len - len * i) xs) n) c.loop-i.invariant.left in
+    c.in_ok-ro_mix.ensures ∙ ap (λ (xs : List ℕ). ro_mix r (take (len * i + len - len * i) xs) n) c.loop-i.invariant.left in
     let cut : len * i + len - len * i ≡ len = omega arith in
     let long : length c.ro_mix.new.x ≡ len =
     ap length now ∙ length-ro_mix r (part len first i) n (length-between first (len * i) (len * i + len) (omega arith) ∙ cut) in
@@ -46,7 +46,7 @@ returns c =
     let first : List ℕ = c.args.b.now in
     let p : ℕ = c.p-i-end.result in
     let whole : length first ≡ len * p =
-    c.requires.len ∙ (λ t. 128 * (sym c.r-r.ensures.value) t * (sym c.p-i-end.ensures.value) t) in
+    c.requires ∙ (λ t. 128 * (sym c.r-r.ensures.value) t * (sym c.p-i-end.ensures.value) t) in
     let same_length : length b ≡ len * p = c.loop-i.auto.b ∙ whole in
     let done : c.loop-i.i ≡ p = omega (arith, c.loop-i.auto.i-end) in
     let count = done ∙ c.p-i-end.ensures.value in

@@ -11,5 +11,5 @@ returns-clause-derived c =
     let len : length c.as_mut_slice-b.result.now ≡ 128 * cost.r * cost.p =
     c.as_mut_slice-b.ensures.len ∙ c.in_ok-parts.ensures ∙ (λ t. 128 * c.r.ensures.value t * c.p.ensures.value t) in
     let parts = c.pbkdf2.ensures ∙ ap (pbkdf2 password c.args.salt.now) len in
-    let mixed = c.mix_parts.ensures ∙ ap (mixed_parts cost) parts in
+    let mixed = c.in_ok-mix_parts.ensures ∙ ap (mixed_parts cost) parts in
     c.pbkdf2-2.ensures ∙ (λ t. pbkdf2 password (mixed t) (c.fill.ensures.len t))

@@ -1,9 +1,9 @@
-use Rattle.std.proofs.Common.{◌≡◌, ℕ, ◌+◌, ◌-◌, ◌*◌, ◌<◌, ◌≤◌, List, [], ◌++◌, length, map, take, bit_xor, refl, sym, ap, ◌∙◌, arith}
+use Rattle.std.proofs.Common.{◌≡◌, ℕ, ◌+◌, ◌-◌, ◌*◌, List, [], ◌++◌, length, map, take, bit_xor, sym, ap, ◌∙◌, arith}
 use Rattle.std.proofs.lemmas.Grind.{div_ceil_times}
 use Rattle.std.proofs.lemmas.List.{append_assoc, take_all}
 use Rattle.std.specs.Int.{w32, to_be_bytes}
 use Rattle.sha2.specs.Sha256.{sha256}
-use Rattle.scrypt_kdf.specs.Hmac.{hmac_sha256, key_block}
+use Rattle.scrypt_kdf.specs.Hmac.{hmac_sha256}
 use Rattle.scrypt_kdf.specs.Pbkdf2.{block, blocks, pbkdf2}
 use Rattle.scrypt_kdf.proofs.Blocks.{part_put}
 use Rattle.scrypt_kdf.proofs.pbkdf.pbkdf2.Goals as goal

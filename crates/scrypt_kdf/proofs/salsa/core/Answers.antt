@@ -1,25 +1,20 @@
-use Rattle.std.proofs.Common.{◌≡◌, ℕ, List, length, refl, sym, ap, ◌∙◌}
-use Rattle.std.specs.Simd.Lanes.{zip2}
-use Rattle.scrypt_kdf.specs.Rows.{diagonals}
-use Rattle.scrypt_kdf.specs.Salsa.{add32, double_round, double_rounds}
-use Rattle.scrypt_kdf.proofs.Lengths.{length-double_round}
-use Rattle.scrypt_kdf.proofs.Sixteen.{sixteen}
+use Rattle.std.proofs.Common.{◌≡◌, ℕ, List, [], ◌∷◌, refl, sym, ap, ◌∙◌}
+use Rattle.scrypt_kdf.specs.Order.{on_diagonals, reordered}
+use Rattle.scrypt_kdf.specs.Rows.{diagonals, lanes, quarter, quarters}
+use Rattle.scrypt_kdf.specs.Salsa.{bytes_of, core, salsa20_8, word_at, words}
+use Rattle.scrypt_kdf.proofs.Lengths.{length-core}
+use Rattle.scrypt_kdf.proofs.Sixteen.{sixteen, sixty_four}
 use Rattle.scrypt_kdf.proofs.salsa.core.Goals as goal
 
 pub returns : goal.returns
-unfolding double_rounds
-returns c = λ w long same.
-    let w1 : List ℕ = double_round w in
-    let w2 : List ℕ = double_round w1 in
-    let w3 : List ℕ = double_round w2 in
-    let w4 : List ℕ = double_round w3 in
-    let n1 : length w1 ≡ 16 = length-double_round w ∙ long in
-    let n2 : length w2 ≡ 16 = length-double_round w1 ∙ n1 in
-    let n3 : length w3 ≡ 16 = length-double_round w2 ∙ n2 in
-    let n4 : length w4 ≡ 16 = length-double_round w3 ∙ n3 in
-    let e1 = c.double_round.ensures w long same in
-    let e2 = c.double_round-2.ensures w1 n1 e1 in
-    let e3 = c.double_round-3.ensures w2 n2 e2 in
-    let e4 = c.double_round-4.ensures w3 n3 e3 in
-    rw (c.sum.ensures, c.sum-2.ensures, c.sum-3.ensures, c.sum-4.ensures, e4, same)
-    (λ t. diagonals (zip2 add32 (sym (sixteen w4 n4) t) (sym (sixteen w long) t)))
+unfolding salsa20_8 reordered
+returns c = λ b long same.
+    let row : List ℕ → ℕ → List ℕ = λ x i. lanes (word_at (quarter (on_diagonals x) i)) in
+    let written = sixty_four b long in
+    let loaded = ap (λ (x : List ℕ). row x 0 ∷ row x 1 ∷ row x 2 ∷ row x 3 ∷ []) written ∙ sym (ap (λ (x : List ℕ). diagonals (words x)) written) in
+    let rows : c.words.result ∷ c.words-2.result ∷ c.words-3.result ∷ c.words-4.result ∷ [] ≡ diagonals (words b) =
+    rw (c.words.ensures, c.words-2.ensures, c.words-3.ensures, c.words-4.ensures, same) loaded in
+    let w : List ℕ = core (words b) in
+    let mixed = c.core_words.ensures (words b) refl rows in
+    rw (c.bytes.ensures, c.bytes-2.ensures, c.bytes-3.ensures, c.bytes-4.ensures, mixed)
+    (sym (ap (λ (x : List ℕ). quarters (on_diagonals (bytes_of x))) (sixteen w (length-core (words b)))))

@@ -1,4 +1,4 @@
-use Rattle.std.proofs.Common.{◌≡◌, ℕ, List, refl, sym, ap, ◌∙◌}
+use Rattle.std.proofs.Common.{ℕ, List, sym, ap}
 use Rattle.scrypt_kdf.specs.Rows.{diagonals}
 use Rattle.scrypt_kdf.specs.Salsa.{double_round}
 use Rattle.scrypt_kdf.proofs.Sixteen.{sixteen}

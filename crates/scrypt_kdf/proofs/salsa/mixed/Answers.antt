@@ -1,4 +1,4 @@
-use Rattle.std.proofs.Common.{◌≡◌, ℕ, [], ◌∷◌, slice_index, arith}
+use Rattle.std.proofs.Common.{ℕ, [], ◌∷◌, slice_index}
 use Rattle.scrypt_kdf.proofs.Lanes.{four, mixed_by_shifts}
 use Rattle.scrypt_kdf.proofs.salsa.mixed.Goals as goal
 

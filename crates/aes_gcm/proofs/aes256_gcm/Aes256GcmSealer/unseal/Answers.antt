@@ -20,6 +20,6 @@ returns c =
     let tag : c.copy_from_slice.new.self ≡ drop end sealed =
     c.copy_from_slice.ensures.after ∙ take_all (length sealed - end) (drop end sealed) (omega (arith, length-drop end sealed)) in
     let parts : opened (aes256 c.new-keys.result) (take 16 sealed) [] (slice_range sealed 16 end) c.copy_from_slice.new.self
-        ≡ opened (aes256 key) (take 16 sealed) [] (slice_range sealed 16 end) (drop end sealed) =
+    ≡ opened (aes256 key) (take 16 sealed) [] (slice_range sealed 16 end) (drop end sealed) =
     λ i. opened (aes256 (c.new-keys.ensures i)) (take 16 sealed) [] (slice_range sealed 16 end) (tag i) in
     subst P (parts ∙ sym (opened_of_long key sealed c.if-sealed.false)) c.gcm_unseal.ensures.plain

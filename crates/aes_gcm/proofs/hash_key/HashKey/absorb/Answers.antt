@@ -1,5 +1,4 @@
 use Rattle.std.proofs.Common.{◌≡◌, refl, ◌∙◌, ap, sym, arith}
-use Rattle.std.specs.Int.{div_ceil}
 use Rattle.std.proofs.Common.{bit_xor, length, ◌/◌}
 use Rattle.aes_gcm.specs.Gcm.{padded}
 use Rattle.aes_gcm.specs.Ghash.{hashed, times}

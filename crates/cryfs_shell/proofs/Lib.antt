@@ -1,0 +1,5 @@
+pub mod Cutting
+pub mod Flow
+pub mod Pieces
+pub mod Progress
+pub mod Serving

@@ -1,0 +1,75 @@
+-- Lines and the texts of their answers, the newest first.
+use Rattle.std.specs.Prelude.{◌≡◌, ◌⊎◌, ℕ, ◌+◌, ◌≤◌, ◌^◌, List, [], ◌∷◌, ◌++◌}
+use Rattle.std.specs.declared.option.Option.{Option}
+use Rattle.std.specs.declared.option.Option.TheVariants.{None, Some}
+use Rattle.outside.specs.Streams.{appends}
+use Rattle.outside.specs.Causes.{RoseBy}
+use Rattle.cryfs_shell.specs.Lines.{lines}
+use Rattle.cryfs_shell.specs.Reading.{total}
+use Rattle.cryfs_shell.specs.declared.serve.End.{End}
+use Rattle.cryfs_shell.specs.declared.serve.End.TheVariants.{Finished, InputFault, OutputFault}
+
+-- a line, and the text of its answer
+pub record Turn : Type 0 where
+  pub line : List ℕ
+  pub text : List ℕ
+
+-- these lines were answered by these texts, one after another
+abbrev pub Went : {S : Type 0} → (S → List ℕ → List ℕ → S → Type 0) → S → List Turn → S → Type 0
+Went answers old [] new = new ≡ old
+Went {S} answers old (turn ∷ turns) new = (mid : S) × Went answers old turns mid × answers mid turn.line turn.text new
+
+-- the lines, the oldest first
+abbrev pub lines_in : List Turn → List (List ℕ)
+lines_in [] = []
+lines_in (turn ∷ turns) = lines_in turns ++ turn.line ∷ []
+
+-- the texts, the oldest first
+abbrev pub texts_in : List Turn → List ℕ
+texts_in [] = []
+texts_in (turn ∷ turns) = texts_in turns ++ turn.text
+
+-- the bytes begin with these lines, where they are told
+abbrev pub BeginWith : Option (List ℕ) → List (List ℕ) → Type 0
+BeginWith None some = Unit {0}
+BeginWith (Some bytes) some = (more : List (List ℕ)) × (lines bytes ≡ some ++ more)
+
+-- the bytes are these lines, where they are told
+abbrev pub Are : Option (List ℕ) → List (List ℕ) → Type 0
+Are None all = Unit {0}
+Are (Some bytes) all = lines bytes ≡ all
+
+-- a part of the text from its front was written
+abbrev pub Cut : Option (List ℕ) → Option (List ℕ) → List ℕ → Type 0
+Cut old new text = (part : List ℕ) × (rest : List ℕ) × (text ≡ part ++ rest) × (new ≡ appends old part)
+
+-- all texts were written, the last of them perhaps in part
+abbrev pub CutLast : Option (List ℕ) → Option (List ℕ) → List Turn → Type 0
+CutLast old new [] = ⊥
+CutLast old new (turn ∷ turns) = Cut (appends old (texts_in turns)) new turn.text
+
+-- a stream before a call and after it: its bytes where they are told, and its count of faults
+pub record Stream : Type 0 where
+  pub old : Option (List ℕ)
+  pub new : Option (List ℕ)
+  pub faults : ℕ
+  pub risen : ℕ
+
+-- the count of faults rose
+abbrev pub Failed : Stream → Type 0
+Failed s = RoseBy 1 s.faults s.risen
+
+-- 2^63 bytes were taken, where they are told
+abbrev pub TookMost : ℕ → Stream → Type 0
+TookMost taken s = total (2 ^ 63) s.new ≡ total taken s.old
+
+-- what was answered and written, by the way in which it ended
+abbrev pub EndsAs : ℕ → Option (List ℕ) → Stream → Stream → List Turn → End → Type 0
+EndsAs taken coming input output turns Finished = Are coming (lines_in turns) × (output.new ≡ appends output.old (texts_in turns))
+EndsAs taken coming input output turns InputFault =
+    BeginWith coming (lines_in turns) × (output.new ≡ appends output.old (texts_in turns)) × (Failed input ⊎ TookMost taken input)
+EndsAs taken coming input output turns OutputFault = BeginWith coming (lines_in turns) × CutLast output.old output.new turns × Failed output
+
+-- there are turns which the session went through
+abbrev pub Served : {S : Type 0} → (S → List ℕ → List ℕ → S → Type 0) → S → S → ℕ → Option (List ℕ) → Stream → Stream → End → Type 0
+Served answers old new taken coming input output end = (turns : List Turn) × Went answers old turns new × EndsAs taken coming input output turns end

@@ -1,0 +1,84 @@
+// The lines of an input, each answered into an output before the next is taken.
+ghost use Rattle.std.specs.Prelude.{◌≡◌, ◌≤◌, ◌<◌, List, [], ◌∷◌, ℕ, true, false, length, OnOk, OnErr};
+ghost use Rattle.std.specs.declared.option.Option.{Option};
+ghost use Rattle.std.specs.declared.option.Option.TheVariants.{Some, None};
+ghost use Rattle.std.specs.Option.{option_copied};
+ghost use Rattle.outside.specs.Causes.{RoseBy};
+ghost use Rattle.outside.specs.Streams.{appends, Ends};
+ghost use Rattle.cryfs_shell.specs.Lines.{kept};
+ghost use Rattle.cryfs_shell.specs.Reading.{coming};
+ghost use Rattle.cryfs_shell.specs.Turns.{Cut, Served};
+
+use crate::reader::LineReader;
+use crate::text_buffer::TextBuffer;
+use block_id::Failed;
+use outside::{Sink, Source};
+use std::alloc::Global;
+
+/// How the lines ended.
+#[derive(Clone, Copy, Debug, PartialEq, Eq)]
+pub enum End {
+    /// All lines were answered.
+    Finished,
+    /// The source failed, or 2^63 bytes were taken.
+    InputFault,
+    /// The sink failed.
+    OutputFault,
+}
+
+/// Answers lines, one after another.
+pub trait Session {
+    /// As it is, it answers this line by this text, and is so afterwards.
+    ghost answers: { Self → List ℕ → List ℕ → Self → Type 0 };
+
+    /// Sets the text of the answer to a line, or to a line that is too long to be kept.
+    fn answer(&mut self, alloc: Global, line: Option<&[u8]>, text: &mut TextBuffer)
+        ensures { (whole : List ℕ) → option_copied line.entry ≡ kept whole → answers self.old whole text.new self.new };
+}
+
+/// Writes a whole text.
+pub fn write_all<O: Sink>(output: &mut O, text: &[u8]) -> Result<(), Failed>
+    ensures ok { OnOk result (O.written output.new ≡ appends (O.written output.old) text.now) }
+    ensures err { OnErr result (Cut (O.written output.old) (O.written output.new) text.now) }
+    ensures grows { O.faults output.old ≤ O.faults output.new }
+    ensures cause { OnErr result (RoseBy 1 (O.faults output.old) (O.faults output.new)) }
+{
+    let mut rest = text;
+    while !rest.is_empty() {
+        match output.write(rest) {
+            Ok(n) => rest = &rest[n..],
+            Err(Failed) => return Err(Failed),
+        }
+    }
+    Ok(())
+}
+
+/// Answers each line before it takes the next.
+pub fn serve<I: Source, O: Sink, S: Session>(
+    alloc: Global,
+    session: &mut S,
+    reader: &mut LineReader,
+    text: &mut TextBuffer,
+    input: &mut I,
+    output: &mut O,
+) -> End
+    requires { reader.old.ended ≡ true → Ends (coming reader.old.ahead (I.rest input.old)) }
+    ensures served { Served S.answers session.old session.new reader.old.taken (coming reader.old.ahead (I.rest input.old))
+        (record { old = I.rest input.old; new = I.rest input.new; faults = I.faults input.old; risen = I.faults input.new })
+        (record { old = O.written output.old; new = O.written output.new; faults = O.faults output.old; risen = O.faults output.new }) result }
+    ensures input_grows { I.faults input.old ≤ I.faults input.new }
+    ensures output_grows { O.faults output.old ≤ O.faults output.new }
+{
+    loop {
+        match reader.next_line(input) {
+            Ok(true) => {}
+            Ok(false) => return End::Finished,
+            Err(Failed) => return End::InputFault,
+        }
+        session.answer(alloc, reader.line(), text);
+        match write_all(output, text.as_slice()) {
+            Ok(()) => {}
+            Err(Failed) => return End::OutputFault,
+        }
+    }
+}

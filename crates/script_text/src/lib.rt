@@ -1,0 +1,19 @@
+//! Commands and replies as text. A line is read by a grammar, and each refusal is the first one in its order.
+//! A reply prints as lines, which can be read in one way only.
+#![tactic(auto)]
+
+mod digits;
+mod error;
+mod escapes;
+mod grammar;
+mod numbers;
+mod print;
+#[cfg(test)]
+mod tests;
+mod verb;
+mod words;
+
+pub use error::LineError;
+pub use grammar::{MAX_LINE, parse_line};
+pub use numbers::number;
+pub use print::print_reply;
