@@ -45,7 +45,9 @@ impl Known {
 
     /// How many ids are used.
     pub fn len(&self) -> usize
-        ensures { result ≡ fin.len self.now.marks }
+        ensures len { result ≡ fin.len self.now.marks }
+        ensures bound { result < 2 ^ 63 }
+        ensures fits { FitMarks self.now.marks }
     {
         self.marks.len()
     }
@@ -93,7 +95,9 @@ impl Known {
         ensures err { OnErr result (self.new ≡ self.old) }
         ensures spare { self.old.spare ≤ self.new.spare + 1 }
         ensures no_room_taken { IsSome (mark_at self.old id.now.0) → self.old.spare ≤ self.new.spare }
+        ensures fits { FitMarks self.new.marks }
     {
+        // With its bytes read the id is known to have 16.
         let _bytes = id.0;
         match mark_of(&self.marks, id) {
             None => {
@@ -145,6 +149,7 @@ impl Known {
         ensures marks { IfSome (version_at self.old id.now.0) (λ version. self.new.marks
             ≡ fin.insert self.old.marks id.now.0 (record { version = version; live = false })) }
         ensures spare { self.old.spare ≤ self.new.spare }
+        ensures fits { FitMarks self.new.marks }
     {
         if let Some(mark) = mark_of(&self.marks, id) {
             change_mark(

@@ -15,3 +15,6 @@ pub use mark::Mark;
 pub use reading::decode;
 pub use state::{State, StateError, key_digest};
 pub use writing::encode;
+
+#[cfg(test)]
+mod tests;

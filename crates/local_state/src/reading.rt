@@ -11,7 +11,7 @@ ghost use Rattle.local_state.specs.Reading.{Gives, front_at, number_at, flag_at,
 use crate::known::Known;
 use crate::mark::Mark;
 use crate::state::{State, StateError};
-use crate::writing::MAGIC;
+use crate::writing::{MAGIC, MARK_LEN};
 use block_id::BlockId;
 use outside::{Change, FileName, Pending};
 use std::alloc::Global;
@@ -108,6 +108,7 @@ fn marks_of(alloc: Global, count: u64, bytes: &[u8]) -> Result<(Known, &[u8]), S
     ensures { Gives (λ x. (x.0.marks, x.1.now)) result (marks_at count zero_id fin.empty bytes.now) }
 {
     let mut known = Known::new(alloc);
+    known.reserve((bytes.len() / MARK_LEN).min(count as usize))?;
     let mut previous = BlockId([0; 16]);
     let mut rest = bytes;
     'marks: for _ in 0..count {

@@ -18,7 +18,7 @@ pub(crate) const MAGIC: [u8; 19] = *b"cryfs.localstate;1\0";
 
 const HEAD_LEN: usize = 104;
 
-const MARK_LEN: usize = 25;
+pub(crate) const MARK_LEN: usize = 25;
 
 const COUNT_LEN: usize = 8;
 
