@@ -1,5 +1,5 @@
 -- What the grammar says of a line.
-use Rattle.std.proofs.Common.{◌≡◌, ℕ, ◌+◌, ◌-◌, ◌^◌, ◌<◌, ◌≤◌, Bool, true, false, cond, not, List, [], ◌∷◌, length, get_or, take, drop, Option, Some, None, Result, Ok, Err, refl, sym, ap, ◌∙◌, arith, ◌⊎◌, inl, inr, nat_lt}
+use Rattle.std.proofs.Common.{◌≡◌, ℕ, ◌+◌, ◌-◌, ◌^◌, ◌<◌, ◌≤◌, Bool, true, false, cond, List, [], ◌∷◌, length, get_or, take, drop, Option, Some, None, Result, Ok, Err, refl, sym, ap, ◌∙◌, arith, inl, inr, nat_lt}
 use Rattle.std.specs.Prelude.{IfOk, nat_le}
 use Rattle.std.specs.List.{list_any, list_all}
 use Rattle.std.specs.Char.{digit_value}
@@ -19,7 +19,7 @@ use Rattle.fs_model.specs.declared.limits.TheConstants.{MAX_TARGET}
 use Rattle.script_text.specs.declared.verb.Verb.{Verb}
 use Rattle.script_text.specs.declared.verb.Verb.TheVariants as verb
 use Rattle.script_text.specs.declared.grammar.TheConstants.{MAX_LINE}
-use Rattle.script_text.specs.Words.{words, is_empty, front, one, two, three}
+use Rattle.script_text.specs.Words.{words, is_empty, front, two, three}
 use Rattle.script_text.specs.Numbers.{is_digit_in, number_in, is_number_in, number_of, id_of, mode_of, time_of}
 use Rattle.script_text.specs.Escapes.{unescaped, with_byte, escape_of, bytes_of}
 use Rattle.script_text.specs.Grammar.{◌>>=◌, formed, path, target, verb_of, only_path, with_path, mv, symlink, write, read, truncate, chmod, chown, utime, sync, sentence, command_in, command_of}

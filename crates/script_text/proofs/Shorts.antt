@@ -1,5 +1,5 @@
 -- The short texts.
-use Rattle.std.proofs.Common.{◌≡◌, ℕ, ◌≤◌, length, refl, lit≤}
+use Rattle.std.proofs.Common.{◌≡◌, ◌≤◌, length, refl, lit≤}
 use Rattle.fs_model.specs.declared.error.FsError.{FsError}
 use Rattle.fs_model.specs.declared.error.FsError.TheVariants.{NoEntry, Exists, NotDirectory, IsDirectory, NotEmpty, Invalid, Busy, NameTooLong, TooLarge, NotLink, BadLine}
 use Rattle.fs_model.specs.declared.reply.Reply.TheVariants.{Done, Error}

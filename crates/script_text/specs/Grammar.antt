@@ -1,5 +1,5 @@
 -- The command that a line says.
-use Rattle.std.specs.Prelude.{ℕ, ◌^◌, Bool, cond, codes, nat_lt, List, [], ◌∷◌, length, Option, Some, None, Result, Ok, Err}
+use Rattle.std.specs.Prelude.{ℕ, cond, codes, nat_lt, List, [], length, Option, Some, None, Result, Ok, Err}
 use Rattle.std.specs.List.{list_any, find}
 use Rattle.std.specs.Str.{bytes_eq}
 use Rattle.fs_model.specs.declared.command.Command.{Command}
@@ -7,7 +7,7 @@ use Rattle.fs_model.specs.declared.command.Command.TheVariants as made
 use Rattle.fs_model.specs.declared.error.FsError.{FsError}
 use Rattle.fs_model.specs.declared.error.FsError.TheVariants.{Invalid, NameTooLong, BadLine}
 use Rattle.fs_model.specs.declared.error.PathError.{PathError}
-use Rattle.fs_model.specs.declared.error.PathError.TheVariants.{Form, Dot, LongName, LongPath, Memory}
+use Rattle.fs_model.specs.declared.error.PathError.TheVariants.{LongName, LongPath}
 use Rattle.fs_model.specs.declared.limits.TheConstants.{MAX_TARGET}
 use Rattle.fs_model.specs.PathTexts.{path_of, is_zero}
 use Rattle.script_text.specs.declared.verb.Verb.{Verb}

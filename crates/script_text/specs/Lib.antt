@@ -1,7 +1,9 @@
 pub mod Words
 pub mod Numbers
 pub mod Escapes
+pub mod Forms
 pub mod Grammar
 pub mod Answers
 pub mod Texts
 pub mod Appending
+pub mod Shown

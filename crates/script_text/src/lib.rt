@@ -6,6 +6,7 @@ mod digits;
 mod error;
 mod escapes;
 mod grammar;
+mod law;
 mod numbers;
 mod print;
 #[cfg(test)]
@@ -15,5 +16,6 @@ mod words;
 
 pub use error::LineError;
 pub use grammar::{MAX_LINE, parse_line};
+pub use law::{bad_lines_have_no_form, texts_have_one_reading};
 pub use numbers::number;
 pub use print::print_reply;

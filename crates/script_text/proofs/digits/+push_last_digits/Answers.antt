@@ -1,5 +1,5 @@
-use Rattle.std.proofs.Common.{rules, arith}
-use Rattle.script_text.proofs.Appended.{then_all, stopped}
+use Rattle.std.proofs.Common.{arith}
+use Rattle.script_text.proofs.Appended.{then_all}
 use Rattle.script_text.proofs.Numerals.{last_digits_step}
 use Rattle.script_text.proofs.digits.+push_last_digits.Goals as goal
 

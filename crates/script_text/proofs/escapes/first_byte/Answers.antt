@@ -1,4 +1,4 @@
-use Rattle.std.proofs.Common.{arith, sym}
+use Rattle.std.proofs.Common.{arith}
 use Rattle.std.proofs.Common.{length-take, length-drop}
 use Rattle.script_text.proofs.Spelled.{unescaped_plain, unescaped_cut, unescaped_no_x, unescaped_byte}
 use Rattle.script_text.proofs.escapes.first_byte.Goals as goal
