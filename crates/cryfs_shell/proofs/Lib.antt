@@ -1,5 +1,9 @@
+pub mod Counting
 pub mod Cutting
 pub mod Flow
 pub mod Pieces
 pub mod Progress
 pub mod Serving
+pub mod Steps
+pub mod Tried
+pub mod Trying

@@ -25,8 +25,8 @@ slice_front items start end n h k l =
     let e : start + n - start ≡ n = omega arith in
     ap (λ i. take i (drop start items)) e ∙ take_less (drop start items) n (end - start) l
   where
-  take_less : (xs : List ℕ) (n m : ℕ) → n ≤ m → take n xs ≡ take n (take m xs)
-  take_less xs n m h = grind (arith, common_steps)
+    take_less : (xs : List ℕ) (n m : ℕ) → n ≤ m → take n xs ≡ take n (take m xs)
+    take_less xs n m h = grind (arith, common_steps)
 
 -- up to a newline
 pub piece_cut : (line now : Option (List ℕ)) (items : List ℕ) (start end n : ℕ) → start ≤ end → end ≤ length items
@@ -37,13 +37,15 @@ piece_cut line now items start end n h k e f =
     let slice = slice_range items start end in
     let cut : IsCut slice n = found slice n e in
     let l : length slice ≡ end - start = slice_length items start end h k in
-    let m : n < end - start = omega (arith, IsCut-lt slice n cut, l) in
-    (take n slice, cut.0,
+    let m : n < end - start = omega (arith, IsCut-lt slice n cut, l) in (
+      take n slice,
+      cut.0,
       cut.1 ∙ ap (λ (rest : List ℕ). take n slice ++ 10 ∷ rest) (slice_rest items start end n h (omega arith)),
-      f ∙ ap (kept_on line) (slice_front items start end n h k (omega arith)))
+      f ∙ ap (kept_on line) (slice_front items start end n h k (omega arith)),
+    )
   where
-  slice_length : (items : List ℕ) (start end : ℕ) → start ≤ end → end ≤ length items → length (slice_range items start end) ≡ end - start
-  slice_length items start end h k = grind (arith, common_steps)
+    slice_length : (items : List ℕ) (start end : ℕ) → start ≤ end → end ≤ length items → length (slice_range items start end) ≡ end - start
+    slice_length items start end h k = grind (arith, common_steps)
 
 -- all of them, where there is none
 pub piece_whole : (line now : Option (List ℕ)) (items : List ℕ) (start end : ℕ)
@@ -52,5 +54,5 @@ pub piece_whole : (line now : Option (List ℕ)) (items : List ℕ) (start end :
     → IsUnbroken (slice_range items start end) × (slice_range items end end ≡ []) × (now ≡ kept_on line (slice_range items start end))
 piece_whole line now items start end e f = (not_found (slice_range items start end) e, empty items end, f)
   where
-  empty : (items : List ℕ) (end : ℕ) → slice_range items end end ≡ []
-  empty items end = grind (arith, common_steps)
+    empty : (items : List ℕ) (end : ℕ) → slice_range items end end ≡ []
+    empty items end = grind (arith, common_steps)

@@ -18,33 +18,38 @@ pub record Part (all shown : Option (List ℕ)) (ahead : List ℕ) (rest : Optio
 pub Part-ahead : (all shown now : Option (List ℕ)) (ahead next : List ℕ) (rest new : Option (List ℕ)) (part : List ℕ)
     → Part all shown ahead rest part → now ≡ shown → coming next new ≡ coming ahead rest → Part all now next new part
 Part-ahead all shown now ahead next rest new part p e f = record {
-    shown_is = e ∙ p.shown_is;
-    unbroken = p.unbroken;
-    all_is = p.all_is ∙ (coming-append part ahead rest ∙ (ap (coming part) (sym f) ∙ sym (coming-append part next new))) }
+  shown_is = e ∙ p.shown_is;
+  unbroken = p.unbroken;
+  all_is = p.all_is ∙ (coming-append part ahead rest ∙ (ap (coming part) (sym f) ∙ sym (coming-append part next new)));
+}
 
 pub Part-more : (all shown now : Option (List ℕ)) (ahead : List ℕ) (rest : Option (List ℕ)) (part : List ℕ)
     → Part all shown ahead rest part → IsUnbroken ahead → now ≡ kept_on shown ahead → Part all now [] rest (part ++ ahead)
 Part-more all shown now ahead rest part p u e = record {
-    shown_is = e ∙ (ap (λ (s : Option (List ℕ)). kept_on s ahead) p.shown_is ∙ kept-append part ahead);
-    unbroken = IsUnbroken-append part ahead p.unbroken u;
-    all_is = p.all_is ∙ ap (λ l. coming l rest) (sym (append-nil (part ++ ahead))) }
+  shown_is = e ∙ (ap (λ (s : Option (List ℕ)). kept_on s ahead) p.shown_is ∙ kept-append part ahead);
+  unbroken = IsUnbroken-append part ahead p.unbroken u;
+  all_is = p.all_is ∙ ap (λ l. coming l rest) (sym (append-nil (part ++ ahead)));
+}
 
 pub took_cut : (all shown now : Option (List ℕ)) (ahead next more : List ℕ) (rest : Option (List ℕ)) (part : List ℕ)
     → Part all shown ahead rest part → IsUnbroken more → ahead ≡ more ++ 10 ∷ next → now ≡ kept_on shown more → TookLine all now (coming next rest)
-took_cut all shown now ahead next more rest part p u e f =
-    (part ++ more,
-      f ∙ (ap (λ (s : Option (List ℕ)). kept_on s more) p.shown_is ∙ kept-append part more),
-      subst (λ (a : Option (List ℕ)). Line a (part ++ more) (coming next rest))
-        (sym (p.all_is ∙ (ap (λ l. coming (part ++ l) rest) e ∙ ap (λ l. coming l rest) (sym (append_assoc part more (10 ∷ next))))))
-        (Line-cut (part ++ more) next rest (IsUnbroken-append part more p.unbroken u)))
+took_cut all shown now ahead next more rest part p u e f = (
+  part ++ more,
+  f ∙ (ap (λ (s : Option (List ℕ)). kept_on s more) p.shown_is ∙ kept-append part more),
+  subst (λ (a : Option (List ℕ)). Line a (part ++ more) (coming next rest))
+      (sym (p.all_is ∙ (ap (λ l. coming (part ++ l) rest) e ∙ ap (λ l. coming l rest) (sym (append_assoc part more (10 ∷ next))))))
+      (Line-cut (part ++ more) next rest (IsUnbroken-append part more p.unbroken u)),
+)
 
 pub took_last : (all shown : Option (List ℕ)) (ahead : List ℕ) (rest : Option (List ℕ)) (part : List ℕ)
     → Part all shown ahead rest part → 0 < length part → Ends (coming ahead rest) → TookLine all shown (coming ahead rest)
 took_last all shown ahead rest [] p h e = absurd (omega arith)
-took_last all shown ahead rest (byte ∷ line) p h e =
-    (byte ∷ line, p.shown_is,
-      subst (λ (a : Option (List ℕ)). Line a (byte ∷ line) (coming ahead rest)) (sym (p.all_is ∙ coming-append (byte ∷ line) ahead rest))
-        (Line-last byte line (coming ahead rest) p.unbroken e))
+took_last all shown ahead rest (byte ∷ line) p h e = (
+  byte ∷ line,
+  p.shown_is,
+  subst (λ (a : Option (List ℕ)). Line a (byte ∷ line) (coming ahead rest)) (sym (p.all_is ∙ coming-append (byte ∷ line) ahead rest))
+      (Line-last byte line (coming ahead rest) p.unbroken e),
+)
 
 pub at_true : (b : Bool) (P Q : Type 0) → b ≡ true → MatchBool b P Q → P
 at_true b P Q e m = subst (λ (b : Bool). MatchBool b P Q) e m

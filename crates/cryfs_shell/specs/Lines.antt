@@ -2,7 +2,7 @@
 use Rattle.std.specs.Prelude.{◌≡◌, ◌==◌, ℕ, ◌+◌, Bool, false, cond, nat_le, List, [], ◌∷◌, ◌++◌, length, take, drop}
 use Rattle.std.specs.declared.option.Option.{Option}
 use Rattle.std.specs.declared.option.Option.TheVariants.{None, Some}
-use Rattle.cryfs_shell.specs.declared.TheConstants.{MAX_LINE}
+use Rattle.script_text.specs.declared.grammar.TheConstants.{MAX_LINE}
 
 abbrev pub is_newline : ℕ → Bool
 is_newline byte = byte == 10

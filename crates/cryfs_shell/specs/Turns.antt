@@ -1,4 +1,4 @@
--- Lines and the texts of their answers, the newest first.
+-- Lines and the texts of their answers. The newest stands first.
 use Rattle.std.specs.Prelude.{◌≡◌, ◌⊎◌, ℕ, ◌+◌, ◌≤◌, ◌^◌, List, [], ◌∷◌, ◌++◌}
 use Rattle.std.specs.declared.option.Option.{Option}
 use Rattle.std.specs.declared.option.Option.TheVariants.{None, Some}
@@ -14,39 +14,47 @@ pub record Turn : Type 0 where
   pub line : List ℕ
   pub text : List ℕ
 
+abbrev pub turn_lines : List Turn → List (List ℕ)
+turn_lines [] = []
+turn_lines (turn ∷ turns) = turn.line ∷ turn_lines turns
+
+abbrev pub turn_texts : List Turn → List (List ℕ)
+turn_texts [] = []
+turn_texts (turn ∷ turns) = turn.text ∷ turn_texts turns
+
 -- these lines were answered by these texts, one after another
 abbrev pub Went : {S : Type 0} → (S → List ℕ → List ℕ → S → Type 0) → S → List Turn → S → Type 0
 Went answers old [] new = new ≡ old
 Went {S} answers old (turn ∷ turns) new = (mid : S) × Went answers old turns mid × answers mid turn.line turn.text new
 
--- the lines, the oldest first
-abbrev pub lines_in : List Turn → List (List ℕ)
-lines_in [] = []
-lines_in (turn ∷ turns) = lines_in turns ++ turn.line ∷ []
+-- the oldest first
+abbrev pub in_order : List (List ℕ) → List (List ℕ)
+in_order [] = []
+in_order (last ∷ rest) = in_order rest ++ last ∷ []
 
--- the texts, the oldest first
-abbrev pub texts_in : List Turn → List ℕ
-texts_in [] = []
-texts_in (turn ∷ turns) = texts_in turns ++ turn.text
+-- the texts in one, the oldest first
+abbrev pub joined : List (List ℕ) → List ℕ
+joined [] = []
+joined (last ∷ rest) = joined rest ++ last
 
 -- the bytes begin with these lines, where they are told
 abbrev pub BeginWith : Option (List ℕ) → List (List ℕ) → Type 0
 BeginWith None some = Unit {0}
-BeginWith (Some bytes) some = (more : List (List ℕ)) × (lines bytes ≡ some ++ more)
+BeginWith (Some bytes) some = (more : List (List ℕ)) × (lines bytes ≡ in_order some ++ more)
 
--- the bytes are these lines, where they are told
+-- these are all lines of the bytes, where they are told
 abbrev pub Are : Option (List ℕ) → List (List ℕ) → Type 0
 Are None all = Unit {0}
-Are (Some bytes) all = lines bytes ≡ all
+Are (Some bytes) all = lines bytes ≡ in_order all
 
 -- a part of the text from its front was written
 abbrev pub Cut : Option (List ℕ) → Option (List ℕ) → List ℕ → Type 0
 Cut old new text = (part : List ℕ) × (rest : List ℕ) × (text ≡ part ++ rest) × (new ≡ appends old part)
 
--- all texts were written, the last of them perhaps in part
-abbrev pub CutLast : Option (List ℕ) → Option (List ℕ) → List Turn → Type 0
+-- all texts were written, but of the last perhaps only a part from its front
+abbrev pub CutLast : Option (List ℕ) → Option (List ℕ) → List (List ℕ) → Type 0
 CutLast old new [] = ⊥
-CutLast old new (turn ∷ turns) = Cut (appends old (texts_in turns)) new turn.text
+CutLast old new (last ∷ rest) = Cut (appends old (joined rest)) new last
 
 -- a stream before a call and after it: its bytes where they are told, and its count of faults
 pub record Stream : Type 0 where
@@ -63,13 +71,13 @@ Failed s = RoseBy 1 s.faults s.risen
 abbrev pub TookMost : ℕ → Stream → Type 0
 TookMost taken s = total (2 ^ 63) s.new ≡ total taken s.old
 
--- what was answered and written, by the way in which it ended
-abbrev pub EndsAs : ℕ → Option (List ℕ) → Stream → Stream → List Turn → End → Type 0
-EndsAs taken coming input output turns Finished = Are coming (lines_in turns) × (output.new ≡ appends output.old (texts_in turns))
-EndsAs taken coming input output turns InputFault =
-    BeginWith coming (lines_in turns) × (output.new ≡ appends output.old (texts_in turns)) × (Failed input ⊎ TookMost taken input)
-EndsAs taken coming input output turns OutputFault = BeginWith coming (lines_in turns) × CutLast output.old output.new turns × Failed output
+-- which lines were answered and what was written, by the way in which it ended
+abbrev pub EndsAs : ℕ → Option (List ℕ) → Stream → Stream → List (List ℕ) → List (List ℕ) → End → Type 0
+EndsAs taken coming input output lines texts Finished = Are coming lines × (output.new ≡ appends output.old (joined texts))
+EndsAs taken coming input output lines texts InputFault = BeginWith coming lines × (output.new ≡ appends output.old (joined texts)) × (Failed input ⊎ TookMost taken input)
+EndsAs taken coming input output lines texts OutputFault = BeginWith coming lines × CutLast output.old output.new texts × Failed output
 
 -- there are turns which the session went through
 abbrev pub Served : {S : Type 0} → (S → List ℕ → List ℕ → S → Type 0) → S → S → ℕ → Option (List ℕ) → Stream → Stream → End → Type 0
-Served answers old new taken coming input output end = (turns : List Turn) × Went answers old turns new × EndsAs taken coming input output turns end
+Served answers old new taken coming input output end =
+    (turns : List Turn) × Went answers old turns new × EndsAs taken coming input output (turn_lines turns) (turn_texts turns) end

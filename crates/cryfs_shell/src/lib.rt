@@ -2,9 +2,15 @@
 #![tactic(auto)]
 
 mod line_buffer;
+mod program;
 mod reader;
 mod serve;
+mod status;
+mod summary;
 mod text_buffer;
+mod trial;
+mod words;
 
-/// Bytes of a script line or a password line without its newline.
-pub const MAX_LINE: usize = 1_048_576;
+pub use program::run;
+pub use script_text::MAX_LINE;
+pub use status::Status;

@@ -5,8 +5,8 @@ ghost use Rattle.std.specs.declared.option.Option.{Option};
 ghost use Rattle.std.specs.declared.option.Option.TheVariants.{None, Some};
 ghost use Rattle.cryfs_shell.specs.Lines.{kept_on};
 
-use crate::MAX_LINE;
 use block_id::Memory;
+use script_text::MAX_LINE;
 use std::alloc::Global;
 use std::marker::Model;
 

@@ -1,7 +1,10 @@
 // The text of an answer.
-ghost use Rattle.std.specs.Prelude.{◌≡◌, ◌≤◌, ℕ, List, [], length, IfOk, vec_capacity};
+ghost use Rattle.std.specs.Prelude.{◌≡◌, ◌≤◌, ℕ, List, [], length, IfOk, OnOk, OnErr, ◌<◌, vec_capacity};
+ghost use Rattle.script_text.specs.Texts.{text_of};
 
 use block_id::Memory;
+use fs_model::Reply;
+use script_text::print_reply;
 use std::alloc::Global;
 use std::marker::Model;
 
@@ -42,6 +45,15 @@ impl TextBuffer {
             Ok(()) => {}
             Err(_) => unreachable!(),
         }
+    }
+
+    /// Sets the text of a reply. Memory comes only for a text of more than 256 bytes.
+    pub fn print(&mut self, reply: &Reply) -> Result<(), Memory>
+        ensures ok { OnOk result (self.new ≡ text_of reply.now) }
+        ensures memory { OnErr result (256 < length (text_of reply.now)) }
+    {
+        self.bytes.clear();
+        print_reply(reply, &mut self.bytes)
     }
 
     /// The text.

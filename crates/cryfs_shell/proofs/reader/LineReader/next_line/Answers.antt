@@ -10,11 +10,12 @@ part_of_taken : (all : Option (List ℕ)) (old new : Reading) (rest : Option (Li
     → IsUnbroken old.ahead → new.ahead ≡ [] → new.line ≡ kept_on old.line old.ahead → new.taken ≡ old.taken → 0 < length old.ahead
     → length part + remaining old ≤ n
     → (part : List ℕ) × Part all new.line new.ahead rest part × (0 < length part) × (length part + remaining new ≤ n)
-part_of_taken all old new rest part n p u e f t l m =
-    (part ++ old.ahead,
-      subst (λ (ahead : List ℕ). Part all new.line ahead rest (part ++ old.ahead)) (sym e) (Part-more all old.line new.line old.ahead rest part p u f),
-      omega (arith, length-append part old.ahead),
-      omega (arith, length-append part old.ahead, ap (λ (l : List ℕ). length l) e))
+part_of_taken all old new rest part n p u e f t l m = (
+  part ++ old.ahead,
+  subst (λ (ahead : List ℕ). Part all new.line ahead rest (part ++ old.ahead)) (sym e) (Part-more all old.line new.line old.ahead rest part p u f),
+  omega (arith, length-append part old.ahead),
+  omega (arith, length-append part old.ahead, ap (λ (l : List ℕ). length l) e),
+)
 
 pub returns-then-take_piece-clause-line : goal.returns-then-take_piece-clause-line
 returns-then-take_piece-clause-line g c = λ t.
@@ -32,10 +33,11 @@ loop-self-preserved g c =
     let m = c.if-take_piece.ensures.piece in
     record {
       part = part_of_taken _ c.look_ahead.new.self c.take_piece.new.self _ i.0 _ p m.0 m.1 m.2 c.take_piece.ensures.taken
-        (at_true _ _ _ c.if-branch.true a.some) (omega (arith, i.3, a.stays));
+          (at_true _ _ _ c.if-branch.true a.some) (omega (arith, i.3, a.stays));
       ended = λ e. Ends-less _ _ _ m.1 (a.ended (sym c.take_piece.ensures.ended ∙ e));
       counted = ap (λ n. total n (g.I.Source.rest c.look_ahead.new.input)) c.take_piece.ensures.taken ∙ (a.counted ∙ c.loop-self.invariant.counted);
-      grows = omega (arith, c.loop-self.invariant.grows, a.grows) }
+      grows = omega (arith, c.loop-self.invariant.grows, a.grows);
+    }
 
 pub returns-clause-line : goal.returns-clause-line
 returns-clause-line g c = λ t.

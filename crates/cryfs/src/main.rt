@@ -1,0 +1,65 @@
+//! The program: its words and the real streams.
+#![tactic(auto)]
+
+mod reader_source;
+mod writer_sink;
+
+use cryfs_shell::{Status, run};
+use fs_model::Moment;
+use std::env;
+use std::io::{self, ErrorKind};
+use std::process::ExitCode;
+use std::time::{SystemTime, UNIX_EPOCH};
+
+use crate::reader_source::ReaderSource;
+use crate::writer_sink::WriterSink;
+
+/// This moment, where the clock tells it.
+fn read_clock(rt: &HostRuntime) -> Option<Moment> {
+    let now = SystemTime::now(rt).ok()?;
+    let passed = now.duration_since(UNIX_EPOCH).ok()?;
+    Moment::new(passed.as_secs(), passed.subsec_nanos())
+}
+
+/// The words, the program's name first. Words that are no text are of no known form.
+fn read_words(rt: &HostRuntime) -> Result<Vec<String>, Status> {
+    let mut words = Vec::new(rt.alloc());
+    let all = match env::args(rt) {
+        Ok(all) => all,
+        Err(error) if error.kind() == ErrorKind::OutOfMemory => return Err(Status::Memory),
+        Err(_) => return Err(Status::Usage),
+    };
+    for word in all {
+        if words.push(word).is_err() {
+            return Err(Status::Memory);
+        }
+    }
+    Ok(words)
+}
+
+/// Runs the words after the block folder and the state folder, from standard input to standard output. A clock that
+/// can't be read is an input that failed.
+fn run_words(rt: &HostRuntime) -> Status {
+    let words = match read_words(rt) {
+        Ok(words) => words,
+        Err(status) => return status,
+    };
+    let [_program, _blocks, _state, rest @ ..] = words.as_slice() else {
+        return Status::Usage;
+    };
+    let Some(now) = read_clock(rt) else {
+        return Status::InputFault;
+    };
+    let mut input = ReaderSource::new(rt.reader());
+    let mut output = WriterSink::new(io::writer(rt));
+    run(rt.alloc(), rest, now, &mut input, &mut output)
+}
+
+fn main(rt: HostRuntime) -> ExitCode {
+    let status = run_words(&rt);
+    if status != Status::Done {
+        let text = status.text();
+        let _ = eprintln!(rt; "cryfs: {text}");
+    }
+    ExitCode::from(status.code())
+}
