@@ -74,6 +74,7 @@ module _ (t : Tree) (now : Instant) (pn : List ℕ) (pd : Path) (qn : List ℕ) 
       off_q : (s : Path) → n ∷ qd ≡ s ++ q → ⊥
       off_q [] e = not_q (cc)
       off_q (m ∷ s) e = omega (arith, ap length e, length-append s q)
+
       off_p : (s : Path) → n ∷ qd ≡ s ++ p → ⊥
       off_p [] e = not_p e
       off_p (m ∷ s) e = not_above p q can.above s qn (let tail : qd ≡ s ++ p = cc in ap (λ z. qn ∷ z) tail)

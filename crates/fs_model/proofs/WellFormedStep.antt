@@ -336,10 +336,10 @@ root_row_fits = record { content = refl; mode = lit≤ tt }
 -- the tree of the root alone
 pub empty_well_formed : IsWellFormed empty_tree
 empty_well_formed = record {
-    rooted = record {
-      root = insert_here empty [] root_row;
-      parents = λ n p there. let bad : false ≡ true = ap is_some (sym (empty_at n p)) ∙ there in cc;
-    };
-    rows = rows_insert empty (λ r x there. let bad : None ≡ Some x = sym (get-empty path_cmp r) ∙ there in cc) [] root_row root_row_fits;
-    directories = λ p. let size : directory_size empty_tree p ≡ 0 = ap map_size (no_names (children empty_tree p) (λ n. get-children empty_tree p n ∙ empty_at n p)) ∙ size-empty Row in omega arith;
+  rooted = record {
+    root = insert_here empty [] root_row;
+    parents = λ n p there. let bad : false ≡ true = ap is_some (sym (empty_at n p)) ∙ there in cc;
+  };
+  rows = rows_insert empty (λ r x there. let bad : None ≡ Some x = sym (get-empty path_cmp r) ∙ there in cc) [] root_row root_row_fits;
+  directories = λ p. let size : directory_size empty_tree p ≡ 0 = ap map_size (no_names (children empty_tree p) (λ n. get-children empty_tree p n ∙ empty_at n p)) ∙ size-empty Row in omega arith;
 }
