@@ -7,6 +7,8 @@ mod reader;
 mod serve;
 mod status;
 mod summary;
+#[cfg(test)]
+mod tests;
 mod text_buffer;
 mod trial;
 mod words;
