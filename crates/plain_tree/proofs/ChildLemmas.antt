@@ -1,22 +1,22 @@
 -- The children among lines.
-use Rattle.std.proofs.Common.{◌≡◌, ℕ, suc, ◌+◌, ◌-◌, ◌<◌, ◌≤◌, ◌++◌, length, take, drop, get_or, map, Bool, true, false, cond, T, List, [], ◌∷◌, refl, sym, ◌∙◌, ap, subst, arith}
+use Rattle.std.proofs.Common.{◌≡◌, ℕ, ◌+◌, ◌<◌, ◌≤◌, ◌++◌, length, take, drop, get_or, map, true, false, cond, List, [], ◌∷◌, refl, sym, ◌∙◌, ap, arith}
 use Rattle.std.specs.Prelude.{nat_lt}
-use Rattle.std.proofs.lemmas.List.{take_more, map-append, take_all, take-append-drop}
-use Rattle.std.proofs.lemmas.Bool.{lt-ltb, le-ltb}
-use Rattle.std.specs.FinMap.{entries, len, len-entries}
-use Rattle.fs_model.specs.declared.limits.TheConstants.{MAX_ENTRIES, ENTRY_SIZE}
-use Rattle.fs_model.specs.Tree.{Path, Row, upward, same_path, child_entries, entry_size, entries_size, children, directory_size}
+use Rattle.std.proofs.lemmas.List.{take_more, map-append, take-append-drop}
+use Rattle.std.proofs.lemmas.Bool.{lt-ltb}
+use Rattle.std.specs.FinMap.{entries, len-entries}
+use Rattle.fs_model.specs.declared.limits.TheConstants.{MAX_ENTRIES}
+use Rattle.fs_model.specs.Tree.{Path, Row, same_path, child_entries, entries_size, children, directory_size}
 use Rattle.fs_model.specs.Step.{list_row, has_child}
 use Rattle.fs_model.proofs.TreeLemmas.{children-sorted}
 use Rattle.plain_tree.specs.declared.line.Line.{Line}
-use Rattle.plain_tree.specs.Rows.{entry_of, line_row, rows, tree_of, IsFormed}
+use Rattle.plain_tree.specs.Rows.{entry_of, rows, tree_of, IsFormed}
 
 pub child-append : (p : Path) (xs ys : List (Path × Row)) → child_entries p (xs ++ ys) ≡ child_entries p xs ++ child_entries p ys
 child-append p [] ys = refl
 child-append p (([], row) ∷ xs) ys = child-append p xs ys
 child-append p ((n ∷ q, row) ∷ xs) ys = elim (same_path p q) as (λ b. cond b ((n, row) ∷ child_entries p (xs ++ ys)) (child_entries p (xs ++ ys)) ≡ cond b ((n, row) ∷ child_entries p xs) (child_entries p xs) ++ child_entries p ys) [
-    | true ↦ ap (λ zs. (n, row) ∷ zs) (child-append p xs ys)
-    | false ↦ child-append p xs ys
+  | true ↦ ap (λ zs. (n, row) ∷ zs) (child-append p xs ys)
+  | false ↦ child-append p xs ys
 ]
 
 size-append : (xs ys : List (List ℕ × Row)) → entries_size (xs ++ ys) ≡ entries_size xs + entries_size ys
@@ -53,7 +53,7 @@ size_more p ls i l lt is = sym (ap entries_size (below_more p ls i l lt is) ∙ 
 front_size : (p : Path) (ls : List Line) (i : ℕ) → entries_size (below p (take i ls)) ≤ entries_size (below p ls)
 front_size p ls i =
     let parts : below p ls ≡ below p (take i ls) ++ below p (drop i ls) =
-        ap (below p) (sym (take-append-drop i ls)) ∙ (ap (child_entries p) (map-append entry_of (take i ls) (drop i ls)) ∙ child-append p (map entry_of (take i ls)) (map entry_of (drop i ls))) in
+    ap (below p) (sym (take-append-drop i ls)) ∙ (ap (child_entries p) (map-append entry_of (take i ls) (drop i ls)) ∙ child-append p (map entry_of (take i ls)) (map entry_of (drop i ls))) in
     let size : entries_size (below p ls) ≡ entries_size (below p (take i ls)) + entries_size (below p (drop i ls)) = ap entries_size parts ∙ size-append (below p (take i ls)) (below p (drop i ls)) in
     omega arith
 

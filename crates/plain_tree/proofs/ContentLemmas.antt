@@ -1,5 +1,5 @@
 -- The content of a file after a write.
-use Rattle.std.proofs.Common.{◌≡◌, ℕ, ◌+◌, ◌-◌, ◌<◌, ◌≤◌, ◌++◌, min, max, length, take, drop, suc, zero, Bool, true, false, List, [], ◌∷◌, refl, sym, ◌∙◌, ap, arith, inl, inr}
+use Rattle.std.proofs.Common.{◌≡◌, ℕ, ◌+◌, ◌-◌, ◌<◌, ◌≤◌, ◌++◌, min, max, length, take, drop, suc, zero, false, List, [], ◌∷◌, sym, ◌∙◌, ap, arith}
 use Rattle.std.proofs.lemmas.List.{take_all, append-nil, take-replicate}
 use Rattle.std.proofs.lemmas.Bool.{or_parts, or_from, ltb-false, le-ltb}
 use Rattle.std.specs.Prelude.{replicate, nat_lt}
@@ -38,7 +38,7 @@ put_past old bytes from whole lt is =
     let filled : whole ≡ old ++ replicate (end - length old) 0 = is ∙ ap (λ xs. xs ++ replicate (end - length old) 0) (take_all end old (omega arith)) in
     let size : length whole ≡ end = ap length is ∙ length-resized old end in
     let front : take from whole ≡ resized old from =
-        ap (take from) filled ∙ (take_split from old (replicate (end - length old) 0) ∙ ap (λ zs. take from old ++ zs) (take-replicate (from - length old) (end - length old) 0 (omega arith))) in
+    ap (take from) filled ∙ (take_split from old (replicate (end - length old) 0) ∙ ap (λ zs. take from old ++ zs) (take-replicate (from - length old) (end - length old) 0 (omega arith))) in
     ap (λ xs. (xs ++ bytes) ++ drop end whole) front
     ∙ ap (λ ys. (resized old from ++ bytes) ++ ys) (drop_of_length-le whole (omega arith) ∙ sym (drop_of_length-le old (omega arith)))
 

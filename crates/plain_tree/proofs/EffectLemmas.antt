@@ -1,5 +1,5 @@
 -- What a step does where nothing refuses it.
-use Rattle.std.proofs.Common.{◌≡◌, ℕ, ◌+◌, ◌-◌, ◌<◌, ◌≤◌, length, take, get_or, map, max, suc, zero, Bool, true, false, cond, List, [], ◌∷◌, refl, sym, ◌∙◌, ap, subst, arith}
+use Rattle.std.proofs.Common.{◌≡◌, ℕ, ◌+◌, ◌<◌, ◌≤◌, length, get_or, map, max, suc, zero, false, cond, List, [], ◌∷◌, refl, sym, ◌∙◌, ap, subst, arith}
 use Rattle.std.specs.Prelude.{nat_lt, ◌==◌}
 use Rattle.std.proofs.lemmas.Bool.{le-ltb}
 use Rattle.std.proofs.Math.ListN.{set}
@@ -7,21 +7,19 @@ use Rattle.std.proofs.lemmas.List.{get_or_default}
 use Rattle.std.specs.List.{insert, remove}
 use Rattle.std.specs.FinMap as tree
 use Rattle.fs_model.specs.declared.attr.Attr.{Attr}
-use Rattle.fs_model.specs.declared.attr.Kind.{Kind}
-use Rattle.fs_model.specs.declared.attr.Kind.TheVariants.{Directory, File, Link}
+use Rattle.fs_model.specs.declared.attr.Kind.TheVariants.{Directory, File}
 use Rattle.fs_model.specs.declared.limits.TheConstants.{MAX_ENTRIES}
-use Rattle.fs_model.specs.declared.error.FsError.{FsError}
 use Rattle.fs_model.specs.declared.error.FsError.TheVariants.{Exists, Busy, NotEmpty, NotDirectory, IsDirectory, TooLarge}
 use Rattle.fs_model.specs.declared.reply.Reply.TheVariants.{Done, Error}
 use Rattle.fs_model.specs.Instant.{Instant}
 use Rattle.fs_model.specs.Tree.{Path, Row, Tree, upward, parent, last_name, is_root, is_directory, entry_size, directory_size, root_row}
-use Rattle.fs_model.specs.LookUp.{Seen, Found, Free, Bad, look}
+use Rattle.fs_model.specs.LookUp.{Found, look}
 use Rattle.fs_model.specs.Step.{Stepped, refused, done, unless_root, made, has_child, removed_directory, removed_file, attributes_set, written, truncated, on_file, is_too_long, with_content, overwritten, resized}
 use Rattle.plain_tree.specs.declared.line.Line.{Line}
 use Rattle.plain_tree.specs.declared.look.Sight.{Sight}
-use Rattle.plain_tree.specs.declared.look.Sight.TheVariants.{Root, At, Vacant, Wrong}
+use Rattle.plain_tree.specs.declared.look.Sight.TheVariants.{At, Vacant}
 use Rattle.plain_tree.specs.Rows.{entry_of, line_row, rows, tree_of, IsFormed}
-use Rattle.plain_tree.specs.Sights.{SightIs, IsLineAt, IsGapFor, IsSeen}
+use Rattle.plain_tree.specs.Sights.{SightIs}
 use Rattle.plain_tree.specs.Answers.{IsAnswer}
 use Rattle.plain_tree.proofs.EditLemmas.{IsTree, inserted, removed, replaced, stays, goes_on_to}
 
@@ -54,14 +52,14 @@ module _ (ls new : List Line) (p : Path) (formed : IsFormed ls) where
 
   pub made_new : (n : List ℕ) (q : Path) (i : ℕ) (l : Line) → p ≡ n ∷ q → SightIs ls p (Vacant i) → directory_size t q + entry_size n ≤ MAX_ENTRIES → upward l.path ≡ p → new ≡ insert ls i l
       → IsAnswer new Done (made t p (line_row l) (look t p))
-  made_new n q i l e sight fits is after = goes_on_to new (tree.insert t p (line_row l)) (made t p (line_row l) (look t p)) (inserted ls new p i l formed sight.1.named sight.0 is after)
+  made_new n q i l e sight fits is after = goes_on_to new (tree.insert t p (line_row l)) (made t p (line_row l) (look t p)) (inserted ls new p i l formed.sorted sight.1.named sight.0 is after)
       (ap (made t p (line_row l)) sight.1.seen
       ∙ ap (λ b. cond b (refused t TooLarge) (done (tree.insert t p (line_row l))))
-          (ap (λ z. nat_lt MAX_ENTRIES (directory_size t (parent z) + entry_size (last_name z))) e ∙ le-ltb MAX_ENTRIES (directory_size t q + entry_size n) fits))
+      (ap (λ z. nat_lt MAX_ENTRIES (directory_size t (parent z) + entry_size (last_name z))) e ∙ le-ltb MAX_ENTRIES (directory_size t q + entry_size n) fits))
 
   pub directory_gone : (i : ℕ) (d : Line) → SightIs ls p (At i) → (get_or ls i d).attr.kind ≡ Directory → has_child t p ≡ false → new ≡ remove ls i
       → IsAnswer new Done (unless_root t p (removed_directory t p (look t p)))
-  directory_gone i d sight kind bare after = goes_on_to new (tree.remove t p) (unless_root t p (removed_directory t p (look t p))) (removed ls new p i d formed (sight.1 d).named sight.0 after)
+  directory_gone i d sight kind bare after = goes_on_to new (tree.remove t p) (unless_root t p (removed_directory t p (look t p))) (removed ls new p i d formed.sorted (sight.1 d).named sight.0.in_range (sight.0.path d) after)
       (named_step t p (removed_directory t p (look t p)) (sight.1 d).named
       ∙ (ap (removed_directory t p) (sight.1 d).seen
       ∙ (ap (λ k. cond (is_directory k) (cond (has_child t p) (refused t NotEmpty) (done (tree.remove t p))) (refused t NotDirectory)) kind
@@ -69,7 +67,7 @@ module _ (ls new : List Line) (p : Path) (formed : IsFormed ls) where
 
   pub file_gone : (i : ℕ) (d : Line) → SightIs ls p (At i) → is_directory (get_or ls i d).attr.kind ≡ false → new ≡ remove ls i
       → IsAnswer new Done (unless_root t p (removed_file t p (look t p)))
-  file_gone i d sight kind after = goes_on_to new (tree.remove t p) (unless_root t p (removed_file t p (look t p))) (removed ls new p i d formed (sight.1 d).named sight.0 after)
+  file_gone i d sight kind after = goes_on_to new (tree.remove t p) (unless_root t p (removed_file t p (look t p))) (removed ls new p i d formed.sorted (sight.1 d).named sight.0.in_range (sight.0.path d) after)
       (named_step t p (removed_file t p (look t p)) (sight.1 d).named
       ∙ (ap (removed_file t p) (sight.1 d).seen
       ∙ ap (λ b. cond b (refused t IsDirectory) (done (tree.remove t p))) kind))
@@ -81,7 +79,7 @@ module _ (ls new : List Line) (p : Path) (formed : IsFormed ls) where
   path_at i x sight is = ap (λ z. upward z.path) is ∙ sight.0.path x
 
   next_at : (i : ℕ) (x l : Line) → SightIs ls p (At i) → x ≡ get_or ls i x → l.path ≡ x.path → new ≡ set ls i l → IsTree new (tree.insert t p (line_row l))
-  next_at i x l sight is same after = replaced ls new p i l x formed (sight.1 x).named sight.0 (ap upward same ∙ path_at i x sight is) after
+  next_at i x l sight is same after = replaced ls new p i l x formed.sorted (sight.1 x).named sight.0 (ap upward same ∙ path_at i x sight is) after
 
   pub attributes_done : (i : ℕ) (x l : Line) (change : Attr → Attr) → SightIs ls p (At i) → x ≡ get_or ls i x → l.path ≡ x.path → line_row l ≡ record { attr = change x.attr; bytes = x.bytes.items } → new ≡ set ls i l
       → IsAnswer new Done (unless_root t p (attributes_set t p change (look t p)))

@@ -1,12 +1,10 @@
 -- What a search finds, and what a look-up sees.
-use Rattle.std.proofs.Common.{◌≡◌, ℕ, suc, zero, ◌+◌, ◌-◌, ◌<◌, ◌≤◌, length, get_or, map, Bool, true, false, cond, T, List, [], ◌∷◌, refl, sym, ◌∙◌, ap, subst, arith, IfOk, IfErr, inl, inr}
+use Rattle.std.proofs.Common.{◌≡◌, ℕ, ◌+◌, ◌<◌, ◌≤◌, length, get_or, map, true, false, cond, T, List, [], ◌∷◌, sym, ◌∙◌, ap, subst, arith, IfOk, IfErr, inl, inr}
 use Rattle.std.proofs.lemmas.Bool.{cases_lt}
 use Rattle.std.proofs.lemmas.List.{length-map}
 use Rattle.std.proofs.lemmas.List.Sorted.{searchable_from_sorted}
 use Rattle.std.specs.List.Sorted.{IsBinarySearchResult, IsSearchInRange, IsSortedBy}
-use Rattle.std.specs.declared.cmp.Ordering.{Ordering}
-use Rattle.std.specs.declared.cmp.Ordering.TheVariants.{Less, Equal, Greater}
-use Rattle.std.specs.declared.option.Option.{Option}
+use Rattle.std.specs.declared.cmp.Ordering.TheVariants.{Less}
 use Rattle.std.specs.declared.option.Option.TheVariants.{None, Some}
 use Rattle.std.specs.declared.result.Result.{Result}
 use Rattle.std.specs.declared.result.Result.TheVariants.{Ok, Err}
@@ -14,9 +12,9 @@ use Rattle.std.specs.Ordering.{is_eq, is_lt}
 use Rattle.std.specs.FinMap.{get, find, is_sorted, get-from_entries}
 use Rattle.fs_model.specs.declared.error.FsError.{FsError}
 use Rattle.fs_model.specs.declared.error.FsError.TheVariants.{NoEntry, NotDirectory}
-use Rattle.fs_model.specs.Tree.{Path, Row, Tree, upward, path_cmp, root_row, is_root, is_directory, IsRooted, IsWellFormed}
+use Rattle.fs_model.specs.Tree.{Path, Row, upward, path_cmp, root_row, is_root, is_directory}
 use Rattle.fs_model.specs.LookUp.{Seen, Found, Free, Bad, look, goes_on}
-use Rattle.fs_model.proofs.TreeLemmas.{path_total, path_exact, right_T}
+use Rattle.fs_model.proofs.TreeLemmas.{path_total, path_exact}
 use Rattle.fs_model.proofs.LookUpLemmas.{look-walk, look-found}
 use Rattle.plain_tree.specs.declared.line.Line.{Line}
 use Rattle.plain_tree.specs.Rows.{entry_of, line_row, rows, tree_of, IsFormed}

@@ -30,12 +30,12 @@ no_lines ls e = subst IsFormed (sym e) (record { sorted = tt; well_formed = subs
 pub formed_after : (old new : List Line) (now : Instant) (c : Command) (r : Result Reply Memory) → IsFormed old → IsFitting c
     → IfOk r (λ reply. IsAnswer new reply (step (tree_of old) now c)) → OnErr r (rows new ≡ rows old) → IsFormed new
 formed_after old new now c (Ok reply) formed fits answer same = record {
-    sorted = answer.sorted;
-    well_formed = subst IsWellFormed (sym answer.tree) (well_formed-step (tree_of old) now c formed.well_formed fits);
+  sorted = answer.sorted;
+  well_formed = subst IsWellFormed (sym answer.tree) (well_formed-step (tree_of old) now c formed.well_formed fits);
 }
 formed_after old new now c (Err e) formed fits answer same = record {
-    sorted = subst (λ es. T (is_sorted path_cmp es)) (sym same) formed.sorted;
-    well_formed = subst IsWellFormed (sym (same_tree new old same)) formed.well_formed;
+  sorted = subst (λ es. T (is_sorted path_cmp es)) (sym same) formed.sorted;
+  well_formed = subst IsWellFormed (sym (same_tree new old same)) formed.well_formed;
 }
 
 pub kept_after : (old new : List Line) (t : Tree) (r : Result Reply Memory) → tree_of old ≡ t → OnErr r (rows new ≡ rows old) → OnErr r (tree_of new ≡ t)

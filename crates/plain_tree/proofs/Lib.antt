@@ -6,3 +6,7 @@ pub mod EditLemmas
 pub mod EffectLemmas
 pub mod ContentLemmas
 pub mod FormedLemmas
+pub mod PrefixLemmas
+pub mod PairLemmas
+pub mod MoveEffects
+pub mod MoveSteps

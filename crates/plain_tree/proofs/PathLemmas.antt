@@ -1,8 +1,8 @@
 -- Paths from their last names on.
-use Rattle.std.proofs.Common.{◌≡◌, ℕ, ◌+◌, ◌-◌, ◌<◌, ◌≤◌, ◌++◌, length, take, get_or, reverse, List, [], ◌∷◌, refl, sym, ◌∙◌, ap, arith, false}
+use Rattle.std.proofs.Common.{◌≡◌, ℕ, ◌+◌, ◌-◌, ◌<◌, length, take, get_or, List, [], ◌∷◌, refl, sym, ◌∙◌, ap, arith, false}
 use Rattle.std.proofs.lemmas.List.{take_more, reverse-append, length-reverse, take_all}
 use Rattle.std.specs.declared.cmp.Ordering.TheVariants.{Greater}
-use Rattle.fs_model.specs.Tree.{Path, upward, path_cmp, is_root}
+use Rattle.fs_model.specs.Tree.{Path, upward, parent, last_name, path_cmp, is_root}
 
 names_more : (ns : List (List ℕ)) (i : ℕ) (d : List ℕ) → i < length ns → upward (take (i + 1) ns) ≡ get_or ns i d ∷ upward (take i ns)
 names_more ns i d lt = ap upward (take_more ns i d lt) ∙ reverse-append (take i ns) (get_or ns i d ∷ [])
@@ -27,3 +27,13 @@ not_root ns h = let s = last_split ns h in ap is_root s.1
 
 pub last_at : (ns : List (List ℕ)) (d : List ℕ) → 0 < length ns → upward ns ≡ get_or ns (length ns - 1) d ∷ upward (take (length ns - 1) ns)
 last_at ns d h = ap upward (sym (take_all (length ns - 1 + 1) ns (omega arith))) ∙ names_more ns (length ns - 1) d (omega arith)
+
+pub parent_at : (ns : List (List ℕ)) → 0 < length ns → parent (upward ns) ≡ upward (take (length ns - 1) ns)
+parent_at ns h = ap parent (last_split ns h).1
+
+pub name_at : (ns : List (List ℕ)) (n : List ℕ) → 0 < length ns → n ≡ get_or ns (length ns - 1) n → last_name (upward ns) ≡ n
+name_at ns n h is = ap last_name (last_at ns n h) ∙ sym is
+
+pub some_names : (ns : List (List ℕ)) → is_root (upward ns) ≡ false → 0 < length ns
+some_names [] h = cc
+some_names (n ∷ ns) h = omega arith

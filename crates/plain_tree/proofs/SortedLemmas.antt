@@ -1,18 +1,17 @@
 -- Rows in the order of their paths: finding, placing and removing one.
-use Rattle.std.proofs.Common.{◌≡◌, ℕ, suc, zero, ◌+◌, ◌-◌, ◌<◌, ◌≤◌, ◌++◌, length, take, drop, get_or, map, Bool, true, false, not, cond, ◌&&◌, T, List, [], ◌∷◌, refl, sym, ◌∙◌, ap, subst, arith, add-one}
+use Rattle.std.proofs.Common.{◌≡◌, ℕ, suc, zero, ◌+◌, ◌<◌, ◌≤◌, length, get_or, map, false, not, cond, T, List, [], ◌∷◌, refl, sym, ◌∙◌, ap, subst, arith, add-one}
 use Rattle.std.proofs.lemmas.List.{length-map}
 use Rattle.std.proofs.Math.ListN.{set}
-use Rattle.std.specs.List.{insert, remove, filter}
+use Rattle.std.specs.List.{insert, remove}
 use Rattle.std.specs.declared.cmp.Ordering.{Ordering}
 use Rattle.std.specs.declared.cmp.Ordering.TheVariants.{Less, Equal, Greater}
-use Rattle.std.specs.declared.option.Option.{Option}
 use Rattle.std.specs.declared.option.Option.TheVariants.{None, Some}
 use Rattle.std.specs.Ordering.{is_eq, is_lt, ordering_reverse}
 use Rattle.std.specs.Cmp.{tied_itself}
 use Rattle.std.specs.FinMap.{find, is_sorted}
 use Rattle.std.specs.FinMap.Entries.{put, by_order, below_all, where_key}
 use Rattle.fs_model.specs.Tree.{Path, Row, upward, path_cmp, same_path}
-use Rattle.fs_model.proofs.TreeLemmas.{path_total, path_same, apart, left_T, right_T}
+use Rattle.fs_model.proofs.TreeLemmas.{path_total, path_same, left_T, right_T}
 use Rattle.plain_tree.specs.declared.line.Line.{Line}
 use Rattle.plain_tree.specs.Rows.{entry_of, line_row}
 

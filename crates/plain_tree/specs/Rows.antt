@@ -1,9 +1,7 @@
 -- The tree that a list of lines is.
-use Rattle.std.specs.Prelude.{◌≡◌, ℕ, ◌<◌, ◌≤◌, List, [], ◌∷◌, map, T, insert, slice_index_or, false}
-use Rattle.std.specs.FinMap.{get, find, from_entries, is_sorted}
-use Rattle.std.specs.FinMap.Entries.{put}
-use Rattle.std.specs.declared.option.Option.TheVariants.{None, Some}
-use Rattle.fs_model.specs.Tree.{Path, Row, Tree, upward, path_cmp, root_row, is_root, IsWellFormed}
+use Rattle.std.specs.Prelude.{List, [], ◌∷◌, map, T}
+use Rattle.std.specs.FinMap.{from_entries, is_sorted}
+use Rattle.fs_model.specs.Tree.{Path, Row, Tree, upward, path_cmp, root_row, IsWellFormed}
 use Rattle.plain_tree.specs.declared.line.Line.{Line}
 
 abbrev pub line_row : Line → Row

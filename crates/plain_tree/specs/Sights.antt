@@ -1,12 +1,12 @@
 -- What a look-up among lines answers.
-use Rattle.std.specs.Prelude.{◌≡◌, ℕ, ◌<◌, ◌≤◌, List, [], ◌∷◌, map, length, insert, slice_index_or, false}
-use Rattle.std.specs.FinMap.{get, find}
+use Rattle.std.specs.Prelude.{◌≡◌, ℕ, ◌<◌, ◌≤◌, List, [], map, length, insert, slice_index_or, false}
+use Rattle.std.specs.FinMap.{find}
 use Rattle.std.specs.FinMap.Entries.{put}
 use Rattle.std.specs.declared.option.Option.{Option}
 use Rattle.std.specs.declared.option.Option.TheVariants.{None, Some}
 use Rattle.fs_model.specs.declared.error.FsError.{FsError}
 use Rattle.fs_model.specs.declared.error.FsError.TheVariants.{NoEntry}
-use Rattle.fs_model.specs.Tree.{Path, Row, upward, path_cmp, is_root}
+use Rattle.fs_model.specs.Tree.{Path, upward, path_cmp, is_root}
 use Rattle.fs_model.specs.LookUp.{Seen, Found, Free, Bad, look}
 use Rattle.plain_tree.specs.declared.line.Line.{Line}
 use Rattle.plain_tree.specs.declared.look.Sight.{Sight}

@@ -72,7 +72,13 @@ fn is_too_long(old: u64, new: u64) -> bool
 }
 
 /// Writes the bytes from `from` on.
-pub fn write(lines: &mut Vec<Line>, path: &Path, from: u64, bytes: &[u8], now: Moment) -> Result<Reply, Memory>
+pub fn write(
+    lines: &mut Vec<Line>,
+    path: &Path,
+    from: u64,
+    bytes: &[u8],
+    now: Moment,
+) -> Result<Reply, Memory>
     requires { IsFormed lines.old.items }
     ensures ok { IfOk result (λ reply. IsAnswer lines.new.items reply (step.written (tree_of lines.old.items) now (upward path.now) from bytes.now (look (tree_of lines.old.items) (upward path.now)))) }
     ensures err { OnErr result (rows lines.new.items ≡ rows lines.old.items) }

@@ -7,7 +7,10 @@ mod edit;
 mod find;
 mod line;
 mod look;
+mod moves;
+mod prefix;
 mod read;
+mod rebuild;
 mod tree;
 
 pub use block_id::Memory;

@@ -11,6 +11,7 @@ ghost use Rattle.plain_tree.specs.Answers.{IsAnswer};
 use crate::change::{AttrChange, set_attributes, truncate, write};
 use crate::edit::{make, new_attr, remove_directory, remove_file};
 use crate::line::Line;
+use crate::moves::move_rows;
 use crate::read::{list, read, read_link, stat};
 use block_id::Memory;
 use fs_model::{
@@ -74,7 +75,7 @@ fn step_lines(lines: &mut Vec<Line>, now: Moment, command: &Command) -> Result<R
         Command::Symlink(target, path) => make_link(lines, target, path, now),
         Command::Rmdir(path) => Ok(remove_directory(lines, path)),
         Command::Rm(path) => Ok(remove_file(lines, path)),
-        Command::Mv(_, _) => unreachable!(),
+        Command::Mv(from, to) => move_rows(lines, from, to, now),
         Command::Write(path, from, bytes) => write(lines, path, *from, bytes.as_slice(), now),
         Command::Truncate(path, len) => truncate(lines, path, *len, now),
         Command::Chmod(path, mode) => Ok(set_attributes(lines, path, AttrChange::Mode(*mode), now)),
@@ -95,7 +96,13 @@ fn step_lines(lines: &mut Vec<Line>, now: Moment, command: &Command) -> Result<R
 }
 
 /// A new row without bytes.
-fn make_row(lines: &mut Vec<Line>, path: &Path, kind: Kind, mode: u32, now: Moment) -> Result<Reply, Memory>
+fn make_row(
+    lines: &mut Vec<Line>,
+    path: &Path,
+    kind: Kind,
+    mode: u32,
+    now: Moment,
+) -> Result<Reply, Memory>
     requires { IsFormed lines.old.items }
     ensures ok { IfOk result (λ reply. IsAnswer lines.new.items reply (model.made (tree_of lines.old.items) (upward path.now) (model.new_row kind mode now []) (look (tree_of lines.old.items) (upward path.now)))) }
     ensures err { OnErr result (rows lines.new.items ≡ rows lines.old.items) }
@@ -105,7 +112,12 @@ fn make_row(lines: &mut Vec<Line>, path: &Path, kind: Kind, mode: u32, now: Mome
 }
 
 /// A new link.
-fn make_link(lines: &mut Vec<Line>, target: &ByteText, path: &Path, now: Moment) -> Result<Reply, Memory>
+fn make_link(
+    lines: &mut Vec<Line>,
+    target: &ByteText,
+    path: &Path,
+    now: Moment,
+) -> Result<Reply, Memory>
     requires { IsFormed lines.old.items }
     ensures ok { IfOk result (λ reply. IsAnswer lines.new.items reply (model.made (tree_of lines.old.items) (upward path.now) (model.new_row Link LINK_MODE now target.now) (look (tree_of lines.old.items) (upward path.now)))) }
     ensures err { OnErr result (rows lines.new.items ≡ rows lines.old.items) }

@@ -1,4 +1,4 @@
-use Rattle.std.proofs.Common.{◌≡◌, ◌+◌, ◌-◌, ◌++◌, length, take, drop, sym, ◌∙◌, ap, arith}
+use Rattle.std.proofs.Common.{◌≡◌, ◌+◌, ◌-◌, ◌++◌, length, take, drop, ◌∙◌, ap, arith}
 use Rattle.std.specs.Prelude.{replicate, vec_len}
 use Rattle.fs_model.specs.Step.{overwritten}
 use Rattle.plain_tree.proofs.ContentLemmas.{put_inside, put_past, written_back}

@@ -1,4 +1,4 @@
-use Rattle.std.proofs.Common.{◌≡◌, refl, sym, ◌∙◌, ap}
+use Rattle.std.proofs.Common.{refl, ap}
 use Rattle.fs_model.specs.Tree.{upward}
 use Rattle.plain_tree.specs.declared.look.Sight.TheVariants.{At}
 use Rattle.plain_tree.specs.Changes.{changed_by}

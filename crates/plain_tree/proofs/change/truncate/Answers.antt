@@ -1,7 +1,7 @@
-use Rattle.std.proofs.Common.{◌≡◌, [], refl, sym, ◌∙◌, ap, length, false, arith, take, ◌++◌, ◌-◌}
+use Rattle.std.proofs.Common.{◌≡◌, [], refl, sym, ◌∙◌, ap, length, arith, take, ◌++◌, ◌-◌}
 use Rattle.std.specs.Prelude.{replicate, vec_len}
 use Rattle.fs_model.specs.Tree.{upward}
-use Rattle.fs_model.specs.Step.{is_too_long, with_content, resized}
+use Rattle.fs_model.specs.Step.{is_too_long, with_content}
 use Rattle.plain_tree.specs.declared.look.Sight.TheVariants.{At}
 use Rattle.plain_tree.specs.Rows.{line_row}
 use Rattle.plain_tree.proofs.EffectLemmas.{sight_of, truncated_done, rows_kept}

@@ -1,7 +1,7 @@
 use Rattle.std.proofs.Common.{◌≡◌, [], refl, sym, ◌∙◌, ap, ◌+◌, length, max, false, arith}
-use Rattle.std.specs.Prelude.{◌==◌, vec_len}
+use Rattle.std.specs.Prelude.{vec_len}
 use Rattle.fs_model.specs.Tree.{upward}
-use Rattle.fs_model.specs.Step.{is_too_long, with_content, overwritten}
+use Rattle.fs_model.specs.Step.{is_too_long, with_content}
 use Rattle.plain_tree.specs.declared.look.Sight.TheVariants.{At}
 use Rattle.plain_tree.specs.Rows.{line_row}
 use Rattle.plain_tree.proofs.EffectLemmas.{sight_of, written_done, rows_kept, kind_at}
@@ -19,8 +19,8 @@ returns-clause-ok c =
     let len_is : vec_len z ≡ length z.items = omega (arith, z.ok) in
     let old : c.len-old.result ≡ length x.bytes.items = c.len-old.ensures ∙ (len_is ∙ ap (λ l. length l.bytes.items) (kind_at ls ls p c.requires c.in-At.i c.index-2.result.now x sight c.index-2.ensures hx)) in
     let short : is_too_long (length x.bytes.items) (max (length x.bytes.items) (c.args.from + length c.args.bytes.now)) ≡ false =
-        end_short (length x.bytes.items) c.args.from (length c.args.bytes.now) c.saturating_add-end.result c.max.result c.saturating_add-end.ensures (c.max.ensures ∙ ap (max c.saturating_add-end.result) old)
-        (ap (λ n. is_too_long n c.max.result) (sym old) ∙ (sym c.is_too_long.ensures ∙ c.if-is_too_long.false)) in
+    end_short (length x.bytes.items) c.args.from (length c.args.bytes.now) c.saturating_add-end.result c.max.result c.saturating_add-end.ensures (c.max.ensures ∙ ap (max c.saturating_add-end.result) old)
+    (ap (λ n. is_too_long n c.max.result) (sym old) ∙ (sym c.is_too_long.ensures ∙ c.if-is_too_long.false)) in
     written_done ls _ p c.requires c.args.now c.args.from c.args.bytes.now c.in-At.i x c.index.result.now
     (record { path = x.path; attr = (with_content (line_row x) c.args.now []).attr; bytes = c.overwrite.new.content })
     sight hx c.index.ensures c.in-File.is (sym c.is_empty.ensures ∙ c.if-is_empty.false) short refl

@@ -14,5 +14,5 @@ returns-else-same_names c =
     let s = last_split ns some in
     let p = upward c.args.parent.now in
     let f : same_path p (upward (take (length ns - 1) ns)) ≡ false =
-        ap (λ xs. same_path p (upward (take (length xs - 1) xs))) (sym v) ∙ (sym c.same_names.ensures ∙ c.if-same_names.false) in
+    ap (λ xs. same_path p (upward (take (length xs - 1) xs))) (sym v) ∙ (sym c.same_names.ensures ∙ c.if-same_names.false) in
     not_below p (upward (take (length ns - 1) ns)) (upward ns) s.0 (line_row c.args.line.now) s.1 f

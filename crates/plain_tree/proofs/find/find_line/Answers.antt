@@ -1,4 +1,4 @@
-use Rattle.std.proofs.Common.{rules, ap, ◌∙◌}
+use Rattle.std.proofs.Common.{rules}
 use Rattle.std.proofs.lemmas.Fn.{always_returns_same}
 use Rattle.fs_model.specs.Tree.{upward, path_cmp}
 use Rattle.plain_tree.proofs.FindLemmas.{searched_line, searched_gap, key_of}

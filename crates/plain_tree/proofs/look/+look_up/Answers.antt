@@ -1,7 +1,6 @@
-use Rattle.std.proofs.Common.{◌≡◌, ℕ, ◌<◌, ◌-◌, List, [], ◌∷◌, length, take, sym, ◌∙◌, ap, arith}
+use Rattle.std.proofs.Common.{◌<◌, ◌-◌, length, take, ap, arith}
 use Rattle.std.proofs.lemmas.Bool.Decides.{nat_tests}
 use Rattle.fs_model.specs.Tree.{upward, is_directory}
-use Rattle.plain_tree.specs.Rows.{line_row}
 use Rattle.plain_tree.proofs.PathLemmas.{last_split, not_root}
 use Rattle.plain_tree.proofs.FindLemmas.{seen_line, below_root, below_folder, below_other, below_free, below_bad}
 use Rattle.plain_tree.proofs.look.+look_up.Goals as goal
