@@ -1,10 +1,10 @@
 // Changes that aren't written yet, over a directory.
-ghost use Rattle.std.specs.Prelude.{◌≡◌, ◌⊎◌, ◌≤◌, ◌<◌, ◌+◌, ℕ, List, [], ◌∷◌, length, vec_len, vec_capacity, drop, true, false, IfOk, IfSome, IfNone, OnOk, OnErr, IsErrOf};
+ghost use Rattle.std.specs.Prelude.{◌≡◌, ◌⊎◌, ◌≤◌, ◌<◌, ◌+◌, [], length, vec_len, vec_capacity, drop, true, false, IfOk, IfSome, OnOk, OnErr, IsErrOf};
 ghost use Rattle.std.specs.declared.option.Option.{Option};
 ghost use Rattle.std.specs.declared.option.Option.TheVariants.{None, Some};
 ghost use Rattle.outside.specs.Causes.{HasCause};
-ghost use Rattle.outside.specs.Trace.{Call, got, adds};
-ghost use Rattle.outside.specs.Changes.{Changes, IsIncreasing, change_at, set_changes, cut};
+ghost use Rattle.outside.specs.Trace.{adds};
+ghost use Rattle.outside.specs.Changes.{Changes, IsIncreasing, change_at, set_changes};
 ghost use Rattle.outside.specs.View.{at_of, bytes_of, change_of, list_of, pending_of};
 ghost use Rattle.redo_vault.specs.Redo.{Gave, bytes_len, buffered_len};
 ghost use Rattle.redo_vault.specs.Writes.{call_for, after_writes, StopsAt};
