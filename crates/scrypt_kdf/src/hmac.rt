@@ -32,7 +32,8 @@ pub(crate) fn key_block(key: &[u8]) -> [u8; 64]
 {
     let mut block = [0u8; BLOCK_LEN];
     if key.len() > BLOCK_LEN {
-        block[..DIGEST_LEN].copy_from_slice(&Sha256::digest(key));
+        let hash = Sha256::digest(key);
+        block[..DIGEST_LEN].copy_from_slice(&hash);
     } else {
         block[..key.len()].copy_from_slice(key);
     }

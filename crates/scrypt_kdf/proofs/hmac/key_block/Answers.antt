@@ -11,7 +11,7 @@ unfolding key_block
 returns-then-key-gt-BLOCK_LEN c =
     let k = c.args.key.now in
     let short : short_key k ≡ sha256 k = ap (λ b. cond b (sha256 k) k) (lt-ltb 64 (length k) c.if-key-gt-BLOCK_LEN.true) in
-    ap (λ (xs : List ℕ). xs ++ replicate 32 0) (c.copy_from_slice.ensures.after ∙ c.digest.ensures)
+    ap (λ (xs : List ℕ). xs ++ replicate 32 0) (c.copy_from_slice.ensures.after ∙ c.digest-hash.ensures)
     ∙ ap (λ (n : ℕ). sha256 k ++ replicate (64 - n) 0) (sym (length-sha256 k))
     ∙ ap (λ (s : List ℕ). s ++ replicate (64 - length s) 0) (sym short)
 
