@@ -32,11 +32,7 @@ fn trial<'a>(input: &'a str, text: &'a str) -> Case<'a> {
 }
 
 /// What the case writes over pieces of so many bytes, and its status.
-fn outcome(
-    alloc: Global,
-    case: &Case<'_>,
-    piece: usize,
-) -> Result<(Vec<u8>, Status), AllocError> {
+fn outcome(alloc: Global, case: &Case<'_>, piece: usize) -> Result<(Vec<u8>, Status), AllocError> {
     let mut words = Vec::new(alloc);
     for word in case.words {
         words.push(String::from_str(alloc, word)?)?;
@@ -46,11 +42,7 @@ fn outcome(
         return Err(AllocError);
     };
     let step = piece.max(1);
-    let mut source = MemorySource::new(
-        case.input.to_vec(alloc)?,
-        step,
-        case.reads.to_vec(alloc)?,
-    );
+    let mut source = MemorySource::new(case.input.to_vec(alloc)?, step, case.reads.to_vec(alloc)?);
     let Ok(mut sink) = MemorySink::new(alloc, step, 65_536, case.writes.to_vec(alloc)?) else {
         return Err(AllocError);
     };
