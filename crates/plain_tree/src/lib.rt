@@ -11,6 +11,8 @@ mod moves;
 mod prefix;
 mod read;
 mod rebuild;
+#[cfg(test)]
+mod tests;
 mod tree;
 
 pub use block_id::Memory;
