@@ -63,6 +63,11 @@ Ends-less ahead next None e h = tt
 Ends-less [] next (Some rest) e h = ap (λ (l : List ℕ). l ++ rest) e ∙ h
 Ends-less (byte ∷ ahead) next (Some rest) e h = absurd (cc)
 
+pub Ends-rest : (ahead : List ℕ) (rest : Option (List ℕ)) → Ends (coming ahead rest) → Ends rest
+Ends-rest ahead None h = tt
+Ends-rest [] (Some rest) h = h
+Ends-rest (byte ∷ ahead) (Some rest) h = absurd (cc)
+
 pub at_not : (b : Bool) (P Q : Type 0) → IsTrue (not b) → MatchBool b P Q → Q
 at_not true P Q e m = absurd (cc)
 at_not false P Q e m = m

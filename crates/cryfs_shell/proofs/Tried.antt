@@ -16,7 +16,7 @@ use Rattle.cryfs_shell.proofs.Trying.{answers_line, Entries, went_entries}
 
 trial_of : (now : Instant) (input output : Stream) (entries : List Entry) (trees : List Tree) (end : End) → IsSession now empty_tree (exchanges entries) trees
     → EndsAs 0 input.old input output (lines_of entries) (texts_of entries) end → IsTrial now input output (status_of end) entries trees
-trial_of now input output entries trees Finished s e = record { replies = s; taken = e.0; written = e.1; cause = tt }
+trial_of now input output entries trees Finished s e = record { replies = s; taken = (e.0, e.1); written = e.2; cause = tt }
 trial_of now input output entries trees InputFault s e = record { replies = s; taken = e.0; written = e.1; cause = e.2 }
 trial_of now input output entries trees OutputFault s e = record { replies = s; taken = e.0; written = e.1; cause = e.2 }
 

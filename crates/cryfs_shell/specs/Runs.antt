@@ -3,7 +3,7 @@ use Rattle.std.specs.Prelude.{◌≡◌, ◌⊎◌, ℕ, List, [], ◌∷◌, le
 use Rattle.std.specs.declared.option.Option.{Option}
 use Rattle.fs_model.specs.Instant.{Instant}
 use Rattle.fs_model.specs.Tree.{Tree, empty_tree}
-use Rattle.outside.specs.Streams.{appends}
+use Rattle.outside.specs.Streams.{appends, Ends}
 use Rattle.workload.specs.Generated.{generated_of}
 use Rattle.cryfs_shell.specs.Trials.{Entry, Exchange, exchanges, lines_of, texts_of, IsSession}
 use Rattle.cryfs_shell.specs.Summaries.{summary_of, text_of_summary}
@@ -20,9 +20,9 @@ status_of Finished = Done
 status_of InputEnd = InputFault
 status_of OutputEnd = OutputFault
 
--- Done says that all lines of the input were answered; else they are the first
+-- Done says that the input was read to its end and all its lines were answered; else they are the first
 abbrev pub Taken : Stream → List (List ℕ) → Status → Type 0
-Taken input lines Done = Are input.old lines
+Taken input lines Done = Are input.old lines × Ends input.new
 Taken input lines status = BeginWith input.old lines
 
 -- the texts of the answers were written whole, but where the sink failed in the last

@@ -2,7 +2,7 @@
 use Rattle.std.specs.Prelude.{◌≡◌, ◌⊎◌, ℕ, ◌+◌, ◌≤◌, ◌^◌, List, [], ◌∷◌, ◌++◌}
 use Rattle.std.specs.declared.option.Option.{Option}
 use Rattle.std.specs.declared.option.Option.TheVariants.{None, Some}
-use Rattle.outside.specs.Streams.{appends}
+use Rattle.outside.specs.Streams.{appends, Ends}
 use Rattle.outside.specs.Causes.{RoseBy}
 use Rattle.cryfs_shell.specs.Lines.{lines}
 use Rattle.cryfs_shell.specs.Reading.{total}
@@ -73,7 +73,7 @@ TookMost taken s = total (2 ^ 63) s.new ≡ total taken s.old
 
 -- which lines were answered and what was written, by the way in which it ended
 abbrev pub EndsAs : ℕ → Option (List ℕ) → Stream → Stream → List (List ℕ) → List (List ℕ) → End → Type 0
-EndsAs taken coming input output lines texts Finished = Are coming lines × (output.new ≡ appends output.old (joined texts))
+EndsAs taken coming input output lines texts Finished = Are coming lines × Ends input.new × (output.new ≡ appends output.old (joined texts))
 EndsAs taken coming input output lines texts InputFault = BeginWith coming lines × (output.new ≡ appends output.old (joined texts)) × (Failed input ⊎ TookMost taken input)
 EndsAs taken coming input output lines texts OutputFault = BeginWith coming lines × CutLast output.old output.new texts × Failed output
 

@@ -161,6 +161,7 @@ impl LineReader {
         ensures line { IfOk result (λ found. IsTrue found →
             TookLine (coming self.old.ahead (I.rest input.old)) self.new.line (coming self.new.ahead (I.rest input.new))) }
         ensures none { IfOk result (λ found. found ≡ false → Ends (coming self.old.ahead (I.rest input.old))) }
+        ensures read { IfOk result (λ found. found ≡ false → Ends (I.rest input.new)) }
         ensures ended { IfOk result (λ found. self.new.ended ≡ true → Ends (coming self.new.ahead (I.rest input.new))) }
         ensures nearer { IfOk result (λ found. IsTrue found → remaining self.new < remaining self.old) }
         ensures counted { total self.new.taken (I.rest input.new) ≡ total self.old.taken (I.rest input.old) }

@@ -3,7 +3,7 @@ use Rattle.std.specs.declared.option.Option.{Option}
 use Rattle.outside.specs.Streams.{Ends}
 use Rattle.cryfs_shell.specs.Lines.{IsUnbroken, kept_on}
 use Rattle.cryfs_shell.specs.Reading.{Reading, coming, total, remaining}
-use Rattle.cryfs_shell.proofs.Progress.{Part, Part-ahead, Part-more, took_cut, took_last, at_true, at_false, at_not, Ends-less}
+use Rattle.cryfs_shell.proofs.Progress.{Part, Part-ahead, Part-more, took_cut, took_last, at_true, at_false, at_not, Ends-less, Ends-rest}
 use Rattle.cryfs_shell.proofs.reader.LineReader.next_line.Goals as goal
 
 part_of_taken : (all : Option (List ℕ)) (old new : Reading) (rest : Option (List ℕ)) (part : List ℕ) (n : ℕ) → Part all old.line old.ahead rest part
@@ -45,3 +45,6 @@ returns-clause-line g c = λ t.
     let a = c.in_ok-look_ahead.ensures in
     let p = Part-ahead _ _ _ _ _ _ _ i.0 i.1 a.line a.came in
     took_last _ _ _ _ i.0 p (at_not _ _ _ t i.2) (at_false _ _ _ c.if-branch.false a.some)
+
+pub returns-clause-read : goal.returns-clause-read
+returns-clause-read g c = λ f. Ends-rest _ _ (at_false _ _ _ c.if-branch.false c.in_ok-look_ahead.ensures.some)
