@@ -51,14 +51,6 @@ word_written key k first last step new n j len lt held ef el es en =
     ∙ ap (λ (l : List ℕ). key_words key n ++ l) (en ∙ ap (add_word first) es ∙ sym (λ i. add_word (w0 i) (key_step (n + 8) (w7 i))))
     ∙ sym (key_words_next key n)
 
-pub key_words_first : (key k : List ℕ) → length key ≡ 32 → length k ≡ 240 → ((j : ℕ) → j < 32 → slice_index k j ≡ slice_index key j)
-    → take 32 k ≡ key_words key 0
-unfolding key_words
-key_words_first key k lkey lk h =
-    let len : length (take 32 k) ≡ 32 = length-take-le 32 k (omega arith) in
-    fill_by_all (λ j. slice_index key j) (take 32 k) 32 0 len (λ j lt. get_or-take 32 k j 0 lt ∙ h j lt)
-    ∙ sym (fill_by_all (λ j. slice_index key j) key 32 0 lkey (λ j lt. refl))
-
 -- the power of x after n words
 pub power_next : (n p q : ℕ) → p ≡ x_power ((n + 7) / 8) → n % 8 ≡ 0 → q ≡ x_power (suc ((n + 7) / 8)) → q ≡ x_power ((n + 1 + 7) / 8)
 power_next n p q hp h hq =

@@ -2,4 +2,3 @@ pub mod SubByte
 pub mod Xor
 pub mod States
 pub mod Keys
-pub mod Blocks

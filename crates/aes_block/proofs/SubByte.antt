@@ -30,14 +30,3 @@ table_holds = refl
 
 pub sub_byte_table : (b : ℕ) → b < 256 → slice_index SBOX b ≡ sub_byte b
 sub_byte_table b lt = eqb-true (slice_index SBOX b) (sub_byte b) (all_below_at is_right 256 b table_holds lt)
-
--- the definition's inverse is one, of each byte but 0
-abbrev is_inverse : ℕ → Bool
-is_inverse b = times (suc b) (inverse (suc b)) == 1
-
-inverse_holds : all_below is_inverse 255 ≡ true
-unfolding times inverse
-inverse_holds = refl
-
-pub times-inverse : (b : ℕ) → b < 255 → times (suc b) (inverse (suc b)) ≡ 1
-times-inverse b lt = eqb-true (times (suc b) (inverse (suc b))) 1 (all_below_at is_inverse 255 b inverse_holds lt)

@@ -1,5 +1,5 @@
 // A key, expanded to the keys of the rounds (FIPS 197, 5.2).
-ghost use Rattle.std.specs.Prelude.{◌≡◌, ◌+◌, ◌/◌, ◌%◌, ◌<◌};
+ghost use Rattle.std.specs.Prelude.{◌≡◌, ◌+◌, ◌/◌, ◌%◌, ◌<◌, take};
 ghost use Rattle.aes_block.specs.KeyExpansion.{add_word, aes256, key_expansion, key_step, x_power};
 
 use crate::cipher::{EXPANDED_LEN, encrypt_with, xtime};
@@ -14,7 +14,7 @@ pub struct KeySchedule {
 }
 
 impl Model for KeySchedule {
-    ghost use Rattle.std.specs.Prelude.{◌≡◌, ℕ, List, take, refl};
+    ghost use Rattle.std.specs.Prelude.{◌≡◌, ℕ, List, take};
     ghost use Rattle.std.proofs.Common.{sym};
     ghost use Rattle.aes_block.specs.KeyExpansion.{key_expansion};
 
@@ -49,10 +49,7 @@ impl KeySchedule {
 fn expand(key: &[u8; 32]) -> [u8; EXPANDED_LEN]
     ensures { result ≡ key_expansion key.now }
 {
-    let mut k = [0u8; EXPANDED_LEN];
-    'key: for i in 0..32 {
-        k[i] = key[i];
-    }
+    let mut k = first_words(key);
     let mut power: u8 = 1;
     'words: for n in 0..52 {
         let last = [k[4 * n + 28], k[4 * n + 29], k[4 * n + 30], k[4 * n + 31]];
@@ -63,6 +60,15 @@ fn expand(key: &[u8; 32]) -> [u8; EXPANDED_LEN]
         let first = [k[4 * n], k[4 * n + 1], k[4 * n + 2], k[4 * n + 3]];
         k[4 * n + 32..4 * n + 36].copy_from_slice(&add_word(first, step));
     }
+    k
+}
+
+// Room for the 60 words, the first eight of which are the key.
+fn first_words(key: &[u8; 32]) -> [u8; EXPANDED_LEN]
+    ensures { take 32 result ≡ key.now }
+{
+    let mut k = [0u8; EXPANDED_LEN];
+    k[..32].copy_from_slice(key);
     k
 }
 

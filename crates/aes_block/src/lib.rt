@@ -6,3 +6,6 @@ mod key_schedule;
 mod sbox;
 
 pub use key_schedule::KeySchedule;
+
+#[cfg(test)]
+mod tests;

@@ -6,3 +6,6 @@ mod id;
 
 pub use fail::{Fail, Failed, Memory, Why};
 pub use id::BlockId;
+
+#[cfg(test)]
+mod tests;

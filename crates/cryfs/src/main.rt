@@ -4,15 +4,14 @@
 mod reader_source;
 mod writer_sink;
 
+use crate::reader_source::ReaderSource;
+use crate::writer_sink::WriterSink;
 use cryfs_shell::{Status, run};
 use fs_model::Moment;
 use std::env;
 use std::io::{self, ErrorKind};
 use std::process::ExitCode;
 use std::time::{SystemTime, UNIX_EPOCH};
-
-use crate::reader_source::ReaderSource;
-use crate::writer_sink::WriterSink;
 
 /// This moment, where the clock tells it.
 fn read_clock(rt: &HostRuntime) -> Option<Moment> {

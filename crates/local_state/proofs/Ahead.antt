@@ -9,8 +9,8 @@ use Rattle.std.specs.Map.{lookup}
 use Rattle.block_id.specs.Name.{next_id}
 use Rattle.block_id.specs.declared.id.BlockId.{BlockId}
 use Rattle.local_state.specs.declared.mark.Mark.{Mark}
-use Rattle.local_state.specs.Known.{Marks, marks_of, zero_id, nth_id, is_free}
-use Rattle.local_state.proofs.Lookups.{same_id, get-marks_of}
+use Rattle.local_state.specs.Known.{same_id, Marks, marks_of, zero_id, nth_id, is_free}
+use Rattle.local_state.proofs.Lookups.{get-marks_of}
 use Rattle.local_state.proofs.Candidates.{value, value-zero_id, behind, behind-nth_id}
 
 -- whether v lies n or more places behind d

@@ -1,3 +1,11 @@
 pub mod Ahead
 pub mod Candidates
+pub mod Entries
+pub mod Fields
+pub mod Fitting
 pub mod Lookups
+pub mod Loops
+pub mod Records
+pub mod Sorted
+pub mod Tables
+pub mod Written

@@ -1,5 +1,5 @@
 -- The program's map and the finite map that it stands for answer alike.
-use Rattle.std.proofs.Common.{◌≡◌, ℕ, ◌+◌, Bool, false, cond, List, [], ◌∷◌, map, length, Some, None, refl, sym, ap, ◌∙◌, add-one}
+use Rattle.std.proofs.Common.{◌≡◌, ℕ, ◌+◌, false, cond, List, [], ◌∷◌, map, length, Some, None, refl, sym, ap, ◌∙◌, add-one}
 use Rattle.std.specs.Prelude.{nat_eq, is_some}
 use Rattle.std.specs.FinMap as fin
 use Rattle.std.specs.FinMap.{get-from_entries, get-insert, len-empty, len-insert, same_map, slice_cmp-IsAntisymmetric, nat_cmp-IsAntisymmetric}
@@ -10,13 +10,9 @@ use Rattle.std.specs.List.{IsDistinct, AllByRecursion}
 use Rattle.std.specs.Map.{lookup, keys_of}
 use Rattle.block_id.specs.declared.id.BlockId.{BlockId}
 use Rattle.local_state.specs.declared.mark.Mark.{Mark}
-use Rattle.local_state.specs.Known.{Marks, plain_entry, marks_of}
+use Rattle.local_state.specs.Known.{Marks, plain_entry, marks_of, same_id}
 
--- what the program's `==` answers at ids
-abbrev pub same_id : BlockId → BlockId → Bool
-same_id a b = pointwise nat_eq a.0 b.0
-
-find-plain : (q : BlockId) (es : List (BlockId × Mark)) → find (slice_cmp nat_cmp) q.0 (map plain_entry es) ≡ lookup (same_id q) es
+pub find-plain : (q : BlockId) (es : List (BlockId × Mark)) → find (slice_cmp nat_cmp) q.0 (map plain_entry es) ≡ lookup (same_id q) es
 find-plain q [] = refl
 find-plain q (e ∷ es) =
     ap (λ b. cond b (Some e.1) (find (slice_cmp nat_cmp) q.0 (map plain_entry es))) (sym (texts_ties q.0 e.0.0)) ∙ ap (cond (same_id q e.0) (Some e.1)) (find-plain q es)

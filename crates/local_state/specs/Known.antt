@@ -1,10 +1,12 @@
 -- What is known of ids: a finite map to versions and marks of life. An id is a list of 16 bytes.
-use Rattle.std.specs.Prelude.{◌≡◌, ℕ, zero, suc, ◌+◌, ◌<◌, Bool, true, false, not, ◌&&◌, List, map, replicate, is_some, is_none, Option, refl}
+use Rattle.std.specs.Prelude.{◌≡◌, ◌≢◌, ℕ, zero, suc, ◌+◌, ◌^◌, ◌<◌, Bool, true, false, not, ◌&&◌, List, length, map, replicate, is_some, is_none, IfSome, Option, refl}
 use Rattle.std.specs.Coded.{Coded, code_by, coded×, coded_ℕ, coded_bool, coded_list}
 use Rattle.std.specs.FinMap as fin
 use Rattle.std.specs.Option.{option_map, option_map_or}
+use Rattle.std.specs.List.{IsDistinct}
+use Rattle.std.specs.Map.{keys_of}
 use Rattle.std.specs.Str.{bytes_eq}
-use Rattle.std.specs.Ordering.{nat_cmp}
+use Rattle.std.specs.Ordering.{nat_cmp, is_lt}
 use Rattle.std.specs.Cmp.Lexicographic.{slice_cmp}
 use Rattle.block_id.specs.Name.{next_id}
 use Rattle.block_id.specs.declared.id.BlockId.{BlockId}
@@ -31,8 +33,14 @@ mark_at known id = fin.get known.marks id
 abbrev pub version_at : Table → List ℕ → Option ℕ
 version_at known id = option_map (λ m. m.version) (mark_at known id)
 
+abbrev pub is_live_in : Marks → List ℕ → Bool
+is_live_in marks id = option_map_or (λ m. m.live) (fin.get marks id) false
+
+abbrev pub is_dead_in : Marks → List ℕ → Bool
+is_dead_in marks id = is_some (fin.get marks id) && not (is_live_in marks id)
+
 abbrev pub is_live_at : Table → List ℕ → Bool
-is_live_at known id = option_map_or (λ m. m.live) (mark_at known id) false
+is_live_at known id = is_live_in known.marks id
 
 abbrev pub is_used_at : Table → List ℕ → Bool
 is_used_at known id = is_some (mark_at known id)
@@ -44,6 +52,13 @@ plain_entry e = (e.0.0, e.1)
 abbrev pub marks_of : List (BlockId × Mark) → Marks
 marks_of es = fin.from_entries (map plain_entry es)
 
+-- what `==` answers at ids
+abbrev pub same_id : BlockId → BlockId → Bool
+same_id a b = bytes_eq a.0 b.0
+
+abbrev pub HaveDistinctIds : List (BlockId × Mark) → Type 0
+HaveDistinctIds es = IsDistinct same_id (keys_of es)
+
 -- the version that a raise gives: the first, or one more
 abbrev pub raised_version : Option Mark → ℕ
 raised_version mark = option_map_or (λ m. m.version + 1) mark 1
@@ -51,6 +66,24 @@ raised_version mark = option_map_or (λ m. m.version + 1) mark 1
 -- the id that is never used
 abbrev pub zero_id : List ℕ
 zero_id = replicate 16 0
+
+-- an id and what may be known of it
+pub record FitsMark (id : List ℕ) (mark : Mark) : Type 0 where
+  pub length : length id ≡ 16
+  pub not_zero : id ≢ zero_id
+  pub from_one : 0 < mark.version
+  pub below : mark.version < 2 ^ 64
+
+-- what may come after an id in a record
+pub record IsNext (previous id : List ℕ) (mark : Mark) : Type 0 where
+  pub length : length id ≡ 16
+  pub after : is_lt (slice_cmp nat_cmp previous id) ≡ true
+  pub from_one : 0 < mark.version
+  pub below : mark.version < 2 ^ 64
+
+-- each used id is one, with a version from 1
+abbrev pub FitMarks : Marks → Type 0
+FitMarks marks = (id : List ℕ) → IfSome (fin.get marks id) (FitsMark id)
 
 -- neither used nor zero
 abbrev pub is_free : Marks → List ℕ → Bool

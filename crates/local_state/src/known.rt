@@ -1,10 +1,10 @@
 // The table of known versions.
-ghost use Rattle.std.specs.Prelude.{◌≡◌, ◌≢◌, ◌+◌, ◌-◌, ◌^◌, ◌<◌, ◌≤◌, ◌↔◌, Bool, true, false, length, IsTrue, IsSome, IsErr, IsOk, IfSome, IfNone, IfOk, OnOk, OnErr};
+ghost use Rattle.std.specs.Prelude.{◌≡◌, ◌≢◌, ◌+◌, ◌-◌, ◌^◌, ◌<◌, ◌≤◌, ◌↔◌, Bool, true, false, length, IsTrue, IsSome, IsErr, IsOk, map, IfSome, IfNone, IfOk, OnOk, OnErr};
 ghost use Rattle.std.specs.FinMap as fin;
-ghost use Rattle.local_state.specs.Known.{mark_at, version_at, is_live_at, is_used_at, raised_version, zero_id, IsFirstFree};
+ghost use Rattle.local_state.specs.Known.{mark_at, version_at, is_live_at, is_used_at, raised_version, zero_id, plain_entry, FitsMark, FitMarks, IsFirstFree};
 
 use crate::mark::Mark;
-use crate::marks::{add_mark, change_mark, first_free, mark_of};
+use crate::marks::{add_mark, change_mark, first_free, mark_of, put_mark, sorted_marks};
 use block_id::{BlockId, Memory};
 use std::alloc::Global;
 use std::collections::HashMap;
@@ -15,20 +15,22 @@ use std::marker::Model;
 pub struct Spent;
 
 /// A finite map from ids of blocks to a version and whether the block lives. An id is used where it is in the map.
-#[derive(Drop)]
+#[derive(Debug, Drop)]
 pub struct Known {
     marks: HashMap<BlockId, Mark>,
 }
 
 impl Model for Known {
     ghost use Rattle.std.specs.HashMap.{spare};
-    ghost use Rattle.local_state.specs.Known.{Table, table_code, marks_of};
+    ghost use Rattle.local_state.specs.Known.{Table, table_code, marks_of, FitMarks};
 
     ghost Value = { Table };
 
     ghost coded = { table_code };
 
     ghost view = { λ k. record { marks = marks_of k.marks.entries; spare = spare k.marks } };
+
+    ghost invariant = { λ k. FitMarks (marks_of k.marks.entries) };
 }
 
 impl Known {
@@ -43,7 +45,9 @@ impl Known {
 
     /// How many ids are used.
     pub fn len(&self) -> usize
-        ensures { result ≡ fin.len self.now.marks }
+        ensures len { result ≡ fin.len self.now.marks }
+        ensures bound { result < 2 ^ 63 }
+        ensures fits { FitMarks self.now.marks }
     {
         self.marks.len()
     }
@@ -91,12 +95,15 @@ impl Known {
         ensures err { OnErr result (self.new ≡ self.old) }
         ensures spare { self.old.spare ≤ self.new.spare + 1 }
         ensures no_room_taken { IsSome (mark_at self.old id.now.0) → self.old.spare ≤ self.new.spare }
+        ensures fits { FitMarks self.new.marks }
     {
+        // With its bytes read the id is known to have 16.
+        let _bytes = id.0;
         match mark_of(&self.marks, id) {
             None => {
                 add_mark(
                     &mut self.marks,
-                    id,
+                    *id,
                     Mark {
                         version: 1,
                         live: true,
@@ -120,12 +127,29 @@ impl Known {
         }
     }
 
+    // Gives an id a mark that was read.
+    pub(crate) fn learn(&mut self, id: &BlockId, mark: Mark) -> Result<(), Memory>
+        requires { FitsMark id.now.0 mark }
+        ensures { OnOk result (self.new.marks ≡ fin.insert self.old.marks id.now.0 mark) }
+    {
+        put_mark(&mut self.marks, id, mark)
+    }
+
+    // The ids with their marks, by rising ids.
+    pub(crate) fn sorted(&self, alloc: Global) -> Result<Vec<(BlockId, Mark)>, Memory>
+        ensures entries { IfOk result (λ v. map plain_entry v.items ≡ fin.entries self.now.marks) }
+        ensures fits { FitMarks self.now.marks }
+    {
+        sorted_marks(alloc, &self.marks)
+    }
+
     /// Makes a live id dead. Its version stays.
     pub fn bury(&mut self, id: &BlockId)
         requires { is_live_at self.old id.now.0 ≡ true }
         ensures marks { IfSome (version_at self.old id.now.0) (λ version. self.new.marks
             ≡ fin.insert self.old.marks id.now.0 (record { version = version; live = false })) }
         ensures spare { self.old.spare ≤ self.new.spare }
+        ensures fits { FitMarks self.new.marks }
     {
         if let Some(mark) = mark_of(&self.marks, id) {
             change_mark(

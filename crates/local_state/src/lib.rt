@@ -2,8 +2,19 @@
 #![tactic(auto)]
 
 mod known;
+mod laws;
 mod mark;
 mod marks;
+mod reading;
+mod state;
+mod writing;
 
 pub use known::{Known, Spent};
+pub use laws::{mark_stands_at_19, one_reading};
 pub use mark::Mark;
+pub use reading::decode;
+pub use state::{State, StateError, key_digest};
+pub use writing::encode;
+
+#[cfg(test)]
+mod tests;

@@ -1,5 +1,13 @@
 pub mod Causes
+pub mod ChangeLaws
+pub mod Changes
+pub mod Honest
+pub mod HonestLaws
+pub mod Keepers
 pub mod MemoryStreams
+pub mod NameLaws
+pub mod Names
 pub mod Streams
 pub mod Trace
+pub mod Vaults
 pub mod View

@@ -1,16 +1,13 @@
-use Rattle.std.proofs.Common.{◌≡◌, ◌+◌, ◌*◌, refl, ap, ◌∙◌, length, arith, rules, slice_index, [], ◌∷◌}
-use Rattle.aes_block.specs.KeyExpansion.{add_word}
+use Rattle.std.proofs.Common.{◌≡◌, ◌+◌, ◌*◌, refl, ap, ◌∙◌, length, arith, slice_index, [], ◌∷◌}
+use Rattle.aes_block.specs.KeyExpansion.{add_word, key_words}
 use Rattle.aes_block.specs.Field.{xtime}
-use Rattle.aes_block.proofs.Keys.{key_words_first, length_put_mid, power_kept, power_next, word_written}
+use Rattle.aes_block.proofs.Keys.{length_put_mid, power_kept, power_next, word_written}
 use Rattle.aes_block.proofs.key_schedule.expand.Goals as goal
 use Rattle.aes_block.proofs.key_schedule.expand.Goals.{then-n-eq0, else-n-eq0}
 
 pub words-init : goal.words-init
-words-init c = record {
-  whole = c.key.invariant.0;
-  power = refl;
-  written = key_words_first c.args.key.now c.key.k (search rules) c.key.invariant.0 (λ j lt. c.key.invariant.1 j (omega arith));
-}
+unfolding key_words
+words-init c = record { whole = omega arith; power = refl; written = c.first_words-k.ensures }
 
 pub words-preserved : goal.words-preserved
 words-preserved c =

@@ -4,5 +4,5 @@ use Rattle.std.specs.FinMap as fin
 use Rattle.local_state.proofs.Lookups.{len-marks_of}
 use Rattle.local_state.proofs.known.Known.len.Goals as goal
 
-pub returns : goal.returns
-returns c = c.len.ensures.len ∙ sym (len-marks_of c.self.inside.marks.entries c.len.ensures.unique) ∙ ap (λ (t : Table). fin.len t.marks) c.self.view_is
+pub returns-clause-len : goal.returns-clause-len
+returns-clause-len c = c.len.ensures.len ∙ sym (len-marks_of c.self.inside.marks.entries c.len.ensures.unique) ∙ ap (λ (t : Table). fin.len t.marks) c.self.view_is

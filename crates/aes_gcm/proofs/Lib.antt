@@ -1,0 +1,6 @@
+pub mod Product
+pub mod Hashing
+pub mod Streams
+pub mod Opening
+pub mod Tags
+pub mod Ends

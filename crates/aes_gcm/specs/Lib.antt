@@ -1,0 +1,5 @@
+pub mod Ghash
+pub mod Gctr
+pub mod Gcm
+pub mod Tables
+pub mod Lengths

@@ -1,0 +1,85 @@
+// The sealer that AES-256 makes in GCM.
+ghost use Rattle.std.specs.Prelude.{◌≡◌, ◌+◌, ◌++◌, length, take, vec_len, OnOk, OnErr};
+ghost use Rattle.aes_gcm.specs.Gcm.{sealed_of};
+
+use crate::gcm::{gcm_seal, gcm_unseal};
+use aes_block::KeySchedule;
+use block_id::Memory;
+use seal_api::Sealer;
+use std::alloc::Global;
+
+/// The length of an IV.
+const IV_LEN: usize = 16;
+
+/// The length of a tag.
+const TAG_LEN: usize = 16;
+
+/// Sealed texts are an IV of 16 bytes, the ciphertext and a tag of 16 bytes, with no extra bytes.
+#[derive(Clone, Copy, Debug)]
+pub struct Aes256Gcm;
+
+impl Sealer for Aes256Gcm {
+    ghost use Rattle.std.specs.Prelude.{ℕ};
+    ghost use Rattle.aes_gcm.specs.Gcm.{opened_of};
+    ghost use Rattle.aes_gcm.specs.Lengths.{length-opened_of};
+
+    ghost iv_size = { λ _. 16 };
+
+    ghost opens = { λ _ key text. opened_of key text };
+
+    fn iv_len(&self) -> usize {
+        IV_LEN
+    }
+
+    fn seal(
+        &self,
+        key: &[u8; 32],
+        iv: &[u8],
+        plain: &[u8],
+        out: &mut Vec<u8>,
+    ) -> Result<(), Memory> {
+        let start = out.len();
+        let sealed = append_sealed(key, iv, plain, out);
+        if sealed.is_err() {
+            out.truncate(start);
+        }
+        sealed
+    }
+
+    fn unseal(
+        &self,
+        alloc: Global,
+        key: &[u8; 32],
+        sealed: &[u8],
+    ) -> Result<Option<Vec<u8>>, Memory> {
+        if sealed.len() < IV_LEN + TAG_LEN {
+            return Ok(None);
+        }
+        let end = sealed.len() - TAG_LEN;
+        let mut tag = [0u8; TAG_LEN];
+        tag.copy_from_slice(&sealed[end..]);
+        let keys = KeySchedule::new(key);
+        gcm_unseal(
+            alloc,
+            &keys,
+            &sealed[..IV_LEN],
+            &[],
+            &sealed[IV_LEN..end],
+            &tag,
+        )
+    }
+
+    ghost lengths = { λ _ key text plain opens. length-opened_of key text plain opens };
+}
+
+// Appends a sealed text, or a part of it where memory is refused.
+fn append_sealed(key: &[u8; 32], iv: &[u8], plain: &[u8], out: &mut Vec<u8>) -> Result<(), Memory>
+    requires { length iv.now ≡ 16 }
+    ensures ok { OnOk result (out.new.items ≡ out.old.items ++ sealed_of key.now iv.now plain.now) }
+    ensures err { OnErr result (take (vec_len out.old) out.new.items ≡ out.old.items) }
+{
+    out.extend_from_slice(iv)?;
+    let tag = gcm_seal(&KeySchedule::new(key), iv, &[], plain, out)?;
+    out.extend_from_slice(&tag)?;
+    Ok(())
+}

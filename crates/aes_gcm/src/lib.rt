@@ -1,0 +1,13 @@
+//! AES-256 in Galois/Counter Mode (SP 800-38D), and the sealer that it makes.
+#![tactic(auto)]
+
+mod aes256_gcm;
+mod counter;
+mod gcm;
+mod hash_key;
+
+pub use aes256_gcm::Aes256Gcm;
+pub use gcm::{gcm_seal, gcm_unseal};
+
+#[cfg(test)]
+mod tests;

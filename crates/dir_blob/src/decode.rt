@@ -1,0 +1,199 @@
+// Reading the entries of a directory from its body.
+ghost use Rattle.std.specs.Prelude.{◌≡◌, ◌==◌, ◌<◌, List, ℕ, length, IfOk, IfSome, Some};
+ghost use Rattle.std.specs.Option.{option_map};
+ghost use Rattle.std.specs.Int.{w32, w64};
+ghost use Rattle.std.specs.List.{position};
+ghost use Rattle.std.specs.Ordering.{is_lt};
+ghost use Rattle.fs_model.specs.Tree.{name_cmp};
+ghost use Rattle.dir_blob.specs.Layout.{Listing, IsBody, entry_of, listing_of};
+ghost use Rattle.dir_blob.specs.Reading.{number_at, kind_of, moment_at, access_at, owner_at, times_at, attr_at, text_at, id_at, entry_at, rises};
+
+use crate::Entry;
+use block_id::{BlockId, Memory};
+use fs_blobs::kind_from;
+use fs_model::{Attr, Kind, MAX_MODE, Moment, Name};
+use std::alloc::Global;
+
+/// The entries of a directory's body, or None where it isn't such a body. It takes time linear in the body.
+pub fn decode_entries(alloc: Global, body: &[u8]) -> Result<Option<Vec<Entry>>, Memory>
+    // What is read is written so.
+    ensures found { IfOk result (λ answer. IfSome answer (λ entries. IsBody body.now (listing_of entries.items))) }
+    // What is written so is read. So None comes only off the grammar, and no body has a second reading.
+    ensures only { IfOk result (λ answer. (listing : Listing) → IsBody body.now listing
+        → option_map (λ entries. listing_of entries.items) answer ≡ Some listing) }
+{
+    let mut entries = Vec::new(alloc);
+    let mut rest = body;
+    while !rest.is_empty() {
+        let (entry, after) = match entry_from(alloc, rest) {
+            Ok(Some(next)) => next,
+            Ok(None) => return Ok(None),
+            Err(memory) => return Err(memory),
+        };
+        if !comes_after(&entries, &entry.name) {
+            return Ok(None);
+        }
+        entries.push(entry)?;
+        rest = after;
+    }
+    Ok(Some(entries))
+}
+
+/// A body has one list of entries at most.
+pub fn one_reading()
+    ensures { (body : List ℕ) (one other : Listing) → IsBody body one → IsBody body other → one ≡ other }
+{}
+
+/// Whether a name is above that of the last entry.
+fn comes_after(entries: &[Entry], name: &Name) -> bool
+    ensures { result ≡ rises (listing_of entries.now) name.now }
+{
+    match entries.last() {
+        None => true,
+        Some(last) => is_below(&last.name, name),
+    }
+}
+
+fn is_below(first: &Name, second: &Name) -> bool
+    ensures { result ≡ is_lt (name_cmp first.now second.now) }
+{
+    first.as_slice().cmp(&second.as_slice()).is_lt()
+}
+
+/// The first entry, and what follows it.
+#[tactic(auto, unfolding(crate::specs::Reading::entry_at))]
+fn entry_from(alloc: Global, bytes: &[u8]) -> Result<Option<(Entry, &[u8])>, Memory>
+    ensures { IfOk result (λ answer. option_map (λ x. (entry_of x.0, x.1.now)) answer ≡ entry_at bytes.now) }
+{
+    let Some((attr, rest)) = attr_from(bytes) else {
+        return Ok(None);
+    };
+    let Some((text, rest)) = text_from(rest) else {
+        return Ok(None);
+    };
+    let Some(name) = Name::new(Vec::from_slice(alloc, text)?) else {
+        return Ok(None);
+    };
+    let Some((blob, rest)) = id_from(rest) else {
+        return Ok(None);
+    };
+    Ok(Some((Entry { name, attr, blob }, rest)))
+}
+
+#[tactic(auto, unfolding(crate::specs::Reading::attr_at))]
+fn attr_from(bytes: &[u8]) -> Option<(Attr, &[u8])>
+    ensures { option_map (λ x. (x.0, x.1.now)) result ≡ attr_at bytes.now }
+{
+    let ((kind, mode), rest) = access_from(bytes)?;
+    let ((uid, gid), rest) = owner_from(rest)?;
+    let Some(((atime, mtime, ctime), rest)) = times_from(rest) else {
+        return None;
+    };
+    let attr = Attr {
+        kind,
+        mode,
+        uid,
+        gid,
+        atime,
+        mtime,
+        ctime,
+    };
+    Some((attr, rest))
+}
+
+/// The kind, and the mode.
+#[tactic(auto, unfolding(crate::specs::Reading::access_at))]
+fn access_from(bytes: &[u8]) -> Option<((Kind, u32), &[u8])>
+    ensures { option_map (λ x. (x.0, x.1.now)) result ≡ access_at bytes.now }
+{
+    let (kind, rest) = next_kind(bytes)?;
+    let (mode, rest) = next_u32(rest)?;
+    if mode > MAX_MODE {
+        return None;
+    }
+    Some(((kind, mode), rest))
+}
+
+/// The user, and the group.
+#[tactic(auto, unfolding(crate::specs::Reading::owner_at))]
+fn owner_from(bytes: &[u8]) -> Option<((u32, u32), &[u8])>
+    ensures { option_map (λ x. (x.0, x.1.now)) result ≡ owner_at bytes.now }
+{
+    let (uid, rest) = next_u32(bytes)?;
+    let (gid, rest) = next_u32(rest)?;
+    Some(((uid, gid), rest))
+}
+
+/// The moments of the last use, of the content's last change, and of the last change.
+#[tactic(auto, unfolding(crate::specs::Reading::times_at))]
+fn times_from(bytes: &[u8]) -> Option<((Moment, Moment, Moment), &[u8])>
+    ensures { option_map (λ x. ((x.0.0, (x.0.1, x.0.2)), x.1.now)) result ≡ times_at bytes.now }
+{
+    let Some((atime, rest)) = moment_from(bytes) else {
+        return None;
+    };
+    let Some((mtime, rest)) = moment_from(rest) else {
+        return None;
+    };
+    let Some((ctime, rest)) = moment_from(rest) else {
+        return None;
+    };
+    Some(((atime, mtime, ctime), rest))
+}
+
+#[tactic(auto, unfolding(crate::specs::Reading::kind_of))]
+fn next_kind(bytes: &[u8]) -> Option<(Kind, &[u8])>
+    ensures { option_map (λ x. (x.0, x.1.now)) result ≡ kind_of bytes.now }
+{
+    let (first, rest) = bytes.split_first()?;
+    Some((kind_from(*first)?, rest))
+}
+
+#[tactic(auto, unfolding(crate::specs::Reading::moment_at))]
+fn moment_from(bytes: &[u8]) -> Option<(Moment, &[u8])>
+    ensures { option_map (λ x. (x.0, x.1.now)) result ≡ moment_at bytes.now }
+{
+    let (secs, rest) = next_u64(bytes)?;
+    let (nanos, rest) = next_u32(rest)?;
+    Some((Moment::new(secs, nanos)?, rest))
+}
+
+#[tactic(auto, unfolding(crate::specs::Reading::number_at))]
+fn next_u32(bytes: &[u8]) -> Option<(u32, &[u8])>
+    ensures { option_map (λ x. (x.0, x.1.now)) result ≡ number_at w32 bytes.now }
+{
+    let (number, rest) = bytes.split_first_chunk::<4>()?;
+    Some((u32::from_le_bytes(*number), rest))
+}
+
+#[tactic(auto, unfolding(crate::specs::Reading::number_at))]
+fn next_u64(bytes: &[u8]) -> Option<(u64, &[u8])>
+    ensures { option_map (λ x. (x.0, x.1.now)) result ≡ number_at w64 bytes.now }
+{
+    let (number, rest) = bytes.split_first_chunk::<8>()?;
+    Some((u64::from_le_bytes(*number), rest))
+}
+
+/// What stands before the first zero, and after it.
+#[tactic(auto, unfolding(crate::specs::Reading::text_at))]
+fn text_from(bytes: &[u8]) -> Option<(&[u8], &[u8])>
+    ensures { option_map (λ x. (x.0.now, x.1.now)) result ≡ text_at bytes.now }
+{
+    let end = first_zero(bytes)?;
+    Some((&bytes[..end], &bytes[end + 1..]))
+}
+
+fn first_zero(bytes: &[u8]) -> Option<usize>
+    ensures value { result ≡ position (λ byte. byte == 0) bytes.now }
+    ensures bound { IfSome result (λ end. end < length bytes.now) }
+{
+    bytes.iter().position(|byte| *byte == 0)
+}
+
+#[tactic(auto, unfolding(crate::specs::Reading::id_at))]
+fn id_from(bytes: &[u8]) -> Option<(BlockId, &[u8])>
+    ensures { option_map (λ x. (x.0.0, x.1.now)) result ≡ id_at bytes.now }
+{
+    let (id, rest) = bytes.split_first_chunk::<16>()?;
+    Some((BlockId(*id), rest))
+}

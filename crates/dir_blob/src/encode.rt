@@ -1,0 +1,90 @@
+// Writing the entries of a directory as its body.
+ghost use Rattle.std.specs.Prelude.{◌≡◌, ◌≤◌, [], ◌∷◌, ◌++◌, length, IfOk, OnOk};
+ghost use Rattle.std.specs.Int.{w32, w64, to_le_bytes};
+ghost use Rattle.fs_model.specs.Names.{IsName};
+ghost use Rattle.dir_blob.specs.Layout.{IsBody, IsEntry, HasModes, IsInOrder, moment_text, IsMoment, attr_text, IsAttr, entry_text, entry_of, listing_of};
+
+use crate::Entry;
+use block_id::{BlockId, Memory};
+use fs_blobs::kind_byte;
+use fs_model::{Attr, MAX_MODE, Moment, Name};
+use std::alloc::Global;
+
+/// The body of a directory with these entries.
+pub fn encode_entries(alloc: Global, entries: &[Entry]) -> Result<Vec<u8>, Memory>
+    requires order { IsInOrder (listing_of entries.now) }
+    requires modes { HasModes (listing_of entries.now) }
+    ensures { IfOk result (λ bytes. IsBody bytes.items (listing_of entries.now)) }
+{
+    let mut out = Vec::new(alloc);
+    for entry in entries {
+        put_entry(&mut out, entry)?;
+    }
+    Ok(out)
+}
+
+#[tactic(auto, unfolding(crate::specs::Layout::entry_text))]
+fn put_entry(out: &mut Vec<u8>, entry: &Entry) -> Result<(), Memory>
+    requires { entry.now.attr.mode ≤ MAX_MODE }
+    ensures text { OnOk result (out.new.items ≡ out.old.items ++ entry_text (entry_of entry.now)) }
+    ensures types { OnOk result (IsEntry (entry_of entry.now)) }
+{
+    put_attr(out, &entry.attr)?;
+    put_name(out, &entry.name)?;
+    put_id(out, &entry.blob)
+}
+
+fn put_attr(out: &mut Vec<u8>, attr: &Attr) -> Result<(), Memory>
+    requires { attr.now.mode ≤ MAX_MODE }
+    ensures text { OnOk result (out.new.items ≡ out.old.items ++ attr_text attr.now) }
+    ensures types { OnOk result (IsAttr attr.now) }
+{
+    out.push(kind_byte(attr.kind))?;
+    put_u32(out, attr.mode)?;
+    put_u32(out, attr.uid)?;
+    put_u32(out, attr.gid)?;
+    put_moment(out, attr.atime)?;
+    put_moment(out, attr.mtime)?;
+    put_moment(out, attr.ctime)?;
+    Ok(())
+}
+
+fn put_moment(out: &mut Vec<u8>, moment: Moment) -> Result<(), Memory>
+    ensures text { OnOk result (out.new.items ≡ out.old.items ++ moment_text moment) }
+    ensures types { IsMoment moment }
+{
+    put_u64(out, moment.secs())?;
+    put_u32(out, moment.nanos())?;
+    Ok(())
+}
+
+fn put_u32(out: &mut Vec<u8>, number: u32) -> Result<(), Memory>
+    ensures { OnOk result (out.new.items ≡ out.old.items ++ to_le_bytes w32 number) }
+{
+    out.extend_from_slice(&number.to_le_bytes())?;
+    Ok(())
+}
+
+fn put_u64(out: &mut Vec<u8>, number: u64) -> Result<(), Memory>
+    ensures { OnOk result (out.new.items ≡ out.old.items ++ to_le_bytes w64 number) }
+{
+    out.extend_from_slice(&number.to_le_bytes())?;
+    Ok(())
+}
+
+fn put_name(out: &mut Vec<u8>, name: &Name) -> Result<(), Memory>
+    ensures text { OnOk result (out.new.items ≡ out.old.items ++ name.now ++ 0 ∷ []) }
+    ensures types { IsName name.now }
+{
+    out.extend_from_slice(name.as_slice())?;
+    out.push(0)?;
+    Ok(())
+}
+
+fn put_id(out: &mut Vec<u8>, id: &BlockId) -> Result<(), Memory>
+    ensures text { OnOk result (out.new.items ≡ out.old.items ++ id.now.0) }
+    ensures types { length id.now.0 ≡ 16 }
+{
+    out.extend_from_slice(&id.0)?;
+    Ok(())
+}

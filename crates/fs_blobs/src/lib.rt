@@ -1,0 +1,11 @@
+//! Blobs of the file system: a header with kind and parent, and a body.
+#![tactic(auto)]
+
+mod header;
+mod kind;
+
+pub use header::{HEADER_LEN, Header, header_bytes, one_header, read_header};
+pub use kind::{kind_byte, kind_from};
+
+#[cfg(test)]
+mod tests;

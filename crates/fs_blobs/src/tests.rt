@@ -1,0 +1,22 @@
+// A header as bytes.
+use super::*;
+use block_id::BlockId;
+use fs_model::Kind;
+
+#[test]
+fn the_header_of_a_file(rt: HostRuntime) {
+    let mut parent = [0; 16];
+    parent[15] = 1;
+    let header = Header {
+        kind: Kind::File,
+        parent: BlockId(parent),
+    };
+    let bytes = header_bytes(&header);
+    let mut expected = [0; 19];
+    expected[0] = 1;
+    expected[2] = 1;
+    expected[18] = 1;
+    assert_eq!(rt; bytes, expected);
+    assert_eq!(rt; read_header(&bytes), Some(header));
+    assert_eq!(rt; read_header(&bytes[..18]), None);
+}

@@ -1,0 +1,111 @@
+-- Reading a local record from left to right: a value and the bytes after it, or nothing.
+use Rattle.std.specs.Prelude.{◌≡◌, ℕ, zero, suc, Bool, true, false, ◌&&◌, List, [], ◌∷◌, ◌++◌, length, take, drop, Option, Some, None, Result, Ok, Err, nat_eq, nat_lt, ◌==◌, if◌then◌else◌}
+use Rattle.std.specs.Int.{Width, w32, w64, byte_len, from_le_bytes}
+use Rattle.std.specs.List.{starts_with}
+use Rattle.std.specs.Ordering.{nat_cmp, is_lt}
+use Rattle.std.specs.Cmp.Lexicographic.{slice_cmp}
+use Rattle.std.specs.FinMap as fin
+use Rattle.outside.specs.Trace.{At, config, block}
+use Rattle.local_state.specs.declared.mark.Mark.{Mark}
+use Rattle.local_state.specs.declared.state.StateError.{StateError}
+use Rattle.local_state.specs.declared.state.StateError.TheVariants as errors
+use Rattle.local_state.specs.Known.{Marks, zero_id}
+use Rattle.local_state.specs.Record.{PlainState, Entry, magic, comes_after, may_change, has_bytes}
+
+infixl 10 ◌>>=◌
+abbrev pub ◌>>=◌ : {A B : Type 0} → Option A → (A → Option B) → Option B
+None >>= f = None
+(Some x) >>= f = f x
+
+-- what a function returned, seen by view, is what reading gives, unless memory ran out
+abbrev pub Fails : {Y : Type 0} → StateError → Option Y → Type 0
+Fails errors.Memory read = Unit {0}
+Fails errors.BadState read = read ≡ None
+
+abbrev pub Gives : {X Y : Type 0} → (X → Y) → Result X StateError → Option Y → Type 0
+Gives view (Ok x) read = read ≡ Some (view x)
+Gives view (Err e) read = Fails e read
+
+abbrev pub front_at : ℕ → List ℕ → Option (List ℕ × List ℕ)
+front_at n bytes = if nat_lt (length bytes) n then None else Some (take n bytes, drop n bytes)
+
+abbrev pub number_at : Width → List ℕ → Option (ℕ × List ℕ)
+number_at w bytes = if nat_lt (length bytes) (byte_len w) then None else Some (from_le_bytes w (take (byte_len w) bytes), drop (byte_len w) bytes)
+
+abbrev pub flag_at : List ℕ → Option (Bool × List ℕ)
+flag_at [] = None
+flag_at (zero ∷ rest) = Some (false, rest)
+flag_at (suc zero ∷ rest) = Some (true, rest)
+flag_at (suc (suc b) ∷ rest) = None
+
+-- a known block, whose id comes after the previous one
+unfoldable pub known_at : List ℕ → List ℕ → Option ((List ℕ × Mark) × List ℕ)
+known_at previous bytes = do
+  id ← front_at 16 bytes
+  version ← number_at w64 id.1
+  live ← flag_at version.1
+  if is_lt (slice_cmp nat_cmp previous id.0) && nat_lt 0 version.0 then Some ((id.0, record { version = version.0; live = live.0 }), live.1) else None
+
+-- so many known blocks, put to the marks before
+unfoldable pub marks_at : ℕ → List ℕ → Marks → List ℕ → Option (Marks × List ℕ)
+marks_at zero previous marks bytes = Some (marks, bytes)
+marks_at (suc n) previous marks bytes = do
+  e ← known_at previous bytes
+  marks_at n e.0.0 (fin.insert marks e.0.0 e.0.1) e.1
+
+unfoldable pub table_at : List ℕ → Option (Marks × List ℕ)
+table_at bytes = do
+  n ← number_at w64 bytes
+  marks_at n.0 zero_id fin.empty n.1
+
+unfoldable pub name_at : List ℕ → Option (At × List ℕ)
+name_at bytes = do
+  is_block ← flag_at bytes
+  if is_block.0 then front_at 16 is_block.1 >>= (λ id. Some (block id.0, id.1)) else Some (config, is_block.1)
+
+unfoldable pub change_at : List ℕ → Option (Option (List ℕ) × List ℕ)
+change_at bytes = do
+  has_bytes ← flag_at bytes
+  if has_bytes.0 then number_at w32 has_bytes.1 >>= (λ n. front_at n.0 n.1 >>= (λ new. Some (Some new.0, new.1))) else Some (None, has_bytes.1)
+
+-- a list entry, whose name comes after the previous one
+unfoldable pub entry_at : Marks → Option At → List ℕ → Option (Entry × List ℕ)
+entry_at marks previous bytes = do
+  name ← name_at bytes
+  change ← change_at name.1
+  if comes_after previous name.0 && may_change marks name.0 (has_bytes change.0) then Some ((name.0, change.0), change.1) else None
+
+-- so many list entries after those before
+unfoldable pub entries_at : Marks → ℕ → Option At → List Entry → List ℕ → Option (List Entry × List ℕ)
+entries_at marks zero previous before bytes = Some (before, bytes)
+entries_at marks (suc n) previous before bytes = do
+  e ← entry_at marks previous bytes
+  entries_at marks n (Some e.0.0) (before ++ e.0 ∷ []) e.1
+
+unfoldable pub list_at : Marks → List ℕ → Option (List Entry × List ℕ)
+list_at marks bytes = do
+  n ← number_at w64 bytes
+  entries_at marks n.0 None [] n.1
+
+-- the bytes after the magic ones
+abbrev pub magic_at : List ℕ → Option (List ℕ)
+magic_at bytes = if starts_with nat_eq bytes magic then Some (drop 19 bytes) else None
+
+-- what stands before the known blocks: a state that knows none
+unfoldable pub head_at : List ℕ → Option (PlainState × List ℕ)
+head_at bytes = do
+  start ← magic_at bytes
+  marked ← flag_at start
+  fs_id ← front_at 16 marked.1
+  key_salt ← front_at 32 fs_id.1
+  key_digest ← front_at 32 key_salt.1
+  client ← number_at w32 key_digest.1
+  if nat_lt 0 client.0 then Some (record { marked = marked.0; fs_id = fs_id.0; key_salt = key_salt.0; key_digest = key_digest.0; client = client.0; marks = fin.empty }, client.1) else None
+
+-- a state, a list, and no more bytes
+unfoldable pub record_at : List ℕ → Option (PlainState × List Entry)
+record_at bytes = do
+  head ← head_at bytes
+  known ← table_at head.1
+  list ← list_at known.0 known.1
+  if length list.1 == 0 then Some (record head.0 { marks = known.0 }, list.0) else None

@@ -1,0 +1,143 @@
+-- The local record: a state and a list of changes that aren't written yet, as bytes. Numbers stand low byte first.
+use Rattle.std.specs.Prelude.{◌≡◌, ℕ, ◌^◌, ◌<◌, Bool, true, false, List, [], ◌∷◌, ◌++◌, length, Option, Some, None}
+use Rattle.std.specs.Int.{w32, w64, to_le_bytes}
+use Rattle.std.specs.List.{flat_map, AllByRecursion}
+use Rattle.std.specs.Ordering.{nat_cmp, is_lt}
+use Rattle.std.specs.Cmp.Lexicographic.{slice_cmp}
+use Rattle.std.specs.FinMap as fin
+use Rattle.std.specs.Global.{Vec}
+use Rattle.outside.specs.declared.change.Pending.{Pending}
+use Rattle.outside.specs.View.{list_of}
+use Rattle.outside.specs.Trace.{At, config, block}
+use Rattle.local_state.specs.declared.mark.Mark.{Mark}
+use Rattle.local_state.specs.declared.state.State.{State}
+use Rattle.local_state.specs.Known.{Marks, FitMarks, is_live_in, is_dead_in}
+
+-- ---- what a record holds
+
+-- a state without where it lies in memory
+pub record PlainState : Type 0 where
+  pub marked : Bool
+  pub fs_id : List ℕ
+  pub key_salt : List ℕ
+  pub key_digest : List ℕ
+  pub client : ℕ
+  pub marks : Marks
+
+abbrev pub plain_state : State → PlainState
+plain_state s = record { marked = s.marked; fs_id = s.fs_id.0; key_salt = s.key_salt; key_digest = s.key_digest; client = s.client; marks = s.known.marks }
+
+-- the same state with its mark set
+abbrev pub with_mark : PlainState → PlainState
+with_mark s = record s { marked = true }
+
+-- a file and its change: new bytes, or none for a removal
+abbrev pub Entry : Type 0
+Entry = At × Option (List ℕ)
+
+abbrev pub plain_record : State × Vec Pending → PlainState × List Entry
+plain_record x = (plain_state x.0, list_of x.1.items)
+
+-- ---- its bytes
+
+-- `cryfs.localstate;1` and a zero byte
+abbrev pub magic : List ℕ
+magic = 99 ∷ 114 ∷ 121 ∷ 102 ∷ 115 ∷ 46 ∷ 108 ∷ 111 ∷ 99 ∷ 97 ∷ 108 ∷ 115 ∷ 116 ∷ 97 ∷ 116 ∷ 101 ∷ 59 ∷ 49 ∷ 0 ∷ []
+
+abbrev pub flag : Bool → ℕ
+flag false = 0
+flag true = 1
+
+-- a known block: id, version, and whether it lives
+abbrev pub mark_bytes : List ℕ × Mark → List ℕ
+mark_bytes e = e.0 ++ (to_le_bytes w64 e.1.version ++ flag e.1.live ∷ [])
+
+-- the number of known blocks, and these
+abbrev pub known_bytes : List (List ℕ × Mark) → List ℕ
+known_bytes es = to_le_bytes w64 (length es) ++ flat_map mark_bytes es
+
+-- by rising ids
+abbrev pub marks_bytes : Marks → List ℕ
+marks_bytes marks = known_bytes (fin.entries marks)
+
+abbrev pub name_bytes : At → List ℕ
+name_bytes config = 0 ∷ []
+name_bytes (block id) = 1 ∷ id
+
+-- a removal, or the length of the new bytes and these
+abbrev pub change_bytes : Option (List ℕ) → List ℕ
+change_bytes None = 0 ∷ []
+change_bytes (Some bytes) = 1 ∷ (to_le_bytes w32 (length bytes) ++ bytes)
+
+abbrev pub entry_bytes : Entry → List ℕ
+entry_bytes e = name_bytes e.0 ++ change_bytes e.1
+
+abbrev pub list_bytes : List Entry → List ℕ
+list_bytes list = to_le_bytes w64 (length list) ++ flat_map entry_bytes list
+
+-- what stands before the known blocks
+abbrev pub head_bytes : PlainState → List ℕ
+head_bytes s = magic ++ (flag s.marked ∷ (s.fs_id ++ (s.key_salt ++ (s.key_digest ++ to_le_bytes w32 s.client))))
+
+abbrev pub record_bytes : PlainState → List Entry → List ℕ
+record_bytes s list = head_bytes s ++ (marks_bytes s.marks ++ list_bytes list)
+
+-- ---- which states and lists have a record
+
+-- the configuration comes first and has no removal; a block's bytes stand for a live id, its removal for a dead one
+abbrev pub may_change : Marks → At → Bool → Bool
+may_change marks config has_bytes = has_bytes
+may_change marks (block id) true = is_live_in marks id
+may_change marks (block id) false = is_dead_in marks id
+
+-- blocks come after the configuration, by rising ids
+abbrev pub comes_after : Option At → At → Bool
+comes_after None name = true
+comes_after (Some config) config = false
+comes_after (Some config) (block id) = true
+comes_after (Some (block other)) config = false
+comes_after (Some (block other)) (block id) = is_lt (slice_cmp nat_cmp other id)
+
+abbrev pub Rise : Option At → List Entry → Type 0
+Rise previous [] = Unit {0}
+Rise previous (e ∷ es) = (comes_after previous e.0 ≡ true) × Rise (Some e.0) es
+
+abbrev pub FitsName : At → Type 0
+FitsName config = Unit {0}
+FitsName (block id) = length id ≡ 16
+
+abbrev pub FitsBytes : Option (List ℕ) → Type 0
+FitsBytes None = Unit {0}
+FitsBytes (Some bytes) = length bytes < 2 ^ 32
+
+abbrev pub has_bytes : Option (List ℕ) → Bool
+has_bytes None = false
+has_bytes (Some bytes) = true
+
+pub record FitsEntry (marks : Marks) (e : Entry) : Type 0 where
+  pub name : FitsName e.0
+  pub bytes : FitsBytes e.1
+  pub change : may_change marks e.0 (has_bytes e.1) ≡ true
+
+pub record FitsList (marks : Marks) (list : List Entry) : Type 0 where
+  pub each : AllByRecursion (FitsEntry marks) list
+  pub order : Rise None list
+  pub count : length list < 2 ^ 64
+
+-- what stands before the known blocks, but for that the client is from 1
+pub record FitsHead (s : PlainState) : Type 0 where
+  pub fs_id : length s.fs_id ≡ 16
+  pub key_salt : length s.key_salt ≡ 32
+  pub key_digest : length s.key_digest ≡ 32
+  pub client : s.client < 2 ^ 32
+
+pub record FitsState (s : PlainState) : Type 0 where
+  pub head : FitsHead s
+  pub client : 0 < s.client
+  pub marks : FitMarks s.marks
+  pub count : fin.len s.marks < 2 ^ 64
+
+-- the state and the list have a record
+pub record HasRecord (s : PlainState) (list : List Entry) : Type 0 where
+  pub state : FitsState s
+  pub entries : FitsList s.marks list

@@ -1,0 +1,281 @@
+// The state and the list of a record, read.
+ghost use Rattle.std.specs.Prelude.{◌≡◌, ◌≢◌, ◌<◌, ◌^◌, List, [], ℕ, length, None, Some, IfOk, IsErrOf};
+ghost use Rattle.std.specs.Int.{w32, w64};
+ghost use Rattle.std.specs.Option.{option_map};
+ghost use Rattle.std.specs.FinMap as fin;
+ghost use Rattle.outside.specs.View.{list_of, pending_of, at_of, change_of};
+ghost use Rattle.local_state.specs.Known.{plain_entry, zero_id, IsNext};
+ghost use Rattle.local_state.specs.Record.{PlainState, Entry, plain_state, plain_record, record_bytes, comes_after, may_change, has_bytes, HasRecord};
+ghost use Rattle.local_state.specs.Reading.{Gives, front_at, number_at, flag_at, magic_at, known_at, marks_at, table_at, name_at, change_at, entry_at, entries_at, list_at, head_at, record_at};
+
+use crate::known::Known;
+use crate::mark::Mark;
+use crate::state::{State, StateError};
+use crate::writing::{MAGIC, MARK_LEN};
+use block_id::BlockId;
+use outside::{Change, FileName, Pending};
+use std::alloc::Global;
+
+fn front_of(bytes: &[u8], len: usize) -> Result<(&[u8], &[u8]), StateError>
+    ensures gives { Gives (λ x. (x.0.now, x.1.now)) result (front_at len bytes.now) }
+    ensures length { IfOk result (λ x. length x.0.now ≡ len) }
+{
+    if bytes.len() < len {
+        return Err(StateError::BadState);
+    }
+    Ok(bytes.split_at(len))
+}
+
+fn id_of(bytes: &[u8]) -> Result<(BlockId, &[u8]), StateError>
+    ensures { Gives (λ x. (x.0.0, x.1.now)) result (front_at 16 bytes.now) }
+{
+    let (front, rest) = front_of(bytes, 16)?;
+    let mut id = [0; 16];
+    id.copy_from_slice(front);
+    Ok((BlockId(id), rest))
+}
+
+fn bytes_32_of(bytes: &[u8]) -> Result<([u8; 32], &[u8]), StateError>
+    ensures { Gives (λ x. (x.0, x.1.now)) result (front_at 32 bytes.now) }
+{
+    let (front, rest) = front_of(bytes, 32)?;
+    let mut found = [0; 32];
+    found.copy_from_slice(front);
+    Ok((found, rest))
+}
+
+fn u32_of(bytes: &[u8]) -> Result<(u32, &[u8]), StateError>
+    ensures { Gives (λ x. (x.0, x.1.now)) result (number_at w32 bytes.now) }
+{
+    if bytes.len() < 4 {
+        return Err(StateError::BadState);
+    }
+    let (front, rest) = bytes.split_at(4);
+    let number = u32::from_le_bytes([front[0], front[1], front[2], front[3]]);
+    Ok((number, rest))
+}
+
+fn u64_of(bytes: &[u8]) -> Result<(u64, &[u8]), StateError>
+    ensures { Gives (λ x. (x.0, x.1.now)) result (number_at w64 bytes.now) }
+{
+    if bytes.len() < 8 {
+        return Err(StateError::BadState);
+    }
+    let (front, rest) = bytes.split_at(8);
+    let number = u64::from_le_bytes([
+        front[0], front[1], front[2], front[3], front[4], front[5], front[6], front[7],
+    ]);
+    Ok((number, rest))
+}
+
+fn flag_of(bytes: &[u8]) -> Result<(bool, &[u8]), StateError>
+    ensures { Gives (λ x. (x.0, x.1.now)) result (flag_at bytes.now) }
+{
+    match bytes {
+        [0, rest @ ..] => Ok((false, rest)),
+        [1, rest @ ..] => Ok((true, rest)),
+        _ => Err(StateError::BadState),
+    }
+}
+
+fn magic_of(bytes: &[u8]) -> Result<&[u8], StateError>
+    ensures { Gives (λ rest. rest.now) result (magic_at bytes.now) }
+{
+    if !bytes.starts_with(&MAGIC) {
+        return Err(StateError::BadState);
+    }
+    Ok(&bytes[19..])
+}
+
+#[tactic(auto, unfolding(crate::specs::Reading::known_at))]
+fn known_of(previous: BlockId, bytes: &[u8]) -> Result<((BlockId, Mark), &[u8]), StateError>
+    ensures gives { Gives (λ x. (plain_entry x.0, x.1.now)) result (known_at previous.0 bytes.now) }
+    ensures next { IfOk result (λ x. IsNext previous.0 x.0.0.0 x.0.1) }
+{
+    let (id, rest) = id_of(bytes)?;
+    let (version, rest) = u64_of(rest)?;
+    let (live, rest) = flag_of(rest)?;
+    if !previous.cmp(&id).is_lt() {
+        return Err(StateError::BadState);
+    }
+    if version == 0 {
+        return Err(StateError::BadState);
+    }
+    Ok(((id, Mark { version, live }), rest))
+}
+
+fn marks_of(alloc: Global, count: u64, bytes: &[u8]) -> Result<(Known, &[u8]), StateError>
+    ensures { Gives (λ x. (x.0.marks, x.1.now)) result (marks_at count zero_id fin.empty bytes.now) }
+{
+    let mut known = Known::new(alloc);
+    known.reserve((bytes.len() / MARK_LEN).min(count as usize))?;
+    let mut previous = BlockId([0; 16]);
+    let mut rest = bytes;
+    'marks: for _ in 0..count {
+        let ((id, mark), after) = known_of(previous, rest)?;
+        known.learn(&id, mark)?;
+        previous = id;
+        rest = after;
+    }
+    Ok((known, rest))
+}
+
+#[tactic(auto, unfolding(crate::specs::Reading::table_at))]
+fn table_of(alloc: Global, bytes: &[u8]) -> Result<(Known, &[u8]), StateError>
+    ensures { Gives (λ x. (x.0.marks, x.1.now)) result (table_at bytes.now) }
+{
+    let (count, rest) = u64_of(bytes)?;
+    marks_of(alloc, count, rest)
+}
+
+#[tactic(auto, unfolding(crate::specs::Reading::name_at))]
+fn name_of(bytes: &[u8]) -> Result<(FileName, &[u8]), StateError>
+    ensures { Gives (λ x. (at_of x.0, x.1.now)) result (name_at bytes.now) }
+{
+    let (is_block, rest) = flag_of(bytes)?;
+    if !is_block {
+        return Ok((FileName::Config, rest));
+    }
+    let (id, rest) = id_of(rest)?;
+    Ok((FileName::Block(id), rest))
+}
+
+#[tactic(auto, unfolding(crate::specs::Reading::change_at))]
+fn change_in(alloc: Global, bytes: &[u8]) -> Result<(Change, &[u8]), StateError>
+    ensures { Gives (λ x. (change_of x.0, x.1.now)) result (change_at bytes.now) }
+{
+    let (has_bytes, rest) = flag_of(bytes)?;
+    if !has_bytes {
+        return Ok((Change::Removal, rest));
+    }
+    let (len, rest) = u32_of(rest)?;
+    let (new, rest) = front_of(rest, len as usize)?;
+    Ok((Change::Bytes(Vec::from_slice(alloc, new)?), rest))
+}
+
+fn comes_after(previous: Option<FileName>, name: FileName) -> bool
+    ensures { result ≡ comes_after (option_map at_of previous) (at_of name) }
+{
+    match previous {
+        None => true,
+        Some(FileName::Config) => matches!(name, FileName::Block(_)),
+        Some(FileName::Block(other)) => match name {
+            FileName::Config => false,
+            FileName::Block(id) => other.cmp(&id).is_lt(),
+        },
+    }
+}
+
+fn may_change(known: &Known, name: FileName, change: &Change) -> bool
+    ensures { result ≡ may_change known.now.marks (at_of name) (has_bytes (change_of change.now)) }
+{
+    match name {
+        FileName::Config => matches!(change, Change::Bytes(_)),
+        FileName::Block(id) => match change {
+            Change::Bytes(_) => known.is_live(&id),
+            Change::Removal => known.is_used(&id) && !known.is_live(&id),
+        },
+    }
+}
+
+#[tactic(auto, unfolding(crate::specs::Reading::entry_at))]
+fn entry_of<'a>(
+    alloc: Global,
+    known: &Known,
+    previous: Option<FileName>,
+    bytes: &'a [u8],
+) -> Result<(Pending, &'a [u8]), StateError>
+    ensures { Gives (λ x. (pending_of x.0, x.1.now)) result (entry_at known.now.marks (option_map at_of previous) bytes.now) }
+{
+    let (name, rest) = name_of(bytes)?;
+    let (change, rest) = change_in(alloc, rest)?;
+    if !comes_after(previous, name) || !may_change(known, name, &change) {
+        return Err(StateError::BadState);
+    }
+    Ok((Pending { name, change }, rest))
+}
+
+fn entries_of<'a>(
+    alloc: Global,
+    known: &Known,
+    count: u64,
+    bytes: &'a [u8],
+) -> Result<(Vec<Pending>, &'a [u8]), StateError>
+    ensures { Gives (λ x. (list_of x.0.items, x.1.now)) result (entries_at known.now.marks count None [] bytes.now) }
+{
+    let mut list = Vec::new(alloc);
+    let mut previous = None;
+    let mut rest = bytes;
+    'entries: for _ in 0..count {
+        let (entry, after) = entry_of(alloc, known, previous, rest)?;
+        previous = Some(entry.name);
+        list.push(entry)?;
+        rest = after;
+    }
+    Ok((list, rest))
+}
+
+#[tactic(auto, unfolding(crate::specs::Reading::list_at))]
+fn list_in<'a>(
+    alloc: Global,
+    known: &Known,
+    bytes: &'a [u8],
+) -> Result<(Vec<Pending>, &'a [u8]), StateError>
+    ensures { Gives (λ x. (list_of x.0.items, x.1.now)) result (list_at known.now.marks bytes.now) }
+{
+    let (count, rest) = u64_of(bytes)?;
+    entries_of(alloc, known, count, rest)
+}
+
+#[tactic(auto, unfolding(crate::specs::Reading::head_at))]
+fn head_of(alloc: Global, bytes: &[u8]) -> Result<(State, &[u8]), StateError>
+    ensures { Gives (λ x. (plain_state x.0, x.1.now)) result (head_at bytes.now) }
+{
+    let rest = magic_of(bytes)?;
+    let (marked, rest) = flag_of(rest)?;
+    let (fs_id, rest) = id_of(rest)?;
+    let (key_salt, rest) = bytes_32_of(rest)?;
+    let (key_digest, rest) = bytes_32_of(rest)?;
+    let (client, rest) = u32_of(rest)?;
+    if client == 0 {
+        return Err(StateError::BadState);
+    }
+    let state = State {
+        marked,
+        fs_id,
+        key_salt,
+        key_digest,
+        client,
+        known: Known::new(alloc),
+    };
+    Ok((state, rest))
+}
+
+#[tactic(auto, unfolding(crate::specs::Reading::record_at))]
+fn record_of(alloc: Global, bytes: &[u8]) -> Result<(State, Vec<Pending>), StateError>
+    ensures { Gives (λ x. (plain_state x.0, list_of x.1.items)) result (record_at bytes.now) }
+{
+    let (mut state, rest) = head_of(alloc, bytes)?;
+    let (known, rest) = table_of(alloc, rest)?;
+    state.known = known;
+    let (list, rest) = list_in(alloc, &state.known, rest)?;
+    if !rest.is_empty() {
+        return Err(StateError::BadState);
+    }
+    Ok((state, list))
+}
+
+/// The state and the list of a record.
+pub fn decode(alloc: Global, bytes: &[u8]) -> Result<(State, Vec<Pending>), StateError>
+    // What is read has these bytes.
+    ensures has_record { IfOk result (λ x. HasRecord (plain_state x.0) (list_of x.1.items)) }
+    ensures bytes { IfOk result (λ x. bytes.now ≡ record_bytes (plain_state x.0) (list_of x.1.items)) }
+    // No other state and list have them.
+    ensures only { IfOk result (λ x. (state : PlainState) (list : List Entry) → HasRecord state list
+        → bytes.now ≡ record_bytes state list → plain_record x ≡ (state, list)) }
+    // Where no state and list have these bytes.
+    ensures bad_state { IsErrOf result StateError.BadState → (state : PlainState) (list : List Entry) → HasRecord state list
+        → bytes.now ≢ record_bytes state list }
+{
+    record_of(alloc, bytes)
+}

@@ -1,0 +1,196 @@
+// Records byte by byte, each refusal, and the table of versions.
+ghost use Rattle.std.specs.Prelude.{◌<◌};
+
+use super::*;
+use block_id::BlockId;
+use std::alloc::{AllocError, Global};
+use std::test::Fail;
+
+const ONE: [u8; 16] = [1; 16];
+
+fn push_head(out: &mut Vec<u8>) -> Result<(), AllocError> {
+    out.extend_from_slice(b"cryfs.localstate;1\0")?;
+    out.push(0)?;
+    out.extend_from_slice(&[0x11; 16])?;
+    out.extend_from_slice(&[0x22; 32])?;
+    out.extend_from_slice(&[0x33; 32])?;
+    out.extend_from_slice(&[7, 0, 0, 0])
+}
+
+// Two known blocks, a live and a dead one, and a list of the configuration and both.
+fn full_record(alloc: Global) -> Result<Vec<u8>, AllocError> {
+    let mut out = Vec::new(alloc);
+    push_head(&mut out)?;
+    out.extend_from_slice(&[2, 0, 0, 0, 0, 0, 0, 0])?;
+    out.extend_from_slice(&[1; 16])?;
+    out.extend_from_slice(&[3, 1, 0, 0, 0, 0, 0, 0, 1])?;
+    out.extend_from_slice(&[2; 16])?;
+    out.extend_from_slice(&[2, 0, 0, 0, 0, 0, 0, 0, 0])?;
+    out.extend_from_slice(&[3, 0, 0, 0, 0, 0, 0, 0])?;
+    out.extend_from_slice(&[0, 1, 2, 0, 0, 0, b'h', b'i'])?;
+    out.push(1)?;
+    out.extend_from_slice(&[1; 16])?;
+    out.extend_from_slice(&[1, 1, 0, 0, 0, 9])?;
+    out.push(1)?;
+    out.extend_from_slice(&[2; 16])?;
+    out.push(0)?;
+    Ok(out)
+}
+
+fn state_of(known: Known) -> State
+    ensures { 0 < result.client }
+{
+    State {
+        marked: false,
+        fs_id: BlockId([0x11; 16]),
+        key_salt: [0x22; 32],
+        key_digest: [0x33; 32],
+        client: 7,
+        known,
+    }
+}
+
+fn raise(known: &mut Known, id: &BlockId) -> Result<Result<u64, Spent>, Fail> {
+    known.reserve(1)?;
+    if id.0 == [0; 16] {
+        return Err(Fail::from("the zero id"));
+    }
+    if known.is_used(id) && !known.is_live(id) {
+        return Err(Fail::from("a dead id"));
+    }
+    Ok(known.raise(id))
+}
+
+#[test]
+fn empty_record_has_120_bytes(rt: HostRuntime) -> Result<(), Fail> {
+    let mut expected = Vec::new(rt.alloc());
+    push_head(&mut expected)?;
+    expected.extend_from_slice(&[0; 16])?;
+    let bytes = encode(rt.alloc(), &state_of(Known::new(rt.alloc())), &[])?;
+    assert_eq!(rt; bytes.len(), 120);
+    assert_eq!(rt; bytes.as_slice(), expected.as_slice());
+    let (state, list) = decode(rt.alloc(), &bytes)?;
+    assert_eq!(rt; state.client, 7);
+    assert_eq!(rt; state.known.len(), 0);
+    assert_eq!(rt; list.len(), 0);
+    Ok(())
+}
+
+#[test]
+fn record_of_one_block_has_145_bytes(rt: HostRuntime) -> Result<(), Fail> {
+    let mut known = Known::new(rt.alloc());
+    assert_eq!(rt; raise(&mut known, &BlockId(ONE))?, Ok(1));
+    let bytes = encode(rt.alloc(), &state_of(known), &[])?;
+    let mut expected = Vec::new(rt.alloc());
+    push_head(&mut expected)?;
+    expected.extend_from_slice(&[1, 0, 0, 0, 0, 0, 0, 0])?;
+    expected.extend_from_slice(&ONE)?;
+    expected.extend_from_slice(&[1, 0, 0, 0, 0, 0, 0, 0, 1])?;
+    expected.extend_from_slice(&[0; 8])?;
+    assert_eq!(rt; bytes.len(), 145);
+    assert_eq!(rt; bytes.as_slice(), expected.as_slice());
+    Ok(())
+}
+
+#[test]
+fn record_with_a_list_is_read_and_written_again(rt: HostRuntime) -> Result<(), Fail> {
+    let bytes = full_record(rt.alloc())?;
+    let (state, list) = decode(rt.alloc(), &bytes)?;
+    assert_eq!(rt; state.known.version(&BlockId(ONE)), Some(259));
+    assert_eq!(rt; state.known.is_live(&BlockId([2; 16])), false);
+    assert_eq!(rt; list.len(), 3);
+    let again = encode(rt.alloc(), &state, &list)?;
+    assert_eq!(rt; again.as_slice(), bytes.as_slice());
+    Ok(())
+}
+
+// From where to where a byte is set, and what is then wrong.
+const WRONG: [(usize, usize, u8, &str); 17] = [
+    (0, 1, b'C', "other magic bytes"),
+    (19, 20, 2, "a mark of 2"),
+    (100, 101, 0, "client 0"),
+    (104, 105, 3, "more blocks than there are"),
+    (112, 128, 0, "a zero id"),
+    (128, 130, 0, "version 0"),
+    (136, 137, 2, "neither live nor dead"),
+    (137, 153, 1, "an id twice"),
+    (137, 138, 0, "ids out of order"),
+    (136, 137, 0, "bytes for a dead id"),
+    (161, 162, 1, "a removal for a live id"),
+    (162, 163, 4, "more entries than there are"),
+    (170, 171, 2, "a name of another kind"),
+    (178, 179, 0, "the configuration after itself"),
+    (179, 180, 9, "an unknown id"),
+    (196, 197, 0xff, "a longer file than there is"),
+    (202, 218, 1, "an entry twice"),
+];
+
+#[test]
+fn every_other_text_is_refused(rt: HostRuntime) -> Result<(), Fail> {
+    for (from, to, byte, what) in WRONG {
+        let mut bytes = full_record(rt.alloc())?;
+        for (i, old) in bytes.iter_mut().enumerate() {
+            if from <= i && i < to {
+                *old = byte;
+            }
+        }
+        assert!(rt;
+            matches!(decode(rt.alloc(), &bytes), Err(StateError::BadState)),
+            "{what}"
+        );
+    }
+    let mut bytes = full_record(rt.alloc())?;
+    for len in 0..bytes.len() {
+        assert!(rt;
+            matches!(decode(rt.alloc(), &bytes[..len]), Err(StateError::BadState)),
+            "{len} bytes"
+        );
+    }
+    bytes.push(0)?;
+    assert!(rt;
+        matches!(decode(rt.alloc(), &bytes), Err(StateError::BadState)),
+        "a byte more"
+    );
+    Ok(())
+}
+
+#[test]
+fn versions_rise_and_dead_ids_stay_used(rt: HostRuntime) -> Result<(), Fail> {
+    let id = BlockId([0xff; 16]);
+    let mut known = Known::new(rt.alloc());
+    assert_eq!(rt; raise(&mut known, &id)?, Ok(1));
+    assert_eq!(rt; raise(&mut known, &id)?, Ok(2));
+    if known.is_live(&id) {
+        known.bury(&id);
+    }
+    assert_eq!(rt; known.version(&id), Some(2));
+    assert_eq!(rt; known.is_live(&id), false);
+    let mut after = [0; 16];
+    after[15] = 1;
+    assert_eq!(rt; known.fresh(id), BlockId(after));
+    Ok(())
+}
+
+#[test]
+fn last_version_is_spent(rt: HostRuntime) -> Result<(), Fail> {
+    let mut bytes = full_record(rt.alloc())?;
+    for (i, old) in bytes.iter_mut().enumerate() {
+        if 128 <= i && i < 136 {
+            *old = 0xff;
+        }
+    }
+    let (mut state, _list) = decode(rt.alloc(), &bytes)?;
+    assert_eq!(rt; raise(&mut state.known, &BlockId(ONE))?, Err(Spent));
+    assert_eq!(rt; state.known.version(&BlockId(ONE)), Some(u64::MAX));
+    Ok(())
+}
+
+#[test]
+fn digest_is_that_of_salt_and_key(rt: HostRuntime) {
+    let zeros = [
+        0xf5, 0xa5, 0xfd, 0x42, 0xd1, 0x6a, 0x20, 0x30, 0x27, 0x98, 0xef, 0x6e, 0xd3, 0x09, 0x97,
+        0x9b, 0x43, 0x00, 0x3d, 0x23, 0x20, 0xd9, 0xf0, 0xe8, 0xea, 0x98, 0x31, 0xa9, 0x27, 0x59,
+        0xfb, 0x4b,
+    ];
+    assert_eq!(rt; key_digest(&[0; 32], &[0; 32]), zeros);
+}

@@ -1,0 +1,132 @@
+// The record of a state and a list, written.
+ghost use Rattle.std.specs.Prelude.{◌≡◌, ◌<◌, ◌^◌, ◌++◌, length, map, All, OnOk, IfOk};
+ghost use Rattle.std.specs.Int.{w64, to_le_bytes};
+ghost use Rattle.std.specs.FinMap as fin;
+ghost use Rattle.outside.specs.View.{list_of, pending_of, at_of, change_of};
+ghost use Rattle.local_state.specs.Known.{plain_entry, FitMarks};
+ghost use Rattle.local_state.specs.Record.{plain_state, head_bytes, mark_bytes, known_bytes, marks_bytes, name_bytes, change_bytes, entry_bytes, list_bytes, record_bytes, FitsHead, FitsBytes, FitsList, HasRecord};
+
+use crate::known::Known;
+use crate::mark::Mark;
+use crate::state::State;
+use block_id::{BlockId, Memory};
+use outside::{Change, FileName, Pending};
+use std::alloc::Global;
+
+// `cryfs.localstate;1` and a zero byte.
+pub(crate) const MAGIC: [u8; 19] = *b"cryfs.localstate;1\0";
+
+const HEAD_LEN: usize = 104;
+
+pub(crate) const MARK_LEN: usize = 25;
+
+const COUNT_LEN: usize = 8;
+
+fn put_head(out: &mut Vec<u8>, state: &State) -> Result<(), Memory>
+    ensures bytes { OnOk result (out.new.items ≡ out.old.items ++ head_bytes (plain_state state.now)) }
+    ensures fits { OnOk result (FitsHead (plain_state state.now)) }
+{
+    out.extend_from_slice(&MAGIC)?;
+    out.push(u8::from(state.marked))?;
+    out.extend_from_slice(&state.fs_id.0)?;
+    out.extend_from_slice(&state.key_salt)?;
+    out.extend_from_slice(&state.key_digest)?;
+    out.extend_from_slice(&state.client.to_le_bytes())?;
+    Ok(())
+}
+
+fn put_mark(out: &mut Vec<u8>, id: &BlockId, mark: &Mark) -> Result<(), Memory>
+    ensures { OnOk result (out.new.items ≡ out.old.items ++ mark_bytes (plain_entry (id.now, mark.now))) }
+{
+    out.extend_from_slice(&id.0)?;
+    out.extend_from_slice(&mark.version.to_le_bytes())?;
+    out.push(u8::from(mark.live))?;
+    Ok(())
+}
+
+fn put_entries(out: &mut Vec<u8>, entries: &[(BlockId, Mark)]) -> Result<(), Memory>
+    ensures { OnOk result (out.new.items ≡ out.old.items ++ known_bytes (map plain_entry entries.now)) }
+{
+    out.extend_from_slice(&(entries.len() as u64).to_le_bytes())?;
+    'marks: for entry in entries {
+        put_mark(out, &entry.0, &entry.1)?;
+    }
+    Ok(())
+}
+
+fn put_known(alloc: Global, out: &mut Vec<u8>, known: &Known) -> Result<(), Memory>
+    ensures bytes { OnOk result (out.new.items ≡ out.old.items ++ marks_bytes known.now.marks) }
+    ensures fits { OnOk result (FitMarks known.now.marks) }
+{
+    let entries = known.sorted(alloc)?;
+    put_entries(out, &entries)
+}
+
+fn put_name(out: &mut Vec<u8>, name: &FileName) -> Result<(), Memory>
+    ensures { OnOk result (out.new.items ≡ out.old.items ++ name_bytes (at_of name.now)) }
+{
+    match name {
+        FileName::Config => out.push(0)?,
+        FileName::Block(id) => {
+            out.push(1)?;
+            out.extend_from_slice(&id.0)?;
+        }
+    }
+    Ok(())
+}
+
+fn put_change(out: &mut Vec<u8>, change: &Change) -> Result<(), Memory>
+    requires { FitsBytes (change_of change.now) }
+    ensures { OnOk result (out.new.items ≡ out.old.items ++ change_bytes (change_of change.now)) }
+{
+    match change {
+        Change::Removal => out.push(0)?,
+        Change::Bytes(bytes) => {
+            out.push(1)?;
+            out.extend_from_slice(&(bytes.len() as u32).to_le_bytes())?;
+            out.extend_from_slice(bytes)?;
+        }
+    }
+    Ok(())
+}
+
+fn put_entry(out: &mut Vec<u8>, entry: &Pending) -> Result<(), Memory>
+    requires { FitsBytes (change_of entry.now.change) }
+    ensures { OnOk result (out.new.items ≡ out.old.items ++ entry_bytes (pending_of entry.now)) }
+{
+    put_name(out, &entry.name)?;
+    put_change(out, &entry.change)
+}
+
+fn put_list(out: &mut Vec<u8>, list: &[Pending]) -> Result<(), Memory>
+    requires { All (λ entry. FitsBytes (change_of entry.change)) list.now }
+    ensures { OnOk result (out.new.items ≡ out.old.items ++ list_bytes (list_of list.now)) }
+{
+    out.extend_from_slice(&(list.len() as u64).to_le_bytes())?;
+    'entries: for entry in list {
+        put_entry(out, entry)?;
+    }
+    Ok(())
+}
+
+/// The record of a state and a list.
+pub fn encode(alloc: Global, state: &State, list: &[Pending]) -> Result<Vec<u8>, Memory>
+    requires client { 0 < state.now.client }
+    requires list { FitsList state.now.known.marks (list_of list.now) }
+    ensures bytes { IfOk result (λ v. v.items ≡ record_bytes (plain_state state.now) (list_of list.now)) }
+    ensures has_record { OnOk result (HasRecord (plain_state state.now) (list_of list.now)) }
+{
+    let len = HEAD_LEN + 2 * COUNT_LEN;
+    let mut out = Vec::with_capacity(
+        alloc,
+        state
+            .known
+            .len()
+            .saturating_mul(MARK_LEN)
+            .saturating_add(len),
+    )?;
+    put_head(&mut out, state)?;
+    put_known(alloc, &mut out, &state.known)?;
+    put_list(&mut out, list)?;
+    Ok(out)
+}

@@ -1,0 +1,60 @@
+-- What a store over an outside that may lie means, whatever it stores.
+use Rattle.std.specs.Prelude.{ℕ, ◌≤◌}
+use Rattle.block_id.specs.declared.fail.Fail.{Fail}
+use Rattle.block_id.specs.declared.fail.Fail.TheVariants.{Memory, Fault, Violation}
+use Rattle.block_id.specs.declared.fail.Why.{Why}
+use Rattle.block_id.specs.declared.fail.Why.TheVariants.{Structure}
+use Rattle.outside.specs.Causes.{RoseBy}
+
+pub record Meanings (S : Type 0) : Type 1 where
+  -- what each value of the type keeps from call to call, whatever the outside answers
+  pub intact : S → Type 0
+  -- what the store keeps agrees with what was put
+  pub sound : S → Type 0
+  -- how many returned blocks opened that were never put
+  pub forgeries : S → ℕ
+  -- how many returned answers weren't what was last written
+  pub lies : S → ℕ
+  -- how often the outside failed
+  pub faults : S → ℕ
+  -- from the first to the second, blocks were only loaded
+  pub loaded : S → S → Type 0
+  -- on the way from the first to the second, a block was found wrong in this way
+  pub met : S → S → Why → Type 0
+
+pub record Lawful {S : Type 0} (M : Meanings S) : Type 0 where
+  pub same : (a : S) → M.loaded a a
+  pub onward : (a b c : S) → M.loaded a b → M.loaded b c → M.loaded a c
+  pub met_before : (a b c : S) (why : Why) → M.loaded a b → M.loaded b c → M.met a b why → M.met a c why
+  pub met_after : (a b c : S) (why : Why) → M.loaded a b → M.loaded b c → M.met b c why → M.met a c why
+  pub forgeries_grow : (a b : S) → M.loaded a b → M.forgeries a ≤ M.forgeries b
+  pub lies_grow : (a b : S) → M.loaded a b → M.lies a ≤ M.lies b
+  pub faults_grow : (a b : S) → M.loaded a b → M.faults a ≤ M.faults b
+  -- where nothing but what was last written came back, nothing came back that was never put
+  pub honest_unforged : (a b : S) → M.loaded a b → M.sound a → M.lies b ≤ M.lies a → M.forgeries b ≤ M.forgeries a
+
+-- of a failure that names a verdict on one block, this holds
+abbrev pub OnVerdict : Fail → (Why → Type 0) → Type 0
+OnVerdict Memory P = Unit {0}
+OnVerdict Fault P = Unit {0}
+OnVerdict (Violation Structure) P = Unit {0}
+OnVerdict (Violation why) P = P why
+
+-- no violation
+abbrev pub IsCalm : Fail → Type 0
+IsCalm Memory = Unit {0}
+IsCalm Fault = Unit {0}
+IsCalm (Violation why) = ⊥
+
+-- no violation of the structure
+abbrev pub IsOfBlocks : Fail → Type 0
+IsOfBlocks Memory = Unit {0}
+IsOfBlocks Fault = Unit {0}
+IsOfBlocks (Violation Structure) = ⊥
+IsOfBlocks (Violation why) = Unit {0}
+
+-- a fault comes only where the count of faults rose
+abbrev pub HasCause : Fail → ℕ → ℕ → Type 0
+HasCause Memory before now = Unit {0}
+HasCause Fault before now = RoseBy 1 before now
+HasCause (Violation why) before now = Unit {0}

@@ -1,0 +1,20 @@
+-- What the derived comparisons of names compute.
+use Rattle.std.proofs.Common.{◌≡◌, refl}
+use Rattle.outside.specs.declared.change.FileName.{FileName}
+use Rattle.outside.specs.declared.change.FileName.TheVariants.{Config, Block}
+use Rattle.outside.specs.contracts.change.FileNamePartialEq.TheImpl as partial_eq
+use Rattle.outside.specs.contracts.change.FileNameOrd.TheImpl as ord
+use Rattle.outside.specs.Names.{same_at, at_cmp}
+use Rattle.outside.specs.View.{at_of}
+
+pub same_names : (a b : FileName) → partial_eq.ghosts.eq a b ≡ same_at (at_of a) (at_of b)
+same_names Config Config = refl
+same_names Config (Block y) = refl
+same_names (Block x) Config = refl
+same_names (Block x) (Block y) = refl
+
+pub names_cmp : (a b : FileName) → ord.ghosts.cmp a b ≡ at_cmp (at_of a) (at_of b)
+names_cmp Config Config = refl
+names_cmp Config (Block y) = refl
+names_cmp (Block x) Config = refl
+names_cmp (Block x) (Block y) = refl

@@ -1,0 +1,76 @@
+-- Lists of changes that are written or set one after another.
+use Rattle.std.proofs.Common.{◌≡◌, ◌⊎◌, inl, inr, ℕ, ◌+◌, ◌-◌, ◌<◌, ◌≤◌, ◌^◌, min, true, false, List, [], ◌∷◌, ◌++◌, length, take, drop, get_or, refl, sym, ◌∙◌, ap, arith}
+use Rattle.std.specs.Prelude.{sum_by}
+use Rattle.std.proofs.Math.Seq.{take-append_seam}
+use Rattle.std.proofs.lemmas.List.{take-append-drop, drop-map, take_more, get_or-map, length-map, length-drop}
+use Rattle.std.proofs.lemmas.List.Sums.{sum_by_more}
+use Rattle.std.specs.declared.option.Option.{Option}
+use Rattle.outside.specs.declared.change.Pending.{Pending}
+use Rattle.outside.specs.Trace.{At, Call, adds}
+use Rattle.outside.specs.Changes.{Changes, set_change, set_changes}
+use Rattle.outside.specs.View.{at_of, change_of, pending_of, list_of}
+use Rattle.outside.proofs.Lists.{item_here}
+use Rattle.redo_vault.specs.Redo.{bytes_len, buffered_len}
+use Rattle.redo_vault.specs.Writes.{call_for, after_writes, StopsAt}
+
+after_push : (done : Changes) (change : At × Option (List ℕ)) (trace : Option (List Call)) → after_writes (done ++ change ∷ []) trace ≡ adds (after_writes done trace) (call_for change true)
+after_push [] change trace = refl
+after_push (first ∷ done) change trace = after_push done change (adds trace (call_for first true))
+
+within : (ps : List Pending) (i : ℕ) → i < length ps → i < length (list_of ps)
+within ps i h = omega (arith, length-map ps pending_of)
+
+entry_here : (ps : List Pending) (i : ℕ) (p : Pending) → i < length ps → p ≡ get_or ps i p → get_or (list_of ps) i (pending_of p) ≡ pending_of p
+entry_here ps i p h is = get_or-map pending_of ps i p (pending_of p) h ∙ ap pending_of (sym is)
+
+take_here : (ps : List Pending) (i : ℕ) (p : Pending) → i < length ps → p ≡ get_or ps i p → take (i + 1) (list_of ps) ≡ take i (list_of ps) ++ pending_of p ∷ []
+take_here ps i p h is =
+    take_more (list_of ps) i (pending_of p) (within ps i h) ∙ ap (λ e. take i (list_of ps) ++ e ∷ []) (entry_here ps i p h is)
+
+pub written_more : (ps : List Pending) (i : ℕ) (p : Pending) (first before now : Option (List Call)) → i < length ps → p ≡ get_or ps i p
+    → before ≡ after_writes (take i (list_of ps)) first → now ≡ adds before (call_for (pending_of p) true) → now ≡ after_writes (take (i + 1) (list_of ps)) first
+written_more ps i p first before now h is written wrote =
+    wrote ∙ ap (λ t. adds t (call_for (pending_of p) true)) written ∙ sym (after_push (take i (list_of ps)) (pending_of p) first)
+    ∙ ap (λ done. after_writes done first) (sym (take_here ps i p h is))
+
+failed_trace : (done : Changes) (change : At × Option (List ℕ)) (first before now : Option (List Call)) → before ≡ after_writes done first
+    → (now ≡ before) ⊎ (now ≡ adds before (call_for change false)) → (now ≡ after_writes done first) ⊎ (now ≡ adds (after_writes done first) (call_for change false))
+failed_trace done change first before now written (inl same) = inl (same ∙ written)
+failed_trace done change first before now written (inr went) = inr (went ∙ ap (λ t. adds t (call_for change false)) written)
+
+pub stops_here : (ps : List Pending) (i : ℕ) (p : Pending) (first before now : Option (List Call)) → i < length ps → p ≡ get_or ps i p
+    → before ≡ after_writes (take i (list_of ps)) first → (now ≡ before) ⊎ (now ≡ adds before (call_for (pending_of p) false))
+    → StopsAt (list_of ps) first now (drop i (list_of ps))
+stops_here ps i p first before now h is written went = record {
+  done = take i (list_of ps);
+  next = pending_of p;
+  rest = drop (i + 1) (list_of ps);
+  parts = sym (take-append-drop i (list_of ps));
+  stays = item_here ps i p h is;
+  trace = failed_trace (take i (list_of ps)) (pending_of p) first before now written went;
+}
+
+rotated : (ps : List Pending) (n left : ℕ) → n ≤ length ps → left ≡ length ps - n → take left (drop n ps ++ take n ps) ≡ drop n ps
+rotated ps n left h e =
+    ap (λ k. take k (drop n ps ++ take n ps)) (e ∙ sym (length-drop n ps)) ∙ take-append_seam (drop n ps) (take n ps)
+
+pub front_dropped : (ps rotated_ps new : List Pending) (n left : ℕ) → n ≤ length ps → left ≡ length ps - n → rotated_ps ≡ drop n ps ++ take n ps → new ≡ take left rotated_ps
+    → list_of new ≡ drop n (list_of ps)
+front_dropped ps rotated_ps new n left h e r t =
+    ap list_of (t ∙ ap (take left) r ∙ rotated ps n left h e) ∙ sym (drop-map pending_of n ps)
+
+pub set_more : (ps : List Pending) (i : ℕ) (p : Pending) (old new target : Changes) → i < length ps → p ≡ get_or ps i p
+    → set_changes (drop i (list_of ps)) old ≡ target → new ≡ set_change (at_of p.name) (change_of p.change) old → set_changes (drop (i + 1) (list_of ps)) new ≡ target
+set_more ps i p old new target h is so e =
+    ap (set_changes (drop (i + 1) (list_of ps))) e ∙ ap (λ changes. set_changes changes old) (sym (item_here ps i p h is)) ∙ so
+
+sum_more : (a b x : ℕ) (n : ℕ) → a ≡ min b n → min (a + x) n ≡ min (b + x) n
+sum_more a b x n e = omega arith
+
+pub buffered_more : (ps : List Pending) (i : ℕ) (p : Pending) (old len new : ℕ) → i < length ps → p ≡ get_or ps i p → old ≡ buffered_len (take i (list_of ps)) → len ≡ bytes_len (change_of p.change)
+    → new ≡ min (old + len) (2 ^ 64 - 1) → new ≡ buffered_len (take (i + 1) (list_of ps))
+buffered_more ps i p old len new h is so l e =
+    let more : sum_by (λ c. bytes_len c.1) (take (i + 1) (list_of ps)) ≡ sum_by (λ c. bytes_len c.1) (take i (list_of ps)) + bytes_len (change_of p.change) =
+    sum_by_more (λ c. bytes_len c.1) (list_of ps) i (pending_of p) (within ps i h) ∙ ap (λ c. sum_by (λ d. bytes_len d.1) (take i (list_of ps)) + bytes_len c.1) (entry_here ps i p h is) in
+    e ∙ ap (λ x. min (old + x) (2 ^ 64 - 1)) l ∙ sum_more old (sum_by (λ c. bytes_len c.1) (take i (list_of ps))) (bytes_len (change_of p.change)) (2 ^ 64 - 1) so
+    ∙ ap (λ x. min x (2 ^ 64 - 1)) (sym more)

@@ -1,0 +1,249 @@
+// Changes that aren't written yet, over a directory.
+ghost use Rattle.std.specs.Prelude.{◌≡◌, ◌⊎◌, ◌≤◌, ◌<◌, ◌+◌, [], length, vec_len, vec_capacity, drop, true, false, IfOk, IfSome, OnOk, OnErr, IsErrOf};
+ghost use Rattle.std.specs.declared.option.Option.{Option};
+ghost use Rattle.std.specs.declared.option.Option.TheVariants.{None, Some};
+ghost use Rattle.outside.specs.Causes.{HasCause};
+ghost use Rattle.outside.specs.Trace.{adds};
+ghost use Rattle.outside.specs.Changes.{Changes, IsIncreasing, change_at, set_changes};
+ghost use Rattle.outside.specs.View.{at_of, bytes_of, change_of, list_of, pending_of};
+ghost use Rattle.redo_vault.specs.Redo.{Gave, bytes_len, buffered_len};
+ghost use Rattle.redo_vault.specs.Writes.{call_for, after_writes, StopsAt};
+
+use outside::{Change, FileName, GetFail, Memory, Pending, Vault, pending_list};
+use std::alloc::Global;
+use std::marker::Model;
+
+/// A directory, and changes of it by increasing names that aren't written yet.
+#[derive(Drop)]
+pub struct RedoVault<V> {
+    vault: V,
+    list: Vec<Pending>,
+}
+
+impl<V> Model for RedoVault<V> {
+    ghost use Rattle.redo_vault.specs.Redo.{Redo};
+    ghost use Rattle.outside.specs.Changes.{IsIncreasing};
+    ghost use Rattle.outside.specs.View.{list_of};
+
+    ghost Value = { Redo V };
+
+    ghost view = { λ r. record { vault = r.vault; list = list_of r.list.items } };
+
+    ghost invariant = { λ r. IsIncreasing (list_of r.list.items) };
+}
+
+// Makes the one call that writes a change.
+fn write<V: Vault>(alloc: Global, vault: &mut V, pending: &Pending) -> Result<(), GetFail>
+    ensures ok { OnOk result (V.trace vault.new ≡ adds (V.trace vault.old) (call_for (pending_of pending.now) true)) }
+    ensures err { OnErr result ((V.trace vault.new ≡ V.trace vault.old)
+        ⊎ (V.trace vault.new ≡ adds (V.trace vault.old) (call_for (pending_of pending.now) false))) }
+    ensures cause { HasCause (V.faults vault.old) (V.faults vault.new) result }
+{
+    match &pending.change {
+        Change::Bytes(bytes) => vault.put(alloc, &pending.name, bytes),
+        Change::Removal => vault.remove(alloc, &pending.name),
+    }
+}
+
+// Writes the changes in order until a call fails, and says how many were written.
+fn write_all<V: Vault>(
+    alloc: Global,
+    vault: &mut V,
+    list: &[Pending],
+) -> (usize, Result<(), GetFail>)
+    ensures within { result.0 ≤ length list.now }
+    ensures all { OnOk result.1 (result.0 ≡ length list.now) }
+    ensures ok { OnOk result.1 (V.trace vault.new ≡ after_writes (list_of list.now) (V.trace vault.old)) }
+    ensures err { OnErr result.1 (StopsAt (list_of list.now) (V.trace vault.old) (V.trace vault.new) (drop result.0 (list_of list.now))) }
+    ensures cause { HasCause (V.faults vault.old) (V.faults vault.new) result.1 }
+    ensures idle { length list.now ≡ 0 → vault.new ≡ vault.old }
+{
+    for (i, pending) in list.iter().enumerate() {
+        match write(alloc, vault, pending) {
+            Ok(()) => {}
+            Err(fail) => return (i, Err(fail)),
+        }
+    }
+    (list.len(), Ok(()))
+}
+
+// Sets the changes, one after another, in a list that has room for them.
+fn set_all(list: &mut Vec<Pending>, changes: Vec<Pending>)
+    requires { vec_len list.old + vec_len changes ≤ vec_capacity list.old }
+    ensures { list_of list.new.items ≡ set_changes (list_of changes.items) (list_of list.old.items) }
+{
+    for change in changes {
+        pending_list::set(list, change);
+    }
+}
+
+// Drops the first n changes.
+fn drop_front(list: &mut Vec<Pending>, n: usize)
+    requires { n ≤ vec_len list.old }
+    ensures { list_of list.new.items ≡ drop n (list_of list.old.items) }
+{
+    let left = list.len() - n;
+    list.rotate_left(n);
+    list.truncate(left);
+}
+
+fn len_of(change: &Change) -> usize
+    ensures { result ≡ bytes_len (change_of change.now) }
+{
+    match change {
+        Change::Bytes(bytes) => bytes.len(),
+        Change::Removal => 0,
+    }
+}
+
+fn sum_of_lens(list: &[Pending]) -> usize
+    ensures { result ≡ buffered_len (list_of list.now) }
+{
+    let mut len: usize = 0;
+    for pending in list {
+        len = len.saturating_add(len_of(&pending.change));
+    }
+    len
+}
+
+impl<V: Vault> RedoVault<V> {
+    /// A directory and a list of changes that stand in order of their names.
+    pub fn new(vault: V, list: Vec<Pending>) -> RedoVault<V>
+        requires { IsIncreasing (list_of list.items) }
+        ensures { result ≡ record { vault = vault; list = list_of list.items } }
+    {
+        RedoVault { vault, list }
+    }
+
+    /// The directory, without what isn't written yet.
+    pub fn into_vault(self) -> V
+        ensures { result ≡ self.vault }
+    {
+        let RedoVault { vault, list } = self;
+        drop(list);
+        vault
+    }
+
+    /// The changes that aren't written yet.
+    pub fn entries(&self) -> &[Pending]
+        ensures entries { list_of result.now ≡ self.now.list }
+        ensures increasing { IsIncreasing self.now.list }
+    {
+        &self.list
+    }
+
+    /// The file's bytes, at most `max` of them, or None where it isn't there: as the list says, else by one call.
+    pub fn get(
+        &mut self,
+        alloc: Global,
+        name: &FileName,
+        max: usize,
+    ) -> Result<Option<Vec<u8>>, GetFail>
+        ensures bound { IfOk result (λ answer. IfSome answer (λ bytes. length bytes.items ≤ max)) }
+        ensures gave { IfOk result (λ answer. Gave (change_at (at_of name.now) self.old.list)
+            (V.trace self.old.vault) (V.trace self.new.vault) (at_of name.now) max (bytes_of answer)) }
+        ensures err { OnErr result (V.trace self.new.vault ≡ V.trace self.old.vault) }
+        ensures without_a_call { IfSome (change_at (at_of name.now) self.old.list) (λ _. self.new ≡ self.old) }
+        ensures failed_by_a_call { IsErrOf result GetFail.Failed → change_at (at_of name.now) self.old.list ≡ None }
+        ensures list { self.new.list ≡ self.old.list }
+        ensures cause { HasCause (V.faults self.old.vault) (V.faults self.new.vault) result }
+    {
+        match pending_list::lookup(&self.list, name) {
+            Some(change) => Ok(pending_list::cut_change(alloc, change, max)?),
+            None => self.vault.get(alloc, name, max),
+        }
+    }
+
+    /// Sets each of these changes in its place, all or none.
+    pub fn put_all(&mut self, changes: Vec<Pending>) -> Result<(), Memory>
+        ensures ok { OnOk result (self.new.list ≡ set_changes (list_of changes.items) self.old.list) }
+        ensures err { OnErr result (self.new.list ≡ self.old.list) }
+        ensures vault { self.new.vault ≡ self.old.vault }
+    {
+        self.list.reserve(changes.len())?;
+        set_all(&mut self.list, changes);
+        Ok(())
+    }
+
+    /// How many bytes are to be put, or the greatest number where they are more.
+    pub fn buffered(&self) -> usize
+        ensures { result ≡ buffered_len self.now.list }
+    {
+        sum_of_lens(&self.list)
+    }
+
+    /// Puts or removes what isn't written yet, in order. Each change leaves the list as its call answers Ok; the
+    /// rest stays at the first error, which is answered.
+    pub fn write_out(&mut self, alloc: Global) -> Result<(), GetFail>
+        ensures ok { OnOk result (V.trace self.new.vault ≡ after_writes self.old.list (V.trace self.old.vault)) }
+        ensures all_left { OnOk result (self.new.list ≡ []) }
+        ensures err { OnErr result (StopsAt self.old.list (V.trace self.old.vault) (V.trace self.new.vault) self.new.list) }
+        ensures idle { length self.old.list ≡ 0 → self.new.vault ≡ self.old.vault }
+        ensures cause { HasCause (V.faults self.old.vault) (V.faults self.new.vault) result }
+    {
+        let (written, outcome) = write_all(alloc, &mut self.vault, &self.list);
+        drop_front(&mut self.list, written);
+        outcome
+    }
+}
+
+#[cfg(test)]
+mod tests {
+    use super::*;
+    use block_id::BlockId;
+    use outside::MemoryVault;
+    use std::test::Fail;
+
+    const FIRST: FileName = FileName::Block(BlockId([1; 16]));
+
+    const SECOND: FileName = FileName::Block(BlockId([2; 16]));
+
+    fn three_changes(alloc: Global) -> Result<Vec<Pending>, Fail> {
+        let mut changes = Vec::new(alloc);
+        changes.push(Pending {
+            name: FileName::Config,
+            change: Change::Bytes([1, 2, 3].to_vec(alloc)?),
+        })?;
+        changes.push(Pending {
+            name: FIRST,
+            change: Change::Removal,
+        })?;
+        changes.push(Pending {
+            name: SECOND,
+            change: Change::Bytes([4].to_vec(alloc)?),
+        })?;
+        Ok(changes)
+    }
+
+    #[test]
+    fn keeps_what_is_not_written_after_a_fault(rt: HostRuntime) -> Result<(), Fail> {
+        let mut below = MemoryVault::new(rt.alloc());
+        below.fail_calls([2].to_vec(rt.alloc())?);
+        let mut vault = RedoVault::new(below, Vec::new(rt.alloc()));
+        vault.put_all(three_changes(rt.alloc())?)?;
+        assert_eq!(rt; vault.entries().len(), 3);
+        assert_eq!(rt; vault.write_out(rt.alloc()).err(), Some(GetFail::Failed));
+        assert_eq!(rt; vault.entries().len(), 2);
+        assert_eq!(rt; vault.buffered(), 1);
+        vault.write_out(rt.alloc())?;
+        assert_eq!(rt; vault.entries().len(), 0);
+        let below = vault.into_vault();
+        assert_eq!(rt; below.trace().len(), 4);
+        assert_eq!(rt; below.files().len(), 2);
+        Ok(())
+    }
+
+    #[test]
+    fn answers_from_the_list_without_a_call(rt: HostRuntime) -> Result<(), Fail> {
+        let mut vault = RedoVault::new(MemoryVault::new(rt.alloc()), Vec::new(rt.alloc()));
+        assert!(rt; vault.get(rt.alloc(), &FIRST, 9)?.is_none());
+        vault.put_all(three_changes(rt.alloc())?)?;
+        let answer = vault
+            .get(rt.alloc(), &FileName::Config, 2)?
+            .ok_or("no file")?;
+        assert_eq!(rt; answer.as_slice(), [1, 2].as_slice());
+        assert!(rt; vault.get(rt.alloc(), &FIRST, 9)?.is_none());
+        assert_eq!(rt; vault.into_vault().trace().len(), 1);
+        Ok(())
+    }
+}

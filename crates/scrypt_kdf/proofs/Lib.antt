@@ -1,0 +1,10 @@
+mod Blocks
+mod Digests
+mod Halves
+mod Lanes
+mod Lengths
+mod Numbers
+mod Diagonals
+mod Parts
+mod Powers
+mod Sixteen

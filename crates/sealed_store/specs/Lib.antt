@@ -1,0 +1,2 @@
+pub mod BlockFiles
+pub mod Stores

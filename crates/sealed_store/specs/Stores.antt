@@ -1,0 +1,38 @@
+-- What a store of sealed blocks was made with, and what it sees.
+use Rattle.std.specs.Prelude.{◌≡◌, ℕ, ◌+◌, ◌≤◌, List}
+use Rattle.std.specs.declared.option.Option.{Option}
+use Rattle.outside.specs.Trace.{Call, block}
+use Rattle.redo_vault.specs.Redo.{Gave}
+use Rattle.sealed_store.specs.declared.seen.Seen.{Seen}
+use Rattle.sealed_store.specs.declared.seen.Seen.TheVariants.{Absent, BadLength, BadPrefix, NotOpened, Plain}
+use Rattle.sealed_store.specs.declared.sealed_store.SealedStore.{SealedStore}
+use Rattle.sealed_store.specs.BlockFiles.{Sight, absent, bad_length, bad_prefix, not_opened, plain, sight_in}
+
+abbrev pub sight_of : Seen → Sight
+sight_of Absent = absent
+sight_of BadLength = bad_length
+sight_of BadPrefix = bad_prefix
+sight_of NotOpened = not_opened
+sight_of (Plain bytes) = plain bytes.items
+
+-- a block size within its limits, and an IV of 16 bytes
+pub record IsIntact (block_size iv_size : ℕ) : Type 0 where
+  pub least : 128 ≤ block_size
+  pub most : block_size ≤ 1048576
+  pub iv : iv_size ≡ 16
+
+-- the parts that a store was made of
+abbrev pub block_size_of : {V C : Type 0} → SealedStore V C → ℕ
+block_size_of s = s.block_size
+
+abbrev pub key_of : {V C : Type 0} → SealedStore V C → List ℕ
+key_of s = s.key
+
+abbrev pub cipher_of : {V C : Type 0} → SealedStore V C → C
+cipher_of s = s.cipher
+
+-- The file of a block, by what the list says of it or else by one call, was asked for with one byte more than a file has; it is seen so.
+pub record Sees (opens : List ℕ → Option (List ℕ)) (block_size : ℕ) (change : Option (Option (List ℕ))) (old new : Option (List Call)) (id : List ℕ) (sight : Sight) : Type 0 where
+  pub answer : Option (List ℕ)
+  pub gave : Gave change old new (block id) (block_size + 1) answer
+  pub shows : sight ≡ sight_in opens block_size answer

@@ -1,0 +1,8 @@
+//! Sealed block files over a directory with changes that aren't written yet.
+#![tactic(auto)]
+
+mod sealed_store;
+mod seen;
+
+pub use sealed_store::SealedStore;
+pub use seen::Seen;

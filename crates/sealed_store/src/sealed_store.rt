@@ -1,0 +1,223 @@
+// Block files, opened and sealed.
+ghost use Rattle.std.specs.Prelude.{◌≡◌, ◌⊎◌, ◌≤◌, ◌+◌, ℕ, List, length, take, drop, IfOk, IfSome, OnErr, IsErrOf};
+ghost use Rattle.std.specs.declared.option.Option.{Option};
+ghost use Rattle.std.specs.declared.option.Option.TheVariants.{None, Some};
+ghost use Rattle.outside.specs.Causes.{HasCause};
+ghost use Rattle.outside.specs.Trace.{block};
+ghost use Rattle.outside.specs.Changes.{change_at};
+ghost use Rattle.outside.specs.View.{bytes_of};
+ghost use Rattle.redo_vault.specs.Redo.{Gave};
+ghost use Rattle.sealed_store.specs.BlockFiles.{prefix, opens_file, sight_in};
+ghost use Rattle.sealed_store.specs.Stores.{sight_of, IsIntact, Sees, block_size_of, key_of, cipher_of};
+
+use crate::Seen;
+use block_id::BlockId;
+use outside::{FileName, GetFail, Memory, Vault};
+use redo_vault::RedoVault;
+use seal_api::Sealer;
+use std::alloc::Global;
+
+const PREFIX: [u8; 16] = *b"cryfs;block;0\0\x01\0";
+
+/// A directory of block files under one key.
+#[derive(Drop)]
+pub struct SealedStore<V, C> {
+    pub vault: RedoVault<V>,
+    cipher: C,
+    key: [u8; 32],
+    block_size: usize,
+}
+
+// What an answer shows.
+fn see<C: Sealer>(
+    alloc: Global,
+    cipher: &C,
+    key: &[u8; 32],
+    block_size: usize,
+    answer: &Option<Vec<u8>>,
+) -> Result<Seen, Memory>
+    requires { 16 ≤ block_size }
+    ensures { IfOk result (λ seen. sight_of seen ≡ sight_in (C.opens cipher.now key.now) block_size (bytes_of answer.now)) }
+{
+    let Some(bytes) = answer else {
+        return Ok(Seen::Absent);
+    };
+    if bytes.len() != block_size {
+        return Ok(Seen::BadLength);
+    }
+    if !bytes.starts_with(&PREFIX) {
+        return Ok(Seen::BadPrefix);
+    }
+    match cipher.unseal(alloc, key, &bytes[16..])? {
+        Some(plain) => Ok(Seen::Plain(plain)),
+        None => Ok(Seen::NotOpened),
+    }
+}
+
+impl<V: Vault, C: Sealer> SealedStore<V, C> {
+    /// A directory of block files of `block_size` bytes, sealed under this key.
+    pub fn new(vault: RedoVault<V>, cipher: C, key: [u8; 32], block_size: usize) -> Self
+        requires size { (128 ≤ block_size) × (block_size ≤ 1048576) }
+        requires iv { C.iv_size cipher ≡ 16 }
+        ensures vault { result.vault ≡ vault }
+        ensures cipher { cipher_of result ≡ cipher }
+        ensures key { key_of result ≡ key }
+        ensures size { block_size_of result ≡ block_size }
+        ensures intact { IsIntact (block_size_of result) (C.iv_size (cipher_of result)) }
+    {
+        SealedStore {
+            vault,
+            cipher,
+            key,
+            block_size,
+        }
+    }
+
+    /// How many bytes an IV has.
+    pub fn iv_len(&self) -> usize
+        ensures { result ≡ C.iv_size (cipher_of self.now) }
+    {
+        self.cipher.iv_len()
+    }
+
+    /// How many bytes a block file has.
+    pub fn block_size(&self) -> usize
+        ensures { result ≡ block_size_of self.now }
+    {
+        self.block_size
+    }
+
+    /// What the directory gives for a block, asked for one byte more than a file has.
+    pub fn get_plain(&mut self, alloc: Global, id: &BlockId) -> Result<Seen, GetFail>
+        requires { IsIntact (block_size_of self.old) (C.iv_size (cipher_of self.old)) }
+        ensures sees { IfOk result (λ seen. Sees (C.opens (cipher_of self.old) (key_of self.old)) (block_size_of self.old)
+            (change_at (block id.now.0) self.old.vault.list) (V.trace self.old.vault.vault) (V.trace self.new.vault.vault) id.now.0 (sight_of seen)) }
+        ensures asked_once { OnErr result ((V.trace self.new.vault.vault ≡ V.trace self.old.vault.vault)
+            ⊎ ((answer : Option (List ℕ)) × Gave (change_at (block id.now.0) self.old.vault.list) (V.trace self.old.vault.vault)
+            (V.trace self.new.vault.vault) (block id.now.0) (block_size_of self.old + 1) answer)) }
+        ensures failed { IsErrOf result GetFail.Failed → V.trace self.new.vault.vault ≡ V.trace self.old.vault.vault }
+        ensures failed_by_a_call { IsErrOf result GetFail.Failed → change_at (block id.now.0) self.old.vault.list ≡ None }
+        ensures without_a_call { IfSome (change_at (block id.now.0) self.old.vault.list) (λ _. self.new.vault ≡ self.old.vault) }
+        ensures list { self.new.vault.list ≡ self.old.vault.list }
+        ensures same { self.new ≡ record self.old { vault = self.new.vault } }
+        ensures intact { IsIntact (block_size_of self.new) (C.iv_size (cipher_of self.new)) }
+        ensures cause { HasCause (V.faults self.old.vault.vault) (V.faults self.new.vault.vault) result }
+    {
+        let name = FileName::Block(*id);
+        let answer = self.vault.get(alloc, &name, self.block_size + 1)?;
+        match see(alloc, &self.cipher, &self.key, self.block_size, &answer) {
+            Ok(seen) => Ok(seen),
+            Err(Memory) => Err(GetFail::Memory),
+        }
+    }
+
+    /// The block file with this IV that opens to this plaintext.
+    pub fn seal_plain(
+        &self,
+        alloc: Global,
+        id: &BlockId,
+        plain: &[u8],
+        iv: &[u8],
+    ) -> Result<Vec<u8>, Memory>
+        requires intact { IsIntact (block_size_of self.now) (C.iv_size (cipher_of self.now)) }
+        requires plain { length plain.now + 48 ≡ block_size_of self.now }
+        requires iv { length iv.now ≡ C.iv_size (cipher_of self.now) }
+        ensures len { IfOk result (λ file. length file.items ≡ block_size_of self.now) }
+        ensures prefix { IfOk result (λ file. take 16 file.items ≡ prefix) }
+        ensures iv { IfOk result (λ file. take 16 (drop 16 file.items) ≡ iv.now) }
+        ensures opens { IfOk result (λ file. opens_file (C.opens (cipher_of self.now) (key_of self.now)) (block_size_of self.now) file.items ≡ Some plain.now) }
+    {
+        let _ = id;
+        let mut file = Vec::with_capacity(alloc, self.block_size)?;
+        file.extend_from_slice(&PREFIX)?;
+        self.cipher.seal(&self.key, iv, plain, &mut file)?;
+        Ok(file)
+    }
+}
+
+#[cfg(test)]
+mod tests {
+    use super::*;
+    use aes_gcm::Aes256Gcm;
+    use outside::MemoryVault;
+    use std::test::Fail;
+
+    const ID: BlockId = BlockId([7; 16]);
+
+    // A store of blocks of 128 bytes.
+    fn store_over(alloc: Global, below: MemoryVault) -> SealedStore<MemoryVault, Aes256Gcm>
+        ensures intact { IsIntact (block_size_of result) (⟦<Aes256Gcm as Sealer>⟧.iv_size (cipher_of result)) }
+        ensures size { block_size_of result ≡ 128 }
+    {
+        let vault = RedoVault::new(below, Vec::new(alloc));
+        SealedStore::new(vault, Aes256Gcm, [3; 32], 128)
+    }
+
+    fn sealed(alloc: Global) -> Result<Vec<u8>, Fail> {
+        let store = store_over(alloc, MemoryVault::new(alloc));
+        Ok(store.seal_plain(alloc, &ID, &[5; 80], &[9; 16])?)
+    }
+
+    fn seen_of(alloc: Global, file: &[u8]) -> Result<Seen, Fail> {
+        let mut below = MemoryVault::new(alloc);
+        below.put(alloc, &FileName::Block(ID), file)?;
+        Ok(store_over(alloc, below).get_plain(alloc, &ID)?)
+    }
+
+    #[test]
+    fn opens_what_it_sealed(rt: HostRuntime) -> Result<(), Fail> {
+        let file = sealed(rt.alloc())?;
+        assert_eq!(rt; file.len(), 128);
+        assert!(rt; file.starts_with(b"cryfs;block;0\0\x01\0"));
+        match seen_of(rt.alloc(), &file)? {
+            Seen::Plain(plain) => assert_eq!(rt; plain.as_slice(), [5; 80].as_slice()),
+            _ => assert!(rt; false),
+        }
+        Ok(())
+    }
+
+    // The sealed file with one byte changed.
+    fn changed(alloc: Global, at: usize) -> Result<Vec<u8>, Fail> {
+        let mut file = sealed(alloc)?;
+        let byte = file.get_mut(at).ok_or("no such byte")?;
+        *byte ^= 1;
+        Ok(file)
+    }
+
+    #[test]
+    fn tells_other_prefixes_from_seals_that_do_not_open(rt: HostRuntime) -> Result<(), Fail> {
+        assert!(rt;
+            matches!(
+                seen_of(rt.alloc(), &changed(rt.alloc(), 15)?)?,
+                Seen::BadPrefix
+            )
+        );
+        assert!(rt;
+            matches!(
+                seen_of(rt.alloc(), &changed(rt.alloc(), 16)?)?,
+                Seen::NotOpened
+            )
+        );
+        assert!(rt;
+            matches!(
+                seen_of(rt.alloc(), &changed(rt.alloc(), 127)?)?,
+                Seen::NotOpened
+            )
+        );
+        Ok(())
+    }
+
+    #[test]
+    fn sees_files_that_are_absent_too_long_or_too_short(rt: HostRuntime) -> Result<(), Fail> {
+        let mut store = store_over(rt.alloc(), MemoryVault::new(rt.alloc()));
+        assert_eq!(rt; store.iv_len(), 16);
+        assert_eq!(rt; store.block_size(), 128);
+        assert!(rt; matches!(store.get_plain(rt.alloc(), &ID)?, Seen::Absent));
+        let mut file = sealed(rt.alloc())?;
+        file.push(0)?;
+        assert!(rt; matches!(seen_of(rt.alloc(), &file)?, Seen::BadLength));
+        file.truncate(127);
+        assert!(rt; matches!(seen_of(rt.alloc(), &file)?, Seen::BadLength));
+        Ok(())
+    }
+}

@@ -1,0 +1,12 @@
+// How the answer for a block's file is seen.
+
+/// What a directory gave for a block: nothing, a file of another length, one that begins with other bytes, one whose
+/// seal doesn't open, or the plaintext of its record.
+#[derive(Debug, Drop)]
+pub enum Seen {
+    Absent,
+    BadLength,
+    BadPrefix,
+    NotOpened,
+    Plain(Vec<u8>),
+}

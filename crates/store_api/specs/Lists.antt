@@ -1,0 +1,25 @@
+-- The list of changes that aren't written yet.
+use Rattle.std.specs.Prelude.{◌≡◌, ◌<◌, ◌+◌, ◌^◌, ℕ, List, [], ◌∷◌, length, take, codes, ◌++◌}
+use Rattle.std.specs.declared.option.Option.{Option}
+use Rattle.std.specs.declared.option.Option.TheVariants.{None, Some}
+use Rattle.outside.specs.Trace.{At, config, block}
+
+-- how many bytes the list has to put
+abbrev pub waiting_bytes : List (At × Option (List ℕ)) → ℕ
+waiting_bytes [] = 0
+waiting_bytes ((name, Some bytes) ∷ entries) = length bytes + waiting_bytes entries
+waiting_bytes ((name, None) ∷ entries) = waiting_bytes entries
+
+-- the list with these bytes for the configuration, which stands first
+abbrev pub with_config : List ℕ → List (At × Option (List ℕ)) → List (At × Option (List ℕ))
+with_config bytes [] = (config, Some bytes) ∷ []
+with_config bytes ((config, change) ∷ entries) = (config, Some bytes) ∷ entries
+with_config bytes ((block id, change) ∷ entries) = (config, Some bytes) ∷ (block id, change) ∷ entries
+
+-- the first bytes of a block's file
+abbrev pub block_magic : List ℕ
+block_magic = codes "cryfs;block;0" ++ 0 ∷ []
+
+-- bytes that may wait as the configuration: short enough for the record, and no block's file
+abbrev pub MayConfigure : List ℕ → Type 0
+MayConfigure bytes = (length bytes < 2 ^ 32) × (take 14 bytes ≡ block_magic → ⊥)

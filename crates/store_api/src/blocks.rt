@@ -1,0 +1,81 @@
+// A store of payloads under ids.
+ghost use Rattle.std.specs.Prelude.{◌≡◌, ◌≤◌, IfOk, IfErr, IfSome, OnOk, OnErr, length, is_some, ◌↔◌};
+ghost use Rattle.std.specs.declared.result.Result.TheVariants.{Err};
+ghost use Rattle.outside.specs.View.{bytes_of};
+ghost use Rattle.outcome.specs.Meanings.{Meanings, Lawful, IsOfBlocks};
+ghost use Rattle.outcome.specs.Outcome.{Outcome};
+ghost use Rattle.block_id.specs.Fresh.{IsFirstFree};
+ghost use Rattle.store_api.specs.Content.{Changes};
+ghost use Rattle.store_api.specs.Holdings.{Holdings, Steady, Stays, Fits, Changed, IsSpent, IsFew, is_free, has_id};
+
+use crate::Batch;
+use block_id::{BlockId, Fail};
+use rand_core::Rng;
+use std::alloc::Global;
+
+/// Why a batch isn't applied: want of memory, or an id that can get no further payload.
+#[derive(Clone, Copy, Debug, PartialEq, Eq)]
+pub enum ApplyError {
+    Memory,
+    Spent,
+}
+
+/// A store of payloads of one length under ids.
+pub trait Blocks {
+    ghost meanings: { Meanings Self };
+
+    ghost holdings: { Holdings Self };
+
+    /// The payload of the id, or None where the id isn't in the content.
+    fn load(&mut self, alloc: Global, id: &BlockId) -> Result<Option<Vec<u8>>, Fail>
+        requires { meanings.intact self.old }
+        ensures outcome { Outcome meanings Unit self.old self.new result (λ _ answer. bytes_of answer ≡ holdings.content self.old id.now.0) }
+        ensures stays { Stays holdings self.old self.new }
+        ensures of_blocks { IfErr result IsOfBlocks }
+        ensures none { IfOk result (λ answer. is_some answer ≡ is_some (holdings.content self.old id.now.0)) }
+        ensures sized { IfOk result (λ answer. IfSome answer (λ bytes. length bytes.items ≡ holdings.payload self.old)) };
+
+    /// Whether the id was ever in the content.
+    fn is_used(&self, id: &BlockId) -> bool
+        ensures { result ≡ has_id (holdings.used self.now) id.now.0 };
+
+    /// The first id that is neither used nor zero among `drawn`, the next one and so on.
+    fn fresh(&self, drawn: BlockId) -> BlockId
+        requires { IsFew (holdings.used self.now) }
+        ensures { IsFirstFree (is_free (holdings.used self.now)) drawn.0 result.0 };
+
+    /// The length of each payload.
+    fn payload(&self) -> usize
+        ensures { result ≡ holdings.payload self.now };
+
+    ghost lawful: { Lawful meanings };
+
+    ghost steady: { Steady meanings holdings };
+}
+
+/// A store whose payloads can be changed.
+pub trait BlocksMut: Blocks {
+    ghost applied: { Self → Self → Changes → Type 0 };
+
+    /// Makes these changes, all or none, without a call on the outside.
+    fn apply<R: Rng>(
+        &mut self,
+        alloc: Global,
+        batch: &Batch,
+        chance: &mut R,
+    ) -> Result<(), ApplyError>
+        requires intact { Self.meanings.intact self.old }
+        requires fits { Fits Self.holdings self.old batch.now }
+        ensures intact { Self.meanings.intact self.new }
+        ensures changed { OnOk result (Changed Self.meanings Self.holdings self.old self.new batch.now) }
+        ensures applied { OnOk result (applied self.old self.new batch.now) }
+        ensures forgeries { Self.meanings.forgeries self.new ≡ Self.meanings.forgeries self.old }
+        ensures lies { Self.meanings.lies self.new ≡ Self.meanings.lies self.old }
+        ensures faults { Self.meanings.faults self.new ≡ Self.meanings.faults self.old }
+        ensures spent { (result ≡ Err ApplyError.Spent) ↔ IsSpent Self.holdings self.old batch.now }
+        ensures loaded { OnErr result (Self.meanings.loaded self.old self.new) }
+        ensures sound { OnErr result (Self.meanings.sound self.old → Self.meanings.sound self.new) };
+
+    /// Where blocks were only loaded, the store holds what it held.
+    ghost settled: { (a b : Self) → Self.meanings.loaded a b → Stays Self.holdings a b };
+}

@@ -1,0 +1,60 @@
+// A store whose changes wait until they are written out.
+ghost use Rattle.std.specs.Prelude.{◌≡◌, ◌≤◌, ◌<◌, ◌^◌, ◌-◌, min, ℕ, true, false, [], IfOk, OnOk, OnErr, length};
+ghost use Rattle.outside.specs.Causes.{HasCause};
+ghost use Rattle.store_api.specs.Content.{SameIds, SameContent};
+ghost use Rattle.store_api.specs.Durables.{Durables, Records, Enduring};
+ghost use Rattle.store_api.specs.Lists.{waiting_bytes, with_config, MayConfigure};
+
+use crate::BlocksMut;
+use block_id::Memory;
+use outside::GetFail;
+use std::alloc::Global;
+
+/// A store over a directory: its changes are listed in its record until they are written out.
+pub trait Durable: BlocksMut {
+    ghost durables: { Durables Self };
+
+    ghost records: { Records };
+
+    /// How many bytes wait to be put, or the greatest number where they are more.
+    fn buffered(&self) -> usize
+        ensures { result ≡ min (waiting_bytes (durables.list self.now)) usize.MAX };
+
+    /// The record, with the list of what waits or with an empty one.
+    fn state_bytes(&self, alloc: Global, with_list: bool) -> Result<Vec<u8>, Memory>
+        requires { Self.meanings.intact self.now }
+        ensures { IfOk result (λ bytes. bytes.items ≡ durables.record_of self.now with_list) };
+
+    /// Has the configuration's file wait with these bytes.
+    fn put_config(&mut self, bytes: Vec<u8>) -> Result<(), Memory>
+        requires intact { Self.meanings.intact self.old }
+        requires bytes { MayConfigure bytes.items }
+        ensures intact { Self.meanings.intact self.new }
+        ensures ok { OnOk result (durables.list self.new ≡ with_config bytes.items (durables.list self.old)) }
+        ensures err { OnErr result (durables.list self.new ≡ durables.list self.old) }
+        ensures empty { durables.record_of self.new false ≡ durables.record_of self.old false }
+        ensures trace { durables.trace self.new ≡ durables.trace self.old }
+        ensures loaded { Self.meanings.loaded self.old self.new }
+        ensures sound { Self.meanings.sound self.old → Self.meanings.sound self.new }
+        ensures forgeries { Self.meanings.forgeries self.new ≡ Self.meanings.forgeries self.old }
+        ensures lies { Self.meanings.lies self.new ≡ Self.meanings.lies self.old }
+        ensures faults { Self.meanings.faults self.new ≡ Self.meanings.faults self.old };
+
+    /// Puts and removes what waits, in order. What isn't done at the first error still waits.
+    fn write_out(&mut self, alloc: Global) -> Result<(), GetFail>
+        requires { Self.meanings.intact self.old }
+        ensures intact { Self.meanings.intact self.new }
+        ensures ids { SameIds (Self.holdings.content self.old) (Self.holdings.content self.new) }
+        ensures content { Self.meanings.sound self.old → SameContent (Self.holdings.content self.old) (Self.holdings.content self.new) }
+        ensures payload { Self.holdings.payload self.new ≡ Self.holdings.payload self.old }
+        ensures told { Self.holdings.told self.new ≡ Self.holdings.told self.old }
+        ensures ok { OnOk result (durables.list self.new ≡ []) }
+        ensures empty { durables.record_of self.new false ≡ durables.record_of self.old false }
+        ensures stands { Self.meanings.sound self.old → records.stands (durables.record_of self.old true) (durables.trace self.new) (Self.holdings.content self.old) }
+        ensures sound { Self.meanings.sound self.old → Self.meanings.sound self.new }
+        ensures forgeries { Self.meanings.forgeries self.new ≡ Self.meanings.forgeries self.old }
+        ensures lies { Self.meanings.lies self.new ≡ Self.meanings.lies self.old }
+        ensures cause { HasCause (Self.meanings.faults self.old) (Self.meanings.faults self.new) result };
+
+    ghost enduring: { Enduring Self.meanings Self.holdings Self.applied durables records };
+}

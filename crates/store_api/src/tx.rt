@@ -1,0 +1,158 @@
+// One command's changes over a store.
+ghost use Rattle.std.specs.Prelude.{◌≡◌, ◌↔◌, OnOk, OnErr, length, is_some, true};
+ghost use Rattle.std.specs.declared.result.Result.TheVariants.{Err};
+ghost use Rattle.std.specs.FinMap as fin;
+ghost use Rattle.rand_core.specs.Stream.{fill_bytes};
+ghost use Rattle.block_id.specs.Fresh.{IsFirstFree};
+ghost use Rattle.store_api.specs.Holdings.{Fits, Changed, MayGet, IsFew, IsSpent, is_free};
+ghost use Rattle.store_api.specs.Overlay.{without, meanings_over, holdings_over, lawful_over, steady_over};
+
+use crate::fresh::first_free;
+use crate::{ApplyError, Batch, BatchChange, Blocks, BlocksMut};
+use block_id::{BlockId, Fail, Memory};
+use rand_core::Rng;
+use std::alloc::Global;
+
+/// Changes over a store that it owns.
+pub struct Tx<S> {
+    pub store: S,
+    overlay: Batch,
+}
+
+impl<S: Blocks> Tx<S> {
+    /// No changes over this store.
+    pub fn new(alloc: Global, store: S) -> Tx<S>
+        requires intact { S.meanings.intact store }
+        requires few { IsFew (S.holdings.used store) }
+        ensures intact { ⟦<Tx<S> as Blocks>⟧.meanings.intact result }
+        ensures store { result.store ≡ store }
+        ensures overlay { result.overlay ≡ fin.empty }
+    {
+        Tx {
+            store,
+            overlay: Batch::new(alloc),
+        }
+    }
+
+    /// The changes over the store. An id that was new in them and was removed again has none.
+    pub fn batch(&self) -> &Batch
+        ensures { result.now ≡ self.now.overlay }
+    {
+        &self.overlay
+    }
+
+    /// Has the id get this payload.
+    pub fn put(&mut self, id: &BlockId, payload: Vec<u8>) -> Result<(), Memory>
+        requires intact { ⟦<Tx<S> as Blocks>⟧.meanings.intact self.old }
+        requires sized { length payload.items ≡ S.holdings.payload self.old.store }
+        requires id { MayGet ⟦<Tx<S> as Blocks>⟧.holdings self.old id.now.0 }
+        ensures intact { ⟦<Tx<S> as Blocks>⟧.meanings.intact self.new }
+        ensures store { self.new.store ≡ self.old.store }
+        ensures ok { OnOk result (self.new.overlay ≡ fin.insert self.old.overlay id.now.0 (Some payload.items)) }
+        ensures err { OnErr result (self.new.overlay ≡ self.old.overlay) }
+    {
+        self.overlay.put(id, payload)
+    }
+
+    /// Has the id removed. One that was new in the changes is forgotten.
+    pub fn remove(&mut self, id: &BlockId) -> Result<(), Memory>
+        requires intact { ⟦<Tx<S> as Blocks>⟧.meanings.intact self.old }
+        requires there { is_some (⟦<Tx<S> as Blocks>⟧.holdings.content self.old id.now.0) ≡ true }
+        ensures intact { ⟦<Tx<S> as Blocks>⟧.meanings.intact self.new }
+        ensures store { self.new.store ≡ self.old.store }
+        ensures ok { OnOk result (self.new.overlay ≡ without (S.holdings.used self.old.store) self.old.overlay id.now.0) }
+        ensures err { OnErr result (self.new.overlay ≡ self.old.overlay) }
+    {
+        if self.store.is_used(id) {
+            return self.overlay.remove(id);
+        }
+        self.overlay.forget(id);
+        Ok(())
+    }
+
+    /// A new id: 16 random bytes, or the first id after them that is neither zero nor used, in the changes or in
+    /// the store.
+    pub fn draw<R: Rng>(&mut self, chance: &mut R) -> BlockId
+        requires few { IsFew (S.holdings.used self.old.store) }
+        ensures store { self.new.store ≡ self.old.store }
+        ensures overlay { self.new.overlay ≡ self.old.overlay }
+        ensures id { IsFirstFree (is_free (⟦<Tx<S> as Blocks>⟧.holdings.used self.old)) (fill_bytes 16 (R.stream chance.old)).0 result.0 }
+        ensures stream { R.stream chance.new ≡ (fill_bytes 16 (R.stream chance.old)).1 }
+    {
+        let mut drawn = [0; 16];
+        chance.fill_bytes(&mut drawn);
+        let _count = self.overlay.len();
+        first_free(&self.store, &self.overlay, BlockId(drawn))
+    }
+
+    /// Applies the changes to the store. After an error they are as before.
+    pub fn commit<R: Rng>(&mut self, alloc: Global, chance: &mut R) -> Result<(), ApplyError>
+    where
+        S: BlocksMut,
+        requires { ⟦<Tx<S> as Blocks>⟧.meanings.intact self.old }
+        ensures intact { ⟦<Tx<S> as Blocks>⟧.meanings.intact self.new }
+        ensures changed { OnOk result (Changed S.Blocks.meanings S.Blocks.holdings self.old.store self.new.store self.old.overlay) }
+        ensures applied { OnOk result (S.applied self.old.store self.new.store self.old.overlay) }
+        ensures emptied { OnOk result (self.new.overlay ≡ fin.empty) }
+        ensures forgeries { S.Blocks.meanings.forgeries self.new.store ≡ S.Blocks.meanings.forgeries self.old.store }
+        ensures lies { S.Blocks.meanings.lies self.new.store ≡ S.Blocks.meanings.lies self.old.store }
+        ensures faults { S.Blocks.meanings.faults self.new.store ≡ S.Blocks.meanings.faults self.old.store }
+        ensures spent { (result ≡ Err ApplyError.Spent) ↔ IsSpent S.Blocks.holdings self.old.store self.old.overlay }
+        ensures kept { OnErr result (self.new.overlay ≡ self.old.overlay) }
+        ensures loaded { OnErr result (S.Blocks.meanings.loaded self.old.store self.new.store) }
+        ensures sound { S.Blocks.meanings.sound self.old.store → S.Blocks.meanings.sound self.new.store }
+    {
+        self.store.apply(alloc, &self.overlay, chance)?;
+        self.overlay.clear();
+        Ok(())
+    }
+
+    /// Forgets the changes.
+    pub fn abandon(&mut self)
+        requires { S.meanings.intact self.old.store }
+        ensures intact { ⟦<Tx<S> as Blocks>⟧.meanings.intact self.new }
+        ensures store { self.new.store ≡ self.old.store }
+        ensures overlay { self.new.overlay ≡ fin.empty }
+    {
+        self.overlay.clear();
+    }
+
+    /// The store, without the changes.
+    pub fn into_store(self) -> S
+        ensures { result ≡ self.store }
+    {
+        let Tx { store, overlay } = self;
+        drop(overlay);
+        store
+    }
+}
+
+impl<S: Blocks> Blocks for Tx<S> {
+    ghost meanings = { meanings_over (λ t. t.store) (λ t. t.overlay) S.meanings S.holdings };
+
+    ghost holdings = { holdings_over (λ t. t.store) (λ t. t.overlay) S.holdings };
+
+    fn load(&mut self, alloc: Global, id: &BlockId) -> Result<Option<Vec<u8>>, Fail> {
+        match self.overlay.get(id) {
+            Some(BatchChange::Payload(bytes)) => Ok(Some(bytes.as_slice().to_vec(alloc)?)),
+            Some(BatchChange::Removal) => Ok(None),
+            None => self.store.load(alloc, id),
+        }
+    }
+
+    fn is_used(&self, id: &BlockId) -> bool {
+        self.overlay.has(id) || self.store.is_used(id)
+    }
+
+    fn fresh(&self, drawn: BlockId) -> BlockId {
+        first_free(&self.store, &self.overlay, drawn)
+    }
+
+    fn payload(&self) -> usize {
+        self.store.payload()
+    }
+
+    ghost lawful = { lawful_over (λ t. t.store) (λ t. t.overlay) S.meanings S.holdings S.lawful };
+
+    ghost steady = { steady_over (λ t. t.store) (λ t. t.overlay) S.meanings S.holdings S.steady };
+}

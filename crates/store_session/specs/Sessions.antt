@@ -1,0 +1,35 @@
+-- What a session over a durable store and a keeper stands for.
+use Rattle.std.specs.Prelude.{◌≡◌, ◌⊎◌, ◌≤◌, ℕ, false, List, length, Result}
+use Rattle.std.specs.declared.option.Option.{Option}
+use Rattle.std.specs.declared.option.Option.TheVariants.{Some}
+use Rattle.std.specs.declared.result.Result.TheVariants.{Ok, Err}
+use Rattle.outside.specs.Trace.{Call}
+use Rattle.outcome.specs.Meanings.{Meanings}
+use Rattle.store_api.specs.Content.{Content, SameContent}
+use Rattle.store_api.specs.Holdings.{Holdings}
+use Rattle.store_api.specs.Durables.{Durables, Records}
+use Rattle.store_session.specs.declared.session.Session.{Session}
+use Rattle.store_session.specs.declared.session.SyncError.{SyncError}
+use Rattle.outside.specs.declared.keeper.Keeper.{Ghosts as KeeperGhosts}
+
+-- what is kept and the trace stand for this content
+abbrev pub Represents : Records → Option (List ℕ) → Option (List Call) → Content → Type 0
+Represents R kept trace content = (bytes : List ℕ) × (kept ≡ Some bytes) × R.stands bytes trace content
+
+-- the session's store is intact, and the keeper has room for the last record
+pub record Ready {S : Type 0} {K : Type 0} (M : Meanings S) (G : KeeperGhosts K) (session : Session S K) : Type 0 where
+  pub intact : M.intact session.store
+  pub room : length session.last.items ≤ G.room session.keeper
+
+-- one content is kept, and one is present
+pub record SessionStands {S : Type 0} {K : Type 0} (M : Meanings S) (H : Holdings S) (D : Durables S) (R : Records) (G : KeeperGhosts K) (session : Session S K) (kept now : Content) : Type 0 where
+  pub represents : Represents R (G.kept session.keeper) (D.trace session.store) kept
+  pub sound : M.sound session.store
+  pub content : SameContent now (H.content session.store)
+  pub whole : session.changed ≡ false → G.kept session.keeper ≡ Some (D.record_of session.store false)
+  pub same : session.changed ≡ false → SameContent kept now
+
+-- after a sync the present content is kept, or after an error that or the one that was kept
+abbrev pub Synced : {S : Type 0} {K : Type 0} → Meanings S → Holdings S → Durables S → Records → KeeperGhosts K → Session S K → Content → Content → Result Unit SyncError → Type 0
+Synced M H D R G session kept now (Ok _) = SessionStands M H D R G session now now × (session.changed ≡ false)
+Synced M H D R G session kept now (Err _) = SessionStands M H D R G session kept now ⊎ SessionStands M H D R G session now now
