@@ -1,9 +1,9 @@
 -- Rows that are set one after another.
-use Rattle.std.proofs.Common.{◌≡◌, ℕ, suc, ◌+◌, ◌<◌, List, [], ◌∷◌, Bool, true, false, cond, length, drop, drop-cons, get_or, refl, sym, ◌∙◌, ap, subst, add-one}
+use Rattle.std.proofs.Common.{◌≡◌, ℕ, suc, ◌+◌, ◌<◌, List, [], ◌∷◌, Bool, true, false, cond, length, drop, drop-cons, get_or, refl, sym, ◌∙◌, ap, subst, add-one, arith}
 use Rattle.std.specs.Prelude.{T, Option, Some, None, Result, Ok, Err, OnOk, ◌&&◌, not, map}
 use Rattle.std.proofs.lemmas.List.{drop-map, length-map}
 use Rattle.std.specs.FinMap as fin
-use Rattle.std.specs.FinMap.{contains_key-keys, is_sorted, entries_sorted, get-entries, get-empty, get-insert, len-entries, slice_cmp-IsAntisymmetric, nat_cmp-IsAntisymmetric}
+use Rattle.std.specs.FinMap.{contains_key-keys, is_sorted, entries_sorted, get-entries, get-empty, get-insert, len-empty, len-entries, slice_cmp-IsAntisymmetric, nat_cmp-IsAntisymmetric}
 use Rattle.std.specs.FinMap.Entries.{find, below_all}
 use Rattle.std.specs.Cmp.{IsTotalOrder}
 use Rattle.std.specs.Cmp.Lexicographic.{nat_list_cmp_total}
@@ -15,7 +15,7 @@ use Rattle.block_id.specs.declared.id.BlockId.{BlockId}
 use Rattle.store_api.specs.declared.batch.BatchChange.{BatchChange}
 use Rattle.store_api.specs.Content.{Id, id_cmp, same_id, Changes}
 use Rattle.store_api.specs.Entries.{entry_view, entries_of, change_view}
-use Rattle.store_api.specs.Holdings.{is_free}
+use Rattle.store_api.specs.Holdings.{IsFew, is_free}
 use Rattle.map_store.specs.Rows.{AreWith, newer}
 use Rattle.map_store.specs.Setting.{put_all}
 
@@ -104,3 +104,8 @@ free_where_no_row rows id has zero row is none =
 pub not_free_where_row : (rows : Changes) (id : Id) (has : Bool) → has ≡ fin.contains_key rows id → has ≡ true → not has ≡ is_free (fin.keys rows) id
 not_free_where_row rows id has row some =
     ap not some ∙ ap (λ used. not used && not (same_id id zero_id)) (sym some ∙ (row ∙ contains_key-keys rows id))
+
+pub few_nothing : (rows : Changes) → rows ≡ fin.empty → IsFew (fin.keys rows)
+few_nothing rows is =
+    let none : length (fin.keys rows) ≡ 0 = length-keys rows ∙ (ap (λ m. fin.len m) is ∙ len-empty id_cmp (Option (List ℕ))) in
+    omega (arith, none)

@@ -5,3 +5,6 @@ mod rows;
 mod store;
 
 pub use store::MapStore;
+
+#[cfg(test)]
+mod tests;
