@@ -1,0 +1,14 @@
+use Rattle.std.proofs.Common.{refl}
+use Rattle.map_store.specs.declared.store.MapStore.{MapStore}
+use Rattle.map_store.proofs.Changing.{kept_with, changed_with}
+use Rattle.map_store.proofs.store.MapStoreBlocksMut.apply.Goals as goal
+
+pub returns-in-Ok-clause-changed : goal.returns-in-Ok-clause-changed
+returns-in-Ok-clause-changed g c =
+    let after : MapStore = record { payload = c.args.self.now.payload; rows = c.in-Ok.rows } in
+    changed_with (λ (s : MapStore). s.payload) (λ (s : MapStore). s.rows) c.args.self.now after c.args.batch.now refl c.in-Ok.ensures.with c.in-Ok.ensures.few
+
+pub returns-in-Ok-clause-intact : goal.returns-in-Ok-clause-intact
+returns-in-Ok-clause-intact g c =
+    let after : MapStore = record { payload = c.args.self.now.payload; rows = c.in-Ok.rows } in
+    kept_with (λ (s : MapStore). s.payload) (λ (s : MapStore). s.rows) c.args.self.now after c.args.batch.now c.requires.intact c.requires.fits refl c.in-Ok.ensures.with

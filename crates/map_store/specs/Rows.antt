@@ -1,0 +1,96 @@
+-- A store of rows: an id with its payload, or with none once it was removed. So the used ids are those of the rows.
+use Rattle.std.specs.Prelude.{◌≡◌, ◌≤◌, ℕ, true, false, List, length, is_some, Option, Some, None, refl}
+use Rattle.std.proofs.Common.{sym, ◌∙◌, ap, arith}
+use Rattle.std.specs.FinMap as fin
+use Rattle.std.specs.FinMap.{contains_key-keys}
+use Rattle.block_id.specs.Fresh.{zero_id}
+use Rattle.outcome.specs.Meanings.{Meanings, Lawful}
+use Rattle.store_api.specs.Content.{Id, Content, Changes, or_else}
+use Rattle.store_api.specs.Holdings.{Holdings, Steady, Stays, has_id}
+
+abbrev pub content_of : Changes → Content
+content_of rows id = or_else (fin.get rows id) None
+
+-- what every store of rows keeps: each payload has this length, and no row is of the zero id
+pub record Kept (payload : ℕ) (rows : Changes) : Type 0 where
+  pub at_least : 50 ≤ payload
+  pub at_most : payload ≤ 1048576
+  pub sized : (id bytes : List ℕ) → fin.get rows id ≡ Some (Some bytes) → length bytes ≡ payload
+  pub no_zero : fin.get rows zero_id ≡ None
+
+-- the change, or the row where there is none
+abbrev pub newer : Option (Option (List ℕ)) → Option (Option (List ℕ)) → Option (Option (List ℕ))
+newer None row = row
+newer (Some change) row = Some change
+
+-- these rows are the old ones with the changes
+abbrev pub AreWith : Changes → Changes → Changes → Type 0
+AreWith changes old new = (id : Id) → fin.get new id ≡ newer (fin.get changes id) (fin.get old id)
+
+-- p is the length of each payload, and r are the rows
+abbrev pub meanings_of : {S : Type 0} → (S → ℕ) → (S → Changes) → Meanings S
+meanings_of p r = record {
+  intact = λ s. Kept (p s) (r s);
+  sound = λ s. Unit {0};
+  forgeries = λ s. 0;
+  lies = λ s. 0;
+  faults = λ s. 0;
+  loaded = λ a b. (p b ≡ p a) × (r b ≡ r a);
+  met = λ a b why. ⊥;
+}
+
+abbrev pub holdings_of : {S : Type 0} → (S → ℕ) → (S → Changes) → Holdings S
+holdings_of p r = record {
+  content = λ s. content_of (r s);
+  told = λ s. true;
+  used = λ s. fin.keys (r s);
+  spent = λ s id. false;
+  payload = p;
+}
+
+abbrev pub applied_of : {S : Type 0} → (S → ℕ) → (S → Changes) → S → S → Changes → Type 0
+applied_of p r a b changes = (p b ≡ p a) × AreWith changes (r a) (r b)
+
+pub lawful_of : {S : Type 0} (p : S → ℕ) (r : S → Changes) → Lawful (meanings_of p r)
+lawful_of p r = record {
+  same = λ a. (refl, refl);
+  onward = λ a b c h k. (k.0 ∙ h.0, k.1 ∙ h.1);
+  met_before = λ a b c why h k m. m;
+  met_after = λ a b c why h k m. m;
+  forgeries_grow = λ a b h. omega arith;
+  lies_grow = λ a b h. omega arith;
+  faults_grow = λ a b h. omega arith;
+  honest_unforged = λ a b h s l. omega arith;
+}
+
+-- an id is used where it has a row
+pub has_id-keys : (rows : Changes) (id : Id) → has_id (fin.keys rows) id ≡ is_some (fin.get rows id)
+has_id-keys rows id = sym (contains_key-keys rows id)
+
+content_rows : (o : Option (Option (List ℕ))) → is_some (or_else o None) ≡ true → is_some o ≡ true
+content_rows None h = h
+content_rows (Some change) h = refl
+
+payload_row : (o : Option (Option (List ℕ))) (bytes : List ℕ) → or_else o None ≡ Some bytes → o ≡ Some (Some bytes)
+payload_row None bytes h = absurd (cc)
+payload_row (Some change) bytes h = ap Some h
+
+pub steady_of : {S : Type 0} (p : S → ℕ) (r : S → Changes) → Steady (meanings_of p r) (holdings_of p r)
+steady_of p r = record {
+  sound_told = λ a s. refl;
+  at_least = λ a i. i.at_least;
+  at_most = λ a i. i.at_most;
+  content_used = λ a id i h. has_id-keys (r a) id ∙ content_rows (fin.get (r a) id) h;
+  zero_unused = λ a i. has_id-keys (r a) zero_id ∙ ap is_some i.no_zero;
+  sized = λ a id bytes i t h. i.sized id bytes (payload_row (fin.get (r a) id) bytes h);
+}
+
+pub settled_of : {S : Type 0} (p : S → ℕ) (r : S → Changes) (a b : S) → (p b ≡ p a) × (r b ≡ r a) → Stays (holdings_of p r) a b
+settled_of p r a b h = record {
+  ids = λ id. ap (λ rows. is_some (content_of rows id)) h.1;
+  content = λ t id. ap (λ rows. content_of rows id) h.1;
+  told = refl;
+  used = ap (λ rows. fin.keys rows) h.1;
+  spent = λ id. refl;
+  payload = h.0;
+}

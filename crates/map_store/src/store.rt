@@ -1,0 +1,84 @@
+// A store of blocks in memory.
+ghost use Rattle.std.specs.Prelude.{◌≡◌, ◌≤◌};
+ghost use Rattle.std.specs.FinMap as fin;
+ghost use Rattle.map_store.specs.Rows.{meanings_of, holdings_of, applied_of, lawful_of, steady_of, settled_of};
+
+use crate::rows::{changed, first_free};
+use block_id::{BlockId, Fail};
+use rand_core::Rng;
+use std::alloc::Global;
+use store_api::{ApplyError, Batch, BatchChange, Blocks, BlocksMut};
+
+/// Blocks in memory. A removed id stays used.
+#[derive(Drop)]
+pub struct MapStore {
+    payload: usize,
+    rows: Batch,
+}
+
+impl MapStore {
+    /// An empty store of payloads of this length, which is 50 to 1,048,576.
+    pub fn new(alloc: Global, payload: usize) -> MapStore
+        requires at_least { 50 ≤ payload }
+        requires at_most { payload ≤ 1048576 }
+        ensures intact { ⟦<MapStore as Blocks>⟧.meanings.intact result }
+        ensures payload { result.payload ≡ payload }
+        ensures rows { result.rows ≡ fin.empty }
+    {
+        MapStore {
+            payload,
+            rows: Batch::new(alloc),
+        }
+    }
+}
+
+impl Blocks for MapStore {
+    ghost meanings = { meanings_of (λ s. s.payload) (λ s. s.rows) };
+
+    ghost holdings = { holdings_of (λ s. s.payload) (λ s. s.rows) };
+
+    fn load(&mut self, alloc: Global, id: &BlockId) -> Result<Option<Vec<u8>>, Fail> {
+        match self.rows.get(id) {
+            Some(BatchChange::Payload(bytes)) => Ok(Some(bytes.as_slice().to_vec(alloc)?)),
+            Some(BatchChange::Removal) => Ok(None),
+            None => Ok(None),
+        }
+    }
+
+    fn is_used(&self, id: &BlockId) -> bool {
+        self.rows.has(id)
+    }
+
+    fn fresh(&self, drawn: BlockId) -> BlockId {
+        first_free(&self.rows, drawn)
+    }
+
+    fn payload(&self) -> usize {
+        self.payload
+    }
+
+    ghost lawful = { lawful_of (λ s. s.payload) (λ s. s.rows) };
+
+    ghost steady = { steady_of (λ s. s.payload) (λ s. s.rows) };
+}
+
+impl BlocksMut for MapStore {
+    ghost applied = { applied_of (λ s. s.payload) (λ s. s.rows) };
+
+    fn apply<R: Rng>(
+        &mut self,
+        alloc: Global,
+        batch: &Batch,
+        chance: &mut R,
+    ) -> Result<(), ApplyError> {
+        match changed(alloc, &self.rows, batch) {
+            Ok(rows) => {
+                self.rows = rows;
+                Ok(())
+            }
+            Err(_) => Err(ApplyError::Memory),
+        }
+    }
+
+    ghost settled = { settled_of (λ s. s.payload) (λ s. s.rows) };
+}
