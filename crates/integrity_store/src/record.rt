@@ -1,12 +1,12 @@
 // The record in a block's file, read and judged.
-ghost use Rattle.std.specs.Prelude.{◌≡◌, ◌≤◌, List, ℕ, take, drop, length, IfSome, IfNone};
+ghost use Rattle.std.specs.Prelude.{◌≡◌, ◌≤◌, List, ℕ, take, drop, length, IfOk, IfSome, IfNone};
 ghost use Rattle.std.specs.Int.{w16, w32, w64, from_le_bytes};
 ghost use Rattle.std.specs.declared.option.Option.TheVariants.{None, Some};
 ghost use Rattle.sealed_store.specs.Stores.{sight_of};
 ghost use Rattle.integrity_store.specs.BlockRecords.{Record, record_of, judged_record, judged, good, bad};
 ghost use Rattle.integrity_store.specs.Judges.{Judges, with_payload};
 
-use block_id::{BlockId, Fail, Why};
+use block_id::{BlockId, Fail, Memory, Why};
 use sealed_store::Seen;
 use std::alloc::Global;
 
@@ -104,6 +104,13 @@ fn mismatch(head: &Head, id: &BlockId, client: u32, known: u64) -> Option<Why>
     }
 }
 
+fn copy_payload(alloc: Global, plain: &[u8]) -> Result<Vec<u8>, Memory>
+    requires { 30 ≤ length plain.now }
+    ensures { IfOk result (λ payload. payload.items ≡ drop 30 plain.now) }
+{
+    Ok(plain[HEAD_LEN..].to_vec(alloc)?)
+}
+
 // The payload of a plaintext, or what is wrong with it.
 fn judge_plain(
     alloc: Global,
@@ -121,7 +128,7 @@ fn judge_plain(
     };
     match mismatch(&head, id, client, known) {
         Some(why) => Err(Fail::Violation(why)),
-        None => Ok(plain[HEAD_LEN..].to_vec(alloc)?),
+        None => Ok(copy_payload(alloc, plain)?),
     }
 }
 

@@ -111,7 +111,7 @@ impl<V: Vault, C: Sealer> Blocks for IntegrityStore<V, C> {
     }
 
     fn payload(&self) -> usize {
-        self.sealed.block_size() - 78
+        self.sealed.block_size().saturating_sub(78)
     }
 
     ghost lawful = { lawful_by (λ s. held_of (C.opens (cipher_of s.sealed) (key_of s.sealed)) s.sealed s.state) (λ s. V.trace s.sealed.vault.vault)
