@@ -8,12 +8,13 @@ use Rattle.std.specs.declared.result.Result.TheVariants.{Ok, Err}
 use Rattle.std.specs.Option.{option_map, option_map_or}
 use Rattle.block_id.specs.declared.fail.Fail.{Fail}
 use Rattle.outside.specs.Trace.{Call}
+use Rattle.outside.specs.Honest.{count_told}
 use Rattle.outside.specs.View.{bytes_of}
 use Rattle.outcome.specs.Meanings.{Meanings, HasCause}
 use Rattle.outcome.specs.Outcome.{Outcome, idle}
 use Rattle.local_state.specs.declared.mark.Mark.{Mark}
 use Rattle.store_api.specs.Holdings.{Stays}
-use Rattle.integrity_store.specs.Held.{Held, live_version, version_if_live, wanted, where_live, file_of, told_or_none, SoundBy}
+use Rattle.integrity_store.specs.Held.{Held, live_version, version_if_live, wanted, where_live, file_of, told_or_none, SoundBy, forged}
 use Rattle.integrity_store.specs.BlockRecords.{payload_in}
 use Rattle.integrity_store.specs.Laws.{went_sound}
 use Rattle.integrity_store.specs.Loads.{Fetched, fetched_went, fetched_met, fetched_alarm, fetched_value}
@@ -43,15 +44,9 @@ module _ {S : Type 0} (held : S → Held) (trace : S → Option (List Call)) (fa
     met = tt;
     fault = tt;
     value = λ n s few. fetched_value (held a) (trace a) (trace b) id version payload live f s
-        (subst (λ h. count_of h (trace b) ≤ count_of (held a) (trace a)) same few);
+        (subst (λ h. count_told (forged h.opens h.size) (trace b) ≤ count_told (forged (held a).opens (held a).size) (trace a)) same few);
     alarm = λ n s few. tt;
   }
-    where
-      use Rattle.outside.specs.Honest.{count_told}
-      use Rattle.integrity_store.specs.Held.{forged}
-
-      abbrev count_of : Held → Option (List Call) → ℕ
-      count_of h t = count_told (forged h.opens h.size) t
 
   pub loaded_err : (version : ℕ) (e : Fail) → (meanings_by held trace faults own).intact b → held b ≡ held a → faults a ≤ faults b → live_version (held a) id ≡ Some version
       → HasCause e (faults a) (faults b) → Fetched (held a) (trace a) (trace b) id version (Err e)

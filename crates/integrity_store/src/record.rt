@@ -12,8 +12,6 @@ use std::alloc::Global;
 
 const FORM: u16 = 1;
 
-const HEAD_LEN: usize = 30;
-
 // What a sealed file has more than its payload's record.
 const SEAL_LEN: usize = 48;
 
@@ -104,11 +102,14 @@ fn mismatch(head: &Head, id: &BlockId, client: u32, known: u64) -> Option<Why>
     }
 }
 
-fn copy_payload(alloc: Global, plain: &[u8]) -> Result<Vec<u8>, Memory>
-    requires { 30 ≤ length plain.now }
-    ensures { IfOk result (λ payload. payload.items ≡ drop 30 plain.now) }
+// The bytes from a place on.
+fn copy_from(alloc: Global, bytes: &[u8], from: usize) -> Result<Vec<u8>, Memory>
+    requires { from ≤ length bytes.now }
+    ensures { IfOk result (λ copy. copy.items ≡ drop from bytes.now) }
 {
-    Ok(plain[HEAD_LEN..].to_vec(alloc)?)
+    let mut copy = Vec::new(alloc);
+    copy.extend_from_slice(&bytes[from..])?;
+    Ok(copy)
 }
 
 // The payload of a plaintext, or what is wrong with it.
@@ -128,7 +129,7 @@ fn judge_plain(
     };
     match mismatch(&head, id, client, known) {
         Some(why) => Err(Fail::Violation(why)),
-        None => Ok(copy_payload(alloc, plain)?),
+        None => Ok(copy_from(alloc, plain, 30)?),
     }
 }
 

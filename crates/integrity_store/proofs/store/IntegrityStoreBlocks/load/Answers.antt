@@ -1,5 +1,6 @@
 use Rattle.std.proofs.Common.{◌≡◌, sym}
 use Rattle.std.specs.declared.option.Option.TheVariants.{Some}
+use Rattle.std.specs.declared.result.Result.TheVariants.{Ok}
 use Rattle.sealed_store.specs.Stores.{IsIntact, block_size_of, key_of, cipher_of}
 use Rattle.integrity_store.specs.declared.store.IntegrityStore.{IntegrityStore}
 use Rattle.integrity_store.specs.Held.{live_version}
@@ -24,7 +25,7 @@ returns-in-Ok-clause-stays g c =
     let faults = λ (s : IntegrityStore g.row.V.Denot g.row.C.Denot). g.V.Vault.faults s.sealed.vault.vault in
     let own = λ (s : IntegrityStore g.row.V.Denot g.row.C.Denot). IsIntact (block_size_of s.sealed) (g.C.Sealer.iv_size (cipher_of s.sealed)) in
     let live : live_version (held c.args.self.now) c.args.id.now.0 ≡ Some c.in-Some.known = sym c.in-Some.ensures in
-    stays held trace faults own c.args.self.now c.fetch.new.self c.args.id.now.0 c.in-Some.known _ c.in-Ok.ensures.held c.in-Ok.ensures.faults live c.in-Ok.ensures.fetched
+    stays held trace faults own c.args.self.now c.fetch.new.self c.args.id.now.0 c.in-Some.known (Ok c.in-Ok.payload) c.in-Ok.ensures.held c.in-Ok.ensures.faults live c.in-Ok.ensures.fetched
 
 pub returns-in-Ok-clause-sized : goal.returns-in-Ok-clause-sized
 returns-in-Ok-clause-sized g c =
