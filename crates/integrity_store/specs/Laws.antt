@@ -159,9 +159,6 @@ last-was_put name bytes ok (removed other ok' ∷ trace) e =
 
 -- ---- honest reads
 
-one : Bool → ℕ
-one b = if b then 1 else 0
-
 le_one : (b : Bool) → (if b then 1 else 0) ≤ 1
 le_one true = omega arith
 le_one false = omega arith

@@ -130,10 +130,6 @@ judged_good id client version (Some r) payload is =
       | false ↦ λ same e. absurd (bad_is_good e)
     ] refl is
 
--- what a sight shows of a file, where its parts are known
-sight_if : Bool → Bool → Option (List ℕ) → Sight
-sight_if length_fits prefix_fits o = if length_fits then (if prefix_fits then sight_of_plain o else bad_prefix) else bad_length
-
 seen_judged : (size : ℕ) (id : List ℕ) (client known : ℕ) (a b : Bool) (o : Option (List ℕ)) (payload : List ℕ)
     → judged size id client known (if a then (if b then sight_of_plain o else bad_prefix) else bad_length) ≡ good payload
     → judged_record id client known (record_in size (if a && b then o else None)) ≡ good payload
@@ -158,7 +154,7 @@ good_opens opens size id client version (Some bytes) payload is = (
   bytes,
   refl,
   judged_good id client version (opened opens size bytes) payload
-  (seen_judged size id client version (length bytes == size) (starts_with nat_eq bytes prefix) (opens (drop 16 bytes)) payload is),
+      (seen_judged size id client version (length bytes == size) (starts_with nat_eq bytes prefix) (opens (drop 16 bytes)) payload is),
 )
 
 own_good : (id : List ℕ) (client version : ℕ) (payload : List ℕ) → judged_record id client version (Some (record { id = id; client = client; version = version; payload = payload })) ≡ good payload

@@ -117,9 +117,9 @@ wanted_used h t id e = has-keys h id ∙ live_known (fin.get h.state.marks id) (
 
 zero_free : (h : Held) → FitMarks h.state.marks → has_id (fin.keys h.state.marks) zero_id ≡ false
 zero_free h fits = has-keys h zero_id ∙ elim (fin.get h.state.marks zero_id) as (λ m. fin.get h.state.marks zero_id ≡ m → is_some m ≡ false) [
-      | None ↦ λ e. refl
-      | Some mark ↦ λ e. let f = rw e at (fits zero_id) in absurd (f.not_zero refl)
-    ] refl
+  | None ↦ λ e. refl
+  | Some mark ↦ λ e. let f = rw e at (fits zero_id) in absurd (f.not_zero refl)
+] refl
 
 opened_len : (size : ℕ) (opens : List ℕ → Option (List ℕ)) (bytes : List ℕ) (o : Option Record) → opened opens size bytes ≡ o → length (payload_of size o) ≡ size - 78
 opened_len size opens bytes None e = length-replicate (size - 78) 0
@@ -149,9 +149,6 @@ steady_by held trace faults own = record {
   zero_unused = λ a i. zero_free (held a) i.0.has_record.state.marks;
   sized = λ a id bytes i told e. wanted_len (held a) (trace a) id bytes e;
 }
-
-only_stays : (a b : Held) (t u : Option (List Call)) (f g : ℕ) (P : Held → Type 0) → OnlyRead a b t u f g → P a → P b
-only_stays a b t u f g P x p = subst P (sym x.held) p
 
 -- where blocks were only loaded, the store holds what it held
 pub settled_by : {S : Type 0} (held : S → Held) (trace : S → Option (List Call)) (faults : S → ℕ) (a b : S)

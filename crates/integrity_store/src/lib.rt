@@ -6,3 +6,6 @@ mod record;
 mod store;
 
 pub use store::IntegrityStore;
+
+#[cfg(test)]
+mod tests;

@@ -20,6 +20,7 @@ use store_api::Blocks;
 
 /// Payloads under ids in a directory of sealed files, with what the client knows of them. Each live block has a
 /// version, by which an older or newer file is noticed.
+#[derive(Drop)]
 pub struct IntegrityStore<V, C> {
     sealed: SealedStore<V, C>,
     state: State,
