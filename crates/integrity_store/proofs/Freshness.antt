@@ -1,8 +1,7 @@
 -- Ids that are free of what is known are free of the used ids.
-use Rattle.std.specs.Prelude.{◌≡◌, ℕ, zero, suc, ◌<◌, Bool, true, false, not, ◌&&◌, List, is_some, is_none, refl}
-use Rattle.std.proofs.Common.{sym, ◌∙◌, ap, subst}
+use Rattle.std.specs.Prelude.{◌≡◌, ℕ, zero, suc, not, ◌&&◌, List, is_some, is_none, refl}
+use Rattle.std.proofs.Common.{sym, ◌∙◌, ap}
 use Rattle.std.proofs.lemmas.Map.Text.{is_eq-slice_cmp}
-use Rattle.std.specs.Str.{bytes_eq}
 use Rattle.std.specs.FinMap as fin
 use Rattle.std.specs.FinMap.{contains_key-keys}
 use Rattle.std.specs.declared.option.Option.{Option}
@@ -12,7 +11,7 @@ use Rattle.block_id.specs.Fresh as ids
 use Rattle.local_state.specs.declared.mark.Mark.{Mark}
 use Rattle.local_state.specs.Known as known
 use Rattle.store_api.specs.Content.{same_id}
-use Rattle.store_api.specs.Holdings.{is_free, has_id}
+use Rattle.store_api.specs.Holdings.{is_free}
 
 same_steps : (drawn : List ℕ) (n : ℕ) → known.nth_id drawn n ≡ ids.nth_id drawn n
 same_steps drawn zero = refl

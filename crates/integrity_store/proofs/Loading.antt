@@ -1,6 +1,6 @@
 -- The outcome of a load.
-use Rattle.std.specs.Prelude.{◌≡◌, ◌≤◌, ◌-◌, ℕ, Bool, true, false, List, Vec, Result, is_some, length, if◌then◌else◌}
-use Rattle.std.proofs.Common.{refl, sym, ◌∙◌, ap, subst, arith}
+use Rattle.std.specs.Prelude.{◌≡◌, ◌≤◌, ℕ, Bool, true, false, List, Vec, Result, is_some, if◌then◌else◌}
+use Rattle.std.proofs.Common.{refl, sym, ◌∙◌, ap, subst}
 use Rattle.std.specs.declared.alloc.Global.{Global}
 use Rattle.std.specs.declared.option.Option.{Option}
 use Rattle.std.specs.declared.option.Option.TheVariants.{None, Some}
@@ -10,7 +10,7 @@ use Rattle.block_id.specs.declared.fail.Fail.{Fail}
 use Rattle.outside.specs.Trace.{Call}
 use Rattle.outside.specs.Honest.{count_told}
 use Rattle.outside.specs.View.{bytes_of}
-use Rattle.outcome.specs.Meanings.{Meanings, HasCause}
+use Rattle.outcome.specs.Meanings.{HasCause}
 use Rattle.outcome.specs.Outcome.{Outcome, idle}
 use Rattle.local_state.specs.declared.mark.Mark.{Mark}
 use Rattle.store_api.specs.Holdings.{Stays}

@@ -1,10 +1,9 @@
 -- The record in a block's file, and the verdict on what came for a block.
-use Rattle.std.specs.Prelude.{ℕ, ◌+◌, ◌-◌, ◌==◌, ◌&&◌, Bool, List, [], ◌∷◌, length, take, drop, replicate, nat_lt, if◌then◌else◌}
+use Rattle.std.specs.Prelude.{ℕ, ◌+◌, ◌-◌, ◌==◌, ◌&&◌, Bool, List, length, take, drop, replicate, nat_lt, if◌then◌else◌}
 use Rattle.std.specs.Int.{w16, w32, w64, from_le_bytes}
 use Rattle.std.specs.Str.{bytes_eq}
 use Rattle.std.specs.declared.option.Option.{Option}
 use Rattle.std.specs.declared.option.Option.TheVariants.{None, Some}
-use Rattle.block_id.specs.declared.id.BlockId.{BlockId}
 use Rattle.block_id.specs.declared.fail.Why.{Why}
 use Rattle.block_id.specs.declared.fail.Why.TheVariants.{Missing, BadLength, BadPrefix, NotOpened, BadRecord, WrongId, ForeignClient, OldVersion, AheadVersion}
 use Rattle.sealed_store.specs.BlockFiles.{Sight, absent, bad_length, bad_prefix, not_opened, plain, sight_in, opens_file}

@@ -5,7 +5,7 @@ use Rattle.std.specs.FinMap as fin
 use Rattle.std.specs.declared.option.Option.{Option}
 use Rattle.std.specs.declared.option.Option.TheVariants.{None, Some}
 use Rattle.block_id.specs.declared.fail.Why.{Why}
-use Rattle.outside.specs.Trace.{At, config, block, Call, got, put, removed}
+use Rattle.outside.specs.Trace.{config, block, Call, got, put, removed}
 use Rattle.outside.specs.Changes.{Changes, change_at, cut}
 use Rattle.outside.specs.Honest.{LastChange, last_change}
 use Rattle.local_state.specs.declared.mark.Mark.{Mark}

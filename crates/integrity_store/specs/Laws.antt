@@ -1,23 +1,21 @@
 -- Reads change nothing that is wanted, and an honest read is no forgery.
-use Rattle.std.specs.Prelude.{◌≡◌, ◌⊎◌, ℕ, ◌+◌, ◌-◌, ◌≤◌, Bool, true, false, not, ◌&&◌, ◌||◌, List, [], ◌∷◌, ◌++◌, take, drop, length, is_some, ◌==◌, if◌then◌else◌}
-use Rattle.std.proofs.Common.{refl, sym, ◌∙◌, ap, subst, inl, inr, arith, append_assoc, append-nil, length-drop}
+use Rattle.std.specs.Prelude.{◌≡◌, ℕ, ◌+◌, ◌≤◌, Bool, true, false, not, ◌&&◌, ◌||◌, List, [], ◌∷◌, ◌++◌, take, length, is_some, if◌then◌else◌}
+use Rattle.std.proofs.Common.{refl, sym, ◌∙◌, ap, subst, inl, inr, arith, append_assoc}
 use Rattle.std.proofs.lemmas.List.{take_all}
 use Rattle.std.proofs.Math.Bool.{and-false}
 use Rattle.std.proofs.lemmas.Bool.Decides.{Decides-eqb}
 use Rattle.std.proofs.lemmas.Slice.Eq.{bytes_eq-Decides}
 use Rattle.std.specs.Str.{bytes_eq}
-use Rattle.std.specs.List.{starts_with}
 use Rattle.std.specs.declared.option.Option.{Option}
 use Rattle.std.specs.declared.option.Option.TheVariants.{None, Some}
 use Rattle.block_id.specs.declared.fail.Why.{Why}
-use Rattle.outside.specs.Trace.{At, config, block, Call, got, put, removed}
+use Rattle.outside.specs.Trace.{At, block, Call, got, put, removed}
 use Rattle.outside.specs.Names.{same_at}
-use Rattle.outside.specs.Changes.{cut}
 use Rattle.outside.specs.Honest.{LastChange, last_change, same_answer, is_left, is_lie, count_calls, count_told}
 use Rattle.outside.specs.HonestLaws.{count_grows}
-use Rattle.sealed_store.specs.BlockFiles.{opens_file, prefix}
-use Rattle.integrity_store.specs.BlockRecords.{Record, fields_of, is_record, record_of, record_in, opened}
-use Rattle.integrity_store.specs.Held.{Held, wanted, SoundAt, SoundBy, IsPast, IsRead, AllReads, Among, Went, Found, FoundSince, puts, was_put, opens_unput, forged, own}
+use Rattle.sealed_store.specs.BlockFiles.{opens_file}
+use Rattle.integrity_store.specs.BlockRecords.{Record, record_of, record_in, opened}
+use Rattle.integrity_store.specs.Held.{Held, wanted, SoundAt, SoundBy, IsPast, IsRead, AllReads, Among, Went, Found, FoundSince, was_put, opens_unput, forged}
 
 -- ---- lists of reads
 

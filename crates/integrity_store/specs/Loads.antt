@@ -1,5 +1,5 @@
 -- What a load of a live block leaves and answers.
-use Rattle.std.specs.Prelude.{◌≡◌, ◌⊎◌, ℕ, ◌+◌, ◌-◌, ◌≤◌, Bool, true, false, not, ◌&&◌, List, [], ◌∷◌, ◌++◌, Vec, Result, IfErr, length, take, drop, replicate, is_some, ◌==◌, nat_lt, nat_eq, if◌then◌else◌}
+use Rattle.std.specs.Prelude.{◌≡◌, ◌⊎◌, ℕ, ◌+◌, ◌-◌, ◌≤◌, Bool, true, false, not, ◌&&◌, List, [], ◌∷◌, Vec, Result, length, take, drop, is_some, ◌==◌, nat_lt, nat_eq, if◌then◌else◌}
 use Rattle.std.proofs.Common.{refl, sym, ◌∙◌, ap, subst, inl, inr, arith, length-drop}
 use Rattle.std.proofs.lemmas.List.{take_all}
 use Rattle.std.proofs.lemmas.Bool.Decides.{Decides-eqb}
@@ -16,13 +16,13 @@ use Rattle.block_id.specs.declared.fail.Fail.{Fail}
 use Rattle.block_id.specs.declared.fail.Fail.TheVariants.{Memory, Fault, Violation}
 use Rattle.outside.specs.Trace.{Call, got, block, adds}
 use Rattle.outside.specs.Changes.{cut}
-use Rattle.outside.specs.Honest.{LastChange, same_answer, is_left, is_lie, count_calls, count_told}
+use Rattle.outside.specs.Honest.{same_answer, is_left, is_lie, count_calls, count_told}
 use Rattle.outcome.specs.Meanings.{OnVerdict, IsCalm, IsOfBlocks}
 use Rattle.redo_vault.specs.Redo.{Gave}
 use Rattle.sealed_store.specs.BlockFiles.{Sight, absent, bad_length, bad_prefix, not_opened, plain, sight_in, sight_of_plain, opens_file, prefix}
-use Rattle.store_api.specs.Content.{Content, SameIds, SameContent}
-use Rattle.integrity_store.specs.BlockRecords.{Record, fields_of, is_record, record_of, record_in, opened, Verdict, good, bad, judged_record, judged, verdict, payload_of, payload_in}
-use Rattle.integrity_store.specs.Held.{Held, live_version, waiting, file_of, wanted, told_or_none, where_live, SoundAt, SoundBy, IsPast, Went, AllReads, Found, FoundSince, forged, was_put, own}
+use Rattle.store_api.specs.Content.{SameIds, SameContent}
+use Rattle.integrity_store.specs.BlockRecords.{Record, fields_of, is_record, record_of, record_in, opened, Verdict, good, bad, judged_record, judged, verdict, payload_in}
+use Rattle.integrity_store.specs.Held.{Held, live_version, waiting, file_of, wanted, told_or_none, where_live, SoundAt, SoundBy, IsPast, Went, FoundSince, forged, was_put, own}
 use Rattle.integrity_store.specs.Laws.{went_same, wanted-reads, opened-plain, opens-length}
 
 -- a file came for this id, from the list or by one call

@@ -1,5 +1,5 @@
 -- What a store of blocks means, by what it holds and by the calls on its directory.
-use Rattle.std.specs.Prelude.{◌≡◌, ◌≤◌, ◌<◌, ◌+◌, ◌-◌, ◌^◌, ◌==◌, ℕ, Bool, true, false, not, ◌&&◌, List, length, replicate, is_some, if◌then◌else◌}
+use Rattle.std.specs.Prelude.{◌≡◌, ◌≤◌, ◌-◌, ◌^◌, ◌==◌, ℕ, Bool, true, false, List, length, is_some}
 use Rattle.std.proofs.Common.{refl, sym, ◌∙◌, ap, subst, arith}
 use Rattle.std.proofs.lemmas.List.{length-replicate}
 use Rattle.std.specs.FinMap as fin
@@ -14,7 +14,7 @@ use Rattle.outcome.specs.Meanings.{Meanings, Lawful}
 use Rattle.local_state.specs.declared.mark.Mark.{Mark}
 use Rattle.local_state.specs.Known.{FitMarks}
 use Rattle.local_state.specs.Record.{HasRecord}
-use Rattle.store_api.specs.Content.{Id, same_id}
+use Rattle.store_api.specs.Content.{Id}
 use Rattle.store_api.specs.Holdings.{Holdings, Steady, Stays, has_id}
 use Rattle.integrity_store.specs.BlockRecords.{Record, opened, payload_of, payload_in}
 use Rattle.integrity_store.specs.Held.{Held, live_version, version_if_live, file_of, wanted, told_or_none, where_live, SoundBy, Went, FoundSince, forged}

@@ -1,7 +1,6 @@
 -- A store's parts as plain data.
 use Rattle.std.specs.Prelude.{ℕ, List}
 use Rattle.std.specs.declared.option.Option.{Option}
-use Rattle.outside.specs.Changes.{Changes}
 use Rattle.local_state.specs.declared.state.State.{State}
 use Rattle.local_state.specs.Record.{plain_state}
 use Rattle.sealed_store.specs.declared.sealed_store.SealedStore.{SealedStore}
