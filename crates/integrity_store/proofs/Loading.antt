@@ -1,0 +1,84 @@
+-- The outcome of a load.
+use Rattle.std.specs.Prelude.{◌≡◌, ◌≤◌, ℕ, Bool, true, false, List, Vec, Result, is_some, if◌then◌else◌}
+use Rattle.std.proofs.Common.{refl, sym, ◌∙◌, ap, subst}
+use Rattle.std.specs.declared.alloc.Global.{Global}
+use Rattle.std.specs.declared.option.Option.{Option}
+use Rattle.std.specs.declared.option.Option.TheVariants.{None, Some}
+use Rattle.std.specs.declared.result.Result.TheVariants.{Ok, Err}
+use Rattle.std.specs.Option.{option_map, option_map_or}
+use Rattle.block_id.specs.declared.fail.Fail.{Fail}
+use Rattle.outside.specs.Trace.{Call}
+use Rattle.outside.specs.Honest.{count_told}
+use Rattle.outside.specs.View.{bytes_of}
+use Rattle.outcome.specs.Meanings.{HasCause}
+use Rattle.outcome.specs.Outcome.{Outcome, idle}
+use Rattle.local_state.specs.declared.mark.Mark.{Mark}
+use Rattle.store_api.specs.Holdings.{Stays}
+use Rattle.integrity_store.specs.Held.{Held, live_version, version_if_live, wanted, where_live, file_of, told_or_none, SoundBy, forged}
+use Rattle.integrity_store.specs.BlockRecords.{payload_in}
+use Rattle.integrity_store.specs.Laws.{went_sound}
+use Rattle.integrity_store.specs.Loads.{Fetched, fetched_went, fetched_met, fetched_alarm, fetched_value}
+use Rattle.integrity_store.specs.Stores.{OnlyRead, meanings_by, holdings_by, lawful_by, settled_by}
+
+module _ {S : Type 0} (held : S → Held) (trace : S → Option (List Call)) (faults : S → ℕ) (own : S → Type 0) (a b : S) (id : List ℕ) where
+  only_read : (version : ℕ) (r : Result (Vec ℕ Global) Fail) → held b ≡ held a → faults a ≤ faults b → live_version (held a) id ≡ Some version
+      → Fetched (held a) (trace a) (trace b) id version r → OnlyRead (held a) (held b) (trace a) (trace b) (faults a) (faults b)
+  only_read version r same later live f = record { held = same; trace = fetched_went (held a) (trace a) (trace b) id version r live f; faults = later }
+
+  still_sound : (version : ℕ) (r : Result (Vec ℕ Global) Fail) → held b ≡ held a → live_version (held a) id ≡ Some version
+      → Fetched (held a) (trace a) (trace b) id version r → SoundBy (held a) (trace a) → SoundBy (held b) (trace b)
+  still_sound version r same live f s =
+      subst (λ h. SoundBy h (trace b)) (sym same) (went_sound (held a) (trace a) (trace b) (fetched_went (held a) (trace a) (trace b) id version r live f) s)
+
+  pub stays : (version : ℕ) (r : Result (Vec ℕ Global) Fail) → held b ≡ held a → faults a ≤ faults b → live_version (held a) id ≡ Some version
+      → Fetched (held a) (trace a) (trace b) id version r → Stays (holdings_by held trace) a b
+  stays version r same later live f = settled_by held trace faults a b (only_read version r same later live f)
+
+  pub loaded_ok : (version : ℕ) (payload : Vec ℕ Global) → (meanings_by held trace faults own).intact b → held b ≡ held a → faults a ≤ faults b → live_version (held a) id ≡ Some version
+      → Fetched (held a) (trace a) (trace b) id version (Ok payload)
+      → Outcome (meanings_by held trace faults own) {T = Option (Vec ℕ Global)} Unit a b (Ok (Some payload)) (λ _ answer. bytes_of answer ≡ wanted (held a) (trace a) id)
+  loaded_ok version payload intact same later live f = record {
+    intact = intact;
+    loaded = only_read version (Ok payload) same later live f;
+    sound = λ s few. still_sound version (Ok payload) same live f s;
+    met = tt;
+    fault = tt;
+    value = λ n s few. fetched_value (held a) (trace a) (trace b) id version payload live f s
+        (subst (λ h. count_told (forged h.opens h.size) (trace b) ≤ count_told (forged (held a).opens (held a).size) (trace a)) same few);
+    alarm = λ n s few. tt;
+  }
+
+  pub loaded_err : (version : ℕ) (e : Fail) → (meanings_by held trace faults own).intact b → held b ≡ held a → faults a ≤ faults b → live_version (held a) id ≡ Some version
+      → HasCause e (faults a) (faults b) → Fetched (held a) (trace a) (trace b) id version (Err e)
+      → Outcome (meanings_by held trace faults own) {T = Option (Vec ℕ Global)} Unit a b (Err e) (λ _ answer. bytes_of answer ≡ wanted (held a) (trace a) id)
+  loaded_err version e intact same later live cause f = record {
+    intact = intact;
+    loaded = only_read version (Err e) same later live f;
+    sound = λ s few. still_sound version (Err e) same live f s;
+    met = fetched_met (held a) (trace a) (trace b) id version e live f;
+    fault = cause;
+    value = λ n s few. tt;
+    alarm = λ n s few. fetched_alarm (held a) (trace a) (trace b) id version e live f s few;
+  }
+
+  pub not_wanted : live_version (held a) id ≡ None → wanted (held a) (trace a) id ≡ None
+  not_wanted dead = ap (λ v. where_live v (payload_in (held a).opens (held a).size (file_of (held a) (told_or_none (trace a)) id))) dead
+
+  pub is_wanted : (version : ℕ) → live_version (held a) id ≡ Some version → is_some (wanted (held a) (trace a) id) ≡ true
+  is_wanted version live = ap (λ v. is_some (where_live v (payload_in (held a).opens (held a).size (file_of (held a) (told_or_none (trace a)) id)))) live
+
+  pub not_loaded : (meanings_by held trace faults own).intact a → live_version (held a) id ≡ None
+      → Outcome (meanings_by held trace faults own) {T = Option (Vec ℕ Global)} Unit a a (Ok None) (λ _ answer. bytes_of answer ≡ wanted (held a) (trace a) id)
+  not_loaded intact dead = idle (lawful_by held trace faults own) a None intact (λ n. sym (not_wanted dead))
+
+pub nothing_changed : {S : Type 0} (held : S → Held) (trace : S → Option (List Call)) (faults : S → ℕ) (a : S) → Stays (holdings_by held trace) a a
+nothing_changed held trace faults a = record { ids = λ id. refl; content = λ told id. refl; told = refl; used = refl; spent = λ id. refl; payload = refl }
+
+-- the version of a live id, by whether it lives
+pub version-live : (o : Option Mark) (b : Bool) → option_map_or (λ m. m.live) o false ≡ b → b ≡ true → option_map (λ m. m.version) o ≡ version_if_live o
+version-live None b e t = refl
+version-live (Some mark) b e t = sym (ap (λ l. if l then Some mark.version else None) (e ∙ t))
+
+pub version-dead : (o : Option Mark) (b : Bool) → option_map_or (λ m. m.live) o false ≡ b → b ≡ false → None ≡ version_if_live o
+version-dead None b e t = refl
+version-dead (Some mark) b e t = sym (ap (λ l. if l then Some mark.version else None) (e ∙ t))

@@ -1,0 +1,7 @@
+pub mod BlockRecords
+pub mod Held
+pub mod Judges
+pub mod Laws
+pub mod Loads
+pub mod Stores
+pub mod Views

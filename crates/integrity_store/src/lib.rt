@@ -1,0 +1,11 @@
+//! The store of blocks that notices rollback: payloads in sealed files, each with its id, its client and a version that
+//! only rises, over a directory that may give whatever it likes.
+#![tactic(auto)]
+
+mod record;
+mod store;
+
+pub use store::IntegrityStore;
+
+#[cfg(test)]
+mod tests;
