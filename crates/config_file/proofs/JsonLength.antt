@@ -5,8 +5,10 @@ use Rattle.std.specs.Char.{digit_char}
 use Rattle.hex.proofs.HexLemmas.{length-encode_with}
 use Rattle.hex.specs.Hex.{encode_upper, upper_digits}
 use Rattle.json.specs.Print.{escape, escape_byte, escape_letter, quoted}
-use Rattle.serde_json.specs.Data.{number, unsigned, string, object, Members, member, no_members}
-use Rattle.serde_json.specs.Written.{compact_text, members_text}
+use Rattle.serde_json.specs.Data.{number, unsigned, string, object, Members, member, no_members, depth}
+use Rattle.serde_json.specs.Read.{max_depth}
+use Rattle.serde_json.specs.Written.{compact_text, has_float, members_text}
+use Rattle.config_file.specs.declared.config.Cipher.{Cipher}
 use Rattle.config_file.specs.declared.config.Cipher.TheVariants.{Aes256Gcm}
 use Rattle.config_file.specs.Json.{data_of, json_text}
 use Rattle.config_file.specs.Settings.{Settings, IsBlockSize, cipher_name}
@@ -40,7 +42,7 @@ length_next k text rest =
 key_lengths : (length (escape (codes "blocksizeBytes")) ≡ 14) × (length (escape (codes "cipher")) ≡ 6) × (length (escape (codes "filesystemId")) ≡ 12)
     × (length (escape (codes "key")) ≡ 3) × (length (escape (codes "rootblob")) ≡ 8) × (length (escape (codes "aes-256-gcm")) ≡ 11)
 unfolding escape_byte
-key_lengths = (refl, (refl, (refl, (refl, (refl, refl)))))
+key_lengths = (refl, refl, refl, refl, refl, refl)
 
 abbrev written : List ℕ → List ℕ → List ℕ → List ℕ → List ℕ → List ℕ
 written size cipher fs_id key root =
@@ -48,7 +50,7 @@ written size cipher fs_id key root =
     ++ 44 ∷ (quoted (codes "filesystemId") ++ 58 ∷ (fs_id ++ 44 ∷ (quoted (codes "key") ++ 58 ∷ (key
     ++ 44 ∷ (quoted (codes "rootblob") ++ 58 ∷ (root ++ 125 ∷ []))))))))))
 
-length_written : (size cipher fs_id key root : List ℕ) → length (written size cipher fs_id key root) ≡ 65 + length size + length cipher + length fs_id + length key + length root
+length_written : (size cipher fs_id key root : List ℕ) → length (written size cipher fs_id key root) ≡ 64 + length size + length cipher + length fs_id + length key + length root
 length_written size cipher fs_id key root =
     let last : List ℕ = 125 ∷ [] in
     let five : List ℕ = 44 ∷ (quoted (codes "rootblob") ++ 58 ∷ (root ++ last)) in
@@ -57,13 +59,23 @@ length_written size cipher fs_id key root =
     let two : List ℕ = 44 ∷ (quoted (codes "cipher") ++ 58 ∷ (cipher ++ three)) in
     omega (arith, length_next (codes "blocksizeBytes") size two, length_next (codes "cipher") cipher three,
       length_next (codes "filesystemId") fs_id four, length_next (codes "key") key five, length_next (codes "rootblob") root last,
-      key_lengths.0, key_lengths.1.0, key_lengths.1.1.0, key_lengths.1.1.1.0, key_lengths.1.1.1.1.0)
+      key_lengths.0, key_lengths.1, key_lengths.2, key_lengths.3, key_lengths.4)
 
-pub length_json_text : (s : Settings) → IsBlockSize s.block_size → length s.fs_id ≡ 16 → length s.key ≡ 32 → length s.root ≡ 16
-    → s.cipher ≡ Aes256Gcm → length (json_text s) ≤ 896
+only_cipher : (c : Cipher) → c ≡ Aes256Gcm
+only_cipher Aes256Gcm = refl
+
+pub length_json_text : (s : Settings) → IsBlockSize s.block_size → length s.fs_id ≡ 16 → length s.key ≡ 32 → length s.root ≡ 16 → length (json_text s) ≤ 896
 unfolding data_of
-length_json_text s size fs_id key root cipher =
-    let name : length (quoted (cipher_name s.cipher)) ≡ 13 = ap (λ c. length (quoted (cipher_name c))) cipher ∙ length_quoted (codes "aes-256-gcm") ∙ ap (λ n. 2 + n) key_lengths.1.1.1.1.1 in
+length_json_text s size fs_id key root =
+    let name : length (quoted (cipher_name s.cipher)) ≡ 13 = ap (λ c. length (quoted (cipher_name c))) (only_cipher s.cipher) ∙ length_quoted (codes "aes-256-gcm") ∙ ap (λ n. 2 + n) key_lengths.5 in
     let digits : length (decimal s.block_size) ≤ 7 = length-decimal-le 7 s.block_size (omega arith) (omega (arith, size.high)) (omega (arith, size.high)) in
     let whole = length_written (decimal s.block_size) (quoted (cipher_name s.cipher)) (quoted (encode_upper s.fs_id)) (quoted (encode_upper s.key)) (quoted (encode_upper s.root)) in
     omega (arith, whole, name, digits, length_digits s.fs_id, length_digits s.key, length_digits s.root)
+
+pub no_float : (s : Settings) → has_float (data_of s) ≡ false
+unfolding data_of
+no_float s = refl
+
+pub shallow : (s : Settings) → depth (data_of s) ≤ max_depth
+unfolding data_of
+shallow s = omega arith

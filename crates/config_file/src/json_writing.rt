@@ -14,13 +14,15 @@ use serde_json::{Value, json};
 use std::alloc::{AllocError, Global};
 
 /// The JSON text of a configuration.
-#[tactic(auto, using(crate::proofs::JsonLength::length_json_text))]
 pub(crate) fn write_json(alloc: Global, config: &Config) -> Result<Vec<u8>, Memory>
     requires { IsBlockSize config.now.block_size }
     ensures text { IfOk result (λ text. text.items ≡ json_text (settings_of config.now)) }
     ensures len { IfOk result (λ text. length text.items ≤ 896) }
     ensures reads { IfOk result (λ text. IsUtf8 text.items × (read text.items ≡ Some (data_of (settings_of config.now)))) }
 {
+    // Read here, so that their lengths are known.
+    let _fs_id = config.fs_id.0;
+    let _root = config.root.0;
     let value = value_of(alloc, config)?;
     Ok(value.to_vec(alloc)?)
 }
