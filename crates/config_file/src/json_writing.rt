@@ -9,7 +9,7 @@ ghost use Rattle.config_file.specs.Settings.{IsBlockSize, settings_of};
 
 use crate::config::Config;
 use crate::json_reading::CIPHER_NAME;
-use block_id::Memory;
+use block_id::{BlockId, Memory};
 use serde_json::{Value, json};
 use std::alloc::{AllocError, Global};
 
@@ -20,11 +20,17 @@ pub(crate) fn write_json(alloc: Global, config: &Config) -> Result<Vec<u8>, Memo
     ensures len { IfOk result (λ text. length text.items ≤ 896) }
     ensures reads { IfOk result (λ text. IsUtf8 text.items × (read text.items ≡ Some (data_of (settings_of config.now)))) }
 {
-    // Read here, so that their lengths are known.
-    let _fs_id = config.fs_id.0;
-    let _root = config.root.0;
+    let _fs_id = bytes_of(&config.fs_id);
+    let _root = bytes_of(&config.root);
     let value = value_of(alloc, config)?;
     Ok(value.to_vec(alloc)?)
+}
+
+fn bytes_of(id: &BlockId) -> [u8; 16]
+    ensures value { result ≡ id.now.0 }
+    ensures len { length id.now.0 ≡ 16 }
+{
+    id.0
 }
 
 #[tactic(auto, unfolding(crate::specs::Json::data_of))]
