@@ -1,21 +1,12 @@
--- What a text and an inner part hold, step by step.
-use Rattle.std.proofs.Common.{◌≡◌, ◌↔◌, ℕ, List, Option, Some, None, option_and_then, sym, ap, ◌∙◌, subst, refl}
-use Rattle.std.specs.Str.{IsUtf8}
+-- What a file and its inner part hold, step by step.
+use Rattle.std.proofs.Common.{◌≡◌, ◌↔◌, ℕ, ◌-◌, List, length, take, drop, Option, Some, None, option_and_then, sym, ap, ◌∙◌, subst, arith, length-drop}
+use Rattle.std.proofs.lemmas.List.{take_all}
 use Rattle.aes_gcm.specs.Gcm.{opened_of}
-use Rattle.serde_json.specs.Data.{Data}
-use Rattle.serde_json.specs.Read.{read}
+use Rattle.scrypt_kdf.specs.Cost.{Cost}
 use Rattle.config_file.specs.ConfigOf.{Holds, json_in}
-use Rattle.config_file.specs.Format.{sealed_in, text_in}
-use Rattle.config_file.specs.Json.{ReadsAs, settings_in}
+use Rattle.config_file.specs.Format.{cost_in, inner_in, outer_key, salt_in, sealed_in, text_in}
+use Rattle.config_file.specs.Json.{ReadsAs}
 use Rattle.config_file.specs.Settings.{Settings}
-
-pub not_read : (text : List ℕ) → (IsUtf8 text → read text ≡ None) → (s : Settings) → (None ≡ Some s) ↔ ReadsAs text s
-not_read text none s = (λ h. absurd (cc h), λ reads. let is = ap (option_and_then settings_in) (none reads.0) in absurd (cc (sym is ∙ reads.1)))
-
-pub read_as : (text : List ℕ) (d : Data) (o : Option Settings) → IsUtf8 text → read text ≡ Some d → o ≡ settings_in d → (s : Settings) → (o ≡ Some s) ↔ ReadsAs text s
-read_as text d o utf8 is gives s =
-    let same : option_and_then settings_in (read text) ≡ settings_in d = ap (option_and_then settings_in) is in
-    (λ h. (utf8, same ∙ sym gives ∙ h), λ reads. gives ∙ sym same ∙ reads.1)
 
 pub not_sealed : (key part : List ℕ) → sealed_in part ≡ None → json_in key part ≡ None
 unfolding json_in
@@ -41,3 +32,10 @@ pub held : (key part text : List ℕ) (o : Option Settings) → json_in key part
     → (s : Settings) → (o ≡ Some s) ↔ Holds key part s
 held key part text o is iff s =
     (λ h. (text, (is, (iff s).0 h)), λ holds. (iff s).1 (subst (λ t. ReadsAs t s) (same_text holds.0 text (sym holds.1.0 ∙ is)) holds.1.1))
+
+-- the inner part opens as what is left of the file does
+pub opens_part : (password bytes : List ℕ) (cost : Cost) (key : List ℕ) → cost ≡ cost_in bytes → key ≡ outer_key password (salt_in bytes) cost
+    → opened_of key (take (length bytes - 70) (drop 70 bytes)) ≡ inner_in password bytes
+opens_part password bytes cost key is_cost is_key =
+    let rest : take (length bytes - 70) (drop 70 bytes) ≡ drop 70 bytes = take_all (length bytes - 70) (drop 70 bytes) (omega (arith, length-drop 70 bytes)) in
+    (λ i. opened_of (is_key i) (rest i)) ∙ ap (λ (k : Cost). opened_of (outer_key password (salt_in bytes) k) (drop 70 bytes)) is_cost

@@ -1,7 +1,6 @@
 -- The length of what a sealed text opens to.
 use Rattle.std.proofs.Common.{◌≡◌, ℕ, ◌+◌, List, length, Option, Some, None, sym, arith, Vec, Global}
 use Rattle.std.specs.Option.{IfSome, option_map}
-use Rattle.std.specs.Result.{IfOk, Result}
 use Rattle.aes_gcm.specs.Gcm.{opened_of}
 use Rattle.aes_gcm.specs.Lengths.{length-opened_of}
 

@@ -59,7 +59,10 @@ pub(crate) fn sealed_from(inner: &[u8]) -> Option<&[u8]>
     ensures value { option_map (λ sealed. sealed.now) result ≡ sealed_in inner.now }
     ensures len { IfSome result (λ sealed. length sealed.now ≡ 932) }
 {
-    if !inner.starts_with(&INNER_FRONT) || !inner[21..].starts_with(&CIPHER_FIELD) {
+    if !inner.starts_with(&INNER_FRONT) {
+        return None;
+    }
+    if !inner[21..].starts_with(&CIPHER_FIELD) {
         return None;
     }
     Some(&inner[33..965])

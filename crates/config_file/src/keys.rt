@@ -1,5 +1,5 @@
 // The keys that are derived from a password, and what opens under them.
-ghost use Rattle.std.specs.Prelude.{◌≡◌, ◌+◌, length, IfOk, IfSome};
+ghost use Rattle.std.specs.Prelude.{◌≡◌, ◌+◌, length, take, drop, IfOk, IfSome};
 ghost use Rattle.std.specs.Option.{option_map};
 ghost use Rattle.aes_gcm.specs.Gcm.{opened_of};
 ghost use Rattle.config_file.specs.Format.{inner_key, outer_key};
@@ -29,15 +29,29 @@ pub(crate) fn derive_keys(
 {
     let mut derived = [0; 64];
     scrypt(alloc, password, salt, params, &mut derived)?;
-    let mut outer = [0; 32];
-    outer.copy_from_slice(&derived[..32]);
-    let mut inner = [0; 32];
-    inner.copy_from_slice(&derived[32..]);
-    Ok(Keys { outer, inner })
+    Ok(halves(&derived))
+}
+
+fn halves(derived: &[u8; 64]) -> Keys
+    ensures outer { result.outer ≡ take 32 derived.now }
+    ensures inner { result.inner ≡ drop 32 derived.now }
+{
+    Keys {
+        outer: key_of(&derived[..32]),
+        inner: key_of(&derived[32..]),
+    }
+}
+
+fn key_of(bytes: &[u8]) -> [u8; 32]
+    requires { length bytes.now ≡ 32 }
+    ensures { result ≡ bytes.now }
+{
+    let mut key = [0; 32];
+    key.copy_from_slice(bytes);
+    key
 }
 
 /// The plaintext of a sealed text, if it opens.
-#[tactic(auto, using(crate::proofs::Lengths::length_opened))]
 pub(crate) fn unseal(
     alloc: Global,
     key: &[u8; 32],
