@@ -23,7 +23,7 @@ pub is_opened : (key part sealed innermost : List ℕ) → sealed_in part ≡ So
 is_opened key part sealed innermost is opens = is_sealed key part sealed is ∙ ap (option_and_then text_in) opens
 
 pub not_held : (key part : List ℕ) → json_in key part ≡ None → (s : Settings) → (None ≡ Some s) ↔ Holds key part s
-not_held key part none s = (λ h. absurd (cc h), λ holds. absurd (cc (sym none ∙ holds.1.0)))
+not_held key part none s = (λ h. absurd (cc h), λ holds. absurd (cc (sym none ∙ holds.1)))
 
 same_text : (x y : List ℕ) → Some x ≡ Some y → x ≡ y
 same_text x y e = cc e
@@ -31,7 +31,7 @@ same_text x y e = cc e
 pub held : (key part text : List ℕ) (o : Option Settings) → json_in key part ≡ Some text → ((s : Settings) → (o ≡ Some s) ↔ ReadsAs text s)
     → (s : Settings) → (o ≡ Some s) ↔ Holds key part s
 held key part text o is iff s =
-    (λ h. (text, (is, (iff s).0 h)), λ holds. (iff s).1 (subst (λ t. ReadsAs t s) (same_text holds.0 text (sym holds.1.0 ∙ is)) holds.1.1))
+    (λ h. (text, is, (iff s).0 h), λ holds. (iff s).1 (subst (λ t. ReadsAs t s) (same_text holds.0 text (sym holds.1 ∙ is)) holds.2))
 
 -- the inner part opens as what is left of the file does
 pub opens_part : (password bytes : List ℕ) (cost : Cost) (key : List ℕ) → cost ≡ cost_in bytes → key ≡ outer_key password (salt_in bytes) cost
