@@ -1,0 +1,4 @@
+pub mod Held
+pub mod JsonLength
+pub mod Lengths
+pub mod Sealed

@@ -1,0 +1,44 @@
+use Rattle.std.proofs.Common.{◌≡◌, ℕ, List, None, Some, sym, ap, ◌∙◌, subst, Vec, Global}
+use Rattle.std.specs.Option.{option_map}
+use Rattle.config_file.proofs.Held.{opens_part}
+use Rattle.config_file.specs.ConfigOf.{Holds, key_in}
+use Rattle.config_file.specs.Format.{inner_in, inner_key, salt_in}
+use Rattle.config_file.specs.Settings.{Settings, settings_of}
+use Rattle.config_file.proofs.open.open_config.Goals as goal
+
+pub returns-in_default-2-clause-locked : goal.returns-in_default-2-clause-locked
+returns-in_default-2-clause-locked c =
+    let password = c.args.password.now in
+    let bytes = c.args.bytes.now in
+    let shut : inner_in password bytes ≡ None =
+    sym (opens_part password bytes c.in-Some.params c.in_ok-keys.keys.outer c.in-Some.ensures.value c.in_ok-keys.ensures.outer)
+    ∙ sym c.in_ok-part.ensures.plain ∙ ap (option_map {T = Vec ℕ Global} {U = List ℕ} (λ plain. plain.items)) c.in_default-2.is in
+    λ _. (c.in-Some.ensures.form, shut)
+
+pub returns-in-Some-3-clause-found : goal.returns-in-Some-3-clause-found
+returns-in-Some-3-clause-found c =
+    let password = c.args.password.now in
+    let bytes = c.args.bytes.now in
+    let part = c.in-Some-2.part.items in
+    let s : Settings = settings_of c.in-Some-3.config in
+    let opens : inner_in password bytes ≡ Some part =
+    sym (opens_part password bytes c.in-Some.params c.in_ok-keys.keys.outer c.in-Some.ensures.value c.in_ok-keys.ensures.outer)
+    ∙ sym c.in_ok-part.ensures.plain ∙ ap (option_map {T = Vec ℕ Global} {U = List ℕ} (λ plain. plain.items)) c.in-Some-2.is in
+    let key : c.in_ok-keys.keys.inner ≡ key_in password bytes = c.in_ok-keys.ensures.inner ∙ ap (inner_key password (salt_in bytes)) c.in-Some.ensures.value in
+    let has = (c.in_ok-config.ensures s).0 (ap (option_map settings_of) c.in-Some-3.is) in
+    let holds = subst (λ (k : List ℕ). Holds k part s) key (subst (λ (p : List ℕ). Holds c.in_ok-keys.keys.inner p s) c.deref.ensures.value has) in
+    (c.in-Some.ensures.form, c.in-Some.ensures.value, (part, opens, holds))
+
+pub returns-clause-inner : goal.returns-clause-inner
+returns-clause-inner c =
+    let password = c.args.password.now in
+    let bytes = c.args.bytes.now in
+    let part = c.in-Some-2.part.items in
+    let opens : inner_in password bytes ≡ Some part =
+    sym (opens_part password bytes c.in-Some.params c.in_ok-keys.keys.outer c.in-Some.ensures.value c.in_ok-keys.ensures.outer)
+    ∙ sym c.in_ok-part.ensures.plain ∙ ap (option_map {T = Vec ℕ Global} {U = List ℕ} (λ plain. plain.items)) c.in-Some-2.is in
+    let key : c.in_ok-keys.keys.inner ≡ key_in password bytes = c.in_ok-keys.ensures.inner ∙ ap (inner_key password (salt_in bytes)) c.in-Some.ensures.value in
+    λ _. (c.in-Some.ensures.form, (part, opens, λ s holds.
+      let has = subst (λ (p : List ℕ). Holds c.in_ok-keys.keys.inner p s) (sym c.deref.ensures.value) (subst (λ (k : List ℕ). Holds k part s) (sym key) holds) in
+      let wrong : None ≡ Some s = sym (ap (option_map settings_of) c.in-None.is) ∙ (c.in_ok-config.ensures s).1 has in
+      absurd (cc wrong)))

@@ -1,0 +1,5 @@
+pub mod Settings
+pub mod Format
+pub mod Json
+pub mod Sealing
+pub mod ConfigOf

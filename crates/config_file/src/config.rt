@@ -1,0 +1,69 @@
+// A configuration.
+
+use aes_gcm::Aes256Gcm;
+use block_id::{BlockId, Memory};
+use scrypt_kdf::Params;
+use seal_api::Sealer;
+use std::alloc::Global;
+
+/// What seals the blocks.
+#[derive(Clone, Copy, Debug, PartialEq, Eq)]
+pub enum Cipher {
+    /// AES-256 in Galois/Counter Mode, named `aes-256-gcm`.
+    Aes256Gcm,
+}
+
+/// What a file system is made of.
+#[derive(Clone, Copy, Debug, PartialEq, Eq)]
+pub struct Config {
+    /// The blob of the root directory.
+    pub root: BlockId,
+    /// The key of the blocks.
+    pub key: [u8; 32],
+    pub cipher: Cipher,
+    /// How many bytes the file of a block has, 128 to 1,048,576.
+    pub block_size: u32,
+    /// The id of the file system.
+    pub fs_id: BlockId,
+}
+
+/// A configuration, and the parameters of scrypt that it was sealed with.
+#[derive(Clone, Copy)]
+pub struct Opened {
+    pub config: Config,
+    pub params: Params,
+}
+
+impl Sealer for Cipher {
+    ghost use Rattle.aes_gcm.specs.Gcm.{opened_of};
+    ghost use Rattle.aes_gcm.specs.Lengths.{length-opened_of};
+
+    ghost iv_size = { λ _. 16 };
+
+    ghost opens = { λ _ key text. opened_of key text };
+
+    fn iv_len(&self) -> usize {
+        Aes256Gcm.iv_len()
+    }
+
+    fn seal(
+        &self,
+        key: &[u8; 32],
+        iv: &[u8],
+        plain: &[u8],
+        out: &mut Vec<u8>,
+    ) -> Result<(), Memory> {
+        Aes256Gcm.seal(key, iv, plain, out)
+    }
+
+    fn unseal(
+        &self,
+        alloc: Global,
+        key: &[u8; 32],
+        sealed: &[u8],
+    ) -> Result<Option<Vec<u8>>, Memory> {
+        Aes256Gcm.unseal(alloc, key, sealed)
+    }
+
+    ghost lengths = { λ _ key text plain opens. length-opened_of key text plain opens };
+}

@@ -1,0 +1,19 @@
+//! The configuration file: what a file system is made of, sealed twice under a password.
+#![tactic(auto)]
+
+mod config;
+mod error;
+mod format;
+mod json_reading;
+mod json_writing;
+mod keys;
+mod open;
+mod seal;
+
+pub use config::{Cipher, Config, Opened};
+pub use error::ConfigError;
+pub use open::open_config;
+pub use seal::seal_config;
+
+#[cfg(test)]
+mod tests;

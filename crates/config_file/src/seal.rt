@@ -1,0 +1,113 @@
+// Sealing a configuration as its file.
+ghost use Rattle.std.specs.Prelude.{◌≡◌, ◌≤◌, ◌++◌, length, IfOk, OnOk};
+ghost use Rattle.std.specs.Int.{w32, to_le_bytes};
+ghost use Rattle.aes_gcm.specs.Gcm.{sealed_of};
+ghost use Rattle.config_file.specs.Sealing.{config_text, inner_text, innermost_text, outer_text};
+ghost use Rattle.config_file.specs.Settings.{IsBlockSize, settings_of};
+
+use crate::config::Config;
+use crate::format::{CIPHER_FIELD, FILE_LEN, INNER_FRONT, OUTER_FRONT};
+use crate::json_writing::write_json;
+use crate::keys::derive_keys;
+use aes_block::KeySchedule;
+use aes_gcm::gcm_seal;
+use block_id::Memory;
+use scrypt_kdf::Params;
+use std::alloc::Global;
+
+/// The file of a configuration, 1,126 bytes: the inner part is sealed under a key derived from the password and the salt,
+/// and so is what it holds, under another.
+pub fn seal_config(
+    alloc: Global,
+    password: &[u8],
+    params: &Params,
+    salt: &[u8; 32],
+    fill: &[u8; 960],
+    inner_iv: &[u8; 16],
+    outer_iv: &[u8; 16],
+    config: &Config,
+) -> Result<Vec<u8>, Memory>
+    requires { IsBlockSize config.now.block_size }
+    ensures text { IfOk result (λ text. text.items ≡ config_text (record {
+      password = password.now;
+      cost = params.now;
+      salt = salt.now;
+      fill = fill.now;
+      inner_iv = inner_iv.now;
+      outer_iv = outer_iv.now;
+    }) (settings_of config.now)) }
+{
+    let keys = derive_keys(alloc, password, salt, params)?;
+    let json = write_json(alloc, config)?;
+    let innermost = innermost_part(alloc, &json, fill)?;
+    let inner = inner_part(alloc, &keys.inner, inner_iv, &innermost, fill)?;
+    let mut out = outer_part(alloc, params, salt)?;
+    append_sealed(&keys.outer, outer_iv, &inner, &mut out)?;
+    Ok(out)
+}
+
+#[tactic(auto, unfolding(crate::specs::Sealing::innermost_text))]
+fn innermost_part(alloc: Global, json: &[u8], fill: &[u8; 960]) -> Result<Vec<u8>, Memory>
+    requires { length json.now ≤ 896 }
+    ensures { IfOk result (λ part. part.items ≡ innermost_text json.now fill.now) }
+{
+    let mut part = Vec::with_capacity(alloc, 900)?;
+    put_u32(&mut part, json.len() as u32)?;
+    part.extend_from_slice(json)?;
+    part.extend_from_slice(&fill[4 + json.len()..900])?;
+    Ok(part)
+}
+
+#[tactic(auto, unfolding(crate::specs::Sealing::inner_text))]
+fn inner_part(
+    alloc: Global,
+    key: &[u8; 32],
+    iv: &[u8; 16],
+    innermost: &[u8],
+    fill: &[u8; 960],
+) -> Result<Vec<u8>, Memory>
+    ensures { IfOk result (λ part. part.items ≡ inner_text key.now iv.now innermost.now fill.now) }
+{
+    let mut part = Vec::with_capacity(alloc, 1024)?;
+    part.extend_from_slice(&INNER_FRONT)?;
+    part.extend_from_slice(&CIPHER_FIELD)?;
+    append_sealed(key, iv, innermost, &mut part)?;
+    part.extend_from_slice(&fill[900..959])?;
+    Ok(part)
+}
+
+/// What stands before the sealed inner part.
+#[tactic(auto, unfolding(crate::specs::Sealing::outer_text))]
+fn outer_part(alloc: Global, params: &Params, salt: &[u8; 32]) -> Result<Vec<u8>, Memory>
+    ensures { IfOk result (λ part. part.items ≡ outer_text params.now salt.now) }
+{
+    let mut part = Vec::with_capacity(alloc, FILE_LEN)?;
+    part.extend_from_slice(&OUTER_FRONT)?;
+    part.extend_from_slice(&params.n().to_le_bytes())?;
+    put_u32(&mut part, params.r())?;
+    put_u32(&mut part, params.p())?;
+    part.extend_from_slice(salt)?;
+    Ok(part)
+}
+
+fn put_u32(out: &mut Vec<u8>, number: u32) -> Result<(), Memory>
+    ensures { OnOk result (out.new.items ≡ out.old.items ++ to_le_bytes w32 number) }
+{
+    out.extend_from_slice(&number.to_le_bytes())?;
+    Ok(())
+}
+
+/// Appends a plaintext, sealed.
+fn append_sealed(
+    key: &[u8; 32],
+    iv: &[u8; 16],
+    plain: &[u8],
+    out: &mut Vec<u8>,
+) -> Result<(), Memory>
+    ensures { OnOk result (out.new.items ≡ out.old.items ++ sealed_of key.now iv.now plain.now) }
+{
+    out.extend_from_slice(iv)?;
+    let tag = gcm_seal(&KeySchedule::new(key), iv, &[], plain, out)?;
+    out.extend_from_slice(&tag)?;
+    Ok(())
+}
