@@ -57,9 +57,19 @@ length_written size cipher fs_id key root =
     let four : List ℕ = 44 ∷ (quoted (codes "key") ++ 58 ∷ (key ++ five)) in
     let three : List ℕ = 44 ∷ (quoted (codes "filesystemId") ++ 58 ∷ (fs_id ++ four)) in
     let two : List ℕ = 44 ∷ (quoted (codes "cipher") ++ 58 ∷ (cipher ++ three)) in
-    omega (arith, length_next (codes "blocksizeBytes") size two, length_next (codes "cipher") cipher three,
-      length_next (codes "filesystemId") fs_id four, length_next (codes "key") key five, length_next (codes "rootblob") root last,
-      key_lengths.0, key_lengths.1, key_lengths.2, key_lengths.3, key_lengths.4)
+    omega (
+      arith,
+      length_next (codes "blocksizeBytes") size two,
+      length_next (codes "cipher") cipher three,
+      length_next (codes "filesystemId") fs_id four,
+      length_next (codes "key") key five,
+      length_next (codes "rootblob") root last,
+      key_lengths.0,
+      key_lengths.1,
+      key_lengths.2,
+      key_lengths.3,
+      key_lengths.4,
+    )
 
 only_cipher : (c : Cipher) → c ≡ Aes256Gcm
 only_cipher Aes256Gcm = refl

@@ -11,10 +11,10 @@ pub returns-then-not-starts_with-2-clause-value : goal.returns-then-not-starts_w
 returns-then-not-starts_with-2-clause-value c =
     let inner = c.args.inner.now in
     sym (other_cipher inner (sym c.starts_with.ensures.value ∙ c.if-not-starts_with.false)
-      (ap (λ (l : List ℕ). begins_with l cipher_field) (rest inner) ∙ sym c.starts_with-2.ensures.value ∙ c.if-not-starts_with-2.true))
+    (ap (λ (l : List ℕ). begins_with l cipher_field) (rest inner) ∙ sym c.starts_with-2.ensures.value ∙ c.if-not-starts_with-2.true))
 
 pub returns-clause-value : goal.returns-clause-value
 returns-clause-value c =
     let inner = c.args.inner.now in
     sym (both_right inner (sym c.starts_with.ensures.value ∙ c.if-not-starts_with.false)
-      (ap (λ (l : List ℕ). begins_with l cipher_field) (rest inner) ∙ sym c.starts_with-2.ensures.value ∙ c.if-not-starts_with-2.false))
+    (ap (λ (l : List ℕ). begins_with l cipher_field) (rest inner) ∙ sym c.starts_with-2.ensures.value ∙ c.if-not-starts_with-2.false))

@@ -25,6 +25,7 @@ returns-clause-len c =
 
 pub returns-clause-reads : goal.returns-clause-reads
 returns-clause-reads c =
-    let s = settings_of c.args.config.now in
-    (c.in_ok-to_vec.ensures.utf8,
-      c.in_ok-to_vec.ensures.reads_back (subst (λ d. depth d ≤ max_depth) (sym c.in_ok-value.ensures) (shallow s)) ∙ ap Some c.in_ok-value.ensures)
+    let s = settings_of c.args.config.now in (
+      c.in_ok-to_vec.ensures.utf8,
+      c.in_ok-to_vec.ensures.reads_back (subst (λ d. depth d ≤ max_depth) (sym c.in_ok-value.ensures) (shallow s)) ∙ ap Some c.in_ok-value.ensures,
+    )

@@ -38,7 +38,14 @@ returns-clause-inner c =
     sym (opens_part password bytes c.in-Some.params c.in_ok-keys.keys.outer c.in-Some.ensures.value c.in_ok-keys.ensures.outer)
     ∙ sym c.in_ok-part.ensures.plain ∙ ap (option_map {T = Vec ℕ Global} {U = List ℕ} (λ plain. plain.items)) c.in-Some-2.is in
     let key : c.in_ok-keys.keys.inner ≡ key_in password bytes = c.in_ok-keys.ensures.inner ∙ ap (inner_key password (salt_in bytes)) c.in-Some.ensures.value in
-    λ _. (c.in-Some.ensures.form, (part, opens, λ s holds.
-      let has = subst (λ (p : List ℕ). Holds c.in_ok-keys.keys.inner p s) (sym c.deref.ensures.value) (subst (λ (k : List ℕ). Holds k part s) (sym key) holds) in
-      let wrong : None ≡ Some s = sym (ap (option_map settings_of) c.in-None.is) ∙ (c.in_ok-config.ensures s).1 has in
-      absurd (cc wrong)))
+    λ _. (
+      c.in-Some.ensures.form,
+      (
+        part,
+        opens,
+        λ s holds.
+            let has = subst (λ (p : List ℕ). Holds c.in_ok-keys.keys.inner p s) (sym c.deref.ensures.value) (subst (λ (k : List ℕ). Holds k part s) (sym key) holds) in
+            let wrong : None ≡ Some s = sym (ap (option_map settings_of) c.in-None.is) ∙ (c.in_ok-config.ensures s).1 has in
+            absurd (cc wrong),
+      ),
+    )
