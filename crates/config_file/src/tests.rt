@@ -1,6 +1,8 @@
 // Files that another program made (Python's hashlib and cryptography), under the password "correct horse",
 // N = 16, r = 1 and p = 1: the one that is sealed here, one with other members and lower-case digits, and three that
 // hold no configuration.
+ghost use Rattle.config_file.specs.Settings.{IsBlockSize};
+
 use super::*;
 use block_id::BlockId;
 use scrypt_kdf::Params;
@@ -26,7 +28,9 @@ fn counted<const N: usize>(first: u8) -> [u8; N] {
     bytes
 }
 
-fn config() -> Config {
+fn config() -> Config
+    ensures { IsBlockSize result.block_size }
+{
     Config {
         root: BlockId(counted::<16>(0xf0)),
         key: counted::<32>(0x80),
@@ -73,12 +77,15 @@ fn refuses(rt: HostRuntime) -> Result<(), Fail> {
     ];
     for (place, change, error) in changes {
         let mut file = hex::decode(rt.alloc(), SEALED)?;
-        file[place] ^= change;
+        if let Some(byte) = file.get_mut(place) {
+            *byte ^= change;
+        }
         assert!(rt; matches!(open_config(rt.alloc(), PASSWORD, &file), Err(e) if e == error));
     }
     let file = hex::decode(rt.alloc(), SEALED)?;
     assert!(rt; matches!(open_config(rt.alloc(), b"", &file), Err(ConfigError::Locked)));
-    assert!(rt; matches!(open_config(rt.alloc(), PASSWORD, &file[..1125]), Err(ConfigError::Form)));
+    let short = file.get(..1125).unwrap_or_default();
+    assert!(rt; matches!(open_config(rt.alloc(), PASSWORD, short), Err(ConfigError::Form)));
     assert!(rt; matches!(open_config(rt.alloc(), PASSWORD, b""), Err(ConfigError::Form)));
     for held in [OTHER_CIPHER, WITH_EXPONENT, SMALL_BLOCKS] {
         let file = hex::decode(rt.alloc(), held)?;
