@@ -1,6 +1,8 @@
 // Files that another program made (Python's hashlib and cryptography), under the password "correct horse",
 // N = 16, r = 1 and p = 1: the one that is sealed here, one with other members and lower-case digits, and three that
 // hold no configuration.
+ghost use Rattle.config_file.specs.Settings.{IsBlockSize};
+
 use super::*;
 use block_id::BlockId;
 use scrypt_kdf::Params;
@@ -31,7 +33,9 @@ fn counted<const N: usize>(first: u8) -> [u8; N] {
     bytes
 }
 
-fn config() -> Config {
+fn config() -> Config
+    ensures { IsBlockSize result.block_size }
+{
     Config {
         root: BlockId(counted::<16>(0xf0)),
         key: counted::<32>(0x80),
@@ -81,10 +85,13 @@ fn refuses(rt: HostRuntime) -> Result<(), Fail> {
     ];
     for (place, change, error) in changes {
         let mut file = hex::decode(rt.alloc(), SEALED)?;
-        file[place] ^= change;
+        if let Some(byte) = file.get_mut(place) {
+            *byte ^= change;
+        }
         assert!(rt; matches!(open_config(rt.alloc(), PASSWORD, &file), Err(e) if e == error));
     }
     let file = hex::decode(rt.alloc(), SEALED)?;
+<<<<<<< HEAD
     assert!(rt;
         matches!(
             open_config(rt.alloc(), b"", &file),
@@ -103,6 +110,12 @@ fn refuses(rt: HostRuntime) -> Result<(), Fail> {
             Err(ConfigError::Form)
         )
     );
+=======
+    assert!(rt; matches!(open_config(rt.alloc(), b"", &file), Err(ConfigError::Locked)));
+    let short = file.get(..1125).unwrap_or_default();
+    assert!(rt; matches!(open_config(rt.alloc(), PASSWORD, short), Err(ConfigError::Form)));
+    assert!(rt; matches!(open_config(rt.alloc(), PASSWORD, b""), Err(ConfigError::Form)));
+>>>>>>> 3d9d7ce1a733563fa8f6525cd63d2dc56badf48c
     for held in [OTHER_CIPHER, WITH_EXPONENT, SMALL_BLOCKS] {
         let file = hex::decode(rt.alloc(), held)?;
         assert!(rt;
