@@ -91,16 +91,16 @@ fn refuses(rt: HostRuntime) -> Result<(), Fail> {
         assert!(rt; matches!(open_config(rt.alloc(), PASSWORD, &file), Err(e) if e == error));
     }
     let file = hex::decode(rt.alloc(), SEALED)?;
-<<<<<<< HEAD
     assert!(rt;
         matches!(
             open_config(rt.alloc(), b"", &file),
             Err(ConfigError::Locked)
         )
     );
+    let short = file.get(..1125).unwrap_or_default();
     assert!(rt;
         matches!(
-            open_config(rt.alloc(), PASSWORD, &file[..1125]),
+            open_config(rt.alloc(), PASSWORD, short),
             Err(ConfigError::Form)
         )
     );
@@ -110,12 +110,6 @@ fn refuses(rt: HostRuntime) -> Result<(), Fail> {
             Err(ConfigError::Form)
         )
     );
-=======
-    assert!(rt; matches!(open_config(rt.alloc(), b"", &file), Err(ConfigError::Locked)));
-    let short = file.get(..1125).unwrap_or_default();
-    assert!(rt; matches!(open_config(rt.alloc(), PASSWORD, short), Err(ConfigError::Form)));
-    assert!(rt; matches!(open_config(rt.alloc(), PASSWORD, b""), Err(ConfigError::Form)));
->>>>>>> 3d9d7ce1a733563fa8f6525cd63d2dc56badf48c
     for held in [OTHER_CIPHER, WITH_EXPONENT, SMALL_BLOCKS] {
         let file = hex::decode(rt.alloc(), held)?;
         assert!(rt;
