@@ -1,4 +1,6 @@
+pub mod Applied
 pub mod BlockRecords
+pub mod Draws
 pub mod Held
 pub mod Judges
 pub mod Laws

@@ -22,8 +22,8 @@ use store_api::Blocks;
 /// version, by which an older or newer file is noticed.
 #[derive(Drop)]
 pub struct IntegrityStore<V, C> {
-    sealed: SealedStore<V, C>,
-    state: State,
+    pub(crate) sealed: SealedStore<V, C>,
+    pub(crate) state: State,
 }
 
 // The version of a live id.
