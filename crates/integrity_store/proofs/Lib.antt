@@ -1,2 +1,4 @@
 pub mod Freshness
 pub mod Loading
+pub mod OneWrite
+pub mod WriteOuts

@@ -1,9 +1,12 @@
 pub mod Applied
 pub mod BlockRecords
 pub mod Draws
+pub mod Enduring
 pub mod Held
 pub mod Judges
 pub mod Laws
 pub mod Loads
+pub mod Standing
 pub mod Stores
 pub mod Views
+pub mod Waiting

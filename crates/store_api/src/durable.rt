@@ -27,7 +27,7 @@ pub trait Durable: BlocksMut {
         ensures { IfOk result (λ bytes. bytes.items ≡ durables.record_of self.now with_list) };
 
     /// Has the configuration's file wait with these bytes.
-    fn put_config(&mut self, bytes: Vec<u8>) -> Result<(), Memory>
+    fn put_config(&mut self, alloc: Global, bytes: Vec<u8>) -> Result<(), Memory>
         requires intact { Self.meanings.intact self.old }
         requires bytes { MayConfigure bytes.items }
         ensures intact { Self.meanings.intact self.new }
