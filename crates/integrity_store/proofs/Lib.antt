@@ -1,3 +1,4 @@
+pub mod Configs
 pub mod Freshness
 pub mod Loading
 pub mod OneWrite

@@ -15,10 +15,11 @@ use Rattle.outside.specs.NameLaws.{same_ties}
 use Rattle.outside.specs.Changes.{Changes, change_at}
 use Rattle.outside.specs.ChangeLaws.{not_in}
 use Rattle.outside.specs.Honest.{is_lie, count_calls, count_told}
-use Rattle.local_state.specs.Record.{Entry, Rise, HasRecord}
+use Rattle.local_state.specs.Record.{Entry, Rise, record_bytes, HasRecord}
 use Rattle.redo_vault.specs.Writes.{call_for, after_writes, StopsAt}
 use Rattle.store_api.specs.Content.{SameContent}
 use Rattle.integrity_store.specs.Held.{Held, wanted, forged, SoundAt, SoundBy}
+use Rattle.integrity_store.specs.Standing.{identity_of, Stands}
 use Rattle.integrity_store.specs.Stores.{IsWhole}
 use Rattle.integrity_store.specs.Waiting.{IsNoBlock, rises_below}
 use Rattle.integrity_store.proofs.OneWrite.{same_is, with_list, Leaves, sound_call, wanted_call, sound_left, wanted_left}
@@ -281,3 +282,36 @@ same_count test list old new left spares w = elim w.trace [
   | inl is ↦ ap (count_told test) is ∙ writes_count test w.done old spares
   | inr (next, waits, is) ↦ ap (count_told test) is ∙ (call_count test (after_writes w.done old) next false spares ∙ writes_count test w.done old spares)
 ]
+
+-- ---- all of it
+
+pub record Written (h : Held) (old new : Option (List Call)) (left : Changes) : Type 0 where
+  pub whole : IsWhole (with_list h left)
+  pub told : is_some new ≡ is_some old
+  pub sound : SoundBy h old → SoundBy (with_list h left) new
+  pub content : SoundBy h old → SameContent (wanted h old) (wanted (with_list h left) new)
+  pub stands : SoundBy h old → h.state.marked ≡ false → Stands (identity_of h) (record_bytes h.state h.list) new (wanted h old)
+  pub lies : count_told is_lie new ≡ count_told is_lie old
+  pub forgeries : count_told (forged h.opens h.size) new ≡ count_told (forged h.opens h.size) old
+
+pub written : (h : Held) (left : Changes) (old new : Option (List Call)) (r : Result Unit GetFail) → IsWhole h → OnOk r (new ≡ after_writes h.list old) → OnOk r (left ≡ []) → OnErr r (StopsAt h.list old new left)
+    → Written h old new left
+written h left old new r whole all none stops =
+    let w = wrote r h.list left old new all none stops in
+    record {
+      whole = still_whole h old new left whole w;
+      told = still_told h.list old new left w;
+      sound = sound_of_rest h old new left whole w;
+      content = content_of_rest h old new left whole w;
+      stands = λ sound unmarked. record {
+        held = h;
+        same = refl;
+        unmarked = unmarked;
+        has_record = whole.has_record;
+        bytes = refl;
+        sound = full_sound h old new left whole w sound;
+        wants = full_content h old new left whole w sound;
+      };
+      lies = same_count is_lie h.list old new left lies_spare w;
+      forgeries = same_count (forged h.opens h.size) h.list old new left (forgeries_spare h.opens h.size) w;
+    }
