@@ -5,5 +5,7 @@ pub mod Held
 pub mod Judges
 pub mod Laws
 pub mod Loads
+pub mod Marking
+pub mod Sealing
 pub mod Stores
 pub mod Views
