@@ -10,7 +10,7 @@ use Rattle.store_api.specs.Content.{Id, id_cmp, same_id}
 use Rattle.integrity_store.specs.Applied.{mark_after}
 use Rattle.integrity_store.specs.Stores.{is_last}
 use Rattle.integrity_store.specs.Marking.{Entry, is_spent_at, some_spent_in, one_if_new, count_new_in, MayMark, with_mark_at, mark_one, mark_each, MayMarkEach, count_new_each}
-use Rattle.integrity_store.proofs.Sorted.{ids_total, same_id_is, not_below, found_first, later_differs, found_later, rest_rises, first_below}
+use Rattle.integrity_store.proofs.Sorted.{ids_total, equal, same_id_is, not_below, found_first, later_differs, found_later, rest_rises, first_below}
 
 -- ---- one entry
 
@@ -34,20 +34,19 @@ get-mark_one marks e q = get-with_mark_at marks e.0 q (mark_after (Some e.1) (fi
 -- what comes later in a batch keeps its mark
 kept : (marks : Marks) (e : Entry) (es : List Entry) (q : Id) (change : Option (List ℕ)) → T (is_sorted id_cmp (e ∷ es)) → find id_cmp q es ≡ Some change → fin.get (mark_one marks e) q ≡ fin.get marks q
 kept marks e es q change rises found =
-    get-mark_one marks e q ∙ ap (λ b. cond b (mark_after (Some e.1) (fin.get marks e.0)) (fin.get marks q)) (later_differs q e es change rises found)
+    get-mark_one marks e q ∙ ap (λ b. cond b (mark_after (Some e.1) (fin.get marks e.0)) (fin.get marks q)) (later_differs ids_total q e es change rises found)
 
 -- ---- all entries
 
 pub get-mark_each : (es : List Entry) (marks : Marks) (q : Id) → T (is_sorted id_cmp es) → fin.get (mark_each marks es) q ≡ mark_after (find id_cmp q es) (fin.get marks q)
 get-mark_each [] marks q rises = refl
 get-mark_each (e ∷ es) marks q rises =
-    get-mark_each es (mark_one marks e) q (rest_rises e es rises) ∙ ap (mark_after (find id_cmp q es)) (get-mark_one marks e q)
+    get-mark_each es (mark_one marks e) q (rest_rises ids_total e es rises) ∙ ap (mark_after (find id_cmp q es)) (get-mark_one marks e q)
     ∙ elim (same_id q e.0) as (λ b. same_id q e.0 ≡ b
     → mark_after (find id_cmp q es) (cond b (mark_after (Some e.1) (fin.get marks e.0)) (fin.get marks q)) ≡ mark_after (cond b (Some e.1) (find id_cmp q es)) (fin.get marks q)) [
       | true ↦ λ s.
-          let is : q ≡ e.0 = same_id_is q e.0 s in
-          ap (λ o. mark_after o (mark_after (Some e.1) (fin.get marks e.0))) (ap (λ x. find id_cmp x es) is ∙ not_below e.0 es (first_below e es rises))
-          ∙ ap (λ x. mark_after (Some e.1) (fin.get marks x)) (sym is)
+          ap (λ o. mark_after o (mark_after (Some e.1) (fin.get marks e.0))) (not_below ids_total q e.0 es (equal (id_cmp q e.0) s) (first_below ids_total e es rises))
+          ∙ ap (λ x. mark_after (Some e.1) (fin.get marks x)) (sym (same_id_is q e.0 s))
       | false ↦ λ s. refl
     ] refl
 
@@ -55,16 +54,16 @@ pub may_mark_each : (es : List Entry) (marks : Marks) → T (is_sorted id_cmp es
     → MayMarkEach marks es
 may_mark_each [] marks rises may = tt
 may_mark_each (e ∷ es) marks rises may =
-    (may e.0 e.1 (found_first e es), may_mark_each es (mark_one marks e) (rest_rises e es rises)
-    (λ id change found. subst (MayMark id change) (sym (kept marks e es id change rises found)) (may id change (found_later id e es change rises found))))
+    (may e.0 e.1 (found_first ids_total e es), may_mark_each es (mark_one marks e) (rest_rises ids_total e es rises)
+    (λ id change found. subst (MayMark id change) (sym (kept marks e es id change rises found)) (may id change (found_later ids_total id e es change rises found))))
 
 count_same : (es : List Entry) (now marks : Marks) → T (is_sorted id_cmp es) → ((id : Id) (change : Option (List ℕ)) → find id_cmp id es ≡ Some change → fin.get now id ≡ fin.get marks id)
     → count_new_each now es ≡ count_new_in marks es
 count_same [] now marks rises same = refl
 count_same (e ∷ es) now marks rises same =
-    let first : one_if_new (fin.get now e.0) ≡ one_if_new (fin.get marks e.0) = ap one_if_new (same e.0 e.1 (found_first e es)) in
-    let rest : count_new_each (mark_one now e) es ≡ count_new_in marks es = count_same es (mark_one now e) marks (rest_rises e es rises)
-    (λ id change found. kept now e es id change rises found ∙ same id change (found_later id e es change rises found)) in
+    let first : one_if_new (fin.get now e.0) ≡ one_if_new (fin.get marks e.0) = ap one_if_new (same e.0 e.1 (found_first ids_total e es)) in
+    let rest : count_new_each (mark_one now e) es ≡ count_new_in marks es = count_same es (mark_one now e) marks (rest_rises ids_total e es rises)
+    (λ id change found. kept now e es id change rises found ∙ same id change (found_later ids_total id e es change rises found)) in
     cc
 
 -- the new ids are counted before the first is marked
@@ -92,10 +91,10 @@ spent_found [] marks rises e = absurd (cc)
 spent_found (e ∷ es) marks rises is = elim (first_or_later (is_spent_at e.1 (fin.get marks e.0)) (some_spent_in marks es) is) [
   | inl here ↦
       let s = spent_first e.1 (fin.get marks e.0) here in
-      record { id = e.0; payload = s.0; gets = found_first e es ∙ ap Some s.1; last = s.2 }
+      record { id = e.0; payload = s.0; gets = found_first ids_total e es ∙ ap Some s.1; last = s.2 }
   | inr there ↦
-      let s = spent_found es marks (rest_rises e es rises) there in
-      record { id = s.id; payload = s.payload; gets = found_later s.id e es (Some s.payload) rises s.gets; last = s.last }
+      let s = spent_found es marks (rest_rises ids_total e es rises) there in
+      record { id = s.id; payload = s.payload; gets = found_later ids_total s.id e es (Some s.payload) rises s.gets; last = s.last }
 ]
 
 or_later : (a b : Bool) → b ≡ true → (a || b) ≡ true

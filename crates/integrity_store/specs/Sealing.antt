@@ -5,6 +5,7 @@ use Rattle.std.specs.declared.option.Option.{Option}
 use Rattle.std.specs.declared.option.Option.TheVariants.{None, Some}
 use Rattle.rand_core.specs.Stream.{Stream, fill_bytes}
 use Rattle.outside.specs.Trace.{At, block}
+use Rattle.outside.specs.Changes.{set_changes}
 use Rattle.local_state.specs.declared.mark.Mark.{Mark}
 use Rattle.store_api.specs.Content.{Id}
 use Rattle.integrity_store.specs.Applied.{IsRaised}
@@ -46,3 +47,9 @@ AreMadeOf h [] stream (change ∷ changes) left = ⊥
 AreMadeOf h (e ∷ es) stream [] left = ⊥
 AreMadeOf h (e ∷ es) stream (change ∷ changes) left =
     (change.0 ≡ block e.0) × IsMadeOf h e.0 e.1 stream change.1 × AreMadeOf h es (stream_after e.1 stream) changes left
+
+-- what was made of the entries waits, and all else is the same
+pub record Lists (a b : Held) (es : List Entry) (stream left : Stream) : Type 0 where
+  pub changes : List (At × Option (List ℕ))
+  pub made : AreMadeOf a es stream changes left
+  pub held : b ≡ record a { list = set_changes changes a.list }
