@@ -1,8 +1,11 @@
 pub mod Applying
+pub mod Batches
 pub mod Freshness
 pub mod Loading
 pub mod Marks
 pub mod Records
 pub mod Sealed
 pub mod Sorted
+pub mod Soundness
 pub mod Waiting
+pub mod Wholeness

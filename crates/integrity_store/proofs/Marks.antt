@@ -101,7 +101,7 @@ or_later : (a b : Bool) → b ≡ true → (a || b) ≡ true
 or_later true b e = refl
 or_later false b e = e
 
-found_spent : (es : List Entry) (marks : Marks) (id : Id) (payload : List ℕ) → find id_cmp id es ≡ Some (Some payload) → is_last (fin.get marks id) ≡ true → some_spent_in marks es ≡ true
+pub found_spent : (es : List Entry) (marks : Marks) (id : Id) (payload : List ℕ) → find id_cmp id es ≡ Some (Some payload) → is_last (fin.get marks id) ≡ true → some_spent_in marks es ≡ true
 found_spent [] marks id payload gets last = absurd (cc)
 found_spent (e ∷ es) marks id payload gets last =
     elim (same_id id e.0) as (λ b. same_id id e.0 ≡ b → cond b (Some e.1) (find id_cmp id es) ≡ Some (Some payload) → (is_spent_at e.1 (fin.get marks e.0) || some_spent_in marks es) ≡ true) [
