@@ -19,7 +19,7 @@ use Rattle.integrity_store.specs.BlockRecords.{Record, payload_in}
 use Rattle.integrity_store.specs.Held.{Held, live_version, waiting, waiting_or, bytes_in, told_or_none, where_live, wanted, IsPast, SoundAt, SoundBy}
 use Rattle.outside.specs.Honest.{last_change}
 use Rattle.integrity_store.specs.Stores.{IsWhole, is_last, holdings_by}
-use Rattle.integrity_store.specs.Waiting.{IsNoBlock}
+use Rattle.integrity_store.specs.WaitingLists.{IsNoBlock}
 use Rattle.integrity_store.proofs.OneWrite.{with_list}
 
 -- ---- what is held of blocks

@@ -14,7 +14,7 @@ use Rattle.std.specs.declared.option.Option.{Option}
 use Rattle.std.specs.declared.option.Option.TheVariants.{None, Some}
 use Rattle.outside.specs.Trace.{At, config, block, Call}
 use Rattle.outside.specs.Names.{same_at, at_cmp}
-use Rattle.outside.specs.NameLaws.{same_ties}
+use Rattle.outside.specs.NameLaws.{at_total, at_exact}
 use Rattle.outside.specs.Changes.{Changes, change_at}
 use Rattle.outside.specs.Honest.{LastChange, last_change}
 use Rattle.local_state.specs.declared.mark.Mark.{Mark}
@@ -28,13 +28,11 @@ use Rattle.integrity_store.specs.Held.{Held, version_if_live, live_version, wait
 use Rattle.integrity_store.specs.Laws.{opened-plain}
 use Rattle.integrity_store.specs.Loads.{wanted_of}
 use Rattle.integrity_store.specs.Stores.{IsWhole}
-use Rattle.integrity_store.specs.Waiting.{IsNoBlock}
+use Rattle.integrity_store.specs.WaitingLists.{IsNoBlock}
+use Rattle.integrity_store.proofs.Sorted.{of_found}
 
 true_is_false : true ≡ false → ⊥
 true_is_false e = cc
-
-some_same : {a b : Option (List ℕ)} → Some a ≡ Some b → a ≡ b
-some_same e = cc
 
 some_bytes : {a b : List ℕ} → Some a ≡ Some b → a ≡ b
 some_bytes e = cc
@@ -50,18 +48,8 @@ same_is (block a) (block b) e = ap block ((bytes_eq-Decides a b).0 e)
 -- ---- entries
 
 -- what waits fits
-entry_at : (marks : Marks) (name : At) (change : Option (List ℕ)) (list : Changes) → AllByRecursion (FitsEntry marks) list → change_at name list ≡ Some change → FitsEntry marks (name, change)
-entry_at marks name change [] fits e = absurd (true_is_false (ap is_some (sym e)))
-entry_at marks name change (first ∷ list) fits e =
-    elim (eq_by_cmp at_cmp name first.0) as (λ b. eq_by_cmp at_cmp name first.0 ≡ b → cond b (Some first.1) (change_at name list) ≡ Some change → FitsEntry marks (name, change)) [
-      | true ↦ λ ties is.
-          let named : first.0 ≡ name = sym (same_is name first.0 (same_ties name first.0 ∙ ties)) in
-          subst (FitsEntry marks) (λ i. (named i, some_same is i)) fits.0
-      | false ↦ λ ties is. entry_at marks name change list fits.1 is
-    ] refl e
-
 pub fits_at : (h : Held) (e : Entry) → IsWhole h → change_at e.0 h.list ≡ Some e.1 → FitsEntry h.state.marks e
-fits_at h e whole waits = entry_at h.state.marks e.0 e.1 h.list whole.has_record.entries.each waits
+fits_at h e whole waits = of_found at_total (FitsEntry h.state.marks) at_exact h.list e.0 e.1 whole.has_record.entries.each waits
 
 -- the mark of a live id
 live_mark : (o : Option Mark) → option_map_or (λ m. m.live) o false ≡ true → (mark : Mark) × (o ≡ Some mark) × (version_if_live o ≡ Some mark.version)

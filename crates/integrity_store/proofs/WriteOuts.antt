@@ -1,6 +1,8 @@
 -- What writing out a list leaves: the calls for its first entries, which leave it, and perhaps one that failed.
 use Rattle.std.proofs.Common.{◌≡◌, ◌⊎◌, inl, inr, ℕ, ◌+◌, ◌<◌, ◌^◌, Bool, true, false, List, [], ◌∷◌, ◌++◌, length, refl, sym, ◌∙◌, ap, subst, arith}
-use Rattle.std.specs.Prelude.{is_some, cond, if◌then◌else◌, Result, OnOk, OnErr}
+use Rattle.std.specs.Prelude.{T, is_some, cond, if◌then◌else◌, Result, OnOk, OnErr}
+use Rattle.std.specs.Cmp.{tied_itself}
+use Rattle.std.specs.FinMap.{is_sorted}
 use Rattle.std.specs.List.{AllByRecursion}
 use Rattle.std.specs.Ordering.{eq_by_cmp}
 use Rattle.std.proofs.lemmas.List.{append-nil}
@@ -11,9 +13,8 @@ use Rattle.std.specs.declared.option.Option.TheVariants.{None, Some}
 use Rattle.outside.specs.declared.vault.GetFail.{GetFail}
 use Rattle.outside.specs.Trace.{At, config, block, Call, adds}
 use Rattle.outside.specs.Names.{same_at, at_cmp}
-use Rattle.outside.specs.NameLaws.{same_ties}
+use Rattle.outside.specs.NameLaws.{same_ties, at_total}
 use Rattle.outside.specs.Changes.{Changes, change_at}
-use Rattle.outside.specs.ChangeLaws.{not_in}
 use Rattle.outside.specs.Honest.{is_lie, count_calls, count_told}
 use Rattle.local_state.specs.Record.{Entry, Rise, record_bytes, HasRecord}
 use Rattle.redo_vault.specs.Writes.{call_for, after_writes, StopsAt}
@@ -21,7 +22,9 @@ use Rattle.store_api.specs.Content.{SameContent}
 use Rattle.integrity_store.specs.Held.{Held, wanted, forged, SoundAt, SoundBy}
 use Rattle.integrity_store.specs.Standing.{identity_of, Stands}
 use Rattle.integrity_store.specs.Stores.{IsWhole}
-use Rattle.integrity_store.specs.Waiting.{IsNoBlock, rises_below}
+use Rattle.integrity_store.specs.WaitingLists.{IsNoBlock, in_order}
+use Rattle.integrity_store.proofs.Sorted.{found_first, first_below, not_below, found_later, each_found}
+use Rattle.integrity_store.proofs.Waiting.{test_of}
 use Rattle.integrity_store.proofs.OneWrite.{same_is, with_list, Leaves, sound_call, wanted_call, sound_left, wanted_left}
 
 true_is_false : true ≡ false → ⊥
@@ -33,9 +36,6 @@ same_self : (a : At) → same_at a a ≡ true
 same_self config = refl
 same_self (block id) = (bytes_eq-Decides id id).1 refl
 
-found_first : (e : Entry) (rest : Changes) → change_at e.0 (e ∷ rest) ≡ Some e.1
-found_first e rest = ap (λ b. cond b (Some e.1) (change_at e.0 rest)) (sym (same_ties e.0 e.0) ∙ same_self e.0)
-
 tied_back : (name : At) (e : Entry) → same_at e.0 name ≡ false → eq_by_cmp at_cmp name e.0 ≡ false
 tied_back name e other =
     sym (same_ties name e.0) ∙ elim (same_at name e.0) as (λ b. same_at name e.0 ≡ b → b ≡ false) [
@@ -44,10 +44,10 @@ tied_back name e other =
     ] refl
 
 -- the first entry of a list in order stands in it alone
-first_leaves : (e : Entry) (rest : Changes) → Rise (Some e.0) rest → Leaves e (e ∷ rest) rest
+first_leaves : (e : Entry) (rest : Changes) → T (is_sorted at_cmp (e ∷ rest)) → Leaves e (e ∷ rest) rest
 first_leaves e rest rises = record {
-  was = found_first e rest;
-  gone = not_in e.0 rest (rises_below e.0 rest rises);
+  was = found_first at_total e rest;
+  gone = not_below at_total e.0 e.0 rest (tied_itself at_total e.0) (first_below at_total e rest rises);
   others = λ name other. sym (ap (λ b. cond b (Some e.1) (change_at name rest)) (tied_back name e other));
 }
 
@@ -69,8 +69,11 @@ no_block e rest leaves fits =
       | false ↦ λ is. subst IsNoBlock (sym (leaves.others config is)) fits
     ] refl
 
+in_turn : (h : Held) (list : Changes) → IsWhole (with_list h list) → T (is_sorted at_cmp list)
+in_turn h list whole = test_of (is_sorted at_cmp list) (in_order h.state list whole.has_record)
+
 rest_leaves : (h : Held) (e : Entry) (rest : Changes) → IsWhole (with_list h (e ∷ rest)) → Leaves e (e ∷ rest) rest
-rest_leaves h e rest whole = first_leaves e rest whole.has_record.entries.order.1
+rest_leaves h e rest whole = first_leaves e rest (in_turn h (e ∷ rest) whole)
 
 rest_whole : (h : Held) (e : Entry) (rest : Changes) → IsWhole (with_list h (e ∷ rest)) → IsWhole (with_list h rest)
 rest_whole h e rest whole = record {
@@ -85,29 +88,15 @@ rest_whole h e rest whole = record {
 abbrev Waits : Changes → Entry → Type 0
 Waits list e = change_at e.0 list ≡ Some e.1
 
-waits_later : (e : Entry) (rest : Changes) (f : Entry) → change_at e.0 rest ≡ None → Waits rest f → Waits (e ∷ rest) f
-waits_later e rest f gone waits =
-    elim (eq_by_cmp at_cmp f.0 e.0) as (λ b. eq_by_cmp at_cmp f.0 e.0 ≡ b → cond b (Some e.1) (change_at f.0 rest) ≡ Some f.1) [
-      | true ↦ λ ties.
-          let there : change_at e.0 rest ≡ Some f.1 = subst (λ name. change_at name rest ≡ Some f.1) (same_is f.0 e.0 (same_ties f.0 e.0 ∙ ties)) waits in
-          absurd (true_is_false (ap is_some (sym there ∙ gone)))
-      | false ↦ λ ties. waits
-    ] refl
-
-all_later : (e : Entry) (rest list : Changes) → change_at e.0 rest ≡ None → AllByRecursion (Waits rest) list → AllByRecursion (Waits (e ∷ rest)) list
-all_later e rest [] gone all = tt
-all_later e rest (f ∷ list) gone all = (waits_later e rest f gone all.0, all_later e rest list gone all.1)
-
 all_wait : (h : Held) (list : Changes) → IsWhole (with_list h list) → AllByRecursion (Waits list) list
-all_wait h [] whole = tt
-all_wait h (e ∷ rest) whole = (found_first e rest, all_later e rest rest (rest_leaves h e rest whole).gone (all_wait h rest (rest_whole h e rest whole)))
+all_wait h list whole = each_found at_total list (in_turn h list whole)
 
 -- what waits behind others waits
 waits_behind : (h : Held) (done left : Changes) (f : Entry) → IsWhole (with_list h (done ++ left)) → Waits left f → Waits (done ++ left) f
 waits_behind h [] left f whole waits = waits
 waits_behind h (e ∷ done) left f whole waits =
     let rest = done ++ left in
-    waits_later e rest f (rest_leaves h e rest whole).gone (waits_behind h done left f (rest_whole h e rest whole) waits)
+    found_later at_total f.0 e rest f.1 (in_turn h (e ∷ rest) whole) (waits_behind h done left f (rest_whole h e rest whole) waits)
 
 first_ones : (P : Entry → Type 0) (done left : Changes) → AllByRecursion P (done ++ left) → AllByRecursion P done
 first_ones P [] left all = tt
@@ -187,7 +176,7 @@ wrote (Err _) list left old new all none stops = record {
   parts = stops.parts;
   trace = elim stops.trace [
     | inl is ↦ inl is
-    | inr is ↦ inr (stops.next, ap (change_at stops.next.0) stops.stays ∙ found_first stops.next stops.rest, is)
+    | inr is ↦ inr (stops.next, ap (change_at stops.next.0) stops.stays ∙ found_first at_total stops.next stops.rest, is)
   ];
 }
 

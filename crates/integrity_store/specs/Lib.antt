@@ -6,7 +6,9 @@ pub mod Held
 pub mod Judges
 pub mod Laws
 pub mod Loads
+pub mod Marking
+pub mod Sealing
 pub mod Standing
 pub mod Stores
 pub mod Views
-pub mod Waiting
+pub mod WaitingLists

@@ -21,7 +21,7 @@ use Rattle.integrity_store.specs.BlockRecords.{Record, opened, payload_of, paylo
 use Rattle.integrity_store.specs.Held.{Held, live_version, version_if_live, file_of, wanted, told_or_none, where_live, SoundBy, Went, FoundSince, forged}
 use Rattle.integrity_store.specs.Laws.{went_same, went_on, went_count, went_honest, found_before, found_after, opened-plain}
 use Rattle.integrity_store.specs.Loads.{wanted_ids, went_wanted, went_told, record-length}
-use Rattle.integrity_store.specs.Waiting.{IsNoBlock}
+use Rattle.integrity_store.specs.WaitingLists.{IsNoBlock}
 
 -- a block size within its limits, a state and a list that have a record, and no block's file that waits as the configuration
 pub record IsWhole (h : Held) : Type 0 where

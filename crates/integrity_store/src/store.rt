@@ -9,7 +9,7 @@ ghost use Rattle.integrity_store.specs.Held.{version_if_live};
 ghost use Rattle.integrity_store.specs.Loads.{Fetched};
 ghost use Rattle.integrity_store.specs.Stores.{meanings_by, holdings_by, lawful_by, steady_by};
 ghost use Rattle.integrity_store.specs.Views.{held_of};
-ghost use Rattle.integrity_store.specs.Waiting.{IsNoBlock};
+ghost use Rattle.integrity_store.specs.WaitingLists.{IsNoBlock};
 ghost use Rattle.std.specs.FinMap as fin;
 
 use crate::record::judge;

@@ -48,7 +48,7 @@ rest true b h = h
 rest false b h = absurd (cc)
 
 -- a name below all of a list isn't in it
-pub not_in : (name : At) (list : Changes) → IsTrue (below_all at_cmp name list) → change_at name list ≡ None
+not_in : (name : At) (list : Changes) → IsTrue (below_all at_cmp name list) → change_at name list ≡ None
 not_in name [] h = refl
 not_in name (e ∷ list) h =
     ap (λ b. cond b (Some e.1) (change_at name list)) (is_before (at_cmp name e.0) (front (is_lt (at_cmp name e.0)) (below_all at_cmp name list) h))

@@ -52,7 +52,7 @@ below_less p q (e ∷ list) l h =
     both (is_lt (at_cmp p e.0)) (below_all at_cmp p list) (ap is_lt (at_total.trans p q e.0 l next))
     (below_less p q list l (rest (is_lt (at_cmp q e.0)) (below_all at_cmp q list) h))
 
-pub rises_below : (p : At) (list : Changes) → Rise (Some p) list → IsTrue (below_all at_cmp p list)
+rises_below : (p : At) (list : Changes) → Rise (Some p) list → IsTrue (below_all at_cmp p list)
 rises_below p [] h = refl
 rises_below p (e ∷ list) h =
     let next : is_lt (at_cmp p e.0) ≡ true = sym (after_is_less p e.0) ∙ h.0 in
