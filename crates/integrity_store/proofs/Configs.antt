@@ -1,5 +1,5 @@
 -- A list with a configuration's file put into it: the blocks' files are as before.
-use Rattle.std.proofs.Common.{◌≡◌, ◌⊎◌, inl, inr, ℕ, ◌<◌, ◌^◌, Bool, true, false, List, [], ◌∷◌, length, take, refl, sym, ◌∙◌, ap, subst}
+use Rattle.std.proofs.Common.{◌≡◌, ◌⊎◌, inl, inr, ℕ, ◌<◌, ◌^◌, List, [], ◌∷◌, length, refl, sym, ◌∙◌, ap, subst}
 use Rattle.std.specs.Prelude.{◌-◌, is_some, Result, OnOk, OnErr}
 use Rattle.std.specs.FinMap as fin
 use Rattle.std.specs.List.{AllByRecursion}
@@ -7,7 +7,7 @@ use Rattle.std.specs.declared.result.Result.TheVariants.{Ok, Err}
 use Rattle.std.specs.declared.option.Option.{Option}
 use Rattle.std.specs.declared.option.Option.TheVariants.{None, Some}
 use Rattle.block_id.specs.declared.fail.Memory.{Memory}
-use Rattle.outside.specs.Trace.{At, config, block, Call}
+use Rattle.outside.specs.Trace.{config, block, Call}
 use Rattle.outside.specs.Changes.{Changes, change_at, set_change, set_changes}
 use Rattle.outside.specs.ChangeLaws.{change_at-set_change}
 use Rattle.local_state.specs.Known.{Marks}
@@ -16,7 +16,7 @@ use Rattle.store_api.specs.Content.{SameContent}
 use Rattle.store_api.specs.Holdings.{Stays}
 use Rattle.store_api.specs.Lists.{MayConfigure}
 use Rattle.integrity_store.specs.BlockRecords.{Record, payload_in}
-use Rattle.integrity_store.specs.Held.{Held, live_version, waiting, waiting_or, bytes_in, told_or_none, where_live, wanted, IsPast, SoundAt, SoundBy}
+use Rattle.integrity_store.specs.Held.{Held, live_version, waiting_or, bytes_in, told_or_none, where_live, wanted, IsPast, SoundBy}
 use Rattle.outside.specs.Honest.{last_change}
 use Rattle.integrity_store.specs.Stores.{IsWhole, is_last, holdings_by}
 use Rattle.integrity_store.specs.WaitingLists.{IsNoBlock}

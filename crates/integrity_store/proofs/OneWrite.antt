@@ -1,22 +1,21 @@
 -- One call that writes what waits: it leaves what the list and the trace stand for, and so does the entry as it leaves the list.
-use Rattle.std.proofs.Common.{◌≡◌, ◌⊎◌, inl, inr, ℕ, ◌≤◌, Bool, true, false, List, [], ◌∷◌, length, take, refl, sym, ◌∙◌, ap, subst, arith}
-use Rattle.std.specs.Prelude.{◌&&◌, ◌||◌, ◌==◌, not, is_some, nat_eq, if◌then◌else◌, cond}
-use Rattle.std.specs.List.{starts_with, AllByRecursion}
+use Rattle.std.proofs.Common.{◌≡◌, ◌⊎◌, inl, inr, ℕ, Bool, true, false, List, ◌∷◌, length, take, refl, sym, ◌∙◌, ap, subst, arith}
+use Rattle.std.specs.Prelude.{◌&&◌, ◌||◌, ◌==◌, not, is_some, nat_eq, if◌then◌else◌}
+use Rattle.std.specs.List.{starts_with}
 use Rattle.std.specs.Str.{bytes_eq}
-use Rattle.std.specs.Ordering.{is_eq, eq_by_cmp}
 use Rattle.std.specs.Option.{option_map_or}
 use Rattle.std.specs.FinMap as fin
-use Rattle.std.specs.Cmp.Lexicographic.{pointwise, bytes_decides}
+use Rattle.std.specs.Cmp.Lexicographic.{bytes_decides}
 use Rattle.std.proofs.Math.Bool.{and-false}
 use Rattle.std.proofs.lemmas.List.{take-take}
 use Rattle.std.proofs.lemmas.Slice.Eq.{bytes_eq-Decides}
 use Rattle.std.specs.declared.option.Option.{Option}
 use Rattle.std.specs.declared.option.Option.TheVariants.{None, Some}
 use Rattle.outside.specs.Trace.{At, config, block, Call}
-use Rattle.outside.specs.Names.{same_at, at_cmp}
+use Rattle.outside.specs.Names.{same_at}
 use Rattle.outside.specs.NameLaws.{at_total, at_exact}
 use Rattle.outside.specs.Changes.{Changes, change_at}
-use Rattle.outside.specs.Honest.{LastChange, last_change}
+use Rattle.outside.specs.Honest.{last_change}
 use Rattle.local_state.specs.declared.mark.Mark.{Mark}
 use Rattle.local_state.specs.Known.{Marks, is_live_in, is_dead_in}
 use Rattle.local_state.specs.Record.{Entry, FitsEntry, may_change, has_bytes}
@@ -25,7 +24,6 @@ use Rattle.sealed_store.specs.BlockFiles.{prefix, opens_file}
 use Rattle.store_api.specs.Lists.{block_magic}
 use Rattle.integrity_store.specs.BlockRecords.{Record, record_of, record_in, opened, payload_in}
 use Rattle.integrity_store.specs.Held.{Held, version_if_live, live_version, waiting, waiting_or, bytes_in, file_of, where_live, wanted, was_put, own, IsPast, SoundAt}
-use Rattle.integrity_store.specs.Laws.{opened-plain}
 use Rattle.integrity_store.specs.Loads.{wanted_of}
 use Rattle.integrity_store.specs.Stores.{IsWhole}
 use Rattle.integrity_store.specs.WaitingLists.{IsNoBlock}
@@ -146,8 +144,7 @@ module _ (h : Held) (trace : List Call) (e : Entry) (ok : Bool) (whole : IsWhole
       let there : waiting h id ≡ Some (Some bytes) = subst (λ name. change_at name h.list ≡ Some e.1) is waits ∙ ap Some put in
       let (mark, known, live) = live_mark (fin.get h.state.marks id) (fits_at h (block id, Some bytes) whole there).change in
       let (b, payload, same, o) = s.waits id mark.version (Some bytes) live there in
-      let opened_so : opened h.opens h.size bytes ≡ Some (own h id mark.version payload) = ap (opened h.opens h.size) (some_bytes same) ∙ o in
-      (
+      let opened_so : opened h.opens h.size bytes ≡ Some (own h id mark.version payload) = ap (opened h.opens h.size) (some_bytes same) ∙ o in (
         own h id mark.version payload,
         ap (record_in h.size) (sym opens) ∙ opened_so,
         record { mark = mark; used = known; client = refl; version = omega arith; payload = λ live'. wanted_of h (call_for e ok ∷ trace) id mark.version bytes payload live there opened_so },

@@ -1,6 +1,6 @@
 -- What writing out a list leaves: the calls for its first entries, which leave it, and perhaps one that failed.
-use Rattle.std.proofs.Common.{◌≡◌, ◌⊎◌, inl, inr, ℕ, ◌+◌, ◌<◌, ◌^◌, Bool, true, false, List, [], ◌∷◌, ◌++◌, length, refl, sym, ◌∙◌, ap, subst, arith}
-use Rattle.std.specs.Prelude.{T, is_some, cond, if◌then◌else◌, Result, OnOk, OnErr}
+use Rattle.std.proofs.Common.{◌≡◌, ◌⊎◌, inl, inr, ℕ, Bool, true, false, List, [], ◌∷◌, ◌++◌, refl, sym, ◌∙◌, ap, subst, arith}
+use Rattle.std.specs.Prelude.{T, is_some, cond, Result, OnOk, OnErr}
 use Rattle.std.specs.Cmp.{tied_itself}
 use Rattle.std.specs.FinMap.{is_sorted}
 use Rattle.std.specs.List.{AllByRecursion}
@@ -15,11 +15,11 @@ use Rattle.outside.specs.Trace.{At, config, block, Call, adds}
 use Rattle.outside.specs.Names.{same_at, at_cmp}
 use Rattle.outside.specs.NameLaws.{same_ties, at_total}
 use Rattle.outside.specs.Changes.{Changes, change_at}
-use Rattle.outside.specs.Honest.{is_lie, count_calls, count_told}
+use Rattle.outside.specs.Honest.{is_lie, count_told}
 use Rattle.local_state.specs.Record.{Entry, Rise, record_bytes, HasRecord}
 use Rattle.redo_vault.specs.Writes.{call_for, after_writes, StopsAt}
 use Rattle.store_api.specs.Content.{SameContent}
-use Rattle.integrity_store.specs.Held.{Held, wanted, forged, SoundAt, SoundBy}
+use Rattle.integrity_store.specs.Held.{Held, wanted, forged, SoundBy}
 use Rattle.integrity_store.specs.Standing.{identity_of, Stands}
 use Rattle.integrity_store.specs.Stores.{IsWhole}
 use Rattle.integrity_store.specs.WaitingLists.{IsNoBlock, in_order}

@@ -1,8 +1,7 @@
 -- What kept records stand for while blocks are loaded and changed.
-use Rattle.std.specs.Prelude.{◌≡◌, ◌<◌, ◌^◌, ℕ, Bool, true, false, List, [], ◌∷◌, ◌++◌, length}
-use Rattle.std.proofs.Common.{refl, sym, ◌∙◌, ap, subst, arith}
+use Rattle.std.specs.Prelude.{◌≡◌, ℕ, Bool, true, false, List}
+use Rattle.std.proofs.Common.{refl, sym, ◌∙◌, ap, arith}
 use Rattle.std.specs.declared.option.Option.{Option}
-use Rattle.std.specs.declared.option.Option.TheVariants.{None, Some}
 use Rattle.outside.specs.Trace.{Call}
 use Rattle.outside.specs.Changes.{Changes}
 use Rattle.local_state.specs.Record.{PlainState, Entry, record_bytes, HasRecord}
@@ -10,7 +9,7 @@ use Rattle.local_state.specs.Record as records_of
 use Rattle.local_state.proofs.Records.{one_reading, marked_has}
 use Rattle.store_api.specs.Content.{Content, SameContent}
 use Rattle.store_api.specs.Content.{Changes as BlockChanges}
-use Rattle.store_api.specs.Durables.{Identity, Durables, Records, Enduring, with_mark, mark_place}
+use Rattle.store_api.specs.Durables.{Identity, Enduring, with_mark}
 use Rattle.integrity_store.specs.Applied.{Applied, applied_by}
 use Rattle.integrity_store.specs.Held.{Held, Went}
 use Rattle.integrity_store.specs.Laws.{went_sound}
