@@ -2,8 +2,13 @@
 //! only rises, over a directory that may give whatever it likes.
 #![tactic(auto)]
 
+mod apply;
+mod durable;
+mod marking;
 mod record;
+mod sealing;
 mod store;
+mod writing;
 
 pub use store::IntegrityStore;
 

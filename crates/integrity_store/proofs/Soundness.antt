@@ -1,0 +1,185 @@
+-- A batch changes the content as it says, and leaves a sound store sound.
+use Rattle.std.proofs.Common.{◌≡◌, ℕ, ◌+◌, ◌-◌, ◌^◌, ◌<◌, ◌≤◌, List, Bool, true, false, length, refl, sym, ◌∙◌, ap, subst, inl, inr, arith}
+use Rattle.std.specs.Prelude.{Option, Some, None, is_some, not, ◌&&◌, ◌⊎◌, map, if◌then◌else◌}
+use Rattle.std.specs.FinMap as fin
+use Rattle.std.specs.FinMap.{len-entries}
+use Rattle.std.specs.Option.{option_map_or}
+use Rattle.std.proofs.lemmas.List.{length-map}
+use Rattle.outside.specs.Trace.{Call, block}
+use Rattle.outside.specs.Honest.{LastChange, last_change}
+use Rattle.local_state.specs.declared.mark.Mark.{Mark}
+use Rattle.local_state.specs.Known.{Marks, raised_version, is_dead_in}
+use Rattle.sealed_store.specs.BlockFiles.{opens_file}
+use Rattle.store_api.specs.Content.{Id, Changes, or_else, over}
+use Rattle.store_api.specs.Holdings.{Changed, IsFew, has_id}
+use Rattle.integrity_store.specs.Applied.{mark_after, WaitsAfter, Applied}
+use Rattle.integrity_store.specs.BlockRecords.{Record, record_of, opened, payload_of, payload_in}
+use Rattle.integrity_store.specs.Held.{Held, own, waiting, waiting_or, bytes_in, file_of, live_version, version_if_live, where_live, told_or_none, wanted, IsPast, SoundAt, SoundBy, was_put}
+use Rattle.integrity_store.specs.Stores.{IsWhole, meanings_by, holdings_by, has-keys}
+
+-- ---- one id
+
+dead_version : (mark : Option Mark) → version_if_live (mark_after (Some None) mark) ≡ None
+dead_version None = refl
+dead_version (Some mark) = refl
+
+stays_known : (said : Option (Option (List ℕ))) (mark : Option Mark) → is_some mark ≡ true → is_some (mark_after said mark) ≡ true
+stays_known None mark known = known
+stays_known (Some (Some payload)) mark known = refl
+stays_known (Some None) None known = known
+stays_known (Some None) (Some mark) known = refl
+
+-- what a past mark became
+pub record Later (said : Option (Option (List ℕ))) (old : Mark) : Type 0 where
+  pub mark : Mark
+  pub is : mark_after said (Some old) ≡ Some mark
+  pub version : old.version ≤ mark.version
+
+later : (said : Option (Option (List ℕ))) (old : Mark) → Later said old
+later None old = record { mark = old; is = refl; version = omega arith }
+later (Some (Some payload)) old = record { mark = record { version = old.version + 1; live = true }; is = refl; version = omega arith }
+later (Some None) old = record { mark = record { version = old.version; live = false }; is = refl; version = omega arith }
+
+module _ (a b : Held) (old new : Option (List Call)) (changes : Changes) (x : Applied a b old new changes) where
+  opened_same : (file : List ℕ) → opened b.opens b.size file ≡ opened a.opens a.size file
+  opened_same file = ap (λ f. opened f b.size file) x.opens ∙ ap (λ n. opened a.opens n file) x.size
+
+  client_same : b.state.client ≡ a.state.client
+  client_same = ap (λ s. s.client) x.state
+
+  own_same : (id : Id) (version : ℕ) (payload : List ℕ) → own b id version payload ≡ own a id version payload
+  own_same id version payload = ap (λ (n : ℕ). record { id = id; client = n; version = version; payload = payload }) client_same
+
+  abbrev marked : Option (Option (List ℕ)) → Id → Type 0
+  marked said id = fin.get b.state.marks id ≡ mark_after said (fin.get a.state.marks id)
+
+  -- ---- the content
+
+  file_same : (id : Id) (trace : List Call) → waiting b id ≡ waiting a id → file_of b trace id ≡ file_of a trace id
+  file_same id trace same = ap (λ w. waiting_or w (bytes_in (last_change (block id) trace))) same
+
+  payload_same : (file : Option (List ℕ)) → payload_in b.opens b.size file ≡ payload_in a.opens a.size file
+  payload_same file = ap (λ f. payload_in f b.size file) x.opens ∙ ap (λ n. payload_in a.opens n file) x.size
+
+  wanted_kept : (trace : Option (List Call)) (id : Id) → waiting b id ≡ waiting a id → fin.get b.state.marks id ≡ fin.get a.state.marks id → wanted b trace id ≡ wanted a trace id
+  wanted_kept trace id waits marks =
+      ap (λ m. where_live (version_if_live m) (payload_in b.opens b.size (file_of b (told_or_none trace) id))) marks
+      ∙ ap (where_live (live_version a id)) (ap (payload_in b.opens b.size) (file_same id (told_or_none trace) waits) ∙ payload_same (file_of a (told_or_none trace) id))
+
+  wanted_said : (trace : Option (List Call)) (id : Id) (said : Option (Option (List ℕ))) → WaitsAfter a b id said → marked said id → wanted b trace id ≡ or_else said (wanted a trace id)
+  wanted_said trace id None waits marks = wanted_kept trace id waits marks
+  wanted_said trace id (Some (Some payload)) waits marks =
+      ap (λ m. where_live (version_if_live m) (payload_in b.opens b.size (file_of b (told_or_none trace) id))) marks
+      ∙ ap (λ w. Some (payload_in b.opens b.size (waiting_or w (bytes_in (last_change (block id) (told_or_none trace)))))) waits.1
+      ∙ ap (λ r. Some (payload_of b.size r)) waits.2
+  wanted_said trace id (Some None) waits marks =
+      ap (λ m. where_live (version_if_live m) (payload_in b.opens b.size (file_of b (told_or_none trace) id))) marks
+      ∙ ap (λ v. where_live v (payload_in b.opens b.size (file_of b (told_or_none trace) id))) (dead_version (fin.get a.state.marks id))
+
+  pub wanted_after : (trace : Option (List Call)) (id : Id) → wanted b trace id ≡ over changes (wanted a trace) id
+  wanted_after trace id = wanted_said trace id (fin.get changes id) (x.waits id) (x.marks id)
+
+  -- ---- soundness
+
+  module _ (trace : List Call) (s : SoundAt a trace) where
+    waits_said : (id : Id) (version : ℕ) (change : Option (List ℕ)) (said : Option (Option (List ℕ))) → WaitsAfter a b id said → marked said id
+        → live_version b id ≡ Some version → waiting b id ≡ Some change
+        → (bytes payload : List ℕ) × (change ≡ Some bytes) × (opened b.opens b.size bytes ≡ Some (own b id version payload))
+    waits_said id version change None waits marks live there =
+        let w = s.waits id version change (ap version_if_live (sym marks) ∙ live) (sym waits ∙ there) in
+        (w.0, w.1, w.2, opened_same w.0 ∙ (w.3 ∙ ap Some (sym (own_same id version w.1))))
+    waits_said id version change (Some (Some payload)) waits marks live there =
+        let raised : Some (raised_version (fin.get a.state.marks id)) ≡ Some version = ap version_if_live (sym marks) ∙ live in
+        let same : raised_version (fin.get a.state.marks id) ≡ version = cc in
+        let file : change ≡ Some waits.0 = cc (waits.1, there) in
+        (waits.0, payload, file, waits.2 ∙ ap (λ v. Some (own b id v payload)) same)
+    waits_said id version change (Some None) waits marks live there =
+        let dead : None ≡ Some version = sym (dead_version (fin.get a.state.marks id)) ∙ (ap version_if_live (sym marks) ∙ live) in absurd (cc)
+
+    stands_said : (id : Id) (version : ℕ) (said : Option (Option (List ℕ))) → WaitsAfter a b id said → marked said id → live_version b id ≡ Some version → waiting b id ≡ None
+        → (bytes payload : List ℕ) × (last_change (block id) trace ≡ Some (record { bytes = Some bytes; ok = true })) × (opened b.opens b.size bytes ≡ Some (own b id version payload))
+    stands_said id version None waits marks live none =
+        let w = s.stands id version (ap version_if_live (sym marks) ∙ live) (sym waits ∙ none) in
+        (w.0, w.1, w.2, opened_same w.0 ∙ (w.3 ∙ ap Some (sym (own_same id version w.1))))
+    stands_said id version (Some (Some payload)) waits marks live none = let there = waits.1 in absurd (cc)
+    stands_said id version (Some None) waits marks live none = absurd (cc)
+
+    buried_said : (id : Id) (said : Option (Option (List ℕ))) → WaitsAfter a b id said → marked said id → is_dead_in b.state.marks id ≡ true → waiting b id ≡ None
+        → last_change (block id) trace ≡ Some (record { bytes = None; ok = true })
+    buried_said id None waits marks dead none = s.buried id (ap (λ o. is_some o && not (option_map_or (λ m. m.live) o false)) (sym marks) ∙ dead) (sym waits ∙ none)
+    buried_said id (Some (Some payload)) waits marks dead none = let there = waits.1 in absurd (cc)
+    buried_said id (Some None) waits marks dead none = absurd (cc)
+
+    past_payload : (r : Record) (p : IsPast a trace r) (said : Option (Option (List ℕ))) → WaitsAfter a b r.id said → marked said r.id → live_version b r.id ≡ Some r.version
+        → wanted b (Some trace) r.id ≡ Some r.payload
+    past_payload r p None waits marks live = wanted_kept (Some trace) r.id waits marks ∙ p.payload (ap version_if_live (sym marks) ∙ live)
+    past_payload r p (Some (Some payload)) waits marks live =
+        let raised : Some (raised_version (fin.get a.state.marks r.id)) ≡ Some r.version = ap version_if_live (sym marks) ∙ live in
+        let version : p.mark.version + 1 ≡ r.version = cc in
+        absurd (omega (arith, p.version))
+    past_payload r p (Some None) waits marks live =
+        let dead : None ≡ Some r.version = sym (dead_version (fin.get a.state.marks r.id)) ∙ (ap version_if_live (sym marks) ∙ live) in absurd (cc)
+
+    past_after : (r : Record) → IsPast a trace r → IsPast b trace r
+    past_after r p =
+        let said = fin.get changes r.id in
+        let l = later said p.mark in
+        record {
+          mark = l.mark;
+          used = x.marks r.id ∙ (ap (mark_after said) p.used ∙ l.is);
+          client = p.client ∙ sym client_same;
+          version = omega (arith, p.version, l.version);
+          payload = past_payload r p said (x.waits r.id) (x.marks r.id);
+        }
+
+    past_put : (bytes plain : List ℕ) → was_put bytes trace ≡ true → opens_file b.opens b.size bytes ≡ Some plain → (r : Record) × (record_of b.size plain ≡ Some r) × IsPast b trace r
+    past_put bytes plain was opens =
+        let before : opens_file a.opens a.size bytes ≡ Some plain = ap (λ f. opens_file f a.size bytes) (sym x.opens) ∙ (ap (λ n. opens_file b.opens n bytes) (sym x.size) ∙ opens) in
+        let p = s.past bytes plain was before in
+        (p.0, ap (λ n. record_of n plain) x.size ∙ p.1, past_after p.0 p.2)
+
+    sound_at : SoundAt b trace
+    sound_at = record {
+      waits = λ id version change live there. waits_said id version change (fin.get changes id) (x.waits id) (x.marks id) live there;
+      stands = λ id version live none. stands_said id version (fin.get changes id) (x.waits id) (x.marks id) live none;
+      buried = λ id dead none. buried_said id (fin.get changes id) (x.waits id) (x.marks id) dead none;
+      used = λ id changed. ap is_some (x.marks id) ∙ stays_known (fin.get changes id) (fin.get a.state.marks id) (s.used id changed);
+      past = past_put;
+    }
+
+  sound_by : (trace : Option (List Call)) → SoundBy a trace → SoundBy b trace
+  sound_by None s = absurd s
+  sound_by (Some trace) s = sound_at trace s
+
+  pub sound_after : SoundBy a old → SoundBy b new
+  sound_after s = subst (SoundBy b) (sym x.trace) (sound_by old s)
+
+-- ---- the store after a batch
+
+new_or_known : (said : Option (Option (List ℕ))) (mark : Option Mark) → is_some (mark_after said mark) ≡ true → (is_some mark ≡ true) ⊎ (is_some said ≡ true)
+new_or_known None mark known = inl known
+new_or_known (Some change) mark known = inr refl
+
+module _ {S : Type 0} (held : S → Held) (trace : S → Option (List Call)) (faults : S → ℕ) (own_ : S → Type 0) (a b : S) (changes : Changes)
+    (x : Applied (held a) (held b) (trace a) (trace b) changes) (whole : IsWhole (held b)) where
+  content_is : (id : Id) → wanted (held b) (trace b) id ≡ over changes (wanted (held a) (trace a)) id
+  content_is id = ap (λ t. wanted (held b) t id) x.trace ∙ wanted_after (held a) (held b) (trace a) (trace b) changes x (trace a) id
+
+  used_said : (id : Id) → has_id (fin.keys (held b).state.marks) id ≡ true → (has_id (fin.keys (held a).state.marks) id ≡ true) ⊎ (is_some (fin.get changes id) ≡ true)
+  used_said id used = elim (new_or_known (fin.get changes id) (fin.get (held a).state.marks id) (ap is_some (sym (x.marks id)) ∙ (sym (has-keys (held b) id) ∙ used))) [
+    | inl known ↦ inl (has-keys (held a) id ∙ known)
+    | inr said ↦ inr said
+  ]
+
+  pub changed : Changed (meanings_by held trace faults own_) (holdings_by held trace) a b changes
+  changed = record {
+    ids = λ id. ap is_some (content_is id);
+    content = λ told id. content_is id;
+    told = ap is_some x.trace;
+    used = used_said;
+    stays_used = λ id used.
+        has-keys (held b) id ∙ (ap is_some (x.marks id) ∙ stays_known (fin.get changes id) (fin.get (held a).state.marks id) (sym (has-keys (held a) id) ∙ used));
+    few = λ few. omega (arith, length-map (fin.entries (held b).state.marks) (λ e. e.0), len-entries (held b).state.marks, whole.has_record.state.count);
+    payload = ap (λ n. n - 78) x.size;
+    sound = sound_after (held a) (held b) (trace a) (trace b) changes x;
+  }

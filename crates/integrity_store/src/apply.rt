@@ -1,0 +1,92 @@
+// A batch of changes, made in memory.
+ghost use Rattle.std.specs.Prelude.{◌≡◌, ◌≤◌, ◌↔◌, OnOk, OnErr};
+ghost use Rattle.std.specs.declared.result.Result.TheVariants.{Err};
+ghost use Rattle.std.specs.List.{AllByRecursion};
+ghost use Rattle.sealed_store.specs.Stores.{IsIntact, block_size_of, key_of, cipher_of};
+ghost use Rattle.store_api.specs.Entries.{entries_of};
+ghost use Rattle.store_api.specs.Holdings.{Fits, Changed, IsSpent};
+ghost use Rattle.integrity_store.specs.Applied.{applied_by};
+ghost use Rattle.integrity_store.specs.Draws.{AreDrawn};
+ghost use Rattle.integrity_store.specs.Marking.{count_new_in};
+ghost use Rattle.integrity_store.specs.Sealing.{MaySeal, Lists};
+ghost use Rattle.integrity_store.specs.Stores.{settled_by};
+ghost use Rattle.integrity_store.specs.Views.{held_of};
+
+use crate::IntegrityStore;
+use crate::marking::{count_new, mark_all, some_spent};
+use crate::sealing::seal_all;
+use block_id::{BlockId, Memory};
+use outside::Vault;
+use rand_core::Rng;
+use seal_api::Sealer;
+use std::alloc::Global;
+use store_api::{ApplyError, Batch, BatchChange, Blocks, BlocksMut};
+
+impl<V: Vault, C: Sealer> IntegrityStore<V, C> {
+    // Has the files and removals of the entries wait, and takes the memory for their new ids.
+    fn put_sealed<R: Rng>(
+        &mut self,
+        alloc: Global,
+        entries: &[(BlockId, BatchChange)],
+        chance: &mut R,
+    ) -> Result<(), Memory>
+        requires intact { ⟦<IntegrityStore<V, C> as Blocks>⟧.meanings.intact self.old }
+        requires may { AllByRecursion (MaySeal (held_of (C.opens (cipher_of self.old.sealed) (key_of self.old.sealed)) self.old.sealed self.old.state)) (entries_of entries.now) }
+        ensures intact { IsIntact (block_size_of self.new.sealed) (C.iv_size (cipher_of self.new.sealed)) }
+        ensures vault { self.new.sealed.vault.vault ≡ self.old.sealed.vault.vault }
+        ensures room { OnOk result (count_new_in self.new.state.known.marks (entries_of entries.now) ≤ self.new.state.known.spare) }
+        ensures listed { OnOk result (Lists (held_of (C.opens (cipher_of self.old.sealed) (key_of self.old.sealed)) self.old.sealed self.old.state)
+            (held_of (C.opens (cipher_of self.new.sealed) (key_of self.new.sealed)) self.new.sealed self.new.state) (entries_of entries.now) (R.stream chance.old) (R.stream chance.new)) }
+        ensures held { OnErr result (held_of (C.opens (cipher_of self.new.sealed) (key_of self.new.sealed)) self.new.sealed self.new.state
+            ≡ held_of (C.opens (cipher_of self.old.sealed) (key_of self.old.sealed)) self.old.sealed self.old.state) }
+    {
+        let new_ids = count_new(&self.state.known, entries);
+        self.state.known.reserve(new_ids)?;
+        let changes = seal_all(alloc, &self.sealed, &self.state, entries, chance)?;
+        self.sealed.vault.put_all(changes)
+    }
+}
+
+impl<V: Vault, C: Sealer> BlocksMut for IntegrityStore<V, C> {
+    ghost applied = { applied_by (λ s. held_of (C.opens (cipher_of s.sealed) (key_of s.sealed)) s.sealed s.state) (λ s. V.trace s.sealed.vault.vault) };
+
+    // Each payload's file has an IV of 16 bytes, drawn by one fill, by rising ids.
+    fn apply<R: Rng>(
+        &mut self,
+        alloc: Global,
+        batch: &Batch,
+        chance: &mut R,
+    ) -> Result<(), ApplyError>
+        requires intact { ⟦<IntegrityStore<V, C> as Blocks>⟧.meanings.intact self.old }
+        requires fits { Fits ⟦<IntegrityStore<V, C> as Blocks>⟧.holdings self.old batch.now }
+        ensures intact { ⟦<IntegrityStore<V, C> as Blocks>⟧.meanings.intact self.new }
+        ensures changed { OnOk result (Changed ⟦<IntegrityStore<V, C> as Blocks>⟧.meanings ⟦<IntegrityStore<V, C> as Blocks>⟧.holdings self.old self.new batch.now) }
+        ensures applied { OnOk result (applied_by (λ s. held_of (C.opens (cipher_of s.sealed) (key_of s.sealed)) s.sealed s.state) (λ s. V.trace s.sealed.vault.vault) self.old self.new batch.now) }
+        ensures forgeries { ⟦<IntegrityStore<V, C> as Blocks>⟧.meanings.forgeries self.new ≡ ⟦<IntegrityStore<V, C> as Blocks>⟧.meanings.forgeries self.old }
+        ensures lies { ⟦<IntegrityStore<V, C> as Blocks>⟧.meanings.lies self.new ≡ ⟦<IntegrityStore<V, C> as Blocks>⟧.meanings.lies self.old }
+        ensures faults { ⟦<IntegrityStore<V, C> as Blocks>⟧.meanings.faults self.new ≡ ⟦<IntegrityStore<V, C> as Blocks>⟧.meanings.faults self.old }
+        ensures spent { (result ≡ Err ApplyError.Spent) ↔ IsSpent ⟦<IntegrityStore<V, C> as Blocks>⟧.holdings self.old batch.now }
+        ensures loaded { OnErr result (⟦<IntegrityStore<V, C> as Blocks>⟧.meanings.loaded self.old self.new) }
+        ensures sound { OnErr result (⟦<IntegrityStore<V, C> as Blocks>⟧.meanings.sound self.old → ⟦<IntegrityStore<V, C> as Blocks>⟧.meanings.sound self.new) }
+
+        ensures drawn { OnOk result (AreDrawn batch.now self.new.sealed.vault.list (R.stream chance.old) (R.stream chance.new)) }
+    {
+        let entries = batch.entries();
+        if some_spent(&self.state.known, entries) {
+            return Err(ApplyError::Spent);
+        }
+        match self.put_sealed(alloc, entries, chance) {
+            Ok(()) => {
+                mark_all(&mut self.state.known, entries);
+                // With their numbers read, the used ids and what waits are known to be few enough for a record.
+                let _used = self.state.known.len();
+                let _waiting = self.sealed.vault.entries().len();
+                Ok(())
+            }
+            Err(Memory) => Err(ApplyError::Memory),
+        }
+    }
+
+    ghost settled = { settled_by (λ s. held_of (C.opens (cipher_of s.sealed) (key_of s.sealed)) s.sealed s.state) (λ s. V.trace s.sealed.vault.vault)
+        (λ s. V.faults s.sealed.vault.vault) };
+}

@@ -1,0 +1,104 @@
+// The files of a batch, each sealed with an IV that is drawn for it.
+ghost use Rattle.std.specs.Prelude.{◌≡◌, ◌<◌, false, IfOk};
+ghost use Rattle.std.specs.FinMap as fin;
+ghost use Rattle.std.specs.List.{AllByRecursion};
+ghost use Rattle.outside.specs.View.{change_of, list_of};
+ghost use Rattle.local_state.specs.Known.{raised_version};
+ghost use Rattle.sealed_store.specs.Stores.{IsIntact, block_size_of, key_of, cipher_of};
+ghost use Rattle.store_api.specs.Entries.{entry_view, entries_of};
+ghost use Rattle.integrity_store.specs.Sealing.{MaySealAt, MaySeal, IsFileFor, IsMadeOf, stream_after, AreMadeOf};
+ghost use Rattle.integrity_store.specs.Stores.{is_last};
+ghost use Rattle.integrity_store.specs.Views.{held_of};
+
+use crate::writing::write_record;
+use block_id::{BlockId, Memory};
+use local_state::{Known, State};
+use outside::{Change, FileName, Pending, Vault};
+use rand_core::Rng;
+use seal_api::Sealer;
+use sealed_store::SealedStore;
+use std::alloc::Global;
+use store_api::BatchChange;
+
+// The version that a raise gives.
+fn next_version(known: &Known, id: &BlockId) -> u64
+    requires { is_last (fin.get known.now.marks id.now.0) ≡ false }
+    ensures { result ≡ raised_version (fin.get known.now.marks id.now.0) }
+{
+    match known.version(id) {
+        Some(version) => version + 1,
+        None => 1,
+    }
+}
+
+// The file of a payload's record.
+fn seal<V: Vault, C: Sealer, R: Rng>(
+    alloc: Global,
+    sealed: &SealedStore<V, C>,
+    state: &State,
+    id: &BlockId,
+    payload: &[u8],
+    chance: &mut R,
+) -> Result<Vec<u8>, Memory>
+    requires intact { IsIntact (block_size_of sealed.now) (C.iv_size (cipher_of sealed.now)) }
+    requires client { 0 < state.now.client }
+    requires may { MaySealAt (held_of (C.opens (cipher_of sealed.now) (key_of sealed.now)) sealed.now state.now) payload.now (fin.get state.now.known.marks id.now.0) }
+    ensures file { IfOk result (λ file. IsFileFor (held_of (C.opens (cipher_of sealed.now) (key_of sealed.now)) sealed.now state.now)
+        id.now.0 payload.now (R.stream chance.old) file.items) }
+    ensures stream { IfOk result (λ _. R.stream chance.new ≡ stream_after (Some payload.now) (R.stream chance.old)) }
+{
+    let mut iv = [0; 16];
+    chance.fill_bytes(&mut iv);
+    let version = next_version(&state.known, id);
+    let plain = write_record(alloc, id, state.client, version, payload)?;
+    sealed.seal_plain(alloc, id, &plain, &iv)
+}
+
+// What waits for an entry: the file of its payload's record, or its removal.
+fn seal_entry<V: Vault, C: Sealer, R: Rng>(
+    alloc: Global,
+    sealed: &SealedStore<V, C>,
+    state: &State,
+    entry: &(BlockId, BatchChange),
+    chance: &mut R,
+) -> Result<Change, Memory>
+    requires intact { IsIntact (block_size_of sealed.now) (C.iv_size (cipher_of sealed.now)) }
+    requires client { 0 < state.now.client }
+    requires may { MaySeal (held_of (C.opens (cipher_of sealed.now) (key_of sealed.now)) sealed.now state.now) (entry_view entry.now) }
+    ensures change { IfOk result (λ change. IsMadeOf (held_of (C.opens (cipher_of sealed.now) (key_of sealed.now)) sealed.now state.now)
+        (entry_view entry.now).0 (entry_view entry.now).1 (R.stream chance.old) (change_of change)) }
+    ensures stream { IfOk result (λ _. R.stream chance.new ≡ stream_after (entry_view entry.now).1 (R.stream chance.old)) }
+{
+    match &entry.1 {
+        BatchChange::Payload(payload) => {
+            let file = seal(alloc, sealed, state, &entry.0, payload, chance)?;
+            Ok(Change::Bytes(file))
+        }
+        BatchChange::Removal => Ok(Change::Removal),
+    }
+}
+
+/// What waits for each of the entries, in their order.
+pub(crate) fn seal_all<V: Vault, C: Sealer, R: Rng>(
+    alloc: Global,
+    sealed: &SealedStore<V, C>,
+    state: &State,
+    entries: &[(BlockId, BatchChange)],
+    chance: &mut R,
+) -> Result<Vec<Pending>, Memory>
+    requires intact { IsIntact (block_size_of sealed.now) (C.iv_size (cipher_of sealed.now)) }
+    requires client { 0 < state.now.client }
+    requires may { AllByRecursion (MaySeal (held_of (C.opens (cipher_of sealed.now) (key_of sealed.now)) sealed.now state.now)) (entries_of entries.now) }
+    ensures { IfOk result (λ changes. AreMadeOf (held_of (C.opens (cipher_of sealed.now) (key_of sealed.now)) sealed.now state.now)
+        (entries_of entries.now) (R.stream chance.old) (list_of changes.items) (R.stream chance.new)) }
+{
+    let mut changes = Vec::new(alloc);
+    for entry in entries {
+        let change = seal_entry(alloc, sealed, state, entry, chance)?;
+        changes.push(Pending {
+            name: FileName::Block(entry.0),
+            change,
+        })?;
+    }
+    Ok(changes)
+}
