@@ -1,0 +1,9 @@
+//! AES-256 (FIPS 197) on eight blocks at a time, with no look-up that depends on the key or the blocks.
+#![tactic(auto)]
+
+mod key_planes;
+
+pub use key_planes::KeyPlanes;
+
+#[cfg(test)]
+mod tests;
