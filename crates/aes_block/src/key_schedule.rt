@@ -1,5 +1,6 @@
 // A key, expanded to the keys of the rounds (FIPS 197, 5.2).
 ghost use Rattle.std.specs.Prelude.{◌≡◌, ◌+◌, ◌/◌, ◌%◌, ◌<◌, take};
+ghost use Rattle.aes_block.specs.Cipher.{round_key};
 ghost use Rattle.aes_block.specs.KeyExpansion.{add_word, aes256, key_expansion, key_step, x_power};
 
 use crate::cipher::{EXPANDED_LEN, encrypt_with, xtime};
@@ -35,6 +36,25 @@ impl KeySchedule {
         ensures { result ≡ key.now }
     {
         KeySchedule { words: expand(key) }
+    }
+
+    /// The key.
+    pub fn key(&self) -> [u8; 32]
+        ensures { result ≡ self.now }
+    {
+        let mut key = [0u8; 32];
+        key.copy_from_slice(&self.words[..32]);
+        key
+    }
+
+    /// The key of round r, where round 0 adds the first.
+    pub fn round_key(&self, r: usize) -> [u8; 16]
+        requires { r < 15 }
+        ensures { result ≡ round_key (key_expansion self.now) r }
+    {
+        let mut key = [0u8; 16];
+        key.copy_from_slice(&self.words[16 * r..16 * r + 16]);
+        key
     }
 
     /// The block, encrypted by AES-256 under the key.
