@@ -1,0 +1,13 @@
+//! AES-256 (FIPS 197) on eight blocks at a time, with no look-up that depends on the key or the blocks.
+#![tactic(auto)]
+
+mod key_planes;
+mod planes;
+mod rounds;
+mod sub_bytes;
+mod sub_word;
+
+pub use key_planes::KeyPlanes;
+
+#[cfg(test)]
+mod tests;
