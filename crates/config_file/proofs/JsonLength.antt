@@ -1,17 +1,15 @@
 -- The JSON of a configuration has at most 896 bytes.
-use Rattle.std.proofs.Common.{◌≡◌, ℕ, suc, ◌+◌, ◌*◌, ◌≤◌, ◌<◌, ◌^◌, ◌/◌, ◌%◌, Bool, true, false, cond, List, [], ◌∷◌, ◌++◌, length, codes, decimal, refl, sym, ap, ◌∙◌, arith, length-append}
+use Rattle.std.proofs.Common.{◌≡◌, ℕ, ◌+◌, ◌*◌, ◌≤◌, ◌/◌, ◌%◌, Bool, true, false, cond, List, [], ◌∷◌, ◌++◌, length, codes, decimal, refl, ap, ◌∙◌, arith, length-append}
 use Rattle.std.proofs.lemmas.Fmt.{length-decimal-le}
 use Rattle.std.specs.Char.{digit_char}
 use Rattle.hex.proofs.HexLemmas.{length-encode_with}
 use Rattle.hex.specs.Hex.{encode_upper, upper_digits}
 use Rattle.json.specs.Print.{escape, escape_byte, escape_letter, quoted}
-use Rattle.serde_json.specs.Data.{number, unsigned, string, object, Members, member, no_members, depth}
-use Rattle.serde_json.specs.Read.{max_depth}
-use Rattle.serde_json.specs.Written.{compact_text, has_float, members_text}
+use Rattle.serde_json.specs.Written.{has_float}
 use Rattle.config_file.specs.declared.config.Cipher.{Cipher}
 use Rattle.config_file.specs.declared.config.Cipher.TheVariants.{Aes256Gcm}
 use Rattle.config_file.specs.Json.{data_of, json_text}
-use Rattle.config_file.specs.Settings.{Settings, IsBlockSize, cipher_name}
+use Rattle.config_file.specs.Settings.{AreInLimits, Settings, cipher_name}
 
 one_of_three : (a b : Bool) (x y z w : ℕ) → length (cond a (92 ∷ x ∷ []) (cond b (92 ∷ 117 ∷ 48 ∷ 48 ∷ y ∷ z ∷ []) (w ∷ []))) ≤ 6
 one_of_three true b x y z w = omega arith
@@ -74,18 +72,14 @@ length_written size cipher fs_id key root =
 only_cipher : (c : Cipher) → c ≡ Aes256Gcm
 only_cipher Aes256Gcm = refl
 
-pub length_json_text : (s : Settings) → IsBlockSize s.block_size → length s.fs_id ≡ 16 → length s.key ≡ 32 → length s.root ≡ 16 → length (json_text s) ≤ 896
+pub length_json_text : (s : Settings) → AreInLimits s → length (json_text s) ≤ 896
 unfolding data_of
-length_json_text s size fs_id key root =
+length_json_text s limits =
     let name : length (quoted (cipher_name s.cipher)) ≡ 13 = ap (λ c. length (quoted (cipher_name c))) (only_cipher s.cipher) ∙ length_quoted (codes "aes-256-gcm") ∙ ap (λ n. 2 + n) key_lengths.5 in
-    let digits : length (decimal s.block_size) ≤ 7 = length-decimal-le 7 s.block_size (omega arith) (omega (arith, size.high)) (omega (arith, size.high)) in
+    let digits : length (decimal s.block_size) ≤ 7 = length-decimal-le 7 s.block_size (omega arith) (omega (arith, limits.block_size.high)) (omega (arith, limits.block_size.high)) in
     let whole = length_written (decimal s.block_size) (quoted (cipher_name s.cipher)) (quoted (encode_upper s.fs_id)) (quoted (encode_upper s.key)) (quoted (encode_upper s.root)) in
-    omega (arith, whole, name, digits, length_digits s.fs_id, length_digits s.key, length_digits s.root)
+    omega (arith, whole, name, digits, length_digits s.fs_id, length_digits s.key, length_digits s.root, limits.fs_id.size, limits.key.size, limits.root.size)
 
 pub no_float : (s : Settings) → has_float (data_of s) ≡ false
 unfolding data_of
 no_float s = refl
-
-pub shallow : (s : Settings) → depth (data_of s) ≤ max_depth
-unfolding data_of
-shallow s = omega arith

@@ -1,5 +1,5 @@
 -- Where the sealed innermost part stands.
-use Rattle.std.proofs.Common.{◌≡◌, ℕ, Bool, true, false, cond, List, drop, Some, None, ap, ◌∙◌}
+use Rattle.std.proofs.Common.{◌≡◌, ℕ, Bool, true, false, cond, List, drop, Some, None}
 use Rattle.std.specs.List.{slice_range}
 use Rattle.config_file.specs.Format.{begins_with, cipher_field, inner_front, sealed_in}
 

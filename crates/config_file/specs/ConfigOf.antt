@@ -1,5 +1,5 @@
 -- What a file is under a password.
-use Rattle.std.specs.Prelude.{ℕ, ◌≡◌, List, Option, Some, None, option_and_then}
+use Rattle.std.specs.Prelude.{ℕ, ◌≡◌, ◌↔◌, List, Option, Some, None, option_and_then}
 use Rattle.aes_gcm.specs.Gcm.{opened_of}
 use Rattle.scrypt_kdf.specs.Cost.{Cost}
 use Rattle.config_file.specs.Format.{HasForm, cost_in, inner_in, inner_key, salt_in, sealed_in, text_in}
@@ -32,3 +32,7 @@ ConfigOf password bytes form = ¬ HasForm bytes
 ConfigOf password bytes locked = HasForm bytes × (inner_in password bytes ≡ None)
 ConfigOf password bytes inner =
     HasForm bytes × ((part : List ℕ) × (inner_in password bytes ≡ Some part) × ((s : Settings) → ¬ Holds (key_in password bytes) part s))
+
+-- under the password the file is this, and nothing else
+abbrev pub IsOnly : List ℕ → List ℕ → Found → Type 0
+IsOnly password bytes found = (f : Found) → ConfigOf password bytes f ↔ (f ≡ found)

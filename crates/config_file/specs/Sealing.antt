@@ -1,9 +1,9 @@
 -- The text of a configuration's file.
-use Rattle.std.specs.Prelude.{ℕ, ◌+◌, List, ◌++◌, length}
+use Rattle.std.specs.Prelude.{ℕ, ◌≡◌, ◌+◌, List, ◌++◌, length}
 use Rattle.std.specs.Int.{w32, w64, to_le_bytes}
 use Rattle.std.specs.List.{slice_range}
 use Rattle.aes_gcm.specs.Gcm.{sealed_of}
-use Rattle.scrypt_kdf.specs.Cost.{Cost}
+use Rattle.scrypt_kdf.specs.Cost.{Cost, IsAllowed}
 use Rattle.config_file.specs.Format.{cipher_field, inner_front, inner_key, outer_front, outer_key}
 use Rattle.config_file.specs.Json.{json_text}
 use Rattle.config_file.specs.Settings.{Settings}
@@ -28,6 +28,14 @@ pub record Inputs : Type 0 where
   pub fill : List ℕ
   pub inner_iv : List ℕ
   pub outer_iv : List ℕ
+
+-- parameters that scrypt allows, and texts of their sizes
+pub record AreFit (i : Inputs) : Type 0 where
+  pub cost : IsAllowed i.cost
+  pub salt : length i.salt ≡ 32
+  pub fill : length i.fill ≡ 960
+  pub inner_iv : length i.inner_iv ≡ 16
+  pub outer_iv : length i.outer_iv ≡ 16
 
 -- the file, 1,126 bytes
 unfoldable pub config_text : Inputs → Settings → List ℕ

@@ -1,5 +1,6 @@
 -- What a configuration says.
-use Rattle.std.specs.Prelude.{ℕ, List, ◌≤◌, codes}
+use Rattle.std.specs.Prelude.{ℕ, ◌≡◌, ◌≤◌, List, codes, length}
+use Rattle.hex.specs.Hex.{IsBytes}
 use Rattle.config_file.specs.declared.config.Cipher.{Cipher}
 use Rattle.config_file.specs.declared.config.Cipher.TheVariants.{Aes256Gcm}
 use Rattle.config_file.specs.declared.config.Config.{Config}
@@ -22,3 +23,14 @@ cipher_name Aes256Gcm = codes "aes-256-gcm"
 pub record IsBlockSize (size : ℕ) : Type 0 where
   pub low : 128 ≤ size
   pub high : size ≤ 1048576
+
+pub record AreBytes (len : ℕ) (bytes : List ℕ) : Type 0 where
+  pub size : length bytes ≡ len
+  pub fit : IsBytes bytes
+
+-- a block size in range, and ids and a key of their sizes
+pub record AreInLimits (s : Settings) : Type 0 where
+  pub root : AreBytes 16 s.root
+  pub key : AreBytes 32 s.key
+  pub block_size : IsBlockSize s.block_size
+  pub fs_id : AreBytes 16 s.fs_id

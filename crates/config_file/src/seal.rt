@@ -2,6 +2,8 @@
 ghost use Rattle.std.specs.Prelude.{◌≡◌, ◌≤◌, ◌++◌, length, IfOk, OnOk};
 ghost use Rattle.std.specs.Int.{w32, to_le_bytes};
 ghost use Rattle.aes_gcm.specs.Gcm.{sealed_of};
+ghost use Rattle.scrypt_kdf.specs.Cost.{IsAllowed};
+ghost use Rattle.config_file.specs.ConfigOf.{IsOnly, opened};
 ghost use Rattle.config_file.specs.Sealing.{config_text, inner_text, innermost_text, outer_text};
 ghost use Rattle.config_file.specs.Settings.{IsBlockSize, settings_of};
 
@@ -36,6 +38,7 @@ pub fn seal_config(
       inner_iv = inner_iv.now;
       outer_iv = outer_iv.now;
     }) (settings_of config.now)) }
+    ensures opens { IfOk result (λ text. IsOnly password.now text.items (opened (settings_of config.now) params.now)) }
 {
     let keys = derive_keys(alloc, password, salt, params)?;
     let json = write_json(alloc, config)?;
@@ -79,7 +82,8 @@ fn inner_part(
 /// What stands before the sealed inner part.
 #[tactic(auto, unfolding(crate::specs::Sealing::outer_text))]
 fn outer_part(alloc: Global, params: &Params, salt: &[u8; 32]) -> Result<Vec<u8>, Memory>
-    ensures { IfOk result (λ part. part.items ≡ outer_text params.now salt.now) }
+    ensures text { IfOk result (λ part. part.items ≡ outer_text params.now salt.now) }
+    ensures allowed { IfOk result (λ part. IsAllowed params.now) }
 {
     let mut part = Vec::with_capacity(alloc, FILE_LEN)?;
     part.extend_from_slice(&OUTER_FRONT)?;

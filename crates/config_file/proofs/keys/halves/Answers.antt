@@ -1,4 +1,4 @@
-use Rattle.std.proofs.Common.{ℕ, List, length, drop, ◌∙◌, arith, length-drop}
+use Rattle.std.proofs.Common.{drop, ◌∙◌, arith, length-drop}
 use Rattle.std.proofs.lemmas.List.{take_all}
 use Rattle.config_file.proofs.keys.halves.Goals as goal
 
