@@ -1,11 +1,8 @@
 //! The program's top call: words, lines and answers.
 #![tactic(auto)]
 
-mod line_buffer;
 mod program;
-mod reader;
 mod serve;
-mod status;
 mod summary;
 #[cfg(test)]
 mod tests;
@@ -13,6 +10,6 @@ mod text_buffer;
 mod trial;
 mod words;
 
-pub use program::run;
-pub use script_text::MAX_LINE;
-pub use status::Status;
+pub use cryfs_setup::Status;
+pub use line_io::MAX_LINE;
+pub use program::{Ended, run};

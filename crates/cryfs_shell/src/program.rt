@@ -1,53 +1,109 @@
 // The top call.
-ghost use Rattle.std.specs.Prelude.{◌≡◌, ◌≤◌, ◌↔◌, ℕ, List, [], ◌∷◌, length, map, IsNone};
+ghost use Rattle.std.specs.Prelude.{◌≡◌, ◌⊎◌, ◌≤◌, ℕ, List, [], ◌∷◌, length, map, IsNone};
 ghost use Rattle.std.specs.declared.option.Option.TheVariants.{None, Some};
 ghost use Rattle.std.specs.String.{string_bytes};
 ghost use Rattle.fs_model.specs.Tree.{Tree, empty_tree};
 ghost use Rattle.fs_model.specs.Step.{step};
 ghost use Rattle.workload.specs.Generated.{generated_of};
-ghost use Rattle.cryfs_shell.specs.Forms.{form_of};
+ghost use Rattle.create_options.specs.declared.options.CreateOptions.{CreateOptions};
+ghost use Rattle.line_io.specs.Streams.{Untouched};
+ghost use Rattle.cryfs_setup.specs.Create.{Created};
+ghost use Rattle.cryfs_setup.specs.Info.{Told};
+ghost use Rattle.cryfs_shell.specs.Forms.{form_of, IsRefused};
 ghost use Rattle.cryfs_shell.specs.Trials.{Follows, IsSession};
 ghost use Rattle.cryfs_shell.specs.Summaries.{summary_of, counts_of, read_len};
-ghost use Rattle.cryfs_shell.specs.Runs.{Tried, Generated, Untouched, generated, status_of};
+ghost use Rattle.cryfs_shell.specs.Runs.{Tried, Generated, generated, status_of};
 
-use crate::reader::LineReader;
-use crate::serve::{End, serve, write_all};
-use crate::status::Status;
+use crate::serve::{End, serve};
 use crate::summary::Summary;
 use crate::text_buffer::TextBuffer;
 use crate::trial::{Trial, TrialAnswer};
 use crate::words::{Form, read_form};
 use block_id::{Failed, Memory};
+use cryfs_setup::{Status, run_create, run_info};
 use fs_model::Moment;
-use outside::{Sink, Source};
+use line_io::{LineReader, write_all};
+use outside::{Keeper, Sink, Source, Vault};
 use plain_tree::PlainTree;
+use rand_core::Rng;
 use std::alloc::Global;
 
-/// Runs the program with these words, at this moment, from this input to this output.
-pub fn run<I: Source, O: Sink>(
+/// How a run ended, with the block directory and the local record that it was given.
+#[derive(Drop)]
+pub struct Ended<V, K> {
+    pub status: Status,
+    pub vault: V,
+    pub keeper: K,
+}
+
+/// Runs the program with these words, at this moment, from this input to this output, over this block directory and
+/// this local record, and with these random bytes.
+pub fn run<I: Source, O: Sink, V: Vault, K: Keeper, R: Rng>(
     alloc: Global,
     words: &[String],
     now: Moment,
     input: &mut I,
     output: &mut O,
-) -> Status
-    ensures usage { result ≡ Status.Usage ↔ form_of (map string_bytes words.now) ≡ None }
-    ensures untouched { result ≡ Status.Usage
+    vault: V,
+    keeper: K,
+    chance: &mut R,
+) -> Ended<V, K>
+    ensures usage { result.status ≡ Status.Usage → form_of (map string_bytes words.now) ≡ None }
+    ensures refused { form_of (map string_bytes words.now) ≡ None → IsRefused (map string_bytes words.now) result.status }
+    ensures untouched { form_of (map string_bytes words.now) ≡ None
         → Untouched (record { old = I.rest input.old; new = I.rest input.new; faults = I.faults input.old; risen = I.faults input.new })
-        × Untouched (record { old = O.written output.old; new = O.written output.new; faults = O.faults output.old; risen = O.faults output.new }) }
+        × Untouched (record { old = O.written output.old; new = O.written output.new; faults = O.faults output.old; risen = O.faults output.new })
+        × (result.vault ≡ vault) }
+    ensures keeper { result.keeper ≡ keeper }
     ensures trial { form_of (map string_bytes words.now) ≡ Some Form.Trial → Tried now
         (record { old = I.rest input.old; new = I.rest input.new; faults = I.faults input.old; risen = I.faults input.new })
-        (record { old = O.written output.old; new = O.written output.new; faults = O.faults output.old; risen = O.faults output.new }) result }
+        (record { old = O.written output.old; new = O.written output.new; faults = O.faults output.old; risen = O.faults output.new }) result.status
+        × (result.vault ≡ vault) }
     ensures generate { (count : ℕ) → form_of (map string_bytes words.now) ≡ Some (Form.Generate count)
-        → Generated now count (record { old = O.written output.old; new = O.written output.new; faults = O.faults output.old; risen = O.faults output.new }) result
-        × Untouched (record { old = I.rest input.old; new = I.rest input.new; faults = I.faults input.old; risen = I.faults input.new }) }
+        → Generated now count (record { old = O.written output.old; new = O.written output.new; faults = O.faults output.old; risen = O.faults output.new }) result.status
+        × Untouched (record { old = I.rest input.old; new = I.rest input.new; faults = I.faults input.old; risen = I.faults input.new })
+        × (result.vault ≡ vault) }
+    ensures created { (options : CreateOptions) → form_of (map string_bytes words.now) ≡ Some (Form.Create options) → Created options.params options.block_size (R.stream chance.old)
+        (record { old = I.rest input.old; new = I.rest input.new; faults = I.faults input.old; risen = I.faults input.new })
+        (record { old = O.written output.old; new = O.written output.new; faults = O.faults output.old; risen = O.faults output.new })
+        (record { old = V.trace vault; new = V.trace result.vault; faults = V.faults vault; risen = V.faults result.vault }) result.status }
+    ensures told { form_of (map string_bytes words.now) ≡ Some Form.Info → Told
+        (record { old = I.rest input.old; new = I.rest input.new; faults = I.faults input.old; risen = I.faults input.new })
+        (record { old = O.written output.old; new = O.written output.new; faults = O.faults output.old; risen = O.faults output.new })
+        (record { old = V.trace vault; new = V.trace result.vault; faults = V.faults vault; risen = V.faults result.vault }) result.status }
+    ensures uncalled { (result.status ≡ Status.LongPassword) ⊎ (result.status ≡ Status.InputFault) → result.vault ≡ vault }
     ensures input_grows { I.faults input.old ≤ I.faults input.new }
     ensures output_grows { O.faults output.old ≤ O.faults output.new }
+    ensures vault_grows { V.faults vault ≤ V.faults result.vault }
 {
-    match read_form(words) {
+    let mut vault = vault;
+    let status = run_words(alloc, words, now, input, output, &mut vault, chance);
+    Ended {
+        status,
+        vault,
+        keeper,
+    }
+}
+
+/// Runs what the words ask for.
+fn run_words<I: Source, O: Sink, V: Vault, R: Rng>(
+    alloc: Global,
+    words: &[String],
+    now: Moment,
+    input: &mut I,
+    output: &mut O,
+    vault: &mut V,
+    chance: &mut R,
+) -> Status {
+    let Ok(form) = read_form(alloc, words) else {
+        return Status::Memory;
+    };
+    match form {
         None => Status::Usage,
         Some(Form::Trial) => try_lines(alloc, now, input, output),
         Some(Form::Generate(count)) => generate(alloc, now, count, output),
+        Some(Form::Create(options)) => run_create(alloc, &options.params, options.block_size, input, output, vault, chance),
+        Some(Form::Info) => run_info(alloc, input, output, vault),
     }
 }
 

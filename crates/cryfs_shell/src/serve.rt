@@ -5,13 +5,13 @@ ghost use Rattle.std.specs.declared.option.Option.TheVariants.{Some, None};
 ghost use Rattle.std.specs.Option.{option_copied};
 ghost use Rattle.outside.specs.Causes.{RoseBy};
 ghost use Rattle.outside.specs.Streams.{appends, Ends};
-ghost use Rattle.cryfs_shell.specs.Lines.{kept};
-ghost use Rattle.cryfs_shell.specs.Reading.{coming};
-ghost use Rattle.cryfs_shell.specs.Turns.{Cut, Served};
+ghost use Rattle.line_io.specs.Lines.{kept};
+ghost use Rattle.line_io.specs.Reading.{coming};
+ghost use Rattle.cryfs_shell.specs.Turns.{Served};
 
-use crate::reader::LineReader;
 use crate::text_buffer::TextBuffer;
 use block_id::Failed;
+use line_io::{LineReader, write_all};
 use outside::{Sink, Source};
 use std::alloc::Global;
 
@@ -34,23 +34,6 @@ pub trait Session {
     /// Sets the text of the answer to a line, or to a line that is too long to be kept.
     fn answer(&mut self, alloc: Global, line: Option<&[u8]>, text: &mut TextBuffer)
         ensures { (whole : List ℕ) → option_copied line.entry ≡ kept whole → answers self.old whole text.new self.new };
-}
-
-/// Writes a whole text.
-pub fn write_all<O: Sink>(output: &mut O, text: &[u8]) -> Result<(), Failed>
-    ensures ok { OnOk result (O.written output.new ≡ appends (O.written output.old) text.now) }
-    ensures err { OnErr result (Cut (O.written output.old) (O.written output.new) text.now) }
-    ensures grows { O.faults output.old ≤ O.faults output.new }
-    ensures cause { OnErr result (RoseBy 1 (O.faults output.old) (O.faults output.new)) }
-{
-    let mut rest = text;
-    while !rest.is_empty() {
-        match output.write(rest) {
-            Ok(n) => rest = &rest[n..],
-            Err(Failed) => return Err(Failed),
-        }
-    }
-    Ok(())
 }
 
 /// Answers each line before it takes the next.

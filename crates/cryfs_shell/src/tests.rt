@@ -2,9 +2,33 @@
 
 use crate::{Status, run};
 use fs_model::Moment;
-use outside::{MemorySink, MemorySource};
+use outside::{MemoryKeeper, MemorySink, MemorySource, MemoryVault};
+use rand_core::Rng;
 use std::alloc::{AllocError, Global};
 use std::test::Fail;
+
+/// A random source that gives zeros only.
+#[derive(Clone, Copy)]
+struct Zeros;
+
+impl Rng for Zeros {
+    ghost use Rattle.std.specs.Prelude.{ℕ, List, replicate};
+    ghost use Rattle.rand_core.specs.Stream.{Stream};
+
+    ghost stream = { λ _. record { u32_after = λ _. 0; u64_after = λ _. 0; bytes_after = λ _ n. replicate n 0 } };
+
+    fn next_u32(&mut self) -> u32 {
+        0
+    }
+
+    fn next_u64(&mut self) -> u64 {
+        0
+    }
+
+    fn fill_bytes(&mut self, dst: &mut [u8]) {
+        dst.fill(0);
+    }
+}
 
 /// A call of the program and what it has to do.
 #[derive(Clone, Copy)]
@@ -46,8 +70,17 @@ fn outcome(alloc: Global, case: &Case<'_>, piece: usize) -> Result<(Vec<u8>, Sta
     let Ok(mut sink) = MemorySink::new(alloc, step, 65_536, case.writes.to_vec(alloc)?) else {
         return Err(AllocError);
     };
-    let status = run(alloc, &words, now, &mut source, &mut sink);
-    Ok((sink.written().to_vec(alloc)?, status))
+    let ended = run(
+        alloc,
+        &words,
+        now,
+        &mut source,
+        &mut sink,
+        MemoryVault::new(alloc),
+        MemoryKeeper::new(alloc, None, Vec::new(alloc)),
+        &mut Zeros,
+    );
+    Ok((sink.written().to_vec(alloc)?, ended.status))
 }
 
 fn holds(alloc: Global, case: &Case<'_>, piece: usize) -> Result<bool, AllocError> {
