@@ -39,3 +39,14 @@ pub Line-last : (byte : ℕ) (line : List ℕ) (rest : Option (List ℕ)) → Is
 Line-last byte line None u e = refl
 Line-last byte line (Some rest) u e =
     (rest, subst (λ r. lines (byte ∷ (line ++ r)) ≡ (byte ∷ line) ∷ lines r) (sym e) (ap (λ l. lines (byte ∷ l)) (append-nil line) ∙ lines-last byte line u), refl)
+
+-- nothing was taken
+pub Gives-nil : (old new : Option (List ℕ)) → new ≡ old → Gives old new []
+Gives-nil None new e = e
+Gives-nil (Some old) new e = (old, refl, e)
+
+pub Gives-append : (old mid new : Option (List ℕ)) (a b : List ℕ) → Gives old mid a → Gives mid new b → Gives old new (a ++ b)
+Gives-append None mid new a b g h = subst (λ (m : Option (List ℕ)). Gives m new b) g h
+Gives-append (Some old) mid new a b g h =
+    let k : Gives (Some g.0) new b = subst (λ (m : Option (List ℕ)). Gives m new b) g.2 h in
+    (k.0, g.1 ∙ (ap (λ (l : List ℕ). a ++ l) k.1 ∙ sym (append_assoc a b k.0)), k.2)

@@ -35,6 +35,10 @@ Line (Some bytes) line after = (more : List ℕ) × (lines bytes ≡ line ∷ li
 abbrev pub TookLine : Option (List ℕ) → Option (List ℕ) → Option (List ℕ) → Type 0
 TookLine before shown after = (line : List ℕ) × (shown ≡ kept line) × Line before line after
 
+-- bytes were taken, and stand behind those that were read ahead
+abbrev pub TookAhead : List ℕ → Option (List ℕ) → Option (List ℕ) → List ℕ → Type 0
+TookAhead ahead old new now = (taken : List ℕ) × Gives old new taken × (now ≡ ahead ++ taken)
+
 -- bytes were taken, and of the first line in what was read ahead and in them is kept what is shown
 abbrev pub ShowsFirst : List ℕ → Option (List ℕ) → Option (List ℕ) → Option (List ℕ) → Type 0
 ShowsFirst ahead old new shown = (taken : List ℕ) × Gives old new taken × (shown ≡ kept (first_line (ahead ++ taken)))

@@ -7,7 +7,7 @@ ghost use Rattle.std.specs.List.{position};
 ghost use Rattle.outside.specs.Causes.{RoseBy};
 ghost use Rattle.outside.specs.Streams.{Gives, Ends};
 ghost use Rattle.line_io.specs.Lines.{is_newline, IsUnbroken, kept_on};
-ghost use Rattle.line_io.specs.Reading.{Reading, fresh, coming, total, TookLine, ShowsFirst, remaining};
+ghost use Rattle.line_io.specs.Reading.{Reading, fresh, coming, total, TookLine, TookAhead, ShowsFirst, remaining};
 
 use crate::line_buffer::LineBuffer;
 use block_id::{Failed, Memory};
@@ -92,6 +92,8 @@ impl LineReader {
         ensures came { IfOk result (λ some. coming self.new.ahead (I.rest input.new) ≡ I.rest input.old) }
         ensures some { IfOk result (λ some. MatchBool some (0 < length self.new.ahead) (Ends (I.rest input.old) × (self.new.ahead ≡ []))) }
         ensures ended { IfOk result (λ some. MatchBool some (self.new.ended ≡ false) (self.new.ended ≡ true)) }
+        ensures gave { TookAhead self.old.ahead (I.rest input.old) (I.rest input.new) self.new.ahead }
+        ensures err { OnErr result (self.new.ahead ≡ []) }
         ensures counted { total self.new.taken (I.rest input.new) ≡ total self.old.taken (I.rest input.old) }
         ensures taken { self.new.taken ≡ self.old.taken + length self.new.ahead }
         ensures most { self.new.taken ≤ 2 ^ 63 }
@@ -117,6 +119,9 @@ impl LineReader {
         ensures line { self.new.line ≡ self.old.line }
         ensures came { IfOk result (λ some. coming self.new.ahead (I.rest input.new) ≡ coming self.old.ahead (I.rest input.old)) }
         ensures some { IfOk result (λ some. MatchBool some (0 < length self.new.ahead) (Ends (coming self.new.ahead (I.rest input.new)))) }
+        ensures gave { TookAhead self.old.ahead (I.rest input.old) (I.rest input.new) self.new.ahead }
+        ensures empty { IfOk result (λ some. some ≡ false → self.new.ahead ≡ []) }
+        ensures err { OnErr result (self.new.ahead ≡ []) }
         ensures ended { IfOk result (λ some. self.new.ended ≡ true → Ends (coming self.new.ahead (I.rest input.new))) }
         ensures counted { total self.new.taken (I.rest input.new) ≡ total self.old.taken (I.rest input.old) }
         ensures stays { IfOk result (λ some. remaining self.new ≡ remaining self.old) }
