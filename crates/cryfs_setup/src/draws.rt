@@ -35,6 +35,7 @@ fn fill<const N: usize, R: Rng>(chance: &mut R) -> [u8; N]
 }
 
 impl Draws {
+    #[tactic(auto, unfolding(crate::specs::Drawing::drawn))]
     /// Draws each by one fill.
     pub fn draw<R: Rng>(chance: &mut R) -> Draws
         ensures draws { result ≡ (drawn (R.stream chance.old)).0 }
