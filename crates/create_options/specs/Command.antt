@@ -1,5 +1,5 @@
 -- The options of `create` as a command of `clap`: which words it takes, and what they give.
-use Rattle.std.specs.Prelude.{◌&&◌, Bool, List, Option, Some, codes, not, true}
+use Rattle.std.specs.Prelude.{◌&&◌, Bool, List, Some, codes, not, true}
 use Rattle.std.specs.List.{list_any}
 use Rattle.std.specs.Str.{bytes_eq}
 use Rattle.clap.specs.Simple.{on_top}

@@ -8,37 +8,32 @@ use Rattle.script_text.specs.Numbers.{number_of}
 use Rattle.create_options.specs.Command.{are_options, values_in}
 use Rattle.create_options.specs.declared.options.CreateOptions.{CreateOptions}
 
--- the number that an option's value is, or this one where the option isn't there
+-- the number that an option's value is, or `absent` where the option isn't there
 unfoldable pub number_at : Text → ℕ → List Row → Option ℕ
 number_at name absent values = option_map_or number_of (first_of name values) (Some absent)
 
-abbrev pub within : ℕ → ℕ → ℕ → Bool
-within least most n = nat_le least n && nat_le n most
+-- the same number, from `least` to `most`
+unfoldable pub number_within : Text → ℕ → ℕ → ℕ → List Row → Option ℕ
+number_within name absent least most values =
+    option_and_then (λ n. cond (nat_le least n && nat_le n most) (Some n) None) (number_at name absent values)
 
-unfoldable pub block_size_at : List Row → Option ℕ
-block_size_at values =
-    option_and_then (λ size. cond (within 128 1048576 size) (Some size) None) (number_at (codes "blocksize") 16384 values)
-
--- 2, 4, 8 and so on up to 2 ^ 20
-abbrev pub is_power : ℕ → Bool
+-- 2, 4, 8 and so on, up to 2 ^ 20
+unfoldable pub is_power : ℕ → Bool
 is_power n = list_any (λ k. n == 2 ^ k) (range_with_len 1 20)
-
-unfoldable pub is_cost : Cost → Bool
-is_cost cost = is_power cost.n && (within 1 8 cost.r && within 1 16 cost.p)
 
 unfoldable pub cost_at : List Row → Option Cost
 cost_at values =
     option_and_then (λ n. option_and_then (λ r. option_and_then (λ p.
-    cond (is_cost (record { n = n; r = r; p = p })) (Some (record { n = n; r = r; p = p })) None)
-    (number_at (codes "scrypt-p") 1 values))
-    (number_at (codes "scrypt-r") 8 values))
+    cond (is_power n) (Some (record { n = n; r = r; p = p })) None)
+    (number_within (codes "scrypt-p") 1 1 16 values))
+    (number_within (codes "scrypt-r") 8 1 8 values))
     (number_at (codes "scrypt-n") 32768 values)
 
 unfoldable pub options_at : List Row → Option CreateOptions
 options_at values =
     option_and_then (λ size. option_map (λ cost. record { block_size = size; params = cost }) (cost_at values))
-    (block_size_at values)
+    (number_within (codes "blocksize") 16384 128 1048576 values)
 
--- the options that the words say, or None where they are no options of `create`
+-- the options that the words say, or None where they aren't options of `create`
 unfoldable pub options_of : List Text → Option CreateOptions
 options_of words = cond (are_options words) (options_at (values_in words)) None

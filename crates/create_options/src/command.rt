@@ -3,7 +3,7 @@ ghost use Rattle.std.specs.Prelude.{◌≡◌, ◌≢◌, [], IfOk, IfSome, fals
 ghost use Rattle.std.specs.Option.{IsNone};
 ghost use Rattle.std.specs.String.{string_bytes};
 ghost use Rattle.clap.specs.Words.{app_of, fault_of, found_of, rows_of, rule_of};
-ghost use Rattle.create_options.specs.Command.{create_app, option_rule, values_in};
+ghost use Rattle.create_options.specs.Command.{bare_app, create_app, option_rule, values_in};
 
 use block_id::Memory;
 use clap::error::ErrorKind;
@@ -42,14 +42,20 @@ pub(crate) fn matches_in<'a>(
 fn create_command<'a>(alloc: Global) -> Result<Command<'a>, AllocError>
     ensures { IfOk result (λ command. app_of command ≡ create_app) }
 {
-    let command = Command::new(alloc, "create")
-        .no_binary_name(true)
-        .disable_help_flag(true);
-    command
+    bare_command(alloc)
         .arg(option(alloc, BLOCK_SIZE))?
         .arg(option(alloc, SCRYPT_N))?
         .arg(option(alloc, SCRYPT_R))?
         .arg(option(alloc, SCRYPT_P))
+}
+
+/// No argument; the first word isn't the program's name, and `--help` and `-h` aren't known.
+fn bare_command<'a>(alloc: Global) -> Command<'a>
+    ensures { app_of result ≡ bare_app }
+{
+    Command::new(alloc, "create")
+        .no_binary_name(true)
+        .disable_help_flag(true)
 }
 
 /// An option with one value, as `--name VALUE` or `--name=VALUE`.

@@ -1,9 +1,9 @@
 // The options that words say.
-ghost use Rattle.std.specs.Prelude.{◌≡◌, IfOk, map};
+ghost use Rattle.std.specs.Prelude.{◌≡◌, ◌≤◌, IfOk, IfSome, map};
 ghost use Rattle.std.specs.String.{string_bytes};
 ghost use Rattle.clap.specs.Words.{found_of, rows_of};
 ghost use Rattle.create_options.specs.Command.{has_separator};
-ghost use Rattle.create_options.specs.Options.{block_size_at, cost_at, number_at, options_at, options_of};
+ghost use Rattle.create_options.specs.Options.{cost_at, number_at, number_within, options_at, options_of};
 
 use crate::command::{BLOCK_SIZE, SCRYPT_N, SCRYPT_P, SCRYPT_R, matches_in};
 use crate::options::CreateOptions;
@@ -22,6 +22,7 @@ pub fn parse_create_options(
     words: &[String],
 ) -> Result<Option<CreateOptions>, Memory>
     ensures said { IfOk result (λ options. options ≡ options_of (map string_bytes words.now)) }
+    ensures limits { IfOk result (λ options. IfSome options (λ o. (128 ≤ o.block_size) × (o.block_size ≤ 1048576))) }
 {
     if has_separator(words) {
         return Ok(None);
@@ -41,22 +42,12 @@ fn has_separator(words: &[String]) -> bool
 
 #[tactic(auto, unfolding(crate::specs::Options::options_at))]
 fn options_in(matches: &ArgMatches<'_>) -> Option<CreateOptions>
-    ensures { result ≡ options_at (rows_of (found_of matches.now)) }
+    ensures value { result ≡ options_at (rows_of (found_of matches.now)) }
+    ensures limits { IfSome result (λ o. (128 ≤ o.block_size) × (o.block_size ≤ 1048576)) }
 {
-    let block_size = block_size_in(matches)?;
+    let block_size = number_within(matches, BLOCK_SIZE, 16384, 128, 1048576)?;
     let params = params_in(matches)?;
     Some(CreateOptions { block_size, params })
-}
-
-#[tactic(auto, unfolding(crate::specs::Options::block_size_at))]
-fn block_size_in(matches: &ArgMatches<'_>) -> Option<u32>
-    ensures { result ≡ block_size_at (rows_of (found_of matches.now)) }
-{
-    let size = number_in(matches, BLOCK_SIZE, 16384)?;
-    if size < 128 || size > 1048576 {
-        return None;
-    }
-    Some(size as u32)
 }
 
 #[tactic(auto, unfolding(crate::specs::Options::cost_at))]
@@ -64,13 +55,32 @@ fn params_in(matches: &ArgMatches<'_>) -> Option<Params>
     ensures { result ≡ cost_at (rows_of (found_of matches.now)) }
 {
     let n = number_in(matches, SCRYPT_N, 32768)?;
-    let r = u32::try_from(number_in(matches, SCRYPT_R, 8)?).ok()?;
-    let p = u32::try_from(number_in(matches, SCRYPT_P, 1)?).ok()?;
+    let r = number_within(matches, SCRYPT_R, 8, 1, 8)?;
+    let p = number_within(matches, SCRYPT_P, 1, 1, 16)?;
     Params::new(n, r, p).ok()
 }
 
+/// The same number, where it is in this range.
+#[tactic(auto, unfolding(crate::specs::Options::number_within))]
+fn number_within(
+    matches: &ArgMatches<'_>,
+    name: &str,
+    absent: u32,
+    least: u32,
+    most: u32,
+) -> Option<u32>
+    ensures value { result ≡ number_within name.now absent least most (rows_of (found_of matches.now)) }
+    ensures bounds { IfSome result (λ n. (least ≤ n) × (n ≤ most)) }
+{
+    let n = number_in(matches, name, u64::from(absent))?;
+    if n < u64::from(least) || n > u64::from(most) {
+        return None;
+    }
+    Some(n as u32)
+}
+
 /// The number that an option's value is, or this one where the option isn't there.
-#[tactic(auto, unfolding(crate::specs::Options::number_at))]
+#[tactic(auto, unfolding(crate::specs::Options::number_at), using(crate::proofs::Values::first_value_is))]
 fn number_in(matches: &ArgMatches<'_>, name: &str, absent: u64) -> Option<u64>
     ensures { result ≡ number_at name.now absent (rows_of (found_of matches.now)) }
 {

@@ -44,35 +44,115 @@ fn refused<'a>(words: &'a [&'a str]) -> Case<'a> {
     Case { words, said: None }
 }
 
+fn all_hold(alloc: Global, cases: &[Case<'_>]) -> Result<bool, Fail> {
+    for case in cases {
+        if !holds(alloc, case)? {
+            return Ok(false);
+        }
+    }
+    Ok(true)
+}
+
 #[test]
 fn reads_options(rt: HostRuntime) -> Result<(), Fail> {
     let cases = [
         says(&[], 16384, 32768, 8, 1),
         says(&["--blocksize", "128"], 128, 32768, 8, 1),
         says(&["--blocksize=1048576"], 1048576, 32768, 8, 1),
-        says(&["--scrypt-n", "16"], 16384, 16, 8, 1),
+        says(&["--scrypt-n", "2"], 16384, 2, 8, 1),
         says(&["--scrypt-n=1048576"], 16384, 1048576, 8, 1),
         says(&["--scrypt-r", "1"], 16384, 32768, 1, 1),
-        says(&["--scrypt-r=2"], 16384, 32768, 2, 1),
-        says(&["--scrypt-p", "16"], 16384, 32768, 8, 16),
-        says(&["--scrypt-p=2"], 16384, 32768, 8, 2),
+        says(&["--scrypt-r=8"], 16384, 32768, 8, 1),
+        says(&["--scrypt-p", "1"], 16384, 32768, 8, 1),
+        says(&["--scrypt-p=16"], 16384, 32768, 8, 16),
+        says(
+            &[
+                "--scrypt-p=2",
+                "--scrypt-r",
+                "3",
+                "--blocksize",
+                "4096",
+                "--scrypt-n=64",
+            ],
+            4096,
+            64,
+            3,
+            2,
+        ),
+        says(&["--blocksize=00000000000000004096"], 4096, 32768, 8, 1),
     ];
-    for case in cases {
-        assert!(rt; holds(rt.alloc(), &case)?);
-    }
+    assert!(rt; all_hold(rt.alloc(), &cases)?);
     Ok(())
 }
 
 #[test]
-fn refuses_words(rt: HostRuntime) -> Result<(), Fail> {
+fn refuses_words_that_are_no_options(rt: HostRuntime) -> Result<(), Fail> {
     let cases = [
         refused(&["--"]),
+        refused(&["--", "--blocksize", "128"]),
+        refused(&["--blocksize", "128", "--"]),
+        refused(&["--blocksize", "--", "128"]),
         refused(&["--help"]),
         refused(&["-h"]),
-        refused(&["--blocksize"]),
+        refused(&["--version"]),
+        refused(&["-V"]),
+        refused(&["help"]),
+        refused(&["--shared"]),
+        refused(&["--block", "128"]),
+        refused(&["--Blocksize", "128"]),
+        refused(&["-blocksize", "128"]),
+        refused(&["blocksize", "128"]),
+        refused(&["128"]),
+        refused(&[""]),
+        refused(&["-"]),
+        refused(&["--blocksize", "128", "4096"]),
     ];
-    for case in cases {
-        assert!(rt; holds(rt.alloc(), &case)?);
-    }
+    assert!(rt; all_hold(rt.alloc(), &cases)?);
+    Ok(())
+}
+
+#[test]
+fn refuses_an_option_that_is_there_twice_or_has_no_value(rt: HostRuntime) -> Result<(), Fail> {
+    let cases = [
+        refused(&["--blocksize", "128", "--blocksize", "128"]),
+        refused(&["--scrypt-n=16", "--scrypt-n", "16"]),
+        refused(&["--scrypt-r", "1", "--scrypt-p", "1", "--scrypt-r=1"]),
+        refused(&["--scrypt-p=1", "--scrypt-p=1"]),
+        refused(&["--blocksize"]),
+        refused(&["--blocksize", "--scrypt-n", "16"]),
+        refused(&["--scrypt-n", "16", "--scrypt-r"]),
+        refused(&["--blocksize="]),
+        refused(&["--blocksize", ""]),
+    ];
+    assert!(rt; all_hold(rt.alloc(), &cases)?);
+    Ok(())
+}
+
+#[test]
+fn refuses_values(rt: HostRuntime) -> Result<(), Fail> {
+    let cases = [
+        refused(&["--blocksize=127"]),
+        refused(&["--blocksize=1048577"]),
+        refused(&["--scrypt-n=0"]),
+        refused(&["--scrypt-n=1"]),
+        refused(&["--scrypt-n=3"]),
+        refused(&["--scrypt-n=2097152"]),
+        refused(&["--scrypt-r=0"]),
+        refused(&["--scrypt-r=9"]),
+        refused(&["--scrypt-p=0"]),
+        refused(&["--scrypt-p=17"]),
+        refused(&["--scrypt-r=4294967297"]),
+        refused(&["--scrypt-p=18446744073709551617"]),
+        refused(&["--blocksize=000000000000000004096"]),
+        refused(&["--scrypt-n=+16"]),
+        refused(&["--scrypt-n", "-16"]),
+        refused(&["--scrypt-n=16 "]),
+        refused(&["--scrypt-n=0x10"]),
+        refused(&["--scrypt-n=1_6"]),
+        refused(&["--scrypt-n==16"]),
+        refused(&["--scrypt-n=16.0"]),
+        refused(&["--scrypt-n=\u{0661}\u{0666}"]),
+    ];
+    assert!(rt; all_hold(rt.alloc(), &cases)?);
     Ok(())
 }
