@@ -1,5 +1,5 @@
 -- What `create` does.
-use Rattle.std.specs.Prelude.{◌≡◌, ℕ, true, List, ◌++◌, codes, if◌then◌else◌}
+use Rattle.std.specs.Prelude.{◌≡◌, ◌⊎◌, ℕ, true, List, ◌++◌, codes, if◌then◌else◌}
 use Rattle.std.specs.Str.{bytes_eq}
 use Rattle.rand_core.specs.Stream.{Stream as Chance}
 use Rattle.block_id.specs.Fresh.{zero_id}
@@ -57,10 +57,19 @@ Makes d output file text LongPassword = Uncalled d × Untouched output
 Makes d output file text InputFault = Uncalled d × Untouched output
 Makes d output file text status = Fails d file status × Untouched output
 
--- a file system of this cost and block size is made under the password of the input, of what is drawn from this stream
-pub record IsCreated (cost : Cost) (block_size : ℕ) (chance : Chance) (input output : Stream) (d : Directory) (status : Status) (taken : List ℕ) : Type 0 where
+-- the stream of random bytes that is left: all was drawn, or nothing
+abbrev pub Leaves : Chance → Chance → Status → Type 0
+Leaves old new Done = new ≡ (drawn old).1
+Leaves old new OutputFault = new ≡ (drawn old).1
+Leaves old new DirectoryFault = (new ≡ old) ⊎ (new ≡ (drawn old).1)
+Leaves old new Memory = (new ≡ old) ⊎ (new ≡ (drawn old).1)
+Leaves old new status = new ≡ old
+
+-- a file system of this cost and block size is made under the password of the input, of what is drawn from a stream
+pub record IsCreated (cost : Cost) (block_size : ℕ) (chance left : Chance) (input output : Stream) (d : Directory) (status : Status) (taken : List ℕ) : Type 0 where
   pub password : PasswordRead input taken status
   pub makes : Makes d output (new_file (password_of taken) cost block_size (drawn chance).0) (created_text (drawn chance).0.fs_id) status
+  pub leaves : Leaves chance left status
 
-abbrev pub Created : Cost → ℕ → Chance → Stream → Stream → Directory → Status → Type 0
-Created cost block_size chance input output d status = (taken : List ℕ) × IsCreated cost block_size chance input output d status taken
+abbrev pub Created : Cost → ℕ → Chance → Chance → Stream → Stream → Directory → Status → Type 0
+Created cost block_size chance left input output d status = (taken : List ℕ) × IsCreated cost block_size chance left input output d status taken

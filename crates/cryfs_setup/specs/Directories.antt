@@ -12,6 +12,10 @@ pub record Directory : Type 0 where
   pub faults : ℕ
   pub risen : ℕ
 
+-- the directory whose trace and faults these are, from one moment to another
+abbrev pub directory_of : {V : Type 0} → (V → Option (List Call)) → (V → ℕ) → V → V → Directory
+directory_of trace faults old new = record { old = trace old; new = trace new; faults = faults old; risen = faults new }
+
 -- no call was made
 abbrev pub Uncalled : Directory → Type 0
 Uncalled d = (d.new ≡ d.old) × (d.risen ≡ d.faults)

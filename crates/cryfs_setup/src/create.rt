@@ -1,11 +1,12 @@
 // `create`: makes a file system.
-ghost use Rattle.std.specs.Prelude.{◌≡◌, ◌⊎◌, ◌≤◌, true, IfOk, IfErr};
+ghost use Rattle.std.specs.Prelude.{◌≡◌, ◌⊎◌, ◌≤◌, true, IfOk, IfErr, MatchResult};
 ghost use Rattle.config_file.specs.Settings.{IsBlockSize};
-ghost use Rattle.cryfs_setup.specs.Create.{Created, Makes, Fails, new_file, created_text, root_of};
-ghost use Rattle.cryfs_setup.specs.Directories.{made};
+ghost use Rattle.cryfs_setup.specs.Create.{Created, Makes, Fails, Leaves, new_file, created_text, root_of};
+ghost use Rattle.cryfs_setup.specs.Directories.{directory_of, made};
 ghost use Rattle.cryfs_setup.specs.Drawing.{drawn};
 ghost use Rattle.cryfs_setup.specs.Passwords.{IsPast};
 ghost use Rattle.cryfs_setup.specs.Printing.{Printed};
+ghost use Rattle.line_io.specs.Streams.{stream_of};
 
 use crate::draws::Draws;
 use crate::password::read_password;
@@ -33,10 +34,10 @@ pub fn run_create<I: Source, O: Sink, V: Vault, R: Rng>(
     chance: &mut R,
 ) -> Status
     requires { IsBlockSize block_size }
-    ensures created { Created params.now block_size (R.stream chance.old)
-        (record { old = I.rest input.old; new = I.rest input.new; faults = I.faults input.old; risen = I.faults input.new })
-        (record { old = O.written output.old; new = O.written output.new; faults = O.faults output.old; risen = O.faults output.new })
-        (record { old = V.trace vault.old; new = V.trace vault.new; faults = V.faults vault.old; risen = V.faults vault.new }) result }
+    ensures created { Created params.now block_size (R.stream chance.old) (R.stream chance.new)
+        (stream_of I.rest I.faults input.old input.new)
+        (stream_of O.written O.faults output.old output.new)
+        (directory_of V.trace V.faults vault.old vault.new) result }
     ensures uncalled { (result ≡ Status.LongPassword) ⊎ (result ≡ Status.InputFault) → vault.new ≡ vault.old }
     ensures input_grows { I.faults input.old ≤ I.faults input.new }
     ensures output_grows { O.faults output.old ≤ O.faults output.new }
@@ -62,9 +63,10 @@ fn create_under<O: Sink, V: Vault, R: Rng>(
 ) -> Status
     requires { IsBlockSize block_size }
     ensures makes { Makes
-        (record { old = V.trace vault.old; new = V.trace vault.new; faults = V.faults vault.old; risen = V.faults vault.new })
-        (record { old = O.written output.old; new = O.written output.new; faults = O.faults output.old; risen = O.faults output.new })
+        (directory_of V.trace V.faults vault.old vault.new)
+        (stream_of O.written O.faults output.old output.new)
         (new_file password.now params.now block_size (drawn (R.stream chance.old)).0) (created_text (drawn (R.stream chance.old)).0.fs_id) result }
+    ensures leaves { Leaves (R.stream chance.old) (R.stream chance.new) result }
     ensures past { IsPast result }
     ensures output_grows { O.faults output.old ≤ O.faults output.new }
     ensures vault_grows { V.faults vault.old ≤ V.faults vault.new }
@@ -88,8 +90,9 @@ fn make<V: Vault, R: Rng>(
     ensures ok { IfOk result (λ fs_id. (fs_id.0 ≡ (drawn (R.stream chance.old)).0.fs_id)
         × (V.trace vault.new ≡ made (V.trace vault.old) (new_file password.now params.now block_size (drawn (R.stream chance.old)).0) true)) }
     ensures err { IfErr result (λ status. Fails
-        (record { old = V.trace vault.old; new = V.trace vault.new; faults = V.faults vault.old; risen = V.faults vault.new })
+        (directory_of V.trace V.faults vault.old vault.new)
         (new_file password.now params.now block_size (drawn (R.stream chance.old)).0) status) }
+    ensures leaves { MatchResult result (λ _. R.stream chance.new ≡ (drawn (R.stream chance.old)).1) (λ status. Leaves (R.stream chance.old) (R.stream chance.new) status) }
     ensures grows { V.faults vault.old ≤ V.faults vault.new }
 {
     match vault.get(alloc, &FileName::Config, MAX_CONFIG) {
@@ -150,7 +153,7 @@ fn root_from(drawn: [u8; 16]) -> BlockId
 /// Prints the id of a new file system.
 fn print_created<O: Sink>(fs_id: &BlockId, output: &mut O) -> Status
     ensures printed { Printed
-        (record { old = O.written output.old; new = O.written output.new; faults = O.faults output.old; risen = O.faults output.new })
+        (stream_of O.written O.faults output.old output.new)
         (created_text fs_id.now.0) result }
     ensures grows { O.faults output.old ≤ O.faults output.new }
 {

@@ -7,6 +7,8 @@ ghost use Rattle.config_file.specs.ConfigOf.{opened};
 ghost use Rattle.config_file.specs.Settings.{settings_of, cipher_name};
 ghost use Rattle.cryfs_setup.specs.Info.{Told, Tells, Refuses, Gave, info_text};
 ghost use Rattle.cryfs_setup.specs.Passwords.{IsPast};
+ghost use Rattle.line_io.specs.Streams.{stream_of};
+ghost use Rattle.cryfs_setup.specs.Directories.{directory_of};
 
 use crate::create::MAX_CONFIG;
 use crate::password::read_password;
@@ -26,9 +28,9 @@ pub fn run_info<I: Source, O: Sink, V: Vault>(
     vault: &mut V,
 ) -> Status
     ensures told { Told
-        (record { old = I.rest input.old; new = I.rest input.new; faults = I.faults input.old; risen = I.faults input.new })
-        (record { old = O.written output.old; new = O.written output.new; faults = O.faults output.old; risen = O.faults output.new })
-        (record { old = V.trace vault.old; new = V.trace vault.new; faults = V.faults vault.old; risen = V.faults vault.new }) result }
+        (stream_of I.rest I.faults input.old input.new)
+        (stream_of O.written O.faults output.old output.new)
+        (directory_of V.trace V.faults vault.old vault.new) result }
     ensures uncalled { (result ≡ Status.LongPassword) ⊎ (result ≡ Status.InputFault) → vault.new ≡ vault.old }
     ensures input_grows { I.faults input.old ≤ I.faults input.new }
     ensures output_grows { O.faults output.old ≤ O.faults output.new }
@@ -50,8 +52,8 @@ fn tell_under<O: Sink, V: Vault>(
     vault: &mut V,
 ) -> Status
     ensures tells { Tells
-        (record { old = V.trace vault.old; new = V.trace vault.new; faults = V.faults vault.old; risen = V.faults vault.new })
-        (record { old = O.written output.old; new = O.written output.new; faults = O.faults output.old; risen = O.faults output.new })
+        (directory_of V.trace V.faults vault.old vault.new)
+        (stream_of O.written O.faults output.old output.new)
         password.now result }
     ensures past { IsPast result }
     ensures output_grows { O.faults output.old ≤ O.faults output.new }
@@ -70,10 +72,10 @@ fn tell_under<O: Sink, V: Vault>(
 /// Opens the configuration that the directory gives.
 fn open<V: Vault>(alloc: Global, password: &[u8], vault: &mut V) -> Result<Opened, Status>
     ensures ok { IfOk result (λ o. Gave
-        (record { old = V.trace vault.old; new = V.trace vault.new; faults = V.faults vault.old; risen = V.faults vault.new })
+        (directory_of V.trace V.faults vault.old vault.new)
         password.now (opened (settings_of o.config) o.params)) }
     ensures err { IfErr result (λ status. Refuses
-        (record { old = V.trace vault.old; new = V.trace vault.new; faults = V.faults vault.old; risen = V.faults vault.new })
+        (directory_of V.trace V.faults vault.old vault.new)
         password.now status) }
     ensures grows { V.faults vault.old ≤ V.faults vault.new }
 {

@@ -2,6 +2,7 @@
 ghost use Rattle.std.specs.Prelude.{◌≡◌, ◌≤◌, List, ℕ, MatchResult};
 ghost use Rattle.std.specs.declared.option.Option.TheVariants.{Some};
 ghost use Rattle.cryfs_setup.specs.Passwords.{password_of, PasswordRead, PasswordKnown, IsBefore};
+ghost use Rattle.line_io.specs.Streams.{stream_of};
 
 use crate::status::Status;
 use block_id::Failed;
@@ -16,9 +17,9 @@ pub(crate) fn read_password<I: Source>(
     input: &mut I,
 ) -> Result<LineReader, Status>
     ensures read { (taken : List ℕ) × MatchResult result
-        (λ reader. PasswordKnown (record { old = I.rest input.old; new = I.rest input.new; faults = I.faults input.old; risen = I.faults input.new }) taken
+        (λ reader. PasswordKnown (stream_of I.rest I.faults input.old input.new) taken
             × (reader.line ≡ Some (password_of taken)))
-        (λ status. PasswordRead (record { old = I.rest input.old; new = I.rest input.new; faults = I.faults input.old; risen = I.faults input.new }) taken status
+        (λ status. PasswordRead (stream_of I.rest I.faults input.old input.new) taken status
             × IsBefore status) }
     ensures grows { I.faults input.old ≤ I.faults input.new }
 {

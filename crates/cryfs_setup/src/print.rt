@@ -1,6 +1,7 @@
 // The text of a run that went well.
 ghost use Rattle.std.specs.Prelude.{◌≤◌};
 ghost use Rattle.cryfs_setup.specs.Printing.{Printed};
+ghost use Rattle.line_io.specs.Streams.{stream_of};
 
 use crate::status::Status;
 use block_id::Failed;
@@ -10,7 +11,7 @@ use outside::Sink;
 /// Writes a text, with which the run is done.
 pub(crate) fn print<O: Sink>(text: &[u8], output: &mut O) -> Status
     ensures printed { Printed
-        (record { old = O.written output.old; new = O.written output.new; faults = O.faults output.old; risen = O.faults output.new })
+        (stream_of O.written O.faults output.old output.new)
         text.now result }
     ensures grows { O.faults output.old ≤ O.faults output.new }
 {

@@ -6,7 +6,8 @@ use Rattle.outside.specs.Causes.{RoseBy}
 use Rattle.outside.specs.Streams.{appends, Ends}
 use Rattle.line_io.specs.Lines.{lines}
 use Rattle.line_io.specs.Reading.{Line, total}
-use Rattle.cryfs_shell.specs.Turns.{in_order, joined, BeginWith, Are, Cut, CutLast, Failed, TookMost}
+use Rattle.line_io.specs.Streams.{Cut, Failed, TookMost}
+use Rattle.cryfs_shell.specs.Turns.{in_order, joined, BeginWith, Are, CutLast}
 use Rattle.line_io.proofs.Flow.{appends-append}
 
 -- the bytes are these lines and what is left, where they are told

@@ -9,7 +9,8 @@ use Rattle.cryfs_setup.specs.declared.status.Status.{Status}
 use Rattle.cryfs_shell.specs.declared.trial.Trial.{Trial}
 use Rattle.line_io.specs.Reading.{Reading, coming, fresh}
 use Rattle.cryfs_shell.specs.Trials.{Entry, exchanges, lines_of, texts_of, IsSession}
-use Rattle.cryfs_shell.specs.Turns.{turn_lines, turn_texts, Stream, EndsAs, Served}
+use Rattle.line_io.specs.Streams.{Stream}
+use Rattle.cryfs_shell.specs.Turns.{turn_lines, turn_texts, EndsAs, Served}
 use Rattle.cryfs_shell.specs.Runs.{IsTrial, Tried, status_of}
 use Rattle.line_io.proofs.Flow.{coming-nil}
 use Rattle.cryfs_shell.proofs.Trying.{answers_line, Entries, went_entries}

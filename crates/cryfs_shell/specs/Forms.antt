@@ -5,7 +5,6 @@ use Rattle.std.specs.declared.option.Option.TheVariants.{None, Some}
 use Rattle.std.specs.Option.{option_map}
 use Rattle.std.specs.Str.{bytes_eq}
 use Rattle.script_text.specs.Numbers.{number_of, below}
-use Rattle.config_file.specs.Settings.{IsBlockSize}
 use Rattle.create_options.specs.Options.{options_of}
 use Rattle.cryfs_setup.specs.declared.status.Status.{Status}
 use Rattle.cryfs_setup.specs.declared.status.Status.TheVariants.{Usage, Memory}
@@ -32,15 +31,15 @@ is_create (first ∷ words) = bytes_eq first (codes "create")
 -- what the words ask for: `create` and its options, or another form
 unfoldable pub form_of : List (List ℕ) → Option Form
 form_of [] = None
-form_of (first ∷ words) = cond (bytes_eq first (codes "create")) (option_map Create (options_of words)) (plain_form (first ∷ words))
+form_of (first ∷ words) = cond (is_create (first ∷ words)) (option_map Create (options_of words)) (plain_form (first ∷ words))
 
 -- words of no form are refused; where they begin with `create`, memory may be refused while they are read
 abbrev pub IsRefused : List (List ℕ) → Status → Type 0
 IsRefused words status = (status ≡ Usage) ⊎ ((is_create words ≡ true) × (status ≡ Memory))
 
--- at most 1,000,000 commands, or a block size
+-- at most 1,000,000 commands, and blocks of 128 to 1,048,576 bytes
 abbrev pub IsModest : Form → Type 0
 IsModest Trial = Unit {0}
 IsModest (Generate count) = count ≤ 1000000
-IsModest (Create options) = IsBlockSize options.block_size
+IsModest (Create options) = (128 ≤ options.block_size) × (options.block_size ≤ 1048576)
 IsModest Info = Unit {0}

@@ -1,18 +1,19 @@
 // The top call.
-ghost use Rattle.std.specs.Prelude.{◌≡◌, ◌⊎◌, ◌≤◌, ℕ, List, [], ◌∷◌, length, map, IsNone};
+ghost use Rattle.std.specs.Prelude.{◌≡◌, ◌⊎◌, ◌≤◌, ℕ, false, List, [], ◌∷◌, length, map, IsNone};
 ghost use Rattle.std.specs.declared.option.Option.TheVariants.{None, Some};
 ghost use Rattle.std.specs.String.{string_bytes};
 ghost use Rattle.fs_model.specs.Tree.{Tree, empty_tree};
 ghost use Rattle.fs_model.specs.Step.{step};
 ghost use Rattle.workload.specs.Generated.{generated_of};
 ghost use Rattle.create_options.specs.declared.options.CreateOptions.{CreateOptions};
-ghost use Rattle.line_io.specs.Streams.{Untouched};
+ghost use Rattle.line_io.specs.Streams.{stream_of, Untouched};
 ghost use Rattle.cryfs_setup.specs.Create.{Created};
 ghost use Rattle.cryfs_setup.specs.Info.{Told};
-ghost use Rattle.cryfs_shell.specs.Forms.{form_of, IsRefused};
+ghost use Rattle.cryfs_shell.specs.Forms.{form_of, is_create, IsRefused};
 ghost use Rattle.cryfs_shell.specs.Trials.{Follows, IsSession};
 ghost use Rattle.cryfs_shell.specs.Summaries.{summary_of, counts_of, read_len};
 ghost use Rattle.cryfs_shell.specs.Runs.{Tried, Generated, generated, status_of};
+ghost use Rattle.cryfs_setup.specs.Directories.{directory_of};
 
 use crate::serve::{End, serve};
 use crate::summary::Summary;
@@ -51,27 +52,29 @@ pub fn run<I: Source, O: Sink, V: Vault, K: Keeper, R: Rng>(
     ensures usage { result.status ≡ Status.Usage → form_of (map string_bytes words.now) ≡ None }
     ensures refused { form_of (map string_bytes words.now) ≡ None → IsRefused (map string_bytes words.now) result.status }
     ensures untouched { form_of (map string_bytes words.now) ≡ None
-        → Untouched (record { old = I.rest input.old; new = I.rest input.new; faults = I.faults input.old; risen = I.faults input.new })
-        × Untouched (record { old = O.written output.old; new = O.written output.new; faults = O.faults output.old; risen = O.faults output.new })
-        × (result.vault ≡ vault) }
+        → Untouched (stream_of I.rest I.faults input.old input.new)
+        × Untouched (stream_of O.written O.faults output.old output.new)
+        × (result.vault ≡ vault) × (R.stream chance.new ≡ R.stream chance.old) }
     ensures keeper { result.keeper ≡ keeper }
     ensures trial { form_of (map string_bytes words.now) ≡ Some Form.Trial → Tried now
-        (record { old = I.rest input.old; new = I.rest input.new; faults = I.faults input.old; risen = I.faults input.new })
-        (record { old = O.written output.old; new = O.written output.new; faults = O.faults output.old; risen = O.faults output.new }) result.status
+        (stream_of I.rest I.faults input.old input.new)
+        (stream_of O.written O.faults output.old output.new) result.status
         × (result.vault ≡ vault) }
     ensures generate { (count : ℕ) → form_of (map string_bytes words.now) ≡ Some (Form.Generate count)
-        → Generated now count (record { old = O.written output.old; new = O.written output.new; faults = O.faults output.old; risen = O.faults output.new }) result.status
-        × Untouched (record { old = I.rest input.old; new = I.rest input.new; faults = I.faults input.old; risen = I.faults input.new })
+        → Generated now count (stream_of O.written O.faults output.old output.new) result.status
+        × Untouched (stream_of I.rest I.faults input.old input.new)
         × (result.vault ≡ vault) }
-    ensures created { (options : CreateOptions) → form_of (map string_bytes words.now) ≡ Some (Form.Create options) → Created options.params options.block_size (R.stream chance.old)
-        (record { old = I.rest input.old; new = I.rest input.new; faults = I.faults input.old; risen = I.faults input.new })
-        (record { old = O.written output.old; new = O.written output.new; faults = O.faults output.old; risen = O.faults output.new })
-        (record { old = V.trace vault; new = V.trace result.vault; faults = V.faults vault; risen = V.faults result.vault }) result.status }
+    ensures created { (options : CreateOptions) → form_of (map string_bytes words.now) ≡ Some (Form.Create options)
+        → Created options.params options.block_size (R.stream chance.old) (R.stream chance.new)
+        (stream_of I.rest I.faults input.old input.new)
+        (stream_of O.written O.faults output.old output.new)
+        (directory_of V.trace V.faults vault result.vault) result.status }
     ensures told { form_of (map string_bytes words.now) ≡ Some Form.Info → Told
-        (record { old = I.rest input.old; new = I.rest input.new; faults = I.faults input.old; risen = I.faults input.new })
-        (record { old = O.written output.old; new = O.written output.new; faults = O.faults output.old; risen = O.faults output.new })
-        (record { old = V.trace vault; new = V.trace result.vault; faults = V.faults vault; risen = V.faults result.vault }) result.status }
+        (stream_of I.rest I.faults input.old input.new)
+        (stream_of O.written O.faults output.old output.new)
+        (directory_of V.trace V.faults vault result.vault) result.status }
     ensures uncalled { (result.status ≡ Status.LongPassword) ⊎ (result.status ≡ Status.InputFault) → result.vault ≡ vault }
+    ensures undrawn { is_create (map string_bytes words.now) ≡ false → R.stream chance.new ≡ R.stream chance.old }
     ensures input_grows { I.faults input.old ≤ I.faults input.new }
     ensures output_grows { O.faults output.old ≤ O.faults output.new }
     ensures vault_grows { V.faults vault ≤ V.faults result.vault }
@@ -94,16 +97,51 @@ fn run_words<I: Source, O: Sink, V: Vault, R: Rng>(
     output: &mut O,
     vault: &mut V,
     chance: &mut R,
-) -> Status {
-    let Ok(form) = read_form(alloc, words) else {
-        return Status::Memory;
-    };
-    match form {
-        None => Status::Usage,
-        Some(Form::Trial) => try_lines(alloc, now, input, output),
-        Some(Form::Generate(count)) => generate(alloc, now, count, output),
-        Some(Form::Create(options)) => run_create(alloc, &options.params, options.block_size, input, output, vault, chance),
-        Some(Form::Info) => run_info(alloc, input, output, vault),
+) -> Status
+    ensures usage { result ≡ Status.Usage → form_of (map string_bytes words.now) ≡ None }
+    ensures refused { form_of (map string_bytes words.now) ≡ None → IsRefused (map string_bytes words.now) result }
+    ensures untouched { form_of (map string_bytes words.now) ≡ None
+        → Untouched (stream_of I.rest I.faults input.old input.new)
+        × Untouched (stream_of O.written O.faults output.old output.new)
+        × (vault.new ≡ vault.old) × (R.stream chance.new ≡ R.stream chance.old) }
+    ensures trial { form_of (map string_bytes words.now) ≡ Some Form.Trial → Tried now
+        (stream_of I.rest I.faults input.old input.new)
+        (stream_of O.written O.faults output.old output.new) result
+        × (vault.new ≡ vault.old) }
+    ensures generate { (count : ℕ) → form_of (map string_bytes words.now) ≡ Some (Form.Generate count)
+        → Generated now count (stream_of O.written O.faults output.old output.new) result
+        × Untouched (stream_of I.rest I.faults input.old input.new)
+        × (vault.new ≡ vault.old) }
+    ensures created { (options : CreateOptions) → form_of (map string_bytes words.now) ≡ Some (Form.Create options)
+        → Created options.params options.block_size (R.stream chance.old) (R.stream chance.new)
+        (stream_of I.rest I.faults input.old input.new)
+        (stream_of O.written O.faults output.old output.new)
+        (directory_of V.trace V.faults vault.old vault.new) result }
+    ensures told { form_of (map string_bytes words.now) ≡ Some Form.Info → Told
+        (stream_of I.rest I.faults input.old input.new)
+        (stream_of O.written O.faults output.old output.new)
+        (directory_of V.trace V.faults vault.old vault.new) result }
+    ensures uncalled { (result ≡ Status.LongPassword) ⊎ (result ≡ Status.InputFault) → vault.new ≡ vault.old }
+    ensures undrawn { is_create (map string_bytes words.now) ≡ false → R.stream chance.new ≡ R.stream chance.old }
+    ensures input_grows { I.faults input.old ≤ I.faults input.new }
+    ensures output_grows { O.faults output.old ≤ O.faults output.new }
+    ensures vault_grows { V.faults vault.old ≤ V.faults vault.new }
+{
+    match read_form(alloc, words) {
+        Err(Memory) => Status::Memory,
+        Ok(None) => Status::Usage,
+        Ok(Some(Form::Trial)) => try_lines(alloc, now, input, output),
+        Ok(Some(Form::Generate(count))) => generate(alloc, now, count, output),
+        Ok(Some(Form::Create(options))) => run_create(
+            alloc,
+            &options.params,
+            options.block_size,
+            input,
+            output,
+            vault,
+            chance,
+        ),
+        Ok(Some(Form::Info)) => run_info(alloc, input, output, vault),
     }
 }
 
@@ -115,8 +153,8 @@ fn try_lines<I: Source, O: Sink>(
     output: &mut O,
 ) -> Status
     ensures tried { Tried now
-        (record { old = I.rest input.old; new = I.rest input.new; faults = I.faults input.old; risen = I.faults input.new })
-        (record { old = O.written output.old; new = O.written output.new; faults = O.faults output.old; risen = O.faults output.new }) result }
+        (stream_of I.rest I.faults input.old input.new)
+        (stream_of O.written O.faults output.old output.new) result }
     ensures input_grows { I.faults input.old ≤ I.faults input.new }
     ensures output_grows { O.faults output.old ≤ O.faults output.new }
 {
@@ -146,7 +184,7 @@ fn status_of(end: End) -> Status
 /// So many generated commands on a new plain tree, and their summary.
 fn generate<O: Sink>(alloc: Global, now: Moment, count: u64, output: &mut O) -> Status
     requires { count ≤ 1000000 }
-    ensures generated { Generated now count (record { old = O.written output.old; new = O.written output.new; faults = O.faults output.old; risen = O.faults output.new }) result }
+    ensures generated { Generated now count (stream_of O.written O.faults output.old output.new) result }
     ensures output_grows { O.faults output.old ≤ O.faults output.new }
 {
     let summary = summarize(alloc, now, count);

@@ -8,6 +8,7 @@ ghost use Rattle.outside.specs.Streams.{appends, Ends};
 ghost use Rattle.line_io.specs.Lines.{kept};
 ghost use Rattle.line_io.specs.Reading.{coming};
 ghost use Rattle.cryfs_shell.specs.Turns.{Served};
+ghost use Rattle.line_io.specs.Streams.{stream_of};
 
 use crate::text_buffer::TextBuffer;
 use block_id::Failed;
@@ -47,8 +48,8 @@ pub fn serve<I: Source, O: Sink, S: Session>(
 ) -> End
     requires { reader.old.ended ≡ true → Ends (coming reader.old.ahead (I.rest input.old)) }
     ensures served { Served S.answers session.old session.new reader.old.taken (coming reader.old.ahead (I.rest input.old))
-        (record { old = I.rest input.old; new = I.rest input.new; faults = I.faults input.old; risen = I.faults input.new })
-        (record { old = O.written output.old; new = O.written output.new; faults = O.faults output.old; risen = O.faults output.new }) result }
+        (stream_of I.rest I.faults input.old input.new)
+        (stream_of O.written O.faults output.old output.new) result }
     ensures input_grows { I.faults input.old ≤ I.faults input.new }
     ensures output_grows { O.faults output.old ≤ O.faults output.new }
 {

@@ -1,34 +1,11 @@
 // Whole runs over streams in memory.
 
+use crate::test_random::Zeros;
 use crate::{Status, run};
 use fs_model::Moment;
 use outside::{MemoryKeeper, MemorySink, MemorySource, MemoryVault};
-use rand_core::Rng;
 use std::alloc::{AllocError, Global};
 use std::test::Fail;
-
-/// A random source that gives zeros only.
-#[derive(Clone, Copy)]
-struct Zeros;
-
-impl Rng for Zeros {
-    ghost use Rattle.std.specs.Prelude.{ℕ, List, replicate};
-    ghost use Rattle.rand_core.specs.Stream.{Stream};
-
-    ghost stream = { λ _. record { u32_after = λ _. 0; u64_after = λ _. 0; bytes_after = λ _ n. replicate n 0 } };
-
-    fn next_u32(&mut self) -> u32 {
-        0
-    }
-
-    fn next_u64(&mut self) -> u64 {
-        0
-    }
-
-    fn fill_bytes(&mut self, dst: &mut [u8]) {
-        dst.fill(0);
-    }
-}
 
 /// A call of the program and what it has to do.
 #[derive(Clone, Copy)]

@@ -12,6 +12,10 @@ pub record Stream : Type 0 where
   pub faults : ℕ
   pub risen : ℕ
 
+-- the stream whose bytes and faults these are, from one moment to another
+abbrev pub stream_of : {S : Type 0} → (S → Option (List ℕ)) → (S → ℕ) → S → S → Stream
+stream_of bytes faults old new = record { old = bytes old; new = bytes new; faults = faults old; risen = faults new }
+
 -- nothing was read or written, and nothing failed
 abbrev pub Untouched : Stream → Type 0
 Untouched s = (s.new ≡ s.old) × (s.risen ≡ s.faults)
