@@ -1,0 +1,2 @@
+// The adapters over real folders.
+use super::*;
