@@ -2,6 +2,7 @@
 ghost use Rattle.std.specs.Prelude.{◌≡◌, IfOk};
 ghost use Rattle.std.specs.declared.result.Result.TheVariants.{Ok};
 ghost use Rattle.outside.specs.Causes.{HasCause};
+ghost use Rattle.real_folders.specs.Adapters.{counted};
 
 use outside::GetFail;
 use std::alloc::AllocError;
@@ -17,9 +18,10 @@ pub enum FolderError {
     Io(#[from] io::Error),
 }
 
-/// The answer as a call on the outside gives it. An error of the system counts as a fault.
+/// The answer as a call on the outside gives it, and one fault more after an error of the system.
 pub fn count<T: Drop>(faults: &mut u64, answer: Result<T, FolderError>) -> Result<T, GetFail>
     ensures value { IfOk result (λ x. answer ≡ Ok x) }
+    ensures faults { faults.new ≡ counted result faults.old }
     ensures cause { HasCause faults.old faults.new result }
 {
     match answer {

@@ -57,13 +57,12 @@ pub fn read_at_most<F: Read>(
 
 /// A new file in this folder, in place of what a run that was stopped left there. It is always made anew, so that a link
 /// that lies there isn't followed. The folder is made where it is missing.
-pub fn create_anew<R: Files>(
-    files: &R,
-    folder: Path<'_>,
-    path: Path<'_>,
-) -> io::Result<R::File> {
+pub fn create_anew<R: Files>(files: &R, folder: Path<'_>, path: Path<'_>) -> io::Result<R::File> {
     match File::create_new(files, path) {
-        Err(error) if error.kind() == ErrorKind::NotFound => make_folder(files, folder.as_os_str())?,
+        Err(error) if error.kind() == ErrorKind::NotFound => make_folder(
+            files,
+            folder.as_os_str(),
+        )?,
         Err(error) if error.kind() == ErrorKind::AlreadyExists => fs::remove_file(files, path)?,
         created => return created,
     }

@@ -2,14 +2,19 @@
 ghost use Rattle.std.specs.Prelude.{◌≡◌, ◌⊎◌, ◌≤◌, length, IfOk, OnOk, OnErr, IsTrue};
 ghost use Rattle.std.specs.declared.option.Option.TheVariants.{Some};
 ghost use Rattle.std.specs.Option.{option_map};
+ghost use Rattle.outside.specs.Causes.{HasCause, RoseBy};
+ghost use Rattle.outside.specs.MemoryStreams.{one_more};
 ghost use Rattle.outside.specs.View.{bytes_of};
+ghost use Rattle.real_folders.specs.Adapters.{counted};
 
 use crate::error::{FolderError, count};
+use crate::files::open_or_create;
 use crate::stored_file::StoredFile;
 use outside::{Failed, GetFail, Keeper, Memory, MemoryKeeper};
-use std::alloc::{AllocError, Global};
+use std::alloc::Global;
 use std::fs::{File, Files};
 use std::io;
+use std::marker::Model;
 use std::path::PathBuf;
 
 const RECORD_FILE: &str = "cryfs.localstate";
@@ -21,28 +26,39 @@ const LOCK_FILE: &str = "cryfs.lock";
 #[derive(Drop)]
 pub struct FolderKeeper<R> {
     files: R,
-    record: StoredFile,
-    lock: StoredFile,
-    held: Option<File>,
+    file: StoredFile,
+    lock_path: PathBuf,
+    lock: Option<File>,
     known: MemoryKeeper,
     faults: u64,
 }
 
+impl<R> Model for FolderKeeper<R> {
+    ghost use Rattle.real_folders.specs.Adapters.{KeeperState};
+
+    ghost Value = { KeeperState };
+
+    ghost view = { λ k. record { kept = k.known.kept; room = k.known.room; faults = k.faults } };
+}
+
 impl<R: Files<File = File> + Drop> FolderKeeper<R> {
     /// The record in the folder at this path, which needs not be there yet. Nothing is made. No fault so far.
-    pub fn new(alloc: Global, files: R, folder: &str) -> Result<FolderKeeper<R>, Memory> {
-        let record = StoredFile::new(alloc, PathBuf::from_str(alloc, folder)?, RECORD_FILE)?;
-        let lock = StoredFile::new(alloc, PathBuf::from_str(alloc, folder)?, LOCK_FILE)?;
-        let found = match record.read(&files, alloc, usize::MAX) {
+    pub fn new(alloc: Global, files: R, folder: &str) -> Result<FolderKeeper<R>, Memory>
+        ensures { IfOk result (λ keeper. keeper.faults ≡ 0) }
+    {
+        let folder = PathBuf::from_str(alloc, folder)?;
+        let lock_path = folder.join(alloc, LOCK_FILE)?;
+        let file = StoredFile::new(alloc, folder, RECORD_FILE)?;
+        let found = match file.read(&files, alloc, usize::MAX) {
             Ok(found) => found,
             Err(FolderError::Memory(_)) => return Err(Memory),
             Err(FolderError::Io(_)) => None,
         };
         Ok(FolderKeeper {
             files,
-            record,
-            lock,
-            held: None,
+            file,
+            lock_path,
+            lock: None,
             known: MemoryKeeper::new(alloc, found, Vec::new(alloc)),
             faults: 0,
         })
@@ -50,22 +66,22 @@ impl<R: Files<File = File> + Drop> FolderKeeper<R> {
 
     /// Takes the lock where this run doesn't hold it yet, and fails where another run does.
     fn hold(&mut self) -> io::Result<()>
-        ensures known { self.new.known ≡ self.old.known }
-        ensures faults { self.new.faults ≡ self.old.faults }
+        ensures { self.new ≡ self.old }
     {
-        if self.held.is_none() {
-            let file = self.lock.open(&self.files)?;
-            file.try_lock()?;
-            self.held = Some(file);
+        if self.lock.is_none() {
+            let folder = self.file.folder.as_path();
+            let lock = open_or_create(&self.files, folder, self.lock_path.as_path())?;
+            lock.try_lock()?;
+            self.lock = Some(lock);
         }
         Ok(())
     }
 
     /// What the file holds, where that is what is kept.
     fn read(&self, alloc: Global) -> Result<Option<Vec<u8>>, FolderError>
-        ensures { IfOk result (λ answer. bytes_of answer ≡ self.now.known.kept) }
+        ensures { IfOk result (λ answer. bytes_of answer ≡ self.now.kept) }
     {
-        let found = self.record.read(&self.files, alloc, usize::MAX)?;
+        let found = self.file.read(&self.files, alloc, usize::MAX)?;
         if is_same(&found, self.known.kept()) {
             Ok(found)
         } else {
@@ -75,14 +91,14 @@ impl<R: Files<File = File> + Drop> FolderKeeper<R> {
 
     /// Writes the record to the file, and then knows it.
     fn write(&mut self, bytes: &[u8]) -> io::Result<()>
-        requires { length bytes.now ≤ self.old.known.room }
-        ensures ok { OnOk result (self.new.known.kept ≡ Some bytes.now) }
-        ensures err { OnErr result ((self.new.known.kept ≡ self.old.known.kept) ⊎ (self.new.known.kept ≡ Some bytes.now)) }
-        ensures room { self.old.known.room ≤ self.new.known.room }
+        requires { length bytes.now ≤ self.old.room }
+        ensures ok { OnOk result (self.new.kept ≡ Some bytes.now) }
+        ensures err { OnErr result ((self.new.kept ≡ self.old.kept) ⊎ (self.new.kept ≡ Some bytes.now)) }
+        ensures room { self.old.room ≤ self.new.room }
         ensures faults { self.new.faults ≡ self.old.faults }
     {
         self.hold()?;
-        self.record.replace(&self.files, bytes)?;
+        self.file.replace(&self.files, bytes)?;
         match self.known.save(bytes) {
             Ok(()) => Ok(()),
             Err(Failed) => Err(io::Error::other("the record was not taken")),
@@ -101,13 +117,20 @@ fn is_same(found: &Option<Vec<u8>>, kept: Option<&[u8]>) -> bool
 }
 
 impl<R: Files<File = File> + Drop> Keeper for FolderKeeper<R> {
-    ghost kept = { λ k. k.known.kept };
+    ghost kept = { λ k. k.kept };
 
-    ghost room = { λ k. k.known.room };
+    ghost room = { λ k. k.room };
 
     ghost faults = { λ k. k.faults };
 
-    fn load(&mut self, alloc: Global) -> Result<Option<Vec<u8>>, GetFail> {
+    fn load(&mut self, alloc: Global) -> Result<Option<Vec<u8>>, GetFail>
+        ensures ok { IfOk result (λ answer. bytes_of answer ≡ self.old.kept) }
+        ensures kept { self.new.kept ≡ self.old.kept }
+        ensures room { self.old.room ≤ self.new.room }
+        ensures cause { HasCause self.old.faults self.new.faults result }
+
+        ensures counts { self.new ≡ record self.old { faults = counted result self.old.faults } }
+    {
         let answer = match self.hold() {
             Ok(()) => self.read(alloc),
             Err(error) => Err(FolderError::Io(error)),
@@ -119,7 +142,17 @@ impl<R: Files<File = File> + Drop> Keeper for FolderKeeper<R> {
         self.known.prepare(alloc, len)
     }
 
-    fn save(&mut self, bytes: &[u8]) -> Result<(), Failed> {
+    fn save(&mut self, bytes: &[u8]) -> Result<(), Failed>
+        requires { length bytes.now ≤ self.old.room }
+        ensures ok { OnOk result (self.new.kept ≡ Some bytes.now) }
+        ensures err { OnErr result ((self.new.kept ≡ self.old.kept) ⊎ (self.new.kept ≡ Some bytes.now)) }
+        ensures room { self.old.room ≤ self.new.room }
+        ensures grows { self.old.faults ≤ self.new.faults }
+        ensures cause { OnErr result (RoseBy 1 self.old.faults self.new.faults) }
+
+        ensures counts_none { OnOk result (self.new.faults ≡ self.old.faults) }
+        ensures counts_one { OnErr result (self.new.faults ≡ one_more self.old.faults) }
+    {
         match self.write(bytes) {
             Ok(()) => Ok(()),
             Err(_) => {
@@ -127,5 +160,81 @@ impl<R: Files<File = File> + Drop> Keeper for FolderKeeper<R> {
                 Err(Failed)
             }
         }
+    }
+}
+
+#[cfg(test)]
+mod tests {
+    use super::*;
+    use crate::test_folders::fresh_folder;
+    use std::fs;
+    use std::test::Fail;
+
+    /// Saves this record.
+    fn save<R: Files<File = File> + Drop>(
+        alloc: Global,
+        keeper: &mut FolderKeeper<R>,
+        bytes: &[u8],
+    ) -> Result<Result<(), Failed>, Memory> {
+        keeper.prepare(alloc, bytes.len())?;
+        Ok(keeper.save(bytes))
+    }
+
+    #[test]
+    fn keeps_what_was_saved_last(rt: HostRuntime) -> Result<(), Fail> {
+        let folder = fresh_folder(&rt, "kept")?;
+        let path = folder.join(rt.alloc(), "cryfs.localstate")?;
+        let beside = folder.join(rt.alloc(), "cryfs.localstate.new")?;
+        for (found, saved) in [("", "the first record"), ("the first record", "second")] {
+            let mut keeper = FolderKeeper::new(rt.alloc(), rt, folder.as_str())?;
+            let answer = keeper.load(rt.alloc())?.unwrap_or(Vec::new(rt.alloc()));
+            assert_eq!(rt; answer.as_slice(), found.as_bytes());
+            fs::write(&rt, beside.as_path(), b"what a stop left of another record")?;
+            save(rt.alloc(), &mut keeper, saved.as_bytes())??;
+            assert_eq!(rt; fs::read(&rt, path.as_path())?.as_slice(), saved.as_bytes());
+            assert!(rt; !fs::exists(&rt, beside.as_path())?);
+            let answer = keeper.load(rt.alloc())?.ok_or("nothing")?;
+            assert_eq!(rt; answer.as_slice(), saved.as_bytes());
+            assert_eq!(rt; keeper.faults, 0);
+        }
+        fs::remove_dir_all(&rt, folder)?;
+        Ok(())
+    }
+
+    #[test]
+    fn serves_one_run_at_a_time(rt: HostRuntime) -> Result<(), Fail> {
+        let folder = fresh_folder(&rt, "lock")?;
+        let mut first = FolderKeeper::new(rt.alloc(), rt, folder.as_str())?;
+        let mut second = FolderKeeper::new(rt.alloc(), rt, folder.as_str())?;
+        assert!(rt; !fs::exists(&rt, folder.as_path())?);
+        assert!(rt; first.load(rt.alloc())?.is_none());
+        assert_eq!(rt; second.load(rt.alloc()).err(), Some(GetFail::Failed));
+        assert_eq!(rt; save(rt.alloc(), &mut second, b"second")?, Err(Failed));
+        save(rt.alloc(), &mut first, b"first")??;
+        assert_eq!(rt; (first.faults, second.faults), (0, 2));
+        drop(first);
+        // the record isn't the one that the second run began with
+        assert_eq!(rt; second.load(rt.alloc()).err(), Some(GetFail::Failed));
+        drop(second);
+        let mut third = FolderKeeper::new(rt.alloc(), rt, folder.as_str())?;
+        assert!(rt; third.load(rt.alloc())?.is_some());
+        fs::remove_dir_all(&rt, folder)?;
+        Ok(())
+    }
+
+    #[test]
+    fn fails_where_something_else_lies(rt: HostRuntime) -> Result<(), Fail> {
+        let folder = fresh_folder(&rt, "no_record")?;
+        fs::create_dir_all(&rt, folder.join(rt.alloc(), "cryfs.localstate")?)?;
+        let inner = folder.join(rt.alloc(), "cryfs.localstate/inner")?;
+        fs::write(&rt, inner.as_path(), b"")?;
+        for place in [folder.as_str(), inner.as_str()] {
+            let mut keeper = FolderKeeper::new(rt.alloc(), rt, place)?;
+            assert_eq!(rt; keeper.load(rt.alloc()).err(), Some(GetFail::Failed));
+            assert_eq!(rt; save(rt.alloc(), &mut keeper, b"record")?, Err(Failed));
+            assert_eq!(rt; keeper.faults, 2);
+        }
+        fs::remove_dir_all(&rt, folder)?;
+        Ok(())
     }
 }

@@ -8,7 +8,7 @@ mod folder_keeper;
 mod folder_vault;
 mod stored_file;
 #[cfg(test)]
-mod tests;
+mod test_folders;
 
 pub use folder_keeper::FolderKeeper;
 pub use folder_vault::FolderVault;

@@ -3,7 +3,7 @@ ghost use Rattle.std.specs.Prelude.{◌≡◌, ◌≤◌, length, IfOk, IfSome};
 ghost use Rattle.std.specs.Path.{path_buf_bytes, path_join};
 
 use crate::error::FolderError;
-use crate::files::{create_anew, flush_folder, if_there, open_or_create, read_at_most};
+use crate::files::{create_anew, flush_folder, if_there, read_at_most};
 use std::alloc::{AllocError, Global};
 use std::fs::{self, Files, OpenFile};
 use std::io::{self, Write};
@@ -67,10 +67,5 @@ impl StoredFile {
         if_there(fs::remove_file(files, self.file.as_path()))?;
         if_there(flush_folder(files, self.folder.as_path()))?;
         Ok(())
-    }
-
-    /// The file, open for writing as it is. It and its folder are made where they are missing.
-    pub fn open<R: Files>(&self, files: &R) -> io::Result<R::File> {
-        open_or_create(files, self.folder.as_path(), self.file.as_path())
     }
 }

@@ -1,2 +1,0 @@
-// The adapters over real folders.
-use super::*;
