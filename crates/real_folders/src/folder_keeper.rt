@@ -166,74 +166,84 @@ impl<R: Files<File = File> + Drop> Keeper for FolderKeeper<R> {
 #[cfg(test)]
 mod tests {
     use super::*;
-    use crate::test_folders::fresh_folder;
+    use crate::test_folders::{fresh_folder, holds, is_absent, write};
     use std::fs;
     use std::test::Fail;
 
-    /// Saves this record.
-    fn save<R: Files<File = File> + Drop>(
-        alloc: Global,
-        keeper: &mut FolderKeeper<R>,
-        bytes: &[u8],
-    ) -> Result<Result<(), Failed>, Memory> {
-        keeper.prepare(alloc, bytes.len())?;
-        Ok(keeper.save(bytes))
+    /// Whether a load answers this record.
+    fn gives<K: Keeper>(alloc: Global, keeper: &mut K, want: &str) -> bool {
+        match keeper.load(alloc) {
+            Ok(Some(bytes)) => bytes.as_slice() == want.as_bytes(),
+            _ => false,
+        }
+    }
+
+    /// Whether a load answers that nothing is kept.
+    fn gives_none<K: Keeper>(alloc: Global, keeper: &mut K) -> bool {
+        matches!(keeper.load(alloc), Ok(None))
+    }
+
+    /// Whether this record is saved.
+    fn saves<K: Keeper>(alloc: Global, keeper: &mut K, record: &str) -> bool {
+        keeper.prepare(alloc, record.len()).is_ok() && keeper.save(record.as_bytes()).is_ok()
+    }
+
+    /// Whether loads and saves fail.
+    fn fails<K: Keeper>(alloc: Global, keeper: &mut K) -> bool {
+        keeper.load(alloc).err() == Some(GetFail::Failed) && !saves(alloc, keeper, "record")
     }
 
     #[test]
     fn keeps_what_was_saved_last(rt: HostRuntime) -> Result<(), Fail> {
         let folder = fresh_folder(&rt, "kept")?;
-        let path = folder.join(rt.alloc(), "cryfs.localstate")?;
-        let beside = folder.join(rt.alloc(), "cryfs.localstate.new")?;
-        for (found, saved) in [("", "the first record"), ("the first record", "second")] {
-            let mut keeper = FolderKeeper::new(rt.alloc(), rt, folder.as_str())?;
-            let answer = keeper.load(rt.alloc())?.unwrap_or(Vec::new(rt.alloc()));
-            assert_eq!(rt; answer.as_slice(), found.as_bytes());
-            fs::write(&rt, beside.as_path(), b"what a stop left of another record")?;
-            save(rt.alloc(), &mut keeper, saved.as_bytes())??;
-            assert_eq!(rt; fs::read(&rt, path.as_path())?.as_slice(), saved.as_bytes());
-            assert!(rt; !fs::exists(&rt, beside.as_path())?);
-            let answer = keeper.load(rt.alloc())?.ok_or("nothing")?;
-            assert_eq!(rt; answer.as_slice(), saved.as_bytes());
-            assert_eq!(rt; keeper.faults, 0);
-        }
-        fs::remove_dir_all(&rt, folder)?;
+        let path = folder.as_str();
+        let mut first = FolderKeeper::new(rt.alloc(), rt, path)?;
+        assert!(rt; is_absent(&rt, path, ""));
+        assert!(rt; gives_none(rt.alloc(), &mut first));
+        assert!(rt; saves(rt.alloc(), &mut first, "a long record"));
+        assert!(rt; gives(rt.alloc(), &mut first, "a long record"));
+        write(
+            &rt,
+            path,
+            "cryfs.localstate.new",
+            "what a stop left of another record",
+        )?;
+        assert!(rt; saves(rt.alloc(), &mut first, "short"));
+        assert!(rt; first.faults == 0);
+        assert!(rt; holds(&rt, path, "cryfs.localstate", "short"));
+        assert!(rt; is_absent(&rt, path, "cryfs.localstate.new"));
+        fs::remove_dir_all(&rt, path)?;
         Ok(())
     }
 
     #[test]
     fn serves_one_run_at_a_time(rt: HostRuntime) -> Result<(), Fail> {
         let folder = fresh_folder(&rt, "lock")?;
-        let mut first = FolderKeeper::new(rt.alloc(), rt, folder.as_str())?;
-        let mut second = FolderKeeper::new(rt.alloc(), rt, folder.as_str())?;
-        assert!(rt; !fs::exists(&rt, folder.as_path())?);
-        assert!(rt; first.load(rt.alloc())?.is_none());
-        assert_eq!(rt; second.load(rt.alloc()).err(), Some(GetFail::Failed));
-        assert_eq!(rt; save(rt.alloc(), &mut second, b"second")?, Err(Failed));
-        save(rt.alloc(), &mut first, b"first")??;
-        assert_eq!(rt; (first.faults, second.faults), (0, 2));
+        let path = folder.as_str();
+        let mut first = FolderKeeper::new(rt.alloc(), rt, path)?;
+        let mut second = FolderKeeper::new(rt.alloc(), rt, path)?;
+        assert!(rt; saves(rt.alloc(), &mut first, "first"));
+        assert!(rt; fails(rt.alloc(), &mut second));
         drop(first);
         // the record isn't the one that the second run began with
-        assert_eq!(rt; second.load(rt.alloc()).err(), Some(GetFail::Failed));
+        assert!(rt; second.load(rt.alloc()).is_err());
+        assert!(rt; second.faults == 3);
         drop(second);
-        let mut third = FolderKeeper::new(rt.alloc(), rt, folder.as_str())?;
-        assert!(rt; third.load(rt.alloc())?.is_some());
-        fs::remove_dir_all(&rt, folder)?;
+        let mut third = FolderKeeper::new(rt.alloc(), rt, path)?;
+        assert!(rt; gives(rt.alloc(), &mut third, "first"));
+        fs::remove_dir_all(&rt, path)?;
         Ok(())
     }
 
     #[test]
     fn fails_where_something_else_lies(rt: HostRuntime) -> Result<(), Fail> {
         let folder = fresh_folder(&rt, "no_record")?;
-        fs::create_dir_all(&rt, folder.join(rt.alloc(), "cryfs.localstate")?)?;
-        let inner = folder.join(rt.alloc(), "cryfs.localstate/inner")?;
-        fs::write(&rt, inner.as_path(), b"")?;
-        for place in [folder.as_str(), inner.as_str()] {
-            let mut keeper = FolderKeeper::new(rt.alloc(), rt, place)?;
-            assert_eq!(rt; keeper.load(rt.alloc()).err(), Some(GetFail::Failed));
-            assert_eq!(rt; save(rt.alloc(), &mut keeper, b"record")?, Err(Failed));
-            assert_eq!(rt; keeper.faults, 2);
-        }
+        let record = folder.join(rt.alloc(), "cryfs.localstate")?;
+        fs::create_dir_all(&rt, record.as_path())?;
+        write(&rt, record.as_str(), "inner", "")?;
+        let mut keeper = FolderKeeper::new(rt.alloc(), rt, folder.as_str())?;
+        assert!(rt; fails(rt.alloc(), &mut keeper));
+        assert!(rt; keeper.faults == 2);
         fs::remove_dir_all(&rt, folder)?;
         Ok(())
     }

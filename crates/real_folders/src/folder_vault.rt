@@ -113,57 +113,79 @@ impl<'a, R: Files> Vault for FolderVault<'a, R> {
 #[cfg(test)]
 mod tests {
     use super::*;
-    use crate::test_folders::{CountedFlushes, fresh_folder};
+    use crate::test_folders::{CountedFlushes, fresh_folder, holds, is_absent, write};
     use block_id::BlockId;
     use std::cell::Cell;
+    use std::fs;
     use std::os::unix::fs::symlink;
-    use std::path::PathBuf;
     use std::test::Fail;
-    use std::{fs, io};
 
     const ONE: FileName = FileName::Block(BlockId([
         0, 0, 0, 0, 0, 0, 0, 0, 0, 0, 0, 0, 0, 0, 0, 1,
     ]));
 
-    /// The path of a file in the folder.
-    fn below(rt: &HostRuntime, folder: &PathBuf, name: &str) -> io::Result<PathBuf> {
-        Ok(folder.join(rt.alloc(), name)?)
+    const ONE_PATH: &str = "000/00000000000000000000000000001";
+
+    /// Whether a get answers these bytes.
+    fn gives<V: Vault>(
+        alloc: Global,
+        vault: &mut V,
+        name: &FileName,
+        max: usize,
+        want: &str,
+    ) -> bool {
+        match vault.get(alloc, name, max) {
+            Ok(Some(bytes)) => bytes.as_slice() == want.as_bytes(),
+            _ => false,
+        }
+    }
+
+    /// Whether a get answers that the file isn't there.
+    fn gives_none<V: Vault>(alloc: Global, vault: &mut V, name: &FileName) -> bool {
+        matches!(vault.get(alloc, name, 9), Ok(None))
+    }
+
+    /// Whether every call on this file fails.
+    fn fails<V: Vault>(alloc: Global, vault: &mut V, name: &FileName) -> bool {
+        vault.get(alloc, name, 9).err() == Some(GetFail::Failed)
+            && vault.put(alloc, name, b"bytes") == Err(GetFail::Failed)
+            && vault.remove(alloc, name) == Err(GetFail::Failed)
     }
 
     #[test]
     fn keeps_files_under_their_names(rt: HostRuntime) -> Result<(), Fail> {
         let folder = fresh_folder(&rt, "names")?;
-        let config = below(&rt, &folder, "cryfs.config")?;
-        let block = below(&rt, &folder, "000/00000000000000000000000000001")?;
-        let mut vault = FolderVault::new(rt, folder.as_str());
-        assert!(rt; vault.get(rt.alloc(), &ONE, 9)?.is_none());
-        vault.remove(rt.alloc(), &ONE)?;
-        assert!(rt; !fs::exists(&rt, folder.as_path())?);
+        let path = folder.as_str();
+        let mut vault = FolderVault::new(rt, path);
+        assert!(rt; gives_none(rt.alloc(), &mut vault, &ONE));
+        assert!(rt; is_absent(&rt, path, ""));
         vault.put(rt.alloc(), &FileName::Config, b"config")?;
+        assert!(rt; holds(&rt, path, "cryfs.config", "config"));
         vault.put(rt.alloc(), &ONE, b"a long block")?;
-        assert_eq!(rt; fs::read(&rt, config)?.as_slice(), b"config".as_slice());
-        assert_eq!(rt;
-            fs::read(&rt, block.as_path())?.as_slice(),
-            b"a long block".as_slice()
-        );
-        for (max, want) in [
-            (0, ""),
-            (4, "a lo"),
-            (12, "a long block"),
-            (99, "a long block"),
-        ] {
-            let answer = vault.get(rt.alloc(), &ONE, max)?.ok_or("nothing")?;
-            assert_eq!(rt; answer.as_slice(), want.as_bytes(), "at most {max}");
-        }
+        assert!(rt; holds(&rt, path, ONE_PATH, "a long block"));
         vault.put(rt.alloc(), &ONE, b"short")?;
-        assert_eq!(rt;
-            fs::read(&rt, block.as_path())?.as_slice(),
-            b"short".as_slice()
-        );
+        assert!(rt; holds(&rt, path, ONE_PATH, "short"));
+        for (max, want) in [(0, ""), (4, "shor"), (5, "short"), (99, "short")] {
+            assert!(rt;
+                gives(rt.alloc(), &mut vault, &ONE, max, want),
+                "at most {max}"
+            );
+        }
+        fs::remove_dir_all(&rt, path)?;
+        Ok(())
+    }
+
+    #[test]
+    fn removes_a_file_once_or_more(rt: HostRuntime) -> Result<(), Fail> {
+        let folder = fresh_folder(&rt, "removed")?;
+        let mut vault = FolderVault::new(rt, folder.as_str());
+        vault.remove(rt.alloc(), &ONE)?;
+        vault.put(rt.alloc(), &ONE, b"block")?;
         vault.remove(rt.alloc(), &ONE)?;
         vault.remove(rt.alloc(), &ONE)?;
-        assert!(rt; vault.get(rt.alloc(), &ONE, 9)?.is_none());
-        assert_eq!(rt; vault.faults, 0);
+        assert!(rt; gives_none(rt.alloc(), &mut vault, &ONE));
+        assert!(rt; is_absent(&rt, folder.as_str(), ONE_PATH));
+        assert!(rt; vault.faults == 0);
         fs::remove_dir_all(&rt, folder)?;
         Ok(())
     }
@@ -171,72 +193,74 @@ mod tests {
     #[test]
     fn fails_where_something_else_lies(rt: HostRuntime) -> Result<(), Fail> {
         let folder = fresh_folder(&rt, "others")?;
-        let mut vault = FolderVault::new(rt, folder.as_str());
-        fs::create_dir_all(&rt, below(&rt, &folder, "cryfs.config")?)?;
-        fs::write(&rt, below(&rt, &folder, "000")?, b"")?;
-        for name in [FileName::Config, ONE] {
-            assert_eq!(rt;
-                vault.get(rt.alloc(), &name, 9).err(),
-                Some(GetFail::Failed)
-            );
-            assert_eq!(rt; vault.put(rt.alloc(), &name, b"x"), Err(GetFail::Failed));
-            assert_eq!(rt; vault.remove(rt.alloc(), &name), Err(GetFail::Failed));
-        }
-        assert_eq!(rt; vault.faults, 6);
-        assert!(rt; !fs::exists(&rt, below(&rt, &folder, "cryfs.config.new")?)?);
-        fs::remove_dir_all(&rt, folder)?;
+        let path = folder.as_str();
+        let mut vault = FolderVault::new(rt, path);
+        fs::create_dir_all(&rt, folder.join(rt.alloc(), "cryfs.config")?)?;
+        assert!(rt; fails(rt.alloc(), &mut vault, &FileName::Config));
+        assert!(rt; is_absent(&rt, path, "cryfs.config.new"));
+        write(&rt, path, "000", "")?;
+        assert!(rt; fails(rt.alloc(), &mut vault, &ONE));
+        assert!(rt; vault.faults == 6);
+        fs::remove_dir_all(&rt, path)?;
         Ok(())
     }
 
     #[test]
-    fn replaces_what_a_stop_left_and_follows_no_link(rt: HostRuntime) -> Result<(), Fail> {
+    fn replaces_what_a_stop_left(rt: HostRuntime) -> Result<(), Fail> {
         let folder = fresh_folder(&rt, "stopped")?;
-        let beside = below(&rt, &folder, "cryfs.config.new")?;
-        let other = below(&rt, &folder, "other")?;
-        let mut vault = FolderVault::new(rt, folder.as_str());
+        let path = folder.as_str();
+        let mut vault = FolderVault::new(rt, path);
         vault.put(rt.alloc(), &FileName::Config, b"first")?;
-        fs::write(&rt, beside.as_path(), b"half of a longer te")?;
+        write(&rt, path, "cryfs.config.new", "half of a longer te")?;
+        assert!(rt; gives(rt.alloc(), &mut vault, &FileName::Config, 99, "first"));
         vault.put(rt.alloc(), &FileName::Config, b"second")?;
-        fs::write(&rt, other.as_path(), b"other")?;
-        symlink(&rt, other.as_path(), beside.as_path())?;
-        let answer = vault
-            .get(rt.alloc(), &FileName::Config, 99)?
-            .ok_or("nothing")?;
-        assert_eq!(rt; answer.as_slice(), b"second".as_slice());
-        vault.put(rt.alloc(), &FileName::Config, b"third")?;
-        assert_eq!(rt; fs::read(&rt, other)?.as_slice(), b"other".as_slice());
-        assert!(rt; !fs::exists(&rt, beside)?);
-        fs::remove_dir_all(&rt, folder)?;
+        assert!(rt; gives(rt.alloc(), &mut vault, &FileName::Config, 99, "second"));
+        assert!(rt; is_absent(&rt, path, "cryfs.config.new"));
+        fs::remove_dir_all(&rt, path)?;
         Ok(())
     }
 
+    #[test]
+    fn follows_no_link_that_lies_beside(rt: HostRuntime) -> Result<(), Fail> {
+        let folder = fresh_folder(&rt, "link")?;
+        let path = folder.as_str();
+        let mut vault = FolderVault::new(rt, path);
+        fs::create_dir_all(&rt, path)?;
+        write(&rt, path, "other", "other")?;
+        symlink(&rt, "other", folder.join(rt.alloc(), "cryfs.config.new")?)?;
+        vault.put(rt.alloc(), &FileName::Config, b"config")?;
+        assert!(rt; holds(&rt, path, "cryfs.config", "config"));
+        assert!(rt; holds(&rt, path, "other", "other"));
+        fs::remove_dir_all(&rt, path)?;
+        Ok(())
+    }
+
+    /// A put and a removal that fail where so many flushes succeed, and what isn't there after them.
     #[test]
     fn answers_ok_only_after_its_flushes(rt: HostRuntime) -> Result<(), Fail> {
         let folder = fresh_folder(&rt, "flushes")?;
-        let block_folder = below(&rt, &folder, "000")?;
-        let block = below(&rt, &block_folder, "00000000000000000000000000001")?;
+        let path = folder.as_str();
         let left = Cell::new(0);
         let host = CountedFlushes {
             host: rt,
             left: &left,
         };
-        let mut vault = FolderVault::new(host, folder.as_str());
-        // a folder whose name can't be flushed is taken away again, and so is a file whose bytes can't
-        for (flushes, path) in [(0, &folder), (1, &block_folder), (1, &block)] {
+        let mut vault = FolderVault::new(host, path);
+        for (flushes, absent) in [(0, ""), (1, "000"), (1, ONE_PATH), (1, "cryfs.config")] {
             left.set(flushes);
-            assert_eq!(rt; vault.put(rt.alloc(), &ONE, b"bytes"), Err(GetFail::Failed));
-            assert!(rt; !fs::exists(&rt, path.as_path())?, "after {flushes}");
+            assert!(rt;
+                vault.put(rt.alloc(), &ONE, b"bytes").is_err(),
+                "with {flushes}"
+            );
+            assert!(rt; is_absent(&rt, path, absent), "with {flushes}");
         }
-        left.set(1);
-        assert_eq!(rt; vault.put(rt.alloc(), &ONE, b"bytes"), Err(GetFail::Failed));
         left.set(2);
         vault.put(rt.alloc(), &ONE, b"bytes")?;
-        assert_eq!(rt; left.get(), 0);
-        assert_eq!(rt; vault.remove(rt.alloc(), &ONE), Err(GetFail::Failed));
+        assert!(rt; vault.remove(rt.alloc(), &ONE).is_err());
         left.set(1);
         vault.remove(rt.alloc(), &ONE)?;
-        assert_eq!(rt; left.get(), 0);
-        fs::remove_dir_all(&rt, folder)?;
+        assert!(rt; left.get() == 0);
+        fs::remove_dir_all(&rt, path)?;
         Ok(())
     }
 }
