@@ -1,8 +1,4 @@
 pub mod Counting
-pub mod Cutting
-pub mod Flow
-pub mod Pieces
-pub mod Progress
 pub mod Serving
 pub mod Steps
 pub mod Tried

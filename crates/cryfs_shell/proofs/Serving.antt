@@ -4,10 +4,11 @@ use Rattle.std.specs.declared.option.Option.{Option}
 use Rattle.std.specs.declared.option.Option.TheVariants.{None, Some}
 use Rattle.outside.specs.Causes.{RoseBy}
 use Rattle.outside.specs.Streams.{appends, Ends}
-use Rattle.cryfs_shell.specs.Lines.{lines}
-use Rattle.cryfs_shell.specs.Reading.{Line, total}
-use Rattle.cryfs_shell.specs.Turns.{in_order, joined, BeginWith, Are, Cut, CutLast, Failed, TookMost}
-use Rattle.cryfs_shell.proofs.Flow.{appends-append}
+use Rattle.line_io.specs.Lines.{lines}
+use Rattle.line_io.specs.Reading.{Line, total}
+use Rattle.line_io.specs.Streams.{Cut, Failed, TookMost}
+use Rattle.cryfs_shell.specs.Turns.{in_order, joined, BeginWith, Are, CutLast}
+use Rattle.line_io.proofs.Flow.{appends-append}
 
 -- the bytes are these lines and what is left, where they are told
 abbrev pub After : Option (List ℕ) → List (List ℕ) → Option (List ℕ) → Type 0

@@ -5,13 +5,14 @@ use Rattle.fs_model.specs.Instant.{Instant}
 use Rattle.fs_model.specs.Tree.{Tree, empty_tree}
 use Rattle.cryfs_shell.specs.declared.serve.End.{End}
 use Rattle.cryfs_shell.specs.declared.serve.End.TheVariants.{Finished, InputFault, OutputFault}
-use Rattle.cryfs_shell.specs.declared.status.Status.{Status}
+use Rattle.cryfs_setup.specs.declared.status.Status.{Status}
 use Rattle.cryfs_shell.specs.declared.trial.Trial.{Trial}
-use Rattle.cryfs_shell.specs.Reading.{Reading, coming, fresh}
+use Rattle.line_io.specs.Reading.{Reading, coming, fresh}
 use Rattle.cryfs_shell.specs.Trials.{Entry, exchanges, lines_of, texts_of, IsSession}
-use Rattle.cryfs_shell.specs.Turns.{turn_lines, turn_texts, Stream, EndsAs, Served}
+use Rattle.line_io.specs.Streams.{Stream}
+use Rattle.cryfs_shell.specs.Turns.{turn_lines, turn_texts, EndsAs, Served}
 use Rattle.cryfs_shell.specs.Runs.{IsTrial, Tried, status_of}
-use Rattle.cryfs_shell.proofs.Flow.{coming-nil}
+use Rattle.line_io.proofs.Flow.{coming-nil}
 use Rattle.cryfs_shell.proofs.Trying.{answers_line, Entries, went_entries}
 
 trial_of : (now : Instant) (input output : Stream) (entries : List Entry) (trees : List Tree) (end : End) → IsSession now empty_tree (exchanges entries) trees

@@ -17,7 +17,7 @@ use Rattle.script_text.specs.Texts.{text_of}
 use Rattle.script_text.proofs.Lines.{command_of-long}
 use Rattle.script_text.proofs.Shorts.{length-text_of-Done}
 use Rattle.workload.specs.Generated.{generated_of}
-use Rattle.cryfs_shell.specs.Lines.{kept}
+use Rattle.line_io.specs.Lines.{kept}
 use Rattle.cryfs_shell.specs.Trials.{replied, Follows, AnswersLine, Entry, exchanges, lines_of, texts_of, IsSession, latest}
 use Rattle.cryfs_shell.specs.Summaries.{read_len}
 use Rattle.cryfs_shell.specs.Turns.{Turn, turn_lines, turn_texts, Went}

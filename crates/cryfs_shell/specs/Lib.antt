@@ -1,7 +1,4 @@
-pub mod Lines
-pub mod Reading
 pub mod Turns
-pub mod Statuses
 pub mod Trials
 pub mod Summaries
 pub mod Forms

@@ -6,12 +6,13 @@ use Rattle.outside.specs.Streams.{appends, Ends}
 use Rattle.workload.specs.Generated.{generated_of}
 use Rattle.cryfs_shell.specs.Trials.{Entry, Exchange, exchanges, lines_of, texts_of, IsSession}
 use Rattle.cryfs_shell.specs.Summaries.{summary_of, text_of_summary}
-use Rattle.cryfs_shell.specs.Turns.{Stream, Failed, TookMost, Are, BeginWith, Cut, CutLast, joined}
+use Rattle.line_io.specs.Streams.{Stream, Failed, TookMost, Cut}
+use Rattle.cryfs_shell.specs.Turns.{Are, BeginWith, CutLast, joined}
 use Rattle.cryfs_shell.specs.declared.trial.TrialAnswer.{TrialAnswer}
 use Rattle.cryfs_shell.specs.declared.serve.End.{End}
 use Rattle.cryfs_shell.specs.declared.serve.End.TheVariants.{Finished, InputFault as InputEnd, OutputFault as OutputEnd}
-use Rattle.cryfs_shell.specs.declared.status.Status.{Status}
-use Rattle.cryfs_shell.specs.declared.status.Status.TheVariants.{Done, InputFault, OutputFault, Memory}
+use Rattle.cryfs_setup.specs.declared.status.Status.{Status}
+use Rattle.cryfs_setup.specs.declared.status.Status.TheVariants.{Done, InputFault, OutputFault, Memory}
 
 -- the status of lines that ended so
 abbrev pub status_of : End → Status
@@ -68,7 +69,3 @@ pub record IsGenerated (now : Instant) (count : ℕ) (output : Stream) (status :
 abbrev pub Generated : Instant → ℕ → Stream → Status → Type 0
 Generated now count output status =
     (answers : List TrialAnswer) × (trees : List Tree) × IsGenerated now count output status answers trees
-
--- nothing was read
-abbrev pub Untouched : Stream → Type 0
-Untouched s = (s.new ≡ s.old) × (s.risen ≡ s.faults)

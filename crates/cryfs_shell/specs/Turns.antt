@@ -1,11 +1,10 @@
 -- Lines and the texts of their answers. The newest stands first.
-use Rattle.std.specs.Prelude.{◌≡◌, ◌⊎◌, ℕ, ◌^◌, List, [], ◌∷◌, ◌++◌}
+use Rattle.std.specs.Prelude.{◌≡◌, ◌⊎◌, ℕ, List, [], ◌∷◌, ◌++◌}
 use Rattle.std.specs.declared.option.Option.{Option}
 use Rattle.std.specs.declared.option.Option.TheVariants.{None, Some}
 use Rattle.outside.specs.Streams.{appends, Ends}
-use Rattle.outside.specs.Causes.{RoseBy}
-use Rattle.cryfs_shell.specs.Lines.{lines}
-use Rattle.cryfs_shell.specs.Reading.{total}
+use Rattle.line_io.specs.Lines.{lines}
+use Rattle.line_io.specs.Streams.{Stream, Failed, TookMost, Cut}
 use Rattle.cryfs_shell.specs.declared.serve.End.{End}
 use Rattle.cryfs_shell.specs.declared.serve.End.TheVariants.{Finished, InputFault, OutputFault}
 
@@ -47,29 +46,10 @@ abbrev pub Are : Option (List ℕ) → List (List ℕ) → Type 0
 Are None all = Unit {0}
 Are (Some bytes) all = lines bytes ≡ in_order all
 
--- a part of the text from its front was written
-abbrev pub Cut : Option (List ℕ) → Option (List ℕ) → List ℕ → Type 0
-Cut old new text = (part : List ℕ) × (rest : List ℕ) × (text ≡ part ++ rest) × (new ≡ appends old part)
-
 -- all texts were written, but of the last perhaps only a part from its front
 abbrev pub CutLast : Option (List ℕ) → Option (List ℕ) → List (List ℕ) → Type 0
 CutLast old new [] = ⊥
 CutLast old new (last ∷ rest) = Cut (appends old (joined rest)) new last
-
--- a stream before a call and after it: its bytes where they are told, and its count of faults
-pub record Stream : Type 0 where
-  pub old : Option (List ℕ)
-  pub new : Option (List ℕ)
-  pub faults : ℕ
-  pub risen : ℕ
-
--- the count of faults rose
-abbrev pub Failed : Stream → Type 0
-Failed s = RoseBy 1 s.faults s.risen
-
--- 2^63 bytes were taken, where they are told
-abbrev pub TookMost : ℕ → Stream → Type 0
-TookMost taken s = total (2 ^ 63) s.new ≡ total taken s.old
 
 -- which lines were answered and what was written, by the way in which it ended
 abbrev pub EndsAs : ℕ → Option (List ℕ) → Stream → Stream → List (List ℕ) → List (List ℕ) → End → Type 0

@@ -1,18 +1,21 @@
 //! The program's top call: words, lines and answers.
 #![tactic(auto)]
 
-mod line_buffer;
 mod program;
-mod reader;
 mod serve;
-mod status;
+#[cfg(test)]
+mod setup_tests;
 mod summary;
+#[cfg(test)]
+mod test_files;
+#[cfg(test)]
+mod test_random;
 #[cfg(test)]
 mod tests;
 mod text_buffer;
 mod trial;
 mod words;
 
-pub use program::run;
-pub use script_text::MAX_LINE;
-pub use status::Status;
+pub use cryfs_setup::Status;
+pub use line_io::MAX_LINE;
+pub use program::{Ended, run};

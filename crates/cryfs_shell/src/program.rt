@@ -1,53 +1,147 @@
 // The top call.
-ghost use Rattle.std.specs.Prelude.{◌≡◌, ◌≤◌, ◌↔◌, ℕ, List, [], ◌∷◌, length, map, IsNone};
+ghost use Rattle.std.specs.Prelude.{◌≡◌, ◌⊎◌, ◌≤◌, ℕ, false, List, [], ◌∷◌, length, map, IsNone};
 ghost use Rattle.std.specs.declared.option.Option.TheVariants.{None, Some};
 ghost use Rattle.std.specs.String.{string_bytes};
 ghost use Rattle.fs_model.specs.Tree.{Tree, empty_tree};
 ghost use Rattle.fs_model.specs.Step.{step};
 ghost use Rattle.workload.specs.Generated.{generated_of};
-ghost use Rattle.cryfs_shell.specs.Forms.{form_of};
+ghost use Rattle.create_options.specs.declared.options.CreateOptions.{CreateOptions};
+ghost use Rattle.line_io.specs.Streams.{stream_of, Untouched};
+ghost use Rattle.cryfs_setup.specs.Create.{Created};
+ghost use Rattle.cryfs_setup.specs.Info.{Told};
+ghost use Rattle.cryfs_shell.specs.Forms.{form_of, is_create, IsRefused};
 ghost use Rattle.cryfs_shell.specs.Trials.{Follows, IsSession};
 ghost use Rattle.cryfs_shell.specs.Summaries.{summary_of, counts_of, read_len};
-ghost use Rattle.cryfs_shell.specs.Runs.{Tried, Generated, Untouched, generated, status_of};
+ghost use Rattle.cryfs_shell.specs.Runs.{Tried, Generated, generated, status_of};
+ghost use Rattle.cryfs_setup.specs.Directories.{directory_of};
 
-use crate::reader::LineReader;
-use crate::serve::{End, serve, write_all};
-use crate::status::Status;
+use crate::serve::{End, serve};
 use crate::summary::Summary;
 use crate::text_buffer::TextBuffer;
 use crate::trial::{Trial, TrialAnswer};
 use crate::words::{Form, read_form};
 use block_id::{Failed, Memory};
+use cryfs_setup::{Status, run_create, run_info};
 use fs_model::Moment;
-use outside::{Sink, Source};
+use line_io::{LineReader, write_all};
+use outside::{Keeper, Sink, Source, Vault};
 use plain_tree::PlainTree;
+use rand_core::Rng;
 use std::alloc::Global;
 
-/// Runs the program with these words, at this moment, from this input to this output.
-pub fn run<I: Source, O: Sink>(
+/// How a run ended, with the block directory and the local record that it was given.
+#[derive(Drop)]
+pub struct Ended<V, K> {
+    pub status: Status,
+    pub vault: V,
+    pub keeper: K,
+}
+
+/// Runs the program with these words, at this moment, from this input to this output, over this block directory and
+/// this local record, and with these random bytes.
+pub fn run<I: Source, O: Sink, V: Vault, K: Keeper, R: Rng>(
     alloc: Global,
     words: &[String],
     now: Moment,
     input: &mut I,
     output: &mut O,
-) -> Status
-    ensures usage { result ≡ Status.Usage ↔ form_of (map string_bytes words.now) ≡ None }
-    ensures untouched { result ≡ Status.Usage
-        → Untouched (record { old = I.rest input.old; new = I.rest input.new; faults = I.faults input.old; risen = I.faults input.new })
-        × Untouched (record { old = O.written output.old; new = O.written output.new; faults = O.faults output.old; risen = O.faults output.new }) }
+    vault: V,
+    keeper: K,
+    chance: &mut R,
+) -> Ended<V, K>
+    ensures usage { result.status ≡ Status.Usage → form_of (map string_bytes words.now) ≡ None }
+    ensures refused { form_of (map string_bytes words.now) ≡ None → IsRefused (map string_bytes words.now) result.status }
+    ensures untouched { form_of (map string_bytes words.now) ≡ None
+        → Untouched (stream_of I.rest I.faults input.old input.new)
+        × Untouched (stream_of O.written O.faults output.old output.new)
+        × (result.vault ≡ vault) × (R.stream chance.new ≡ R.stream chance.old) }
+    ensures keeper { result.keeper ≡ keeper }
     ensures trial { form_of (map string_bytes words.now) ≡ Some Form.Trial → Tried now
-        (record { old = I.rest input.old; new = I.rest input.new; faults = I.faults input.old; risen = I.faults input.new })
-        (record { old = O.written output.old; new = O.written output.new; faults = O.faults output.old; risen = O.faults output.new }) result }
+        (stream_of I.rest I.faults input.old input.new)
+        (stream_of O.written O.faults output.old output.new) result.status
+        × (result.vault ≡ vault) }
     ensures generate { (count : ℕ) → form_of (map string_bytes words.now) ≡ Some (Form.Generate count)
-        → Generated now count (record { old = O.written output.old; new = O.written output.new; faults = O.faults output.old; risen = O.faults output.new }) result
-        × Untouched (record { old = I.rest input.old; new = I.rest input.new; faults = I.faults input.old; risen = I.faults input.new }) }
+        → Generated now count (stream_of O.written O.faults output.old output.new) result.status
+        × Untouched (stream_of I.rest I.faults input.old input.new)
+        × (result.vault ≡ vault) }
+    ensures created { (options : CreateOptions) → form_of (map string_bytes words.now) ≡ Some (Form.Create options)
+        → Created options.params options.block_size (R.stream chance.old) (R.stream chance.new)
+        (stream_of I.rest I.faults input.old input.new)
+        (stream_of O.written O.faults output.old output.new)
+        (directory_of V.trace V.faults vault result.vault) result.status }
+    ensures told { form_of (map string_bytes words.now) ≡ Some Form.Info → Told
+        (stream_of I.rest I.faults input.old input.new)
+        (stream_of O.written O.faults output.old output.new)
+        (directory_of V.trace V.faults vault result.vault) result.status }
+    ensures uncalled { (result.status ≡ Status.LongPassword) ⊎ (result.status ≡ Status.InputFault) → result.vault ≡ vault }
+    ensures undrawn { is_create (map string_bytes words.now) ≡ false → R.stream chance.new ≡ R.stream chance.old }
     ensures input_grows { I.faults input.old ≤ I.faults input.new }
     ensures output_grows { O.faults output.old ≤ O.faults output.new }
+    ensures vault_grows { V.faults vault ≤ V.faults result.vault }
 {
-    match read_form(words) {
-        None => Status::Usage,
-        Some(Form::Trial) => try_lines(alloc, now, input, output),
-        Some(Form::Generate(count)) => generate(alloc, now, count, output),
+    let mut vault = vault;
+    let status = run_words(alloc, words, now, input, output, &mut vault, chance);
+    Ended {
+        status,
+        vault,
+        keeper,
+    }
+}
+
+/// Runs what the words ask for.
+fn run_words<I: Source, O: Sink, V: Vault, R: Rng>(
+    alloc: Global,
+    words: &[String],
+    now: Moment,
+    input: &mut I,
+    output: &mut O,
+    vault: &mut V,
+    chance: &mut R,
+) -> Status
+    ensures usage { result ≡ Status.Usage → form_of (map string_bytes words.now) ≡ None }
+    ensures refused { form_of (map string_bytes words.now) ≡ None → IsRefused (map string_bytes words.now) result }
+    ensures untouched { form_of (map string_bytes words.now) ≡ None
+        → Untouched (stream_of I.rest I.faults input.old input.new)
+        × Untouched (stream_of O.written O.faults output.old output.new)
+        × (vault.new ≡ vault.old) × (R.stream chance.new ≡ R.stream chance.old) }
+    ensures trial { form_of (map string_bytes words.now) ≡ Some Form.Trial → Tried now
+        (stream_of I.rest I.faults input.old input.new)
+        (stream_of O.written O.faults output.old output.new) result
+        × (vault.new ≡ vault.old) }
+    ensures generate { (count : ℕ) → form_of (map string_bytes words.now) ≡ Some (Form.Generate count)
+        → Generated now count (stream_of O.written O.faults output.old output.new) result
+        × Untouched (stream_of I.rest I.faults input.old input.new)
+        × (vault.new ≡ vault.old) }
+    ensures created { (options : CreateOptions) → form_of (map string_bytes words.now) ≡ Some (Form.Create options)
+        → Created options.params options.block_size (R.stream chance.old) (R.stream chance.new)
+        (stream_of I.rest I.faults input.old input.new)
+        (stream_of O.written O.faults output.old output.new)
+        (directory_of V.trace V.faults vault.old vault.new) result }
+    ensures told { form_of (map string_bytes words.now) ≡ Some Form.Info → Told
+        (stream_of I.rest I.faults input.old input.new)
+        (stream_of O.written O.faults output.old output.new)
+        (directory_of V.trace V.faults vault.old vault.new) result }
+    ensures uncalled { (result ≡ Status.LongPassword) ⊎ (result ≡ Status.InputFault) → vault.new ≡ vault.old }
+    ensures undrawn { is_create (map string_bytes words.now) ≡ false → R.stream chance.new ≡ R.stream chance.old }
+    ensures input_grows { I.faults input.old ≤ I.faults input.new }
+    ensures output_grows { O.faults output.old ≤ O.faults output.new }
+    ensures vault_grows { V.faults vault.old ≤ V.faults vault.new }
+{
+    match read_form(alloc, words) {
+        Err(Memory) => Status::Memory,
+        Ok(None) => Status::Usage,
+        Ok(Some(Form::Trial)) => try_lines(alloc, now, input, output),
+        Ok(Some(Form::Generate(count))) => generate(alloc, now, count, output),
+        Ok(Some(Form::Create(options))) => run_create(
+            alloc,
+            &options.params,
+            options.block_size,
+            input,
+            output,
+            vault,
+            chance,
+        ),
+        Ok(Some(Form::Info)) => run_info(alloc, input, output, vault),
     }
 }
 
@@ -59,8 +153,8 @@ fn try_lines<I: Source, O: Sink>(
     output: &mut O,
 ) -> Status
     ensures tried { Tried now
-        (record { old = I.rest input.old; new = I.rest input.new; faults = I.faults input.old; risen = I.faults input.new })
-        (record { old = O.written output.old; new = O.written output.new; faults = O.faults output.old; risen = O.faults output.new }) result }
+        (stream_of I.rest I.faults input.old input.new)
+        (stream_of O.written O.faults output.old output.new) result }
     ensures input_grows { I.faults input.old ≤ I.faults input.new }
     ensures output_grows { O.faults output.old ≤ O.faults output.new }
 {
@@ -90,7 +184,7 @@ fn status_of(end: End) -> Status
 /// So many generated commands on a new plain tree, and their summary.
 fn generate<O: Sink>(alloc: Global, now: Moment, count: u64, output: &mut O) -> Status
     requires { count ≤ 1000000 }
-    ensures generated { Generated now count (record { old = O.written output.old; new = O.written output.new; faults = O.faults output.old; risen = O.faults output.new }) result }
+    ensures generated { Generated now count (stream_of O.written O.faults output.old output.new) result }
     ensures output_grows { O.faults output.old ≤ O.faults output.new }
 {
     let summary = summarize(alloc, now, count);

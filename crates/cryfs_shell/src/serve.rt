@@ -5,13 +5,14 @@ ghost use Rattle.std.specs.declared.option.Option.TheVariants.{Some, None};
 ghost use Rattle.std.specs.Option.{option_copied};
 ghost use Rattle.outside.specs.Causes.{RoseBy};
 ghost use Rattle.outside.specs.Streams.{appends, Ends};
-ghost use Rattle.cryfs_shell.specs.Lines.{kept};
-ghost use Rattle.cryfs_shell.specs.Reading.{coming};
-ghost use Rattle.cryfs_shell.specs.Turns.{Cut, Served};
+ghost use Rattle.line_io.specs.Lines.{kept};
+ghost use Rattle.line_io.specs.Reading.{coming};
+ghost use Rattle.cryfs_shell.specs.Turns.{Served};
+ghost use Rattle.line_io.specs.Streams.{stream_of};
 
-use crate::reader::LineReader;
 use crate::text_buffer::TextBuffer;
 use block_id::Failed;
+use line_io::{LineReader, write_all};
 use outside::{Sink, Source};
 use std::alloc::Global;
 
@@ -36,23 +37,6 @@ pub trait Session {
         ensures { (whole : List ℕ) → option_copied line.entry ≡ kept whole → answers self.old whole text.new self.new };
 }
 
-/// Writes a whole text.
-pub fn write_all<O: Sink>(output: &mut O, text: &[u8]) -> Result<(), Failed>
-    ensures ok { OnOk result (O.written output.new ≡ appends (O.written output.old) text.now) }
-    ensures err { OnErr result (Cut (O.written output.old) (O.written output.new) text.now) }
-    ensures grows { O.faults output.old ≤ O.faults output.new }
-    ensures cause { OnErr result (RoseBy 1 (O.faults output.old) (O.faults output.new)) }
-{
-    let mut rest = text;
-    while !rest.is_empty() {
-        match output.write(rest) {
-            Ok(n) => rest = &rest[n..],
-            Err(Failed) => return Err(Failed),
-        }
-    }
-    Ok(())
-}
-
 /// Answers each line before it takes the next.
 pub fn serve<I: Source, O: Sink, S: Session>(
     alloc: Global,
@@ -64,8 +48,8 @@ pub fn serve<I: Source, O: Sink, S: Session>(
 ) -> End
     requires { reader.old.ended ≡ true → Ends (coming reader.old.ahead (I.rest input.old)) }
     ensures served { Served S.answers session.old session.new reader.old.taken (coming reader.old.ahead (I.rest input.old))
-        (record { old = I.rest input.old; new = I.rest input.new; faults = I.faults input.old; risen = I.faults input.new })
-        (record { old = O.written output.old; new = O.written output.new; faults = O.faults output.old; risen = O.faults output.new }) result }
+        (stream_of I.rest I.faults input.old input.new)
+        (stream_of O.written O.faults output.old output.new) result }
     ensures input_grows { I.faults input.old ≤ I.faults input.new }
     ensures output_grows { O.faults output.old ≤ O.faults output.new }
 {

@@ -1,8 +1,9 @@
 // Whole runs over streams in memory.
 
+use crate::test_random::Zeros;
 use crate::{Status, run};
 use fs_model::Moment;
-use outside::{MemorySink, MemorySource};
+use outside::{MemoryKeeper, MemorySink, MemorySource, MemoryVault};
 use std::alloc::{AllocError, Global};
 use std::test::Fail;
 
@@ -46,8 +47,17 @@ fn outcome(alloc: Global, case: &Case<'_>, piece: usize) -> Result<(Vec<u8>, Sta
     let Ok(mut sink) = MemorySink::new(alloc, step, 65_536, case.writes.to_vec(alloc)?) else {
         return Err(AllocError);
     };
-    let status = run(alloc, &words, now, &mut source, &mut sink);
-    Ok((sink.written().to_vec(alloc)?, status))
+    let ended = run(
+        alloc,
+        &words,
+        now,
+        &mut source,
+        &mut sink,
+        MemoryVault::new(alloc),
+        MemoryKeeper::new(alloc, None, Vec::new(alloc)),
+        &mut Zeros,
+    );
+    Ok((sink.written().to_vec(alloc)?, ended.status))
 }
 
 fn holds(alloc: Global, case: &Case<'_>, piece: usize) -> Result<bool, AllocError> {

@@ -2,7 +2,7 @@
 ghost use Rattle.std.specs.Prelude.{◌≡◌, ◌≤◌, List, ℕ, IfOk, OnErr, Ok, Err};
 ghost use Rattle.std.specs.declared.option.Option.{Option};
 ghost use Rattle.std.specs.Option.{option_copied};
-ghost use Rattle.cryfs_shell.specs.Lines.{kept};
+ghost use Rattle.line_io.specs.Lines.{kept};
 ghost use Rattle.script_text.specs.Grammar.{command_of};
 
 use crate::serve::Session;

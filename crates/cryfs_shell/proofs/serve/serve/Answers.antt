@@ -1,7 +1,8 @@
 use Rattle.std.proofs.Common.{List, ℕ, ◌∷◌, [], refl, ap, ◌∙◌, arith, subst}
 use Rattle.outside.specs.Streams.{appends}
-use Rattle.cryfs_shell.specs.Turns.{Cut, turn_lines, turn_texts}
-use Rattle.cryfs_shell.proofs.Flow.{appends-nil}
+use Rattle.line_io.specs.Streams.{Cut}
+use Rattle.cryfs_shell.specs.Turns.{turn_lines, turn_texts}
+use Rattle.line_io.proofs.Flow.{appends-nil}
 use Rattle.cryfs_shell.proofs.Serving.{After-none, After-line, After-begins, wrote_more, cut_last}
 use Rattle.cryfs_shell.proofs.serve.serve.Goals as goal
 

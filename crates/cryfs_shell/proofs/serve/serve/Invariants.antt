@@ -1,6 +1,6 @@
 use Rattle.std.proofs.Common.{◌≡◌, ◌≤◌, List, true}
 use Rattle.outside.specs.Streams.{appends, Ends}
-use Rattle.cryfs_shell.specs.Reading.{coming, total, remaining}
+use Rattle.line_io.specs.Reading.{coming, total, remaining}
 use Rattle.cryfs_shell.specs.Turns.{Turn, Went, turn_lines, turn_texts, joined}
 use Rattle.cryfs_shell.proofs.Serving.{After}
 use Rattle.cryfs_shell.proofs.serve.serve.Given as goal

@@ -1,0 +1,3 @@
+pub mod Powers
+pub mod Simple
+pub mod Values

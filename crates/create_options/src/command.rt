@@ -1,0 +1,67 @@
+// The options as a command of `clap`.
+ghost use Rattle.std.specs.Prelude.{◌≡◌, ◌≢◌, [], IfOk, IfSome, false, codes, map};
+ghost use Rattle.std.specs.Option.{IsNone};
+ghost use Rattle.std.specs.String.{string_bytes};
+ghost use Rattle.clap.specs.Words.{app_of, fault_of, found_of, rows_of, rule_of};
+ghost use Rattle.create_options.specs.Command.{bare_app, create_app, option_rule, values_in};
+
+use block_id::Memory;
+use clap::error::ErrorKind;
+use clap::{Arg, ArgMatches, Command};
+use std::alloc::{AllocError, Global};
+
+pub(crate) const BLOCK_SIZE: &str = "blocksize";
+
+pub(crate) const SCRYPT_N: &str = "scrypt-n";
+
+pub(crate) const SCRYPT_R: &str = "scrypt-r";
+
+pub(crate) const SCRYPT_P: &str = "scrypt-p";
+
+/// What the words give the options, or None where the command doesn't take them.
+pub(crate) fn matches_in<'a>(
+    alloc: Global,
+    words: &'a [String],
+) -> Result<Option<ArgMatches<'a>>, Memory>
+    ensures some { IfOk result (λ answer. IfSome answer (λ matches. (fault_of create_app (map string_bytes words.entry.now) ≡ [])
+        × (rows_of (found_of matches) ≡ values_in (map string_bytes words.entry.now)))) }
+    ensures none { IfOk result (λ answer. IsNone answer → fault_of create_app (map string_bytes words.entry.now) ≢ []) }
+{
+    let command = create_command(alloc)?;
+    match command.try_get_matches_from(words) {
+        Ok(matches) => Ok(Some(matches)),
+        Err(error) => {
+            if error.kind() == ErrorKind::OutOfMemory {
+                return Err(Memory);
+            }
+            Ok(None)
+        }
+    }
+}
+
+fn create_command<'a>(alloc: Global) -> Result<Command<'a>, AllocError>
+    ensures { IfOk result (λ command. app_of command ≡ create_app) }
+{
+    bare_command(alloc)
+        .arg(option(alloc, BLOCK_SIZE))?
+        .arg(option(alloc, SCRYPT_N))?
+        .arg(option(alloc, SCRYPT_R))?
+        .arg(option(alloc, SCRYPT_P))
+}
+
+/// No argument; the first word isn't the program's name, and `--help` and `-h` aren't known.
+fn bare_command<'a>(alloc: Global) -> Command<'a>
+    ensures { app_of result ≡ bare_app }
+{
+    Command::new(alloc, "create")
+        .no_binary_name(true)
+        .disable_help_flag(true)
+}
+
+/// An option with one value, as `--name VALUE` or `--name=VALUE`.
+fn option<'a>(alloc: Global, name: &'a str) -> Arg<'a>
+    ensures rule { rule_of result ≡ option_rule name.entry.now }
+    ensures local { result.global ≡ false }
+{
+    Arg::new(alloc, name).long(name)
+}

@@ -1,0 +1,52 @@
+-- Bytes on their way from a source and to a sink.
+use Rattle.std.proofs.Common.{◌≡◌, ℕ, List, [], ◌∷◌, ◌++◌, refl, sym, ◌∙◌, ap, subst, append_assoc, append-nil}
+use Rattle.std.specs.declared.option.Option.{Option}
+use Rattle.std.specs.declared.option.Option.TheVariants.{None, Some}
+use Rattle.outside.specs.Streams.{appends, Gives, Ends}
+use Rattle.line_io.specs.Lines.{lines, IsUnbroken}
+use Rattle.line_io.specs.Reading.{coming, Line}
+use Rattle.line_io.proofs.Cutting.{lines-cut, lines-last}
+
+-- what was given and what is left is all that was left before
+pub coming-given : (old new : Option (List ℕ)) (bytes : List ℕ) → Gives old new bytes → coming bytes new ≡ old
+coming-given None new bytes g = ap (coming bytes) g
+coming-given (Some old) new bytes g = ap (coming bytes) g.2 ∙ ap Some (sym g.1)
+
+-- bytes in front of those that come
+pub coming-append : (a b : List ℕ) (rest : Option (List ℕ)) → coming (a ++ b) rest ≡ coming a (coming b rest)
+coming-append a b None = refl
+coming-append a b (Some rest) = ap Some (append_assoc a b rest)
+
+pub coming-nil : (rest : Option (List ℕ)) → coming [] rest ≡ rest
+coming-nil None = refl
+coming-nil (Some rest) = refl
+
+pub appends-append : (old : Option (List ℕ)) (a b : List ℕ) → appends (appends old a) b ≡ appends old (a ++ b)
+appends-append None a b = refl
+appends-append (Some old) a b = ap Some (append_assoc old a b)
+
+pub appends-nil : (old : Option (List ℕ)) → old ≡ appends old []
+appends-nil None = refl
+appends-nil (Some old) = ap Some (sym (append-nil old))
+
+-- a line that a newline ended
+pub Line-cut : (line more : List ℕ) (rest : Option (List ℕ)) → IsUnbroken line → Line (coming (line ++ 10 ∷ more) rest) line (coming more rest)
+Line-cut line more None u = refl
+Line-cut line more (Some rest) u = (more ++ rest, ap lines (append_assoc line (10 ∷ more) rest) ∙ lines-cut line (more ++ rest) u, refl)
+
+-- the last line, which no newline ended
+pub Line-last : (byte : ℕ) (line : List ℕ) (rest : Option (List ℕ)) → IsUnbroken (byte ∷ line) → Ends rest → Line (coming (byte ∷ line) rest) (byte ∷ line) rest
+Line-last byte line None u e = refl
+Line-last byte line (Some rest) u e =
+    (rest, subst (λ r. lines (byte ∷ (line ++ r)) ≡ (byte ∷ line) ∷ lines r) (sym e) (ap (λ l. lines (byte ∷ l)) (append-nil line) ∙ lines-last byte line u), refl)
+
+-- nothing was taken
+pub Gives-nil : (old new : Option (List ℕ)) → new ≡ old → Gives old new []
+Gives-nil None new e = e
+Gives-nil (Some old) new e = (old, refl, e)
+
+pub Gives-append : (old mid new : Option (List ℕ)) (a b : List ℕ) → Gives old mid a → Gives mid new b → Gives old new (a ++ b)
+Gives-append None mid new a b g h = subst (λ (m : Option (List ℕ)). Gives m new b) g h
+Gives-append (Some old) mid new a b g h =
+    let k : Gives (Some g.0) new b = subst (λ (m : Option (List ℕ)). Gives m new b) g.2 h in
+    (k.0, g.1 ∙ (ap (λ (l : List ℕ). a ++ l) k.1 ∙ sym (append_assoc a b k.0)), k.2)

@@ -1,0 +1,4 @@
+pub mod Cutting
+pub mod Flow
+pub mod Pieces
+pub mod Progress

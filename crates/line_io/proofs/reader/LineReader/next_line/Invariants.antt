@@ -1,0 +1,18 @@
+use Rattle.std.proofs.Common.{◌≡◌, ◌≤◌, ◌<◌, ◌+◌, List, [], ℕ, true, MatchBool, length}
+use Rattle.outside.specs.Streams.{Ends}
+use Rattle.line_io.specs.Reading.{coming, total, remaining}
+use Rattle.line_io.proofs.Progress.{Part, Taken}
+use Rattle.line_io.proofs.reader.LineReader.next_line.Given as goal
+
+abbrev pub invariant-loop-self : goal.invariant-loop-self
+invariant-loop-self g l = record {
+  part : (part : List ℕ) × Part (coming l.fn.self.ahead (g.I.Source.rest l.fn.input)) l.self.line l.self.ahead (g.I.Source.rest l.input) part
+      × MatchBool l.is_empty (part ≡ []) (0 < length part) × (length part + remaining l.self ≤ remaining l.fn.self)
+      × Taken l.fn.self.ahead l.self.ahead (g.I.Source.rest l.fn.input) (g.I.Source.rest l.input) part;
+  ended : l.self.ended ≡ true → Ends (coming l.self.ahead (g.I.Source.rest l.input));
+  counted : total l.self.taken (g.I.Source.rest l.input) ≡ total l.fn.self.taken (g.I.Source.rest l.fn.input);
+  grows : g.I.Source.faults l.fn.input ≤ g.I.Source.faults l.input;
+}
+
+abbrev pub decreases-loop-self : goal.decreases-loop-self
+decreases-loop-self g l = remaining l.self
