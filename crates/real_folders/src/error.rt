@@ -1,0 +1,35 @@
+// Why a call on a real folder fails, and how it is counted.
+ghost use Rattle.std.specs.Prelude.{◌≡◌, IfOk};
+ghost use Rattle.std.specs.declared.result.Result.TheVariants.{Ok};
+ghost use Rattle.outside.specs.Causes.{HasCause};
+ghost use Rattle.real_folders.specs.Adapters.{counted};
+
+use outside::GetFail;
+use std::alloc::AllocError;
+use std::io;
+use thiserror::Error;
+
+/// Want of the program's memory, or an error of the system. That the system itself has no memory is one of the latter.
+#[derive(Debug, Drop, Error)]
+pub enum FolderError {
+    #[error("out of memory")]
+    Memory(#[from(alloc)] AllocError),
+    #[error("the folder failed: {0}")]
+    Io(#[from] io::Error),
+}
+
+/// The answer as a call on the outside gives it, and one fault more after an error of the system.
+pub fn count<T: Drop>(faults: &mut u64, answer: Result<T, FolderError>) -> Result<T, GetFail>
+    ensures value { IfOk result (λ x. answer ≡ Ok x) }
+    ensures faults { faults.new ≡ counted result faults.old }
+    ensures cause { HasCause faults.old faults.new result }
+{
+    match answer {
+        Ok(value) => Ok(value),
+        Err(FolderError::Memory(_)) => Err(GetFail::Memory),
+        Err(FolderError::Io(_)) => {
+            *faults = faults.saturating_add(1);
+            Err(GetFail::Failed)
+        }
+    }
+}

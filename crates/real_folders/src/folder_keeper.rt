@@ -1,0 +1,250 @@
+// A file of a real folder as the local record.
+ghost use Rattle.std.specs.Prelude.{◌≡◌, ◌⊎◌, ◌≤◌, length, IfOk, OnOk, OnErr, IsTrue};
+ghost use Rattle.std.specs.declared.option.Option.TheVariants.{Some};
+ghost use Rattle.std.specs.Option.{option_map};
+ghost use Rattle.outside.specs.Causes.{HasCause, RoseBy};
+ghost use Rattle.outside.specs.MemoryStreams.{one_more};
+ghost use Rattle.outside.specs.View.{bytes_of};
+ghost use Rattle.real_folders.specs.Adapters.{counted};
+
+use crate::error::{FolderError, count};
+use crate::files::open_or_create;
+use crate::stored_file::StoredFile;
+use outside::{Failed, GetFail, Keeper, Memory, MemoryKeeper};
+use std::alloc::Global;
+use std::fs::{File, Files};
+use std::io;
+use std::marker::Model;
+use std::path::PathBuf;
+
+const RECORD_FILE: &str = "cryfs.localstate";
+
+const LOCK_FILE: &str = "cryfs.lock";
+
+/// The record in a file of a real folder. What is kept is what the file held as this was made, or what was saved last since
+/// then; a load finds out whether the file still holds that. From the first load or save on no other run can load or save.
+#[derive(Drop)]
+pub struct FolderKeeper<R> {
+    files: R,
+    file: StoredFile,
+    lock_path: PathBuf,
+    lock: Option<File>,
+    known: MemoryKeeper,
+    faults: u64,
+}
+
+impl<R> Model for FolderKeeper<R> {
+    ghost use Rattle.real_folders.specs.Adapters.{KeeperState};
+
+    ghost Value = { KeeperState };
+
+    ghost view = { λ k. record { kept = k.known.kept; room = k.known.room; faults = k.faults } };
+}
+
+impl<R: Files<File = File> + Drop> FolderKeeper<R> {
+    /// The record in the folder at this path, which needs not be there yet. Nothing is made. No fault so far.
+    pub fn new(alloc: Global, files: R, folder: &str) -> Result<FolderKeeper<R>, Memory>
+        ensures { IfOk result (λ keeper. keeper.faults ≡ 0) }
+    {
+        let folder = PathBuf::from_str(alloc, folder)?;
+        let lock_path = folder.join(alloc, LOCK_FILE)?;
+        let file = StoredFile::new(alloc, folder, RECORD_FILE)?;
+        let found = match file.read(&files, alloc, usize::MAX) {
+            Ok(found) => found,
+            Err(FolderError::Memory(_)) => return Err(Memory),
+            Err(FolderError::Io(_)) => None,
+        };
+        Ok(FolderKeeper {
+            files,
+            file,
+            lock_path,
+            lock: None,
+            known: MemoryKeeper::new(alloc, found, Vec::new(alloc)),
+            faults: 0,
+        })
+    }
+
+    /// Takes the lock where this run doesn't hold it yet, and fails where another run does.
+    fn hold(&mut self) -> io::Result<()>
+        ensures { self.new ≡ self.old }
+    {
+        if self.lock.is_none() {
+            let folder = self.file.folder.as_path();
+            let lock = open_or_create(&self.files, folder, self.lock_path.as_path())?;
+            lock.try_lock()?;
+            self.lock = Some(lock);
+        }
+        Ok(())
+    }
+
+    /// What the file holds, where that is what is kept.
+    fn read(&self, alloc: Global) -> Result<Option<Vec<u8>>, FolderError>
+        ensures { IfOk result (λ answer. bytes_of answer ≡ self.now.kept) }
+    {
+        let found = self.file.read(&self.files, alloc, usize::MAX)?;
+        if is_same(&found, self.known.kept()) {
+            Ok(found)
+        } else {
+            Err(FolderError::Io(io::Error::other("another run changed the record")))
+        }
+    }
+
+    /// Writes the record to the file, and then knows it.
+    fn write(&mut self, bytes: &[u8]) -> io::Result<()>
+        requires { length bytes.now ≤ self.old.room }
+        ensures ok { OnOk result (self.new.kept ≡ Some bytes.now) }
+        ensures err { OnErr result ((self.new.kept ≡ self.old.kept) ⊎ (self.new.kept ≡ Some bytes.now)) }
+        ensures room { self.old.room ≤ self.new.room }
+        ensures faults { self.new.faults ≡ self.old.faults }
+    {
+        self.hold()?;
+        self.file.replace(&self.files, bytes)?;
+        match self.known.save(bytes) {
+            Ok(()) => Ok(()),
+            Err(Failed) => Err(io::Error::other("the record was not taken")),
+        }
+    }
+}
+
+fn is_same(found: &Option<Vec<u8>>, kept: Option<&[u8]>) -> bool
+    ensures { IsTrue result → bytes_of found.now ≡ option_map (λ bytes. bytes.now) kept.entry }
+{
+    match (found, kept) {
+        (Some(found), Some(kept)) => found.as_slice() == kept,
+        (None, None) => true,
+        _ => false,
+    }
+}
+
+impl<R: Files<File = File> + Drop> Keeper for FolderKeeper<R> {
+    ghost kept = { λ k. k.kept };
+
+    ghost room = { λ k. k.room };
+
+    ghost faults = { λ k. k.faults };
+
+    fn load(&mut self, alloc: Global) -> Result<Option<Vec<u8>>, GetFail>
+        ensures ok { IfOk result (λ answer. bytes_of answer ≡ self.old.kept) }
+        ensures kept { self.new.kept ≡ self.old.kept }
+        ensures room { self.old.room ≤ self.new.room }
+        ensures cause { HasCause self.old.faults self.new.faults result }
+
+        ensures counts { self.new ≡ record self.old { faults = counted result self.old.faults } }
+    {
+        let answer = match self.hold() {
+            Ok(()) => self.read(alloc),
+            Err(error) => Err(FolderError::Io(error)),
+        };
+        count(&mut self.faults, answer)
+    }
+
+    fn prepare(&mut self, alloc: Global, len: usize) -> Result<(), Memory> {
+        self.known.prepare(alloc, len)
+    }
+
+    fn save(&mut self, bytes: &[u8]) -> Result<(), Failed>
+        requires { length bytes.now ≤ self.old.room }
+        ensures ok { OnOk result (self.new.kept ≡ Some bytes.now) }
+        ensures err { OnErr result ((self.new.kept ≡ self.old.kept) ⊎ (self.new.kept ≡ Some bytes.now)) }
+        ensures room { self.old.room ≤ self.new.room }
+        ensures grows { self.old.faults ≤ self.new.faults }
+        ensures cause { OnErr result (RoseBy 1 self.old.faults self.new.faults) }
+
+        ensures counts_none { OnOk result (self.new.faults ≡ self.old.faults) }
+        ensures counts_one { OnErr result (self.new.faults ≡ one_more self.old.faults) }
+    {
+        match self.write(bytes) {
+            Ok(()) => Ok(()),
+            Err(_) => {
+                self.faults = self.faults.saturating_add(1);
+                Err(Failed)
+            }
+        }
+    }
+}
+
+#[cfg(test)]
+mod tests {
+    use super::*;
+    use crate::test_folders::{fresh_folder, holds, is_absent, write};
+    use std::fs;
+    use std::test::Fail;
+
+    /// Whether a load answers this record.
+    fn gives<K: Keeper>(alloc: Global, keeper: &mut K, want: &str) -> bool {
+        match keeper.load(alloc) {
+            Ok(Some(bytes)) => bytes.as_slice() == want.as_bytes(),
+            _ => false,
+        }
+    }
+
+    /// Whether a load answers that nothing is kept.
+    fn gives_none<K: Keeper>(alloc: Global, keeper: &mut K) -> bool {
+        matches!(keeper.load(alloc), Ok(None))
+    }
+
+    /// Whether this record is saved.
+    fn saves<K: Keeper>(alloc: Global, keeper: &mut K, record: &str) -> bool {
+        keeper.prepare(alloc, record.len()).is_ok() && keeper.save(record.as_bytes()).is_ok()
+    }
+
+    /// Whether loads and saves fail.
+    fn fails<K: Keeper>(alloc: Global, keeper: &mut K) -> bool {
+        keeper.load(alloc).err() == Some(GetFail::Failed) && !saves(alloc, keeper, "record")
+    }
+
+    #[test]
+    fn keeps_what_was_saved_last(rt: HostRuntime) -> Result<(), Fail> {
+        let folder = fresh_folder(&rt, "kept")?;
+        let path = folder.as_str();
+        let mut first = FolderKeeper::new(rt.alloc(), rt, path)?;
+        assert!(rt; is_absent(&rt, path, ""));
+        assert!(rt; gives_none(rt.alloc(), &mut first));
+        assert!(rt; saves(rt.alloc(), &mut first, "a long record"));
+        assert!(rt; gives(rt.alloc(), &mut first, "a long record"));
+        write(
+            &rt,
+            path,
+            "cryfs.localstate.new",
+            "what a stop left of another record",
+        )?;
+        assert!(rt; saves(rt.alloc(), &mut first, "short"));
+        assert!(rt; first.faults == 0);
+        assert!(rt; holds(&rt, path, "cryfs.localstate", "short"));
+        assert!(rt; is_absent(&rt, path, "cryfs.localstate.new"));
+        fs::remove_dir_all(&rt, path)?;
+        Ok(())
+    }
+
+    #[test]
+    fn serves_one_run_at_a_time(rt: HostRuntime) -> Result<(), Fail> {
+        let folder = fresh_folder(&rt, "lock")?;
+        let path = folder.as_str();
+        let mut first = FolderKeeper::new(rt.alloc(), rt, path)?;
+        let mut second = FolderKeeper::new(rt.alloc(), rt, path)?;
+        assert!(rt; saves(rt.alloc(), &mut first, "first"));
+        assert!(rt; fails(rt.alloc(), &mut second));
+        drop(first);
+        // the record isn't the one that the second run began with
+        assert!(rt; second.load(rt.alloc()).is_err());
+        assert!(rt; second.faults == 3);
+        drop(second);
+        let mut third = FolderKeeper::new(rt.alloc(), rt, path)?;
+        assert!(rt; gives(rt.alloc(), &mut third, "first"));
+        fs::remove_dir_all(&rt, path)?;
+        Ok(())
+    }
+
+    #[test]
+    fn fails_where_something_else_lies(rt: HostRuntime) -> Result<(), Fail> {
+        let folder = fresh_folder(&rt, "no_record")?;
+        let record = folder.join(rt.alloc(), "cryfs.localstate")?;
+        fs::create_dir_all(&rt, record.as_path())?;
+        write(&rt, record.as_str(), "inner", "")?;
+        let mut keeper = FolderKeeper::new(rt.alloc(), rt, folder.as_str())?;
+        assert!(rt; fails(rt.alloc(), &mut keeper));
+        assert!(rt; keeper.faults == 2);
+        fs::remove_dir_all(&rt, folder)?;
+        Ok(())
+    }
+}
