@@ -156,6 +156,10 @@ module _ (a b : Held) (old new : Option (List Call)) (changes : Changes) (x : Ap
 
 -- ---- the store after a batch
 
+-- what is used in a whole store is few
+pub few_used : (h : Held) → IsWhole h → IsFew (fin.keys h.state.marks)
+few_used h whole = omega (arith, length-map (fin.entries h.state.marks) (λ e. e.0), len-entries h.state.marks, whole.has_record.state.count)
+
 new_or_known : (said : Option (Option (List ℕ))) (mark : Option Mark) → is_some (mark_after said mark) ≡ true → (is_some mark ≡ true) ⊎ (is_some said ≡ true)
 new_or_known None mark known = inl known
 new_or_known (Some change) mark known = inr refl
@@ -179,7 +183,7 @@ module _ {S : Type 0} (held : S → Held) (trace : S → Option (List Call)) (fa
     used = used_said;
     stays_used = λ id used.
         has-keys (held b) id ∙ (ap is_some (x.marks id) ∙ stays_known (fin.get changes id) (fin.get (held a).state.marks id) (sym (has-keys (held a) id) ∙ used));
-    few = λ few. omega (arith, length-map (fin.entries (held b).state.marks) (λ e. e.0), len-entries (held b).state.marks, whole.has_record.state.count);
+    few = λ few. few_used (held b) whole;
     payload = ap (λ n. n - 78) x.size;
     sound = sound_after (held a) (held b) (trace a) (trace b) changes x;
   }

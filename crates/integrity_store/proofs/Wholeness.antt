@@ -36,9 +36,10 @@ comes (block a) (block b) h = true_of (is_lt (slice_cmp nat_cmp a b)) h
 
 rise_after : (name : At) (list : List (At × Option (List ℕ))) → T (below_all at_cmp name list) → T (is_sorted at_cmp list) → Rise (Some name) list
 rise_after name [] below rises = tt
-rise_after name (e ∷ es) below rises =
-    (comes name e.0 (left (is_lt (at_cmp name e.0)) (below_all at_cmp name es) below),
-    rise_after e.0 es (left (below_all at_cmp e.0 es) (is_sorted at_cmp es) rises) (right (below_all at_cmp e.0 es) (is_sorted at_cmp es) rises))
+rise_after name (e ∷ es) below rises = (
+  comes name e.0 (left (is_lt (at_cmp name e.0)) (below_all at_cmp name es) below),
+  rise_after e.0 es (left (below_all at_cmp e.0 es) (is_sorted at_cmp es) rises) (right (below_all at_cmp e.0 es) (is_sorted at_cmp es) rises),
+)
 
 rise : (list : List (At × Option (List ℕ))) → T (is_sorted at_cmp list) → Rise None list
 rise [] rises = tt

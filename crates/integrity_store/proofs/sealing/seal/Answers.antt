@@ -7,7 +7,7 @@ use Rattle.local_state.specs.declared.mark.Mark.{Mark}
 use Rattle.local_state.specs.Known.{raised_version}
 use Rattle.sealed_store.specs.BlockFiles.{opens_file}
 use Rattle.sealed_store.specs.Stores.{key_of, cipher_of}
-use Rattle.integrity_store.specs.BlockRecords.{record_of, record_in}
+use Rattle.integrity_store.specs.BlockRecords.{Record, record_of, record_in}
 use Rattle.integrity_store.specs.Held.{Held, own}
 use Rattle.integrity_store.specs.Sealing.{IsFileFor}
 use Rattle.integrity_store.specs.Views.{held_of}
@@ -31,12 +31,15 @@ file_for h id payload plain iv version stream (Ok file) raised reads opens has_i
     record { opens = ap (record_in h.size) opens ∙ (reads ∙ ap (λ v. Some (own h id v payload)) raised); iv = has_iv ∙ drawn }
 file_for h id payload plain iv version stream (Err e) raised reads opens has_iv drawn = tt
 
+-- a copy of a record's bytes reads as it
+reads_as : (size : ℕ) (plain items : List ℕ) (r : Record) → plain ≡ items → length items + 48 ≡ size → record_of (length items + 48) items ≡ Some r → record_of size plain ≡ Some r
+reads_as size plain items r copy len is = ap (record_of size) copy ∙ (ap (λ n. record_of n items) (sym len) ∙ is)
+
 pub returns-clause-file : goal.returns-clause-file
 returns-clause-file g c =
     let held = held_of (g.C.Sealer.opens (cipher_of c.args.sealed.now) (key_of c.args.sealed.now)) c.args.sealed.now c.args.state.now in
     let plain = c.deref.result.now in
     let size : length c.in_ok-plain.plain.items + 48 ≡ held.size = omega (arith, c.in_ok-plain.ensures.len, c.requires.may.sized) in
-    let reads : record_of held.size plain ≡ Some (own held c.args.id.now.0 c.next_version-version.result c.args.payload.now) =
-    ap (record_of held.size) c.deref.ensures.value ∙ (ap (λ n. record_of n c.in_ok-plain.plain.items) (sym size) ∙ c.in_ok-plain.ensures.record_of) in
+    let reads = reads_as held.size plain c.in_ok-plain.plain.items (own held c.args.id.now.0 c.next_version-version.result c.args.payload.now) c.deref.ensures.value size c.in_ok-plain.ensures.record_of in
     file_for held c.args.id.now.0 c.args.payload.now plain c.fill_bytes.new.dst c.next_version-version.result (g.R.Rng.stream c.args.chance.now) c.seal_plain.result
     c.next_version-version.ensures reads c.seal_plain.ensures.opens c.seal_plain.ensures.iv (ap (λ p. p.0) c.fill_bytes.ensures)
