@@ -1,9 +1,9 @@
 -- What a store of blocks means, by what it holds and by the calls on its directory.
 use Rattle.std.specs.Prelude.{◌≡◌, ◌≤◌, ◌-◌, ◌^◌, ◌==◌, ℕ, Bool, true, false, List, length, is_some}
 use Rattle.std.proofs.Common.{refl, sym, ◌∙◌, ap, subst, arith}
-use Rattle.std.proofs.lemmas.List.{length-replicate}
+use Rattle.std.proofs.lemmas.List.{length-map, length-replicate}
 use Rattle.std.specs.FinMap as fin
-use Rattle.std.specs.FinMap.{contains_key-keys}
+use Rattle.std.specs.FinMap.{contains_key-keys, len-entries}
 use Rattle.std.specs.declared.option.Option.{Option}
 use Rattle.std.specs.declared.option.Option.TheVariants.{None, Some}
 use Rattle.block_id.specs.Fresh.{zero_id}
@@ -14,9 +14,9 @@ use Rattle.outside.specs.Honest.{is_lie, count_told}
 use Rattle.outcome.specs.Meanings.{Meanings, Lawful}
 use Rattle.local_state.specs.declared.mark.Mark.{Mark}
 use Rattle.local_state.specs.Known.{FitMarks}
-use Rattle.local_state.specs.Record.{HasRecord}
+use Rattle.local_state.specs.Record.{PlainState, Entry, HasRecord}
 use Rattle.store_api.specs.Content.{Id}
-use Rattle.store_api.specs.Holdings.{Holdings, Steady, Stays, has_id}
+use Rattle.store_api.specs.Holdings.{Holdings, Steady, Stays, IsFew, has_id}
 use Rattle.integrity_store.specs.BlockRecords.{Record, opened, payload_of, payload_in}
 use Rattle.integrity_store.specs.Held.{Held, live_version, version_if_live, file_of, wanted, told_or_none, where_live, SoundBy, Went, FoundSince, forged}
 use Rattle.integrity_store.specs.Laws.{went_same, went_on, went_count, went_honest, found_before, found_after, opened-plain}
@@ -29,6 +29,10 @@ pub record IsWhole (h : Held) : Type 0 where
   pub most : h.size ≤ 1048576
   pub has_record : HasRecord h.state h.list
   pub config : IsNoBlock (change_at config h.list)
+
+-- fewer ids are used than there are numbers of 64 bits
+pub few_used : (state : PlainState) (list : List Entry) → HasRecord state list → IsFew (fin.keys state.marks)
+few_used state list has = omega (arith, length-map (fin.entries state.marks) (λ e. e.0), len-entries state.marks, has.state.count)
 
 -- only reads of live blocks were made, and all else is the same
 pub record OnlyRead (a b : Held) (old new : Option (List Call)) (was now : ℕ) : Type 0 where

@@ -4,6 +4,7 @@ ghost use Rattle.outcome.specs.Meanings.{HasCause};
 ghost use Rattle.outside.specs.Trace.{config};
 ghost use Rattle.outside.specs.Changes.{change_at};
 ghost use Rattle.local_state.specs.Record.{plain_state, HasRecord};
+ghost use Rattle.store_api.specs.Holdings.{IsFew};
 ghost use Rattle.sealed_store.specs.Stores.{IsIntact, block_size_of, key_of, cipher_of};
 ghost use Rattle.integrity_store.specs.Held.{version_if_live};
 ghost use Rattle.integrity_store.specs.Loads.{Fetched};
@@ -47,6 +48,7 @@ impl<V: Vault, C: Sealer> IntegrityStore<V, C> {
         requires state { HasRecord (plain_state state) sealed.vault.list }
         requires config { IsNoBlock (change_at config sealed.vault.list) }
         ensures intact { ⟦<IntegrityStore<V, C> as Blocks>⟧.meanings.intact result }
+        ensures few { IsFew (⟦<IntegrityStore<V, C> as Blocks>⟧.holdings.used result) }
         ensures sealed { result.sealed ≡ sealed }
         ensures state { result.state ≡ state }
     {
