@@ -2,7 +2,7 @@
 ghost use Rattle.std.specs.Prelude.{◌≡◌, length, None, IfSome};
 ghost use Rattle.std.specs.Int.{w32, w64, from_le_bytes};
 ghost use Rattle.std.specs.Option.{option_map};
-ghost use Rattle.config_file.specs.Format.{HasForm, cost_in, sealed_in, text_in};
+ghost use Rattle.config_file.specs.Format.{HasForm, begins_with, cipher_field, cost_in, sealed_in, text_in};
 
 use scrypt_kdf::Params;
 
@@ -53,19 +53,23 @@ fn u32_of(bytes: &[u8]) -> u32
 }
 
 /// The innermost part, sealed, in an inner part.
-#[tactic(auto, unfolding(crate::specs::Format::sealed_in))]
+#[tactic(auto, unfolding(crate::specs::Format::sealed_in), using(crate::proofs::Sealed::all_after))]
 pub(crate) fn sealed_from(inner: &[u8]) -> Option<&[u8]>
     requires { length inner.now ≡ 1024 }
     ensures value { option_map (λ sealed. sealed.now) result ≡ sealed_in inner.now }
     ensures len { IfSome result (λ sealed. length sealed.now ≡ 932) }
 {
-    if !inner.starts_with(&INNER_FRONT) {
-        return None;
-    }
-    if !inner[21..].starts_with(&CIPHER_FIELD) {
+    if !inner.starts_with(&INNER_FRONT) || !names_cipher(&inner[21..]) {
         return None;
     }
     Some(&inner[33..965])
+}
+
+/// Whether what stands behind the front begins with the name of the cipher that is known.
+fn names_cipher(rest: &[u8]) -> bool
+    ensures { result ≡ begins_with rest.now cipher_field }
+{
+    rest.starts_with(&CIPHER_FIELD)
 }
 
 /// The JSON in an innermost part.

@@ -10,7 +10,7 @@ ghost use Rattle.config_file.specs.Settings.{IsBlockSize, settings_of};
 use crate::config::Config;
 use crate::format::{CIPHER_FIELD, FILE_LEN, INNER_FRONT, OUTER_FRONT};
 use crate::json_writing::write_json;
-use crate::keys::derive_keys;
+use crate::keys::{Keys, derive_keys};
 use aes_block::KeySchedule;
 use aes_gcm::gcm_seal;
 use block_id::Memory;
@@ -43,7 +43,7 @@ pub fn seal_config(
     let keys = derive_keys(alloc, password, salt, params)?;
     let json = write_json(alloc, config)?;
     let innermost = innermost_part(alloc, &json, fill)?;
-    let inner = inner_part(alloc, &keys.inner, inner_iv, &innermost, fill)?;
+    let inner = inner_part(alloc, &keys, inner_iv, &innermost, fill)?;
     let mut out = outer_part(alloc, params, salt)?;
     append_sealed(&keys.outer, outer_iv, &inner, &mut out)?;
     Ok(out)
@@ -64,17 +64,17 @@ fn innermost_part(alloc: Global, json: &[u8], fill: &[u8; 960]) -> Result<Vec<u8
 #[tactic(auto, unfolding(crate::specs::Sealing::inner_text))]
 fn inner_part(
     alloc: Global,
-    key: &[u8; 32],
+    keys: &Keys,
     iv: &[u8; 16],
     innermost: &[u8],
     fill: &[u8; 960],
 ) -> Result<Vec<u8>, Memory>
-    ensures { IfOk result (λ part. part.items ≡ inner_text key.now iv.now innermost.now fill.now) }
+    ensures { IfOk result (λ part. part.items ≡ inner_text keys.now.inner iv.now innermost.now fill.now) }
 {
     let mut part = Vec::with_capacity(alloc, 1024)?;
     part.extend_from_slice(&INNER_FRONT)?;
     part.extend_from_slice(&CIPHER_FIELD)?;
-    append_sealed(key, iv, innermost, &mut part)?;
+    append_sealed(&keys.inner, iv, innermost, &mut part)?;
     part.extend_from_slice(&fill[900..959])?;
     Ok(part)
 }
