@@ -1,11 +1,14 @@
 pub mod Applying
 pub mod Batches
+pub mod Configs
 pub mod Freshness
 pub mod Loading
 pub mod Marks
+pub mod OneWrite
 pub mod Records
 pub mod Sealed
 pub mod Sorted
 pub mod Soundness
 pub mod Waiting
 pub mod Wholeness
+pub mod WriteOuts

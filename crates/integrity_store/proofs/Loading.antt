@@ -28,7 +28,7 @@ module _ {S : Type 0} (held : S → Held) (trace : S → Option (List Call)) (fa
   still_sound : (version : ℕ) (r : Result (Vec ℕ Global) Fail) → held b ≡ held a → live_version (held a) id ≡ Some version
       → Fetched (held a) (trace a) (trace b) id version r → SoundBy (held a) (trace a) → SoundBy (held b) (trace b)
   still_sound version r same live f s =
-      subst (λ h. SoundBy h (trace b)) (sym same) (went_sound (held a) (trace a) (trace b) (fetched_went (held a) (trace a) (trace b) id version r live f) s)
+      subst (λ h. SoundBy h (trace b)) (sym same) (went_sound (held a) (held a) (trace a) (trace b) (fetched_went (held a) (trace a) (trace b) id version r live f) s)
 
   pub stays : (version : ℕ) (r : Result (Vec ℕ Global) Fail) → held b ≡ held a → faults a ≤ faults b → live_version (held a) id ≡ Some version
       → Fetched (held a) (trace a) (trace b) id version r → Stays (holdings_by held trace) a b

@@ -11,11 +11,11 @@ use Rattle.local_state.specs.declared.mark.Mark.{Mark}
 use Rattle.local_state.specs.Known.{raised_version, is_dead_in}
 use Rattle.sealed_store.specs.BlockFiles.{opens_file}
 use Rattle.store_api.specs.Content.{Id, Changes, or_else, over}
-use Rattle.store_api.specs.Holdings.{Changed, IsFew, has_id}
+use Rattle.store_api.specs.Holdings.{Changed, has_id}
 use Rattle.integrity_store.specs.Applied.{mark_after, WaitsAfter, Applied}
 use Rattle.integrity_store.specs.BlockRecords.{Record, record_of, opened, payload_of, payload_in}
 use Rattle.integrity_store.specs.Held.{Held, own, waiting, waiting_or, bytes_in, file_of, live_version, version_if_live, where_live, told_or_none, wanted, IsPast, SoundAt, SoundBy, was_put}
-use Rattle.integrity_store.specs.Stores.{IsWhole, meanings_by, holdings_by, has-keys}
+use Rattle.integrity_store.specs.Stores.{IsWhole, few_used, meanings_by, holdings_by, has-keys}
 
 -- ---- one id
 
@@ -156,10 +156,6 @@ module _ (a b : Held) (old new : Option (List Call)) (changes : Changes) (x : Ap
 
 -- ---- the store after a batch
 
--- what is used in a whole store is few
-pub few_used : (h : Held) → IsWhole h → IsFew (fin.keys h.state.marks)
-few_used h whole = omega (arith, length-map (fin.entries h.state.marks) (λ e. e.0), len-entries h.state.marks, whole.has_record.state.count)
-
 new_or_known : (said : Option (Option (List ℕ))) (mark : Option Mark) → is_some (mark_after said mark) ≡ true → (is_some mark ≡ true) ⊎ (is_some said ≡ true)
 new_or_known None mark known = inl known
 new_or_known (Some change) mark known = inr refl
@@ -183,7 +179,7 @@ module _ {S : Type 0} (held : S → Held) (trace : S → Option (List Call)) (fa
     used = used_said;
     stays_used = λ id used.
         has-keys (held b) id ∙ (ap is_some (x.marks id) ∙ stays_known (fin.get changes id) (fin.get (held a).state.marks id) (sym (has-keys (held a) id) ∙ used));
-    few = λ few. few_used (held b) whole;
+    few = λ few. few_used (held b).state (held b).list whole.has_record;
     payload = ap (λ n. n - 78) x.size;
     sound = sound_after (held a) (held b) (trace a) (trace b) changes x;
   }

@@ -21,6 +21,7 @@ use Rattle.integrity_store.specs.Held.{Held, waiting}
 use Rattle.integrity_store.specs.Laws.{opens-length, opened-plain}
 use Rattle.integrity_store.specs.Marking.{MayMark}
 use Rattle.integrity_store.specs.Stores.{IsWhole}
+use Rattle.integrity_store.specs.WaitingLists.{IsNoBlock}
 use Rattle.integrity_store.proofs.Sorted.{all_by, each_found, of_found, left, right}
 use Rattle.integrity_store.proofs.Waiting.{true_of}
 
@@ -124,4 +125,5 @@ module _ (a b : Held) (old new : Option (List Call)) (changes : Changes) (x : Ap
         count = count;
       };
     };
+    config = subst IsNoBlock (sym x.config) whole.config;
   }

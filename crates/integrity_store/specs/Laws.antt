@@ -78,19 +78,20 @@ sound-got h trace name max answer s = record {
   past = λ bytes plain was opens. let p = s.past bytes plain was opens in (p.0, p.1, past-got h trace name max answer p.0 p.2);
 }
 
-pub sound-reads : (h : Held) (trace reads : List Call) → AllReads h reads → SoundAt h trace → SoundAt h (reads ++ trace)
-sound-reads h trace [] all s = s
-sound-reads h trace (call ∷ reads) all s =
-    subst (λ c. SoundAt h (c ∷ reads ++ trace)) (sym all.0.is) (sound-got h (reads ++ trace) (block all.0.id) (h.size + 1) all.0.answer (sound-reads h trace reads all.1 s))
+-- reads by a store that holds k leave what is sound of h
+pub sound-reads : (h k : Held) (trace reads : List Call) → AllReads k reads → SoundAt h trace → SoundAt h (reads ++ trace)
+sound-reads h k trace [] all s = s
+sound-reads h k trace (call ∷ reads) all s =
+    subst (λ c. SoundAt h (c ∷ reads ++ trace)) (sym all.0.is) (sound-got h (reads ++ trace) (block all.0.id) (k.size + 1) all.0.answer (sound-reads h k trace reads all.1 s))
 
-pub wanted-reads : (h : Held) (trace reads : List Call) (id : List ℕ) → AllReads h reads → wanted h (Some (reads ++ trace)) id ≡ wanted h (Some trace) id
-wanted-reads h trace [] id all = refl
-wanted-reads h trace (call ∷ reads) id all =
-    ap (λ c. wanted h (Some (c ∷ reads ++ trace)) id) all.0.is ∙ wanted-reads h trace reads id all.1
+pub wanted-reads : (h k : Held) (trace reads : List Call) (id : List ℕ) → AllReads k reads → wanted h (Some (reads ++ trace)) id ≡ wanted h (Some trace) id
+wanted-reads h k trace [] id all = refl
+wanted-reads h k trace (call ∷ reads) id all =
+    ap (λ c. wanted h (Some (c ∷ reads ++ trace)) id) all.0.is ∙ wanted-reads h k trace reads id all.1
 
-pub went_sound : (h : Held) (a b : Option (List Call)) → Went h a b → SoundBy h a → SoundBy h b
-went_sound h None b went sound = absurd sound
-went_sound h (Some t) b (reads, is, all) sound = subst (SoundBy h) (sym is) (sound-reads h t reads all sound)
+pub went_sound : (h k : Held) (a b : Option (List Call)) → Went k a b → SoundBy h a → SoundBy h b
+went_sound h k None b went sound = absurd sound
+went_sound h k (Some t) b (reads, is, all) sound = subst (SoundBy h) (sym is) (sound-reads h k t reads all sound)
 
 -- ---- counts
 
@@ -188,7 +189,7 @@ pub fewer_forged : (h : Held) (trace reads : List Call) → AllReads h reads →
     → count_calls (forged h.opens h.size) (reads ++ trace) + count_calls is_lie trace ≤ count_calls is_lie (reads ++ trace) + count_calls (forged h.opens h.size) trace
 fewer_forged h trace [] all sound = omega arith
 fewer_forged h trace (call ∷ reads) all sound =
-    let first = one_read h (reads ++ trace) call all.0 (sound-reads h trace reads all.1 sound) in
+    let first = one_read h (reads ++ trace) call all.0 (sound-reads h h trace reads all.1 sound) in
     let rest = fewer_forged h trace reads all.1 sound in
     omega (arith, first, rest)
 

@@ -1,11 +1,14 @@
 pub mod Applied
 pub mod BlockRecords
 pub mod Draws
+pub mod Enduring
 pub mod Held
 pub mod Judges
 pub mod Laws
 pub mod Loads
 pub mod Marking
 pub mod Sealing
+pub mod Standing
 pub mod Stores
 pub mod Views
+pub mod WaitingLists

@@ -51,9 +51,9 @@ pub wanted_ids : (h : Held) (old new : Option (List Call)) → SameIds (wanted h
 wanted_ids h old new id =
     ids_of (live_version h id) (payload_in h.opens h.size (file_of h (told_or_none old) id)) (payload_in h.opens h.size (file_of h (told_or_none new) id))
 
-pub went_wanted : (h : Held) (old new : Option (List Call)) → Went h old new → is_some old ≡ true → SameContent (wanted h old) (wanted h new)
-went_wanted h None new went told id = absurd (false_is_true told)
-went_wanted h (Some t) new (reads, is, all) told id = ap (λ n. wanted h n id) is ∙ wanted-reads h t reads id all
+pub went_wanted : (h k : Held) (old new : Option (List Call)) → Went k old new → is_some old ≡ true → SameContent (wanted h old) (wanted h new)
+went_wanted h k None new went told id = absurd (false_is_true told)
+went_wanted h k (Some t) new (reads, is, all) told id = ap (λ n. wanted h n id) is ∙ wanted-reads h k t reads id all
 
 pub went_told : (h : Held) (old new : Option (List Call)) → Went h old new → is_some new ≡ is_some old
 went_told h None new went = ap is_some went
@@ -173,7 +173,7 @@ cut_whole opens size bytes r o =
     let p = opened-plain opens size bytes r o in
     take_all (size + 1) bytes (omega (arith, opens-length opens size bytes p.0 p.1))
 
-wanted_of : (h : Held) (t : List Call) (id : List ℕ) (version : ℕ) (bytes payload : List ℕ) → live_version h id ≡ Some version → waiting h id ≡ Some (Some bytes)
+pub wanted_of : (h : Held) (t : List Call) (id : List ℕ) (version : ℕ) (bytes payload : List ℕ) → live_version h id ≡ Some version → waiting h id ≡ Some (Some bytes)
     → opened h.opens h.size bytes ≡ Some (own h id version payload) → wanted h (Some t) id ≡ Some payload
 wanted_of h t id version bytes payload live waits o = rw (live, waits, o) refl
 

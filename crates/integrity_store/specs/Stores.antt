@@ -1,31 +1,38 @@
 -- What a store of blocks means, by what it holds and by the calls on its directory.
 use Rattle.std.specs.Prelude.{◌≡◌, ◌≤◌, ◌-◌, ◌^◌, ◌==◌, ℕ, Bool, true, false, List, length, is_some}
 use Rattle.std.proofs.Common.{refl, sym, ◌∙◌, ap, subst, arith}
-use Rattle.std.proofs.lemmas.List.{length-replicate}
+use Rattle.std.proofs.lemmas.List.{length-map, length-replicate}
 use Rattle.std.specs.FinMap as fin
-use Rattle.std.specs.FinMap.{contains_key-keys}
+use Rattle.std.specs.FinMap.{contains_key-keys, len-entries}
 use Rattle.std.specs.declared.option.Option.{Option}
 use Rattle.std.specs.declared.option.Option.TheVariants.{None, Some}
 use Rattle.block_id.specs.Fresh.{zero_id}
 use Rattle.block_id.specs.declared.fail.Why.{Why}
-use Rattle.outside.specs.Trace.{Call}
+use Rattle.outside.specs.Trace.{Call, config}
+use Rattle.outside.specs.Changes.{change_at}
 use Rattle.outside.specs.Honest.{is_lie, count_told}
 use Rattle.outcome.specs.Meanings.{Meanings, Lawful}
 use Rattle.local_state.specs.declared.mark.Mark.{Mark}
 use Rattle.local_state.specs.Known.{FitMarks}
-use Rattle.local_state.specs.Record.{HasRecord}
+use Rattle.local_state.specs.Record.{PlainState, Entry, HasRecord}
 use Rattle.store_api.specs.Content.{Id}
-use Rattle.store_api.specs.Holdings.{Holdings, Steady, Stays, has_id}
+use Rattle.store_api.specs.Holdings.{Holdings, Steady, Stays, IsFew, has_id}
 use Rattle.integrity_store.specs.BlockRecords.{Record, opened, payload_of, payload_in}
 use Rattle.integrity_store.specs.Held.{Held, live_version, version_if_live, file_of, wanted, told_or_none, where_live, SoundBy, Went, FoundSince, forged}
 use Rattle.integrity_store.specs.Laws.{went_same, went_on, went_count, went_honest, found_before, found_after, opened-plain}
 use Rattle.integrity_store.specs.Loads.{wanted_ids, went_wanted, went_told, record-length}
+use Rattle.integrity_store.specs.WaitingLists.{IsNoBlock}
 
--- a block size within its limits, and a state and a list that have a record
+-- a block size within its limits, a state and a list that have a record, and no block's file that waits as the configuration
 pub record IsWhole (h : Held) : Type 0 where
   pub least : 128 ≤ h.size
   pub most : h.size ≤ 1048576
   pub has_record : HasRecord h.state h.list
+  pub config : IsNoBlock (change_at config h.list)
+
+-- fewer ids are used than there are numbers of 64 bits
+pub few_used : (state : PlainState) (list : List Entry) → HasRecord state list → IsFew (fin.keys state.marks)
+few_used state list has = omega (arith, length-map (fin.entries state.marks) (λ e. e.0), len-entries state.marks, has.state.count)
 
 -- only reads of live blocks were made, and all else is the same
 pub record OnlyRead (a b : Held) (old new : Option (List Call)) (was now : ℕ) : Type 0 where
@@ -100,7 +107,7 @@ lawful_by held trace faults own = record {
 true_is_false : true ≡ false → ⊥
 true_is_false e = cc
 
-sound_is_told : (h : Held) (t : Option (List Call)) → SoundBy h t → is_some t ≡ true
+pub sound_is_told : (h : Held) (t : Option (List Call)) → SoundBy h t → is_some t ≡ true
 sound_is_told h None s = absurd s
 sound_is_told h (Some t) s = refl
 
@@ -155,7 +162,7 @@ pub settled_by : {S : Type 0} (held : S → Held) (trace : S → Option (List Ca
     → OnlyRead (held a) (held b) (trace a) (trace b) (faults a) (faults b) → Stays (holdings_by held trace) a b
 settled_by held trace faults a b x = record {
   ids = λ id. subst (λ h. is_some (wanted h (trace b) id) ≡ is_some (wanted (held a) (trace a) id)) (sym x.held) (wanted_ids (held a) (trace a) (trace b) id);
-  content = λ told id. subst (λ h. wanted h (trace b) id ≡ wanted (held a) (trace a) id) (sym x.held) (went_wanted (held a) (trace a) (trace b) x.trace told id);
+  content = λ told id. subst (λ h. wanted h (trace b) id ≡ wanted (held a) (trace a) id) (sym x.held) (went_wanted (held a) (held a) (trace a) (trace b) x.trace told id);
   told = went_told (held a) (trace a) (trace b) x.trace;
   used = ap (λ h. fin.keys h.state.marks) x.held;
   spent = λ id. ap (λ h. is_last (fin.get h.state.marks id)) x.held;

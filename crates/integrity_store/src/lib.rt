@@ -3,6 +3,7 @@
 #![tactic(auto)]
 
 mod apply;
+mod durable;
 mod marking;
 mod record;
 mod sealing;

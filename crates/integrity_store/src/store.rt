@@ -1,12 +1,16 @@
 // The store of blocks.
 ghost use Rattle.std.specs.Prelude.{◌≡◌, ◌≤◌, IfErr};
 ghost use Rattle.outcome.specs.Meanings.{HasCause};
+ghost use Rattle.outside.specs.Trace.{config};
+ghost use Rattle.outside.specs.Changes.{change_at};
 ghost use Rattle.local_state.specs.Record.{plain_state, HasRecord};
+ghost use Rattle.store_api.specs.Holdings.{IsFew};
 ghost use Rattle.sealed_store.specs.Stores.{IsIntact, block_size_of, key_of, cipher_of};
 ghost use Rattle.integrity_store.specs.Held.{version_if_live};
 ghost use Rattle.integrity_store.specs.Loads.{Fetched};
 ghost use Rattle.integrity_store.specs.Stores.{meanings_by, holdings_by, lawful_by, steady_by};
 ghost use Rattle.integrity_store.specs.Views.{held_of};
+ghost use Rattle.integrity_store.specs.WaitingLists.{IsNoBlock};
 ghost use Rattle.std.specs.FinMap as fin;
 
 use crate::record::judge;
@@ -42,7 +46,9 @@ impl<V: Vault, C: Sealer> IntegrityStore<V, C> {
     pub fn new(sealed: SealedStore<V, C>, state: State) -> IntegrityStore<V, C>
         requires sealed { IsIntact (block_size_of sealed) (C.iv_size (cipher_of sealed)) }
         requires state { HasRecord (plain_state state) sealed.vault.list }
+        requires config { IsNoBlock (change_at config sealed.vault.list) }
         ensures intact { ⟦<IntegrityStore<V, C> as Blocks>⟧.meanings.intact result }
+        ensures few { IsFew (⟦<IntegrityStore<V, C> as Blocks>⟧.holdings.used result) }
         ensures sealed { result.sealed ≡ sealed }
         ensures state { result.state ≡ state }
     {

@@ -6,7 +6,22 @@ use Rattle.outcome.specs.Meanings.{Meanings}
 use Rattle.store_api.specs.Content.{Content, SameContent, Changes}
 use Rattle.store_api.specs.Holdings.{Holdings}
 
+-- What a store was opened as, which no call changes. A record stands for a content only under it: the same bytes mean
+-- nothing under another block size, key or file system.
+pub record Identity : Type 0 where
+  -- whether a violation is marked in its record
+  pub marked : Bool
+  pub fs_id : List ℕ
+  pub key_salt : List ℕ
+  pub key_digest : List ℕ
+  -- how many bytes a block's file has
+  pub size : ℕ
+  -- what a sealed text opens to
+  pub opens : List ℕ → Option (List ℕ)
+
 pub record Durables (S : Type 0) : Type 1 where
+  -- what the store was opened as
+  pub identity : S → Identity
   -- the calls on the directory below, where it tells them
   pub trace : S → Option (List Call)
   -- what isn't written yet, by increasing names
@@ -16,8 +31,8 @@ pub record Durables (S : Type 0) : Type 1 where
 
 -- what records mean, whatever a store does since they were kept
 pub record Records : Type 1 where
-  -- this record and this trace stand for this content
-  pub stands : List ℕ → Option (List Call) → Content → Type 0
+  -- in a store opened as this, this record and this trace stand for this content
+  pub stands : Identity → List ℕ → Option (List Call) → Content → Type 0
   -- a violation was marked in this record
   pub marked : List ℕ → Type 0
 
@@ -30,15 +45,17 @@ abbrev pub with_mark : List ℕ → List ℕ
 with_mark bytes = slice_set bytes mark_place 1
 
 pub record Enduring {S : Type 0} (M : Meanings S) (H : Holdings S) (applied : S → S → Changes → Type 0) (D : Durables S) (R : Records) : Type 0 where
-  -- what a sound store keeps now stands for its content
-  pub stands_now : (s : S) → M.intact s → M.sound s → R.stands (D.record_of s true) (D.trace s) (H.content s)
-  pub stands_same : (kept : List ℕ) (trace : Option (List Call)) (old new : Content) → SameContent old new → R.stands kept trace old → R.stands kept trace new
-  pub stands_unmarked : (kept : List ℕ) (trace : Option (List Call)) (content : Content) → R.stands kept trace content → R.marked kept → ⊥
+  -- what a sound store keeps now stands for its content, unless a violation is marked in it
+  pub stands_now : (s : S) → M.intact s → M.sound s → (D.identity s).marked ≡ false → R.stands (D.identity s) (D.record_of s true) (D.trace s) (H.content s)
+  pub stands_same : (identity : Identity) (kept : List ℕ) (trace : Option (List Call)) (old new : Content) → SameContent old new → R.stands identity kept trace old → R.stands identity kept trace new
+  pub stands_unmarked : (identity : Identity) (kept : List ℕ) (trace : Option (List Call)) (content : Content) → R.stands identity kept trace content → R.marked kept → ⊥
   pub marked : (s : S) (with_list : Bool) → M.intact s → R.marked (with_mark (D.record_of s with_list))
   pub long : (s : S) (with_list : Bool) → M.intact s → mark_place < length (D.record_of s with_list)
-  -- loading leaves the list and both records, and what any kept record stands for
+  -- loading leaves the identity, the list and both records, and what any kept record stands for
+  pub loaded_identity : (a b : S) → M.loaded a b → D.identity b ≡ D.identity a
   pub loaded_list : (a b : S) → M.loaded a b → D.list b ≡ D.list a
   pub loaded_records : (a b : S) (with_list : Bool) → M.loaded a b → D.record_of b with_list ≡ D.record_of a with_list
-  pub loaded_stands : (a b : S) (kept : List ℕ) (content : Content) → M.loaded a b → R.stands kept (D.trace a) content → R.stands kept (D.trace b) content
+  pub loaded_stands : (a b : S) (identity : Identity) (kept : List ℕ) (content : Content) → M.loaded a b → R.stands identity kept (D.trace a) content → R.stands identity kept (D.trace b) content
+  pub applied_identity : (a b : S) (changes : Changes) → applied a b changes → D.identity b ≡ D.identity a
   pub applied_trace : (a b : S) (changes : Changes) → applied a b changes → D.trace b ≡ D.trace a
   pub nothing_waits : (s : S) → D.list s ≡ [] → D.record_of s true ≡ D.record_of s false

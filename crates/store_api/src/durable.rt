@@ -1,8 +1,9 @@
 // A store whose changes wait until they are written out.
 ghost use Rattle.std.specs.Prelude.{◌≡◌, ◌≤◌, ◌<◌, ◌^◌, ◌-◌, min, ℕ, true, false, [], IfOk, OnOk, OnErr, length};
 ghost use Rattle.outside.specs.Causes.{HasCause};
-ghost use Rattle.store_api.specs.Content.{SameIds, SameContent};
+ghost use Rattle.store_api.specs.Content.{Id, SameIds, SameContent};
 ghost use Rattle.store_api.specs.Durables.{Durables, Records, Enduring};
+ghost use Rattle.store_api.specs.Holdings.{Stays};
 ghost use Rattle.store_api.specs.Lists.{waiting_bytes, with_config, MayConfigure};
 
 use crate::BlocksMut;
@@ -26,15 +27,16 @@ pub trait Durable: BlocksMut {
         ensures { IfOk result (λ bytes. bytes.items ≡ durables.record_of self.now with_list) };
 
     /// Has the configuration's file wait with these bytes.
-    fn put_config(&mut self, bytes: Vec<u8>) -> Result<(), Memory>
+    fn put_config(&mut self, alloc: Global, bytes: Vec<u8>) -> Result<(), Memory>
         requires intact { Self.meanings.intact self.old }
         requires bytes { MayConfigure bytes.items }
         ensures intact { Self.meanings.intact self.new }
+        ensures identity { durables.identity self.new ≡ durables.identity self.old }
         ensures ok { OnOk result (durables.list self.new ≡ with_config bytes.items (durables.list self.old)) }
-        ensures err { OnErr result (durables.list self.new ≡ durables.list self.old) }
+        ensures err { OnErr result (Self.meanings.loaded self.old self.new) }
+        ensures stays { Stays Self.holdings self.old self.new }
         ensures empty { durables.record_of self.new false ≡ durables.record_of self.old false }
         ensures trace { durables.trace self.new ≡ durables.trace self.old }
-        ensures loaded { Self.meanings.loaded self.old self.new }
         ensures sound { Self.meanings.sound self.old → Self.meanings.sound self.new }
         ensures forgeries { Self.meanings.forgeries self.new ≡ Self.meanings.forgeries self.old }
         ensures lies { Self.meanings.lies self.new ≡ Self.meanings.lies self.old }
@@ -44,13 +46,17 @@ pub trait Durable: BlocksMut {
     fn write_out(&mut self, alloc: Global) -> Result<(), GetFail>
         requires { Self.meanings.intact self.old }
         ensures intact { Self.meanings.intact self.new }
+        ensures identity { durables.identity self.new ≡ durables.identity self.old }
         ensures ids { SameIds (Self.holdings.content self.old) (Self.holdings.content self.new) }
         ensures content { Self.meanings.sound self.old → SameContent (Self.holdings.content self.old) (Self.holdings.content self.new) }
         ensures payload { Self.holdings.payload self.new ≡ Self.holdings.payload self.old }
         ensures told { Self.holdings.told self.new ≡ Self.holdings.told self.old }
+        ensures used { Self.holdings.used self.new ≡ Self.holdings.used self.old }
+        ensures spent { (id : Id) → Self.holdings.spent self.new id ≡ Self.holdings.spent self.old id }
         ensures ok { OnOk result (durables.list self.new ≡ []) }
         ensures empty { durables.record_of self.new false ≡ durables.record_of self.old false }
-        ensures stands { Self.meanings.sound self.old → records.stands (durables.record_of self.old true) (durables.trace self.new) (Self.holdings.content self.old) }
+        ensures stands { Self.meanings.sound self.old → (durables.identity self.old).marked ≡ false
+            → records.stands (durables.identity self.old) (durables.record_of self.old true) (durables.trace self.new) (Self.holdings.content self.old) }
         ensures sound { Self.meanings.sound self.old → Self.meanings.sound self.new }
         ensures forgeries { Self.meanings.forgeries self.new ≡ Self.meanings.forgeries self.old }
         ensures lies { Self.meanings.lies self.new ≡ Self.meanings.lies self.old }

@@ -7,24 +7,25 @@ use Rattle.outside.specs.Trace.{Call}
 use Rattle.outcome.specs.Meanings.{Meanings}
 use Rattle.store_api.specs.Content.{Content, SameContent}
 use Rattle.store_api.specs.Holdings.{Holdings}
-use Rattle.store_api.specs.Durables.{Durables, Records}
+use Rattle.store_api.specs.Durables.{Identity, Durables, Records}
 use Rattle.store_session.specs.declared.session.Session.{Session}
 use Rattle.store_session.specs.declared.session.SyncError.{SyncError}
 use Rattle.outside.specs.declared.keeper.Keeper.{Ghosts as KeeperGhosts}
 
 -- what is kept and the trace stand for this content
-abbrev pub Represents : Records → Option (List ℕ) → Option (List Call) → Content → Type 0
-Represents R kept trace content = (bytes : List ℕ) × (kept ≡ Some bytes) × R.stands bytes trace content
+abbrev pub Represents : Records → Identity → Option (List ℕ) → Option (List Call) → Content → Type 0
+Represents R identity kept trace content = (bytes : List ℕ) × (kept ≡ Some bytes) × R.stands identity bytes trace content
 
 -- the session's store is intact, and the keeper has room for the last record
 pub record Ready {S : Type 0} {K : Type 0} (M : Meanings S) (G : KeeperGhosts K) (session : Session S K) : Type 0 where
   pub intact : M.intact session.store
   pub room : length session.last.items ≤ G.room session.keeper
 
--- one content is kept, and one is present
+-- one content is kept, and one is present; no violation is marked in the store's record
 pub record SessionStands {S : Type 0} {K : Type 0} (M : Meanings S) (H : Holdings S) (D : Durables S) (R : Records) (G : KeeperGhosts K) (session : Session S K) (kept now : Content) : Type 0 where
-  pub represents : Represents R (G.kept session.keeper) (D.trace session.store) kept
+  pub represents : Represents R (D.identity session.store) (G.kept session.keeper) (D.trace session.store) kept
   pub sound : M.sound session.store
+  pub unmarked : (D.identity session.store).marked ≡ false
   pub content : SameContent now (H.content session.store)
   pub whole : session.changed ≡ false → G.kept session.keeper ≡ Some (D.record_of session.store false)
   pub same : session.changed ≡ false → SameContent kept now

@@ -1,0 +1,244 @@
+-- One call that writes what waits: it leaves what the list and the trace stand for, and so does the entry as it leaves the list.
+use Rattle.std.proofs.Common.{◌≡◌, ◌⊎◌, inl, inr, ℕ, Bool, true, false, List, ◌∷◌, length, take, refl, sym, ◌∙◌, ap, subst, arith}
+use Rattle.std.specs.Prelude.{◌&&◌, ◌||◌, ◌==◌, not, is_some, nat_eq, if◌then◌else◌}
+use Rattle.std.specs.List.{starts_with}
+use Rattle.std.specs.Str.{bytes_eq}
+use Rattle.std.specs.Option.{option_map_or}
+use Rattle.std.specs.FinMap as fin
+use Rattle.std.specs.Cmp.Lexicographic.{bytes_decides}
+use Rattle.std.proofs.Math.Bool.{and-false}
+use Rattle.std.proofs.lemmas.List.{take-take}
+use Rattle.std.proofs.lemmas.Slice.Eq.{bytes_eq-Decides}
+use Rattle.std.specs.declared.option.Option.{Option}
+use Rattle.std.specs.declared.option.Option.TheVariants.{None, Some}
+use Rattle.outside.specs.Trace.{At, config, block, Call}
+use Rattle.outside.specs.Names.{same_at}
+use Rattle.outside.specs.NameLaws.{at_total, at_exact}
+use Rattle.outside.specs.Changes.{Changes, change_at}
+use Rattle.outside.specs.Honest.{last_change}
+use Rattle.local_state.specs.declared.mark.Mark.{Mark}
+use Rattle.local_state.specs.Known.{Marks, is_live_in, is_dead_in}
+use Rattle.local_state.specs.Record.{Entry, FitsEntry, may_change, has_bytes}
+use Rattle.redo_vault.specs.Writes.{call_for}
+use Rattle.sealed_store.specs.BlockFiles.{prefix, opens_file}
+use Rattle.store_api.specs.Lists.{block_magic}
+use Rattle.integrity_store.specs.BlockRecords.{Record, record_of, record_in, opened, payload_in}
+use Rattle.integrity_store.specs.Held.{Held, version_if_live, live_version, waiting, waiting_or, bytes_in, file_of, where_live, wanted, was_put, own, IsPast, SoundAt}
+use Rattle.integrity_store.specs.Loads.{wanted_of}
+use Rattle.integrity_store.specs.Stores.{IsWhole}
+use Rattle.integrity_store.specs.WaitingLists.{IsNoBlock}
+use Rattle.integrity_store.proofs.Sorted.{of_found}
+
+true_is_false : true ≡ false → ⊥
+true_is_false e = cc
+
+some_bytes : {a b : List ℕ} → Some a ≡ Some b → a ≡ b
+some_bytes e = cc
+
+-- ---- names
+
+pub same_is : (a b : At) → same_at a b ≡ true → a ≡ b
+same_is config config e = refl
+same_is config (block b) e = absurd (true_is_false (sym e))
+same_is (block a) config e = absurd (true_is_false (sym e))
+same_is (block a) (block b) e = ap block ((bytes_eq-Decides a b).0 e)
+
+-- ---- entries
+
+-- what waits fits
+pub fits_at : (h : Held) (e : Entry) → IsWhole h → change_at e.0 h.list ≡ Some e.1 → FitsEntry h.state.marks e
+fits_at h e whole waits = of_found at_total (FitsEntry h.state.marks) at_exact h.list e.0 e.1 whole.has_record.entries.each waits
+
+-- the mark of a live id
+live_mark : (o : Option Mark) → option_map_or (λ m. m.live) o false ≡ true → (mark : Mark) × (o ≡ Some mark) × (version_if_live o ≡ Some mark.version)
+live_mark None live = absurd (true_is_false (sym live))
+live_mark (Some mark) live = (mark, refl, ap (λ b. if b then Some mark.version else None) live)
+
+dead_used : (b : Bool) (o : Option Mark) → (is_some o && b) ≡ true → is_some o ≡ true
+dead_used b None e = absurd (true_is_false (sym e))
+dead_used b (Some mark) e = refl
+
+-- a block that waits is used
+used_at : (marks : Marks) (id : List ℕ) (change : Option (List ℕ)) → may_change marks (block id) (has_bytes change) ≡ true → is_some (fin.get marks id) ≡ true
+used_at marks id None may = dead_used (not (is_live_in marks id)) (fin.get marks id) may
+used_at marks id (Some bytes) may = let m = live_mark (fin.get marks id) may in ap is_some m.1
+
+-- ---- files
+
+guard : (a b : Bool) (o : Option (List ℕ)) (plain : List ℕ) → (if a && b then o else None) ≡ Some plain → b ≡ true
+guard true true o plain e = refl
+guard true false o plain e = absurd (true_is_false (ap is_some (sym e)))
+guard false b o plain e = absurd (true_is_false (ap is_some (sym e)))
+
+-- a file that opens begins as a block's file does
+begins : (opens : List ℕ → Option (List ℕ)) (size : ℕ) (bytes plain : List ℕ) → opens_file opens size bytes ≡ Some plain → take 14 bytes ≡ block_magic
+begins opens size bytes plain is =
+    let test = guard (length bytes == size) (starts_with nat_eq bytes prefix) _ plain is in
+    let same : prefix ≡ take 16 bytes = (bytes_decides prefix (take 16 bytes)).0 test in
+    sym (take-take 14 16 bytes (omega arith)) ∙ ap (take 14) (sym same)
+
+-- ---- what one call changes
+
+last_call : (name : At) (e : Entry) (ok : Bool) (trace : List Call)
+    → last_change name (call_for e ok ∷ trace) ≡ (if same_at e.0 name then Some (record { bytes = e.1; ok = ok }) else last_change name trace)
+last_call name (other, None) ok trace = refl
+last_call name (other, Some bytes) ok trace = refl
+
+-- the changes of other names are as before
+last_other : (name : At) (e : Entry) (ok : Bool) (trace : List Call) → same_at e.0 name ≡ false → last_change name (call_for e ok ∷ trace) ≡ last_change name trace
+last_other name e ok trace other = last_call name e ok trace ∙ ap (λ b. if b then Some (record { bytes = e.1; ok = ok }) else last_change name trace) other
+
+last_own : (name : At) (e : Entry) (ok : Bool) (trace : List Call) → same_at e.0 name ≡ true → last_change name (call_for e ok ∷ trace) ≡ Some (record { bytes = e.1; ok = ok })
+last_own name e ok trace is = last_call name e ok trace ∙ ap (λ b. if b then Some (record { bytes = e.1; ok = ok }) else last_change name trace) is
+
+equal_or : (a b : List ℕ) (was : Bool) → (bytes_eq a b || was) ≡ true → (a ≡ b) ⊎ (was ≡ true)
+equal_or a b was e = elim (bytes_eq a b) as (λ v. bytes_eq a b ≡ v → (v || was) ≡ true → (a ≡ b) ⊎ (was ≡ true)) [
+  | true ↦ λ is _. inl ((bytes_eq-Decides a b).0 is)
+  | false ↦ λ is e. inr e
+] refl e
+
+-- what was put is what waited, or was put before
+put_call : (bytes : List ℕ) (e : Entry) (ok : Bool) (trace : List Call) → was_put bytes (call_for e ok ∷ trace) ≡ true → (e.1 ≡ Some bytes) ⊎ (was_put bytes trace ≡ true)
+put_call bytes (name, None) ok trace was = inr was
+put_call bytes (name, Some b) ok trace was = elim (equal_or b bytes (was_put bytes trace) was) [ inl is ↦ inl (ap Some is) | inr old ↦ inr old ]
+
+-- an id whose file doesn't wait isn't the one that is written
+apart : (h : Held) (e : Entry) (id : List ℕ) → change_at e.0 h.list ≡ Some e.1 → waiting h id ≡ None → same_at e.0 (block id) ≡ false
+apart h e id waits none =
+    elim (same_at e.0 (block id)) as (λ b. same_at e.0 (block id) ≡ b → b ≡ false) [
+      | true ↦ λ is. let there : waiting h id ≡ Some e.1 = subst (λ name. change_at name h.list ≡ Some e.1) (same_is e.0 (block id) is) waits in absurd (true_is_false (ap is_some (sym there ∙ none)))
+      | false ↦ λ is. refl
+    ] refl
+
+module _ (h : Held) (trace : List Call) (e : Entry) (ok : Bool) (whole : IsWhole h) (waits : change_at e.0 h.list ≡ Some e.1) where
+  -- the file of each block is as before
+  file_call : (id : List ℕ) → file_of h (call_for e ok ∷ trace) id ≡ file_of h trace id
+  file_call id =
+      elim (same_at e.0 (block id)) as (λ b. same_at e.0 (block id) ≡ b → file_of h (call_for e ok ∷ trace) id ≡ file_of h trace id) [
+        | true ↦ λ is.
+            let there : waiting h id ≡ Some e.1 = subst (λ name. change_at name h.list ≡ Some e.1) (same_is e.0 (block id) is) waits in
+            ap (λ w. waiting_or w (bytes_in (last_change (block id) (call_for e ok ∷ trace)))) there ∙ sym (ap (λ w. waiting_or w (bytes_in (last_change (block id) trace))) there)
+        | false ↦ λ is. ap (λ last. waiting_or (waiting h id) (bytes_in last)) (last_other (block id) e ok trace is)
+      ] refl
+
+  pub wanted_call : (id : List ℕ) → wanted h (Some (call_for e ok ∷ trace)) id ≡ wanted h (Some trace) id
+  wanted_call id = ap (λ file. where_live (live_version h id) (payload_in h.opens h.size file)) (file_call id)
+
+  past_call : (r : Record) → IsPast h trace r → IsPast h (call_for e ok ∷ trace) r
+  past_call r p = record { mark = p.mark; used = p.used; client = p.client; version = p.version; payload = λ live. wanted_call r.id ∙ p.payload live }
+
+  used_call : (id : List ℕ) → SoundAt h trace → is_some (last_change (block id) (call_for e ok ∷ trace)) ≡ true → is_some (fin.get h.state.marks id) ≡ true
+  used_call id s changed =
+      elim (same_at e.0 (block id)) as (λ b. same_at e.0 (block id) ≡ b → is_some (fin.get h.state.marks id) ≡ true) [
+        | true ↦ λ is. used_at h.state.marks id e.1 (subst (λ name. may_change h.state.marks name (has_bytes e.1) ≡ true) (same_is e.0 (block id) is) (fits_at h e whole waits).change)
+        | false ↦ λ is. s.used id (ap is_some (sym (last_other (block id) e ok trace is)) ∙ changed)
+      ] refl
+
+  -- a file that is written and opens is the record of a live block
+  past_new : (bytes plain : List ℕ) (name : At) → e.0 ≡ name → SoundAt h trace → e.1 ≡ Some bytes → opens_file h.opens h.size bytes ≡ Some plain
+      → (r : Record) × (record_of h.size plain ≡ Some r) × IsPast h (call_for e ok ∷ trace) r
+  past_new bytes plain config is s put opens =
+      let there : change_at config h.list ≡ Some (Some bytes) = subst (λ name. change_at name h.list ≡ Some e.1) is waits ∙ ap Some put in
+      absurd (subst IsNoBlock there whole.config (begins h.opens h.size bytes plain opens))
+  past_new bytes plain (block id) is s put opens =
+      let there : waiting h id ≡ Some (Some bytes) = subst (λ name. change_at name h.list ≡ Some e.1) is waits ∙ ap Some put in
+      let (mark, known, live) = live_mark (fin.get h.state.marks id) (fits_at h (block id, Some bytes) whole there).change in
+      let (b, payload, same, o) = s.waits id mark.version (Some bytes) live there in
+      let opened_so : opened h.opens h.size bytes ≡ Some (own h id mark.version payload) = ap (opened h.opens h.size) (some_bytes same) ∙ o in (
+        own h id mark.version payload,
+        ap (record_in h.size) (sym opens) ∙ opened_so,
+        record { mark = mark; used = known; client = refl; version = omega arith; payload = λ live'. wanted_of h (call_for e ok ∷ trace) id mark.version bytes payload live there opened_so },
+      )
+
+  pub sound_call : SoundAt h trace → SoundAt h (call_for e ok ∷ trace)
+  sound_call s = record {
+    waits = s.waits;
+    stands = λ id version live none.
+        let (bytes, payload, last, o) = s.stands id version live none in
+        (bytes, payload, last_other (block id) e ok trace (apart h e id waits none) ∙ last, o);
+    buried = λ id dead none. last_other (block id) e ok trace (apart h e id waits none) ∙ s.buried id dead none;
+    used = λ id. used_call id s;
+    past = λ bytes plain was opens. elim (put_call bytes e ok trace was) [
+      | inl new ↦ past_new bytes plain e.0 refl s new opens
+      | inr old ↦ let (r, is, p) = s.past bytes plain old opens in (r, is, past_call r p)
+    ];
+  }
+
+-- ---- an entry that was written leaves the list
+
+-- the list without one entry
+pub record Leaves (e : Entry) (list rest : Changes) : Type 0 where
+  pub was : change_at e.0 list ≡ Some e.1
+  pub gone : change_at e.0 rest ≡ None
+  pub others : (name : At) → same_at e.0 name ≡ false → change_at name rest ≡ change_at name list
+
+-- the same but for the list
+abbrev pub with_list : Held → Changes → Held
+with_list h list = record h { list = list }
+
+module _ (h : Held) (trace : List Call) (e : Entry) (rest : Changes) (whole : IsWhole h) (leaves : Leaves e h.list rest) where
+  abbrev after : List Call
+  after = call_for e true ∷ trace
+
+  -- of the one that leaves, the list said this and says nothing now
+  said : (id : List ℕ) → same_at e.0 (block id) ≡ true → waiting h id ≡ Some e.1
+  said id is = subst (λ name. change_at name h.list ≡ Some e.1) (same_is e.0 (block id) is) leaves.was
+
+  silent : (id : List ℕ) → same_at e.0 (block id) ≡ true → waiting (with_list h rest) id ≡ None
+  silent id is = subst (λ name. change_at name rest ≡ None) (same_is e.0 (block id) is) leaves.gone
+
+  file_left : (id : List ℕ) → file_of (with_list h rest) after id ≡ file_of h after id
+  file_left id =
+      elim (same_at e.0 (block id)) as (λ b. same_at e.0 (block id) ≡ b → file_of (with_list h rest) after id ≡ file_of h after id) [
+        | true ↦ λ is. ap (λ w. waiting_or w (bytes_in (last_change (block id) after))) (silent id is) ∙ ap bytes_in (last_own (block id) e true trace is)
+            ∙ sym (ap (λ w. waiting_or w (bytes_in (last_change (block id) after))) (said id is))
+        | false ↦ λ is. ap (λ w. waiting_or w (bytes_in (last_change (block id) after))) (leaves.others (block id) is)
+      ] refl
+
+  pub wanted_left : (id : List ℕ) → wanted (with_list h rest) (Some after) id ≡ wanted h (Some after) id
+  wanted_left id = ap (λ file. where_live (live_version h id) (payload_in h.opens h.size file)) (file_left id)
+
+  waits_left : (id : List ℕ) (change : Option (List ℕ)) → waiting (with_list h rest) id ≡ Some change → waiting h id ≡ Some change
+  waits_left id change waits =
+      elim (same_at e.0 (block id)) as (λ b. same_at e.0 (block id) ≡ b → waiting h id ≡ Some change) [
+        | true ↦ λ is. absurd (true_is_false (ap is_some (sym waits ∙ silent id is)))
+        | false ↦ λ is. sym (leaves.others (block id) is) ∙ waits
+      ] refl
+
+  stands_left : SoundAt h after → (id : List ℕ) (version : ℕ) → live_version h id ≡ Some version → waiting (with_list h rest) id ≡ None
+      → (bytes payload : List ℕ) × (last_change (block id) after ≡ Some (record { bytes = Some bytes; ok = true })) × (opened h.opens h.size bytes ≡ Some (own h id version payload))
+  stands_left s id version live none =
+      elim (same_at e.0 (block id)) as (λ b. same_at e.0 (block id) ≡ b
+      → (bytes payload : List ℕ) × (last_change (block id) after ≡ Some (record { bytes = Some bytes; ok = true })) × (opened h.opens h.size bytes ≡ Some (own h id version payload))) [
+        | true ↦ λ is.
+            let (bytes, payload, same, o) = s.waits id version e.1 live (said id is) in
+            (bytes, payload, last_own (block id) e true trace is ∙ ap (λ b. Some (record { bytes = b; ok = true })) same, o)
+        | false ↦ λ is. s.stands id version live (sym (leaves.others (block id) is) ∙ none)
+      ] refl
+
+  removal : (id : List ℕ) (change : Option (List ℕ)) → is_dead_in h.state.marks id ≡ true → may_change h.state.marks (block id) (has_bytes change) ≡ true → change ≡ None
+  removal id None dead may = refl
+  removal id (Some bytes) dead may =
+      absurd (true_is_false (sym dead ∙ ap (λ b. is_some (fin.get h.state.marks id) && not b) may ∙ and-false (is_some (fin.get h.state.marks id))))
+
+  buried_left : SoundAt h after → (id : List ℕ) → is_dead_in h.state.marks id ≡ true → waiting (with_list h rest) id ≡ None
+      → last_change (block id) after ≡ Some (record { bytes = None; ok = true })
+  buried_left s id dead none =
+      elim (same_at e.0 (block id)) as (λ b. same_at e.0 (block id) ≡ b → last_change (block id) after ≡ Some (record { bytes = None; ok = true })) [
+        | true ↦ λ is.
+            let gone = removal id e.1 dead (subst (λ name. may_change h.state.marks name (has_bytes e.1) ≡ true) (same_is e.0 (block id) is) (fits_at h e whole leaves.was).change) in
+            last_own (block id) e true trace is ∙ ap (λ b. Some (record { bytes = b; ok = true })) gone
+        | false ↦ λ is. s.buried id dead (sym (leaves.others (block id) is) ∙ none)
+      ] refl
+
+  past_left : (r : Record) → IsPast h after r → IsPast (with_list h rest) after r
+  past_left r p = record { mark = p.mark; used = p.used; client = p.client; version = p.version; payload = λ live. wanted_left r.id ∙ p.payload live }
+
+  pub sound_left : SoundAt h after → SoundAt (with_list h rest) after
+  sound_left s = record {
+    waits = λ id version change live waits. s.waits id version change live (waits_left id change waits);
+    stands = stands_left s;
+    buried = buried_left s;
+    used = s.used;
+    past = λ bytes plain was opens. let (r, is, p) = s.past bytes plain was opens in (r, is, past_left r p);
+  }

@@ -1,0 +1,67 @@
+-- What waits to be written: what may wait as the configuration, and the order of a record's list.
+use Rattle.std.specs.Prelude.{◌≡◌, ℕ, Bool, true, false, ◌&&◌, List, [], ◌∷◌, IsTrue, take}
+use Rattle.std.proofs.Common.{refl, sym, ◌∙◌, ap}
+use Rattle.std.specs.Ordering.{is_lt}
+use Rattle.std.specs.FinMap.Entries.{below_all}
+use Rattle.std.specs.declared.cmp.Ordering.{Ordering}
+use Rattle.std.specs.declared.cmp.Ordering.TheVariants.{Less, Equal, Greater}
+use Rattle.std.specs.declared.option.Option.{Option}
+use Rattle.std.specs.declared.option.Option.TheVariants.{None, Some}
+use Rattle.outside.specs.Trace.{At, config, block}
+use Rattle.outside.specs.Names.{at_cmp}
+use Rattle.outside.specs.NameLaws.{at_total}
+use Rattle.outside.specs.Changes.{Changes, IsIncreasing}
+use Rattle.local_state.specs.Record.{Entry, PlainState, Rise, comes_after, HasRecord}
+use Rattle.store_api.specs.Lists.{block_magic}
+
+-- bytes that wait as the configuration don't begin as a block's file does
+abbrev pub IsNoBlock : Option (Option (List ℕ)) → Type 0
+IsNoBlock None = Unit {0}
+IsNoBlock (Some None) = Unit {0}
+IsNoBlock (Some (Some bytes)) = take 14 bytes ≡ block_magic → ⊥
+
+-- ---- a list that has a record stands in order
+
+after_is_less : (p q : At) → comes_after (Some p) q ≡ is_lt (at_cmp p q)
+after_is_less config config = refl
+after_is_less config (block b) = refl
+after_is_less (block a) config = refl
+after_is_less (block a) (block b) = refl
+
+less : (o : Ordering) → is_lt o ≡ true → o ≡ Less
+less Less h = refl
+less Equal h = absurd (cc)
+less Greater h = absurd (cc)
+
+both : (a b : Bool) → IsTrue a → IsTrue b → IsTrue (a && b)
+both true b h k = k
+both false b h k = absurd (cc)
+
+front : (a b : Bool) → IsTrue (a && b) → IsTrue a
+front true b h = refl
+front false b h = absurd (cc)
+
+rest : (a b : Bool) → IsTrue (a && b) → IsTrue b
+rest true b h = h
+rest false b h = absurd (cc)
+
+below_less : (p q : At) (list : Changes) → at_cmp p q ≡ Less → IsTrue (below_all at_cmp q list) → IsTrue (below_all at_cmp p list)
+below_less p q [] l h = refl
+below_less p q (e ∷ list) l h =
+    let next = less (at_cmp q e.0) (front (is_lt (at_cmp q e.0)) (below_all at_cmp q list) h) in
+    both (is_lt (at_cmp p e.0)) (below_all at_cmp p list) (ap is_lt (at_total.trans p q e.0 l next))
+    (below_less p q list l (rest (is_lt (at_cmp q e.0)) (below_all at_cmp q list) h))
+
+rises_below : (p : At) (list : Changes) → Rise (Some p) list → IsTrue (below_all at_cmp p list)
+rises_below p [] h = refl
+rises_below p (e ∷ list) h =
+    let next : is_lt (at_cmp p e.0) ≡ true = sym (after_is_less p e.0) ∙ h.0 in
+    both (is_lt (at_cmp p e.0)) (below_all at_cmp p list) next (below_less p e.0 list (less (at_cmp p e.0) next) (rises_below e.0 list h.1))
+
+pub rises_in_order : (previous : Option At) (list : Changes) → Rise previous list → IsIncreasing list
+rises_in_order previous [] h = refl
+rises_in_order previous (e ∷ list) h =
+    both (below_all at_cmp e.0 list) _ (rises_below e.0 list h.1) (rises_in_order (Some e.0) list h.1)
+
+pub in_order : (state : PlainState) (list : List Entry) → HasRecord state list → IsIncreasing list
+in_order state list has = rises_in_order None list has.entries.order

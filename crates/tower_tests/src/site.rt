@@ -1,0 +1,157 @@
+// A directory and a local record in memory, between runs of a client of one file system.
+ghost use Rattle.std.specs.Prelude.{◌≡◌, true, IfOk};
+ghost use Rattle.outside.specs.Trace.{config};
+ghost use Rattle.outside.specs.Changes.{IsIncreasing, change_at};
+ghost use Rattle.outside.specs.View.{list_of};
+ghost use Rattle.sealed_store.specs.Stores.{IsIntact, block_size_of, cipher_of};
+ghost use Rattle.store_api.specs.Holdings.{IsFew};
+ghost use Rattle.integrity_store.specs.WaitingLists.{IsNoBlock};
+
+use crate::changes::{Change as Payload, Ended, Synced, change_and_sync};
+use aes_gcm::Aes256Gcm;
+use block_id::BlockId;
+use integrity_store::IntegrityStore;
+use local_state::decode;
+use outside::{Change, FileName, MemoryKeeper, MemoryVault, Pending, pending_list};
+use redo_vault::RedoVault;
+use seal_api::Sealer;
+use sealed_store::SealedStore;
+use std::alloc::Global;
+use std::test::Fail;
+use store_api::Blocks;
+
+type Store = IntegrityStore<MemoryVault, Aes256Gcm>;
+
+/// What a load answered: the first byte of the payload.
+pub(crate) type Loaded = Result<Option<u8>, block_id::Fail>;
+
+/// What a client finds as it begins and leaves as it ends.
+#[derive(Drop)]
+pub(crate) struct Site {
+    pub(crate) vault: MemoryVault,
+    pub(crate) keeper: MemoryKeeper,
+}
+
+// The record of client 1 that knows no block.
+fn empty_record(alloc: Global) -> Result<Vec<u8>, Fail> {
+    let mut out = Vec::new(alloc);
+    out.extend_from_slice(b"cryfs.localstate;1\0\0")?;
+    out.extend_from_slice(&[0x11; 80])?;
+    out.extend_from_slice(&[1, 0, 0, 0])?;
+    out.extend_from_slice(&[0; 16])?;
+    Ok(out)
+}
+
+fn first_byte(loaded: Result<Option<Vec<u8>>, block_id::Fail>) -> Loaded {
+    match loaded {
+        Ok(Some(bytes)) => Ok(bytes.first().copied()),
+        Ok(None) => Ok(None),
+        Err(fail) => Err(fail),
+    }
+}
+
+// Whether what waits as the configuration begins as no block's file.
+fn is_no_block(list: &[Pending]) -> bool
+    ensures { result ≡ true → IsNoBlock (change_at config (list_of list.now)) }
+{
+    match pending_list::lookup(list, &FileName::Config) {
+        Some(Change::Bytes(bytes)) => !bytes.starts_with(b"cryfs;block;0\0"),
+        Some(Change::Removal) => true,
+        None => true,
+    }
+}
+
+// Blocks of 128 bytes.
+fn sealed_over(alloc: Global, vault: MemoryVault, list: Vec<Pending>) -> SealedStore<MemoryVault, Aes256Gcm>
+    requires { IsIncreasing (list_of list.items) }
+    ensures intact { IsIntact (block_size_of result) (⟦<Aes256Gcm as Sealer>⟧.iv_size (cipher_of result)) }
+    ensures size { block_size_of result ≡ 128 }
+    ensures list { result.vault.list ≡ list_of list.items }
+{
+    let _ = alloc;
+    SealedStore::new(RedoVault::new(vault, list), Aes256Gcm, [3; 32], 128)
+}
+
+// The store that this record is of.
+fn open(alloc: Global, vault: MemoryVault, record: &[u8]) -> Result<Store, Fail>
+    ensures intact { IfOk result (λ store. ⟦<Store as Blocks>⟧.meanings.intact store) }
+    ensures few { IfOk result (λ store. IsFew (⟦<Store as Blocks>⟧.holdings.used store)) }
+{
+    let Ok((state, list)) = decode(alloc, record) else {
+        return Err("no record".into());
+    };
+    if !is_no_block(&list) {
+        return Err("a block as the configuration".into());
+    }
+    let _used = state.known.len();
+    Ok(IntegrityStore::new(sealed_over(alloc, vault, list), state))
+}
+
+impl Site {
+    /// An empty directory and a record that knows no block.
+    pub(crate) fn new(alloc: Global) -> Result<Site, Fail> {
+        let record = empty_record(alloc)?;
+        Ok(Site {
+            vault: MemoryVault::new(alloc),
+            keeper: MemoryKeeper::new(alloc, Some(record), Vec::new(alloc)),
+        })
+    }
+
+    /// A copy of what is kept.
+    pub(crate) fn record(&self, alloc: Global) -> Result<Vec<u8>, Fail> {
+        let kept = self.keeper.kept().ok_or("nothing is kept")?;
+        Ok(kept.to_vec(alloc)?)
+    }
+
+    /// Has the saves of these numbers fail, each with whether it keeps its record.
+    pub(crate) fn fail_saves(&mut self, alloc: Global, fails: &[(u64, bool)]) -> Result<(), Fail> {
+        let record = self.record(alloc)?;
+        self.keeper = MemoryKeeper::new(alloc, Some(record), fails.to_vec(alloc)?);
+        Ok(())
+    }
+
+    // Takes the directory out.
+    fn take_vault(&mut self, alloc: Global) -> MemoryVault {
+        std::mem::replace(&mut self.vault, MemoryVault::new(alloc))
+    }
+
+    // Takes the local record out.
+    fn take_keeper(&mut self, alloc: Global) -> MemoryKeeper {
+        let none = MemoryKeeper::new(alloc, None, Vec::new(alloc));
+        std::mem::replace(&mut self.keeper, none)
+    }
+
+    /// Opens the store, makes the changes, all at once, and syncs twice.
+    pub(crate) fn run(&mut self, alloc: Global, changes: &[Payload]) -> Result<(Synced, Synced), Fail> {
+        let record = self.record(alloc)?;
+        let store = open(alloc, self.take_vault(alloc), &record)?;
+        let keeper = self.take_keeper(alloc);
+        let Ended {
+            first,
+            second,
+            store,
+            keeper,
+        } = change_and_sync(alloc, store, keeper, changes)?;
+        self.vault = store.into_vault();
+        self.keeper = keeper;
+        Ok((first, second))
+    }
+
+    /// Opens the store and loads a block.
+    pub(crate) fn load(&mut self, alloc: Global, id: &BlockId) -> Result<Loaded, Fail> {
+        let record = self.record(alloc)?;
+        let mut store = open(alloc, self.take_vault(alloc), &record)?;
+        let loaded = store.load(alloc, id);
+        self.vault = store.into_vault();
+        Ok(first_byte(loaded))
+    }
+
+    /// A copy of a block's file.
+    pub(crate) fn file(&self, alloc: Global, id: &BlockId) -> Result<Vec<u8>, Fail> {
+        match pending_list::lookup(self.vault.files(), &FileName::Block(*id)) {
+            Some(Change::Bytes(bytes)) => Ok(bytes.as_slice().to_vec(alloc)?),
+            Some(Change::Removal) => Err("removed".into()),
+            None => Err("no file".into()),
+        }
+    }
+}
