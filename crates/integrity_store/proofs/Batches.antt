@@ -1,6 +1,6 @@
 -- A batch, from the calls that were made for it to what the store is afterwards.
-use Rattle.std.proofs.Common.{◌≡◌, ℕ, ◌^◌, ◌<◌, ◌≤◌, List, Bool, true, false, length, sym, ◌∙◌, ap, subst}
-use Rattle.std.specs.Prelude.{T, Option, Some, None}
+use Rattle.std.proofs.Common.{◌≡◌, ℕ, ◌^◌, ◌<◌, ◌≤◌, List, true, false, length, sym, ◌∙◌, ap, subst}
+use Rattle.std.specs.Prelude.{T, Option}
 use Rattle.std.specs.FinMap as fin
 use Rattle.std.specs.FinMap.{is_sorted, entries_sorted, get-entries}
 use Rattle.std.specs.FinMap.Entries.{find}
@@ -15,7 +15,7 @@ use Rattle.integrity_store.specs.Applied.{Applied}
 use Rattle.integrity_store.specs.Draws.{AreDrawn}
 use Rattle.integrity_store.specs.Held.{Held}
 use Rattle.integrity_store.specs.Marking.{Entry, MayMarkEach, mark_each, some_spent_in, count_new_in, count_new_each}
-use Rattle.integrity_store.specs.Sealing.{Lists}
+use Rattle.integrity_store.specs.Sealing.{IsListed}
 use Rattle.integrity_store.specs.Stores.{IsWhole, meanings_by, holdings_by}
 use Rattle.integrity_store.proofs.Applying.{Made, made_of, may_mark, may_mark_batch, applied, drawn_batch}
 use Rattle.integrity_store.proofs.Marks.{count_before, spent_found, found_spent}
@@ -48,7 +48,7 @@ pub record Listed {S : Type 0} (held : S → Held) (trace : S → Option (List C
   pub whole : IsWhole (held a)
   pub fits : Fits (holdings_by held trace) a changes
   pub none_spent : some_spent_in (held a).state.marks es ≡ false
-  pub lists : Lists (held a) m es stream left
+  pub lists : IsListed (held a) m es stream left
 
 module _ {S : Type 0} {held : S → Held} {trace : S → Option (List Call)} {a : S} {m : Held} {changes : Changes} {es : List Entry} {stream left : Stream} (l : Listed held trace a m changes es stream left) where
   pub may_mark_listed : MayMarkEach m.state.marks es

@@ -1,7 +1,7 @@
-use Rattle.std.proofs.Common.{◌≡◌, ℕ, ◌+◌, ◌≤◌, ◌<◌, List, drop, length, get_or, sym, ◌∙◌, ap, subst, arith}
+use Rattle.std.proofs.Common.{◌≡◌, ◌+◌, drop, sym, ◌∙◌, ap, subst, arith}
 use Rattle.std.specs.FinMap as fin
 use Rattle.store_api.specs.Entries.{entry_view, entries_of}
-use Rattle.integrity_store.specs.Marking.{Entry, one_if_new, mark_one, mark_each, MayMarkEach, count_new_each}
+use Rattle.integrity_store.specs.Marking.{one_if_new, mark_one, mark_each, MayMarkEach, count_new_each}
 use Rattle.integrity_store.proofs.Sorted.{turn}
 use Rattle.integrity_store.proofs.marking.mark_all.Goals as goal
 
