@@ -17,3 +17,5 @@ pub use seal::seal_config;
 
 #[cfg(test)]
 mod tests;
+#[cfg(test)]
+mod text_tests;
