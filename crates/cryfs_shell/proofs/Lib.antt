@@ -3,3 +3,4 @@ pub mod Serving
 pub mod Steps
 pub mod Tried
 pub mod Trying
+pub mod FormsOf

@@ -46,7 +46,15 @@ fn read_plain_form(words: &[String]) -> Option<Form>
     ensures most { IfSome result (λ form. IsModest form) }
 {
     match words {
-        [first] => read_word(first.as_str()),
+        [first] => {
+            if first.as_str() == "trial" {
+                Some(Form::Trial)
+            } else if first.as_str() == "info" {
+                Some(Form::Info)
+            } else {
+                None
+            }
+        }
         [first, second, third] => {
             if first.as_str() == "trial" && second.as_str() == "generate" {
                 Some(Form::Generate(read_count(third.as_bytes())?))
@@ -54,14 +62,6 @@ fn read_plain_form(words: &[String]) -> Option<Form>
                 None
             }
         }
-        _ => None,
-    }
-}
-
-fn read_word(word: &str) -> Option<Form> {
-    match word {
-        "trial" => Some(Form::Trial),
-        "info" => Some(Form::Info),
         _ => None,
     }
 }
