@@ -1,4 +1,4 @@
-//! The program: its words and the real streams.
+//! The program: its words, the clock, random bytes, the real streams and folders.
 #![tactic(auto)]
 
 mod reader_source;
@@ -8,6 +8,8 @@ use crate::reader_source::ReaderSource;
 use crate::writer_sink::WriterSink;
 use cryfs_shell::{Status, run};
 use fs_model::Moment;
+use rand_chacha::ChaCha20Rng;
+use real_folders::{FolderKeeper, FolderVault};
 use std::env;
 use std::io::{self, ErrorKind};
 use std::process::ExitCode;
@@ -36,22 +38,39 @@ fn read_words(rt: &HostRuntime) -> Result<Vec<String>, Status> {
     Ok(words)
 }
 
-/// Runs the words after the block folder and the state folder, from standard input to standard output. A clock that
-/// can't be read is an input that failed.
+/// Runs the words after the block folder and the state folder, from standard input to standard output. The clock and the
+/// system's random bytes are inputs: where either is refused, that is an input that failed.
 fn run_words(rt: &HostRuntime) -> Status {
     let words = match read_words(rt) {
         Ok(words) => words,
         Err(status) => return status,
     };
-    let [_program, _blocks, _state, rest @ ..] = words.as_slice() else {
+    let [_program, blocks, state, rest @ ..] = words.as_slice() else {
         return Status::Usage;
     };
     let Some(now) = read_clock(rt) else {
         return Status::InputFault;
     };
+    let Ok(mut chance) = rand::make_rng::<ChaCha20Rng, HostRuntime>(rt) else {
+        return Status::InputFault;
+    };
+    let Ok(keeper) = FolderKeeper::new(rt.alloc(), *rt, state) else {
+        return Status::Memory;
+    };
+    let vault = FolderVault::new(*rt, blocks);
     let mut input = ReaderSource::new(rt.reader());
     let mut output = WriterSink::new(io::writer(rt));
-    run(rt.alloc(), rest, now, &mut input, &mut output)
+    let ended = run(
+        rt.alloc(),
+        rest,
+        now,
+        &mut input,
+        &mut output,
+        vault,
+        keeper,
+        &mut chance,
+    );
+    ended.status
 }
 
 fn main(rt: HostRuntime) -> ExitCode {

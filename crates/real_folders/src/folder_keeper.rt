@@ -184,8 +184,8 @@ mod tests {
     }
 
     /// Whether this record is saved.
-    fn saves<K: Keeper>(alloc: Global, keeper: &mut K, record: &str) -> bool {
-        keeper.prepare(alloc, record.len()).is_ok() && keeper.save(record.as_bytes()).is_ok()
+    fn saves<K: Keeper>(alloc: Global, keeper: &mut K, text: &str) -> bool {
+        keeper.prepare(alloc, text.len()).is_ok() && keeper.save(text.as_bytes()).is_ok()
     }
 
     /// Whether loads and saves fail.
