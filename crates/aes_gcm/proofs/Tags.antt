@@ -39,8 +39,8 @@ pub crypt_from : (cipher : List ℕ → List ℕ) (iv counter text : List ℕ) �
 unfolding crypt
 crypt_from cipher iv counter text first = ap (λ (block : List ℕ). gctr cipher (inc32 block) text) first
 
-pub tag_from : (cipher : List ℕ → List ℕ) (iv extra text counter : List ℕ) (h : ℕ) → h ≡ hash_subkey cipher → counter ≡ first_counter cipher iv
-    → gctr cipher counter (ghash h (padded extra ++ padded text ++ bit_length extra ++ bit_length text)) ≡ tag_of cipher iv extra text
+pub tag_from : (cipher : List ℕ → List ℕ) (iv extra text counter : List ℕ) → counter ≡ first_counter cipher iv
+    → gctr cipher counter (ghash (hash_subkey cipher) (padded extra ++ padded text ++ bit_length extra ++ bit_length text)) ≡ tag_of cipher iv extra text
 unfolding tag_of
-tag_from cipher iv extra text counter h key first =
-    λ i. gctr cipher (first i) (ghash (key i) (padded extra ++ padded text ++ bit_length extra ++ bit_length text))
+tag_from cipher iv extra text counter first =
+    ap (λ (block : List ℕ). gctr cipher block (ghash (hash_subkey cipher) (padded extra ++ padded text ++ bit_length extra ++ bit_length text))) first
