@@ -4,7 +4,7 @@ use Rattle.aes_gcm.specs.Gctr.{counter_block, inc32}
 
 pub counter_block_next : (block : List ℕ) (n : ℕ) → counter_block block (n + 1) ≡ inc32 (counter_block block n)
 unfolding counter_block
-counter_block_next block n = rw add-one refl
+counter_block_next block n = ap (counter_block block) (add-one n)
 
 -- counter blocks from a later one on
 pub counter_block_from : (block : List ℕ) (m n : ℕ) → counter_block (counter_block block m) n ≡ counter_block block (m + n)

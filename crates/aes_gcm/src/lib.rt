@@ -13,4 +13,8 @@ pub use gcm::{gcm_seal, gcm_unseal};
 pub use gcm_key::GcmKey;
 
 #[cfg(test)]
+mod compared;
+#[cfg(test)]
+mod plain;
+#[cfg(test)]
 mod tests;
