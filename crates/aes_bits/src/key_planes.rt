@@ -1,22 +1,31 @@
 // A key, ready to encrypt eight blocks at a time (FIPS 197, 5.1).
-ghost use Rattle.std.specs.Prelude.{◌≡◌, map};
-ghost use Rattle.aes_block.specs.KeyExpansion.{aes256};
+ghost use Rattle.std.specs.Prelude.{◌≡◌, ◌<◌, map, replicate};
+ghost use Rattle.aes_block.specs.Cipher.{round_key};
+ghost use Rattle.aes_block.specs.KeyExpansion.{aes256, key_expansion};
 
+use crate::planes::Planes;
+use crate::rounds::encrypt;
 use aes_block::KeySchedule;
 use std::marker::Model;
 
 /// AES-256 under one key, eight blocks at a time; no look-up depends on the key or the blocks.
 #[derive(Drop)]
 pub struct KeyPlanes {
-    keys: KeySchedule,
+    key: [u8; 32],
+    // Each round key, eight times.
+    round_keys: [Planes; 15],
 }
 
 impl Model for KeyPlanes {
-    ghost use Rattle.std.specs.Prelude.{ℕ, List};
+    ghost use Rattle.std.specs.Prelude.{◌≡◌, ℕ, List};
+    ghost use Rattle.aes_block.specs.KeyExpansion.{key_expansion};
+    ghost use Rattle.aes_bits.specs.Planes.{repeated_keys};
 
     ghost Value = { List ℕ };
 
-    ghost view = { λ planes. planes.keys };
+    ghost view = { λ planes. planes.key };
+
+    ghost invariant = { λ planes. planes.round_keys ≡ repeated_keys (key_expansion planes.key) };
 }
 
 impl KeyPlanes {
@@ -24,22 +33,40 @@ impl KeyPlanes {
     pub fn new(keys: &KeySchedule) -> KeyPlanes
         ensures { result ≡ keys.now }
     {
-        KeyPlanes { keys: *keys }
+        KeyPlanes {
+            key: keys.key(),
+            round_keys: [
+                repeated_key(keys, 0),
+                repeated_key(keys, 1),
+                repeated_key(keys, 2),
+                repeated_key(keys, 3),
+                repeated_key(keys, 4),
+                repeated_key(keys, 5),
+                repeated_key(keys, 6),
+                repeated_key(keys, 7),
+                repeated_key(keys, 8),
+                repeated_key(keys, 9),
+                repeated_key(keys, 10),
+                repeated_key(keys, 11),
+                repeated_key(keys, 12),
+                repeated_key(keys, 13),
+                repeated_key(keys, 14),
+            ],
+        }
     }
 
     /// Eight blocks, each encrypted by itself under the key.
     pub fn encrypt_blocks(&self, blocks: &[[u8; 16]; 8]) -> [[u8; 16]; 8]
         ensures { result ≡ map (aes256 self.now) blocks.now }
     {
-        [
-            self.keys.encrypt(blocks[0]),
-            self.keys.encrypt(blocks[1]),
-            self.keys.encrypt(blocks[2]),
-            self.keys.encrypt(blocks[3]),
-            self.keys.encrypt(blocks[4]),
-            self.keys.encrypt(blocks[5]),
-            self.keys.encrypt(blocks[6]),
-            self.keys.encrypt(blocks[7]),
-        ]
+        encrypt(&self.round_keys, &Planes::new(blocks)).blocks()
     }
+}
+
+// The key of round r, eight times.
+fn repeated_key(keys: &KeySchedule, r: usize) -> Planes
+    requires { r < 15 }
+    ensures { result ≡ replicate 8 (round_key (key_expansion keys.now) r) }
+{
+    Planes::repeated(keys.round_key(r))
 }

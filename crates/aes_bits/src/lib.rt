@@ -2,6 +2,9 @@
 #![tactic(auto)]
 
 mod key_planes;
+mod planes;
+mod rounds;
+mod sub_bytes;
 
 pub use key_planes::KeyPlanes;
 

@@ -4,8 +4,10 @@
 mod cipher;
 mod key_schedule;
 mod sbox;
+mod sub_word;
 
 pub use key_schedule::KeySchedule;
+pub use sub_word::SubWord;
 
 #[cfg(test)]
 mod tests;

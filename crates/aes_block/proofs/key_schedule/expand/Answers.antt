@@ -7,10 +7,10 @@ use Rattle.aes_block.proofs.key_schedule.expand.Goals.{then-n-eq0, else-n-eq0}
 
 pub words-init : goal.words-init
 unfolding key_words
-words-init c = record { whole = omega arith; power = refl; written = c.first_words-k.ensures }
+words-init g c = record { whole = omega arith; power = refl; written = c.first_words-k.ensures }
 
 pub words-preserved : goal.words-preserved
-words-preserved c =
+words-preserved g c =
     let k = c.words.k in
     let n = c.words.n in
     let first = slice_index k (4 * n) ∷ slice_index k (4 * n + 1) ∷ slice_index k (4 * n + 2) ∷ slice_index k (4 * n + 3) ∷ [] in

@@ -1,0 +1,18 @@
+use Rattle.std.proofs.Common.{◌≡◌, ℕ, List, [], ◌∷◌, replicate, slice_index, ap, ◌∙◌}
+use Rattle.std.specs.Int.{bit_at}
+use Rattle.aes_bits.specs.Planes.{bit_of}
+use Rattle.aes_bits.proofs.Blocks.{repeated_blocks}
+use Rattle.aes_bits.proofs.Bytes.{below_eight}
+use Rattle.aes_bits.proofs.planes.Planes.repeated.Goals as goal
+
+pub returns : goal.returns
+returns c =
+    let v = c.load-bytes.result in
+    let planes : List (List ℕ) =
+    c.spread.result ∷ c.spread-2.result ∷ c.spread-3.result ∷ c.spread-4.result ∷ c.spread-5.result ∷ c.spread-6.result ∷ c.spread-7.result ∷ c.spread-8.result ∷ [] in
+    c.from_planes.ensures
+    ∙ repeated_blocks planes v c.load-bytes.ensures.vector
+    (λ p j k lp lj. below_eight (λ k. bit_of planes p j k ≡ bit_at (slice_index v p) k) (c.spread.ensures.bits p j lp lj) (c.spread-2.ensures.bits p j lp lj)
+    (c.spread-3.ensures.bits p j lp lj) (c.spread-4.ensures.bits p j lp lj) (c.spread-5.ensures.bits p j lp lj) (c.spread-6.ensures.bits p j lp lj)
+    (c.spread-7.ensures.bits p j lp lj) (c.spread-8.ensures.bits p j lp lj) k)
+    ∙ ap (replicate 8) c.load-bytes.ensures.lanes

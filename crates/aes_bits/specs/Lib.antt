@@ -1,0 +1,4 @@
+pub mod Circuit
+pub mod SBox
+pub mod Planes
+pub mod Swaps
