@@ -43,7 +43,8 @@ impl GcmKey {
         ensures { result ≡ keys.now }
     {
         let planes = KeyPlanes::new(keys);
-        let hash = HashKey::new(subkey_of(&planes));
+        let mut hash = HashKey::zero();
+        hash.set(subkey_of(&planes));
         GcmKey { planes, hash }
     }
 

@@ -1,7 +1,7 @@
 use Rattle.std.proofs.Common.{◌≡◌, ℕ, ◌<◌, ◌*◌, [], length, slice_index, slice_index_or}
 use Rattle.aes_gcm.specs.Ghash.{v_at}
 use Rattle.aes_gcm.specs.Tables.{entry}
-use Rattle.aes_gcm.proofs.hash_key.tables.Given as goal
+use Rattle.aes_gcm.proofs.hash_key.make_tables.Given as goal
 
 abbrev pub invariant-rows : goal.invariant-rows
 invariant-rows l = record {

@@ -3,11 +3,11 @@ use Rattle.std.proofs.lemmas.List.{length-set}
 use Rattle.aes_gcm.specs.Ghash.{next_v, v_at}
 use Rattle.aes_gcm.specs.Tables.{AreTables}
 use Rattle.aes_gcm.proofs.Product.{rows_next, v_at_four}
-use Rattle.aes_gcm.proofs.hash_key.tables.Goals as goal
+use Rattle.aes_gcm.proofs.hash_key.make_tables.Goals as goal
 
 pub rows-init : goal.rows-init
 unfolding v_at
-rows-init c = record { whole = refl; factor = refl; made = λ q b lq lb. absurd (omega arith) }
+rows-init c = record { whole = omega arith; factor = refl; made = λ q b lq lb. absurd (omega arith) }
 
 pub rows-preserved : goal.rows-preserved
 rows-preserved c = record {
