@@ -5,6 +5,7 @@ ghost use Rattle.aes_block.specs.KeyExpansion.{aes256, key_expansion};
 
 use crate::planes::Planes;
 use crate::rounds::encrypt;
+use crate::sub_word::ByCircuit;
 use aes_block::KeySchedule;
 use std::marker::Model;
 
@@ -53,6 +54,21 @@ impl KeyPlanes {
                 repeated_key(keys, 14),
             ],
         }
+    }
+
+    /// The planes of a key, expanded by the circuit.
+    pub fn from_key(key: &[u8; 32]) -> KeyPlanes
+        ensures { result ≡ key.now }
+    {
+        KeyPlanes::new(&KeySchedule::expanded_by(key, &ByCircuit))
+    }
+
+    /// A block, encrypted under the key, in the time of eight.
+    pub fn encrypt_block(&self, block: [u8; 16]) -> [u8; 16]
+        ensures { result ≡ aes256 self.now block }
+    {
+        let blocks = encrypt(&self.round_keys, &Planes::repeated(block)).blocks();
+        blocks[0]
     }
 
     /// Eight blocks, each encrypted by itself under the key.

@@ -5,6 +5,7 @@ mod key_planes;
 mod planes;
 mod rounds;
 mod sub_bytes;
+mod sub_word;
 
 pub use key_planes::KeyPlanes;
 
