@@ -38,11 +38,24 @@ impl Model for GcmKey {
 }
 
 impl GcmKey {
-    /// Makes a key ready.
+    /// Makes an expanded key ready.
     pub fn new(keys: &KeySchedule) -> GcmKey
         ensures { result ≡ keys.now }
     {
-        let planes = KeyPlanes::new(keys);
+        GcmKey::with_planes(KeyPlanes::new(keys))
+    }
+
+    /// Makes a key ready; no look-up in expanding it depends on the key.
+    pub fn from_key(key: &[u8; 32]) -> GcmKey
+        ensures { result ≡ key.now }
+    {
+        GcmKey::with_planes(KeyPlanes::from_key(key))
+    }
+
+    #[inline(always)]
+    fn with_planes(planes: KeyPlanes) -> GcmKey
+        ensures { result ≡ planes }
+    {
         let mut hash = HashKey::zero();
         hash.set(subkey_of(&planes));
         GcmKey { planes, hash }
