@@ -1,7 +1,11 @@
 #!/usr/bin/env python3
 """Sealing and opening of blocks in memory: bench_seal beside python3's cryptography (OpenSSL), in one run.
 
-Build the program first: (cd crates/bench_seal && rt run). Prints the median of five interleaved runs of each, and the ratio.
+Build the program first: (cd crates/bench_seal && rt run). The words are sizes of blocks; without any, 16384 and 128.
+For each size five rounds are run, in each of them bench_seal with the key made ready in each call, bench_seal with the
+key made ready once, and OpenSSL with a key that is kept. Times are of the processor in user mode, so that other
+programs on the machine matter little. Printed are the medians, the median of the rounds' ratios, and what making the
+key ready costs a call.
 """
 import os
 import resource
@@ -13,20 +17,22 @@ from cryptography.hazmat.primitives.ciphers.aead import AESGCM
 
 TOP = os.path.dirname(os.path.dirname(os.path.abspath(__file__)))
 PROGRAM = os.path.join(TOP, "crates", "bench_seal", "out", "bench_seal")
+ROUNDS = 5
+# OpenSSL is so much faster that it is given this many times the blocks.
+MORE = 8
 
 
 def seconds(run):
-    """Processor time of a call, with its child processes."""
+    """Processor time of a call in user mode, with its child processes."""
     def used():
-        own, children = resource.getrusage(resource.RUSAGE_SELF), resource.getrusage(resource.RUSAGE_CHILDREN)
-        return own.ru_utime + own.ru_stime + children.ru_utime + children.ru_stime
+        return sum(resource.getrusage(who).ru_utime for who in (resource.RUSAGE_SELF, resource.RUSAGE_CHILDREN))
     start = used()
     run()
     return used() - start
 
 
-def ours(count, size):
-    subprocess.run([PROGRAM, str(count), str(size)], check=True, stdout=subprocess.DEVNULL)
+def ours(count, size, *words):
+    subprocess.run([PROGRAM, str(count), str(size), *words], check=True, stdout=subprocess.DEVNULL)
 
 
 def theirs(count, size):
@@ -36,13 +42,18 @@ def theirs(count, size):
         plain = cipher.decrypt(iv, cipher.encrypt(iv, plain, None), None)
 
 
-def main():
-    size = int(sys.argv[1]) if len(sys.argv) > 1 else 16384
+def measure(size):
     count = max(1, 40_000_000 // size)
-    times = [(seconds(lambda: ours(count, size)), seconds(lambda: theirs(count * 8, size)) / 8) for _ in range(5)]
-    own, other = (median(t[i] for t in times) for i in (0, 1))
-    megabytes = 2 * count * size / 1e6
-    print(f"{size} bytes: ours {megabytes / own:.1f} MB/s, cryptography {megabytes / other:.1f} MB/s, ratio {other / own:.3f}")
+    rounds = [(seconds(lambda: ours(count, size)),
+               seconds(lambda: ours(count, size, "kept")),
+               seconds(lambda: theirs(count * MORE, size)) / MORE) for _ in range(ROUNDS)]
+    each, kept, other = (median(r[i] for r in rounds) for i in range(3))
+    ratio = median(r[2] / r[0] for r in rounds)
+    calls, megabytes = 2 * count, 2 * count * size / 1e6
+    print(f"{size} bytes: ours {megabytes / each:.1f} MB/s, cryptography {megabytes / other:.1f} MB/s, ratio {ratio:.3f};"
+          f" with the key kept {megabytes / kept:.1f} MB/s, so making it ready costs {(each - kept) / calls * 1e6:.2f} us a call"
+          f" of {each / calls * 1e6:.2f}")
 
 
-main()
+for word in sys.argv[1:] or ["16384", "128"]:
+    measure(int(word))

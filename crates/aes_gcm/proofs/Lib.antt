@@ -1,3 +1,4 @@
+pub mod Counters
 pub mod Product
 pub mod Hashing
 pub mod Streams

@@ -1,11 +1,11 @@
 -- The product, four bits at a time, by the tables.
 use Rattle.std.proofs.Common.{◌≡◌, ℕ, zero, suc, ◌+◌, ◌-◌, ◌*◌, ◌/◌, ◌%◌, ◌<◌, bit_xor, refl, ap, ◌∙◌, add-one, arith}
-use Rattle.std.proofs.Math.Nat.{zero-mul, one-mul}
+use Rattle.std.proofs.Math.Nat.{mul-zero, zero-mul, one-mul}
 use Rattle.std.specs.Int.Bits.{xor_zero_l, xor_zero_r}
-use Rattle.std.proofs.Common.{◌^◌, List, [], ◌∷◌, length, map, slice_set, slice_index_or, ◌≢◌, inl, inr, slice_index, shr-shr, sym}
+use Rattle.std.proofs.Common.{◌^◌, List, [], ◌∷◌, length, map, replicate, slice_set, slice_index_or, ◌≢◌, inl, inr, slice_index, shr-shr, sym}
 use Rattle.std.proofs.Math.Nat.{pow-suc}
 use Rattle.std.proofs.lemmas.Nat.{pow-add}
-use Rattle.std.proofs.lemmas.List.{get_or-set_same, get_or-set_other}
+use Rattle.std.proofs.lemmas.List.{get_or-replicate, get_or-set_same, get_or-set_other}
 use Rattle.std.proofs.lemmas.List.FromFn.{get_or-map-range_with_len}
 use Rattle.std.proofs.lemmas.Bool.{cases_lt}
 use Rattle.std.specs.List.{range_with_len}
@@ -114,6 +114,21 @@ row_list v v1 v2 v3 = simp (zero-mul, one-mul, xor_zero_l, xor_zero_r)
 
 pub row_at : (v b : ℕ) (r : List ℕ) → r ≡ map (entry v) (range_with_len 0 16) → b < 16 → slice_index r b ≡ entry v b
 row_at v b r e lt = rw e (get_or-map-range_with_len (entry v) 0 16 b b 0 lt (omega arith))
+
+-- the multiples of 0
+zero_at : (i : ℕ) → v_at 0 i ≡ 0
+unfolding v_at
+zero_at zero = refl
+zero_at (suc i) = ap next_v (zero_at i)
+
+zero_entry : (b : ℕ) → 0 ≡ entry 0 b
+zero_entry b = simp mul-zero refl
+
+pub zero_tables : AreTables 0 (replicate 32 (replicate 16 0))
+unfolding AreTables
+zero_tables = λ p b lp lb.
+    ap (λ (r : List ℕ). slice_index r b) (get_or-replicate 32 p (replicate 16 0) [] lp)
+    ∙ get_or-replicate 16 b 0 0 lb ∙ zero_entry b ∙ sym (ap (λ (v : ℕ). entry v b) (zero_at (4 * p)))
 
 -- one more row
 pub rows_next : (h v p : ℕ) (t : List (List ℕ)) (r : List ℕ) → length t ≡ 32 → p < 32 → v ≡ v_at h (4 * p) → r ≡ map (entry v) (range_with_len 0 16)

@@ -13,17 +13,23 @@ unfolding first_counter
 first_counter_short cipher iv len =
     sym (ap (λ (b : Bool). cond b (iv ++ (0 ∷ 0 ∷ 0 ∷ 1 ∷ [])) (ghash (hash_subkey cipher) (padded iv ++ replicate 8 0 ++ bit_length iv))) (eq-eqb (length iv) 12 len))
 
+pub first_counter_long : (cipher : List ℕ → List ℕ) (iv : List ℕ) (h : ℕ) → h ≡ hash_subkey cipher → (length iv ≡ 12 → ⊥)
+    → ghash h (padded iv ++ replicate 8 0 ++ bit_length iv) ≡ first_counter cipher iv
+unfolding first_counter
+first_counter_long cipher iv h key other =
+    let blocks : List ℕ = padded iv ++ replicate 8 0 ++ bit_length iv in
+    ap (λ (k : ℕ). ghash k blocks) key
+    ∙ sym (ap (λ (b : Bool). cond b (iv ++ (0 ∷ 0 ∷ 0 ∷ 1 ∷ [])) (ghash (hash_subkey cipher) blocks)) (ne_eqb (length iv) 12 other))
+
 pub first_counter_hashed : (cipher : List ℕ → List ℕ) (iv last : List ℕ) (h : ℕ) → h ≡ hash_subkey cipher → (length iv ≡ 12 → ⊥)
     → last ≡ to_be_bytes w64 (0 * 8 % 2 ^ 64) ++ to_be_bytes w64 (length iv * 8 % 2 ^ 64)
     → to_be_bytes w128 (absorbed h (absorbed h 0 iv) last) ≡ first_counter cipher iv
-unfolding first_counter bit_length
+unfolding bit_length
 first_counter_hashed cipher iv last h key other lengths =
-    let blocks : List ℕ = padded iv ++ replicate 8 0 ++ bit_length iv in
     sym (ghash_two h iv last (ap length lengths))
     ∙ ap (λ (l : List ℕ). ghash h (padded iv ++ l)) lengths
     ∙ ap (ghash h) (sym (append_assoc (padded iv) (replicate 8 0) (bit_length iv)))
-    ∙ ap (λ (k : ℕ). ghash k blocks) key
-    ∙ sym (ap (λ (b : Bool). cond b (iv ++ (0 ∷ 0 ∷ 0 ∷ 1 ∷ [])) (ghash (hash_subkey cipher) blocks)) (ne_eqb (length iv) 12 other))
+    ∙ first_counter_long cipher iv h key other
 
 pub tag_hash : (h : ℕ) (a b last : List ℕ)
     → last ≡ to_be_bytes w64 (length a * 8 % 2 ^ 64) ++ to_be_bytes w64 (length b * 8 % 2 ^ 64)
@@ -39,8 +45,8 @@ pub crypt_from : (cipher : List ℕ → List ℕ) (iv counter text : List ℕ) �
 unfolding crypt
 crypt_from cipher iv counter text first = ap (λ (block : List ℕ). gctr cipher (inc32 block) text) first
 
-pub tag_from : (cipher : List ℕ → List ℕ) (iv extra text counter : List ℕ) (h : ℕ) → h ≡ hash_subkey cipher → counter ≡ first_counter cipher iv
-    → gctr cipher counter (ghash h (padded extra ++ padded text ++ bit_length extra ++ bit_length text)) ≡ tag_of cipher iv extra text
+pub tag_from : (cipher : List ℕ → List ℕ) (iv extra text counter : List ℕ) → counter ≡ first_counter cipher iv
+    → gctr cipher counter (ghash (hash_subkey cipher) (padded extra ++ padded text ++ bit_length extra ++ bit_length text)) ≡ tag_of cipher iv extra text
 unfolding tag_of
-tag_from cipher iv extra text counter h key first =
-    λ i. gctr cipher (first i) (ghash (key i) (padded extra ++ padded text ++ bit_length extra ++ bit_length text))
+tag_from cipher iv extra text counter first =
+    ap (λ (block : List ℕ). gctr cipher block (ghash (hash_subkey cipher) (padded extra ++ padded text ++ bit_length extra ++ bit_length text))) first

@@ -1,5 +1,5 @@
 -- Counter mode (SP 800-38D, 6.2 and 6.5), for any cipher of blocks of sixteen bytes.
-use Rattle.std.specs.Prelude.{ℕ, zero, suc, ◌+◌, ◌/◌, ◌%◌, ◌^◌, List, ◌++◌, length, take, drop, map, slice_index, bit_xor}
+use Rattle.std.specs.Prelude.{◌≡◌, ℕ, zero, suc, ◌+◌, ◌/◌, ◌%◌, ◌^◌, ◌<◌, List, [], ◌++◌, length, take, drop, map, slice_index, slice_index_or, bit_xor}
 use Rattle.std.specs.Int.{w32, from_be_bytes, to_be_bytes}
 use Rattle.std.specs.List.{range_with_len}
 
@@ -20,3 +20,8 @@ key_byte cipher initial k = slice_index (cipher (counter_block initial (k / 16))
 unfoldable pub gctr : (List ℕ → List ℕ) → List ℕ → List ℕ → List ℕ
 gctr cipher initial text =
     map (λ k. bit_xor (slice_index text k) (key_byte cipher initial k)) (range_with_len 0 (length text))
+
+-- the first blocks of the key stream: counter blocks from the initial one on, encrypted
+unfoldable pub HasStream : (List ℕ → List ℕ) → List ℕ → List (List ℕ) → Type 0
+HasStream cipher initial blocks =
+    (j : ℕ) → j < length blocks → slice_index_or blocks j [] ≡ cipher (counter_block initial j)

@@ -2,8 +2,7 @@
 ghost use Rattle.std.specs.Prelude.{◌≡◌, ◌+◌, ◌++◌, length, take, vec_len, OnOk, OnErr};
 ghost use Rattle.aes_gcm.specs.Gcm.{sealed_of};
 
-use crate::gcm::{gcm_seal, gcm_unseal};
-use aes_block::KeySchedule;
+use crate::gcm_key::GcmKey;
 use block_id::Memory;
 use seal_api::Sealer;
 use std::alloc::Global;
@@ -58,15 +57,8 @@ impl Sealer for Aes256Gcm {
         let end = sealed.len() - TAG_LEN;
         let mut tag = [0u8; TAG_LEN];
         tag.copy_from_slice(&sealed[end..]);
-        let keys = KeySchedule::new(key);
-        gcm_unseal(
-            alloc,
-            &keys,
-            &sealed[..IV_LEN],
-            &[],
-            &sealed[IV_LEN..end],
-            &tag,
-        )
+        let ready = GcmKey::from_key(key);
+        ready.unseal(alloc, &sealed[..IV_LEN], &[], &sealed[IV_LEN..end], &tag)
     }
 
     ghost lengths = { λ _ key text plain opens. length-opened_of key text plain opens };
@@ -79,7 +71,7 @@ fn append_sealed(key: &[u8; 32], iv: &[u8], plain: &[u8], out: &mut Vec<u8>) -> 
     ensures err { OnErr result (take (vec_len out.old) out.new.items ≡ out.old.items) }
 {
     out.extend_from_slice(iv)?;
-    let tag = gcm_seal(&KeySchedule::new(key), iv, &[], plain, out)?;
+    let tag = GcmKey::from_key(key).seal(iv, &[], plain, out)?;
     out.extend_from_slice(&tag)?;
     Ok(())
 }

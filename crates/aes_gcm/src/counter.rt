@@ -1,9 +1,6 @@
-// Counter mode (SP 800-38D, 6.2 and 6.5).
-ghost use Rattle.std.specs.Prelude.{◌≡◌, ◌≤◌, ◌+◌, ◌<◌, ℕ, length, slice_index, bit_xor};
-ghost use Rattle.aes_block.specs.KeyExpansion.{aes256};
-ghost use Rattle.aes_gcm.specs.Gctr.{gctr, inc32};
-
-use aes_block::KeySchedule;
+// Counter blocks (SP 800-38D, 6.2 and 6.5).
+ghost use Rattle.std.specs.Prelude.{◌≡◌, ℕ, ◌<◌, [], slice_index_or};
+ghost use Rattle.aes_gcm.specs.Gctr.{counter_block, inc32};
 
 /// The counter block after this one.
 #[inline(always)]
@@ -16,29 +13,26 @@ pub(crate) fn inc32(block: [u8; 16]) -> [u8; 16]
     next
 }
 
-// Adds the block `mask` to the sixteen bytes from `start` on, or to those that there are.
+/// Eight counter blocks in a row, from this one on.
 #[inline(always)]
-fn add_block(text: &mut [u8], start: usize, mask: [u8; 16])
-    requires { start ≤ length text.old }
-    ensures inside { (j : ℕ) → j < 16 → start + j < length text.old → slice_index text.new (start + j) ≡ bit_xor (slice_index text.old (start + j)) (slice_index mask j) }
-    ensures before { (k : ℕ) → k < start → slice_index text.new k ≡ slice_index text.old k }
-    ensures after { (k : ℕ) → start + 16 ≤ k → slice_index text.new k ≡ slice_index text.old k }
+pub(crate) fn eight_counters(first: [u8; 16]) -> [[u8; 16]; 8]
+    ensures { (j : ℕ) → j < 8 → slice_index_or result j [] ≡ counter_block first j }
 {
-    let len = (text.len() - start).min(16);
-    'bytes: for j in 0..len {
-        text[start + j] ^= mask[j];
-    }
+    let second = inc32(first);
+    let third = inc32(second);
+    let fourth = inc32(third);
+    let fifth = inc32(fourth);
+    let sixth = inc32(fifth);
+    let seventh = inc32(sixth);
+    let eighth = inc32(seventh);
+    [first, second, third, fourth, fifth, sixth, seventh, eighth]
 }
 
-/// Adds the encrypted counter blocks, from `initial` on, to the text.
-pub(crate) fn gctr(keys: &KeySchedule, initial: [u8; 16], text: &mut [u8])
-    ensures { text.new ≡ gctr (aes256 keys.now) initial text.old }
+/// The counter block eight after this one.
+#[inline(always)]
+pub(crate) fn eight_after(first: [u8; 16]) -> [u8; 16]
+    ensures { result ≡ counter_block first 8 }
 {
-    let count = text.len().div_ceil(16);
-    let mut counter = initial;
-    'turns: for i in 0..count {
-        add_block(text, 16 * i, keys.encrypt(counter));
-        let next = inc32(counter);
-        counter = next;
-    }
+    let [_, _, _, _, _, _, _, eighth] = eight_counters(first);
+    inc32(eighth)
 }

@@ -29,13 +29,24 @@ impl Model for HashKey {
 }
 
 impl HashKey {
-    pub(crate) fn new(subkey: u128) -> HashKey
-        ensures { result ≡ subkey }
+    /// The hash subkey 0, whose multiples are 0.
+    #[inline(always)]
+    pub(crate) fn zero() -> HashKey
+        ensures { result ≡ 0 }
     {
         HashKey {
-            subkey,
-            tables: tables(subkey),
+            subkey: 0,
+            tables: [[0; 16]; 32],
         }
+    }
+
+    /// Takes another hash subkey. The tables are made in place, since moving them costs as much.
+    #[inline(always)]
+    pub(crate) fn set(&mut self, subkey: u128)
+        ensures { self.new ≡ subkey }
+    {
+        self.subkey = subkey;
+        make_tables(&mut self.tables, subkey);
     }
 
     // The product of a block and the subkey.
@@ -84,7 +95,7 @@ fn block_of(bytes: &[u8], i: usize) -> [u8; 16]
 
 // V shifted right by one bit, reduced.
 #[inline(always)]
-fn next_v(v: u128) -> u128
+pub(crate) fn next_v(v: u128) -> u128
     ensures { result ≡ next_v v }
 {
     (v >> 1) ^ (v % 2 * (0xe1 << 120))
@@ -118,10 +129,11 @@ fn row(v: u128) -> [u128; 16]
     ]
 }
 
-fn tables(h: u128) -> Tables
-    ensures { AreTables h result }
+// The tables of the subkey h.
+#[inline(always)]
+fn make_tables(t: &mut Tables, h: u128)
+    ensures { AreTables h t.new }
 {
-    let mut t = [[0u128; 16]; 32];
     let mut v = h;
     'rows: for p in 0..32 {
         let r = row(v);
@@ -129,7 +141,6 @@ fn tables(h: u128) -> Tables
         let v2 = next_v(next_v(v));
         v = next_v(next_v(v2));
     }
-    t
 }
 
 // The product of a block and the subkey of the tables.

@@ -4,10 +4,17 @@
 mod aes256_gcm;
 mod counter;
 mod gcm;
+mod gcm_key;
 mod hash_key;
+mod key_stream;
 
 pub use aes256_gcm::Aes256Gcm;
 pub use gcm::{gcm_seal, gcm_unseal};
+pub use gcm_key::GcmKey;
 
+#[cfg(test)]
+mod compared;
+#[cfg(test)]
+mod plain;
 #[cfg(test)]
 mod tests;

@@ -156,6 +156,46 @@ fn meets_the_vectors(rt: HostRuntime) -> Result<(), Fail> {
     Ok(())
 }
 
+// Texts of several turns, by OpenSSL: how long each is, and its tag.
+const LONG_CASES: [(usize, &str); 7] = [
+    (112, "bb5c5979211238b99d44a7b8762f3e75"),
+    (113, "0e1cb6c79c739ba19b8fac447ba6d7cf"),
+    (240, "ad625c401f136c5671e5a7078eb70a16"),
+    (241, "29e03c3befdfb51cb967d0406ae18d1e"),
+    (300, "82bbe217076c52d140962bd544a45b97"),
+    (4096, "e676231a86d69da8dd2d039c16231635"),
+    (16336, "d1e0cb94f8d8b5a2dd1fd08a59790f38"),
+];
+
+// Byte i of the long texts is i * i + 7 * i, modulo 251.
+fn long_text(alloc: Global, len: usize) -> Result<Vec<u8>, Fail> {
+    let mut text = Vec::new(alloc);
+    let mut byte: u8 = 0;
+    let mut step: u8 = 8;
+    for _ in 0..len {
+        text.push(byte)?;
+        byte = ((u16::from(byte) + u16::from(step)) % 251) as u8;
+        step = ((u16::from(step) + 2) % 251) as u8;
+    }
+    Ok(text)
+}
+
+#[test]
+fn meets_long_cases(rt: HostRuntime) -> Result<(), Fail> {
+    let alloc = rt.alloc();
+    let keys = KeySchedule::new(&key_of(CASES[7].key));
+    let iv = tag_of(CASES[7].iv);
+    for (len, tag) in LONG_CASES {
+        let plain = long_text(alloc, len)?;
+        let mut text = Vec::new(alloc);
+        let made = gcm_seal(&keys, &iv, &[1; 20], &plain, &mut text)?;
+        assert_eq!(rt; made, tag_of(tag), "{len} bytes");
+        let opened = gcm_unseal(alloc, &keys, &iv, &[1; 20], &text, &made)?;
+        assert!(rt; opened == Some(plain), "{len} bytes");
+    }
+    Ok(())
+}
+
 #[test]
 fn opens_what_was_sealed(rt: HostRuntime) -> Result<(), Fail> {
     let alloc = rt.alloc();

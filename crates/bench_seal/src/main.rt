@@ -1,11 +1,13 @@
-//! Seals and opens blocks in memory, for measuring: the words are how many blocks, and how many
-//! bytes a block has. The answer is one line with a checksum of the tags.
+//! Seals and opens blocks in memory, for measuring: the words are how many blocks, how many bytes a
+//! block has, and `kept` where one key is made ready for all of them. The answer is one line with a
+//! checksum of the tags.
 #![tactic(auto)]
 
 ghost use Rattle.std.specs.Prelude.{◌≡◌, ◌≤◌, IfOk, length};
 ghost use Rattle.seal_api.specs.Sealing.{max_len};
 
-use aes_gcm::Aes256Gcm;
+use aes_block::KeySchedule;
+use aes_gcm::{Aes256Gcm, GcmKey};
 use block_id::Memory;
 use seal_api::Sealer;
 use std::alloc::Global;
@@ -16,11 +18,12 @@ const KEY: [u8; 32] = [7; 32];
 // The most bytes of a block.
 const MAX_SIZE: usize = 1 << 30;
 
-// How many blocks are sealed, and how many bytes each has.
+// How many blocks are sealed, how many bytes each has, and whether one key is made ready for all.
 #[derive(Drop)]
-struct Sizes {
+struct Plan {
     count: u64,
     size: usize,
+    kept: bool,
     ghost in_range: { size ≤ max_len },
 }
 
@@ -42,42 +45,75 @@ fn through(
     }
 }
 
-// Seals and opens blocks of zeros. The checksum takes in the last byte of each tag.
-fn bench(alloc: Global, sizes: &Sizes) -> Result<u64, Memory> {
-    let mut plain = vec![in alloc; 0u8; sizes.size]?;
+// The checksum with the last byte of a tag taken in.
+fn taken_in(checksum: u64, sealed: &[u8]) -> u64 {
+    let last = sealed.last().copied().unwrap_or(0);
+    checksum.rotate_left(5) ^ u64::from(last)
+}
+
+// Seals and opens blocks of zeros, with the key made ready in each call.
+fn bench(alloc: Global, plan: &Plan) -> Result<u64, Memory> {
+    let mut plain = vec![in alloc; 0u8; plan.size]?;
     let mut sealed = Vec::new(alloc);
     let mut checksum: u64 = 0;
-    for number in 0..sizes.count {
+    for number in 0..plan.count {
         let iv = u128::from(number).to_be_bytes();
         plain = through(alloc, iv, &plain, &mut sealed)?;
-        let last = sealed.last().copied().unwrap_or(0);
-        checksum = checksum.rotate_left(5) ^ u64::from(last);
+        checksum = taken_in(checksum, &sealed);
     }
     Ok(checksum)
 }
 
-// The two words, as numbers.
-fn sizes_of(rt: &HostRuntime) -> io::Result<Option<Sizes>> {
+// The same with the key made ready once.
+fn bench_kept(alloc: Global, plan: &Plan) -> Result<u64, Memory> {
+    let key = GcmKey::new(&KeySchedule::new(&KEY));
+    let mut plain = vec![in alloc; 0u8; plan.size]?;
+    let mut sealed = Vec::new(alloc);
+    let mut checksum: u64 = 0;
+    for number in 0..plan.count {
+        let iv = u128::from(number).to_be_bytes();
+        sealed.clear();
+        let tag = key.seal(&iv, &[], &plain, &mut sealed)?;
+        if let Some(opened) = key.unseal(alloc, &iv, &[], &sealed, &tag)? {
+            plain = opened;
+        }
+        checksum = taken_in(checksum, &tag);
+    }
+    Ok(checksum)
+}
+
+// What the words say.
+fn plan_of(rt: &HostRuntime) -> io::Result<Option<Plan>> {
     let mut words = env::args(rt)?;
     words.next();
-    let (Some(count), Some(size), None) = (words.next(), words.next(), words.next()) else {
+    let (Some(count), Some(size)) = (words.next(), words.next()) else {
         return Ok(None);
     };
+    let kept = match words.next() {
+        None => false,
+        Some(word) if word.as_str() == "kept" && words.next().is_none() => true,
+        Some(_) => return Ok(None),
+    };
     match (count.as_str().parse(), size.as_str().parse()) {
-        (Ok(count), Ok(size)) if size <= MAX_SIZE => Ok(Some(Sizes { count, size })),
+        (Ok(count), Ok(size)) if size <= MAX_SIZE => Ok(Some(Plan { count, size, kept })),
         _ => Ok(None),
     }
 }
 
 fn main(rt: HostRuntime) -> io::Result<()> {
-    let Some(sizes) = sizes_of(&rt)? else {
-        return println!(rt; "usage: bench_seal COUNT SIZE");
+    let Some(plan) = plan_of(&rt)? else {
+        return println!(rt; "usage: bench_seal COUNT SIZE [kept]");
     };
-    let Ok(checksum) = bench(rt.alloc(), &sizes) else {
+    let checksum = if plan.kept {
+        bench_kept(rt.alloc(), &plan)
+    } else {
+        bench(rt.alloc(), &plan)
+    };
+    let Ok(checksum) = checksum else {
         return println!(rt; "out of memory");
     };
     println!(rt;
         "{} blocks of {} bytes, checksum {checksum:016x}",
-        sizes.count, sizes.size
+        plan.count, plan.size
     )
 }

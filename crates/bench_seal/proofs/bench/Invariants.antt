@@ -2,4 +2,4 @@ use Rattle.std.proofs.Common.{◌≡◌, length}
 use Rattle.bench_seal.proofs.bench.Given as goal
 
 abbrev pub invariant-loop-number : goal.invariant-loop-number
-invariant-loop-number l = length l.plain.items ≡ l.sizes.size
+invariant-loop-number l = length l.plain.items ≡ l.plan.size

@@ -16,10 +16,10 @@ returns c =
     let key = c.args.key.now in
     let sealed = c.args.sealed.now in
     let end : ℕ = length sealed - 16 in
-    let P : Option (List ℕ) → Type 0 = λ o. IfOk c.gcm_unseal.result (λ answer. option_map {T = Vec ℕ Global} {U = List ℕ} (λ plain. plain.items) answer ≡ o) in
+    let P : Option (List ℕ) → Type 0 = λ o. IfOk c.unseal.result (λ answer. option_map {T = Vec ℕ Global} {U = List ℕ} (λ plain. plain.items) answer ≡ o) in
     let tag : c.copy_from_slice.new.self ≡ drop end sealed =
     c.copy_from_slice.ensures.after ∙ take_all (length sealed - end) (drop end sealed) (omega (arith, length-drop end sealed)) in
-    let parts : opened (aes256 c.new-keys.result) (take 16 sealed) [] (slice_range sealed 16 end) c.copy_from_slice.new.self
+    let parts : opened (aes256 c.from_key-ready.result) (take 16 sealed) [] (slice_range sealed 16 end) c.copy_from_slice.new.self
     ≡ opened (aes256 key) (take 16 sealed) [] (slice_range sealed 16 end) (drop end sealed) =
-    λ i. opened (aes256 (c.new-keys.ensures i)) (take 16 sealed) [] (slice_range sealed 16 end) (tag i) in
-    subst P (parts ∙ sym (opened_of_long key sealed c.if-sealed.false)) c.gcm_unseal.ensures.plain
+    λ i. opened (aes256 (c.from_key-ready.ensures i)) (take 16 sealed) [] (slice_range sealed 16 end) (tag i) in
+    subst P (parts ∙ sym (opened_of_long key sealed c.if-sealed.false)) c.unseal.ensures.plain

@@ -1,0 +1,14 @@
+use Rattle.std.proofs.Common.{◌≡◌, ℕ, ◌<◌, List, [], length, map, slice_index_or, ap, ◌∙◌, arith}
+use Rattle.std.proofs.lemmas.List.{get_or-map}
+use Rattle.aes_block.specs.KeyExpansion.{aes256}
+use Rattle.aes_gcm.specs.Gctr.{HasStream, counter_block}
+use Rattle.aes_gcm.proofs.key_stream.first_turn.Goals as goal
+
+pub returns : goal.returns
+unfolding HasStream
+returns c = λ j lt.
+    let cipher : List ℕ → List ℕ = aes256 c.args.keys.now in
+    let counters : List (List ℕ) = c.eight_counters.result in
+    let eight : j < 8 = omega arith in
+    ap (λ (blocks : List (List ℕ)). slice_index_or blocks j []) c.encrypt_blocks.ensures
+    ∙ get_or-map cipher counters j [] [] (omega arith) ∙ ap cipher (c.eight_counters.ensures j eight)
