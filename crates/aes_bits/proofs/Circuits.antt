@@ -5,7 +5,7 @@ use Rattle.std.proofs.lemmas.Nat.Bits.{bit_at-zero}
 use Rattle.std.specs.Simd.Lanes.{Each1}
 use Rattle.aes_bits.specs.Circuit.{Circuit, Flip, Gate, Product, Sum, bits, chosen, made, run, through, vectors}
 use Rattle.aes_bits.specs.Planes.{IsVector}
-use Rattle.aes_bits.proofs.Vectors.{and_below, flip_bit, lane_bit, product_bit, splat_bit, splat_vector, sum_bit, xor_below, zip_vector}
+use Rattle.aes_bits.proofs.Lanes.{and_below, flip_bit, lane_bit, product_bit, splat_bit, splat_vector, sum_bit, xor_below, zip_vector}
 
 pub each_append : {X : Type 0} (P : X → Type 0) (xs ys : List X) → Each1 P xs → Each1 P ys → Each1 P (xs ++ ys)
 each_append P [] ys hx hy = hy

@@ -1,6 +1,9 @@
 pub mod Bytes
-pub mod Vectors
+pub mod Lanes
+pub mod Spread
+pub mod Swaps
 pub mod Circuits
 pub mod SBox
 pub mod Blocks
-pub mod Swaps
+pub mod Steps
+pub mod MixColumns

@@ -9,12 +9,20 @@ use Rattle.std.specs.Simd.Lanes.{Each1}
 use Rattle.aes_block.specs.Cipher.{of_bits, sub_byte}
 use Rattle.aes_block.specs.Field.{inverse, times, xtime}
 use Rattle.aes_block.proofs.SubByte.{all_below, all_below_at}
-use Rattle.aes_bits.specs.Circuit.{Circuit, bits, run, through, vectors}
+use Rattle.aes_bits.specs.Circuit.{Circuit, Wires, bits, run, through, vectors}
 use Rattle.aes_bits.specs.Planes.{AreVectors, IsVector, bit_of, byte_of, first}
-use Rattle.aes_bits.specs.SBox.{doubling, from_sums, input_sums, norm, norm_inverse, output_sums, products, s_box}
+use Rattle.aes_bits.specs.SBox.{doubling, input_sums, norm, norm_inverse, output_sums, products}
 use Rattle.aes_bits.proofs.Bytes.{bit_at-of_bits, of_bits-lt, of_bits_same}
 use Rattle.aes_bits.proofs.Circuits.{each_append, through_bits, through_vectors}
-use Rattle.aes_bits.proofs.Vectors.{first_all, first_vectors, lane_bit}
+use Rattle.aes_bits.proofs.Lanes.{first_all, first_vectors, lane_bit}
+
+-- what the sums of the input become
+abbrev from_sums : {A : Type 0} → Wires A → List A → List A
+from_sums on y = through on output_sums (through on products (y ++ through on norm_inverse (through on norm y)))
+
+-- the S-box
+abbrev pub s_box : {A : Type 0} → Wires A → List A → List A
+s_box on x = from_sums on (through on input_sums x)
 
 -- ---- on the bits of a byte
 

@@ -3,16 +3,15 @@ use Rattle.std.proofs.Common.{◌≡◌, ℕ, ◌+◌, ◌-◌, ◌*◌, ◌/◌
 use Rattle.std.proofs.lemmas.Bool.{cases_lt}
 use Rattle.std.proofs.lemmas.List.{get_or_past}
 use Rattle.std.proofs.lemmas.List.FromFn.{get_or-map-range_with_len, length-map-range_with_len}
-use Rattle.std.proofs.lemmas.Nat.{pow_pos, shr-shr, shr_le, shr_split}
+use Rattle.std.proofs.lemmas.Nat.{pow_pos, shr-shr, shr_split}
 use Rattle.std.proofs.lemmas.Nat.Bits.{bit_at-lt, bit_at-zero, bit_at_above, bit_at_and, bit_at_cat_high, bit_at_cat_low, bit_at_xor}
-use Rattle.std.proofs.lemmas.Simd.{get_or-replicate}
 use Rattle.std.specs.Int.{bit_at}
 use Rattle.std.specs.List.{range_with_len}
 use Rattle.std.specs.Simd.Lanes.{zip2}
 use Rattle.aes_bits.specs.Planes.{IsVector}
 use Rattle.aes_bits.specs.Swaps.{high_places, high_swapped, is_low, lane_bits, low_places, low_swapped, mask_bits}
 use Rattle.aes_bits.proofs.Bytes.{row_at, row_same}
-use Rattle.aes_bits.proofs.Vectors.{and_below, splat_vector, xor_below, zip_lane, zip_vector}
+use Rattle.aes_bits.proofs.Lanes.{and_below, down_vector, shifted_down, shifted_up, splat_lane, splat_vector, up_vector, xor_below, zip_lane, zip_vector}
 
 -- ---- bits of shifted bytes
 
@@ -84,12 +83,6 @@ lane_bits_at v p n below = elim (cases_lt n 8) [
 
 -- ---- vectors
 
-abbrev pub shifted_down : ℕ → ℕ → ℕ
-shifted_down n s = n / 2 ^ s
-
-abbrev pub shifted_up : ℕ → ℕ → ℕ
-shifted_up n s = n * 2 ^ s % 2 ^ 8
-
 abbrev pub moved_lanes : List ℕ → List ℕ → ℕ → ℕ → List ℕ
 moved_lanes x y s m = zip2 bit_and (zip2 bit_xor (zip2 shifted_down x (replicate 16 s)) y) (replicate 16 m)
 
@@ -100,42 +93,28 @@ abbrev pub high_lanes : List ℕ → List ℕ → ℕ → ℕ → List ℕ
 high_lanes x y s m = zip2 bit_xor y (moved_lanes x y s m)
 
 module _ (x y : List ℕ) (s m : ℕ) (hx : IsVector x) (hy : IsVector y) (hs : s < 256) (hm : m < 256) where
-  down_below : (a b : ℕ) → a < 256 → b < 256 → shifted_down a b < 256
-  down_below a b ha hb = omega (arith, shr_le a b)
-
-  up_below : (a b : ℕ) → a < 256 → b < 256 → shifted_up a b < 256
-  up_below a b ha hb = omega arith
-
-  down_vector : IsVector (zip2 shifted_down x (replicate 16 s))
-  down_vector = zip_vector shifted_down down_below x (replicate 16 s) hx (splat_vector s hs)
-
   sum_vector : IsVector (zip2 bit_xor (zip2 shifted_down x (replicate 16 s)) y)
-  sum_vector = zip_vector bit_xor xor_below (zip2 shifted_down x (replicate 16 s)) y down_vector hy
+  sum_vector = zip_vector bit_xor xor_below (zip2 shifted_down x (replicate 16 s)) y (down_vector x s hx hs) hy
 
   moved_vector : IsVector (moved_lanes x y s m)
   moved_vector = zip_vector bit_and and_below (zip2 bit_xor (zip2 shifted_down x (replicate 16 s)) y) (replicate 16 m) sum_vector (splat_vector m hm)
 
-  up_vector : IsVector (zip2 shifted_up (moved_lanes x y s m) (replicate 16 s))
-  up_vector = zip_vector shifted_up up_below (moved_lanes x y s m) (replicate 16 s) moved_vector (splat_vector s hs)
-
   pub low_vector : IsVector (low_lanes x y s m)
-  low_vector = zip_vector bit_xor xor_below x (zip2 shifted_up (moved_lanes x y s m) (replicate 16 s)) hx up_vector
+  low_vector = zip_vector bit_xor xor_below x (zip2 shifted_up (moved_lanes x y s m) (replicate 16 s)) hx (up_vector (moved_lanes x y s m) s moved_vector hs)
 
   pub high_vector : IsVector (high_lanes x y s m)
   high_vector = zip_vector bit_xor xor_below y (moved_lanes x y s m) hy moved_vector
 
   moved_lane : (p : ℕ) → p < 16 → slice_index (moved_lanes x y s m) p ≡ moved (slice_index x p) (slice_index y p) s m
   moved_lane p lt =
-      zip_lane bit_and (zip2 bit_xor (zip2 shifted_down x (replicate 16 s)) y) (replicate 16 m) p sum_vector (splat_vector m hm) lt
-      ∙ (λ i. bit_and ((zip_lane bit_xor (zip2 shifted_down x (replicate 16 s)) y p down_vector hy lt
-      ∙ ap (λ n. bit_xor n (slice_index y p)) (zip_lane shifted_down x (replicate 16 s) p hx (splat_vector s hs) lt
-      ∙ ap (shifted_down (slice_index x p)) (get_or-replicate 16 p s 0 lt))) i) (get_or-replicate 16 p m 0 lt i))
+      splat_lane bit_and (zip2 bit_xor (zip2 shifted_down x (replicate 16 s)) y) m p sum_vector hm lt
+      ∙ ap (λ n. bit_and n m) (zip_lane bit_xor (zip2 shifted_down x (replicate 16 s)) y p (down_vector x s hx hs) hy lt
+      ∙ ap (λ n. bit_xor n (slice_index y p)) (splat_lane shifted_down x s p hx hs lt))
 
   low_lane : (p : ℕ) → p < 16 → slice_index (low_lanes x y s m) p ≡ bit_xor (slice_index x p) (moved (slice_index x p) (slice_index y p) s m * 2 ^ s % 2 ^ 8)
   low_lane p lt =
-      zip_lane bit_xor x (zip2 shifted_up (moved_lanes x y s m) (replicate 16 s)) p hx up_vector lt
-      ∙ ap (bit_xor (slice_index x p)) (zip_lane shifted_up (moved_lanes x y s m) (replicate 16 s) p moved_vector (splat_vector s hs) lt
-      ∙ (λ i. shifted_up (moved_lane p lt i) (get_or-replicate 16 p s 0 lt i)))
+      zip_lane bit_xor x (zip2 shifted_up (moved_lanes x y s m) (replicate 16 s)) p hx (up_vector (moved_lanes x y s m) s moved_vector hs) lt
+      ∙ ap (bit_xor (slice_index x p)) (splat_lane shifted_up (moved_lanes x y s m) s p moved_vector hs lt ∙ ap (λ n. shifted_up n s) (moved_lane p lt))
 
   high_lane : (p : ℕ) → p < 16 → slice_index (high_lanes x y s m) p ≡ bit_xor (slice_index y p) (moved (slice_index x p) (slice_index y p) s m)
   high_lane p lt = zip_lane bit_xor y (moved_lanes x y s m) p hy moved_vector lt ∙ ap (bit_xor (slice_index y p)) (moved_lane p lt)

@@ -1,7 +1,10 @@
--- SubBytes and xtime as circuits, on wires from the lowest bit to the highest.
-use Rattle.std.specs.Prelude.{List, [], ◌∷◌, ◌++◌}
-use Rattle.aes_bits.specs.Circuit.{Circuit, Flip, Product, Sum, Wires, through}
+-- The parts of the S-box's circuit, and the circuit of xtime. Wires of a byte stand from its lowest bit to its
+-- highest, and gates in the order of the code.
+use Rattle.std.specs.Prelude.{[], ◌∷◌}
+use Rattle.std.specs.List.{range_with_len}
+use Rattle.aes_bits.specs.Circuit.{Circuit, Flip, Product, Sum}
 
+-- from the bits of a byte: the lowest, and 21 sums
 abbrev pub input_sums : Circuit
 input_sums = record {
   gates =
@@ -12,6 +15,7 @@ input_sums = record {
   outputs = 0 ∷ 13 ∷ 16 ∷ 18 ∷ 14 ∷ 17 ∷ 22 ∷ 25 ∷ 11 ∷ 10 ∷ 23 ∷ 24 ∷ 15 ∷ 9 ∷ 8 ∷ 20 ∷ 28 ∷ 26 ∷ 30 ∷ 27 ∷ 21 ∷ 29 ∷ [];
 }
 
+-- from those: the norm over the field of 16 elements
 abbrev pub norm : Circuit
 norm = record {
   gates =
@@ -22,6 +26,7 @@ norm = record {
   outputs = 41 ∷ 42 ∷ 43 ∷ 44 ∷ [];
 }
 
+-- from the norm: its inverse, and five sums of the inverse's bits
 abbrev pub norm_inverse : Circuit
 norm_inverse = record {
   gates =
@@ -32,15 +37,17 @@ norm_inverse = record {
   outputs = 8 ∷ 12 ∷ 16 ∷ 19 ∷ 20 ∷ 21 ∷ 22 ∷ 23 ∷ 24 ∷ [];
 }
 
+-- from the sums of the input and those of the inverse: 18 products
 abbrev pub products : Circuit
 products = record {
   gates =
       Product 29 15 ∷ Product 24 6 ∷ Product 23 0 ∷ Product 28 16 ∷ Product 25 1 ∷ Product 22 7 ∷
       Product 27 11 ∷ Product 30 17 ∷ Product 26 10 ∷ Product 29 12 ∷ Product 24 3 ∷ Product 23 4 ∷
       Product 28 13 ∷ Product 25 5 ∷ Product 22 2 ∷ Product 27 9 ∷ Product 30 14 ∷ Product 26 8 ∷ [];
-  outputs = 31 ∷ 32 ∷ 33 ∷ 34 ∷ 35 ∷ 36 ∷ 37 ∷ 38 ∷ 39 ∷ 40 ∷ 41 ∷ 42 ∷ 43 ∷ 44 ∷ 45 ∷ 46 ∷ 47 ∷ 48 ∷ [];
+  outputs = range_with_len 31 18;
 }
 
+-- from the products: the inverse of the byte, transformed
 abbrev pub output_sums : Circuit
 output_sums = record {
   gates =
@@ -52,14 +59,6 @@ output_sums = record {
       Flip 45 ∷ Sum 36 48 ∷ Flip 44 ∷ Sum 27 50 ∷ [];
   outputs = 43 ∷ 41 ∷ 47 ∷ 46 ∷ 45 ∷ 51 ∷ 49 ∷ 39 ∷ [];
 }
-
--- the sums of products, from the sums of the input
-abbrev pub from_sums : {A : Type 0} → Wires A → List A → List A
-from_sums on y = through on output_sums (through on products (y ++ through on norm_inverse (through on norm y)))
-
--- the S-box
-abbrev pub s_box : {A : Type 0} → Wires A → List A → List A
-s_box on x = from_sums on (through on input_sums x)
 
 -- times x
 abbrev pub doubling : Circuit

@@ -30,7 +30,7 @@ impl Model for KeyPlanes {
 }
 
 impl KeyPlanes {
-    /// The planes of a key that was expanded.
+    /// From a key that was expanded. `KeySchedule::new` looks up by the key: `from_key` doesn't.
     pub fn new(keys: &KeySchedule) -> KeyPlanes
         ensures { result ≡ keys.now }
     {
@@ -56,7 +56,7 @@ impl KeyPlanes {
         }
     }
 
-    /// The planes of a key, expanded by the circuit.
+    /// From a key, which is expanded without a look-up.
     pub fn from_key(key: &[u8; 32]) -> KeyPlanes
         ensures { result ≡ key.now }
     {

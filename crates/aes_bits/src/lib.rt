@@ -6,6 +6,8 @@ mod planes;
 mod rounds;
 mod sub_bytes;
 mod sub_word;
+mod transposition;
+mod vectors;
 
 pub use key_planes::KeyPlanes;
 

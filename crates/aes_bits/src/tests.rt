@@ -1,23 +1,68 @@
-// The cipher on eight blocks.
+// The cipher on eight blocks, against its standard and against the cipher on one block.
 use super::*;
 use aes_block::KeySchedule;
+
+// 0, 1, .. as a key.
+const COUNTING: [u8; 32] = [
+    0, 1, 2, 3, 4, 5, 6, 7, 8, 9, 10, 11, 12, 13, 14, 15, 16, 17, 18, 19, 20, 21, 22, 23, 24, 25,
+    26, 27, 28, 29, 30, 31,
+];
+
+// What OpenSSL has after the fifty turns of `follows_the_plain_cipher`.
+const AFTER_FIFTY: [u128; 8] = [
+    0x8c689da89e35211aef67b0ce38dbff93,
+    0x2c94dec3e9b386baf5289e4a5c42d626,
+    0x563818bc3498e30d2692df284b8fc933,
+    0x4d035ed337e0757148bf7006bed79973,
+    0x168db0c77e7a6dccd8c9220da8a77d76,
+    0xa8ff54eab55f738647a2306071c6ca43,
+    0xbc1c9a97b59b25c22190d691855c410b,
+    0x10895d05b46456531f4129621bc6bdee,
+];
 
 // FIPS 197, C.3, in each of the eight places.
 #[test]
 fn meets_the_example(rt: HostRuntime) {
-    let key: [u8; 32] = [
-        0x00, 0x01, 0x02, 0x03, 0x04, 0x05, 0x06, 0x07, 0x08, 0x09, 0x0a, 0x0b, 0x0c, 0x0d, 0x0e,
-        0x0f, 0x10, 0x11, 0x12, 0x13, 0x14, 0x15, 0x16, 0x17, 0x18, 0x19, 0x1a, 0x1b, 0x1c, 0x1d,
-        0x1e, 0x1f,
-    ];
-    let block: [u8; 16] = [
-        0x00, 0x11, 0x22, 0x33, 0x44, 0x55, 0x66, 0x77, 0x88, 0x99, 0xaa, 0xbb, 0xcc, 0xdd, 0xee,
-        0xff,
-    ];
-    let text: [u8; 16] = [
-        0x8e, 0xa2, 0xb7, 0xca, 0x51, 0x67, 0x45, 0xbf, 0xea, 0xfc, 0x49, 0x90, 0x4b, 0x49, 0x60,
-        0x89,
-    ];
-    let planes = KeyPlanes::new(&KeySchedule::new(&key));
-    assert!(rt; planes.encrypt_blocks(&[block; 8]) == [text; 8]);
+    let block = 0x00112233445566778899aabbccddeeff_u128.to_be_bytes();
+    let text = 0x8ea2b7ca516745bfeafc49904b496089_u128.to_be_bytes();
+    let plain = KeyPlanes::new(&KeySchedule::new(&COUNTING));
+    let keys = KeyPlanes::from_key(&COUNTING);
+    assert!(rt; keys.encrypt_block(block) == text);
+    for place in 0..8 {
+        let mut blocks = [[0; 16]; 8];
+        blocks[place] = block;
+        assert!(rt; plain.encrypt_blocks(&blocks)[place] == text, "at {place}");
+        assert!(rt; keys.encrypt_blocks(&blocks)[place] == text, "at {place}");
+    }
+}
+
+// Eight blocks under fifty keys, each made of what came before.
+#[test]
+fn follows_the_plain_cipher(rt: HostRuntime) {
+    let mut key = COUNTING;
+    let mut blocks = [[0; 16]; 8];
+    for place in 0..8u8 {
+        for byte in 0..16u8 {
+            blocks[place as usize][byte as usize] = 16 * place + byte;
+        }
+    }
+    for turn in 0..50 {
+        let schedule = KeySchedule::new(&key);
+        let texts = KeyPlanes::from_key(&key).encrypt_blocks(&blocks);
+        for place in 0..8usize {
+            assert!(rt;
+                texts[place] == schedule.encrypt(blocks[place]),
+                "turn {turn}, at {place}"
+            );
+        }
+        key[..16].copy_from_slice(&texts[2]);
+        key[16..].copy_from_slice(&texts[5]);
+        blocks = texts;
+    }
+    for place in 0..8 {
+        assert!(rt;
+            blocks[place] == AFTER_FIFTY[place].to_be_bytes(),
+            "at {place}"
+        );
+    }
 }

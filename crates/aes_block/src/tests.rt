@@ -19,3 +19,26 @@ fn meets_the_example(rt: HostRuntime) {
     ];
     assert!(rt; KeySchedule::new(&key).encrypt(block) == text);
 }
+
+// FIPS 197, A.3.
+#[test]
+fn expands_the_key(rt: HostRuntime) {
+    let key: [u8; 32] = [
+        0x60, 0x3d, 0xeb, 0x10, 0x15, 0xca, 0x71, 0xbe, 0x2b, 0x73, 0xae, 0xf0, 0x85, 0x7d, 0x77,
+        0x81, 0x1f, 0x35, 0x2c, 0x07, 0x3b, 0x61, 0x08, 0xd7, 0x2d, 0x98, 0x10, 0xa3, 0x09, 0x14,
+        0xdf, 0xf4,
+    ];
+    let schedule = KeySchedule::new(&key);
+    assert!(rt; schedule.key() == key);
+    for (round, words) in [
+        (0, 0x603deb1015ca71be2b73aef0857d7781_u128),
+        (1, 0x1f352c073b6108d72d9810a30914dff4),
+        (2, 0x9ba354118e6925afa51a8b5f2067fcde),
+        (14, 0xfe4890d1e6188d0b046df344706c631e),
+    ] {
+        assert!(rt;
+            schedule.round_key(round) == words.to_be_bytes(),
+            "round {round}"
+        );
+    }
+}

@@ -1,5 +1,6 @@
 use Rattle.std.proofs.Common.{arith}
-use Rattle.aes_bits.proofs.Vectors.{spread_bits, spread_vector, vector_from}
+use Rattle.aes_bits.proofs.Spread.{spread_bits, spread_vector}
+use Rattle.aes_bits.proofs.Lanes.{vector_from}
 use Rattle.aes_bits.proofs.planes.spread.Goals as goal
 
 pub returns-clause-vector : goal.returns-clause-vector

@@ -1,7 +1,7 @@
 use Rattle.std.proofs.Common.{map, ap, sym, ◌∙◌}
 use Rattle.aes_block.specs.Cipher.{add_round_key}
 use Rattle.aes_bits.specs.Planes.{blocks_of}
-use Rattle.aes_bits.proofs.Blocks.{add_blocks, sum_vectors}
+use Rattle.aes_bits.proofs.Steps.{add_blocks, sum_vectors}
 use Rattle.aes_bits.proofs.rounds.add_round_key.Goals as goal
 
 pub from_planes-requires : goal.from_planes-requires

@@ -1,7 +1,7 @@
 use Rattle.std.proofs.Common.{◌≡◌, ℕ, ◌+◌, List, map, ap, sym, ◌∙◌, arith}
 use Rattle.std.proofs.lemmas.Simd.{map-map}
 use Rattle.aes_block.specs.Cipher.{add_round_key, cipher, mix_columns, rounds, shift_rows, sub_bytes}
-use Rattle.aes_bits.proofs.Blocks.{key_at, rounds_next}
+use Rattle.aes_bits.proofs.Steps.{key_at, rounds_next}
 use Rattle.aes_bits.proofs.rounds.encrypt.Goals as goal
 
 pub rounds-init : goal.rounds-init

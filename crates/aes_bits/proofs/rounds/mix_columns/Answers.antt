@@ -1,7 +1,7 @@
 use Rattle.std.proofs.Common.{map, ap, sym, ◌∙◌}
 use Rattle.aes_block.specs.Cipher.{mix_columns}
 use Rattle.aes_bits.specs.Planes.{blocks_of}
-use Rattle.aes_bits.proofs.Blocks.{mix_blocks, mix_joined, mixed_vectors}
+use Rattle.aes_bits.proofs.MixColumns.{mix_blocks, mix_joined, mixed_vectors}
 use Rattle.aes_bits.proofs.rounds.mix_columns.Goals as goal
 
 pub from_planes-requires : goal.from_planes-requires

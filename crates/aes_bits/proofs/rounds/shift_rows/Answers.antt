@@ -1,7 +1,7 @@
 use Rattle.std.proofs.Common.{map, ap, sym, ◌∙◌, arith}
 use Rattle.aes_block.specs.Cipher.{shift_rows}
 use Rattle.aes_bits.specs.Planes.{blocks_of, shifted_row}
-use Rattle.aes_bits.proofs.Blocks.{shift_blocks, shuffled_vectors}
+use Rattle.aes_bits.proofs.Steps.{shift_blocks, shuffled_vectors}
 use Rattle.aes_bits.proofs.rounds.shift_rows.Goals as goal
 
 pub from_planes-requires : goal.from_planes-requires

@@ -2,10 +2,9 @@ use Rattle.std.proofs.Common.{map, ap, sym, ◌∙◌, arith}
 use Rattle.aes_block.specs.Cipher.{sub_bytes}
 use Rattle.aes_bits.specs.Circuit.{vectors}
 use Rattle.aes_bits.specs.Planes.{blocks_of, first}
-use Rattle.aes_bits.specs.SBox.{s_box}
-use Rattle.aes_bits.proofs.Blocks.{sub_blocks}
-use Rattle.aes_bits.proofs.SBox.{joined, s_box_vectors}
-use Rattle.aes_bits.proofs.Vectors.{are_vectors}
+use Rattle.aes_bits.proofs.Steps.{sub_blocks}
+use Rattle.aes_bits.proofs.SBox.{joined, s_box, s_box_vectors}
+use Rattle.aes_bits.proofs.Lanes.{are_vectors}
 use Rattle.aes_bits.proofs.sub_bytes.sub_bytes.Goals as goal
 
 pub from_planes-requires : goal.from_planes-requires

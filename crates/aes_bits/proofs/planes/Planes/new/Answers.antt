@@ -2,7 +2,7 @@ use Rattle.std.proofs.Common.{◌≡◌, ℕ, List, [], ◌∷◌, length, slice
 use Rattle.aes_bits.specs.Planes.{IsVector}
 use Rattle.aes_bits.proofs.Blocks.{transposed_blocks}
 use Rattle.aes_bits.proofs.Bytes.{below_eight}
-use Rattle.aes_bits.proofs.Vectors.{first_all}
+use Rattle.aes_bits.proofs.Lanes.{first_all}
 use Rattle.aes_bits.proofs.planes.Planes.new.Goals as goal
 
 pub returns : goal.returns

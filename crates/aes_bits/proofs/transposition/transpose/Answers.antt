@@ -4,7 +4,7 @@ use Rattle.std.specs.List.{range_with_len}
 use Rattle.aes_bits.specs.Planes.{bit_of}
 use Rattle.aes_bits.specs.Swaps.{high_swapped, lane_bits, low_swapped}
 use Rattle.aes_bits.proofs.Bytes.{below_eight, row_at}
-use Rattle.aes_bits.proofs.planes.transpose.Goals as goal
+use Rattle.aes_bits.proofs.transposition.transpose.Goals as goal
 
 -- bit k of lane p of each vector
 abbrev column : List (List ℕ) → ℕ → ℕ → List ℕ

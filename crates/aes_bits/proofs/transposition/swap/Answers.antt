@@ -1,7 +1,7 @@
 use Rattle.std.proofs.Common.{arith}
 use Rattle.aes_bits.proofs.Swaps.{high_row, high_vector, low_row, low_vector}
-use Rattle.aes_bits.proofs.Vectors.{vector_from}
-use Rattle.aes_bits.proofs.planes.swap.Goals as goal
+use Rattle.aes_bits.proofs.Lanes.{vector_from}
+use Rattle.aes_bits.proofs.transposition.swap.Goals as goal
 
 pub returns-clause-vectors : goal.returns-clause-vectors
 returns-clause-vectors c =

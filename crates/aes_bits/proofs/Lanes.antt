@@ -1,9 +1,8 @@
 -- Vectors of sixteen bytes, lane by lane.
-use Rattle.std.proofs.Common.{◌≡◌, ℕ, zero, suc, ◌+◌, ◌-◌, ◌/◌, ◌%◌, ◌^◌, ◌<◌, ◌≤◌, min, List, [], bit_and, bit_xor, length, map, replicate, slice_index, slice_index_or, refl, sym, ap, ◌∙◌, arith, Fits, w8, inl, inr}
-use Rattle.std.proofs.lemmas.Bool.{cases_lt}
+use Rattle.std.proofs.Common.{◌≡◌, ℕ, zero, suc, ◌+◌, ◌*◌, ◌/◌, ◌%◌, ◌^◌, ◌<◌, ◌≤◌, min, List, [], bit_and, bit_xor, length, map, replicate, slice_index, slice_index_or, refl, sym, ap, ◌∙◌, arith, Fits, w8}
 use Rattle.std.proofs.lemmas.List.FromFn.{fill_by_all, get_or-map-range_with_len, length-map-range_with_len}
 use Rattle.std.proofs.lemmas.Nat.{and_le_l, shr_le, xor_lt}
-use Rattle.std.proofs.lemmas.Nat.Bits.{bit_at-lt, bit_at-zero, bit_at_and, bit_at_ones, bit_at_xor, shr_and_one}
+use Rattle.std.proofs.lemmas.Nat.Bits.{bit_at_and, bit_at_ones, bit_at_xor}
 use Rattle.std.proofs.lemmas.Simd.{Each1-get_or, get_or-replicate, get_or-zip2, length-replicate, length-zip2}
 use Rattle.std.specs.Int.{bit_at}
 use Rattle.std.specs.List.{range_with_len}
@@ -37,6 +36,24 @@ and_below a b ha hb = omega (arith, and_le_l a b)
 
 pub splat_vector : (b : ℕ) → b < 256 → IsVector (replicate 16 b)
 splat_vector b lt = (length-replicate 16 b, λ p below. rw (get_or-replicate 16 p b 0 below) lt)
+
+-- the same with one byte for all lanes
+pub splat_lane : (f : ℕ → ℕ → ℕ) (v : List ℕ) (b p : ℕ) → IsVector v → b < 256 → p < 16 → slice_index (zip2 f v (replicate 16 b)) p ≡ f (slice_index v p) b
+splat_lane f v b p hv below lt = zip_lane f v (replicate 16 b) p hv (splat_vector b below) lt ∙ ap (f (slice_index v p)) (get_or-replicate 16 p b 0 lt)
+
+-- ---- shifts of each lane
+
+abbrev pub shifted_down : ℕ → ℕ → ℕ
+shifted_down n s = n / 2 ^ s
+
+abbrev pub shifted_up : ℕ → ℕ → ℕ
+shifted_up n s = n * 2 ^ s % 2 ^ 8
+
+pub down_vector : (v : List ℕ) (s : ℕ) → IsVector v → s < 256 → IsVector (zip2 shifted_down v (replicate 16 s))
+down_vector v s hv hs = zip_vector shifted_down (λ a b ha hb. omega (arith, shr_le a b)) v (replicate 16 s) hv (splat_vector s hs)
+
+pub up_vector : (v : List ℕ) (s : ℕ) → IsVector v → s < 256 → IsVector (zip2 shifted_up v (replicate 16 s))
+up_vector v s hv hs = zip_vector shifted_up (λ a b ha hb. omega arith) v (replicate 16 s) hv (splat_vector s hs)
 
 -- ---- bits of sums and products
 
@@ -81,49 +98,3 @@ first_vectors vs h = each_of_range IsVector (λ k. slice_index_or vs k []) 0 8 (
 
 pub are_vectors : (vs : List (List ℕ)) → 8 ≤ length vs → Each1 IsVector vs → AreVectors vs
 are_vectors vs len h k lt = Each1-get_or IsVector vs k [] (omega arith) h
-
--- ---- a bit spread over its lane
-
-abbrev negated : ℕ → ℕ → ℕ
-negated m n = (m + (2 ^ 8 - n)) % 2 ^ 8
-
-abbrev shifted_down : ℕ → ℕ → ℕ
-shifted_down n s = n / 2 ^ s
-
-abbrev pub spread_lanes : List ℕ → ℕ → List ℕ
-spread_lanes v k = zip2 negated (replicate 16 0) (zip2 bit_and (zip2 shifted_down v (replicate 16 k)) (replicate 16 1))
-
-filled : (b j : ℕ) → b < 2 → j < 8 → bit_at (negated 0 b) j ≡ b
-filled b j small lj = elim (cases_lt b 1) [
-  | inl none ↦
-      let e : b ≡ 0 = omega arith in
-      rw e (bit_at-zero j)
-  | inr some ↦
-      let e : b ≡ 1 = omega arith in
-      rw e (bit_at_ones 8 j lj)
-]
-
-module _ (v : List ℕ) (k : ℕ) (hv : IsVector v) (hk : k < 8) where
-  down_vector : IsVector (zip2 shifted_down v (replicate 16 k))
-  down_vector = zip_vector shifted_down (λ a b ha hb. omega (arith, shr_le a b)) v (replicate 16 k) hv (splat_vector k (omega arith))
-
-  one_vector : IsVector (zip2 bit_and (zip2 shifted_down v (replicate 16 k)) (replicate 16 1))
-  one_vector = zip_vector bit_and and_below (zip2 shifted_down v (replicate 16 k)) (replicate 16 1) down_vector (splat_vector 1 (omega arith))
-
-  pub spread_vector : IsVector (spread_lanes v k)
-  spread_vector =
-      zip_vector negated (λ a b ha hb. omega arith) (replicate 16 0) (zip2 bit_and (zip2 shifted_down v (replicate 16 k)) (replicate 16 1))
-      (splat_vector 0 (omega arith)) one_vector
-
-  one_lane : (p : ℕ) → p < 16 → slice_index (zip2 bit_and (zip2 shifted_down v (replicate 16 k)) (replicate 16 1)) p ≡ bit_at (slice_index v p) k
-  one_lane p lt =
-      zip_lane bit_and (zip2 shifted_down v (replicate 16 k)) (replicate 16 1) p down_vector (splat_vector 1 (omega arith)) lt
-      ∙ (λ i. bit_and ((zip_lane shifted_down v (replicate 16 k) p hv (splat_vector k (omega arith)) lt
-      ∙ ap (shifted_down (slice_index v p)) (get_or-replicate 16 p k 0 lt)) i) (get_or-replicate 16 p 1 0 lt i))
-      ∙ shr_and_one (slice_index v p) k
-
-  pub spread_bits : (p j : ℕ) → p < 16 → j < 8 → bit_at (slice_index (spread_lanes v k) p) j ≡ bit_at (slice_index v p) k
-  spread_bits p j lt lj =
-      ap (λ n. bit_at n j) (zip_lane negated (replicate 16 0) (zip2 bit_and (zip2 shifted_down v (replicate 16 k)) (replicate 16 1)) p (splat_vector 0 (omega arith)) one_vector lt
-      ∙ (λ i. negated (get_or-replicate 16 p 0 0 lt i) (one_lane p lt i)))
-      ∙ filled (bit_at (slice_index v p) k) j (bit_at-lt (slice_index v p) k) lj
