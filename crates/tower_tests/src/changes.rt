@@ -118,8 +118,18 @@ fn sync_twice<S: Durable, K: Keeper>(alloc: Global, store: S, keeper: K) -> Ende
     };
     let first = session.sync(alloc);
     let second = session.sync(alloc);
-    let Session { store, keeper, last: _, changed: _ } = session;
-    Ended { first, second, store, keeper }
+    let Session {
+        store,
+        keeper,
+        last: _,
+        changed: _,
+    } = session;
+    Ended {
+        first,
+        second,
+        store,
+        keeper,
+    }
 }
 
 /// Makes the changes, all at once, and syncs twice.

@@ -62,7 +62,11 @@ fn is_no_block(list: &[Pending]) -> bool
 }
 
 // Blocks of 128 bytes.
-fn sealed_over(alloc: Global, vault: MemoryVault, list: Vec<Pending>) -> SealedStore<MemoryVault, Aes256Gcm>
+fn sealed_over(
+    alloc: Global,
+    vault: MemoryVault,
+    list: Vec<Pending>,
+) -> SealedStore<MemoryVault, Aes256Gcm>
     requires { IsIncreasing (list_of list.items) }
     ensures intact { IsIntact (block_size_of result) (⟦<Aes256Gcm as Sealer>⟧.iv_size (cipher_of result)) }
     ensures size { block_size_of result ≡ 128 }
@@ -122,7 +126,11 @@ impl Site {
     }
 
     /// Opens the store, makes the changes, all at once, and syncs twice.
-    pub(crate) fn run(&mut self, alloc: Global, changes: &[Payload]) -> Result<(Synced, Synced), Fail> {
+    pub(crate) fn run(
+        &mut self,
+        alloc: Global,
+        changes: &[Payload],
+    ) -> Result<(Synced, Synced), Fail> {
         let record = self.record(alloc)?;
         let store = open(alloc, self.take_vault(alloc), &record)?;
         let keeper = self.take_keeper(alloc);
