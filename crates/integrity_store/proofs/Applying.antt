@@ -1,13 +1,11 @@
 -- What a batch that fits makes of a store: what it may mark and seal, and what it applies.
-use Rattle.std.proofs.Common.{◌≡◌, ◌≢◌, ℕ, ◌+◌, ◌-◌, ◌≤◌, List, [], ◌∷◌, Bool, true, false, length, refl, sym, ◌∙◌, ap, subst, inl, inr, arith}
-use Rattle.std.specs.Prelude.{T, Option, Some, None, IfSome, is_some, not, ◌&&◌, ◌⊎◌, map, if◌then◌else◌}
+use Rattle.std.proofs.Common.{◌≡◌, ◌≢◌, ℕ, ◌-◌, List, true, false, length, refl, sym, ◌∙◌, ap, subst, inl, inr, arith}
+use Rattle.std.specs.Prelude.{T, Option, Some, None, IfSome, is_some, not, ◌&&◌, map, if◌then◌else◌}
 use Rattle.std.specs.List.{AllByRecursion}
 use Rattle.std.specs.Option.{option_or, option_map_or}
 use Rattle.std.specs.FinMap as fin
 use Rattle.std.specs.FinMap.{is_sorted, entries_sorted, get-entries}
 use Rattle.std.specs.FinMap.Entries.{find}
-use Rattle.std.specs.Cmp.{tied_itself}
-use Rattle.std.specs.Ordering.{is_eq}
 use Rattle.rand_core.specs.Stream.{Stream}
 use Rattle.block_id.specs.Fresh.{zero_id}
 use Rattle.outside.specs.Trace.{At, config, block, Call}
@@ -15,15 +13,15 @@ use Rattle.outside.specs.Names.{at_cmp}
 use Rattle.outside.specs.Changes.{change_at, set_changes}
 use Rattle.outside.specs.ChangeLaws.{change_at-set_changes}
 use Rattle.local_state.specs.declared.mark.Mark.{Mark}
-use Rattle.local_state.specs.Known.{Marks, FitsMark, FitMarks, is_live_in}
+use Rattle.local_state.specs.Known.{Marks, FitsMark, is_live_in}
 use Rattle.store_api.specs.Content.{Id, id_cmp, same_id, Changes}
-use Rattle.store_api.specs.Holdings.{Fits, MayGet, is_free}
+use Rattle.store_api.specs.Holdings.{Fits}
 use Rattle.integrity_store.specs.Applied.{mark_after, WaitsAfter, Applied}
 use Rattle.integrity_store.specs.BlockRecords.{payload_in}
 use Rattle.integrity_store.specs.Draws.{AreDrawn, given_in, iv_of, draws}
 use Rattle.integrity_store.specs.Held.{Held, version_if_live, where_live, wanted, file_of, told_or_none}
-use Rattle.integrity_store.specs.Marking.{Entry, MayRaise, MayMark, mark_each, MayMarkEach, some_spent_in, count_new_in, count_new_each}
-use Rattle.integrity_store.specs.Sealing.{MaySeal, AreMadeOf, Lists}
+use Rattle.integrity_store.specs.Marking.{Entry, MayRaise, MayMark, mark_each, MayMarkEach, some_spent_in}
+use Rattle.integrity_store.specs.Sealing.{MaySeal, AreMadeOf, IsListed}
 use Rattle.integrity_store.specs.Stores.{IsWhole, is_last, holdings_by, has-keys}
 use Rattle.integrity_store.proofs.Marks.{get-mark_each, may_mark_each, not_spent}
 use Rattle.integrity_store.proofs.Sorted.{ids_total, all_by, each_found}
@@ -92,7 +90,7 @@ pub record Made (a b : Held) (es : List Entry) (stream left : Stream) : Type 0 w
   pub made : AreMadeOf a es stream changes left
   pub held : b ≡ record a { list = set_changes changes a.list; state = record a.state { marks = mark_each a.state.marks es } }
 
-pub made_of : (a m : Held) (known : Marks) (es : List Entry) (stream left : Stream) → Lists a m es stream left → known ≡ mark_each m.state.marks es
+pub made_of : (a m : Held) (known : Marks) (es : List Entry) (stream left : Stream) → IsListed a m es stream left → known ≡ mark_each m.state.marks es
     → Made a (record m { state = record m.state { marks = known } }) es stream left
 made_of a m known es stream left lists marked =
     let with_marks : Marks → Held = λ x. record m { state = record m.state { marks = x } } in

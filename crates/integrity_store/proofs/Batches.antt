@@ -1,6 +1,6 @@
 -- A batch, from the calls that were made for it to what the store is afterwards.
-use Rattle.std.proofs.Common.{◌≡◌, ℕ, ◌^◌, ◌<◌, ◌≤◌, List, Bool, true, false, length, sym, ◌∙◌, ap, subst, arith}
-use Rattle.std.specs.Prelude.{T, Option, Some, None}
+use Rattle.std.proofs.Common.{◌≡◌, ℕ, ◌^◌, ◌<◌, ◌≤◌, List, true, false, length, sym, ◌∙◌, ap, subst}
+use Rattle.std.specs.Prelude.{T, Option}
 use Rattle.std.specs.FinMap as fin
 use Rattle.std.specs.FinMap.{is_sorted, entries_sorted, get-entries}
 use Rattle.std.specs.FinMap.Entries.{find}
@@ -15,7 +15,7 @@ use Rattle.integrity_store.specs.Applied.{Applied}
 use Rattle.integrity_store.specs.Draws.{AreDrawn}
 use Rattle.integrity_store.specs.Held.{Held}
 use Rattle.integrity_store.specs.Marking.{Entry, MayMarkEach, mark_each, some_spent_in, count_new_in, count_new_each}
-use Rattle.integrity_store.specs.Sealing.{Lists}
+use Rattle.integrity_store.specs.Sealing.{IsListed}
 use Rattle.integrity_store.specs.Stores.{IsWhole, meanings_by, holdings_by}
 use Rattle.integrity_store.proofs.Applying.{Made, made_of, may_mark, may_mark_batch, applied, drawn_batch}
 use Rattle.integrity_store.proofs.Marks.{count_before, spent_found, found_spent}
@@ -29,9 +29,9 @@ batch_rises changes es are = subst (λ xs. T (is_sorted id_cmp xs)) (sym are) (e
 found_in : (changes : Changes) (es : List Entry) → es ≡ fin.entries changes → (id : Id) → find id_cmp id es ≡ fin.get changes id
 found_in changes es are id = ap (find id_cmp id) are ∙ sym (get-entries changes id)
 
-module _ {S : Type 0} (held : S → Held) (trace : S → Option (List Call)) (a : S) (changes : Changes) (es : List Entry) (are : es ≡ fin.entries changes) where
-  -- ---- spent ids
+-- ---- before it
 
+module _ {S : Type 0} (held : S → Held) (trace : S → Option (List Call)) (a : S) (changes : Changes) (es : List Entry) (are : es ≡ fin.entries changes) where
   pub is_spent : some_spent_in (held a).state.marks es ≡ true → IsSpent (holdings_by held trace) a changes
   is_spent some =
       let s = spent_found es (held a).state.marks (batch_rises changes es are) some in
@@ -40,35 +40,56 @@ module _ {S : Type 0} (held : S → Held) (trace : S → Option (List Call)) (a 
   pub isnt_spent : some_spent_in (held a).state.marks es ≡ false → IsSpent (holdings_by held trace) a changes → ⊥
   isnt_spent none s = let some : some_spent_in (held a).state.marks es ≡ true = found_spent es (held a).state.marks s.0 s.1 (found_in changes es are s.0 ∙ s.2) s.3 in cc
 
-  -- ---- once all is listed
+-- ---- once all is listed
 
-  module _ (m : Held) (stream left : Stream) (lists : Lists (held a) m es stream left) where
-    pub room : (spare : ℕ) → count_new_in m.state.marks es ≤ spare → count_new_each m.state.marks es ≤ spare
-    room spare fits = subst (λ n. n ≤ spare) (sym (count_before es m.state.marks (batch_rises changes es are))) fits
+-- the files of a batch that fits are listed
+pub record Listed {S : Type 0} (held : S → Held) (trace : S → Option (List Call)) (a : S) (m : Held) (changes : Changes) (es : List Entry) (stream left : Stream) : Type 0 where
+  pub are : es ≡ fin.entries changes
+  pub whole : IsWhole (held a)
+  pub fits : Fits (holdings_by held trace) a changes
+  pub none_spent : some_spent_in (held a).state.marks es ≡ false
+  pub lists : IsListed (held a) m es stream left
 
-    module _ (whole : IsWhole (held a)) (fits : Fits (holdings_by held trace) a changes) (none_spent : some_spent_in (held a).state.marks es ≡ false) where
-      pub may_mark_listed : MayMarkEach m.state.marks es
-      may_mark_listed = subst (λ h. MayMarkEach h.state.marks es) (sym lists.held) (may_mark_batch held trace a changes es are whole fits none_spent)
+module _ {S : Type 0} {held : S → Held} {trace : S → Option (List Call)} {a : S} {m : Held} {changes : Changes} {es : List Entry} {stream left : Stream} (l : Listed held trace a m changes es stream left) where
+  pub may_mark_listed : MayMarkEach m.state.marks es
+  may_mark_listed = subst (λ h. MayMarkEach h.state.marks es) (sym l.lists.held) (may_mark_batch held trace a changes es l.are l.whole l.fits l.none_spent)
 
-      -- ---- once all is marked
+  pub room : (spare : ℕ) → count_new_in m.state.marks es ≤ spare → count_new_each m.state.marks es ≤ spare
+  room spare fits = subst (λ n. n ≤ spare) (sym (count_before es m.state.marks (batch_rises changes es l.are))) fits
 
-      module _ (faults : S → ℕ) (own : S → Type 0) (b : S) (known : Marks) (marked : known ≡ mark_each m.state.marks es) (held_is : held b ≡ record m { state = record m.state { marks = known } })
-          (trace_is : trace b ≡ trace a) where
-        made : Made (held a) (held b) es stream left
-        made = subst (λ h. Made (held a) h es stream left) (sym held_is) (made_of (held a) m known es stream left lists marked)
+-- ---- once all is marked
 
-        pub applied_batch : Applied (held a) (held b) (trace a) (trace b) changes
-        applied_batch = subst (λ t. Applied (held a) (held b) (trace a) t changes) (sym trace_is) (applied (held a) (held b) (trace a) changes es stream left are made)
+-- the ids of a batch that is listed are marked, and nothing else is done; the ids that are used and what waits were counted
+pub record Marked {S : Type 0} (held : S → Held) (trace : S → Option (List Call)) (a b : S) (m : Held) (changes : Changes) (es : List Entry) (stream left : Stream) : Type 0 where
+  pub listed : Listed held trace a m changes es stream left
+  pub known : Marks
+  pub marked : known ≡ mark_each m.state.marks es
+  pub held_is : held b ≡ record m { state = record m.state { marks = known } }
+  pub trace_is : trace b ≡ trace a
+  pub fit : FitMarks known
+  pub few : fin.len known < 2 ^ 64
+  pub rises : IsIncreasing m.list
+  pub count : length m.list < 2 ^ 64
 
-        pub drawn_in : AreDrawn changes (held b).list stream left
-        drawn_in = drawn_batch (held a) (held b) (trace a) changes es stream left are made
+module _ {S : Type 0} {held : S → Held} {trace : S → Option (List Call)} {a b : S} {m : Held} {changes : Changes} {es : List Entry} {stream left : Stream} (k : Marked held trace a b m changes es stream left) where
+  abbrev l : Listed held trace a m changes es stream left
+  l = k.listed
 
-        pub whole_batch : FitMarks known → fin.len known < 2 ^ 64 → IsIncreasing m.list → length m.list < 2 ^ 64 → IsWhole (held b)
-        whole_batch fit few rises count =
-            whole_after (held a) (held b) (trace a) (trace b) changes applied_batch whole
-            (λ id change said. may_mark held trace a changes es are whole fits none_spent id change (found_in changes es are id ∙ said))
-            (subst (λ h. FitMarks h.state.marks) (sym held_is) fit) (subst (λ h. fin.len h.state.marks < 2 ^ 64) (sym held_is) few)
-            (subst (λ h. T (is_sorted at_cmp h.list)) (sym held_is) (test_of (is_sorted at_cmp m.list) rises)) (subst (λ h. length h.list < 2 ^ 64) (sym held_is) count)
+  made : Made (held a) (held b) es stream left
+  made = subst (λ h. Made (held a) h es stream left) (sym k.held_is) (made_of (held a) m k.known es stream left l.lists k.marked)
 
-        pub changed_batch : IsWhole (held b) → Changed (meanings_by held trace faults own) (holdings_by held trace) a b changes
-        changed_batch after = changed held trace faults own a b changes applied_batch after
+  pub applied_batch : Applied (held a) (held b) (trace a) (trace b) changes
+  applied_batch = subst (λ t. Applied (held a) (held b) (trace a) t changes) (sym k.trace_is) (applied (held a) (held b) (trace a) changes es stream left l.are made)
+
+  pub drawn_in : AreDrawn changes (held b).list stream left
+  drawn_in = drawn_batch (held a) (held b) (trace a) changes es stream left l.are made
+
+  pub whole_batch : IsWhole (held b)
+  whole_batch =
+      whole_after (held a) (held b) (trace a) (trace b) changes applied_batch l.whole
+      (λ id change said. may_mark held trace a changes es l.are l.whole l.fits l.none_spent id change (found_in changes es l.are id ∙ said))
+      (subst (λ h. FitMarks h.state.marks) (sym k.held_is) k.fit) (subst (λ h. fin.len h.state.marks < 2 ^ 64) (sym k.held_is) k.few)
+      (subst (λ h. T (is_sorted at_cmp h.list)) (sym k.held_is) (test_of (is_sorted at_cmp m.list) k.rises)) (subst (λ h. length h.list < 2 ^ 64) (sym k.held_is) k.count)
+
+  pub changed_batch : (faults : S → ℕ) (own : S → Type 0) → Changed (meanings_by held trace faults own) (holdings_by held trace) a b changes
+  changed_batch faults own = changed held trace faults own a b changes applied_batch whole_batch

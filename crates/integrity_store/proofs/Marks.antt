@@ -1,5 +1,5 @@
 -- The marks after the entries of a batch, by the ids of the batch.
-use Rattle.std.proofs.Common.{◌≡◌, ℕ, ◌+◌, List, [], ◌∷◌, Bool, true, false, cond, refl, sym, ◌∙◌, ap, subst, inl, inr}
+use Rattle.std.proofs.Common.{◌≡◌, ℕ, List, [], ◌∷◌, Bool, true, false, cond, refl, sym, ◌∙◌, ap, subst, inl, inr}
 use Rattle.std.specs.Prelude.{T, Option, Some, None, ◌||◌, ◌⊎◌}
 use Rattle.std.specs.FinMap as fin
 use Rattle.std.specs.FinMap.{is_sorted, get-insert}
@@ -53,9 +53,11 @@ get-mark_each (e ∷ es) marks q rises =
 pub may_mark_each : (es : List Entry) (marks : Marks) → T (is_sorted id_cmp es) → ((id : Id) (change : Option (List ℕ)) → find id_cmp id es ≡ Some change → MayMark id change (fin.get marks id))
     → MayMarkEach marks es
 may_mark_each [] marks rises may = tt
-may_mark_each (e ∷ es) marks rises may =
-    (may e.0 e.1 (found_first ids_total e es), may_mark_each es (mark_one marks e) (rest_rises ids_total e es rises)
-    (λ id change found. subst (MayMark id change) (sym (kept marks e es id change rises found)) (may id change (found_later ids_total id e es change rises found))))
+may_mark_each (e ∷ es) marks rises may = (
+  may e.0 e.1 (found_first ids_total e es),
+  may_mark_each es (mark_one marks e) (rest_rises ids_total e es rises)
+      (λ id change found. subst (MayMark id change) (sym (kept marks e es id change rises found)) (may id change (found_later ids_total id e es change rises found))),
+)
 
 count_same : (es : List Entry) (now marks : Marks) → T (is_sorted id_cmp es) → ((id : Id) (change : Option (List ℕ)) → find id_cmp id es ≡ Some change → fin.get now id ≡ fin.get marks id)
     → count_new_each now es ≡ count_new_in marks es

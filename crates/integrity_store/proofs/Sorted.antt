@@ -1,6 +1,6 @@
--- Lists whose keys rise: where a key is found; and one more turn of a loop over entries.
+-- IsListed whose keys rise: where a key is found; and one more turn of a loop over entries.
 use Rattle.std.proofs.Common.{◌≡◌, ℕ, suc, ◌+◌, ◌<◌, List, [], ◌∷◌, Bool, true, false, cond, length, drop, drop-cons, get_or, refl, sym, ◌∙◌, ap, subst, add-one}
-use Rattle.std.specs.Prelude.{T, Option, Some, None, ◌&&◌, map}
+use Rattle.std.specs.Prelude.{T, Some, None, ◌&&◌, map}
 use Rattle.std.specs.List.{AllByRecursion}
 use Rattle.std.proofs.lemmas.List.{drop-map}
 use Rattle.std.specs.FinMap.{is_sorted, IsAntisymmetric, slice_cmp-IsAntisymmetric, nat_cmp-IsAntisymmetric}

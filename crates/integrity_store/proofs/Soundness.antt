@@ -1,17 +1,17 @@
 -- A batch changes the content as it says, and leaves a sound store sound.
-use Rattle.std.proofs.Common.{◌≡◌, ℕ, ◌+◌, ◌-◌, ◌^◌, ◌<◌, ◌≤◌, List, Bool, true, false, length, refl, sym, ◌∙◌, ap, subst, inl, inr, arith}
-use Rattle.std.specs.Prelude.{Option, Some, None, is_some, not, ◌&&◌, ◌⊎◌, map, if◌then◌else◌}
+use Rattle.std.proofs.Common.{◌≡◌, ℕ, ◌+◌, ◌-◌, ◌≤◌, List, true, false, refl, sym, ◌∙◌, ap, subst, inl, inr, arith}
+use Rattle.std.specs.Prelude.{Option, Some, None, is_some, not, ◌&&◌, ◌⊎◌}
 use Rattle.std.specs.FinMap as fin
 use Rattle.std.specs.FinMap.{len-entries}
 use Rattle.std.specs.Option.{option_map_or}
 use Rattle.std.proofs.lemmas.List.{length-map}
 use Rattle.outside.specs.Trace.{Call, block}
-use Rattle.outside.specs.Honest.{LastChange, last_change}
+use Rattle.outside.specs.Honest.{last_change}
 use Rattle.local_state.specs.declared.mark.Mark.{Mark}
-use Rattle.local_state.specs.Known.{Marks, raised_version, is_dead_in}
+use Rattle.local_state.specs.Known.{raised_version, is_dead_in}
 use Rattle.sealed_store.specs.BlockFiles.{opens_file}
 use Rattle.store_api.specs.Content.{Id, Changes, or_else, over}
-use Rattle.store_api.specs.Holdings.{Changed, IsFew, has_id}
+use Rattle.store_api.specs.Holdings.{Changed, has_id}
 use Rattle.integrity_store.specs.Applied.{mark_after, WaitsAfter, Applied}
 use Rattle.integrity_store.specs.BlockRecords.{Record, record_of, opened, payload_of, payload_in}
 use Rattle.integrity_store.specs.Held.{Held, own, waiting, waiting_or, bytes_in, file_of, live_version, version_if_live, where_live, told_or_none, wanted, IsPast, SoundAt, SoundBy, was_put}

@@ -1,5 +1,5 @@
 -- What waits once a batch is sealed, by the ids of the batch, and its IVs.
-use Rattle.std.proofs.Common.{◌≡◌, ℕ, suc, List, [], ◌∷◌, Bool, true, false, cond, length, take, drop, refl, sym, ◌∙◌, ap, subst}
+use Rattle.std.proofs.Common.{◌≡◌, ℕ, suc, List, [], ◌∷◌, Bool, true, false, cond, length, refl, sym, ◌∙◌, ap, subst}
 use Rattle.std.specs.Prelude.{T, IsTrue, Option, Some, None, ◌&&◌, map}
 use Rattle.std.specs.List.{AllByRecursion}
 use Rattle.std.specs.Option.{option_or}
@@ -7,17 +7,17 @@ use Rattle.std.specs.FinMap.{is_sorted}
 use Rattle.std.specs.FinMap.Entries.{find, below_all}
 use Rattle.std.specs.Ordering.{is_lt, is_eq}
 use Rattle.rand_core.specs.Stream.{Stream, fill_bytes}
-use Rattle.outside.specs.Trace.{At, config, block}
+use Rattle.outside.specs.Trace.{config, block}
 use Rattle.outside.specs.Names.{at_cmp}
 use Rattle.outside.specs.NameLaws.{at_total}
-use Rattle.outside.specs.Changes.{Changes, IsIncreasing, change_at, set_changes}
+use Rattle.outside.specs.Changes.{Changes, change_at, set_changes}
 use Rattle.outside.specs.ChangeLaws.{change_at-set_changes}
 use Rattle.store_api.specs.Content.{Id, id_cmp, same_id}
 use Rattle.integrity_store.specs.Applied.{IsRaised}
-use Rattle.integrity_store.specs.Draws.{draws, given_in, iv_of}
+use Rattle.integrity_store.specs.Draws.{draws, given_in, iv_in, iv_of}
 use Rattle.integrity_store.specs.Held.{Held}
 use Rattle.integrity_store.specs.Marking.{Entry}
-use Rattle.integrity_store.specs.Sealing.{IsFileFor, IsMadeOf, stream_after, AreMadeOf}
+use Rattle.integrity_store.specs.Sealing.{IsMadeOf, stream_after, AreMadeOf}
 use Rattle.integrity_store.proofs.Sorted.{ids_total, same_id_is, rest_rises, first_below, left, right, each_found}
 
 -- ---- their order
@@ -86,7 +86,7 @@ none_of_config h (e ∷ es) stream left_ (change ∷ changes) made =
 -- ---- their IVs
 
 abbrev with_iv : Option (List ℕ) → List (List ℕ) → List (List ℕ)
-with_iv (Some file) ivs = take 16 (drop 16 file) ∷ ivs
+with_iv (Some file) ivs = iv_in file ∷ ivs
 with_iv None ivs = ivs
 
 abbrev ivs_of : Changes → List (List ℕ)
@@ -116,7 +116,7 @@ shown_ivs h (e ∷ es) stream left_ [] whole made shown = absurd made
 shown_ivs h ((id, Some payload) ∷ es) stream left_ (change ∷ changes) whole made shown =
     let here : change_at (block id) whole ≡ Some (Some made.1.0) = subst (λ n. change_at n whole ≡ Some change.1) made.0 shown.0 ∙ ap Some made.1.1 in
     let rest = shown_ivs h es (fill_bytes 16 stream).1 left_ changes whole made.2 shown.1 in
-    ap (λ x. iv_of x ∷ map (λ id. iv_of (change_at (block id) whole)) (given_in es)) here ∙ (ap (λ ivs. take 16 (drop 16 made.1.0) ∷ ivs) rest ∙ ap (λ m. with_iv m (ivs_of changes)) (sym made.1.1))
+    ap (λ x. iv_of x ∷ map (λ id. iv_of (change_at (block id) whole)) (given_in es)) here ∙ (ap (λ ivs. iv_in made.1.0 ∷ ivs) rest ∙ ap (λ m. with_iv m (ivs_of changes)) (sym made.1.1))
 shown_ivs h ((id, None) ∷ es) stream left_ (change ∷ changes) whole made shown =
     shown_ivs h es stream left_ changes whole made.2 shown.1 ∙ ap (λ m. with_iv m (ivs_of changes)) (sym made.1)
 

@@ -1,7 +1,6 @@
 -- A batch leaves a state and a list that have a record.
-use Rattle.std.proofs.Common.{◌≡◌, ℕ, ◌+◌, ◌^◌, ◌<◌, ◌≤◌, List, [], ◌∷◌, Bool, true, false, length, refl, sym, ◌∙◌, ap, subst, arith}
+use Rattle.std.proofs.Common.{◌≡◌, ℕ, ◌^◌, ◌<◌, ◌≤◌, List, [], ◌∷◌, Bool, true, false, length, refl, sym, ◌∙◌, ap, subst, arith}
 use Rattle.std.specs.Prelude.{T, Option, Some, None, IfSome, is_some, not, ◌&&◌}
-use Rattle.std.specs.List.{AllByRecursion}
 use Rattle.std.specs.Option.{option_map_or}
 use Rattle.std.specs.FinMap as fin
 use Rattle.std.specs.FinMap.{is_sorted}
@@ -14,7 +13,7 @@ use Rattle.outside.specs.NameLaws.{at_total, at_exact}
 use Rattle.outside.specs.Changes.{change_at}
 use Rattle.local_state.specs.declared.mark.Mark.{Mark}
 use Rattle.local_state.specs.Known.{Marks, FitsMark, FitMarks}
-use Rattle.local_state.specs.Record.{PlainState, FitsEntry, FitsBytes, FitsHead, FitsState, FitsList, HasRecord, Rise, comes_after, may_change, has_bytes}
+use Rattle.local_state.specs.Record.{FitsEntry, FitsHead, Rise, comes_after, may_change, has_bytes}
 use Rattle.store_api.specs.Content.{Id, Changes}
 use Rattle.integrity_store.specs.Applied.{mark_after, WaitsAfter, Applied}
 use Rattle.integrity_store.specs.BlockRecords.{Record, opened}
@@ -36,9 +35,10 @@ comes (block a) (block b) h = true_of (is_lt (slice_cmp nat_cmp a b)) h
 
 rise_after : (name : At) (list : List (At × Option (List ℕ))) → T (below_all at_cmp name list) → T (is_sorted at_cmp list) → Rise (Some name) list
 rise_after name [] below rises = tt
-rise_after name (e ∷ es) below rises =
-    (comes name e.0 (left (is_lt (at_cmp name e.0)) (below_all at_cmp name es) below),
-    rise_after e.0 es (left (below_all at_cmp e.0 es) (is_sorted at_cmp es) rises) (right (below_all at_cmp e.0 es) (is_sorted at_cmp es) rises))
+rise_after name (e ∷ es) below rises = (
+  comes name e.0 (left (is_lt (at_cmp name e.0)) (below_all at_cmp name es) below),
+  rise_after e.0 es (left (below_all at_cmp e.0 es) (is_sorted at_cmp es) rises) (right (below_all at_cmp e.0 es) (is_sorted at_cmp es) rises),
+)
 
 rise : (list : List (At × Option (List ℕ))) → T (is_sorted at_cmp list) → Rise None list
 rise [] rises = tt

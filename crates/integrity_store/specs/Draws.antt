@@ -27,11 +27,15 @@ abbrev pub given_ids : Changes → List Id
 given_ids changes = given_in (fin.entries changes)
 
 -- bytes 16 to 31 of a file
+abbrev pub iv_in : List ℕ → List ℕ
+iv_in file = take 16 (drop 16 file)
+
+-- the IV of the file that waits
 abbrev pub iv_of : Option (Option (List ℕ)) → List ℕ
 iv_of None = []
 iv_of (Some None) = []
-iv_of (Some (Some file)) = take 16 (drop 16 file)
+iv_of (Some (Some file)) = iv_in file
 
--- the IVs of the files that wait for the ids of a batch that get a payload are the draws
+-- the IVs of the files that wait for a batch's payloads, by rising ids, are what was drawn, and this is left of the stream
 abbrev pub AreDrawn : Changes → List (At × Option (List ℕ)) → Stream → Stream → Type 0
 AreDrawn changes list stream left = (map (λ id. iv_of (change_at (block id) list)) (given_ids changes), left) ≡ draws (length (given_ids changes)) stream

@@ -1,5 +1,5 @@
 -- The files of a batch, sealed one after another.
-use Rattle.std.specs.Prelude.{◌≡◌, ℕ, ◌+◌, false, List, [], ◌∷◌, take, drop, length}
+use Rattle.std.specs.Prelude.{◌≡◌, ℕ, ◌+◌, false, List, [], ◌∷◌, length}
 use Rattle.std.specs.FinMap as fin
 use Rattle.std.specs.declared.option.Option.{Option}
 use Rattle.std.specs.declared.option.Option.TheVariants.{None, Some}
@@ -9,6 +9,7 @@ use Rattle.outside.specs.Changes.{set_changes}
 use Rattle.local_state.specs.declared.mark.Mark.{Mark}
 use Rattle.store_api.specs.Content.{Id}
 use Rattle.integrity_store.specs.Applied.{IsRaised}
+use Rattle.integrity_store.specs.Draws.{iv_in}
 use Rattle.integrity_store.specs.Held.{Held}
 use Rattle.integrity_store.specs.Marking.{Entry}
 use Rattle.integrity_store.specs.Stores.{is_last}
@@ -24,10 +25,14 @@ abbrev pub MaySeal : Held → Entry → Type 0
 MaySeal h (id, Some payload) = MaySealAt h payload (fin.get h.state.marks id)
 MaySeal h (id, None) = Unit {0}
 
+-- the IV of a file that is made next
+abbrev pub drawn_iv : Stream → List ℕ
+drawn_iv stream = (fill_bytes 16 stream).0
+
 -- the file of an id's record at its next version, with the IV that is drawn
 pub record IsFileFor (h : Held) (id payload : List ℕ) (stream : Stream) (file : List ℕ) : Type 0 where
   pub opens : IsRaised h h id payload file
-  pub iv : take 16 (drop 16 file) ≡ (fill_bytes 16 stream).0
+  pub iv : iv_in file ≡ drawn_iv stream
 
 -- what waits for an entry: the file of its payload, or its removal
 abbrev pub IsMadeOf : Held → Id → Option (List ℕ) → Stream → Option (List ℕ) → Type 0
@@ -49,7 +54,7 @@ AreMadeOf h (e ∷ es) stream (change ∷ changes) left =
     (change.0 ≡ block e.0) × IsMadeOf h e.0 e.1 stream change.1 × AreMadeOf h es (stream_after e.1 stream) changes left
 
 -- what was made of the entries waits, and all else is the same
-pub record Lists (a b : Held) (es : List Entry) (stream left : Stream) : Type 0 where
+pub record IsListed (a b : Held) (es : List Entry) (stream left : Stream) : Type 0 where
   pub changes : List (At × Option (List ℕ))
   pub made : AreMadeOf a es stream changes left
   pub held : b ≡ record a { list = set_changes changes a.list }

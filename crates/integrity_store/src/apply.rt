@@ -8,7 +8,7 @@ ghost use Rattle.store_api.specs.Holdings.{Fits, Changed, IsSpent};
 ghost use Rattle.integrity_store.specs.Applied.{applied_by};
 ghost use Rattle.integrity_store.specs.Draws.{AreDrawn};
 ghost use Rattle.integrity_store.specs.Marking.{count_new_in};
-ghost use Rattle.integrity_store.specs.Sealing.{MaySeal, Lists};
+ghost use Rattle.integrity_store.specs.Sealing.{MaySeal, IsListed};
 ghost use Rattle.integrity_store.specs.Stores.{settled_by};
 ghost use Rattle.integrity_store.specs.Views.{held_of};
 
@@ -35,7 +35,7 @@ impl<V: Vault, C: Sealer> IntegrityStore<V, C> {
         ensures intact { IsIntact (block_size_of self.new.sealed) (C.iv_size (cipher_of self.new.sealed)) }
         ensures vault { self.new.sealed.vault.vault ≡ self.old.sealed.vault.vault }
         ensures room { OnOk result (count_new_in self.new.state.known.marks (entries_of entries.now) ≤ self.new.state.known.spare) }
-        ensures listed { OnOk result (Lists (held_of (C.opens (cipher_of self.old.sealed) (key_of self.old.sealed)) self.old.sealed self.old.state)
+        ensures listed { OnOk result (IsListed (held_of (C.opens (cipher_of self.old.sealed) (key_of self.old.sealed)) self.old.sealed self.old.state)
             (held_of (C.opens (cipher_of self.new.sealed) (key_of self.new.sealed)) self.new.sealed self.new.state) (entries_of entries.now) (R.stream chance.old) (R.stream chance.new)) }
         ensures held { OnErr result (held_of (C.opens (cipher_of self.new.sealed) (key_of self.new.sealed)) self.new.sealed self.new.state
             ≡ held_of (C.opens (cipher_of self.old.sealed) (key_of self.old.sealed)) self.old.sealed self.old.state) }
@@ -50,7 +50,7 @@ impl<V: Vault, C: Sealer> IntegrityStore<V, C> {
 impl<V: Vault, C: Sealer> BlocksMut for IntegrityStore<V, C> {
     ghost applied = { applied_by (λ s. held_of (C.opens (cipher_of s.sealed) (key_of s.sealed)) s.sealed s.state) (λ s. V.trace s.sealed.vault.vault) };
 
-    // Each payload's file has an IV of 16 bytes, drawn by one fill, by rising ids.
+    /// The IV of each payload's file is drawn by one fill of 16 bytes, by rising ids.
     fn apply<R: Rng>(
         &mut self,
         alloc: Global,

@@ -13,4 +13,6 @@ mod writing;
 pub use store::IntegrityStore;
 
 #[cfg(test)]
+mod apply_tests;
+#[cfg(test)]
 mod tests;

@@ -6,7 +6,9 @@ ghost use Rattle.outside.specs.View.{change_of, list_of};
 ghost use Rattle.local_state.specs.Known.{raised_version};
 ghost use Rattle.sealed_store.specs.Stores.{IsIntact, block_size_of, key_of, cipher_of};
 ghost use Rattle.store_api.specs.Entries.{entry_view, entries_of};
-ghost use Rattle.integrity_store.specs.Sealing.{MaySealAt, MaySeal, IsFileFor, IsMadeOf, stream_after, AreMadeOf};
+ghost use Rattle.integrity_store.specs.Applied.{IsRaised};
+ghost use Rattle.integrity_store.specs.Draws.{iv_in};
+ghost use Rattle.integrity_store.specs.Sealing.{MaySealAt, MaySeal, drawn_iv, IsMadeOf, stream_after, AreMadeOf};
 ghost use Rattle.integrity_store.specs.Stores.{is_last};
 ghost use Rattle.integrity_store.specs.Views.{held_of};
 
@@ -43,8 +45,9 @@ fn seal<V: Vault, C: Sealer, R: Rng>(
     requires intact { IsIntact (block_size_of sealed.now) (C.iv_size (cipher_of sealed.now)) }
     requires client { 0 < state.now.client }
     requires may { MaySealAt (held_of (C.opens (cipher_of sealed.now) (key_of sealed.now)) sealed.now state.now) payload.now (fin.get state.now.known.marks id.now.0) }
-    ensures file { IfOk result (λ file. IsFileFor (held_of (C.opens (cipher_of sealed.now) (key_of sealed.now)) sealed.now state.now)
-        id.now.0 payload.now (R.stream chance.old) file.items) }
+    ensures opens { IfOk result (λ file. IsRaised (held_of (C.opens (cipher_of sealed.now) (key_of sealed.now)) sealed.now state.now)
+        (held_of (C.opens (cipher_of sealed.now) (key_of sealed.now)) sealed.now state.now) id.now.0 payload.now file.items) }
+    ensures iv { IfOk result (λ file. iv_in file.items ≡ drawn_iv (R.stream chance.old)) }
     ensures stream { IfOk result (λ _. R.stream chance.new ≡ stream_after (Some payload.now) (R.stream chance.old)) }
 {
     let mut iv = [0; 16];

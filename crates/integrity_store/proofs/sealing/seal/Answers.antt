@@ -1,15 +1,14 @@
-use Rattle.std.proofs.Common.{◌≡◌, ℕ, ◌+◌, ◌<◌, List, length, take, drop, Result, Ok, Err, Vec, Some, None, sym, ◌∙◌, ap, arith}
+use Rattle.std.proofs.Common.{◌≡◌, ℕ, ◌+◌, ◌<◌, List, length, Result, Ok, Err, Vec, Some, None, sym, ◌∙◌, ap, arith}
 use Rattle.std.specs.Prelude.{IfOk, Option}
 use Rattle.std.specs.declared.alloc.Global.{Global}
 use Rattle.std.specs.FinMap as fin
-use Rattle.rand_core.specs.Stream.{Stream, fill_bytes}
 use Rattle.local_state.specs.declared.mark.Mark.{Mark}
 use Rattle.local_state.specs.Known.{raised_version}
 use Rattle.sealed_store.specs.BlockFiles.{opens_file}
 use Rattle.sealed_store.specs.Stores.{key_of, cipher_of}
-use Rattle.integrity_store.specs.BlockRecords.{record_of, record_in}
+use Rattle.integrity_store.specs.BlockRecords.{Record, record_of, record_in}
 use Rattle.integrity_store.specs.Held.{Held, own}
-use Rattle.integrity_store.specs.Sealing.{IsFileFor}
+use Rattle.integrity_store.specs.Applied.{IsRaised}
 use Rattle.integrity_store.specs.Views.{held_of}
 use Rattle.integrity_store.proofs.sealing.seal.Goals as goal
 
@@ -23,20 +22,19 @@ write_record-requires-clause-version g c = omega (arith, c.next_version-version.
 pub seal_plain-requires-clause-plain : goal.seal_plain-requires-clause-plain
 seal_plain-requires-clause-plain g c = omega (arith, ap length c.deref.ensures.value, c.in_ok-plain.ensures.len, c.requires.may.sized)
 
--- a file that opens to this record, where one was made
-file_for : {E : Type 0} (h : Held) (id payload plain iv : List ℕ) (version : ℕ) (stream : Stream) (r : Result (Vec ℕ Global) E) → version ≡ raised_version (fin.get h.state.marks id)
-    → record_of h.size plain ≡ Some (own h id version payload) → IfOk r (λ file. opens_file h.opens h.size file.items ≡ Some plain)
-    → IfOk r (λ file. take 16 (drop 16 file.items) ≡ iv) → iv ≡ (fill_bytes 16 stream).0 → IfOk r (λ file. IsFileFor h id payload stream file.items)
-file_for h id payload plain iv version stream (Ok file) raised reads opens has_iv drawn =
-    record { opens = ap (record_in h.size) opens ∙ (reads ∙ ap (λ v. Some (own h id v payload)) raised); iv = has_iv ∙ drawn }
-file_for h id payload plain iv version stream (Err e) raised reads opens has_iv drawn = tt
+-- a copy of a record's bytes reads as it
+reads_as : (size : ℕ) (plain items : List ℕ) (r : Record) → plain ≡ items → length items + 48 ≡ size → record_of (length items + 48) items ≡ Some r → record_of size plain ≡ Some r
+reads_as size plain items r copy len is = ap (record_of size) copy ∙ (ap (λ n. record_of n items) (sym len) ∙ is)
 
-pub returns-clause-file : goal.returns-clause-file
-returns-clause-file g c =
+-- a file that opens to this record, where one was made
+opens_to : {E : Type 0} (h : Held) (id payload plain : List ℕ) (version : ℕ) (r : Result (Vec ℕ Global) E) → version ≡ raised_version (fin.get h.state.marks id)
+    → record_of h.size plain ≡ Some (own h id version payload) → IfOk r (λ file. opens_file h.opens h.size file.items ≡ Some plain) → IfOk r (λ file. IsRaised h h id payload file.items)
+opens_to h id payload plain version (Ok file) raised reads opens = ap (record_in h.size) opens ∙ (reads ∙ ap (λ v. Some (own h id v payload)) raised)
+opens_to h id payload plain version (Err e) raised reads opens = tt
+
+pub returns-clause-opens : goal.returns-clause-opens
+returns-clause-opens g c =
     let held = held_of (g.C.Sealer.opens (cipher_of c.args.sealed.now) (key_of c.args.sealed.now)) c.args.sealed.now c.args.state.now in
-    let plain = c.deref.result.now in
     let size : length c.in_ok-plain.plain.items + 48 ≡ held.size = omega (arith, c.in_ok-plain.ensures.len, c.requires.may.sized) in
-    let reads : record_of held.size plain ≡ Some (own held c.args.id.now.0 c.next_version-version.result c.args.payload.now) =
-    ap (record_of held.size) c.deref.ensures.value ∙ (ap (λ n. record_of n c.in_ok-plain.plain.items) (sym size) ∙ c.in_ok-plain.ensures.record_of) in
-    file_for held c.args.id.now.0 c.args.payload.now plain c.fill_bytes.new.dst c.next_version-version.result (g.R.Rng.stream c.args.chance.now) c.seal_plain.result
-    c.next_version-version.ensures reads c.seal_plain.ensures.opens c.seal_plain.ensures.iv (ap (λ p. p.0) c.fill_bytes.ensures)
+    let reads = reads_as held.size c.deref.result.now c.in_ok-plain.plain.items (own held c.args.id.now.0 c.next_version-version.result c.args.payload.now) c.deref.ensures.value size c.in_ok-plain.ensures.record_of in
+    opens_to held c.args.id.now.0 c.args.payload.now c.deref.result.now c.next_version-version.result c.seal_plain.result c.next_version-version.ensures reads c.seal_plain.ensures.opens

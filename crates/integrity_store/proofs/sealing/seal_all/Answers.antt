@@ -15,7 +15,7 @@ loop-entry-preserved g c =
     record {
       may = (may_next held c.args.entries.now c.loop-entry.entry-index c.entry-item.result c.loop-entry-test.true c.entry-item.is c.loop-entry.invariant.may).1;
       made = made_next held c.args.entries.now c.loop-entry.entry-index c.entry-item.result (g.R.Rng.stream c.args.chance.now) (g.R.Rng.stream c.loop-entry.chance) (g.R.Rng.stream c.seal_entry.new.chance)
-        c.loop-entry.changes.items c.push.new.self.items _ c.loop-entry-test.true c.entry-item.is c.in_ok-push.ensures.items refl c.in_ok-change.ensures.change c.in_ok-change.ensures.stream c.loop-entry.invariant.made;
+          c.loop-entry.changes.items c.push.new.self.items _ c.loop-entry-test.true c.entry-item.is c.in_ok-push.ensures.items refl c.in_ok-change.ensures.change c.in_ok-change.ensures.stream c.loop-entry.invariant.made;
     }
 
 pub returns : goal.returns

@@ -1,4 +1,4 @@
-use Rattle.std.proofs.Common.{◌≡◌, ℕ, ◌+◌, ◌^◌, ◌<◌, List, [], ◌++◌, length, Some, refl, sym, ◌∙◌, ap, subst, append_assoc, arith, rules}
+use Rattle.std.proofs.Common.{◌≡◌, ℕ, ◌+◌, List, [], ◌++◌, length, refl, ◌∙◌, ap, append_assoc, arith, rules}
 use Rattle.std.specs.Int.{w16, w32, w64, to_le_bytes}
 use Rattle.integrity_store.specs.BlockRecords.{Record, record_of}
 use Rattle.integrity_store.proofs.Records.{FitsRecord, record_bytes, length-record_bytes, record_of-record_bytes}

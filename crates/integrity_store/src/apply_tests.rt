@@ -1,0 +1,303 @@
+// Batches over a store in memory: what is loaded, known and waits afterwards.
+ghost use Rattle.std.specs.Prelude.{◌≡◌, [], IfOk};
+ghost use Rattle.sealed_store.specs.Stores.{IsIntact, block_size_of, cipher_of};
+
+use crate::IntegrityStore;
+use aes_gcm::Aes256Gcm;
+use block_id::BlockId;
+use local_state::decode;
+use outside::{Change, FileName, MemoryVault, Pending, Vault};
+use rand_core::Rng;
+use rand_pcg::Pcg32;
+use redo_vault::RedoVault;
+use seal_api::Sealer;
+use sealed_store::{SealedStore, Seen};
+use std::alloc::Global;
+use std::test::Fail;
+use store_api::{ApplyError, Blocks, BlocksMut, Tx};
+
+type Store = IntegrityStore<MemoryVault, Aes256Gcm>;
+
+// Live at a version that is to be told.
+const LIVE: BlockId = BlockId([1; 16]);
+
+// Live at version 5.
+const DYING: BlockId = BlockId([2; 16]);
+
+const NEW: BlockId = BlockId([3; 16]);
+
+// A source that always begins alike.
+fn chance() -> Pcg32 {
+    Pcg32::new(1, 2)
+}
+
+// The record of client 7 that knows two live blocks.
+fn push_record(out: &mut Vec<u8>, version: u64) -> Result<(), Fail> {
+    out.extend_from_slice(b"cryfs.localstate;1\0\0")?;
+    out.extend_from_slice(&[0x11; 80])?;
+    out.extend_from_slice(&[7, 0, 0, 0, 2, 0, 0, 0, 0, 0, 0, 0])?;
+    out.extend_from_slice(&[1; 16])?;
+    out.extend_from_slice(&version.to_le_bytes())?;
+    out.push(1)?;
+    out.extend_from_slice(&[2; 16])?;
+    out.extend_from_slice(&[5, 0, 0, 0, 0, 0, 0, 0, 1])?;
+    out.extend_from_slice(&[0; 8])?;
+    Ok(())
+}
+
+// What a block's file holds: its form, its id, client 7, its version and 50 bytes of payload.
+fn plain_of(id: u8, version: u64, payload: u8) -> [u8; 80] {
+    let mut plain = [payload; 80];
+    plain[..30].fill(0);
+    plain[0] = 1;
+    plain[2..18].fill(id);
+    plain[18] = 7;
+    plain[22..30].copy_from_slice(&version.to_le_bytes());
+    plain
+}
+
+// Blocks of 128 bytes under a key of zeros.
+fn sealed_over(below: MemoryVault, alloc: Global) -> SealedStore<MemoryVault, Aes256Gcm>
+    ensures intact { IsIntact (block_size_of result) (⟦<Aes256Gcm as Sealer>⟧.iv_size (cipher_of result)) }
+    ensures size { block_size_of result ≡ 128 }
+    ensures list { result.vault.list ≡ [] }
+{
+    let vault = RedoVault::new(below, Vec::new(alloc));
+    SealedStore::new(vault, Aes256Gcm, [0; 32], 128)
+}
+
+// A directory with the files of both blocks, whose payloads are of bytes 8 and 9.
+fn files(alloc: Global, version: u64) -> Result<MemoryVault, Fail> {
+    let mut below = MemoryVault::new(alloc);
+    let sealed = sealed_over(MemoryVault::new(alloc), alloc);
+    let live = sealed.seal_plain(alloc, &LIVE, &plain_of(1, version, 8), &[0; 16])?;
+    below.put(alloc, &FileName::Block(LIVE), &live)?;
+    let dying = sealed.seal_plain(alloc, &DYING, &plain_of(2, 5, 9), &[0; 16])?;
+    below.put(alloc, &FileName::Block(DYING), &dying)?;
+    Ok(below)
+}
+
+fn store_at(alloc: Global, version: u64) -> Result<Store, Fail>
+    ensures { IfOk result (λ store. ⟦<Store as Blocks>⟧.meanings.intact store) }
+{
+    let mut bytes = Vec::new(alloc);
+    push_record(&mut bytes, version)?;
+    let Ok((state, list)) = decode(alloc, &bytes) else {
+        return Err("no record".into());
+    };
+    if !list.is_empty() {
+        return Err("a list".into());
+    }
+    let below = files(alloc, version)?;
+    Ok(IntegrityStore::new(sealed_over(below, alloc), state))
+}
+
+fn tx_over(alloc: Global, store: Store) -> Tx<Store>
+    requires { ⟦<Store as Blocks>⟧.meanings.intact store }
+    ensures intact { ⟦<Tx<Store> as Blocks>⟧.meanings.intact result }
+    ensures store { result.store ≡ store }
+{
+    Tx::new(alloc, store)
+}
+
+// Has a block get another payload, of this byte.
+fn renew<S: Blocks>(alloc: Global, tx: &mut Tx<S>, id: &BlockId, byte: u8) -> Result<(), Fail>
+    requires { ⟦<Tx<S> as Blocks>⟧.meanings.intact tx.old }
+    ensures { ⟦<Tx<S> as Blocks>⟧.meanings.intact tx.new }
+{
+    match tx.load(alloc, id)? {
+        Some(old) => {
+            let payload = [byte; 50].to_vec(alloc)?;
+            if payload.len() != old.len() {
+                return Err("another length".into());
+            }
+            tx.put(id, payload)?;
+            Ok(())
+        }
+        None => Err("no payload".into()),
+    }
+}
+
+// Has a free id get a payload of this byte.
+fn give<S: Blocks>(alloc: Global, tx: &mut Tx<S>, id: &BlockId, byte: u8) -> Result<(), Fail>
+    requires { ⟦<Tx<S> as Blocks>⟧.meanings.intact tx.old }
+    ensures { ⟦<Tx<S> as Blocks>⟧.meanings.intact tx.new }
+{
+    let payload = [byte; 50].to_vec(alloc)?;
+    if payload.len() != tx.payload() {
+        return Err("another length".into());
+    }
+    if tx.is_used(id) {
+        return Err("a used id".into());
+    }
+    if id.cmp(&BlockId([0; 16])).is_eq() {
+        return Err("the zero id".into());
+    }
+    tx.put(id, payload)?;
+    Ok(())
+}
+
+fn take<S: Blocks>(alloc: Global, tx: &mut Tx<S>, id: &BlockId) -> Result<(), Fail>
+    requires { ⟦<Tx<S> as Blocks>⟧.meanings.intact tx.old }
+    ensures { ⟦<Tx<S> as Blocks>⟧.meanings.intact tx.new }
+{
+    match tx.load(alloc, id)? {
+        Some(_) => {}
+        None => return Err("no payload".into()),
+    }
+    tx.remove(id)?;
+    Ok(())
+}
+
+// Whether this is the payload of the block, 50 times this byte; without a byte, whether it has none.
+fn holds<S: Blocks>(
+    alloc: Global,
+    tx: &mut Tx<S>,
+    id: &BlockId,
+    byte: Option<u8>,
+) -> Result<bool, Fail>
+    requires { ⟦<Tx<S> as Blocks>⟧.meanings.intact tx.old }
+    ensures { ⟦<Tx<S> as Blocks>⟧.meanings.intact tx.new }
+{
+    match (tx.load(alloc, id)?, byte) {
+        (Some(payload), Some(byte)) => Ok(payload.as_slice() == [byte; 50].as_slice()),
+        (None, None) => Ok(true),
+        _ => Ok(false),
+    }
+}
+
+// What a batch answered, and whether its three blocks are as it says.
+type Outcome = (Result<(), ApplyError>, [bool; 3]);
+
+// A batch that is put in an order that isn't that of the ids, and removes a block.
+fn change<S: BlocksMut, R: Rng>(
+    alloc: Global,
+    tx: &mut Tx<S>,
+    chance: &mut R,
+) -> Result<Outcome, Fail>
+    requires { ⟦<Tx<S> as Blocks>⟧.meanings.intact tx.old }
+    ensures { ⟦<Tx<S> as Blocks>⟧.meanings.intact tx.new }
+{
+    give(alloc, tx, &NEW, 33)?;
+    renew(alloc, tx, &LIVE, 11)?;
+    take(alloc, tx, &DYING)?;
+    let answer = tx.commit(alloc, chance);
+    tx.abandon();
+    let live = holds(alloc, tx, &LIVE, Some(11))?;
+    let dying = holds(alloc, tx, &DYING, None)?;
+    let new = holds(alloc, tx, &NEW, Some(33))?;
+    Ok((answer, [live, dying, new]))
+}
+
+fn change_store<R: Rng>(
+    alloc: Global,
+    store: Store,
+    chance: &mut R,
+) -> (Store, Result<Outcome, Fail>)
+    requires { ⟦<Store as Blocks>⟧.meanings.intact store }
+    ensures { ⟦<Store as Blocks>⟧.meanings.intact result.0 }
+{
+    let mut tx = tx_over(alloc, store);
+    let outcome = change(alloc, &mut tx, chance);
+    (tx.into_store(), outcome)
+}
+
+fn remove_live<S: BlocksMut>(alloc: Global, tx: &mut Tx<S>) -> Result<Result<(), ApplyError>, Fail>
+    requires { ⟦<Tx<S> as Blocks>⟧.meanings.intact tx.old }
+{
+    take(alloc, tx, &LIVE)?;
+    Ok(tx.commit(alloc, &mut chance()))
+}
+
+fn draw(source: &mut Pcg32) -> [u8; 16] {
+    let mut bytes = [0; 16];
+    source.fill_bytes(&mut bytes);
+    bytes
+}
+
+// The name of a block's file that waits, and its IV, or none where the removal waits.
+fn waiting(pending: &Pending) -> (&FileName, Option<&[u8]>) {
+    match &pending.change {
+        Change::Bytes(file) => (&pending.name, file.get(16..32)),
+        Change::Removal => (&pending.name, None),
+    }
+}
+
+// The record that waits for a block.
+fn waiting_record(
+    alloc: Global,
+    sealed: &mut SealedStore<MemoryVault, Aes256Gcm>,
+    id: &BlockId,
+) -> Result<Vec<u8>, Fail>
+    requires { IsIntact (block_size_of sealed.old) (⟦<Aes256Gcm as Sealer>⟧.iv_size (cipher_of sealed.old)) }
+    ensures { IsIntact (block_size_of sealed.new) (⟦<Aes256Gcm as Sealer>⟧.iv_size (cipher_of sealed.new)) }
+{
+    match sealed.get_plain(alloc, id)? {
+        Seen::Plain(plain) => Ok(plain),
+        _ => Err("no record".into()),
+    }
+}
+
+#[test]
+fn applies_a_batch(rt: HostRuntime) -> Result<(), Fail> {
+    let store = store_at(rt.alloc(), 2)?;
+    let (store, outcome) = change_store(rt.alloc(), store, &mut chance());
+    let known = &store.state().known;
+    assert!(rt; outcome? == (Ok(()), [true, true, true]));
+    assert_eq!(rt; known.version(&LIVE), Some(3));
+    assert_eq!(rt; known.version(&DYING), Some(5));
+    assert_eq!(rt; known.version(&NEW), Some(1));
+    assert!(rt; known.is_live(&LIVE));
+    assert!(rt; known.is_used(&DYING));
+    assert!(rt; !known.is_live(&DYING));
+    assert!(rt; known.is_live(&NEW));
+    Ok(())
+}
+
+#[test]
+fn seals_with_what_is_drawn_by_rising_ids(rt: HostRuntime) -> Result<(), Fail> {
+    let mut source = chance();
+    let store = store_at(rt.alloc(), 2)?;
+    let (mut store, outcome) = change_store(rt.alloc(), store, &mut source);
+    drop(outcome?);
+    let mut same = chance();
+    let (first, second) = (draw(&mut same), draw(&mut same));
+    assert!(rt; draw(&mut source) == draw(&mut same));
+    match store.sealed.vault.entries() {
+        [live, dying, new] => {
+            assert!(rt; waiting(live) == (&FileName::Block(LIVE), Some(&first[..])));
+            assert!(rt; waiting(dying) == (&FileName::Block(DYING), None));
+            assert!(rt; waiting(new) == (&FileName::Block(NEW), Some(&second[..])));
+        }
+        _ => assert!(rt; false),
+    }
+    let live = waiting_record(rt.alloc(), &mut store.sealed, &LIVE)?;
+    assert_eq!(rt; live.as_slice(), plain_of(1, 3, 11).as_slice());
+    let new = waiting_record(rt.alloc(), &mut store.sealed, &NEW)?;
+    assert_eq!(rt; new.as_slice(), plain_of(3, 1, 33).as_slice());
+    Ok(())
+}
+
+#[test]
+fn changes_nothing_where_an_id_is_spent(rt: HostRuntime) -> Result<(), Fail> {
+    let mut source = chance();
+    let store = store_at(rt.alloc(), u64::MAX)?;
+    let (store, outcome) = change_store(rt.alloc(), store, &mut source);
+    assert!(rt; outcome? == (Err(ApplyError::Spent), [false, false, false]));
+    assert!(rt; draw(&mut source) == draw(&mut chance()));
+    assert_eq!(rt; store.state().known.version(&LIVE), Some(u64::MAX));
+    assert!(rt; store.state().known.is_live(&DYING));
+    assert!(rt; !store.state().known.is_used(&NEW));
+    assert_eq!(rt; store.sealed.vault.entries().len(), 0);
+    Ok(())
+}
+
+#[test]
+fn removes_a_block_whose_id_is_spent(rt: HostRuntime) -> Result<(), Fail> {
+    let mut tx = tx_over(rt.alloc(), store_at(rt.alloc(), u64::MAX)?);
+    let answer = remove_live(rt.alloc(), &mut tx);
+    let store = tx.into_store();
+    assert_eq!(rt; answer?, Ok(()));
+    assert!(rt; !store.state().known.is_live(&LIVE));
+    Ok(())
+}
