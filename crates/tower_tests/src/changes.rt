@@ -1,6 +1,7 @@
 // Changes of one store, and syncs, over any durable store and keeper.
 ghost use Rattle.std.specs.Prelude.{◌≡◌, true, IfOk, IsTrue};
 ghost use Rattle.store_api.specs.Holdings.{IsFew, MayGet};
+ghost use Rattle.store_api.specs.Lists.{MayConfigure};
 
 use block_id::BlockId;
 use outside::Keeper;
@@ -8,7 +9,7 @@ use rand_pcg::Pcg32;
 use std::alloc::Global;
 use std::test::Fail;
 use store_api::{Blocks, BlocksMut, Durable, Tx};
-use store_session::{Session, SyncError};
+use store_session::{Session, SyncError, follow};
 
 /// A block and the byte that its payload is made of, or None where the block is removed.
 pub(crate) type Change = (BlockId, Option<u8>);
@@ -144,4 +145,84 @@ pub(crate) fn change_and_sync<S: Durable + Drop, K: Keeper + Drop>(
 {
     let store = changed(alloc, store, changes)?;
     Ok(sync_twice(alloc, store, keeper))
+}
+
+/// How many bytes wait, and how many the record has with its list and with an empty one.
+pub(crate) type Sizes = (usize, usize, usize);
+
+fn sizes_of<S: Durable>(alloc: Global, store: &S) -> Result<Sizes, Fail>
+    requires { S.Durable.meanings.intact store.now }
+{
+    let with_list = store.state_bytes(alloc, true)?;
+    let without = store.state_bytes(alloc, false)?;
+    Ok((store.buffered(), with_list.len(), without.len()))
+}
+
+// Whether these bytes may wait as the configuration.
+fn may_configure(bytes: &[u8]) -> bool
+    ensures { result ≡ true → MayConfigure bytes.now }
+{
+    bytes.len() < 1000 && !bytes.starts_with(b"cryfs;block;0\0")
+}
+
+// Has these bytes wait as the configuration.
+fn configure<S: Durable>(alloc: Global, store: &mut S, bytes: &[u8]) -> Result<(), Fail>
+    requires { S.Durable.meanings.intact store.old }
+    ensures { S.Durable.meanings.intact store.new }
+{
+    let bytes = bytes.to_vec(alloc)?;
+    if !may_configure(&bytes) {
+        return Err(Fail::from("no configuration"));
+    }
+    store.put_config(alloc, bytes)?;
+    Ok(())
+}
+
+/// Makes the changes, all at once, has the configuration wait, and syncs twice.
+pub(crate) fn configure_and_sync<S: Durable + Drop, K: Keeper + Drop>(
+    alloc: Global,
+    store: S,
+    keeper: K,
+    changes: &[Change],
+    bytes: &[u8],
+) -> Result<(Sizes, Ended<S, K>), Fail>
+    requires intact { S.Durable.meanings.intact store }
+    requires few { IsFew (S.Durable.holdings.used store) }
+{
+    let mut store = changed(alloc, store, changes)?;
+    configure(alloc, &mut store, bytes)?;
+    let sizes = sizes_of(alloc, &store)?;
+    Ok((sizes, sync_twice(alloc, store, keeper)))
+}
+
+fn follow_and_commit<S: BlocksMut>(
+    alloc: Global,
+    tx: &mut Tx<S>,
+    id: &BlockId,
+) -> Result<bool, Fail>
+    requires { ⟦<Tx<S> as Blocks>⟧.meanings.intact tx.old }
+    ensures { ⟦<Tx<S> as Blocks>⟧.meanings.intact tx.new }
+{
+    let found = follow(alloc, tx, id)?;
+    tx.commit(alloc, &mut Pcg32::new(1, 2))?;
+    Ok(found)
+}
+
+/// Gives a block the payload of the one that it names, and syncs twice. Says whether both were there.
+pub(crate) fn follow_and_sync<S: Durable + Drop, K: Keeper + Drop>(
+    alloc: Global,
+    store: S,
+    keeper: K,
+    id: &BlockId,
+) -> Result<(bool, Ended<S, K>), Fail>
+    requires intact { S.Durable.meanings.intact store }
+    requires few { IsFew (S.Durable.holdings.used store) }
+{
+    let mut tx = Tx::new(alloc, store);
+    let outcome = follow_and_commit(alloc, &mut tx, id);
+    let store = tx.into_store();
+    match outcome {
+        Ok(found) => Ok((found, sync_twice(alloc, store, keeper))),
+        Err(fail) => Err(fail),
+    }
 }

@@ -7,7 +7,9 @@ ghost use Rattle.sealed_store.specs.Stores.{IsIntact, block_size_of, cipher_of};
 ghost use Rattle.store_api.specs.Holdings.{IsFew};
 ghost use Rattle.integrity_store.specs.WaitingLists.{IsNoBlock};
 
-use crate::changes::{Change as Payload, Ended, Synced, change_and_sync};
+use crate::changes::{
+    Change as Payload, Ended, Sizes, Synced, change_and_sync, configure_and_sync, follow_and_sync,
+};
 use aes_gcm::Aes256Gcm;
 use block_id::BlockId;
 use integrity_store::IntegrityStore;
@@ -87,7 +89,6 @@ fn open(alloc: Global, vault: MemoryVault, record: &[u8]) -> Result<Store, Fail>
     if !is_no_block(&list) {
         return Err("a block as the configuration".into());
     }
-    let _used = state.known.len();
     Ok(IntegrityStore::new(sealed_over(alloc, vault, list), state))
 }
 
@@ -134,15 +135,48 @@ impl Site {
         let record = self.record(alloc)?;
         let store = open(alloc, self.take_vault(alloc), &record)?;
         let keeper = self.take_keeper(alloc);
+        let ended = change_and_sync(alloc, store, keeper, changes)?;
+        Ok(self.end(ended))
+    }
+
+    /// Opens the store, makes the changes, all at once, has the configuration wait, and syncs twice.
+    pub(crate) fn configure(
+        &mut self,
+        alloc: Global,
+        changes: &[Payload],
+        bytes: &[u8],
+    ) -> Result<(Sizes, (Synced, Synced)), Fail> {
+        let record = self.record(alloc)?;
+        let store = open(alloc, self.take_vault(alloc), &record)?;
+        let keeper = self.take_keeper(alloc);
+        let (sizes, ended) = configure_and_sync(alloc, store, keeper, changes, bytes)?;
+        Ok((sizes, self.end(ended)))
+    }
+
+    /// Opens the store, gives a block the payload of the one that it names, and syncs twice.
+    pub(crate) fn follow(
+        &mut self,
+        alloc: Global,
+        id: &BlockId,
+    ) -> Result<(bool, (Synced, Synced)), Fail> {
+        let record = self.record(alloc)?;
+        let store = open(alloc, self.take_vault(alloc), &record)?;
+        let keeper = self.take_keeper(alloc);
+        let (found, ended) = follow_and_sync(alloc, store, keeper, id)?;
+        Ok((found, self.end(ended)))
+    }
+
+    // Puts the directory and the local record back.
+    fn end(&mut self, ended: Ended<Store, MemoryKeeper>) -> (Synced, Synced) {
         let Ended {
             first,
             second,
             store,
             keeper,
-        } = change_and_sync(alloc, store, keeper, changes)?;
+        } = ended;
         self.vault = store.into_vault();
         self.keeper = keeper;
-        Ok((first, second))
+        (first, second)
     }
 
     /// Opens the store and loads a block.

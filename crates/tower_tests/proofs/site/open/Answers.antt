@@ -1,4 +1,3 @@
-use Rattle.std.proofs.Common.{ap, arith}
 use Rattle.local_state.specs.Record.{plain_state}
 use Rattle.outside.specs.View.{list_of}
 use Rattle.integrity_store.specs.WaitingLists.{in_order}
@@ -6,6 +5,3 @@ use Rattle.tower_tests.proofs.site.open.Goals as goal
 
 pub sealed_over-requires : goal.sealed_over-requires
 sealed_over-requires c = in_order (plain_state c.in-Ok.state) (list_of c.in-Ok.list.items) c.in-Ok.ensures.has_record
-
-pub returns-clause-few : goal.returns-clause-few
-returns-clause-few c = ?
