@@ -5,7 +5,6 @@ use Rattle.std.specs.Option.{option_copied}
 use Rattle.std.specs.declared.option.Option.{Option}
 use Rattle.std.specs.declared.option.Option.TheVariants.{None, Some}
 use Rattle.line_io.specs.Streams.{Stream}
-
 use Rattle.cryfs_setup.specs.declared.status.Status.{Status}
 use Rattle.cryfs_setup.specs.declared.status.Status.TheVariants.{Done, Usage, LongPassword, NoConfig, ConfigForm, ConfigLocked, ConfigInner, NoState, BadState, Exists, Violation, DirectoryFault, StateFault, InputFault, OutputFault, Memory}
 use Rattle.cryfs_setup.specs.Passwords.{password_of, IsRead, IsPast, PasswordKnown, PasswordRead}

@@ -103,7 +103,12 @@ fn info_text(alloc: Global, config: &Config, params: &Params) -> Result<Vec<u8>,
     push_id(&mut text, b"filesystem ", &config.fs_id)?;
     push_id(&mut text, b"root ", &config.root)?;
     push_cipher(&mut text, config.cipher)?;
-    push_number(&mut text, alloc, b"blocksize ", u64::from(config.block_size))?;
+    push_number(
+        &mut text,
+        alloc,
+        b"blocksize ",
+        u64::from(config.block_size),
+    )?;
     text.push(b'\n')?;
     push_number(&mut text, alloc, b"scrypt ", params.n())?;
     push_number(&mut text, alloc, b" ", u64::from(params.r()))?;

@@ -12,15 +12,12 @@ use std::alloc::Global;
 
 /// Reads the first line of an input as the password, which the reader then holds. LongPassword comes exactly where the
 /// line passes 1,048,576 bytes in the bytes that were taken.
-pub(crate) fn read_password<I: Source>(
-    alloc: Global,
-    input: &mut I,
-) -> Result<LineReader, Status>
+pub(crate) fn read_password<I: Source>(alloc: Global, input: &mut I) -> Result<LineReader, Status>
     ensures read { (taken : List ℕ) × MatchResult result
         (λ reader. PasswordKnown (stream_of I.rest I.faults input.old input.new) taken
-            × (reader.line ≡ Some (password_of taken)))
+        × (reader.line ≡ Some (password_of taken)))
         (λ status. PasswordRead (stream_of I.rest I.faults input.old input.new) taken status
-            × IsBefore status) }
+        × IsBefore status) }
     ensures grows { I.faults input.old ≤ I.faults input.new }
 {
     let Ok(mut reader) = LineReader::new(alloc) else {

@@ -1,9 +1,10 @@
 -- Lines and the texts of their answers. The newest stands first.
-use Rattle.std.specs.Prelude.{◌≡◌, ◌⊎◌, ℕ, List, [], ◌∷◌, ◌++◌}
+use Rattle.std.specs.Prelude.{◌≡◌, ◌⊎◌, ℕ, ◌^◌, List, [], ◌∷◌, ◌++◌}
 use Rattle.std.specs.declared.option.Option.{Option}
 use Rattle.std.specs.declared.option.Option.TheVariants.{None, Some}
 use Rattle.outside.specs.Streams.{appends, Ends}
 use Rattle.line_io.specs.Lines.{lines}
+use Rattle.line_io.specs.Reading.{Line}
 use Rattle.line_io.specs.Streams.{Stream, Failed, TookMost, Cut}
 use Rattle.cryfs_shell.specs.declared.serve.End.{End}
 use Rattle.cryfs_shell.specs.declared.serve.End.TheVariants.{Finished, InputFault, OutputFault}
@@ -61,3 +62,13 @@ EndsAs taken coming input output lines texts OutputFault = BeginWith coming line
 abbrev pub Served : {S : Type 0} → (S → List ℕ → List ℕ → S → Type 0) → S → S → ℕ → Option (List ℕ) → Stream → Stream → End → Type 0
 Served answers old new taken coming input output end =
     (turns : List Turn) × Went answers old turns new × EndsAs taken coming input output (turn_lines turns) (turn_texts turns) end
+
+-- a line was taken and answered by this text
+abbrev pub Answered : {S : Type 0} → (S → List ℕ → List ℕ → S → Type 0) → S → S → Option (List ℕ) → Option (List ℕ) → List ℕ → Type 0
+Answered answers old new before after text = (line : List ℕ) × answers old line text new × Line before line after
+
+-- a turn in which the lines ended: none was left, the source failed in the next, or the sink failed in the answer
+abbrev pub Stopped : {S : Type 0} → (S → List ℕ → List ℕ → S → Type 0) → S → S → Option (List ℕ) → Option (List ℕ) → ℕ → Stream → Stream → List ℕ → End → Type 0
+Stopped answers old new before after taken input output text Finished = (new ≡ old) × Ends before × Ends input.new × (output.new ≡ output.old)
+Stopped answers old new before after taken input output text InputFault = (new ≡ old) × (output.new ≡ output.old) × (Failed input ⊎ (taken ≡ 2 ^ 63))
+Stopped answers old new before after taken input output text OutputFault = Answered answers old new before after text × Cut output.old output.new text × Failed output

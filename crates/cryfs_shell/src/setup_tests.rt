@@ -1,7 +1,7 @@
 // Whole runs of `create` and `info` over a directory in memory.
 
 use crate::test_files::{BY_HAND, COUNTED, OTHER_CIPHER, OTHER_JSON, SMALL_BLOCKS};
-use crate::test_random::{Counting, Zeros};
+use crate::test_random::{Words, ZEROS};
 use crate::{Ended, Status, run};
 use fs_model::Moment;
 use outside::{
@@ -59,11 +59,7 @@ fn refused<'a>(words: &'a [&'a str], status: Status) -> Case<'a> {
 }
 
 fn source(alloc: Global, case: &Case<'_>) -> Result<MemorySource, AllocError> {
-    Ok(MemorySource::new(
-        case.input.to_vec(alloc)?,
-        65_536,
-        case.reads.to_vec(alloc)?,
-    ))
+    Ok(MemorySource::new(case.input.to_vec(alloc)?, 65_536, case.reads.to_vec(alloc)?))
 }
 
 fn sink(alloc: Global, case: &Case<'_>) -> Result<MemorySink, AllocError> {
@@ -133,11 +129,13 @@ fn call_of(event: &Event) -> Option<Call> {
 
 /// Whether the directory's trace, after so many earlier calls, is this.
 fn has_trace(vault: &MemoryVault, earlier: usize, trace: &[Call]) -> bool {
-    let events = vault.trace();
-    if events.len() != earlier + trace.len() {
+    let Some(events) = vault.trace().get(earlier..) else {
+        return false;
+    };
+    if events.len() != trace.len() {
         return false;
     }
-    for (event, call) in events.iter().skip(earlier).zip(trace) {
+    for (event, call) in events.iter().zip(trace) {
         if call_of(event) != Some(*call) {
             return false;
         }
@@ -176,15 +174,20 @@ fn vault_of(alloc: Global, file: Option<&[u8]>) -> Result<MemoryVault, AllocErro
 fn holds(alloc: Global, case: &Case<'_>, file: Option<&[u8]>) -> Result<bool, AllocError> {
     let mut vault = vault_of(alloc, file)?;
     vault.fail_calls(case.calls.to_vec(alloc)?);
-    let (text, status, vault) = outcome(alloc, case, vault, &mut Zeros)?;
-    Ok(status == case.status
-        && text.as_slice() == case.text.as_bytes()
-        && has_trace(&vault, 0, case.trace))
+    let mut zeros = ZEROS;
+    let (text, status, vault) = outcome(alloc, case, vault, &mut zeros)?;
+    Ok(
+        status == case.status
+            && text.as_slice() == case.text.as_bytes()
+            && has_trace(&vault, 0, case.trace),
+    )
 }
 
-const BY_HAND_TEXT: &str = "filesystem A0A1A2A3A4A5A6A7A8A9AAABACADAEAF\nroot F0F1F2F3F4F5F6F7F8F9FAFBFCFDFEFF\ncipher aes-256-gcm\nblocksize 1048576\nscrypt 32 2 3\n";
+const BY_HAND_TEXT: &str =
+    "filesystem A0A1A2A3A4A5A6A7A8A9AAABACADAEAF\nroot F0F1F2F3F4F5F6F7F8F9FAFBFCFDFEFF\ncipher aes-256-gcm\nblocksize 1048576\nscrypt 32 2 3\n";
 
-const ZEROS_TEXT: &str = "filesystem 00000000000000000000000000000000\nroot 00000000000000000000000000000001\ncipher aes-256-gcm\nblocksize 128\nscrypt 16 8 1\n";
+const ZEROS_TEXT: &str =
+    "filesystem 00000000000000000000000000000000\nroot 00000000000000000000000000000001\ncipher aes-256-gcm\nblocksize 128\nscrypt 16 8 1\n";
 
 #[test]
 fn makes_a_file_system_and_tells_of_it(rt: HostRuntime) -> Result<(), Fail> {
@@ -208,8 +211,9 @@ fn makes_a_file_system_and_tells_of_it(rt: HostRuntime) -> Result<(), Fail> {
         ..refused(INFO, Status::ConfigLocked)
     };
     let mut vault = MemoryVault::new(rt.alloc());
+    let mut zeros = ZEROS;
     for (case, earlier) in [(create, 0), (info, 2), (again, 3), (wrong, 4)] {
-        let (text, status, after) = outcome(rt.alloc(), &case, vault, &mut Zeros)?;
+        let (text, status, after) = outcome(rt.alloc(), &case, vault, &mut zeros)?;
         assert!(rt; status == case.status && text.as_slice() == case.text.as_bytes());
         assert!(rt; has_trace(&after, earlier, case.trace));
         vault = after;
@@ -220,7 +224,7 @@ fn makes_a_file_system_and_tells_of_it(rt: HostRuntime) -> Result<(), Fail> {
 #[test]
 fn draws_in_order(rt: HostRuntime) -> Result<(), Fail> {
     let case = refused(CREATE, Status::Done);
-    let mut chance = Counting { word: 0 };
+    let mut chance = Words { word: 0, step: 1 };
     let empty = MemoryVault::new(rt.alloc());
     let (text, status, vault) = outcome(rt.alloc(), &case, empty, &mut chance)?;
     assert!(rt; status == Status::Done);

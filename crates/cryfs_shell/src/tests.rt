@@ -1,6 +1,6 @@
 // Whole runs over streams in memory.
 
-use crate::test_random::Zeros;
+use crate::test_random::ZEROS;
 use crate::{Status, run};
 use fs_model::Moment;
 use outside::{MemoryKeeper, MemorySink, MemorySource, MemoryVault};
@@ -47,6 +47,7 @@ fn outcome(alloc: Global, case: &Case<'_>, piece: usize) -> Result<(Vec<u8>, Sta
     let Ok(mut sink) = MemorySink::new(alloc, step, 65_536, case.writes.to_vec(alloc)?) else {
         return Err(AllocError);
     };
+    let mut zeros = ZEROS;
     let ended = run(
         alloc,
         &words,
@@ -55,7 +56,7 @@ fn outcome(alloc: Global, case: &Case<'_>, piece: usize) -> Result<(Vec<u8>, Sta
         &mut sink,
         MemoryVault::new(alloc),
         MemoryKeeper::new(alloc, None, Vec::new(alloc)),
-        &mut Zeros,
+        &mut zeros,
     );
     Ok((sink.written().to_vec(alloc)?, ended.status))
 }

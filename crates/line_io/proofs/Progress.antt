@@ -101,8 +101,8 @@ shown_cut first ahead next part more all shown now old rest p t u e f = (
   t.taken,
   t.gave,
   f ∙ (ap (λ (s : Option (List ℕ)). kept_on s more) p.shown_is ∙ (kept-append part more ∙ ap kept (sym
-  (ap first_line (t.same ∙ (ap (λ (l : List ℕ). part ++ l) e ∙ sym (append_assoc part more (10 ∷ next))))
-  ∙ ap first_of (lines-cut (part ++ more) next (IsUnbroken-append part more p.unbroken u)))))),
+      (ap first_line (t.same ∙ (ap (λ (l : List ℕ). part ++ l) e ∙ sym (append_assoc part more (10 ∷ next))))
+      ∙ ap first_of (lines-cut (part ++ more) next (IsUnbroken-append part more p.unbroken u)))))),
 )
 
 first_whole : (part : List ℕ) → IsUnbroken part → first_line part ≡ part

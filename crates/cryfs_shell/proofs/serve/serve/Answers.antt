@@ -1,51 +1,42 @@
-use Rattle.std.proofs.Common.{List, ℕ, ◌∷◌, [], refl, ap, ◌∙◌, arith, subst}
-use Rattle.outside.specs.Streams.{appends}
-use Rattle.line_io.specs.Streams.{Cut}
-use Rattle.cryfs_shell.specs.Turns.{turn_lines, turn_texts}
+use Rattle.std.proofs.Common.{[], refl, ◌∙◌, arith}
+use Rattle.line_io.specs.Reading.{coming}
 use Rattle.line_io.proofs.Flow.{appends-nil}
-use Rattle.cryfs_shell.proofs.Serving.{After-none, After-line, After-begins, wrote_more, cut_last}
+use Rattle.cryfs_shell.proofs.Serving.{After-none, turned_more, stops}
 use Rattle.cryfs_shell.proofs.serve.serve.Goals as goal
 
-pub loop-session-init : goal.loop-session-init
-loop-session-init g c = record {
-  turns = ([], refl, After-none _, appends-nil _);
+pub turns-init : goal.turns-init
+turns-init g c = record {
+  turned = ([], record { went = refl; after = After-none _; wrote = appends-nil _ });
   ended = c.requires;
   counted = refl;
   input = omega arith;
   output = omega arith;
 }
 
-pub loop-session-preserved : goal.loop-session-preserved
-loop-session-preserved g c =
-    let i = c.loop-session.invariant in
-    let n = c.in-Ok-true.ensures in
-    let took = n.line c.in-Ok-true.field-0-test in
-    let t = c.answer.new.text in
+pub turns-preserved : goal.turns-preserved
+turns-preserved g c =
+    let i = c.turns.invariant in
+    let a = c.in-None.ensures in
     record {
-      turns = (
-        record { line = took.0; text = t } ∷ i.turns.0,
-        (c.loop-session.session, i.turns.1, c.answer.ensures took.0 (c.line.ensures ∙ took.1)),
-        After-line _ (turn_lines i.turns.0) _ took.0 _ i.turns.2 took.2,
-        wrote_more _ _ _ (turn_texts i.turns.0) t i.turns.3 (c.in-Ok.ensures.ok ∙ ap (appends (g.O.Sink.written c.loop-session.output)) c.as_slice.ensures),
-      );
-      ended = n.ended;
-      counted = n.counted ∙ i.counted;
-      input = omega (arith, i.input, n.grows);
-      output = omega (arith, i.output, c.in-Ok.ensures.grows);
+      turned = turned_more g.S.Session.answers _ _ _ _ _ _ _ _ _ i.turned.0 c.answer_next.new.text i.turned.1 a.answered;
+      ended = a.ended;
+      counted = a.counted ∙ i.counted;
+      input = omega (arith, i.input, a.input_grows);
+      output = omega (arith, i.output, a.output_grows);
     }
 
-pub returns-in-Err-write_all-clause-served : goal.returns-in-Err-write_all-clause-served
-returns-in-Err-write_all-clause-served g c =
-    let i = c.loop-session.invariant in
-    let n = c.in-Ok-true.ensures in
-    let took = n.line c.in-Ok-true.field-0-test in
-    let t = c.answer.new.text in
-    let w = c.in-Err-write_all.ensures in (
-      record { line = took.0; text = t } ∷ i.turns.0,
-      (c.loop-session.session, i.turns.1, c.answer.ensures took.0 (c.line.ensures ∙ took.1)),
-      (
-        After-begins _ (turn_lines (record { line = took.0; text = t } ∷ i.turns.0)) _ (After-line _ (turn_lines i.turns.0) _ took.0 _ i.turns.2 took.2),
-        cut_last _ _ _ (turn_texts i.turns.0) t i.turns.3 (subst (λ (l : List ℕ). Cut (g.O.Sink.written c.loop-session.output) (g.O.Sink.written c.write_all.new.output) l) c.as_slice.ensures w.err),
-        omega (arith, i.output, w.cause),
-      ),
-    )
+pub returns-in-Some-clause-served : goal.returns-in-Some-clause-served
+returns-in-Some-clause-served g c =
+    let i = c.turns.invariant in
+    let a = c.in-Some.ensures in
+    let rest = g.I.Source.rest in
+    let written = g.O.Sink.written in
+    let new = c.answer_next.new in
+    stops g.S.Session.answers c.args.session.now c.turns.session new.session
+    (coming c.args.reader.now.ahead (rest c.args.input.now)) (coming c.turns.reader.ahead (rest c.turns.input)) (coming new.reader.ahead (rest new.input))
+    c.args.reader.now.taken c.turns.reader.taken new.reader.taken
+    (rest c.args.input.now) (rest c.turns.input) (rest new.input)
+    (written c.args.output.now) (written c.turns.output) (written new.output)
+    (g.I.Source.faults c.args.input.now) (g.I.Source.faults c.turns.input) (g.I.Source.faults new.input)
+    (g.O.Sink.faults c.args.output.now) (g.O.Sink.faults c.turns.output) (g.O.Sink.faults new.output)
+    i.turned.0 new.text c.in-Some.end i.turned.1 a.stopped a.counted i.counted i.input i.output

@@ -25,5 +25,5 @@ returns-in_err-n-clause-gave g c = (
   [],
   Gives-nil _ _ c.in_err-n.ensures.err,
   still_empty c.self.inside.block.items _ c.self.inside.start c.self.inside.end (ap (λ (r : Reading). r.ahead) c.self.view_is ∙ c.requires) (omega arith) (omega arith)
-  ∙ sym (ap (λ (l : List ℕ). l ++ []) c.requires),
+      ∙ sym (ap (λ (l : List ℕ). l ++ []) c.requires),
 )
