@@ -174,8 +174,8 @@ fn long_text(alloc: Global, len: usize) -> Result<Vec<u8>, Fail> {
     let mut step: u8 = 8;
     for _ in 0..len {
         text.push(byte)?;
-        byte = ((u16::from(byte) + u16::from(step)) % 251) as u8;
-        step = ((u16::from(step) + 2) % 251) as u8;
+        byte = (u16::from(byte).wrapping_add(u16::from(step)) % 251) as u8;
+        step = (u16::from(step).wrapping_add(2) % 251) as u8;
     }
     Ok(text)
 }
