@@ -11,13 +11,15 @@ use Rattle.outside.specs.Trace.{config, block, Call}
 use Rattle.outside.specs.Changes.{Changes, change_at, set_change, set_changes}
 use Rattle.outside.specs.ChangeLaws.{change_at-set_change}
 use Rattle.local_state.specs.Known.{Marks}
-use Rattle.local_state.specs.Record.{PlainState, FitsEntry, Rise, HasRecord}
+use Rattle.local_state.specs.Record.{PlainState, FitsEntry, Rise, record_bytes, HasRecord}
 use Rattle.store_api.specs.Content.{SameContent}
 use Rattle.store_api.specs.Holdings.{Stays}
 use Rattle.store_api.specs.Lists.{MayConfigure}
 use Rattle.integrity_store.specs.BlockRecords.{Record, payload_in}
 use Rattle.integrity_store.specs.Held.{Held, live_version, waiting_or, bytes_in, told_or_none, where_live, wanted, IsPast, SoundBy}
 use Rattle.outside.specs.Honest.{last_change}
+use Rattle.integrity_store.specs.Enduring.{configures_of}
+use Rattle.integrity_store.specs.Standing.{Configures}
 use Rattle.integrity_store.specs.Stores.{IsWhole, is_last, holdings_by}
 use Rattle.integrity_store.specs.WaitingLists.{IsNoBlock}
 use Rattle.integrity_store.proofs.OneWrite.{with_list}
@@ -111,3 +113,11 @@ configured_stays held trace a b bytes new c is same =
       spent = λ id. ap (λ h. is_last (fin.get h.state.marks id)) is;
       payload = ap (λ h. h.size - 78) is;
     }
+
+-- what is kept after an ok says that these are the configuration's bytes
+pub set_configures : (r : Result Unit Memory) (h : Held) (trace : Option (List Call)) (bytes : List ℕ) (changes new : Changes) → OnOk r (new ≡ set_changes changes h.list)
+    → changes ≡ (config, Some bytes) ∷ [] → IsWhole (with_list h new) → OnOk r (Configures (record_bytes h.state new) trace bytes)
+set_configures (Ok _) h trace bytes changes new set are whole =
+    let is : new ≡ set_change config (Some bytes) h.list = set ∙ ap (λ c. set_changes c h.list) are in
+    configures_of h.state new trace bytes whole.has_record (inl (ap (change_at config) is ∙ change_at-set_change config config (Some bytes) h.list))
+set_configures (Err _) h trace bytes changes new set are whole = tt

@@ -21,6 +21,7 @@ use Rattle.local_state.specs.Known.{Marks, is_live_in, is_dead_in}
 use Rattle.local_state.specs.Record.{Entry, FitsEntry, may_change, has_bytes}
 use Rattle.redo_vault.specs.Writes.{call_for}
 use Rattle.sealed_store.specs.BlockFiles.{prefix, opens_file}
+use Rattle.store_api.specs.Durables.{IsConfigured}
 use Rattle.store_api.specs.Lists.{block_magic}
 use Rattle.integrity_store.specs.BlockRecords.{Record, record_of, record_in, opened, payload_in}
 use Rattle.integrity_store.specs.Held.{Held, version_if_live, live_version, waiting, waiting_or, bytes_in, file_of, where_live, wanted, was_put, own, IsPast, SoundAt}
@@ -102,11 +103,11 @@ put_call : (bytes : List ℕ) (e : Entry) (ok : Bool) (trace : List Call) → wa
 put_call bytes (name, None) ok trace was = inr was
 put_call bytes (name, Some b) ok trace was = elim (equal_or b bytes (was_put bytes trace) was) [ inl is ↦ inl (ap Some is) | inr old ↦ inr old ]
 
--- an id whose file doesn't wait isn't the one that is written
-apart : (h : Held) (e : Entry) (id : List ℕ) → change_at e.0 h.list ≡ Some e.1 → waiting h id ≡ None → same_at e.0 (block id) ≡ false
-apart h e id waits none =
-    elim (same_at e.0 (block id)) as (λ b. same_at e.0 (block id) ≡ b → b ≡ false) [
-      | true ↦ λ is. let there : waiting h id ≡ Some e.1 = subst (λ name. change_at name h.list ≡ Some e.1) (same_is e.0 (block id) is) waits in absurd (true_is_false (ap is_some (sym there ∙ none)))
+-- a name that doesn't wait isn't the one that is written
+apart : (list : Changes) (e : Entry) (name : At) → change_at e.0 list ≡ Some e.1 → change_at name list ≡ None → same_at e.0 name ≡ false
+apart list e name waits none =
+    elim (same_at e.0 name) as (λ b. same_at e.0 name ≡ b → b ≡ false) [
+      | true ↦ λ is. let there = subst (λ name. change_at name list ≡ Some e.1) (same_is e.0 name is) waits in absurd (true_is_false (ap is_some (sym there ∙ none)))
       | false ↦ λ is. refl
     ] refl
 
@@ -155,8 +156,8 @@ module _ (h : Held) (trace : List Call) (e : Entry) (ok : Bool) (whole : IsWhole
     waits = s.waits;
     stands = λ id version live none.
         let (bytes, payload, last, o) = s.stands id version live none in
-        (bytes, payload, last_other (block id) e ok trace (apart h e id waits none) ∙ last, o);
-    buried = λ id dead none. last_other (block id) e ok trace (apart h e id waits none) ∙ s.buried id dead none;
+        (bytes, payload, last_other (block id) e ok trace (apart h.list e (block id) waits none) ∙ last, o);
+    buried = λ id dead none. last_other (block id) e ok trace (apart h.list e (block id) waits none) ∙ s.buried id dead none;
     used = λ id. used_call id s;
     past = λ bytes plain was opens. elim (put_call bytes e ok trace was) [
       | inl new ↦ past_new bytes plain e.0 refl s new opens
@@ -242,3 +243,35 @@ module _ (h : Held) (trace : List Call) (e : Entry) (rest : Changes) (whole : Is
     used = s.used;
     past = λ bytes plain was opens. let (r, is, p) = s.past bytes plain was opens in (r, is, past_left r p);
   }
+
+-- ---- the configuration's file
+
+pub configured_call : (list : Changes) (trace : List Call) (e : Entry) (ok : Bool) (bytes : List ℕ) → change_at e.0 list ≡ Some e.1 → IsConfigured list (Some trace) bytes
+    → IsConfigured list (Some (call_for e ok ∷ trace)) bytes
+configured_call list trace e ok bytes waits (inl there) = inl there
+configured_call list trace e ok bytes waits (inr (none, last)) = inr (none, last_other config e ok trace (apart list e config waits none) ∙ last)
+
+some_change : {a b : Option (List ℕ)} → Some a ≡ Some b → a ≡ b
+some_change e = cc
+
+-- of the one that leaves, the list said this and says nothing now
+config_said : (e : Entry) (list rest : Changes) (bytes : List ℕ) (trace : Option (List Call)) → Leaves e list rest → same_at e.0 config ≡ true → IsConfigured list trace bytes → e.1 ≡ Some bytes
+config_said e list rest bytes trace leaves is (inl there) = some_change (sym (subst (λ name. change_at name list ≡ Some e.1) (same_is e.0 config is) leaves.was) ∙ there)
+config_said e list rest bytes trace leaves is (inr (none, last)) = absurd (true_is_false (sym is ∙ apart list e config leaves.was none))
+
+-- of another, both say the same
+others_left : (e : Entry) (list rest : Changes) (bytes : List ℕ) (trace : List Call) → Leaves e list rest → same_at e.0 config ≡ false → IsConfigured list (Some trace) bytes
+    → IsConfigured rest (Some (call_for e true ∷ trace)) bytes
+others_left e list rest bytes trace leaves is (inl there) = inl (leaves.others config is ∙ there)
+others_left e list rest bytes trace leaves is (inr (none, last)) = inr (leaves.others config is ∙ none, last_other config e true trace is ∙ last)
+
+pub configured_left : (trace : List Call) (e : Entry) (list rest : Changes) (bytes : List ℕ) → Leaves e list rest → IsConfigured list (Some trace) bytes
+    → IsConfigured rest (Some (call_for e true ∷ trace)) bytes
+configured_left trace e list rest bytes leaves c =
+    elim (same_at e.0 config) as (λ b. same_at e.0 config ≡ b → IsConfigured rest (Some (call_for e true ∷ trace)) bytes) [
+      | true ↦ λ is. inr (
+        subst (λ name. change_at name rest ≡ None) (same_is e.0 config is) leaves.gone,
+        last_own config e true trace is ∙ ap (λ change. Some (record { bytes = change; ok = true })) (config_said e list rest bytes (Some trace) leaves is c),
+      )
+      | false ↦ λ is. others_left e list rest bytes trace leaves is c
+    ] refl

@@ -19,13 +19,15 @@ use Rattle.outside.specs.Honest.{is_lie, count_told}
 use Rattle.local_state.specs.Record.{Entry, Rise, record_bytes, HasRecord}
 use Rattle.redo_vault.specs.Writes.{call_for, after_writes, StopsAt}
 use Rattle.store_api.specs.Content.{SameContent}
+use Rattle.store_api.specs.Durables.{IsConfigured}
+use Rattle.integrity_store.specs.Enduring.{configures_of, configured_of}
 use Rattle.integrity_store.specs.Held.{Held, wanted, forged, SoundBy}
-use Rattle.integrity_store.specs.Standing.{identity_of, Stands}
+use Rattle.integrity_store.specs.Standing.{identity_of, Stands, Configures}
 use Rattle.integrity_store.specs.Stores.{IsWhole}
 use Rattle.integrity_store.specs.WaitingLists.{IsNoBlock, in_order}
 use Rattle.integrity_store.proofs.Sorted.{found_first, first_below, not_below, found_later, each_found}
 use Rattle.integrity_store.proofs.Waiting.{test_of}
-use Rattle.integrity_store.proofs.OneWrite.{same_is, with_list, Leaves, sound_call, wanted_call, sound_left, wanted_left}
+use Rattle.integrity_store.proofs.OneWrite.{same_is, with_list, Leaves, sound_call, wanted_call, configured_call, sound_left, wanted_left, configured_left}
 
 true_is_false : true ≡ false → ⊥
 true_is_false e = cc
@@ -104,6 +106,10 @@ first_ones P (e ∷ done) left all = (all.0, first_ones P done left all.1)
 
 -- ---- calls that write what waits
 
+adds_told : (trace : Option (List Call)) (call : Call) → is_some (adds trace call) ≡ is_some trace
+adds_told None call = refl
+adds_told (Some trace) call = refl
+
 call_sound : (h : Held) (trace : Option (List Call)) (e : Entry) (ok : Bool) → IsWhole h → Waits h.list e → SoundBy h trace → SoundBy h (adds trace (call_for e ok))
 call_sound h None e ok whole waits sound = sound
 call_sound h (Some trace) e ok whole waits sound = sound_call h trace e ok whole waits sound
@@ -112,6 +118,11 @@ call_content : (h : Held) (trace : Option (List Call)) (e : Entry) (ok : Bool) �
     → SameContent (wanted h trace) (wanted h (adds trace (call_for e ok)))
 call_content h None e ok whole waits sound id = absurd sound
 call_content h (Some trace) e ok whole waits sound id = wanted_call h trace e ok whole waits id
+
+call_configured : (list : Changes) (trace : Option (List Call)) (e : Entry) (ok : Bool) (bytes : List ℕ) → Waits list e → IsConfigured list trace bytes
+    → IsConfigured list (adds trace (call_for e ok)) bytes
+call_configured list None e ok bytes waits c = c
+call_configured list (Some trace) e ok bytes waits c = configured_call list trace e ok bytes waits c
 
 writes_sound : (h : Held) (done : Changes) (trace : Option (List Call)) → IsWhole h → AllByRecursion (Waits h.list) done → SoundBy h trace → SoundBy h (after_writes done trace)
 writes_sound h [] trace whole all sound = sound
@@ -122,6 +133,11 @@ writes_content : (h : Held) (done : Changes) (trace : Option (List Call)) → Is
 writes_content h [] trace whole all sound id = refl
 writes_content h (e ∷ done) trace whole all sound id =
     writes_content h done (adds trace (call_for e true)) whole all.1 (call_sound h trace e true whole all.0 sound) id ∙ call_content h trace e true whole all.0 sound id
+
+writes_configured : (list done : Changes) (trace : Option (List Call)) (bytes : List ℕ) → AllByRecursion (Waits list) done → IsConfigured list trace bytes
+    → IsConfigured list (after_writes done trace) bytes
+writes_configured list [] trace bytes all c = c
+writes_configured list (e ∷ done) trace bytes all c = writes_configured list done (adds trace (call_for e true)) bytes all.1 (call_configured list trace e true bytes all.0 c)
 
 -- ---- entries that leave as they are written
 
@@ -159,6 +175,19 @@ left_content h (e ∷ done) left trace whole sound id =
     let called = call_sound here trace e true whole leaves.was sound in
     left_content h done left (adds trace (call_for e true)) (rest_whole h e rest whole) (leaves_sound here trace e rest whole leaves called) id
     ∙ (leaves_content here trace e rest whole leaves called id ∙ call_content here trace e true whole leaves.was sound id)
+
+leaves_configured : (trace : Option (List Call)) (e : Entry) (list rest : Changes) (bytes : List ℕ) → is_some trace ≡ true → Leaves e list rest → IsConfigured list trace bytes
+    → IsConfigured rest (adds trace (call_for e true)) bytes
+leaves_configured None e list rest bytes told leaves c = absurd (true_is_false (sym told))
+leaves_configured (Some trace) e list rest bytes told leaves c = configured_left trace e list rest bytes leaves c
+
+left_configured : (h : Held) (done left : Changes) (trace : Option (List Call)) (bytes : List ℕ) → IsWhole (with_list h (done ++ left)) → is_some trace ≡ true
+    → IsConfigured (done ++ left) trace bytes → IsConfigured left (after_writes done trace) bytes
+left_configured h [] left trace bytes whole told c = c
+left_configured h (e ∷ done) left trace bytes whole told c =
+    let rest = done ++ left in
+    left_configured h done left (adds trace (call_for e true)) bytes (rest_whole h e rest whole) (adds_told trace (call_for e true) ∙ told)
+    (leaves_configured trace e (e ∷ rest) rest bytes told (rest_leaves h e rest whole) c)
 
 -- ---- the whole write-out
 
@@ -230,11 +259,24 @@ module _ (h : Held) (old new : Option (List Call)) (left : Changes) (whole : IsW
         | inr (next, waits, is) ↦ ap (λ t. wanted (with_list h left) t id) is ∙ (call_content (with_list h left) (after_writes w.done old) next false still_whole waits s id ∙ written)
       ]
 
--- ---- what no write changes: whether the trace is told, and counts of what was given
+  -- the configuration's file, by the full list and by what is left of it
+  pub full_configured : (bytes : List ℕ) → IsConfigured h.list old bytes → IsConfigured h.list new bytes
+  full_configured bytes c =
+      let written = writes_configured h.list w.done old bytes done_wait c in
+      elim w.trace [
+        | inl is ↦ subst (λ t. IsConfigured h.list t bytes) (sym is) written
+        | inr (next, waits, is) ↦ subst (λ t. IsConfigured h.list t bytes) (sym is) (call_configured h.list (after_writes w.done old) next false bytes (next_waits next waits) written)
+      ]
 
-adds_told : (trace : Option (List Call)) (call : Call) → is_some (adds trace call) ≡ is_some trace
-adds_told None call = refl
-adds_told (Some trace) call = refl
+  pub configured_of_rest : (bytes : List ℕ) → is_some old ≡ true → IsConfigured h.list old bytes → IsConfigured left new bytes
+  configured_of_rest bytes told c =
+      let written = left_configured h w.done left old bytes parted told (subst (λ (list : Changes). IsConfigured list old bytes) w.parts c) in
+      elim w.trace [
+        | inl is ↦ subst (λ t. IsConfigured left t bytes) (sym is) written
+        | inr (next, waits, is) ↦ subst (λ t. IsConfigured left t bytes) (sym is) (call_configured left (after_writes w.done old) next false bytes waits written)
+      ]
+
+-- ---- what no write changes: whether the trace is told, and counts of what was given
 
 writes_told : (done : Changes) (trace : Option (List Call)) → is_some (after_writes done trace) ≡ is_some trace
 writes_told [] trace = refl
@@ -280,6 +322,8 @@ pub record Written (h : Held) (old new : Option (List Call)) (left : Changes) : 
   pub sound : SoundBy h old → SoundBy (with_list h left) new
   pub content : SoundBy h old → SameContent (wanted h old) (wanted (with_list h left) new)
   pub stands : SoundBy h old → h.state.marked ≡ false → Stands (identity_of h) (record_bytes h.state h.list) new (wanted h old)
+  pub kept_configures : (bytes : List ℕ) → Configures (record_bytes h.state h.list) old bytes → Configures (record_bytes h.state h.list) new bytes
+  pub configures : is_some old ≡ true → (bytes : List ℕ) → Configures (record_bytes h.state h.list) old bytes → Configures (record_bytes h.state left) new bytes
   pub lies : count_told is_lie new ≡ count_told is_lie old
   pub forgeries : count_told (forged h.opens h.size) new ≡ count_told (forged h.opens h.size) old
 
@@ -301,6 +345,10 @@ written h left old new r whole all none stops =
         sound = full_sound h old new left whole w sound;
         wants = full_content h old new left whole w sound;
       };
+      kept_configures = λ bytes c. configures_of h.state h.list new bytes whole.has_record
+          (full_configured h old new left whole w bytes (configured_of h.state h.list old bytes whole.has_record c));
+      configures = λ told bytes c. configures_of h.state left new bytes (still_whole h old new left whole w).has_record
+          (configured_of_rest h old new left whole w bytes told (configured_of h.state h.list old bytes whole.has_record c));
       lies = same_count is_lie h.list old new left lies_spare w;
       forgeries = same_count (forged h.opens h.size) h.list old new left (forgeries_spare h.opens h.size) w;
     }

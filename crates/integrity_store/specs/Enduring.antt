@@ -1,20 +1,22 @@
--- What kept records stand for while blocks are loaded and changed.
-use Rattle.std.specs.Prelude.{◌≡◌, ℕ, Bool, true, false, List}
-use Rattle.std.proofs.Common.{refl, sym, ◌∙◌, ap, arith}
+-- What kept records stand for, and say of the configuration's file, while blocks are loaded and changed.
+use Rattle.std.specs.Prelude.{◌≡◌, ℕ, Bool, true, false, List, [], ◌∷◌, ◌++◌}
+use Rattle.std.proofs.Common.{refl, sym, ◌∙◌, ap, subst, inl, inr, arith}
 use Rattle.std.specs.declared.option.Option.{Option}
-use Rattle.outside.specs.Trace.{Call}
-use Rattle.outside.specs.Changes.{Changes}
+use Rattle.std.specs.declared.option.Option.TheVariants.{None, Some}
+use Rattle.outside.specs.Trace.{At, Call, config}
+use Rattle.outside.specs.Changes.{Changes, change_at}
+use Rattle.outside.specs.Honest.{last_change}
 use Rattle.local_state.specs.Record.{PlainState, Entry, record_bytes, HasRecord}
 use Rattle.local_state.specs.Record as records_of
 use Rattle.local_state.proofs.Records.{one_reading, marked_has}
 use Rattle.store_api.specs.Content.{Content, SameContent}
 use Rattle.store_api.specs.Content.{Changes as BlockChanges}
-use Rattle.store_api.specs.Durables.{Identity, Enduring, with_mark}
+use Rattle.store_api.specs.Durables.{Identity, Enduring, IsConfigured, last_told, with_mark}
 use Rattle.integrity_store.specs.Applied.{Applied, applied_by}
-use Rattle.integrity_store.specs.Held.{Held, Went}
+use Rattle.integrity_store.specs.Held.{Held, AllReads, Went}
 use Rattle.integrity_store.specs.Laws.{went_sound}
 use Rattle.integrity_store.specs.Loads.{went_wanted}
-use Rattle.integrity_store.specs.Standing.{identity_of, Stands, IsMarked, listed, durables_by, records}
+use Rattle.integrity_store.specs.Standing.{identity_of, Stands, IsMarked, Configures, listed, durables_by, records}
 use Rattle.integrity_store.specs.Stores.{meanings_by, holdings_by, sound_is_told}
 
 true_is_false : true ≡ false → ⊥
@@ -72,6 +74,54 @@ applied_same a b old new changes x = λ i. record {
   opens = x.opens i;
 }
 
+-- ---- the configuration's file
+
+-- the record of this state and this list says of the configuration's file what the list does
+pub configures_of : (state : PlainState) (list : Changes) (trace : Option (List Call)) (bytes : List ℕ) → HasRecord state list → IsConfigured list trace bytes
+    → Configures (record_bytes state list) trace bytes
+configures_of state list trace bytes has configured = record { state = state; list = list; has_record = has; is_record = refl; configured = configured }
+
+pub configured_of : (state : PlainState) (list : Changes) (trace : Option (List Call)) (bytes : List ℕ) → HasRecord state list → Configures (record_bytes state list) trace bytes
+    → IsConfigured list trace bytes
+configured_of state list trace bytes has c =
+    let reading = one_reading state c.state list c.list has c.has_record c.is_record in
+    subst (λ (list : Changes). IsConfigured list trace bytes) (sym reading.1) c.configured
+
+-- reads are no changes
+last_after : (h : Held) (name : At) (reads trace : List Call) → AllReads h reads → last_change name (reads ++ trace) ≡ last_change name trace
+last_after h name [] trace all = refl
+last_after h name (call ∷ reads) trace all = ap (λ c. last_change name (c ∷ (reads ++ trace))) all.0.is ∙ last_after h name reads trace all.1
+
+last_went : (h : Held) (name : At) (a b : Option (List Call)) → Went h a b → last_told name b ≡ last_told name a
+last_went h name None b went = ap (last_told name) went
+last_went h name (Some t) b (reads, is, all) = ap (last_told name) is ∙ last_after h name reads t all
+
+read_configured : (list : Changes) (a b : Option (List Call)) (bytes : List ℕ) → last_told config b ≡ last_told config a → IsConfigured list a bytes → IsConfigured list b bytes
+read_configured list a b bytes same (inl waits) = inl waits
+read_configured list a b bytes same (inr (none, last)) = inr (none, same ∙ last)
+
+read_configures : (h : Held) (a b : Option (List Call)) (kept bytes : List ℕ) → Went h a b → Configures kept a bytes → Configures kept b bytes
+read_configures h a b kept bytes went c = record {
+  state = c.state;
+  list = c.list;
+  has_record = c.has_record;
+  is_record = c.is_record;
+  configured = read_configured c.list a b bytes (last_went h config a b went) c.configured;
+}
+
+-- a list that says the same of the configuration
+same_configured : (old new : Changes) (trace : Option (List Call)) (bytes : List ℕ) → change_at config new ≡ change_at config old → IsConfigured old trace bytes → IsConfigured new trace bytes
+same_configured old new trace bytes same (inl waits) = inl (same ∙ waits)
+same_configured old new trace bytes same (inr (none, last)) = inr (same ∙ none, last)
+
+changed_configures : (a b : Held) (old new : Option (List Call)) (changes : BlockChanges) (bytes : List ℕ) → Applied a b old new changes → HasRecord a.state a.list → HasRecord b.state b.list
+    → Configures (record_bytes a.state a.list) old bytes → Configures (record_bytes b.state b.list) new bytes
+changed_configures a b old new changes bytes x had has c =
+    let before = configured_of a.state a.list old bytes had c in
+    configures_of b.state b.list new bytes has (subst (λ t. IsConfigured b.list t bytes) (sym x.trace) (same_configured a.list b.list old bytes x.config before))
+
+-- ---- the laws
+
 pub enduring_by : {S : Type 0} (held : S → Held) (trace : S → Option (List Call)) (faults : S → ℕ) (own : S → Type 0)
     → Enduring (meanings_by held trace faults own) (holdings_by held trace) (applied_by held trace) (durables_by held trace) records
 enduring_by held trace faults own = record {
@@ -80,11 +130,15 @@ enduring_by held trace faults own = record {
   stands_unmarked = never_marked;
   marked = λ s with_list i. marked_record (held s).state (held s).list with_list i.0.has_record;
   long = λ s with_list i. omega arith;
+  configures_now = λ s bytes i c. configures_of (held s).state (held s).list (trace s) bytes i.0.has_record c;
+  configured_now = λ s bytes i c. configured_of (held s).state (held s).list (trace s) bytes i.0.has_record c;
   loaded_identity = λ a b x. ap identity_of x.held;
   loaded_list = λ a b x. ap (λ h. h.list) x.held;
   loaded_records = λ a b with_list x. ap (λ h. record_bytes h.state (listed with_list h.list)) x.held;
   loaded_stands = λ a b identity kept content x s. read_stands (held a) (trace a) (trace b) identity kept content x.trace s;
+  loaded_configures = λ a b kept bytes x c. read_configures (held a) (trace a) (trace b) kept bytes x.trace c;
   applied_identity = λ a b changes x. applied_same (held a) (held b) (trace a) (trace b) changes x;
   applied_trace = λ a b changes x. x.trace;
+  applied_configures = λ a b changes bytes x i j c. changed_configures (held a) (held b) (trace a) (trace b) changes bytes x i.0.has_record j.0.has_record c;
   nothing_waits = λ s none. ap (λ list. record_bytes (held s).state list) none;
 }

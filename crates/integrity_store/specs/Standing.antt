@@ -5,7 +5,7 @@ use Rattle.outside.specs.Trace.{Call}
 use Rattle.outside.specs.Changes.{Changes}
 use Rattle.local_state.specs.Record.{PlainState, Entry, record_bytes, HasRecord}
 use Rattle.store_api.specs.Content.{Content, SameContent}
-use Rattle.store_api.specs.Durables.{Identity, Durables, Records}
+use Rattle.store_api.specs.Durables.{Identity, Durables, Records, IsConfigured}
 use Rattle.integrity_store.specs.Held.{Held, wanted, SoundBy}
 
 -- what a store that holds this was opened as
@@ -38,6 +38,14 @@ pub record IsMarked (kept : List ℕ) : Type 0 where
   pub has_record : HasRecord state list
   pub bytes : kept ≡ record_bytes state list
 
+-- The kept bytes are a record, by whose list and the trace the configuration's file holds these bytes.
+pub record Configures (kept : List ℕ) (trace : Option (List Call)) (bytes : List ℕ) : Type 0 where
+  pub state : PlainState
+  pub list : List Entry
+  pub has_record : HasRecord state list
+  pub is_record : kept ≡ record_bytes state list
+  pub configured : IsConfigured list trace bytes
+
 -- the list, or an empty one
 abbrev pub listed : Bool → Changes → Changes
 listed true list = list
@@ -52,4 +60,4 @@ durables_by held trace = record {
 }
 
 abbrev pub records : Records
-records = record { stands = Stands; marked = IsMarked }
+records = record { stands = Stands; marked = IsMarked; configures = Configures }

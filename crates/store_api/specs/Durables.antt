@@ -1,7 +1,10 @@
 -- What a store means whose changes wait until they are written out.
-use Rattle.std.specs.Prelude.{◌≡◌, ◌<◌, ℕ, Bool, true, false, List, [], length, slice_set}
+use Rattle.std.specs.Prelude.{◌≡◌, ◌⊎◌, ◌<◌, ℕ, Bool, true, false, List, [], length, slice_set}
 use Rattle.std.specs.declared.option.Option.{Option}
-use Rattle.outside.specs.Trace.{At, Call}
+use Rattle.std.specs.declared.option.Option.TheVariants.{None, Some}
+use Rattle.outside.specs.Trace.{At, Call, config}
+use Rattle.outside.specs.Changes.{change_at}
+use Rattle.outside.specs.Honest.{LastChange, last_change}
 use Rattle.outcome.specs.Meanings.{Meanings}
 use Rattle.store_api.specs.Content.{Content, SameContent, Changes}
 use Rattle.store_api.specs.Holdings.{Holdings}
@@ -29,12 +32,24 @@ pub record Durables (S : Type 0) : Type 1 where
   -- the record, with this list or with an empty one
   pub record_of : S → Bool → List ℕ
 
+-- the last change of a file, by the calls that are told
+abbrev pub last_told : At → Option (List Call) → Option LastChange
+last_told name None = None
+last_told name (Some calls) = last_change name calls
+
+-- the configuration's file holds these bytes: they wait, or nothing waits for it and they were put last, with the answer ok
+abbrev pub IsConfigured : List (At × Option (List ℕ)) → Option (List Call) → List ℕ → Type 0
+IsConfigured list trace bytes =
+    (change_at config list ≡ Some (Some bytes)) ⊎ ((change_at config list ≡ None) × (last_told config trace ≡ Some (record { bytes = Some bytes; ok = true })))
+
 -- what records mean, whatever a store does since they were kept
 pub record Records : Type 1 where
   -- in a store opened as this, this record and this trace stand for this content
   pub stands : Identity → List ℕ → Option (List Call) → Content → Type 0
   -- a violation was marked in this record
   pub marked : List ℕ → Type 0
+  -- by this record and this trace, the configuration's file holds these bytes
+  pub configures : List ℕ → Option (List Call) → List ℕ → Type 0
 
 -- the place of a record's mark
 abbrev pub mark_place : ℕ
@@ -51,11 +66,18 @@ pub record Enduring {S : Type 0} (M : Meanings S) (H : Holdings S) (applied : S 
   pub stands_unmarked : (identity : Identity) (kept : List ℕ) (trace : Option (List Call)) (content : Content) → R.stands identity kept trace content → R.marked kept → ⊥
   pub marked : (s : S) (with_list : Bool) → M.intact s → R.marked (with_mark (D.record_of s with_list))
   pub long : (s : S) (with_list : Bool) → M.intact s → mark_place < length (D.record_of s with_list)
-  -- loading leaves the identity, the list and both records, and what any kept record stands for
+  -- what a store keeps now says of the configuration's file what its list and its trace do
+  pub configures_now : (s : S) (bytes : List ℕ) → M.intact s → IsConfigured (D.list s) (D.trace s) bytes → R.configures (D.record_of s true) (D.trace s) bytes
+  pub configured_now : (s : S) (bytes : List ℕ) → M.intact s → R.configures (D.record_of s true) (D.trace s) bytes → IsConfigured (D.list s) (D.trace s) bytes
+  -- loading leaves the identity, the list and both records, and what any kept record stands for and says of the configuration's file
   pub loaded_identity : (a b : S) → M.loaded a b → D.identity b ≡ D.identity a
   pub loaded_list : (a b : S) → M.loaded a b → D.list b ≡ D.list a
   pub loaded_records : (a b : S) (with_list : Bool) → M.loaded a b → D.record_of b with_list ≡ D.record_of a with_list
   pub loaded_stands : (a b : S) (identity : Identity) (kept : List ℕ) (content : Content) → M.loaded a b → R.stands identity kept (D.trace a) content → R.stands identity kept (D.trace b) content
+  pub loaded_configures : (a b : S) (kept bytes : List ℕ) → M.loaded a b → R.configures kept (D.trace a) bytes → R.configures kept (D.trace b) bytes
+  -- changes of blocks leave the identity and the trace, and what the store keeps says the same of the configuration's file
   pub applied_identity : (a b : S) (changes : Changes) → applied a b changes → D.identity b ≡ D.identity a
   pub applied_trace : (a b : S) (changes : Changes) → applied a b changes → D.trace b ≡ D.trace a
+  pub applied_configures : (a b : S) (changes : Changes) (bytes : List ℕ) → applied a b changes → M.intact a → M.intact b
+      → R.configures (D.record_of a true) (D.trace a) bytes → R.configures (D.record_of b true) (D.trace b) bytes
   pub nothing_waits : (s : S) → D.list s ≡ [] → D.record_of s true ≡ D.record_of s false

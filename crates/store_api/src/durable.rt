@@ -1,5 +1,5 @@
 // A store whose changes wait until they are written out.
-ghost use Rattle.std.specs.Prelude.{◌≡◌, ◌≤◌, ◌<◌, ◌^◌, ◌-◌, min, ℕ, true, false, [], IfOk, OnOk, OnErr, length};
+ghost use Rattle.std.specs.Prelude.{◌≡◌, ◌≤◌, ◌<◌, ◌^◌, ◌-◌, min, ℕ, List, true, false, [], IfOk, OnOk, OnErr, length};
 ghost use Rattle.outside.specs.Causes.{HasCause};
 ghost use Rattle.store_api.specs.Content.{Id, SameIds, SameContent};
 ghost use Rattle.store_api.specs.Durables.{Durables, Records, Enduring};
@@ -37,6 +37,7 @@ pub trait Durable: BlocksMut {
         ensures stays { Stays Self.holdings self.old self.new }
         ensures empty { durables.record_of self.new false ≡ durables.record_of self.old false }
         ensures trace { durables.trace self.new ≡ durables.trace self.old }
+        ensures configures { OnOk result (records.configures (durables.record_of self.new true) (durables.trace self.new) bytes.items) }
         ensures sound { Self.meanings.sound self.old → Self.meanings.sound self.new }
         ensures forgeries { Self.meanings.forgeries self.new ≡ Self.meanings.forgeries self.old }
         ensures lies { Self.meanings.lies self.new ≡ Self.meanings.lies self.old }
@@ -57,6 +58,10 @@ pub trait Durable: BlocksMut {
         ensures empty { durables.record_of self.new false ≡ durables.record_of self.old false }
         ensures stands { Self.meanings.sound self.old → (durables.identity self.old).marked ≡ false
             → records.stands (durables.identity self.old) (durables.record_of self.old true) (durables.trace self.new) (Self.holdings.content self.old) }
+        ensures kept_configures { (bytes : List ℕ) → records.configures (durables.record_of self.old true) (durables.trace self.old) bytes
+            → records.configures (durables.record_of self.old true) (durables.trace self.new) bytes }
+        ensures configures { Self.holdings.told self.old ≡ true → (bytes : List ℕ) → records.configures (durables.record_of self.old true) (durables.trace self.old) bytes
+            → records.configures (durables.record_of self.new true) (durables.trace self.new) bytes }
         ensures sound { Self.meanings.sound self.old → Self.meanings.sound self.new }
         ensures forgeries { Self.meanings.forgeries self.new ≡ Self.meanings.forgeries self.old }
         ensures lies { Self.meanings.lies self.new ≡ Self.meanings.lies self.old }

@@ -1,5 +1,5 @@
 -- What a session over a durable store and a keeper stands for.
-use Rattle.std.specs.Prelude.{◌≡◌, ◌⊎◌, ◌≤◌, ℕ, false, List, length, Result}
+use Rattle.std.specs.Prelude.{◌≡◌, ◌⊎◌, ◌≤◌, ℕ, true, false, List, length, Result}
 use Rattle.std.specs.declared.option.Option.{Option}
 use Rattle.std.specs.declared.option.Option.TheVariants.{Some}
 use Rattle.std.specs.declared.result.Result.TheVariants.{Ok, Err}
@@ -34,3 +34,15 @@ pub record SessionStands {S : Type 0} {K : Type 0} (M : Meanings S) (H : Holding
 abbrev pub Synced : {S : Type 0} {K : Type 0} → Meanings S → Holdings S → Durables S → Records → KeeperGhosts K → Session S K → Content → Content → Result Unit SyncError → Type 0
 Synced M H D R G session kept now (Ok _) = SessionStands M H D R G session now now × (session.changed ≡ false)
 Synced M H D R G session kept now (Err _) = SessionStands M H D R G session kept now ⊎ SessionStands M H D R G session now now
+
+-- by what is kept the configuration's file holds the first bytes, and by what the store would keep now the second
+pub record SessionConfigures {S : Type 0} {K : Type 0} (H : Holdings S) (D : Durables S) (R : Records) (G : KeeperGhosts K) (session : Session S K) (kept now : List ℕ) : Type 0 where
+  pub represents : (bytes : List ℕ) × (G.kept session.keeper ≡ Some bytes) × R.configures bytes (D.trace session.store) kept
+  pub told : H.told session.store ≡ true
+  pub present : R.configures (D.record_of session.store true) (D.trace session.store) now
+  pub same : session.changed ≡ false → kept ≡ now
+
+-- after a sync the second bytes are kept, or after an error those or the first
+abbrev pub SyncConfigures : {S : Type 0} {K : Type 0} → Holdings S → Durables S → Records → KeeperGhosts K → Session S K → List ℕ → List ℕ → Result Unit SyncError → Type 0
+SyncConfigures H D R G session kept now (Ok _) = SessionConfigures H D R G session now now
+SyncConfigures H D R G session kept now (Err _) = SessionConfigures H D R G session kept now ⊎ SessionConfigures H D R G session now now

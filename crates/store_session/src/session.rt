@@ -1,8 +1,8 @@
 // The three steps of a sync.
-ghost use Rattle.std.specs.Prelude.{◌≡◌, ◌≤◌, IsErrOf};
+ghost use Rattle.std.specs.Prelude.{◌≡◌, ◌≤◌, ℕ, List, IsErrOf};
 ghost use Rattle.outside.specs.Causes.{RoseBy};
 ghost use Rattle.store_api.specs.Content.{Content};
-ghost use Rattle.store_session.specs.Sessions.{Ready, SessionStands, Synced};
+ghost use Rattle.store_session.specs.Sessions.{Ready, SessionConfigures, SessionStands, SyncConfigures, Synced};
 
 use block_id::{Failed, Memory};
 use outside::{GetFail, Keeper};
@@ -29,6 +29,8 @@ impl<S: Durable, K: Keeper> Session<S, K> {
         ensures ready { Ready S.meanings K.Keeper self.new }
         ensures stands { (kept now : Content) → SessionStands S.meanings S.holdings S.durables S.records K.Keeper self.old kept now
             → Synced S.meanings S.holdings S.durables S.records K.Keeper self.new kept now result }
+        ensures configures { (kept now : List ℕ) → SessionConfigures S.holdings S.durables S.records K.Keeper self.old kept now
+            → SyncConfigures S.holdings S.durables S.records K.Keeper self.new kept now result }
         ensures sound { S.meanings.sound self.old.store → S.meanings.sound self.new.store }
         ensures forgeries { S.meanings.forgeries self.new.store ≡ S.meanings.forgeries self.old.store }
         ensures lies { S.meanings.lies self.new.store ≡ S.meanings.lies self.old.store }

@@ -51,3 +51,17 @@ returns-clause-lies g c =
     let h = held_of (g.C.Sealer.opens (cipher_of s.sealed) (key_of s.sealed)) s.sealed s.state in
     let w = written h c.write_out.new.self.list (g.V.Vault.trace s.sealed.vault.vault) (g.V.Vault.trace c.write_out.new.self.vault) c.write_out.result c.requires.0 c.write_out.ensures.ok c.write_out.ensures.all_left c.write_out.ensures.err in
     w.lies
+
+pub returns-clause-kept_configures : goal.returns-clause-kept_configures
+returns-clause-kept_configures g c =
+    let s = c.args.self.now in
+    let h = held_of (g.C.Sealer.opens (cipher_of s.sealed) (key_of s.sealed)) s.sealed s.state in
+    let w = written h c.write_out.new.self.list (g.V.Vault.trace s.sealed.vault.vault) (g.V.Vault.trace c.write_out.new.self.vault) c.write_out.result c.requires.0 c.write_out.ensures.ok c.write_out.ensures.all_left c.write_out.ensures.err in
+    w.kept_configures
+
+pub returns-clause-configures : goal.returns-clause-configures
+returns-clause-configures g c =
+    let s = c.args.self.now in
+    let h = held_of (g.C.Sealer.opens (cipher_of s.sealed) (key_of s.sealed)) s.sealed s.state in
+    let w = written h c.write_out.new.self.list (g.V.Vault.trace s.sealed.vault.vault) (g.V.Vault.trace c.write_out.new.self.vault) c.write_out.result c.requires.0 c.write_out.ensures.ok c.write_out.ensures.all_left c.write_out.ensures.err in
+    w.configures
