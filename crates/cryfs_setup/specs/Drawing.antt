@@ -1,5 +1,4 @@
 -- The random bytes of a new file system.
-use Rattle.std.specs.Prelude.{ℕ, List}
 use Rattle.rand_core.specs.Stream.{Stream, fill_bytes}
 use Rattle.cryfs_setup.specs.declared.draws.Draws.{Draws}
 

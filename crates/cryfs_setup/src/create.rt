@@ -1,8 +1,9 @@
 // `create`: makes a file system.
-ghost use Rattle.std.specs.Prelude.{◌≡◌, ◌⊎◌, ◌≤◌, true, IfOk, IfErr, MatchResult};
+ghost use Rattle.std.specs.Prelude.{◌≡◌, ◌⊎◌, ◌≤◌, true, List, ℕ, IfOk, IfErr, OnOk, MatchResult};
+ghost use Rattle.std.specs.declared.option.Option.TheVariants.{None};
 ghost use Rattle.config_file.specs.Settings.{IsBlockSize};
 ghost use Rattle.cryfs_setup.specs.Create.{Created, Makes, Fails, Leaves, new_file, created_text, root_of};
-ghost use Rattle.cryfs_setup.specs.Directories.{directory_of, made};
+ghost use Rattle.cryfs_setup.specs.Directories.{directory_of, asked, made};
 ghost use Rattle.cryfs_setup.specs.Drawing.{drawn};
 ghost use Rattle.cryfs_setup.specs.Passwords.{IsPast};
 ghost use Rattle.cryfs_setup.specs.Printing.{Printed};
@@ -95,11 +96,9 @@ fn make<V: Vault, R: Rng>(
     ensures leaves { MatchResult result (λ _. R.stream chance.new ≡ (drawn (R.stream chance.old)).1) (λ status. Leaves (R.stream chance.old) (R.stream chance.new) status) }
     ensures grows { V.faults vault.old ≤ V.faults vault.new }
 {
-    match vault.get(alloc, &FileName::Config, MAX_CONFIG) {
-        Ok(None) => {}
-        Ok(Some(_)) => return Err(Status::Exists),
-        Err(GetFail::Memory) => return Err(Status::Memory),
-        Err(GetFail::Failed) => return Err(Status::DirectoryFault),
+    match ask_absent(alloc, vault) {
+        Ok(()) => {}
+        Err(status) => return Err(status),
     }
     let draws = Draws::draw(chance);
     let Ok(file) = seal(alloc, password, params, block_size, &draws) else {
@@ -107,6 +106,20 @@ fn make<V: Vault, R: Rng>(
     };
     match vault.put(alloc, &FileName::Config, &file) {
         Ok(()) => Ok(BlockId(draws.fs_id)),
+        Err(GetFail::Memory) => Err(Status::Memory),
+        Err(GetFail::Failed) => Err(Status::DirectoryFault),
+    }
+}
+
+/// Asks for the configuration, which is not to be there.
+fn ask_absent<V: Vault>(alloc: Global, vault: &mut V) -> Result<(), Status>
+    ensures ok { OnOk result (V.trace vault.new ≡ asked (V.trace vault.old) None) }
+    ensures err { IfErr result (λ status. (file : List ℕ) → Fails (directory_of V.trace V.faults vault.old vault.new) file status) }
+    ensures grows { V.faults vault.old ≤ V.faults vault.new }
+{
+    match vault.get(alloc, &FileName::Config, MAX_CONFIG) {
+        Ok(None) => Ok(()),
+        Ok(Some(_)) => Err(Status::Exists),
         Err(GetFail::Memory) => Err(Status::Memory),
         Err(GetFail::Failed) => Err(Status::DirectoryFault),
     }

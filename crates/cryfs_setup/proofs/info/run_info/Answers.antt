@@ -1,4 +1,3 @@
-use Rattle.std.proofs.Common.{List, ℕ}
 use Rattle.cryfs_setup.specs.Passwords.{password_of}
 use Rattle.cryfs_setup.proofs.Known.{held, told_of}
 use Rattle.cryfs_setup.proofs.info.run_info.Goals as goal

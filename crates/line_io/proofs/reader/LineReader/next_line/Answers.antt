@@ -1,4 +1,4 @@
-use Rattle.std.proofs.Common.{◌≡◌, ◌≤◌, ◌<◌, ◌+◌, ◌++◌, ℕ, List, [], length, ap, ◌∙◌, arith, sym, subst, refl, length-append}
+use Rattle.std.proofs.Common.{◌≡◌, ◌≤◌, ◌<◌, ◌+◌, ◌++◌, ℕ, List, [], length, ap, ◌∙◌, arith, sym, subst, length-append}
 use Rattle.std.specs.declared.option.Option.{Option}
 use Rattle.line_io.specs.Lines.{IsUnbroken, kept_on}
 use Rattle.line_io.specs.Reading.{Reading, total, remaining}
