@@ -5,3 +5,4 @@ pub mod Lengths
 pub mod Sealed
 pub mod Places
 pub mod Opening
+pub mod Waiting

@@ -1,5 +1,5 @@
 -- The parts of the file, by the places of their bytes.
-use Rattle.std.specs.Prelude.{ℕ, ◌≡◌, ◌+◌, List, [], ◌∷◌, ◌++◌, Bool, length, take, drop, codes, nat_lt, nat_eq, if◌then◌else◌, IsTrue, Option, Some, None}
+use Rattle.std.specs.Prelude.{ℕ, ◌≡◌, ◌<◌, ◌^◌, ◌+◌, List, [], ◌∷◌, ◌++◌, Bool, length, take, drop, codes, nat_lt, nat_eq, if◌then◌else◌, IsTrue, Option, Some, None}
 use Rattle.std.specs.Int.{w32, w64, from_le_bytes}
 use Rattle.std.specs.List.{slice_range, starts_with}
 use Rattle.aes_gcm.specs.Gcm.{opened_of}
@@ -26,6 +26,10 @@ pub record HasForm (bytes : List ℕ) : Type 0 where
   pub size : length bytes ≡ 1126
   pub front : IsTrue (begins_with bytes outer_front)
   pub cost : IsAllowed (cost_in bytes)
+
+-- bytes that may wait to be the configuration's file: short enough for a record, and not begun as a block's file is
+abbrev pub MayWait : List ℕ → Type 0
+MayWait bytes = (length bytes < 2 ^ 32) × (take 14 bytes ≡ codes "cryfs;block;0" ++ 0 ∷ [] → ⊥)
 
 -- the 64 bytes that are the keys of the outer and of the inner seal
 abbrev pub derived : List ℕ → List ℕ → Cost → List ℕ

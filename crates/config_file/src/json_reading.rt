@@ -5,7 +5,7 @@ ghost use Rattle.std.specs.Option.{option_map};
 ghost use Rattle.serde_json.specs.Read.{read};
 ghost use Rattle.serde_json.specs.View.{view};
 ghost use Rattle.config_file.specs.Json.{ReadsAs, block_size_at, bytes_at, cipher_at, settings_in, text_at};
-ghost use Rattle.config_file.specs.Settings.{Settings, settings_of};
+ghost use Rattle.config_file.specs.Settings.{IsBlockSize, Settings, settings_of};
 
 use crate::config::{Cipher, Config};
 use block_id::{BlockId, Memory};
@@ -17,7 +17,8 @@ pub(crate) const CIPHER_NAME: &str = "aes-256-gcm";
 
 /// The configuration that a JSON text says, or None where it says none.
 pub(crate) fn config_from(alloc: Global, text: &[u8]) -> Result<Option<Config>, Memory>
-    ensures { IfOk result (λ answer. (s : Settings) → (option_map settings_of answer ≡ Some s) ↔ ReadsAs text.now s) }
+    ensures reads { IfOk result (λ answer. (s : Settings) → (option_map settings_of answer ≡ Some s) ↔ ReadsAs text.now s) }
+    ensures size { IfOk result (λ answer. IfSome answer (λ config. IsBlockSize config.block_size)) }
 {
     let Some(value) = value_from(alloc, text)? else {
         return Ok(None);
@@ -42,7 +43,8 @@ fn value_from(alloc: Global, text: &[u8]) -> Result<Option<Value>, Memory>
 
 #[tactic(auto, unfolding(crate::specs::Json::settings_in))]
 fn config_in(value: &Value) -> Option<Config>
-    ensures { option_map settings_of result ≡ settings_in (view value.now) }
+    ensures reads { option_map settings_of result ≡ settings_in (view value.now) }
+    ensures size { IfSome result (λ config. IsBlockSize config.block_size) }
 {
     let block_size = block_size_in(value)?;
     let cipher = cipher_in(value)?;
@@ -60,7 +62,8 @@ fn config_in(value: &Value) -> Option<Config>
 
 #[tactic(auto, unfolding(crate::specs::Json::block_size_at))]
 fn block_size_in(value: &Value) -> Option<u32>
-    ensures { result ≡ block_size_at (view value.now) }
+    ensures reads { result ≡ block_size_at (view value.now) }
+    ensures size { IfSome result (λ size. IsBlockSize size) }
 {
     let size = number_in(value)?;
     if size < 128 || size > 1048576 {

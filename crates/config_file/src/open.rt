@@ -1,9 +1,9 @@
 // Opening a configuration's file.
-ghost use Rattle.std.specs.Prelude.{◌≡◌, ◌↔◌, length, IfOk, Some};
+ghost use Rattle.std.specs.Prelude.{◌≡◌, ◌↔◌, length, IfOk, IfSome, Some};
 ghost use Rattle.std.specs.Option.{option_map};
 ghost use Rattle.config_file.specs.ConfigOf.{ConfigOf, Holds, opened, locked, inner};
-ghost use Rattle.config_file.specs.Format.{HasForm};
-ghost use Rattle.config_file.specs.Settings.{Settings, settings_of};
+ghost use Rattle.config_file.specs.Format.{HasForm, MayWait};
+ghost use Rattle.config_file.specs.Settings.{IsBlockSize, Settings, settings_of};
 
 use crate::config::{Config, Opened};
 use crate::error::ConfigError;
@@ -14,8 +14,11 @@ use block_id::Memory;
 use std::alloc::Global;
 
 /// The configuration that a file of any length holds under the password, with its parameters.
+#[tactic(auto, using(crate::proofs::Waiting::form_waits))]
 pub fn open_config(alloc: Global, password: &[u8], bytes: &[u8]) -> Result<Opened, ConfigError>
     ensures found { IfOk result (λ o. ConfigOf password.now bytes.now (opened (settings_of o.config) o.params)) }
+    ensures size { IfOk result (λ o. IsBlockSize o.config.block_size) }
+    ensures waits { HasForm bytes.now → MayWait bytes.now }
     ensures form { (result ≡ Err ConfigError.Form) ↔ ¬ HasForm bytes.now }
     ensures locked { result ≡ Err ConfigError.Locked → ConfigOf password.now bytes.now locked }
     ensures inner { result ≡ Err ConfigError.Inner → ConfigOf password.now bytes.now inner }
@@ -36,7 +39,8 @@ pub fn open_config(alloc: Global, password: &[u8], bytes: &[u8]) -> Result<Opene
 /// The configuration that an inner part holds.
 fn held_config(alloc: Global, key: &[u8; 32], part: &[u8]) -> Result<Option<Config>, Memory>
     requires { length part.now ≡ 1024 }
-    ensures { IfOk result (λ answer. (s : Settings) → (option_map settings_of answer ≡ Some s) ↔ Holds key.now part.now s) }
+    ensures holds { IfOk result (λ answer. (s : Settings) → (option_map settings_of answer ≡ Some s) ↔ Holds key.now part.now s) }
+    ensures size { IfOk result (λ answer. IfSome answer (λ config. IsBlockSize config.block_size)) }
 {
     let Some(sealed) = sealed_from(part) else {
         return Ok(None);

@@ -3,7 +3,7 @@ use Rattle.std.specs.Prelude.{◌≡◌, ℕ, Bool, true, false, cond, List, [],
 use Rattle.std.proofs.Common.{refl, sym, ◌∙◌, ap, arith}
 use Rattle.std.proofs.lemmas.Bool.{ltb-false}
 use Rattle.std.proofs.lemmas.List.{reverse-reverse}
-use Rattle.std.specs.FinMap.{get, len}
+use Rattle.std.specs.FinMap.{get, len, remove}
 use Rattle.std.specs.declared.option.Option.{Option}
 use Rattle.std.specs.declared.option.Option.TheVariants.{None, Some}
 use Rattle.fs_model.specs.declared.error.FsError.{FsError}
@@ -13,15 +13,18 @@ use Rattle.fs_model.specs.declared.reply.Reply.TheVariants.{Done}
 use Rattle.fs_model.specs.Instant.{Instant}
 use Rattle.fs_model.specs.Tree.{Path, Tree, Row, upward, parent, same_path, is_directory, children, directory_size, IsRooted}
 use Rattle.fs_model.specs.LookUp.{Seen, Found, Free, Bad, look}
-use Rattle.fs_model.specs.Move.{is_above, strip, moved_by, moved}
-use Rattle.fs_model.specs.Step.{Stepped, refused, done, unless_root, has_child, moved_tree, moved_unless_large, moved_onto, moved_to, moved_from}
+use Rattle.fs_model.specs.Move.{is_above, strip, moved_by, moved, renamed}
+use Rattle.fs_model.specs.Step.{Stepped, refused, done, unless_root, has_child, with_ctime, moved_tree, moved_unless_large, moved_onto, moved_to, moved_from}
 use Rattle.fs_model.specs.Laws.{IsMoved}
-use Rattle.fs_model.proofs.TreeLemmas.{same_path_is}
+use Rattle.fs_model.proofs.TreeLemmas.{same_path_is, insert_here}
 use Rattle.fs_model.proofs.LookUpLemmas.{get-found}
 use Rattle.fs_model.proofs.SizeLemmas.{no_children}
 use Rattle.fs_model.proofs.MoveLemmas.{strip-append, strip-is}
 use Rattle.fs_model.proofs.MovedTree.{CanMove, not_above, moved-below, moved-off, moved-gone}
 use Rattle.fs_model.proofs.WellFormedStep.{can_move_free, can_move_found, below_file}
+
+the_row : (a b : Row) → Some a ≡ Some b → a ≡ b
+the_row a b e = cc
 
 not_both : {X : Type 0} (x : X) → None ≡ Some x → ⊥
 not_both x e = cc
@@ -73,56 +76,57 @@ module _ (t : Tree) (now : Instant) (pn : List ℕ) (pd : Path) (qn : List ℕ) 
   apart_at r o x y hr ho not_q no_q None (Some z) a b e = absurd (off_q r x hr not_q z e)
   apart_at r o x y hr ho not_q no_q None None a b e = e
 
-  pub moved_rows : IsMoved t next p q
+  pub moved_rows : IsMoved t next now p q
   moved_rows = record {
+    arrived = λ x there. insert_here (renamed (remove t q) p q) q (with_ctime row now) ∙ ap (λ z. Some (with_ctime z now)) (the_row row x (sym can.here ∙ there));
     kept = λ r x there not_q not_p. kept_at r x there not_q not_p (strip p r) refl;
     came = λ r x there. came_from r x there (strip q r) refl;
     apart = λ r o x y hr ho not_q no_q e. apart_at r o x y hr ho not_q no_q (strip p r) (strip p o) refl refl e;
   }
 
 -- where the reply is Done, the rows have moved
-pub record MovesIfDone (t : Tree) (p q : Path) (s : Stepped) : Type 0 where
-  pub moves : s.reply ≡ Done → IsMoved t s.tree p q
+pub record MovesIfDone (t : Tree) (now : Instant) (p q : Path) (s : Stepped) : Type 0 where
+  pub moves : s.reply ≡ Done → IsMoved t s.tree now p q
 
-module _ (t : Tree) (p q : Path) where
-  refuses : (e : FsError) → MovesIfDone t p q (refused t e)
+module _ (t : Tree) (now : Instant) (p q : Path) where
+  refuses : (e : FsError) → MovesIfDone t now p q (refused t e)
   refuses e = record { moves = λ h. cc }
 
-  either : (b : Bool) (x y : Stepped) → (b ≡ true → MovesIfDone t p q x) → (b ≡ false → MovesIfDone t p q y) → MovesIfDone t p q (cond b x y)
+  either : (b : Bool) (x y : Stepped) → (b ≡ true → MovesIfDone t now p q x) → (b ≡ false → MovesIfDone t now p q y) → MovesIfDone t now p q (cond b x y)
   either true x y f g = f refl
   either false x y f g = g refl
 
-  large : (next : Tree) → IsMoved t next p q → MovesIfDone t p q (moved_unless_large t q next)
+  large : (next : Tree) → IsMoved t next now p q → MovesIfDone t now p q (moved_unless_large t q next)
   large next h = either (nat_lt MAX_ENTRIES (directory_size next (parent q))) (refused t TooLarge) (done next) (λ _. refuses TooLarge) (λ _. record { moves = λ _. h })
 
-  onto : (from onto : Bool) (s : Stepped) → (((m : List ℕ) → onto ≡ true → get t (m ∷ q) ≡ None) → MovesIfDone t p q s) → MovesIfDone t p q (moved_onto t q from onto s)
+  onto : (from onto : Bool) (s : Stepped) → (((m : List ℕ) → onto ≡ true → get t (m ∷ q) ≡ None) → MovesIfDone t now p q s) → MovesIfDone t now p q (moved_onto t q from onto s)
   onto true true s h = either (has_child t q) (refused t NotEmpty) s (λ _. refuses NotEmpty) (λ none. h (λ m _. no_children t q (let zero = ltb-false 0 (len (children t q)) none in omega arith) m))
   onto true false s h = refuses NotDirectory
   onto false true s h = refuses IsDirectory
   onto false false s h = h (λ m bad. absurd (cc))
 
 module _ (t : Tree) (now : Instant) (pn : List ℕ) (pd : Path) (qn : List ℕ) (qd : Path) (wf : IsRooted t) (differ : pn ∷ pd ≡ qn ∷ qd → ⊥) where
-  to_moves : (row : Row) (s : Seen) → look t (pn ∷ pd) ≡ Found row → is_above (pn ∷ pd) (qn ∷ qd) ≡ false → look t (qn ∷ qd) ≡ s → MovesIfDone t (pn ∷ pd) (qn ∷ qd) (moved_to t now (pn ∷ pd) (qn ∷ qd) row s)
+  to_moves : (row : Row) (s : Seen) → look t (pn ∷ pd) ≡ Found row → is_above (pn ∷ pd) (qn ∷ qd) ≡ false → look t (qn ∷ qd) ≡ s → MovesIfDone t now (pn ∷ pd) (qn ∷ qd) (moved_to t now (pn ∷ pd) (qn ∷ qd) row s)
   to_moves row (Found old) found above h =
       let next = moved_unless_large t (qn ∷ qd) (moved_tree t now (pn ∷ pd) (qn ∷ qd) row) in
-      either t (pn ∷ pd) (qn ∷ qd) (same_path (pn ∷ pd) (qn ∷ qd)) (done t) (moved_onto t (qn ∷ qd) (is_directory row.attr.kind) (is_directory old.attr.kind) next) (λ e. absurd (differ (same_path_is (pn ∷ pd) (qn ∷ qd) e))) (λ apart.
-      onto t (pn ∷ pd) (qn ∷ qd) (is_directory row.attr.kind) (is_directory old.attr.kind) next (λ bare.
-      large t (pn ∷ pd) (qn ∷ qd) (moved_tree t now (pn ∷ pd) (qn ∷ qd) row) (moved_rows t now pn pd qn qd row (can_move_found t pn pd qn qd row old wf found above h apart (childless bare (is_directory old.attr.kind) refl)))))
+      either t now (pn ∷ pd) (qn ∷ qd) (same_path (pn ∷ pd) (qn ∷ qd)) (done t) (moved_onto t (qn ∷ qd) (is_directory row.attr.kind) (is_directory old.attr.kind) next) (λ e. absurd (differ (same_path_is (pn ∷ pd) (qn ∷ qd) e))) (λ apart.
+      onto t now (pn ∷ pd) (qn ∷ qd) (is_directory row.attr.kind) (is_directory old.attr.kind) next (λ bare.
+      large t now (pn ∷ pd) (qn ∷ qd) (moved_tree t now (pn ∷ pd) (qn ∷ qd) row) (moved_rows t now pn pd qn qd row (can_move_found t pn pd qn qd row old wf found above h apart (childless bare (is_directory old.attr.kind) refl)))))
     where
       childless : ((m : List ℕ) → is_directory old.attr.kind ≡ true → get t (m ∷ (qn ∷ qd)) ≡ None) → (b : Bool) → is_directory old.attr.kind ≡ b → (m : List ℕ) → get t (m ∷ (qn ∷ qd)) ≡ None
       childless bare true e m = bare m e
       childless bare false e m = below_file t (qn ∷ qd) old wf (get-found t (qn ∷ qd) old h) e m
-  to_moves row Free found above h = large t (pn ∷ pd) (qn ∷ qd) (moved_tree t now (pn ∷ pd) (qn ∷ qd) row) (moved_rows t now pn pd qn qd row (can_move_free t pn pd qn qd row wf found above h))
-  to_moves row (Bad e) found above h = refuses t (pn ∷ pd) (qn ∷ qd) e
+  to_moves row Free found above h = large t now (pn ∷ pd) (qn ∷ qd) (moved_tree t now (pn ∷ pd) (qn ∷ qd) row) (moved_rows t now pn pd qn qd row (can_move_free t pn pd qn qd row wf found above h))
+  to_moves row (Bad e) found above h = refuses t now (pn ∷ pd) (qn ∷ qd) e
 
-  from_moves : (s : Seen) → look t (pn ∷ pd) ≡ s → MovesIfDone t (pn ∷ pd) (qn ∷ qd) (moved_from t now (pn ∷ pd) (qn ∷ qd) s)
-  from_moves (Found row) h = either t (pn ∷ pd) (qn ∷ qd) (is_above (pn ∷ pd) (qn ∷ qd)) (refused t Invalid) (moved_to t now (pn ∷ pd) (qn ∷ qd) row (look t (qn ∷ qd))) (λ _. refuses t (pn ∷ pd) (qn ∷ qd) Invalid) (λ above. to_moves row (look t (qn ∷ qd)) h above refl)
-  from_moves Free h = refuses t (pn ∷ pd) (qn ∷ qd) NoEntry
-  from_moves (Bad e) h = refuses t (pn ∷ pd) (qn ∷ qd) e
+  from_moves : (s : Seen) → look t (pn ∷ pd) ≡ s → MovesIfDone t now (pn ∷ pd) (qn ∷ qd) (moved_from t now (pn ∷ pd) (qn ∷ qd) s)
+  from_moves (Found row) h = either t now (pn ∷ pd) (qn ∷ qd) (is_above (pn ∷ pd) (qn ∷ qd)) (refused t Invalid) (moved_to t now (pn ∷ pd) (qn ∷ qd) row (look t (qn ∷ qd))) (λ _. refuses t now (pn ∷ pd) (qn ∷ qd) Invalid) (λ above. to_moves row (look t (qn ∷ qd)) h above refl)
+  from_moves Free h = refuses t now (pn ∷ pd) (qn ∷ qd) NoEntry
+  from_moves (Bad e) h = refuses t now (pn ∷ pd) (qn ∷ qd) e
 
-pub move_moves : (t : Tree) (now : Instant) (p q : Path) → IsRooted t → (p ≡ q → ⊥) → MovesIfDone t p q (unless_root t p (unless_root t q (moved_from t now p q (look t p))))
-move_moves t now [] q wf differ = refuses t [] q Busy
-move_moves t now (pn ∷ pd) [] wf differ = refuses t (pn ∷ pd) [] Busy
+pub move_moves : (t : Tree) (now : Instant) (p q : Path) → IsRooted t → (p ≡ q → ⊥) → MovesIfDone t now p q (unless_root t p (unless_root t q (moved_from t now p q (look t p))))
+move_moves t now [] q wf differ = refuses t now [] q Busy
+move_moves t now (pn ∷ pd) [] wf differ = refuses t now (pn ∷ pd) [] Busy
 move_moves t now (pn ∷ pd) (qn ∷ qd) wf differ = from_moves t now pn pd qn qd wf differ (look t (pn ∷ pd)) refl
 
 pub upward_apart : (p q : List (List ℕ)) → (p ≡ q → ⊥) → upward p ≡ upward q → ⊥

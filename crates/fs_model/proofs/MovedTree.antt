@@ -91,7 +91,7 @@ module _ (t : Tree) (now : Instant) (pn : List ℕ) (pd : Path) (qn : List ℕ) 
   parent_off_q : strip q qd ≡ None
   parent_off_q = strip_none q qd (λ s e. shorter s qn qd e)
 
-  parent_off_p : strip p qd ≡ None
+  pub parent_off_p : strip p qd ≡ None
   parent_off_p = strip_none p qd (λ s e. not_above p q can.above s qn (ap (λ z. qn ∷ z) e))
 
   pub moved-parent : get next qd ≡ get t qd

@@ -44,7 +44,7 @@ rows_remove t rows p r x there = elim (path_split r p) [
 ]
 
 -- a row more, below a directory
-insert_free : (t : Tree) (n : List ℕ) (p : Path) (row : Row) → IsWellFormed t → is_folder (get t p) ≡ true → get t (n ∷ p) ≡ None → IsWithinLimits row
+pub insert_free : (t : Tree) (n : List ℕ) (p : Path) (row : Row) → IsWellFormed t → is_folder (get t p) ≡ true → get t (n ∷ p) ≡ None → IsWithinLimits row
     → directory_size t p + entry_size n ≤ MAX_ENTRIES → IsWellFormed (insert t (n ∷ p) row)
 insert_free t n p row wf folder none limits fits = record {
   rooted = record {
@@ -69,7 +69,7 @@ insert_free t n p row wf folder none limits fits = record {
     ]
 
 -- another row of the same kind at a path that isn't the root
-insert_found : (t : Tree) (n : List ℕ) (p : Path) (row old : Row) → IsWellFormed t → get t (n ∷ p) ≡ Some old → is_directory old.attr.kind ≡ is_directory row.attr.kind → IsWithinLimits row
+pub insert_found : (t : Tree) (n : List ℕ) (p : Path) (row old : Row) → IsWellFormed t → get t (n ∷ p) ≡ Some old → is_directory old.attr.kind ≡ is_directory row.attr.kind → IsWithinLimits row
     → IsWellFormed (insert t (n ∷ p) row)
 insert_found t n p row old wf there alike limits = record {
   rooted = record {
@@ -97,7 +97,7 @@ insert_found t n p row old wf there alike limits = record {
     ]
 
 -- a row fewer, with nothing below it
-remove_bare : (t : Tree) (n : List ℕ) (p : Path) → IsWellFormed t → ((m : List ℕ) → get t (m ∷ (n ∷ p)) ≡ None) → IsWellFormed (remove t (n ∷ p))
+pub remove_bare : (t : Tree) (n : List ℕ) (p : Path) → IsWellFormed t → ((m : List ℕ) → get t (m ∷ (n ∷ p)) ≡ None) → IsWellFormed (remove t (n ∷ p))
 remove_bare t n p wf bare = record {
   rooted = record {
     root = remove_apart t (n ∷ p) [] (λ e. cc) ∙ wf.rooted.root;
@@ -166,7 +166,7 @@ pub length-overwritten : (old : List ℕ) (from : ℕ) (bytes : List ℕ) → le
 length-overwritten old from bytes =
     omega (arith, length-append (resized old from ++ bytes) (drop (from + length bytes) old), length-append (resized old from) bytes, length-resized old from, length-drop (from + length bytes) old)
 
-short_enough : (old new : ℕ) → is_too_long old new ≡ false → new ≤ MAX_FILE
+pub short_enough : (old new : ℕ) → is_too_long old new ≡ false → new ≤ MAX_FILE
 short_enough old new h = ltb-false MAX_FILE new (or_parts (nat_lt MAX_FILE new) (nat_lt (old + MAX_GROWTH) new) h).0
 
 -- another content of n bytes, where that is let through

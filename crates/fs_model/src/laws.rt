@@ -28,9 +28,9 @@ pub fn looking_leaves_tree(now: Moment, command: &Command)
     ensures { (tree : Tree) → (step tree now command.now).tree ≡ tree }
 {}
 
-/// A move neither makes nor loses a row but the one that it replaces.
+/// A move neither makes nor loses a row but the one that it replaces, and the moved row arrives with a new ctime.
 pub fn move_keeps_rows(now: Moment, from: &Path, to: &Path)
-    ensures { (tree : Tree) → IsWellFormed tree → (step tree now (Mv from.now to.now)).reply ≡ Done → (from.now ≡ to.now → ⊥) → IsMoved tree (step tree now (Mv from.now to.now)).tree (upward from.now) (upward to.now) }
+    ensures { (tree : Tree) → IsWellFormed tree → (step tree now (Mv from.now to.now)).reply ≡ Done → (from.now ≡ to.now → ⊥) → IsMoved tree (step tree now (Mv from.now to.now)).tree now (upward from.now) (upward to.now) }
 {}
 
 /// In a tree with its root and parents, the look-up by the longest prefix says what the walk from the

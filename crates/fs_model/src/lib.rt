@@ -25,7 +25,7 @@ pub use limits::{
     MAX_TARGET, NANOS_PER_SEC,
 };
 pub use moment::Moment;
-pub use name::Name;
+pub use name::{Name, has_name_form};
 pub use parse::parse_path;
 pub use path::Path;
 pub use reply::{ListRow, Reply, RowList};

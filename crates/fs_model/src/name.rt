@@ -56,8 +56,8 @@ impl Name {
     }
 }
 
-/// 1 to 255 bytes without reserved ones, and no dots alone.
-fn has_name_form(bytes: &[u8]) -> bool
+/// Whether the bytes are a name: 1 to 255 without reserved ones, and no dots alone.
+pub fn has_name_form(bytes: &[u8]) -> bool
     ensures { result ≡ is_name bytes.now }
 {
     if bytes.is_empty() || bytes.len() > MAX_NAME {

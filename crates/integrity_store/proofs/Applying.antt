@@ -4,7 +4,7 @@ use Rattle.std.specs.Prelude.{T, Option, Some, None, IfSome, is_some, not, ◌&&
 use Rattle.std.specs.List.{AllByRecursion}
 use Rattle.std.specs.Option.{option_or, option_map_or}
 use Rattle.std.specs.FinMap as fin
-use Rattle.std.specs.FinMap.{is_sorted, entries_sorted, get-entries}
+use Rattle.std.specs.FinMap.{is_sorted, entries_sorted, get-entries, get-empty}
 use Rattle.std.specs.FinMap.Entries.{find}
 use Rattle.rand_core.specs.Stream.{Stream}
 use Rattle.block_id.specs.Fresh.{zero_id}
@@ -19,7 +19,7 @@ use Rattle.store_api.specs.Holdings.{Fits}
 use Rattle.integrity_store.specs.Applied.{mark_after, WaitsAfter, Applied}
 use Rattle.integrity_store.specs.BlockRecords.{payload_in}
 use Rattle.integrity_store.specs.Draws.{AreDrawn, given_in, iv_of, draws}
-use Rattle.integrity_store.specs.Held.{Held, version_if_live, where_live, wanted, file_of, told_or_none}
+use Rattle.integrity_store.specs.Held.{Held, version_if_live, where_live, waiting, wanted, file_of, told_or_none}
 use Rattle.integrity_store.specs.Marking.{Entry, MayRaise, MayMark, mark_each, MayMarkEach, some_spent_in}
 use Rattle.integrity_store.specs.Sealing.{MaySeal, AreMadeOf, IsListed}
 use Rattle.integrity_store.specs.Stores.{IsWhole, is_last, holdings_by, has-keys}
@@ -82,7 +82,19 @@ module _ {S : Type 0} (held : S → Held) (trace : S → Option (List Call)) (s 
   pub may_seal_batch : AllByRecursion (MaySeal (held s)) es
   may_seal_batch = all_by (λ e. find id_cmp e.0 es ≡ Some e.1) (MaySeal (held s)) es may_seal_one (each_found ids_total es rises)
 
--- ---- after it
+-- ---- after it, or where it wasn't made
+
+-- what is held, and no call, is no changes
+pub applied_nothing : (a b : Held) (old new : Option (List Call)) → b ≡ a → new ≡ old → Applied a b old new fin.empty
+applied_nothing a b old new same trace = record {
+  trace = trace;
+  size = ap (λ h. h.size) same;
+  opens = ap (λ h. h.opens) same;
+  state = ap (λ h. h.state) same ∙ ap (λ m. record a.state { marks = m }) (sym (ap (λ h. h.state.marks) same));
+  marks = λ id. ap (λ h. fin.get h.state.marks id) same ∙ ap (λ o. mark_after o (fin.get a.state.marks id)) (sym (get-empty id_cmp id));
+  waits = λ id. subst (λ o. WaitsAfter a b id o) (sym (get-empty id_cmp id)) (ap (λ h. waiting h id) same);
+  config = ap (λ h. change_at config h.list) same;
+}
 
 -- the files that were made of the entries wait, and their ids are marked
 pub record Made (a b : Held) (es : List Entry) (stream left : Stream) : Type 0 where

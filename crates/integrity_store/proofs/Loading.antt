@@ -7,58 +7,61 @@ use Rattle.std.specs.declared.option.Option.TheVariants.{None, Some}
 use Rattle.std.specs.declared.result.Result.TheVariants.{Ok, Err}
 use Rattle.std.specs.Option.{option_map, option_map_or}
 use Rattle.block_id.specs.declared.fail.Fail.{Fail}
+use Rattle.block_id.specs.declared.fail.Fail.TheVariants.{Memory, Fault, Violation}
 use Rattle.outside.specs.Trace.{Call}
 use Rattle.outside.specs.Honest.{count_told}
 use Rattle.outside.specs.View.{bytes_of}
-use Rattle.outcome.specs.Meanings.{HasCause}
+use Rattle.outcome.specs.Meanings.{HasCause, UnlessFault, IsQuiet}
 use Rattle.outcome.specs.Outcome.{Outcome, idle}
 use Rattle.local_state.specs.declared.mark.Mark.{Mark}
 use Rattle.store_api.specs.Holdings.{Stays}
 use Rattle.integrity_store.specs.Held.{Held, live_version, version_if_live, wanted, where_live, file_of, told_or_none, SoundBy, forged}
 use Rattle.integrity_store.specs.BlockRecords.{payload_in}
 use Rattle.integrity_store.specs.Laws.{went_sound}
-use Rattle.integrity_store.specs.Loads.{Fetched, fetched_went, fetched_met, fetched_alarm, fetched_value}
+use Rattle.integrity_store.specs.Loads.{Fetched, fetched_went, fetched_met, fetched_of_blocks, fetched_value}
 use Rattle.integrity_store.specs.Stores.{OnlyRead, meanings_by, holdings_by, lawful_by, settled_by}
 
 module _ {S : Type 0} (held : S → Held) (trace : S → Option (List Call)) (faults : S → ℕ) (own : S → Type 0) (a b : S) (id : List ℕ) where
-  only_read : (version : ℕ) (r : Result (Vec ℕ Global) Fail) → held b ≡ held a → faults a ≤ faults b → live_version (held a) id ≡ Some version
+  only_read : (version : ℕ) (r : Result (List ℕ) Fail) → held b ≡ held a → faults a ≤ faults b → live_version (held a) id ≡ Some version
       → Fetched (held a) (trace a) (trace b) id version r → OnlyRead (held a) (held b) (trace a) (trace b) (faults a) (faults b)
   only_read version r same later live f = record { held = same; trace = fetched_went (held a) (trace a) (trace b) id version r live f; faults = later }
 
-  still_sound : (version : ℕ) (r : Result (Vec ℕ Global) Fail) → held b ≡ held a → live_version (held a) id ≡ Some version
+  still_sound : (version : ℕ) (r : Result (List ℕ) Fail) → held b ≡ held a → live_version (held a) id ≡ Some version
       → Fetched (held a) (trace a) (trace b) id version r → SoundBy (held a) (trace a) → SoundBy (held b) (trace b)
   still_sound version r same live f s =
       subst (λ h. SoundBy h (trace b)) (sym same) (went_sound (held a) (held a) (trace a) (trace b) (fetched_went (held a) (trace a) (trace b) id version r live f) s)
 
-  pub stays : (version : ℕ) (r : Result (Vec ℕ Global) Fail) → held b ≡ held a → faults a ≤ faults b → live_version (held a) id ≡ Some version
+  pub stays : (version : ℕ) (r : Result (List ℕ) Fail) → held b ≡ held a → faults a ≤ faults b → live_version (held a) id ≡ Some version
       → Fetched (held a) (trace a) (trace b) id version r → Stays (holdings_by held trace) a b
   stays version r same later live f = settled_by held trace faults a b (only_read version r same later live f)
 
   pub loaded_ok : (version : ℕ) (payload : Vec ℕ Global) → (meanings_by held trace faults own).intact b → held b ≡ held a → faults a ≤ faults b → live_version (held a) id ≡ Some version
-      → Fetched (held a) (trace a) (trace b) id version (Ok payload)
+      → faults b ≡ faults a → Fetched (held a) (trace a) (trace b) id version (Ok payload.items)
       → Outcome (meanings_by held trace faults own) {T = Option (Vec ℕ Global)} Unit a b (Ok (Some payload)) (λ _ answer. bytes_of answer ≡ wanted (held a) (trace a) id)
-  loaded_ok version payload intact same later live f = record {
+  loaded_ok version payload intact same later live quiet f = record {
     intact = intact;
-    loaded = only_read version (Ok payload) same later live f;
-    sound = λ s few. still_sound version (Ok payload) same live f s;
+    loaded = only_read version (Ok payload.items) same later live f;
+    sound = λ s few. still_sound version (Ok payload.items) same live f s;
     met = tt;
     fault = tt;
-    value = λ n s few. fetched_value (held a) (trace a) (trace b) id version payload live f s
+    quiet = quiet;
+    value = λ n s few. fetched_value (held a) (trace a) (trace b) id version payload.items live f s
         (subst (λ h. count_told (forged h.opens h.size) (trace b) ≤ count_told (forged (held a).opens (held a).size) (trace a)) same few);
-    alarm = λ n s few. tt;
+    structure = λ n s few. tt;
   }
 
   pub loaded_err : (version : ℕ) (e : Fail) → (meanings_by held trace faults own).intact b → held b ≡ held a → faults a ≤ faults b → live_version (held a) id ≡ Some version
-      → HasCause e (faults a) (faults b) → Fetched (held a) (trace a) (trace b) id version (Err e)
+      → HasCause e (faults a) (faults b) → UnlessFault e (faults b ≡ faults a) → Fetched (held a) (trace a) (trace b) id version (Err e)
       → Outcome (meanings_by held trace faults own) {T = Option (Vec ℕ Global)} Unit a b (Err e) (λ _ answer. bytes_of answer ≡ wanted (held a) (trace a) id)
-  loaded_err version e intact same later live cause f = record {
+  loaded_err version e intact same later live cause quiet f = record {
     intact = intact;
     loaded = only_read version (Err e) same later live f;
     sound = λ s few. still_sound version (Err e) same live f s;
     met = fetched_met (held a) (trace a) (trace b) id version e live f;
     fault = cause;
+    quiet = quiet;
     value = λ n s few. tt;
-    alarm = λ n s few. fetched_alarm (held a) (trace a) (trace b) id version e live f s few;
+    structure = λ n s few. fetched_of_blocks (held a) (trace a) (trace b) id version e f;
   }
 
   pub not_wanted : live_version (held a) id ≡ None → wanted (held a) (trace a) id ≡ None
@@ -82,3 +85,19 @@ version-live (Some mark) b e t = sym (ap (λ l. if l then Some mark.version else
 pub version-dead : (o : Option Mark) (b : Bool) → option_map_or (λ m. m.live) o false ≡ b → b ≡ false → None ≡ version_if_live o
 version-dead None b e t = refl
 version-dead (Some mark) b e t = sym (ap (λ l. if l then Some mark.version else None) (e ∙ t))
+
+live_if : (live : Bool) (version : ℕ) (payload : List ℕ) → live ≡ is_some (where_live (if live then Some version else None) payload)
+live_if true version payload = refl
+live_if false version payload = refl
+
+-- a block is in the content where it lives
+pub live_wanted : (o : Option Mark) (payload : List ℕ) → option_map_or (λ m. m.live) o false ≡ is_some (where_live (version_if_live o) payload)
+live_wanted None payload = refl
+live_wanted (Some mark) payload = live_if mark.live mark.version payload
+
+-- where the count of faults stands, an answer is quiet
+pub still_quiet : {T : Type 0} (r : Result T Fail) (before now : ℕ) → now ≡ before → IsQuiet r before now
+still_quiet (Ok x) before now same = same
+still_quiet (Err Memory) before now same = same
+still_quiet (Err Fault) before now same = tt
+still_quiet (Err (Violation why)) before now same = same

@@ -19,7 +19,7 @@ use Rattle.outside.specs.Honest.{last_change}
 use Rattle.local_state.specs.declared.mark.Mark.{Mark}
 use Rattle.local_state.specs.Known.{Marks, is_live_in, is_dead_in}
 use Rattle.local_state.specs.Record.{Entry, FitsEntry, may_change, has_bytes}
-use Rattle.redo_vault.specs.Writes.{call_for}
+use Rattle.outside.specs.Writes.{call_for}
 use Rattle.sealed_store.specs.BlockFiles.{prefix, opens_file}
 use Rattle.store_api.specs.Durables.{IsConfigured}
 use Rattle.store_api.specs.Lists.{block_magic}

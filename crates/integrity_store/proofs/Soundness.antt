@@ -13,7 +13,7 @@ use Rattle.store_api.specs.Holdings.{Changed, has_id}
 use Rattle.integrity_store.specs.Applied.{mark_after, WaitsAfter, Applied}
 use Rattle.integrity_store.specs.BlockRecords.{Record, record_of, opened, payload_of, payload_in}
 use Rattle.integrity_store.specs.Held.{Held, own, waiting, waiting_or, bytes_in, file_of, live_version, version_if_live, where_live, told_or_none, wanted, IsPast, SoundAt, SoundBy, was_put}
-use Rattle.integrity_store.specs.Stores.{IsWhole, few_used, meanings_by, holdings_by, has-keys}
+use Rattle.integrity_store.specs.Stores.{IsWhole, is_last, few_used, meanings_by, holdings_by, has-keys}
 
 -- ---- one id
 
@@ -178,6 +178,7 @@ module _ {S : Type 0} (held : S → Held) (trace : S → Option (List Call)) (fa
     stays_used = λ id used.
         has-keys (held b) id ∙ (ap is_some (x.marks id) ∙ stays_known (fin.get changes id) (fin.get (held a).state.marks id) (sym (has-keys (held a) id) ∙ used));
     few = λ few. few_used (held b).state (held b).list whole.has_record;
+    spent = λ id none. ap is_last (x.marks id ∙ ap (λ o. mark_after o (fin.get (held a).state.marks id)) none);
     payload = ap (λ n. n - 78) x.size;
     sound = sound_after (held a) (held b) (trace a) (trace b) changes x;
   }

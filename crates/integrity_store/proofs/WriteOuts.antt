@@ -17,13 +17,13 @@ use Rattle.outside.specs.NameLaws.{same_ties, at_total}
 use Rattle.outside.specs.Changes.{Changes, change_at}
 use Rattle.outside.specs.Honest.{is_lie, count_told}
 use Rattle.local_state.specs.Record.{Entry, Rise, record_bytes, HasRecord}
-use Rattle.redo_vault.specs.Writes.{call_for, after_writes, StopsAt}
+use Rattle.outside.specs.Writes.{call_for, after_writes, StopsAt}
 use Rattle.store_api.specs.Content.{SameContent}
 use Rattle.store_api.specs.Durables.{IsConfigured}
 use Rattle.integrity_store.specs.Enduring.{configures_of, configured_of}
 use Rattle.integrity_store.specs.Held.{Held, wanted, forged, SoundBy}
 use Rattle.integrity_store.specs.Standing.{identity_of, Stands, Configures}
-use Rattle.integrity_store.specs.Stores.{IsWhole}
+use Rattle.integrity_store.specs.Stores.{IsWhole, sound_is_told}
 use Rattle.integrity_store.specs.WaitingLists.{IsNoBlock, in_order}
 use Rattle.integrity_store.proofs.Sorted.{found_first, first_below, not_below, found_later, each_found}
 use Rattle.integrity_store.proofs.Waiting.{test_of}
@@ -110,14 +110,18 @@ adds_told : (trace : Option (List Call)) (call : Call) → is_some (adds trace c
 adds_told None call = refl
 adds_told (Some trace) call = refl
 
+writes_told : (done : Changes) (trace : Option (List Call)) → is_some (after_writes done trace) ≡ is_some trace
+writes_told [] trace = refl
+writes_told (e ∷ done) trace = writes_told done (adds trace (call_for e true)) ∙ adds_told trace (call_for e true)
+
 call_sound : (h : Held) (trace : Option (List Call)) (e : Entry) (ok : Bool) → IsWhole h → Waits h.list e → SoundBy h trace → SoundBy h (adds trace (call_for e ok))
 call_sound h None e ok whole waits sound = sound
 call_sound h (Some trace) e ok whole waits sound = sound_call h trace e ok whole waits sound
 
-call_content : (h : Held) (trace : Option (List Call)) (e : Entry) (ok : Bool) → IsWhole h → Waits h.list e → SoundBy h trace
+call_content : (h : Held) (trace : Option (List Call)) (e : Entry) (ok : Bool) → IsWhole h → Waits h.list e → is_some trace ≡ true
     → SameContent (wanted h trace) (wanted h (adds trace (call_for e ok)))
-call_content h None e ok whole waits sound id = absurd sound
-call_content h (Some trace) e ok whole waits sound id = wanted_call h trace e ok whole waits id
+call_content h None e ok whole waits told id = absurd (true_is_false (sym told))
+call_content h (Some trace) e ok whole waits told id = wanted_call h trace e ok whole waits id
 
 call_configured : (list : Changes) (trace : Option (List Call)) (e : Entry) (ok : Bool) (bytes : List ℕ) → Waits list e → IsConfigured list trace bytes
     → IsConfigured list (adds trace (call_for e ok)) bytes
@@ -128,11 +132,11 @@ writes_sound : (h : Held) (done : Changes) (trace : Option (List Call)) → IsWh
 writes_sound h [] trace whole all sound = sound
 writes_sound h (e ∷ done) trace whole all sound = writes_sound h done (adds trace (call_for e true)) whole all.1 (call_sound h trace e true whole all.0 sound)
 
-writes_content : (h : Held) (done : Changes) (trace : Option (List Call)) → IsWhole h → AllByRecursion (Waits h.list) done → SoundBy h trace
+writes_content : (h : Held) (done : Changes) (trace : Option (List Call)) → IsWhole h → AllByRecursion (Waits h.list) done → is_some trace ≡ true
     → SameContent (wanted h trace) (wanted h (after_writes done trace))
-writes_content h [] trace whole all sound id = refl
-writes_content h (e ∷ done) trace whole all sound id =
-    writes_content h done (adds trace (call_for e true)) whole all.1 (call_sound h trace e true whole all.0 sound) id ∙ call_content h trace e true whole all.0 sound id
+writes_content h [] trace whole all told id = refl
+writes_content h (e ∷ done) trace whole all told id =
+    writes_content h done (adds trace (call_for e true)) whole all.1 (adds_told trace (call_for e true) ∙ told) id ∙ call_content h trace e true whole all.0 told id
 
 writes_configured : (list done : Changes) (trace : Option (List Call)) (bytes : List ℕ) → AllByRecursion (Waits list) done → IsConfigured list trace bytes
     → IsConfigured list (after_writes done trace) bytes
@@ -146,10 +150,10 @@ leaves_sound : (h : Held) (trace : Option (List Call)) (e : Entry) (rest : Chang
 leaves_sound h None e rest whole leaves sound = sound
 leaves_sound h (Some trace) e rest whole leaves sound = sound_left h trace e rest whole leaves sound
 
-leaves_content : (h : Held) (trace : Option (List Call)) (e : Entry) (rest : Changes) → IsWhole h → Leaves e h.list rest → SoundBy h (adds trace (call_for e true))
+leaves_content : (h : Held) (trace : Option (List Call)) (e : Entry) (rest : Changes) → IsWhole h → Leaves e h.list rest → is_some trace ≡ true
     → SameContent (wanted h (adds trace (call_for e true))) (wanted (with_list h rest) (adds trace (call_for e true)))
-leaves_content h None e rest whole leaves sound id = absurd sound
-leaves_content h (Some trace) e rest whole leaves sound id = wanted_left h trace e rest whole leaves id
+leaves_content h None e rest whole leaves told id = absurd (true_is_false (sym told))
+leaves_content h (Some trace) e rest whole leaves told id = wanted_left h trace e rest whole leaves id
 
 left_whole : (h : Held) (done left : Changes) → IsWhole (with_list h (done ++ left)) → IsWhole (with_list h left)
 left_whole h [] left whole = whole
@@ -165,16 +169,15 @@ left_sound h (e ∷ done) left trace whole sound =
     left_sound h done left (adds trace (call_for e true)) (rest_whole h e rest whole)
     (leaves_sound here trace e rest whole leaves (call_sound here trace e true whole leaves.was sound))
 
-left_content : (h : Held) (done left : Changes) (trace : Option (List Call)) → IsWhole (with_list h (done ++ left)) → SoundBy (with_list h (done ++ left)) trace
+left_content : (h : Held) (done left : Changes) (trace : Option (List Call)) → IsWhole (with_list h (done ++ left)) → is_some trace ≡ true
     → SameContent (wanted (with_list h (done ++ left)) trace) (wanted (with_list h left) (after_writes done trace))
-left_content h [] left trace whole sound id = refl
-left_content h (e ∷ done) left trace whole sound id =
+left_content h [] left trace whole told id = refl
+left_content h (e ∷ done) left trace whole told id =
     let rest = done ++ left in
     let here = with_list h (e ∷ rest) in
     let leaves = rest_leaves h e rest whole in
-    let called = call_sound here trace e true whole leaves.was sound in
-    left_content h done left (adds trace (call_for e true)) (rest_whole h e rest whole) (leaves_sound here trace e rest whole leaves called) id
-    ∙ (leaves_content here trace e rest whole leaves called id ∙ call_content here trace e true whole leaves.was sound id)
+    left_content h done left (adds trace (call_for e true)) (rest_whole h e rest whole) (adds_told trace (call_for e true) ∙ told) id
+    ∙ (leaves_content here trace e rest whole leaves told id ∙ call_content here trace e true whole leaves.was told id)
 
 leaves_configured : (trace : Option (List Call)) (e : Entry) (list rest : Changes) (bytes : List ℕ) → is_some trace ≡ true → Leaves e list rest → IsConfigured list trace bytes
     → IsConfigured rest (adds trace (call_for e true)) bytes
@@ -231,10 +234,10 @@ module _ (h : Held) (old new : Option (List Call)) (left : Changes) (whole : IsW
         | inr (next, waits, is) ↦ subst (SoundBy h) (sym is) (call_sound h (after_writes w.done old) next false whole (next_waits next waits) s)
       ]
 
-  pub full_content : SoundBy h old → SameContent (wanted h old) (wanted h new)
-  full_content sound id =
-      let s = writes_sound h w.done old whole done_wait sound in
-      let written = writes_content h w.done old whole done_wait sound id in
+  pub full_content : is_some old ≡ true → SameContent (wanted h old) (wanted h new)
+  full_content told id =
+      let s = writes_told w.done old ∙ told in
+      let written = writes_content h w.done old whole done_wait told id in
       elim w.trace [
         | inl is ↦ ap (λ t. wanted h t id) is ∙ written
         | inr (next, waits, is) ↦ ap (λ t. wanted h t id) is ∙ (call_content h (after_writes w.done old) next false whole (next_waits next waits) s id ∙ written)
@@ -249,11 +252,10 @@ module _ (h : Held) (old new : Option (List Call)) (left : Changes) (whole : IsW
         | inr (next, waits, is) ↦ subst (SoundBy (with_list h left)) (sym is) (call_sound (with_list h left) (after_writes w.done old) next false still_whole waits s)
       ]
 
-  pub content_of_rest : SoundBy h old → SameContent (wanted h old) (wanted (with_list h left) new)
-  content_of_rest sound id =
-      let before = subst (λ list. SoundBy (with_list h list) old) w.parts sound in
-      let s = left_sound h w.done left old parted before in
-      let written = left_content h w.done left old parted before id ∙ ap (λ list. wanted (with_list h list) old id) (sym w.parts) in
+  pub content_of_rest : is_some old ≡ true → SameContent (wanted h old) (wanted (with_list h left) new)
+  content_of_rest told id =
+      let s = writes_told w.done old ∙ told in
+      let written = left_content h w.done left old parted told id ∙ ap (λ list. wanted (with_list h list) old id) (sym w.parts) in
       elim w.trace [
         | inl is ↦ ap (λ t. wanted (with_list h left) t id) is ∙ written
         | inr (next, waits, is) ↦ ap (λ t. wanted (with_list h left) t id) is ∙ (call_content (with_list h left) (after_writes w.done old) next false still_whole waits s id ∙ written)
@@ -277,10 +279,6 @@ module _ (h : Held) (old new : Option (List Call)) (left : Changes) (whole : IsW
       ]
 
 -- ---- what no write changes: whether the trace is told, and counts of what was given
-
-writes_told : (done : Changes) (trace : Option (List Call)) → is_some (after_writes done trace) ≡ is_some trace
-writes_told [] trace = refl
-writes_told (e ∷ done) trace = writes_told done (adds trace (call_for e true)) ∙ adds_told trace (call_for e true)
 
 pub still_told : (list : Changes) (old new : Option (List Call)) (left : Changes) → Wrote list old new left → is_some new ≡ is_some old
 still_told list old new left w = elim w.trace [
@@ -320,7 +318,7 @@ pub record Written (h : Held) (old new : Option (List Call)) (left : Changes) : 
   pub whole : IsWhole (with_list h left)
   pub told : is_some new ≡ is_some old
   pub sound : SoundBy h old → SoundBy (with_list h left) new
-  pub content : SoundBy h old → SameContent (wanted h old) (wanted (with_list h left) new)
+  pub content : is_some old ≡ true → SameContent (wanted h old) (wanted (with_list h left) new)
   pub stands : SoundBy h old → h.state.marked ≡ false → Stands (identity_of h) (record_bytes h.state h.list) new (wanted h old)
   pub kept_configures : (bytes : List ℕ) → Configures (record_bytes h.state h.list) old bytes → Configures (record_bytes h.state h.list) new bytes
   pub configures : is_some old ≡ true → (bytes : List ℕ) → Configures (record_bytes h.state h.list) old bytes → Configures (record_bytes h.state left) new bytes
@@ -343,7 +341,7 @@ written h left old new r whole all none stops =
         has_record = whole.has_record;
         bytes = refl;
         sound = full_sound h old new left whole w sound;
-        wants = full_content h old new left whole w sound;
+        wants = full_content h old new left whole w (sound_is_told h old sound);
       };
       kept_configures = λ bytes c. configures_of h.state h.list new bytes whole.has_record
           (full_configured h old new left whole w bytes (configured_of h.state h.list old bytes whole.has_record c));

@@ -3,20 +3,22 @@ use Rattle.std.specs.Prelude.{◌≡◌, ℕ, Bool, true, false, List, [], ◌�
 use Rattle.std.proofs.Common.{refl, sym, ◌∙◌, ap, subst, inl, inr, arith}
 use Rattle.std.specs.declared.option.Option.{Option}
 use Rattle.std.specs.declared.option.Option.TheVariants.{None, Some}
-use Rattle.outside.specs.Trace.{At, Call, config}
+use Rattle.outside.specs.Trace.{At, Call, config, got, adds}
 use Rattle.outside.specs.Changes.{Changes, change_at}
 use Rattle.outside.specs.Honest.{last_change}
-use Rattle.local_state.specs.Record.{PlainState, Entry, record_bytes, HasRecord}
+use Rattle.local_state.specs.Record.{PlainState, record_bytes, HasRecord}
 use Rattle.local_state.specs.Record as records_of
 use Rattle.local_state.proofs.Records.{one_reading, marked_has}
 use Rattle.store_api.specs.Content.{Content, SameContent}
 use Rattle.store_api.specs.Content.{Changes as BlockChanges}
+use Rattle.outside.specs.Going.{GoesOn}
 use Rattle.store_api.specs.Durables.{Identity, Enduring, IsConfigured, last_told, with_mark}
 use Rattle.integrity_store.specs.Applied.{Applied, applied_by}
-use Rattle.integrity_store.specs.Held.{Held, AllReads, Went}
-use Rattle.integrity_store.specs.Laws.{went_sound}
+use Rattle.integrity_store.specs.Held.{Held, AllReads, Went, wanted, SoundBy}
+use Rattle.integrity_store.specs.Laws.{went_sound, sound-got}
 use Rattle.integrity_store.specs.Loads.{went_wanted}
 use Rattle.integrity_store.specs.Standing.{identity_of, Stands, IsMarked, Configures, listed, durables_by, records}
+use Rattle.integrity_store.specs.WaitingLists.{in_order}
 use Rattle.integrity_store.specs.Stores.{meanings_by, holdings_by, sound_is_told}
 
 true_is_false : true ≡ false → ⊥
@@ -92,9 +94,13 @@ last_after : (h : Held) (name : At) (reads trace : List Call) → AllReads h rea
 last_after h name [] trace all = refl
 last_after h name (call ∷ reads) trace all = ap (λ c. last_change name (c ∷ (reads ++ trace))) all.0.is ∙ last_after h name reads trace all.1
 
-last_went : (h : Held) (name : At) (a b : Option (List Call)) → Went h a b → last_told name b ≡ last_told name a
+pub last_went : (h : Held) (name : At) (a b : Option (List Call)) → Went h a b → last_told name b ≡ last_told name a
 last_went h name None b went = ap (last_told name) went
 last_went h name (Some t) b (reads, is, all) = ap (last_told name) is ∙ last_after h name reads t all
+
+goes_on : (h : Held) (a b : Option (List Call)) → Went h a b → GoesOn a b
+goes_on h None b went = went
+goes_on h (Some t) b (reads, is, all) = (reads, is)
 
 read_configured : (list : Changes) (a b : Option (List Call)) (bytes : List ℕ) → last_told config b ≡ last_told config a → IsConfigured list a bytes → IsConfigured list b bytes
 read_configured list a b bytes same (inl waits) = inl waits
@@ -120,12 +126,56 @@ changed_configures a b old new changes bytes x had has c =
     let before = configured_of a.state a.list old bytes had c in
     configures_of b.state b.list new bytes has (subst (λ t. IsConfigured b.list t bytes) (sym x.trace) (same_configured a.list b.list old bytes x.config before))
 
+-- ---- what opens, what is read, and what is marked
+
+-- of two that have the same record and identity
+same_held : (h k : Held) → HasRecord h.state h.list → HasRecord k.state k.list → identity_of k ≡ identity_of h → record_bytes h.state h.list ≡ record_bytes k.state k.list → k ≡ h
+same_held h k has had same is =
+    let reading = one_reading h.state k.state h.list k.list has had is in
+    let size : k.size ≡ h.size = ap (λ (d : Identity). d.size) same in
+    let opens : k.opens ≡ h.opens = ap (λ (d : Identity). d.opens) same in
+    let state : k.state ≡ h.state = sym reading.0 in
+    let list : k.list ≡ h.list = sym reading.1 in
+    λ i. record { size = size i; opens = opens i; state = state i; list = list i }
+
+pub opened_stands : (h : Held) (trace : Option (List Call)) (content : Content) → HasRecord h.state h.list → Stands (identity_of h) (record_bytes h.state h.list) trace content
+    → SoundBy h trace × SameContent content (wanted h trace)
+opened_stands h trace content has s =
+    let same = same_held h s.held has s.has_record s.same s.bytes in
+    (subst (λ k. SoundBy k trace) same s.sound, subst (λ k. SameContent content (wanted k trace)) same s.wants)
+
+got_stood : (identity : Identity) (kept : List ℕ) (trace : Option (List Call)) (content : Content) (name : At) (max : ℕ) (answer : Option (List ℕ)) → Stands identity kept trace content → Stands identity kept (adds trace (got name max answer)) content
+got_stood identity kept None content name max answer s = absurd s.sound
+got_stood identity kept (Some t) content name max answer s = record {
+  held = s.held;
+  same = s.same;
+  unmarked = s.unmarked;
+  has_record = s.has_record;
+  bytes = s.bytes;
+  sound = sound-got s.held t name max answer s.sound;
+  wants = s.wants;
+}
+
+got_configured : (list : Changes) (trace : Option (List Call)) (bytes : List ℕ) (name : At) (max : ℕ) (answer : Option (List ℕ)) → IsConfigured list trace bytes → IsConfigured list (adds trace (got name max answer)) bytes
+got_configured list None bytes name max answer c = c
+got_configured list (Some t) bytes name max answer c = c
+
+got_said : (kept : List ℕ) (trace : Option (List Call)) (bytes : List ℕ) (name : At) (max : ℕ) (answer : Option (List ℕ)) → Configures kept trace bytes → Configures kept (adds trace (got name max answer)) bytes
+got_said kept trace bytes name max answer c = record { state = c.state; list = c.list; has_record = c.has_record; is_record = c.is_record; configured = got_configured c.list trace bytes name max answer c.configured }
+
+marked_said : (kept : List ℕ) (trace : Option (List Call)) (bytes : List ℕ) → Configures kept trace bytes → Configures (with_mark kept) trace bytes
+marked_said kept trace bytes c = record { state = records_of.with_mark c.state; list = c.list; has_record = marked_has c.state c.list c.has_record; is_record = ap with_mark c.is_record; configured = c.configured }
+
 -- ---- the laws
 
 pub enduring_by : {S : Type 0} (held : S → Held) (trace : S → Option (List Call)) (faults : S → ℕ) (own : S → Type 0)
     → Enduring (meanings_by held trace faults own) (holdings_by held trace) (applied_by held trace) (durables_by held trace) records
 enduring_by held trace faults own = record {
   stands_now = λ s i sound unmarked. record { held = held s; same = refl; unmarked = unmarked; has_record = i.0.has_record; bytes = refl; sound = sound; wants = λ id. refl };
+  got_stands = got_stood;
+  got_configures = got_said;
+  marked_configures = marked_said;
+  applied_config = λ a b changes x. x.config;
   stands_same = same_stands;
   stands_unmarked = never_marked;
   marked = λ s with_list i. marked_record (held s).state (held s).list with_list i.0.has_record;
@@ -134,11 +184,14 @@ enduring_by held trace faults own = record {
   configured_now = λ s bytes i c. configured_of (held s).state (held s).list (trace s) bytes i.0.has_record c;
   loaded_identity = λ a b x. ap identity_of x.held;
   loaded_list = λ a b x. ap (λ h. h.list) x.held;
+  loaded_goes_on = λ a b x. goes_on (held a) (trace a) (trace b) x.trace;
+  loaded_last = λ a b name x. last_went (held a) name (trace a) (trace b) x.trace;
   loaded_records = λ a b with_list x. ap (λ h. record_bytes h.state (listed with_list h.list)) x.held;
   loaded_stands = λ a b identity kept content x s. read_stands (held a) (trace a) (trace b) identity kept content x.trace s;
   loaded_configures = λ a b kept bytes x c. read_configures (held a) (trace a) (trace b) kept bytes x.trace c;
   applied_identity = λ a b changes x. applied_same (held a) (held b) (trace a) (trace b) changes x;
   applied_trace = λ a b changes x. x.trace;
   applied_configures = λ a b changes bytes x i j c. changed_configures (held a) (held b) (trace a) (trace b) changes bytes x i.0.has_record j.0.has_record c;
+  in_order = λ s i. in_order (held s).state (held s).list i.0.has_record;
   nothing_waits = λ s none. ap (λ list. record_bytes (held s).state list) none;
 }

@@ -69,7 +69,7 @@ found_after h (Some t) b c why (xs, is, all) second found =
 past-got : (h : Held) (trace : List Call) (name : At) (max : ℕ) (answer : Option (List ℕ)) (r : Record) → IsPast h trace r → IsPast h (got name max answer ∷ trace) r
 past-got h trace name max answer r p = record { mark = p.mark; used = p.used; client = p.client; version = p.version; payload = p.payload }
 
-sound-got : (h : Held) (trace : List Call) (name : At) (max : ℕ) (answer : Option (List ℕ)) → SoundAt h trace → SoundAt h (got name max answer ∷ trace)
+pub sound-got : (h : Held) (trace : List Call) (name : At) (max : ℕ) (answer : Option (List ℕ)) → SoundAt h trace → SoundAt h (got name max answer ∷ trace)
 sound-got h trace name max answer s = record {
   waits = s.waits;
   stands = s.stands;

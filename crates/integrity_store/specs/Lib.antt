@@ -1,6 +1,7 @@
 pub mod Applied
 pub mod BlockRecords
 pub mod Draws
+pub mod ConfigReads
 pub mod Enduring
 pub mod Held
 pub mod Judges
@@ -12,3 +13,4 @@ pub mod Standing
 pub mod Stores
 pub mod Views
 pub mod WaitingLists
+pub mod Unused

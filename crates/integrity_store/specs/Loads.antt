@@ -1,7 +1,7 @@
 -- What a load of a live block leaves and answers.
-use Rattle.std.specs.Prelude.{◌≡◌, ◌⊎◌, ℕ, ◌+◌, ◌-◌, ◌≤◌, Bool, true, false, not, ◌&&◌, List, [], ◌∷◌, Vec, Result, length, take, drop, is_some, ◌==◌, nat_lt, nat_eq, if◌then◌else◌}
+use Rattle.std.specs.Prelude.{◌≡◌, ◌⊎◌, ℕ, ◌+◌, ◌-◌, ◌≤◌, Bool, true, false, not, ◌&&◌, List, [], ◌∷◌, ◌++◌, Vec, Result, length, take, drop, is_some, ◌==◌, nat_lt, nat_eq, if◌then◌else◌}
 use Rattle.std.proofs.Common.{refl, sym, ◌∙◌, ap, subst, inl, inr, arith, length-drop}
-use Rattle.std.proofs.lemmas.List.{take_all}
+use Rattle.std.proofs.lemmas.List.{take_all, append_cancel_right}
 use Rattle.std.proofs.lemmas.Bool.Decides.{Decides-eqb}
 use Rattle.std.proofs.lemmas.Slice.Eq.{bytes_eq-Decides}
 use Rattle.std.specs.Str.{bytes_eq}
@@ -14,25 +14,32 @@ use Rattle.block_id.specs.declared.fail.Why.{Why}
 use Rattle.block_id.specs.declared.fail.Why.TheVariants.{Missing, BadLength, BadPrefix, NotOpened, BadRecord, WrongId, ForeignClient, OldVersion, AheadVersion, Structure}
 use Rattle.block_id.specs.declared.fail.Fail.{Fail}
 use Rattle.block_id.specs.declared.fail.Fail.TheVariants.{Memory, Fault, Violation}
-use Rattle.outside.specs.Trace.{Call, got, block, adds}
+use Rattle.outside.specs.Trace.{Call, got, put, removed, config, block, adds}
 use Rattle.outside.specs.Changes.{cut}
+use Rattle.outside.specs.HonestLaws.{count_grows}
 use Rattle.outside.specs.Honest.{same_answer, is_left, is_lie, count_calls, count_told}
 use Rattle.outcome.specs.Meanings.{OnVerdict, IsCalm, IsOfBlocks}
 use Rattle.redo_vault.specs.Redo.{Gave}
 use Rattle.sealed_store.specs.BlockFiles.{Sight, absent, bad_length, bad_prefix, not_opened, plain, sight_in, sight_of_plain, opens_file, prefix}
 use Rattle.store_api.specs.Content.{SameIds, SameContent}
+use Rattle.store_api.specs.Loads.{Answer}
 use Rattle.integrity_store.specs.BlockRecords.{Record, fields_of, is_record, record_of, record_in, opened, Verdict, good, bad, judged_record, judged, verdict, payload_in}
-use Rattle.integrity_store.specs.Held.{Held, live_version, waiting, file_of, wanted, told_or_none, where_live, SoundAt, SoundBy, IsPast, Went, FoundSince, forged, was_put, own}
-use Rattle.integrity_store.specs.Laws.{went_same, wanted-reads, opened-plain, opens-length}
+use Rattle.integrity_store.specs.Held.{Held, live_version, waiting, file_of, wanted, told_or_none, where_live, SoundAt, SoundBy, IsPast, IsRead, AllReads, Among, Went, FoundSince, forged, was_put, own}
+use Rattle.integrity_store.specs.Laws.{went_same, sound-reads, wanted-reads, opened-plain, opens-length}
 
 -- a file came for this id, from the list or by one call
 abbrev pub Came : Held → Option (List Call) → Option (List Call) → List ℕ → Option (List ℕ) → Type 0
 Came h old new id file = Gave (waiting h id) old new (block id) (h.size + 1) file
 
+-- a fetch's answer as plain data
+abbrev pub fetched_of : Result (Vec ℕ Global) Fail → Result (List ℕ) Fail
+fetched_of (Ok payload) = Ok payload.items
+fetched_of (Err fail) = Err fail
+
 -- of a live id at this version: a payload or a reason by the verdict on what came; a fault without an answer; want of memory before or after one
-abbrev pub Fetched : Held → Option (List Call) → Option (List Call) → List ℕ → ℕ → Result (Vec ℕ Global) Fail → Type 0
+abbrev pub Fetched : Held → Option (List Call) → Option (List Call) → List ℕ → ℕ → Result (List ℕ) Fail → Type 0
 Fetched h old new id version (Ok payload) =
-    (file : Option (List ℕ)) × Came h old new id file × (verdict h.opens h.size id h.state.client version file ≡ good payload.items)
+    (file : Option (List ℕ)) × Came h old new id file × (verdict h.opens h.size id h.state.client version file ≡ good payload)
 Fetched h old new id version (Err Memory) = (new ≡ old) ⊎ ((file : Option (List ℕ)) × Came h old new id file)
 Fetched h old new id version (Err Fault) = new ≡ old
 Fetched h old new id version (Err (Violation why)) =
@@ -76,7 +83,7 @@ came_went h old new id version file live came =
       | None ↦ λ e f. went_one h old new id version file live e f
     ] refl came
 
-pub fetched_went : (h : Held) (old new : Option (List Call)) (id : List ℕ) (version : ℕ) (r : Result (Vec ℕ Global) Fail) → live_version h id ≡ Some version
+pub fetched_went : (h : Held) (old new : Option (List Call)) (id : List ℕ) (version : ℕ) (r : Result (List ℕ) Fail) → live_version h id ≡ Some version
     → Fetched h old new id version r → Went h old new
 fetched_went h old new id version (Ok payload) live f = came_went h old new id version f.0 live f.1
 fetched_went h old new id version (Err Memory) live (inl same) = subst (Went h old) (sym same) (went_same h old)
@@ -252,6 +259,46 @@ came_alarm h (Some t) new id version file why live came is sound few =
           bad_is_good (sym is ∙ ap (verdict h.opens h.size id h.state.client version) whole ∙ opened_good h.opens h.size id h.state.client version bytes payload o)
     ] refl came
 
+-- the id of a block that was asked for
+asked_id : Call → List ℕ
+asked_id (got config max answer) = []
+asked_id (got (block id) max answer) = id
+asked_id (put name bytes ok) = []
+asked_id (removed name ok) = []
+
+some_trace : {a b : List Call} → Some a ≡ Some b → a ≡ b
+some_trace e = cc
+
+read_waits : (h : Held) (call : Call) (id : List ℕ) (max : ℕ) (file : Option (List ℕ)) → IsRead h call → call ≡ got (block id) max file → waiting h id ≡ None
+unfolding asked_id
+read_waits h call id max file r is =
+    let same : id ≡ r.id = ap asked_id (sym is ∙ r.is) in
+    subst (λ id. waiting h id ≡ None) (sym same) r.written
+
+-- no read of a sound store over an honest directory gave a file that is wrong
+among_good : (h : Held) (t reads : List Call) (id : List ℕ) (version : ℕ) (file : Option (List ℕ)) (why : Why) → live_version h id ≡ Some version → AllReads h reads → SoundAt h t
+    → count_calls is_lie (reads ++ t) ≤ count_calls is_lie t → verdict h.opens h.size id h.state.client version file ≡ bad why → Among reads (got (block id) (h.size + 1) file) → ⊥
+among_good h t [] id version file why live all sound few wrong among = among
+among_good h t (call ∷ reads) id version file why live all sound few wrong (inl is) =
+    let few' : count_calls is_lie (call ∷ reads ++ t) ≤ count_calls is_lie (reads ++ t) = omega (arith, few, count_grows is_lie t reads) in
+    let came : Came h (Some (reads ++ t)) (Some (call ∷ reads ++ t)) id file
+    = subst (λ w. Gave w (Some (reads ++ t)) (Some (call ∷ reads ++ t)) (block id) (h.size + 1) file) (sym (read_waits h call id (h.size + 1) file all.0 is)) (ap (λ c. Some (c ∷ reads ++ t)) is) in
+    came_alarm h (Some (reads ++ t)) (Some (call ∷ reads ++ t)) id version file why live came wrong (sound-reads h h t reads all.1 sound) few'
+among_good h t (call ∷ reads) id version file why live all sound few wrong (inr later) =
+    among_good h t reads id version file why live all.1 sound (omega (arith, few)) wrong later
+
+-- where the directory gave what was last written, nothing was found wrong
+pub found_unmet : (h : Held) (t u : Option (List Call)) (why : Why) → Went h t u → SoundBy h t → count_told is_lie u ≤ count_told is_lie t → FoundSince h t u why → ⊥
+found_unmet h None u why went sound few found = sound
+found_unmet h (Some t) u why (reads, is, all) sound few (others, is', f) =
+    let same : others ≡ reads = append_cancel_right others reads t (some_trace (sym is' ∙ is)) in
+    let few' : count_calls is_lie (reads ++ t) ≤ count_calls is_lie t = rw is at few in
+    elim f.came [
+      | inl (change, waits, file) ↦ came_alarm h (Some t) (Some t) f.id f.version f.file why f.live
+          (subst (λ w. Gave w (Some t) (Some t) (block f.id) (h.size + 1) f.file) (sym waits) (refl, file)) f.wrong sound (omega arith)
+      | inr among ↦ among_good h t reads f.id f.version f.file why f.live all sound few' f.wrong (subst (λ calls. Among calls (got (block f.id) (h.size + 1) f.file)) same among)
+    ]
+
 -- what is wrong was found
 came_met : (h : Held) (old new : Option (List Call)) (id : List ℕ) (version : ℕ) (file : Option (List ℕ)) (why : Why) → live_version h id ≡ Some version
     → Came h old new id file → verdict h.opens h.size id h.state.client version file ≡ bad why → FoundSince h old new why
@@ -374,11 +421,39 @@ fetched_of_blocks h old new id version Fault f = tt
 fetched_of_blocks h old new id version (Violation why) f =
     of_blocks why (λ e. judged_structure h.size id h.state.client version (sight_in h.opens h.size f.0) (f.2 ∙ ap bad e))
 
-pub fetched_value : (h : Held) (old new : Option (List Call)) (id : List ℕ) (version : ℕ) (payload : Vec ℕ Global) → live_version h id ≡ Some version
+pub fetched_value : (h : Held) (old new : Option (List Call)) (id : List ℕ) (version : ℕ) (payload : List ℕ) → live_version h id ≡ Some version
     → Fetched h old new id version (Ok payload) → SoundBy h old → count_told (forged h.opens h.size) new ≤ count_told (forged h.opens h.size) old
-    → Some payload.items ≡ wanted h old id
-fetched_value h old new id version payload live f sound few = sym (came_value h old new id version f.0 payload.items live f.1 f.2 sound few)
+    → Some payload ≡ wanted h old id
+fetched_value h old new id version payload live f sound few = sym (came_value h old new id version f.0 payload live f.1 f.2 sound few)
 
-pub fetched_len : (h : Held) (old new : Option (List Call)) (id : List ℕ) (version : ℕ) (payload : Vec ℕ Global)
-    → Fetched h old new id version (Ok payload) → length payload.items ≡ h.size - 78
-fetched_len h old new id version payload f = came_len h.opens h.size id h.state.client version f.0 payload.items f.2
+pub fetched_len : (h : Held) (old new : Option (List Call)) (id : List ℕ) (version : ℕ) (payload : List ℕ)
+    → Fetched h old new id version (Ok payload) → length payload ≡ h.size - 78
+fetched_len h old new id version payload f = came_len h.opens h.size id h.state.client version f.0 payload f.2
+
+-- what a load of an id answers: none where it doesn't live, without a call; else by the verdict on what came
+abbrev pub Answers : Held → Option (List Call) → Option (List Call) → List ℕ → Option ℕ → Answer → Type 0
+Answers h old new id None (Ok None) = new ≡ old
+Answers h old new id None (Ok (Some payload)) = ⊥
+Answers h old new id None (Err e) = ⊥
+Answers h old new id (Some version) (Ok None) = ⊥
+Answers h old new id (Some version) (Ok (Some payload)) = Fetched h old new id version (Ok payload)
+Answers h old new id (Some version) (Err e) = Fetched h old new id version (Err e)
+
+-- a load leaves what is held, and answers by the verdict
+pub record Loads (a b : Held) (old new : Option (List Call)) (id : List ℕ) (answer : Answer) : Type 0 where
+  pub held : b ≡ a
+  pub judged : Answers a old new id (live_version a id) answer
+
+abbrev pub loads_by : {S : Type 0} → (S → Held) → (S → Option (List Call)) → S → S → List ℕ → Answer → Type 0
+loads_by held trace a b id answer = Loads (held a) (held b) (trace a) (trace b) id answer
+
+pub loads_none : (h : Held) (old : Option (List Call)) (id : List ℕ) → live_version h id ≡ None → Loads h h old old id (Ok None)
+loads_none h old id live = record { held = refl; judged = subst (λ v. Answers h old old id v (Ok None)) (sym live) refl }
+
+pub loads_ok : (a b : Held) (old new : Option (List Call)) (id : List ℕ) (version : ℕ) (payload : List ℕ) → b ≡ a → live_version a id ≡ Some version → Fetched a old new id version (Ok payload)
+    → Loads a b old new id (Ok (Some payload))
+loads_ok a b old new id version payload same live f = record { held = same; judged = subst (λ v. Answers a old new id v (Ok (Some payload))) (sym live) f }
+
+pub loads_err : (a b : Held) (old new : Option (List Call)) (id : List ℕ) (version : ℕ) (e : Fail) → b ≡ a → live_version a id ≡ Some version → Fetched a old new id version (Err e)
+    → Loads a b old new id (Err e)
+loads_err a b old new id version e same live f = record { held = same; judged = subst (λ v. Answers a old new id v (Err e)) (sym live) f }

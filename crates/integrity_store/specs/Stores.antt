@@ -20,7 +20,7 @@ use Rattle.store_api.specs.Holdings.{Holdings, Steady, Stays, IsFew, has_id}
 use Rattle.integrity_store.specs.BlockRecords.{Record, opened, payload_of, payload_in}
 use Rattle.integrity_store.specs.Held.{Held, live_version, version_if_live, file_of, wanted, told_or_none, where_live, SoundBy, Went, FoundSince, forged}
 use Rattle.integrity_store.specs.Laws.{went_same, went_on, went_count, went_honest, found_before, found_after, opened-plain}
-use Rattle.integrity_store.specs.Loads.{wanted_ids, went_wanted, went_told, record-length}
+use Rattle.integrity_store.specs.Loads.{wanted_ids, went_wanted, went_told, found_unmet, record-length}
 use Rattle.integrity_store.specs.WaitingLists.{IsNoBlock}
 
 -- a block size within its limits, a state and a list that have a record, and no block's file that waits as the configuration
@@ -90,6 +90,9 @@ only_honest : (a b : Held) (t u : Option (List Call)) (f g : ℕ) → OnlyRead a
 only_honest a b t u f g x sound few =
     subst (λ s. count_told (forged s.opens s.size) u ≤ count_told (forged a.opens a.size) t) (sym x.held) (went_honest a t u x.trace sound few)
 
+only_unmet : (a b : Held) (t u : Option (List Call)) (f g : ℕ) (why : Why) → OnlyRead a b t u f g → SoundBy a t → count_told is_lie u ≤ count_told is_lie t → FoundSince a t u why → ⊥
+only_unmet a b t u f g why x sound few found = found_unmet a t u why x.trace sound few found
+
 pub lawful_by : {S : Type 0} (held : S → Held) (trace : S → Option (List Call)) (faults : S → ℕ) (own : S → Type 0) → Lawful (meanings_by held trace faults own)
 lawful_by held trace faults own = record {
   same = λ a. record { held = refl; trace = went_same (held a) (trace a); faults = omega arith };
@@ -100,6 +103,7 @@ lawful_by held trace faults own = record {
   lies_grow = λ a b x. went_count is_lie _ _ _ x.trace;
   faults_grow = λ a b x. x.faults;
   honest_unforged = λ a b x s l. only_honest _ _ _ _ _ _ x s l;
+  honest_unmet = λ a b why x s l m. only_unmet _ _ _ _ _ _ why x s l m;
 }
 
 -- ---- what is steady
@@ -121,6 +125,10 @@ live_known (Some mark) payload e = refl
 
 wanted_used : (h : Held) (t : Option (List Call)) (id : Id) → is_some (wanted h t id) ≡ true → has_id (fin.keys h.state.marks) id ≡ true
 wanted_used h t id e = has-keys h id ∙ live_known (fin.get h.state.marks id) (payload_in h.opens h.size (file_of h (told_or_none t) id)) e
+
+last_known : (mark : Option Mark) → is_last mark ≡ true → is_some mark ≡ true
+last_known None e = e
+last_known (Some mark) e = refl
 
 zero_free : (h : Held) → FitMarks h.state.marks → has_id (fin.keys h.state.marks) zero_id ≡ false
 zero_free h fits = has-keys h zero_id ∙ elim (fin.get h.state.marks zero_id) as (λ m. fin.get h.state.marks zero_id ≡ m → is_some m ≡ false) [
@@ -155,6 +163,8 @@ steady_by held trace faults own = record {
   content_used = λ a id i e. wanted_used (held a) (trace a) id e;
   zero_unused = λ a i. zero_free (held a) i.0.has_record.state.marks;
   sized = λ a id bytes i told e. wanted_len (held a) (trace a) id bytes e;
+  spent_used = λ a id i e. has-keys (held a) id ∙ last_known (fin.get (held a).state.marks id) e;
+  loaded_payload = λ a b x. ap (λ h. h.size - 78) x.held;
 }
 
 -- where blocks were only loaded, the store holds what it held

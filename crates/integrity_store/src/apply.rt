@@ -2,6 +2,7 @@
 ghost use Rattle.std.specs.Prelude.{◌≡◌, ◌≤◌, ◌↔◌, OnOk, OnErr};
 ghost use Rattle.std.specs.declared.result.Result.TheVariants.{Err};
 ghost use Rattle.std.specs.List.{AllByRecursion};
+ghost use Rattle.std.specs.FinMap as fin;
 ghost use Rattle.sealed_store.specs.Stores.{IsIntact, block_size_of, key_of, cipher_of};
 ghost use Rattle.store_api.specs.Entries.{entries_of};
 ghost use Rattle.store_api.specs.Holdings.{Fits, Changed, IsSpent};
@@ -10,7 +11,7 @@ ghost use Rattle.integrity_store.specs.Draws.{AreDrawn};
 ghost use Rattle.integrity_store.specs.Marking.{count_new_in};
 ghost use Rattle.integrity_store.specs.Sealing.{MaySeal, IsListed};
 ghost use Rattle.integrity_store.specs.Stores.{settled_by};
-ghost use Rattle.integrity_store.specs.Views.{held_of};
+ghost use Rattle.integrity_store.specs.Views.{held_by};
 
 use crate::IntegrityStore;
 use crate::marking::{count_new, mark_all, some_spent};
@@ -31,14 +32,14 @@ impl<V: Vault, C: Sealer> IntegrityStore<V, C> {
         chance: &mut R,
     ) -> Result<(), Memory>
         requires intact { ⟦<IntegrityStore<V, C> as Blocks>⟧.meanings.intact self.old }
-        requires may { AllByRecursion (MaySeal (held_of (C.opens (cipher_of self.old.sealed) (key_of self.old.sealed)) self.old.sealed self.old.state)) (entries_of entries.now) }
+        requires may { AllByRecursion (MaySeal (held_by C.opens self.old)) (entries_of entries.now) }
         ensures intact { IsIntact (block_size_of self.new.sealed) (C.iv_size (cipher_of self.new.sealed)) }
         ensures vault { self.new.sealed.vault.vault ≡ self.old.sealed.vault.vault }
         ensures room { OnOk result (count_new_in self.new.state.known.marks (entries_of entries.now) ≤ self.new.state.known.spare) }
-        ensures listed { OnOk result (IsListed (held_of (C.opens (cipher_of self.old.sealed) (key_of self.old.sealed)) self.old.sealed self.old.state)
-            (held_of (C.opens (cipher_of self.new.sealed) (key_of self.new.sealed)) self.new.sealed self.new.state) (entries_of entries.now) (R.stream chance.old) (R.stream chance.new)) }
-        ensures held { OnErr result (held_of (C.opens (cipher_of self.new.sealed) (key_of self.new.sealed)) self.new.sealed self.new.state
-            ≡ held_of (C.opens (cipher_of self.old.sealed) (key_of self.old.sealed)) self.old.sealed self.old.state) }
+        ensures listed { OnOk result (IsListed (held_by C.opens self.old)
+            (held_by C.opens self.new) (entries_of entries.now) (R.stream chance.old) (R.stream chance.new)) }
+        ensures held { OnErr result (held_by C.opens self.new
+            ≡ held_by C.opens self.old) }
     {
         let new_ids = count_new(&self.state.known, entries);
         self.state.known.reserve(new_ids)?;
@@ -48,7 +49,9 @@ impl<V: Vault, C: Sealer> IntegrityStore<V, C> {
 }
 
 impl<V: Vault, C: Sealer> BlocksMut for IntegrityStore<V, C> {
-    ghost applied = { applied_by (λ s. held_of (C.opens (cipher_of s.sealed) (key_of s.sealed)) s.sealed s.state) (λ s. V.trace s.sealed.vault.vault) };
+    ghost applied = { applied_by (held_by C.opens) (λ s. V.trace s.sealed.vault.vault) };
+
+    ghost drawn = { λ a b changes stream left. AreDrawn changes (held_by C.opens b).list stream left };
 
     /// The IV of each payload's file is drawn by one fill of 16 bytes, by rising ids.
     fn apply<R: Rng>(
@@ -61,15 +64,15 @@ impl<V: Vault, C: Sealer> BlocksMut for IntegrityStore<V, C> {
         requires fits { Fits ⟦<IntegrityStore<V, C> as Blocks>⟧.holdings self.old batch.now }
         ensures intact { ⟦<IntegrityStore<V, C> as Blocks>⟧.meanings.intact self.new }
         ensures changed { OnOk result (Changed ⟦<IntegrityStore<V, C> as Blocks>⟧.meanings ⟦<IntegrityStore<V, C> as Blocks>⟧.holdings self.old self.new batch.now) }
-        ensures applied { OnOk result (applied_by (λ s. held_of (C.opens (cipher_of s.sealed) (key_of s.sealed)) s.sealed s.state) (λ s. V.trace s.sealed.vault.vault) self.old self.new batch.now) }
+        ensures applied { OnOk result (applied_by (held_by C.opens) (λ s. V.trace s.sealed.vault.vault) self.old self.new batch.now) }
+        ensures drawn { OnOk result (AreDrawn batch.now (held_by C.opens self.new).list (R.stream chance.old) (R.stream chance.new)) }
+        ensures nothing { OnErr result (applied_by (held_by C.opens) (λ s. V.trace s.sealed.vault.vault) self.old self.new fin.empty) }
         ensures forgeries { ⟦<IntegrityStore<V, C> as Blocks>⟧.meanings.forgeries self.new ≡ ⟦<IntegrityStore<V, C> as Blocks>⟧.meanings.forgeries self.old }
         ensures lies { ⟦<IntegrityStore<V, C> as Blocks>⟧.meanings.lies self.new ≡ ⟦<IntegrityStore<V, C> as Blocks>⟧.meanings.lies self.old }
         ensures faults { ⟦<IntegrityStore<V, C> as Blocks>⟧.meanings.faults self.new ≡ ⟦<IntegrityStore<V, C> as Blocks>⟧.meanings.faults self.old }
         ensures spent { (result ≡ Err ApplyError.Spent) ↔ IsSpent ⟦<IntegrityStore<V, C> as Blocks>⟧.holdings self.old batch.now }
         ensures loaded { OnErr result (⟦<IntegrityStore<V, C> as Blocks>⟧.meanings.loaded self.old self.new) }
         ensures sound { OnErr result (⟦<IntegrityStore<V, C> as Blocks>⟧.meanings.sound self.old → ⟦<IntegrityStore<V, C> as Blocks>⟧.meanings.sound self.new) }
-
-        ensures drawn { OnOk result (AreDrawn batch.now self.new.sealed.vault.list (R.stream chance.old) (R.stream chance.new)) }
     {
         let entries = batch.entries();
         if some_spent(&self.state.known, entries) {
@@ -87,6 +90,6 @@ impl<V: Vault, C: Sealer> BlocksMut for IntegrityStore<V, C> {
         }
     }
 
-    ghost settled = { settled_by (λ s. held_of (C.opens (cipher_of s.sealed) (key_of s.sealed)) s.sealed s.state) (λ s. V.trace s.sealed.vault.vault)
+    ghost settled = { settled_by (held_by C.opens) (λ s. V.trace s.sealed.vault.vault)
         (λ s. V.faults s.sealed.vault.vault) };
 }

@@ -7,7 +7,7 @@ ghost use Rattle.outside.specs.View.{list_of};
 ghost use Rattle.sealed_store.specs.Stores.{IsIntact, block_size_of, key_of, cipher_of};
 ghost use Rattle.integrity_store.specs.Enduring.{enduring_by};
 ghost use Rattle.integrity_store.specs.Standing.{durables_by, records, listed};
-ghost use Rattle.integrity_store.specs.Views.{held_of};
+ghost use Rattle.integrity_store.specs.Views.{held_by};
 
 use crate::IntegrityStore;
 use block_id::Memory;
@@ -56,7 +56,7 @@ impl<V: Vault, C: Sealer> IntegrityStore<V, C> {
 }
 
 impl<V: Vault, C: Sealer> Durable for IntegrityStore<V, C> {
-    ghost durables = { durables_by (λ s. held_of (C.opens (cipher_of s.sealed) (key_of s.sealed)) s.sealed s.state) (λ s. V.trace s.sealed.vault.vault) };
+    ghost durables = { durables_by (held_by C.opens) (λ s. V.trace s.sealed.vault.vault) };
 
     ghost records = { records };
 
@@ -77,6 +77,6 @@ impl<V: Vault, C: Sealer> Durable for IntegrityStore<V, C> {
         self.sealed.vault.write_out(alloc)
     }
 
-    ghost enduring = { enduring_by (λ s. held_of (C.opens (cipher_of s.sealed) (key_of s.sealed)) s.sealed s.state) (λ s. V.trace s.sealed.vault.vault)
+    ghost enduring = { enduring_by (held_by C.opens) (λ s. V.trace s.sealed.vault.vault)
         (λ s. V.faults s.sealed.vault.vault) (λ s. IsIntact (block_size_of s.sealed) (C.iv_size (cipher_of s.sealed))) };
 }

@@ -4,12 +4,14 @@
 
 mod apply;
 mod durable;
+mod laws;
 mod marking;
 mod record;
 mod sealing;
 mod store;
 mod writing;
 
+pub use laws::config_is_no_block;
 pub use store::IntegrityStore;
 
 #[cfg(test)]

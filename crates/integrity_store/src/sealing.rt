@@ -44,9 +44,9 @@ fn seal<V: Vault, C: Sealer, R: Rng>(
 ) -> Result<Vec<u8>, Memory>
     requires intact { IsIntact (block_size_of sealed.now) (C.iv_size (cipher_of sealed.now)) }
     requires client { 0 < state.now.client }
-    requires may { MaySealAt (held_of (C.opens (cipher_of sealed.now) (key_of sealed.now)) sealed.now state.now) payload.now (fin.get state.now.known.marks id.now.0) }
-    ensures opens { IfOk result (λ file. IsRaised (held_of (C.opens (cipher_of sealed.now) (key_of sealed.now)) sealed.now state.now)
-        (held_of (C.opens (cipher_of sealed.now) (key_of sealed.now)) sealed.now state.now) id.now.0 payload.now file.items) }
+    requires may { MaySealAt (held_of C.opens sealed.now state.now) payload.now (fin.get state.now.known.marks id.now.0) }
+    ensures opens { IfOk result (λ file. IsRaised (held_of C.opens sealed.now state.now)
+        (held_of C.opens sealed.now state.now) id.now.0 payload.now file.items) }
     ensures iv { IfOk result (λ file. iv_in file.items ≡ drawn_iv (R.stream chance.old)) }
     ensures stream { IfOk result (λ _. R.stream chance.new ≡ stream_after (Some payload.now) (R.stream chance.old)) }
 {
@@ -67,8 +67,8 @@ fn seal_entry<V: Vault, C: Sealer, R: Rng>(
 ) -> Result<Change, Memory>
     requires intact { IsIntact (block_size_of sealed.now) (C.iv_size (cipher_of sealed.now)) }
     requires client { 0 < state.now.client }
-    requires may { MaySeal (held_of (C.opens (cipher_of sealed.now) (key_of sealed.now)) sealed.now state.now) (entry_view entry.now) }
-    ensures change { IfOk result (λ change. IsMadeOf (held_of (C.opens (cipher_of sealed.now) (key_of sealed.now)) sealed.now state.now)
+    requires may { MaySeal (held_of C.opens sealed.now state.now) (entry_view entry.now) }
+    ensures change { IfOk result (λ change. IsMadeOf (held_of C.opens sealed.now state.now)
         (entry_view entry.now).0 (entry_view entry.now).1 (R.stream chance.old) (change_of change)) }
     ensures stream { IfOk result (λ _. R.stream chance.new ≡ stream_after (entry_view entry.now).1 (R.stream chance.old)) }
 {
@@ -91,8 +91,8 @@ pub(crate) fn seal_all<V: Vault, C: Sealer, R: Rng>(
 ) -> Result<Vec<Pending>, Memory>
     requires intact { IsIntact (block_size_of sealed.now) (C.iv_size (cipher_of sealed.now)) }
     requires client { 0 < state.now.client }
-    requires may { AllByRecursion (MaySeal (held_of (C.opens (cipher_of sealed.now) (key_of sealed.now)) sealed.now state.now)) (entries_of entries.now) }
-    ensures { IfOk result (λ changes. AreMadeOf (held_of (C.opens (cipher_of sealed.now) (key_of sealed.now)) sealed.now state.now)
+    requires may { AllByRecursion (MaySeal (held_of C.opens sealed.now state.now)) (entries_of entries.now) }
+    ensures { IfOk result (λ changes. AreMadeOf (held_of C.opens sealed.now state.now)
         (entries_of entries.now) (R.stream chance.old) (list_of changes.items) (R.stream chance.new)) }
 {
     let mut changes = Vec::new(alloc);

@@ -1,15 +1,21 @@
 // The store of blocks.
-ghost use Rattle.std.specs.Prelude.{◌≡◌, ◌≤◌, IfErr};
-ghost use Rattle.outcome.specs.Meanings.{HasCause};
+ghost use Rattle.std.specs.Prelude.{◌≡◌, ◌≤◌, ◌-◌, Bool, true, IfOk, IfErr, IfSome, length, is_some};
+ghost use Rattle.outside.specs.View.{bytes_of};
+ghost use Rattle.outcome.specs.Outcome.{Outcome};
+ghost use Rattle.outcome.specs.Meanings.{HasCause, IsOfBlocks, IsQuiet};
 ghost use Rattle.outside.specs.Trace.{config};
 ghost use Rattle.outside.specs.Changes.{change_at};
-ghost use Rattle.local_state.specs.Record.{plain_state, HasRecord};
-ghost use Rattle.store_api.specs.Holdings.{IsFew};
+ghost use Rattle.local_state.specs.Record.{plain_state, record_bytes, HasRecord};
+ghost use Rattle.store_api.specs.Content.{Content, SameContent};
+ghost use Rattle.store_api.specs.Holdings.{IsFew, Stays};
+ghost use Rattle.store_api.specs.Loads.{answer_of};
 ghost use Rattle.sealed_store.specs.Stores.{IsIntact, block_size_of, key_of, cipher_of};
 ghost use Rattle.integrity_store.specs.Held.{version_if_live};
-ghost use Rattle.integrity_store.specs.Loads.{Fetched};
+ghost use Rattle.integrity_store.specs.Loads.{Fetched, fetched_of, loads_by};
 ghost use Rattle.integrity_store.specs.Stores.{meanings_by, holdings_by, lawful_by, steady_by};
-ghost use Rattle.integrity_store.specs.Views.{held_of};
+ghost use Rattle.integrity_store.specs.Standing.{identity_of, listed};
+ghost use Rattle.integrity_store.specs.Views.{held_of, held_by};
+ghost use Rattle.integrity_store.specs.Unused.{IsUntouched};
 ghost use Rattle.integrity_store.specs.WaitingLists.{IsNoBlock};
 ghost use Rattle.std.specs.FinMap as fin;
 
@@ -20,7 +26,7 @@ use outside::{GetFail, Vault};
 use seal_api::Sealer;
 use sealed_store::SealedStore;
 use std::alloc::Global;
-use store_api::Blocks;
+use store_api::{Blocks, Durable};
 
 /// Payloads under ids in a directory of sealed files, with what the client knows of them. Each live block has a
 /// version, by which an older or newer file is noticed.
@@ -31,7 +37,7 @@ pub struct IntegrityStore<V, C> {
 }
 
 // The version of a live id.
-fn live_version(known: &Known, id: &BlockId) -> Option<u64>
+fn version_of_live(known: &Known, id: &BlockId) -> Option<u64>
     ensures { result ≡ version_if_live (fin.get known.now.marks id.now.0) }
 {
     if known.is_live(id) {
@@ -49,8 +55,17 @@ impl<V: Vault, C: Sealer> IntegrityStore<V, C> {
         requires config { IsNoBlock (change_at config sealed.vault.list) }
         ensures intact { ⟦<IntegrityStore<V, C> as Blocks>⟧.meanings.intact result }
         ensures few { IsFew (⟦<IntegrityStore<V, C> as Blocks>⟧.holdings.used result) }
-        ensures sealed { result.sealed ≡ sealed }
-        ensures state { result.state ≡ state }
+        ensures identity { ⟦<IntegrityStore<V, C> as Durable>⟧.durables.identity result ≡ identity_of (held_of C.opens sealed state) }
+        ensures list { ⟦<IntegrityStore<V, C> as Durable>⟧.durables.list result ≡ sealed.vault.list }
+        ensures trace { ⟦<IntegrityStore<V, C> as Durable>⟧.durables.trace result ≡ V.trace sealed.vault.vault }
+        ensures records { (with_list : Bool) → ⟦<IntegrityStore<V, C> as Durable>⟧.durables.record_of result with_list ≡ record_bytes (plain_state state) (listed with_list sealed.vault.list) }
+        ensures used { ⟦<IntegrityStore<V, C> as Blocks>⟧.holdings.used result ≡ fin.keys (plain_state state).marks }
+        ensures payload { ⟦<IntegrityStore<V, C> as Blocks>⟧.holdings.payload result ≡ block_size_of sealed - 78 }
+        ensures faults { ⟦<IntegrityStore<V, C> as Blocks>⟧.meanings.faults result ≡ V.faults sealed.vault.vault }
+        ensures fresh { (plain_state state).marks ≡ fin.empty → IsUntouched (V.trace sealed.vault.vault) → ⟦<IntegrityStore<V, C> as Blocks>⟧.meanings.sound result }
+        ensures opened { (content : Content) → ⟦<IntegrityStore<V, C> as Durable>⟧.records.stands (⟦<IntegrityStore<V, C> as Durable>⟧.durables.identity result)
+            (⟦<IntegrityStore<V, C> as Durable>⟧.durables.record_of result true) (⟦<IntegrityStore<V, C> as Durable>⟧.durables.trace result) content
+            → ⟦<IntegrityStore<V, C> as Blocks>⟧.meanings.sound result × SameContent content (⟦<IntegrityStore<V, C> as Blocks>⟧.holdings.content result) }
     {
         IntegrityStore { sealed, state }
     }
@@ -66,7 +81,9 @@ impl<V: Vault, C: Sealer> IntegrityStore<V, C> {
     pub fn into_vault(self) -> V
     where
         C: Drop,
-        ensures { result ≡ self.sealed.vault.vault }
+        ensures vault { result ≡ self.sealed.vault.vault }
+        ensures trace { V.trace result ≡ ⟦<IntegrityStore<V, C> as Durable>⟧.durables.trace self }
+        ensures faults { V.faults result ≡ ⟦<IntegrityStore<V, C> as Blocks>⟧.meanings.faults self }
     {
         let IntegrityStore { sealed, state } = self;
         drop(state);
@@ -76,12 +93,11 @@ impl<V: Vault, C: Sealer> IntegrityStore<V, C> {
     // The payload of a live id at its version.
     fn fetch(&mut self, alloc: Global, id: &BlockId, known: u64) -> Result<Vec<u8>, Fail>
         requires { ⟦<IntegrityStore<V, C> as Blocks>⟧.meanings.intact self.old }
-        ensures fetched { Fetched (held_of (C.opens (cipher_of self.old.sealed) (key_of self.old.sealed)) self.old.sealed self.old.state)
-            (V.trace self.old.sealed.vault.vault) (V.trace self.new.sealed.vault.vault) id.now.0 known result }
-        ensures held { held_of (C.opens (cipher_of self.new.sealed) (key_of self.new.sealed)) self.new.sealed self.new.state
-            ≡ held_of (C.opens (cipher_of self.old.sealed) (key_of self.old.sealed)) self.old.sealed self.old.state }
+        ensures fetched { Fetched (held_by C.opens self.old) (V.trace self.old.sealed.vault.vault) (V.trace self.new.sealed.vault.vault) id.now.0 known (fetched_of result) }
+        ensures held { held_by C.opens self.new ≡ held_by C.opens self.old }
         ensures intact { ⟦<IntegrityStore<V, C> as Blocks>⟧.meanings.intact self.new }
         ensures faults { V.faults self.old.sealed.vault.vault ≤ V.faults self.new.sealed.vault.vault }
+        ensures quiet { IsQuiet result (V.faults self.old.sealed.vault.vault) (V.faults self.new.sealed.vault.vault) }
         ensures cause { IfErr result (λ e. HasCause e (V.faults self.old.sealed.vault.vault) (V.faults self.new.sealed.vault.vault)) }
     {
         let size = self.sealed.block_size();
@@ -94,13 +110,23 @@ impl<V: Vault, C: Sealer> IntegrityStore<V, C> {
 }
 
 impl<V: Vault, C: Sealer> Blocks for IntegrityStore<V, C> {
-    ghost meanings = { meanings_by (λ s. held_of (C.opens (cipher_of s.sealed) (key_of s.sealed)) s.sealed s.state) (λ s. V.trace s.sealed.vault.vault)
+    ghost meanings = { meanings_by (held_by C.opens) (λ s. V.trace s.sealed.vault.vault)
         (λ s. V.faults s.sealed.vault.vault) (λ s. IsIntact (block_size_of s.sealed) (C.iv_size (cipher_of s.sealed))) };
 
-    ghost holdings = { holdings_by (λ s. held_of (C.opens (cipher_of s.sealed) (key_of s.sealed)) s.sealed s.state) (λ s. V.trace s.sealed.vault.vault) };
+    ghost holdings = { holdings_by (held_by C.opens) (λ s. V.trace s.sealed.vault.vault) };
 
-    fn load(&mut self, alloc: Global, id: &BlockId) -> Result<Option<Vec<u8>>, Fail> {
-        match live_version(&self.state.known, id) {
+    ghost loads = { loads_by (held_by C.opens) (λ s. V.trace s.sealed.vault.vault) };
+
+    fn load(&mut self, alloc: Global, id: &BlockId) -> Result<Option<Vec<u8>>, Fail>
+        requires { ⟦<IntegrityStore<V, C> as Blocks>⟧.meanings.intact self.old }
+        ensures outcome { Outcome ⟦<IntegrityStore<V, C> as Blocks>⟧.meanings Unit self.old self.new result (λ _ answer. bytes_of answer ≡ ⟦<IntegrityStore<V, C> as Blocks>⟧.holdings.content self.old id.now.0) }
+        ensures stays { Stays ⟦<IntegrityStore<V, C> as Blocks>⟧.holdings self.old self.new }
+        ensures of_blocks { IfErr result IsOfBlocks }
+        ensures none { IfOk result (λ answer. is_some answer ≡ is_some (⟦<IntegrityStore<V, C> as Blocks>⟧.holdings.content self.old id.now.0)) }
+        ensures sized { IfOk result (λ answer. IfSome answer (λ bytes. length bytes.items ≡ ⟦<IntegrityStore<V, C> as Blocks>⟧.holdings.payload self.old)) }
+        ensures loads { loads_by (held_by C.opens) (λ s. V.trace s.sealed.vault.vault) self.old self.new id.now.0 (answer_of result) }
+    {
+        match version_of_live(&self.state.known, id) {
             None => Ok(None),
             Some(known) => match self.fetch(alloc, id, known) {
                 Ok(payload) => Ok(Some(payload)),
@@ -113,6 +139,10 @@ impl<V: Vault, C: Sealer> Blocks for IntegrityStore<V, C> {
         self.state.known.is_used(id)
     }
 
+    fn contains(&self, id: &BlockId) -> bool {
+        self.state.known.is_live(id)
+    }
+
     fn fresh(&self, drawn: BlockId) -> BlockId {
         self.state.known.fresh(drawn)
     }
@@ -121,9 +151,9 @@ impl<V: Vault, C: Sealer> Blocks for IntegrityStore<V, C> {
         self.sealed.block_size().saturating_sub(78)
     }
 
-    ghost lawful = { lawful_by (λ s. held_of (C.opens (cipher_of s.sealed) (key_of s.sealed)) s.sealed s.state) (λ s. V.trace s.sealed.vault.vault)
+    ghost lawful = { lawful_by (held_by C.opens) (λ s. V.trace s.sealed.vault.vault)
         (λ s. V.faults s.sealed.vault.vault) (λ s. IsIntact (block_size_of s.sealed) (C.iv_size (cipher_of s.sealed))) };
 
-    ghost steady = { steady_by (λ s. held_of (C.opens (cipher_of s.sealed) (key_of s.sealed)) s.sealed s.state) (λ s. V.trace s.sealed.vault.vault)
+    ghost steady = { steady_by (held_by C.opens) (λ s. V.trace s.sealed.vault.vault)
         (λ s. V.faults s.sealed.vault.vault) (λ s. IsIntact (block_size_of s.sealed) (C.iv_size (cipher_of s.sealed))) };
 }

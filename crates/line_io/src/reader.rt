@@ -1,11 +1,12 @@
 // Lines of a source that is read in blocks.
-ghost use Rattle.std.specs.Prelude.{◌≡◌, ◌⊎◌, ◌≤◌, ◌<◌, ◌+◌, ◌^◌, ℕ, List, [], ◌∷◌, ◌++◌, true, false, length, take, drop, slice_range, IfOk, OnErr, MatchOption, MatchBool, IsTrue};
+ghost use Rattle.std.specs.Prelude.{◌≡◌, ◌⊎◌, ◌≤◌, ◌<◌, ◌+◌, ◌^◌, ℕ, List, [], ◌∷◌, ◌++◌, true, false, length, take, drop, slice_range, IfOk, IsOk, OnOk, OnErr, MatchOption, MatchBool, IsTrue};
 ghost use Rattle.std.specs.declared.option.Option.{Option};
 ghost use Rattle.std.specs.declared.option.Option.TheVariants.{None, Some};
 ghost use Rattle.std.specs.Option.{option_copied};
 ghost use Rattle.std.specs.List.{position};
 ghost use Rattle.outside.specs.Causes.{RoseBy};
 ghost use Rattle.outside.specs.Streams.{Gives, Ends};
+ghost use Rattle.line_io.specs.Asking.{ReadsLine, LooksAhead};
 ghost use Rattle.line_io.specs.Lines.{is_newline, IsUnbroken, kept_on};
 ghost use Rattle.line_io.specs.Reading.{Reading, fresh, coming, total, TookLine, TookAhead, ShowsFirst, remaining};
 
@@ -50,15 +51,17 @@ fn newline_at(bytes: &[u8]) -> Option<usize>
     bytes.iter().position(|b| *b == NEWLINE)
 }
 
-/// Reads up to `len` bytes into the front of the block.
+/// Reads up to `len` bytes into the front of the block, by one read.
 fn read_block<I: Source>(input: &mut I, block: &mut [u8], len: usize) -> Result<usize, Failed>
     requires { len ≤ length block.old }
     ensures bound { IfOk result (λ n. n ≤ len) }
     ensures ok { IfOk result (λ n. Gives (I.rest input.old) (I.rest input.new) (take n block.new)) }
+    ensures took { IfOk result (λ n. I.took input.old input.new (take n block.new)) }
     ensures end { IfOk result (λ n. n ≡ 0 → 0 < len → Ends (I.rest input.old)) }
     ensures err { OnErr result (I.rest input.new ≡ I.rest input.old) }
     ensures grows { I.faults input.old ≤ I.faults input.new }
     ensures cause { OnErr result (RoseBy 1 (I.faults input.old) (I.faults input.new)) }
+    ensures quiet { OnOk result (I.faults input.new ≡ I.faults input.old) }
 {
     input.read(&mut block[..len])
 }
@@ -93,12 +96,14 @@ impl LineReader {
         ensures some { IfOk result (λ some. MatchBool some (0 < length self.new.ahead) (Ends (I.rest input.old) × (self.new.ahead ≡ []))) }
         ensures ended { IfOk result (λ some. MatchBool some (self.new.ended ≡ false) (self.new.ended ≡ true)) }
         ensures gave { TookAhead self.old.ahead (I.rest input.old) (I.rest input.new) self.new.ahead }
+        ensures took { OnOk result (I.took input.old input.new self.new.ahead) }
         ensures err { OnErr result (self.new.ahead ≡ []) }
         ensures counted { total self.new.taken (I.rest input.new) ≡ total self.old.taken (I.rest input.old) }
         ensures taken { self.new.taken ≡ self.old.taken + length self.new.ahead }
         ensures most { self.new.taken ≤ 2 ^ 63 }
         ensures grows { I.faults input.old ≤ I.faults input.new }
         ensures cause { OnErr result (RoseBy 1 (I.faults input.old) (I.faults input.new) ⊎ (self.new.taken ≡ 2 ^ 63)) }
+        ensures quiet { OnOk result (I.faults input.new ≡ I.faults input.old) }
     {
         let left = MOST - self.taken;
         if left == 0 {
@@ -120,6 +125,9 @@ impl LineReader {
         ensures came { IfOk result (λ some. coming self.new.ahead (I.rest input.new) ≡ coming self.old.ahead (I.rest input.old)) }
         ensures some { IfOk result (λ some. MatchBool some (0 < length self.new.ahead) (Ends (coming self.new.ahead (I.rest input.new)))) }
         ensures gave { TookAhead self.old.ahead (I.rest input.old) (I.rest input.new) self.new.ahead }
+        ensures looks { OnOk result (LooksAhead I.took self.old.ahead self.new.ahead input.old input.new) }
+        ensures there { 0 < length self.old.ahead → IsOk result }
+        ensures after_end { self.old.ended ≡ true → (input.new ≡ input.old) × (self.new.ended ≡ true) }
         ensures empty { IfOk result (λ some. some ≡ false → self.new.ahead ≡ []) }
         ensures err { OnErr result (self.new.ahead ≡ []) }
         ensures ended { IfOk result (λ some. self.new.ended ≡ true → Ends (coming self.new.ahead (I.rest input.new))) }
@@ -127,6 +135,7 @@ impl LineReader {
         ensures stays { IfOk result (λ some. remaining self.new ≡ remaining self.old) }
         ensures grows { I.faults input.old ≤ I.faults input.new }
         ensures cause { OnErr result (RoseBy 1 (I.faults input.old) (I.faults input.new) ⊎ (self.new.taken ≡ 2 ^ 63)) }
+        ensures quiet { OnOk result (I.faults input.new ≡ I.faults input.old) }
     {
         if self.start < self.end {
             return Ok(true);
@@ -159,8 +168,9 @@ impl LineReader {
         }
     }
 
-    /// Reads the next line, and says whether there was one. The input is that of the calls before. After an Err the
-    /// line is the part of it that was read, which is gone from the input.
+    /// Reads the next line, and says whether there was one. The input is that of the calls before. It isn't read where a
+    /// line is ahead, and never after its end. After an Err the line is the part of it that was read, which is gone
+    /// from the input.
     pub fn next_line<I: Source>(&mut self, input: &mut I) -> Result<bool, Failed>
         requires { self.old.ended ≡ true → Ends (coming self.old.ahead (I.rest input.old)) }
         ensures line { IfOk result (λ found. IsTrue found →
@@ -169,10 +179,14 @@ impl LineReader {
         ensures shown { ShowsFirst self.old.ahead (I.rest input.old) (I.rest input.new) self.new.line }
         ensures read { IfOk result (λ found. found ≡ false → Ends (I.rest input.new)) }
         ensures ended { IfOk result (λ found. self.new.ended ≡ true → Ends (coming self.new.ahead (I.rest input.new))) }
+        ensures reads { OnOk result (ReadsLine I.took self.old.ahead input.old input.new) }
+        ensures line_ahead { (IsUnbroken self.old.ahead → ⊥) → input.new ≡ input.old }
+        ensures after_end { self.old.ended ≡ true → input.new ≡ input.old }
         ensures nearer { IfOk result (λ found. IsTrue found → remaining self.new < remaining self.old) }
         ensures counted { total self.new.taken (I.rest input.new) ≡ total self.old.taken (I.rest input.old) }
         ensures grows { I.faults input.old ≤ I.faults input.new }
         ensures cause { OnErr result (RoseBy 1 (I.faults input.old) (I.faults input.new) ⊎ (self.new.taken ≡ 2 ^ 63)) }
+        ensures quiet { OnOk result (I.faults input.new ≡ I.faults input.old) }
     {
         self.line.clear();
         let mut is_empty = true;

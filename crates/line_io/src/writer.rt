@@ -13,6 +13,7 @@ pub fn write_all<O: Sink>(output: &mut O, text: &[u8]) -> Result<(), Failed>
     ensures err { OnErr result (Cut (O.written output.old) (O.written output.new) text.now) }
     ensures grows { O.faults output.old ≤ O.faults output.new }
     ensures cause { OnErr result (RoseBy 1 (O.faults output.old) (O.faults output.new)) }
+    ensures quiet { OnOk result (O.faults output.new ≡ O.faults output.old) }
 {
     let mut rest = text;
     while !rest.is_empty() {

@@ -82,6 +82,7 @@ module _ {S : Type 0} (p : S → ℕ) (r : S → Changes) (a b : S) (changes : C
     ];
     stays_used = λ id h. has_id-keys (r b) id ∙ (ap is_some (are id) ∙ stays_with (fin.get changes id) (fin.get (r a) id) (sym (has_id-keys (r a) id) ∙ h));
     few = λ f. few;
+    spent = λ id none. refl;
     payload = same;
     sound = λ s. tt;
   }

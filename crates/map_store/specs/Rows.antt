@@ -6,6 +6,7 @@ use Rattle.std.specs.FinMap.{contains_key-keys}
 use Rattle.block_id.specs.Fresh.{zero_id}
 use Rattle.outcome.specs.Meanings.{Meanings, Lawful}
 use Rattle.store_api.specs.Content.{Id, Content, Changes, or_else}
+use Rattle.store_api.specs.Loads.{Answer, Gives}
 use Rattle.store_api.specs.Holdings.{Holdings, Steady, Stays, has_id}
 
 abbrev pub content_of : Changes → Content
@@ -51,6 +52,10 @@ holdings_of p r = record {
 abbrev pub applied_of : {S : Type 0} → (S → ℕ) → (S → Changes) → S → S → Changes → Type 0
 applied_of p r a b changes = (p b ≡ p a) × AreWith changes (r a) (r b)
 
+-- a load leaves the rows, and gives what they have
+abbrev pub loads_of : {S : Type 0} → (S → ℕ) → (S → Changes) → S → S → Id → Answer → Type 0
+loads_of p r a b id answer = (p b ≡ p a) × (r b ≡ r a) × Gives (content_of (r a) id) answer
+
 pub lawful_of : {S : Type 0} (p : S → ℕ) (r : S → Changes) → Lawful (meanings_of p r)
 lawful_of p r = record {
   same = λ a. (refl, refl);
@@ -61,11 +66,15 @@ lawful_of p r = record {
   lies_grow = λ a b h. omega arith;
   faults_grow = λ a b h. omega arith;
   honest_unforged = λ a b h s l. omega arith;
+  honest_unmet = λ a b why h s l m. m;
 }
 
 -- an id is used where it has a row
 pub has_id-keys : (rows : Changes) (id : Id) → has_id (fin.keys rows) id ≡ is_some (fin.get rows id)
 has_id-keys rows id = sym (contains_key-keys rows id)
+
+false_is_true : false ≡ true → ⊥
+false_is_true e = cc
 
 content_rows : (o : Option (Option (List ℕ))) → is_some (or_else o None) ≡ true → is_some o ≡ true
 content_rows None h = h
@@ -83,6 +92,8 @@ steady_of p r = record {
   content_used = λ a id i h. has_id-keys (r a) id ∙ content_rows (fin.get (r a) id) h;
   zero_unused = λ a i. has_id-keys (r a) zero_id ∙ ap is_some i.no_zero;
   sized = λ a id bytes i t h. i.sized id bytes (payload_row (fin.get (r a) id) bytes h);
+  spent_used = λ a id i h. absurd (false_is_true h);
+  loaded_payload = λ a b h. h.0;
 }
 
 pub settled_of : {S : Type 0} (p : S → ℕ) (r : S → Changes) (a b : S) → (p b ≡ p a) × (r b ≡ r a) → Stays (holdings_of p r) a b

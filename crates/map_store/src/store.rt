@@ -1,7 +1,7 @@
 // A store of blocks in memory.
 ghost use Rattle.std.specs.Prelude.{◌≡◌, ◌≤◌};
 ghost use Rattle.std.specs.FinMap as fin;
-ghost use Rattle.map_store.specs.Rows.{meanings_of, holdings_of, applied_of, lawful_of, steady_of, settled_of};
+ghost use Rattle.map_store.specs.Rows.{meanings_of, holdings_of, loads_of, applied_of, lawful_of, steady_of, settled_of};
 
 use crate::rows::{changed, first_free};
 use block_id::{BlockId, Fail};
@@ -37,6 +37,8 @@ impl Blocks for MapStore {
 
     ghost holdings = { holdings_of (λ s. s.payload) (λ s. s.rows) };
 
+    ghost loads = { loads_of (λ s. s.payload) (λ s. s.rows) };
+
     fn load(&mut self, alloc: Global, id: &BlockId) -> Result<Option<Vec<u8>>, Fail> {
         match self.rows.get(id) {
             Some(BatchChange::Payload(bytes)) => Ok(Some(bytes.as_slice().to_vec(alloc)?)),
@@ -47,6 +49,14 @@ impl Blocks for MapStore {
 
     fn is_used(&self, id: &BlockId) -> bool {
         self.rows.has(id)
+    }
+
+    fn contains(&self, id: &BlockId) -> bool {
+        match self.rows.get(id) {
+            Some(BatchChange::Payload(_)) => true,
+            Some(BatchChange::Removal) => false,
+            None => false,
+        }
     }
 
     fn fresh(&self, drawn: BlockId) -> BlockId {
@@ -64,6 +74,8 @@ impl Blocks for MapStore {
 
 impl BlocksMut for MapStore {
     ghost applied = { applied_of (λ s. s.payload) (λ s. s.rows) };
+
+    ghost drawn = { λ a b changes stream left. left ≡ stream };
 
     fn apply<R: Rng>(
         &mut self,

@@ -39,13 +39,12 @@ fn give<S: Blocks>(alloc: Global, tx: &mut Tx<S>, id: &BlockId, byte: u8) -> Res
 }
 
 // Removes the payload of an id.
-fn take<S: Blocks>(alloc: Global, tx: &mut Tx<S>, id: &BlockId) -> Result<(), Fail>
+fn take<S: Blocks>(tx: &mut Tx<S>, id: &BlockId) -> Result<(), Fail>
     requires { ⟦<Tx<S> as Blocks>⟧.meanings.intact tx.old }
     ensures { ⟦<Tx<S> as Blocks>⟧.meanings.intact tx.new }
 {
-    match tx.load(alloc, id)? {
-        Some(_) => {}
-        None => return Err(Fail::from("no payload")),
+    if !tx.contains(id) {
+        return Err(Fail::from("no payload"));
     }
     tx.remove(id)?;
     Ok(())
@@ -70,14 +69,14 @@ fn remove_one<S: BlocksMut>(
     requires { ⟦<Tx<S> as Blocks>⟧.meanings.intact tx.old }
     ensures { ⟦<Tx<S> as Blocks>⟧.meanings.intact tx.new }
 {
-    take(alloc, tx, &A)?;
+    take(tx, &A)?;
     let new = BlockId([4; 16]);
     give(alloc, tx, &new, 4)?;
-    take(alloc, tx, &new)?;
+    take(tx, &new)?;
     let changes = tx.batch().len();
     tx.abandon();
     let before = first_byte(alloc, tx, &A)?;
-    take(alloc, tx, &A)?;
+    take(tx, &A)?;
     tx.commit(alloc, &mut chance())?;
     Ok((changes, before, first_byte(alloc, tx, &A)?, tx.is_used(&A)))
 }

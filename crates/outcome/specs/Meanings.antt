@@ -1,5 +1,6 @@
 -- What a store over an outside that may lie means, whatever it stores.
-use Rattle.std.specs.Prelude.{ℕ, ◌≤◌}
+use Rattle.std.specs.Prelude.{◌≡◌, ℕ, ◌≤◌, Result}
+use Rattle.std.specs.declared.result.Result.TheVariants.{Ok, Err}
 use Rattle.block_id.specs.declared.fail.Fail.{Fail}
 use Rattle.block_id.specs.declared.fail.Fail.TheVariants.{Memory, Fault, Violation}
 use Rattle.block_id.specs.declared.fail.Why.{Why}
@@ -32,6 +33,8 @@ pub record Lawful {S : Type 0} (M : Meanings S) : Type 0 where
   pub faults_grow : (a b : S) → M.loaded a b → M.faults a ≤ M.faults b
   -- where nothing but what was last written came back, nothing came back that was never put
   pub honest_unforged : (a b : S) → M.loaded a b → M.sound a → M.lies b ≤ M.lies a → M.forgeries b ≤ M.forgeries a
+  -- where nothing but what was last written came back, no block was found wrong
+  pub honest_unmet : (a b : S) (why : Why) → M.loaded a b → M.sound a → M.lies b ≤ M.lies a → M.met a b why → ⊥
 
 -- of a failure that names a verdict on one block, this holds
 abbrev pub OnVerdict : Fail → (Why → Type 0) → Type 0
@@ -58,3 +61,14 @@ abbrev pub HasCause : Fail → ℕ → ℕ → Type 0
 HasCause Memory before now = Unit {0}
 HasCause Fault before now = RoseBy 1 before now
 HasCause (Violation why) before now = Unit {0}
+
+-- this holds, unless the failure is a fault
+abbrev pub UnlessFault : Fail → Type 0 → Type 0
+UnlessFault Memory P = P
+UnlessFault Fault P = Unit {0}
+UnlessFault (Violation why) P = P
+
+-- every answer but a fault leaves the count of faults, so that no fault is swallowed
+abbrev pub IsQuiet : {T : Type 0} → Result T Fail → ℕ → ℕ → Type 0
+IsQuiet (Ok answer) before now = now ≡ before
+IsQuiet (Err fail) before now = UnlessFault fail (now ≡ before)

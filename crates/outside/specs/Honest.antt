@@ -1,5 +1,5 @@
 -- Whether a directory gave what was last written.
-use Rattle.std.specs.Prelude.{ℕ, ◌+◌, Bool, true, false, not, ◌&&◌, ◌||◌, IsTrue, List, [], ◌∷◌, ◌++◌, if◌then◌else◌, is_none}
+use Rattle.std.specs.Prelude.{◌≡◌, ℕ, ◌+◌, Bool, true, false, not, ◌&&◌, ◌||◌, IsTrue, List, [], ◌∷◌, ◌++◌, if◌then◌else◌, is_none}
 use Rattle.std.specs.Str.{bytes_eq}
 use Rattle.std.specs.declared.option.Option.{Option}
 use Rattle.std.specs.declared.option.Option.TheVariants.{None, Some}
@@ -36,13 +36,22 @@ is_lie before (got name max answer) = not (is_left (last_change name before) max
 is_lie before (put name bytes ok) = false
 is_lie before (removed name ok) = false
 
--- each of the new calls gave what was last written
-abbrev pub is_honest : List Call → List Call → Bool
-is_honest before [] = true
-is_honest before (call ∷ new) = not (is_lie (new ++ before) call) && is_honest before new
+-- none of the new calls passes a test, each judged with those before it
+abbrev pub none_pass : (List Call → Call → Bool) → List Call → List Call → Bool
+none_pass test before [] = true
+none_pass test before (call ∷ new) = not (test (new ++ before) call) && none_pass test before new
 
+abbrev pub NonePass : (List Call → Call → Bool) → List Call → List Call → Type 0
+NonePass test before new = IsTrue (none_pass test before new)
+
+-- each of the new calls gave what was last written
 abbrev pub IsHonest : List Call → List Call → Type 0
-IsHonest before new = IsTrue (is_honest before new)
+IsHonest before new = NonePass is_lie before new
+
+-- the same of the calls by which a trace went on, where it is told
+abbrev pub NonePassSince : (List Call → Call → Bool) → Option (List Call) → Option (List Call) → Type 0
+NonePassSince test None now = Unit {0}
+NonePassSince test (Some before) now = (new : List Call) × (now ≡ Some (new ++ before)) × NonePass test before new
 
 -- how many calls of a trace pass a test, each judged with those before it
 abbrev pub count_calls : (List Call → Call → Bool) → List Call → ℕ

@@ -1,6 +1,7 @@
 pub mod Causes
 pub mod ChangeLaws
 pub mod Changes
+pub mod Going
 pub mod Honest
 pub mod HonestLaws
 pub mod Keepers
@@ -11,3 +12,4 @@ pub mod Streams
 pub mod Trace
 pub mod Vaults
 pub mod View
+pub mod Writes

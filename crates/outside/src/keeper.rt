@@ -41,5 +41,6 @@ pub trait Keeper {
         ensures err { OnErr result ((kept self.new ≡ kept self.old) ⊎ (kept self.new ≡ Some bytes.now)) }
         ensures room { room self.old ≤ room self.new }
         ensures grows { faults self.old ≤ faults self.new }
-        ensures cause { OnErr result (RoseBy 1 (faults self.old) (faults self.new)) };
+        ensures cause { OnErr result (RoseBy 1 (faults self.old) (faults self.new)) }
+        ensures quiet { OnOk result (faults self.new ≡ faults self.old) };
 }

@@ -136,6 +136,7 @@ impl Keeper for MemoryKeeper {
         ensures room { self.old.room ≤ self.new.room }
         ensures grows { self.old.faults ≤ self.new.faults }
         ensures cause { OnErr result (RoseBy 1 self.old.faults self.new.faults) }
+        ensures quiet { OnOk result (self.new.faults ≡ self.old.faults) }
 
         ensures fails_where_listed { is_ok result ≡ is_none (failure_of self.old) }
         ensures kept { self.new.kept ≡ kept_by (failure_of self.old) self.old.kept bytes.now }

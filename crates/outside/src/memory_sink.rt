@@ -1,5 +1,5 @@
 // Output that goes into memory.
-ghost use Rattle.std.specs.Prelude.{◌≡◌, ◌⊎◌, ◌≤◌, ◌<◌, ◌↔◌, ◌+◌, ◌-◌, ◌++◌, ℕ, List, [], length, min, take, IfOk, OnErr, IsErr, Contains, vec_capacity};
+ghost use Rattle.std.specs.Prelude.{◌≡◌, ◌⊎◌, ◌≤◌, ◌<◌, ◌↔◌, ◌+◌, ◌-◌, ◌++◌, ℕ, List, [], length, min, take, IfOk, OnOk, OnErr, IsErr, Contains, vec_capacity};
 ghost use Rattle.std.specs.declared.option.Option.TheVariants.{Some};
 ghost use Rattle.outside.specs.Causes.{RoseBy};
 ghost use Rattle.outside.specs.MemoryStreams.{Drain, one_more};
@@ -71,6 +71,7 @@ impl Sink for MemorySink {
         ensures err { OnErr result (self.new.written ≡ self.old.written) }
         ensures grows { self.old.faults ≤ self.new.faults }
         ensures cause { OnErr result (RoseBy 1 self.old.faults self.new.faults) }
+        ensures quiet { OnOk result (self.new.faults ≡ self.old.faults) }
         ensures fails_as_listed { IsErr result ↔ (Contains self.old.fails (one_more self.old.calls) ⊎ ((0 < length piece.now) × (self.old.room ≤ length self.old.written))) }
         ensures many { IfOk result (λ n. n ≡ min self.old.piece (min (length piece.now) (self.old.room - length self.old.written))) }
         ensures goes_on { IfOk result (λ n. self.new ≡ record self.old { written = self.old.written ++ take n piece.now; calls = one_more self.old.calls }) }

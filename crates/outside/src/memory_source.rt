@@ -1,8 +1,8 @@
 // Input that stands in memory.
-ghost use Rattle.std.specs.Prelude.{◌≡◌, ◌≤◌, ◌<◌, ◌↔◌, ◌+◌, ◌++◌, ℕ, List, [], length, min, take, drop, IfOk, OnErr, IsErr, Contains};
+ghost use Rattle.std.specs.Prelude.{◌≡◌, ◌≤◌, ◌<◌, ◌↔◌, ◌+◌, ◌++◌, ℕ, List, [], length, min, take, drop, IfOk, OnOk, OnErr, IsErr, Contains};
 ghost use Rattle.std.specs.declared.option.Option.TheVariants.{Some};
 ghost use Rattle.outside.specs.Causes.{RoseBy};
-ghost use Rattle.outside.specs.MemoryStreams.{Feed, one_more};
+ghost use Rattle.outside.specs.MemoryStreams.{Feed, TookOnce, one_more};
 ghost use Rattle.outside.specs.Streams.{Gives, Ends};
 
 use crate::Source;
@@ -50,13 +50,17 @@ impl Source for MemorySource {
 
     ghost faults = { λ s. s.faults };
 
+    ghost took = { λ old new bytes. TookOnce old new bytes };
+
     fn read(&mut self, piece: &mut [u8]) -> Result<usize, Failed>
         ensures bound { IfOk result (λ n. n ≤ length piece.old) }
         ensures ok { IfOk result (λ n. Gives (Some self.old.rest) (Some self.new.rest) (take n piece.new)) }
+        ensures took { IfOk result (λ n. TookOnce self.old self.new (take n piece.new)) }
         ensures end { IfOk result (λ n. n ≡ 0 → 0 < length piece.old → Ends (Some self.old.rest)) }
         ensures err { OnErr result (self.new.rest ≡ self.old.rest) }
         ensures grows { self.old.faults ≤ self.new.faults }
         ensures cause { OnErr result (RoseBy 1 self.old.faults self.new.faults) }
+        ensures quiet { OnOk result (self.new.faults ≡ self.old.faults) }
         ensures fails_as_listed { IsErr result ↔ Contains self.old.fails (one_more self.old.calls) }
         ensures many { IfOk result (λ n. n ≡ min self.old.piece (min (length piece.old) (length self.old.rest))) }
         ensures given { IfOk result (λ n. piece.new ≡ take n self.old.rest ++ drop n piece.old) }

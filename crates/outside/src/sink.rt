@@ -1,5 +1,5 @@
 // Output, piece by piece.
-ghost use Rattle.std.specs.Prelude.{◌≡◌, ◌≤◌, ◌<◌, List, ℕ, length, take, IfOk, OnErr};
+ghost use Rattle.std.specs.Prelude.{◌≡◌, ◌≤◌, ◌<◌, List, ℕ, length, take, IfOk, OnOk, OnErr};
 ghost use Rattle.std.specs.declared.option.Option.{Option};
 ghost use Rattle.outside.specs.Causes.{RoseBy};
 ghost use Rattle.outside.specs.Streams.{appends};
@@ -21,5 +21,6 @@ pub trait Sink {
         ensures ok { IfOk result (λ n. written self.new ≡ appends (written self.old) (take n piece.now)) }
         ensures err { OnErr result (written self.new ≡ written self.old) }
         ensures grows { faults self.old ≤ faults self.new }
-        ensures cause { OnErr result (RoseBy 1 (faults self.old) (faults self.new)) };
+        ensures cause { OnErr result (RoseBy 1 (faults self.old) (faults self.new)) }
+        ensures quiet { OnOk result (faults self.new ≡ faults self.old) };
 }

@@ -149,6 +149,7 @@ impl<R: Files<File = File> + Drop> Keeper for FolderKeeper<R> {
         ensures room { self.old.room ≤ self.new.room }
         ensures grows { self.old.faults ≤ self.new.faults }
         ensures cause { OnErr result (RoseBy 1 self.old.faults self.new.faults) }
+        ensures quiet { OnOk result (self.new.faults ≡ self.old.faults) }
 
         ensures counts_none { OnOk result (self.new.faults ≡ self.old.faults) }
         ensures counts_one { OnErr result (self.new.faults ≡ one_more self.old.faults) }

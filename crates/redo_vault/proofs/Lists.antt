@@ -11,7 +11,7 @@ use Rattle.outside.specs.Changes.{Changes, set_change, set_changes}
 use Rattle.outside.specs.View.{at_of, change_of, pending_of, list_of}
 use Rattle.outside.proofs.Lists.{item_here}
 use Rattle.redo_vault.specs.Redo.{bytes_len, buffered_len}
-use Rattle.redo_vault.specs.Writes.{call_for, after_writes, StopsAt}
+use Rattle.outside.specs.Writes.{call_for, after_writes, StopsAt}
 
 after_push : (done : Changes) (change : At × Option (List ℕ)) (trace : Option (List Call)) → after_writes (done ++ change ∷ []) trace ≡ adds (after_writes done trace) (call_for change true)
 after_push [] change trace = refl

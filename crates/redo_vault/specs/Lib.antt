@@ -1,2 +1,1 @@
 pub mod Redo
-pub mod Writes

@@ -7,7 +7,7 @@ ghost use Rattle.outside.specs.Trace.{adds};
 ghost use Rattle.outside.specs.Changes.{Changes, IsIncreasing, change_at, set_changes};
 ghost use Rattle.outside.specs.View.{at_of, bytes_of, change_of, list_of, pending_of};
 ghost use Rattle.redo_vault.specs.Redo.{Gave, bytes_len, buffered_len};
-ghost use Rattle.redo_vault.specs.Writes.{call_for, after_writes, StopsAt};
+ghost use Rattle.outside.specs.Writes.{call_for, after_writes, StopsAt};
 
 use outside::{Change, FileName, GetFail, Memory, Pending, Vault, pending_list};
 use std::alloc::Global;

@@ -1,17 +1,17 @@
 -- Where entries stand in a list that rises.
-use Rattle.std.proofs.Common.{◌≡◌, ℕ, ◌+◌, List, [], ◌∷◌, Bool, true, false, cond, refl, sym, ◌∙◌, ap, subst, add-one}
+use Rattle.std.proofs.Common.{◌≡◌, ℕ, ◌+◌, List, [], ◌∷◌, Bool, true, false, cond, refl, sym, ◌∙◌, ap, subst, add-one, arith}
 use Rattle.std.specs.Prelude.{T, length, Option, Some, None, slice_get, slice_set, not, ◌&&◌}
 use Rattle.std.specs.List.{insert, remove, slice_index_or}
 use Rattle.std.specs.Option.{option_map}
 use Rattle.std.proofs.lemmas.List.{length-map}
 use Rattle.std.proofs.lemmas.Option.{slice_get-map, slice_get-get_or}
-use Rattle.std.specs.Prelude.{◌<◌, Result, Ok, Err, OnOk, OnErr}
+use Rattle.std.specs.Prelude.{◌<◌, ◌≤◌, zero, suc, Result, Ok, Err, OnOk, OnErr}
 use Rattle.std.specs.FinMap as fin
 use Rattle.std.specs.FinMap.{entries-from_sorted, empty_of_len, len-entries, same_entries_map, entries-insert, is_sorted, get-from_sorted, get-remove, same_map, IsAntisymmetric, slice_cmp-IsAntisymmetric, nat_cmp-IsAntisymmetric}
 use Rattle.std.specs.FinMap.Entries.{put, find, by_order, below_all, is_sorted-put, is_sorted-where_key, find-where_key}
 use Rattle.std.specs.Cmp.{IsTotalOrder, eq_by_cmp_equiv}
 use Rattle.std.specs.Cmp.Lexicographic.{nat_list_cmp_total}
-use Rattle.std.specs.Ordering.{is_eq, is_lt}
+use Rattle.std.specs.Ordering.{is_eq, is_lt, is_gt}
 use Rattle.std.specs.declared.cmp.Ordering.{Ordering}
 use Rattle.std.specs.declared.cmp.Ordering.TheVariants.{Less, Equal, Greater}
 use Rattle.block_id.specs.declared.id.BlockId.{BlockId}
@@ -205,3 +205,48 @@ changes-remove old new id rises e = same_map total exact _ _ (λ q.
 -- how many entries a batch has
 pub len-changes : (m : Changes) (es : List (BlockId × BatchChange)) → entries_of es ≡ fin.entries m → length es ≡ fin.len m
 len-changes m es is = sym (length-map es entry_view) ∙ (ap length is ∙ sym (len-entries m))
+
+-- ---- finding a place by halves
+
+some_is : (x y : Id × Option (List ℕ)) → Some x ≡ Some y → x ≡ y
+some_is x y e = cc
+
+-- the entries behind one stand above it
+below_at : (x : Id) (es : Plain) (i : ℕ) (y : Id × Option (List ℕ)) → T (below_all id_cmp x es) → slice_get es i ≡ Some y → id_cmp x y.0 ≡ Less
+below_at x [] i y h at = absurd (cc)
+below_at x (e ∷ es) zero y h at = subst (λ (z : Id × Option (List ℕ)). id_cmp x z.0 ≡ Less) (some_is e y at) (lt (id_cmp x e.0) (left (is_lt (id_cmp x e.0)) (below_all id_cmp x es) h))
+below_at x (e ∷ es) (suc i) y h at = below_at x es i y (right (is_lt (id_cmp x e.0)) (below_all id_cmp x es) h) at
+
+-- an id that isn't above an entry stands there or before
+pub stands_before : (id : Id) (es : Plain) (i : ℕ) (y : Id × Option (List ℕ)) → slice_get es i ≡ Some y → is_gt (id_cmp id y.0) ≡ false → place id es ≤ i
+stands_before id [] i y at h = absurd (cc)
+stands_before id (e ∷ es) zero y at h =
+    let same : is_gt (id_cmp id e.0) ≡ false = ap (λ (z : Id × Option (List ℕ)). is_gt (id_cmp id z.0)) (some_is e y at) ∙ h in
+    elim (id_cmp id e.0) as (λ r. is_gt r ≡ false → by_order r 0 0 (place id es + 1) ≤ 0) [ Less ↦ λ h. omega arith | Equal ↦ λ h. omega arith | Greater ↦ λ h. absurd (cc) ] same
+stands_before id (e ∷ es) (suc i) y at h =
+    let later = stands_before id es i y at h in
+    elim (id_cmp id e.0) as (λ r. by_order r 0 0 (place id es + 1) ≤ suc i) [ Less ↦ omega arith | Equal ↦ omega arith | Greater ↦ omega (arith, later) ]
+
+-- an id above an entry of a list that rises stands behind it
+pub stands_behind : (id : Id) (es : Plain) (i : ℕ) (y : Id × Option (List ℕ)) → T (is_sorted id_cmp es) → slice_get es i ≡ Some y → is_gt (id_cmp id y.0) ≡ true → i + 1 ≤ place id es
+stands_behind id [] i y rises at h = absurd (cc)
+stands_behind id (e ∷ es) zero y rises at h =
+    let same : is_gt (id_cmp id e.0) ≡ true = ap (λ (z : Id × Option (List ℕ)). is_gt (id_cmp id z.0)) (some_is e y at) ∙ h in
+    elim (id_cmp id e.0) as (λ r. is_gt r ≡ true → 1 ≤ by_order r 0 0 (place id es + 1)) [ Less ↦ λ h. absurd (cc) | Equal ↦ λ h. absurd (cc) | Greater ↦ λ h. omega arith ] same
+stands_behind id (e ∷ es) (suc i) y rises at h =
+    let later = stands_behind id es i y (right (below_all id_cmp e.0 es) (is_sorted id_cmp es) rises) at h in
+    let first = below_at e.0 es i y (left (below_all id_cmp e.0 es) (is_sorted id_cmp es) rises) at in
+    elim (id_cmp id e.0) as (λ r. id_cmp id e.0 ≡ r → suc i + 1 ≤ by_order r 0 0 (place id es + 1)) [
+      | Less ↦ λ p. let bad : false ≡ true = sym (ap is_gt (total.trans id e.0 y.0 p first)) ∙ h in absurd (cc)
+      | Equal ↦ λ p. let bad : false ≡ true = sym (ap is_gt (total.congr id e.0 y.0 p ∙ first)) ∙ h in absurd (cc)
+      | Greater ↦ λ p. omega (arith, later)
+    ] refl
+
+place_within : (id : Id) (es : Plain) → place id es ≤ length es
+place_within id [] = omega arith
+place_within id (e ∷ es) =
+    let later = place_within id es in
+    elim (id_cmp id e.0) as (λ r. by_order r 0 0 (place id es + 1) ≤ length (e ∷ es)) [ Less ↦ omega arith | Equal ↦ omega arith | Greater ↦ omega (arith, later) ]
+
+pub place_in : (id : Id) (es : List (BlockId × BatchChange)) → place id (entries_of es) ≤ length es
+place_in id es = subst (λ n. place id (entries_of es) ≤ n) (length-map es entry_view) (place_within id (entries_of es))

@@ -38,6 +38,9 @@ pub record Steady {S : Type 0} (M : Meanings S) (H : Holdings S) : Type 0 where
   pub content_used : (a : S) (id : Id) → M.intact a → is_some (H.content a id) ≡ true → has_id (H.used a) id ≡ true
   pub zero_unused : (a : S) → M.intact a → has_id (H.used a) zero_id ≡ false
   pub sized : (a : S) (id bytes : List ℕ) → M.intact a → H.told a ≡ true → H.content a id ≡ Some bytes → length bytes ≡ H.payload a
+  pub spent_used : (a : S) (id : Id) → M.intact a → H.spent a id ≡ true → has_id (H.used a) id ≡ true
+  -- loading leaves the length of a payload
+  pub loaded_payload : (a b : S) → M.loaded a b → H.payload b ≡ H.payload a
 
 -- a call left what the store holds
 pub record Stays {S : Type 0} (H : Holdings S) (a b : S) : Type 0 where
@@ -58,6 +61,11 @@ pub record Fits {S : Type 0} (H : Holdings S) (s : S) (changes : Changes) : Type
   pub gets : (id bytes : List ℕ) → get changes id ≡ Some (Some bytes) → MayGet H s id
   pub removes : (id : Id) → get changes id ≡ Some None → is_some (H.content s id) ≡ true
 
+-- changes that fit a store of which so few ids are used that new ones can be drawn
+pub record Overlaid {S : Type 0} (H : Holdings S) (s : S) (changes : Changes) : Type 0 where
+  pub fits : Fits H s changes
+  pub few : IsFew (H.used s)
+
 -- the store after a batch
 pub record Changed {S : Type 0} (M : Meanings S) (H : Holdings S) (a b : S) (changes : Changes) : Type 0 where
   pub ids : (id : Id) → is_some (H.content b id) ≡ is_some (over changes (H.content a) id)
@@ -66,6 +74,7 @@ pub record Changed {S : Type 0} (M : Meanings S) (H : Holdings S) (a b : S) (cha
   pub used : (id : Id) → has_id (H.used b) id ≡ true → (has_id (H.used a) id ≡ true) ⊎ (is_some (get changes id) ≡ true)
   pub stays_used : (id : Id) → has_id (H.used a) id ≡ true → has_id (H.used b) id ≡ true
   pub few : IsFew (H.used a) → IsFew (H.used b)
+  pub spent : (id : Id) → get changes id ≡ None → H.spent b id ≡ H.spent a id
   pub payload : H.payload b ≡ H.payload a
   pub sound : M.sound a → M.sound b
 

@@ -3,5 +3,6 @@ pub mod Holdings
 pub mod Durables
 pub mod Entries
 pub mod Lists
+pub mod Loads
 pub mod Overlay
 pub mod Passing

@@ -9,7 +9,7 @@ use Rattle.outcome.specs.Meanings.{Meanings, Lawful}
 use Rattle.outcome.specs.Lift.{lift, lawful}
 use Rattle.outcome.specs.Outcome.{Outcome}
 use Rattle.store_api.specs.Content.{Id, same_id, Changes, or_else, over}
-use Rattle.store_api.specs.Holdings.{Holdings, Steady, Fits, has_id}
+use Rattle.store_api.specs.Holdings.{Holdings, Steady, Fits, Overlaid, has_id}
 
 -- the changes with the removal of an id: an id that the store doesn't know is forgotten
 abbrev pub without : List Id → Changes → Id → Changes
@@ -17,7 +17,7 @@ without used changes id = cond (has_id used id) (fin.insert changes id None) (fi
 
 -- f is the store below, and g are the changes over it
 abbrev pub meanings_over : {A B : Type 0} → (A → B) → (A → Changes) → Meanings B → Holdings B → Meanings A
-meanings_over f g M H = lift f (λ a. Fits H (f a) (g a)) M
+meanings_over f g M H = lift f (λ a. Overlaid H (f a) (g a)) M
 
 abbrev pub holdings_over : {A B : Type 0} → (A → B) → (A → Changes) → Holdings B → Holdings A
 holdings_over f g H = record {
@@ -29,7 +29,7 @@ holdings_over f g H = record {
 }
 
 pub lawful_over : {A B : Type 0} (f : A → B) (g : A → Changes) (M : Meanings B) (H : Holdings B) → Lawful M → Lawful (meanings_over f g M H)
-lawful_over f g M H l = lawful f (λ a. Fits H (f a) (g a)) M l
+lawful_over f g M H l = lawful f (λ a. Overlaid H (f a) (g a)) M l
 
 -- an id is used in the changes or in the store
 pub has_id-over : (changes : Changes) (used : List Id) (id : Id) → has_id (fin.keys changes ++ used) id ≡ (is_some (fin.get changes id) || has_id used id)
@@ -38,6 +38,10 @@ has_id-over changes used id = list_any-append (same_id id) (fin.keys changes) us
 used_if : (o : Option (Option (List ℕ))) (c : Option (List ℕ)) (b : Bool) → (is_some c ≡ true → b ≡ true) → is_some (or_else o c) ≡ true → (is_some o || b) ≡ true
 used_if (Some change) c b f h = refl
 used_if None c b f h = f h
+
+or_used : (a b : Bool) → b ≡ true → (a || b) ≡ true
+or_used true b e = refl
+or_used false b e = e
 
 -- the changes say nothing of the zero id
 no_zero : {B : Type 0} (M : Meanings B) (H : Holdings B) (s : B) (changes : Changes) → Steady M H → M.intact s → Fits H s changes → (o : Option (Option (List ℕ))) → fin.get changes zero_id ≡ o → is_some o ≡ false
@@ -63,22 +67,25 @@ steady_over f g M H st = record {
   at_most = λ a i. st.at_most (f a) i.0;
   content_used = λ a id i h. has_id-over (g a) (H.used (f a)) id ∙ used_if (fin.get (g a) id) (H.content (f a) id) (has_id (H.used (f a)) id) (st.content_used (f a) id i.0) h;
   zero_unused = λ a i. has_id-over (g a) (H.used (f a)) zero_id
-      ∙ (ap (λ b. b || has_id (H.used (f a)) zero_id) (no_zero M H (f a) (g a) st i.0 i.1 (fin.get (g a) zero_id) refl) ∙ st.zero_unused (f a) i.0);
+      ∙ (ap (λ b. b || has_id (H.used (f a)) zero_id) (no_zero M H (f a) (g a) st i.0 i.1.fits (fin.get (g a) zero_id) refl) ∙ st.zero_unused (f a) i.0);
   sized = λ a id bytes i t h. elim (sized_over (fin.get (g a) id) (H.content (f a) id) bytes h) [
-    | inl new ↦ i.1.sized id bytes new
+    | inl new ↦ i.1.fits.sized id bytes new
     | inr old ↦ st.sized (f a) id bytes i.0 t old.1
   ];
+  spent_used = λ a id i h. has_id-over (g a) (H.used (f a)) id ∙ or_used (is_some (fin.get (g a) id)) (has_id (H.used (f a)) id) (st.spent_used (f a) id i.0 h);
+  loaded_payload = λ a b. st.loaded_payload (f a) (f b);
 }
 
 -- a call, and a change of the changes alone
 pub changed_over : {A B : Type 0} (f : A → B) (g : A → Changes) (M : Meanings B) (H : Holdings B) {T U N : Type 0} {x : T} {y : U} {P : N → T → Type 0} {Q : N → U → Type 0} (a c d : A)
-    → f d ≡ f c → M.intact (f d) × Fits H (f d) (g d) → Outcome (meanings_over f g M H) N a c (Ok x) P → ((n : N) → P n x → Q n y) → Outcome (meanings_over f g M H) N a d (Ok y) Q
+    → f d ≡ f c → M.intact (f d) × Overlaid H (f d) (g d) → Outcome (meanings_over f g M H) N a c (Ok x) P → ((n : N) → P n x → Q n y) → Outcome (meanings_over f g M H) N a d (Ok y) Q
 changed_over f g M H a c d same intact o into = record {
   intact = intact;
   loaded = subst (M.loaded (f a)) (sym same) o.loaded;
   sound = λ s h. subst M.sound (sym same) (o.sound s (subst (λ b. M.forgeries b ≤ M.forgeries (f a)) same h));
   met = tt;
   fault = tt;
+  quiet = ap (λ b. M.faults b) same ∙ o.quiet;
   value = λ n s h. into n (o.value n s (subst (λ b. M.forgeries b ≤ M.forgeries (f a)) same h));
-  alarm = λ n s h. tt;
+  structure = λ n s h. tt;
 }

@@ -1,5 +1,5 @@
 // A list of changes of blocks.
-ghost use Rattle.std.specs.Prelude.{◌≡◌, ◌==◌, ◌≤◌, ◌<◌, T, IsTrue, length, slice_get, IfSome, IfNone, OnOk, OnErr};
+ghost use Rattle.std.specs.Prelude.{◌≡◌, ◌==◌, ◌≤◌, ◌<◌, ◌+◌, true, false, T, IsTrue, length, slice_get, IfSome, IfNone, OnOk, OnErr};
 ghost use Rattle.std.specs.FinMap as fin;
 ghost use Rattle.std.specs.FinMap.{is_sorted};
 ghost use Rattle.std.specs.FinMap.Entries.{put, find as found};
@@ -39,17 +39,34 @@ impl Model for Batch {
     ghost invariant = { λ b. T (is_sorted id_cmp (entries_of b.entries.items)) };
 }
 
-// Where the id stands, or would stand.
+// Whether the id stands behind the entry at this place.
+fn is_behind(entries: &[(BlockId, BatchChange)], at: usize, id: &BlockId) -> bool
+    requires rises { T (is_sorted id_cmp (entries_of entries.now)) }
+    requires within { at < length entries.now }
+    ensures behind { result ≡ true → at + 1 ≤ place id.now.0 (entries_of entries.now) }
+    ensures before { result ≡ false → place id.now.0 (entries_of entries.now) ≤ at }
+{
+    id.cmp(&entries[at].0).is_gt()
+}
+
+// Where the id stands, or would stand: found by halves.
+#[tactic(auto, using(crate::proofs::Places::place_in))]
 fn place_of(entries: &[(BlockId, BatchChange)], id: &BlockId) -> usize
+    requires { T (is_sorted id_cmp (entries_of entries.now)) }
     ensures value { result ≡ place id.now.0 (entries_of entries.now) }
     ensures bound { result ≤ length entries.now }
 {
-    for (i, entry) in entries.iter().enumerate() {
-        if id.cmp(&entry.0).is_le() {
-            return i;
+    let mut from = 0;
+    let mut to = entries.len();
+    while from < to {
+        let middle = from + (to - from) / 2;
+        if is_behind(entries, middle, id) {
+            from = middle + 1;
+        } else {
+            to = middle;
         }
     }
-    entries.len()
+    from
 }
 
 // Whether the entry at this place is that of the id.

@@ -5,7 +5,10 @@ ghost use Rattle.outside.specs.View.{bytes_of};
 ghost use Rattle.outcome.specs.Meanings.{Meanings, Lawful, IsOfBlocks};
 ghost use Rattle.outcome.specs.Outcome.{Outcome};
 ghost use Rattle.block_id.specs.Fresh.{IsFirstFree};
-ghost use Rattle.store_api.specs.Content.{Changes};
+ghost use Rattle.rand_core.specs.Stream.{Stream};
+ghost use Rattle.std.specs.FinMap as fin;
+ghost use Rattle.store_api.specs.Content.{Id, Changes};
+ghost use Rattle.store_api.specs.Loads.{Answer, answer_of};
 ghost use Rattle.store_api.specs.Holdings.{Holdings, Steady, Stays, Fits, Changed, IsSpent, IsFew, is_free, has_id};
 
 use crate::Batch;
@@ -26,6 +29,9 @@ pub trait Blocks {
 
     ghost holdings: { Holdings Self };
 
+    // What one load of this id may leave and answer, whether or not the store is sound.
+    ghost loads: { Self → Self → Id → Answer → Type 0 };
+
     /// The payload of the id, or None where the id isn't in the content.
     fn load(&mut self, alloc: Global, id: &BlockId) -> Result<Option<Vec<u8>>, Fail>
         requires { meanings.intact self.old }
@@ -33,11 +39,16 @@ pub trait Blocks {
         ensures stays { Stays holdings self.old self.new }
         ensures of_blocks { IfErr result IsOfBlocks }
         ensures none { IfOk result (λ answer. is_some answer ≡ is_some (holdings.content self.old id.now.0)) }
-        ensures sized { IfOk result (λ answer. IfSome answer (λ bytes. length bytes.items ≡ holdings.payload self.old)) };
+        ensures sized { IfOk result (λ answer. IfSome answer (λ bytes. length bytes.items ≡ holdings.payload self.old)) }
+        ensures loads { loads self.old self.new id.now.0 (answer_of result) };
 
     /// Whether the id was ever in the content.
     fn is_used(&self, id: &BlockId) -> bool
         ensures { result ≡ has_id (holdings.used self.now) id.now.0 };
+
+    /// Whether the id is in the content.
+    fn contains(&self, id: &BlockId) -> bool
+        ensures { result ≡ is_some (holdings.content self.now id.now.0) };
 
     /// The first id that is neither used nor zero among `drawn`, the next one and so on.
     fn fresh(&self, drawn: BlockId) -> BlockId
@@ -57,6 +68,9 @@ pub trait Blocks {
 pub trait BlocksMut: Blocks {
     ghost applied: { Self → Self → Changes → Type 0 };
 
+    // What the changes took of the stream of chance, and what they left of it.
+    ghost drawn: { Self → Self → Changes → Stream → Stream → Type 0 };
+
     /// Makes these changes, all or none, without a call on the outside.
     fn apply<R: Rng>(
         &mut self,
@@ -69,6 +83,8 @@ pub trait BlocksMut: Blocks {
         ensures intact { Self.meanings.intact self.new }
         ensures changed { OnOk result (Changed Self.meanings Self.holdings self.old self.new batch.now) }
         ensures applied { OnOk result (applied self.old self.new batch.now) }
+        ensures drawn { OnOk result (drawn self.old self.new batch.now (R.stream chance.old) (R.stream chance.new)) }
+        ensures nothing { OnErr result (applied self.old self.new fin.empty) }
         ensures forgeries { Self.meanings.forgeries self.new ≡ Self.meanings.forgeries self.old }
         ensures lies { Self.meanings.lies self.new ≡ Self.meanings.lies self.old }
         ensures faults { Self.meanings.faults self.new ≡ Self.meanings.faults self.old }

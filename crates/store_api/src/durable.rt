@@ -1,6 +1,7 @@
 // A store whose changes wait until they are written out.
 ghost use Rattle.std.specs.Prelude.{◌≡◌, ◌≤◌, ◌<◌, ◌^◌, ◌-◌, min, ℕ, List, true, false, [], IfOk, OnOk, OnErr, length};
 ghost use Rattle.outside.specs.Causes.{HasCause};
+ghost use Rattle.outside.specs.Writes.{after_writes, StopsAt};
 ghost use Rattle.store_api.specs.Content.{Id, SameIds, SameContent};
 ghost use Rattle.store_api.specs.Durables.{Durables, Records, Enduring};
 ghost use Rattle.store_api.specs.Holdings.{Stays};
@@ -49,12 +50,14 @@ pub trait Durable: BlocksMut {
         ensures intact { Self.meanings.intact self.new }
         ensures identity { durables.identity self.new ≡ durables.identity self.old }
         ensures ids { SameIds (Self.holdings.content self.old) (Self.holdings.content self.new) }
-        ensures content { Self.meanings.sound self.old → SameContent (Self.holdings.content self.old) (Self.holdings.content self.new) }
+        ensures content { Self.holdings.told self.old ≡ true → SameContent (Self.holdings.content self.old) (Self.holdings.content self.new) }
         ensures payload { Self.holdings.payload self.new ≡ Self.holdings.payload self.old }
         ensures told { Self.holdings.told self.new ≡ Self.holdings.told self.old }
         ensures used { Self.holdings.used self.new ≡ Self.holdings.used self.old }
         ensures spent { (id : Id) → Self.holdings.spent self.new id ≡ Self.holdings.spent self.old id }
         ensures ok { OnOk result (durables.list self.new ≡ []) }
+        ensures writes { OnOk result (durables.trace self.new ≡ after_writes (durables.list self.old) (durables.trace self.old)) }
+        ensures stops { OnErr result (StopsAt (durables.list self.old) (durables.trace self.old) (durables.trace self.new) (durables.list self.new)) }
         ensures empty { durables.record_of self.new false ≡ durables.record_of self.old false }
         ensures stands { Self.meanings.sound self.old → (durables.identity self.old).marked ≡ false
             → records.stands (durables.identity self.old) (durables.record_of self.old true) (durables.trace self.new) (Self.holdings.content self.old) }

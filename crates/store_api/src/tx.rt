@@ -1,10 +1,14 @@
 // One command's changes over a store.
-ghost use Rattle.std.specs.Prelude.{◌≡◌, ◌↔◌, OnOk, OnErr, length, is_some, true};
+ghost use Rattle.std.specs.Prelude.{◌≡◌, ◌↔◌, OnOk, OnErr, IfOk, IfErr, IfSome, length, is_some, true};
+ghost use Rattle.outside.specs.View.{bytes_of};
+ghost use Rattle.outcome.specs.Meanings.{IsOfBlocks};
+ghost use Rattle.outcome.specs.Outcome.{Outcome};
 ghost use Rattle.std.specs.declared.result.Result.TheVariants.{Err};
 ghost use Rattle.std.specs.FinMap as fin;
 ghost use Rattle.rand_core.specs.Stream.{fill_bytes};
 ghost use Rattle.block_id.specs.Fresh.{IsFirstFree};
-ghost use Rattle.store_api.specs.Holdings.{Fits, Changed, MayGet, IsFew, IsSpent, is_free};
+ghost use Rattle.store_api.specs.Holdings.{Fits, Changed, MayGet, IsFew, IsSpent, Stays, is_free};
+ghost use Rattle.store_api.specs.Loads.{LoadsOver, loads_over, answer_of};
 ghost use Rattle.store_api.specs.Overlay.{without, meanings_over, holdings_over, lawful_over, steady_over};
 
 use crate::fresh::first_free;
@@ -73,7 +77,8 @@ impl<S: Blocks> Tx<S> {
     /// A new id: 16 random bytes, or the first id after them that is neither zero nor used, in the changes or in
     /// the store.
     pub fn draw<R: Rng>(&mut self, chance: &mut R) -> BlockId
-        requires few { IsFew (S.holdings.used self.old.store) }
+        requires { ⟦<Tx<S> as Blocks>⟧.meanings.intact self.old }
+        ensures intact { ⟦<Tx<S> as Blocks>⟧.meanings.intact self.new }
         ensures store { self.new.store ≡ self.old.store }
         ensures overlay { self.new.overlay ≡ self.old.overlay }
         ensures id { IsFirstFree (is_free (⟦<Tx<S> as Blocks>⟧.holdings.used self.old)) (fill_bytes 16 (R.stream chance.old)).0 result.0 }
@@ -93,6 +98,8 @@ impl<S: Blocks> Tx<S> {
         ensures intact { ⟦<Tx<S> as Blocks>⟧.meanings.intact self.new }
         ensures changed { OnOk result (Changed S.Blocks.meanings S.Blocks.holdings self.old.store self.new.store self.old.overlay) }
         ensures applied { OnOk result (S.applied self.old.store self.new.store self.old.overlay) }
+        ensures drawn { OnOk result (S.drawn self.old.store self.new.store self.old.overlay (R.stream chance.old) (R.stream chance.new)) }
+        ensures nothing { OnErr result (S.applied self.old.store self.new.store fin.empty) }
         ensures emptied { OnOk result (self.new.overlay ≡ fin.empty) }
         ensures forgeries { S.Blocks.meanings.forgeries self.new.store ≡ S.Blocks.meanings.forgeries self.old.store }
         ensures lies { S.Blocks.meanings.lies self.new.store ≡ S.Blocks.meanings.lies self.old.store }
@@ -109,7 +116,7 @@ impl<S: Blocks> Tx<S> {
 
     /// Forgets the changes.
     pub fn abandon(&mut self)
-        requires { S.meanings.intact self.old.store }
+        requires { ⟦<Tx<S> as Blocks>⟧.meanings.intact self.old }
         ensures intact { ⟦<Tx<S> as Blocks>⟧.meanings.intact self.new }
         ensures store { self.new.store ≡ self.old.store }
         ensures overlay { self.new.overlay ≡ fin.empty }
@@ -132,7 +139,20 @@ impl<S: Blocks> Blocks for Tx<S> {
 
     ghost holdings = { holdings_over (λ t. t.store) (λ t. t.overlay) S.holdings };
 
-    fn load(&mut self, alloc: Global, id: &BlockId) -> Result<Option<Vec<u8>>, Fail> {
+    ghost loads = { loads_over (λ t. t.store) (λ t. t.overlay) S.loads };
+
+    fn load(&mut self, alloc: Global, id: &BlockId) -> Result<Option<Vec<u8>>, Fail>
+        requires { ⟦<Tx<S> as Blocks>⟧.meanings.intact self.old }
+        ensures outcome { Outcome ⟦<Tx<S> as Blocks>⟧.meanings Unit self.old self.new result (λ _ answer. bytes_of answer ≡ ⟦<Tx<S> as Blocks>⟧.holdings.content self.old id.now.0) }
+        ensures stays { Stays ⟦<Tx<S> as Blocks>⟧.holdings self.old self.new }
+        ensures of_blocks { IfErr result IsOfBlocks }
+        ensures none { IfOk result (λ answer. is_some answer ≡ is_some (⟦<Tx<S> as Blocks>⟧.holdings.content self.old id.now.0)) }
+        ensures sized { IfOk result (λ answer. IfSome answer (λ bytes. length bytes.items ≡ ⟦<Tx<S> as Blocks>⟧.holdings.payload self.old)) }
+        ensures loads { LoadsOver S.loads (fin.get self.old.overlay id.now.0) self.old.store self.new.store id.now.0 (answer_of result) }
+
+        ensures overlay { self.new.overlay ≡ self.old.overlay }
+        ensures below { Stays S.holdings self.old.store self.new.store }
+    {
         match self.overlay.get(id) {
             Some(BatchChange::Payload(bytes)) => Ok(Some(bytes.as_slice().to_vec(alloc)?)),
             Some(BatchChange::Removal) => Ok(None),
@@ -142,6 +162,14 @@ impl<S: Blocks> Blocks for Tx<S> {
 
     fn is_used(&self, id: &BlockId) -> bool {
         self.overlay.has(id) || self.store.is_used(id)
+    }
+
+    fn contains(&self, id: &BlockId) -> bool {
+        match self.overlay.get(id) {
+            Some(BatchChange::Payload(_)) => true,
+            Some(BatchChange::Removal) => false,
+            None => self.store.contains(id),
+        }
     }
 
     fn fresh(&self, drawn: BlockId) -> BlockId {

@@ -1,8 +1,6 @@
-//! A session over any durable store and keeper: that the contracts of stores and keepers suffice.
+//! A client of any store: that the contracts of stores suffice for a command.
 #![tactic(auto)]
 
 mod client;
-mod session;
 
 pub use client::follow;
-pub use session::{Session, SyncError};

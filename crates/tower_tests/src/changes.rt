@@ -1,15 +1,16 @@
 // Changes of one store, and syncs, over any durable store and keeper.
-ghost use Rattle.std.specs.Prelude.{◌≡◌, true, IfOk, IsTrue};
+ghost use Rattle.std.specs.Prelude.{◌≡◌, true, IfOk};
 ghost use Rattle.store_api.specs.Holdings.{IsFew, MayGet};
 ghost use Rattle.store_api.specs.Lists.{MayConfigure};
 
 use block_id::BlockId;
 use outside::Keeper;
 use rand_pcg::Pcg32;
+use session_saver::{Saver, SyncError};
 use std::alloc::Global;
 use std::test::Fail;
 use store_api::{Blocks, BlocksMut, Durable, Tx};
-use store_session::{Session, SyncError, follow};
+use store_session::follow;
 
 /// A block and the byte that its payload is made of, or None where the block is removed.
 pub(crate) type Change = (BlockId, Option<u8>);
@@ -43,13 +44,12 @@ fn put<S: Blocks>(alloc: Global, tx: &mut Tx<S>, id: &BlockId, byte: u8) -> Resu
     Ok(())
 }
 
-fn remove<S: Blocks>(alloc: Global, tx: &mut Tx<S>, id: &BlockId) -> Result<(), Fail>
+fn remove<S: Blocks>(tx: &mut Tx<S>, id: &BlockId) -> Result<(), Fail>
     requires { ⟦<Tx<S> as Blocks>⟧.meanings.intact tx.old }
     ensures { ⟦<Tx<S> as Blocks>⟧.meanings.intact tx.new }
 {
-    match tx.load(alloc, id)? {
-        Some(_) => {}
-        None => return Err(Fail::from("no payload")),
+    if !tx.contains(id) {
+        return Err(Fail::from("no payload"));
     }
     tx.remove(id)?;
     Ok(())
@@ -61,7 +61,7 @@ fn change<S: Blocks>(alloc: Global, tx: &mut Tx<S>, change: &Change) -> Result<(
 {
     match change.1 {
         Some(byte) => put(alloc, tx, &change.0, byte),
-        None => remove(alloc, tx, &change.0),
+        None => remove(tx, &change.0),
     }
 }
 
@@ -108,23 +108,21 @@ pub(crate) struct Ended<S, K> {
 }
 
 // Two syncs of a store that was changed.
-fn sync_twice<S: Durable, K: Keeper>(alloc: Global, store: S, keeper: K) -> Ended<S, K>
+fn sync_twice<S: Durable, K: Keeper>(alloc: Global, mut store: S, keeper: K) -> Ended<S, K>
     requires { S.Durable.meanings.intact store }
 {
-    let mut session = Session {
-        store,
+    let mut saver = Saver {
         keeper,
         last: Vec::new(alloc),
         changed: true,
     };
-    let first = session.sync(alloc);
-    let second = session.sync(alloc);
-    let Session {
-        store,
+    let first = saver.sync(alloc, &mut store);
+    let second = saver.sync(alloc, &mut store);
+    let Saver {
         keeper,
         last: _,
         changed: _,
-    } = session;
+    } = saver;
     Ended {
         first,
         second,

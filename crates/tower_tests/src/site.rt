@@ -1,15 +1,14 @@
 // A directory and a local record in memory, between runs of a client of one file system.
-ghost use Rattle.std.specs.Prelude.{◌≡◌, true, IfOk};
-ghost use Rattle.outside.specs.Trace.{config};
-ghost use Rattle.outside.specs.Changes.{IsIncreasing, change_at};
+ghost use Rattle.std.specs.Prelude.{◌≡◌, IfOk};
+ghost use Rattle.outside.specs.Changes.{IsIncreasing};
 ghost use Rattle.outside.specs.View.{list_of};
 ghost use Rattle.sealed_store.specs.Stores.{IsIntact, block_size_of, cipher_of};
 ghost use Rattle.store_api.specs.Holdings.{IsFew};
-ghost use Rattle.integrity_store.specs.WaitingLists.{IsNoBlock};
 
 use crate::changes::{
     Change as Payload, Ended, Sizes, Synced, change_and_sync, configure_and_sync, follow_and_sync,
 };
+use crate::reopening::is_no_block;
 use aes_gcm::Aes256Gcm;
 use block_id::BlockId;
 use integrity_store::IntegrityStore;
@@ -49,17 +48,6 @@ fn first_byte(loaded: Result<Option<Vec<u8>>, block_id::Fail>) -> Loaded {
         Ok(Some(bytes)) => Ok(bytes.first().copied()),
         Ok(None) => Ok(None),
         Err(fail) => Err(fail),
-    }
-}
-
-// Whether what waits as the configuration begins as no block's file.
-fn is_no_block(list: &[Pending]) -> bool
-    ensures { result ≡ true → IsNoBlock (change_at config (list_of list.now)) }
-{
-    match pending_list::lookup(list, &FileName::Config) {
-        Some(Change::Bytes(bytes)) => !bytes.starts_with(b"cryfs;block;0\0"),
-        Some(Change::Removal) => true,
-        None => true,
     }
 }
 

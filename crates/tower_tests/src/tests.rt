@@ -2,9 +2,9 @@
 use crate::site::Site;
 use block_id::{BlockId, Why};
 use outside::{Change, Event, FileName, Pending};
+use session_saver::SyncError;
 use std::alloc::Global;
 use std::test::Fail;
-use store_session::SyncError;
 
 const A: BlockId = BlockId([1; 16]);
 

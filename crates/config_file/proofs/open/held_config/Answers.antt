@@ -8,22 +8,22 @@ use Rattle.config_file.specs.Format.{text_in}
 use Rattle.config_file.specs.Settings.{settings_of}
 use Rattle.config_file.proofs.open.held_config.Goals as goal
 
-pub returns-in_default : goal.returns-in_default
-returns-in_default c =
+pub returns-in_default-clause-holds : goal.returns-in_default-clause-holds
+returns-in_default-clause-holds c =
     let key = c.args.key.now in
     let part = c.args.part.now in
     not_held key part (not_sealed key part (sym c.in_default.ensures.value))
 
-pub returns-in_default-2 : goal.returns-in_default-2
-returns-in_default-2 c =
+pub returns-in_default-2-clause-holds : goal.returns-in_default-2-clause-holds
+returns-in_default-2-clause-holds c =
     let key = c.args.key.now in
     let part = c.args.part.now in
     let sealed = c.in-Some.sealed.now in
     let shut : opened_of key sealed ≡ None = sym c.in_ok-innermost.ensures.plain ∙ ap (option_map {T = Vec ℕ Global} {U = List ℕ} (λ plain. plain.items)) c.in_default-2.is in
     not_held key part (not_opened key part sealed (sym c.in-Some.ensures.value) shut)
 
-pub returns-in_default-text_from : goal.returns-in_default-text_from
-returns-in_default-text_from c =
+pub returns-in_default-text_from-clause-holds : goal.returns-in_default-text_from-clause-holds
+returns-in_default-text_from-clause-holds c =
     let key = c.args.key.now in
     let part = c.args.part.now in
     let sealed = c.in-Some.sealed.now in
@@ -32,8 +32,8 @@ returns-in_default-text_from c =
     let none : json_in key part ≡ None = is_opened key part sealed innermost (sym c.in-Some.ensures.value) opens ∙ ap text_in (sym c.deref.ensures.value) ∙ sym c.in_default-text_from.ensures in
     not_held key part none
 
-pub returns : goal.returns
-returns c =
+pub returns-clause-holds : goal.returns-clause-holds
+returns-clause-holds c =
     let key = c.args.key.now in
     let part = c.args.part.now in
     let sealed = c.in-Some.sealed.now in
@@ -41,4 +41,4 @@ returns c =
     let text = c.in-Some-text_from.text.now in
     let opens : opened_of key sealed ≡ Some innermost = sym c.in_ok-innermost.ensures.plain ∙ ap (option_map {T = Vec ℕ Global} {U = List ℕ} (λ plain. plain.items)) c.in-Some-2.is in
     let some : json_in key part ≡ Some text = is_opened key part sealed innermost (sym c.in-Some.ensures.value) opens ∙ ap text_in (sym c.deref.ensures.value) ∙ sym c.in-Some-text_from.ensures in
-    IfOk-weaker c.config_from.result _ _ (λ answer iff. held key part text (option_map settings_of answer) some iff) c.config_from.ensures
+    IfOk-weaker c.config_from.result _ _ (λ answer iff. held key part text (option_map settings_of answer) some iff) c.config_from.ensures.reads

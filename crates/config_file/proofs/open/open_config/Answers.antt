@@ -25,7 +25,7 @@ returns-in-Some-3-clause-found c =
     sym (opens_part password bytes c.in-Some.params c.in_ok-keys.keys.outer c.in-Some.ensures.value c.in_ok-keys.ensures.outer)
     ∙ sym c.in_ok-part.ensures.plain ∙ ap (option_map {T = Vec ℕ Global} {U = List ℕ} (λ plain. plain.items)) c.in-Some-2.is in
     let key : c.in_ok-keys.keys.inner ≡ key_in password bytes = c.in_ok-keys.ensures.inner ∙ ap (inner_key password (salt_in bytes)) c.in-Some.ensures.value in
-    let has = (c.in_ok-config.ensures s).0 (ap (option_map settings_of) c.in-Some-3.is) in
+    let has = (c.in_ok-config.ensures.holds s).0 (ap (option_map settings_of) c.in-Some-3.is) in
     let holds = subst (λ (k : List ℕ). Holds k part s) key (subst (λ (p : List ℕ). Holds c.in_ok-keys.keys.inner p s) c.deref.ensures.value has) in
     (c.in-Some.ensures.form, c.in-Some.ensures.value, (part, opens, holds))
 
@@ -45,7 +45,7 @@ returns-clause-inner c =
         opens,
         λ s holds.
             let has = subst (λ (p : List ℕ). Holds c.in_ok-keys.keys.inner p s) (sym c.deref.ensures.value) (subst (λ (k : List ℕ). Holds k part s) (sym key) holds) in
-            let wrong : None ≡ Some s = sym (ap (option_map settings_of) c.in-None.is) ∙ (c.in_ok-config.ensures s).1 has in
+            let wrong : None ≡ Some s = sym (ap (option_map settings_of) c.in-None.is) ∙ (c.in_ok-config.ensures.holds s).1 has in
             absurd (cc wrong),
       ),
     )

@@ -5,7 +5,6 @@ use Rattle.std.specs.FinMap as fin
 use Rattle.local_state.specs.declared.mark.Mark.{Mark}
 use Rattle.local_state.specs.Known.{raised_version}
 use Rattle.sealed_store.specs.BlockFiles.{opens_file}
-use Rattle.sealed_store.specs.Stores.{key_of, cipher_of}
 use Rattle.integrity_store.specs.BlockRecords.{Record, record_of, record_in}
 use Rattle.integrity_store.specs.Held.{Held, own}
 use Rattle.integrity_store.specs.Applied.{IsRaised}
@@ -34,7 +33,7 @@ opens_to h id payload plain version (Err e) raised reads opens = tt
 
 pub returns-clause-opens : goal.returns-clause-opens
 returns-clause-opens g c =
-    let held = held_of (g.C.Sealer.opens (cipher_of c.args.sealed.now) (key_of c.args.sealed.now)) c.args.sealed.now c.args.state.now in
+    let held = held_of g.C.Sealer.opens c.args.sealed.now c.args.state.now in
     let size : length c.in_ok-plain.plain.items + 48 ≡ held.size = omega (arith, c.in_ok-plain.ensures.len, c.requires.may.sized) in
     let reads = reads_as held.size c.deref.result.now c.in_ok-plain.plain.items (own held c.args.id.now.0 c.next_version-version.result c.args.payload.now) c.deref.ensures.value size c.in_ok-plain.ensures.record_of in
     opens_to held c.args.id.now.0 c.args.payload.now c.deref.result.now c.next_version-version.result c.seal_plain.result c.next_version-version.ensures reads c.seal_plain.ensures.opens

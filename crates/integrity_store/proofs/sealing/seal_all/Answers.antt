@@ -1,17 +1,16 @@
 use Rattle.std.proofs.Common.{refl}
-use Rattle.sealed_store.specs.Stores.{key_of, cipher_of}
 use Rattle.integrity_store.specs.Views.{held_of}
 use Rattle.integrity_store.proofs.Sealed.{may_next, made_next, made_all}
 use Rattle.integrity_store.proofs.sealing.seal_all.Goals as goal
 
 pub seal_entry-requires-clause-may : goal.seal_entry-requires-clause-may
 seal_entry-requires-clause-may g c =
-    let held = held_of (g.C.Sealer.opens (cipher_of c.args.sealed.now) (key_of c.args.sealed.now)) c.args.sealed.now c.args.state.now in
+    let held = held_of g.C.Sealer.opens c.args.sealed.now c.args.state.now in
     (may_next held c.args.entries.now c.loop-entry.entry-index c.entry-item.result c.loop-entry-test.true c.entry-item.is c.loop-entry.invariant.may).0
 
 pub loop-entry-preserved : goal.loop-entry-preserved
 loop-entry-preserved g c =
-    let held = held_of (g.C.Sealer.opens (cipher_of c.args.sealed.now) (key_of c.args.sealed.now)) c.args.sealed.now c.args.state.now in
+    let held = held_of g.C.Sealer.opens c.args.sealed.now c.args.state.now in
     record {
       may = (may_next held c.args.entries.now c.loop-entry.entry-index c.entry-item.result c.loop-entry-test.true c.entry-item.is c.loop-entry.invariant.may).1;
       made = made_next held c.args.entries.now c.loop-entry.entry-index c.entry-item.result (g.R.Rng.stream c.args.chance.now) (g.R.Rng.stream c.loop-entry.chance) (g.R.Rng.stream c.seal_entry.new.chance)
@@ -20,5 +19,5 @@ loop-entry-preserved g c =
 
 pub returns : goal.returns
 returns g c =
-    let held = held_of (g.C.Sealer.opens (cipher_of c.args.sealed.now) (key_of c.args.sealed.now)) c.args.sealed.now c.args.state.now in
+    let held = held_of g.C.Sealer.opens c.args.sealed.now c.args.state.now in
     made_all held c.args.entries.now c.loop-entry.entry-index (g.R.Rng.stream c.args.chance.now) (g.R.Rng.stream c.loop-entry.chance) c.loop-entry.changes.items c.loop-entry-test.false c.loop-entry.invariant.made

@@ -1,6 +1,5 @@
 use Rattle.std.proofs.Common.{drop}
 use Rattle.std.specs.List.{AllByRecursion}
-use Rattle.sealed_store.specs.Stores.{key_of, cipher_of}
 use Rattle.store_api.specs.Entries.{entries_of}
 use Rattle.integrity_store.specs.Sealing.{MaySeal}
 use Rattle.integrity_store.specs.Views.{held_of}
@@ -9,6 +8,6 @@ use Rattle.integrity_store.proofs.sealing.seal_all.Given as goal
 
 abbrev pub invariant-loop-entry : goal.invariant-loop-entry
 invariant-loop-entry g l = record {
-  may : AllByRecursion (MaySeal (held_of (g.C.Sealer.opens (cipher_of l.sealed) (key_of l.sealed)) l.sealed l.state)) (drop l.entry-index (entries_of l.entries));
-  made : MadeSoFar (held_of (g.C.Sealer.opens (cipher_of l.sealed) (key_of l.sealed)) l.sealed l.state) l.entries l.entry-index (g.R.Rng.stream l.initial.chance) (g.R.Rng.stream l.chance) l.changes.items;
+  may : AllByRecursion (MaySeal (held_of g.C.Sealer.opens l.sealed l.state)) (drop l.entry-index (entries_of l.entries));
+  made : MadeSoFar (held_of g.C.Sealer.opens l.sealed l.state) l.entries l.entry-index (g.R.Rng.stream l.initial.chance) (g.R.Rng.stream l.chance) l.changes.items;
 }

@@ -25,5 +25,5 @@ loop-rest-preserved g c =
         part_more c.args.text.now i.written.0 rest (take n rest) _ i.written.1 (split_rest n rest c.in-Ok.ensures.bound),
         written_more _ _ _ i.written.0 _ i.written.2 c.in-Ok.ensures.ok,
       );
-      grows = omega (arith, i.grows, c.write.ensures.grows);
+      quiet = c.in-Ok.ensures.quiet ∙ i.quiet;
     }

@@ -1,4 +1,4 @@
-use Rattle.std.proofs.Common.{arith}
+use Rattle.std.proofs.Common.{arith, ◌∙◌}
 use Rattle.redo_vault.proofs.Lists.{written_more, stops_here}
 use Rattle.redo_vault.proofs.redo_vault.write_all.Goals as goal
 
@@ -11,6 +11,6 @@ pub loop-i-preserved : goal.loop-i-preserved
 loop-i-preserved g c = record {
   written = written_more c.args.list.now c.loop-i.i c.index-list-i.result (g.V.Vault.trace c.args.vault.now) (g.V.Vault.trace c.loop-i.vault) (g.V.Vault.trace c.write.new.vault)
       c.loop-i-test.true c.index-list-i.is c.loop-i.invariant.written c.in-Ok.ensures.ok;
-  grows = omega (arith, c.loop-i.invariant.grows, c.in-Ok.ensures.cause.grows);
+  quiet = c.in-Ok.ensures.cause.quiet ∙ c.loop-i.invariant.quiet;
   idle = λ e. absurd (omega arith);
 }

@@ -3,12 +3,12 @@ use Rattle.std.specs.Prelude.{Option}
 use Rattle.std.proofs.lemmas.List.{length-map}
 use Rattle.outside.specs.Trace.{Call}
 use Rattle.outside.specs.View.{pending_of}
-use Rattle.sealed_store.specs.Stores.{IsIntact, block_size_of, key_of, cipher_of}
+use Rattle.sealed_store.specs.Stores.{IsIntact, block_size_of, cipher_of}
 use Rattle.store_api.specs.Entries.{entries_of}
 use Rattle.integrity_store.specs.declared.store.IntegrityStore.{IntegrityStore}
 use Rattle.integrity_store.specs.Held.{Held}
-use Rattle.integrity_store.specs.Views.{held_of}
-use Rattle.integrity_store.proofs.Applying.{may_seal_batch}
+use Rattle.integrity_store.specs.Views.{held_by}
+use Rattle.integrity_store.proofs.Applying.{may_seal_batch, applied_nothing}
 use Rattle.integrity_store.proofs.Batches.{is_spent, isnt_spent, Listed, may_mark_listed, room, Marked, applied_batch, drawn_in, whole_batch, changed_batch}
 use Rattle.integrity_store.proofs.apply.IntegrityStoreBlocksMut.apply.Given.{Over}
 use Rattle.integrity_store.proofs.apply.IntegrityStoreBlocksMut.apply.Goals as goal
@@ -17,7 +17,7 @@ abbrev Store : Over → Type 0
 Store g = IntegrityStore g.row.V.Denot g.row.C.Denot
 
 abbrev held : (g : Over) → Store g → Held
-held g s = held_of (g.C.Sealer.opens (cipher_of s.sealed) (key_of s.sealed)) s.sealed s.state
+held g s = held_by g.C.Sealer.opens s
 
 abbrev trace : (g : Over) → Store g → Option (List Call)
 trace g s = g.V.Vault.trace s.sealed.vault.vault
@@ -96,3 +96,11 @@ returns-in-Ok-clause-applied g c = applied_batch (marked g c)
 
 pub returns-in-Ok-clause-drawn : goal.returns-in-Ok-clause-drawn
 returns-in-Ok-clause-drawn g c = drawn_in (marked g c)
+
+-- ---- what is returned after an error
+
+pub returns-then-some_spent-clause-nothing : goal.returns-then-some_spent-clause-nothing
+returns-then-some_spent-clause-nothing g c = applied_nothing (held g c.args.self.now) (held g c.args.self.now) (trace g c.args.self.now) (trace g c.args.self.now) refl refl
+
+pub returns-in-Err-clause-nothing : goal.returns-in-Err-clause-nothing
+returns-in-Err-clause-nothing g c = applied_nothing (held g c.args.self.now) (held g c.put_sealed.new.self) (trace g c.args.self.now) (trace g c.put_sealed.new.self) c.in-Err.ensures.held (ap g.V.Vault.trace c.in-Err.ensures.vault)

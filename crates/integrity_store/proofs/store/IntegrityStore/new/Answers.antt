@@ -1,6 +1,15 @@
+use Rattle.integrity_store.specs.Views.{held_of}
+use Rattle.integrity_store.specs.Enduring.{opened_stands}
+use Rattle.integrity_store.specs.Unused.{untouched_sound}
 use Rattle.local_state.specs.Record.{plain_state}
 use Rattle.integrity_store.specs.Stores.{few_used}
 use Rattle.integrity_store.proofs.store.IntegrityStore.new.Goals as goal
 
 pub returns-clause-few : goal.returns-clause-few
 returns-clause-few g c = few_used (plain_state c.args.state) c.args.sealed.vault.list c.requires.state
+
+pub returns-clause-fresh : goal.returns-clause-fresh
+returns-clause-fresh g c = λ empty untouched. untouched_sound (held_of g.C.Sealer.opens c.args.sealed c.args.state) (g.V.Vault.trace c.args.sealed.vault.vault) empty untouched
+
+pub returns-clause-opened : goal.returns-clause-opened
+returns-clause-opened g c = λ content stands. opened_stands (held_of g.C.Sealer.opens c.args.sealed c.args.state) (g.V.Vault.trace c.args.sealed.vault.vault) content c.requires.state stands

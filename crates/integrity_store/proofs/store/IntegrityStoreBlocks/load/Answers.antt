@@ -1,46 +1,64 @@
 use Rattle.std.proofs.Common.{◌≡◌, sym}
 use Rattle.std.specs.declared.option.Option.TheVariants.{Some}
 use Rattle.std.specs.declared.result.Result.TheVariants.{Ok}
-use Rattle.sealed_store.specs.Stores.{IsIntact, block_size_of, key_of, cipher_of}
+use Rattle.sealed_store.specs.Stores.{IsIntact, block_size_of, cipher_of}
 use Rattle.integrity_store.specs.declared.store.IntegrityStore.{IntegrityStore}
 use Rattle.integrity_store.specs.Held.{live_version}
-use Rattle.integrity_store.specs.Loads.{fetched_len}
-use Rattle.integrity_store.specs.Views.{held_of}
+use Rattle.integrity_store.specs.Loads.{fetched_len, loads_none, loads_ok, loads_err}
+use Rattle.integrity_store.specs.Views.{held_by}
 use Rattle.integrity_store.proofs.Loading.{stays, loaded_ok, loaded_err}
 use Rattle.integrity_store.proofs.store.IntegrityStoreBlocks.load.Goals as goal
 
 pub returns-in-Ok-clause-outcome : goal.returns-in-Ok-clause-outcome
 returns-in-Ok-clause-outcome g c =
-    let held = λ (s : IntegrityStore g.row.V.Denot g.row.C.Denot). held_of (g.C.Sealer.opens (cipher_of s.sealed) (key_of s.sealed)) s.sealed s.state in
+    let held = λ (s : IntegrityStore g.row.V.Denot g.row.C.Denot). held_by g.C.Sealer.opens s in
     let trace = λ (s : IntegrityStore g.row.V.Denot g.row.C.Denot). g.V.Vault.trace s.sealed.vault.vault in
     let faults = λ (s : IntegrityStore g.row.V.Denot g.row.C.Denot). g.V.Vault.faults s.sealed.vault.vault in
     let own = λ (s : IntegrityStore g.row.V.Denot g.row.C.Denot). IsIntact (block_size_of s.sealed) (g.C.Sealer.iv_size (cipher_of s.sealed)) in
     let live : live_version (held c.args.self.now) c.args.id.now.0 ≡ Some c.in-Some.known = sym c.in-Some.ensures in
-    loaded_ok held trace faults own c.args.self.now c.fetch.new.self c.args.id.now.0 c.in-Some.known c.in-Ok.payload c.in-Ok.ensures.intact c.in-Ok.ensures.held c.in-Ok.ensures.faults live c.in-Ok.ensures.fetched
+    loaded_ok held trace faults own c.args.self.now c.fetch.new.self c.args.id.now.0 c.in-Some.known c.in-Ok.payload c.in-Ok.ensures.intact c.in-Ok.ensures.held c.in-Ok.ensures.faults live c.in-Ok.ensures.quiet c.in-Ok.ensures.fetched
 
 pub returns-in-Ok-clause-stays : goal.returns-in-Ok-clause-stays
 returns-in-Ok-clause-stays g c =
-    let held = λ (s : IntegrityStore g.row.V.Denot g.row.C.Denot). held_of (g.C.Sealer.opens (cipher_of s.sealed) (key_of s.sealed)) s.sealed s.state in
+    let held = λ (s : IntegrityStore g.row.V.Denot g.row.C.Denot). held_by g.C.Sealer.opens s in
     let trace = λ (s : IntegrityStore g.row.V.Denot g.row.C.Denot). g.V.Vault.trace s.sealed.vault.vault in
     let faults = λ (s : IntegrityStore g.row.V.Denot g.row.C.Denot). g.V.Vault.faults s.sealed.vault.vault in
     let own = λ (s : IntegrityStore g.row.V.Denot g.row.C.Denot). IsIntact (block_size_of s.sealed) (g.C.Sealer.iv_size (cipher_of s.sealed)) in
     let live : live_version (held c.args.self.now) c.args.id.now.0 ≡ Some c.in-Some.known = sym c.in-Some.ensures in
-    stays held trace faults own c.args.self.now c.fetch.new.self c.args.id.now.0 c.in-Some.known (Ok c.in-Ok.payload) c.in-Ok.ensures.held c.in-Ok.ensures.faults live c.in-Ok.ensures.fetched
+    stays held trace faults own c.args.self.now c.fetch.new.self c.args.id.now.0 c.in-Some.known (Ok c.in-Ok.payload.items) c.in-Ok.ensures.held c.in-Ok.ensures.faults live c.in-Ok.ensures.fetched
 
 pub returns-in-Ok-clause-sized : goal.returns-in-Ok-clause-sized
 returns-in-Ok-clause-sized g c =
-    let held = λ (s : IntegrityStore g.row.V.Denot g.row.C.Denot). held_of (g.C.Sealer.opens (cipher_of s.sealed) (key_of s.sealed)) s.sealed s.state in
+    let held = λ (s : IntegrityStore g.row.V.Denot g.row.C.Denot). held_by g.C.Sealer.opens s in
     let trace = λ (s : IntegrityStore g.row.V.Denot g.row.C.Denot). g.V.Vault.trace s.sealed.vault.vault in
     let faults = λ (s : IntegrityStore g.row.V.Denot g.row.C.Denot). g.V.Vault.faults s.sealed.vault.vault in
     let own = λ (s : IntegrityStore g.row.V.Denot g.row.C.Denot). IsIntact (block_size_of s.sealed) (g.C.Sealer.iv_size (cipher_of s.sealed)) in
     let live : live_version (held c.args.self.now) c.args.id.now.0 ≡ Some c.in-Some.known = sym c.in-Some.ensures in
-    fetched_len (held c.args.self.now) (trace c.args.self.now) (trace c.fetch.new.self) c.args.id.now.0 c.in-Some.known c.in-Ok.payload c.in-Ok.ensures.fetched
+    fetched_len (held c.args.self.now) (trace c.args.self.now) (trace c.fetch.new.self) c.args.id.now.0 c.in-Some.known c.in-Ok.payload.items c.in-Ok.ensures.fetched
 
 pub returns-in-Err-clause-outcome : goal.returns-in-Err-clause-outcome
 returns-in-Err-clause-outcome g c =
-    let held = λ (s : IntegrityStore g.row.V.Denot g.row.C.Denot). held_of (g.C.Sealer.opens (cipher_of s.sealed) (key_of s.sealed)) s.sealed s.state in
+    let held = λ (s : IntegrityStore g.row.V.Denot g.row.C.Denot). held_by g.C.Sealer.opens s in
     let trace = λ (s : IntegrityStore g.row.V.Denot g.row.C.Denot). g.V.Vault.trace s.sealed.vault.vault in
     let faults = λ (s : IntegrityStore g.row.V.Denot g.row.C.Denot). g.V.Vault.faults s.sealed.vault.vault in
     let own = λ (s : IntegrityStore g.row.V.Denot g.row.C.Denot). IsIntact (block_size_of s.sealed) (g.C.Sealer.iv_size (cipher_of s.sealed)) in
     let live : live_version (held c.args.self.now) c.args.id.now.0 ≡ Some c.in-Some.known = sym c.in-Some.ensures in
-    loaded_err held trace faults own c.args.self.now c.fetch.new.self c.args.id.now.0 c.in-Some.known c.in-Err.fail c.in-Err.ensures.intact c.in-Err.ensures.held c.in-Err.ensures.faults live c.in-Err.ensures.cause c.in-Err.ensures.fetched
+    loaded_err held trace faults own c.args.self.now c.fetch.new.self c.args.id.now.0 c.in-Some.known c.in-Err.fail c.in-Err.ensures.intact c.in-Err.ensures.held c.in-Err.ensures.faults live c.in-Err.ensures.cause c.in-Err.ensures.quiet c.in-Err.ensures.fetched
+
+pub returns-in-None-clause-loads : goal.returns-in-None-clause-loads
+returns-in-None-clause-loads g c =
+    let held = λ (s : IntegrityStore g.row.V.Denot g.row.C.Denot). held_by g.C.Sealer.opens s in
+    let trace = λ (s : IntegrityStore g.row.V.Denot g.row.C.Denot). g.V.Vault.trace s.sealed.vault.vault in
+    loads_none (held c.args.self.now) (trace c.args.self.now) c.args.id.now.0 (sym c.in-None.ensures)
+
+pub returns-in-Ok-clause-loads : goal.returns-in-Ok-clause-loads
+returns-in-Ok-clause-loads g c =
+    let held = λ (s : IntegrityStore g.row.V.Denot g.row.C.Denot). held_by g.C.Sealer.opens s in
+    let trace = λ (s : IntegrityStore g.row.V.Denot g.row.C.Denot). g.V.Vault.trace s.sealed.vault.vault in
+    loads_ok (held c.args.self.now) (held c.fetch.new.self) (trace c.args.self.now) (trace c.fetch.new.self) c.args.id.now.0 c.in-Some.known c.in-Ok.payload.items c.in-Ok.ensures.held (sym c.in-Some.ensures) c.in-Ok.ensures.fetched
+
+pub returns-in-Err-clause-loads : goal.returns-in-Err-clause-loads
+returns-in-Err-clause-loads g c =
+    let held = λ (s : IntegrityStore g.row.V.Denot g.row.C.Denot). held_by g.C.Sealer.opens s in
+    let trace = λ (s : IntegrityStore g.row.V.Denot g.row.C.Denot). g.V.Vault.trace s.sealed.vault.vault in
+    loads_err (held c.args.self.now) (held c.fetch.new.self) (trace c.args.self.now) (trace c.fetch.new.self) c.args.id.now.0 c.in-Some.known c.in-Err.fail c.in-Err.ensures.held (sym c.in-Some.ensures) c.in-Err.ensures.fetched

@@ -1,4 +1,4 @@
-use Rattle.std.proofs.Common.{◌≡◌, ◌≤◌, ◌++◌, ℕ, List, [], length, take, slice_range, ap, sym, ◌∙◌, arith}
+use Rattle.std.proofs.Common.{◌≡◌, ◌≤◌, ◌++◌, ℕ, List, [], length, take, slice_range, ap, sym, subst, ◌∙◌, arith}
 use Rattle.std.proofs.lemmas.List.{take_at}
 use Rattle.std.proofs.lemmas.Grind.{common_steps}
 use Rattle.std.specs.declared.option.Option.{Option}
@@ -27,3 +27,11 @@ returns-in_err-n-clause-gave g c = (
   still_empty c.self.inside.block.items _ c.self.inside.start c.self.inside.end (ap (λ (r : Reading). r.ahead) c.self.view_is ∙ c.requires) (omega arith) (omega arith)
       ∙ sym (ap (λ (l : List ℕ). l ++ []) c.requires),
 )
+
+read_ahead : (block now : List ℕ) (n : ℕ) → now ≡ block → slice_range now 0 n ≡ take n block
+read_ahead block now n e = grind (arith, common_steps)
+
+pub returns-clause-took : goal.returns-clause-took
+returns-clause-took g c =
+    subst (λ (piece : List ℕ). g.I.Source.took c.args.input.now c.read_block.new.input piece)
+    (sym (read_ahead _ _ _ (take_at c.read_block.new.block _ _ (omega arith)))) c.in_ok-n.ensures.took

@@ -2,6 +2,7 @@ use Rattle.std.proofs.Common.{◌≡◌, ◌≤◌, ◌<◌, ◌+◌, ◌++◌, 
 use Rattle.std.specs.declared.option.Option.{Option}
 use Rattle.line_io.specs.Lines.{IsUnbroken, kept_on}
 use Rattle.line_io.specs.Reading.{Reading, total, remaining}
+use Rattle.line_io.proofs.Asking.{asked_more, asked_line, asked_none, asked_failed}
 use Rattle.line_io.proofs.Progress.{Part, Part-ahead, Part-more, Taken, Taken-ahead, Taken-more, shown_cut, shown_whole, took_cut, took_last, at_true, at_false, at_not, Ends-less, Ends-rest}
 use Rattle.line_io.proofs.reader.LineReader.next_line.Goals as goal
 
@@ -36,7 +37,11 @@ loop-self-preserved g c =
           (at_true _ _ _ c.if-branch.true a.some) (omega (arith, i.3, a.stays)) (Taken-ahead _ _ _ i.0 _ _ _ i.4 a.gave);
       ended = λ e. Ends-less _ _ _ m.1 (a.ended (sym c.take_piece.ensures.ended ∙ e));
       counted = ap (λ n. total n (g.I.Source.rest c.look_ahead.new.input)) c.take_piece.ensures.taken ∙ (a.counted ∙ c.loop-self.invariant.counted);
-      grows = omega (arith, c.loop-self.invariant.grows, a.grows);
+      asked = asked_more g.I.Source.took c.loop-self.is_empty _ _ c.look_ahead.new.self.ahead _ _ _ _ c.loop-self.invariant.asked a.looks m.0 (at_true _ _ _ c.if-branch.true a.some) m.1;
+      after_end = λ e.
+          let before = c.loop-self.invariant.after_end e in
+          let late = a.after_end before.1 in (late.0 ∙ before.0, c.take_piece.ensures.ended ∙ late.1);
+      quiet = a.quiet ∙ c.loop-self.invariant.quiet;
     }
 
 pub returns-clause-line : goal.returns-clause-line
@@ -68,3 +73,19 @@ returns-clause-shown g c =
     let i = c.loop-self.invariant.part in
     let a = c.in_ok-look_ahead.ensures in
     shown_whole _ c.look_ahead.new.self.ahead _ i.0 _ _ _ _ _ _ i.1 (Taken-ahead _ _ _ i.0 _ _ _ i.4 a.gave) (a.empty c.if-branch.false) a.line
+
+pub returns-clause-reads : goal.returns-clause-reads
+returns-clause-reads g c = asked_line g.I.Source.took c.loop-self.is_empty _ _ c.look_ahead.new.self.ahead _ _ _ c.loop-self.invariant.asked c.in_ok-look_ahead.ensures.looks
+
+pub returns-then-take_piece-clause-reads : goal.returns-then-take_piece-clause-reads
+returns-then-take_piece-clause-reads g c = asked_line g.I.Source.took c.loop-self.is_empty _ _ c.look_ahead.new.self.ahead _ _ _ c.loop-self.invariant.asked c.in_ok-look_ahead.ensures.looks
+
+pub returns-clause-line_ahead : goal.returns-clause-line_ahead
+returns-clause-line_ahead g c = λ h. asked_none g.I.Source.took c.loop-self.is_empty _ _ c.look_ahead.new.self.ahead _ _ _ c.loop-self.invariant.asked c.in_ok-look_ahead.ensures.looks h
+
+pub returns-then-take_piece-clause-line_ahead : goal.returns-then-take_piece-clause-line_ahead
+returns-then-take_piece-clause-line_ahead g c = λ h. asked_none g.I.Source.took c.loop-self.is_empty _ _ c.look_ahead.new.self.ahead _ _ _ c.loop-self.invariant.asked c.in_ok-look_ahead.ensures.looks h
+
+pub returns-in_err-look_ahead-clause-line_ahead : goal.returns-in_err-look_ahead-clause-line_ahead
+returns-in_err-look_ahead-clause-line_ahead g c = λ h.
+    absurd (asked_failed g.I.Source.took c.loop-self.is_empty _ _ _ _ c.loop-self.invariant.asked (λ n. let bad = c.in_err-look_ahead.ensures.there n in absurd (cc)) h)

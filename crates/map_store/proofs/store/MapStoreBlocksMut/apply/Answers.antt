@@ -1,4 +1,8 @@
-use Rattle.std.proofs.Common.{refl}
+use Rattle.std.proofs.Common.{refl, sym, ap}
+use Rattle.std.specs.FinMap as fin
+use Rattle.std.specs.FinMap.{get-empty}
+use Rattle.store_api.specs.Content.{id_cmp}
+use Rattle.map_store.specs.Rows.{newer}
 use Rattle.map_store.specs.declared.store.MapStore.{MapStore}
 use Rattle.map_store.proofs.Changing.{kept_with, changed_with}
 use Rattle.map_store.proofs.store.MapStoreBlocksMut.apply.Goals as goal
@@ -12,3 +16,6 @@ pub returns-in-Ok-clause-intact : goal.returns-in-Ok-clause-intact
 returns-in-Ok-clause-intact g c =
     let after : MapStore = record { payload = c.args.self.now.payload; rows = c.in-Ok.rows } in
     kept_with (λ (s : MapStore). s.payload) (λ (s : MapStore). s.rows) c.args.self.now after c.args.batch.now c.requires.intact c.requires.fits refl c.in-Ok.ensures.with
+
+pub returns-in-Err-clause-nothing : goal.returns-in-Err-clause-nothing
+returns-in-Err-clause-nothing g c = (refl, λ id. sym (ap (λ o. newer o (fin.get c.args.self.now.rows id)) (get-empty id_cmp id)))

@@ -1,7 +1,7 @@
 use Rattle.std.proofs.Common.{◌≡◌, ◌≤◌, ◌+◌, ◌-◌, ◌++◌, ℕ, List, length, take, drop, arith, refl, ap, sym, ◌∙◌}
 use Rattle.std.proofs.lemmas.Grind.{common_steps}
 use Rattle.std.proofs.lemmas.List.{take_at, take-append-drop, length-take-le, drop_all, drop-drop}
-use Rattle.outside.specs.MemoryStreams.{Feed}
+use Rattle.outside.specs.MemoryStreams.{Feed, one_more}
 use Rattle.outside.proofs.memory_source.MemorySourceSource.read.Goals as goal
 
 -- the bytes copied to the front of a piece are the first of what was left
@@ -28,6 +28,9 @@ returns-clause-ok c =
           ∙ ap (λ (rest : List ℕ). take n (c.copy_from_slice.new.self ++ drop n c.args.piece.now) ++ rest) (drop-drop n i.given i.bytes.items)),
       refl,
     )
+
+pub returns-clause-took : goal.returns-clause-took
+returns-clause-took c = record { calls = c.saturating_add-self-inside.ensures ∙ ap (λ (s : Feed). one_more s.calls) c.self.view_is; rest = returns-clause-ok c }
 
 pub returns-clause-end : goal.returns-clause-end
 returns-clause-end c = λ z more.

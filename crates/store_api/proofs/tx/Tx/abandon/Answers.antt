@@ -4,4 +4,4 @@ use Rattle.store_api.proofs.Overlays.{fits_nothing}
 use Rattle.store_api.proofs.tx.Tx.abandon.Goals as goal
 
 pub returns-clause-intact : goal.returns-clause-intact
-returns-clause-intact g c = (c.requires, subst (Fits g.S.Blocks.holdings c.args.self.now.store) (sym c.clear.ensures) (fits_nothing g.S.Blocks.holdings c.args.self.now.store))
+returns-clause-intact g c = (c.requires.0, record { fits = subst (Fits g.S.Blocks.holdings c.args.self.now.store) (sym c.clear.ensures) (fits_nothing g.S.Blocks.holdings c.args.self.now.store); few = c.requires.1.few })

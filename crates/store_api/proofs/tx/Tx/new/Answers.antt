@@ -4,4 +4,4 @@ use Rattle.store_api.proofs.Overlays.{fits_nothing}
 use Rattle.store_api.proofs.tx.Tx.new.Goals as goal
 
 pub returns-clause-intact : goal.returns-clause-intact
-returns-clause-intact g c = (c.requires.intact, subst (Fits g.S.Blocks.holdings c.args.store) (sym c.new.ensures) (fits_nothing g.S.Blocks.holdings c.args.store))
+returns-clause-intact g c = (c.requires.intact, record { fits = subst (Fits g.S.Blocks.holdings c.args.store) (sym c.new.ensures) (fits_nothing g.S.Blocks.holdings c.args.store); few = c.requires.few })

@@ -1,0 +1,73 @@
+-- What a put leaves to a session, and what a record that is opened anew stands for.
+use Rattle.std.proofs.Common.{◌≡◌, ℕ, Bool, true, false, List, refl, sym, ◌∙◌, ap, subst}
+use Rattle.std.specs.Prelude.{Option, Some, cond}
+use Rattle.std.specs.FinMap as fin
+use Rattle.std.specs.FinMap.{get-insert}
+use Rattle.std.specs.Cmp.{eq_by_cmp_equiv}
+use Rattle.std.specs.Cmp.Lexicographic.{nat_list_cmp_total}
+use Rattle.outside.specs.Trace.{Call}
+use Rattle.outcome.specs.Meanings.{Meanings}
+use Rattle.local_state.specs.Record.{record_bytes, HasRecord}
+use Rattle.local_state.proofs.Records.{one_reading}
+use Rattle.store_api.specs.Content.{Content, SameContent, same_id, Changes, or_else, over}
+use Rattle.store_api.specs.Durables.{Identity, Durables, Records, Enduring}
+use Rattle.store_api.specs.Holdings.{Holdings, Steady, Changed}
+use Rattle.integrity_store.specs.Held.{Held}
+use Rattle.integrity_store.specs.Standing.{identity_of, Stands}
+
+-- ---- a put
+
+picked : (b : Bool) (payload : List ℕ) (o : Option (Option (List ℕ))) (old : Option (List ℕ)) → b ≡ true → or_else (cond b (Some (Some payload)) o) old ≡ Some payload
+picked true payload o old e = refl
+picked false payload o old e = absurd (cc)
+
+-- what was put is in the content
+pub put_there : (content : Content) (id payload : List ℕ) → over (fin.insert fin.empty id (Some payload)) content id ≡ Some payload
+put_there content id payload =
+    ap (λ o. or_else o (content id)) (get-insert nat_list_cmp_total fin.empty id (Some payload) id)
+    ∙ picked (same_id id id) payload (fin.get fin.empty id) (content id) ((eq_by_cmp_equiv nat_list_cmp_total).refl id)
+
+module _ {S : Type 0} (M : Meanings S) (H : Holdings S) (applied : S → S → Changes → Type 0) (D : Durables S) (R : Records) (laws : Enduring M H applied D R) (steady : Steady M H)
+    (a begun b s : S) (changes : Changes) (same : begun ≡ a) (last : s ≡ b) (done : applied begun b changes) where
+  by_same : applied a b changes
+  by_same = subst (λ x. applied x b changes) same done
+
+  of_a : Changed M H begun b changes → Changed M H a b changes
+  of_a changed = subst (λ x. Changed M H x b changes) same changed
+
+  pub put_identity : D.identity s ≡ D.identity a
+  put_identity = ap D.identity last ∙ laws.applied_identity a b changes by_same
+
+  -- a store with changes stays unmarked and sound, and has the content with the changes
+  pub put_unmarked : (D.identity a).marked ≡ false → (D.identity s).marked ≡ false
+  put_unmarked unmarked = ap (λ (d : Identity). d.marked) put_identity ∙ unmarked
+
+  pub put_sound : Changed M H begun b changes → M.sound a → M.sound s
+  put_sound changed sound = subst M.sound (sym last) ((of_a changed).sound sound)
+
+  pub put_content : Changed M H begun b changes → M.sound a → SameContent (over changes (H.content a)) (H.content s)
+  put_content changed sound id = ap (λ x. H.content x id) last ∙ (of_a changed).content (steady.sound_told a sound) id
+
+-- ---- a record that is opened anew
+
+-- under the cipher, the key and the size that it was kept with, a record is opened as what it was kept by
+same_identity : (identity : Identity) (kept : List ℕ) (trace : Option (List Call)) (content : Content) (h : Held) → HasRecord h.state h.list → kept ≡ record_bytes h.state h.list
+    → identity.opens ≡ h.opens → identity.size ≡ h.size → Stands identity kept trace content → identity ≡ identity_of h
+same_identity identity kept trace content h has is opens size s =
+    let reading = one_reading s.held.state h.state s.held.list h.list s.has_record has (sym s.bytes ∙ is) in
+    λ i. record {
+      marked = (sym (ap (λ (d : Identity). d.marked) s.same) ∙ ap (λ st. st.marked) reading.0) i;
+      fs_id = (sym (ap (λ (d : Identity). d.fs_id) s.same) ∙ ap (λ st. st.fs_id) reading.0) i;
+      key_salt = (sym (ap (λ (d : Identity). d.key_salt) s.same) ∙ ap (λ st. st.key_salt) reading.0) i;
+      key_digest = (sym (ap (λ (d : Identity). d.key_digest) s.same) ∙ ap (λ st. st.key_digest) reading.0) i;
+      size = size i;
+      opens = opens i;
+    }
+
+-- it stands for the same, by the store that holds k
+pub reopened : (identity : Identity) (kept : List ℕ) (old new : Option (List Call)) (content : Content) (h k : Held) → HasRecord h.state h.list → kept ≡ record_bytes h.state h.list
+    → identity.opens ≡ h.opens → identity.size ≡ h.size → identity_of k ≡ identity_of h → record_bytes k.state k.list ≡ record_bytes h.state h.list → new ≡ old
+    → Stands identity kept old content → Stands (identity_of k) (record_bytes k.state k.list) new content
+reopened identity kept old new content h k has is opens size known bytes trace s =
+    subst (λ d. Stands d (record_bytes k.state k.list) new content) (same_identity identity kept old content h has is opens size s ∙ sym known)
+    (subst (λ b. Stands identity b new content) (is ∙ sym bytes) (subst (λ t. Stands identity kept t content) (sym trace) s))

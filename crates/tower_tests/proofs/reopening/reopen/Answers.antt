@@ -1,0 +1,29 @@
+use Rattle.std.proofs.Common.{◌≡◌, ◌∙◌, ap, true}
+use Rattle.outside.specs.View.{list_of}
+use Rattle.local_state.specs.Record.{plain_state, record_bytes}
+use Rattle.integrity_store.specs.Held.{Held}
+use Rattle.integrity_store.specs.Standing.{identity_of}
+use Rattle.integrity_store.specs.Views.{held_of, held_by}
+use Rattle.integrity_store.specs.WaitingLists.{in_order}
+use Rattle.tower_tests.proofs.Anew.{reopened}
+use Rattle.tower_tests.proofs.reopening.reopen.Goals as goal
+
+pub new-requires : goal.new-requires
+new-requires g c = in_order (plain_state c.in-Ok.state) (list_of c.in-Ok.list.items) c.in-Ok.ensures.has_record
+
+pub returns-clause-opened : goal.returns-clause-opened
+returns-clause-opened g c = λ identity content opens size stands.
+    let state = plain_state c.in-Ok.state in
+    let h : Held = record { size = c.args.seal.block_size; opens = g.C.Sealer.opens c.args.seal.cipher c.args.seal.key; state = state; list = list_of c.in-Ok.list.items } in
+    let vault = c.new-sealed.ensures.vault ∙ c.new.ensures in
+    let sealed : identity_of (held_of g.C.Sealer.opens c.new-sealed.result c.in-Ok.state) ≡ identity_of h = λ i. record {
+      marked = state.marked;
+      fs_id = state.fs_id;
+      key_salt = state.key_salt;
+      key_digest = state.key_digest;
+      size = c.new-sealed.ensures.size i;
+      opens = g.C.Sealer.opens (c.new-sealed.ensures.cipher i) (c.new-sealed.ensures.key i);
+    } in
+    c.new-2.ensures.opened content (reopened identity c.args.kept.now (g.V.Vault.trace c.args.vault) _ content h (held_by g.C.Sealer.opens c.new-2.result) c.in-Ok.ensures.has_record c.in-Ok.ensures.bytes opens size
+    (c.new-2.ensures.identity ∙ sealed) (c.new-2.ensures.records true ∙ ap (λ v. record_bytes state v.list) vault)
+    (c.new-2.ensures.trace ∙ ap (λ v. g.V.Vault.trace v.vault) vault) stands)

@@ -1,0 +1,197 @@
+// A payload that is put, synced, and loaded by the store that is opened anew from what was kept.
+ghost use Rattle.std.specs.Prelude.{◌≡◌, ◌≤◌, Some, true, false, length, IfOk, OnOk};
+ghost use Rattle.std.specs.FinMap as fin;
+ghost use Rattle.outside.specs.Changes.{change_at};
+ghost use Rattle.outside.specs.Honest.{count_told};
+ghost use Rattle.outside.specs.Trace.{config};
+ghost use Rattle.outside.specs.View.{bytes_of, list_of};
+ghost use Rattle.store_api.specs.Content.{Content, SameContent, over};
+ghost use Rattle.store_api.specs.Durables.{Identity};
+ghost use Rattle.store_api.specs.Holdings.{Changed, IsFew, MayGet};
+ghost use Rattle.session_saver.specs.Saving.{Represents};
+ghost use Rattle.integrity_store.specs.Held.{forged};
+ghost use Rattle.integrity_store.specs.Standing.{Stands};
+ghost use Rattle.integrity_store.specs.WaitingLists.{IsNoBlock};
+
+use block_id::BlockId;
+use integrity_store::IntegrityStore;
+use local_state::decode;
+use outside::{Change, FileName, Keeper, Pending, Vault, pending_list};
+use rand_core::Rng;
+use redo_vault::RedoVault;
+use seal_api::Sealer;
+use sealed_store::SealedStore;
+use session_saver::Saver;
+use std::alloc::Global;
+use std::test::Fail;
+use store_api::{Blocks, BlocksMut, Durable, Tx};
+
+// Whether an id may get a payload.
+fn may_get<S: Blocks>(tx: &Tx<S>, id: &BlockId) -> bool
+    ensures { result ≡ true → MayGet ⟦<Tx<S> as Blocks>⟧.holdings tx.now id.now.0 }
+{
+    tx.contains(id) || (!tx.is_used(id) && !id.cmp(&BlockId([0; 16])).is_eq())
+}
+
+// Has an id get a payload, over a store without changes.
+fn put_one<S: BlocksMut, R: Rng>(
+    alloc: Global,
+    tx: &mut Tx<S>,
+    id: &BlockId,
+    payload: Vec<u8>,
+    chance: &mut R,
+) -> Result<(), Fail>
+    requires intact { ⟦<Tx<S> as Blocks>⟧.meanings.intact tx.old }
+    requires none { tx.old.overlay ≡ fin.empty }
+    ensures intact { S.Blocks.meanings.intact tx.new.store }
+    ensures changed { OnOk result (Changed S.Blocks.meanings S.Blocks.holdings tx.old.store tx.new.store (fin.insert fin.empty id.now.0 (Some payload.items))) }
+    ensures applied { OnOk result (S.applied tx.old.store tx.new.store (fin.insert fin.empty id.now.0 (Some payload.items))) }
+    ensures forgeries { S.Blocks.meanings.forgeries tx.new.store ≡ S.Blocks.meanings.forgeries tx.old.store }
+{
+    if !may_get(tx, id) || payload.len() != tx.payload() {
+        return Err("no such payload for this id".into());
+    }
+    tx.put(id, payload)?;
+    tx.commit(alloc, chance)?;
+    Ok(())
+}
+
+// Has an id get a payload, and syncs.
+fn put_and_sync<S: Durable + Drop, K: Keeper + Drop, R: Rng>(
+    alloc: Global,
+    store: S,
+    saver: Saver<K>,
+    id: &BlockId,
+    payload: Vec<u8>,
+    chance: &mut R,
+) -> Result<(S, K), Fail>
+    requires intact { S.Durable.meanings.intact store }
+    requires few { IsFew (S.Durable.holdings.used store) }
+    requires room { length saver.last.items ≤ K.room saver.keeper }
+    requires sound { S.Durable.meanings.sound store }
+    requires unmarked { (S.durables.identity store).marked ≡ false }
+    ensures intact { IfOk result (λ end. S.Durable.meanings.intact end.0) }
+    ensures identity { IfOk result (λ end. S.durables.identity end.0 ≡ S.durables.identity store) }
+    ensures forgeries { IfOk result (λ end. S.Durable.meanings.forgeries end.0 ≡ S.Durable.meanings.forgeries store) }
+    ensures kept { IfOk result (λ end. Represents S.records (S.durables.identity store) (K.kept end.1) (S.durables.trace end.0)
+        (over (fin.insert fin.empty id.now.0 (Some payload.items)) (S.Durable.holdings.content store))) }
+{
+    let Saver {
+        keeper,
+        last,
+        changed: _,
+    } = saver;
+    let mut tx = Tx::new(alloc, store);
+    let put = put_one(alloc, &mut tx, id, payload, chance);
+    let mut after = tx.into_store();
+    let mut saver = Saver {
+        keeper,
+        last,
+        changed: true,
+    };
+    let synced = saver.sync(alloc, &mut after);
+    let Saver {
+        keeper,
+        last: _,
+        changed: _,
+    } = saver;
+    put?;
+    match synced {
+        Ok(()) => Ok((after, keeper)),
+        Err(_) => Err("no sync".into()),
+    }
+}
+
+// Whether what waits as the configuration begins as no block's file.
+pub(crate) fn is_no_block(list: &[Pending]) -> bool
+    ensures { result ≡ true → IsNoBlock (change_at config (list_of list.now)) }
+{
+    match pending_list::lookup(list, &FileName::Config) {
+        Some(Change::Bytes(bytes)) => !bytes.starts_with(b"cryfs;block;0\0"),
+        Some(Change::Removal) => true,
+        None => true,
+    }
+}
+
+/// What the files are sealed with, and their size.
+#[derive(Drop)]
+pub struct Seal<C> {
+    pub cipher: C,
+    pub key: [u8; 32],
+    pub block_size: usize,
+}
+
+// The store that a record is of.
+fn reopen<V: Vault + Drop, C: Sealer + Drop>(
+    alloc: Global,
+    vault: V,
+    seal: Seal<C>,
+    kept: &[u8],
+) -> Result<IntegrityStore<V, C>, Fail>
+    requires size { (128 ≤ seal.block_size) × (seal.block_size ≤ 1048576) }
+    requires iv { C.iv_size seal.cipher ≡ 16 }
+    ensures intact { IfOk result (λ store. ⟦<IntegrityStore<V, C> as Blocks>⟧.meanings.intact store) }
+    ensures forgeries { IfOk result (λ store. ⟦<IntegrityStore<V, C> as Blocks>⟧.meanings.forgeries store
+        ≡ count_told (forged (C.opens seal.cipher seal.key) seal.block_size) (V.trace vault)) }
+    ensures opened { IfOk result (λ store. (identity : Identity) (content : Content) → identity.opens ≡ C.opens seal.cipher seal.key → identity.size ≡ seal.block_size
+        → Stands identity kept.now (V.trace vault) content
+        → ⟦<IntegrityStore<V, C> as Blocks>⟧.meanings.sound store × SameContent content (⟦<IntegrityStore<V, C> as Blocks>⟧.holdings.content store)) }
+{
+    let Ok((state, list)) = decode(alloc, kept) else {
+        return Err("no record".into());
+    };
+    if !is_no_block(&list) {
+        return Err("a block as the configuration".into());
+    }
+    let Seal {
+        cipher,
+        key,
+        block_size,
+    } = seal;
+    let sealed = SealedStore::new(RedoVault::new(vault, list), cipher, key, block_size);
+    Ok(IntegrityStore::new(sealed, state))
+}
+
+/// The store that was opened anew, the keeper, and what the load answered.
+pub struct Reopened<V, C, K> {
+    pub store: IntegrityStore<V, C>,
+    pub keeper: K,
+    pub answer: Option<Vec<u8>>,
+}
+
+/// Has an id get a payload, syncs, opens the store anew from what is kept, and loads the id. If no file came that
+/// opens and was never put, that is the payload.
+pub fn put_reopen_load<V: Vault + Drop, C: Sealer + Drop, K: Keeper + Drop, R: Rng>(
+    alloc: Global,
+    store: IntegrityStore<V, C>,
+    saver: Saver<K>,
+    seal: Seal<C>,
+    id: &BlockId,
+    payload: Vec<u8>,
+    chance: &mut R,
+) -> Result<Reopened<V, C, K>, Fail>
+    requires size { (128 ≤ seal.block_size) × (seal.block_size ≤ 1048576) }
+    requires iv { C.iv_size seal.cipher ≡ 16 }
+    requires intact { ⟦<IntegrityStore<V, C> as Blocks>⟧.meanings.intact store }
+    requires few { IsFew (⟦<IntegrityStore<V, C> as Blocks>⟧.holdings.used store) }
+    requires room { length saver.last.items ≤ K.room saver.keeper }
+    requires sound { ⟦<IntegrityStore<V, C> as Blocks>⟧.meanings.sound store }
+    requires unmarked { (⟦<IntegrityStore<V, C> as Durable>⟧.durables.identity store).marked ≡ false }
+    requires opens { (⟦<IntegrityStore<V, C> as Durable>⟧.durables.identity store).opens ≡ C.opens seal.cipher seal.key }
+    requires length { (⟦<IntegrityStore<V, C> as Durable>⟧.durables.identity store).size ≡ seal.block_size }
+    ensures loads { IfOk result (λ end. ⟦<IntegrityStore<V, C> as Blocks>⟧.meanings.forgeries end.store ≤ ⟦<IntegrityStore<V, C> as Blocks>⟧.meanings.forgeries store
+        → bytes_of end.answer ≡ Some payload.items) }
+{
+    let (store, mut keeper) = put_and_sync(alloc, store, saver, id, payload, chance)?;
+    let vault = store.into_vault();
+    let Some(record) = keeper.load(alloc)? else {
+        return Err("nothing is kept".into());
+    };
+    let mut store = reopen(alloc, vault, seal, &record)?;
+    let answer = store.load(alloc, id)?;
+    Ok(Reopened {
+        store,
+        keeper,
+        answer,
+    })
+}
