@@ -1,0 +1,12 @@
+pub mod Ids
+pub mod Levels
+pub mod Loads
+pub mod Parts
+pub mod Forests
+pub mod Gathering
+pub mod Changes
+pub mod Making
+pub mod Counting
+pub mod Anew
+pub mod Puts
+pub mod Stored

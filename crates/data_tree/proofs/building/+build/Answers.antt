@@ -1,0 +1,63 @@
+use Rattle.std.proofs.Common.{◌≡◌, sym, ◌∙◌, ap, subst, [], ◌∷◌, ◌++◌, List, length, ◌+◌, ◌<◌, arith, refl, inl, inr}
+use Rattle.std.specs.Prelude.{min}
+use Rattle.std.proofs.lemmas.List.{length-append}
+use Rattle.block_id.specs.declared.id.BlockId.{BlockId}
+use Rattle.data_nodes.specs.Layout.{ids_of}
+use Rattle.data_tree.specs.Trees.{span}
+use Rattle.data_tree.specs.Needs.{BuildRest}
+use Rattle.data_tree.proofs.Loads.{tx_holdings}
+use Rattle.data_tree.proofs.Puts.{if_ok_both, keeps_same}
+use Rattle.data_tree.proofs.Making.{tree_made, build_start, build_next, built_inner, pushed}
+use Rattle.data_tree.proofs.Counting.{not_zero, count_whole, count_below, next_whole, next_below}
+use Rattle.data_tree.proofs.building.+build.Goals as goal
+
+pub build-returns-in-Ok-build_children-clause-built : goal.build-returns-in-Ok-build_children-clause-built
+build-returns-in-Ok-build_children-clause-built g t c =
+    built_inner c.args.level.depth c.below-below.result.depth c.args.bytes.now (ids_of c.in-Ok-build_children.children.items) c.below-below.ensures.depth c.in-Ok-build_children.ensures.built
+
+pub new_below-returns-in-Ok-clause-built : goal.new_below-returns-in-Ok-clause-built
+new_below-returns-in-Ok-clause-built g t c =
+    if_ok_both c.put_new.result (λ id new sets. tree_made id.0 sets.0 c.in-Ok.ensures.built new sets.1.0 sets.1.1.0 sets.1.1.1 (keeps_same g.S.Blocks.holdings c.build.new.tx c.put_new.new.tx c.put_new.ensures.store)) c.put_new.ensures.new c.put_new.ensures.sets
+
+pub build_children-loop-rest-init : goal.build_children-loop-rest-init
+build_children-loop-rest-init g t c =
+    let H = tx_holdings g.S.Blocks.holdings in
+    let a = c.args.tx.now in
+    let w = c.args.bytes.now in
+    let none : length c.new-children.result.items ≡ 0 = ap length c.new-children.ensures.items in
+    record {
+      intact = c.requires.intact;
+      store = refl;
+      built = subst (λ (xs : List BlockId). BuildRest H a a c.args.level.depth (ids_of xs) w w) (sym c.new-children.ensures.items) (build_start w);
+      there = λ q h. h;
+      whole = λ some. count_whole (length c.new-children.result.items) c.args.level.room (length w) none;
+      under = count_below (length c.new-children.result.items) c.args.level.room (length w) none c.requires.room;
+      begun = inr refl;
+    }
+
+pub build_children-loop-rest-preserved : goal.build_children-loop-rest-preserved
+build_children-loop-rest-preserved g t c =
+    let H = tx_holdings g.S.Blocks.holdings in
+    let inv = c.loop-rest.invariant in
+    let a = c.args.tx.now in
+    let b = c.new_below.new.tx in
+    let depth = c.args.level.depth in
+    let piece = c.split_at.result.0.now in
+    let after = c.split_at.result.1.now in
+    let cut : c.loop-rest.rest.now ≡ piece ++ after = c.split_at.ensures.by_index.0 in
+    let len : length c.loop-rest.rest.now ≡ length piece + length after = ap length cut ∙ length-append piece after in
+    let ids = pushed c.loop-rest.children.items c.in-Ok.id c.push.new.self.items c.in-Ok-push.ensures.items in
+    let some : 0 < length c.loop-rest.rest.now = not_zero (length c.loop-rest.rest.now) c.loop-rest-test.ensures in
+    let sized : c.args.level.room ≡ span (H.payload c.loop-rest.tx) depth = c.requires.level ∙ ap (λ s. span (g.S.Blocks.holdings.payload s) depth) (sym inv.store) in
+    let cut_len : length piece ≡ min c.args.level.room (length c.loop-rest.rest.now) = c.split_at.ensures.front_len ∙ c.min.ensures in
+    let more_ids : length c.push.new.self.items ≡ length c.loop-rest.children.items + 1 = ap length c.in-Ok-push.ensures.items ∙ length-append c.loop-rest.children.items (c.in-Ok.id ∷ []) in
+    record {
+      intact = c.new_below.ensures.intact;
+      store = c.new_below.ensures.store ∙ inv.store;
+      built = subst (λ cs. BuildRest H a b depth cs after c.args.bytes.now) (sym ids)
+          (build_next c.in-Ok.id.0 piece after inv.built cut (omega (arith, cut_len, some, c.requires.room)) (omega (arith, cut_len, sized)) (λ more. omega (arith, cut_len, sized, len, more)) (keeps_same g.S.Blocks.holdings c.loop-rest.tx b c.new_below.ensures.store) c.in-Ok.ensures.built);
+      there = λ q h. c.new_below.ensures.there q (inv.there q h);
+      whole = λ more. next_whole (length c.loop-rest.children.items) (length c.push.new.self.items) c.args.level.room (length c.loop-rest.rest.now) (length c.args.bytes.now) (length piece) (length after) (inv.whole some) more_ids cut_len len more;
+      under = next_below (length c.loop-rest.children.items) (length c.push.new.self.items) c.args.level.room (length c.loop-rest.rest.now) (length c.args.bytes.now) (length piece) (length after) (inv.whole some) more_ids some;
+      begun = inl (omega (arith, more_ids));
+    }

@@ -1,0 +1,4 @@
+pub mod Trees
+pub mod Roots
+pub mod Stored
+pub mod Needs

@@ -1,0 +1,111 @@
+// Building a tree of new blocks. Nothing is loaded.
+ghost use Rattle.std.specs.Prelude.{◌≡◌, ◌≤◌, ◌<◌, ◌+◌, ◌*◌, true, is_some, length, IfOk};
+ghost use Rattle.store_api.specs.Content.{Id};
+ghost use Rattle.data_nodes.specs.Layout.{ids_of, node_of, FitsPayload, fan_out};
+ghost use Rattle.data_tree.specs.Needs.{Built, BuiltTrees, NewTree};
+ghost use Rattle.data_tree.specs.Trees.{span};
+
+use crate::level::Level;
+use crate::nodes::put_new;
+use block_id::{BlockId, Memory};
+use data_nodes::Node;
+use rand_core::Rng;
+use std::alloc::Global;
+use store_api::{Blocks, Tx};
+
+/// A node of this level that holds the bytes, with new blocks for all that stands below it.
+#[cycle(build)]
+pub fn build<S: Blocks, R: Rng>(
+    alloc: Global,
+    tx: &mut Tx<S>,
+    bytes: &[u8],
+    level: Level,
+    chance: &mut R,
+) -> Result<Node, Memory>
+    requires intact { ⟦<Tx<S> as Blocks>⟧.meanings.intact tx.old }
+    requires level { level.room ≡ span (⟦<Tx<S> as Blocks>⟧.holdings.payload tx.old) level.depth }
+    requires fits { length bytes.now ≤ level.room }
+    requires some { 0 < level.depth → 0 < length bytes.now }
+    ensures intact { ⟦<Tx<S> as Blocks>⟧.meanings.intact tx.new }
+    ensures store { tx.new.store ≡ tx.old.store }
+    ensures built { IfOk result (λ node. Built ⟦<Tx<S> as Blocks>⟧.holdings tx.old tx.new level.depth (node_of node) bytes.now) }
+    ensures there { (q : Id) → is_some (⟦<Tx<S> as Blocks>⟧.holdings.content tx.old q) ≡ true → is_some (⟦<Tx<S> as Blocks>⟧.holdings.content tx.new q) ≡ true }
+    ensures fits { IfOk result (λ node. FitsPayload (⟦<Tx<S> as Blocks>⟧.holdings.payload tx.old) (node_of node)) }
+{
+    if level.depth == 0 {
+        return match bytes.to_vec(alloc) {
+            Ok(bytes) => Ok(Node::Leaf(bytes)),
+            Err(_) => Err(Memory),
+        };
+    }
+    let below = level.below(tx.payload());
+    match build_children(alloc, tx, bytes, below, chance) {
+        Ok(children) => Ok(Node::Inner {
+            depth: level.depth,
+            children,
+        }),
+        Err(memory) => Err(memory),
+    }
+}
+
+/// A new tree of this level that holds the bytes.
+#[cycle(build)]
+pub fn new_below<S: Blocks, R: Rng>(
+    alloc: Global,
+    tx: &mut Tx<S>,
+    bytes: &[u8],
+    level: Level,
+    chance: &mut R,
+) -> Result<BlockId, Memory>
+    requires intact { ⟦<Tx<S> as Blocks>⟧.meanings.intact tx.old }
+    requires level { level.room ≡ span (⟦<Tx<S> as Blocks>⟧.holdings.payload tx.old) level.depth }
+    requires fits { length bytes.now ≤ level.room }
+    requires some { 0 < level.depth → 0 < length bytes.now }
+    ensures intact { ⟦<Tx<S> as Blocks>⟧.meanings.intact tx.new }
+    ensures store { tx.new.store ≡ tx.old.store }
+    ensures built { IfOk result (λ id. NewTree ⟦<Tx<S> as Blocks>⟧.holdings tx.old tx.new level.depth id.0 bytes.now) }
+    ensures there { (q : Id) → is_some (⟦<Tx<S> as Blocks>⟧.holdings.content tx.old q) ≡ true → is_some (⟦<Tx<S> as Blocks>⟧.holdings.content tx.new q) ≡ true }
+{
+    match build(alloc, tx, bytes, level, chance) {
+        Ok(node) => put_new(alloc, tx, &node, chance),
+        Err(memory) => Err(memory),
+    }
+}
+
+/// New trees of this level for the bytes, as many as it takes.
+#[cycle(build)]
+pub fn build_children<S: Blocks, R: Rng>(
+    alloc: Global,
+    tx: &mut Tx<S>,
+    bytes: &[u8],
+    level: Level,
+    chance: &mut R,
+) -> Result<Vec<BlockId>, Memory>
+    requires intact { ⟦<Tx<S> as Blocks>⟧.meanings.intact tx.old }
+    requires level { level.room ≡ span (⟦<Tx<S> as Blocks>⟧.holdings.payload tx.old) level.depth }
+    requires room { 0 < level.room }
+    requires fits { length bytes.now ≤ fan_out (⟦<Tx<S> as Blocks>⟧.holdings.payload tx.old) * level.room }
+    ensures intact { ⟦<Tx<S> as Blocks>⟧.meanings.intact tx.new }
+    ensures store { tx.new.store ≡ tx.old.store }
+    ensures built { IfOk result (λ children. BuiltTrees ⟦<Tx<S> as Blocks>⟧.holdings tx.old tx.new level.depth (ids_of children.items) bytes.now) }
+    ensures there { (q : Id) → is_some (⟦<Tx<S> as Blocks>⟧.holdings.content tx.old q) ≡ true → is_some (⟦<Tx<S> as Blocks>⟧.holdings.content tx.new q) ≡ true }
+    ensures some { IfOk result (λ children. 0 < length bytes.now → 0 < length children.items) }
+    ensures under { IfOk result (λ children. length children.items * level.room < length bytes.now + level.room) }
+    ensures few { IfOk result (λ children. length children.items ≤ fan_out (⟦<Tx<S> as Blocks>⟧.holdings.payload tx.old)) }
+{
+    let mut children = Vec::new(alloc);
+    let mut rest = bytes;
+    while !rest.is_empty() {
+        let (piece, after) = rest.split_at(level.room.min(rest.len() as u64) as usize);
+        let id = match new_below(alloc, tx, piece, level, chance) {
+            Ok(id) => id,
+            Err(memory) => return Err(memory),
+        };
+        match children.push(id) {
+            Ok(()) => {}
+            Err(_) => return Err(Memory),
+        }
+        rest = after;
+    }
+    Ok(children)
+}

@@ -1,0 +1,88 @@
+// Dropping a tree. Only inner nodes are loaded.
+ghost use Rattle.std.specs.Prelude.{◌≡◌, [], true, is_some};
+ghost use Rattle.outcome.specs.Outcome.{Outcome};
+ghost use Rattle.store_api.specs.Holdings.{Stays};
+ghost use Rattle.data_nodes.specs.Layout.{ids_of, node_of, FitsPayload};
+ghost use Rattle.data_tree.specs.Needs.{HasTree, HasTrees, HasBelow};
+ghost use Rattle.data_tree.specs.Trees.{Replaces, depth_in};
+
+use crate::nodes::{load_at, remove};
+use block_id::{BlockId, Fail, Why};
+use data_nodes::Node;
+use std::alloc::Global;
+use store_api::{Blocks, Tx};
+
+// Drops a leaf, which isn't loaded.
+fn drop_leaf<S: Blocks>(tx: &mut Tx<S>, id: &BlockId) -> Result<(), Fail>
+    requires { ⟦<Tx<S> as Blocks>⟧.meanings.intact tx.old }
+    ensures outcome { Outcome ⟦<Tx<S> as Blocks>⟧.meanings (HasTree ⟦<Tx<S> as Blocks>⟧.holdings tx.old 0 id.now.0) tx.old tx.new result
+        (λ n _. Replaces (⟦<Tx<S> as Blocks>⟧.holdings.content tx.old) (⟦<Tx<S> as Blocks>⟧.holdings.content tx.new) n.ids []) }
+    ensures store { tx.new.store ≡ tx.old.store }
+{
+    if !tx.contains(id) {
+        return Err(Fail::Violation(Why::Structure));
+    }
+    match remove(tx, id) {
+        Ok(()) => Ok(()),
+        Err(_) => Err(Fail::Memory),
+    }
+}
+
+// Drops a tree of this depth.
+#[cycle(drop)]
+fn drop_below<S: Blocks>(alloc: Global, tx: &mut Tx<S>, id: &BlockId, depth: u8) -> Result<(), Fail>
+    requires { ⟦<Tx<S> as Blocks>⟧.meanings.intact tx.old }
+    ensures outcome { Outcome ⟦<Tx<S> as Blocks>⟧.meanings (HasTree ⟦<Tx<S> as Blocks>⟧.holdings tx.old depth id.now.0) tx.old tx.new result
+        (λ n _. Replaces (⟦<Tx<S> as Blocks>⟧.holdings.content tx.old) (⟦<Tx<S> as Blocks>⟧.holdings.content tx.new) n.ids []) }
+    ensures below { Stays S.holdings tx.old.store tx.new.store }
+{
+    if depth == 0 {
+        return drop_leaf(tx, id);
+    }
+    let node = match load_at(alloc, tx, id, depth) {
+        Ok(node) => node,
+        Err(fail) => return Err(fail),
+    };
+    match remove(tx, id) {
+        Ok(()) => drop_in(alloc, tx, &node, depth),
+        Err(_) => Err(Fail::Memory),
+    }
+}
+
+/// Drops what stands below a node of this depth.
+#[cycle(drop)]
+pub fn drop_in<S: Blocks>(alloc: Global, tx: &mut Tx<S>, node: &Node, depth: u8) -> Result<(), Fail>
+    requires intact { ⟦<Tx<S> as Blocks>⟧.meanings.intact tx.old }
+    requires fits { FitsPayload (⟦<Tx<S> as Blocks>⟧.holdings.payload tx.old) (node_of node.now) }
+    requires depth { depth_in (node_of node.now) ≡ depth }
+    ensures outcome { Outcome ⟦<Tx<S> as Blocks>⟧.meanings (HasBelow ⟦<Tx<S> as Blocks>⟧.holdings tx.old depth (node_of node.now)) tx.old tx.new result
+        (λ n _. Replaces (⟦<Tx<S> as Blocks>⟧.holdings.content tx.old) (⟦<Tx<S> as Blocks>⟧.holdings.content tx.new) n.ids []) }
+    ensures below { Stays S.holdings tx.old.store tx.new.store }
+{
+    match node {
+        Node::Leaf(_) => Ok(()),
+        Node::Inner { depth: _, children } => drop_children(alloc, tx, children, depth - 1),
+    }
+}
+
+/// Drops the trees that stand side by side.
+#[cycle(drop)]
+pub fn drop_children<S: Blocks>(
+    alloc: Global,
+    tx: &mut Tx<S>,
+    children: &[BlockId],
+    depth: u8,
+) -> Result<(), Fail>
+    requires { ⟦<Tx<S> as Blocks>⟧.meanings.intact tx.old }
+    ensures outcome { Outcome ⟦<Tx<S> as Blocks>⟧.meanings (HasTrees ⟦<Tx<S> as Blocks>⟧.holdings tx.old depth (ids_of children.now)) tx.old tx.new result
+        (λ n _. Replaces (⟦<Tx<S> as Blocks>⟧.holdings.content tx.old) (⟦<Tx<S> as Blocks>⟧.holdings.content tx.new) n.ids []) }
+    ensures below { Stays S.holdings tx.old.store tx.new.store }
+{
+    for child in children {
+        match drop_below(alloc, tx, child, depth) {
+            Ok(()) => {}
+            Err(fail) => return Err(fail),
+        }
+    }
+    Ok(())
+}

@@ -1,0 +1,143 @@
+// Nodes of a tree in the blocks of a store.
+ghost use Rattle.std.specs.FinMap as fin;
+ghost use Rattle.std.specs.Prelude.{◌≡◌, ◌+◌, ◌≤◌, ◌<◌, ◌^◌, ℕ, true, false, is_some, IfOk, IfErr, OnOk, None};
+ghost use Rattle.block_id.specs.Fresh.{IsFirstFree};
+ghost use Rattle.rand_core.specs.Stream.{fill_bytes};
+ghost use Rattle.outcome.specs.Outcome.{Outcome};
+ghost use Rattle.store_api.specs.Content.{Id, same_id};
+ghost use Rattle.store_api.specs.Holdings.{Stays, MayGet, is_free};
+ghost use Rattle.data_nodes.specs.Layout.{node_of, FitsPayload};
+ghost use Rattle.data_tree.specs.Needs.{HasNode, HasTree, SetsNode, Sets};
+ghost use Rattle.data_tree.specs.Roots.{IsRoot, IsTooDeep};
+ghost use Rattle.data_tree.specs.Trees.{IsDepth, depth_in, span};
+
+use crate::level::{Level, depth_of, level_of};
+use block_id::{BlockId, Fail, Memory, Why};
+use data_nodes::{Node, read_node, write_node};
+use rand_core::Rng;
+use std::alloc::Global;
+use store_api::{Blocks, Tx};
+
+// The node that a block holds.
+fn load_node<S: Blocks>(alloc: Global, tx: &mut Tx<S>, id: &BlockId) -> Result<Node, Fail>
+    requires { ⟦<Tx<S> as Blocks>⟧.meanings.intact tx.old }
+    ensures outcome { Outcome ⟦<Tx<S> as Blocks>⟧.meanings (HasNode ⟦<Tx<S> as Blocks>⟧.holdings tx.old id.now.0) tx.old tx.new result (λ n node. node_of node ≡ n.node) }
+    ensures stays { Stays ⟦<Tx<S> as Blocks>⟧.holdings tx.old tx.new }
+    ensures below { Stays S.holdings tx.old.store tx.new.store }
+    ensures overlay { tx.new.overlay ≡ tx.old.overlay }
+    ensures there { OnOk result (is_some (⟦<Tx<S> as Blocks>⟧.holdings.content tx.old id.now.0) ≡ true) }
+    ensures fits { IfOk result (λ node. FitsPayload (⟦<Tx<S> as Blocks>⟧.holdings.payload tx.old) (node_of node)) }
+{
+    let payload = match tx.load(alloc, id)? {
+        Some(payload) => payload,
+        None => return Err(Fail::Violation(Why::Structure)),
+    };
+    match read_node(alloc, &payload)? {
+        Some(node) => Ok(node),
+        None => Err(Fail::Violation(Why::Structure)),
+    }
+}
+
+/// The node of a tree of this depth. One block is loaded.
+pub fn load_at<S: Blocks>(
+    alloc: Global,
+    tx: &mut Tx<S>,
+    id: &BlockId,
+    depth: u8,
+) -> Result<Node, Fail>
+    requires { ⟦<Tx<S> as Blocks>⟧.meanings.intact tx.old }
+    ensures outcome { Outcome ⟦<Tx<S> as Blocks>⟧.meanings (HasTree ⟦<Tx<S> as Blocks>⟧.holdings tx.old depth id.now.0) tx.old tx.new result (λ n node. node_of node ≡ n.tree.node) }
+    ensures stays { Stays ⟦<Tx<S> as Blocks>⟧.holdings tx.old tx.new }
+    ensures below { Stays S.holdings tx.old.store tx.new.store }
+    ensures overlay { tx.new.overlay ≡ tx.old.overlay }
+    ensures there { OnOk result (is_some (⟦<Tx<S> as Blocks>⟧.holdings.content tx.old id.now.0) ≡ true) }
+    ensures fits { IfOk result (λ node. FitsPayload (⟦<Tx<S> as Blocks>⟧.holdings.payload tx.old) (node_of node)) }
+    ensures depth { IfOk result (λ node. depth_in (node_of node) ≡ depth) }
+{
+    let node = load_node(alloc, tx, id)?;
+    if depth_of(&node) != depth {
+        return Err(Fail::Violation(Why::Structure));
+    }
+    Ok(node)
+}
+
+/// The root's node and its level. One block is loaded.
+pub fn load_root<S: Blocks>(
+    alloc: Global,
+    tx: &mut Tx<S>,
+    root: &BlockId,
+) -> Result<(Node, Level), Fail>
+    requires { ⟦<Tx<S> as Blocks>⟧.meanings.intact tx.old }
+    ensures outcome { Outcome ⟦<Tx<S> as Blocks>⟧.meanings (IsRoot ⟦<Tx<S> as Blocks>⟧.holdings tx.old root.now.0) tx.old tx.new result
+        (λ n found. (⟦<Tx<S> as Blocks>⟧.holdings.told tx.old ≡ true) × (node_of found.0 ≡ n.tree.node)) }
+    ensures shallow { ⟦<Tx<S> as Blocks>⟧.meanings.sound tx.old → ⟦<Tx<S> as Blocks>⟧.meanings.forgeries tx.new ≤ ⟦<Tx<S> as Blocks>⟧.meanings.forgeries tx.old
+        → OnOk result (IsTooDeep ⟦<Tx<S> as Blocks>⟧.holdings tx.old root.now.0 → ⊥) }
+    ensures stays { Stays ⟦<Tx<S> as Blocks>⟧.holdings tx.old tx.new }
+    ensures below { Stays S.holdings tx.old.store tx.new.store }
+    ensures overlay { tx.new.overlay ≡ tx.old.overlay }
+    ensures there { OnOk result (is_some (⟦<Tx<S> as Blocks>⟧.holdings.content tx.old root.now.0) ≡ true) }
+    ensures fits { IfOk result (λ found. FitsPayload (⟦<Tx<S> as Blocks>⟧.holdings.payload tx.old) (node_of found.0)) }
+    ensures depth { IfOk result (λ found. depth_in (node_of found.0) ≡ found.1.depth) }
+    ensures room { IfOk result (λ found. found.1.room ≡ span (⟦<Tx<S> as Blocks>⟧.holdings.payload tx.old) found.1.depth) }
+    ensures small { IfOk result (λ found. found.1.room < 2 ^ 63) }
+{
+    let node = load_node(alloc, tx, root)?;
+    match level_of(tx.payload(), depth_of(&node)) {
+        Some(level) => Ok((node, level)),
+        None => Err(Fail::Violation(Why::Structure)),
+    }
+}
+
+/// Removes a block.
+pub fn remove<S: Blocks>(tx: &mut Tx<S>, id: &BlockId) -> Result<(), Memory>
+    requires intact { ⟦<Tx<S> as Blocks>⟧.meanings.intact tx.old }
+    requires there { is_some (⟦<Tx<S> as Blocks>⟧.holdings.content tx.old id.now.0) ≡ true }
+    ensures intact { ⟦<Tx<S> as Blocks>⟧.meanings.intact tx.new }
+    ensures store { tx.new.store ≡ tx.old.store }
+    ensures sets { OnOk result (Sets (⟦<Tx<S> as Blocks>⟧.holdings.content tx.old) (⟦<Tx<S> as Blocks>⟧.holdings.content tx.new) id.now.0 None) }
+{
+    tx.remove(id)
+}
+
+/// Gives a block this node.
+pub fn put_node<S: Blocks>(
+    alloc: Global,
+    tx: &mut Tx<S>,
+    id: &BlockId,
+    node: &Node,
+) -> Result<(), Memory>
+    requires intact { ⟦<Tx<S> as Blocks>⟧.meanings.intact tx.old }
+    requires id { MayGet ⟦<Tx<S> as Blocks>⟧.holdings tx.old id.now.0 }
+    requires fits { FitsPayload (⟦<Tx<S> as Blocks>⟧.holdings.payload tx.old) (node_of node.now) }
+    ensures intact { ⟦<Tx<S> as Blocks>⟧.meanings.intact tx.new }
+    ensures store { tx.new.store ≡ tx.old.store }
+    ensures sets { OnOk result (SetsNode ⟦<Tx<S> as Blocks>⟧.holdings tx.old tx.new id.now.0 (node_of node.now)) }
+    ensures there { (q : Id) → is_some (⟦<Tx<S> as Blocks>⟧.holdings.content tx.old q) ≡ true → is_some (⟦<Tx<S> as Blocks>⟧.holdings.content tx.new q) ≡ true }
+    ensures others { (q : Id) → same_id q id.now.0 ≡ false → fin.get tx.new.overlay q ≡ fin.get tx.old.overlay q }
+    ensures few { fin.len tx.new.overlay ≤ fin.len tx.old.overlay + 1 }
+{
+    let payload = write_node(alloc, node, tx.payload())?;
+    tx.put(id, payload)
+}
+
+/// Gives a new block this node.
+pub fn put_new<S: Blocks, R: Rng>(
+    alloc: Global,
+    tx: &mut Tx<S>,
+    node: &Node,
+    chance: &mut R,
+) -> Result<BlockId, Memory>
+    requires intact { ⟦<Tx<S> as Blocks>⟧.meanings.intact tx.old }
+    requires fits { FitsPayload (⟦<Tx<S> as Blocks>⟧.holdings.payload tx.old) (node_of node.now) }
+    ensures intact { ⟦<Tx<S> as Blocks>⟧.meanings.intact tx.new }
+    ensures store { tx.new.store ≡ tx.old.store }
+    ensures new { IfOk result (λ id. ⟦<Tx<S> as Blocks>⟧.holdings.content tx.old id.0 ≡ None) }
+    ensures sets { IfOk result (λ id. SetsNode ⟦<Tx<S> as Blocks>⟧.holdings tx.old tx.new id.0 (node_of node.now)) }
+    ensures drawn { IfOk result (λ id. IsFirstFree (is_free (⟦<Tx<S> as Blocks>⟧.holdings.used tx.old)) (fill_bytes 16 (R.stream chance.old)).0 id.0) }
+    ensures stream { R.stream chance.new ≡ (fill_bytes 16 (R.stream chance.old)).1 }
+    ensures there { (q : Id) → is_some (⟦<Tx<S> as Blocks>⟧.holdings.content tx.old q) ≡ true → is_some (⟦<Tx<S> as Blocks>⟧.holdings.content tx.new q) ≡ true }
+{
+    let id = tx.draw(chance);
+    put_node(alloc, tx, &id, node)?;
+    Ok(id)
+}

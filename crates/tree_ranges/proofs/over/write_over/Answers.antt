@@ -1,0 +1,61 @@
+use Rattle.std.proofs.Common.{◌≡◌, ◌+◌, ◌-◌, ◌++◌, sym, ◌∙◌, ap, subst, take, drop, length, arith}
+use Rattle.std.proofs.lemmas.List.{length-append, length-drop, length-replicate}
+use Rattle.outcome.specs.Bytes.{zeros, written}
+use Rattle.outcome.specs.Outcome.{first_, then_, passed}
+use Rattle.data_tree.specs.Roots.{IsNewRoot}
+use Rattle.data_tree.specs.Trees.{span}
+use Rattle.data_tree.proofs.Loads.{tx_holdings, tx_laws}
+use Rattle.data_tree.proofs.Puts.{keeps_below}
+use Rattle.tree_ranges.specs.Ranges.{IsOpened}
+use Rattle.tree_ranges.specs.Writing.{Wrote, written_at}
+use Rattle.tree_ranges.proofs.Growth.{root_wrote, wrote_then, written_over}
+use Rattle.tree_ranges.proofs.Inside.{root_tree}
+use Rattle.tree_ranges.proofs.Overwriting.{length-written}
+use Rattle.tree_ranges.proofs.over.write_over.Goals as goal
+
+pub returns-in-Err-clause-outcome : goal.returns-in-Err-clause-outcome
+returns-in-Err-clause-outcome g c =
+    let H = tx_holdings g.S.Blocks.holdings in
+    let inside = c.saturating_sub.result in
+    let piece_len : length c.split_at.result.0.now ≡ inside = c.split_at.ensures.front_len in
+    passed (first_ {N = IsOpened H c.args.tx.now c.args.root.now.0 c.args.level.depth c.args.len} {R = λ _ _. Unit {0}}
+    (λ n. record { tree = root_tree c.args.level.depth n.told n.tree n.same; inside = λ some. omega (arith, some, piece_len, c.saturating_sub.ensures, n.long) }) c.in-Err.ensures.outcome (λ _ _ _. tt))
+
+pub returns-clause-outcome : goal.returns-clause-outcome
+returns-clause-outcome g c =
+    let H0 = g.S.Blocks.holdings in
+    let H = tx_holdings H0 in
+    let laws = tx_laws g.S.Blocks.meanings H0 g.met.S.Blocks.lawful in
+    let a = c.args.tx.now in
+    let d = c.write_below.new.tx in
+    let e = c.append.new.tx in
+    let root = c.args.root.now.0 in
+    let depth = c.args.level.depth in
+    let from = c.args.from in
+    let bytes = c.args.bytes.now in
+    let inside = c.saturating_sub.result in
+    let piece = c.split_at.result.0.now in
+    let rest = c.split_at.result.1.now in
+    let tail = c.deref.result.now in
+    let keeps = keeps_below H0 a d c.write_below.ensures.below in
+    let piece_len : length piece ≡ inside = c.split_at.ensures.front_len in
+    let rest_len : length rest ≡ length bytes - inside = ap length c.split_at.ensures.back ∙ length-drop inside bytes in
+    let made : tail ≡ zeros c.saturating_sub-2.result ++ rest = c.deref.ensures.value ∙ c.in-Ok-after_zeros.ensures in
+    let tail_len : length tail ≡ c.saturating_sub-2.result + length rest = ap length made ∙ length-append (zeros c.saturating_sub-2.result) rest ∙ ap (λ k. k + length rest) (length-replicate c.saturating_sub-2.result 0) in
+    let one = first_ {N = IsOpened H a root depth c.args.len} {R = λ n _. Wrote H a d depth root (written_at from piece n.tree.bytes) n.tree.ids}
+    (λ n. record { tree = root_tree depth n.told n.tree n.same; inside = λ some. omega (arith, some, piece_len, c.saturating_sub.ensures, n.long) }) c.in-Ok.ensures.outcome (λ n y w. w) in
+    then_ laws one
+    (λ n w.
+    let long : length n.tree.bytes ≡ length (written_at from piece n.tree.bytes) = sym (length-written from piece n.tree.bytes (λ some. omega (arith, some, piece_len, c.saturating_sub.ensures, n.long))) in
+    let room : span (H.payload d) depth ≡ span (H.payload a) depth = ap (λ p. span p depth) keeps.payload in
+    record {
+      tree = root_wrote depth n.tree n.same long keeps w;
+      fits = omega (arith, long, n.long, tail_len, rest_len, c.saturating_sub.ensures, c.saturating_sub-2.ensures, c.requires.fits, c.requires.level, room, c.requires.over);
+    }) c.append.ensures.outcome
+    (λ n w y r.
+    let k_is : c.saturating_sub-2.result ≡ from - length n.tree.bytes = omega (arith, c.saturating_sub-2.ensures, n.long) in
+    let tail_is : tail ≡ zeros (from - length n.tree.bytes) ++ drop inside bytes = made ∙ ap (λ xs. zeros c.saturating_sub-2.result ++ xs) c.split_at.ensures.back ∙ ap (λ j. zeros j ++ drop inside bytes) k_is in
+    let is : written_at from piece n.tree.bytes ++ tail ≡ written n.tree.bytes from bytes =
+    ap (λ xs. written_at from xs n.tree.bytes ++ tail) c.split_at.ensures.front ∙ ap (λ xs. written_at from (take inside bytes) n.tree.bytes ++ xs) tail_is
+    ∙ written_over from bytes n.tree.bytes inside c.requires.some (omega (arith, c.requires.over, n.long)) (omega (arith, c.saturating_sub.ensures, n.long)) in
+    wrote_then w (subst (λ v. IsNewRoot H d e root n.tree.ids v) is r))

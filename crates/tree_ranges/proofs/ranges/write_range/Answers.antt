@@ -1,0 +1,122 @@
+use Rattle.std.proofs.Common.{◌≤◌, ◌+◌, sym, ◌∙◌, subst, length, arith}
+use Rattle.std.specs.FinMap as fin
+use Rattle.outcome.specs.Bytes.{pieces}
+use Rattle.outcome.specs.Outcome.{then_}
+use Rattle.data_nodes.specs.Layout.{node_of, room}
+use Rattle.store_api.specs.Overlay.{steady_over}
+use Rattle.data_tree.proofs.Loads.{store_in, changes_in, tx_holdings, tx_laws}
+use Rattle.data_tree.proofs.Counting.{not_zero}
+use Rattle.data_tree.proofs.Forests.{stays-then}
+use Rattle.data_tree.proofs.Puts.{keeps_below, on_any, unforged_before}
+use Rattle.tree_ranges.specs.Border.{OnlyLeaves}
+use Rattle.tree_ranges.specs.Writing.{MayWriteNode}
+use Rattle.tree_ranges.proofs.Costs.{cost_few}
+use Rattle.tree_ranges.proofs.Inside.{root_depth, root_tree, root_at, new_since, wrote_root, enough, ids_same}
+use Rattle.tree_ranges.proofs.Leaves.{only_since}
+use Rattle.tree_ranges.proofs.Overwriting.{tree_at}
+use Rattle.tree_ranges.proofs.ranges.write_range.Goals as goal
+
+pub returns-then-from-bytes-clause-outcome : goal.returns-then-from-bytes-clause-outcome
+returns-then-from-bytes-clause-outcome g c =
+    let H = tx_holdings g.S.Blocks.holdings in
+    let laws = tx_laws g.S.Blocks.meanings g.S.Blocks.holdings g.met.S.Blocks.lawful in
+    let a = c.args.tx.now in
+    let b = c.open_root.new.tx in
+    let node = node_of c.in-Ok.found.0 in
+    let depth = c.in-Ok.found.1.depth in
+    let stays = c.open_root.ensures.stays in
+    then_ laws c.in-Ok.ensures.outcome
+    (λ n p. record { tree = tree_at stays (root_tree depth p.0 n (root_depth node depth n p.1.0 c.in-Ok.ensures.depth)); is = p.1.0; inside = λ some. omega (arith, c.if-from-bytes.true, p.1.1) }) c.write_in.ensures.outcome
+    (λ n p y w. wrote_root depth c.args.from c.args.bytes.now stays p.0 n (root_depth node depth n p.1.0 c.in-Ok.ensures.depth) (not_zero (length c.args.bytes.now) c.if-is_empty.ensures) (omega (arith, c.if-from-bytes.true, p.1.1))
+    (keeps_below g.S.Blocks.holdings b c.write_in.new.tx c.write_in.ensures.below) w)
+
+pub returns-then-from-bytes-clause-inside : goal.returns-then-from-bytes-clause-inside
+returns-then-from-bytes-clause-inside g c n s h =
+    let H = tx_holdings g.S.Blocks.holdings in
+    let laws = tx_laws g.S.Blocks.meanings g.S.Blocks.holdings g.met.S.Blocks.lawful in
+    let a = c.args.tx.now in
+    let b = c.open_root.new.tx in
+    let d = c.write_in.new.tx in
+    let node = node_of c.in-Ok.found.0 in
+    let depth = c.in-Ok.found.1.depth in
+    let stays = c.open_root.ensures.stays in
+    let before = unforged_before laws a b d c.write_in.ensures.outcome.loaded h in
+    let grown = laws.forgeries_grow a b c.open_root.ensures.outcome.loaded in
+    let p = c.in-Ok.ensures.outcome.value n.tree s before in
+    let same = root_depth node depth n.tree p.1.0 c.in-Ok.ensures.depth in
+    let need : MayWriteNode H b depth c.args.root.now.0 node c.args.from (length c.args.bytes.now) = record { tree = tree_at stays (root_tree depth p.0 n.tree same); is = p.1.0; inside = λ some. n.fits } in
+    let only = c.write_in.ensures.only need (c.open_root.ensures.outcome.sound s before) (omega (arith, h, grown)) in
+    subst (λ k. OnlyLeaves (H.payload a) (H.content a) k c.args.root.now.0 c.args.from (length c.args.bytes.now) a.overlay d.overlay) (sym same)
+    (only_since stays p.0 depth c.args.root.now.0 c.args.from (length c.args.bytes.now) b.overlay a.overlay d.overlay c.open_root.ensures.overlay only)
+
+pub returns-then-from-bytes-clause-few : goal.returns-then-from-bytes-clause-few
+returns-then-from-bytes-clause-few g c n s h =
+    let H = tx_holdings g.S.Blocks.holdings in
+    let a = c.args.tx.now in
+    let b = c.open_root.new.tx in
+    let d = c.write_in.new.tx in
+    let k = length c.args.bytes.now in
+    let steady = steady_over store_in changes_in g.S.Blocks.meanings g.S.Blocks.holdings g.met.S.Blocks.steady in
+    let least = steady.at_least b c.open_root.ensures.outcome.intact in
+    let few = cost_few c.write_in.ensures.cost (pieces k (room (H.payload b))) (enough k (room (H.payload b)) (omega (arith, least))) in
+    subst (λ o. fin.len d.overlay ≤ fin.len o + (pieces k (room (H.payload a)) + 1)) c.open_root.ensures.overlay (subst (λ p. fin.len d.overlay ≤ fin.len b.overlay + (pieces k (room p) + 1)) c.open_root.ensures.stays.payload few)
+
+pub returns-then-from-bytes-clause-ids : goal.returns-then-from-bytes-clause-ids
+returns-then-from-bytes-clause-ids g c n s h =
+    let H = tx_holdings g.S.Blocks.holdings in
+    let a = c.args.tx.now in
+    let steady = steady_over store_in changes_in g.S.Blocks.meanings g.S.Blocks.holdings g.met.S.Blocks.steady in
+    ids_same g.S.Blocks.holdings a c.write_in.new.tx c.args.root.now.0 c.args.from (length c.args.bytes.now) (steady.at_least a c.requires.intact) n.tree n.fits (stays-then c.open_root.ensures.below c.write_in.ensures.below)
+    (λ q there. c.write_in.ensures.there q (c.open_root.ensures.stays.ids q ∙ there)) (returns-then-from-bytes-clause-inside g c n s h)
+
+pub returns-clause-outcome : goal.returns-clause-outcome
+returns-clause-outcome g c =
+    let laws = tx_laws g.S.Blocks.meanings g.S.Blocks.holdings g.met.S.Blocks.lawful in
+    let stays = c.open_root.ensures.stays in
+    then_ laws c.in-Ok.ensures.outcome (λ n p. root_at stays p.0 n) c.write_range.ensures.outcome (λ n p y r. new_since stays p.0 r)
+
+pub returns-clause-shallow : goal.returns-clause-shallow
+returns-clause-shallow g c s h some =
+    let laws = tx_laws g.S.Blocks.meanings g.S.Blocks.holdings g.met.S.Blocks.lawful in
+    on_any c.write_range.result (c.in-Ok.ensures.shallow s (unforged_before laws c.args.tx.now c.open_root.new.tx c.write_range.new.tx c.write_range.ensures.outcome.loaded h))
+
+pub returns-clause-inside : goal.returns-clause-inside
+returns-clause-inside g c n s h =
+    let laws = tx_laws g.S.Blocks.meanings g.S.Blocks.holdings g.met.S.Blocks.lawful in
+    let before = unforged_before laws c.args.tx.now c.open_root.new.tx c.write_range.new.tx c.write_range.ensures.outcome.loaded h in
+    let p = c.in-Ok.ensures.outcome.value n.tree s before in
+    absurd (omega (arith, c.if-from-bytes.false, p.1.1, n.fits))
+
+pub returns-clause-ids : goal.returns-clause-ids
+returns-clause-ids g c n s h =
+    let laws = tx_laws g.S.Blocks.meanings g.S.Blocks.holdings g.met.S.Blocks.lawful in
+    let before = unforged_before laws c.args.tx.now c.open_root.new.tx c.write_range.new.tx c.write_range.ensures.outcome.loaded h in
+    let p = c.in-Ok.ensures.outcome.value n.tree s before in
+    absurd (omega (arith, c.if-from-bytes.false, p.1.1, n.fits))
+
+pub returns-then-from-bytes-2-clause-outcome : goal.returns-then-from-bytes-2-clause-outcome
+returns-then-from-bytes-2-clause-outcome g c =
+    let laws = tx_laws g.S.Blocks.meanings g.S.Blocks.holdings g.met.S.Blocks.lawful in
+    let stays = c.open_root.ensures.stays in
+    let node = node_of c.in-Ok.found.0 in
+    let depth = c.in-Ok.found.1.depth in
+    then_ laws c.in-Ok.ensures.outcome (λ n p. record { tree = root_at stays p.0 n; told = stays.told ∙ p.0; same = root_depth node depth n p.1.0 c.in-Ok.ensures.depth; long = p.1.1 }) c.write_over.ensures.outcome (λ n p y r. new_since stays p.0 r)
+
+pub returns-then-from-bytes-2-clause-shallow : goal.returns-then-from-bytes-2-clause-shallow
+returns-then-from-bytes-2-clause-shallow g c s h some =
+    let laws = tx_laws g.S.Blocks.meanings g.S.Blocks.holdings g.met.S.Blocks.lawful in
+    on_any c.write_over.result (c.in-Ok.ensures.shallow s (unforged_before laws c.args.tx.now c.open_root.new.tx c.write_over.new.tx c.write_over.ensures.outcome.loaded h))
+
+pub returns-then-from-bytes-2-clause-inside : goal.returns-then-from-bytes-2-clause-inside
+returns-then-from-bytes-2-clause-inside g c n s h =
+    let laws = tx_laws g.S.Blocks.meanings g.S.Blocks.holdings g.met.S.Blocks.lawful in
+    let before = unforged_before laws c.args.tx.now c.open_root.new.tx c.write_over.new.tx c.write_over.ensures.outcome.loaded h in
+    let p = c.in-Ok.ensures.outcome.value n.tree s before in
+    absurd (omega (arith, c.if-from-bytes.false, p.1.1, n.fits))
+
+pub returns-then-from-bytes-2-clause-ids : goal.returns-then-from-bytes-2-clause-ids
+returns-then-from-bytes-2-clause-ids g c n s h =
+    let laws = tx_laws g.S.Blocks.meanings g.S.Blocks.holdings g.met.S.Blocks.lawful in
+    let before = unforged_before laws c.args.tx.now c.open_root.new.tx c.write_over.new.tx c.write_over.ensures.outcome.loaded h in
+    let p = c.in-Ok.ensures.outcome.value n.tree s before in
+    absurd (omega (arith, c.if-from-bytes.false, p.1.1, n.fits))

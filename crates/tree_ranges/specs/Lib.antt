@@ -1,0 +1,4 @@
+pub mod Border
+pub mod Growing
+pub mod Ranges
+pub mod Writing

@@ -1,0 +1,24 @@
+-- What a call on a range needs, and what it leaves.
+use Rattle.std.specs.Prelude.{◌≡◌, ◌≤◌, ◌<◌, ◌+◌, ℕ, true, length}
+use Rattle.store_api.specs.Content.{Id}
+use Rattle.store_api.specs.Holdings.{Holdings}
+use Rattle.data_tree.specs.Roots.{IsRoot}
+use Rattle.data_tree.specs.Trees.{span}
+
+-- n bytes from a place on, at least one, lie inside the tree of this root
+pub record IsInside {S : Type 0} (H : Holdings S) (s : S) (root : Id) (from n : ℕ) : Type 0 where
+  pub tree : IsRoot H s root
+  pub some : 0 < n
+  pub fits : from + n ≤ length tree.bytes
+
+-- so many bytes more have room in a tree of the same depth
+pub record HasRoomFor {S : Type 0} (H : Holdings S) (s : S) (root : Id) (n : ℕ) : Type 0 where
+  pub tree : IsRoot H s root
+  pub fits : length tree.bytes + n ≤ span (H.payload s) tree.depth
+
+-- the tree has this depth and this length
+pub record IsOpened {S : Type 0} (H : Holdings S) (s : S) (root : Id) (depth len : ℕ) : Type 0 where
+  pub tree : IsRoot H s root
+  pub told : H.told s ≡ true
+  pub same : tree.depth ≡ depth
+  pub long : len ≡ length tree.bytes

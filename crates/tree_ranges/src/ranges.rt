@@ -1,0 +1,126 @@
+// The calls that change a range of a tree.
+ghost use Rattle.std.specs.FinMap as fin;
+ghost use Rattle.std.specs.Prelude.{◌≡◌, ◌≤◌, ◌<◌, ◌+◌, ◌^◌, ℕ, true, is_some, length, IfOk, OnOk};
+ghost use Rattle.outcome.specs.Bytes.{pieces, resized, written};
+ghost use Rattle.outcome.specs.Outcome.{Outcome};
+ghost use Rattle.store_api.specs.Content.{SameIds};
+ghost use Rattle.store_api.specs.Holdings.{Stays};
+ghost use Rattle.data_nodes.specs.Layout.{room, node_of, FitsPayload};
+ghost use Rattle.data_tree.specs.Roots.{IsRoot, IsNewRoot, IsTooDeep};
+ghost use Rattle.data_tree.specs.Trees.{span, depth_in};
+ghost use Rattle.tree_ranges.specs.Border.{OnlyLeaves};
+ghost use Rattle.tree_ranges.specs.Ranges.{IsInside};
+
+use crate::over::{after_zeros, append, write_over};
+use crate::writing::write_in;
+use block_id::{BlockId, Fail};
+use data_nodes::Node;
+use data_tree::{Level, len_in, load_root};
+use rand_core::Rng;
+use std::alloc::Global;
+use store_api::{Blocks, Tx};
+
+// The root's node with its level, and how many bytes the tree has.
+fn open_root<S: Blocks>(
+    alloc: Global,
+    tx: &mut Tx<S>,
+    root: &BlockId,
+) -> Result<(Node, Level, u64), Fail>
+    requires { ⟦<Tx<S> as Blocks>⟧.meanings.intact tx.old }
+    ensures outcome { Outcome ⟦<Tx<S> as Blocks>⟧.meanings (IsRoot ⟦<Tx<S> as Blocks>⟧.holdings tx.old root.now.0) tx.old tx.new result
+        (λ n found. (⟦<Tx<S> as Blocks>⟧.holdings.told tx.old ≡ true) × ((node_of found.0 ≡ n.tree.node) × (found.2 ≡ length n.bytes))) }
+    ensures shallow { ⟦<Tx<S> as Blocks>⟧.meanings.sound tx.old → ⟦<Tx<S> as Blocks>⟧.meanings.forgeries tx.new ≤ ⟦<Tx<S> as Blocks>⟧.meanings.forgeries tx.old
+        → OnOk result (IsTooDeep ⟦<Tx<S> as Blocks>⟧.holdings tx.old root.now.0 → ⊥) }
+    ensures stays { Stays ⟦<Tx<S> as Blocks>⟧.holdings tx.old tx.new }
+    ensures below { Stays S.holdings tx.old.store tx.new.store }
+    ensures overlay { tx.new.overlay ≡ tx.old.overlay }
+    ensures there { OnOk result (is_some (⟦<Tx<S> as Blocks>⟧.holdings.content tx.old root.now.0) ≡ true) }
+    ensures fits { IfOk result (λ found. FitsPayload (⟦<Tx<S> as Blocks>⟧.holdings.payload tx.old) (node_of found.0)) }
+    ensures depth { IfOk result (λ found. depth_in (node_of found.0) ≡ found.1.depth) }
+    ensures room { IfOk result (λ found. found.1.room ≡ span (⟦<Tx<S> as Blocks>⟧.holdings.payload tx.old) found.1.depth) }
+{
+    let (node, level) = match load_root(alloc, tx, root) {
+        Ok(found) => found,
+        Err(fail) => return Err(fail),
+    };
+    match len_in(alloc, tx, &node, level) {
+        Ok(len) => Ok((node, level, len)),
+        Err(fail) => Err(fail),
+    }
+}
+
+/// Writes the bytes from a place on, with zeros between the old end and there. No bytes change nothing. Loaded are the
+/// right border and the nodes over the range; the whole tree only where its depth has to grow.
+pub fn write_range<S: Blocks, R: Rng>(
+    alloc: Global,
+    tx: &mut Tx<S>,
+    root: &BlockId,
+    from: u64,
+    bytes: &[u8],
+    chance: &mut R,
+) -> Result<(), Fail>
+    requires intact { ⟦<Tx<S> as Blocks>⟧.meanings.intact tx.old }
+    requires small { from + length bytes.now ≤ 2 ^ 40 }
+    ensures outcome { Outcome ⟦<Tx<S> as Blocks>⟧.meanings (IsRoot ⟦<Tx<S> as Blocks>⟧.holdings tx.old root.now.0) tx.old tx.new result
+        (λ n _. IsNewRoot ⟦<Tx<S> as Blocks>⟧.holdings tx.old tx.new root.now.0 n.ids (written n.bytes from bytes.now)) }
+    ensures shallow { ⟦<Tx<S> as Blocks>⟧.meanings.sound tx.old → ⟦<Tx<S> as Blocks>⟧.meanings.forgeries tx.new ≤ ⟦<Tx<S> as Blocks>⟧.meanings.forgeries tx.old
+        → 0 < length bytes.now → OnOk result (IsTooDeep ⟦<Tx<S> as Blocks>⟧.holdings tx.old root.now.0 → ⊥) }
+    ensures empty { length bytes.now ≡ 0 → tx.new ≡ tx.old }
+    // Inside the length only leaves that hold a place of the range change, whatever is answered.
+    ensures inside { (n : IsInside ⟦<Tx<S> as Blocks>⟧.holdings tx.old root.now.0 from (length bytes.now)) → ⟦<Tx<S> as Blocks>⟧.meanings.sound tx.old
+        → ⟦<Tx<S> as Blocks>⟧.meanings.forgeries tx.new ≤ ⟦<Tx<S> as Blocks>⟧.meanings.forgeries tx.old
+        → OnlyLeaves (⟦<Tx<S> as Blocks>⟧.holdings.payload tx.old) (⟦<Tx<S> as Blocks>⟧.holdings.content tx.old) n.tree.depth root.now.0 from (length bytes.now) tx.old.overlay tx.new.overlay }
+    ensures few { IsInside ⟦<Tx<S> as Blocks>⟧.holdings tx.old root.now.0 from (length bytes.now) → ⟦<Tx<S> as Blocks>⟧.meanings.sound tx.old
+        → ⟦<Tx<S> as Blocks>⟧.meanings.forgeries tx.new ≤ ⟦<Tx<S> as Blocks>⟧.meanings.forgeries tx.old
+        → fin.len tx.new.overlay ≤ fin.len tx.old.overlay + (pieces (length bytes.now) (room (⟦<Tx<S> as Blocks>⟧.holdings.payload tx.old)) + 1) }
+    ensures ids { IsInside ⟦<Tx<S> as Blocks>⟧.holdings tx.old root.now.0 from (length bytes.now) → ⟦<Tx<S> as Blocks>⟧.meanings.sound tx.old
+        → ⟦<Tx<S> as Blocks>⟧.meanings.forgeries tx.new ≤ ⟦<Tx<S> as Blocks>⟧.meanings.forgeries tx.old
+        → SameIds (⟦<Tx<S> as Blocks>⟧.holdings.content tx.old) (⟦<Tx<S> as Blocks>⟧.holdings.content tx.new) }
+    ensures below { Stays S.holdings tx.old.store tx.new.store }
+{
+    if bytes.is_empty() {
+        return Ok(());
+    }
+    let (node, level, len) = match open_root(alloc, tx, root) {
+        Ok(found) => found,
+        Err(fail) => return Err(fail),
+    };
+    if from + bytes.len() as u64 <= len {
+        return write_in(alloc, tx, root, &node, level, from, bytes);
+    }
+    if from + bytes.len() as u64 <= level.room {
+        return write_over(alloc, tx, root, level, len, from, bytes, chance);
+    }
+    data_tree::write_range(alloc, tx, root, from, bytes, chance)
+}
+
+/// Cuts the tree to this length, or appends zeros up to it. Where it is cut, or its depth has to grow, the whole tree is
+/// loaded and written anew.
+pub fn resize<S: Blocks, R: Rng>(
+    alloc: Global,
+    tx: &mut Tx<S>,
+    root: &BlockId,
+    n: u64,
+    chance: &mut R,
+) -> Result<(), Fail>
+    requires intact { ⟦<Tx<S> as Blocks>⟧.meanings.intact tx.old }
+    requires small { n ≤ 2 ^ 40 }
+    ensures outcome { Outcome ⟦<Tx<S> as Blocks>⟧.meanings (IsRoot ⟦<Tx<S> as Blocks>⟧.holdings tx.old root.now.0) tx.old tx.new result
+        (λ old _. IsNewRoot ⟦<Tx<S> as Blocks>⟧.holdings tx.old tx.new root.now.0 old.ids (resized old.bytes n)) }
+    ensures shallow { ⟦<Tx<S> as Blocks>⟧.meanings.sound tx.old → ⟦<Tx<S> as Blocks>⟧.meanings.forgeries tx.new ≤ ⟦<Tx<S> as Blocks>⟧.meanings.forgeries tx.old
+        → OnOk result (IsTooDeep ⟦<Tx<S> as Blocks>⟧.holdings tx.old root.now.0 → ⊥) }
+    ensures below { Stays S.holdings tx.old.store tx.new.store }
+{
+    let (_, level, len) = match open_root(alloc, tx, root) {
+        Ok(found) => found,
+        Err(fail) => return Err(fail),
+    };
+    if n <= len || n > level.room {
+        return data_tree::resize(alloc, tx, root, n, chance);
+    }
+    let tail = match after_zeros(alloc, (n - len) as usize, &[]) {
+        Ok(tail) => tail,
+        Err(_) => return Err(Fail::Memory),
+    };
+    append(alloc, tx, root, &tail, chance)
+}

@@ -1,0 +1,172 @@
+// Trees over a store in memory, at the smallest block: a leaf has 42 bytes, and a node two children.
+use super::{resize, write_range};
+use block_id::{BlockId, Why};
+use data_nodes::Node;
+use data_tree::{drop_tree, len, new_tree, put_new, put_node, read_range};
+use map_store::MapStore;
+use rand_core::Rng;
+use rand_pcg::Pcg32;
+use std::alloc::Global;
+use std::test::Fail;
+use store_api::{Blocks, BlocksMut, Tx};
+
+const SIZES: [usize; 7] = [0, 42, 43, 84, 85, 168, 169];
+
+const COUNTS: [usize; 7] = [1, 1, 3, 3, 6, 7, 11];
+
+fn bytes_of(alloc: Global, n: usize) -> Result<Vec<u8>, Fail> {
+    let mut out = Vec::new(alloc);
+    for i in 0..n {
+        out.push((i % 251) as u8)?;
+    }
+    Ok(out)
+}
+
+// No changes over an empty store of the smallest blocks.
+fn empty(alloc: Global) -> Tx<MapStore>
+    ensures { ⟦<Tx<MapStore> as Blocks>⟧.meanings.intact result }
+{
+    Tx::new(alloc, MapStore::new(alloc, 50))
+}
+
+// Whether a tree of one size has the nodes and the bytes of another after it was grown or cut.
+fn is_resized<S: Blocks>(
+    alloc: Global,
+    tx: &mut Tx<S>,
+    before: usize,
+    after: usize,
+    count: usize,
+) -> Result<bool, Fail>
+    requires { ⟦<Tx<S> as Blocks>⟧.meanings.intact tx.old }
+{
+    if before > 169 || after > 169 {
+        return Ok(false);
+    }
+    let mut chance = Pcg32::new(1, 2);
+    let mut text = bytes_of(alloc, before)?;
+    if text.len() != before {
+        return Ok(false);
+    }
+    let root = new_tree(alloc, tx, &text, &mut chance)?;
+    resize(alloc, tx, &root, after as u64, &mut chance)?;
+    text.resize(after, 0)?;
+    let back = read_range(alloc, tx, &root, 0, 1000)?;
+    let same = back.as_slice() == text.as_slice() && tx.batch().len() == count;
+    let long = len(alloc, tx, &root)?;
+    drop_tree(alloc, tx, &root)?;
+    Ok(same && long == after as u64 && tx.batch().is_empty())
+}
+
+#[test]
+fn each_size_grown_or_cut_to_each(rt: HostRuntime) -> Result<(), Fail> {
+    for before in SIZES {
+        for (after, count) in SIZES.iter().zip(COUNTS.iter()) {
+            let mut tx = empty(rt.alloc());
+            let seen = is_resized(rt.alloc(), &mut tx, before, *after, *count);
+            drop(tx.into_store());
+            assert!(rt; seen?);
+        }
+    }
+    Ok(())
+}
+
+// How many entries a batch has when bytes are written at a place of a stored tree of 169 bytes, and what is read there.
+fn written<S: BlocksMut>(
+    alloc: Global,
+    tx: &mut Tx<S>,
+    from: u64,
+    bytes: &[u8],
+) -> Result<(usize, Vec<u8>), Fail>
+    requires { ⟦<Tx<S> as Blocks>⟧.meanings.intact tx.old }
+{
+    let mut chance = Pcg32::new(1, 2);
+    if from > 1000 || bytes.len() > 1000 {
+        return Err(Fail::from("too long"));
+    }
+    let text = bytes_of(alloc, 169)?;
+    if text.len() > 169 {
+        return Err(Fail::from("too long"));
+    }
+    let root = new_tree(alloc, tx, &text, &mut chance)?;
+    match tx.commit(alloc, &mut chance) {
+        Ok(()) => {}
+        Err(_) => return Err(Fail::from("not committed")),
+    }
+    write_range(alloc, tx, &root, from, bytes, &mut chance)?;
+    let count = tx.batch().len();
+    let back = read_range(alloc, tx, &root, from, bytes.len() as u64)?;
+    Ok((count, back))
+}
+
+#[test]
+fn a_write_changes_the_leaves_of_its_range_and_the_border_past_the_end(
+    rt: HostRuntime,
+) -> Result<(), Fail> {
+    for (from, n, entries) in [
+        (100, 1, 1),
+        (41, 2, 2),
+        (0, 169, 5),
+        (168, 1, 1),
+        (169, 1, 4),
+    ] {
+        let bytes = vec![in rt.alloc(); 7; n]?;
+        let mut tx = empty(rt.alloc());
+        let seen = written(rt.alloc(), &mut tx, from, &bytes);
+        drop(tx.into_store());
+        let (count, back) = seen?;
+        assert!(rt; count == entries && back.as_slice() == bytes.as_slice());
+    }
+    Ok(())
+}
+
+// Whether each call on a root answers that the blocks are no tree.
+fn is_refused<S: Blocks>(alloc: Global, tx: &mut Tx<S>, root: &BlockId) -> bool
+    requires { ⟦<Tx<S> as Blocks>⟧.meanings.intact tx.old }
+    ensures { ⟦<Tx<S> as Blocks>⟧.meanings.intact tx.new }
+{
+    let mut chance = Pcg32::new(1, 2);
+    let measured = len(alloc, tx, root);
+    let read = read_range(alloc, tx, root, 0, 1000);
+    let wrote = write_range(alloc, tx, root, 0, b"a", &mut chance);
+    let cut = resize(alloc, tx, root, 1, &mut chance);
+    let dropped = drop_tree(alloc, tx, root);
+    matches!(measured, Err(block_id::Fail::Violation(Why::Structure)))
+        && matches!(read, Err(block_id::Fail::Violation(Why::Structure)))
+        && matches!(wrote, Err(block_id::Fail::Violation(Why::Structure)))
+        && matches!(cut, Err(block_id::Fail::Violation(Why::Structure)))
+        && matches!(dropped, Err(block_id::Fail::Violation(Why::Structure)))
+}
+
+// A root of this depth whose only child is a leaf, itself, or absent, refused.
+fn refuses<S: Blocks>(alloc: Global, tx: &mut Tx<S>, depth: u8, which: u8) -> Result<bool, Fail>
+    requires { ⟦<Tx<S> as Blocks>⟧.meanings.intact tx.old }
+{
+    let mut chance = Pcg32::new(1, 2);
+    if tx.payload() != 50 || depth == 0 {
+        return Err(Fail::from("another store"));
+    }
+    let child = put_new(alloc, tx, &Node::Leaf(Vec::new(alloc)), &mut chance)?;
+    let root = put_new(alloc, tx, &Node::Leaf(Vec::new(alloc)), &mut chance)?;
+    let below = match which {
+        0 => child,
+        1 => root,
+        _ => BlockId([9; 16]),
+    };
+    if !tx.contains(&root) {
+        return Err(Fail::from("no root"));
+    }
+    let children = vec![in alloc; below; 1]?;
+    put_node(alloc, tx, &root, &Node::Inner { depth, children })?;
+    Ok(is_refused(alloc, tx, &root))
+}
+
+#[test]
+fn blocks_that_are_no_tree_are_refused(rt: HostRuntime) -> Result<(), Fail> {
+    for (depth, which) in [(2, 0), (1, 1), (1, 2), (255, 0)] {
+        let mut tx = empty(rt.alloc());
+        let seen = refuses(rt.alloc(), &mut tx, depth, which);
+        drop(tx.into_store());
+        assert!(rt; seen?);
+    }
+    Ok(())
+}
