@@ -23,7 +23,7 @@ use Rattle.dir_blob.specs.declared.entry.Entry.{Entry}
 use Rattle.dir_blob.specs.Layout.{Target, Listing, entry_of, listing_of, moment_text, attr_text, entry_text, body_of, IsEntry, IsInOrder, HasModes, IsListing, IsBody}
 use Rattle.dir_blob.specs.Reading.{kind_of, access_at, attr_at, entry_at, rises}
 use Rattle.fs_blobs.proofs.Laws.{IsBytes}
-use Rattle.dir_blob.proofs.Entries.{entry_codec}
+use Rattle.dir_blob.proofs.EntryCodec.{entry_codec}
 
 -- ---- order
 
@@ -91,7 +91,7 @@ nothing_read : (e : List ℕ × Target) (after : List ℕ) → entry_at [] ≡ S
 unfolding entry_at attr_at access_at kind_of
 nothing_read e after found = absurd cc
 
-All-at : (front : Listing) (e : List ℕ × Target) (back : Listing) → All IsEntry (front ++ e ∷ back) → IsEntry e
+pub All-at : (front : Listing) (e : List ℕ × Target) (back : Listing) → All IsEntry (front ++ e ∷ back) → IsEntry e
 All-at [] e back each = All-head IsEntry e back each
 All-at (f ∷ front) e back each = All-at front e back (All-tail IsEntry f (front ++ e ∷ back) each)
 
@@ -101,7 +101,7 @@ reads_first listing rest f others all is split left =
     ap entry_at (left ∙ flat_map-cons entry_text f others) ∙ entry_codec.again f (body_of others) entry
 
 -- where an entry stands in front, it is the next of each list of entries
-next_of : (listing : Listing) (rest : List ℕ) (e : List ℕ × Target) (after : List ℕ) → entry_at rest ≡ Some (e, after)
+pub next_of : (listing : Listing) (rest : List ℕ) (e : List ℕ × Target) (after : List ℕ) → entry_at rest ≡ Some (e, after)
     → (all back : Listing) → IsListing all → all ≡ listing ++ back → rest ≡ body_of back → (others : Listing) × (all ≡ listing ++ e ∷ others) × (after ≡ body_of others)
 next_of listing rest e after found all [] is split left = absurd (nothing_read e after (ap entry_at (sym left) ∙ found))
 next_of listing rest e after found all (f ∷ others) is split left =
@@ -124,7 +124,7 @@ reads_next body listing rest e after reads found up =
           (next.0, next.1 ∙ sym (append_assoc listing (e ∷ []) next.0), next.2);
     }
 
-stuck : (listing : Listing) (rest : List ℕ) (all back : Listing) → IsListing all → all ≡ listing ++ back → rest ≡ body_of back → 0 < length rest → entry_at rest ≡ None → ⊥
+pub stuck : (listing : Listing) (rest : List ℕ) (all back : Listing) → IsListing all → all ≡ listing ++ back → rest ≡ body_of back → 0 < length rest → entry_at rest ≡ None → ⊥
 stuck listing rest all [] is split left some none = absurd (omega (arith, ap length left))
 stuck listing rest all (f ∷ others) is split left some none = absurd (cc (reads_first listing rest f others all is split left, none))
 
@@ -149,7 +149,7 @@ reads_end body listing rest reads none = record {
   text = reads.parts ∙ ap (λ x. body_of listing ++ x) (nil_from_length rest none) ∙ append-nil (body_of listing);
 }
 
-no_more : (back : Listing) → length (body_of back) ≡ 0 → back ≡ []
+pub no_more : (back : Listing) → length (body_of back) ≡ 0 → back ≡ []
 unfolding entry_text attr_text
 no_more [] none = refl
 no_more (e ∷ back) none = absurd (omega arith)

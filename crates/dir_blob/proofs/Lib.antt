@@ -1,3 +1,6 @@
 pub mod Fields
-pub mod Entries
+pub mod EntryCodec
 pub mod Bodies
+pub mod Past
+pub mod Edits
+pub mod Needs

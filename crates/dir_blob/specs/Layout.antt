@@ -3,6 +3,7 @@ use Rattle.std.specs.Prelude.{◌≡◌, ◌<◌, ◌≤◌, ◌^◌, ℕ, List,
 use Rattle.std.specs.List.{flat_map}
 use Rattle.std.specs.Int.{w32, w64, to_le_bytes}
 use Rattle.std.specs.FinMap.{is_sorted}
+use Rattle.block_id.specs.declared.id.BlockId.{BlockId}
 use Rattle.fs_model.specs.declared.attr.Attr.{Attr}
 use Rattle.fs_model.specs.declared.limits.TheConstants.{MAX_MODE, NANOS_PER_SEC}
 use Rattle.fs_model.specs.Instant.{Instant}
@@ -20,8 +21,11 @@ pub record Target : Type 0 where
 abbrev pub Listing : Type 0
 Listing = List (List ℕ × Target)
 
+abbrev pub named : List ℕ → Attr → BlockId → List ℕ × Target
+named name attr blob = (name, record { attr = attr; blob = blob.0 })
+
 abbrev pub entry_of : Entry → List ℕ × Target
-entry_of e = (e.name, record { attr = e.attr; blob = e.blob.0 })
+entry_of e = named e.name e.attr e.blob
 
 abbrev pub listing_of : List Entry → Listing
 listing_of entries = map entry_of entries

@@ -5,13 +5,14 @@ ghost use Rattle.std.specs.Int.{w32, w64};
 ghost use Rattle.std.specs.List.{position};
 ghost use Rattle.std.specs.Ordering.{is_lt};
 ghost use Rattle.fs_model.specs.Tree.{name_cmp};
-ghost use Rattle.dir_blob.specs.Layout.{Listing, IsBody, entry_of, listing_of};
+ghost use Rattle.fs_model.specs.Names.{IsName};
+ghost use Rattle.dir_blob.specs.Layout.{Listing, IsBody, named, entry_of, listing_of};
 ghost use Rattle.dir_blob.specs.Reading.{number_at, kind_of, moment_at, access_at, owner_at, times_at, attr_at, text_at, id_at, entry_at, rises};
 
 use crate::Entry;
 use block_id::{BlockId, Memory};
 use fs_blobs::kind_from;
-use fs_model::{Attr, Kind, MAX_MODE, Moment, Name};
+use fs_model::{Attr, Kind, MAX_MODE, Moment, Name, has_name_form};
 use std::alloc::Global;
 
 /// The entries of a directory's body, or None where it isn't such a body. It takes time linear in the body.
@@ -60,24 +61,57 @@ fn is_below(first: &Name, second: &Name) -> bool
     first.as_slice().cmp(&second.as_slice()).is_lt()
 }
 
+/// The first entry as it stands in the bytes, and what follows it.
+#[derive(Clone, Copy)]
+pub(crate) struct Front<'a> {
+    pub name: &'a [u8],
+    pub attr: Attr,
+    pub blob: BlockId,
+    pub rest: &'a [u8],
+}
+
 /// The first entry, and what follows it.
-#[tactic(auto, unfolding(crate::specs::Reading::entry_at))]
 fn entry_from(alloc: Global, bytes: &[u8]) -> Result<Option<(Entry, &[u8])>, Memory>
     ensures { IfOk result (λ answer. option_map (λ x. (entry_of x.0, x.1.now)) answer ≡ entry_at bytes.now) }
 {
+    let Some(front) = first_entry(bytes) else {
+        return Ok(None);
+    };
+    let Some(name) = Name::new(Vec::from_slice(alloc, front.name)?) else {
+        return Ok(None);
+    };
+    let entry = Entry {
+        name,
+        attr: front.attr,
+        blob: front.blob,
+    };
+    Ok(Some((entry, front.rest)))
+}
+
+/// The first entry in place, so that one that is passed makes no name.
+#[tactic(auto, unfolding(crate::specs::Reading::entry_at))]
+pub(crate) fn first_entry(bytes: &[u8]) -> Option<Front<'_>>
+    ensures entry { option_map (λ f. (named f.name.now f.attr f.blob, f.rest.now)) result ≡ entry_at bytes.now }
+    ensures name { IfSome result (λ f. IsName f.name.now) }
+{
     let Some((attr, rest)) = attr_from(bytes) else {
-        return Ok(None);
+        return None;
     };
-    let Some((text, rest)) = text_from(rest) else {
-        return Ok(None);
+    let Some((name, rest)) = text_from(rest) else {
+        return None;
     };
-    let Some(name) = Name::new(Vec::from_slice(alloc, text)?) else {
-        return Ok(None);
-    };
+    if !has_name_form(name) {
+        return None;
+    }
     let Some((blob, rest)) = id_from(rest) else {
-        return Ok(None);
+        return None;
     };
-    Ok(Some((Entry { name, attr, blob }, rest)))
+    Some(Front {
+        name,
+        attr,
+        blob,
+        rest,
+    })
 }
 
 #[tactic(auto, unfolding(crate::specs::Reading::attr_at))]

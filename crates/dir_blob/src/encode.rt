@@ -23,8 +23,9 @@ pub fn encode_entries(alloc: Global, entries: &[Entry]) -> Result<Vec<u8>, Memor
     Ok(out)
 }
 
+/// Puts an entry behind the bytes.
 #[tactic(auto, unfolding(crate::specs::Layout::entry_text))]
-fn put_entry(out: &mut Vec<u8>, entry: &Entry) -> Result<(), Memory>
+pub(crate) fn put_entry(out: &mut Vec<u8>, entry: &Entry) -> Result<(), Memory>
     requires { entry.now.attr.mode ≤ MAX_MODE }
     ensures text { OnOk result (out.new.items ≡ out.old.items ++ entry_text (entry_of entry.now)) }
     ensures types { OnOk result (IsEntry (entry_of entry.now)) }

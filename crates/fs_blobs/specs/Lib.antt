@@ -1,3 +1,4 @@
 pub mod Kinds
 pub mod Headers
 pub mod Reading
+pub mod Blobs

@@ -1,9 +1,11 @@
 //! Blobs of the file system: a header with kind and parent, and a body.
 #![tactic(auto)]
 
+mod body;
 mod header;
 mod kind;
 
+pub use body::{blob_header, body_len, new_blob, read_body, resize_body, set_parent, write_body};
 pub use header::{HEADER_LEN, Header, header_bytes, one_header, read_header};
 pub use kind::{kind_byte, kind_from};
 

@@ -1,0 +1,2 @@
+pub mod OneMap
+pub mod Meanings

@@ -1,0 +1,219 @@
+-- A content stores one map of blobs at most.
+use Rattle.std.proofs.Common.{◌≡◌, ◌⊎◌, ◌<◌, ◌≤◌, ℕ, zero, suc, Bool, true, false, List, [], ◌∷◌, ◌++◌, take, drop, refl, sym, ◌∙◌, ap, subst, inl, inr, arith}
+use Rattle.std.specs.Prelude.{Option, Some, None, is_some, ◌||◌}
+use Rattle.std.specs.FinMap.{get, same_map, slice_cmp-IsAntisymmetric, nat_cmp-IsAntisymmetric}
+use Rattle.std.specs.Cmp.Lexicographic.{nat_list_cmp_total}
+use Rattle.std.proofs.lemmas.List.{take-append-drop}
+use Rattle.data_nodes.specs.Layout.{NodeText, leaf, inner, IsNode}
+use Rattle.data_nodes.proofs.Laws.{one_node}
+use Rattle.store_api.specs.Content.{Id, Content, same_id}
+use Rattle.store_api.specs.Holdings.{has_id}
+use Rattle.data_tree.specs.Trees.{IsTree, NodeIn, Holds, Forest, span, depth_in}
+use Rattle.data_tree.proofs.Ids.{in_left, in_right, in_one, same_id_is, same_self}
+use Rattle.data_tree.proofs.Loads.{holds-depth}
+use Rattle.blob_api.specs.BlobMap.{BlobMap}
+use Rattle.data_tree.specs.Stored.{StoresBlobs}
+
+-- ---- one tree below an id
+
+-- one block holds one node
+same_node : (payload : ℕ) (B : Content) (h k : NodeText → List ℕ → List Id → Type 0) (id : Id) (w v : List ℕ) (ids jds : List Id) → (n : NodeIn B payload h id w ids) → (m : NodeIn B payload k id v jds) → n.node ≡ m.node
+same_node payload B h k id w v ids jds n m =
+    let both : Some n.text ≡ Some m.text = sym n.there ∙ m.there in
+    let text : n.text ≡ m.text = cc in
+    one_node m.text n.node m.node (subst (λ t. IsNode t n.node) text n.is) m.is
+
+same_forest : (T : Id → List ℕ → List Id → Type 0) → ((id : Id) (w v : List ℕ) (ids jds : List Id) → T id w ids → T id v jds → (w ≡ v) × (ids ≡ jds)) → (size : ℕ) (children : List Id) (w v : List ℕ) (ids jds : List Id)
+    → Forest T size children w ids → Forest T size children v jds → (w ≡ v) × (ids ≡ jds)
+same_forest T each size [] w v ids jds f g = (f.0 ∙ sym g.0, f.1 ∙ sym g.1)
+same_forest T each size (child ∷ children) w v ids jds (some, (own, (rest, (first, (others, all))))) (some2, (own2, (rest2, (first2, (others2, all2))))) =
+    let head = each child (take size w) (take size v) own own2 first first2 in
+    let tail = same_forest T each size children (drop size w) (drop size v) rest rest2 others others2 in (
+      sym (take-append-drop size w) ∙ ap (λ xs. xs ++ drop size w) head.0 ∙ ap (λ xs. take size v ++ xs) tail.0 ∙ take-append-drop size v,
+      all ∙ ap (λ xs. xs ++ rest) head.1 ∙ ap (λ xs. own2 ++ xs) tail.1 ∙ sym all2,
+    )
+
+same_holds : (payload : ℕ) (B : Content) (depth : ℕ) (node : NodeText) (w v : List ℕ) (below under : List Id) → Holds payload B depth node w below → Holds payload B depth node v under → (w ≡ v) × (below ≡ under)
+same_holds payload B zero node w v below under h k =
+    let both : leaf w ≡ leaf v = sym h.0 ∙ k.0 in
+    let bytes : w ≡ v = cc in
+    (bytes, h.1 ∙ sym k.1)
+same_holds payload B (suc depth) node w v below under (children, (is, f)) (others, (also, g)) =
+    let both : inner (suc depth) children ≡ inner (suc depth) others = sym is ∙ also in
+    let same : others ≡ children = cc in
+    same_forest (IsTree payload B depth)
+    (λ id piece part ids jds n m.
+    let node : m.node ≡ n.node = same_node payload B (Holds payload B depth) (Holds payload B depth) id part piece jds ids m n in
+    let rest = same_holds payload B depth n.node piece part n.below m.below n.holds (subst (λ x. Holds payload B depth x part m.below) node m.holds) in
+    (rest.0, n.all ∙ ap (λ xs. id ∷ xs) rest.1 ∙ sym m.all))
+    (span payload depth) children w v below under f (subst (λ cs. Forest (IsTree payload B depth) (span payload depth) cs v under) same g)
+
+-- the trees below an id are one, of one depth
+record SameTree (d e : ℕ) (w v : List ℕ) (xs ys : List Id) : Type 0 where
+  depth : d ≡ e
+  bytes : w ≡ v
+  ids : xs ≡ ys
+
+same_tree : (payload : ℕ) (B : Content) (depth height : ℕ) (id : Id) (w v : List ℕ) (ids jds : List Id) → IsTree payload B depth id w ids → IsTree payload B height id v jds → SameTree depth height w v ids jds
+same_tree payload B depth height id w v ids jds n m =
+    let node : m.node ≡ n.node = same_node payload B (Holds payload B height) (Holds payload B depth) id v w jds ids m n in
+    let deep : height ≡ depth = sym (holds-depth payload B height m.node v m.below m.holds) ∙ ap depth_in node ∙ holds-depth payload B depth n.node w n.below n.holds in
+    let again : Holds payload B depth n.node v m.below = subst (λ d. Holds payload B d n.node v m.below) deep (subst (λ x. Holds payload B height x v m.below) node m.holds) in
+    let rest = same_holds payload B depth n.node w v n.below m.below n.holds again in
+    record { depth = sym deep; bytes = rest.0; ids = n.all ∙ ap (λ xs. id ∷ xs) rest.1 ∙ sym m.all }
+
+-- ---- the trees inside a tree
+
+-- a tree that stands inside another one, which is of this depth and has these ids
+record Lower (payload : ℕ) (B : Content) (depth : ℕ) (ids : List Id) (id : Id) : Type 0 where
+  height : ℕ
+  bytes : List ℕ
+  own : List Id
+  lower : height < depth
+  tree : IsTree payload B height id bytes own
+  inside : (x : Id) → has_id own x ≡ true → has_id ids x ≡ true
+
+-- one of the trees that stand side by side has the id
+record Child (T : Id → List ℕ → List Id → Type 0) (ids : List Id) (x : Id) : Type 0 where
+  root : Id
+  bytes : List ℕ
+  own : List Id
+  tree : T root bytes own
+  has : has_id own x ≡ true
+  inside : (y : Id) → has_id own y ≡ true → has_id ids y ≡ true
+
+child_with : (T : Id → List ℕ → List Id → Type 0) (size : ℕ) (children : List Id) (w : List ℕ) (ids : List Id) → Forest T size children w ids → (x : Id) → has_id ids x ≡ true → Child T ids x
+child_with T size [] w ids f x h = let none : has_id [] x ≡ true = subst (λ xs. has_id xs x ≡ true) f.1 h in absurd (cc)
+child_with T size (child ∷ children) w ids (some, (own, (rest, (first, (others, all))))) x h =
+    elim (in_one own rest x (subst (λ xs. has_id xs x ≡ true) all h)) [
+      | inl here ↦ record { root = child; bytes = take size w; own = own; tree = first; has = here; inside = λ y k. subst (λ xs. has_id xs y ≡ true) (sym all) (in_left own rest y k) }
+      | inr later ↦
+          let found = child_with T size children (drop size w) rest others x later.1 in
+          record {
+            root = found.root;
+            bytes = found.bytes;
+            own = found.own;
+            tree = found.tree;
+            has = found.has;
+            inside = λ y k. subst (λ xs. has_id xs y ≡ true) (sym all) (in_right own rest y (found.inside y k));
+          }
+    ]
+
+either : (a b : Bool) → (a || b) ≡ true → (a ≡ true) ⊎ (b ≡ true)
+either true b e = inl refl
+either false b e = inr e
+
+behind : (a b : Bool) → b ≡ true → (a || b) ≡ true
+behind true b h = refl
+behind false b h = h
+
+lower_of : (payload : ℕ) (B : Content) (depth : ℕ) (node : NodeText) (w : List ℕ) (below : List Id) → Holds payload B depth node w below → (x : Id) → has_id below x ≡ true → Lower payload B depth below x
+lower_of payload B zero node w below h x e = let none : has_id [] x ≡ true = subst (λ xs. has_id xs x ≡ true) h.1 e in absurd (cc)
+lower_of payload B (suc depth) node w below (children, (is, f)) x e =
+    let child = child_with (IsTree payload B depth) (span payload depth) children w below f x e in
+    elim (either (same_id x child.root) (has_id child.tree.below x) (subst (λ xs. has_id xs x ≡ true) child.tree.all child.has)) [
+      | inl same ↦ record {
+        height = depth;
+        bytes = child.bytes;
+        own = child.own;
+        lower = omega arith;
+        tree = subst (λ r. IsTree payload B depth r child.bytes child.own) (sym (same_id_is x child.root same)) child.tree;
+        inside = child.inside;
+      }
+      | inr later ↦
+          let low = lower_of payload B depth child.tree.node child.bytes child.tree.below child.tree.holds x later in
+          record {
+            height = low.height;
+            bytes = low.bytes;
+            own = low.own;
+            lower = omega (arith, low.lower);
+            tree = low.tree;
+            inside = λ y k. child.inside y (subst (λ xs. has_id xs y ≡ true) (sym child.tree.all) (behind (same_id y child.root) (has_id child.tree.below y) (low.inside y k)));
+          }
+    ]
+
+-- an id of a tree is its root, or the root of a lower tree inside it
+root_or_lower : (payload : ℕ) (B : Content) (depth : ℕ) (id : Id) (w : List ℕ) (ids : List Id) → IsTree payload B depth id w ids → (x : Id) → has_id ids x ≡ true → (x ≡ id) ⊎ Lower payload B depth ids x
+root_or_lower payload B depth id w ids n x h =
+    elim (either (same_id x id) (has_id n.below x) (subst (λ xs. has_id xs x ≡ true) n.all h)) [
+      | inl same ↦ inl (same_id_is x id same)
+      | inr later ↦
+          let low = lower_of payload B depth n.node w n.below n.holds x later in
+          inr (record {
+            height = low.height;
+            bytes = low.bytes;
+            own = low.own;
+            lower = low.lower;
+            tree = low.tree;
+            inside = λ y k. subst (λ xs. has_id xs y ≡ true) (sym n.all) (behind (same_id y id) (has_id n.below y) (low.inside y k));
+          })
+    ]
+
+-- ---- one map
+
+pub root_in : (payload : ℕ) (B : Content) (depth : ℕ) (id : Id) (w : List ℕ) (ids : List Id) → IsTree payload B depth id w ids → has_id ids id ≡ true
+root_in payload B depth id w ids n = subst (λ xs. has_id xs id ≡ true) (sym n.all) (front (same_id id id) (has_id n.below id) (same_self id))
+  where
+    front : (a b : Bool) → a ≡ true → (a || b) ≡ true
+    front true b h = refl
+    front false b h = absurd (cc)
+
+some_of : (o : Option (List ℕ)) → is_some o ≡ true → (w : List ℕ) × (o ≡ Some w)
+some_of None h = absurd (cc)
+some_of (Some w) h = (w, refl)
+
+module _ (payload : ℕ) (B : Content) (M N : Id → Option (List ℕ)) (s : StoresBlobs payload B M) (t : StoresBlobs payload B N) where
+  -- a tree of the second map stands inside a tree of the first, which isn't lower
+  record Inside (depth : ℕ) (ids : List Id) : Type 0 where
+    root : Id
+    bytes : List ℕ
+    there : M root ≡ Some bytes
+    deep : depth ≤ (s.blob root bytes there).depth
+    inside : (x : Id) → has_id ids x ≡ true → has_id (s.ids root) x ≡ true
+
+  inside_one : (id : Id) (w : List ℕ) (p : N id ≡ Some w) → Inside (t.blob id w p).depth (t.ids id)
+  inside_one id w p =
+      let own = t.blob id w p in
+      let found = s.all id (ap is_some own.tree.there) in
+      let bytes = some_of (M found.0) found.1.0 in
+      let around = s.blob found.0 bytes.0 bytes.1 in
+      elim (root_or_lower payload B around.depth found.0 bytes.0 (s.ids found.0) around.tree id found.1.1) [
+        | inl is ↦
+            let tree : IsTree payload B around.depth id bytes.0 (s.ids found.0) = subst (λ r. IsTree payload B around.depth r bytes.0 (s.ids found.0)) (sym is) around.tree in
+            let same = same_tree payload B own.depth around.depth id w bytes.0 (t.ids id) (s.ids found.0) own.tree tree in
+            record { root = found.0; bytes = bytes.0; there = bytes.1; deep = omega (arith, same.depth); inside = λ x h. subst (λ xs. has_id xs x ≡ true) same.ids h }
+        | inr low ↦
+            let same = same_tree payload B own.depth low.height id w low.bytes (t.ids id) low.own own.tree low.tree in
+            record { root = found.0; bytes = bytes.0; there = bytes.1; deep = omega (arith, same.depth, low.lower); inside = λ x h. low.inside x (subst (λ xs. has_id xs x ≡ true) same.ids h) }
+      ]
+
+  has_both : (id : Id) (w : List ℕ) → M id ≡ Some w → N id ≡ Some w
+  has_both id w p =
+      let own = s.blob id w p in
+      let found = t.all id (ap is_some own.tree.there) in
+      let bytes = some_of (N found.0) found.1.0 in
+      let around = t.blob found.0 bytes.0 bytes.1 in
+      elim (root_or_lower payload B around.depth found.0 bytes.0 (t.ids found.0) around.tree id found.1.1) [
+        | inl is ↦
+            let tree : IsTree payload B around.depth id bytes.0 (t.ids found.0) = subst (λ r. IsTree payload B around.depth r bytes.0 (t.ids found.0)) (sym is) around.tree in
+            let same = same_tree payload B own.depth around.depth id w bytes.0 (s.ids id) (t.ids found.0) own.tree tree in
+            ap N is ∙ bytes.1 ∙ ap Some (sym same.bytes)
+        | inr low ↦
+            let same = same_tree payload B own.depth low.height id w low.bytes (s.ids id) low.own own.tree low.tree in
+            let out = inside_one found.0 bytes.0 bytes.1 in
+            let root : out.root ≡ id = s.apart out.root id id (ap is_some out.there) (ap is_some p) (out.inside id found.1.1) (root_in payload B own.depth id w (s.ids id) own.tree) in
+            let outer = s.blob out.root out.bytes out.there in
+            let tree : IsTree payload B outer.depth id out.bytes (s.ids out.root) = subst (λ r. IsTree payload B outer.depth r out.bytes (s.ids out.root)) root outer.tree in
+            let again = same_tree payload B own.depth outer.depth id w out.bytes (s.ids id) (s.ids out.root) own.tree tree in
+            absurd (omega (arith, same.depth, low.lower, out.deep, again.depth))
+      ]
+
+same_option : (o r : Option (List ℕ)) → ((w : List ℕ) → o ≡ Some w → r ≡ Some w) → ((w : List ℕ) → r ≡ Some w → o ≡ Some w) → o ≡ r
+same_option None None f g = refl
+same_option None (Some w) f g = g w refl
+same_option (Some w) r f g = sym (f w refl)
+
+-- two maps that a content stores are one
+pub one_map : (payload : ℕ) (B : Content) (m n : BlobMap) → StoresBlobs payload B (get m) → StoresBlobs payload B (get n) → m ≡ n
+one_map payload B m n s t = same_map nat_list_cmp_total (slice_cmp-IsAntisymmetric nat_cmp-IsAntisymmetric) m n
+    (λ id. same_option (get m id) (get n id) (has_both payload B (get m) (get n) s t id) (has_both payload B (get n) (get m) t s id))

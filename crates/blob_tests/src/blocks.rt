@@ -1,0 +1,44 @@
+// Which blocks of a store the blobs in it change.
+use blob_api::Blobs;
+use blob_store::BlobStore;
+use map_store::MapStore;
+use rand_pcg::Pcg32;
+use std::alloc::Global;
+use std::test::Fail;
+use store_api::{BlocksMut, Tx};
+
+/// No blobs, over blocks of 50 bytes in memory.
+pub(crate) fn empty(alloc: Global) -> BlobStore<MapStore>
+    ensures { ⟦<BlobStore<MapStore> as Blobs>⟧.meanings.intact result }
+{
+    BlobStore::new(Tx::new(alloc, MapStore::new(alloc, 50)))
+}
+
+// How many blocks are changed once a blob of 169 bytes was made, once it was removed, and, of another one that is stored,
+// once a byte was written.
+fn changed<S: BlocksMut>(
+    alloc: Global,
+    blobs: &mut BlobStore<S>,
+) -> Result<(usize, usize, usize), Fail>
+    requires { ⟦<BlobStore<S> as Blobs>⟧.meanings.intact blobs.old }
+{
+    let mut chance = Pcg32::new(1, 2);
+    let id = blobs.create(alloc, &[1; 169], &mut chance)?;
+    let made = blobs.tx.batch().len();
+    blobs.remove(alloc, &id)?;
+    let removed = blobs.tx.batch().len();
+    let stored = blobs.create(alloc, &[1; 169], &mut chance)?;
+    blobs.tx.commit(alloc, &mut chance)?;
+    blobs.write(alloc, &stored, 100, &[2], &mut chance)?;
+    Ok((made, removed, blobs.tx.batch().len()))
+}
+
+#[test]
+fn a_byte_inside_a_blob_changes_one_block(rt: HostRuntime) -> Result<(), Fail> {
+    let alloc = rt.alloc();
+    let mut blobs = empty(alloc);
+    let counts = changed(alloc, &mut blobs);
+    drop(blobs.into_tx().into_store());
+    assert!(rt; counts? == (11, 0, 1));
+    Ok(())
+}

@@ -1,0 +1,79 @@
+// One function a promise, each over any store of blobs. True where the store keeps it.
+use blob_api::Blobs;
+use block_id::{BlockId, Fail, Why};
+use rand_core::Rng;
+use std::alloc::Global;
+
+/// So many bytes take several blocks of a small store.
+const LEN: usize = 200;
+
+/// A blob has the bytes that it was made of, and its own id.
+pub fn reads_what_was_made<B: Blobs, R: Rng>(
+    alloc: Global,
+    b: &mut B,
+    chance: &mut R,
+) -> Result<bool, Fail>
+    requires { B.meanings.intact b.old }
+    ensures { B.meanings.intact b.new }
+{
+    let first = b.create(alloc, &[1; LEN], chance)?;
+    let second = b.create(alloc, &[], chance)?;
+    let tail = b.read(alloc, &first, 198, 100)?;
+    let past = b.read(alloc, &first, 201, 100)?;
+    let parts = tail.as_slice() == [1; 2].as_slice() && past.is_empty() && first != second;
+    Ok(parts && has(alloc, b, &first, &[1; LEN])? && has(alloc, b, &second, &[])?)
+}
+
+/// A write sets its bytes, with zeros behind the old end, and leaves the other blob.
+pub fn writes<B: Blobs, R: Rng>(alloc: Global, b: &mut B, chance: &mut R) -> Result<bool, Fail>
+    requires { B.meanings.intact b.old }
+    ensures { B.meanings.intact b.new }
+{
+    let id = b.create(alloc, &[1; 4], chance)?;
+    let other = b.create(alloc, &[1; LEN], chance)?;
+    b.write(alloc, &id, 1, &[2, 3], chance)?;
+    let inside = has(alloc, b, &id, &[1, 2, 3, 1])?;
+    b.write(alloc, &id, 9, &[], chance)?;
+    let nothing = has(alloc, b, &id, &[1, 2, 3, 1])?;
+    b.write(alloc, &id, 6, &[4], chance)?;
+    let behind = has(alloc, b, &id, &[1, 2, 3, 1, 0, 0, 4])?;
+    Ok(inside && nothing && behind && has(alloc, b, &other, &[1; LEN])?)
+}
+
+/// A blob is cut, or filled up with zeros.
+pub fn resizes<B: Blobs, R: Rng>(alloc: Global, b: &mut B, chance: &mut R) -> Result<bool, Fail>
+    requires { B.meanings.intact b.old }
+    ensures { B.meanings.intact b.new }
+{
+    let id = b.create(alloc, &[1; LEN], chance)?;
+    b.resize(alloc, &id, 2, chance)?;
+    let cut = has(alloc, b, &id, &[1, 1])?;
+    b.resize(alloc, &id, 5, chance)?;
+    Ok(cut && has(alloc, b, &id, &[1, 1, 0, 0, 0])?)
+}
+
+/// A removed blob is no blob, and the other one stays.
+pub fn forgets_what_was_removed<B: Blobs, R: Rng>(
+    alloc: Global,
+    b: &mut B,
+    chance: &mut R,
+) -> Result<bool, Fail>
+    requires { B.meanings.intact b.old }
+    ensures { B.meanings.intact b.new }
+{
+    let id = b.create(alloc, &[1; LEN], chance)?;
+    let other = b.create(alloc, &[2], chance)?;
+    b.remove(alloc, &id)?;
+    let gone = b.len(alloc, &id) == Err(Fail::Violation(Why::Structure));
+    Ok(gone && has(alloc, b, &other, &[2])?)
+}
+
+/// Whether the blob has these bytes.
+fn has<B: Blobs>(alloc: Global, b: &mut B, id: &BlockId, bytes: &[u8]) -> Result<bool, Fail>
+    requires { B.meanings.intact b.old }
+    ensures { B.meanings.intact b.new }
+{
+    let len = b.len(alloc, id)?;
+    let read = b.read(alloc, id, 0, len)?;
+    Ok(len == bytes.len() as u64 && read.as_slice() == bytes)
+}

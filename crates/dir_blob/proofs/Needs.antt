@@ -1,0 +1,150 @@
+-- A directory as a blob.
+use Rattle.std.specs.Prelude.{◌≡◌, ◌≤◌, ◌+◌, ◌-◌, ℕ, true, false, List, ◌++◌, length, take, drop, is_some, [], ◌∷◌, Option, Some, None, Result, Ok, Err, IfOk}
+use Rattle.std.proofs.Common.{refl, sym, ◌∙◌, ap, subst, arith}
+use Rattle.std.specs.FinMap.{get, find, put, insert, get-insert, same_map}
+use Rattle.std.specs.Ordering.{eq_by_cmp}
+use Rattle.std.specs.Prelude.{Bool, cond}
+use Rattle.fs_model.proofs.TreeLemmas.{name_total, name_exact, name_same}
+use Rattle.fs_model.proofs.WellFormedStep.{length-overwritten}
+use Rattle.blob_api.specs.BlobMap.{BlobMap}
+use Rattle.outcome.specs.Meanings.{Meanings}
+use Rattle.block_id.specs.declared.id.BlockId.{BlockId}
+use Rattle.outcome.specs.Bytes.{resized, written}
+use Rattle.blob_api.specs.BlobMap.{BlobsSteady, IsSparing}
+use Rattle.fs_model.specs.declared.attr.Attr.{Attr}
+use Rattle.fs_model.specs.Tree.{name_cmp}
+use Rattle.fs_blobs.specs.Headers.{blob}
+use Rattle.dir_blob.specs.Layout.{Target, entry_text, IsEntry}
+use Rattle.dir_blob.specs.Places.{target_of, without, IsPlace}
+use Rattle.dir_blob.specs.Directories.{HasEntries, HasName, HasRoom}
+use Rattle.dir_blob.proofs.Edits.{inserted, changed, removed, put_listing, without_listing, held_entry, place_within, more_pieces}
+use Rattle.std.proofs.lemmas.List.{take_all, length-drop}
+use Rattle.blob_api.specs.declared.blobs.TheConstants.{MAX_BLOB}
+use Rattle.blob_api.specs.BlobMap.{Id, BlobHoldings}
+use Rattle.fs_model.specs.declared.attr.Kind.TheVariants.{Directory}
+use Rattle.fs_blobs.specs.declared.header.TheConstants.{HEADER_LEN}
+use Rattle.fs_blobs.specs.Blobs.{IsBlob}
+use Rattle.dir_blob.specs.Layout.{Listing, IsListing, IsBody, body_of}
+use Rattle.dir_blob.specs.Directories.{IsDirectory}
+
+abbrev pub blob_of : {S : Type 0} {H : BlobHoldings S} {a : S} {id : Id} → IsDirectory H a id → IsBlob H a id
+blob_of n = record { map = n.map; stands = n.stands; kind = Directory; parent = n.parent; body = body_of n.listing; there = n.there; wide = n.wide; fits = n.fits }
+
+-- the same directory, where only blocks were loaded
+abbrev pub blob_still : {S : Type 0} {H : BlobHoldings S} {a b : S} {id : Id} (n : IsDirectory H a id) → H.stands_for b n.map → IsBlob H b id
+blob_still n stands = record { map = n.map; stands = stands; kind = Directory; parent = n.parent; body = body_of n.listing; there = n.there; wide = n.wide; fits = n.fits }
+
+pub body_is : (listing : Listing) → IsListing listing → IsBody (body_of listing) listing
+body_is listing is = record { entries = is; text = refl }
+
+pub whole : (body : List ℕ) → HEADER_LEN + length body ≤ MAX_BLOB → take MAX_BLOB (drop 0 body) ≡ body
+whole body fits = take_all MAX_BLOB body (omega (arith, fits))
+
+pub map_here : (m : BlobMap) (id : Id) (v : List ℕ) → get (insert m id v) id ≡ Some v
+map_here m id v = get-insert name_total m id v id ∙ ap (λ b. cond b (Some v) (get m id)) (name_same id)
+
+length-written : (old : List ℕ) (from : ℕ) (bytes : List ℕ) → from + length bytes ≤ length old → length (written old from bytes) ≡ length old
+length-written old from [] le = refl
+length-written old from (b ∷ bytes) le = omega (arith, length-overwritten old from (b ∷ bytes), le)
+
+pub still_fits : (old : List ℕ) (from : ℕ) (bytes : List ℕ) → from + length bytes ≤ length old → HEADER_LEN + length old ≤ MAX_BLOB → HEADER_LEN + length (written old from bytes) ≤ MAX_BLOB
+still_fits old from bytes le fits = omega (arith, length-written old from bytes le, fits)
+
+-- the directory's blob after a write within its body
+abbrev pub blob_written : {S : Type 0} {H : BlobHoldings S} {a b : S} {id : Id} (n : IsDirectory H a id) (from : ℕ) (bytes : List ℕ) → from + length bytes ≤ length (body_of n.listing)
+    → H.stands_for b (insert n.map id (blob Directory n.parent (written (body_of n.listing) from bytes))) → IsBlob H b id
+blob_written {id = id} n from bytes le stands = record {
+  map = insert n.map id (blob Directory n.parent (written (body_of n.listing) from bytes));
+  stands = stands;
+  kind = Directory;
+  parent = n.parent;
+  body = written (body_of n.listing) from bytes;
+  there = map_here n.map id (blob Directory n.parent (written (body_of n.listing) from bytes));
+  wide = n.wide;
+  fits = still_fits (body_of n.listing) from bytes le n.fits;
+}
+
+-- a slice from a place on
+pub slice_rest : (bytes : List ℕ) (k : ℕ) → take (length bytes - k) (drop k bytes) ≡ drop k bytes
+slice_rest bytes k = take_all (length bytes - k) (drop k bytes) (omega (arith, length-drop k bytes))
+
+pub present_is : (found : Option (Attr × BlockId)) (target : Target) → target_of found ≡ Some target → is_some found ≡ true
+present_is None target e = absurd cc
+present_is (Some x) target e = refl
+
+pub absent_is : (found : Option (Attr × BlockId)) → target_of found ≡ None → is_some found ≡ false
+absent_is None e = refl
+absent_is (Some x) e = absurd cc
+
+pub not_found : (found : Option (Attr × BlockId)) → is_some found ≡ false → target_of found ≡ None
+not_found None e = refl
+not_found (Some x) e = absurd cc
+
+insert_again : (m : BlobMap) (id : Id) (v w : List ℕ) → insert (insert m id v) id w ≡ insert m id w
+insert_again m id v w = same_map name_total name_exact (insert (insert m id v) id w) (insert m id w) (λ q.
+    get-insert name_total (insert m id v) id w q ∙ (ap (cond (eq_by_cmp name_cmp q id) (Some w)) (get-insert name_total m id v q)
+    ∙ (twice (eq_by_cmp name_cmp q id) (Some w) (Some v) (get m q) ∙ sym (get-insert name_total m id w q))))
+  where
+    twice : {X : Type 0} (b : Bool) (x y z : X) → cond b x (cond b y z) ≡ cond b x z
+    twice true x y z = refl
+    twice false x y z = refl
+
+-- the place of a name that is there
+module _ (name : List ℕ) (listing : Listing) (old : Target) (front : ℕ) (found : Option (Attr × BlockId)) (back : List ℕ)
+    (place : IsPlace name listing front (target_of found) back) (present : find name_cmp name listing ≡ Some old) where
+  pub place_old : IsPlace name listing front (Some old) back
+  place_old = subst (λ o. IsPlace name listing front o back) (sym place.finds ∙ present) place
+
+  pub change_fits : (target : Target) → IsListing listing → IsEntry (name, target) → front + length (entry_text (name, target)) ≤ length (body_of listing)
+  change_fits target entries own = place_within name old target listing front back place_old (held_entry name old listing front back place_old entries) own
+
+module _ {S : Type 0} {H : BlobHoldings S} {a : S} {id : Id} (name : List ℕ) (n : HasName H a id name) (front : ℕ) (found : Option (Attr × BlockId)) (back : List ℕ)
+    (place : IsPlace name n.is.listing front (target_of found) back) where
+  old_place : IsPlace name n.is.listing front (Some n.target) back
+  old_place = place_old name n.is.listing n.target front found back place n.present
+
+  pub changed_entries : (b : S) (target : Target) (bytes : List ℕ) → IsEntry (name, target) → bytes ≡ entry_text (name, target)
+      → H.stands_for b (insert n.is.map id (blob Directory n.is.parent (written (body_of n.is.listing) front bytes))) → HasEntries H b n.is.map id n.is.parent (put name_cmp name target n.is.listing)
+  changed_entries b target bytes own text stands =
+      let was = held_entry name n.target n.is.listing front back old_place n.is.entries in
+      record {
+        stands = subst (λ z. H.stands_for b (insert n.is.map id (blob Directory n.is.parent z)))
+            (ap (written (body_of n.is.listing) front) text ∙ changed name n.target target n.is.listing front back old_place was own) stands;
+        entries = put_listing name target n.is.listing front (Some n.target) back old_place n.is.entries own;
+      }
+
+  pub removed_entries : (b : S) (bytes : List ℕ) (end_ : ℕ) → bytes ≡ back → end_ ≡ front + length bytes
+      → H.stands_for b (insert (insert n.is.map id (blob Directory n.is.parent (written (body_of n.is.listing) front bytes))) id (blob Directory n.is.parent (resized (written (body_of n.is.listing) front bytes) end_)))
+      → HasEntries H b n.is.map id n.is.parent (without name n.is.listing)
+  removed_entries b bytes end_ text place_end stands =
+      let e : end_ ≡ front + length back = place_end ∙ ap (λ z. front + length z) text in
+      let same : resized (written (body_of n.is.listing) front bytes) end_ ≡ body_of (without name n.is.listing) =
+      ap (λ z. resized (written (body_of n.is.listing) front z) end_) text ∙ (ap (resized (written (body_of n.is.listing) front back)) e ∙ removed name n.target n.is.listing front back old_place) in
+      record {
+        stands = subst (H.stands_for b) (insert_again n.is.map id _ _ ∙ ap (λ z. insert n.is.map id (blob Directory n.is.parent z)) same) stands;
+        entries = without_listing name n.is.listing front (Some n.target) back old_place n.is.entries;
+      }
+
+pub inserted_entries : {S : Type 0} {H : BlobHoldings S} {a b : S} {id : Id} (name : List ℕ) (n : HasRoom H a id name) (front : ℕ) (found : Option (Attr × BlockId)) (back : List ℕ)
+    → IsPlace name n.is.listing front (target_of found) back → (target : Target) (bytes : List ℕ) → IsEntry (name, target) → bytes ≡ entry_text (name, target) ++ back
+    → H.stands_for b (insert n.is.map id (blob Directory n.is.parent (written (body_of n.is.listing) front bytes))) → HasEntries H b n.is.map id n.is.parent (put name_cmp name target n.is.listing)
+inserted_entries {H = H} {b = b} {id = id} name n front found back place target bytes own text stands =
+    let here = subst (λ o. IsPlace name n.is.listing front o back) (sym place.finds ∙ n.absent) place in
+    record {
+      stands = subst (λ z. H.stands_for b (insert n.is.map id (blob Directory n.is.parent z)))
+          (ap (written (body_of n.is.listing) front) text ∙ inserted name target n.is.listing front back here) stands;
+      entries = put_listing name target n.is.listing front None back here n.is.entries own;
+    }
+
+-- what holds anyhow holds of an Ok
+pub when_ok : {T E P : Type 0} (r : Result T E) → P → IfOk r (λ _. P)
+when_ok (Ok x) h = h
+when_ok (Err e) h = tt
+
+-- the bound of a write within a body, from before the body was read
+pub sparing_over : {S : Type 0} {M : Meanings S} {H : BlobHoldings S} (steady : BlobsSteady M H) (a b c : S) (body front count : ℕ) → M.intact a → M.loaded a b → H.changed b ≡ H.changed a
+    → 1 ≤ count → front + count ≤ body → IsSparing H b c body front count → IsSparing H a c body 0 body
+sparing_over {H = H} steady a b c body front count intact loaded unchanged some within bound = λ l told least most.
+    let piece : H.piece b ≡ Some l = steady.piece_stays a b loaded ∙ told in
+    let more = more_pieces count body l (steady.piece_some a l intact told) (omega arith) in
+    omega (arith, bound l piece some within, unchanged, more)

@@ -1,0 +1,106 @@
+// Changing one entry of a directory that is a blob.
+ghost use Rattle.std.specs.Prelude.{◌≡◌, ◌≤◌, ◌+◌, IfOk, length, is_some, None, true};
+ghost use Rattle.std.specs.FinMap.{find as found_in, put};
+ghost use Rattle.outcome.specs.Outcome.{Outcome};
+ghost use Rattle.blob_api.specs.BlobMap.{IsSparing};
+ghost use Rattle.fs_model.specs.Tree.{name_cmp, entry_size};
+ghost use Rattle.dir_blob.specs.Layout.{entry_of, body_of};
+ghost use Rattle.dir_blob.specs.Places.{without};
+ghost use Rattle.dir_blob.specs.Directories.{HasEntries, HasRoom, HasName, OfEntries};
+
+use crate::encode::put_entry;
+use crate::{Entry, locate, whole_body};
+use blob_api::Blobs;
+use block_id::{BlockId, Fail, Why};
+use fs_blobs::{resize_body, write_body};
+use fs_model::{MAX_ENTRIES, MAX_MODE, Name};
+use rand_core::Rng;
+use std::alloc::Global;
+
+/// One more entry.
+pub fn insert<B: Blobs, R: Rng>(
+    alloc: Global,
+    b: &mut B,
+    dir: &BlockId,
+    entry: &Entry,
+    chance: &mut R,
+) -> Result<(), Fail>
+    requires intact { B.meanings.intact b.old }
+    requires mode { entry.now.attr.mode ≤ MAX_MODE }
+    ensures outcome { Outcome B.meanings (HasRoom B.holdings b.old dir.now.0 entry.now.name) b.old b.new result
+        (λ n _. HasEntries B.holdings b.new n.is.map dir.now.0 n.is.parent (put name_cmp entry.now.name (entry_of entry.now).1 n.is.listing)) }
+    ensures absent { OfEntries B.meanings B.holdings b.old b.new dir.now.0 (λ listing. IfOk result (λ _. found_in name_cmp entry.now.name listing ≡ None)) }
+    ensures room { OfEntries B.meanings B.holdings b.old b.new dir.now.0 (λ listing. IfOk result (λ _. length (body_of listing) + entry_size entry.now.name ≤ MAX_ENTRIES)) }
+{
+    let body = whole_body(alloc, b, dir)?;
+    let mut bytes = Vec::new(alloc);
+    put_entry(&mut bytes, entry)?;
+    match locate(&body, &entry.name) {
+        Some(place) => {
+            if place.found.is_some() || body.len() as u64 + bytes.len() as u64 > MAX_ENTRIES {
+                return Err(Fail::Violation(Why::Structure));
+            }
+            bytes.extend_from_slice(&body[place.back..])?;
+            write_body(alloc, b, dir, place.front as u64, &bytes, chance)
+        }
+        None => Err(Fail::Violation(Why::Structure)),
+    }
+}
+
+/// The entry of a name goes.
+pub fn remove<B: Blobs, R: Rng>(
+    alloc: Global,
+    b: &mut B,
+    dir: &BlockId,
+    name: &Name,
+    chance: &mut R,
+) -> Result<(), Fail>
+    requires { B.meanings.intact b.old }
+    ensures outcome { Outcome B.meanings (HasName B.holdings b.old dir.now.0 name.now) b.old b.new result
+        (λ n _. HasEntries B.holdings b.new n.is.map dir.now.0 n.is.parent (without name.now n.is.listing)) }
+    ensures present { OfEntries B.meanings B.holdings b.old b.new dir.now.0 (λ listing. IfOk result (λ _. is_some (found_in name_cmp name.now listing) ≡ true)) }
+{
+    let body = whole_body(alloc, b, dir)?;
+    match locate(&body, name) {
+        Some(place) => {
+            if place.found.is_none() {
+                return Err(Fail::Violation(Why::Structure));
+            }
+            let front = place.front as u64;
+            let back = &body[place.back..];
+            write_body(alloc, b, dir, front, back, chance)?;
+            resize_body(alloc, b, dir, front + back.len() as u64, chance)
+        }
+        None => Err(Fail::Violation(Why::Structure)),
+    }
+}
+
+/// Another entry of the same name. Only its bytes are written.
+pub fn change<B: Blobs, R: Rng>(
+    alloc: Global,
+    b: &mut B,
+    dir: &BlockId,
+    entry: &Entry,
+    chance: &mut R,
+) -> Result<(), Fail>
+    requires intact { B.meanings.intact b.old }
+    requires mode { entry.now.attr.mode ≤ MAX_MODE }
+    ensures outcome { Outcome B.meanings (HasName B.holdings b.old dir.now.0 entry.now.name) b.old b.new result
+        (λ n _. HasEntries B.holdings b.new n.is.map dir.now.0 n.is.parent (put name_cmp entry.now.name (entry_of entry.now).1 n.is.listing)) }
+    ensures present { OfEntries B.meanings B.holdings b.old b.new dir.now.0 (λ listing. IfOk result (λ _. is_some (found_in name_cmp entry.now.name listing) ≡ true)) }
+    // Whatever it answers.
+    ensures sparing { OfEntries B.meanings B.holdings b.old b.new dir.now.0 (λ listing. IsSparing B.holdings b.old b.new (length (body_of listing)) 0 (length (body_of listing))) }
+{
+    let body = whole_body(alloc, b, dir)?;
+    let mut bytes = Vec::new(alloc);
+    put_entry(&mut bytes, entry)?;
+    match locate(&body, &entry.name) {
+        Some(place) => {
+            if place.found.is_none() || place.front + bytes.len() > body.len() {
+                return Err(Fail::Violation(Why::Structure));
+            }
+            write_body(alloc, b, dir, place.front as u64, &bytes, chance)
+        }
+        None => Err(Fail::Violation(Why::Structure)),
+    }
+}

@@ -1,0 +1,125 @@
+// A store of byte lists in memory.
+ghost use Rattle.std.specs.Prelude.{◌≡◌};
+ghost use Rattle.std.specs.FinMap as fin;
+ghost use Rattle.map_blobs.specs.Rows.{meanings_of, holdings_of, lawful_of, steady_of};
+
+use crate::bytes::{resized_to, written_to};
+use crate::rows::{free_id, row};
+use blob_api::Blobs;
+use block_id::{BlockId, Fail, Why};
+use rand_core::Rng;
+use std::alloc::Global;
+use store_api::Batch;
+
+/// Byte lists in memory.
+#[derive(Drop)]
+pub struct MapBlobs {
+    rows: Batch,
+}
+
+impl MapBlobs {
+    /// An empty store.
+    pub fn new(alloc: Global) -> MapBlobs
+        ensures { ⟦<MapBlobs as Blobs>⟧.holdings.stands_for result fin.empty }
+    {
+        MapBlobs {
+            rows: Batch::new(alloc),
+        }
+    }
+}
+
+impl Blobs for MapBlobs {
+    ghost meanings = { meanings_of };
+
+    ghost holdings = { holdings_of (λ s. s.rows) };
+
+    fn create<R: Rng>(
+        &mut self,
+        alloc: Global,
+        bytes: &[u8],
+        chance: &mut R,
+    ) -> Result<BlockId, Fail> {
+        let mut drawn = [0; 16];
+        chance.fill_bytes(&mut drawn);
+        let Some(id) = free_id(&self.rows, BlockId(drawn)) else {
+            return Err(Fail::Memory);
+        };
+        let copy = bytes.to_vec(alloc)?;
+        self.rows.put(&id, copy)?;
+        Ok(id)
+    }
+
+    fn remove(&mut self, alloc: Global, id: &BlockId) -> Result<(), Fail> {
+        match row(&self.rows, id) {
+            Some(_) => {
+                self.rows.forget(id);
+                Ok(())
+            }
+            None => Err(Fail::Violation(Why::Structure)),
+        }
+    }
+
+    fn len(&mut self, alloc: Global, id: &BlockId) -> Result<u64, Fail> {
+        match row(&self.rows, id) {
+            Some(bytes) => Ok(bytes.len() as u64),
+            None => Err(Fail::Violation(Why::Structure)),
+        }
+    }
+
+    fn read(
+        &mut self,
+        alloc: Global,
+        id: &BlockId,
+        from: u64,
+        count: u64,
+    ) -> Result<Vec<u8>, Fail> {
+        match row(&self.rows, id) {
+            Some(bytes) => {
+                let len = bytes.len() as u64;
+                let start = from.min(len);
+                let end = start + count.min(len - start);
+                Ok(bytes[start as usize..end as usize].to_vec(alloc)?)
+            }
+            None => Err(Fail::Violation(Why::Structure)),
+        }
+    }
+
+    fn write<R: Rng>(
+        &mut self,
+        alloc: Global,
+        id: &BlockId,
+        from: u64,
+        bytes: &[u8],
+        chance: &mut R,
+    ) -> Result<(), Fail> {
+        match row(&self.rows, id) {
+            Some(old) => {
+                let new = written_to(alloc, old, from as usize, bytes)?;
+                self.rows.put(id, new)?;
+                Ok(())
+            }
+            None => Err(Fail::Violation(Why::Structure)),
+        }
+    }
+
+    fn resize<R: Rng>(
+        &mut self,
+        alloc: Global,
+        id: &BlockId,
+        n: u64,
+        chance: &mut R,
+    ) -> Result<(), Fail> {
+        match row(&self.rows, id) {
+            Some(old) => {
+                let new = resized_to(alloc, old, n as usize)?;
+                self.rows.put(id, new)?;
+                Ok(())
+            }
+            None => Err(Fail::Violation(Why::Structure)),
+        }
+    }
+
+    ghost lawful = { lawful_of };
+
+    ghost steady = { steady_of (λ s. s.rows) };
+}
