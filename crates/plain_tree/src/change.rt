@@ -24,7 +24,7 @@ pub enum AttrChange {
 }
 
 /// The attributes after a change.
-fn changed(attr: Attr, change: AttrChange, now: Moment) -> Attr
+pub fn changed(attr: Attr, change: AttrChange, now: Moment) -> Attr
     ensures { result ≡ changed_by change now attr }
 {
     match change {
@@ -65,7 +65,7 @@ pub fn set_attributes(lines: &mut Vec<Line>, path: &Path, change: AttrChange, no
 }
 
 /// A file of the old length may not get this length.
-fn is_too_long(old: u64, new: u64) -> bool
+pub fn is_too_long(old: u64, new: u64) -> bool
     ensures { result ≡ step.is_too_long old new }
 {
     new > MAX_FILE || new.saturating_sub(old) > MAX_GROWTH

@@ -16,4 +16,9 @@ mod tests;
 mod tree;
 
 pub use block_id::Memory;
+pub use change::{AttrChange, changed, is_too_long};
+pub use edit::new_attr;
+pub use line::same_names;
+pub use prefix::is_above;
+pub use read::root_attr;
 pub use tree::PlainTree;

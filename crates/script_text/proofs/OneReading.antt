@@ -25,16 +25,16 @@ use Rattle.script_text.specs.Shown.{AreBytes, IsMoment, IsInfo, AreRows, IsShown
 use Rattle.script_text.proofs.Numerals.{numeral_some, numeral-zero}
 
 -- no byte of the text is this one
-abbrev Free : ℕ → List ℕ → Type 0
+abbrev pub Free : ℕ → List ℕ → Type 0
 Free t [] = Unit {0}
 Free t (x ∷ xs) = (x ≢ t) × Free t xs
 
-Free-append : (t : ℕ) (a b : List ℕ) → Free t a → Free t b → Free t (a ++ b)
+pub Free-append : (t : ℕ) (a b : List ℕ) → Free t a → Free t b → Free t (a ++ b)
 Free-append t [] b fa fb = fb
 Free-append t (x ∷ a) b fa fb = (fa.0, Free-append t a b fa.1 fb)
 
 -- a text ends before the first such byte
-ends : (t : ℕ) (a b r s : List ℕ) → Free t a → Free t b → a ++ t ∷ r ≡ b ++ t ∷ s → (a ≡ b) × (r ≡ s)
+pub ends : (t : ℕ) (a b r s : List ℕ) → Free t a → Free t b → a ++ t ∷ r ≡ b ++ t ∷ s → (a ≡ b) × (r ≡ s)
 ends t [] [] r s fa fb e = (refl, ap (drop 1) e)
 ends t [] (y ∷ b) r s fa fb e = absurd (fb.0 (sym (ap (λ z. get_or z 0 0) e)))
 ends t (x ∷ a) [] r s fa fb e = absurd (fa.0 (ap (λ z. get_or z 0 0) e))
@@ -51,7 +51,7 @@ free_digits t (c ∷ ds) low h =
     let range = digit_from_value c h.0 in
     ((λ e. omega arith), free_digits t ds low h.1)
 
-free_decimal : (t n : ℕ) → t < 48 → n < 2 ^ 64 → Free t (decimal n)
+pub free_decimal : (t n : ℕ) → t < 48 → n < 2 ^ 64 → Free t (decimal n)
 free_decimal t n low fits = free_digits t (decimal n) low (decimal_is_IsNumeral n fits).0.1
 
 free_shifted : (t : ℕ) (ds : List ℕ) → t < 48 → Free t (map (λ d. 48 + d) ds)
@@ -361,7 +361,7 @@ info_same a b m n r s fa fb e =
 -- one reply, and then more
 
 -- the third byte tells which reply it is
-abbrev third : Reply → ℕ
+abbrev pub third : Reply → ℕ
 third Done = 10
 third (Rows rows) = 115
 third (Info attr size) = 97
@@ -369,7 +369,7 @@ third (Target target) = 110
 third (Content bytes) = 116
 third (Error e) = 114
 
-third_is : (x : Reply) (r : List ℕ) → get_or (text_of x ++ r) 2 0 ≡ third x
+pub third_is : (x : Reply) (r : List ℕ) → get_or (text_of x ++ r) 2 0 ≡ third x
 unfolding text_of
 third_is Done r = refl
 third_is (Rows rows) r = refl
@@ -381,7 +381,7 @@ third_is (Error e) r = refl
 third_same : (x y : Reply) (r s : List ℕ) → text_of x ++ r ≡ text_of y ++ s → third x ≡ third y
 third_same x y r s e = sym (third_is x r) ∙ ap (λ z. get_or z 2 0) e ∙ third_is y s
 
-reply_same : (x y : Reply) (r s : List ℕ) → IsShown x → IsShown y → text_of x ++ r ≡ text_of y ++ s → (x ≡ y) × (r ≡ s)
+pub reply_same : (x y : Reply) (r s : List ℕ) → IsShown x → IsShown y → text_of x ++ r ≡ text_of y ++ s → (x ≡ y) × (r ≡ s)
 unfolding text_of
 reply_same Done Done r s fx fy e = (refl, ap (drop 3) e)
 reply_same (Rows xs) (Rows ys) r s fx fy e =

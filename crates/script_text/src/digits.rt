@@ -45,6 +45,14 @@ pub fn push_decimal(out: &mut Vec<u8>, n: u64) -> Result<(), Memory>
     ensures { Appends out.old out.new result (word (decimal n)) }
 {
     push_byte(out, b' ')?;
+    push_number(out, 10, n as u128)
+}
+
+/// A space and a number of up to 128 bits in decimal digits.
+pub fn push_numeral(out: &mut Vec<u8>, n: u128) -> Result<(), Memory>
+    ensures { Appends out.old out.new result (word (numeral 10 n)) }
+{
+    push_byte(out, b' ')?;
     push_number(out, 10, n)
 }
 
@@ -53,11 +61,11 @@ pub fn push_octal(out: &mut Vec<u8>, n: u64) -> Result<(), Memory>
     ensures { Appends out.old out.new result (word (octal n)) }
 {
     push_byte(out, b' ')?;
-    push_number(out, 8, n)
+    push_number(out, 8, n as u128)
 }
 
 /// A number in a base from 2 to 10.
-fn push_number(out: &mut Vec<u8>, base: u64, n: u64) -> Result<(), Memory>
+fn push_number(out: &mut Vec<u8>, base: u128, n: u128) -> Result<(), Memory>
     requires low { 2 ≤ base }
     requires high { base ≤ 10 }
     ensures { Appends out.old out.new result (numeral base n) }

@@ -14,6 +14,7 @@ mod tests;
 mod verb;
 mod words;
 
+pub use digits::{push_bytes, push_decimal, push_numeral};
 pub use error::LineError;
 pub use grammar::{MAX_LINE, parse_line};
 pub use law::{bad_lines_have_no_form, texts_have_one_reading};

@@ -1,0 +1,4 @@
+pub mod Nodes
+pub mod Shows
+pub mod Midst
+pub mod Showing

@@ -1,0 +1,29 @@
+-- Replies of commands that leave the tree, and steps that are equal.
+use Rattle.std.proofs.Common.{◌≡◌, refl, sym, subst}
+use Rattle.blob_api.specs.BlobMap.{Id, BlobMap, BlobHoldings}
+use Rattle.fs_model.specs.declared.reply.Reply.{Reply}
+use Rattle.fs_model.specs.Tree.{Path, Tree}
+use Rattle.fs_model.specs.declared.reply.Reply.TheVariants.{Done}
+use Rattle.fs_model.specs.Step.{Stepped, answered, done}
+use Rattle.forest.specs.Shows.{ShowsBy}
+use Rattle.forest.specs.Showing.{Showing, IsShownBy, PerformedBy, Performed}
+
+-- the tree stays, and this is the reply
+pub stays : {S : Type 0} {H : BlobHoldings S} {root : Id} (m : BlobMap) (t : Tree) (ids : Path → Id) → ShowsBy m root t ids → (b : S) → H.stands_for b m → (s : Stepped) (r : Reply) → s ≡ answered t r → Performed H b root s r
+stays {H = H} {root = root} m t ids shows b stands s r e = subst (λ z. Performed H b root z r) (sym e) (record { told = refl; map = m; stands = stands; ids = ids; shows = shows })
+
+-- the same, said of the reply and the tree apart
+pub looked : {S : Type 0} {H : BlobHoldings S} {a : S} {root : Id} (w : Showing H a root) (b : S) → H.stands_for b w.map → (s : Stepped) (r : Reply) → r ≡ s.reply → s.tree ≡ w.tree → Performed H b root s r
+looked {root = root} w b stands s r told tree = record { told = told; map = w.map; stands = stands; ids = w.ids; shows = subst (λ t. ShowsBy w.map root t w.ids) (sym tree) w.shows }
+
+-- a step under another name
+pub told_as : {S : Type 0} {H : BlobHoldings S} {b : S} {root : Id} (s s2 : Stepped) (r : Reply) → s2 ≡ s → Performed H b root s r → Performed H b root s2 r
+told_as {H = H} {b = b} {root = root} s s2 r e p = subst (λ z. Performed H b root z r) (sym e) p
+
+-- the blobs that are named may go unnamed
+pub unnamed : {S : Type 0} {H : BlobHoldings S} {b : S} {root : Id} (s : Stepped) (r : Reply) (ids : Path → Id) → PerformedBy H b root s r ids → Performed H b root s r
+unnamed s r ids p = record { told = p.told; map = p.shown.map; stands = p.shown.stands; ids = ids; shows = p.shown.shows }
+
+-- the tree is the next one, and the blobs show it
+pub shown_done : {S : Type 0} {H : BlobHoldings S} {b : S} {root : Id} (t : Tree) (ids : Path → Id) → IsShownBy H b root t ids → Performed H b root (done t) Done
+shown_done t ids p = record { told = refl; map = p.map; stands = p.stands; ids = ids; shows = p.shows }

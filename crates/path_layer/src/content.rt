@@ -1,0 +1,166 @@
+// Commands that change the content of a file.
+ghost use Rattle.std.specs.Prelude.{◌≡◌, ◌≤◌, ◌∷◌, IfOk, length};
+ghost use Rattle.outcome.specs.Outcome.{Outcome};
+ghost use Rattle.fs_model.specs.Tree.{upward, directory_size};
+ghost use Rattle.fs_model.specs.LookUp.{Found, look};
+ghost use Rattle.fs_model.specs.Step.{written, truncated};
+ghost use Rattle.forest.specs.Showing.{Showing, Performed};
+ghost use Rattle.path_walks.specs.Changes.{IsDone, IsSparingTwice};
+ghost use Rattle.path_layer.specs.Places.{Finding};
+ghost use Rattle.path_layer.specs.Sparing.{IsSparingAt};
+
+use crate::names::split_last;
+use blob_api::Blobs;
+use block_id::{BlockId, Fail, Memory};
+use dir_blob::Entry;
+use fs_blobs::body_len;
+use fs_model::{Attr, FsError, Kind, MAX_MODE, Moment, Name, Reply};
+use path_walks::{Place, Sight, look_at, resize_at, write_at};
+use plain_tree::is_too_long;
+use rand_core::Rng;
+use std::alloc::Global;
+
+/// The bytes are written at `from`.
+pub fn write<B: Blobs, R: Rng>(
+    alloc: Global,
+    b: &mut B,
+    root: &BlockId,
+    names: &[Name],
+    from: u64,
+    bytes: &[u8],
+    now: Moment,
+    chance: &mut R,
+) -> Result<Reply, Fail>
+    requires { B.meanings.intact b.old }
+    ensures outcome { Outcome B.meanings (Showing B.holdings b.old root.now.0) b.old b.new result
+        (λ n r. Performed B.holdings b.new root.now.0 (written n.tree now (upward names.now) from bytes.now (look n.tree (upward names.now))) r) }
+    ensures sparing { (n : Showing B.holdings b.old root.now.0) → B.meanings.sound b.old → B.meanings.forgeries b.new ≤ B.meanings.forgeries b.old
+        → IsSparingAt B.holdings b.old b.new n.tree (upward names.now) from (length bytes.now) }
+    ensures variant { IfOk result IsDone }
+{
+    match split_last(names) {
+        None => Ok(Reply::Error(FsError::IsDirectory)),
+        Some((name, dirs)) => match look_at(alloc, b, root, dirs, name)? {
+            Sight::Found(dir, place) => {
+                write_found(alloc, b, root, &dir, name, &place, from, bytes, now, chance)
+            }
+            Sight::Vacant(_) => Ok(Reply::Error(FsError::NoEntry)),
+            Sight::Lost(error) => Ok(Reply::Error(error)),
+        },
+    }
+}
+
+/// What was found is written, where it is a file.
+fn write_found<B: Blobs, R: Rng>(
+    alloc: Global,
+    b: &mut B,
+    root: &BlockId,
+    dir: &Place,
+    name: &Name,
+    place: &Place,
+    from: u64,
+    bytes: &[u8],
+    now: Moment,
+    chance: &mut R,
+) -> Result<Reply, Fail>
+    requires intact { B.meanings.intact b.old }
+    requires mode { place.now.attr.mode ≤ MAX_MODE }
+    ensures outcome { Outcome B.meanings (Finding B.holdings b.old root.now.0 dir.now name.now place.now) b.old b.new result
+        (λ n r. Performed B.holdings b.new root.now.0 (written n.tree now (name.now ∷ n.path) from bytes.now (Found n.is.here.row)) r) }
+    ensures sparing { (n : Finding B.holdings b.old root.now.0 dir.now name.now place.now) → B.meanings.sound b.old → B.meanings.forgeries b.new ≤ B.meanings.forgeries b.old
+        → IsSparingTwice B.holdings b.old b.new (length n.is.here.row.bytes) (directory_size n.tree n.path) from (length bytes.now) }
+    ensures variant { IfOk result IsDone }
+{
+    match place.attr.kind {
+        Kind::Directory => return Ok(Reply::Error(FsError::IsDirectory)),
+        Kind::Link => return Ok(Reply::Error(FsError::Invalid)),
+        Kind::File => {}
+    }
+    if bytes.is_empty() {
+        return Ok(Reply::Done);
+    }
+    let size = body_len(alloc, b, &place.blob)?;
+    let end = from.saturating_add(bytes.len() as u64);
+    if is_too_long(size, end.max(size)) {
+        return Ok(Reply::Error(FsError::TooLarge));
+    }
+    let entry = touched(name, place, now)?;
+    write_at(alloc, b, &dir.blob, &entry, from, bytes, chance)?;
+    Ok(Reply::Done)
+}
+
+/// A file is cut to a length, or filled up with zeros.
+pub fn truncate<B: Blobs, R: Rng>(
+    alloc: Global,
+    b: &mut B,
+    root: &BlockId,
+    names: &[Name],
+    len: u64,
+    now: Moment,
+    chance: &mut R,
+) -> Result<Reply, Fail>
+    requires { B.meanings.intact b.old }
+    ensures outcome { Outcome B.meanings (Showing B.holdings b.old root.now.0) b.old b.new result
+        (λ n r. Performed B.holdings b.new root.now.0 (truncated n.tree now (upward names.now) len (look n.tree (upward names.now))) r) }
+    ensures variant { IfOk result IsDone }
+{
+    match split_last(names) {
+        None => Ok(Reply::Error(FsError::IsDirectory)),
+        Some((name, dirs)) => match look_at(alloc, b, root, dirs, name)? {
+            Sight::Found(dir, place) => {
+                truncate_found(alloc, b, root, &dir, name, &place, len, now, chance)
+            }
+            Sight::Vacant(_) => Ok(Reply::Error(FsError::NoEntry)),
+            Sight::Lost(error) => Ok(Reply::Error(error)),
+        },
+    }
+}
+
+/// What was found gets this length, where it is a file.
+fn truncate_found<B: Blobs, R: Rng>(
+    alloc: Global,
+    b: &mut B,
+    root: &BlockId,
+    dir: &Place,
+    name: &Name,
+    place: &Place,
+    len: u64,
+    now: Moment,
+    chance: &mut R,
+) -> Result<Reply, Fail>
+    requires intact { B.meanings.intact b.old }
+    requires mode { place.now.attr.mode ≤ MAX_MODE }
+    ensures outcome { Outcome B.meanings (Finding B.holdings b.old root.now.0 dir.now name.now place.now) b.old b.new result
+        (λ n r. Performed B.holdings b.new root.now.0 (truncated n.tree now (name.now ∷ n.path) len (Found n.is.here.row)) r) }
+    ensures variant { IfOk result IsDone }
+{
+    match place.attr.kind {
+        Kind::Directory => return Ok(Reply::Error(FsError::IsDirectory)),
+        Kind::Link => return Ok(Reply::Error(FsError::Invalid)),
+        Kind::File => {}
+    }
+    let size = body_len(alloc, b, &place.blob)?;
+    if is_too_long(size, len) {
+        return Ok(Reply::Error(FsError::TooLarge));
+    }
+    let entry = touched(name, place, now)?;
+    resize_at(alloc, b, &dir.blob, &entry, len, chance)?;
+    Ok(Reply::Done)
+}
+
+/// The entry of a row whose content changes now.
+fn touched(name: &Name, place: &Place, now: Moment) -> Result<Entry, Memory>
+    ensures name { IfOk result (λ entry. entry.name ≡ name.now) }
+    ensures attr { IfOk result (λ entry. entry.attr ≡ record place.now.attr { mtime = now; ctime = now }) }
+    ensures blob { IfOk result (λ entry. entry.blob ≡ place.now.blob) }
+{
+    Ok(Entry {
+        name: name.try_clone()?,
+        attr: Attr {
+            mtime: now,
+            ctime: now,
+            ..place.attr
+        },
+        blob: place.blob,
+    })
+}

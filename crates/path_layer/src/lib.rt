@@ -1,0 +1,16 @@
+//! One command on the tree that blobs show.
+#![tactic(auto)]
+
+mod attributes;
+mod commands;
+mod content;
+mod empty;
+mod making;
+mod moving;
+mod names;
+mod places;
+mod reading;
+mod removing;
+
+pub use commands::perform;
+pub use empty::empty_root;

@@ -1,0 +1,64 @@
+// What the blob of a place has.
+ghost use Rattle.std.specs.Prelude.{◌≡◌, length, take, drop};
+ghost use Rattle.outcome.specs.Outcome.{Outcome};
+ghost use Rattle.fs_model.specs.Step.{has_child as model_has_child};
+ghost use Rattle.fs_model.specs.Tree.{is_directory as model_is_directory};
+ghost use Rattle.path_layer.specs.Places.{Standing, Holding, Folder};
+
+use blob_api::Blobs;
+use block_id::Fail;
+use fs_blobs::{body_len, read_body};
+use fs_model::Kind;
+use path_walks::Place;
+use std::alloc::Global;
+
+/// The bytes of a row: a directory has none.
+pub fn size_at<B: Blobs>(alloc: Global, b: &mut B, place: &Place) -> Result<u64, Fail>
+    requires { B.meanings.intact b.old }
+    ensures outcome { Outcome B.meanings (Standing B.holdings b.old place.now) b.old b.new result
+        (λ n size. B.holdings.stands_for b.new n.map × (size ≡ length n.at.row.bytes)) }
+    ensures unchanged { B.holdings.changed b.new ≡ B.holdings.changed b.old }
+{
+    match place.attr.kind {
+        Kind::Directory => Ok(0),
+        Kind::File => body_len(alloc, b, &place.blob),
+        Kind::Link => body_len(alloc, b, &place.blob),
+    }
+}
+
+/// At most `count` bytes of a file or of a link's target, from `from` on, cut at the end.
+pub fn bytes_at<B: Blobs>(
+    alloc: Global,
+    b: &mut B,
+    place: &Place,
+    from: u64,
+    count: u64,
+) -> Result<Vec<u8>, Fail>
+    requires { B.meanings.intact b.old }
+    ensures outcome { Outcome B.meanings (Holding B.holdings b.old place.now) b.old b.new result
+        (λ n bytes. B.holdings.stands_for b.new n.map × (bytes.items ≡ take count (drop from n.at.row.bytes))) }
+    ensures unchanged { B.holdings.changed b.new ≡ B.holdings.changed b.old }
+{
+    read_body(alloc, b, &place.blob, from, count)
+}
+
+/// Whether something stands below a directory.
+pub fn has_child<B: Blobs>(alloc: Global, b: &mut B, place: &Place) -> Result<bool, Fail>
+    requires { B.meanings.intact b.old }
+    ensures outcome { Outcome B.meanings (Folder B.holdings b.old place.now) b.old b.new result
+        (λ n answer. B.holdings.stands_for b.new n.map × (answer ≡ model_has_child n.tree n.path)) }
+    ensures unchanged { B.holdings.changed b.new ≡ B.holdings.changed b.old }
+{
+    Ok(body_len(alloc, b, &place.blob)? > 0)
+}
+
+/// A directory, and not a file or a link.
+pub fn is_directory(kind: Kind) -> bool
+    ensures { result ≡ model_is_directory kind }
+{
+    match kind {
+        Kind::Directory => true,
+        Kind::File => false,
+        Kind::Link => false,
+    }
+}

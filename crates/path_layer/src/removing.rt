@@ -1,0 +1,114 @@
+// Commands that take a row away.
+ghost use Rattle.std.specs.Prelude.{◌≡◌, ◌∷◌, IfOk};
+ghost use Rattle.outcome.specs.Outcome.{Outcome};
+ghost use Rattle.fs_model.specs.Tree.{upward};
+ghost use Rattle.fs_model.specs.LookUp.{Found, look};
+ghost use Rattle.fs_model.specs.Step.{unless_root, removed_directory, removed_file};
+ghost use Rattle.forest.specs.Showing.{Showing, Performed};
+ghost use Rattle.path_walks.specs.Changes.{IsDone};
+ghost use Rattle.path_layer.specs.Places.{Finding};
+
+use crate::names::split_last;
+use crate::places::{has_child, is_directory};
+use blob_api::Blobs;
+use block_id::{BlockId, Fail};
+use fs_model::{FsError, Kind, Name, Reply};
+use path_walks::{Place, Sight, drop_at, look_at};
+use rand_core::Rng;
+use std::alloc::Global;
+
+/// An empty directory goes.
+pub fn remove_directory<B: Blobs, R: Rng>(
+    alloc: Global,
+    b: &mut B,
+    root: &BlockId,
+    names: &[Name],
+    chance: &mut R,
+) -> Result<Reply, Fail>
+    requires { B.meanings.intact b.old }
+    ensures outcome { Outcome B.meanings (Showing B.holdings b.old root.now.0) b.old b.new result
+        (λ n r. Performed B.holdings b.new root.now.0 (unless_root n.tree (upward names.now) (removed_directory n.tree (upward names.now) (look n.tree (upward names.now)))) r) }
+    ensures variant { IfOk result IsDone }
+{
+    match split_last(names) {
+        None => Ok(Reply::Error(FsError::Busy)),
+        Some((name, dirs)) => match look_at(alloc, b, root, dirs, name)? {
+            Sight::Found(dir, place) => drop_directory(alloc, b, root, &dir, name, &place, chance),
+            Sight::Vacant(_) => Ok(Reply::Error(FsError::NoEntry)),
+            Sight::Lost(error) => Ok(Reply::Error(error)),
+        },
+    }
+}
+
+/// What was found goes, where it is a directory that has no entries.
+fn drop_directory<B: Blobs, R: Rng>(
+    alloc: Global,
+    b: &mut B,
+    root: &BlockId,
+    dir: &Place,
+    name: &Name,
+    place: &Place,
+    chance: &mut R,
+) -> Result<Reply, Fail>
+    requires { B.meanings.intact b.old }
+    ensures outcome { Outcome B.meanings (Finding B.holdings b.old root.now.0 dir.now name.now place.now) b.old b.new result
+        (λ n r. Performed B.holdings b.new root.now.0 (removed_directory n.tree (name.now ∷ n.path) (Found n.is.here.row)) r) }
+    ensures variant { IfOk result IsDone }
+{
+    match place.attr.kind {
+        Kind::Directory => {
+            if has_child(alloc, b, place)? {
+                return Ok(Reply::Error(FsError::NotEmpty));
+            }
+            drop_at(alloc, b, &dir.blob, name, &place.blob, chance)?;
+            Ok(Reply::Done)
+        }
+        Kind::File => Ok(Reply::Error(FsError::NotDirectory)),
+        Kind::Link => Ok(Reply::Error(FsError::NotDirectory)),
+    }
+}
+
+/// A file or a link goes.
+pub fn remove_file<B: Blobs, R: Rng>(
+    alloc: Global,
+    b: &mut B,
+    root: &BlockId,
+    names: &[Name],
+    chance: &mut R,
+) -> Result<Reply, Fail>
+    requires { B.meanings.intact b.old }
+    ensures outcome { Outcome B.meanings (Showing B.holdings b.old root.now.0) b.old b.new result
+        (λ n r. Performed B.holdings b.new root.now.0 (unless_root n.tree (upward names.now) (removed_file n.tree (upward names.now) (look n.tree (upward names.now)))) r) }
+    ensures variant { IfOk result IsDone }
+{
+    match split_last(names) {
+        None => Ok(Reply::Error(FsError::Busy)),
+        Some((name, dirs)) => match look_at(alloc, b, root, dirs, name)? {
+            Sight::Found(dir, place) => drop_file(alloc, b, root, &dir, name, &place, chance),
+            Sight::Vacant(_) => Ok(Reply::Error(FsError::NoEntry)),
+            Sight::Lost(error) => Ok(Reply::Error(error)),
+        },
+    }
+}
+
+/// What was found goes, where it is no directory.
+fn drop_file<B: Blobs, R: Rng>(
+    alloc: Global,
+    b: &mut B,
+    root: &BlockId,
+    dir: &Place,
+    name: &Name,
+    place: &Place,
+    chance: &mut R,
+) -> Result<Reply, Fail>
+    requires { B.meanings.intact b.old }
+    ensures outcome { Outcome B.meanings (Finding B.holdings b.old root.now.0 dir.now name.now place.now) b.old b.new result
+        (λ n r. Performed B.holdings b.new root.now.0 (removed_file n.tree (name.now ∷ n.path) (Found n.is.here.row)) r) }
+    ensures variant { IfOk result IsDone }
+{
+    if is_directory(place.attr.kind) {
+        return Ok(Reply::Error(FsError::IsDirectory));
+    }
+    drop_at(alloc, b, &dir.blob, name, &place.blob, chance)?;
+    Ok(Reply::Done)
+}

@@ -1,0 +1,96 @@
+// Lines and their replies.
+use crate::site::{answer, empty_site};
+use fs_model::Moment;
+use std::test::Fail;
+
+#[test]
+fn moves_follow_the_order_of_errors(rt: HostRuntime) -> Result<(), Fail> {
+    let alloc = rt.alloc();
+    let now = Moment::new(100, 5).ok_or("nanos")?;
+    let mut site = empty_site(alloc)?;
+    for (line, text) in [
+        ("mkdir /a", "ok\n"),
+        ("mkdir /b", "ok\n"),
+        ("mkdir /c", "ok\n"),
+        ("mkfile /c/x", "ok\n"),
+        ("mkfile /f", "ok\n"),
+        ("mv /a /a/b", "error invalid\n"),
+        ("mv /a /b", "ok\n"),
+        ("mv /b /c", "error not-empty\n"),
+        ("mv /f /b", "error is-directory\n"),
+        ("mv /b /f", "error not-directory\n"),
+        ("mv /f /f", "ok\n"),
+        ("mv / /b", "error busy\n"),
+        ("mv /zz /b", "error no-entry\n"),
+        ("ls /", "list 3\nd b\nd c\nf f\n"),
+        ("mv /c /b/c", "ok\n"),
+        (
+            "stat /b/c/x",
+            "stat f 644 0 0 0 100.000000005 100.000000005 100.000000005\n",
+        ),
+    ] {
+        let reply = answer(alloc, &mut site, now, line.as_bytes())?;
+        assert_eq!(rt; reply.as_slice(), text.as_bytes());
+    }
+    Ok(())
+}
+
+#[test]
+fn files_and_links_and_their_refusals(rt: HostRuntime) -> Result<(), Fail> {
+    let alloc = rt.alloc();
+    let now = Moment::new(9, 0).ok_or("nanos")?;
+    let mut site = empty_site(alloc)?;
+    for (line, text) in [
+        ("mkfile /f", "ok\n"),
+        ("write /f 5 6162", "ok\n"),
+        ("read /f 0 100", "data 00000000006162\n"),
+        ("read /f 7 1", "data -\n"),
+        ("truncate /f 6", "ok\n"),
+        ("chmod /f 600", "ok\n"),
+        ("chown /f 7 8", "ok\n"),
+        ("utime /f 1.000000000 2.000000000", "ok\n"),
+        (
+            "stat /f",
+            "stat f 600 7 8 6 1.000000000 2.000000000 9.000000000\n",
+        ),
+        (
+            "stat /",
+            "stat d 755 0 0 0 0.000000000 0.000000000 0.000000000\n",
+        ),
+        ("chmod / 700", "error busy\n"),
+        ("readlink /f", "error not-link\n"),
+        ("symlink /x /l", "ok\n"),
+        ("readlink /l", "link /x\n"),
+        ("ls /l/x", "error not-directory\n"),
+        ("read /l 0 1", "error invalid\n"),
+    ] {
+        let reply = answer(alloc, &mut site, now, line.as_bytes())?;
+        assert_eq!(rt; reply.as_slice(), text.as_bytes());
+    }
+    Ok(())
+}
+
+#[test]
+fn what_may_not_go_stays(rt: HostRuntime) -> Result<(), Fail> {
+    let alloc = rt.alloc();
+    let now = Moment::new(9, 0).ok_or("nanos")?;
+    let mut site = empty_site(alloc)?;
+    for (line, text) in [
+        ("mkdir /d", "ok\n"),
+        ("mkfile /d/f", "ok\n"),
+        ("rmdir /d", "error not-empty\n"),
+        ("rmdir /d/f", "error not-directory\n"),
+        ("rm /d", "error is-directory\n"),
+        ("rmdir /q", "error no-entry\n"),
+        ("read / 0 1", "error is-directory\n"),
+        ("truncate /d/f 67108865", "error too-large\n"),
+        ("rm /d/f", "ok\n"),
+        ("rmdir /d", "ok\n"),
+        ("sync", "ok\n"),
+        ("ls /", "list 0\n"),
+    ] {
+        let reply = answer(alloc, &mut site, now, line.as_bytes())?;
+        assert_eq!(rt; reply.as_slice(), text.as_bytes());
+    }
+    Ok(())
+}

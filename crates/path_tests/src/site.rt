@@ -1,0 +1,67 @@
+// Blobs in memory that show a tree, and lines on it.
+use blob_api::Blobs;
+use block_id::{BlockId, Fail as Failure};
+use fs_model::{Moment, Reply};
+use map_blobs::MapBlobs;
+use path_layer::{empty_root, perform};
+use rand_pcg::Pcg32;
+use script_text::{parse_line, print_reply};
+use std::alloc::Global;
+use std::test::Fail;
+
+/// The blobs, the root's id, and what ids are drawn from.
+#[derive(Drop)]
+pub struct Site {
+    pub blobs: MapBlobs,
+    pub root: BlockId,
+    pub chance: Pcg32,
+}
+
+/// The blobs of the empty tree.
+pub fn empty_site(alloc: Global) -> Result<Site, Fail> {
+    let mut blobs = MapBlobs::new(alloc);
+    let mut chance = Pcg32::new(1, 2);
+    let bytes = empty_root(alloc)?;
+    if bytes.len() > 100 {
+        return Err(Fail::from("a header alone"));
+    }
+    let root = blobs.create(alloc, &bytes, &mut chance)?;
+    Ok(Site {
+        blobs,
+        root,
+        chance,
+    })
+}
+
+/// What a line is answered.
+pub fn asked(
+    alloc: Global,
+    site: &mut Site,
+    now: Moment,
+    line: &[u8],
+) -> Result<Result<Reply, Failure>, Fail> {
+    match parse_line(alloc, line) {
+        Ok(command) => Ok(perform(
+            alloc,
+            &mut site.blobs,
+            &site.root,
+            now,
+            &command,
+            &mut site.chance,
+        )),
+        Err(_) => Err(Fail::from("a line of the language")),
+    }
+}
+
+/// The text of the reply to a line.
+pub fn answer(alloc: Global, site: &mut Site, now: Moment, line: &[u8]) -> Result<Vec<u8>, Fail> {
+    let reply = asked(alloc, site, now, line)??;
+    text_of(alloc, &reply)
+}
+
+/// A reply as its lines.
+pub fn text_of(alloc: Global, reply: &Reply) -> Result<Vec<u8>, Fail> {
+    let mut text = Vec::new(alloc);
+    print_reply(reply, &mut text)?;
+    Ok(text)
+}

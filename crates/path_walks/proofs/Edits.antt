@@ -1,0 +1,75 @@
+-- Entries of a directory after one comes or goes, and the limits of what a path's blob holds.
+use Rattle.std.proofs.Common.{◌≡◌, ℕ, ◌+◌, ◌≤◌, Bool, true, false, cond, List, [], ◌∷◌, length, refl, sym, ◌∙◌, ap, subst, arith, inl, inr}
+use Rattle.std.specs.Prelude.{not, ◌&&◌, nat_lt, nat_le, T}
+use Rattle.std.specs.FinMap.{find, put, is_sorted}
+use Rattle.std.specs.FinMap.Entries.{find-put, find-where_key, by_order, is_sorted-put}
+use Rattle.std.specs.Ordering.{eq_by_cmp, is_eq}
+use Rattle.std.specs.declared.cmp.Ordering.TheVariants.{Less, Equal, Greater}
+use Rattle.std.specs.declared.option.Option.TheVariants.{None, Some}
+use Rattle.std.proofs.lemmas.Bool.{and_parts, leb-true}
+use Rattle.blob_api.specs.declared.blobs.TheConstants.{MAX_BLOB}
+use Rattle.blob_api.specs.BlobMap.{Id}
+use Rattle.fs_model.specs.declared.limits.TheConstants.{MAX_ENTRIES, MAX_TARGET}
+use Rattle.fs_model.specs.declared.attr.Kind.{Kind}
+use Rattle.fs_model.specs.declared.attr.Kind.TheVariants.{Directory, File, Link}
+use Rattle.fs_model.specs.PathTexts.{is_zero}
+use Rattle.std.specs.List.{list_any}
+use Rattle.fs_model.specs.Tree.{Path, Tree, name_cmp, entry_size, entries_size, directory_size, FitsKind}
+use Rattle.fs_model.proofs.TreeLemmas.{same_name, name_total, name_exact, name_same, name_apart, name_split}
+use Rattle.fs_blobs.specs.declared.header.TheConstants.{HEADER_LEN}
+use Rattle.dir_blob.specs.Layout.{Target, Listing, body_of, IsListing}
+use Rattle.dir_blob.specs.Places.{without}
+use Rattle.forest.specs.Nodes.{Look, Lists, Content}
+use Rattle.forest.specs.Shows.{entries_at}
+use Rattle.path_walks.proofs.Sizes.{sizes_shown, body_size}
+
+pub entries_without : (listing : Listing) (n k : List ℕ) → find name_cmp k (without n listing) ≡ cond (same_name k n) None (find name_cmp k listing)
+entries_without listing n k =
+    find-where_key name_cmp (λ x. not (eq_by_cmp name_cmp n x)) k (λ x tie. ap (λ z. not (eq_by_cmp name_cmp n z)) (sym (name_exact k x tie))) listing
+    ∙ elim (name_split k n) as (λ _. cond (not (eq_by_cmp name_cmp n k)) (find name_cmp k listing) None ≡ cond (same_name k n) None (find name_cmp k listing)) [
+      | inl e ↦
+          ap (λ b. cond (not b) (find name_cmp k listing) None) (ap (same_name n) e ∙ name_same n)
+          ∙ sym (ap (λ b. cond b None (find name_cmp k listing)) (ap (λ z. same_name z n) e ∙ name_same n))
+      | inr d ↦
+          ap (λ b. cond (not b) (find name_cmp k listing) None) (name_apart n k (λ e. d (sym e)))
+          ∙ sym (ap (λ b. cond b None (find name_cmp k listing)) (name_apart k n d))
+    ]
+
+pub entries_with : (listing : Listing) (n : List ℕ) (target : Target) (k : List ℕ) → find name_cmp k (put name_cmp n target listing) ≡ cond (same_name k n) (Some target) (find name_cmp k listing)
+entries_with listing n target k = find-put name_cmp name_total k n target listing
+
+pub lists_without : (look : Look) (listing : Listing) (n : List ℕ) → ((k : List ℕ) → find name_cmp k listing ≡ look k) → IsListing (without n listing) → Lists (λ k. cond (same_name k n) None (look k)) (body_of (without n listing))
+lists_without look listing n found is = record { listing = without n listing; is = record { entries = is; text = refl }; entries = λ k. entries_without listing n k ∙ ap (cond (same_name k n) None) (found k) }
+
+pub lists_with : (look : Look) (listing : Listing) (n : List ℕ) (target : Target) → ((k : List ℕ) → find name_cmp k listing ≡ look k) → IsListing (put name_cmp n target listing)
+    → Lists (λ k. cond (same_name k n) (Some target) (look k)) (body_of (put name_cmp n target listing))
+lists_with look listing n target found is =
+    record { listing = put name_cmp n target listing; is = record { entries = is; text = refl }; entries = λ k. entries_with listing n target k ∙ ap (cond (same_name k n) (Some target)) (found k) }
+
+true_of : (b : Bool) → T b → b ≡ true
+true_of true t = refl
+true_of false t = absurd t
+
+pub sorted_put : (n : List ℕ) (target : Target) (listing : Listing) → is_sorted name_cmp listing ≡ true → is_sorted name_cmp (put name_cmp n target listing) ≡ true
+sorted_put n target listing sorted = true_of (is_sorted name_cmp (put name_cmp n target listing)) (is_sorted-put name_cmp name_total n target listing (subst T (sym sorted) tt))
+
+-- a new entry takes its size
+pub size_put : (n : List ℕ) (target : Target) (listing : Listing) → find name_cmp n listing ≡ None → entries_size (put name_cmp n target listing) ≡ entries_size listing + entry_size n
+size_put n target [] none = omega arith
+size_put n target (e ∷ es) none = elim (name_cmp n e.0) as (λ o. cond (is_eq o) (Some e.1) (find name_cmp n es) ≡ None → entries_size (by_order o ((n, target) ∷ e ∷ es) ((e.0, target) ∷ es) (e ∷ put name_cmp n target es)) ≡ entries_size (e ∷ es) + entry_size n) [
+  | Less ↦ λ h. omega arith
+  | Equal ↦ λ h. let bad : Some e.1 ≡ None = h in cc
+  | Greater ↦ λ h. let rest = size_put n target es h in omega (arith, rest)
+] none
+
+-- what the blob of a path holds is within the limit of blobs
+pub content_fits : (t : Tree) (ids : Path → Id) (p : Path) (kind : Kind) (bytes : List ℕ) (look : Look) (body : List ℕ) → directory_size t p ≤ MAX_ENTRIES → FitsKind kind bytes → ((k : List ℕ) → look k ≡ entries_at t ids p k)
+    → Content kind bytes look body → HEADER_LEN + length body ≤ MAX_BLOB
+content_fits t ids p Directory bytes look body small fits same c =
+    let size = sizes_shown t ids p c.listing c.is.entries.order (λ k. c.entries k ∙ same k) in
+    omega (arith, ap length c.is.text, body_size c.listing c.is.entries.entries, size, small)
+content_fits t ids p File bytes look body small fits same c = omega (arith, ap length c, fits)
+content_fits t ids p Link bytes look body small fits same c =
+    let long = and_parts (nat_lt 0 (length bytes)) (nat_le (length bytes) MAX_TARGET && not (list_any is_zero bytes)) fits in
+    let short = leb-true (length bytes) MAX_TARGET (and_parts (nat_le (length bytes) MAX_TARGET) (not (list_any is_zero bytes)) long.1).0 in
+    omega (arith, ap length c, short)

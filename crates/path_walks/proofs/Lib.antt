@@ -1,0 +1,12 @@
+pub mod Sizes
+pub mod Nodes
+pub mod Steps
+pub mod Edits
+pub mod Dropped
+pub mod Movable
+pub mod Relocated
+pub mod Making
+pub mod Setting
+pub mod Heading
+pub mod Replacing
+pub mod Folder

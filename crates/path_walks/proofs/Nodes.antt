@@ -1,0 +1,72 @@
+-- The blob of a path, as the calls on directories and bodies need it.
+use Rattle.std.proofs.Common.{◌≡◌, ℕ, ◌+◌, ◌≤◌, List, [], ◌∷◌, length, refl, sym, ◌∙◌, ap, subst, arith}
+use Rattle.std.specs.Prelude.{All, is_some}
+use Rattle.std.specs.FinMap.{get}
+use Rattle.std.specs.declared.option.Option.TheVariants.{Some}
+use Rattle.std.proofs.lemmas.List.Elements.{All-nil, All-cons, All-head, All-tail}
+use Rattle.blob_api.specs.declared.blobs.TheConstants.{MAX_BLOB}
+use Rattle.blob_api.specs.BlobMap.{Id, BlobMap, BlobHoldings}
+use Rattle.fs_model.specs.declared.attr.Kind.{Kind}
+use Rattle.fs_model.specs.declared.attr.Kind.TheVariants.{Directory}
+use Rattle.fs_model.specs.Tree.{Path, Row, Tree, directory_size}
+use Rattle.fs_blobs.specs.declared.header.TheConstants.{HEADER_LEN}
+use Rattle.fs_blobs.specs.Headers.{blob}
+use Rattle.dir_blob.specs.Layout.{Target, Listing, body_of, IsEntry}
+use Rattle.dir_blob.specs.Directories.{IsDirectory}
+use Rattle.forest.specs.Nodes.{Look, Lists, Content}
+use Rattle.forest.specs.Shows.{above, target_for, entries_at, ShowsBy}
+use Rattle.forest.proofs.Shown.{folder_row}
+use Rattle.path_walks.proofs.Sizes.{sizes_shown, body_size, found_entry}
+
+pub lists_of : (kind : Kind) (bytes : List ℕ) (look : Look) (body : List ℕ) → kind ≡ Directory → Content kind bytes look body → Lists look body
+lists_of kind bytes look body e c = subst (λ k. Content k bytes look body) e c
+
+entry_ids : (listing : Listing) → All IsEntry listing → All (λ (e : List ℕ × Target). length e.1.blob ≡ 16) listing
+entry_ids [] each = All-nil (λ (e : List ℕ × Target). length e.1.blob ≡ 16)
+entry_ids (x ∷ xs) each = All-cons (λ (e : List ℕ × Target). length e.1.blob ≡ 16) x xs (All-head IsEntry x xs each).blob (entry_ids xs (All-tail IsEntry x xs each))
+
+module _ {m : BlobMap} {root : Id} {t : Tree} {ids : Path → Id} (shows : ShowsBy m root t ids) where
+  -- the entries of a directory
+  pub lists_at : (p : Path) (row : Row) (there : get t p ≡ Some row) → row.attr.kind ≡ Directory → Lists (entries_at t ids p) (shows.forest.nodes p row there).body
+  lists_at p row there kind = lists_of row.attr.kind row.bytes (entries_at t ids p) (shows.forest.nodes p row there).body kind (shows.forest.nodes p row there).content
+
+  pub wide_at : (p : Path) (row : Row) → get t p ≡ Some row → length (ids p) ≡ 16
+  wide_at [] row there = ap length shows.at_root ∙ shows.wide
+  wide_at (n ∷ p) row there =
+      let folder = folder_row t p (shows.well_formed.rooted.parents n p (ap is_some there)) in
+      let lists = lists_at p folder.row folder.there folder.kind in
+      found_entry (λ (x : Target). length x.blob ≡ 16) n lists.listing (record { attr = row.attr; blob = ids (n ∷ p) }) (entry_ids lists.listing lists.is.entries.entries)
+      (lists.entries n ∙ ap (target_for (ids (n ∷ p))) there)
+
+  pub above_wide : (p : Path) (row : Row) → get t p ≡ Some row → length (above ids p) ≡ 16
+  above_wide [] row there = refl
+  above_wide (n ∷ p) row there =
+      let folder = folder_row t p (shows.well_formed.rooted.parents n p (ap is_some there)) in
+      wide_at p folder.row folder.there
+
+  -- the length of a directory's body
+  pub size_at : (p : Path) (row : Row) (there : get t p ≡ Some row) (kind : row.attr.kind ≡ Directory) → length (body_of (lists_at p row there kind).listing) ≡ directory_size t p
+  size_at p row there kind =
+      let lists = lists_at p row there kind in
+      body_size lists.listing lists.is.entries.entries ∙ sizes_shown t ids p lists.listing lists.is.entries.order lists.entries
+
+  pub fits_at : (p : Path) (row : Row) (there : get t p ≡ Some row) (kind : row.attr.kind ≡ Directory) → HEADER_LEN + length (body_of (lists_at p row there kind).listing) ≤ MAX_BLOB
+  fits_at p row there kind = omega (arith, size_at p row there kind, shows.well_formed.directories p)
+
+  pub there_at : (p : Path) (row : Row) (there : get t p ≡ Some row) (kind : row.attr.kind ≡ Directory) → get m (ids p) ≡ Some (blob Directory (above ids p) (body_of (lists_at p row there kind).listing))
+  there_at p row there kind =
+      let node = shows.forest.nodes p row there in
+      node.there ∙ (ap (λ k. Some (blob k (above ids p) node.body)) kind ∙ ap (λ z. Some (blob Directory (above ids p) z)) (lists_at p row there kind).is.text)
+
+  -- the blob of a directory's path is a directory
+  abbrev pub directory_at : {S : Type 0} {H : BlobHoldings S} {a : S} → H.stands_for a m → (p : Path) (row : Row) (there : get t p ≡ Some row) (kind : row.attr.kind ≡ Directory) (id : Id) → ids p ≡ id → IsDirectory H a id
+  directory_at stands p row there kind id is = record {
+    map = m;
+    stands = stands;
+    parent = above ids p;
+    listing = (lists_at p row there kind).listing;
+    there = ap (get m) (sym is) ∙ there_at p row there kind;
+    entries = (lists_at p row there kind).is.entries;
+    wide = above_wide p row there;
+    fits = fits_at p row there kind;
+  }

@@ -1,0 +1,4 @@
+pub mod Sights
+pub mod Listed
+pub mod Changes
+pub mod Moves

@@ -1,0 +1,39 @@
+-- What listing needs.
+use Rattle.std.specs.Prelude.{◌≡◌, ℕ, List}
+use Rattle.blob_api.specs.BlobMap.{Id, BlobMap, BlobHoldings}
+use Rattle.fs_model.specs.declared.attr.Kind.TheVariants.{Directory}
+use Rattle.fs_model.specs.declared.reply.ListRow.{ListRow}
+use Rattle.fs_model.specs.declared.reply.Reply.{Reply}
+use Rattle.fs_model.specs.declared.reply.Reply.TheVariants.{Done, Rows, Info, Target as LinkTarget, Content, Error}
+use Rattle.fs_model.specs.Tree.{Path, Tree}
+use Rattle.dir_blob.specs.Layout.{Target}
+use Rattle.forest.specs.Shows.{ShowsBy}
+use Rattle.path_walks.specs.declared.spots.Place.{Place}
+use Rattle.path_walks.specs.Sights.{IsAt}
+
+-- what a listing shows of an entry
+abbrev pub shown_row : List ℕ × Target → ListRow
+shown_row e = record { kind = e.1.attr.kind; name = e.0 }
+
+-- a listing
+abbrev pub AreRows : Reply → Type 0
+AreRows (Rows rows) = Unit {0}
+AreRows Done = ⊥
+AreRows (Info attr size) = ⊥
+AreRows (LinkTarget target) = ⊥
+AreRows (Content bytes) = ⊥
+AreRows (Error e) = ⊥
+
+-- a directory of the shown tree
+pub record InFolder {S : Type 0} (H : BlobHoldings S) (a : S) (dir : Id) : Type 0 where
+  pub map : BlobMap
+  pub stands : H.stands_for a map
+  pub root : Id
+  pub tree : Tree
+  pub ids : Path → Id
+  pub shows : ShowsBy map root tree ids
+  pub path : Path
+  pub place : Place
+  pub at : IsAt tree ids path place
+  pub folder : place.attr.kind ≡ Directory
+  pub id : place.blob.0 ≡ dir
