@@ -1,4 +1,5 @@
 // Standard input, or another reader, as a source.
+ghost use Rattle.std.specs.Prelude.{◌≡◌};
 ghost use Rattle.std.specs.declared.option.Option.TheVariants.{None};
 
 use outside::{Failed, Source};
@@ -22,6 +23,9 @@ impl<R: Read> Source for ReaderSource<R> {
     ghost rest = { λ _. None };
 
     ghost faults = { λ s. s.faults };
+
+    // Of a reader nothing is told, so neither is what a read took of it.
+    ghost took = { λ old new _. new.faults ≡ old.faults };
 
     fn read(&mut self, piece: &mut [u8]) -> Result<usize, Failed> {
         for _ in 0..u64::MAX {

@@ -1,43 +1,89 @@
--- What a trial did, from how its lines were served.
-use Rattle.std.proofs.Common.{◌≡◌, ℕ, List, sym, subst}
+-- What a trial did, from what the plain tree went through.
+use Rattle.std.proofs.Common.{◌≡◌, ◌||◌, ℕ, false, List, [], ◌∷◌, inr, refl, sym, ap, ◌∙◌, subst}
+use Rattle.std.specs.Prelude.{Bool}
 use Rattle.std.specs.declared.option.Option.{Option}
 use Rattle.fs_model.specs.Instant.{Instant}
 use Rattle.fs_model.specs.Tree.{Tree, empty_tree}
-use Rattle.cryfs_shell.specs.declared.serve.End.{End}
-use Rattle.cryfs_shell.specs.declared.serve.End.TheVariants.{Finished, InputFault, OutputFault}
+use Rattle.line_io.specs.Reading.{Reading, coming, fresh}
+use Rattle.line_io.specs.Streams.{Stream}
+use Rattle.line_io.proofs.Flow.{coming-nil}
+use Rattle.answers.specs.Hosts.{Ran}
+use Rattle.answers.specs.Sessions.{Exchange, Next, violated, latest, IsSession}
+use Rattle.session_lines.specs.Asking.{generated}
+use Rattle.session_lines.specs.Driven.{EndsAs, Served, Generated as Answered}
+use Rattle.session_lines.specs.declared.end.End.{End}
 use Rattle.cryfs_setup.specs.declared.status.Status.{Status}
 use Rattle.cryfs_shell.specs.declared.trial.Trial.{Trial}
-use Rattle.line_io.specs.Reading.{Reading, coming, fresh}
-use Rattle.cryfs_shell.specs.Trials.{Entry, exchanges, lines_of, texts_of, IsSession}
-use Rattle.line_io.specs.Streams.{Stream}
-use Rattle.cryfs_shell.specs.Turns.{turn_lines, turn_texts, EndsAs, Served}
-use Rattle.cryfs_shell.specs.Runs.{IsTrial, Tried, status_of}
-use Rattle.line_io.proofs.Flow.{coming-nil}
-use Rattle.cryfs_shell.proofs.Trying.{answers_line, Entries, went_entries}
+use Rattle.cryfs_shell.specs.Lawful.{calm}
+use Rattle.cryfs_shell.specs.Plain.{ArePlain, plain}
+use Rattle.cryfs_shell.specs.Runs.{Tried, Generated, status_of}
 
-trial_of : (now : Instant) (input output : Stream) (entries : List Entry) (trees : List Tree) (end : End) → IsSession now empty_tree (exchanges entries) trees
-    → EndsAs 0 input.old input output (lines_of entries) (texts_of entries) end → IsTrial now input output (status_of end) entries trees
-trial_of now input output entries trees Finished s e = record { replies = s; taken = (e.0, e.1); written = e.2; cause = tt }
-trial_of now input output entries trees InputFault s e = record { replies = s; taken = e.0; written = e.1; cause = e.2 }
-trial_of now input output entries trees OutputFault s e = record { replies = s; taken = e.0; written = e.1; cause = e.2 }
+-- these trees are those that the exchanges leave, and the last of them is there
+record IsPlainSession (now : Instant) (first : Tree) (es : List Exchange) (present : Tree) (trees : List Tree) : Type 0 where
+  session : IsSession now first es trees
+  plain : ArePlain es
+  last : present ≡ latest first trees
 
-from_start : (reader : Reading) (input output : Stream) (lines texts : List (List ℕ)) (end : End) → reader ≡ fresh
-    → EndsAs reader.taken (coming reader.ahead input.old) input output lines texts end → EndsAs 0 input.old input output lines texts end
-from_start reader input output lines texts end f e =
-    subst (λ (c : Option (List ℕ)). EndsAs 0 c input output lines texts end) (coming-nil input.old)
-    (subst (λ (r : Reading). EndsAs r.taken (coming r.ahead input.old) input output lines texts end) f e)
+no_violation : (es : List Exchange) → ArePlain es → violated es ≡ false
+no_violation [] p = refl
+no_violation (e ∷ es) p = ap (λ (b : Bool). b || violated es) (calm e.answer p.0) ∙ no_violation es p.1
 
-pub tried : (now : Instant) (tree : Tree) (new : Trial) (reader : Reading) (input output : Stream) (end : End) (status : Status) → tree ≡ empty_tree → reader ≡ fresh → status ≡ status_of end
-    → Served answers_line (record { tree = tree; now = now }) new reader.taken (coming reader.ahead input.old) input output end
+-- what a plain tree went through is a session
+session_of : {H : Type 0} (tree : H → Tree) (now : Instant) (old : H) (es : List Exchange) (new : H) → Ran (plain tree) now old es new
+    → (trees : List Tree) × IsPlainSession now (tree old) es (tree new) trees
+session_of tree now old [] new r = ([], record { session = tt; plain = tt; last = ap tree r })
+session_of tree now old (e ∷ es) new r =
+    let before = session_of tree now old es r.0 r.1 in
+    let s = before.1 in (
+      tree new ∷ before.0,
+      record {
+        session = (
+          subst (λ (b : Bool). Next b now (latest (tree old) before.0) e.asked e.answer (tree new)) (sym (no_violation es s.plain))
+              (subst (λ (t : Tree). Next false now t e.asked e.answer (tree new)) s.last r.2.1),
+          s.session,
+        );
+        plain = (r.2.0, s.plain);
+        last = refl;
+      },
+    )
+
+-- from the first byte on
+from_start : (reader : Reading) (input output : Stream) (es : List Exchange) (end : End) → reader ≡ fresh
+    → EndsAs reader.taken (coming reader.ahead input.old) input output es end → EndsAs 0 input.old input output es end
+from_start reader input output es end f e =
+    subst (λ (c : Option (List ℕ)). EndsAs 0 c input output es end) (coming-nil input.old)
+    (subst (λ (r : Reading). EndsAs r.taken (coming r.ahead input.old) input output es end) f e)
+
+pub tried : (now : Instant) (old new : Trial) (reader : Reading) (input output : Stream) (end : End) (status : Status) → old.tree ≡ empty_tree → reader ≡ fresh → status ≡ status_of end
+    → Served (plain (λ (t : Trial). t.tree)) now old new reader.taken (coming reader.ahead input.old) input output end
     → Tried now input output status
-tried now tree new reader input output end status t f u s =
-    let h : (entries : List Entry) × (trees : List Tree) × Entries (record { tree = tree; now = now }) s.0 new entries trees =
-    went_entries (record { tree = tree; now = now }) s.0 new s.1 in
-    let e = from_start reader input output (turn_lines s.0) (turn_texts s.0) end f s.2 in (
+tried now old new reader input output end status t f u s =
+    let h = session_of (λ (t : Trial). t.tree) now old s.0 new s.1 in
+    inr (
+      end,
+      u,
+      s.0,
       h.0,
-      h.1,
-      subst (λ (status : Status). IsTrial now input output status h.0 h.1) (sym u) (trial_of now input output h.0 h.1 end
-          (subst (λ (first : Tree). IsSession now first (exchanges h.0) h.1) t h.2.session)
-          (subst (λ (lines : List (List ℕ)). EndsAs 0 input.old input output lines (texts_of h.0) end) (sym h.2.lines)
-          (subst (λ (texts : List (List ℕ)). EndsAs 0 input.old input output (turn_lines s.0) texts end) (sym h.2.texts) e))),
+      record {
+        replies = subst (λ (first : Tree). IsSession now first s.0 h.0) t h.1.session;
+        plain = h.1.plain;
+        ends = from_start reader input output s.0 end f s.2;
+      },
+    )
+
+pub summed : (now : Instant) (count : ℕ) (old new : Trial) (output : Stream) (end : End) (status : Status) → old.tree ≡ empty_tree → status ≡ status_of end
+    → Answered (plain (λ (t : Trial). t.tree)) now old new count output end → Generated now count output status
+summed now count old new output end status t u s =
+    let h = session_of (λ (t : Trial). t.tree) now old (generated s.0) new s.1.ran in
+    inr (
+      end,
+      u,
+      s.0,
+      h.0,
+      record {
+        replies = subst (λ (first : Tree). IsSession now first (generated s.0) h.0) t h.1.session;
+        plain = h.1.plain;
+        all = s.1.all;
+        written = s.1.written;
+      },
     )

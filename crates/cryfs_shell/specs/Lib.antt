@@ -1,5 +1,4 @@
-pub mod Turns
-pub mod Trials
-pub mod Summaries
+pub mod Plain
+pub mod Lawful
 pub mod Forms
 pub mod Runs

@@ -2,17 +2,14 @@
 #![tactic(auto)]
 
 mod program;
-mod serve;
 #[cfg(test)]
 mod setup_tests;
-mod summary;
 #[cfg(test)]
 mod test_files;
 #[cfg(test)]
 mod test_random;
 #[cfg(test)]
 mod tests;
-mod text_buffer;
 mod trial;
 mod words;
 

@@ -1,32 +1,26 @@
 // The top call.
-ghost use Rattle.std.specs.Prelude.{◌≡◌, ◌⊎◌, ◌≤◌, ℕ, false, List, [], ◌∷◌, length, map, IsNone};
+ghost use Rattle.std.specs.Prelude.{◌≡◌, ◌⊎◌, ◌≤◌, ℕ, false, map};
 ghost use Rattle.std.specs.declared.option.Option.TheVariants.{None, Some};
 ghost use Rattle.std.specs.String.{string_bytes};
-ghost use Rattle.fs_model.specs.Tree.{Tree, empty_tree};
-ghost use Rattle.fs_model.specs.Step.{step};
-ghost use Rattle.workload.specs.Generated.{generated_of};
 ghost use Rattle.create_options.specs.declared.options.CreateOptions.{CreateOptions};
 ghost use Rattle.line_io.specs.Streams.{stream_of, Untouched};
 ghost use Rattle.cryfs_setup.specs.Create.{Created};
+ghost use Rattle.cryfs_setup.specs.Directories.{directory_of};
 ghost use Rattle.cryfs_setup.specs.Info.{Told};
 ghost use Rattle.cryfs_shell.specs.Forms.{form_of, is_create, IsRefused};
-ghost use Rattle.cryfs_shell.specs.Trials.{Follows, IsSession};
-ghost use Rattle.cryfs_shell.specs.Summaries.{summary_of, counts_of, read_len};
-ghost use Rattle.cryfs_shell.specs.Runs.{Tried, Generated, generated, status_of};
-ghost use Rattle.cryfs_setup.specs.Directories.{directory_of};
+ghost use Rattle.cryfs_shell.specs.Runs.{Tried, Generated, status_of};
 
-use crate::serve::{End, serve};
-use crate::summary::Summary;
-use crate::text_buffer::TextBuffer;
-use crate::trial::{Trial, TrialAnswer};
+use crate::trial::Trial;
 use crate::words::{Form, read_form};
-use block_id::{Failed, Memory};
+use answers::TextBuffer;
+use block_id::Memory;
 use cryfs_setup::{Status, run_create, run_info};
 use fs_model::Moment;
-use line_io::{LineReader, write_all};
+use line_io::LineReader;
 use outside::{Keeper, Sink, Source, Vault};
 use plain_tree::PlainTree;
 use rand_core::Rng;
+use session_lines::{End, answer_generated, answer_lines};
 use std::alloc::Global;
 
 /// How a run ended, with the block directory and the local record that it was given.
@@ -130,8 +124,8 @@ fn run_words<I: Source, O: Sink, V: Vault, R: Rng>(
     match read_form(alloc, words) {
         Err(Memory) => Status::Memory,
         Ok(None) => Status::Usage,
-        Ok(Some(Form::Trial)) => try_lines(alloc, now, input, output),
-        Ok(Some(Form::Generate(count))) => generate(alloc, now, count, output),
+        Ok(Some(Form::Trial)) => try_lines(alloc, now, input, output, chance),
+        Ok(Some(Form::Generate(count))) => generate(alloc, now, count, output, chance),
         Ok(Some(Form::Create(options))) => run_create(
             alloc,
             &options.params,
@@ -146,17 +140,19 @@ fn run_words<I: Source, O: Sink, V: Vault, R: Rng>(
 }
 
 /// The lines of the input on a new plain tree.
-fn try_lines<I: Source, O: Sink>(
+fn try_lines<I: Source, O: Sink, R: Rng>(
     alloc: Global,
     now: Moment,
     input: &mut I,
     output: &mut O,
+    chance: &mut R,
 ) -> Status
     ensures tried { Tried now
         (stream_of I.rest I.faults input.old input.new)
         (stream_of O.written O.faults output.old output.new) result }
     ensures input_grows { I.faults input.old ≤ I.faults input.new }
     ensures output_grows { O.faults output.old ≤ O.faults output.new }
+    ensures undrawn { R.stream chance.new ≡ R.stream chance.old }
 {
     let Ok(mut reader) = LineReader::new(alloc) else {
         return Status::Memory;
@@ -166,9 +162,17 @@ fn try_lines<I: Source, O: Sink>(
     };
     let mut trial = Trial {
         tree: PlainTree::new(alloc),
-        now,
     };
-    status_of(serve(alloc, &mut trial, &mut reader, &mut text, input, output))
+    status_of(answer_lines(
+        alloc,
+        &mut trial,
+        now,
+        &mut reader,
+        &mut text,
+        input,
+        output,
+        chance,
+    ))
 }
 
 fn status_of(end: End) -> Status
@@ -181,47 +185,24 @@ fn status_of(end: End) -> Status
     }
 }
 
-/// So many generated commands on a new plain tree, and their summary.
-fn generate<O: Sink>(alloc: Global, now: Moment, count: u64, output: &mut O) -> Status
+/// So many generated commands on a new plain tree, and the summary of the answers.
+fn generate<O: Sink, R: Rng>(
+    alloc: Global,
+    now: Moment,
+    count: u64,
+    output: &mut O,
+    chance: &mut R,
+) -> Status
     requires { count ≤ 1000000 }
     ensures generated { Generated now count (stream_of O.written O.faults output.old output.new) result }
     ensures output_grows { O.faults output.old ≤ O.faults output.new }
+    ensures undrawn { R.stream chance.new ≡ R.stream chance.old }
 {
-    let summary = summarize(alloc, now, count);
-    let Ok(text) = summary.text(alloc) else {
+    let Ok(mut text) = TextBuffer::new(alloc) else {
         return Status::Memory;
     };
-    match write_all(output, text.as_bytes()) {
-        Ok(()) => Status::Done,
-        Err(Failed) => Status::OutputFault,
-    }
-}
-
-/// The summary of the answers to so many generated commands.
-fn summarize(alloc: Global, now: Moment, count: u64) -> Summary
-    requires { count ≤ 1000000 }
-    ensures { (answers : List TrialAnswer) × (trees : List Tree) × IsSession now empty_tree (generated answers) trees
-        × (length answers ≡ count) × (counts_of result ≡ summary_of answers) }
-{
-    let mut tree = PlainTree::new(alloc);
-    let mut summary = Summary::new();
-    for i in 0..count {
-        let answer = answer_generated(alloc, &mut tree, now, i);
-        summary.add(&answer);
-    }
-    summary
-}
-
-/// The answer to a generated command.
-fn answer_generated(alloc: Global, tree: &mut PlainTree, now: Moment, i: u64) -> TrialAnswer
-    ensures follows { Follows now tree.old (Ok (generated_of i)) result tree.new }
-    ensures short { read_len result ≤ 1048576 }
-{
-    match workload::generated(alloc, i) {
-        Ok(command) => match tree.step(now, &command) {
-            Ok(reply) => TrialAnswer::Reply(reply),
-            Err(Memory) => TrialAnswer::Memory,
-        },
-        Err(Memory) => TrialAnswer::Memory,
-    }
+    let mut trial = Trial {
+        tree: PlainTree::new(alloc),
+    };
+    status_of(answer_generated(alloc, &mut trial, now, count, &mut text, output, chance))
 }

@@ -1,9 +1,13 @@
 // Whole runs over streams in memory.
 
 use crate::test_random::ZEROS;
+use crate::trial::Trial;
 use crate::{Status, run};
+use answers::TextBuffer;
 use fs_model::Moment;
 use outside::{MemoryKeeper, MemorySink, MemorySource, MemoryVault};
+use plain_tree::PlainTree;
+use session_lines::{End, answer_single};
 use std::alloc::{AllocError, Global};
 use std::test::Fail;
 
@@ -200,5 +204,39 @@ fn refuses_bad_lines_and_goes_on(rt: HostRuntime) -> Result<(), Fail> {
         ..trial("", "ok\nerror name-too-long\nerror bad-line\nok\n")
     };
     assert!(rt; holds(rt.alloc(), &long, 4096)?);
+    Ok(())
+}
+
+#[test]
+fn answers_one_line_at_a_time(rt: HostRuntime) -> Result<(), Fail> {
+    let alloc = rt.alloc();
+    let Some(now) = Moment::new(9, 0) else {
+        return Ok(());
+    };
+    let Ok(mut text) = TextBuffer::new(alloc) else {
+        return Err(Fail::from(AllocError));
+    };
+    let Ok(mut sink) = MemorySink::new(alloc, 3, 65_536, Vec::new(alloc)) else {
+        return Err(Fail::from(AllocError));
+    };
+    let mut trial = Trial {
+        tree: PlainTree::new(alloc),
+    };
+    let mut zeros = ZEROS;
+    let lines: [&str; 4] = ["mkdir /a", "ls", "ls /", "read / 0"];
+    for line in lines {
+        let end = answer_single(
+            alloc,
+            &mut trial,
+            now,
+            line.as_bytes(),
+            &mut text,
+            &mut sink,
+            &mut zeros,
+        );
+        assert!(rt; end == End::Finished);
+    }
+    let all: &str = "ok\nerror bad-line\nlist 1\nd a\nerror bad-line\n";
+    assert!(rt; sink.written() == all.as_bytes());
     Ok(())
 }

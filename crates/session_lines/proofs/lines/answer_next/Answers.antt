@@ -1,0 +1,18 @@
+use Rattle.std.proofs.Common.{◌≡◌, ◌∙◌, rules}
+use Rattle.outside.specs.Streams.{appends}
+use Rattle.line_io.specs.Streams.{Cut}
+use Rattle.session_lines.proofs.lines.answer_next.Goals as goal
+
+pub returns-in-Ok-clause-took : goal.returns-in-Ok-clause-took
+returns-in-Ok-clause-took g c =
+    let next = c.in-Ok-true.ensures in
+    let took = next.line (search rules) in
+    let written : g.O.Sink.written c.write_all.new.output ≡ appends (g.O.Sink.written c.args.output.now) c.tell_line.new.text = search rules in
+    ((took.0, c.tell_line.ensures.told took.0 (c.line.ensures ∙ took.1), took.2), written, next.quiet, c.in-Ok.ensures.quiet)
+
+pub returns-in-Err-write_all-clause-stopped : goal.returns-in-Err-write_all-clause-stopped
+returns-in-Err-write_all-clause-stopped g c =
+    let next = c.in-Ok-true.ensures in
+    let took = next.line (search rules) in
+    let cut : Cut (g.O.Sink.written c.args.output.now) (g.O.Sink.written c.write_all.new.output) c.tell_line.new.text = search rules in
+    ((took.0, c.tell_line.ensures.told took.0 (c.line.ensures ∙ took.1), took.2), cut, c.in-Err-write_all.ensures.cause, next.quiet)

@@ -1,0 +1,46 @@
+-- Exchanges in order, by lines and texts. In a list of exchanges the newest stands first.
+use Rattle.std.specs.Prelude.{◌≡◌, ℕ, List, [], ◌∷◌, ◌++◌, length, map, Ok}
+use Rattle.std.specs.declared.option.Option.{Option}
+use Rattle.std.specs.declared.option.Option.TheVariants.{None, Some}
+use Rattle.outside.specs.Streams.{appends}
+use Rattle.line_io.specs.Lines.{lines}
+use Rattle.line_io.specs.Streams.{Cut}
+use Rattle.script_text.specs.Grammar.{command_of}
+use Rattle.workload.specs.Generated.{generated_of}
+use Rattle.answers.specs.Sessions.{Asked, Exchange}
+use Rattle.answers.specs.Texts.{text_of_answer}
+use Rattle.answers.specs.declared.answer.Answer.{Answer}
+
+-- what was asked, the oldest first
+abbrev pub asked_in : List Exchange → List Asked
+asked_in [] = []
+asked_in (e ∷ es) = asked_in es ++ e.asked ∷ []
+
+-- the texts of the answers in one, the oldest first
+abbrev pub said_in : List Exchange → List ℕ
+said_in [] = []
+said_in (e ∷ es) = said_in es ++ text_of_answer e.answer
+
+-- the first lines of the bytes were asked, where they are told
+abbrev pub AskedFirst : Option (List ℕ) → List Exchange → Type 0
+AskedFirst None es = Unit {0}
+AskedFirst (Some bytes) es = (first : List (List ℕ)) × (more : List (List ℕ)) × (lines bytes ≡ first ++ more) × (asked_in es ≡ map command_of first)
+
+-- all lines of the bytes were asked, where they are told
+abbrev pub AskedAll : Option (List ℕ) → List Exchange → Type 0
+AskedAll None es = Unit {0}
+AskedAll (Some bytes) es = asked_in es ≡ map command_of (lines bytes)
+
+-- all texts were written, but of the last perhaps only a part from its front
+abbrev pub CutLast : Option (List ℕ) → Option (List ℕ) → List Exchange → Type 0
+CutLast old new [] = ⊥
+CutLast old new (e ∷ es) = Cut (appends old (said_in es)) new (text_of_answer e.answer)
+
+-- the answers, the newest first, are those to the generated commands from the first on
+abbrev pub generated : List Answer → List Exchange
+generated [] = []
+generated (answer ∷ answers) = record { asked = Ok (generated_of (length answers)); answer = answer } ∷ generated answers
+
+-- one line, and its answer
+abbrev pub single : List ℕ → Answer → List Exchange
+single line answer = record { asked = command_of line; answer = answer } ∷ []

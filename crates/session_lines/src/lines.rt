@@ -1,0 +1,83 @@
+// The lines of an input, each answered into an output before the next is taken.
+ghost use Rattle.std.specs.Prelude.{◌≡◌, ◌≤◌, ◌<◌, false, true, IfNone, IfSome};
+ghost use Rattle.outside.specs.Streams.{appends, Ends};
+ghost use Rattle.line_io.specs.Reading.{coming, total, remaining};
+ghost use Rattle.line_io.specs.Streams.{stream_of};
+ghost use Rattle.session_lines.specs.Driven.{Took, Stopped, Served};
+
+use crate::end::End;
+use crate::tell::tell_line;
+use answers::{Host, TextBuffer};
+use block_id::Failed;
+use fs_model::Moment;
+use line_io::{LineReader, write_all};
+use outside::{Sink, Source};
+use rand_core::Rng;
+use std::alloc::Global;
+
+/// Takes the next line and answers it. None where it was answered, else how the lines ended.
+fn answer_next<H: Host, I: Source, O: Sink, R: Rng>(
+    alloc: Global,
+    host: &mut H,
+    now: Moment,
+    reader: &mut LineReader,
+    text: &mut TextBuffer,
+    input: &mut I,
+    output: &mut O,
+    chance: &mut R,
+) -> Option<End>
+    requires ready { H.hosting.ready host.old }
+    requires ended { reader.old.ended ≡ true → Ends (coming reader.old.ahead (I.rest input.old)) }
+    ensures ready { H.hosting.ready host.new }
+    ensures took { IfNone result (Took H.hosting now host.old host.new (coming reader.old.ahead (I.rest input.old)) (coming reader.new.ahead (I.rest input.new)) text.new
+        (stream_of I.rest I.faults input.old input.new) (stream_of O.written O.faults output.old output.new)) }
+    ensures stopped { IfSome result (λ end. Stopped H.hosting now host.old host.new (coming reader.old.ahead (I.rest input.old)) (coming reader.new.ahead (I.rest input.new))
+        reader.new.taken (stream_of I.rest I.faults input.old input.new) (stream_of O.written O.faults output.old output.new) text.new end) }
+    ensures ended { IfNone result (reader.new.ended ≡ true → Ends (coming reader.new.ahead (I.rest input.new))) }
+    ensures nearer { IfNone result (remaining reader.new < remaining reader.old) }
+    ensures counted { total reader.new.taken (I.rest input.new) ≡ total reader.old.taken (I.rest input.old) }
+    ensures input_grows { I.faults input.old ≤ I.faults input.new }
+    ensures output_grows { O.faults output.old ≤ O.faults output.new }
+    ensures undrawn { H.hosting.draws ≡ false → R.stream chance.new ≡ R.stream chance.old }
+{
+    match reader.next_line(input) {
+        Ok(true) => {}
+        Ok(false) => return Some(End::Finished),
+        Err(Failed) => return Some(End::InputFault),
+    }
+    tell_line(alloc, host, now, reader.line(), text, chance);
+    match write_all(output, text.as_slice()) {
+        Ok(()) => None,
+        Err(Failed) => Some(End::OutputFault),
+    }
+}
+
+/// Answers each line of the input before it takes the next, and says how they ended. The reader has taken the lines
+/// before, from the same input.
+pub fn answer_lines<H: Host, I: Source, O: Sink, R: Rng>(
+    alloc: Global,
+    host: &mut H,
+    now: Moment,
+    reader: &mut LineReader,
+    text: &mut TextBuffer,
+    input: &mut I,
+    output: &mut O,
+    chance: &mut R,
+) -> End
+    requires ready { H.hosting.ready host.old }
+    requires ended { reader.old.ended ≡ true → Ends (coming reader.old.ahead (I.rest input.old)) }
+    ensures ready { H.hosting.ready host.new }
+    ensures served { Served H.hosting now host.old host.new reader.old.taken (coming reader.old.ahead (I.rest input.old))
+        (stream_of I.rest I.faults input.old input.new)
+        (stream_of O.written O.faults output.old output.new) result }
+    ensures input_grows { I.faults input.old ≤ I.faults input.new }
+    ensures output_grows { O.faults output.old ≤ O.faults output.new }
+    ensures undrawn { H.hosting.draws ≡ false → R.stream chance.new ≡ R.stream chance.old }
+{
+    'turns: loop {
+        match answer_next(alloc, host, now, reader, text, input, output, chance) {
+            None => {}
+            Some(end) => return end,
+        }
+    }
+}

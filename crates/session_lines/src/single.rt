@@ -1,0 +1,50 @@
+// One line.
+ghost use Rattle.std.specs.Prelude.{◌≡◌, ◌≤◌, false};
+ghost use Rattle.std.specs.Option.{option_copied};
+ghost use Rattle.line_io.specs.Lines.{kept};
+ghost use Rattle.line_io.specs.Streams.{stream_of};
+ghost use Rattle.session_lines.specs.Driven.{AnsweredOne};
+
+use crate::end::End;
+use crate::tell::tell_line;
+use answers::{Host, TextBuffer};
+use block_id::Failed;
+use fs_model::Moment;
+use line_io::write_all;
+use outside::Sink;
+use rand_core::Rng;
+use script_text::MAX_LINE;
+use std::alloc::Global;
+
+/// Answers one line, and no more.
+pub fn answer_single<H: Host, O: Sink, R: Rng>(
+    alloc: Global,
+    host: &mut H,
+    now: Moment,
+    line: &[u8],
+    text: &mut TextBuffer,
+    output: &mut O,
+    chance: &mut R,
+) -> End
+    requires ready { H.hosting.ready host.old }
+    ensures ready { H.hosting.ready host.new }
+    ensures answered { AnsweredOne H.hosting now host.old host.new line.now (stream_of O.written O.faults output.old output.new) result }
+    ensures output_grows { O.faults output.old ≤ O.faults output.new }
+    ensures undrawn { H.hosting.draws ≡ false → R.stream chance.new ≡ R.stream chance.old }
+{
+    tell_line(alloc, host, now, short_line(line), text, chance);
+    match write_all(output, text.as_slice()) {
+        Ok(()) => End::Finished,
+        Err(Failed) => End::OutputFault,
+    }
+}
+
+/// The line, or None for one of more than 1,048,576 bytes.
+fn short_line(line: &[u8]) -> Option<&[u8]>
+    ensures { option_copied result ≡ kept line.now }
+{
+    if line.len() > MAX_LINE {
+        return None;
+    }
+    Some(line)
+}
