@@ -1,0 +1,81 @@
+-- A new file system at the tower.
+use Rattle.std.proofs.Common.{◌≡◌, ◌≢◌, ◌⊎◌, ◌≤◌, ◌-◌, ℕ, List, Bool, true, false, refl, sym, ◌∙◌, subst, inl, inr, arith}
+use Rattle.std.specs.Prelude.{Result, not, ◌&&◌}
+use Rattle.std.specs.Ordering.{is_eq}
+use Rattle.std.specs.FinMap.{slice_cmp-IsAntisymmetric, nat_cmp-IsAntisymmetric}
+use Rattle.std.specs.declared.cmp.Ordering.{Ordering}
+use Rattle.std.specs.declared.cmp.Ordering.TheVariants.{Less, Equal, Greater}
+use Rattle.std.specs.declared.option.Option.{Option}
+use Rattle.std.specs.declared.option.Option.TheVariants.{None}
+use Rattle.std.specs.declared.result.Result.TheVariants.{Ok, Err}
+use Rattle.block_id.specs.Fresh.{zero_id}
+use Rattle.outside.specs.Trace.{At, Call}
+use Rattle.outside.specs.declared.keeper.Keeper.{Ghosts as KeeperGhosts}
+use Rattle.store_api.specs.Content.{Id, id_cmp, same_id}
+use Rattle.store_api.specs.Durables.{last_told}
+use Rattle.store_api.specs.Holdings.{has_id, is_free}
+use Rattle.fs_model.specs.Tree.{empty_tree}
+use Rattle.integrity_store.specs.Standing.{identity_of, records}
+use Rattle.integrity_store.specs.declared.store.IntegrityStore.{IntegrityStore}
+use Rattle.config_file.specs.Settings.{Settings}
+use Rattle.config_file.specs.declared.config.Cipher.{Cipher}
+use Rattle.outside.specs.Causes.{RoseBy}
+use Rattle.session_saver.specs.declared.saver.SyncError.{SyncError}
+use Rattle.session_saver.specs.declared.saver.SyncError.TheVariants.{Memory as SyncMemory, FaultDirectory as SyncDirectory, FaultState as SyncState}
+use Rattle.mount_core.specs.Performing.{Showing}
+use Rattle.mount_opening.specs.Opening.{Made, MadeConfig}
+use Rattle.mount.specs.Making.{CreateCause, IsMade}
+use Rattle.mount.specs.Opening.{error_of}
+use Rattle.mount.specs.Representing.{identity_for, HasEmptyList}
+use Rattle.mount.specs.Tower.{held_in, tower_meanings, tower_durables}
+use Rattle.mount.proofs.Reading.{none_some}
+use Rattle.mount.proofs.Standing.{represents, emptied}
+
+equal : (r : Ordering) → is_eq r ≡ true → r ≡ Equal
+equal Less h = absurd cc
+equal Equal h = refl
+equal Greater h = absurd cc
+
+is_same : (a b : Id) → same_id a b ≡ true → a ≡ b
+is_same a b e = slice_cmp-IsAntisymmetric nat_cmp-IsAntisymmetric a b (equal (id_cmp a b) e)
+
+differs : (b : Bool) → (b ≡ true → ⊥) → b ≡ false
+differs true n = absurd (n refl)
+differs false n = refl
+
+both_not : (b c : Bool) → b ≡ false → c ≡ false → (not b && not c) ≡ true
+both_not true c e f = absurd cc
+both_not false true e f = absurd cc
+both_not false false e f = refl
+
+pub free_root : (used : List Id) (root : Id) → has_id used root ≡ false → root ≢ zero_id → is_free used root ≡ true
+free_root used root e n = both_not (has_id used root) (same_id root zero_id) e (differs (same_id root zero_id) (λ t. n (is_same root zero_id t)))
+
+pub make_cause : (kept : Option (List ℕ)) (t0 t1 : Option (List Call)) (v0 va v1 k0 ka k1 : ℕ) (result : Result Unit SyncError) (e : SyncError) → result ≡ Err e → v0 ≤ va → k0 ≤ ka
+    → (result ≡ Err SyncDirectory → RoseBy 1 va v1) → (result ≡ Err SyncState → RoseBy 1 ka k1) → CreateCause kept t0 t1 v0 v1 k0 k1 (error_of e)
+make_cause kept t0 t1 v0 va v1 k0 ka k1 result SyncMemory is v k vc kc = tt
+make_cause kept t0 t1 v0 va v1 k0 ka k1 result SyncDirectory is v k vc kc = omega (arith, v, vc is)
+make_cause kept t0 t1 v0 va v1 k0 ka k1 result SyncState is v k vc kc = omega (arith, k, kc is)
+
+module _ {V : Type 0} {K : Type 0} (shows : Showing) (trace : V → Option (List Call)) (faults : V → ℕ) (G : KeeperGhosts K) (c : Settings) (salt file : List ℕ) (payload : ℕ) (before after : IntegrityStore V Cipher) (old last : K)
+    (ep : payload ≡ c.block_size - 78) (ei : identity_of (held_in after) ≡ identity_for c salt) (intact : (tower_meanings trace faults).intact after) where
+  pub made_ok : (result : Result Unit SyncError) (u : Unit {0}) → result ≡ Ok u → Made (shows payload c.root) (tower_durables trace) records G before old after last result
+      → MadeConfig (tower_durables trace) records G before old after last file result → IsMade shows c file (G.kept last) (trace after.sealed.vault.vault) × HasEmptyList (G.kept last)
+  made_ok result u e m n =
+      let w = subst (λ r. Made (shows payload c.root) (tower_durables trace) records G before old after last r) e m in
+      let x = subst (λ r. MadeConfig (tower_durables trace) records G before old after last file r) e n in (
+        record { represents = represents shows c salt payload c.root _ (G.kept last) (trace after.sealed.vault.vault) empty_tree ep refl ei w.keeps; configures = x },
+        emptied trace faults after (G.kept last) intact w.empty,
+      )
+
+  pub made_err : (result : Result Unit SyncError) (error : SyncError) → result ≡ Err error → G.kept old ≡ None → ((name : At) → last_told name (trace before.sealed.vault.vault) ≡ None)
+      → Made (shows payload c.root) (tower_durables trace) records G before old after last result → MadeConfig (tower_durables trace) records G before old after last file result
+      → ((G.kept last ≡ G.kept old) × ((name : At) → last_told name (trace after.sealed.vault.vault) ≡ None)) ⊎ IsMade shows c file (G.kept last) (trace after.sealed.vault.vault)
+  made_err result error e none unchanged m n =
+      elim (subst (λ r. Made (shows payload c.root) (tower_durables trace) records G before old after last r) e m) [
+        | inl u ↦ inl (u.0, λ name. u.1 name ∙ unchanged name)
+        | inr k ↦ elim (subst (λ r. MadeConfig (tower_durables trace) records G before old after last file r) e n) [
+          | inl u ↦ absurd (none_some k.represents.0 (sym (u.0 ∙ none) ∙ k.represents.1))
+          | inr x ↦ inr (record { represents = represents shows c salt payload c.root _ (G.kept last) (trace after.sealed.vault.vault) empty_tree ep refl ei k; configures = x })
+        ]
+      ]

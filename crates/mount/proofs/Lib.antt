@@ -1,0 +1,5 @@
+pub mod Reading
+pub mod Attaching
+pub mod Fresh
+pub mod Standing
+pub mod Creating

@@ -1,0 +1,53 @@
+use Rattle.std.proofs.Common.{◌≡◌, List, ℕ, [], ◌++◌, false, refl, sym, ◌∙◌, ap, subst}
+use Rattle.aes_gcm.specs.Gcm.{opened_of}
+use Rattle.local_state.specs.Record.{PlainState, plain_state, HasRecord}
+use Rattle.outside.specs.View.{list_of}
+use Rattle.redo_vault.specs.Redo.{Redo}
+use Rattle.sealed_store.specs.Stores.{IsIntact, block_size_of}
+use Rattle.integrity_store.specs.Stores.{steady_by}
+use Rattle.integrity_store.specs.Views.{held_of}
+use Rattle.config_file.specs.Settings.{settings_of}
+use Rattle.config_file.specs.declared.config.Cipher.{Cipher}
+use Rattle.sha2.specs.Sha256.{sha256}
+use Rattle.store_api.specs.Holdings.{has_id}
+use Rattle.mount.specs.Making.{IsUnchanged}
+use Rattle.mount.specs.Representing.{identity_for}
+use Rattle.mount.specs.Tower.{held_in, trace_in, tower_holdings}
+use Rattle.mount.proofs.Attaching.{identity_is}
+use Rattle.mount.proofs.Fresh.{none_used, unused_none, untouched}
+use Rattle.mount.proofs.create.new_store.Given.{Over}
+use Rattle.mount.proofs.create.new_store.Goals as goal
+
+abbrev RedoOf : Over → Type 0
+RedoOf g = Redo g.row.V.Denot
+
+pub new-requires-2-clause-state : goal.new-requires-2-clause-state
+new-requires-2-clause-state g c =
+    let list : c.new-sealed.result.vault.list ≡ [] = ap (λ (x : RedoOf g). x.list) c.new-sealed.ensures.vault ∙ (ap (λ (x : RedoOf g). x.list) c.new-redo.ensures ∙ ap list_of c.new.ensures.items) in
+    subst (λ l. HasRecord (plain_state c.new_state-state.result) l) (sym list) c.new_state-state.ensures.record_
+
+pub returns : goal.returns
+returns g c =
+    let n = c.new-2.ensures in
+    let s1 = c.new-sealed.ensures in
+    let state = c.new_state-state.ensures.is in
+    let marks = ap (λ (s : PlainState). s.marks) state in
+    let vault = ap (λ (x : RedoOf g). x.vault) s1.vault ∙ ap (λ (x : RedoOf g). x.vault) c.new-redo.ensures in
+    let store = c.new-2.result in
+    let steady = steady_by held_in (trace_in g.V.Vault.trace) (λ s. g.V.Vault.faults s.sealed.vault.vault) (λ s. IsIntact (block_size_of s.sealed) 16) in
+    let unused : (id : List ℕ) → has_id ((tower_holdings g.V.Vault.trace).used store) id ≡ false = λ id. ap (λ u. has_id u id) n.used ∙ none_used (plain_state c.new_state-state.result).marks id marks in
+    record {
+      intact = n.intact;
+      same = n.trace ∙ ap g.V.Vault.trace vault;
+      few = n.faults ∙ ap g.V.Vault.faults vault;
+      unused = unused;
+      none = λ id. unused_none ((tower_holdings g.V.Vault.trace).content store id) (has_id ((tower_holdings g.V.Vault.trace).used store) id) (unused id) (steady.content_used store id n.intact);
+      identity = n.identity
+          ∙ (identity_is (held_of (λ (cipher : Cipher) key text. opened_of key text) c.new-sealed.result c.new_state-state.result) (settings_of c.args.config) (plain_state c.new_state-state.result) s1.size (ap opened_of s1.key) refl
+          (ap (λ (s : PlainState). s.marked) state)
+          (record {
+            fs_id = ap (λ (s : PlainState). s.fs_id) state;
+            digest = ap (λ (s : PlainState). s.key_digest) state ∙ (c.key_digest-digest.ensures ∙ ap (λ x. sha256 (x ++ c.args.config.key)) (sym (ap (λ (s : PlainState). s.key_salt) state)));
+          }) ∙ ap (identity_for (settings_of c.args.config)) (ap (λ (s : PlainState). s.key_salt) state));
+      sound = λ unchanged. n.fresh marks (untouched _ (subst IsUnchanged (sym (ap g.V.Vault.trace vault)) unchanged));
+    }

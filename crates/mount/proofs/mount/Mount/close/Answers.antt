@@ -1,0 +1,47 @@
+use Rattle.std.proofs.Common.{◌-◌, sym, ◌∙◌, ap, subst}
+use Rattle.aes_gcm.specs.Gcm.{opened_of}
+use Rattle.outside.specs.Going.{GoesOn}
+use Rattle.outside.specs.Honest.{is_lie, count_told}
+use Rattle.store_api.specs.Durables.{Identity}
+use Rattle.integrity_store.specs.Held.{forged}
+use Rattle.integrity_store.specs.Standing.{records}
+use Rattle.config_file.specs.Settings.{settings_of}
+use Rattle.mount_core.specs.Configuring.{ConfigClosed}
+use Rattle.mount.specs.Mounts.{Closed}
+use Rattle.mount.proofs.Standing.{closed, emptied_on}
+use Rattle.mount.proofs.mount.Mount.close.Goals as goal
+
+pub returns-clause-stands : goal.returns-clause-stands
+returns-clause-stands g c kept now v s =
+    let r = c.requires.ready in
+    let z = c.close-result in
+    let cfg = settings_of c.args.self.opened.config in
+    let after = z.result.1 in
+    let last = z.result.2 in
+    subst (λ v. Closed g.P.Commands.shows cfg (g.K.Keeper.kept last) (g.V.Vault.trace v) kept now z.result.0) (sym c.into_vault.ensures.vault)
+    (closed g.P.Commands.shows g.V.Vault.trace g.V.Vault.faults g.K.Keeper cfg r.salt _ _ after last kept now z.result.0 (ap (λ (i : Identity). i.size - 78) r.identity) (ap (λ x. x.0) r.root)
+    (z.ensures.identity ∙ r.identity) z.ensures.intact (z.ensures.stands kept now v s))
+
+pub returns-clause-configures : goal.returns-clause-configures
+returns-clause-configures g c may now v s =
+    let z = c.close-result in
+    subst (λ v. ConfigClosed records (g.K.Keeper.kept z.result.2) (g.V.Vault.trace v) may now z.result.0) (sym c.into_vault.ensures.vault) (z.ensures.configures may now v s)
+
+pub returns-clause-emptied : goal.returns-clause-emptied
+returns-clause-emptied g c v =
+    let z = c.close-result in
+    emptied_on g.V.Vault.trace g.V.Vault.faults z.result.1 (g.K.Keeper.kept z.result.2) z.result.0 z.ensures.intact (z.ensures.emptied v)
+
+pub returns-clause-goes_on : goal.returns-clause-goes_on
+returns-clause-goes_on g c =
+    subst (λ v. GoesOn (g.V.Vault.trace c.args.self.core.tx.store.sealed.vault.vault) (g.V.Vault.trace v)) (sym c.into_vault.ensures.vault) c.close-result.ensures.goes_on
+
+pub returns-clause-forgeries : goal.returns-clause-forgeries
+returns-clause-forgeries g c =
+    let z = c.close-result in
+    let r = c.requires.ready in
+    ap (count_told (forged (opened_of c.args.self.opened.config.key) c.args.self.opened.config.block_size)) c.into_vault.ensures.trace
+    ∙ (sym (ap (λ (i : Identity). count_told (forged i.opens i.size) (g.V.Vault.trace z.result.1.sealed.vault.vault)) (z.ensures.identity ∙ r.identity)) ∙ z.ensures.forgeries)
+
+pub returns-clause-lies : goal.returns-clause-lies
+returns-clause-lies g c = ap (count_told is_lie) c.into_vault.ensures.trace ∙ c.close-result.ensures.lies

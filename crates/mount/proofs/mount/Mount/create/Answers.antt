@@ -1,0 +1,124 @@
+use Rattle.std.proofs.Common.{◌≡◌, ◌⊎◌, ◌≤◌, ◌-◌, refl, sym, ◌∙◌, ap, subst, inl, inr}
+use Rattle.std.specs.Prelude.{is_some}
+use Rattle.std.specs.declared.option.Option.TheVariants.{None}
+use Rattle.outside.specs.Going.{GoesOn}
+use Rattle.outside.specs.Trace.{At, adds, got, config}
+use Rattle.store_api.specs.Durables.{Identity, last_told}
+use Rattle.config_file.proofs.Waiting.{form_waits}
+use Rattle.config_file.specs.Settings.{settings_of}
+use Rattle.mount.specs.declared.draws.Draws.{Draws}
+use Rattle.mount.specs.Drawing.{drawn}
+use Rattle.mount.specs.Opening.{error_of}
+use Rattle.mount.specs.Making.{CreateCause, IsMade, IsUnchanged, new_settings, sealed_file}
+use Rattle.mount.specs.Representing.{HasEmptyList}
+use Rattle.mount.specs.Tower.{held_in}
+use Rattle.mount.proofs.Creating.{free_root, made_ok, made_err, make_cause}
+use Rattle.mount.proofs.Reading.{reads_told, reads_last}
+use Rattle.mount.proofs.mount.Mount.create.Goals as goal
+
+pub returns-in-Err-clause-made : goal.returns-in-Err-clause-made
+returns-in-Err-clause-made g c unchanged none =
+    inl (c.ask_absent.ensures.kept, λ name. reads_last name _ _ c.ask_absent.ensures.reads ∙ unchanged.none name)
+
+pub make-result-requires-clause-free : goal.make-result-requires-clause-free
+make-result-requires-clause-free g c =
+    let root = c.config_from-config.result.root.0 in
+    free_root _ root (c.new_store-store.ensures.unused root) c.config_from-config.ensures.root
+
+pub make-result-requires-clause-may : goal.make-result-requires-clause-may
+make-result-requires-clause-may g c = form_waits c.in-Ok-seal_config.file.items ((c.in-Ok-seal_config.ensures.opens _).1 refl).0
+
+pub returns-in-Ok-result-clause-made : goal.returns-in-Ok-result-clause-made
+returns-in-Ok-result-clause-made g c unchanged none =
+    let shows = g.P.Commands.shows in
+    let V = g.V.Vault in
+    let n = c.new_store-store.ensures in
+    let q = c.ask_absent.ensures in
+    let y = c.make-result.ensures in
+    let after = c.make-result.result.1 in
+    let last = c.make-result.result.2 in
+    let t0 = V.trace c.args.vault in
+    let t = V.trace c.ask_absent.new.vault in
+    let still : IsUnchanged t = record { told = reads_told t0 t q.reads ∙ unchanged.told; none = λ name. reads_last name t0 t q.reads ∙ unchanged.none name } in
+    let cfg = settings_of c.config_from-config.result in
+    let size = ap (λ (i : Identity). i.size - 78) n.identity in
+    let made = made_ok shows V.trace V.faults g.K.Keeper cfg c.draw-draws.result.key_salt c.in-Ok-seal_config.file.items ((held_in c.new_store-store.result).size - 78) c.new_store-store.result after
+    c.ask_absent.new.keeper last size (y.identity ∙ n.identity) y.intact c.make-result.result.0 _ c.in-Ok-result.is (y.stands (n.sound still) (ap (λ (i : Identity). i.marked) n.identity))
+    (y.configures (ap is_some n.same ∙ still.told)) in
+    let settings = c.config_from-config.ensures.settings ∙ ap (λ d. new_settings c.args.block_size d) c.draw-draws.ensures.draws in
+    let drawn_now = (drawn (g.R.Rng.stream c.args.chance.now)).0 in
+    let cfg1 = new_settings c.args.block_size drawn_now in
+    let text = sealed_file c.args.password.now c.args.params.now drawn_now.seal cfg1 in
+    let file : c.in-Ok-seal_config.file.items ≡ text = c.in-Ok-seal_config.ensures.text
+    ∙ (ap (λ s. sealed_file c.args.password.now c.args.params.now c.draw-draws.result.seal s) settings
+    ∙ ap (λ (d : Draws). sealed_file c.args.password.now c.args.params.now d.seal cfg1) c.draw-draws.ensures.draws) in
+    subst (λ v. IsMade shows cfg1 text (g.K.Keeper.kept last) (V.trace v) × HasEmptyList (g.K.Keeper.kept last)) (sym c.into_vault.ensures.vault) (
+      subst (λ f. IsMade shows cfg1 f (g.K.Keeper.kept last) (V.trace after.sealed.vault.vault)) file
+          (subst (λ s. IsMade shows s c.in-Ok-seal_config.file.items (g.K.Keeper.kept last) (V.trace after.sealed.vault.vault)) settings made.0),
+      made.1,
+    )
+
+pub returns-in-Err-result-clause-made : goal.returns-in-Err-result-clause-made
+returns-in-Err-result-clause-made g c unchanged none =
+    let shows = g.P.Commands.shows in
+    let V = g.V.Vault in
+    let n = c.new_store-store.ensures in
+    let q = c.ask_absent.ensures in
+    let y = c.make-result.ensures in
+    let after = c.make-result.result.1 in
+    let last = c.make-result.result.2 in
+    let t0 = V.trace c.args.vault in
+    let t = V.trace c.ask_absent.new.vault in
+    let still : IsUnchanged t = record { told = reads_told t0 t q.reads ∙ unchanged.told; none = λ name. reads_last name t0 t q.reads ∙ unchanged.none name } in
+    let cfg = settings_of c.config_from-config.result in
+    let size = ap (λ (i : Identity). i.size - 78) n.identity in
+    let made = made_err shows V.trace V.faults g.K.Keeper cfg c.draw-draws.result.key_salt c.in-Ok-seal_config.file.items ((held_in c.new_store-store.result).size - 78) c.new_store-store.result after
+    c.ask_absent.new.keeper last size (y.identity ∙ n.identity) y.intact c.make-result.result.0 c.in-Err-result.error c.in-Err-result.is (q.kept ∙ none) (λ name. ap (last_told name) n.same ∙ still.none name)
+    (y.stands (n.sound still) (ap (λ (i : Identity). i.marked) n.identity)) (y.configures (ap is_some n.same ∙ still.told)) in
+    let settings = c.config_from-config.ensures.settings ∙ ap (λ d. new_settings c.args.block_size d) c.draw-draws.ensures.draws in
+    let drawn_now = (drawn (g.R.Rng.stream c.args.chance.now)).0 in
+    let cfg1 = new_settings c.args.block_size drawn_now in
+    let text = sealed_file c.args.password.now c.args.params.now drawn_now.seal cfg1 in
+    let file : c.in-Ok-seal_config.file.items ≡ text = c.in-Ok-seal_config.ensures.text
+    ∙ (ap (λ s. sealed_file c.args.password.now c.args.params.now c.draw-draws.result.seal s) settings
+    ∙ ap (λ (d : Draws). sealed_file c.args.password.now c.args.params.now d.seal cfg1) c.draw-draws.ensures.draws) in
+    subst (λ v. ((g.K.Keeper.kept last ≡ g.K.Keeper.kept c.args.keeper) × ((name : At) → last_told name (V.trace v) ≡ None)) ⊎ IsMade shows cfg1 text (g.K.Keeper.kept last) (V.trace v)) (sym c.into_vault-in-Err-result.ensures.vault)
+    (elim made [
+      | inl u ↦ inl (u.0 ∙ q.kept, u.1)
+      | inr m ↦ inr (subst (λ f. IsMade shows cfg1 f (g.K.Keeper.kept last) (V.trace after.sealed.vault.vault)) file
+          (subst (λ s. IsMade shows s c.in-Ok-seal_config.file.items (g.K.Keeper.kept last) (V.trace after.sealed.vault.vault)) settings m))
+    ])
+
+pub returns-in_default-clause-made : goal.returns-in_default-clause-made
+returns-in_default-clause-made g c unchanged none =
+    inl (c.ask_absent.ensures.kept, λ name. reads_last name _ _ c.ask_absent.ensures.reads ∙ unchanged.none name)
+
+pub returns-in-Err-result-clause-cause : goal.returns-in-Err-result-clause-cause
+returns-in-Err-result-clause-cause g c =
+    let V = g.V.Vault in
+    let K = g.K.Keeper in
+    let n = c.new_store-store.ensures in
+    let q = c.ask_absent.ensures in
+    let y = c.make-result.ensures in
+    let t0 = V.trace c.args.vault in
+    let after = c.make-result.result.1.sealed.vault.vault in
+    let last = c.make-result.result.2 in
+    let from : V.faults c.args.vault ≤ V.faults c.new_store-store.result.sealed.vault.vault = subst (λ f. V.faults c.args.vault ≤ f) (sym n.few) q.vault_grows in
+    subst (λ e. CreateCause (K.kept c.args.keeper) t0 (V.trace c.into_vault-in-Err-result.result) (V.faults c.args.vault) (V.faults c.into_vault-in-Err-result.result) (K.faults c.args.keeper) (K.faults last) e) (sym c.open_error.ensures)
+    (subst (λ v. CreateCause (K.kept c.args.keeper) t0 (V.trace v) (V.faults c.args.vault) (V.faults v) (K.faults c.args.keeper) (K.faults last) (error_of c.in-Err-result.error)) (sym c.into_vault-in-Err-result.ensures.vault)
+    (make_cause (K.kept c.args.keeper) t0 (V.trace after) (V.faults c.args.vault) (V.faults c.new_store-store.result.sealed.vault.vault) (V.faults after) (K.faults c.args.keeper) (K.faults c.ask_absent.new.keeper) (K.faults last)
+    c.make-result.result.0 c.in-Err-result.error c.in-Err-result.is from q.keeper_grows y.vault_cause y.keeper_cause))
+
+pub returns-in-Ok-result-clause-asked : goal.returns-in-Ok-result-clause-asked
+returns-in-Ok-result-clause-asked g c =
+    let V = g.V.Vault in
+    let after = V.trace c.make-result.result.1.sealed.vault.vault in
+    let on = subst (λ t. GoesOn t after) (c.new_store-store.ensures.same ∙ c.in-Ok.ensures.ok.1) c.make-result.ensures.goes_on in
+    inr (c.in-Ok.ensures.ok.0, subst (λ v. GoesOn (adds (V.trace c.args.vault) (got config 1127 None)) (V.trace v)) (sym c.into_vault.ensures.vault) on)
+
+pub returns-in-Err-result-clause-asked : goal.returns-in-Err-result-clause-asked
+returns-in-Err-result-clause-asked g c =
+    let V = g.V.Vault in
+    let after = V.trace c.make-result.result.1.sealed.vault.vault in
+    let on = subst (λ t. GoesOn t after) (c.new_store-store.ensures.same ∙ c.in-Ok.ensures.ok.1) c.make-result.ensures.goes_on in
+    inr (c.in-Ok.ensures.ok.0, subst (λ v. GoesOn (adds (V.trace c.args.vault) (got config 1127 None)) (V.trace v)) (sym c.into_vault-in-Err-result.ensures.vault) on)

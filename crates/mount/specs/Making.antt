@@ -1,0 +1,96 @@
+-- Making a file system, and sealing its configuration.
+use Rattle.std.specs.Prelude.{◌≡◌, ◌⊎◌, ℕ, true, false, List, Result, is_some, if◌then◌else◌}
+use Rattle.std.specs.Str.{bytes_eq}
+use Rattle.std.specs.declared.option.Option.{Option}
+use Rattle.std.specs.declared.option.Option.TheVariants.{None, Some}
+use Rattle.std.specs.declared.result.Result.TheVariants.{Ok, Err}
+use Rattle.block_id.specs.declared.id.BlockId.{BlockId}
+use Rattle.block_id.specs.Fresh.{zero_id}
+use Rattle.block_id.specs.Name.{next_id}
+use Rattle.outside.specs.Causes.{RoseBy}
+use Rattle.outside.specs.Trace.{At, Call, adds, got, config}
+use Rattle.fs_model.specs.Tree.{empty_tree}
+use Rattle.scrypt_kdf.specs.Cost.{Cost}
+use Rattle.store_api.specs.Content.{Id}
+use Rattle.store_api.specs.Durables.{last_told}
+use Rattle.store_api.specs.Holdings.{has_id}
+use Rattle.integrity_store.specs.declared.store.IntegrityStore.{IntegrityStore}
+use Rattle.integrity_store.specs.Standing.{records}
+use Rattle.config_file.specs.Sealing.{config_text}
+use Rattle.config_file.specs.Settings.{Settings}
+use Rattle.config_file.specs.declared.config.Cipher.{Cipher}
+use Rattle.config_file.specs.declared.config.Cipher.TheVariants.{Aes256Gcm}
+use Rattle.session_saver.specs.Saving.{KeptConfigures}
+use Rattle.mount_core.specs.Performing.{Showing}
+use Rattle.mount.specs.declared.draws.Draws.{Draws}
+use Rattle.mount.specs.declared.draws.SealDraws.{SealDraws}
+use Rattle.mount.specs.declared.error.OpenError.{OpenError}
+use Rattle.mount.specs.declared.error.OpenError.TheVariants.{Memory, Exists, FaultDirectory, FaultState}
+use Rattle.mount.specs.Representing.{identity_for, Represents, HasEmptyList}
+use Rattle.mount.specs.Tower.{trace_in, tower_meanings, tower_holdings, tower_durables}
+
+-- the id of the root: the drawn one, or the next where that is zero
+abbrev pub root_of : List ℕ → List ℕ
+root_of id = if bytes_eq id zero_id then next_id id else id
+
+-- what the new file system is made of
+abbrev pub new_settings : ℕ → Draws → Settings
+new_settings block_size draws =
+    record { root = root_of draws.root; key = draws.key; cipher = Aes256Gcm; block_size = block_size; fs_id = draws.fs_id }
+
+-- a configuration's file under the password
+abbrev pub sealed_file : List ℕ → Cost → SealDraws → Settings → List ℕ
+sealed_file password cost draws c = config_text (record {
+  password = password;
+  cost = cost;
+  salt = draws.scrypt_salt;
+  fill = draws.fill;
+  inner_iv = draws.inner_iv;
+  outer_iv = draws.outer_iv;
+}) c
+
+-- nothing was put or removed, by a trace that is told
+pub record IsUnchanged (trace : Option (List Call)) : Type 0 where
+  pub told : is_some trace ≡ true
+  pub none : (name : At) → last_told name trace ≡ None
+
+-- why a file system isn't made
+abbrev pub CreateCause : Option (List ℕ) → Option (List Call) → Option (List Call) → ℕ → ℕ → ℕ → ℕ → OpenError → Type 0
+CreateCause kept t0 t1 v0 v1 k0 k1 Memory = Unit {0}
+CreateCause kept t0 t1 v0 v1 k0 k1 Exists = (is_some kept ≡ true) ⊎ ((file : List ℕ) × (t1 ≡ adds t0 (got config 1127 (Some file))))
+CreateCause kept t0 t1 v0 v1 k0 k1 FaultDirectory = RoseBy 1 v0 v1
+CreateCause kept t0 t1 v0 v1 k0 k1 FaultState = RoseBy 1 k0 k1
+CreateCause kept t0 t1 v0 v1 k0 k1 error = ⊥
+
+-- the empty tree is kept, and the configuration's file holds these bytes
+pub record IsMade (shows : Showing) (c : Settings) (file : List ℕ) (kept : Option (List ℕ)) (trace : Option (List Call)) : Type 0 where
+  pub represents : Represents shows kept trace c empty_tree
+  pub configures : KeptConfigures records kept trace file
+
+-- where nothing was there: after Ok the empty tree is kept with an empty list; after an error nothing is kept anew and no file was changed, or the
+-- empty tree is kept
+abbrev pub Created : Showing → Settings → List ℕ → Option (List ℕ) → Option (List ℕ) → Option (List Call) → Result BlockId OpenError → Type 0
+Created shows c file kept0 kept1 t1 (Ok id) = IsMade shows c file kept1 t1 × HasEmptyList kept1
+Created shows c file kept0 kept1 t1 (Err error) = ((kept1 ≡ kept0) × ((name : At) → last_told name t1 ≡ None)) ⊎ IsMade shows c file kept1 t1
+
+-- a store that holds nothing, of this configuration and salt; it is sound where no file was changed
+pub record IsNewStore {V : Type 0} (was : Option (List Call)) (failed : ℕ) (trace : V → Option (List Call)) (faults : V → ℕ) (c : Settings) (salt : List ℕ) (store : IntegrityStore V Cipher) : Type 0 where
+  pub intact : (tower_meanings trace faults).intact store
+  pub same : trace_in trace store ≡ was
+  pub few : (tower_meanings trace faults).faults store ≡ failed
+  pub unused : (id : Id) → has_id ((tower_holdings trace).used store) id ≡ false
+  pub none : (id : Id) → (tower_holdings trace).content store id ≡ None
+  pub identity : (tower_durables trace).identity store ≡ identity_for c salt
+  pub sound : IsUnchanged was → (tower_meanings trace faults).sound store
+
+-- what may be answered where something is kept
+abbrev pub StopsThere : OpenError → Type 0
+StopsThere Exists = Unit {0}
+StopsThere Memory = Unit {0}
+StopsThere FaultState = Unit {0}
+StopsThere error = ⊥
+
+-- something was kept: no file system is made, the directory isn't called, and it stays kept
+abbrev pub StaysThere : {V : Type 0} → {K : Type 0} → (K → Option (List ℕ)) → V → K → V → K → Result BlockId OpenError → Type 0
+StaysThere kept v0 k0 v1 k1 (Ok id) = ⊥
+StaysThere kept v0 k0 v1 k1 (Err error) = (v1 ≡ v0) × (kept k1 ≡ kept k0) × StopsThere error

@@ -1,0 +1,5 @@
+pub mod Performing
+pub mod Answers
+pub mod Standing
+pub mod Configuring
+pub mod Causes

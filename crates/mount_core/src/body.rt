@@ -1,0 +1,432 @@
+// What every session does, over any durable store and keeper.
+ghost use Rattle.std.specs.Prelude.{◌≡◌, ◌≢◌, ◌⊎◌, ◌≤◌, ◌||◌, ◌↔◌, ℕ, List, true, false, length, IsErrOf, IsOk, IsTrue, OnOk, OnErr, IfOk, IfErr};
+ghost use Rattle.std.specs.declared.result.Result.TheVariants.{Err};
+ghost use Rattle.std.specs.declared.option.Option.TheVariants.{Some};
+ghost use Rattle.fs_model.specs.Fitting.{IsFitting};
+ghost use Rattle.fs_model.specs.Instant.{Instant};
+ghost use Rattle.fs_model.specs.Tree.{Tree};
+ghost use Rattle.outside.specs.Causes.{RoseBy};
+ghost use Rattle.outside.specs.Going.{GoesOn};
+ghost use Rattle.session_saver.specs.Saving.{Whole, CanMark};
+ghost use Rattle.store_api.specs.Content.{Content, SameContent};
+ghost use Rattle.store_api.specs.Durables.{Identity, with_mark};
+ghost use Rattle.store_api.specs.Holdings.{IsFew, IsSpent, Stays};
+ghost use Rattle.store_api.specs.Lists.{MayConfigure};
+ghost use Rattle.answers.specs.Sessions.{IsError, is_violation, directory_faults, state_faults};
+ghost use Rattle.mount_core.specs.Answers.{is_structure, is_done_answer, answer_of_fail, answer_of_sync, OnReply, OnSpent, OnFound};
+ghost use Rattle.mount_core.specs.Causes.{SpentCause, FoundCause};
+ghost use Rattle.mount_core.specs.Configuring.{Configures, ConfigSynced, ConfigAnswered, ConfigClosed, Replaced, KeptOneOf};
+ghost use Rattle.fs_model.specs.Laws.{OnlyLooks};
+ghost use Rattle.mount_core.specs.Performing.{is_sync, IsReplyTo};
+ghost use Rattle.mount_core.specs.Standing.{Ready, Stands, Synced, Roomed, Performed, Answered, IsKeptMarked, Asked, Closed};
+
+use crate::commands::Commands;
+use answers::Answer;
+use block_id::{BlockId, Fail, Failed, Memory};
+use fs_model::{Command, Moment, Reply};
+use outside::Keeper;
+use rand_core::Rng;
+use session_saver::{Saver, SyncError};
+use std::alloc::Global;
+use store_api::{ApplyError, Blocks, Durable, Tx};
+
+/// A store with the changes of one command over it, what is kept of it, the root of its tree, and whether there was a
+/// violation.
+pub struct Core<S, K> {
+    pub tx: Tx<S>,
+    pub saver: Saver<K>,
+    pub root: BlockId,
+    pub violated: bool,
+}
+
+/// Bytes that wait before a line syncs first.
+const MOST_WAITING: usize = 8_388_608;
+
+/// The place of a record's mark.
+const MARK_PLACE: usize = 19;
+
+fn fail_answer(fail: Fail) -> Answer
+    ensures { result ≡ answer_of_fail fail }
+{
+    match fail {
+        Fail::Memory => Answer::Memory,
+        Fail::Fault => Answer::FaultDirectory,
+        Fail::Violation(why) => Answer::Violation(why),
+    }
+}
+
+fn sync_answer(error: SyncError) -> Answer
+    ensures { result ≡ answer_of_sync error }
+{
+    match error {
+        SyncError::Memory => Answer::Memory,
+        SyncError::FaultDirectory => Answer::FaultDirectory,
+        SyncError::FaultState => Answer::FaultState,
+    }
+}
+
+fn is_sync(command: &Command) -> bool
+    ensures { result ≡ is_sync command.now }
+{
+    matches!(command, Command::Sync)
+}
+
+fn only_looks(command: &Command) -> bool
+    ensures { IsTrue result ↔ OnlyLooks command.now }
+{
+    match command {
+        Command::List(_)
+        | Command::Stat(_)
+        | Command::Readlink(_)
+        | Command::Read(_, _, _)
+        | Command::Sync => true,
+        _ => false,
+    }
+}
+
+fn is_error(reply: &Reply) -> bool
+    ensures { IsTrue result ↔ IsError reply.now }
+{
+    matches!(reply, Reply::Error(_))
+}
+
+impl<S: Durable, K: Keeper> Core<S, K> {
+    /// Keeps what is present: the record with the list, what waits, the record with an empty list. Where nothing changed
+    /// it makes no call. There was no violation.
+    pub fn sync<P: Commands>(&mut self, alloc: Global) -> Result<(), SyncError>
+        requires ready { Ready S.meanings S.holdings S.durables S.records K.Keeper self.old }
+        requires fresh { self.old.violated ≡ false }
+        ensures ready { Ready S.meanings S.holdings S.durables S.records K.Keeper self.new }
+        ensures stands { (kept now : Tree) → Stands P.shows S.meanings S.holdings S.durables S.records K.Keeper self.old kept now → Synced P.shows S.meanings S.holdings S.durables S.records K.Keeper self.new kept now result }
+        ensures configures { (may : List (List ℕ)) (now : List ℕ) → Configures S.holdings S.durables S.records K.Keeper self.old may now → ConfigSynced S.holdings S.durables S.records K.Keeper self.new may now result }
+        ensures emptied { OnOk result (K.kept self.new.saver.keeper ≡ Some (S.durables.record_of self.new.tx.store false)) }
+        ensures ok { OnOk result (self.new.saver.changed ≡ false) }
+        ensures unmoved { self.old.saver.changed ≡ false → IsOk result × (self.new ≡ self.old) }
+        ensures stays { Stays S.holdings self.old.tx.store self.new.tx.store }
+        ensures sound { S.meanings.sound self.old.tx.store → S.meanings.sound self.new.tx.store }
+        ensures violated { self.new.violated ≡ self.old.violated }
+        ensures root { self.new.root ≡ self.old.root }
+        ensures identity { S.durables.identity self.new.tx.store ≡ S.durables.identity self.old.tx.store }
+        ensures payload { S.holdings.payload self.new.tx.store ≡ S.holdings.payload self.old.tx.store }
+        ensures goes_on { GoesOn (S.durables.trace self.old.tx.store) (S.durables.trace self.new.tx.store) }
+        ensures forgeries { S.meanings.forgeries self.new.tx.store ≡ S.meanings.forgeries self.old.tx.store }
+        ensures lies { S.meanings.lies self.new.tx.store ≡ S.meanings.lies self.old.tx.store }
+        ensures vault_grows { S.meanings.faults self.old.tx.store ≤ S.meanings.faults self.new.tx.store }
+        ensures vault_cause { IsErrOf result SyncError.FaultDirectory → RoseBy 1 (S.meanings.faults self.old.tx.store) (S.meanings.faults self.new.tx.store) }
+        ensures keeper_grows { K.faults self.old.saver.keeper ≤ K.faults self.new.saver.keeper }
+        ensures keeper_cause { IsErrOf result SyncError.FaultState → RoseBy 1 (K.faults self.old.saver.keeper) (K.faults self.new.saver.keeper) }
+    {
+        self.saver.sync(alloc, &mut self.tx.store)
+    }
+
+    /// Syncs where much waits.
+    fn make_room<P: Commands>(&mut self, alloc: Global) -> Result<(), SyncError>
+        requires ready { Ready S.meanings S.holdings S.durables S.records K.Keeper self.old }
+        requires fresh { self.old.violated ≡ false }
+        ensures ready { Ready S.meanings S.holdings S.durables S.records K.Keeper self.new }
+        ensures stands { (kept now : Tree) → Stands P.shows S.meanings S.holdings S.durables S.records K.Keeper self.old kept now → Roomed P.shows S.meanings S.holdings S.durables S.records K.Keeper self.new kept now }
+        ensures configures { (may : List (List ℕ)) (now : List ℕ) → Configures S.holdings S.durables S.records K.Keeper self.old may now → Configures S.holdings S.durables S.records K.Keeper self.new may now }
+        ensures stays { Stays S.holdings self.old.tx.store self.new.tx.store }
+        ensures sound { S.meanings.sound self.old.tx.store → S.meanings.sound self.new.tx.store }
+        ensures violated { self.new.violated ≡ self.old.violated }
+        ensures root { self.new.root ≡ self.old.root }
+        ensures identity { S.durables.identity self.new.tx.store ≡ S.durables.identity self.old.tx.store }
+        ensures payload { S.holdings.payload self.new.tx.store ≡ S.holdings.payload self.old.tx.store }
+        ensures goes_on { GoesOn (S.durables.trace self.old.tx.store) (S.durables.trace self.new.tx.store) }
+        ensures forgeries { S.meanings.forgeries self.new.tx.store ≡ S.meanings.forgeries self.old.tx.store }
+        ensures lies { S.meanings.lies self.new.tx.store ≡ S.meanings.lies self.old.tx.store }
+        ensures vault_grows { S.meanings.faults self.old.tx.store ≤ S.meanings.faults self.new.tx.store }
+        ensures vault_cause { IsErrOf result SyncError.FaultDirectory → RoseBy 1 (S.meanings.faults self.old.tx.store) (S.meanings.faults self.new.tx.store) }
+        ensures keeper_grows { K.faults self.old.saver.keeper ≤ K.faults self.new.saver.keeper }
+        ensures keeper_cause { IsErrOf result SyncError.FaultState → RoseBy 1 (K.faults self.old.saver.keeper) (K.faults self.new.saver.keeper) }
+    {
+        if self.tx.store.buffered() < MOST_WAITING {
+            return Ok(());
+        }
+        self.sync::<P>(alloc)
+    }
+
+    /// Applies the changes of a command that was performed.
+    fn apply<R: Rng>(&mut self, alloc: Global, chance: &mut R) -> Result<(), ApplyError>
+        requires intact { ⟦<Tx<S> as Blocks>⟧.meanings.intact self.old.tx }
+        requires room { length self.old.saver.last.items ≤ K.room self.old.saver.keeper }
+        requires can_mark { CanMark S.records self.old.saver }
+        requires whole { Whole S.durables K.Keeper self.old.saver self.old.tx.store }
+        ensures ready { Ready S.meanings S.holdings S.durables S.records K.Keeper self.new }
+        ensures content { OnOk result (S.holdings.told self.old.tx.store ≡ true → SameContent (⟦<Tx<S> as Blocks>⟧.holdings.content self.old.tx) (S.holdings.content self.new.tx.store)) }
+        ensures stays { OnErr result (Stays S.holdings self.old.tx.store self.new.tx.store) }
+        ensures told { S.holdings.told self.new.tx.store ≡ S.holdings.told self.old.tx.store }
+        ensures keeper { self.new.saver.keeper ≡ self.old.saver.keeper }
+        ensures last { self.new.saver.last ≡ self.old.saver.last }
+        ensures violated { self.new.violated ≡ self.old.violated }
+        ensures root { self.new.root ≡ self.old.root }
+        ensures identity { S.durables.identity self.new.tx.store ≡ S.durables.identity self.old.tx.store }
+        ensures payload { S.holdings.payload self.new.tx.store ≡ S.holdings.payload self.old.tx.store }
+        ensures stands { (identity : Identity) (kept : List ℕ) (content : Content) → S.records.stands identity kept (S.durables.trace self.old.tx.store) content
+            → S.records.stands identity kept (S.durables.trace self.new.tx.store) content }
+        ensures kept_configures { (kept bytes : List ℕ) → S.records.configures kept (S.durables.trace self.old.tx.store) bytes → S.records.configures kept (S.durables.trace self.new.tx.store) bytes }
+        ensures configures { (bytes : List ℕ) → S.records.configures (S.durables.record_of self.old.tx.store true) (S.durables.trace self.old.tx.store) bytes
+            → S.records.configures (S.durables.record_of self.new.tx.store true) (S.durables.trace self.new.tx.store) bytes }
+        ensures goes_on { GoesOn (S.durables.trace self.old.tx.store) (S.durables.trace self.new.tx.store) }
+        ensures sound { S.meanings.sound self.old.tx.store → S.meanings.sound self.new.tx.store }
+        ensures forgeries { S.meanings.forgeries self.new.tx.store ≡ S.meanings.forgeries self.old.tx.store }
+        ensures lies { S.meanings.lies self.new.tx.store ≡ S.meanings.lies self.old.tx.store }
+        ensures faults { S.meanings.faults self.new.tx.store ≡ S.meanings.faults self.old.tx.store }
+        ensures spent { (result ≡ Err ApplyError.Spent) → IsSpent S.holdings self.old.tx.store self.old.tx.overlay }
+    {
+        match self.tx.commit(alloc, chance) {
+            Ok(()) => {
+                self.saver.changed = true;
+                Ok(())
+            }
+            Err(error) => {
+                self.tx.abandon();
+                Err(error)
+            }
+        }
+    }
+
+    /// Marks the last record, and has it kept.
+    fn mark(&mut self)
+        requires ready { Ready S.meanings S.holdings S.durables S.records K.Keeper self.old }
+        ensures ready { Ready S.meanings S.holdings S.durables S.records K.Keeper self.new }
+        ensures store { self.new.tx ≡ self.old.tx }
+        ensures root { self.new.root ≡ self.old.root }
+        ensures violated { self.new.violated ≡ true }
+        ensures kept { (K.kept self.new.saver.keeper ≡ Some (with_mark self.old.saver.last.items)) ⊎ (K.kept self.new.saver.keeper ≡ K.kept self.old.saver.keeper) }
+        ensures marked { IsKeptMarked S.records (K.kept self.new.saver.keeper) ⊎ RoseBy 1 (K.faults self.old.saver.keeper) (K.faults self.new.saver.keeper) }
+        ensures keeper_grows { K.faults self.old.saver.keeper ≤ K.faults self.new.saver.keeper }
+    {
+        self.saver.last[MARK_PLACE] = 1;
+        self.violated = true;
+        self.saver.changed = true;
+        match self.saver.keeper.save(&self.saver.last) {
+            Ok(()) => {}
+            Err(Failed) => {}
+        }
+    }
+
+    /// Answers a reply to a command that was performed, once its changes are applied.
+    fn settle<P: Commands, R: Rng>(
+        &mut self,
+        alloc: Global,
+        command: &Command,
+        reply: Reply,
+        chance: &mut R,
+    ) -> Answer
+        requires intact { ⟦<Tx<S> as Blocks>⟧.meanings.intact self.old.tx }
+        requires room { length self.old.saver.last.items ≤ K.room self.old.saver.keeper }
+        requires can_mark { CanMark S.records self.old.saver }
+        requires whole { Whole S.durables K.Keeper self.old.saver self.old.tx.store }
+        requires form { IsReplyTo command.now reply }
+        ensures ready { Ready S.meanings S.holdings S.durables S.records K.Keeper self.new }
+        ensures stands { (moment : Instant) (kept now : Tree) → Asked P.shows S.meanings S.holdings S.durables S.records K.Keeper moment self.old kept now command.now reply
+            → Performed P.shows S.meanings S.holdings S.durables S.records K.Keeper moment self.new kept now command.now result }
+        ensures configures { (may : List (List ℕ)) (now : List ℕ) → Configures S.holdings S.durables S.records K.Keeper self.old may now → Configures S.holdings S.durables S.records K.Keeper self.new may now }
+        ensures stays { is_done_answer result ≡ false → Stays S.holdings self.old.tx.store self.new.tx.store }
+        ensures keeper { self.new.saver.keeper ≡ self.old.saver.keeper }
+        ensures last { self.new.saver.last ≡ self.old.saver.last }
+        ensures goes_on { GoesOn (S.durables.trace self.old.tx.store) (S.durables.trace self.new.tx.store) }
+        ensures sound { S.meanings.sound self.old.tx.store → S.meanings.sound self.new.tx.store }
+        ensures violated { self.new.violated ≡ self.old.violated }
+        ensures root { self.new.root ≡ self.old.root }
+        ensures payload { S.holdings.payload self.new.tx.store ≡ S.holdings.payload self.old.tx.store }
+        ensures identity { S.durables.identity self.new.tx.store ≡ S.durables.identity self.old.tx.store }
+        ensures forgeries { S.meanings.forgeries self.new.tx.store ≡ S.meanings.forgeries self.old.tx.store }
+        ensures lies { S.meanings.lies self.new.tx.store ≡ S.meanings.lies self.old.tx.store }
+        ensures faults { S.meanings.faults self.new.tx.store ≡ S.meanings.faults self.old.tx.store }
+        ensures answers { (result ≡ Answer.Reply reply) ⊎ ((result ≡ Answer.Memory) ⊎ (result ≡ Answer.Spent)) }
+        ensures spent { OnSpent result (SpentCause S.holdings self.old.tx.store command.now) }
+    {
+        if only_looks(command) || is_error(&reply) {
+            self.tx.abandon();
+            return Answer::Reply(reply);
+        }
+        if self.tx.batch().entries().is_empty() {
+            self.tx.abandon();
+            return Answer::Reply(reply);
+        }
+        match self.apply(alloc, chance) {
+            Ok(()) => Answer::Reply(reply),
+            Err(ApplyError::Memory) => Answer::Memory,
+            Err(ApplyError::Spent) => Answer::Spent,
+        }
+    }
+
+    /// Answers a command by the blocks, and leaves the keeper alone.
+    fn ask<P: Commands, R: Rng>(
+        &mut self,
+        alloc: Global,
+        now: Moment,
+        command: &Command,
+        chance: &mut R,
+    ) -> Answer
+        requires ready { Ready S.meanings S.holdings S.durables S.records K.Keeper self.old }
+        requires fits { IsFitting command.now }
+        ensures ready { Ready S.meanings S.holdings S.durables S.records K.Keeper self.new }
+        ensures stands { (kept present : Tree) → Stands P.shows S.meanings S.holdings S.durables S.records K.Keeper self.old kept present → S.meanings.forgeries self.new.tx.store ≤ S.meanings.forgeries self.old.tx.store
+            → Performed P.shows S.meanings S.holdings S.durables S.records K.Keeper now self.new kept present command.now result }
+        ensures configures { (may : List (List ℕ)) (now : List ℕ) → Configures S.holdings S.durables S.records K.Keeper self.old may now → Configures S.holdings S.durables S.records K.Keeper self.new may now }
+        ensures stays { is_done_answer result ≡ false → Stays S.holdings self.old.tx.store self.new.tx.store }
+        ensures keeper { self.new.saver.keeper ≡ self.old.saver.keeper }
+        ensures last { self.new.saver.last ≡ self.old.saver.last }
+        ensures goes_on { GoesOn (S.durables.trace self.old.tx.store) (S.durables.trace self.new.tx.store) }
+        ensures sound { S.meanings.sound self.old.tx.store → S.meanings.forgeries self.new.tx.store ≤ S.meanings.forgeries self.old.tx.store → S.meanings.sound self.new.tx.store }
+        ensures violated { self.new.violated ≡ self.old.violated }
+        ensures root { self.new.root ≡ self.old.root }
+        ensures payload { S.holdings.payload self.new.tx.store ≡ S.holdings.payload self.old.tx.store }
+        ensures identity { S.durables.identity self.new.tx.store ≡ S.durables.identity self.old.tx.store }
+        ensures forgeries { S.meanings.forgeries self.old.tx.store ≤ S.meanings.forgeries self.new.tx.store }
+        ensures lies { S.meanings.lies self.old.tx.store ≤ S.meanings.lies self.new.tx.store }
+        ensures alarm { (kept present : Tree) → Stands P.shows S.meanings S.holdings S.durables S.records K.Keeper self.old kept present → S.meanings.lies self.new.tx.store ≤ S.meanings.lies self.old.tx.store → is_violation result ≡ false }
+        ensures built { (kept present : Tree) → Stands P.shows S.meanings S.holdings S.durables S.records K.Keeper self.old kept present → S.meanings.forgeries self.new.tx.store ≤ S.meanings.forgeries self.old.tx.store → is_structure result ≡ false }
+        ensures found { OnFound result (λ why. S.meanings.loaded self.old.tx.store self.new.tx.store × S.meanings.met self.old.tx.store self.new.tx.store why) }
+        ensures vault_grows { S.meanings.faults self.old.tx.store ≤ S.meanings.faults self.new.tx.store }
+        ensures vault_cause { RoseBy (directory_faults result) (S.meanings.faults self.old.tx.store) (S.meanings.faults self.new.tx.store) }
+        ensures keeper_cause { state_faults result ≡ 0 }
+        ensures spent { OnSpent result (SpentCause S.holdings self.old.tx.store command.now) }
+        ensures variant { OnReply result (IsReplyTo command.now) }
+        ensures served { result ≢ Answer.Refused }
+    {
+        match P::perform(alloc, &mut self.tx, &self.root, now, command, chance) {
+            Ok(reply) => self.settle::<P, R>(alloc, command, reply, chance),
+            Err(fail) => {
+                self.tx.abandon();
+                fail_answer(fail)
+            }
+        }
+    }
+
+    /// Answers a command: where there was a violation it is refused; where 8 MiB wait, or for `Sync`, there is a sync; else
+    /// the command is performed, and its changes are applied at once or not at all. A violation has the last record
+    /// marked.
+    pub fn answer<P: Commands, R: Rng>(
+        &mut self,
+        alloc: Global,
+        now: Moment,
+        command: &Command,
+        chance: &mut R,
+    ) -> Answer
+        requires ready { Ready S.meanings S.holdings S.durables S.records K.Keeper self.old }
+        requires fits { IsFitting command.now }
+        ensures ready { Ready S.meanings S.holdings S.durables S.records K.Keeper self.new }
+        ensures refused { self.old.violated ≡ true → (result ≡ Answer.Refused) × (self.new ≡ self.old) }
+        ensures served { self.old.violated ≡ false → result ≢ Answer.Refused }
+        ensures violated { self.new.violated ≡ (is_violation result || self.old.violated) }
+        ensures stands { (kept present : Tree) → self.old.violated ≡ false → Stands P.shows S.meanings S.holdings S.durables S.records K.Keeper self.old kept present → S.meanings.forgeries self.new.tx.store ≤ S.meanings.forgeries self.old.tx.store
+            → Answered P.shows S.meanings S.holdings S.durables S.records K.Keeper now self.new kept present command.now result }
+        ensures stays { is_done_answer result ≡ false → Stays S.holdings self.old.tx.store self.new.tx.store }
+        ensures configures { (may : List (List ℕ)) (present : List ℕ) → Configures S.holdings S.durables S.records K.Keeper self.old may present
+            → ConfigAnswered S.holdings S.durables S.records K.Keeper self.new may present (is_violation result) }
+        ensures root { self.new.root ≡ self.old.root }
+        ensures payload { S.holdings.payload self.new.tx.store ≡ S.holdings.payload self.old.tx.store }
+        ensures identity { S.durables.identity self.new.tx.store ≡ S.durables.identity self.old.tx.store }
+        ensures goes_on { GoesOn (S.durables.trace self.old.tx.store) (S.durables.trace self.new.tx.store) }
+        ensures forgeries { S.meanings.forgeries self.old.tx.store ≤ S.meanings.forgeries self.new.tx.store }
+        ensures lies { S.meanings.lies self.old.tx.store ≤ S.meanings.lies self.new.tx.store }
+        ensures alarm { (kept present : Tree) → self.old.violated ≡ false → Stands P.shows S.meanings S.holdings S.durables S.records K.Keeper self.old kept present → S.meanings.lies self.new.tx.store ≤ S.meanings.lies self.old.tx.store → is_violation result ≡ false }
+        ensures built { (kept present : Tree) → self.old.violated ≡ false → Stands P.shows S.meanings S.holdings S.durables S.records K.Keeper self.old kept present → S.meanings.forgeries self.new.tx.store ≤ S.meanings.forgeries self.old.tx.store → is_structure result ≡ false }
+        ensures found { OnFound result (FoundCause S.meanings S.holdings S.durables self.old.tx.store self.new.tx.store) }
+        ensures vault_cause { RoseBy (directory_faults result) (S.meanings.faults self.old.tx.store) (S.meanings.faults self.new.tx.store) }
+        ensures keeper_cause { RoseBy (state_faults result) (K.faults self.old.saver.keeper) (K.faults self.new.saver.keeper) }
+        ensures marked { is_violation result ≡ true → IsKeptMarked S.records (K.kept self.new.saver.keeper) ⊎ RoseBy 1 (K.faults self.old.saver.keeper) (K.faults self.new.saver.keeper) }
+        ensures spent { OnSpent result (SpentCause S.holdings self.old.tx.store command.now) }
+        ensures variant { OnReply result (IsReplyTo command.now) }
+    {
+        if self.violated {
+            return Answer::Refused;
+        }
+        match self.make_room::<P>(alloc) {
+            Ok(()) => {}
+            Err(error) => return sync_answer(error),
+        }
+        if is_sync(command) {
+            return match self.sync::<P>(alloc) {
+                Ok(()) => Answer::Reply(Reply::Done),
+                Err(error) => sync_answer(error),
+            };
+        }
+        let answer = self.ask::<P, R>(alloc, now, command, chance);
+        match answer {
+            Answer::Violation(_) => self.mark(),
+            _ => {}
+        }
+        answer
+    }
+
+    /// Has the configuration's file replaced by these bytes, and syncs. Where the bytes found no memory, nothing changed;
+    /// after another error they wait. There was no violation.
+    pub fn replace_config<P: Commands>(
+        &mut self,
+        alloc: Global,
+        bytes: Vec<u8>,
+    ) -> Result<(), SyncError>
+        requires ready { Ready S.meanings S.holdings S.durables S.records K.Keeper self.old }
+        requires fresh { self.old.violated ≡ false }
+        requires may { MayConfigure bytes.items }
+        ensures ready { Ready S.meanings S.holdings S.durables S.records K.Keeper self.new }
+        ensures stands { (kept now : Tree) → Stands P.shows S.meanings S.holdings S.durables S.records K.Keeper self.old kept now → Synced P.shows S.meanings S.holdings S.durables S.records K.Keeper self.new kept now result }
+        ensures configures { (may : List (List ℕ)) (now : List ℕ) → Configures S.holdings S.durables S.records K.Keeper self.old may now → Replaced S.holdings S.durables S.records K.Keeper self.new may now bytes.items result }
+        ensures emptied { OnOk result (K.kept self.new.saver.keeper ≡ Some (S.durables.record_of self.new.tx.store false)) }
+        ensures ok { OnOk result (self.new.saver.changed ≡ false) }
+        ensures stays { Stays S.holdings self.old.tx.store self.new.tx.store }
+        ensures sound { S.meanings.sound self.old.tx.store → S.meanings.sound self.new.tx.store }
+        ensures violated { self.new.violated ≡ self.old.violated }
+        ensures root { self.new.root ≡ self.old.root }
+        ensures identity { S.durables.identity self.new.tx.store ≡ S.durables.identity self.old.tx.store }
+        ensures payload { S.holdings.payload self.new.tx.store ≡ S.holdings.payload self.old.tx.store }
+        ensures goes_on { GoesOn (S.durables.trace self.old.tx.store) (S.durables.trace self.new.tx.store) }
+        ensures forgeries { S.meanings.forgeries self.new.tx.store ≡ S.meanings.forgeries self.old.tx.store }
+        ensures lies { S.meanings.lies self.new.tx.store ≡ S.meanings.lies self.old.tx.store }
+        ensures vault_grows { S.meanings.faults self.old.tx.store ≤ S.meanings.faults self.new.tx.store }
+        ensures vault_cause { IsErrOf result SyncError.FaultDirectory → RoseBy 1 (S.meanings.faults self.old.tx.store) (S.meanings.faults self.new.tx.store) }
+        ensures keeper_grows { K.faults self.old.saver.keeper ≤ K.faults self.new.saver.keeper }
+        ensures keeper_cause { IsErrOf result SyncError.FaultState → RoseBy 1 (K.faults self.old.saver.keeper) (K.faults self.new.saver.keeper) }
+    {
+        match self.tx.store.put_config(alloc, bytes) {
+            Ok(()) => {}
+            Err(Memory) => return Err(SyncError::Memory),
+        }
+        self.saver.changed = true;
+        self.sync::<P>(alloc)
+    }
+
+    /// Ends the session: syncs, or leaves all as it is where there was a violation.
+    pub fn close<P: Commands>(self, alloc: Global) -> (Result<(), SyncError>, S, K)
+        requires { Ready S.meanings S.holdings S.durables S.records K.Keeper self }
+        ensures stands { (kept now : Tree) → self.violated ≡ false → Stands P.shows S.meanings S.holdings S.durables S.records K.Keeper self kept now
+            → Closed (P.shows (S.holdings.payload self.tx.store) self.root.0) S.durables S.records K.Keeper result.1 result.2 kept now result.0 }
+        ensures configures { (may : List (List ℕ)) (now : List ℕ) → self.violated ≡ false → Configures S.holdings S.durables S.records K.Keeper self may now
+            → ConfigClosed S.records (K.kept result.2) (S.durables.trace result.1) may now result.0 }
+        ensures left { (self.violated ≡ true) ⊎ (self.saver.changed ≡ false) → IsOk result.0 × (result.1 ≡ self.tx.store) × (result.2 ≡ self.saver.keeper) }
+        ensures emptied { self.violated ≡ false → OnOk result.0 (K.kept result.2 ≡ Some (S.durables.record_of result.1 false)) }
+        ensures intact { S.meanings.intact result.1 }
+        ensures identity { S.durables.identity result.1 ≡ S.durables.identity self.tx.store }
+        ensures goes_on { GoesOn (S.durables.trace self.tx.store) (S.durables.trace result.1) }
+        ensures forgeries { S.meanings.forgeries result.1 ≡ S.meanings.forgeries self.tx.store }
+        ensures lies { S.meanings.lies result.1 ≡ S.meanings.lies self.tx.store }
+        ensures vault_grows { S.meanings.faults self.tx.store ≤ S.meanings.faults result.1 }
+        ensures vault_cause { IsErrOf result.0 SyncError.FaultDirectory → RoseBy 1 (S.meanings.faults self.tx.store) (S.meanings.faults result.1) }
+        ensures keeper_grows { K.faults self.saver.keeper ≤ K.faults result.2 }
+        ensures keeper_cause { IsErrOf result.0 SyncError.FaultState → RoseBy 1 (K.faults self.saver.keeper) (K.faults result.2) }
+    {
+        let mut core = self;
+        let result = if core.violated {
+            Ok(())
+        } else {
+            core.sync::<P>(alloc)
+        };
+        let Core {
+            tx,
+            saver,
+            root: _,
+            violated: _,
+        } = core;
+        let Saver {
+            keeper,
+            last: _,
+            changed: _,
+        } = saver;
+        (result, tx.into_store(), keeper)
+    }
+}
