@@ -1,0 +1,60 @@
+-- Runs compose.
+use Rattle.std.proofs.Common.{◌≡◌, ◌⊎◌, ◌||◌, Bool, true, List, [], ◌∷◌, refl, sym, ap, subst, inl, inr}
+use Rattle.answers.specs.Sessions.{latest, violated}
+use Rattle.config_file.specs.Settings.{Settings}
+use Rattle.fs_model.specs.Tree.{Tree}
+use Rattle.integrity_store.specs.Standing.{records}
+use Rattle.mount_core.specs.Performing.{Showing}
+use Rattle.mount_core.specs.Standing.{IsKeptMarked}
+use Rattle.mount.specs.Representing.{Represents}
+use Rattle.mount.proofs.Reading.{loaded_unmarked}
+use Rattle.session_runs.specs.Runs.{Outside, StandsFor}
+use Rattle.histories.specs.Histories.{Run, session, quiet, before_of, after_of, exchanges_of, IsRun, IsUnforgedRun, GoesOnFrom, AreRuns, end_of, was_violated, IsRefusedRun, RunsFrom, Follow, EndsWith}
+
+true_or : (a b : Bool) → a ≡ true → (a || b) ≡ true
+true_or a b e = ap (λ (x : Bool). x || b) e
+
+module _ (shows : Showing) (c : Settings) where
+  stands_on : (last next : Outside) (tree : Tree) → GoesOnFrom last next → StandsFor shows c tree last → StandsFor shows c tree next
+  stands_on last next tree on s = subst (λ x. Represents shows x next.calls c tree) (sym on.kept) (subst (λ x. Represents shows last.kept x c tree) (sym on.calls) s)
+
+  marked_on : (last next : Outside) → GoesOnFrom last next → IsKeptMarked records last.kept → IsKeptMarked records next.kept
+  marked_on last next on m = subst (IsKeptMarked records) (sym on.kept) m
+
+  -- what one more run does, and where it leaves all
+  abbrev Turned : Tree → Bool → Run → Type 0
+  Turned from was run = (tree : Tree) × (RunsFrom shows c from run tree ⊎ ((was ≡ true) × IsRefusedRun run))
+      × (StandsFor shows c tree (after_of run) ⊎ (((violated (exchanges_of run) || was) ≡ true) × IsKeptMarked records (after_of run).kept))
+
+  serving : (run : Run) (from : Tree) (was : Bool) → IsRun shows run → IsUnforgedRun c run → StandsFor shows c from (before_of run) → Turned from was run
+  serving (session now password before after closing es) from was run u s =
+      let a = run.founded c from (record { stands = s; unforged_config = u.0; unforged = u.1 }) in
+      elim a.kept as (λ _. Turned from was (session now password before after closing es)) [
+        | inl m ↦ (from, inl (record { trees = a.trees; replies = a.replies; kept = inl (m.0, m.1, refl); no_false_alarm = a.no_false_alarm }), inr (true_or (violated es) was m.0, m.1))
+        | inr k ↦ (k.0, inl (record { trees = a.trees; replies = a.replies; kept = inr (k.1, k.2); no_false_alarm = a.no_false_alarm }), inl k.2)
+      ]
+  serving (quiet password before after) from was run u s =
+      let kept = run.stands c from (record { stands = s; unforged_config = u.0; unforged = u.1 }) in
+      (from, inl (refl, kept), inl kept)
+
+  refusing : (run : Run) (from : Tree) (was : Bool) → was ≡ true → IsRun shows run → IsKeptMarked records (before_of run).kept → Turned from was run
+  refusing (session now password before after closing es) from was w run m =
+      absurd (loaded_unmarked before.kept run.attached.3.state run.attached.3.list run.attached.3.loaded m)
+  refusing (quiet password before after) from was w run m =
+      let same = run.marked m in
+      (from, inr (w, record { marked = m; unanswered = refl; kept = same.0; calls = same.1 }), inr (w, subst (IsKeptMarked records) (sym same.0) m))
+
+  abbrev Composed : Tree → Outside → List Run → Type 0
+  Composed first start runs = (trees : List Tree) × Follow shows c first runs trees × EndsWith shows c first start runs trees
+
+  add : (first : Tree) (start : Outside) (run : Run) (runs : List Run) → (before : Composed first start runs) → Turned (latest first before.0) (was_violated runs) run → Composed first start (run ∷ runs)
+  add first start run runs before t = (t.0 ∷ before.0, (t.1, before.1), t.2)
+
+  pub compose : (first : Tree) (start : Outside) (runs : List Run) → StandsFor shows c first start → AreRuns shows c start runs → Composed first start runs
+  compose first start [] s all = ([], tt, inl s)
+  compose first start (run ∷ runs) s all =
+      let before = compose first start runs s all.3 in
+      add first start run runs before (elim before.2 as (λ _. Turned (latest first before.0) (was_violated runs) run) [
+        | inl stands ↦ serving run (latest first before.0) (was_violated runs) all.0 all.1 (stands_on (end_of start runs) (before_of run) (latest first before.0) all.2 stands)
+        | inr marked ↦ refusing run (latest first before.0) (was_violated runs) marked.0 all.0 (marked_on (end_of start runs) (before_of run) all.2 marked.1)
+      ])

@@ -1,0 +1,101 @@
+-- Runs, one after another, from a kept tree on. The newest stands first.
+use Rattle.std.specs.Prelude.{◌≡◌, ◌⊎◌, ◌≤◌, ◌||◌, ℕ, Bool, true, false, List, [], ◌∷◌, Result}
+use Rattle.std.specs.declared.option.Option.{Option}
+use Rattle.std.specs.declared.result.Result.TheVariants.{Ok}
+use Rattle.block_id.specs.declared.id.BlockId.{BlockId}
+use Rattle.answers.specs.Sessions.{Exchange, IsSession, IsKeptPoint, latest, violated}
+use Rattle.config_file.specs.Settings.{Settings}
+use Rattle.fs_model.specs.Instant.{Instant}
+use Rattle.fs_model.specs.Tree.{Tree, empty_tree}
+use Rattle.integrity_store.specs.Standing.{records}
+use Rattle.session_saver.specs.declared.saver.SyncError.{SyncError}
+use Rattle.mount_core.specs.Performing.{Showing}
+use Rattle.mount_core.specs.Standing.{IsKeptMarked}
+use Rattle.mount.specs.Making.{Created}
+use Rattle.mount.specs.Unforged.{IsUnforgedConfig}
+use Rattle.session_runs.specs.Runs.{Outside, StandsFor, forgeries, lies, AreCalm, IsSessionRun, IsQuiet}
+
+-- a run: the session of some exchanges at a moment, closed so, or one of no lines; each under a password, from the one moment outside to the other
+pub data Run : Type 0 where
+  session : Instant → List ℕ → Outside → Outside → Result Unit SyncError → List Exchange → Run
+  quiet : List ℕ → Outside → Outside → Run
+
+abbrev pub before_of : Run → Outside
+before_of (session now password before after closing es) = before
+before_of (quiet password before after) = before
+
+abbrev pub after_of : Run → Outside
+after_of (session now password before after closing es) = after
+after_of (quiet password before after) = after
+
+abbrev pub exchanges_of : Run → List Exchange
+exchanges_of (session now password before after closing es) = es
+exchanges_of (quiet password before after) = []
+
+abbrev pub IsRun : Showing → Run → Type 0
+IsRun shows (session now password before after closing es) = IsSessionRun shows now password before after (violated es) closing es
+IsRun shows (quiet password before after) = IsQuiet shows password before after
+
+-- nothing that opens was forged in the run
+abbrev pub IsUnforgedRun : Settings → Run → Type 0
+IsUnforgedRun c (session now password before after closing es) = IsUnforgedConfig password before.kept before.calls after.calls c × (forgeries c after ≤ forgeries c before)
+IsUnforgedRun c (quiet password before after) = IsUnforgedConfig password before.kept before.calls after.calls c × (forgeries c after ≤ forgeries c before)
+
+-- where the runs left all
+abbrev pub end_of : Outside → List Run → Outside
+end_of start [] = start
+end_of start (run ∷ runs) = after_of run
+
+-- nobody but the runs keeps a record or calls the directory as this client; what the directory does by itself is no call
+pub record GoesOnFrom (last next : Outside) : Type 0 where
+  pub kept : next.kept ≡ last.kept
+  pub calls : next.calls ≡ last.calls
+
+abbrev pub AreRuns : Showing → Settings → Outside → List Run → Type 0
+AreRuns shows c start [] = Unit {0}
+AreRuns shows c start (run ∷ runs) = IsRun shows run × IsUnforgedRun c run × GoesOnFrom (end_of start runs) (before_of run) × AreRuns shows c start runs
+
+-- there was a violation in one of them
+abbrev pub was_violated : List Run → Bool
+was_violated [] = false
+was_violated (run ∷ runs) = violated (exchanges_of run) || was_violated runs
+
+-- The answers are a session of the plain tree from the kept tree on. It leaves the tree of a kept point, or after a violation perhaps a marked record.
+pub record Serves (shows : Showing) (c : Settings) (from : Tree) (now : Instant) (before after : Outside) (es : List Exchange) (tree : Tree) : Type 0 where
+  pub trees : List Tree
+  pub replies : IsSession now from es trees
+  pub kept : ((violated es ≡ true) × IsKeptMarked records after.kept × (tree ≡ from)) ⊎ (IsKeptPoint from es trees tree × StandsFor shows c tree after)
+  pub no_false_alarm : lies after ≤ lies before → AreCalm es
+
+-- what a run does from a kept tree on, and the tree that it leaves
+abbrev pub RunsFrom : Showing → Settings → Tree → Run → Tree → Type 0
+RunsFrom shows c from (session now password before after closing es) tree = Serves shows c from now before after es tree
+RunsFrom shows c from (quiet password before after) tree = (tree ≡ from) × StandsFor shows c tree after
+
+-- a marked record was kept: nothing is answered, kept or called
+pub record IsRefusedRun (run : Run) : Type 0 where
+  pub marked : IsKeptMarked records (before_of run).kept
+  pub unanswered : exchanges_of run ≡ []
+  pub kept : (after_of run).kept ≡ (before_of run).kept
+  pub calls : (after_of run).calls ≡ (before_of run).calls
+
+-- each run serves from the tree that the one before it left, or, where one before left a mark after a violation, is refused
+abbrev pub Follow : Showing → Settings → Tree → List Run → List Tree → Type 0
+Follow shows c first [] [] = Unit {0}
+Follow shows c first (run ∷ runs) (tree ∷ trees) = (RunsFrom shows c (latest first trees) run tree ⊎ ((was_violated runs ≡ true) × IsRefusedRun run)) × Follow shows c first runs trees
+Follow shows c first [] (tree ∷ trees) = ⊥
+Follow shows c first (run ∷ runs) [] = ⊥
+
+-- at last the last tree is kept, or after a violation a marked record
+abbrev pub EndsWith : Showing → Settings → Tree → Outside → List Run → List Tree → Type 0
+EndsWith shows c first start runs trees = StandsFor shows c (latest first trees) (end_of start runs) ⊎ ((was_violated runs ≡ true) × IsKeptMarked records (end_of start runs).kept)
+
+-- Whatever the directory returned, lost or refused in any list of runs, the trees are there.
+abbrev pub RunsCompose : Showing → Type 0
+RunsCompose shows = (c : Settings) (first : Tree) (start : Outside) (runs : List Run) → StandsFor shows c first start → AreRuns shows c start runs
+    → (trees : List Tree) × Follow shows c first runs trees × EndsWith shows c first start runs trees
+
+-- the same from a file system that was made
+abbrev pub RunsComposeFromCreate : Showing → Type 0
+RunsComposeFromCreate shows = (c : Settings) (file : List ℕ) (kept : Option (List ℕ)) (id : BlockId) (start : Outside) (runs : List Run) → Created shows c file kept start.kept start.calls (Ok id) → AreRuns shows c start runs
+    → (trees : List Tree) × Follow shows c empty_tree runs trees × EndsWith shows c empty_tree start runs trees

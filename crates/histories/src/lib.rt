@@ -1,0 +1,6 @@
+//! Any list of runs over one file system: what each one leaves is what the next one needs.
+#![tactic(auto)]
+
+mod law;
+
+pub use law::runs_compose;

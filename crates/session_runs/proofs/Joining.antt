@@ -1,0 +1,155 @@
+-- One more answer.
+use Rattle.std.proofs.Common.{◌≡◌, ◌⊎◌, ◌≤◌, ◌+◌, ◌||◌, ◌&&◌, ℕ, Bool, true, false, List, [], ◌∷◌, refl, sym, ap, subst, ◌∙◌, inl, inr, arith}
+use Rattle.std.specs.Prelude.{Ok, Err}
+use Rattle.std.specs.declared.option.Option.{Option}
+use Rattle.fs_model.specs.Instant.{Instant}
+use Rattle.fs_model.specs.Tree.{Tree}
+use Rattle.outside.specs.Causes.{RoseBy}
+use Rattle.outside.specs.Going.{goes_on_same, goes_on_onward}
+use Rattle.outside.specs.Trace.{Call}
+use Rattle.outside.specs.declared.keeper.Keeper.{Ghosts as KeeperGhosts}
+use Rattle.answers.specs.declared.answer.Answer.{Answer}
+use Rattle.answers.specs.declared.answer.Answer.TheVariants.{Reply as Replied, Memory, Spent, FaultDirectory, FaultState, Violation, Refused}
+use Rattle.answers.specs.Sessions.{Asked, Exchange, Next, IsSession, IsKeptPoint, is_violation, is_sync, is_synced, latest, violated, state_faults, all_state_faults}
+use Rattle.integrity_store.specs.Standing.{records}
+use Rattle.mount_core.specs.Configuring.{ConfigAnswered}
+use Rattle.mount_core.specs.Performing.{Showing}
+use Rattle.mount_core.specs.Standing.{IsKeptMarked, Left}
+use Rattle.mount.specs.declared.mount.Mount.{Mount}
+use Rattle.mount.specs.Tower.{tower_meanings, tower_holdings, tower_durables}
+use Rattle.session_runs.specs.Answering.{calls_of, forgeries_of, lies_of, keeper_faults, kept_of, Answered, MountAnswers}
+use Rattle.session_runs.specs.Passing.{MountKeeps, LeftAt, PassedTrees, Passed}
+
+pub true_is_false : true ≡ false → ⊥
+true_is_false e = cc
+
+violation_no_fault : (answer : Answer) → is_violation answer ≡ true → state_faults answer ≡ 0
+violation_no_fault (Violation why) e = refl
+violation_no_fault (Replied reply) e = refl
+violation_no_fault Memory e = refl
+violation_no_fault Spent e = refl
+violation_no_fault FaultDirectory e = refl
+violation_no_fault FaultState e = absurd (true_is_false (sym e))
+violation_no_fault Refused e = refl
+
+and_false : (b : Bool) → (b && false) ≡ false
+and_false true = refl
+and_false false = refl
+
+or_false : (a b : Bool) → b ≡ false → (a || b) ≡ a
+or_false true b e = refl
+or_false false b e = e
+
+violation_not_synced : (asked : Asked) (answer : Answer) → is_violation answer ≡ true → is_synced asked answer ≡ false
+violation_not_synced (Err error) answer e = refl
+violation_not_synced (Ok command) (Violation why) e = and_false (is_sync command)
+violation_not_synced (Ok command) (Replied reply) e = absurd (true_is_false (sym e))
+violation_not_synced (Ok command) Memory e = and_false (is_sync command)
+violation_not_synced (Ok command) Spent e = and_false (is_sync command)
+violation_not_synced (Ok command) FaultDirectory e = and_false (is_sync command)
+violation_not_synced (Ok command) FaultState e = and_false (is_sync command)
+violation_not_synced (Ok command) Refused e = and_false (is_sync command)
+
+refused_not_synced : (asked : Asked) → is_synced asked Refused ≡ false
+refused_not_synced (Ok command) = and_false (is_sync command)
+refused_not_synced (Err error) = refl
+
+pub latest_kept : (now : Instant) (first : Tree) (es : List Exchange) (trees : List Tree) → IsSession now first es trees → IsKeptPoint first es trees (latest first trees)
+latest_kept now first [] [] s = refl
+latest_kept now first (e ∷ es) (tree ∷ trees) s = inl refl
+latest_kept now first [] (tree ∷ trees) s = absurd s
+latest_kept now first (e ∷ es) [] s = absurd s
+
+module _ {V : Type 0} {K : Type 0} (shows : Showing) (trace : V → Option (List Call)) (faults : V → ℕ) (G : KeeperGhosts K) (now : Instant) where
+  left_on : (new : Mount V K) (first : Tree) (e : Exchange) (es : List Exchange) (trees : List Tree) (kept next : Tree) (bad synced : Bool)
+      → is_violation e.answer ≡ bad → is_synced e.asked e.answer ≡ synced → IsSession now first es trees → IsKeptPoint first es trees kept
+      → Left shows (tower_meanings trace faults) (tower_holdings trace) (tower_durables trace) records G new.core kept (latest first trees) next bad synced
+      → LeftAt shows trace faults G new first (e ∷ es) (next ∷ trees) (bad || false)
+  left_on new first e es trees kept next true synced eb ey s k (inl m) = inl m
+  left_on new first e es trees kept next true synced eb ey s k (inr (inl r)) = inr (kept, inr (violation_not_synced e.asked e.answer eb, k), r)
+  left_on new first e es trees kept next true synced eb ey s k (inr (inr r)) = inr (latest first trees, inr (violation_not_synced e.asked e.answer eb, latest_kept now first es trees s), r)
+  left_on new first e es trees kept next false true eb ey s k m = (next, inl refl, m)
+  left_on new first e es trees kept next false false eb ey s k (inl m) = (kept, inr (ey, k), m)
+  left_on new first e es trees kept next false false eb ey s k (inr m) = (latest first trees, inr (ey, latest_kept now first es trees s), m)
+
+  left_refused : (mid new : Mount V K) (e : Exchange) (es : List Exchange) (first : Tree) (trees : List Tree) → is_synced e.asked e.answer ≡ false → new ≡ mid
+      → LeftAt shows trace faults G mid first es trees true → LeftAt shows trace faults G new first (e ∷ es) (latest first trees ∷ trees) true
+  left_refused mid new e es first trees ns is (inl marked) = inl (subst (λ (m : Mount V K). IsKeptMarked records (kept_of G m)) (sym is) marked)
+  left_refused mid new e es first trees ns is (inr k) = inr (k.0, inr (ns, k.1), subst (λ (m : Mount V K). MountKeeps shows trace G m k.0) (sym is) k.2)
+
+  trees_on : (old mid new : Mount V K) (e : Exchange) (es : List Exchange) (first : Tree) (flag : Bool) → violated es ≡ flag → mid.core.violated ≡ flag
+      → MountAnswers shows trace faults G now mid e.asked e.answer new → forgeries_of trace faults new ≤ forgeries_of trace faults mid → lies_of trace faults old ≤ lies_of trace faults mid
+      → (trees : List Tree) → IsSession now first es trees → LeftAt shows trace faults G mid first es trees flag → (lies_of trace faults mid ≤ lies_of trace faults old → flag ≡ false)
+      → PassedTrees shows trace faults G now old new first (e ∷ es)
+  trees_on old mid new e es first false ev em a few grew trees s left honest =
+      let t : Answered shows trace faults G now new left.0 (latest first trees) e.asked e.answer = a.stands left.0 (latest first trees) em left.2 few in
+      record {
+        trees = t.next ∷ trees;
+        session = (subst (λ b. Next b now (latest first trees) e.asked e.answer t.next) (sym ev) t.follows, s);
+        left = subst (λ b. LeftAt shows trace faults G new first (e ∷ es) (t.next ∷ trees) (is_violation e.answer || b)) (sym ev)
+            (left_on new first e es trees left.0 t.next _ _ refl refl s left.1 t.left);
+        alarm = λ h. ap (λ (b : Bool). is_violation e.answer || b) ev ∙ ap (λ (b : Bool). b || false) (a.alarm left.0 (latest first trees) em left.2 (omega (arith, grew, h)));
+      }
+  trees_on old mid new e es first true ev em a few grew trees s left honest =
+      let r = a.refused em in
+      let ns : is_synced e.asked e.answer ≡ false = subst (λ x. is_synced e.asked x ≡ false) (sym r.0) (refused_not_synced e.asked) in
+      record {
+        trees = latest first trees ∷ trees;
+        session = (subst (λ b. Next b now (latest first trees) e.asked e.answer (latest first trees)) (sym ev) (r.0, refl), s);
+        left = subst (λ b. LeftAt shows trace faults G new first (e ∷ es) (latest first trees ∷ trees) b) (sym (ap (λ x. is_violation x || violated es) r.0 ∙ ev))
+            (left_refused mid new e es first trees ns r.1 left);
+        alarm = λ h. absurd (true_is_false (honest (omega (arith, a.lies, h))));
+      }
+
+  marked_on : (old mid new : Mount V K) (e : Exchange) (es : List Exchange) → Passed shows trace faults G now old mid es → MountAnswers shows trace faults G now mid e.asked e.answer new
+      → (bad : Bool) → is_violation e.answer ≡ bad → (bad || violated es) ≡ true
+      → IsKeptMarked records (kept_of G new) ⊎ RoseBy (state_faults e.answer + all_state_faults es + 1) (keeper_faults G old) (keeper_faults G new)
+  marked_on old mid new e es p a true eb h =
+      elim (a.marked eb) [ inl m ↦ inl m | inr r ↦ inr (let z = violation_no_fault e.answer eb in omega (arith, z, r, p.keeper_cause)) ]
+  marked_on old mid new e es p a false eb h =
+      let r = a.refused (p.flag ∙ h) in
+      elim (p.marked h) [
+        | inl m ↦ inl (subst (λ (x : Mount V K). IsKeptMarked records (kept_of G x)) (sym r.1) m)
+        | inr q ↦ inr (let z : state_faults e.answer ≡ 0 = ap state_faults r.0 in let k : keeper_faults G new ≡ keeper_faults G mid = ap (keeper_faults G) r.1 in omega (arith, z, q, k))
+      ]
+
+  configures_on : (mid new : Mount V K) (e : Exchange) (es : List Exchange) (may : List (List ℕ)) (present : List ℕ) (flag : Bool) → violated es ≡ flag → mid.core.violated ≡ flag
+      → MountAnswers shows trace faults G now mid e.asked e.answer new → ConfigAnswered (tower_holdings trace) (tower_durables trace) records G mid.core may present flag
+      → ConfigAnswered (tower_holdings trace) (tower_durables trace) records G new.core may present (is_violation e.answer || violated es)
+  configures_on mid new e es may present false ev em a c =
+      subst (λ b. ConfigAnswered (tower_holdings trace) (tower_durables trace) records G new.core may present b) (sym (or_false (is_violation e.answer) (violated es) ev)) (a.configures may present c)
+  configures_on mid new e es may present true ev em a c =
+      let r = a.refused em in
+      subst (λ b. ConfigAnswered (tower_holdings trace) (tower_durables trace) records G new.core may present b) (sym (ap (λ x. is_violation x || violated es) r.0 ∙ ev))
+      (subst (λ (x : Mount V K). ConfigAnswered (tower_holdings trace) (tower_durables trace) records G x.core may present true) (sym r.1) c)
+
+  pub passed_none : (mount : Mount V K) → mount.core.violated ≡ false → Passed shows trace faults G now mount mount []
+  passed_none mount fresh = record {
+    flag = fresh;
+    opened = refl;
+    goes_on = goes_on_same (calls_of trace mount);
+    forgeries = omega arith;
+    lies = omega arith;
+    vault_cause = omega arith;
+    keeper_cause = omega arith;
+    marked = λ h. absurd (true_is_false (sym h));
+    configures = λ may present c. c;
+    passes = λ first stands few. record { trees = []; session = tt; left = (first, refl, stands); alarm = λ h. refl };
+  }
+
+  pub passed_on : (old mid new : Mount V K) (e : Exchange) (es : List Exchange) → Passed shows trace faults G now old mid es → MountAnswers shows trace faults G now mid e.asked e.answer new
+      → Passed shows trace faults G now old new (e ∷ es)
+  passed_on old mid new e es p a = record {
+    flag = a.violated ∙ ap (λ (b : Bool). is_violation e.answer || b) p.flag;
+    opened = a.opened ∙ p.opened;
+    goes_on = goes_on_onward (calls_of trace old) (calls_of trace mid) (calls_of trace new) p.goes_on a.goes_on;
+    forgeries = omega (arith, p.forgeries, a.forgeries);
+    lies = omega (arith, p.lies, a.lies);
+    vault_cause = omega (arith, p.vault_cause, a.vault_cause);
+    keeper_cause = omega (arith, p.keeper_cause, a.keeper_cause);
+    marked = λ h. marked_on old mid new e es p a (is_violation e.answer) refl h;
+    configures = λ may present c. configures_on mid new e es may present (violated es) refl p.flag a (p.configures may present c);
+    passes = λ first stands few.
+        let t : PassedTrees shows trace faults G now old mid first es = p.passes first stands (omega (arith, few, a.forgeries)) in
+        trees_on old mid new e es first (violated es) refl p.flag a (omega (arith, few, p.forgeries)) p.lies t.trees t.session t.left t.alarm;
+  }

@@ -1,0 +1,4 @@
+mod Joining
+mod Passes
+mod Synced
+pub mod Whole

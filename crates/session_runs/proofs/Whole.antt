@@ -1,0 +1,200 @@
+-- A whole session over what is kept and the calls alone, from how it began, what it went through and how it was closed.
+use Rattle.std.proofs.Common.{◌≡◌, ◌⊎◌, ◌≤◌, ◌+◌, ◌-◌, ◌||◌, ◌++◌, ℕ, Bool, true, false, List, [], ◌∷◌, refl, sym, ap, subst, ◌∙◌, inl, inr, arith, append_assoc}
+use Rattle.std.specs.Prelude.{Result, is_some, IsErrOf, OnOk}
+use Rattle.std.specs.declared.option.Option.{Option}
+use Rattle.std.specs.declared.option.Option.TheVariants.{Some}
+use Rattle.std.specs.declared.result.Result.TheVariants.{Ok, Err}
+use Rattle.aes_gcm.specs.Gcm.{opened_of}
+use Rattle.fs_model.specs.Instant.{Instant}
+use Rattle.fs_model.specs.Tree.{Tree}
+use Rattle.outside.specs.Causes.{RoseBy}
+use Rattle.outside.specs.Going.{GoesOn, goes_on_onward}
+use Rattle.outside.specs.Honest.{count_told}
+use Rattle.outside.specs.Trace.{Call, config, got}
+use Rattle.outside.specs.declared.keeper.Keeper.{Ghosts as KeeperGhosts}
+use Rattle.answers.specs.Sessions.{Exchange, RefusesAfterViolation, IsKeptPoint, is_violation, latest, violated, all_directory_faults, all_state_faults}
+use Rattle.store_api.specs.Durables.{Identity}
+use Rattle.integrity_store.specs.Held.{Among, forged}
+use Rattle.integrity_store.specs.Standing.{records}
+use Rattle.config_file.specs.Settings.{Settings, settings_of}
+use Rattle.config_file.specs.declared.config.Opened.{Opened}
+use Rattle.session_saver.specs.Saving.{KeptConfigures}
+use Rattle.session_saver.specs.declared.saver.SyncError.{SyncError}
+use Rattle.session_saver.specs.declared.saver.SyncError.TheVariants.{Memory, FaultDirectory, FaultState}
+use Rattle.mount_core.specs.Configuring.{KeptOneOf, ConfigAnswered, ConfigClosed}
+use Rattle.mount_core.specs.Performing.{Showing}
+use Rattle.mount_core.specs.Standing.{IsKeptMarked}
+use Rattle.mount.specs.declared.mount.Mount.{Mount}
+use Rattle.mount.specs.Mounts.{IsReady, Closed}
+use Rattle.mount.specs.Representing.{Represents}
+use Rattle.mount.specs.Tower.{tower_holdings, tower_durables}
+use Rattle.mount.specs.Unforged.{IsUnforgedConfig}
+use Rattle.mount.proofs.Reading.{represents_told}
+use Rattle.mount.proofs.Standing.{represents}
+use Rattle.session_runs.specs.Answering.{calls_of, forgeries_of, kept_of, mount_hosting}
+use Rattle.session_runs.specs.Passing.{MountKeeps, LeftAt, PassedTrees, Passed}
+use Rattle.session_runs.specs.Runs.{Outside, outside_of, StandsFor, forgeries, IsFounded, AreCalm, Answers, directory_fault, state_fault, IsSessionRun}
+use Rattle.session_runs.specs.Turns.{Begun, Closing}
+use Rattle.answers.specs.Hosts.{Ran}
+use Rattle.session_runs.proofs.Joining.{true_is_false, latest_kept}
+use Rattle.session_runs.proofs.Passes.{passed, refusing}
+
+-- ---- without a violation no answer is refused
+
+left_false : (a b : Bool) → (a || b) ≡ false → a ≡ false
+left_false true b e = e
+left_false false b e = refl
+
+right_false : (a b : Bool) → (a || b) ≡ false → b ≡ false
+right_false true b e = absurd (true_is_false e)
+right_false false b e = e
+
+-- where no answer is a violation, none stands
+pub unviolated : (es : List Exchange) → AreCalm es → violated es ≡ false
+unviolated [] a = refl
+unviolated (e ∷ es) a = ap (λ (b : Bool). b || violated es) a.0 ∙ unviolated es a.2
+
+calm : (es : List Exchange) → RefusesAfterViolation es → violated es ≡ false → AreCalm es
+calm [] r v = tt
+calm (e ∷ es) r v =
+    let rest = right_false (is_violation e.answer) (violated es) v in
+    (left_false (is_violation e.answer) (violated es) v, r.0 ∙ rest, calm es r.1 rest)
+
+-- ---- what was given since is part of what was given in all
+
+among_more : (more calls : List Call) (call : Call) → Among calls call → Among (more ++ calls) call
+among_more [] calls call a = a
+among_more (first ∷ more) calls call a = inr (among_more more calls call a)
+
+pub unforged_before : (password : List ℕ) (kept : Option (List ℕ)) (old mid new : Option (List Call)) (c : Settings) → GoesOn mid new → IsUnforgedConfig password kept old new c → IsUnforgedConfig password kept old mid c
+unforged_before password kept old mid new c on u = record {
+  listed = u.listed;
+  given = λ before calls max bytes found cost eo em among opens.
+      let after : GoesOn (Some (calls ++ before)) new = subst (λ x. GoesOn x new) em on in
+      u.given before (after.0 ++ calls) max bytes found cost eo (after.1 ∙ ap Some (sym (append_assoc after.0 calls before))) (among_more after.0 calls (got config max (Some bytes)) among) opens;
+}
+
+-- ---- faults
+
+directory_rose : (closing : Result Unit SyncError) (n a b c d : ℕ) → a ≤ b → RoseBy n b c → c ≤ d → (IsErrOf closing FaultDirectory → RoseBy 1 c d) → RoseBy (n + directory_fault closing) a d
+directory_rose (Ok u) n a b c d first rose last cause = omega (arith, first, rose, last)
+directory_rose (Err Memory) n a b c d first rose last cause = omega (arith, first, rose, last)
+directory_rose (Err FaultDirectory) n a b c d first rose last cause = let r = cause refl in omega (arith, first, rose, r)
+directory_rose (Err FaultState) n a b c d first rose last cause = omega (arith, first, rose, last)
+
+state_rose : (closing : Result Unit SyncError) (n a b c d : ℕ) → a ≤ b → RoseBy n b c → c ≤ d → (IsErrOf closing FaultState → RoseBy 1 c d) → RoseBy (n + state_fault closing) a d
+state_rose (Ok u) n a b c d first rose last cause = omega (arith, first, rose, last)
+state_rose (Err Memory) n a b c d first rose last cause = omega (arith, first, rose, last)
+state_rose (Err FaultDirectory) n a b c d first rose last cause = omega (arith, first, rose, last)
+state_rose (Err FaultState) n a b c d first rose last cause = let r = cause refl in omega (arith, first, rose, r)
+
+-- ---- the configuration's file
+
+only_one : (kept : Option (List ℕ)) (calls : Option (List Call)) (file : List ℕ) → KeptOneOf records kept calls (file ∷ []) → KeptConfigures records kept calls file
+only_one kept calls file (bytes, inl e, k) = subst (λ x. KeptConfigures records kept calls x) e k
+only_one kept calls file (bytes, inr none, k) = absurd none
+
+config_closed : (kept : Option (List ℕ)) (calls : Option (List Call)) (file : List ℕ) (closing : Result Unit SyncError) → ConfigClosed records kept calls (file ∷ []) file closing → KeptConfigures records kept calls file
+config_closed kept calls file (Ok u) k = k
+config_closed kept calls file (Err e) k = only_one kept calls file k
+
+module _ {V : Type 0} {K : Type 0} (shows : Showing) (trace : V → Option (List Call)) (faults : V → ℕ) (G : KeeperGhosts K) (now : Instant) (es : List Exchange) (opened_ left : Mount V K) (closing : Result Unit SyncError) (vault : V) (keeper : K)
+    (ready : IsReady trace faults G left) (p : Passed shows trace faults G now opened_ left es) (z : Closing shows trace faults G left closing vault keeper) where
+  abbrev After : Outside
+  After = outside_of trace faults G vault keeper
+
+  config_after : (file : List ℕ) (flag : Bool) → left.core.violated ≡ flag → ConfigAnswered (tower_holdings trace) (tower_durables trace) records G left.core (file ∷ []) file flag → KeptConfigures records After.kept After.calls file
+  config_after file true v c =
+      let l = z.left (inl v) in
+      subst (λ k. KeptConfigures records (G.kept k) (trace vault) file) (sym l.2) (subst (λ x. KeptConfigures records (kept_of G left) (trace x) file) (sym l.1) (only_one (kept_of G left) (calls_of trace left) file c))
+  config_after file false v c = config_closed (G.kept keeper) (trace vault) file closing (z.configures (file ∷ []) file v c)
+
+  -- ---- the trees
+
+  module _ (c : Settings) (is : settings_of left.opened.config ≡ c) (first : Tree) (trees : List Tree) (point : IsKeptPoint first es trees (latest first trees)) where
+    of_keeps : (tree : Tree) → MountKeeps shows trace G left tree → Represents shows (kept_of G left) (calls_of trace left) c tree
+    of_keeps tree k = subst (λ x. Represents shows (kept_of G left) (calls_of trace left) x tree) is
+        (represents shows (settings_of left.opened.config) ready.salt _ _ _ (kept_of G left) (calls_of trace left) tree (ap (λ (i : Identity). i.size - 78) ready.identity) (ap (λ x. x.0) ready.root) ready.identity k)
+
+    of_closed : (kept : Tree) → IsKeptPoint first es trees kept → (result : Result Unit SyncError) → Closed shows (settings_of left.opened.config) After.kept After.calls kept (latest first trees) result
+        → (tree : Tree) × IsKeptPoint first es trees tree × StandsFor shows c tree After
+    of_closed kept k (Ok u) s = (latest first trees, point, subst (λ x. Represents shows After.kept After.calls x (latest first trees)) is s.0)
+    of_closed kept k (Err e) (inl s) = (kept, k, subst (λ x. Represents shows After.kept After.calls x kept) is s)
+    of_closed kept k (Err e) (inr s) = (latest first trees, point, subst (λ x. Represents shows After.kept After.calls x (latest first trees)) is s)
+
+    kept_after : (flag : Bool) → violated es ≡ flag → LeftAt shows trace faults G left first es trees flag
+        → ((violated es ≡ true) × IsKeptMarked records After.kept) ⊎ ((tree : Tree) × IsKeptPoint first es trees tree × StandsFor shows c tree After)
+    kept_after true v (inl m) = let l = z.left (inl (p.flag ∙ v)) in inl (v, subst (λ k. IsKeptMarked records (G.kept k)) (sym l.2) m)
+    kept_after true v (inr (tree, k, keeps)) =
+        let l = z.left (inl (p.flag ∙ v)) in
+        inr (tree, k, subst (λ k. Represents shows (G.kept k) (trace vault) c tree) (sym l.2) (subst (λ x. Represents shows (kept_of G left) (trace x) c tree) (sym l.1) (of_keeps tree keeps)))
+    kept_after false v (kept, k, s) = inr (of_closed kept k closing (z.stands kept (latest first trees) (p.flag ∙ v) s))
+
+    of_done : (kept : Tree) (result : Result Unit SyncError) → Closed shows (settings_of left.opened.config) After.kept After.calls kept (latest first trees) result → OnOk result (StandsFor shows c (latest first trees) After)
+    of_done kept (Ok u) s = subst (λ x. Represents shows After.kept After.calls x (latest first trees)) is s.0
+    of_done kept (Err e) s = tt
+
+    done_after : (flag : Bool) → violated es ≡ flag → LeftAt shows trace faults G left first es trees flag → violated es ≡ false → OnOk closing (StandsFor shows c (latest first trees) After)
+    done_after true v s f = absurd (true_is_false (sym v ∙ f))
+    done_after false v (kept, k, s) f = of_done kept closing (z.stands kept (latest first trees) (p.flag ∙ v) s)
+
+  module _ (password : List ℕ) (first_vault : V) (first_keeper : K) (b : Begun shows trace faults G password first_vault first_keeper opened_) (refuses : RefusesAfterViolation es) where
+    abbrev Before : Outside
+    Before = outside_of trace faults G first_vault first_keeper
+
+    founded : (c : Settings) (first : Tree) → IsFounded shows password c first Before After → Answers shows now c first Before After closing es
+    founded c first f =
+        let told = represents_told shows Before.kept Before.calls c first f.stands in
+        let on = goes_on_onward (calls_of trace opened_) (calls_of trace left) (trace vault) p.goes_on z.goes_on in
+        let is = b.config c told (unforged_before password Before.kept Before.calls (calls_of trace opened_) After.calls c on f.unforged_config) in
+        let is_left : settings_of left.opened.config ≡ c = ap (λ (o : Opened). settings_of o.config) p.opened ∙ is in
+        let at_first : forgeries_of trace faults opened_ ≡ forgeries c Before = b.forgeries ∙ ap (λ (s : Settings). count_told (forged (opened_of s.key) s.block_size) (trace first_vault)) is in
+        let at_last : forgeries c After ≡ forgeries_of trace faults left = sym (ap (λ (s : Settings). count_told (forged (opened_of s.key) s.block_size) (trace vault)) is_left) ∙ z.forgeries in
+        let few : forgeries_of trace faults left ≤ forgeries_of trace faults opened_ = omega (arith, at_first, at_last, f.unforged) in
+        let stands = b.stands first (subst (λ x. Represents shows Before.kept Before.calls x first) (sym is) f.stands) in
+        let t : PassedTrees shows trace faults G now opened_ left first es = p.passes first stands few in
+        let point = latest_kept now first es t.trees t.session in
+        record {
+          trees = t.trees;
+          replies = t.session;
+          kept = kept_after c is_left first t.trees point (violated es) refl t.left;
+          no_false_alarm = λ honest. calm es refuses (t.alarm (let l = z.lies in let g = b.lies in omega (arith, l, g, honest)));
+          done = done_after c is_left first t.trees point (violated es) refl t.left;
+        }
+
+    refusal_after : violated es ≡ true → IsKeptMarked records After.kept ⊎ RoseBy (all_state_faults es + 1) Before.keeper_faults After.keeper_faults
+    refusal_after v =
+        let l = z.left (inl (p.flag ∙ v)) in
+        elim (p.marked v) [
+          | inl m ↦ inl (subst (λ k. IsKeptMarked records (G.kept k)) (sym l.2) m)
+          | inr r ↦ inr (let k = ap G.faults l.2 in let g = b.keeper_grows in omega (arith, r, k, g))
+        ]
+
+    kept_file : (file : List ℕ) → is_some Before.calls ≡ true → KeptConfigures records Before.kept Before.calls file → KeptConfigures records After.kept After.calls file
+    kept_file file told k = config_after file (violated es) p.flag (p.configures (file ∷ []) file (b.configures file told k))
+
+    pub session_run : IsSessionRun shows now password Before After left.core.violated closing es
+    session_run = record {
+      attached = (opened_.opened, kept_of G opened_, calls_of trace opened_, b.attached, goes_on_onward (calls_of trace opened_) (calls_of trace left) (trace vault) p.goes_on z.goes_on);
+      refuses = refuses;
+      violation = p.flag;
+      closed = λ v. (z.left (inl (p.flag ∙ v))).0;
+      refusal = refusal_after;
+      directory_faults_happened = directory_rose closing (all_directory_faults es) _ _ _ _ b.vault_grows p.vault_cause z.vault_grows z.vault_cause;
+      state_faults_happened = state_rose closing (all_state_faults es) _ _ _ _ b.keeper_grows p.keeper_cause z.keeper_grows z.keeper_cause;
+      emptied = λ v. z.emptied (p.flag ∙ v);
+      configures = kept_file;
+      opens = λ other c told o. (o.0, o.1, kept_file o.0 told o.2, o.3);
+      founded = founded;
+    }
+
+-- what answered the lines has the mount; whether a violation stood is what it says at last
+pub whole : {H : Type 0} {V : Type 0} {K : Type 0} (mount : H → Mount V K) (shows : Showing) (trace : V → Option (List Call)) (faults : V → ℕ) (G : KeeperGhosts K) (now : Instant) (password : List ℕ)
+    (vault last_vault : V) (keeper last_keeper : K) (old new : H) (es : List Exchange) (closing : Result Unit SyncError) (stood : Bool)
+    → Begun shows trace faults G password vault keeper (mount old) → IsReady trace faults G (mount new) → Ran (mount_hosting mount shows trace faults G) now old es new
+    → Closing shows trace faults G (mount new) closing last_vault last_keeper → stood ≡ (mount new).core.violated
+    → IsSessionRun shows now password (outside_of trace faults G vault keeper) (outside_of trace faults G last_vault last_keeper) stood closing es
+whole mount shows trace faults G now password vault last_vault keeper last_keeper old new es closing stood b ready ran z is =
+    subst (λ s. IsSessionRun shows now password (outside_of trace faults G vault keeper) (outside_of trace faults G last_vault last_keeper) s closing es) (sym is)
+    (session_run shows trace faults G now es (mount old) (mount new) closing last_vault last_keeper ready (passed mount shows trace faults G now old new es b.fresh ran) z
+    password vault keeper b (refusing mount shows trace faults G now old new es b.fresh ran))

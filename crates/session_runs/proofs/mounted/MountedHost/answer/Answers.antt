@@ -1,0 +1,40 @@
+use Rattle.std.proofs.Common.{subst}
+use Rattle.answers.specs.Sessions.{is_violation}
+use Rattle.integrity_store.specs.Standing.{records}
+use Rattle.mount_core.specs.Standing.{Left}
+use Rattle.mount.specs.Tower.{tower_meanings, tower_holdings, tower_durables}
+use Rattle.session_runs.proofs.Synced.{same_synced}
+use Rattle.session_runs.proofs.mounted.MountedHost.answer.Goals as goal
+
+pub returns-clause-answered : goal.returns-clause-answered
+returns-clause-answered g c =
+    let e = c.answer.ensures in
+    let trace = g.V.Vault.trace in
+    record {
+      opened = e.opened;
+      refused = e.refused;
+      served = e.served;
+      violated = e.violated;
+      unread = tt;
+      stands = λ kept present f stands few.
+          let a = e.stands kept present f stands few in
+          record {
+            next = a.next;
+            follows = a.follows;
+            left = subst (λ b. Left g.P.Commands.shows (tower_meanings trace g.V.Vault.faults) (tower_holdings trace) (tower_durables trace) records g.K.Keeper c.answer.new.self.core kept present a.next (is_violation c.answer.result) b)
+                (same_synced c.args.command.now c.answer.result) a.left;
+          };
+      stays = e.stays;
+      configures = e.configures;
+      goes_on = e.goes_on;
+      forgeries = e.forgeries;
+      lies = e.lies;
+      alarm = e.alarm;
+      built = e.built;
+      found = e.found;
+      vault_cause = e.vault_cause;
+      keeper_cause = e.keeper_cause;
+      marked = e.marked;
+      spent = e.spent;
+      variant = e.variant;
+    }

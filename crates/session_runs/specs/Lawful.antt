@@ -1,0 +1,288 @@
+-- A mount answers by the laws.
+use Rattle.std.proofs.Common.{◌≡◌, ◌≢◌, ◌||◌, ◌&&◌, ℕ, Bool, true, false, List, refl, sym, ap, subst, ◌∙◌, inl, inr, arith}
+use Rattle.std.specs.Prelude.{Ok, Err, IfOk, IfErr}
+use Rattle.std.specs.declared.option.Option.{Option}
+use Rattle.block_id.specs.declared.fail.Why.{Why}
+use Rattle.fs_model.specs.declared.command.Command.{Command}
+use Rattle.fs_model.specs.declared.error.FsError.{FsError}
+use Rattle.fs_model.specs.declared.reply.Reply.{Reply}
+use Rattle.fs_model.specs.declared.reply.Reply.TheVariants.{Done, Rows, Info, Target, Content, Error}
+use Rattle.fs_model.specs.Instant.{Instant}
+use Rattle.fs_model.specs.Tree.{Tree}
+use Rattle.outside.specs.Going.{goes_on_same}
+use Rattle.outside.specs.Trace.{Call}
+use Rattle.outside.specs.declared.keeper.Keeper.{Ghosts as KeeperGhosts}
+use Rattle.answers.specs.declared.answer.Answer.{Answer}
+use Rattle.answers.specs.declared.answer.Answer.TheVariants.{Reply as Replied, Memory, Spent, FaultDirectory, FaultState, Violation, Refused}
+use Rattle.answers.specs.Hosts.{LawfulHost, IsLong}
+use Rattle.answers.specs.Sessions.{Asked, FollowsAsked, is_violation, is_refused, is_sync, is_synced, directory_faults, state_faults}
+use Rattle.answers.proofs.Looked.{long_stays}
+use Rattle.store_api.specs.Holdings.{Holdings, Stays}
+use Rattle.integrity_store.specs.Standing.{records}
+use Rattle.mount_core.specs.Answers.{is_done_answer, is_structure, OnFound, OnReply, OnSpent}
+use Rattle.mount_core.specs.Configuring.{ConfigAnswered}
+use Rattle.mount_core.specs.Performing.{Showing, IsReplyTo}
+use Rattle.mount_core.specs.Standing.{Left}
+use Rattle.mount.specs.declared.mount.Mount.{Mount}
+use Rattle.mount.specs.Tower.{tower_meanings, tower_holdings, tower_durables}
+use Rattle.session_runs.specs.Answering.{store_of, IsUnread, MountAnswers, mount_hosting}
+
+true_is_false : true ≡ false → ⊥
+true_is_false e = cc
+
+-- an answer that says nothing: of what was asked only that nothing was done
+abbrev IsNo : Answer → Type 0
+IsNo Memory = Unit {0}
+IsNo Refused = Unit {0}
+IsNo (Replied (Error error)) = Unit {0}
+IsNo _ = ⊥
+
+abbrev IsNotRefused : Answer → Type 0
+IsNotRefused Refused = ⊥
+IsNotRefused _ = Unit {0}
+
+unrefused : (answer : Answer) → answer ≢ Refused → is_refused answer ≡ false
+unrefused (Replied reply) h = refl
+unrefused Memory h = refl
+unrefused Spent h = refl
+unrefused FaultDirectory h = refl
+unrefused FaultState h = refl
+unrefused (Violation why) h = refl
+unrefused Refused h = absurd (h refl)
+
+memory_not_refused : ◌≡◌ {A = Answer} Memory Refused → ⊥
+memory_not_refused e = subst IsNotRefused e tt
+
+reply_not_refused : (reply : Reply) → ◌≡◌ {A = Answer} (Replied reply) Refused → ⊥
+reply_not_refused reply e = subst IsNotRefused e tt
+
+stays_same : {S : Type 0} (H : Holdings S) (s : S) → Stays H s s
+stays_same H s = record { ids = λ id. refl; content = λ t id. refl; told = refl; used = refl; spent = λ id. refl; payload = refl }
+
+and_false : (b : Bool) → (b && false) ≡ false
+and_false true = refl
+and_false false = refl
+
+memory_not_synced : (asked : Asked) → is_synced asked Memory ≡ false
+memory_not_synced (Ok command) = and_false (is_sync command)
+memory_not_synced (Err error) = refl
+
+long_not_synced : (asked : Asked) (reply : Reply) → IsLong reply → is_synced asked (Replied reply) ≡ false
+long_not_synced (Err error) reply h = refl
+long_not_synced (Ok command) (Rows rows) h = and_false (is_sync command)
+long_not_synced (Ok command) (Info attr size) h = and_false (is_sync command)
+long_not_synced (Ok command) (Target target) h = and_false (is_sync command)
+long_not_synced (Ok command) (Content bytes) h = and_false (is_sync command)
+long_not_synced (Ok command) Done h = absurd h
+long_not_synced (Ok command) (Error error) h = absurd h
+
+long_not_done : (reply : Reply) → IsLong reply → is_done_answer (Replied reply) ≡ false
+long_not_done (Rows rows) h = refl
+long_not_done (Info attr size) h = refl
+long_not_done (Target target) h = refl
+long_not_done (Content bytes) h = refl
+long_not_done Done h = absurd h
+long_not_done (Error error) h = absurd h
+
+if_ok : (asked : Asked) (P : Command → Type 0) → ((command : Command) → P command) → IfOk asked P
+if_ok (Ok command) P h = h command
+if_ok (Err error) P h = tt
+
+-- ---- nothing was done
+
+no_violation : (answer : Answer) → IsNo answer → is_violation answer ≡ false
+no_violation Memory h = refl
+no_violation Refused h = refl
+no_violation (Replied reply) h = refl
+no_violation Spent h = absurd h
+no_violation FaultDirectory h = absurd h
+no_violation FaultState h = absurd h
+no_violation (Violation why) h = absurd h
+
+no_structure : (answer : Answer) → IsNo answer → is_structure answer ≡ false
+no_structure Memory h = refl
+no_structure Refused h = refl
+no_structure (Replied reply) h = refl
+no_structure Spent h = absurd h
+no_structure FaultDirectory h = absurd h
+no_structure FaultState h = absurd h
+no_structure (Violation why) h = absurd h
+
+no_directory : (answer : Answer) → IsNo answer → directory_faults answer ≡ 0
+no_directory Memory h = refl
+no_directory Refused h = refl
+no_directory (Replied reply) h = refl
+no_directory Spent h = absurd h
+no_directory FaultDirectory h = absurd h
+no_directory FaultState h = absurd h
+no_directory (Violation why) h = absurd h
+
+no_state : (answer : Answer) → IsNo answer → state_faults answer ≡ 0
+no_state Memory h = refl
+no_state Refused h = refl
+no_state (Replied reply) h = refl
+no_state Spent h = absurd h
+no_state FaultDirectory h = absurd h
+no_state FaultState h = absurd h
+no_state (Violation why) h = absurd h
+
+no_found : (answer : Answer) (P : Why → Type 0) → IsNo answer → OnFound answer P
+no_found Memory P h = tt
+no_found Refused P h = tt
+no_found (Replied reply) P h = tt
+no_found Spent P h = absurd h
+no_found FaultDirectory P h = absurd h
+no_found FaultState P h = absurd h
+no_found (Violation why) P h = absurd h
+
+no_spent : (answer : Answer) (P : Type 0) → IsNo answer → OnSpent answer P
+no_spent Memory P h = tt
+no_spent Refused P h = tt
+no_spent (Replied reply) P h = tt
+no_spent Spent P h = absurd h
+no_spent FaultDirectory P h = absurd h
+no_spent FaultState P h = absurd h
+no_spent (Violation why) P h = absurd h
+
+no_reply : (answer : Answer) (command : Command) → IsNo answer → OnReply answer (IsReplyTo command)
+no_reply Memory command h = tt
+no_reply Refused command h = tt
+no_reply (Replied (Error error)) command h = tt
+no_reply (Replied Done) command h = absurd h
+no_reply (Replied (Rows rows)) command h = absurd h
+no_reply (Replied (Info attr size)) command h = absurd h
+no_reply (Replied (Target target)) command h = absurd h
+no_reply (Replied (Content bytes)) command h = absurd h
+no_reply Spent command h = absurd h
+no_reply FaultDirectory command h = absurd h
+no_reply FaultState command h = absurd h
+no_reply (Violation why) command h = absurd h
+
+no_sync : (asked : Asked) (answer : Answer) → IsNo answer → is_synced asked answer ≡ false
+no_sync (Err error) answer h = refl
+no_sync (Ok command) Memory h = and_false (is_sync command)
+no_sync (Ok command) Refused h = and_false (is_sync command)
+no_sync (Ok command) (Replied (Error error)) h = and_false (is_sync command)
+no_sync (Ok command) (Replied Done) h = absurd h
+no_sync (Ok command) (Replied (Rows rows)) h = absurd h
+no_sync (Ok command) (Replied (Info attr size)) h = absurd h
+no_sync (Ok command) (Replied (Target target)) h = absurd h
+no_sync (Ok command) (Replied (Content bytes)) h = absurd h
+no_sync (Ok command) Spent h = absurd h
+no_sync (Ok command) FaultDirectory h = absurd h
+no_sync (Ok command) FaultState h = absurd h
+no_sync (Ok command) (Violation why) h = absurd h
+
+module _ {V : Type 0} {K : Type 0} (shows : Showing) (trace : V → Option (List Call)) (faults : V → ℕ) (G : KeeperGhosts K) (now : Instant) where
+  idle : (mount : Mount V K) (asked : Asked) (answer : Answer) → IsNo answer → (mount.core.violated ≡ true → answer ≡ Refused) → (mount.core.violated ≡ false → answer ≢ Refused)
+      → IfErr asked (λ error. IsUnread error answer × (mount ≡ mount)) → ((tree : Tree) → mount.core.violated ≡ false → FollowsAsked now tree asked answer tree)
+      → MountAnswers shows trace faults G now mount asked answer mount
+  idle mount asked answer none refuses serves unread follows =
+      let calm = no_violation answer none in
+      let d = no_directory answer none in
+      let s = no_state answer none in
+      record {
+        opened = refl;
+        refused = λ t. (refuses t, refl);
+        served = serves;
+        violated = sym (ap (λ (b : Bool). b || mount.core.violated) calm);
+        unread = unread;
+        stands = λ kept present f stands few. record {
+          next = present;
+          follows = follows present f;
+          left = subst (λ b. Left shows (tower_meanings trace faults) (tower_holdings trace) (tower_durables trace) records G mount.core kept present present b (is_synced asked answer)) (sym calm)
+              (subst (λ b. Left shows (tower_meanings trace faults) (tower_holdings trace) (tower_durables trace) records G mount.core kept present present false b) (sym (no_sync asked answer none)) (inl stands));
+        };
+        stays = λ e. stays_same (tower_holdings trace) (store_of mount);
+        configures = λ may present c. subst (λ b. ConfigAnswered (tower_holdings trace) (tower_durables trace) records G mount.core may present b) (sym calm) c;
+        goes_on = goes_on_same (trace (store_of mount).sealed.vault.vault);
+        forgeries = omega arith;
+        lies = omega arith;
+        alarm = λ kept present f stands few. calm;
+        built = λ kept present f stands few. no_structure answer none;
+        found = no_found answer _ none;
+        vault_cause = omega (arith, d);
+        keeper_cause = omega (arith, s);
+        marked = λ e. absurd (true_is_false (sym e ∙ calm));
+        spent = if_ok asked _ (λ command. no_spent answer _ none);
+        variant = if_ok asked _ (λ command. no_reply answer command none);
+      }
+
+  refused_unread : (mount : Mount V K) (asked : Asked) → IfErr asked (λ error. IsUnread error Refused × (mount ≡ mount))
+  refused_unread mount (Ok command) = tt
+  refused_unread mount (Err error) = (inr (inr refl), refl)
+
+  memory_unread : (mount : Mount V K) (asked : Asked) → IfErr asked (λ error. IsUnread error Memory × (mount ≡ mount))
+  memory_unread mount (Ok command) = tt
+  memory_unread mount (Err error) = (inr (inl refl), refl)
+
+  memory_follows : (tree : Tree) (asked : Asked) → FollowsAsked now tree asked Memory tree
+  memory_follows tree (Ok command) = refl
+  memory_follows tree (Err error) = (inr refl, refl)
+
+  pub refused : (mount : Mount V K) (asked : Asked) → mount.core.violated ≡ true → MountAnswers shows trace faults G now mount asked Refused mount
+  refused mount asked v =
+      idle mount asked Refused tt (λ t. refl) (λ f. absurd (true_is_false (sym v ∙ f))) (refused_unread mount asked) (λ tree f. absurd (true_is_false (sym v ∙ f)))
+
+  pub bad : (mount : Mount V K) (error : FsError) → mount.core.violated ≡ false → MountAnswers shows trace faults G now mount (Err error) (Replied (Error error)) mount
+  bad mount error v =
+      idle mount (Err error) (Replied (Error error)) tt (λ t. absurd (true_is_false (sym t ∙ v))) (λ f. reply_not_refused (Error error)) (inl refl, refl) (λ tree f. (inl refl, refl))
+
+  pub wanting : (mount : Mount V K) (asked : Asked) → mount.core.violated ≡ false → MountAnswers shows trace faults G now mount asked Memory mount
+  wanting mount asked v =
+      idle mount asked Memory tt (λ t. absurd (true_is_false (sym t ∙ v))) (λ f. memory_not_refused) (memory_unread mount asked) (λ tree f. memory_follows tree asked)
+
+  -- ---- a reply whose text finds no memory
+
+  unsaid_unread : (old new : Mount V K) (asked : Asked) (reply : Reply) → IfErr asked (λ error. IsUnread error (Replied reply) × (new ≡ old)) → IfErr asked (λ error. IsUnread error Memory × (new ≡ old))
+  unsaid_unread old new (Ok command) reply w = tt
+  unsaid_unread old new (Err error) reply w = (inr (inl refl), w.1)
+
+  unsaid_follows : (tree next : Tree) (asked : Asked) (reply : Reply) → IsLong reply → FollowsAsked now tree asked (Replied reply) next → FollowsAsked now tree asked Memory next
+  unsaid_follows tree next (Ok command) reply long f = long_stays tree now command reply next f long
+  unsaid_follows tree next (Err error) reply long f = (inr refl, f.1)
+
+  pub unsaid : (old new : Mount V K) (asked : Asked) (reply : Reply) → IsLong reply → MountAnswers shows trace faults G now old asked (Replied reply) new → MountAnswers shows trace faults G now old asked Memory new
+  unsaid old new asked reply long w = record {
+    opened = w.opened;
+    refused = λ t. absurd (reply_not_refused reply (w.refused t).0);
+    served = λ f. memory_not_refused;
+    violated = w.violated;
+    unread = unsaid_unread old new asked reply w.unread;
+    stands = λ kept present f stands few.
+        let a = w.stands kept present f stands few in
+        record {
+          next = a.next;
+          follows = unsaid_follows present a.next asked reply long a.follows;
+          left = subst (λ b. Left shows (tower_meanings trace faults) (tower_holdings trace) (tower_durables trace) records G new.core kept present a.next false b)
+              (long_not_synced asked reply long ∙ sym (memory_not_synced asked)) a.left;
+        };
+    stays = λ e. w.stays (long_not_done reply long);
+    configures = w.configures;
+    goes_on = w.goes_on;
+    forgeries = w.forgeries;
+    lies = w.lies;
+    alarm = λ kept present f stands few. refl;
+    built = λ kept present f stands few. refl;
+    found = tt;
+    vault_cause = w.vault_cause;
+    keeper_cause = w.keeper_cause;
+    marked = λ e. absurd (true_is_false (sym e));
+    spent = if_ok asked _ (λ command. tt);
+    variant = if_ok asked _ (λ command. tt);
+  }
+
+refusal_of : (v : Bool) (answer : Answer) → (v ≡ true → answer ≡ Refused) → (v ≡ false → answer ≢ Refused) → is_refused answer ≡ v
+refusal_of true answer refuses serves = ap is_refused (refuses refl)
+refusal_of false answer refuses serves = unrefused answer (serves refl)
+
+pub mount_lawful : {H : Type 0} {V : Type 0} {K : Type 0} (mount : H → Mount V K) (shows : Showing) (trace : V → Option (List Call)) (faults : V → ℕ) (G : KeeperGhosts K)
+    → LawfulHost (mount_hosting mount shows trace faults G)
+mount_lawful mount shows trace faults G = record {
+  refused = λ h now asked ready e. refused shows trace faults G now (mount h) asked e;
+  bad = λ h now error ready e. bad shows trace faults G now (mount h) error e;
+  wanting = λ h now asked ready e. wanting shows trace faults G now (mount h) asked e;
+  unsaid = λ h k now asked reply w long. unsaid shows trace faults G now (mount h) (mount k) asked reply long w;
+  flag = λ h k now asked answer w. w.violated;
+  refusal = λ h k now asked answer w. refusal_of (mount h).core.violated answer (λ t. (w.refused t).0) w.served;
+}

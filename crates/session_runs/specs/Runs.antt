@@ -1,0 +1,124 @@
+-- What a session did, over what is kept, the calls on the directory and the counts of faults alone.
+use Rattle.std.specs.Prelude.{◌≡◌, ◌⊎◌, ◌≤◌, ℕ, ◌+◌, Bool, true, false, List, [], ◌∷◌, Result, is_some, IsOk, OnOk}
+use Rattle.std.specs.declared.option.Option.{Option}
+use Rattle.std.specs.declared.result.Result.TheVariants.{Ok, Err}
+use Rattle.aes_gcm.specs.Gcm.{opened_of}
+use Rattle.answers.specs.Sessions.{Exchange, IsSession, IsKeptPoint, RefusesAfterViolation, is_violation, is_refused, latest, violated, all_directory_faults, all_state_faults}
+use Rattle.config_file.specs.ConfigOf.{ConfigOf, opened}
+use Rattle.config_file.specs.Settings.{Settings}
+use Rattle.config_file.specs.declared.config.Opened.{Opened}
+use Rattle.fs_model.specs.Instant.{Instant}
+use Rattle.fs_model.specs.Tree.{Tree}
+use Rattle.integrity_store.specs.Held.{forged}
+use Rattle.integrity_store.specs.Standing.{records}
+use Rattle.outside.specs.Causes.{RoseBy}
+use Rattle.outside.specs.Going.{GoesOn}
+use Rattle.outside.specs.Honest.{is_lie, count_told}
+use Rattle.outside.specs.Trace.{Call}
+use Rattle.outside.specs.declared.keeper.Keeper.{Ghosts as KeeperGhosts}
+use Rattle.scrypt_kdf.specs.Cost.{Cost}
+use Rattle.session_saver.specs.Saving.{KeptConfigures}
+use Rattle.session_saver.specs.declared.saver.SyncError.{SyncError}
+use Rattle.session_saver.specs.declared.saver.SyncError.TheVariants.{Memory, FaultDirectory, FaultState}
+use Rattle.mount_core.specs.Performing.{Showing}
+use Rattle.mount_core.specs.Standing.{IsKeptMarked}
+use Rattle.mount.specs.Mounts.{StopsMarked}
+use Rattle.mount.specs.Opening.{Attached}
+use Rattle.mount.specs.Representing.{Represents, HasEmptyList}
+use Rattle.mount.specs.Unforged.{IsUnforgedConfig}
+use Rattle.mount.specs.declared.mount.Halted.{Halted}
+
+-- at one moment: what is kept, the calls on the directory where they are told, the newest first, and both counts of faults
+pub record Outside : Type 0 where
+  pub kept : Option (List ℕ)
+  pub calls : Option (List Call)
+  pub vault_faults : ℕ
+  pub keeper_faults : ℕ
+
+abbrev pub outside_of : {V : Type 0} → {K : Type 0} → (V → Option (List Call)) → (V → ℕ) → KeeperGhosts K → V → K → Outside
+outside_of trace faults G vault keeper = record { kept = G.kept keeper; calls = trace vault; vault_faults = faults vault; keeper_faults = G.faults keeper }
+
+-- under this configuration they stand for this tree
+abbrev pub StandsFor : Showing → Settings → Tree → Outside → Type 0
+StandsFor shows c tree o = Represents shows o.kept o.calls c tree
+
+-- the configuration's file opens to this configuration under the password
+abbrev pub PasswordOpens : List ℕ → Settings → Outside → Type 0
+PasswordOpens password c o = (file : List ℕ) × (cost : Cost) × KeptConfigures records o.kept o.calls file × ConfigOf password file (opened c cost)
+
+-- how many block files were given that this client never put, and how often something else was given than what was last written
+abbrev pub forgeries : Settings → Outside → ℕ
+forgeries c o = count_told (forged (opened_of c.key) c.block_size) o.calls
+
+abbrev pub lies : Outside → ℕ
+lies o = count_told is_lie o.calls
+
+-- what a session must find: under this configuration they stood for the first tree, and nothing that opens was forged since
+pub record IsFounded (shows : Showing) (password : List ℕ) (c : Settings) (first : Tree) (before after : Outside) : Type 0 where
+  pub stands : StandsFor shows c first before
+  pub unforged_config : IsUnforgedConfig password before.kept before.calls after.calls c
+  pub unforged : forgeries c after ≤ forgeries c before
+
+-- no answer is a violation or refused
+abbrev pub AreCalm : List Exchange → Type 0
+AreCalm [] = Unit {0}
+AreCalm (e ∷ es) = (is_violation e.answer ≡ false) × (is_refused e.answer ≡ false) × AreCalm es
+
+-- The answers are the plain tree's, and what is kept stands for the tree of a kept point. The newest exchange and tree stand first.
+pub record Answers (shows : Showing) (now : Instant) (c : Settings) (first : Tree) (before after : Outside) (closing : Result Unit SyncError) (es : List Exchange) : Type 0 where
+  pub trees : List Tree
+  pub replies : IsSession now first es trees
+  -- a marked record is kept only after a violation
+  pub kept : ((violated es ≡ true) × IsKeptMarked records after.kept) ⊎ ((tree : Tree) × IsKeptPoint first es trees tree × StandsFor shows c tree after)
+  pub no_false_alarm : lies after ≤ lies before → AreCalm es
+  -- without a violation, a session that closed leaves its last tree
+  pub done : violated es ≡ false → OnOk closing (StandsFor shows c (latest first trees) after)
+
+-- the faults that closing names
+abbrev pub directory_fault : Result Unit SyncError → ℕ
+directory_fault (Ok _) = 0
+directory_fault (Err Memory) = 0
+directory_fault (Err FaultDirectory) = 1
+directory_fault (Err FaultState) = 0
+
+abbrev pub state_fault : Result Unit SyncError → ℕ
+state_fault (Ok _) = 0
+state_fault (Err Memory) = 0
+state_fault (Err FaultDirectory) = 0
+state_fault (Err FaultState) = 1
+
+-- opening took the record that was kept and the configuration that opened under the password, and the session went on from there
+abbrev pub WasAttached : List ℕ → Outside → Outside → Type 0
+WasAttached password before after = (o : Opened) × (kept : Option (List ℕ)) × (calls : Option (List Call)) × Attached password before.kept kept before.calls calls o × GoesOn calls after.calls
+
+-- A session from its opening to its end, with its exchanges: whatever the directory gave, and for each configuration and first tree that it is founded on.
+pub record IsSessionRun (shows : Showing) (now : Instant) (password : List ℕ) (before after : Outside) (stood : Bool) (closing : Result Unit SyncError) (es : List Exchange) : Type 0 where
+  pub attached : WasAttached password before after
+  pub refuses : RefusesAfterViolation es
+  -- whether a violation stood at the end
+  pub violation : stood ≡ violated es
+  -- after a violation nothing is done to close
+  pub closed : violated es ≡ true → IsOk closing
+  pub refusal : violated es ≡ true → IsKeptMarked records after.kept ⊎ RoseBy (all_state_faults es + 1) before.keeper_faults after.keeper_faults
+  pub directory_faults_happened : RoseBy (all_directory_faults es + directory_fault closing) before.vault_faults after.vault_faults
+  pub state_faults_happened : RoseBy (all_state_faults es + state_fault closing) before.keeper_faults after.keeper_faults
+  pub emptied : violated es ≡ false → OnOk closing (HasEmptyList after.kept)
+  -- the configuration's file stays
+  pub configures : (file : List ℕ) → is_some before.calls ≡ true → KeptConfigures records before.kept before.calls file → KeptConfigures records after.kept after.calls file
+  -- and each password that opened it still does
+  pub opens : (other : List ℕ) (c : Settings) → is_some before.calls ≡ true → PasswordOpens other c before → PasswordOpens other c after
+  pub founded : (c : Settings) (first : Tree) → IsFounded shows password c first before after → Answers shows now c first before after closing es
+
+-- a run of no lines: it leaves what was kept, and a marked record with all that was called
+pub record IsQuiet (shows : Showing) (password : List ℕ) (before after : Outside) : Type 0 where
+  pub stands : (c : Settings) (tree : Tree) → IsFounded shows password c tree before after → StandsFor shows c tree after
+  pub marked : IsKeptMarked records before.kept → (after.kept ≡ before.kept) × (after.calls ≡ before.calls)
+
+-- There are exchanges of such a session, with lines that came so.
+abbrev pub RanSession : Showing → Instant → List ℕ → Outside → Outside → (List Exchange → Type 0) → Bool → Result Unit SyncError → Type 0
+RanSession shows now password before after Came stood closing = (es : List Exchange) × Came es × IsSessionRun shows now password before after stood closing es
+
+-- a marked record isn't opened: the directory isn't called, and it stays kept
+abbrev pub StopsAtMark : {V : Type 0} → {K : Type 0} → {T : Type 0} → (K → Option (List ℕ)) → V → K → Result T (Halted V K) → Type 0
+StopsAtMark kept vault keeper (Ok ended) = ⊥
+StopsAtMark kept vault keeper (Err h) = (h.vault ≡ vault) × (kept h.keeper ≡ kept keeper) × StopsMarked h.error

@@ -1,0 +1,72 @@
+// The beginning of a session, and its end.
+ghost use Rattle.std.specs.Prelude.{◌≡◌, IfOk, IfErr};
+ghost use Rattle.integrity_store.specs.Standing.{records};
+ghost use Rattle.mount_core.specs.Standing.{IsKeptMarked};
+ghost use Rattle.mount.specs.Mounts.{IsReady, Unopened};
+ghost use Rattle.session_runs.specs.Runs.{outside_of, IsQuiet, StopsAtMark};
+ghost use Rattle.session_runs.specs.Turns.{Begun, Closing};
+
+use crate::mounted::Mounted;
+use mount::{Halted, Mount};
+use mount_core::Commands;
+use outside::{Keeper, Vault};
+use session_lines::End;
+use session_saver::SyncError;
+use std::alloc::Global;
+use std::marker::PhantomData;
+
+/// How a session ended that was opened, with the block directory and the local record that it was given.
+pub struct SessionEnd<V, K> {
+    /// How its lines ended.
+    pub end: End,
+    /// Whether there was a violation.
+    pub violated: bool,
+    /// How closing ended. After a violation nothing is done to close.
+    pub closing: Result<(), SyncError>,
+    pub vault: V,
+    pub keeper: K,
+}
+
+/// Opens the file system under the password.
+pub(crate) fn open<P: Commands, V: Vault, K: Keeper>(
+    alloc: Global,
+    vault: V,
+    keeper: K,
+    password: &[u8],
+) -> Result<Mounted<P, V, K>, Halted<V, K>>
+    ensures begun { IfOk result (λ m. Begun P.shows V.trace V.faults K.Keeper password.now vault keeper m.mount) }
+    ensures unopened { IfErr result (λ h. Unopened P.shows V.trace V.faults K.Keeper password.now vault keeper h) }
+    ensures marked { IsKeptMarked records (K.kept keeper) → StopsAtMark K.kept vault keeper result }
+    ensures quiet { IfErr result (λ h. IsQuiet P.shows password.now (outside_of V.trace V.faults K.Keeper vault keeper) (outside_of V.trace V.faults K.Keeper h.vault h.keeper)) }
+{
+    match Mount::<V, K>::attach::<P>(alloc, vault, keeper, password) {
+        Ok(mount) => Ok(Mounted {
+            mount,
+            commands: PhantomData,
+        }),
+        Err(halted) => Err(halted),
+    }
+}
+
+/// Closes the file system, after lines that ended so.
+pub(crate) fn close<P: Commands, V: Vault, K: Keeper>(
+    alloc: Global,
+    mounted: Mounted<P, V, K>,
+    end: End,
+) -> SessionEnd<V, K>
+    requires ready { IsReady V.trace V.faults K.Keeper mounted.mount }
+    ensures end { result.end ≡ end }
+    ensures violated { result.violated ≡ mounted.mount.core.violated }
+    ensures closed { Closing P.shows V.trace V.faults K.Keeper mounted.mount result.closing result.vault result.keeper }
+{
+    let Mounted { mount, commands: _ } = mounted;
+    let violated = mount.violated();
+    let (closing, vault, keeper) = mount.close::<P>(alloc);
+    SessionEnd {
+        end,
+        violated,
+        closing,
+        vault,
+        keeper,
+    }
+}
