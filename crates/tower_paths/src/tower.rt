@@ -1,0 +1,136 @@
+// A file system in sealed blocks of 128 bytes over a directory in memory, and lines on it.
+ghost use Rattle.std.specs.Prelude.{◌≡◌, [], IfOk};
+ghost use Rattle.sealed_store.specs.Stores.{IsIntact, block_size_of, cipher_of};
+ghost use Rattle.store_api.specs.Holdings.{IsFew};
+
+use aes_gcm::Aes256Gcm;
+use blob_store::BlobStore;
+use block_id::BlockId;
+use fs_model::Moment;
+use integrity_store::IntegrityStore;
+use local_state::decode;
+use outside::MemoryVault;
+use rand_pcg::Pcg32;
+use redo_vault::RedoVault;
+use script_text::{parse_line, print_reply};
+use seal_api::Sealer;
+use sealed_store::SealedStore;
+use std::alloc::Global;
+use std::test::Fail;
+use store_api::{Blocks, BlocksMut, Tx};
+use tree_commands::{empty_root, perform};
+
+/// Sealed blocks over a directory in memory.
+pub type Store = IntegrityStore<MemoryVault, Aes256Gcm>;
+
+// The record of client 1 that knows no block.
+fn empty_record(alloc: Global) -> Result<Vec<u8>, Fail> {
+    let mut out = Vec::new(alloc);
+    out.extend_from_slice(b"cryfs.localstate;1\0\0")?;
+    out.extend_from_slice(&[0x11; 80])?;
+    out.extend_from_slice(&[1, 0, 0, 0])?;
+    out.extend_from_slice(&[0; 16])?;
+    Ok(out)
+}
+
+// Blocks of 128 bytes over an empty directory, with nothing unwritten.
+fn sealed_over(alloc: Global) -> SealedStore<MemoryVault, Aes256Gcm>
+    ensures intact { IsIntact (block_size_of result) (⟦<Aes256Gcm as Sealer>⟧.iv_size (cipher_of result)) }
+    ensures size { block_size_of result ≡ 128 }
+    ensures list { result.vault.list ≡ [] }
+{
+    let redo = RedoVault::new(MemoryVault::new(alloc), Vec::new(alloc));
+    SealedStore::new(redo, Aes256Gcm, [3; 32], 128)
+}
+
+/// A store that knows no block.
+pub fn empty_store(alloc: Global) -> Result<Store, Fail>
+    ensures intact { IfOk result (λ store. ⟦<Store as Blocks>⟧.meanings.intact store) }
+    ensures few { IfOk result (λ store. IsFew (⟦<Store as Blocks>⟧.holdings.used store)) }
+{
+    let record = empty_record(alloc)?;
+    let Ok((state, list)) = decode(alloc, &record) else {
+        return Err("no record".into());
+    };
+    if !list.is_empty() {
+        return Err("a list".into());
+    }
+    Ok(IntegrityStore::new(sealed_over(alloc), state))
+}
+
+// Puts the root of the empty tree.
+fn make_root<S: Blocks>(alloc: Global, tx: &mut Tx<S>, root: &BlockId) -> Result<(), Fail>
+    requires { ⟦<Tx<S> as Blocks>⟧.meanings.intact tx.old }
+    ensures { ⟦<Tx<S> as Blocks>⟧.meanings.intact tx.new }
+{
+    if tx.is_used(root) || root.cmp(&BlockId([0; 16])).is_eq() {
+        return Err("no id for a root".into());
+    }
+    if tx.payload() != 50 {
+        return Err("another length".into());
+    }
+    tx.put(root, empty_root(alloc, 50)?)?;
+    Ok(())
+}
+
+// Performs a line and applies its changes.
+fn answer<S: BlocksMut>(
+    alloc: Global,
+    blobs: &mut BlobStore<S>,
+    root: &BlockId,
+    line: &[u8],
+    chance: &mut Pcg32,
+) -> Result<Vec<u8>, Fail>
+    requires { ⟦<Tx<S> as Blocks>⟧.meanings.intact blobs.old.tx }
+    ensures { ⟦<Tx<S> as Blocks>⟧.meanings.intact blobs.new.tx }
+{
+    let now = Moment::new(100, 5).ok_or("nanos")?;
+    let Ok(command) = parse_line(alloc, line) else {
+        return Err("a line of the language".into());
+    };
+    let reply = match perform(alloc, blobs, root, now, &command, chance) {
+        Ok(reply) => reply,
+        Err(_) => return Err("a command that failed".into()),
+    };
+    match blobs.tx.commit(alloc, chance) {
+        Ok(()) => {}
+        Err(_) => return Err("changes that weren't applied".into()),
+    }
+    let mut text = Vec::new(alloc);
+    print_reply(&reply, &mut text)?;
+    Ok(text)
+}
+
+// The texts of the replies to these lines, one after another.
+fn answer_all<S: BlocksMut>(
+    alloc: Global,
+    blobs: &mut BlobStore<S>,
+    root: &BlockId,
+    lines: &[&str],
+) -> Result<Vec<u8>, Fail>
+    requires { ⟦<Tx<S> as Blocks>⟧.meanings.intact blobs.old.tx }
+{
+    let mut chance = Pcg32::new(1, 2);
+    make_root(alloc, &mut blobs.tx, root)?;
+    let mut texts = Vec::new(alloc);
+    for line in lines {
+        let text = answer(alloc, blobs, root, line.as_bytes(), &mut chance)?;
+        texts.extend_from_slice(&text)?;
+    }
+    Ok(texts)
+}
+
+/// The texts of the replies to these lines on a new file system over the store, one after another.
+pub fn answers<S: BlocksMut + Drop>(
+    alloc: Global,
+    store: S,
+    lines: &[&str],
+) -> Result<Vec<u8>, Fail>
+    requires intact { S.Blocks.meanings.intact store }
+    requires few { IsFew (S.Blocks.holdings.used store) }
+{
+    let mut blobs = BlobStore::new(Tx::new(alloc, store));
+    let texts = answer_all(alloc, &mut blobs, &BlockId([7; 16]), lines);
+    drop(blobs.into_tx().into_store());
+    texts
+}

@@ -1,0 +1,47 @@
+// Commands on the tree of files that blocks show, in the terms of blocks alone.
+ghost use Rattle.std.specs.Prelude.{◌≡◌, ℕ, List, IfOk, cond, length};
+ghost use Rattle.std.specs.declared.option.Option.TheVariants.{None, Some};
+ghost use Rattle.data_nodes.specs.Layout.{IsPayloadLen};
+ghost use Rattle.fs_model.specs.Fitting.{IsFitting};
+ghost use Rattle.fs_model.specs.Tree.{empty_tree};
+ghost use Rattle.outcome.specs.Outcome.{Outcome};
+ghost use Rattle.store_api.specs.Content.{Content, same_id};
+ghost use Rattle.tree_commands.specs.Performing.{Shown, Steps, IsReplyTo};
+ghost use Rattle.tree_commands.specs.Showing.{ShowsFiles};
+
+use blob_store::BlobStore;
+use block_id::{BlockId, Fail, Memory};
+use data_nodes::{Node, write_node};
+use fs_model::{Command, Moment, Reply};
+use rand_core::Rng;
+use std::alloc::Global;
+use store_api::{Blocks, Tx};
+
+/// One command on the tree of files that the blocks show from the root on.
+pub fn perform<S: Blocks, R: Rng>(
+    alloc: Global,
+    blobs: &mut BlobStore<S>,
+    root: &BlockId,
+    now: Moment,
+    command: &Command,
+    chance: &mut R,
+) -> Result<Reply, Fail>
+    requires intact { ⟦<Tx<S> as Blocks>⟧.meanings.intact blobs.old.tx }
+    requires fits { IsFitting command.now }
+    ensures outcome { Outcome ⟦<Tx<S> as Blocks>⟧.meanings (Shown (ShowsFiles (S.holdings.payload blobs.old.tx.store) root.now.0) (⟦<Tx<S> as Blocks>⟧.holdings.content blobs.old.tx))
+        blobs.old.tx blobs.new.tx result (λ n reply. Steps (ShowsFiles (S.holdings.payload blobs.old.tx.store) root.now.0) now n.tree command.now (⟦<Tx<S> as Blocks>⟧.holdings.content blobs.new.tx) reply) }
+    ensures variant { IfOk result (λ reply. IsReplyTo command.now reply) }
+{
+    path_layer::perform(alloc, blobs, root, now, command, chance)
+}
+
+/// The payload of a root's block that shows the empty tree, where there is no other block.
+pub fn empty_root(alloc: Global, payload: usize) -> Result<Vec<u8>, Memory>
+    requires { IsPayloadLen payload }
+    ensures sized { IfOk result (λ bytes. length bytes.items ≡ payload) }
+    ensures shows { IfOk result (λ bytes. (root : List ℕ) (content : Content) → length root ≡ 16
+        → ((id : List ℕ) → content id ≡ cond (same_id id root) (Some bytes.items) None) → ShowsFiles payload root content empty_tree) }
+{
+    let blob = path_layer::empty_root(alloc)?;
+    write_node(alloc, &Node::Leaf(blob), payload)
+}
