@@ -1,4 +1,4 @@
--- IsListed whose keys rise: where a key is found; and one more turn of a loop over entries.
+-- Lists whose keys rise: where a key is found; and one more turn of a loop over entries.
 use Rattle.std.proofs.Common.{◌≡◌, ℕ, suc, ◌+◌, ◌<◌, List, [], ◌∷◌, Bool, true, false, cond, length, drop, drop-cons, get_or, refl, sym, ◌∙◌, ap, subst, add-one}
 use Rattle.std.specs.Prelude.{T, Some, None, ◌&&◌, map}
 use Rattle.std.specs.List.{AllByRecursion}

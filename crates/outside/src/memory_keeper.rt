@@ -1,17 +1,18 @@
 // A local record in memory.
-ghost use Rattle.std.specs.Prelude.{◌≡◌, ◌⊎◌, ◌≤◌, List, ℕ, Bool, length, is_some, is_ok, is_none, IfOk, OnOk, OnErr, vec_capacity, IfSome, IfNone, option_map};
+ghost use Rattle.std.specs.Prelude.{◌≡◌, ◌⊎◌, ◌≤◌, List, ℕ, Bool, length, is_some, is_ok, is_none, IfOk, OnOk, OnErr, vec_capacity, IfSome, IfNone, IsErrOf, false, true, [], option_map};
 ghost use Rattle.std.specs.declared.option.Option.{Option};
 ghost use Rattle.std.specs.declared.option.Option.TheVariants.{None, Some};
 ghost use Rattle.outside.specs.Causes.{HasCause, RoseBy};
 ghost use Rattle.outside.specs.MemoryStreams.{one_more};
-ghost use Rattle.outside.specs.Keepers.{failure_at, failure_of, kept_by, faults_by};
+ghost use Rattle.outside.specs.Keepers.{failure_at, failure_from, failure_of, load_fails, after_load, after_failed_load, kept_by, faults_by};
 ghost use Rattle.outside.specs.View.{bytes_of};
 
+use crate::memory_vault::contains;
 use crate::{Failed, GetFail, Keeper, Memory};
 use std::alloc::Global;
 use std::marker::Model;
 
-/// A record in memory, some of whose saves fail.
+/// A record in memory. Loads and saves can be made to fail.
 #[derive(Drop)]
 pub struct MemoryKeeper {
     is_kept: bool,
@@ -19,6 +20,10 @@ pub struct MemoryKeeper {
     faults: u64,
     saves: u64,
     failing: Vec<(u64, bool)>,
+    failing_loads: Vec<u64>,
+    loads: u64,
+    failing_from: Option<(u64, bool)>,
+    saves_since: u64,
 }
 
 impl Model for MemoryKeeper {
@@ -34,6 +39,10 @@ impl Model for MemoryKeeper {
       faults = k.faults;
       saves = k.saves;
       failing = k.failing.items;
+      failing_loads = k.failing_loads.items;
+      loads = k.loads;
+      failing_from = k.failing_from;
+      saves_since = k.saves_since;
     } };
 }
 
@@ -47,6 +56,16 @@ fn failure(failing: &[(u64, bool)], number: u64) -> Option<bool>
         }
     }
     None
+}
+
+// The same of saves of which each from one on fails.
+fn later_failure(first: Option<(u64, bool)>, number: u64) -> Option<bool>
+    ensures { result ≡ failure_from first number }
+{
+    match first {
+        Some((first, keeps)) if first <= number => Some(keeps),
+        _ => None,
+    }
 }
 
 // Keeps these bytes, where there is room for them.
@@ -63,11 +82,13 @@ fn keep(kept: &mut Vec<u8>, bytes: &[u8])
 }
 
 impl MemoryKeeper {
-    /// What is kept, the numbers of saves that fail, one_more from 1, and whether such a save keeps the new record.
+    /// What is kept, the numbers of saves that fail, counted from 1, and whether such a save keeps the new record.
     pub fn new(alloc: Global, kept: Option<Vec<u8>>, fails: Vec<(u64, bool)>) -> MemoryKeeper
         ensures kept { result.kept ≡ bytes_of kept }
         ensures counts { (result.faults ≡ 0) × (result.saves ≡ 0) }
         ensures failing { result.failing ≡ fails.items }
+        ensures settings { (result.failing_loads ≡ []) × (result.failing_from ≡ None) }
+        ensures counts_since { (result.loads ≡ 0) × (result.saves_since ≡ 0) }
     {
         let is_kept = kept.is_some();
         MemoryKeeper {
@@ -76,6 +97,37 @@ impl MemoryKeeper {
             faults: 0,
             saves: 0,
             failing: fails,
+            failing_loads: Vec::new(alloc),
+            loads: 0,
+            failing_from: None,
+            saves_since: 0,
+        }
+    }
+
+    /// Makes the loads of these numbers fail, counted from 1 from here on. No save is counted.
+    pub fn fail_loads(&mut self, list: Vec<u64>)
+        ensures { self.new ≡ record self.old { failing_loads = list.items; loads = 0 } }
+    {
+        self.failing_loads = list;
+        self.loads = 0;
+    }
+
+    /// Makes every save from the n-th one on fail, counted from 1 from here on, and keep its record where `takes`. What
+    /// was listed for a save counts before. No load is counted.
+    pub fn fail_from(&mut self, n: u64, takes: bool)
+        ensures { self.new ≡ record self.old { failing_from = Some (n, takes); saves_since = 0 } }
+    {
+        self.failing_from = Some((n, takes));
+        self.saves_since = 0;
+    }
+
+    // How the next save fails, if it does.
+    fn next_failure(&self) -> Option<bool>
+        ensures { result ≡ failure_of self.now }
+    {
+        match failure(&self.failing, self.saves.saturating_add(1)) {
+            Some(keeps) => Some(keeps),
+            None => later_failure(self.failing_from, self.saves_since.saturating_add(1)),
         }
     }
 
@@ -104,14 +156,23 @@ impl Keeper for MemoryKeeper {
         ensures room { self.old.room ≤ self.new.room }
         ensures cause { HasCause self.old.faults self.new.faults result }
 
-        ensures same { self.new ≡ self.old }
-        ensures never_fails { OnErr result (result ≡ Err GetFail.Memory) }
+        ensures after { OnOk result (self.new ≡ after_load self.old) }
+        ensures ok_where_not_listed { OnOk result (load_fails self.old ≡ false) }
+        ensures failed_where_listed { IsErrOf result GetFail.Failed → (load_fails self.old ≡ true) × (self.new ≡ after_failed_load self.old) }
+        ensures memory { IsErrOf result GetFail.Memory → (load_fails self.old ≡ false) × (self.new ≡ self.old) }
     {
-        if self.is_kept {
-            Ok(Some(self.bytes.as_slice().to_vec(alloc)?))
-        } else {
-            Ok(None)
+        if contains(&self.failing_loads, self.loads.saturating_add(1)) {
+            self.loads = self.loads.saturating_add(1);
+            self.faults = self.faults.saturating_add(1);
+            return Err(GetFail::Failed);
         }
+        let answer = if self.is_kept {
+            Some(self.bytes.as_slice().to_vec(alloc)?)
+        } else {
+            None
+        };
+        self.loads = self.loads.saturating_add(1);
+        Ok(answer)
     }
 
     fn prepare(&mut self, alloc: Global, len: usize) -> Result<(), Memory>
@@ -122,6 +183,7 @@ impl Keeper for MemoryKeeper {
 
         ensures saves { self.new.saves ≡ self.old.saves }
         ensures failing { self.new.failing ≡ self.old.failing }
+        ensures rest { self.new ≡ record self.old { room = self.new.room } }
     {
         let _ = alloc;
         let more = len.saturating_sub(self.bytes.len());
@@ -143,9 +205,13 @@ impl Keeper for MemoryKeeper {
         ensures faults { self.new.faults ≡ faults_by (failure_of self.old) self.old.faults }
         ensures saves { self.new.saves ≡ one_more self.old.saves }
         ensures failing { self.new.failing ≡ self.old.failing }
+        ensures loads { (self.new.failing_loads ≡ self.old.failing_loads) × (self.new.loads ≡ self.old.loads) }
+        ensures from { (self.new.failing_from ≡ self.old.failing_from) × (self.new.saves_since ≡ one_more self.old.saves_since) }
     {
+        let failure = self.next_failure();
         self.saves = self.saves.saturating_add(1);
-        match failure(&self.failing, self.saves) {
+        self.saves_since = self.saves_since.saturating_add(1);
+        match failure {
             Some(keeps) => {
                 if keeps {
                     keep(&mut self.bytes, bytes);
@@ -180,6 +246,40 @@ mod tests {
         assert_eq!(rt; keeper.save(&[4, 5, 6]).err(), Some(Failed));
         let answer = keeper.load(rt.alloc())?.ok_or("nothing")?;
         assert_eq!(rt; answer.as_slice(), [4, 5, 6].as_slice());
+        Ok(())
+    }
+
+    #[test]
+    fn fails_in_the_listed_loads(rt: HostRuntime) -> Result<(), Fail> {
+        let kept = [1].to_vec(rt.alloc())?;
+        let mut keeper = MemoryKeeper::new(rt.alloc(), Some(kept), Vec::new(rt.alloc()));
+        assert!(rt; keeper.load(rt.alloc())?.is_some());
+        keeper.fail_loads([1, 3].to_vec(rt.alloc())?);
+        for failure in [Some(GetFail::Failed), None, Some(GetFail::Failed), None] {
+            keeper.prepare(rt.alloc(), 1)?;
+            keeper.save(&[2])?;
+            assert_eq!(rt; keeper.load(rt.alloc()).err(), failure);
+        }
+        Ok(())
+    }
+
+    #[test]
+    fn fails_in_all_saves_from_one_on(rt: HostRuntime) -> Result<(), Fail> {
+        let fails = [(2, false)].to_vec(rt.alloc())?;
+        let mut keeper = MemoryKeeper::new(rt.alloc(), None, fails);
+        keeper.prepare(rt.alloc(), 1)?;
+        keeper.fail_from(2, true);
+        keeper.save(&[1])?;
+        for (byte, want) in [(2, [1]), (3, [3]), (4, [4])] {
+            assert!(rt; keeper.load(rt.alloc())?.is_some());
+            keeper.prepare(rt.alloc(), 1)?;
+            assert_eq!(rt; keeper.save(&[byte]).err(), Some(Failed));
+            assert_eq!(rt; keeper.kept().ok_or("nothing")?, want.as_slice());
+        }
+        keeper.fail_from(1, false);
+        keeper.prepare(rt.alloc(), 1)?;
+        assert_eq!(rt; keeper.save(&[5]).err(), Some(Failed));
+        assert_eq!(rt; keeper.kept().ok_or("nothing")?, [4].as_slice());
         Ok(())
     }
 }

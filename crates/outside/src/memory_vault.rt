@@ -48,7 +48,8 @@ impl Model for MemoryVault {
     } };
 }
 
-fn contains(numbers: &[u64], number: u64) -> bool
+/// Whether the number is one of these.
+pub(crate) fn contains(numbers: &[u64], number: u64) -> bool
     ensures { result ≡ is_listed numbers.now number }
 {
     numbers.contains(&number)
@@ -123,7 +124,7 @@ impl MemoryVault {
         self.changes = 0;
     }
 
-    /// Makes the calls of these numbers fail, one_more from 1 from here on.
+    /// Makes the calls of these numbers fail, counted from 1 from here on.
     pub fn fail_calls(&mut self, list: Vec<u64>)
         ensures set { self.new ≡ record (restarted self.old) { failing = list.items } }
         ensures plain { IsPlain self.old → IsPlain self.new }
@@ -132,7 +133,7 @@ impl MemoryVault {
         self.restart();
     }
 
-    /// Makes every put and removal from the n-th one on fail, one_more from 1 from here on.
+    /// Makes every put and removal from the n-th one on fail, counted from 1 from here on.
     pub fn fail_from(&mut self, n: u64)
         ensures set { self.new ≡ record (restarted self.old) { failing_from = Some n } }
         ensures plain { IsPlain self.old → IsPlain self.new }
@@ -141,7 +142,7 @@ impl MemoryVault {
         self.restart();
     }
 
-    /// Gives these answers, cut at what is asked for, in the gets of these numbers, one_more from 1 from here on.
+    /// Gives these answers, cut at what is asked for, in the gets of these numbers, counted from 1 from here on.
     pub fn replace(&mut self, answers: Vec<(u64, Option<Vec<u8>>)>)
         ensures { self.new ≡ record (restarted self.old) { answers = answers_of answers.items } }
     {
