@@ -36,6 +36,7 @@ pub fn gcm_unseal(
     text: &[u8],
     tag: &[u8; 16],
 ) -> Result<Option<Vec<u8>>, Memory>
+    requires { 0 < length iv.now }
     ensures plain { IfOk result (λ answer. option_map (λ plain. plain.items) answer ≡ opened (aes256 keys.now) iv.now extra.now text.now tag.now) }
     ensures refused { IfOk result (λ answer. IsNone answer ↔ (tag.now ≢ tag_of (aes256 keys.now) iv.now extra.now text.now)) }
 {

@@ -93,6 +93,7 @@ impl GcmKey {
         text: &[u8],
         tag: &[u8; 16],
     ) -> Result<Option<Vec<u8>>, Memory>
+        requires { 0 < length iv.now }
         ensures plain { IfOk result (λ answer. option_map (λ plain. plain.items) answer ≡ opened (aes256 self.now) iv.now extra.now text.now tag.now) }
         ensures refused { IfOk result (λ answer. IsNone answer ↔ (tag.now ≢ tag_of (aes256 self.now) iv.now extra.now text.now)) }
     {
