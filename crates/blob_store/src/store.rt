@@ -83,7 +83,7 @@ impl<S: Blocks> Blobs for BlobStore<S> {
         n: u64,
         chance: &mut R,
     ) -> Result<(), Fail> {
-        data_tree::resize(alloc, &mut self.tx, id, n, chance)
+        tree_ranges::resize(alloc, &mut self.tx, id, n, chance)
     }
 
     ghost lawful = { lawful_by (λ b. b.tx) ⟦<Tx<S> as Blocks>⟧.meanings (lawful_over (λ t. t.store) (λ t. t.overlay) S.meanings S.holdings S.lawful) };

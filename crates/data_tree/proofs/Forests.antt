@@ -84,18 +84,21 @@ inner_is payload B (suc depth) d low node w children below h is deep =
     subst (λ k. Forest (IsTree payload B k) (span payload k) children w below) level (subst (λ cs. Forest (IsTree payload B depth) (span payload depth) cs w below) same h.1.1)
 
 -- so many pieces have no more bytes than they have room for
-forest-length : (T : Id → List ℕ → List Id → Type 0) (size : ℕ) (children : List Id) (w : List ℕ) (ids : List Id) → Forest T size children w ids → length w ≤ length children * size
+pub forest-length : (T : Id → List ℕ → List Id → Type 0) (size : ℕ) (children : List Id) (w : List ℕ) (ids : List Id) → Forest T size children w ids → length w ≤ length children * size
 forest-length T size [] w ids f = omega (arith, ap length f.0)
 forest-length T size (child ∷ children) w ids (some, (own, (rest, (first, (others, all))))) =
     let more : length (drop size w) ≤ length children * size = forest-length T size children (drop size w) rest others in
     omega (arith, more, length-drop size w)
 
-pub holds-length : (payload : ℕ) (B : Content) (depth : ℕ) (node : NodeText) (text w : List ℕ) (below : List Id) → Holds payload B depth node w below → IsNode text node → length text ≡ payload → length w ≤ span payload depth
-holds-length payload B zero node text w below h is sized = omega (arith, subst (λ n. FitsPayload n (leaf w)) sized (subst (λ x. FitsPayload (length text) x) h.0 is.fits))
-holds-length payload B (suc depth) node text w below (children, (same, forest)) is sized =
-    let fits : FitsPayload payload (inner (suc depth) children) = subst (λ n. FitsPayload n (inner (suc depth) children)) sized (subst (λ x. FitsPayload (length text) x) same is.fits) in
+pub holds-fits : (payload : ℕ) (B : Content) (depth : ℕ) (node : NodeText) (w : List ℕ) (below : List Id) → Holds payload B depth node w below → FitsPayload payload node → length w ≤ span payload depth
+holds-fits payload B zero node w below h fits = subst (FitsPayload payload) h.0 fits
+holds-fits payload B (suc depth) node w below (children, (same, forest)) fits =
+    let listed : FitsPayload payload (inner (suc depth) children) = subst (FitsPayload payload) same fits in
     let most : length w ≤ length children * span payload depth = forest-length (IsTree payload B depth) (span payload depth) children w below forest in
-    omega (arith, fits.2, most, mul-le-mul_left (span payload depth) fits.2)
+    omega (arith, listed.2, most, mul-le-mul_left (span payload depth) listed.2)
+
+pub holds-length : (payload : ℕ) (B : Content) (depth : ℕ) (node : NodeText) (text w : List ℕ) (below : List Id) → Holds payload B depth node w below → IsNode text node → length text ≡ payload → length w ≤ span payload depth
+holds-length payload B depth node text w below h is sized = holds-fits payload B depth node w below h (subst (λ n. FitsPayload n node) sized is.fits)
 
 pub tree-length : {S : Type 0} {H : Holdings S} {a : S} {depth : ℕ} {id : Id} → (n : HasTree H a depth id) → length n.bytes ≤ span (H.payload a) depth
 tree-length {H = H} {a = a} {depth = depth} n = holds-length (H.payload a) (H.content a) depth n.tree.node n.tree.text n.bytes n.tree.below n.tree.holds n.tree.is n.tree.sized

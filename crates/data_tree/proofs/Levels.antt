@@ -17,7 +17,7 @@ pub room_all : (payload depth room : ℕ) → 0 < depth → 50 ≤ payload → r
 room_all payload zero room deep least is = absurd (omega arith)
 room_all payload (suc depth) room deep least is = ap (λ r. fan_out payload * r) (ap (λ r. r / fan_out payload) is ∙ divided (fan_out payload) (span payload depth) (omega arith)) ∙ sym is
 
-span-grows : (payload low more : ℕ) → 50 ≤ payload → span payload low ≤ span payload (low + more)
+pub span-grows : (payload low more : ℕ) → 50 ≤ payload → span payload low ≤ span payload (low + more)
 span-grows payload low zero least = let e : low + zero ≡ low = omega arith in subst (λ k. span payload low ≤ span payload k) (sym e) (omega arith)
 span-grows payload low (suc more) least =
     let e : low + suc more ≡ suc (low + more) = omega arith in

@@ -1,16 +1,18 @@
 -- One block more in the changes over a store that stays.
-use Rattle.std.proofs.Common.{◌≡◌, ℕ, ◌+◌, ◌≤◌, Bool, true, false, cond, List, sym, ◌∙◌, ap, subst, arith}
-use Rattle.std.specs.Prelude.{Option, Some, is_some, Result, Ok, Err, IfOk, OnOk, OnErr}
+use Rattle.std.proofs.Common.{◌≡◌, ℕ, ◌+◌, ◌≤◌, Bool, true, false, cond, List, refl, sym, ◌∙◌, ap, subst, arith}
+use Rattle.std.specs.Prelude.{Option, Some, None, is_some, Result, Ok, Err, IfOk, OnOk, OnErr}
 use Rattle.std.specs.FinMap as fin
-use Rattle.std.specs.FinMap.{len-insert, get-insert}
+use Rattle.std.specs.FinMap.{len-insert, get-insert, get-remove}
 use Rattle.std.specs.Cmp.Lexicographic.{nat_list_cmp_total}
 use Rattle.store_api.specs.declared.tx.Tx.{Tx}
-use Rattle.store_api.specs.Content.{Id, Changes, over, same_id}
-use Rattle.store_api.specs.Holdings.{Holdings, Stays}
+use Rattle.store_api.specs.Content.{Id, Content, Changes, or_else, over, same_id}
+use Rattle.store_api.specs.Overlay.{without}
+use Rattle.store_api.specs.Holdings.{Holdings, Stays, has_id}
 use Rattle.data_tree.specs.Needs.{Sets, Keeps}
 use Rattle.outcome.specs.Meanings.{Meanings, Lawful}
 use Rattle.outcome.specs.Outcome.{Outcome}
 use Rattle.store_api.specs.Overlay.{changed_over}
+use Rattle.data_tree.proofs.Ids.{same_id_is}
 use Rattle.data_tree.proofs.Loads.{store_in, changes_in, tx_holdings, tx_meanings}
 use Rattle.data_tree.proofs.Forests.{stays-same}
 use Rattle.data_tree.proofs.Changes.{sets_put, there_put}
@@ -71,3 +73,40 @@ changed_ M H a c d same intact o into = changed_over store_in changes_in M H a c
 
 pub unforged_before : {S : Type 0} {M : Meanings S} (laws : Lawful M) (a b c : S) → M.loaded b c → M.forgeries c ≤ M.forgeries a → M.forgeries b ≤ M.forgeries a
 unforged_before {M = M} laws a b c loaded few = let grown : M.forgeries b ≤ M.forgeries c = laws.forgeries_grow b c loaded in omega arith
+
+-- an id that has a block isn't one that has none
+pub differs : {T : Type 0} (o : Option T) (b : Bool) → (b ≡ true → o ≡ None) → is_some o ≡ true → b ≡ false
+differs o false none there = refl
+differs o true none there = let bad : false ≡ true = sym (ap is_some (none refl)) ∙ there in absurd (cc)
+
+pub not_new : (A : Content) (id q : Id) → A id ≡ None → is_some (A q) ≡ true → same_id q id ≡ false
+not_new A id q none there = differs (A q) (same_id q id) (λ same. subst (λ x. A x ≡ None) (sym (same_id_is q id same)) none) there
+
+-- what was changed before blocks were put under new ids
+pub kept_put : {B : Type 0} (H : Holdings B) (a b c : Tx B) → ((q : Id) → is_some ((tx_holdings H).content a q) ≡ true → is_some ((tx_holdings H).content b q) ≡ true) → ((q : Id) → is_some ((tx_holdings H).content a q) ≡ true → fin.get b.overlay q ≡ fin.get a.overlay q)
+    → ((q : Id) → is_some ((tx_holdings H).content b q) ≡ true → fin.get c.overlay q ≡ fin.get b.overlay q) → (q : Id) → is_some ((tx_holdings H).content a q) ≡ true → fin.get c.overlay q ≡ fin.get a.overlay q
+kept_put H a b c there one two q h = two q (there q h) ∙ one q h
+
+same_there : (o p : Option (Option (List ℕ))) (x y : Option (List ℕ)) → o ≡ p → is_some x ≡ is_some y → is_some (or_else o x) ≡ true → is_some (or_else p y) ≡ true
+same_there o None x y e f h = sym f ∙ (sym (ap (λ k. is_some (or_else k x)) e) ∙ h)
+same_there o (Some change) x y e f h = sym (ap (λ k. is_some (or_else k x)) e) ∙ h
+
+-- a block that is there and wasn't changed was there before
+pub was_there : {B : Type 0} (H : Holdings B) (b c : Tx B) → Stays H b.store c.store → (q : Id) → fin.get c.overlay q ≡ fin.get b.overlay q → is_some ((tx_holdings H).content c q) ≡ true → is_some ((tx_holdings H).content b q) ≡ true
+was_there H b c below q same h = same_there (fin.get c.overlay q) (fin.get b.overlay q) (H.content c.store q) (H.content b.store q) same (below.ids q) h
+
+-- what is still there after two steps that only drop blocks
+pub kept_drop : {B : Type 0} (H : Holdings B) (a b c : Tx B) → Stays H b.store c.store → ((q : Id) → is_some ((tx_holdings H).content b q) ≡ true → fin.get b.overlay q ≡ fin.get a.overlay q)
+    → ((q : Id) → is_some ((tx_holdings H).content c q) ≡ true → fin.get c.overlay q ≡ fin.get b.overlay q) → (q : Id) → is_some ((tx_holdings H).content c q) ≡ true → fin.get c.overlay q ≡ fin.get a.overlay q
+kept_drop H a b c below one two q h = two q h ∙ one q (was_there H b c below q (two q h) h)
+
+pub kept_remove : {B T E : Type 0} (H : Holdings B) (a d : Tx B) (used : List Id) (id : Id) (r : Result T E) → OnOk r (Sets ((tx_holdings H).content a) ((tx_holdings H).content d) id None) → OnOk r (d.overlay ≡ without used a.overlay id) → OnErr r (d.overlay ≡ a.overlay)
+    → (q : Id) → is_some ((tx_holdings H).content d q) ≡ true → fin.get d.overlay q ≡ fin.get a.overlay q
+kept_remove H a d used id (Err e) sets gone kept q there = ap (λ m. fin.get m q) kept
+kept_remove H a d used id (Ok x) sets gone kept q there =
+    let other : same_id q id ≡ false = differs ((tx_holdings H).content d q) (same_id q id) (λ same. sets q ∙ ap (λ b. cond b None ((tx_holdings H).content a q)) same) there in
+    ap (λ m. fin.get m q) gone ∙ by (has_id used id) other
+  where
+    by : (b : Bool) → same_id q id ≡ false → fin.get (cond b (fin.insert a.overlay id None) (fin.remove a.overlay id)) q ≡ fin.get a.overlay q
+    by true other = get-insert nat_list_cmp_total a.overlay id None q ∙ ap (λ b. cond b (Some None) (fin.get a.overlay q)) other
+    by false other = get-remove nat_list_cmp_total a.overlay id q ∙ ap (λ b. cond b None (fin.get a.overlay q)) other

@@ -1,5 +1,6 @@
 // Building a tree of new blocks. Nothing is loaded.
 ghost use Rattle.std.specs.Prelude.{◌≡◌, ◌≤◌, ◌<◌, ◌+◌, ◌*◌, true, is_some, length, IfOk};
+ghost use Rattle.std.specs.FinMap as fin;
 ghost use Rattle.store_api.specs.Content.{Id};
 ghost use Rattle.data_nodes.specs.Layout.{ids_of, node_of, FitsPayload, fan_out};
 ghost use Rattle.data_tree.specs.Needs.{Built, BuiltTrees, NewTree};
@@ -31,6 +32,7 @@ pub fn build<S: Blocks, R: Rng>(
     ensures built { IfOk result (λ node. Built ⟦<Tx<S> as Blocks>⟧.holdings tx.old tx.new level.depth (node_of node) bytes.now) }
     ensures there { (q : Id) → is_some (⟦<Tx<S> as Blocks>⟧.holdings.content tx.old q) ≡ true → is_some (⟦<Tx<S> as Blocks>⟧.holdings.content tx.new q) ≡ true }
     ensures fits { IfOk result (λ node. FitsPayload (⟦<Tx<S> as Blocks>⟧.holdings.payload tx.old) (node_of node)) }
+    ensures kept { (q : Id) → is_some (⟦<Tx<S> as Blocks>⟧.holdings.content tx.old q) ≡ true → fin.get tx.new.overlay q ≡ fin.get tx.old.overlay q }
 {
     if level.depth == 0 {
         return match bytes.to_vec(alloc) {
@@ -65,6 +67,7 @@ pub fn new_below<S: Blocks, R: Rng>(
     ensures store { tx.new.store ≡ tx.old.store }
     ensures built { IfOk result (λ id. NewTree ⟦<Tx<S> as Blocks>⟧.holdings tx.old tx.new level.depth id.0 bytes.now) }
     ensures there { (q : Id) → is_some (⟦<Tx<S> as Blocks>⟧.holdings.content tx.old q) ≡ true → is_some (⟦<Tx<S> as Blocks>⟧.holdings.content tx.new q) ≡ true }
+    ensures kept { (q : Id) → is_some (⟦<Tx<S> as Blocks>⟧.holdings.content tx.old q) ≡ true → fin.get tx.new.overlay q ≡ fin.get tx.old.overlay q }
 {
     match build(alloc, tx, bytes, level, chance) {
         Ok(node) => put_new(alloc, tx, &node, chance),
@@ -92,6 +95,7 @@ pub fn build_children<S: Blocks, R: Rng>(
     ensures some { IfOk result (λ children. 0 < length bytes.now → 0 < length children.items) }
     ensures under { IfOk result (λ children. length children.items * level.room < length bytes.now + level.room) }
     ensures few { IfOk result (λ children. length children.items ≤ fan_out (⟦<Tx<S> as Blocks>⟧.holdings.payload tx.old)) }
+    ensures kept { (q : Id) → is_some (⟦<Tx<S> as Blocks>⟧.holdings.content tx.old q) ≡ true → fin.get tx.new.overlay q ≡ fin.get tx.old.overlay q }
 {
     let mut children = Vec::new(alloc);
     let mut rest = bytes;

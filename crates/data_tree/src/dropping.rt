@@ -1,6 +1,8 @@
 // Dropping a tree. Only inner nodes are loaded.
 ghost use Rattle.std.specs.Prelude.{◌≡◌, [], true, is_some};
+ghost use Rattle.std.specs.FinMap as fin;
 ghost use Rattle.outcome.specs.Outcome.{Outcome};
+ghost use Rattle.store_api.specs.Content.{Id};
 ghost use Rattle.store_api.specs.Holdings.{Stays};
 ghost use Rattle.data_nodes.specs.Layout.{ids_of, node_of, FitsPayload};
 ghost use Rattle.data_tree.specs.Needs.{HasTree, HasTrees, HasBelow};
@@ -18,6 +20,7 @@ fn drop_leaf<S: Blocks>(tx: &mut Tx<S>, id: &BlockId) -> Result<(), Fail>
     ensures outcome { Outcome ⟦<Tx<S> as Blocks>⟧.meanings (HasTree ⟦<Tx<S> as Blocks>⟧.holdings tx.old 0 id.now.0) tx.old tx.new result
         (λ n _. Replaces (⟦<Tx<S> as Blocks>⟧.holdings.content tx.old) (⟦<Tx<S> as Blocks>⟧.holdings.content tx.new) n.ids []) }
     ensures store { tx.new.store ≡ tx.old.store }
+    ensures kept { (q : Id) → is_some (⟦<Tx<S> as Blocks>⟧.holdings.content tx.new q) ≡ true → fin.get tx.new.overlay q ≡ fin.get tx.old.overlay q }
 {
     if !tx.contains(id) {
         return Err(Fail::Violation(Why::Structure));
@@ -35,6 +38,7 @@ fn drop_below<S: Blocks>(alloc: Global, tx: &mut Tx<S>, id: &BlockId, depth: u8)
     ensures outcome { Outcome ⟦<Tx<S> as Blocks>⟧.meanings (HasTree ⟦<Tx<S> as Blocks>⟧.holdings tx.old depth id.now.0) tx.old tx.new result
         (λ n _. Replaces (⟦<Tx<S> as Blocks>⟧.holdings.content tx.old) (⟦<Tx<S> as Blocks>⟧.holdings.content tx.new) n.ids []) }
     ensures below { Stays S.holdings tx.old.store tx.new.store }
+    ensures kept { (q : Id) → is_some (⟦<Tx<S> as Blocks>⟧.holdings.content tx.new q) ≡ true → fin.get tx.new.overlay q ≡ fin.get tx.old.overlay q }
 {
     if depth == 0 {
         return drop_leaf(tx, id);
@@ -58,6 +62,7 @@ pub fn drop_in<S: Blocks>(alloc: Global, tx: &mut Tx<S>, node: &Node, depth: u8)
     ensures outcome { Outcome ⟦<Tx<S> as Blocks>⟧.meanings (HasBelow ⟦<Tx<S> as Blocks>⟧.holdings tx.old depth (node_of node.now)) tx.old tx.new result
         (λ n _. Replaces (⟦<Tx<S> as Blocks>⟧.holdings.content tx.old) (⟦<Tx<S> as Blocks>⟧.holdings.content tx.new) n.ids []) }
     ensures below { Stays S.holdings tx.old.store tx.new.store }
+    ensures kept { (q : Id) → is_some (⟦<Tx<S> as Blocks>⟧.holdings.content tx.new q) ≡ true → fin.get tx.new.overlay q ≡ fin.get tx.old.overlay q }
 {
     match node {
         Node::Leaf(_) => Ok(()),
@@ -77,6 +82,7 @@ pub fn drop_children<S: Blocks>(
     ensures outcome { Outcome ⟦<Tx<S> as Blocks>⟧.meanings (HasTrees ⟦<Tx<S> as Blocks>⟧.holdings tx.old depth (ids_of children.now)) tx.old tx.new result
         (λ n _. Replaces (⟦<Tx<S> as Blocks>⟧.holdings.content tx.old) (⟦<Tx<S> as Blocks>⟧.holdings.content tx.new) n.ids []) }
     ensures below { Stays S.holdings tx.old.store tx.new.store }
+    ensures kept { (q : Id) → is_some (⟦<Tx<S> as Blocks>⟧.holdings.content tx.new q) ≡ true → fin.get tx.new.overlay q ≡ fin.get tx.old.overlay q }
 {
     for child in children {
         match drop_below(alloc, tx, child, depth) {

@@ -95,6 +95,7 @@ pub fn remove<S: Blocks>(tx: &mut Tx<S>, id: &BlockId) -> Result<(), Memory>
     ensures intact { ⟦<Tx<S> as Blocks>⟧.meanings.intact tx.new }
     ensures store { tx.new.store ≡ tx.old.store }
     ensures sets { OnOk result (Sets (⟦<Tx<S> as Blocks>⟧.holdings.content tx.old) (⟦<Tx<S> as Blocks>⟧.holdings.content tx.new) id.now.0 None) }
+    ensures kept { (q : Id) → is_some (⟦<Tx<S> as Blocks>⟧.holdings.content tx.new q) ≡ true → fin.get tx.new.overlay q ≡ fin.get tx.old.overlay q }
 {
     tx.remove(id)
 }
@@ -136,6 +137,7 @@ pub fn put_new<S: Blocks, R: Rng>(
     ensures drawn { IfOk result (λ id. IsFirstFree (is_free (⟦<Tx<S> as Blocks>⟧.holdings.used tx.old)) (fill_bytes 16 (R.stream chance.old)).0 id.0) }
     ensures stream { R.stream chance.new ≡ (fill_bytes 16 (R.stream chance.old)).1 }
     ensures there { (q : Id) → is_some (⟦<Tx<S> as Blocks>⟧.holdings.content tx.old q) ≡ true → is_some (⟦<Tx<S> as Blocks>⟧.holdings.content tx.new q) ≡ true }
+    ensures kept { (q : Id) → is_some (⟦<Tx<S> as Blocks>⟧.holdings.content tx.old q) ≡ true → fin.get tx.new.overlay q ≡ fin.get tx.old.overlay q }
 {
     let id = tx.draw(chance);
     put_node(alloc, tx, &id, node)?;

@@ -244,9 +244,9 @@ filled i k places f room x y z n next all first last rest sum =
     subst (λ m. n ≡ m * room) f_is (let spread : (i + 1 + places) * room ≡ i * room + room + places * room = omega arith in omega arith)
 
 -- a root that grew and was put
-pub root_grown : {S : Type 0} {H : Holdings S} {a b c d : S} {root : Id} {node : NodeText} {w : List ℕ} (depth : ℕ) → Stays H a b → H.told a ≡ true → (n : IsRoot H a root) → n.depth ≡ depth → length n.bytes ≤ length w → length w ≤ span (H.payload a) depth → Keeps H b c → Keeps H c d
+pub root_grown : {S : Type 0} {H : Holdings S} {a b c d : S} {root : Id} {node : NodeText} {w : List ℕ} (depth : ℕ) → Stays H a b → H.told a ≡ true → (n : IsRoot H a root) → IsDepth (H.payload d) depth (length w) → Keeps H b c → Keeps H c d
     → Grown H b c depth node w n.tree.below → SetsNode H c d root node → IsNewRoot H a d root n.ids w
-root_grown {H = H} {a = a} {b = b} {c = c} {d = d} {root = root} {node = node} {w = w} depth stays told n same longer fits bc cd g (text, (is, (sized, sets))) =
+root_grown {H = H} {a = a} {b = b} {c = c} {d = d} {root = root} {node = node} {w = w} depth stays told n deep bc cd g (text, (is, (sized, sets))) =
     let A = H.content a in
     let C = H.content c in
     let D = H.content d in
@@ -255,12 +255,11 @@ root_grown {H = H} {a = a} {b = b} {c = c} {d = d} {root = root} {node = node} {
     let both : NoDoubles (root ∷ n.tree.below) = subst NoDoubles n.tree.all n.alone in
     let free = outside A C n.tree.below g.ids one root (ap is_some n.tree.there) both.0 in
     let grown = root ∷ g.ids in
-    let payload : H.payload a ≡ H.payload d = sym (cd.payload ∙ bc.payload ∙ stays.payload) in
     let whole : Replaces A D (root ∷ n.tree.below) grown = replaces_then A C D (root ∷ n.tree.below) grown grown (replace_part A C (root ∷ []) n.tree.below g.ids one) (replaces_put C D root text grown sets (or_first (same_id root root) (has_id g.ids root) (same_self root))) in
     record {
       ids = grown;
       depth = depth;
-      deep = subst (λ p. IsDepth p depth (length w)) payload (deeper (H.payload a) depth (length n.bytes) (length w) longer fits (subst (λ k. IsDepth (H.payload a) k (length n.bytes)) same n.deep));
+      deep = deep;
       tree = record {
         text = text;
         node = node;
@@ -274,10 +273,6 @@ root_grown {H = H} {a = a} {b = b} {c = c} {d = d} {root = root} {node = node} {
       alone = (free.0, g.alone);
       replaces = subst (λ xs. Replaces A D xs grown) (sym n.tree.all) whole;
     }
-  where
-    deeper : (payload depth m l : ℕ) → m ≤ l → l ≤ span payload depth → IsDepth payload depth m → IsDepth payload depth l
-    deeper payload zero m l le fits deep = fits
-    deeper payload (suc depth) m l le fits deep = (omega (arith, deep.0), fits)
 
 pub taken : (m k : ℕ) (w : List ℕ) → m ≤ length w → take (m + k) w ≡ take m w ++ take k (drop m w)
 taken m k w le =

@@ -3,7 +3,7 @@ use Rattle.std.proofs.Common.{◌≡◌, ℕ, ◌+◌, ◌-◌, ◌*◌, ◌/◌
 use Rattle.std.specs.Prelude.{Option, Some, None, is_some}
 use Rattle.std.specs.FinMap.{get}
 use Rattle.std.proofs.Math.Nat.{lt-div-mul-add}
-use Rattle.outcome.specs.Bytes.{pieces, written}
+use Rattle.outcome.specs.Bytes.{pieces, resized, written}
 use Rattle.data_nodes.specs.Layout.{NodeText}
 use Rattle.store_api.specs.declared.tx.Tx.{Tx}
 use Rattle.store_api.specs.Content.{Id, SameIds, or_else}
@@ -57,6 +57,21 @@ pub new_since : {S : Type 0} {H : Holdings S} {a b c : S} {id : Id} {old : List 
 new_since {H = H} {a = a} {b = b} {c = c} {old = old} stays told r =
     let path : H.content b ≡ H.content a = λ i id. stays.content told id i in
     record { ids = r.ids; depth = r.depth; deep = r.deep; tree = r.tree; alone = r.alone; replaces = subst (λ A. Replaces A (H.content c) old r.ids) path r.replaces }
+
+-- a tree that has the length already
+pub root_same : {S : Type 0} {H : Holdings S} {a b : S} {id : Id} {n : ℕ} → Stays H a b → H.told a ≡ true → (r : IsRoot H a id) → take n r.bytes ≡ r.bytes → n ≤ length r.bytes → IsNewRoot H a b id r.ids (resized r.bytes n)
+root_same {H = H} {a = a} {b = b} {id = id} {n = n} stays told r whole le =
+    let none : n - length r.bytes ≡ 0 = omega arith in
+    let is : r.bytes ≡ resized r.bytes n = sym (ap (λ k. take n r.bytes ++ replicate k 0) none ∙ append-nil (take n r.bytes) ∙ whole) in
+    let now = root_at stays told r in
+    record {
+      ids = r.ids;
+      depth = r.depth;
+      deep = subst (λ w. IsDepth (H.payload b) r.depth (length w)) is now.deep;
+      tree = subst (λ w. IsTree (H.payload b) (H.content b) r.depth id w r.ids) is now.tree;
+      alone = r.alone;
+      replaces = record { kept = λ q o k. stays.content told q; gone = λ q o k. let bad : true ≡ false = sym o ∙ k in absurd (cc); came = λ q h. inl h };
+    }
 
 written_is : (from : ℕ) (piece w : List ℕ) → 0 < length piece → from ≤ length w → written_at from piece w ≡ written w from piece
 written_is from [] w some le = absurd (omega arith)

@@ -1,9 +1,9 @@
 -- Nodes that grow.
-use Rattle.std.specs.Prelude.{ℕ, List}
+use Rattle.std.specs.Prelude.{◌≡◌, ◌≤◌, ◌<◌, ◌+◌, ℕ, List, length}
 use Rattle.data_nodes.specs.Layout.{NodeText}
 use Rattle.store_api.specs.Content.{Id}
 use Rattle.store_api.specs.Holdings.{Holdings}
-use Rattle.data_tree.specs.Trees.{Holds, Forest, IsTree, span, NoDoubles, Replaces}
+use Rattle.data_tree.specs.Trees.{Holds, Forest, IsTree, IsDepth, span, NoDoubles, Replaces}
 
 -- a node of this depth, which isn't put yet, holds these bytes; what stands below it came in place of the old ids
 pub record Grown {S : Type 0} (H : Holdings S) (a b : S) (depth : ℕ) (node : NodeText) (w : List ℕ) (old : List Id) : Type 0 where
@@ -18,3 +18,21 @@ pub record GrownTrees {S : Type 0} (H : Holdings S) (a b : S) (depth : ℕ) (chi
   pub trees : Forest (IsTree (H.payload b) (H.content b) depth) (span (H.payload b) depth) children w ids
   pub alone : NoDoubles ids
   pub replaces : Replaces (H.content a) (H.content b) old ids
+
+-- A node of this depth, which isn't put, holds what stands before so many bytes, which make n. Where any are left it is full, and n is more than a tree of
+-- a lower depth has room for.
+pub record MayRaise {S : Type 0} (H : Holdings S) (s : S) (depth : ℕ) (node : NodeText) (n left : ℕ) : Type 0 where
+  pub bytes : List ℕ
+  pub ids : List Id
+  pub holds : Holds (H.payload s) (H.content s) depth node bytes ids
+  pub alone : NoDoubles ids
+  pub fits : length bytes ≤ span (H.payload s) depth
+  pub full : 0 < left → length bytes ≡ span (H.payload s) depth
+  pub sum : length bytes + left ≡ n
+  pub more : (low : ℕ) → low + 1 ≡ depth → span (H.payload s) low < n
+
+-- a node of the depth of these bytes, which isn't put yet, holds them
+pub record Raised {S : Type 0} (H : Holdings S) (a b : S) (node : NodeText) (w : List ℕ) (old : List Id) : Type 0 where
+  pub depth : ℕ
+  pub deep : IsDepth (H.payload b) depth (length w)
+  pub grown : Grown H a b depth node w old

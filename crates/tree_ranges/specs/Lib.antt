@@ -1,4 +1,5 @@
 pub mod Border
+pub mod Cutting
 pub mod Growing
 pub mod Ranges
 pub mod Writing

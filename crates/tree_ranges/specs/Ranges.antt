@@ -3,7 +3,6 @@ use Rattle.std.specs.Prelude.{◌≡◌, ◌≤◌, ◌<◌, ◌+◌, ℕ, true,
 use Rattle.store_api.specs.Content.{Id}
 use Rattle.store_api.specs.Holdings.{Holdings}
 use Rattle.data_tree.specs.Roots.{IsRoot}
-use Rattle.data_tree.specs.Trees.{span}
 
 -- n bytes from a place on, at least one, lie inside the tree of this root
 pub record IsInside {S : Type 0} (H : Holdings S) (s : S) (root : Id) (from n : ℕ) : Type 0 where
@@ -11,10 +10,20 @@ pub record IsInside {S : Type 0} (H : Holdings S) (s : S) (root : Id) (from n : 
   pub some : 0 < n
   pub fits : from + n ≤ length tree.bytes
 
--- so many bytes more have room in a tree of the same depth
-pub record HasRoomFor {S : Type 0} (H : Holdings S) (s : S) (root : Id) (n : ℕ) : Type 0 where
+-- n bytes from a place on reach past the end of the tree of this root
+pub record IsPast {S : Type 0} (H : Holdings S) (s : S) (root : Id) (from n : ℕ) : Type 0 where
   pub tree : IsRoot H s root
-  pub fits : length tree.bytes + n ≤ span (H.payload s) tree.depth
+  pub over : length tree.bytes < from + n
+
+-- so many bytes more make n
+pub record GrowsTo {S : Type 0} (H : Holdings S) (s : S) (root : Id) (more n : ℕ) : Type 0 where
+  pub tree : IsRoot H s root
+  pub sum : length tree.bytes + more ≡ n
+
+-- the tree of this root has n bytes or more
+pub record HasAtLeast {S : Type 0} (H : Holdings S) (s : S) (root : Id) (n : ℕ) : Type 0 where
+  pub tree : IsRoot H s root
+  pub fits : n ≤ length tree.bytes
 
 -- the tree has this depth and this length
 pub record IsOpened {S : Type 0} (H : Holdings S) (s : S) (root : Id) (depth len : ℕ) : Type 0 where

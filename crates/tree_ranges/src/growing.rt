@@ -1,11 +1,13 @@
 // Appending bytes to a tree: only its right border is loaded, and new blocks stand behind it.
-ghost use Rattle.std.specs.Prelude.{◌≡◌, ◌≤◌, ◌<◌, ◌+◌, ◌-◌, ◌*◌, ◌++◌, ◌^◌, ℕ, List, true, is_some, length, take, min, IfOk, OnOk};
+ghost use Rattle.std.specs.Prelude.{◌≡◌, ◌⊎◌, ◌≤◌, ◌<◌, ◌+◌, ◌-◌, ◌*◌, ◌++◌, ◌^◌, ℕ, List, true, is_some, length, take, min, IfOk, OnOk};
+ghost use Rattle.std.specs.FinMap.{get};
 ghost use Rattle.outcome.specs.Outcome.{Outcome};
 ghost use Rattle.store_api.specs.Content.{Id};
 ghost use Rattle.store_api.specs.Holdings.{Stays};
 ghost use Rattle.data_nodes.specs.Layout.{fan_out, ids_of, leaf, node_of, FitsPayload};
 ghost use Rattle.data_tree.specs.Needs.{BuiltTrees, HasBelow, HasTrees};
 ghost use Rattle.data_tree.specs.Trees.{span, depth_in};
+ghost use Rattle.tree_ranges.specs.Border.{OnBorderBelow, OnLastBorder};
 ghost use Rattle.tree_ranges.specs.Growing.{Grown, GrownTrees};
 
 use block_id::{BlockId, Fail, Memory};
@@ -29,7 +31,7 @@ fn grown_leaf(alloc: Global, old: &[u8], room: u64, bytes: &[u8]) -> Result<(Nod
 }
 
 // Children with new trees behind them for as many of the bytes as there are places for, and how many these are.
-fn grown_children<S: Blocks, R: Rng>(
+pub(crate) fn grown_children<S: Blocks, R: Rng>(
     alloc: Global,
     tx: &mut Tx<S>,
     children: &[BlockId],
@@ -50,6 +52,7 @@ fn grown_children<S: Blocks, R: Rng>(
     ensures few { IfOk result (λ grown. length grown.0.items ≤ fan_out (⟦<Tx<S> as Blocks>⟧.holdings.payload tx.old)) }
     ensures some { IfOk result (λ grown. length children.now ≤ length grown.0.items) }
     ensures there { (q : Id) → is_some (⟦<Tx<S> as Blocks>⟧.holdings.content tx.old q) ≡ true → is_some (⟦<Tx<S> as Blocks>⟧.holdings.content tx.new q) ≡ true }
+    ensures kept { (q : Id) → is_some (⟦<Tx<S> as Blocks>⟧.holdings.content tx.old q) ≡ true → get tx.new.overlay q ≡ get tx.old.overlay q }
 {
     let used = (places * level.room).min(bytes.len() as u64) as usize;
     let new = build_children(alloc, tx, &bytes[..used], level, chance)?;
@@ -76,6 +79,8 @@ pub(crate) fn grown_node<S: Blocks, R: Rng>(
     ensures outcome { Outcome ⟦<Tx<S> as Blocks>⟧.meanings (HasBelow ⟦<Tx<S> as Blocks>⟧.holdings tx.old level.depth (node_of node.now)) tx.old tx.new result
         (λ n grown. Grown ⟦<Tx<S> as Blocks>⟧.holdings tx.old tx.new level.depth (node_of grown.0) (n.bytes ++ take grown.1 bytes.now) n.ids
         × (grown.1 < length bytes.now → length n.bytes + grown.1 ≡ level.room)) }
+    ensures only { HasBelow ⟦<Tx<S> as Blocks>⟧.holdings tx.old level.depth (node_of node.now) → ⟦<Tx<S> as Blocks>⟧.meanings.sound tx.old → ⟦<Tx<S> as Blocks>⟧.meanings.forgeries tx.new ≤ ⟦<Tx<S> as Blocks>⟧.meanings.forgeries tx.old
+        → (q : Id) → is_some (⟦<Tx<S> as Blocks>⟧.holdings.content tx.old q) ≡ true → (get tx.new.overlay q ≡ get tx.old.overlay q) ⊎ OnBorderBelow (⟦<Tx<S> as Blocks>⟧.holdings.content tx.old) level.depth (node_of node.now) q }
     ensures used { IfOk result (λ grown. grown.1 ≤ length bytes.now) }
     ensures fits { IfOk result (λ grown. FitsPayload (⟦<Tx<S> as Blocks>⟧.holdings.payload tx.old) (node_of grown.0)) }
     ensures depth { IfOk result (λ grown. depth_in (node_of grown.0) ≡ level.depth) }
@@ -121,6 +126,8 @@ fn grown_inner<S: Blocks, R: Rng>(
     ensures outcome { Outcome ⟦<Tx<S> as Blocks>⟧.meanings (HasTrees ⟦<Tx<S> as Blocks>⟧.holdings tx.old level.depth (ids_of children.now)) tx.old tx.new result
         (λ n grown. GrownTrees ⟦<Tx<S> as Blocks>⟧.holdings tx.old tx.new level.depth (ids_of grown.0.items) (n.bytes ++ take grown.1 bytes.now) n.ids
         × (grown.1 < length bytes.now → length n.bytes + grown.1 ≡ fan_out (⟦<Tx<S> as Blocks>⟧.holdings.payload tx.old) * level.room)) }
+    ensures only { HasTrees ⟦<Tx<S> as Blocks>⟧.holdings tx.old level.depth (ids_of children.now) → ⟦<Tx<S> as Blocks>⟧.meanings.sound tx.old → ⟦<Tx<S> as Blocks>⟧.meanings.forgeries tx.new ≤ ⟦<Tx<S> as Blocks>⟧.meanings.forgeries tx.old
+        → (q : Id) → is_some (⟦<Tx<S> as Blocks>⟧.holdings.content tx.old q) ≡ true → (get tx.new.overlay q ≡ get tx.old.overlay q) ⊎ OnLastBorder (⟦<Tx<S> as Blocks>⟧.holdings.content tx.old) level.depth (ids_of children.now) q }
     ensures used { IfOk result (λ grown. grown.1 ≤ length bytes.now) }
     ensures some { IfOk result (λ grown. 0 < length grown.0.items) }
     ensures few { IfOk result (λ grown. length grown.0.items ≤ fan_out (⟦<Tx<S> as Blocks>⟧.holdings.payload tx.old)) }

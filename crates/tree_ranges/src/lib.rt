@@ -1,9 +1,11 @@
-//! Work on ranges of trees of blocks: writing inside the length changes only the leaves of the range, and growing
-//! changes the right border and adds blocks behind it while the depth stays.
+//! Work on ranges of trees of blocks: writing inside the length changes only the leaves of the range, growing changes
+//! the right border and adds new blocks, and cutting drops blocks and changes the right border that stays.
 #![tactic(auto)]
 
+mod cutting;
 mod growing;
 mod over;
+mod raising;
 mod ranges;
 mod writing;
 

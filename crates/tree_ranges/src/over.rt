@@ -1,13 +1,17 @@
-// Growing a tree whose depth stays.
-ghost use Rattle.std.specs.Prelude.{◌≡◌, ◌≤◌, ◌<◌, ◌+◌, ◌++◌, length, IfOk};
+// Growing a tree.
+ghost use Rattle.std.specs.Prelude.{◌≡◌, ◌⊎◌, ◌≤◌, ◌<◌, ◌+◌, ◌++◌, ◌^◌, true, is_some, length, IfOk};
+ghost use Rattle.std.specs.FinMap.{get};
 ghost use Rattle.outcome.specs.Bytes.{written, zeros};
 ghost use Rattle.outcome.specs.Outcome.{Outcome};
+ghost use Rattle.store_api.specs.Content.{Id};
 ghost use Rattle.store_api.specs.Holdings.{Stays};
-ghost use Rattle.data_tree.specs.Roots.{IsNewRoot};
+ghost use Rattle.data_tree.specs.Roots.{IsRoot, IsNewRoot};
 ghost use Rattle.data_tree.specs.Trees.{span};
-ghost use Rattle.tree_ranges.specs.Ranges.{HasRoomFor, IsOpened};
+ghost use Rattle.tree_ranges.specs.Border.{Grew, OnBorder};
+ghost use Rattle.tree_ranges.specs.Ranges.{GrowsTo, IsOpened};
 
 use crate::growing::grown_node;
+use crate::raising::raised;
 use crate::writing::write_below;
 use block_id::{BlockId, Fail, Memory, Why};
 use data_tree::{Level, load_root, put_node};
@@ -15,18 +19,23 @@ use rand_core::Rng;
 use std::alloc::Global;
 use store_api::{Blocks, Tx};
 
-// Appends bytes for which a tree of the same depth has room.
+// Appends bytes, so that the tree has n of them. Its depth rises where n needs it.
 pub(crate) fn append<S: Blocks, R: Rng>(
     alloc: Global,
     tx: &mut Tx<S>,
     root: &BlockId,
+    n: u64,
     tail: &[u8],
     chance: &mut R,
 ) -> Result<(), Fail>
-    requires { ⟦<Tx<S> as Blocks>⟧.meanings.intact tx.old }
-    ensures outcome { Outcome ⟦<Tx<S> as Blocks>⟧.meanings (HasRoomFor ⟦<Tx<S> as Blocks>⟧.holdings tx.old root.now.0 (length tail.now)) tx.old tx.new result
-        (λ n _. IsNewRoot ⟦<Tx<S> as Blocks>⟧.holdings tx.old tx.new root.now.0 n.tree.ids (n.tree.bytes ++ tail.now)) }
+    requires intact { ⟦<Tx<S> as Blocks>⟧.meanings.intact tx.old }
+    requires small { n ≤ 2 ^ 40 }
+    ensures outcome { Outcome ⟦<Tx<S> as Blocks>⟧.meanings (GrowsTo ⟦<Tx<S> as Blocks>⟧.holdings tx.old root.now.0 (length tail.now) n) tx.old tx.new result
+        (λ g _. IsNewRoot ⟦<Tx<S> as Blocks>⟧.holdings tx.old tx.new root.now.0 g.tree.ids (g.tree.bytes ++ tail.now)) }
+    ensures only { (r : IsRoot ⟦<Tx<S> as Blocks>⟧.holdings tx.old root.now.0) → ⟦<Tx<S> as Blocks>⟧.meanings.sound tx.old → ⟦<Tx<S> as Blocks>⟧.meanings.forgeries tx.new ≤ ⟦<Tx<S> as Blocks>⟧.meanings.forgeries tx.old
+        → (q : Id) → is_some (⟦<Tx<S> as Blocks>⟧.holdings.content tx.old q) ≡ true → (get tx.new.overlay q ≡ get tx.old.overlay q) ⊎ OnBorder (⟦<Tx<S> as Blocks>⟧.holdings.content tx.old) r.depth root.now.0 q }
     ensures below { Stays S.holdings tx.old.store tx.new.store }
+    ensures there { (q : Id) → is_some (⟦<Tx<S> as Blocks>⟧.holdings.content tx.old q) ≡ true → is_some (⟦<Tx<S> as Blocks>⟧.holdings.content tx.new q) ≡ true }
 {
     let (node, level) = match load_root(alloc, tx, root) {
         Ok(found) => found,
@@ -36,7 +45,11 @@ pub(crate) fn append<S: Blocks, R: Rng>(
         Ok(grown) => grown,
         Err(fail) => return Err(fail),
     };
-    if used < tail.len() {
+    let (grown, more) = match raised(alloc, tx, grown, level, n, &tail[used..], chance) {
+        Ok(grown) => grown,
+        Err(_) => return Err(Fail::Memory),
+    };
+    if used + more < tail.len() {
         return Err(Fail::Violation(Why::Structure));
     }
     match put_node(alloc, tx, root, &grown) {
@@ -55,7 +68,7 @@ pub(crate) fn after_zeros(alloc: Global, count: usize, bytes: &[u8]) -> Result<V
     Ok(all)
 }
 
-// Writes bytes over the end of a tree whose level has room for them.
+// Writes bytes over the end of a tree.
 pub(crate) fn write_over<S: Blocks, R: Rng>(
     alloc: Global,
     tx: &mut Tx<S>,
@@ -70,9 +83,11 @@ pub(crate) fn write_over<S: Blocks, R: Rng>(
     requires level { level.room ≡ span (⟦<Tx<S> as Blocks>⟧.holdings.payload tx.old) level.depth }
     requires some { 0 < length bytes.now }
     requires over { len < from + length bytes.now }
-    requires fits { from + length bytes.now ≤ level.room }
+    requires small { from + length bytes.now ≤ 2 ^ 40 }
     ensures outcome { Outcome ⟦<Tx<S> as Blocks>⟧.meanings (IsOpened ⟦<Tx<S> as Blocks>⟧.holdings tx.old root.now.0 level.depth len) tx.old tx.new result
         (λ n _. IsNewRoot ⟦<Tx<S> as Blocks>⟧.holdings tx.old tx.new root.now.0 n.tree.ids (written n.tree.bytes from bytes.now)) }
+    ensures grown { (n : IsOpened ⟦<Tx<S> as Blocks>⟧.holdings tx.old root.now.0 level.depth len) → ⟦<Tx<S> as Blocks>⟧.meanings.sound tx.old → ⟦<Tx<S> as Blocks>⟧.meanings.forgeries tx.new ≤ ⟦<Tx<S> as Blocks>⟧.meanings.forgeries tx.old
+        → Grew (⟦<Tx<S> as Blocks>⟧.holdings.payload tx.old) (⟦<Tx<S> as Blocks>⟧.holdings.content tx.old) (⟦<Tx<S> as Blocks>⟧.holdings.content tx.new) n.tree.depth root.now.0 from len tx.old.overlay tx.new.overlay }
     ensures below { Stays S.holdings tx.old.store tx.new.store }
 {
     let (piece, rest) = bytes.split_at(len.saturating_sub(from) as usize);
@@ -84,5 +99,5 @@ pub(crate) fn write_over<S: Blocks, R: Rng>(
         Ok(tail) => tail,
         Err(_) => return Err(Fail::Memory),
     };
-    append(alloc, tx, root, &tail, chance)
+    append(alloc, tx, root, from + bytes.len() as u64, &tail, chance)
 }

@@ -3,19 +3,20 @@ ghost use Rattle.std.specs.FinMap as fin;
 ghost use Rattle.std.specs.Prelude.{◌≡◌, ◌≤◌, ◌<◌, ◌+◌, ◌^◌, ℕ, true, is_some, length, IfOk, OnOk};
 ghost use Rattle.outcome.specs.Bytes.{pieces, resized, written};
 ghost use Rattle.outcome.specs.Outcome.{Outcome};
-ghost use Rattle.store_api.specs.Content.{SameIds};
+ghost use Rattle.store_api.specs.Content.{Id, SameIds};
 ghost use Rattle.store_api.specs.Holdings.{Stays};
 ghost use Rattle.data_nodes.specs.Layout.{room, node_of, FitsPayload};
 ghost use Rattle.data_tree.specs.Roots.{IsRoot, IsNewRoot, IsTooDeep};
-ghost use Rattle.data_tree.specs.Trees.{span, depth_in};
-ghost use Rattle.tree_ranges.specs.Border.{OnlyLeaves};
-ghost use Rattle.tree_ranges.specs.Ranges.{IsInside};
+ghost use Rattle.data_tree.specs.Trees.{IsDepth, span, depth_in};
+ghost use Rattle.tree_ranges.specs.Border.{Grew, OnlyLeaves, Shrank};
+ghost use Rattle.tree_ranges.specs.Ranges.{HasAtLeast, IsInside, IsPast};
 
+use crate::cutting::cut_root;
 use crate::over::{after_zeros, append, write_over};
 use crate::writing::write_in;
 use block_id::{BlockId, Fail};
 use data_nodes::Node;
-use data_tree::{Level, len_in, load_root};
+use data_tree::{Level, len_in, level_for, load_root};
 use rand_core::Rng;
 use std::alloc::Global;
 use store_api::{Blocks, Tx};
@@ -37,6 +38,7 @@ fn open_root<S: Blocks>(
     ensures there { OnOk result (is_some (⟦<Tx<S> as Blocks>⟧.holdings.content tx.old root.now.0) ≡ true) }
     ensures fits { IfOk result (λ found. FitsPayload (⟦<Tx<S> as Blocks>⟧.holdings.payload tx.old) (node_of found.0)) }
     ensures depth { IfOk result (λ found. depth_in (node_of found.0) ≡ found.1.depth) }
+    ensures most { IfOk result (λ found. found.2 ≤ found.1.room) }
     ensures room { IfOk result (λ found. found.1.room ≡ span (⟦<Tx<S> as Blocks>⟧.holdings.payload tx.old) found.1.depth) }
 {
     let (node, level) = match load_root(alloc, tx, root) {
@@ -49,8 +51,8 @@ fn open_root<S: Blocks>(
     }
 }
 
-/// Writes the bytes from a place on, with zeros between the old end and there. No bytes change nothing. Loaded are the
-/// right border and the nodes over the range; the whole tree only where its depth has to grow.
+/// Writes the bytes from a place on, with zeros between the old end and there. No bytes change nothing. Only the right
+/// border and the nodes over the range are loaded; as the depth grows the root's node moves under a new id.
 pub fn write_range<S: Blocks, R: Rng>(
     alloc: Global,
     tx: &mut Tx<S>,
@@ -76,6 +78,9 @@ pub fn write_range<S: Blocks, R: Rng>(
     ensures ids { IsInside ⟦<Tx<S> as Blocks>⟧.holdings tx.old root.now.0 from (length bytes.now) → ⟦<Tx<S> as Blocks>⟧.meanings.sound tx.old
         → ⟦<Tx<S> as Blocks>⟧.meanings.forgeries tx.new ≤ ⟦<Tx<S> as Blocks>⟧.meanings.forgeries tx.old
         → SameIds (⟦<Tx<S> as Blocks>⟧.holdings.content tx.old) (⟦<Tx<S> as Blocks>⟧.holdings.content tx.new) }
+    // Past the end no id goes, and of those that were there only the right border and the leaves of the range change, whatever is answered.
+    ensures grown { (n : IsPast ⟦<Tx<S> as Blocks>⟧.holdings tx.old root.now.0 from (length bytes.now)) → ⟦<Tx<S> as Blocks>⟧.meanings.sound tx.old → ⟦<Tx<S> as Blocks>⟧.meanings.forgeries tx.new ≤ ⟦<Tx<S> as Blocks>⟧.meanings.forgeries tx.old
+        → Grew (⟦<Tx<S> as Blocks>⟧.holdings.payload tx.old) (⟦<Tx<S> as Blocks>⟧.holdings.content tx.old) (⟦<Tx<S> as Blocks>⟧.holdings.content tx.new) n.tree.depth root.now.0 from (length n.tree.bytes) tx.old.overlay tx.new.overlay }
     ensures below { Stays S.holdings tx.old.store tx.new.store }
 {
     if bytes.is_empty() {
@@ -88,14 +93,11 @@ pub fn write_range<S: Blocks, R: Rng>(
     if from + bytes.len() as u64 <= len {
         return write_in(alloc, tx, root, &node, level, from, bytes);
     }
-    if from + bytes.len() as u64 <= level.room {
-        return write_over(alloc, tx, root, level, len, from, bytes, chance);
-    }
-    data_tree::write_range(alloc, tx, root, from, bytes, chance)
+    write_over(alloc, tx, root, level, len, from, bytes, chance)
 }
 
-/// Cuts the tree to this length, or appends zeros up to it. Where it is cut, or its depth has to grow, the whole tree is
-/// loaded and written anew.
+/// Cuts the tree to this length, or appends zeros up to it. Loaded are the right border and, as it is cut, the inner nodes
+/// that go, the new right border and the way down to the node that the root takes.
 pub fn resize<S: Blocks, R: Rng>(
     alloc: Global,
     tx: &mut Tx<S>,
@@ -109,18 +111,30 @@ pub fn resize<S: Blocks, R: Rng>(
         (λ old _. IsNewRoot ⟦<Tx<S> as Blocks>⟧.holdings tx.old tx.new root.now.0 old.ids (resized old.bytes n)) }
     ensures shallow { ⟦<Tx<S> as Blocks>⟧.meanings.sound tx.old → ⟦<Tx<S> as Blocks>⟧.meanings.forgeries tx.new ≤ ⟦<Tx<S> as Blocks>⟧.meanings.forgeries tx.old
         → OnOk result (IsTooDeep ⟦<Tx<S> as Blocks>⟧.holdings tx.old root.now.0 → ⊥) }
+    // As it grows no id goes, and of those that were there only the right border changes, whatever is answered.
+    ensures grown { (old : IsPast ⟦<Tx<S> as Blocks>⟧.holdings tx.old root.now.0 n 0) → ⟦<Tx<S> as Blocks>⟧.meanings.sound tx.old → ⟦<Tx<S> as Blocks>⟧.meanings.forgeries tx.new ≤ ⟦<Tx<S> as Blocks>⟧.meanings.forgeries tx.old
+        → Grew (⟦<Tx<S> as Blocks>⟧.holdings.payload tx.old) (⟦<Tx<S> as Blocks>⟧.holdings.content tx.old) (⟦<Tx<S> as Blocks>⟧.holdings.content tx.new) old.tree.depth root.now.0 n (length old.tree.bytes) tx.old.overlay tx.new.overlay }
+    // As it is cut no id is new, whatever is answered, and of those that stay only the new right border changes.
+    ensures fewer { HasAtLeast ⟦<Tx<S> as Blocks>⟧.holdings tx.old root.now.0 n → ⟦<Tx<S> as Blocks>⟧.meanings.sound tx.old → ⟦<Tx<S> as Blocks>⟧.meanings.forgeries tx.new ≤ ⟦<Tx<S> as Blocks>⟧.meanings.forgeries tx.old
+        → (q : Id) → is_some (⟦<Tx<S> as Blocks>⟧.holdings.content tx.new q) ≡ true → is_some (⟦<Tx<S> as Blocks>⟧.holdings.content tx.old q) ≡ true }
+    ensures shrank { HasAtLeast ⟦<Tx<S> as Blocks>⟧.holdings tx.old root.now.0 n → ⟦<Tx<S> as Blocks>⟧.meanings.sound tx.old → ⟦<Tx<S> as Blocks>⟧.meanings.forgeries tx.new ≤ ⟦<Tx<S> as Blocks>⟧.meanings.forgeries tx.old
+        → OnOk result ((depth : ℕ) × (IsDepth (⟦<Tx<S> as Blocks>⟧.holdings.payload tx.new) depth n × Shrank (⟦<Tx<S> as Blocks>⟧.holdings.content tx.old) (⟦<Tx<S> as Blocks>⟧.holdings.content tx.new) depth root.now.0 tx.old.overlay tx.new.overlay)) }
     ensures below { Stays S.holdings tx.old.store tx.new.store }
 {
-    let (_, level, len) = match open_root(alloc, tx, root) {
+    let (node, level, len) = match open_root(alloc, tx, root) {
         Ok(found) => found,
         Err(fail) => return Err(fail),
     };
-    if n <= len || n > level.room {
-        return data_tree::resize(alloc, tx, root, n, chance);
+    if n == len {
+        return Ok(());
+    }
+    if n < len {
+        let depth = level_for(tx.payload(), n).depth;
+        return cut_root(alloc, tx, root, &node, level, depth, n);
     }
     let tail = match after_zeros(alloc, (n - len) as usize, &[]) {
         Ok(tail) => tail,
         Err(_) => return Err(Fail::Memory),
     };
-    append(alloc, tx, root, &tail, chance)
+    append(alloc, tx, root, n, &tail, chance)
 }

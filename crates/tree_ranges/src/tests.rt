@@ -1,8 +1,10 @@
 // Trees over a store in memory, at the smallest block: a leaf has 42 bytes, and a node two children.
+ghost use Rattle.std.specs.Prelude.{◌≤◌, ◌^◌};
+
 use super::{resize, write_range};
 use block_id::{BlockId, Why};
 use data_nodes::Node;
-use data_tree::{drop_tree, len, new_tree, put_new, put_node, read_range};
+use data_tree::{drop_tree, len, load_at, load_root, new_tree, put_new, put_node, read_range};
 use map_store::MapStore;
 use rand_core::Rng;
 use rand_pcg::Pcg32;
@@ -13,6 +15,25 @@ use store_api::{Blocks, BlocksMut, Tx};
 const SIZES: [usize; 7] = [0, 42, 43, 84, 85, 168, 169];
 
 const COUNTS: [usize; 7] = [1, 1, 3, 3, 6, 7, 11];
+
+// Sizes at the borders of a leaf's room and of each depth's, with how many nodes stand on the right border.
+const BORDERS: [(usize, usize); 15] = [
+    (0, 1),
+    (41, 1),
+    (42, 1),
+    (43, 2),
+    (83, 2),
+    (84, 2),
+    (85, 3),
+    (167, 3),
+    (168, 3),
+    (169, 4),
+    (335, 4),
+    (336, 4),
+    (337, 5),
+    (671, 5),
+    (672, 5),
+];
 
 fn bytes_of(alloc: Global, n: usize) -> Result<Vec<u8>, Fail> {
     let mut out = Vec::new(alloc);
@@ -70,6 +91,116 @@ fn each_size_grown_or_cut_to_each(rt: HostRuntime) -> Result<(), Fail> {
     Ok(())
 }
 
+// The nodes of a tree from its root on, each before those below it: a leaf's bytes, or the depth once for each child.
+#[cycle(shape)]
+fn shape_below<S: Blocks>(
+    alloc: Global,
+    tx: &mut Tx<S>,
+    id: &BlockId,
+    depth: u8,
+    out: &mut Vec<Vec<u8>>,
+) -> Result<(), Fail>
+    requires { ⟦<Tx<S> as Blocks>⟧.meanings.intact tx.old }
+    ensures { ⟦<Tx<S> as Blocks>⟧.meanings.intact tx.new }
+{
+    match load_at(alloc, tx, id, depth)? {
+        Node::Leaf(bytes) => out.push(bytes)?,
+        Node::Inner { depth: _, children } => {
+            out.push(vec![in alloc; depth; children.len()]?)?;
+            for child in &children {
+                shape_below(alloc, tx, child, depth - 1, out)?;
+            }
+        }
+    }
+    Ok(())
+}
+
+// The call on ranges, or the plain one.
+fn resize_by<S: Blocks, R: Rng>(
+    alloc: Global,
+    tx: &mut Tx<S>,
+    root: &BlockId,
+    n: u64,
+    plainly: bool,
+    chance: &mut R,
+) -> Result<(), block_id::Fail>
+    requires intact { ⟦<Tx<S> as Blocks>⟧.meanings.intact tx.old }
+    requires small { n ≤ 2 ^ 40 }
+    ensures { ⟦<Tx<S> as Blocks>⟧.meanings.intact tx.new }
+{
+    if plainly {
+        return data_tree::resize(alloc, tx, root, n, chance);
+    }
+    resize(alloc, tx, root, n, chance)
+}
+
+// How many nodes a stored tree of one size has, its nodes as it was grown or cut to another, and the number of changes.
+fn shape_after<S: BlocksMut>(
+    alloc: Global,
+    tx: &mut Tx<S>,
+    before: usize,
+    after: usize,
+    plainly: bool,
+) -> Result<(usize, Vec<Vec<u8>>, usize), Fail>
+    requires { ⟦<Tx<S> as Blocks>⟧.meanings.intact tx.old }
+{
+    let mut chance = Pcg32::new(1, 2);
+    let text = bytes_of(alloc, before)?;
+    if text.len() > 1000 || after > 1000 {
+        return Err(Fail::from("too long"));
+    }
+    let root = new_tree(alloc, tx, &text, &mut chance)?;
+    let old = tx.batch().len();
+    match tx.commit(alloc, &mut chance) {
+        Ok(()) => {}
+        Err(_) => return Err(Fail::from("not committed")),
+    }
+    resize_by(alloc, tx, &root, after as u64, plainly, &mut chance)?;
+    let changes = tx.batch().len();
+    let mut nodes = Vec::new(alloc);
+    let (_, level) = load_root(alloc, tx, &root)?;
+    shape_below(alloc, tx, &root, level.depth, &mut nodes)?;
+    Ok((old, nodes, changes))
+}
+
+// Whether both bodies leave the same nodes, and the one on ranges changes no more than the border and the nodes that come or go.
+fn agrees<S: BlocksMut>(
+    alloc: Global,
+    tx: &mut Tx<S>,
+    other: &mut Tx<S>,
+    before: usize,
+    after: usize,
+    border: usize,
+) -> Result<bool, Fail>
+    requires ranges { ⟦<Tx<S> as Blocks>⟧.meanings.intact tx.old }
+    requires plain { ⟦<Tx<S> as Blocks>⟧.meanings.intact other.old }
+{
+    let (old, nodes, changes) = shape_after(alloc, tx, before, after, false)?;
+    let (_, plain, _) = shape_after(alloc, other, before, after, true)?;
+    let moved = nodes.len().abs_diff(old);
+    Ok(nodes == plain && changes == moved.saturating_add(border))
+}
+
+#[test]
+fn ranges_leave_the_nodes_that_a_rewrite_leaves(rt: HostRuntime) -> Result<(), Fail> {
+    for (before, old_border) in BORDERS {
+        for (after, new_border) in BORDERS {
+            let border = if before == after {
+                0
+            } else {
+                old_border.min(new_border)
+            };
+            let mut tx = empty(rt.alloc());
+            let mut other = empty(rt.alloc());
+            let seen = agrees(rt.alloc(), &mut tx, &mut other, before, after, border);
+            drop(tx.into_store());
+            drop(other.into_store());
+            assert!(rt; seen?);
+        }
+    }
+    Ok(())
+}
+
 // How many entries a batch has when bytes are written at a place of a stored tree of 169 bytes, and what is read there.
 fn written<S: BlocksMut>(
     alloc: Global,
@@ -108,6 +239,8 @@ fn a_write_changes_the_leaves_of_its_range_and_the_border_past_the_end(
         (0, 169, 5),
         (168, 1, 1),
         (169, 1, 4),
+        (150, 100, 6),
+        (169, 200, 13),
     ] {
         let bytes = vec![in rt.alloc(); 7; n]?;
         let mut tx = empty(rt.alloc());
@@ -168,5 +301,29 @@ fn blocks_that_are_no_tree_are_refused(rt: HostRuntime) -> Result<(), Fail> {
         drop(tx.into_store());
         assert!(rt; seen?);
     }
+    Ok(())
+}
+
+// Whether a root that names one child twice is refused as it is cut.
+fn refuses_twins<S: Blocks>(alloc: Global, tx: &mut Tx<S>) -> Result<bool, Fail>
+    requires { ⟦<Tx<S> as Blocks>⟧.meanings.intact tx.old }
+{
+    let mut chance = Pcg32::new(1, 2);
+    if tx.payload() != 50 {
+        return Err(Fail::from("another store"));
+    }
+    let child = put_new(alloc, tx, &Node::Leaf(Vec::new(alloc)), &mut chance)?;
+    let children = vec![in alloc; child; 2]?;
+    let root = put_new(alloc, tx, &Node::Inner { depth: 1, children }, &mut chance)?;
+    let cut = resize(alloc, tx, &root, 0, &mut chance);
+    Ok(matches!(cut, Err(block_id::Fail::Violation(Why::Structure))))
+}
+
+#[test]
+fn a_child_that_is_named_twice_is_refused_as_its_tree_is_cut(rt: HostRuntime) -> Result<(), Fail> {
+    let mut tx = empty(rt.alloc());
+    let seen = refuses_twins(rt.alloc(), &mut tx);
+    drop(tx.into_store());
+    assert!(rt; seen?);
     Ok(())
 }

@@ -6,7 +6,7 @@ use Rattle.data_nodes.specs.Layout.{ids_of}
 use Rattle.data_tree.specs.Trees.{span}
 use Rattle.data_tree.specs.Needs.{BuildRest}
 use Rattle.data_tree.proofs.Loads.{tx_holdings}
-use Rattle.data_tree.proofs.Puts.{if_ok_both, keeps_same}
+use Rattle.data_tree.proofs.Puts.{if_ok_both, keeps_same, kept_put}
 use Rattle.data_tree.proofs.Making.{tree_made, build_start, build_next, built_inner, pushed}
 use Rattle.data_tree.proofs.Counting.{not_zero, count_whole, count_below, next_whole, next_below}
 use Rattle.data_tree.proofs.building.+build.Goals as goal
@@ -30,6 +30,7 @@ build_children-loop-rest-init g t c =
       store = refl;
       built = subst (λ (xs : List BlockId). BuildRest H a a c.args.level.depth (ids_of xs) w w) (sym c.new-children.ensures.items) (build_start w);
       there = λ q h. h;
+      kept = λ q h. refl;
       whole = λ some. count_whole (length c.new-children.result.items) c.args.level.room (length w) none;
       under = count_below (length c.new-children.result.items) c.args.level.room (length w) none c.requires.room;
       begun = inr refl;
@@ -57,7 +58,11 @@ build_children-loop-rest-preserved g t c =
       built = subst (λ cs. BuildRest H a b depth cs after c.args.bytes.now) (sym ids)
           (build_next c.in-Ok.id.0 piece after inv.built cut (omega (arith, cut_len, some, c.requires.room)) (omega (arith, cut_len, sized)) (λ more. omega (arith, cut_len, sized, len, more)) (keeps_same g.S.Blocks.holdings c.loop-rest.tx b c.new_below.ensures.store) c.in-Ok.ensures.built);
       there = λ q h. c.new_below.ensures.there q (inv.there q h);
+      kept = kept_put g.S.Blocks.holdings a c.loop-rest.tx b inv.there inv.kept c.new_below.ensures.kept;
       whole = λ more. next_whole (length c.loop-rest.children.items) (length c.push.new.self.items) c.args.level.room (length c.loop-rest.rest.now) (length c.args.bytes.now) (length piece) (length after) (inv.whole some) more_ids cut_len len more;
       under = next_below (length c.loop-rest.children.items) (length c.push.new.self.items) c.args.level.room (length c.loop-rest.rest.now) (length c.args.bytes.now) (length piece) (length after) (inv.whole some) more_ids some;
       begun = inl (omega (arith, more_ids));
     }
+
+pub new_below-returns-in-Ok-clause-kept : goal.new_below-returns-in-Ok-clause-kept
+new_below-returns-in-Ok-clause-kept g t c = kept_put g.S.Blocks.holdings c.args.tx.now c.build.new.tx c.put_new.new.tx c.build.ensures.there c.build.ensures.kept c.put_new.ensures.kept

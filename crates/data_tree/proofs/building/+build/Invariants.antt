@@ -1,5 +1,6 @@
 use Rattle.std.proofs.Common.{◌≡◌, ◌⊎◌, ◌+◌, ◌*◌, ◌<◌, true, length}
 use Rattle.std.specs.Prelude.{is_some}
+use Rattle.std.specs.FinMap.{get}
 use Rattle.data_nodes.specs.Layout.{ids_of}
 use Rattle.store_api.specs.Content.{Id}
 use Rattle.data_tree.specs.Needs.{BuildRest}
@@ -21,6 +22,7 @@ invariant-build_children-loop-rest g l = record {
   store : l.tx.store ≡ l.initial.tx.store;
   built : BuildRest (tx_holdings g.S.Blocks.holdings) l.initial.tx l.tx l.level.depth (ids_of l.children.items) l.rest l.initial.rest;
   there : (q : Id) → is_some ((tx_holdings g.S.Blocks.holdings).content l.initial.tx q) ≡ true → is_some ((tx_holdings g.S.Blocks.holdings).content l.tx q) ≡ true;
+  kept : (q : Id) → is_some ((tx_holdings g.S.Blocks.holdings).content l.initial.tx q) ≡ true → get l.tx.overlay q ≡ get l.initial.tx.overlay q;
   whole : 0 < length l.rest → length l.children.items * l.level.room + length l.rest ≡ length l.initial.rest;
   under : length l.children.items * l.level.room < length l.initial.rest + l.level.room;
   begun : (0 < length l.children.items) ⊎ (length l.rest ≡ length l.initial.rest);

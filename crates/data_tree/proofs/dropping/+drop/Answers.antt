@@ -1,4 +1,5 @@
-use Rattle.std.proofs.Common.{ℕ, ◌≡◌, sym, ◌∙◌, ap, drop, get_or, [], ◌+◌, ◌-◌, None, subst, List}
+use Rattle.std.proofs.Common.{ℕ, ◌≡◌, refl, sym, ◌∙◌, ap, drop, get_or, [], ◌+◌, ◌-◌, None, subst, List}
+use Rattle.std.specs.FinMap.{get}
 use Rattle.block_id.specs.declared.id.BlockId.{BlockId}
 use Rattle.outcome.specs.Outcome.{Outcome, idle, first_, then_, failed_, answered, no_memory}
 use Rattle.data_nodes.specs.Layout.{node_of, ids_of, inner}
@@ -6,7 +7,7 @@ use Rattle.data_tree.specs.Needs.{HasTree, Sets}
 use Rattle.data_tree.specs.Trees.{Replaces}
 use Rattle.data_tree.proofs.Loads.{tx_holdings, tx_meanings, tx_laws}
 use Rattle.data_tree.proofs.Forests.{below_on, below_of, root_apart, children_of, leaf_ids, deep_of, stays-then, stays-same}
-use Rattle.data_tree.proofs.Puts.{changed_, keeps_same, keeps_below}
+use Rattle.data_tree.proofs.Puts.{changed_, keeps_same, keeps_below, below_same, kept_drop}
 use Rattle.data_tree.proofs.Ids.{drops_tree, replaces_nothing}
 use Rattle.data_tree.proofs.Gathering.{next_child, no_child}
 use Rattle.data_tree.proofs.Changes.{below_changed, drop_start, first_left, drop_next, drop_done}
@@ -66,6 +67,7 @@ drop_children-loop-child-init g t c =
     let laws = tx_laws g.S.Blocks.meanings g.S.Blocks.holdings g.met.S.Blocks.lawful in
     record {
       outcome = idle laws c.args.tx.now _ c.requires (λ n. drop_start n);
+      kept = λ q h. refl;
       below = stays-same g.S.Blocks.holdings c.args.tx.now.store;
     }
 
@@ -80,9 +82,22 @@ drop_children-loop-child-preserved g t c =
     record {
       outcome = then_ laws inv.outcome (λ n h. first_left child.0 rest (inv.below.told ∙ n.told) n.alone here h) c.in-Ok.ensures.outcome
           (λ n h y k. drop_next child.0 rest (inv.below.told ∙ n.told) n.alone here h (keeps_below g.S.Blocks.holdings c.loop-child.tx c.drop_below.new.tx c.drop_below.ensures.below) k);
+      kept = kept_drop g.S.Blocks.holdings c.args.tx.now c.loop-child.tx c.drop_below.new.tx c.drop_below.ensures.below inv.kept c.drop_below.ensures.kept;
       below = stays-then inv.below c.drop_below.ensures.below;
     }
 
 pub drop_children-returns-clause-outcome : goal.drop_children-returns-clause-outcome
 drop_children-returns-clause-outcome g t c =
     answered c.loop-child.invariant.outcome (λ n h. drop_done (no_child c.args.children.now c.loop-child.child-index c.loop-child-test.false) h)
+
+pub drop_below-returns-in-Ok-remove-clause-kept : goal.drop_below-returns-in-Ok-remove-clause-kept
+drop_below-returns-in-Ok-remove-clause-kept g t c =
+    kept_drop g.S.Blocks.holdings c.args.tx.now c.remove.new.tx c.drop_in.new.tx c.drop_in.ensures.below (kept_drop g.S.Blocks.holdings c.args.tx.now c.load_at.new.tx c.remove.new.tx (below_same g.S.Blocks.holdings c.load_at.new.tx c.remove.new.tx c.remove.ensures.store) (λ q h. ap (λ m. get m q) c.load_at.ensures.overlay) c.remove.ensures.kept) c.drop_in.ensures.kept
+
+pub drop_below-returns-clause-kept : goal.drop_below-returns-clause-kept
+drop_below-returns-clause-kept g t c =
+    kept_drop g.S.Blocks.holdings c.args.tx.now c.load_at.new.tx c.remove.new.tx (below_same g.S.Blocks.holdings c.load_at.new.tx c.remove.new.tx c.remove.ensures.store) (λ q h. ap (λ m. get m q) c.load_at.ensures.overlay) c.remove.ensures.kept
+
+pub drop_children-returns-in-Err-clause-kept : goal.drop_children-returns-in-Err-clause-kept
+drop_children-returns-in-Err-clause-kept g t c =
+    kept_drop g.S.Blocks.holdings c.args.tx.now c.loop-child.tx c.drop_below.new.tx c.drop_below.ensures.below c.loop-child.invariant.kept c.drop_below.ensures.kept

@@ -1,5 +1,7 @@
-use Rattle.std.proofs.Common.{◌+◌, ◌*◌, drop}
-use Rattle.std.specs.Prelude.{Ok}
+use Rattle.std.proofs.Common.{◌+◌, ◌*◌, ◌≡◌, true, drop}
+use Rattle.std.specs.Prelude.{Ok, is_some}
+use Rattle.std.specs.FinMap.{get}
+use Rattle.store_api.specs.Content.{Id}
 use Rattle.outcome.specs.Outcome.{Outcome}
 use Rattle.data_nodes.specs.Layout.{ids_of}
 use Rattle.data_tree.specs.Needs.{HasTrees, DropRest}
@@ -20,5 +22,6 @@ abbrev pub invariant-drop_children-loop-child : goal.invariant-drop_children-loo
 invariant-drop_children-loop-child g l = record {
   outcome : Outcome (tx_meanings g.S.Blocks.meanings g.S.Blocks.holdings) {T = Unit {0}} (HasTrees (tx_holdings g.S.Blocks.holdings) l.initial.tx l.depth (ids_of l.children)) l.initial.tx l.tx (Ok tt)
       (λ n _. DropRest (tx_holdings g.S.Blocks.holdings) l.initial.tx l.tx l.depth (drop l.child-index (ids_of l.children)) n.ids);
+  kept : (q : Id) → is_some ((tx_holdings g.S.Blocks.holdings).content l.tx q) ≡ true → get l.tx.overlay q ≡ get l.initial.tx.overlay q;
   below : Stays g.S.Blocks.holdings l.initial.tx.store l.tx.store;
 }

@@ -1,4 +1,4 @@
-use Rattle.std.proofs.Common.{◌≡◌, ◌≤◌, ◌<◌, ◌+◌, ◌-◌, ◌*◌, ◌/◌, ◌++◌, [], ◌∷◌, sym, ◌∙◌, ap, subst, take, drop, length, get_or, List, arith}
+use Rattle.std.proofs.Common.{◌≡◌, ◌≤◌, ◌<◌, inl, inr, ◌+◌, ◌-◌, ◌*◌, ◌/◌, ◌++◌, [], ◌∷◌, sym, ◌∙◌, ap, subst, take, drop, length, get_or, List, arith}
 use Rattle.std.proofs.lemmas.List.{length-map, length-append, length-take, length-drop, take-append-drop, take_all}
 use Rattle.std.proofs.Common.{append_assoc}
 use Rattle.block_id.specs.declared.id.BlockId.{BlockId}
@@ -13,6 +13,8 @@ use Rattle.data_tree.proofs.Gathering.{last_child}
 use Rattle.data_tree.proofs.Levels.{span-some}
 use Rattle.data_tree.proofs.Puts.{keeps_below, keeps_same}
 use Rattle.tree_ranges.specs.Growing.{Grown, GrownTrees}
+use Rattle.tree_ranges.specs.Border.{OnBorder}
+use Rattle.tree_ranges.proofs.Borders.{border_inner, border_last, border_top, inner_only, put_only, then_only}
 use Rattle.tree_ranges.proofs.Growth.{split_of, split_tree, grown_trees, grown_leaf_is, grown_inner_is, filled, taken}
 use Rattle.tree_ranges.proofs.growing.+grow.Goals as goal
 
@@ -144,3 +146,124 @@ grown_inner-returns-in-Ok-grown_children-clause-outcome g t c =
           (s.full ∙ ap (λ k. k * span (H.payload a) low) (let l : length (take i (ids_of children)) ≡ i = omega (arith, length-take i (ids_of children), lt) in l) ∙ ap (λ k. i * k) (sym c.requires.level)) (p.1 (omega (arith, less)))
           (omega (arith, c.in-Ok-grown_children.ensures.used, less, rest_len)) (omega (arith, ap length s.bytes, length-append s.w1 s.w2)),
     ))
+
+pub grown_inner-returns-in-Err-grown_node-clause-only : goal.grown_inner-returns-in-Err-grown_node-clause-only
+grown_inner-returns-in-Err-grown_node-clause-only g t c n s h q there =
+    let M = g.S.Blocks.meanings in
+    let H0 = g.S.Blocks.holdings in
+    let H = tx_holdings H0 in
+    let laws = tx_laws M H0 g.met.S.Blocks.lawful in
+    let steady = steady_over store_in changes_in M H0 g.met.S.Blocks.steady in
+    let a = c.args.tx.now in
+    let b = c.load_at.new.tx in
+    let d = c.grown_node.new.tx in
+    let low = c.args.level.depth in
+    let children = c.args.children.now in
+    let i = length children - 1 in
+    let last : BlockId = get_or children i (record { 0 = [] }) in
+    let whole : i + 1 ≡ length children = omega (arith, c.requires.some) in
+    let lt : i < length (ids_of children) = omega (arith, whole, length-map children (λ (x : BlockId). x.0)) in
+    let is = last_child children i (record { 0 = [] }) whole in
+    let positive = span-some (H.payload a) low (steady.at_least a c.requires.intact) in
+    inner_only M H0 laws a b d {children = ids_of children} i last.0 positive lt is c.in-Ok.ensures.outcome c.load_at.ensures.stays c.load_at.ensures.overlay c.grown_node.ensures.outcome.loaded c.grown_node.ensures.only n s h q there
+
+pub grown_inner-returns-in-Ok-grown_children-clause-only : goal.grown_inner-returns-in-Ok-grown_children-clause-only
+grown_inner-returns-in-Ok-grown_children-clause-only g t c n s h q there =
+    let M = g.S.Blocks.meanings in
+    let H0 = g.S.Blocks.holdings in
+    let H = tx_holdings H0 in
+    let laws = tx_laws M H0 g.met.S.Blocks.lawful in
+    let steady = steady_over store_in changes_in M H0 g.met.S.Blocks.steady in
+    let a = c.args.tx.now in
+    let b = c.load_at.new.tx in
+    let d = c.grown_node.new.tx in
+    let low = c.args.level.depth in
+    let children = c.args.children.now in
+    let i = length children - 1 in
+    let last : BlockId = get_or children i (record { 0 = [] }) in
+    let whole : i + 1 ≡ length children = omega (arith, c.requires.some) in
+    let lt : i < length (ids_of children) = omega (arith, whole, length-map children (λ (x : BlockId). x.0)) in
+    let is = last_child children i (record { 0 = [] }) whole in
+    let positive = span-some (H.payload a) low (steady.at_least a c.requires.intact) in
+    let e = c.put_node.new.tx in
+    let f = c.grown_children.new.tx in
+    let A = H.content a in
+    let still : M.forgeries d.store ≤ M.forgeries a.store = subst (λ x. M.forgeries x ≤ M.forgeries a.store) (c.grown_children.ensures.store ∙ c.put_node.ensures.store) h in
+    let one = inner_only M H0 laws a b d {children = ids_of children} i last.0 positive lt is c.in-Ok.ensures.outcome c.load_at.ensures.stays c.load_at.ensures.overlay c.grown_node.ensures.outcome.loaded c.grown_node.ensures.only n s still q there in
+    let two = put_only a.overlay d.overlay e.overlay last.0 q (c.put_node.ensures.others q) (λ same. border_last A low i (ids_of children) last.0 q is (subst (λ x. OnBorder A low last.0 x) (sym same) (border_top A low last.0))) one in
+    then_only a.overlay e.overlay f.overlay q (c.grown_children.ensures.kept q (c.put_node.ensures.there q (c.grown_node.ensures.there q (c.load_at.ensures.stays.ids q ∙ there)))) two
+
+pub grown_inner-returns-clause-only : goal.grown_inner-returns-clause-only
+grown_inner-returns-clause-only g t c n s h q there =
+    let M = g.S.Blocks.meanings in
+    let H0 = g.S.Blocks.holdings in
+    let H = tx_holdings H0 in
+    let laws = tx_laws M H0 g.met.S.Blocks.lawful in
+    let steady = steady_over store_in changes_in M H0 g.met.S.Blocks.steady in
+    let a = c.args.tx.now in
+    let b = c.load_at.new.tx in
+    let d = c.grown_node.new.tx in
+    let low = c.args.level.depth in
+    let children = c.args.children.now in
+    let i = length children - 1 in
+    let last : BlockId = get_or children i (record { 0 = [] }) in
+    let whole : i + 1 ≡ length children = omega (arith, c.requires.some) in
+    let lt : i < length (ids_of children) = omega (arith, whole, length-map children (λ (x : BlockId). x.0)) in
+    let is = last_child children i (record { 0 = [] }) whole in
+    let positive = span-some (H.payload a) low (steady.at_least a c.requires.intact) in
+    let e = c.put_node.new.tx in
+    let f = c.grown_children.new.tx in
+    let A = H.content a in
+    let still : M.forgeries d.store ≤ M.forgeries a.store = subst (λ x. M.forgeries x ≤ M.forgeries a.store) (c.grown_children.ensures.store ∙ c.put_node.ensures.store) h in
+    let one = inner_only M H0 laws a b d {children = ids_of children} i last.0 positive lt is c.in-Ok.ensures.outcome c.load_at.ensures.stays c.load_at.ensures.overlay c.grown_node.ensures.outcome.loaded c.grown_node.ensures.only n s still q there in
+    let two = put_only a.overlay d.overlay e.overlay last.0 q (c.put_node.ensures.others q) (λ same. border_last A low i (ids_of children) last.0 q is (subst (λ x. OnBorder A low last.0 x) (sym same) (border_top A low last.0))) one in
+    then_only a.overlay e.overlay f.overlay q (c.grown_children.ensures.kept q (c.put_node.ensures.there q (c.grown_node.ensures.there q (c.load_at.ensures.stays.ids q ∙ there)))) two
+
+pub grown_inner-returns-in-Err-put_node-clause-only : goal.grown_inner-returns-in-Err-put_node-clause-only
+grown_inner-returns-in-Err-put_node-clause-only g t c n s h q there =
+    let M = g.S.Blocks.meanings in
+    let H0 = g.S.Blocks.holdings in
+    let H = tx_holdings H0 in
+    let laws = tx_laws M H0 g.met.S.Blocks.lawful in
+    let steady = steady_over store_in changes_in M H0 g.met.S.Blocks.steady in
+    let a = c.args.tx.now in
+    let b = c.load_at.new.tx in
+    let d = c.grown_node.new.tx in
+    let low = c.args.level.depth in
+    let children = c.args.children.now in
+    let i = length children - 1 in
+    let last : BlockId = get_or children i (record { 0 = [] }) in
+    let whole : i + 1 ≡ length children = omega (arith, c.requires.some) in
+    let lt : i < length (ids_of children) = omega (arith, whole, length-map children (λ (x : BlockId). x.0)) in
+    let is = last_child children i (record { 0 = [] }) whole in
+    let positive = span-some (H.payload a) low (steady.at_least a c.requires.intact) in
+    let e = c.put_node.new.tx in
+    let A = H.content a in
+    let still : M.forgeries d.store ≤ M.forgeries a.store = subst (λ x. M.forgeries x ≤ M.forgeries a.store) (c.put_node.ensures.store) h in
+    let one = inner_only M H0 laws a b d {children = ids_of children} i last.0 positive lt is c.in-Ok.ensures.outcome c.load_at.ensures.stays c.load_at.ensures.overlay c.grown_node.ensures.outcome.loaded c.grown_node.ensures.only n s still q there in
+    let two = put_only a.overlay d.overlay e.overlay last.0 q (c.put_node.ensures.others q) (λ same. border_last A low i (ids_of children) last.0 q is (subst (λ x. OnBorder A low last.0 x) (sym same) (border_top A low last.0))) one in
+    two
+
+pub grown_node-returns-in-Ok-grown_inner-clause-only : goal.grown_node-returns-in-Ok-grown_inner-clause-only
+grown_node-returns-in-Ok-grown_inner-clause-only g t c n s h q there =
+    let H = tx_holdings g.S.Blocks.holdings in
+    let node = node_of c.args.node.now in
+    let low = c.below-below.result.depth in
+    let children = ids_of c.deref-in-Inner.result.now in
+    let is = ap (λ (xs : List BlockId). inner c.in-Inner.depth (ids_of xs)) c.deref-in-Inner.ensures.value ∙ ap node_of (sym c.in-Inner.is) in
+    elim (c.in-Ok-grown_inner.ensures.only (children_of node c.in-Inner.depth low children is c.below-below.ensures.depth n) s h q there) [
+      | inl same ↦ inl same
+      | inr found ↦ inr (border_inner (H.content c.args.tx.now) c.args.level.depth c.in-Inner.depth low node children q is c.requires.depth c.below-below.ensures.depth found)
+    ]
+
+pub grown_node-returns-in-Err-grown_inner-clause-only : goal.grown_node-returns-in-Err-grown_inner-clause-only
+grown_node-returns-in-Err-grown_inner-clause-only g t c n s h q there =
+    let H = tx_holdings g.S.Blocks.holdings in
+    let node = node_of c.args.node.now in
+    let low = c.below-below.result.depth in
+    let children = ids_of c.deref-in-Inner.result.now in
+    let is = ap (λ (xs : List BlockId). inner c.in-Inner.depth (ids_of xs)) c.deref-in-Inner.ensures.value ∙ ap node_of (sym c.in-Inner.is) in
+    elim (c.in-Err-grown_inner.ensures.only (children_of node c.in-Inner.depth low children is c.below-below.ensures.depth n) s h q there) [
+      | inl same ↦ inl same
+      | inr found ↦ inr (border_inner (H.content c.args.tx.now) c.args.level.depth c.in-Inner.depth low node children q is c.requires.depth c.below-below.ensures.depth found)
+    ]

@@ -1,13 +1,15 @@
-use Rattle.std.proofs.Common.{◌≡◌, ◌+◌, ◌-◌, ◌++◌, sym, ◌∙◌, ap, subst, take, drop, length, arith}
+use Rattle.std.proofs.Common.{◌≡◌, ◌≤◌, ◌<◌, ◌+◌, ◌-◌, ◌++◌, sym, ◌∙◌, ap, subst, take, drop, length, inl, inr, arith}
 use Rattle.std.proofs.lemmas.List.{length-append, length-drop, length-replicate}
 use Rattle.outcome.specs.Bytes.{zeros, written}
 use Rattle.outcome.specs.Outcome.{first_, then_, passed}
+use Rattle.store_api.specs.Overlay.{steady_over}
 use Rattle.data_tree.specs.Roots.{IsNewRoot}
-use Rattle.data_tree.specs.Trees.{span}
-use Rattle.data_tree.proofs.Loads.{tx_holdings, tx_laws}
-use Rattle.data_tree.proofs.Puts.{keeps_below}
+use Rattle.data_tree.proofs.Loads.{store_in, changes_in, tx_holdings, tx_laws}
+use Rattle.data_tree.proofs.Puts.{keeps_below, unforged_before}
+use Rattle.tree_ranges.specs.Border.{Grew}
 use Rattle.tree_ranges.specs.Ranges.{IsOpened}
-use Rattle.tree_ranges.specs.Writing.{Wrote, written_at}
+use Rattle.tree_ranges.specs.Writing.{MayWrite, Wrote, written_at}
+use Rattle.tree_ranges.proofs.Borders.{border_back, border_only, range_only}
 use Rattle.tree_ranges.proofs.Growth.{root_wrote, wrote_then, written_over}
 use Rattle.tree_ranges.proofs.Inside.{root_tree}
 use Rattle.tree_ranges.proofs.Overwriting.{length-written}
@@ -47,10 +49,9 @@ returns-clause-outcome g c =
     then_ laws one
     (λ n w.
     let long : length n.tree.bytes ≡ length (written_at from piece n.tree.bytes) = sym (length-written from piece n.tree.bytes (λ some. omega (arith, some, piece_len, c.saturating_sub.ensures, n.long))) in
-    let room : span (H.payload d) depth ≡ span (H.payload a) depth = ap (λ p. span p depth) keeps.payload in
     record {
       tree = root_wrote depth n.tree n.same long keeps w;
-      fits = omega (arith, long, n.long, tail_len, rest_len, c.saturating_sub.ensures, c.saturating_sub-2.ensures, c.requires.fits, c.requires.level, room, c.requires.over);
+      sum = omega (arith, long, n.long, tail_len, rest_len, c.saturating_sub.ensures, c.saturating_sub-2.ensures, c.requires.over);
     }) c.append.ensures.outcome
     (λ n w y r.
     let k_is : c.saturating_sub-2.result ≡ from - length n.tree.bytes = omega (arith, c.saturating_sub-2.ensures, n.long) in
@@ -59,3 +60,89 @@ returns-clause-outcome g c =
     ap (λ xs. written_at from xs n.tree.bytes ++ tail) c.split_at.ensures.front ∙ ap (λ xs. written_at from (take inside bytes) n.tree.bytes ++ xs) tail_is
     ∙ written_over from bytes n.tree.bytes inside c.requires.some (omega (arith, c.requires.over, n.long)) (omega (arith, c.saturating_sub.ensures, n.long)) in
     wrote_then w (subst (λ v. IsNewRoot H d e root n.tree.ids v) is r))
+
+pub returns-in-Err-clause-grown : goal.returns-in-Err-clause-grown
+returns-in-Err-clause-grown g c n s h =
+    let M = g.S.Blocks.meanings in
+    let H0 = g.S.Blocks.holdings in
+    let H = tx_holdings H0 in
+    let laws = tx_laws M H0 g.met.S.Blocks.lawful in
+    let steady = steady_over store_in changes_in M H0 g.met.S.Blocks.steady in
+    let a = c.args.tx.now in
+    let d = c.write_below.new.tx in
+    let root = c.args.root.now.0 in
+    let depth = c.args.level.depth in
+    let from = c.args.from in
+    let len = length n.tree.bytes in
+    let piece = c.split_at.result.0.now in
+    let inside = c.saturating_sub.result in
+    let piece_len : length piece ≡ inside = c.split_at.ensures.front_len in
+    let fits : 0 < length piece → from + length piece ≤ len = λ some. omega (arith, some, piece_len, c.saturating_sub.ensures, n.long) in
+    let tree = root_tree depth n.told n.tree n.same in
+    let need : MayWrite H a depth root from (length piece) = record { tree = tree; inside = fits } in
+    let only = c.write_below.ensures.only need s h in
+    subst (λ k. Grew (H.payload a) (H.content a) (H.content d) k root from c.args.len a.overlay d.overlay) (sym n.same) (record {
+      stay = c.write_below.ensures.there;
+      only = λ q there. range_only (H.payload a) (H.content a) depth root from (length piece) c.args.len a.overlay d.overlay q (λ some. omega (arith, fits some, n.long)) only;
+    })
+
+pub returns-in-Err-after_zeros-clause-grown : goal.returns-in-Err-after_zeros-clause-grown
+returns-in-Err-after_zeros-clause-grown g c n s h =
+    let M = g.S.Blocks.meanings in
+    let H0 = g.S.Blocks.holdings in
+    let H = tx_holdings H0 in
+    let laws = tx_laws M H0 g.met.S.Blocks.lawful in
+    let steady = steady_over store_in changes_in M H0 g.met.S.Blocks.steady in
+    let a = c.args.tx.now in
+    let d = c.write_below.new.tx in
+    let root = c.args.root.now.0 in
+    let depth = c.args.level.depth in
+    let from = c.args.from in
+    let len = length n.tree.bytes in
+    let piece = c.split_at.result.0.now in
+    let inside = c.saturating_sub.result in
+    let piece_len : length piece ≡ inside = c.split_at.ensures.front_len in
+    let fits : 0 < length piece → from + length piece ≤ len = λ some. omega (arith, some, piece_len, c.saturating_sub.ensures, n.long) in
+    let tree = root_tree depth n.told n.tree n.same in
+    let need : MayWrite H a depth root from (length piece) = record { tree = tree; inside = fits } in
+    let only = c.write_below.ensures.only need s h in
+    subst (λ k. Grew (H.payload a) (H.content a) (H.content d) k root from c.args.len a.overlay d.overlay) (sym n.same) (record {
+      stay = c.write_below.ensures.there;
+      only = λ q there. range_only (H.payload a) (H.content a) depth root from (length piece) c.args.len a.overlay d.overlay q (λ some. omega (arith, fits some, n.long)) only;
+    })
+
+pub returns-clause-grown : goal.returns-clause-grown
+returns-clause-grown g c n s h =
+    let M = g.S.Blocks.meanings in
+    let H0 = g.S.Blocks.holdings in
+    let H = tx_holdings H0 in
+    let laws = tx_laws M H0 g.met.S.Blocks.lawful in
+    let steady = steady_over store_in changes_in M H0 g.met.S.Blocks.steady in
+    let a = c.args.tx.now in
+    let d = c.write_below.new.tx in
+    let root = c.args.root.now.0 in
+    let depth = c.args.level.depth in
+    let from = c.args.from in
+    let len = length n.tree.bytes in
+    let piece = c.split_at.result.0.now in
+    let inside = c.saturating_sub.result in
+    let piece_len : length piece ≡ inside = c.split_at.ensures.front_len in
+    let fits : 0 < length piece → from + length piece ≤ len = λ some. omega (arith, some, piece_len, c.saturating_sub.ensures, n.long) in
+    let tree = root_tree depth n.told n.tree n.same in
+    let need : MayWrite H a depth root from (length piece) = record { tree = tree; inside = fits } in
+    let e = c.append.new.tx in
+    let before = unforged_before laws a d e c.append.ensures.outcome.loaded h in
+    let loaded = laws.forgeries_grow a d c.write_below.ensures.outcome.loaded in
+    let only = c.write_below.ensures.only need s before in
+    let wrote = c.in-Ok.ensures.outcome.value need s before in
+    let keeps = keeps_below H0 a d c.write_below.ensures.below in
+    let r = root_wrote depth n.tree n.same (sym (length-written from piece n.tree.bytes fits)) keeps wrote in
+    let more = c.append.ensures.only r (c.write_below.ensures.outcome.sound s before) (omega (arith, h, loaded)) in
+    subst (λ k. Grew (H.payload a) (H.content a) (H.content e) k root from c.args.len a.overlay e.overlay) (sym n.same) (record {
+      stay = λ q there. c.append.ensures.there q (c.write_below.ensures.there q there);
+      only = λ q there. border_only a.overlay d.overlay e.overlay q (range_only (H.payload a) (H.content a) depth root from (length piece) c.args.len a.overlay d.overlay q (λ some. omega (arith, fits some, n.long)) only)
+          (elim (more q (c.write_below.ensures.there q there)) [
+            | inl same ↦ inl same
+            | inr on ↦ inr (border_back H0 a d depth root from (length piece) q (steady.at_least a c.requires.intact) tree fits c.write_below.ensures.below only on)
+          ]);
+    })

@@ -1,4 +1,4 @@
-use Rattle.std.proofs.Common.{◌≤◌, ◌+◌, sym, ◌∙◌, subst, length, arith}
+use Rattle.std.proofs.Common.{◌≤◌, ◌+◌, refl, sym, ◌∙◌, subst, length, arith}
 use Rattle.std.specs.FinMap as fin
 use Rattle.outcome.specs.Bytes.{pieces}
 use Rattle.outcome.specs.Outcome.{then_}
@@ -6,10 +6,11 @@ use Rattle.data_nodes.specs.Layout.{node_of, room}
 use Rattle.store_api.specs.Overlay.{steady_over}
 use Rattle.data_tree.proofs.Loads.{store_in, changes_in, tx_holdings, tx_laws}
 use Rattle.data_tree.proofs.Counting.{not_zero}
-use Rattle.data_tree.proofs.Forests.{stays-then}
+use Rattle.data_tree.proofs.Forests.{stays-same, stays-then}
 use Rattle.data_tree.proofs.Puts.{keeps_below, on_any, unforged_before}
-use Rattle.tree_ranges.specs.Border.{OnlyLeaves}
+use Rattle.tree_ranges.specs.Border.{Grew, OnlyLeaves}
 use Rattle.tree_ranges.specs.Writing.{MayWriteNode}
+use Rattle.tree_ranges.proofs.Borders.{grew_nothing, grew_since}
 use Rattle.tree_ranges.proofs.Costs.{cost_few}
 use Rattle.tree_ranges.proofs.Inside.{root_depth, root_tree, root_at, new_since, wrote_root, enough, ids_same}
 use Rattle.tree_ranges.proofs.Leaves.{only_since}
@@ -73,50 +74,60 @@ pub returns-clause-outcome : goal.returns-clause-outcome
 returns-clause-outcome g c =
     let laws = tx_laws g.S.Blocks.meanings g.S.Blocks.holdings g.met.S.Blocks.lawful in
     let stays = c.open_root.ensures.stays in
-    then_ laws c.in-Ok.ensures.outcome (λ n p. root_at stays p.0 n) c.write_range.ensures.outcome (λ n p y r. new_since stays p.0 r)
+    let node = node_of c.in-Ok.found.0 in
+    let depth = c.in-Ok.found.1.depth in
+    then_ laws c.in-Ok.ensures.outcome (λ n p. record { tree = root_at stays p.0 n; told = stays.told ∙ p.0; same = root_depth node depth n p.1.0 c.in-Ok.ensures.depth; long = p.1.1 }) c.write_over.ensures.outcome (λ n p y r. new_since stays p.0 r)
 
 pub returns-clause-shallow : goal.returns-clause-shallow
 returns-clause-shallow g c s h some =
     let laws = tx_laws g.S.Blocks.meanings g.S.Blocks.holdings g.met.S.Blocks.lawful in
-    on_any c.write_range.result (c.in-Ok.ensures.shallow s (unforged_before laws c.args.tx.now c.open_root.new.tx c.write_range.new.tx c.write_range.ensures.outcome.loaded h))
+    on_any c.write_over.result (c.in-Ok.ensures.shallow s (unforged_before laws c.args.tx.now c.open_root.new.tx c.write_over.new.tx c.write_over.ensures.outcome.loaded h))
 
 pub returns-clause-inside : goal.returns-clause-inside
 returns-clause-inside g c n s h =
     let laws = tx_laws g.S.Blocks.meanings g.S.Blocks.holdings g.met.S.Blocks.lawful in
-    let before = unforged_before laws c.args.tx.now c.open_root.new.tx c.write_range.new.tx c.write_range.ensures.outcome.loaded h in
+    let before = unforged_before laws c.args.tx.now c.open_root.new.tx c.write_over.new.tx c.write_over.ensures.outcome.loaded h in
     let p = c.in-Ok.ensures.outcome.value n.tree s before in
     absurd (omega (arith, c.if-from-bytes.false, p.1.1, n.fits))
 
 pub returns-clause-ids : goal.returns-clause-ids
 returns-clause-ids g c n s h =
     let laws = tx_laws g.S.Blocks.meanings g.S.Blocks.holdings g.met.S.Blocks.lawful in
-    let before = unforged_before laws c.args.tx.now c.open_root.new.tx c.write_range.new.tx c.write_range.ensures.outcome.loaded h in
+    let before = unforged_before laws c.args.tx.now c.open_root.new.tx c.write_over.new.tx c.write_over.ensures.outcome.loaded h in
     let p = c.in-Ok.ensures.outcome.value n.tree s before in
     absurd (omega (arith, c.if-from-bytes.false, p.1.1, n.fits))
 
-pub returns-then-from-bytes-2-clause-outcome : goal.returns-then-from-bytes-2-clause-outcome
-returns-then-from-bytes-2-clause-outcome g c =
+pub returns-then-is_empty-clause-grown : goal.returns-then-is_empty-clause-grown
+returns-then-is_empty-clause-grown g c n s h =
+    let H = tx_holdings g.S.Blocks.holdings in
+    let a = c.args.tx.now in
+    grew_nothing {H = H} {a = a} {b = a} (H.payload a) n.tree.depth c.args.root.now.0 c.args.from (length n.tree.bytes) a.overlay a.overlay (stays-same H a) refl
+
+pub returns-in-Err-clause-grown : goal.returns-in-Err-clause-grown
+returns-in-Err-clause-grown g c n s h =
+    let H = tx_holdings g.S.Blocks.holdings in
+    let a = c.args.tx.now in
+    let b = c.open_root.new.tx in
+    grew_nothing {H = H} {a = a} {b = b} (H.payload a) n.tree.depth c.args.root.now.0 c.args.from (length n.tree.bytes) a.overlay b.overlay c.open_root.ensures.stays c.open_root.ensures.overlay
+
+pub returns-then-from-bytes-clause-grown : goal.returns-then-from-bytes-clause-grown
+returns-then-from-bytes-clause-grown g c n s h =
     let laws = tx_laws g.S.Blocks.meanings g.S.Blocks.holdings g.met.S.Blocks.lawful in
+    let before = unforged_before laws c.args.tx.now c.open_root.new.tx c.write_in.new.tx c.write_in.ensures.outcome.loaded h in
+    let p = c.in-Ok.ensures.outcome.value n.tree s before in
+    absurd (omega (arith, c.if-from-bytes.true, p.1.1, n.over))
+
+pub returns-clause-grown : goal.returns-clause-grown
+returns-clause-grown g c n s h =
+    let H = tx_holdings g.S.Blocks.holdings in
+    let laws = tx_laws g.S.Blocks.meanings g.S.Blocks.holdings g.met.S.Blocks.lawful in
+    let a = c.args.tx.now in
+    let b = c.open_root.new.tx in
+    let e = c.write_over.new.tx in
     let stays = c.open_root.ensures.stays in
-    let node = node_of c.in-Ok.found.0 in
-    let depth = c.in-Ok.found.1.depth in
-    then_ laws c.in-Ok.ensures.outcome (λ n p. record { tree = root_at stays p.0 n; told = stays.told ∙ p.0; same = root_depth node depth n p.1.0 c.in-Ok.ensures.depth; long = p.1.1 }) c.write_over.ensures.outcome (λ n p y r. new_since stays p.0 r)
-
-pub returns-then-from-bytes-2-clause-shallow : goal.returns-then-from-bytes-2-clause-shallow
-returns-then-from-bytes-2-clause-shallow g c s h some =
-    let laws = tx_laws g.S.Blocks.meanings g.S.Blocks.holdings g.met.S.Blocks.lawful in
-    on_any c.write_over.result (c.in-Ok.ensures.shallow s (unforged_before laws c.args.tx.now c.open_root.new.tx c.write_over.new.tx c.write_over.ensures.outcome.loaded h))
-
-pub returns-then-from-bytes-2-clause-inside : goal.returns-then-from-bytes-2-clause-inside
-returns-then-from-bytes-2-clause-inside g c n s h =
-    let laws = tx_laws g.S.Blocks.meanings g.S.Blocks.holdings g.met.S.Blocks.lawful in
-    let before = unforged_before laws c.args.tx.now c.open_root.new.tx c.write_over.new.tx c.write_over.ensures.outcome.loaded h in
+    let before = unforged_before laws a b e c.write_over.ensures.outcome.loaded h in
+    let loaded = laws.forgeries_grow a b c.open_root.ensures.outcome.loaded in
     let p = c.in-Ok.ensures.outcome.value n.tree s before in
-    absurd (omega (arith, c.if-from-bytes.false, p.1.1, n.fits))
-
-pub returns-then-from-bytes-2-clause-ids : goal.returns-then-from-bytes-2-clause-ids
-returns-then-from-bytes-2-clause-ids g c n s h =
-    let laws = tx_laws g.S.Blocks.meanings g.S.Blocks.holdings g.met.S.Blocks.lawful in
-    let before = unforged_before laws c.args.tx.now c.open_root.new.tx c.write_over.new.tx c.write_over.ensures.outcome.loaded h in
-    let p = c.in-Ok.ensures.outcome.value n.tree s before in
-    absurd (omega (arith, c.if-from-bytes.false, p.1.1, n.fits))
+    let same = root_depth (node_of c.in-Ok.found.0) c.in-Ok.found.1.depth n.tree p.1.0 c.in-Ok.ensures.depth in
+    let grew = c.write_over.ensures.grown (record { tree = root_at stays p.0 n.tree; told = stays.told ∙ p.0; same = same; long = p.1.1 }) (c.open_root.ensures.outcome.sound s before) (omega (arith, h, loaded)) in
+    grew_since {H = H} {a = a} {b = b} {c = e} n.tree.depth c.args.root.now.0 c.args.from (length n.tree.bytes) a.overlay b.overlay e.overlay stays p.0 c.open_root.ensures.overlay (subst (λ k. Grew (H.payload b) (H.content b) (H.content e) n.tree.depth c.args.root.now.0 c.args.from k b.overlay e.overlay) p.1.1 grew)

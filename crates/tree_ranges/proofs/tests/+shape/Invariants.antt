@@ -1,0 +1,9 @@
+use Rattle.std.proofs.Common.{◌<◌}
+use Rattle.data_tree.proofs.Loads.{tx_meanings}
+use Rattle.tree_ranges.proofs.tests.+shape.Given as goal
+
+abbrev pub decreases-shape_below : goal.decreases-shape_below
+decreases-shape_below g l = l.depth
+
+abbrev pub invariant-loop-child : goal.invariant-loop-child
+invariant-loop-child g l = record { intact : (tx_meanings g.S.Blocks.meanings g.S.Blocks.holdings).intact l.tx; deep : 0 < l.depth }
