@@ -1,10 +1,10 @@
 -- A line that is read piece by piece.
-use Rattle.std.proofs.Common.{◌≡◌, not, ◌<◌, ◌++◌, [], ◌∷◌, ℕ, List, Bool, true, false, MatchBool, length, ap, ◌∙◌, arith, sym, subst, append_assoc, append-nil, IsTrue, refl}
+use Rattle.std.proofs.Common.{◌≡◌, not, ◌<◌, ◌++◌, [], ◌∷◌, ℕ, List, Bool, true, false, MatchBool, Result, Ok, Err, OnErr, length, ap, ◌∙◌, arith, sym, subst, append_assoc, append-nil, IsTrue, refl}
 use Rattle.std.specs.declared.option.Option.{Option}
 use Rattle.std.specs.declared.option.Option.TheVariants.{None, Some}
 use Rattle.outside.specs.Streams.{Ends, Gives}
 use Rattle.line_io.specs.Lines.{IsUnbroken, kept, kept_on, first_line, first_of}
-use Rattle.line_io.specs.Reading.{coming, Line, TookLine, TookAhead, ShowsFirst}
+use Rattle.line_io.specs.Reading.{coming, Line, TookLine, TookAhead, ShowsFirst, ShowsUnended}
 use Rattle.line_io.proofs.Cutting.{IsUnbroken-append, kept-append, lines-cut, lines-last}
 use Rattle.line_io.proofs.Flow.{coming-append, Gives-append, Line-cut, Line-last}
 
@@ -117,3 +117,14 @@ shown_whole first ahead before part all shown now old rest left p t e f = (
   t.gave,
   f ∙ (p.shown_is ∙ ap kept (sym (ap first_line (t.same ∙ (ap (λ (l : List ℕ). part ++ l) e ∙ append-nil part)) ∙ first_whole part p.unbroken))),
 )
+
+-- no line ends in the pieces so far, where nothing is read ahead
+pub unended_whole : (first ahead before part : List ℕ) (all shown now old rest left : Option (List ℕ)) → Part all shown before left part → Taken first ahead old rest part
+    → ahead ≡ [] → now ≡ shown → ShowsUnended first old rest now
+unended_whole first ahead before part all shown now old rest left p t e f =
+    let whole : part ≡ first ++ t.taken = sym (t.same ∙ (ap (λ (l : List ℕ). part ++ l) e ∙ append-nil part)) in
+    (t.taken, t.gave, subst IsUnbroken whole p.unbroken, f ∙ (p.shown_is ∙ ap kept whole))
+
+pub on_err : {T : Type 0} {E : Type 0} (result : Result T E) (P : Type 0) → P → OnErr result P
+on_err (Ok x) P p = tt
+on_err (Err e) P p = p

@@ -3,7 +3,7 @@ use Rattle.std.specs.Prelude.{◌≡◌, ℕ, ◌+◌, ◌-◌, ◌^◌, Bool, f
 use Rattle.std.specs.declared.option.Option.{Option}
 use Rattle.std.specs.declared.option.Option.TheVariants.{None, Some}
 use Rattle.outside.specs.Streams.{Gives}
-use Rattle.line_io.specs.Lines.{lines, first_line, kept}
+use Rattle.line_io.specs.Lines.{lines, first_line, kept, IsUnbroken}
 
 -- the line that was read last, the bytes that were read ahead, how many were read, and whether the input has ended
 pub record Reading : Type 0 where
@@ -42,6 +42,10 @@ TookAhead ahead old new now = (taken : List ℕ) × Gives old new taken × (now 
 -- bytes were taken, and of the first line in what was read ahead and in them is kept what is shown
 abbrev pub ShowsFirst : List ℕ → Option (List ℕ) → Option (List ℕ) → Option (List ℕ) → Type 0
 ShowsFirst ahead old new shown = (taken : List ℕ) × Gives old new taken × (shown ≡ kept (first_line (ahead ++ taken)))
+
+-- bytes were taken, no line ends in what was read ahead and in them, and of all that is kept what is shown
+abbrev pub ShowsUnended : List ℕ → Option (List ℕ) → Option (List ℕ) → Option (List ℕ) → Type 0
+ShowsUnended ahead old new shown = (taken : List ℕ) × Gives old new taken × IsUnbroken (ahead ++ taken) × (shown ≡ kept (ahead ++ taken))
 
 -- how many bytes are still to be answered
 abbrev pub remaining : Reading → ℕ

@@ -8,7 +8,7 @@ ghost use Rattle.outside.specs.Causes.{RoseBy};
 ghost use Rattle.outside.specs.Streams.{Gives, Ends};
 ghost use Rattle.line_io.specs.Asking.{ReadsLine, LooksAhead};
 ghost use Rattle.line_io.specs.Lines.{is_newline, IsUnbroken, kept_on};
-ghost use Rattle.line_io.specs.Reading.{Reading, fresh, coming, total, TookLine, TookAhead, ShowsFirst, remaining};
+ghost use Rattle.line_io.specs.Reading.{Reading, fresh, coming, total, TookLine, TookAhead, ShowsFirst, ShowsUnended, remaining};
 
 use crate::line_buffer::LineBuffer;
 use block_id::{Failed, Memory};
@@ -177,6 +177,8 @@ impl LineReader {
             TookLine (coming self.old.ahead (I.rest input.old)) self.new.line (coming self.new.ahead (I.rest input.new))) }
         ensures none { IfOk result (λ found. found ≡ false → Ends (coming self.old.ahead (I.rest input.old))) }
         ensures shown { ShowsFirst self.old.ahead (I.rest input.old) (I.rest input.new) self.new.line }
+        ensures unended { OnErr result (ShowsUnended self.old.ahead (I.rest input.old) (I.rest input.new) self.new.line) }
+        ensures over { IfOk result (λ found. found ≡ false → Ends (coming self.new.ahead (I.rest input.new))) }
         ensures read { IfOk result (λ found. found ≡ false → Ends (I.rest input.new)) }
         ensures ended { IfOk result (λ found. self.new.ended ≡ true → Ends (coming self.new.ahead (I.rest input.new))) }
         ensures reads { OnOk result (ReadsLine I.took self.old.ahead input.old input.new) }

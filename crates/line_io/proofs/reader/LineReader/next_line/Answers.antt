@@ -1,9 +1,9 @@
 use Rattle.std.proofs.Common.{◌≡◌, ◌≤◌, ◌<◌, ◌+◌, ◌++◌, ℕ, List, [], length, ap, ◌∙◌, arith, sym, subst, length-append}
 use Rattle.std.specs.declared.option.Option.{Option}
 use Rattle.line_io.specs.Lines.{IsUnbroken, kept_on}
-use Rattle.line_io.specs.Reading.{Reading, total, remaining}
+use Rattle.line_io.specs.Reading.{Reading, ShowsUnended, total, remaining}
 use Rattle.line_io.proofs.Asking.{asked_more, asked_line, asked_none, asked_failed}
-use Rattle.line_io.proofs.Progress.{Part, Part-ahead, Part-more, Taken, Taken-ahead, Taken-more, shown_cut, shown_whole, took_cut, took_last, at_true, at_false, at_not, Ends-less, Ends-rest}
+use Rattle.line_io.proofs.Progress.{Part, Part-ahead, Part-more, Taken, Taken-ahead, Taken-more, shown_cut, shown_whole, unended_whole, on_err, took_cut, took_last, at_true, at_false, at_not, Ends-less, Ends-rest}
 use Rattle.line_io.proofs.reader.LineReader.next_line.Goals as goal
 
 part_of_taken : (all first_rest : Option (List ℕ)) (first : List ℕ) (old new : Reading) (rest : Option (List ℕ)) (part : List ℕ) (n : ℕ) → Part all old.line old.ahead rest part
@@ -51,6 +51,9 @@ returns-clause-line g c = λ t.
     let p = Part-ahead _ _ _ _ _ _ _ i.0 i.1 a.line a.came in
     took_last _ _ _ _ i.0 p (at_not _ _ _ t i.2) (at_false _ _ _ c.if-branch.false a.some)
 
+pub returns-clause-over : goal.returns-clause-over
+returns-clause-over g c = λ f. at_false _ _ _ c.if-branch.false c.in_ok-look_ahead.ensures.some
+
 pub returns-clause-read : goal.returns-clause-read
 returns-clause-read g c = λ f. Ends-rest _ _ (at_false _ _ _ c.if-branch.false c.in_ok-look_ahead.ensures.some)
 
@@ -59,6 +62,12 @@ returns-in_err-look_ahead-clause-shown g c =
     let i = c.loop-self.invariant.part in
     let a = c.in_err-look_ahead.ensures in
     shown_whole _ c.look_ahead.new.self.ahead _ i.0 _ _ _ _ _ _ i.1 (Taken-ahead _ _ _ i.0 _ _ _ i.4 a.gave) a.err a.line
+
+pub returns-in_err-look_ahead-clause-unended : goal.returns-in_err-look_ahead-clause-unended
+returns-in_err-look_ahead-clause-unended g c =
+    let i = c.loop-self.invariant.part in
+    let a = c.in_err-look_ahead.ensures in
+    on_err c.from_residual.result (ShowsUnended _ _ _ _) (unended_whole _ c.look_ahead.new.self.ahead _ i.0 _ _ _ _ _ _ i.1 (Taken-ahead _ _ _ i.0 _ _ _ i.4 a.gave) a.err a.line)
 
 pub returns-then-take_piece-clause-shown : goal.returns-then-take_piece-clause-shown
 returns-then-take_piece-clause-shown g c =
