@@ -1,0 +1,4 @@
+mod Lookups
+mod Puts
+mod Renewing
+mod Caching

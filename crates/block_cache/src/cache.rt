@@ -1,0 +1,225 @@
+// A store of blocks with a cache.
+ghost use Rattle.std.specs.Prelude.{◌≡◌, ◌≤◌, ◌↔◌, ℕ, true, false, List, [], OnOk, OnErr, IfOk, IfErr, IfSome, length, is_some};
+ghost use Rattle.std.specs.declared.result.Result.TheVariants.{Err};
+ghost use Rattle.std.specs.FinMap as fin;
+ghost use Rattle.outside.specs.Causes.{HasCause};
+ghost use Rattle.outside.specs.View.{bytes_of};
+ghost use Rattle.outside.specs.Writes.{after_writes, StopsAt};
+ghost use Rattle.outcome.specs.Meanings.{IsOfBlocks};
+ghost use Rattle.outcome.specs.Outcome.{Outcome};
+ghost use Rattle.lru.specs.LruCache.{lru_cache};
+ghost use Rattle.store_api.specs.Content.{Id, SameIds, SameContent};
+ghost use Rattle.store_api.specs.Lists.{MayConfigure, with_config};
+ghost use Rattle.store_api.specs.Holdings.{Fits, Changed, IsSpent, Stays};
+ghost use Rattle.store_api.specs.Loads.{answer_of};
+ghost use Rattle.block_cache.specs.Payloads.{AfterLoad, Renewed, cached_for};
+ghost use Rattle.block_cache.specs.Through.{LoadsPast, meanings_past, holdings_past, loads_past, durables_past, lawful_past, steady_past, stays_past, enduring_past};
+
+use crate::payloads::{cache, renew_all};
+use block_id::{BlockId, Fail, Memory};
+use lru::LruCache;
+use outside::GetFail;
+use rand_core::Rng;
+use std::alloc::Global;
+use std::num::NonZeroUsize;
+use store_api::{ApplyError, Batch, Blocks, BlocksMut, Durable};
+
+/// A store with the payloads in memory that were loaded from it last.
+pub struct BlockCache<S> {
+    store: S,
+    cached: LruCache<BlockId, Vec<u8>>,
+}
+
+impl<S: Blocks> BlockCache<S> {
+    /// A cache of at most so many blocks over this store, with none so far. Where there is no memory for it, the store comes back.
+    pub fn new(alloc: Global, store: S, capacity: usize) -> Result<BlockCache<S>, (Memory, S)>
+        requires intact { S.meanings.intact store }
+        requires capacity { 1 ≤ capacity }
+        ensures intact { IfOk result (λ cache. ⟦<BlockCache<S> as Blocks>⟧.meanings.intact cache) }
+        ensures store { IfOk result (λ cache. cache.store ≡ store) }
+        ensures cached { IfOk result (λ cache. cache.cached ≡ lru_cache [] capacity) }
+        ensures sound { IfOk result (λ cache. S.meanings.sound store → ⟦<BlockCache<S> as Blocks>⟧.meanings.sound cache) }
+        ensures err { IfErr result (λ failed. failed.1 ≡ store) }
+    {
+        let blocks = NonZeroUsize::new(capacity).unwrap();
+        match LruCache::new(alloc, blocks) {
+            Ok(cached) => Ok(BlockCache { store, cached }),
+            Err(_) => Err((Memory, store)),
+        }
+    }
+
+    /// The store below.
+    pub fn store(&self) -> &S
+        ensures { result.now ≡ self.now.store }
+    {
+        &self.store
+    }
+
+    /// The store below, without the cache.
+    pub fn into_store(self) -> S
+        ensures { result ≡ self.store }
+    {
+        let BlockCache { store, cached } = self;
+        drop(cached);
+        store
+    }
+}
+
+impl<S: Blocks> Blocks for BlockCache<S> {
+    ghost meanings = { meanings_past (λ c. c.store) (λ c. c.cached) S.meanings S.holdings };
+
+    ghost holdings = { holdings_past (λ c. c.store) S.holdings };
+
+    ghost loads = { loads_past (λ c. c.store) (λ c. c.cached) S.loads };
+
+    /// A cached payload is answered without a call on the store below.
+    fn load(&mut self, alloc: Global, id: &BlockId) -> Result<Option<Vec<u8>>, Fail>
+        requires { ⟦<BlockCache<S> as Blocks>⟧.meanings.intact self.old }
+        ensures outcome { Outcome ⟦<BlockCache<S> as Blocks>⟧.meanings Unit self.old self.new result (λ _ answer. bytes_of answer ≡ ⟦<BlockCache<S> as Blocks>⟧.holdings.content self.old id.now.0) }
+        ensures stays { Stays ⟦<BlockCache<S> as Blocks>⟧.holdings self.old self.new }
+        ensures of_blocks { IfErr result IsOfBlocks }
+        ensures none { IfOk result (λ answer. is_some answer ≡ is_some (⟦<BlockCache<S> as Blocks>⟧.holdings.content self.old id.now.0)) }
+        ensures sized { IfOk result (λ answer. IfSome answer (λ bytes. length bytes.items ≡ ⟦<BlockCache<S> as Blocks>⟧.holdings.payload self.old)) }
+        ensures loads { LoadsPast S.loads (cached_for self.old.cached id.now.0) self.old.store self.new.store id.now.0 (answer_of result) }
+
+        ensures cached { AfterLoad (is_some (cached_for self.old.cached id.now.0)) id.now (answer_of result) self.old.cached self.new.cached }
+    {
+        if let Some(bytes) = self.cached.peek(id) {
+            let payload = bytes.as_slice().to_vec(alloc)?;
+            self.cached.promote(id);
+            return Ok(Some(payload));
+        }
+        match self.store.load(alloc, id)? {
+            Some(payload) => {
+                cache(alloc, &mut self.cached, id, &payload);
+                Ok(Some(payload))
+            }
+            None => Ok(None),
+        }
+    }
+
+    fn is_used(&self, id: &BlockId) -> bool {
+        self.store.is_used(id)
+    }
+
+    fn contains(&self, id: &BlockId) -> bool {
+        self.store.contains(id)
+    }
+
+    fn fresh(&self, drawn: BlockId) -> BlockId {
+        self.store.fresh(drawn)
+    }
+
+    fn payload(&self) -> usize {
+        self.store.payload()
+    }
+
+    ghost lawful = { lawful_past (λ c. c.store) (λ c. c.cached) S.meanings S.holdings S.lawful };
+
+    ghost steady = { steady_past (λ c. c.store) (λ c. c.cached) S.meanings S.holdings S.steady };
+}
+
+impl<S: BlocksMut> BlocksMut for BlockCache<S> {
+    ghost applied = { λ a b changes. S.applied a.store b.store changes };
+
+    ghost drawn = { λ a b changes stream left. S.drawn a.store b.store changes stream left };
+
+    /// What was cached for a changed id is its new payload afterwards, or nothing.
+    fn apply<R: Rng>(
+        &mut self,
+        alloc: Global,
+        batch: &Batch,
+        chance: &mut R,
+    ) -> Result<(), ApplyError>
+        requires intact { ⟦<BlockCache<S> as Blocks>⟧.meanings.intact self.old }
+        requires fits { Fits ⟦<BlockCache<S> as Blocks>⟧.holdings self.old batch.now }
+        ensures intact { ⟦<BlockCache<S> as Blocks>⟧.meanings.intact self.new }
+        ensures changed { OnOk result (Changed ⟦<BlockCache<S> as Blocks>⟧.meanings ⟦<BlockCache<S> as Blocks>⟧.holdings self.old self.new batch.now) }
+        ensures applied { OnOk result (S.applied self.old.store self.new.store batch.now) }
+        ensures drawn { OnOk result (S.drawn self.old.store self.new.store batch.now (R.stream chance.old) (R.stream chance.new)) }
+        ensures nothing { OnErr result (S.applied self.old.store self.new.store fin.empty) }
+        ensures forgeries { ⟦<BlockCache<S> as Blocks>⟧.meanings.forgeries self.new ≡ ⟦<BlockCache<S> as Blocks>⟧.meanings.forgeries self.old }
+        ensures lies { ⟦<BlockCache<S> as Blocks>⟧.meanings.lies self.new ≡ ⟦<BlockCache<S> as Blocks>⟧.meanings.lies self.old }
+        ensures faults { ⟦<BlockCache<S> as Blocks>⟧.meanings.faults self.new ≡ ⟦<BlockCache<S> as Blocks>⟧.meanings.faults self.old }
+        ensures spent { (result ≡ Err ApplyError.Spent) ↔ IsSpent ⟦<BlockCache<S> as Blocks>⟧.holdings self.old batch.now }
+        ensures loaded { OnErr result (⟦<BlockCache<S> as Blocks>⟧.meanings.loaded self.old self.new) }
+        ensures sound { OnErr result (⟦<BlockCache<S> as Blocks>⟧.meanings.sound self.old → ⟦<BlockCache<S> as Blocks>⟧.meanings.sound self.new) }
+
+        ensures renewed { OnOk result ((id : Id) → Renewed (fin.get batch.now id) (cached_for self.old.cached id) (cached_for self.new.cached id)) }
+        ensures kept { OnErr result (self.new.cached ≡ self.old.cached) }
+        ensures capacity { self.new.cached.cap ≡ self.old.cached.cap }
+    {
+        self.store.apply(alloc, batch, chance)?;
+        renew_all(alloc, &mut self.cached, batch);
+        Ok(())
+    }
+
+    ghost settled = { λ a b loaded. stays_past (λ c. c.store) S.Blocks.holdings a b (S.settled a.store b.store loaded) };
+}
+
+impl<S: Durable> Durable for BlockCache<S> {
+    ghost durables = { durables_past (λ c. c.store) S.durables };
+
+    ghost records = { S.records };
+
+    fn buffered(&self) -> usize {
+        self.store.buffered()
+    }
+
+    fn state_bytes(&self, alloc: Global, with_list: bool) -> Result<Vec<u8>, Memory> {
+        self.store.state_bytes(alloc, with_list)
+    }
+
+    fn put_config(&mut self, alloc: Global, bytes: Vec<u8>) -> Result<(), Memory>
+        requires intact { ⟦<BlockCache<S> as Blocks>⟧.meanings.intact self.old }
+        requires bytes { MayConfigure bytes.items }
+        ensures intact { ⟦<BlockCache<S> as Blocks>⟧.meanings.intact self.new }
+        ensures identity { S.durables.identity self.new.store ≡ S.durables.identity self.old.store }
+        ensures ok { OnOk result (S.durables.list self.new.store ≡ with_config bytes.items (S.durables.list self.old.store)) }
+        ensures err { OnErr result (⟦<BlockCache<S> as Blocks>⟧.meanings.loaded self.old self.new) }
+        ensures stays { Stays ⟦<BlockCache<S> as Blocks>⟧.holdings self.old self.new }
+        ensures empty { S.durables.record_of self.new.store false ≡ S.durables.record_of self.old.store false }
+        ensures trace { S.durables.trace self.new.store ≡ S.durables.trace self.old.store }
+        ensures configures { OnOk result (S.records.configures (S.durables.record_of self.new.store true) (S.durables.trace self.new.store) bytes.items) }
+        ensures sound { ⟦<BlockCache<S> as Blocks>⟧.meanings.sound self.old → ⟦<BlockCache<S> as Blocks>⟧.meanings.sound self.new }
+        ensures forgeries { ⟦<BlockCache<S> as Blocks>⟧.meanings.forgeries self.new ≡ ⟦<BlockCache<S> as Blocks>⟧.meanings.forgeries self.old }
+        ensures lies { ⟦<BlockCache<S> as Blocks>⟧.meanings.lies self.new ≡ ⟦<BlockCache<S> as Blocks>⟧.meanings.lies self.old }
+        ensures faults { ⟦<BlockCache<S> as Blocks>⟧.meanings.faults self.new ≡ ⟦<BlockCache<S> as Blocks>⟧.meanings.faults self.old }
+
+        ensures cached { self.new.cached ≡ self.old.cached }
+    {
+        self.store.put_config(alloc, bytes)
+    }
+
+    fn write_out(&mut self, alloc: Global) -> Result<(), GetFail>
+        requires { ⟦<BlockCache<S> as Blocks>⟧.meanings.intact self.old }
+        ensures intact { ⟦<BlockCache<S> as Blocks>⟧.meanings.intact self.new }
+        ensures identity { S.durables.identity self.new.store ≡ S.durables.identity self.old.store }
+        ensures ids { SameIds (⟦<BlockCache<S> as Blocks>⟧.holdings.content self.old) (⟦<BlockCache<S> as Blocks>⟧.holdings.content self.new) }
+        ensures content { ⟦<BlockCache<S> as Blocks>⟧.holdings.told self.old ≡ true → SameContent (⟦<BlockCache<S> as Blocks>⟧.holdings.content self.old) (⟦<BlockCache<S> as Blocks>⟧.holdings.content self.new) }
+        ensures payload { ⟦<BlockCache<S> as Blocks>⟧.holdings.payload self.new ≡ ⟦<BlockCache<S> as Blocks>⟧.holdings.payload self.old }
+        ensures told { ⟦<BlockCache<S> as Blocks>⟧.holdings.told self.new ≡ ⟦<BlockCache<S> as Blocks>⟧.holdings.told self.old }
+        ensures used { ⟦<BlockCache<S> as Blocks>⟧.holdings.used self.new ≡ ⟦<BlockCache<S> as Blocks>⟧.holdings.used self.old }
+        ensures spent { (id : Id) → ⟦<BlockCache<S> as Blocks>⟧.holdings.spent self.new id ≡ ⟦<BlockCache<S> as Blocks>⟧.holdings.spent self.old id }
+        ensures ok { OnOk result (S.durables.list self.new.store ≡ []) }
+        ensures writes { OnOk result (S.durables.trace self.new.store ≡ after_writes (S.durables.list self.old.store) (S.durables.trace self.old.store)) }
+        ensures stops { OnErr result (StopsAt (S.durables.list self.old.store) (S.durables.trace self.old.store) (S.durables.trace self.new.store) (S.durables.list self.new.store)) }
+        ensures empty { S.durables.record_of self.new.store false ≡ S.durables.record_of self.old.store false }
+        ensures stands { ⟦<BlockCache<S> as Blocks>⟧.meanings.sound self.old → (S.durables.identity self.old.store).marked ≡ false
+            → S.records.stands (S.durables.identity self.old.store) (S.durables.record_of self.old.store true) (S.durables.trace self.new.store) (⟦<BlockCache<S> as Blocks>⟧.holdings.content self.old) }
+        ensures kept_configures { (bytes : List ℕ) → S.records.configures (S.durables.record_of self.old.store true) (S.durables.trace self.old.store) bytes
+            → S.records.configures (S.durables.record_of self.old.store true) (S.durables.trace self.new.store) bytes }
+        ensures configures { ⟦<BlockCache<S> as Blocks>⟧.holdings.told self.old ≡ true → (bytes : List ℕ) → S.records.configures (S.durables.record_of self.old.store true) (S.durables.trace self.old.store) bytes
+            → S.records.configures (S.durables.record_of self.new.store true) (S.durables.trace self.new.store) bytes }
+        ensures sound { ⟦<BlockCache<S> as Blocks>⟧.meanings.sound self.old → ⟦<BlockCache<S> as Blocks>⟧.meanings.sound self.new }
+        ensures forgeries { ⟦<BlockCache<S> as Blocks>⟧.meanings.forgeries self.new ≡ ⟦<BlockCache<S> as Blocks>⟧.meanings.forgeries self.old }
+        ensures lies { ⟦<BlockCache<S> as Blocks>⟧.meanings.lies self.new ≡ ⟦<BlockCache<S> as Blocks>⟧.meanings.lies self.old }
+        ensures cause { HasCause (⟦<BlockCache<S> as Blocks>⟧.meanings.faults self.old) (⟦<BlockCache<S> as Blocks>⟧.meanings.faults self.new) result }
+
+        ensures cached { self.new.cached ≡ self.old.cached }
+    {
+        self.store.write_out(alloc)
+    }
+
+    ghost enduring = { enduring_past (λ c. c.store) (λ c. c.cached) S.Blocks.meanings S.Blocks.holdings S.applied S.durables S.records S.enduring };
+}
