@@ -1,12 +1,11 @@
 // What one run leaves is what the next one needs.
+ghost use Rattle.tree_commands.specs.Showing.{ShowsFiles};
 ghost use Rattle.histories.specs.Histories.{RunsCompose, RunsComposeFromCreate};
-
-use mount_core::Commands;
 
 /// Whatever the block directory returns, loses or refuses in any list of runs: each answers as a session of the plain tree from
 /// the tree that the one before it left, which is that of a kept point of its own session; or, once there was a violation,
 /// it is refused. The premise is that nothing that opens was forged.
-pub fn runs_compose<P: Commands>()
-    ensures all { RunsCompose P.shows }
-    ensures from_create { RunsComposeFromCreate P.shows }
+pub fn runs_compose()
+    ensures all { RunsCompose ShowsFiles }
+    ensures from_create { RunsComposeFromCreate ShowsFiles }
 {}

@@ -17,17 +17,20 @@ use Rattle.store_api.specs.Holdings.{has_id, is_free}
 use Rattle.fs_model.specs.Tree.{empty_tree}
 use Rattle.integrity_store.specs.Standing.{identity_of, records}
 use Rattle.integrity_store.specs.declared.store.IntegrityStore.{IntegrityStore}
+use Rattle.config_file.specs.ConfigOf.{IsOnly, opened}
 use Rattle.config_file.specs.Settings.{Settings}
+use Rattle.scrypt_kdf.specs.Cost.{Cost}
 use Rattle.config_file.specs.declared.config.Cipher.{Cipher}
 use Rattle.outside.specs.Causes.{RoseBy}
 use Rattle.session_saver.specs.declared.saver.SyncError.{SyncError}
 use Rattle.session_saver.specs.declared.saver.SyncError.TheVariants.{Memory as SyncMemory, FaultDirectory as SyncDirectory, FaultState as SyncState}
-use Rattle.mount_core.specs.Performing.{Showing}
+use Rattle.tree_commands.specs.Performing.{Showing}
 use Rattle.mount_opening.specs.Opening.{Made, MadeConfig}
-use Rattle.mount.specs.Making.{CreateCause, IsMade}
+use Rattle.mount.specs.declared.draws.Draws.{Draws}
+use Rattle.mount.specs.Making.{CreateCause, IsMade, new_settings, sealed_file}
 use Rattle.mount.specs.Opening.{error_of}
 use Rattle.mount.specs.Representing.{identity_for, HasEmptyList}
-use Rattle.mount.specs.Tower.{held_in, tower_meanings, tower_durables}
+use Rattle.mount.specs.Tower.{sealed_held, sealed_meanings, sealed_durables}
 use Rattle.mount.proofs.Reading.{none_some}
 use Rattle.mount.proofs.Standing.{represents, emptied}
 
@@ -58,24 +61,32 @@ make_cause kept t0 t1 v0 va v1 k0 ka k1 result SyncDirectory is v k vc kc = omeg
 make_cause kept t0 t1 v0 va v1 k0 ka k1 result SyncState is v k vc kc = omega (arith, k, kc is)
 
 module _ {V : Type 0} {K : Type 0} (shows : Showing) (trace : V → Option (List Call)) (faults : V → ℕ) (G : KeeperGhosts K) (c : Settings) (salt file : List ℕ) (payload : ℕ) (before after : IntegrityStore V Cipher) (old last : K)
-    (ep : payload ≡ c.block_size - 78) (ei : identity_of (held_in after) ≡ identity_for c salt) (intact : (tower_meanings trace faults).intact after) where
-  pub made_ok : (result : Result Unit SyncError) (u : Unit {0}) → result ≡ Ok u → Made (shows payload c.root) (tower_durables trace) records G before old after last result
-      → MadeConfig (tower_durables trace) records G before old after last file result → IsMade shows c file (G.kept last) (trace after.sealed.vault.vault) × HasEmptyList (G.kept last)
+    (ep : payload ≡ c.block_size - 78) (ei : identity_of (sealed_held after) ≡ identity_for c salt) (intact : (sealed_meanings trace faults).intact after) where
+  pub made_ok : (result : Result Unit SyncError) (u : Unit {0}) → result ≡ Ok u → Made (shows payload c.root) (sealed_durables trace) records G before old after last result
+      → MadeConfig (sealed_durables trace) records G before old after last file result → IsMade shows c file (G.kept last) (trace after.sealed.vault.vault) × HasEmptyList (G.kept last)
   made_ok result u e m n =
-      let w = subst (λ r. Made (shows payload c.root) (tower_durables trace) records G before old after last r) e m in
-      let x = subst (λ r. MadeConfig (tower_durables trace) records G before old after last file r) e n in (
+      let w = subst (λ r. Made (shows payload c.root) (sealed_durables trace) records G before old after last r) e m in
+      let x = subst (λ r. MadeConfig (sealed_durables trace) records G before old after last file r) e n in (
         record { represents = represents shows c salt payload c.root _ (G.kept last) (trace after.sealed.vault.vault) empty_tree ep refl ei w.keeps; configures = x },
         emptied trace faults after (G.kept last) intact w.empty,
       )
 
   pub made_err : (result : Result Unit SyncError) (error : SyncError) → result ≡ Err error → G.kept old ≡ None → ((name : At) → last_told name (trace before.sealed.vault.vault) ≡ None)
-      → Made (shows payload c.root) (tower_durables trace) records G before old after last result → MadeConfig (tower_durables trace) records G before old after last file result
+      → Made (shows payload c.root) (sealed_durables trace) records G before old after last result → MadeConfig (sealed_durables trace) records G before old after last file result
       → ((G.kept last ≡ G.kept old) × ((name : At) → last_told name (trace after.sealed.vault.vault) ≡ None)) ⊎ IsMade shows c file (G.kept last) (trace after.sealed.vault.vault)
   made_err result error e none unchanged m n =
-      elim (subst (λ r. Made (shows payload c.root) (tower_durables trace) records G before old after last r) e m) [
+      elim (subst (λ r. Made (shows payload c.root) (sealed_durables trace) records G before old after last r) e m) [
         | inl u ↦ inl (u.0, λ name. u.1 name ∙ unchanged name)
-        | inr k ↦ elim (subst (λ r. MadeConfig (tower_durables trace) records G before old after last file r) e n) [
+        | inr k ↦ elim (subst (λ r. MadeConfig (sealed_durables trace) records G before old after last file r) e n) [
           | inl u ↦ absurd (none_some k.represents.0 (sym (u.0 ∙ none) ∙ k.represents.1))
           | inr x ↦ inr (record { represents = represents shows c salt payload c.root _ (G.kept last) (trace after.sealed.vault.vault) empty_tree ep refl ei k; configures = x })
         ]
       ]
+
+-- what was sealed of the draws opens as what they make
+pub opens_sealed : (password : List ℕ) (cost : Cost) (block_size : ℕ) (draws now : Draws) (config : Settings) (bytes : List ℕ) → config ≡ new_settings block_size draws → draws ≡ now
+    → bytes ≡ sealed_file password cost draws.seal config → IsOnly password bytes (opened config cost)
+    → IsOnly password (sealed_file password cost now.seal (new_settings block_size now)) (opened (new_settings block_size now) cost)
+opens_sealed password cost block_size draws now config bytes ec ed eb only =
+    subst (λ (d : Draws). IsOnly password (sealed_file password cost d.seal (new_settings block_size d)) (opened (new_settings block_size d) cost)) ed
+    (subst (λ (s : Settings). IsOnly password (sealed_file password cost draws.seal s) (opened s cost)) ec (subst (λ (b : List ℕ). IsOnly password b (opened config cost)) eb only))

@@ -23,7 +23,7 @@ use Rattle.config_file.specs.ConfigOf.{ConfigOf, opened}
 use Rattle.config_file.specs.Settings.{Settings, settings_of}
 use Rattle.config_file.specs.declared.config.Opened.{Opened}
 use Rattle.session_saver.specs.Saving.{KeptConfigures}
-use Rattle.mount_core.specs.Performing.{Showing}
+use Rattle.tree_commands.specs.Performing.{Showing}
 use Rattle.mount_core.specs.Standing.{IsKeptMarked}
 use Rattle.mount.specs.Opening.{IsLoaded, IsOf, Found, Reads}
 use Rattle.mount.specs.Representing.{identity_for, Represents}

@@ -21,13 +21,13 @@ use Rattle.config_file.specs.Settings.{Settings}
 use Rattle.config_file.specs.declared.config.Cipher.{Cipher}
 use Rattle.config_file.specs.declared.config.Cipher.TheVariants.{Aes256Gcm}
 use Rattle.session_saver.specs.Saving.{KeptConfigures}
-use Rattle.mount_core.specs.Performing.{Showing}
+use Rattle.tree_commands.specs.Performing.{Showing}
 use Rattle.mount.specs.declared.draws.Draws.{Draws}
 use Rattle.mount.specs.declared.draws.SealDraws.{SealDraws}
 use Rattle.mount.specs.declared.error.OpenError.{OpenError}
 use Rattle.mount.specs.declared.error.OpenError.TheVariants.{Memory, Exists, FaultDirectory, FaultState}
 use Rattle.mount.specs.Representing.{identity_for, Represents, HasEmptyList}
-use Rattle.mount.specs.Tower.{trace_in, tower_meanings, tower_holdings, tower_durables}
+use Rattle.mount.specs.Tower.{sealed_trace, sealed_meanings, sealed_holdings, sealed_durables}
 
 -- the id of the root: the drawn one, or the next where that is zero
 abbrev pub root_of : List ℕ → List ℕ
@@ -75,13 +75,13 @@ Created shows c file kept0 kept1 t1 (Err error) = ((kept1 ≡ kept0) × ((name :
 
 -- a store that holds nothing, of this configuration and salt; it is sound where no file was changed
 pub record IsNewStore {V : Type 0} (was : Option (List Call)) (failed : ℕ) (trace : V → Option (List Call)) (faults : V → ℕ) (c : Settings) (salt : List ℕ) (store : IntegrityStore V Cipher) : Type 0 where
-  pub intact : (tower_meanings trace faults).intact store
-  pub same : trace_in trace store ≡ was
-  pub few : (tower_meanings trace faults).faults store ≡ failed
-  pub unused : (id : Id) → has_id ((tower_holdings trace).used store) id ≡ false
-  pub none : (id : Id) → (tower_holdings trace).content store id ≡ None
-  pub identity : (tower_durables trace).identity store ≡ identity_for c salt
-  pub sound : IsUnchanged was → (tower_meanings trace faults).sound store
+  pub intact : (sealed_meanings trace faults).intact store
+  pub same : sealed_trace trace store ≡ was
+  pub few : (sealed_meanings trace faults).faults store ≡ failed
+  pub unused : (id : Id) → has_id ((sealed_holdings trace).used store) id ≡ false
+  pub none : (id : Id) → (sealed_holdings trace).content store id ≡ None
+  pub identity : (sealed_durables trace).identity store ≡ identity_for c salt
+  pub sound : IsUnchanged was → (sealed_meanings trace faults).sound store
 
 -- what may be answered where something is kept
 abbrev pub StopsThere : OpenError → Type 0

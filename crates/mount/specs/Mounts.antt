@@ -13,7 +13,7 @@ use Rattle.config_file.specs.Settings.{Settings, settings_of}
 use Rattle.outside.specs.Going.{GoesOn}
 use Rattle.session_saver.specs.Saving.{KeptConfigures}
 use Rattle.session_saver.specs.declared.saver.SyncError.{SyncError}
-use Rattle.mount_core.specs.Performing.{Showing}
+use Rattle.tree_commands.specs.Performing.{Showing}
 use Rattle.mount.specs.declared.error.OpenError.{OpenError}
 use Rattle.mount.specs.declared.error.OpenError.TheVariants.{Memory, NoState, BadState, Exists, Marked, Mismatch, FaultDirectory, FaultState}
 use Rattle.mount.specs.declared.mount.Halted.{Halted}
@@ -27,7 +27,7 @@ use Rattle.mount.specs.Unforged.{IsUnforgedConfig}
 pub record IsReady {V : Type 0} {K : Type 0} (trace : V → Option (List Call)) (faults : V → ℕ) (G : KeeperGhosts K) (mount : Mount V K) : Type 0 where
   pub core : TowerReady trace faults G mount.core
   pub salt : List ℕ
-  pub identity : (tower_durables trace).identity mount.core.tx.store ≡ identity_for (settings_of mount.opened.config) salt
+  pub identity : (tower_durables trace).identity mount.core.blobs.tx.store ≡ identity_for (settings_of mount.opened.config) salt
   pub root : mount.core.root ≡ mount.opened.config.root
 
 -- the directory wasn't called: the record wasn't taken

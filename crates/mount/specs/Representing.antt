@@ -10,7 +10,7 @@ use Rattle.local_state.specs.Record.{PlainState, HasRecord, record_bytes}
 use Rattle.store_api.specs.Durables.{Identity}
 use Rattle.integrity_store.specs.Standing.{records}
 use Rattle.config_file.specs.Settings.{Settings}
-use Rattle.mount_core.specs.Performing.{Showing}
+use Rattle.tree_commands.specs.Performing.{Showing}
 use Rattle.mount_core.specs.Standing.{Keeps}
 
 -- what a store of this configuration is opened as, where its record's salt is this

@@ -11,6 +11,7 @@ ghost use Rattle.aes_gcm.specs.Gcm.{opened_of};
 ghost use Rattle.config_file.specs.Settings.{Settings, settings_of};
 ghost use Rattle.fs_model.specs.Tree.{Tree};
 ghost use Rattle.session_saver.specs.Saving.{KeptConfigures};
+ghost use Rattle.tree_commands.specs.Showing.{ShowsFiles};
 ghost use Rattle.mount_core.specs.Standing.{IsKeptMarked};
 ghost use Rattle.mount.specs.Mounts.{IsReady, Unopened, StaysMarked};
 ghost use Rattle.mount.specs.Opening.{Found, IsOf, OpenCause, Reads, Attached, error_of};
@@ -21,10 +22,9 @@ ghost use Rattle.mount.specs.Unforged.{IsUnforgedConfig};
 use crate::error::OpenError;
 use crate::mount::{Halted, Mount};
 use crate::opening::{Loaded, check_identity, load_record, read_config};
-use config_file::{Cipher, Opened};
-use integrity_store::IntegrityStore;
+use crate::tower::{Cached, cached_store, into_vault};
+use config_file::Opened;
 use local_state::State;
-use mount_core::Commands;
 use mount_opening::{Unstarted, start};
 use outside::{Keeper, Pending, Vault};
 use redo_vault::RedoVault;
@@ -34,7 +34,7 @@ use std::alloc::Global;
 
 /// A store, and the configuration that it was opened by.
 struct Opening<V> {
-    store: IntegrityStore<V, Cipher>,
+    store: Cached<V>,
     opened: Opened,
 }
 
@@ -92,10 +92,13 @@ fn open_store<V: Vault>(
     }
     let config = opened.config;
     let sealed = SealedStore::new(redo, config.cipher, config.key, config.block_size as usize);
-    Ok(Opening {
-        store: IntegrityStore::new(sealed, state),
-        opened,
-    })
+    match cached_store(alloc, sealed, state) {
+        Ok(store) => Ok(Opening { store, opened }),
+        Err(vault) => Err(Unread {
+            error: OpenError::Memory,
+            vault,
+        }),
+    }
 }
 
 pub(crate) fn open_error(error: SyncError) -> OpenError
@@ -112,7 +115,7 @@ impl<V: Vault, K: Keeper> Mount<V, K> {
     /// Opens the file system whose record is kept, under a password: reads the record, the configuration from its list or
     /// the directory, sees that the one is of the other, and writes out what waits. With a wrong password nothing is
     /// written.
-    pub fn attach<P: Commands>(
+    pub fn attach(
         alloc: Global,
         vault: V,
         keeper: K,
@@ -121,20 +124,20 @@ impl<V: Vault, K: Keeper> Mount<V, K> {
         ensures ready { IfOk result (λ mount. IsReady V.trace V.faults K.Keeper mount) }
         ensures fresh { IfOk result (λ mount. mount.core.violated ≡ false) }
         ensures unchanged { IfOk result (λ mount. mount.core.saver.changed ≡ false) }
-        ensures attached { IfOk result (λ mount. Attached password.now (K.kept keeper) (K.kept mount.core.saver.keeper) (V.trace vault) (trace_in V.trace mount.core.tx.store) mount.opened) }
-        ensures config { IfOk result (λ mount. (c : Settings) → is_some (V.trace vault) ≡ true → IsUnforgedConfig password.now (K.kept keeper) (V.trace vault) (trace_in V.trace mount.core.tx.store) c
+        ensures attached { IfOk result (λ mount. Attached password.now (K.kept keeper) (K.kept mount.core.saver.keeper) (V.trace vault) (trace_in V.trace mount.core.blobs.tx.store) mount.opened) }
+        ensures config { IfOk result (λ mount. (c : Settings) → is_some (V.trace vault) ≡ true → IsUnforgedConfig password.now (K.kept keeper) (V.trace vault) (trace_in V.trace mount.core.blobs.tx.store) c
             → settings_of mount.opened.config ≡ c) }
-        ensures stands { IfOk result (λ mount. (first : Tree) → Represents P.shows (K.kept keeper) (V.trace vault) (settings_of mount.opened.config) first
-            → TowerStands P.shows V.trace V.faults K.Keeper mount.core first first) }
+        ensures stands { IfOk result (λ mount. (first : Tree) → Represents ShowsFiles (K.kept keeper) (V.trace vault) (settings_of mount.opened.config) first
+            → TowerStands ShowsFiles V.trace V.faults K.Keeper mount.core first first) }
         ensures configures { IfOk result (λ mount. (bytes : List ℕ) → is_some (V.trace vault) ≡ true → KeptConfigures records (K.kept keeper) (V.trace vault) bytes
             → TowerConfigures V.trace K.Keeper mount.core (bytes ∷ []) bytes) }
-        ensures forgeries { IfOk result (λ mount. (tower_meanings V.trace V.faults).forgeries mount.core.tx.store
+        ensures forgeries { IfOk result (λ mount. (tower_meanings V.trace V.faults).forgeries mount.core.blobs.tx.store
             ≡ count_told (forged (opened_of mount.opened.config.key) mount.opened.config.block_size) (V.trace vault)) }
-        ensures lies { IfOk result (λ mount. count_told is_lie (V.trace vault) ≤ (tower_meanings V.trace V.faults).lies mount.core.tx.store) }
-        ensures vault_grows { IfOk result (λ mount. V.faults vault ≤ (tower_meanings V.trace V.faults).faults mount.core.tx.store) }
+        ensures lies { IfOk result (λ mount. count_told is_lie (V.trace vault) ≤ (tower_meanings V.trace V.faults).lies mount.core.blobs.tx.store) }
+        ensures vault_grows { IfOk result (λ mount. V.faults vault ≤ (tower_meanings V.trace V.faults).faults mount.core.blobs.tx.store) }
         ensures keeper_grows { IfOk result (λ mount. K.faults keeper ≤ K.faults mount.core.saver.keeper) }
         ensures marked { IsKeptMarked records (K.kept keeper) → StaysMarked K.kept vault keeper result }
-        ensures halted { IfErr result (λ h. Unopened P.shows V.trace V.faults K.Keeper password.now vault keeper h) }
+        ensures halted { IfErr result (λ h. Unopened ShowsFiles V.trace V.faults K.Keeper password.now vault keeper h) }
     {
         let mut keeper = keeper;
         let Loaded { state, list, bytes } = match load_record(alloc, &mut keeper) {
@@ -159,14 +162,7 @@ impl<V: Vault, K: Keeper> Mount<V, K> {
                 });
             }
         };
-        match start::<P, IntegrityStore<V, Cipher>, K>(
-            alloc,
-            store,
-            keeper,
-            bytes,
-            waits,
-            opened.config.root,
-        ) {
+        match start(alloc, store, keeper, bytes, waits, opened.config.root) {
             Ok(core) => Ok(Mount { core, opened }),
             Err(unstarted) => {
                 let Unstarted {
@@ -176,7 +172,7 @@ impl<V: Vault, K: Keeper> Mount<V, K> {
                 } = unstarted;
                 Err(Halted {
                     error: open_error(error),
-                    vault: store.into_vault(),
+                    vault: into_vault(store),
                     keeper,
                 })
             }

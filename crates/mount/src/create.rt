@@ -5,9 +5,11 @@ ghost use Rattle.std.specs.declared.option.Option.TheVariants.{None};
 ghost use Rattle.std.specs.declared.result.Result.TheVariants.{Err};
 ghost use Rattle.block_id.specs.Fresh.{zero_id};
 ghost use Rattle.outside.specs.Trace.{adds, got, config};
+ghost use Rattle.config_file.specs.ConfigOf.{IsOnly, opened as opened_as};
 ghost use Rattle.config_file.specs.Settings.{IsBlockSize, settings_of};
 ghost use Rattle.outside.specs.Going.{GoesOn};
 ghost use Rattle.local_state.specs.Record.{HasRecord, plain_state};
+ghost use Rattle.tree_commands.specs.Showing.{ShowsFiles};
 ghost use Rattle.mount.specs.Drawing.{drawn};
 ghost use Rattle.mount.specs.Making.{CreateCause, Created, IsNewStore, IsUnchanged, StaysThere, StopsThere, new_settings, sealed_file, root_of};
 ghost use Rattle.mount.specs.Opening.{Reads};
@@ -21,7 +23,6 @@ use block_id::BlockId;
 use config_file::{Cipher, Config, seal_config};
 use integrity_store::IntegrityStore;
 use local_state::{Known, State, key_digest};
-use mount_core::Commands;
 use mount_opening::make;
 use outside::{FileName, GetFail, Keeper, Vault};
 use rand_core::Rng;
@@ -116,7 +117,7 @@ fn new_store<V: Vault>(
 impl<V: Vault, K: Keeper> Mount<V, K> {
     /// Makes a file system under a password, where nothing is there, and tells its id. The random bytes are drawn in the
     /// order of `Draws`.
-    pub fn create<P: Commands, R: Rng>(
+    pub fn create<R: Rng>(
         alloc: Global,
         vault: V,
         keeper: K,
@@ -127,10 +128,13 @@ impl<V: Vault, K: Keeper> Mount<V, K> {
     ) -> (Result<BlockId, OpenError>, V, K)
         requires size { IsBlockSize block_size }
         ensures made { IsUnchanged (V.trace vault) → (K.kept keeper ≡ None)
-            → Created P.shows (new_settings block_size (drawn (R.stream chance.old)).0)
+            → Created ShowsFiles (new_settings block_size (drawn (R.stream chance.old)).0)
             (sealed_file password.now params.now (drawn (R.stream chance.old)).0.seal (new_settings block_size (drawn (R.stream chance.old)).0))
             (K.kept keeper) (K.kept result.2) (V.trace result.1) result.0 }
         ensures id { IfOk result.0 (λ id. id.0 ≡ (drawn (R.stream chance.old)).0.fs_id) }
+        ensures opens { IsOnly password.now (sealed_file password.now params.now (drawn (R.stream chance.old)).0.seal (new_settings block_size (drawn (R.stream chance.old)).0))
+            (opened_as (new_settings block_size (drawn (R.stream chance.old)).0) params.now)
+            ⊎ ((K.kept result.2 ≡ K.kept keeper) × IsErr result.0) }
         ensures absent { OnOk result.0 ((K.kept keeper ≡ None) × GoesOn (adds (V.trace vault) (got config 1127 None)) (V.trace result.1)) }
         ensures asked { (K.kept result.2 ≡ K.kept keeper) ⊎ ((K.kept keeper ≡ None) × GoesOn (adds (V.trace vault) (got config 1127 None)) (V.trace result.1)) }
         ensures there { is_some (K.kept keeper) ≡ true → StaysThere K.kept vault keeper result.1 result.2 result.0 }
@@ -160,14 +164,7 @@ impl<V: Vault, K: Keeper> Mount<V, K> {
             return (Err(OpenError::Memory), vault, keeper);
         };
         let store = new_store(alloc, vault, config, draws.key_salt);
-        let (result, store, keeper) = make::<P, IntegrityStore<V, Cipher>, K, R>(
-            alloc,
-            store,
-            keeper,
-            file,
-            &config.root,
-            chance,
-        );
+        let (result, store, keeper) = make(alloc, store, keeper, file, config.root, chance);
         match result {
             Ok(()) => (Ok(config.fs_id), store.into_vault(), keeper),
             Err(error) => (Err(open_error(error)), store.into_vault(), keeper),

@@ -8,7 +8,9 @@ mod draws;
 mod error;
 mod mount;
 mod opening;
+mod tower;
 
 pub use draws::{Draws, SealDraws};
 pub use error::OpenError;
 pub use mount::{Halted, Mount};
+pub use tower::Cached;

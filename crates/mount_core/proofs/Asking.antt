@@ -14,7 +14,7 @@ use Rattle.store_api.specs.Durables.{Durables, Records, Enduring}
 use Rattle.mount_core.specs.declared.body.Core.{Core}
 use Rattle.session_saver.specs.declared.saver.Saver.{Saver}
 use Rattle.mount_core.specs.Answers.{answer_of_fail}
-use Rattle.mount_core.specs.Performing.{Showing, Steps}
+use Rattle.tree_commands.specs.Performing.{Showing, Steps}
 use Rattle.mount_core.specs.Standing.{Stands, Performed, Asked}
 use Rattle.mount_core.proofs.Moving.{shown_along, SameShown}
 use Rattle.mount_core.proofs.Lines.{over_empty, stands_loaded, fail_follows}
@@ -22,18 +22,18 @@ use Rattle.mount_core.proofs.Lines.{over_empty, stands_loaded, fail_follows}
 module _ {S : Type 0} {K : Type 0} (shows : Showing) (M : Meanings S) (H : Holdings S) (D : Durables S) (R : Records) (G : KeeperGhosts K) (law : SameShown shows) (steady : Steady M H)
     (applied : S → S → Changes → Type 0) (settled : (a b : S) → M.loaded a b → Stays H a b) (endures : Enduring M H applied D R) where
   -- the tree that the content shows, with no changes over it
-  pub shown_now : (old : Core S K) (kept now : Tree) → Stands shows M H D R G old kept now → old.tx.overlay ≡ fin.empty
-      → shows (H.payload old.tx.store) old.root.0 (over old.tx.overlay (H.content old.tx.store)) now
+  pub shown_now : (old : Core S K) (kept now : Tree) → Stands shows M H D R G old kept now → old.blobs.tx.overlay ≡ fin.empty
+      → shows (H.payload old.blobs.tx.store) old.root.0 (over old.blobs.tx.overlay (H.content old.blobs.tx.store)) now
   shown_now old kept now s empty =
-      law _ _ (H.content old.tx.store) (over old.tx.overlay (H.content old.tx.store)) now (over_empty old.tx.overlay (H.content old.tx.store) empty) s.shown
+      law _ _ (H.content old.blobs.tx.store) (over old.blobs.tx.overlay (H.content old.blobs.tx.store)) now (over_empty old.blobs.tx.overlay (H.content old.blobs.tx.store) empty) s.shown
 
-  pub asked : (moment : Instant) (old mid : Core S K) (kept now : Tree) (command : Command) (reply : Reply) → Stands shows M H D R G old kept now → M.loaded old.tx.store mid.tx.store
-      → mid.saver ≡ old.saver → mid.root ≡ old.root → M.sound mid.tx.store
-      → Steps (shows (H.payload old.tx.store) old.root.0) moment now command (over mid.tx.overlay (H.content mid.tx.store)) reply
+  pub asked : (moment : Instant) (old mid : Core S K) (kept now : Tree) (command : Command) (reply : Reply) → Stands shows M H D R G old kept now → M.loaded old.blobs.tx.store mid.blobs.tx.store
+      → mid.saver ≡ old.saver → mid.root ≡ old.root → M.sound mid.blobs.tx.store
+      → Steps (shows (H.payload old.blobs.tx.store) old.root.0) moment now command (over mid.blobs.tx.overlay (H.content mid.blobs.tx.store)) reply
       → Asked shows M H D R G moment mid kept now command reply
   asked moment old mid kept now command reply s loaded es er sound steps =
-      let stays = settled old.tx.store mid.tx.store loaded in
-      let told : H.told old.tx.store ≡ true = steady.sound_told old.tx.store s.sound in
+      let stays = settled old.blobs.tx.store mid.blobs.tx.store loaded in
+      let told : H.told old.blobs.tx.store ≡ true = steady.sound_told old.blobs.tx.store s.sound in
       let after : Stands shows M H D R G mid kept now =
       stands_loaded shows M H D R G law applied endures old mid kept now s loaded stays told (ap (λ x. x.0) er) (ap (λ (x : Saver K). G.kept x.keeper) es) sound in
       record {
@@ -45,16 +45,16 @@ module _ {S : Type 0} {K : Type 0} (shows : Showing) (M : Meanings S) (H : Holdi
         steps = record {
           next = steps.next;
           stepped = steps.stepped;
-          shown = shown_along shows _ _ _ _ (over mid.tx.overlay (H.content mid.tx.store)) steps.next stays.payload (ap (λ x. x.0) er) steps.shown;
+          shown = shown_along shows _ _ _ _ (over mid.blobs.tx.overlay (H.content mid.blobs.tx.store)) steps.next stays.payload (ap (λ x. x.0) er) steps.shown;
         };
       }
 
   -- performing failed
-  pub performed_failed : (moment : Instant) (old new : Core S K) (kept now : Tree) (command : Command) (fail : Fail) → Stands shows M H D R G old kept now → M.loaded old.tx.store new.tx.store
-      → new.saver ≡ old.saver → new.root ≡ old.root → M.sound new.tx.store → Performed shows M H D R G moment new kept now command (answer_of_fail fail)
+  pub performed_failed : (moment : Instant) (old new : Core S K) (kept now : Tree) (command : Command) (fail : Fail) → Stands shows M H D R G old kept now → M.loaded old.blobs.tx.store new.blobs.tx.store
+      → new.saver ≡ old.saver → new.root ≡ old.root → M.sound new.blobs.tx.store → Performed shows M H D R G moment new kept now command (answer_of_fail fail)
   performed_failed moment old new kept now command fail s loaded es er sound = record {
     next = now;
     follows = fail_follows moment now command fail;
-    stands = stands_loaded shows M H D R G law applied endures old new kept now s loaded (settled old.tx.store new.tx.store loaded) (steady.sound_told old.tx.store s.sound)
+    stands = stands_loaded shows M H D R G law applied endures old new kept now s loaded (settled old.blobs.tx.store new.blobs.tx.store loaded) (steady.sound_told old.blobs.tx.store s.sound)
         (ap (λ x. x.0) er) (ap (λ (x : Saver K). G.kept x.keeper) es) sound;
   }

@@ -22,7 +22,6 @@ use Rattle.fs_model.specs.Step.{Stepped}
 use Rattle.fs_model.specs.Instant.{Instant}
 use Rattle.fs_model.specs.Step.{step}
 use Rattle.fs_model.specs.Tree.{Tree}
-use Rattle.outside.specs.Going.{GoesOn}
 use Rattle.outside.specs.Trace.{Call}
 use Rattle.outside.specs.declared.keeper.Keeper.{Ghosts as KeeperGhosts}
 use Rattle.outcome.specs.Meanings.{Meanings, IsCalm, IsOfBlocks, OnVerdict}
@@ -39,7 +38,7 @@ use Rattle.session_saver.specs.declared.saver.SyncError.TheVariants.{Memory as S
 use Rattle.answers.specs.Sessions.{Follows, IsError, is_violation}
 use Rattle.mount_core.specs.Answers.{is_synced, is_done_answer, is_structure, answer_of_fail, answer_of_sync, OnSpent, OnFound}
 use Rattle.mount_core.specs.Configuring.{IsOneOf, KeptOneOf, Configures, ConfigAnswered, ConfigSynced, Replaced, ConfigClosed}
-use Rattle.mount_core.specs.Performing.{Showing, is_sync}
+use Rattle.tree_commands.specs.Performing.{Showing, is_sync}
 use Rattle.session_saver.specs.Saving.{KeptConfigures, CanMark}
 use Rattle.mount_core.specs.Standing.{Stands, Synced, Roomed, Performed, Left, Answered, IsKeptMarked, Closed}
 use Rattle.mount_core.proofs.Moving.{shown_along, keeps_along, SameShown}
@@ -226,11 +225,11 @@ marked_or R saver kept can (inr other) = inr other
 module _ {S : Type 0} {K : Type 0} (shows : Showing) (M : Meanings S) (H : Holdings S) (D : Durables S) (R : Records) (G : KeeperGhosts K) where
   -- what is kept stands for the same, and the content shows this tree
   pub stands_on : (old new : Core S K) (kept now next : Tree) → Stands shows M H D R G old kept now
-      → new.root.0 ≡ old.root.0 → D.identity new.tx.store ≡ D.identity old.tx.store → H.payload new.tx.store ≡ H.payload old.tx.store
+      → new.root.0 ≡ old.root.0 → D.identity new.blobs.tx.store ≡ D.identity old.blobs.tx.store → H.payload new.blobs.tx.store ≡ H.payload old.blobs.tx.store
       → G.kept new.saver.keeper ≡ G.kept old.saver.keeper
-      → ((identity : Identity) (bytes : List ℕ) (content : Content) → R.stands identity bytes (D.trace old.tx.store) content → R.stands identity bytes (D.trace new.tx.store) content)
-      → M.sound new.tx.store
-      → shows (H.payload old.tx.store) old.root.0 (H.content new.tx.store) next
+      → ((identity : Identity) (bytes : List ℕ) (content : Content) → R.stands identity bytes (D.trace old.blobs.tx.store) content → R.stands identity bytes (D.trace new.blobs.tx.store) content)
+      → M.sound new.blobs.tx.store
+      → shows (H.payload old.blobs.tx.store) old.root.0 (H.content new.blobs.tx.store) next
       → Stands shows M H D R G new kept next
   stands_on old new kept now next s er ei ep ek on sound shown = record {
     keeps = record {
@@ -238,45 +237,45 @@ module _ {S : Type 0} {K : Type 0} (shows : Showing) (M : Meanings S) (H : Holdi
       represents = (
         s.keeps.represents.0,
         ek ∙ s.keeps.represents.1,
-        subst (λ i. R.stands i s.keeps.represents.0 (D.trace new.tx.store) s.keeps.content) (sym ei) (on _ s.keeps.represents.0 s.keeps.content s.keeps.represents.2),
+        subst (λ i. R.stands i s.keeps.represents.0 (D.trace new.blobs.tx.store) s.keeps.content) (sym ei) (on _ s.keeps.represents.0 s.keeps.content s.keeps.represents.2),
       );
       shown = shown_along shows _ _ _ _ s.keeps.content kept ep er s.keeps.shown;
     };
     sound = sound;
     unmarked = ap (λ (i : Identity). i.marked) ei ∙ s.unmarked;
-    shown = shown_along shows _ _ _ _ (H.content new.tx.store) next ep er shown;
+    shown = shown_along shows _ _ _ _ (H.content new.blobs.tx.store) next ep er shown;
   }
 
   -- blocks were only loaded
   pub stands_loaded : (law : SameShown shows) (applied : S → S → Changes → Type 0) → Enduring M H applied D R → (old new : Core S K) (kept now : Tree) → Stands shows M H D R G old kept now
-      → M.loaded old.tx.store new.tx.store → Stays H old.tx.store new.tx.store → H.told old.tx.store ≡ true
-      → new.root.0 ≡ old.root.0 → G.kept new.saver.keeper ≡ G.kept old.saver.keeper → M.sound new.tx.store
+      → M.loaded old.blobs.tx.store new.blobs.tx.store → Stays H old.blobs.tx.store new.blobs.tx.store → H.told old.blobs.tx.store ≡ true
+      → new.root.0 ≡ old.root.0 → G.kept new.saver.keeper ≡ G.kept old.saver.keeper → M.sound new.blobs.tx.store
       → Stands shows M H D R G new kept now
   stands_loaded law applied endures old new kept now s loaded stays told er ek sound =
-      stands_on old new kept now now s er (endures.loaded_identity old.tx.store new.tx.store loaded) stays.payload ek
-      (λ identity bytes content h. endures.loaded_stands old.tx.store new.tx.store identity bytes content loaded h) sound
-      (law _ _ (H.content old.tx.store) (H.content new.tx.store) now (stays.content told) s.shown)
+      stands_on old new kept now now s er (endures.loaded_identity old.blobs.tx.store new.blobs.tx.store loaded) stays.payload ek
+      (λ identity bytes content h. endures.loaded_stands old.blobs.tx.store new.blobs.tx.store identity bytes content loaded h) sound
+      (law _ _ (H.content old.blobs.tx.store) (H.content new.blobs.tx.store) now (stays.content told) s.shown)
 
   -- what is kept, the last record and what the store would keep say the same, on another trace
-  pub configures_on : (old new : Core S K) (may : List (List ℕ)) (now : List ℕ) → Configures H D R G old may now → H.told new.tx.store ≡ H.told old.tx.store
+  pub configures_on : (old new : Core S K) (may : List (List ℕ)) (now : List ℕ) → Configures H D R G old may now → H.told new.blobs.tx.store ≡ H.told old.blobs.tx.store
       → G.kept new.saver.keeper ≡ G.kept old.saver.keeper → new.saver.last.items ≡ old.saver.last.items
-      → ((kept bytes : List ℕ) → R.configures kept (D.trace old.tx.store) bytes → R.configures kept (D.trace new.tx.store) bytes)
-      → R.configures (D.record_of new.tx.store true) (D.trace new.tx.store) now → Configures H D R G new may now
+      → ((kept bytes : List ℕ) → R.configures kept (D.trace old.blobs.tx.store) bytes → R.configures kept (D.trace new.blobs.tx.store) bytes)
+      → R.configures (D.record_of new.blobs.tx.store true) (D.trace new.blobs.tx.store) now → Configures H D R G new may now
   configures_on old new may now c et ek el on present = record {
     told = et ∙ c.told;
     among = c.among;
     kept = (c.kept.0, c.kept.1, (c.kept.2.0, ek ∙ c.kept.2.1, on c.kept.2.0 c.kept.0 c.kept.2.2));
-    last = (c.last.0, c.last.1, subst (λ x. R.configures x (D.trace new.tx.store) c.last.0) (sym el) (on old.saver.last.items c.last.0 c.last.2));
+    last = (c.last.0, c.last.1, subst (λ x. R.configures x (D.trace new.blobs.tx.store) c.last.0) (sym el) (on old.saver.last.items c.last.0 c.last.2));
     present = present;
   }
 
   pub configures_loaded : (applied : S → S → Changes → Type 0) → Enduring M H applied D R → (old new : Core S K) (may : List (List ℕ)) (now : List ℕ) → Configures H D R G old may now
-      → M.loaded old.tx.store new.tx.store → Stays H old.tx.store new.tx.store → G.kept new.saver.keeper ≡ G.kept old.saver.keeper → new.saver.last.items ≡ old.saver.last.items
+      → M.loaded old.blobs.tx.store new.blobs.tx.store → Stays H old.blobs.tx.store new.blobs.tx.store → G.kept new.saver.keeper ≡ G.kept old.saver.keeper → new.saver.last.items ≡ old.saver.last.items
       → Configures H D R G new may now
   configures_loaded applied endures old new may now c loaded stays ek el =
-      configures_on old new may now c stays.told ek el (λ kept bytes h. endures.loaded_configures old.tx.store new.tx.store kept bytes loaded h)
-      (subst (λ r. R.configures r (D.trace new.tx.store) now) (sym (endures.loaded_records old.tx.store new.tx.store true loaded))
-      (endures.loaded_configures old.tx.store new.tx.store _ now loaded c.present))
+      configures_on old new may now c stays.told ek el (λ kept bytes h. endures.loaded_configures old.blobs.tx.store new.blobs.tx.store kept bytes loaded h)
+      (subst (λ r. R.configures r (D.trace new.blobs.tx.store) now) (sym (endures.loaded_records old.blobs.tx.store new.blobs.tx.store true loaded))
+      (endures.loaded_configures old.blobs.tx.store new.blobs.tx.store _ now loaded c.present))
 
   pub config_calm : (core : Core S K) (may : List (List ℕ)) (now : List ℕ) (bad : Bool) → bad ≡ false → Configures H D R G core may now → ConfigAnswered H D R G core may now bad
   config_calm core may now false e c = c
@@ -284,23 +283,23 @@ module _ {S : Type 0} {K : Type 0} (shows : Showing) (M : Meanings S) (H : Holdi
 
   -- the last record is marked and kept, or what was kept is
   pub config_marked : ((kept : List ℕ) (trace : Option (List Call)) (bytes : List ℕ) → R.configures kept trace bytes → R.configures (with_mark kept) trace bytes) → (old new : Core S K) (may : List (List ℕ)) (now : List ℕ)
-      → new.tx ≡ old.tx → (G.kept new.saver.keeper ≡ Some (with_mark old.saver.last.items)) ⊎ (G.kept new.saver.keeper ≡ G.kept old.saver.keeper) → Configures H D R G old may now
-      → KeptOneOf R (G.kept new.saver.keeper) (D.trace new.tx.store) may
+      → new.blobs.tx ≡ old.blobs.tx → (G.kept new.saver.keeper ≡ Some (with_mark old.saver.last.items)) ⊎ (G.kept new.saver.keeper ≡ G.kept old.saver.keeper) → Configures H D R G old may now
+      → KeptOneOf R (G.kept new.saver.keeper) (D.trace new.blobs.tx.store) may
   config_marked law old new may now et (inl marked) c = subst (λ (t : Tx S). KeptOneOf R (G.kept new.saver.keeper) (D.trace t.store) may) (sym et)
-      (c.last.0, c.last.1, (with_mark old.saver.last.items, marked, law old.saver.last.items (D.trace old.tx.store) c.last.0 c.last.2))
+      (c.last.0, c.last.1, (with_mark old.saver.last.items, marked, law old.saver.last.items (D.trace old.blobs.tx.store) c.last.0 c.last.2))
   config_marked law old new may now et (inr same) c = subst (λ (t : Tx S). KeptOneOf R (G.kept new.saver.keeper) (D.trace t.store) may) (sym et)
       (c.kept.0, c.kept.1, (c.kept.2.0, same ∙ c.kept.2.1, c.kept.2.2))
 
   -- a reply whose changes aren't there, or are forgotten
   pub performed_same : (moment : Instant) (old new : Core S K) (kept now next : Tree) (command : Command) (reply : Reply) → Stands shows M H D R G old kept now
-      → new.tx.store ≡ old.tx.store → new.saver ≡ old.saver → new.root ≡ old.root → step now moment command ≡ record { reply = reply; tree = next }
-      → shows (H.payload old.tx.store) old.root.0 (H.content old.tx.store) next → Performed shows M H D R G moment new kept now command (Replied reply)
+      → new.blobs.tx.store ≡ old.blobs.tx.store → new.saver ≡ old.saver → new.root ≡ old.root → step now moment command ≡ record { reply = reply; tree = next }
+      → shows (H.payload old.blobs.tx.store) old.root.0 (H.content old.blobs.tx.store) next → Performed shows M H D R G moment new kept now command (Replied reply)
   performed_same moment old new kept now next command reply s et es er stepped shown = record {
     next = next;
     follows = stepped;
     stands = stands_on old new kept now next s (ap (λ x. x.0) er) (ap D.identity et) (ap H.payload et) (ap (λ (x : Saver K). G.kept x.keeper) es)
         (λ identity bytes content h. subst (λ x. R.stands identity bytes (D.trace x) content) (sym et) h) (subst M.sound (sym et) s.sound)
-        (subst (λ x. shows (H.payload old.tx.store) old.root.0 (H.content x) next) (sym et) shown);
+        (subst (λ x. shows (H.payload old.blobs.tx.store) old.root.0 (H.content x) next) (sym et) shown);
   }
 
   -- ---- a line
@@ -347,7 +346,7 @@ module _ {S : Type 0} {K : Type 0} (shows : Showing) (M : Meanings S) (H : Holdi
       let p : Performed shows M H D R G moment new now now command answer = f now now m in
       record { next = p.next; follows = p.follows; left = left_other new kept now p.next _ _ v (not_and (is_sync command) (is_done_answer answer) n) (inr p.stands) }
 
-  left_marked : (mid new : Core S K) (kept now next : Tree) (synced : Bool) → new.tx ≡ mid.tx → new.root ≡ mid.root
+  left_marked : (mid new : Core S K) (kept now next : Tree) (synced : Bool) → new.blobs.tx ≡ mid.blobs.tx → new.root ≡ mid.root
       → IsKeptMarked R (G.kept new.saver.keeper) ⊎ (G.kept new.saver.keeper ≡ G.kept mid.saver.keeper)
       → Stands shows M H D R G mid kept next ⊎ Stands shows M H D R G mid now next → Left shows M H D R G new kept now next true synced
   left_marked mid new kept now next synced et er (inl marked) m = inl marked
@@ -356,7 +355,7 @@ module _ {S : Type 0} {K : Type 0} (shows : Showing) (M : Meanings S) (H : Holdi
   left_marked mid new kept now next synced et er (inr same) (inr m) =
       inr (inr (keeps_along shows R _ _ _ _ _ _ _ _ _ _ now (ap (λ (t : Tx S). H.payload t.store) et) (ap (λ x. x.0) er) (ap (λ (t : Tx S). D.identity t.store) et) same (ap (λ (t : Tx S). D.trace t.store) et) m.keeps))
 
-  pub answered_violation : (moment : Instant) (old mid new : Core S K) (kept now : Tree) (command : Command) (why : Why) → new.tx ≡ mid.tx → new.root ≡ mid.root
+  pub answered_violation : (moment : Instant) (old mid new : Core S K) (kept now : Tree) (command : Command) (why : Why) → new.blobs.tx ≡ mid.blobs.tx → new.root ≡ mid.root
       → IsKeptMarked R (G.kept new.saver.keeper) ⊎ (G.kept new.saver.keeper ≡ G.kept mid.saver.keeper) → Roomed shows M H D R G old kept now
       → ((k n : Tree) → Stands shows M H D R G old k n → Performed shows M H D R G moment mid k n command (Violation why))
       → Answered shows M H D R G moment new kept now command (Violation why)
@@ -369,30 +368,30 @@ module _ {S : Type 0} {K : Type 0} (shows : Showing) (M : Meanings S) (H : Holdi
 
   -- ---- the end
 
-  closed : (core : Core S K) (payload : ℕ) (root : List ℕ) (kept now : Tree) (result : Result Unit SyncError) → payload ≡ H.payload core.tx.store → root ≡ core.root.0
-      → Synced shows M H D R G core kept now result → OnOk result (G.kept core.saver.keeper ≡ Some (D.record_of core.tx.store false))
-      → Closed (shows payload root) D R G core.tx.store core.saver.keeper kept now result
+  closed : (core : Core S K) (payload : ℕ) (root : List ℕ) (kept now : Tree) (result : Result Unit SyncError) → payload ≡ H.payload core.blobs.tx.store → root ≡ core.root.0
+      → Synced shows M H D R G core kept now result → OnOk result (G.kept core.saver.keeper ≡ Some (D.record_of core.blobs.tx.store false))
+      → Closed (shows payload root) D R G core.blobs.tx.store core.saver.keeper kept now result
   closed core payload root kept now (Ok u) ep er s w = record { keeps = keeps_along shows R _ _ _ _ _ _ _ _ _ _ now ep er refl refl refl s.keeps; empty = w }
   closed core payload root kept now (Err e) ep er (inl a) w = inl (keeps_along shows R _ _ _ _ _ _ _ _ _ _ kept ep er refl refl refl a.keeps)
   closed core payload root kept now (Err e) ep er (inr a) w = inr (keeps_along shows R _ _ _ _ _ _ _ _ _ _ now ep er refl refl refl a.keeps)
 
-  pub closed_along : (core last : Core S K) (store : S) (payload : ℕ) (root : List ℕ) (kept now : Tree) (result answer : Result Unit SyncError) → last ≡ core → answer ≡ result → store ≡ last.tx.store
-      → payload ≡ H.payload core.tx.store → root ≡ core.root.0 → Synced shows M H D R G core kept now result → OnOk result (G.kept core.saver.keeper ≡ Some (D.record_of core.tx.store false))
+  pub closed_along : (core last : Core S K) (store : S) (payload : ℕ) (root : List ℕ) (kept now : Tree) (result answer : Result Unit SyncError) → last ≡ core → answer ≡ result → store ≡ last.blobs.tx.store
+      → payload ≡ H.payload core.blobs.tx.store → root ≡ core.root.0 → Synced shows M H D R G core kept now result → OnOk result (G.kept core.saver.keeper ≡ Some (D.record_of core.blobs.tx.store false))
       → Closed (shows payload root) D R G store last.saver.keeper kept now answer
   closed_along core last store payload root kept now result answer el ea es ep er s w =
       subst (λ x. Closed (shows payload root) D R G x last.saver.keeper kept now answer) (sym es)
-      (subst (λ (x : Core S K). Closed (shows payload root) D R G x.tx.store x.saver.keeper kept now answer) (sym el)
-      (subst (λ a. Closed (shows payload root) D R G core.tx.store core.saver.keeper kept now a) (sym ea) (closed core payload root kept now result ep er s w)))
+      (subst (λ (x : Core S K). Closed (shows payload root) D R G x.blobs.tx.store x.saver.keeper kept now answer) (sym el)
+      (subst (λ a. Closed (shows payload root) D R G core.blobs.tx.store core.saver.keeper kept now a) (sym ea) (closed core payload root kept now result ep er s w)))
 
   -- a file that waits now beside those that may be there
-  pub config_waiting : (old mid : Core S K) (may : List (List ℕ)) (now bytes : List ℕ) → Configures H D R G old may now → H.told mid.tx.store ≡ H.told old.tx.store
-      → G.kept mid.saver.keeper ≡ G.kept old.saver.keeper → mid.saver.last.items ≡ old.saver.last.items → D.trace mid.tx.store ≡ D.trace old.tx.store
-      → R.configures (D.record_of mid.tx.store true) (D.trace mid.tx.store) bytes → Configures H D R G mid (bytes ∷ may) bytes
+  pub config_waiting : (old mid : Core S K) (may : List (List ℕ)) (now bytes : List ℕ) → Configures H D R G old may now → H.told mid.blobs.tx.store ≡ H.told old.blobs.tx.store
+      → G.kept mid.saver.keeper ≡ G.kept old.saver.keeper → mid.saver.last.items ≡ old.saver.last.items → D.trace mid.blobs.tx.store ≡ D.trace old.blobs.tx.store
+      → R.configures (D.record_of mid.blobs.tx.store true) (D.trace mid.blobs.tx.store) bytes → Configures H D R G mid (bytes ∷ may) bytes
   config_waiting old mid may now bytes c et ek el etr present = record {
     told = et ∙ c.told;
     among = inl refl;
     kept = (c.kept.0, inr c.kept.1, (c.kept.2.0, ek ∙ c.kept.2.1, subst (λ t. R.configures c.kept.2.0 t c.kept.0) (sym etr) c.kept.2.2));
-    last = (c.last.0, inr c.last.1, subst (λ x. R.configures x (D.trace mid.tx.store) c.last.0) (sym el) (subst (λ t. R.configures old.saver.last.items t c.last.0) (sym etr) c.last.2));
+    last = (c.last.0, inr c.last.1, subst (λ x. R.configures x (D.trace mid.blobs.tx.store) c.last.0) (sym el) (subst (λ t. R.configures old.saver.last.items t c.last.0) (sym etr) c.last.2));
     present = present;
   }
 
@@ -401,25 +400,25 @@ module _ {S : Type 0} {K : Type 0} (shows : Showing) (M : Meanings S) (H : Holdi
   replaced core may now bytes (Err e) s = inr s
 
   config_closed : (core : Core S K) (may : List (List ℕ)) (now : List ℕ) (result : Result Unit SyncError) → ConfigSynced H D R G core may now result
-      → ConfigClosed R (G.kept core.saver.keeper) (D.trace core.tx.store) may now result
-  config_closed core may now (Ok u) s = subst (λ x. KeptConfigures R (G.kept core.saver.keeper) (D.trace core.tx.store) x) (only s.kept.0 s.kept.1) s.kept.2
+      → ConfigClosed R (G.kept core.saver.keeper) (D.trace core.blobs.tx.store) may now result
+  config_closed core may now (Ok u) s = subst (λ x. KeptConfigures R (G.kept core.saver.keeper) (D.trace core.blobs.tx.store) x) (only s.kept.0 s.kept.1) s.kept.2
     where
       only : (bytes : List ℕ) → IsOneOf (now ∷ []) bytes → bytes ≡ now
       only bytes (inl e) = e
       only bytes (inr none) = absurd none
   config_closed core may now (Err e) s = s.kept
 
-  pub config_closed_along : (core last : Core S K) (store : S) (may : List (List ℕ)) (now : List ℕ) (result answer : Result Unit SyncError) → last ≡ core → answer ≡ result → store ≡ last.tx.store
+  pub config_closed_along : (core last : Core S K) (store : S) (may : List (List ℕ)) (now : List ℕ) (result answer : Result Unit SyncError) → last ≡ core → answer ≡ result → store ≡ last.blobs.tx.store
       → ConfigSynced H D R G core may now result → ConfigClosed R (G.kept last.saver.keeper) (D.trace store) may now answer
   config_closed_along core last store may now result answer el ea es s =
       subst (λ x. ConfigClosed R (G.kept last.saver.keeper) (D.trace x) may now answer) (sym es)
-      (subst (λ (x : Core S K). ConfigClosed R (G.kept x.saver.keeper) (D.trace x.tx.store) may now answer) (sym el)
-      (subst (λ a. ConfigClosed R (G.kept core.saver.keeper) (D.trace core.tx.store) may now a) (sym ea) (config_closed core may now result s)))
+      (subst (λ (x : Core S K). ConfigClosed R (G.kept x.saver.keeper) (D.trace x.blobs.tx.store) may now answer) (sym el)
+      (subst (λ a. ConfigClosed R (G.kept core.saver.keeper) (D.trace core.blobs.tx.store) may now a) (sym ea) (config_closed core may now result s)))
 
   -- the configuration's file waits anew
-  pub stands_waiting : (law : SameShown shows) (old new : Core S K) (kept now : Tree) → Stands shows M H D R G old kept now → H.told old.tx.store ≡ true
-      → new.root ≡ old.root → D.identity new.tx.store ≡ D.identity old.tx.store → Stays H old.tx.store new.tx.store → G.kept new.saver.keeper ≡ G.kept old.saver.keeper
-      → D.trace new.tx.store ≡ D.trace old.tx.store → M.sound new.tx.store → Stands shows M H D R G new kept now
+  pub stands_waiting : (law : SameShown shows) (old new : Core S K) (kept now : Tree) → Stands shows M H D R G old kept now → H.told old.blobs.tx.store ≡ true
+      → new.root ≡ old.root → D.identity new.blobs.tx.store ≡ D.identity old.blobs.tx.store → Stays H old.blobs.tx.store new.blobs.tx.store → G.kept new.saver.keeper ≡ G.kept old.saver.keeper
+      → D.trace new.blobs.tx.store ≡ D.trace old.blobs.tx.store → M.sound new.blobs.tx.store → Stands shows M H D R G new kept now
   stands_waiting law old new kept now s told er ei stays ek et sound =
       stands_on old new kept now now s (ap (λ x. x.0) er) ei stays.payload ek (λ identity bytes content h. subst (λ t. R.stands identity bytes t content) (sym et) h) sound
-      (law _ _ (H.content old.tx.store) (H.content new.tx.store) now (stays.content told) s.shown)
+      (law _ _ (H.content old.blobs.tx.store) (H.content new.blobs.tx.store) now (stays.content told) s.shown)

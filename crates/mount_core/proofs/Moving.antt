@@ -11,11 +11,12 @@ use Rattle.store_api.specs.Content.{Content, SameContent}
 use Rattle.store_api.specs.Holdings.{Holdings}
 use Rattle.store_api.specs.Durables.{Identity, Durables, Records}
 use Rattle.mount_core.specs.declared.body.Core.{Core}
+use Rattle.session_saver.specs.declared.saver.Saver.{Saver}
 use Rattle.session_saver.specs.declared.saver.SyncError.{SyncError}
 use Rattle.session_saver.specs.declared.saver.SyncError.TheVariants.{Memory, FaultDirectory, FaultState}
 use Rattle.session_saver.specs.Saving.{Represents, KeptConfigures, Unmoved, Saved, SavedConfig, LastBeforeLong, LastAfterLong}
 use Rattle.mount_core.specs.Configuring.{IsOneOf, KeptOneOf, Configures, ConfigSynced}
-use Rattle.mount_core.specs.Performing.{Showing}
+use Rattle.tree_commands.specs.Performing.{Showing}
 use Rattle.mount_core.specs.Standing.{Keeps, Stands, Synced, Roomed}
 
 pub represents_along : (R : Records) (i j : Identity) (k l : Option (List ℕ)) (t u : Option (List Call)) (content : Content) → j ≡ i → l ≡ k → u ≡ t
@@ -40,32 +41,32 @@ SameShown shows = (payload : ℕ) (root : List ℕ) (old new : Content) (tree : 
 module _ {S : Type 0} {K : Type 0} (shows : Showing) (M : Meanings S) (H : Holdings S) (D : Durables S) (R : Records) (G : KeeperGhosts K) where
   -- a sync, whatever it answers
   pub synced : (law : SameShown shows) (old new : Core S K) (kept now : Tree) (result : Result Unit SyncError) → Stands shows M H D R G old kept now
-      → new.root ≡ old.root → D.identity new.tx.store ≡ D.identity old.tx.store → H.payload new.tx.store ≡ H.payload old.tx.store
-      → SameContent (H.content old.tx.store) (H.content new.tx.store) → M.sound new.tx.store
-      → Saved D R G old.saver old.tx.store new.saver new.tx.store (H.content old.tx.store) result
+      → new.root ≡ old.root → D.identity new.blobs.tx.store ≡ D.identity old.blobs.tx.store → H.payload new.blobs.tx.store ≡ H.payload old.blobs.tx.store
+      → SameContent (H.content old.blobs.tx.store) (H.content new.blobs.tx.store) → M.sound new.blobs.tx.store
+      → Saved D R G old.saver old.blobs.tx.store new.saver new.blobs.tx.store (H.content old.blobs.tx.store) result
       → Synced shows M H D R G new kept now result
   synced law old new kept now (Ok u) s er ei ep same sound saved = record {
-    keeps = record { content = H.content old.tx.store; represents = saved; shown = shown_along shows _ _ _ _ (H.content old.tx.store) now ep (ap (λ x. x.0) er) s.shown };
+    keeps = record { content = H.content old.blobs.tx.store; represents = saved; shown = shown_along shows _ _ _ _ (H.content old.blobs.tx.store) now ep (ap (λ x. x.0) er) s.shown };
     sound = sound;
     unmarked = ap (λ (i : Identity). i.marked) ei ∙ s.unmarked;
-    shown = law _ _ (H.content old.tx.store) (H.content new.tx.store) now same (shown_along shows _ _ _ _ (H.content old.tx.store) now ep (ap (λ x. x.0) er) s.shown);
+    shown = law _ _ (H.content old.blobs.tx.store) (H.content new.blobs.tx.store) now same (shown_along shows _ _ _ _ (H.content old.blobs.tx.store) now ep (ap (λ x. x.0) er) s.shown);
   }
   synced law old new kept now (Err e) s er ei ep same sound (inl unmoved) = inl (record {
     keeps = keeps_along shows R _ _ _ _ _ _ _ _ _ _ kept ep (ap (λ x. x.0) er) ei unmoved.kept unmoved.trace s.keeps;
     sound = sound;
     unmarked = ap (λ (i : Identity). i.marked) ei ∙ s.unmarked;
-    shown = law _ _ (H.content old.tx.store) (H.content new.tx.store) now same (shown_along shows _ _ _ _ (H.content old.tx.store) now ep (ap (λ x. x.0) er) s.shown);
+    shown = law _ _ (H.content old.blobs.tx.store) (H.content new.blobs.tx.store) now same (shown_along shows _ _ _ _ (H.content old.blobs.tx.store) now ep (ap (λ x. x.0) er) s.shown);
   })
   synced law old new kept now (Err e) s er ei ep same sound (inr saved) = inr (record {
-    keeps = record { content = H.content old.tx.store; represents = saved; shown = shown_along shows _ _ _ _ (H.content old.tx.store) now ep (ap (λ x. x.0) er) s.shown };
+    keeps = record { content = H.content old.blobs.tx.store; represents = saved; shown = shown_along shows _ _ _ _ (H.content old.blobs.tx.store) now ep (ap (λ x. x.0) er) s.shown };
     sound = sound;
     unmarked = ap (λ (i : Identity). i.marked) ei ∙ s.unmarked;
-    shown = law _ _ (H.content old.tx.store) (H.content new.tx.store) now same (shown_along shows _ _ _ _ (H.content old.tx.store) now ep (ap (λ x. x.0) er) s.shown);
+    shown = law _ _ (H.content old.blobs.tx.store) (H.content new.blobs.tx.store) now same (shown_along shows _ _ _ _ (H.content old.blobs.tx.store) now ep (ap (λ x. x.0) er) s.shown);
   })
 
   -- after an error the last record is the one from before, and the store is as it was, or it is the long one
-  last_either : (old new : Core S K) (e : SyncError) → LastBeforeLong D G old.saver old.tx.store new.saver new.tx.store (Err e) ⊎ LastAfterLong D G old.tx.store new.saver (Err e)
-      → ((new.saver.last.items ≡ old.saver.last.items) × (new.tx.store ≡ old.tx.store)) ⊎ (new.saver.last.items ≡ D.record_of old.tx.store true)
+  last_either : (old new : Core S K) (e : SyncError) → LastBeforeLong D G old.saver old.blobs.tx.store new.saver new.blobs.tx.store (Err e) ⊎ LastAfterLong D G old.blobs.tx.store new.saver (Err e)
+      → ((new.saver.last.items ≡ old.saver.last.items) × (new.blobs.tx.store ≡ old.blobs.tx.store)) ⊎ (new.saver.last.items ≡ D.record_of old.blobs.tx.store true)
   last_either old new Memory (inl before) = inl (before.0, before.1)
   last_either old new Memory (inr after) = inr after.0
   last_either old new FaultDirectory (inl before) = absurd before
@@ -73,23 +74,23 @@ module _ {S : Type 0} {K : Type 0} (shows : Showing) (M : Meanings S) (H : Holdi
   last_either old new FaultState (inl before) = inl (before.0, before.1)
   last_either old new FaultState (inr after) = inr after.0
 
-  last_after : (old new : Core S K) (may : List (List ℕ)) (now : List ℕ) → Configures H D R G old may now → R.configures (D.record_of old.tx.store true) (D.trace new.tx.store) now
-      → ((new.saver.last.items ≡ old.saver.last.items) × (new.tx.store ≡ old.tx.store)) ⊎ (new.saver.last.items ≡ D.record_of old.tx.store true)
-      → (bytes : List ℕ) × IsOneOf may bytes × R.configures new.saver.last.items (D.trace new.tx.store) bytes
+  last_after : (old new : Core S K) (may : List (List ℕ)) (now : List ℕ) → Configures H D R G old may now → R.configures (D.record_of old.blobs.tx.store true) (D.trace new.blobs.tx.store) now
+      → ((new.saver.last.items ≡ old.saver.last.items) × (new.blobs.tx.store ≡ old.blobs.tx.store)) ⊎ (new.saver.last.items ≡ D.record_of old.blobs.tx.store true)
+      → (bytes : List ℕ) × IsOneOf may bytes × R.configures new.saver.last.items (D.trace new.blobs.tx.store) bytes
   last_after old new may now c waiting (inl same) =
-      (c.last.0, c.last.1, subst (λ x. R.configures x (D.trace new.tx.store) c.last.0) (sym same.0) (subst (λ x. R.configures old.saver.last.items (D.trace x) c.last.0) (sym same.1) c.last.2))
-  last_after old new may now c waiting (inr full) = (now, c.among, subst (λ x. R.configures x (D.trace new.tx.store) now) (sym full) waiting)
+      (c.last.0, c.last.1, subst (λ x. R.configures x (D.trace new.blobs.tx.store) c.last.0) (sym same.0) (subst (λ x. R.configures old.saver.last.items (D.trace x) c.last.0) (sym same.1) c.last.2))
+  last_after old new may now c waiting (inr full) = (now, c.among, subst (λ x. R.configures x (D.trace new.blobs.tx.store) now) (sym full) waiting)
 
   kept_after : (old new : Core S K) (may : List (List ℕ)) (now : List ℕ) → Configures H D R G old may now
-      → Unmoved D G old.saver old.tx.store new.saver new.tx.store ⊎ KeptConfigures R (G.kept new.saver.keeper) (D.trace new.tx.store) now → KeptOneOf R (G.kept new.saver.keeper) (D.trace new.tx.store) may
+      → Unmoved D G old.saver old.blobs.tx.store new.saver new.blobs.tx.store ⊎ KeptConfigures R (G.kept new.saver.keeper) (D.trace new.blobs.tx.store) now → KeptOneOf R (G.kept new.saver.keeper) (D.trace new.blobs.tx.store) may
   kept_after old new may now c (inl unmoved) =
       (c.kept.0, c.kept.1, (c.kept.2.0, unmoved.kept ∙ c.kept.2.1, subst (λ x. R.configures c.kept.2.0 x c.kept.0) (sym unmoved.trace) c.kept.2.2))
   kept_after old new may now c (inr saved) = (now, c.among, saved)
 
   pub config_synced : (old new : Core S K) (may : List (List ℕ)) (now : List ℕ) (result : Result Unit SyncError) → Configures H D R G old may now
-      → H.told new.tx.store ≡ H.told old.tx.store → R.configures (D.record_of new.tx.store true) (D.trace new.tx.store) now → R.configures (D.record_of old.tx.store true) (D.trace new.tx.store) now
-      → SavedConfig D R G old.saver old.tx.store new.saver new.tx.store now result → OnOk result (R.configures new.saver.last.items (D.trace new.tx.store) now)
-      → LastBeforeLong D G old.saver old.tx.store new.saver new.tx.store result ⊎ LastAfterLong D G old.tx.store new.saver result → ConfigSynced H D R G new may now result
+      → H.told new.blobs.tx.store ≡ H.told old.blobs.tx.store → R.configures (D.record_of new.blobs.tx.store true) (D.trace new.blobs.tx.store) now → R.configures (D.record_of old.blobs.tx.store true) (D.trace new.blobs.tx.store) now
+      → SavedConfig D R G old.saver old.blobs.tx.store new.saver new.blobs.tx.store now result → OnOk result (R.configures new.saver.last.items (D.trace new.blobs.tx.store) now)
+      → LastBeforeLong D G old.saver old.blobs.tx.store new.saver new.blobs.tx.store result ⊎ LastAfterLong D G old.blobs.tx.store new.saver result → ConfigSynced H D R G new may now result
   config_synced old new may now (Ok u) c et present waiting saved short last =
       record { told = et ∙ c.told; among = inl refl; kept = (now, inl refl, saved); last = (now, inl refl, short); present = present }
   config_synced old new may now (Err e) c et present waiting saved short last =
@@ -116,3 +117,9 @@ module _ {S : Type 0} {K : Type 0} (shows : Showing) (M : Meanings S) (H : Holdi
   pub roomed : (core : Core S K) (kept now : Tree) (result : Result Unit SyncError) → Synced shows M H D R G core kept now result → Roomed shows M H D R G core kept now
   roomed core kept now (Ok u) s = inr s
   roomed core kept now (Err e) s = s
+
+-- where a sync went well, its configuration's file is kept
+pub saved_ok : {S : Type 0} {K : Type 0} (D : Durables S) (R : Records) (G : KeeperGhosts K) (old new : Saver K) (before after : S) (bytes : List ℕ) (result : Result Unit SyncError) → SavedConfig D R G old before new after bytes result
+    → OnOk result (KeptConfigures R (G.kept new.keeper) (D.trace after) bytes)
+saved_ok D R G old new before after bytes (Ok u) s = s
+saved_ok D R G old new before after bytes (Err e) s = tt

@@ -12,7 +12,7 @@ use Rattle.answers.specs.declared.answer.Answer.TheVariants.{Reply as Replied, M
 use Rattle.outcome.specs.Meanings.{OnVerdict}
 use Rattle.session_saver.specs.declared.saver.SyncError.{SyncError}
 use Rattle.session_saver.specs.declared.saver.SyncError.TheVariants.{Memory as SyncMemory, FaultDirectory as SyncDirectory, FaultState as SyncState}
-use Rattle.mount_core.specs.Performing.{is_sync}
+use Rattle.tree_commands.specs.Performing.{is_sync}
 
 abbrev pub is_done : Reply → Bool
 is_done Done = true

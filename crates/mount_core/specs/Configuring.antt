@@ -21,11 +21,11 @@ KeptOneOf R kept trace may = (bytes : List ℕ) × IsOneOf may bytes × KeptConf
 -- By what is kept, and by the last record that was given, the file holds one of the first, and by what the store would keep
 -- now the second, which is one of the first too.
 pub record Configures {S : Type 0} {K : Type 0} (H : Holdings S) (D : Durables S) (R : Records) (G : KeeperGhosts K) (core : Core S K) (may : List (List ℕ)) (now : List ℕ) : Type 0 where
-  pub told : H.told core.tx.store ≡ true
+  pub told : H.told core.blobs.tx.store ≡ true
   pub among : IsOneOf may now
-  pub kept : KeptOneOf R (G.kept core.saver.keeper) (D.trace core.tx.store) may
-  pub last : (bytes : List ℕ) × IsOneOf may bytes × R.configures core.saver.last.items (D.trace core.tx.store) bytes
-  pub present : R.configures (D.record_of core.tx.store true) (D.trace core.tx.store) now
+  pub kept : KeptOneOf R (G.kept core.saver.keeper) (D.trace core.blobs.tx.store) may
+  pub last : (bytes : List ℕ) × IsOneOf may bytes × R.configures core.saver.last.items (D.trace core.blobs.tx.store) bytes
+  pub present : R.configures (D.record_of core.blobs.tx.store true) (D.trace core.blobs.tx.store) now
 
 -- after a sync all say what is present; after an error they may also say what they did
 abbrev pub ConfigSynced : {S : Type 0} → {K : Type 0} → Holdings S → Durables S → Records → KeeperGhosts K → Core S K → List (List ℕ) → List ℕ → Result Unit SyncError → Type 0
@@ -34,7 +34,7 @@ ConfigSynced H D R G core may now (Err _) = Configures H D R G core may now
 
 -- after a line: a violation leaves one of them in what is kept
 abbrev pub ConfigAnswered : {S : Type 0} → {K : Type 0} → Holdings S → Durables S → Records → KeeperGhosts K → Core S K → List (List ℕ) → List ℕ → Bool → Type 0
-ConfigAnswered H D R G core may now true = KeptOneOf R (G.kept core.saver.keeper) (D.trace core.tx.store) may
+ConfigAnswered H D R G core may now true = KeptOneOf R (G.kept core.saver.keeper) (D.trace core.blobs.tx.store) may
 ConfigAnswered H D R G core may now false = Configures H D R G core may now
 
 -- after the file was to be replaced by these bytes: they wait, or nothing new does

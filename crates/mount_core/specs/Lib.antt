@@ -1,4 +1,3 @@
-pub mod Performing
 pub mod Answers
 pub mod Standing
 pub mod Configuring

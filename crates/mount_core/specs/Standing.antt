@@ -20,7 +20,7 @@ use Rattle.answers.specs.declared.answer.Answer.{Answer}
 use Rattle.mount_core.specs.declared.body.Core.{Core}
 use Rattle.answers.specs.Sessions.{Follows, is_violation}
 use Rattle.mount_core.specs.Answers.{is_synced}
-use Rattle.mount_core.specs.Performing.{Showing, Steps}
+use Rattle.tree_commands.specs.Performing.{Showing, Steps}
 
 -- what is kept is marked
 abbrev pub IsKeptMarked : Records → Option (List ℕ) → Type 0
@@ -34,19 +34,19 @@ pub record Keeps (R : Records) (shows : Content → Tree → Type 0) (identity :
 
 -- whatever came before: what each call needs of a mount, and leaves it with
 pub record Ready {S : Type 0} {K : Type 0} (M : Meanings S) (H : Holdings S) (D : Durables S) (R : Records) (G : KeeperGhosts K) (core : Core S K) : Type 0 where
-  pub intact : M.intact core.tx.store
-  pub empty : core.tx.overlay ≡ fin.empty
-  pub few : IsFew (H.used core.tx.store)
+  pub intact : M.intact core.blobs.tx.store
+  pub empty : core.blobs.tx.overlay ≡ fin.empty
+  pub few : IsFew (H.used core.blobs.tx.store)
   pub room : length core.saver.last.items ≤ G.room core.saver.keeper
   pub can_mark : CanMark R core.saver
-  pub whole : Whole D G core.saver core.tx.store
+  pub whole : Whole D G core.saver core.blobs.tx.store
 
 -- the mount stands for one tree kept and one tree now
 pub record Stands {S : Type 0} {K : Type 0} (shows : Showing) (M : Meanings S) (H : Holdings S) (D : Durables S) (R : Records) (G : KeeperGhosts K) (core : Core S K) (kept now : Tree) : Type 0 where
-  pub keeps : Keeps R (shows (H.payload core.tx.store) core.root.0) (D.identity core.tx.store) (G.kept core.saver.keeper) (D.trace core.tx.store) kept
-  pub sound : M.sound core.tx.store
-  pub unmarked : (D.identity core.tx.store).marked ≡ false
-  pub shown : shows (H.payload core.tx.store) core.root.0 (H.content core.tx.store) now
+  pub keeps : Keeps R (shows (H.payload core.blobs.tx.store) core.root.0) (D.identity core.blobs.tx.store) (G.kept core.saver.keeper) (D.trace core.blobs.tx.store) kept
+  pub sound : M.sound core.blobs.tx.store
+  pub unmarked : (D.identity core.blobs.tx.store).marked ≡ false
+  pub shown : shows (H.payload core.blobs.tx.store) core.root.0 (H.content core.blobs.tx.store) now
 
 -- what was kept is, or what is now
 abbrev pub Roomed : {S : Type 0} → {K : Type 0} → Showing → Meanings S → Holdings S → Durables S → Records → KeeperGhosts K → Core S K → Tree → Tree → Type 0
@@ -66,8 +66,8 @@ pub record Performed {S : Type 0} {K : Type 0} (shows : Showing) (M : Meanings S
 -- where a line's answer leaves the mount: with a violation, with an acknowledged sync, with another answer
 abbrev pub Left : {S : Type 0} → {K : Type 0} → Showing → Meanings S → Holdings S → Durables S → Records → KeeperGhosts K → Core S K → Tree → Tree → Tree → Bool → Bool → Type 0
 Left shows M H D R G core kept now next true synced = IsKeptMarked R (G.kept core.saver.keeper)
-    ⊎ (Keeps R (shows (H.payload core.tx.store) core.root.0) (D.identity core.tx.store) (G.kept core.saver.keeper) (D.trace core.tx.store) kept
-    ⊎ Keeps R (shows (H.payload core.tx.store) core.root.0) (D.identity core.tx.store) (G.kept core.saver.keeper) (D.trace core.tx.store) now)
+    ⊎ (Keeps R (shows (H.payload core.blobs.tx.store) core.root.0) (D.identity core.blobs.tx.store) (G.kept core.saver.keeper) (D.trace core.blobs.tx.store) kept
+    ⊎ Keeps R (shows (H.payload core.blobs.tx.store) core.root.0) (D.identity core.blobs.tx.store) (G.kept core.saver.keeper) (D.trace core.blobs.tx.store) now)
 Left shows M H D R G core kept now next false true = Stands shows M H D R G core next next
 Left shows M H D R G core kept now next false false = Stands shows M H D R G core kept next ⊎ Stands shows M H D R G core now next
 
@@ -87,9 +87,9 @@ Closed shows D R G store keeper kept now (Err _) = Keeps R shows (D.identity sto
 
 -- a command was performed with this reply, and its changes aren't applied yet
 pub record Asked {S : Type 0} {K : Type 0} (shows : Showing) (M : Meanings S) (H : Holdings S) (D : Durables S) (R : Records) (G : KeeperGhosts K) (moment : Instant) (core : Core S K) (kept now : Tree) (command : Command) (reply : Reply) : Type 0 where
-  pub keeps : Keeps R (shows (H.payload core.tx.store) core.root.0) (D.identity core.tx.store) (G.kept core.saver.keeper) (D.trace core.tx.store) kept
-  pub sound : M.sound core.tx.store
-  pub told : H.told core.tx.store ≡ true
-  pub unmarked : (D.identity core.tx.store).marked ≡ false
-  pub shown : shows (H.payload core.tx.store) core.root.0 (H.content core.tx.store) now
-  pub steps : Steps (shows (H.payload core.tx.store) core.root.0) moment now command (over core.tx.overlay (H.content core.tx.store)) reply
+  pub keeps : Keeps R (shows (H.payload core.blobs.tx.store) core.root.0) (D.identity core.blobs.tx.store) (G.kept core.saver.keeper) (D.trace core.blobs.tx.store) kept
+  pub sound : M.sound core.blobs.tx.store
+  pub told : H.told core.blobs.tx.store ≡ true
+  pub unmarked : (D.identity core.blobs.tx.store).marked ≡ false
+  pub shown : shows (H.payload core.blobs.tx.store) core.root.0 (H.content core.blobs.tx.store) now
+  pub steps : Steps (shows (H.payload core.blobs.tx.store) core.root.0) moment now command (over core.blobs.tx.overlay (H.content core.blobs.tx.store)) reply

@@ -7,21 +7,22 @@ ghost use Rattle.fs_model.specs.Instant.{Instant};
 ghost use Rattle.fs_model.specs.Tree.{Tree};
 ghost use Rattle.outside.specs.Causes.{RoseBy};
 ghost use Rattle.outside.specs.Going.{GoesOn};
-ghost use Rattle.session_saver.specs.Saving.{Whole, CanMark};
+ghost use Rattle.session_saver.specs.Saving.{KeptConfigures, Whole, CanMark};
 ghost use Rattle.store_api.specs.Content.{Content, SameContent};
 ghost use Rattle.store_api.specs.Durables.{Identity, with_mark};
 ghost use Rattle.store_api.specs.Holdings.{IsFew, IsSpent, Stays};
 ghost use Rattle.store_api.specs.Lists.{MayConfigure};
 ghost use Rattle.answers.specs.Sessions.{IsError, is_violation, directory_faults, state_faults};
+ghost use Rattle.tree_commands.specs.Showing.{ShowsFiles};
 ghost use Rattle.mount_core.specs.Answers.{is_structure, is_done_answer, answer_of_fail, answer_of_sync, OnReply, OnSpent, OnFound};
 ghost use Rattle.mount_core.specs.Causes.{SpentCause, FoundCause};
 ghost use Rattle.mount_core.specs.Configuring.{Configures, ConfigSynced, ConfigAnswered, ConfigClosed, Replaced, KeptOneOf};
 ghost use Rattle.fs_model.specs.Laws.{OnlyLooks};
-ghost use Rattle.mount_core.specs.Performing.{is_sync, IsReplyTo};
+ghost use Rattle.tree_commands.specs.Performing.{is_sync, IsReplyTo};
 ghost use Rattle.mount_core.specs.Standing.{Ready, Stands, Synced, Roomed, Performed, Answered, IsKeptMarked, Asked, Closed};
 
-use crate::commands::Commands;
 use answers::Answer;
+use blob_store::BlobStore;
 use block_id::{BlockId, Fail, Failed, Memory};
 use fs_model::{Command, Moment, Reply};
 use outside::Keeper;
@@ -29,11 +30,12 @@ use rand_core::Rng;
 use session_saver::{Saver, SyncError};
 use std::alloc::Global;
 use store_api::{ApplyError, Blocks, Durable, Tx};
+use tree_commands::perform;
 
-/// A store with the changes of one command over it, what is kept of it, the root of its tree, and whether there was a
-/// violation.
+/// The blobs of a store, with the changes of one command over it, what is kept of it, the root of its tree, and whether
+/// there was a violation.
 pub struct Core<S, K> {
-    pub tx: Tx<S>,
+    pub blobs: BlobStore<S>,
     pub saver: Saver<K>,
     pub root: BlockId,
     pub violated: bool,
@@ -93,94 +95,96 @@ fn is_error(reply: &Reply) -> bool
 impl<S: Durable, K: Keeper> Core<S, K> {
     /// Keeps what is present: the record with the list, what waits, the record with an empty list. Where nothing changed
     /// it makes no call. There was no violation.
-    pub fn sync<P: Commands>(&mut self, alloc: Global) -> Result<(), SyncError>
+    pub fn sync(&mut self, alloc: Global) -> Result<(), SyncError>
         requires ready { Ready S.meanings S.holdings S.durables S.records K.Keeper self.old }
         requires fresh { self.old.violated ≡ false }
         ensures ready { Ready S.meanings S.holdings S.durables S.records K.Keeper self.new }
-        ensures stands { (kept now : Tree) → Stands P.shows S.meanings S.holdings S.durables S.records K.Keeper self.old kept now → Synced P.shows S.meanings S.holdings S.durables S.records K.Keeper self.new kept now result }
+        ensures stands { (kept now : Tree) → Stands ShowsFiles S.meanings S.holdings S.durables S.records K.Keeper self.old kept now → Synced ShowsFiles S.meanings S.holdings S.durables S.records K.Keeper self.new kept now result }
         ensures configures { (may : List (List ℕ)) (now : List ℕ) → Configures S.holdings S.durables S.records K.Keeper self.old may now → ConfigSynced S.holdings S.durables S.records K.Keeper self.new may now result }
-        ensures emptied { OnOk result (K.kept self.new.saver.keeper ≡ Some (S.durables.record_of self.new.tx.store false)) }
+        ensures holds { (bytes : List ℕ) → S.holdings.told self.old.blobs.tx.store ≡ true → S.records.configures (S.durables.record_of self.old.blobs.tx.store true) (S.durables.trace self.old.blobs.tx.store) bytes
+            → OnOk result (KeptConfigures S.records (K.kept self.new.saver.keeper) (S.durables.trace self.new.blobs.tx.store) bytes) }
+        ensures emptied { OnOk result (K.kept self.new.saver.keeper ≡ Some (S.durables.record_of self.new.blobs.tx.store false)) }
         ensures ok { OnOk result (self.new.saver.changed ≡ false) }
         ensures unmoved { self.old.saver.changed ≡ false → IsOk result × (self.new ≡ self.old) }
-        ensures stays { Stays S.holdings self.old.tx.store self.new.tx.store }
-        ensures sound { S.meanings.sound self.old.tx.store → S.meanings.sound self.new.tx.store }
+        ensures stays { Stays S.holdings self.old.blobs.tx.store self.new.blobs.tx.store }
+        ensures sound { S.meanings.sound self.old.blobs.tx.store → S.meanings.sound self.new.blobs.tx.store }
         ensures violated { self.new.violated ≡ self.old.violated }
         ensures root { self.new.root ≡ self.old.root }
-        ensures identity { S.durables.identity self.new.tx.store ≡ S.durables.identity self.old.tx.store }
-        ensures payload { S.holdings.payload self.new.tx.store ≡ S.holdings.payload self.old.tx.store }
-        ensures goes_on { GoesOn (S.durables.trace self.old.tx.store) (S.durables.trace self.new.tx.store) }
-        ensures forgeries { S.meanings.forgeries self.new.tx.store ≡ S.meanings.forgeries self.old.tx.store }
-        ensures lies { S.meanings.lies self.new.tx.store ≡ S.meanings.lies self.old.tx.store }
-        ensures vault_grows { S.meanings.faults self.old.tx.store ≤ S.meanings.faults self.new.tx.store }
-        ensures vault_cause { IsErrOf result SyncError.FaultDirectory → RoseBy 1 (S.meanings.faults self.old.tx.store) (S.meanings.faults self.new.tx.store) }
+        ensures identity { S.durables.identity self.new.blobs.tx.store ≡ S.durables.identity self.old.blobs.tx.store }
+        ensures payload { S.holdings.payload self.new.blobs.tx.store ≡ S.holdings.payload self.old.blobs.tx.store }
+        ensures goes_on { GoesOn (S.durables.trace self.old.blobs.tx.store) (S.durables.trace self.new.blobs.tx.store) }
+        ensures forgeries { S.meanings.forgeries self.new.blobs.tx.store ≡ S.meanings.forgeries self.old.blobs.tx.store }
+        ensures lies { S.meanings.lies self.new.blobs.tx.store ≡ S.meanings.lies self.old.blobs.tx.store }
+        ensures vault_grows { S.meanings.faults self.old.blobs.tx.store ≤ S.meanings.faults self.new.blobs.tx.store }
+        ensures vault_cause { IsErrOf result SyncError.FaultDirectory → RoseBy 1 (S.meanings.faults self.old.blobs.tx.store) (S.meanings.faults self.new.blobs.tx.store) }
         ensures keeper_grows { K.faults self.old.saver.keeper ≤ K.faults self.new.saver.keeper }
         ensures keeper_cause { IsErrOf result SyncError.FaultState → RoseBy 1 (K.faults self.old.saver.keeper) (K.faults self.new.saver.keeper) }
     {
-        self.saver.sync(alloc, &mut self.tx.store)
+        self.saver.sync(alloc, &mut self.blobs.tx.store)
     }
 
     /// Syncs where much waits.
-    fn make_room<P: Commands>(&mut self, alloc: Global) -> Result<(), SyncError>
+    fn make_room(&mut self, alloc: Global) -> Result<(), SyncError>
         requires ready { Ready S.meanings S.holdings S.durables S.records K.Keeper self.old }
         requires fresh { self.old.violated ≡ false }
         ensures ready { Ready S.meanings S.holdings S.durables S.records K.Keeper self.new }
-        ensures stands { (kept now : Tree) → Stands P.shows S.meanings S.holdings S.durables S.records K.Keeper self.old kept now → Roomed P.shows S.meanings S.holdings S.durables S.records K.Keeper self.new kept now }
+        ensures stands { (kept now : Tree) → Stands ShowsFiles S.meanings S.holdings S.durables S.records K.Keeper self.old kept now → Roomed ShowsFiles S.meanings S.holdings S.durables S.records K.Keeper self.new kept now }
         ensures configures { (may : List (List ℕ)) (now : List ℕ) → Configures S.holdings S.durables S.records K.Keeper self.old may now → Configures S.holdings S.durables S.records K.Keeper self.new may now }
-        ensures stays { Stays S.holdings self.old.tx.store self.new.tx.store }
-        ensures sound { S.meanings.sound self.old.tx.store → S.meanings.sound self.new.tx.store }
+        ensures stays { Stays S.holdings self.old.blobs.tx.store self.new.blobs.tx.store }
+        ensures sound { S.meanings.sound self.old.blobs.tx.store → S.meanings.sound self.new.blobs.tx.store }
         ensures violated { self.new.violated ≡ self.old.violated }
         ensures root { self.new.root ≡ self.old.root }
-        ensures identity { S.durables.identity self.new.tx.store ≡ S.durables.identity self.old.tx.store }
-        ensures payload { S.holdings.payload self.new.tx.store ≡ S.holdings.payload self.old.tx.store }
-        ensures goes_on { GoesOn (S.durables.trace self.old.tx.store) (S.durables.trace self.new.tx.store) }
-        ensures forgeries { S.meanings.forgeries self.new.tx.store ≡ S.meanings.forgeries self.old.tx.store }
-        ensures lies { S.meanings.lies self.new.tx.store ≡ S.meanings.lies self.old.tx.store }
-        ensures vault_grows { S.meanings.faults self.old.tx.store ≤ S.meanings.faults self.new.tx.store }
-        ensures vault_cause { IsErrOf result SyncError.FaultDirectory → RoseBy 1 (S.meanings.faults self.old.tx.store) (S.meanings.faults self.new.tx.store) }
+        ensures identity { S.durables.identity self.new.blobs.tx.store ≡ S.durables.identity self.old.blobs.tx.store }
+        ensures payload { S.holdings.payload self.new.blobs.tx.store ≡ S.holdings.payload self.old.blobs.tx.store }
+        ensures goes_on { GoesOn (S.durables.trace self.old.blobs.tx.store) (S.durables.trace self.new.blobs.tx.store) }
+        ensures forgeries { S.meanings.forgeries self.new.blobs.tx.store ≡ S.meanings.forgeries self.old.blobs.tx.store }
+        ensures lies { S.meanings.lies self.new.blobs.tx.store ≡ S.meanings.lies self.old.blobs.tx.store }
+        ensures vault_grows { S.meanings.faults self.old.blobs.tx.store ≤ S.meanings.faults self.new.blobs.tx.store }
+        ensures vault_cause { IsErrOf result SyncError.FaultDirectory → RoseBy 1 (S.meanings.faults self.old.blobs.tx.store) (S.meanings.faults self.new.blobs.tx.store) }
         ensures keeper_grows { K.faults self.old.saver.keeper ≤ K.faults self.new.saver.keeper }
         ensures keeper_cause { IsErrOf result SyncError.FaultState → RoseBy 1 (K.faults self.old.saver.keeper) (K.faults self.new.saver.keeper) }
     {
-        if self.tx.store.buffered() < MOST_WAITING {
+        if self.blobs.tx.store.buffered() < MOST_WAITING {
             return Ok(());
         }
-        self.sync::<P>(alloc)
+        self.sync(alloc)
     }
 
     /// Applies the changes of a command that was performed.
     fn apply<R: Rng>(&mut self, alloc: Global, chance: &mut R) -> Result<(), ApplyError>
-        requires intact { ⟦<Tx<S> as Blocks>⟧.meanings.intact self.old.tx }
+        requires intact { ⟦<Tx<S> as Blocks>⟧.meanings.intact self.old.blobs.tx }
         requires room { length self.old.saver.last.items ≤ K.room self.old.saver.keeper }
         requires can_mark { CanMark S.records self.old.saver }
-        requires whole { Whole S.durables K.Keeper self.old.saver self.old.tx.store }
+        requires whole { Whole S.durables K.Keeper self.old.saver self.old.blobs.tx.store }
         ensures ready { Ready S.meanings S.holdings S.durables S.records K.Keeper self.new }
-        ensures content { OnOk result (S.holdings.told self.old.tx.store ≡ true → SameContent (⟦<Tx<S> as Blocks>⟧.holdings.content self.old.tx) (S.holdings.content self.new.tx.store)) }
-        ensures stays { OnErr result (Stays S.holdings self.old.tx.store self.new.tx.store) }
-        ensures told { S.holdings.told self.new.tx.store ≡ S.holdings.told self.old.tx.store }
+        ensures content { OnOk result (S.holdings.told self.old.blobs.tx.store ≡ true → SameContent (⟦<Tx<S> as Blocks>⟧.holdings.content self.old.blobs.tx) (S.holdings.content self.new.blobs.tx.store)) }
+        ensures stays { OnErr result (Stays S.holdings self.old.blobs.tx.store self.new.blobs.tx.store) }
+        ensures told { S.holdings.told self.new.blobs.tx.store ≡ S.holdings.told self.old.blobs.tx.store }
         ensures keeper { self.new.saver.keeper ≡ self.old.saver.keeper }
         ensures last { self.new.saver.last ≡ self.old.saver.last }
         ensures violated { self.new.violated ≡ self.old.violated }
         ensures root { self.new.root ≡ self.old.root }
-        ensures identity { S.durables.identity self.new.tx.store ≡ S.durables.identity self.old.tx.store }
-        ensures payload { S.holdings.payload self.new.tx.store ≡ S.holdings.payload self.old.tx.store }
-        ensures stands { (identity : Identity) (kept : List ℕ) (content : Content) → S.records.stands identity kept (S.durables.trace self.old.tx.store) content
-            → S.records.stands identity kept (S.durables.trace self.new.tx.store) content }
-        ensures kept_configures { (kept bytes : List ℕ) → S.records.configures kept (S.durables.trace self.old.tx.store) bytes → S.records.configures kept (S.durables.trace self.new.tx.store) bytes }
-        ensures configures { (bytes : List ℕ) → S.records.configures (S.durables.record_of self.old.tx.store true) (S.durables.trace self.old.tx.store) bytes
-            → S.records.configures (S.durables.record_of self.new.tx.store true) (S.durables.trace self.new.tx.store) bytes }
-        ensures goes_on { GoesOn (S.durables.trace self.old.tx.store) (S.durables.trace self.new.tx.store) }
-        ensures sound { S.meanings.sound self.old.tx.store → S.meanings.sound self.new.tx.store }
-        ensures forgeries { S.meanings.forgeries self.new.tx.store ≡ S.meanings.forgeries self.old.tx.store }
-        ensures lies { S.meanings.lies self.new.tx.store ≡ S.meanings.lies self.old.tx.store }
-        ensures faults { S.meanings.faults self.new.tx.store ≡ S.meanings.faults self.old.tx.store }
-        ensures spent { (result ≡ Err ApplyError.Spent) → IsSpent S.holdings self.old.tx.store self.old.tx.overlay }
+        ensures identity { S.durables.identity self.new.blobs.tx.store ≡ S.durables.identity self.old.blobs.tx.store }
+        ensures payload { S.holdings.payload self.new.blobs.tx.store ≡ S.holdings.payload self.old.blobs.tx.store }
+        ensures stands { (identity : Identity) (kept : List ℕ) (content : Content) → S.records.stands identity kept (S.durables.trace self.old.blobs.tx.store) content
+            → S.records.stands identity kept (S.durables.trace self.new.blobs.tx.store) content }
+        ensures kept_configures { (kept bytes : List ℕ) → S.records.configures kept (S.durables.trace self.old.blobs.tx.store) bytes → S.records.configures kept (S.durables.trace self.new.blobs.tx.store) bytes }
+        ensures configures { (bytes : List ℕ) → S.records.configures (S.durables.record_of self.old.blobs.tx.store true) (S.durables.trace self.old.blobs.tx.store) bytes
+            → S.records.configures (S.durables.record_of self.new.blobs.tx.store true) (S.durables.trace self.new.blobs.tx.store) bytes }
+        ensures goes_on { GoesOn (S.durables.trace self.old.blobs.tx.store) (S.durables.trace self.new.blobs.tx.store) }
+        ensures sound { S.meanings.sound self.old.blobs.tx.store → S.meanings.sound self.new.blobs.tx.store }
+        ensures forgeries { S.meanings.forgeries self.new.blobs.tx.store ≡ S.meanings.forgeries self.old.blobs.tx.store }
+        ensures lies { S.meanings.lies self.new.blobs.tx.store ≡ S.meanings.lies self.old.blobs.tx.store }
+        ensures faults { S.meanings.faults self.new.blobs.tx.store ≡ S.meanings.faults self.old.blobs.tx.store }
+        ensures spent { (result ≡ Err ApplyError.Spent) → IsSpent S.holdings self.old.blobs.tx.store self.old.blobs.tx.overlay }
     {
-        match self.tx.commit(alloc, chance) {
+        match self.blobs.tx.commit(alloc, chance) {
             Ok(()) => {
                 self.saver.changed = true;
                 Ok(())
             }
             Err(error) => {
-                self.tx.abandon();
+                self.blobs.tx.abandon();
                 Err(error)
             }
         }
@@ -190,7 +194,7 @@ impl<S: Durable, K: Keeper> Core<S, K> {
     fn mark(&mut self)
         requires ready { Ready S.meanings S.holdings S.durables S.records K.Keeper self.old }
         ensures ready { Ready S.meanings S.holdings S.durables S.records K.Keeper self.new }
-        ensures store { self.new.tx ≡ self.old.tx }
+        ensures store { self.new.blobs.tx ≡ self.old.blobs.tx }
         ensures root { self.new.root ≡ self.old.root }
         ensures violated { self.new.violated ≡ true }
         ensures kept { (K.kept self.new.saver.keeper ≡ Some (with_mark self.old.saver.last.items)) ⊎ (K.kept self.new.saver.keeper ≡ K.kept self.old.saver.keeper) }
@@ -207,43 +211,43 @@ impl<S: Durable, K: Keeper> Core<S, K> {
     }
 
     /// Answers a reply to a command that was performed, once its changes are applied.
-    fn settle<P: Commands, R: Rng>(
+    fn settle<R: Rng>(
         &mut self,
         alloc: Global,
         command: &Command,
         reply: Reply,
         chance: &mut R,
     ) -> Answer
-        requires intact { ⟦<Tx<S> as Blocks>⟧.meanings.intact self.old.tx }
+        requires intact { ⟦<Tx<S> as Blocks>⟧.meanings.intact self.old.blobs.tx }
         requires room { length self.old.saver.last.items ≤ K.room self.old.saver.keeper }
         requires can_mark { CanMark S.records self.old.saver }
-        requires whole { Whole S.durables K.Keeper self.old.saver self.old.tx.store }
+        requires whole { Whole S.durables K.Keeper self.old.saver self.old.blobs.tx.store }
         requires form { IsReplyTo command.now reply }
         ensures ready { Ready S.meanings S.holdings S.durables S.records K.Keeper self.new }
-        ensures stands { (moment : Instant) (kept now : Tree) → Asked P.shows S.meanings S.holdings S.durables S.records K.Keeper moment self.old kept now command.now reply
-            → Performed P.shows S.meanings S.holdings S.durables S.records K.Keeper moment self.new kept now command.now result }
+        ensures stands { (moment : Instant) (kept now : Tree) → Asked ShowsFiles S.meanings S.holdings S.durables S.records K.Keeper moment self.old kept now command.now reply
+            → Performed ShowsFiles S.meanings S.holdings S.durables S.records K.Keeper moment self.new kept now command.now result }
         ensures configures { (may : List (List ℕ)) (now : List ℕ) → Configures S.holdings S.durables S.records K.Keeper self.old may now → Configures S.holdings S.durables S.records K.Keeper self.new may now }
-        ensures stays { is_done_answer result ≡ false → Stays S.holdings self.old.tx.store self.new.tx.store }
+        ensures stays { is_done_answer result ≡ false → Stays S.holdings self.old.blobs.tx.store self.new.blobs.tx.store }
         ensures keeper { self.new.saver.keeper ≡ self.old.saver.keeper }
         ensures last { self.new.saver.last ≡ self.old.saver.last }
-        ensures goes_on { GoesOn (S.durables.trace self.old.tx.store) (S.durables.trace self.new.tx.store) }
-        ensures sound { S.meanings.sound self.old.tx.store → S.meanings.sound self.new.tx.store }
+        ensures goes_on { GoesOn (S.durables.trace self.old.blobs.tx.store) (S.durables.trace self.new.blobs.tx.store) }
+        ensures sound { S.meanings.sound self.old.blobs.tx.store → S.meanings.sound self.new.blobs.tx.store }
         ensures violated { self.new.violated ≡ self.old.violated }
         ensures root { self.new.root ≡ self.old.root }
-        ensures payload { S.holdings.payload self.new.tx.store ≡ S.holdings.payload self.old.tx.store }
-        ensures identity { S.durables.identity self.new.tx.store ≡ S.durables.identity self.old.tx.store }
-        ensures forgeries { S.meanings.forgeries self.new.tx.store ≡ S.meanings.forgeries self.old.tx.store }
-        ensures lies { S.meanings.lies self.new.tx.store ≡ S.meanings.lies self.old.tx.store }
-        ensures faults { S.meanings.faults self.new.tx.store ≡ S.meanings.faults self.old.tx.store }
+        ensures payload { S.holdings.payload self.new.blobs.tx.store ≡ S.holdings.payload self.old.blobs.tx.store }
+        ensures identity { S.durables.identity self.new.blobs.tx.store ≡ S.durables.identity self.old.blobs.tx.store }
+        ensures forgeries { S.meanings.forgeries self.new.blobs.tx.store ≡ S.meanings.forgeries self.old.blobs.tx.store }
+        ensures lies { S.meanings.lies self.new.blobs.tx.store ≡ S.meanings.lies self.old.blobs.tx.store }
+        ensures faults { S.meanings.faults self.new.blobs.tx.store ≡ S.meanings.faults self.old.blobs.tx.store }
         ensures answers { (result ≡ Answer.Reply reply) ⊎ ((result ≡ Answer.Memory) ⊎ (result ≡ Answer.Spent)) }
-        ensures spent { OnSpent result (SpentCause S.holdings self.old.tx.store command.now) }
+        ensures spent { OnSpent result (SpentCause S.holdings self.old.blobs.tx.store command.now) }
     {
         if only_looks(command) || is_error(&reply) {
-            self.tx.abandon();
+            self.blobs.tx.abandon();
             return Answer::Reply(reply);
         }
-        if self.tx.batch().entries().is_empty() {
-            self.tx.abandon();
+        if self.blobs.tx.batch().entries().is_empty() {
+            self.blobs.tx.abandon();
             return Answer::Reply(reply);
         }
         match self.apply(alloc, chance) {
@@ -254,7 +258,7 @@ impl<S: Durable, K: Keeper> Core<S, K> {
     }
 
     /// Answers a command by the blocks, and leaves the keeper alone.
-    fn ask<P: Commands, R: Rng>(
+    fn ask<R: Rng>(
         &mut self,
         alloc: Global,
         now: Moment,
@@ -264,34 +268,34 @@ impl<S: Durable, K: Keeper> Core<S, K> {
         requires ready { Ready S.meanings S.holdings S.durables S.records K.Keeper self.old }
         requires fits { IsFitting command.now }
         ensures ready { Ready S.meanings S.holdings S.durables S.records K.Keeper self.new }
-        ensures stands { (kept present : Tree) → Stands P.shows S.meanings S.holdings S.durables S.records K.Keeper self.old kept present → S.meanings.forgeries self.new.tx.store ≤ S.meanings.forgeries self.old.tx.store
-            → Performed P.shows S.meanings S.holdings S.durables S.records K.Keeper now self.new kept present command.now result }
+        ensures stands { (kept present : Tree) → Stands ShowsFiles S.meanings S.holdings S.durables S.records K.Keeper self.old kept present → S.meanings.forgeries self.new.blobs.tx.store ≤ S.meanings.forgeries self.old.blobs.tx.store
+            → Performed ShowsFiles S.meanings S.holdings S.durables S.records K.Keeper now self.new kept present command.now result }
         ensures configures { (may : List (List ℕ)) (now : List ℕ) → Configures S.holdings S.durables S.records K.Keeper self.old may now → Configures S.holdings S.durables S.records K.Keeper self.new may now }
-        ensures stays { is_done_answer result ≡ false → Stays S.holdings self.old.tx.store self.new.tx.store }
+        ensures stays { is_done_answer result ≡ false → Stays S.holdings self.old.blobs.tx.store self.new.blobs.tx.store }
         ensures keeper { self.new.saver.keeper ≡ self.old.saver.keeper }
         ensures last { self.new.saver.last ≡ self.old.saver.last }
-        ensures goes_on { GoesOn (S.durables.trace self.old.tx.store) (S.durables.trace self.new.tx.store) }
-        ensures sound { S.meanings.sound self.old.tx.store → S.meanings.forgeries self.new.tx.store ≤ S.meanings.forgeries self.old.tx.store → S.meanings.sound self.new.tx.store }
+        ensures goes_on { GoesOn (S.durables.trace self.old.blobs.tx.store) (S.durables.trace self.new.blobs.tx.store) }
+        ensures sound { S.meanings.sound self.old.blobs.tx.store → S.meanings.forgeries self.new.blobs.tx.store ≤ S.meanings.forgeries self.old.blobs.tx.store → S.meanings.sound self.new.blobs.tx.store }
         ensures violated { self.new.violated ≡ self.old.violated }
         ensures root { self.new.root ≡ self.old.root }
-        ensures payload { S.holdings.payload self.new.tx.store ≡ S.holdings.payload self.old.tx.store }
-        ensures identity { S.durables.identity self.new.tx.store ≡ S.durables.identity self.old.tx.store }
-        ensures forgeries { S.meanings.forgeries self.old.tx.store ≤ S.meanings.forgeries self.new.tx.store }
-        ensures lies { S.meanings.lies self.old.tx.store ≤ S.meanings.lies self.new.tx.store }
-        ensures alarm { (kept present : Tree) → Stands P.shows S.meanings S.holdings S.durables S.records K.Keeper self.old kept present → S.meanings.lies self.new.tx.store ≤ S.meanings.lies self.old.tx.store → is_violation result ≡ false }
-        ensures built { (kept present : Tree) → Stands P.shows S.meanings S.holdings S.durables S.records K.Keeper self.old kept present → S.meanings.forgeries self.new.tx.store ≤ S.meanings.forgeries self.old.tx.store → is_structure result ≡ false }
-        ensures found { OnFound result (λ why. S.meanings.loaded self.old.tx.store self.new.tx.store × S.meanings.met self.old.tx.store self.new.tx.store why) }
-        ensures vault_grows { S.meanings.faults self.old.tx.store ≤ S.meanings.faults self.new.tx.store }
-        ensures vault_cause { RoseBy (directory_faults result) (S.meanings.faults self.old.tx.store) (S.meanings.faults self.new.tx.store) }
+        ensures payload { S.holdings.payload self.new.blobs.tx.store ≡ S.holdings.payload self.old.blobs.tx.store }
+        ensures identity { S.durables.identity self.new.blobs.tx.store ≡ S.durables.identity self.old.blobs.tx.store }
+        ensures forgeries { S.meanings.forgeries self.old.blobs.tx.store ≤ S.meanings.forgeries self.new.blobs.tx.store }
+        ensures lies { S.meanings.lies self.old.blobs.tx.store ≤ S.meanings.lies self.new.blobs.tx.store }
+        ensures alarm { (kept present : Tree) → Stands ShowsFiles S.meanings S.holdings S.durables S.records K.Keeper self.old kept present → S.meanings.lies self.new.blobs.tx.store ≤ S.meanings.lies self.old.blobs.tx.store → is_violation result ≡ false }
+        ensures built { (kept present : Tree) → Stands ShowsFiles S.meanings S.holdings S.durables S.records K.Keeper self.old kept present → S.meanings.forgeries self.new.blobs.tx.store ≤ S.meanings.forgeries self.old.blobs.tx.store → is_structure result ≡ false }
+        ensures found { OnFound result (λ why. S.meanings.loaded self.old.blobs.tx.store self.new.blobs.tx.store × S.meanings.met self.old.blobs.tx.store self.new.blobs.tx.store why) }
+        ensures vault_grows { S.meanings.faults self.old.blobs.tx.store ≤ S.meanings.faults self.new.blobs.tx.store }
+        ensures vault_cause { RoseBy (directory_faults result) (S.meanings.faults self.old.blobs.tx.store) (S.meanings.faults self.new.blobs.tx.store) }
         ensures keeper_cause { state_faults result ≡ 0 }
-        ensures spent { OnSpent result (SpentCause S.holdings self.old.tx.store command.now) }
+        ensures spent { OnSpent result (SpentCause S.holdings self.old.blobs.tx.store command.now) }
         ensures variant { OnReply result (IsReplyTo command.now) }
         ensures served { result ≢ Answer.Refused }
     {
-        match P::perform(alloc, &mut self.tx, &self.root, now, command, chance) {
-            Ok(reply) => self.settle::<P, R>(alloc, command, reply, chance),
+        match perform(alloc, &mut self.blobs, &self.root, now, command, chance) {
+            Ok(reply) => self.settle(alloc, command, reply, chance),
             Err(fail) => {
-                self.tx.abandon();
+                self.blobs.tx.abandon();
                 fail_answer(fail)
             }
         }
@@ -300,7 +304,7 @@ impl<S: Durable, K: Keeper> Core<S, K> {
     /// Answers a command: where there was a violation it is refused; where 8 MiB wait, or for `Sync`, there is a sync; else
     /// the command is performed, and its changes are applied at once or not at all. A violation has the last record
     /// marked.
-    pub fn answer<P: Commands, R: Rng>(
+    pub fn answer<R: Rng>(
         &mut self,
         alloc: Global,
         now: Moment,
@@ -313,40 +317,40 @@ impl<S: Durable, K: Keeper> Core<S, K> {
         ensures refused { self.old.violated ≡ true → (result ≡ Answer.Refused) × (self.new ≡ self.old) }
         ensures served { self.old.violated ≡ false → result ≢ Answer.Refused }
         ensures violated { self.new.violated ≡ (is_violation result || self.old.violated) }
-        ensures stands { (kept present : Tree) → self.old.violated ≡ false → Stands P.shows S.meanings S.holdings S.durables S.records K.Keeper self.old kept present → S.meanings.forgeries self.new.tx.store ≤ S.meanings.forgeries self.old.tx.store
-            → Answered P.shows S.meanings S.holdings S.durables S.records K.Keeper now self.new kept present command.now result }
-        ensures stays { is_done_answer result ≡ false → Stays S.holdings self.old.tx.store self.new.tx.store }
+        ensures stands { (kept present : Tree) → self.old.violated ≡ false → Stands ShowsFiles S.meanings S.holdings S.durables S.records K.Keeper self.old kept present → S.meanings.forgeries self.new.blobs.tx.store ≤ S.meanings.forgeries self.old.blobs.tx.store
+            → Answered ShowsFiles S.meanings S.holdings S.durables S.records K.Keeper now self.new kept present command.now result }
+        ensures stays { is_done_answer result ≡ false → Stays S.holdings self.old.blobs.tx.store self.new.blobs.tx.store }
         ensures configures { (may : List (List ℕ)) (present : List ℕ) → Configures S.holdings S.durables S.records K.Keeper self.old may present
             → ConfigAnswered S.holdings S.durables S.records K.Keeper self.new may present (is_violation result) }
         ensures root { self.new.root ≡ self.old.root }
-        ensures payload { S.holdings.payload self.new.tx.store ≡ S.holdings.payload self.old.tx.store }
-        ensures identity { S.durables.identity self.new.tx.store ≡ S.durables.identity self.old.tx.store }
-        ensures goes_on { GoesOn (S.durables.trace self.old.tx.store) (S.durables.trace self.new.tx.store) }
-        ensures forgeries { S.meanings.forgeries self.old.tx.store ≤ S.meanings.forgeries self.new.tx.store }
-        ensures lies { S.meanings.lies self.old.tx.store ≤ S.meanings.lies self.new.tx.store }
-        ensures alarm { (kept present : Tree) → self.old.violated ≡ false → Stands P.shows S.meanings S.holdings S.durables S.records K.Keeper self.old kept present → S.meanings.lies self.new.tx.store ≤ S.meanings.lies self.old.tx.store → is_violation result ≡ false }
-        ensures built { (kept present : Tree) → self.old.violated ≡ false → Stands P.shows S.meanings S.holdings S.durables S.records K.Keeper self.old kept present → S.meanings.forgeries self.new.tx.store ≤ S.meanings.forgeries self.old.tx.store → is_structure result ≡ false }
-        ensures found { OnFound result (FoundCause S.meanings S.holdings S.durables self.old.tx.store self.new.tx.store) }
-        ensures vault_cause { RoseBy (directory_faults result) (S.meanings.faults self.old.tx.store) (S.meanings.faults self.new.tx.store) }
+        ensures payload { S.holdings.payload self.new.blobs.tx.store ≡ S.holdings.payload self.old.blobs.tx.store }
+        ensures identity { S.durables.identity self.new.blobs.tx.store ≡ S.durables.identity self.old.blobs.tx.store }
+        ensures goes_on { GoesOn (S.durables.trace self.old.blobs.tx.store) (S.durables.trace self.new.blobs.tx.store) }
+        ensures forgeries { S.meanings.forgeries self.old.blobs.tx.store ≤ S.meanings.forgeries self.new.blobs.tx.store }
+        ensures lies { S.meanings.lies self.old.blobs.tx.store ≤ S.meanings.lies self.new.blobs.tx.store }
+        ensures alarm { (kept present : Tree) → self.old.violated ≡ false → Stands ShowsFiles S.meanings S.holdings S.durables S.records K.Keeper self.old kept present → S.meanings.lies self.new.blobs.tx.store ≤ S.meanings.lies self.old.blobs.tx.store → is_violation result ≡ false }
+        ensures built { (kept present : Tree) → self.old.violated ≡ false → Stands ShowsFiles S.meanings S.holdings S.durables S.records K.Keeper self.old kept present → S.meanings.forgeries self.new.blobs.tx.store ≤ S.meanings.forgeries self.old.blobs.tx.store → is_structure result ≡ false }
+        ensures found { OnFound result (FoundCause S.meanings S.holdings S.durables self.old.blobs.tx.store self.new.blobs.tx.store) }
+        ensures vault_cause { RoseBy (directory_faults result) (S.meanings.faults self.old.blobs.tx.store) (S.meanings.faults self.new.blobs.tx.store) }
         ensures keeper_cause { RoseBy (state_faults result) (K.faults self.old.saver.keeper) (K.faults self.new.saver.keeper) }
         ensures marked { is_violation result ≡ true → IsKeptMarked S.records (K.kept self.new.saver.keeper) ⊎ RoseBy 1 (K.faults self.old.saver.keeper) (K.faults self.new.saver.keeper) }
-        ensures spent { OnSpent result (SpentCause S.holdings self.old.tx.store command.now) }
+        ensures spent { OnSpent result (SpentCause S.holdings self.old.blobs.tx.store command.now) }
         ensures variant { OnReply result (IsReplyTo command.now) }
     {
         if self.violated {
             return Answer::Refused;
         }
-        match self.make_room::<P>(alloc) {
+        match self.make_room(alloc) {
             Ok(()) => {}
             Err(error) => return sync_answer(error),
         }
         if is_sync(command) {
-            return match self.sync::<P>(alloc) {
+            return match self.sync(alloc) {
                 Ok(()) => Answer::Reply(Reply::Done),
                 Err(error) => sync_answer(error),
             };
         }
-        let answer = self.ask::<P, R>(alloc, now, command, chance);
+        let answer = self.ask(alloc, now, command, chance);
         match answer {
             Answer::Violation(_) => self.mark(),
             _ => {}
@@ -356,57 +360,55 @@ impl<S: Durable, K: Keeper> Core<S, K> {
 
     /// Has the configuration's file replaced by these bytes, and syncs. Where the bytes found no memory, nothing changed;
     /// after another error they wait. There was no violation.
-    pub fn replace_config<P: Commands>(
-        &mut self,
-        alloc: Global,
-        bytes: Vec<u8>,
-    ) -> Result<(), SyncError>
+    pub fn replace_config(&mut self, alloc: Global, bytes: Vec<u8>) -> Result<(), SyncError>
         requires ready { Ready S.meanings S.holdings S.durables S.records K.Keeper self.old }
         requires fresh { self.old.violated ≡ false }
         requires may { MayConfigure bytes.items }
         ensures ready { Ready S.meanings S.holdings S.durables S.records K.Keeper self.new }
-        ensures stands { (kept now : Tree) → Stands P.shows S.meanings S.holdings S.durables S.records K.Keeper self.old kept now → Synced P.shows S.meanings S.holdings S.durables S.records K.Keeper self.new kept now result }
+        ensures stands { (kept now : Tree) → Stands ShowsFiles S.meanings S.holdings S.durables S.records K.Keeper self.old kept now → Synced ShowsFiles S.meanings S.holdings S.durables S.records K.Keeper self.new kept now result }
         ensures configures { (may : List (List ℕ)) (now : List ℕ) → Configures S.holdings S.durables S.records K.Keeper self.old may now → Replaced S.holdings S.durables S.records K.Keeper self.new may now bytes.items result }
-        ensures emptied { OnOk result (K.kept self.new.saver.keeper ≡ Some (S.durables.record_of self.new.tx.store false)) }
+        ensures holds { S.holdings.told self.old.blobs.tx.store ≡ true
+            → OnOk result (KeptConfigures S.records (K.kept self.new.saver.keeper) (S.durables.trace self.new.blobs.tx.store) bytes.items) }
+        ensures emptied { OnOk result (K.kept self.new.saver.keeper ≡ Some (S.durables.record_of self.new.blobs.tx.store false)) }
         ensures ok { OnOk result (self.new.saver.changed ≡ false) }
-        ensures stays { Stays S.holdings self.old.tx.store self.new.tx.store }
-        ensures sound { S.meanings.sound self.old.tx.store → S.meanings.sound self.new.tx.store }
+        ensures stays { Stays S.holdings self.old.blobs.tx.store self.new.blobs.tx.store }
+        ensures sound { S.meanings.sound self.old.blobs.tx.store → S.meanings.sound self.new.blobs.tx.store }
         ensures violated { self.new.violated ≡ self.old.violated }
         ensures root { self.new.root ≡ self.old.root }
-        ensures identity { S.durables.identity self.new.tx.store ≡ S.durables.identity self.old.tx.store }
-        ensures payload { S.holdings.payload self.new.tx.store ≡ S.holdings.payload self.old.tx.store }
-        ensures goes_on { GoesOn (S.durables.trace self.old.tx.store) (S.durables.trace self.new.tx.store) }
-        ensures forgeries { S.meanings.forgeries self.new.tx.store ≡ S.meanings.forgeries self.old.tx.store }
-        ensures lies { S.meanings.lies self.new.tx.store ≡ S.meanings.lies self.old.tx.store }
-        ensures vault_grows { S.meanings.faults self.old.tx.store ≤ S.meanings.faults self.new.tx.store }
-        ensures vault_cause { IsErrOf result SyncError.FaultDirectory → RoseBy 1 (S.meanings.faults self.old.tx.store) (S.meanings.faults self.new.tx.store) }
+        ensures identity { S.durables.identity self.new.blobs.tx.store ≡ S.durables.identity self.old.blobs.tx.store }
+        ensures payload { S.holdings.payload self.new.blobs.tx.store ≡ S.holdings.payload self.old.blobs.tx.store }
+        ensures goes_on { GoesOn (S.durables.trace self.old.blobs.tx.store) (S.durables.trace self.new.blobs.tx.store) }
+        ensures forgeries { S.meanings.forgeries self.new.blobs.tx.store ≡ S.meanings.forgeries self.old.blobs.tx.store }
+        ensures lies { S.meanings.lies self.new.blobs.tx.store ≡ S.meanings.lies self.old.blobs.tx.store }
+        ensures vault_grows { S.meanings.faults self.old.blobs.tx.store ≤ S.meanings.faults self.new.blobs.tx.store }
+        ensures vault_cause { IsErrOf result SyncError.FaultDirectory → RoseBy 1 (S.meanings.faults self.old.blobs.tx.store) (S.meanings.faults self.new.blobs.tx.store) }
         ensures keeper_grows { K.faults self.old.saver.keeper ≤ K.faults self.new.saver.keeper }
         ensures keeper_cause { IsErrOf result SyncError.FaultState → RoseBy 1 (K.faults self.old.saver.keeper) (K.faults self.new.saver.keeper) }
     {
-        match self.tx.store.put_config(alloc, bytes) {
+        match self.blobs.tx.store.put_config(alloc, bytes) {
             Ok(()) => {}
             Err(Memory) => return Err(SyncError::Memory),
         }
         self.saver.changed = true;
-        self.sync::<P>(alloc)
+        self.sync(alloc)
     }
 
     /// Ends the session: syncs, or leaves all as it is where there was a violation.
-    pub fn close<P: Commands>(self, alloc: Global) -> (Result<(), SyncError>, S, K)
+    pub fn close(self, alloc: Global) -> (Result<(), SyncError>, S, K)
         requires { Ready S.meanings S.holdings S.durables S.records K.Keeper self }
-        ensures stands { (kept now : Tree) → self.violated ≡ false → Stands P.shows S.meanings S.holdings S.durables S.records K.Keeper self kept now
-            → Closed (P.shows (S.holdings.payload self.tx.store) self.root.0) S.durables S.records K.Keeper result.1 result.2 kept now result.0 }
+        ensures stands { (kept now : Tree) → self.violated ≡ false → Stands ShowsFiles S.meanings S.holdings S.durables S.records K.Keeper self kept now
+            → Closed (ShowsFiles (S.holdings.payload self.blobs.tx.store) self.root.0) S.durables S.records K.Keeper result.1 result.2 kept now result.0 }
         ensures configures { (may : List (List ℕ)) (now : List ℕ) → self.violated ≡ false → Configures S.holdings S.durables S.records K.Keeper self may now
             → ConfigClosed S.records (K.kept result.2) (S.durables.trace result.1) may now result.0 }
-        ensures left { (self.violated ≡ true) ⊎ (self.saver.changed ≡ false) → IsOk result.0 × (result.1 ≡ self.tx.store) × (result.2 ≡ self.saver.keeper) }
+        ensures left { (self.violated ≡ true) ⊎ (self.saver.changed ≡ false) → IsOk result.0 × (result.1 ≡ self.blobs.tx.store) × (result.2 ≡ self.saver.keeper) }
         ensures emptied { self.violated ≡ false → OnOk result.0 (K.kept result.2 ≡ Some (S.durables.record_of result.1 false)) }
         ensures intact { S.meanings.intact result.1 }
-        ensures identity { S.durables.identity result.1 ≡ S.durables.identity self.tx.store }
-        ensures goes_on { GoesOn (S.durables.trace self.tx.store) (S.durables.trace result.1) }
-        ensures forgeries { S.meanings.forgeries result.1 ≡ S.meanings.forgeries self.tx.store }
-        ensures lies { S.meanings.lies result.1 ≡ S.meanings.lies self.tx.store }
-        ensures vault_grows { S.meanings.faults self.tx.store ≤ S.meanings.faults result.1 }
-        ensures vault_cause { IsErrOf result.0 SyncError.FaultDirectory → RoseBy 1 (S.meanings.faults self.tx.store) (S.meanings.faults result.1) }
+        ensures identity { S.durables.identity result.1 ≡ S.durables.identity self.blobs.tx.store }
+        ensures goes_on { GoesOn (S.durables.trace self.blobs.tx.store) (S.durables.trace result.1) }
+        ensures forgeries { S.meanings.forgeries result.1 ≡ S.meanings.forgeries self.blobs.tx.store }
+        ensures lies { S.meanings.lies result.1 ≡ S.meanings.lies self.blobs.tx.store }
+        ensures vault_grows { S.meanings.faults self.blobs.tx.store ≤ S.meanings.faults result.1 }
+        ensures vault_cause { IsErrOf result.0 SyncError.FaultDirectory → RoseBy 1 (S.meanings.faults self.blobs.tx.store) (S.meanings.faults result.1) }
         ensures keeper_grows { K.faults self.saver.keeper ≤ K.faults result.2 }
         ensures keeper_cause { IsErrOf result.0 SyncError.FaultState → RoseBy 1 (K.faults self.saver.keeper) (K.faults result.2) }
     {
@@ -414,10 +416,10 @@ impl<S: Durable, K: Keeper> Core<S, K> {
         let result = if core.violated {
             Ok(())
         } else {
-            core.sync::<P>(alloc)
+            core.sync(alloc)
         };
         let Core {
-            tx,
+            blobs: BlobStore { tx },
             saver,
             root: _,
             violated: _,

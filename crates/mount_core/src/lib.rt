@@ -1,8 +1,6 @@
-//! What a session does with a store, a keeper and what performs commands: it answers, syncs and closes.
+//! What a session does with a store and a keeper: it answers commands on the tree of files, syncs and closes.
 #![tactic(auto)]
 
 mod body;
-mod commands;
 
 pub use body::Core;
-pub use commands::Commands;

@@ -6,31 +6,32 @@ ghost use Rattle.outside.specs.Going.{GoesOn};
 ghost use Rattle.store_api.specs.Content.{Id};
 ghost use Rattle.store_api.specs.Holdings.{is_free};
 ghost use Rattle.store_api.specs.Lists.{MayConfigure};
+ghost use Rattle.tree_commands.specs.Showing.{ShowsFiles};
 ghost use Rattle.mount_opening.specs.Opening.{Made, MadeConfig};
 
 use block_id::{BlockId, Memory};
-use mount_core::Commands;
 use outside::Keeper;
 use rand_core::Rng;
 use session_saver::{Saver, SyncError};
 use std::alloc::Global;
 use store_api::{Batch, Durable};
+use tree_commands::empty_root;
 
 /// Has a new file system kept and written: its configuration's file, and the root's block, which shows the empty tree.
-pub fn make<P: Commands, S: Durable, K: Keeper, R: Rng>(
+pub fn make<S: Durable, K: Keeper, R: Rng>(
     alloc: Global,
     store: S,
     keeper: K,
     config: Vec<u8>,
-    root: &BlockId,
+    root: BlockId,
     chance: &mut R,
 ) -> (Result<(), SyncError>, S, K)
     requires intact { S.meanings.intact store }
-    requires free { is_free (S.holdings.used store) root.now.0 ≡ true }
+    requires free { is_free (S.holdings.used store) root.0 ≡ true }
     requires none { (id : Id) → S.holdings.content store id ≡ None }
     requires may { MayConfigure config.items }
     ensures stands { S.meanings.sound store → (S.durables.identity store).marked ≡ false
-        → Made (P.shows (S.holdings.payload store) root.now.0) S.durables S.records K.Keeper store keeper result.1 result.2 result.0 }
+        → Made (ShowsFiles (S.holdings.payload store) root.0) S.durables S.records K.Keeper store keeper result.1 result.2 result.0 }
     ensures configures { S.holdings.told store ≡ true → MadeConfig S.durables S.records K.Keeper store keeper result.1 result.2 config.items result.0 }
     ensures intact { S.meanings.intact result.1 }
     ensures identity { S.durables.identity result.1 ≡ S.durables.identity store }
@@ -45,12 +46,12 @@ pub fn make<P: Commands, S: Durable, K: Keeper, R: Rng>(
         Ok(()) => {}
         Err(Memory) => return (Err(SyncError::Memory), store, keeper),
     }
-    let payload = match P::empty_root(alloc, store.payload()) {
+    let payload = match empty_root(alloc, store.payload()) {
         Ok(payload) => payload,
         Err(Memory) => return (Err(SyncError::Memory), store, keeper),
     };
     let mut batch = Batch::new(alloc);
-    match batch.put(root, payload) {
+    match batch.put(&root, payload) {
         Ok(()) => {}
         Err(Memory) => return (Err(SyncError::Memory), store, keeper),
     }

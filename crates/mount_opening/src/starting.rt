@@ -4,12 +4,14 @@ ghost use Rattle.std.specs.declared.option.Option.TheVariants.{Some};
 ghost use Rattle.fs_model.specs.Tree.{Tree};
 ghost use Rattle.outside.specs.Writes.{after_writes};
 ghost use Rattle.store_api.specs.Holdings.{IsFew};
+ghost use Rattle.tree_commands.specs.Showing.{ShowsFiles};
 ghost use Rattle.mount_core.specs.Configuring.{Configures};
 ghost use Rattle.mount_core.specs.Standing.{Ready, Stands};
 ghost use Rattle.mount_opening.specs.Opening.{Halting, CauseOf};
 
+use blob_store::BlobStore;
 use block_id::{BlockId, Memory};
-use mount_core::{Commands, Core};
+use mount_core::Core;
 use outside::Keeper;
 use session_saver::{Saver, SyncError};
 use std::alloc::Global;
@@ -24,7 +26,7 @@ pub struct Unstarted<S, K> {
 
 /// Begins a session over a store whose record is kept: what waits is written out first, and the record is kept with an
 /// empty list.
-pub fn start<P: Commands, S: Durable, K: Keeper>(
+pub fn start<S: Durable, K: Keeper>(
     alloc: Global,
     store: S,
     keeper: K,
@@ -41,16 +43,16 @@ pub fn start<P: Commands, S: Durable, K: Keeper>(
     ensures fresh { IfOk result (λ core. core.violated ≡ false) }
     ensures unchanged { IfOk result (λ core. core.saver.changed ≡ false) }
     ensures root { IfOk result (λ core. core.root ≡ root) }
-    ensures identity { IfOk result (λ core. S.durables.identity core.tx.store ≡ S.durables.identity store) }
+    ensures identity { IfOk result (λ core. S.durables.identity core.blobs.tx.store ≡ S.durables.identity store) }
     ensures stands { IfOk result (λ core. (first : Tree) → S.meanings.sound store → (S.durables.identity store).marked ≡ false
-        → P.shows (S.holdings.payload store) root.0 (S.holdings.content store) first → Stands P.shows S.meanings S.holdings S.durables S.records K.Keeper core first first) }
+        → ShowsFiles (S.holdings.payload store) root.0 (S.holdings.content store) first → Stands ShowsFiles S.meanings S.holdings S.durables S.records K.Keeper core first first) }
     ensures configures { IfOk result (λ core. (bytes : List ℕ) → S.holdings.told store ≡ true → S.records.configures (S.durables.record_of store true) (S.durables.trace store) bytes
         → Configures S.holdings S.durables S.records K.Keeper core (bytes ∷ []) bytes) }
     ensures kept { IfOk result (λ core. K.kept core.saver.keeper ≡ Some (S.durables.record_of store false)) }
-    ensures writes { IfOk result (λ core. S.durables.trace core.tx.store ≡ after_writes (S.durables.list store) (S.durables.trace store)) }
-    ensures forgeries { IfOk result (λ core. S.meanings.forgeries core.tx.store ≡ S.meanings.forgeries store) }
-    ensures lies { IfOk result (λ core. S.meanings.lies core.tx.store ≡ S.meanings.lies store) }
-    ensures vault_grows { IfOk result (λ core. S.meanings.faults store ≤ S.meanings.faults core.tx.store) }
+    ensures writes { IfOk result (λ core. S.durables.trace core.blobs.tx.store ≡ after_writes (S.durables.list store) (S.durables.trace store)) }
+    ensures forgeries { IfOk result (λ core. S.meanings.forgeries core.blobs.tx.store ≡ S.meanings.forgeries store) }
+    ensures lies { IfOk result (λ core. S.meanings.lies core.blobs.tx.store ≡ S.meanings.lies store) }
+    ensures vault_grows { IfOk result (λ core. S.meanings.faults store ≤ S.meanings.faults core.blobs.tx.store) }
     ensures keeper_grows { IfOk result (λ core. K.faults keeper ≤ K.faults core.saver.keeper) }
     ensures halted { IfErr result (λ u. Halting S.meanings S.holdings S.durables S.records K.Keeper store keeper u) }
     ensures cause { IfErr result (λ u. CauseOf (S.meanings.faults store) (S.meanings.faults u.store) (K.faults keeper) (K.faults u.keeper) u.error) }
@@ -90,7 +92,9 @@ pub fn start<P: Commands, S: Durable, K: Keeper>(
         }
     }
     Ok(Core {
-        tx: Tx::new(alloc, store),
+        blobs: BlobStore {
+            tx: Tx::new(alloc, store),
+        },
         saver,
         root,
         violated: false,

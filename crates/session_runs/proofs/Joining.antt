@@ -13,7 +13,7 @@ use Rattle.answers.specs.declared.answer.Answer.TheVariants.{Reply as Replied, M
 use Rattle.answers.specs.Sessions.{Asked, Exchange, Next, IsSession, IsKeptPoint, is_violation, is_sync, is_synced, latest, violated, state_faults, all_state_faults}
 use Rattle.integrity_store.specs.Standing.{records}
 use Rattle.mount_core.specs.Configuring.{ConfigAnswered}
-use Rattle.mount_core.specs.Performing.{Showing}
+use Rattle.tree_commands.specs.Performing.{Showing}
 use Rattle.mount_core.specs.Standing.{IsKeptMarked, Left}
 use Rattle.mount.specs.declared.mount.Mount.{Mount}
 use Rattle.mount.specs.Tower.{tower_meanings, tower_holdings, tower_durables}

@@ -9,7 +9,7 @@ use Rattle.answers.specs.declared.answer.Answer.{Answer}
 use Rattle.answers.specs.declared.answer.Answer.TheVariants.{Reply as Replied, Memory, Spent, FaultDirectory, FaultState, Violation, Refused}
 use Rattle.answers.specs.Sessions as session
 use Rattle.mount_core.specs.Answers as core
-use Rattle.mount_core.specs.Performing as performing
+use Rattle.tree_commands.specs.Performing as performing
 
 same_sync : (command : Command) → performing.is_sync command ≡ session.is_sync command
 same_sync Sync = refl

@@ -14,22 +14,20 @@ use Rattle.answers.specs.declared.answer.Answer.TheVariants.{Reply as Replied, M
 use Rattle.answers.specs.Hosts.{Hosting}
 use Rattle.answers.specs.Sessions.{Asked, FollowsAsked, is_violation, is_synced, directory_faults, state_faults}
 use Rattle.store_api.specs.Holdings.{Stays}
-use Rattle.integrity_store.specs.declared.store.IntegrityStore.{IntegrityStore}
 use Rattle.integrity_store.specs.Standing.{records}
-use Rattle.config_file.specs.declared.config.Cipher.{Cipher}
 use Rattle.mount_core.specs.Answers.{is_done_answer, is_structure, OnFound, OnReply, OnSpent}
 use Rattle.mount_core.specs.Causes.{FoundCause, SpentCause}
 use Rattle.mount_core.specs.Configuring.{ConfigAnswered}
-use Rattle.mount_core.specs.Performing.{Showing, IsReplyTo}
+use Rattle.tree_commands.specs.Performing.{Showing, IsReplyTo}
 use Rattle.mount_core.specs.Standing.{IsKeptMarked, Left}
 use Rattle.mount.specs.declared.mount.Mount.{Mount}
 use Rattle.mount.specs.Mounts.{IsReady}
-use Rattle.mount.specs.Tower.{trace_in, tower_meanings, tower_holdings, tower_durables, TowerStands, TowerConfigures}
+use Rattle.mount.specs.Tower.{Cached, trace_in, tower_meanings, tower_holdings, tower_durables, TowerStands, TowerConfigures}
 
 -- ---- what a mount tells
 
-abbrev pub store_of : {V : Type 0} → {K : Type 0} → Mount V K → IntegrityStore V Cipher
-store_of mount = mount.core.tx.store
+abbrev pub store_of : {V : Type 0} → {K : Type 0} → Mount V K → Cached V
+store_of mount = mount.core.blobs.tx.store
 
 abbrev pub calls_of : {V : Type 0} → {K : Type 0} → (V → Option (List Call)) → Mount V K → Option (List Call)
 calls_of trace mount = trace_in trace (store_of mount)

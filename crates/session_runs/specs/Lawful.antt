@@ -21,11 +21,11 @@ use Rattle.store_api.specs.Holdings.{Holdings, Stays}
 use Rattle.integrity_store.specs.Standing.{records}
 use Rattle.mount_core.specs.Answers.{is_done_answer, is_structure, OnFound, OnReply, OnSpent}
 use Rattle.mount_core.specs.Configuring.{ConfigAnswered}
-use Rattle.mount_core.specs.Performing.{Showing, IsReplyTo}
+use Rattle.tree_commands.specs.Performing.{Showing, IsReplyTo}
 use Rattle.mount_core.specs.Standing.{Left}
 use Rattle.mount.specs.declared.mount.Mount.{Mount}
 use Rattle.mount.specs.Tower.{tower_meanings, tower_holdings, tower_durables}
-use Rattle.session_runs.specs.Answering.{store_of, IsUnread, MountAnswers, mount_hosting}
+use Rattle.session_runs.specs.Answering.{store_of, calls_of, IsUnread, MountAnswers, mount_hosting}
 
 true_is_false : true ≡ false → ⊥
 true_is_false e = cc
@@ -195,7 +195,7 @@ module _ {V : Type 0} {K : Type 0} (shows : Showing) (trace : V → Option (List
         };
         stays = λ e. stays_same (tower_holdings trace) (store_of mount);
         configures = λ may present c. subst (λ b. ConfigAnswered (tower_holdings trace) (tower_durables trace) records G mount.core may present b) (sym calm) c;
-        goes_on = goes_on_same (trace (store_of mount).sealed.vault.vault);
+        goes_on = goes_on_same (calls_of trace mount);
         forgeries = omega arith;
         lies = omega arith;
         alarm = λ kept present f stands few. calm;

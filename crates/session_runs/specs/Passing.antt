@@ -10,7 +10,7 @@ use Rattle.outside.specs.declared.keeper.Keeper.{Ghosts as KeeperGhosts}
 use Rattle.answers.specs.Sessions.{Exchange, IsSession, IsKeptPoint, latest, violated, all_directory_faults, all_state_faults}
 use Rattle.integrity_store.specs.Standing.{records}
 use Rattle.mount_core.specs.Configuring.{ConfigAnswered}
-use Rattle.mount_core.specs.Performing.{Showing}
+use Rattle.tree_commands.specs.Performing.{Showing}
 use Rattle.mount_core.specs.Standing.{IsKeptMarked, Keeps}
 use Rattle.mount.specs.declared.mount.Mount.{Mount}
 use Rattle.mount.specs.Tower.{tower_holdings, tower_durables, TowerStands, TowerConfigures}

@@ -20,7 +20,7 @@ use Rattle.scrypt_kdf.specs.Cost.{Cost}
 use Rattle.session_saver.specs.Saving.{KeptConfigures}
 use Rattle.session_saver.specs.declared.saver.SyncError.{SyncError}
 use Rattle.session_saver.specs.declared.saver.SyncError.TheVariants.{Memory, FaultDirectory, FaultState}
-use Rattle.mount_core.specs.Performing.{Showing}
+use Rattle.tree_commands.specs.Performing.{Showing}
 use Rattle.mount_core.specs.Standing.{IsKeptMarked}
 use Rattle.mount.specs.Mounts.{StopsMarked}
 use Rattle.mount.specs.Opening.{Attached}

@@ -15,12 +15,12 @@ use Rattle.session_saver.specs.Saving.{KeptConfigures}
 use Rattle.session_saver.specs.declared.saver.SyncError.{SyncError}
 use Rattle.session_saver.specs.declared.saver.SyncError.TheVariants.{FaultDirectory, FaultState}
 use Rattle.mount_core.specs.Configuring.{ConfigClosed}
-use Rattle.mount_core.specs.Performing.{Showing}
+use Rattle.tree_commands.specs.Performing.{Showing}
 use Rattle.mount.specs.declared.mount.Mount.{Mount}
 use Rattle.mount.specs.Mounts.{IsReady, Closed}
 use Rattle.mount.specs.Opening.{Attached}
 use Rattle.mount.specs.Representing.{Represents, HasEmptyList}
-use Rattle.mount.specs.Tower.{TowerStands, TowerConfigures}
+use Rattle.mount.specs.Tower.{vault_in, TowerStands, TowerConfigures}
 use Rattle.mount.specs.Unforged.{IsUnforgedConfig}
 use Rattle.session_runs.specs.Answering.{store_of, calls_of, forgeries_of, lies_of, vault_faults, keeper_faults, kept_of}
 
@@ -42,7 +42,7 @@ pub record Closing {V : Type 0} {K : Type 0} (shows : Showing) (trace : V → Op
   pub stands : (kept now : Tree) → mount.core.violated ≡ false → TowerStands shows trace faults G mount.core kept now
       → Closed shows (settings_of mount.opened.config) (G.kept keeper) (trace vault) kept now closing
   pub configures : (may : List (List ℕ)) (now : List ℕ) → mount.core.violated ≡ false → TowerConfigures trace G mount.core may now → ConfigClosed records (G.kept keeper) (trace vault) may now closing
-  pub left : (mount.core.violated ≡ true) ⊎ (mount.core.saver.changed ≡ false) → IsOk closing × (vault ≡ (store_of mount).sealed.vault.vault) × (keeper ≡ mount.core.saver.keeper)
+  pub left : (mount.core.violated ≡ true) ⊎ (mount.core.saver.changed ≡ false) → IsOk closing × (vault ≡ vault_in (store_of mount)) × (keeper ≡ mount.core.saver.keeper)
   pub emptied : mount.core.violated ≡ false → OnOk closing (HasEmptyList (G.kept keeper))
   pub goes_on : GoesOn (calls_of trace mount) (trace vault)
   pub forgeries : count_told (forged (opened_of mount.opened.config.key) mount.opened.config.block_size) (trace vault) ≡ forgeries_of trace faults mount

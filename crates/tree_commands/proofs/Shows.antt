@@ -1,4 +1,4 @@
--- Calls over blobs as calls over blocks, and the tree that one leaf shows.
+-- Calls over blobs as calls over blocks, the tree that equal contents show, and the one that one leaf shows.
 use Rattle.std.proofs.Common.{◌≡◌, ℕ, ◌≤◌, List, cond, length, sym, ◌∙◌, ap, subst}
 use Rattle.std.specs.Prelude.{Some, None, Result, IfOk, Ok, Err}
 use Rattle.std.specs.FinMap.{get, insert, empty, get-insert, get-empty}
@@ -6,14 +6,14 @@ use Rattle.std.specs.Cmp.Lexicographic.{nat_list_cmp_total}
 use Rattle.block_id.specs.declared.fail.Fail.{Fail}
 use Rattle.outcome.specs.Meanings.{Meanings}
 use Rattle.outcome.specs.Outcome.{Outcome, sounded_}
-use Rattle.store_api.specs.Content.{Id, Content, Changes, same_id}
+use Rattle.store_api.specs.Content.{Id, Content, SameContent, Changes, same_id}
 use Rattle.store_api.specs.Holdings.{Holdings, Steady}
 use Rattle.data_nodes.specs.Layout.{leaf, IsNode, room}
 use Rattle.data_tree.specs.Stored.{StoresBlobs}
 use Rattle.data_tree.proofs.Ids.{same_self}
 use Rattle.blob_api.specs.BlobMap.{id_cmp}
 use Rattle.blob_store.specs.Meanings.{meanings_by, holdings_by}
-use Rattle.blob_store.proofs.Laws.{stores_leaf}
+use Rattle.blob_store.proofs.Laws.{stores_leaf, stores_same}
 use Rattle.fs_model.specs.declared.command.Command.{Command}
 use Rattle.fs_model.specs.declared.reply.Reply.{Reply}
 use Rattle.fs_model.specs.Instant.{Instant}
@@ -49,6 +49,10 @@ module _ {S : Type 0} (M : Meanings S) (H : Holdings S) (steady : Steady M H) {A
       → Outcome (meanings_by f M) (NeedsTree (holdings_by f g H) a root) a b r (λ n reply. Performed (holdings_by f g H) b root (step n.tree now command) reply)
       → Outcome M (Shown (ShowsFiles (H.payload (f a)) root) (H.content (f a))) (f a) (f b) r (λ n reply. Steps (ShowsFiles (H.payload (f a)) root) now n.tree command (H.content (f b)) reply)
   by_blocks now command o = sounded_ needs (unlifted f a b o) (λ s n reply p. steps now n.tree command reply o.loaded p)
+
+-- contents with the same payloads show the same tree
+pub files_same : (payload : ℕ) (root : List ℕ) (old new : Content) (tree : Tree) → SameContent old new → ShowsFiles payload root old tree → ShowsFiles payload root new tree
+files_same payload root old new tree same s = record { map = s.map; stores = stores_same payload old new (get s.map) same s.stores; shows = s.shows }
 
 -- one leaf that holds the one blob of an empty directory shows the empty tree
 pub leaf_shows : (payload : ℕ) (root : Id) (content : Content) (text w : List ℕ) → IsNode text (leaf w) → length text ≡ payload → ShowsBy (insert empty root w) root empty_tree (λ p. root)

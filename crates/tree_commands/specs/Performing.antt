@@ -1,5 +1,5 @@
 -- One command on the tree that a content shows.
-use Rattle.std.specs.Prelude.{◌≡◌, ℕ, Bool, true, false}
+use Rattle.std.specs.Prelude.{◌≡◌, ℕ, Bool, true, false, List}
 use Rattle.fs_model.specs.declared.command.Command.{Command}
 use Rattle.fs_model.specs.declared.command.Command.TheVariants.{List as Listed, Stat, Readlink, Read, Sync}
 use Rattle.fs_model.specs.declared.reply.Reply.{Reply}
@@ -8,6 +8,10 @@ use Rattle.fs_model.specs.Instant.{Instant}
 use Rattle.fs_model.specs.Step.{step}
 use Rattle.fs_model.specs.Tree.{Path, Tree}
 use Rattle.store_api.specs.Content.{Content}
+
+-- how payloads of one length, from one root on, show a tree
+abbrev pub Showing : Type 1
+Showing = ℕ → List ℕ → Content → Tree → Type 0
 
 -- the content shows some tree
 pub record Shown (shows : Content → Tree → Type 0) (content : Content) : Type 0 where

@@ -12,7 +12,7 @@ use Rattle.config_file.specs.Settings.{settings_of}
 use Rattle.config_file.specs.declared.config.Cipher.{Cipher}
 use Rattle.mount.specs.Opening.{OpenCause, Reads}
 use Rattle.mount.specs.Representing.{identity_for}
-use Rattle.mount.specs.Tower.{tower_durables}
+use Rattle.mount.specs.Tower.{vault_in, tower_durables}
 use Rattle.mount.proofs.Attaching.{config_open, identity_is, no_block}
 use Rattle.mount.proofs.Reading.{reads_stands, stands_salt}
 use Rattle.mount.proofs.attach.open_store.Given.{Over}
@@ -36,38 +36,38 @@ returns-in-Err-clause-err g c =
 pub new-sealed-requires-clause-size : goal.new-sealed-requires-clause-size
 new-sealed-requires-clause-size g c = (c.in-Ok.ensures.size.low, c.in-Ok.ensures.size.high)
 
-pub new-requires-clause-config : goal.new-requires-clause-config
-new-requires-clause-config g c =
+pub cached_store-requires-clause-config : goal.cached_store-requires-clause-config
+cached_store-requires-clause-config g c =
     let f = c.in-Ok.ensures.ok in
     let e = ap (λ (x : RedoOf g). x.list) c.new-sealed.ensures.vault ∙ c.read_config.ensures.list in
     subst (λ l. IsNoBlock (change_at config l)) (sym e) (no_block (change_at config c.new-redo.result.list) _ _ f.answer f.gave f.opens.0)
 
-pub returns-clause-record_of : goal.returns-clause-record_of
-returns-clause-record_of g c =
+pub returns-in-Ok-cached_store-clause-record_of : goal.returns-in-Ok-cached_store-clause-record_of
+returns-in-Ok-cached_store-clause-record_of g c =
     let e = ap (λ (x : RedoOf g). x.list) c.new-sealed.ensures.vault ∙ (c.read_config.ensures.list ∙ ap (λ (x : RedoOf g). x.list) c.new-redo.ensures) in
-    c.new.ensures.records true ∙ ap (λ l. record_bytes (plain_state c.args.state) l) e
+    c.in-Ok-cached_store.ensures.records true ∙ ap (λ l. record_bytes (plain_state c.args.state) l) e
 
-pub returns-clause-short : goal.returns-clause-short
-returns-clause-short g c = c.new.ensures.records false
+pub returns-in-Ok-cached_store-clause-short : goal.returns-in-Ok-cached_store-clause-short
+returns-in-Ok-cached_store-clause-short g c = c.in-Ok-cached_store.ensures.records false
 
-pub returns-clause-identity : goal.returns-clause-identity
-returns-clause-identity g c =
-    c.new.ensures.identity
+pub returns-in-Ok-cached_store-clause-identity : goal.returns-in-Ok-cached_store-clause-identity
+returns-in-Ok-cached_store-clause-identity g c =
+    c.in-Ok-cached_store.ensures.identity
     ∙ identity_is (held_of (λ (cipher : Cipher) key text. opened_of key text) c.new-sealed.result c.args.state) (settings_of c.in-Ok.opened.config) (plain_state c.args.state) c.new-sealed.ensures.size
     (ap opened_of c.new-sealed.ensures.key) refl c.requires.unmarked c.in-Ok-check_identity.ensures.ok
 
-pub returns-clause-stands : goal.returns-clause-stands
-returns-clause-stands g c salt content s =
+pub returns-in-Ok-cached_store-clause-stands : goal.returns-in-Ok-cached_store-clause-stands
+returns-in-Ok-cached_store-clause-stands g c salt content s =
     let V = g.V.Vault in
     let state = plain_state c.args.state in
     let list = list_of c.args.list.items in
     let cfg = settings_of c.in-Ok.opened.config in
     let t0 = V.trace c.args.vault in
-    let t = V.trace c.new.result.sealed.vault.vault in
+    let t = V.trace (vault_in c.in-Ok-cached_store.store) in
     let e : state.key_salt ≡ salt = stands_salt cfg salt state list t0 content c.requires.record_ s in
-    let et : t ≡ V.trace c.read_config.new.vault.vault = c.new.ensures.trace ∙ ap (λ (x : RedoOf g). V.trace x.vault) c.new-sealed.ensures.vault in
+    let et : t ≡ V.trace c.read_config.new.vault.vault = c.in-Ok-cached_store.ensures.trace ∙ ap (λ (x : RedoOf g). V.trace x.vault) c.new-sealed.ensures.vault in
     let reads : Reads t0 t = subst (λ x. Reads t0 x) (sym et) (subst (λ (x : RedoOf g). Reads (V.trace x.vault) (V.trace c.read_config.new.vault.vault)) c.new-redo.ensures c.read_config.ensures.reads) in
     let s1 : Stands (identity_for cfg state.key_salt) (record_bytes state list) t0 content = subst (λ x. Stands (identity_for cfg x) (record_bytes state list) t0 content) (sym e) s in
     let s2 : Stands (identity_for cfg state.key_salt) (record_bytes state list) t content = reads_stands (identity_for cfg state.key_salt) (record_bytes state list) content t0 t reads s1 in
-    c.new.ensures.opened content
-    (subst (λ i. Stands i ((tower_durables V.trace).record_of c.new.result true) t content) (sym (returns-clause-identity g c)) (subst (λ r. Stands (identity_for cfg state.key_salt) r t content) (sym (returns-clause-record_of g c)) s2))
+    c.in-Ok-cached_store.ensures.opened content
+    (subst (λ i. Stands i ((tower_durables V.trace).record_of c.in-Ok-cached_store.store true) t content) (sym (returns-in-Ok-cached_store-clause-identity g c)) (subst (λ r. Stands (identity_for cfg state.key_salt) r t content) (sym (returns-in-Ok-cached_store-clause-record_of g c)) s2))

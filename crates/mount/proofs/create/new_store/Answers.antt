@@ -12,7 +12,7 @@ use Rattle.sha2.specs.Sha256.{sha256}
 use Rattle.store_api.specs.Holdings.{has_id}
 use Rattle.mount.specs.Making.{IsUnchanged}
 use Rattle.mount.specs.Representing.{identity_for}
-use Rattle.mount.specs.Tower.{held_in, trace_in, tower_holdings}
+use Rattle.mount.specs.Tower.{sealed_held, sealed_trace, sealed_holdings}
 use Rattle.mount.proofs.Attaching.{identity_is}
 use Rattle.mount.proofs.Fresh.{none_used, unused_none, untouched}
 use Rattle.mount.proofs.create.new_store.Given.{Over}
@@ -34,14 +34,14 @@ returns g c =
     let marks = ap (λ (s : PlainState). s.marks) state in
     let vault = ap (λ (x : RedoOf g). x.vault) s1.vault ∙ ap (λ (x : RedoOf g). x.vault) c.new-redo.ensures in
     let store = c.new-2.result in
-    let steady = steady_by held_in (trace_in g.V.Vault.trace) (λ s. g.V.Vault.faults s.sealed.vault.vault) (λ s. IsIntact (block_size_of s.sealed) 16) in
-    let unused : (id : List ℕ) → has_id ((tower_holdings g.V.Vault.trace).used store) id ≡ false = λ id. ap (λ u. has_id u id) n.used ∙ none_used (plain_state c.new_state-state.result).marks id marks in
+    let steady = steady_by sealed_held (sealed_trace g.V.Vault.trace) (λ s. g.V.Vault.faults s.sealed.vault.vault) (λ s. IsIntact (block_size_of s.sealed) 16) in
+    let unused : (id : List ℕ) → has_id ((sealed_holdings g.V.Vault.trace).used store) id ≡ false = λ id. ap (λ u. has_id u id) n.used ∙ none_used (plain_state c.new_state-state.result).marks id marks in
     record {
       intact = n.intact;
       same = n.trace ∙ ap g.V.Vault.trace vault;
       few = n.faults ∙ ap g.V.Vault.faults vault;
       unused = unused;
-      none = λ id. unused_none ((tower_holdings g.V.Vault.trace).content store id) (has_id ((tower_holdings g.V.Vault.trace).used store) id) (unused id) (steady.content_used store id n.intact);
+      none = λ id. unused_none ((sealed_holdings g.V.Vault.trace).content store id) (has_id ((sealed_holdings g.V.Vault.trace).used store) id) (unused id) (steady.content_used store id n.intact);
       identity = n.identity
           ∙ (identity_is (held_of (λ (cipher : Cipher) key text. opened_of key text) c.new-sealed.result c.new_state-state.result) (settings_of c.args.config) (plain_state c.new_state-state.result) s1.size (ap opened_of s1.key) refl
           (ap (λ (s : PlainState). s.marked) state)

@@ -3,6 +3,7 @@ use Rattle.line_io.specs.Streams.{stream_of}
 use Rattle.answers.specs.Texts.{text_of_answer}
 use Rattle.session_lines.specs.Asking.{single}
 use Rattle.session_lines.specs.Driven.{Reported}
+use Rattle.tree_commands.specs.Showing.{ShowsFiles}
 use Rattle.session_runs.specs.declared.mounted.Mounted.{Mounted}
 use Rattle.session_runs.proofs.Whole.{whole}
 use Rattle.session_runs.proofs.run.run_single.Goals as goal
@@ -19,7 +20,7 @@ returns-clause-session g c =
         refl,
         subst (λ end. Reported (stream_of g.O.Sink.written g.O.Sink.faults c.args.output.now lines.new.output) (text_of_answer s.0) end) (sym z.ensures.end) s.1.written,
       ),
-      whole (λ (m : Mounted g.row.P.Denot g.row.V.Denot g.row.K.Denot). m.mount) g.P.Commands.shows g.V.Vault.trace g.V.Vault.faults g.K.Keeper c.args.now c.args.password.now
+      whole (λ (m : Mounted g.row.V.Denot g.row.K.Denot). m.mount) ShowsFiles g.V.Vault.trace g.V.Vault.faults g.K.Keeper c.args.now c.args.password.now
           c.args.vault z.result.vault c.args.keeper z.result.keeper c.in_ok-mounted.mounted lines.new.host es z.result.closing z.result.violated
           c.in_ok-mounted.ensures.begun lines.ensures.ready s.1.ran z.ensures.closed z.ensures.violated,
     )

@@ -11,9 +11,11 @@ use Rattle.local_state.specs.Record.{plain_state}
 use Rattle.store_api.specs.Durables.{Identity}
 use Rattle.integrity_store.specs.Held.{forged}
 use Rattle.config_file.specs.Settings.{settings_of}
+use Rattle.tree_commands.specs.Showing.{ShowsFiles}
+use Rattle.tree_commands.proofs.Shows.{files_same}
 use Rattle.mount.specs.Mounts.{Unopened}
 use Rattle.mount.specs.Opening.{error_of}
-use Rattle.mount.specs.Tower.{held_in, trace_in, tower_holdings, tower_durables}
+use Rattle.mount.specs.Tower.{held_in, vault_in, trace_in, tower_holdings, tower_durables}
 use Rattle.mount.proofs.Attaching.{halted_loading, halted_opening, halted_starting, Stopped, config_start, represents_kept, load_marked}
 use Rattle.mount.proofs.Reading.{loaded_unmarked, represents_of, found_is, reads_told, reads_forgeries, reads_lies}
 use Rattle.mount.proofs.mount.Mount.attach.Goals as goal
@@ -28,7 +30,7 @@ empty_list (x ∷ xs) n e l = let z : n ≡ 0 = eqb-true n 0 e in absurd (omega 
 
 pub returns-in-Err-clause-halted : goal.returns-in-Err-clause-halted
 returns-in-Err-clause-halted g c =
-    halted_loading g.P.Commands.shows g.V.Vault.trace g.V.Vault.faults g.K.Keeper c.args.password.now c.args.vault c.args.keeper c.load_record.new.keeper c.in-Err.error c.in-Err.ensures.err c.load_record.ensures.kept c.load_record.ensures.grows
+    halted_loading ShowsFiles g.V.Vault.trace g.V.Vault.faults g.K.Keeper c.args.password.now c.args.vault c.args.keeper c.load_record.new.keeper c.in-Err.error c.in-Err.ensures.err c.load_record.ensures.kept c.load_record.ensures.grows
 
 pub returns-in-Err-clause-marked : goal.returns-in-Err-clause-marked
 returns-in-Err-clause-marked g c marked =
@@ -37,7 +39,7 @@ returns-in-Err-clause-marked g c marked =
 pub returns-in-Err-open_store-clause-halted : goal.returns-in-Err-open_store-clause-halted
 returns-in-Err-open_store-clause-halted g c =
     let u = c.in-Err-open_store.ensures in
-    halted_opening g.P.Commands.shows g.V.Vault.trace g.V.Vault.faults g.K.Keeper c.args.password.now c.args.vault c.args.keeper (plain_state c.in-Ok.loaded.state) (list_of c.in-Ok.loaded.list.items) c.in-Err-open_store.unread.vault c.load_record.new.keeper c.in-Err-open_store.unread.error c.in-Ok.ensures.ok u.err u.err_reads u.err_faults
+    halted_opening ShowsFiles g.V.Vault.trace g.V.Vault.faults g.K.Keeper c.args.password.now c.args.vault c.args.keeper (plain_state c.in-Ok.loaded.state) (list_of c.in-Ok.loaded.list.items) c.in-Err-open_store.unread.vault c.load_record.new.keeper c.in-Err-open_store.unread.error c.in-Ok.ensures.ok u.err u.err_reads u.err_faults
     c.load_record.ensures.kept c.load_record.ensures.grows
 
 pub returns-in-Err-open_store-clause-marked : goal.returns-in-Err-open_store-clause-marked
@@ -77,7 +79,7 @@ returns-in-Ok-start-clause-config g c conf told unforged =
     let o = c.in-Ok-open_store.ensures in
     let opening = c.in-Ok-open_store.opening in
     let read = trace_in g.V.Vault.trace opening.store in
-    found_is c.args.password.now (g.K.Keeper.kept c.args.keeper) (plain_state c.in-Ok.loaded.state) (list_of c.in-Ok.loaded.list.items) (g.V.Vault.trace c.args.vault) read (trace_in g.V.Vault.trace c.in-Ok-start.core.tx.store) opening.opened conf c.in-Ok.ensures.ok
+    found_is c.args.password.now (g.K.Keeper.kept c.args.keeper) (plain_state c.in-Ok.loaded.state) (list_of c.in-Ok.loaded.list.items) (g.V.Vault.trace c.args.vault) read (trace_in g.V.Vault.trace c.in-Ok-start.core.blobs.tx.store) opening.opened conf c.in-Ok.ensures.ok
     (subst (λ t. GoesOn read t) (sym c.in-Ok-start.ensures.writes) (goes_on_writes ((tower_durables g.V.Vault.trace).list opening.store) read)) unforged told o.found
 
 pub returns-in-Ok-start-clause-stands : goal.returns-in-Ok-start-clause-stands
@@ -86,11 +88,11 @@ returns-in-Ok-start-clause-stands g c first rep =
     let e = c.in-Ok-start.ensures in
     let opening = c.in-Ok-open_store.opening in
     let opened = o.stands rep.salt rep.keeps.content
-    (represents_of g.P.Commands.shows (g.K.Keeper.kept c.args.keeper) (g.V.Vault.trace c.args.vault) (settings_of opening.opened.config) first (plain_state c.in-Ok.loaded.state) (list_of c.in-Ok.loaded.list.items) c.in-Ok.ensures.ok rep) in
+    (represents_of ShowsFiles (g.K.Keeper.kept c.args.keeper) (g.V.Vault.trace c.args.vault) (settings_of opening.opened.config) first (plain_state c.in-Ok.loaded.state) (list_of c.in-Ok.loaded.list.items) c.in-Ok.ensures.ok rep) in
     let size : (held_in opening.store).size ≡ opening.opened.config.block_size = ap (λ (i : Identity). i.size) o.identity in
     e.stands first opened.0 (ap (λ (i : Identity). i.marked) o.identity)
-    (g.met.P.Commands.shows_same _ _ rep.keeps.content ((tower_holdings g.V.Vault.trace).content opening.store) first opened.1
-    (subst (λ n. g.P.Commands.shows (n - 78) opening.opened.config.root.0 rep.keeps.content first) (sym size) rep.keeps.shown))
+    (files_same _ _ rep.keeps.content ((tower_holdings g.V.Vault.trace).content opening.store) first opened.1
+    (subst (λ n. ShowsFiles (n - 78) opening.opened.config.root.0 rep.keeps.content first) (sym size) rep.keeps.shown))
 
 pub returns-in-Ok-start-clause-configures : goal.returns-in-Ok-start-clause-configures
 returns-in-Ok-start-clause-configures g c bytes told k =
@@ -129,11 +131,11 @@ returns-in-Err-start-clause-halted g c =
     let cfg = settings_of opening.opened.config in
     let t0 = g.V.Vault.trace c.args.vault in
     let read = trace_in g.V.Vault.trace opening.store in
-    let u = c.in-Err-start.unstarted.store.sealed.vault.vault in
+    let u = vault_in c.in-Err-start.unstarted.store in
     let last = c.in-Err-start.unstarted.keeper in
     let error = c.in-Err-start.unstarted.error in
     let kept = g.K.Keeper.kept c.args.keeper in
-    let stopped : Stopped g.P.Commands.shows g.V.Vault.trace g.V.Vault.faults g.K.Keeper c.args.password.now c.args.vault c.args.keeper state list opening.opened read (g.V.Vault.faults opening.store.sealed.vault.vault) (g.K.Keeper.faults c.load_record.new.keeper) u last error = record {
+    let stopped : Stopped ShowsFiles g.V.Vault.trace g.V.Vault.faults g.K.Keeper c.args.password.now c.args.vault c.args.keeper state list opening.opened read (g.V.Vault.faults (vault_in opening.store)) (g.K.Keeper.faults c.load_record.new.keeper) u last error = record {
       loaded = l;
       found = o.found;
       reads = o.reads;
@@ -141,8 +143,8 @@ returns-in-Err-start-clause-halted g c =
       cause = c.in-Err-start.ensures.cause;
       keeps = elim h.keeps [ inl a ↦ inl (a ∙ ap Some o.record_of) | inr b ↦ inr (b ∙ ap Some o.short) ];
       represents = λ first rep.
-          let opened = o.stands rep.salt rep.keeps.content (represents_of g.P.Commands.shows kept t0 cfg first state list l rep) in
-          represents_kept g.P.Commands.shows (g.K.Keeper.kept last) (g.V.Vault.trace u) cfg state.key_salt ((tower_durables g.V.Vault.trace).identity opening.store) rep.keeps.content first o.identity rep.keeps.shown
+          let opened = o.stands rep.salt rep.keeps.content (represents_of ShowsFiles kept t0 cfg first state list l rep) in
+          represents_kept ShowsFiles (g.K.Keeper.kept last) (g.V.Vault.trace u) cfg state.key_salt ((tower_durables g.V.Vault.trace).identity opening.store) rep.keeps.content first o.identity rep.keeps.shown
           (h.stands rep.keeps.content opened.0 (ap (λ (i : Identity). i.marked) o.identity) opened.1);
       configures = λ bytes told k.
           h.configures bytes (reads_told t0 read o.reads ∙ told)
@@ -152,6 +154,6 @@ returns-in-Err-start-clause-halted g c =
       keeper_first = c.load_record.ensures.grows;
       keeper_grows = h.keeper_grows;
     } in
-    subst (λ e. Unopened g.P.Commands.shows g.V.Vault.trace g.V.Vault.faults g.K.Keeper c.args.password.now c.args.vault c.args.keeper (record { error = e; vault = c.into_vault.result; keeper = last })) (sym c.open_error.ensures)
-    (subst (λ v. Unopened g.P.Commands.shows g.V.Vault.trace g.V.Vault.faults g.K.Keeper c.args.password.now c.args.vault c.args.keeper (record { error = error_of error; vault = v; keeper = last })) (sym c.into_vault.ensures.vault)
-    (halted_starting g.P.Commands.shows g.V.Vault.trace g.V.Vault.faults g.K.Keeper c.args.password.now c.args.vault c.args.keeper state list opening.opened read (g.V.Vault.faults opening.store.sealed.vault.vault) (g.K.Keeper.faults c.load_record.new.keeper) u last error stopped))
+    subst (λ e. Unopened ShowsFiles g.V.Vault.trace g.V.Vault.faults g.K.Keeper c.args.password.now c.args.vault c.args.keeper (record { error = e; vault = c.into_vault.result; keeper = last })) (sym c.open_error.ensures)
+    (subst (λ v. Unopened ShowsFiles g.V.Vault.trace g.V.Vault.faults g.K.Keeper c.args.password.now c.args.vault c.args.keeper (record { error = error_of error; vault = v; keeper = last })) (sym c.into_vault.ensures.vault)
+    (halted_starting ShowsFiles g.V.Vault.trace g.V.Vault.faults g.K.Keeper c.args.password.now c.args.vault c.args.keeper state list opening.opened read (g.V.Vault.faults (vault_in opening.store)) (g.K.Keeper.faults c.load_record.new.keeper) u last error stopped))

@@ -1,20 +1,22 @@
-use Rattle.std.proofs.Common.{◌≤◌, refl, ◌∙◌, ap, subst}
+use Rattle.std.proofs.Common.{◌≤◌, inl, refl, ◌∙◌, ap, subst}
 use Rattle.config_file.specs.ConfigOf.{IsOnly, opened}
 use Rattle.config_file.specs.Settings.{settings_of}
 use Rattle.integrity_store.specs.Standing.{records}
 use Rattle.mount_core.specs.Configuring.{Replaced}
 use Rattle.mount.specs.Making.{sealed_file}
-use Rattle.mount.specs.Tower.{tower_holdings, tower_durables}
+use Rattle.std.specs.Prelude.{OnOk}
+use Rattle.session_saver.specs.Saving.{KeptConfigures}
+use Rattle.mount.specs.Tower.{trace_in, tower_holdings, tower_durables}
 use Rattle.config_file.proofs.Waiting.{form_waits}
 use Rattle.store_api.specs.Durables.{Identity}
-use Rattle.mount.proofs.Standing.{emptied_on, on_ok}
+use Rattle.mount.proofs.Standing.{emptied_on}
 use Rattle.mount.proofs.mount.Mount.change_password.Goals as goal
 
 pub seal_config-requires : goal.seal_config-requires
 seal_config-requires g c =
     let r = c.requires.ready in
     let size = ap (λ (i : Identity). i.size) r.identity in
-    record { low = subst (λ n. 128 ≤ n) size r.core.intact.0.least; high = subst (λ n. n ≤ 1048576) size r.core.intact.0.most }
+    record { low = subst (λ n. 128 ≤ n) size r.core.intact.0.1.least; high = subst (λ n. n ≤ 1048576) size r.core.intact.0.1.most }
 
 pub replace_config-requires-clause-may : goal.replace_config-requires-clause-may
 replace_config-requires-clause-may g c = form_waits c.in-Ok.file.items ((c.in-Ok.ensures.opens _).1 refl).0
@@ -22,7 +24,7 @@ replace_config-requires-clause-may g c = form_waits c.in-Ok.file.items ((c.in-Ok
 pub returns-clause-emptied : goal.returns-clause-emptied
 returns-clause-emptied g c =
     let core = c.replace_config.new.self in
-    emptied_on g.V.Vault.trace g.V.Vault.faults core.tx.store (g.K.Keeper.kept core.saver.keeper) c.replace_config.result c.replace_config.ensures.ready.intact c.replace_config.ensures.emptied
+    emptied_on g.V.Vault.trace g.V.Vault.faults core.blobs.tx.store (g.K.Keeper.kept core.saver.keeper) c.replace_config.result c.replace_config.ensures.ready.intact c.replace_config.ensures.emptied
 
 pub returns-clause-configures : goal.returns-clause-configures
 returns-clause-configures g c may now s =
@@ -37,4 +39,12 @@ returns-clause-opens g c =
     let config = settings_of c.args.self.now.opened.config in
     let params = c.args.self.now.opened.params in
     let file = c.in-Ok.ensures.text ∙ ap (λ d. sealed_file c.args.password.now params d config) c.draw-draws.ensures.draws in
-    on_ok c.replace_config.result _ (subst (λ f. IsOnly c.args.password.now f (opened config params)) file c.in-Ok.ensures.opens)
+    inl (subst (λ f. IsOnly c.args.password.now f (opened config params)) file c.in-Ok.ensures.opens)
+
+pub returns-clause-holds : goal.returns-clause-holds
+returns-clause-holds g c told =
+    let config = settings_of c.args.self.now.opened.config in
+    let params = c.args.self.now.opened.params in
+    let file = c.in-Ok.ensures.text ∙ ap (λ d. sealed_file c.args.password.now params d config) c.draw-draws.ensures.draws in
+    let core = c.replace_config.new.self in
+    subst (λ f. OnOk c.replace_config.result (KeptConfigures records (g.K.Keeper.kept core.saver.keeper) (trace_in g.V.Vault.trace core.blobs.tx.store) f)) file (c.replace_config.ensures.holds told)

@@ -6,8 +6,10 @@ use Rattle.store_api.specs.Durables.{Identity}
 use Rattle.integrity_store.specs.Held.{forged}
 use Rattle.integrity_store.specs.Standing.{records}
 use Rattle.config_file.specs.Settings.{settings_of}
+use Rattle.tree_commands.specs.Showing.{ShowsFiles}
 use Rattle.mount_core.specs.Configuring.{ConfigClosed}
 use Rattle.mount.specs.Mounts.{Closed}
+use Rattle.mount.specs.Tower.{trace_in}
 use Rattle.mount.proofs.Standing.{closed, emptied_on}
 use Rattle.mount.proofs.mount.Mount.close.Goals as goal
 
@@ -18,8 +20,8 @@ returns-clause-stands g c kept now v s =
     let cfg = settings_of c.args.self.opened.config in
     let after = z.result.1 in
     let last = z.result.2 in
-    subst (λ v. Closed g.P.Commands.shows cfg (g.K.Keeper.kept last) (g.V.Vault.trace v) kept now z.result.0) (sym c.into_vault.ensures.vault)
-    (closed g.P.Commands.shows g.V.Vault.trace g.V.Vault.faults g.K.Keeper cfg r.salt _ _ after last kept now z.result.0 (ap (λ (i : Identity). i.size - 78) r.identity) (ap (λ x. x.0) r.root)
+    subst (λ v. Closed ShowsFiles cfg (g.K.Keeper.kept last) (g.V.Vault.trace v) kept now z.result.0) (sym c.into_vault.ensures.vault)
+    (closed ShowsFiles g.V.Vault.trace g.V.Vault.faults g.K.Keeper cfg r.salt _ _ after last kept now z.result.0 (ap (λ (i : Identity). i.size - 78) r.identity) (ap (λ x. x.0) r.root)
     (z.ensures.identity ∙ r.identity) z.ensures.intact (z.ensures.stands kept now v s))
 
 pub returns-clause-configures : goal.returns-clause-configures
@@ -34,14 +36,14 @@ returns-clause-emptied g c v =
 
 pub returns-clause-goes_on : goal.returns-clause-goes_on
 returns-clause-goes_on g c =
-    subst (λ v. GoesOn (g.V.Vault.trace c.args.self.core.tx.store.sealed.vault.vault) (g.V.Vault.trace v)) (sym c.into_vault.ensures.vault) c.close-result.ensures.goes_on
+    subst (λ v. GoesOn (trace_in g.V.Vault.trace c.args.self.core.blobs.tx.store) (g.V.Vault.trace v)) (sym c.into_vault.ensures.vault) c.close-result.ensures.goes_on
 
 pub returns-clause-forgeries : goal.returns-clause-forgeries
 returns-clause-forgeries g c =
     let z = c.close-result in
     let r = c.requires.ready in
     ap (count_told (forged (opened_of c.args.self.opened.config.key) c.args.self.opened.config.block_size)) c.into_vault.ensures.trace
-    ∙ (sym (ap (λ (i : Identity). count_told (forged i.opens i.size) (g.V.Vault.trace z.result.1.sealed.vault.vault)) (z.ensures.identity ∙ r.identity)) ∙ z.ensures.forgeries)
+    ∙ (sym (ap (λ (i : Identity). count_told (forged i.opens i.size) (trace_in g.V.Vault.trace z.result.1)) (z.ensures.identity ∙ r.identity)) ∙ z.ensures.forgeries)
 
 pub returns-clause-lies : goal.returns-clause-lies
 returns-clause-lies g c = ap (count_told is_lie) c.into_vault.ensures.trace ∙ c.close-result.ensures.lies

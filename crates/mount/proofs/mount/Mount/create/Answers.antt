@@ -6,13 +6,14 @@ use Rattle.outside.specs.Trace.{At, adds, got, config}
 use Rattle.store_api.specs.Durables.{Identity, last_told}
 use Rattle.config_file.proofs.Waiting.{form_waits}
 use Rattle.config_file.specs.Settings.{settings_of}
+use Rattle.tree_commands.specs.Showing.{ShowsFiles}
 use Rattle.mount.specs.declared.draws.Draws.{Draws}
 use Rattle.mount.specs.Drawing.{drawn}
 use Rattle.mount.specs.Opening.{error_of}
 use Rattle.mount.specs.Making.{CreateCause, IsMade, IsUnchanged, new_settings, sealed_file}
 use Rattle.mount.specs.Representing.{HasEmptyList}
-use Rattle.mount.specs.Tower.{held_in}
-use Rattle.mount.proofs.Creating.{free_root, made_ok, made_err, make_cause}
+use Rattle.mount.specs.Tower.{sealed_held}
+use Rattle.mount.proofs.Creating.{free_root, made_ok, made_err, make_cause, opens_sealed}
 use Rattle.mount.proofs.Reading.{reads_told, reads_last}
 use Rattle.mount.proofs.mount.Mount.create.Goals as goal
 
@@ -30,7 +31,6 @@ make-result-requires-clause-may g c = form_waits c.in-Ok-seal_config.file.items 
 
 pub returns-in-Ok-result-clause-made : goal.returns-in-Ok-result-clause-made
 returns-in-Ok-result-clause-made g c unchanged none =
-    let shows = g.P.Commands.shows in
     let V = g.V.Vault in
     let n = c.new_store-store.ensures in
     let q = c.ask_absent.ensures in
@@ -42,7 +42,7 @@ returns-in-Ok-result-clause-made g c unchanged none =
     let still : IsUnchanged t = record { told = reads_told t0 t q.reads ∙ unchanged.told; none = λ name. reads_last name t0 t q.reads ∙ unchanged.none name } in
     let cfg = settings_of c.config_from-config.result in
     let size = ap (λ (i : Identity). i.size - 78) n.identity in
-    let made = made_ok shows V.trace V.faults g.K.Keeper cfg c.draw-draws.result.key_salt c.in-Ok-seal_config.file.items ((held_in c.new_store-store.result).size - 78) c.new_store-store.result after
+    let made = made_ok ShowsFiles V.trace V.faults g.K.Keeper cfg c.draw-draws.result.key_salt c.in-Ok-seal_config.file.items ((sealed_held c.new_store-store.result).size - 78) c.new_store-store.result after
     c.ask_absent.new.keeper last size (y.identity ∙ n.identity) y.intact c.make-result.result.0 _ c.in-Ok-result.is (y.stands (n.sound still) (ap (λ (i : Identity). i.marked) n.identity))
     (y.configures (ap is_some n.same ∙ still.told)) in
     let settings = c.config_from-config.ensures.settings ∙ ap (λ d. new_settings c.args.block_size d) c.draw-draws.ensures.draws in
@@ -52,15 +52,14 @@ returns-in-Ok-result-clause-made g c unchanged none =
     let file : c.in-Ok-seal_config.file.items ≡ text = c.in-Ok-seal_config.ensures.text
     ∙ (ap (λ s. sealed_file c.args.password.now c.args.params.now c.draw-draws.result.seal s) settings
     ∙ ap (λ (d : Draws). sealed_file c.args.password.now c.args.params.now d.seal cfg1) c.draw-draws.ensures.draws) in
-    subst (λ v. IsMade shows cfg1 text (g.K.Keeper.kept last) (V.trace v) × HasEmptyList (g.K.Keeper.kept last)) (sym c.into_vault.ensures.vault) (
-      subst (λ f. IsMade shows cfg1 f (g.K.Keeper.kept last) (V.trace after.sealed.vault.vault)) file
-          (subst (λ s. IsMade shows s c.in-Ok-seal_config.file.items (g.K.Keeper.kept last) (V.trace after.sealed.vault.vault)) settings made.0),
+    subst (λ v. IsMade ShowsFiles cfg1 text (g.K.Keeper.kept last) (V.trace v) × HasEmptyList (g.K.Keeper.kept last)) (sym c.into_vault.ensures.vault) (
+      subst (λ f. IsMade ShowsFiles cfg1 f (g.K.Keeper.kept last) (V.trace after.sealed.vault.vault)) file
+          (subst (λ s. IsMade ShowsFiles s c.in-Ok-seal_config.file.items (g.K.Keeper.kept last) (V.trace after.sealed.vault.vault)) settings made.0),
       made.1,
     )
 
 pub returns-in-Err-result-clause-made : goal.returns-in-Err-result-clause-made
 returns-in-Err-result-clause-made g c unchanged none =
-    let shows = g.P.Commands.shows in
     let V = g.V.Vault in
     let n = c.new_store-store.ensures in
     let q = c.ask_absent.ensures in
@@ -72,7 +71,7 @@ returns-in-Err-result-clause-made g c unchanged none =
     let still : IsUnchanged t = record { told = reads_told t0 t q.reads ∙ unchanged.told; none = λ name. reads_last name t0 t q.reads ∙ unchanged.none name } in
     let cfg = settings_of c.config_from-config.result in
     let size = ap (λ (i : Identity). i.size - 78) n.identity in
-    let made = made_err shows V.trace V.faults g.K.Keeper cfg c.draw-draws.result.key_salt c.in-Ok-seal_config.file.items ((held_in c.new_store-store.result).size - 78) c.new_store-store.result after
+    let made = made_err ShowsFiles V.trace V.faults g.K.Keeper cfg c.draw-draws.result.key_salt c.in-Ok-seal_config.file.items ((sealed_held c.new_store-store.result).size - 78) c.new_store-store.result after
     c.ask_absent.new.keeper last size (y.identity ∙ n.identity) y.intact c.make-result.result.0 c.in-Err-result.error c.in-Err-result.is (q.kept ∙ none) (λ name. ap (last_told name) n.same ∙ still.none name)
     (y.stands (n.sound still) (ap (λ (i : Identity). i.marked) n.identity)) (y.configures (ap is_some n.same ∙ still.told)) in
     let settings = c.config_from-config.ensures.settings ∙ ap (λ d. new_settings c.args.block_size d) c.draw-draws.ensures.draws in
@@ -82,11 +81,11 @@ returns-in-Err-result-clause-made g c unchanged none =
     let file : c.in-Ok-seal_config.file.items ≡ text = c.in-Ok-seal_config.ensures.text
     ∙ (ap (λ s. sealed_file c.args.password.now c.args.params.now c.draw-draws.result.seal s) settings
     ∙ ap (λ (d : Draws). sealed_file c.args.password.now c.args.params.now d.seal cfg1) c.draw-draws.ensures.draws) in
-    subst (λ v. ((g.K.Keeper.kept last ≡ g.K.Keeper.kept c.args.keeper) × ((name : At) → last_told name (V.trace v) ≡ None)) ⊎ IsMade shows cfg1 text (g.K.Keeper.kept last) (V.trace v)) (sym c.into_vault-in-Err-result.ensures.vault)
+    subst (λ v. ((g.K.Keeper.kept last ≡ g.K.Keeper.kept c.args.keeper) × ((name : At) → last_told name (V.trace v) ≡ None)) ⊎ IsMade ShowsFiles cfg1 text (g.K.Keeper.kept last) (V.trace v)) (sym c.into_vault-in-Err-result.ensures.vault)
     (elim made [
       | inl u ↦ inl (u.0 ∙ q.kept, u.1)
-      | inr m ↦ inr (subst (λ f. IsMade shows cfg1 f (g.K.Keeper.kept last) (V.trace after.sealed.vault.vault)) file
-          (subst (λ s. IsMade shows s c.in-Ok-seal_config.file.items (g.K.Keeper.kept last) (V.trace after.sealed.vault.vault)) settings m))
+      | inr m ↦ inr (subst (λ f. IsMade ShowsFiles cfg1 f (g.K.Keeper.kept last) (V.trace after.sealed.vault.vault)) file
+          (subst (λ s. IsMade ShowsFiles s c.in-Ok-seal_config.file.items (g.K.Keeper.kept last) (V.trace after.sealed.vault.vault)) settings m))
     ])
 
 pub returns-in_default-clause-made : goal.returns-in_default-clause-made
@@ -122,3 +121,13 @@ returns-in-Err-result-clause-asked g c =
     let after = V.trace c.make-result.result.1.sealed.vault.vault in
     let on = subst (λ t. GoesOn t after) (c.new_store-store.ensures.same ∙ c.in-Ok.ensures.ok.1) c.make-result.ensures.goes_on in
     inr (c.in-Ok.ensures.ok.0, subst (λ v. GoesOn (adds (V.trace c.args.vault) (got config 1127 None)) (V.trace v)) (sym c.into_vault-in-Err-result.ensures.vault) on)
+
+pub returns-in-Ok-result-clause-opens : goal.returns-in-Ok-result-clause-opens
+returns-in-Ok-result-clause-opens g c =
+    inl (opens_sealed c.args.password.now c.args.params.now c.args.block_size c.draw-draws.result _ _ c.in-Ok-seal_config.file.items
+    c.config_from-config.ensures.settings c.draw-draws.ensures.draws c.in-Ok-seal_config.ensures.text c.in-Ok-seal_config.ensures.opens)
+
+pub returns-in-Err-result-clause-opens : goal.returns-in-Err-result-clause-opens
+returns-in-Err-result-clause-opens g c =
+    inl (opens_sealed c.args.password.now c.args.params.now c.args.block_size c.draw-draws.result _ _ c.in-Ok-seal_config.file.items
+    c.config_from-config.ensures.settings c.draw-draws.ensures.draws c.in-Ok-seal_config.ensures.text c.in-Ok-seal_config.ensures.opens)

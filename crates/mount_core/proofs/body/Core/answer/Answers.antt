@@ -1,6 +1,7 @@
 use Rattle.std.proofs.Common.{◌≡◌, ◌≤◌, sym, ◌∙◌, ap, subst, false, arith, inl, inr}
 use Rattle.fs_model.specs.Tree.{Tree}
 use Rattle.store_api.specs.declared.tx.Tx.{Tx}
+use Rattle.tree_commands.specs.Showing.{ShowsFiles}
 use Rattle.mount_core.specs.declared.body.Core.{Core}
 use Rattle.answers.specs.Sessions.{is_violation}
 use Rattle.mount_core.specs.Causes.{SpentCause}
@@ -16,36 +17,36 @@ CoreOf g = Core g.row.S.Denot g.row.K.Denot
 
 pub returns-in-Err-clause-stands : goal.returns-in-Err-clause-stands
 returns-in-Err-clause-stands g c kept present v s few =
-    subst (λ a. Answered g.P.Commands.shows g.S.Blocks.meanings g.S.Blocks.holdings g.S.Durable.durables g.S.Durable.records g.K.Keeper c.args.now c.make_room.new.self kept present c.args.command.now a)
+    subst (λ a. Answered ShowsFiles g.S.Blocks.meanings g.S.Blocks.holdings g.S.Durable.durables g.S.Durable.records g.K.Keeper c.args.now c.make_room.new.self kept present c.args.command.now a)
     (sym c.sync_answer.ensures)
-    (answered_err g.P.Commands.shows g.S.Blocks.meanings g.S.Blocks.holdings g.S.Durable.durables g.S.Durable.records g.K.Keeper c.args.now c.make_room.new.self kept present c.args.command.now c.in-Err.error
+    (answered_err ShowsFiles g.S.Blocks.meanings g.S.Blocks.holdings g.S.Durable.durables g.S.Durable.records g.K.Keeper c.args.now c.make_room.new.self kept present c.args.command.now c.in-Err.error
     (c.make_room.ensures.stands kept present s))
 
 pub returns-in-Ok-sync-clause-stands : goal.returns-in-Ok-sync-clause-stands
 returns-in-Ok-sync-clause-stands g c kept present v s few =
-    answered_synced g.P.Commands.shows g.S.Blocks.meanings g.S.Blocks.holdings g.S.Durable.durables g.S.Durable.records g.K.Keeper c.args.now c.make_room.new.self c.sync.new.self kept present c.args.command.now
+    answered_synced ShowsFiles g.S.Blocks.meanings g.S.Blocks.holdings g.S.Durable.durables g.S.Durable.records g.K.Keeper c.args.now c.make_room.new.self c.sync.new.self kept present c.args.command.now
     (sym c.is_sync.ensures ∙ c.if-is_sync.true) (c.make_room.ensures.stands kept present s) (λ k n t. c.in-Ok-sync.ensures.stands k n t)
 
 pub returns-in-Err-sync-clause-stands : goal.returns-in-Err-sync-clause-stands
 returns-in-Err-sync-clause-stands g c kept present v s few =
-    subst (λ a. Answered g.P.Commands.shows g.S.Blocks.meanings g.S.Blocks.holdings g.S.Durable.durables g.S.Durable.records g.K.Keeper c.args.now c.sync.new.self kept present c.args.command.now a)
+    subst (λ a. Answered ShowsFiles g.S.Blocks.meanings g.S.Blocks.holdings g.S.Durable.durables g.S.Durable.records g.K.Keeper c.args.now c.sync.new.self kept present c.args.command.now a)
     (sym c.sync_answer-in-Err-sync.ensures)
-    (answered_err g.P.Commands.shows g.S.Blocks.meanings g.S.Blocks.holdings g.S.Durable.durables g.S.Durable.records g.K.Keeper c.args.now c.sync.new.self kept present c.args.command.now c.in-Err-sync.error
-    (roomed_on g.P.Commands.shows g.S.Blocks.meanings g.S.Blocks.holdings g.S.Durable.durables g.S.Durable.records g.K.Keeper c.make_room.new.self c.sync.new.self kept present
+    (answered_err ShowsFiles g.S.Blocks.meanings g.S.Blocks.holdings g.S.Durable.durables g.S.Durable.records g.K.Keeper c.args.now c.sync.new.self kept present c.args.command.now c.in-Err-sync.error
+    (roomed_on ShowsFiles g.S.Blocks.meanings g.S.Blocks.holdings g.S.Durable.durables g.S.Durable.records g.K.Keeper c.make_room.new.self c.sync.new.self kept present
     (c.make_room.ensures.stands kept present s) (λ k n t. c.in-Err-sync.ensures.stands k n t)))
 
 pub returns-in-Violation-clause-stands : goal.returns-in-Violation-clause-stands
 returns-in-Violation-clause-stands g c kept present v s few =
-    let unforged : g.S.Blocks.meanings.forgeries c.ask-answer.new.self.tx.store ≤ g.S.Blocks.meanings.forgeries c.make_room.new.self.tx.store =
+    let unforged : g.S.Blocks.meanings.forgeries c.ask-answer.new.self.blobs.tx.store ≤ g.S.Blocks.meanings.forgeries c.make_room.new.self.blobs.tx.store =
     omega (arith, ap (λ (t : Tx g.row.S.Denot). g.S.Blocks.meanings.forgeries t.store) c.mark.ensures.store, c.make_room.ensures.forgeries, few) in
-    subst (λ a. Answered g.P.Commands.shows g.S.Blocks.meanings g.S.Blocks.holdings g.S.Durable.durables g.S.Durable.records g.K.Keeper c.args.now c.mark.new.self kept present c.args.command.now a) (sym c.in-Violation.is)
-    (answered_violation g.P.Commands.shows g.S.Blocks.meanings g.S.Blocks.holdings g.S.Durable.durables g.S.Durable.records g.K.Keeper c.args.now c.make_room.new.self c.ask-answer.new.self c.mark.new.self kept present
+    subst (λ a. Answered ShowsFiles g.S.Blocks.meanings g.S.Blocks.holdings g.S.Durable.durables g.S.Durable.records g.K.Keeper c.args.now c.mark.new.self kept present c.args.command.now a) (sym c.in-Violation.is)
+    (answered_violation ShowsFiles g.S.Blocks.meanings g.S.Blocks.holdings g.S.Durable.durables g.S.Durable.records g.K.Keeper c.args.now c.make_room.new.self c.ask-answer.new.self c.mark.new.self kept present
     c.args.command.now c.in-Violation.field-0 c.mark.ensures.store c.mark.ensures.root
     (marked_or g.S.Durable.records c.ask-answer.new.self.saver _ c.ask-answer.ensures.ready.can_mark c.mark.ensures.kept) (c.make_room.ensures.stands kept present s) (λ k n t. c.in-Violation.ensures.stands k n t unforged))
 
 calm_room : (g : Over) (c : goal.After-mark g) (kept present : Tree)
-    → Roomed g.P.Commands.shows g.S.Blocks.meanings g.S.Blocks.holdings g.S.Durable.durables g.S.Durable.records g.K.Keeper c.make_room.new.self kept present
-    → g.S.Blocks.meanings.lies c.ask-answer.new.self.tx.store ≤ g.S.Blocks.meanings.lies c.make_room.new.self.tx.store → is_violation c.ask-answer.result ≡ false
+    → Roomed ShowsFiles g.S.Blocks.meanings g.S.Blocks.holdings g.S.Durable.durables g.S.Durable.records g.K.Keeper c.make_room.new.self kept present
+    → g.S.Blocks.meanings.lies c.ask-answer.new.self.blobs.tx.store ≤ g.S.Blocks.meanings.lies c.make_room.new.self.blobs.tx.store → is_violation c.ask-answer.result ≡ false
 calm_room g c kept present (inl m) h = c.ask-answer.ensures.alarm kept present m h
 calm_room g c kept present (inr m) h = c.ask-answer.ensures.alarm present present m h
 
@@ -56,14 +57,14 @@ returns-in-Violation-clause-alarm g c kept present v s honest =
 
 pub returns-in-Violation-clause-built : goal.returns-in-Violation-clause-built
 returns-in-Violation-clause-built g c kept present v s few =
-    let unforged : g.S.Blocks.meanings.forgeries c.ask-answer.new.self.tx.store ≤ g.S.Blocks.meanings.forgeries c.make_room.new.self.tx.store =
+    let unforged : g.S.Blocks.meanings.forgeries c.ask-answer.new.self.blobs.tx.store ≤ g.S.Blocks.meanings.forgeries c.make_room.new.self.blobs.tx.store =
     omega (arith, ap (λ (t : Tx g.row.S.Denot). g.S.Blocks.meanings.forgeries t.store) c.mark.ensures.store, c.make_room.ensures.forgeries, few) in
     elim (c.make_room.ensures.stands kept present s) [ inl m ↦ c.ask-answer.ensures.built kept present m unforged | inr m ↦ c.ask-answer.ensures.built present present m unforged ]
 
 pub returns-in_default-clause-stands : goal.returns-in_default-clause-stands
 returns-in_default-clause-stands g c kept present v s few =
-    let unforged : g.S.Blocks.meanings.forgeries c.ask-answer.new.self.tx.store ≤ g.S.Blocks.meanings.forgeries c.make_room.new.self.tx.store = omega (arith, c.make_room.ensures.forgeries, few) in
-    answered_performed g.P.Commands.shows g.S.Blocks.meanings g.S.Blocks.holdings g.S.Durable.durables g.S.Durable.records g.K.Keeper c.args.now c.make_room.new.self c.ask-answer.new.self kept present c.args.command.now
+    let unforged : g.S.Blocks.meanings.forgeries c.ask-answer.new.self.blobs.tx.store ≤ g.S.Blocks.meanings.forgeries c.make_room.new.self.blobs.tx.store = omega (arith, c.make_room.ensures.forgeries, few) in
+    answered_performed ShowsFiles g.S.Blocks.meanings g.S.Blocks.holdings g.S.Durable.durables g.S.Durable.records g.K.Keeper c.args.now c.make_room.new.self c.ask-answer.new.self kept present c.args.command.now
     c.ask-answer.result (no_violation c.ask-answer.result c.in_default.not-Violation) (sym c.is_sync.ensures ∙ c.if-is_sync.false) (c.make_room.ensures.stands kept present s)
     (λ k n t. c.ask-answer.ensures.stands k n t unforged)
 
@@ -72,36 +73,36 @@ returns-in_default-clause-alarm g c kept present v s honest = no_violation c.ask
 
 pub returns-in_default-clause-built : goal.returns-in_default-clause-built
 returns-in_default-clause-built g c kept present v s few =
-    let unforged : g.S.Blocks.meanings.forgeries c.ask-answer.new.self.tx.store ≤ g.S.Blocks.meanings.forgeries c.make_room.new.self.tx.store = omega (arith, c.make_room.ensures.forgeries, few) in
+    let unforged : g.S.Blocks.meanings.forgeries c.ask-answer.new.self.blobs.tx.store ≤ g.S.Blocks.meanings.forgeries c.make_room.new.self.blobs.tx.store = omega (arith, c.make_room.ensures.forgeries, few) in
     elim (c.make_room.ensures.stands kept present s) [ inl m ↦ c.ask-answer.ensures.built kept present m unforged | inr m ↦ c.ask-answer.ensures.built present present m unforged ]
 
 pub returns-in-Ok-sync-clause-goes_on : goal.returns-in-Ok-sync-clause-goes_on
-returns-in-Ok-sync-clause-goes_on g c = goes_on_onward _ (g.S.Durable.durables.trace c.make_room.new.self.tx.store) _ c.make_room.ensures.goes_on c.sync.ensures.goes_on
+returns-in-Ok-sync-clause-goes_on g c = goes_on_onward _ (g.S.Durable.durables.trace c.make_room.new.self.blobs.tx.store) _ c.make_room.ensures.goes_on c.sync.ensures.goes_on
 
 pub returns-in-Err-sync-clause-goes_on : goal.returns-in-Err-sync-clause-goes_on
-returns-in-Err-sync-clause-goes_on g c = goes_on_onward _ (g.S.Durable.durables.trace c.make_room.new.self.tx.store) _ c.make_room.ensures.goes_on c.sync.ensures.goes_on
+returns-in-Err-sync-clause-goes_on g c = goes_on_onward _ (g.S.Durable.durables.trace c.make_room.new.self.blobs.tx.store) _ c.make_room.ensures.goes_on c.sync.ensures.goes_on
 
 pub returns-in-Violation-clause-goes_on : goal.returns-in-Violation-clause-goes_on
 returns-in-Violation-clause-goes_on g c =
-    subst (λ (t : Tx g.row.S.Denot). GoesOn (g.S.Durable.durables.trace c.args.self.now.tx.store) (g.S.Durable.durables.trace t.store)) (sym c.mark.ensures.store)
-    (goes_on_onward _ (g.S.Durable.durables.trace c.make_room.new.self.tx.store) _ c.make_room.ensures.goes_on c.ask-answer.ensures.goes_on)
+    subst (λ (t : Tx g.row.S.Denot). GoesOn (g.S.Durable.durables.trace c.args.self.now.blobs.tx.store) (g.S.Durable.durables.trace t.store)) (sym c.mark.ensures.store)
+    (goes_on_onward _ (g.S.Durable.durables.trace c.make_room.new.self.blobs.tx.store) _ c.make_room.ensures.goes_on c.ask-answer.ensures.goes_on)
 
 pub returns-in_default-clause-goes_on : goal.returns-in_default-clause-goes_on
-returns-in_default-clause-goes_on g c = goes_on_onward _ (g.S.Durable.durables.trace c.make_room.new.self.tx.store) _ c.make_room.ensures.goes_on c.ask-answer.ensures.goes_on
+returns-in_default-clause-goes_on g c = goes_on_onward _ (g.S.Durable.durables.trace c.make_room.new.self.blobs.tx.store) _ c.make_room.ensures.goes_on c.ask-answer.ensures.goes_on
 
 pub returns-in-Violation-clause-configures : goal.returns-in-Violation-clause-configures
 returns-in-Violation-clause-configures g c may present s =
     subst (λ a. ConfigAnswered g.S.Blocks.holdings g.S.Durable.durables g.S.Durable.records g.K.Keeper c.mark.new.self may present (is_violation a)) (sym c.in-Violation.is)
-    (config_marked g.P.Commands.shows g.S.Blocks.meanings g.S.Blocks.holdings g.S.Durable.durables g.S.Durable.records g.K.Keeper g.met.S.Durable.enduring.marked_configures c.ask-answer.new.self c.mark.new.self may present
+    (config_marked ShowsFiles g.S.Blocks.meanings g.S.Blocks.holdings g.S.Durable.durables g.S.Durable.records g.K.Keeper g.met.S.Durable.enduring.marked_configures c.ask-answer.new.self c.mark.new.self may present
     c.mark.ensures.store c.mark.ensures.kept (c.ask-answer.ensures.configures may present (c.make_room.ensures.configures may present s)))
 
 pub returns-in_default-clause-configures : goal.returns-in_default-clause-configures
 returns-in_default-clause-configures g c may present s =
-    config_calm g.P.Commands.shows g.S.Blocks.meanings g.S.Blocks.holdings g.S.Durable.durables g.S.Durable.records g.K.Keeper c.ask-answer.new.self may present _ (no_violation c.ask-answer.result c.in_default.not-Violation)
+    config_calm ShowsFiles g.S.Blocks.meanings g.S.Blocks.holdings g.S.Durable.durables g.S.Durable.records g.K.Keeper c.ask-answer.new.self may present _ (no_violation c.ask-answer.result c.in_default.not-Violation)
     (c.ask-answer.ensures.configures may present (c.make_room.ensures.configures may present s))
 
 pub returns-in_default-clause-spent : goal.returns-in_default-clause-spent
 returns-in_default-clause-spent g c =
     let stays = c.make_room.ensures.stays in
-    spent_on c.ask-answer.result (SpentCause g.S.Blocks.holdings c.make_room.new.self.tx.store c.args.command.now) (SpentCause g.S.Blocks.holdings c.args.self.now.tx.store c.args.command.now)
+    spent_on c.ask-answer.result (SpentCause g.S.Blocks.holdings c.make_room.new.self.blobs.tx.store c.args.command.now) (SpentCause g.S.Blocks.holdings c.args.self.now.blobs.tx.store c.args.command.now)
     (λ p. record { changes = p.changes; id = p.id; live = sym (stays.ids p.id) ∙ p.live; spent = sym (stays.spent p.id) ∙ p.spent }) c.ask-answer.ensures.spent

@@ -1,4 +1,5 @@
 use Rattle.std.proofs.Common.{◌≡◌, true, false, sym, ◌∙◌, ap}
+use Rattle.tree_commands.specs.Showing.{ShowsFiles}
 use Rattle.mount_core.proofs.Lines.{closed_along, config_closed_along}
 use Rattle.mount_core.proofs.body.Core.close.Goals as goal
 use Rattle.mount_core.proofs.body.Core.close.Goals.{then-core, else-core}
@@ -9,8 +10,8 @@ returns-clause-stands g c kept now v s =
       | then-core w ↦ absurd (let t : true ≡ false = sym w.if-core.true ∙ v in cc)
       | else-core w ↦
           let z = w.sync-result in
-          closed_along g.P.Commands.shows g.S.Blocks.meanings g.S.Blocks.holdings g.S.Durable.durables g.S.Durable.records g.K.Keeper z.new.self c.if-core.core c.into_store.result
-          (g.S.Blocks.holdings.payload c.args.self.tx.store) c.args.self.root.0 kept now z.result c.if-core.result w.core-is w.result-is c.into_store.ensures
+          closed_along ShowsFiles g.S.Blocks.meanings g.S.Blocks.holdings g.S.Durable.durables g.S.Durable.records g.K.Keeper z.new.self c.if-core.core c.into_store.result
+          (g.S.Blocks.holdings.payload c.args.self.blobs.tx.store) c.args.self.root.0 kept now z.result c.if-core.result w.core-is w.result-is c.into_store.ensures
           (sym z.ensures.payload) (ap (λ x. x.0) (sym z.ensures.root)) (z.ensures.stands kept now s) z.ensures.emptied
     ]
 
@@ -20,5 +21,5 @@ returns-clause-configures g c may now v s =
       | then-core w ↦ absurd (let t : true ≡ false = sym w.if-core.true ∙ v in cc)
       | else-core w ↦
           let z = w.sync-result in
-          config_closed_along g.P.Commands.shows g.S.Blocks.meanings g.S.Blocks.holdings g.S.Durable.durables g.S.Durable.records g.K.Keeper z.new.self c.if-core.core c.into_store.result may now z.result c.if-core.result w.core-is w.result-is c.into_store.ensures (z.ensures.configures may now s)
+          config_closed_along ShowsFiles g.S.Blocks.meanings g.S.Blocks.holdings g.S.Durable.durables g.S.Durable.records g.K.Keeper z.new.self c.if-core.core c.into_store.result may now z.result c.if-core.result w.core-is w.result-is c.into_store.ensures (z.ensures.configures may now s)
     ]

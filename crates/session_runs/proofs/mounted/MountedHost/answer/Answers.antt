@@ -1,6 +1,7 @@
 use Rattle.std.proofs.Common.{subst}
 use Rattle.answers.specs.Sessions.{is_violation}
 use Rattle.integrity_store.specs.Standing.{records}
+use Rattle.tree_commands.specs.Showing.{ShowsFiles}
 use Rattle.mount_core.specs.Standing.{Left}
 use Rattle.mount.specs.Tower.{tower_meanings, tower_holdings, tower_durables}
 use Rattle.session_runs.proofs.Synced.{same_synced}
@@ -21,7 +22,7 @@ returns-clause-answered g c =
           record {
             next = a.next;
             follows = a.follows;
-            left = subst (λ b. Left g.P.Commands.shows (tower_meanings trace g.V.Vault.faults) (tower_holdings trace) (tower_durables trace) records g.K.Keeper c.answer.new.self.core kept present a.next (is_violation c.answer.result) b)
+            left = subst (λ b. Left ShowsFiles (tower_meanings trace g.V.Vault.faults) (tower_holdings trace) (tower_durables trace) records g.K.Keeper c.answer.new.self.core kept present a.next (is_violation c.answer.result) b)
                 (same_synced c.args.command.now c.answer.result) a.left;
           };
       stays = e.stays;

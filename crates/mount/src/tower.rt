@@ -1,0 +1,64 @@
+// What a session runs over: a store of sealed blocks, behind a cache.
+ghost use Rattle.std.specs.Prelude.{◌≡◌, ◌-◌, Bool, true, IfOk, IfErr};
+ghost use Rattle.std.specs.FinMap as fin;
+ghost use Rattle.outside.specs.Trace.{config};
+ghost use Rattle.outside.specs.Changes.{change_at};
+ghost use Rattle.local_state.specs.Record.{plain_state, record_bytes, HasRecord};
+ghost use Rattle.store_api.specs.Content.{Content, SameContent};
+ghost use Rattle.store_api.specs.Holdings.{IsFew};
+ghost use Rattle.sealed_store.specs.Stores.{IsIntact, block_size_of};
+ghost use Rattle.integrity_store.specs.Standing.{identity_of, listed, records};
+ghost use Rattle.integrity_store.specs.Views.{held_of};
+ghost use Rattle.integrity_store.specs.WaitingLists.{IsNoBlock};
+ghost use Rattle.aes_gcm.specs.Gcm.{opened_of};
+ghost use Rattle.mount.specs.Tower.{vault_in, trace_in, tower_meanings, tower_holdings, tower_durables};
+
+use block_cache::BlockCache;
+use config_file::Cipher;
+use integrity_store::IntegrityStore;
+use local_state::State;
+use outside::Vault;
+use sealed_store::SealedStore;
+use std::alloc::Global;
+
+/// A store of sealed blocks, behind a cache.
+pub type Cached<V> = BlockCache<IntegrityStore<V, Cipher>>;
+
+/// How many blocks the cache of a session holds. Blocks of 1 MiB may so take 128 MiB of memory, those of 16 KiB 2 MiB.
+const CACHED_BLOCKS: usize = 128;
+
+/// A store over these files, of which a client knows this state, behind an empty cache. Where there is no memory for the cache, the
+/// directory comes back.
+pub(crate) fn cached_store<V: Vault>(
+    alloc: Global,
+    sealed: SealedStore<V, Cipher>,
+    state: State,
+) -> Result<Cached<V>, V>
+    requires sealed { IsIntact (block_size_of sealed) 16 }
+    requires state { HasRecord (plain_state state) sealed.vault.list }
+    requires config { IsNoBlock (change_at config sealed.vault.list) }
+    ensures intact { IfOk result (λ store. (tower_meanings V.trace V.faults).intact store) }
+    ensures few { IfOk result (λ store. IsFew ((tower_holdings V.trace).used store)) }
+    ensures identity { IfOk result (λ store. (tower_durables V.trace).identity store ≡ identity_of (held_of (λ cipher key text. opened_of key text) sealed state)) }
+    ensures list { IfOk result (λ store. (tower_durables V.trace).list store ≡ sealed.vault.list) }
+    ensures trace { IfOk result (λ store. trace_in V.trace store ≡ V.trace sealed.vault.vault) }
+    ensures records { IfOk result (λ store. (with_list : Bool) → (tower_durables V.trace).record_of store with_list ≡ record_bytes (plain_state state) (listed with_list sealed.vault.list)) }
+    ensures faults { IfOk result (λ store. (tower_meanings V.trace V.faults).faults store ≡ V.faults sealed.vault.vault) }
+    ensures opened { IfOk result (λ store. (content : Content) → records.stands ((tower_durables V.trace).identity store) ((tower_durables V.trace).record_of store true) (trace_in V.trace store) content
+        → (tower_meanings V.trace V.faults).sound store × SameContent content ((tower_holdings V.trace).content store)) }
+    ensures err_trace { IfErr result (λ vault. V.trace vault ≡ V.trace sealed.vault.vault) }
+    ensures err_faults { IfErr result (λ vault. V.faults vault ≡ V.faults sealed.vault.vault) }
+{
+    match BlockCache::new(alloc, IntegrityStore::new(sealed, state), CACHED_BLOCKS) {
+        Ok(store) => Ok(store),
+        Err((_, store)) => Err(store.into_vault()),
+    }
+}
+
+/// The directory, without the cache and what isn't written yet.
+pub(crate) fn into_vault<V: Vault>(store: Cached<V>) -> V
+    ensures vault { result ≡ vault_in store }
+    ensures trace { V.trace result ≡ trace_in V.trace store }
+{
+    store.into_store().into_vault()
+}

@@ -1,0 +1,37 @@
+use Rattle.std.proofs.Common.{true, false, refl, sym, ◌∙◌, subst}
+use Rattle.tree_commands.specs.Showing.{ShowsFiles}
+use Rattle.tree_commands.proofs.Shows.{files_same}
+use Rattle.mount_core.specs.declared.body.Core.{Core}
+use Rattle.mount_core.proofs.Lines.{stays_same}
+use Rattle.mount_opening.proofs.Beginning.{Written, written_at, begun}
+use Rattle.mount_opening.proofs.starting.start.Given.{Over}
+use Rattle.mount_opening.proofs.starting.start.Goals as goal
+use Rattle.mount_opening.proofs.starting.start.Goals.{then-waits+in-Ok-write_waiting, else-waits}
+
+abbrev CoreOf : Over → Type 0
+CoreOf g = Core g.row.S.Denot g.row.K.Denot
+
+pub returns-clause-stands : goal.returns-clause-stands
+returns-clause-stands g c first sound unmarked shown =
+    let M = g.S.Blocks.meanings in
+    let H = g.S.Blocks.holdings in
+    let D = g.S.Durable.durables in
+    let R = g.S.Durable.records in
+    let old = c.args.store in
+    let w : Written M H D R g.K.Keeper old c.if-waits.store c.if-waits.saver = elim c.if-waits.branch [
+      | then-waits+in-Ok-write_waiting w ↦
+          let z = w.write_waiting.ensures in
+          written_at M H D R g.K.Keeper old _ _ _ _ w.store-is w.saver-is
+          (record { stays = z.stays; sound = z.sound sound; identity = z.identity; represents = z.stands (H.content old) sound unmarked (λ id. refl) })
+      | else-waits w ↦
+          written_at M H D R g.K.Keeper old _ _ _ _ w.store-is w.saver-is
+          (record {
+            stays = stays_same H old old refl;
+            sound = sound;
+            identity = refl;
+            represents = (D.record_of old true, c.prepare.ensures.kept ∙ c.requires.kept, g.met.S.Durable.enduring.stands_now old c.requires.intact sound unmarked);
+          })
+    ] in
+    let core : CoreOf g = record { blobs = record { tx = c.new.result }; saver = c.if-waits.saver; root = c.args.root; violated = false } in
+    begun M H D R g.K.Keeper ShowsFiles files_same old core first (g.met.S.Blocks.steady.sound_told old sound) unmarked shown
+    (subst (λ x. Written M H D R g.K.Keeper old x c.if-waits.saver) (sym c.new.ensures.store) w)
