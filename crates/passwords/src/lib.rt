@@ -1,0 +1,8 @@
+//! The password lines of an input: one, or an old and a new one.
+#![tactic(auto)]
+
+mod one;
+mod two;
+
+pub use one::read_password;
+pub use two::{PasswordChange, read_two_passwords};

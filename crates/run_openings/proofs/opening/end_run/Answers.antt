@@ -1,0 +1,23 @@
+use Rattle.std.proofs.Common.{ap, ◌∙◌}
+use Rattle.run_status.specs.Statuses.{first_of}
+use Rattle.run_openings.proofs.opening.end_run.Goals as goal
+
+pub returns : goal.returns
+returns g c =
+    let z = c.close-closing.ensures in (
+      c.close-closing.result.0,
+      c.or.ensures ∙ ap (first_of c.args.status) c.closing_status.ensures,
+      record {
+        stands = z.stands;
+        configures = z.configures;
+        left = z.left;
+        emptied = z.emptied;
+        goes_on = z.goes_on;
+        forgeries = z.forgeries;
+        lies = z.lies;
+        vault_grows = z.vault_grows;
+        vault_cause = z.vault_cause;
+        keeper_grows = z.keeper_grows;
+        keeper_cause = z.keeper_cause;
+      },
+    )

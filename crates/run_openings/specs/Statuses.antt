@@ -1,0 +1,33 @@
+-- Errors as statuses.
+use Rattle.std.specs.Prelude.{Result}
+use Rattle.std.specs.declared.result.Result.TheVariants.{Ok, Err}
+use Rattle.config_file.specs.declared.error.ConfigError.TheVariants as config_error
+use Rattle.mount.specs.declared.error.OpenError.{OpenError}
+use Rattle.mount.specs.declared.error.OpenError.TheVariants as open_error
+use Rattle.session_saver.specs.declared.saver.SyncError.{SyncError}
+use Rattle.session_saver.specs.declared.saver.SyncError.TheVariants as sync_error
+use Rattle.run_status.specs.declared.status.Status.{Status}
+use Rattle.run_status.specs.declared.status.Status.TheVariants as status
+
+-- of a file system that wasn't opened or made: a record that is marked, or is of another file system, is a violation
+abbrev pub opening_status : OpenError → Status
+opening_status open_error.Memory = status.Memory
+opening_status open_error.NoState = status.NoState
+opening_status open_error.BadState = status.BadState
+opening_status open_error.Exists = status.Exists
+opening_status open_error.Marked = status.Violation
+opening_status (open_error.Mismatch kept found) = status.Violation
+opening_status open_error.NoConfig = status.NoConfig
+opening_status (open_error.Config config_error.Memory) = status.Memory
+opening_status (open_error.Config config_error.Form) = status.ConfigForm
+opening_status (open_error.Config config_error.Locked) = status.ConfigLocked
+opening_status (open_error.Config config_error.Inner) = status.ConfigInner
+opening_status open_error.FaultDirectory = status.DirectoryFault
+opening_status open_error.FaultState = status.StateFault
+
+-- of one that was synced or closed so
+abbrev pub closing_status : Result Unit SyncError → Status
+closing_status (Ok _) = status.Done
+closing_status (Err sync_error.Memory) = status.Memory
+closing_status (Err sync_error.FaultDirectory) = status.DirectoryFault
+closing_status (Err sync_error.FaultState) = status.StateFault
