@@ -1,2 +1,6 @@
-pub mod Calls
-pub mod Known
+mod Beginning
+mod Closing
+mod Telling
+mod Changing
+mod Short
+mod Creating

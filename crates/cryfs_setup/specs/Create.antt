@@ -1,75 +1,60 @@
 -- What `create` does.
-use Rattle.std.specs.Prelude.{◌≡◌, ◌⊎◌, ℕ, true, List, ◌++◌, codes, if◌then◌else◌}
-use Rattle.std.specs.Str.{bytes_eq}
-use Rattle.rand_core.specs.Stream.{Stream as Chance}
-use Rattle.block_id.specs.Fresh.{zero_id}
-use Rattle.block_id.specs.Name.{name_of, next_id}
+use Rattle.std.specs.Prelude.{◌≡◌, ◌⊎◌, ℕ, true, List, ◌++◌, codes, Result, Ok, Err, is_some, IsErr, IfOk, IfErr, OnOk}
+use Rattle.std.specs.declared.option.Option.{Option}
+use Rattle.std.specs.declared.option.Option.TheVariants.{None}
+use Rattle.block_id.specs.declared.id.BlockId.{BlockId}
+use Rattle.block_id.specs.Name.{name_of}
 use Rattle.script_text.specs.Texts.{line}
 use Rattle.scrypt_kdf.specs.Cost.{Cost}
-use Rattle.config_file.specs.declared.config.Cipher.TheVariants.{Aes256Gcm}
-use Rattle.config_file.specs.Settings.{Settings}
-use Rattle.config_file.specs.Sealing.{config_text}
+use Rattle.config_file.specs.ConfigOf.{IsOnly, opened}
 use Rattle.line_io.specs.Streams.{Stream, Untouched}
-use Rattle.cryfs_setup.specs.declared.draws.Draws.{Draws}
-use Rattle.cryfs_setup.specs.declared.status.Status.{Status}
-use Rattle.cryfs_setup.specs.declared.status.Status.TheVariants.{Done, LongPassword, Exists, DirectoryFault, InputFault, OutputFault, Memory}
-use Rattle.cryfs_setup.specs.Drawing.{drawn}
+use Rattle.mount.specs.declared.draws.Draws.{Draws}
+use Rattle.mount.specs.declared.error.OpenError.{OpenError}
+use Rattle.mount.specs.declared.error.OpenError.TheVariants as open_error
+use Rattle.mount.specs.Making.{CreateCause, Created as Made, IsUnchanged, StaysThere, new_settings, sealed_file}
+use Rattle.outside.specs.Going.{GoesOn}
+use Rattle.outside.specs.Trace.{Call, adds, got, config}
+use Rattle.outside.specs.declared.keeper.Keeper.{Ghosts as KeeperGhosts}
+use Rattle.passwords.specs.Passwords.{PasswordUnread}
+use Rattle.run_openings.specs.Openings.{HasPassword, IsUnread}
+use Rattle.run_openings.specs.Statuses.{opening_status}
+use Rattle.run_status.specs.declared.ended.Ended.{Ended}
+use Rattle.run_status.specs.declared.status.Status.{Status}
+use Rattle.session_lines.specs.Driven.{IsQuiet as IsUnfailed}
+use Rattle.tree_commands.specs.Showing.{ShowsFiles}
 use Rattle.cryfs_setup.specs.Printing.{Printed}
-use Rattle.cryfs_setup.specs.Passwords.{password_of, PasswordRead}
-use Rattle.cryfs_setup.specs.Directories.{Directory, Uncalled, CallFailed, WasThere, Unmade, made}
-
--- the id of the root's blob: the drawn one, or the next where that is zero
-abbrev pub root_of : List ℕ → List ℕ
-root_of id = if bytes_eq id zero_id then next_id id else id
-
--- what the new file system is made of
-abbrev pub new_settings : ℕ → Draws → Settings
-new_settings block_size draws =
-    record { root = root_of draws.root; key = draws.key; cipher = Aes256Gcm; block_size = block_size; fs_id = draws.fs_id }
-
--- its configuration's file under the password
-abbrev pub new_file : List ℕ → Cost → ℕ → Draws → List ℕ
-new_file password cost block_size draws = config_text (record {
-  password = password;
-  cost = cost;
-  salt = draws.scrypt_salt;
-  fill = draws.fill;
-  inner_iv = draws.inner_iv;
-  outer_iv = draws.outer_iv;
-}) (new_settings block_size draws)
 
 -- what is printed
 abbrev pub created_text : List ℕ → List ℕ
 created_text fs_id = line (codes "created " ++ name_of fs_id)
 
--- which calls were made on the directory where this file wasn't put with the answer ok, by the status
-abbrev pub Fails : Directory → List ℕ → Status → Type 0
-Fails d file Exists = WasThere d
-Fails d file DirectoryFault = Unmade d file × CallFailed d
-Fails d file Memory = Unmade d file
-Fails d file status = ⊥
+-- the id of a file system that was made was printed; the error of one that wasn't is the status
+abbrev pub Reports : Result BlockId OpenError → Stream → Status → Type 0
+Reports (Ok id) output status = Printed output (created_text id.0) status
+Reports (Err error) output status = (status ≡ opening_status error) × Untouched output
 
--- which calls were made on the directory, and what was written, by the status; the file and the text that tells of it are given
-abbrev pub Makes : Directory → Stream → List ℕ → List ℕ → Status → Type 0
-Makes d output file text Done = (d.new ≡ made d.old file true) × Printed output text Done
-Makes d output file text OutputFault = (d.new ≡ made d.old file true) × Printed output text OutputFault
-Makes d output file text LongPassword = Uncalled d × Untouched output
-Makes d output file text InputFault = Uncalled d × Untouched output
-Makes d output file text status = Fails d file status × Untouched output
+-- A file system of this cost and block size was made under the password, of what was drawn, or it wasn't by an error.
+pub record IsCreated {V : Type 0} {K : Type 0} (trace : V → Option (List Call)) (faults : V → ℕ) (G : KeeperGhosts K) (cost : Cost) (block_size : ℕ) (draws : Draws) (password : List ℕ) (output : Stream) (vault : V) (keeper : K) (ended : Ended V K) : Type 0 where
+  pub made : Result BlockId OpenError
+  pub reports : Reports made output ended.status
+  pub id : IfOk made (λ id. id.0 ≡ draws.fs_id)
+  -- where nothing was there, the empty tree is kept, or after an error perhaps nothing
+  pub stands : IsUnchanged (trace vault) → G.kept keeper ≡ None
+      → Made ShowsFiles (new_settings block_size draws) (sealed_file password cost draws.seal (new_settings block_size draws)) (G.kept keeper) (G.kept ended.keeper) (trace ended.vault) made
+  -- the configuration's text opens under the password and nothing else, where it was put
+  pub opens : IsOnly password (sealed_file password cost draws.seal (new_settings block_size draws)) (opened (new_settings block_size draws) cost)
+      ⊎ ((G.kept ended.keeper ≡ G.kept keeper) × IsErr made)
+  -- where something is kept, neither is written
+  pub there : is_some (G.kept keeper) ≡ true → StaysThere G.kept vault keeper ended.vault ended.keeper made
+  -- nothing is kept anew unless nothing was kept and the directory gave no configuration
+  pub absent : OnOk made ((G.kept keeper ≡ None) × GoesOn (adds (trace vault) (got config 1127 None)) (trace ended.vault))
+  pub asked : (G.kept ended.keeper ≡ G.kept keeper) ⊎ ((G.kept keeper ≡ None) × GoesOn (adds (trace vault) (got config 1127 None)) (trace ended.vault))
+  pub exists : made ≡ Err open_error.Exists → G.kept ended.keeper ≡ G.kept keeper
+  pub cause : IfErr made (CreateCause (G.kept keeper) (trace vault) (trace ended.vault) (faults vault) (faults ended.vault) (G.faults keeper) (G.faults ended.keeper))
 
--- the stream of random bytes that is left: all was drawn, or nothing
-abbrev pub Leaves : Chance → Chance → Status → Type 0
-Leaves old new Done = new ≡ (drawn old).1
-Leaves old new OutputFault = new ≡ (drawn old).1
-Leaves old new DirectoryFault = (new ≡ old) ⊎ (new ≡ (drawn old).1)
-Leaves old new Memory = (new ≡ old) ⊎ (new ≡ (drawn old).1)
-Leaves old new status = new ≡ old
-
--- a file system of this cost and block size is made under the password of the input, of what is drawn from a stream
-pub record IsCreated (cost : Cost) (block_size : ℕ) (chance left : Chance) (input output : Stream) (d : Directory) (status : Status) (taken : List ℕ) : Type 0 where
-  pub password : PasswordRead input taken status
-  pub makes : Makes d output (new_file (password_of taken) cost block_size (drawn chance).0) (created_text (drawn chance).0.fs_id) status
-  pub leaves : Leaves chance left status
-
-abbrev pub Created : Cost → ℕ → Chance → Chance → Stream → Stream → Directory → Status → Type 0
-Created cost block_size chance left input output d status = (taken : List ℕ) × IsCreated cost block_size chance left input output d status taken
+-- the password line wasn't read and nothing was done, or its password is the one
+abbrev pub Created : {V : Type 0} → {K : Type 0} → (V → Option (List Call)) → (V → ℕ) → KeeperGhosts K → Cost → ℕ → Draws → Stream → Stream → V → K → Ended V K → Type 0
+Created trace faults G cost block_size draws input output vault keeper ended =
+    IsUnread (PasswordUnread input) output vault keeper ended
+    ⊎ ((password : List ℕ) × (after : Option (List ℕ)) × HasPassword input password after × IsUnfailed input
+    × IsCreated trace faults G cost block_size draws password output vault keeper ended)

@@ -1,54 +1,62 @@
 -- What `info` does.
 use Rattle.std.specs.Prelude.{◌≡◌, ◌⊎◌, ℕ, List, ◌++◌, codes}
-use Rattle.std.specs.declared.option.Option.TheVariants.{None, Some}
+use Rattle.std.specs.declared.option.Option.{Option}
 use Rattle.std.specs.Fmt.{decimal}
 use Rattle.block_id.specs.Name.{name_of}
 use Rattle.script_text.specs.Texts.{line, word}
 use Rattle.scrypt_kdf.specs.Cost.{Cost}
-use Rattle.config_file.specs.Settings.{Settings, cipher_name}
-use Rattle.config_file.specs.ConfigOf.{ConfigOf, Found, opened, form, locked, inner}
+use Rattle.config_file.specs.Settings.{Settings, settings_of, cipher_name}
+use Rattle.config_file.specs.declared.config.Opened.{Opened}
+use Rattle.fs_model.specs.Tree.{Tree}
+use Rattle.integrity_store.specs.Standing.{records}
 use Rattle.line_io.specs.Streams.{Stream, Untouched}
-use Rattle.cryfs_setup.specs.declared.status.Status.{Status}
-use Rattle.cryfs_setup.specs.declared.status.Status.TheVariants.{Done, LongPassword, NoConfig, ConfigForm, ConfigLocked, ConfigInner, DirectoryFault, InputFault, OutputFault, Memory}
+use Rattle.mount.specs.Opening.{Attached}
+use Rattle.mount.specs.declared.error.OpenError.{OpenError}
+use Rattle.mount_core.specs.Standing.{IsKeptMarked}
+use Rattle.outside.specs.Trace.{Call}
+use Rattle.outside.specs.declared.keeper.Keeper.{Ghosts as KeeperGhosts}
+use Rattle.passwords.specs.Passwords.{PasswordUnread}
+use Rattle.run_openings.specs.Openings.{HasPassword, IsUnread, IsUnopened, StayOpen}
+use Rattle.run_status.specs.declared.ended.Ended.{Ended}
+use Rattle.session_lines.specs.Driven.{IsQuiet as IsUnfailed}
+use Rattle.session_runs.specs.Runs.{outside_of, IsFounded, IsQuiet}
+use Rattle.tree_commands.specs.Showing.{ShowsFiles}
 use Rattle.cryfs_setup.specs.Printing.{Printed}
-use Rattle.cryfs_setup.specs.Passwords.{password_of, PasswordRead}
-use Rattle.cryfs_setup.specs.Directories.{Directory, Uncalled, CallFailed, WasThere, asked}
+
+-- the lines of both ids
+abbrev pub ids_text : Settings → List ℕ
+ids_text s = line (codes "filesystem " ++ name_of s.fs_id) ++ line (codes "root " ++ name_of s.root)
+
+-- the lines of the cipher, the blocks' size and the parameters
+abbrev pub sealing_text : Settings → Cost → List ℕ
+sealing_text s cost =
+    line (codes "cipher " ++ cipher_name s.cipher)
+    ++ line (codes "blocksize" ++ word (decimal s.block_size))
+    ++ line (codes "scrypt" ++ word (decimal cost.n) ++ word (decimal cost.r) ++ word (decimal cost.p))
 
 -- the five lines that are printed
-unfoldable pub info_text : Settings → Cost → List ℕ
-info_text s cost =
-    line (codes "filesystem " ++ name_of s.fs_id)
-    ++ line (codes "root " ++ name_of s.root)
-    ++ line (codes "cipher " ++ cipher_name s.cipher)
-    ++ line (codes "blocksize " ++ decimal s.block_size)
-    ++ line (codes "scrypt " ++ decimal cost.n ++ word (decimal cost.r) ++ word (decimal cost.p))
+abbrev pub info_text : Settings → Cost → List ℕ
+info_text s cost = ids_text s ++ sealing_text s cost
 
--- the configuration's file was given, and this is what it is under the password
-abbrev pub Gave : Directory → List ℕ → Found → Type 0
-Gave d password found = (file : List ℕ) × (d.new ≡ asked d.old (Some file)) × ConfigOf password file found
+-- Under the password a configuration was opened, and it was told whole, or in part where the sink failed. Nothing more was done than opening does.
+pub record IsTold {V : Type 0} {K : Type 0} (trace : V → Option (List Call)) (faults : V → ℕ) (G : KeeperGhosts K) (password : List ℕ) (output : Stream) (vault : V) (keeper : K) (ended : Ended V K) : Type 0 where
+  pub o : Opened
+  pub attached : Attached password (G.kept keeper) (G.kept ended.keeper) (trace vault) (trace ended.vault) o
+  pub printed : Printed output (info_text (settings_of o.config) o.params) ended.status
+  -- it is the one under which what was kept stood for a tree
+  pub config : (c : Settings) (tree : Tree) → IsFounded ShowsFiles password c tree (outside_of trace faults G vault keeper) (outside_of trace faults G ended.vault ended.keeper) → settings_of o.config ≡ c
+  pub unmarked : ¬ IsKeptMarked records (G.kept keeper)
+  pub quiet : IsQuiet ShowsFiles password (outside_of trace faults G vault keeper) (outside_of trace faults G ended.vault ended.keeper)
+  pub opens : StayOpen (outside_of trace faults G vault keeper) (outside_of trace faults G ended.vault ended.keeper)
 
--- which calls were made on the directory where it gave no configuration under the password, by the status
-abbrev pub Refuses : Directory → List ℕ → Status → Type 0
-Refuses d password NoConfig = d.new ≡ asked d.old None
-Refuses d password ConfigForm = Gave d password form
-Refuses d password ConfigLocked = Gave d password locked
-Refuses d password ConfigInner = Gave d password inner
-Refuses d password DirectoryFault = (d.new ≡ d.old) × CallFailed d
-Refuses d password Memory = (d.new ≡ d.old) ⊎ WasThere d
-Refuses d password status = ⊥
+-- under the password no file system was opened and nothing was written, or its configuration was told
+abbrev pub ToldUnder : {V : Type 0} → {K : Type 0} → (V → Option (List Call)) → (V → ℕ) → KeeperGhosts K → List ℕ → Stream → V → K → Ended V K → Type 0
+ToldUnder trace faults G password output vault keeper ended =
+    (((error : OpenError) × IsUnopened trace faults G password vault keeper ended error) × Untouched output)
+    ⊎ IsTold trace faults G password output vault keeper ended
 
--- which calls were made on the directory, what they gave under the password, and what was written, by the status
-abbrev pub Tells : Directory → Stream → List ℕ → Status → Type 0
-Tells d output password Done = (s : Settings) × (cost : Cost) × Gave d password (opened s cost) × Printed output (info_text s cost) Done
-Tells d output password OutputFault = (s : Settings) × (cost : Cost) × Gave d password (opened s cost) × Printed output (info_text s cost) OutputFault
-Tells d output password LongPassword = Uncalled d × Untouched output
-Tells d output password InputFault = Uncalled d × Untouched output
-Tells d output password status = Refuses d password status × Untouched output
-
--- what the configuration says is told under the password of the input
-pub record IsTold (input output : Stream) (d : Directory) (status : Status) (taken : List ℕ) : Type 0 where
-  pub password : PasswordRead input taken status
-  pub tells : Tells d output (password_of taken) status
-
-abbrev pub Told : Stream → Stream → Directory → Status → Type 0
-Told input output d status = (taken : List ℕ) × IsTold input output d status taken
+-- the password line wasn't read and nothing was done, or its password is the one
+abbrev pub Told : {V : Type 0} → {K : Type 0} → (V → Option (List Call)) → (V → ℕ) → KeeperGhosts K → Stream → Stream → V → K → Ended V K → Type 0
+Told trace faults G input output vault keeper ended =
+    IsUnread (PasswordUnread input) output vault keeper ended
+    ⊎ ((password : List ℕ) × (after : Option (List ℕ)) × HasPassword input password after × IsUnfailed input × ToldUnder trace faults G password output vault keeper ended)

@@ -1,7 +1,4 @@
-pub mod Statuses
-pub mod Passwords
-pub mod Directories
-pub mod Drawing
 pub mod Printing
 pub mod Create
 pub mod Info
+pub mod Passwd

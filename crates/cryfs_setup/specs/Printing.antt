@@ -2,11 +2,12 @@
 use Rattle.std.specs.Prelude.{◌≡◌, ℕ, List}
 use Rattle.outside.specs.Streams.{appends}
 use Rattle.line_io.specs.Streams.{Stream, Failed, Cut}
-use Rattle.cryfs_setup.specs.declared.status.Status.{Status}
-use Rattle.cryfs_setup.specs.declared.status.Status.TheVariants.{Done, OutputFault}
+use Rattle.session_lines.specs.Driven.{IsQuiet}
+use Rattle.run_status.specs.declared.status.Status.{Status}
+use Rattle.run_status.specs.declared.status.Status.TheVariants.{Done, OutputFault}
 
--- the text was written, or a part of it from its front where the sink failed
+-- the text was written whole, or a part of it from its front where the sink failed
 abbrev pub Printed : Stream → List ℕ → Status → Type 0
-Printed output text Done = output.new ≡ appends output.old text
+Printed output text Done = (output.new ≡ appends output.old text) × IsQuiet output
 Printed output text OutputFault = Cut output.old output.new text × Failed output
 Printed output text status = ⊥

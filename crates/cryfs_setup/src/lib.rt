@@ -1,13 +1,13 @@
-//! Making a file system and telling of one: the password line, `create` and `info`, and how a run ends.
+//! The runs beside sessions: making a file system, telling of one and changing its password, each under the password
+//! lines of the input.
 #![tactic(auto)]
 
 mod create;
-mod draws;
 mod info;
-mod password;
+mod info_text;
+mod passwd;
 mod print;
-mod status;
 
 pub use create::run_create;
 pub use info::run_info;
-pub use status::Status;
+pub use passwd::run_passwd;

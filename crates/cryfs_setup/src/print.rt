@@ -1,18 +1,16 @@
-// The text of a run that went well.
+// The text of a run.
 ghost use Rattle.std.specs.Prelude.{◌≤◌};
 ghost use Rattle.cryfs_setup.specs.Printing.{Printed};
 ghost use Rattle.line_io.specs.Streams.{stream_of};
 
-use crate::status::Status;
 use block_id::Failed;
 use line_io::write_all;
 use outside::Sink;
+use run_status::Status;
 
-/// Writes a text, with which the run is done.
+/// Writes a text, with which all is printed.
 pub(crate) fn print<O: Sink>(text: &[u8], output: &mut O) -> Status
-    ensures printed { Printed
-        (stream_of O.written O.faults output.old output.new)
-        text.now result }
+    ensures printed { Printed (stream_of O.written O.faults output.old output.new) text.now result }
     ensures grows { O.faults output.old ≤ O.faults output.new }
 {
     match write_all(output, text) {

@@ -1,11 +1,24 @@
-use Rattle.cryfs_setup.specs.Passwords.{password_of}
-use Rattle.cryfs_setup.proofs.Known.{held, told_of}
+use Rattle.std.proofs.Common.{refl, inl, inr, sym, subst}
+use Rattle.line_io.specs.Reading.{coming}
+use Rattle.line_io.specs.Streams.{stream_of}
+use Rattle.cryfs_setup.specs.Info.{ToldUnder}
+use Rattle.cryfs_setup.proofs.Beginning.{held, has_password, unread_causes}
 use Rattle.cryfs_setup.proofs.info.run_info.Goals as goal
+
+pub returns-in-Err-clause-told : goal.returns-in-Err-clause-told
+returns-in-Err-clause-told g c = inl (record { cause = c.in-Err.ensures.unread; uncalled = record { same_vault = refl; same_keeper = refl }; unwritten = (refl, refl) })
+
+pub returns-in-Err-clause-causes : goal.returns-in-Err-clause-causes
+returns-in-Err-clause-causes g c = unread_causes _ _ c.in-Err.status c.in-Err.ensures.unread
 
 pub returns-clause-told : goal.returns-clause-told
 returns-clause-told g c =
-    let r = c.in-Ok.ensures.read in (
-      r.0,
-      told_of _ _ _ c.tell_under.result r.0 c.unwrap_or-password.result.now r.1.0 (held _ _ _ _ (password_of r.0) c.line.ensures r.1.1 c.unwrap_or-password.ensures) c.tell_under.ensures.past
-          c.tell_under.ensures.tells,
+    let r = c.in-Ok-read_password.ensures.read in
+    let h = held c.line.result _ c.unwrap_or-password.result c.in-Ok-read_password.reader.line r.1 c.line.ensures r.2.held c.unwrap_or-password.ensures in
+    inr (
+      r.1,
+      coming c.in-Ok-read_password.reader.ahead (g.I.Source.rest c.read_password.new.input),
+      has_password _ _ r.0 r.1 r.2,
+      r.2.stands.quiet,
+      subst (λ p. ToldUnder g.V.Vault.trace g.V.Vault.faults g.K.Keeper p (stream_of g.O.Sink.written g.O.Sink.faults c.args.output.now c.tell_under.new.output) c.args.vault c.args.keeper c.tell_under.result) (sym h) c.tell_under.ensures.told,
     )

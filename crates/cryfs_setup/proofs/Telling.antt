@@ -1,0 +1,70 @@
+-- A file system that was opened and told of.
+use Rattle.std.proofs.Common.{◌≡◌, ◌≤◌, ℕ, false, List, [], ◌∷◌, refl, sym, ◌∙◌, subst, inr, arith}
+use Rattle.std.specs.Prelude.{Result, IsOk}
+use Rattle.std.specs.declared.option.Option.{Option}
+use Rattle.std.specs.declared.result.Result.TheVariants.{Ok, Err}
+use Rattle.config_file.specs.Settings.{settings_of}
+use Rattle.integrity_store.specs.Standing.{records}
+use Rattle.line_io.specs.Streams.{Stream}
+use Rattle.mount.specs.declared.mount.Mount.{Mount}
+use Rattle.mount.specs.Opening.{Attached}
+use Rattle.mount_core.specs.Standing.{IsKeptMarked}
+use Rattle.outside.specs.Going.{goes_on_same}
+use Rattle.outside.specs.Trace.{Call}
+use Rattle.outside.specs.declared.keeper.Keeper.{Ghosts as KeeperGhosts}
+use Rattle.run_openings.specs.Openings.{HasCauses}
+use Rattle.run_openings.specs.Statuses.{closing_status}
+use Rattle.run_status.specs.declared.ended.Ended.{Ended}
+use Rattle.run_status.specs.declared.status.Status.{Status}
+use Rattle.run_status.specs.declared.status.Status.TheVariants.{Done, OutputFault}
+use Rattle.run_status.specs.Statuses.{first_of}
+use Rattle.session_runs.specs.Answering.{calls_of, kept_of}
+use Rattle.session_runs.specs.Runs.{outside_of}
+use Rattle.session_runs.specs.Turns.{Begun, Closing}
+use Rattle.session_saver.specs.declared.saver.SyncError.{SyncError}
+use Rattle.tree_commands.specs.Showing.{ShowsFiles}
+use Rattle.cryfs_setup.specs.Info.{IsTold, info_text}
+use Rattle.cryfs_setup.specs.Printing.{Printed}
+use Rattle.cryfs_setup.proofs.Closing.{config_is, config_ok, quiet}
+
+-- where closing went well, the status is that of printing
+pub closed_well : (closing : Result Unit SyncError) (output : Stream) (text : List ℕ) (printed : Status) → IsOk closing → Printed output text printed → first_of printed (closing_status closing) ≡ printed
+closed_well (Ok u) output text Done ok p = refl
+closed_well (Ok u) output text OutputFault ok p = refl
+closed_well (Ok u) output text printed ok p = absurd p
+closed_well (Err e) output text printed ok p = absurd (cc)
+
+-- a text that was printed, or wasn't, is no fault of the directory or the record
+pub printed_causes : (v0 v1 k0 k1 : ℕ) (kept0 kept1 : Option (List ℕ)) (t0 t1 : Option (List Call)) (output : Stream) (text : List ℕ) (status : Status) → Printed output text status → v0 ≤ v1 → k0 ≤ k1
+    → HasCauses (record { kept = kept0; calls = t0; vault_faults = v0; keeper_faults = k0 }) (record { kept = kept1; calls = t1; vault_faults = v1; keeper_faults = k1 }) status
+printed_causes v0 v1 k0 k1 kept0 kept1 t0 t1 output text Done p v k = record { vault_grows = v; keeper_grows = k; directory_fault = λ e. absurd (cc); state_fault = λ e. absurd (cc) }
+printed_causes v0 v1 k0 k1 kept0 kept1 t0 t1 output text OutputFault p v k = record { vault_grows = v; keeper_grows = k; directory_fault = λ e. absurd (cc); state_fault = λ e. absurd (cc) }
+printed_causes v0 v1 k0 k1 kept0 kept1 t0 t1 output text status p v k = absurd p
+
+module _ {V : Type 0} {K : Type 0} (trace : V → Option (List Call)) (faults : V → ℕ) (G : KeeperGhosts K) (password : List ℕ) (vault : V) (keeper : K) (mount : Mount V K) (closing : Result Unit SyncError) (ended : Ended V K)
+    (b : Begun ShowsFiles trace faults G password vault keeper mount) (unchanged : mount.core.saver.changed ≡ false) (unmarked : ¬ IsKeptMarked records (G.kept keeper))
+    (z : Closing ShowsFiles trace faults G mount closing ended.vault ended.keeper) (output : Stream) (printed : Status) (p : Printed output (info_text (settings_of mount.opened.config) mount.opened.params) printed)
+    (es : ended.status ≡ first_of printed (closing_status closing)) where
+  status_is : printed ≡ ended.status
+  status_is = sym (es ∙ closed_well closing output _ printed (z.left (inr unchanged)).0 p)
+
+  pub told : IsTold trace faults G password output vault keeper ended
+  told =
+      let l = z.left (inr unchanged) in
+      let on = goes_on_same (calls_of trace mount) in
+      record {
+        o = mount.opened;
+        attached = subst (λ (k : K). Attached password (G.kept keeper) (G.kept k) (trace vault) (trace ended.vault) mount.opened) (sym l.2)
+            (subst (λ (v : V). Attached password (G.kept keeper) (kept_of G mount) (trace vault) (trace v) mount.opened) (sym l.1) b.attached);
+        printed = subst (λ (s : Status). Printed output (info_text (settings_of mount.opened.config) mount.opened.params) s) status_is p;
+        config = config_is trace faults G password vault keeper mount mount closing ended.vault ended.keeper b z b.fresh refl on (λ tree s. s);
+        quiet = quiet trace faults G password vault keeper mount mount closing ended.vault ended.keeper b z b.fresh refl on (λ tree s. s) unmarked;
+        unmarked = unmarked;
+        opens = λ other c is_told o. (o.0, o.1, config_ok (G.kept ended.keeper) (trace ended.vault) (o.0 ∷ []) o.0 closing l.0 (z.configures (o.0 ∷ []) o.0 b.fresh (b.configures o.0 is_told o.2)), o.3);
+      }
+
+  pub told_causes : HasCauses (outside_of trace faults G vault keeper) (outside_of trace faults G ended.vault ended.keeper) ended.status
+  told_causes =
+      subst (λ (s : Status). HasCauses (outside_of trace faults G vault keeper) (outside_of trace faults G ended.vault ended.keeper) s) status_is
+      (printed_causes (faults vault) (faults ended.vault) (G.faults keeper) (G.faults ended.keeper) _ _ _ _ output _ printed p
+      (let g = b.vault_grows in let h = z.vault_grows in omega (arith, g, h)) (let g = b.keeper_grows in let h = z.keeper_grows in omega (arith, g, h)))

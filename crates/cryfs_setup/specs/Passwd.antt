@@ -1,0 +1,80 @@
+-- What `passwd` does.
+use Rattle.std.specs.Prelude.{◌≡◌, ◌⊎◌, ℕ, true, List, codes, Result, is_some, OnOk}
+use Rattle.std.specs.declared.option.Option.{Option}
+use Rattle.std.specs.declared.result.Result.TheVariants.{Ok, Err}
+use Rattle.rand_core.specs.Stream.{Stream as Chance}
+use Rattle.config_file.specs.ConfigOf.{IsOnly, opened}
+use Rattle.config_file.specs.Settings.{Settings, settings_of}
+use Rattle.config_file.specs.declared.config.Opened.{Opened}
+use Rattle.fs_model.specs.Tree.{Tree}
+use Rattle.integrity_store.specs.Standing.{records}
+use Rattle.line_io.specs.Streams.{Stream, Untouched}
+use Rattle.mount.specs.Drawing.{seal_drawn}
+use Rattle.mount.specs.Making.{sealed_file}
+use Rattle.mount.specs.Opening.{Attached}
+use Rattle.mount.specs.Representing.{HasEmptyList}
+use Rattle.mount.specs.declared.error.OpenError.{OpenError}
+use Rattle.mount_core.specs.Standing.{IsKeptMarked}
+use Rattle.outside.specs.Going.{GoesOn}
+use Rattle.outside.specs.Trace.{Call}
+use Rattle.outside.specs.declared.keeper.Keeper.{Ghosts as KeeperGhosts}
+use Rattle.passwords.specs.Passwords.{PasswordsUnread}
+use Rattle.run_openings.specs.Openings.{HasPasswords, IsUnread, IsUnopened}
+use Rattle.run_openings.specs.Statuses.{closing_status}
+use Rattle.run_status.specs.declared.ended.Ended.{Ended}
+use Rattle.run_status.specs.declared.status.Status.{Status}
+use Rattle.script_text.specs.Texts.{line}
+use Rattle.session_lines.specs.Driven.{IsQuiet as IsUnfailed}
+use Rattle.session_runs.specs.Runs.{Outside, outside_of, IsFounded, IsQuiet}
+use Rattle.session_saver.specs.Saving.{KeptConfigures}
+use Rattle.session_saver.specs.declared.saver.SyncError.{SyncError}
+use Rattle.tree_commands.specs.Showing.{ShowsFiles}
+use Rattle.cryfs_setup.specs.Printing.{Printed}
+
+-- what is printed
+abbrev pub changed_text : List ℕ
+changed_text = line (codes "changed")
+
+-- after a change it was printed; the error of one that failed is the status
+abbrev pub Reports : Result Unit SyncError → Stream → Status → Type 0
+Reports (Ok _) output status = Printed output changed_text status
+Reports (Err error) output status = (status ≡ closing_status (Err error)) × Untouched output
+
+-- the configuration's file holds this text, which opens under the new password and nothing else, to what was opened
+pub record NewOpens (new file : List ℕ) (o : Opened) (after : Outside) : Type 0 where
+  pub holds : KeptConfigures records after.kept after.calls file
+  pub opens : IsOnly new file (opened (settings_of o.config) o.params)
+
+-- Under the old password a file system was opened, and its password changed, or not by an error. The new text is that of the configuration and the
+-- parameters that were found, and of what was drawn from a stream, which is left so.
+pub record IsChanged {V : Type 0} {K : Type 0} (trace : V → Option (List Call)) (faults : V → ℕ) (G : KeeperGhosts K) (old new : List ℕ) (chance left : Chance) (output : Stream) (vault : V) (keeper : K) (ended : Ended V K) : Type 0 where
+  pub o : Opened
+  pub kept : Option (List ℕ)
+  pub calls : Option (List Call)
+  pub attached : Attached old (G.kept keeper) kept (trace vault) calls o
+  pub goes_on : GoesOn calls (trace ended.vault)
+  pub change : Result Unit SyncError
+  pub reports : Reports change output ended.status
+  pub drawn : left ≡ (seal_drawn chance).1
+  -- after a change the new password opens the configuration's file; after an error it does, or the file is as it was
+  pub opens : is_some (trace vault) ≡ true → OnOk change (NewOpens new (sealed_file new o.params (seal_drawn chance).0 (settings_of o.config)) o (outside_of trace faults G ended.vault ended.keeper))
+  pub stays : (file : List ℕ) → is_some (trace vault) ≡ true → KeptConfigures records (G.kept keeper) (trace vault) file
+      → KeptConfigures records (G.kept ended.keeper) (trace ended.vault) file
+      ⊎ NewOpens new (sealed_file new o.params (seal_drawn chance).0 (settings_of o.config)) o (outside_of trace faults G ended.vault ended.keeper)
+  pub emptied : OnOk change (HasEmptyList (G.kept ended.keeper))
+  -- it is the one under which what was kept stood for a tree
+  pub config : (c : Settings) (tree : Tree) → IsFounded ShowsFiles old c tree (outside_of trace faults G vault keeper) (outside_of trace faults G ended.vault ended.keeper) → settings_of o.config ≡ c
+  pub unmarked : ¬ IsKeptMarked records (G.kept keeper)
+  pub quiet : IsQuiet ShowsFiles old (outside_of trace faults G vault keeper) (outside_of trace faults G ended.vault ended.keeper)
+
+-- under the old password no file system was opened and nothing was written or drawn, or it was to be changed
+abbrev pub ChangedUnder : {V : Type 0} → {K : Type 0} → (V → Option (List Call)) → (V → ℕ) → KeeperGhosts K → List ℕ → List ℕ → Chance → Chance → Stream → V → K → Ended V K → Type 0
+ChangedUnder trace faults G old new chance left output vault keeper ended =
+    (((error : OpenError) × IsUnopened trace faults G old vault keeper ended error) × Untouched output × (left ≡ chance))
+    ⊎ IsChanged trace faults G old new chance left output vault keeper ended
+
+-- the password lines weren't read and nothing was done, or their passwords are the ones
+abbrev pub Changed : {V : Type 0} → {K : Type 0} → (V → Option (List Call)) → (V → ℕ) → KeeperGhosts K → Chance → Chance → Stream → Stream → V → K → Ended V K → Type 0
+Changed trace faults G chance left input output vault keeper ended =
+    (IsUnread (PasswordsUnread input) output vault keeper ended × (left ≡ chance))
+    ⊎ ((old : List ℕ) × (new : List ℕ) × HasPasswords input old new × IsUnfailed input × ChangedUnder trace faults G old new chance left output vault keeper ended)

@@ -1,0 +1,81 @@
+// `passwd`: changes the password of a file system.
+ghost use Rattle.std.specs.Prelude.{◌≡◌, ◌≤◌};
+ghost use Rattle.line_io.specs.Streams.{stream_of};
+ghost use Rattle.session_runs.specs.Runs.{outside_of};
+ghost use Rattle.run_openings.specs.Openings.{HasCauses};
+ghost use Rattle.cryfs_setup.specs.Passwd.{Changed, ChangedUnder, Reports};
+
+use crate::print::print;
+use outside::{Keeper, Sink, Source, Vault};
+use passwords::{PasswordChange, read_two_passwords};
+use rand_core::Rng;
+use run_openings::{closing_status, end_run, open};
+use run_status::{Ended, Status};
+use session_saver::SyncError;
+use std::alloc::Global;
+
+/// Opens the file system under the first line of the input, changes its password to the second line, says so where that
+/// was done, and closes it.
+pub fn run_passwd<I: Source, O: Sink, V: Vault, K: Keeper, R: Rng>(
+    alloc: Global,
+    input: &mut I,
+    output: &mut O,
+    vault: V,
+    keeper: K,
+    chance: &mut R,
+) -> Ended<V, K>
+    ensures changed { Changed V.trace V.faults K.Keeper (R.stream chance.old) (R.stream chance.new)
+        (stream_of I.rest I.faults input.old input.new) (stream_of O.written O.faults output.old output.new) vault keeper result }
+    ensures causes { HasCauses (outside_of V.trace V.faults K.Keeper vault keeper) (outside_of V.trace V.faults K.Keeper result.vault result.keeper) result.status }
+    ensures input_grows { I.faults input.old ≤ I.faults input.new }
+    ensures output_grows { O.faults output.old ≤ O.faults output.new }
+{
+    let PasswordChange { old, reader } = match read_two_passwords(alloc, input) {
+        Ok(change) => change,
+        Err(status) => {
+            return Ended {
+                status,
+                vault,
+                keeper,
+            };
+        }
+    };
+    let new = reader.line().unwrap_or(&[]);
+    change_under(alloc, &old, new, output, vault, keeper, chance)
+}
+
+/// Opens the file system under the old password, changes it to the new one, says so where that was done, and closes it.
+/// The status is that of the first fault.
+fn change_under<O: Sink, V: Vault, K: Keeper, R: Rng>(
+    alloc: Global,
+    old: &[u8],
+    new: &[u8],
+    output: &mut O,
+    vault: V,
+    keeper: K,
+    chance: &mut R,
+) -> Ended<V, K>
+    ensures changed { ChangedUnder V.trace V.faults K.Keeper old.now new.now (R.stream chance.old) (R.stream chance.new)
+        (stream_of O.written O.faults output.old output.new) vault keeper result }
+    ensures causes { HasCauses (outside_of V.trace V.faults K.Keeper vault keeper) (outside_of V.trace V.faults K.Keeper result.vault result.keeper) result.status }
+    ensures output_grows { O.faults output.old ≤ O.faults output.new }
+{
+    let mut mount = match open(alloc, vault, keeper, old) {
+        Ok(mount) => mount,
+        Err(ended) => return ended,
+    };
+    let change = mount.change_password(alloc, new, chance);
+    let reported = report(change, output);
+    end_run(alloc, mount, reported)
+}
+
+/// Says that the password was changed, where that was done.
+fn report<O: Sink>(change: Result<(), SyncError>, output: &mut O) -> Status
+    ensures reports { Reports change (stream_of O.written O.faults output.old output.new) result }
+    ensures grows { O.faults output.old ≤ O.faults output.new }
+{
+    match change {
+        Ok(()) => print(b"changed\n", output),
+        Err(_) => closing_status(change),
+    }
+}
