@@ -1,10 +1,12 @@
-//! Puts blocks into a real folder, for measuring what flushing costs: the words are the folder and how many blocks.
+//! Puts blocks into a real folder and then saves a record, before which they are flushed, for measuring what that costs: the words
+//! are the folder, in which `blocks` and `state` are made, and how many blocks.
 #![tactic(auto)]
 
 use block_id::BlockId;
-use outside::{FileName, GetFail, Vault};
-use real_folders::FolderVault;
+use outside::{FileName, GetFail, Keeper, Vault};
+use real_folders::{FolderKeeper, FolderRun, FolderVault};
 use std::alloc::Global;
+use std::path::PathBuf;
 use std::{env, io};
 
 /// The bytes of a block.
@@ -23,6 +25,25 @@ fn put_blocks<V: Vault>(alloc: Global, vault: &mut V, count: u64) -> Result<(), 
     Ok(())
 }
 
+/// Saves a record.
+fn save<K: Keeper>(alloc: Global, keeper: &mut K) -> Result<(), GetFail> {
+    let record = [7; 64];
+    keeper
+        .prepare(alloc, record.len())
+        .map_err(|_| GetFail::Memory)?;
+    keeper.save(&record).map_err(|_| GetFail::Failed)
+}
+
+/// Puts so many blocks and saves a record, in these two folders.
+fn work(rt: HostRuntime, blocks: &str, state: &str, count: u64) -> Result<(), GetFail> {
+    let alloc = rt.alloc();
+    let run = FolderRun::new(alloc, 1).map_err(|_| GetFail::Memory)?;
+    let mut vault = FolderVault::new(rt, blocks, &run);
+    let mut keeper = FolderKeeper::new(alloc, rt, state, &run).map_err(|_| GetFail::Memory)?;
+    put_blocks(alloc, &mut vault, count)?;
+    save(alloc, &mut keeper)
+}
+
 fn main(rt: HostRuntime) -> io::Result<()> {
     let mut words = env::args(&rt)?;
     words.next();
@@ -32,8 +53,10 @@ fn main(rt: HostRuntime) -> io::Result<()> {
     let Ok(count) = count.as_str().parse() else {
         return println!(rt; "the count is no number");
     };
-    let mut vault = FolderVault::new(rt, folder.as_str());
-    match put_blocks(rt.alloc(), &mut vault, count) {
+    let folder = PathBuf::from_str(rt.alloc(), folder.as_str())?;
+    let blocks = folder.join(rt.alloc(), "blocks")?;
+    let state = folder.join(rt.alloc(), "state")?;
+    match work(rt, blocks.as_str(), state.as_str(), count) {
         Ok(()) => println!(rt; "{count} blocks put"),
         Err(GetFail::Memory) => println!(rt; "out of memory"),
         Err(GetFail::Failed) => println!(rt; "the folder failed"),

@@ -18,6 +18,14 @@ pub fn if_there<T>(answer: io::Result<T>) -> io::Result<Option<T>> {
     }
 }
 
+/// Passes over that something is there already.
+fn if_new(answer: io::Result<()>) -> io::Result<()> {
+    match answer {
+        Err(error) if error.kind() == ErrorKind::AlreadyExists => Ok(()),
+        answer => answer,
+    }
+}
+
 /// Reads into the piece. A read that was interrupted is tried again.
 fn read_some<F: Read>(file: &mut F, piece: &mut [u8]) -> io::Result<usize>
     ensures bound { ReadsAtMost result piece.new }
@@ -55,8 +63,8 @@ pub fn read_at_most<F: Read>(
     Err(FolderError::Io(io::Error::from(ErrorKind::TimedOut)))
 }
 
-/// A new file in this folder, in place of what a run that was stopped left there. It is always made anew, so that a link
-/// that lies there isn't followed. The folder is made where it is missing.
+/// A new file in this folder, in place of what this run left there under its own name. It is always made anew, so that a
+/// link that lies there isn't followed. The folder is made where it is missing.
 pub fn create_anew<R: Files>(files: &R, folder: Path<'_>, path: Path<'_>) -> io::Result<R::File> {
     match File::create_new(files, path) {
         Err(error) if error.kind() == ErrorKind::NotFound => make_folder(
@@ -67,6 +75,17 @@ pub fn create_anew<R: Files>(files: &R, folder: Path<'_>, path: Path<'_>) -> io:
         created => return created,
     }
     File::create_new(files, path)
+}
+
+/// A new file in this folder, which is made where it is missing in one that is there. Nothing is flushed.
+pub fn create_in<R: Files>(files: &R, folder: Path<'_>, path: Path<'_>) -> io::Result<R::File> {
+    match if_there(File::create_new(files, path))? {
+        Some(file) => Ok(file),
+        None => {
+            if_new(fs::create_dir(files, folder))?;
+            File::create_new(files, path)
+        }
+    }
 }
 
 /// The file in this folder, open for writing. Both are made where they are missing, and what the file holds stays.
@@ -96,31 +115,42 @@ pub fn flush_folder<R: Files>(files: &R, folder: Path<'_>) -> io::Result<()> {
     fs::open(files, folder)?.sync_all()
 }
 
+/// Flushes the names in the folder that this one lies in.
+pub fn flush_folder_above<R: Files>(files: &R, folder: Path<'_>) -> io::Result<()> {
+    flush_folder(files, folder.parent().unwrap_or(Path::new("")))
+}
+
 /// Makes the folder and those above it, where they are missing, and flushes each name that was made.
 fn make_folder<R: Files>(files: &R, folder: &str) -> io::Result<()> {
+    if_new(make_new_folder(files, folder))
+}
+
+/// Makes the folder, which is an error where it is there, and those above it where they are missing, and flushes each name
+/// that was made.
+pub fn make_new_folder<R: Files>(files: &R, folder: &str) -> io::Result<()> {
+    let folder = folder.trim_end_matches('/');
     for end in 1..folder.len() {
         make_folder_above(files, folder, end)?;
     }
     make_one_folder(files, Path::new(folder))
 }
 
-/// Where a slash stands at this place, makes the folder that is named before it.
+/// Where a slash stands at this place, makes the folder that is named before it, if it is missing.
 fn make_folder_above<R: Files>(files: &R, folder: &str, end: usize) -> io::Result<()> {
     match folder.split_at_checked(end) {
-        Some((above, rest)) if rest.starts_with('/') => make_one_folder(files, Path::new(above)),
+        Some((above, rest)) if rest.starts_with('/') => if_new(make_one_folder(
+            files,
+            Path::new(above),
+        )),
         _ => Ok(()),
     }
 }
 
-/// Makes the folder where it is missing, and flushes its name. Where that fails the folder is taken away again, so that
-/// no later call finds it there unflushed.
+/// Makes the folder, and flushes its name. Where that fails the folder is taken away again, so that no later call finds it
+/// there unflushed.
 fn make_one_folder<R: Files>(files: &R, folder: Path<'_>) -> io::Result<()> {
-    match fs::create_dir(files, folder) {
-        Ok(()) => {}
-        Err(error) if error.kind() == ErrorKind::AlreadyExists => return Ok(()),
-        Err(error) => return Err(error),
-    }
-    let flushed = flush_folder(files, folder.parent().unwrap_or(Path::new("")));
+    fs::create_dir(files, folder)?;
+    let flushed = flush_folder_above(files, folder);
     if flushed.is_err() {
         let _ = fs::remove_dir(files, folder);
     }

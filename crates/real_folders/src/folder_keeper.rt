@@ -9,10 +9,12 @@ ghost use Rattle.real_folders.specs.Adapters.{counted};
 
 use crate::error::{FolderError, count};
 use crate::files::open_or_create;
+use crate::folder_run::FolderRun;
+use crate::lock::Lock;
 use crate::stored_file::StoredFile;
 use outside::{Failed, GetFail, Keeper, Memory, MemoryKeeper};
 use std::alloc::Global;
-use std::fs::{File, Files};
+use std::fs::Files;
 use std::io;
 use std::marker::Model;
 use std::path::PathBuf;
@@ -23,17 +25,20 @@ const LOCK_FILE: &str = "cryfs.lock";
 
 /// The record in a file of a real folder. What is kept is what the file held as this was made, or what was saved last since
 /// then; a load finds out whether the file still holds that. From the first load or save on no other run can load or save.
+/// A save first flushes the files of blocks that this run wrote.
 #[derive(Drop)]
-pub struct FolderKeeper<R> {
+pub struct FolderKeeper<'a, R: Files> {
     files: R,
+    run: &'a FolderRun,
     file: StoredFile,
+    beside: PathBuf,
     lock_path: PathBuf,
-    lock: Option<File>,
+    lock: Option<R::File>,
     known: MemoryKeeper,
     faults: u64,
 }
 
-impl<R> Model for FolderKeeper<R> {
+impl<'a, R: Files> Model for FolderKeeper<'a, R> {
     ghost use Rattle.real_folders.specs.Adapters.{KeeperState};
 
     ghost Value = { KeeperState };
@@ -41,14 +46,23 @@ impl<R> Model for FolderKeeper<R> {
     ghost view = { λ k. record { kept = k.known.kept; room = k.known.room; faults = k.faults } };
 }
 
-impl<R: Files<File = File> + Drop> FolderKeeper<R> {
+impl<'a, R: Files + Drop> FolderKeeper<'a, R>
+where
+    R::File: Lock,
+{
     /// The record in the folder at this path, which needs not be there yet. Nothing is made. No fault so far.
-    pub fn new(alloc: Global, files: R, folder: &str) -> Result<FolderKeeper<R>, Memory>
+    pub fn new(
+        alloc: Global,
+        files: R,
+        folder: &str,
+        run: &'a FolderRun,
+    ) -> Result<FolderKeeper<'a, R>, Memory>
         ensures { IfOk result (λ keeper. keeper.faults ≡ 0) }
     {
         let folder = PathBuf::from_str(alloc, folder)?;
         let lock_path = folder.join(alloc, LOCK_FILE)?;
         let file = StoredFile::new(alloc, folder, RECORD_FILE)?;
+        let beside = file.beside(alloc, run.ending())?;
         let found = match file.read(&files, alloc, usize::MAX) {
             Ok(found) => found,
             Err(FolderError::Memory(_)) => return Err(Memory),
@@ -56,7 +70,9 @@ impl<R: Files<File = File> + Drop> FolderKeeper<R> {
         };
         Ok(FolderKeeper {
             files,
+            run,
             file,
+            beside,
             lock_path,
             lock: None,
             known: MemoryKeeper::new(alloc, found, Vec::new(alloc)),
@@ -71,7 +87,7 @@ impl<R: Files<File = File> + Drop> FolderKeeper<R> {
         if self.lock.is_none() {
             let folder = self.file.folder.as_path();
             let lock = open_or_create(&self.files, folder, self.lock_path.as_path())?;
-            lock.try_lock()?;
+            lock.take_lock()?;
             self.lock = Some(lock);
         }
         Ok(())
@@ -89,7 +105,7 @@ impl<R: Files<File = File> + Drop> FolderKeeper<R> {
         }
     }
 
-    /// Writes the record to the file, and then knows it.
+    /// Flushes the files of blocks, writes the record to its file, and then knows it.
     fn write(&mut self, bytes: &[u8]) -> io::Result<()>
         requires { length bytes.now ≤ self.old.room }
         ensures ok { OnOk result (self.new.kept ≡ Some bytes.now) }
@@ -98,7 +114,9 @@ impl<R: Files<File = File> + Drop> FolderKeeper<R> {
         ensures faults { self.new.faults ≡ self.old.faults }
     {
         self.hold()?;
-        self.file.replace(&self.files, bytes)?;
+        self.run.flush(&self.files)?;
+        self.file
+            .replace(&self.files, self.beside.as_path(), bytes)?;
         match self.known.save(bytes) {
             Ok(()) => Ok(()),
             Err(Failed) => Err(io::Error::other("the record was not taken")),
@@ -116,7 +134,10 @@ fn is_same(found: &Option<Vec<u8>>, kept: Option<&[u8]>) -> bool
     }
 }
 
-impl<R: Files<File = File> + Drop> Keeper for FolderKeeper<R> {
+impl<'a, R: Files + Drop> Keeper for FolderKeeper<'a, R>
+where
+    R::File: Lock,
+{
     ghost kept = { λ k. k.kept };
 
     ghost room = { λ k. k.room };
@@ -167,7 +188,7 @@ impl<R: Files<File = File> + Drop> Keeper for FolderKeeper<R> {
 #[cfg(test)]
 mod tests {
     use super::*;
-    use crate::test_folders::{fresh_folder, holds, is_absent, write};
+    use crate::test_folders::{fresh_folder, holds, is_absent, saves, write};
     use std::fs;
     use std::test::Fail;
 
@@ -184,11 +205,6 @@ mod tests {
         matches!(keeper.load(alloc), Ok(None))
     }
 
-    /// Whether this record is saved.
-    fn saves<K: Keeper>(alloc: Global, keeper: &mut K, text: &str) -> bool {
-        keeper.prepare(alloc, text.len()).is_ok() && keeper.save(text.as_bytes()).is_ok()
-    }
-
     /// Whether loads and saves fail.
     fn fails<K: Keeper>(alloc: Global, keeper: &mut K) -> bool {
         keeper.load(alloc).err() == Some(GetFail::Failed) && !saves(alloc, keeper, "record")
@@ -198,21 +214,18 @@ mod tests {
     fn keeps_what_was_saved_last(rt: HostRuntime) -> Result<(), Fail> {
         let folder = fresh_folder(&rt, "kept")?;
         let path = folder.as_str();
-        let mut first = FolderKeeper::new(rt.alloc(), rt, path)?;
+        let run = FolderRun::new(rt.alloc(), 1)?;
+        let mut first = FolderKeeper::new(rt.alloc(), rt, path, &run)?;
         assert!(rt; is_absent(&rt, path, ""));
         assert!(rt; gives_none(rt.alloc(), &mut first));
         assert!(rt; saves(rt.alloc(), &mut first, "a long record"));
         assert!(rt; gives(rt.alloc(), &mut first, "a long record"));
-        write(
-            &rt,
-            path,
-            "cryfs.localstate.new",
-            "what a stop left of another record",
-        )?;
+        let beside = "cryfs.localstate.0000000000000001.new";
+        write(&rt, path, beside, "what a failed save left of another")?;
         assert!(rt; saves(rt.alloc(), &mut first, "short"));
         assert!(rt; first.faults == 0);
         assert!(rt; holds(&rt, path, "cryfs.localstate", "short"));
-        assert!(rt; is_absent(&rt, path, "cryfs.localstate.new"));
+        assert!(rt; is_absent(&rt, path, beside));
         fs::remove_dir_all(&rt, path)?;
         Ok(())
     }
@@ -221,8 +234,12 @@ mod tests {
     fn serves_one_run_at_a_time(rt: HostRuntime) -> Result<(), Fail> {
         let folder = fresh_folder(&rt, "lock")?;
         let path = folder.as_str();
-        let mut first = FolderKeeper::new(rt.alloc(), rt, path)?;
-        let mut second = FolderKeeper::new(rt.alloc(), rt, path)?;
+        let runs = [
+            FolderRun::new(rt.alloc(), 1)?,
+            FolderRun::new(rt.alloc(), 2)?,
+        ];
+        let mut first = FolderKeeper::new(rt.alloc(), rt, path, &runs[0])?;
+        let mut second = FolderKeeper::new(rt.alloc(), rt, path, &runs[1])?;
         assert!(rt; saves(rt.alloc(), &mut first, "first"));
         assert!(rt; fails(rt.alloc(), &mut second));
         drop(first);
@@ -230,7 +247,7 @@ mod tests {
         assert!(rt; second.load(rt.alloc()).is_err());
         assert!(rt; second.faults == 3);
         drop(second);
-        let mut third = FolderKeeper::new(rt.alloc(), rt, path)?;
+        let mut third = FolderKeeper::new(rt.alloc(), rt, path, &runs[0])?;
         assert!(rt; gives(rt.alloc(), &mut third, "first"));
         fs::remove_dir_all(&rt, path)?;
         Ok(())
@@ -242,7 +259,8 @@ mod tests {
         let record = folder.join(rt.alloc(), "cryfs.localstate")?;
         fs::create_dir_all(&rt, record.as_path())?;
         write(&rt, record.as_str(), "inner", "")?;
-        let mut keeper = FolderKeeper::new(rt.alloc(), rt, folder.as_str())?;
+        let run = FolderRun::new(rt.alloc(), 1)?;
+        let mut keeper = FolderKeeper::new(rt.alloc(), rt, folder.as_str(), &run)?;
         assert!(rt; fails(rt.alloc(), &mut keeper));
         assert!(rt; keeper.faults == 2);
         fs::remove_dir_all(&rt, folder)?;

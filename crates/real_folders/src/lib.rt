@@ -5,10 +5,14 @@ mod error;
 mod file_names;
 mod files;
 mod folder_keeper;
+mod folder_run;
 mod folder_vault;
+mod lock;
 mod stored_file;
 #[cfg(test)]
 mod test_folders;
 
 pub use folder_keeper::FolderKeeper;
+pub use folder_run::FolderRun;
 pub use folder_vault::FolderVault;
+pub use lock::Lock;

@@ -1,6 +1,8 @@
 // For tests: fresh folders, and a system some of whose flushes fail.
 use crate::files::if_there;
-use std::alloc::Allocator;
+use crate::lock::Lock;
+use outside::Keeper;
+use std::alloc::{Allocator, Global};
 use std::cell::Cell;
 use std::fs::{self, File, Files, Metadata, OpenFile, OpenOptions};
 use std::io::{self, Empty, ErrorKind, Read, Seek, SeekFrom, Write};
@@ -43,6 +45,11 @@ pub fn is_absent(rt: &HostRuntime, folder: &str, name: &str) -> bool {
     }
 }
 
+/// Whether this record is saved.
+pub fn saves<K: Keeper>(alloc: Global, keeper: &mut K, text: &str) -> bool {
+    keeper.prepare(alloc, text.len()).is_ok() && keeper.save(text.as_bytes()).is_ok()
+}
+
 /// The system with a number of flushes that succeed; after them each fails.
 #[derive(Drop)]
 pub struct CountedFlushes<'a> {
@@ -75,6 +82,12 @@ impl Write for CountedFile<'_> {
 impl Seek for CountedFile<'_> {
     fn seek(&mut self, to: SeekFrom) -> io::Result<u64> {
         self.file.seek(to)
+    }
+}
+
+impl Lock for CountedFile<'_> {
+    fn take_lock(&self) -> io::Result<()> {
+        self.file.take_lock()
     }
 }
 
