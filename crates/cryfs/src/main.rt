@@ -9,7 +9,8 @@ use crate::writer_sink::WriterSink;
 use cryfs_shell::{Status, run};
 use fs_model::Moment;
 use rand_chacha::ChaCha20Rng;
-use real_folders::{FolderKeeper, FolderVault};
+use rand_core::Rng;
+use real_folders::{FolderKeeper, FolderRun, FolderVault};
 use std::env;
 use std::io::{self, ErrorKind};
 use std::process::ExitCode;
@@ -48,16 +49,22 @@ fn run_words(rt: &HostRuntime) -> Status {
     let [_program, blocks, state, rest @ ..] = words.as_slice() else {
         return Status::Usage;
     };
+    if blocks.is_empty() || state.is_empty() {
+        return Status::Usage;
+    }
     let Some(now) = read_clock(rt) else {
         return Status::InputFault;
     };
     let Ok(mut chance) = rand::make_rng::<ChaCha20Rng, HostRuntime>(rt) else {
         return Status::InputFault;
     };
-    let Ok(keeper) = FolderKeeper::new(rt.alloc(), *rt, state) else {
+    let Ok(folders) = FolderRun::new(rt.alloc(), chance.next_u64()) else {
         return Status::Memory;
     };
-    let vault = FolderVault::new(*rt, blocks);
+    let Ok(keeper) = FolderKeeper::new(rt.alloc(), *rt, state, &folders) else {
+        return Status::Memory;
+    };
+    let vault = FolderVault::new(*rt, blocks, &folders);
     let mut input = ReaderSource::new(rt.reader());
     let mut output = WriterSink::new(io::writer(rt));
     let ended = run(

@@ -1,2 +1,7 @@
-pub mod FormsOf
 pub mod Tried
+pub mod Statuses
+pub mod Sessions
+pub mod Setups
+pub mod TrialEnds
+pub mod Doing
+pub mod Histories

@@ -12,7 +12,7 @@ use Rattle.answers.specs.Sessions.{Exchange, Next, violated, latest, IsSession}
 use Rattle.session_lines.specs.Asking.{generated}
 use Rattle.session_lines.specs.Driven.{EndsAs, Served, Generated as Answered}
 use Rattle.session_lines.specs.declared.end.End.{End}
-use Rattle.cryfs_setup.specs.declared.status.Status.{Status}
+use Rattle.run_status.specs.declared.status.Status.{Status}
 use Rattle.cryfs_shell.specs.declared.trial.Trial.{Trial}
 use Rattle.cryfs_shell.specs.Lawful.{calm}
 use Rattle.cryfs_shell.specs.Plain.{ArePlain, plain}

@@ -1,4 +1,7 @@
 pub mod Plain
 pub mod Lawful
-pub mod Forms
 pub mod Runs
+pub mod Kinds
+pub mod Clauses
+pub mod Doing
+pub mod History

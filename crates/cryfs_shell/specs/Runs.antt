@@ -10,8 +10,8 @@ use Rattle.session_lines.specs.Asking.{generated}
 use Rattle.session_lines.specs.Driven.{EndsAs, Reported}
 use Rattle.session_lines.specs.declared.end.End.{End}
 use Rattle.session_lines.specs.declared.end.End.TheVariants.{Finished, InputFault as InputEnd, OutputFault as OutputEnd}
-use Rattle.cryfs_setup.specs.declared.status.Status.{Status}
-use Rattle.cryfs_setup.specs.declared.status.Status.TheVariants.{Done, InputFault, OutputFault, Memory}
+use Rattle.run_status.specs.declared.status.Status.{Status}
+use Rattle.run_status.specs.declared.status.Status.TheVariants.{Done, InputFault, OutputFault, Memory}
 use Rattle.cryfs_shell.specs.Plain.{ArePlain}
 
 -- the status of lines that ended so

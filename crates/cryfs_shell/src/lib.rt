@@ -3,16 +3,9 @@
 
 mod program;
 #[cfg(test)]
-mod setup_tests;
-#[cfg(test)]
-mod test_files;
-#[cfg(test)]
-mod test_random;
-#[cfg(test)]
 mod tests;
 mod trial;
-mod words;
+mod trials;
 
-pub use cryfs_setup::Status;
-pub use line_io::MAX_LINE;
-pub use program::{Ended, run};
+pub use program::run;
+pub use run_status::{Ended, Status};

@@ -1,35 +1,37 @@
 // The top call.
-ghost use Rattle.std.specs.Prelude.{◌≡◌, ◌⊎◌, ◌≤◌, ℕ, false, map};
+ghost use Rattle.std.specs.Prelude.{◌≡◌, ◌≤◌, ℕ, true, false, map};
 ghost use Rattle.std.specs.declared.option.Option.TheVariants.{None, Some};
 ghost use Rattle.std.specs.String.{string_bytes};
 ghost use Rattle.create_options.specs.declared.options.CreateOptions.{CreateOptions};
-ghost use Rattle.line_io.specs.Streams.{stream_of, Untouched};
 ghost use Rattle.cryfs_setup.specs.Create.{Created};
-ghost use Rattle.cryfs_setup.specs.Directories.{directory_of};
 ghost use Rattle.cryfs_setup.specs.Info.{Told};
-ghost use Rattle.cryfs_shell.specs.Forms.{form_of, is_create, IsRefused};
-ghost use Rattle.cryfs_shell.specs.Runs.{Tried, Generated, status_of};
+ghost use Rattle.cryfs_setup.specs.Passwd.{Changed};
+ghost use Rattle.histories.specs.Histories.{Run};
+ghost use Rattle.integrity_store.specs.Standing.{records};
+ghost use Rattle.line_io.specs.Streams.{stream_of, Untouched};
+ghost use Rattle.mount.specs.Drawing.{drawn};
+ghost use Rattle.mount_core.specs.Standing.{IsKeptMarked};
+ghost use Rattle.run_openings.specs.Openings.{AreUncalled};
+ghost use Rattle.session_runs.specs.Runs.{outside_of};
+ghost use Rattle.shell_sessions.specs.Sessions.{Session, ComesShell, ComesGenerated, ComesCommand};
+ghost use Rattle.shell_words.specs.Forms.{form_of, is_create, joined, IsModest};
+ghost use Rattle.shell_words.specs.declared.form.Form.{Form};
+ghost use Rattle.cryfs_shell.specs.Clauses.{IsRefusedRun, NoFalseAlarm, Keeps, FaultsHappened, IsEmptied};
+ghost use Rattle.cryfs_shell.specs.Doing.{Does};
+ghost use Rattle.cryfs_shell.specs.History.{Comes, IsRunOf};
+ghost use Rattle.cryfs_shell.specs.Kinds.{IsRefused, is_session, opens, draws};
+ghost use Rattle.cryfs_shell.specs.Runs.{Tried, Generated};
 
-use crate::trial::Trial;
-use crate::words::{Form, read_form};
-use answers::TextBuffer;
+use crate::trials::{try_generated, try_lines};
 use block_id::Memory;
-use cryfs_setup::{Status, run_create, run_info};
+use cryfs_setup::{run_create, run_info, run_passwd};
 use fs_model::Moment;
-use line_io::LineReader;
 use outside::{Keeper, Sink, Source, Vault};
-use plain_tree::PlainTree;
 use rand_core::Rng;
-use session_lines::{End, answer_generated, answer_lines};
+use run_status::{Ended, Status};
+use shell_sessions::{run_command, run_generate, run_shell};
+use shell_words::{Form, joined, read_form};
 use std::alloc::Global;
-
-/// How a run ended, with the block directory and the local record that it was given.
-#[derive(Drop)]
-pub struct Ended<V, K> {
-    pub status: Status,
-    pub vault: V,
-    pub keeper: K,
-}
 
 /// Runs the program with these words, at this moment, from this input to this output, over this block directory and
 /// this local record, and with these random bytes.
@@ -45,164 +47,122 @@ pub fn run<I: Source, O: Sink, V: Vault, K: Keeper, R: Rng>(
 ) -> Ended<V, K>
     ensures usage { result.status ≡ Status.Usage → form_of (map string_bytes words.now) ≡ None }
     ensures refused { form_of (map string_bytes words.now) ≡ None → IsRefused (map string_bytes words.now) result.status }
-    ensures untouched { form_of (map string_bytes words.now) ≡ None
-        → Untouched (stream_of I.rest I.faults input.old input.new)
-        × Untouched (stream_of O.written O.faults output.old output.new)
-        × (result.vault ≡ vault) × (R.stream chance.new ≡ R.stream chance.old) }
-    ensures keeper { result.keeper ≡ keeper }
-    ensures trial { form_of (map string_bytes words.now) ≡ Some Form.Trial → Tried now
-        (stream_of I.rest I.faults input.old input.new)
-        (stream_of O.written O.faults output.old output.new) result.status
-        × (result.vault ≡ vault) }
-    ensures generate { (count : ℕ) → form_of (map string_bytes words.now) ≡ Some (Form.Generate count)
-        → Generated now count (stream_of O.written O.faults output.old output.new) result.status
-        × Untouched (stream_of I.rest I.faults input.old input.new)
-        × (result.vault ≡ vault) }
+    ensures untouched { form_of (map string_bytes words.now) ≡ None → Untouched (stream_of I.rest I.faults input.old input.new) × Untouched (stream_of O.written O.faults output.old output.new) × AreUncalled vault keeper result × (R.stream chance.new ≡ R.stream chance.old) }
+    ensures trial { form_of (map string_bytes words.now) ≡ Some Form.Trial
+        → Tried now (stream_of I.rest I.faults input.old input.new) (stream_of O.written O.faults output.old output.new) result.status × AreUncalled vault keeper result }
+    ensures trial_generate { (count : ℕ) → form_of (map string_bytes words.now) ≡ Some (Form.TrialGenerate count)
+        → Generated now count (stream_of O.written O.faults output.old output.new) result.status × Untouched (stream_of I.rest I.faults input.old input.new) × AreUncalled vault keeper result }
     ensures created { (options : CreateOptions) → form_of (map string_bytes words.now) ≡ Some (Form.Create options)
-        → Created options.params options.block_size (R.stream chance.old) (R.stream chance.new)
-        (stream_of I.rest I.faults input.old input.new)
-        (stream_of O.written O.faults output.old output.new)
-        (directory_of V.trace V.faults vault result.vault) result.status }
-    ensures told { form_of (map string_bytes words.now) ≡ Some Form.Info → Told
-        (stream_of I.rest I.faults input.old input.new)
-        (stream_of O.written O.faults output.old output.new)
-        (directory_of V.trace V.faults vault result.vault) result.status }
-    ensures uncalled { (result.status ≡ Status.LongPassword) ⊎ (result.status ≡ Status.InputFault) → result.vault ≡ vault }
-    ensures undrawn { is_create (map string_bytes words.now) ≡ false → R.stream chance.new ≡ R.stream chance.old }
+        → Created V.trace V.faults K.Keeper options.params options.block_size (drawn (R.stream chance.old)).0 (stream_of I.rest I.faults input.old input.new) (stream_of O.written O.faults output.old output.new) vault keeper result }
+    ensures told { form_of (map string_bytes words.now) ≡ Some Form.Info
+        → Told V.trace V.faults K.Keeper (stream_of I.rest I.faults input.old input.new) (stream_of O.written O.faults output.old output.new) vault keeper result }
+    ensures changed { form_of (map string_bytes words.now) ≡ Some Form.Passwd
+        → Changed V.trace V.faults K.Keeper (R.stream chance.old) (R.stream chance.new) (stream_of I.rest I.faults input.old input.new) (stream_of O.written O.faults output.old output.new) vault keeper result }
+    ensures session { form_of (map string_bytes words.now) ≡ Some Form.Shell
+        → Session V.trace V.faults K.Keeper now (ComesShell (stream_of I.rest I.faults input.old input.new) (stream_of O.written O.faults output.old output.new)) (stream_of I.rest I.faults input.old input.new) (stream_of O.written O.faults output.old output.new) vault keeper result }
+    ensures generate { (count : ℕ) → form_of (map string_bytes words.now) ≡ Some (Form.Generate count)
+        → Session V.trace V.faults K.Keeper now (ComesGenerated count (stream_of I.rest I.faults input.old input.new) (stream_of O.written O.faults output.old output.new)) (stream_of I.rest I.faults input.old input.new) (stream_of O.written O.faults output.old output.new) vault keeper result }
+    ensures command { form_of (map string_bytes words.now) ≡ Some Form.Command
+        → Session V.trace V.faults K.Keeper now (ComesCommand (joined (map string_bytes words.now)) (stream_of I.rest I.faults input.old input.new) (stream_of O.written O.faults output.old output.new)) (stream_of I.rest I.faults input.old input.new) (stream_of O.written O.faults output.old output.new) vault keeper result }
+    ensures refusal { opens (form_of (map string_bytes words.now)) ≡ true → IsKeptMarked records (K.kept keeper) → IsRefusedRun K.kept (stream_of O.written O.faults output.old output.new) vault keeper result }
+    ensures no_false_alarm { NoFalseAlarm (stream_of I.rest I.faults input.old input.new) (outside_of V.trace V.faults K.Keeper vault keeper) (outside_of V.trace V.faults K.Keeper result.vault result.keeper) result.status }
+    ensures kept { opens (form_of (map string_bytes words.now)) ≡ true → Keeps (stream_of I.rest I.faults input.old input.new) (outside_of V.trace V.faults K.Keeper vault keeper) (outside_of V.trace V.faults K.Keeper result.vault result.keeper) }
+    ensures faults_happened { FaultsHappened (stream_of I.rest I.faults input.old input.new) (stream_of O.written O.faults output.old output.new) (outside_of V.trace V.faults K.Keeper vault keeper) (outside_of V.trace V.faults K.Keeper result.vault result.keeper) result.status }
+    ensures history { (form : Form) → form_of (map string_bytes words.now) ≡ Some form → is_create (map string_bytes words.now) ≡ false
+        → (run : Run) × IsRunOf (Comes (map string_bytes words.now) (stream_of I.rest I.faults input.old input.new) (stream_of O.written O.faults output.old output.new) form) (outside_of V.trace V.faults K.Keeper vault keeper) (outside_of V.trace V.faults K.Keeper result.vault result.keeper) run }
+    ensures done { is_session (form_of (map string_bytes words.now)) ≡ true → result.status ≡ Status.Done → IsEmptied (outside_of V.trace V.faults K.Keeper result.vault result.keeper) }
+    ensures uncalled { result.status ≡ Status.LongPassword → AreUncalled vault keeper result }
+    ensures undrawn { draws (form_of (map string_bytes words.now)) ≡ false → R.stream chance.new ≡ R.stream chance.old }
     ensures input_grows { I.faults input.old ≤ I.faults input.new }
     ensures output_grows { O.faults output.old ≤ O.faults output.new }
-    ensures vault_grows { V.faults vault ≤ V.faults result.vault }
 {
-    let mut vault = vault;
-    let status = run_words(alloc, words, now, input, output, &mut vault, chance);
-    Ended {
-        status,
-        vault,
-        keeper,
+    match read_form(alloc, words) {
+        Err(Memory) => Ended {
+            status: Status::Memory,
+            vault,
+            keeper,
+        },
+        Ok(None) => Ended {
+            status: Status::Usage,
+            vault,
+            keeper,
+        },
+        Ok(Some(form)) => run_form(
+            alloc, form, words, now, input, output, vault, keeper, chance,
+        ),
     }
 }
 
 /// Runs what the words ask for.
-fn run_words<I: Source, O: Sink, V: Vault, R: Rng>(
+fn run_form<I: Source, O: Sink, V: Vault, K: Keeper, R: Rng>(
     alloc: Global,
+    form: Form,
     words: &[String],
     now: Moment,
     input: &mut I,
     output: &mut O,
-    vault: &mut V,
+    vault: V,
+    keeper: K,
     chance: &mut R,
-) -> Status
-    ensures usage { result ≡ Status.Usage → form_of (map string_bytes words.now) ≡ None }
-    ensures refused { form_of (map string_bytes words.now) ≡ None → IsRefused (map string_bytes words.now) result }
-    ensures untouched { form_of (map string_bytes words.now) ≡ None
-        → Untouched (stream_of I.rest I.faults input.old input.new)
-        × Untouched (stream_of O.written O.faults output.old output.new)
-        × (vault.new ≡ vault.old) × (R.stream chance.new ≡ R.stream chance.old) }
-    ensures trial { form_of (map string_bytes words.now) ≡ Some Form.Trial → Tried now
-        (stream_of I.rest I.faults input.old input.new)
-        (stream_of O.written O.faults output.old output.new) result
-        × (vault.new ≡ vault.old) }
-    ensures generate { (count : ℕ) → form_of (map string_bytes words.now) ≡ Some (Form.Generate count)
-        → Generated now count (stream_of O.written O.faults output.old output.new) result
-        × Untouched (stream_of I.rest I.faults input.old input.new)
-        × (vault.new ≡ vault.old) }
-    ensures created { (options : CreateOptions) → form_of (map string_bytes words.now) ≡ Some (Form.Create options)
-        → Created options.params options.block_size (R.stream chance.old) (R.stream chance.new)
-        (stream_of I.rest I.faults input.old input.new)
-        (stream_of O.written O.faults output.old output.new)
-        (directory_of V.trace V.faults vault.old vault.new) result }
-    ensures told { form_of (map string_bytes words.now) ≡ Some Form.Info → Told
-        (stream_of I.rest I.faults input.old input.new)
-        (stream_of O.written O.faults output.old output.new)
-        (directory_of V.trace V.faults vault.old vault.new) result }
-    ensures uncalled { (result ≡ Status.LongPassword) ⊎ (result ≡ Status.InputFault) → vault.new ≡ vault.old }
-    ensures undrawn { is_create (map string_bytes words.now) ≡ false → R.stream chance.new ≡ R.stream chance.old }
+) -> Ended<V, K>
+    requires { IsModest form }
+    ensures does { Does V.trace V.faults K.Keeper (map string_bytes words.now) now (R.stream chance.old) (R.stream chance.new) (stream_of I.rest I.faults input.old input.new) (stream_of O.written O.faults output.old output.new) vault keeper result form }
+    ensures undrawn { draws (Some form) ≡ false → R.stream chance.new ≡ R.stream chance.old }
     ensures input_grows { I.faults input.old ≤ I.faults input.new }
     ensures output_grows { O.faults output.old ≤ O.faults output.new }
-    ensures vault_grows { V.faults vault.old ≤ V.faults vault.new }
 {
-    match read_form(alloc, words) {
-        Err(Memory) => Status::Memory,
-        Ok(None) => Status::Usage,
-        Ok(Some(Form::Trial)) => try_lines(alloc, now, input, output, chance),
-        Ok(Some(Form::Generate(count))) => generate(alloc, now, count, output, chance),
-        Ok(Some(Form::Create(options))) => run_create(
+    match form {
+        Form::Trial => Ended {
+            status: try_lines(alloc, now, input, output, chance),
+            vault,
+            keeper,
+        },
+        Form::TrialGenerate(count) => Ended {
+            status: try_generated(alloc, now, count, output, chance),
+            vault,
+            keeper,
+        },
+        Form::Create(options) => run_create(
             alloc,
             &options.params,
             options.block_size,
             input,
             output,
             vault,
+            keeper,
             chance,
         ),
-        Ok(Some(Form::Info)) => run_info(alloc, input, output, vault),
+        Form::Info => run_info(alloc, input, output, vault, keeper),
+        Form::Passwd => run_passwd(alloc, input, output, vault, keeper, chance),
+        Form::Shell => run_shell(alloc, now, input, output, vault, keeper, chance),
+        Form::Generate(count) => {
+            run_generate(alloc, now, count, input, output, vault, keeper, chance)
+        }
+        Form::Command => run_line(alloc, words, now, input, output, vault, keeper, chance),
     }
 }
 
-/// The lines of the input on a new plain tree.
-fn try_lines<I: Source, O: Sink, R: Rng>(
+/// A session of the one line that the words are.
+fn run_line<I: Source, O: Sink, V: Vault, K: Keeper, R: Rng>(
     alloc: Global,
+    words: &[String],
     now: Moment,
     input: &mut I,
     output: &mut O,
+    vault: V,
+    keeper: K,
     chance: &mut R,
-) -> Status
-    ensures tried { Tried now
-        (stream_of I.rest I.faults input.old input.new)
-        (stream_of O.written O.faults output.old output.new) result }
+) -> Ended<V, K>
+    ensures session { Session V.trace V.faults K.Keeper now (ComesCommand (joined (map string_bytes words.now)) (stream_of I.rest I.faults input.old input.new) (stream_of O.written O.faults output.old output.new)) (stream_of I.rest I.faults input.old input.new) (stream_of O.written O.faults output.old output.new) vault keeper result }
     ensures input_grows { I.faults input.old ≤ I.faults input.new }
     ensures output_grows { O.faults output.old ≤ O.faults output.new }
-    ensures undrawn { R.stream chance.new ≡ R.stream chance.old }
 {
-    let Ok(mut reader) = LineReader::new(alloc) else {
-        return Status::Memory;
-    };
-    let Ok(mut text) = TextBuffer::new(alloc) else {
-        return Status::Memory;
-    };
-    let mut trial = Trial {
-        tree: PlainTree::new(alloc),
-    };
-    status_of(answer_lines(
-        alloc,
-        &mut trial,
-        now,
-        &mut reader,
-        &mut text,
-        input,
-        output,
-        chance,
-    ))
-}
-
-fn status_of(end: End) -> Status
-    ensures { result ≡ status_of end }
-{
-    match end {
-        End::Finished => Status::Done,
-        End::InputFault => Status::InputFault,
-        End::OutputFault => Status::OutputFault,
+    match joined(alloc, words) {
+        Ok(line) => run_command(alloc, now, &line, input, output, vault, keeper, chance),
+        Err(Memory) => Ended {
+            status: Status::Memory,
+            vault,
+            keeper,
+        },
     }
-}
-
-/// So many generated commands on a new plain tree, and the summary of the answers.
-fn generate<O: Sink, R: Rng>(
-    alloc: Global,
-    now: Moment,
-    count: u64,
-    output: &mut O,
-    chance: &mut R,
-) -> Status
-    requires { count ≤ 1000000 }
-    ensures generated { Generated now count (stream_of O.written O.faults output.old output.new) result }
-    ensures output_grows { O.faults output.old ≤ O.faults output.new }
-    ensures undrawn { R.stream chance.new ≡ R.stream chance.old }
-{
-    let Ok(mut text) = TextBuffer::new(alloc) else {
-        return Status::Memory;
-    };
-    let mut trial = Trial {
-        tree: PlainTree::new(alloc),
-    };
-    status_of(answer_generated(alloc, &mut trial, now, count, &mut text, output, chance))
 }

@@ -1,12 +1,12 @@
 // Whole runs over streams in memory.
 
-use crate::test_random::ZEROS;
 use crate::trial::Trial;
 use crate::{Status, run};
 use answers::TextBuffer;
 use fs_model::Moment;
 use outside::{MemoryKeeper, MemorySink, MemorySource, MemoryVault};
 use plain_tree::PlainTree;
+use rand_pcg::Pcg32;
 use session_lines::{End, answer_single};
 use std::alloc::{AllocError, Global};
 use std::test::Fail;
@@ -51,7 +51,7 @@ fn outcome(alloc: Global, case: &Case<'_>, piece: usize) -> Result<(Vec<u8>, Sta
     let Ok(mut sink) = MemorySink::new(alloc, step, 65_536, case.writes.to_vec(alloc)?) else {
         return Err(AllocError);
     };
-    let mut zeros = ZEROS;
+    let mut chance = Pcg32::new(1, 2);
     let ended = run(
         alloc,
         &words,
@@ -60,7 +60,7 @@ fn outcome(alloc: Global, case: &Case<'_>, piece: usize) -> Result<(Vec<u8>, Sta
         &mut sink,
         MemoryVault::new(alloc),
         MemoryKeeper::new(alloc, None, Vec::new(alloc)),
-        &mut zeros,
+        &mut chance,
     );
     Ok((sink.written().to_vec(alloc)?, ended.status))
 }
@@ -108,15 +108,46 @@ fn names_the_stream_that_failed(rt: HostRuntime) -> Result<(), Fail> {
 
 #[test]
 fn refuses_other_words(rt: HostRuntime) -> Result<(), Fail> {
-    let forms: [&[&str]; 8] = [
+    let forms: [&[&str]; 39] = [
         &[],
         &["frob"],
+        &["Create"],
+        &["ls /"],
+        &["LS", "/"],
+        &["lsx", "/"],
         &["trial", "x"],
         &["trial", "generate"],
         &["trial", "generate", "x"],
         &["trial", "generate", ""],
         &["trial", "generate", "1000001"],
         &["trial", "generate", "00000001"],
+        &["generate"],
+        &["generate", "x"],
+        &["generate", "1000001"],
+        &["generate", "1", "1"],
+        &["shell", "x"],
+        &["passwd", "x"],
+        &["info", "x"],
+        &["info", "--help"],
+        &["create", "--blocksize", "127"],
+        &["create", "--blocksize", "1048577"],
+        &["create", "--scrypt-n", "1"],
+        &["create", "--scrypt-n", "3"],
+        &["create", "--scrypt-n", "2097152"],
+        &["create", "--scrypt-r", "0"],
+        &["create", "--scrypt-r", "9"],
+        &["create", "--scrypt-p=0"],
+        &["create", "--scrypt-p=17"],
+        &["create", "--scrypt-p=4294967297"],
+        &["create", "--blocksize", "128", "--blocksize", "128"],
+        &["create", "--blocksize", "000000000000000000128"],
+        &["create", "--blocksize", "+128"],
+        &["create", "--blocksize", ""],
+        &["create", "--blocksize"],
+        &["create", "--cipher", "aes-256-gcm"],
+        &["create", "x"],
+        &["create", "-h"],
+        &["create", "--"],
     ];
     for words in forms {
         let case = Case {
@@ -222,7 +253,7 @@ fn answers_one_line_at_a_time(rt: HostRuntime) -> Result<(), Fail> {
     let mut trial = Trial {
         tree: PlainTree::new(alloc),
     };
-    let mut zeros = ZEROS;
+    let mut chance = Pcg32::new(1, 2);
     let lines: [&str; 4] = ["mkdir /a", "ls", "ls /", "read / 0"];
     for line in lines {
         let end = answer_single(
@@ -232,7 +263,7 @@ fn answers_one_line_at_a_time(rt: HostRuntime) -> Result<(), Fail> {
             line.as_bytes(),
             &mut text,
             &mut sink,
-            &mut zeros,
+            &mut chance,
         );
         assert!(rt; end == End::Finished);
     }

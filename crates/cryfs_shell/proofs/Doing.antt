@@ -1,0 +1,160 @@
+-- What holds of each run, by its form.
+use Rattle.std.proofs.Common.{◌≡◌, ◌≢◌, ℕ, true, false, List, refl, sym, ◌∙◌}
+use Rattle.std.specs.declared.option.Option.{Option}
+use Rattle.std.specs.declared.option.Option.TheVariants.{None, Some}
+use Rattle.rand_core.specs.Stream.{Stream as Chance}
+use Rattle.answers.specs.Sessions.{Exchange}
+use Rattle.fs_model.specs.Instant.{Instant}
+use Rattle.integrity_store.specs.Standing.{records}
+use Rattle.line_io.specs.Streams.{Stream}
+use Rattle.mount.specs.Drawing.{drawn}
+use Rattle.mount_core.specs.Standing.{IsKeptMarked}
+use Rattle.outside.specs.Trace.{Call}
+use Rattle.outside.specs.declared.keeper.Keeper.{Ghosts as KeeperGhosts}
+use Rattle.run_openings.specs.Openings.{AreUncalled}
+use Rattle.run_status.specs.declared.ended.Ended.{Ended}
+use Rattle.run_status.specs.declared.status.Status.{Status}
+use Rattle.run_status.specs.declared.status.Status.TheVariants.{Done, Usage, LongPassword, Violation, DirectoryFault, StateFault, InputFault, OutputFault}
+use Rattle.session_lines.specs.declared.end.End.{End}
+use Rattle.session_runs.specs.Runs.{outside_of}
+use Rattle.shell_sessions.specs.Sessions.{ComesShell, ComesGenerated, ComesCommand}
+use Rattle.shell_words.specs.declared.form.Form.{Form}
+use Rattle.shell_words.specs.declared.form.Form.TheVariants.{Trial, TrialGenerate, Create, Info, Passwd, Shell, Generate, Command}
+use Rattle.shell_words.specs.Forms.{joined}
+use Rattle.shell_words.proofs.FormsOf.{IsPlain}
+use Rattle.cryfs_shell.specs.Clauses.{IsRefusedRun, NoFalseAlarm, Keeps, FaultsHappened, IsEmptied}
+use Rattle.cryfs_shell.specs.Doing.{Does}
+use Rattle.cryfs_shell.specs.Kinds.{is_session, opens}
+use Rattle.cryfs_shell.proofs.Statuses.{EndCause}
+use Rattle.cryfs_shell.proofs.Sessions.{session_faults, session_refusal, session_alarm, session_keeps, session_emptied, session_uncalled, session_usage, stays_grown}
+use Rattle.cryfs_shell.proofs.Setups.{created_faults, created_uncalled, created_usage, created_alarm, told_faults, told_refusal, told_alarm, told_keeps, told_uncalled, told_usage, changed_faults, changed_refusal, changed_alarm, changed_keeps, changed_uncalled, changed_usage}
+use Rattle.cryfs_shell.proofs.TrialEnds.{ends_cause, reported_cause, tried_end, generated_end, trial_is_no, trial_faults}
+
+-- the form that was asked for is one
+pub the_form : (asked : Option Form) (form other : Form) → asked ≡ Some form → asked ≡ Some other → form ≡ other
+the_form asked form other e f = some_is form other (sym e ∙ f)
+  where
+    some_is : (form other : Form) → ◌≡◌ {A = Option Form} (Some form) (Some other) → form ≡ other
+    some_is form other h = cc
+
+pub true_is_false : true ≡ false → ⊥
+true_is_false e = absurd (cc)
+
+-- words that begin with `create` open no file system
+pub create_opens_none : (asked : Option Form) → ((form : Form) → asked ≡ Some form → IsPlain form → ⊥) → opens asked ≡ false
+create_opens_none None h = refl
+create_opens_none (Some Trial) h = refl
+create_opens_none (Some (TrialGenerate count)) h = refl
+create_opens_none (Some (Create options)) h = refl
+create_opens_none (Some Info) h = absurd (h Info refl tt)
+create_opens_none (Some Passwd) h = absurd (h Passwd refl tt)
+create_opens_none (Some Shell) h = absurd (h Shell refl tt)
+create_opens_none (Some (Generate count)) h = absurd (h (Generate count) refl tt)
+create_opens_none (Some Command) h = absurd (h Command refl tt)
+
+-- a form that opens none is no session
+pub session_opens : (asked : Option Form) → is_session asked ≡ true → opens asked ≡ true
+session_opens None e = absurd (cc)
+session_opens (Some Trial) e = absurd (cc)
+session_opens (Some (TrialGenerate count)) e = absurd (cc)
+session_opens (Some (Create options)) e = absurd (cc)
+session_opens (Some Info) e = refl
+session_opens (Some Passwd) e = refl
+session_opens (Some Shell) e = refl
+session_opens (Some (Generate count)) e = refl
+session_opens (Some Command) e = refl
+
+-- a run that did nothing
+pub idle_faults : {V : Type 0} {K : Type 0} (trace : V → Option (List Call)) (faults : V → ℕ) (G : KeeperGhosts K) (input output : Stream) (vault : V) (keeper : K) (status : Status)
+    → status ≢ DirectoryFault → status ≢ StateFault → status ≢ InputFault → status ≢ OutputFault → FaultsHappened input output (outside_of trace faults G vault keeper) (outside_of trace faults G vault keeper) status
+idle_faults trace faults G input output vault keeper status d s i o = record {
+  vault_grows = stays_grown (faults vault) (faults vault) refl;
+  keeper_grows = stays_grown (G.faults keeper) (G.faults keeper) refl;
+  directory_fault = λ e. absurd (d e);
+  state_fault = λ e. absurd (s e);
+  input_fault = λ e. absurd (i e);
+  output_fault = λ e. absurd (o e);
+}
+
+module _ {V : Type 0} {K : Type 0} (trace : V → Option (List Call)) (faults : V → ℕ) (G : KeeperGhosts K) (words : List (List ℕ)) (now : Instant) (chance left : Chance) (input output : Stream) (vault : V) (keeper : K) (ended : Ended V K) where
+  shell_causes : (script : Option (List ℕ)) (end : End) (es : List Exchange) → ComesShell input output script end es → EndCause end input output
+  shell_causes script end es came = ends_cause script input output es end came
+
+  generated_causes : (count : ℕ) (script : Option (List ℕ)) (end : End) (es : List Exchange) → ComesGenerated count input output script end es → EndCause end input output
+  generated_causes count script end es came = reported_cause input output _ end came.0.3
+
+  command_causes : (script : Option (List ℕ)) (end : End) (es : List Exchange) → ComesCommand (joined words) input output script end es → EndCause end input output
+  command_causes script end es came = reported_cause input output _ end came.0.2
+
+  abbrev Doing : Form → Type 0
+  Doing form = Does trace faults G words now chance left input output vault keeper ended form
+
+  pub doing_faults : (form : Form) → Doing form → FaultsHappened input output (outside_of trace faults G vault keeper) (outside_of trace faults G ended.vault ended.keeper) ended.status
+  doing_faults Trial d = trial_faults trace faults G input output vault keeper ended d.1 (tried_end now input output ended.status d.0)
+  doing_faults (TrialGenerate count) d = trial_faults trace faults G input output vault keeper ended d.2 (generated_end now count input output ended.status d.0)
+  doing_faults (Create options) d = created_faults trace faults G input output vault keeper ended d.1 options.params options.block_size (drawn chance).0 d.0
+  doing_faults Info d = told_faults trace faults G input output vault keeper ended d.1 d.0
+  doing_faults Passwd d = changed_faults trace faults G input output vault keeper ended d.1 chance left d.0
+  doing_faults Shell d = session_faults trace faults G input output vault keeper ended now (ComesShell input output) shell_causes d
+  doing_faults (Generate count) d = session_faults trace faults G input output vault keeper ended now (ComesGenerated count input output) (generated_causes count) d
+  doing_faults Command d = session_faults trace faults G input output vault keeper ended now (ComesCommand (joined words) input output) command_causes d
+
+  pub doing_refusal : (form : Form) → opens (Some form) ≡ true → Doing form → IsKeptMarked records (G.kept keeper) → IsRefusedRun G.kept output vault keeper ended
+  doing_refusal Trial e d marked = absurd (cc)
+  doing_refusal (TrialGenerate count) e d marked = absurd (cc)
+  doing_refusal (Create options) e d marked = absurd (cc)
+  doing_refusal Info e d marked = told_refusal trace faults G input output vault keeper ended d.1 d.0 marked
+  doing_refusal Passwd e d marked = changed_refusal trace faults G input output vault keeper ended d.1 chance left d.0 marked
+  doing_refusal Shell e d marked = session_refusal trace faults G input output vault keeper ended now (ComesShell input output) shell_causes d marked
+  doing_refusal (Generate count) e d marked = session_refusal trace faults G input output vault keeper ended now (ComesGenerated count input output) (generated_causes count) d marked
+  doing_refusal Command e d marked = session_refusal trace faults G input output vault keeper ended now (ComesCommand (joined words) input output) command_causes d marked
+
+  pub doing_alarm : (form : Form) → Doing form → NoFalseAlarm input (outside_of trace faults G vault keeper) (outside_of trace faults G ended.vault ended.keeper) ended.status
+  doing_alarm Trial d bytes c first f honest e = trial_is_no input output ended.status Violation (tried_end now input output ended.status d.0) e (λ h. h)
+  doing_alarm (TrialGenerate count) d bytes c first f honest e = trial_is_no input output ended.status Violation (generated_end now count input output ended.status d.0) e (λ h. h)
+  doing_alarm (Create options) d bytes c first f honest e = created_alarm trace faults G input output vault keeper ended d.1 options.params options.block_size (drawn chance).0 d.0 e
+  doing_alarm Info d bytes c first f honest e = told_alarm trace faults G input output vault keeper ended d.1 d.0 bytes c first f honest e
+  doing_alarm Passwd d bytes c first f honest e = changed_alarm trace faults G input output vault keeper ended d.1 chance left d.0 bytes c first f honest e
+  doing_alarm Shell d bytes c first f honest e = session_alarm trace faults G input output vault keeper ended now (ComesShell input output) shell_causes d bytes c first f honest e
+  doing_alarm (Generate count) d bytes c first f honest e = session_alarm trace faults G input output vault keeper ended now (ComesGenerated count input output) (generated_causes count) d bytes c first f honest e
+  doing_alarm Command d bytes c first f honest e = session_alarm trace faults G input output vault keeper ended now (ComesCommand (joined words) input output) command_causes d bytes c first f honest e
+
+  pub doing_keeps : (form : Form) → opens (Some form) ≡ true → Doing form → Keeps input (outside_of trace faults G vault keeper) (outside_of trace faults G ended.vault ended.keeper)
+  doing_keeps Trial e d bytes c first f = absurd (cc)
+  doing_keeps (TrialGenerate count) e d bytes c first f = absurd (cc)
+  doing_keeps (Create options) e d bytes c first f = absurd (cc)
+  doing_keeps Info e d bytes c first f = told_keeps trace faults G input output vault keeper ended d.1 d.0 bytes c first f
+  doing_keeps Passwd e d bytes c first f = changed_keeps trace faults G input output vault keeper ended d.1 chance left d.0 bytes c first f
+  doing_keeps Shell e d bytes c first f = session_keeps trace faults G input output vault keeper ended now (ComesShell input output) shell_causes d bytes c first f
+  doing_keeps (Generate count) e d bytes c first f = session_keeps trace faults G input output vault keeper ended now (ComesGenerated count input output) (generated_causes count) d bytes c first f
+  doing_keeps Command e d bytes c first f = session_keeps trace faults G input output vault keeper ended now (ComesCommand (joined words) input output) command_causes d bytes c first f
+
+  pub doing_emptied : (form : Form) → is_session (Some form) ≡ true → Doing form → ended.status ≡ Done → IsEmptied (outside_of trace faults G ended.vault ended.keeper)
+  doing_emptied Trial s d e = absurd (cc)
+  doing_emptied (TrialGenerate count) s d e = absurd (cc)
+  doing_emptied (Create options) s d e = absurd (cc)
+  doing_emptied Info s d e = absurd (cc)
+  doing_emptied Passwd s d e = absurd (cc)
+  doing_emptied Shell s d e = session_emptied trace faults G input output vault keeper ended now (ComesShell input output) shell_causes d e
+  doing_emptied (Generate count) s d e = session_emptied trace faults G input output vault keeper ended now (ComesGenerated count input output) (generated_causes count) d e
+  doing_emptied Command s d e = session_emptied trace faults G input output vault keeper ended now (ComesCommand (joined words) input output) command_causes d e
+
+  pub doing_uncalled : (form : Form) → Doing form → ended.status ≡ LongPassword → AreUncalled vault keeper ended
+  doing_uncalled Trial d e = d.1
+  doing_uncalled (TrialGenerate count) d e = d.2
+  doing_uncalled (Create options) d e = created_uncalled trace faults G input output vault keeper ended d.1 options.params options.block_size (drawn chance).0 d.0 e
+  doing_uncalled Info d e = told_uncalled trace faults G input output vault keeper ended d.1 d.0 e
+  doing_uncalled Passwd d e = changed_uncalled trace faults G input output vault keeper ended d.1 chance left d.0 e
+  doing_uncalled Shell d e = session_uncalled trace faults G input output vault keeper ended now (ComesShell input output) shell_causes d e
+  doing_uncalled (Generate count) d e = session_uncalled trace faults G input output vault keeper ended now (ComesGenerated count input output) (generated_causes count) d e
+  doing_uncalled Command d e = session_uncalled trace faults G input output vault keeper ended now (ComesCommand (joined words) input output) command_causes d e
+
+  pub doing_usage : (form : Form) → Doing form → ended.status ≢ Usage
+  doing_usage Trial d e = trial_is_no input output ended.status Usage (tried_end now input output ended.status d.0) e (λ h. h)
+  doing_usage (TrialGenerate count) d e = trial_is_no input output ended.status Usage (generated_end now count input output ended.status d.0) e (λ h. h)
+  doing_usage (Create options) d e = created_usage trace faults G input output vault keeper ended d.1 options.params options.block_size (drawn chance).0 d.0 e
+  doing_usage Info d e = told_usage trace faults G input output vault keeper ended d.1 d.0 e
+  doing_usage Passwd d e = changed_usage trace faults G input output vault keeper ended d.1 chance left d.0 e
+  doing_usage Shell d e = session_usage trace faults G input output vault keeper ended now (ComesShell input output) shell_causes d e
+  doing_usage (Generate count) d e = session_usage trace faults G input output vault keeper ended now (ComesGenerated count input output) (generated_causes count) d e
+  doing_usage Command d e = session_usage trace faults G input output vault keeper ended now (ComesCommand (joined words) input output) command_causes d e

@@ -1,0 +1,86 @@
+-- Each call is a run of one file system.
+use Rattle.std.proofs.Common.{◌≡◌, ℕ, false, List, [], refl, sym, subst, inl, inr}
+use Rattle.std.specs.declared.option.Option.{Option}
+use Rattle.std.specs.declared.option.Option.TheVariants.{Some}
+use Rattle.rand_core.specs.Stream.{Stream as Chance}
+use Rattle.answers.specs.Sessions.{Exchange}
+use Rattle.cryfs_setup.specs.Info.{Told}
+use Rattle.cryfs_setup.specs.Passwd.{Changed}
+use Rattle.fs_model.specs.Instant.{Instant}
+use Rattle.histories.specs.Histories.{Run, session, quiet}
+use Rattle.line_io.specs.Streams.{Stream}
+use Rattle.outside.specs.Trace.{Call}
+use Rattle.outside.specs.declared.keeper.Keeper.{Ghosts as KeeperGhosts}
+use Rattle.run_openings.specs.Openings.{AreUncalled}
+use Rattle.run_status.specs.declared.ended.Ended.{Ended}
+use Rattle.session_lines.specs.declared.end.End.{End}
+use Rattle.session_runs.specs.Runs.{Outside, outside_of, IsQuiet}
+use Rattle.shell_sessions.specs.Sessions.{Session}
+use Rattle.shell_words.specs.declared.form.Form.{Form}
+use Rattle.shell_words.specs.declared.form.Form.TheVariants.{Trial, TrialGenerate, Create, Info, Passwd, Shell, Generate, Command}
+use Rattle.shell_words.specs.Forms.{form_of, is_create}
+use Rattle.shell_words.proofs.FormsOf.{IsPlain, other_is_other}
+use Rattle.tree_commands.specs.Showing.{ShowsFiles}
+use Rattle.cryfs_shell.specs.Doing.{Does}
+use Rattle.cryfs_shell.specs.History.{Comes, IsRunOf}
+
+-- nothing happened outside
+still : (password : List ℕ) (o : Outside) → IsQuiet ShowsFiles password o o
+still password o = record { stands = λ c tree f. f.stands; marked = λ m. (refl, refl) }
+
+module _ {V : Type 0} {K : Type 0} (trace : V → Option (List Call)) (faults : V → ℕ) (G : KeeperGhosts K) (Came : Option (List ℕ) → End → List Exchange → Type 0) (vault : V) (keeper : K) (ended : Ended V K) where
+  abbrev Before : Outside
+  Before = outside_of trace faults G vault keeper
+
+  abbrev After : Outside
+  After = outside_of trace faults G ended.vault ended.keeper
+
+  abbrev History : Type 0
+  History = (run : Run) × IsRunOf Came Before After run
+
+  quietly : (password : List ℕ) → IsQuiet ShowsFiles password Before After → History
+  quietly password q = (quiet password Before After, record { is_run = q; came = tt; begins = refl; ends = refl })
+
+  idly : AreUncalled vault keeper ended → History
+  idly u =
+      quietly [] (subst (λ (v : V). IsQuiet ShowsFiles [] Before (outside_of trace faults G v ended.keeper)) (sym u.same_vault)
+      (subst (λ (k : K). IsQuiet ShowsFiles [] Before (outside_of trace faults G vault k)) (sym u.same_keeper) (still [] Before)))
+
+  session_history : (now : Instant) (input output : Stream) → Session trace faults G now Came input output vault keeper ended → History
+  session_history now input output (inl u) = idly u.uncalled
+  session_history now input output (inr (password, script, has, inl ((error, u), unfailed, unwritten))) = quietly password u.quiet
+  session_history now input output (inr (password, script, has, inr s)) =
+      (session now password Before After s.closing s.es, record { is_run = s.session; came = (script, s.end, s.came); begins = refl; ends = refl })
+
+  told_history : (input output : Stream) → Told trace faults G input output vault keeper ended → History
+  told_history input output (inl u) = idly u.uncalled
+  told_history input output (inr (password, after, has, unfailed, inl ((error, u), unwritten))) = quietly password u.quiet
+  told_history input output (inr (password, after, has, unfailed, inr t)) = quietly password t.quiet
+
+  changed_history : (chance left : Chance) (input output : Stream) → Changed trace faults G chance left input output vault keeper ended → History
+  changed_history chance left input output (inl (u, same)) = idly u.uncalled
+  changed_history chance left input output (inr (old, new, has, unfailed, inl ((error, u), unwritten, same))) = quietly old u.quiet
+  changed_history chance left input output (inr (old, new, has, unfailed, inr c)) = quietly old c.quiet
+
+-- words that don't begin with `create` are of another form
+pub other_form : (words : List (List ℕ)) (form : Form) → form_of words ≡ Some form → is_create words ≡ false → IsPlain form
+other_form words (Create options) e other = absurd (other_is_other words options other e)
+other_form words Trial e other = tt
+other_form words (TrialGenerate count) e other = tt
+other_form words Info e other = tt
+other_form words Passwd e other = tt
+other_form words Shell e other = tt
+other_form words (Generate count) e other = tt
+other_form words Command e other = tt
+
+pub doing_history : {V : Type 0} {K : Type 0} (trace : V → Option (List Call)) (faults : V → ℕ) (G : KeeperGhosts K) (words : List (List ℕ)) (now : Instant) (chance left : Chance) (input output : Stream) (vault : V) (keeper : K) (ended : Ended V K) (form : Form)
+    → IsPlain form → Does trace faults G words now chance left input output vault keeper ended form
+    → (run : Run) × IsRunOf (Comes words input output form) (outside_of trace faults G vault keeper) (outside_of trace faults G ended.vault ended.keeper) run
+doing_history trace faults G words now chance left input output vault keeper ended Trial p d = idly trace faults G (Comes words input output Trial) vault keeper ended d.1
+doing_history trace faults G words now chance left input output vault keeper ended (TrialGenerate count) p d = idly trace faults G (Comes words input output (TrialGenerate count)) vault keeper ended d.2
+doing_history trace faults G words now chance left input output vault keeper ended (Create options) p d = absurd p
+doing_history trace faults G words now chance left input output vault keeper ended Info p d = told_history trace faults G (Comes words input output Info) vault keeper ended input output d.0
+doing_history trace faults G words now chance left input output vault keeper ended Passwd p d = changed_history trace faults G (Comes words input output Passwd) vault keeper ended chance left input output d.0
+doing_history trace faults G words now chance left input output vault keeper ended Shell p d = session_history trace faults G (Comes words input output Shell) vault keeper ended now input output d
+doing_history trace faults G words now chance left input output vault keeper ended (Generate count) p d = session_history trace faults G (Comes words input output (Generate count)) vault keeper ended now input output d
+doing_history trace faults G words now chance left input output vault keeper ended Command p d = session_history trace faults G (Comes words input output Command) vault keeper ended now input output d

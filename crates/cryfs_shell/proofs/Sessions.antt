@@ -1,0 +1,221 @@
+-- What holds of each run of a session.
+use Rattle.std.proofs.Common.{◌≡◌, ◌≢◌, ◌⊎◌, ◌≤◌, ◌+◌, ◌∙◌, ℕ, Bool, false, List, refl, sym, ap, subst, inl, inr, arith}
+use Rattle.std.specs.declared.option.Option.{Option}
+use Rattle.std.specs.declared.option.Option.TheVariants.{Some}
+use Rattle.answers.specs.Sessions.{Exchange, violated, all_directory_faults, all_state_faults}
+use Rattle.config_file.specs.Settings.{Settings}
+use Rattle.fs_model.specs.Instant.{Instant}
+use Rattle.fs_model.specs.Tree.{Tree}
+use Rattle.integrity_store.specs.Standing.{records}
+use Rattle.line_io.specs.Lines.{first_of, first_line}
+use Rattle.line_io.specs.Streams.{Stream, Untouched}
+use Rattle.mount.specs.Representing.{HasEmptyList}
+use Rattle.mount.specs.declared.error.OpenError.{OpenError}
+use Rattle.mount.proofs.Reading.{loaded_unmarked}
+use Rattle.mount_core.specs.Standing.{IsKeptMarked}
+use Rattle.outside.specs.Causes.{RoseBy}
+use Rattle.outside.specs.Trace.{Call}
+use Rattle.outside.specs.declared.keeper.Keeper.{Ghosts as KeeperGhosts}
+use Rattle.passwords.specs.Passwords.{InputFailed, IsNextPassword, PasswordUnread, PasswordsUnread}
+use Rattle.run_openings.specs.Openings.{AreUncalled, IsUnread, IsUnopened}
+use Rattle.run_openings.proofs.Unopened.{caused}
+use Rattle.run_status.specs.declared.ended.Ended.{Ended}
+use Rattle.run_status.specs.declared.status.Status.{Status}
+use Rattle.run_status.specs.declared.status.Status.TheVariants.{Done, Usage, LongPassword, Violation, DirectoryFault, StateFault, InputFault, OutputFault, Memory}
+use Rattle.session_lines.specs.declared.end.End.{End}
+use Rattle.session_runs.specs.Runs.{Outside, outside_of, StandsFor, IsFounded, directory_fault, state_fault}
+use Rattle.session_runs.proofs.Whole.{unviolated}
+use Rattle.shell_sessions.specs.Sessions.{Session, IsServed}
+use Rattle.shell_sessions.specs.Statuses.{session_status}
+use Rattle.tree_commands.specs.Showing.{ShowsFiles}
+use Rattle.cryfs_shell.specs.Clauses.{IsRefusal, IsRefusedRun, IsFoundedRun, NoFalseAlarm, Keeps, FaultsHappened, IsEmptied}
+use Rattle.cryfs_shell.proofs.Statuses.{EndCause, opening_is_no, session_is_no, stops_is_refusal, session_directory, session_state, session_input, session_output, done_is_calm, done_is_closed, calm_is_no_alarm}
+
+-- the password of a told input is its first line
+next_is_first : (bytes password : List ℕ) (script : Option (List ℕ)) → IsNextPassword (Some bytes) password script → first_line bytes ≡ password
+next_is_first bytes password script (inl line) = ap first_of line.1
+next_is_first bytes password script (inr none) = ap first_line none.0 ∙ sym none.1
+
+pub password_is : (old : Option (List ℕ)) (bytes password : List ℕ) (script : Option (List ℕ)) → old ≡ Some bytes → IsNextPassword old password script → first_line bytes ≡ password
+password_is old bytes password script told next = next_is_first bytes password script (subst (λ (x : Option (List ℕ)). IsNextPassword x password script) told next)
+
+-- a status of a run that read no password
+abbrev pub IsUnreadStatus : Status → Type 0
+IsUnreadStatus LongPassword = Unit {0}
+IsUnreadStatus InputFault = Unit {0}
+IsUnreadStatus Memory = Unit {0}
+IsUnreadStatus status = ⊥
+
+-- why no password was read: the status is one of those, and names the input's fault only where it failed
+pub record UnreadCause (input : Stream) (status : Status) : Type 0 where
+  pub unread : IsUnreadStatus status
+  pub failed : status ≡ InputFault → InputFailed input
+
+pub one_unread : (input : Stream) (status : Status) → PasswordUnread input status → UnreadCause input status
+one_unread input LongPassword u = record { unread = tt; failed = λ e. absurd (cc) }
+one_unread input InputFault u = record { unread = tt; failed = λ e. u.4 }
+one_unread input Memory u = record { unread = tt; failed = λ e. absurd (cc) }
+one_unread input status u = absurd u
+
+pub two_unread : (input : Stream) (status : Status) → PasswordsUnread input status → UnreadCause input status
+two_unread input LongPassword u = record { unread = tt; failed = λ e. absurd (cc) }
+two_unread input InputFault u = record { unread = tt; failed = λ e. u.4 }
+two_unread input Memory u = record { unread = tt; failed = λ e. absurd (cc) }
+two_unread input status u = absurd u
+
+unread_refuses : (status : Status) → IsUnreadStatus status → IsRefusal status
+unread_refuses LongPassword u = tt
+unread_refuses InputFault u = tt
+unread_refuses Memory u = tt
+unread_refuses status u = absurd u
+
+pub unread_is_no : (status other : Status) → IsUnreadStatus status → status ≡ other → (IsUnreadStatus other → ⊥) → ⊥
+unread_is_no status other u e h = h (subst IsUnreadStatus e u)
+
+-- counts that don't fall
+pub grown : (a b : ℕ) → a ≤ b → RoseBy 0 a b
+grown a b h = omega arith
+
+pub stays_grown : (a b : ℕ) → b ≡ a → RoseBy 0 a b
+stays_grown a b e = omega arith
+
+rose_grown : (n a b : ℕ) → RoseBy n a b → RoseBy 0 a b
+rose_grown n a b r = omega arith
+
+module _ {V : Type 0} {K : Type 0} (trace : V → Option (List Call)) (faults : V → ℕ) (G : KeeperGhosts K) (input output : Stream) (vault : V) (keeper : K) (ended : Ended V K) where
+  abbrev Before : Outside
+  Before = outside_of trace faults G vault keeper
+
+  abbrev After : Outside
+  After = outside_of trace faults G ended.vault ended.keeper
+
+  -- ---- where no password was read
+
+  module _ (Cause : Status → Type 0) (cause : (status : Status) → Cause status → UnreadCause input status) (u : IsUnread Cause output vault keeper ended) where
+    abbrev unread : UnreadCause input ended.status
+    unread = cause ended.status u.cause
+
+    pub unread_faults : FaultsHappened input output Before After ended.status
+    unread_faults = record {
+      vault_grows = stays_grown (faults vault) (faults ended.vault) (ap faults u.uncalled.same_vault);
+      keeper_grows = stays_grown (G.faults keeper) (G.faults ended.keeper) (ap G.faults u.uncalled.same_keeper);
+      directory_fault = λ e. absurd (unread_is_no ended.status DirectoryFault unread.unread e (λ h. h));
+      state_fault = λ e. absurd (unread_is_no ended.status StateFault unread.unread e (λ h. h));
+      input_fault = unread.failed;
+      output_fault = λ e. absurd (unread_is_no ended.status OutputFault unread.unread e (λ h. h));
+    }
+
+    pub unread_refusal : IsRefusedRun G.kept output vault keeper ended
+    unread_refusal = record { status = unread_refuses ended.status unread.unread; uncalled = u.uncalled.same_vault; stays = ap G.kept u.uncalled.same_keeper; unwritten = u.unwritten }
+
+    pub unread_keeps : Keeps input Before After
+    unread_keeps bytes c first f =
+        inr (
+          first,
+          subst (λ (v : V). StandsFor ShowsFiles c first (outside_of trace faults G v ended.keeper)) (sym u.uncalled.same_vault)
+              (subst (λ (k : K). StandsFor ShowsFiles c first (outside_of trace faults G vault k)) (sym u.uncalled.same_keeper) f.founded.stands),
+        )
+
+  -- ---- where no file system was opened
+
+  module _ (password : List ℕ) (script : Option (List ℕ)) (next : IsNextPassword input.old password script) where
+    pub founded_under : (bytes : List ℕ) (c : Settings) (first : Tree) → IsFoundedRun input bytes c first Before After → IsFounded ShowsFiles password c first Before After
+    founded_under bytes c first f =
+        subst (λ (x : List ℕ). IsFounded ShowsFiles x c first Before After) (password_is input.old bytes password script f.told next) f.founded
+
+    module _ (error : OpenError) (u : IsUnopened trace faults G password vault keeper ended error) where
+      pub unopened_faults : FaultsHappened input output Before After ended.status
+      unopened_faults =
+          let k = caused trace faults G password vault keeper (record { error = error; vault = ended.vault; keeper = ended.keeper }) u.unopened ended u.status refl refl in
+          record {
+            vault_grows = grown (faults vault) (faults ended.vault) k.vault_grows;
+            keeper_grows = grown (G.faults keeper) (G.faults ended.keeper) k.keeper_grows;
+            directory_fault = k.directory_fault;
+            state_fault = k.state_fault;
+            input_fault = λ e. absurd (opening_is_no error ended.status InputFault u.status e (λ h. h));
+            output_fault = λ e. absurd (opening_is_no error ended.status OutputFault u.status e (λ h. h));
+          }
+
+      pub unopened_refusal : Untouched output → IsKeptMarked records (G.kept keeper) → IsRefusedRun G.kept output vault keeper ended
+      unopened_refusal unwritten marked =
+          let m = u.marked marked in
+          record { status = subst IsRefusal (sym u.status) (stops_is_refusal error m.2); uncalled = m.0; stays = m.1; unwritten = unwritten }
+
+      pub unopened_alarm : NoFalseAlarm input Before After ended.status
+      unopened_alarm bytes c first f honest e = u.no_false_alarm c first (founded_under bytes c first f) e
+
+      pub unopened_keeps : Keeps input Before After
+      unopened_keeps bytes c first f = inr (first, u.quiet.stands c first (founded_under bytes c first f))
+
+    -- ---- where there are exchanges
+
+    module _ (now : Instant) (Came : End → List Exchange → Type 0) (causes : (end : End) (es : List Exchange) → Came end es → EndCause end input output) where
+      served_faults : IsServed trace faults G now password Came vault keeper ended → FaultsHappened input output Before After ended.status
+      served_faults s = record {
+        vault_grows = rose_grown (all_directory_faults s.es + directory_fault s.closing) (faults vault) (faults ended.vault) s.session.directory_faults_happened;
+        keeper_grows = rose_grown (all_state_faults s.es + state_fault s.closing) (G.faults keeper) (G.faults ended.keeper) s.session.state_faults_happened;
+        directory_fault = λ e. session_directory (violated s.es) s.end s.closing (all_directory_faults s.es) (faults vault) (faults ended.vault) (sym s.status ∙ e) s.session.directory_faults_happened;
+        state_fault = λ e. session_state (violated s.es) s.end s.closing (all_state_faults s.es) (G.faults keeper) (G.faults ended.keeper) (sym s.status ∙ e) s.session.state_faults_happened;
+        input_fault = λ e. session_input (violated s.es) s.end s.closing input output (sym s.status ∙ e) (causes s.end s.es s.came);
+        output_fault = λ e. session_output (violated s.es) s.end s.closing input output (sym s.status ∙ e) (causes s.end s.es s.came);
+      }
+
+      served_unmarked : IsServed trace faults G now password Came vault keeper ended → IsKeptMarked records (G.kept keeper) → ⊥
+      served_unmarked s marked = loaded_unmarked (G.kept keeper) s.session.attached.3.state s.session.attached.3.list s.session.attached.3.loaded marked
+
+      served_alarm : IsServed trace faults G now password Came vault keeper ended → NoFalseAlarm input Before After ended.status
+      served_alarm s bytes c first f honest e =
+          let a = s.session.founded c first (founded_under bytes c first f) in
+          let calm : violated s.es ≡ false = unviolated s.es (a.no_false_alarm honest) in
+          calm_is_no_alarm s.end s.closing (subst (λ (b : Bool). session_status b s.end s.closing ≡ Violation) calm (sym s.status ∙ e))
+
+      served_keeps : IsServed trace faults G now password Came vault keeper ended → Keeps input Before After
+      served_keeps s bytes c first f =
+          elim (s.session.founded c first (founded_under bytes c first f)).kept as (λ _. IsKeptMarked records After.kept ⊎ ((tree : Tree) × StandsFor ShowsFiles c tree After)) [
+            | inl m ↦ inl m.1
+            | inr k ↦ inr (k.0, k.2)
+          ]
+
+      served_emptied : IsServed trace faults G now password Came vault keeper ended → ended.status ≡ Done → IsEmptied After
+      served_emptied s e =
+          let done : session_status (violated s.es) s.end s.closing ≡ Done = sym s.status ∙ e in
+          done_is_closed (violated s.es) s.end s.closing (HasEmptyList (G.kept ended.keeper)) done (s.session.emptied (done_is_calm (violated s.es) s.end s.closing done))
+
+  -- ---- together
+
+  module _ (now : Instant) (Came : Option (List ℕ) → End → List Exchange → Type 0) (causes : (script : Option (List ℕ)) (end : End) (es : List Exchange) → Came script end es → EndCause end input output) where
+    pub session_faults : Session trace faults G now Came input output vault keeper ended → FaultsHappened input output Before After ended.status
+    session_faults (inl u) = unread_faults (PasswordUnread input) (one_unread input) u
+    session_faults (inr (password, script, has, inl ((error, u), unfailed, unwritten))) = unopened_faults password script has.is_next error u
+    session_faults (inr (password, script, has, inr s)) = served_faults password script has.is_next now (Came script) (causes script) s
+
+    pub session_refusal : Session trace faults G now Came input output vault keeper ended → IsKeptMarked records (G.kept keeper) → IsRefusedRun G.kept output vault keeper ended
+    session_refusal (inl u) marked = unread_refusal (PasswordUnread input) (one_unread input) u
+    session_refusal (inr (password, script, has, inl ((error, u), unfailed, unwritten))) marked = unopened_refusal password script has.is_next error u unwritten marked
+    session_refusal (inr (password, script, has, inr s)) marked = absurd (served_unmarked password script has.is_next now (Came script) (causes script) s marked)
+
+    pub session_alarm : Session trace faults G now Came input output vault keeper ended → NoFalseAlarm input Before After ended.status
+    session_alarm (inl u) bytes c first f honest e = unread_is_no ended.status Violation (one_unread input ended.status u.cause).unread e (λ h. h)
+    session_alarm (inr (password, script, has, inl ((error, u), unfailed, unwritten))) bytes c first f honest e = unopened_alarm password script has.is_next error u bytes c first f honest e
+    session_alarm (inr (password, script, has, inr s)) bytes c first f honest e = served_alarm password script has.is_next now (Came script) (causes script) s bytes c first f honest e
+
+    pub session_keeps : Session trace faults G now Came input output vault keeper ended → Keeps input Before After
+    session_keeps (inl u) bytes c first f = unread_keeps (PasswordUnread input) (one_unread input) u bytes c first f
+    session_keeps (inr (password, script, has, inl ((error, u), unfailed, unwritten))) bytes c first f = unopened_keeps password script has.is_next error u bytes c first f
+    session_keeps (inr (password, script, has, inr s)) bytes c first f = served_keeps password script has.is_next now (Came script) (causes script) s bytes c first f
+
+    pub session_emptied : Session trace faults G now Came input output vault keeper ended → ended.status ≡ Done → IsEmptied After
+    session_emptied (inl u) e = absurd (unread_is_no ended.status Done (one_unread input ended.status u.cause).unread e (λ h. h))
+    session_emptied (inr (password, script, has, inl ((error, u), unfailed, unwritten))) e = absurd (opening_is_no error ended.status Done u.status e (λ h. h))
+    session_emptied (inr (password, script, has, inr s)) e = served_emptied password script has.is_next now (Came script) (causes script) s e
+
+    -- a session whose password line passes its limit called neither
+    pub session_uncalled : Session trace faults G now Came input output vault keeper ended → ended.status ≡ LongPassword → AreUncalled vault keeper ended
+    session_uncalled (inl u) e = u.uncalled
+    session_uncalled (inr (password, script, has, inl ((error, u), unfailed, unwritten))) e = absurd (opening_is_no error ended.status LongPassword u.status e (λ h. h))
+    session_uncalled (inr (password, script, has, inr s)) e = absurd (session_is_no (violated s.es) s.end s.closing ended.status LongPassword s.status e (λ h. h))
+
+    pub session_usage : Session trace faults G now Came input output vault keeper ended → ended.status ≢ Usage
+    session_usage (inl u) e = unread_is_no ended.status Usage (one_unread input ended.status u.cause).unread e (λ h. h)
+    session_usage (inr (password, script, has, inl ((error, u), unfailed, unwritten))) e = opening_is_no error ended.status Usage u.status e (λ h. h)
+    session_usage (inr (password, script, has, inr s)) e = session_is_no (violated s.es) s.end s.closing ended.status Usage s.status e (λ h. h)

@@ -1,0 +1,37 @@
+-- What the words make a run do.
+use Rattle.std.specs.Prelude.{◌≡◌, ◌⊎◌, ℕ, Bool, true, false, List}
+use Rattle.std.specs.declared.option.Option.{Option}
+use Rattle.std.specs.declared.option.Option.TheVariants.{None, Some}
+use Rattle.run_status.specs.declared.status.Status.{Status}
+use Rattle.run_status.specs.declared.status.Status.TheVariants.{Usage, Memory}
+use Rattle.shell_words.specs.declared.form.Form.{Form}
+use Rattle.shell_words.specs.declared.form.Form.TheVariants.{Trial, TrialGenerate, Info, Passwd, Shell, Generate, Command}
+use Rattle.shell_words.specs.Forms.{is_create}
+
+-- words of no form are refused; where they begin with `create`, memory may be refused while they are read
+abbrev pub IsRefused : List (List ℕ) → Status → Type 0
+IsRefused words status = (status ≡ Usage) ⊎ ((is_create words ≡ true) × (status ≡ Memory))
+
+-- a session is asked
+abbrev pub is_session : Option Form → Bool
+is_session (Some Shell) = true
+is_session (Some (Generate count)) = true
+is_session (Some Command) = true
+is_session _ = false
+
+-- a file system is opened under a password
+abbrev pub opens : Option Form → Bool
+opens (Some Info) = true
+opens (Some Passwd) = true
+opens (Some Shell) = true
+opens (Some (Generate count)) = true
+opens (Some Command) = true
+opens _ = false
+
+-- random bytes may be taken
+abbrev pub draws : Option Form → Bool
+draws None = false
+draws (Some Trial) = false
+draws (Some (TrialGenerate count)) = false
+draws (Some Info) = false
+draws _ = true

@@ -1,0 +1,60 @@
+// What each session begins with.
+ghost use Rattle.std.specs.Prelude.{◌≡◌, ◌≤◌, List, ℕ, [], IfOk, IfErr, length, vec_capacity};
+ghost use Rattle.std.specs.declared.option.Option.TheVariants.{Some};
+ghost use Rattle.line_io.specs.Streams.{stream_of};
+ghost use Rattle.passwords.specs.Passwords.{PasswordRead, PasswordUnread};
+
+use answers::TextBuffer;
+use line_io::{LineReader, MAX_LINE};
+use outside::Source;
+use passwords::read_password;
+use run_status::Status;
+use std::alloc::Global;
+
+/// The password, the reader that has taken its line, and the memory for texts.
+pub(crate) struct Beginning {
+    pub(crate) password: Vec<u8>,
+    pub(crate) reader: LineReader,
+    pub(crate) text: TextBuffer,
+}
+
+/// Takes the memory for lines and texts, and then reads the password line of the input.
+pub(crate) fn begin<I: Source>(alloc: Global, input: &mut I) -> Result<Beginning, Status>
+    ensures read { IfOk result (λ b. (taken : List ℕ)
+        × PasswordRead (stream_of I.rest I.faults input.old input.new) b.reader taken b.password.items) }
+    ensures unread { IfErr result (λ status. PasswordUnread (stream_of I.rest I.faults input.old input.new) status) }
+    ensures grows { I.faults input.old ≤ I.faults input.new }
+{
+    let Ok(text) = TextBuffer::new(alloc) else {
+        return Err(Status::Memory);
+    };
+    let Ok(mut password) = Vec::with_capacity(alloc, MAX_LINE) else {
+        return Err(Status::Memory);
+    };
+    let reader = match read_password(alloc, input) {
+        Ok(reader) => reader,
+        Err(status) => return Err(status),
+    };
+    copy_line(&reader, &mut password);
+    Ok(Beginning {
+        password,
+        reader,
+        text,
+    })
+}
+
+/// Copies the line that was read, into memory taken beforehand.
+fn copy_line(reader: &LineReader, copy: &mut Vec<u8>)
+    requires held { (line : List ℕ) × (reader.now.line ≡ Some line) × (length line ≤ MAX_LINE) }
+    requires empty { copy.old.items ≡ [] }
+    requires room { MAX_LINE ≤ vec_capacity copy.old }
+    ensures { reader.now.line ≡ Some copy.new.items }
+{
+    let Some(line) = reader.line() else {
+        unreachable!()
+    };
+    match copy.extend_from_slice(line) {
+        Ok(()) => {}
+        Err(_) => unreachable!(),
+    }
+}

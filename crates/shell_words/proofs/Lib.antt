@@ -1,0 +1,2 @@
+pub mod FormsOf
+pub mod Verbs

@@ -1,0 +1,6 @@
+use Rattle.std.proofs.Common.{◌∙◌}
+use Rattle.shell_words.proofs.Verbs.{named}
+use Rattle.shell_words.proofs.words.is_command.Goals as goal
+
+pub returns : goal.returns
+returns c = c.is_among.ensures ∙ named c.args.word.now

@@ -1,0 +1,24 @@
+// What the program can be asked for.
+
+use create_options::CreateOptions;
+
+/// What the words ask for.
+#[derive(Clone, Copy)]
+pub enum Form {
+    /// The lines of the input on a new plain tree.
+    Trial,
+    /// So many generated commands on a new plain tree.
+    TrialGenerate(u64),
+    /// A new file system.
+    Create(CreateOptions),
+    /// What a file system is made of.
+    Info,
+    /// Another password.
+    Passwd,
+    /// A session of the lines of the input.
+    Shell,
+    /// A session of so many generated commands.
+    Generate(u64),
+    /// A session of the one line that the words are.
+    Command,
+}
