@@ -1,0 +1,28 @@
+-- A call of `run` from its clauses, form by form.
+use Rattle.std.proofs.Common.{◌≡◌, ℕ, List, refl}
+use Rattle.std.specs.declared.option.Option.{Option}
+use Rattle.std.specs.declared.option.Option.TheVariants.{None, Some}
+use Rattle.create_options.specs.declared.options.CreateOptions.{CreateOptions}
+use Rattle.outside.specs.Trace.{Call}
+use Rattle.outside.specs.declared.keeper.Keeper.{Ghosts as KeeperGhosts}
+use Rattle.run_status.specs.declared.ended.Ended.{Ended}
+use Rattle.shell_words.specs.declared.form.Form.{Form}
+use Rattle.shell_words.specs.declared.form.Form.TheVariants.{Trial, TrialGenerate, Create, Info, Passwd, Shell, Generate, Command}
+use Rattle.run_histories.specs.Calls.{RunCall, Did}
+
+module _ {V : Type 0} {K : Type 0} (trace : V → Option (List Call)) (faults : V → ℕ) (G : KeeperGhosts K) (call : RunCall) (vault : V) (keeper : K) (ended : Ended V K) where
+  abbrev Doing : Option Form → Type 0
+  Doing asked = Did trace faults G call vault keeper ended asked
+
+  pub did : (asked : Option Form) → (asked ≡ None → Doing None) → (asked ≡ Some Trial → Doing (Some Trial)) → ((count : ℕ) → asked ≡ Some (TrialGenerate count) → Doing (Some (TrialGenerate count)))
+      → ((options : CreateOptions) → asked ≡ Some (Create options) → Doing (Some (Create options))) → (asked ≡ Some Info → Doing (Some Info)) → (asked ≡ Some Passwd → Doing (Some Passwd))
+      → (asked ≡ Some Shell → Doing (Some Shell)) → ((count : ℕ) → asked ≡ Some (Generate count) → Doing (Some (Generate count))) → (asked ≡ Some Command → Doing (Some Command)) → Doing asked
+  did None none trial trial_generate created told changed shell generate command = none refl
+  did (Some Trial) none trial trial_generate created told changed shell generate command = trial refl
+  did (Some (TrialGenerate count)) none trial trial_generate created told changed shell generate command = trial_generate count refl
+  did (Some (Create options)) none trial trial_generate created told changed shell generate command = created options refl
+  did (Some Info) none trial trial_generate created told changed shell generate command = told refl
+  did (Some Passwd) none trial trial_generate created told changed shell generate command = changed refl
+  did (Some Shell) none trial trial_generate created told changed shell generate command = shell refl
+  did (Some (Generate count)) none trial trial_generate created told changed shell generate command = generate count refl
+  did (Some Command) none trial trial_generate created told changed shell generate command = command refl

@@ -1,0 +1,38 @@
+use Rattle.std.proofs.Common.{map, refl}
+use Rattle.std.specs.String.{string_bytes}
+use Rattle.line_io.specs.Streams.{stream_of}
+use Rattle.session_runs.specs.Runs.{outside_of}
+use Rattle.shell_words.specs.Forms.{form_of}
+use Rattle.run_histories.specs.Calls.{RunCall}
+use Rattle.run_histories.proofs.Called.{did}
+use Rattle.run_histories.proofs.call.run_call.Goals as goal
+
+pub returns : goal.returns
+returns g c =
+    let r = c.run in
+    let e = r.ensures in
+    let words = map string_bytes c.args.words.now in
+    let call : RunCall = record {
+      words = words;
+      now = c.args.now;
+      chance = g.R.Rng.stream c.args.chance.now;
+      left = g.R.Rng.stream r.new.chance;
+      input = stream_of g.I.Source.rest g.I.Source.faults c.args.input.now r.new.input;
+      output = stream_of g.O.Sink.written g.O.Sink.faults c.args.output.now r.new.output;
+      before = outside_of g.V.Vault.trace g.V.Vault.faults g.K.Keeper c.args.vault c.args.keeper;
+      after = outside_of g.V.Vault.trace g.V.Vault.faults g.K.Keeper r.result.vault r.result.keeper;
+      status = r.result.status;
+    } in
+    record {
+      vault = c.args.vault;
+      keeper = c.args.keeper;
+      ended = r.result;
+      begins = refl;
+      ends = refl;
+      status = refl;
+      did = did g.V.Vault.trace g.V.Vault.faults g.K.Keeper call c.args.vault c.args.keeper r.result (form_of words)
+          (λ n. (e.refused n, (e.untouched n).0, (e.untouched n).1, (e.untouched n).2, (e.untouched n).3)) e.trial e.trial_generate e.created e.told e.changed e.session e.generate e.command;
+      refusal = e.refusal;
+      no_false_alarm = e.no_false_alarm;
+      faults_happened = e.faults_happened;
+    }

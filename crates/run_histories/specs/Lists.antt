@@ -1,0 +1,114 @@
+-- Any list of calls of `run`, one after another. The newest stands first.
+use Rattle.std.specs.Prelude.{◌≡◌, ◌≢◌, ◌⊎◌, ℕ, true, false, Bool, List, [], ◌∷◌, is_some}
+use Rattle.std.specs.declared.option.Option.{Option}
+use Rattle.std.specs.declared.option.Option.TheVariants.{Some}
+use Rattle.answers.specs.Sessions.{Exchange, violated}
+use Rattle.config_file.specs.Settings.{Settings}
+use Rattle.create_options.specs.declared.options.CreateOptions.{CreateOptions}
+use Rattle.fs_model.specs.Tree.{Tree, empty_tree}
+use Rattle.integrity_store.specs.Standing.{records}
+use Rattle.line_io.specs.Lines.{first_line}
+use Rattle.line_io.specs.Streams.{Untouched}
+use Rattle.mount.specs.Drawing.{drawn}
+use Rattle.mount.specs.Making.{IsUnchanged, new_settings}
+use Rattle.mount_core.specs.Standing.{IsKeptMarked}
+use Rattle.outside.specs.Trace.{Call}
+use Rattle.outside.specs.declared.keeper.Keeper.{Ghosts as KeeperGhosts}
+use Rattle.run_openings.specs.Openings.{HasPassword}
+use Rattle.run_status.specs.declared.status.Status.TheVariants.{Done}
+use Rattle.session_lines.specs.declared.end.End.{End}
+use Rattle.session_runs.specs.Runs.{Outside, StandsFor}
+use Rattle.shell_sessions.specs.Sessions.{ComesShell, ComesGenerated, ComesCommand}
+use Rattle.shell_sessions.specs.Statuses.{session_status}
+use Rattle.shell_words.specs.declared.form.Form.{Form}
+use Rattle.shell_words.specs.declared.form.Form.TheVariants.{Create, Shell, Generate, Command}
+use Rattle.shell_words.specs.Forms.{form_of, joined}
+use Rattle.tree_commands.specs.Showing.{ShowsFiles}
+use Rattle.histories.specs.Histories.{Run, session, quiet, before_of, after_of, IsRun, IsUnforgedRun, GoesOnFrom, end_of, Follow, EndsWith}
+use Rattle.cryfs_shell.specs.Clauses.{IsRefusal, NoFalseAlarm, FaultsHappened}
+use Rattle.cryfs_shell.specs.Kinds.{opens, is_session}
+use Rattle.run_histories.specs.Calls.{RunCall, IsRunCall}
+
+abbrev pub password_of : Run → List ℕ
+password_of (session now password before after closing es) = password
+password_of (quiet password before after) = password
+
+-- how the exchanges of a session come from the input after the password line, and are written
+abbrev pub Comes : RunCall → Option Form → Option (List ℕ) → End → List Exchange → Type 0
+Comes call (Some Shell) = ComesShell call.input call.output
+Comes call (Some (Generate count)) = ComesGenerated count call.input call.output
+Comes call (Some Command) = ComesCommand (joined call.words) call.input call.output
+Comes call _ = λ script end es. ⊥
+
+-- in a session the exchanges came so, and the status is theirs; in a run of no lines the words ask for none, or nothing was written and the status isn't Done
+abbrev pub Answered : RunCall → Option Form → Run → Type 0
+Answered call asked (session now password before after closing es) =
+    (now ≡ call.now) × (script : Option (List ℕ)) × HasPassword call.input password script
+    × (end : End) × Comes call asked script end es × (call.status ≡ session_status (violated es) end closing)
+Answered call asked (quiet password before after) = is_session asked ≡ true → Untouched call.output × (call.status ≢ Done)
+
+-- the call is this run
+pub record IsRunOf (call : RunCall) (run : Run) : Type 0 where
+  pub is_run : IsRun ShowsFiles run
+  pub begins : before_of run ≡ call.before
+  pub ends : after_of run ≡ call.after
+  -- its password is the first line of the input, where that is told
+  pub password : (bytes : List ℕ) → call.input.old ≡ Some bytes → password_of run ≡ first_line bytes
+  pub answered : Answered call (form_of call.words) run
+  -- over a marked record the status refuses, and nothing is written
+  pub refused : IsKeptMarked records call.before.kept → IsRefusal call.status × Untouched call.output
+  -- where the directory gave what was last written, it is no violation, and it names only faults that happened
+  pub no_false_alarm : NoFalseAlarm call.input call.before call.after call.status
+  pub faults_happened : FaultsHappened call.input call.output call.before call.after call.status
+
+-- the words are those of `create`
+abbrev pub creates : Option Form → Bool
+creates (Some (Create options)) = true
+creates asked = false
+
+-- A call that opens a file system is a run. Any other leaves what is kept and the calls on the directory, `create` where something is kept.
+abbrev pub OneRun : {V : Type 0} → {K : Type 0} → (V → Option (List Call)) → (V → ℕ) → KeeperGhosts K → Type 0
+OneRun trace faults G = (call : RunCall) → IsRunCall trace faults G call
+    → (opens (form_of call.words) ≡ true → (run : Run) × IsRunOf call run)
+    × (opens (form_of call.words) ≡ false → (creates (form_of call.words) ≡ true → is_some call.before.kept ≡ true) → GoesOnFrom call.before call.after)
+
+-- where the calls left all
+abbrev pub left_by : Outside → List RunCall → Outside
+left_by start [] = start
+left_by start (call ∷ calls) = call.after
+
+-- each goes on from what the one before it left
+abbrev pub AreRunCalls : {V : Type 0} → {K : Type 0} → (V → Option (List Call)) → (V → ℕ) → KeeperGhosts K → Outside → List RunCall → Type 0
+AreRunCalls trace faults G start [] = Unit {0}
+AreRunCalls trace faults G start (call ∷ calls) = IsRunCall trace faults G call × GoesOnFrom (left_by start calls) call.before × AreRunCalls trace faults G start calls
+
+-- the runs are those calls that open a file system, in their order
+abbrev pub AreRunsOf : List RunCall → List Run → Type 0
+AreRunsOf [] [] = Unit {0}
+AreRunsOf [] (run ∷ runs) = ⊥
+AreRunsOf (call ∷ calls) [] = (opens (form_of call.words) ≡ false) × AreRunsOf calls []
+AreRunsOf (call ∷ calls) (run ∷ runs) =
+    ((opens (form_of call.words) ≡ true) × IsRunOf call run × AreRunsOf calls runs)
+    ⊎ ((opens (form_of call.words) ≡ false) × AreRunsOf calls (run ∷ runs))
+
+-- nothing that opens was forged in any of them
+abbrev pub AreUnforged : Settings → List Run → Type 0
+AreUnforged c [] = Unit {0}
+AreUnforged c (run ∷ runs) = IsUnforgedRun c run × AreUnforged c runs
+
+-- Where nothing that opens was forged, there are trees: each run serves from the tree that the one before it left, or after a violation is refused. At last the last tree is kept,
+-- or after a violation a marked record, and the calls left just that.
+abbrev pub CallsCompose : Settings → Tree → Outside → List RunCall → List Run → Type 0
+CallsCompose c first start calls runs = AreUnforged c runs
+    → (trees : List Tree) × Follow ShowsFiles c first runs trees × EndsWith ShowsFiles c first start runs trees × GoesOnFrom (end_of start runs) (left_by start calls)
+
+-- whatever the directory returns, loses or refuses in any list of calls, from any tree on that is kept
+abbrev pub EveryListOfRuns : {V : Type 0} → {K : Type 0} → (V → Option (List Call)) → (V → ℕ) → KeeperGhosts K → Type 0
+EveryListOfRuns trace faults G = (start : Outside) (calls : List RunCall) → AreRunCalls trace faults G start calls
+    → (runs : List Run) × AreRunsOf calls runs × ((c : Settings) (first : Tree) → StandsFor ShowsFiles c first start → CallsCompose c first start calls runs)
+
+-- and from a `create` on that ended with Done over a directory that nothing was put in
+abbrev pub EveryListFromCreate : {V : Type 0} → {K : Type 0} → (V → Option (List Call)) → (V → ℕ) → KeeperGhosts K → Type 0
+EveryListFromCreate trace faults G = (made : RunCall) (options : CreateOptions) (calls : List RunCall) → IsRunCall trace faults G made → form_of made.words ≡ Some (Create options)
+    → made.status ≡ Done → IsUnchanged made.before.calls → AreRunCalls trace faults G made.after calls
+    → (runs : List Run) × AreRunsOf calls runs × CallsCompose (new_settings options.block_size (drawn made.chance).0) empty_tree made.after calls runs

@@ -1,0 +1,38 @@
+// The program's call as plain values.
+ghost use Rattle.std.specs.Prelude.{map};
+ghost use Rattle.std.specs.String.{string_bytes};
+ghost use Rattle.line_io.specs.Streams.{stream_of};
+ghost use Rattle.session_runs.specs.Runs.{outside_of};
+ghost use Rattle.run_histories.specs.Calls.{IsRunCall};
+
+use cryfs_shell::{Ended, run};
+use fs_model::Moment;
+use outside::{Keeper, Sink, Source, Vault};
+use rand_core::Rng;
+use std::alloc::Global;
+
+/// Calls `run`: so each call of it is one of those that the laws speak of.
+pub fn run_call<I: Source, O: Sink, V: Vault, K: Keeper, R: Rng>(
+    alloc: Global,
+    words: &[String],
+    now: Moment,
+    input: &mut I,
+    output: &mut O,
+    vault: V,
+    keeper: K,
+    chance: &mut R,
+) -> Ended<V, K>
+    ensures { IsRunCall V.trace V.faults K.Keeper (record {
+      words = map string_bytes words.now;
+      now = now;
+      chance = R.stream chance.old;
+      left = R.stream chance.new;
+      input = stream_of I.rest I.faults input.old input.new;
+      output = stream_of O.written O.faults output.old output.new;
+      before = outside_of V.trace V.faults K.Keeper vault keeper;
+      after = outside_of V.trace V.faults K.Keeper result.vault result.keeper;
+      status = result.status;
+    }) }
+{
+    run(alloc, words, now, input, output, vault, keeper, chance)
+}
