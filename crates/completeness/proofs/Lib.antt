@@ -1,0 +1,6 @@
+mod Configuration
+mod Passwords
+mod Opening
+mod Serving
+mod Mounts
+mod Setups

@@ -1,0 +1,66 @@
+-- What a session does where nothing lies and nothing fails.
+use Rattle.std.specs.Prelude.{◌≡◌, ◌⊎◌, ℕ, List, [], ◌∷◌}
+use Rattle.std.specs.declared.option.Option.{Option}
+use Rattle.answers.specs.Sessions.{Exchange, IsSession, IsKeptPoint, latest}
+use Rattle.answers.specs.declared.answer.Answer.{Answer}
+use Rattle.answers.specs.declared.answer.Answer.TheVariants.{Reply as Replied, Memory as NoMemory, Spent}
+use Rattle.config_file.specs.Settings.{Settings}
+use Rattle.fs_model.specs.Instant.{Instant}
+use Rattle.fs_model.specs.Tree.{Tree}
+use Rattle.line_io.specs.Lines.{first_line}
+use Rattle.line_io.specs.Streams.{Stream, Untouched}
+use Rattle.mount.specs.Representing.{HasEmptyList}
+use Rattle.outside.specs.Trace.{Call}
+use Rattle.outside.specs.declared.keeper.Keeper.{Ghosts as KeeperGhosts}
+use Rattle.passwords.specs.Passwords.{IsNextPassword}
+use Rattle.run_status.specs.declared.ended.Ended.{Ended}
+use Rattle.run_status.specs.declared.status.Status.{Status}
+use Rattle.run_status.specs.declared.status.Status.TheVariants.{Done, Memory}
+use Rattle.session_lines.specs.declared.end.End.{End}
+use Rattle.session_lines.specs.declared.end.End.TheVariants.{Finished}
+use Rattle.session_runs.specs.Runs.{Outside, outside_of, StandsFor}
+use Rattle.shell_sessions.specs.Sessions.{Session}
+use Rattle.tree_commands.specs.Showing.{ShowsFiles}
+use Rattle.completeness.specs.Premises.{IsUntroubled, Finds, Leaves}
+
+-- a reply, or memory was refused, or a block that the command would change has its last version
+abbrev pub IsUnfailed : Answer → Type 0
+IsUnfailed (Replied reply) = Unit {0}
+IsUnfailed NoMemory = Unit {0}
+IsUnfailed Spent = Unit {0}
+IsUnfailed answer = ⊥
+
+abbrev pub AreUnfailed : List Exchange → Type 0
+AreUnfailed [] = Unit {0}
+AreUnfailed (e ∷ es) = IsUnfailed e.answer × AreUnfailed es
+
+-- All lines were answered from the first tree on, and the output is whole. A tree is kept as no acknowledged sync forbids, and after Done the last one, with nothing
+-- left to be written.
+pub record IsComplete (now : Instant) (Came : End → List Exchange → Type 0) (password : List ℕ) (c : Settings) (first : Tree) (after : Outside) (status : Status) : Type 0 where
+  pub es : List Exchange
+  pub trees : List Tree
+  pub came : Came Finished es
+  pub replies : IsSession now first es trees
+  pub unfailed : AreUnfailed es
+  pub ends : (status ≡ Done) ⊎ (status ≡ Memory)
+  pub tree : Tree
+  pub point : IsKeptPoint first es trees tree
+  pub leaves : Leaves password c tree after
+  pub done : status ≡ Done → StandsFor ShowsFiles c (latest first trees) after × HasEmptyList after.kept
+
+-- memory was refused before anything was answered, and the first tree is still there
+pub record FindsNoMemory (output : Stream) (password : List ℕ) (c : Settings) (first : Tree) (after : Outside) (status : Status) : Type 0 where
+  pub ends : status ≡ Memory
+  pub unwritten : Untouched output
+  pub leaves : Leaves password c first after
+
+-- where nothing lies and nothing fails, a session is complete or finds no memory; what follows the password line came to it
+abbrev pub SessionsComplete : {V : Type 0} → {K : Type 0} → (V → Option (List Call)) → (V → ℕ) → KeeperGhosts K → (Stream → Stream → Option (List ℕ) → End → List Exchange → Type 0) → Type 0
+SessionsComplete {V = V} {K = K} trace faults G Comes =
+    (now : Instant) (input output : Stream) (vault : V) (keeper : K) (ended : Ended V K) (bytes : List ℕ) (c : Settings) (first : Tree)
+    → Session trace faults G now (Comes input output) input output vault keeper ended
+    → Finds input bytes c first (outside_of trace faults G vault keeper) (outside_of trace faults G ended.vault ended.keeper)
+    → IsUntroubled input output (outside_of trace faults G vault keeper) (outside_of trace faults G ended.vault ended.keeper)
+    → FindsNoMemory output (first_line bytes) c first (outside_of trace faults G ended.vault ended.keeper) ended.status
+    ⊎ ((script : Option (List ℕ)) × IsNextPassword input.old (first_line bytes) script
+    × IsComplete now (Comes input output script) (first_line bytes) c first (outside_of trace faults G ended.vault ended.keeper) ended.status)

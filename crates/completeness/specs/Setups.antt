@@ -1,0 +1,94 @@
+-- What `info`, `passwd` and `create` do where nothing lies and nothing fails.
+use Rattle.std.specs.Prelude.{◌≡◌, ◌⊎◌, ℕ, List}
+use Rattle.std.specs.declared.option.Option.{Option}
+use Rattle.std.specs.declared.option.Option.TheVariants.{None, Some}
+use Rattle.config_file.specs.Settings.{Settings}
+use Rattle.cryfs_setup.specs.Create.{Created, created_text}
+use Rattle.cryfs_setup.specs.Info.{Told, info_text}
+use Rattle.cryfs_setup.specs.Passwd.{Changed, changed_text}
+use Rattle.fs_model.specs.Tree.{Tree, empty_tree}
+use Rattle.line_io.specs.Lines.{first_line}
+use Rattle.line_io.specs.Streams.{Stream, Untouched}
+use Rattle.mount.specs.Making.{IsUnchanged, new_settings}
+use Rattle.mount.specs.Representing.{HasEmptyList}
+use Rattle.mount.specs.declared.draws.Draws.{Draws}
+use Rattle.outside.specs.Streams.{appends}
+use Rattle.outside.specs.Trace.{At, Call}
+use Rattle.outside.specs.declared.keeper.Keeper.{Ghosts as KeeperGhosts}
+use Rattle.passwords.specs.Passwords.{second_line, IsLong}
+use Rattle.rand_core.specs.Stream.{Stream as Chance}
+use Rattle.run_openings.specs.Openings.{HasCauses}
+use Rattle.run_status.specs.declared.ended.Ended.{Ended}
+use Rattle.run_status.specs.declared.status.Status.{Status}
+use Rattle.run_status.specs.declared.status.Status.TheVariants.{Done, Memory}
+use Rattle.scrypt_kdf.specs.Cost.{Cost}
+use Rattle.session_runs.specs.Runs.{Outside, outside_of, PasswordOpens}
+use Rattle.store_api.specs.Durables.{last_told}
+use Rattle.completeness.specs.Premises.{IsUntroubled, Finds, Leaves}
+use Rattle.completeness.specs.Sessions.{FindsNoMemory}
+
+-- it is done, this text was written, and this tree is there under the password, with nothing left to be written
+pub record IsDone (output : Stream) (text password : List ℕ) (c : Settings) (tree : Tree) (after : Outside) (status : Status) : Type 0 where
+  pub ends : status ≡ Done
+  pub written : output.new ≡ appends output.old text
+  pub leaves : Leaves password c tree after
+  pub emptied : HasEmptyList after.kept
+
+-- ---- info
+
+-- the parameters with which the password opens the configuration
+abbrev pub cost_of : (password : List ℕ) (c : Settings) (o : Outside) → PasswordOpens password c o → Cost
+cost_of password c o opens = opens.1
+
+-- where nothing lies and nothing fails, `info` tells the configuration, or finds no memory
+abbrev pub InfoCompletes : {V : Type 0} → {K : Type 0} → (V → Option (List Call)) → (V → ℕ) → KeeperGhosts K → Type 0
+InfoCompletes {V = V} {K = K} trace faults G =
+    (input output : Stream) (vault : V) (keeper : K) (ended : Ended V K) (bytes : List ℕ) (c : Settings) (tree : Tree)
+    → Told trace faults G input output vault keeper ended
+    → (finds : Finds input bytes c tree (outside_of trace faults G vault keeper) (outside_of trace faults G ended.vault ended.keeper))
+    → IsUntroubled input output (outside_of trace faults G vault keeper) (outside_of trace faults G ended.vault ended.keeper)
+    → FindsNoMemory output (first_line bytes) c tree (outside_of trace faults G ended.vault ended.keeper) ended.status
+    ⊎ IsDone output (info_text c (cost_of (first_line bytes) c (outside_of trace faults G vault keeper) finds.opens)) (first_line bytes) c tree (outside_of trace faults G ended.vault ended.keeper) ended.status
+
+-- ---- passwd
+
+-- memory was refused: the tree is there, under the old password or the new one
+pub record StaysOrChanges (output : Stream) (old new : List ℕ) (c : Settings) (tree : Tree) (after : Outside) (status : Status) : Type 0 where
+  pub ends : status ≡ Memory
+  pub unwritten : Untouched output
+  pub leaves : Leaves old c tree after ⊎ Leaves new c tree after
+
+-- where nothing lies and nothing fails, `passwd` puts the second line of the input in the place of the first, or finds no memory
+abbrev pub PasswdCompletes : {V : Type 0} → {K : Type 0} → (V → Option (List Call)) → (V → ℕ) → KeeperGhosts K → Type 0
+PasswdCompletes {V = V} {K = K} trace faults G =
+    (chance left : Chance) (input output : Stream) (vault : V) (keeper : K) (ended : Ended V K) (bytes : List ℕ) (c : Settings) (tree : Tree)
+    → Changed trace faults G chance left input output vault keeper ended
+    → HasCauses (outside_of trace faults G vault keeper) (outside_of trace faults G ended.vault ended.keeper) ended.status
+    → Finds input bytes c tree (outside_of trace faults G vault keeper) (outside_of trace faults G ended.vault ended.keeper)
+    → ¬ IsLong (second_line bytes)
+    → IsUntroubled input output (outside_of trace faults G vault keeper) (outside_of trace faults G ended.vault ended.keeper)
+    → StaysOrChanges output (first_line bytes) (second_line bytes) c tree (outside_of trace faults G ended.vault ended.keeper) ended.status
+    ⊎ IsDone output changed_text (second_line bytes) c tree (outside_of trace faults G ended.vault ended.keeper) ended.status
+
+-- ---- create
+
+-- nothing is kept, and no file was changed
+pub record IsBare (o : Outside) : Type 0 where
+  pub kept : o.kept ≡ None
+  pub unchanged : IsUnchanged o.calls
+
+-- memory was refused: it is bare still, or the empty tree is there
+pub record StaysOrMakes (output : Stream) (password : List ℕ) (c : Settings) (after : Outside) (status : Status) : Type 0 where
+  pub ends : status ≡ Memory
+  pub unwritten : Untouched output
+  pub leaves : ((after.kept ≡ None) × ((name : At) → last_told name after.calls ≡ None)) ⊎ Leaves password c empty_tree after
+
+-- where nothing lies, nothing fails and nothing is there, `create` makes a file system with the empty tree, or finds no memory
+abbrev pub CreateCompletes : {V : Type 0} → {K : Type 0} → (V → Option (List Call)) → (V → ℕ) → KeeperGhosts K → Type 0
+CreateCompletes {V = V} {K = K} trace faults G =
+    (cost : Cost) (block_size : ℕ) (draws : Draws) (input output : Stream) (vault : V) (keeper : K) (ended : Ended V K) (bytes : List ℕ)
+    → Created trace faults G cost block_size draws input output vault keeper ended
+    → IsBare (outside_of trace faults G vault keeper) → input.old ≡ Some bytes → ¬ IsLong (first_line bytes)
+    → IsUntroubled input output (outside_of trace faults G vault keeper) (outside_of trace faults G ended.vault ended.keeper)
+    → StaysOrMakes output (first_line bytes) (new_settings block_size draws) (outside_of trace faults G ended.vault ended.keeper) ended.status
+    ⊎ IsDone output (created_text draws.fs_id) (first_line bytes) (new_settings block_size draws) empty_tree (outside_of trace faults G ended.vault ended.keeper) ended.status
