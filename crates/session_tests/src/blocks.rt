@@ -1,0 +1,104 @@
+// How many block files there are after each session, and how often they are asked for.
+
+use cryfs_shell::Status;
+use outside::{Event, FileName, MemoryVault};
+use std::alloc::Global;
+use std::test::Fail;
+use test_systems::{CREATED, System, count_blocks, expect, new_system, nothing, plain, session};
+
+/// A new file system of blocks of 128 bytes.
+fn new_small_system(alloc: Global) -> Result<System, Fail> {
+    let words = ["create", "--blocksize", "128", "--scrypt-n", "16"];
+    expect(
+        alloc,
+        nothing(alloc),
+        &plain(&words, "pw"),
+        CREATED,
+        Status::Done,
+    )
+}
+
+/// Sessions one after another: the lines of each, their texts, and how many block files have to be there then.
+fn leave_so_many_blocks(alloc: Global, sessions: &[(&str, &str, usize)]) -> Result<(), Fail> {
+    let mut system = new_small_system(alloc)?;
+    for (lines, text, blocks) in sessions {
+        system = session(alloc, system, lines, text, Status::Done)?;
+        let found = count_blocks(&system.vault);
+        if found != *blocks {
+            return Err(Fail::new(format_args!(
+                "{found} block files after {lines:?} and not {blocks}"
+            )));
+        }
+    }
+    Ok(())
+}
+
+#[test]
+fn a_file_that_grows_by_a_byte_takes_two_leaves_more(rt: HostRuntime) -> Result<(), Fail> {
+    leave_so_many_blocks(
+        rt.alloc(),
+        &[
+            (
+                "mkfile /f\nwrite /f 0 6161616161616161616161616161616161616161616161\n",
+                "ok\nok\n",
+                7,
+            ),
+            ("write /f 23 61\n", "ok\n", 9),
+            (
+                "truncate /f 23\nread /f 0 100\n",
+                "ok\ndata 6161616161616161616161616161616161616161616161\n",
+                7,
+            ),
+        ],
+    )
+}
+
+#[test]
+fn an_emptied_file_gives_its_blocks_back(rt: HostRuntime) -> Result<(), Fail> {
+    let bytes =
+        "616161616161616161616161616161616161616161616161616161616161616161616161616161616161616161616161616161616161616161616161616161616161";
+    let alloc = rt.alloc();
+    let write = format!(in alloc; "write /f 0 {bytes}\n")?;
+    let first = format!(in alloc; "mkfile /f\n{write}")?;
+    leave_so_many_blocks(
+        alloc,
+        &[
+            (first.as_str(), "ok\nok\n", 12),
+            ("truncate /f 0\n", "ok\n", 7),
+            (write.as_str(), "ok\n", 12),
+        ],
+    )
+}
+
+/// How often block files were asked for.
+fn count_gets(vault: &MemoryVault) -> usize {
+    vault
+        .trace()
+        .iter()
+        .filter(|event| {
+            matches!(
+                event,
+                Event::Got {
+                    name: FileName::Block(_),
+                    ..
+                }
+            )
+        })
+        .count()
+}
+
+#[test]
+fn a_block_that_is_used_again_is_asked_for_once(rt: HostRuntime) -> Result<(), Fail> {
+    let alloc = rt.alloc();
+    let system = new_system(alloc)?;
+    let before = count_gets(&system.vault);
+    let after = session(
+        alloc,
+        system,
+        "ls /\nls /\n",
+        "list 0\nlist 0\n",
+        Status::Done,
+    )?;
+    assert_eq!(rt; count_gets(&after.vault).saturating_sub(before), 1);
+    Ok(())
+}

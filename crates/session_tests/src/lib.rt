@@ -1,0 +1,15 @@
+//! Whole runs of the program over a block directory and a local record in memory. There is nothing here but tests.
+#![tactic(auto)]
+
+#[cfg(test)]
+mod blocks;
+#[cfg(test)]
+mod faults;
+#[cfg(test)]
+mod files;
+#[cfg(test)]
+mod sessions;
+#[cfg(test)]
+mod setup;
+#[cfg(test)]
+mod violations;

@@ -1,0 +1,14 @@
+//! What tests of whole runs share: a block directory and a local record in memory, runs over them with the texts and the
+//! statuses that they have to give, and changes of the stored files that no run makes.
+#![tactic(auto)]
+
+mod random;
+mod stored;
+mod system;
+
+pub use random::{Words, ZEROS};
+pub use stored::{block, copy_files, count_blocks, file, store};
+pub use system::{
+    CREATED, Run, System, expect, failing_saves, mended, new_system, nothing, outcome, plain,
+    script, session,
+};

@@ -1,0 +1,167 @@
+// A directory and a record in memory, and runs over them.
+
+use crate::random::ZEROS;
+use cryfs_shell::{Ended, Status, run};
+use fs_model::Moment;
+use outside::{MemoryKeeper, MemorySink, MemorySource, MemoryVault};
+use rand_core::Rng;
+use std::alloc::{AllocError, Global};
+use std::test::Fail;
+
+/// What a run is given and gives back.
+#[derive(Drop)]
+pub struct System {
+    pub vault: MemoryVault,
+    pub keeper: MemoryKeeper,
+}
+
+/// A run: its words, its input in pieces of so many bytes, the moment, and the numbers of the calls that fail, of the
+/// source and of the sink.
+#[derive(Clone, Copy)]
+pub struct Run<'a> {
+    pub words: &'a [&'a str],
+    pub input: &'a [u8],
+    pub piece: usize,
+    pub secs: u64,
+    pub nanos: u32,
+    pub reads: &'a [u64],
+    pub writes: &'a [u64],
+}
+
+/// A run at 100.000000005 whose streams don't fail.
+pub fn plain<'a>(words: &'a [&'a str], input: &'a str) -> Run<'a> {
+    Run {
+        words,
+        input: input.as_bytes(),
+        piece: 7,
+        secs: 100,
+        nanos: 5,
+        reads: &[],
+        writes: &[],
+    }
+}
+
+/// Nothing is kept, and the directory is empty.
+pub fn nothing(alloc: Global) -> System {
+    System {
+        vault: MemoryVault::new(alloc),
+        keeper: MemoryKeeper::new(alloc, None, Vec::new(alloc)),
+    }
+}
+
+/// What a run writes, its status, and what it gives back.
+pub fn outcome<R: Rng>(
+    alloc: Global,
+    system: System,
+    case: &Run<'_>,
+    chance: &mut R,
+) -> Result<(Vec<u8>, Status, System), AllocError> {
+    let mut words = Vec::new(alloc);
+    for word in case.words {
+        words.push(String::from_str(alloc, word)?)?;
+    }
+    let Some(now) = Moment::new(case.secs, case.nanos) else {
+        return Err(AllocError);
+    };
+    let piece = case.piece.max(1);
+    let mut input = MemorySource::new(case.input.to_vec(alloc)?, piece, case.reads.to_vec(alloc)?);
+    let Ok(mut output) = MemorySink::new(alloc, piece, 1 << 20, case.writes.to_vec(alloc)?) else {
+        return Err(AllocError);
+    };
+    let System { vault, keeper } = system;
+    let Ended {
+        status,
+        vault,
+        keeper,
+    } = run(
+        alloc,
+        &words,
+        now,
+        &mut input,
+        &mut output,
+        vault,
+        keeper,
+        chance,
+    );
+    Ok((
+        output.written().to_vec(alloc)?,
+        status,
+        System { vault, keeper },
+    ))
+}
+
+/// A run with zeros for random bytes, which has to write this text and end with this status.
+pub fn expect(
+    alloc: Global,
+    system: System,
+    case: &Run<'_>,
+    text: &str,
+    status: Status,
+) -> Result<System, Fail> {
+    let mut zeros = ZEROS;
+    let (written, ended, after) = outcome(alloc, system, case, &mut zeros)?;
+    if ended != status || written.as_slice() != text.as_bytes() {
+        let shown = str::from_utf8(written.as_slice()).unwrap_or("bytes");
+        return Err(Fail::new(format_args!(
+            "{ended:?} after {shown:?} and not {status:?} after {text:?}"
+        )));
+    }
+    Ok(after)
+}
+
+pub const CREATED: &str = "created 00000000000000000000000000000000\n";
+
+/// A new file system under the password `pw`.
+pub fn new_system(alloc: Global) -> Result<System, Fail> {
+    let words = ["create", "--scrypt-n", "16"];
+    expect(
+        alloc,
+        nothing(alloc),
+        &plain(&words, "pw"),
+        CREATED,
+        Status::Done,
+    )
+}
+
+/// The lines after the password line.
+pub fn script(alloc: Global, lines: &str) -> Result<String, AllocError> {
+    format!(in alloc; "pw\n{lines}")
+}
+
+/// A session of these lines, which has to write this text and end with this status.
+pub fn session(
+    alloc: Global,
+    system: System,
+    lines: &str,
+    text: &str,
+    status: Status,
+) -> Result<System, Fail> {
+    let input = script(alloc, lines)?;
+    expect(alloc, system, &plain(&["shell"], &input), text, status)
+}
+
+/// The same files and record, where the saves of these numbers fail, counted from 1 from here on, and where such a save
+/// keeps its record as is said beside its number.
+pub fn failing_saves(
+    alloc: Global,
+    system: System,
+    fails: Vec<(u64, bool)>,
+) -> Result<System, AllocError> {
+    let System { vault, keeper } = system;
+    let kept = match keeper.kept() {
+        Some(bytes) => Some(bytes.to_vec(alloc)?),
+        None => None,
+    };
+    Ok(System {
+        vault,
+        keeper: MemoryKeeper::new(alloc, kept, fails),
+    })
+}
+
+/// The same files and record, where nothing fails any more.
+pub fn mended(alloc: Global, system: System) -> Result<System, AllocError> {
+    let mut system = failing_saves(alloc, system, Vec::new(alloc))?;
+    system.vault.fail_calls(Vec::new(alloc));
+    system.vault.fail_from(u64::MAX);
+    Ok(system)
+}
