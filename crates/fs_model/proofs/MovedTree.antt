@@ -7,6 +7,7 @@ use Rattle.std.specs.declared.option.Option.{Option}
 use Rattle.std.specs.declared.option.Option.TheVariants.{None, Some}
 use Rattle.fs_model.specs.declared.limits.TheConstants.{MAX_ENTRIES}
 use Rattle.fs_model.specs.Instant.{Instant}
+use Rattle.fs_model.specs.Names.{IsName}
 use Rattle.fs_model.specs.Tree.{Path, Tree, Row, same_path, is_folder, children, directory_size, IsRooted, IsWithinLimits, IsWellFormed}
 use Rattle.fs_model.specs.Move.{is_above, strip, renamed}
 use Rattle.fs_model.specs.Step.{with_ctime, moved_tree}
@@ -135,6 +136,19 @@ module _ (t : Tree) (now : Instant) (pn : List ℕ) (pd : Path) (qn : List ℕ) 
       refl_p : strip p [] ≡ None
       refl_p = strip_none p [] (λ s e. absurd (omega (arith, ap length e, length-append s p)))
 
+  names_below : IsName qn → ((n : List ℕ) (r : Path) → is_some (get t (n ∷ r)) ≡ true → IsName n) → (n : List ℕ) (r : Path) (o : Option Path) → strip q (n ∷ r) ≡ o → is_some (get next (n ∷ r)) ≡ true → IsName n
+  names_below named names n r (Some []) h there =
+      let e : n ∷ r ≡ qn ∷ qd = strip-is q (n ∷ r) [] h in
+      let same : qn ≡ n = cc in subst IsName same named
+  names_below named names n r (Some (m ∷ s)) h there =
+      let e : n ∷ r ≡ m ∷ (s ++ q) = strip-is q (n ∷ r) (m ∷ s) h in
+      let same : m ≡ n = cc in
+      subst IsName same (names m (s ++ p) (ap is_some (sym (moved-below m s)) ∙ (ap (λ z. is_some (get next z)) (sym e) ∙ there)))
+  names_below named names n r None h there = elim (strip p (n ∷ r)) as (λ o. strip p (n ∷ r) ≡ o → IsName n) [
+    | Some s ↦ λ e. let bad : false ≡ true = ap is_some (sym (moved-gone (n ∷ r) s h e)) ∙ there in cc
+    | None ↦ λ e. names n r (ap is_some (sym (moved-off (n ∷ r) h e)) ∙ there)
+  ] refl
+
   rows_below : ((r : Path) (x : Row) → get t r ≡ Some x → IsWithinLimits x) → (r : Path) (x : Row) (o : Option Path) → strip q r ≡ o → get next r ≡ Some x → IsWithinLimits x
   rows_below rows r x (Some []) h there =
       let same : Some (with_ctime row now) ≡ Some x = sym moved-here ∙ (ap (get next) (sym (strip-is q r [] h)) ∙ there) in
@@ -201,9 +215,10 @@ module _ (t : Tree) (now : Instant) (pn : List ℕ) (pd : Path) (qn : List ℕ) 
     | inr differ ↦ off_size sizes d h differ
   ]
 
-  pub moved_well_formed : IsWellFormed t → directory_size next qd ≤ MAX_ENTRIES → IsWellFormed next
-  moved_well_formed wf fits = record {
+  pub moved_well_formed : IsWellFormed t → IsName qn → directory_size next qd ≤ MAX_ENTRIES → IsWellFormed next
+  moved_well_formed wf named fits = record {
     rooted = moved_rooted wf.rooted;
+    names = λ n r there. names_below named wf.names n r (strip q (n ∷ r)) refl there;
     rows = λ r x there. rows_below wf.rows r x (strip q r) refl there;
     directories = λ d. sizes_below wf.directories fits d (strip q d) refl;
   }

@@ -1,7 +1,9 @@
 -- Each command keeps a tree well formed.
-use Rattle.std.specs.Prelude.{◌≡◌, ℕ, ◌+◌, ◌≤◌, ◌==◌, max, Bool, true, false, cond, List, [], ◌∷◌, ◌++◌, length, is_some, nat_lt, take, drop, replicate}
+use Rattle.std.specs.Prelude.{◌≡◌, ℕ, ◌+◌, ◌≤◌, ◌==◌, max, Bool, true, false, cond, List, [], ◌∷◌, ◌++◌, length, is_some, nat_lt, take, drop, replicate, reverse}
+use Rattle.std.specs.List.{All}
 use Rattle.std.proofs.Common.{◌-◌, refl, sym, ◌∙◌, ap, subst, inl, inr, arith, lit≤, length-append, length-drop}
-use Rattle.std.proofs.lemmas.List.{length-take, length-replicate}
+use Rattle.std.proofs.lemmas.List.{length-take, length-replicate, reverse-append, reverse-reverse}
+use Rattle.std.proofs.lemmas.List.Elements.{All-head, All-tail, All-same}
 use Rattle.std.proofs.lemmas.Bool.{cond_both, ltb-false, leb-true, or_parts}
 use Rattle.std.specs.FinMap.{get, insert, remove, len, empty, get-empty}
 use Rattle.std.specs.declared.option.Option.TheVariants.{None, Some}
@@ -14,7 +16,8 @@ use Rattle.fs_model.specs.declared.error.FsError.TheVariants.{NotEmpty, NotDirec
 use Rattle.fs_model.specs.declared.command.Command.{Command}
 use Rattle.fs_model.specs.declared.command.Command.TheVariants as command
 use Rattle.fs_model.specs.Instant.{Instant}
-use Rattle.fs_model.specs.Fitting.{IsFitting}
+use Rattle.fs_model.specs.Names.{IsName}
+use Rattle.fs_model.specs.Fitting.{IsFitting, HoldsNames}
 use Rattle.fs_model.specs.Tree.{Path, Tree, Row, upward, same_path, is_directory, is_folder, children, directory_size, entry_size, FitsKind, IsRooted, IsWithinLimits, IsWellFormed, empty_tree, root_row, path_cmp}
 use Rattle.fs_model.specs.LookUp.{Seen, Found, Free, Bad, look}
 use Rattle.fs_model.specs.Move.{is_above}
@@ -44,9 +47,9 @@ rows_remove t rows p r x there = elim (path_split r p) [
 ]
 
 -- a row more, below a directory
-pub insert_free : (t : Tree) (n : List ℕ) (p : Path) (row : Row) → IsWellFormed t → is_folder (get t p) ≡ true → get t (n ∷ p) ≡ None → IsWithinLimits row
+pub insert_free : (t : Tree) (n : List ℕ) (p : Path) (row : Row) → IsWellFormed t → IsName n → is_folder (get t p) ≡ true → get t (n ∷ p) ≡ None → IsWithinLimits row
     → directory_size t p + entry_size n ≤ MAX_ENTRIES → IsWellFormed (insert t (n ∷ p) row)
-insert_free t n p row wf folder none limits fits = record {
+insert_free t n p row wf named folder none limits fits = record {
   rooted = record {
     root = insert_apart t (n ∷ p) row [] (λ e. cc) ∙ wf.rooted.root;
     parents = λ m q there. elim (path_split (m ∷ q) (n ∷ p)) [
@@ -54,6 +57,10 @@ insert_free t n p row wf folder none limits fits = record {
       | inr d ↦ kept q (wf.rooted.parents m q (ap is_some (sym (insert_apart t (n ∷ p) row (m ∷ q) d)) ∙ there))
     ];
   };
+  names = λ m q there. elim (path_split (m ∷ q) (n ∷ p)) [
+    | inl e ↦ let same : n ≡ m = cc in subst IsName same named
+    | inr d ↦ wf.names m q (ap is_some (sym (insert_apart t (n ∷ p) row (m ∷ q) d)) ∙ there)
+  ];
   rows = rows_insert t wf.rows (n ∷ p) row limits;
   directories = λ d. elim (path_split d p) [
     | inl e ↦ subst (λ z. directory_size (insert t (n ∷ p) row) z ≤ MAX_ENTRIES) (sym e)
@@ -76,6 +83,7 @@ insert_found t n p row old wf there alike limits = record {
     root = insert_apart t (n ∷ p) row [] (λ e. cc) ∙ wf.rooted.root;
     parents = λ m q s. kept q (wf.rooted.parents m q (some_before (m ∷ q) s));
   };
+  names = λ m q s. wf.names m q (some_before (m ∷ q) s);
   rows = rows_insert t wf.rows (n ∷ p) row limits;
   directories = λ d. elim (path_split d p) [
     | inl e ↦ subst (λ z. directory_size (insert t (n ∷ p) row) z ≤ MAX_ENTRIES) (sym e)
@@ -101,12 +109,9 @@ pub remove_bare : (t : Tree) (n : List ℕ) (p : Path) → IsWellFormed t → ((
 remove_bare t n p wf bare = record {
   rooted = record {
     root = remove_apart t (n ∷ p) [] (λ e. cc) ∙ wf.rooted.root;
-    parents = λ m q s. elim (path_split (m ∷ q) (n ∷ p)) [
-      | inl e ↦ let bad : false ≡ true = ap is_some (sym (remove_here t (n ∷ p))) ∙ (ap (λ z. is_some (get (remove t (n ∷ p)) z)) (sym e) ∙ s) in cc
-      | inr d ↦ let before : is_some (get t (m ∷ q)) ≡ true = ap is_some (sym (remove_apart t (n ∷ p) (m ∷ q) d)) ∙ s in
-          ap is_folder (remove_apart t (n ∷ p) q (λ e. childless m q before e)) ∙ wf.rooted.parents m q before
-    ];
+    parents = λ m q s. let before = some_before (m ∷ q) s in ap is_folder (remove_apart t (n ∷ p) q (λ e. childless m q before e)) ∙ wf.rooted.parents m q before;
   };
+  names = λ m q s. wf.names m q (some_before (m ∷ q) s);
   rows = rows_remove t wf.rows (n ∷ p);
   directories = λ d. elim (path_split d p) [
     | inl e ↦ subst (λ z. directory_size (remove t (n ∷ p)) z ≤ MAX_ENTRIES) (sym e)
@@ -115,6 +120,12 @@ remove_bare t n p wf bare = record {
   ];
 }
   where
+    some_before : (r : Path) → is_some (get (remove t (n ∷ p)) r) ≡ true → is_some (get t r) ≡ true
+    some_before r h = elim (path_split r (n ∷ p)) [
+      | inl e ↦ let bad : false ≡ true = ap is_some (sym (remove_here t (n ∷ p))) ∙ (ap (λ z. is_some (get (remove t (n ∷ p)) z)) (sym e) ∙ h) in cc
+      | inr d ↦ ap is_some (sym (remove_apart t (n ∷ p) r d)) ∙ h
+    ]
+
     childless : (m : List ℕ) (q : Path) → is_some (get t (m ∷ q)) ≡ true → q ≡ n ∷ p → ⊥
     childless m q h e = let bad : false ≡ true = ap is_some (sym (bare m)) ∙ (ap (λ z. is_some (get t (m ∷ z))) (sym e) ∙ h) in cc
 
@@ -133,16 +144,24 @@ bare_below t p wf bare (m ∷ s) n = below_none t (m ∷ (s ++ p)) wf (bare_belo
 root_found : (t : Tree) (row : Row) → IsWellFormed t → get t [] ≡ Some row → is_directory row.attr.kind ≡ true
 root_found t row wf there = ap is_folder (sym there) ∙ ap is_folder wf.rooted.root
 
-made_keeps : (t : Tree) (p : Path) (row : Row) (s : Seen) → IsWellFormed t → IsWithinLimits row → look t p ≡ s → Keeps (made t p row s)
-made_keeps t p row (Found old) wf limits h = wf
-made_keeps t p row (Bad e) wf limits h = wf
-made_keeps t p row Free wf limits h = free_keeps (get-free t wf.rooted p h)
+-- the last of names is one
+last_named : (ns : List (List ℕ)) → All IsName ns → (n : List ℕ) (q : Path) → upward ns ≡ n ∷ q → IsName n
+last_named ns named n q e = at_end (reverse q) (All-same IsName (reverse q ++ n ∷ []) ns (sym (sym (reverse-reverse ns) ∙ (ap reverse e ∙ reverse-append (n ∷ []) q))) named)
+  where
+    at_end : (front : List (List ℕ)) → All IsName (front ++ n ∷ []) → IsName n
+    at_end [] h = All-head IsName n [] h
+    at_end (m ∷ front) h = at_end front (All-tail IsName m (front ++ n ∷ []) h)
+
+made_keeps : (t : Tree) (p : Path) (row : Row) (s : Seen) → IsWellFormed t → ((n : List ℕ) (q : Path) → p ≡ n ∷ q → IsName n) → IsWithinLimits row → look t p ≡ s → Keeps (made t p row s)
+made_keeps t p row (Found old) wf named limits h = wf
+made_keeps t p row (Bad e) wf named limits h = wf
+made_keeps t p row Free wf named limits h = free_keeps (get-free t wf.rooted p h)
   where
     free_keeps : (n : List ℕ) × ((q : Path) × IsFree t p n q) → Keeps (made t p row Free)
     free_keeps f =
         let free = f.1.1 in
         subst (λ z. Keeps (made t z row Free)) (sym free.path)
-        (either _ _ _ (λ _. wf) (λ small. insert_free t f.0 f.1.0 row wf free.folder (ap (get t) (sym free.path) ∙ free.absent) limits (ltb-false _ _ small)))
+        (either _ _ _ (λ _. wf) (λ small. insert_free t f.0 f.1.0 row wf (named f.0 f.1.0 free.path) free.folder (ap (get t) (sym free.path) ∙ free.absent) limits (ltb-false _ _ small)))
 
 -- on a file alone
 file_keeps : (t : Tree) (kind : Kind) (s : Stepped) → IsWellFormed t → (is_directory kind ≡ false → kind ≡ File → Keeps s) → Keeps (on_file t kind s)
@@ -216,9 +235,9 @@ removed_file_keeps t n q (Found row) wf h = either _ _ _ (λ _. wf) (λ file. re
 removed_file_keeps t n q Free wf h = wf
 removed_file_keeps t n q (Bad e) wf h = wf
 
-unless_large_keeps : (t : Tree) (now : Instant) (pn : List ℕ) (pd : Path) (qn : List ℕ) (qd : Path) (row : Row) → IsWellFormed t → CanMove t pn pd qn qd row
+unless_large_keeps : (t : Tree) (now : Instant) (pn : List ℕ) (pd : Path) (qn : List ℕ) (qd : Path) (row : Row) → IsWellFormed t → IsName qn → CanMove t pn pd qn qd row
     → Keeps (moved_unless_large t (qn ∷ qd) (moved_tree t now (pn ∷ pd) (qn ∷ qd) row))
-unless_large_keeps t now pn pd qn qd row wf can = either _ _ _ (λ _. wf) (λ fits. moved_well_formed t now pn pd qn qd row can wf (ltb-false _ _ fits))
+unless_large_keeps t now pn pd qn qd row wf named can = either _ _ _ (λ _. wf) (λ fits. moved_well_formed t now pn pd qn qd row can wf named (ltb-false _ _ fits))
 
 -- a move that is let through
 pub can_move_free : (t : Tree) (pn : List ℕ) (pd : Path) (qn : List ℕ) (qd : Path) (row : Row) → IsRooted t → look t (pn ∷ pd) ≡ Found row → is_above (pn ∷ pd) (qn ∷ qd) ≡ false → look t (qn ∷ qd) ≡ Free → CanMove t pn pd qn qd row
@@ -253,22 +272,22 @@ onto_keeps t q true false s wf f = wf
 onto_keeps t q false true s wf f = wf
 onto_keeps t q false false s wf f = f (λ m bad. absurd (cc))
 
-moved_to_keeps : (t : Tree) (now : Instant) (pn : List ℕ) (pd : Path) (qn : List ℕ) (qd : Path) (row : Row) (s : Seen) → IsWellFormed t → look t (pn ∷ pd) ≡ Found row → is_above (pn ∷ pd) (qn ∷ qd) ≡ false → look t (qn ∷ qd) ≡ s
+moved_to_keeps : (t : Tree) (now : Instant) (pn : List ℕ) (pd : Path) (qn : List ℕ) (qd : Path) (row : Row) (s : Seen) → IsWellFormed t → IsName qn → look t (pn ∷ pd) ≡ Found row → is_above (pn ∷ pd) (qn ∷ qd) ≡ false → look t (qn ∷ qd) ≡ s
     → Keeps (moved_to t now (pn ∷ pd) (qn ∷ qd) row s)
-moved_to_keeps t now pn pd qn qd row (Found old) wf found above h = either _ _ _ (λ _. wf) (λ differ.
+moved_to_keeps t now pn pd qn qd row (Found old) wf named found above h = either _ _ _ (λ _. wf) (λ differ.
     onto_keeps t (qn ∷ qd) (is_directory row.attr.kind) (is_directory old.attr.kind) _ wf (λ bare.
-    unless_large_keeps t now pn pd qn qd row wf (can_move_found t pn pd qn qd row old wf.rooted found above h differ (childless bare (is_directory old.attr.kind) refl))))
+    unless_large_keeps t now pn pd qn qd row wf named (can_move_found t pn pd qn qd row old wf.rooted found above h differ (childless bare (is_directory old.attr.kind) refl))))
   where
     childless : ((m : List ℕ) → is_directory old.attr.kind ≡ true → get t (m ∷ (qn ∷ qd)) ≡ None) → (b : Bool) → is_directory old.attr.kind ≡ b → (m : List ℕ) → get t (m ∷ (qn ∷ qd)) ≡ None
     childless bare true e m = bare m e
     childless bare false e m = below_file t (qn ∷ qd) old wf.rooted (get-found t (qn ∷ qd) old h) e m
-moved_to_keeps t now pn pd qn qd row Free wf found above h = unless_large_keeps t now pn pd qn qd row wf (can_move_free t pn pd qn qd row wf.rooted found above h)
-moved_to_keeps t now pn pd qn qd row (Bad e) wf found above h = wf
+moved_to_keeps t now pn pd qn qd row Free wf named found above h = unless_large_keeps t now pn pd qn qd row wf named (can_move_free t pn pd qn qd row wf.rooted found above h)
+moved_to_keeps t now pn pd qn qd row (Bad e) wf named found above h = wf
 
-moved_from_keeps : (t : Tree) (now : Instant) (pn : List ℕ) (pd : Path) (qn : List ℕ) (qd : Path) (s : Seen) → IsWellFormed t → look t (pn ∷ pd) ≡ s → Keeps (moved_from t now (pn ∷ pd) (qn ∷ qd) s)
-moved_from_keeps t now pn pd qn qd (Found row) wf h = either _ _ _ (λ _. wf) (λ above. moved_to_keeps t now pn pd qn qd row (look t (qn ∷ qd)) wf h above refl)
-moved_from_keeps t now pn pd qn qd Free wf h = wf
-moved_from_keeps t now pn pd qn qd (Bad e) wf h = wf
+moved_from_keeps : (t : Tree) (now : Instant) (pn : List ℕ) (pd : Path) (qn : List ℕ) (qd : Path) (s : Seen) → IsWellFormed t → IsName qn → look t (pn ∷ pd) ≡ s → Keeps (moved_from t now (pn ∷ pd) (qn ∷ qd) s)
+moved_from_keeps t now pn pd qn qd (Found row) wf named h = either _ _ _ (λ _. wf) (λ above. moved_to_keeps t now pn pd qn qd row (look t (qn ∷ qd)) wf named h above refl)
+moved_from_keeps t now pn pd qn qd Free wf named h = wf
+moved_from_keeps t now pn pd qn qd (Bad e) wf named h = wf
 
 -- the commands that only look
 pub listed_stays : (t : Tree) (p : Path) (s : Seen) → (listed t p s).tree ≡ t
@@ -303,29 +322,29 @@ fresh_row : (kind : Kind) (mode : ℕ) (now : Instant) (bytes : List ℕ) → Fi
 fresh_row kind mode now bytes content limit = record { content = content; mode = limit }
 
 -- every command that fits keeps a tree well formed
-pub well_formed-step : (t : Tree) (now : Instant) (c : Command) → IsWellFormed t → IsFitting c → IsWellFormed (step t now c).tree
-well_formed-step t now (command.List p) wf fits = same_keeps t _ (listed_stays t (upward p) (look t (upward p))) wf
-well_formed-step t now (command.Stat p) wf fits = same_keeps t _ (told_stays t (look t (upward p))) wf
-well_formed-step t now (command.Mkdir p) wf fits = made_keeps t (upward p) _ _ wf (fresh_row Directory DIRECTORY_MODE now [] refl (lit≤ tt)) refl
-well_formed-step t now (command.Rmdir p) wf fits = unless_keeps t (upward p) _ wf (λ n q e. subst (λ r. Keeps (removed_directory t r (look t r))) (sym e) (removed_directory_keeps t n q (look t (n ∷ q)) wf))
-well_formed-step t now (command.Mkfile p) wf fits = made_keeps t (upward p) _ _ wf (fresh_row File FILE_MODE now [] (omega arith) (lit≤ tt)) refl
-well_formed-step t now (command.Rm p) wf fits = unless_keeps t (upward p) _ wf (λ n q e. subst (λ r. Keeps (removed_file t r (look t r))) (sym e) (removed_file_keeps t n q (look t (n ∷ q)) wf refl))
-well_formed-step t now (command.Mv p q) wf fits =
+pub well_formed-step : (t : Tree) (now : Instant) (c : Command) → IsWellFormed t → IsFitting c → HoldsNames c → IsWellFormed (step t now c).tree
+well_formed-step t now (command.List p) wf fits named = same_keeps t _ (listed_stays t (upward p) (look t (upward p))) wf
+well_formed-step t now (command.Stat p) wf fits named = same_keeps t _ (told_stays t (look t (upward p))) wf
+well_formed-step t now (command.Mkdir p) wf fits named = made_keeps t (upward p) _ _ wf (last_named p named) (fresh_row Directory DIRECTORY_MODE now [] refl (lit≤ tt)) refl
+well_formed-step t now (command.Rmdir p) wf fits named = unless_keeps t (upward p) _ wf (λ n q e. subst (λ r. Keeps (removed_directory t r (look t r))) (sym e) (removed_directory_keeps t n q (look t (n ∷ q)) wf))
+well_formed-step t now (command.Mkfile p) wf fits named = made_keeps t (upward p) _ _ wf (last_named p named) (fresh_row File FILE_MODE now [] (omega arith) (lit≤ tt)) refl
+well_formed-step t now (command.Rm p) wf fits named = unless_keeps t (upward p) _ wf (λ n q e. subst (λ r. Keeps (removed_file t r (look t r))) (sym e) (removed_file_keeps t n q (look t (n ∷ q)) wf refl))
+well_formed-step t now (command.Mv p q) wf fits named =
     unless_keeps t (upward p) _ wf (λ pn pd pe. unless_keeps t (upward q) _ wf (λ qn qd qe.
     subst (λ r. Keeps (moved_from t now r (upward q) (look t r))) (sym pe) (subst (λ r. Keeps (moved_from t now (pn ∷ pd) r (look t (pn ∷ pd)))) (sym qe)
-    (moved_from_keeps t now pn pd qn qd (look t (pn ∷ pd)) wf refl))))
-well_formed-step t now (command.Symlink target p) wf fits = made_keeps t (upward p) _ _ wf (fresh_row Link LINK_MODE now target fits (lit≤ tt)) refl
-well_formed-step t now (command.Readlink p) wf fits = same_keeps t _ (target_stays t (look t (upward p))) wf
-well_formed-step t now (command.Write p from bytes) wf fits = written_keeps t now (upward p) from bytes _ wf refl
-well_formed-step t now (command.Read p from count) wf fits = same_keeps t _ (content_stays t from count (look t (upward p))) wf
-well_formed-step t now (command.Truncate p n) wf fits = truncated_keeps t now (upward p) n _ wf refl
-well_formed-step t now (command.Chmod p mode) wf fits = unless_keeps t (upward p) _ wf (λ n q e. subst (λ r. Keeps (attributes_set t r (with_mode mode now) (look t r))) (sym e)
+    (moved_from_keeps t now pn pd qn qd (look t (pn ∷ pd)) wf (last_named q named.1 qn qd qe) refl))))
+well_formed-step t now (command.Symlink target p) wf fits named = made_keeps t (upward p) _ _ wf (last_named p named) (fresh_row Link LINK_MODE now target fits (lit≤ tt)) refl
+well_formed-step t now (command.Readlink p) wf fits named = same_keeps t _ (target_stays t (look t (upward p))) wf
+well_formed-step t now (command.Write p from bytes) wf fits named = written_keeps t now (upward p) from bytes _ wf refl
+well_formed-step t now (command.Read p from count) wf fits named = same_keeps t _ (content_stays t from count (look t (upward p))) wf
+well_formed-step t now (command.Truncate p n) wf fits named = truncated_keeps t now (upward p) n _ wf refl
+well_formed-step t now (command.Chmod p mode) wf fits named = unless_keeps t (upward p) _ wf (λ n q e. subst (λ r. Keeps (attributes_set t r (with_mode mode now) (look t r))) (sym e)
     (attributes_keep t n q (with_mode mode now) _ wf (λ a. refl) (λ a _. leb-true mode MAX_MODE fits) refl))
-well_formed-step t now (command.Chown p uid gid) wf fits = unless_keeps t (upward p) _ wf (λ n q e. subst (λ r. Keeps (attributes_set t r (with_owner uid gid now) (look t r))) (sym e)
+well_formed-step t now (command.Chown p uid gid) wf fits named = unless_keeps t (upward p) _ wf (λ n q e. subst (λ r. Keeps (attributes_set t r (with_owner uid gid now) (look t r))) (sym e)
     (attributes_keep t n q (with_owner uid gid now) _ wf (λ a. refl) (λ a h. h) refl))
-well_formed-step t now (command.Utime p atime mtime) wf fits = unless_keeps t (upward p) _ wf (λ n q e. subst (λ r. Keeps (attributes_set t r (with_times atime mtime now) (look t r))) (sym e)
+well_formed-step t now (command.Utime p atime mtime) wf fits named = unless_keeps t (upward p) _ wf (λ n q e. subst (λ r. Keeps (attributes_set t r (with_times atime mtime now) (look t r))) (sym e)
     (attributes_keep t n q (with_times atime mtime now) _ wf (λ a. refl) (λ a h. h) refl))
-well_formed-step t now command.Sync wf fits = wf
+well_formed-step t now command.Sync wf fits named = wf
 
 empty_at : (n : List ℕ) (p : Path) → get empty_tree (n ∷ p) ≡ None
 empty_at n p = insert_apart empty [] root_row (n ∷ p) (λ e. cc) ∙ get-empty path_cmp (n ∷ p)
@@ -340,6 +359,7 @@ empty_well_formed = record {
     root = insert_here empty [] root_row;
     parents = λ n p there. let bad : false ≡ true = ap is_some (sym (empty_at n p)) ∙ there in cc;
   };
+  names = λ n p there. let bad : false ≡ true = ap is_some (sym (empty_at n p)) ∙ there in cc;
   rows = rows_insert empty (λ r x there. let bad : None ≡ Some x = sym (get-empty path_cmp r) ∙ there in cc) [] root_row root_row_fits;
   directories = λ p. let size : directory_size empty_tree p ≡ 0 = ap map_size (no_names (children empty_tree p) (λ n. get-children empty_tree p n ∙ empty_at n p)) ∙ size-empty Row in omega arith;
 }

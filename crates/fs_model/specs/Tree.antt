@@ -12,6 +12,7 @@ use Rattle.fs_model.specs.declared.attr.Kind.TheVariants.{Directory, File, Link}
 use Rattle.fs_model.specs.declared.attr.TheConstants.{DIRECTORY_MODE}
 use Rattle.fs_model.specs.declared.limits.TheConstants.{MAX_FILE, MAX_MODE, MAX_ENTRIES, ENTRY_SIZE}
 use Rattle.fs_model.specs.Instant.{Instant}
+use Rattle.fs_model.specs.Names.{IsName}
 use Rattle.fs_model.specs.Fitting.{is_target}
 
 -- a path of the tree: its names, the last one first. The root is the empty list
@@ -114,5 +115,7 @@ pub record IsWithinLimits (row : Row) : Type 0 where
 
 pub record IsWellFormed (t : Tree) : Type 0 where
   pub rooted : IsRooted t
+  -- with the directories above it, each element of a path is one
+  pub names : (n : List ℕ) (p : Path) → is_some (get t (n ∷ p)) ≡ true → IsName n
   pub rows : (p : Path) (row : Row) → get t p ≡ Some row → IsWithinLimits row
   pub directories : (p : Path) → directory_size t p ≤ MAX_ENTRIES

@@ -1,6 +1,6 @@
 // The commands of the tree language.
 ghost use Rattle.std.specs.Prelude.{◌≡◌, ◌↔◌, IsTrue};
-ghost use Rattle.fs_model.specs.Fitting.{IsFitting, is_target};
+ghost use Rattle.fs_model.specs.Fitting.{IsFitting, HoldsNames, is_target};
 ghost use Rattle.fs_model.specs.PathTexts.{is_zero};
 ghost use Rattle.std.specs.List.{list_any};
 
@@ -45,6 +45,33 @@ impl Command {
             Command::Symlink(target, _) => has_target_form(target.as_slice()),
             Command::Chmod(_, mode) => *mode <= MAX_MODE,
             _ => true,
+        }
+    }
+
+    /// Each element of its paths is a name.
+    pub fn holds_names(&self)
+        ensures { HoldsNames self.now }
+    {
+        match self {
+            Command::Mv(from, to) => {
+                from.holds_names();
+                to.holds_names();
+            }
+            Command::List(path) => path.holds_names(),
+            Command::Stat(path) => path.holds_names(),
+            Command::Mkdir(path) => path.holds_names(),
+            Command::Rmdir(path) => path.holds_names(),
+            Command::Mkfile(path) => path.holds_names(),
+            Command::Rm(path) => path.holds_names(),
+            Command::Symlink(_, path) => path.holds_names(),
+            Command::Readlink(path) => path.holds_names(),
+            Command::Write(path, _, _) => path.holds_names(),
+            Command::Read(path, _, _) => path.holds_names(),
+            Command::Truncate(path, _) => path.holds_names(),
+            Command::Chmod(path, _) => path.holds_names(),
+            Command::Chown(path, _, _) => path.holds_names(),
+            Command::Utime(path, _, _) => path.holds_names(),
+            Command::Sync => (),
         }
     }
 }

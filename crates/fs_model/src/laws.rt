@@ -1,4 +1,4 @@
-// Laws of the tree's step. Each function does nothing: its contract is the law.
+// Laws of the tree's step. Each function changes nothing: its contract is the law.
 ghost use Rattle.std.specs.Prelude.{◌≡◌};
 ghost use Rattle.fs_model.specs.declared.reply.Reply.TheVariants.{Done, Error};
 ghost use Rattle.fs_model.specs.declared.error.FsError.{FsError};
@@ -15,7 +15,9 @@ use crate::{Command, Moment, Path};
 pub fn keeps_well_formed(now: Moment, command: &Command)
     requires { IsFitting command.now }
     ensures { (tree : Tree) → IsWellFormed tree → IsWellFormed (step tree now command.now).tree }
-{}
+{
+    command.holds_names();
+}
 
 /// An error leaves the tree.
 pub fn error_leaves_tree(now: Moment, command: &Command)

@@ -1,5 +1,6 @@
 // A path of the tree.
-ghost use Rattle.std.specs.Prelude.{◌≡◌, [], ◌∷◌, ◌++◌, IfOk, OnOk, OnErr};
+ghost use Rattle.std.specs.Prelude.{◌≡◌, [], ◌∷◌, ◌++◌, All, IfOk, OnOk, OnErr};
+ghost use Rattle.fs_model.specs.Names.{IsName};
 
 use crate::Name;
 use block_id::Memory;
@@ -17,7 +18,12 @@ impl Model for Path {
 
     ghost Value = { List (List ℕ) };
 
+    ghost use Rattle.std.specs.Prelude.{All};
+    ghost use Rattle.fs_model.specs.Names.{IsName};
+
     ghost view = { λ p. p.names.items };
+
+    ghost invariant = { λ p. All IsName p.names.items };
 }
 
 impl Path {
@@ -37,11 +43,19 @@ impl Path {
         self.names.as_slice()
     }
 
+    /// Each element is a name.
+    pub fn holds_names(&self)
+        ensures { All IsName self.now }
+    {
+        let _names = &self.names;
+    }
+
     /// Puts the name last. After `Memory` the path is as before, and the name is gone.
     pub fn push(&mut self, name: Name) -> Result<(), Memory>
         ensures ok { OnOk result (self.new ≡ self.old ++ name ∷ []) }
         ensures err { OnErr result (self.new ≡ self.old) }
     {
+        let _bytes = name.as_slice();
         self.names.push(name)?;
         Ok(())
     }

@@ -17,9 +17,9 @@ use Rattle.fs_model.proofs.WellFormedStep.{remove_bare, below_file, insert_found
 use Rattle.forest.specs.Showing.{IsShownBy, Performed}
 use Rattle.path_walks.specs.declared.spots.Place.{Place}
 use Rattle.path_walks.specs.Changes.{Dropping, Setting}
-use Rattle.plain_tree.specs.declared.change.AttrChange.{AttrChange}
-use Rattle.plain_tree.specs.declared.change.AttrChange.TheVariants.{Mode, Owner, Times}
-use Rattle.plain_tree.specs.Changes.{changed_by}
+use Rattle.tree_rules.specs.declared.attributes.AttrChange.{AttrChange}
+use Rattle.tree_rules.specs.declared.attributes.AttrChange.TheVariants.{Mode, Owner, Times}
+use Rattle.tree_rules.specs.Changes.{changed_by}
 use Rattle.path_layer.specs.Attributes.{ChangeFits}
 use Rattle.path_layer.specs.Places.{Finding, Folder}
 use Rattle.path_layer.proofs.Told.{shown_done}

@@ -12,7 +12,7 @@ use Rattle.fs_model.proofs.LookUpLemmas.{look-found}
 use Rattle.fs_model.proofs.WellFormedStep.{can_move_free, can_move_found}
 use Rattle.forest.specs.Shows.{ShowsBy}
 use Rattle.forest.specs.Showing.{Showing}
-use Rattle.plain_tree.proofs.PathLemmas.{last_split}
+use Rattle.tree_rules.proofs.PathLemmas.{last_split}
 use Rattle.path_walks.specs.declared.spots.Place.{Place}
 use Rattle.path_walks.specs.Sights.{IsFound, IsVacant}
 use Rattle.path_walks.specs.Moves.{Heading, Replacing}

@@ -1,8 +1,8 @@
 -- Changes of attributes that a tree takes.
 use Rattle.std.specs.Prelude.{◌≤◌}
 use Rattle.fs_model.specs.declared.limits.TheConstants.{MAX_MODE}
-use Rattle.plain_tree.specs.declared.change.AttrChange.{AttrChange}
-use Rattle.plain_tree.specs.declared.change.AttrChange.TheVariants.{Mode, Owner, Times}
+use Rattle.tree_rules.specs.declared.attributes.AttrChange.{AttrChange}
+use Rattle.tree_rules.specs.declared.attributes.AttrChange.TheVariants.{Mode, Owner, Times}
 
 -- a mode is within its limit
 abbrev pub ChangeFits : AttrChange → Type 0

@@ -5,7 +5,7 @@ ghost use Rattle.fs_model.specs.Tree.{upward};
 ghost use Rattle.fs_model.specs.LookUp.{Found, look};
 ghost use Rattle.fs_model.specs.Step.{unless_root, attributes_set};
 ghost use Rattle.forest.specs.Showing.{Showing, Performed};
-ghost use Rattle.plain_tree.specs.Changes.{changed_by};
+ghost use Rattle.tree_rules.specs.Changes.{changed_by};
 ghost use Rattle.path_walks.specs.Changes.{IsDone};
 ghost use Rattle.path_layer.specs.Attributes.{ChangeFits};
 ghost use Rattle.path_layer.specs.Places.{Finding};
@@ -16,9 +16,9 @@ use block_id::{BlockId, Fail};
 use dir_blob::Entry;
 use fs_model::{FsError, MAX_MODE, Moment, Name, Reply};
 use path_walks::{Place, Sight, look_at, set_entry};
-use plain_tree::{AttrChange, changed};
 use rand_core::Rng;
 use std::alloc::Global;
+use tree_rules::{AttrChange, changed};
 
 /// Sets attributes of all but the root.
 pub fn set_attributes<B: Blobs, R: Rng>(

@@ -17,9 +17,9 @@ use crate::removing::{remove_directory, remove_file};
 use blob_api::Blobs;
 use block_id::{BlockId, Fail};
 use fs_model::{Command, Moment, Reply};
-use plain_tree::AttrChange;
 use rand_core::Rng;
 use std::alloc::Global;
+use tree_rules::AttrChange;
 
 /// One command on the tree that the blobs show.
 pub fn perform<B: Blobs, R: Rng>(

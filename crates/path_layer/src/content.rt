@@ -16,9 +16,9 @@ use dir_blob::Entry;
 use fs_blobs::body_len;
 use fs_model::{Attr, FsError, Kind, MAX_MODE, Moment, Name, Reply};
 use path_walks::{Place, Sight, look_at, resize_at, write_at};
-use plain_tree::is_too_long;
 use rand_core::Rng;
 use std::alloc::Global;
+use tree_rules::is_too_long;
 
 /// The bytes are written at `from`.
 pub fn write<B: Blobs, R: Rng>(

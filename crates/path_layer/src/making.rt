@@ -16,9 +16,9 @@ use fs_model::{
     Attr, DIRECTORY_MODE, FILE_MODE, FsError, Kind, LINK_MODE, MAX_TARGET, Moment, Name, Reply,
 };
 use path_walks::{Sight, look_at, make_in};
-use plain_tree::new_attr;
 use rand_core::Rng;
 use std::alloc::Global;
+use tree_rules::new_attr;
 
 /// A new directory.
 pub fn make_directory<B: Blobs, R: Rng>(

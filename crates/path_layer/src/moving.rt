@@ -15,9 +15,9 @@ use blob_api::Blobs;
 use block_id::{BlockId, Fail};
 use fs_model::{FsError, MAX_MODE, Moment, Name, Reply};
 use path_walks::{Place, Sight, look_at, move_free, move_onto};
-use plain_tree::{is_above, same_names};
 use rand_core::Rng;
 use std::alloc::Global;
+use tree_rules::{is_above, same_names};
 
 /// Every path that has the prefix `from` gets the prefix `to`.
 pub fn move_row<B: Blobs, R: Rng>(

@@ -1,6 +1,7 @@
-// Lines and their replies.
-use crate::site::{answer, empty_site};
+// Lines and their replies, on blobs and on the tree in memory.
+use crate::site::{answer, empty_site, told};
 use fs_model::Moment;
+use plain_tree::PlainTree;
 use std::test::Fail;
 
 #[test]
@@ -8,6 +9,7 @@ fn moves_follow_the_order_of_errors(rt: HostRuntime) -> Result<(), Fail> {
     let alloc = rt.alloc();
     let now = Moment::new(100, 5).ok_or("nanos")?;
     let mut site = empty_site(alloc)?;
+    let mut tree = PlainTree::new(alloc);
     for (line, text) in [
         ("mkdir /a", "ok\n"),
         ("mkdir /b", "ok\n"),
@@ -24,12 +26,20 @@ fn moves_follow_the_order_of_errors(rt: HostRuntime) -> Result<(), Fail> {
         ("mv /zz /b", "error no-entry\n"),
         ("ls /", "list 3\nd b\nd c\nf f\n"),
         ("mv /c /b/c", "ok\n"),
+        ("ls /c", "error no-entry\n"),
+        ("write /b/c/x 0 6162", "ok\n"),
+        ("mv /b /z", "ok\n"),
+        ("read /z/c/x 0 100", "data 6162\n"),
+        ("mv /z /b", "ok\n"),
+        ("truncate /b/c/x 0", "ok\n"),
         (
             "stat /b/c/x",
             "stat f 644 0 0 0 100.000000005 100.000000005 100.000000005\n",
         ),
     ] {
         let reply = answer(alloc, &mut site, now, line.as_bytes())?;
+        assert_eq!(rt; reply.as_slice(), text.as_bytes());
+        let reply = told(alloc, &mut tree, now, line.as_bytes())?;
         assert_eq!(rt; reply.as_slice(), text.as_bytes());
     }
     Ok(())
@@ -40,11 +50,14 @@ fn files_and_links_and_their_refusals(rt: HostRuntime) -> Result<(), Fail> {
     let alloc = rt.alloc();
     let now = Moment::new(9, 0).ok_or("nanos")?;
     let mut site = empty_site(alloc)?;
+    let mut tree = PlainTree::new(alloc);
     for (line, text) in [
         ("mkfile /f", "ok\n"),
         ("write /f 5 6162", "ok\n"),
         ("read /f 0 100", "data 00000000006162\n"),
         ("read /f 7 1", "data -\n"),
+        ("write /f 9 -", "ok\n"),
+        ("write /f 18446744073709551615 6162", "error too-large\n"),
         ("truncate /f 6", "ok\n"),
         ("chmod /f 600", "ok\n"),
         ("chown /f 7 8", "ok\n"),
@@ -66,6 +79,8 @@ fn files_and_links_and_their_refusals(rt: HostRuntime) -> Result<(), Fail> {
     ] {
         let reply = answer(alloc, &mut site, now, line.as_bytes())?;
         assert_eq!(rt; reply.as_slice(), text.as_bytes());
+        let reply = told(alloc, &mut tree, now, line.as_bytes())?;
+        assert_eq!(rt; reply.as_slice(), text.as_bytes());
     }
     Ok(())
 }
@@ -75,6 +90,7 @@ fn what_may_not_go_stays(rt: HostRuntime) -> Result<(), Fail> {
     let alloc = rt.alloc();
     let now = Moment::new(9, 0).ok_or("nanos")?;
     let mut site = empty_site(alloc)?;
+    let mut tree = PlainTree::new(alloc);
     for (line, text) in [
         ("mkdir /d", "ok\n"),
         ("mkfile /d/f", "ok\n"),
@@ -90,6 +106,8 @@ fn what_may_not_go_stays(rt: HostRuntime) -> Result<(), Fail> {
         ("ls /", "list 0\n"),
     ] {
         let reply = answer(alloc, &mut site, now, line.as_bytes())?;
+        assert_eq!(rt; reply.as_slice(), text.as_bytes());
+        let reply = told(alloc, &mut tree, now, line.as_bytes())?;
         assert_eq!(rt; reply.as_slice(), text.as_bytes());
     }
     Ok(())

@@ -4,6 +4,7 @@ use block_id::{BlockId, Fail as Failure};
 use fs_model::{Moment, Reply};
 use map_blobs::MapBlobs;
 use path_layer::{empty_root, perform};
+use plain_tree::PlainTree;
 use rand_pcg::Pcg32;
 use script_text::{parse_line, print_reply};
 use std::alloc::Global;
@@ -57,6 +58,19 @@ pub fn asked(
 pub fn answer(alloc: Global, site: &mut Site, now: Moment, line: &[u8]) -> Result<Vec<u8>, Fail> {
     let reply = asked(alloc, site, now, line)??;
     text_of(alloc, &reply)
+}
+
+/// What the tree in memory answers to a line.
+pub fn told(
+    alloc: Global,
+    tree: &mut PlainTree,
+    now: Moment,
+    line: &[u8],
+) -> Result<Vec<u8>, Fail> {
+    match parse_line(alloc, line) {
+        Ok(command) => text_of(alloc, &tree.step(now, &command)?),
+        Err(_) => Err(Fail::from("a line of the language")),
+    }
 }
 
 /// A reply as its lines.

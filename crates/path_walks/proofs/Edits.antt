@@ -13,11 +13,13 @@ use Rattle.fs_model.specs.declared.limits.TheConstants.{MAX_ENTRIES, MAX_TARGET}
 use Rattle.fs_model.specs.declared.attr.Kind.{Kind}
 use Rattle.fs_model.specs.declared.attr.Kind.TheVariants.{Directory, File, Link}
 use Rattle.fs_model.specs.PathTexts.{is_zero}
-use Rattle.std.specs.List.{list_any}
+use Rattle.std.specs.List.{All, list_any}
+use Rattle.std.proofs.lemmas.List.Elements.{All-head, All-tail}
+use Rattle.fs_model.specs.Names.{IsName}
 use Rattle.fs_model.specs.Tree.{Path, Tree, name_cmp, entry_size, entries_size, directory_size, FitsKind}
 use Rattle.fs_model.proofs.TreeLemmas.{same_name, name_total, name_exact, name_same, name_apart, name_split}
 use Rattle.fs_blobs.specs.declared.header.TheConstants.{HEADER_LEN}
-use Rattle.dir_blob.specs.Layout.{Target, Listing, body_of, IsListing}
+use Rattle.dir_blob.specs.Layout.{Target, Listing, body_of, IsEntry, IsListing}
 use Rattle.dir_blob.specs.Places.{without}
 use Rattle.forest.specs.Nodes.{Look, Lists, Content}
 use Rattle.forest.specs.Shows.{entries_at}
@@ -52,6 +54,15 @@ true_of false t = absurd t
 
 pub sorted_put : (n : List ℕ) (target : Target) (listing : Listing) → is_sorted name_cmp listing ≡ true → is_sorted name_cmp (put name_cmp n target listing) ≡ true
 sorted_put n target listing sorted = true_of (is_sorted name_cmp (put name_cmp n target listing)) (is_sorted-put name_cmp name_total n target listing (subst T (sym sorted) tt))
+
+-- the name of an entry that was put is one
+pub put_named : (n : List ℕ) (target : Target) (listing : Listing) → All IsEntry (put name_cmp n target listing) → IsName n
+put_named n target [] all = (All-head IsEntry (n, target) [] all).name
+put_named n target (e ∷ es) all = elim (name_cmp n e.0) as (λ o. name_cmp n e.0 ≡ o → All IsEntry (by_order o ((n, target) ∷ e ∷ es) ((e.0, target) ∷ es) (e ∷ put name_cmp n target es)) → IsName n) [
+  | Less ↦ λ is h. (All-head IsEntry (n, target) (e ∷ es) h).name
+  | Equal ↦ λ is h. let same : e.0 ≡ n = sym (name_exact n e.0 is) in subst IsName same (All-head IsEntry (e.0, target) es h).name
+  | Greater ↦ λ is h. put_named n target es (All-tail IsEntry e (put name_cmp n target es) h)
+] refl all
 
 -- a new entry takes its size
 pub size_put : (n : List ℕ) (target : Target) (listing : Listing) → find name_cmp n listing ≡ None → entries_size (put name_cmp n target listing) ≡ entries_size listing + entry_size n

@@ -10,6 +10,7 @@ use Rattle.fs_model.specs.declared.attr.Attr.{Attr}
 use Rattle.fs_model.specs.declared.error.FsError.TheVariants.{TooLarge}
 use Rattle.fs_model.specs.declared.reply.Reply.TheVariants.{Done, Error}
 use Rattle.fs_model.specs.Instant.{Instant}
+use Rattle.fs_model.specs.Names.{IsName}
 use Rattle.fs_model.specs.Tree.{Path, Row, Tree, entry_size, directory_size, IsWellFormed}
 use Rattle.fs_model.specs.Step.{Stepped, refused, done, with_ctime, moved_tree, moved_unless_large}
 use Rattle.fs_model.proofs.TreeLemmas.{same_name, name_same, name_apart, path_split}
@@ -69,8 +70,8 @@ module _ {S : Type 0} {H : BlobHoldings S} {a : S} {now : Instant} {from : Place
       same_row : w.row.attr ≡ w.place_at.row.attr
       same_row = let both : Some w.row ≡ Some w.place_at.row = sym w.can.here ∙ w.place_at.there in ap (λ (r : Row). r.attr) (some_is both)
 
-  pub well_formed_next : directory_size next w.below ≤ MAX_ENTRIES → IsWellFormed next
-  well_formed_next small = moved_well_formed w.tree now n w.above k w.below w.row (can_of w.can) w.shows.well_formed small
+  pub well_formed_next : IsName k → directory_size next w.below ≤ MAX_ENTRIES → IsWellFormed next
+  well_formed_next named small = moved_well_formed w.tree now n w.above k w.below w.row (can_of w.can) w.shows.well_formed named small
 
   pub can_as : (z : List ℕ) → k ≡ z → MayMove w.tree n w.above z w.below w.row
   can_as z e = subst (λ x. MayMove w.tree n w.above x w.below w.row) e w.can
@@ -78,12 +79,12 @@ module _ {S : Type 0} {H : BlobHoldings S} {a : S} {now : Instant} {from : Place
   pub free_as : (z : List ℕ) → k ≡ z → get w.tree (z ∷ w.below) ≡ None
   free_as z e = subst (λ x. get w.tree (x ∷ w.below) ≡ None) e w.free
 
-  pub formed_as : (z : List ℕ) → k ≡ z → directory_size next w.below ≤ MAX_ENTRIES → IsWellFormed (moved_tree w.tree now (n ∷ w.above) (z ∷ w.below) w.row)
-  formed_as z e small = subst (λ x. IsWellFormed (moved_tree w.tree now (n ∷ w.above) (x ∷ w.below) w.row)) e (well_formed_next small)
+  pub formed_as : (z : List ℕ) → k ≡ z → IsName k → directory_size next w.below ≤ MAX_ENTRIES → IsWellFormed (moved_tree w.tree now (n ∷ w.above) (z ∷ w.below) w.row)
+  formed_as z e named small = subst (λ x. IsWellFormed (moved_tree w.tree now (n ∷ w.above) (x ∷ w.below) w.row)) e (well_formed_next named small)
 
   -- the move can be made, under an equal name
-  abbrev pub moving : (b : S) → H.stands_for b w.map → directory_size next w.below ≤ MAX_ENTRIES → (z : List ℕ) → k ≡ z → (t : Target) → t.attr ≡ record place.attr { ctime = now } → t.blob ≡ place.blob.0 → Moving H b from.blob.0 n to.blob.0 (z, t)
-  moving b stands small z zk t attr blob = record {
+  abbrev pub moving : (b : S) → H.stands_for b w.map → IsName k → directory_size next w.below ≤ MAX_ENTRIES → (z : List ℕ) → k ≡ z → (t : Target) → t.attr ≡ record place.attr { ctime = now } → t.blob ≡ place.blob.0 → Moving H b from.blob.0 n to.blob.0 (z, t)
+  moving b stands named small z zk t attr blob = record {
     map = w.map;
     stands = stands;
     root = w.root;
@@ -100,7 +101,7 @@ module _ {S : Type 0} {H : BlobHoldings S} {a : S} {now : Instant} {from : Place
     to_id = w.to_at.blob;
     attr = attr_is t attr;
     blob = w.place_at.blob ∙ sym blob;
-    well_formed = formed_as z zk small;
+    well_formed = formed_as z zk named small;
   }
 
   abbrev pub ids_next : Path → Id

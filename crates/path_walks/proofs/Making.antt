@@ -28,7 +28,7 @@ use Rattle.forest.specs.Showing.{Performed, IsShownBy}
 use Rattle.path_walks.specs.Sights.{IsAt}
 use Rattle.path_walks.specs.Changes.{Making, Adding}
 use Rattle.path_walks.proofs.Nodes.{lists_at, directory_at, size_at}
-use Rattle.path_walks.proofs.Edits.{lists_with}
+use Rattle.path_walks.proofs.Edits.{lists_with, put_named}
 use Rattle.path_walks.proofs.Steps.{folder_is, walk_free}
 
 new_content : (kind : Kind) (bytes : List ℕ) → FitsKind kind bytes → Content kind bytes (λ k. None) bytes
@@ -113,7 +113,7 @@ module _ {S : Type 0} {H : BlobHoldings S} {a : S} {dir : Id} {n : List ℕ} {ro
           stands = subst (λ z. H.stands_for c (insert (insert w.map id (blob row.attr.kind z row.bytes)) z (blob Directory (above w.ids w.path) listed))) (sym here) h.stands;
           shows = made_shows w.map w.root w.tree w.ids w.shows n w.path folder w.is.none row id new.fresh row.bytes (new_content row.attr.kind row.bytes w.limits.content) listed
               (lists_with (entries_at w.tree w.ids w.path) directory.listing n target (lists_at w.shows w.path at.row at.there kind).entries h.entries)
-              (insert_free w.tree n w.path row w.shows.well_formed folder w.is.none w.limits small);
+              (insert_free w.tree n w.path row w.shows.well_formed (put_named n target directory.listing h.entries.entries) folder w.is.none w.limits small);
         }
 
   -- the row was made

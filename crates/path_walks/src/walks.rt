@@ -10,8 +10,8 @@ use blob_api::Blobs;
 use block_id::{BlockId, Fail};
 use dir_blob::find_target;
 use fs_model::{FsError, Kind, Name};
-use plain_tree::root_attr;
 use std::alloc::Global;
+use tree_rules::root_attr;
 
 /// One name further.
 pub fn advance<B: Blobs>(alloc: Global, b: &mut B, spot: Spot, name: &Name) -> Result<Spot, Fail>

@@ -1,8 +1,8 @@
 -- The content of a file after a write.
-use Rattle.std.proofs.Common.{◌≡◌, ℕ, ◌+◌, ◌-◌, ◌<◌, ◌≤◌, ◌++◌, min, max, length, take, drop, suc, zero, false, List, [], ◌∷◌, sym, ◌∙◌, ap, arith}
+use Rattle.std.proofs.Common.{◌≡◌, ℕ, ◌+◌, ◌-◌, ◌<◌, ◌≤◌, ◌++◌, min, max, length, take, drop, suc, zero, true, false, refl, List, [], ◌∷◌, sym, ◌∙◌, ap, arith}
 use Rattle.std.proofs.lemmas.List.{take_all, append-nil, take-replicate}
-use Rattle.std.proofs.lemmas.Bool.{or_parts, or_from, ltb-false, le-ltb}
-use Rattle.std.specs.Prelude.{replicate, nat_lt}
+use Rattle.std.proofs.lemmas.Bool.{or_parts, or_from, or_left, or_right, ltb-false, ltb-true, le-ltb, lt-ltb}
+use Rattle.std.specs.Prelude.{replicate, nat_lt, ◌||◌}
 use Rattle.std.proofs.Math.ListN.{drop_of_length-le}
 use Rattle.std.specs.Result.{OnErr}
 use Rattle.std.specs.declared.result.Result.{Result}
@@ -18,6 +18,14 @@ end_short old from len end whole e w h =
     let file = ltb-false MAX_FILE whole parts.0 in
     let growth = ltb-false (old + MAX_GROWTH) whole parts.1 in
     or_from (nat_lt MAX_FILE (max old (from + len))) (nat_lt (old + MAX_GROWTH) (max old (from + len))) (le-ltb MAX_FILE (max old (from + len)) (omega arith)) (le-ltb (old + MAX_GROWTH) (max old (from + len)) (omega arith))
+
+pub end_long : (old from len end whole : ℕ) → end ≡ min (from + len) 18446744073709551615 → whole ≡ max end old → is_too_long old whole ≡ true → is_too_long old (max old (from + len)) ≡ true
+end_long old from len end whole e w h = elim (nat_lt MAX_FILE whole) as (λ x. nat_lt MAX_FILE whole ≡ x → is_too_long old (max old (from + len)) ≡ true) [
+  | true ↦ λ a. let over = ltb-true MAX_FILE whole a in or_left (nat_lt MAX_FILE (max old (from + len))) (nat_lt (old + MAX_GROWTH) (max old (from + len))) (lt-ltb MAX_FILE (max old (from + len)) (omega arith))
+  | false ↦ λ a.
+      let over = ltb-true (old + MAX_GROWTH) whole (sym (ap (λ z. z || nat_lt (old + MAX_GROWTH) whole) a) ∙ h) in
+      or_right (nat_lt MAX_FILE (max old (from + len))) (nat_lt (old + MAX_GROWTH) (max old (from + len))) (lt-ltb (old + MAX_GROWTH) (max old (from + len)) (omega arith))
+] refl
 
 -- bytes put over a content that reaches their end
 pub put_inside : (old bytes : List ℕ) (from : ℕ) → from + length bytes ≤ length old → take from old ++ bytes ++ drop (from + length bytes) old ≡ overwritten old from bytes

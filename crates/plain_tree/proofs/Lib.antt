@@ -1,12 +1,5 @@
-pub mod PathLemmas
-pub mod SortedLemmas
-pub mod FindLemmas
-pub mod ChildLemmas
-pub mod EditLemmas
-pub mod EffectLemmas
 pub mod ContentLemmas
-pub mod FormedLemmas
-pub mod PrefixLemmas
-pub mod PairLemmas
-pub mod MoveEffects
+pub mod StepLemmas
+pub mod CarryLemmas
 pub mod MoveSteps
+pub mod Refusals

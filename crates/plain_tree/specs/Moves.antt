@@ -1,12 +1,10 @@
 -- Moves that nothing refuses.
-use Rattle.std.specs.Prelude.{◌≡◌, ℕ, Bool, true, false, List, [], ◌∷◌, ◌++◌, is_some, remove}
-use Rattle.std.specs.FinMap.{get}
-use Rattle.std.specs.declared.option.Option.{Option}
+use Rattle.std.specs.Prelude.{◌≡◌, ℕ, Bool, true, false, cond, List, [], ◌∷◌, ◌++◌, is_some}
+use Rattle.std.specs.FinMap.{get, insert}
 use Rattle.std.specs.declared.option.Option.TheVariants.{None, Some}
-use Rattle.fs_model.specs.Tree.{Path, Row, Tree, upward, parent, is_root, is_folder}
+use Rattle.fs_model.specs.declared.attr.Attr.{Attr}
+use Rattle.fs_model.specs.Tree.{Path, Row, Tree, parent, is_root, is_folder}
 use Rattle.fs_model.specs.Move.{is_above}
-use Rattle.plain_tree.specs.declared.line.Line.{Line}
-use Rattle.plain_tree.specs.Rows.{line_row}
 
 -- a row at p, and a path q that isn't at or below p, stands below a directory and has nothing below it
 pub record IsMove (t : Tree) (p q : Path) (row : Row) (replaces : Bool) : Type 0 where
@@ -19,13 +17,6 @@ pub record IsMove (t : Tree) (p q : Path) (row : Row) (replaces : Bool) : Type 0
   pub bare : (s : Path) (n : List ℕ) → get t (n ∷ (s ++ q)) ≡ None
   pub target : is_some (get t q) ≡ replaces
 
--- the rows of lines at other paths
-abbrev pub paired : List (List (List ℕ)) → List Line → List (Path × Row)
-paired [] ls = []
-paired (p ∷ ps) [] = []
-paired (p ∷ ps) (l ∷ ls) = (upward p, line_row l) ∷ paired ps ls
-
--- the list without the element at this index, if there is one
-abbrev pub without : {X : Type 0} → Option ℕ → List X → List X
-without None xs = xs
-without (Some j) xs = remove xs j
+-- a row without bytes at q, where there is none
+abbrev pub held : Tree → Path → Attr → Bool → Tree
+held t q attr replaces = cond replaces t (insert t q (record { attr = attr; bytes = [] }))

@@ -1,112 +1,90 @@
 // Commands that change the content or the attributes of one row.
 ghost use Rattle.std.specs.Prelude.{◌≡◌, ◌+◌, ◌≤◌, ◌++◌, length, take, drop, IfOk, OnOk, OnErr};
 ghost use Rattle.fs_model.specs.declared.limits.TheConstants.{MAX_FILE};
-ghost use Rattle.fs_model.specs.Tree.{upward};
+ghost use Rattle.fs_model.specs.Tree.{upward, IsWellFormed};
 ghost use Rattle.fs_model.specs.LookUp.{look};
 ghost use Rattle.fs_model.specs.Step as step;
-ghost use Rattle.plain_tree.specs.Rows.{rows, tree_of, IsFormed};
 ghost use Rattle.plain_tree.specs.Answers.{IsAnswer};
-ghost use Rattle.plain_tree.specs.Changes.{changed_by};
+ghost use Rattle.tree_rules.specs.Changes.{changed_by};
 
-use crate::line::Line;
-use crate::look::{Sight, look_up};
+use crate::look::{file_of, row_of};
 use block_id::Memory;
-use fs_model::{Attr, FsError, Kind, MAX_FILE, MAX_GROWTH, Moment, Path, Reply};
-
-/// New attributes.
-#[derive(Clone, Copy, Debug)]
-pub enum AttrChange {
-    Mode(u32),
-    /// The uid and the gid.
-    Owner(u32, u32),
-    /// The atime and the mtime.
-    Times(Moment, Moment),
-}
-
-/// The attributes after a change.
-pub fn changed(attr: Attr, change: AttrChange, now: Moment) -> Attr
-    ensures { result ≡ changed_by change now attr }
-{
-    match change {
-        AttrChange::Mode(mode) => Attr {
-            mode,
-            ctime: now,
-            ..attr
-        },
-        AttrChange::Owner(uid, gid) => Attr {
-            uid,
-            gid,
-            ctime: now,
-            ..attr
-        },
-        AttrChange::Times(atime, mtime) => Attr {
-            atime,
-            mtime,
-            ctime: now,
-            ..attr
-        },
-    }
-}
+use fs_model::{Attr, FsError, Moment, Name, Reply};
+use row_table::Table;
+use tree_rules::{AttrChange, changed, is_too_long};
 
 /// Sets attributes.
-pub fn set_attributes(lines: &mut Vec<Line>, path: &Path, change: AttrChange, now: Moment) -> Reply
-    requires { IsFormed lines.old.items }
-    ensures { IsAnswer lines.new.items result (step.unless_root (tree_of lines.old.items) (upward path.now) (step.attributes_set (tree_of lines.old.items) (upward path.now) (changed_by change now) (look (tree_of lines.old.items) (upward path.now)))) }
+pub fn set_attributes(table: &mut Table, names: &[Name], change: AttrChange, now: Moment) -> Reply
+    requires { IsWellFormed table.old }
+    ensures { IsAnswer table.new result (step.unless_root table.old (upward names.now) (step.attributes_set table.old (upward names.now) (changed_by change now) (look table.old (upward names.now)))) }
 {
-    let i = match look_up(lines, path.names()) {
-        Sight::Root => return Reply::Error(FsError::Busy),
-        Sight::At(i) => i,
-        Sight::Vacant(_) => return Reply::Error(FsError::NoEntry),
-        Sight::Wrong(error) => return Reply::Error(error),
+    if names.is_empty() {
+        return Reply::Error(FsError::Busy);
+    }
+    let (attr, _) = match row_of(table, names) {
+        Ok(row) => row,
+        Err(error) => return Reply::Error(error),
     };
-    let line = &mut lines[i];
-    line.attr = changed(line.attr, change, now);
+    let attr = changed(attr, change, now);
+    let none = Vec::new(table.allocator());
+    let bytes = table.set(names, same_attr(&attr), none);
+    table.set(names, attr, bytes);
     Reply::Done
 }
 
-/// A file of the old length may not get this length.
-pub fn is_too_long(old: u64, new: u64) -> bool
-    ensures { result ≡ step.is_too_long old new }
+/// The same attributes.
+pub fn same_attr(attr: &Attr) -> Attr
+    ensures { result ≡ attr.now }
 {
-    new > MAX_FILE || new.saturating_sub(old) > MAX_GROWTH
+    *attr
+}
+
+/// The attributes after a change of the content.
+fn touched(attr: Attr, now: Moment) -> Attr
+    ensures { result ≡ record attr { mtime = now; ctime = now } }
+{
+    Attr {
+        mtime: now,
+        ctime: now,
+        ..attr
+    }
 }
 
 /// Writes the bytes from `from` on.
 pub fn write(
-    lines: &mut Vec<Line>,
-    path: &Path,
+    table: &mut Table,
+    names: &[Name],
     from: u64,
     bytes: &[u8],
     now: Moment,
 ) -> Result<Reply, Memory>
-    requires { IsFormed lines.old.items }
-    ensures ok { IfOk result (λ reply. IsAnswer lines.new.items reply (step.written (tree_of lines.old.items) now (upward path.now) from bytes.now (look (tree_of lines.old.items) (upward path.now)))) }
-    ensures err { OnErr result (rows lines.new.items ≡ rows lines.old.items) }
+    requires { IsWellFormed table.old }
+    ensures ok { IfOk result (λ reply. IsAnswer table.new reply (step.written table.old now (upward names.now) from bytes.now (look table.old (upward names.now)))) }
+    ensures err { OnErr result (table.new ≡ table.old) }
 {
-    let i = match look_up(lines, path.names()) {
-        Sight::Root => return Ok(Reply::Error(FsError::IsDirectory)),
-        Sight::At(i) => i,
-        Sight::Vacant(_) => return Ok(Reply::Error(FsError::NoEntry)),
-        Sight::Wrong(error) => return Ok(Reply::Error(error)),
+    let (attr, old) = match file_of(table, names) {
+        Ok(file) => file,
+        Err(error) => return Ok(Reply::Error(error)),
     };
-    match lines[i].attr.kind {
-        Kind::Directory => return Ok(Reply::Error(FsError::IsDirectory)),
-        Kind::File => {}
-        Kind::Link => return Ok(Reply::Error(FsError::Invalid)),
-    }
     if bytes.is_empty() {
         return Ok(Reply::Done);
     }
-    let old = lines[i].bytes.len() as u64;
     let end = from.saturating_add(bytes.len() as u64);
     if is_too_long(old, end.max(old)) {
         return Ok(Reply::Error(FsError::TooLarge));
     }
-    let line = &mut lines[i];
-    overwrite(&mut line.bytes, from as usize, bytes)?;
-    line.attr.mtime = now;
-    line.attr.ctime = now;
-    Ok(Reply::Done)
+    let none = Vec::new(table.allocator());
+    let mut content = table.set(names, same_attr(&attr), none);
+    match overwrite(&mut content, from as usize, bytes) {
+        Ok(()) => {
+            table.set(names, touched(attr, now), content);
+            Ok(Reply::Done)
+        }
+        Err(Memory) => {
+            table.set(names, attr, content);
+            Err(Memory)
+        }
+    }
 }
 
 /// Puts the bytes at `from`, with zeros between the old end and it. Memory is taken first.
@@ -132,28 +110,37 @@ fn put_at(content: &mut [u8], from: usize, bytes: &[u8])
 }
 
 /// Cuts a file, or fills it with zeros.
-pub fn truncate(lines: &mut Vec<Line>, path: &Path, len: u64, now: Moment) -> Result<Reply, Memory>
-    requires { IsFormed lines.old.items }
-    ensures ok { IfOk result (λ reply. IsAnswer lines.new.items reply (step.truncated (tree_of lines.old.items) now (upward path.now) len (look (tree_of lines.old.items) (upward path.now)))) }
-    ensures err { OnErr result (rows lines.new.items ≡ rows lines.old.items) }
+pub fn truncate(table: &mut Table, names: &[Name], len: u64, now: Moment) -> Result<Reply, Memory>
+    requires { IsWellFormed table.old }
+    ensures ok { IfOk result (λ reply. IsAnswer table.new reply (step.truncated table.old now (upward names.now) len (look table.old (upward names.now)))) }
+    ensures err { OnErr result (table.new ≡ table.old) }
 {
-    let i = match look_up(lines, path.names()) {
-        Sight::Root => return Ok(Reply::Error(FsError::IsDirectory)),
-        Sight::At(i) => i,
-        Sight::Vacant(_) => return Ok(Reply::Error(FsError::NoEntry)),
-        Sight::Wrong(error) => return Ok(Reply::Error(error)),
+    let (attr, old) = match file_of(table, names) {
+        Ok(file) => file,
+        Err(error) => return Ok(Reply::Error(error)),
     };
-    match lines[i].attr.kind {
-        Kind::Directory => return Ok(Reply::Error(FsError::IsDirectory)),
-        Kind::File => {}
-        Kind::Link => return Ok(Reply::Error(FsError::Invalid)),
-    }
-    if is_too_long(lines[i].bytes.len() as u64, len) {
+    if is_too_long(old, len) {
         return Ok(Reply::Error(FsError::TooLarge));
     }
-    let line = &mut lines[i];
-    line.bytes.resize(len as usize, 0)?;
-    line.attr.mtime = now;
-    line.attr.ctime = now;
-    Ok(Reply::Done)
+    let none = Vec::new(table.allocator());
+    let mut content = table.set(names, same_attr(&attr), none);
+    match resize(&mut content, len as usize) {
+        Ok(()) => {
+            table.set(names, touched(attr, now), content);
+            Ok(Reply::Done)
+        }
+        Err(Memory) => {
+            table.set(names, attr, content);
+            Err(Memory)
+        }
+    }
+}
+
+/// Cuts the bytes, or fills them up with zeros.
+fn resize(content: &mut Vec<u8>, len: usize) -> Result<(), Memory>
+    ensures ok { OnOk result (content.new.items ≡ step.resized content.old.items len) }
+    ensures err { OnErr result (content.new.items ≡ content.old.items) }
+{
+    content.resize(len, 0)?;
+    Ok(())
 }

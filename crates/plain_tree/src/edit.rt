@@ -1,100 +1,101 @@
-// Commands that make, take away or change one row.
-ghost use Rattle.std.specs.Prelude.{◌≡◌, [], IfOk, OnErr};
-ghost use Rattle.fs_model.specs.Tree.{upward};
+// Commands that make or take away one row.
+ghost use Rattle.std.specs.Prelude.{◌≡◌, ◌≤◌, IfOk, OnErr};
+ghost use Rattle.fs_model.specs.Tree.{upward, IsWellFormed};
+ghost use Rattle.fs_model.specs.Tree as model;
 ghost use Rattle.fs_model.specs.LookUp.{look};
 ghost use Rattle.fs_model.specs.Step as step;
-ghost use Rattle.plain_tree.specs.Rows.{rows, tree_of, IsFormed};
 ghost use Rattle.plain_tree.specs.Answers.{IsAnswer};
 
-use crate::children::{directory_size, has_child, name_size};
-use crate::line::Line;
-use crate::look::{Sight, look_up};
+use crate::look::{Sight, look_up, row_of};
 use block_id::Memory;
-use fs_model::{Attr, FsError, Kind, MAX_ENTRIES, Moment, Path, Reply};
+use fs_model::{Attr, ENTRY_SIZE, FsError, Kind, MAX_ENTRIES, Name, Reply};
+use row_table::Table;
 
-/// The attributes of a new row.
-pub fn new_attr(kind: Kind, mode: u32, now: Moment) -> Attr
-    ensures { result ≡ (step.new_row kind mode now []).attr }
+/// The bytes of the entry of a name.
+pub fn name_size(name: &Name) -> u64
+    ensures value { result ≡ model.entry_size name.now }
+    ensures bound { result ≤ 321 }
 {
-    Attr {
-        kind,
-        mode,
-        uid: 0,
-        gid: 0,
-        atime: now,
-        mtime: now,
-        ctime: now,
+    ENTRY_SIZE + name.as_slice().len() as u64
+}
+
+/// A directory, and not a file or a link.
+pub fn is_directory(kind: Kind) -> bool
+    ensures { result ≡ model.is_directory kind }
+{
+    match kind {
+        Kind::Directory => true,
+        Kind::File => false,
+        Kind::Link => false,
     }
 }
 
 /// A new row.
-pub fn make(lines: &mut Vec<Line>, path: &Path, attr: Attr, bytes: Vec<u8>) -> Result<Reply, Memory>
-    requires { IsFormed lines.old.items }
-    ensures ok { IfOk result (λ reply. IsAnswer lines.new.items reply (step.made (tree_of lines.old.items) (upward path.now) (record { attr = attr; bytes = bytes.items }) (look (tree_of lines.old.items) (upward path.now)))) }
-    ensures err { OnErr result (rows lines.new.items ≡ rows lines.old.items) }
+pub fn make(table: &mut Table, names: &[Name], attr: Attr, bytes: Vec<u8>) -> Result<Reply, Memory>
+    requires { IsWellFormed table.old }
+    ensures ok { IfOk result (λ reply. IsAnswer table.new reply (step.made table.old (upward names.now) (record { attr = attr; bytes = bytes.items }) (look table.old (upward names.now)))) }
+    ensures err { OnErr result (table.new ≡ table.old) }
 {
-    let names = path.names();
-    let place = match look_up(lines, names) {
-        Sight::Root => return Ok(Reply::Error(FsError::Exists)),
-        Sight::At(_) => return Ok(Reply::Error(FsError::Exists)),
-        Sight::Vacant(place) => place,
-        Sight::Wrong(error) => return Ok(Reply::Error(error)),
-    };
+    match look_up(table, names) {
+        Sight::Found(_, _) => return Ok(Reply::Error(FsError::Exists)),
+        Sight::Free => {}
+        Sight::Bad(error) => return Ok(Reply::Error(error)),
+    }
     if names.is_empty() {
         return Ok(Reply::Error(FsError::Exists));
     }
     let last = names.len() - 1;
-    if directory_size(lines, &names[..last]) + name_size(&names[last]) > MAX_ENTRIES {
+    if table.size(&names[..last]) + name_size(&names[last]) > MAX_ENTRIES {
         return Ok(Reply::Error(FsError::TooLarge));
     }
-    let line = Line {
-        path: path.try_clone()?,
-        attr,
-        bytes,
-    };
-    lines.insert(place, line)?;
+    table.insert(names, attr, bytes)?;
     Ok(Reply::Done)
 }
 
 /// An empty directory goes.
-pub fn remove_directory(lines: &mut Vec<Line>, path: &Path) -> Reply
-    requires { IsFormed lines.old.items }
-    ensures { IsAnswer lines.new.items result (step.unless_root (tree_of lines.old.items) (upward path.now) (step.removed_directory (tree_of lines.old.items) (upward path.now) (look (tree_of lines.old.items) (upward path.now)))) }
+pub fn remove_directory(table: &mut Table, names: &[Name]) -> Reply
+    requires { IsWellFormed table.old }
+    ensures { IsAnswer table.new result (step.unless_root table.old (upward names.now) (step.removed_directory table.old (upward names.now) (look table.old (upward names.now)))) }
 {
-    let i = match look_up(lines, path.names()) {
-        Sight::Root => return Reply::Error(FsError::Busy),
-        Sight::At(i) => i,
-        Sight::Vacant(_) => return Reply::Error(FsError::NoEntry),
-        Sight::Wrong(error) => return Reply::Error(error),
+    if names.is_empty() {
+        return Reply::Error(FsError::Busy);
+    }
+    let (attr, _) = match row_of(table, names) {
+        Ok(row) => row,
+        Err(error) => return Reply::Error(error),
     };
-    match lines[i].attr.kind {
-        Kind::Directory => {}
-        Kind::File => return Reply::Error(FsError::NotDirectory),
-        Kind::Link => return Reply::Error(FsError::NotDirectory),
+    if is_directory(attr.kind) {
+        if has_child(table, names) {
+            return Reply::Error(FsError::NotEmpty);
+        }
+        table.remove(names);
+        return Reply::Done;
     }
-    if has_child(lines, path.names()) {
-        return Reply::Error(FsError::NotEmpty);
-    }
-    lines.remove(i);
-    Reply::Done
+    Reply::Error(FsError::NotDirectory)
+}
+
+/// The directory has a child.
+pub fn has_child(table: &Table, names: &[Name]) -> bool
+    ensures { result ≡ step.has_child table.now (upward names.now) }
+{
+    table.size(names) > 0
 }
 
 /// A file or a link goes.
-pub fn remove_file(lines: &mut Vec<Line>, path: &Path) -> Reply
-    requires { IsFormed lines.old.items }
-    ensures { IsAnswer lines.new.items result (step.unless_root (tree_of lines.old.items) (upward path.now) (step.removed_file (tree_of lines.old.items) (upward path.now) (look (tree_of lines.old.items) (upward path.now)))) }
+pub fn remove_file(table: &mut Table, names: &[Name]) -> Reply
+    requires { IsWellFormed table.old }
+    ensures { IsAnswer table.new result (step.unless_root table.old (upward names.now) (step.removed_file table.old (upward names.now) (look table.old (upward names.now)))) }
 {
-    let i = match look_up(lines, path.names()) {
-        Sight::Root => return Reply::Error(FsError::Busy),
-        Sight::At(i) => i,
-        Sight::Vacant(_) => return Reply::Error(FsError::NoEntry),
-        Sight::Wrong(error) => return Reply::Error(error),
-    };
-    match lines[i].attr.kind {
-        Kind::Directory => return Reply::Error(FsError::IsDirectory),
-        Kind::File => {}
-        Kind::Link => {}
+    if names.is_empty() {
+        return Reply::Error(FsError::Busy);
     }
-    lines.remove(i);
+    let (attr, _) = match row_of(table, names) {
+        Ok(row) => row,
+        Err(error) => return Reply::Error(error),
+    };
+    if is_directory(attr.kind) {
+        return Reply::Error(FsError::IsDirectory);
+    }
+    table.remove(names);
     Reply::Done
 }

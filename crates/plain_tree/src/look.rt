@@ -1,44 +1,70 @@
 // The look-up of a path.
-ghost use Rattle.std.specs.Prelude.{◌≡◌, [], IfOk, IfErr, Some};
-ghost use Rattle.fs_model.specs.Tree.{upward};
+ghost use Rattle.std.specs.Prelude.{◌≡◌, IfOk, IfErr, Some};
+ghost use Rattle.fs_model.specs.Tree.{upward, IsWellFormed};
 ghost use Rattle.fs_model.specs.LookUp.{Found, look};
-ghost use Rattle.plain_tree.specs.Rows.{tree_of, IsFormed};
-ghost use Rattle.plain_tree.specs.Sights.{SightIs, refusal_of};
+ghost use Rattle.plain_tree.specs.Sights.{IsFileAt, seen_of, refusal_of, file_refusal};
 
-use crate::find::find_line;
-use crate::line::Line;
 use fs_model::{Attr, FsError, Kind, Name};
+use row_table::Table;
 
-/// What a look-up gives: the root, a line, a free path and its line's place, or an error.
+/// What a look-up gives: a row, that the path is free, or an error.
 #[derive(Clone, Copy, Debug)]
-pub enum Sight {
-    Root,
-    At(usize),
-    Vacant(usize),
-    Wrong(FsError),
+pub enum Sight<'a> {
+    Found(Attr, &'a [u8]),
+    Free,
+    Bad(FsError),
 }
 
-/// Looks a path up: it stands at a line, or its parent's look-up tells.
-pub fn look_up(lines: &[Line], names: &[Name]) -> Sight
-    requires { IsFormed lines.now }
-    ensures { SightIs lines.now (upward names.now) result }
+/// Looks a path up: it has a row, or its parent's look-up tells.
+pub fn look_up<'a>(table: &'a Table, names: &[Name]) -> Sight<'a>
+    requires { IsWellFormed table.now }
+    ensures { look table.now (upward names.now) ≡ seen_of result }
 {
-    if names.is_empty() {
-        return Sight::Root;
+    match table.row(names) {
+        Some((attr, bytes)) => return Sight::Found(attr, bytes),
+        None => {}
     }
-    let place = match find_line(lines, names) {
-        Ok(i) => return Sight::At(i),
-        Err(place) => place,
-    };
+    if names.is_empty() {
+        unreachable!();
+    }
     let last = names.len() - 1;
-    match look_up(lines, &names[..last]) {
-        Sight::Root => Sight::Vacant(place),
-        Sight::At(i) => match lines[i].attr.kind {
-            Kind::Directory => Sight::Vacant(place),
-            Kind::File => Sight::Wrong(FsError::NotDirectory),
-            Kind::Link => Sight::Wrong(FsError::NotDirectory),
+    match look_up(table, &names[..last]) {
+        Sight::Found(attr, _) => match attr.kind {
+            Kind::Directory => Sight::Free,
+            Kind::File => Sight::Bad(FsError::NotDirectory),
+            Kind::Link => Sight::Bad(FsError::NotDirectory),
         },
-        Sight::Vacant(_) => Sight::Wrong(FsError::NoEntry),
-        Sight::Wrong(error) => Sight::Wrong(error),
+        Sight::Free => Sight::Bad(FsError::NoEntry),
+        Sight::Bad(error) => Sight::Bad(error),
+    }
+}
+
+/// The attributes and the bytes of a path's row, or why there is none.
+pub fn row_of<'a>(table: &'a Table, names: &[Name]) -> Result<(Attr, &'a [u8]), FsError>
+    requires { IsWellFormed table.now }
+    ensures found { IfOk result (λ row. look table.now (upward names.now) ≡ Found (record { attr = row.0; bytes = row.1.now })) }
+    ensures refused { IfErr result (λ e. refusal_of (look table.now (upward names.now)) ≡ Some e) }
+{
+    match look_up(table, names) {
+        Sight::Found(attr, bytes) => Ok((attr, bytes)),
+        Sight::Free => Err(FsError::NoEntry),
+        Sight::Bad(error) => Err(error),
+    }
+}
+
+/// The attributes and the length of a path's file, or why its content isn't touched.
+pub fn file_of(table: &Table, names: &[Name]) -> Result<(Attr, u64), FsError>
+    requires { IsWellFormed table.now }
+    ensures found { IfOk result (λ f. IsFileAt table.now (upward names.now) f.0 f.1) }
+    ensures refused { IfErr result (λ e. file_refusal (look table.now (upward names.now)) ≡ Some e) }
+{
+    let (attr, bytes) = match row_of(table, names) {
+        Ok(row) => row,
+        Err(error) => return Err(error),
+    };
+    match attr.kind {
+        Kind::Directory => Err(FsError::IsDirectory),
+        Kind::File => Ok((attr, bytes.len() as u64)),
+        Kind::Link => Err(FsError::Invalid),
     }
 }

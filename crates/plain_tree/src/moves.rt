@@ -1,24 +1,24 @@
 // Moving all that is at or below a path.
-ghost use Rattle.std.specs.Prelude.{◌≡◌, ◌+◌, ◌<◌, ◌≤◌, false, cond, is_some, vec_len, IfOk, IfSome, OnErr, Some};
+ghost use Rattle.std.specs.Prelude.{◌≡◌, ◌+◌, ◌≤◌, ◌++◌, ℕ, List, ◌∷◌, true, false, cond, is_some, IfOk, OnOk, OnErr, None, Some};
+ghost use Rattle.std.specs.FinMap as tree;
 ghost use Rattle.std.specs.FinMap.{get};
-ghost use Rattle.fs_model.specs.Tree.{Row, is_root, last_name, parent, same_path, upward};
+ghost use Rattle.fs_model.specs.declared.limits.TheConstants.{MAX_ENTRIES};
+ghost use Rattle.fs_model.specs.Tree.{Row, is_root, last_name, parent, same_path, upward, IsWellFormed};
 ghost use Rattle.fs_model.specs.Tree as model;
-ghost use Rattle.fs_model.specs.LookUp.{look};
+ghost use Rattle.fs_model.specs.LookUp.{Found, look};
 ghost use Rattle.fs_model.specs.Move as step_move;
 ghost use Rattle.fs_model.specs.Step as step;
-ghost use Rattle.plain_tree.specs.Rows.{rows, tree_of, IsFormed};
-ghost use Rattle.plain_tree.specs.Sights.{IsLineAt, SightIs};
-ghost use Rattle.plain_tree.specs.declared.look.Sight.TheVariants.{At};
+ghost use Rattle.row_table.specs.Moves.{IsBelowMoved};
 ghost use Rattle.plain_tree.specs.Answers.{IsAnswer};
-ghost use Rattle.plain_tree.specs.Moves.{IsMove, without};
+ghost use Rattle.plain_tree.specs.Moves.{IsMove, held};
 
-use crate::children::{directory_size, has_child, name_size};
-use crate::line::{Line, same_names};
-use crate::look::{Sight, look_up};
-use crate::prefix::{is_above, moved_paths};
-use crate::rebuild::rebuild;
+use crate::change::same_attr;
+use crate::edit::{has_child, is_directory, name_size};
+use crate::look::{Sight, look_up, row_of};
 use block_id::Memory;
-use fs_model::{FsError, Kind, MAX_ENTRIES, Moment, Name, Path, Reply};
+use fs_model::{Attr, FsError, Kind, MAX_ENTRIES, Moment, Name, Reply};
+use row_table::Table;
+use tree_rules::{is_above, same_names};
 
 /// The bytes of the entry that leaves `to`'s parent.
 fn size_left(from: &[Name], to: &[Name]) -> u64
@@ -42,16 +42,16 @@ fn size_left(from: &[Name], to: &[Name]) -> u64
 }
 
 /// The bytes of the entries of a path's parent, with one for the path itself.
-fn size_with(lines: &[Line], to: &[Name], replaces: bool) -> u64
-    requires formed { IsFormed lines.now }
+fn size_with(table: &Table, to: &[Name], replaces: bool) -> u64
+    requires formed { IsWellFormed table.now }
     requires to { is_root (upward to.now) ≡ false }
-    ensures value { result ≡ model.directory_size (tree_of lines.now) (parent (upward to.now)) + cond replaces 0 (model.entry_size (last_name (upward to.now))) }
+    ensures value { result ≡ model.directory_size table.now (parent (upward to.now)) + cond replaces 0 (model.entry_size (last_name (upward to.now))) }
 {
     if to.is_empty() {
         unreachable!();
     }
     let last = to.len() - 1;
-    let size = directory_size(lines, &to[..last]);
+    let size = table.size(&to[..last]);
     if replaces {
         size
     } else {
@@ -59,124 +59,161 @@ fn size_with(lines: &[Line], to: &[Name], replaces: bool) -> u64
     }
 }
 
-/// The replaced line and its new path go.
-fn drop_replaced(lines: &mut Vec<Line>, paths: &mut Vec<Path>, replaced: Option<usize>)
-    requires lines { IfSome replaced (λ j. j < vec_len lines.old) }
-    requires paths { IfSome replaced (λ j. j < vec_len paths.old) }
-    ensures lines { lines.new.items ≡ without replaced lines.old.items }
-    ensures paths { paths.new.items ≡ without replaced paths.old.items }
-    ensures shorter { vec_len lines.new ≤ vec_len lines.old }
-    ensures alike { vec_len lines.old ≡ vec_len paths.old → vec_len paths.new ≡ vec_len lines.new }
+/// A row without bytes at the path, where there is none.
+fn hold(table: &mut Table, to: &[Name], attr: Attr, replaces: bool) -> Result<(), Memory>
+    requires named { is_root (upward to.now) ≡ false }
+    requires target { is_some (get table.old (upward to.now)) ≡ replaces }
+    requires room { model.directory_size table.old (parent (upward to.now)) ≤ MAX_ENTRIES }
+    ensures ok { OnOk result (table.new ≡ held table.old (upward to.now) attr replaces) }
+    ensures err { OnErr result (table.new ≡ table.old) }
 {
-    if let Some(j) = replaced {
-        lines.remove(j);
-        paths.remove(j);
+    if replaces {
+        return Ok(());
+    }
+    let none = Vec::new(table.allocator());
+    table.insert(to, attr, none)
+}
+
+/// That row goes again.
+fn let_go(table: &mut Table, to: &[Name], replaces: bool)
+    requires named { is_root (upward to.now) ≡ false }
+    requires there { is_some (get table.old (upward to.now)) ≡ true }
+    ensures { table.new ≡ cond replaces table.old (tree.remove table.old (upward to.now)) }
+{
+    if !replaces {
+        table.remove(to);
     }
 }
 
-/// Moves the lines, where nothing but the directory's limit refuses it. The line `i` is `from`'s, and
-/// `replaced` is that of `to`, if there is one. Memory is taken first.
+/// The attributes after a move.
+fn arrived(attr: Attr, now: Moment) -> Attr
+    ensures { result ≡ record attr { ctime = now } }
+{
+    Attr { ctime: now, ..attr }
+}
+
+/// All that is below `from` moves below `to`. There is nothing below a file or a link.
+fn move_below(table: &mut Table, from: &[Name], to: &[Name], kind: Kind) -> Result<(), Memory>
+    requires bare { (s : model.Path) (n : List ℕ) → get table.old (n ∷ (s ++ upward to.now)) ≡ None }
+    requires leaf { model.is_directory kind ≡ false → (s : model.Path) (n : List ℕ) → get table.old (n ∷ (s ++ upward from.now)) ≡ None }
+    ensures ok { OnOk result (IsBelowMoved table.old table.new (upward from.now) (upward to.now)) }
+    ensures err { OnErr result (table.new ≡ table.old) }
+{
+    if is_directory(kind) {
+        table.rename_below(from, to)
+    } else {
+        Ok(())
+    }
+}
+
+/// The row at `from` and all that is below it go to `to`. Memory is taken first.
+fn carry(
+    table: &mut Table,
+    from: &[Name],
+    to: &[Name],
+    attr: Attr,
+    replaces: bool,
+    now: Moment,
+) -> Result<(), Memory>
+    requires formed { IsWellFormed table.old }
+    requires moves { (row : Row) × (row.attr ≡ attr) × IsMove table.old (upward from.now) (upward to.now) row replaces }
+    ensures ok { OnOk result ((row : Row) → IsMove table.old (upward from.now) (upward to.now) row replaces → table.new ≡ step.moved_tree table.old now (upward from.now) (upward to.now) row) }
+    ensures err { OnErr result (table.new ≡ table.old) }
+{
+    hold(table, to, same_attr(&attr), replaces)?;
+    match move_below(table, from, to, attr.kind) {
+        Ok(()) => {}
+        Err(Memory) => {
+            let_go(table, to, replaces);
+            return Err(Memory);
+        }
+    }
+    let bytes = table.remove(from);
+    table.set(to, arrived(attr, now), bytes);
+    Ok(())
+}
+
+/// Moves the rows, where nothing but the directory's limit refuses it.
 fn relocate(
-    lines: &mut Vec<Line>,
-    from: &Path,
-    to: &Path,
-    i: usize,
-    replaced: Option<usize>,
+    table: &mut Table,
+    from: &[Name],
+    to: &[Name],
+    attr: Attr,
+    replaces: bool,
     now: Moment,
 ) -> Result<Reply, Memory>
-    requires formed { IsFormed lines.old.items }
-    requires moves { (row : Row) × IsMove (tree_of lines.old.items) (upward from.now) (upward to.now) row (is_some replaced) }
-    requires at { IsLineAt lines.old.items (upward from.now) i }
-    requires onto { IfSome replaced (IsLineAt lines.old.items (upward to.now)) }
-    ensures ok { IfOk result (λ reply. (row : Row) → IsMove (tree_of lines.old.items) (upward from.now) (upward to.now) row (is_some replaced) → IsAnswer lines.new.items reply (step.moved_unless_large (tree_of lines.old.items) (upward to.now) (step.moved_tree (tree_of lines.old.items) now (upward from.now) (upward to.now) row))) }
-    ensures err { OnErr result (rows lines.new.items ≡ rows lines.old.items) }
+    requires formed { IsWellFormed table.old }
+    requires moves { (row : Row) × (row.attr ≡ attr) × IsMove table.old (upward from.now) (upward to.now) row replaces }
+    ensures ok { IfOk result (λ reply. (row : Row) → IsMove table.old (upward from.now) (upward to.now) row replaces → IsAnswer table.new reply (step.moved_unless_large table.old (upward to.now) (step.moved_tree table.old now (upward from.now) (upward to.now) row))) }
+    ensures err { OnErr result (table.new ≡ table.old) }
 {
-    let size = size_with(lines, to.names(), replaced.is_some());
-    if size - size_left(from.names(), to.names()) > MAX_ENTRIES {
+    let size = size_with(table, to, replaces);
+    if size - size_left(from, to) > MAX_ENTRIES {
         return Ok(Reply::Error(FsError::TooLarge));
     }
-    let alloc = *lines.allocator();
-    let mut paths = moved_paths(alloc, lines, from.names(), to.names())?;
-    let next = Vec::with_capacity(alloc, lines.len())?;
-    let line = &mut lines[i];
-    line.attr.ctime = now;
-    drop_replaced(lines, &mut paths, replaced);
-    rebuild(lines, paths, next);
+    carry(table, from, to, attr, replaces, now)?;
     Ok(Reply::Done)
-}
-
-/// A directory, and not a file or a link.
-fn is_directory(kind: Kind) -> bool
-    ensures { result ≡ model.is_directory kind }
-{
-    match kind {
-        Kind::Directory => true,
-        Kind::File => false,
-        Kind::Link => false,
-    }
 }
 
 /// Every path that has the prefix `from` gets the prefix `to`.
 pub fn move_rows(
-    lines: &mut Vec<Line>,
-    from: &Path,
-    to: &Path,
+    table: &mut Table,
+    from: &[Name],
+    to: &[Name],
     now: Moment,
 ) -> Result<Reply, Memory>
-    requires { IsFormed lines.old.items }
-    ensures ok { IfOk result (λ reply. IsAnswer lines.new.items reply (step.unless_root (tree_of lines.old.items) (upward from.now) (step.unless_root (tree_of lines.old.items) (upward to.now) (step.moved_from (tree_of lines.old.items) now (upward from.now) (upward to.now) (look (tree_of lines.old.items) (upward from.now)))))) }
-    ensures err { OnErr result (rows lines.new.items ≡ rows lines.old.items) }
+    requires { IsWellFormed table.old }
+    ensures ok { IfOk result (λ reply. IsAnswer table.new reply (step.unless_root table.old (upward from.now) (step.unless_root table.old (upward to.now) (step.moved_from table.old now (upward from.now) (upward to.now) (look table.old (upward from.now)))))) }
+    ensures err { OnErr result (table.new ≡ table.old) }
 {
-    if to.names().is_empty() {
+    if from.is_empty() || to.is_empty() {
         return Ok(Reply::Error(FsError::Busy));
     }
-    let i = match look_up(lines, from.names()) {
-        Sight::Root => return Ok(Reply::Error(FsError::Busy)),
-        Sight::At(i) => i,
-        Sight::Vacant(_) => return Ok(Reply::Error(FsError::NoEntry)),
-        Sight::Wrong(error) => return Ok(Reply::Error(error)),
+    let (attr, _) = match row_of(table, from) {
+        Ok(row) => row,
+        Err(error) => return Ok(Reply::Error(error)),
     };
-    if is_above(from.names(), to.names()) {
+    if is_above(from, to) {
         return Ok(Reply::Error(FsError::Invalid));
     }
-    match look_up(lines, to.names()) {
-        Sight::Root => Ok(Reply::Error(FsError::Busy)),
-        Sight::At(j) => move_onto(lines, from, to, (i, j), now),
-        Sight::Vacant(_) => relocate(lines, from, to, i, None, now),
-        Sight::Wrong(error) => Ok(Reply::Error(error)),
-    }
+    let onto = match look_up(table, to) {
+        Sight::Found(onto, _) => onto.kind,
+        Sight::Free => return relocate(table, from, to, attr, false, now),
+        Sight::Bad(error) => return Ok(Reply::Error(error)),
+    };
+    move_onto(table, from, to, attr, onto, now)
 }
 
-/// Moves onto a row: `at` has the lines of `from` and of `to`.
+/// Moves onto a row of the kind `onto`.
 fn move_onto(
-    lines: &mut Vec<Line>,
-    from: &Path,
-    to: &Path,
-    at: (usize, usize),
+    table: &mut Table,
+    from: &[Name],
+    to: &[Name],
+    attr: Attr,
+    onto: Kind,
     now: Moment,
 ) -> Result<Reply, Memory>
-    requires formed { IsFormed lines.old.items }
-    requires from { SightIs lines.old.items (upward from.now) (At at.0) }
-    requires to { SightIs lines.old.items (upward to.now) (At at.1) }
+    requires formed { IsWellFormed table.old }
+    requires named { is_root (upward from.now) ≡ false }
+    requires to_named { is_root (upward to.now) ≡ false }
+    requires from { (row : Row) × (row.attr ≡ attr) × (look table.old (upward from.now) ≡ Found row) }
+    requires to { (row : Row) × (row.attr.kind ≡ onto) × (look table.old (upward to.now) ≡ Found row) }
     requires above { step_move.is_above (upward from.now) (upward to.now) ≡ false }
-    ensures ok { IfOk result (λ reply. (row : Row) → get (tree_of lines.old.items) (upward from.now) ≡ Some row → IsAnswer lines.new.items reply (step.moved_to (tree_of lines.old.items) now (upward from.now) (upward to.now) row (look (tree_of lines.old.items) (upward to.now)))) }
-    ensures err { OnErr result (rows lines.new.items ≡ rows lines.old.items) }
+    ensures ok { IfOk result (λ reply. (row : Row) → look table.old (upward from.now) ≡ Found row → IsAnswer table.new reply (step.moved_to table.old now (upward from.now) (upward to.now) row (look table.old (upward to.now)))) }
+    ensures err { OnErr result (table.new ≡ table.old) }
 {
-    let (i, j) = at;
-    if same_names(from.names(), to.names()) {
+    if same_names(from, to) {
         return Ok(Reply::Done);
     }
-    let moves = is_directory(lines[i].attr.kind);
-    let stays = is_directory(lines[j].attr.kind);
-    match (moves, stays) {
+    match (is_directory(attr.kind), is_directory(onto)) {
         (true, false) => Ok(Reply::Error(FsError::NotDirectory)),
         (false, true) => Ok(Reply::Error(FsError::IsDirectory)),
         (true, true) => {
-            if has_child(lines, to.names()) {
+            if has_child(table, to) {
                 return Ok(Reply::Error(FsError::NotEmpty));
             }
-            relocate(lines, from, to, i, Some(j), now)
+            relocate(table, from, to, attr, true, now)
         }
-        (false, false) => relocate(lines, from, to, i, Some(j), now),
+        (false, false) => relocate(table, from, to, attr, true, now),
     }
 }

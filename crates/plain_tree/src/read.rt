@@ -1,89 +1,49 @@
 // Commands that only look.
-ghost use Rattle.std.specs.Prelude.{◌≡◌, IfOk, IfErr, Some};
-ghost use Rattle.fs_model.specs.Tree.{upward, root_row};
-ghost use Rattle.fs_model.specs.LookUp.{Found, look};
+ghost use Rattle.std.specs.Prelude.{◌≡◌, IfOk};
+ghost use Rattle.fs_model.specs.Tree.{upward, IsWellFormed};
+ghost use Rattle.fs_model.specs.LookUp.{look};
 ghost use Rattle.fs_model.specs.Step.{listed, told, target_read, content_read};
-ghost use Rattle.plain_tree.specs.Rows.{tree_of, IsFormed};
-ghost use Rattle.plain_tree.specs.Sights.{refusal_of};
 ghost use Rattle.plain_tree.specs.Answers.{content_reply};
 
-use crate::children::list_rows;
-use crate::line::Line;
-use crate::look::{Sight, look_up};
+use crate::look::row_of;
 use block_id::Memory;
-use fs_model::{
-    Attr, ByteText, DIRECTORY_MODE, FsError, Kind, MAX_READ, Moment, Name, Reply, RowList,
-};
+use fs_model::{ByteText, FsError, Kind, MAX_READ, Name, Reply, RowList};
+use row_table::Table;
 use std::alloc::Global;
 
-/// The attributes of the root.
-pub fn root_attr() -> Attr
-    ensures { result ≡ root_row.attr }
-{
-    let Some(beginning) = Moment::new(0, 0) else {
-        unreachable!();
-    };
-    Attr {
-        kind: Kind::Directory,
-        mode: DIRECTORY_MODE,
-        uid: 0,
-        gid: 0,
-        atime: beginning,
-        mtime: beginning,
-        ctime: beginning,
-    }
-}
-
-/// The attributes and the bytes of a path's row, or why there is none.
-fn row_of<'a>(lines: &'a [Line], names: &[Name]) -> Result<(Attr, &'a [u8]), FsError>
-    requires { IsFormed lines.now }
-    ensures found { IfOk result (λ row. look (tree_of lines.now) (upward names.now) ≡ Found (record { attr = row.0; bytes = row.1.now })) }
-    ensures refused { IfErr result (λ e. refusal_of (look (tree_of lines.now) (upward names.now)) ≡ Some e) }
-{
-    match look_up(lines, names) {
-        Sight::Root => Ok((root_attr(), &[])),
-        Sight::At(i) => {
-            let line = &lines[i];
-            Ok((line.attr, line.bytes.as_slice()))
-        }
-        Sight::Vacant(_) => Err(FsError::NoEntry),
-        Sight::Wrong(error) => Err(error),
-    }
-}
-
 /// Kind and name of each child.
-pub fn list(alloc: Global, lines: &[Line], names: &[Name]) -> Result<Reply, Memory>
-    requires { IsFormed lines.now }
-    ensures { IfOk result (λ reply. reply ≡ (listed (tree_of lines.now) (upward names.now) (look (tree_of lines.now) (upward names.now))).reply) }
+pub fn list(alloc: Global, table: &Table, names: &[Name]) -> Result<Reply, Memory>
+    requires { IsWellFormed table.now }
+    ensures { IfOk result (λ reply. reply ≡ (listed table.now (upward names.now) (look table.now (upward names.now))).reply) }
 {
-    let (attr, _) = match row_of(lines, names) {
+    let (attr, _) = match row_of(table, names) {
         Ok(row) => row,
         Err(error) => return Ok(Reply::Error(error)),
     };
     match attr.kind {
-        Kind::Directory => Ok(Reply::Rows(RowList::new(list_rows(alloc, lines, names)?))),
+        Kind::Directory => Ok(Reply::Rows(RowList::new(table.list(alloc, names)?))),
         Kind::File => Ok(Reply::Error(FsError::NotDirectory)),
         Kind::Link => Ok(Reply::Error(FsError::NotDirectory)),
     }
 }
 
 /// The attributes and the number of bytes.
-pub fn stat(lines: &[Line], names: &[Name]) -> Reply
-    requires { IsFormed lines.now }
-    ensures { result ≡ (told (tree_of lines.now) (look (tree_of lines.now) (upward names.now))).reply }
+pub fn stat(table: &Table, names: &[Name]) -> Reply
+    requires { IsWellFormed table.now }
+    ensures { result ≡ (told table.now (look table.now (upward names.now))).reply }
 {
-    match row_of(lines, names) {
+    match row_of(table, names) {
         Ok((attr, bytes)) => Reply::Info(attr, bytes.len() as u64),
         Err(error) => Reply::Error(error),
     }
 }
 
 /// The target of a link.
-pub fn read_link(alloc: Global, lines: &[Line], names: &[Name]) -> Result<Reply, Memory>
-    requires { IsFormed lines.now }
-    ensures { IfOk result (λ reply. reply ≡ (target_read (tree_of lines.now) (look (tree_of lines.now) (upward names.now))).reply) }
+pub fn read_link(alloc: Global, table: &Table, names: &[Name]) -> Result<Reply, Memory>
+    requires { IsWellFormed table.now }
+    ensures { IfOk result (λ reply. reply ≡ (target_read table.now (look table.now (upward names.now))).reply) }
 {
-    let (attr, bytes) = match row_of(lines, names) {
+    let (attr, bytes) = match row_of(table, names) {
         Ok(row) => row,
         Err(error) => return Ok(Reply::Error(error)),
     };
@@ -97,15 +57,15 @@ pub fn read_link(alloc: Global, lines: &[Line], names: &[Name]) -> Result<Reply,
 /// At most `count` bytes from `from` on.
 pub fn read(
     alloc: Global,
-    lines: &[Line],
+    table: &Table,
     names: &[Name],
     from: u64,
     count: u64,
 ) -> Result<Reply, Memory>
-    requires { IsFormed lines.now }
-    ensures { IfOk result (λ reply. reply ≡ (content_read (tree_of lines.now) from count (look (tree_of lines.now) (upward names.now))).reply) }
+    requires { IsWellFormed table.now }
+    ensures { IfOk result (λ reply. reply ≡ (content_read table.now from count (look table.now (upward names.now))).reply) }
 {
-    let (attr, bytes) = match row_of(lines, names) {
+    let (attr, bytes) = match row_of(table, names) {
         Ok(row) => row,
         Err(error) => return Ok(Reply::Error(error)),
     };

@@ -2,43 +2,42 @@
 ghost use Rattle.std.specs.Prelude.{◌≡◌, [], IfOk, OnOk, OnErr};
 ghost use Rattle.fs_model.specs.Fitting.{IsFitting};
 ghost use Rattle.fs_model.specs.declared.attr.Kind.TheVariants.{Link};
-ghost use Rattle.fs_model.specs.Tree.{empty_tree, upward};
+ghost use Rattle.fs_model.specs.Tree.{empty_tree, upward, IsWellFormed};
 ghost use Rattle.fs_model.specs.LookUp.{look};
 ghost use Rattle.fs_model.specs.Step as model;
-ghost use Rattle.plain_tree.specs.Rows.{rows, tree_of, IsFormed};
 ghost use Rattle.plain_tree.specs.Answers.{IsAnswer};
 
-use crate::change::{AttrChange, set_attributes, truncate, write};
-use crate::edit::{make, new_attr, remove_directory, remove_file};
-use crate::line::Line;
+use crate::change::{set_attributes, truncate, write};
+use crate::edit::{make, remove_directory, remove_file};
 use crate::moves::move_rows;
 use crate::read::{list, read, read_link, stat};
 use block_id::Memory;
+use fs_model::laws::keeps_well_formed;
 use fs_model::{
-    ByteText, Command, DIRECTORY_MODE, FILE_MODE, Kind, LINK_MODE, Moment, Path, Reply,
+    ByteText, Command, DIRECTORY_MODE, FILE_MODE, Kind, LINK_MODE, Moment, Name, Reply,
 };
+use row_table::Table;
 use std::alloc::Global;
 use std::marker::Model;
+use tree_rules::{AttrChange, new_attr};
 
-/// A sorted vector of rows, the root's apart.
+/// A table of rows that is a tree.
 #[derive(Debug, Drop)]
 pub struct PlainTree {
-    lines: Vec<Line>,
+    table: Table,
 }
 
 impl Model for PlainTree {
-    ghost use Rattle.fs_model.specs.Tree.{Tree};
+    ghost use Rattle.fs_model.specs.Tree.{Tree, IsWellFormed};
     ghost use Rattle.fs_model.specs.Codes.{tree_code};
 
     ghost Value = { Tree };
 
     ghost coded = { tree_code };
 
-    ghost use Rattle.plain_tree.specs.Rows.{tree_of, IsFormed};
+    ghost view = { λ t. t.table };
 
-    ghost view = { λ t. tree_of t.lines.items };
-
-    ghost invariant = { λ t. IsFormed t.lines.items };
+    ghost invariant = { λ t. IsWellFormed t.table };
 }
 
 impl PlainTree {
@@ -47,7 +46,7 @@ impl PlainTree {
         ensures { result ≡ empty_tree }
     {
         PlainTree {
-            lines: Vec::new(alloc),
+            table: Table::new(alloc),
         }
     }
 
@@ -58,70 +57,75 @@ impl PlainTree {
         ensures tree { OnOk result (self.new ≡ (model.step self.old now command.now).tree) }
         ensures memory { OnErr result (self.new ≡ self.old) }
     {
-        step_lines(&mut self.lines, now, command)
+        keeps_well_formed(now, command);
+        step_table(&mut self.table, now, command)
     }
 }
 
-/// One command on lines.
-fn step_lines(lines: &mut Vec<Line>, now: Moment, command: &Command) -> Result<Reply, Memory>
-    requires formed { IsFormed lines.old.items }
+/// One command on a table.
+fn step_table(table: &mut Table, now: Moment, command: &Command) -> Result<Reply, Memory>
+    requires formed { IsWellFormed table.old }
     requires fits { IsFitting command.now }
-    ensures ok { IfOk result (λ reply. IsAnswer lines.new.items reply (model.step (tree_of lines.old.items) now command.now)) }
-    ensures err { OnErr result (rows lines.new.items ≡ rows lines.old.items) }
+    ensures ok { IfOk result (λ reply. IsAnswer table.new reply (model.step table.old now command.now)) }
+    ensures err { OnErr result (table.new ≡ table.old) }
 {
     match command {
-        Command::Mkdir(path) => make_row(lines, path, Kind::Directory, DIRECTORY_MODE, now),
-        Command::Mkfile(path) => make_row(lines, path, Kind::File, FILE_MODE, now),
-        Command::Symlink(target, path) => make_link(lines, target, path, now),
-        Command::Rmdir(path) => Ok(remove_directory(lines, path)),
-        Command::Rm(path) => Ok(remove_file(lines, path)),
-        Command::Mv(from, to) => move_rows(lines, from, to, now),
-        Command::Write(path, from, bytes) => write(lines, path, *from, bytes.as_slice(), now),
-        Command::Truncate(path, len) => truncate(lines, path, *len, now),
-        Command::Chmod(path, mode) => Ok(set_attributes(lines, path, AttrChange::Mode(*mode), now)),
+        Command::Mkdir(path) => make_row(table, path.names(), Kind::Directory, DIRECTORY_MODE, now),
+        Command::Mkfile(path) => make_row(table, path.names(), Kind::File, FILE_MODE, now),
+        Command::Symlink(target, path) => make_link(table, target, path.names(), now),
+        Command::Rmdir(path) => Ok(remove_directory(table, path.names())),
+        Command::Rm(path) => Ok(remove_file(table, path.names())),
+        Command::Mv(from, to) => move_rows(table, from.names(), to.names(), now),
+        Command::Write(path, from, bytes) => {
+            write(table, path.names(), *from, bytes.as_slice(), now)
+        }
+        Command::Truncate(path, len) => truncate(table, path.names(), *len, now),
+        Command::Chmod(path, mode) => {
+            Ok(set_attributes(table, path.names(), AttrChange::Mode(*mode), now))
+        }
         Command::Chown(path, uid, gid) => {
-            Ok(set_attributes(lines, path, AttrChange::Owner(*uid, *gid), now))
+            Ok(set_attributes(table, path.names(), AttrChange::Owner(*uid, *gid), now))
         }
         Command::Utime(path, atime, mtime) => {
-            Ok(set_attributes(lines, path, AttrChange::Times(*atime, *mtime), now))
+            Ok(set_attributes(table, path.names(), AttrChange::Times(*atime, *mtime), now))
         }
         Command::Sync => Ok(Reply::Done),
-        Command::List(path) => list(*lines.allocator(), lines, path.names()),
-        Command::Stat(path) => Ok(stat(lines, path.names())),
-        Command::Readlink(path) => read_link(*lines.allocator(), lines, path.names()),
+        Command::List(path) => list(table.allocator(), table, path.names()),
+        Command::Stat(path) => Ok(stat(table, path.names())),
+        Command::Readlink(path) => read_link(table.allocator(), table, path.names()),
         Command::Read(path, from, count) => {
-            read(*lines.allocator(), lines, path.names(), *from, *count)
+            read(table.allocator(), table, path.names(), *from, *count)
         }
     }
 }
 
 /// A new row without bytes.
 fn make_row(
-    lines: &mut Vec<Line>,
-    path: &Path,
+    table: &mut Table,
+    names: &[Name],
     kind: Kind,
     mode: u32,
     now: Moment,
 ) -> Result<Reply, Memory>
-    requires { IsFormed lines.old.items }
-    ensures ok { IfOk result (λ reply. IsAnswer lines.new.items reply (model.made (tree_of lines.old.items) (upward path.now) (model.new_row kind mode now []) (look (tree_of lines.old.items) (upward path.now)))) }
-    ensures err { OnErr result (rows lines.new.items ≡ rows lines.old.items) }
+    requires { IsWellFormed table.old }
+    ensures ok { IfOk result (λ reply. IsAnswer table.new reply (model.made table.old (upward names.now) (model.new_row kind mode now []) (look table.old (upward names.now)))) }
+    ensures err { OnErr result (table.new ≡ table.old) }
 {
-    let bytes = Vec::new(*lines.allocator());
-    make(lines, path, new_attr(kind, mode, now), bytes)
+    let bytes = Vec::new(table.allocator());
+    make(table, names, new_attr(kind, mode, now), bytes)
 }
 
 /// A new link.
 fn make_link(
-    lines: &mut Vec<Line>,
+    table: &mut Table,
     target: &ByteText,
-    path: &Path,
+    names: &[Name],
     now: Moment,
 ) -> Result<Reply, Memory>
-    requires { IsFormed lines.old.items }
-    ensures ok { IfOk result (λ reply. IsAnswer lines.new.items reply (model.made (tree_of lines.old.items) (upward path.now) (model.new_row Link LINK_MODE now target.now) (look (tree_of lines.old.items) (upward path.now)))) }
-    ensures err { OnErr result (rows lines.new.items ≡ rows lines.old.items) }
+    requires { IsWellFormed table.old }
+    ensures ok { IfOk result (λ reply. IsAnswer table.new reply (model.made table.old (upward names.now) (model.new_row Link LINK_MODE now target.now) (look table.old (upward names.now)))) }
+    ensures err { OnErr result (table.new ≡ table.old) }
 {
-    let bytes = target.as_slice().to_vec(*lines.allocator())?;
-    make(lines, path, new_attr(Kind::Link, LINK_MODE, now), bytes)
+    let bytes = target.as_slice().to_vec(table.allocator())?;
+    make(table, names, new_attr(Kind::Link, LINK_MODE, now), bytes)
 }

@@ -8,7 +8,7 @@ use Rattle.fs_model.specs.Step as model
 use Rattle.fs_model.proofs.LookUpLemmas.{look-found}
 use Rattle.path_layer.proofs.Told.{stays, told_as}
 use Rattle.path_layer.proofs.Seeing.{found, vacant, lost, look_found, look_free, look_lost, on_path, finding}
-use Rattle.plain_tree.specs.Changes.{changed_by}
+use Rattle.tree_rules.specs.Changes.{changed_by}
 use Rattle.path_layer.proofs.attributes.set_attributes.Goals as goal
 
 pub returns-in-None-clause-outcome : goal.returns-in-None-clause-outcome

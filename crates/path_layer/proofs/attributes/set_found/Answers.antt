@@ -4,7 +4,7 @@ use Rattle.outcome.specs.Outcome.{first_, passed, answered}
 use Rattle.std.proofs.Common.{◌≤◌}
 use Rattle.fs_model.specs.declared.attr.Attr.{Attr}
 use Rattle.fs_model.specs.declared.limits.TheConstants.{MAX_MODE}
-use Rattle.plain_tree.specs.Changes.{changed_by}
+use Rattle.tree_rules.specs.Changes.{changed_by}
 use Rattle.path_layer.proofs.Found.{kind_kept, mode_fits, setting, set_done}
 use Rattle.path_layer.proofs.attributes.set_found.Goals as goal
 

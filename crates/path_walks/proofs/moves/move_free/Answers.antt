@@ -1,8 +1,9 @@
-use Rattle.std.proofs.Common.{◌≡◌, ◌≤◌, length, Ok, refl, sym, ◌∙◌, ap, arith, cond}
+use Rattle.std.proofs.Common.{◌≡◌, ◌≤◌, length, Ok, refl, sym, ◌∙◌, ap, subst, arith, cond}
 use Rattle.std.proofs.lemmas.Result.{err_from_is_err_and}
 use Rattle.outcome.specs.Outcome.{Outcome, first_, then_, failed_, passed, answered}
 use Rattle.fs_model.specs.declared.limits.TheConstants.{MAX_ENTRIES}
 use Rattle.fs_model.specs.declared.reply.Reply.TheVariants.{Done}
+use Rattle.fs_model.specs.Names.{IsName}
 use Rattle.fs_model.specs.Tree.{directory_size, entry_size}
 use Rattle.fs_model.proofs.TreeLemmas.{same_name}
 use Rattle.dir_blob.proofs.Needs.{blob_of}
@@ -32,6 +33,7 @@ returns-then-size-gt-MAX_ENTRIES-clause-did g c =
 
 pub returns-in_err-relocate-clause-did : goal.returns-in_err-relocate-clause-did
 returns-in_err-relocate-clause-did g c =
+    let named : IsName c.args.to_name.now = subst IsName c.as_slice-else-size-gt-MAX_ENTRIES.ensures.value c.as_slice-else-size-gt-MAX_ENTRIES.ensures.name in
     let M = g.B.Blobs.meanings in
     let H = g.B.Blobs.holdings in
     let name = c.args.name.now in
@@ -44,10 +46,11 @@ returns-in_err-relocate-clause-did g c =
     (λ w _. H.stands_for c.body_len.new.b w.map × (directory_size (next w) w.below ≤ MAX_ENTRIES)) =
     answered (first_ (λ w. blob_of (directory w)) c.in_ok-size.ensures.outcome (λ w y h. h))
     (λ w h. (h.0, omega (arith, h.1, size_is w, size_next w, left, ap length c.as_slice-else-size-gt-MAX_ENTRIES.ensures.value, c.if-size-as_slice.false))) in
-    rw (p.1, p.2) (failed_ g.met.B.Blobs.lawful o1 (λ w h. moving w c.body_len.new.b h.0 h.1 c.in_ok-try_clone.field-0 (sym c.in_ok-try_clone.ensures) _ refl refl) c.in_err-relocate.ensures)
+    rw (p.1, p.2) (failed_ g.met.B.Blobs.lawful o1 (λ w h. moving w c.body_len.new.b h.0 named h.1 c.in_ok-try_clone.field-0 (sym c.in_ok-try_clone.ensures) _ refl refl) c.in_err-relocate.ensures)
 
 pub returns-clause-did : goal.returns-clause-did
 returns-clause-did g c =
+    let named : IsName c.args.to_name.now = subst IsName c.as_slice-else-size-gt-MAX_ENTRIES.ensures.value c.as_slice-else-size-gt-MAX_ENTRIES.ensures.name in
     let M = g.B.Blobs.meanings in
     let H = g.B.Blobs.holdings in
     let name = c.args.name.now in
@@ -60,6 +63,6 @@ returns-clause-did g c =
     answered (first_ (λ w. blob_of (directory w)) c.in_ok-size.ensures.outcome (λ w y h. h))
     (λ w h. (h.0, omega (arith, h.1, size_is w, size_next w, left, ap length c.as_slice-else-size-gt-MAX_ENTRIES.ensures.value, c.if-size-as_slice.false))) in
     let o2 : Outcome M (Heading H c.args.b.now c.args.now c.args.from name c.args.place c.args.to c.args.to_name.now) c.args.b.now c.relocate.new.b (Ok c.in_ok-relocate.field-0) (λ w _. PerformedBy H c.relocate.new.b w.root (stepped w) Done (ids_next w)) =
-    then_ g.met.B.Blobs.lawful o1 (λ w h. moving w c.body_len.new.b h.0 h.1 c.in_ok-try_clone.field-0 (sym c.in_ok-try_clone.ensures) _ refl refl) c.in_ok-relocate.ensures
+    then_ g.met.B.Blobs.lawful o1 (λ w h. moving w c.body_len.new.b h.0 named h.1 c.in_ok-try_clone.field-0 (sym c.in_ok-try_clone.ensures) _ refl refl) c.in_ok-relocate.ensures
     (λ w h y k. moved_done w c.relocate.new.b h.1 (shown_as w c.relocate.new.b c.in_ok-try_clone.field-0 (sym c.in_ok-try_clone.ensures) k)) in
     answered o2 (λ w h. h)

@@ -1,30 +1,62 @@
-use Rattle.std.proofs.Common.{◌≡◌, [], refl, sym, ◌∙◌, ap, length, arith, take, ◌++◌, ◌-◌}
-use Rattle.std.specs.Prelude.{replicate, vec_len}
+use Rattle.std.proofs.Common.{◌≡◌, false, true, length, refl, sym, ◌∙◌, ap, subst}
+use Rattle.std.specs.Prelude.{IsSome}
+use Rattle.std.specs.FinMap as tree
 use Rattle.fs_model.specs.Tree.{upward}
-use Rattle.fs_model.specs.Step.{is_too_long, with_content}
-use Rattle.plain_tree.specs.declared.look.Sight.TheVariants.{At}
-use Rattle.plain_tree.specs.Rows.{line_row}
-use Rattle.plain_tree.proofs.EffectLemmas.{sight_of, truncated_done, rows_kept}
-use Rattle.plain_tree.proofs.ContentLemmas.{always_err}
+use Rattle.fs_model.specs.Step.{is_too_long, resized}
+use Rattle.fs_model.proofs.LookUpLemmas.{get-found}
+use Rattle.plain_tree.proofs.StepLemmas.{there_of, file_named, set_there, put_back, bytes_are, same_row, content_set, truncated_done, truncated_large}
+use Rattle.plain_tree.proofs.Refusals.{truncate_refused}
 use Rattle.plain_tree.proofs.change.truncate.Goals as goal
 
-pub returns-clause-ok : goal.returns-clause-ok
-returns-clause-ok c =
-    let ls = c.args.lines.now.items in
-    let x = c.index_mut-line.result.now in
-    let p = upward c.args.path.now in
-    let sight = sight_of ls c.deref.result.now c.args.path.now c.names.result.now (At c.in-At.i) c.deref.ensures.value c.names.ensures c.in-At.ensures in
-    let z = c.index-2.result.now.bytes in
-    let len_is : vec_len z ≡ length z.items = omega (arith, z.ok) in
-    let fill_is : vec_len x.bytes ≡ length x.bytes.items = omega (arith, x.bytes.ok) in
-    truncated_done ls _ p c.requires c.args.now c.args.len c.in-At.i x c.index.result.now c.index-2.result.now
-    (record { path = x.path; attr = (with_content (line_row x) c.args.now []).attr; bytes = c.resize.new.self })
-    sight c.index_mut-line.ensures.value c.index.ensures c.index-2.ensures c.in-File.is
-    (ap (λ n. is_too_long n c.args.len) (sym (c.len.ensures ∙ len_is)) ∙ (sym c.is_too_long.ensures ∙ c.if-is_too_long.false)) refl
-    (ap (with_content (line_row x) c.args.now) (c.in_ok-resize.ensures.items ∙ ap (λ k. take c.args.len x.bytes.items ++ replicate (c.args.len - k) 0) fill_is)) refl
+pub returns-in-Err-clause-ok : goal.returns-in-Err-clause-ok
+returns-in-Err-clause-ok c = truncate_refused c.args.table.now c.args.now (upward c.args.names.now) c.args.len c.in-Err.error c.in-Err.ensures.refused
 
-pub returns-in_err-resize-clause-err : goal.returns-in_err-resize-clause-err
-returns-in_err-resize-clause-err c =
-    let x = c.index_mut-line.result.now in
-    always_err c.from_residual.result (rows_kept c.args.lines.now.items c.in-At.i x (record { path = x.path; attr = x.attr; bytes = c.resize.new.self }) c.index_mut-line.ensures.value refl
-    (ap (λ b. record { attr = x.attr; bytes = b }) c.in_err-resize.ensures.items))
+pub returns-then-is_too_long-clause-ok : goal.returns-then-is_too_long-clause-ok
+returns-then-is_too_long-clause-ok c =
+    let f = c.in-Ok.ensures.found in
+    truncated_large c.args.table.now (upward c.args.names.now) f.row c.args.now f.seen f.kind c.args.len
+    (ap (λ n. is_too_long n c.args.len) f.len ∙ (sym c.is_too_long.ensures ∙ c.if-is_too_long.true))
+
+pub set-content-requires-clause-named : goal.set-content-requires-clause-named
+set-content-requires-clause-named c = let f = c.in-Ok.ensures.found in file_named c.args.table.now (upward c.args.names.now) f.row c.requires f.seen f.kind
+
+pub set-content-requires-clause-there : goal.set-content-requires-clause-there
+set-content-requires-clause-there c = let f = c.in-Ok.ensures.found in there_of c.args.table.now (upward c.args.names.now) f.row f.seen
+
+pub returns-in-Ok-resize-clause-ok : goal.returns-in-Ok-resize-clause-ok
+returns-in-Ok-resize-clause-ok c =
+    let f = c.in-Ok.ensures.found in
+    let t = c.args.table.now in
+    let p = upward c.args.names.now in
+    let n = c.args.len in
+    let short = ap (λ k. is_too_long k n) f.len ∙ (sym c.is_too_long.ensures ∙ c.if-is_too_long.false) in
+    let content = bytes_are (tree.get t p) f.row c.set-content.result.items (get-found t p f.row f.seen) c.set-content.ensures.bytes in
+    let whole = c.in-Ok-resize.ensures.ok ∙ ap (λ z. resized z n) content in
+    truncated_done t c.set.new.self p f.row c.args.now f.seen f.kind n short
+    (content_set t c.set-content.new.self c.set.new.self p (record { attr = c.same_attr.result; bytes = c.new-none.result.items }) f.row c.args.now c.in-Ok.file.0 c.touched.result c.resize.new.content.items (resized f.row.bytes n)
+    f.attr c.set-content.ensures.tree c.touched.ensures whole c.set.ensures.tree)
+
+pub returns-in-Err-resize-clause-err : goal.returns-in-Err-resize-clause-err
+returns-in-Err-resize-clause-err c =
+    let f = c.in-Ok.ensures.found in
+    let t = c.args.table.now in
+    let p = upward c.args.names.now in
+    let content = bytes_are (tree.get t p) f.row c.set-content.result.items (get-found t p f.row f.seen) c.set-content.ensures.bytes in
+    put_back t c.set-content.new.self c.set-in-Err-resize.new.self p (record { attr = c.same_attr.result; bytes = c.new-none.result.items }) (record { attr = c.in-Ok.file.0; bytes = c.resize.new.content.items }) f.row
+    c.set-content.ensures.tree c.set-in-Err-resize.ensures.tree (get-found t p f.row f.seen) (same_row f.row c.in-Ok.file.0 c.resize.new.content.items (sym f.attr) (c.in-Err-resize.ensures.err ∙ content))
+
+pub set-requires-clause-named : goal.set-requires-clause-named
+set-requires-clause-named c = let f = c.in-Ok.ensures.found in file_named c.args.table.now (upward c.args.names.now) f.row c.requires f.seen f.kind
+
+pub set-requires-clause-there : goal.set-requires-clause-there
+set-requires-clause-there c =
+    let p = upward c.args.names.now in
+    subst (λ z. IsSome (tree.get z p)) (sym c.set-content.ensures.tree) (set_there c.args.table.now p (record { attr = c.same_attr.result; bytes = c.new-none.result.items }))
+
+pub set-requires-in-Err-resize-clause-named : goal.set-requires-in-Err-resize-clause-named
+set-requires-in-Err-resize-clause-named c = let f = c.in-Ok.ensures.found in file_named c.args.table.now (upward c.args.names.now) f.row c.requires f.seen f.kind
+
+pub set-requires-in-Err-resize-clause-there : goal.set-requires-in-Err-resize-clause-there
+set-requires-in-Err-resize-clause-there c =
+    let p = upward c.args.names.now in
+    subst (λ z. IsSome (tree.get z p)) (sym c.set-content.ensures.tree) (set_there c.args.table.now p (record { attr = c.same_attr.result; bytes = c.new-none.result.items }))

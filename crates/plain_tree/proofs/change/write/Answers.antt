@@ -1,33 +1,77 @@
-use Rattle.std.proofs.Common.{◌≡◌, [], refl, sym, ◌∙◌, ap, ◌+◌, length, max, false, arith}
-use Rattle.std.specs.Prelude.{vec_len}
+use Rattle.std.proofs.Common.{◌≡◌, ◌+◌, false, true, length, max, refl, sym, ◌∙◌, ap, subst}
+use Rattle.std.specs.Prelude.{IsSome}
+use Rattle.std.specs.FinMap as tree
 use Rattle.fs_model.specs.Tree.{upward}
-use Rattle.fs_model.specs.Step.{is_too_long, with_content}
-use Rattle.plain_tree.specs.declared.look.Sight.TheVariants.{At}
-use Rattle.plain_tree.specs.Rows.{line_row}
-use Rattle.plain_tree.proofs.EffectLemmas.{sight_of, written_done, rows_kept, kind_at}
-use Rattle.plain_tree.proofs.ContentLemmas.{end_short, always_err}
+use Rattle.fs_model.specs.Step.{is_too_long, overwritten}
+use Rattle.fs_model.proofs.LookUpLemmas.{get-found}
+use Rattle.plain_tree.proofs.StepLemmas.{there_of, file_named, set_there, put_back, bytes_are, same_row, content_set, written_done, written_nothing, written_large}
+use Rattle.plain_tree.proofs.ContentLemmas.{end_short, end_long}
+use Rattle.plain_tree.proofs.Refusals.{write_refused}
 use Rattle.plain_tree.proofs.change.write.Goals as goal
 
-pub returns-clause-ok : goal.returns-clause-ok
-returns-clause-ok c =
-    let ls = c.args.lines.now.items in
-    let x = c.index_mut-line.result.now in
-    let hx = c.index_mut-line.ensures.value in
-    let p = upward c.args.path.now in
-    let sight = sight_of ls c.deref.result.now c.args.path.now c.names.result.now (At c.in-At.i) c.deref.ensures.value c.names.ensures c.in-At.ensures in
-    let z = c.index-2.result.now.bytes in
-    let len_is : vec_len z ≡ length z.items = omega (arith, z.ok) in
-    let old : c.len-old.result ≡ length x.bytes.items = c.len-old.ensures ∙ (len_is ∙ ap (λ l. length l.bytes.items) (kind_at ls ls p c.requires c.in-At.i c.index-2.result.now x sight c.index-2.ensures hx)) in
-    let short : is_too_long (length x.bytes.items) (max (length x.bytes.items) (c.args.from + length c.args.bytes.now)) ≡ false =
-    end_short (length x.bytes.items) c.args.from (length c.args.bytes.now) c.saturating_add-end.result c.max.result c.saturating_add-end.ensures (c.max.ensures ∙ ap (max c.saturating_add-end.result) old)
-    (ap (λ n. is_too_long n c.max.result) (sym old) ∙ (sym c.is_too_long.ensures ∙ c.if-is_too_long.false)) in
-    written_done ls _ p c.requires c.args.now c.args.from c.args.bytes.now c.in-At.i x c.index.result.now
-    (record { path = x.path; attr = (with_content (line_row x) c.args.now []).attr; bytes = c.overwrite.new.content })
-    sight hx c.index.ensures c.in-File.is (sym c.is_empty.ensures ∙ c.if-is_empty.false) short refl
-    (ap (with_content (line_row x) c.args.now) c.in_ok-overwrite.ensures.ok) refl
+pub returns-in-Err-clause-ok : goal.returns-in-Err-clause-ok
+returns-in-Err-clause-ok c = write_refused c.args.table.now c.args.now (upward c.args.names.now) c.args.from c.args.bytes.now c.in-Err.error c.in-Err.ensures.refused
 
-pub returns-in_err-overwrite-clause-err : goal.returns-in_err-overwrite-clause-err
-returns-in_err-overwrite-clause-err c =
-    let x = c.index_mut-line.result.now in
-    always_err c.from_residual.result (rows_kept c.args.lines.now.items c.in-At.i x (record { path = x.path; attr = x.attr; bytes = c.overwrite.new.content }) c.index_mut-line.ensures.value refl
-    (ap (λ b. record { attr = x.attr; bytes = b }) c.in_err-overwrite.ensures.err))
+pub returns-then-is_empty-clause-ok : goal.returns-then-is_empty-clause-ok
+returns-then-is_empty-clause-ok c =
+    let f = c.in-Ok.ensures.found in
+    written_nothing c.args.table.now (upward c.args.names.now) f.row c.args.now f.seen f.kind c.args.from c.args.bytes.now (sym c.is_empty.ensures ∙ c.if-is_empty.true)
+
+pub returns-then-is_too_long-clause-ok : goal.returns-then-is_too_long-clause-ok
+returns-then-is_too_long-clause-ok c =
+    let f = c.in-Ok.ensures.found in
+    let old = length f.row.bytes in
+    let end = c.saturating_add-end.result in
+    let long : is_too_long old (max old (c.args.from + length c.args.bytes.now)) ≡ true =
+    end_long old c.args.from (length c.args.bytes.now) end c.max.result c.saturating_add-end.ensures (c.max.ensures ∙ ap (max end) (sym f.len))
+    (ap (λ n. is_too_long n c.max.result) f.len ∙ (sym c.is_too_long.ensures ∙ c.if-is_too_long.true)) in
+    written_large c.args.table.now (upward c.args.names.now) f.row c.args.now f.seen f.kind c.args.from c.args.bytes.now (sym c.is_empty.ensures ∙ c.if-is_empty.false) long
+
+pub set-content-requires-clause-named : goal.set-content-requires-clause-named
+set-content-requires-clause-named c = let f = c.in-Ok.ensures.found in file_named c.args.table.now (upward c.args.names.now) f.row c.requires f.seen f.kind
+
+pub set-content-requires-clause-there : goal.set-content-requires-clause-there
+set-content-requires-clause-there c = let f = c.in-Ok.ensures.found in there_of c.args.table.now (upward c.args.names.now) f.row f.seen
+
+pub returns-in-Ok-overwrite-clause-ok : goal.returns-in-Ok-overwrite-clause-ok
+returns-in-Ok-overwrite-clause-ok c =
+    let f = c.in-Ok.ensures.found in
+    let t = c.args.table.now in
+    let p = upward c.args.names.now in
+    let from = c.args.from in
+    let bytes = c.args.bytes.now in
+    let old = length f.row.bytes in
+    let end = c.saturating_add-end.result in
+    let short : is_too_long old (max old (from + length bytes)) ≡ false =
+    end_short old from (length bytes) end c.max.result c.saturating_add-end.ensures (c.max.ensures ∙ ap (max end) (sym f.len))
+    (ap (λ n. is_too_long n c.max.result) f.len ∙ (sym c.is_too_long.ensures ∙ c.if-is_too_long.false)) in
+    let content = bytes_are (tree.get t p) f.row c.set-content.result.items (get-found t p f.row f.seen) c.set-content.ensures.bytes in
+    let whole = c.in-Ok-overwrite.ensures.ok ∙ ap (λ z. overwritten z from bytes) content in
+    written_done t c.set.new.self p f.row c.args.now f.seen f.kind from bytes (sym c.is_empty.ensures ∙ c.if-is_empty.false) short
+    (content_set t c.set-content.new.self c.set.new.self p (record { attr = c.same_attr.result; bytes = c.new-none.result.items }) f.row c.args.now c.in-Ok.file.0 c.touched.result c.overwrite.new.content.items (overwritten f.row.bytes from bytes)
+    f.attr c.set-content.ensures.tree c.touched.ensures whole c.set.ensures.tree)
+
+pub returns-in-Err-overwrite-clause-err : goal.returns-in-Err-overwrite-clause-err
+returns-in-Err-overwrite-clause-err c =
+    let f = c.in-Ok.ensures.found in
+    let t = c.args.table.now in
+    let p = upward c.args.names.now in
+    let content = bytes_are (tree.get t p) f.row c.set-content.result.items (get-found t p f.row f.seen) c.set-content.ensures.bytes in
+    put_back t c.set-content.new.self c.set-in-Err-overwrite.new.self p (record { attr = c.same_attr.result; bytes = c.new-none.result.items }) (record { attr = c.in-Ok.file.0; bytes = c.overwrite.new.content.items }) f.row
+    c.set-content.ensures.tree c.set-in-Err-overwrite.ensures.tree (get-found t p f.row f.seen) (same_row f.row c.in-Ok.file.0 c.overwrite.new.content.items (sym f.attr) (c.in-Err-overwrite.ensures.err ∙ content))
+
+pub set-requires-clause-named : goal.set-requires-clause-named
+set-requires-clause-named c = let f = c.in-Ok.ensures.found in file_named c.args.table.now (upward c.args.names.now) f.row c.requires f.seen f.kind
+
+pub set-requires-clause-there : goal.set-requires-clause-there
+set-requires-clause-there c =
+    let p = upward c.args.names.now in
+    subst (λ z. IsSome (tree.get z p)) (sym c.set-content.ensures.tree) (set_there c.args.table.now p (record { attr = c.same_attr.result; bytes = c.new-none.result.items }))
+
+pub set-requires-in-Err-overwrite-clause-named : goal.set-requires-in-Err-overwrite-clause-named
+set-requires-in-Err-overwrite-clause-named c = let f = c.in-Ok.ensures.found in file_named c.args.table.now (upward c.args.names.now) f.row c.requires f.seen f.kind
+
+pub set-requires-in-Err-overwrite-clause-there : goal.set-requires-in-Err-overwrite-clause-there
+set-requires-in-Err-overwrite-clause-there c =
+    let p = upward c.args.names.now in
+    subst (λ z. IsSome (tree.get z p)) (sym c.set-content.ensures.tree) (set_there c.args.table.now p (record { attr = c.same_attr.result; bytes = c.new-none.result.items }))

@@ -1,31 +1,46 @@
-use Rattle.std.proofs.Common.{◌≡◌, subst, ◌<◌, ◌-◌, ◌+◌, ◌≤◌, length, take, get_or, ◌∷◌, sym, ◌∙◌, ap, arith}
+use Rattle.std.proofs.Common.{◌≡◌, ◌+◌, ◌<◌, ◌≤◌, ◌-◌, length, take, sym, ◌∙◌, ap, arith}
 use Rattle.std.proofs.lemmas.Bool.Decides.{nat_tests}
+use Rattle.std.specs.FinMap.{get}
 use Rattle.fs_model.specs.declared.limits.TheConstants.{MAX_ENTRIES}
-use Rattle.fs_model.specs.Tree.{upward, directory_size, entry_size}
-use Rattle.plain_tree.specs.declared.look.Sight.TheVariants.{At, Vacant}
-use Rattle.plain_tree.specs.Rows.{tree_of}
-use Rattle.plain_tree.proofs.PathLemmas.{last_at}
-use Rattle.plain_tree.proofs.EffectLemmas.{sight_of, made_exists, made_new}
+use Rattle.fs_model.specs.Tree.{Row, upward, parent, directory_size, entry_size, root_row}
+use Rattle.fs_model.specs.LookUp.{Seen, Found, Free, look}
+use Rattle.fs_model.proofs.LookUpLemmas.{look-found}
+use Rattle.tree_rules.proofs.PathLemmas.{not_root}
+use Rattle.row_table.proofs.EditLemmas.{no_names}
+use Rattle.plain_tree.proofs.StepLemmas.{free_absent, made_new, made_large}
 use Rattle.plain_tree.proofs.edit.make.Goals as goal
 
-pub returns-in-At-clause-ok : goal.returns-in-At-clause-ok
-returns-in-At-clause-ok c =
-    let sight = sight_of c.args.lines.now.items c.deref.result.now c.args.path.now c.names-names.result.now (At c.in-At.field-0) c.deref.ensures.value c.names-names.ensures c.in-At.ensures in
-    made_exists c.args.lines.now.items c.args.lines.now.items (upward c.args.path.now) c.requires (record { attr = c.args.attr; bytes = c.args.bytes.items }) c.in-At.field-0 sight
+pub returns-then-is_empty-clause-ok : goal.returns-then-is_empty-clause-ok
+returns-then-is_empty-clause-ok c =
+    let empty = no_names c.args.names.now (sym c.is_empty.ensures ∙ c.if-is_empty.true) in
+    let root : Found root_row ≡ Free = sym (look-found c.args.table.now (upward c.args.names.now) root_row (ap (get c.args.table.now) empty ∙ c.requires.rooted.root)) ∙ c.in-Free.ensures in
+    absurd (cc)
+
+pub insert-requires-clause-named : goal.insert-requires-clause-named
+insert-requires-clause-named c =
+    let some : 0 < length c.args.names.now = grind (arith, nat_tests, c.if-is_empty.false, c.is_empty.ensures) in
+    not_root c.args.names.now some
+
+pub insert-requires-clause-absent : goal.insert-requires-clause-absent
+insert-requires-clause-absent c = free_absent c.args.table.now (upward c.args.names.now) c.requires c.in-Free.ensures
+
+pub insert-requires-clause-room : goal.insert-requires-clause-room
+insert-requires-clause-room c = c.requires.directories (parent (upward c.args.names.now))
+
+pub returns-then-size-name_size-gt-MAX_ENTRIES-clause-ok : goal.returns-then-size-name_size-gt-MAX_ENTRIES-clause-ok
+returns-then-size-name_size-gt-MAX_ENTRIES-clause-ok c =
+    let t = c.args.table.now in
+    let ns = c.args.names.now in
+    let n = c.index-names-last.result in
+    let some : 0 < length c.args.names.now = grind (arith, nat_tests, c.if-is_empty.false, c.is_empty.ensures) in
+    let passes : MAX_ENTRIES < directory_size t (upward (take (length ns - 1) ns)) + entry_size n = omega (arith, c.size.ensures, c.name_size.ensures.value, c.if-size-name_size-gt-MAX_ENTRIES.true) in
+    made_large t ns n _ some c.index-names-last.is c.in-Free.ensures passes
 
 pub returns-clause-ok : goal.returns-clause-ok
 returns-clause-ok c =
-    let ls = c.args.lines.now.items in
-    let ns = c.args.path.now in
-    let v = c.names-names.ensures in
-    let sight = sight_of ls c.deref.result.now ns c.names-names.result.now (Vacant c.in-Vacant.place) c.deref.ensures.value v c.in-Vacant.ensures in
-    let some : 0 < length ns = grind (arith, nat_tests, c.if-is_empty.false, c.is_empty.ensures, ap length v) in
+    let t = c.args.table.now in
+    let ns = c.args.names.now in
     let n = c.index-names-last.result in
-    let at : n ≡ get_or ns (length ns - 1) n = subst (λ z. n ≡ get_or z (length z - 1) n) v c.index-names-last.is in
-    let q = upward (take (length ns - 1) ns) in
-    let size : c.directory_size.result ≡ directory_size (tree_of ls) q =
-    c.directory_size.ensures.value ∙ (ap (λ z. directory_size (tree_of z) (upward (take (length c.names-names.result.now - 1) c.names-names.result.now))) c.deref-2.ensures.value
-    ∙ ap (λ z. directory_size (tree_of ls) (upward (take (length z - 1) z))) v) in
-    let fits : directory_size (tree_of ls) q + entry_size n ≤ MAX_ENTRIES = omega (arith, size, c.name_size.ensures.value, c.if-directory_size-name_size-gt-MAX_ENTRIES.false) in
-    made_new ls c.insert.new.self.items (upward ns) c.requires n q c.in-Vacant.place (record { path = c.in_ok-try_clone.field-0; attr = c.args.attr; bytes = c.args.bytes })
-    (last_at ns n some ∙ ap (λ z. z ∷ q) (sym at)) sight fits (ap upward c.in_ok-try_clone.ensures) c.in_ok-insert.ensures.items
+    let some : 0 < length c.args.names.now = grind (arith, nat_tests, c.if-is_empty.false, c.is_empty.ensures) in
+    let fits : directory_size t (upward (take (length ns - 1) ns)) + entry_size n ≤ MAX_ENTRIES = omega (arith, c.size.ensures, c.name_size.ensures.value, c.if-size-name_size-gt-MAX_ENTRIES.false) in
+    made_new t c.insert.new.self ns n _ some c.index-names-last.is c.in-Free.ensures fits c.in_ok-insert.ensures.ok

@@ -1,17 +1,39 @@
-use Rattle.std.proofs.Common.{◌≡◌, sym, ◌∙◌, ap, false}
-use Rattle.fs_model.specs.Tree.{upward}
-use Rattle.fs_model.specs.Step.{has_child}
-use Rattle.plain_tree.specs.declared.look.Sight.TheVariants.{At}
-use Rattle.plain_tree.specs.Rows.{tree_of}
-use Rattle.plain_tree.proofs.EffectLemmas.{sight_of, directory_gone}
+use Rattle.std.proofs.Common.{◌≡◌, ◌<◌, length, sym, ◌∙◌, ap, subst, arith}
+use Rattle.std.proofs.lemmas.Bool.Decides.{nat_tests}
+use Rattle.fs_model.specs.Tree.{upward, is_root}
+use Rattle.tree_rules.proofs.PathLemmas.{not_root}
+use Rattle.row_table.proofs.EditLemmas.{no_names}
+use Rattle.plain_tree.proofs.StepLemmas.{there_of, directory_gone, directory_full, no_directory}
+use Rattle.plain_tree.proofs.Refusals.{root_step, directory_refused}
 use Rattle.plain_tree.proofs.edit.remove_directory.Goals as goal
+
+pub returns-then-is_empty : goal.returns-then-is_empty
+returns-then-is_empty c = root_step c.args.table.now (upward c.args.names.now) _ (ap is_root (no_names c.args.names.now (sym c.is_empty.ensures ∙ c.if-is_empty.true)))
+
+pub returns-in-Err : goal.returns-in-Err
+returns-in-Err c =
+    let some : 0 < length c.args.names.now = grind (arith, nat_tests, c.if-is_empty.false, c.is_empty.ensures) in
+    directory_refused c.args.table.now (upward c.args.names.now) c.in-Err.error (not_root c.args.names.now some) c.in-Err.ensures.refused
+
+pub returns-then-has_child : goal.returns-then-has_child
+returns-then-has_child c =
+    let some : 0 < length c.args.names.now = grind (arith, nat_tests, c.if-is_empty.false, c.is_empty.ensures) in
+    directory_full c.args.table.now c.args.table.now (upward c.args.names.now) _ (not_root c.args.names.now some) c.in-Ok.ensures.found (sym c.is_directory.ensures ∙ c.if-is_directory.true) (sym c.has_child.ensures ∙ c.if-has_child.true)
+
+pub remove-requires-clause-named : goal.remove-requires-clause-named
+remove-requires-clause-named c =
+    let some : 0 < length c.args.names.now = grind (arith, nat_tests, c.if-is_empty.false, c.is_empty.ensures) in
+    not_root c.args.names.now some
+
+pub remove-requires-clause-there : goal.remove-requires-clause-there
+remove-requires-clause-there c = there_of c.args.table.now (upward c.args.names.now) _ c.in-Ok.ensures.found
+
+pub returns-then-is_directory : goal.returns-then-is_directory
+returns-then-is_directory c =
+    let some : 0 < length c.args.names.now = grind (arith, nat_tests, c.if-is_empty.false, c.is_empty.ensures) in
+    directory_gone c.args.table.now c.remove.new.self (upward c.args.names.now) _ (not_root c.args.names.now some) c.in-Ok.ensures.found (sym c.is_directory.ensures ∙ c.if-is_directory.true) (sym c.has_child.ensures ∙ c.if-has_child.false) c.remove.ensures.tree
 
 pub returns : goal.returns
 returns c =
-    let ls = c.args.lines.now.items in
-    let sight = sight_of ls c.deref.result.now c.args.path.now c.names.result.now (At c.in-At.i) c.deref.ensures.value c.names.ensures c.in-At.ensures in
-    let bare : has_child (tree_of ls) (upward c.args.path.now) ≡ false =
-    ap (λ z. has_child (tree_of z) (upward c.args.path.now)) (sym c.deref-2.ensures.value)
-    ∙ (ap (λ z. has_child (tree_of c.deref-2.result.now) (upward z)) (sym c.names-2.ensures) ∙ (sym c.has_child.ensures ∙ c.if-has_child.false)) in
-    directory_gone ls c.remove.new.self.items (upward c.args.path.now) c.requires c.in-At.i c.index.result.now sight
-    (ap (λ l. l.attr.kind) (sym c.index.ensures) ∙ c.in-Directory.is) bare c.remove.ensures.items
+    let some : 0 < length c.args.names.now = grind (arith, nat_tests, c.if-is_empty.false, c.is_empty.ensures) in
+    no_directory c.args.table.now c.args.table.now (upward c.args.names.now) _ (not_root c.args.names.now some) c.in-Ok.ensures.found (sym c.is_directory.ensures ∙ c.if-is_directory.false)

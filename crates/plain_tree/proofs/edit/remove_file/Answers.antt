@@ -1,14 +1,34 @@
-use Rattle.std.proofs.Common.{◌≡◌, sym, ◌∙◌, ap, false}
-use Rattle.fs_model.specs.Tree.{upward, is_directory}
-use Rattle.plain_tree.specs.declared.look.Sight.TheVariants.{At}
-use Rattle.plain_tree.proofs.EffectLemmas.{sight_of, file_gone}
+use Rattle.std.proofs.Common.{◌≡◌, ◌<◌, length, sym, ◌∙◌, ap, subst, arith}
+use Rattle.std.proofs.lemmas.Bool.Decides.{nat_tests}
+use Rattle.fs_model.specs.Tree.{upward, is_root}
+use Rattle.tree_rules.proofs.PathLemmas.{not_root}
+use Rattle.row_table.proofs.EditLemmas.{no_names}
+use Rattle.plain_tree.proofs.StepLemmas.{there_of, file_gone, no_file}
+use Rattle.plain_tree.proofs.Refusals.{root_step, removal_refused}
 use Rattle.plain_tree.proofs.edit.remove_file.Goals as goal
-use Rattle.plain_tree.proofs.edit.remove_file.Goals.{in-File, in-Link}
+
+pub returns-then-is_empty : goal.returns-then-is_empty
+returns-then-is_empty c = root_step c.args.table.now (upward c.args.names.now) _ (ap is_root (no_names c.args.names.now (sym c.is_empty.ensures ∙ c.if-is_empty.true)))
+
+pub returns-in-Err : goal.returns-in-Err
+returns-in-Err c =
+    let some : 0 < length c.args.names.now = grind (arith, nat_tests, c.if-is_empty.false, c.is_empty.ensures) in
+    removal_refused c.args.table.now (upward c.args.names.now) c.in-Err.error (not_root c.args.names.now some) c.in-Err.ensures.refused
+
+pub returns-then-is_directory : goal.returns-then-is_directory
+returns-then-is_directory c =
+    let some : 0 < length c.args.names.now = grind (arith, nat_tests, c.if-is_empty.false, c.is_empty.ensures) in
+    no_file c.args.table.now c.args.table.now (upward c.args.names.now) _ (not_root c.args.names.now some) c.in-Ok.ensures.found (sym c.is_directory.ensures ∙ c.if-is_directory.true)
+
+pub remove-requires-clause-named : goal.remove-requires-clause-named
+remove-requires-clause-named c =
+    let some : 0 < length c.args.names.now = grind (arith, nat_tests, c.if-is_empty.false, c.is_empty.ensures) in
+    not_root c.args.names.now some
+
+pub remove-requires-clause-there : goal.remove-requires-clause-there
+remove-requires-clause-there c = there_of c.args.table.now (upward c.args.names.now) _ c.in-Ok.ensures.found
 
 pub returns : goal.returns
 returns c =
-    let ls = c.args.lines.now.items in
-    let sight = sight_of ls c.deref.result.now c.args.path.now c.names.result.now (At c.in-At.i) c.deref.ensures.value c.names.ensures c.in-At.ensures in
-    let file : is_directory c.index.result.now.attr.kind ≡ false = elim c.match-index.branch [ in-File w ↦ ap is_directory w.in-File.is | in-Link w ↦ ap is_directory w.in-Link.is ] in
-    file_gone ls c.remove.new.self.items (upward c.args.path.now) c.requires c.in-At.i c.index.result.now sight
-    (ap (λ l. is_directory l.attr.kind) (sym c.index.ensures) ∙ file) c.remove.ensures.items
+    let some : 0 < length c.args.names.now = grind (arith, nat_tests, c.if-is_empty.false, c.is_empty.ensures) in
+    file_gone c.args.table.now c.remove.new.self (upward c.args.names.now) _ (not_root c.args.names.now some) c.in-Ok.ensures.found (sym c.is_directory.ensures ∙ c.if-is_directory.false) c.remove.ensures.tree

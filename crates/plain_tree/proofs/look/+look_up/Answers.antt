@@ -1,59 +1,45 @@
-use Rattle.std.proofs.Common.{◌<◌, ◌-◌, length, take, ap, arith}
+use Rattle.std.proofs.Common.{◌≡◌, ◌<◌, length, sym, ◌∙◌, ap, arith, None, Some}
+use Rattle.std.specs.Prelude.{cond}
 use Rattle.std.proofs.lemmas.Bool.Decides.{nat_tests}
-use Rattle.fs_model.specs.Tree.{upward, is_directory}
-use Rattle.plain_tree.proofs.PathLemmas.{last_split, not_root}
-use Rattle.plain_tree.proofs.FindLemmas.{seen_line, below_root, below_folder, below_other, below_free, below_bad}
+use Rattle.std.specs.FinMap.{get}
+use Rattle.fs_model.specs.declared.error.FsError.TheVariants.{NotDirectory}
+use Rattle.fs_model.specs.Tree.{upward, is_directory, root_row}
+use Rattle.fs_model.specs.LookUp.{Free, Bad}
+use Rattle.fs_model.proofs.LookUpLemmas.{look-found}
+use Rattle.row_table.proofs.EditLemmas.{no_names}
+use Rattle.plain_tree.proofs.StepLemmas.{seen_above}
 use Rattle.plain_tree.proofs.look.+look_up.Goals as goal
 
-pub returns-in-Ok : goal.returns-in-Ok
-returns-in-Ok t c =
-    let some : 0 < length c.args.names.now = grind (arith, nat_tests, c.if-is_empty.false, c.is_empty.ensures) in
-    (c.in-Ok.ensures.found, seen_line c.args.lines.now (upward c.args.names.now) c.in-Ok.i (not_root c.args.names.now some) c.in-Ok.ensures.found)
+pub returns-in-Some : goal.returns-in-Some
+returns-in-Some t c = look-found c.args.table.now (upward c.args.names.now) _ (sym c.in-Some.ensures)
 
-pub returns-in-Root : goal.returns-in-Root
-returns-in-Root t c =
-    let some : 0 < length c.args.names.now = grind (arith, nat_tests, c.if-is_empty.false, c.is_empty.ensures) in
-    let s = last_split c.args.names.now some in
-    let gap = c.in-Err.ensures.absent in
-    let seen = below_root c.args.lines.now (upward c.args.names.now) s.0 (upward (take (length c.args.names.now - 1) c.args.names.now)) c.requires s.1 gap.absent c.in-Root.ensures in
-    (gap, seen)
+pub unreachable-requires : goal.unreachable-requires
+unreachable-requires t c =
+    let root : get c.args.table.now (upward c.args.names.now) ≡ Some root_row = ap (get c.args.table.now) (no_names c.args.names.now (sym c.is_empty.ensures ∙ c.if-is_empty.true)) ∙ c.requires.rooted.root in
+    let none : None ≡ get c.args.table.now (upward c.args.names.now) = c.in-None.ensures in
+    cc
 
 pub returns-in-Directory : goal.returns-in-Directory
 returns-in-Directory t c =
     let some : 0 < length c.args.names.now = grind (arith, nat_tests, c.if-is_empty.false, c.is_empty.ensures) in
-    let s = last_split c.args.names.now some in
-    let gap = c.in-Err.ensures.absent in
-    let seen = below_folder c.args.lines.now (upward c.args.names.now) s.0 (upward (take (length c.args.names.now - 1) c.args.names.now)) c.requires s.1 gap.absent _ (c.in-At.ensures.1 _).seen (ap is_directory c.in-Directory.is) in
-    (gap, seen)
+    seen_above c.args.table.now c.args.names.now _ c.requires some (sym c.in-None.ensures) c.in-Found.ensures ∙ ap (λ k. cond (is_directory k) Free (Bad NotDirectory)) c.in-Directory.is
 
 pub returns-in-File : goal.returns-in-File
 returns-in-File t c =
     let some : 0 < length c.args.names.now = grind (arith, nat_tests, c.if-is_empty.false, c.is_empty.ensures) in
-    let s = last_split c.args.names.now some in
-    let gap = c.in-Err.ensures.absent in
-    let seen = below_other c.args.lines.now (upward c.args.names.now) s.0 (upward (take (length c.args.names.now - 1) c.args.names.now)) c.requires s.1 gap.absent _ (c.in-At.ensures.1 _).seen (ap is_directory c.in-File.is) in
-    seen
+    seen_above c.args.table.now c.args.names.now _ c.requires some (sym c.in-None.ensures) c.in-Found.ensures ∙ ap (λ k. cond (is_directory k) Free (Bad NotDirectory)) c.in-File.is
 
 pub returns-in-Link : goal.returns-in-Link
 returns-in-Link t c =
     let some : 0 < length c.args.names.now = grind (arith, nat_tests, c.if-is_empty.false, c.is_empty.ensures) in
-    let s = last_split c.args.names.now some in
-    let gap = c.in-Err.ensures.absent in
-    let seen = below_other c.args.lines.now (upward c.args.names.now) s.0 (upward (take (length c.args.names.now - 1) c.args.names.now)) c.requires s.1 gap.absent _ (c.in-At.ensures.1 _).seen (ap is_directory c.in-Link.is) in
-    seen
+    seen_above c.args.table.now c.args.names.now _ c.requires some (sym c.in-None.ensures) c.in-Found.ensures ∙ ap (λ k. cond (is_directory k) Free (Bad NotDirectory)) c.in-Link.is
 
-pub returns-in-Vacant : goal.returns-in-Vacant
-returns-in-Vacant t c =
+pub returns-in-Free : goal.returns-in-Free
+returns-in-Free t c =
     let some : 0 < length c.args.names.now = grind (arith, nat_tests, c.if-is_empty.false, c.is_empty.ensures) in
-    let s = last_split c.args.names.now some in
-    let gap = c.in-Err.ensures.absent in
-    let seen = below_free c.args.lines.now (upward c.args.names.now) s.0 (upward (take (length c.args.names.now - 1) c.args.names.now)) c.requires s.1 gap.absent c.in-Vacant.ensures.1.seen in
-    seen
+    seen_above c.args.table.now c.args.names.now _ c.requires some (sym c.in-None.ensures) c.in-Free.ensures
 
-pub returns-in-Wrong : goal.returns-in-Wrong
-returns-in-Wrong t c =
+pub returns-in-Bad : goal.returns-in-Bad
+returns-in-Bad t c =
     let some : 0 < length c.args.names.now = grind (arith, nat_tests, c.if-is_empty.false, c.is_empty.ensures) in
-    let s = last_split c.args.names.now some in
-    let gap = c.in-Err.ensures.absent in
-    let seen = below_bad c.args.lines.now (upward c.args.names.now) s.0 (upward (take (length c.args.names.now - 1) c.args.names.now)) c.requires s.1 gap.absent c.in-Wrong.error c.in-Wrong.ensures.seen in
-    seen
+    seen_above c.args.table.now c.args.names.now _ c.requires some (sym c.in-None.ensures) c.in-Bad.ensures

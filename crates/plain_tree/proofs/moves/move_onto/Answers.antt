@@ -1,71 +1,92 @@
-use Rattle.std.proofs.Common.{◌≡◌, sym, ◌∙◌, ap, subst, Some, true, false}
-use Rattle.fs_model.specs.Tree.{upward, is_directory}
+use Rattle.std.proofs.Common.{◌≡◌, sym, ◌∙◌, ap, subst, true, false}
+use Rattle.std.specs.FinMap.{get}
+use Rattle.fs_model.specs.Tree.{Row, upward, is_directory}
+use Rattle.fs_model.specs.declared.attr.Kind.{Kind}
+use Rattle.fs_model.proofs.LookUpLemmas.{get-found}
 use Rattle.fs_model.proofs.WellFormedStep.{below_file}
-use Rattle.plain_tree.specs.Rows.{line_row, tree_of}
 use Rattle.plain_tree.specs.Answers.{IsAnswer}
-use Rattle.plain_tree.proofs.EffectLemmas.{some_line}
-use Rattle.plain_tree.proofs.MoveEffects.{is_move_found, row_at}
-use Rattle.plain_tree.proofs.MoveSteps.{answer_map, onto_same, onto_directory, onto_file, row_kind, same_of, child_test_of, childless}
+use Rattle.plain_tree.proofs.CarryLemmas.{is_move_found}
+use Rattle.plain_tree.proofs.MoveSteps.{answer_map, kind_of, onto_same, onto_step, onto_directory, onto_full, onto_other, other_onto, childless}
 use Rattle.plain_tree.proofs.moves.move_onto.Goals as goal
 
 pub returns-then-same_names-clause-ok : goal.returns-then-same_names-clause-ok
 returns-then-same_names-clause-ok c = λ row here.
-    let ls = c.args.lines.now.items in
-    onto_same ls (upward c.args.from.now) (upward c.args.to.now) c.args.now c.requires.formed row c.args.at.1 (some_line ls c.args.at.1 c.requires.to.0.in_range) c.requires.to
-    (same_of c.args.from.now c.names.result.now c.args.to.now c.names-2.result.now c.same_names.result true c.names.ensures c.names-2.ensures c.same_names.ensures c.if-same_names.true)
+    onto_same c.args.table.now (upward c.args.from.now) (upward c.args.to.now) c.args.now row c.requires.to.0 c.requires.to.2 (sym c.same_names.ensures ∙ c.if-same_names.true)
+
+pub returns-in-true-false-clause-ok : goal.returns-in-true-false-clause-ok
+returns-in-true-false-clause-ok c = λ row here.
+    let t = c.args.table.now in
+    let p = upward c.args.from.now in
+    let q = upward c.args.to.now in
+    let from = kind_of t p row c.requires.from.0 c.args.attr true here c.requires.from.2 c.requires.from.1 (sym c.in-true-false.ensures) in
+    let onto = ap is_directory c.requires.to.1 ∙ sym c.in-true-false.ensures' in
+    onto_other t p q c.args.now row c.requires.to.0 c.requires.to.2 (sym c.same_names.ensures ∙ c.if-same_names.false) from onto
+
+pub returns-in-false-true-clause-ok : goal.returns-in-false-true-clause-ok
+returns-in-false-true-clause-ok c = λ row here.
+    let t = c.args.table.now in
+    let p = upward c.args.from.now in
+    let q = upward c.args.to.now in
+    let from = kind_of t p row c.requires.from.0 c.args.attr false here c.requires.from.2 c.requires.from.1 (sym c.in-false-true.ensures) in
+    let onto = ap is_directory c.requires.to.1 ∙ sym c.in-false-true.ensures' in
+    other_onto t p q c.args.now row c.requires.to.0 c.requires.to.2 (sym c.same_names.ensures ∙ c.if-same_names.false) from onto
+
+pub returns-then-has_child-clause-ok : goal.returns-then-has_child-clause-ok
+returns-then-has_child-clause-ok c = λ row here.
+    let t = c.args.table.now in
+    let p = upward c.args.from.now in
+    let q = upward c.args.to.now in
+    let from = kind_of t p row c.requires.from.0 c.args.attr true here c.requires.from.2 c.requires.from.1 (sym c.in-true-true.ensures) in
+    let onto = ap is_directory c.requires.to.1 ∙ sym c.in-true-true.ensures' in
+    onto_full t p q c.args.now row c.requires.to.0 c.requires.to.2 (sym c.same_names.ensures ∙ c.if-same_names.false) from onto (sym c.has_child.ensures ∙ c.if-has_child.true)
 
 pub relocate-requires-clause-moves : goal.relocate-requires-clause-moves
 relocate-requires-clause-moves c =
-    let ls = c.args.lines.now.items in
+    let t = c.args.table.now in
     let p = upward c.args.from.now in
     let q = upward c.args.to.now in
-    let x = c.index.result.now in
-    let apart = same_of c.args.from.now c.names.result.now c.args.to.now c.names-2.result.now c.same_names.result false c.names.ensures c.names-2.ensures c.same_names.ensures c.if-same_names.false in
-    let bare = child_test_of ls c.deref.result.now c.args.to.now c.names-in-true-true.result.now c.has_child.result false c.deref.ensures.value c.names-in-true-true.ensures c.has_child.ensures c.if-has_child.false in
-    (_, is_move_found ls p q c.args.at.0 c.args.at.1 x _ c.requires.formed c.requires.from c.requires.to c.requires.above apart (childless (tree_of ls) q bare) (row_at ls p c.args.at.0 x c.requires.from))
+    let f = c.requires.from in (
+      f.0,
+      f.1,
+      is_move_found t p q f.0 c.requires.to.0 c.requires.formed c.requires.named c.requires.to_named f.2 c.requires.to.2 c.requires.above (sym c.same_names.ensures ∙ c.if-same_names.false)
+          (childless t q (sym c.has_child.ensures ∙ c.if-has_child.false)),
+    )
 
 pub relocate-requires-in-false-false-clause-moves : goal.relocate-requires-in-false-false-clause-moves
 relocate-requires-in-false-false-clause-moves c =
-    let ls = c.args.lines.now.items in
+    let t = c.args.table.now in
     let p = upward c.args.from.now in
     let q = upward c.args.to.now in
-    let x = c.index.result.now in
-    let y = c.index-2.result.now in
-    let apart = same_of c.args.from.now c.names.result.now c.args.to.now c.names-2.result.now c.same_names.result false c.names.ensures c.names-2.ensures c.same_names.ensures c.if-same_names.false in
-    let file : is_directory (line_row y).attr.kind ≡ false = sym c.in-false-false.ensures' in
-    let there = row_at ls q c.args.at.1 y c.requires.to ∙ ap (λ z. Some (line_row z)) (sym c.index-2.ensures) in (
-      _,
-      is_move_found ls p q c.args.at.0 c.args.at.1 x _ c.requires.formed c.requires.from c.requires.to c.requires.above apart
-          (below_file (tree_of ls) q (line_row y) c.requires.formed.well_formed.rooted there file) (row_at ls p c.args.at.0 x c.requires.from),
+    let f = c.requires.from in
+    let onto = ap is_directory c.requires.to.1 ∙ sym c.in-false-false.ensures' in (
+      f.0,
+      f.1,
+      is_move_found t p q f.0 c.requires.to.0 c.requires.formed c.requires.named c.requires.to_named f.2 c.requires.to.2 c.requires.above (sym c.same_names.ensures ∙ c.if-same_names.false)
+          (below_file t q c.requires.to.0 c.requires.formed.rooted (get-found t q c.requires.to.0 c.requires.to.2) onto),
     )
 
 pub returns-else-has_child-clause-ok : goal.returns-else-has_child-clause-ok
 returns-else-has_child-clause-ok c =
-    let ls = c.args.lines.now.items in
+    let t = c.args.table.now in
     let p = upward c.args.from.now in
     let q = upward c.args.to.now in
-    let x = c.index.result.now in
-    let y = c.index-2.result.now in
-    let apart = same_of c.args.from.now c.names.result.now c.args.to.now c.names-2.result.now c.same_names.result false c.names.ensures c.names-2.ensures c.same_names.ensures c.if-same_names.false in
-    let bare = child_test_of ls c.deref.result.now c.args.to.now c.names-in-true-true.result.now c.has_child.result false c.deref.ensures.value c.names-in-true-true.ensures c.has_child.ensures c.if-has_child.false in
+    let apart = sym c.same_names.ensures ∙ c.if-same_names.false in
+    let none = sym c.has_child.ensures ∙ c.if-has_child.false in
+    let onto = ap is_directory c.requires.to.1 ∙ sym c.in-true-true.ensures' in
     answer_map c.relocate.result _ _ (λ reply h row here.
-    let moves = row_kind ls p q c.args.now c.requires.formed c.args.at.0 x row true c.requires.from c.index.ensures here (sym c.in-true-true.ensures) in
-    let stays = ap (λ l. is_directory l.attr.kind) (sym c.index-2.ensures) ∙ sym c.in-true-true.ensures' in
-    subst (λ s. IsAnswer c.relocate.new.lines.items reply s) (sym (onto_directory ls p q c.args.now c.requires.formed row c.args.at.1 y c.requires.to apart moves stays bare))
-    (h row (is_move_found ls p q c.args.at.0 c.args.at.1 x row c.requires.formed c.requires.from c.requires.to c.requires.above apart (childless (tree_of ls) q bare) here))) c.relocate.ensures.ok
+    let from = kind_of t p row c.requires.from.0 c.args.attr true here c.requires.from.2 c.requires.from.1 (sym c.in-true-true.ensures) in
+    subst (λ s. IsAnswer c.relocate.new.table reply s) (sym (onto_directory t p q c.args.now row c.requires.to.0 c.requires.to.2 apart from onto none))
+    (h row (is_move_found t p q row c.requires.to.0 c.requires.formed c.requires.named c.requires.to_named here c.requires.to.2 c.requires.above apart (childless t q none)))) c.relocate.ensures.ok
 
 pub returns-in-false-false-clause-ok : goal.returns-in-false-false-clause-ok
 returns-in-false-false-clause-ok c =
-    let ls = c.args.lines.now.items in
+    let t = c.args.table.now in
     let p = upward c.args.from.now in
     let q = upward c.args.to.now in
-    let x = c.index.result.now in
-    let y = c.index-2.result.now in
-    let apart = same_of c.args.from.now c.names.result.now c.args.to.now c.names-2.result.now c.same_names.result false c.names.ensures c.names-2.ensures c.same_names.ensures c.if-same_names.false in
-    let file : is_directory (line_row y).attr.kind ≡ false = sym c.in-false-false.ensures' in
-    let there = row_at ls q c.args.at.1 y c.requires.to ∙ ap (λ z. Some (line_row z)) (sym c.index-2.ensures) in
+    let apart = sym c.same_names.ensures ∙ c.if-same_names.false in
+    let onto = ap is_directory c.requires.to.1 ∙ sym c.in-false-false.ensures' in
+    let bare = below_file t q c.requires.to.0 c.requires.formed.rooted (get-found t q c.requires.to.0 c.requires.to.2) onto in
     answer_map c.relocate-in-false-false.result _ _ (λ reply h row here.
-    let moves = row_kind ls p q c.args.now c.requires.formed c.args.at.0 x row false c.requires.from c.index.ensures here (sym c.in-false-false.ensures) in
-    let stays = ap (λ l. is_directory l.attr.kind) (sym c.index-2.ensures) ∙ sym c.in-false-false.ensures' in
-    subst (λ s. IsAnswer c.relocate-in-false-false.new.lines.items reply s) (sym (onto_file ls p q c.args.now c.requires.formed row c.args.at.1 y c.requires.to apart moves stays))
-    (h row (is_move_found ls p q c.args.at.0 c.args.at.1 x row c.requires.formed c.requires.from c.requires.to c.requires.above apart (below_file (tree_of ls) q (line_row y) c.requires.formed.well_formed.rooted there file) here))) c.relocate-in-false-false.ensures.ok
+    let from = kind_of t p row c.requires.from.0 c.args.attr false here c.requires.from.2 c.requires.from.1 (sym c.in-false-false.ensures) in
+    subst (λ s. IsAnswer c.relocate-in-false-false.new.table reply s) (sym (onto_step t p q c.args.now row c.requires.to.0 c.requires.to.2 apart false false from onto))
+    (h row (is_move_found t p q row c.requires.to.0 c.requires.formed c.requires.named c.requires.to_named here c.requires.to.2 c.requires.above apart bare))) c.relocate-in-false-false.ensures.ok

@@ -1,73 +1,60 @@
-use Rattle.std.proofs.Common.{◌<◌, length, get_or, sym, ◌∙◌, ap, subst, arith, true, false}
+use Rattle.std.proofs.Common.{◌≡◌, ◌<◌, length, refl, sym, ◌∙◌, ap, subst, arith}
 use Rattle.std.proofs.lemmas.Bool.Decides.{nat_tests}
-use Rattle.fs_model.specs.Tree.{upward}
+use Rattle.fs_model.specs.Tree.{Row, upward}
 use Rattle.fs_model.specs.Step.{moved_to}
-use Rattle.plain_tree.specs.declared.look.Sight.TheVariants.{At, Vacant, Wrong}
-use Rattle.plain_tree.specs.Rows.{line_row, tree_of}
+use Rattle.tree_rules.proofs.PathLemmas.{not_root}
+use Rattle.row_table.proofs.EditLemmas.{no_names}
 use Rattle.plain_tree.specs.Answers.{IsAnswer}
-use Rattle.plain_tree.proofs.PathLemmas.{not_root}
-use Rattle.plain_tree.proofs.EffectLemmas.{sight_of, some_line}
-use Rattle.plain_tree.proofs.MoveEffects.{is_move_free, row_at}
-use Rattle.plain_tree.proofs.MoveSteps.{answer_map, whole_step, whole_invalid, whole_bad, above_of}
+use Rattle.plain_tree.proofs.CarryLemmas.{is_move_free}
+use Rattle.plain_tree.proofs.MoveSteps.{answer_map, whole_step, whole_invalid, whole_bad, whole_refused, busy_from, busy_to}
 use Rattle.plain_tree.proofs.moves.move_rows.Goals as goal
+
+pub returns-in-Err-clause-ok : goal.returns-in-Err-clause-ok
+returns-in-Err-clause-ok c =
+    let np : 0 < length c.args.from.now = grind (arith, nat_tests, c.if-is_empty.false, c.is_empty.ensures) in
+    let nq : 0 < length c.args.to.now = grind (arith, nat_tests, c.if-is_empty-2.false, c.is_empty-else-is_empty.ensures) in
+    whole_refused c.args.table.now (upward c.args.from.now) (upward c.args.to.now) c.args.now c.in-Err.error (not_root c.args.from.now np) (not_root c.args.to.now nq) c.in-Err.ensures.refused
 
 pub returns-then-is_above-clause-ok : goal.returns-then-is_above-clause-ok
 returns-then-is_above-clause-ok c =
-    let ls = c.args.lines.now.items in
-    let p = upward c.args.from.now in
-    let some : 0 < length c.args.to.now = grind (arith, nat_tests, c.if-is_empty.false, c.is_empty.ensures, ap length c.names.ensures) in
-    let from = sight_of ls c.deref.result.now c.args.from.now c.names-2.result.now (At c.in-At.i) c.deref.ensures.value c.names-2.ensures c.in-At.ensures in
-    let d = some_line ls c.in-At.i from.0.in_range in
-    whole_invalid ls p (upward c.args.to.now) c.args.now c.requires _ (from.1 d).named (not_root c.args.to.now some) (row_at ls p c.in-At.i d from)
-    (above_of c.args.from.now c.names-3.result.now c.args.to.now c.names-4.result.now c.is_above.result true c.names-3.ensures c.names-4.ensures c.is_above.ensures c.if-is_above.true)
-
-pub move_onto-requires-clause-from : goal.move_onto-requires-clause-from
-move_onto-requires-clause-from c = sight_of c.args.lines.now.items c.deref.result.now c.args.from.now c.names-2.result.now (At c.in-At.i) c.deref.ensures.value c.names-2.ensures c.in-At.ensures
+    let np : 0 < length c.args.from.now = grind (arith, nat_tests, c.if-is_empty.false, c.is_empty.ensures) in
+    let nq : 0 < length c.args.to.now = grind (arith, nat_tests, c.if-is_empty-2.false, c.is_empty-else-is_empty.ensures) in
+    whole_invalid c.args.table.now (upward c.args.from.now) (upward c.args.to.now) c.args.now _ (not_root c.args.from.now np) (not_root c.args.to.now nq) c.in-Ok.ensures.found (sym c.is_above.ensures ∙ c.if-is_above.true)
 
 pub relocate-requires-clause-moves : goal.relocate-requires-clause-moves
 relocate-requires-clause-moves c =
-    let ls = c.args.lines.now.items in
-    let p = upward c.args.from.now in
-    let from = sight_of ls c.deref.result.now c.args.from.now c.names-2.result.now (At c.in-At.i) c.deref.ensures.value c.names-2.ensures c.in-At.ensures in
-    let to = sight_of ls c.deref-2.result.now c.args.to.now c.names-5.result.now (Vacant c.in-Vacant-look_up.field-0) c.deref-2.ensures.value c.names-5.ensures c.in-Vacant-look_up.ensures in
-    let d = some_line ls c.in-At.i from.0.in_range in
-    let above = above_of c.args.from.now c.names-3.result.now c.args.to.now c.names-4.result.now c.is_above.result false c.names-3.ensures c.names-4.ensures c.is_above.ensures c.if-is_above.false in
-    (_, is_move_free ls p (upward c.args.to.now) c.in-At.i d _ c.requires from to.1 above (row_at ls p c.in-At.i d from))
+    let np : 0 < length c.args.from.now = grind (arith, nat_tests, c.if-is_empty.false, c.is_empty.ensures) in
+    let nq : 0 < length c.args.to.now = grind (arith, nat_tests, c.if-is_empty-2.false, c.is_empty-else-is_empty.ensures) in
+    (_, refl, is_move_free c.args.table.now (upward c.args.from.now) (upward c.args.to.now) _ c.requires (not_root c.args.from.now np) (not_root c.args.to.now nq) c.in-Ok.ensures.found c.in-Free.ensures (sym c.is_above.ensures ∙ c.if-is_above.false))
 
-pub returns-in-At-look_up-clause-ok : goal.returns-in-At-look_up-clause-ok
-returns-in-At-look_up-clause-ok c =
-    let ls = c.args.lines.now.items in
+pub returns-in-Free-clause-ok : goal.returns-in-Free-clause-ok
+returns-in-Free-clause-ok c =
+    let t = c.args.table.now in
     let p = upward c.args.from.now in
     let q = upward c.args.to.now in
-    let from = sight_of ls c.deref.result.now c.args.from.now c.names-2.result.now (At c.in-At.i) c.deref.ensures.value c.names-2.ensures c.in-At.ensures in
-    let to = sight_of ls c.deref-2.result.now c.args.to.now c.names-5.result.now (At c.in-At-look_up.j) c.deref-2.ensures.value c.names-5.ensures c.in-At-look_up.ensures in
-    let d = some_line ls c.in-At.i from.0.in_range in
-    let above = above_of c.args.from.now c.names-3.result.now c.args.to.now c.names-4.result.now c.is_above.result false c.names-3.ensures c.names-4.ensures c.is_above.ensures c.if-is_above.false in
-    let here = row_at ls p c.in-At.i d from in
-    answer_map c.move_onto.result _ _ (λ reply h.
-    subst (λ s. IsAnswer c.move_onto.new.lines.items reply s) (sym (whole_step ls p q c.args.now c.requires _ (from.1 d).named (to.1 d).named here above)) (h _ here)) c.move_onto.ensures.ok
-
-pub returns-in-Vacant-look_up-clause-ok : goal.returns-in-Vacant-look_up-clause-ok
-returns-in-Vacant-look_up-clause-ok c =
-    let ls = c.args.lines.now.items in
-    let p = upward c.args.from.now in
-    let q = upward c.args.to.now in
-    let from = sight_of ls c.deref.result.now c.args.from.now c.names-2.result.now (At c.in-At.i) c.deref.ensures.value c.names-2.ensures c.in-At.ensures in
-    let to = sight_of ls c.deref-2.result.now c.args.to.now c.names-5.result.now (Vacant c.in-Vacant-look_up.field-0) c.deref-2.ensures.value c.names-5.ensures c.in-Vacant-look_up.ensures in
-    let d = some_line ls c.in-At.i from.0.in_range in
-    let above = above_of c.args.from.now c.names-3.result.now c.args.to.now c.names-4.result.now c.is_above.result false c.names-3.ensures c.names-4.ensures c.is_above.ensures c.if-is_above.false in
-    let row = line_row (get_or ls c.in-At.i d) in
-    let here = row_at ls p c.in-At.i d from in
+    let row : Row = record { attr = c.in-Ok.row.0; bytes = c.in-Ok.row.1.now } in
+    let np : 0 < length c.args.from.now = grind (arith, nat_tests, c.if-is_empty.false, c.is_empty.ensures) in
+    let nq : 0 < length c.args.to.now = grind (arith, nat_tests, c.if-is_empty-2.false, c.is_empty-else-is_empty.ensures) in
+    let above = sym c.is_above.ensures ∙ c.if-is_above.false in
+    let here = c.in-Ok.ensures.found in
     answer_map c.relocate.result _ _ (λ reply h.
-    subst (λ s. IsAnswer c.relocate.new.lines.items reply s) (sym (whole_step ls p q c.args.now c.requires row (from.1 d).named to.1.named here above ∙ ap (moved_to (tree_of ls) c.args.now p q row) to.1.seen))
-    (h row (is_move_free ls p q c.in-At.i d row c.requires from to.1 above here))) c.relocate.ensures.ok
+    subst (λ s. IsAnswer c.relocate.new.table reply s) (sym (whole_step t p q c.args.now row (not_root c.args.from.now np) (not_root c.args.to.now nq) here above ∙ ap (moved_to t c.args.now p q row) c.in-Free.ensures))
+    (h row (is_move_free t p q row c.requires (not_root c.args.from.now np) (not_root c.args.to.now nq) here c.in-Free.ensures above))) c.relocate.ensures.ok
 
-pub returns-in-Wrong-look_up-clause-ok : goal.returns-in-Wrong-look_up-clause-ok
-returns-in-Wrong-look_up-clause-ok c =
-    let ls = c.args.lines.now.items in
+pub returns-in-Bad-clause-ok : goal.returns-in-Bad-clause-ok
+returns-in-Bad-clause-ok c =
+    let np : 0 < length c.args.from.now = grind (arith, nat_tests, c.if-is_empty.false, c.is_empty.ensures) in
+    let nq : 0 < length c.args.to.now = grind (arith, nat_tests, c.if-is_empty-2.false, c.is_empty-else-is_empty.ensures) in
+    whole_bad c.args.table.now (upward c.args.from.now) (upward c.args.to.now) c.args.now _ c.in-Bad.error (not_root c.args.from.now np) (not_root c.args.to.now nq) c.in-Ok.ensures.found (sym c.is_above.ensures ∙ c.if-is_above.false) c.in-Bad.ensures
+
+pub returns-clause-ok : goal.returns-clause-ok
+returns-clause-ok c =
+    let t = c.args.table.now in
     let p = upward c.args.from.now in
-    let from = sight_of ls c.deref.result.now c.args.from.now c.names-2.result.now (At c.in-At.i) c.deref.ensures.value c.names-2.ensures c.in-At.ensures in
-    let to = sight_of ls c.deref-2.result.now c.args.to.now c.names-5.result.now (Wrong c.in-Wrong-look_up.error) c.deref-2.ensures.value c.names-5.ensures c.in-Wrong-look_up.ensures in
-    let d = some_line ls c.in-At.i from.0.in_range in
-    let above = above_of c.args.from.now c.names-3.result.now c.args.to.now c.names-4.result.now c.is_above.result false c.names-3.ensures c.names-4.ensures c.is_above.ensures c.if-is_above.false in
-    whole_bad ls p (upward c.args.to.now) c.args.now c.requires _ c.in-Wrong-look_up.error (from.1 d).named to.named (row_at ls p c.in-At.i d from) above to.seen
+    let q = upward c.args.to.now in
+    let np : 0 < length c.args.from.now = grind (arith, nat_tests, c.if-is_empty.false, c.is_empty.ensures) in
+    let nq : 0 < length c.args.to.now = grind (arith, nat_tests, c.if-is_empty-2.false, c.is_empty-else-is_empty.ensures) in
+    let above = sym c.is_above.ensures ∙ c.if-is_above.false in
+    let here = c.in-Ok.ensures.found in
+    answer_map c.move_onto.result _ _ (λ reply h.
+    subst (λ s. IsAnswer c.move_onto.new.table reply s) (sym (whole_step t p q c.args.now _ (not_root c.args.from.now np) (not_root c.args.to.now nq) here above)) (h _ here)) c.move_onto.ensures.ok

@@ -1,6 +1,6 @@
 use Rattle.std.proofs.Common.{true, sym, ◌∙◌}
-use Rattle.plain_tree.proofs.PathLemmas.{some_names}
-use Rattle.plain_tree.proofs.MoveEffects.{left_is, none_left}
+use Rattle.tree_rules.proofs.PathLemmas.{some_names}
+use Rattle.plain_tree.proofs.CarryLemmas.{left_is, none_left}
 use Rattle.plain_tree.proofs.moves.size_left.Goals as goal
 
 pub returns-then-same_names : goal.returns-then-same_names

@@ -1,8 +1,7 @@
-use Rattle.plain_tree.proofs.FormedLemmas.{no_lines, no_lines_tree}
+use Rattle.std.proofs.Common.{sym, subst}
+use Rattle.fs_model.specs.Tree.{IsWellFormed}
+use Rattle.fs_model.proofs.WellFormedStep.{empty_well_formed}
 use Rattle.plain_tree.proofs.tree.PlainTree.new.Goals as goal
 
 pub invariant_of-result : goal.invariant_of-result
-invariant_of-result c = no_lines c.new.result.items c.new.ensures.items
-
-pub returns : goal.returns
-returns c = no_lines_tree c.new.result.items c.new.ensures.items
+invariant_of-result c = subst IsWellFormed (sym c.new.ensures) empty_well_formed

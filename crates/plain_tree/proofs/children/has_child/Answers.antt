@@ -1,8 +1,0 @@
-use Rattle.std.proofs.Common.{◌∙◌, ap}
-use Rattle.std.specs.Prelude.{nat_lt}
-use Rattle.fs_model.specs.Tree.{upward}
-use Rattle.plain_tree.proofs.ChildLemmas.{has_child-size}
-use Rattle.plain_tree.proofs.children.has_child.Goals as goal
-
-pub returns : goal.returns
-returns c = ap (nat_lt 0) c.directory_size.ensures.value ∙ has_child-size c.args.lines.now (upward c.args.names.now)
