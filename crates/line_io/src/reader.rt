@@ -12,6 +12,7 @@ ghost use Rattle.line_io.specs.Reading.{Reading, fresh, coming, total, TookLine,
 
 use crate::line_buffer::LineBuffer;
 use block_id::{Failed, Memory};
+use memchr::memchr;
 use outside::Source;
 use std::alloc::Global;
 use std::marker::Model;
@@ -48,7 +49,7 @@ impl Model for LineReader {
 fn newline_at(bytes: &[u8]) -> Option<usize>
     ensures { result ≡ position is_newline bytes.now }
 {
-    bytes.iter().position(|b| *b == NEWLINE)
+    memchr(NEWLINE, bytes)
 }
 
 /// Reads up to `len` bytes into the front of the block, by one read.

@@ -34,6 +34,12 @@ stopped a b (Err d) (Err g) x y e f ran bad first =
     let short = first.full in
     record { ok = tt; err = first.err; capacity = first.capacity; full = omega arith }
 
+-- a text for which there was no room
+pub refused : {A E : Type 0} (a b : Vec ℕ A) (r : Result (Unit {0}) E) (text : List ℕ) (e : E) → r ≡ Err e → b.items ≡ a.items → vec_capacity a ≤ vec_capacity b
+    → vec_capacity a < length a.items + length text → Appends a b r text
+refused a b (Ok v) text e ran same grown short = absurd (cc ran)
+refused a b (Err d) text e ran same grown short = record { ok = tt; err = ([], same ∙ sym (append-nil a.items)); capacity = grown; full = short }
+
 -- the texts of the first i elements were appended
 abbrev pub Grown : {X A : Type 0} → (X → List ℕ) → List X → ℕ → Vec ℕ A → Vec ℕ A → Type 0
 Grown f xs i a b = (b.items ≡ a.items ++ flat_map f (take i xs)) × (vec_capacity a ≤ vec_capacity b)

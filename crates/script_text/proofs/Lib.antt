@@ -1,4 +1,6 @@
 pub mod Appended
+pub mod Cuts
+pub mod HexDigits
 pub mod Lines
 pub mod Numerals
 pub mod OneReading

@@ -1,9 +1,10 @@
 // Bytes, numbers and moments at the end of a text.
-ghost use Rattle.std.specs.Prelude.{◌≡◌, ◌+◌, ◌<◌, ◌≤◌, ◌∷◌, [], false};
-ghost use Rattle.std.specs.Fmt.{decimal, digit_glyph};
+ghost use Rattle.std.specs.Prelude.{◌≡◌, ◌+◌, ◌≤◌, ◌∷◌, []};
+ghost use Rattle.std.specs.Fmt.{decimal};
 ghost use Rattle.script_text.specs.Texts.{hex_byte, last_digits, moment_text, numeral, octal, word};
 ghost use Rattle.script_text.specs.Appending.{Appends};
 
+use crate::hex_digits::hex_digit;
 use block_id::Memory;
 use fs_model::Moment;
 
@@ -27,17 +28,6 @@ pub fn push_hex(out: &mut Vec<u8>, byte: u8) -> Result<(), Memory>
 {
     push_byte(out, hex_digit(byte / 16))?;
     push_byte(out, hex_digit(byte % 16))
-}
-
-fn hex_digit(value: u8) -> u8
-    requires { value < 16 }
-    ensures { result ≡ digit_glyph false value }
-{
-    if value < 10 {
-        b'0' + value
-    } else {
-        b'a' + (value - 10)
-    }
 }
 
 /// A space and a number in decimal digits.

@@ -6,7 +6,7 @@ ghost use Rattle.script_text.specs.Answers.{Gives};
 
 use crate::LineError;
 use crate::error::BAD_LINE;
-use hex::FromHexError;
+use crate::hex_digits::read_digits;
 use std::alloc::Global;
 
 /// The bytes that a word with escapes stands for.
@@ -56,9 +56,12 @@ pub fn bytes(alloc: Global, word: &[u8]) -> Result<Vec<u8>, LineError>
     if word == b"-".as_slice() {
         return Ok(Vec::new(alloc));
     }
-    match hex::decode(alloc, word) {
-        Ok(bytes) => Ok(bytes),
-        Err(FromHexError::OutOfMemory) => Err(LineError::Memory),
-        Err(_) => Err(BAD_LINE),
+    if word.len() % 2 != 0 {
+        return Err(BAD_LINE);
     }
+    let mut bytes = vec![in alloc; 0u8; word.len() / 2]?;
+    if !read_digits(word, bytes.as_mut_slice()) {
+        return Err(BAD_LINE);
+    }
+    Ok(bytes)
 }

@@ -6,6 +6,7 @@ mod digits;
 mod error;
 mod escapes;
 mod grammar;
+mod hex_digits;
 mod law;
 mod numbers;
 mod print;

@@ -6,6 +6,7 @@ ghost use Rattle.script_text.specs.Texts.{text_of, escaped, hex_byte, hex_text, 
 ghost use Rattle.script_text.specs.Appending.{Appends};
 
 use crate::digits::{push_byte, push_bytes, push_decimal, push_hex, push_moment, push_octal};
+use crate::hex_digits::write_digits;
 use block_id::Memory;
 use fs_model::{Attr, FsError, Kind, ListRow, Reply};
 
@@ -115,9 +116,10 @@ fn push_content(out: &mut Vec<u8>, bytes: &[u8]) -> Result<(), Memory>
 fn push_hex_bytes(out: &mut Vec<u8>, bytes: &[u8]) -> Result<(), Memory>
     ensures { Appends out.old out.new result (flat_map hex_byte bytes.now) }
 {
-    for byte in bytes {
-        push_hex(out, *byte)?;
-    }
+    let before = out.len();
+    out.reserve(2 * bytes.len())?;
+    out.resize(before + 2 * bytes.len(), 0)?;
+    write_digits(bytes, &mut out.as_mut_slice()[before..]);
     Ok(())
 }
 

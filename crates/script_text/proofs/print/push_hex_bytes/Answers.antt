@@ -1,11 +1,11 @@
-use Rattle.std.proofs.Common.{get_or}
-use Rattle.std.proofs.lemmas.List.{get_or_default}
+use Rattle.std.proofs.Common.{arith}
 use Rattle.std.proofs.lemmas.Result.{err_from_is_err_and}
-use Rattle.script_text.specs.Texts.{hex_byte}
-use Rattle.script_text.proofs.Appended.{grown_stops}
+use Rattle.script_text.proofs.Appended.{refused}
+use Rattle.script_text.proofs.HexDigits.{length_of_hex}
 use Rattle.script_text.proofs.print.push_hex_bytes.Goals as goal
 
-pub returns-in_err-push_hex : goal.returns-in_err-push_hex
-returns-in_err-push_hex c =
+pub returns-in_err-reserve : goal.returns-in_err-reserve
+returns-in_err-reserve c =
     let failed = err_from_is_err_and c.from_residual.result c.from_residual.ensures.1 in
-    grown_stops hex_byte c.args.bytes.now c.loop-byte.byte-index (get_or c.args.bytes.now c.loop-byte.byte-index 0) _ _ _ _ _ _ _ c.loop-byte-test.true (get_or_default c.args.bytes.now c.loop-byte.byte-index 0 _ c.loop-byte-test.true) c.in_err-push_hex.was failed.1 c.loop-byte.invariant c.push_hex.ensures
+    refused c.args.out.now c.reserve.new.self c.from_residual.result _ failed.0 failed.1 c.in_err-reserve.ensures.items c.in_err-reserve.ensures.capacity
+    (omega (arith, c.in_err-reserve.ensures.full, length_of_hex c.args.bytes.now))
