@@ -8,7 +8,7 @@ use Rattle.outside.specs.Changes.{Changes, change_at}
 use Rattle.outside.specs.Honest.{last_change}
 use Rattle.local_state.specs.Record.{PlainState, record_bytes, HasRecord}
 use Rattle.local_state.specs.Record as records_of
-use Rattle.local_state.proofs.Records.{one_reading, marked_has}
+use Rattle.local_state.proofs.Records.{one_reading, mark_in, marked_bytes, marked_has}
 use Rattle.store_api.specs.Content.{Content, SameContent}
 use Rattle.store_api.specs.Content.{Changes as BlockChanges}
 use Rattle.outside.specs.Going.{GoesOn}
@@ -51,7 +51,7 @@ marked_record state list with_list has = record {
   list = listed with_list list;
   is_marked = refl;
   has_record = marked_has state (listed with_list list) (listed_has state list with_list has);
-  bytes = refl;
+  bytes = sym (marked_bytes state (listed with_list list));
 }
 
 -- reads leave what a kept record stands for
@@ -164,7 +164,7 @@ got_said : (kept : List ℕ) (trace : Option (List Call)) (bytes : List ℕ) (na
 got_said kept trace bytes name max answer c = record { state = c.state; list = c.list; has_record = c.has_record; is_record = c.is_record; configured = got_configured c.list trace bytes name max answer c.configured }
 
 marked_said : (kept : List ℕ) (trace : Option (List Call)) (bytes : List ℕ) → Configures kept trace bytes → Configures (with_mark kept) trace bytes
-marked_said kept trace bytes c = record { state = records_of.with_mark c.state; list = c.list; has_record = marked_has c.state c.list c.has_record; is_record = ap with_mark c.is_record; configured = c.configured }
+marked_said kept trace bytes c = record { state = records_of.with_mark c.state; list = c.list; has_record = marked_has c.state c.list c.has_record; is_record = ap with_mark c.is_record ∙ sym (marked_bytes c.state c.list); configured = c.configured }
 
 -- ---- the laws
 
@@ -179,7 +179,7 @@ enduring_by held trace faults own = record {
   stands_same = same_stands;
   stands_unmarked = never_marked;
   marked = λ s with_list i. marked_record (held s).state (held s).list with_list i.0.has_record;
-  long = λ s with_list i. omega arith;
+  long = λ s with_list i. mark_in (held s).state (listed with_list (held s).list);
   configures_now = λ s bytes i c. configures_of (held s).state (held s).list (trace s) bytes i.0.has_record c;
   configured_now = λ s bytes i c. configured_of (held s).state (held s).list (trace s) bytes i.0.has_record c;
   loaded_identity = λ a b x. ap identity_of x.held;

@@ -1,6 +1,6 @@
 -- The whole record, read and written.
-use Rattle.std.proofs.Common.{◌≡◌, ℕ, ◌^◌, ◌<◌, Bool, true, cond, eqb, List, [], ◌∷◌, ◌++◌, length, take, drop, Option, Some, None, Result, Ok, Err, refl, sym, ap, subst, ◌∙◌, append_assoc}
-use Rattle.std.specs.Prelude.{◌≢◌, nat_eq, nat_lt, IfOk, IsErrOf}
+use Rattle.std.proofs.Common.{◌≡◌, ℕ, ◌^◌, ◌<◌, Bool, true, cond, eqb, List, [], ◌∷◌, ◌++◌, length, take, drop, Option, Some, None, Result, Ok, Err, refl, sym, ap, subst, ◌∙◌, append_assoc, arith}
+use Rattle.std.specs.Prelude.{◌≢◌, nat_eq, nat_lt, IfOk, IsErrOf, slice_index, slice_set}
 use Rattle.std.specs.Int.{w32, to_le_bytes}
 use Rattle.std.specs.List.{starts_with}
 use Rattle.std.specs.Cmp.Lexicographic.{pointwise, bytes_decides}
@@ -65,7 +65,7 @@ pub record HeadTaken (bytes : List ℕ) (x : PlainState × List ℕ) : Type 0 wh
   pub client : 0 < x.0.client
 
 pub head_takes : (bytes : List ℕ) (x : PlainState × List ℕ) → IsBytes bytes → head_at bytes ≡ Some x → HeadTaken bytes x
-unfolding head_at
+unfolding head_at head_bytes
 head_takes bytes x small e =
     let a = bind_some (magic_at bytes) (λ start. flag_at start >>= after_mark) x e in
     let b = bind_some (flag_at a.0) after_mark x a.2 in
@@ -93,7 +93,7 @@ abbrev without_marks : PlainState → PlainState
 without_marks s = record s { marks = fin.empty }
 
 head_again : (s : PlainState) (rest : List ℕ) → FitsHead s → 0 < s.client → head_at (head_bytes s ++ rest) ≡ Some (without_marks s, rest)
-unfolding head_at
+unfolding head_at head_bytes
 head_again s rest fits from_one =
     let client = to_le_bytes w32 s.client in
     let tail = flag s.marked ∷ (s.fs_id ++ (s.key_salt ++ (s.key_digest ++ client))) in
@@ -116,7 +116,7 @@ head_again s rest fits from_one =
 -- ---- the record
 
 pub record_takes : (bytes : List ℕ) (x : PlainState × List Entry) → IsBytes bytes → record_at bytes ≡ Some x → HasRecord x.0 x.1 × (bytes ≡ record_bytes x.0 x.1)
-unfolding record_at
+unfolding record_at head_bytes record_bytes
 record_takes bytes x small e =
     let a = bind_some (head_at bytes) (λ head. table_at head.1 >>= λ known. list_at known.0 known.1 >>= λ list. cond (eqb (length list.1) 0) (Some (record head.0 { marks = known.0 }, list.0)) None) x e in
     let b = bind_some (table_at a.0.1) (λ known. list_at known.0 known.1 >>= λ list. cond (eqb (length list.1) 0) (Some (record a.0.0 { marks = known.0 }, list.0)) None) x a.2 in
@@ -136,7 +136,7 @@ record_takes bytes x small e =
     subst (λ (y : PlainState × List Entry). HasRecord y.0 y.1 × (bytes ≡ record_bytes y.0 y.1)) g.1 (has, whole)
 
 pub record_again : (s : PlainState) (list : List Entry) → HasRecord s list → record_at (record_bytes s list) ≡ Some (s, list)
-unfolding record_at
+unfolding record_at head_bytes record_bytes
 record_again s list has =
     let head = head_again s (marks_bytes s.marks ++ list_bytes list) has.state.head has.state.client in
     let table = table_again s.marks (list_bytes list) has.state.marks has.state.count in
@@ -179,6 +179,19 @@ pub one_reading : (s t : PlainState) (k l : List Entry) → HasRecord s k → Ha
 one_reading s t k l has also same =
     let both = some_is (s, k) (t, l) (sym (record_again s k has) ∙ ap record_at same ∙ record_again t l also) in
     (first_is (s, k) (t, l) both, second_is (s, k) (t, l) both)
+
+-- the mark is the byte at place 19
+pub mark_place : (s : PlainState) (list : List Entry) → slice_index (record_bytes s list) 19 ≡ flag s.marked
+unfolding head_bytes record_bytes
+mark_place s list = refl
+
+pub mark_in : (s : PlainState) (list : List Entry) → 19 < length (record_bytes s list)
+unfolding head_bytes record_bytes
+mark_in s list = omega arith
+
+pub marked_bytes : (s : PlainState) (list : List Entry) → record_bytes (with_mark s) list ≡ slice_set (record_bytes s list) 19 1
+unfolding head_bytes record_bytes
+marked_bytes s list = refl
 
 pub marked_has : (s : PlainState) (list : List Entry) → HasRecord s list → HasRecord (with_mark s) list
 marked_has s list has =

@@ -76,10 +76,10 @@ abbrev pub list_bytes : List Entry → List ℕ
 list_bytes list = to_le_bytes w64 (length list) ++ flat_map entry_bytes list
 
 -- what stands before the known blocks
-abbrev pub head_bytes : PlainState → List ℕ
+unfoldable pub head_bytes : PlainState → List ℕ
 head_bytes s = magic ++ (flag s.marked ∷ (s.fs_id ++ (s.key_salt ++ (s.key_digest ++ to_le_bytes w32 s.client))))
 
-abbrev pub record_bytes : PlainState → List Entry → List ℕ
+unfoldable pub record_bytes : PlainState → List Entry → List ℕ
 record_bytes s list = head_bytes s ++ (marks_bytes s.marks ++ list_bytes list)
 
 -- ---- which states and lists have a record

@@ -22,6 +22,7 @@ pub(crate) const MARK_LEN: usize = 25;
 
 const COUNT_LEN: usize = 8;
 
+#[tactic(auto, unfolding(crate::specs::Record::head_bytes))]
 fn put_head(out: &mut Vec<u8>, state: &State) -> Result<(), Memory>
     ensures bytes { OnOk result (out.new.items ≡ out.old.items ++ head_bytes (plain_state state.now)) }
     ensures fits { OnOk result (FitsHead (plain_state state.now)) }
@@ -110,6 +111,7 @@ fn put_list(out: &mut Vec<u8>, list: &[Pending]) -> Result<(), Memory>
 }
 
 /// The record of a state and a list.
+#[tactic(auto, unfolding(crate::specs::Record::record_bytes))]
 pub fn encode(alloc: Global, state: &State, list: &[Pending]) -> Result<Vec<u8>, Memory>
     requires client { 0 < state.now.client }
     requires list { FitsList state.now.known.marks (list_of list.now) }
