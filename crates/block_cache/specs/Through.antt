@@ -38,6 +38,7 @@ holdings_past f H = record {
   told = λ a. H.told (f a);
   used = λ a. H.used (f a);
   spent = λ a. H.spent (f a);
+  version = λ a. H.version (f a);
   payload = λ a. H.payload (f a);
 }
 
@@ -59,14 +60,18 @@ steady_with f own agrees M H st = record {
   zero_unused = λ a i. st.zero_unused (f a) i.0;
   sized = λ a id bytes i. st.sized (f a) id bytes i.0;
   spent_used = λ a id i. st.spent_used (f a) id i.0;
+  spent_last = λ a id i. st.spent_last (f a) id i.0;
+  last_spent = λ a id i. st.last_spent (f a) id i.0;
+  unused_version = λ a id i. st.unused_version (f a) id i.0;
   loaded_payload = λ a b. st.loaded_payload (f a) (f b);
+  loaded_version = λ a b id. st.loaded_version (f a) (f b) id;
 }
 
 pub steady_past : {A B : Type 0} (f : A → B) (p : A → Payloads) (M : Meanings B) (H : Holdings B) → Steady M H → Steady (meanings_past f p M H) (holdings_past f H)
 steady_past f p M H st = steady_with f (λ a. AreLive H (f a) (p a)) (λ a. Agree H (f a) (p a)) M H st
 
 pub stays_past : {A B : Type 0} (f : A → B) (H : Holdings B) (a b : A) → Stays H (f a) (f b) → Stays (holdings_past f H) a b
-stays_past f H a b stays = record { ids = stays.ids; content = stays.content; told = stays.told; used = stays.used; spent = stays.spent; payload = stays.payload }
+stays_past f H a b stays = record { ids = stays.ids; content = stays.content; told = stays.told; used = stays.used; spent = stays.spent; version = stays.version; payload = stays.payload }
 
 pub enduring_past : {A B : Type 0} (f : A → B) (p : A → Payloads) (M : Meanings B) (H : Holdings B) (applied : B → B → Changes → Type 0) (D : Durables B) (R : Records) → Enduring M H applied D R
     → Enduring (meanings_past f p M H) (holdings_past f H) (λ a b changes. applied (f a) (f b) changes) (durables_past f D) R

@@ -201,6 +201,7 @@ impl<S: Durable> Durable for BlockCache<S> {
         ensures told { ⟦<BlockCache<S> as Blocks>⟧.holdings.told self.new ≡ ⟦<BlockCache<S> as Blocks>⟧.holdings.told self.old }
         ensures used { ⟦<BlockCache<S> as Blocks>⟧.holdings.used self.new ≡ ⟦<BlockCache<S> as Blocks>⟧.holdings.used self.old }
         ensures spent { (id : Id) → ⟦<BlockCache<S> as Blocks>⟧.holdings.spent self.new id ≡ ⟦<BlockCache<S> as Blocks>⟧.holdings.spent self.old id }
+        ensures version { (id : Id) → ⟦<BlockCache<S> as Blocks>⟧.holdings.version self.new id ≡ ⟦<BlockCache<S> as Blocks>⟧.holdings.version self.old id }
         ensures ok { OnOk result (S.durables.list self.new.store ≡ []) }
         ensures writes { OnOk result (S.durables.trace self.new.store ≡ after_writes (S.durables.list self.old.store) (S.durables.trace self.old.store)) }
         ensures stops { OnErr result (StopsAt (S.durables.list self.old.store) (S.durables.trace self.old.store) (S.durables.trace self.new.store) (S.durables.list self.new.store)) }

@@ -62,11 +62,12 @@ stays-then {H = H} {a = a} {b = b} {c = c} one two = record {
   told = two.told ∙ one.told;
   used = two.used ∙ one.used;
   spent = λ id. two.spent id ∙ one.spent id;
+  version = λ id. two.version id ∙ one.version id;
   payload = two.payload ∙ one.payload;
 }
 
 pub stays-same : {S : Type 0} (H : Holdings S) (a : S) → Stays H a a
-stays-same H a = record { ids = λ id. refl; content = λ told id. refl; told = refl; used = refl; spent = λ id. refl; payload = refl }
+stays-same H a = record { ids = λ id. refl; content = λ told id. refl; told = refl; used = refl; spent = λ id. refl; version = λ id. refl; payload = refl }
 
 -- a leaf's bytes are the tree's
 pub leaf_is : (payload : ℕ) (B : Content) (depth : ℕ) (node : NodeText) (w bytes : List ℕ) (below : List Id) → Holds payload B depth node w below → leaf bytes ≡ node → bytes ≡ w

@@ -20,7 +20,7 @@ use Rattle.integrity_store.specs.Held.{Held, live_version, waiting_or, bytes_in,
 use Rattle.outside.specs.Honest.{last_change}
 use Rattle.integrity_store.specs.Enduring.{configures_of}
 use Rattle.integrity_store.specs.Standing.{Configures}
-use Rattle.integrity_store.specs.Stores.{IsWhole, is_last, holdings_by}
+use Rattle.integrity_store.specs.Stores.{IsWhole, is_last, version_in, holdings_by}
 use Rattle.integrity_store.specs.WaitingLists.{IsNoBlock}
 use Rattle.integrity_store.proofs.OneWrite.{with_list}
 
@@ -111,6 +111,7 @@ configured_stays held trace a b bytes new c is same =
       told = ap is_some same;
       used = ap (λ h. fin.keys h.state.marks) is;
       spent = λ id. ap (λ h. is_last (fin.get h.state.marks id)) is;
+      version = λ id. ap (λ h. version_in (fin.get h.state.marks id)) is;
       payload = ap (λ h. h.size - 78) is;
     }
 

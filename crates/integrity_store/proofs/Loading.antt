@@ -75,7 +75,7 @@ module _ {S : Type 0} (held : S → Held) (trace : S → Option (List Call)) (fa
   not_loaded intact dead = idle (lawful_by held trace faults own) a None intact (λ n. sym (not_wanted dead))
 
 pub nothing_changed : {S : Type 0} (held : S → Held) (trace : S → Option (List Call)) (faults : S → ℕ) (a : S) → Stays (holdings_by held trace) a a
-nothing_changed held trace faults a = record { ids = λ id. refl; content = λ told id. refl; told = refl; used = refl; spent = λ id. refl; payload = refl }
+nothing_changed held trace faults a = record { ids = λ id. refl; content = λ told id. refl; told = refl; used = refl; spent = λ id. refl; version = λ id. refl; payload = refl }
 
 -- the version of a live id, by whether it lives
 pub version-live : (o : Option Mark) (b : Bool) → option_map_or (λ m. m.live) o false ≡ b → b ≡ true → option_map (λ m. m.version) o ≡ version_if_live o

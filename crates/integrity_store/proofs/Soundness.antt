@@ -9,11 +9,11 @@ use Rattle.local_state.specs.declared.mark.Mark.{Mark}
 use Rattle.local_state.specs.Known.{raised_version, is_dead_in}
 use Rattle.sealed_store.specs.BlockFiles.{opens_file}
 use Rattle.store_api.specs.Content.{Id, Changes, or_else, over}
-use Rattle.store_api.specs.Holdings.{Changed, has_id}
+use Rattle.store_api.specs.Holdings.{Changed, gives_payload, has_id}
 use Rattle.integrity_store.specs.Applied.{mark_after, WaitsAfter, Applied}
 use Rattle.integrity_store.specs.BlockRecords.{Record, record_of, opened, payload_of, payload_in}
 use Rattle.integrity_store.specs.Held.{Held, own, waiting, waiting_or, bytes_in, file_of, live_version, version_if_live, where_live, told_or_none, wanted, IsPast, SoundAt, SoundBy, was_put}
-use Rattle.integrity_store.specs.Stores.{IsWhole, is_last, few_used, meanings_by, holdings_by, has-keys}
+use Rattle.integrity_store.specs.Stores.{IsWhole, is_last, version_in, few_used, meanings_by, holdings_by, has-keys}
 
 -- ---- one id
 
@@ -158,6 +158,19 @@ new_or_known : (said : Option (Option (List ℕ))) (mark : Option Mark) → is_s
 new_or_known None mark known = inl known
 new_or_known (Some change) mark known = inr refl
 
+rises_or_rests : (said : Option (Option (List ℕ))) (mark : Option Mark) → (version_in mark ≤ version_in (mark_after said mark)) × (version_in (mark_after said mark) ≤ version_in mark + 1)
+rises_or_rests None mark = (omega arith, omega arith)
+rises_or_rests (Some (Some payload)) None = (omega arith, omega arith)
+rises_or_rests (Some (Some payload)) (Some mark) = (omega arith, omega arith)
+rises_or_rests (Some None) None = (omega arith, omega arith)
+rises_or_rests (Some None) (Some mark) = (omega arith, omega arith)
+
+version_rests : (said : Option (Option (List ℕ))) (mark : Option Mark) → gives_payload said ≡ false → version_in (mark_after said mark) ≡ version_in mark
+version_rests None mark e = refl
+version_rests (Some (Some payload)) mark e = absurd (cc)
+version_rests (Some None) None e = refl
+version_rests (Some None) (Some mark) e = refl
+
 module _ {S : Type 0} (held : S → Held) (trace : S → Option (List Call)) (faults : S → ℕ) (own_ : S → Type 0) (a b : S) (changes : Changes)
     (x : Applied (held a) (held b) (trace a) (trace b) changes) (whole : IsWhole (held b)) where
   content_is : (id : Id) → wanted (held b) (trace b) id ≡ over changes (wanted (held a) (trace a)) id
@@ -179,6 +192,9 @@ module _ {S : Type 0} (held : S → Held) (trace : S → Option (List Call)) (fa
         has-keys (held b) id ∙ (ap is_some (x.marks id) ∙ stays_known (fin.get changes id) (fin.get (held a).state.marks id) (sym (has-keys (held a) id) ∙ used));
     few = λ few. few_used (held b).state (held b).list whole.has_record;
     spent = λ id none. ap is_last (x.marks id ∙ ap (λ o. mark_after o (fin.get (held a).state.marks id)) none);
+    kept = λ id. subst (λ o. version_in (fin.get (held a).state.marks id) ≤ version_in o) (sym (x.marks id)) (rises_or_rests (fin.get changes id) (fin.get (held a).state.marks id)).0;
+    raised = λ id. subst (λ o. version_in o ≤ version_in (fin.get (held a).state.marks id) + 1) (sym (x.marks id)) (rises_or_rests (fin.get changes id) (fin.get (held a).state.marks id)).1;
+    rests = λ id none. ap version_in (x.marks id) ∙ version_rests (fin.get changes id) (fin.get (held a).state.marks id) none;
     payload = ap (λ n. n - 78) x.size;
     sound = sound_after (held a) (held b) (trace a) (trace b) changes x;
   }

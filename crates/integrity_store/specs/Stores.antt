@@ -1,6 +1,6 @@
 -- What a store of blocks means, by what it holds and by the calls on its directory.
-use Rattle.std.specs.Prelude.{◌≡◌, ◌≤◌, ◌-◌, ◌^◌, ◌==◌, ℕ, Bool, true, false, List, length, is_some}
-use Rattle.std.proofs.Common.{refl, sym, ◌∙◌, ap, subst, arith}
+use Rattle.std.specs.Prelude.{◌≡◌, ◌≤◌, ◌+◌, ◌-◌, ◌^◌, ◌==◌, ℕ, Bool, true, false, List, length, is_some}
+use Rattle.std.proofs.Common.{refl, sym, ◌∙◌, ap, subst, arith, eqb-true, eq-eqb}
 use Rattle.std.proofs.lemmas.List.{length-map, length-replicate}
 use Rattle.std.specs.FinMap as fin
 use Rattle.std.specs.FinMap.{contains_key-keys, len-entries}
@@ -45,6 +45,11 @@ abbrev pub is_last : Option Mark → Bool
 is_last None = false
 is_last (Some mark) = mark.version == 2 ^ 64 - 1
 
+-- the known version, and 0 of an id that isn't used
+abbrev pub version_in : Option Mark → ℕ
+version_in None = 0
+version_in (Some mark) = mark.version
+
 abbrev pub meanings_by : {S : Type 0} → (S → Held) → (S → Option (List Call)) → (S → ℕ) → (S → Type 0) → Meanings S
 meanings_by held trace faults own = record {
   intact = λ s. IsWhole (held s) × own s;
@@ -62,6 +67,7 @@ holdings_by held trace = record {
   told = λ s. is_some (trace s);
   used = λ s. fin.keys (held s).state.marks;
   spent = λ s id. is_last (fin.get (held s).state.marks id);
+  version = λ s id. version_in (fin.get (held s).state.marks id);
   payload = λ s. (held s).size - 78;
 }
 
@@ -126,6 +132,18 @@ live_known (Some mark) payload e = refl
 wanted_used : (h : Held) (t : Option (List Call)) (id : Id) → is_some (wanted h t id) ≡ true → has_id (fin.keys h.state.marks) id ≡ true
 wanted_used h t id e = has-keys h id ∙ live_known (fin.get h.state.marks id) (payload_in h.opens h.size (file_of h (told_or_none t) id)) e
 
+last_version : (mark : Option Mark) → is_last mark ≡ true → version_in mark + 1 ≡ 2 ^ 64
+last_version None e = absurd (cc)
+last_version (Some mark) e = ap (λ n. n + 1) (eqb-true mark.version (2 ^ 64 - 1) e)
+
+version_last : (mark : Option Mark) → version_in mark + 1 ≡ 2 ^ 64 → is_last mark ≡ true
+version_last None e = absurd (omega arith)
+version_last (Some mark) e = eq-eqb mark.version (2 ^ 64 - 1) (omega arith)
+
+no_version : (mark : Option Mark) → is_some mark ≡ false → version_in mark ≡ 0
+no_version None e = refl
+no_version (Some mark) e = absurd (cc)
+
 last_known : (mark : Option Mark) → is_last mark ≡ true → is_some mark ≡ true
 last_known None e = e
 last_known (Some mark) e = refl
@@ -164,7 +182,11 @@ steady_by held trace faults own = record {
   zero_unused = λ a i. zero_free (held a) i.0.has_record.state.marks;
   sized = λ a id bytes i told e. wanted_len (held a) (trace a) id bytes e;
   spent_used = λ a id i e. has-keys (held a) id ∙ last_known (fin.get (held a).state.marks id) e;
+  spent_last = λ a id i e. last_version (fin.get (held a).state.marks id) e;
+  last_spent = λ a id i e. version_last (fin.get (held a).state.marks id) e;
+  unused_version = λ a id i e. no_version (fin.get (held a).state.marks id) (sym (has-keys (held a) id) ∙ e);
   loaded_payload = λ a b x. ap (λ h. h.size - 78) x.held;
+  loaded_version = λ a b id x. ap (λ h. version_in (fin.get h.state.marks id)) x.held;
 }
 
 -- where blocks were only loaded, the store holds what it held
@@ -176,5 +198,6 @@ settled_by held trace faults a b x = record {
   told = went_told (held a) (trace a) (trace b) x.trace;
   used = ap (λ h. fin.keys h.state.marks) x.held;
   spent = λ id. ap (λ h. is_last (fin.get h.state.marks id)) x.held;
+  version = λ id. ap (λ h. version_in (fin.get h.state.marks id)) x.held;
   payload = ap (λ h. h.size - 78) x.held;
 }

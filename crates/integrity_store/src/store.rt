@@ -6,13 +6,13 @@ ghost use Rattle.outcome.specs.Meanings.{HasCause, IsOfBlocks, IsQuiet};
 ghost use Rattle.outside.specs.Trace.{config};
 ghost use Rattle.outside.specs.Changes.{change_at};
 ghost use Rattle.local_state.specs.Record.{plain_state, record_bytes, HasRecord};
-ghost use Rattle.store_api.specs.Content.{Content, SameContent};
+ghost use Rattle.store_api.specs.Content.{Id, Content, SameContent};
 ghost use Rattle.store_api.specs.Holdings.{IsFew, Stays};
 ghost use Rattle.store_api.specs.Loads.{answer_of};
 ghost use Rattle.sealed_store.specs.Stores.{IsIntact, block_size_of, key_of, cipher_of};
 ghost use Rattle.integrity_store.specs.Held.{version_if_live};
 ghost use Rattle.integrity_store.specs.Loads.{Fetched, fetched_of, loads_by};
-ghost use Rattle.integrity_store.specs.Stores.{meanings_by, holdings_by, lawful_by, steady_by};
+ghost use Rattle.integrity_store.specs.Stores.{version_in, meanings_by, holdings_by, lawful_by, steady_by};
 ghost use Rattle.integrity_store.specs.Standing.{identity_of, listed};
 ghost use Rattle.integrity_store.specs.Views.{held_of, held_by};
 ghost use Rattle.integrity_store.specs.Unused.{IsUntouched};
@@ -60,6 +60,7 @@ impl<V: Vault, C: Sealer> IntegrityStore<V, C> {
         ensures trace { ⟦<IntegrityStore<V, C> as Durable>⟧.durables.trace result ≡ V.trace sealed.vault.vault }
         ensures records { (with_list : Bool) → ⟦<IntegrityStore<V, C> as Durable>⟧.durables.record_of result with_list ≡ record_bytes (plain_state state) (listed with_list sealed.vault.list) }
         ensures used { ⟦<IntegrityStore<V, C> as Blocks>⟧.holdings.used result ≡ fin.keys (plain_state state).marks }
+        ensures version { (id : Id) → ⟦<IntegrityStore<V, C> as Blocks>⟧.holdings.version result id ≡ version_in (fin.get (plain_state state).marks id) }
         ensures payload { ⟦<IntegrityStore<V, C> as Blocks>⟧.holdings.payload result ≡ block_size_of sealed - 78 }
         ensures faults { ⟦<IntegrityStore<V, C> as Blocks>⟧.meanings.faults result ≡ V.faults sealed.vault.vault }
         ensures fresh { (plain_state state).marks ≡ fin.empty → IsUntouched (V.trace sealed.vault.vault) → ⟦<IntegrityStore<V, C> as Blocks>⟧.meanings.sound result }

@@ -1,5 +1,5 @@
 -- What a store of rows owes after its rows were changed.
-use Rattle.std.proofs.Common.{◌≡◌, ◌⊎◌, ◌≤◌, ℕ, Bool, true, false, List, refl, sym, ◌∙◌, ap, subst, inl, inr}
+use Rattle.std.proofs.Common.{◌≡◌, ◌⊎◌, ◌≤◌, ℕ, Bool, true, false, List, refl, sym, ◌∙◌, ap, subst, inl, inr, arith}
 use Rattle.std.specs.Prelude.{Option, Some, None, is_some, not, ◌&&◌}
 use Rattle.std.specs.FinMap as fin
 use Rattle.std.specs.FinMap.{get-empty}
@@ -83,6 +83,9 @@ module _ {S : Type 0} (p : S → ℕ) (r : S → Changes) (a b : S) (changes : C
     stays_used = λ id h. has_id-keys (r b) id ∙ (ap is_some (are id) ∙ stays_with (fin.get changes id) (fin.get (r a) id) (sym (has_id-keys (r a) id) ∙ h));
     few = λ f. few;
     spent = λ id none. refl;
+    kept = λ id. omega arith;
+    raised = λ id. omega arith;
+    rests = λ id none. refl;
     payload = same;
     sound = λ s. tt;
   }

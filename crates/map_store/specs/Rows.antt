@@ -1,5 +1,5 @@
 -- A store of rows: an id with its payload, or with none once it was removed. So the used ids are those of the rows.
-use Rattle.std.specs.Prelude.{◌≡◌, ◌≤◌, ℕ, true, false, List, length, is_some, Option, Some, None, refl}
+use Rattle.std.specs.Prelude.{◌≡◌, ◌≤◌, ◌+◌, ◌^◌, ℕ, true, false, List, length, is_some, Option, Some, None, refl}
 use Rattle.std.proofs.Common.{sym, ◌∙◌, ap, arith}
 use Rattle.std.specs.FinMap as fin
 use Rattle.std.specs.FinMap.{contains_key-keys}
@@ -46,6 +46,7 @@ holdings_of p r = record {
   told = λ s. true;
   used = λ s. fin.keys (r s);
   spent = λ s id. false;
+  version = λ s id. 0;
   payload = p;
 }
 
@@ -76,6 +77,9 @@ has_id-keys rows id = sym (contains_key-keys rows id)
 false_is_true : false ≡ true → ⊥
 false_is_true e = cc
 
+one_not_last : 0 + 1 ≡ 2 ^ 64 → ⊥
+one_not_last e = omega arith
+
 content_rows : (o : Option (Option (List ℕ))) → is_some (or_else o None) ≡ true → is_some o ≡ true
 content_rows None h = h
 content_rows (Some change) h = refl
@@ -93,7 +97,11 @@ steady_of p r = record {
   zero_unused = λ a i. has_id-keys (r a) zero_id ∙ ap is_some i.no_zero;
   sized = λ a id bytes i t h. i.sized id bytes (payload_row (fin.get (r a) id) bytes h);
   spent_used = λ a id i h. absurd (false_is_true h);
+  spent_last = λ a id i h. absurd (false_is_true h);
+  last_spent = λ a id i h. absurd (one_not_last h);
+  unused_version = λ a id i h. refl;
   loaded_payload = λ a b h. h.0;
+  loaded_version = λ a b id h. refl;
 }
 
 pub settled_of : {S : Type 0} (p : S → ℕ) (r : S → Changes) (a b : S) → (p b ≡ p a) × (r b ≡ r a) → Stays (holdings_of p r) a b
@@ -103,5 +111,6 @@ settled_of p r a b h = record {
   told = refl;
   used = ap (λ rows. fin.keys rows) h.1;
   spent = λ id. refl;
+  version = λ id. refl;
   payload = h.0;
 }

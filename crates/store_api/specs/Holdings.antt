@@ -1,6 +1,7 @@
 -- What a store of payloads holds, and what stays of it while blocks are only loaded.
-use Rattle.std.specs.Prelude.{◌≡◌, ◌⊎◌, ◌≤◌, ◌<◌, ◌^◌, ◌&&◌, ℕ, Bool, true, false, not, List, length, is_some}
+use Rattle.std.specs.Prelude.{◌≡◌, ◌⊎◌, ◌≤◌, ◌<◌, ◌+◌, ◌^◌, ◌&&◌, ℕ, Bool, true, false, not, List, length, is_some}
 use Rattle.std.specs.List.{list_any}
+use Rattle.std.specs.declared.option.Option.{Option}
 use Rattle.std.specs.declared.option.Option.TheVariants.{None, Some}
 use Rattle.std.specs.FinMap.{get}
 use Rattle.block_id.specs.Fresh.{zero_id}
@@ -16,6 +17,8 @@ pub record Holdings (S : Type 0) : Type 1 where
   pub used : S → List Id
   -- the ids that can get no further payload
   pub spent : S → Id → Bool
+  -- how often an id got a payload that counts: its known version, and 0 where it never did
+  pub version : S → Id → ℕ
   -- the length of each payload
   pub payload : S → ℕ
 
@@ -39,8 +42,13 @@ pub record Steady {S : Type 0} (M : Meanings S) (H : Holdings S) : Type 0 where
   pub zero_unused : (a : S) → M.intact a → has_id (H.used a) zero_id ≡ false
   pub sized : (a : S) (id bytes : List ℕ) → M.intact a → H.told a ≡ true → H.content a id ≡ Some bytes → length bytes ≡ H.payload a
   pub spent_used : (a : S) (id : Id) → M.intact a → H.spent a id ≡ true → has_id (H.used a) id ≡ true
-  -- loading leaves the length of a payload
+  -- an id is spent exactly where its version is the last of 64 bits
+  pub spent_last : (a : S) (id : Id) → M.intact a → H.spent a id ≡ true → H.version a id + 1 ≡ 2 ^ 64
+  pub last_spent : (a : S) (id : Id) → M.intact a → H.version a id + 1 ≡ 2 ^ 64 → H.spent a id ≡ true
+  pub unused_version : (a : S) (id : Id) → M.intact a → has_id (H.used a) id ≡ false → H.version a id ≡ 0
+  -- loading leaves the length of a payload, and the versions
   pub loaded_payload : (a b : S) → M.loaded a b → H.payload b ≡ H.payload a
+  pub loaded_version : (a b : S) (id : Id) → M.loaded a b → H.version b id ≡ H.version a id
 
 -- a call left what the store holds
 pub record Stays {S : Type 0} (H : Holdings S) (a b : S) : Type 0 where
@@ -49,6 +57,7 @@ pub record Stays {S : Type 0} (H : Holdings S) (a b : S) : Type 0 where
   pub told : H.told b ≡ H.told a
   pub used : H.used b ≡ H.used a
   pub spent : (id : Id) → H.spent b id ≡ H.spent a id
+  pub version : (id : Id) → H.version b id ≡ H.version a id
   pub payload : H.payload b ≡ H.payload a
 
 -- an id may get a payload: it is in the content, or it is a new one
@@ -66,6 +75,12 @@ pub record Overlaid {S : Type 0} (H : Holdings S) (s : S) (changes : Changes) : 
   pub fits : Fits H s changes
   pub few : IsFew (H.used s)
 
+-- the change is a payload
+abbrev pub gives_payload : Option (Option (List ℕ)) → Bool
+gives_payload None = false
+gives_payload (Some None) = false
+gives_payload (Some (Some bytes)) = true
+
 -- the store after a batch
 pub record Changed {S : Type 0} (M : Meanings S) (H : Holdings S) (a b : S) (changes : Changes) : Type 0 where
   pub ids : (id : Id) → is_some (H.content b id) ≡ is_some (over changes (H.content a) id)
@@ -75,6 +90,10 @@ pub record Changed {S : Type 0} (M : Meanings S) (H : Holdings S) (a b : S) (cha
   pub stays_used : (id : Id) → has_id (H.used a) id ≡ true → has_id (H.used b) id ≡ true
   pub few : IsFew (H.used a) → IsFew (H.used b)
   pub spent : (id : Id) → get changes id ≡ None → H.spent b id ≡ H.spent a id
+  -- no version falls, none rises by more than one, and that of an id without a new payload rests
+  pub kept : (id : Id) → H.version a id ≤ H.version b id
+  pub raised : (id : Id) → H.version b id ≤ H.version a id + 1
+  pub rests : (id : Id) → gives_payload (get changes id) ≡ false → H.version b id ≡ H.version a id
   pub payload : H.payload b ≡ H.payload a
   pub sound : M.sound a → M.sound b
 

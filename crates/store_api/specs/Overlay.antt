@@ -25,6 +25,7 @@ holdings_over f g H = record {
   told = λ a. H.told (f a);
   used = λ a. fin.keys (g a) ++ H.used (f a);
   spent = λ a. H.spent (f a);
+  version = λ a. H.version (f a);
   payload = λ a. H.payload (f a);
 }
 
@@ -42,6 +43,10 @@ used_if None c b f h = f h
 or_used : (a b : Bool) → b ≡ true → (a || b) ≡ true
 or_used true b e = refl
 or_used false b e = e
+
+unused_below : (a b : Bool) → (a || b) ≡ false → b ≡ false
+unused_below true b e = absurd (cc)
+unused_below false b e = e
 
 -- the changes say nothing of the zero id
 no_zero : {B : Type 0} (M : Meanings B) (H : Holdings B) (s : B) (changes : Changes) → Steady M H → M.intact s → Fits H s changes → (o : Option (Option (List ℕ))) → fin.get changes zero_id ≡ o → is_some o ≡ false
@@ -73,7 +78,11 @@ steady_over f g M H st = record {
     | inr old ↦ st.sized (f a) id bytes i.0 t old.1
   ];
   spent_used = λ a id i h. has_id-over (g a) (H.used (f a)) id ∙ or_used (is_some (fin.get (g a) id)) (has_id (H.used (f a)) id) (st.spent_used (f a) id i.0 h);
+  spent_last = λ a id i. st.spent_last (f a) id i.0;
+  last_spent = λ a id i. st.last_spent (f a) id i.0;
+  unused_version = λ a id i h. st.unused_version (f a) id i.0 (unused_below (is_some (fin.get (g a) id)) (has_id (H.used (f a)) id) (sym (has_id-over (g a) (H.used (f a)) id) ∙ h));
   loaded_payload = λ a b. st.loaded_payload (f a) (f b);
+  loaded_version = λ a b id. st.loaded_version (f a) (f b) id;
 }
 
 -- a call, and a change of the changes alone

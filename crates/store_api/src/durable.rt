@@ -55,6 +55,7 @@ pub trait Durable: BlocksMut {
         ensures told { Self.holdings.told self.new ≡ Self.holdings.told self.old }
         ensures used { Self.holdings.used self.new ≡ Self.holdings.used self.old }
         ensures spent { (id : Id) → Self.holdings.spent self.new id ≡ Self.holdings.spent self.old id }
+        ensures version { (id : Id) → Self.holdings.version self.new id ≡ Self.holdings.version self.old id }
         ensures ok { OnOk result (durables.list self.new ≡ []) }
         ensures writes { OnOk result (durables.trace self.new ≡ after_writes (durables.list self.old) (durables.trace self.old)) }
         ensures stops { OnErr result (StopsAt (durables.list self.old) (durables.trace self.old) (durables.trace self.new) (durables.list self.new)) }

@@ -1,2 +1,3 @@
 pub mod Performing
 pub mod Showing
+pub mod Sparing

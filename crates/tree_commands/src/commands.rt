@@ -1,5 +1,6 @@
 // Commands on the tree of files that blocks show, in the terms of blocks alone.
-ghost use Rattle.std.specs.Prelude.{◌≡◌, ℕ, List, IfOk, cond, length};
+ghost use Rattle.std.specs.Prelude.{◌≡◌, ◌≤◌, ◌+◌, ℕ, List, IfOk, cond, length};
+ghost use Rattle.std.specs.FinMap as fin;
 ghost use Rattle.std.specs.declared.option.Option.TheVariants.{None, Some};
 ghost use Rattle.data_nodes.specs.Layout.{IsPayloadLen};
 ghost use Rattle.fs_model.specs.Fitting.{IsFitting};
@@ -8,6 +9,7 @@ ghost use Rattle.outcome.specs.Outcome.{Outcome};
 ghost use Rattle.store_api.specs.Content.{Content, same_id};
 ghost use Rattle.tree_commands.specs.Performing.{Shown, Steps, IsReplyTo};
 ghost use Rattle.tree_commands.specs.Showing.{ShowsFiles};
+ghost use Rattle.tree_commands.specs.Sparing.{OnWriteInside};
 
 use blob_store::BlobStore;
 use block_id::{BlockId, Fail, Memory};
@@ -30,6 +32,9 @@ pub fn perform<S: Blocks, R: Rng>(
     requires fits { IsFitting command.now }
     ensures outcome { Outcome ⟦<Tx<S> as Blocks>⟧.meanings (Shown (ShowsFiles (S.holdings.payload blobs.old.tx.store) root.now.0) (⟦<Tx<S> as Blocks>⟧.holdings.content blobs.old.tx))
         blobs.old.tx blobs.new.tx result (λ n reply. Steps (ShowsFiles (S.holdings.payload blobs.old.tx.store) root.now.0) now n.tree command.now (⟦<Tx<S> as Blocks>⟧.holdings.content blobs.new.tx) reply) }
+    // Whatever it answers.
+    ensures sparing { (n : Shown (ShowsFiles (S.holdings.payload blobs.old.tx.store) root.now.0) (⟦<Tx<S> as Blocks>⟧.holdings.content blobs.old.tx)) → ⟦<Tx<S> as Blocks>⟧.meanings.sound blobs.old.tx → ⟦<Tx<S> as Blocks>⟧.meanings.forgeries blobs.new.tx ≤ ⟦<Tx<S> as Blocks>⟧.meanings.forgeries blobs.old.tx
+        → OnWriteInside (S.holdings.payload blobs.old.tx.store) n.tree command.now (λ most. fin.len blobs.new.tx.overlay ≤ fin.len blobs.old.tx.overlay + most) }
     ensures variant { IfOk result (λ reply. IsReplyTo command.now reply) }
 {
     path_layer::perform(alloc, blobs, root, now, command, chance)

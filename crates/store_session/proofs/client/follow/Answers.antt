@@ -1,10 +1,12 @@
 use Rattle.std.proofs.Common.{◌≡◌, sym, ◌∙◌, ap, true}
 use Rattle.std.specs.Prelude.{take}
+use Rattle.std.proofs.lemmas.Result.{err_from_is_err_and}
 use Rattle.outside.specs.View.{bytes_of}
-use Rattle.outcome.specs.Outcome.{first_, then_, answered}
+use Rattle.outcome.specs.Outcome.{first_, then_, failed_, answered, no_memory}
 use Rattle.store_api.specs.declared.tx.Tx.{Tx}
 use Rattle.store_api.specs.Content.{Changes, over}
 use Rattle.store_api.specs.Overlay.{holdings_over, lawful_over, changed_over}
+use Rattle.store_session.specs.Followed.{Follows}
 use Rattle.store_session.proofs.Following.{found_none, found_some, put_over}
 use Rattle.store_session.proofs.client.follow.Goals as goal
 
@@ -41,3 +43,27 @@ returns-in-Ok g c =
     (ap bytes_of (sym c.in-Some.is) ∙ p.0) (c.first_id-next.ensures ∙ ap (take 16) c.deref.ensures.value) (ap bytes_of (sym c.in-Some-2.is) ∙ p.1)
     (λ other. ap (λ s. over end.overlay (g.S.Blocks.holdings.content s) other) c.put.ensures.store
     ∙ (ap (λ m. over m (g.S.Blocks.holdings.content late.store) other) c.in-Ok.ensures.ok ∙ put_over late.overlay (g.S.Blocks.holdings.content late.store) id c.in-Some-2.bytes.items other)))
+
+pub returns-in_err-bytes-2 : goal.returns-in_err-bytes-2
+returns-in_err-bytes-2 g c =
+    let f : Tx g.row.S.Denot → g.row.S.Denot = λ t. t.store in
+    let changes : Tx g.row.S.Denot → Changes = λ t. t.overlay in
+    let H = holdings_over f changes g.S.Blocks.holdings in
+    let laws = lawful_over f changes g.S.Blocks.meanings g.S.Blocks.holdings g.met.S.Blocks.lawful in
+    let a = c.args.tx.now in
+    let b = c.load.new.self in
+    let one = first_ {N = H.told a ≡ true} {R = λ n y. bytes_of y ≡ H.content a c.args.id.now.0} (λ n. tt) c.in_ok-bytes.ensures.outcome (λ n y h. h) in
+    let e = err_from_is_err_and c.from_residual-in_err-bytes-2.result c.from_residual-in_err-bytes-2.ensures.1 in
+    rw (e.1, e.2) (failed_ laws one (λ n h. tt) c.in_err-bytes-2.ensures.outcome)
+
+pub returns : goal.returns
+returns g c =
+    let f : Tx g.row.S.Denot → g.row.S.Denot = λ t. t.store in
+    let changes : Tx g.row.S.Denot → Changes = λ t. t.overlay in
+    let H = holdings_over f changes g.S.Blocks.holdings in
+    let laws = lawful_over f changes g.S.Blocks.meanings g.S.Blocks.holdings g.met.S.Blocks.lawful in
+    let a = c.args.tx.now in
+    let b = c.load.new.self in
+    let one = first_ {N = H.told a ≡ true} {R = λ n y. bytes_of y ≡ H.content a c.args.id.now.0} (λ n. tt) c.in_ok-bytes.ensures.outcome (λ n y h. h) in
+    let both = then_ laws {R = λ n y. Unit {0}} one (λ n h. tt) c.in_ok-bytes-2.ensures.outcome (λ n h y k. tt) in
+    no_memory {Q = λ n found. Follows (H.content a) (H.content c.put.new.self) c.args.id.now.0 found} (changed_over f changes g.S.Blocks.meanings g.S.Blocks.holdings {y = c.in_ok-bytes-2.field-0} {Q = λ n y. Unit {0}} a c.load-2.new.self c.put.new.self c.put.ensures.store c.put.ensures.intact both (λ n p. p))
