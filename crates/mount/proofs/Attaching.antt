@@ -1,16 +1,18 @@
 -- What an opening that failed leaves, at each place where it stops.
-use Rattle.std.proofs.Common.{◌≡◌, ◌⊎◌, ◌≤◌, ◌-◌, ℕ, List, [], take, true, false, refl, sym, ◌∙◌, ap, subst, inl, inr, arith}
+use Rattle.std.proofs.Common.{◌≡◌, ◌≢◌, ◌⊎◌, ◌≤◌, ◌-◌, ℕ, List, [], take, true, false, refl, sym, ◌∙◌, ap, subst, inl, inr, arith}
 use Rattle.std.specs.Prelude.{is_some}
 use Rattle.std.specs.declared.option.Option.{Option}
 use Rattle.std.specs.declared.option.Option.TheVariants.{None, Some}
+use Rattle.std.specs.declared.result.Result.TheVariants.{Err}
 use Rattle.outside.specs.Changes.{Changes}
 use Rattle.outside.specs.Going.{GoesOn, goes_on_same, goes_on_onward}
+use Rattle.outside.specs.Honest.{count_told}
 use Rattle.outside.specs.Trace.{Call, config}
 use Rattle.outside.specs.declared.keeper.Keeper.{Ghosts as KeeperGhosts}
 use Rattle.fs_model.specs.Tree.{Tree}
 use Rattle.local_state.specs.Record.{PlainState, record_bytes}
 use Rattle.integrity_store.specs.Enduring.{enduring_by}
-use Rattle.integrity_store.specs.Held.{Held}
+use Rattle.integrity_store.specs.Held.{Held, forged}
 use Rattle.aes_gcm.specs.Gcm.{opened_of}
 use Rattle.redo_vault.specs.Redo.{Gave}
 use Rattle.store_api.specs.Content.{Content}
@@ -21,7 +23,7 @@ use Rattle.config_file.proofs.Waiting.{form_waits}
 use Rattle.config_file.specs.Format.{HasForm}
 use Rattle.config_file.specs.Settings.{Settings, settings_of}
 use Rattle.config_file.specs.declared.config.Opened.{Opened}
-use Rattle.session_saver.specs.Saving.{KeptConfigures, Represents as ContentKept}
+use Rattle.session_saver.specs.Saving.{KeptConfigures, Represents as ContentKept, UnlessDirectory, UnlessState}
 use Rattle.session_saver.specs.declared.saver.SyncError.{SyncError}
 use Rattle.session_saver.specs.declared.saver.SyncError.TheVariants.{Memory as SyncMemory, FaultDirectory as SyncDirectory, FaultState as SyncState}
 use Rattle.tree_commands.specs.Performing.{Showing}
@@ -33,7 +35,8 @@ use Rattle.mount.specs.Mounts.{Unopened, IsUncalled, IsUnsaved, IsCalm, StopsMar
 use Rattle.mount.specs.Opening.{IsLoaded, LoadCause, ConfigCause, OpenCause, AttachCause, IsOf, Found, Reads, error_of}
 use Rattle.mount.specs.Representing.{identity_for, Represents}
 use Rattle.mount.specs.Unforged.{IsUnforgedConfig}
-use Rattle.mount.proofs.Reading.{none_some, some_same, represents_is_of, represents_told, found_is, reads_on, reads_represents, reads_kept, reads_configures, short_cut}
+use Rattle.mount.proofs.Quiet.{start_directory, start_state}
+use Rattle.mount.proofs.Reading.{none_some, some_same, represents_is_of, represents_told, found_is, reads_forgeries, reads_on, reads_represents, reads_kept, reads_configures, short_cut}
 
 -- ---- the record isn't taken
 
@@ -144,8 +147,8 @@ start_calm SyncState = tt
 
 module _ {V : Type 0} {K : Type 0} (shows : Showing) (trace : V → Option (List Call)) (faults : V → ℕ) (G : KeeperGhosts K) (password : List ℕ) (vault : V) (keeper : K) where
   pub halted_loading : (after : K) (e : OpenError) → LoadCause (G.kept keeper) (G.faults keeper) (G.faults after) e → G.kept after ≡ G.kept keeper → G.faults keeper ≤ G.faults after
-      → Unopened shows trace faults G password vault keeper (record { error = e; vault = vault; keeper = after })
-  halted_loading after e cause kept grows = record {
+      → (e ≢ FaultState → G.faults after ≡ G.faults keeper) → Unopened shows trace faults G password vault keeper (record { error = e; vault = vault; keeper = after })
+  halted_loading after e cause kept grows quiet = record {
     cause = load_attach password (G.kept keeper) (trace vault) (trace vault) (faults vault) (faults vault) (G.faults keeper) (G.faults after) e cause;
     uncalled = λ u. refl;
     unsaved = λ u. kept;
@@ -156,14 +159,17 @@ module _ {V : Type 0} {K : Type 0} (shows : Showing) (trace : V → Option (List
     );
     configures = λ bytes told k. subst (λ x. KeptConfigures records x (trace vault) bytes) (sym kept) k;
     goes_on = goes_on_same (trace vault);
+    forgeries = λ opens size. refl;
     vault_grows = omega arith;
     keeper_grows = grows;
+    vault_quiet = λ n. refl;
+    keeper_quiet = quiet;
   }
 
   pub halted_opening : (state : PlainState) (list : Changes) (u : V) (after : K) (e : OpenError) → IsLoaded (G.kept keeper) state list
-      → OpenCause password state list (trace vault) (trace u) (faults vault) (faults u) e → Reads (trace vault) (trace u) → faults vault ≤ faults u → G.kept after ≡ G.kept keeper → G.faults keeper ≤ G.faults after
+      → OpenCause password state list (trace vault) (trace u) (faults vault) (faults u) e → Reads (trace vault) (trace u) → faults vault ≤ faults u → (e ≢ FaultDirectory → faults u ≡ faults vault) → G.kept after ≡ G.kept keeper → G.faults after ≡ G.faults keeper
       → Unopened shows trace faults G password vault keeper (record { error = e; vault = u; keeper = after })
-  halted_opening state list u after e l cause reads more kept grows = record {
+  halted_opening state list u after e l cause reads more quiet kept same = record {
     cause = open_attach password (G.kept keeper) state list l (trace vault) (trace u) (faults vault) (faults u) (G.faults keeper) (G.faults after) e cause;
     uncalled = λ un. absurd (open_uncalled password (G.kept keeper) state list l (trace vault) (trace u) (faults vault) (faults u) e cause un);
     unsaved = λ un. kept;
@@ -174,8 +180,11 @@ module _ {V : Type 0} {K : Type 0} (shows : Showing) (trace : V → Option (List
     );
     configures = λ bytes told k. reads_kept (G.kept after) (trace vault) (trace u) bytes reads (subst (λ x. KeptConfigures records x (trace vault) bytes) (sym kept) k);
     goes_on = reads_on (trace vault) (trace u) reads;
+    forgeries = λ opens size. reads_forgeries opens size (trace vault) (trace u) reads;
     vault_grows = more;
-    keeper_grows = grows;
+    keeper_grows = omega (arith, same);
+    vault_quiet = quiet;
+    keeper_quiet = λ n. same;
   }
 
   -- what writing out leaves, where it isn't done
@@ -188,15 +197,18 @@ module _ {V : Type 0} {K : Type 0} (shows : Showing) (trace : V → Option (List
     pub keeps : (G.kept after ≡ Some (record_bytes state list)) ⊎ (G.kept after ≡ Some (record_bytes state []))
     pub represents : (first : Tree) → Represents shows (G.kept keeper) (trace vault) (settings_of o.config) first → Represents shows (G.kept after) (trace u) (settings_of o.config) first
     pub configures : (bytes : List ℕ) → is_some (trace vault) ≡ true → KeptConfigures records (G.kept keeper) (trace vault) bytes → KeptConfigures records (G.kept after) (trace u) bytes
-    pub vault_first : faults vault ≤ v
+    pub forgeries : (opens : List ℕ → Option (List ℕ)) (size : ℕ) → count_told (forged opens size) (trace u) ≡ count_told (forged opens size) read
+    pub vault_first : v ≡ faults vault
     pub vault_grows : v ≤ faults u
-    pub keeper_first : G.faults keeper ≤ k
+    pub vault_quiet : UnlessDirectory (Err e) (faults u ≡ v)
+    pub keeper_first : k ≡ G.faults keeper
     pub keeper_grows : k ≤ G.faults after
+    pub keeper_quiet : UnlessState (Err e) (G.faults after ≡ k)
 
   pub halted_starting : (state : PlainState) (list : Changes) (o : Opened) (read : Option (List Call)) (v k : ℕ) (u : V) (after : K) (e : SyncError) → Stopped state list o read v k u after e
       → Unopened shows trace faults G password vault keeper (record { error = error_of e; vault = u; keeper = after })
   halted_starting state list o read v k u after e s = record {
-    cause = start_attach password (G.kept keeper) state list s.loaded (trace vault) (trace u) (faults vault) v (faults u) (G.faults keeper) k (G.faults after) e s.vault_first s.keeper_first s.cause;
+    cause = start_attach password (G.kept keeper) state list s.loaded (trace vault) (trace u) (faults vault) v (faults u) (G.faults keeper) k (G.faults after) e (omega (arith, s.vault_first)) (omega (arith, s.keeper_first)) s.cause;
     uncalled = λ un. absurd (start_uncalled e un);
     unsaved = λ un. absurd (start_unsaved e un);
     kept = elim s.keeps [ inl same ↦ inl (same ∙ sym s.loaded.kept) | inr short ↦ inr (state, list, s.loaded, short) ];
@@ -205,8 +217,11 @@ module _ {V : Type 0} {K : Type 0} (shows : Showing) (trace : V → Option (List
         (subst (λ x. Represents shows (G.kept after) (trace u) x first) is (s.represents first (subst (λ x. Represents shows (G.kept keeper) (trace vault) x first) (sym is) rep)), start_calm e);
     configures = s.configures;
     goes_on = goes_on_onward (trace vault) read (trace u) (reads_on (trace vault) read s.reads) s.on;
+    forgeries = λ opens size. s.forgeries opens size ∙ reads_forgeries opens size (trace vault) read s.reads;
     vault_grows = omega (arith, s.vault_first, s.vault_grows);
     keeper_grows = omega (arith, s.keeper_first, s.keeper_grows);
+    vault_quiet = λ n. start_directory e (faults u ≡ v) s.vault_quiet n ∙ s.vault_first;
+    keeper_quiet = λ n. start_state e (G.faults after ≡ k) s.keeper_quiet n ∙ s.keeper_first;
   }
 
 -- ---- what starting is given, and gives back

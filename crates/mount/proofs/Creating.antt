@@ -1,12 +1,13 @@
 -- A new file system at the tower.
-use Rattle.std.proofs.Common.{◌≡◌, ◌≢◌, ◌⊎◌, ◌≤◌, ◌-◌, ℕ, List, Bool, true, false, refl, sym, ◌∙◌, subst, inl, inr, arith}
+use Rattle.std.proofs.Common.{◌≡◌, ◌≢◌, ◌⊎◌, ◌≤◌, ◌-◌, ℕ, List, [], Bool, true, false, refl, sym, ◌∙◌, ap, subst, inl, inr, arith}
 use Rattle.std.specs.Prelude.{Result, not, ◌&&◌}
 use Rattle.std.specs.Ordering.{is_eq}
+use Rattle.std.specs.FinMap as fin
 use Rattle.std.specs.FinMap.{slice_cmp-IsAntisymmetric, nat_cmp-IsAntisymmetric}
 use Rattle.std.specs.declared.cmp.Ordering.{Ordering}
 use Rattle.std.specs.declared.cmp.Ordering.TheVariants.{Less, Equal, Greater}
 use Rattle.std.specs.declared.option.Option.{Option}
-use Rattle.std.specs.declared.option.Option.TheVariants.{None}
+use Rattle.std.specs.declared.option.Option.TheVariants.{None, Some}
 use Rattle.std.specs.declared.result.Result.TheVariants.{Ok, Err}
 use Rattle.block_id.specs.Fresh.{zero_id}
 use Rattle.outside.specs.Trace.{At, Call}
@@ -15,6 +16,11 @@ use Rattle.store_api.specs.Content.{Id, id_cmp, same_id}
 use Rattle.store_api.specs.Durables.{last_told}
 use Rattle.store_api.specs.Holdings.{has_id, is_free}
 use Rattle.fs_model.specs.Tree.{empty_tree}
+use Rattle.local_state.specs.Record.{PlainState}
+use Rattle.local_state.proofs.Records.{one_reading}
+use Rattle.sealed_store.specs.Stores.{IsIntact, block_size_of}
+use Rattle.integrity_store.specs.Enduring.{listed_has}
+use Rattle.integrity_store.specs.Stores.{version_in, steady_by}
 use Rattle.integrity_store.specs.Standing.{identity_of, records}
 use Rattle.integrity_store.specs.declared.store.IntegrityStore.{IntegrityStore}
 use Rattle.config_file.specs.ConfigOf.{IsOnly, opened}
@@ -25,13 +31,13 @@ use Rattle.outside.specs.Causes.{RoseBy}
 use Rattle.session_saver.specs.declared.saver.SyncError.{SyncError}
 use Rattle.session_saver.specs.declared.saver.SyncError.TheVariants.{Memory as SyncMemory, FaultDirectory as SyncDirectory, FaultState as SyncState}
 use Rattle.tree_commands.specs.Performing.{Showing}
-use Rattle.mount_opening.specs.Opening.{Made, MadeConfig}
+use Rattle.mount_opening.specs.Opening.{Made, MadeConfig, OnlyRootRaised}
 use Rattle.mount.specs.declared.draws.Draws.{Draws}
-use Rattle.mount.specs.Making.{CreateCause, IsMade, new_settings, sealed_file}
+use Rattle.mount.specs.Making.{CreateCause, IsMade, KnowsOnly, new_settings, sealed_file}
 use Rattle.mount.specs.Opening.{error_of}
 use Rattle.mount.specs.Representing.{identity_for, HasEmptyList}
-use Rattle.mount.specs.Tower.{sealed_held, sealed_meanings, sealed_durables}
-use Rattle.mount.proofs.Reading.{none_some}
+use Rattle.mount.specs.Tower.{sealed_held, sealed_trace, sealed_meanings, sealed_holdings, sealed_durables}
+use Rattle.mount.proofs.Reading.{none_some, some_same}
 use Rattle.mount.proofs.Standing.{represents, emptied}
 
 equal : (r : Ordering) → is_eq r ≡ true → r ≡ Equal
@@ -53,6 +59,18 @@ both_not false false e f = refl
 
 pub free_root : (used : List Id) (root : Id) → has_id used root ≡ false → root ≢ zero_id → is_free used root ≡ true
 free_root used root e n = both_not (has_id used root) (same_id root zero_id) e (differs (same_id root zero_id) (λ t. n (is_same root zero_id t)))
+
+-- the record that is kept of a store knows what the store does
+pub knows_only : {V : Type 0} (trace : V → Option (List Call)) (faults : V → ℕ) (before after : IntegrityStore V Cipher) (kept : Option (List ℕ)) (root : List ℕ) → (sealed_meanings trace faults).intact before
+    → ((id : Id) → has_id ((sealed_holdings trace).used before) id ≡ false) → (sealed_meanings trace faults).intact after → kept ≡ Some ((sealed_durables trace).record_of after false)
+    → OnlyRootRaised (sealed_holdings trace) before after root → KnowsOnly kept root
+knows_only {V = V} trace faults before after kept root first unused whole is raised state list l =
+    let steady = steady_by {S = IntegrityStore V Cipher} sealed_held (sealed_trace trace) (λ s. faults s.sealed.vault.vault) (λ s. IsIntact (block_size_of s.sealed) 16) in
+    let h = sealed_held after in
+    let none : (id : Id) → (sealed_holdings trace).version before id ≡ 0 = λ id. steady.unused_version before id first (unused id) in
+    let same = one_reading state h.state list [] l.has_record (listed_has h.state h.list false whole.0.has_record) (some_same (sym l.kept ∙ is)) in
+    let known : (id : Id) → version_in (fin.get state.marks id) ≡ (sealed_holdings trace).version after id = λ id. ap (λ (s : PlainState). version_in (fin.get s.marks id)) same.0 in
+    (omega (arith, known root, raised.raised, none root), λ id other. known id ∙ (raised.rest id other ∙ none id))
 
 pub make_cause : (kept : Option (List ℕ)) (t0 t1 : Option (List Call)) (v0 va v1 k0 ka k1 : ℕ) (result : Result Unit SyncError) (e : SyncError) → result ≡ Err e → v0 ≤ va → k0 ≤ ka
     → (result ≡ Err SyncDirectory → RoseBy 1 va v1) → (result ≡ Err SyncState → RoseBy 1 ka k1) → CreateCause kept t0 t1 v0 v1 k0 k1 (error_of e)

@@ -3,3 +3,4 @@ pub mod Attaching
 pub mod Fresh
 pub mod Standing
 pub mod Creating
+pub mod Quiet

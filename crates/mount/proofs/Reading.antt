@@ -1,7 +1,8 @@
 -- A get of the configuration, and the record that is kept.
-use Rattle.std.proofs.Common.{◌≡◌, ◌≤◌, ℕ, ◌+◌, List, [], ◌∷◌, ◌++◌, length, take, true, false, refl, sym, ◌∙◌, ap, subst, inl, inr, arith, append_assoc}
+use Rattle.std.proofs.Common.{◌≡◌, ◌≤◌, ℕ, ◌+◌, List, ◌∷◌, ◌++◌, length, take, true, false, refl, sym, ◌∙◌, ap, subst, inl, inr, arith}
 use Rattle.std.specs.Prelude.{Bool, is_some, if◌then◌else◌}
 use Rattle.std.proofs.lemmas.List.{take_all, length-take}
+use Rattle.std.specs.FinMap as fin
 use Rattle.std.specs.declared.option.Option.{Option}
 use Rattle.std.specs.declared.option.Option.TheVariants.{None, Some}
 use Rattle.sha2.specs.Sha256.{sha256}
@@ -17,15 +18,16 @@ use Rattle.store_api.specs.Content.{Content}
 use Rattle.store_api.specs.Durables.{Identity, last_told}
 use Rattle.integrity_store.specs.ConfigReads.{read_forgeries}
 use Rattle.integrity_store.specs.Enduring.{enduring_by}
-use Rattle.integrity_store.specs.Held.{Held, Among, forged}
+use Rattle.integrity_store.specs.Held.{Held, forged}
 use Rattle.integrity_store.specs.Standing.{Stands, Configures, records}
+use Rattle.integrity_store.specs.Stores.{version_in}
 use Rattle.config_file.specs.ConfigOf.{ConfigOf, opened}
 use Rattle.config_file.specs.Settings.{Settings, settings_of}
 use Rattle.config_file.specs.declared.config.Opened.{Opened}
 use Rattle.session_saver.specs.Saving.{KeptConfigures}
 use Rattle.tree_commands.specs.Performing.{Showing}
 use Rattle.mount_core.specs.Standing.{IsKeptMarked}
-use Rattle.mount.specs.Opening.{IsLoaded, IsOf, Found, Reads}
+use Rattle.mount.specs.Opening.{IsLoaded, AreKnown, IsOf, Found, Reads}
 use Rattle.mount.specs.Representing.{identity_for, Represents}
 use Rattle.mount.specs.Unforged.{IsUnforgedConfig}
 
@@ -107,6 +109,12 @@ reads_kept kept a b bytes reads k = (k.0, k.1, reads_configures k.0 bytes a b re
 
 -- ---- the record that is kept
 
+-- the versions of one record that is kept are those of any
+pub are_known : (kept : Option (List ℕ)) (state : PlainState) (list : Changes) (version : List ℕ → ℕ) → IsLoaded kept state list → ((id : List ℕ) → version id ≡ version_in (fin.get state.marks id)) → AreKnown kept version
+are_known kept state list version l known = λ other more m id.
+    let same = one_reading state other list more l.has_record m.has_record (some_same (sym l.kept ∙ m.kept)) in
+    known id ∙ ap (λ (s : PlainState). version_in (fin.get s.marks id)) same.0
+
 pub loaded_unmarked : (kept : Option (List ℕ)) (state : PlainState) (list : Changes) → IsLoaded kept state list → IsKeptMarked records kept → ⊥
 loaded_unmarked kept state list l (bytes, is, m) =
     let reading = one_reading state m.state list m.list l.has_record m.has_record (some_same (sym l.kept ∙ is) ∙ m.bytes) in
@@ -146,10 +154,6 @@ represents_told shows kept trace c tree rep =
 
 -- ---- the configuration that was found
 
-among_end : (calls : List Call) (call : Call) → Among (calls ++ call ∷ []) call
-among_end [] call = inl refl
-among_end (first ∷ calls) call = inr (among_end calls call)
-
 pub short_cut : (max : ℕ) (answer bytes : List ℕ) → answer ≡ take max bytes → length answer + 1 ≤ max → bytes ≡ answer
 short_cut max answer bytes e short =
     let fits : length bytes ≤ max = omega (arith, length-take max bytes, ap length e, short) in
@@ -163,16 +167,16 @@ module _ (password : List ℕ) (kept : Option (List ℕ)) (state : PlainState) (
       unforged.listed state list bytes (settings_of o.config) o.params l.has_record l.kept at
       (subst (λ x. ConfigOf password x (opened (settings_of o.config) o.params)) (sym (short_cut 1127 answer bytes (some_same is) (omega (arith, opens.0.size)))) opens)
 
-  by_get : (answer : List ℕ) (t : Option (List Call)) → t0 ≡ t → is_some t ≡ true → read ≡ adds t (got config 1127 (Some answer)) → ConfigOf password answer (opened (settings_of o.config) o.params) → settings_of o.config ≡ c
-  by_get answer None e told is opens = absurd (true_is_false (sym told))
-  by_get answer (Some before) e told is opens =
-      let call = got config 1127 (Some answer) in
-      let after : GoesOn (Some (call ∷ before)) t1 = subst (λ x. GoesOn x t1) is on in
-      unforged.given before (after.0 ++ call ∷ []) 1127 answer (settings_of o.config) o.params e (after.1 ∙ ap Some (sym (append_assoc after.0 (call ∷ []) before))) (among_end after.0 call) opens
+  by_get : (answer : List ℕ) (t : Option (List Call)) → change_at config list ≡ None → t0 ≡ t → is_some t ≡ true → read ≡ adds t (got config 1127 (Some answer)) → ConfigOf password answer (opened (settings_of o.config) o.params)
+      → settings_of o.config ≡ c
+  by_get answer None at e told is opens = absurd (true_is_false (sym told))
+  by_get answer (Some before) at e told is opens =
+      let after : GoesOn (Some (got config 1127 (Some answer) ∷ before)) t1 = subst (λ x. GoesOn x t1) is on in
+      unforged.given state list before after.0 1127 answer (settings_of o.config) o.params l.has_record l.kept at e after.1 opens
 
   found_at : (w : Option (Option (List ℕ))) (answer : List ℕ) → change_at config list ≡ w → is_some t0 ≡ true → Gave w t0 read config 1127 (Some answer) → ConfigOf password answer (opened (settings_of o.config) o.params)
       → settings_of o.config ≡ c
-  found_at None answer at told gave opens = by_get answer t0 refl told gave opens
+  found_at None answer at told gave opens = by_get answer t0 at refl told gave opens
   found_at (Some change) answer at told gave opens = in_list change answer at gave.1 opens
 
   -- the configuration that opened is the one

@@ -1,6 +1,7 @@
 -- Making a file system, and sealing its configuration.
-use Rattle.std.specs.Prelude.{◌≡◌, ◌⊎◌, ℕ, true, false, List, Result, is_some, if◌then◌else◌}
+use Rattle.std.specs.Prelude.{◌≡◌, ◌⊎◌, ◌≤◌, ℕ, true, false, List, Result, is_some, if◌then◌else◌}
 use Rattle.std.specs.Str.{bytes_eq}
+use Rattle.std.specs.FinMap as fin
 use Rattle.std.specs.declared.option.Option.{Option}
 use Rattle.std.specs.declared.option.Option.TheVariants.{None, Some}
 use Rattle.std.specs.declared.result.Result.TheVariants.{Ok, Err}
@@ -11,11 +12,14 @@ use Rattle.outside.specs.Causes.{RoseBy}
 use Rattle.outside.specs.Trace.{At, Call, adds, got, config}
 use Rattle.fs_model.specs.Tree.{empty_tree}
 use Rattle.scrypt_kdf.specs.Cost.{Cost}
-use Rattle.store_api.specs.Content.{Id}
+use Rattle.local_state.specs.Record.{PlainState}
+use Rattle.outside.specs.Changes.{Changes}
+use Rattle.store_api.specs.Content.{Id, same_id}
 use Rattle.store_api.specs.Durables.{last_told}
 use Rattle.store_api.specs.Holdings.{has_id}
 use Rattle.integrity_store.specs.declared.store.IntegrityStore.{IntegrityStore}
 use Rattle.integrity_store.specs.Standing.{records}
+use Rattle.integrity_store.specs.Stores.{version_in}
 use Rattle.config_file.specs.Sealing.{config_text}
 use Rattle.config_file.specs.Settings.{Settings}
 use Rattle.config_file.specs.declared.config.Cipher.{Cipher}
@@ -26,6 +30,7 @@ use Rattle.mount.specs.declared.draws.Draws.{Draws}
 use Rattle.mount.specs.declared.draws.SealDraws.{SealDraws}
 use Rattle.mount.specs.declared.error.OpenError.{OpenError}
 use Rattle.mount.specs.declared.error.OpenError.TheVariants.{Memory, Exists, FaultDirectory, FaultState}
+use Rattle.mount.specs.Opening.{IsLoaded}
 use Rattle.mount.specs.Representing.{identity_for, Represents, HasEmptyList}
 use Rattle.mount.specs.Tower.{sealed_trace, sealed_meanings, sealed_holdings, sealed_durables}
 
@@ -72,6 +77,11 @@ pub record IsMade (shows : Showing) (c : Settings) (file : List ℕ) (kept : Opt
 abbrev pub Created : Showing → Settings → List ℕ → Option (List ℕ) → Option (List ℕ) → Option (List Call) → Result BlockId OpenError → Type 0
 Created shows c file kept0 kept1 t1 (Ok id) = IsMade shows c file kept1 t1 × HasEmptyList kept1
 Created shows c file kept0 kept1 t1 (Err error) = ((kept1 ≡ kept0) × ((name : At) → last_told name t1 ≡ None)) ⊎ IsMade shows c file kept1 t1
+
+-- where a record without a violation is kept, it knows the root's block at version 1 at most, and no other block
+abbrev pub KnowsOnly : Option (List ℕ) → List ℕ → Type 0
+KnowsOnly kept root = (state : PlainState) (list : Changes) → IsLoaded kept state list
+    → (version_in (fin.get state.marks root) ≤ 1) × ((id : List ℕ) → same_id id root ≡ false → version_in (fin.get state.marks id) ≡ 0)
 
 -- a store that holds nothing, of this configuration and salt; it is sound where no file was changed
 pub record IsNewStore {V : Type 0} (was : Option (List Call)) (failed : ℕ) (trace : V → Option (List Call)) (faults : V → ℕ) (c : Settings) (salt : List ℕ) (store : IntegrityStore V Cipher) : Type 0 where

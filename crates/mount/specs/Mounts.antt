@@ -1,13 +1,15 @@
 -- What an opened file system is, what a failed opening leaves, and how one ends.
-use Rattle.std.specs.Prelude.{◌≡◌, ◌⊎◌, ◌≤◌, ℕ, true, List, [], Result, is_some}
+use Rattle.std.specs.Prelude.{◌≡◌, ◌≢◌, ◌⊎◌, ◌≤◌, ℕ, true, List, [], Result, is_some}
 use Rattle.std.specs.declared.option.Option.{Option}
 use Rattle.std.specs.declared.option.Option.TheVariants.{Some}
 use Rattle.std.specs.declared.result.Result.TheVariants.{Ok, Err}
 use Rattle.fs_model.specs.Tree.{Tree}
 use Rattle.outside.specs.Changes.{Changes}
+use Rattle.outside.specs.Honest.{count_told}
 use Rattle.outside.specs.Trace.{Call}
 use Rattle.outside.specs.declared.keeper.Keeper.{Ghosts as KeeperGhosts}
 use Rattle.local_state.specs.Record.{PlainState, record_bytes}
+use Rattle.integrity_store.specs.Held.{forged}
 use Rattle.integrity_store.specs.Standing.{records}
 use Rattle.config_file.specs.Settings.{Settings, settings_of}
 use Rattle.outside.specs.Going.{GoesOn}
@@ -64,8 +66,13 @@ pub record Unopened {V : Type 0} {K : Type 0} (shows : Showing) (trace : V → O
       → Represents shows (G.kept h.keeper) (trace h.vault) c first × IsCalm h.error
   pub configures : (bytes : List ℕ) → is_some (trace vault) ≡ true → KeptConfigures records (G.kept keeper) (trace vault) bytes → KeptConfigures records (G.kept h.keeper) (trace h.vault) bytes
   pub goes_on : GoesOn (trace vault) (trace h.vault)
+  -- no block was read, so none was forged, whatever the key and the size
+  pub forgeries : (opens : List ℕ → Option (List ℕ)) (size : ℕ) → count_told (forged opens size) (trace h.vault) ≡ count_told (forged opens size) (trace vault)
   pub vault_grows : faults vault ≤ faults h.vault
   pub keeper_grows : G.faults keeper ≤ G.faults h.keeper
+  -- no call that failed was passed over
+  pub vault_quiet : h.error ≢ FaultDirectory → faults h.vault ≡ faults vault
+  pub keeper_quiet : h.error ≢ FaultState → G.faults h.keeper ≡ G.faults keeper
 
 -- what may be answered where a marked record is kept
 abbrev pub StopsMarked : OpenError → Type 0

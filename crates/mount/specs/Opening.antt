@@ -1,5 +1,6 @@
 -- What opening reads, and why it stops.
 use Rattle.std.specs.Prelude.{◌≡◌, ◌≢◌, ◌⊎◌, ℕ, false, List, [], ◌++◌}
+use Rattle.std.specs.FinMap as fin
 use Rattle.std.specs.declared.option.Option.{Option}
 use Rattle.std.specs.declared.option.Option.TheVariants.{None, Some}
 use Rattle.sha2.specs.Sha256.{sha256}
@@ -10,6 +11,7 @@ use Rattle.outside.specs.Writes.{after_writes}
 use Rattle.local_state.specs.Record.{PlainState, record_bytes, HasRecord}
 use Rattle.redo_vault.specs.Redo.{Gave}
 use Rattle.integrity_store.specs.Standing.{records}
+use Rattle.integrity_store.specs.Stores.{version_in}
 use Rattle.config_file.specs.ConfigOf.{ConfigOf, opened, form, locked, inner}
 use Rattle.config_file.specs.Settings.{Settings, settings_of}
 use Rattle.config_file.specs.declared.config.Opened.{Opened}
@@ -25,6 +27,10 @@ pub record IsLoaded (was : Option (List ℕ)) (state : PlainState) (list : Chang
   pub kept : was ≡ Some (record_bytes state list)
   pub has_record : HasRecord state list
   pub unmarked : state.marked ≡ false
+
+-- where a record without a violation is kept, these are the versions in it, and 0 for an id that it doesn't know
+abbrev pub AreKnown : Option (List ℕ) → (List ℕ → ℕ) → Type 0
+AreKnown was version = (state : PlainState) (list : Changes) → IsLoaded was state list → (id : List ℕ) → version id ≡ version_in (fin.get state.marks id)
 
 -- what is kept is no record
 pub record IsNoRecord (was : Option (List ℕ)) : Type 0 where

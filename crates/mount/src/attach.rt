@@ -1,11 +1,13 @@
 // Opening a file system.
-ghost use Rattle.std.specs.Prelude.{◌≡◌, ◌≤◌, ℕ, List, [], ◌∷◌, true, false, is_some, IfOk, IfErr};
+ghost use Rattle.std.specs.Prelude.{◌≡◌, ◌≢◌, ◌≤◌, ℕ, List, [], ◌∷◌, true, false, is_some, IfOk, IfErr};
+ghost use Rattle.std.specs.FinMap as fin;
 ghost use Rattle.outside.specs.Honest.{is_lie, count_told};
 ghost use Rattle.outside.specs.View.{list_of};
 ghost use Rattle.local_state.specs.Record.{plain_state, record_bytes, HasRecord};
 ghost use Rattle.store_api.specs.Content.{Content, SameContent};
 ghost use Rattle.store_api.specs.Holdings.{IsFew};
 ghost use Rattle.integrity_store.specs.Held.{forged};
+ghost use Rattle.integrity_store.specs.Stores.{version_in};
 ghost use Rattle.integrity_store.specs.Standing.{Stands as StandsFor, records};
 ghost use Rattle.aes_gcm.specs.Gcm.{opened_of};
 ghost use Rattle.config_file.specs.Settings.{Settings, settings_of};
@@ -14,7 +16,7 @@ ghost use Rattle.session_saver.specs.Saving.{KeptConfigures};
 ghost use Rattle.tree_commands.specs.Showing.{ShowsFiles};
 ghost use Rattle.mount_core.specs.Standing.{IsKeptMarked};
 ghost use Rattle.mount.specs.Mounts.{IsReady, Unopened, StaysMarked};
-ghost use Rattle.mount.specs.Opening.{Found, IsOf, OpenCause, Reads, Attached, error_of};
+ghost use Rattle.mount.specs.Opening.{Found, IsOf, OpenCause, Reads, Attached, AreKnown, error_of};
 ghost use Rattle.mount.specs.Representing.{identity_for, Represents};
 ghost use Rattle.mount.specs.Tower.{trace_in, tower_meanings, tower_holdings, tower_durables, TowerStands, TowerConfigures};
 ghost use Rattle.mount.specs.Unforged.{IsUnforgedConfig};
@@ -65,11 +67,13 @@ fn open_store<V: Vault>(
     ensures stands { IfOk result (λ o. (salt : List ℕ) (content : Content)
         → StandsFor (identity_for (settings_of o.opened.config) salt) (record_bytes (plain_state state) (list_of list.items)) (V.trace vault) content
         → (tower_meanings V.trace V.faults).sound o.store × SameContent content ((tower_holdings V.trace).content o.store)) }
+    ensures version { IfOk result (λ o. (id : List ℕ) → (tower_holdings V.trace).version o.store id ≡ version_in (fin.get (plain_state state).marks id)) }
     ensures reads { IfOk result (λ o. Reads (V.trace vault) (trace_in V.trace o.store)) }
-    ensures faults { IfOk result (λ o. V.faults vault ≤ (tower_meanings V.trace V.faults).faults o.store) }
+    ensures faults { IfOk result (λ o. (tower_meanings V.trace V.faults).faults o.store ≡ V.faults vault) }
     ensures err { IfErr result (λ u. OpenCause password.now (plain_state state) (list_of list.items) (V.trace vault) (V.trace u.vault) (V.faults vault) (V.faults u.vault) u.error) }
     ensures err_reads { IfErr result (λ u. Reads (V.trace vault) (V.trace u.vault)) }
     ensures err_faults { IfErr result (λ u. V.faults vault ≤ V.faults u.vault) }
+    ensures err_quiet { IfErr result (λ u. u.error ≢ OpenError.FaultDirectory → V.faults u.vault ≡ V.faults vault) }
 {
     let mut redo = RedoVault::new(vault, list);
     let opened = match read_config(alloc, &mut redo, password) {
@@ -125,6 +129,7 @@ impl<V: Vault, K: Keeper> Mount<V, K> {
         ensures fresh { IfOk result (λ mount. mount.core.violated ≡ false) }
         ensures unchanged { IfOk result (λ mount. mount.core.saver.changed ≡ false) }
         ensures attached { IfOk result (λ mount. Attached password.now (K.kept keeper) (K.kept mount.core.saver.keeper) (V.trace vault) (trace_in V.trace mount.core.blobs.tx.store) mount.opened) }
+        ensures versions { IfOk result (λ mount. AreKnown (K.kept keeper) ((tower_holdings V.trace).version mount.core.blobs.tx.store)) }
         ensures config { IfOk result (λ mount. (c : Settings) → is_some (V.trace vault) ≡ true → IsUnforgedConfig password.now (K.kept keeper) (V.trace vault) (trace_in V.trace mount.core.blobs.tx.store) c
             → settings_of mount.opened.config ≡ c) }
         ensures stands { IfOk result (λ mount. (first : Tree) → Represents ShowsFiles (K.kept keeper) (V.trace vault) (settings_of mount.opened.config) first
@@ -136,6 +141,8 @@ impl<V: Vault, K: Keeper> Mount<V, K> {
         ensures lies { IfOk result (λ mount. count_told is_lie (V.trace vault) ≤ (tower_meanings V.trace V.faults).lies mount.core.blobs.tx.store) }
         ensures vault_grows { IfOk result (λ mount. V.faults vault ≤ (tower_meanings V.trace V.faults).faults mount.core.blobs.tx.store) }
         ensures keeper_grows { IfOk result (λ mount. K.faults keeper ≤ K.faults mount.core.saver.keeper) }
+        ensures vault_quiet { IfOk result (λ mount. (tower_meanings V.trace V.faults).faults mount.core.blobs.tx.store ≡ V.faults vault) }
+        ensures keeper_quiet { IfOk result (λ mount. K.faults mount.core.saver.keeper ≡ K.faults keeper) }
         ensures marked { IsKeptMarked records (K.kept keeper) → StaysMarked K.kept vault keeper result }
         ensures halted { IfErr result (λ h. Unopened ShowsFiles V.trace V.faults K.Keeper password.now vault keeper h) }
     {

@@ -11,7 +11,7 @@ ghost use Rattle.outside.specs.Going.{GoesOn};
 ghost use Rattle.local_state.specs.Record.{HasRecord, plain_state};
 ghost use Rattle.tree_commands.specs.Showing.{ShowsFiles};
 ghost use Rattle.mount.specs.Drawing.{drawn};
-ghost use Rattle.mount.specs.Making.{CreateCause, Created, IsNewStore, IsUnchanged, StaysThere, StopsThere, new_settings, sealed_file, root_of};
+ghost use Rattle.mount.specs.Making.{CreateCause, Created, IsNewStore, IsUnchanged, KnowsOnly, StaysThere, StopsThere, new_settings, sealed_file, root_of};
 ghost use Rattle.mount.specs.Opening.{Reads};
 
 use crate::attach::open_error;
@@ -44,6 +44,8 @@ fn ask_absent<V: Vault, K: Keeper>(
     ensures kept { K.kept keeper.new ≡ K.kept keeper.old }
     ensures vault_grows { V.faults vault.old ≤ V.faults vault.new }
     ensures keeper_grows { K.faults keeper.old ≤ K.faults keeper.new }
+    ensures vault_quiet { result ≢ Err OpenError.FaultDirectory → V.faults vault.new ≡ V.faults vault.old }
+    ensures keeper_quiet { result ≢ Err OpenError.FaultState → K.faults keeper.new ≡ K.faults keeper.old }
 {
     match keeper.load(alloc) {
         Ok(None) => {}
@@ -131,6 +133,7 @@ impl<V: Vault, K: Keeper> Mount<V, K> {
             → Created ShowsFiles (new_settings block_size (drawn (R.stream chance.old)).0)
             (sealed_file password.now params.now (drawn (R.stream chance.old)).0.seal (new_settings block_size (drawn (R.stream chance.old)).0))
             (K.kept keeper) (K.kept result.2) (V.trace result.1) result.0 }
+        ensures versions { OnOk result.0 (KnowsOnly (K.kept result.2) (root_of (drawn (R.stream chance.old)).0.root)) }
         ensures id { IfOk result.0 (λ id. id.0 ≡ (drawn (R.stream chance.old)).0.fs_id) }
         ensures opens { IsOnly password.now (sealed_file password.now params.now (drawn (R.stream chance.old)).0.seal (new_settings block_size (drawn (R.stream chance.old)).0))
             (opened_as (new_settings block_size (drawn (R.stream chance.old)).0) params.now)
@@ -142,6 +145,8 @@ impl<V: Vault, K: Keeper> Mount<V, K> {
         ensures cause { IfErr result.0 (λ e. CreateCause (K.kept keeper) (V.trace vault) (V.trace result.1) (V.faults vault) (V.faults result.1) (K.faults keeper) (K.faults result.2) e) }
         ensures vault_grows { V.faults vault ≤ V.faults result.1 }
         ensures keeper_grows { K.faults keeper ≤ K.faults result.2 }
+        ensures vault_quiet { result.0 ≢ Err OpenError.FaultDirectory → V.faults result.1 ≡ V.faults vault }
+        ensures keeper_quiet { result.0 ≢ Err OpenError.FaultState → K.faults result.2 ≡ K.faults keeper }
     {
         let mut vault = vault;
         let mut keeper = keeper;

@@ -1,5 +1,5 @@
 // A file system that is opened.
-ghost use Rattle.std.specs.Prelude.{◌≡◌, ◌≢◌, ◌⊎◌, ◌≤◌, ◌||◌, ℕ, List, true, false, is_some, IsErrOf, IsOk, OnOk};
+ghost use Rattle.std.specs.Prelude.{◌≡◌, ◌≢◌, ◌⊎◌, ◌≤◌, ◌+◌, ◌||◌, ℕ, List, true, false, is_some, IsErrOf, IsOk, OnOk};
 ghost use Rattle.aes_gcm.specs.Gcm.{opened_of};
 ghost use Rattle.answers.specs.Sessions.{is_violation, directory_faults, state_faults};
 ghost use Rattle.config_file.specs.ConfigOf.{IsOnly, opened as opened_as};
@@ -9,16 +9,18 @@ ghost use Rattle.fs_model.specs.Tree.{Tree};
 ghost use Rattle.integrity_store.specs.Held.{forged};
 ghost use Rattle.integrity_store.specs.Standing.{records};
 ghost use Rattle.tree_commands.specs.Showing.{ShowsFiles};
+ghost use Rattle.tree_commands.specs.Sparing.{OnWriteInside};
 ghost use Rattle.mount_core.specs.Answers.{is_done_answer, is_structure, OnFound, OnReply, OnSpent};
 ghost use Rattle.mount_core.specs.Causes.{FoundCause, SpentCause};
 ghost use Rattle.mount_core.specs.Configuring.{ConfigAnswered, ConfigClosed, ConfigSynced, Replaced};
 ghost use Rattle.tree_commands.specs.Performing.{IsReplyTo};
+ghost use Rattle.mount_core.specs.Sparing.{FewRaised};
 ghost use Rattle.mount_core.specs.Standing.{Answered, IsKeptMarked, Synced};
 ghost use Rattle.outside.specs.Causes.{RoseBy};
 ghost use Rattle.outside.specs.Honest.{is_lie, count_told};
 ghost use Rattle.outside.specs.Going.{GoesOn};
 ghost use Rattle.store_api.specs.Holdings.{Stays};
-ghost use Rattle.session_saver.specs.Saving.{KeptConfigures};
+ghost use Rattle.session_saver.specs.Saving.{KeptConfigures, UnlessDirectory, UnlessState};
 ghost use Rattle.mount.specs.Drawing.{seal_drawn};
 ghost use Rattle.mount.specs.Making.{sealed_file};
 ghost use Rattle.mount.specs.Mounts.{IsReady, Closed};
@@ -89,15 +91,21 @@ impl<V: Vault, K: Keeper> Mount<V, K> {
         ensures goes_on { GoesOn (trace_in V.trace self.old.core.blobs.tx.store) (trace_in V.trace self.new.core.blobs.tx.store) }
         ensures forgeries { (tower_meanings V.trace V.faults).forgeries self.old.core.blobs.tx.store ≤ (tower_meanings V.trace V.faults).forgeries self.new.core.blobs.tx.store }
         ensures lies { (tower_meanings V.trace V.faults).lies self.old.core.blobs.tx.store ≤ (tower_meanings V.trace V.faults).lies self.new.core.blobs.tx.store }
+        ensures unforged { (tower_meanings V.trace V.faults).sound self.old.core.blobs.tx.store → (tower_meanings V.trace V.faults).lies self.new.core.blobs.tx.store ≤ (tower_meanings V.trace V.faults).lies self.old.core.blobs.tx.store → (tower_meanings V.trace V.faults).forgeries self.new.core.blobs.tx.store ≤ (tower_meanings V.trace V.faults).forgeries self.old.core.blobs.tx.store }
         ensures alarm { (kept present : Tree) → self.old.core.violated ≡ false → TowerStands ShowsFiles V.trace V.faults K.Keeper self.old.core kept present
             → (tower_meanings V.trace V.faults).lies self.new.core.blobs.tx.store ≤ (tower_meanings V.trace V.faults).lies self.old.core.blobs.tx.store → is_violation result ≡ false }
         ensures built { (kept present : Tree) → self.old.core.violated ≡ false → TowerStands ShowsFiles V.trace V.faults K.Keeper self.old.core kept present
             → (tower_meanings V.trace V.faults).forgeries self.new.core.blobs.tx.store ≤ (tower_meanings V.trace V.faults).forgeries self.old.core.blobs.tx.store → is_structure result ≡ false }
         ensures found { OnFound result (FoundCause (tower_meanings V.trace V.faults) (tower_holdings V.trace) (tower_durables V.trace) self.old.core.blobs.tx.store self.new.core.blobs.tx.store) }
         ensures vault_cause { RoseBy (directory_faults result) ((tower_meanings V.trace V.faults).faults self.old.core.blobs.tx.store) ((tower_meanings V.trace V.faults).faults self.new.core.blobs.tx.store) }
+        ensures vault_quiet { directory_faults result ≡ 0 → (tower_meanings V.trace V.faults).faults self.new.core.blobs.tx.store ≡ (tower_meanings V.trace V.faults).faults self.old.core.blobs.tx.store }
         ensures keeper_cause { RoseBy (state_faults result) (K.faults self.old.core.saver.keeper) (K.faults self.new.core.saver.keeper) }
+        ensures keeper_quiet { state_faults result ≡ 0 → is_violation result ≡ false → K.faults self.new.core.saver.keeper ≡ K.faults self.old.core.saver.keeper }
         ensures marked { is_violation result ≡ true → IsKeptMarked records (K.kept self.new.core.saver.keeper) ⊎ RoseBy 1 (K.faults self.old.core.saver.keeper) (K.faults self.new.core.saver.keeper) }
         ensures spent { OnSpent result (SpentCause (tower_holdings V.trace) self.old.core.blobs.tx.store command.now) }
+        ensures raised { (id : List ℕ) → (tower_holdings V.trace).version self.new.core.blobs.tx.store id ≤ (tower_holdings V.trace).version self.old.core.blobs.tx.store id + 1 }
+        ensures sparing { (kept present : Tree) → TowerStands ShowsFiles V.trace V.faults K.Keeper self.old.core kept present → (tower_meanings V.trace V.faults).forgeries self.new.core.blobs.tx.store ≤ (tower_meanings V.trace V.faults).forgeries self.old.core.blobs.tx.store
+            → OnWriteInside ((tower_holdings V.trace).payload self.old.core.blobs.tx.store) present command.now (FewRaised (tower_holdings V.trace) self.old.core.blobs.tx.store self.new.core.blobs.tx.store) }
         ensures variant { OnReply result (IsReplyTo command.now) }
     {
         self.core.answer(alloc, now, command, chance)
@@ -123,8 +131,10 @@ impl<V: Vault, K: Keeper> Mount<V, K> {
         ensures lies { (tower_meanings V.trace V.faults).lies self.new.core.blobs.tx.store ≡ (tower_meanings V.trace V.faults).lies self.old.core.blobs.tx.store }
         ensures vault_grows { (tower_meanings V.trace V.faults).faults self.old.core.blobs.tx.store ≤ (tower_meanings V.trace V.faults).faults self.new.core.blobs.tx.store }
         ensures vault_cause { IsErrOf result SyncError.FaultDirectory → RoseBy 1 ((tower_meanings V.trace V.faults).faults self.old.core.blobs.tx.store) ((tower_meanings V.trace V.faults).faults self.new.core.blobs.tx.store) }
+        ensures vault_quiet { UnlessDirectory result ((tower_meanings V.trace V.faults).faults self.new.core.blobs.tx.store ≡ (tower_meanings V.trace V.faults).faults self.old.core.blobs.tx.store) }
         ensures keeper_grows { K.faults self.old.core.saver.keeper ≤ K.faults self.new.core.saver.keeper }
         ensures keeper_cause { IsErrOf result SyncError.FaultState → RoseBy 1 (K.faults self.old.core.saver.keeper) (K.faults self.new.core.saver.keeper) }
+        ensures keeper_quiet { UnlessState result (K.faults self.new.core.saver.keeper ≡ K.faults self.old.core.saver.keeper) }
     {
         self.core.sync(alloc)
     }
@@ -161,8 +171,10 @@ impl<V: Vault, K: Keeper> Mount<V, K> {
         ensures lies { (tower_meanings V.trace V.faults).lies self.new.core.blobs.tx.store ≡ (tower_meanings V.trace V.faults).lies self.old.core.blobs.tx.store }
         ensures vault_grows { (tower_meanings V.trace V.faults).faults self.old.core.blobs.tx.store ≤ (tower_meanings V.trace V.faults).faults self.new.core.blobs.tx.store }
         ensures vault_cause { IsErrOf result SyncError.FaultDirectory → RoseBy 1 ((tower_meanings V.trace V.faults).faults self.old.core.blobs.tx.store) ((tower_meanings V.trace V.faults).faults self.new.core.blobs.tx.store) }
+        ensures vault_quiet { UnlessDirectory result ((tower_meanings V.trace V.faults).faults self.new.core.blobs.tx.store ≡ (tower_meanings V.trace V.faults).faults self.old.core.blobs.tx.store) }
         ensures keeper_grows { K.faults self.old.core.saver.keeper ≤ K.faults self.new.core.saver.keeper }
         ensures keeper_cause { IsErrOf result SyncError.FaultState → RoseBy 1 (K.faults self.old.core.saver.keeper) (K.faults self.new.core.saver.keeper) }
+        ensures keeper_quiet { UnlessState result (K.faults self.new.core.saver.keeper ≡ K.faults self.old.core.saver.keeper) }
     {
         let draws = SealDraws::draw(chance);
         let Ok(file) = seal_config(
@@ -194,8 +206,10 @@ impl<V: Vault, K: Keeper> Mount<V, K> {
         ensures lies { count_told is_lie (V.trace result.1) ≡ (tower_meanings V.trace V.faults).lies self.core.blobs.tx.store }
         ensures vault_grows { (tower_meanings V.trace V.faults).faults self.core.blobs.tx.store ≤ V.faults result.1 }
         ensures vault_cause { IsErrOf result.0 SyncError.FaultDirectory → RoseBy 1 ((tower_meanings V.trace V.faults).faults self.core.blobs.tx.store) (V.faults result.1) }
+        ensures vault_quiet { UnlessDirectory result.0 (V.faults result.1 ≡ (tower_meanings V.trace V.faults).faults self.core.blobs.tx.store) }
         ensures keeper_grows { K.faults self.core.saver.keeper ≤ K.faults result.2 }
         ensures keeper_cause { IsErrOf result.0 SyncError.FaultState → RoseBy 1 (K.faults self.core.saver.keeper) (K.faults result.2) }
+        ensures keeper_quiet { UnlessState result.0 (K.faults result.2 ≡ K.faults self.core.saver.keeper) }
     {
         let Mount { core, opened: _ } = self;
         let (result, store, keeper) = core.close(alloc);

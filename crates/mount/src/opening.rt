@@ -1,5 +1,6 @@
 // The record and the configuration, read.
-ghost use Rattle.std.specs.Prelude.{◌≡◌, ◌≤◌, IfOk, IfErr, OnOk, OnErr};
+ghost use Rattle.std.specs.Prelude.{◌≡◌, ◌≢◌, ◌≤◌, IfOk, IfErr, OnOk, OnErr};
+ghost use Rattle.std.specs.declared.result.Result.TheVariants.{Err};
 ghost use Rattle.outside.specs.View.{list_of};
 ghost use Rattle.local_state.specs.Record.{plain_state, record_bytes};
 ghost use Rattle.config_file.specs.Settings.{IsBlockSize, settings_of};
@@ -29,6 +30,7 @@ pub(crate) fn load_record<K: Keeper>(alloc: Global, keeper: &mut K) -> Result<Lo
     ensures err { IfErr result (λ e. LoadCause (K.kept keeper.old) (K.faults keeper.old) (K.faults keeper.new) e) }
     ensures kept { K.kept keeper.new ≡ K.kept keeper.old }
     ensures grows { K.faults keeper.old ≤ K.faults keeper.new }
+    ensures quiet { result ≢ Err OpenError.FaultState → K.faults keeper.new ≡ K.faults keeper.old }
 {
     let bytes = match keeper.load(alloc) {
         Ok(Some(bytes)) => bytes,
@@ -60,6 +62,7 @@ pub(crate) fn read_config<V: Vault>(
     ensures reads { Reads (V.trace vault.old.vault) (V.trace vault.new.vault) }
     ensures list { vault.new.list ≡ vault.old.list }
     ensures grows { V.faults vault.old.vault ≤ V.faults vault.new.vault }
+    ensures quiet { result ≢ Err OpenError.FaultDirectory → V.faults vault.new.vault ≡ V.faults vault.old.vault }
 {
     let file = match vault.get(alloc, &FileName::Config, MAX_CONFIG) {
         Ok(Some(file)) => file,

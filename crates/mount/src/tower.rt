@@ -1,5 +1,5 @@
 // What a session runs over: a store of sealed blocks, behind a cache.
-ghost use Rattle.std.specs.Prelude.{◌≡◌, ◌-◌, Bool, true, IfOk, IfErr};
+ghost use Rattle.std.specs.Prelude.{◌≡◌, ◌-◌, ℕ, List, Bool, true, IfOk, IfErr};
 ghost use Rattle.std.specs.FinMap as fin;
 ghost use Rattle.outside.specs.Trace.{config};
 ghost use Rattle.outside.specs.Changes.{change_at};
@@ -8,6 +8,7 @@ ghost use Rattle.store_api.specs.Content.{Content, SameContent};
 ghost use Rattle.store_api.specs.Holdings.{IsFew};
 ghost use Rattle.sealed_store.specs.Stores.{IsIntact, block_size_of};
 ghost use Rattle.integrity_store.specs.Standing.{identity_of, listed, records};
+ghost use Rattle.integrity_store.specs.Stores.{version_in};
 ghost use Rattle.integrity_store.specs.Views.{held_of};
 ghost use Rattle.integrity_store.specs.WaitingLists.{IsNoBlock};
 ghost use Rattle.aes_gcm.specs.Gcm.{opened_of};
@@ -43,6 +44,7 @@ pub(crate) fn cached_store<V: Vault>(
     ensures list { IfOk result (λ store. (tower_durables V.trace).list store ≡ sealed.vault.list) }
     ensures trace { IfOk result (λ store. trace_in V.trace store ≡ V.trace sealed.vault.vault) }
     ensures records { IfOk result (λ store. (with_list : Bool) → (tower_durables V.trace).record_of store with_list ≡ record_bytes (plain_state state) (listed with_list sealed.vault.list)) }
+    ensures version { IfOk result (λ store. (id : List ℕ) → (tower_holdings V.trace).version store id ≡ version_in (fin.get (plain_state state).marks id)) }
     ensures faults { IfOk result (λ store. (tower_meanings V.trace V.faults).faults store ≡ V.faults sealed.vault.vault) }
     ensures opened { IfOk result (λ store. (content : Content) → records.stands ((tower_durables V.trace).identity store) ((tower_durables V.trace).record_of store true) (trace_in V.trace store) content
         → (tower_meanings V.trace V.faults).sound store × SameContent content ((tower_holdings V.trace).content store)) }

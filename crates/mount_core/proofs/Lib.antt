@@ -1,3 +1,5 @@
 pub mod Moving
 pub mod Lines
 pub mod Asking
+mod Versions
+pub mod Quiet

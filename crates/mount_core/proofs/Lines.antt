@@ -168,7 +168,7 @@ error_next tree moment command (Contents bytes) next is h = absurd h
 -- ---- what a store holds
 
 pub stays_same : {S : Type 0} (H : Holdings S) (a b : S) → b ≡ a → Stays H a b
-stays_same H a b e = subst (λ x. Stays H a x) (sym e) (record { ids = λ id. refl; content = λ told id. refl; told = refl; used = refl; spent = λ id. refl; payload = refl })
+stays_same H a b e = subst (λ x. Stays H a x) (sym e) (record { ids = λ id. refl; content = λ told id. refl; told = refl; used = refl; spent = λ id. refl; version = λ id. refl; payload = refl })
 
 pub stays_on : {S : Type 0} (H : Holdings S) (a b c : S) → Stays H a b → Stays H b c → Stays H a c
 stays_on H a b c p q = record {
@@ -177,6 +177,7 @@ stays_on H a b c p q = record {
   told = q.told ∙ p.told;
   used = q.used ∙ p.used;
   spent = λ id. q.spent id ∙ p.spent id;
+  version = λ id. q.version id ∙ p.version id;
   payload = q.payload ∙ p.payload;
 }
 

@@ -1,24 +1,27 @@
 // What every session does, over any durable store and keeper.
-ghost use Rattle.std.specs.Prelude.{◌≡◌, ◌≢◌, ◌⊎◌, ◌≤◌, ◌||◌, ◌↔◌, ℕ, List, true, false, length, IsErrOf, IsOk, IsTrue, OnOk, OnErr, IfOk, IfErr};
+ghost use Rattle.std.specs.Prelude.{◌≡◌, ◌≢◌, ◌⊎◌, ◌≤◌, ◌+◌, ◌||◌, ◌↔◌, ℕ, List, true, false, length, IsErrOf, IsOk, IsTrue, OnOk, OnErr, IfOk, IfErr};
 ghost use Rattle.std.specs.declared.result.Result.TheVariants.{Err};
 ghost use Rattle.std.specs.declared.option.Option.TheVariants.{Some};
+ghost use Rattle.std.specs.FinMap as fin;
 ghost use Rattle.fs_model.specs.Fitting.{IsFitting};
 ghost use Rattle.fs_model.specs.Instant.{Instant};
 ghost use Rattle.fs_model.specs.Tree.{Tree};
 ghost use Rattle.outside.specs.Causes.{RoseBy};
 ghost use Rattle.outside.specs.Going.{GoesOn};
-ghost use Rattle.session_saver.specs.Saving.{KeptConfigures, Whole, CanMark};
+ghost use Rattle.session_saver.specs.Saving.{KeptConfigures, Whole, CanMark, UnlessDirectory, UnlessState};
 ghost use Rattle.store_api.specs.Content.{Content, SameContent};
 ghost use Rattle.store_api.specs.Durables.{Identity, with_mark};
-ghost use Rattle.store_api.specs.Holdings.{IsFew, IsSpent, Stays};
+ghost use Rattle.store_api.specs.Holdings.{IsFew, IsSpent, Stays, gives_payload};
 ghost use Rattle.store_api.specs.Lists.{MayConfigure};
 ghost use Rattle.answers.specs.Sessions.{IsError, is_violation, directory_faults, state_faults};
 ghost use Rattle.tree_commands.specs.Showing.{ShowsFiles};
+ghost use Rattle.tree_commands.specs.Sparing.{OnWriteInside};
 ghost use Rattle.mount_core.specs.Answers.{is_structure, is_done_answer, answer_of_fail, answer_of_sync, OnReply, OnSpent, OnFound};
 ghost use Rattle.mount_core.specs.Causes.{SpentCause, FoundCause};
 ghost use Rattle.mount_core.specs.Configuring.{Configures, ConfigSynced, ConfigAnswered, ConfigClosed, Replaced, KeptOneOf};
 ghost use Rattle.fs_model.specs.Laws.{OnlyLooks};
 ghost use Rattle.tree_commands.specs.Performing.{is_sync, IsReplyTo};
+ghost use Rattle.mount_core.specs.Sparing.{FewRaised};
 ghost use Rattle.mount_core.specs.Standing.{Ready, Stands, Synced, Roomed, Performed, Answered, IsKeptMarked, Asked, Closed};
 
 use answers::Answer;
@@ -117,8 +120,10 @@ impl<S: Durable, K: Keeper> Core<S, K> {
         ensures lies { S.meanings.lies self.new.blobs.tx.store ≡ S.meanings.lies self.old.blobs.tx.store }
         ensures vault_grows { S.meanings.faults self.old.blobs.tx.store ≤ S.meanings.faults self.new.blobs.tx.store }
         ensures vault_cause { IsErrOf result SyncError.FaultDirectory → RoseBy 1 (S.meanings.faults self.old.blobs.tx.store) (S.meanings.faults self.new.blobs.tx.store) }
+        ensures vault_quiet { UnlessDirectory result (S.meanings.faults self.new.blobs.tx.store ≡ S.meanings.faults self.old.blobs.tx.store) }
         ensures keeper_grows { K.faults self.old.saver.keeper ≤ K.faults self.new.saver.keeper }
         ensures keeper_cause { IsErrOf result SyncError.FaultState → RoseBy 1 (K.faults self.old.saver.keeper) (K.faults self.new.saver.keeper) }
+        ensures keeper_quiet { UnlessState result (K.faults self.new.saver.keeper ≡ K.faults self.old.saver.keeper) }
     {
         self.saver.sync(alloc, &mut self.blobs.tx.store)
     }
@@ -141,8 +146,10 @@ impl<S: Durable, K: Keeper> Core<S, K> {
         ensures lies { S.meanings.lies self.new.blobs.tx.store ≡ S.meanings.lies self.old.blobs.tx.store }
         ensures vault_grows { S.meanings.faults self.old.blobs.tx.store ≤ S.meanings.faults self.new.blobs.tx.store }
         ensures vault_cause { IsErrOf result SyncError.FaultDirectory → RoseBy 1 (S.meanings.faults self.old.blobs.tx.store) (S.meanings.faults self.new.blobs.tx.store) }
+        ensures vault_quiet { UnlessDirectory result (S.meanings.faults self.new.blobs.tx.store ≡ S.meanings.faults self.old.blobs.tx.store) }
         ensures keeper_grows { K.faults self.old.saver.keeper ≤ K.faults self.new.saver.keeper }
         ensures keeper_cause { IsErrOf result SyncError.FaultState → RoseBy 1 (K.faults self.old.saver.keeper) (K.faults self.new.saver.keeper) }
+        ensures keeper_quiet { UnlessState result (K.faults self.new.saver.keeper ≡ K.faults self.old.saver.keeper) }
     {
         if self.blobs.tx.store.buffered() < MOST_WAITING {
             return Ok(());
@@ -177,6 +184,8 @@ impl<S: Durable, K: Keeper> Core<S, K> {
         ensures lies { S.meanings.lies self.new.blobs.tx.store ≡ S.meanings.lies self.old.blobs.tx.store }
         ensures faults { S.meanings.faults self.new.blobs.tx.store ≡ S.meanings.faults self.old.blobs.tx.store }
         ensures spent { (result ≡ Err ApplyError.Spent) → IsSpent S.holdings self.old.blobs.tx.store self.old.blobs.tx.overlay }
+        ensures raised { (id : List ℕ) → S.holdings.version self.new.blobs.tx.store id ≤ S.holdings.version self.old.blobs.tx.store id + 1 }
+        ensures rests { (id : List ℕ) → gives_payload (fin.get self.old.blobs.tx.overlay id) ≡ false → S.holdings.version self.new.blobs.tx.store id ≡ S.holdings.version self.old.blobs.tx.store id }
     {
         match self.blobs.tx.commit(alloc, chance) {
             Ok(()) => {
@@ -241,6 +250,8 @@ impl<S: Durable, K: Keeper> Core<S, K> {
         ensures faults { S.meanings.faults self.new.blobs.tx.store ≡ S.meanings.faults self.old.blobs.tx.store }
         ensures answers { (result ≡ Answer.Reply reply) ⊎ ((result ≡ Answer.Memory) ⊎ (result ≡ Answer.Spent)) }
         ensures spent { OnSpent result (SpentCause S.holdings self.old.blobs.tx.store command.now) }
+        ensures raised { (id : List ℕ) → S.holdings.version self.new.blobs.tx.store id ≤ S.holdings.version self.old.blobs.tx.store id + 1 }
+        ensures rests { (id : List ℕ) → gives_payload (fin.get self.old.blobs.tx.overlay id) ≡ false → S.holdings.version self.new.blobs.tx.store id ≡ S.holdings.version self.old.blobs.tx.store id }
     {
         if only_looks(command) || is_error(&reply) {
             self.blobs.tx.abandon();
@@ -282,13 +293,18 @@ impl<S: Durable, K: Keeper> Core<S, K> {
         ensures identity { S.durables.identity self.new.blobs.tx.store ≡ S.durables.identity self.old.blobs.tx.store }
         ensures forgeries { S.meanings.forgeries self.old.blobs.tx.store ≤ S.meanings.forgeries self.new.blobs.tx.store }
         ensures lies { S.meanings.lies self.old.blobs.tx.store ≤ S.meanings.lies self.new.blobs.tx.store }
+        ensures unforged { S.meanings.sound self.old.blobs.tx.store → S.meanings.lies self.new.blobs.tx.store ≤ S.meanings.lies self.old.blobs.tx.store → S.meanings.forgeries self.new.blobs.tx.store ≤ S.meanings.forgeries self.old.blobs.tx.store }
         ensures alarm { (kept present : Tree) → Stands ShowsFiles S.meanings S.holdings S.durables S.records K.Keeper self.old kept present → S.meanings.lies self.new.blobs.tx.store ≤ S.meanings.lies self.old.blobs.tx.store → is_violation result ≡ false }
         ensures built { (kept present : Tree) → Stands ShowsFiles S.meanings S.holdings S.durables S.records K.Keeper self.old kept present → S.meanings.forgeries self.new.blobs.tx.store ≤ S.meanings.forgeries self.old.blobs.tx.store → is_structure result ≡ false }
         ensures found { OnFound result (λ why. S.meanings.loaded self.old.blobs.tx.store self.new.blobs.tx.store × S.meanings.met self.old.blobs.tx.store self.new.blobs.tx.store why) }
         ensures vault_grows { S.meanings.faults self.old.blobs.tx.store ≤ S.meanings.faults self.new.blobs.tx.store }
         ensures vault_cause { RoseBy (directory_faults result) (S.meanings.faults self.old.blobs.tx.store) (S.meanings.faults self.new.blobs.tx.store) }
+        ensures vault_quiet { directory_faults result ≡ 0 → S.meanings.faults self.new.blobs.tx.store ≡ S.meanings.faults self.old.blobs.tx.store }
         ensures keeper_cause { state_faults result ≡ 0 }
         ensures spent { OnSpent result (SpentCause S.holdings self.old.blobs.tx.store command.now) }
+        ensures raised { (id : List ℕ) → S.holdings.version self.new.blobs.tx.store id ≤ S.holdings.version self.old.blobs.tx.store id + 1 }
+        ensures sparing { (kept present : Tree) → Stands ShowsFiles S.meanings S.holdings S.durables S.records K.Keeper self.old kept present → S.meanings.forgeries self.new.blobs.tx.store ≤ S.meanings.forgeries self.old.blobs.tx.store
+            → OnWriteInside (S.holdings.payload self.old.blobs.tx.store) present command.now (FewRaised S.holdings self.old.blobs.tx.store self.new.blobs.tx.store) }
         ensures variant { OnReply result (IsReplyTo command.now) }
         ensures served { result ≢ Answer.Refused }
     {
@@ -328,13 +344,19 @@ impl<S: Durable, K: Keeper> Core<S, K> {
         ensures goes_on { GoesOn (S.durables.trace self.old.blobs.tx.store) (S.durables.trace self.new.blobs.tx.store) }
         ensures forgeries { S.meanings.forgeries self.old.blobs.tx.store ≤ S.meanings.forgeries self.new.blobs.tx.store }
         ensures lies { S.meanings.lies self.old.blobs.tx.store ≤ S.meanings.lies self.new.blobs.tx.store }
+        ensures unforged { S.meanings.sound self.old.blobs.tx.store → S.meanings.lies self.new.blobs.tx.store ≤ S.meanings.lies self.old.blobs.tx.store → S.meanings.forgeries self.new.blobs.tx.store ≤ S.meanings.forgeries self.old.blobs.tx.store }
         ensures alarm { (kept present : Tree) → self.old.violated ≡ false → Stands ShowsFiles S.meanings S.holdings S.durables S.records K.Keeper self.old kept present → S.meanings.lies self.new.blobs.tx.store ≤ S.meanings.lies self.old.blobs.tx.store → is_violation result ≡ false }
         ensures built { (kept present : Tree) → self.old.violated ≡ false → Stands ShowsFiles S.meanings S.holdings S.durables S.records K.Keeper self.old kept present → S.meanings.forgeries self.new.blobs.tx.store ≤ S.meanings.forgeries self.old.blobs.tx.store → is_structure result ≡ false }
         ensures found { OnFound result (FoundCause S.meanings S.holdings S.durables self.old.blobs.tx.store self.new.blobs.tx.store) }
         ensures vault_cause { RoseBy (directory_faults result) (S.meanings.faults self.old.blobs.tx.store) (S.meanings.faults self.new.blobs.tx.store) }
+        ensures vault_quiet { directory_faults result ≡ 0 → S.meanings.faults self.new.blobs.tx.store ≡ S.meanings.faults self.old.blobs.tx.store }
         ensures keeper_cause { RoseBy (state_faults result) (K.faults self.old.saver.keeper) (K.faults self.new.saver.keeper) }
+        ensures keeper_quiet { state_faults result ≡ 0 → is_violation result ≡ false → K.faults self.new.saver.keeper ≡ K.faults self.old.saver.keeper }
         ensures marked { is_violation result ≡ true → IsKeptMarked S.records (K.kept self.new.saver.keeper) ⊎ RoseBy 1 (K.faults self.old.saver.keeper) (K.faults self.new.saver.keeper) }
         ensures spent { OnSpent result (SpentCause S.holdings self.old.blobs.tx.store command.now) }
+        ensures raised { (id : List ℕ) → S.holdings.version self.new.blobs.tx.store id ≤ S.holdings.version self.old.blobs.tx.store id + 1 }
+        ensures sparing { (kept present : Tree) → Stands ShowsFiles S.meanings S.holdings S.durables S.records K.Keeper self.old kept present → S.meanings.forgeries self.new.blobs.tx.store ≤ S.meanings.forgeries self.old.blobs.tx.store
+            → OnWriteInside (S.holdings.payload self.old.blobs.tx.store) present command.now (FewRaised S.holdings self.old.blobs.tx.store self.new.blobs.tx.store) }
         ensures variant { OnReply result (IsReplyTo command.now) }
     {
         if self.violated {
@@ -382,8 +404,10 @@ impl<S: Durable, K: Keeper> Core<S, K> {
         ensures lies { S.meanings.lies self.new.blobs.tx.store ≡ S.meanings.lies self.old.blobs.tx.store }
         ensures vault_grows { S.meanings.faults self.old.blobs.tx.store ≤ S.meanings.faults self.new.blobs.tx.store }
         ensures vault_cause { IsErrOf result SyncError.FaultDirectory → RoseBy 1 (S.meanings.faults self.old.blobs.tx.store) (S.meanings.faults self.new.blobs.tx.store) }
+        ensures vault_quiet { UnlessDirectory result (S.meanings.faults self.new.blobs.tx.store ≡ S.meanings.faults self.old.blobs.tx.store) }
         ensures keeper_grows { K.faults self.old.saver.keeper ≤ K.faults self.new.saver.keeper }
         ensures keeper_cause { IsErrOf result SyncError.FaultState → RoseBy 1 (K.faults self.old.saver.keeper) (K.faults self.new.saver.keeper) }
+        ensures keeper_quiet { UnlessState result (K.faults self.new.saver.keeper ≡ K.faults self.old.saver.keeper) }
     {
         match self.blobs.tx.store.put_config(alloc, bytes) {
             Ok(()) => {}
@@ -409,8 +433,10 @@ impl<S: Durable, K: Keeper> Core<S, K> {
         ensures lies { S.meanings.lies result.1 ≡ S.meanings.lies self.blobs.tx.store }
         ensures vault_grows { S.meanings.faults self.blobs.tx.store ≤ S.meanings.faults result.1 }
         ensures vault_cause { IsErrOf result.0 SyncError.FaultDirectory → RoseBy 1 (S.meanings.faults self.blobs.tx.store) (S.meanings.faults result.1) }
+        ensures vault_quiet { UnlessDirectory result.0 (S.meanings.faults result.1 ≡ S.meanings.faults self.blobs.tx.store) }
         ensures keeper_grows { K.faults self.saver.keeper ≤ K.faults result.2 }
         ensures keeper_cause { IsErrOf result.0 SyncError.FaultState → RoseBy 1 (K.faults self.saver.keeper) (K.faults result.2) }
+        ensures keeper_quiet { UnlessState result.0 (K.faults result.2 ≡ K.faults self.saver.keeper) }
     {
         let mut core = self;
         let result = if core.violated {

@@ -1,5 +1,5 @@
 -- A batch of one new block, and what the store then holds.
-use Rattle.std.proofs.Common.{◌≡◌, ℕ, Bool, true, false, cond, List, length, refl, sym, ◌∙◌, ap, inl, inr}
+use Rattle.std.proofs.Common.{◌≡◌, ℕ, Bool, true, false, cond, List, length, refl, sym, ◌∙◌, ap, inl, inr, arith}
 use Rattle.std.specs.Prelude.{Result, OnOk}
 use Rattle.std.specs.Ordering.{is_eq}
 use Rattle.std.specs.Cmp.Lexicographic.{nat_list_cmp_total}
@@ -13,12 +13,13 @@ use Rattle.std.specs.declared.result.Result.TheVariants.{Ok, Err}
 use Rattle.fs_model.specs.Tree.{Tree, empty_tree}
 use Rattle.outside.specs.declared.keeper.Keeper.{Ghosts as KeeperGhosts}
 use Rattle.store_api.specs.Content.{Id, Content, SameContent, Changes, id_cmp, same_id, or_else, over}
-use Rattle.store_api.specs.Holdings.{Holdings, Fits, Stays, is_free}
+use Rattle.store_api.specs.Holdings.{Holdings, Fits, Changed, Stays, is_free, gives_payload}
 use Rattle.store_api.specs.Durables.{Durables, Records, last_told}
 use Rattle.session_saver.specs.declared.saver.Saver.{Saver}
 use Rattle.session_saver.specs.declared.saver.SyncError.{SyncError}
 use Rattle.session_saver.specs.Saving.{Saved, SavedConfig}
-use Rattle.mount_opening.specs.Opening.{Made, MadeConfig}
+use Rattle.outcome.specs.Meanings.{Meanings}
+use Rattle.mount_opening.specs.Opening.{Made, MadeConfig, OnlyRootRaised}
 
 equal : (r : Ordering) → is_eq r ≡ true → r ≡ Equal
 equal Less h = absurd cc
@@ -51,6 +52,22 @@ fits_one H a b changes id bytes e len stays free = record {
       inr (ap (λ used. is_free used q) stays.used ∙ (ap (is_free (H.used a)) (is_same q id o.0) ∙ free));
   removes = λ q h. let o = one_of (same_id q id) bytes None (sym (got_one changes id bytes q e) ∙ h) in absurd (none_some bytes o.1);
 }
+
+-- first nothing changed, then the block was put, and then all was written
+pub root_raised : {S : Type 0} (M : Meanings S) (H : Holdings S) (a b d after : S) (changes : Changes) (root bytes : List ℕ) → changes ≡ fin.insert fin.empty root (Some bytes) → Stays H a b → Changed M H b d changes → Stays H d after
+    → OnlyRootRaised H a after root
+root_raised M H a b d after changes root bytes e stays changed written = record {
+  raised = omega (arith, written.version root, changed.raised root, stays.version root);
+  rest = λ id other. written.version id ∙ (changed.rests id (ap gives_payload (got_one changes root bytes id e ∙ ap (λ b. cond b (Some (Some bytes)) None) other)) ∙ stays.version id);
+}
+
+pub always_ok : {T E : Type 0} (r : Result T E) (P : Type 0) → P → OnOk r P
+always_ok (Ok x) P h = h
+always_ok (Err e) P h = tt
+
+pub on_ok : {T E : Type 0} (r : Result T E) (P Q : Type 0) → (P → Q) → OnOk r P → OnOk r Q
+on_ok (Ok x) P Q f h = f h
+on_ok (Err e) P Q f h = tt
 
 or_none : (b : Bool) (bytes : List ℕ) → or_else (cond b (Some (Some bytes)) None) None ≡ cond b (Some bytes) None
 or_none true bytes = refl

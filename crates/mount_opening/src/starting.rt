@@ -1,9 +1,9 @@
 // The beginning of a session.
-ghost use Rattle.std.specs.Prelude.{◌≡◌, ◌≤◌, ℕ, List, [], ◌∷◌, true, false, IfOk, IfErr};
+ghost use Rattle.std.specs.Prelude.{◌≡◌, ℕ, List, [], ◌∷◌, true, false, IfOk, IfErr};
 ghost use Rattle.std.specs.declared.option.Option.TheVariants.{Some};
 ghost use Rattle.fs_model.specs.Tree.{Tree};
 ghost use Rattle.outside.specs.Writes.{after_writes};
-ghost use Rattle.store_api.specs.Holdings.{IsFew};
+ghost use Rattle.store_api.specs.Holdings.{IsFew, Stays};
 ghost use Rattle.tree_commands.specs.Showing.{ShowsFiles};
 ghost use Rattle.mount_core.specs.Configuring.{Configures};
 ghost use Rattle.mount_core.specs.Standing.{Ready, Stands};
@@ -49,11 +49,12 @@ pub fn start<S: Durable, K: Keeper>(
     ensures configures { IfOk result (λ core. (bytes : List ℕ) → S.holdings.told store ≡ true → S.records.configures (S.durables.record_of store true) (S.durables.trace store) bytes
         → Configures S.holdings S.durables S.records K.Keeper core (bytes ∷ []) bytes) }
     ensures kept { IfOk result (λ core. K.kept core.saver.keeper ≡ Some (S.durables.record_of store false)) }
+    ensures stays { IfOk result (λ core. Stays S.holdings store core.blobs.tx.store) }
     ensures writes { IfOk result (λ core. S.durables.trace core.blobs.tx.store ≡ after_writes (S.durables.list store) (S.durables.trace store)) }
     ensures forgeries { IfOk result (λ core. S.meanings.forgeries core.blobs.tx.store ≡ S.meanings.forgeries store) }
     ensures lies { IfOk result (λ core. S.meanings.lies core.blobs.tx.store ≡ S.meanings.lies store) }
-    ensures vault_grows { IfOk result (λ core. S.meanings.faults store ≤ S.meanings.faults core.blobs.tx.store) }
-    ensures keeper_grows { IfOk result (λ core. K.faults keeper ≤ K.faults core.saver.keeper) }
+    ensures vault_quiet { IfOk result (λ core. S.meanings.faults core.blobs.tx.store ≡ S.meanings.faults store) }
+    ensures keeper_quiet { IfOk result (λ core. K.faults core.saver.keeper ≡ K.faults keeper) }
     ensures halted { IfErr result (λ u. Halting S.meanings S.holdings S.durables S.records K.Keeper store keeper u) }
     ensures cause { IfErr result (λ u. CauseOf (S.meanings.faults store) (S.meanings.faults u.store) (K.faults keeper) (K.faults u.keeper) u.error) }
 {

@@ -14,6 +14,7 @@ use Rattle.mount.specs.Opening.{OpenCause, Reads}
 use Rattle.mount.specs.Representing.{identity_for}
 use Rattle.mount.specs.Tower.{vault_in, tower_durables}
 use Rattle.mount.proofs.Attaching.{config_open, identity_is, no_block}
+use Rattle.mount.proofs.Quiet.{err_same, ok_err}
 use Rattle.mount.proofs.Reading.{reads_stands, stands_salt}
 use Rattle.mount.proofs.attach.open_store.Given.{Over}
 use Rattle.mount.proofs.attach.open_store.Goals as goal
@@ -71,3 +72,12 @@ returns-in-Ok-cached_store-clause-stands g c salt content s =
     let s2 : Stands (identity_for cfg state.key_salt) (record_bytes state list) t content = reads_stands (identity_for cfg state.key_salt) (record_bytes state list) content t0 t reads s1 in
     c.in-Ok-cached_store.ensures.opened content
     (subst (λ i. Stands i ((tower_durables V.trace).record_of c.in-Ok-cached_store.store true) t content) (sym (returns-in-Ok-cached_store-clause-identity g c)) (subst (λ r. Stands (identity_for cfg state.key_salt) r t content) (sym (returns-in-Ok-cached_store-clause-record_of g c)) s2))
+
+pub returns-in-Err-clause-err_quiet : goal.returns-in-Err-clause-err_quiet
+returns-in-Err-clause-err_quiet g c n =
+    ap g.V.Vault.faults c.into_vault.ensures ∙ (c.in-Err.ensures.quiet (λ e. n (err_same e)) ∙ ap (λ (x : RedoOf g). g.V.Vault.faults x.vault) c.new-redo.ensures)
+
+pub returns-in-Ok-cached_store-clause-faults : goal.returns-in-Ok-cached_store-clause-faults
+returns-in-Ok-cached_store-clause-faults g c =
+    let faults = λ (x : RedoOf g). g.V.Vault.faults x.vault in
+    c.in-Ok-cached_store.ensures.faults ∙ (ap faults c.new-sealed.ensures.vault ∙ (c.in-Ok.ensures.quiet (λ e. ok_err c.in-Ok.opened _ e) ∙ ap faults c.new-redo.ensures))

@@ -5,7 +5,8 @@ use Rattle.data_nodes.specs.Layout.{IsPayloadLen}
 use Rattle.fs_model.specs.Tree.{empty_tree}
 use Rattle.store_api.specs.Durables.{Identity}
 use Rattle.tree_commands.specs.Showing.{ShowsFiles}
-use Rattle.mount_opening.proofs.NewBlock.{fits_one, only_one, made, made_config, fine_ok}
+use Rattle.mount_core.proofs.Quiet.{unless_directory}
+use Rattle.mount_opening.proofs.NewBlock.{fits_one, root_raised, always_ok, on_ok, only_one, made, made_config, fine_ok}
 use Rattle.mount_opening.proofs.making.make.Goals as goal
 
 pub empty_root-requires : goal.empty_root-requires
@@ -55,3 +56,17 @@ returns-clause-configures g c told =
     made_config (ShowsFiles (g.S.Blocks.holdings.payload c.args.store) c.args.root.0) g.S.Durable.durables g.S.Durable.records g.K.Keeper c.args.store c.sync-result.new.store _ c.sync-result.new.self d
     c.args.config.items c.sync-result.result (g.met.S.Durable.enduring.applied_trace b d c.put.new.self applied ∙ p.trace)
     (c.sync-result.ensures.configures c.args.config.items (changed.told ∙ (p.stays.told ∙ told)) present)
+
+pub returns-clause-vault_quiet : goal.returns-clause-vault_quiet
+returns-clause-vault_quiet g c = unless_directory c.sync-result.result _ _ (λ e. e ∙ (c.apply.ensures.faults ∙ c.put_config.ensures.faults)) c.sync-result.ensures.vault_quiet
+
+pub returns-clause-emptied : goal.returns-clause-emptied
+returns-clause-emptied g c = on_ok c.sync-result.result _ _ c.sync-result.ensures.whole.kept c.sync-result.ensures.ok
+
+pub returns-clause-versions : goal.returns-clause-versions
+returns-clause-versions g c =
+    let root = c.args.root.0 in
+    let bytes = c.in-Ok-empty_root.payload.items in
+    let e : c.put.new.self ≡ fin.insert fin.empty root (Some bytes) = c.in-Ok-put.ensures.ok ∙ ap (λ m. fin.insert m root (Some bytes)) c.new-batch.ensures in
+    always_ok c.sync-result.result _
+    (root_raised g.S.Blocks.meanings g.S.Blocks.holdings c.args.store c.put_config.new.self c.apply.new.self c.sync-result.new.store c.put.new.self root bytes e c.put_config.ensures.stays c.in-Ok-apply.ensures.changed c.sync-result.ensures.stays)

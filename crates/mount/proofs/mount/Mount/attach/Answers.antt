@@ -17,7 +17,8 @@ use Rattle.mount.specs.Mounts.{Unopened}
 use Rattle.mount.specs.Opening.{error_of}
 use Rattle.mount.specs.Tower.{held_in, vault_in, trace_in, tower_holdings, tower_durables}
 use Rattle.mount.proofs.Attaching.{halted_loading, halted_opening, halted_starting, Stopped, config_start, represents_kept, load_marked}
-use Rattle.mount.proofs.Reading.{loaded_unmarked, represents_of, found_is, reads_told, reads_forgeries, reads_lies}
+use Rattle.mount.proofs.Quiet.{err_same, ok_err, stopped_forgeries}
+use Rattle.mount.proofs.Reading.{loaded_unmarked, are_known, represents_of, found_is, reads_told, reads_forgeries, reads_lies}
 use Rattle.mount.proofs.mount.Mount.attach.Goals as goal
 
 not_false : (b : Bool) → not b ≡ false → b ≡ true
@@ -31,6 +32,7 @@ empty_list (x ∷ xs) n e l = let z : n ≡ 0 = eqb-true n 0 e in absurd (omega 
 pub returns-in-Err-clause-halted : goal.returns-in-Err-clause-halted
 returns-in-Err-clause-halted g c =
     halted_loading ShowsFiles g.V.Vault.trace g.V.Vault.faults g.K.Keeper c.args.password.now c.args.vault c.args.keeper c.load_record.new.keeper c.in-Err.error c.in-Err.ensures.err c.load_record.ensures.kept c.load_record.ensures.grows
+    (λ n. c.in-Err.ensures.quiet (λ e. n (err_same e)))
 
 pub returns-in-Err-clause-marked : goal.returns-in-Err-clause-marked
 returns-in-Err-clause-marked g c marked =
@@ -40,7 +42,7 @@ pub returns-in-Err-open_store-clause-halted : goal.returns-in-Err-open_store-cla
 returns-in-Err-open_store-clause-halted g c =
     let u = c.in-Err-open_store.ensures in
     halted_opening ShowsFiles g.V.Vault.trace g.V.Vault.faults g.K.Keeper c.args.password.now c.args.vault c.args.keeper (plain_state c.in-Ok.loaded.state) (list_of c.in-Ok.loaded.list.items) c.in-Err-open_store.unread.vault c.load_record.new.keeper c.in-Err-open_store.unread.error c.in-Ok.ensures.ok u.err u.err_reads u.err_faults
-    c.load_record.ensures.kept c.load_record.ensures.grows
+    u.err_quiet c.load_record.ensures.kept (c.in-Ok.ensures.quiet (λ e. ok_err c.in-Ok.loaded _ e))
 
 pub returns-in-Err-open_store-clause-marked : goal.returns-in-Err-open_store-clause-marked
 returns-in-Err-open_store-clause-marked g c marked = absurd (loaded_unmarked (g.K.Keeper.kept c.args.keeper) (plain_state c.in-Ok.loaded.state) (list_of c.in-Ok.loaded.list.items) c.in-Ok.ensures.ok marked)
@@ -117,6 +119,12 @@ returns-in-Ok-start-clause-lies g c =
     let t0 = g.V.Vault.trace c.args.vault in
     subst (λ n. count_told is_lie t0 ≤ n) (sym c.in-Ok-start.ensures.lies) (reads_lies t0 (trace_in g.V.Vault.trace c.in-Ok-open_store.opening.store) c.in-Ok-open_store.ensures.reads)
 
+pub returns-in-Ok-start-clause-vault_quiet : goal.returns-in-Ok-start-clause-vault_quiet
+returns-in-Ok-start-clause-vault_quiet g c = c.in-Ok-start.ensures.vault_quiet ∙ c.in-Ok-open_store.ensures.faults
+
+pub returns-in-Ok-start-clause-keeper_quiet : goal.returns-in-Ok-start-clause-keeper_quiet
+returns-in-Ok-start-clause-keeper_quiet g c = c.in-Ok-start.ensures.keeper_quiet ∙ c.in-Ok.ensures.quiet (λ e. ok_err c.in-Ok.loaded _ e)
+
 pub returns-in-Err-start-clause-marked : goal.returns-in-Err-start-clause-marked
 returns-in-Err-start-clause-marked g c marked = absurd (loaded_unmarked (g.K.Keeper.kept c.args.keeper) (plain_state c.in-Ok.loaded.state) (list_of c.in-Ok.loaded.list.items) c.in-Ok.ensures.ok marked)
 
@@ -149,11 +157,19 @@ returns-in-Err-start-clause-halted g c =
       configures = λ bytes told k.
           h.configures bytes (reads_told t0 read o.reads ∙ told)
           (config_start kept ((tower_durables g.V.Vault.trace).record_of opening.store true) state list t0 read bytes l o.reads o.record_of k);
+      forgeries = λ opens size. stopped_forgeries g.V.Vault.trace opens size opening.store c.in-Err-start.unstarted.store h.stops;
       vault_first = o.faults;
       vault_grows = h.vault_grows;
-      keeper_first = c.load_record.ensures.grows;
+      vault_quiet = h.vault_quiet;
+      keeper_first = c.in-Ok.ensures.quiet (λ e. ok_err c.in-Ok.loaded _ e);
       keeper_grows = h.keeper_grows;
+      keeper_quiet = h.keeper_quiet;
     } in
     subst (λ e. Unopened ShowsFiles g.V.Vault.trace g.V.Vault.faults g.K.Keeper c.args.password.now c.args.vault c.args.keeper (record { error = e; vault = c.into_vault.result; keeper = last })) (sym c.open_error.ensures)
     (subst (λ v. Unopened ShowsFiles g.V.Vault.trace g.V.Vault.faults g.K.Keeper c.args.password.now c.args.vault c.args.keeper (record { error = error_of error; vault = v; keeper = last })) (sym c.into_vault.ensures.vault)
     (halted_starting ShowsFiles g.V.Vault.trace g.V.Vault.faults g.K.Keeper c.args.password.now c.args.vault c.args.keeper state list opening.opened read (g.V.Vault.faults (vault_in opening.store)) (g.K.Keeper.faults c.load_record.new.keeper) u last error stopped))
+
+pub returns-in-Ok-start-clause-versions : goal.returns-in-Ok-start-clause-versions
+returns-in-Ok-start-clause-versions g c =
+    are_known (g.K.Keeper.kept c.args.keeper) (plain_state c.in-Ok.loaded.state) (list_of c.in-Ok.loaded.list.items) ((tower_holdings g.V.Vault.trace).version c.in-Ok-start.core.blobs.tx.store) c.in-Ok.ensures.ok
+    (λ id. c.in-Ok-start.ensures.stays.version id ∙ c.in-Ok-open_store.ensures.version id)

@@ -1,4 +1,4 @@
-use Rattle.std.proofs.Common.{◌-◌, sym, ◌∙◌, ap, subst}
+use Rattle.std.proofs.Common.{◌≡◌, ◌-◌, sym, ◌∙◌, ap, subst}
 use Rattle.aes_gcm.specs.Gcm.{opened_of}
 use Rattle.outside.specs.Going.{GoesOn}
 use Rattle.outside.specs.Honest.{is_lie, count_told}
@@ -8,8 +8,9 @@ use Rattle.integrity_store.specs.Standing.{records}
 use Rattle.config_file.specs.Settings.{settings_of}
 use Rattle.tree_commands.specs.Showing.{ShowsFiles}
 use Rattle.mount_core.specs.Configuring.{ConfigClosed}
+use Rattle.session_saver.specs.Saving.{UnlessDirectory}
 use Rattle.mount.specs.Mounts.{Closed}
-use Rattle.mount.specs.Tower.{trace_in}
+use Rattle.mount.specs.Tower.{trace_in, tower_meanings}
 use Rattle.mount.proofs.Standing.{closed, emptied_on}
 use Rattle.mount.proofs.mount.Mount.close.Goals as goal
 
@@ -47,3 +48,9 @@ returns-clause-forgeries g c =
 
 pub returns-clause-lies : goal.returns-clause-lies
 returns-clause-lies g c = ap (count_told is_lie) c.into_vault.ensures.trace ∙ c.close-result.ensures.lies
+
+pub returns-clause-vault_quiet : goal.returns-clause-vault_quiet
+returns-clause-vault_quiet g c =
+    let V = g.V.Vault in
+    let z = c.close-result in
+    subst (λ v. UnlessDirectory z.result.0 (V.faults v ≡ (tower_meanings V.trace V.faults).faults c.args.self.core.blobs.tx.store)) (sym c.into_vault.ensures.vault) z.ensures.vault_quiet

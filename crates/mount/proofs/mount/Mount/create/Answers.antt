@@ -1,19 +1,23 @@
-use Rattle.std.proofs.Common.{◌≡◌, ◌⊎◌, ◌≤◌, ◌-◌, refl, sym, ◌∙◌, ap, subst, inl, inr}
-use Rattle.std.specs.Prelude.{is_some}
-use Rattle.std.specs.declared.option.Option.TheVariants.{None}
+use Rattle.std.proofs.Common.{◌≡◌, ◌⊎◌, ◌≤◌, ◌-◌, false, refl, sym, ◌∙◌, ap, subst, inl, inr}
+use Rattle.std.specs.Prelude.{is_some, OnOk}
+use Rattle.std.specs.declared.option.Option.TheVariants.{None, Some}
+use Rattle.std.specs.declared.result.Result.TheVariants.{Err}
+use Rattle.session_saver.specs.Saving.{UnlessDirectory, UnlessState}
 use Rattle.outside.specs.Going.{GoesOn}
 use Rattle.outside.specs.Trace.{At, adds, got, config}
 use Rattle.store_api.specs.Durables.{Identity, last_told}
 use Rattle.config_file.proofs.Waiting.{form_waits}
-use Rattle.config_file.specs.Settings.{settings_of}
+use Rattle.config_file.specs.Settings.{Settings, settings_of}
 use Rattle.tree_commands.specs.Showing.{ShowsFiles}
 use Rattle.mount.specs.declared.draws.Draws.{Draws}
 use Rattle.mount.specs.Drawing.{drawn}
 use Rattle.mount.specs.Opening.{error_of}
-use Rattle.mount.specs.Making.{CreateCause, IsMade, IsUnchanged, new_settings, sealed_file}
+use Rattle.mount.specs.Making.{CreateCause, IsMade, IsUnchanged, KnowsOnly, new_settings, sealed_file}
 use Rattle.mount.specs.Representing.{HasEmptyList}
-use Rattle.mount.specs.Tower.{sealed_held}
-use Rattle.mount.proofs.Creating.{free_root, made_ok, made_err, make_cause, opens_sealed}
+use Rattle.mount_opening.specs.Opening.{OnlyRootRaised}
+use Rattle.mount.specs.Tower.{sealed_held, sealed_holdings, sealed_durables}
+use Rattle.mount.proofs.Creating.{free_root, knows_only, made_ok, made_err, make_cause, opens_sealed}
+use Rattle.mount.proofs.Quiet.{ok_err, start_directory, start_state}
 use Rattle.mount.proofs.Reading.{reads_told, reads_last}
 use Rattle.mount.proofs.mount.Mount.create.Goals as goal
 
@@ -131,3 +135,44 @@ pub returns-in-Err-result-clause-opens : goal.returns-in-Err-result-clause-opens
 returns-in-Err-result-clause-opens g c =
     inl (opens_sealed c.args.password.now c.args.params.now c.args.block_size c.draw-draws.result _ _ c.in-Ok-seal_config.file.items
     c.config_from-config.ensures.settings c.draw-draws.ensures.draws c.in-Ok-seal_config.ensures.text c.in-Ok-seal_config.ensures.opens)
+
+pub returns-in-Ok-result-clause-vault_quiet : goal.returns-in-Ok-result-clause-vault_quiet
+returns-in-Ok-result-clause-vault_quiet g c n =
+    let faults = g.V.Vault.faults in
+    let made = subst (λ r. UnlessDirectory r (faults c.make-result.result.1.sealed.vault.vault ≡ faults c.new_store-store.result.sealed.vault.vault)) c.in-Ok-result.is c.make-result.ensures.vault_quiet in
+    ap faults c.into_vault.ensures.vault ∙ (made ∙ (c.new_store-store.ensures.few ∙ c.in-Ok.ensures.vault_quiet (λ e. ok_err tt _ e)))
+
+pub returns-in-Ok-result-clause-keeper_quiet : goal.returns-in-Ok-result-clause-keeper_quiet
+returns-in-Ok-result-clause-keeper_quiet g c n =
+    let faults = g.K.Keeper.faults in
+    let made = subst (λ r. UnlessState r (faults c.make-result.result.2 ≡ faults c.ask_absent.new.keeper)) c.in-Ok-result.is c.make-result.ensures.keeper_quiet in
+    made ∙ c.in-Ok.ensures.keeper_quiet (λ e. ok_err tt _ e)
+
+pub returns-in-Err-result-clause-vault_quiet : goal.returns-in-Err-result-clause-vault_quiet
+returns-in-Err-result-clause-vault_quiet g c n =
+    let faults = g.V.Vault.faults in
+    let same = faults c.make-result.result.1.sealed.vault.vault ≡ faults c.new_store-store.result.sealed.vault.vault in
+    let made = subst (λ r. UnlessDirectory r same) c.in-Err-result.is c.make-result.ensures.vault_quiet in
+    ap faults c.into_vault-in-Err-result.ensures.vault
+    ∙ (start_directory c.in-Err-result.error same made (λ e. n (ap Err (c.open_error.ensures ∙ e))) ∙ (c.new_store-store.ensures.few ∙ c.in-Ok.ensures.vault_quiet (λ e. ok_err tt _ e)))
+
+pub returns-in-Err-result-clause-keeper_quiet : goal.returns-in-Err-result-clause-keeper_quiet
+returns-in-Err-result-clause-keeper_quiet g c n =
+    let faults = g.K.Keeper.faults in
+    let same = faults c.make-result.result.2 ≡ faults c.ask_absent.new.keeper in
+    let made = subst (λ r. UnlessState r same) c.in-Err-result.is c.make-result.ensures.keeper_quiet in
+    start_state c.in-Err-result.error same made (λ e. n (ap Err (c.open_error.ensures ∙ e))) ∙ c.in-Ok.ensures.keeper_quiet (λ e. ok_err tt _ e)
+
+pub returns-in-Ok-result-clause-versions : goal.returns-in-Ok-result-clause-versions
+returns-in-Ok-result-clause-versions g c =
+    let V = g.V.Vault in
+    let y = c.make-result.ensures in
+    let before = c.new_store-store.result in
+    let after = c.make-result.result.1 in
+    let last = c.make-result.result.2 in
+    let config = c.config_from-config.result in
+    let settings = c.config_from-config.ensures.settings ∙ ap (λ d. new_settings c.args.block_size d) c.draw-draws.ensures.draws in
+    let emptied = subst (λ r. OnOk r (g.K.Keeper.kept last ≡ Some ((sealed_durables V.trace).record_of after false))) c.in-Ok-result.is y.emptied in
+    let raised = subst (λ r. OnOk r (OnlyRootRaised (sealed_holdings V.trace) before after config.root.0)) c.in-Ok-result.is y.versions in
+    subst (KnowsOnly (g.K.Keeper.kept last)) (ap (λ (s : Settings). s.root) settings)
+    (knows_only V.trace V.faults before after (g.K.Keeper.kept last) config.root.0 c.new_store-store.ensures.intact c.new_store-store.ensures.unused y.intact emptied raised)

@@ -2,13 +2,17 @@ use Rattle.std.proofs.Common.{◌≡◌, ◌≤◌, sym, ◌∙◌, ap, subst, f
 use Rattle.fs_model.specs.Tree.{Tree}
 use Rattle.store_api.specs.declared.tx.Tx.{Tx}
 use Rattle.tree_commands.specs.Showing.{ShowsFiles}
+use Rattle.tree_commands.specs.Sparing.{OnWriteInside}
 use Rattle.mount_core.specs.declared.body.Core.{Core}
-use Rattle.answers.specs.Sessions.{is_violation}
+use Rattle.answers.specs.Sessions.{is_violation, directory_faults, state_faults}
 use Rattle.mount_core.specs.Causes.{SpentCause}
+use Rattle.mount_core.specs.Sparing.{FewRaised}
 use Rattle.mount_core.specs.Configuring.{ConfigAnswered}
 use Rattle.mount_core.specs.Standing.{Roomed, Answered}
-use Rattle.mount_core.proofs.Lines.{answered_err, answered_synced, answered_performed, answered_violation, roomed_on, no_violation, spent_on, config_marked, config_calm, marked_or}
+use Rattle.mount_core.proofs.Lines.{answered_err, answered_synced, answered_performed, answered_violation, roomed_on, stays_on, no_violation, spent_on, config_marked, config_calm, marked_or, true_is_false}
+use Rattle.mount_core.proofs.Versions.{Raised, raised_stays, raised_on, few_stays, few_on, always_inside, on_inside, spent_before}
 use Rattle.outside.specs.Going.{GoesOn, goes_on_onward}
+use Rattle.mount_core.proofs.Quiet.{sync_directory, sync_state}
 use Rattle.mount_core.proofs.body.Core.answer.Given.{Over}
 use Rattle.mount_core.proofs.body.Core.answer.Goals as goal
 
@@ -105,4 +109,118 @@ pub returns-in_default-clause-spent : goal.returns-in_default-clause-spent
 returns-in_default-clause-spent g c =
     let stays = c.make_room.ensures.stays in
     spent_on c.ask-answer.result (SpentCause g.S.Blocks.holdings c.make_room.new.self.blobs.tx.store c.args.command.now) (SpentCause g.S.Blocks.holdings c.args.self.now.blobs.tx.store c.args.command.now)
-    (λ p. record { changes = p.changes; id = p.id; live = sym (stays.ids p.id) ∙ p.live; spent = sym (stays.spent p.id) ∙ p.spent }) c.ask-answer.ensures.spent
+    (spent_before g.S.Blocks.holdings c.args.self.now.blobs.tx.store c.make_room.new.self.blobs.tx.store c.args.command.now stays) c.ask-answer.ensures.spent
+
+pub returns-in-Err-clause-raised : goal.returns-in-Err-clause-raised
+returns-in-Err-clause-raised g c = raised_stays g.S.Blocks.holdings c.args.self.now.blobs.tx.store c.make_room.new.self.blobs.tx.store c.make_room.ensures.stays
+
+pub returns-in-Ok-sync-clause-raised : goal.returns-in-Ok-sync-clause-raised
+returns-in-Ok-sync-clause-raised g c =
+    raised_on g.S.Blocks.holdings c.args.self.now.blobs.tx.store c.make_room.new.self.blobs.tx.store c.sync.new.self.blobs.tx.store c.make_room.ensures.stays
+    (raised_stays g.S.Blocks.holdings c.make_room.new.self.blobs.tx.store c.sync.new.self.blobs.tx.store c.sync.ensures.stays)
+
+pub returns-in-Err-sync-clause-raised : goal.returns-in-Err-sync-clause-raised
+returns-in-Err-sync-clause-raised g c =
+    raised_on g.S.Blocks.holdings c.args.self.now.blobs.tx.store c.make_room.new.self.blobs.tx.store c.sync.new.self.blobs.tx.store c.make_room.ensures.stays
+    (raised_stays g.S.Blocks.holdings c.make_room.new.self.blobs.tx.store c.sync.new.self.blobs.tx.store c.sync.ensures.stays)
+
+pub returns-in-Violation-clause-raised : goal.returns-in-Violation-clause-raised
+returns-in-Violation-clause-raised g c =
+    subst (λ (t : Tx g.row.S.Denot). Raised g.S.Blocks.holdings c.args.self.now.blobs.tx.store t.store) (sym c.mark.ensures.store)
+    (raised_on g.S.Blocks.holdings c.args.self.now.blobs.tx.store c.make_room.new.self.blobs.tx.store c.ask-answer.new.self.blobs.tx.store c.make_room.ensures.stays c.ask-answer.ensures.raised)
+
+pub returns-in_default-clause-raised : goal.returns-in_default-clause-raised
+returns-in_default-clause-raised g c =
+    raised_on g.S.Blocks.holdings c.args.self.now.blobs.tx.store c.make_room.new.self.blobs.tx.store c.ask-answer.new.self.blobs.tx.store c.make_room.ensures.stays c.ask-answer.ensures.raised
+
+pub returns-in-Err-clause-sparing : goal.returns-in-Err-clause-sparing
+returns-in-Err-clause-sparing g c kept present s few =
+    let H = g.S.Blocks.holdings in
+    let old = c.args.self.now.blobs.tx.store in
+    let new = c.make_room.new.self.blobs.tx.store in
+    always_inside (H.payload old) present c.args.command.now (FewRaised H old new) (λ most. few_stays H old new most c.make_room.ensures.stays)
+
+pub returns-in-Ok-sync-clause-sparing : goal.returns-in-Ok-sync-clause-sparing
+returns-in-Ok-sync-clause-sparing g c kept present s few =
+    let H = g.S.Blocks.holdings in
+    let old = c.args.self.now.blobs.tx.store in
+    let new = c.sync.new.self.blobs.tx.store in
+    always_inside (H.payload old) present c.args.command.now (FewRaised H old new) (λ most. few_stays H old new most (stays_on H old c.make_room.new.self.blobs.tx.store new c.make_room.ensures.stays c.sync.ensures.stays))
+
+pub returns-in-Err-sync-clause-sparing : goal.returns-in-Err-sync-clause-sparing
+returns-in-Err-sync-clause-sparing g c kept present s few =
+    let H = g.S.Blocks.holdings in
+    let old = c.args.self.now.blobs.tx.store in
+    let new = c.sync.new.self.blobs.tx.store in
+    always_inside (H.payload old) present c.args.command.now (FewRaised H old new) (λ most. few_stays H old new most (stays_on H old c.make_room.new.self.blobs.tx.store new c.make_room.ensures.stays c.sync.ensures.stays))
+
+pub returns-in-Violation-clause-sparing : goal.returns-in-Violation-clause-sparing
+returns-in-Violation-clause-sparing g c kept present s few =
+    let H = g.S.Blocks.holdings in
+    let old = c.args.self.now.blobs.tx.store in
+    let room = c.make_room.new.self.blobs.tx.store in
+    let new = c.ask-answer.new.self.blobs.tx.store in
+    let unforged : g.S.Blocks.meanings.forgeries new ≤ g.S.Blocks.meanings.forgeries room =
+    omega (arith, ap (λ (t : Tx g.row.S.Denot). g.S.Blocks.meanings.forgeries t.store) c.mark.ensures.store, c.make_room.ensures.forgeries, few) in
+    subst (λ (t : Tx g.row.S.Denot). OnWriteInside (H.payload old) present c.args.command.now (FewRaised H old t.store)) (sym c.mark.ensures.store)
+    (on_inside (H.payload old) present c.args.command.now (FewRaised H room new) (FewRaised H old new) (λ most raised. few_on H old room new most c.make_room.ensures.stays raised)
+    (subst (λ n. OnWriteInside n present c.args.command.now (FewRaised H room new)) c.make_room.ensures.payload
+    (elim (c.make_room.ensures.stands kept present s) [ inl m ↦ c.ask-answer.ensures.sparing kept present m unforged | inr m ↦ c.ask-answer.ensures.sparing present present m unforged ])))
+
+pub returns-in_default-clause-sparing : goal.returns-in_default-clause-sparing
+returns-in_default-clause-sparing g c kept present s few =
+    let H = g.S.Blocks.holdings in
+    let old = c.args.self.now.blobs.tx.store in
+    let room = c.make_room.new.self.blobs.tx.store in
+    let new = c.ask-answer.new.self.blobs.tx.store in
+    let unforged : g.S.Blocks.meanings.forgeries new ≤ g.S.Blocks.meanings.forgeries room = omega (arith, c.make_room.ensures.forgeries, few) in
+    on_inside (H.payload old) present c.args.command.now (FewRaised H room new) (FewRaised H old new) (λ most raised. few_on H old room new most c.make_room.ensures.stays raised)
+    (subst (λ n. OnWriteInside n present c.args.command.now (FewRaised H room new)) c.make_room.ensures.payload
+    (elim (c.make_room.ensures.stands kept present s) [ inl m ↦ c.ask-answer.ensures.sparing kept present m unforged | inr m ↦ c.ask-answer.ensures.sparing present present m unforged ]))
+
+pub returns-in-Err-clause-vault_quiet : goal.returns-in-Err-clause-vault_quiet
+returns-in-Err-clause-vault_quiet g c none = sync_directory c.in-Err.error _ c.in-Err.ensures.vault_quiet (subst (λ a. directory_faults a ≡ 0) c.sync_answer.ensures none)
+
+pub returns-in-Err-clause-keeper_quiet : goal.returns-in-Err-clause-keeper_quiet
+returns-in-Err-clause-keeper_quiet g c none calm = sync_state c.in-Err.error _ c.in-Err.ensures.keeper_quiet (subst (λ a. state_faults a ≡ 0) c.sync_answer.ensures none)
+
+pub returns-in-Ok-sync-clause-vault_quiet : goal.returns-in-Ok-sync-clause-vault_quiet
+returns-in-Ok-sync-clause-vault_quiet g c none = c.in-Ok-sync.ensures.vault_quiet ∙ c.in-Ok.ensures.vault_quiet
+
+pub returns-in-Ok-sync-clause-keeper_quiet : goal.returns-in-Ok-sync-clause-keeper_quiet
+returns-in-Ok-sync-clause-keeper_quiet g c none calm = c.in-Ok-sync.ensures.keeper_quiet ∙ c.in-Ok.ensures.keeper_quiet
+
+pub returns-in-Err-sync-clause-vault_quiet : goal.returns-in-Err-sync-clause-vault_quiet
+returns-in-Err-sync-clause-vault_quiet g c none =
+    sync_directory c.in-Err-sync.error _ c.in-Err-sync.ensures.vault_quiet (subst (λ a. directory_faults a ≡ 0) c.sync_answer-in-Err-sync.ensures none) ∙ c.in-Ok.ensures.vault_quiet
+
+pub returns-in-Err-sync-clause-keeper_quiet : goal.returns-in-Err-sync-clause-keeper_quiet
+returns-in-Err-sync-clause-keeper_quiet g c none calm =
+    sync_state c.in-Err-sync.error _ c.in-Err-sync.ensures.keeper_quiet (subst (λ a. state_faults a ≡ 0) c.sync_answer-in-Err-sync.ensures none) ∙ c.in-Ok.ensures.keeper_quiet
+
+pub returns-in-Violation-clause-vault_quiet : goal.returns-in-Violation-clause-vault_quiet
+returns-in-Violation-clause-vault_quiet g c none =
+    ap (λ (t : Tx g.row.S.Denot). g.S.Blocks.meanings.faults t.store) c.mark.ensures.store ∙ (c.ask-answer.ensures.vault_quiet none ∙ c.in-Ok.ensures.vault_quiet)
+
+pub returns-in-Violation-clause-keeper_quiet : goal.returns-in-Violation-clause-keeper_quiet
+returns-in-Violation-clause-keeper_quiet g c none calm = absurd (true_is_false (subst (λ a. is_violation a ≡ false) c.in-Violation.is calm))
+
+pub returns-in_default-clause-vault_quiet : goal.returns-in_default-clause-vault_quiet
+returns-in_default-clause-vault_quiet g c none = c.ask-answer.ensures.vault_quiet none ∙ c.in-Ok.ensures.vault_quiet
+
+pub returns-in_default-clause-keeper_quiet : goal.returns-in_default-clause-keeper_quiet
+returns-in_default-clause-keeper_quiet g c none calm = ap g.K.Keeper.faults c.ask-answer.ensures.keeper ∙ c.in-Ok.ensures.keeper_quiet
+
+pub returns-in-Violation-clause-unforged : goal.returns-in-Violation-clause-unforged
+returns-in-Violation-clause-unforged g c sound honest =
+    let M = g.S.Blocks.meanings in
+    let r = c.make_room.ensures in
+    let few : M.lies c.ask-answer.new.self.blobs.tx.store ≤ M.lies c.make_room.new.self.blobs.tx.store = omega (arith, ap (λ (t : Tx g.row.S.Denot). M.lies t.store) c.mark.ensures.store, r.lies, honest) in
+    omega (arith, ap (λ (t : Tx g.row.S.Denot). M.forgeries t.store) c.mark.ensures.store, r.forgeries, c.ask-answer.ensures.unforged (r.sound sound) few)
+
+pub returns-in_default-clause-unforged : goal.returns-in_default-clause-unforged
+returns-in_default-clause-unforged g c sound honest =
+    let M = g.S.Blocks.meanings in
+    let r = c.make_room.ensures in
+    let few : M.lies c.ask-answer.new.self.blobs.tx.store ≤ M.lies c.make_room.new.self.blobs.tx.store = omega (arith, r.lies, honest) in
+    omega (arith, r.forgeries, c.ask-answer.ensures.unforged (r.sound sound) few)

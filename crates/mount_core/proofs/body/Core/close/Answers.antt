@@ -1,6 +1,8 @@
-use Rattle.std.proofs.Common.{◌≡◌, true, false, sym, ◌∙◌, ap}
+use Rattle.std.proofs.Common.{◌≡◌, true, false, refl, sym, ◌∙◌, ap}
+use Rattle.std.specs.declared.result.Result.TheVariants.{Ok}
 use Rattle.tree_commands.specs.Showing.{ShowsFiles}
 use Rattle.mount_core.proofs.Lines.{closed_along, config_closed_along}
+use Rattle.mount_core.proofs.Quiet.{directory_along, state_along}
 use Rattle.mount_core.proofs.body.Core.close.Goals as goal
 use Rattle.mount_core.proofs.body.Core.close.Goals.{then-core, else-core}
 
@@ -22,4 +24,26 @@ returns-clause-configures g c may now v s =
       | else-core w ↦
           let z = w.sync-result in
           config_closed_along ShowsFiles g.S.Blocks.meanings g.S.Blocks.holdings g.S.Durable.durables g.S.Durable.records g.K.Keeper z.new.self c.if-core.core c.into_store.result may now z.result c.if-core.result w.core-is w.result-is c.into_store.ensures (z.ensures.configures may now s)
+    ]
+
+pub returns-clause-vault_quiet : goal.returns-clause-vault_quiet
+returns-clause-vault_quiet g c =
+    let faults = g.S.Blocks.meanings.faults in
+    let failed = g.K.Keeper.faults in
+    elim c.if-core.branch [
+      | then-core w ↦ directory_along faults failed c.args.self c.if-core.core c.into_store.result c.args.self.blobs.tx.store (Ok tt) c.if-core.result w.core-is w.result-is c.into_store.ensures refl
+      | else-core w ↦
+          let z = w.sync-result in
+          directory_along faults failed z.new.self c.if-core.core c.into_store.result c.args.self.blobs.tx.store z.result c.if-core.result w.core-is w.result-is c.into_store.ensures z.ensures.vault_quiet
+    ]
+
+pub returns-clause-keeper_quiet : goal.returns-clause-keeper_quiet
+returns-clause-keeper_quiet g c =
+    let faults = g.S.Blocks.meanings.faults in
+    let failed = g.K.Keeper.faults in
+    elim c.if-core.branch [
+      | then-core w ↦ state_along faults failed c.args.self c.if-core.core c.args.self.saver.keeper (Ok tt) c.if-core.result w.core-is w.result-is refl
+      | else-core w ↦
+          let z = w.sync-result in
+          state_along faults failed z.new.self c.if-core.core c.args.self.saver.keeper z.result c.if-core.result w.core-is w.result-is z.ensures.keeper_quiet
     ]

@@ -3,6 +3,7 @@ use Rattle.tree_commands.specs.Showing.{ShowsFiles}
 use Rattle.tree_commands.proofs.Shows.{files_same}
 use Rattle.mount_core.specs.declared.body.Core.{Core}
 use Rattle.mount_core.proofs.Lines.{replaced, stands_loaded, stands_waiting, config_waiting, configures_loaded}
+use Rattle.mount_core.proofs.Quiet.{unless_directory}
 use Rattle.mount_core.proofs.body.Core.replace_config.Given.{Over}
 use Rattle.mount_core.proofs.body.Core.replace_config.Goals as goal
 
@@ -42,3 +43,6 @@ returns-clause-stands g c kept now s =
 
 pub returns-clause-holds : goal.returns-clause-holds
 returns-clause-holds g c told = c.sync.ensures.holds c.args.bytes.items (c.put_config.ensures.stays.told ∙ told) c.in-Ok.ensures.configures
+
+pub returns-clause-vault_quiet : goal.returns-clause-vault_quiet
+returns-clause-vault_quiet g c = unless_directory c.sync.result _ _ (λ e. e ∙ c.put_config.ensures.faults) c.sync.ensures.vault_quiet

@@ -13,6 +13,7 @@ use Rattle.answers.specs.Sessions.{IsError}
 use Rattle.fs_model.specs.Step.{Stepped}
 use Rattle.mount_core.specs.Standing.{Asked, Stands}
 use Rattle.mount_core.proofs.Lines.{performed_same, stands_on, over_none, none_of, looks_next, error_next, spent_live, true_is_false}
+use Rattle.mount_core.proofs.Versions.{raised_same}
 use Rattle.mount_core.proofs.body.Core.settle.Given.{Over}
 use Rattle.mount_core.proofs.body.Core.settle.Goals as goal
 use Rattle.mount_core.proofs.body.Core.settle.Goals.{then-only_looks-via-then-only_looks, then-only_looks-via-else-only_looks+then-is_error}
@@ -90,4 +91,34 @@ pub returns-clause-spent : goal.returns-clause-spent
 returns-clause-spent g c =
     let old = c.args.self.now in
     let s = spent_live g.S.Blocks.meanings g.S.Blocks.holdings old.blobs.tx.store old.blobs.tx.overlay g.met.S.Blocks.steady c.requires.intact.0 c.requires.intact.1.fits (c.in-Err-Spent.ensures.spent (ap Err c.in-Err-Spent.field-0-is)) in
-    record { changes = λ looks. true_is_false (sym (c.only_looks.ensures.1 looks) ∙ c.if-only_looks.false); id = s.0; live = s.1; spent = s.2 }
+    record { changes = λ looks. true_is_false (sym (c.only_looks.ensures.1 looks) ∙ c.if-only_looks.false); id = s.0; live = s.1; spent = s.2; last = g.met.S.Blocks.steady.spent_last old.blobs.tx.store s.0 c.requires.intact.0 s.2 }
+
+pub returns-then-only_looks-clause-raised : goal.returns-then-only_looks-clause-raised
+returns-then-only_looks-clause-raised g c = raised_same g.S.Blocks.holdings c.args.self.now.blobs.tx.store c.abandon.new.self.store c.abandon.ensures.store
+
+pub returns-then-only_looks-clause-rests : goal.returns-then-only_looks-clause-rests
+returns-then-only_looks-clause-rests g c = λ id none. ap (λ s. g.S.Blocks.holdings.version s id) c.abandon.ensures.store
+
+pub returns-then-is_empty-clause-raised : goal.returns-then-is_empty-clause-raised
+returns-then-is_empty-clause-raised g c = raised_same g.S.Blocks.holdings c.args.self.now.blobs.tx.store c.abandon-then-is_empty.new.self.store c.abandon-then-is_empty.ensures.store
+
+pub returns-then-is_empty-clause-rests : goal.returns-then-is_empty-clause-rests
+returns-then-is_empty-clause-rests g c = λ id none. ap (λ s. g.S.Blocks.holdings.version s id) c.abandon-then-is_empty.ensures.store
+
+pub returns-in-Ok-clause-raised : goal.returns-in-Ok-clause-raised
+returns-in-Ok-clause-raised g c = c.apply.ensures.raised
+
+pub returns-in-Ok-clause-rests : goal.returns-in-Ok-clause-rests
+returns-in-Ok-clause-rests g c = c.apply.ensures.rests
+
+pub returns-in-Err-Memory-clause-raised : goal.returns-in-Err-Memory-clause-raised
+returns-in-Err-Memory-clause-raised g c = c.apply.ensures.raised
+
+pub returns-in-Err-Memory-clause-rests : goal.returns-in-Err-Memory-clause-rests
+returns-in-Err-Memory-clause-rests g c = c.apply.ensures.rests
+
+pub returns-clause-raised : goal.returns-clause-raised
+returns-clause-raised g c = c.apply.ensures.raised
+
+pub returns-clause-rests : goal.returns-clause-rests
+returns-clause-rests g c = c.apply.ensures.rests
