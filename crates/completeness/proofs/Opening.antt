@@ -29,7 +29,7 @@ use Rattle.session_saver.specs.Saving.{KeptConfigures}
 use Rattle.tree_commands.specs.Showing.{ShowsFiles}
 use Rattle.completeness.specs.Premises.{IsUntroubled, Finds, Leaves}
 use Rattle.completeness.specs.Sessions.{FindsNoMemory}
-use Rattle.completeness.proofs.Configuration.{given, given_is}
+use Rattle.completeness.proofs.Configuration.{given, given_is, opens_to}
 use Rattle.completeness.proofs.Passwords.{one_unread}
 
 -- ---- why a file system isn't opened
@@ -67,13 +67,13 @@ module _ (password : List ℕ) (kept : Option (List ℕ)) (t0 t1 : Option (List 
 -- ---- what is left then
 
 module _ {V : Type 0} {K : Type 0} (trace : V → Option (List Call)) (faults : V → ℕ) (G : KeeperGhosts K) (input output : Stream) (vault : V) (keeper : K) (ended : Ended V K)
-    (bytes : List ℕ) (c : Settings) (first : Tree) (finds : Finds input bytes c first (outside_of trace faults G vault keeper) (outside_of trace faults G ended.vault ended.keeper))
+    (bytes : List ℕ) (c : Settings) (first : Tree) (finds : Finds input bytes c first (outside_of trace faults G vault keeper))
     (quiet : IsUntroubled input output (outside_of trace faults G vault keeper) (outside_of trace faults G ended.vault ended.keeper)) where
   abbrev Left : V → K → Type 0
   Left v k = Leaves (first_line bytes) c first (outside_of trace faults G v k)
 
   pub uncalled : AreUncalled vault keeper ended → Leaves (first_line bytes) c first (outside_of trace faults G ended.vault ended.keeper)
-  uncalled u = subst (λ (v : V). Left v ended.keeper) (sym u.same_vault) (subst (λ (k : K). Left vault k) (sym u.same_keeper) (record { stands = finds.founded.stands; opens = finds.opens }))
+  uncalled u = subst (λ (v : V). Left v ended.keeper) (sym u.same_vault) (subst (λ (k : K). Left vault k) (sym u.same_keeper) (record { stands = finds.stands; opens = finds.opens }))
 
   pub unread : IsUnread (PasswordUnread input) output vault keeper ended → FindsNoMemory output (first_line bytes) c first (outside_of trace faults G ended.vault ended.keeper) ended.status
   unread u = record {
@@ -85,8 +85,9 @@ module _ {V : Type 0} {K : Type 0} (trace : V → Option (List Call)) (faults : 
   pub unopened : (error : OpenError) → IsUnopened trace faults G (first_line bytes) vault keeper ended error → Untouched output
       → FindsNoMemory output (first_line bytes) c first (outside_of trace faults G ended.vault ended.keeper) ended.status
   unopened error u unwritten =
-      let stood = u.unopened.represents c first finds.founded.stands finds.founded.unforged_config in
-      let told = represents_told ShowsFiles (G.kept keeper) (trace vault) c first finds.founded.stands in
+      let f = opens_to input output bytes c first (outside_of trace faults G vault keeper) (outside_of trace faults G ended.vault ended.keeper) finds quiet in
+      let stood = u.unopened.represents c first finds.stands f.unforged_config in
+      let told = represents_told ShowsFiles (G.kept keeper) (trace vault) c first finds.stands in
       record {
         ends = u.status ∙ wants (first_line bytes) (G.kept keeper) (trace vault) (trace ended.vault) (faults vault) (faults ended.vault) (G.faults keeper) (G.faults ended.keeper)
             c finds.opens.1 finds.opens.0 finds.opens.2 finds.opens.3 quiet.honest quiet.directory_unfailed quiet.state_unfailed error u.unopened.cause stood.1;

@@ -32,6 +32,7 @@ use Rattle.shell_sessions.specs.Statuses.{session_status}
 use Rattle.tree_commands.specs.Showing.{ShowsFiles}
 use Rattle.completeness.specs.Premises.{IsUntroubled, Finds}
 use Rattle.completeness.specs.Sessions.{IsUnfailed, AreUnfailed, IsComplete, FindsNoMemory}
+use Rattle.completeness.proofs.Configuration.{opens_to}
 use Rattle.completeness.proofs.Opening.{unread, unopened}
 use Rattle.completeness.proofs.Passwords.{password_is}
 
@@ -92,15 +93,16 @@ when_done (Err sync_error.FaultState) P p e = absurd (cc)
 -- ---- a session
 
 module _ {V : Type 0} {K : Type 0} (trace : V → Option (List Call)) (faults : V → ℕ) (G : KeeperGhosts K) (now : Instant) (input output : Stream) (vault : V) (keeper : K) (ended : Ended V K)
-    (bytes : List ℕ) (c : Settings) (first : Tree) (finds : Finds input bytes c first (outside_of trace faults G vault keeper) (outside_of trace faults G ended.vault ended.keeper))
+    (bytes : List ℕ) (c : Settings) (first : Tree) (finds : Finds input bytes c first (outside_of trace faults G vault keeper))
     (quiet : IsUntroubled input output (outside_of trace faults G vault keeper) (outside_of trace faults G ended.vault ended.keeper)) where
   abbrev After : Outside
   After = outside_of trace faults G ended.vault ended.keeper
 
   module _ (Came : End → List Exchange → Type 0) (s : IsServed trace faults G now (first_line bytes) Came vault keeper ended) (end : s.end ≡ Finished) where
-    served : IsComplete now Came (first_line bytes) c first After ended.status
+    served : IsComplete now Came (first_line bytes) c first (outside_of trace faults G vault keeper) After ended.status
     served =
-        let a = s.session.founded c first finds.founded in
+        let f = opens_to input output bytes c first (outside_of trace faults G vault keeper) After finds quiet in
+        let a = s.session.founded c first (record { opens = f; unforged = s.session.unforged c first f quiet.honest }) in
         let calm = a.no_false_alarm quiet.honest in
         let none : violated s.es ≡ false = unviolated s.es calm in
         let directory : all_directory_faults s.es + directory_fault s.closing ≡ 0 = none_rose _ _ _ s.session.directory_faults_happened quiet.directory_unfailed in
@@ -110,12 +112,13 @@ module _ {V : Type 0} {K : Type 0} (trace : V → Option (List Call)) (faults : 
           | inl marked ↦ absurd (cc (sym marked.0 ∙ none))
           | inr point ↦ point
         ] in
-        let told = represents_told ShowsFiles (G.kept keeper) (trace vault) c first finds.founded.stands in
+        let told = represents_told ShowsFiles (G.kept keeper) (trace vault) c first finds.stands in
         record {
           es = s.es;
           trees = a.trees;
           came = subst (λ e. Came e s.es) end s.came;
           replies = a.replies;
+          spent = s.session.spent;
           unfailed = all_unfailed s.es calm (omega (arith, directory)) (omega (arith, state));
           ends = subst (λ x. (x ≡ status.Done) ⊎ (x ≡ status.Memory)) (sym ends) (closed_so s.closing (omega (arith, directory)) (omega (arith, state)));
           tree = kept.0;
@@ -127,7 +130,7 @@ module _ {V : Type 0} {K : Type 0} (trace : V → Option (List Call)) (faults : 
   module _ (Comes : Stream → Stream → Option (List ℕ) → End → List Exchange → Type 0) (to_end : ComesToEnd Comes) where
     abbrev Outcome : Type 0
     Outcome = FindsNoMemory output (first_line bytes) c first After ended.status
-        ⊎ ((script : Option (List ℕ)) × IsNextPassword input.old (first_line bytes) script × IsComplete now (Comes input output script) (first_line bytes) c first After ended.status)
+        ⊎ ((script : Option (List ℕ)) × IsNextPassword input.old (first_line bytes) script × IsComplete now (Comes input output script) (first_line bytes) c first (outside_of trace faults G vault keeper) After ended.status)
 
     pub complete : Session trace faults G now (Comes input output) input output vault keeper ended → Outcome
     complete (inl u) = inl (unread trace faults G input output vault keeper ended bytes c first finds quiet u)

@@ -35,7 +35,7 @@ use Rattle.run_status.specs.declared.ended.Ended.{Ended}
 use Rattle.run_status.specs.declared.status.Status.{Status}
 use Rattle.run_status.specs.declared.status.Status.TheVariants.{Done, OutputFault}
 use Rattle.scrypt_kdf.specs.Cost.{Cost}
-use Rattle.session_runs.specs.Runs.{Outside, outside_of}
+use Rattle.session_runs.specs.Runs.{Outside, outside_of, OpensTo}
 use Rattle.session_saver.specs.declared.saver.SyncError.{SyncError}
 use Rattle.session_saver.specs.declared.saver.SyncError.TheVariants as sync_error
 use Rattle.store_api.specs.Durables.{last_told}
@@ -43,7 +43,7 @@ use Rattle.tree_commands.specs.Showing.{ShowsFiles}
 use Rattle.completeness.specs.Premises.{IsUntroubled, Finds, Leaves}
 use Rattle.completeness.specs.Sessions.{FindsNoMemory}
 use Rattle.completeness.specs.Setups.{IsDone, StaysOrChanges, StaysOrMakes, IsBare}
-use Rattle.completeness.proofs.Configuration.{given_is, none_given}
+use Rattle.completeness.proofs.Configuration.{given_is, none_given, opens_to, same_settings}
 use Rattle.completeness.proofs.Opening.{uncalled, unread, unopened}
 use Rattle.completeness.proofs.Passwords.{one_unread, two_unread, password_is, second_is}
 
@@ -56,9 +56,6 @@ lies_grow : (a b : Option (List Call)) → GoesOn a b → count_told is_lie a �
 lies_grow None b on = omega arith
 lies_grow (Some t) b on = subst (λ x. count_calls is_lie t ≤ count_told is_lie x) (sym on.1) (count_grows is_lie t on.0)
 
-same_settings : (s t : Settings) (k l : Cost) → opened s k ≡ opened t l → s ≡ t
-same_settings s t k l e = cc e
-
 same_cost : (s t : Settings) (k l : Cost) → opened s k ≡ opened t l → k ≡ l
 same_cost s t k l e = cc e
 
@@ -67,9 +64,12 @@ module _ {V : Type 0} {K : Type 0} (trace : V → Option (List Call)) (faults : 
   abbrev After : Outside
   After = outside_of trace faults G ended.vault ended.keeper
 
-  module _ (c : Settings) (tree : Tree) (finds : Finds input bytes c tree (outside_of trace faults G vault keeper) (outside_of trace faults G ended.vault ended.keeper)) where
+  module _ (c : Settings) (tree : Tree) (finds : Finds input bytes c tree (outside_of trace faults G vault keeper)) where
+    found : OpensTo ShowsFiles (first_line bytes) c tree (outside_of trace faults G vault keeper) After
+    found = opens_to input output bytes c tree (outside_of trace faults G vault keeper) After finds quiet
+
     told : is_some (trace vault) ≡ true
-    told = represents_told ShowsFiles (G.kept keeper) (trace vault) c tree finds.founded.stands
+    told = represents_told ShowsFiles (G.kept keeper) (trace vault) c tree finds.stands
 
     not_opened : (error : OpenError) (password : List ℕ) → password ≡ first_line bytes → IsUnopened trace faults G password vault keeper ended error → (output.new ≡ output.old) × (output.risen ≡ output.faults)
         → FindsNoMemory output (first_line bytes) c tree After ended.status
@@ -94,7 +94,7 @@ module _ {V : Type 0} {K : Type 0} (trace : V → Option (List Call)) (faults : 
           record {
             ends = p.0;
             written = p.1 ∙ ap (appends output.old) (λ i. info_text (settings i) (cost i));
-            leaves = record { stands = t.quiet.stands c tree finds.founded; opens = t.opens (first_line bytes) c told finds.opens };
+            leaves = record { stands = t.quiet.stands c tree found; opens = t.opens (first_line bytes) c told finds.opens };
             emptied = record { state = t.attached.state; has_record = listed_has t.attached.state t.attached.list false t.attached.loaded.has_record; kept = t.attached.kept };
           }
 
@@ -117,8 +117,8 @@ module _ {V : Type 0} {K : Type 0} (trace : V → Option (List Call)) (faults : 
 
         changed : NewOpens (second_line bytes) file s.o After → Leaves (second_line bytes) c tree After
         changed n = record {
-          stands = s.quiet.stands c tree finds.founded;
-          opens = (file, s.o.params, n.holds, subst (λ x. ConfigOf (second_line bytes) file (opened x s.o.params)) (s.config c tree finds.founded) ((n.opens (opened (settings_of s.o.config) s.o.params)).1 refl));
+          stands = s.quiet.stands c tree found;
+          opens = (file, s.o.params, n.holds, subst (λ x. ConfigOf (second_line bytes) file (opened x s.o.params)) (s.config c tree found) ((n.opens (opened (settings_of s.o.config) s.o.params)).1 refl));
         }
 
         by_change : (change : Result Unit SyncError) → PasswdReports change output ended.status → OnOk change (NewOpens (second_line bytes) file s.o After) → OnOk change (HasEmptyList (G.kept ended.keeper)) → PasswdEnd
@@ -130,7 +130,7 @@ module _ {V : Type 0} {K : Type 0} (trace : V → Option (List Call)) (faults : 
               ends = reports.0;
               unwritten = reports.1;
               leaves = elim (s.stays finds.opens.0 told finds.opens.2) as (λ _. Leaves (first_line bytes) c tree After ⊎ Leaves (second_line bytes) c tree After) [
-                | inl k ↦ inl (record { stands = s.quiet.stands c tree finds.founded; opens = (finds.opens.0, finds.opens.1, k, finds.opens.3) })
+                | inl k ↦ inl (record { stands = s.quiet.stands c tree found; opens = (finds.opens.0, finds.opens.1, k, finds.opens.3) })
                 | inr n ↦ inr (changed n)
               ];
             })

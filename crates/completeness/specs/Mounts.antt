@@ -1,16 +1,18 @@
 -- What a mount answers where nothing lies and nothing fails.
-use Rattle.std.specs.Prelude.{◌≡◌, ◌⊎◌, ◌≤◌, ℕ, Bool, true, false, List}
+use Rattle.std.specs.Prelude.{◌≡◌, ◌⊎◌, ◌≤◌, ℕ, Bool, true, false, List, IfOk}
 use Rattle.std.specs.declared.option.Option.{Option}
 use Rattle.answers.specs.Sessions.{Asked, FollowsAsked, is_synced}
 use Rattle.answers.specs.declared.answer.Answer.{Answer}
 use Rattle.fs_model.specs.Instant.{Instant}
 use Rattle.fs_model.specs.Tree.{Tree}
-use Rattle.mount.specs.Tower.{TowerStands}
+use Rattle.mount.specs.Tower.{tower_holdings, TowerStands}
+use Rattle.mount_core.specs.Answers.{OnSpent}
+use Rattle.mount_core.specs.Causes.{SpentCause}
 use Rattle.mount.specs.declared.mount.Mount.{Mount}
 use Rattle.outside.specs.Causes.{RoseBy}
 use Rattle.outside.specs.Trace.{Call}
 use Rattle.outside.specs.declared.keeper.Keeper.{Ghosts as KeeperGhosts}
-use Rattle.session_runs.specs.Answering.{MountAnswers, forgeries_of, lies_of, vault_faults, keeper_faults}
+use Rattle.session_runs.specs.Answering.{MountAnswers, store_of, lies_of, vault_faults, keeper_faults}
 use Rattle.tree_commands.specs.Showing.{ShowsFiles}
 use Rattle.completeness.specs.Sessions.{IsUnfailed}
 
@@ -19,10 +21,9 @@ pub record MountStands {V : Type 0} {K : Type 0} (trace : V → Option (List Cal
   pub unviolated : mount.core.violated ≡ false
   pub stands : TowerStands ShowsFiles trace faults G mount.core kept present
 
--- the directory gave what was last written, nothing that opens was forged, and no count of faults rose: of the directory and the record
+-- the directory gave what was last written, and no count of faults rose: of the directory and the record
 pub record MountUntroubled {V : Type 0} {K : Type 0} (trace : V → Option (List Call)) (faults : V → ℕ) (G : KeeperGhosts K) (before after : Mount V K) : Type 0 where
   pub honest : lies_of trace faults after ≤ lies_of trace faults before
-  pub unforged : forgeries_of trace faults after ≤ forgeries_of trace faults before
   pub directory_unfailed : ¬ RoseBy 1 (vault_faults trace faults before) (vault_faults trace faults after)
   pub state_unfailed : ¬ RoseBy 1 (keeper_faults G before) (keeper_faults G after)
 
@@ -32,8 +33,9 @@ IsKeptNext true kept present next tree = tree ≡ next
 IsKeptNext false kept present next tree = (tree ≡ kept) ⊎ (tree ≡ present)
 
 -- the answer is that of the tree that was present, and the mount stands for the trees that it leaves
-pub record MountAnswered {V : Type 0} {K : Type 0} (trace : V → Option (List Call)) (faults : V → ℕ) (G : KeeperGhosts K) (now : Instant) (kept present : Tree) (asked : Asked) (answer : Answer) (after : Mount V K) : Type 0 where
+pub record MountAnswered {V : Type 0} {K : Type 0} (trace : V → Option (List Call)) (faults : V → ℕ) (G : KeeperGhosts K) (now : Instant) (kept present : Tree) (asked : Asked) (answer : Answer) (before after : Mount V K) : Type 0 where
   pub unfailed : IsUnfailed answer
+  pub spent : IfOk asked (λ command. OnSpent answer (SpentCause (tower_holdings trace) (store_of before) command))
   pub next : Tree
   pub follows : FollowsAsked now present asked answer next
   pub tree : Tree
@@ -47,4 +49,4 @@ AnswersComplete {V = V} {K = K} trace faults G =
     → MountAnswers ShowsFiles trace faults G now before asked answer after
     → MountStands trace faults G kept present before
     → MountUntroubled trace faults G before after
-    → MountAnswered trace faults G now kept present asked answer after
+    → MountAnswered trace faults G now kept present asked answer before after

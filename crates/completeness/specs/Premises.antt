@@ -7,7 +7,7 @@ use Rattle.line_io.specs.Lines.{first_line}
 use Rattle.line_io.specs.Streams.{Stream, Failed, TookMost}
 use Rattle.outside.specs.Causes.{RoseBy}
 use Rattle.passwords.specs.Passwords.{IsLong}
-use Rattle.session_runs.specs.Runs.{Outside, StandsFor, PasswordOpens, IsFounded, lies}
+use Rattle.session_runs.specs.Runs.{Outside, StandsFor, PasswordOpens, lies}
 use Rattle.tree_commands.specs.Showing.{ShowsFiles}
 
 -- the directory gave what was last written, and no count of faults rose: of the directory, the record, the input and the output; and fewer than 2^63
@@ -20,13 +20,12 @@ pub record IsUntroubled (input output : Stream) (before after : Outside) : Type 
   pub output_unfailed : ¬ Failed output
   pub few : ¬ TookMost 0 input
 
--- the input is told, and the password in its first line, which isn't too long, opens the configuration of what is kept, which stands for the first tree; nothing that
--- opens was forged since
-pub record Finds (input : Stream) (bytes : List ℕ) (c : Settings) (first : Tree) (before after : Outside) : Type 0 where
+-- the input is told, and the password in its first line, which isn't too long, opens the configuration of what is kept, which stands for the first tree
+pub record Finds (input : Stream) (bytes : List ℕ) (c : Settings) (first : Tree) (before : Outside) : Type 0 where
   pub told : input.old ≡ Some bytes
   pub short : ¬ IsLong (first_line bytes)
   pub opens : PasswordOpens (first_line bytes) c before
-  pub founded : IsFounded ShowsFiles (first_line bytes) c first before after
+  pub stands : StandsFor ShowsFiles c first before
 
 -- what is kept stands for this tree, and the password still opens its configuration
 pub record Leaves (password : List ℕ) (c : Settings) (tree : Tree) (after : Outside) : Type 0 where

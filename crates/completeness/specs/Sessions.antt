@@ -18,6 +18,7 @@ use Rattle.run_status.specs.declared.status.Status.{Status}
 use Rattle.run_status.specs.declared.status.Status.TheVariants.{Done, Memory}
 use Rattle.session_lines.specs.declared.end.End.{End}
 use Rattle.session_lines.specs.declared.end.End.TheVariants.{Finished}
+use Rattle.session_runs.specs.Causes.{SpentSince}
 use Rattle.session_runs.specs.Runs.{Outside, outside_of, StandsFor}
 use Rattle.shell_sessions.specs.Sessions.{Session}
 use Rattle.tree_commands.specs.Showing.{ShowsFiles}
@@ -36,12 +37,13 @@ AreUnfailed (e ∷ es) = IsUnfailed e.answer × AreUnfailed es
 
 -- All lines were answered from the first tree on, and the output is whole. A tree is kept as no acknowledged sync forbids, and after Done the last one, with nothing
 -- left to be written.
-pub record IsComplete (now : Instant) (Came : End → List Exchange → Type 0) (password : List ℕ) (c : Settings) (first : Tree) (after : Outside) (status : Status) : Type 0 where
+pub record IsComplete (now : Instant) (Came : End → List Exchange → Type 0) (password : List ℕ) (c : Settings) (first : Tree) (before after : Outside) (status : Status) : Type 0 where
   pub es : List Exchange
   pub trees : List Tree
   pub came : Came Finished es
   pub replies : IsSession now first es trees
   pub unfailed : AreUnfailed es
+  pub spent : SpentSince before.kept es
   pub ends : (status ≡ Done) ⊎ (status ≡ Memory)
   pub tree : Tree
   pub point : IsKeptPoint first es trees tree
@@ -59,8 +61,8 @@ abbrev pub SessionsComplete : {V : Type 0} → {K : Type 0} → (V → Option (L
 SessionsComplete {V = V} {K = K} trace faults G Comes =
     (now : Instant) (input output : Stream) (vault : V) (keeper : K) (ended : Ended V K) (bytes : List ℕ) (c : Settings) (first : Tree)
     → Session trace faults G now (Comes input output) input output vault keeper ended
-    → Finds input bytes c first (outside_of trace faults G vault keeper) (outside_of trace faults G ended.vault ended.keeper)
+    → Finds input bytes c first (outside_of trace faults G vault keeper)
     → IsUntroubled input output (outside_of trace faults G vault keeper) (outside_of trace faults G ended.vault ended.keeper)
     → FindsNoMemory output (first_line bytes) c first (outside_of trace faults G ended.vault ended.keeper) ended.status
     ⊎ ((script : Option (List ℕ)) × IsNextPassword input.old (first_line bytes) script
-    × IsComplete now (Comes input output script) (first_line bytes) c first (outside_of trace faults G ended.vault ended.keeper) ended.status)
+    × IsComplete now (Comes input output script) (first_line bytes) c first (outside_of trace faults G vault keeper) (outside_of trace faults G ended.vault ended.keeper) ended.status)

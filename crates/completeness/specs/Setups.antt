@@ -45,7 +45,7 @@ abbrev pub InfoCompletes : {V : Type 0} → {K : Type 0} → (V → Option (List
 InfoCompletes {V = V} {K = K} trace faults G =
     (input output : Stream) (vault : V) (keeper : K) (ended : Ended V K) (bytes : List ℕ) (c : Settings) (tree : Tree)
     → Told trace faults G input output vault keeper ended
-    → (finds : Finds input bytes c tree (outside_of trace faults G vault keeper) (outside_of trace faults G ended.vault ended.keeper))
+    → (finds : Finds input bytes c tree (outside_of trace faults G vault keeper))
     → IsUntroubled input output (outside_of trace faults G vault keeper) (outside_of trace faults G ended.vault ended.keeper)
     → FindsNoMemory output (first_line bytes) c tree (outside_of trace faults G ended.vault ended.keeper) ended.status
     ⊎ IsDone output (info_text c (cost_of (first_line bytes) c (outside_of trace faults G vault keeper) finds.opens)) (first_line bytes) c tree (outside_of trace faults G ended.vault ended.keeper) ended.status
@@ -64,7 +64,7 @@ PasswdCompletes {V = V} {K = K} trace faults G =
     (chance left : Chance) (input output : Stream) (vault : V) (keeper : K) (ended : Ended V K) (bytes : List ℕ) (c : Settings) (tree : Tree)
     → Changed trace faults G chance left input output vault keeper ended
     → HasCauses (outside_of trace faults G vault keeper) (outside_of trace faults G ended.vault ended.keeper) ended.status
-    → Finds input bytes c tree (outside_of trace faults G vault keeper) (outside_of trace faults G ended.vault ended.keeper)
+    → Finds input bytes c tree (outside_of trace faults G vault keeper)
     → ¬ IsLong (second_line bytes)
     → IsUntroubled input output (outside_of trace faults G vault keeper) (outside_of trace faults G ended.vault ended.keeper)
     → StaysOrChanges output (first_line bytes) (second_line bytes) c tree (outside_of trace faults G ended.vault ended.keeper) ended.status

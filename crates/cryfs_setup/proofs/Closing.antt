@@ -23,7 +23,7 @@ use Rattle.outside.specs.Writes.{after_writes}
 use Rattle.redo_vault.specs.Redo.{Gave}
 use Rattle.outside.specs.declared.keeper.Keeper.{Ghosts as KeeperGhosts}
 use Rattle.session_runs.specs.Answering.{calls_of}
-use Rattle.session_runs.specs.Runs.{Outside, outside_of, StandsFor, IsFounded, IsQuiet}
+use Rattle.session_runs.specs.Runs.{Outside, outside_of, StandsFor, OpensTo, IsQuiet}
 use Rattle.session_runs.specs.Turns.{Begun, Closing}
 use Rattle.session_runs.proofs.Whole.{unforged_before}
 use Rattle.session_saver.specs.Saving.{KeptConfigures}
@@ -64,7 +64,7 @@ module _ {V : Type 0} {K : Type 0} (trace : V → Option (List Call)) (faults : 
   calls_on = goes_on_onward (calls_of trace first) (calls_of trace left) (trace last_vault) on z.goes_on
 
   -- the configuration that was found is that under which what was kept stood for a tree
-  pub config_is : (c : Settings) (tree : Tree) → IsFounded ShowsFiles password c tree Before After → settings_of first.opened.config ≡ c
+  pub config_is : (c : Settings) (tree : Tree) → OpensTo ShowsFiles password c tree Before After → settings_of first.opened.config ≡ c
   config_is c tree f =
       b.config c (represents_told ShowsFiles Before.kept Before.calls c tree f.stands)
       (unforged_before password Before.kept Before.calls (calls_of trace first) After.calls c calls_on f.unforged_config)
@@ -74,7 +74,7 @@ module _ {V : Type 0} {K : Type 0} (trace : V → Option (List Call)) (faults : 
   of_closed c tree (Err e) (inl s) = s
   of_closed c tree (Err e) (inr s) = s
 
-  stands_after : (c : Settings) (tree : Tree) → IsFounded ShowsFiles password c tree Before After → StandsFor ShowsFiles c tree After
+  stands_after : (c : Settings) (tree : Tree) → OpensTo ShowsFiles password c tree Before After → StandsFor ShowsFiles c tree After
   stands_after c tree f =
       let is = config_is c tree f in
       let begun = b.stands tree (subst (λ x. Represents ShowsFiles Before.kept Before.calls x tree) (sym is) f.stands) in

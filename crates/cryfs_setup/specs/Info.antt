@@ -19,7 +19,7 @@ use Rattle.passwords.specs.Passwords.{PasswordUnread}
 use Rattle.run_openings.specs.Openings.{HasPassword, IsUnread, IsUnopened, StayOpen}
 use Rattle.run_status.specs.declared.ended.Ended.{Ended}
 use Rattle.session_lines.specs.Driven.{IsQuiet as IsUnfailed}
-use Rattle.session_runs.specs.Runs.{outside_of, IsFounded, IsQuiet}
+use Rattle.session_runs.specs.Runs.{outside_of, OpensTo, IsQuiet}
 use Rattle.tree_commands.specs.Showing.{ShowsFiles}
 use Rattle.cryfs_setup.specs.Printing.{Printed}
 
@@ -44,7 +44,7 @@ pub record IsTold {V : Type 0} {K : Type 0} (trace : V → Option (List Call)) (
   pub attached : Attached password (G.kept keeper) (G.kept ended.keeper) (trace vault) (trace ended.vault) o
   pub printed : Printed output (info_text (settings_of o.config) o.params) ended.status
   -- it is the one under which what was kept stood for a tree
-  pub config : (c : Settings) (tree : Tree) → IsFounded ShowsFiles password c tree (outside_of trace faults G vault keeper) (outside_of trace faults G ended.vault ended.keeper) → settings_of o.config ≡ c
+  pub config : (c : Settings) (tree : Tree) → OpensTo ShowsFiles password c tree (outside_of trace faults G vault keeper) (outside_of trace faults G ended.vault ended.keeper) → settings_of o.config ≡ c
   pub unmarked : ¬ IsKeptMarked records (G.kept keeper)
   pub quiet : IsQuiet ShowsFiles password (outside_of trace faults G vault keeper) (outside_of trace faults G ended.vault ended.keeper)
   pub opens : StayOpen (outside_of trace faults G vault keeper) (outside_of trace faults G ended.vault ended.keeper)

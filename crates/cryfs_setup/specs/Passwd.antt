@@ -25,7 +25,7 @@ use Rattle.run_status.specs.declared.ended.Ended.{Ended}
 use Rattle.run_status.specs.declared.status.Status.{Status}
 use Rattle.script_text.specs.Texts.{line}
 use Rattle.session_lines.specs.Driven.{IsQuiet as IsUnfailed}
-use Rattle.session_runs.specs.Runs.{Outside, outside_of, IsFounded, IsQuiet}
+use Rattle.session_runs.specs.Runs.{Outside, outside_of, OpensTo, IsQuiet}
 use Rattle.session_saver.specs.Saving.{KeptConfigures}
 use Rattle.session_saver.specs.declared.saver.SyncError.{SyncError}
 use Rattle.tree_commands.specs.Showing.{ShowsFiles}
@@ -63,7 +63,7 @@ pub record IsChanged {V : Type 0} {K : Type 0} (trace : V → Option (List Call)
       ⊎ NewOpens new (sealed_file new o.params (seal_drawn chance).0 (settings_of o.config)) o (outside_of trace faults G ended.vault ended.keeper)
   pub emptied : OnOk change (HasEmptyList (G.kept ended.keeper))
   -- it is the one under which what was kept stood for a tree
-  pub config : (c : Settings) (tree : Tree) → IsFounded ShowsFiles old c tree (outside_of trace faults G vault keeper) (outside_of trace faults G ended.vault ended.keeper) → settings_of o.config ≡ c
+  pub config : (c : Settings) (tree : Tree) → OpensTo ShowsFiles old c tree (outside_of trace faults G vault keeper) (outside_of trace faults G ended.vault ended.keeper) → settings_of o.config ≡ c
   pub unmarked : ¬ IsKeptMarked records (G.kept keeper)
   pub quiet : IsQuiet ShowsFiles old (outside_of trace faults G vault keeper) (outside_of trace faults G ended.vault ended.keeper)
 

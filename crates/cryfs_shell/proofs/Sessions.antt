@@ -23,12 +23,12 @@ use Rattle.run_status.specs.declared.ended.Ended.{Ended}
 use Rattle.run_status.specs.declared.status.Status.{Status}
 use Rattle.run_status.specs.declared.status.Status.TheVariants.{Done, Usage, LongPassword, Violation, DirectoryFault, StateFault, InputFault, OutputFault, Memory}
 use Rattle.session_lines.specs.declared.end.End.{End}
-use Rattle.session_runs.specs.Runs.{Outside, outside_of, StandsFor, IsFounded, directory_fault, state_fault}
+use Rattle.session_runs.specs.Runs.{Outside, outside_of, StandsFor, OpensTo, directory_fault, state_fault}
 use Rattle.session_runs.proofs.Whole.{unviolated}
 use Rattle.shell_sessions.specs.Sessions.{Session, IsServed}
 use Rattle.shell_sessions.specs.Statuses.{session_status}
 use Rattle.tree_commands.specs.Showing.{ShowsFiles}
-use Rattle.cryfs_shell.specs.Clauses.{IsRefusal, IsRefusedRun, IsFoundedRun, NoFalseAlarm, Keeps, FaultsHappened, IsEmptied}
+use Rattle.cryfs_shell.specs.Clauses.{IsRefusal, IsRefusedRun, IsOpenedRun, IsFoundedRun, NoFalseAlarm, Keeps, FaultsHappened, IsEmptied}
 use Rattle.cryfs_shell.proofs.Statuses.{EndCause, opening_is_no, session_is_no, stops_is_refusal, session_directory, session_state, session_input, session_output, done_is_calm, done_is_closed, calm_is_no_alarm}
 
 -- the password of a told input is its first line
@@ -113,15 +113,15 @@ module _ {V : Type 0} {K : Type 0} (trace : V → Option (List Call)) (faults : 
         inr (
           first,
           subst (λ (v : V). StandsFor ShowsFiles c first (outside_of trace faults G v ended.keeper)) (sym u.uncalled.same_vault)
-              (subst (λ (k : K). StandsFor ShowsFiles c first (outside_of trace faults G vault k)) (sym u.uncalled.same_keeper) f.founded.stands),
+              (subst (λ (k : K). StandsFor ShowsFiles c first (outside_of trace faults G vault k)) (sym u.uncalled.same_keeper) f.opened.opens.stands),
         )
 
   -- ---- where no file system was opened
 
   module _ (password : List ℕ) (script : Option (List ℕ)) (next : IsNextPassword input.old password script) where
-    pub founded_under : (bytes : List ℕ) (c : Settings) (first : Tree) → IsFoundedRun input bytes c first Before After → IsFounded ShowsFiles password c first Before After
-    founded_under bytes c first f =
-        subst (λ (x : List ℕ). IsFounded ShowsFiles x c first Before After) (password_is input.old bytes password script f.told next) f.founded
+    pub opens_under : (bytes : List ℕ) (c : Settings) (first : Tree) → IsOpenedRun input bytes c first Before After → OpensTo ShowsFiles password c first Before After
+    opens_under bytes c first f =
+        subst (λ (x : List ℕ). OpensTo ShowsFiles x c first Before After) (password_is input.old bytes password script f.told next) f.opens
 
     module _ (error : OpenError) (u : IsUnopened trace faults G password vault keeper ended error) where
       pub unopened_faults : FaultsHappened input output Before After ended.status
@@ -142,10 +142,10 @@ module _ {V : Type 0} {K : Type 0} (trace : V → Option (List Call)) (faults : 
           record { status = subst IsRefusal (sym u.status) (stops_is_refusal error m.2); uncalled = m.0; stays = m.1; unwritten = unwritten }
 
       pub unopened_alarm : NoFalseAlarm input Before After ended.status
-      unopened_alarm bytes c first f honest e = u.no_false_alarm c first (founded_under bytes c first f) e
+      unopened_alarm bytes c first f honest e = u.no_false_alarm c first (opens_under bytes c first f) e
 
       pub unopened_keeps : Keeps input Before After
-      unopened_keeps bytes c first f = inr (first, u.quiet.stands c first (founded_under bytes c first f))
+      unopened_keeps bytes c first f = inr (first, u.quiet.stands c first (opens_under bytes c first f.opened))
 
     -- ---- where there are exchanges
 
@@ -165,13 +165,14 @@ module _ {V : Type 0} {K : Type 0} (trace : V → Option (List Call)) (faults : 
 
       served_alarm : IsServed trace faults G now password Came vault keeper ended → NoFalseAlarm input Before After ended.status
       served_alarm s bytes c first f honest e =
-          let a = s.session.founded c first (founded_under bytes c first f) in
+          let o = opens_under bytes c first f in
+          let a = s.session.founded c first (record { opens = o; unforged = s.session.unforged c first o honest }) in
           let calm : violated s.es ≡ false = unviolated s.es (a.no_false_alarm honest) in
           calm_is_no_alarm s.end s.closing (subst (λ (b : Bool). session_status b s.end s.closing ≡ Violation) calm (sym s.status ∙ e))
 
       served_keeps : IsServed trace faults G now password Came vault keeper ended → Keeps input Before After
       served_keeps s bytes c first f =
-          elim (s.session.founded c first (founded_under bytes c first f)).kept as (λ _. IsKeptMarked records After.kept ⊎ ((tree : Tree) × StandsFor ShowsFiles c tree After)) [
+          elim (s.session.founded c first (record { opens = opens_under bytes c first f.opened; unforged = f.unforged })).kept as (λ _. IsKeptMarked records After.kept ⊎ ((tree : Tree) × StandsFor ShowsFiles c tree After)) [
             | inl m ↦ inl m.1
             | inr k ↦ inr (k.0, k.2)
           ]

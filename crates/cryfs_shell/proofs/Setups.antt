@@ -31,7 +31,7 @@ use Rattle.session_saver.specs.declared.saver.SyncError.{SyncError}
 use Rattle.session_saver.specs.declared.saver.SyncError.TheVariants as sync_error
 use Rattle.cryfs_shell.specs.Clauses.{IsRefusedRun, NoFalseAlarm, Keeps, FaultsHappened}
 use Rattle.cryfs_shell.proofs.Statuses.{opening_is_no}
-use Rattle.cryfs_shell.proofs.Sessions.{one_unread, two_unread, unread_is_no, unread_faults, unread_refusal, unread_keeps, founded_under, unopened_faults, unopened_refusal, unopened_alarm, unopened_keeps, grown}
+use Rattle.cryfs_shell.proofs.Sessions.{one_unread, two_unread, unread_is_no, unread_faults, unread_refusal, unread_keeps, opens_under, unopened_faults, unopened_refusal, unopened_alarm, unopened_keeps, grown}
 
 -- of a run that knew its password, and opened or made a file system, or failed to make one
 abbrev IsLate : Status → Type 0
@@ -132,7 +132,7 @@ module _ {V : Type 0} {K : Type 0} (trace : V → Option (List Call)) (faults : 
   pub told_keeps : Told trace faults G input output vault keeper ended → Keeps input (outside_of trace faults G vault keeper) (outside_of trace faults G ended.vault ended.keeper)
   told_keeps (inl u) bytes c first f = unread_keeps trace faults G input output vault keeper ended (PasswordUnread input) (one_unread input) u bytes c first f
   told_keeps (inr (password, after, has, unfailed, inl ((error, u), unwritten))) bytes c first f = unopened_keeps trace faults G input output vault keeper ended password after has.is_next error u bytes c first f
-  told_keeps (inr (password, after, has, unfailed, inr t)) bytes c first f = inr (first, t.quiet.stands c first (founded_under trace faults G input output vault keeper ended password after has.is_next bytes c first f))
+  told_keeps (inr (password, after, has, unfailed, inr t)) bytes c first f = inr (first, t.quiet.stands c first (opens_under trace faults G input output vault keeper ended password after has.is_next bytes c first f.opened))
 
   pub told_uncalled : Told trace faults G input output vault keeper ended → ended.status ≡ LongPassword → AreUncalled vault keeper ended
   told_uncalled (inl u) e = u.uncalled
@@ -165,7 +165,7 @@ module _ {V : Type 0} {K : Type 0} (trace : V → Option (List Call)) (faults : 
     pub changed_keeps : Changed trace faults G chance left input output vault keeper ended → Keeps input (outside_of trace faults G vault keeper) (outside_of trace faults G ended.vault ended.keeper)
     changed_keeps (inl (u, same)) bytes c first f = unread_keeps trace faults G input output vault keeper ended (PasswordsUnread input) (two_unread input) u bytes c first f
     changed_keeps (inr (old, new, has, unfailed, inl ((error, u), unwritten, same))) bytes c first f = unopened_keeps trace faults G input output vault keeper ended old has.between has.old_is_next error u bytes c first f
-    changed_keeps (inr (old, new, has, unfailed, inr c)) bytes d first f = inr (first, c.quiet.stands d first (founded_under trace faults G input output vault keeper ended old has.between has.old_is_next bytes d first f))
+    changed_keeps (inr (old, new, has, unfailed, inr c)) bytes d first f = inr (first, c.quiet.stands d first (opens_under trace faults G input output vault keeper ended old has.between has.old_is_next bytes d first f.opened))
 
     pub changed_uncalled : Changed trace faults G chance left input output vault keeper ended → ended.status ≡ LongPassword → AreUncalled vault keeper ended
     changed_uncalled (inl (u, same)) e = u.uncalled

@@ -14,7 +14,7 @@ use Rattle.passwords.specs.Passwords.{InputFailed}
 use Rattle.run_status.specs.declared.ended.Ended.{Ended}
 use Rattle.run_status.specs.declared.status.Status.{Status}
 use Rattle.run_status.specs.declared.status.Status.TheVariants.{LongPassword, Violation, DirectoryFault, StateFault, InputFault, OutputFault, Memory}
-use Rattle.session_runs.specs.Runs.{Outside, StandsFor, IsFounded, lies}
+use Rattle.session_runs.specs.Runs.{Outside, StandsFor, OpensTo, forgeries, lies}
 use Rattle.tree_commands.specs.Showing.{ShowsFiles}
 
 -- what a run may say over a marked record: that it is marked, or why it wasn't read: no password was, memory was refused, or its keeper failed
@@ -33,14 +33,19 @@ pub record IsRefusedRun {V : Type 0} {K : Type 0} (kept : K → Option (List ℕ
   pub stays : kept ended.keeper ≡ kept keeper
   pub unwritten : Untouched output
 
--- what a run must find: the input is told, and under the password in its first line what is kept stands for the first tree, and nothing that opens was forged since
-pub record IsFoundedRun (input : Stream) (bytes : List ℕ) (c : Settings) (first : Tree) (before after : Outside) : Type 0 where
+-- what opening must find: the input is told, and under the password in its first line what is kept stands for the first tree, and no other configuration opens
+pub record IsOpenedRun (input : Stream) (bytes : List ℕ) (c : Settings) (first : Tree) (before after : Outside) : Type 0 where
   pub told : input.old ≡ Some bytes
-  pub founded : IsFounded ShowsFiles (first_line bytes) c first before after
+  pub opens : OpensTo ShowsFiles (first_line bytes) c first before after
+
+-- what a run must find besides: no block file that opens was forged since
+pub record IsFoundedRun (input : Stream) (bytes : List ℕ) (c : Settings) (first : Tree) (before after : Outside) : Type 0 where
+  pub opened : IsOpenedRun input bytes c first before after
+  pub unforged : forgeries c after ≤ forgeries c before
 
 -- over a directory that gave what was last written, no run ends with a violation
 abbrev pub NoFalseAlarm : Stream → Outside → Outside → Status → Type 0
-NoFalseAlarm input before after status = (bytes : List ℕ) (c : Settings) (first : Tree) → IsFoundedRun input bytes c first before after → lies after ≤ lies before → status ≢ Violation
+NoFalseAlarm input before after status = (bytes : List ℕ) (c : Settings) (first : Tree) → IsOpenedRun input bytes c first before after → lies after ≤ lies before → status ≢ Violation
 
 -- afterwards the record is marked, or what is kept stands for a tree
 abbrev pub Keeps : Stream → Outside → Outside → Type 0

@@ -28,13 +28,13 @@ module _ (shows : Showing) (c : Settings) where
 
   serving : (run : Run) (from : Tree) (was : Bool) → IsRun shows run → IsUnforgedRun c run → StandsFor shows c from (before_of run) → Turned from was run
   serving (session now password before after closing es) from was run u s =
-      let a = run.founded c from (record { stands = s; unforged_config = u.0; unforged = u.1 }) in
+      let a = run.founded c from (record { opens = record { stands = s; unforged_config = u.0 }; unforged = u.1 }) in
       elim a.kept as (λ _. Turned from was (session now password before after closing es)) [
-        | inl m ↦ (from, inl (record { trees = a.trees; replies = a.replies; kept = inl (m.0, m.1, refl); no_false_alarm = a.no_false_alarm }), inr (true_or (violated es) was m.0, m.1))
-        | inr k ↦ (k.0, inl (record { trees = a.trees; replies = a.replies; kept = inr (k.1, k.2); no_false_alarm = a.no_false_alarm }), inl k.2)
+        | inl m ↦ (from, inl (record { trees = a.trees; replies = a.replies; kept = inl (m.0, m.1, refl); no_false_alarm = a.no_false_alarm; built = a.built }), inr (true_or (violated es) was m.0, m.1))
+        | inr k ↦ (k.0, inl (record { trees = a.trees; replies = a.replies; kept = inr (k.1, k.2); no_false_alarm = a.no_false_alarm; built = a.built }), inl k.2)
       ]
   serving (quiet password before after) from was run u s =
-      let kept = run.stands c from (record { stands = s; unforged_config = u.0; unforged = u.1 }) in
+      let kept = run.stands c from (record { stands = s; unforged_config = u }) in
       (from, inl (refl, kept), inl kept)
 
   refusing : (run : Run) (from : Tree) (was : Bool) → was ≡ true → IsRun shows run → IsKeptMarked records (before_of run).kept → Turned from was run

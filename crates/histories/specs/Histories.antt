@@ -7,12 +7,18 @@ use Rattle.answers.specs.Sessions.{Exchange, IsSession, IsKeptPoint, latest, vio
 use Rattle.config_file.specs.Settings.{Settings}
 use Rattle.fs_model.specs.Instant.{Instant}
 use Rattle.fs_model.specs.Tree.{Tree, empty_tree}
+use Rattle.aes_gcm.specs.Gcm.{opened_of}
+use Rattle.integrity_store.specs.Held.{forged}
 use Rattle.integrity_store.specs.Standing.{records}
+use Rattle.outside.specs.Going.{GoesOn}
+use Rattle.outside.specs.Honest.{NonePassSince}
+use Rattle.outside.specs.HonestLaws.{none_since_where_no_rise, no_rise_where_none_since}
 use Rattle.session_saver.specs.declared.saver.SyncError.{SyncError}
 use Rattle.tree_commands.specs.Performing.{Showing}
 use Rattle.mount_core.specs.Standing.{IsKeptMarked}
 use Rattle.mount.specs.Making.{Created}
 use Rattle.mount.specs.Unforged.{IsUnforgedConfig}
+use Rattle.session_runs.specs.Causes.{AreBuilt}
 use Rattle.session_runs.specs.Runs.{Outside, StandsFor, forgeries, lies, AreCalm, IsSessionRun, IsQuiet}
 
 -- a run: the session of some exchanges at a moment, closed so, or one of no lines; each under a password, from the one moment outside to the other
@@ -36,10 +42,23 @@ abbrev pub IsRun : Showing → Run → Type 0
 IsRun shows (session now password before after closing es) = IsSessionRun shows now password before after (violated es) closing es
 IsRun shows (quiet password before after) = IsQuiet shows password before after
 
--- nothing that opens was forged in the run
+-- nothing that opens was forged from one moment to the other: no configuration under the password but this one, and no block's file
+abbrev pub IsUnforged : List ℕ → Settings → Outside → Outside → Type 0
+IsUnforged password c before after = IsUnforgedConfig password before.kept before.calls after.calls c × (forgeries c after ≤ forgeries c before)
+
+-- no block's file was forged exactly where none of the new calls gave one that opens and was never put
+pub none_forged : (c : Settings) (before after : Outside) → GoesOn before.calls after.calls → forgeries c after ≤ forgeries c before
+    → NonePassSince (forged (opened_of c.key) c.block_size) before.calls after.calls
+none_forged c before after = none_since_where_no_rise (forged (opened_of c.key) c.block_size) before.calls after.calls
+
+pub none_forged_back : (c : Settings) (before after : Outside) → GoesOn before.calls after.calls → NonePassSince (forged (opened_of c.key) c.block_size) before.calls after.calls
+    → forgeries c after ≡ forgeries c before
+none_forged_back c before after = no_rise_where_none_since (forged (opened_of c.key) c.block_size) before.calls after.calls
+
+-- nothing that opens was forged in the run; one of no lines asks for no block
 abbrev pub IsUnforgedRun : Settings → Run → Type 0
-IsUnforgedRun c (session now password before after closing es) = IsUnforgedConfig password before.kept before.calls after.calls c × (forgeries c after ≤ forgeries c before)
-IsUnforgedRun c (quiet password before after) = IsUnforgedConfig password before.kept before.calls after.calls c × (forgeries c after ≤ forgeries c before)
+IsUnforgedRun c (session now password before after closing es) = IsUnforged password c before after
+IsUnforgedRun c (quiet password before after) = IsUnforgedConfig password before.kept before.calls after.calls c
 
 -- where the runs left all
 abbrev pub end_of : Outside → List Run → Outside
@@ -66,6 +85,7 @@ pub record Serves (shows : Showing) (c : Settings) (from : Tree) (now : Instant)
   pub replies : IsSession now from es trees
   pub kept : ((violated es ≡ true) × IsKeptMarked records after.kept × (tree ≡ from)) ⊎ (IsKeptPoint from es trees tree × StandsFor shows c tree after)
   pub no_false_alarm : lies after ≤ lies before → AreCalm es
+  pub built : AreBuilt es
 
 -- what a run does from a kept tree on, and the tree that it leaves
 abbrev pub RunsFrom : Showing → Settings → Tree → Run → Tree → Type 0

@@ -15,7 +15,7 @@ use Rattle.passwords.specs.Passwords.{IsLong, IsNextPassword}
 use Rattle.run_status.specs.declared.ended.Ended.{Ended}
 use Rattle.run_status.specs.declared.status.Status.{Status}
 use Rattle.run_status.specs.declared.status.Status.TheVariants.{Violation, DirectoryFault, StateFault}
-use Rattle.session_runs.specs.Runs.{Outside, outside_of, IsFounded, IsQuiet, PasswordOpens}
+use Rattle.session_runs.specs.Runs.{Outside, outside_of, OpensTo, IsQuiet, PasswordOpens}
 use Rattle.tree_commands.specs.Showing.{ShowsFiles}
 use Rattle.run_openings.specs.Statuses.{opening_status}
 
@@ -48,9 +48,9 @@ pub record IsUnread {V : Type 0} {K : Type 0} (Cause : Status → Type 0) (outpu
 abbrev pub StayOpen : Outside → Outside → Type 0
 StayOpen before after = (password : List ℕ) (c : Settings) → is_some before.calls ≡ true → PasswordOpens password c before → PasswordOpens password c after
 
--- where what is kept stood for a tree, and nothing that opens was forged, the status is no violation
+-- where what is kept stood for a tree, and no other configuration opens under the password, the status is no violation
 abbrev pub IsNoFalseAlarm : List ℕ → Outside → Outside → Status → Type 0
-IsNoFalseAlarm password before after status = (c : Settings) (tree : Tree) → IsFounded ShowsFiles password c tree before after → status ≢ Violation
+IsNoFalseAlarm password before after status = (c : Settings) (tree : Tree) → OpensTo ShowsFiles password c tree before after → status ≢ Violation
 
 -- a status that names a fault says that it happened
 pub record HasCauses (before after : Outside) (status : Status) : Type 0 where

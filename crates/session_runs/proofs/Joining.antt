@@ -1,5 +1,5 @@
 -- One more answer.
-use Rattle.std.proofs.Common.{◌≡◌, ◌⊎◌, ◌≤◌, ◌+◌, ◌||◌, ◌&&◌, ℕ, Bool, true, false, List, [], ◌∷◌, refl, sym, ap, subst, ◌∙◌, inl, inr, arith}
+use Rattle.std.proofs.Common.{◌≡◌, ◌⊎◌, ◌≤◌, ◌+◌, ◌^◌, ◌||◌, ◌&&◌, ℕ, Bool, true, false, List, [], ◌∷◌, refl, sym, ap, subst, ◌∙◌, inl, inr, arith}
 use Rattle.std.specs.Prelude.{Ok, Err}
 use Rattle.std.specs.declared.option.Option.{Option}
 use Rattle.fs_model.specs.Instant.{Instant}
@@ -12,13 +12,16 @@ use Rattle.answers.specs.declared.answer.Answer.{Answer}
 use Rattle.answers.specs.declared.answer.Answer.TheVariants.{Reply as Replied, Memory, Spent, FaultDirectory, FaultState, Violation, Refused}
 use Rattle.answers.specs.Sessions.{Asked, Exchange, Next, IsSession, IsKeptPoint, is_violation, is_sync, is_synced, latest, violated, state_faults, all_state_faults}
 use Rattle.integrity_store.specs.Standing.{records}
+use Rattle.mount_core.specs.Answers.{is_structure, OnSpent}
 use Rattle.mount_core.specs.Configuring.{ConfigAnswered}
 use Rattle.tree_commands.specs.Performing.{Showing}
 use Rattle.mount_core.specs.Standing.{IsKeptMarked, Left}
 use Rattle.mount.specs.declared.mount.Mount.{Mount}
-use Rattle.mount.specs.Tower.{tower_meanings, tower_holdings, tower_durables}
-use Rattle.session_runs.specs.Answering.{calls_of, forgeries_of, lies_of, keeper_faults, kept_of, Answered, MountAnswers}
+use Rattle.mount.specs.Tower.{tower_meanings, tower_holdings, tower_durables, TowerStands}
+use Rattle.session_runs.specs.Answering.{calls_of, forgeries_of, lies_of, keeper_faults, version_of, kept_of, Answered, MountAnswers}
+use Rattle.session_runs.specs.Causes.{IsAnswerTo, AreBuilt}
 use Rattle.session_runs.specs.Passing.{MountKeeps, LeftAt, PassedTrees, Passed}
+use Rattle.session_runs.proofs.Rising.{on_spent, unread_spent, rose_on, spent_on}
 
 pub true_is_false : true ≡ false → ⊥
 true_is_false e = cc
@@ -35,6 +38,14 @@ violation_no_fault Refused e = refl
 and_false : (b : Bool) → (b && false) ≡ false
 and_false true = refl
 and_false false = refl
+
+pub left_false : (a b : Bool) → (a || b) ≡ false → a ≡ false
+left_false true b e = e
+left_false false b e = refl
+
+pub right_false : (a b : Bool) → (a || b) ≡ false → b ≡ false
+right_false true b e = absurd (true_is_false e)
+right_false false b e = e
 
 or_false : (a b : Bool) → b ≡ false → (a || b) ≡ a
 or_false true b e = refl
@@ -61,6 +72,15 @@ latest_kept now first [] (tree ∷ trees) s = absurd s
 latest_kept now first (e ∷ es) [] s = absurd s
 
 module _ {V : Type 0} {K : Type 0} (shows : Showing) (trace : V → Option (List Call)) (faults : V → ℕ) (G : KeeperGhosts K) (now : Instant) where
+  is_answer : (mid new : Mount V K) (asked : Asked) (answer : Answer) → MountAnswers shows trace faults G now mid asked answer new → IsAnswerTo asked answer
+  is_answer mid new (Ok command) answer a = (a.variant, on_spent answer _ _ (λ cause. cause.changes) a.spent)
+  is_answer mid new (Err error) answer a = a.unread.0
+
+  -- where the answer is Spent, a version stood at the last of 64 bits
+  last_of : (mid new : Mount V K) (asked : Asked) (answer : Answer) → MountAnswers shows trace faults G now mid asked answer new → OnSpent answer ((id : List ℕ) × (version_of trace mid id + 1 ≡ 2 ^ 64))
+  last_of mid new (Ok command) answer a = on_spent answer _ _ (λ cause. (cause.id, cause.last)) a.spent
+  last_of mid new (Err error) answer a = unread_spent error answer _ a.unread.0
+
   left_on : (new : Mount V K) (first : Tree) (e : Exchange) (es : List Exchange) (trees : List Tree) (kept next : Tree) (bad synced : Bool)
       → is_violation e.answer ≡ bad → is_synced e.asked e.answer ≡ synced → IsSession now first es trees → IsKeptPoint first es trees kept
       → Left shows (tower_meanings trace faults) (tower_holdings trace) (tower_durables trace) records G new.core kept (latest first trees) next bad synced
@@ -79,9 +99,9 @@ module _ {V : Type 0} {K : Type 0} (shows : Showing) (trace : V → Option (List
 
   trees_on : (old mid new : Mount V K) (e : Exchange) (es : List Exchange) (first : Tree) (flag : Bool) → violated es ≡ flag → mid.core.violated ≡ flag
       → MountAnswers shows trace faults G now mid e.asked e.answer new → forgeries_of trace faults new ≤ forgeries_of trace faults mid → lies_of trace faults old ≤ lies_of trace faults mid
-      → (trees : List Tree) → IsSession now first es trees → LeftAt shows trace faults G mid first es trees flag → (lies_of trace faults mid ≤ lies_of trace faults old → flag ≡ false)
+      → (trees : List Tree) → IsSession now first es trees → LeftAt shows trace faults G mid first es trees flag → (lies_of trace faults mid ≤ lies_of trace faults old → flag ≡ false) → AreBuilt es
       → PassedTrees shows trace faults G now old new first (e ∷ es)
-  trees_on old mid new e es first false ev em a few grew trees s left honest =
+  trees_on old mid new e es first false ev em a few grew trees s left honest built =
       let t : Answered shows trace faults G now new left.0 (latest first trees) e.asked e.answer = a.stands left.0 (latest first trees) em left.2 few in
       record {
         trees = t.next ∷ trees;
@@ -89,8 +109,9 @@ module _ {V : Type 0} {K : Type 0} (shows : Showing) (trace : V → Option (List
         left = subst (λ b. LeftAt shows trace faults G new first (e ∷ es) (t.next ∷ trees) (is_violation e.answer || b)) (sym ev)
             (left_on new first e es trees left.0 t.next _ _ refl refl s left.1 t.left);
         alarm = λ h. ap (λ (b : Bool). is_violation e.answer || b) ev ∙ ap (λ (b : Bool). b || false) (a.alarm left.0 (latest first trees) em left.2 (omega (arith, grew, h)));
+        built = (a.built left.0 (latest first trees) em left.2 few, built);
       }
-  trees_on old mid new e es first true ev em a few grew trees s left honest =
+  trees_on old mid new e es first true ev em a few grew trees s left honest built =
       let r = a.refused em in
       let ns : is_synced e.asked e.answer ≡ false = subst (λ x. is_synced e.asked x ≡ false) (sym r.0) (refused_not_synced e.asked) in
       record {
@@ -99,6 +120,7 @@ module _ {V : Type 0} {K : Type 0} (shows : Showing) (trace : V → Option (List
         left = subst (λ b. LeftAt shows trace faults G new first (e ∷ es) (latest first trees ∷ trees) b) (sym (ap (λ x. is_violation x || violated es) r.0 ∙ ev))
             (left_refused mid new e es first trees ns r.1 left);
         alarm = λ h. absurd (true_is_false (honest (omega (arith, a.lies, h))));
+        built = (ap is_structure r.0, built);
       }
 
   marked_on : (old mid new : Mount V K) (e : Exchange) (es : List Exchange) → Passed shows trace faults G now old mid es → MountAnswers shows trace faults G now mid e.asked e.answer new
@@ -123,33 +145,60 @@ module _ {V : Type 0} {K : Type 0} (shows : Showing) (trace : V → Option (List
       subst (λ b. ConfigAnswered (tower_holdings trace) (tower_durables trace) records G new.core may present b) (sym (ap (λ x. is_violation x || violated es) r.0 ∙ ev))
       (subst (λ (x : Mount V K). ConfigAnswered (tower_holdings trace) (tower_durables trace) records G x.core may present true) (sym r.1) c)
 
+  -- before a violation the mount stands for trees, so that the next answer brings no forgery where it brings no lie
+  unforged_at : (mid new : Mount V K) (e : Exchange) (es : List Exchange) (first : Tree) (trees : List Tree) (flag : Bool) → flag ≡ false → mid.core.violated ≡ flag → LeftAt shows trace faults G mid first es trees flag
+      → MountAnswers shows trace faults G now mid e.asked e.answer new → lies_of trace faults new ≤ lies_of trace faults mid → forgeries_of trace faults new ≤ forgeries_of trace faults mid
+  unforged_at mid new e es first trees true f em left a honest = absurd (true_is_false f)
+  unforged_at mid new e es first trees false f em left a honest = a.unforged left.2.sound honest
+
+  unforged_on : (old mid new : Mount V K) (e : Exchange) (es : List Exchange) (first : Tree) → Passed shows trace faults G now old mid es → MountAnswers shows trace faults G now mid e.asked e.answer new
+      → TowerStands shows trace faults G old.core first first → lies_of trace faults new ≤ lies_of trace faults old → forgeries_of trace faults new ≤ forgeries_of trace faults old
+  unforged_on old mid new e es first p a stands honest =
+      let before : lies_of trace faults mid ≤ lies_of trace faults old = omega (arith, honest, a.lies) in
+      let few = p.unforged first stands before in
+      let t : PassedTrees shows trace faults G now old mid first es = p.passes first stands few in
+      let step = unforged_at mid new e es first t.trees (violated es) (t.alarm before) p.flag t.left a (omega (arith, honest, p.lies)) in
+      omega (arith, few, step)
+
   pub passed_none : (mount : Mount V K) → mount.core.violated ≡ false → Passed shows trace faults G now mount mount []
   passed_none mount fresh = record {
     flag = fresh;
+    answered = tt;
+    rose = λ id. omega arith;
+    spent = tt;
     opened = refl;
     goes_on = goes_on_same (calls_of trace mount);
     forgeries = omega arith;
     lies = omega arith;
     vault_cause = omega arith;
     keeper_cause = omega arith;
+    vault_quiet = λ e. refl;
+    keeper_quiet = λ v e. refl;
     marked = λ h. absurd (true_is_false (sym h));
     configures = λ may present c. c;
-    passes = λ first stands few. record { trees = []; session = tt; left = (first, refl, stands); alarm = λ h. refl };
+    unforged = λ first stands honest. omega arith;
+    passes = λ first stands few. record { trees = []; session = tt; left = (first, refl, stands); alarm = λ h. refl; built = tt };
   }
 
   pub passed_on : (old mid new : Mount V K) (e : Exchange) (es : List Exchange) → Passed shows trace faults G now old mid es → MountAnswers shows trace faults G now mid e.asked e.answer new
       → Passed shows trace faults G now old new (e ∷ es)
   passed_on old mid new e es p a = record {
     flag = a.violated ∙ ap (λ (b : Bool). is_violation e.answer || b) p.flag;
+    answered = (is_answer mid new e.asked e.answer a, p.answered);
+    rose = rose_on (version_of trace old) e es (version_of trace mid) p.rose (version_of trace new) a.raised;
+    spent = spent_on (version_of trace old) e es (version_of trace mid) p.rose (last_of mid new e.asked e.answer a) p.spent;
     opened = a.opened ∙ p.opened;
     goes_on = goes_on_onward (calls_of trace old) (calls_of trace mid) (calls_of trace new) p.goes_on a.goes_on;
     forgeries = omega (arith, p.forgeries, a.forgeries);
     lies = omega (arith, p.lies, a.lies);
     vault_cause = omega (arith, p.vault_cause, a.vault_cause);
     keeper_cause = omega (arith, p.keeper_cause, a.keeper_cause);
+    vault_quiet = λ n. a.vault_quiet (omega (arith, n)) ∙ p.vault_quiet (omega (arith, n));
+    keeper_quiet = λ v n. a.keeper_quiet (omega (arith, n)) (left_false (is_violation e.answer) (violated es) v) ∙ p.keeper_quiet (right_false (is_violation e.answer) (violated es) v) (omega (arith, n));
     marked = λ h. marked_on old mid new e es p a (is_violation e.answer) refl h;
     configures = λ may present c. configures_on mid new e es may present (violated es) refl p.flag a (p.configures may present c);
+    unforged = λ first stands honest. unforged_on old mid new e es first p a stands honest;
     passes = λ first stands few.
         let t : PassedTrees shows trace faults G now old mid first es = p.passes first stands (omega (arith, few, a.forgeries)) in
-        trees_on old mid new e es first (violated es) refl p.flag a (omega (arith, few, p.forgeries)) p.lies t.trees t.session t.left t.alarm;
+        trees_on old mid new e es first (violated es) refl p.flag a (omega (arith, few, p.forgeries)) p.lies t.trees t.session t.left t.alarm t.built;
   }

@@ -1,3 +1,4 @@
+mod Rising
 mod Joining
 mod Passes
 mod Synced

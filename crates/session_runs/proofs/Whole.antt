@@ -14,11 +14,11 @@ use Rattle.outside.specs.Trace.{Call, config, got}
 use Rattle.outside.specs.declared.keeper.Keeper.{Ghosts as KeeperGhosts}
 use Rattle.answers.specs.Sessions.{Exchange, RefusesAfterViolation, IsKeptPoint, is_violation, latest, violated, all_directory_faults, all_state_faults}
 use Rattle.store_api.specs.Durables.{Identity}
-use Rattle.integrity_store.specs.Held.{Among, forged}
+use Rattle.integrity_store.specs.Held.{forged}
 use Rattle.integrity_store.specs.Standing.{records}
 use Rattle.config_file.specs.Settings.{Settings, settings_of}
 use Rattle.config_file.specs.declared.config.Opened.{Opened}
-use Rattle.session_saver.specs.Saving.{KeptConfigures}
+use Rattle.session_saver.specs.Saving.{KeptConfigures, UnlessDirectory, UnlessState}
 use Rattle.session_saver.specs.declared.saver.SyncError.{SyncError}
 use Rattle.session_saver.specs.declared.saver.SyncError.TheVariants.{Memory, FaultDirectory, FaultState}
 use Rattle.mount_core.specs.Configuring.{KeptOneOf, ConfigAnswered, ConfigClosed}
@@ -27,27 +27,20 @@ use Rattle.mount_core.specs.Standing.{IsKeptMarked}
 use Rattle.mount.specs.declared.mount.Mount.{Mount}
 use Rattle.mount.specs.Mounts.{IsReady, Closed}
 use Rattle.mount.specs.Representing.{Represents}
-use Rattle.mount.specs.Tower.{tower_holdings, tower_durables}
+use Rattle.mount.specs.Tower.{tower_holdings, tower_durables, TowerStands}
 use Rattle.mount.specs.Unforged.{IsUnforgedConfig}
 use Rattle.mount.proofs.Reading.{represents_told}
 use Rattle.mount.proofs.Standing.{represents}
-use Rattle.session_runs.specs.Answering.{calls_of, forgeries_of, kept_of, mount_hosting}
+use Rattle.session_runs.specs.Answering.{calls_of, forgeries_of, lies_of, version_of, kept_of, mount_hosting}
 use Rattle.session_runs.specs.Passing.{MountKeeps, LeftAt, PassedTrees, Passed}
-use Rattle.session_runs.specs.Runs.{Outside, outside_of, StandsFor, forgeries, IsFounded, AreCalm, Answers, directory_fault, state_fault, IsSessionRun}
+use Rattle.session_runs.specs.Runs.{Outside, outside_of, StandsFor, forgeries, lies, OpensTo, IsFounded, AreCalm, Answers, directory_fault, state_fault, IsSessionRun}
 use Rattle.session_runs.specs.Turns.{Begun, Closing}
 use Rattle.answers.specs.Hosts.{Ran}
-use Rattle.session_runs.proofs.Joining.{true_is_false, latest_kept}
+use Rattle.session_runs.proofs.Joining.{true_is_false, left_false, right_false, latest_kept}
+use Rattle.session_runs.proofs.Rising.{spent_of}
 use Rattle.session_runs.proofs.Passes.{passed, refusing}
 
 -- ---- without a violation no answer is refused
-
-left_false : (a b : Bool) → (a || b) ≡ false → a ≡ false
-left_false true b e = e
-left_false false b e = refl
-
-right_false : (a b : Bool) → (a || b) ≡ false → b ≡ false
-right_false true b e = absurd (true_is_false e)
-right_false false b e = e
 
 -- where no answer is a violation, none stands
 pub unviolated : (es : List Exchange) → AreCalm es → violated es ≡ false
@@ -60,18 +53,15 @@ calm (e ∷ es) r v =
     let rest = right_false (is_violation e.answer) (violated es) v in
     (left_false (is_violation e.answer) (violated es) v, r.0 ∙ rest, calm es r.1 rest)
 
--- ---- what was given since is part of what was given in all
-
-among_more : (more calls : List Call) (call : Call) → Among calls call → Among (more ++ calls) call
-among_more [] calls call a = a
-among_more (first ∷ more) calls call a = inr (among_more more calls call a)
+-- ---- what was given at first stays so
 
 pub unforged_before : (password : List ℕ) (kept : Option (List ℕ)) (old mid new : Option (List Call)) (c : Settings) → GoesOn mid new → IsUnforgedConfig password kept old new c → IsUnforgedConfig password kept old mid c
 unforged_before password kept old mid new c on u = record {
   listed = u.listed;
-  given = λ before calls max bytes found cost eo em among opens.
-      let after : GoesOn (Some (calls ++ before)) new = subst (λ x. GoesOn x new) em on in
-      u.given before (after.0 ++ calls) max bytes found cost eo (after.1 ∙ ap Some (sym (append_assoc after.0 calls before))) (among_more after.0 calls (got config max (Some bytes)) among) opens;
+  given = λ state list before calls max bytes found cost has is none eo em opens.
+      let first = got config max (Some bytes) ∷ before in
+      let after : GoesOn (Some (calls ++ first)) new = subst (λ x. GoesOn x new) em on in
+      u.given state list before (after.0 ++ calls) max bytes found cost has is none eo (after.1 ∙ ap Some (sym (append_assoc after.0 calls first))) opens;
 }
 
 -- ---- faults
@@ -87,6 +77,18 @@ state_rose (Ok u) n a b c d first rose last cause = omega (arith, first, rose, l
 state_rose (Err Memory) n a b c d first rose last cause = omega (arith, first, rose, last)
 state_rose (Err FaultDirectory) n a b c d first rose last cause = omega (arith, first, rose, last)
 state_rose (Err FaultState) n a b c d first rose last cause = let r = cause refl in omega (arith, first, rose, r)
+
+directory_still : (closing : Result Unit SyncError) (n a b c d : ℕ) → b ≡ a → (n ≡ 0 → c ≡ b) → UnlessDirectory closing (d ≡ c) → n + directory_fault closing ≡ 0 → d ≡ a
+directory_still (Ok u) n a b c d first rest last none = last ∙ (rest (omega (arith, none)) ∙ first)
+directory_still (Err Memory) n a b c d first rest last none = last ∙ (rest (omega (arith, none)) ∙ first)
+directory_still (Err FaultDirectory) n a b c d first rest last none = absurd (omega (arith, none))
+directory_still (Err FaultState) n a b c d first rest last none = last ∙ (rest (omega (arith, none)) ∙ first)
+
+state_still : (closing : Result Unit SyncError) (n a b c d : ℕ) → b ≡ a → (n ≡ 0 → c ≡ b) → UnlessState closing (d ≡ c) → n + state_fault closing ≡ 0 → d ≡ a
+state_still (Ok u) n a b c d first rest last none = last ∙ (rest (omega (arith, none)) ∙ first)
+state_still (Err Memory) n a b c d first rest last none = last ∙ (rest (omega (arith, none)) ∙ first)
+state_still (Err FaultDirectory) n a b c d first rest last none = last ∙ (rest (omega (arith, none)) ∙ first)
+state_still (Err FaultState) n a b c d first rest last none = absurd (omega (arith, none))
 
 -- ---- the configuration's file
 
@@ -142,24 +144,45 @@ module _ {V : Type 0} {K : Type 0} (shows : Showing) (trace : V → Option (List
     abbrev Before : Outside
     Before = outside_of trace faults G first_vault first_keeper
 
+    -- the configuration that opened is the one
+    module _ (c : Settings) (first : Tree) (f : OpensTo shows password c first Before After) where
+      is_opened : settings_of opened_.opened.config ≡ c
+      is_opened =
+          let told = represents_told shows Before.kept Before.calls c first f.stands in
+          let on = goes_on_onward (calls_of trace opened_) (calls_of trace left) (trace vault) p.goes_on z.goes_on in
+          b.config c told (unforged_before password Before.kept Before.calls (calls_of trace opened_) After.calls c on f.unforged_config)
+
+      is_left : settings_of left.opened.config ≡ c
+      is_left = ap (λ (o : Opened). settings_of o.config) p.opened ∙ is_opened
+
+      forged_first : forgeries_of trace faults opened_ ≡ forgeries c Before
+      forged_first = b.forgeries ∙ ap (λ (s : Settings). count_told (forged (opened_of s.key) s.block_size) (trace first_vault)) is_opened
+
+      forged_last : forgeries c After ≡ forgeries_of trace faults left
+      forged_last = sym (ap (λ (s : Settings). count_told (forged (opened_of s.key) s.block_size) (trace vault)) is_left) ∙ z.forgeries
+
+      stood_first : TowerStands shows trace faults G opened_.core first first
+      stood_first = b.stands first (subst (λ x. Represents shows Before.kept Before.calls x first) (sym is_opened) f.stands)
+
+      honest_lies : lies After ≤ lies Before → lies_of trace faults left ≤ lies_of trace faults opened_
+      honest_lies honest = let l = z.lies in let g = b.lies in omega (arith, l, g, honest)
+
+      unforged : lies After ≤ lies Before → forgeries c After ≤ forgeries c Before
+      unforged honest = let few = p.unforged first stood_first (honest_lies honest) in omega (arith, forged_first, forged_last, few)
+
     founded : (c : Settings) (first : Tree) → IsFounded shows password c first Before After → Answers shows now c first Before After closing es
     founded c first f =
-        let told = represents_told shows Before.kept Before.calls c first f.stands in
-        let on = goes_on_onward (calls_of trace opened_) (calls_of trace left) (trace vault) p.goes_on z.goes_on in
-        let is = b.config c told (unforged_before password Before.kept Before.calls (calls_of trace opened_) After.calls c on f.unforged_config) in
-        let is_left : settings_of left.opened.config ≡ c = ap (λ (o : Opened). settings_of o.config) p.opened ∙ is in
-        let at_first : forgeries_of trace faults opened_ ≡ forgeries c Before = b.forgeries ∙ ap (λ (s : Settings). count_told (forged (opened_of s.key) s.block_size) (trace first_vault)) is in
-        let at_last : forgeries c After ≡ forgeries_of trace faults left = sym (ap (λ (s : Settings). count_told (forged (opened_of s.key) s.block_size) (trace vault)) is_left) ∙ z.forgeries in
-        let few : forgeries_of trace faults left ≤ forgeries_of trace faults opened_ = omega (arith, at_first, at_last, f.unforged) in
-        let stands = b.stands first (subst (λ x. Represents shows Before.kept Before.calls x first) (sym is) f.stands) in
-        let t : PassedTrees shows trace faults G now opened_ left first es = p.passes first stands few in
+        let is = is_left c first f.opens in
+        let few : forgeries_of trace faults left ≤ forgeries_of trace faults opened_ = omega (arith, forged_first c first f.opens, forged_last c first f.opens, f.unforged) in
+        let t : PassedTrees shows trace faults G now opened_ left first es = p.passes first (stood_first c first f.opens) few in
         let point = latest_kept now first es t.trees t.session in
         record {
           trees = t.trees;
           replies = t.session;
-          kept = kept_after c is_left first t.trees point (violated es) refl t.left;
-          no_false_alarm = λ honest. calm es refuses (t.alarm (let l = z.lies in let g = b.lies in omega (arith, l, g, honest)));
-          done = done_after c is_left first t.trees point (violated es) refl t.left;
+          kept = kept_after c is first t.trees point (violated es) refl t.left;
+          no_false_alarm = λ honest. calm es refuses (t.alarm (honest_lies c first f.opens honest));
+          built = t.built;
+          done = done_after c is first t.trees point (violated es) refl t.left;
         }
 
     refusal_after : violated es ≡ true → IsKeptMarked records After.kept ⊎ RoseBy (all_state_faults es + 1) Before.keeper_faults After.keeper_faults
@@ -177,15 +200,20 @@ module _ {V : Type 0} {K : Type 0} (shows : Showing) (trace : V → Option (List
     session_run = record {
       attached = (opened_.opened, kept_of G opened_, calls_of trace opened_, b.attached, goes_on_onward (calls_of trace opened_) (calls_of trace left) (trace vault) p.goes_on z.goes_on);
       refuses = refuses;
+      answered = p.answered;
+      spent = λ version known. spent_of (version_of trace opened_) version (λ id. b.versions b.attached.state b.attached.list b.attached.loaded id ∙ sym (known b.attached.state b.attached.list b.attached.loaded id)) es p.spent;
       violation = p.flag;
       closed = λ v. (z.left (inl (p.flag ∙ v))).0;
       refusal = refusal_after;
       directory_faults_happened = directory_rose closing (all_directory_faults es) _ _ _ _ b.vault_grows p.vault_cause z.vault_grows z.vault_cause;
       state_faults_happened = state_rose closing (all_state_faults es) _ _ _ _ b.keeper_grows p.keeper_cause z.keeper_grows z.keeper_cause;
+      directory_quiet = directory_still closing (all_directory_faults es) _ _ _ _ b.vault_quiet p.vault_quiet z.vault_quiet;
+      state_quiet = λ v. state_still closing (all_state_faults es) _ _ _ _ b.keeper_quiet (p.keeper_quiet v) z.keeper_quiet;
       emptied = λ v. z.emptied (p.flag ∙ v);
       configures = kept_file;
       opens = λ other c told o. (o.0, o.1, kept_file o.0 told o.2, o.3);
       founded = founded;
+      unforged = unforged;
     }
 
 -- what answered the lines has the mount; whether a violation stood is what it says at last

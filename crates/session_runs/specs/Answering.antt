@@ -1,8 +1,6 @@
 -- A mount as what answers commands.
-use Rattle.std.specs.Prelude.{◌≡◌, ◌≢◌, ◌⊎◌, ◌≤◌, ℕ, true, false, ◌||◌, List, IfOk, IfErr}
+use Rattle.std.specs.Prelude.{◌≡◌, ◌≢◌, ◌⊎◌, ◌≤◌, ◌+◌, ℕ, true, false, ◌||◌, List, IfOk, IfErr}
 use Rattle.std.specs.declared.option.Option.{Option}
-use Rattle.fs_model.specs.declared.error.FsError.{FsError}
-use Rattle.fs_model.specs.declared.reply.Reply.TheVariants.{Error}
 use Rattle.fs_model.specs.Instant.{Instant}
 use Rattle.fs_model.specs.Tree.{Tree}
 use Rattle.outside.specs.Causes.{RoseBy}
@@ -10,7 +8,7 @@ use Rattle.outside.specs.Going.{GoesOn}
 use Rattle.outside.specs.Trace.{Call}
 use Rattle.outside.specs.declared.keeper.Keeper.{Ghosts as KeeperGhosts}
 use Rattle.answers.specs.declared.answer.Answer.{Answer}
-use Rattle.answers.specs.declared.answer.Answer.TheVariants.{Reply as Replied, Memory, Refused}
+use Rattle.answers.specs.declared.answer.Answer.TheVariants.{Refused}
 use Rattle.answers.specs.Hosts.{Hosting}
 use Rattle.answers.specs.Sessions.{Asked, FollowsAsked, is_violation, is_synced, directory_faults, state_faults}
 use Rattle.store_api.specs.Holdings.{Stays}
@@ -23,6 +21,7 @@ use Rattle.mount_core.specs.Standing.{IsKeptMarked, Left}
 use Rattle.mount.specs.declared.mount.Mount.{Mount}
 use Rattle.mount.specs.Mounts.{IsReady}
 use Rattle.mount.specs.Tower.{Cached, trace_in, tower_meanings, tower_holdings, tower_durables, TowerStands, TowerConfigures}
+use Rattle.session_runs.specs.Causes.{IsUnread}
 
 -- ---- what a mount tells
 
@@ -44,14 +43,13 @@ vault_faults trace faults mount = (tower_meanings trace faults).faults (store_of
 abbrev pub keeper_faults : {V : Type 0} → {K : Type 0} → KeeperGhosts K → Mount V K → ℕ
 keeper_faults G mount = G.faults mount.core.saver.keeper
 
+abbrev pub version_of : {V : Type 0} → {K : Type 0} → (V → Option (List Call)) → Mount V K → List ℕ → ℕ
+version_of trace mount id = (tower_holdings trace).version (store_of mount) id
+
 abbrev pub kept_of : {V : Type 0} → {K : Type 0} → KeeperGhosts K → Mount V K → Option (List ℕ)
 kept_of G mount = G.kept mount.core.saver.keeper
 
 -- ---- an answer
-
--- a line that is none gets its error, or finds no memory, or is refused
-abbrev pub IsUnread : FsError → Answer → Type 0
-IsUnread error answer = (answer ≡ Replied (Error error)) ⊎ ((answer ≡ Memory) ⊎ (answer ≡ Refused))
 
 -- the tree that an answer leaves, and where it leaves the mount
 pub record Answered {V : Type 0} {K : Type 0} (shows : Showing) (trace : V → Option (List Call)) (faults : V → ℕ) (G : KeeperGhosts K) (now : Instant) (mount : Mount V K) (kept present : Tree) (asked : Asked) (answer : Answer) : Type 0 where
@@ -74,13 +72,17 @@ pub record MountAnswers {V : Type 0} {K : Type 0} (shows : Showing) (trace : V �
   pub goes_on : GoesOn (calls_of trace old) (calls_of trace new)
   pub forgeries : forgeries_of trace faults old ≤ forgeries_of trace faults new
   pub lies : lies_of trace faults old ≤ lies_of trace faults new
+  pub unforged : (tower_meanings trace faults).sound (store_of old) → lies_of trace faults new ≤ lies_of trace faults old → forgeries_of trace faults new ≤ forgeries_of trace faults old
   pub alarm : (kept present : Tree) → old.core.violated ≡ false → TowerStands shows trace faults G old.core kept present → lies_of trace faults new ≤ lies_of trace faults old → is_violation answer ≡ false
   pub built : (kept present : Tree) → old.core.violated ≡ false → TowerStands shows trace faults G old.core kept present → forgeries_of trace faults new ≤ forgeries_of trace faults old → is_structure answer ≡ false
   pub found : OnFound answer (FoundCause (tower_meanings trace faults) (tower_holdings trace) (tower_durables trace) (store_of old) (store_of new))
   pub vault_cause : RoseBy (directory_faults answer) (vault_faults trace faults old) (vault_faults trace faults new)
+  pub vault_quiet : directory_faults answer ≡ 0 → vault_faults trace faults new ≡ vault_faults trace faults old
   pub keeper_cause : RoseBy (state_faults answer) (keeper_faults G old) (keeper_faults G new)
+  pub keeper_quiet : state_faults answer ≡ 0 → is_violation answer ≡ false → keeper_faults G new ≡ keeper_faults G old
   pub marked : is_violation answer ≡ true → IsKeptMarked records (kept_of G new) ⊎ RoseBy 1 (keeper_faults G old) (keeper_faults G new)
   pub spent : IfOk asked (λ command. OnSpent answer (SpentCause (tower_holdings trace) (store_of old) command))
+  pub raised : (id : List ℕ) → version_of trace new id ≤ version_of trace old id + 1
   pub variant : IfOk asked (λ command. OnReply answer (IsReplyTo command))
 
 -- what has a mount answers by it

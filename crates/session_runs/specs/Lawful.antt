@@ -25,7 +25,8 @@ use Rattle.tree_commands.specs.Performing.{Showing, IsReplyTo}
 use Rattle.mount_core.specs.Standing.{Left}
 use Rattle.mount.specs.declared.mount.Mount.{Mount}
 use Rattle.mount.specs.Tower.{tower_meanings, tower_holdings, tower_durables}
-use Rattle.session_runs.specs.Answering.{store_of, calls_of, IsUnread, MountAnswers, mount_hosting}
+use Rattle.session_runs.specs.Answering.{store_of, calls_of, MountAnswers, mount_hosting}
+use Rattle.session_runs.specs.Causes.{IsUnread}
 
 true_is_false : true ≡ false → ⊥
 true_is_false e = cc
@@ -57,7 +58,7 @@ reply_not_refused : (reply : Reply) → ◌≡◌ {A = Answer} (Replied reply) R
 reply_not_refused reply e = subst IsNotRefused e tt
 
 stays_same : {S : Type 0} (H : Holdings S) (s : S) → Stays H s s
-stays_same H s = record { ids = λ id. refl; content = λ t id. refl; told = refl; used = refl; spent = λ id. refl; payload = refl }
+stays_same H s = record { ids = λ id. refl; content = λ t id. refl; told = refl; used = refl; spent = λ id. refl; version = λ id. refl; payload = refl }
 
 and_false : (b : Bool) → (b && false) ≡ false
 and_false true = refl
@@ -198,13 +199,17 @@ module _ {V : Type 0} {K : Type 0} (shows : Showing) (trace : V → Option (List
         goes_on = goes_on_same (calls_of trace mount);
         forgeries = omega arith;
         lies = omega arith;
+        unforged = λ sound honest. omega arith;
         alarm = λ kept present f stands few. calm;
         built = λ kept present f stands few. no_structure answer none;
         found = no_found answer _ none;
         vault_cause = omega (arith, d);
+        vault_quiet = λ e. refl;
         keeper_cause = omega (arith, s);
+        keeper_quiet = λ e f. refl;
         marked = λ e. absurd (true_is_false (sym e ∙ calm));
         spent = if_ok asked _ (λ command. no_spent answer _ none);
+        raised = λ id. omega arith;
         variant = if_ok asked _ (λ command. no_reply answer command none);
       }
 
@@ -262,13 +267,17 @@ module _ {V : Type 0} {K : Type 0} (shows : Showing) (trace : V → Option (List
     goes_on = w.goes_on;
     forgeries = w.forgeries;
     lies = w.lies;
+    unforged = w.unforged;
     alarm = λ kept present f stands few. refl;
     built = λ kept present f stands few. refl;
     found = tt;
     vault_cause = w.vault_cause;
+    vault_quiet = w.vault_quiet;
     keeper_cause = w.keeper_cause;
+    keeper_quiet = λ e f. w.keeper_quiet e f;
     marked = λ e. absurd (true_is_false (sym e));
     spent = if_ok asked _ (λ command. tt);
+    raised = w.raised;
     variant = if_ok asked _ (λ command. tt);
   }
 

@@ -1,3 +1,4 @@
+pub mod Causes
 pub mod Answering
 pub mod Lawful
 pub mod Passing

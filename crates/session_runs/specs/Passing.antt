@@ -1,5 +1,5 @@
 -- Where the answers of a session leave a mount, from the first on. The newest exchange and tree stand first.
-use Rattle.std.specs.Prelude.{◌≡◌, ◌⊎◌, ◌≤◌, ℕ, ◌+◌, Bool, true, false, List}
+use Rattle.std.specs.Prelude.{◌≡◌, ◌⊎◌, ◌≤◌, ℕ, ◌+◌, Bool, true, false, List, length}
 use Rattle.std.specs.declared.option.Option.{Option}
 use Rattle.fs_model.specs.Instant.{Instant}
 use Rattle.fs_model.specs.Tree.{Tree}
@@ -14,7 +14,8 @@ use Rattle.tree_commands.specs.Performing.{Showing}
 use Rattle.mount_core.specs.Standing.{IsKeptMarked, Keeps}
 use Rattle.mount.specs.declared.mount.Mount.{Mount}
 use Rattle.mount.specs.Tower.{tower_holdings, tower_durables, TowerStands, TowerConfigures}
-use Rattle.session_runs.specs.Answering.{store_of, calls_of, forgeries_of, lies_of, vault_faults, keeper_faults, kept_of}
+use Rattle.session_runs.specs.Answering.{store_of, calls_of, forgeries_of, lies_of, vault_faults, keeper_faults, version_of, kept_of}
+use Rattle.session_runs.specs.Causes.{AreAnswered, AreBuilt, AreSpent}
 
 -- what is kept stands for this tree in the mount's store
 abbrev pub MountKeeps : {V : Type 0} → {K : Type 0} → Showing → (V → Option (List Call)) → KeeperGhosts K → Mount V K → Tree → Type 0
@@ -33,18 +34,25 @@ pub record PassedTrees {V : Type 0} {K : Type 0} (shows : Showing) (trace : V �
   pub session : IsSession now first es trees
   pub left : LeftAt shows trace faults G new first es trees (violated es)
   pub alarm : lies_of trace faults new ≤ lies_of trace faults old → violated es ≡ false
+  pub built : AreBuilt es
 
 -- the exchanges led from the one mount, in which there was no violation, to the other
 pub record Passed {V : Type 0} {K : Type 0} (shows : Showing) (trace : V → Option (List Call)) (faults : V → ℕ) (G : KeeperGhosts K) (now : Instant) (old new : Mount V K) (es : List Exchange) : Type 0 where
   pub flag : new.core.violated ≡ violated es
+  pub answered : AreAnswered es
+  pub rose : (id : List ℕ) → version_of trace new id ≤ version_of trace old id + length es
+  pub spent : AreSpent (version_of trace old) es
   pub opened : new.opened ≡ old.opened
   pub goes_on : GoesOn (calls_of trace old) (calls_of trace new)
   pub forgeries : forgeries_of trace faults old ≤ forgeries_of trace faults new
   pub lies : lies_of trace faults old ≤ lies_of trace faults new
   pub vault_cause : RoseBy (all_directory_faults es) (vault_faults trace faults old) (vault_faults trace faults new)
   pub keeper_cause : RoseBy (all_state_faults es) (keeper_faults G old) (keeper_faults G new)
+  pub vault_quiet : all_directory_faults es ≡ 0 → vault_faults trace faults new ≡ vault_faults trace faults old
+  pub keeper_quiet : violated es ≡ false → all_state_faults es ≡ 0 → keeper_faults G new ≡ keeper_faults G old
   pub marked : violated es ≡ true → IsKeptMarked records (kept_of G new) ⊎ RoseBy (all_state_faults es + 1) (keeper_faults G old) (keeper_faults G new)
   pub configures : (may : List (List ℕ)) (present : List ℕ) → TowerConfigures trace G old.core may present
       → ConfigAnswered (tower_holdings trace) (tower_durables trace) records G new.core may present (violated es)
+  pub unforged : (first : Tree) → TowerStands shows trace faults G old.core first first → lies_of trace faults new ≤ lies_of trace faults old → forgeries_of trace faults new ≤ forgeries_of trace faults old
   pub passes : (first : Tree) → TowerStands shows trace faults G old.core first first → forgeries_of trace faults new ≤ forgeries_of trace faults old
       → PassedTrees shows trace faults G now old new first es

@@ -27,6 +27,7 @@ use Rattle.mount.specs.Opening.{Attached}
 use Rattle.mount.specs.Representing.{Represents, HasEmptyList}
 use Rattle.mount.specs.Unforged.{IsUnforgedConfig}
 use Rattle.mount.specs.declared.mount.Halted.{Halted}
+use Rattle.session_runs.specs.Causes.{AreAnswered, AreBuilt, SpentSince}
 
 -- at one moment: what is kept, the calls on the directory where they are told, the newest first, and both counts of faults
 pub record Outside : Type 0 where
@@ -53,10 +54,14 @@ forgeries c o = count_told (forged (opened_of c.key) c.block_size) o.calls
 abbrev pub lies : Outside → ℕ
 lies o = count_told is_lie o.calls
 
--- what a session must find: under this configuration they stood for the first tree, and nothing that opens was forged since
-pub record IsFounded (shows : Showing) (password : List ℕ) (c : Settings) (first : Tree) (before after : Outside) : Type 0 where
-  pub stands : StandsFor shows c first before
+-- what opening must find: under this configuration they stood for the tree, and no other configuration opens under the password
+pub record OpensTo (shows : Showing) (password : List ℕ) (c : Settings) (tree : Tree) (before after : Outside) : Type 0 where
+  pub stands : StandsFor shows c tree before
   pub unforged_config : IsUnforgedConfig password before.kept before.calls after.calls c
+
+-- what a session must find besides: no block file that opens was forged since
+pub record IsFounded (shows : Showing) (password : List ℕ) (c : Settings) (first : Tree) (before after : Outside) : Type 0 where
+  pub opens : OpensTo shows password c first before after
   pub unforged : forgeries c after ≤ forgeries c before
 
 -- no answer is a violation or refused
@@ -71,6 +76,7 @@ pub record Answers (shows : Showing) (now : Instant) (c : Settings) (first : Tre
   -- a marked record is kept only after a violation
   pub kept : ((violated es ≡ true) × IsKeptMarked records after.kept) ⊎ ((tree : Tree) × IsKeptPoint first es trees tree × StandsFor shows c tree after)
   pub no_false_alarm : lies after ≤ lies before → AreCalm es
+  pub built : AreBuilt es
   -- without a violation, a session that closed leaves its last tree
   pub done : violated es ≡ false → OnOk closing (StandsFor shows c (latest first trees) after)
 
@@ -95,6 +101,9 @@ WasAttached password before after = (o : Opened) × (kept : Option (List ℕ)) �
 pub record IsSessionRun (shows : Showing) (now : Instant) (password : List ℕ) (before after : Outside) (stood : Bool) (closing : Result Unit SyncError) (es : List Exchange) : Type 0 where
   pub attached : WasAttached password before after
   pub refuses : RefusesAfterViolation es
+  -- each answer is one to what was asked
+  pub answered : AreAnswered es
+  pub spent : SpentSince before.kept es
   -- whether a violation stood at the end
   pub violation : stood ≡ violated es
   -- after a violation nothing is done to close
@@ -102,16 +111,21 @@ pub record IsSessionRun (shows : Showing) (now : Instant) (password : List ℕ) 
   pub refusal : violated es ≡ true → IsKeptMarked records after.kept ⊎ RoseBy (all_state_faults es + 1) before.keeper_faults after.keeper_faults
   pub directory_faults_happened : RoseBy (all_directory_faults es + directory_fault closing) before.vault_faults after.vault_faults
   pub state_faults_happened : RoseBy (all_state_faults es + state_fault closing) before.keeper_faults after.keeper_faults
+  -- where none is named, none happened; after a violation the mark's save may fail and isn't named
+  pub directory_quiet : all_directory_faults es + directory_fault closing ≡ 0 → after.vault_faults ≡ before.vault_faults
+  pub state_quiet : violated es ≡ false → all_state_faults es + state_fault closing ≡ 0 → after.keeper_faults ≡ before.keeper_faults
   pub emptied : violated es ≡ false → OnOk closing (HasEmptyList after.kept)
   -- the configuration's file stays
   pub configures : (file : List ℕ) → is_some before.calls ≡ true → KeptConfigures records before.kept before.calls file → KeptConfigures records after.kept after.calls file
   -- and each password that opened it still does
   pub opens : (other : List ℕ) (c : Settings) → is_some before.calls ≡ true → PasswordOpens other c before → PasswordOpens other c after
   pub founded : (c : Settings) (first : Tree) → IsFounded shows password c first before after → Answers shows now c first before after closing es
+  -- a directory that gives what was last written gives no forgery
+  pub unforged : (c : Settings) (first : Tree) → OpensTo shows password c first before after → lies after ≤ lies before → forgeries c after ≤ forgeries c before
 
 -- a run of no lines: it leaves what was kept, and a marked record with all that was called
 pub record IsQuiet (shows : Showing) (password : List ℕ) (before after : Outside) : Type 0 where
-  pub stands : (c : Settings) (tree : Tree) → IsFounded shows password c tree before after → StandsFor shows c tree after
+  pub stands : (c : Settings) (tree : Tree) → OpensTo shows password c tree before after → StandsFor shows c tree after
   pub marked : IsKeptMarked records before.kept → (after.kept ≡ before.kept) × (after.calls ≡ before.calls)
 
 -- There are exchanges of such a session, with lines that came so.

@@ -11,18 +11,18 @@ use Rattle.outside.specs.Going.{GoesOn}
 use Rattle.outside.specs.Honest.{is_lie, count_told}
 use Rattle.outside.specs.Trace.{Call}
 use Rattle.outside.specs.declared.keeper.Keeper.{Ghosts as KeeperGhosts}
-use Rattle.session_saver.specs.Saving.{KeptConfigures}
+use Rattle.session_saver.specs.Saving.{KeptConfigures, UnlessDirectory, UnlessState}
 use Rattle.session_saver.specs.declared.saver.SyncError.{SyncError}
 use Rattle.session_saver.specs.declared.saver.SyncError.TheVariants.{FaultDirectory, FaultState}
 use Rattle.mount_core.specs.Configuring.{ConfigClosed}
 use Rattle.tree_commands.specs.Performing.{Showing}
 use Rattle.mount.specs.declared.mount.Mount.{Mount}
 use Rattle.mount.specs.Mounts.{IsReady, Closed}
-use Rattle.mount.specs.Opening.{Attached}
+use Rattle.mount.specs.Opening.{AreKnown, Attached}
 use Rattle.mount.specs.Representing.{Represents, HasEmptyList}
 use Rattle.mount.specs.Tower.{vault_in, TowerStands, TowerConfigures}
 use Rattle.mount.specs.Unforged.{IsUnforgedConfig}
-use Rattle.session_runs.specs.Answering.{store_of, calls_of, forgeries_of, lies_of, vault_faults, keeper_faults, kept_of}
+use Rattle.session_runs.specs.Answering.{store_of, calls_of, forgeries_of, lies_of, vault_faults, keeper_faults, version_of, kept_of}
 
 -- the mount that was opened under the password
 pub record Begun {V : Type 0} {K : Type 0} (shows : Showing) (trace : V → Option (List Call)) (faults : V → ℕ) (G : KeeperGhosts K) (password : List ℕ) (vault : V) (keeper : K) (mount : Mount V K) : Type 0 where
@@ -36,6 +36,9 @@ pub record Begun {V : Type 0} {K : Type 0} (shows : Showing) (trace : V → Opti
   pub lies : count_told is_lie (trace vault) ≤ lies_of trace faults mount
   pub vault_grows : faults vault ≤ vault_faults trace faults mount
   pub keeper_grows : G.faults keeper ≤ keeper_faults G mount
+  pub vault_quiet : vault_faults trace faults mount ≡ faults vault
+  pub keeper_quiet : keeper_faults G mount ≡ G.faults keeper
+  pub versions : AreKnown (G.kept keeper) (version_of trace mount)
 
 -- the mount was closed with this answer, and gave back its directory and its keeper
 pub record Closing {V : Type 0} {K : Type 0} (shows : Showing) (trace : V → Option (List Call)) (faults : V → ℕ) (G : KeeperGhosts K) (mount : Mount V K) (closing : Result Unit SyncError) (vault : V) (keeper : K) : Type 0 where
@@ -49,5 +52,7 @@ pub record Closing {V : Type 0} {K : Type 0} (shows : Showing) (trace : V → Op
   pub lies : count_told is_lie (trace vault) ≡ lies_of trace faults mount
   pub vault_grows : vault_faults trace faults mount ≤ faults vault
   pub vault_cause : IsErrOf closing FaultDirectory → RoseBy 1 (vault_faults trace faults mount) (faults vault)
+  pub vault_quiet : UnlessDirectory closing (faults vault ≡ vault_faults trace faults mount)
   pub keeper_grows : keeper_faults G mount ≤ G.faults keeper
   pub keeper_cause : IsErrOf closing FaultState → RoseBy 1 (keeper_faults G mount) (G.faults keeper)
+  pub keeper_quiet : UnlessState closing (G.faults keeper ≡ keeper_faults G mount)

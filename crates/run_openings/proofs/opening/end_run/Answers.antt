@@ -17,7 +17,9 @@ returns g c =
         lies = z.lies;
         vault_grows = z.vault_grows;
         vault_cause = z.vault_cause;
+        vault_quiet = z.vault_quiet;
         keeper_grows = z.keeper_grows;
         keeper_cause = z.keeper_cause;
+        keeper_quiet = z.keeper_quiet;
       },
     )

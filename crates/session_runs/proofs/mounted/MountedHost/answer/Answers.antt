@@ -30,12 +30,16 @@ returns-clause-answered g c =
       goes_on = e.goes_on;
       forgeries = e.forgeries;
       lies = e.lies;
+      unforged = e.unforged;
       alarm = e.alarm;
       built = e.built;
       found = e.found;
       vault_cause = e.vault_cause;
+      vault_quiet = e.vault_quiet;
       keeper_cause = e.keeper_cause;
+      keeper_quiet = e.keeper_quiet;
       marked = e.marked;
       spent = e.spent;
+      raised = e.raised;
       variant = e.variant;
     }

@@ -1,0 +1,39 @@
+-- What each answer of a session is, by what was asked. The newest exchange stands first.
+use Rattle.std.specs.Prelude.{◌≡◌, ◌⊎◌, ◌≤◌, ◌+◌, ◌^◌, ℕ, false, List, [], ◌∷◌, length, Ok, Err}
+use Rattle.std.specs.declared.option.Option.{Option}
+use Rattle.fs_model.specs.declared.error.FsError.{FsError}
+use Rattle.fs_model.specs.declared.reply.Reply.TheVariants.{Error}
+use Rattle.fs_model.specs.Laws.{OnlyLooks}
+use Rattle.answers.specs.declared.answer.Answer.{Answer}
+use Rattle.answers.specs.declared.answer.Answer.TheVariants.{Reply as Replied, Memory, Refused}
+use Rattle.answers.specs.Sessions.{Asked, Exchange}
+use Rattle.mount.specs.Opening.{AreKnown}
+use Rattle.mount_core.specs.Answers.{is_structure, OnReply, OnSpent}
+use Rattle.tree_commands.specs.Performing.{IsReplyTo}
+
+-- a line that is none gets its error, or finds no memory, or is refused
+abbrev pub IsUnread : FsError → Answer → Type 0
+IsUnread error answer = (answer ≡ Replied (Error error)) ⊎ ((answer ≡ Memory) ⊎ (answer ≡ Refused))
+
+-- a line that is none is answered so; the reply to a command has its form, and only one that changes something is answered by Spent
+abbrev pub IsAnswerTo : Asked → Answer → Type 0
+IsAnswerTo (Ok command) answer = OnReply answer (IsReplyTo command) × OnSpent answer (OnlyLooks command → ⊥)
+IsAnswerTo (Err error) answer = IsUnread error answer
+
+abbrev pub AreAnswered : List Exchange → Type 0
+AreAnswered [] = Unit {0}
+AreAnswered (e ∷ es) = IsAnswerTo e.asked e.answer × AreAnswered es
+
+-- no answer is a violation of the structure
+abbrev pub AreBuilt : List Exchange → Type 0
+AreBuilt [] = Unit {0}
+AreBuilt (e ∷ es) = (is_structure e.answer ≡ false) × AreBuilt es
+
+-- Spent comes only where some block's version at the beginning, and one for each exchange before, may be the last of 64 bits
+abbrev pub AreSpent : (List ℕ → ℕ) → List Exchange → Type 0
+AreSpent version [] = Unit {0}
+AreSpent version (e ∷ es) = OnSpent e.answer ((id : List ℕ) × (2 ^ 64 ≤ version id + length es + 1)) × AreSpent version es
+
+-- the same by the versions in the record that was kept at the beginning
+abbrev pub SpentSince : Option (List ℕ) → List Exchange → Type 0
+SpentSince kept es = (version : List ℕ → ℕ) → AreKnown kept version → AreSpent version es
