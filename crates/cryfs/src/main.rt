@@ -2,12 +2,15 @@
 #![tactic(auto)]
 
 mod reader_source;
+mod record_use;
 mod writer_sink;
 
 use crate::reader_source::ReaderSource;
+use crate::record_use::uses_record;
 use crate::writer_sink::WriterSink;
 use cryfs_shell::{Status, run};
 use fs_model::Moment;
+use outside::Memory;
 use rand_chacha::ChaCha20Rng;
 use rand_core::Rng;
 use real_folders::{FolderKeeper, FolderRun, FolderVault};
@@ -39,6 +42,20 @@ fn read_words(rt: &HostRuntime) -> Result<Vec<String>, Status> {
     Ok(words)
 }
 
+/// The record in the state folder, whose file is read only where the words need it.
+fn make_keeper<'a>(
+    rt: &HostRuntime,
+    words: &[String],
+    state: &str,
+    run: &'a FolderRun,
+) -> Result<FolderKeeper<'a, HostRuntime>, Memory> {
+    if uses_record(rt.alloc(), words)? {
+        FolderKeeper::new(rt.alloc(), *rt, state, run)
+    } else {
+        FolderKeeper::unread(rt.alloc(), *rt, state, run)
+    }
+}
+
 /// Runs the words after the block folder and the state folder, from standard input to standard output. The clock and the
 /// system's random bytes are inputs: where either is refused, that is an input that failed.
 fn run_words(rt: &HostRuntime) -> Status {
@@ -61,7 +78,7 @@ fn run_words(rt: &HostRuntime) -> Status {
     let Ok(folders) = FolderRun::new(rt.alloc(), chance.next_u64()) else {
         return Status::Memory;
     };
-    let Ok(keeper) = FolderKeeper::new(rt.alloc(), *rt, state, &folders) else {
+    let Ok(keeper) = make_keeper(rt, rest, state, &folders) else {
         return Status::Memory;
     };
     let vault = FolderVault::new(*rt, blocks, &folders);

@@ -1,6 +1,6 @@
 // A file of a real folder as the local record.
 ghost use Rattle.std.specs.Prelude.{◌≡◌, ◌⊎◌, ◌≤◌, length, IfOk, OnOk, OnErr, IsTrue};
-ghost use Rattle.std.specs.declared.option.Option.TheVariants.{Some};
+ghost use Rattle.std.specs.declared.option.Option.TheVariants.{None, Some};
 ghost use Rattle.std.specs.Option.{option_map};
 ghost use Rattle.outside.specs.Causes.{HasCause, RoseBy};
 ghost use Rattle.outside.specs.MemoryStreams.{one_more};
@@ -23,8 +23,8 @@ const RECORD_FILE: &str = "cryfs.localstate";
 
 const LOCK_FILE: &str = "cryfs.lock";
 
-/// The record in a file of a real folder. What is kept is what the file held as this was made, or what was saved last since
-/// then; a load finds out whether the file still holds that. From the first load or save on no other run can load or save.
+/// The record in a file of a real folder. What is kept is what the file held as this was made, where it was read then, or what
+/// was saved last since; a load finds out whether the file still holds that. From the first load or save on no other run can load or save.
 /// A save first flushes the files of blocks that this run wrote.
 #[derive(Drop)]
 pub struct FolderKeeper<'a, R: Files> {
@@ -50,7 +50,8 @@ impl<'a, R: Files + Drop> FolderKeeper<'a, R>
 where
     R::File: Lock,
 {
-    /// The record in the folder at this path, which needs not be there yet. Nothing is made. No fault so far.
+    /// The record in the folder at this path, which needs not be there yet. Its file is read, and nothing is made. No fault
+    /// so far.
     pub fn new(
         alloc: Global,
         files: R,
@@ -59,15 +60,30 @@ where
     ) -> Result<FolderKeeper<'a, R>, Memory>
         ensures { IfOk result (λ keeper. keeper.faults ≡ 0) }
     {
-        let folder = PathBuf::from_str(alloc, folder)?;
-        let lock_path = folder.join(alloc, LOCK_FILE)?;
-        let file = StoredFile::new(alloc, folder, RECORD_FILE)?;
-        let beside = file.beside(alloc, run.ending())?;
-        let found = match file.read(&files, alloc, usize::MAX) {
+        let mut keeper = FolderKeeper::unread(alloc, files, folder, run)?;
+        let found = match keeper.file.read(&keeper.files, alloc, usize::MAX) {
             Ok(found) => found,
             Err(FolderError::Memory(_)) => return Err(Memory),
             Err(FolderError::Io(_)) => None,
         };
+        keeper.known = MemoryKeeper::new(alloc, found, Vec::new(alloc));
+        Ok(keeper)
+    }
+
+    /// The same for a run that doesn't use the record: its file isn't looked at, and counts as not there. So a load fails
+    /// where it is. No fault so far.
+    pub fn unread(
+        alloc: Global,
+        files: R,
+        folder: &str,
+        run: &'a FolderRun,
+    ) -> Result<FolderKeeper<'a, R>, Memory>
+        ensures { IfOk result (λ keeper. (keeper.kept ≡ None) × (keeper.faults ≡ 0)) }
+    {
+        let folder = PathBuf::from_str(alloc, folder)?;
+        let lock_path = folder.join(alloc, LOCK_FILE)?;
+        let file = StoredFile::new(alloc, folder, RECORD_FILE)?;
+        let beside = file.beside(alloc, run.ending())?;
         Ok(FolderKeeper {
             files,
             run,
@@ -75,7 +91,7 @@ where
             beside,
             lock_path,
             lock: None,
-            known: MemoryKeeper::new(alloc, found, Vec::new(alloc)),
+            known: MemoryKeeper::new(alloc, None, Vec::new(alloc)),
             faults: 0,
         })
     }
@@ -190,6 +206,7 @@ mod tests {
     use super::*;
     use crate::test_folders::{fresh_folder, holds, is_absent, saves, write};
     use std::fs;
+    use std::os::unix::fs::symlink;
     use std::test::Fail;
 
     /// Whether a load answers this record.
@@ -264,6 +281,40 @@ mod tests {
         assert!(rt; fails(rt.alloc(), &mut keeper));
         assert!(rt; keeper.faults == 2);
         fs::remove_dir_all(&rt, folder)?;
+        Ok(())
+    }
+
+    #[test]
+    fn fails_at_a_device(rt: HostRuntime) -> Result<(), Fail> {
+        let folder = fresh_folder(&rt, "device")?;
+        fs::create_dir_all(&rt, folder.as_path())?;
+        symlink(
+            &rt,
+            "/dev/null",
+            folder.join(rt.alloc(), "cryfs.localstate")?,
+        )?;
+        let run = FolderRun::new(rt.alloc(), 1)?;
+        let mut keeper = FolderKeeper::new(rt.alloc(), rt, folder.as_str(), &run)?;
+        assert!(rt; keeper.load(rt.alloc()).err() == Some(GetFail::Failed));
+        fs::remove_dir_all(&rt, folder)?;
+        Ok(())
+    }
+
+    /// A record that counts as not there is never given back as none.
+    #[test]
+    fn looks_at_no_record_where_none_is_used(rt: HostRuntime) -> Result<(), Fail> {
+        let folder = fresh_folder(&rt, "unread")?;
+        let path = folder.as_str();
+        let run = FolderRun::new(rt.alloc(), 1)?;
+        let mut first = FolderKeeper::unread(rt.alloc(), rt, path, &run)?;
+        assert!(rt; is_absent(&rt, path, ""));
+        assert!(rt; gives_none(rt.alloc(), &mut first));
+        assert!(rt; saves(rt.alloc(), &mut first, "record"));
+        drop(first);
+        let mut second = FolderKeeper::unread(rt.alloc(), rt, path, &run)?;
+        assert!(rt; second.load(rt.alloc()).err() == Some(GetFail::Failed));
+        assert!(rt; second.faults == 1);
+        fs::remove_dir_all(&rt, path)?;
         Ok(())
     }
 }
