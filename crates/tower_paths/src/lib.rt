@@ -1,7 +1,9 @@
-//! Commands on paths over the whole tower: blobs in trees of sealed blocks, over a directory in memory. There is nothing
-//! here but tests.
+//! Commands on paths over the whole tower: blobs in trees of sealed blocks, over a directory in memory; and how many
+//! blocks each call on a tree loads there. There is nothing here but tests.
 #![tactic(auto)]
 
+#[cfg(test)]
+mod loads;
 #[cfg(test)]
 mod moves;
 #[cfg(test)]
