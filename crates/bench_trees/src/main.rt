@@ -1,0 +1,210 @@
+//! Works on one tree of blocks in memory, for measuring. The words are how many bytes the tree has, and how many of the steps
+//! are taken: made, read, overwritten at random places, grown by small writes, cut by as much. Each step prints a line, with
+//! how many blocks it changed.
+#![tactic(auto)]
+
+ghost use Rattle.std.specs.Prelude.{◌≤◌, ◌^◌};
+
+use block_id::{BlockId, Fail};
+use data_tree::{new_tree, read_range};
+use map_store::MapStore;
+use rand_core::Rng;
+use rand_pcg::Pcg32;
+use std::alloc::Global;
+use std::{env, io};
+use store_api::{Blocks, BlocksMut, Tx};
+use tree_ranges::{resize, write_range};
+
+/// The bytes of a payload, as in a block file of 16,384.
+const PAYLOAD: usize = 16306;
+
+/// The bytes of a small write, and how often it is made.
+const SMALL: usize = 4096;
+
+const CALLS: u64 = 1000;
+
+/// The bytes that are read at once.
+const PIECE: u64 = 500_000;
+
+/// The most bytes of a tree.
+const LONGEST: u64 = 1 << 32;
+
+/// Has the store take what waits, and answers how many blocks that changes.
+fn keep<S: BlocksMut, R: Rng>(alloc: Global, tx: &mut Tx<S>, chance: &mut R) -> Result<usize, Fail>
+    requires { ⟦<Tx<S> as Blocks>⟧.meanings.intact tx.old }
+    ensures { ⟦<Tx<S> as Blocks>⟧.meanings.intact tx.new }
+{
+    let count = tx.batch().len();
+    match tx.commit(alloc, chance) {
+        Ok(()) => Ok(count),
+        Err(_) => Err(Fail::Memory),
+    }
+}
+
+/// Reads so many pieces from the beginning, and answers how many bytes they have.
+fn read_all<S: Blocks>(
+    alloc: Global,
+    tx: &mut Tx<S>,
+    root: &BlockId,
+    pieces: u64,
+) -> Result<u64, Fail>
+    requires { ⟦<Tx<S> as Blocks>⟧.meanings.intact tx.old }
+    ensures { ⟦<Tx<S> as Blocks>⟧.meanings.intact tx.new }
+{
+    let mut count = 0u64;
+    for piece in 0..pieces {
+        let bytes = read_range(alloc, tx, root, piece.saturating_mul(PIECE), PIECE)?;
+        count = count.saturating_add(bytes.len() as u64);
+    }
+    Ok(count)
+}
+
+/// Overwrites small ranges at random places, and answers how many blocks that changed.
+fn overwrite<S: BlocksMut, R: Rng>(
+    alloc: Global,
+    tx: &mut Tx<S>,
+    root: &BlockId,
+    size: u64,
+    calls: u64,
+    chance: &mut R,
+) -> Result<usize, Fail>
+    requires intact { ⟦<Tx<S> as Blocks>⟧.meanings.intact tx.old }
+    requires small { size ≤ 2 ^ 32 }
+    requires few { calls ≤ 1000 }
+    ensures { ⟦<Tx<S> as Blocks>⟧.meanings.intact tx.new }
+{
+    let bytes = [9u8; SMALL];
+    let mut changed = 0usize;
+    for _ in 0..calls {
+        let place = u64::from(chance.next_u32()) % (size + 1);
+        write_range(alloc, tx, root, place.saturating_sub(4096), &bytes, chance)?;
+        changed = changed.saturating_add(keep(alloc, tx, chance)?);
+    }
+    Ok(changed)
+}
+
+/// Grows the tree by small writes at its end, or cuts as much off again, and answers how many blocks that changed.
+fn grow<S: BlocksMut, R: Rng>(
+    alloc: Global,
+    tx: &mut Tx<S>,
+    root: &BlockId,
+    size: u64,
+    calls: u64,
+    chance: &mut R,
+) -> Result<usize, Fail>
+    requires intact { ⟦<Tx<S> as Blocks>⟧.meanings.intact tx.old }
+    requires small { size ≤ 2 ^ 32 }
+    requires few { calls ≤ 1000 }
+    ensures { ⟦<Tx<S> as Blocks>⟧.meanings.intact tx.new }
+{
+    let bytes = [9u8; SMALL];
+    let mut changed = 0usize;
+    for call in 0..calls {
+        write_range(alloc, tx, root, size + call * 4096, &bytes, chance)?;
+        changed = changed.saturating_add(keep(alloc, tx, chance)?);
+    }
+    Ok(changed)
+}
+
+fn cut<S: BlocksMut, R: Rng>(
+    alloc: Global,
+    tx: &mut Tx<S>,
+    root: &BlockId,
+    size: u64,
+    calls: u64,
+    chance: &mut R,
+) -> Result<usize, Fail>
+    requires intact { ⟦<Tx<S> as Blocks>⟧.meanings.intact tx.old }
+    requires small { size ≤ 2 ^ 32 }
+    requires few { calls ≤ 1000 }
+    ensures { ⟦<Tx<S> as Blocks>⟧.meanings.intact tx.new }
+{
+    let mut changed = 0usize;
+    for call in 0..calls {
+        resize(alloc, tx, root, size + (calls - call - 1) * 4096, chance)?;
+        changed = changed.saturating_add(keep(alloc, tx, chance)?);
+    }
+    Ok(changed)
+}
+
+/// How often a step is called where so many are taken.
+fn calls_from(step: u64, steps: u64) -> u64
+    ensures { result ≤ 1000 }
+{
+    if step <= steps { CALLS } else { 0 }
+}
+
+/// Takes so many steps over a store, and answers the number that each gives.
+fn take_steps<S: BlocksMut>(
+    alloc: Global,
+    tx: &mut Tx<S>,
+    size: u64,
+    steps: u64,
+) -> Result<Vec<u64>, Fail>
+    requires intact { ⟦<Tx<S> as Blocks>⟧.meanings.intact tx.old }
+    requires small { size ≤ 2 ^ 32 }
+{
+    let mut chance = Pcg32::new(1, 2);
+    let mut lines = Vec::new(alloc);
+    let bytes = vec![in alloc; 7u8; size as usize]?;
+    let root = new_tree(alloc, tx, &bytes, &mut chance)?;
+    drop(bytes);
+    lines.push(keep(alloc, tx, &mut chance)? as u64)?;
+    let pieces = if steps > 1 { size / PIECE + 1 } else { 0 };
+    lines.push(read_all(alloc, tx, &root, pieces)?)?;
+    let calls = calls_from(3, steps);
+    lines.push(overwrite(alloc, tx, &root, size, calls, &mut chance)? as u64)?;
+    let calls = calls_from(4, steps);
+    lines.push(grow(alloc, tx, &root, size, calls, &mut chance)? as u64)?;
+    let calls = calls_from(5, steps);
+    lines.push(cut(alloc, tx, &root, size, calls, &mut chance)? as u64)?;
+    Ok(lines)
+}
+
+/// No changes over an empty store.
+fn empty(alloc: Global) -> Tx<MapStore>
+    ensures { ⟦<Tx<MapStore> as Blocks>⟧.meanings.intact result }
+{
+    Tx::new(alloc, MapStore::new(alloc, PAYLOAD))
+}
+
+/// Takes so many steps over a store in memory.
+fn work(alloc: Global, size: u64, steps: u64) -> Result<Vec<u64>, Fail>
+    requires { size ≤ 2 ^ 32 }
+{
+    let mut tx = empty(alloc);
+    let lines = take_steps(alloc, &mut tx, size, steps);
+    drop(tx.into_store());
+    lines
+}
+
+const NAMES: [&str; 5] = [
+    "blocks made",
+    "bytes read",
+    "blocks changed by overwriting",
+    "blocks changed by growing",
+    "blocks changed by cutting",
+];
+
+fn main(rt: HostRuntime) -> io::Result<()> {
+    let mut words = env::args(&rt)?;
+    words.next();
+    let (Some(size), Some(steps), None) = (words.next(), words.next(), words.next()) else {
+        return println!(rt; "usage: bench_trees BYTES STEPS");
+    };
+    let (Ok(size), Ok(steps)) = (size.as_str().parse(), steps.as_str().parse()) else {
+        return println!(rt; "no numbers");
+    };
+    if size > LONGEST {
+        return println!(rt; "too long");
+    }
+    match work(rt.alloc(), size, steps) {
+        Ok(lines) => {
+            for (name, number) in NAMES.iter().zip(lines.iter()) {
+                println!(rt; "{number} {name}")?;
+            }
+            Ok(())
+        }
+        Err(_) => println!(rt; "out of memory"),
+    }
+}
