@@ -1,14 +1,11 @@
 -- Contents that store the same blobs, none, or one that fits a leaf.
 use Rattle.std.proofs.Common.{◌≡◌, ℕ, ◌≤◌, Bool, true, false, List, [], ◌∷◌, length, refl, sym, ◌∙◌, ap, subst}
 use Rattle.std.specs.Prelude.{Option, Some, None, is_some, ◌||◌}
+use Rattle.block_id.proofs.Options.{none_is}
 use Rattle.data_nodes.specs.Layout.{leaf, IsNode, room}
 use Rattle.store_api.specs.Content.{Id, Content, same_id, SameContent}
+use Rattle.store_api.proofs.Rising.{same_id_is}
 use Rattle.data_tree.specs.Stored.{BlobTree, StoresBlobs}
-use Rattle.data_tree.proofs.Ids.{same_id_is}
-
-pub none_is : {X : Type 0} (o : Option X) → o ≡ None → is_some o ≡ true → ⊥
-none_is None e h = absurd (cc)
-none_is (Some x) e h = absurd (cc)
 
 pub stores_same : (payload : ℕ) (A B : Content) (M : Id → Option (List ℕ)) → SameContent A B → StoresBlobs payload A M → StoresBlobs payload B M
 stores_same payload A B M same s =

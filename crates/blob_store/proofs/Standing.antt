@@ -3,6 +3,8 @@ use Rattle.std.proofs.Common.{◌≡◌, ℕ, true, List, [], refl, sym, ◌∙�
 use Rattle.std.specs.Prelude.{Option, Some, None, is_some}
 use Rattle.std.specs.FinMap.{get, empty, insert, remove, get-insert, get-remove, get-empty}
 use Rattle.std.specs.Cmp.Lexicographic.{nat_list_cmp_total}
+use Rattle.std.proofs.lemmas.Option.{none-some}
+use Rattle.block_id.proofs.Options.{none_is}
 use Rattle.outcome.specs.Meanings.{Meanings}
 use Rattle.store_api.specs.Content.{Id, id_cmp, Changes, or_else, over}
 use Rattle.store_api.specs.Holdings.{Holdings, Stays, Changed, has_id}
@@ -14,10 +16,7 @@ use Rattle.blob_api.specs.BlobMap.{BlobMap}
 use Rattle.blob_store.specs.OneMap.{root_in}
 use Rattle.blob_store.specs.Meanings.{StandsFor}
 use Rattle.data_tree.proofs.Stored.{blobs_changed}
-use Rattle.blob_store.proofs.Laws.{none_is, stores_same}
-
-none_some : {X : Type 0} (x : X) → None ≡ Some x → ⊥
-none_some x e = cc
+use Rattle.blob_store.proofs.Laws.{stores_same}
 
 module _ {B : Type 0} (H : Holdings B) where
   -- blocks were only loaded
@@ -52,7 +51,7 @@ module _ {B : Type 0} (H : Holdings B) where
       by None e = e
       by (Some v) e = absurd (elim (n.replaces.came id (root_in (H.payload b) (H.content b) n.depth id w n.ids n.tree)) [
         | inl never ↦ let no : has_id [] id ≡ true = never in cc
-        | inr none ↦ let own = (s.1.blob id v e).tree in none_some own.text (sym none ∙ own.there)
+        | inr none ↦ let own = (s.1.blob id v e).tree in none-some own.text (sym none ∙ own.there)
       ])
 
   pub stands_made : (a b : B) (m : BlobMap) (id : Id) (w : List ℕ) → (s : StandsFor H a m) → Keeps H a b → IsNewRoot H a b id [] w → StandsFor H b (insert m id w)
@@ -66,7 +65,7 @@ module _ {B : Type 0} (H : Holdings B) where
   stands_dropped a b m id s v there keeps r =
       let here : is_some (get m id) ≡ true = ap is_some there in
       stands_by a b m (remove m id) id None keeps s.0 (λ q. get-remove nat_list_cmp_total m id q)
-      (blobs_changed (H.payload a) (H.content a) (H.content b) (get m) s.1 id None (s.1.ids id) [] (λ x h. (here, h)) (λ x p h. h) r (λ w e. absurd (none_some w e)) (λ x h. absurd (let no : has_id [] x ≡ true = h in cc)))
+      (blobs_changed (H.payload a) (H.content a) (H.content b) (get m) s.1 id None (s.1.ids id) [] (λ x h. (here, h)) (λ x p h. h) r (λ w e. absurd (none-some w e)) (λ x h. absurd (let no : has_id [] x ≡ true = h in cc)))
 
   -- where there are no changes, they show what the store shows
   pub stands_bare : (s : B) (changes : Changes) (m : BlobMap) → changes ≡ empty → StandsFor H s m → (H.told s ≡ true) × StoresBlobs (H.payload s) (over changes (H.content s)) (get m)

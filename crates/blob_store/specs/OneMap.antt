@@ -1,15 +1,18 @@
 -- A content stores one map of blobs at most.
-use Rattle.std.proofs.Common.{◌≡◌, ◌⊎◌, ◌<◌, ◌≤◌, ℕ, zero, suc, Bool, true, false, List, [], ◌∷◌, ◌++◌, take, drop, refl, sym, ◌∙◌, ap, subst, inl, inr, arith}
-use Rattle.std.specs.Prelude.{Option, Some, None, is_some, ◌||◌}
+use Rattle.std.proofs.Common.{◌≡◌, ◌⊎◌, ◌<◌, ◌≤◌, ℕ, zero, suc, true, List, [], ◌∷◌, ◌++◌, take, drop, refl, sym, ◌∙◌, ap, subst, inl, inr, arith}
+use Rattle.std.specs.Prelude.{Option, Some, None, is_some}
 use Rattle.std.specs.FinMap.{get, same_map, slice_cmp-IsAntisymmetric, nat_cmp-IsAntisymmetric}
 use Rattle.std.specs.Cmp.Lexicographic.{nat_list_cmp_total}
 use Rattle.std.proofs.lemmas.List.{take-append-drop}
+use Rattle.std.proofs.lemmas.Bool.{or_cases, or_right, or_left}
+use Rattle.block_id.proofs.Options.{some_of}
 use Rattle.data_nodes.specs.Layout.{NodeText, leaf, inner, IsNode}
 use Rattle.data_nodes.proofs.Laws.{one_node}
 use Rattle.store_api.specs.Content.{Id, Content, same_id}
 use Rattle.store_api.specs.Holdings.{has_id}
+use Rattle.store_api.proofs.Rising.{same_id_is}
 use Rattle.data_tree.specs.Trees.{IsTree, NodeIn, Holds, Forest, span, depth_in}
-use Rattle.data_tree.proofs.Ids.{in_left, in_right, in_one, same_id_is, same_self}
+use Rattle.data_tree.proofs.Ids.{in_left, in_right, in_one, same_self}
 use Rattle.data_tree.proofs.Loads.{holds-depth}
 use Rattle.blob_api.specs.BlobMap.{BlobMap}
 use Rattle.data_tree.specs.Stored.{StoresBlobs}
@@ -99,19 +102,11 @@ child_with T size (child ∷ children) w ids (some, (own, (rest, (first, (others
           }
     ]
 
-either : (a b : Bool) → (a || b) ≡ true → (a ≡ true) ⊎ (b ≡ true)
-either true b e = inl refl
-either false b e = inr e
-
-behind : (a b : Bool) → b ≡ true → (a || b) ≡ true
-behind true b h = refl
-behind false b h = h
-
 lower_of : (payload : ℕ) (B : Content) (depth : ℕ) (node : NodeText) (w : List ℕ) (below : List Id) → Holds payload B depth node w below → (x : Id) → has_id below x ≡ true → Lower payload B depth below x
 lower_of payload B zero node w below h x e = let none : has_id [] x ≡ true = subst (λ xs. has_id xs x ≡ true) h.1 e in absurd (cc)
 lower_of payload B (suc depth) node w below (children, (is, f)) x e =
     let child = child_with (IsTree payload B depth) (span payload depth) children w below f x e in
-    elim (either (same_id x child.root) (has_id child.tree.below x) (subst (λ xs. has_id xs x ≡ true) child.tree.all child.has)) [
+    elim (or_cases (same_id x child.root) (has_id child.tree.below x) (subst (λ xs. has_id xs x ≡ true) child.tree.all child.has)) [
       | inl same ↦ record {
         height = depth;
         bytes = child.bytes;
@@ -128,14 +123,14 @@ lower_of payload B (suc depth) node w below (children, (is, f)) x e =
             own = low.own;
             lower = omega (arith, low.lower);
             tree = low.tree;
-            inside = λ y k. child.inside y (subst (λ xs. has_id xs y ≡ true) (sym child.tree.all) (behind (same_id y child.root) (has_id child.tree.below y) (low.inside y k)));
+            inside = λ y k. child.inside y (subst (λ xs. has_id xs y ≡ true) (sym child.tree.all) (or_right (same_id y child.root) (has_id child.tree.below y) (low.inside y k)));
           }
     ]
 
 -- an id of a tree is its root, or the root of a lower tree inside it
 root_or_lower : (payload : ℕ) (B : Content) (depth : ℕ) (id : Id) (w : List ℕ) (ids : List Id) → IsTree payload B depth id w ids → (x : Id) → has_id ids x ≡ true → (x ≡ id) ⊎ Lower payload B depth ids x
 root_or_lower payload B depth id w ids n x h =
-    elim (either (same_id x id) (has_id n.below x) (subst (λ xs. has_id xs x ≡ true) n.all h)) [
+    elim (or_cases (same_id x id) (has_id n.below x) (subst (λ xs. has_id xs x ≡ true) n.all h)) [
       | inl same ↦ inl (same_id_is x id same)
       | inr later ↦
           let low = lower_of payload B depth n.node w n.below n.holds x later in
@@ -145,22 +140,14 @@ root_or_lower payload B depth id w ids n x h =
             own = low.own;
             lower = low.lower;
             tree = low.tree;
-            inside = λ y k. subst (λ xs. has_id xs y ≡ true) (sym n.all) (behind (same_id y id) (has_id n.below y) (low.inside y k));
+            inside = λ y k. subst (λ xs. has_id xs y ≡ true) (sym n.all) (or_right (same_id y id) (has_id n.below y) (low.inside y k));
           })
     ]
 
 -- ---- one map
 
 pub root_in : (payload : ℕ) (B : Content) (depth : ℕ) (id : Id) (w : List ℕ) (ids : List Id) → IsTree payload B depth id w ids → has_id ids id ≡ true
-root_in payload B depth id w ids n = subst (λ xs. has_id xs id ≡ true) (sym n.all) (front (same_id id id) (has_id n.below id) (same_self id))
-  where
-    front : (a b : Bool) → a ≡ true → (a || b) ≡ true
-    front true b h = refl
-    front false b h = absurd (cc)
-
-some_of : (o : Option (List ℕ)) → is_some o ≡ true → (w : List ℕ) × (o ≡ Some w)
-some_of None h = absurd (cc)
-some_of (Some w) h = (w, refl)
+root_in payload B depth id w ids n = subst (λ xs. has_id xs id ≡ true) (sym n.all) (or_left (same_id id id) (has_id n.below id) (same_self id))
 
 module _ (payload : ℕ) (B : Content) (M N : Id → Option (List ℕ)) (s : StoresBlobs payload B M) (t : StoresBlobs payload B N) where
   -- a tree of the second map stands inside a tree of the first, which isn't lower

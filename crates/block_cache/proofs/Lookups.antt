@@ -8,6 +8,7 @@ use Rattle.std.specs.Option.{option_map, option_map_or}
 use Rattle.std.specs.List.{IsDistinct}
 use Rattle.std.specs.Map.{lookup, lookup_entry, remove_entry, keys_of, AreApart}
 use Rattle.std.proofs.lemmas.Map.{lookup-remove_entry}
+use Rattle.std.proofs.lemmas.Option.{none-some}
 use Rattle.lru.specs.LruCache.{lru_cache}
 use Rattle.lru.proofs.CallerLemmas.{Contains-lookup_entry}
 use Rattle.lru.proofs.Pairs.{lookup-lookup_entry}
@@ -66,12 +67,9 @@ cached-used id payloads q = ap items_of (front id.0 q payloads.entries (lookup_e
 some_items : (bytes : Vec ℕ Global) (found : List ℕ) → Some bytes.items ≡ Some found → bytes.items ≡ found
 some_items bytes found e = cc
 
-none_some : {A : Type 0} (x : A) → None ≡ Some x → ⊥
-none_some x e = cc
-
 taken : (test : BlockId → Bool) (n : ℕ) (es : Entries) (found : List ℕ) → items_of (lookup test (take n es)) ≡ Some found → items_of (lookup test es) ≡ Some found
-taken test zero es found h = absurd (none_some found h)
-taken test (suc n) [] found h = absurd (none_some found h)
+taken test zero es found h = absurd (none-some found h)
+taken test (suc n) [] found h = absurd (none-some found h)
 taken test (suc n) (e ∷ es) found h =
     elim (test e.0) as (λ b. items_of (cond b (Some e.1) (lookup test (take n es))) ≡ Some found → items_of (cond b (Some e.1) (lookup test es)) ≡ Some found) [
       | true ↦ λ h. h

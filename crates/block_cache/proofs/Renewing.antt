@@ -1,52 +1,19 @@
 -- What is cached once the changes of a batch were followed, one after another.
-use Rattle.std.proofs.Common.{◌≡◌, ◌⊎◌, ℕ, suc, ◌+◌, ◌<◌, Bool, true, false, cond, nat_eq, List, [], ◌∷◌, length, drop, drop-cons, get_or, add-one, map, refl, sym, ◌∙◌, ap, subst, inl, inr}
-use Rattle.std.specs.Prelude.{T, Option, Some, None, is_some, ◌&&◌}
-use Rattle.std.proofs.lemmas.List.{drop-map}
+use Rattle.std.proofs.Common.{◌≡◌, ◌⊎◌, ℕ, Bool, true, false, cond, nat_eq, List, ◌∷◌, refl, sym, ◌∙◌, ap, subst, inl, inr}
+use Rattle.std.specs.Prelude.{T, Option, Some, None, is_some}
 use Rattle.std.specs.FinMap as fin
 use Rattle.std.specs.FinMap.{is_sorted, entries_sorted, get-entries}
 use Rattle.std.specs.FinMap.Entries.{find, below_all}
-use Rattle.std.specs.Cmp.{IsTotalOrder}
-use Rattle.std.specs.Cmp.Lexicographic.{pointwise, nat_list_cmp_total, texts_ties}
-use Rattle.std.specs.Ordering.{is_eq, is_lt}
-use Rattle.std.specs.declared.cmp.Ordering.{Ordering}
-use Rattle.std.specs.declared.cmp.Ordering.TheVariants.{Less, Equal, Greater}
-use Rattle.block_id.specs.declared.id.BlockId.{BlockId}
-use Rattle.store_api.specs.declared.batch.BatchChange.{BatchChange}
+use Rattle.std.specs.Cmp.{Equal-is}
+use Rattle.std.specs.Cmp.Lexicographic.{pointwise, texts_ties}
+use Rattle.block_id.proofs.Tests.{left, right}
+use Rattle.block_id.proofs.Options.{none_is}
 use Rattle.store_api.specs.Content.{Id, id_cmp, same_id, Changes}
-use Rattle.store_api.specs.Entries.{entry_view, entries_of}
+use Rattle.store_api.proofs.Rising.{ids_total, not_below}
 use Rattle.block_cache.specs.Payloads.{Payloads, cached_for, Renewed, RenewedOne}
 
 abbrev pub Plain : Type 0
 Plain = List (Id × Option (List ℕ))
-
-total : IsTotalOrder id_cmp
-total = nat_list_cmp_total
-
-equal : (r : Ordering) → is_eq r ≡ true → r ≡ Equal
-equal Less e = absurd (cc)
-equal Equal e = refl
-equal Greater e = absurd (cc)
-
-lt : (r : Ordering) → T (is_lt r) → r ≡ Less
-lt Less h = refl
-lt Equal h = absurd h
-lt Greater h = absurd h
-
-left : (a b : Bool) → T (a && b) → T a
-left true b h = tt
-left false b h = absurd h
-
-right : (a b : Bool) → T (a && b) → T b
-right true b h = h
-right false b h = absurd h
-
--- an id that ties with the first of a list that rises isn't below it
-none_tied : (q x : Id) (es : Plain) → id_cmp q x ≡ Equal → T (below_all id_cmp x es) → find id_cmp q es ≡ None
-none_tied q x [] same h = refl
-none_tied q x (e ∷ es) same h =
-    let first : id_cmp x e.0 ≡ Less = lt (id_cmp x e.0) (left (is_lt (id_cmp x e.0)) (below_all id_cmp x es) h) in
-    let here : id_cmp q e.0 ≡ Less = total.congr q x e.0 same ∙ first in
-    ap (λ r. cond (is_eq r) (Some e.1) (find id_cmp q es)) here ∙ none_tied q x es same (right (is_lt (id_cmp x e.0)) (below_all id_cmp x es) h)
 
 -- What was followed, where these changes are left: they are the batch's, in order, and what is cached for other ids is renewed.
 pub record Renewing (changes : Changes) (rest : Plain) (old new : Payloads) : Type 0 where
@@ -70,16 +37,13 @@ renewing-start changes es now are =
       capacity = refl;
     }
 
-not_some : (o : Option (Option (List ℕ))) → o ≡ None → is_some o ≡ true → ⊥
-not_some o none there = let bad : false ≡ true = sym (ap is_some none) ∙ there in absurd (cc)
-
 -- one more change
 pub renewing-step : (changes : Changes) (e : Id × Option (List ℕ)) (rest : Plain) (old now new : Payloads) → Renewing changes (e ∷ rest) old now
     → ((other : Id) → RenewedOne e.0 e.1 now new other) → new.cap ≡ now.cap → Renewing changes rest old new
 renewing-step changes e rest old now new so one same = record {
   rises = right (below_all id_cmp e.0 rest) (is_sorted id_cmp rest) so.rises;
   own = λ id there. elim (same_id id e.0) as (λ b. same_id id e.0 ≡ b → (is_some (cond b (Some e.1) (find id_cmp id rest)) ≡ true → cond b (Some e.1) (find id_cmp id rest) ≡ fin.get changes id) → find id_cmp id rest ≡ fin.get changes id) [
-    | true ↦ λ s h. absurd (not_some (find id_cmp id rest) (gone id s) there)
+    | true ↦ λ s h. absurd (none_is (find id_cmp id rest) (gone id s) there)
     | false ↦ λ s h. h there
   ] refl (so.own id);
   renewed = λ id. elim (same_id id e.0) as (λ b. same_id id e.0 ≡ b → (is_some (cond b (Some e.1) (find id_cmp id rest)) ≡ true → cond b (Some e.1) (find id_cmp id rest) ≡ fin.get changes id)
@@ -93,13 +57,7 @@ renewing-step changes e rest old now new so one same = record {
 }
   where
     gone : (id : Id) → same_id id e.0 ≡ true → find id_cmp id rest ≡ None
-    gone id s = none_tied id e.0 rest (equal (id_cmp id e.0) s) (left (below_all id_cmp e.0 rest) (is_sorted id_cmp rest) so.rises)
-
--- the changes from one on
-pub next_change : (es : List (BlockId × BatchChange)) (i : ℕ) (e : BlockId × BatchChange) → i < length es → e ≡ get_or es i e → drop i (entries_of es) ≡ entry_view e ∷ drop (i + 1) (entries_of es)
-next_change es i e h is =
-    drop-map entry_view i es ∙ ap (map entry_view) (drop-cons es i e h) ∙ ap (λ x. entry_view x ∷ map entry_view (drop (suc i) es)) (sym is)
-    ∙ ap (λ xs. entry_view e ∷ xs) (sym (drop-map entry_view (suc i) es) ∙ ap (λ k. drop k (entries_of es)) (sym (add-one i)))
+    gone id s = not_below ids_total id e.0 rest ((Equal-is (id_cmp id e.0)).0 s) (left (below_all id_cmp e.0 rest) (is_sorted id_cmp rest) so.rises)
 
 -- what is cached for an id is a change's payload, or nothing
 pub renewed_as : (id other : Id) (change value old new : Option (List ℕ)) → new ≡ cond (pointwise nat_eq other id) value old → (value ≡ None) ⊎ (value ≡ change)

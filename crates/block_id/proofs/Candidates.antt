@@ -1,7 +1,9 @@
 -- Ids in a row from the drawn one, and how many used ones lie ahead of each.
-use Rattle.std.proofs.Common.{◌≡◌, ℕ, zero, suc, ◌+◌, ◌-◌, ◌*◌, ◌/◌, ◌%◌, ◌^◌, ◌<◌, List, refl, ap, ◌∙◌, arith}
+use Rattle.std.proofs.Common.{◌≡◌, ℕ, zero, suc, ◌+◌, ◌-◌, ◌*◌, ◌/◌, ◌%◌, ◌^◌, ◌<◌, ◌≤◌, cond, List, refl, ap, ◌∙◌, arith}
 use Rattle.std.specs.Int.{w128, from_be_bytes, to_be_bytes}
 use Rattle.std.proofs.Math.Nat as nat
+use Rattle.std.specs.Prelude.{nat_le}
+use Rattle.std.proofs.lemmas.Grind.{common_steps}
 use Rattle.block_id.specs.Name.{next_id}
 use Rattle.block_id.specs.Fresh.{nth_id, zero_id}
 
@@ -68,3 +70,19 @@ behind-nth_id drawn n lt = behind_is (value drawn) (value (nth_id drawn n)) n (v
 pub nth_id-add : (drawn : List ℕ) (m n : ℕ) → nth_id (nth_id drawn m) n ≡ nth_id drawn (m + n)
 nth_id-add drawn m zero = let e : m ≡ m + 0 = omega arith in ap (nth_id drawn) e
 nth_id-add drawn m (suc n) = let e : suc (m + n) ≡ m + suc n = omega arith in ap next_id (nth_id-add drawn m n) ∙ ap (nth_id drawn) e
+
+-- whether v lies n or more places behind d
+pub at_least : ℕ → ℕ → ℕ → ℕ
+at_least d n v = cond (nat_le n (behind d v)) 1 0
+
+pub at_least-one : (d n v : ℕ) → at_least d n v ≤ 1
+unfolding at_least
+at_least-one d n v = grind (arith, common_steps)
+
+pub at_least-falls : (d n v : ℕ) → at_least d (n + 1) v ≤ at_least d n v
+unfolding at_least
+at_least-falls d n v = grind (arith, common_steps)
+
+pub at_least-passed : (d n v : ℕ) → behind d v ≡ n → at_least d (n + 1) v + 1 ≤ at_least d n v
+unfolding at_least
+at_least-passed d n v e = grind (arith, common_steps)

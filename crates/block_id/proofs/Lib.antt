@@ -1,2 +1,5 @@
 pub mod Names
 pub mod Candidates
+pub mod Tests
+pub mod Orders
+pub mod Options

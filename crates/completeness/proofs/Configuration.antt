@@ -1,10 +1,12 @@
 -- The configuration that an honest directory gives is the one that what is kept says.
-use Rattle.std.proofs.Common.{◌≡◌, ◌≤◌, ◌+◌, ℕ, Bool, true, false, not, List, ◌∷◌, ◌++◌, length, take, refl, sym, ◌∙◌, ap, subst, inl, inr, arith}
-use Rattle.std.specs.Prelude.{if◌then◌else◌, is_some}
+use Rattle.std.proofs.Common.{◌≡◌, ◌≤◌, ◌+◌, ℕ, true, false, not, List, ◌∷◌, ◌++◌, length, take, refl, sym, ◌∙◌, ap, subst, inl, inr, arith}
+use Rattle.std.specs.Prelude.{is_some}
 use Rattle.std.proofs.lemmas.List.{take_all, length-take}
 use Rattle.std.proofs.lemmas.Slice.Eq.{bytes_eq-Decides}
 use Rattle.std.specs.declared.option.Option.{Option}
 use Rattle.std.specs.declared.option.Option.TheVariants.{None, Some}
+use Rattle.std.proofs.lemmas.Option.{same_Some}
+use Rattle.std.proofs.lemmas.Bool.{not-false}
 use Rattle.config_file.proofs.Opening.{only}
 use Rattle.config_file.specs.ConfigOf.{ConfigOf, Found, opened}
 use Rattle.config_file.specs.Settings.{Settings}
@@ -15,10 +17,10 @@ use Rattle.line_io.specs.Lines.{first_line}
 use Rattle.line_io.specs.Streams.{Stream}
 use Rattle.mount.specs.Opening.{IsLoaded, GaveConfig}
 use Rattle.mount.specs.Unforged.{IsUnforgedConfig}
-use Rattle.mount.proofs.Reading.{some_same, true_is_false}
+use Rattle.mount.proofs.Reading.{true_is_false}
 use Rattle.outside.specs.Changes.{Changes, change_at, cut}
 use Rattle.outside.specs.Honest.{last_change, same_answer, is_left, is_lie, count_calls, count_told}
-use Rattle.outside.specs.HonestLaws.{count_grows}
+use Rattle.outside.specs.HonestLaws.{count_grows, uncounted}
 use Rattle.outside.specs.Trace.{Call, config, got, adds}
 use Rattle.local_state.specs.Record.{PlainState, record_bytes, HasRecord}
 use Rattle.redo_vault.specs.Redo.{Gave}
@@ -34,14 +36,6 @@ same_settings s t k l e = cc e
 
 -- ---- one honest get of the configuration
 
-no_rise : (b : Bool) (n : ℕ) → (if b then 1 else 0) + n ≤ n → b ≡ false
-no_rise true n h = absurd (omega arith)
-no_rise false n h = refl
-
-not_false : (b : Bool) → not b ≡ false → b ≡ true
-not_false true e = refl
-not_false false e = absurd (cc)
-
 whole : (file : List ℕ) (answer : Option (List ℕ)) → length file ≤ 1127 → same_answer answer (Some (take 1127 file)) ≡ true → answer ≡ Some file
 whole file None fits e = absurd (cc)
 whole file (Some bytes) fits e = ap Some ((bytes_eq-Decides bytes (take 1127 file)).0 e ∙ take_all 1127 file fits)
@@ -51,15 +45,15 @@ got_last : (file : List ℕ) (t0 t1 : Option (List Call)) (answer : Option (List
 got_last file None t1 answer fits last is honest = absurd (cc)
 got_last file (Some t) t1 answer fits last is honest =
     let call = got config 1127 answer in
-    let true_call : is_lie t call ≡ false = no_rise (is_lie t call) (count_calls is_lie t) (subst (λ x. count_told is_lie x ≤ count_calls is_lie t) is honest) in
-    whole file answer fits (not_false (same_answer answer (Some (take 1127 file))) (ap (λ l. not (is_left l 1127 answer)) (sym last) ∙ true_call))
+    let true_call : is_lie t call ≡ false = uncounted (is_lie t call) (count_calls is_lie t) (subst (λ x. count_told is_lie x ≤ count_calls is_lie t) is honest) in
+    whole file answer fits (not-false (same_answer answer (Some (take 1127 file))) (ap (λ l. not (is_left l 1127 answer)) (sym last) ∙ true_call))
 
 -- where no file was changed, none is given
 pub none_given : (file : List ℕ) (t0 t1 : Option (List Call)) → is_some t0 ≡ true → last_told config t0 ≡ None → t1 ≡ adds t0 (got config 1127 (Some file)) → count_told is_lie t1 ≤ count_told is_lie t0 → ⊥
 none_given file None t1 told none is honest = cc
 none_given file (Some t) t1 told none is honest =
     let call = got config 1127 (Some file) in
-    let true_call : is_lie t call ≡ false = no_rise (is_lie t call) (count_calls is_lie t) (subst (λ x. count_told is_lie x ≤ count_calls is_lie t) is honest) in
+    let true_call : is_lie t call ≡ false = uncounted (is_lie t call) (count_calls is_lie t) (subst (λ x. count_told is_lie x ≤ count_calls is_lie t) is honest) in
     true_is_false (ap (λ l. not (is_left l 1127 (Some file))) (sym none) ∙ true_call)
 
 -- ---- from the list, or by that get
@@ -77,7 +71,7 @@ gave_file file list (Some change) t0 t1 answer fits at (inr (none, last)) gave h
 module _ (password : List ℕ) (kept : Option (List ℕ)) (t0 t1 : Option (List Call)) (state : PlainState) (list : Changes) (l : IsLoaded kept state list) (c : Settings) (cost : Cost) (file : List ℕ)
     (holds : KeptConfigures records kept t0 file) (opens : ConfigOf password file (opened c cost)) (honest : count_told is_lie t1 ≤ count_told is_lie t0) where
   configured : IsConfigured list t0 file
-  configured = configured_of state list t0 file l.has_record (subst (λ x. Configures x t0 file) (some_same (sym holds.1 ∙ l.kept)) holds.2)
+  configured = configured_of state list t0 file l.has_record (subst (λ x. Configures x t0 file) (same_Some _ _ (sym holds.1 ∙ l.kept)) holds.2)
 
   -- the file is given
   pub given : (answer : Option (List ℕ)) → GaveConfig list t0 t1 answer → answer ≡ Some file
@@ -85,14 +79,14 @@ module _ (password : List ℕ) (kept : Option (List ℕ)) (t0 t1 : Option (List 
 
   -- and it is nothing else under the password
   pub given_is : (answer : List ℕ) (found : Found) → GaveConfig list t0 t1 (Some answer) → ConfigOf password answer found → found ≡ opened c cost
-  given_is answer found gave is = only password file found (opened c cost) (subst (λ x. ConfigOf password x found) (some_same (given (Some answer) gave)) is) opens
+  given_is answer found gave is = only password file found (opened c cost) (subst (λ x. ConfigOf password x found) (same_Some _ _ (given (Some answer) gave)) is) opens
 
 -- ---- the first call gives it, where it doesn't wait
 
 -- one get of a file that was put last, asked for any number of bytes
 got_put : (file : List ℕ) (max : ℕ) (before : List Call) (bytes : List ℕ) → last_change config before ≡ Some (record { bytes = Some file; ok = true }) → is_lie before (got config max (Some bytes)) ≡ false → bytes ≡ take max file
 got_put file max before bytes last true_call =
-    (bytes_eq-Decides bytes (take max file)).0 (not_false (same_answer (Some bytes) (Some (take max file))) (ap (λ l. not (is_left l max (Some bytes))) (sym last) ∙ true_call))
+    (bytes_eq-Decides bytes (take max file)).0 (not-false (same_answer (Some bytes) (Some (take max file))) (ap (λ l. not (is_left l max (Some bytes))) (sym last) ∙ true_call))
 
 same_length : (file bytes : List ℕ) (max : ℕ) → bytes ≡ take max file → length bytes ≡ length file → bytes ≡ file
 same_length file bytes max e same =
@@ -102,7 +96,7 @@ same_length file bytes max e same =
 module _ (password : List ℕ) (kept : Option (List ℕ)) (t0 t1 : Option (List Call)) (c : Settings) (cost : Cost) (file : List ℕ)
     (holds : KeptConfigures records kept t0 file) (opens : ConfigOf password file (opened c cost)) (honest : count_told is_lie t1 ≤ count_told is_lie t0) where
   by_record : (state : PlainState) (list : Changes) → HasRecord state list → kept ≡ Some (record_bytes state list) → IsConfigured list t0 file
-  by_record state list has is = configured_of state list t0 file has (subst (λ x. Configures x t0 file) (some_same (sym holds.1 ∙ is)) holds.2)
+  by_record state list has is = configured_of state list t0 file has (subst (λ x. Configures x t0 file) (same_Some _ _ (sym holds.1 ∙ is)) holds.2)
 
   is_this : (bytes : List ℕ) (found : Settings) (params : Cost) → bytes ≡ file → ConfigOf password bytes (opened found params) → found ≡ c
   is_this bytes found params e o = same_settings found c params cost (only password file (opened found params) (opened c cost) (subst (λ x. ConfigOf password x (opened found params)) e o) opens)
@@ -118,7 +112,7 @@ module _ (password : List ℕ) (kept : Option (List ℕ)) (t0 t1 : Option (List 
       let call = got config max (Some bytes) in
       let all : count_calls is_lie (calls ++ call ∷ before) ≤ count_calls is_lie before = subst (λ x. count_told is_lie (Some (calls ++ call ∷ before)) ≤ count_told is_lie x) eo (subst (λ x. count_told is_lie x ≤ count_told is_lie t0) en honest) in
       let first : count_calls is_lie (call ∷ before) ≤ count_calls is_lie before = omega (arith, all, count_grows is_lie (call ∷ before) calls) in
-      got_put file max before bytes (ap (last_told config) (sym eo) ∙ last) (no_rise (is_lie before call) (count_calls is_lie before) first)
+      got_put file max before bytes (ap (last_told config) (sym eo) ∙ last) (uncounted (is_lie before call) (count_calls is_lie before) first)
 
   -- so no other configuration opens
   pub unforged_config : IsUnforgedConfig password kept t0 t1 c

@@ -2,6 +2,7 @@
 use Rattle.std.proofs.Common.{◌≡◌, ◌≤◌, ◌∙◌, ℕ, Bool, true, false, List, refl, sym, ap, subst}
 use Rattle.std.specs.declared.option.Option.{Option}
 use Rattle.std.specs.declared.option.Option.TheVariants.{None}
+use Rattle.std.proofs.lemmas.Option.{none-some}
 use Rattle.config_file.specs.ConfigOf.{ConfigOf, Found, opened, form, locked, inner}
 use Rattle.config_file.specs.Settings.{Settings}
 use Rattle.config_file.specs.declared.error.ConfigError.TheVariants as config_error
@@ -13,7 +14,7 @@ use Rattle.mount.specs.Mounts.{IsCalm}
 use Rattle.mount.specs.Opening.{AttachCause}
 use Rattle.mount.specs.declared.error.OpenError.{OpenError}
 use Rattle.mount.specs.declared.error.OpenError.TheVariants as open_error
-use Rattle.mount.proofs.Reading.{represents_told, none_some}
+use Rattle.mount.proofs.Reading.{represents_told}
 use Rattle.outside.specs.Causes.{RoseBy}
 use Rattle.outside.specs.Honest.{is_lie, count_told}
 use Rattle.outside.specs.Trace.{Call}
@@ -53,7 +54,7 @@ module _ (password : List ℕ) (kept : Option (List ℕ)) (t0 t1 : Option (List 
   wants open_error.Exists cause calm = absurd calm
   wants open_error.Marked cause calm = absurd calm
   wants (open_error.Mismatch kept_id found_id) cause calm = absurd calm
-  wants open_error.NoConfig (s, list, l, gave) calm = absurd (none_some file (given password kept t0 t1 s list l c cost file holds opens honest None gave))
+  wants open_error.NoConfig (s, list, l, gave) calm = absurd (none-some file (given password kept t0 t1 s list l c cost file holds opens honest None gave))
   wants (open_error.Config config_error.Memory) cause calm = refl
   wants (open_error.Config config_error.Form) (s, list, l, (answer, gave, is)) calm =
       absurd (not_opened form c cost refl (given_is password kept t0 t1 s list l c cost file holds opens honest answer form gave is))

@@ -4,6 +4,7 @@ use Rattle.std.specs.Prelude.{Result, is_some, IfOk, IfErr, OnOk, IsErr}
 use Rattle.std.specs.declared.option.Option.{Option}
 use Rattle.std.specs.declared.option.Option.TheVariants.{None, Some}
 use Rattle.std.specs.declared.result.Result.TheVariants.{Ok, Err}
+use Rattle.std.proofs.lemmas.Option.{none-some}
 use Rattle.block_id.specs.declared.id.BlockId.{BlockId}
 use Rattle.config_file.specs.ConfigOf.{ConfigOf, IsOnly, opened}
 use Rattle.config_file.specs.Settings.{Settings, settings_of}
@@ -21,7 +22,7 @@ use Rattle.mount.specs.Representing.{HasEmptyList}
 use Rattle.mount.specs.declared.draws.Draws.{Draws}
 use Rattle.mount.specs.declared.error.OpenError.{OpenError}
 use Rattle.mount.specs.declared.error.OpenError.TheVariants as open_error
-use Rattle.mount.proofs.Reading.{represents_told, none_some, true_is_false}
+use Rattle.mount.proofs.Reading.{represents_told, true_is_false}
 use Rattle.outside.specs.Going.{GoesOn, goes_on_writes}
 use Rattle.outside.specs.Honest.{is_lie, count_calls, count_told}
 use Rattle.outside.specs.HonestLaws.{count_grows}
@@ -180,7 +181,7 @@ module _ {V : Type 0} {K : Type 0} (trace : V → Option (List Call)) (faults : 
         → ((G.kept ended.keeper ≡ None) × ((name : At) → last_told name (trace ended.vault) ≡ None)) ⊎ Leaves (first_line bytes) c empty_tree After
     left_so error opens (inl (same, none)) = inl (same ∙ bare.kept, none)
     left_so error (inl is_only) (inr m) = inr (made m is_only)
-    left_so error (inr (same, e)) (inr m) = absurd (none_some m.represents.keeps.represents.0 (sym (same ∙ bare.kept) ∙ m.represents.keeps.represents.1))
+    left_so error (inr (same, e)) (inr m) = absurd (none-some m.represents.keeps.represents.0 (sym (same ∙ bare.kept) ∙ m.represents.keeps.represents.1))
 
     by_made : (result : Result BlockId OpenError) → CreateReports result output ended.status → IfOk result (λ id. id.0 ≡ draws.fs_id) → Opens result
         → Made ShowsFiles c new_file (G.kept keeper) (G.kept ended.keeper) (trace ended.vault) result

@@ -1,6 +1,8 @@
 -- A tree that was written anew under the id of its root.
 use Rattle.std.proofs.Common.{◌≡◌, ◌⊎◌, ℕ, Bool, true, false, cond, List, [], ◌∷◌, ◌++◌, length, refl, sym, ◌∙◌, ap, subst, inl, inr}
 use Rattle.std.specs.Prelude.{Some, None, is_some, ◌||◌}
+use Rattle.std.proofs.lemmas.Bool.{or_cases, or_parts, false_from_ne_true}
+use Rattle.block_id.proofs.Options.{none_is}
 use Rattle.data_nodes.specs.Layout.{NodeText, IsNode}
 use Rattle.store_api.specs.Content.{Id, Content, same_id}
 use Rattle.store_api.specs.Holdings.{Holdings, has_id}
@@ -8,15 +10,16 @@ use Rattle.data_tree.specs.Trees.{IsTree, Holds, IsDepth, NoDoubles, Replaces, d
 use Rattle.data_tree.specs.Needs.{Sets, HasBelow, Keeps, Built, NewTree, HasRootNode}
 use Rattle.data_tree.specs.Roots.{IsRoot, IsNewRoot}
 use Rattle.store_api.specs.Holdings.{Stays}
+use Rattle.store_api.proofs.Rising.{same_id_is}
 use Rattle.data_tree.proofs.Loads.{holds-depth}
 use Rattle.data_tree.proofs.Forests.{moved}
-use Rattle.data_tree.proofs.Ids.{in_left, in_one, not_both, same_id_is, same_self, other}
+use Rattle.data_tree.proofs.Ids.{in_left, in_one, not_both, same_self, other}
 use Rattle.data_tree.proofs.Changes.{holds_frame, tree_frame}
-use Rattle.data_tree.proofs.Making.{holds_there, absent, none_some, or_cases, or_parts}
+use Rattle.data_tree.proofs.Making.{holds_there}
 
 -- an id that came isn't one that had a block
 pub came_none : (A B : Content) (ids : List Id) → Replaces A B [] ids → (q : Id) → is_some (A q) ≡ true → has_id ids q ≡ false
-came_none A B ids r q there = absent (has_id ids q) (λ h. elim (r.came q h) [ inl never ↦ absurd (let no_id : has_id [] q ≡ true = never in cc) | inr none ↦ none_some (A q) none there ])
+came_none A B ids r q there = false_from_ne_true (has_id ids q) (λ h. elim (r.came q h) [ inl never ↦ absurd (let no_id : has_id [] q ≡ true = never in cc) | inr none ↦ none_is (A q) none there ])
 
 pub root_made : {S : Type 0} {H : Holdings S} {a b c : S} {depth : ℕ} {node : NodeText} {w : List ℕ} (root : Id) (text : List ℕ) → is_some (H.content a root) ≡ true → IsDepth (H.payload a) depth (length w) → Built H a b depth node w
     → IsNode text node → length text ≡ H.payload b → Sets (H.content b) (H.content c) root (Some text) → Keeps H a b → Keeps H b c → IsNewRoot H a c root (root ∷ []) w
@@ -89,9 +92,9 @@ then_drops A C D xs ys new one two differ = record {
 pub old_apart : {S : Type 0} {H : Holdings S} {a b : S} {root : Id} {node : NodeText} {w : List ℕ} → (n : HasRootNode H a root node) → (r : IsNewRoot H a b root (root ∷ []) w) → (q : Id) → has_id n.ids q ≡ true → (has_id (root ∷ []) q ≡ false) × (has_id r.ids q ≡ false)
 old_apart {H = H} {a = a} {root = root} {node = node} n r q h =
     let there = holds_there (H.payload a) (H.content a) (depth_in node) node n.bytes n.ids n.holds q h in
-    let differs : same_id q root ≡ false = absent (same_id q root) (λ same. let bad : false ≡ true = sym n.alone.0 ∙ subst (λ x. has_id n.ids x ≡ true) (same_id_is q root same) h in cc) in
+    let differs : same_id q root ≡ false = false_from_ne_true (same_id q root) (λ same. let bad : false ≡ true = sym n.alone.0 ∙ subst (λ x. has_id n.ids x ≡ true) (same_id_is q root same) h in cc) in
     let not_root : has_id (root ∷ []) q ≡ false = ap (λ b'. b' || false) differs in
-    (not_root, absent (has_id r.ids q) (λ e. elim (r.replaces.came q e) [ inl old ↦ let bad : false ≡ true = sym not_root ∙ old in cc | inr none ↦ none_some (H.content a q) none there ]))
+    (not_root, false_from_ne_true (has_id r.ids q) (λ e. elim (r.replaces.came q e) [ inl old ↦ let bad : false ≡ true = sym not_root ∙ old in cc | inr none ↦ none_is (H.content a q) none there ]))
 
 abbrev pub old_below : {S : Type 0} {H : Holdings S} {a b : S} {root : Id} {node : NodeText} {w : List ℕ} (depth : ℕ) → depth ≡ depth_in node → Keeps H a b → (n : HasRootNode H a root node) → IsNewRoot H a b root (root ∷ []) w → HasBelow H b depth node
 old_below {H = H} {a = a} {b = b} {root = root} {node = node} depth level keeps n r = record {
@@ -107,7 +110,7 @@ pub anew : {S : Type 0} {H : Holdings S} {a b c : S} {root : Id} {node : NodeTex
 anew {H = H} {a = a} {b = b} {c = c} {root = root} {w = w} n r keeps drops =
     let apart : (q : Id) → has_id n.ids q ≡ true → has_id r.ids q ≡ false = λ q h. (old_apart n r q h).1 in
     let still : (q : Id) → has_id r.ids q ≡ true → H.content c q ≡ H.content b q =
-    λ q h. drops.kept q (absent (has_id n.ids q) (λ e. let bad : false ≡ true = sym (apart q e) ∙ h in cc)) refl in
+    λ q h. drops.kept q (false_from_ne_true (has_id n.ids q) (λ e. let bad : false ≡ true = sym (apart q e) ∙ h in cc)) refl in
     record {
       ids = r.ids;
       depth = r.depth;

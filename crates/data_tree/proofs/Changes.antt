@@ -1,16 +1,18 @@
 -- One block more or less, and trees that stand on.
 use Rattle.std.proofs.Common.{◌≡◌, ℕ, zero, suc, Bool, true, false, cond, List, [], ◌∷◌, ◌++◌, take, drop, append_assoc, append-nil, refl, sym, ◌∙◌, ap, subst}
-use Rattle.std.specs.Prelude.{Option, Some, None, is_some, ◌||◌}
+use Rattle.std.specs.Prelude.{Option, Some, None, is_some}
 use Rattle.std.specs.FinMap as fin
 use Rattle.std.specs.FinMap.{get-insert, get-remove}
 use Rattle.std.specs.Cmp.Lexicographic.{nat_list_cmp_total}
+use Rattle.std.proofs.lemmas.Bool.{or_right, or_left}
 use Rattle.data_nodes.specs.Layout.{NodeText}
 use Rattle.store_api.specs.Content.{Id, Content, same_id, Changes, or_else, over}
 use Rattle.store_api.specs.Holdings.{Holdings, Stays, has_id}
 use Rattle.store_api.specs.Overlay.{without}
+use Rattle.store_api.proofs.Rising.{same_id_is}
 use Rattle.data_tree.specs.Trees.{IsTree, Holds, Forest, span, NoDoubles, Replaces}
 use Rattle.data_tree.specs.Needs.{Sets, HasTree, HasBelow, HasTrees, Keeps, DropRest}
-use Rattle.data_tree.proofs.Ids.{in_left, in_right, same_id_is, same_self, alone-parts, apart_right, drops_more, other, replaces_nothing}
+use Rattle.data_tree.proofs.Ids.{in_left, in_right, same_self, alone-parts, apart_right, drops_more, other, replaces_nothing}
 
 picked : (b : Bool) (change : Option (List ℕ)) (o : Option (Option (List ℕ))) (c : Option (List ℕ)) → or_else (cond b (Some change) o) c ≡ cond b change (or_else o c)
 picked true change o c = refl
@@ -54,14 +56,6 @@ forest_frame T U E each size (child ∷ children) w ids same (some, (own, (rest,
         ),
       ),
     )
-
-or_right : (a b : Bool) → b ≡ true → (a || b) ≡ true
-or_right true b h = refl
-or_right false b h = h
-
-or_left : (a b : Bool) → a ≡ true → (a || b) ≡ true
-or_left true b h = refl
-or_left false b h = absurd (cc)
 
 pub holds_frame : (payload : ℕ) (A B : Content) (depth : ℕ) (node : NodeText) (w : List ℕ) (below : List Id) → ((q : Id) → has_id below q ≡ true → B q ≡ A q) → Holds payload A depth node w below → Holds payload B depth node w below
 holds_frame payload A B zero node w below same h = h

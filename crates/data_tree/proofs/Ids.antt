@@ -2,23 +2,17 @@
 use Rattle.std.proofs.Common.{◌≡◌, ◌⊎◌, ℕ, Bool, true, false, cond, List, [], ◌∷◌, ◌++◌, refl, sym, ◌∙◌, ap, subst, inl, inr}
 use Rattle.std.specs.Prelude.{Option, None, ◌||◌}
 use Rattle.std.proofs.lemmas.List.Folds.{list_any-append}
-use Rattle.std.specs.FinMap.{slice_cmp-IsAntisymmetric, nat_cmp-IsAntisymmetric}
 use Rattle.std.specs.Cmp.{eq_by_cmp_equiv}
 use Rattle.std.specs.Cmp.Lexicographic.{nat_list_cmp_total}
-use Rattle.std.specs.Ordering.{is_eq}
-use Rattle.std.specs.declared.cmp.Ordering.{Ordering}
-use Rattle.std.specs.declared.cmp.Ordering.TheVariants.{Less, Equal, Greater}
+use Rattle.std.proofs.lemmas.Bool.{or_parts}
 use Rattle.store_api.specs.Content.{Id, Content, id_cmp, same_id}
 use Rattle.store_api.specs.Holdings.{has_id}
+use Rattle.store_api.proofs.Rising.{same_id_is}
 use Rattle.data_tree.specs.Trees.{NoDoubles, Replaces}
 use Rattle.data_tree.specs.Needs.{Sets}
 
 pub has-append : (xs ys : List Id) (id : Id) → has_id (xs ++ ys) id ≡ (has_id xs id || has_id ys id)
 has-append xs ys id = list_any-append (same_id id) xs ys
-
-or_parts : (a b : Bool) → (a || b) ≡ false → (a ≡ false) × (b ≡ false)
-or_parts true b e = absurd (cc)
-or_parts false b e = (refl, e)
 
 or_left : (a b c : Bool) → c ≡ (a || b) → a ≡ true → c ≡ true
 or_left true b c e t = e
@@ -49,14 +43,6 @@ alone-parts [] ys h = (tt, h)
 alone-parts (x ∷ xs) ys h =
     let rest = alone-parts xs ys h.1 in
     (((not_both xs ys x h.0).0, rest.0), rest.1)
-
-equal : (r : Ordering) → is_eq r ≡ true → r ≡ Equal
-equal Less e = cc
-equal Equal e = refl
-equal Greater e = cc
-
-pub same_id_is : (a b : Id) → same_id a b ≡ true → a ≡ b
-same_id_is a b e = slice_cmp-IsAntisymmetric nat_cmp-IsAntisymmetric a b (equal (id_cmp a b) e)
 
 pub same_self : (id : Id) → same_id id id ≡ true
 same_self id = (eq_by_cmp_equiv {R = id_cmp} nat_list_cmp_total).refl id

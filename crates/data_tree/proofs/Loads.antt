@@ -2,6 +2,7 @@
 use Rattle.std.proofs.Common.{◌≡◌, ℕ, zero, suc, List, sym, ◌∙◌, ap, subst}
 use Rattle.std.specs.Prelude.{Option, Some, None}
 use Rattle.std.specs.Option.{option_map}
+use Rattle.std.proofs.lemmas.Option.{none-some, same_Some}
 use Rattle.data_nodes.specs.declared.node.Node.{Node}
 use Rattle.data_nodes.specs.Layout.{NodeText, IsNode, node_of}
 use Rattle.outcome.specs.Meanings.{Meanings, Lawful}
@@ -27,27 +28,21 @@ tx_holdings H = holdings_over store_in changes_in H
 pub tx_laws : {B : Type 0} (M : Meanings B) (H : Holdings B) → Lawful M → Lawful (tx_meanings M H)
 tx_laws M H l = lawful_over store_in changes_in M H l
 
-some_is : {A : Type 0} {x y : A} → Some x ≡ Some y → x ≡ y
-some_is e = cc
-
 -- the node that was read is the one that the payload holds
 pub read_is : (there : Option (List ℕ)) (text bytes now : List ℕ) (node : NodeText) (answer : Option Node) → there ≡ Some text → Some bytes ≡ there → now ≡ bytes → IsNode text node
     → ((other : NodeText) → IsNode now other → option_map node_of answer ≡ Some other) → option_map node_of answer ≡ Some node
-read_is there text bytes now node answer holds found same is only = only node (subst (λ t. IsNode t node) (sym (same ∙ some_is (found ∙ holds))) is)
+read_is there text bytes now node answer holds found same is only = only node (subst (λ t. IsNode t node) (sym (same ∙ same_Some _ _ (found ∙ holds))) is)
 
 pub read_some : (there : Option (List ℕ)) (text bytes now : List ℕ) (node : NodeText) (answer : Option Node) (x : Node) → answer ≡ Some x → there ≡ Some text → Some bytes ≡ there → now ≡ bytes → IsNode text node
     → ((other : NodeText) → IsNode now other → option_map node_of answer ≡ Some other) → node_of x ≡ node
-read_some there text bytes now node answer x got holds found same is only = some_is (ap (option_map node_of) (sym got) ∙ read_is there text bytes now node answer holds found same is only)
-
-none_some : {A : Type 0} (x : A) → None ≡ Some x → ⊥
-none_some x e = cc
+read_some there text bytes now node answer x got holds found same is only = same_Some _ _ (ap (option_map node_of) (sym got) ∙ read_is there text bytes now node answer holds found same is only)
 
 pub read_none : (there : Option (List ℕ)) (text bytes now : List ℕ) (node : NodeText) (answer : Option Node) → answer ≡ None → there ≡ Some text → Some bytes ≡ there → now ≡ bytes → IsNode text node
     → ((other : NodeText) → IsNode now other → option_map node_of answer ≡ Some other) → ⊥
-read_none there text bytes now node answer got holds found same is only = none_some node (ap (option_map node_of) (sym got) ∙ read_is there text bytes now node answer holds found same is only)
+read_none there text bytes now node answer got holds found same is only = none-some node (ap (option_map node_of) (sym got) ∙ read_is there text bytes now node answer holds found same is only)
 
 pub not_there : (there : Option (List ℕ)) (text : List ℕ) → there ≡ Some text → None ≡ there → ⊥
-not_there there text holds found = none_some text (found ∙ holds)
+not_there there text holds found = none-some text (found ∙ holds)
 
 -- the node of a tree has its depth
 pub holds-depth : (payload : ℕ) (B : Content) (depth : ℕ) (node : NodeText) (w : List ℕ) (below : List Id) → Holds payload B depth node w below → depth_in node ≡ depth

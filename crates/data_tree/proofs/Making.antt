@@ -7,25 +7,16 @@ use Rattle.std.proofs.lemmas.List.Folds.{list_any-append}
 use Rattle.data_nodes.specs.Layout.{NodeText, leaf, inner, IsNode, ids_of}
 use Rattle.block_id.specs.declared.id.BlockId.{BlockId}
 use Rattle.std.proofs.lemmas.List.{map_push}
+use Rattle.std.proofs.lemmas.Bool.{or_cases, or_parts, false_from_ne_true}
 use Rattle.block_id.specs.Fresh.{zero_id}
+use Rattle.block_id.proofs.Options.{none_is}
 use Rattle.store_api.specs.Content.{Id, Content, same_id}
 use Rattle.store_api.specs.Holdings.{Holdings, has_id, is_free}
+use Rattle.store_api.proofs.Rising.{same_id_is}
 use Rattle.data_tree.specs.Trees.{IsTree, Holds, Forest, span, NoDoubles, Replaces}
 use Rattle.data_tree.specs.Needs.{Sets, Keeps, Built, BuiltTrees, BuildRest, NewTree}
-use Rattle.data_tree.proofs.Ids.{in_one, not_both, same_id_is, same_self, other, replaces_nothing}
+use Rattle.data_tree.proofs.Ids.{in_one, not_both, same_self, other, replaces_nothing}
 use Rattle.data_tree.proofs.Changes.{holds_frame, trees_frame}
-
-pub or_cases : (a b : Bool) → (a || b) ≡ true → (a ≡ true) ⊎ (b ≡ true)
-or_cases true b e = inl refl
-or_cases false b e = inr e
-
-pub or_parts : (a b : Bool) → (a || b) ≡ false → (a ≡ false) × (b ≡ false)
-or_parts true b e = absurd (cc)
-or_parts false b e = (refl, e)
-
-pub none_some : (o : Option (List ℕ)) → o ≡ None → is_some o ≡ true → ⊥
-none_some None e h = absurd (cc)
-none_some (Some x) e h = absurd (cc)
 
 -- each id of a tree has a block
 forest_there : (T : Id → List ℕ → List Id → Type 0) (E : Id → Type 0) → ((id : Id) (w : List ℕ) (ids : List Id) → T id w ids → (q : Id) → has_id ids q ≡ true → E q) → (size : ℕ) (children : List Id) (w : List ℕ) (ids : List Id)
@@ -56,13 +47,9 @@ tree_there payload B depth id w ids n p there =
 pub trees_there : (payload : ℕ) (B : Content) (depth size : ℕ) (children : List Id) (w : List ℕ) (ids : List Id) → Forest (IsTree payload B depth) size children w ids → (q : Id) → has_id ids q ≡ true → is_some (B q) ≡ true
 trees_there payload B depth size children w ids f = forest_there (IsTree payload B depth) (λ q. is_some (B q) ≡ true) (tree_there payload B depth) size children w ids f
 
-pub absent : (b : Bool) → (b ≡ true → ⊥) → b ≡ false
-absent true h = absurd (h refl)
-absent false h = refl
-
 -- an id without a block isn't among those of a tree
 pub not_among : (B : Content) (ids : List Id) (q : Id) → ((p : Id) → has_id ids p ≡ true → is_some (B p) ≡ true) → B q ≡ None → has_id ids q ≡ false
-not_among B ids q there none = absent (has_id ids q) (λ h. none_some (B q) none (there q h))
+not_among B ids q there none = false_from_ne_true (has_id ids q) (λ h. none_is (B q) none (there q h))
 
 -- a free id has no block
 pub free_none : (used : List Id) (B : Content) (id : Id) → (is_some (B id) ≡ true → has_id used id ≡ true) → is_free used id ≡ true → B id ≡ None
@@ -185,7 +172,7 @@ comes_more A B C xs ys one two = record {
 pub build_start : {S : Type 0} {H : Holdings S} {a : S} {depth : ℕ} (w : List ℕ) → BuildRest H a a depth [] w w
 build_start {H = H} {a = a} w = record { done = []; ids = []; joined = refl; full = λ some. omega arith; trees = (refl, refl); alone = tt; came = replaces_nothing (H.content a) }
 
-full_next : (l p n m x y : ℕ) → l ≡ n * x → p ≡ x → m ≡ n + 1 → x ≡ y → l + p ≡ m * y
+pub full_next : (l p n m x y : ℕ) → l ≡ n * x → p ≡ x → m ≡ n + 1 → x ≡ y → l + p ≡ m * y
 full_next l p n m x y so_far full more same = subst (λ k. l + p ≡ m * k) same (subst (λ k. l + p ≡ k * x) (sym more) (omega arith))
 
 pub build_next : {S : Type 0} {H : Holdings S} {a s t : S} {depth : ℕ} {children : List Id} {left all : List ℕ} (child : Id) (piece after : List ℕ) → (r : BuildRest H a s depth children left all) → left ≡ piece ++ after → 0 < length piece → length piece ≤ span (H.payload s) depth
@@ -194,9 +181,9 @@ build_next {H = H} {a = a} {s = s} {t = t} {depth = depth} {children = children}
     let sized : H.payload s ≡ H.payload t = sym keeps.payload in
     let here : length r.done ≡ length children * span (H.payload s) depth = r.full (omega (arith, ap length cut, length-append piece after, some)) in
     let fresh : (q : Id) → has_id r.ids q ≡ true → has_id new.ids q ≡ false =
-    λ q h. absent (has_id new.ids q) (λ e. elim (new.came.came q e) [
+    λ q h. false_from_ne_true (has_id new.ids q) (λ e. elim (new.came.came q e) [
       | inl never ↦ absurd (let no_id : has_id [] q ≡ true = never in cc)
-      | inr none ↦ none_some (H.content s q) none (trees_there (H.payload s) (H.content s) depth (span (H.payload s) depth) children r.done r.ids r.trees q h)
+      | inr none ↦ none_is (H.content s q) none (trees_there (H.payload s) (H.content s) depth (span (H.payload s) depth) children r.done r.ids r.trees q h)
     ]) in
     let stand = trees_frame (H.payload s) (H.content s) (H.content t) depth (span (H.payload s) depth) children r.done r.ids (λ q h. new.came.kept q refl (fresh q h)) r.trees in
     let made = subst (λ p. Forest (IsTree p (H.content t) depth) (span (H.payload s) depth) children r.done r.ids) sized stand in

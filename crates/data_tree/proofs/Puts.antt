@@ -12,7 +12,7 @@ use Rattle.data_tree.specs.Needs.{Sets, Keeps}
 use Rattle.outcome.specs.Meanings.{Meanings, Lawful}
 use Rattle.outcome.specs.Outcome.{Outcome}
 use Rattle.store_api.specs.Overlay.{changed_over}
-use Rattle.data_tree.proofs.Ids.{same_id_is}
+use Rattle.store_api.proofs.Rising.{same_id_is}
 use Rattle.data_tree.proofs.Loads.{store_in, changes_in, tx_holdings, tx_meanings}
 use Rattle.data_tree.proofs.Forests.{stays-same}
 use Rattle.data_tree.proofs.Changes.{sets_put, there_put}

@@ -1,17 +1,16 @@
 -- The blobs after the tree of one was replaced, made or dropped.
 use Rattle.std.proofs.Common.{◌≡◌, ℕ, Bool, true, false, cond, List, refl, sym, ◌∙◌, ap, subst, inl, inr}
-use Rattle.std.specs.Prelude.{Option, Some, None, is_some}
+use Rattle.std.specs.Prelude.{Option, Some, is_some}
+use Rattle.std.proofs.lemmas.Bool.{false_from_ne_true}
+use Rattle.block_id.proofs.Options.{none_is, some_of}
 use Rattle.store_api.specs.Content.{Id, Content, same_id}
 use Rattle.store_api.specs.Holdings.{has_id}
+use Rattle.store_api.proofs.Rising.{same_id_is}
 use Rattle.data_tree.specs.Trees.{Replaces}
 use Rattle.data_tree.specs.Stored.{BlobTree, StoresBlobs, with_blob}
-use Rattle.data_tree.proofs.Ids.{same_id_is, same_self}
+use Rattle.data_tree.proofs.Ids.{same_self}
 use Rattle.data_tree.proofs.Changes.{tree_frame}
-use Rattle.data_tree.proofs.Making.{tree_there, absent, none_some}
-
-some_of : (o : Option (List ℕ)) → is_some o ≡ true → (w : List ℕ) × (o ≡ Some w)
-some_of None h = absurd (cc)
-some_of (Some w) h = (w, refl)
+use Rattle.data_tree.proofs.Making.{tree_there}
 
 -- `old` are the ids of the blob under this root, or none where there was none; `new` are those of its new tree, or none
 module _ (payload : ℕ) (A B : Content) (M : Id → Option (List ℕ)) (s : StoresBlobs payload A M) (root : Id) (change : Option (List ℕ)) (old new : List Id)
@@ -19,15 +18,15 @@ module _ (payload : ℕ) (A B : Content) (M : Id → Option (List ℕ)) (s : Sto
     (r : Replaces A B old new) (made : (w : List ℕ) → change ≡ Some w → BlobTree payload B root w new) (none : (x : Id) → has_id new x ≡ true → is_some change ≡ true) where
   -- the ids of another blob are neither old nor new
   other_old : (id x : Id) → same_id id root ≡ false → is_some (M id) ≡ true → has_id (s.ids id) x ≡ true → has_id old x ≡ false
-  other_old id x differs here h = absent (has_id old x) (λ o.
+  other_old id x differs here h = false_from_ne_true (has_id old x) (λ o.
       let own = to x o in
       let same : id ≡ root = s.apart id root x here own.0 h own.1 in
       let bad : false ≡ true = sym differs ∙ subst (λ y. same_id id y ≡ true) same (same_self id) in cc)
 
   other_new : (id x : Id) → same_id id root ≡ false → is_some (M id) ≡ true → has_id (s.ids id) x ≡ true → has_id new x ≡ false
-  other_new id x differs here h = absent (has_id new x) (λ n. elim (r.came x n) [
+  other_new id x differs here h = false_from_ne_true (has_id new x) (λ n. elim (r.came x n) [
     | inl o ↦ let bad : false ≡ true = sym (other_old id x differs here h) ∙ o in cc
-    | inr gone ↦ let w = some_of (M id) here in let b = s.blob id w.0 w.1 in none_some (A x) gone (tree_there payload A b.depth id w.0 (s.ids id) b.tree x h)
+    | inr gone ↦ let w = some_of (M id) here in let b = s.blob id w.0 w.1 in none_is (A x) gone (tree_there payload A b.depth id w.0 (s.ids id) b.tree x h)
   ])
 
   kept_blob : (id : Id) (w : List ℕ) → same_id id root ≡ false → M id ≡ Some w → BlobTree payload B id w (s.ids id)
@@ -58,10 +57,10 @@ module _ (payload : ℕ) (A B : Content) (M : Id → Option (List ℕ)) (s : Sto
   all_now : (x : Id) → is_some (B x) ≡ true → (n o : Bool) → has_id new x ≡ n → has_id old x ≡ o → (id : Id) × ((is_some (with_blob root change M id) ≡ true) × (has_id (cond (same_id id root) new (s.ids id)) x ≡ true))
   all_now x there true o e f =
       (root, (ap (λ b. is_some (cond b change (M root))) (same_self root) ∙ none x e, ap (λ b. has_id (cond b new (s.ids root)) x) (same_self root) ∙ e))
-  all_now x there false true e f = absurd (none_some (B x) (r.gone x f e) there)
+  all_now x there false true e f = absurd (none_is (B x) (r.gone x f e) there)
   all_now x there false false e f =
       let found = s.all x (ap is_some (sym (r.kept x f e)) ∙ there) in
-      let differs : same_id found.0 root ≡ false = absent (same_id found.0 root) (λ same.
+      let differs : same_id found.0 root ≡ false = false_from_ne_true (same_id found.0 root) (λ same.
       let is : found.0 ≡ root = same_id_is found.0 root same in
       let bad : false ≡ true = sym f ∙ from x (subst (λ y. is_some (M y) ≡ true) is found.1.0) (subst (λ y. has_id (s.ids y) x ≡ true) is found.1.1) in cc) in
       (found.0, (ap (λ b. is_some (cond b change (M found.0))) differs ∙ found.1.0, ap (λ b. has_id (cond b new (s.ids found.0)) x) differs ∙ found.1.1))

@@ -4,8 +4,6 @@ use Rattle.std.specs.Prelude.{◌&&◌, Some, None}
 use Rattle.std.specs.Ordering.{is_lt}
 use Rattle.std.specs.FinMap.{is_sorted}
 use Rattle.std.specs.FinMap.Entries.{below_all}
-use Rattle.std.specs.declared.cmp.Ordering.{Ordering}
-use Rattle.std.specs.declared.cmp.Ordering.TheVariants.{Less, Equal, Greater}
 use Rattle.std.proofs.lemmas.Bool.{and_parts, and_from}
 use Rattle.std.proofs.lemmas.Cmp.{nat_list_cmp_total}
 use Rattle.std.proofs.lemmas.List.{append-nil, nil_from_length, length-append, length-map, get_or-map, map_more, take_all}
@@ -13,6 +11,7 @@ use Rattle.std.proofs.lemmas.List.Concat.{flat_map-append, flat_map-cons}
 use Rattle.std.proofs.lemmas.List.Elements.{All-nil, All-push, All-head, All-tail, All-more, All-map}
 use Rattle.std.proofs.lemmas.Option.{some_pair_parts}
 use Rattle.std.specs.Int.{w32, w64, to_le_bytes}
+use Rattle.block_id.proofs.Orders.{less_is}
 use Rattle.fs_model.specs.declared.attr.Attr.{Attr}
 use Rattle.fs_model.specs.Instant.{Instant}
 use Rattle.fs_blobs.specs.Kinds.{byte_of}
@@ -27,13 +26,8 @@ use Rattle.dir_blob.proofs.EntryCodec.{entry_codec}
 
 -- ---- order
 
-less : (o : Ordering) → is_lt o ≡ true → o ≡ Less
-less Less e = refl
-less Equal e = absurd cc
-less Greater e = absurd cc
-
 rises_on : (a b c : List ℕ) → is_lt (name_cmp a b) ≡ true → is_lt (name_cmp b c) ≡ true → is_lt (name_cmp a c) ≡ true
-rises_on a b c first second = ap is_lt (nat_list_cmp_total.trans a b c (less _ first) (less _ second))
+rises_on a b c first second = ap is_lt (nat_list_cmp_total.trans a b c (less_is _ first) (less_is _ second))
 
 below_at : (name : List ℕ) (front : Listing) (e : List ℕ × Target) (back : Listing) → below_all name_cmp name (front ++ e ∷ back) ≡ true → is_lt (name_cmp name e.0) ≡ true
 below_at name [] e back below = (and_parts (is_lt (name_cmp name e.0)) (below_all name_cmp name back) below).0

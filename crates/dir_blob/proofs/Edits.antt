@@ -1,5 +1,5 @@
 -- The body of a directory before and after one entry changes.
-use Rattle.std.specs.Prelude.{◌≡◌, ℕ, ◌+◌, ◌-◌, ◌≤◌, ◌<◌, Bool, true, false, T, List, [], ◌∷◌, ◌++◌, length, take, drop, All}
+use Rattle.std.specs.Prelude.{◌≡◌, ℕ, ◌+◌, ◌-◌, ◌≤◌, ◌<◌, T, List, [], ◌∷◌, ◌++◌, length, take, drop, All}
 use Rattle.std.proofs.Common.{refl, sym, ◌∙◌, ap, subst, append_assoc, arith}
 use Rattle.std.specs.FinMap.{put, is_sorted}
 use Rattle.std.specs.FinMap.Entries.{is_sorted-put, is_sorted-where_key}
@@ -16,6 +16,7 @@ use Rattle.std.proofs.lemmas.List.Elements.{All-nil, All-head, All-tail, All-con
 use Rattle.std.proofs.lemmas.Nat.{le-div}
 use Rattle.std.proofs.Math.Nat.{div-mul-le_self}
 use Rattle.std.proofs.Math.Seq.{take-append-add, take-append_seam, drop-append_seam}
+use Rattle.block_id.proofs.Tests.{true_of}
 use Rattle.outcome.specs.Bytes.{zeros, resized, written, pieces}
 use Rattle.fs_model.specs.Tree.{name_cmp}
 use Rattle.fs_model.proofs.TreeLemmas.{name_total}
@@ -210,13 +211,6 @@ removed name old listing front back is =
 
 -- ---- the entries afterwards
 
-true_of : (b : Bool) → T b → b ≡ true
-true_of true t = refl
-true_of false t = absurd t
-
-of_true : (b : Bool) → b ≡ true → T b
-of_true b e = subst T (sym e) tt
-
 All-front : (front back : Listing) → All IsEntry (front ++ back) → All IsEntry front
 All-front [] back each = All-nil IsEntry
 All-front (e ∷ front) back each = All-cons IsEntry e front (All-head IsEntry e (front ++ back) each) (All-front front back (All-tail IsEntry e (front ++ back) each))
@@ -231,7 +225,7 @@ put_listing name target listing front found back is entries own =
     record {
       entries = subst (All IsEntry) (sym (is.puts target)) (All-append IsEntry is.before ((name, target) ∷ is.after) (All-front is.before (held name found ++ is.after) each)
           (All-cons IsEntry (name, target) is.after own (All-back (held name found) is.after (All-back is.before (held name found ++ is.after) each))));
-      order = true_of (is_sorted name_cmp (put name_cmp name target listing)) (is_sorted-put name_cmp name_total name target listing (of_true _ entries.order));
+      order = true_of (is_sorted name_cmp (put name_cmp name target listing)) (is_sorted-put name_cmp name_total name target listing (subst T (sym entries.order) tt));
     }
 
 pub without_listing : (name : List ℕ) (listing : Listing) (front : ℕ) (found : Option Target) (back : List ℕ) → IsPlace name listing front found back → IsListing listing → IsListing (without name listing)
@@ -239,7 +233,7 @@ without_listing name listing front found back is entries =
     let each = subst (All IsEntry) is.split entries.entries in
     record {
       entries = subst (All IsEntry) (sym is.drops) (All-append IsEntry is.before is.after (All-front is.before (held name found ++ is.after) each) (All-back (held name found) is.after (All-back is.before (held name found ++ is.after) each)));
-      order = true_of (is_sorted name_cmp (without name listing)) (is_sorted-where_key name_cmp (λ n. not (eq_by_cmp name_cmp name n)) listing (of_true _ entries.order));
+      order = true_of (is_sorted name_cmp (without name listing)) (is_sorted-where_key name_cmp (λ n. not (eq_by_cmp name_cmp name n)) listing (subst T (sym entries.order) tt));
     }
 
 -- the entry that a place holds is one

@@ -4,12 +4,12 @@ use Rattle.std.proofs.Common.{refl, sym, ◌∙◌, ap}
 use Rattle.std.specs.Ordering.{is_lt, is_eq}
 use Rattle.std.specs.FinMap.{find, put, is_sorted}
 use Rattle.std.specs.FinMap.Entries.{below_all, by_order}
-use Rattle.std.specs.declared.cmp.Ordering.{Ordering}
 use Rattle.std.specs.declared.cmp.Ordering.TheVariants.{Less, Equal, Greater}
 use Rattle.std.specs.declared.option.Option.TheVariants.{None, Some}
 use Rattle.std.proofs.lemmas.Bool.{and_parts, and_from}
 use Rattle.std.proofs.lemmas.Cmp.{nat_list_cmp_total}
 use Rattle.std.proofs.lemmas.List.Elements.{All-head, All-tail}
+use Rattle.block_id.proofs.Orders.{less_is}
 use Rattle.fs_model.specs.Tree.{name_cmp}
 use Rattle.fs_model.proofs.TreeLemmas.{name_exact}
 use Rattle.dir_blob.specs.Layout.{Target, Listing, body_of, IsInOrder}
@@ -42,28 +42,23 @@ without_past name (e ∷ seen) back past =
     ap (λ o. cond (not (is_eq o)) (e ∷ without name (seen ++ back)) (without name (seen ++ back))) head
     ∙ ap (λ xs. e ∷ xs) (without_past name seen back (All-tail (IsBelow name) e seen past))
 
-less : (o : Ordering) → is_lt o ≡ true → o ≡ Less
-less Less e = refl
-less Equal e = absurd cc
-less Greater e = absurd cc
-
 below_on : (a b : List ℕ) (es : Listing) → name_cmp a b ≡ Less → below_all name_cmp b es ≡ true → below_all name_cmp a es ≡ true
 below_on a b [] lt below = refl
 below_on a b (e ∷ es) lt below =
     let parts = and_parts (is_lt (name_cmp b e.0)) (below_all name_cmp b es) below in
-    and_from (is_lt (name_cmp a e.0)) (below_all name_cmp a es) (ap is_lt (nat_list_cmp_total.trans a b e.0 lt (less _ parts.0))) (below_on a b es lt parts.1)
+    and_from (is_lt (name_cmp a e.0)) (below_all name_cmp a es) (ap is_lt (nat_list_cmp_total.trans a b e.0 lt (less_is _ parts.0))) (below_on a b es lt parts.1)
 
 find_below : (name : List ℕ) (es : Listing) → below_all name_cmp name es ≡ true → find name_cmp name es ≡ None
 find_below name [] below = refl
 find_below name (e ∷ es) below =
     let parts = and_parts (is_lt (name_cmp name e.0)) (below_all name_cmp name es) below in
-    ap (λ o. cond (is_eq o) (Some e.1) (find name_cmp name es)) (less _ parts.0) ∙ find_below name es parts.1
+    ap (λ o. cond (is_eq o) (Some e.1) (find name_cmp name es)) (less_is _ parts.0) ∙ find_below name es parts.1
 
 without_below : (name : List ℕ) (es : Listing) → below_all name_cmp name es ≡ true → without name es ≡ es
 without_below name [] below = refl
 without_below name (e ∷ es) below =
     let parts = and_parts (is_lt (name_cmp name e.0)) (below_all name_cmp name es) below in
-    ap (λ o. cond (not (is_eq o)) (e ∷ without name es) (without name es)) (less _ parts.0) ∙ ap (λ xs. e ∷ xs) (without_below name es parts.1)
+    ap (λ o. cond (not (is_eq o)) (e ∷ without name es) (without name es)) (less_is _ parts.0) ∙ ap (λ xs. e ∷ xs) (without_below name es parts.1)
 
 -- ---- the place of a name
 

@@ -1,9 +1,10 @@
 -- One blob of a forest changes, comes or goes, or the paths of all get other names.
-use Rattle.std.specs.Prelude.{◌≡◌, ℕ, true, false, cond, List, is_some}
+use Rattle.std.specs.Prelude.{◌≡◌, ℕ, true, cond, List, is_some}
 use Rattle.std.proofs.Common.{refl, sym, ◌∙◌, ap, subst, ◌⊎◌, inl, inr}
 use Rattle.std.specs.FinMap.{get, insert, remove, get-insert, get-remove}
-use Rattle.std.specs.declared.option.Option.{Option}
 use Rattle.std.specs.declared.option.Option.TheVariants.{None, Some}
+use Rattle.std.proofs.lemmas.Option.{same_Some, none-some}
+use Rattle.block_id.proofs.Options.{none_is, some_of}
 use Rattle.blob_api.specs.BlobMap.{Id, BlobMap}
 use Rattle.fs_model.specs.declared.attr.Kind.{Kind}
 use Rattle.fs_model.specs.declared.attr.Kind.TheVariants.{Directory, File, Link}
@@ -14,9 +15,6 @@ use Rattle.forest.specs.Nodes.{Look, Content, IsNode, IsForest}
 
 -- ---- maps of blobs
 
-pub map_here : (m : BlobMap) (id : Id) (v : List ℕ) → get (insert m id v) id ≡ Some v
-map_here m id v = get-insert name_total m id v id ∙ ap (λ b. cond b (Some v) (get m id)) (name_same id)
-
 pub map_apart : (m : BlobMap) (id : Id) (v : List ℕ) (other : Id) → (other ≡ id → ⊥) → get (insert m id v) other ≡ get m other
 map_apart m id v other differ = get-insert name_total m id v other ∙ ap (λ b. cond b (Some v) (get m other)) (name_apart other id differ)
 
@@ -25,21 +23,6 @@ map_gone m id = get-remove name_total m id id ∙ ap (λ b. cond b None (get m i
 
 pub map_gone_apart : (m : BlobMap) (id other : Id) → (other ≡ id → ⊥) → get (remove m id) other ≡ get m other
 map_gone_apart m id other differ = get-remove name_total m id other ∙ ap (λ b. cond b None (get m other)) (name_apart other id differ)
-
--- ---- options
-
-pub some_is : {X : Type 0} {x y : X} → Some x ≡ Some y → x ≡ y
-some_is h = cc
-
-pub not_both : {X : Type 0} (x : X) → None ≡ Some x → ⊥
-not_both x e = cc
-
-pub is_none : {X : Type 0} (o : Option X) → o ≡ None → is_some o ≡ true → ⊥
-is_none o e s = let bad : true ≡ false = sym s ∙ ap is_some e in cc
-
-pub some_at : {X : Type 0} (o : Option X) → is_some o ≡ true → (x : X) × (o ≡ Some x)
-some_at None s = let bad : false ≡ true = s in cc
-some_at (Some x) s = (x, refl)
 
 -- ---- nodes
 
@@ -70,7 +53,7 @@ module _ (m : BlobMap) (t : Tree) (ids : Path → Id) (parents : Path → Id) (l
   blob_set d old v t2 row2 parents2 looks2 here others node same_parents same_looks = record {
     nodes = λ p row there. elim (path_split p d) [
       | inl e ↦
-          let same : row2 ≡ row = some_is (sym here ∙ (ap (get t2) (sym e) ∙ there)) in
+          let same : row2 ≡ row = same_Some _ _ (sym here ∙ (ap (get t2) (sym e) ∙ there)) in
           subst (λ z. IsNode (insert m (ids d) v) (ids z) row.attr.kind (parents2 z) row.bytes (looks2 z)) (sym e)
           (subst (λ (r : Row). IsNode (insert m (ids d) v) (ids d) r.attr.kind (parents2 d) r.bytes (looks2 d)) same node)
       | inr differ ↦
@@ -110,7 +93,7 @@ module _ (m : BlobMap) (t : Tree) (ids : Path → Id) (parents : Path → Id) (l
   blob_added d none new unused v t2 row2 ids2 parents2 looks2 here others id_here id_others node same_parents same_looks = record {
     nodes = λ p row there. elim (path_split p d) [
       | inl e ↦
-          let same : row2 ≡ row = some_is (sym here ∙ (ap (get t2) (sym e) ∙ there)) in
+          let same : row2 ≡ row = same_Some _ _ (sym here ∙ (ap (get t2) (sym e) ∙ there)) in
           subst (λ z. IsNode (insert m new v) z row.attr.kind (parents2 p) row.bytes (looks2 p)) (sym (ap ids2 e ∙ id_here))
           (subst (λ z. IsNode (insert m new v) new row.attr.kind (parents2 z) row.bytes (looks2 z)) (sym e)
           (subst (λ (r : Row). IsNode (insert m new v) new r.attr.kind (parents2 d) r.bytes (looks2 d)) same node))
@@ -138,12 +121,12 @@ module _ (m : BlobMap) (t : Tree) (ids : Path → Id) (parents : Path → Id) (l
     where
       not_new : (p : Path) → is_some (get t p) ≡ true → ids p ≡ new → ⊥
       not_new p s e =
-          let r = some_at (get t p) s in
+          let r = some_of (get t p) s in
           let x = forest.nodes p r.0 r.1 in
-          not_both (blob r.0.attr.kind (parents p) x.body) (sym unused ∙ (ap (get m) (sym e) ∙ x.there))
+          none-some (blob r.0.attr.kind (parents p) x.body) (sym unused ∙ (ap (get m) (sym e) ∙ x.there))
 
       old : (p : Path) → is_some (get t p) ≡ true → p ≡ d → ⊥
-      old p s e = is_none (get t p) (ap (get t) e ∙ none) s
+      old p s e = none_is (get t p) (ap (get t) e ∙ none) s
 
       sorts : (p : Path) → is_some (get t2 p) ≡ true → ((p ≡ d) × (ids2 p ≡ new)) ⊎ ((is_some (get t p) ≡ true) × (ids2 p ≡ ids p))
       sorts p s = elim (path_split p d) [
@@ -163,13 +146,13 @@ module _ (m : BlobMap) (t : Tree) (ids : Path → Id) (parents : Path → Id) (l
         (map_gone_apart m (ids d) (ids p) (λ e. apart_from p (ap is_some there) (forest.distinct p d (ap is_some was) old e))) refl refl refl (λ n. refl);
     distinct = λ p q a b e. forest.distinct p q (back p a) (back q b) e;
     all = λ id s. elim (name_split id (ids d)) [
-      | inl e ↦ absurd (is_none (get (remove m (ids d)) id) (ap (get (remove m (ids d))) e ∙ map_gone m (ids d)) s)
+      | inl e ↦ absurd (none_is (get (remove m (ids d)) id) (ap (get (remove m (ids d))) e ∙ map_gone m (ids d)) s)
       | inr differ ↦ onward id differ (forest.all id (ap is_some (sym (map_gone_apart m (ids d) id differ)) ∙ s))
     ];
   }
     where
       apart_from : (p : Path) → is_some (get t2 p) ≡ true → p ≡ d → ⊥
-      apart_from p s e = is_none (get t2 p) (ap (get t2) e ∙ gone) s
+      apart_from p s e = none_is (get t2 p) (ap (get t2) e ∙ gone) s
 
       back : (p : Path) → is_some (get t2 p) ≡ true → is_some (get t p) ≡ true
       back p s = ap is_some (sym (others p (apart_from p s))) ∙ s
@@ -198,8 +181,8 @@ paths_renamed m t ids parents looks forest t2 parents2 looks2 from onto carried 
       node_as m m (ids (from p)) (ids (from p)) c.row.attr.kind row2.attr.kind (parents (from p)) (parents2 p) c.row.bytes row2.bytes (looks (from p)) (looks2 p) (forest.nodes (from p) c.row c.there)
       refl c.kind c.parent c.bytes c.look;
   distinct = λ p q a b e.
-      let x = some_at (get t2 p) a in
-      let y = some_at (get t2 q) b in
+      let x = some_of (get t2 p) a in
+      let y = some_of (get t2 q) b in
       let cx = carried p x.0 x.1 in
       let cy = carried q y.0 y.1 in
       sym cx.1 ∙ (ap onto (forest.distinct (from p) (from q) (ap is_some cx.0.there) (ap is_some cy.0.there) e) ∙ cy.1);

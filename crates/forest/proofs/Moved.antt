@@ -4,6 +4,8 @@ use Rattle.std.proofs.Common.{refl, sym, ◌∙◌, ap, subst, inl, inr, arith, 
 use Rattle.std.specs.FinMap.{get, insert, remove, same_map}
 use Rattle.std.specs.declared.option.Option.{Option}
 use Rattle.std.specs.declared.option.Option.TheVariants.{None, Some}
+use Rattle.std.proofs.lemmas.Option.{same_Some, none-some}
+use Rattle.block_id.proofs.Options.{none_is}
 use Rattle.blob_api.specs.BlobMap.{Id, BlobMap}
 use Rattle.fs_model.specs.declared.attr.Kind.TheVariants.{Directory}
 use Rattle.fs_model.specs.Instant.{Instant}
@@ -15,9 +17,10 @@ use Rattle.fs_model.proofs.MoveLemmas.{strip-append, strip-is}
 use Rattle.fs_model.proofs.MovedTree.{CanMove, not_above, strip_none, moved-here, moved-below, moved-off, moved-gone}
 use Rattle.fs_blobs.specs.Headers.{blob}
 use Rattle.dir_blob.specs.Layout.{Target}
+use Rattle.dir_blob.proofs.Needs.{map_here}
 use Rattle.forest.specs.Nodes.{Look, Lists, Content, IsForest}
 use Rattle.forest.specs.Shows.{above, target_for, entries_at, ShowsBy}
-use Rattle.forest.proofs.Forests.{map_here, some_is, not_both, is_none, blob_set, Carries, paths_renamed}
+use Rattle.forest.proofs.Forests.{blob_set, Carries, paths_renamed}
 use Rattle.forest.specs.Midst.{with_entry, with_parent, moved_ids}
 use Rattle.forest.proofs.Shown.{folder_row, entry_here, entry_apart, entry_set}
 
@@ -38,7 +41,7 @@ parent_set m t ids parents looks forest d row there new body content =
     (λ p s differ n. refl)
 
 above_off : (a : Path) (n : List ℕ) (r : Path) → strip a (n ∷ r) ≡ None → strip a r ≡ None
-above_off a n r none = strip_none a r (λ s e. not_both (n ∷ s) (sym none ∙ (ap (λ z. strip a (n ∷ z)) e ∙ strip-append a (n ∷ s))))
+above_off a n r none = strip_none a r (λ s e. none-some (n ∷ s) (sym none ∙ (ap (λ z. strip a (n ∷ z)) e ∙ strip-append a (n ∷ s))))
 
 below_off : (a : Path) (n : List ℕ) (r : Path) → strip a r ≡ None → (n ∷ r ≡ a → ⊥) → strip a (n ∷ r) ≡ None
 below_off a n r none differ = ap (λ b. cond b (Some []) (under n (strip a r))) (apart a (n ∷ r) (λ e. differ (sym e))) ∙ ap (under n) none
@@ -114,7 +117,7 @@ module _ (m : BlobMap) (root : Id) (t : Tree) (ids : Path → Id) (shows : Shows
     where
       below : (s : Path) → p ≡ s ++ q → ⊥
       below [] e = can.differ e
-      below (n ∷ s) e = not_both row (sym (can.bare s n) ∙ (ap (get t) (sym e) ∙ can.here))
+      below (n ∷ s) e = none-some row (sym (can.bare s n) ∙ (ap (get t) (sym e) ∙ can.here))
 
   -- ---- the entries of the node that was at a path
 
@@ -159,7 +162,7 @@ module _ (m : BlobMap) (root : Id) (t : Tree) (ids : Path → Id) (shows : Shows
 
   comes_here : (row2 : Row) → get next q ≡ Some row2 → Comes q row2 p
   comes_here row2 there =
-      let same : with_ctime row now ≡ row2 = some_is (sym (moved-here t now pn pd qn qd row can) ∙ there) in (
+      let same : with_ctime row now ≡ row2 = same_Some _ _ (sym (moved-here t now pn pd qn qd row can) ∙ there) in (
         record {
           row = row;
           there = can.here;
@@ -176,14 +179,14 @@ module _ (m : BlobMap) (root : Id) (t : Tree) (ids : Path → Id) (shows : Shows
       (record { row = row2; there = sym (moved-below t now pn pd qn qd row can n s) ∙ there; kind = refl; bytes = refl; parent = above_under n s; look = look_below (n ∷ s) }, onto_below (n ∷ s))
 
   comes_off : (r : Path) (row2 : Row) → get next r ≡ Some row2 → strip q r ≡ None → (o : Option Path) → strip p r ≡ o → Comes r row2 r
-  comes_off r row2 there off_q (Some s) h = absurd (not_both row2 (sym (moved-gone t now pn pd qn qd row can r s off_q h) ∙ there))
+  comes_off r row2 there off_q (Some s) h = absurd (none-some row2 (sym (moved-gone t now pn pd qn qd row can r s off_q h) ∙ there))
   comes_off r row2 there off_q None h = (
     record {
       row = row2;
       there = sym (moved-off t now pn pd qn qd row can r off_q h) ∙ there;
       kind = refl;
       bytes = refl;
-      parent = above_elsewhere r off_q (λ e. not_both [] (sym h ∙ (ap (strip p) e ∙ strip-append p [])));
+      parent = above_elsewhere r off_q (λ e. none-some [] (sym h ∙ (ap (strip p) e ∙ strip-append p [])));
       look = look_off r off_q h;
     },
     onto_off r h,
@@ -208,8 +211,8 @@ module _ (m : BlobMap) (root : Id) (t : Tree) (ids : Path → Id) (shows : Shows
   goes o s None h = (ap is_some (moved-off t now pn pd qn qd row can o off_q h) ∙ s, from_off o off_q)
     where
       below : (z : Path) → o ≡ z ++ q → ⊥
-      below [] e = is_none (get t o) (ap (get t) e ∙ free) s
-      below (n ∷ z) e = is_none (get t o) (ap (get t) e ∙ can.bare z n) s
+      below [] e = none_is (get t o) (ap (get t) e ∙ free) s
+      below (n ∷ z) e = none_is (get t o) (ap (get t) e ∙ can.bare z n) s
 
       off_q : strip q o ≡ None
       off_q = strip_none q o below

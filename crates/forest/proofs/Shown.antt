@@ -4,6 +4,8 @@ use Rattle.std.proofs.Common.{refl, sym, ◌∙◌, ap, subst, inl, inr, length,
 use Rattle.std.specs.FinMap.{get, insert, remove}
 use Rattle.std.specs.declared.option.Option.{Option}
 use Rattle.std.specs.declared.option.Option.TheVariants.{None, Some}
+use Rattle.std.proofs.lemmas.Option.{same_Some}
+use Rattle.block_id.proofs.Options.{none_is}
 use Rattle.blob_api.specs.BlobMap.{Id, BlobMap}
 use Rattle.fs_model.specs.declared.attr.Kind.{Kind}
 use Rattle.fs_model.specs.declared.attr.Kind.TheVariants.{Directory, File, Link}
@@ -11,10 +13,11 @@ use Rattle.fs_model.specs.Tree.{Path, Row, Tree, same_path, is_directory, is_fol
 use Rattle.fs_model.proofs.TreeLemmas.{same_name, name_same, name_apart, name_split, path_same, path_split, apart, insert_here, insert_apart, remove_here, remove_apart, none_of}
 use Rattle.fs_blobs.specs.Headers.{blob}
 use Rattle.dir_blob.specs.Layout.{Target}
+use Rattle.dir_blob.proofs.Needs.{map_here}
 use Rattle.forest.specs.Nodes.{Look, Lists, Content, IsNode, IsForest}
 use Rattle.forest.specs.Shows.{above, target_for, entries_at, ShowsBy}
 use Rattle.forest.specs.Midst.{with_entry, ids_with}
-use Rattle.forest.proofs.Forests.{map_here, some_is, is_none, blob_set, blob_added, blob_dropped, Carries, forest_as}
+use Rattle.forest.proofs.Forests.{blob_set, blob_added, blob_dropped, Carries, forest_as}
 
 -- ---- rows and entries
 
@@ -85,7 +88,7 @@ module _ (m : BlobMap) (root : Id) (t : Tree) (ids : Path → Id) (shows : Shows
 
   module _ (none : get t q ≡ None) (row : Row) (new : Id) (unused : get m new ≡ None) (body : List ℕ) (content : Content row.attr.kind row.bytes (λ k. None) body) where
     old : (r : Path) → is_some (get t r) ≡ true → r ≡ q → ⊥
-    old r s e = is_none (get t r) (ap (get t) e ∙ none) s
+    old r s e = none_is (get t r) (ap (get t) e ∙ none) s
 
     above_same : (r : Path) → is_some (get t r) ≡ true → above ids r ≡ above (ids_with ids q new) r
     above_same [] s = refl
@@ -192,7 +195,7 @@ module _ (m : BlobMap) (root : Id) (t : Tree) (ids : Path → Id) (shows : Shows
       carried : (r : Path) (x : Row) → get (insert t q row2) r ≡ Some x → Carries t (above ids) (with_entry (entries_at t ids) q (Some (record { attr = row2.attr; blob = ids q }))) x (above ids r) (entries_at (insert t q row2) ids r) r
       carried r x here = elim (path_split r q) [
         | inl e ↦
-            let same : row2 ≡ x = some_is (sym (insert_here t q row2) ∙ (ap (get (insert t q row2)) (sym e) ∙ here)) in
+            let same : row2 ≡ x = same_Some _ _ (sym (insert_here t q row2) ∙ (ap (get (insert t q row2)) (sym e) ∙ here)) in
             record { row = row; there = ap (get t) e ∙ there; kind = kind ∙ ap (λ (z : Row). z.attr.kind) same; bytes = bytes ∙ ap (λ (z : Row). z.bytes) same; parent = refl; look = look_same r }
         | inr differ ↦ record { row = x; there = sym (insert_apart t q row2 r differ) ∙ here; kind = refl; bytes = refl; parent = refl; look = look_same r }
       ]

@@ -4,12 +4,10 @@ use Rattle.std.proofs.Common.{refl, sym, ◌∙◌, ap, inl, inr, arith, length-
 use Rattle.std.specs.FinMap.{get, entries, find, get-from_entries, get-entries}
 use Rattle.std.specs.declared.option.Option.{Option}
 use Rattle.std.specs.declared.option.Option.TheVariants.{None, Some}
-use Rattle.fs_model.specs.Tree.{Path, Row, Tree, path_cmp, same_path}
+use Rattle.std.proofs.lemmas.Option.{same_Some}
+use Rattle.fs_model.specs.Tree.{Path, Tree, path_cmp, same_path}
 use Rattle.fs_model.specs.Move.{under, strip, moved_by, moved, move_entry, renamed}
 use Rattle.fs_model.proofs.TreeLemmas.{path_total, path_split, path_same, apart}
-
-some_is : {X : Type 0} {x y : X} → Some x ≡ Some y → x ≡ y
-some_is h = cc
 
 longer : (n : List ℕ) (s q : Path) → q ≡ n ∷ (s ++ q) → ⊥
 longer n s q e = omega (arith, ap length e, length-append s q)
@@ -21,19 +19,19 @@ strip-append q (n ∷ s) = ap (λ b. cond b (Some []) (under n (strip q (s ++ q)
 
 under_is : (n : List ℕ) (o : Option Path) (s : Path) → under n o ≡ Some s → (z : Path) × (o ≡ Some z) × (s ≡ n ∷ z)
 under_is n None s h = cc
-under_is n (Some z) s h = (z, refl, sym (some_is h))
+under_is n (Some z) s h = (z, refl, sym (same_Some _ _ h))
 
 pub strip-is : (p r s : Path) → strip p r ≡ Some s → r ≡ s ++ p
 strip-is p [] s h = elim (path_split p []) [
   | inl e ↦
       let f : Some [] ≡ Some s = sym (ap (λ b. cond b (Some []) None) (ap (λ z. same_path z []) e ∙ path_same [])) ∙ h in
-      sym e ∙ ap (λ z. z ++ p) (some_is f)
+      sym e ∙ ap (λ z. z ++ p) (same_Some _ _ f)
   | inr d ↦ let f : None ≡ Some s = sym (ap (λ b. cond b (Some []) None) (apart p [] d)) ∙ h in cc
 ]
 strip-is p (n ∷ r) s h = elim (path_split p (n ∷ r)) [
   | inl e ↦
       let f : Some [] ≡ Some s = sym (ap (λ b. cond b (Some []) (under n (strip p r))) (ap (λ z. same_path z (n ∷ r)) e ∙ path_same (n ∷ r))) ∙ h in
-      sym e ∙ ap (λ z. z ++ p) (some_is f)
+      sym e ∙ ap (λ z. z ++ p) (same_Some _ _ f)
   | inr d ↦
       let f = under_is n (strip p r) s (sym (ap (λ b. cond b (Some []) (under n (strip p r))) (apart p (n ∷ r) d)) ∙ h) in
       ap (λ z. n ∷ z) (strip-is p r f.0 f.1) ∙ ap (λ z. z ++ p) (sym f.2)
@@ -45,8 +43,8 @@ same_iff a b c d f g = elim (path_split a b) [
   | inr n ↦ apart a b n ∙ sym (apart c d (λ e. n (g e)))
 ]
 
--- where the row at r comes from, by what stands below q and below p on the way to r
-abbrev pub source : (Path → Option Row) → Path → Path → Option Path → Option Path → Option Row
+-- where what is at r comes from, by what stands below q and below p on the way to r
+abbrev pub source : {X : Type 0} → (Path → Option X) → Path → Path → Option Path → Option Path → Option X
 source at p r (Some s) o = at (s ++ p)
 source at p r None None = at r
 source at p r None (Some s) = None
@@ -60,7 +58,7 @@ module _ (p q : Path) where
   moved_on s x free e = elim (strip p x) as (λ o. strip p x ≡ o → s ++ q ≡ moved_by o q x → s ++ p ≡ x) [
     | None ↦ λ _ e. absurd (free (sym e))
     | Some z ↦ λ h e.
-        let same : s ≡ z = some_is (sym (strip-append q s) ∙ (ap (strip q) e ∙ strip-append q z)) in
+        let same : s ≡ z = same_Some _ _ (sym (strip-append q s) ∙ (ap (strip q) e ∙ strip-append q z)) in
         ap (λ y. y ++ p) same ∙ sym (strip-is p x z h)
   ] refl e
 
@@ -70,7 +68,7 @@ module _ (p q : Path) where
     | Some z ↦ λ h e. let bad : None ≡ Some z = sym none ∙ (ap (strip q) e ∙ strip-append q z) in cc
   ] refl e
 
-  pub find-moved : (r : Path) (es : List (Path × Row)) → ((s : Path) → find path_cmp (s ++ q) es ≡ None)
+  pub find-moved : {X : Type 0} (r : Path) (es : List (Path × X)) → ((s : Path) → find path_cmp (s ++ q) es ≡ None)
       → (a b : Option Path) → strip q r ≡ a → strip p r ≡ b → find path_cmp r (map (move_entry p q) es) ≡ source (λ x. find path_cmp x es) p r a b
   find-moved r [] free (Some s) b ha hb = refl
   find-moved r [] free None None ha hb = refl

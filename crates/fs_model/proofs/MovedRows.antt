@@ -6,6 +6,7 @@ use Rattle.std.proofs.lemmas.List.{reverse-reverse}
 use Rattle.std.specs.FinMap.{get, len, remove}
 use Rattle.std.specs.declared.option.Option.{Option}
 use Rattle.std.specs.declared.option.Option.TheVariants.{None, Some}
+use Rattle.std.proofs.lemmas.Option.{none-some, same_Some}
 use Rattle.fs_model.specs.declared.error.FsError.{FsError}
 use Rattle.fs_model.specs.declared.error.FsError.TheVariants.{NoEntry, Invalid, TooLarge, Busy, NotEmpty, NotDirectory, IsDirectory}
 use Rattle.fs_model.specs.declared.limits.TheConstants.{MAX_ENTRIES}
@@ -23,12 +24,6 @@ use Rattle.fs_model.proofs.MoveLemmas.{strip-append, strip-is}
 use Rattle.fs_model.proofs.MovedTree.{CanMove, not_above, moved-below, moved-off, moved-gone}
 use Rattle.fs_model.proofs.WellFormedStep.{can_move_free, can_move_found, below_file}
 
-the_row : (a b : Row) → Some a ≡ Some b → a ≡ b
-the_row a b e = cc
-
-not_both : {X : Type 0} (x : X) → None ≡ Some x → ⊥
-not_both x e = cc
-
 module _ (t : Tree) (now : Instant) (pn : List ℕ) (pd : Path) (qn : List ℕ) (qd : Path) (row : Row) (can : CanMove t pn pd qn qd row) where
   abbrev p : Path
   p = pn ∷ pd
@@ -45,7 +40,7 @@ module _ (t : Tree) (now : Instant) (pn : List ℕ) (pd : Path) (qn : List ℕ) 
   -- a row apart from q isn't below it
   off_q : (r : Path) (x : Row) → get t r ≡ Some x → (r ≡ q → ⊥) → (s : Path) → r ≡ s ++ q → ⊥
   off_q r x there differ [] e = differ e
-  off_q r x there differ (n ∷ s) e = not_both x (sym (can.bare s n) ∙ (ap (get t) (sym e) ∙ there))
+  off_q r x there differ (n ∷ s) e = none-some x (sym (can.bare s n) ∙ (ap (get t) (sym e) ∙ there))
 
   strip_off : (r : Path) (x : Row) → get t r ≡ Some x → (r ≡ q → ⊥) → strip q r ≡ None
   strip_off r x there differ = elim (strip q r) as (λ o. strip q r ≡ o → strip q r ≡ None) [
@@ -63,8 +58,8 @@ module _ (t : Tree) (now : Instant) (pn : List ℕ) (pd : Path) (qn : List ℕ) 
   came_from r x there (Some (n ∷ s)) h =
       (n ∷ (s ++ p), (x, sym (moved-below t now pn pd qn qd row can n s) ∙ (ap (get next) (sym (strip-is q r (n ∷ s) h)) ∙ there), (λ e. not_above p q can.above s n (sym e)), moved_at (n ∷ s) ∙ sym (strip-is q r (n ∷ s) h)))
   came_from r x there None h = elim (strip p r) as (λ o. strip p r ≡ o → (z : Path) × ((old : Row) × (get t z ≡ Some old) × (z ≡ q → ⊥) × (moved p q z ≡ r))) [
-    | Some s ↦ λ e. absurd (not_both x (sym (moved-gone t now pn pd qn qd row can r s h e) ∙ there))
-    | None ↦ λ e. (r, (x, sym (moved-off t now pn pd qn qd row can r h e) ∙ there, (λ z. not_both [] (sym h ∙ (ap (strip q) z ∙ strip-append q []))), ap (λ o. moved_by o q r) e))
+    | Some s ↦ λ e. absurd (none-some x (sym (moved-gone t now pn pd qn qd row can r s h e) ∙ there))
+    | None ↦ λ e. (r, (x, sym (moved-off t now pn pd qn qd row can r h e) ∙ there, (λ z. none-some [] (sym h ∙ (ap (strip q) z ∙ strip-append q []))), ap (λ o. moved_by o q r) e))
   ] refl
 
   same_end : (s z : Path) → s ++ q ≡ z ++ q → s ≡ z
@@ -78,7 +73,7 @@ module _ (t : Tree) (now : Instant) (pn : List ℕ) (pd : Path) (qn : List ℕ) 
 
   pub moved_rows : IsMoved t next now p q
   moved_rows = record {
-    arrived = λ x there. insert_here (renamed (remove t q) p q) q (with_ctime row now) ∙ ap (λ z. Some (with_ctime z now)) (the_row row x (sym can.here ∙ there));
+    arrived = λ x there. insert_here (renamed (remove t q) p q) q (with_ctime row now) ∙ ap (λ z. Some (with_ctime z now)) (same_Some row x (sym can.here ∙ there));
     kept = λ r x there not_q not_p. kept_at r x there not_q not_p (strip p r) refl;
     came = λ r x there. came_from r x there (strip q r) refl;
     apart = λ r o x y hr ho not_q no_q e. apart_at r o x y hr ho not_q no_q (strip p r) (strip p o) refl refl e;

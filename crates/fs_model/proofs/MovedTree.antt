@@ -5,6 +5,7 @@ use Rattle.std.proofs.lemmas.Bool.{or_right, or_left}
 use Rattle.std.specs.FinMap.{get, remove, empty}
 use Rattle.std.specs.declared.option.Option.{Option}
 use Rattle.std.specs.declared.option.Option.TheVariants.{None, Some}
+use Rattle.std.proofs.lemmas.Option.{none-some}
 use Rattle.fs_model.specs.declared.limits.TheConstants.{MAX_ENTRIES}
 use Rattle.fs_model.specs.Instant.{Instant}
 use Rattle.fs_model.specs.Names.{IsName}
@@ -17,9 +18,6 @@ use Rattle.fs_model.proofs.SizeLemmas.{map_size, same_children, no_names, name_r
 
 shorter : (s : Path) (n : List ℕ) (p : Path) → p ≡ s ++ (n ∷ p) → ⊥
 shorter s n p e = omega (arith, ap length e, length-append s (n ∷ p))
-
-none_is_some : {X : Type 0} (x : X) → None ≡ Some x → ⊥
-none_is_some x e = cc
 
 -- a proper prefix is found
 is_above_it : (p s : Path) (n : List ℕ) → is_above p (n ∷ (s ++ p)) ≡ true
@@ -35,8 +33,8 @@ strip_none p r off = elim (strip p r) as (λ o. strip p r ≡ o → strip p r �
   | Some s ↦ λ e. absurd (off s (strip-is p r s e))
 ] refl
 
-strip_off : (p r : Path) → strip p r ≡ None → (s : Path) → r ≡ s ++ p → ⊥
-strip_off p r none s e = none_is_some s (sym none ∙ (ap (strip p) e ∙ strip-append p s))
+pub strip_off : (p r : Path) → strip p r ≡ None → (s : Path) → r ≡ s ++ p → ⊥
+strip_off p r none s e = none-some s (sym none ∙ (ap (strip p) e ∙ strip-append p s))
 
 -- a row at p, and a path q that isn't below p, stands below a directory and has nothing below it
 pub record CanMove (t : Tree) (pn : List ℕ) (pd : Path) (qn : List ℕ) (qd : Path) (row : Row) : Type 0 where
@@ -156,7 +154,7 @@ module _ (t : Tree) (now : Instant) (pn : List ℕ) (pd : Path) (qn : List ℕ) 
       subst IsWithinLimits row_is (let limits = rows p row can.here in record { content = limits.content; mode = limits.mode })
   rows_below rows r x (Some (m ∷ s)) h there = rows (m ∷ (s ++ p)) x (sym (moved-below m s) ∙ (ap (get next) (sym (strip-is q r (m ∷ s) h)) ∙ there))
   rows_below rows r x None h there = elim (strip p r) as (λ o. strip p r ≡ o → IsWithinLimits x) [
-    | Some s ↦ λ e. absurd (none_is_some x (sym (moved-gone r s h e) ∙ there))
+    | Some s ↦ λ e. absurd (none-some x (sym (moved-gone r s h e) ∙ there))
     | None ↦ λ e. rows r x (sym (moved-off r h e) ∙ there)
   ] refl
 

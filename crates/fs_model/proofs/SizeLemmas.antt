@@ -1,12 +1,14 @@
 -- The children of edited trees, and the bytes that their entries take.
-use Rattle.std.specs.Prelude.{◌≡◌, ℕ, ◌+◌, ◌≤◌, cond, List, [], ◌∷◌, length}
+use Rattle.std.specs.Prelude.{◌≡◌, ℕ, ◌+◌, ◌≤◌, cond, List, [], ◌∷◌, length, nat_lt}
 use Rattle.std.proofs.Common.{refl, sym, ◌∙◌, ap, subst, inl, inr, arith}
 use Rattle.std.specs.FinMap.{FinMap, get, entries, find, insert, remove, empty, get-insert, get-remove, get-entries, entries-insert, same_map, len, empty_of_len, get-empty, len-entries, len-empty}
 use Rattle.std.specs.FinMap.Entries.{put, by_order}
 use Rattle.std.specs.declared.cmp.Ordering.TheVariants.{Less, Equal, Greater}
 use Rattle.std.specs.declared.option.Option.TheVariants.{None, Some}
 use Rattle.std.specs.Ordering.{is_eq}
-use Rattle.fs_model.specs.Tree.{Path, Tree, Row, name_cmp, entry_size, entries_size, children}
+use Rattle.std.proofs.lemmas.Bool.{lt-ltb}
+use Rattle.fs_model.specs.Tree.{Path, Tree, Row, name_cmp, entry_size, entries_size, children, directory_size}
+use Rattle.fs_model.specs.Step.{has_child}
 use Rattle.fs_model.proofs.TreeLemmas.{name_total, name_exact, name_split, name_apart, name_same, get-children, insert_here, insert_apart, remove_here, remove_apart}
 
 abbrev pub NameMap : Type 0 → Type 0
@@ -120,3 +122,11 @@ children-remove_apart t n p q d = same_children _ q _ (λ k. remove_apart t (n �
 
 pub no_children : (t : Tree) (p : Path) → len (children t p) ≡ 0 → (n : List ℕ) → get t (n ∷ p) ≡ None
 no_children t p e n = sym (get-children t p n) ∙ empty_names (children t p) e n
+
+some_size : {X : Type 0} (es : List (List ℕ × X)) → nat_lt 0 (entries_size es) ≡ nat_lt 0 (length es)
+some_size [] = refl
+some_size (e ∷ es) = lt-ltb 0 (entries_size (e ∷ es)) (omega arith) ∙ sym (lt-ltb 0 (length (e ∷ es)) (omega arith))
+
+-- a directory whose entries take bytes has a child
+pub has_child-size : (t : Tree) (p : Path) → nat_lt 0 (directory_size t p) ≡ has_child t p
+has_child-size t p = some_size (entries (children t p)) ∙ ap (nat_lt 0) (sym (len-entries (children t p)))

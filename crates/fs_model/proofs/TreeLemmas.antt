@@ -7,7 +7,7 @@ use Rattle.std.proofs.Common.{refl, sym, ◌∙◌, ap, subst, ◌⊎◌, inl, i
 use Rattle.std.specs.declared.cmp.Ordering.{Ordering}
 use Rattle.std.specs.Ordering.{eq_by_cmp, is_eq, ordering_then}
 use Rattle.std.specs.declared.cmp.Ordering.TheVariants.{Less, Equal, Greater}
-use Rattle.std.specs.Cmp.{IsTotalOrder, tied_itself}
+use Rattle.std.specs.Cmp.{IsTotalOrder, tied_itself, Equal-is, tied_then}
 use Rattle.std.specs.Cmp.Lexicographic.{nat_list_cmp_total, lists_total}
 use Rattle.std.specs.FinMap.{get, entries, from_entries, find, insert, remove, get-insert, get-remove, get-from_entries, get-entries, IsAntisymmetric, slice_cmp-IsAntisymmetric, nat_cmp-IsAntisymmetric}
 use Rattle.std.specs.declared.option.Option.{Option}
@@ -35,11 +35,6 @@ same_path_itself p = ap is_eq (tied_itself path_total p)
 same_name_itself : (n : List ℕ) → same_name n n ≡ true
 same_name_itself n = ap is_eq (tied_itself name_total n)
 
-is_eq_true : (o : Ordering) → is_eq o ≡ true → o ≡ Equal
-is_eq_true Less e = cc
-is_eq_true Equal e = refl
-is_eq_true Greater e = cc
-
 pub path_same : (p : Path) → same_path p p ≡ true
 path_same p = same_path_itself p
 
@@ -49,18 +44,18 @@ name_same n = same_name_itself n
 -- two paths are the same or not, and the test says which
 pub path_split : (p q : Path) → (p ≡ q) ⊎ (p ≡ q → ⊥)
 path_split p q = elim (same_path p q) as (λ b. same_path p q ≡ b → (p ≡ q) ⊎ (p ≡ q → ⊥)) [
-  | true ↦ λ e. inl (path_exact p q (is_eq_true (path_cmp p q) e))
+  | true ↦ λ e. inl (path_exact p q ((Equal-is (path_cmp p q)).0 e))
   | false ↦ λ f. inr (λ e. let bad : true ≡ false = sym (same_path_itself q) ∙ (ap (λ z. same_path z q) (sym e) ∙ f) in cc)
 ] refl
 
 pub name_split : (p q : List ℕ) → (p ≡ q) ⊎ (p ≡ q → ⊥)
 name_split p q = elim (same_name p q) as (λ b. same_name p q ≡ b → (p ≡ q) ⊎ (p ≡ q → ⊥)) [
-  | true ↦ λ e. inl (name_exact p q (is_eq_true (name_cmp p q) e))
+  | true ↦ λ e. inl (name_exact p q ((Equal-is (name_cmp p q)).0 e))
   | false ↦ λ f. inr (λ e. let bad : true ≡ false = sym (same_name_itself q) ∙ (ap (λ z. same_name z q) (sym e) ∙ f) in cc)
 ] refl
 
 pub same_path_is : (p q : Path) → same_path p q ≡ true → p ≡ q
-same_path_is p q e = path_exact p q (is_eq_true (path_cmp p q) e)
+same_path_is p q e = path_exact p q ((Equal-is (path_cmp p q)).0 e)
 
 pub apart : (p q : Path) → (p ≡ q → ⊥) → same_path p q ≡ false
 apart p q differ = elim (same_path p q) as (λ b. same_path p q ≡ b → same_path p q ≡ false) [
@@ -70,14 +65,9 @@ apart p q differ = elim (same_path p q) as (λ b. same_path p q ≡ b → same_p
 
 pub name_apart : (p q : List ℕ) → (p ≡ q → ⊥) → same_name p q ≡ false
 name_apart p q differ = elim (same_name p q) as (λ b. same_name p q ≡ b → same_name p q ≡ false) [
-  | true ↦ λ e. absurd (differ (name_exact p q (is_eq_true (name_cmp p q) e)))
+  | true ↦ λ e. absurd (differ (name_exact p q ((Equal-is (name_cmp p q)).0 e)))
   | false ↦ λ e. e
 ] refl
-
-eq_then : (a b : Ordering) → is_eq (ordering_then a b) ≡ (is_eq a && is_eq b)
-eq_then Less b = refl
-eq_then Equal b = refl
-eq_then Greater b = refl
 
 pick_child : (a b : Bool) (o z : Option Row) → cond (a && b) o z ≡ cond b (cond a o z) z
 pick_child true true o z = refl
@@ -96,7 +86,7 @@ find-child n p ((m ∷ q, row) ∷ es) =
     under_cond (same_path p q) n m row (child_entries p es)
     ∙ ap (λ z. cond (same_path p q) (cond (eq_by_cmp name_cmp n m) (Some row) z) z) (find-child n p es)
     ∙ sym (pick_child (eq_by_cmp name_cmp n m) (same_path p q) (Some row) (find path_cmp (n ∷ p) es))
-    ∙ ap (λ b. cond b (Some row) (find path_cmp (n ∷ p) es)) (sym (eq_then (name_cmp n m) (path_cmp p q)))
+    ∙ ap (λ b. cond b (Some row) (find path_cmp (n ∷ p) es)) (tied_then (name_cmp n m) (path_cmp p q))
 
 -- a child of a path is the row at its name below it
 pub get-children : (t : Tree) (p : Path) (n : List ℕ) → get (children t p) n ≡ get t (n ∷ p)

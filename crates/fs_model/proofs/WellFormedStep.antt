@@ -346,7 +346,7 @@ well_formed-step t now (command.Utime p atime mtime) wf fits named = unless_keep
     (attributes_keep t n q (with_times atime mtime now) _ wf (λ a. refl) (λ a h. h) refl))
 well_formed-step t now command.Sync wf fits named = wf
 
-empty_at : (n : List ℕ) (p : Path) → get empty_tree (n ∷ p) ≡ None
+pub empty_at : (n : List ℕ) (p : Path) → get empty_tree (n ∷ p) ≡ None
 empty_at n p = insert_apart empty [] root_row (n ∷ p) (λ e. cc) ∙ get-empty path_cmp (n ∷ p)
 
 root_row_fits : IsWithinLimits root_row

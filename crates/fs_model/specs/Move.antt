@@ -3,7 +3,7 @@ use Rattle.std.specs.Prelude.{ℕ, Bool, false, cond, ◌||◌, List, [], ◌∷
 use Rattle.std.specs.FinMap.{entries, from_entries}
 use Rattle.std.specs.declared.option.Option.{Option}
 use Rattle.std.specs.declared.option.Option.TheVariants.{None, Some}
-use Rattle.fs_model.specs.Tree.{Path, Row, Tree, same_path}
+use Rattle.fs_model.specs.Tree.{Path, Tree, same_path}
 
 -- p is a proper prefix of this path
 abbrev pub is_above : Path → Path → Bool
@@ -27,7 +27,7 @@ moved_by (Some s) q r = s ++ q
 abbrev pub moved : Path → Path → Path → Path
 moved p q r = moved_by (strip p r) q r
 
-abbrev pub move_entry : Path → Path → Path × Row → Path × Row
+abbrev pub move_entry : {X : Type 0} → Path → Path → Path × X → Path × X
 move_entry p q e = (moved p q e.0, e.1)
 
 -- every path that has the prefix p gets the prefix q

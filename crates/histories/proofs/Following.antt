@@ -1,5 +1,6 @@
 -- Runs compose.
-use Rattle.std.proofs.Common.{◌≡◌, ◌⊎◌, ◌||◌, Bool, true, List, [], ◌∷◌, refl, sym, ap, subst, inl, inr}
+use Rattle.std.proofs.Common.{◌≡◌, ◌⊎◌, ◌||◌, Bool, true, List, [], ◌∷◌, refl, sym, subst, inl, inr}
+use Rattle.std.proofs.lemmas.Bool.{or_left}
 use Rattle.answers.specs.Sessions.{latest, violated}
 use Rattle.config_file.specs.Settings.{Settings}
 use Rattle.fs_model.specs.Tree.{Tree}
@@ -10,9 +11,6 @@ use Rattle.mount.specs.Representing.{Represents}
 use Rattle.mount.proofs.Reading.{loaded_unmarked}
 use Rattle.session_runs.specs.Runs.{Outside, StandsFor}
 use Rattle.histories.specs.Histories.{Run, session, quiet, before_of, after_of, exchanges_of, IsRun, IsUnforgedRun, GoesOnFrom, AreRuns, end_of, was_violated, IsRefusedRun, RunsFrom, Follow, EndsWith}
-
-true_or : (a b : Bool) → a ≡ true → (a || b) ≡ true
-true_or a b e = ap (λ (x : Bool). x || b) e
 
 module _ (shows : Showing) (c : Settings) where
   stands_on : (last next : Outside) (tree : Tree) → GoesOnFrom last next → StandsFor shows c tree last → StandsFor shows c tree next
@@ -30,7 +28,7 @@ module _ (shows : Showing) (c : Settings) where
   serving (session now password before after closing es) from was run u s =
       let a = run.founded c from (record { opens = record { stands = s; unforged_config = u.0 }; unforged = u.1 }) in
       elim a.kept as (λ _. Turned from was (session now password before after closing es)) [
-        | inl m ↦ (from, inl (record { trees = a.trees; replies = a.replies; kept = inl (m.0, m.1, refl); no_false_alarm = a.no_false_alarm; built = a.built }), inr (true_or (violated es) was m.0, m.1))
+        | inl m ↦ (from, inl (record { trees = a.trees; replies = a.replies; kept = inl (m.0, m.1, refl); no_false_alarm = a.no_false_alarm; built = a.built }), inr (or_left (violated es) was m.0, m.1))
         | inr k ↦ (k.0, inl (record { trees = a.trees; replies = a.replies; kept = inr (k.1, k.2); no_false_alarm = a.no_false_alarm; built = a.built }), inl k.2)
       ]
   serving (quiet password before after) from was run u s =

@@ -16,6 +16,7 @@ use Rattle.local_state.specs.declared.mark.Mark.{Mark}
 use Rattle.local_state.specs.Known.{Marks, FitsMark, is_live_in}
 use Rattle.store_api.specs.Content.{Id, id_cmp, same_id, Changes}
 use Rattle.store_api.specs.Holdings.{Fits}
+use Rattle.store_api.proofs.Rising.{ids_total}
 use Rattle.integrity_store.specs.Applied.{mark_after, WaitsAfter, Applied}
 use Rattle.integrity_store.specs.BlockRecords.{payload_in}
 use Rattle.integrity_store.specs.Draws.{AreDrawn, given_in, iv_of, draws}
@@ -24,7 +25,7 @@ use Rattle.integrity_store.specs.Marking.{Entry, MayRaise, MayMark, mark_each, M
 use Rattle.integrity_store.specs.Sealing.{MaySeal, AreMadeOf, IsListed}
 use Rattle.integrity_store.specs.Stores.{IsWhole, is_last, holdings_by, has-keys}
 use Rattle.integrity_store.proofs.Marks.{get-mark_each, may_mark_each, not_spent}
-use Rattle.integrity_store.proofs.Sorted.{ids_total, all_by, each_found}
+use Rattle.integrity_store.proofs.Sorted.{all_by, each_found}
 use Rattle.integrity_store.proofs.Waiting.{MadeAt, made_rises, made_at, none_of_config, drawn, true_of}
 
 -- ---- before a batch

@@ -1,16 +1,19 @@
 -- The marks after the entries of a batch, by the ids of the batch.
-use Rattle.std.proofs.Common.{◌≡◌, ℕ, List, [], ◌∷◌, Bool, true, false, cond, refl, sym, ◌∙◌, ap, subst, inl, inr}
-use Rattle.std.specs.Prelude.{T, Option, Some, None, ◌||◌, ◌⊎◌}
+use Rattle.std.proofs.Common.{◌≡◌, ℕ, List, [], ◌∷◌, true, false, cond, refl, sym, ◌∙◌, ap, subst, inl, inr}
+use Rattle.std.specs.Prelude.{T, Option, Some, None, ◌||◌}
 use Rattle.std.specs.FinMap as fin
 use Rattle.std.specs.FinMap.{is_sorted, get-insert}
 use Rattle.std.specs.FinMap.Entries.{find}
+use Rattle.std.specs.Cmp.{Equal-is}
+use Rattle.std.proofs.lemmas.Bool.{or_cases, or_right}
 use Rattle.local_state.specs.declared.mark.Mark.{Mark}
 use Rattle.local_state.specs.Known.{Marks}
 use Rattle.store_api.specs.Content.{Id, id_cmp, same_id}
+use Rattle.store_api.proofs.Rising.{ids_total, same_id_is, not_below}
 use Rattle.integrity_store.specs.Applied.{mark_after}
 use Rattle.integrity_store.specs.Stores.{is_last}
 use Rattle.integrity_store.specs.Marking.{Entry, is_spent_at, some_spent_in, one_if_new, count_new_in, MayMark, with_mark_at, mark_one, mark_each, MayMarkEach, count_new_each}
-use Rattle.integrity_store.proofs.Sorted.{ids_total, equal, same_id_is, not_below, found_first, later_differs, found_later, rest_rises, first_below}
+use Rattle.integrity_store.proofs.Sorted.{found_first, later_differs, found_later, rest_rises, first_below}
 
 -- ---- one entry
 
@@ -45,7 +48,7 @@ get-mark_each (e ∷ es) marks q rises =
     ∙ elim (same_id q e.0) as (λ b. same_id q e.0 ≡ b
     → mark_after (find id_cmp q es) (cond b (mark_after (Some e.1) (fin.get marks e.0)) (fin.get marks q)) ≡ mark_after (cond b (Some e.1) (find id_cmp q es)) (fin.get marks q)) [
       | true ↦ λ s.
-          ap (λ o. mark_after o (mark_after (Some e.1) (fin.get marks e.0))) (not_below ids_total q e.0 es (equal (id_cmp q e.0) s) (first_below ids_total e es rises))
+          ap (λ o. mark_after o (mark_after (Some e.1) (fin.get marks e.0))) (not_below ids_total q e.0 es ((Equal-is (id_cmp q e.0)).0 s) (first_below ids_total e es rises))
           ∙ ap (λ x. mark_after (Some e.1) (fin.get marks x)) (sym (same_id_is q e.0 s))
       | false ↦ λ s. refl
     ] refl
@@ -84,13 +87,9 @@ spent_first : (change : Option (List ℕ)) (mark : Option Mark) → is_spent_at 
 spent_first (Some payload) mark e = (payload, refl, e)
 spent_first None mark e = absurd (cc)
 
-first_or_later : (a b : Bool) → (a || b) ≡ true → (a ≡ true) ⊎ (b ≡ true)
-first_or_later true b e = inl refl
-first_or_later false b e = inr e
-
 pub spent_found : (es : List Entry) (marks : Marks) → T (is_sorted id_cmp es) → some_spent_in marks es ≡ true → SpentIn marks es
 spent_found [] marks rises e = absurd (cc)
-spent_found (e ∷ es) marks rises is = elim (first_or_later (is_spent_at e.1 (fin.get marks e.0)) (some_spent_in marks es) is) [
+spent_found (e ∷ es) marks rises is = elim (or_cases (is_spent_at e.1 (fin.get marks e.0)) (some_spent_in marks es) is) [
   | inl here ↦
       let s = spent_first e.1 (fin.get marks e.0) here in
       record { id = e.0; payload = s.0; gets = found_first ids_total e es ∙ ap Some s.1; last = s.2 }
@@ -98,10 +97,6 @@ spent_found (e ∷ es) marks rises is = elim (first_or_later (is_spent_at e.1 (f
       let s = spent_found es marks (rest_rises ids_total e es rises) there in
       record { id = s.id; payload = s.payload; gets = found_later ids_total s.id e es (Some s.payload) rises s.gets; last = s.last }
 ]
-
-or_later : (a b : Bool) → b ≡ true → (a || b) ≡ true
-or_later true b e = refl
-or_later false b e = e
 
 pub found_spent : (es : List Entry) (marks : Marks) (id : Id) (payload : List ℕ) → find id_cmp id es ≡ Some (Some payload) → is_last (fin.get marks id) ≡ true → some_spent_in marks es ≡ true
 found_spent [] marks id payload gets last = absurd (cc)
@@ -111,7 +106,7 @@ found_spent (e ∷ es) marks id payload gets last =
           let given : e.1 ≡ Some payload = cc in
           let spent : is_spent_at e.1 (fin.get marks e.0) ≡ true = ap (λ c. is_spent_at c (fin.get marks e.0)) given ∙ (ap (λ x. is_last (fin.get marks x)) (sym (same_id_is id e.0 s)) ∙ last) in
           ap (λ b. b || some_spent_in marks es) spent
-      | false ↦ λ s there. or_later (is_spent_at e.1 (fin.get marks e.0)) (some_spent_in marks es) (found_spent es marks id payload there last)
+      | false ↦ λ s there. or_right (is_spent_at e.1 (fin.get marks e.0)) (some_spent_in marks es) (found_spent es marks id payload there last)
     ] refl gets
 
 pub not_spent : (es : List Entry) (marks : Marks) (id : Id) (payload : List ℕ) → some_spent_in marks es ≡ false → find id_cmp id es ≡ Some (Some payload) → is_last (fin.get marks id) ≡ false

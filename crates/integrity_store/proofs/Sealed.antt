@@ -11,9 +11,9 @@ use Rattle.outside.specs.Trace.{At, block}
 use Rattle.outside.specs.View.{at_of, change_of, pending_of, list_of}
 use Rattle.store_api.specs.declared.batch.BatchChange.{BatchChange}
 use Rattle.store_api.specs.Entries.{entry_view, entries_of}
+use Rattle.store_api.proofs.Rising.{turn}
 use Rattle.integrity_store.specs.Held.{Held}
 use Rattle.integrity_store.specs.Sealing.{MaySeal, IsMadeOf, stream_after, AreMadeOf}
-use Rattle.integrity_store.proofs.Sorted.{turn}
 
 -- ---- the loop
 

@@ -7,18 +7,20 @@ use Rattle.std.specs.FinMap.{is_sorted}
 use Rattle.std.specs.FinMap.Entries.{find, below_all}
 use Rattle.std.specs.Ordering.{is_lt, is_eq}
 use Rattle.rand_core.specs.Stream.{Stream, fill_bytes}
+use Rattle.block_id.proofs.Tests.{left, right}
 use Rattle.outside.specs.Trace.{config, block}
 use Rattle.outside.specs.Names.{at_cmp}
 use Rattle.outside.specs.NameLaws.{at_total}
 use Rattle.outside.specs.Changes.{Changes, change_at, set_changes}
 use Rattle.outside.specs.ChangeLaws.{change_at-set_changes}
 use Rattle.store_api.specs.Content.{Id, id_cmp, same_id}
+use Rattle.store_api.proofs.Rising.{ids_total, same_id_is}
 use Rattle.integrity_store.specs.Applied.{IsRaised}
 use Rattle.integrity_store.specs.Draws.{draws, given_in, iv_in, iv_of}
 use Rattle.integrity_store.specs.Held.{Held}
 use Rattle.integrity_store.specs.Marking.{Entry}
 use Rattle.integrity_store.specs.Sealing.{IsMadeOf, stream_after, AreMadeOf}
-use Rattle.integrity_store.proofs.Sorted.{ids_total, same_id_is, rest_rises, first_below, left, right, each_found}
+use Rattle.integrity_store.proofs.Sorted.{rest_rises, first_below, each_found}
 
 -- ---- their order
 

@@ -7,6 +7,7 @@ use Rattle.std.specs.FinMap.{is_sorted}
 use Rattle.std.specs.FinMap.Entries.{below_all}
 use Rattle.std.specs.Ordering.{is_lt, nat_cmp}
 use Rattle.std.specs.Cmp.Lexicographic.{slice_cmp}
+use Rattle.block_id.proofs.Tests.{left, right}
 use Rattle.outside.specs.Trace.{At, config, block, Call}
 use Rattle.outside.specs.Names.{at_cmp}
 use Rattle.outside.specs.NameLaws.{at_total, at_exact}
@@ -22,7 +23,7 @@ use Rattle.integrity_store.specs.Laws.{opens-length, opened-plain}
 use Rattle.integrity_store.specs.Marking.{MayMark}
 use Rattle.integrity_store.specs.Stores.{IsWhole}
 use Rattle.integrity_store.specs.WaitingLists.{IsNoBlock}
-use Rattle.integrity_store.proofs.Sorted.{all_by, each_found, of_found, left, right}
+use Rattle.integrity_store.proofs.Sorted.{all_by, each_found, of_found}
 use Rattle.integrity_store.proofs.Waiting.{true_of}
 
 -- ---- the order of a list

@@ -8,6 +8,7 @@ use Rattle.std.proofs.lemmas.Slice.Eq.{bytes_eq-Decides}
 use Rattle.std.specs.Str.{bytes_eq}
 use Rattle.std.specs.declared.option.Option.{Option}
 use Rattle.std.specs.declared.option.Option.TheVariants.{None, Some}
+use Rattle.std.proofs.lemmas.Bool.{or_right}
 use Rattle.block_id.specs.declared.fail.Why.{Why}
 use Rattle.outside.specs.Trace.{At, block, Call, got, put, removed}
 use Rattle.outside.specs.Names.{same_at}
@@ -126,10 +127,6 @@ put_unforged : (opens : List ℕ → Option (List ℕ)) (size : ℕ) (trace : Li
 put_unforged opens size trace b was = rw was (and-false (is_some (opens_file opens size b)))
 
 -- ---- what was put last was put
-
-or_right : (a b : Bool) → b ≡ true → (a || b) ≡ true
-or_right true b e = refl
-or_right false b e = e
 
 abbrev bytes_out : Option LastChange → Option (List ℕ)
 bytes_out None = None

@@ -10,13 +10,14 @@ use Rattle.std.specs.declared.alloc.Global.{Global}
 use Rattle.std.specs.declared.result.Result.TheVariants.{Ok, Err}
 use Rattle.std.specs.declared.option.Option.{Option}
 use Rattle.std.specs.declared.option.Option.TheVariants.{None, Some}
+use Rattle.std.proofs.lemmas.Bool.{not-false}
 use Rattle.block_id.specs.declared.fail.Why.{Why}
 use Rattle.block_id.specs.declared.fail.Why.TheVariants.{Missing, BadLength, BadPrefix, NotOpened, BadRecord, WrongId, ForeignClient, OldVersion, AheadVersion, Structure}
 use Rattle.block_id.specs.declared.fail.Fail.{Fail}
 use Rattle.block_id.specs.declared.fail.Fail.TheVariants.{Memory, Fault, Violation}
 use Rattle.outside.specs.Trace.{Call, got, put, removed, config, block, adds}
 use Rattle.outside.specs.Changes.{cut}
-use Rattle.outside.specs.HonestLaws.{count_grows}
+use Rattle.outside.specs.HonestLaws.{count_grows, uncounted}
 use Rattle.outside.specs.Honest.{same_answer, is_left, is_lie, count_calls, count_told}
 use Rattle.outcome.specs.Meanings.{OnVerdict, IsCalm, IsOfBlocks}
 use Rattle.redo_vault.specs.Redo.{Gave}
@@ -189,17 +190,9 @@ not_false true true is e = refl
 not_false true false is e = absurd (false_is_true (sym e))
 not_false false b is e = absurd (false_is_true is)
 
-rose : (b : Bool) (n : ℕ) → (if b then 1 else 0) + n ≤ n → b ≡ false
-rose true n few = absurd (omega (arith, few))
-rose false n few = refl
-
-not_not : (b : Bool) → not b ≡ false → b ≡ true
-not_not true e = refl
-not_not false e = absurd (false_is_true (sym e))
-
 same_file : (bytes : List ℕ) (file : Option (List ℕ)) → not (same_answer file (Some bytes)) ≡ false → file ≡ Some bytes
 same_file bytes None e = absurd (false_is_true (sym e))
-same_file bytes (Some b) e = ap Some ((bytes_eq-Decides b bytes).0 (not_not (bytes_eq b bytes) e))
+same_file bytes (Some b) e = ap Some ((bytes_eq-Decides b bytes).0 (not-false (bytes_eq b bytes) e))
 
 record_same : {a b : Record} → Some a ≡ Some b → a ≡ b
 record_same e = cc
@@ -234,7 +227,7 @@ came_value h (Some t) new id version file payload live came is sound few =
           wanted_of h t id version bytes payload live (e ∙ ap Some (sameb ∙ ap Some eq)) o
       | None ↦ λ e f.
           let few' : count_calls (forged h.opens h.size) (got (block id) (h.size + 1) file ∷ t) ≤ count_calls (forged h.opens h.size) t = rw f at few in
-          let unforged : forged h.opens h.size t (got (block id) (h.size + 1) (Some bytes)) ≡ false = rw same at (rose (forged h.opens h.size t (got (block id) (h.size + 1) file)) _ few') in
+          let unforged : forged h.opens h.size t (got (block id) (h.size + 1) (Some bytes)) ≡ false = rw same at (uncounted (forged h.opens h.size t (got (block id) (h.size + 1) file)) _ few') in
           let p = opened-plain h.opens h.size bytes _ o in
           put_wanted h t id bytes payload version live sound o (not_false (is_some (opens_file h.opens h.size bytes)) (was_put bytes t) (ap is_some p.1) unforged)
     ] refl came
@@ -254,7 +247,7 @@ came_alarm h (Some t) new id version file why live came is sound few =
           let few' : count_calls is_lie (got (block id) (h.size + 1) file ∷ t) ≤ count_calls is_lie t = rw f at few in
           let (bytes, payload, last, o) = sound.stands id version live e in
           let honest : not (same_answer file (Some (take (h.size + 1) bytes))) ≡ false
-          = sym (ap (λ change. not (is_left change (h.size + 1) file)) last) ∙ rose (is_lie t (got (block id) (h.size + 1) file)) _ few' in
+          = sym (ap (λ change. not (is_left change (h.size + 1) file)) last) ∙ uncounted (is_lie t (got (block id) (h.size + 1) file)) _ few' in
           let whole : file ≡ Some bytes = same_file (take (h.size + 1) bytes) file honest ∙ ap Some (cut_whole h.opens h.size bytes _ o) in
           bad_is_good (sym is ∙ ap (verdict h.opens h.size id h.state.client version) whole ∙ opened_good h.opens h.size id h.state.client version bytes payload o)
     ] refl came

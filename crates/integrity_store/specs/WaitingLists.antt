@@ -3,10 +3,10 @@ use Rattle.std.specs.Prelude.{◌≡◌, ℕ, Bool, true, false, ◌&&◌, List,
 use Rattle.std.proofs.Common.{refl, sym, ◌∙◌, ap}
 use Rattle.std.specs.Ordering.{is_lt}
 use Rattle.std.specs.FinMap.Entries.{below_all}
-use Rattle.std.specs.declared.cmp.Ordering.{Ordering}
-use Rattle.std.specs.declared.cmp.Ordering.TheVariants.{Less, Equal, Greater}
+use Rattle.std.specs.declared.cmp.Ordering.TheVariants.{Less}
 use Rattle.std.specs.declared.option.Option.{Option}
 use Rattle.std.specs.declared.option.Option.TheVariants.{None, Some}
+use Rattle.block_id.proofs.Orders.{less_is}
 use Rattle.outside.specs.Trace.{At, config, block}
 use Rattle.outside.specs.Names.{at_cmp}
 use Rattle.outside.specs.NameLaws.{at_total}
@@ -28,11 +28,6 @@ after_is_less config (block b) = refl
 after_is_less (block a) config = refl
 after_is_less (block a) (block b) = refl
 
-less : (o : Ordering) → is_lt o ≡ true → o ≡ Less
-less Less h = refl
-less Equal h = absurd (cc)
-less Greater h = absurd (cc)
-
 both : (a b : Bool) → IsTrue a → IsTrue b → IsTrue (a && b)
 both true b h k = k
 both false b h k = absurd (cc)
@@ -48,7 +43,7 @@ rest false b h = absurd (cc)
 below_less : (p q : At) (list : Changes) → at_cmp p q ≡ Less → IsTrue (below_all at_cmp q list) → IsTrue (below_all at_cmp p list)
 below_less p q [] l h = refl
 below_less p q (e ∷ list) l h =
-    let next = less (at_cmp q e.0) (front (is_lt (at_cmp q e.0)) (below_all at_cmp q list) h) in
+    let next = less_is (at_cmp q e.0) (front (is_lt (at_cmp q e.0)) (below_all at_cmp q list) h) in
     both (is_lt (at_cmp p e.0)) (below_all at_cmp p list) (ap is_lt (at_total.trans p q e.0 l next))
     (below_less p q list l (rest (is_lt (at_cmp q e.0)) (below_all at_cmp q list) h))
 
@@ -56,7 +51,7 @@ rises_below : (p : At) (list : Changes) → Rise (Some p) list → IsTrue (below
 rises_below p [] h = refl
 rises_below p (e ∷ list) h =
     let next : is_lt (at_cmp p e.0) ≡ true = sym (after_is_less p e.0) ∙ h.0 in
-    both (is_lt (at_cmp p e.0)) (below_all at_cmp p list) next (below_less p e.0 list (less (at_cmp p e.0) next) (rises_below e.0 list h.1))
+    both (is_lt (at_cmp p e.0)) (below_all at_cmp p list) next (below_less p e.0 list (less_is (at_cmp p e.0) next) (rises_below e.0 list h.1))
 
 pub rises_in_order : (previous : Option At) (list : Changes) → Rise previous list → IsIncreasing list
 rises_in_order previous [] h = refl

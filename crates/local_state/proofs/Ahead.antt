@@ -1,38 +1,21 @@
 -- Used ids that lie ahead of a candidate: each candidate that is passed over leaves fewer.
 use Rattle.std.proofs.Common.{◌≡◌, ℕ, ◌+◌, ◌^◌, ◌<◌, ◌≤◌, ◌⊎◌, Bool, true, false, cond, List, [], ◌∷◌, length, Option, Some, None, refl, sym, ap, subst, ◌∙◌, inl, inr, arith, add-one, below_more}
-use Rattle.std.specs.Prelude.{nat_le, not, ◌&&◌, is_none}
-use Rattle.std.proofs.lemmas.Grind.{common_steps}
+use Rattle.std.specs.Prelude.{not, ◌&&◌, is_none}
 use Rattle.std.specs.Str.{bytes_eq}
 use Rattle.std.specs.FinMap as fin
 use Rattle.std.specs.Cmp.Lexicographic.{bytes_decides}
 use Rattle.std.specs.Map.{lookup}
 use Rattle.block_id.specs.Name.{next_id}
 use Rattle.block_id.specs.declared.id.BlockId.{BlockId}
+use Rattle.block_id.proofs.Candidates.{value, value-zero_id, behind, behind-nth_id, at_least, at_least-one, at_least-falls, at_least-passed}
 use Rattle.local_state.specs.declared.mark.Mark.{Mark}
 use Rattle.local_state.specs.Known.{same_id, Marks, marks_of, zero_id, nth_id, is_free}
 use Rattle.local_state.proofs.Lookups.{get-marks_of}
-use Rattle.local_state.proofs.Candidates.{value, value-zero_id, behind, behind-nth_id}
-
--- whether v lies n or more places behind d
-at_least : ℕ → ℕ → ℕ → ℕ
-at_least d n v = cond (nat_le n (behind d v)) 1 0
 
 -- how many of the used ids, and the zero id, lie n or more places behind d
 pub ahead : ℕ → ℕ → List (BlockId × Mark) → ℕ
 ahead d n [] = at_least d n 0
 ahead d n (e ∷ es) = at_least d n (value e.0.0) + ahead d n es
-
-at_least-one : (d n v : ℕ) → at_least d n v ≤ 1
-unfolding at_least
-at_least-one d n v = grind (arith, common_steps)
-
-at_least-falls : (d n v : ℕ) → at_least d (n + 1) v ≤ at_least d n v
-unfolding at_least
-at_least-falls d n v = grind (arith, common_steps)
-
-at_least-passed : (d n v : ℕ) → behind d v ≡ n → at_least d (n + 1) v + 1 ≤ at_least d n v
-unfolding at_least
-at_least-passed d n v e = grind (arith, common_steps)
 
 ahead-start : (d : ℕ) (es : List (BlockId × Mark)) → ahead d 0 es ≤ length es + 1
 unfolding ahead

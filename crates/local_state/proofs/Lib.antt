@@ -1,5 +1,4 @@
 pub mod Ahead
-pub mod Candidates
 pub mod Entries
 pub mod Fields
 pub mod Fitting

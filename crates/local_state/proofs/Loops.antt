@@ -1,11 +1,10 @@
 -- Reading known blocks and list entries one after the other, as the loops do.
 use Rattle.std.proofs.Common.{◌≡◌, ◌≢◌, ℕ, suc, ◌-◌, ◌+◌, ◌≤◌, ◌<◌, true, false, List, [], ◌∷◌, ◌++◌, Option, Some, None, refl, sym, ap, ◌∙◌, arith}
-use Rattle.std.specs.declared.cmp.Ordering.{Ordering}
-use Rattle.std.specs.declared.cmp.Ordering.TheVariants.{Less, Equal, Greater}
 use Rattle.std.specs.Ordering.{nat_cmp, is_lt}
 use Rattle.std.specs.Cmp.Lexicographic.{slice_cmp, nat_list_cmp_total}
 use Rattle.std.specs.Cmp.{tied_itself}
 use Rattle.std.specs.FinMap as fin
+use Rattle.block_id.proofs.Orders.{less_is}
 use Rattle.outside.specs.Trace.{At}
 use Rattle.local_state.specs.declared.mark.Mark.{Mark}
 use Rattle.local_state.specs.declared.state.StateError.{StateError}
@@ -73,11 +72,6 @@ entries_end marks n i previous before bytes total le so_far =
     sym so_far ∙ one
 
 -- ---- no id that comes after is the zero id
-
-pub less_is : (r : Ordering) → is_lt r ≡ true → r ≡ Less
-less_is Less e = refl
-less_is Equal e = absurd (cc)
-less_is Greater e = absurd (cc)
 
 pub below_then : (x y z : List ℕ) → is_lt (slice_cmp nat_cmp x y) ≡ true → is_lt (slice_cmp nat_cmp y z) ≡ true → is_lt (slice_cmp nat_cmp x z) ≡ true
 below_then x y z p q = ap is_lt (nat_list_cmp_total.trans x y z (less_is _ p) (less_is _ q))

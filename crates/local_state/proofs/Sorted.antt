@@ -1,5 +1,5 @@
 -- The entries of the program's map, sorted, are those of the finite map.
-use Rattle.std.proofs.Common.{◌≡◌, ℕ, suc, ◌<◌, Bool, true, false, List, [], ◌∷◌, map, length, get_or, Option, Some, None, refl, sym, ap, ◌∙◌, arith, T}
+use Rattle.std.proofs.Common.{◌≡◌, ℕ, suc, ◌<◌, Bool, true, false, List, [], ◌∷◌, map, length, get_or, Option, Some, None, refl, sym, ap, ◌∙◌, arith, T, subst}
 use Rattle.std.specs.Prelude.{◌&&◌}
 use Rattle.std.specs.declared.cmp.Ordering.{Ordering}
 use Rattle.std.specs.declared.cmp.Ordering.TheVariants.{Less, Equal, Greater}
@@ -61,10 +61,6 @@ below_other x y above differs =
 abbrev AscendIn : List (BlockId × Mark) → Type 0
 AscendIn es = (i j : ℕ) (d : BlockId × Mark) → i < j → j < length es → is_lt (slice_cmp nat_cmp (get_or es j d).0.0 (get_or es i d).0.0) ≡ false
 
-so : (b : Bool) → b ≡ true → T b
-so true e = tt
-so false e = absurd (cc)
-
 both : (a b : Bool) → T a → T b → T (a && b)
 both true b p q = q
 both false b p q = p
@@ -73,7 +69,7 @@ rest_below : (e : BlockId × Mark) (es : List (BlockId × Mark)) → ((j : ℕ) 
     → AllByRecursion (λ y. same_id e.0 y ≡ false) (keys_of es) → T (below_all (slice_cmp nat_cmp) e.0.0 (map plain_entry es))
 rest_below e [] above differs = tt
 rest_below e (f ∷ es) above differs =
-    both _ _ (so _ (below_other e.0 f.0 (above 0 f (omega arith)) differs.0)) (rest_below e es (λ j d lt. above (suc j) d (omega arith)) differs.1)
+    both _ _ (subst T (sym (below_other e.0 f.0 (above 0 f (omega arith)) differs.0)) tt) (rest_below e es (λ j d lt. above (suc j) d (omega arith)) differs.1)
 
 is_sorted-plain : (es : List (BlockId × Mark)) → AscendIn es → HaveDistinctIds es → T (is_sorted (slice_cmp nat_cmp) (map plain_entry es))
 unfolding IsDistinct

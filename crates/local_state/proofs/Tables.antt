@@ -6,7 +6,7 @@ use Rattle.std.specs.declared.cmp.Ordering.TheVariants.{Less, Equal, Greater}
 use Rattle.std.specs.Int.{w64, to_le_bytes}
 use Rattle.std.specs.List.{flat_map, AllByRecursion}
 use Rattle.std.specs.Ordering.{nat_cmp, is_lt, is_eq, eq_by_cmp, ordering_then, ordering_reverse}
-use Rattle.std.specs.Cmp.{tied_itself}
+use Rattle.std.specs.Cmp.{tied_itself, Equal-is}
 use Rattle.std.specs.Cmp.Lexicographic.{slice_cmp, nat_list_cmp_total}
 use Rattle.std.specs.FinMap as fin
 use Rattle.std.specs.FinMap.{entries-insert, entries_sorted, same_entries_map, len-entries, len-empty, get-entries, slice_cmp-IsAntisymmetric, nat_cmp-IsAntisymmetric}
@@ -16,12 +16,14 @@ use Rattle.std.proofs.lemmas.Bool.{ltb-true}
 use Rattle.std.proofs.lemmas.Grind.{common_steps}
 use Rattle.std.proofs.lemmas.List.{append-nil, nil_from_length}
 use Rattle.std.proofs.lemmas.List.Concat.{flat_map-cons}
+use Rattle.block_id.proofs.Tests.{true_of, left, right}
+use Rattle.block_id.proofs.Orders.{less_is}
 use Rattle.local_state.specs.declared.mark.Mark.{Mark}
 use Rattle.local_state.specs.Known.{Marks, zero_id, FitsMark, FitMarks, IsNext}
 use Rattle.local_state.specs.Record.{flag, mark_bytes, known_bytes, marks_bytes}
 use Rattle.local_state.specs.Reading.{◌>>=◌, front_at, number_at, flag_at, known_at, marks_at, table_at}
 use Rattle.local_state.proofs.Fitting.{fit_set, fit_empty}
-use Rattle.local_state.proofs.Loops.{less_is, below_then, AboveZero, above_zero, above_next, next_fits}
+use Rattle.local_state.proofs.Loops.{below_then, AboveZero, above_zero, above_next, next_fits}
 use Rattle.local_state.proofs.Fields.{IsBytes, bind_some, guard_some, and_true, some_is, Takes, Takes-then, front_takes, front_again, wide64, number_takes, number_again, flag_takes, flag_again}
 
 -- ---- one known block
@@ -175,18 +177,6 @@ table_takes bytes x small e =
 
 -- ---- the entries of marks that fit follow one another
 
-first_so : (a b : Bool) → T (a && b) → T a
-first_so true b p = tt
-first_so false b p = p
-
-second_so : (a b : Bool) → T (a && b) → T b
-second_so true b p = p
-second_so false b p = absurd p
-
-is_so : (b : Bool) → T b → b ≡ true
-is_so true p = refl
-is_so false p = absurd p
-
 both : (a b : Bool) → a ≡ true → T b → T (a && b)
 both true b p q = q
 both false b p q = absurd cc
@@ -199,7 +189,7 @@ not_tied Greater p = absurd p
 find_above : (q : List ℕ) (es : List (List ℕ × Mark)) → T (below_all (slice_cmp nat_cmp) q es) → find (slice_cmp nat_cmp) q es ≡ None
 find_above q [] p = refl
 find_above q (e ∷ es) p =
-    ap (λ b. cond b (Some e.1) (find (slice_cmp nat_cmp) q es)) (not_tied (order q e.0) (first_so (is_lt (order q e.0)) _ p)) ∙ find_above q es (second_so (is_lt (order q e.0)) _ p)
+    ap (λ b. cond b (Some e.1) (find (slice_cmp nat_cmp) q es)) (not_tied (order q e.0) (left (is_lt (order q e.0)) _ p)) ∙ find_above q es (right (is_lt (order q e.0)) _ p)
 
 FitEach : List (List ℕ × Mark) → Type 0
 FitEach es = (q : List ℕ) → IfSome (find (slice_cmp nat_cmp) q es) (FitsMark q)
@@ -209,18 +199,13 @@ unfolding FitEach
 fit_head e es fits =
     subst (λ (o : Option Mark). IfSome o (FitsMark e.0)) (ap (λ r. cond (is_eq r) (Some e.1) (find (slice_cmp nat_cmp) e.0 es)) (tied_itself nat_list_cmp_total e.0)) (fits e.0)
 
-tied_is : (r : Ordering) → is_eq r ≡ true → r ≡ Equal
-tied_is Less e = absurd cc
-tied_is Equal e = refl
-tied_is Greater e = absurd cc
-
 fit_tail : (e : List ℕ × Mark) (es : List (List ℕ × Mark)) → T (below_all (slice_cmp nat_cmp) e.0 es) → FitEach (e ∷ es) → FitEach es
 unfolding FitEach
 fit_tail e es below fits q = by (eq_by_cmp (slice_cmp nat_cmp) q e.0) refl (fits q)
   where
     by : (b : Bool) → b ≡ eq_by_cmp (slice_cmp nat_cmp) q e.0 → IfSome (cond b (Some e.1) (find (slice_cmp nat_cmp) q es)) (FitsMark q) → IfSome (find (slice_cmp nat_cmp) q es) (FitsMark q)
     by true is h =
-        let same : q ≡ e.0 = slice_cmp-IsAntisymmetric nat_cmp-IsAntisymmetric q e.0 (tied_is _ (sym is)) in
+        let same : q ≡ e.0 = slice_cmp-IsAntisymmetric nat_cmp-IsAntisymmetric q e.0 ((Equal-is (slice_cmp nat_cmp q e.0)).0 (sym is)) in
         subst (λ (o : Option Mark). IfSome o (FitsMark q)) (sym (ap (λ (x : List ℕ). find (slice_cmp nat_cmp) x es) same ∙ find_above e.0 es below)) tt
     by false is h = h
 
@@ -228,9 +213,9 @@ follow : (previous : List ℕ) (es : List (List ℕ × Mark)) → T (below_all (
 follow previous [] below sorted fits = tt
 follow previous (e ∷ es) below sorted fits =
     let fit = fit_head e es fits in
-    let under = first_so (below_all (slice_cmp nat_cmp) e.0 es) _ sorted in (
-      record { length = fit.length; after = is_so _ (first_so (is_lt (order previous e.0)) _ below); from_one = fit.from_one; below = fit.below },
-      follow e.0 es under (second_so (below_all (slice_cmp nat_cmp) e.0 es) _ sorted) (fit_tail e es under fits),
+    let under = left (below_all (slice_cmp nat_cmp) e.0 es) _ sorted in (
+      record { length = fit.length; after = true_of _ (left (is_lt (order previous e.0)) _ below); from_one = fit.from_one; below = fit.below },
+      follow e.0 es under (right (below_all (slice_cmp nat_cmp) e.0 es) _ sorted) (fit_tail e es under fits),
     )
 
 least : (x : ℕ) (xs : List ℕ) (n : ℕ) → (xs ≢ replicate n 0 → is_lt (order (replicate n 0) xs) ≡ true) → x ∷ xs ≢ 0 ∷ replicate n 0 → is_lt (ordering_then (nat_cmp 0 x) (order (replicate n 0) xs)) ≡ true
@@ -250,8 +235,8 @@ all_above_zero : (es : List (List ℕ × Mark)) → T (is_sorted (slice_cmp nat_
 all_above_zero [] sorted fits = tt
 all_above_zero (e ∷ es) sorted fits =
     let fit = fit_head e es fits in
-    let under = first_so (below_all (slice_cmp nat_cmp) e.0 es) _ sorted in
-    both (is_lt (order zero_id e.0)) _ (zero_least 16 e.0 fit.length fit.not_zero) (all_above_zero es (second_so (below_all (slice_cmp nat_cmp) e.0 es) _ sorted) (fit_tail e es under fits))
+    let under = left (below_all (slice_cmp nat_cmp) e.0 es) _ sorted in
+    both (is_lt (order zero_id e.0)) _ (zero_least 16 e.0 fit.length fit.not_zero) (all_above_zero es (right (below_all (slice_cmp nat_cmp) e.0 es) _ sorted) (fit_tail e es under fits))
 
 -- marks that fit are read again
 pub table_again : (marks : Marks) (rest : List ℕ) → FitMarks marks → fin.len marks < 2 ^ 64 → table_at (marks_bytes marks ++ rest) ≡ Some (marks, rest)

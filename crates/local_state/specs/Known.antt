@@ -1,5 +1,5 @@
 -- What is known of ids: a finite map to versions and marks of life. An id is a list of 16 bytes.
-use Rattle.std.specs.Prelude.{◌≡◌, ◌≢◌, ℕ, zero, suc, ◌+◌, ◌^◌, ◌<◌, Bool, true, false, not, ◌&&◌, List, length, map, replicate, is_some, is_none, IfSome, Option, refl}
+use Rattle.std.specs.Prelude.{◌≡◌, ◌≢◌, ℕ, ◌+◌, ◌^◌, ◌<◌, Bool, true, false, not, ◌&&◌, List, length, map, is_some, is_none, IfSome, Option, refl}
 use Rattle.std.specs.Coded.{Coded, code_by, coded×, coded_ℕ, coded_bool, coded_list}
 use Rattle.std.specs.FinMap as fin
 use Rattle.std.specs.Option.{option_map, option_map_or}
@@ -8,7 +8,7 @@ use Rattle.std.specs.Map.{keys_of}
 use Rattle.std.specs.Str.{bytes_eq}
 use Rattle.std.specs.Ordering.{nat_cmp, is_lt}
 use Rattle.std.specs.Cmp.Lexicographic.{slice_cmp}
-use Rattle.block_id.specs.Name.{next_id}
+pub use Rattle.block_id.specs.Fresh.{zero_id, nth_id}
 use Rattle.block_id.specs.declared.id.BlockId.{BlockId}
 use Rattle.local_state.specs.declared.mark.Mark.{Mark}
 
@@ -63,10 +63,6 @@ HaveDistinctIds es = IsDistinct same_id (keys_of es)
 abbrev pub raised_version : Option Mark → ℕ
 raised_version mark = option_map_or (λ m. m.version + 1) mark 1
 
--- the id that is never used
-abbrev pub zero_id : List ℕ
-zero_id = replicate 16 0
-
 -- an id and what may be known of it
 pub record FitsMark (id : List ℕ) (mark : Mark) : Type 0 where
   pub length : length id ≡ 16
@@ -88,11 +84,6 @@ FitMarks marks = (id : List ℕ) → IfSome (fin.get marks id) (FitsMark id)
 -- neither used nor zero
 abbrev pub is_free : Marks → List ℕ → Bool
 is_free marks id = is_none (fin.get marks id) && not (bytes_eq id zero_id)
-
--- the id so many places after the drawn one
-abbrev pub nth_id : List ℕ → ℕ → List ℕ
-nth_id drawn zero = drawn
-nth_id drawn (suc n) = next_id (nth_id drawn n)
 
 -- the first free id among the drawn one, the next one and so on
 pub record IsFirstFree (marks : Marks) (drawn id : List ℕ) : Type 0 where

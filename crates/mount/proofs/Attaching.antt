@@ -4,6 +4,7 @@ use Rattle.std.specs.Prelude.{is_some}
 use Rattle.std.specs.declared.option.Option.{Option}
 use Rattle.std.specs.declared.option.Option.TheVariants.{None, Some}
 use Rattle.std.specs.declared.result.Result.TheVariants.{Err}
+use Rattle.std.proofs.lemmas.Option.{same_Some, none-some}
 use Rattle.outside.specs.Changes.{Changes}
 use Rattle.outside.specs.Going.{GoesOn, goes_on_same, goes_on_onward}
 use Rattle.outside.specs.Honest.{count_told}
@@ -36,7 +37,7 @@ use Rattle.mount.specs.Opening.{IsLoaded, LoadCause, ConfigCause, OpenCause, Att
 use Rattle.mount.specs.Representing.{identity_for, Represents}
 use Rattle.mount.specs.Unforged.{IsUnforgedConfig}
 use Rattle.mount.proofs.Quiet.{start_directory, start_state}
-use Rattle.mount.proofs.Reading.{none_some, some_same, represents_is_of, represents_told, found_is, reads_forgeries, reads_on, reads_represents, reads_kept, reads_configures, short_cut}
+use Rattle.mount.proofs.Reading.{represents_is_of, represents_told, found_is, reads_forgeries, reads_on, reads_represents, reads_kept, reads_configures, short_cut}
 
 -- ---- the record isn't taken
 
@@ -54,14 +55,14 @@ load_attach password kept t0 t1 v0 v1 k0 k1 FaultState h = h
 
 load_calm : (shows : Showing) (kept : Option (List ℕ)) (trace : Option (List Call)) (c : Settings) (tree : Tree) (k0 k1 : ℕ) (e : OpenError) → Represents shows kept trace c tree → LoadCause kept k0 k1 e → IsCalm e
 load_calm shows kept trace c tree k0 k1 Memory rep h = tt
-load_calm shows kept trace c tree k0 k1 NoState rep h = none_some rep.keeps.represents.0 (sym h ∙ rep.keeps.represents.1)
+load_calm shows kept trace c tree k0 k1 NoState rep h = none-some rep.keeps.represents.0 (sym h ∙ rep.keeps.represents.1)
 load_calm shows kept trace c tree k0 k1 BadState rep h =
     let s = rep.keeps.represents.2 in
-    h.differs s.held.state s.held.list s.has_record (some_same (sym h.kept ∙ rep.keeps.represents.1) ∙ s.bytes)
+    h.differs s.held.state s.held.list s.has_record (same_Some _ _ (sym h.kept ∙ rep.keeps.represents.1) ∙ s.bytes)
 load_calm shows kept trace c tree k0 k1 Exists rep h = absurd h
 load_calm shows kept trace c tree k0 k1 Marked rep (bytes, is, marked) =
     let laws = enduring_by {S = Held} (λ h. h) (λ h. None) (λ h. 0) (λ h. Unit {0}) in
-    let same = some_same (sym rep.keeps.represents.1 ∙ is) in
+    let same = same_Some _ _ (sym rep.keeps.represents.1 ∙ is) in
     laws.stands_unmarked (identity_for c rep.salt) rep.keeps.represents.0 trace rep.keeps.content rep.keeps.represents.2 (subst records.marked (sym same) marked)
 load_calm shows kept trace c tree k0 k1 (Mismatch a b) rep h = absurd h
 load_calm shows kept trace c tree k0 k1 NoConfig rep h = tt
@@ -71,8 +72,8 @@ load_calm shows kept trace c tree k0 k1 FaultState rep h = tt
 
 pub load_marked : (kept : Option (List ℕ)) (k0 k1 : ℕ) (e : OpenError) → IsKeptMarked records kept → LoadCause kept k0 k1 e → StopsMarked e
 load_marked kept k0 k1 Memory m h = tt
-load_marked kept k0 k1 NoState (bytes, is, m) h = none_some bytes (sym h ∙ is)
-load_marked kept k0 k1 BadState (bytes, is, m) h = h.differs m.state m.list m.has_record (some_same (sym h.kept ∙ is) ∙ m.bytes)
+load_marked kept k0 k1 NoState (bytes, is, m) h = none-some bytes (sym h ∙ is)
+load_marked kept k0 k1 BadState (bytes, is, m) h = h.differs m.state m.list m.has_record (same_Some _ _ (sym h.kept ∙ is) ∙ m.bytes)
 load_marked kept k0 k1 Exists m h = absurd h
 load_marked kept k0 k1 Marked m h = tt
 load_marked kept k0 k1 (Mismatch a b) m h = absurd h
@@ -242,7 +243,7 @@ config_open password state list old new v0 v1 FaultState h = h
 pub config_start : (kept : Option (List ℕ)) (record_ : List ℕ) (state : PlainState) (list : Changes) (t0 t : Option (List Call)) (bytes : List ℕ) → IsLoaded kept state list → Reads t0 t → record_ ≡ record_bytes state list
     → KeptConfigures records kept t0 bytes → Configures record_ t bytes
 config_start kept record_ state list t0 t bytes l reads e k =
-    subst (λ r. Configures r t bytes) (sym e) (reads_configures (record_bytes state list) bytes t0 t reads (subst (λ r. Configures r t0 bytes) (some_same (sym k.1 ∙ l.kept)) k.2))
+    subst (λ r. Configures r t bytes) (sym e) (reads_configures (record_bytes state list) bytes t0 t reads (subst (λ r. Configures r t0 bytes) (same_Some _ _ (sym k.1 ∙ l.kept)) k.2))
 
 -- what is kept stands for the tree that it did, by the store's identity
 pub represents_kept : (shows : Showing) (kept : Option (List ℕ)) (trace : Option (List Call)) (c : Settings) (salt : List ℕ) (identity : Identity) (content : Content) (tree : Tree) → identity ≡ identity_for c salt
@@ -255,9 +256,9 @@ represents_kept shows kept trace c salt identity content tree ei shown r = recor
 -- a configuration may wait where it was found
 pub no_block : (w : Option (Option (List ℕ))) (t0 t : Option (List Call)) (answer : List ℕ) → Gave w t0 t config 1127 (Some answer) → HasForm answer → IsNoBlock w
 no_block None t0 t answer gave form = tt
-no_block (Some None) t0 t answer gave form = absurd (none_some answer (sym gave.1))
+no_block (Some None) t0 t answer gave form = absurd (none-some answer (sym gave.1))
 no_block (Some (Some bytes)) t0 t answer gave form =
-    let is : bytes ≡ answer = short_cut 1127 answer bytes (some_same gave.1) (omega (arith, form.size)) in
+    let is : bytes ≡ answer = short_cut 1127 answer bytes (same_Some _ _ gave.1) (omega (arith, form.size)) in
     λ magic. (form_waits answer form).1 (ap (take 14) (sym is) ∙ magic)
 
 pub identity_is : (h : Held) (c : Settings) (state : PlainState) → h.size ≡ c.block_size → h.opens ≡ opened_of c.key → h.state ≡ state → state.marked ≡ false → IsOf state c → identity_of h ≡ identity_for c state.key_salt

@@ -1,20 +1,19 @@
 -- A new file system at the tower.
 use Rattle.std.proofs.Common.{◌≡◌, ◌≢◌, ◌⊎◌, ◌≤◌, ◌-◌, ℕ, List, [], Bool, true, false, refl, sym, ◌∙◌, ap, subst, inl, inr, arith}
 use Rattle.std.specs.Prelude.{Result, not, ◌&&◌}
-use Rattle.std.specs.Ordering.{is_eq}
 use Rattle.std.specs.FinMap as fin
-use Rattle.std.specs.FinMap.{slice_cmp-IsAntisymmetric, nat_cmp-IsAntisymmetric}
-use Rattle.std.specs.declared.cmp.Ordering.{Ordering}
-use Rattle.std.specs.declared.cmp.Ordering.TheVariants.{Less, Equal, Greater}
 use Rattle.std.specs.declared.option.Option.{Option}
 use Rattle.std.specs.declared.option.Option.TheVariants.{None, Some}
 use Rattle.std.specs.declared.result.Result.TheVariants.{Ok, Err}
+use Rattle.std.proofs.lemmas.Option.{same_Some, none-some}
+use Rattle.std.proofs.lemmas.Bool.{false_from_ne_true}
 use Rattle.block_id.specs.Fresh.{zero_id}
 use Rattle.outside.specs.Trace.{At, Call}
 use Rattle.outside.specs.declared.keeper.Keeper.{Ghosts as KeeperGhosts}
-use Rattle.store_api.specs.Content.{Id, id_cmp, same_id}
+use Rattle.store_api.specs.Content.{Id, same_id}
 use Rattle.store_api.specs.Durables.{last_told}
 use Rattle.store_api.specs.Holdings.{has_id, is_free}
+use Rattle.store_api.proofs.Rising.{same_id_is}
 use Rattle.fs_model.specs.Tree.{empty_tree}
 use Rattle.local_state.specs.Record.{PlainState}
 use Rattle.local_state.proofs.Records.{one_reading}
@@ -37,20 +36,7 @@ use Rattle.mount.specs.Making.{CreateCause, IsMade, KnowsOnly, new_settings, sea
 use Rattle.mount.specs.Opening.{error_of}
 use Rattle.mount.specs.Representing.{identity_for, HasEmptyList}
 use Rattle.mount.specs.Tower.{sealed_held, sealed_trace, sealed_meanings, sealed_holdings, sealed_durables}
-use Rattle.mount.proofs.Reading.{none_some, some_same}
 use Rattle.mount.proofs.Standing.{represents, emptied}
-
-equal : (r : Ordering) → is_eq r ≡ true → r ≡ Equal
-equal Less h = absurd cc
-equal Equal h = refl
-equal Greater h = absurd cc
-
-is_same : (a b : Id) → same_id a b ≡ true → a ≡ b
-is_same a b e = slice_cmp-IsAntisymmetric nat_cmp-IsAntisymmetric a b (equal (id_cmp a b) e)
-
-differs : (b : Bool) → (b ≡ true → ⊥) → b ≡ false
-differs true n = absurd (n refl)
-differs false n = refl
 
 both_not : (b c : Bool) → b ≡ false → c ≡ false → (not b && not c) ≡ true
 both_not true c e f = absurd cc
@@ -58,7 +44,7 @@ both_not false true e f = absurd cc
 both_not false false e f = refl
 
 pub free_root : (used : List Id) (root : Id) → has_id used root ≡ false → root ≢ zero_id → is_free used root ≡ true
-free_root used root e n = both_not (has_id used root) (same_id root zero_id) e (differs (same_id root zero_id) (λ t. n (is_same root zero_id t)))
+free_root used root e n = both_not (has_id used root) (same_id root zero_id) e (false_from_ne_true (same_id root zero_id) (λ t. n (same_id_is root zero_id t)))
 
 -- the record that is kept of a store knows what the store does
 pub knows_only : {V : Type 0} (trace : V → Option (List Call)) (faults : V → ℕ) (before after : IntegrityStore V Cipher) (kept : Option (List ℕ)) (root : List ℕ) → (sealed_meanings trace faults).intact before
@@ -68,7 +54,7 @@ knows_only {V = V} trace faults before after kept root first unused whole is rai
     let steady = steady_by {S = IntegrityStore V Cipher} sealed_held (sealed_trace trace) (λ s. faults s.sealed.vault.vault) (λ s. IsIntact (block_size_of s.sealed) 16) in
     let h = sealed_held after in
     let none : (id : Id) → (sealed_holdings trace).version before id ≡ 0 = λ id. steady.unused_version before id first (unused id) in
-    let same = one_reading state h.state list [] l.has_record (listed_has h.state h.list false whole.0.has_record) (some_same (sym l.kept ∙ is)) in
+    let same = one_reading state h.state list [] l.has_record (listed_has h.state h.list false whole.0.has_record) (same_Some _ _ (sym l.kept ∙ is)) in
     let known : (id : Id) → version_in (fin.get state.marks id) ≡ (sealed_holdings trace).version after id = λ id. ap (λ (s : PlainState). version_in (fin.get s.marks id)) same.0 in
     (omega (arith, known root, raised.raised, none root), λ id other. known id ∙ (raised.rest id other ∙ none id))
 
@@ -96,7 +82,7 @@ module _ {V : Type 0} {K : Type 0} (shows : Showing) (trace : V → Option (List
       elim (subst (λ r. Made (shows payload c.root) (sealed_durables trace) records G before old after last r) e m) [
         | inl u ↦ inl (u.0, λ name. u.1 name ∙ unchanged name)
         | inr k ↦ elim (subst (λ r. MadeConfig (sealed_durables trace) records G before old after last file r) e n) [
-          | inl u ↦ absurd (none_some k.represents.0 (sym (u.0 ∙ none) ∙ k.represents.1))
+          | inl u ↦ absurd (none-some k.represents.0 (sym (u.0 ∙ none) ∙ k.represents.1))
           | inr x ↦ inr (record { represents = represents shows c salt payload c.root _ (G.kept last) (trace after.sealed.vault.vault) empty_tree ep refl ei k; configures = x })
         ]
       ]

@@ -5,6 +5,7 @@ use Rattle.std.proofs.lemmas.List.{take_all, length-take}
 use Rattle.std.specs.FinMap as fin
 use Rattle.std.specs.declared.option.Option.{Option}
 use Rattle.std.specs.declared.option.Option.TheVariants.{None, Some}
+use Rattle.std.proofs.lemmas.Option.{same_Some, none-some}
 use Rattle.sha2.specs.Sha256.{sha256}
 use Rattle.outside.specs.Going.{GoesOn, goes_on_call, goes_on_equal}
 use Rattle.outside.specs.Trace.{At, Call, config, got, adds}
@@ -33,12 +34,6 @@ use Rattle.mount.specs.Unforged.{IsUnforgedConfig}
 
 pub true_is_false : true ≡ false → ⊥
 true_is_false e = cc
-
-pub some_same : {a b : List ℕ} → ◌≡◌ {A = Option (List ℕ)} (Some a) (Some b) → a ≡ b
-some_same e = cc
-
-pub none_some : (x : List ℕ) → ◌≡◌ {A = Option (List ℕ)} None (Some x) → ⊥
-none_some x e = cc
 
 -- ---- a get of the configuration
 
@@ -112,12 +107,12 @@ reads_kept kept a b bytes reads k = (k.0, k.1, reads_configures k.0 bytes a b re
 -- the versions of one record that is kept are those of any
 pub are_known : (kept : Option (List ℕ)) (state : PlainState) (list : Changes) (version : List ℕ → ℕ) → IsLoaded kept state list → ((id : List ℕ) → version id ≡ version_in (fin.get state.marks id)) → AreKnown kept version
 are_known kept state list version l known = λ other more m id.
-    let same = one_reading state other list more l.has_record m.has_record (some_same (sym l.kept ∙ m.kept)) in
+    let same = one_reading state other list more l.has_record m.has_record (same_Some _ _ (sym l.kept ∙ m.kept)) in
     known id ∙ ap (λ (s : PlainState). version_in (fin.get s.marks id)) same.0
 
 pub loaded_unmarked : (kept : Option (List ℕ)) (state : PlainState) (list : Changes) → IsLoaded kept state list → IsKeptMarked records kept → ⊥
 loaded_unmarked kept state list l (bytes, is, m) =
-    let reading = one_reading state m.state list m.list l.has_record m.has_record (some_same (sym l.kept ∙ is) ∙ m.bytes) in
+    let reading = one_reading state m.state list m.list l.has_record m.has_record (same_Some _ _ (sym l.kept ∙ is) ∙ m.bytes) in
     true_is_false (sym m.is_marked ∙ ap (λ (s : PlainState). s.marked) (sym reading.0) ∙ l.unmarked)
 
 -- what stands under a configuration was opened by its record's salt
@@ -129,7 +124,7 @@ stands_salt c salt state list trace content has s =
 pub represents_of : (shows : Showing) (kept : Option (List ℕ)) (trace : Option (List Call)) (c : Settings) (tree : Tree) (state : PlainState) (list : Changes) → IsLoaded kept state list
     → (rep : Represents shows kept trace c tree) → Stands (identity_for c rep.salt) (record_bytes state list) trace rep.keeps.content
 represents_of shows kept trace c tree state list l rep =
-    subst (λ x. Stands (identity_for c rep.salt) x trace rep.keeps.content) (some_same (sym rep.keeps.represents.1 ∙ l.kept)) rep.keeps.represents.2
+    subst (λ x. Stands (identity_for c rep.salt) x trace rep.keeps.content) (same_Some _ _ (sym rep.keeps.represents.1 ∙ l.kept)) rep.keeps.represents.2
 
 -- a record that stands for a tree of a configuration is of it
 pub represents_is_of : (shows : Showing) (kept : Option (List ℕ)) (trace : Option (List Call)) (c : Settings) (tree : Tree) (state : PlainState) (list : Changes) → IsLoaded kept state list
@@ -162,10 +157,10 @@ short_cut max answer bytes e short =
 module _ (password : List ℕ) (kept : Option (List ℕ)) (state : PlainState) (list : Changes) (t0 read t1 : Option (List Call)) (o : Opened) (c : Settings)
     (l : IsLoaded kept state list) (on : GoesOn read t1) (unforged : IsUnforgedConfig password kept t0 t1 c) where
   in_list : (change : Option (List ℕ)) (answer : List ℕ) → change_at config list ≡ Some change → Some answer ≡ cut 1127 change → ConfigOf password answer (opened (settings_of o.config) o.params) → settings_of o.config ≡ c
-  in_list None answer at is opens = absurd (none_some answer (sym is))
+  in_list None answer at is opens = absurd (none-some answer (sym is))
   in_list (Some bytes) answer at is opens =
       unforged.listed state list bytes (settings_of o.config) o.params l.has_record l.kept at
-      (subst (λ x. ConfigOf password x (opened (settings_of o.config) o.params)) (sym (short_cut 1127 answer bytes (some_same is) (omega (arith, opens.0.size)))) opens)
+      (subst (λ x. ConfigOf password x (opened (settings_of o.config) o.params)) (sym (short_cut 1127 answer bytes (same_Some _ _ is) (omega (arith, opens.0.size)))) opens)
 
   by_get : (answer : List ℕ) (t : Option (List Call)) → change_at config list ≡ None → t0 ≡ t → is_some t ≡ true → read ≡ adds t (got config 1127 (Some answer)) → ConfigOf password answer (opened (settings_of o.config) o.params)
       → settings_of o.config ≡ c

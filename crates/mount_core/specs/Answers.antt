@@ -6,31 +6,13 @@ use Rattle.block_id.specs.declared.fail.Why.{Why}
 use Rattle.block_id.specs.declared.fail.Why.TheVariants.{Structure}
 use Rattle.fs_model.specs.declared.command.Command.{Command}
 use Rattle.fs_model.specs.declared.reply.Reply.{Reply}
-use Rattle.fs_model.specs.declared.reply.Reply.TheVariants.{Done, Rows, Info, Target, Content, Error}
 use Rattle.answers.specs.declared.answer.Answer.{Answer}
 use Rattle.answers.specs.declared.answer.Answer.TheVariants.{Reply as Replied, Memory, Spent, FaultDirectory, FaultState, Violation, Refused}
+pub use Rattle.answers.specs.Sessions.{is_done, is_done_answer}
 use Rattle.outcome.specs.Meanings.{OnVerdict}
 use Rattle.session_saver.specs.declared.saver.SyncError.{SyncError}
 use Rattle.session_saver.specs.declared.saver.SyncError.TheVariants.{Memory as SyncMemory, FaultDirectory as SyncDirectory, FaultState as SyncState}
 use Rattle.tree_commands.specs.Performing.{is_sync}
-
-abbrev pub is_done : Reply → Bool
-is_done Done = true
-is_done (Rows rows) = false
-is_done (Info attr size) = false
-is_done (Target target) = false
-is_done (Content bytes) = false
-is_done (Error e) = false
-
--- the reply Done
-abbrev pub is_done_answer : Answer → Bool
-is_done_answer (Replied r) = is_done r
-is_done_answer (Violation why) = false
-is_done_answer Memory = false
-is_done_answer Spent = false
-is_done_answer FaultDirectory = false
-is_done_answer FaultState = false
-is_done_answer Refused = false
 
 -- an acknowledged sync
 abbrev pub is_synced : Command → Answer → Bool

@@ -1,33 +1,24 @@
 -- A batch of one new block, and what the store then holds.
 use Rattle.std.proofs.Common.{◌≡◌, ℕ, Bool, true, false, cond, List, length, refl, sym, ◌∙◌, ap, inl, inr, arith}
 use Rattle.std.specs.Prelude.{Result, OnOk}
-use Rattle.std.specs.Ordering.{is_eq}
 use Rattle.std.specs.Cmp.Lexicographic.{nat_list_cmp_total}
 use Rattle.std.specs.FinMap as fin
-use Rattle.std.specs.FinMap.{get-empty, get-insert, slice_cmp-IsAntisymmetric, nat_cmp-IsAntisymmetric}
-use Rattle.std.specs.declared.cmp.Ordering.{Ordering}
-use Rattle.std.specs.declared.cmp.Ordering.TheVariants.{Less, Equal, Greater}
+use Rattle.std.specs.FinMap.{get-empty, get-insert}
 use Rattle.std.specs.declared.option.Option.{Option}
 use Rattle.std.specs.declared.option.Option.TheVariants.{None, Some}
 use Rattle.std.specs.declared.result.Result.TheVariants.{Ok, Err}
+use Rattle.std.proofs.lemmas.Option.{same_Some, none-some}
 use Rattle.fs_model.specs.Tree.{Tree, empty_tree}
 use Rattle.outside.specs.declared.keeper.Keeper.{Ghosts as KeeperGhosts}
 use Rattle.store_api.specs.Content.{Id, Content, SameContent, Changes, id_cmp, same_id, or_else, over}
 use Rattle.store_api.specs.Holdings.{Holdings, Fits, Changed, Stays, is_free, gives_payload}
 use Rattle.store_api.specs.Durables.{Durables, Records, last_told}
+use Rattle.store_api.proofs.Rising.{same_id_is}
 use Rattle.session_saver.specs.declared.saver.Saver.{Saver}
 use Rattle.session_saver.specs.declared.saver.SyncError.{SyncError}
 use Rattle.session_saver.specs.Saving.{Saved, SavedConfig}
 use Rattle.outcome.specs.Meanings.{Meanings}
 use Rattle.mount_opening.specs.Opening.{Made, MadeConfig, OnlyRootRaised}
-
-equal : (r : Ordering) → is_eq r ≡ true → r ≡ Equal
-equal Less h = absurd cc
-equal Equal h = refl
-equal Greater h = absurd cc
-
-is_same : (a b : Id) → same_id a b ≡ true → a ≡ b
-is_same a b e = slice_cmp-IsAntisymmetric nat_cmp-IsAntisymmetric a b (equal (id_cmp a b) e)
 
 got_one : (changes : Changes) (id bytes q : List ℕ) → changes ≡ fin.insert fin.empty id (Some bytes) → fin.get changes q ≡ cond (same_id q id) (Some (Some bytes)) None
 got_one changes id bytes q e =
@@ -37,20 +28,14 @@ one_of : (b : Bool) (bytes : List ℕ) (y : Option (List ℕ)) → cond b (Some 
 one_of true bytes y e = (refl, cc)
 one_of false bytes y e = absurd cc
 
-some_same : {a b : List ℕ} → ◌≡◌ {A = Option (List ℕ)} (Some a) (Some b) → a ≡ b
-some_same e = cc
-
-none_some : (a : List ℕ) → ◌≡◌ {A = Option (List ℕ)} None (Some a) → ⊥
-none_some a e = cc
-
 pub fits_one : {S : Type 0} (H : Holdings S) (a b : S) (changes : Changes) (id bytes : List ℕ) → changes ≡ fin.insert fin.empty id (Some bytes) → length bytes ≡ H.payload b → Stays H a b
     → is_free (H.used a) id ≡ true → Fits H b changes
 fits_one H a b changes id bytes e len stays free = record {
-  sized = λ q bs h. let o = one_of (same_id q id) bytes (Some bs) (sym (got_one changes id bytes q e) ∙ h) in ap length (some_same o.1) ∙ len;
+  sized = λ q bs h. let o = one_of (same_id q id) bytes (Some bs) (sym (got_one changes id bytes q e) ∙ h) in ap length (same_Some _ _ o.1) ∙ len;
   gets = λ q bs h.
       let o = one_of (same_id q id) bytes (Some bs) (sym (got_one changes id bytes q e) ∙ h) in
-      inr (ap (λ used. is_free used q) stays.used ∙ (ap (is_free (H.used a)) (is_same q id o.0) ∙ free));
-  removes = λ q h. let o = one_of (same_id q id) bytes None (sym (got_one changes id bytes q e) ∙ h) in absurd (none_some bytes o.1);
+      inr (ap (λ used. is_free used q) stays.used ∙ (ap (is_free (H.used a)) (same_id_is q id o.0) ∙ free));
+  removes = λ q h. let o = one_of (same_id q id) bytes None (sym (got_one changes id bytes q e) ∙ h) in absurd (none-some bytes o.1);
 }
 
 -- first nothing changed, then the block was put, and then all was written

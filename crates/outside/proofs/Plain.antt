@@ -1,16 +1,15 @@
 -- A directory in memory whose answers and files nobody replaced stays so, and is honest.
 use Rattle.std.proofs.Common.{◌≡◌, inl, inr, ℕ, ◌+◌, Bool, true, false, not, ◌||◌, cond, List, [], ◌∷◌, ◌++◌, map, reverse, refl, sym, ◌∙◌, ap, subst, arith}
 use Rattle.std.specs.Prelude.{unwrap_or, option_and_then}
-use Rattle.std.specs.Ordering.{is_eq, ordering_reverse, eq_by_cmp}
+use Rattle.std.specs.Ordering.{is_eq, eq_by_cmp}
 use Rattle.std.proofs.lemmas.Slice.Eq.{bytes_eq-Decides}
 use Rattle.std.specs.declared.option.Option.{Option}
 use Rattle.std.specs.declared.option.Option.TheVariants.{None, Some}
-use Rattle.std.specs.declared.cmp.Ordering.{Ordering}
-use Rattle.std.specs.declared.cmp.Ordering.TheVariants.{Less, Equal, Greater}
 use Rattle.std.specs.FinMap.Entries.{find-put, find-where_key}
 use Rattle.std.proofs.lemmas.List.{map-append, reverse-append}
 use Rattle.outside.specs.declared.event.Event.{Event}
 use Rattle.std.specs.Prelude.{filter}
+use Rattle.block_id.proofs.Orders.{eq_reverse}
 use Rattle.outside.specs.declared.change.FileName.{FileName}
 use Rattle.outside.specs.declared.change.Pending.{Pending}
 use Rattle.outside.specs.View.{at_of, call_of, pending_of, list_of}
@@ -21,13 +20,8 @@ use Rattle.outside.specs.Changes.{Changes, change_at, set_change, cut}
 use Rattle.outside.specs.Honest.{LastChange, last_change, same_answer, is_left, lies}
 use Rattle.outside.specs.Vaults.{VaultState, answer_at, file_at, given, without, IsLeftBy, IsPlain}
 
-turned : (o : Ordering) → is_eq (ordering_reverse o) ≡ is_eq o
-turned Less = refl
-turned Equal = refl
-turned Greater = refl
-
 flips : (a b : At) → same_at a b ≡ eq_by_cmp at_cmp b a
-flips a b = same_ties a b ∙ ap is_eq (at_total.antisymm a b) ∙ turned (at_cmp b a)
+flips a b = same_ties a b ∙ ap is_eq (at_total.antisymm a b) ∙ eq_reverse (at_cmp b a)
 
 chosen : (b : Bool) (x : Option (List ℕ)) (o : Option (Option (List ℕ))) → option_and_then (λ (c : Option (List ℕ)). c) (cond b (Some x) o) ≡ cond b x (option_and_then (λ c. c) o)
 chosen true x o = refl

@@ -8,6 +8,7 @@ use Rattle.std.specs.declared.cmp.Ordering.{Ordering}
 use Rattle.std.specs.declared.cmp.Ordering.TheVariants.{Less, Equal, Greater}
 use Rattle.std.specs.Ordering.{eq_by_cmp, is_lt, is_eq}
 use Rattle.std.specs.FinMap.Entries.{is_sorted-put, find-put, is_sorted, below_all}
+use Rattle.std.specs.Cmp.{Equal-is}
 use Rattle.outside.specs.Trace.{At}
 use Rattle.outside.specs.Names.{at_cmp}
 use Rattle.outside.specs.NameLaws.{at_total, at_exact}
@@ -54,11 +55,6 @@ not_in name (e ∷ list) h =
     ap (λ b. cond b (Some e.1) (change_at name list)) (is_before (at_cmp name e.0) (front (is_lt (at_cmp name e.0)) (below_all at_cmp name list) h))
     ∙ not_in name list (rest (is_lt (at_cmp name e.0)) (below_all at_cmp name list) h)
 
-tied : (o : Ordering) → is_eq o ≡ true → o ≡ Equal
-tied Less h = absurd (cc)
-tied Equal h = refl
-tied Greater h = absurd (cc)
-
 merge_step : (b : Bool) (x : Option (List ℕ)) (later old : Option (Option (List ℕ))) → (b ≡ true → later ≡ None) → option_or later (cond b (Some x) old) ≡ option_or (cond b (Some x) later) old
 merge_step true x later old h = ap (λ o. option_or o (Some x)) (h refl)
 merge_step false x later old h = refl
@@ -70,7 +66,7 @@ change_at-set_changes name (e ∷ changes) list h =
     change_at-set_changes name changes (set_change e.0 e.1 list) (rest (below_all at_cmp e.0 changes) (is_sorted at_cmp changes) h)
     ∙ ap (option_or (change_at name changes)) (change_at-set_change name e.0 e.1 list)
     ∙ merge_step (eq_by_cmp at_cmp name e.0) e.1 (change_at name changes) (change_at name list) (λ t.
-    ap (λ n. change_at n changes) (at_exact name e.0 (tied (at_cmp name e.0) t)) ∙ not_in e.0 changes (front (below_all at_cmp e.0 changes) (is_sorted at_cmp changes) h))
+    ap (λ n. change_at n changes) (at_exact name e.0 ((Equal-is (at_cmp name e.0)).0 t)) ∙ not_in e.0 changes (front (below_all at_cmp e.0 changes) (is_sorted at_cmp changes) h))
 
 -- a list in order stays so where its front is dropped
 pub IsIncreasing-drop : (n : ℕ) (list : Changes) → IsIncreasing list → IsIncreasing (drop n list)

@@ -7,6 +7,11 @@ use Rattle.outside.specs.Trace.{Call}
 use Rattle.outside.specs.Going.{GoesOn}
 use Rattle.outside.specs.Honest.{is_lie, none_pass, NonePass, IsHonest, NonePassSince, count_calls, count_told, lies}
 
+-- a count that doesn't rise counted nothing
+pub uncounted : (b : Bool) (n : ℕ) → (if b then 1 else 0) + n ≤ n → b ≡ false
+uncounted true n h = absurd (omega arith)
+uncounted false n h = refl
+
 grown : (b : Bool) (m n : ℕ) → n ≤ m → n ≤ (if b then 1 else 0) + m
 grown true m n h = omega arith
 grown false m n h = omega arith

@@ -5,4 +5,4 @@ mod one;
 mod two;
 
 pub use one::read_password;
-pub use two::{PasswordChange, read_two_passwords};
+pub use two::{PasswordChange, copy_line, read_two_passwords};

@@ -21,7 +21,7 @@ pub struct PasswordChange {
 }
 
 /// Copies the line that was read, into memory taken beforehand.
-fn copy_line(reader: &LineReader, copy: &mut Vec<u8>)
+pub fn copy_line(reader: &LineReader, copy: &mut Vec<u8>)
     requires held { (line : List ℕ) × (reader.now.line ≡ Some line) × (length line ≤ MAX_LINE) }
     requires empty { copy.old.items ≡ [] }
     requires room { MAX_LINE ≤ vec_capacity copy.old }

@@ -1,10 +1,10 @@
 -- The blob of a place, as the calls on bodies need it.
-use Rattle.std.proofs.Common.{◌≡◌, ℕ, ◌+◌, ◌≤◌, true, false, List, [], ◌∷◌, length, take, drop, refl, sym, ◌∙◌, ap, subst, arith}
+use Rattle.std.proofs.Common.{◌≡◌, ℕ, ◌+◌, ◌≤◌, true, false, List, length, take, drop, refl, sym, ◌∙◌, ap, subst}
 use Rattle.std.specs.Prelude.{nat_lt, not, ◌&&◌, nat_le}
-use Rattle.std.specs.FinMap.{get, entries, len-entries}
+use Rattle.std.specs.FinMap.{get}
 use Rattle.std.specs.List.{list_any}
 use Rattle.std.specs.declared.option.Option.TheVariants.{Some}
-use Rattle.std.proofs.lemmas.Bool.{lt-ltb, and_parts, leb-true}
+use Rattle.std.proofs.lemmas.Bool.{and_parts, leb-true}
 use Rattle.std.proofs.lemmas.List.{take_all}
 use Rattle.blob_api.specs.declared.blobs.TheConstants.{MAX_BLOB}
 use Rattle.blob_api.specs.BlobMap.{Id, BlobMap, BlobHoldings}
@@ -12,8 +12,7 @@ use Rattle.fs_model.specs.declared.attr.Kind.{Kind}
 use Rattle.fs_model.specs.declared.attr.Kind.TheVariants.{Directory, File, Link}
 use Rattle.fs_model.specs.declared.limits.TheConstants.{MAX_TARGET}
 use Rattle.fs_model.specs.PathTexts.{is_zero}
-use Rattle.fs_model.specs.Step.{has_child}
-use Rattle.fs_model.specs.Tree.{Path, Row, Tree, is_directory, children, entries_size, directory_size, FitsKind}
+use Rattle.fs_model.specs.Tree.{Path, Row, Tree, is_directory, FitsKind}
 use Rattle.fs_blobs.specs.declared.header.TheConstants.{HEADER_LEN}
 use Rattle.fs_blobs.specs.Headers.{blob}
 use Rattle.fs_blobs.specs.Blobs.{IsBlob}
@@ -55,11 +54,3 @@ module _ {m : BlobMap} {root : Id} {t : Tree} {ids : Path → Id} (shows : Shows
       let long = and_parts (nat_lt 0 (length row.bytes)) (nat_le (length row.bytes) MAX_TARGET && not (list_any is_zero row.bytes)) fits in
       let short = leb-true (length row.bytes) MAX_TARGET (and_parts (nat_le (length row.bytes) MAX_TARGET) (not (list_any is_zero row.bytes)) long.1).0 in
       take_all MAX_TARGET row.bytes short
-
-some_size : {X : Type 0} (es : List (List ℕ × X)) → nat_lt 0 (entries_size es) ≡ nat_lt 0 (length es)
-some_size [] = refl
-some_size (e ∷ es) = lt-ltb 0 (entries_size (e ∷ es)) (omega arith) ∙ sym (lt-ltb 0 (length (e ∷ es)) (omega arith))
-
--- a directory whose entries take bytes has a child
-pub sized_child : (t : Tree) (p : Path) → nat_lt 0 (directory_size t p) ≡ has_child t p
-sized_child t p = some_size (entries (children t p)) ∙ ap (nat_lt 0) (sym (len-entries (children t p)))

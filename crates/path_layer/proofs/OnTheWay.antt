@@ -1,5 +1,5 @@
 -- A row on its way to another path.
-use Rattle.std.proofs.Common.{◌≡◌, ◌<◌, ℕ, Bool, true, false, List, [], ◌∷◌, length, refl, sym, ◌∙◌, ap, arith}
+use Rattle.std.proofs.Common.{◌≡◌, ℕ, Bool, true, false, List, [], ◌∷◌, length, refl, sym, ◌∙◌, ap, arith}
 use Rattle.std.specs.Prelude.{◌==◌}
 use Rattle.blob_api.specs.BlobMap.{Id, BlobMap, BlobHoldings}
 use Rattle.fs_model.specs.declared.attr.Attr.{Attr}
@@ -12,7 +12,7 @@ use Rattle.fs_model.proofs.LookUpLemmas.{look-found}
 use Rattle.fs_model.proofs.WellFormedStep.{can_move_free, can_move_found}
 use Rattle.forest.specs.Shows.{ShowsBy}
 use Rattle.forest.specs.Showing.{Showing}
-use Rattle.tree_rules.proofs.PathLemmas.{last_split}
+use Rattle.tree_rules.proofs.PathLemmas.{not_root}
 use Rattle.path_walks.specs.declared.spots.Place.{Place}
 use Rattle.path_walks.specs.Sights.{IsFound, IsVacant}
 use Rattle.path_walks.specs.Moves.{Heading, Replacing}
@@ -26,12 +26,9 @@ pub no_names : (ns : List (List ℕ)) → length ns ≡ 0 → is_root (upward ns
 no_names [] e = refl
 no_names (n ∷ ns) e = absurd (omega arith)
 
-some_names : (ns : List (List ℕ)) → 0 < length ns → is_root (upward ns) ≡ false
-some_names ns h = ap is_root (last_split ns h).1
-
 pub not_empty : (ns : List (List ℕ)) → (length ns == 0) ≡ false → is_root (upward ns) ≡ false
 not_empty [] e = let bad : true ≡ false = e in cc
-not_empty (n ∷ ns) e = some_names (n ∷ ns) (omega arith)
+not_empty (n ∷ ns) e = not_root (n ∷ ns) (omega arith)
 
 abbrev pub onward : {S : Type 0} {H : BlobHoldings S} {b : S} (m : BlobMap) → H.stands_for b m → (root : Id) (t : Tree) (ids : Path → Id) → ShowsBy m root t ids → (d : Path) (n : List ℕ) (dir place : Place) → IsFound t ids d n dir place
     → (q : Path) → is_above (n ∷ d) q ≡ false → is_root q ≡ false → (same : Bool) → same_path (n ∷ d) q ≡ same → Onward H b root dir n place q same

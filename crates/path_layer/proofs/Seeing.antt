@@ -1,6 +1,7 @@
 -- What a walk and a look came to, as the model's look-up says it.
 use Rattle.std.proofs.Common.{◌≡◌, false, ℕ, List, [], ◌∷◌, refl, sym, ◌∙◌, ap, subst}
 use Rattle.std.specs.FinMap.{get}
+use Rattle.std.proofs.lemmas.Option.{none-some}
 use Rattle.blob_api.specs.BlobMap.{Id, BlobMap, BlobHoldings}
 use Rattle.fs_model.specs.declared.attr.Kind.TheVariants.{Directory}
 use Rattle.fs_model.specs.declared.error.FsError.{FsError}
@@ -11,10 +12,9 @@ use Rattle.fs_model.specs.Step.{Stepped, refused}
 use Rattle.fs_model.proofs.LookUpLemmas.{look-walk, look-found, get-found}
 use Rattle.forest.specs.Shows.{ShowsBy}
 use Rattle.forest.specs.Showing.{Showing}
-use Rattle.forest.proofs.Forests.{not_both}
 use Rattle.path_walks.specs.declared.spots.Place.{Place}
 use Rattle.path_walks.specs.declared.spots.Spot.{Spot}
-use Rattle.path_walks.specs.declared.spots.Spot.TheVariants.{Here, Wrong}
+use Rattle.path_walks.specs.declared.spots.Spot.TheVariants.{Here}
 use Rattle.path_walks.specs.declared.spots.Sight.{Sight}
 use Rattle.path_walks.specs.declared.spots.Sight.TheVariants as sight
 use Rattle.path_walks.specs.Sights.{IsAt, IsWrong, SpotIs, SightIs, IsFound, IsVacant}
@@ -36,15 +36,12 @@ wrong_steps t rooted p e wrong f free bad = seen (look t p) refl
     below_is s h = ap (λ z. goes_on z (get t ([] ∷ p))) (sym h ∙ look-walk t rooted p) ∙ wrong.below []
 
     seen : (s : Seen) → look t p ≡ s → f s ≡ refused t e
-    seen (Found row) h = absurd (not_both row (sym wrong.none ∙ get-found t p row h))
+    seen (Found row) h = absurd (none-some row (sym wrong.none ∙ get-found t p row h))
     seen Free h = free ∙ ap (refused t) (bad_same NoEntry e (below_is Free h))
     seen (Bad x) h = bad x ∙ ap (refused t) (bad_same x e (below_is (Bad x) h))
 
 abbrev pub here : (t : Tree) (ids : Path → Id) (p : Path) (spot : Spot) → SpotIs t ids p spot → (place : Place) → spot ≡ Here place → IsAt t ids p place
 here t ids p spot h place is = subst (SpotIs t ids p) is h
-
-abbrev pub wrong : (t : Tree) (ids : Path → Id) (p : Path) (spot : Spot) → SpotIs t ids p spot → (e : FsError) → spot ≡ Wrong e → IsWrong t p e
-wrong t ids p spot h e is = subst (SpotIs t ids p) is h
 
 module _ {S : Type 0} {H : BlobHoldings S} {a : S} {root : Id} (w : Showing H a root) (b : S) (stands : H.stands_for b w.map) where
   abbrev pub standing : (p : Path) (place : Place) → IsAt w.tree w.ids p place → Standing H b place

@@ -1,5 +1,5 @@
 -- Entries of a directory after one comes or goes, and the limits of what a path's blob holds.
-use Rattle.std.proofs.Common.{◌≡◌, ℕ, ◌+◌, ◌≤◌, Bool, true, false, cond, List, [], ◌∷◌, length, refl, sym, ◌∙◌, ap, subst, arith, inl, inr}
+use Rattle.std.proofs.Common.{◌≡◌, ℕ, ◌+◌, ◌≤◌, true, cond, List, [], ◌∷◌, length, refl, sym, ◌∙◌, ap, subst, arith, inl, inr}
 use Rattle.std.specs.Prelude.{not, ◌&&◌, nat_lt, nat_le, T}
 use Rattle.std.specs.FinMap.{find, put, is_sorted}
 use Rattle.std.specs.FinMap.Entries.{find-put, find-where_key, by_order, is_sorted-put}
@@ -15,6 +15,7 @@ use Rattle.fs_model.specs.declared.attr.Kind.TheVariants.{Directory, File, Link}
 use Rattle.fs_model.specs.PathTexts.{is_zero}
 use Rattle.std.specs.List.{All, list_any}
 use Rattle.std.proofs.lemmas.List.Elements.{All-head, All-tail}
+use Rattle.block_id.proofs.Tests.{true_of}
 use Rattle.fs_model.specs.Names.{IsName}
 use Rattle.fs_model.specs.Tree.{Path, Tree, name_cmp, entry_size, entries_size, directory_size, FitsKind}
 use Rattle.fs_model.proofs.TreeLemmas.{same_name, name_total, name_exact, name_same, name_apart, name_split}
@@ -47,10 +48,6 @@ pub lists_with : (look : Look) (listing : Listing) (n : List ℕ) (target : Targ
     → Lists (λ k. cond (same_name k n) (Some target) (look k)) (body_of (put name_cmp n target listing))
 lists_with look listing n target found is =
     record { listing = put name_cmp n target listing; is = record { entries = is; text = refl }; entries = λ k. entries_with listing n target k ∙ ap (cond (same_name k n) (Some target)) (found k) }
-
-true_of : (b : Bool) → T b → b ≡ true
-true_of true t = refl
-true_of false t = absurd t
 
 pub sorted_put : (n : List ℕ) (target : Target) (listing : Listing) → is_sorted name_cmp listing ≡ true → is_sorted name_cmp (put name_cmp n target listing) ≡ true
 sorted_put n target listing sorted = true_of (is_sorted name_cmp (put name_cmp n target listing)) (is_sorted-put name_cmp name_total n target listing (subst T (sym sorted) tt))

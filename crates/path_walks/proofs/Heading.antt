@@ -4,6 +4,7 @@ use Rattle.std.specs.Prelude.{is_some, nat_lt}
 use Rattle.std.specs.FinMap.{get}
 use Rattle.std.specs.declared.option.Option.TheVariants.{None, Some}
 use Rattle.std.proofs.lemmas.Bool.{lt-ltb, le-ltb}
+use Rattle.std.proofs.lemmas.Option.{same_Some}
 use Rattle.blob_api.specs.BlobMap.{Id, BlobHoldings}
 use Rattle.fs_model.specs.declared.limits.TheConstants.{MAX_ENTRIES}
 use Rattle.fs_model.specs.declared.attr.Attr.{Attr}
@@ -17,7 +18,6 @@ use Rattle.fs_model.proofs.TreeLemmas.{same_name, name_same, name_apart, path_sp
 use Rattle.fs_model.proofs.MovedTree.{moved_well_formed}
 use Rattle.fs_model.proofs.MovedSize.{size_within_free, size_across_free}
 use Rattle.forest.specs.Shows.{ShowsBy}
-use Rattle.forest.proofs.Forests.{some_is}
 use Rattle.path_walks.specs.declared.spots.Place.{Place}
 use Rattle.forest.specs.Showing.{IsShownBy, PerformedBy}
 use Rattle.forest.specs.Midst.{moved_ids}
@@ -68,7 +68,7 @@ module _ {S : Type 0} {H : BlobHoldings S} {a : S} {now : Instant} {from : Place
   attr_is t attr = ap (λ (x : Attr). record x { ctime = now }) (same_row ∙ w.place_at.attr) ∙ sym attr
     where
       same_row : w.row.attr ≡ w.place_at.row.attr
-      same_row = let both : Some w.row ≡ Some w.place_at.row = sym w.can.here ∙ w.place_at.there in ap (λ (r : Row). r.attr) (some_is both)
+      same_row = let both : Some w.row ≡ Some w.place_at.row = sym w.can.here ∙ w.place_at.there in ap (λ (r : Row). r.attr) (same_Some _ _ both)
 
   pub well_formed_next : IsName k → directory_size next w.below ≤ MAX_ENTRIES → IsWellFormed next
   well_formed_next named small = moved_well_formed w.tree now n w.above k w.below w.row (can_of w.can) w.shows.well_formed named small

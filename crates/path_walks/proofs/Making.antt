@@ -5,6 +5,7 @@ use Rattle.std.specs.FinMap.{get, find, insert, put}
 use Rattle.std.specs.declared.option.Option.TheVariants.{None, Some}
 use Rattle.std.proofs.lemmas.Bool.{lt-ltb, le-ltb}
 use Rattle.std.proofs.lemmas.List.Elements.{All-nil}
+use Rattle.std.proofs.lemmas.Option.{none-some}
 use Rattle.blob_api.specs.BlobMap.{Id, BlobMap, BlobHoldings, IsNew}
 use Rattle.fs_model.specs.declared.limits.TheConstants.{MAX_ENTRIES}
 use Rattle.fs_model.specs.declared.attr.Kind.{Kind}
@@ -21,7 +22,7 @@ use Rattle.dir_blob.specs.Layout.{Target, body_of, IsEntry}
 use Rattle.dir_blob.specs.Directories.{IsDirectory, HasRoom, HasEntries}
 use Rattle.forest.specs.Nodes.{Content}
 use Rattle.forest.specs.Shows.{above, target_for, entries_at, ShowsBy}
-use Rattle.forest.proofs.Forests.{map_apart, not_both}
+use Rattle.forest.proofs.Forests.{map_apart}
 use Rattle.forest.specs.Midst.{ids_with}
 use Rattle.forest.proofs.Shown.{made_shows}
 use Rattle.forest.specs.Showing.{Performed, IsShownBy}
@@ -65,7 +66,7 @@ module _ {S : Type 0} {H : BlobHoldings S} {a : S} {dir : Id} {n : List ℕ} {ro
       record { told = sym (ap (λ (s : Stepped). s.reply) is); map = w.map; stands = stands; ids = w.ids; shows = subst (λ (s : Stepped). ShowsBy w.map w.root s.tree w.ids) (sym is) w.shows }
 
   not_new : (id : Id) → get w.map id ≡ None → w.ids w.path ≡ id → ⊥
-  not_new id fresh e = not_both _ (sym fresh ∙ (ap (get w.map) (sym e) ∙ (w.shows.forest.nodes w.path at.row at.there).there))
+  not_new id fresh e = none-some _ (sym fresh ∙ (ap (get w.map) (sym e) ∙ (w.shows.forest.nodes w.path at.row at.there).there))
 
   module _ (small : directory_size w.tree w.path + entry_size n ≤ MAX_ENTRIES) {b : S} {id : Id} (new : IsNew H b w.map id (blob row.attr.kind dir row.bytes)) where
     abbrev pub map1 : BlobMap

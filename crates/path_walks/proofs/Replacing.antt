@@ -2,6 +2,7 @@
 use Rattle.std.proofs.Common.{◌≡◌, ℕ, ◌≤◌, List, [], ◌∷◌, length, sym, ◌∙◌, ap, subst, arith, inl, inr, cond}
 use Rattle.std.specs.FinMap.{get, remove}
 use Rattle.std.proofs.lemmas.Bool.{le-ltb}
+use Rattle.std.proofs.lemmas.Option.{none-some}
 use Rattle.blob_api.specs.BlobMap.{Id, BlobHoldings}
 use Rattle.fs_model.specs.declared.limits.TheConstants.{MAX_ENTRIES}
 use Rattle.fs_model.specs.declared.error.FsError.TheVariants.{TooLarge}
@@ -13,7 +14,6 @@ use Rattle.fs_model.proofs.TreeLemmas.{path_split, remove_here, remove_apart}
 use Rattle.fs_model.proofs.LookUpLemmas.{look-walk, look-found}
 use Rattle.fs_model.proofs.MovedSize.{size_within_found, size_across_found}
 use Rattle.fs_model.proofs.WellFormedStep.{remove_bare}
-use Rattle.forest.proofs.Forests.{not_both}
 use Rattle.forest.proofs.Moved.{moved_after, can_move_after}
 use Rattle.path_walks.specs.declared.spots.Place.{Place}
 use Rattle.forest.specs.Showing.{IsShownBy, PerformedBy}
@@ -56,7 +56,7 @@ module _ {S : Type 0} {H : BlobHoldings S} {a : S} {now : Instant} {from : Place
       record { row = at.row; there = there; walked = sym (look-walk rest formed.rooted p) ∙ look-found rest p at.row there; attr = at.attr; blob = at.blob; holder = at.holder }
 
   off_above : w.above ≡ q → ⊥
-  off_above e = not_both w.row (sym (w.can.bare [] n) ∙ (ap (λ z. get w.tree (n ∷ z)) (sym e) ∙ w.can.here))
+  off_above e = none-some w.row (sym (w.can.bare [] n) ∙ (ap (λ z. get w.tree (n ∷ z)) (sym e) ∙ w.can.here))
 
   pub from_stays : IsAt rest w.ids w.above from
   from_stays = stays w.above from off_above w.from_at

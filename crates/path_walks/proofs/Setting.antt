@@ -3,6 +3,7 @@ use Rattle.std.proofs.Common.{◌≡◌, ℕ, ◌≤◌, ◌+◌, zero, suc, tru
 use Rattle.std.specs.Prelude.{is_some, cond}
 use Rattle.std.specs.FinMap.{get, find, insert, put}
 use Rattle.std.specs.declared.option.Option.TheVariants.{Some}
+use Rattle.std.proofs.lemmas.Option.{none-some}
 use Rattle.outcome.specs.Meanings.{Meanings}
 use Rattle.blob_api.specs.declared.blobs.TheConstants.{MAX_BLOB}
 use Rattle.outcome.specs.Bytes.{resized, written, pieces}
@@ -20,7 +21,7 @@ use Rattle.dir_blob.specs.Layout.{Target, body_of, IsListing}
 use Rattle.dir_blob.specs.Directories.{HasName, HasEntries}
 use Rattle.forest.specs.Nodes.{Look, Lists, Content, IsNode}
 use Rattle.forest.specs.Shows.{above, target_for, entries_at}
-use Rattle.forest.proofs.Forests.{map_apart, not_both}
+use Rattle.forest.proofs.Forests.{map_apart}
 use Rattle.dir_blob.proofs.Bodies.{no_more}
 use Rattle.forest.proofs.Shown.{IsFolderRow, folder_row, attributes_show, content_shows}
 use Rattle.forest.specs.Showing.{IsShownBy}
@@ -53,7 +54,7 @@ module _ {S : Type 0} {H : BlobHoldings S} {a : S} {dir : Id} {e : List ℕ × T
   some_body = counted (length (body_of has_name.is.listing)) refl
     where
       counted : (k : ℕ) → length (body_of has_name.is.listing) ≡ k → 1 ≤ length (body_of has_name.is.listing)
-      counted zero h = absurd (not_both (record { attr = w.row.attr; blob = w.ids q }) (sym (ap (find name_cmp e.0) (no_more has_name.is.listing h)) ∙ present))
+      counted zero h = absurd (none-some (record { attr = w.row.attr; blob = w.ids q }) (sym (ap (find name_cmp e.0) (no_more has_name.is.listing h)) ∙ present))
       counted (suc k) h = omega arith
 
   abbrev pub listed : List ℕ

@@ -1,9 +1,9 @@
 -- One step of a walk.
-use Rattle.std.proofs.Common.{◌≡◌, ℕ, ◌+◌, ◌<◌, false, cond, List, [], ◌∷◌, take, get_or, length, refl, sym, ◌∙◌, ap, subst}
+use Rattle.std.proofs.Common.{◌≡◌, ℕ, ◌+◌, ◌<◌, false, cond, List, ◌∷◌, take, get_or, length, refl, sym, ◌∙◌, ap, subst}
 use Rattle.std.specs.FinMap.{get, find}
-use Rattle.std.proofs.lemmas.List.{take_more, reverse-append}
 use Rattle.std.specs.declared.option.Option.{Option}
 use Rattle.std.specs.declared.option.Option.TheVariants.{None, Some}
+use Rattle.std.proofs.lemmas.Option.{same_Some, none-some}
 use Rattle.block_id.specs.declared.id.BlockId.{BlockId}
 use Rattle.blob_api.specs.BlobMap.{Id, BlobMap, BlobHoldings}
 use Rattle.fs_model.specs.declared.attr.Attr.{Attr}
@@ -16,8 +16,8 @@ use Rattle.fs_model.proofs.WellFormedStep.{below_file, below_none}
 use Rattle.dir_blob.specs.Layout.{Target}
 use Rattle.dir_blob.specs.Places.{target_of}
 use Rattle.dir_blob.specs.Directories.{IsDirectory}
+use Rattle.tree_rules.proofs.PathLemmas.{names_more}
 use Rattle.forest.specs.Shows.{target_for, ShowsBy}
-use Rattle.forest.proofs.Forests.{some_is, not_both}
 use Rattle.path_walks.specs.declared.spots.Place.{Place}
 use Rattle.path_walks.specs.declared.spots.Spot.{Spot}
 use Rattle.path_walks.specs.declared.spots.Spot.TheVariants.{Here, Wrong}
@@ -50,13 +50,13 @@ module _ {m : BlobMap} {root : Id} {t : Tree} {ids : Path → Id} (shows : Shows
   stepped_to attr blob found = below (get t (n ∷ p)) refl (sym ((lists_at shows p at.row at.there row_kind).entries n) ∙ found)
     where
       attr_is : (x y : Target) → Some x ≡ Some y → x.attr ≡ y.attr
-      attr_is x y e = ap (λ (z : Target). z.attr) (some_is e)
+      attr_is x y e = ap (λ (z : Target). z.attr) (same_Some _ _ e)
 
       blob_is : (x y : Target) → Some x ≡ Some y → x.blob ≡ y.blob
-      blob_is x y e = ap (λ (z : Target). z.blob) (some_is e)
+      blob_is x y e = ap (λ (z : Target). z.blob) (same_Some _ _ e)
 
       below : (o : Option Row) → get t (n ∷ p) ≡ o → target_for (ids (n ∷ p)) (get t (n ∷ p)) ≡ Some (record { attr = attr; blob = blob.0 }) → IsAt t ids (n ∷ p) (record { attr = attr; blob = blob; holder = dir.blob })
-      below None e h = absurd (not_both {X = Target} (record { attr = attr; blob = blob.0 }) (sym (ap (target_for (ids (n ∷ p))) e) ∙ h))
+      below None e h = absurd (none-some {A = Target} (record { attr = attr; blob = blob.0 }) (sym (ap (target_for (ids (n ∷ p))) e) ∙ h))
       below (Some row) e h =
           let same : Some (record { attr = row.attr; blob = ids (n ∷ p) }) ≡ Some (record { attr = attr; blob = blob.0 }) = sym (ap (target_for (ids (n ∷ p))) e) ∙ h in
           record { row = row; there = e; walked = walks (Some row) e; attr = attr_is _ _ same; blob = blob_is _ _ same; holder = at.blob }
@@ -66,7 +66,7 @@ module _ {m : BlobMap} {root : Id} {t : Tree} {ids : Path → Id} (shows : Shows
     where
       below : (o : Option Row) → get t (n ∷ p) ≡ o → target_for (ids (n ∷ p)) (get t (n ∷ p)) ≡ None → get t (n ∷ p) ≡ None
       below None e h = e
-      below (Some row) e h = absurd (not_both {X = Target} (record { attr = row.attr; blob = ids (n ∷ p) }) (sym (sym (ap (target_for (ids (n ∷ p))) e) ∙ h)))
+      below (Some row) e h = absurd (none-some {A = Target} (record { attr = row.attr; blob = ids (n ∷ p) }) (sym (sym (ap (target_for (ids (n ∷ p))) e) ∙ h)))
 
   pub walk_free : get t (n ∷ p) ≡ None → walk t (n ∷ p) ≡ Free
   walk_free e = walks None e
@@ -79,10 +79,6 @@ pub seen_under : {m : BlobMap} {root : Id} {t : Tree} {ids : Path → Id} (shows
     → find name_cmp n (lists_at shows p at.row at.there (row_kind shows p dir at kind n)).listing ≡ target_of o → SightIs t ids p n (sight_of dir o)
 seen_under shows p dir at kind n None found = record { above = at; folder = kind; none = stepped_out shows p dir at kind n found }
 seen_under shows p dir at kind n (Some x) found = record { above = at; folder = kind; here = stepped_to shows p dir at kind n x.0 x.1 found }
-
--- names one after the other
-names_more : (ns : List (List ℕ)) (i : ℕ) (d : List ℕ) → i < length ns → upward (take (i + 1) ns) ≡ get_or ns i d ∷ upward (take i ns)
-names_more ns i d lt = ap upward (take_more ns i d lt) ∙ reverse-append (take i ns) (get_or ns i d ∷ [])
 
 pub names_on : (ns : List (List ℕ)) (i : ℕ) (n : List ℕ) → i < length ns → n ≡ get_or ns i n → n ∷ upward (take i ns) ≡ upward (take (i + 1) ns)
 names_on ns i n lt e = ap (λ x. x ∷ upward (take i ns)) e ∙ sym (names_more ns i n lt)

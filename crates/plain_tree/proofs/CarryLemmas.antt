@@ -9,6 +9,7 @@ use Rattle.std.specs.declared.result.Result.{Result}
 use Rattle.std.specs.declared.result.Result.TheVariants.{Ok, Err}
 use Rattle.std.specs.declared.option.Option.{Option}
 use Rattle.std.specs.declared.option.Option.TheVariants.{None, Some}
+use Rattle.std.proofs.lemmas.Option.{none-some}
 use Rattle.fs_model.specs.declared.attr.Attr.{Attr}
 use Rattle.fs_model.specs.Instant.{Instant}
 use Rattle.fs_model.specs.Tree.{Path, Row, Tree, upward, parent, last_name, is_root, same_path, is_directory, directory_size, entry_size, root_row, IsRooted, IsWellFormed}
@@ -18,7 +19,7 @@ use Rattle.fs_model.specs.Step.{with_ctime, moved_tree}
 use Rattle.fs_model.proofs.TreeLemmas.{path_total, path_exact, path_split, path_same, apart, insert_here, insert_apart, remove_here, remove_apart}
 use Rattle.fs_model.proofs.LookUpLemmas.{look-found, get-found, get-free, IsFree}
 use Rattle.fs_model.proofs.MoveLemmas.{strip-append, strip-is}
-use Rattle.fs_model.proofs.MovedTree.{CanMove, not_above, strip_none, moved-here, moved-below, moved-off, moved-gone}
+use Rattle.fs_model.proofs.MovedTree.{CanMove, not_above, strip_none, moved-here, moved-below, moved-off, moved-gone, strip_off}
 use Rattle.fs_model.proofs.MovedSize.{size_within_free, size_within_found, size_across_free, size_across_found}
 use Rattle.fs_model.proofs.WellFormedStep.{below_file, bare_below, can_move_free, can_move_found}
 use Rattle.tree_rules.proofs.PathLemmas.{parent_at, name_at}
@@ -109,12 +110,6 @@ let_go_is t q a false e = same_map path_total path_exact _ _ (λ r. elim (path_s
   | inr d ↦ remove_apart (tree.insert t q (record { attr = a; bytes = [] })) q r d ∙ insert_apart t q (record { attr = a; bytes = [] }) r d
 ])
 
-not_both : {X : Type 0} (x : X) → None ≡ Some x → ⊥
-not_both x e = cc
-
-strip_off : (p r : Path) → strip p r ≡ None → (s : Path) → r ≡ s ++ p → ⊥
-strip_off p r none s e = not_both s (sym none ∙ (ap (strip p) e ∙ strip-append p s))
-
 longer : (n : List ℕ) (s q : Path) → n ∷ (s ++ q) ≡ q → ⊥
 longer n s q e = omega (arith, ap length e, length-append s q)
 
@@ -142,7 +137,7 @@ module _ (t : Tree) (now : Instant) (pn : List ℕ) (pd : Path) (qn : List ℕ) 
   -- p isn't below q
   p_off_q : (s : Path) → p ≡ s ++ q → ⊥
   p_off_q [] e = m.differ e
-  p_off_q (n ∷ s) e = not_both row (sym (m.bare s n) ∙ (ap (get t) (sym e) ∙ m.here))
+  p_off_q (n ∷ s) e = none-some row (sym (m.bare s n) ∙ (ap (get t) (sym e) ∙ m.here))
 
   q_off_p : (s : Path) (n : List ℕ) → q ≡ n ∷ (s ++ p) → ⊥
   q_off_p s n e = not_above p q m.above s n e

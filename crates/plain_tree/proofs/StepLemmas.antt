@@ -4,7 +4,7 @@ use Rattle.std.specs.Prelude.{nat_lt, ◌==◌, is_some, IsSome}
 use Rattle.std.specs.Option.{option_map}
 use Rattle.std.proofs.lemmas.Bool.{le-ltb, lt-ltb, ltb-false}
 use Rattle.std.specs.FinMap as tree
-use Rattle.std.specs.FinMap.{get, len, entries, len-entries, same_map}
+use Rattle.std.specs.FinMap.{get, len, same_map}
 use Rattle.std.specs.Result.{OnErr}
 use Rattle.std.specs.declared.option.Option.{Option}
 use Rattle.std.specs.declared.option.Option.TheVariants.{None, Some}
@@ -20,7 +20,7 @@ use Rattle.fs_model.specs.declared.error.FsError.TheVariants.{NoEntry, Busy, Not
 use Rattle.fs_model.specs.declared.reply.Reply.{Reply}
 use Rattle.fs_model.specs.declared.reply.Reply.TheVariants.{Done, Error}
 use Rattle.fs_model.specs.Instant.{Instant}
-use Rattle.fs_model.specs.Tree.{Path, Row, Tree, upward, parent, last_name, is_root, is_directory, same_path, children, entry_size, entries_size, directory_size, root_row, IsRooted, IsWellFormed}
+use Rattle.fs_model.specs.Tree.{Path, Row, Tree, upward, parent, last_name, is_root, is_directory, same_path, entry_size, directory_size, root_row, IsRooted, IsWellFormed}
 use Rattle.fs_model.specs.LookUp.{Seen, Found, Free, Bad, look, goes_on}
 use Rattle.fs_model.specs.Step.{Stepped, answered, refused, done, step, unless_root, made, has_child, removed_directory, removed_file, attributes_set, written, truncated, on_file, is_too_long, with_content, overwritten, resized}
 use Rattle.fs_model.proofs.TreeLemmas.{path_total, path_exact, path_split, insert_here, insert_apart}
@@ -85,13 +85,6 @@ made_large t ns n row some at free passes =
     (ap (made t p row) free
     ∙ ap (λ b. cond b (refused t TooLarge) (done (tree.insert t p row)))
     (ap (λ z. nat_lt MAX_ENTRIES (directory_size t (parent z) + entry_size (last_name z))) (last_at ns n some ∙ ap (λ z. z ∷ q) (sym at)) ∙ lt-ltb MAX_ENTRIES (directory_size t q + entry_size n) passes))
-
-some_size : (es : List (List ℕ × Row)) → nat_lt 0 (entries_size es) ≡ nat_lt 0 (length es)
-some_size [] = refl
-some_size (e ∷ es) = lt-ltb 0 (entries_size (e ∷ es)) (omega arith) ∙ sym (lt-ltb 0 (length (e ∷ es)) (omega arith))
-
-pub has_child-size : (t : Tree) (p : Path) → nat_lt 0 (directory_size t p) ≡ has_child t p
-has_child-size t p = some_size (entries (children t p)) ∙ ap (nat_lt 0) (sym (len-entries (children t p)))
 
 -- rows that go
 module _ (t new : Tree) (p : Path) (row : Row) (named : is_root p ≡ false) (seen : look t p ≡ Found row) where

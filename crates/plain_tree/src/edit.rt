@@ -1,5 +1,5 @@
 // Commands that make or take away one row.
-ghost use Rattle.std.specs.Prelude.{◌≡◌, ◌≤◌, IfOk, OnErr};
+ghost use Rattle.std.specs.Prelude.{◌≡◌, IfOk, OnErr};
 ghost use Rattle.fs_model.specs.Tree.{upward, IsWellFormed};
 ghost use Rattle.fs_model.specs.Tree as model;
 ghost use Rattle.fs_model.specs.LookUp.{look};
@@ -8,16 +8,8 @@ ghost use Rattle.plain_tree.specs.Answers.{IsAnswer};
 
 use crate::look::{Sight, look_up, row_of};
 use block_id::Memory;
-use fs_model::{Attr, ENTRY_SIZE, FsError, Kind, MAX_ENTRIES, Name, Reply};
-use row_table::Table;
-
-/// The bytes of the entry of a name.
-pub fn name_size(name: &Name) -> u64
-    ensures value { result ≡ model.entry_size name.now }
-    ensures bound { result ≤ 321 }
-{
-    ENTRY_SIZE + name.as_slice().len() as u64
-}
+use fs_model::{Attr, FsError, Kind, MAX_ENTRIES, Name, Reply};
+use row_table::{Table, name_size};
 
 /// A directory, and not a file or a link.
 pub fn is_directory(kind: Kind) -> bool

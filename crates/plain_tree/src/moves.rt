@@ -13,11 +13,11 @@ ghost use Rattle.plain_tree.specs.Answers.{IsAnswer};
 ghost use Rattle.plain_tree.specs.Moves.{IsMove, held};
 
 use crate::change::same_attr;
-use crate::edit::{has_child, is_directory, name_size};
+use crate::edit::{has_child, is_directory};
 use crate::look::{Sight, look_up, row_of};
 use block_id::Memory;
 use fs_model::{Attr, FsError, Kind, MAX_ENTRIES, Moment, Name, Reply};
-use row_table::Table;
+use row_table::{Table, name_size};
 use tree_rules::{is_above, same_names};
 
 /// The bytes of the entry that leaves `to`'s parent.

@@ -6,17 +6,18 @@ use Rattle.std.proofs.lemmas.Bool.Decides.{nat_tests}
 use Rattle.std.specs.Global.{Box}
 use Rattle.std.specs.List.{insert, remove}
 use Rattle.std.specs.declared.cmp.Ordering.{Ordering}
-use Rattle.std.specs.declared.cmp.Ordering.TheVariants.{Less, Equal, Greater}
+use Rattle.std.specs.declared.cmp.Ordering.TheVariants.{Equal}
 use Rattle.std.specs.declared.option.Option.{Option}
 use Rattle.std.specs.declared.option.Option.TheVariants.{None, Some}
 use Rattle.std.specs.Result.{OnOk, OnErr}
 use Rattle.std.specs.declared.result.Result.{Result}
 use Rattle.std.specs.declared.result.Result.TheVariants.{Ok, Err}
-use Rattle.std.specs.Ordering.{is_eq, eq_by_cmp, ordering_reverse}
+use Rattle.std.specs.Ordering.{is_eq, eq_by_cmp}
 use Rattle.std.specs.Cmp.{IsTotalOrder}
 use Rattle.std.specs.FinMap as tree
 use Rattle.std.specs.FinMap.{get, find, is_sorted, from_entries}
 use Rattle.std.specs.FinMap.Entries.{put, find-put, is_sorted-put, where_key, find-where_key, is_sorted-where_key}
+use Rattle.block_id.proofs.Orders.{eq_reverse}
 use Rattle.fs_model.specs.declared.attr.Attr.{Attr}
 use Rattle.fs_model.specs.Tree.{Path, Row, Tree, directory_size, entry_size, entries_size, upward, parent, last_name, is_root, name_cmp, path_cmp, same_path, root_row, empty_tree}
 use Rattle.fs_model.proofs.TreeLemmas.{path_total, path_exact, path_split, path_same, apart, name_total, name_exact}
@@ -44,11 +45,6 @@ no_folders_tree fs e = ap (λ z. from_entries (([], root_row) ∷ flat (folders 
 pub full_behind : (fs : List (Box Folder)) (f : ℕ) (x : Box Folder) (y : Folder) → AllFull fs → f < length fs → x ≡ get_or fs f x → y ≡ x.value → IsFull y
 full_behind fs f x y full lt hx hy = subst IsFull (sym (hy ∙ ap (λ b. b.value) hx)) (full_at fs f x full lt)
 
-reverse_eq : (o : Ordering) → is_eq (ordering_reverse o) ≡ is_eq o
-reverse_eq Less = refl
-reverse_eq Equal = refl
-reverse_eq Greater = refl
-
 flipped : {X : Type 0} (b : _) (o : Option X) → cond (not b) o None ≡ cond b None o
 flipped true o = refl
 flipped false o = refl
@@ -59,7 +55,7 @@ pub gone : {K X : Type 0} {R : K → K → Ordering} (o : IsTotalOrder R) → ((
 gone {R = R} o exact p q es =
     find-where_key R (λ x. not (eq_by_cmp R p x)) q (λ x tied. ap (λ z. not (eq_by_cmp R p z)) (sym (exact q x tied))) es
     ∙ (flipped (eq_by_cmp R p q) (find R q es)
-    ∙ ap (λ b. cond b None (find R q es)) (sym (ap is_eq (o.antisymm q p) ∙ reverse_eq (R p q))))
+    ∙ ap (λ b. cond b None (find R q es)) (sym (ap is_eq (o.antisymm q p) ∙ eq_reverse (R p q))))
 
 -- rows of one directory, put in its place
 pub put_edited : (old new : List (Box Folder)) (n : List ℕ) (q : Path) (es : Names) (o : Option Row) → IsOrdered old → folders new ≡ put path_cmp q es (folders old) → AllFull new

@@ -1,11 +1,10 @@
 -- What the tree of directories has at a path.
 use Rattle.std.proofs.Common.{◌≡◌, ℕ, ◌++◌, map, true, false, not, Bool, ◌&&◌, cond, T, List, [], ◌∷◌, refl, sym, ◌∙◌, ap, subst, inl, inr}
 use Rattle.std.specs.Global.{Box}
-use Rattle.std.specs.declared.cmp.Ordering.{Ordering}
-use Rattle.std.specs.declared.cmp.Ordering.TheVariants.{Less, Equal, Greater}
 use Rattle.std.specs.declared.option.Option.{Option}
 use Rattle.std.specs.declared.option.Option.TheVariants.{None, Some}
-use Rattle.std.specs.Ordering.{is_eq, eq_by_cmp, ordering_then}
+use Rattle.std.specs.Ordering.{eq_by_cmp}
+use Rattle.std.specs.Cmp.{tied_then}
 use Rattle.std.specs.FinMap as tree
 use Rattle.std.specs.FinMap.{get, find, entries, from_entries, is_sorted, get-from_entries, get-entries, get-insert, get-remove, entries_sorted, same_map}
 use Rattle.std.specs.FinMap.Entries.{same_entries}
@@ -17,11 +16,6 @@ use Rattle.row_table.specs.Rows.{Names, folders, inside, below, flat, tree_of}
 use Rattle.row_table.specs.Formed.{IsOrdered}
 use Rattle.row_table.specs.Places.{IsTable}
 use Rattle.row_table.proofs.SortedLemmas.{find_below, head_sorted, tail_sorted}
-
-eq_then : (a b : Ordering) → is_eq (ordering_then a b) ≡ (is_eq a && is_eq b)
-eq_then Less b = refl
-eq_then Equal b = refl
-eq_then Greater b = refl
 
 -- the first, if there is one
 abbrev first_of_two : Option Row → Option Row → Option Row
@@ -43,7 +37,7 @@ find_below_path : (n : List ℕ) (q u : Path) (es : Names) (rest : List (Path ×
 find_below_path n q u [] rest = none_first (same_path q u) (find path_cmp (n ∷ q) rest)
 find_below_path n q u (e ∷ es) rest =
     ap (cond (same_path (n ∷ q) (e.0 ∷ u)) (Some e.1)) (find_below_path n q u es rest)
-    ∙ (ap (λ b. cond b (Some e.1) (cond (same_path q u) (first_of_two (find name_cmp n es) (find path_cmp (n ∷ q) rest)) (find path_cmp (n ∷ q) rest))) (eq_then (name_cmp n e.0) (path_cmp q u))
+    ∙ (ap (λ b. cond b (Some e.1) (cond (same_path q u) (first_of_two (find name_cmp n es) (find path_cmp (n ∷ q) rest)) (find path_cmp (n ∷ q) rest))) (sym (tied_then (name_cmp n e.0) (path_cmp q u)))
     ∙ joins (eq_by_cmp name_cmp n e.0) (same_path q u) e.1 (find name_cmp n es) (find path_cmp (n ∷ q) rest))
 
 alone : (o : Option Row) → first_of_two o None ≡ o
@@ -93,7 +87,7 @@ module _ (old new : List (Box Folder)) (n : List ℕ) (q : Path) (o : Option Row
     (others : (u : Path) → (u ≡ q → ⊥) → find path_cmp u (folders new) ≡ find path_cmp u (folders old))
     (here : (m : List ℕ) → inside (find path_cmp q (folders new)) m ≡ cond (eq_by_cmp name_cmp m n) o (inside (find path_cmp q (folders old)) m)) where
   same_then : (m : List ℕ) (u : Path) (b : Bool) → same_path u q ≡ b → same_path (m ∷ u) (n ∷ q) ≡ (eq_by_cmp name_cmp m n && b)
-  same_then m u b e = eq_then (name_cmp m n) (path_cmp u q) ∙ ap (λ z. eq_by_cmp name_cmp m n && z) e
+  same_then m u b e = sym (tied_then (name_cmp m n) (path_cmp u q)) ∙ ap (λ z. eq_by_cmp name_cmp m n && z) e
 
   pub edited : (r : Path) → get (tree_of new) r ≡ cond (same_path r (n ∷ q)) o (get (tree_of old) r)
   edited [] = get_root new ∙ sym (get_root old)

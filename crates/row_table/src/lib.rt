@@ -11,4 +11,5 @@ mod rows;
 mod table;
 
 pub use block_id::Memory;
+pub use folder::name_size;
 pub use table::Table;

@@ -2,6 +2,7 @@
 use Rattle.std.proofs.Common.{◌≡◌, ◌⊎◌, ◌≤◌, ◌+◌, ◌^◌, ◌||◌, ◌&&◌, ℕ, Bool, true, false, List, [], ◌∷◌, refl, sym, ap, subst, ◌∙◌, inl, inr, arith}
 use Rattle.std.specs.Prelude.{Ok, Err}
 use Rattle.std.specs.declared.option.Option.{Option}
+use Rattle.std.proofs.lemmas.Bool.{or_parts}
 use Rattle.fs_model.specs.Instant.{Instant}
 use Rattle.fs_model.specs.Tree.{Tree}
 use Rattle.outside.specs.Causes.{RoseBy}
@@ -38,14 +39,6 @@ violation_no_fault Refused e = refl
 and_false : (b : Bool) → (b && false) ≡ false
 and_false true = refl
 and_false false = refl
-
-pub left_false : (a b : Bool) → (a || b) ≡ false → a ≡ false
-left_false true b e = e
-left_false false b e = refl
-
-pub right_false : (a b : Bool) → (a || b) ≡ false → b ≡ false
-right_false true b e = absurd (true_is_false e)
-right_false false b e = e
 
 or_false : (a b : Bool) → b ≡ false → (a || b) ≡ a
 or_false true b e = refl
@@ -194,7 +187,7 @@ module _ {V : Type 0} {K : Type 0} (shows : Showing) (trace : V → Option (List
     vault_cause = omega (arith, p.vault_cause, a.vault_cause);
     keeper_cause = omega (arith, p.keeper_cause, a.keeper_cause);
     vault_quiet = λ n. a.vault_quiet (omega (arith, n)) ∙ p.vault_quiet (omega (arith, n));
-    keeper_quiet = λ v n. a.keeper_quiet (omega (arith, n)) (left_false (is_violation e.answer) (violated es) v) ∙ p.keeper_quiet (right_false (is_violation e.answer) (violated es) v) (omega (arith, n));
+    keeper_quiet = λ v n. a.keeper_quiet (omega (arith, n)) (or_parts (is_violation e.answer) (violated es) v).0 ∙ p.keeper_quiet (or_parts (is_violation e.answer) (violated es) v).1 (omega (arith, n));
     marked = λ h. marked_on old mid new e es p a (is_violation e.answer) refl h;
     configures = λ may present c. configures_on mid new e es may present (violated es) refl p.flag a (p.configures may present c);
     unforged = λ first stands honest. unforged_on old mid new e es first p a stands honest;

@@ -4,6 +4,7 @@ use Rattle.std.specs.Prelude.{Result, is_some, IsErrOf, OnOk}
 use Rattle.std.specs.declared.option.Option.{Option}
 use Rattle.std.specs.declared.option.Option.TheVariants.{Some}
 use Rattle.std.specs.declared.result.Result.TheVariants.{Ok, Err}
+use Rattle.std.proofs.lemmas.Bool.{or_parts}
 use Rattle.aes_gcm.specs.Gcm.{opened_of}
 use Rattle.fs_model.specs.Instant.{Instant}
 use Rattle.fs_model.specs.Tree.{Tree}
@@ -36,7 +37,7 @@ use Rattle.session_runs.specs.Passing.{MountKeeps, LeftAt, PassedTrees, Passed}
 use Rattle.session_runs.specs.Runs.{Outside, outside_of, StandsFor, forgeries, lies, OpensTo, IsFounded, AreCalm, Answers, directory_fault, state_fault, IsSessionRun}
 use Rattle.session_runs.specs.Turns.{Begun, Closing}
 use Rattle.answers.specs.Hosts.{Ran}
-use Rattle.session_runs.proofs.Joining.{true_is_false, left_false, right_false, latest_kept}
+use Rattle.session_runs.proofs.Joining.{true_is_false, latest_kept}
 use Rattle.session_runs.proofs.Rising.{spent_of}
 use Rattle.session_runs.proofs.Passes.{passed, refusing}
 
@@ -50,8 +51,8 @@ unviolated (e ∷ es) a = ap (λ (b : Bool). b || violated es) a.0 ∙ unviolate
 calm : (es : List Exchange) → RefusesAfterViolation es → violated es ≡ false → AreCalm es
 calm [] r v = tt
 calm (e ∷ es) r v =
-    let rest = right_false (is_violation e.answer) (violated es) v in
-    (left_false (is_violation e.answer) (violated es) v, r.0 ∙ rest, calm es r.1 rest)
+    let rest = (or_parts (is_violation e.answer) (violated es) v).1 in
+    ((or_parts (is_violation e.answer) (violated es) v).0, r.0 ∙ rest, calm es r.1 rest)
 
 -- ---- what was given at first stays so
 

@@ -1,13 +1,12 @@
 // What each session begins with.
-ghost use Rattle.std.specs.Prelude.{◌≡◌, ◌≤◌, List, ℕ, [], IfOk, IfErr, length, vec_capacity};
-ghost use Rattle.std.specs.declared.option.Option.TheVariants.{Some};
+ghost use Rattle.std.specs.Prelude.{◌≤◌, List, ℕ, IfOk, IfErr};
 ghost use Rattle.line_io.specs.Streams.{stream_of};
 ghost use Rattle.passwords.specs.Passwords.{PasswordRead, PasswordUnread};
 
 use answers::TextBuffer;
 use line_io::{LineReader, MAX_LINE};
 use outside::Source;
-use passwords::read_password;
+use passwords::{copy_line, read_password};
 use run_status::Status;
 use std::alloc::Global;
 
@@ -41,20 +40,4 @@ pub(crate) fn begin<I: Source>(alloc: Global, input: &mut I) -> Result<Beginning
         reader,
         text,
     })
-}
-
-/// Copies the line that was read, into memory taken beforehand.
-fn copy_line(reader: &LineReader, copy: &mut Vec<u8>)
-    requires held { (line : List ℕ) × (reader.now.line ≡ Some line) × (length line ≤ MAX_LINE) }
-    requires empty { copy.old.items ≡ [] }
-    requires room { MAX_LINE ≤ vec_capacity copy.old }
-    ensures { reader.now.line ≡ Some copy.new.items }
-{
-    let Some(line) = reader.line() else {
-        unreachable!()
-    };
-    match copy.extend_from_slice(line) {
-        Ok(()) => {}
-        Err(_) => unreachable!(),
-    }
 }

@@ -1,10 +1,10 @@
 -- Among more ids in a row than are used, one is free.
-use Rattle.std.proofs.Common.{◌≡◌, ℕ, zero, suc, ◌+◌, ◌-◌, ◌^◌, ◌<◌, ◌≤◌, Bool, true, false, cond, List, [], ◌∷◌, length, refl, sym, ◌∙◌, ap, subst, arith, add-one, below_more}
-use Rattle.std.specs.Prelude.{nat_le, nat_lt, not, ◌&&◌, ◌||◌, ◌++◌, is_some}
+use Rattle.std.proofs.Common.{◌≡◌, ℕ, zero, suc, ◌+◌, ◌-◌, ◌^◌, ◌<◌, ◌≤◌, Bool, true, false, List, [], ◌∷◌, length, refl, sym, ◌∙◌, ap, subst, arith, add-one, below_more}
+use Rattle.std.specs.Prelude.{nat_lt, not, ◌&&◌, ◌||◌, ◌++◌, is_some}
 use Rattle.std.proofs.lemmas.Grind.{common_steps}
 use Rattle.block_id.specs.Name.{next_id}
 use Rattle.block_id.specs.Fresh.{nth_id, zero_id, IsFirstFree}
-use Rattle.block_id.proofs.Candidates.{value, behind, behind-nth_id, nth_id-add}
+use Rattle.block_id.proofs.Candidates.{value, behind, behind-nth_id, nth_id-add, at_least, at_least-one, at_least-falls, at_least-passed}
 use Rattle.std.specs.FinMap as fin
 use Rattle.std.specs.FinMap.{len-entries}
 use Rattle.std.proofs.lemmas.List.{length-map}
@@ -13,28 +13,12 @@ use Rattle.store_api.specs.Content.{Id, same_id, Changes}
 use Rattle.store_api.specs.Overlay.{has_id-over}
 use Rattle.store_api.specs.Holdings.{has_id, is_free}
 use Rattle.store_api.specs.Passing.{Passed}
-use Rattle.store_api.proofs.Overlays.{same_id_is}
-
--- whether v lies n or more places behind d
-at_least : ℕ → ℕ → ℕ → ℕ
-at_least d n v = cond (nat_le n (behind d v)) 1 0
+use Rattle.store_api.proofs.Rising.{same_id_is}
 
 -- how many of the ids lie n or more places behind d
 ahead : ℕ → ℕ → List Id → ℕ
 ahead d n [] = 0
 ahead d n (id ∷ ids) = at_least d n (value id) + ahead d n ids
-
-at_least-one : (d n v : ℕ) → at_least d n v ≤ 1
-unfolding at_least
-at_least-one d n v = grind (arith, common_steps)
-
-at_least-falls : (d n v : ℕ) → at_least d (n + 1) v ≤ at_least d n v
-unfolding at_least
-at_least-falls d n v = grind (arith, common_steps)
-
-at_least-passed : (d n v : ℕ) → behind d v ≡ n → at_least d (n + 1) v + 1 ≤ at_least d n v
-unfolding at_least
-at_least-passed d n v e = grind (arith, common_steps)
 
 ahead-start : (d : ℕ) (ids : List Id) → ahead d 0 ids ≤ length ids
 unfolding ahead
@@ -135,7 +119,7 @@ ends_free changes used drawn id new p f none =
     }
 
 -- one more is passed over
-pub passed-next : (is_free : Id → Bool) (drawn id next : Id) → Passed is_free drawn id → is_free id ≡ false → next ≡ next_id id → Passed is_free drawn next
+unfoldable pub passed-next : (is_free : Id → Bool) (drawn id next : Id) → Passed is_free drawn id → is_free id ≡ false → next ≡ next_id id → Passed is_free drawn next
 passed-next is_free drawn id next p not_free is = record {
   steps = p.steps + 1;
   reached = is ∙ (ap next_id p.reached ∙ ap (nth_id drawn) (sym (add-one p.steps)));

@@ -1,3 +1,4 @@
+pub mod Rising
 mod Places
 mod Overlays
-mod Crowds
+pub mod Crowds

@@ -2,36 +2,19 @@
 use Rattle.std.proofs.Common.{◌≡◌, ◌⊎◌, ℕ, Bool, true, false, List, length, refl, sym, ◌∙◌, ap, subst, inl, inr}
 use Rattle.std.specs.Prelude.{Result, Ok, Err, OnOk, OnErr, IfSome, IfNone, not, cond, ◌&&◌, ◌||◌, ◌++◌, is_some, Option, Some, None}
 use Rattle.std.specs.FinMap as fin
-use Rattle.std.specs.FinMap.{get-empty, get-insert, get-remove, slice_cmp-IsAntisymmetric, nat_cmp-IsAntisymmetric}
-use Rattle.std.specs.Cmp.{IsTotalOrder}
-use Rattle.std.specs.Cmp.Lexicographic.{nat_list_cmp_total}
-use Rattle.std.specs.Ordering.{is_eq}
-use Rattle.std.specs.declared.cmp.Ordering.{Ordering}
-use Rattle.std.specs.declared.cmp.Ordering.TheVariants.{Less, Equal, Greater}
+use Rattle.std.specs.FinMap.{get-empty, get-insert, get-remove}
+use Rattle.std.proofs.lemmas.Option.{none-some}
 use Rattle.block_id.specs.Fresh.{zero_id}
 use Rattle.store_api.specs.Content.{Id, id_cmp, same_id, Changes, or_else, over}
 use Rattle.store_api.specs.Holdings.{Holdings, Fits, MayGet, Stays, has_id, is_free}
 use Rattle.store_api.specs.Overlay.{has_id-over}
-
-total : IsTotalOrder id_cmp
-total = nat_list_cmp_total
-
-equal : (r : Ordering) → is_eq r ≡ true → r ≡ Equal
-equal Less e = cc
-equal Equal e = refl
-equal Greater e = cc
-
-pub same_id_is : (a b : Id) → same_id a b ≡ true → a ≡ b
-same_id_is a b e = slice_cmp-IsAntisymmetric nat_cmp-IsAntisymmetric a b (equal (id_cmp a b) e)
-
-none_some : {A : Type 0} (x : A) → None ≡ Some x → ⊥
-none_some x e = cc
+use Rattle.store_api.proofs.Rising.{ids_total, same_id_is}
 
 pub fits_nothing : {S : Type 0} (H : Holdings S) (s : S) → Fits H s fin.empty
 fits_nothing H s = record {
-  sized = λ id bytes e. absurd (none_some (Some bytes) (sym (get-empty id_cmp id) ∙ e));
-  gets = λ id bytes e. absurd (none_some (Some bytes) (sym (get-empty id_cmp id) ∙ e));
-  removes = λ id e. absurd (none_some None (sym (get-empty id_cmp id) ∙ e));
+  sized = λ id bytes e. absurd (none-some (Some bytes) (sym (get-empty id_cmp id) ∙ e));
+  gets = λ id bytes e. absurd (none-some (Some bytes) (sym (get-empty id_cmp id) ∙ e));
+  removes = λ id e. absurd (none-some None (sym (get-empty id_cmp id) ∙ e));
 }
 
 may_get-stays : {S : Type 0} (H : Holdings S) (a b : S) (id : Id) → Stays H a b → MayGet H a id → MayGet H b id
@@ -64,7 +47,7 @@ entry_cases changes id change q c e =
     elim (same_id q id) as (λ b. same_id q id ≡ b → cond b (Some change) (fin.get changes q) ≡ Some c → ((q ≡ id) × (change ≡ c)) ⊎ (fin.get changes q ≡ Some c)) [
       | true ↦ λ s h. inl (same_id_is q id s, own change c h)
       | false ↦ λ s h. inr h
-    ] refl (sym (get-insert total changes id change q) ∙ e)
+    ] refl (sym (get-insert ids_total changes id change q) ∙ e)
   where
     own : (x y : Option (List ℕ)) → Some x ≡ Some y → x ≡ y
     own x y h = cc
@@ -81,7 +64,7 @@ fits-put H s changes id bytes fits sized may = record {
     | inr old ↦ fits.gets q other old
   ];
   removes = λ q e. elim (entry_cases changes id (Some bytes) q None e) [
-    | inl new ↦ absurd (none_some bytes (sym new.1))
+    | inl new ↦ absurd (none-some bytes (sym new.1))
     | inr old ↦ fits.removes q old
   ];
 }
@@ -112,9 +95,9 @@ or_false r false b t e = refl
 entry_left : (changes : Changes) (id q : Id) (c : Option (List ℕ)) → fin.get (fin.remove changes id) q ≡ Some c → fin.get changes q ≡ Some c
 entry_left changes id q c e =
     elim (same_id q id) as (λ b. cond b None (fin.get changes q) ≡ Some c → fin.get changes q ≡ Some c) [
-      | true ↦ λ h. absurd (none_some c h)
+      | true ↦ λ h. absurd (none-some c h)
       | false ↦ λ h. h
-    ] (sym (get-remove total changes id q) ∙ e)
+    ] (sym (get-remove ids_total changes id q) ∙ e)
 
 pub fits-forget : {S : Type 0} (H : Holdings S) (s : S) (changes : Changes) (id : Id) → Fits H s changes → Fits H s (fin.remove changes id)
 fits-forget H s changes id fits = record {
@@ -140,11 +123,11 @@ shown H s changes id fits used (Some (Some bytes)) e h = elim (fits.gets id byte
 pub fits-remove : {S : Type 0} (H : Holdings S) (s : S) (changes : Changes) (id : Id) → Fits H s changes → has_id (H.used s) id ≡ true → is_some (over changes (H.content s) id) ≡ true → Fits H s (fin.insert changes id None)
 fits-remove H s changes id fits used there = record {
   sized = λ q bytes e. elim (entry_cases changes id None q (Some bytes) e) [
-    | inl new ↦ absurd (none_some bytes new.1)
+    | inl new ↦ absurd (none-some bytes new.1)
     | inr old ↦ fits.sized q bytes old
   ];
   gets = λ q bytes e. elim (entry_cases changes id None q (Some bytes) e) [
-    | inl new ↦ absurd (none_some bytes new.1)
+    | inl new ↦ absurd (none-some bytes new.1)
     | inr old ↦ fits.gets q bytes old
   ];
   removes = λ q e. elim (entry_cases changes id None q None e) [

@@ -1,6 +1,6 @@
 -- Where entries stand in a list that rises.
 use Rattle.std.proofs.Common.{◌≡◌, ℕ, ◌+◌, List, [], ◌∷◌, Bool, true, false, cond, refl, sym, ◌∙◌, ap, subst, add-one, arith}
-use Rattle.std.specs.Prelude.{T, length, Option, Some, None, slice_get, slice_set, not, ◌&&◌}
+use Rattle.std.specs.Prelude.{T, length, Option, Some, None, slice_get, slice_set, not}
 use Rattle.std.specs.List.{insert, remove, slice_index_or}
 use Rattle.std.specs.Option.{option_map}
 use Rattle.std.proofs.lemmas.List.{length-map}
@@ -9,51 +9,36 @@ use Rattle.std.specs.Prelude.{◌<◌, ◌≤◌, zero, suc, Result, Ok, Err, On
 use Rattle.std.specs.FinMap as fin
 use Rattle.std.specs.FinMap.{entries-from_sorted, empty_of_len, len-entries, same_entries_map, entries-insert, is_sorted, get-from_sorted, get-remove, same_map, IsAntisymmetric, slice_cmp-IsAntisymmetric, nat_cmp-IsAntisymmetric}
 use Rattle.std.specs.FinMap.Entries.{put, find, by_order, below_all, is_sorted-put, is_sorted-where_key, find-where_key}
-use Rattle.std.specs.Cmp.{IsTotalOrder, eq_by_cmp_equiv}
-use Rattle.std.specs.Cmp.Lexicographic.{nat_list_cmp_total}
+use Rattle.std.specs.Cmp.{eq_by_cmp_equiv}
 use Rattle.std.specs.Ordering.{is_eq, is_lt, is_gt}
-use Rattle.std.specs.declared.cmp.Ordering.{Ordering}
 use Rattle.std.specs.declared.cmp.Ordering.TheVariants.{Less, Equal, Greater}
 use Rattle.block_id.specs.declared.id.BlockId.{BlockId}
+use Rattle.block_id.proofs.Orders.{less_so}
+use Rattle.block_id.proofs.Tests.{left, right}
 use Rattle.store_api.specs.declared.batch.BatchChange.{BatchChange}
 use Rattle.store_api.specs.Content.{Id, id_cmp, same_id, Changes}
 use Rattle.store_api.specs.Entries.{entry_view, entries_of, changes_of, change_view, place, is_entry_of, others}
+use Rattle.store_api.proofs.Rising.{ids_total}
 
 abbrev pub Plain : Type 0
 Plain = List (Id × Option (List ℕ))
 
-total : IsTotalOrder id_cmp
-total = nat_list_cmp_total
-
 exact : IsAntisymmetric id_cmp
 exact = slice_cmp-IsAntisymmetric nat_cmp-IsAntisymmetric
-
-lt : (r : Ordering) → T (is_lt r) → r ≡ Less
-lt Less h = refl
-lt Equal h = absurd h
-lt Greater h = absurd h
-
-left : (a b : Bool) → T (a && b) → T a
-left true b h = tt
-left false b h = absurd h
-
-right : (a b : Bool) → T (a && b) → T b
-right true b h = h
-right false b h = absurd h
 
 pub no_changes : changes_of [] ≡ fin.empty
 no_changes = empty_of_len (changes_of []) (len-entries (changes_of []) ∙ ap length (entries-from_sorted id_cmp [] tt))
 
 pub sorted-put : (old new : List (BlockId × BatchChange)) (id : Id) (change : Option (List ℕ)) → T (is_sorted id_cmp (entries_of old))
     → entries_of new ≡ put id_cmp id change (entries_of old) → T (is_sorted id_cmp (entries_of new))
-sorted-put old new id change rises e = subst (λ es. T (is_sorted id_cmp es)) (sym e) (is_sorted-put {X = Option (List ℕ)} id_cmp total id change (entries_of old) rises)
+sorted-put old new id change rises e = subst (λ es. T (is_sorted id_cmp es)) (sym e) (is_sorted-put {X = Option (List ℕ)} id_cmp ids_total id change (entries_of old) rises)
 
 -- the batch whose entries are those with one put in
 pub changes-put : (old new : List (BlockId × BatchChange)) (id : Id) (change : Option (List ℕ)) → T (is_sorted id_cmp (entries_of old))
     → entries_of new ≡ put id_cmp id change (entries_of old) → changes_of new ≡ fin.insert (changes_of old) id change
 changes-put old new id change rises e =
     let before : fin.entries (changes_of new) ≡ put id_cmp id change (entries_of old) = entries-from_sorted id_cmp (entries_of new) (sorted-put old new id change rises e) ∙ e in
-    let after : fin.entries (fin.insert (changes_of old) id change) ≡ put id_cmp id change (entries_of old) = entries-insert total (changes_of old) id change ∙ ap (put id_cmp id change) (entries-from_sorted id_cmp (entries_of old) rises) in
+    let after : fin.entries (fin.insert (changes_of old) id change) ≡ put id_cmp id change (entries_of old) = entries-insert ids_total (changes_of old) id change ∙ ap (put id_cmp id change) (entries-from_sorted id_cmp (entries_of old) rises) in
     same_entries_map (changes_of new) (fin.insert (changes_of old) id change) (before ∙ sym after)
 
 -- an entry whose id is new, in its place
@@ -92,8 +77,8 @@ entries-set_at (x ∷ xs) id e change at same =
 none_below : (id x : Id) (es : Plain) → id_cmp id x ≡ Less → T (below_all id_cmp x es) → find id_cmp id es ≡ None
 none_below id x [] less h = refl
 none_below id x (e ∷ es) less h =
-    let first : id_cmp x e.0 ≡ Less = lt (id_cmp x e.0) (left (is_lt (id_cmp x e.0)) (below_all id_cmp x es) h) in
-    let here : id_cmp id e.0 ≡ Less = total.trans id x e.0 less first in
+    let first : id_cmp x e.0 ≡ Less = less_so (id_cmp x e.0) (left (is_lt (id_cmp x e.0)) (below_all id_cmp x es) h) in
+    let here : id_cmp id e.0 ≡ Less = ids_total.trans id x e.0 less first in
     ap (λ r. cond (is_eq r) (Some e.1) (find id_cmp id es)) here ∙ none_below id x es less (right (is_lt (id_cmp x e.0)) (below_all id_cmp x es) h)
 
 -- what a list that rises has at an id is what it has at the id's place
@@ -145,15 +130,15 @@ kept-changes (Err e) m old new id change is rises ok = tt
 others_above : (id x : Id) (es : Plain) → id_cmp id x ≡ Equal → T (below_all id_cmp x es) → others id es ≡ es
 others_above id x [] same h = refl
 others_above id x (e ∷ es) same h =
-    let first : id_cmp x e.0 ≡ Less = lt (id_cmp x e.0) (left (is_lt (id_cmp x e.0)) (below_all id_cmp x es) h) in
-    let here : id_cmp id e.0 ≡ Less = total.congr id x e.0 same ∙ first in
+    let first : id_cmp x e.0 ≡ Less = less_so (id_cmp x e.0) (left (is_lt (id_cmp x e.0)) (below_all id_cmp x es) h) in
+    let here : id_cmp id e.0 ≡ Less = ids_total.congr id x e.0 same ∙ first in
     ap (λ r. cond (not (is_eq r)) (e ∷ others id es) (others id es)) here ∙ ap (λ ys. e ∷ ys) (others_above id x es same (right (is_lt (id_cmp x e.0)) (below_all id_cmp x es) h))
 
 others_below : (id x : Id) (es : Plain) → id_cmp id x ≡ Less → T (below_all id_cmp x es) → others id es ≡ es
 others_below id x [] less h = refl
 others_below id x (e ∷ es) less h =
-    let first : id_cmp x e.0 ≡ Less = lt (id_cmp x e.0) (left (is_lt (id_cmp x e.0)) (below_all id_cmp x es) h) in
-    let here : id_cmp id e.0 ≡ Less = total.trans id x e.0 less first in
+    let first : id_cmp x e.0 ≡ Less = less_so (id_cmp x e.0) (left (is_lt (id_cmp x e.0)) (below_all id_cmp x es) h) in
+    let here : id_cmp id e.0 ≡ Less = ids_total.trans id x e.0 less first in
     ap (λ r. cond (not (is_eq r)) (e ∷ others id es) (others id es)) here ∙ ap (λ ys. e ∷ ys) (others_below id x es less (right (is_lt (id_cmp x e.0)) (below_all id_cmp x es) h))
 
 -- without the entry at the id's place, or where there is none
@@ -186,12 +171,12 @@ sorted-others old new id rises e = subst (λ es. T (is_sorted id_cmp es)) (sym e
 -- the batch whose entries are the others
 pub changes-remove : (old new : List (BlockId × BatchChange)) (id : Id) → T (is_sorted id_cmp (entries_of old)) → entries_of new ≡ others id (entries_of old)
     → changes_of new ≡ fin.remove (changes_of old) id
-changes-remove old new id rises e = same_map total exact _ _ (λ q.
+changes-remove old new id rises e = same_map ids_total exact _ _ (λ q.
     get-from_sorted id_cmp (entries_of new) q (sorted-others old new id rises e)
     ∙ (ap (find id_cmp q) e
     ∙ (find-where_key {X = Option (List ℕ)} id_cmp (λ x. not (same_id id x)) q (λ x t. ap (λ y. not (same_id id y)) (sym (exact q x t))) (entries_of old)
     ∙ (turned (same_id id q) (same_id q id) (symmetric id q) (find id_cmp q (entries_of old))
-    ∙ (ap (λ o. cond (same_id q id) None o) (sym (get-from_sorted id_cmp (entries_of old) q rises)) ∙ sym (get-remove total (changes_of old) id q))))))
+    ∙ (ap (λ o. cond (same_id q id) None o) (sym (get-from_sorted id_cmp (entries_of old) q rises)) ∙ sym (get-remove ids_total (changes_of old) id q))))))
   where
     turned : (a b : Bool) → a ≡ b → (o : Option (Option (List ℕ))) → cond (not a) o None ≡ cond b None o
     turned true true e o = refl
@@ -200,7 +185,7 @@ changes-remove old new id rises e = same_map total exact _ _ (λ q.
     turned false true e o = absurd (cc)
 
     symmetric : (a b : Id) → same_id a b ≡ same_id b a
-    symmetric a b = (eq_by_cmp_equiv total).symm a b
+    symmetric a b = (eq_by_cmp_equiv ids_total).symm a b
 
 -- how many entries a batch has
 pub len-changes : (m : Changes) (es : List (BlockId × BatchChange)) → entries_of es ≡ fin.entries m → length es ≡ fin.len m
@@ -214,7 +199,7 @@ some_is x y e = cc
 -- the entries behind one stand above it
 below_at : (x : Id) (es : Plain) (i : ℕ) (y : Id × Option (List ℕ)) → T (below_all id_cmp x es) → slice_get es i ≡ Some y → id_cmp x y.0 ≡ Less
 below_at x [] i y h at = absurd (cc)
-below_at x (e ∷ es) zero y h at = subst (λ (z : Id × Option (List ℕ)). id_cmp x z.0 ≡ Less) (some_is e y at) (lt (id_cmp x e.0) (left (is_lt (id_cmp x e.0)) (below_all id_cmp x es) h))
+below_at x (e ∷ es) zero y h at = subst (λ (z : Id × Option (List ℕ)). id_cmp x z.0 ≡ Less) (some_is e y at) (less_so (id_cmp x e.0) (left (is_lt (id_cmp x e.0)) (below_all id_cmp x es) h))
 below_at x (e ∷ es) (suc i) y h at = below_at x es i y (right (is_lt (id_cmp x e.0)) (below_all id_cmp x es) h) at
 
 -- an id that isn't above an entry stands there or before
@@ -237,8 +222,8 @@ stands_behind id (e ∷ es) (suc i) y rises at h =
     let later = stands_behind id es i y (right (below_all id_cmp e.0 es) (is_sorted id_cmp es) rises) at h in
     let first = below_at e.0 es i y (left (below_all id_cmp e.0 es) (is_sorted id_cmp es) rises) at in
     elim (id_cmp id e.0) as (λ r. id_cmp id e.0 ≡ r → suc i + 1 ≤ by_order r 0 0 (place id es + 1)) [
-      | Less ↦ λ p. let bad : false ≡ true = sym (ap is_gt (total.trans id e.0 y.0 p first)) ∙ h in absurd (cc)
-      | Equal ↦ λ p. let bad : false ≡ true = sym (ap is_gt (total.congr id e.0 y.0 p ∙ first)) ∙ h in absurd (cc)
+      | Less ↦ λ p. let bad : false ≡ true = sym (ap is_gt (ids_total.trans id e.0 y.0 p first)) ∙ h in absurd (cc)
+      | Equal ↦ λ p. let bad : false ≡ true = sym (ap is_gt (ids_total.congr id e.0 y.0 p ∙ first)) ∙ h in absurd (cc)
       | Greater ↦ λ p. omega (arith, later)
     ] refl
 

@@ -4,6 +4,7 @@ use Rattle.std.proofs.Common.{sym, ◌∙◌, ap, subst, inl, inr}
 use Rattle.std.specs.FinMap as fin
 use Rattle.std.specs.FinMap.{contains_key-keys}
 use Rattle.std.proofs.lemmas.List.Folds.{list_any-append}
+use Rattle.std.proofs.lemmas.Bool.{or_right, or_parts}
 use Rattle.block_id.specs.Fresh.{zero_id}
 use Rattle.outcome.specs.Meanings.{Meanings, Lawful}
 use Rattle.outcome.specs.Lift.{lift, lawful}
@@ -40,14 +41,6 @@ used_if : (o : Option (Option (List ℕ))) (c : Option (List ℕ)) (b : Bool) �
 used_if (Some change) c b f h = refl
 used_if None c b f h = f h
 
-or_used : (a b : Bool) → b ≡ true → (a || b) ≡ true
-or_used true b e = refl
-or_used false b e = e
-
-unused_below : (a b : Bool) → (a || b) ≡ false → b ≡ false
-unused_below true b e = absurd (cc)
-unused_below false b e = e
-
 -- the changes say nothing of the zero id
 no_zero : {B : Type 0} (M : Meanings B) (H : Holdings B) (s : B) (changes : Changes) → Steady M H → M.intact s → Fits H s changes → (o : Option (Option (List ℕ))) → fin.get changes zero_id ≡ o → is_some o ≡ false
 no_zero M H s changes st i fits None e = refl
@@ -77,10 +70,10 @@ steady_over f g M H st = record {
     | inl new ↦ i.1.fits.sized id bytes new
     | inr old ↦ st.sized (f a) id bytes i.0 t old.1
   ];
-  spent_used = λ a id i h. has_id-over (g a) (H.used (f a)) id ∙ or_used (is_some (fin.get (g a) id)) (has_id (H.used (f a)) id) (st.spent_used (f a) id i.0 h);
+  spent_used = λ a id i h. has_id-over (g a) (H.used (f a)) id ∙ or_right (is_some (fin.get (g a) id)) (has_id (H.used (f a)) id) (st.spent_used (f a) id i.0 h);
   spent_last = λ a id i. st.spent_last (f a) id i.0;
   last_spent = λ a id i. st.last_spent (f a) id i.0;
-  unused_version = λ a id i h. st.unused_version (f a) id i.0 (unused_below (is_some (fin.get (g a) id)) (has_id (H.used (f a)) id) (sym (has_id-over (g a) (H.used (f a)) id) ∙ h));
+  unused_version = λ a id i h. st.unused_version (f a) id i.0 (or_parts (is_some (fin.get (g a) id)) (has_id (H.used (f a)) id) (sym (has_id-over (g a) (H.used (f a)) id) ∙ h)).1;
   loaded_payload = λ a b. st.loaded_payload (f a) (f b);
   loaded_version = λ a b id. st.loaded_version (f a) (f b) id;
 }

@@ -1,8 +1,10 @@
 -- The right border of a tree, and what stays off it.
 use Rattle.std.proofs.Common.{◌≡◌, ◌⊎◌, ℕ, zero, suc, ◌+◌, ◌<◌, ◌≤◌, Bool, true, false, List, [], ◌∷◌, ◌++◌, length, take, drop, refl, sym, ◌∙◌, ap, subst, inl, inr, arith}
-use Rattle.std.specs.Prelude.{Some, is_some, Ok, ◌||◌}
+use Rattle.std.specs.Prelude.{Some, is_some, Ok}
 use Rattle.std.specs.FinMap.{get}
 use Rattle.std.proofs.lemmas.List.{take-append-drop, drop-append-le, drop_all}
+use Rattle.std.proofs.lemmas.Bool.{or_left, or_right}
+use Rattle.std.proofs.lemmas.Option.{same_Some}
 use Rattle.outcome.specs.Meanings.{Meanings, Lawful}
 use Rattle.outcome.specs.Outcome.{Outcome}
 use Rattle.data_nodes.specs.declared.node.Node.{Node}
@@ -11,11 +13,12 @@ use Rattle.data_nodes.proofs.Laws.{one_node}
 use Rattle.store_api.specs.declared.tx.Tx.{Tx}
 use Rattle.store_api.specs.Content.{Id, Content, Changes, same_id, or_else}
 use Rattle.store_api.specs.Holdings.{Holdings, Stays, has_id}
+use Rattle.store_api.proofs.Rising.{same_id_is}
 use Rattle.data_tree.specs.Trees.{IsTree, Forest, span, depth_in}
 use Rattle.data_tree.specs.Needs.{HasTree, HasTrees, HasBelow}
 use Rattle.data_tree.specs.Roots.{IsRoot}
 use Rattle.data_tree.proofs.Forests.{below_on, below_of, below_root}
-use Rattle.data_tree.proofs.Ids.{in_right, same_id_is, same_self}
+use Rattle.data_tree.proofs.Ids.{in_right, same_self}
 use Rattle.data_tree.proofs.Levels.{span-some}
 use Rattle.data_tree.proofs.Loads.{tx_holdings, tx_meanings}
 use Rattle.data_tree.proofs.Puts.{unforged_before}
@@ -91,17 +94,6 @@ root_only M H0 laws a b d {root = root} {found = found} depth level loaded stays
       | inr below ↦ inr (subst (λ k. OnBorder (H.content a) k root q) (sym same) (border_up (H.content a) depth root r.tree.text (node_of found.0) q r.tree.there (subst (IsNode r.tree.text) (sym p.1) r.tree.is) (subst (λ C. OnBorderBelow C depth (node_of found.0) q) path below)))
     ]
 
-or_first : (a b : Bool) → a ≡ true → (a || b) ≡ true
-or_first true b e = refl
-or_first false b e = absurd (cc)
-
-or_second : (a b : Bool) → b ≡ true → (a || b) ≡ true
-or_second true b e = refl
-or_second false b e = e
-
-some_is : {X : Type 0} {x y : X} → Some x ≡ Some y → x ≡ y
-some_is e = cc
-
 -- where the inner nodes of a tree are the same in another content, its border there is its border
 pub border_on : (payload : ℕ) (A D : Content) (depth : ℕ) (id : Id) (w : List ℕ) (ids : List Id) (q : Id) → 50 ≤ payload → IsTree payload A depth id w ids
     → ((p : Id) (text : List ℕ) (d : ℕ) (children : List Id) → has_id ids p ≡ true → A p ≡ Some text → IsNode text (inner d children) → D p ≡ A p) → OnBorder D depth id q → OnBorder A depth id q
@@ -110,15 +102,15 @@ border_on payload A D (suc depth) id w ids q least n same (inl top) = inl top
 border_on payload A D (suc depth) id w ids q least n same (inr (text, (children, (front, (last, (there, (is, (ends, rest)))))))) =
     let size = span payload depth in
     let node : IsNode n.text (inner (suc depth) n.holds.0) = subst (IsNode n.text) n.holds.1.0 n.is in
-    let root : has_id ids id ≡ true = subst (λ xs. has_id xs id ≡ true) (sym n.all) (or_first (same_id id id) (has_id n.below id) (same_self id)) in
+    let root : has_id ids id ≡ true = subst (λ xs. has_id xs id ≡ true) (sym n.all) (or_left (same_id id id) (has_id n.below id) (same_self id)) in
     let here : A id ≡ Some text = sym (same id n.text (suc depth) n.holds.0 root n.there node) ∙ there in
-    let texts : n.text ≡ text = some_is (sym n.there ∙ here) in
+    let texts : n.text ≡ text = same_Some _ _ (sym n.there ∙ here) in
     let one : inner (suc depth) n.holds.0 ≡ inner (suc depth) children = one_node text (inner (suc depth) n.holds.0) (inner (suc depth) children) (subst (λ t. IsNode t (inner (suc depth) n.holds.0)) texts node) is in
     let listed : n.holds.0 ≡ front ++ last ∷ [] = (let e : n.holds.0 ≡ children = cc in e ∙ ends) in
     let f : Forest (IsTree payload A depth) size (front ++ last ∷ []) w n.below = subst (λ cs. Forest (IsTree payload A depth) size cs w n.below) listed n.holds.1.1 in
     let cut : drop (length front) (front ++ last ∷ []) ≡ last ∷ [] = drop-append-le (length front) front (last ∷ []) (omega arith) ∙ ap (λ xs. xs ++ last ∷ []) (drop_all (length front) front (omega arith)) in
     let s = forest_split (IsTree payload A depth) size (length front) (front ++ last ∷ []) last w n.below (span-some payload depth least) (one_longer front last) cut f in
-    let within : (p : Id) → has_id s.own p ≡ true → has_id ids p ≡ true = λ p h. subst (λ xs. has_id xs p ≡ true) (sym n.all) (or_second (same_id p id) (has_id n.below p) (subst (λ xs. has_id xs p ≡ true) (sym s.names) (in_right s.ids1 s.own p h))) in
+    let within : (p : Id) → has_id s.own p ≡ true → has_id ids p ≡ true = λ p h. subst (λ xs. has_id xs p ≡ true) (sym n.all) (or_right (same_id p id) (has_id n.below p) (subst (λ xs. has_id xs p ≡ true) (sym s.names) (in_right s.ids1 s.own p h))) in
     inr (text, (children, (front, (last, (here, (is, (ends, border_on payload A D depth last s.w2 s.own q least s.tree (λ p t d cs h. same p t d cs (within p h)) rest)))))))
   where
     one_longer : (xs : List Id) (x : Id) → length xs < length (xs ++ x ∷ [])
@@ -144,7 +136,7 @@ border_back H0 a d depth root from m q least t fits below only on = border_on (H
       | inl kept ↦ ap (λ o. or_else o (H0.content d.store p)) kept ∙ ap (or_else (get a.overlay p)) (below.content t.told p)
       | inr hit ↦
           let leaf = leaf_of (H0.payload a.store) A A depth root t.bytes t.ids hit.0 p least t.tree (λ x h. refl) (let end = fits (omega (arith, hit.1.0, hit.1.1.0)) in omega (arith, hit.1.1.0, end)) hit.1.1.1 in
-          let texts : text ≡ leaf.text = some_is (sym there ∙ leaf.there) in
+          let texts : text ≡ leaf.text = same_Some _ _ (sym there ∙ leaf.there) in
           absurd (inner_leaf leaf.text k children leaf.bytes (subst (λ x. IsNode x (inner k children)) texts is) leaf.is)
     ]
 

@@ -2,24 +2,26 @@
 use Rattle.std.proofs.Common.{◌≡◌, ◌⊎◌, ℕ, zero, suc, ◌+◌, ◌-◌, ◌*◌, ◌<◌, ◌≤◌, Bool, true, false, cond, List, [], ◌∷◌, ◌++◌, length, take, drop, replicate, refl, sym, ◌∙◌, ap, subst, inl, inr, arith, append_assoc, append-nil}
 use Rattle.std.specs.Prelude.{Some, None, is_some, ◌||◌, Result, Ok, Err, IfOk, OnOk}
 use Rattle.std.specs.FinMap.{get}
-use Rattle.std.proofs.lemmas.Bool.{cases_lt}
-use Rattle.std.proofs.lemmas.List.{take-append-drop, length-take, length-drop, length-append, take-append-le, drop-append-le, take_all, drop_all}
+use Rattle.std.proofs.lemmas.Bool.{cases_lt, or_cases, or_parts, false_from_ne_true, or_left}
+use Rattle.std.proofs.lemmas.List.{take-append-drop, length-take, length-drop, length-append, take-append-le, take_at, drop_at}
 use Rattle.std.proofs.Math.Seq.{take-append-add}
+use Rattle.block_id.proofs.Options.{none_is}
 use Rattle.outcome.specs.Bytes.{resized}
 use Rattle.data_nodes.specs.Layout.{NodeText, leaf, inner, IsNode}
 use Rattle.store_api.specs.declared.tx.Tx.{Tx}
 use Rattle.store_api.specs.Content.{Id, Content, Changes, same_id}
 use Rattle.store_api.specs.Holdings.{Holdings, Stays, has_id}
+use Rattle.store_api.proofs.Rising.{same_id_is}
 use Rattle.data_tree.specs.Trees.{IsTree, Holds, Forest, span, IsDepth, NoDoubles, Replaces}
 use Rattle.data_tree.specs.Needs.{Sets, SetsNode, HasTree, HasTrees, Keeps}
 use Rattle.data_tree.specs.Roots.{IsRoot, IsNewRoot}
 use Rattle.data_tree.proofs.Anew.{replaces_then, then_drops}
 use Rattle.data_tree.proofs.Changes.{tree_frame, trees_frame}
 use Rattle.data_tree.proofs.Forests.{leaf_ids, leaf_is}
-use Rattle.data_tree.proofs.Ids.{in_left, in_one, not_both, apart, apart_right, alone-parts, drops_more, drops_one, has-append, other, same_id_is, same_self}
+use Rattle.data_tree.proofs.Ids.{in_left, in_one, not_both, apart, apart_right, alone-parts, drops_more, drops_one, has-append, other, same_self}
 use Rattle.data_tree.proofs.Levels.{span-grows, too_deep}
 use Rattle.data_tree.proofs.Loads.{tx_holdings}
-use Rattle.data_tree.proofs.Making.{absent, alone-join, forest_more, none_some, or_parts, or_cases, trees_there}
+use Rattle.data_tree.proofs.Making.{alone-join, forest_more, trees_there}
 use Rattle.data_tree.proofs.Puts.{was_there}
 use Rattle.tree_ranges.specs.Border.{OnBorder, OnlyBorder}
 use Rattle.tree_ranges.specs.Cutting.{IsCut, MayCut, MayCutNode, MayCutTrees}
@@ -34,10 +36,6 @@ fewer_put H a d id q there below others h = by (same_id q id) refl
     by : (b : Bool) → same_id q id ≡ b → is_some ((tx_holdings H).content a q) ≡ true
     by true e = subst (λ x. is_some ((tx_holdings H).content a x) ≡ true) (sym (same_id_is q id e)) there
     by false e = was_there H a d below q (others e) h
-
-or_first : (a b : Bool) → a ≡ true → (a || b) ≡ true
-or_first true b e = refl
-or_first false b e = absurd (cc)
 
 neither : (a b r : Bool) → r ≡ (a || b) → a ≡ false → b ≡ false → r ≡ false
 neither true b r e f g = absurd (cc)
@@ -61,12 +59,6 @@ pub record CutAt (T : Id → List ℕ → List Id → Type 0) (size k : ℕ) (ch
 
 first_is : {x y : Id} {xs ys : List Id} → x ∷ xs ≡ y ∷ ys → (x ≡ y) × (xs ≡ ys)
 first_is e = (cc, cc)
-
-take_front : (size : ℕ) (xs ys : List ℕ) → length xs ≡ size → take size (xs ++ ys) ≡ xs
-take_front size xs ys is = take-append-le size xs ys (omega arith) ∙ take_all size xs (omega arith)
-
-drop_front : (size : ℕ) (xs ys : List ℕ) → length xs ≡ size → drop size (xs ++ ys) ≡ ys
-drop_front size xs ys is = drop-append-le size xs ys (omega arith) ∙ ap (λ zs. zs ++ ys) (drop_all size xs (omega arith))
 
 pub cut_at : (T : Id → List ℕ → List Id → Type 0) (size k : ℕ) (children : List Id) (last : Id) (w : List ℕ) (ids : List Id) → 0 < size → k < length children → drop k children ≡ last ∷ drop (k + 1) children → Forest T size children w ids → CutAt T size k children last w ids
 cut_at T size k [] last w ids positive lt is f = absurd (omega arith)
@@ -106,8 +98,8 @@ cut_at T size (suc k) (child ∷ children) last w ids positive lt is (some, (own
           (
             s.ids1,
             (
-              subst (λ xs. T child xs own) (sym (take_front size (take size w) s.w1 len)) first,
-              (subst (λ xs. Forest T size (take k children) xs s.ids1) (sym (drop_front size (take size w) s.w1 len)) s.before, refl),
+              subst (λ xs. T child xs own) (sym (take_at (take size w) s.w1 size len)) first,
+              (subst (λ xs. Forest T size (take k children) xs s.ids1) (sym (drop_at (take size w) s.w1 size len)) s.before, refl),
             ),
           ),
         ),
@@ -158,7 +150,7 @@ drops_then A C D xs ys new one two = record {
 
 -- an id of another tree isn't one that came in place of old ones
 pub not_new : (A B : Content) (old new : List Id) (q : Id) → Replaces A B old new → is_some (A q) ≡ true → has_id old q ≡ false → has_id new q ≡ false
-not_new A B old new q r there o = absent (has_id new q) (λ h. elim (r.came q h) [ inl was ↦ let bad : false ≡ true = sym o ∙ was in cc | inr none ↦ none_some (A q) none there ])
+not_new A B old new q r there o = false_from_ne_true (has_id new q) (λ h. elim (r.came q h) [ inl was ↦ let bad : false ≡ true = sym o ∙ was in cc | inr none ↦ none_is (A q) none there ])
 
 pub cut_since : {S : Type 0} {H : Holdings S} {a b c : S} {depth : ℕ} {id : Id} {w : List ℕ} {old : List Id} → Stays H a b → H.told a ≡ true → IsCut H b c depth id w old → IsCut H a c depth id w old
 cut_since {H = H} {a = a} {b = b} {c = c} {old = old} stays told r =
@@ -187,7 +179,7 @@ cut_leaf_is {H = H} {a = a} {b = b} {depth = depth} {n = n} {id = id} node old a
         all = refl;
       };
       alone = (m.apart, m.below.alone);
-      replaces = replaces_put A B id text (id ∷ m.below.ids) sets (or_first (same_id id id) (has_id m.below.ids id) (same_self id));
+      replaces = replaces_put A B id text (id ∷ m.below.ids) sets (or_left (same_id id id) (has_id m.below.ids id) (same_self id));
     }
 
 pub put_border : (B : Content) (depth : ℕ) (id : Id) (old new : Changes) → ((q : Id) → same_id q id ≡ false → get new q ≡ get old q) → OnlyBorder B depth id old new
@@ -263,7 +255,7 @@ cut_inner_is {H = H} {a = a} {b = b} {c = c} {d = d} {low = low} {k = k} {n = n}
     let bytes : s.w1 ++ take m s.w2 ≡ take n t.trees.bytes = sym (cut_bytes n m place s fits) in
     let trees : Forest (IsTree P D low) size kept (take n t.trees.bytes) (s.ids1 ++ cut.ids) = subst (λ cs. Forest (IsTree P D low) size cs (take n t.trees.bytes) (s.ids1 ++ cut.ids)) (sym listed) (subst (λ w. Forest (IsTree P D low) size (take k children ++ last ∷ []) w (s.ids1 ++ cut.ids)) bytes all) in
     let outside : has_id (s.ids1 ++ cut.ids) id ≡ false = neither (has_id s.ids1 id) (has_id cut.ids id) (has_id (s.ids1 ++ cut.ids) id) (has-append s.ids1 cut.ids id) none.0 top in
-    let one : Replaces A B (id ∷ (s.ids1 ++ old)) (id ∷ (s.ids1 ++ old)) = replaces_put A B id text (id ∷ (s.ids1 ++ old)) sets (or_first (same_id id id) (has_id (s.ids1 ++ old) id) (same_self id)) in
+    let one : Replaces A B (id ∷ (s.ids1 ++ old)) (id ∷ (s.ids1 ++ old)) = replaces_put A B id text (id ∷ (s.ids1 ++ old)) sets (or_left (same_id id id) (has_id (s.ids1 ++ old) id) (same_self id)) in
     let two : Replaces B D (id ∷ (s.ids1 ++ old)) (id ∷ (s.ids1 ++ cut.ids)) = replace_part B D (id ∷ []) (s.ids1 ++ old) (s.ids1 ++ cut.ids) (replace_part B D s.ids1 old cut.ids later) in
     let whole : Replaces A D (id ∷ (s.ids1 ++ old)) (id ∷ (s.ids1 ++ cut.ids)) = replaces_then A B D (id ∷ (s.ids1 ++ old)) (id ∷ (s.ids1 ++ old)) (id ∷ (s.ids1 ++ cut.ids)) one two in (
       record {
@@ -355,7 +347,7 @@ pub record Apart (root first : Id) (below rest : List Id) : Type 0 where
   pub others : (q : Id) → has_id rest q ≡ true → (has_id (root ∷ below) q ≡ false) × (same_id q first ≡ false)
 
 differ : (xs : List Id) (x q : Id) → has_id xs x ≡ false → has_id xs q ≡ true → same_id q x ≡ false
-differ xs x q none h = absent (same_id q x) (λ same. let bad : false ≡ true = sym none ∙ subst (λ y. has_id xs y ≡ true) (same_id_is q x same) h in cc)
+differ xs x q none h = false_from_ne_true (same_id q x) (λ same. let bad : false ≡ true = sym none ∙ subst (λ y. has_id xs y ≡ true) (same_id_is q x same) h in cc)
 
 pub lower_apart : {S : Type 0} {H : Holdings S} {a : S} {low n : ℕ} {root first : Id} {children : List Id} (t : MayCutTrees H a low root children n) → (s : CutAt (IsTree (H.payload a) (H.content a) low) (span (H.payload a) low) 0 children first t.trees.bytes t.trees.ids) → Apart root first s.tree.below s.ids3
 lower_apart {root = root} {first = first} t s =
@@ -368,7 +360,7 @@ lower_apart {root = root} {first = first} t s =
     record {
       top = none.1;
       own = mine.0;
-      roots = absent (same_id first root) (λ same. let bad : false ≡ true = sym none.0 ∙ (ap (λ x. same_id x first) (sym (same_id_is first root same)) ∙ same_self first) in cc);
+      roots = false_from_ne_true (same_id first root) (λ same. let bad : false ≡ true = sym none.0 ∙ (ap (λ x. same_id x first) (sym (same_id_is first root same)) ∙ same_self first) in cc);
       rests = away.1;
       firsts = mine.1;
       others = λ q h.
@@ -426,7 +418,7 @@ lower_is {H = H} {a = a} {b = b} {c = c} {d = d} {e = e} {low = low} {n = n} {de
       | inl same ↦ subst (λ x. has_id r.ids x ≡ false) (sym (same_id_is q first same)) not_first
       | inr rest ↦ not_rest q rest
     ] in
-    let same : (q : Id) → has_id r.ids q ≡ true → E q ≡ C q = λ q h. gone.kept q (absent (has_id (first ∷ s.ids3) q) (λ in_rest. let bad : false ≡ true = sym (away q in_rest) ∙ h in cc)) refl in
+    let same : (q : Id) → has_id r.ids q ≡ true → E q ≡ C q = λ q h. gone.kept q (false_from_ne_true (has_id (first ∷ s.ids3) q) (λ in_rest. let bad : false ≡ true = sym (away q in_rest) ∙ h in cc)) refl in
     let bytes : take n s.w2 ≡ take n t.trees.bytes = sym (cut_bytes n n (omega arith) s fits ∙ ap (λ xs. xs ++ take n s.w2) s.before.0) in
     let ce : H.payload c ≡ P = sym (de.payload ∙ cd.payload) in
     let tree : IsTree P E depth root (take n s.w2) r.ids = subst (λ p. IsTree p E depth root (take n s.w2) r.ids) ce (tree_frame (H.payload c) C E depth root (take n s.w2) r.ids same r.tree) in

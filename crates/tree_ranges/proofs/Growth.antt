@@ -1,18 +1,20 @@
 -- Trees that stand side by side, the last of them grown, with new ones behind it.
-use Rattle.std.proofs.Common.{◌≡◌, ℕ, zero, suc, ◌+◌, ◌-◌, ◌*◌, ◌<◌, ◌≤◌, ◌^◌, Bool, true, false, cond, List, [], ◌∷◌, ◌++◌, length, take, drop, refl, sym, ◌∙◌, ap, subst, inl, inr, arith, append_assoc, append-nil}
-use Rattle.std.specs.Prelude.{Some, is_some, ◌||◌}
-use Rattle.std.proofs.lemmas.Bool.{cases_lt}
-use Rattle.std.proofs.lemmas.List.{take-append-drop, length-take, length-drop, length-append, take-append-le, drop-append-le, take_all, drop_all, nil_from_length}
+use Rattle.std.proofs.Common.{◌≡◌, ℕ, zero, suc, ◌+◌, ◌-◌, ◌*◌, ◌<◌, ◌≤◌, ◌^◌, true, false, cond, List, [], ◌∷◌, ◌++◌, length, take, drop, refl, sym, ◌∙◌, ap, subst, inl, inr, arith, append_assoc, append-nil}
+use Rattle.std.specs.Prelude.{Some, is_some}
+use Rattle.std.proofs.lemmas.Bool.{cases_lt, false_from_ne_true, or_left}
+use Rattle.std.proofs.lemmas.List.{take-append-drop, length-take, length-drop, length-append, take-append-le, drop-append-le, take_all, drop_all, nil_from_length, take_at, drop_at}
 use Rattle.std.proofs.Math.Seq.{take-append-add}
+use Rattle.block_id.proofs.Options.{none_is}
 use Rattle.data_nodes.specs.Layout.{NodeText, leaf, inner}
 use Rattle.store_api.specs.Content.{Id, Content, same_id}
 use Rattle.store_api.specs.Holdings.{Holdings, Stays, has_id}
+use Rattle.store_api.proofs.Rising.{same_id_is}
 use Rattle.data_tree.specs.Trees.{IsTree, Holds, Forest, span, IsDepth, NoDoubles, Replaces}
 use Rattle.data_tree.specs.Needs.{Sets, SetsNode, HasTree, HasTrees, HasBelow, Keeps, BuiltTrees}
 use Rattle.data_tree.specs.Roots.{IsRoot, IsNewRoot}
-use Rattle.data_tree.proofs.Ids.{in_left, in_right, in_one, not_both, same_id_is, same_self, apart, alone-parts, other}
+use Rattle.data_tree.proofs.Ids.{in_left, in_right, in_one, not_both, same_self, apart, alone-parts, other}
 use Rattle.data_tree.proofs.Changes.{holds_frame, tree_frame, trees_frame}
-use Rattle.data_tree.proofs.Making.{absent, none_some, alone-join, tree_there, trees_there}
+use Rattle.data_tree.proofs.Making.{alone-join, tree_there, trees_there}
 use Rattle.data_tree.proofs.Anew.{replaces_then}
 use Rattle.data_tree.proofs.Forests.{holds-length}
 use Rattle.tree_ranges.specs.Growing.{Grown, GrownTrees}
@@ -32,12 +34,6 @@ pub record Split (T : Id → List ℕ → List Id → Type 0) (size : ℕ) (fron
   pub full : length w1 ≡ length front * size
   pub bytes : w ≡ w1 ++ w2
   pub names : ids ≡ ids1 ++ own
-
-take_front : (size : ℕ) (xs ys : List ℕ) → length xs ≡ size → take size (xs ++ ys) ≡ xs
-take_front size xs ys is = take-append-le size xs ys (omega arith) ∙ take_all size xs (omega arith)
-
-drop_front : (size : ℕ) (xs ys : List ℕ) → length xs ≡ size → drop size (xs ++ ys) ≡ ys
-drop_front size xs ys is = drop-append-le size xs ys (omega arith) ∙ ap (λ zs. zs ++ ys) (drop_all size xs (omega arith))
 
 one_more : (n size : ℕ) → (suc n) * size ≡ n * size + size
 one_more n size = omega arith
@@ -77,8 +73,8 @@ forest_split T size (suc i) (child ∷ children) last w ids positive lt is (some
           (
             s.ids1,
             (
-              subst (λ xs. T child xs own) (sym (take_front size (take size w) s.w1 len)) first,
-              (subst (λ xs. Forest T size (take i children) xs s.ids1) (sym (drop_front size (take size w) s.w1 len)) s.before, refl),
+              subst (λ xs. T child xs own) (sym (take_at (take size w) s.w1 size len)) first,
+              (subst (λ xs. Forest T size (take i children) xs s.ids1) (sym (drop_at (take size w) s.w1 size len)) s.before, refl),
             ),
           ),
         ),
@@ -141,7 +137,7 @@ replace_part A B xs old new r = record {
 
 pub replaces_put : (A B : Content) (id : Id) (text : List ℕ) (ids : List Id) → Sets A B id (Some text) → has_id ids id ≡ true → Replaces A B ids ids
 replaces_put A B id text ids sets among = record {
-  kept = λ q o n. sets q ∙ ap (λ b. cond b (Some text) (A q)) (absent (same_id q id) (λ same. let bad : false ≡ true = sym o ∙ subst (λ x. has_id ids x ≡ true) (sym (same_id_is q id same)) among in cc));
+  kept = λ q o n. sets q ∙ ap (λ b. cond b (Some text) (A q)) (false_from_ne_true (same_id q id) (λ same. let bad : false ≡ true = sym o ∙ subst (λ x. has_id ids x ≡ true) (sym (same_id_is q id same)) among in cc));
   gone = λ q o n. let bad : true ≡ false = sym o ∙ n in absurd (cc);
   came = λ q n. inl n;
 }
@@ -152,12 +148,8 @@ replaces_same A ids = record { kept = λ q o n. refl; gone = λ q o n. let bad :
 -- a block that isn't one of those replaced stays, and isn't one of the new ones
 outside : (A B : Content) (old new : List Id) → Replaces A B old new → (q : Id) → is_some (A q) ≡ true → has_id old q ≡ false → (has_id new q ≡ false) × (B q ≡ A q)
 outside A B old new r q there o =
-    let n = absent (has_id new q) (λ h. elim (r.came q h) [ inl was ↦ let bad : false ≡ true = sym o ∙ was in cc | inr none ↦ none_some (A q) none there ]) in
+    let n = false_from_ne_true (has_id new q) (λ h. elim (r.came q h) [ inl was ↦ let bad : false ≡ true = sym o ∙ was in cc | inr none ↦ none_is (A q) none there ]) in
     (n, r.kept q o n)
-
-or_first : (a b : Bool) → a ≡ true → (a || b) ≡ true
-or_first true b e = refl
-or_first false b e = absurd (cc)
 
 pub split_of : {S : Type 0} {H : Holdings S} {a : S} {low : ℕ} {children : List Id} (i : ℕ) (last : Id) → 0 < span (H.payload a) low → i < length children → drop i children ≡ last ∷ [] → (n : HasTrees H a low children)
     → Split (IsTree (H.payload a) (H.content a) low) (span (H.payload a) low) (take i children) last n.bytes n.ids
@@ -186,7 +178,7 @@ grown_trees {H = H} {a = a} {b = b} {c = c} {d = d} {e = e} {low = low} {front =
     let own_alone : NoDoubles (last ∷ below) = subst NoDoubles s.tree.all (alone-parts s.ids1 s.own apart_ids).1 in
     let one : Replaces A C below g.ids = subst (λ X. Replaces X C below g.ids) ab g.replaces in
     let free = outside A C below g.ids one last (ap is_some s.tree.there) own_alone.0 in
-    let two : Replaces A D (last ∷ below) grown = replaces_then A C D (last ∷ below) grown grown (replace_part A C (last ∷ []) below g.ids one) (replaces_put C D last text grown sets (or_first (same_id last last) (has_id g.ids last) (same_self last))) in
+    let two : Replaces A D (last ∷ below) grown = replaces_then A C D (last ∷ below) grown grown (replace_part A C (last ∷ []) below g.ids one) (replaces_put C D last text grown sets (or_left (same_id last last) (has_id g.ids last) (same_self last))) in
     let put : IsTree P D low last w2 grown = record {
       text = text;
       node = node;
@@ -255,7 +247,7 @@ root_grown {H = H} {a = a} {b = b} {c = c} {d = d} {root = root} {node = node} {
     let both : NoDoubles (root ∷ n.tree.below) = subst NoDoubles n.tree.all n.alone in
     let free = outside A C n.tree.below g.ids one root (ap is_some n.tree.there) both.0 in
     let grown = root ∷ g.ids in
-    let whole : Replaces A D (root ∷ n.tree.below) grown = replaces_then A C D (root ∷ n.tree.below) grown grown (replace_part A C (root ∷ []) n.tree.below g.ids one) (replaces_put C D root text grown sets (or_first (same_id root root) (has_id g.ids root) (same_self root))) in
+    let whole : Replaces A D (root ∷ n.tree.below) grown = replaces_then A C D (root ∷ n.tree.below) grown grown (replace_part A C (root ∷ []) n.tree.below g.ids one) (replaces_put C D root text grown sets (or_left (same_id root root) (has_id g.ids root) (same_self root))) in
     record {
       ids = grown;
       depth = depth;

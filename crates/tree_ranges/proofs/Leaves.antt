@@ -1,17 +1,20 @@
 -- The leaf at a place of a tree, in one content and in another.
 use Rattle.std.proofs.Common.{◌≡◌, ◌⊎◌, ℕ, zero, suc, ◌+◌, ◌-◌, ◌*◌, ◌/◌, ◌%◌, ◌<◌, ◌≤◌, Bool, true, false, List, [], ◌∷◌, length, take, drop, get_or, refl, sym, ◌∙◌, ap, subst, inl, inr, arith}
-use Rattle.std.specs.Prelude.{Some, ◌||◌}
+use Rattle.std.specs.Prelude.{Some}
 use Rattle.std.specs.FinMap.{get}
 use Rattle.std.proofs.lemmas.List.{length-take, length-drop, get_or-drop}
 use Rattle.std.proofs.lemmas.Nat.{div-mul-add, mod-mul-add}
 use Rattle.std.proofs.Math.Nat.{div-add-mod', mod-lt}
 use Rattle.std.specs.Prelude.{min}
+use Rattle.std.proofs.lemmas.Bool.{or_left, or_right}
+use Rattle.std.proofs.lemmas.Option.{same_Some}
 use Rattle.data_nodes.specs.Layout.{leaf, inner, IsNode}
 use Rattle.store_api.specs.Content.{Id, Content, Changes, same_id}
 use Rattle.store_api.specs.Holdings.{Holdings, Stays, has_id}
+use Rattle.store_api.proofs.Rising.{same_id_is}
 use Rattle.data_tree.specs.Trees.{IsTree, Forest, span}
 use Rattle.data_nodes.proofs.Laws.{one_node}
-use Rattle.data_tree.proofs.Ids.{in_left, in_right, same_id_is, same_self}
+use Rattle.data_tree.proofs.Ids.{in_left, in_right, same_self}
 use Rattle.data_tree.proofs.Levels.{span-some}
 use Rattle.tree_ranges.specs.Border.{LeafAt, LeafAmong, OnlyLeaves, OnlyAmong}
 
@@ -53,17 +56,6 @@ tree_at T size (child ∷ children) (suc i) place w ids small lies (some, (own, 
       among = λ q h. subst (λ xs. has_id xs q ≡ true) (sym all) (in_right own rest q (more.among q h));
     }
 
-or_first : (a b : Bool) → a ≡ true → (a || b) ≡ true
-or_first true b e = refl
-or_first false b e = absurd (cc)
-
-or_second : (a b : Bool) → b ≡ true → (a || b) ≡ true
-or_second true b e = refl
-or_second false b e = e
-
-some_is : {X : Type 0} {x y : X} → Some x ≡ Some y → x ≡ y
-some_is e = cc
-
 -- the block at a place of a tree holds a leaf, whose id is one of the tree's; where the blocks are the same, it is the leaf there, too
 pub record IsLeafOf (payload : ℕ) (A B : Content) (depth : ℕ) (id : Id) (ids : List Id) (place : ℕ) (q : Id) : Type 0 where
   pub at : LeafAt payload A depth id place q
@@ -77,7 +69,7 @@ pub leaf_of : (payload : ℕ) (A B : Content) (depth : ℕ) (id : Id) (w : List 
     → LeafAt payload B depth id place q → IsLeafOf payload A B depth id ids place q
 leaf_of payload A B zero id w ids place q least n same lies at = record {
   at = at;
-  among = subst (λ xs. has_id xs q ≡ true) (sym n.all) (or_first (same_id q id) (has_id n.below q) (subst (λ x. same_id q x ≡ true) at (same_self q)));
+  among = subst (λ xs. has_id xs q ≡ true) (sym n.all) (or_left (same_id q id) (has_id n.below q) (subst (λ x. same_id q x ≡ true) at (same_self q)));
   text = n.text;
   bytes = w;
   there = subst (λ x. B x ≡ Some n.text) (sym at) n.there;
@@ -86,13 +78,13 @@ leaf_of payload A B zero id w ids place q least n same lies at = record {
 leaf_of payload A B (suc depth) id w ids place q least n same lies (text, (children, (there, (is, sub)))) =
     let size = span payload depth in
     let positive : 0 < size = span-some payload depth least in
-    let texts : text ≡ n.text = some_is (sym there ∙ n.there) in
+    let texts : text ≡ n.text = same_Some _ _ (sym there ∙ n.there) in
     let node : inner (suc depth) children ≡ inner (suc depth) n.holds.0 = one_node text (inner (suc depth) children) (inner (suc depth) n.holds.0) is (subst (λ t. IsNode t (inner (suc depth) n.holds.0)) (sym texts) (subst (IsNode n.text) n.holds.1.0 n.is)) in
     let listed : n.holds.0 ≡ children = cc in
     let whole : place / size * size + place % size ≡ place = div-add-mod' place size in
     let found = tree_at (IsTree payload B depth) size children (place / size) (place % size) w n.below (mod-lt place positive) (omega (arith, whole)) (subst (λ cs. Forest (IsTree payload B depth) size cs w n.below) listed n.holds.1.1) in
-    let here : (p : Id) → has_id n.below p ≡ true → has_id ids p ≡ true = λ p h. subst (λ xs. has_id xs p ≡ true) (sym n.all) (or_second (same_id p id) (has_id n.below p) h) in
-    let root : has_id ids id ≡ true = subst (λ xs. has_id xs id ≡ true) (sym n.all) (or_first (same_id id id) (has_id n.below id) (same_self id)) in
+    let here : (p : Id) → has_id n.below p ≡ true → has_id ids p ≡ true = λ p h. subst (λ xs. has_id xs p ≡ true) (sym n.all) (or_right (same_id p id) (has_id n.below p) h) in
+    let root : has_id ids id ≡ true = subst (λ xs. has_id xs id ≡ true) (sym n.all) (or_left (same_id id id) (has_id n.below id) (same_self id)) in
     let below = leaf_of payload A B depth (get_or children (place / size) []) found.piece found.own (place % size) q least found.tree (λ p h. same p (here p (found.among p h))) found.inside sub in
     record {
       at = (text, (children, (same id root ∙ there, (is, below.at))));

@@ -1,7 +1,7 @@
 -- Bytes that are written inside a list, piece by piece, and the trees that hold them.
 use Rattle.std.proofs.Common.{◌≡◌, ℕ, zero, suc, ◌+◌, ◌-◌, ◌*◌, ◌<◌, ◌≤◌, true, false, cond, List, [], ◌∷◌, ◌++◌, length, take, drop, refl, sym, ◌∙◌, ap, subst, inl, inr, arith, append_assoc, append-nil}
 use Rattle.std.specs.Prelude.{Option, Some, min}
-use Rattle.std.proofs.lemmas.Bool.{cases_lt}
+use Rattle.std.proofs.lemmas.Bool.{cases_lt, or_parts}
 use Rattle.std.proofs.lemmas.List.{take-append-drop, length-take, length-drop, length-append, take-append-le, drop-append-le, drop_all, nil_from_length}
 use Rattle.std.proofs.Math.Seq.{take-append-add, drop-append-add}
 use Rattle.data_nodes.specs.Layout.{NodeText, leaf, inner, IsNode}
@@ -12,7 +12,7 @@ use Rattle.data_tree.specs.Needs.{Sets, HasTree, HasTrees, Keeps}
 use Rattle.tree_ranges.specs.Writing.{MayWrite, Wrote, WroteTrees, WriteRest, written_at}
 use Rattle.data_tree.proofs.Ids.{in_left, not_both, same_self, alone-parts, apart, apart_right}
 use Rattle.data_tree.proofs.Changes.{trees_frame}
-use Rattle.data_tree.proofs.Making.{forest_more, or_parts}
+use Rattle.data_tree.proofs.Making.{forest_more, full_next}
 use Rattle.data_tree.proofs.Forests.{moved}
 
 pub written_none : (from : ℕ) (piece w : List ℕ) → length piece ≡ 0 → written_at from piece w ≡ w
@@ -228,9 +228,6 @@ left_kept {H = H} {s = s} {depth = depth} child rest alone is r q h =
     let left : has_id r.ids_left q ≡ true = subst (λ xs. has_id xs q ≡ true) (sym f.parts) (in_left f.own f.after q h) in
     sym (r.kept q (apart_right r.ids_done r.ids_left (subst NoDoubles r.parts alone) q left))
 
-full_more : (l p n m x y : ℕ) → l ≡ n * x → p ≡ x → m ≡ n + 1 → x ≡ y → l + p ≡ m * y
-full_more l p n m x y so_far full more same = subst (λ k. l + p ≡ m * k) same (subst (λ k. l + p ≡ k * x) (sym more) (omega arith))
-
 pub write_next : {S : Type 0} {H : Holdings S} {a s t : S} {depth : ℕ} {passed children : List Id} {place : ℕ} {bytes all : List ℕ} {ids : List Id} (child : Id) (rest more : List Id) (size m place2 : ℕ) (now later : List ℕ) → (positive : 0 < span (H.payload s) depth) → (told : H.told s ≡ true) → (alone : NoDoubles ids)
     → (is : children ≡ child ∷ rest) → (sized : size ≡ span (H.payload s) depth) → (cut : m ≡ min (size - place) (length bytes)) → (front : now ≡ take m bytes) → (back : later ≡ drop m bytes) → (r : WriteRest H a s depth passed children place bytes all ids)
     → place2 ≡ place - size → more ≡ passed ++ child ∷ [] → Keeps H s t
@@ -263,7 +260,7 @@ write_next {H = H} {a = a} {s = s} {t = t} {depth = depth} {passed = passed} {pl
       joined = subst (λ k. (r.done ++ piece) ++ written_at k later (drop x r.left) ≡ all) place_is
           (append_assoc r.done piece (written_at (place - x) later (drop x r.left)) ∙ ap (λ xs. r.done ++ xs) (sym step.0) ∙ r.joined);
       inside = λ some. subst (λ k. k + length later ≤ length (drop x r.left)) place_is (step.1.1 some);
-      full = λ some. length-append r.done piece ∙ full_more (length r.done) (length piece) (length passed) (length more) x (span (H.payload t) depth) here (omega (arith, len, some, length-take x r.left, length-drop x r.left))
+      full = λ some. length-append r.done piece ∙ full_next (length r.done) (length piece) (length passed) (length more) x (span (H.payload t) depth) here (omega (arith, len, some, length-take x r.left, length-drop x r.left))
           (ap length grown ∙ length-append passed (child ∷ [])) (ap (λ p. span p depth) same);
       trees_done = subst (λ p. Forest (IsTree (H.payload t) (H.content t) depth) (span p depth) more (r.done ++ piece) (r.ids_done ++ f.own)) same
           (subst (λ cs. Forest (IsTree (H.payload t) (H.content t) depth) x cs (r.done ++ piece) (r.ids_done ++ f.own)) (sym grown) both);

@@ -1,21 +1,22 @@
 -- A full node that moves under a new id, with new trees beside it.
 use Rattle.std.proofs.Common.{◌≡◌, ℕ, zero, suc, ◌+◌, ◌-◌, ◌*◌, ◌<◌, ◌≤◌, ◌^◌, true, false, cond, List, [], ◌∷◌, ◌++◌, length, take, drop, refl, sym, ◌∙◌, ap, subst, inl, inr, arith, append_assoc, append-nil}
 use Rattle.std.specs.Prelude.{Some, None, min}
-use Rattle.std.proofs.lemmas.Bool.{cases_lt}
+use Rattle.std.proofs.lemmas.Bool.{cases_lt, or_cases, or_parts}
 use Rattle.std.proofs.lemmas.List.{take-append-drop, length-append, length-take, length-drop, take_all, drop_all, nil_from_length}
 use Rattle.std.proofs.Math.Nat.{mul-le-mul_right}
 use Rattle.std.proofs.Math.Pow.{pow-lt}
 use Rattle.data_nodes.specs.Layout.{NodeText, inner, FitsPayload, fan_out}
 use Rattle.store_api.specs.Content.{Id, Content, same_id}
 use Rattle.store_api.specs.Holdings.{Holdings, Stays, has_id}
+use Rattle.store_api.proofs.Rising.{same_id_is}
 use Rattle.data_tree.specs.Trees.{IsTree, Holds, Forest, IsDepth, span, NoDoubles, Replaces}
 use Rattle.data_tree.specs.Needs.{Sets, SetsNode, Keeps, BuiltTrees}
 use Rattle.data_tree.proofs.Anew.{came_none, replaces_then}
 use Rattle.data_tree.proofs.Forests.{holds-fits}
 use Rattle.data_tree.proofs.Changes.{holds_frame, tree_frame}
-use Rattle.data_tree.proofs.Ids.{other, same_id_is, same_self}
+use Rattle.data_tree.proofs.Ids.{other, same_self}
 use Rattle.data_tree.proofs.Levels.{span-some}
-use Rattle.data_tree.proofs.Making.{alone-join, holds_there, tree_there, not_among, or_parts, or_cases}
+use Rattle.data_tree.proofs.Making.{alone-join, holds_there, tree_there, not_among}
 use Rattle.tree_ranges.specs.Growing.{Grown, MayRaise, Raised}
 use Rattle.tree_ranges.specs.Ranges.{GrowsTo}
 use Rattle.tree_ranges.proofs.Growth.{forest_join, replace_part, replaces_same}

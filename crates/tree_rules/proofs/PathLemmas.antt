@@ -4,7 +4,7 @@ use Rattle.std.proofs.lemmas.List.{take_more, reverse-append, length-reverse, ta
 use Rattle.std.specs.declared.cmp.Ordering.TheVariants.{Greater}
 use Rattle.fs_model.specs.Tree.{Path, upward, parent, last_name, path_cmp, is_root}
 
-names_more : (ns : List (List ℕ)) (i : ℕ) (d : List ℕ) → i < length ns → upward (take (i + 1) ns) ≡ get_or ns i d ∷ upward (take i ns)
+pub names_more : (ns : List (List ℕ)) (i : ℕ) (d : List ℕ) → i < length ns → upward (take (i + 1) ns) ≡ get_or ns i d ∷ upward (take i ns)
 names_more ns i d lt = ap upward (take_more ns i d lt) ∙ reverse-append (take i ns) (get_or ns i d ∷ [])
 
 cmp_none : (zs : Path) → 0 < length zs → path_cmp zs [] ≡ Greater

@@ -36,13 +36,10 @@ no_dots letter [] low = ne_eqb letter 46 (λ e. omega arith)
 no_dots letter (a ∷ []) low = and_left _ _ (ne_eqb letter 46 (λ e. omega arith))
 no_dots letter (a ∷ b ∷ ds) low = refl
 
-short_digits : (n : ℕ) → n < 2 ^ 64 → length (decimal n) ≤ 20
-short_digits n fits = length-decimal-le 20 n (omega arith) (omega arith) fits
-
 pub IsName-numbered : (letter n : ℕ) → 97 ≤ letter → n < 2 ^ 64 → IsName (numbered letter n)
 IsName-numbered letter n low fits =
     let digits = (decimal_is_IsNumeral n fits).0.1 in
-    let short = short_digits n fits in
+    let short = length-decimal-le 20 n (omega arith) (omega arith) fits in
     let text = numbered letter n in
     and_from _ _ (lt-ltb 0 (length text) (omega arith)) (and_from _ _ (le-leb (length text) MAX_NAME (omega arith))
     (and_from _ _ (not_from_false _ (or_from (is_reserved letter) (list_any is_reserved (decimal n)) (free_above letter (omega arith)) (free_digits (decimal n) digits)))
@@ -51,7 +48,7 @@ IsName-numbered letter n low fits =
 pub is_target-numbered : (letter n : ℕ) → 97 ≤ letter → n < 2 ^ 64 → is_target (numbered letter n) ≡ true
 is_target-numbered letter n low fits =
     let digits = (decimal_is_IsNumeral n fits).0.1 in
-    let short = short_digits n fits in
+    let short = length-decimal-le 20 n (omega arith) (omega arith) fits in
     let text = numbered letter n in
     and_from _ _ (lt-ltb 0 (length text) (omega arith)) (and_from _ _ (le-leb (length text) MAX_TARGET (omega arith))
     (not_from_false _ (or_from (is_zero letter) (list_any is_zero (decimal n)) (zero_above letter (omega arith)) (zero_digits (decimal n) digits))))

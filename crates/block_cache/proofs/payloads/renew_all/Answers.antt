@@ -1,6 +1,7 @@
 use Rattle.std.proofs.Common.{◌+◌, drop, subst}
 use Rattle.store_api.specs.Entries.{entries_of, entry_view}
-use Rattle.block_cache.proofs.Renewing.{Renewing, renewing-start, renewing-step, next_change}
+use Rattle.store_api.proofs.Rising.{turn}
+use Rattle.block_cache.proofs.Renewing.{Renewing, renewing-start, renewing-step}
 use Rattle.block_cache.proofs.payloads.renew_all.Goals as goal
 
 pub loop-entry-init : goal.loop-entry-init
@@ -11,5 +12,5 @@ loop-entry-preserved c =
     let entries = c.entries-entry-items.result.now in
     let i = c.loop-entry.entry-index in
     renewing-step c.args.batch.now (entry_view c.entry-item.result) (drop (i + 1) (entries_of entries)) c.args.payloads.now c.loop-entry.payloads c.renew.new.payloads
-    (subst (λ rest. Renewing c.args.batch.now rest c.args.payloads.now c.loop-entry.payloads) (next_change entries i c.entry-item.result c.loop-entry-test.true c.entry-item.is) c.loop-entry.invariant)
+    (subst (λ rest. Renewing c.args.batch.now rest c.args.payloads.now c.loop-entry.payloads) (turn entries i c.entry-item.result c.loop-entry-test.true c.entry-item.is) c.loop-entry.invariant)
     c.renew.ensures.renewed c.renew.ensures.capacity

@@ -6,8 +6,8 @@ use Rattle.local_state.specs.declared.mark.Mark.{Mark}
 use Rattle.local_state.specs.Known.{Marks}
 use Rattle.store_api.specs.declared.batch.BatchChange.{BatchChange}
 use Rattle.store_api.specs.Entries.{entries_of}
+use Rattle.store_api.proofs.Rising.{turn}
 use Rattle.integrity_store.specs.Marking.{one_if_new, count_new_in}
-use Rattle.integrity_store.proofs.Sorted.{turn}
 use Rattle.integrity_store.proofs.marking.count_new.Goals as goal
 use Rattle.integrity_store.proofs.marking.count_new.Goals.{then-not-is_used, else-not-is_used}
 

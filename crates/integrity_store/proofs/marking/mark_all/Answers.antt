@@ -1,8 +1,8 @@
 use Rattle.std.proofs.Common.{◌≡◌, ◌+◌, drop, sym, ◌∙◌, ap, subst, arith}
 use Rattle.std.specs.FinMap as fin
 use Rattle.store_api.specs.Entries.{entry_view, entries_of}
+use Rattle.store_api.proofs.Rising.{turn}
 use Rattle.integrity_store.specs.Marking.{one_if_new, mark_one, mark_each, MayMarkEach, count_new_each}
-use Rattle.integrity_store.proofs.Sorted.{turn}
 use Rattle.integrity_store.proofs.marking.mark_all.Goals as goal
 
 pub mark-requires-clause-may : goal.mark-requires-clause-may

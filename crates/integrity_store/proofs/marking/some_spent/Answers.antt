@@ -5,8 +5,8 @@ use Rattle.block_id.specs.declared.id.BlockId.{BlockId}
 use Rattle.local_state.specs.Known.{Marks}
 use Rattle.store_api.specs.declared.batch.BatchChange.{BatchChange}
 use Rattle.store_api.specs.Entries.{entries_of, change_view}
+use Rattle.store_api.proofs.Rising.{turn}
 use Rattle.integrity_store.specs.Marking.{is_spent_at, some_spent_in}
-use Rattle.integrity_store.proofs.Sorted.{turn}
 use Rattle.integrity_store.proofs.marking.some_spent.Goals as goal
 
 -- this entry, or one of those to come

@@ -1,7 +1,8 @@
 use Rattle.std.proofs.Common.{sym, ◌∙◌, arith}
 use Rattle.std.specs.FinMap as fin
 use Rattle.store_api.specs.Holdings.{is_free}
-use Rattle.map_store.proofs.Crowds.{ends_free, passed-none, passed-next, passed-smaller}
+use Rattle.store_api.proofs.Crowds.{passed-none, passed-next}
+use Rattle.map_store.proofs.Crowds.{ends_free, passed-smaller}
 use Rattle.map_store.proofs.rows.first_free.Goals as goal
 
 pub returns-then-is_unused : goal.returns-then-is_unused

@@ -10,8 +10,8 @@ use Rattle.fs_model.proofs.LookUpLemmas.{look-found}
 use Rattle.path_layer.proofs.Told.{stays, told_as}
 use Rattle.path_layer.proofs.Seeing.{found, vacant, lost, look_found, look_free, look_lost, on_path, finding}
 use Rattle.std.proofs.Common.{◌≤◌, arith}
+use Rattle.std.proofs.lemmas.Option.{same_Some}
 use Rattle.fs_model.specs.Tree.{directory_size, parent}
-use Rattle.forest.proofs.Forests.{some_is}
 use Rattle.path_layer.proofs.Spared.{unspent, onward}
 use Rattle.path_layer.proofs.content.write.Goals as goal
 
@@ -71,6 +71,6 @@ returns-in-Found-clause-sparing g c = λ n s f row there file.
     let h = look_at.outcome.value n s one in
     let is = found n.tree n.ids d k c.in_ok-dir-in-Some.field-0 h.1 c.in-Found.dir c.in-Found.place c.in-Found.is in
     onward g.met.B.Blobs.steady c.args.b.now c.look_at.new.b c.write_found.new.b look_at.outcome.loaded look_at.unchanged _ _ _ _ _ _
-    (ap (λ (r : Row). length r.bytes) (some_is (sym is.here.there ∙ (ap (get n.tree) (sym c.in-Some.ensures) ∙ there))))
+    (ap (λ (r : Row). length r.bytes) (same_Some _ _ (sym is.here.there ∙ (ap (get n.tree) (sym c.in-Some.ensures) ∙ there))))
     (ap (λ z. directory_size n.tree (parent z)) (sym c.in-Some.ensures))
     (c.write_found.ensures.sparing (finding n c.look_at.new.b h.0 d k c.in-Found.dir c.in-Found.place is) (look_at.outcome.sound s one) two)

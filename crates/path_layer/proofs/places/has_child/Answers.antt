@@ -2,10 +2,10 @@ use Rattle.std.proofs.Common.{◌∙◌, ap}
 use Rattle.std.specs.Prelude.{nat_lt}
 use Rattle.std.proofs.lemmas.Result.{err_from_is_err_and}
 use Rattle.outcome.specs.Outcome.{first_, passed, answered}
+use Rattle.fs_model.proofs.SizeLemmas.{has_child-size}
 use Rattle.dir_blob.proofs.Needs.{blob_of}
 use Rattle.path_walks.proofs.Nodes.{size_at}
 use Rattle.path_walks.proofs.Steps.{directory_seen, folder_is}
-use Rattle.path_layer.proofs.Blobs.{sized_child}
 use Rattle.path_layer.proofs.places.has_child.Goals as goal
 
 pub returns-in_err-body_len-clause-outcome : goal.returns-in_err-body_len-clause-outcome
@@ -16,4 +16,4 @@ returns-in_err-body_len-clause-outcome g c =
 pub returns-clause-outcome : goal.returns-clause-outcome
 returns-clause-outcome g c =
     answered (first_ (λ w. blob_of (directory_seen w.shows w.stands w.path c.args.place.now w.at w.folder)) c.in_ok-body_len.ensures.outcome (λ w y h. h))
-    (λ w h. (h.0, ap (nat_lt 0) (h.1 ∙ size_at w.shows w.path w.at.row w.at.there (folder_is w.tree w.ids w.path c.args.place.now w.at w.folder)) ∙ sized_child w.tree w.path))
+    (λ w h. (h.0, ap (nat_lt 0) (h.1 ∙ size_at w.shows w.path w.at.row w.at.there (folder_is w.tree w.ids w.path c.args.place.now w.at w.folder)) ∙ has_child-size w.tree w.path))

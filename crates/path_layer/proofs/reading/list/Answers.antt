@@ -6,8 +6,9 @@ use Rattle.fs_model.specs.LookUp.{look}
 use Rattle.fs_model.specs.Step.{listed}
 use Rattle.fs_model.proofs.LookUpLemmas.{look-found}
 use Rattle.fs_model.proofs.WellFormedStep.{listed_stays}
+use Rattle.path_walks.proofs.Steps.{wrong_here}
 use Rattle.path_layer.proofs.Told.{stays, looked}
-use Rattle.path_layer.proofs.Seeing.{here, wrong, wrong_steps, in_folder}
+use Rattle.path_layer.proofs.Seeing.{here, wrong_steps, in_folder}
 use Rattle.path_layer.proofs.Steps.{list_refused}
 use Rattle.path_layer.proofs.reading.list.Goals as goal
 
@@ -40,4 +41,4 @@ returns-in-Wrong-clause-outcome g c =
     let p = upward c.args.names.now in
     answered c.in_ok-place.ensures.outcome (λ n h.
     stays n.map n.tree n.ids n.shows c.walk.new.b h.0 _ _
-    (wrong_steps n.tree n.shows.well_formed.rooted p c.in-Wrong.error (wrong n.tree n.ids p c.in_ok-place.field-0 h.1 c.in-Wrong.error c.in-Wrong.is) (listed n.tree p) refl (λ x. refl)))
+    (wrong_steps n.tree n.shows.well_formed.rooted p c.in-Wrong.error (wrong_here n.tree n.ids p c.in_ok-place.field-0 h.1 c.in-Wrong.error c.in-Wrong.is) (listed n.tree p) refl (λ x. refl)))

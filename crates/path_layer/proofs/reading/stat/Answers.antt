@@ -7,8 +7,9 @@ use Rattle.fs_model.specs.LookUp.{look}
 use Rattle.fs_model.specs.Step as model
 use Rattle.fs_model.proofs.LookUpLemmas.{look-found}
 use Rattle.forest.specs.Showing.{Showing, Performed}
+use Rattle.path_walks.proofs.Steps.{wrong_here}
 use Rattle.path_layer.proofs.Told.{stays}
-use Rattle.path_layer.proofs.Seeing.{here, wrong, wrong_steps, standing}
+use Rattle.path_layer.proofs.Seeing.{here, wrong_steps, standing}
 use Rattle.path_layer.proofs.Steps.{told_by}
 use Rattle.path_layer.proofs.reading.stat.Goals as goal
 
@@ -39,4 +40,4 @@ returns-in-Wrong-clause-outcome g c =
     let p = upward c.args.names.now in
     answered c.in_ok-place.ensures.outcome (λ n h.
     stays n.map n.tree n.ids n.shows c.walk.new.b h.0 _ _
-    (wrong_steps n.tree n.shows.well_formed.rooted p c.in-Wrong.error (wrong n.tree n.ids p c.in_ok-place.field-0 h.1 c.in-Wrong.error c.in-Wrong.is) (model.told n.tree) refl (λ x. refl)))
+    (wrong_steps n.tree n.shows.well_formed.rooted p c.in-Wrong.error (wrong_here n.tree n.ids p c.in_ok-place.field-0 h.1 c.in-Wrong.error c.in-Wrong.is) (model.told n.tree) refl (λ x. refl)))

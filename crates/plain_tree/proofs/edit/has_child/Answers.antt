@@ -1,7 +1,7 @@
 use Rattle.std.proofs.Common.{◌∙◌, ap}
 use Rattle.std.specs.Prelude.{nat_lt}
 use Rattle.fs_model.specs.Tree.{upward}
-use Rattle.plain_tree.proofs.StepLemmas.{has_child-size}
+use Rattle.fs_model.proofs.SizeLemmas.{has_child-size}
 use Rattle.plain_tree.proofs.edit.has_child.Goals as goal
 
 pub returns : goal.returns
