@@ -2,3 +2,4 @@ pub mod Trees
 pub mod Roots
 pub mod Stored
 pub mod Needs
+pub mod Border

@@ -13,10 +13,10 @@ use Rattle.data_tree.proofs.Forests.{moved}
 use Rattle.data_tree.specs.Needs.{HasTree, Keeps}
 use Rattle.data_tree.specs.Roots.{IsRoot, IsNewRoot}
 use Rattle.data_tree.proofs.Loads.{tx_holdings, holds-depth}
-use Rattle.tree_ranges.specs.Border.{OnlyLeaves}
-use Rattle.tree_ranges.specs.Writing.{Wrote, written_at}
-use Rattle.tree_ranges.proofs.Leaves.{leaf_of}
-use Rattle.tree_ranges.proofs.Overwriting.{length-written}
+use Rattle.tree_writing.proofs.Leaves.{leaf_of}
+use Rattle.tree_writing.proofs.Overwriting.{length-written}
+use Rattle.tree_writing.specs.Leaves.{OnlyLeaves}
+use Rattle.tree_writing.specs.Writing.{Wrote, written_at}
 
 pub root_depth : {S : Type 0} {H : Holdings S} {a : S} {id : Id} (node : NodeText) (depth : ℕ) → (n : IsRoot H a id) → node ≡ n.tree.node → depth_in node ≡ depth → n.depth ≡ depth
 root_depth {H = H} {a = a} node depth n is level = sym (holds-depth (H.payload a) (H.content a) n.depth n.tree.node n.bytes n.tree.below n.tree.holds) ∙ ap depth_in (sym is) ∙ level

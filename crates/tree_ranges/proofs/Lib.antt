@@ -1,8 +1,3 @@
-pub mod Overwriting
-pub mod Costs
-pub mod Leaves
 pub mod Inside
-pub mod Growth
+pub mod Roots
 pub mod Borders
-pub mod Rising
-pub mod Cuts

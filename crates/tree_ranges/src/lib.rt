@@ -2,12 +2,8 @@
 //! the right border and adds new blocks, and cutting drops blocks and changes the right border that stays.
 #![tactic(auto)]
 
-mod cutting;
-mod growing;
 mod over;
-mod raising;
 mod ranges;
-mod writing;
 
 pub use ranges::{resize, write_range};
 

@@ -7,17 +7,17 @@ ghost use Rattle.store_api.specs.Content.{Id};
 ghost use Rattle.store_api.specs.Holdings.{Stays};
 ghost use Rattle.data_tree.specs.Roots.{IsRoot, IsNewRoot};
 ghost use Rattle.data_tree.specs.Trees.{span};
-ghost use Rattle.tree_ranges.specs.Border.{Grew, OnBorder};
+ghost use Rattle.tree_ranges.specs.Border.{Grew};
+ghost use Rattle.data_tree.specs.Border.{OnBorder};
 ghost use Rattle.tree_ranges.specs.Ranges.{GrowsTo, IsOpened};
 
-use crate::growing::grown_node;
-use crate::raising::raised;
-use crate::writing::write_below;
 use block_id::{BlockId, Fail, Memory, Why};
 use data_tree::{Level, load_root, put_node};
 use rand_core::Rng;
 use std::alloc::Global;
 use store_api::{Blocks, Tx};
+use tree_growing::{grown_node, raised};
+use tree_writing::write_below;
 
 // Appends bytes, so that the tree has n of them. Its depth rises where n needs it.
 pub(crate) fn append<S: Blocks, R: Rng>(

@@ -8,18 +8,19 @@ ghost use Rattle.store_api.specs.Holdings.{Stays};
 ghost use Rattle.data_nodes.specs.Layout.{room, node_of, FitsPayload};
 ghost use Rattle.data_tree.specs.Roots.{IsRoot, IsNewRoot, IsTooDeep};
 ghost use Rattle.data_tree.specs.Trees.{IsDepth, span, depth_in};
-ghost use Rattle.tree_ranges.specs.Border.{Grew, OnlyLeaves, Shrank};
+ghost use Rattle.tree_ranges.specs.Border.{Grew, Shrank};
+ghost use Rattle.tree_writing.specs.Leaves.{OnlyLeaves};
 ghost use Rattle.tree_ranges.specs.Ranges.{HasAtLeast, IsInside, IsPast};
 
-use crate::cutting::cut_root;
 use crate::over::{after_zeros, append, write_over};
-use crate::writing::write_in;
 use block_id::{BlockId, Fail};
 use data_nodes::Node;
 use data_tree::{Level, len_in, level_for, load_root};
 use rand_core::Rng;
 use std::alloc::Global;
 use store_api::{Blocks, Tx};
+use tree_cutting::cut_root;
+use tree_writing::write_in;
 
 // The root's node with its level, and how many bytes the tree has.
 fn open_root<S: Blocks>(

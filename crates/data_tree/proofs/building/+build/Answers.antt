@@ -2,13 +2,13 @@ use Rattle.std.proofs.Common.{◌≡◌, sym, ◌∙◌, ap, subst, [], ◌∷�
 use Rattle.std.specs.Prelude.{min}
 use Rattle.std.proofs.lemmas.List.{length-append}
 use Rattle.block_id.specs.declared.id.BlockId.{BlockId}
-use Rattle.data_nodes.specs.Layout.{ids_of}
+use Rattle.data_nodes.specs.Layout.{ids_of, fan_out}
 use Rattle.data_tree.specs.Trees.{span}
 use Rattle.data_tree.specs.Needs.{BuildRest}
 use Rattle.data_tree.proofs.Loads.{tx_holdings}
 use Rattle.data_tree.proofs.Puts.{if_ok_both, keeps_same, kept_put}
 use Rattle.data_tree.proofs.Making.{tree_made, build_start, build_next, built_inner, pushed}
-use Rattle.data_tree.proofs.Counting.{not_zero, count_whole, count_below, next_whole, next_below}
+use Rattle.data_tree.proofs.Counting.{not_zero, count_few, count_whole, count_below, next_whole, next_below}
 use Rattle.data_tree.proofs.building.+build.Goals as goal
 
 pub build-returns-in-Ok-build_children-clause-built : goal.build-returns-in-Ok-build_children-clause-built
@@ -66,3 +66,18 @@ build_children-loop-rest-preserved g t c =
 
 pub new_below-returns-in-Ok-clause-kept : goal.new_below-returns-in-Ok-clause-kept
 new_below-returns-in-Ok-clause-kept g t c = kept_put g.S.Blocks.holdings c.args.tx.now c.build.new.tx c.put_new.new.tx c.build.ensures.there c.build.ensures.kept c.put_new.ensures.kept
+
+pub build_children-returns-clause-under : goal.build_children-returns-clause-under
+build_children-returns-clause-under g t c = c.loop-rest.invariant.under
+
+pub build_children-returns-clause-few : goal.build_children-returns-clause-few
+build_children-returns-clause-few g t c = count_few (length c.loop-rest.children.items) c.args.level.room (length c.args.bytes.now) (fan_out (g.S.Blocks.holdings.payload c.args.tx.now.store)) c.loop-rest.invariant.under c.requires.fits
+
+pub build_children-split_at-requires : goal.build_children-split_at-requires
+build_children-split_at-requires g t c = omega (arith, c.min.ensures)
+
+pub build_children-returns-in-Err-clause-there : goal.build_children-returns-in-Err-clause-there
+build_children-returns-in-Err-clause-there g t c = λ q h. c.new_below.ensures.there q (c.loop-rest.invariant.there q h)
+
+pub build_children-returns-in-Err-clause-kept : goal.build_children-returns-in-Err-clause-kept
+build_children-returns-in-Err-clause-kept g t c = kept_put g.S.Blocks.holdings c.args.tx.now c.loop-rest.tx c.new_below.new.tx c.loop-rest.invariant.there c.loop-rest.invariant.kept c.new_below.ensures.kept

@@ -8,13 +8,14 @@ use Rattle.data_tree.proofs.Changes.{keeps-then}
 use Rattle.data_tree.proofs.Loads.{store_in, changes_in, tx_holdings, tx_laws}
 use Rattle.data_tree.proofs.Forests.{below_on, below_root}
 use Rattle.data_tree.proofs.Puts.{changed_, keeps_below, keeps_same}
-use Rattle.tree_ranges.specs.Border.{OnBorder}
-use Rattle.tree_ranges.specs.Growing.{Grown, Raised}
+use Rattle.data_tree.specs.Border.{OnBorder}
+use Rattle.tree_growing.specs.Growing.{Grown, Raised}
 use Rattle.tree_ranges.specs.Ranges.{GrowsTo}
-use Rattle.tree_ranges.proofs.Borders.{border_top, put_only, root_only, then_only}
-use Rattle.tree_ranges.proofs.Growth.{root_grown}
+use Rattle.data_tree.proofs.Borders.{border_top}
+use Rattle.tree_growing.proofs.Borders.{put_only, then_only}
+use Rattle.tree_ranges.proofs.Borders.{root_only}
+use Rattle.tree_ranges.proofs.Roots.{root_grown, then_raised}
 use Rattle.tree_ranges.proofs.Inside.{root_depth}
-use Rattle.tree_ranges.proofs.Rising.{then_raised}
 use Rattle.tree_ranges.proofs.over.append.Goals as goal
 
 pub returns-in-Err-clause-outcome : goal.returns-in-Err-clause-outcome

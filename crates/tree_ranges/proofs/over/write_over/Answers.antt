@@ -8,11 +8,11 @@ use Rattle.data_tree.proofs.Loads.{store_in, changes_in, tx_holdings, tx_laws}
 use Rattle.data_tree.proofs.Puts.{keeps_below, unforged_before}
 use Rattle.tree_ranges.specs.Border.{Grew}
 use Rattle.tree_ranges.specs.Ranges.{IsOpened}
-use Rattle.tree_ranges.specs.Writing.{MayWrite, Wrote, written_at}
+use Rattle.tree_writing.specs.Writing.{MayWrite, Wrote, written_at}
 use Rattle.tree_ranges.proofs.Borders.{border_back, border_only, range_only}
-use Rattle.tree_ranges.proofs.Growth.{root_wrote, wrote_then, written_over}
+use Rattle.tree_ranges.proofs.Roots.{root_wrote, wrote_then, written_over}
 use Rattle.tree_ranges.proofs.Inside.{root_tree}
-use Rattle.tree_ranges.proofs.Overwriting.{length-written}
+use Rattle.tree_writing.proofs.Overwriting.{length-written}
 use Rattle.tree_ranges.proofs.over.write_over.Goals as goal
 
 pub returns-in-Err-clause-outcome : goal.returns-in-Err-clause-outcome

@@ -10,10 +10,9 @@ use Rattle.data_tree.specs.Trees.{IsDepth, span}
 use Rattle.data_tree.proofs.Forests.{alone_root, below_on, below_root}
 use Rattle.data_tree.proofs.Loads.{store_in, changes_in, tx_holdings, tx_laws}
 use Rattle.data_tree.proofs.Puts.{keeps_below, unforged_before}
-use Rattle.tree_ranges.specs.Border.{OnlyBorder}
-use Rattle.tree_ranges.specs.Cutting.{MayCutNode}
+use Rattle.tree_cutting.specs.Cutting.{OnlyBorder, MayCutNode}
 use Rattle.tree_ranges.proofs.Borders.{grew_nothing, grew_since}
-use Rattle.tree_ranges.proofs.Cuts.{cut_root_is, depth_least, on_ok_if}
+use Rattle.tree_cutting.proofs.Cuts.{cut_root_is, depth_least, on_ok_if}
 use Rattle.tree_ranges.proofs.Inside.{root_at, new_since, root_same}
 use Rattle.tree_ranges.proofs.ranges.resize.Goals as goal
 

@@ -8,13 +8,14 @@ use Rattle.data_tree.proofs.Loads.{store_in, changes_in, tx_holdings, tx_laws}
 use Rattle.data_tree.proofs.Counting.{not_zero}
 use Rattle.data_tree.proofs.Forests.{stays-same, stays-then}
 use Rattle.data_tree.proofs.Puts.{keeps_below, on_any, unforged_before}
-use Rattle.tree_ranges.specs.Border.{Grew, OnlyLeaves}
-use Rattle.tree_ranges.specs.Writing.{MayWriteNode}
+use Rattle.tree_ranges.specs.Border.{Grew}
+use Rattle.tree_writing.specs.Leaves.{OnlyLeaves}
+use Rattle.tree_writing.specs.Writing.{MayWriteNode}
 use Rattle.tree_ranges.proofs.Borders.{grew_nothing, grew_since}
-use Rattle.tree_ranges.proofs.Costs.{cost_few}
+use Rattle.tree_writing.proofs.Costs.{cost_few}
 use Rattle.tree_ranges.proofs.Inside.{root_depth, root_tree, root_at, new_since, wrote_root, enough, ids_same}
-use Rattle.tree_ranges.proofs.Leaves.{only_since}
-use Rattle.tree_ranges.proofs.Overwriting.{tree_at}
+use Rattle.tree_writing.proofs.Leaves.{only_since}
+use Rattle.tree_writing.proofs.Overwriting.{tree_at}
 use Rattle.tree_ranges.proofs.ranges.write_range.Goals as goal
 
 pub returns-then-from-bytes-clause-outcome : goal.returns-then-from-bytes-clause-outcome

@@ -1,0 +1,66 @@
+-- What growing leaves of the changes.
+use Rattle.std.proofs.Common.{◌≡◌, ◌⊎◌, ℕ, zero, suc, ◌+◌, ◌<◌, ◌≤◌, Bool, true, false, List, [], ◌∷◌, ◌++◌, length, take, drop, refl, sym, ◌∙◌, ap, subst, inl, inr, arith}
+use Rattle.std.specs.Prelude.{Some, is_some, Ok}
+use Rattle.std.specs.FinMap.{get}
+use Rattle.std.proofs.lemmas.List.{take-append-drop}
+use Rattle.store_api.proofs.Rising.{same_id_is}
+use Rattle.outcome.specs.Meanings.{Meanings, Lawful}
+use Rattle.outcome.specs.Outcome.{Outcome}
+use Rattle.data_nodes.specs.declared.node.Node.{Node}
+use Rattle.data_nodes.specs.Layout.{NodeText, inner, IsNode, node_of}
+use Rattle.store_api.specs.declared.tx.Tx.{Tx}
+use Rattle.store_api.specs.Content.{Id, Content, Changes, same_id}
+use Rattle.store_api.specs.Holdings.{Holdings, Stays}
+use Rattle.data_tree.specs.Trees.{span, depth_in}
+use Rattle.data_tree.specs.Needs.{HasTree, HasTrees, HasBelow}
+use Rattle.data_tree.proofs.Forests.{below_on, below_of}
+use Rattle.data_tree.proofs.Loads.{tx_holdings, tx_meanings}
+use Rattle.data_tree.proofs.Puts.{unforged_before}
+use Rattle.data_tree.specs.Border.{OnBorder, OnBorderBelow, OnLastBorder}
+use Rattle.tree_growing.proofs.Growth.{split_of, split_tree}
+
+-- the border below a node is on that of the tree whose node it is
+pub border_up : (B : Content) (depth : ℕ) (id : Id) (text : List ℕ) (node : NodeText) (q : Id) → B id ≡ Some text → IsNode text node → OnBorderBelow B depth node q → OnBorder B depth id q
+border_up B zero id text node q there is below = absurd below
+border_up B (suc depth) id text node q there is (children, (listed, (front, (last, (ends, rest))))) = inr (text, (children, (front, (last, (there, (subst (IsNode text) listed is, (ends, rest)))))))
+
+pub border_inner : (B : Content) (depth d low : ℕ) (node : NodeText) (children : List Id) (q : Id) → inner d children ≡ node → depth_in node ≡ depth → low + 1 ≡ depth → OnLastBorder B low children q → OnBorderBelow B depth node q
+border_inner B zero d low node children q is level deep last = absurd (omega arith)
+border_inner B (suc depth) d low node children q is level deep last =
+    let same : d ≡ suc depth = ap depth_in is ∙ level in
+    let below : low ≡ depth = omega arith in
+    (children, (sym is ∙ ap (λ k. inner k children) same, subst (λ k. OnLastBorder B k children q) below last))
+
+-- what is on the border of the last of the trees
+pub border_last : (B : Content) (low i : ℕ) (children : List Id) (last q : Id) → drop i children ≡ last ∷ [] → OnBorder B low last q → OnLastBorder B low children q
+border_last B low i children last q is on = (take i children, (last, (sym (take-append-drop i children) ∙ ap (λ xs. take i children ++ xs) is, on)))
+
+-- what a put, or a step that leaves it, says of an id
+pub put_only : {P : Type 0} (old mid new : Changes) (id q : Id) → (same_id q id ≡ false → get new q ≡ get mid q) → (q ≡ id → P) → (get mid q ≡ get old q) ⊎ P → (get new q ≡ get old q) ⊎ P
+put_only {P = P} old mid new id q others on so_far = by (same_id q id) refl so_far
+  where
+    by : (b : Bool) → same_id q id ≡ b → (get mid q ≡ get old q) ⊎ P → (get new q ≡ get old q) ⊎ P
+    by true e so_far = inr (on (same_id_is q id e))
+    by false e (inl same) = inl (others e ∙ same)
+    by false e (inr found) = inr found
+
+pub then_only : {P : Type 0} (old mid new : Changes) (q : Id) → get new q ≡ get mid q → (get mid q ≡ get old q) ⊎ P → (get new q ≡ get old q) ⊎ P
+then_only old mid new q kept (inl same) = inl (kept ∙ same)
+then_only old mid new q kept (inr found) = inr found
+
+-- the last child was loaded, and its node grew
+pub inner_only : {B : Type 0} (M : Meanings B) (H0 : Holdings B) (laws : Lawful (tx_meanings M H0)) (a b d : Tx B) {low : ℕ} {children : List Id} {child : Node} (i : ℕ) (last : Id) → 0 < span (H0.payload a.store) low → i < length children → drop i children ≡ last ∷ []
+    → Outcome (tx_meanings M H0) (HasTree (tx_holdings H0) a low last) a b (Ok child) (λ n node. node_of node ≡ n.tree.node) → Stays (tx_holdings H0) a b → b.overlay ≡ a.overlay → M.loaded b.store d.store
+    → (HasBelow (tx_holdings H0) b low (node_of child) → M.sound b.store → M.forgeries d.store ≤ M.forgeries b.store → (q : Id) → is_some ((tx_holdings H0).content b q) ≡ true → (get d.overlay q ≡ get b.overlay q) ⊎ OnBorderBelow ((tx_holdings H0).content b) low (node_of child) q)
+    → HasTrees (tx_holdings H0) a low children → M.sound a.store → M.forgeries d.store ≤ M.forgeries a.store → (q : Id) → is_some ((tx_holdings H0).content a q) ≡ true → (get d.overlay q ≡ get a.overlay q) ⊎ OnLastBorder ((tx_holdings H0).content a) low children q
+inner_only M H0 laws a b d {low = low} {children = children} {child = child} i last positive lt is loaded stays overlay went only n s h q there =
+    let H = tx_holdings H0 in
+    let before = unforged_before laws a b d went h in
+    let grown = laws.forgeries_grow a b loaded.loaded in
+    let t = split_tree n (split_of {H = H} {a = a} i last positive lt is n) in
+    let node = loaded.value t s before in
+    let path : H.content b ≡ H.content a = λ i q. stays.content n.told q i in
+    elim (only (below_on stays (below_of (node_of child) t node)) (loaded.sound s before) (omega (arith, h, grown)) q (stays.ids q ∙ there)) [
+      | inl same ↦ inl (same ∙ ap (λ m. get m q) overlay)
+      | inr below ↦ inr (border_last (H.content a) low i children last q is (border_up (H.content a) low last t.tree.text (node_of child) q t.tree.there (subst (IsNode t.tree.text) (sym node) t.tree.is) (subst (λ C. OnBorderBelow C low (node_of child) q) path below)))
+    ]

@@ -1,0 +1,279 @@
+use Rattle.std.proofs.Common.{◌≡◌, ◌≤◌, ◌<◌, inl, inr, ◌+◌, ◌-◌, ◌*◌, ◌/◌, ◌^◌, ◌++◌, [], ◌∷◌, sym, ◌∙◌, ap, subst, take, drop, length, get_or, List, arith, append_assoc}
+use Rattle.std.proofs.lemmas.List.{length-map, length-append, length-take, length-drop, take-append-drop, take_all}
+use Rattle.block_id.specs.declared.id.BlockId.{BlockId}
+use Rattle.outcome.specs.Outcome.{first_, idle, then_, failed_, answered, passed}
+use Rattle.data_nodes.specs.Layout.{node_of, ids_of, leaf, inner, fan_out, FitsPayload}
+use Rattle.store_api.specs.Overlay.{steady_over, changed_over}
+use Rattle.data_tree.specs.Needs.{HasBelow, HasTrees}
+use Rattle.data_tree.specs.Trees.{span, depth_in}
+use Rattle.data_tree.proofs.Loads.{store_in, changes_in, tx_holdings, tx_laws}
+use Rattle.data_tree.proofs.Forests.{below_on, below_of, children_of, leaf_is}
+use Rattle.data_tree.proofs.Gathering.{last_child}
+use Rattle.data_tree.proofs.Levels.{span-some}
+use Rattle.data_tree.proofs.Puts.{keeps_below, keeps_same}
+use Rattle.tree_growing.specs.Growing.{Grown, GrownTrees}
+use Rattle.data_tree.specs.Border.{OnBorder}
+use Rattle.tree_growing.proofs.Borders.{border_inner, border_last, inner_only, put_only, then_only}
+use Rattle.data_tree.proofs.Borders.{border_top}
+use Rattle.tree_growing.proofs.Growth.{split_of, split_tree, grown_trees, grown_leaf_is, grown_inner_is, filled, taken}
+use Rattle.tree_growing.proofs.growing.+grow.Goals as goal
+
+pub grown_node-returns-in-Ok-clause-outcome : goal.grown_node-returns-in-Ok-clause-outcome
+grown_node-returns-in-Ok-clause-outcome g t c =
+    let H = tx_holdings g.S.Blocks.holdings in
+    let laws = tx_laws g.S.Blocks.meanings g.S.Blocks.holdings g.met.S.Blocks.lawful in
+    let a = c.args.tx.now in
+    let node = node_of c.args.node.now in
+    let old = c.deref.result.now in
+    let leaf_at : leaf old ≡ node = ap leaf c.deref.ensures.value ∙ ap node_of (sym c.in-Leaf.is) in
+    let low : 0 ≡ c.args.level.depth = ap depth_in leaf_at ∙ c.requires.depth in
+    let room : c.args.level.room ≡ H.payload a - 8 = c.requires.level ∙ ap (span (H.payload a)) (sym low) in
+    let fits : length old ≤ H.payload a - 8 = subst (FitsPayload (H.payload a)) (sym leaf_at) c.requires.fits in
+    idle laws a _ c.requires.intact (λ n.
+    let is = leaf_is (H.payload a) (H.content a) c.args.level.depth node n.bytes old n.ids n.holds leaf_at in (
+      subst (λ x. Grown H a a c.args.level.depth x (n.bytes ++ take c.in-Ok.grown.1 c.args.bytes.now) n.ids) (sym c.in-Ok.ensures.node) (grown_leaf_is node old (take c.in-Ok.grown.1 c.args.bytes.now) leaf_at n is),
+      λ less. omega (arith, c.in-Ok.ensures.used, ap length is, less, room, fits),
+    ))
+
+pub grown_node-returns-in-Ok-grown_inner-clause-outcome : goal.grown_node-returns-in-Ok-grown_inner-clause-outcome
+grown_node-returns-in-Ok-grown_inner-clause-outcome g t c =
+    let H = tx_holdings g.S.Blocks.holdings in
+    let a = c.args.tx.now in
+    let e = c.grown_inner.new.tx in
+    let node = node_of c.args.node.now in
+    let bytes = c.args.bytes.now in
+    let low = c.below-below.result.depth in
+    let children = ids_of c.deref-in-Inner.result.now in
+    let is = ap (λ (xs : List BlockId). inner c.in-Inner.depth (ids_of xs)) c.deref-in-Inner.ensures.value ∙ ap node_of (sym c.in-Inner.is) in
+    let one = first_ {N = HasBelow H a c.args.level.depth node} {R = λ n y. GrownTrees H a e low (ids_of y.0.items) (n.bytes ++ take y.1 bytes) n.ids × (y.1 < length bytes → length n.bytes + y.1 ≡ fan_out (H.payload a) * c.below-below.result.room)}
+    (λ n. children_of node c.in-Inner.depth low children is c.below-below.ensures.depth n) c.in-Ok-grown_inner.ensures.outcome (λ n y h. h) in
+    answered one (λ n p. (
+      grown_inner_is c.args.level.depth c.in-Inner.depth low (ids_of c.in-Ok-grown_inner.children.items) (n.bytes ++ take c.in-Ok-grown_inner.used bytes) n.ids (ap depth_in is ∙ c.requires.depth) c.below-below.ensures.depth p.0,
+      λ less. p.1 less ∙ ap (λ k. fan_out k * c.below-below.result.room) (sym c.payload.ensures) ∙ c.below-below.ensures.all,
+    ))
+
+pub grown_node-returns-in-Err-grown_inner-clause-outcome : goal.grown_node-returns-in-Err-grown_inner-clause-outcome
+grown_node-returns-in-Err-grown_inner-clause-outcome g t c =
+    let H = tx_holdings g.S.Blocks.holdings in
+    let a = c.args.tx.now in
+    let node = node_of c.args.node.now in
+    let low = c.below-below.result.depth in
+    let children = ids_of c.deref-in-Inner.result.now in
+    let is = ap (λ (xs : List BlockId). inner c.in-Inner.depth (ids_of xs)) c.deref-in-Inner.ensures.value ∙ ap node_of (sym c.in-Inner.is) in
+    passed (first_ {N = HasBelow H a c.args.level.depth node} {R = λ _ _. Unit {0}} (λ n. children_of node c.in-Inner.depth low children is c.below-below.ensures.depth n) c.in-Err-grown_inner.ensures.outcome (λ _ _ _. tt))
+
+pub grown_inner-grown_children-requires-clause-room : goal.grown_inner-grown_children-requires-clause-room
+grown_inner-grown_children-requires-clause-room g t c =
+    let steady = steady_over store_in changes_in g.S.Blocks.meanings g.S.Blocks.holdings g.met.S.Blocks.steady in
+    omega (arith, span-some ((tx_holdings g.S.Blocks.holdings).payload c.args.tx.now) c.args.level.depth (steady.at_least c.args.tx.now c.requires.intact), c.requires.level)
+
+pub grown_inner-grown_children-requires-clause-places : goal.grown_inner-grown_children-requires-clause-places
+grown_inner-grown_children-requires-clause-places g t c =
+    let same = ap g.S.Blocks.holdings.payload c.in-Ok-put_node.ensures.store ∙ c.grown_node.ensures.below.payload ∙ c.load_at.ensures.below.payload in
+    omega (arith, c.payload.ensures, same, c.requires.few)
+
+pub grown_inner-grown_children-requires-clause-small : goal.grown_inner-grown_children-requires-clause-small
+grown_inner-grown_children-requires-clause-small g t c =
+    let same = ap g.S.Blocks.holdings.payload c.in-Ok-put_node.ensures.store ∙ c.grown_node.ensures.below.payload ∙ c.load_at.ensures.below.payload in
+    subst (λ p. fan_out p * c.args.level.room < 2 ^ 64) (sym same) c.requires.small
+
+pub grown_inner-returns-in-Err-clause-outcome : goal.grown_inner-returns-in-Err-clause-outcome
+grown_inner-returns-in-Err-clause-outcome g t c =
+    let H = tx_holdings g.S.Blocks.holdings in
+    let steady = steady_over store_in changes_in g.S.Blocks.meanings g.S.Blocks.holdings g.met.S.Blocks.steady in
+    let a = c.args.tx.now in
+    let low = c.args.level.depth in
+    let children = c.args.children.now in
+    let i = length children - 1 in
+    let last : BlockId = get_or children i (record { 0 = [] }) in
+    let whole : i + 1 ≡ length children = omega (arith, c.requires.some) in
+    let lt : i < length (ids_of children) = omega (arith, whole, length-map children (λ (x : BlockId). x.0)) in
+    let is = last_child children i (record { 0 = [] }) whole in
+    let positive = span-some (H.payload a) low (steady.at_least a c.requires.intact) in
+    passed (first_ {N = HasTrees H a low (ids_of children)} {R = λ _ _. Unit {0}} (λ n. split_tree n (split_of {H = H} {a = a} i last.0 positive lt is n)) c.in-Err.ensures.outcome (λ _ _ _. tt))
+
+pub grown_inner-returns-in-Err-grown_node-clause-outcome : goal.grown_inner-returns-in-Err-grown_node-clause-outcome
+grown_inner-returns-in-Err-grown_node-clause-outcome g t c =
+    let H = tx_holdings g.S.Blocks.holdings in
+    let laws = tx_laws g.S.Blocks.meanings g.S.Blocks.holdings g.met.S.Blocks.lawful in
+    let steady = steady_over store_in changes_in g.S.Blocks.meanings g.S.Blocks.holdings g.met.S.Blocks.steady in
+    let a = c.args.tx.now in
+    let low = c.args.level.depth in
+    let children = c.args.children.now in
+    let i = length children - 1 in
+    let last : BlockId = get_or children i (record { 0 = [] }) in
+    let whole : i + 1 ≡ length children = omega (arith, c.requires.some) in
+    let lt : i < length (ids_of children) = omega (arith, whole, length-map children (λ (x : BlockId). x.0)) in
+    let is = last_child children i (record { 0 = [] }) whole in
+    let positive = span-some (H.payload a) low (steady.at_least a c.requires.intact) in
+    let one = first_ {N = HasTrees H a low (ids_of children)} {R = λ n y. node_of y ≡ (split_of {H = H} {a = a} i last.0 positive lt is n).tree.node} (λ n. split_tree n (split_of {H = H} {a = a} i last.0 positive lt is n)) c.in-Ok.ensures.outcome (λ n y h. h) in
+    failed_ laws one (λ n p. below_on c.load_at.ensures.stays (below_of (node_of c.in-Ok.child) (split_tree n (split_of {H = H} {a = a} i last.0 positive lt is n)) p)) c.in-Err-grown_node.ensures.outcome
+
+pub grown_inner-returns-in-Ok-grown_children-clause-outcome : goal.grown_inner-returns-in-Ok-grown_children-clause-outcome
+grown_inner-returns-in-Ok-grown_children-clause-outcome g t c =
+    let M = g.S.Blocks.meanings in
+    let H0 = g.S.Blocks.holdings in
+    let H = tx_holdings H0 in
+    let laws = tx_laws M H0 g.met.S.Blocks.lawful in
+    let steady = steady_over store_in changes_in M H0 g.met.S.Blocks.steady in
+    let a = c.args.tx.now in
+    let b = c.load_at.new.tx in
+    let d = c.grown_node.new.tx in
+    let e = c.put_node.new.tx in
+    let f = c.grown_children.new.tx in
+    let low = c.args.level.depth in
+    let room = c.args.level.room in
+    let children = c.args.children.now in
+    let bytes = c.args.bytes.now in
+    let used = c.in-Ok-grown_node.grown.1 in
+    let more = c.in-Ok-grown_children.more in
+    let node = node_of c.in-Ok-grown_node.grown.0 in
+    let i = length children - 1 in
+    let last : BlockId = get_or children i (record { 0 = [] }) in
+    let whole : i + 1 ≡ length children = omega (arith, c.requires.some) in
+    let lt : i < length (ids_of children) = omega (arith, whole, length-map children (λ (x : BlockId). x.0)) in
+    let is = last_child children i (record { 0 = [] }) whole in
+    let positive = span-some (H.payload a) low (steady.at_least a c.requires.intact) in
+    let built = c.in-Ok-grown_children.ensures.built in
+    let fits : used ≤ length bytes = c.in-Ok-grown_node.ensures.used in
+    let rest : take (length bytes - used) (drop used bytes) ≡ drop used bytes = take_all (length bytes - used) (drop used bytes) (omega (arith, length-drop used bytes)) in
+    let rest_len : length (take (length bytes - used) (drop used bytes)) ≡ length bytes - used = ap length rest ∙ length-drop used bytes in
+    let t1 = take used bytes in
+    let t2 = take more (take (length bytes - used) (drop used bytes)) in
+    let sum : t1 ++ t2 ≡ take (used + more) bytes = ap (λ xs. t1 ++ take more xs) rest ∙ sym (taken used more bytes fits) in
+    let listed : ids_of c.in-Ok-grown_children.all.items ≡ take i (ids_of children) ++ last.0 ∷ built.0 =
+    built.1.0 ∙ ap (λ xs. xs ++ built.0) (sym (take-append-drop i (ids_of children)) ∙ ap (λ xs. take i (ids_of children) ++ xs) is) ∙ append_assoc (take i (ids_of children)) (last.0 ∷ []) built.0 in
+    let one = first_ {N = HasTrees H a low (ids_of children)} {R = λ n y. node_of y ≡ (split_of {H = H} {a = a} i last.0 positive lt is n).tree.node} (λ n. split_tree n (split_of {H = H} {a = a} i last.0 positive lt is n)) c.in-Ok.ensures.outcome (λ n y h. h) in
+    let two = then_ laws {R = λ n x. Grown H b d low (node_of x.0) ((split_of {H = H} {a = a} i last.0 positive lt is n).w2 ++ take x.1 bytes) (split_of {H = H} {a = a} i last.0 positive lt is n).tree.below × (x.1 < length bytes → length (split_of {H = H} {a = a} i last.0 positive lt is n).w2 + x.1 ≡ room)} one
+    (λ n p. below_on c.load_at.ensures.stays (below_of (node_of c.in-Ok.child) (split_tree n (split_of {H = H} {a = a} i last.0 positive lt is n)) p)) c.in-Ok-grown_node.ensures.outcome (λ n p y h. h) in
+    changed_over store_in changes_in M H0 a d f (c.grown_children.ensures.store ∙ c.put_node.ensures.store) c.grown_children.ensures.intact two (λ n p.
+    let s = split_of {H = H} {a = a} i last.0 positive lt is n in
+    let w2_len : length (s.w2 ++ t1) ≡ length s.w2 + used = omega (arith, length-append s.w2 t1, length-take used bytes, fits) in (
+      subst (λ w. GrownTrees H a f low (ids_of c.in-Ok-grown_children.all.items) (n.bytes ++ w) n.ids) sum
+          (grown_trees (ids_of c.in-Ok-grown_children.all.items) built.0 node t1 t2 n s listed c.load_at.ensures.stays (keeps_below H0 b d c.grown_node.ensures.below) (keeps_same H0 d e c.put_node.ensures.store) (keeps_same H0 e f c.grown_children.ensures.store) p.0
+          c.in-Ok-put_node.ensures.sets (λ some. w2_len ∙ p.1 (omega (arith, some, length-take more (take (length bytes - used) (drop used bytes)), rest_len)) ∙ c.requires.level) built.1.1),
+      λ less. filled i (length children) ((c.payload.result - 8) / 16 - length children) (fan_out (H.payload a)) room (length s.w1) (length s.w2 + used) more (length n.bytes + (used + more)) whole (omega (arith, c.payload.ensures, c.requires.few))
+          (s.full ∙ ap (λ k. k * span (H.payload a) low) (let l : length (take i (ids_of children)) ≡ i = omega (arith, length-take i (ids_of children), lt) in l) ∙ ap (λ k. i * k) (sym c.requires.level)) (p.1 (omega (arith, less)))
+          (omega (arith, c.in-Ok-grown_children.ensures.used, less, rest_len)) (omega (arith, ap length s.bytes, length-append s.w1 s.w2)),
+    ))
+
+pub grown_inner-returns-in-Err-grown_node-clause-only : goal.grown_inner-returns-in-Err-grown_node-clause-only
+grown_inner-returns-in-Err-grown_node-clause-only g t c n s h q there =
+    let M = g.S.Blocks.meanings in
+    let H0 = g.S.Blocks.holdings in
+    let H = tx_holdings H0 in
+    let laws = tx_laws M H0 g.met.S.Blocks.lawful in
+    let steady = steady_over store_in changes_in M H0 g.met.S.Blocks.steady in
+    let a = c.args.tx.now in
+    let b = c.load_at.new.tx in
+    let d = c.grown_node.new.tx in
+    let low = c.args.level.depth in
+    let children = c.args.children.now in
+    let i = length children - 1 in
+    let last : BlockId = get_or children i (record { 0 = [] }) in
+    let whole : i + 1 ≡ length children = omega (arith, c.requires.some) in
+    let lt : i < length (ids_of children) = omega (arith, whole, length-map children (λ (x : BlockId). x.0)) in
+    let is = last_child children i (record { 0 = [] }) whole in
+    let positive = span-some (H.payload a) low (steady.at_least a c.requires.intact) in
+    inner_only M H0 laws a b d {children = ids_of children} i last.0 positive lt is c.in-Ok.ensures.outcome c.load_at.ensures.stays c.load_at.ensures.overlay c.grown_node.ensures.outcome.loaded c.grown_node.ensures.only n s h q there
+
+pub grown_inner-returns-in-Ok-grown_children-clause-only : goal.grown_inner-returns-in-Ok-grown_children-clause-only
+grown_inner-returns-in-Ok-grown_children-clause-only g t c n s h q there =
+    let M = g.S.Blocks.meanings in
+    let H0 = g.S.Blocks.holdings in
+    let H = tx_holdings H0 in
+    let laws = tx_laws M H0 g.met.S.Blocks.lawful in
+    let steady = steady_over store_in changes_in M H0 g.met.S.Blocks.steady in
+    let a = c.args.tx.now in
+    let b = c.load_at.new.tx in
+    let d = c.grown_node.new.tx in
+    let low = c.args.level.depth in
+    let children = c.args.children.now in
+    let i = length children - 1 in
+    let last : BlockId = get_or children i (record { 0 = [] }) in
+    let whole : i + 1 ≡ length children = omega (arith, c.requires.some) in
+    let lt : i < length (ids_of children) = omega (arith, whole, length-map children (λ (x : BlockId). x.0)) in
+    let is = last_child children i (record { 0 = [] }) whole in
+    let positive = span-some (H.payload a) low (steady.at_least a c.requires.intact) in
+    let e = c.put_node.new.tx in
+    let f = c.grown_children.new.tx in
+    let A = H.content a in
+    let still : M.forgeries d.store ≤ M.forgeries a.store = subst (λ x. M.forgeries x ≤ M.forgeries a.store) (c.grown_children.ensures.store ∙ c.put_node.ensures.store) h in
+    let one = inner_only M H0 laws a b d {children = ids_of children} i last.0 positive lt is c.in-Ok.ensures.outcome c.load_at.ensures.stays c.load_at.ensures.overlay c.grown_node.ensures.outcome.loaded c.grown_node.ensures.only n s still q there in
+    let two = put_only a.overlay d.overlay e.overlay last.0 q (c.put_node.ensures.others q) (λ same. border_last A low i (ids_of children) last.0 q is (subst (λ x. OnBorder A low last.0 x) (sym same) (border_top A low last.0))) one in
+    then_only a.overlay e.overlay f.overlay q (c.grown_children.ensures.kept q (c.put_node.ensures.there q (c.grown_node.ensures.there q (c.load_at.ensures.stays.ids q ∙ there)))) two
+
+pub grown_inner-returns-clause-only : goal.grown_inner-returns-clause-only
+grown_inner-returns-clause-only g t c n s h q there =
+    let M = g.S.Blocks.meanings in
+    let H0 = g.S.Blocks.holdings in
+    let H = tx_holdings H0 in
+    let laws = tx_laws M H0 g.met.S.Blocks.lawful in
+    let steady = steady_over store_in changes_in M H0 g.met.S.Blocks.steady in
+    let a = c.args.tx.now in
+    let b = c.load_at.new.tx in
+    let d = c.grown_node.new.tx in
+    let low = c.args.level.depth in
+    let children = c.args.children.now in
+    let i = length children - 1 in
+    let last : BlockId = get_or children i (record { 0 = [] }) in
+    let whole : i + 1 ≡ length children = omega (arith, c.requires.some) in
+    let lt : i < length (ids_of children) = omega (arith, whole, length-map children (λ (x : BlockId). x.0)) in
+    let is = last_child children i (record { 0 = [] }) whole in
+    let positive = span-some (H.payload a) low (steady.at_least a c.requires.intact) in
+    let e = c.put_node.new.tx in
+    let f = c.grown_children.new.tx in
+    let A = H.content a in
+    let still : M.forgeries d.store ≤ M.forgeries a.store = subst (λ x. M.forgeries x ≤ M.forgeries a.store) (c.grown_children.ensures.store ∙ c.put_node.ensures.store) h in
+    let one = inner_only M H0 laws a b d {children = ids_of children} i last.0 positive lt is c.in-Ok.ensures.outcome c.load_at.ensures.stays c.load_at.ensures.overlay c.grown_node.ensures.outcome.loaded c.grown_node.ensures.only n s still q there in
+    let two = put_only a.overlay d.overlay e.overlay last.0 q (c.put_node.ensures.others q) (λ same. border_last A low i (ids_of children) last.0 q is (subst (λ x. OnBorder A low last.0 x) (sym same) (border_top A low last.0))) one in
+    then_only a.overlay e.overlay f.overlay q (c.grown_children.ensures.kept q (c.put_node.ensures.there q (c.grown_node.ensures.there q (c.load_at.ensures.stays.ids q ∙ there)))) two
+
+pub grown_inner-returns-in-Err-put_node-clause-only : goal.grown_inner-returns-in-Err-put_node-clause-only
+grown_inner-returns-in-Err-put_node-clause-only g t c n s h q there =
+    let M = g.S.Blocks.meanings in
+    let H0 = g.S.Blocks.holdings in
+    let H = tx_holdings H0 in
+    let laws = tx_laws M H0 g.met.S.Blocks.lawful in
+    let steady = steady_over store_in changes_in M H0 g.met.S.Blocks.steady in
+    let a = c.args.tx.now in
+    let b = c.load_at.new.tx in
+    let d = c.grown_node.new.tx in
+    let low = c.args.level.depth in
+    let children = c.args.children.now in
+    let i = length children - 1 in
+    let last : BlockId = get_or children i (record { 0 = [] }) in
+    let whole : i + 1 ≡ length children = omega (arith, c.requires.some) in
+    let lt : i < length (ids_of children) = omega (arith, whole, length-map children (λ (x : BlockId). x.0)) in
+    let is = last_child children i (record { 0 = [] }) whole in
+    let positive = span-some (H.payload a) low (steady.at_least a c.requires.intact) in
+    let e = c.put_node.new.tx in
+    let A = H.content a in
+    let still : M.forgeries d.store ≤ M.forgeries a.store = subst (λ x. M.forgeries x ≤ M.forgeries a.store) (c.put_node.ensures.store) h in
+    let one = inner_only M H0 laws a b d {children = ids_of children} i last.0 positive lt is c.in-Ok.ensures.outcome c.load_at.ensures.stays c.load_at.ensures.overlay c.grown_node.ensures.outcome.loaded c.grown_node.ensures.only n s still q there in
+    let two = put_only a.overlay d.overlay e.overlay last.0 q (c.put_node.ensures.others q) (λ same. border_last A low i (ids_of children) last.0 q is (subst (λ x. OnBorder A low last.0 x) (sym same) (border_top A low last.0))) one in
+    two
+
+pub grown_node-returns-in-Ok-grown_inner-clause-only : goal.grown_node-returns-in-Ok-grown_inner-clause-only
+grown_node-returns-in-Ok-grown_inner-clause-only g t c n s h q there =
+    let H = tx_holdings g.S.Blocks.holdings in
+    let node = node_of c.args.node.now in
+    let low = c.below-below.result.depth in
+    let children = ids_of c.deref-in-Inner.result.now in
+    let is = ap (λ (xs : List BlockId). inner c.in-Inner.depth (ids_of xs)) c.deref-in-Inner.ensures.value ∙ ap node_of (sym c.in-Inner.is) in
+    elim (c.in-Ok-grown_inner.ensures.only (children_of node c.in-Inner.depth low children is c.below-below.ensures.depth n) s h q there) [
+      | inl same ↦ inl same
+      | inr found ↦ inr (border_inner (H.content c.args.tx.now) c.args.level.depth c.in-Inner.depth low node children q is c.requires.depth c.below-below.ensures.depth found)
+    ]
+
+pub grown_node-returns-in-Err-grown_inner-clause-only : goal.grown_node-returns-in-Err-grown_inner-clause-only
+grown_node-returns-in-Err-grown_inner-clause-only g t c n s h q there =
+    let H = tx_holdings g.S.Blocks.holdings in
+    let node = node_of c.args.node.now in
+    let low = c.below-below.result.depth in
+    let children = ids_of c.deref-in-Inner.result.now in
+    let is = ap (λ (xs : List BlockId). inner c.in-Inner.depth (ids_of xs)) c.deref-in-Inner.ensures.value ∙ ap node_of (sym c.in-Inner.is) in
+    elim (c.in-Err-grown_inner.ensures.only (children_of node c.in-Inner.depth low children is c.below-below.ensures.depth n) s h q there) [
+      | inl same ↦ inl same
+      | inr found ↦ inr (border_inner (H.content c.args.tx.now) c.args.level.depth c.in-Inner.depth low node children q is c.requires.depth c.below-below.ensures.depth found)
+    ]

@@ -1,0 +1,28 @@
+use Rattle.std.proofs.Common.{◌≤◌, ◌*◌, length, take, arith}
+use Rattle.std.proofs.lemmas.List.{length-take}
+use Rattle.std.proofs.Math.Nat.{mul-le-mul_right}
+use Rattle.data_nodes.specs.Layout.{fan_out}
+use Rattle.data_tree.proofs.Counting.{count_few}
+use Rattle.tree_growing.proofs.growing.grown_children.Goals as goal
+
+pub overflow_mul-places : goal.overflow_mul-places
+overflow_mul-places g c =
+    let fan = fan_out (g.S.Blocks.holdings.payload c.args.tx.now.store) in
+    let le : c.args.places ≤ fan = omega (arith, c.requires.places) in
+    let most : c.args.places * c.args.level.room ≤ fan * c.args.level.room = mul-le-mul_right c.args.level.room le in
+    omega (arith, most, c.requires.small)
+
+pub build_children-requires-clause-fits : goal.build_children-requires-clause-fits
+build_children-requires-clause-fits g c =
+    let fan = fan_out (g.S.Blocks.holdings.payload c.args.tx.now.store) in
+    let le : c.args.places ≤ fan = omega (arith, c.requires.places) in
+    let most : c.args.places * c.args.level.room ≤ fan * c.args.level.room = mul-le-mul_right c.args.level.room le in
+    omega (arith, most, length-take c.min-used.result c.args.bytes.now, c.min-used.ensures)
+
+pub returns-clause-few : goal.returns-clause-few
+returns-clause-few g c =
+    let taken = take c.min-used.result c.args.bytes.now in
+    let new = c.in_ok-new.new.items in
+    let used : length taken ≤ c.args.places * c.args.level.room = omega (arith, length-take c.min-used.result c.args.bytes.now, c.min-used.ensures) in
+    let fewer : length new ≤ c.args.places = count_few (length new) c.args.level.room (length taken) c.args.places c.in_ok-new.ensures.under used in
+    omega (arith, fewer, c.requires.places, c.in_ok-extend_from_slice-2.ensures.len, c.in_ok-extend_from_slice.ensures.len, c.in_ok-all.ensures.len, c.deref.ensures.len)

@@ -1,0 +1,67 @@
+use Rattle.std.proofs.Common.{◌≡◌, ◌≤◌, ◌+◌, ◌-◌, ◌*◌, ◌/◌, ◌++◌, sym, ◌∙◌, ap, subst, take, drop, length, arith}
+use Rattle.std.specs.Prelude.{min}
+use Rattle.std.proofs.lemmas.List.{length-drop, take_all}
+use Rattle.std.proofs.Math.Nat.{mul-le-mul_right}
+use Rattle.data_nodes.specs.Layout.{fan_out, ids_of, inner, node_of}
+use Rattle.store_api.specs.Overlay.{steady_over}
+use Rattle.data_tree.specs.Needs.{BuiltTrees}
+use Rattle.data_tree.specs.Trees.{span}
+use Rattle.data_tree.proofs.Levels.{span-some}
+use Rattle.data_tree.proofs.Loads.{store_in, changes_in, tx_holdings}
+use Rattle.data_tree.proofs.Puts.{keeps_same}
+use Rattle.tree_growing.specs.Growing.{Grown, MayRaise, Raised}
+use Rattle.tree_growing.proofs.Rising.{filled_up, raise_more, risen}
+use Rattle.tree_growing.proofs.raising.+raised.Goals as goal
+
+pub grown_children-requires-clause-room : goal.grown_children-requires-clause-room
+grown_children-requires-clause-room g t c =
+    let steady = steady_over store_in changes_in g.S.Blocks.meanings g.S.Blocks.holdings g.met.S.Blocks.steady in
+    omega (arith, span-some ((tx_holdings g.S.Blocks.holdings).payload c.args.tx.now) c.args.level.depth (steady.at_least c.args.tx.now c.requires.intact), c.requires.level)
+
+pub grown_children-requires-clause-places : goal.grown_children-requires-clause-places
+grown_children-requires-clause-places g t c =
+    let steady = steady_over store_in changes_in g.S.Blocks.meanings g.S.Blocks.holdings g.met.S.Blocks.steady in
+    omega (arith, c.payload.ensures, steady.at_least c.put_new.new.tx c.in_ok-first.ensures.intact)
+
+pub grown_children-requires-clause-small : goal.grown_children-requires-clause-small
+grown_children-requires-clause-small g t c =
+    let steady = steady_over store_in changes_in g.S.Blocks.meanings g.S.Blocks.holdings g.met.S.Blocks.steady in
+    let fan = fan_out (g.S.Blocks.holdings.payload c.put_new.new.tx.store) in
+    let most : fan ≤ 65536 = omega (arith, steady.at_most c.put_new.new.tx c.in_ok-first.ensures.intact) in
+    let much : fan * c.args.level.room ≤ 65536 * c.args.level.room = mul-le-mul_right c.args.level.room most in
+    omega (arith, much, c.if-level-n.false, c.requires.small)
+
+pub returns-clause-raised : goal.returns-clause-raised
+returns-clause-raised g t c m =
+    let H0 = g.S.Blocks.holdings in
+    let H = tx_holdings H0 in
+    let steady = steady_over store_in changes_in g.S.Blocks.meanings H0 g.met.S.Blocks.steady in
+    let a = c.args.tx.now in
+    let b = c.put_new.new.tx in
+    let d = c.grown_children.new.tx in
+    let e = c.raised.new.tx in
+    let depth = c.args.level.depth in
+    let above = c.above-level.result.depth in
+    let rest = c.args.rest.now in
+    let used = c.in_ok-children.used in
+    let more = c.in_ok-node.more in
+    let first = c.in_ok-first.first.0 in
+    let up = inner above (ids_of c.in_ok-children.children.items) in
+    let last = node_of c.in_ok-node.node in
+    let least = steady.at_least a c.requires.intact in
+    let deep : depth + 1 ≡ above = omega (arith, c.above-level.ensures.depth) in
+    let built = c.in_ok-children.ensures.built in
+    let ab = keeps_same H0 a b c.put_new.ensures.store in
+    let bd = keeps_same H0 b d c.grown_children.ensures.store in
+    let payload : H.payload d ≡ H.payload a = bd.payload ∙ ab.payload in
+    let fan : c.payload.result ≡ H.payload a = c.payload.ensures ∙ ab.payload in
+    let fan2 : c.payload-2.result ≡ H.payload a = c.payload-2.ensures ∙ payload in
+    let full = filled_up (fan_out (H.payload a)) c.args.level.room used (length rest) (omega (arith, least)) (subst (λ p. used ≡ min (((p - 8) / 16 - 1) * c.args.level.room) (length rest)) fan c.in_ok-children.ensures.used) in
+    let all : fan_out (H.payload a) * c.args.level.room ≡ span (H.payload a) above = sym (ap (λ p. fan_out p * c.args.level.room) fan2) ∙ sym c.above-level.ensures.all ∙ c.above-level.ensures.room ∙ ap (λ p. span p above) fan2 in
+    let fits : used ≤ length rest = omega (arith, c.in_ok-children.ensures.used) in
+    let cut : take (length rest - used) (drop used rest) ≡ drop used rest = take_all (length rest - used) (drop used rest) (omega (arith, length-drop used rest)) in
+    raise_more {H = H} {a = a} {c = d} {d = e} {node = node_of c.args.node} {up = up} {last = last} depth above c.args.n used more rest least deep (omega (arith, c.if-level-n.false, c.requires.level)) payload (omega (arith, full.0, c.requires.level, all))
+    (λ less. omega (arith, full.1 less, c.requires.level, all)) fits
+    (λ w t ids holds alone some full is.
+    subst (λ cs. Grown H a d above (inner above cs) (w ++ t) ids) (sym built.1.0) (risen {H = H} {a = a} {b = b} {c = d} depth above first (node_of c.args.node) built.0 w t ids holds alone c.in_ok-first.ensures.new c.in_ok-first.ensures.sets ab bd some full (subst (λ x. BuiltTrees H b d depth built.0 x) (sym is) built.1.1) deep))
+    (subst (λ xs. (m : MayRaise H d above up c.args.n (length xs)) → Raised H d e last (m.bytes ++ xs) m.ids × (more ≡ length xs)) cut c.in_ok-node.ensures.raised) m

@@ -1,0 +1,155 @@
+// Appending bytes to a tree: only its right border is loaded, and new blocks stand behind it.
+ghost use Rattle.std.specs.Prelude.{◌≡◌, ◌⊎◌, ◌≤◌, ◌<◌, ◌+◌, ◌-◌, ◌*◌, ◌++◌, ◌^◌, ℕ, List, true, is_some, length, take, min, IfOk, OnOk};
+ghost use Rattle.std.specs.FinMap.{get};
+ghost use Rattle.outcome.specs.Outcome.{Outcome};
+ghost use Rattle.store_api.specs.Content.{Id};
+ghost use Rattle.store_api.specs.Holdings.{Stays};
+ghost use Rattle.data_nodes.specs.Layout.{fan_out, ids_of, leaf, node_of, FitsPayload};
+ghost use Rattle.data_tree.specs.Needs.{BuiltTrees, HasBelow, HasTrees};
+ghost use Rattle.data_tree.specs.Trees.{span, depth_in};
+ghost use Rattle.data_tree.specs.Border.{OnBorderBelow, OnLastBorder};
+ghost use Rattle.tree_growing.specs.Growing.{Grown, GrownTrees};
+
+use block_id::{BlockId, Fail, Memory};
+use data_nodes::Node;
+use data_tree::{Level, build_children, load_at, put_node};
+use rand_core::Rng;
+use std::alloc::Global;
+use store_api::{Blocks, Tx};
+
+// A leaf with as many of the bytes behind its own as it has room for, and how many these are.
+fn grown_leaf(alloc: Global, old: &[u8], room: u64, bytes: &[u8]) -> Result<(Node, usize), Memory>
+    requires { length old.now ≤ room }
+    ensures used { IfOk result (λ grown. grown.1 ≡ min (room - length old.now) (length bytes.now)) }
+    ensures node { IfOk result (λ grown. node_of grown.0 ≡ leaf (old.now ++ take grown.1 bytes.now)) }
+{
+    let used = (room as usize - old.len()).min(bytes.len());
+    let mut all = Vec::with_capacity(alloc, old.len() + used)?;
+    all.extend_from_slice(old)?;
+    all.extend_from_slice(&bytes[..used])?;
+    Ok((Node::Leaf(all), used))
+}
+
+// Children with new trees behind them for as many of the bytes as there are places for, and how many these are.
+pub(crate) fn grown_children<S: Blocks, R: Rng>(
+    alloc: Global,
+    tx: &mut Tx<S>,
+    children: &[BlockId],
+    level: Level,
+    places: u64,
+    bytes: &[u8],
+    chance: &mut R,
+) -> Result<(Vec<BlockId>, usize), Memory>
+    requires intact { ⟦<Tx<S> as Blocks>⟧.meanings.intact tx.old }
+    requires level { level.room ≡ span (⟦<Tx<S> as Blocks>⟧.holdings.payload tx.old) level.depth }
+    requires room { 0 < level.room }
+    requires places { length children.now + places ≤ fan_out (⟦<Tx<S> as Blocks>⟧.holdings.payload tx.old) }
+    requires small { fan_out (⟦<Tx<S> as Blocks>⟧.holdings.payload tx.old) * level.room < 2 ^ 64 }
+    ensures intact { ⟦<Tx<S> as Blocks>⟧.meanings.intact tx.new }
+    ensures store { tx.new.store ≡ tx.old.store }
+    ensures used { IfOk result (λ grown. grown.1 ≡ min (places * level.room) (length bytes.now)) }
+    ensures built { IfOk result (λ grown. (new : List Id) × ((ids_of grown.0.items ≡ ids_of children.now ++ new) × BuiltTrees ⟦<Tx<S> as Blocks>⟧.holdings tx.old tx.new level.depth new (take grown.1 bytes.now))) }
+    ensures few { IfOk result (λ grown. length grown.0.items ≤ fan_out (⟦<Tx<S> as Blocks>⟧.holdings.payload tx.old)) }
+    ensures some { IfOk result (λ grown. length children.now ≤ length grown.0.items) }
+    ensures there { (q : Id) → is_some (⟦<Tx<S> as Blocks>⟧.holdings.content tx.old q) ≡ true → is_some (⟦<Tx<S> as Blocks>⟧.holdings.content tx.new q) ≡ true }
+    ensures kept { (q : Id) → is_some (⟦<Tx<S> as Blocks>⟧.holdings.content tx.old q) ≡ true → get tx.new.overlay q ≡ get tx.old.overlay q }
+{
+    let used = (places * level.room).min(bytes.len() as u64) as usize;
+    let new = build_children(alloc, tx, &bytes[..used], level, chance)?;
+    let mut all = Vec::with_capacity(alloc, children.len())?;
+    all.extend_from_slice(children)?;
+    all.extend_from_slice(&new)?;
+    Ok((all, used))
+}
+
+/// A node with as many of the bytes behind those of its tree as its level has room for, and how many these are. What stands below it is put.
+#[cycle(grow)]
+pub fn grown_node<S: Blocks, R: Rng>(
+    alloc: Global,
+    tx: &mut Tx<S>,
+    node: &Node,
+    level: Level,
+    bytes: &[u8],
+    chance: &mut R,
+) -> Result<(Node, usize), Fail>
+    requires intact { ⟦<Tx<S> as Blocks>⟧.meanings.intact tx.old }
+    requires level { level.room ≡ span (⟦<Tx<S> as Blocks>⟧.holdings.payload tx.old) level.depth }
+    requires fits { FitsPayload (⟦<Tx<S> as Blocks>⟧.holdings.payload tx.old) (node_of node.now) }
+    requires depth { depth_in (node_of node.now) ≡ level.depth }
+    ensures outcome { Outcome ⟦<Tx<S> as Blocks>⟧.meanings (HasBelow ⟦<Tx<S> as Blocks>⟧.holdings tx.old level.depth (node_of node.now)) tx.old tx.new result
+        (λ n grown. Grown ⟦<Tx<S> as Blocks>⟧.holdings tx.old tx.new level.depth (node_of grown.0) (n.bytes ++ take grown.1 bytes.now) n.ids
+        × (grown.1 < length bytes.now → length n.bytes + grown.1 ≡ level.room)) }
+    ensures only { HasBelow ⟦<Tx<S> as Blocks>⟧.holdings tx.old level.depth (node_of node.now) → ⟦<Tx<S> as Blocks>⟧.meanings.sound tx.old → ⟦<Tx<S> as Blocks>⟧.meanings.forgeries tx.new ≤ ⟦<Tx<S> as Blocks>⟧.meanings.forgeries tx.old
+        → (q : Id) → is_some (⟦<Tx<S> as Blocks>⟧.holdings.content tx.old q) ≡ true → (get tx.new.overlay q ≡ get tx.old.overlay q) ⊎ OnBorderBelow (⟦<Tx<S> as Blocks>⟧.holdings.content tx.old) level.depth (node_of node.now) q }
+    ensures used { IfOk result (λ grown. grown.1 ≤ length bytes.now) }
+    ensures fits { IfOk result (λ grown. FitsPayload (⟦<Tx<S> as Blocks>⟧.holdings.payload tx.old) (node_of grown.0)) }
+    ensures depth { IfOk result (λ grown. depth_in (node_of grown.0) ≡ level.depth) }
+    ensures below { Stays S.holdings tx.old.store tx.new.store }
+    ensures there { (q : Id) → is_some (⟦<Tx<S> as Blocks>⟧.holdings.content tx.old q) ≡ true → is_some (⟦<Tx<S> as Blocks>⟧.holdings.content tx.new q) ≡ true }
+{
+    match node {
+        Node::Leaf(old) => match grown_leaf(alloc, old, level.room, bytes) {
+            Ok(grown) => Ok(grown),
+            Err(_) => Err(Fail::Memory),
+        },
+        Node::Inner { depth, children } => {
+            let below = level.below(tx.payload());
+            match grown_inner(alloc, tx, children, below, bytes, chance) {
+                Ok((children, used)) => Ok((
+                    Node::Inner {
+                        depth: *depth,
+                        children,
+                    },
+                    used,
+                )),
+                Err(fail) => Err(fail),
+            }
+        }
+    }
+}
+
+// The children of a node, the last of them grown, with new ones behind it.
+#[cycle(grow)]
+fn grown_inner<S: Blocks, R: Rng>(
+    alloc: Global,
+    tx: &mut Tx<S>,
+    children: &[BlockId],
+    level: Level,
+    bytes: &[u8],
+    chance: &mut R,
+) -> Result<(Vec<BlockId>, usize), Fail>
+    requires intact { ⟦<Tx<S> as Blocks>⟧.meanings.intact tx.old }
+    requires level { level.room ≡ span (⟦<Tx<S> as Blocks>⟧.holdings.payload tx.old) level.depth }
+    requires small { fan_out (⟦<Tx<S> as Blocks>⟧.holdings.payload tx.old) * level.room < 2 ^ 64 }
+    requires some { 0 < length children.now }
+    requires few { length children.now ≤ fan_out (⟦<Tx<S> as Blocks>⟧.holdings.payload tx.old) }
+    ensures outcome { Outcome ⟦<Tx<S> as Blocks>⟧.meanings (HasTrees ⟦<Tx<S> as Blocks>⟧.holdings tx.old level.depth (ids_of children.now)) tx.old tx.new result
+        (λ n grown. GrownTrees ⟦<Tx<S> as Blocks>⟧.holdings tx.old tx.new level.depth (ids_of grown.0.items) (n.bytes ++ take grown.1 bytes.now) n.ids
+        × (grown.1 < length bytes.now → length n.bytes + grown.1 ≡ fan_out (⟦<Tx<S> as Blocks>⟧.holdings.payload tx.old) * level.room)) }
+    ensures only { HasTrees ⟦<Tx<S> as Blocks>⟧.holdings tx.old level.depth (ids_of children.now) → ⟦<Tx<S> as Blocks>⟧.meanings.sound tx.old → ⟦<Tx<S> as Blocks>⟧.meanings.forgeries tx.new ≤ ⟦<Tx<S> as Blocks>⟧.meanings.forgeries tx.old
+        → (q : Id) → is_some (⟦<Tx<S> as Blocks>⟧.holdings.content tx.old q) ≡ true → (get tx.new.overlay q ≡ get tx.old.overlay q) ⊎ OnLastBorder (⟦<Tx<S> as Blocks>⟧.holdings.content tx.old) level.depth (ids_of children.now) q }
+    ensures used { IfOk result (λ grown. grown.1 ≤ length bytes.now) }
+    ensures some { IfOk result (λ grown. 0 < length grown.0.items) }
+    ensures few { IfOk result (λ grown. length grown.0.items ≤ fan_out (⟦<Tx<S> as Blocks>⟧.holdings.payload tx.old)) }
+    ensures below { Stays S.holdings tx.old.store tx.new.store }
+    ensures there { (q : Id) → is_some (⟦<Tx<S> as Blocks>⟧.holdings.content tx.old q) ≡ true → is_some (⟦<Tx<S> as Blocks>⟧.holdings.content tx.new q) ≡ true }
+{
+    let places = (tx.payload() as u64 - 8) / 16 - children.len() as u64;
+    let last = children.len() - 1;
+    let child = match load_at(alloc, tx, &children[last], level.depth) {
+        Ok(child) => child,
+        Err(fail) => return Err(fail),
+    };
+    let (grown, used) = match grown_node(alloc, tx, &child, level, bytes, chance) {
+        Ok(grown) => grown,
+        Err(fail) => return Err(fail),
+    };
+    match put_node(alloc, tx, &children[last], &grown) {
+        Ok(()) => {}
+        Err(_) => return Err(Fail::Memory),
+    }
+    match grown_children(alloc, tx, children, level, places, &bytes[used..], chance) {
+        Ok((all, more)) => Ok((all, used + more)),
+        Err(_) => Err(Fail::Memory),
+    }
+}

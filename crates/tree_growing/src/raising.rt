@@ -1,0 +1,70 @@
+// A tree whose depth rises: its node moves under a new id, and new trees stand beside it.
+ghost use Rattle.std.specs.Prelude.{◌≡◌, ◌≤◌, ◌<◌, ◌+◌, ◌*◌, ◌++◌, ◌^◌, true, is_some, length, IfOk};
+ghost use Rattle.std.specs.FinMap.{get};
+ghost use Rattle.store_api.specs.Content.{Id};
+ghost use Rattle.data_nodes.specs.Layout.{fan_out, node_of, FitsPayload};
+ghost use Rattle.data_tree.specs.Trees.{span};
+ghost use Rattle.tree_growing.specs.Growing.{MayRaise, Raised};
+
+use crate::growing::grown_children;
+use block_id::{BlockId, Memory};
+use data_nodes::Node;
+use data_tree::{Level, put_new};
+use rand_core::Rng;
+use std::alloc::Global;
+use store_api::{Blocks, Tx};
+
+// The level above, where blocks have payloads of this length.
+fn above(level: Level, payload: usize) -> Level
+    requires least { 50 ≤ payload }
+    requires most { payload ≤ 1048576 }
+    requires small { level.room < 2 ^ 40 }
+    requires room { level.room ≡ span payload level.depth }
+    ensures depth { result.depth ≡ level.depth + 1 }
+    ensures room { result.room ≡ span payload result.depth }
+    ensures all { result.room ≡ fan_out payload * level.room }
+    ensures more { level.room < result.room }
+{
+    Level {
+        depth: level.depth + 1,
+        room: level.room * ((payload as u64 - 8) / 16),
+    }
+}
+
+/// A node that has room for n bytes in place of a full one, and how many of the bytes it took. What stands below it is put.
+pub fn raised<S: Blocks, R: Rng>(
+    alloc: Global,
+    tx: &mut Tx<S>,
+    node: Node,
+    level: Level,
+    n: u64,
+    rest: &[u8],
+    chance: &mut R,
+) -> Result<(Node, usize), Memory>
+    requires intact { ⟦<Tx<S> as Blocks>⟧.meanings.intact tx.old }
+    requires level { level.room ≡ span (⟦<Tx<S> as Blocks>⟧.holdings.payload tx.old) level.depth }
+    requires fits { FitsPayload (⟦<Tx<S> as Blocks>⟧.holdings.payload tx.old) (node_of node) }
+    requires small { n ≤ 2 ^ 40 }
+    ensures intact { ⟦<Tx<S> as Blocks>⟧.meanings.intact tx.new }
+    ensures store { tx.new.store ≡ tx.old.store }
+    ensures raised { IfOk result (λ up. (m : MayRaise ⟦<Tx<S> as Blocks>⟧.holdings tx.old level.depth (node_of node) n (length rest.now))
+        → Raised ⟦<Tx<S> as Blocks>⟧.holdings tx.old tx.new (node_of up.0) (m.bytes ++ rest.now) m.ids × (up.1 ≡ length rest.now)) }
+    ensures used { IfOk result (λ up. up.1 ≤ length rest.now) }
+    ensures fits { IfOk result (λ up. FitsPayload (⟦<Tx<S> as Blocks>⟧.holdings.payload tx.old) (node_of up.0)) }
+    ensures there { (q : Id) → is_some (⟦<Tx<S> as Blocks>⟧.holdings.content tx.old q) ≡ true → is_some (⟦<Tx<S> as Blocks>⟧.holdings.content tx.new q) ≡ true }
+    ensures kept { (q : Id) → is_some (⟦<Tx<S> as Blocks>⟧.holdings.content tx.old q) ≡ true → get tx.new.overlay q ≡ get tx.old.overlay q }
+{
+    if level.room >= n {
+        return Ok((node, 0));
+    }
+    let first = put_new(alloc, tx, &node, chance)?;
+    let places = (tx.payload() as u64 - 8) / 16 - 1;
+    let (children, used) = grown_children(alloc, tx, &[first], level, places, rest, chance)?;
+    let level = above(level, tx.payload());
+    let node = Node::Inner {
+        depth: level.depth,
+        children,
+    };
+    let (node, more) = raised(alloc, tx, node, level, n, &rest[used..], chance)?;
+    Ok((node, used + more))
+}

@@ -1,0 +1,124 @@
+-- Roots of trees that grew or were written.
+use Rattle.std.proofs.Common.{◌≡◌, ℕ, ◌+◌, ◌-◌, ◌<◌, ◌≤◌, ◌^◌, true, false, cond, List, [], ◌∷◌, ◌++◌, length, take, drop, refl, sym, ◌∙◌, ap, subst, inl, inr, arith, append_assoc, append-nil}
+use Rattle.std.specs.Prelude.{Some, is_some}
+use Rattle.std.proofs.lemmas.Bool.{cases_lt, or_left}
+use Rattle.std.proofs.lemmas.List.{take-append-drop, length-take, length-drop, length-append, drop_all}
+use Rattle.data_nodes.specs.Layout.{NodeText, FitsPayload}
+use Rattle.store_api.specs.Content.{Id, same_id}
+use Rattle.store_api.specs.Holdings.{Holdings, Stays, has_id}
+use Rattle.data_tree.specs.Trees.{Holds, span, IsDepth, NoDoubles, Replaces}
+use Rattle.data_tree.specs.Needs.{SetsNode, Keeps}
+use Rattle.data_tree.specs.Roots.{IsRoot, IsNewRoot}
+use Rattle.data_tree.proofs.Ids.{same_self, other}
+use Rattle.data_tree.proofs.Changes.{holds_frame}
+use Rattle.data_tree.proofs.Anew.{replaces_then}
+use Rattle.data_tree.proofs.Forests.{holds-fits}
+use Rattle.outcome.specs.Bytes.{written, zeros}
+use Rattle.tree_ranges.specs.Ranges.{GrowsTo}
+use Rattle.data_tree.proofs.Borders.{replace_part, replaces_put}
+use Rattle.tree_growing.proofs.Growth.{off_the_new}
+use Rattle.tree_growing.proofs.Rising.{more_than, grown_then}
+use Rattle.tree_growing.specs.Growing.{Grown, MayRaise, Raised}
+use Rattle.tree_writing.specs.Writing.{Wrote, written_at}
+
+-- a root that grew and was put
+pub root_grown : {S : Type 0} {H : Holdings S} {a b c d : S} {root : Id} {node : NodeText} {w : List ℕ} (depth : ℕ) → Stays H a b → H.told a ≡ true → (n : IsRoot H a root) → IsDepth (H.payload d) depth (length w) → Keeps H b c → Keeps H c d
+    → Grown H b c depth node w n.tree.below → SetsNode H c d root node → IsNewRoot H a d root n.ids w
+root_grown {H = H} {a = a} {b = b} {c = c} {d = d} {root = root} {node = node} {w = w} depth stays told n deep bc cd g (text, (is, (sized, sets))) =
+    let A = H.content a in
+    let C = H.content c in
+    let D = H.content d in
+    let ab : H.content b ≡ A = λ i q. stays.content told q i in
+    let one : Replaces A C n.tree.below g.ids = subst (λ X. Replaces X C n.tree.below g.ids) ab g.replaces in
+    let both : NoDoubles (root ∷ n.tree.below) = subst NoDoubles n.tree.all n.alone in
+    let free = off_the_new A C n.tree.below g.ids one root (ap is_some n.tree.there) both.0 in
+    let grown = root ∷ g.ids in
+    let whole : Replaces A D (root ∷ n.tree.below) grown = replaces_then A C D (root ∷ n.tree.below) grown grown (replace_part A C (root ∷ []) n.tree.below g.ids one) (replaces_put C D root text grown sets (or_left (same_id root root) (has_id g.ids root) (same_self root))) in
+    record {
+      ids = grown;
+      depth = depth;
+      deep = deep;
+      tree = record {
+        text = text;
+        node = node;
+        below = g.ids;
+        there = sets root ∙ ap (λ x. cond x (Some text) (C root)) (same_self root);
+        sized = sized ∙ sym cd.payload;
+        is = is;
+        holds = subst (λ p. Holds p D depth node w g.ids) (sym cd.payload) (holds_frame (H.payload c) C D depth node w g.ids (other C D root (Some text) g.ids sets free.0) g.holds);
+        all = refl;
+      };
+      alone = (free.0, g.alone);
+      replaces = subst (λ xs. Replaces A D xs grown) (sym n.tree.all) whole;
+    }
+
+-- a root whose tree was written inside its length
+abbrev pub root_wrote : {S : Type 0} {H : Holdings S} {a b : S} {root : Id} {w : List ℕ} (depth : ℕ) → (n : IsRoot H a root) → n.depth ≡ depth → length n.bytes ≡ length w → Keeps H a b → Wrote H a b depth root w n.ids → IsRoot H b root
+root_wrote {H = H} {a = a} {b = b} {root = root} {w = w} depth n same long keeps wrote = record {
+  bytes = w;
+  ids = n.ids;
+  depth = depth;
+  small = subst (λ l. l ≤ 2 ^ 40) long n.small;
+  deep = subst (λ p. IsDepth p depth (length w)) (sym keeps.payload) (subst (λ l. IsDepth (H.payload a) depth l) long (subst (λ k. IsDepth (H.payload a) k (length n.bytes)) same n.deep));
+  tree = wrote.tree;
+  alone = n.alone;
+}
+
+pub wrote_then : {S : Type 0} {H : Holdings S} {a b c : S} {root : Id} {w v : List ℕ} {depth : ℕ} {ids : List Id} → Wrote H a b depth root w ids → IsNewRoot H b c root ids v → IsNewRoot H a c root ids v
+wrote_then {H = H} {a = a} {b = b} {c = c} {ids = ids} wrote r = record {
+  ids = r.ids;
+  depth = r.depth;
+  deep = r.deep;
+  tree = r.tree;
+  alone = r.alone;
+  replaces = replaces_then (H.content a) (H.content b) (H.content c) ids ids r.ids (record { kept = λ q o n. wrote.kept q o; gone = λ q o n. let bad : true ≡ false = sym o ∙ n in absurd (cc); came = λ q n. inl n }) r.replaces;
+}
+
+-- what is written over the end: first what lies inside, then zeros up to the place and the rest behind
+pub written_over : (from : ℕ) (bytes w : List ℕ) (inside : ℕ) → 0 < length bytes → length w < from + length bytes → inside ≡ length w - from
+    → written_at from (take inside bytes) w ++ (zeros (from - length w) ++ drop inside bytes) ≡ written w from bytes
+written_over from [] w inside some over is = absurd (omega arith)
+written_over from (byte ∷ bytes) w inside some over is =
+    let all = byte ∷ bytes in
+    let len : length (take inside all) ≡ inside = omega (arith, length-take inside all) in
+    let none : drop (from + length (take inside all)) w ≡ [] = drop_all (from + length (take inside all)) w (omega (arith, len)) in
+    let end : drop (from + length all) w ≡ [] = drop_all (from + length all) w (omega arith) in
+    let front : written_at from (take inside all) w ≡ take from w ++ take inside all = ap (λ xs. (take from w ++ take inside all) ++ xs) none ∙ append-nil (take from w ++ take inside all) in
+    let back : ((take from w ++ zeros (from - length w)) ++ all) ++ drop (from + length all) w ≡ (take from w ++ zeros (from - length w)) ++ all = ap (λ xs. ((take from w ++ zeros (from - length w)) ++ all) ++ xs) end ∙ append-nil ((take from w ++ zeros (from - length w)) ++ all) in
+    ap (λ xs. xs ++ (zeros (from - length w) ++ drop inside all)) front ∙ middle ∙ sym back
+  where
+    middle : (take from w ++ take inside (byte ∷ bytes)) ++ (zeros (from - length w) ++ drop inside (byte ∷ bytes)) ≡ (take from w ++ zeros (from - length w)) ++ (byte ∷ bytes)
+    middle = elim (cases_lt (length w) from) [
+      | inl lt ↦
+          let nothing : inside ≡ 0 = omega arith in
+          ap (λ k. (take from w ++ take k (byte ∷ bytes)) ++ (zeros (from - length w) ++ drop k (byte ∷ bytes))) nothing ∙ ap (λ xs. xs ++ (zeros (from - length w) ++ (byte ∷ bytes))) (append-nil (take from w)) ∙ sym (append_assoc (take from w) (zeros (from - length w)) (byte ∷ bytes))
+      | inr le ↦
+          let nothing : from - length w ≡ 0 = omega arith in
+          ap (λ k. (take from w ++ take inside (byte ∷ bytes)) ++ (zeros k ++ drop inside (byte ∷ bytes))) nothing ∙ append_assoc (take from w) (take inside (byte ∷ bytes)) (drop inside (byte ∷ bytes)) ∙ ap (λ xs. take from w ++ xs) (take-append-drop inside (byte ∷ bytes))
+          ∙ sym (ap (λ k. (take from w ++ zeros k) ++ (byte ∷ bytes)) nothing ∙ ap (λ xs. xs ++ (byte ∷ bytes)) (append-nil (take from w)))
+    ]
+
+-- the root's node grew, and then rose as far as n bytes need
+pub then_raised : {S : Type 0} {H : Holdings S} {a b d e : S} {root : Id} {grown last : NodeText} {more : ℕ} (depth : ℕ) (tail rest : List ℕ) (used n : ℕ) → Stays H a b → H.told a ≡ true → (g : GrowsTo H a root (length tail) n) → g.tree.depth ≡ depth → rest ≡ drop used tail → used ≤ length tail → Keeps H b d
+    → FitsPayload (H.payload b) grown → (used < length tail → length g.tree.bytes + used ≡ span (H.payload b) depth) → Grown H b d depth grown (g.tree.bytes ++ take used tail) g.tree.tree.below
+    → ((m : MayRaise H d depth grown n (length rest)) → Raised H d e last (m.bytes ++ rest) m.ids × (more ≡ length rest)) → Raised H b e last (g.tree.bytes ++ tail) g.tree.tree.below × (more ≡ length rest)
+then_raised {H = H} {a = a} {b = b} {d = d} {e = e} {grown = grown} {last = last} depth tail rest used n stays told g same cut fits keeps holds full one rise =
+    let w = g.tree.bytes ++ take used tail in
+    let long : length w ≡ length g.tree.bytes + used = omega (arith, length-append g.tree.bytes (take used tail), length-take used tail, fits) in
+    let left : length rest ≡ length tail - used = ap length cut ∙ length-drop used tail in
+    let deep : IsDepth (H.payload a) depth (length g.tree.bytes) = subst (λ k. IsDepth (H.payload a) k (length g.tree.bytes)) same g.tree.deep in
+    let room : span (H.payload d) depth ≡ span (H.payload b) depth = ap (λ p. span p depth) keeps.payload in
+    let payload : H.payload a ≡ H.payload d = sym (keeps.payload ∙ stays.payload) in
+    let next : MayRaise H d depth grown n (length rest) = record {
+      bytes = w;
+      ids = one.ids;
+      holds = one.holds;
+      alone = one.alone;
+      fits = holds-fits (H.payload d) (H.content d) depth grown w one.ids one.holds (subst (λ p. FitsPayload p grown) (sym keeps.payload) holds);
+      full = λ some. long ∙ full (omega (arith, some, left)) ∙ sym room;
+      sum = omega (arith, long, left, fits, g.sum);
+      more = λ low is. subst (λ p. span p low < n) payload (more_than (H.payload a) depth (length g.tree.bytes) n deep (omega (arith, g.sum)) low is);
+    } in
+    let r = rise next in
+    let bytes : w ++ rest ≡ g.tree.bytes ++ tail = append_assoc g.tree.bytes (take used tail) rest ∙ ap (λ xs. g.tree.bytes ++ (take used tail ++ xs)) cut ∙ ap (λ xs. g.tree.bytes ++ xs) (take-append-drop used tail) in
+    (subst (λ v. Raised H b e last v g.tree.tree.below) bytes (record { depth = r.0.depth; deep = r.0.deep; grown = grown_then {above = r.0.depth} one r.0.grown }), r.1)

@@ -1,0 +1,3 @@
+pub mod Overwriting
+pub mod Costs
+pub mod Leaves

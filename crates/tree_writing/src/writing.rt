@@ -1,0 +1,163 @@
+// Writing inside the length of a tree: only leaves change, and every id stays.
+ghost use Rattle.std.specs.Prelude.{◌≡◌, ◌⊎◌, ◌≤◌, ◌<◌, ◌+◌, ◌*◌, ℕ, List, true, is_some, length, IfOk, OnOk, Some};
+ghost use Rattle.std.specs.FinMap as fin;
+ghost use Rattle.std.specs.FinMap.{get};
+ghost use Rattle.outcome.specs.Outcome.{Outcome};
+ghost use Rattle.store_api.specs.Content.{Id};
+ghost use Rattle.store_api.specs.Holdings.{Stays};
+ghost use Rattle.data_nodes.specs.Layout.{room, fan_out, ids_of, node_of, leaf, FitsPayload};
+ghost use Rattle.data_tree.specs.Needs.{SetsNode};
+ghost use Rattle.data_tree.specs.Trees.{span, depth_in};
+ghost use Rattle.tree_writing.specs.Leaves.{OnlyLeaves, OnlyAmong};
+ghost use Rattle.tree_writing.specs.Writing.{Cost, MayWrite, MayWriteNode, MayWriteTrees, Wrote, WroteTrees, written_at};
+
+use block_id::{BlockId, Fail, Memory, Why};
+use data_nodes::Node;
+use data_tree::{Level, load_at, put_node};
+use std::alloc::Global;
+use store_api::{Blocks, Tx};
+
+// The list with these bytes from a place on.
+fn replaced(alloc: Global, old: &[u8], start: usize, bytes: &[u8]) -> Result<Vec<u8>, Memory>
+    requires { start + length bytes.now ≤ length old.now }
+    ensures { IfOk result (λ new. new.items ≡ written_at start bytes.now old.now) }
+{
+    let mut new = Vec::with_capacity(alloc, old.len())?;
+    new.extend_from_slice(&old[..start])?;
+    new.extend_from_slice(bytes)?;
+    new.extend_from_slice(&old[start + bytes.len()..])?;
+    Ok(new)
+}
+
+// Gives a leaf the bytes from a place on.
+fn write_leaf<S: Blocks>(
+    alloc: Global,
+    tx: &mut Tx<S>,
+    id: &BlockId,
+    old: &[u8],
+    from: u64,
+    bytes: &[u8],
+) -> Result<(), Fail>
+    requires intact { ⟦<Tx<S> as Blocks>⟧.meanings.intact tx.old }
+    requires there { is_some (⟦<Tx<S> as Blocks>⟧.holdings.content tx.old id.now.0) ≡ true }
+    requires fits { FitsPayload (⟦<Tx<S> as Blocks>⟧.holdings.payload tx.old) (leaf old.now) }
+    ensures outcome { Outcome ⟦<Tx<S> as Blocks>⟧.meanings (from + length bytes.now ≤ length old.now) tx.old tx.new result
+        (λ _ _. SetsNode ⟦<Tx<S> as Blocks>⟧.holdings tx.old tx.new id.now.0 (leaf (written_at from bytes.now old.now))) }
+    ensures others { (q : Id) → (get tx.new.overlay q ≡ get tx.old.overlay q) ⊎ ((q ≡ id.now.0) × (from + length bytes.now ≤ length old.now)) }
+    ensures few { (fin.len tx.new.overlay ≤ fin.len tx.old.overlay) ⊎ ((fin.len tx.new.overlay ≤ fin.len tx.old.overlay + 1) × (from + length bytes.now ≤ length old.now)) }
+    ensures below { Stays S.holdings tx.old.store tx.new.store }
+    ensures there { (q : Id) → is_some (⟦<Tx<S> as Blocks>⟧.holdings.content tx.old q) ≡ true → is_some (⟦<Tx<S> as Blocks>⟧.holdings.content tx.new q) ≡ true }
+{
+    let start = from as usize;
+    if start > old.len() || bytes.len() > old.len() - start {
+        return Err(Fail::Violation(Why::Structure));
+    }
+    let new = match replaced(alloc, old, start, bytes) {
+        Ok(new) => new,
+        Err(_) => return Err(Fail::Memory),
+    };
+    match put_node(alloc, tx, id, &Node::Leaf(new)) {
+        Ok(()) => Ok(()),
+        Err(_) => Err(Fail::Memory),
+    }
+}
+
+/// Has the bytes stand from a place on in a tree.
+#[cycle(write)]
+pub fn write_below<S: Blocks>(
+    alloc: Global,
+    tx: &mut Tx<S>,
+    id: &BlockId,
+    level: Level,
+    from: u64,
+    bytes: &[u8],
+) -> Result<(), Fail>
+    requires intact { ⟦<Tx<S> as Blocks>⟧.meanings.intact tx.old }
+    requires level { level.room ≡ span (⟦<Tx<S> as Blocks>⟧.holdings.payload tx.old) level.depth }
+    ensures outcome { Outcome ⟦<Tx<S> as Blocks>⟧.meanings (MayWrite ⟦<Tx<S> as Blocks>⟧.holdings tx.old level.depth id.now.0 from (length bytes.now)) tx.old tx.new result
+        (λ n _. Wrote ⟦<Tx<S> as Blocks>⟧.holdings tx.old tx.new level.depth id.now.0 (written_at from bytes.now n.tree.bytes) n.tree.ids) }
+    ensures only { (n : MayWrite ⟦<Tx<S> as Blocks>⟧.holdings tx.old level.depth id.now.0 from (length bytes.now)) → ⟦<Tx<S> as Blocks>⟧.meanings.sound tx.old → ⟦<Tx<S> as Blocks>⟧.meanings.forgeries tx.new ≤ ⟦<Tx<S> as Blocks>⟧.meanings.forgeries tx.old
+        → OnlyLeaves (⟦<Tx<S> as Blocks>⟧.holdings.payload tx.old) (⟦<Tx<S> as Blocks>⟧.holdings.content tx.old) level.depth id.now.0 from (length bytes.now) tx.old.overlay tx.new.overlay }
+    ensures cost { Cost (room (⟦<Tx<S> as Blocks>⟧.holdings.payload tx.old)) (fin.len tx.old.overlay) (fin.len tx.new.overlay) from (length bytes.now) level.room }
+    ensures below { Stays S.holdings tx.old.store tx.new.store }
+    ensures there { (q : Id) → is_some (⟦<Tx<S> as Blocks>⟧.holdings.content tx.old q) ≡ true → is_some (⟦<Tx<S> as Blocks>⟧.holdings.content tx.new q) ≡ true }
+{
+    if bytes.is_empty() {
+        return Ok(());
+    }
+    match load_at(alloc, tx, id, level.depth) {
+        Ok(node) => write_in(alloc, tx, id, &node, level, from, bytes),
+        Err(fail) => Err(fail),
+    }
+}
+
+/// Has the bytes stand from a place on in a tree whose node was loaded.
+#[cycle(write)]
+pub fn write_in<S: Blocks>(
+    alloc: Global,
+    tx: &mut Tx<S>,
+    id: &BlockId,
+    node: &Node,
+    level: Level,
+    from: u64,
+    bytes: &[u8],
+) -> Result<(), Fail>
+    requires intact { ⟦<Tx<S> as Blocks>⟧.meanings.intact tx.old }
+    requires level { level.room ≡ span (⟦<Tx<S> as Blocks>⟧.holdings.payload tx.old) level.depth }
+    requires there { is_some (⟦<Tx<S> as Blocks>⟧.holdings.content tx.old id.now.0) ≡ true }
+    requires fits { FitsPayload (⟦<Tx<S> as Blocks>⟧.holdings.payload tx.old) (node_of node.now) }
+    requires depth { depth_in (node_of node.now) ≡ level.depth }
+    requires some { 0 < length bytes.now }
+    ensures outcome { Outcome ⟦<Tx<S> as Blocks>⟧.meanings (MayWriteNode ⟦<Tx<S> as Blocks>⟧.holdings tx.old level.depth id.now.0 (node_of node.now) from (length bytes.now)) tx.old tx.new result
+        (λ n _. Wrote ⟦<Tx<S> as Blocks>⟧.holdings tx.old tx.new level.depth id.now.0 (written_at from bytes.now n.tree.bytes) n.tree.ids) }
+    ensures only { (n : MayWriteNode ⟦<Tx<S> as Blocks>⟧.holdings tx.old level.depth id.now.0 (node_of node.now) from (length bytes.now)) → ⟦<Tx<S> as Blocks>⟧.meanings.sound tx.old → ⟦<Tx<S> as Blocks>⟧.meanings.forgeries tx.new ≤ ⟦<Tx<S> as Blocks>⟧.meanings.forgeries tx.old
+        → OnlyLeaves (⟦<Tx<S> as Blocks>⟧.holdings.payload tx.old) (⟦<Tx<S> as Blocks>⟧.holdings.content tx.old) level.depth id.now.0 from (length bytes.now) tx.old.overlay tx.new.overlay }
+    ensures cost { Cost (room (⟦<Tx<S> as Blocks>⟧.holdings.payload tx.old)) (fin.len tx.old.overlay) (fin.len tx.new.overlay) from (length bytes.now) level.room }
+    ensures below { Stays S.holdings tx.old.store tx.new.store }
+    ensures there { (q : Id) → is_some (⟦<Tx<S> as Blocks>⟧.holdings.content tx.old q) ≡ true → is_some (⟦<Tx<S> as Blocks>⟧.holdings.content tx.new q) ≡ true }
+{
+    match node {
+        Node::Leaf(old) => write_leaf(alloc, tx, id, old, from, bytes),
+        Node::Inner { depth: _, children } => {
+            let below = level.below(tx.payload());
+            write_children(alloc, tx, children, below, from, bytes)
+        }
+    }
+}
+
+// Has the bytes stand from a place on in the trees that stand side by side.
+#[cycle(write)]
+fn write_children<S: Blocks>(
+    alloc: Global,
+    tx: &mut Tx<S>,
+    children: &[BlockId],
+    level: Level,
+    from: u64,
+    bytes: &[u8],
+) -> Result<(), Fail>
+    requires intact { ⟦<Tx<S> as Blocks>⟧.meanings.intact tx.old }
+    requires level { level.room ≡ span (⟦<Tx<S> as Blocks>⟧.holdings.payload tx.old) level.depth }
+    requires few { length children.now ≤ fan_out (⟦<Tx<S> as Blocks>⟧.holdings.payload tx.old) }
+    ensures outcome { Outcome ⟦<Tx<S> as Blocks>⟧.meanings (MayWriteTrees ⟦<Tx<S> as Blocks>⟧.holdings tx.old level.depth (ids_of children.now) from (length bytes.now)) tx.old tx.new result
+        (λ n _. WroteTrees ⟦<Tx<S> as Blocks>⟧.holdings tx.old tx.new level.depth (ids_of children.now) (written_at from bytes.now n.trees.bytes) n.trees.ids) }
+    ensures only { (n : MayWriteTrees ⟦<Tx<S> as Blocks>⟧.holdings tx.old level.depth (ids_of children.now) from (length bytes.now)) → ⟦<Tx<S> as Blocks>⟧.meanings.sound tx.old → ⟦<Tx<S> as Blocks>⟧.meanings.forgeries tx.new ≤ ⟦<Tx<S> as Blocks>⟧.meanings.forgeries tx.old
+        → OnlyAmong (⟦<Tx<S> as Blocks>⟧.holdings.payload tx.old) (⟦<Tx<S> as Blocks>⟧.holdings.content tx.old) level.depth (ids_of children.now) from (length bytes.now) tx.old.overlay tx.new.overlay }
+    ensures cost { Cost (room (⟦<Tx<S> as Blocks>⟧.holdings.payload tx.old)) (fin.len tx.old.overlay) (fin.len tx.new.overlay) from (length bytes.now) (fan_out (⟦<Tx<S> as Blocks>⟧.holdings.payload tx.old) * level.room) }
+    ensures below { Stays S.holdings tx.old.store tx.new.store }
+    ensures there { (q : Id) → is_some (⟦<Tx<S> as Blocks>⟧.holdings.content tx.old q) ≡ true → is_some (⟦<Tx<S> as Blocks>⟧.holdings.content tx.new q) ≡ true }
+{
+    let mut place = from;
+    let mut rest = bytes;
+    for child in children {
+        let (now, later) = rest.split_at(
+            level.room.saturating_sub(place).min(rest.len() as u64) as usize,
+        );
+        match write_below(alloc, tx, child, level, place, now) {
+            Ok(()) => {}
+            Err(fail) => return Err(fail),
+        }
+        place = place.saturating_sub(level.room);
+        rest = later;
+    }
+    Ok(())
+}
