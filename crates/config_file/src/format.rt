@@ -1,9 +1,9 @@
 // The parts of the file, read.
 ghost use Rattle.std.specs.Prelude.{◌≡◌, length, None, IfSome};
-ghost use Rattle.std.specs.Int.{w32, w64, from_le_bytes};
 ghost use Rattle.std.specs.Option.{option_map};
 ghost use Rattle.config_file.specs.Format.{HasForm, begins_with, cipher_field, cost_in, sealed_in, text_in};
 
+use byte_fields::{u32_of, u64_of};
 use scrypt_kdf::Params;
 
 /// How many bytes the file has.
@@ -32,24 +32,6 @@ pub(crate) fn params_from(bytes: &[u8]) -> Option<Params>
     let r = u32_of(&bytes[30..34]);
     let p = u32_of(&bytes[34..38]);
     Params::new(n, r, p).ok()
-}
-
-fn u64_of(bytes: &[u8]) -> u64
-    requires { length bytes.now ≡ 8 }
-    ensures { result ≡ from_le_bytes w64 bytes.now }
-{
-    let mut word = [0; 8];
-    word.copy_from_slice(bytes);
-    u64::from_le_bytes(word)
-}
-
-fn u32_of(bytes: &[u8]) -> u32
-    requires { length bytes.now ≡ 4 }
-    ensures { result ≡ from_le_bytes w32 bytes.now }
-{
-    let mut word = [0; 4];
-    word.copy_from_slice(bytes);
-    u32::from_le_bytes(word)
 }
 
 /// The innermost part, sealed, in an inner part.

@@ -1,6 +1,5 @@
 // Sealing a configuration as its file.
 ghost use Rattle.std.specs.Prelude.{◌≡◌, ◌≤◌, ◌++◌, length, IfOk, OnOk};
-ghost use Rattle.std.specs.Int.{w32, to_le_bytes};
 ghost use Rattle.aes_gcm.specs.Gcm.{sealed_of};
 ghost use Rattle.scrypt_kdf.specs.Cost.{IsAllowed};
 ghost use Rattle.config_file.specs.ConfigOf.{IsOnly, opened};
@@ -14,6 +13,7 @@ use crate::keys::{Keys, derive_keys};
 use aes_block::KeySchedule;
 use aes_gcm::gcm_seal;
 use block_id::Memory;
+use byte_fields::{put_u32, put_u64};
 use scrypt_kdf::Params;
 use std::alloc::Global;
 
@@ -87,18 +87,11 @@ fn outer_part(alloc: Global, params: &Params, salt: &[u8; 32]) -> Result<Vec<u8>
 {
     let mut part = Vec::with_capacity(alloc, FILE_LEN)?;
     part.extend_from_slice(&OUTER_FRONT)?;
-    part.extend_from_slice(&params.n().to_le_bytes())?;
+    put_u64(&mut part, params.n())?;
     put_u32(&mut part, params.r())?;
     put_u32(&mut part, params.p())?;
     part.extend_from_slice(salt)?;
     Ok(part)
-}
-
-fn put_u32(out: &mut Vec<u8>, number: u32) -> Result<(), Memory>
-    ensures { OnOk result (out.new.items ≡ out.old.items ++ to_le_bytes w32 number) }
-{
-    out.extend_from_slice(&number.to_le_bytes())?;
-    Ok(())
 }
 
 /// Appends a plaintext, sealed.

@@ -1,32 +1,15 @@
 -- Parts of a node's text: bytes, the header, the fill, and ids one after the other.
-use Rattle.std.proofs.Common.{◌≡◌, ℕ, zero, suc, ◌+◌, ◌-◌, ◌*◌, ◌/◌, ◌^◌, ◌<◌, ◌≤◌, Bool, true, false, cond, eqb, ltb, List, [], ◌∷◌, ◌++◌, length, get_or, take, drop, replicate, All, refl, sym, ap, ◌∙◌, append_assoc, arith, inl, inr}
-use Rattle.std.specs.Prelude.{slice_index, Option, Some, None}
+use Rattle.std.proofs.Common.{◌≡◌, ℕ, zero, suc, ◌+◌, ◌-◌, ◌*◌, ◌/◌, ◌^◌, ◌<◌, ◌≤◌, true, false, eqb, ltb, List, [], ◌∷◌, ◌++◌, length, take, drop, replicate, All, refl, sym, ap, ◌∙◌, append_assoc, arith}
+use Rattle.std.specs.Prelude.{slice_index}
 use Rattle.std.specs.List.{concat}
 use Rattle.std.specs.Int.{w16, w32, to_le_bytes, from_le_bytes}
-use Rattle.std.proofs.lemmas.Bool.{cases_lt, eqb-true, and_parts, le-ltb}
-use Rattle.std.proofs.lemmas.List.{take_at, drop_at, take-append-drop, length-append, length-take, length-drop, length-replicate, nil_from_length, get_or-drop, get_or-take, get_or_past}
+use Rattle.std.proofs.lemmas.Bool.{eqb-true, and_parts, le-ltb}
+use Rattle.std.proofs.lemmas.List.{take_at, drop_at, take-append-drop, length-append, length-take, length-drop, length-replicate, nil_from_length}
 use Rattle.std.proofs.lemmas.List.Elements.{All-nil, All-cons, All-head, All-tail}
-use Rattle.std.proofs.lemmas.Nat.{le_bytes_2, le_bytes_4, from_le_bytes-to_le_bytes_4}
+use Rattle.byte_fields.specs.Fields.{IsBytes}
+use Rattle.byte_fields.proofs.Fields.{IsBytes-take, IsBytes-drop, wide16, wide32}
 use Rattle.data_nodes.specs.Layout.{header}
 use Rattle.data_nodes.specs.Reading.{is_zeros, cut, contents_at, node_at}
-
-abbrev pub IsBytes : List ℕ → Type 0
-IsBytes bytes = (i : ℕ) → get_or bytes i 0 < 256
-
-pub IsBytes-drop : (n : ℕ) (bytes : List ℕ) → IsBytes bytes → IsBytes (drop n bytes)
-IsBytes-drop n bytes fits i = rw get_or-drop (fits (n + i))
-
-pub IsBytes-take : (n : ℕ) (bytes : List ℕ) → IsBytes bytes → IsBytes (take n bytes)
-IsBytes-take n bytes fits i =
-    elim (cases_lt i n) [
-      | inl lt ↦ rw (get_or-take n bytes i 0 lt) (fits i)
-      | inr le ↦ rw (get_or_past (take n bytes) i 0 (omega (arith, length-take n bytes))) (omega arith)
-    ]
-
--- what a test with no answer let through
-pub some_behind : {A : Type 0} (b : Bool) (x : Option A) (y : A) → cond b None x ≡ Some y → (b ≡ false) × (x ≡ Some y)
-some_behind true x y e = absurd cc
-some_behind false x y e = (refl, e)
 
 -- ---- zeros
 
@@ -91,16 +74,13 @@ cut_again (id ∷ ids) each =
 
 -- ---- the header
 
-pub u32_below : (bytes : List ℕ) → IsBytes bytes → from_le_bytes w32 bytes < 2 ^ 32
-u32_below bytes fits = omega (arith, fits 0, fits 1, fits 2, fits 3)
-
 pub header_takes : (payload : List ℕ) → IsBytes payload → 8 ≤ length payload → from_le_bytes w16 (take 2 payload) ≡ 0 → slice_index payload 2 ≡ 0
     → payload ≡ header (slice_index payload 3) (from_le_bytes w32 (take 4 (drop 4 payload))) ++ drop 8 payload
 header_takes (a ∷ b ∷ c ∷ depth ∷ d ∷ e ∷ f ∷ g ∷ rest) fits long format zero_byte =
     let payload : List ℕ = a ∷ b ∷ c ∷ depth ∷ d ∷ e ∷ f ∷ g ∷ rest in
-    let first : to_le_bytes w16 0 ≡ take 2 payload = le_bytes_2 (take 2 payload) 0 refl (IsBytes-take 2 payload fits) (sym format) in
+    let first : to_le_bytes w16 0 ≡ take 2 payload = ap (to_le_bytes w16) (sym format) ∙ wide16.back (take 2 payload) refl (IsBytes-take 2 payload fits) in
     let size : to_le_bytes w32 (from_le_bytes w32 (take 4 (drop 4 payload))) ≡ take 4 (drop 4 payload) =
-    le_bytes_4 (take 4 (drop 4 payload)) _ refl (IsBytes-take 4 (drop 4 payload) (IsBytes-drop 4 payload fits)) refl in
+    wide32.back (take 4 (drop 4 payload)) refl (IsBytes-take 4 (drop 4 payload) (IsBytes-drop 4 payload fits)) in
     sym (ap (λ u. (u ++ 0 ∷ depth ∷ to_le_bytes w32 (from_le_bytes w32 (take 4 (drop 4 payload)))) ++ rest) first
     ∙ ap (λ u. (take 2 payload ++ 0 ∷ depth ∷ u) ++ rest) size
     ∙ ap (λ u. a ∷ b ∷ u ∷ depth ∷ d ∷ e ∷ f ∷ g ∷ rest) (sym zero_byte))
@@ -110,5 +90,5 @@ pub header_again : (depth size : ℕ) (contents : List ℕ) → size < 2 ^ 32 �
 unfolding node_at
 header_again depth size contents small =
     let long : ltb (length (header depth size ++ contents)) 8 ≡ false = le-ltb _ _ (omega (arith, length-append (header depth size) contents)) in
-    let number : from_le_bytes w32 (to_le_bytes w32 size) ≡ size = from_le_bytes-to_le_bytes_4 size small in
+    let number : from_le_bytes w32 (to_le_bytes w32 size) ≡ size = wide32.again size small in
     rw (long, number) refl

@@ -12,9 +12,11 @@ use Rattle.std.proofs.lemmas.List.{take_at, drop_at, take-append-drop, length-ap
 use Rattle.std.proofs.lemmas.Option.{same_Some}
 use Rattle.std.proofs.lemmas.List.Folds.{concat-append}
 use Rattle.std.proofs.lemmas.List.Elements.{All-more, All-map}
+use Rattle.byte_fields.specs.Fields.{IsBytes}
+use Rattle.byte_fields.proofs.Fields.{IsBytes-take, IsBytes-drop, some_behind, wide32}
 use Rattle.data_nodes.specs.Layout.{NodeText, node_of, ids_of, size_of, leaf, inner, header, text_of, HasTypes, FitsPayload, IsNode}
 use Rattle.data_nodes.specs.Reading.{is_zeros, cut, leaf_in, inner_in, contents_at, node_at}
-use Rattle.data_nodes.proofs.Fields.{IsBytes, IsBytes-take, IsBytes-drop, some_behind, zeros_are, zeros_again, filled, cut_next, length-cut, concat-cut, cut_ids, cut_again, length-concat_ids, u32_below, header_takes, header_again}
+use Rattle.data_nodes.proofs.Fields.{zeros_are, zeros_again, filled, cut_next, length-cut, concat-cut, cut_ids, cut_again, length-concat_ids, header_takes, header_again}
 
 -- contents that are a body of this length and zeros
 split_fill : (len : ℕ) (contents : List ℕ) → is_zeros (drop len contents) ≡ true → contents ≡ take len contents ++ replicate (length (drop len contents)) 0
@@ -68,7 +70,7 @@ node_takes payload node fits e =
     let tests = or_parts (ltb (length payload) 8 || not (eqb (from_le_bytes w16 (take 2 payload)) 0)) (not (eqb (slice_index payload 2) 0)) behind.0 in
     let front = or_parts (ltb (length payload) 8) (not (eqb (from_le_bytes w16 (take 2 payload)) 0)) tests.0 in
     let whole = header_takes payload fits (ltb-false _ _ front.0) (eqb-true _ _ (not-false _ front.1)) (eqb-true _ _ (not-false _ tests.1)) in
-    let small : size < 2 ^ 32 = u32_below (take 4 (drop 4 payload)) (IsBytes-take 4 (drop 4 payload) (IsBytes-drop 4 payload fits)) in
+    let small : size < 2 ^ 32 = wide32.below (take 4 (drop 4 payload)) (IsBytes-take 4 (drop 4 payload) (IsBytes-drop 4 payload fits)) in
     elim (cases_eq depth 0) [
       | inl none ↦ leaf_takes payload contents size node small (whole ∙ ap (λ d. header d size ++ contents) none) (rw (← cond-true (eqb depth 0) (leaf_in size contents) (inner_in depth size contents) (eq-eqb _ _ none)) behind.1)
       | inr some ↦ inner_takes payload contents depth size node (fits 3) (omega arith) small whole (rw (← cond-false (eqb depth 0) (leaf_in size contents) (inner_in depth size contents) (ne_eqb _ _ some)) behind.1)

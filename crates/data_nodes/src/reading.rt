@@ -7,6 +7,7 @@ ghost use Rattle.data_nodes.specs.Reading.{is_zeros, leaf_in, inner_in, node_at,
 use crate::Node;
 use crate::node::{HEADER_LEN, ID_LEN, NODE_FORMAT};
 use block_id::{BlockId, Memory};
+use byte_fields::{u16_of, u32_of};
 use std::alloc::Global;
 
 /// The node that a payload holds, or None where it holds none. A payload of any length is taken.
@@ -31,11 +32,11 @@ fn node_from(alloc: Global, payload: &[u8]) -> Result<Option<Node>, Memory>
     let Some((header, contents)) = payload.split_first_chunk::<HEADER_LEN>() else {
         return Ok(None);
     };
-    if u16::from_le_bytes([header[0], header[1]]) != NODE_FORMAT || header[2] != 0 {
+    if u16_of(&header[..2]) != NODE_FORMAT || header[2] != 0 {
         return Ok(None);
     }
     let depth = header[3];
-    let size = u32::from_le_bytes([header[4], header[5], header[6], header[7]]) as usize;
+    let size = u32_of(&header[4..]) as usize;
     if depth == 0 {
         leaf_from(alloc, size, contents)
     } else {

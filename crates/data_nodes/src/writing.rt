@@ -6,6 +6,7 @@ ghost use Rattle.data_nodes.specs.Layout.{FitsPayload, IsNode, IsPayloadLen, Has
 use crate::Node;
 use crate::node::NODE_FORMAT;
 use block_id::{BlockId, Memory};
+use byte_fields::{put_id, put_u16, put_u32};
 use std::alloc::Global;
 
 /// The payload of `payload` bytes that holds the node.
@@ -43,11 +44,10 @@ fn put_node(out: &mut Vec<u8>, node: &Node) -> Result<(), Memory>
 fn put_header(out: &mut Vec<u8>, depth: u8, size: u32) -> Result<(), Memory>
     ensures { OnOk result (out.new.items ≡ out.old.items ++ header depth size) }
 {
-    out.extend_from_slice(&NODE_FORMAT.to_le_bytes())?;
+    put_u16(out, NODE_FORMAT)?;
     out.push(0)?;
     out.push(depth)?;
-    out.extend_from_slice(&size.to_le_bytes())?;
-    Ok(())
+    put_u32(out, size)
 }
 
 fn put_ids(out: &mut Vec<u8>, ids: &[BlockId]) -> Result<(), Memory>
@@ -57,13 +57,5 @@ fn put_ids(out: &mut Vec<u8>, ids: &[BlockId]) -> Result<(), Memory>
     for id in ids {
         put_id(out, id)?;
     }
-    Ok(())
-}
-
-fn put_id(out: &mut Vec<u8>, id: &BlockId) -> Result<(), Memory>
-    ensures text { OnOk result (out.new.items ≡ out.old.items ++ id.now.0) }
-    ensures len { length id.now.0 ≡ 16 }
-{
-    out.extend_from_slice(&id.0)?;
     Ok(())
 }

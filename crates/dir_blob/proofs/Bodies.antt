@@ -17,11 +17,10 @@ use Rattle.fs_model.specs.Instant.{Instant}
 use Rattle.fs_blobs.specs.Kinds.{byte_of}
 use Rattle.fs_model.specs.declared.limits.TheConstants.{MAX_MODE}
 use Rattle.fs_model.specs.Tree.{name_cmp}
-use Rattle.fs_blobs.proofs.Laws.{IsBytes}
+use Rattle.byte_fields.specs.Fields.{IsBytes}
 use Rattle.dir_blob.specs.declared.entry.Entry.{Entry}
 use Rattle.dir_blob.specs.Layout.{Target, Listing, entry_of, listing_of, moment_text, attr_text, entry_text, body_of, IsEntry, IsInOrder, HasModes, IsListing, IsBody}
 use Rattle.dir_blob.specs.Reading.{kind_of, access_at, attr_at, entry_at, rises}
-use Rattle.fs_blobs.proofs.Laws.{IsBytes}
 use Rattle.dir_blob.proofs.EntryCodec.{entry_codec}
 
 -- ---- order
@@ -110,7 +109,7 @@ reads_next body listing rest e after reads found up =
     flat_map-append entry_text listing (e ∷ []) ∙ ap (λ x. body_of listing ++ x) (append-nil (entry_text e)) in
     record {
       parts = reads.parts ∙ ap (λ x. body_of listing ++ x) took.0.parts ∙ sym (append_assoc (body_of listing) (entry_text e) after) ∙ ap (λ x. x ++ after) (sym joined);
-      bytes = took.0.bytes;
+      bytes = took.0.rest_fits;
       entries = record { entries = All-push IsEntry listing e reads.entries.entries took.1; order = sorted_push listing e reads.entries.order up };
       others = λ all is.
           let back = reads.others all is in

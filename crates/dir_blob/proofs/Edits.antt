@@ -20,7 +20,7 @@ use Rattle.block_id.proofs.Tests.{true_of}
 use Rattle.outcome.specs.Bytes.{zeros, resized, written, pieces}
 use Rattle.fs_model.specs.Tree.{name_cmp}
 use Rattle.fs_model.proofs.TreeLemmas.{name_total}
-use Rattle.fs_blobs.proofs.Laws.{IsBytes}
+use Rattle.byte_fields.specs.Fields.{IsBytes}
 use Rattle.dir_blob.specs.Layout.{Target, Listing, attr_text, moment_text, entry_text, body_of, IsEntry, IsInOrder, IsListing, IsBody}
 use Rattle.dir_blob.specs.Reading.{entry_at}
 use Rattle.dir_blob.proofs.EntryCodec.{entry_codec}
@@ -60,7 +60,7 @@ passes_next name body rest e after passes found above =
     let fewer : length after < length rest = after_shorter rest e after passes.bytes found in
     let took = (entry_codec.takes rest e after passes.bytes found).0 in
     record {
-      bytes = took.bytes;
+      bytes = took.rest_fits;
       shorter = omega (arith, passes.shorter);
       front = passes.front ++ entry_text e;
       parts = passes.parts ∙ (ap (λ x. passes.front ++ x) took.parts ∙ sym (append_assoc passes.front (entry_text e) after));

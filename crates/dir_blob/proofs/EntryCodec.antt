@@ -10,11 +10,13 @@ use Rattle.fs_model.specs.declared.attr.Kind.{Kind}
 use Rattle.fs_model.specs.declared.limits.TheConstants.{MAX_NAME, MAX_MODE, NANOS_PER_SEC}
 use Rattle.fs_model.specs.Instant.{Instant}
 use Rattle.fs_model.specs.Names.{is_name, is_dots, is_reserved}
+use Rattle.byte_fields.specs.Fields.{IsBytes, front_at, number_at}
+use Rattle.byte_fields.proofs.Fields.{mapped, Takes}
 use Rattle.fs_blobs.specs.Kinds.{byte_of, kind_at}
-use Rattle.fs_blobs.proofs.Laws.{IsBytes, kind_takes, kind_again}
+use Rattle.fs_blobs.proofs.Laws.{kind_takes, kind_again}
 use Rattle.dir_blob.specs.Layout.{moment_text, attr_text, entry_text, IsMoment, IsAttr, IsEntry}
-use Rattle.dir_blob.specs.Reading.{where_at, number_at, kind_of, text_at, id_at, moment_at, Parts, attr_of, access_at, owner_at, times_at, attr_at, entry_at}
-use Rattle.dir_blob.proofs.Fields.{mapped, Takes, IsCodec, then_codec, where_codec, map_codec, u32_codec, u64_codec, id_codec, text_codec, none_at}
+use Rattle.dir_blob.specs.Reading.{where_at, kind_of, text_at, moment_at, Parts, attr_of, access_at, owner_at, times_at, attr_at, entry_at}
+use Rattle.dir_blob.proofs.Fields.{IsCodec, then_codec, where_codec, map_codec, u32_codec, u64_codec, id_codec, text_codec, none_at}
 
 kind_reads : (bytes : List ℕ) (kind : Kind) (rest : List ℕ) → IsBytes bytes → kind_of bytes ≡ Some (kind, rest) → Takes bytes (byte_of kind ∷ []) rest × Unit {0}
 unfolding kind_of
@@ -23,7 +25,7 @@ kind_reads (byte ∷ bytes) kind rest fits e =
     let found = mapped (kind_at byte) (λ k. (k, bytes)) (kind, rest) e in
     let is : byte ≡ byte_of found.0 = kind_takes byte found.0 found.1 in
     subst (λ (y : Kind × List ℕ). Takes (byte ∷ bytes) (byte_of y.0 ∷ []) y.1 × Unit {0}) found.2
-    (record { parts = ap (λ b. b ∷ bytes) is; bytes = λ i. fits (suc i) }, tt)
+    (record { parts = ap (λ b. b ∷ bytes) is; rest_fits = λ i. fits (suc i) }, tt)
 
 kind_codec : IsCodec kind_of (λ kind. byte_of kind ∷ []) (λ _. Unit {0})
 unfolding kind_of
@@ -106,4 +108,4 @@ entry_codec =
     map_codec (λ p. (p.1.0, record { attr = p.0; blob = p.1.1 })) (λ e. (e.1.attr, (e.0, e.1.blob))) _ _ entry_text _ IsEntry (λ e. refl) same_entry
     (λ p is. record { name = is.1.0; attr = is.0; blob = is.1.1 })
     (λ e is. (is.attr, (is.name, is.blob)))
-    (then_codec attr_at _ attr_text _ IsAttr _ attr_codec (then_codec (where_at is_name text_at) id_at (λ text. text ++ 0 ∷ []) (λ id. id) _ _ (text_codec is_name without_zero) id_codec))
+    (then_codec attr_at _ attr_text _ IsAttr _ attr_codec (then_codec (where_at is_name text_at) (front_at 16) (λ text. text ++ 0 ∷ []) (λ id. id) _ _ (text_codec is_name without_zero) id_codec))

@@ -1,48 +1,18 @@
 -- Readers whose fields are read as they were written.
-use Rattle.std.proofs.Common.{◌≡◌, ℕ, zero, suc, ◌+◌, ◌^◌, ◌<◌, ◌≤◌, Bool, true, false, cond, eqb, ltb, List, [], ◌∷◌, ◌++◌, length, get_or, take, drop, refl, sym, ap, subst, ◌∙◌, append_assoc, arith, inl, inr}
+use Rattle.std.proofs.Common.{◌≡◌, ℕ, zero, suc, ◌+◌, ◌^◌, ◌<◌, Bool, true, false, cond, eqb, ltb, List, [], ◌∷◌, ◌++◌, length, get_or, take, drop, refl, sym, ap, subst, ◌∙◌, append_assoc, arith}
 use Rattle.std.specs.Prelude.{Option, Some, None, option_and_then}
 use Rattle.std.specs.Option.{option_map}
 use Rattle.std.specs.List.{position, position_or_len, list_any}
-use Rattle.std.specs.Int.{Width, w32, w64, byte_len, to_le_bytes, from_le_bytes}
+use Rattle.std.specs.Int.{w32, w64, to_le_bytes}
 use Rattle.std.proofs.Math.Seq.{drop-cons}
-use Rattle.std.proofs.lemmas.Bool.{cases_lt, ltb-false, lt-ltb, le-ltb, eqb-true, or_parts}
-use Rattle.std.proofs.lemmas.List.{take_at, drop_at, get_or_at, get_or_append_left, take-append-drop, length-append, length-take, get_or-drop, get_or-take, get_or_past}
+use Rattle.std.proofs.lemmas.Bool.{lt-ltb, eqb-true, or_parts}
+use Rattle.std.proofs.lemmas.List.{take_at, drop_at, get_or_at, get_or_append_left, take-append-drop, length-append}
 use Rattle.std.proofs.lemmas.List.Quantifiers.{position-Some}
 use Rattle.std.proofs.lemmas.List.Sums.{position_or_len_is}
-use Rattle.std.proofs.lemmas.Option.{cond_some, same_Some}
-use Rattle.std.proofs.lemmas.Nat.{le_bytes_4, le_bytes_8, from_le_bytes-to_le_bytes_4, from_le_bytes-to_le_bytes_8}
-use Rattle.fs_blobs.proofs.Laws.{IsBytes, some_behind}
-use Rattle.dir_blob.specs.Reading.{Reader, then_at, where_at, map_at, number_at, text_at, id_at}
-
-pub IsBytes-drop : (n : ℕ) (bytes : List ℕ) → IsBytes bytes → IsBytes (drop n bytes)
-IsBytes-drop n bytes fits i = rw get_or-drop (fits (n + i))
-
-pub IsBytes-take : (n : ℕ) (bytes : List ℕ) → IsBytes bytes → IsBytes (take n bytes)
-IsBytes-take n bytes fits i =
-    elim (cases_lt i n) [
-      | inl lt ↦ rw (get_or-take n bytes i 0 lt) (fits i)
-      | inr le ↦ rw (get_or_past (take n bytes) i 0 (omega (arith, length-take n bytes))) (omega arith)
-    ]
-
--- what a step that gave an answer was given
-pub bound : {A B : Type 0} (o : Option A) (f : A → Option B) (y : B) → option_and_then f o ≡ Some y → (x : A) × (o ≡ Some x) × (f x ≡ Some y)
-bound (Some x) f y e = (x, refl, e)
-bound None f y e = absurd cc
-
-pub mapped : {A B : Type 0} (o : Option A) (f : A → B) (y : B) → option_map f o ≡ Some y → (x : A) × (o ≡ Some x) × (f x ≡ y)
-mapped (Some x) f y e = (x, refl, cc)
-mapped None f y e = absurd cc
-
--- what a reader took from the front
-pub record Takes (all text rest : List ℕ) : Type 0 where
-  pub parts : all ≡ text ++ rest
-  pub bytes : IsBytes rest
-
-pub Takes-then : (bytes first rest second after : List ℕ) → Takes bytes first rest → Takes rest second after → Takes bytes (first ++ second) after
-Takes-then bytes first rest second after p q = record {
-  parts = p.parts ∙ ap (λ x. first ++ x) q.parts ∙ sym (append_assoc first second after);
-  bytes = q.bytes;
-}
+use Rattle.std.proofs.lemmas.Option.{cond_some}
+use Rattle.byte_fields.specs.Fields.{IsBytes, front_at, number_at}
+use Rattle.byte_fields.proofs.Fields.{IsBytes-drop, bound, mapped, Takes, Takes-then, front_takes, front_again, wide32, wide64, number_takes, number_again}
+use Rattle.dir_blob.specs.Reading.{Reader, then_at, where_at, map_at, text_at}
 
 -- what is read is written so and may be written, and what is written and may be is read, whatever follows it
 pub record IsCodec {A : Type 0} (reader : Reader A) (text : A → List ℕ) (Is : A → Type 0) : Type 0 where
@@ -56,7 +26,7 @@ then_codec {A} {B} p q s t P Q first second = record {
       let a = bound (p bytes) (λ a. option_map (λ b. ((a.0, b.0), b.1)) (q a.1)) (x, rest) e in
       let b = mapped (q a.0.1) (λ b. ((a.0.0, b.0), b.1)) (x, rest) a.2 in
       let front = first.takes bytes a.0.0 a.0.1 fits a.1 in
-      let back = second.takes a.0.1 b.0.0 b.0.1 front.0.bytes b.1 in
+      let back = second.takes a.0.1 b.0.0 b.0.1 front.0.rest_fits b.1 in
       let both = Takes-then bytes (s a.0.0) a.0.1 (t b.0.0) b.0.1 front.0 back.0 in
       subst (λ (y : (A × B) × List ℕ). Takes bytes (s y.0.0 ++ t y.0.1) y.1 × (P y.0.0 × Q y.0.1)) b.2 (both, (front.1, back.1));
   again = λ x rest is.
@@ -91,75 +61,16 @@ map_codec {A} {B} f g p s t P Q back same onward inward codec = record {
       ∙ ap (λ y. Some (y, rest)) (back x);
 }
 
--- ---- numbers
-
-pub record IsWide (w : Width) (limit : ℕ) : Type 0 where
-  pub len : (n : ℕ) → length (to_le_bytes w n) ≡ byte_len w
-  pub back : (bytes : List ℕ) → length bytes ≡ byte_len w → IsBytes bytes → to_le_bytes w (from_le_bytes w bytes) ≡ bytes
-  pub again : (n : ℕ) → n < limit → from_le_bytes w (to_le_bytes w n) ≡ n
-  pub below : (bytes : List ℕ) → IsBytes bytes → from_le_bytes w bytes < limit
-
-wide32 : IsWide w32 (2 ^ 32)
-wide32 = record {
-  len = λ n. refl;
-  back = λ bytes len fits. le_bytes_4 bytes _ len fits refl;
-  again = λ n lt. from_le_bytes-to_le_bytes_4 n lt;
-  below = λ bytes fits. omega (arith, fits 0, fits 1, fits 2, fits 3);
-}
-
-wide64 : IsWide w64 (2 ^ 64)
-wide64 = record {
-  len = λ n. refl;
-  back = λ bytes len fits. le_bytes_8 bytes _ len fits refl;
-  again = λ n lt. from_le_bytes-to_le_bytes_8 n lt;
-  below = λ bytes fits. omega (arith, fits 0, fits 1, fits 2, fits 3, fits 4, fits 5, fits 6, fits 7);
-}
-
-number_takes : (w : Width) (limit : ℕ) → IsWide w limit → (bytes : List ℕ) (n : ℕ) (rest : List ℕ) → IsBytes bytes → number_at w bytes ≡ Some (n, rest) → Takes bytes (to_le_bytes w n) rest × (n < limit)
-unfolding number_at
-number_takes w limit wide bytes n rest fits e =
-    let found = some_behind (ltb (length bytes) (byte_len w)) (Some (from_le_bytes w (take (byte_len w) bytes), drop (byte_len w) bytes)) (n, rest) e in
-    let long : byte_len w ≤ length bytes = ltb-false _ _ found.0 in
-    let front : List ℕ = take (byte_len w) bytes in
-    let back : to_le_bytes w (from_le_bytes w front) ≡ front = wide.back front (omega (arith, length-take (byte_len w) bytes)) (IsBytes-take (byte_len w) bytes fits) in
-    subst (λ (y : ℕ × List ℕ). Takes bytes (to_le_bytes w y.0) y.1 × (y.0 < limit)) (same_Some _ _ found.1) (
-      record { parts = sym (ap (λ x. x ++ drop (byte_len w) bytes) back ∙ take-append-drop (byte_len w) bytes); bytes = IsBytes-drop (byte_len w) bytes fits },
-      wide.below front (IsBytes-take (byte_len w) bytes fits),
-    )
-
-number_again : (w : Width) (limit : ℕ) → IsWide w limit → (n : ℕ) (rest : List ℕ) → n < limit → number_at w (to_le_bytes w n ++ rest) ≡ Some (n, rest)
-unfolding number_at
-number_again w limit wide n rest lt =
-    let len = wide.len n in
-    let long : ltb (length (to_le_bytes w n ++ rest)) (byte_len w) ≡ false = le-ltb _ _ (omega (arith, length-append (to_le_bytes w n) rest)) in
-    rw (long, take_at (to_le_bytes w n) rest (byte_len w) len, drop_at (to_le_bytes w n) rest (byte_len w) len, wide.again n lt) refl
+-- ---- numbers and ids
 
 pub u32_codec : IsCodec (number_at w32) (to_le_bytes w32) (λ n. n < 2 ^ 32)
-u32_codec = record { takes = number_takes w32 (2 ^ 32) wide32; again = number_again w32 (2 ^ 32) wide32 }
+u32_codec = record { takes = λ bytes n rest fits e. number_takes wide32 bytes (n, rest) fits e; again = number_again wide32 }
 
 pub u64_codec : IsCodec (number_at w64) (to_le_bytes w64) (λ n. n < 2 ^ 64)
-u64_codec = record { takes = number_takes w64 (2 ^ 64) wide64; again = number_again w64 (2 ^ 64) wide64 }
+u64_codec = record { takes = λ bytes n rest fits e. number_takes wide64 bytes (n, rest) fits e; again = number_again wide64 }
 
--- ---- ids
-
-abbrev cut_at : ℕ → Reader (List ℕ)
-cut_at len bytes = cond (ltb (length bytes) len) None (Some (take len bytes, drop len bytes))
-
-id_takes : (len : ℕ) (bytes id rest : List ℕ) → IsBytes bytes → cut_at len bytes ≡ Some (id, rest) → Takes bytes id rest × (length id ≡ len)
-id_takes len bytes id rest fits e =
-    let found = some_behind (ltb (length bytes) len) (Some (take len bytes, drop len bytes)) (id, rest) e in
-    let long : len ≤ length bytes = ltb-false _ _ found.0 in
-    subst (λ (y : List ℕ × List ℕ). Takes bytes y.0 y.1 × (length y.0 ≡ len)) (same_Some _ _ found.1)
-    (record { parts = sym (take-append-drop len bytes); bytes = IsBytes-drop len bytes fits }, omega (arith, length-take len bytes))
-
-id_again : (len : ℕ) (id rest : List ℕ) → length id ≡ len → cut_at len (id ++ rest) ≡ Some (id, rest)
-id_again len id rest is =
-    let long : ltb (length (id ++ rest)) len ≡ false = le-ltb _ _ (omega (arith, length-append id rest)) in
-    rw (long, take_at id rest len is, drop_at id rest len is) refl
-
-pub id_codec : IsCodec id_at (λ id. id) (λ id. length id ≡ 16)
-unfolding id_at
-id_codec = record { takes = id_takes 16; again = id_again 16 }
+pub id_codec : IsCodec (front_at 16) (λ id. id) (λ id. length id ≡ 16)
+id_codec = record { takes = λ bytes id rest fits e. front_takes 16 bytes (id, rest) fits e; again = front_again 16 }
 
 -- ---- a text before a zero
 
@@ -177,7 +88,7 @@ text_takes bytes text rest fits e =
     subst (λ (y : List ℕ × List ℕ). Takes bytes (y.0 ++ 0 ∷ []) y.1) found.2
     (record {
       parts = sym (take-append-drop end bytes) ∙ ap (λ x. take end bytes ++ x) behind ∙ sym (append_assoc (take end bytes) (0 ∷ []) (drop (suc end) bytes));
-      bytes = IsBytes-drop (suc end) bytes fits;
+      rest_fits = IsBytes-drop (suc end) bytes fits;
     })
 
 pub none_at : (p : ℕ → Bool) (xs : List ℕ) (k : ℕ) → list_any p xs ≡ false → k < length xs → p (get_or xs k 0) ≡ false

@@ -1,9 +1,10 @@
 -- Reading an entry from left to right, as functions of the bytes: a value, and the bytes after it.
-use Rattle.std.specs.Prelude.{ℕ, suc, List, [], ◌∷◌, Bool, true, length, take, drop, Option, Some, None, option_and_then, nat_lt, nat_le, ◌==◌, if◌then◌else◌}
+use Rattle.std.specs.Prelude.{ℕ, suc, List, [], ◌∷◌, Bool, true, take, drop, Option, Some, None, option_and_then, nat_lt, nat_le, ◌==◌, if◌then◌else◌}
 use Rattle.std.specs.Option.{option_map}
 use Rattle.std.specs.List.{position}
-use Rattle.std.specs.Int.{Width, w32, w64, byte_len, from_le_bytes}
+use Rattle.std.specs.Int.{w32, w64}
 use Rattle.std.specs.Ordering.{is_lt}
+use Rattle.byte_fields.specs.Fields.{front_at, number_at}
 use Rattle.fs_model.specs.declared.attr.Attr.{Attr}
 use Rattle.fs_model.specs.declared.attr.Kind.{Kind}
 use Rattle.fs_model.specs.declared.limits.TheConstants.{MAX_MODE, NANOS_PER_SEC}
@@ -27,9 +28,6 @@ where_at test reader bytes = option_and_then (λ a. if test a.0 then Some a else
 abbrev pub map_at : {A B : Type 0} → (A → B) → Reader A → Reader B
 map_at f reader bytes = option_map (λ a. (f a.0, a.1)) (reader bytes)
 
-unfoldable pub number_at : Width → Reader ℕ
-number_at w bytes = if nat_lt (length bytes) (byte_len w) then None else Some (from_le_bytes w (take (byte_len w) bytes), drop (byte_len w) bytes)
-
 unfoldable pub kind_of : Reader Kind
 kind_of [] = None
 kind_of (byte ∷ rest) = option_map (λ kind. (kind, rest)) (kind_at byte)
@@ -37,9 +35,6 @@ kind_of (byte ∷ rest) = option_map (λ kind. (kind, rest)) (kind_at byte)
 -- what stands before the first zero, and after it
 unfoldable pub text_at : Reader (List ℕ)
 text_at bytes = option_map (λ end. (take end bytes, drop (suc end) bytes)) (position (λ byte. byte == 0) bytes)
-
-unfoldable pub id_at : Reader (List ℕ)
-id_at bytes = if nat_lt (length bytes) 16 then None else Some (take 16 bytes, drop 16 bytes)
 
 unfoldable pub moment_at : Reader Instant
 moment_at bytes =
@@ -66,7 +61,7 @@ attr_at bytes = map_at attr_of (then_at access_at (then_at owner_at times_at)) b
 
 unfoldable pub entry_at : Reader (List ℕ × Target)
 entry_at bytes =
-    map_at (λ p. (p.1.0, record { attr = p.0; blob = p.1.1 })) (then_at attr_at (then_at (where_at is_name text_at) id_at)) bytes
+    map_at (λ p. (p.1.0, record { attr = p.0; blob = p.1.1 })) (then_at attr_at (then_at (where_at is_name text_at) (front_at 16))) bytes
 
 -- whether a name is above that of the last entry
 abbrev pub rises : Listing → List ℕ → Bool

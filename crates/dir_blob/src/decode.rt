@@ -1,16 +1,16 @@
 // Reading the entries of a directory from its body.
 ghost use Rattle.std.specs.Prelude.{◌≡◌, ◌==◌, ◌<◌, List, ℕ, length, IfOk, IfSome, Some};
 ghost use Rattle.std.specs.Option.{option_map};
-ghost use Rattle.std.specs.Int.{w32, w64};
 ghost use Rattle.std.specs.List.{position};
 ghost use Rattle.std.specs.Ordering.{is_lt};
 ghost use Rattle.fs_model.specs.Tree.{name_cmp};
 ghost use Rattle.fs_model.specs.Names.{IsName};
 ghost use Rattle.dir_blob.specs.Layout.{Listing, IsBody, named, entry_of, listing_of};
-ghost use Rattle.dir_blob.specs.Reading.{number_at, kind_of, moment_at, access_at, owner_at, times_at, attr_at, text_at, id_at, entry_at, rises};
+ghost use Rattle.dir_blob.specs.Reading.{kind_of, moment_at, access_at, owner_at, times_at, attr_at, text_at, entry_at, rises};
 
 use crate::Entry;
 use block_id::{BlockId, Memory};
+use byte_fields::{take_id, take_u32, take_u64};
 use fs_blobs::kind_from;
 use fs_model::{Attr, Kind, MAX_MODE, Moment, Name, has_name_form};
 use std::alloc::Global;
@@ -103,7 +103,7 @@ pub(crate) fn first_entry(bytes: &[u8]) -> Option<Front<'_>>
     if !has_name_form(name) {
         return None;
     }
-    let Some((blob, rest)) = id_from(rest) else {
+    let Some((blob, rest)) = take_id(rest) else {
         return None;
     };
     Some(Front {
@@ -141,7 +141,7 @@ fn access_from(bytes: &[u8]) -> Option<((Kind, u32), &[u8])>
     ensures { option_map (λ x. (x.0, x.1.now)) result ≡ access_at bytes.now }
 {
     let (kind, rest) = next_kind(bytes)?;
-    let (mode, rest) = next_u32(rest)?;
+    let (mode, rest) = take_u32(rest)?;
     if mode > MAX_MODE {
         return None;
     }
@@ -153,8 +153,8 @@ fn access_from(bytes: &[u8]) -> Option<((Kind, u32), &[u8])>
 fn owner_from(bytes: &[u8]) -> Option<((u32, u32), &[u8])>
     ensures { option_map (λ x. (x.0, x.1.now)) result ≡ owner_at bytes.now }
 {
-    let (uid, rest) = next_u32(bytes)?;
-    let (gid, rest) = next_u32(rest)?;
+    let (uid, rest) = take_u32(bytes)?;
+    let (gid, rest) = take_u32(rest)?;
     Some(((uid, gid), rest))
 }
 
@@ -187,25 +187,9 @@ fn next_kind(bytes: &[u8]) -> Option<(Kind, &[u8])>
 fn moment_from(bytes: &[u8]) -> Option<(Moment, &[u8])>
     ensures { option_map (λ x. (x.0, x.1.now)) result ≡ moment_at bytes.now }
 {
-    let (secs, rest) = next_u64(bytes)?;
-    let (nanos, rest) = next_u32(rest)?;
+    let (secs, rest) = take_u64(bytes)?;
+    let (nanos, rest) = take_u32(rest)?;
     Some((Moment::new(secs, nanos)?, rest))
-}
-
-#[tactic(auto, unfolding(crate::specs::Reading::number_at))]
-fn next_u32(bytes: &[u8]) -> Option<(u32, &[u8])>
-    ensures { option_map (λ x. (x.0, x.1.now)) result ≡ number_at w32 bytes.now }
-{
-    let (number, rest) = bytes.split_first_chunk::<4>()?;
-    Some((u32::from_le_bytes(*number), rest))
-}
-
-#[tactic(auto, unfolding(crate::specs::Reading::number_at))]
-fn next_u64(bytes: &[u8]) -> Option<(u64, &[u8])>
-    ensures { option_map (λ x. (x.0, x.1.now)) result ≡ number_at w64 bytes.now }
-{
-    let (number, rest) = bytes.split_first_chunk::<8>()?;
-    Some((u64::from_le_bytes(*number), rest))
 }
 
 /// What stands before the first zero, and after it.
@@ -222,12 +206,4 @@ fn first_zero(bytes: &[u8]) -> Option<usize>
     ensures bound { IfSome result (λ end. end < length bytes.now) }
 {
     bytes.iter().position(|byte| *byte == 0)
-}
-
-#[tactic(auto, unfolding(crate::specs::Reading::id_at))]
-fn id_from(bytes: &[u8]) -> Option<(BlockId, &[u8])>
-    ensures { option_map (λ x. (x.0.0, x.1.now)) result ≡ id_at bytes.now }
-{
-    let (id, rest) = bytes.split_first_chunk::<16>()?;
-    Some((BlockId(*id), rest))
 }

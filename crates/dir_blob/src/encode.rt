@@ -1,11 +1,11 @@
 // Writing the entries of a directory as its body.
-ghost use Rattle.std.specs.Prelude.{◌≡◌, ◌≤◌, [], ◌∷◌, ◌++◌, length, IfOk, OnOk};
-ghost use Rattle.std.specs.Int.{w32, w64, to_le_bytes};
+ghost use Rattle.std.specs.Prelude.{◌≡◌, ◌≤◌, [], ◌∷◌, ◌++◌, IfOk, OnOk};
 ghost use Rattle.fs_model.specs.Names.{IsName};
 ghost use Rattle.dir_blob.specs.Layout.{IsBody, IsEntry, HasModes, IsInOrder, moment_text, IsMoment, attr_text, IsAttr, entry_text, entry_of, listing_of};
 
 use crate::Entry;
-use block_id::{BlockId, Memory};
+use block_id::Memory;
+use byte_fields::{put_id, put_u32, put_u64};
 use fs_blobs::kind_byte;
 use fs_model::{Attr, MAX_MODE, Moment, Name};
 use std::alloc::Global;
@@ -59,33 +59,11 @@ fn put_moment(out: &mut Vec<u8>, moment: Moment) -> Result<(), Memory>
     Ok(())
 }
 
-fn put_u32(out: &mut Vec<u8>, number: u32) -> Result<(), Memory>
-    ensures { OnOk result (out.new.items ≡ out.old.items ++ to_le_bytes w32 number) }
-{
-    out.extend_from_slice(&number.to_le_bytes())?;
-    Ok(())
-}
-
-fn put_u64(out: &mut Vec<u8>, number: u64) -> Result<(), Memory>
-    ensures { OnOk result (out.new.items ≡ out.old.items ++ to_le_bytes w64 number) }
-{
-    out.extend_from_slice(&number.to_le_bytes())?;
-    Ok(())
-}
-
 fn put_name(out: &mut Vec<u8>, name: &Name) -> Result<(), Memory>
     ensures text { OnOk result (out.new.items ≡ out.old.items ++ name.now ++ 0 ∷ []) }
     ensures types { IsName name.now }
 {
     out.extend_from_slice(name.as_slice())?;
     out.push(0)?;
-    Ok(())
-}
-
-fn put_id(out: &mut Vec<u8>, id: &BlockId) -> Result<(), Memory>
-    ensures text { OnOk result (out.new.items ≡ out.old.items ++ id.now.0) }
-    ensures types { length id.now.0 ≡ 16 }
-{
-    out.extend_from_slice(&id.0)?;
     Ok(())
 }

@@ -1,26 +1,19 @@
 -- What is read stands in front, and what stands in front is read.
-use Rattle.std.proofs.Common.{◌≡◌, ℕ, zero, suc, ◌<◌, ◌≤◌, Bool, true, false, cond, eqb, ltb, List, [], ◌∷◌, ◌++◌, length, get_or, take, drop, refl, sym, ap, subst, ◌∙◌, arith}
-use Rattle.std.specs.Prelude.{not, slice_index, Option, Some, None, option_and_then, IfSome, IsSomeAnd}
+use Rattle.std.proofs.Common.{◌≡◌, ℕ, zero, suc, cond, eqb, List, [], ◌∷◌, ◌++◌, length, drop, refl, sym, ap, subst, ◌∙◌, arith}
+use Rattle.std.specs.Prelude.{not, Option, Some, None, option_and_then, IfSome, IsSomeAnd}
 use Rattle.std.specs.Option.{option_map}
-use Rattle.std.specs.Int.{w16, to_le_bytes, from_le_bytes}
-use Rattle.std.proofs.lemmas.Bool.{eqb-true, not-false, ltb-false, le-ltb}
-use Rattle.std.proofs.lemmas.List.{take_at, take-append-drop, length-append, length-take}
-use Rattle.std.proofs.lemmas.Option.{option_and_then_some, some_pair_parts}
-use Rattle.std.proofs.lemmas.Nat.{le_bytes_2}
+use Rattle.std.specs.Int.{w16, to_le_bytes}
+use Rattle.std.proofs.lemmas.Bool.{eqb-true, not-false}
+use Rattle.std.proofs.lemmas.List.{drop_at}
+use Rattle.std.proofs.lemmas.Option.{some_pair_parts}
 use Rattle.fs_model.specs.declared.attr.Kind.{Kind}
 use Rattle.fs_model.specs.declared.attr.Kind.TheVariants.{Directory, File, Link}
+use Rattle.byte_fields.specs.Fields.{IsBytes, front_at, number_at}
+use Rattle.byte_fields.proofs.Fields.{some_behind, bound, mapped, fronts, front_again, wide16, number_takes, number_again}
 use Rattle.fs_blobs.specs.declared.header.Header.{Header}
 use Rattle.fs_blobs.specs.Kinds.{byte_of, kind_at}
 use Rattle.fs_blobs.specs.Headers.{BeginsWith, header_text, blob}
-use Rattle.fs_blobs.specs.Reading.{parts_of, parent_behind, header_at}
-
-abbrev pub IsBytes : List ℕ → Type 0
-IsBytes bytes = (i : ℕ) → get_or bytes i 0 < 256
-
--- what a test with no answer let through
-pub some_behind : {A : Type 0} (b : Bool) (x : Option A) (y : A) → cond b None x ≡ Some y → (b ≡ false) × (x ≡ Some y)
-some_behind true x y e = absurd cc
-some_behind false x y e = (refl, e)
+use Rattle.fs_blobs.specs.Reading.{parts_of, parts_at, header_at}
 
 pub kind_takes : (byte : ℕ) (kind : Kind) → kind_at byte ≡ Some kind → byte ≡ byte_of kind
 kind_takes zero kind e = let is : Directory ≡ kind = cc in ap byte_of is
@@ -33,41 +26,33 @@ kind_again Directory = refl
 kind_again File = refl
 kind_again Link = refl
 
-bytes_of_two : (a b : ℕ) → a < 256 → b < 256 → IsBytes (a ∷ b ∷ [])
-bytes_of_two a b first second zero = first
-bytes_of_two a b first second (suc zero) = second
-bytes_of_two a b first second (suc (suc i)) = omega arith
-
-begins : (bytes : List ℕ) (kind : Kind) → IsBytes bytes → 3 ≤ length bytes → from_le_bytes w16 (take 2 bytes) ≡ 1 → slice_index bytes 2 ≡ byte_of kind → 16 ≤ length (drop 3 bytes)
-    → BeginsWith bytes kind (take 16 (drop 3 bytes))
-begins (a ∷ b ∷ c ∷ rest) kind fits long format byte parent =
-    let number : to_le_bytes w16 1 ≡ a ∷ b ∷ [] = le_bytes_2 (a ∷ b ∷ []) 1 refl (bytes_of_two a b (fits 0) (fits 1)) (sym format) in
-    let len : length (take 16 rest) ≡ 16 = omega (arith, length-take 16 rest) in
-    let halves : rest ≡ take 16 rest ++ drop 16 rest = sym (take-append-drop 16 rest) in
-    record {
-      id = len;
-      text = sym (ap (λ u. (u ++ byte_of kind ∷ take 16 rest) ++ drop 16 rest) number ∙ ap (λ u. a ∷ b ∷ u ∷ (take 16 rest ++ drop 16 rest)) (sym byte) ∙ ap (λ u. a ∷ b ∷ c ∷ u) (sym halves));
-    }
-begins bytes kind fits long format byte parent = absurd (omega arith)
+parts_take : (bytes : List ℕ) (kind : Kind) (parent : List ℕ) → parts_at bytes ≡ Some (kind, parent) → (body : List ℕ) × (bytes ≡ byte_of kind ∷ (parent ++ body)) × (length parent ≡ 16)
+parts_take [] kind parent e = absurd cc
+parts_take (byte ∷ rest) kind parent e =
+    let k = bound (kind_at byte) (λ k. option_map (λ p. (k, p.0)) (front_at 16 rest)) (kind, parent) e in
+    let p = mapped (front_at 16 rest) (λ p. (k.0, p.0)) (kind, parent) k.2 in
+    let took = (fronts 16).took rest p.0.0 p.0.1 p.1 in
+    subst (λ (y : Kind × List ℕ). (body : List ℕ) × (byte ∷ rest ≡ byte_of y.0 ∷ (y.1 ++ body)) × (length y.1 ≡ 16)) p.2
+    (p.0.1, ap (λ b. b ∷ rest) (kind_takes byte k.0 k.1) ∙ ap (λ r. byte_of k.0 ∷ r) took.1, took.0)
 
 header_takes : (bytes : List ℕ) (kind : Kind) (parent : List ℕ) → IsBytes bytes → header_at bytes ≡ Some (kind, parent) → BeginsWith bytes kind parent
 unfolding header_at
 header_takes bytes kind parent fits e =
-    let front = some_behind (ltb (length bytes) 3) (cond (not (eqb (from_le_bytes w16 (take 2 bytes)) 1)) None (option_and_then (parent_behind bytes) (kind_at (slice_index bytes 2)))) (kind, parent) e in
-    let number = some_behind (not (eqb (from_le_bytes w16 (take 2 bytes)) 1)) (option_and_then (parent_behind bytes) (kind_at (slice_index bytes 2))) (kind, parent) front.1 in
-    option_and_then_some (parent_behind bytes) (kind_at (slice_index bytes 2)) (kind, parent) number.1
-    (λ found is behind.
-    let last = some_behind (ltb (length (drop 3 bytes)) 16) (Some (found, take 16 (drop 3 bytes))) (kind, parent) behind in
-    let parts = some_pair_parts found kind (take 16 (drop 3 bytes)) parent last.1 in
-    let read = begins bytes found fits (ltb-false _ _ front.0) (eqb-true _ _ (not-false _ number.0)) (kind_takes _ found is) (ltb-false _ _ last.0) in
-    subst (λ p. BeginsWith bytes kind p) parts.1 (subst (λ k. BeginsWith bytes k (take 16 (drop 3 bytes))) parts.0 read))
+    let format = bound (number_at w16 bytes) (λ format. cond (not (eqb format.0 1)) None (parts_at format.1)) (kind, parent) e in
+    let passed = some_behind (not (eqb format.0.0 1)) (parts_at format.0.1) (kind, parent) format.2 in
+    let number : format.0.0 ≡ 1 = eqb-true _ _ (not-false _ passed.0) in
+    let took = number_takes wide16 bytes format.0 fits format.1 in
+    let parts = parts_take format.0.1 kind parent passed.1 in
+    let whole : bytes ≡ blob kind parent parts.0 = took.0.parts ∙ ap (λ n. to_le_bytes w16 n ++ format.0.1) number ∙ ap (λ x. to_le_bytes w16 1 ++ x) parts.1 in
+    let behind : drop 19 bytes ≡ parts.0 = ap (drop 19) whole ∙ drop_at (header_text kind parent) parts.0 19 (omega (arith, parts.2)) in
+    record { id = parts.2; text = whole ∙ ap (blob kind parent) (sym behind) }
 
 header_again : (kind : Kind) (parent body : List ℕ) → length parent ≡ 16 → header_at (blob kind parent body) ≡ Some (kind, parent)
 unfolding header_at
 header_again kind parent body len =
-    let long : ltb (length (blob kind parent body)) 3 ≡ false = le-ltb _ _ (omega (arith, length-append (header_text kind parent) body)) in
-    let room : ltb (length (parent ++ body)) 16 ≡ false = le-ltb _ _ (omega (arith, length-append parent body)) in
-    rw (long, kind_again kind, room, take_at parent body 16 len) refl
+    ap (option_and_then (λ format. cond (not (eqb format.0 1)) None (parts_at format.1))) (number_again wide16 1 (byte_of kind ∷ (parent ++ body)) (omega arith))
+    ∙ ap (option_and_then (λ k. option_map (λ p. (k, p.0)) (front_at 16 (parent ++ body)))) (kind_again kind)
+    ∙ ap (option_map (λ p. (kind, p.0))) (front_again 16 parent body len)
 
 pub read_found : (bytes : List ℕ) (answer : Option Header) → IsBytes bytes → option_map parts_of answer ≡ header_at bytes → IfSome answer (λ h. BeginsWith bytes h.kind h.parent.0)
 read_found bytes None fits e = tt

@@ -1,6 +1,8 @@
 -- Reading a header, as a function of the bytes.
-use Rattle.std.specs.Prelude.{ℕ, List, length, take, drop, slice_index, Option, Some, None, option_and_then, not, nat_lt, ◌==◌, if◌then◌else◌}
-use Rattle.std.specs.Int.{w16, from_le_bytes}
+use Rattle.std.specs.Prelude.{ℕ, List, [], ◌∷◌, Option, None, option_and_then, not, ◌==◌, if◌then◌else◌}
+use Rattle.std.specs.Option.{option_map}
+use Rattle.std.specs.Int.{w16}
+use Rattle.byte_fields.specs.Fields.{front_at, number_at}
 use Rattle.fs_model.specs.declared.attr.Kind.{Kind}
 use Rattle.fs_blobs.specs.declared.header.Header.{Header}
 use Rattle.fs_blobs.specs.Kinds.{kind_at}
@@ -8,10 +10,10 @@ use Rattle.fs_blobs.specs.Kinds.{kind_at}
 abbrev pub parts_of : Header → Kind × List ℕ
 parts_of h = (h.kind, h.parent.0)
 
-abbrev pub parent_behind : List ℕ → Kind → Option (Kind × List ℕ)
-parent_behind bytes kind = if nat_lt (length (drop 3 bytes)) 16 then None else Some (kind, take 16 (drop 3 bytes))
+-- the kind's byte and the parent's id
+abbrev pub parts_at : List ℕ → Option (Kind × List ℕ)
+parts_at [] = None
+parts_at (byte ∷ rest) = option_and_then (λ kind. option_map (λ parent. (kind, parent.0)) (front_at 16 rest)) (kind_at byte)
 
 unfoldable pub header_at : List ℕ → Option (Kind × List ℕ)
-header_at bytes =
-    if nat_lt (length bytes) 3 then None
-    else (if not (from_le_bytes w16 (take 2 bytes) == 1) then None else option_and_then (parent_behind bytes) (kind_at (slice_index bytes 2)))
+header_at bytes = option_and_then (λ format. if not (format.0 == 1) then None else parts_at format.1) (number_at w16 bytes)

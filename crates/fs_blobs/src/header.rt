@@ -2,11 +2,12 @@
 ghost use Rattle.std.specs.Prelude.{◌≡◌, List, ℕ, IfSome, IsSomeAnd};
 ghost use Rattle.std.specs.Option.{option_map};
 ghost use Rattle.fs_blobs.specs.Headers.{BeginsWith, header_text};
-ghost use Rattle.fs_blobs.specs.Reading.{header_at, parts_of};
+ghost use Rattle.fs_blobs.specs.Reading.{header_at, parts_at, parts_of};
 ghost use Rattle.fs_model.specs.declared.attr.Kind.{Kind as KindText};
 
 use crate::{kind_byte, kind_from};
 use block_id::BlockId;
+use byte_fields::{take_id, take_u16};
 use fs_model::Kind;
 
 /// The format's number, with which each blob begins.
@@ -37,20 +38,24 @@ pub fn read_header(bytes: &[u8]) -> Option<Header>
 fn header_from(bytes: &[u8]) -> Option<Header>
     ensures { option_map parts_of result ≡ header_at bytes.now }
 {
-    let (front, rest) = bytes.split_first_chunk::<3>()?;
-    if u16::from_le_bytes([front[0], front[1]]) != BLOB_FORMAT {
+    let (format, rest) = take_u16(bytes)?;
+    if format != BLOB_FORMAT {
         return None;
     }
-    let kind = kind_from(front[2])?;
-    let (parent, _) = rest.split_first_chunk::<16>()?;
-    Some(Header {
-        kind,
-        parent: BlockId(*parent),
-    })
+    kind_and_parent(rest)
+}
+
+fn kind_and_parent(bytes: &[u8]) -> Option<Header>
+    ensures { option_map parts_of result ≡ parts_at bytes.now }
+{
+    let (kind, rest) = bytes.split_first()?;
+    let kind = kind_from(*kind)?;
+    let (parent, _) = take_id(rest)?;
+    Some(Header { kind, parent })
 }
 
 /// The bytes of a header.
-pub fn header_bytes(header: &Header) -> [u8; 19]
+pub fn header_bytes(header: &Header) -> [u8; HEADER_LEN]
     ensures { result ≡ header_text header.now.kind header.now.parent.0 }
 {
     let mut bytes = [0; HEADER_LEN];

@@ -8,8 +8,10 @@ use Rattle.std.proofs.lemmas.List.Concat.{flat_map-cons}
 use Rattle.outside.specs.Trace.{At, config, block}
 use Rattle.local_state.specs.Known.{Marks}
 use Rattle.local_state.specs.Record.{Entry, flag, name_bytes, change_bytes, entry_bytes, list_bytes, may_change, comes_after, has_bytes, Rise, FitsName, FitsBytes, FitsEntry, FitsList}
-use Rattle.local_state.specs.Reading.{◌>>=◌, front_at, number_at, flag_at, name_at, change_at, entry_at, entries_at, list_at}
-use Rattle.local_state.proofs.Fields.{IsBytes, bind_some, guard_some, and_true, some_is, Takes, Takes-then, front_takes, front_again, wide32, wide64, number_takes, number_again, flag_takes}
+use Rattle.byte_fields.specs.Fields.{IsBytes, front_at, number_at}
+use Rattle.byte_fields.proofs.Fields.{Takes, Takes-then, front_takes, front_again, wide32, wide64, number_takes, number_again}
+use Rattle.local_state.specs.Reading.{◌>>=◌, flag_at, name_at, change_at, entry_at, entries_at, list_at}
+use Rattle.local_state.proofs.Fields.{bind_some, guard_some, and_true, some_is, flag_takes}
 
 -- ---- names
 
@@ -40,7 +42,7 @@ change_then bytes (false, rest) x t e = subst (λ (y : Option (List ℕ) × List
 change_then bytes (true, rest) x t e =
     let a = bind_some (number_at w32 rest) (λ n. front_at n.0 n.1 >>= (λ new. Some (Some new.0, new.1))) x e in
     let b = bind_some (front_at a.0.0 a.0.1) (λ new. Some (Some new.0, new.1)) x a.2 in
-    let n = number_takes w32 (2 ^ 32) wide32 rest a.0 t.rest_fits a.1 in
+    let n = number_takes wide32 rest a.0 t.rest_fits a.1 in
     let f = front_takes a.0.0 a.0.1 b.0 n.0.rest_fits b.1 in
     let both = Takes-then rest (to_le_bytes w32 a.0.0) a.0.1 b.0.0 b.0.1 n.0 f.0 in
     let sized : Takes rest (to_le_bytes w32 (length b.0.0) ++ b.0.0) b.0.1 = subst (λ (k : ℕ). Takes rest (to_le_bytes w32 k ++ b.0.0) b.0.1) (sym f.1) both in
@@ -59,7 +61,7 @@ unfolding change_at
 change_again None rest fits = refl
 change_again (Some new) rest fits =
     ap (λ (r : List ℕ). change_at (1 ∷ r)) (append_assoc (to_le_bytes w32 (length new)) new rest)
-    ∙ rw (number_again w32 (2 ^ 32) wide32 (length new) (new ++ rest) fits, front_again (length new) new rest refl) refl
+    ∙ rw (number_again wide32 (length new) (new ++ rest) fits, front_again (length new) new rest refl) refl
 
 -- ---- one entry
 
@@ -132,7 +134,7 @@ pub list_takes : (marks : Marks) (bytes : List ℕ) (x : List Entry × List ℕ)
 unfolding list_at
 list_takes marks bytes x small e =
     let a = bind_some (number_at w64 bytes) (λ n. entries_at marks n.0 None [] n.1) x e in
-    let t = number_takes w64 (2 ^ 64) wide64 bytes a.0 small a.1 in
+    let t = number_takes wide64 bytes a.0 small a.1 in
     let m = entries_take marks a.0.0 None [] a.0.1 x t.0.rest_fits a.2 in
     let counted : length m.es < 2 ^ 64 = omega (arith, m.count, t.1) in
     let both : Takes bytes (list_bytes m.es) x.1 = subst (λ (n : ℕ). Takes bytes (to_le_bytes w64 n ++ flat_map entry_bytes m.es) x.1) (sym m.count) (Takes-then bytes (to_le_bytes w64 a.0.0) a.0.1 (flat_map entry_bytes m.es) x.1 t.0 m.takes) in
@@ -143,4 +145,4 @@ pub list_again : (marks : Marks) (list : List Entry) (rest : List ℕ) → FitsL
 unfolding list_at
 list_again marks list rest fits =
     ap (list_at marks) (append_assoc (to_le_bytes w64 (length list)) (flat_map entry_bytes list) rest)
-    ∙ rw (number_again w64 (2 ^ 64) wide64 (length list) (flat_map entry_bytes list ++ rest) fits.count) (entries_again marks list None [] rest fits.each fits.order)
+    ∙ rw (number_again wide64 (length list) (flat_map entry_bytes list ++ rest) fits.count) (entries_again marks list None [] rest fits.each fits.order)

@@ -1,5 +1,5 @@
 -- The whole record, read and written.
-use Rattle.std.proofs.Common.{◌≡◌, ℕ, ◌^◌, ◌<◌, Bool, true, cond, eqb, List, [], ◌∷◌, ◌++◌, length, take, drop, Option, Some, None, Result, Ok, Err, refl, sym, ap, subst, ◌∙◌, append_assoc, arith}
+use Rattle.std.proofs.Common.{◌≡◌, ℕ, ◌<◌, Bool, true, cond, eqb, List, [], ◌∷◌, ◌++◌, length, take, drop, Option, Some, None, Result, Ok, Err, refl, sym, ap, subst, ◌∙◌, append_assoc, arith}
 use Rattle.std.specs.Prelude.{◌≢◌, nat_eq, nat_lt, IfOk, IsErrOf, slice_index, slice_set}
 use Rattle.std.specs.Int.{w32, to_le_bytes}
 use Rattle.std.specs.List.{starts_with}
@@ -14,8 +14,10 @@ use Rattle.local_state.specs.declared.state.StateError.{StateError}
 use Rattle.local_state.specs.declared.state.StateError.TheVariants as errors
 use Rattle.local_state.specs.Known.{Marks}
 use Rattle.local_state.specs.Record.{PlainState, Entry, plain_record, magic, flag, head_bytes, marks_bytes, list_bytes, record_bytes, with_mark, FitsHead, FitsState, HasRecord}
-use Rattle.local_state.specs.Reading.{◌>>=◌, Gives, front_at, number_at, flag_at, magic_at, head_at, table_at, list_at, record_at}
-use Rattle.local_state.proofs.Fields.{IsBytes, IsBytes-drop, bind_some, guard_some, some, some_is, Takes, Takes-then, front_takes, front_again, wide32, number_takes, number_again, flag_takes, flag_again}
+use Rattle.byte_fields.specs.Fields.{IsBytes, front_at, number_at}
+use Rattle.byte_fields.proofs.Fields.{IsBytes-drop, Takes, Takes-then, front_takes, front_again, wide32, number_takes, number_again}
+use Rattle.local_state.specs.Reading.{◌>>=◌, Gives, flag_at, magic_at, head_at, table_at, list_at, record_at}
+use Rattle.local_state.proofs.Fields.{bind_some, guard_some, some, some_is, flag_takes, flag_again}
 use Rattle.local_state.proofs.Tables.{table_takes, table_again, true_ltb}
 use Rattle.local_state.proofs.Entries.{list_takes, list_again}
 
@@ -79,7 +81,7 @@ head_takes bytes x small e =
     let tc = front_takes 16 b.0.1 c.0 tb.rest_fits c.1 in
     let td = front_takes 32 c.0.1 d.0 tc.0.rest_fits d.1 in
     let tf = front_takes 32 d.0.1 f.0 td.0.rest_fits f.1 in
-    let tg = number_takes w32 (2 ^ 32) wide32 f.0.1 g.0 tf.0.rest_fits g.1 in
+    let tg = number_takes wide32 f.0.1 g.0 tf.0.rest_fits g.1 in
     let client = to_le_bytes w32 g.0.0 in
     let e5 = Takes-then d.0.1 f.0.0 f.0.1 client g.0.1 tf.0 tg.0 in
     let e4 = Takes-then c.0.1 d.0.0 d.0.1 (f.0.0 ++ client) g.0.1 td.0 e5 in
@@ -109,7 +111,7 @@ head_again s rest fits from_one =
       front_again 16 s.fs_id (s.key_salt ++ (s.key_digest ++ (client ++ rest))) fits.fs_id,
       front_again 32 s.key_salt (s.key_digest ++ (client ++ rest)) fits.key_salt,
       front_again 32 s.key_digest (client ++ rest) fits.key_digest,
-      number_again w32 (2 ^ 32) wide32 s.client rest fits.client,
+      number_again wide32 s.client rest fits.client,
       true_ltb s.client from_one,
     ) refl
 

@@ -21,10 +21,12 @@ use Rattle.block_id.proofs.Orders.{less_is}
 use Rattle.local_state.specs.declared.mark.Mark.{Mark}
 use Rattle.local_state.specs.Known.{Marks, zero_id, FitsMark, FitMarks, IsNext}
 use Rattle.local_state.specs.Record.{flag, mark_bytes, known_bytes, marks_bytes}
-use Rattle.local_state.specs.Reading.{◌>>=◌, front_at, number_at, flag_at, known_at, marks_at, table_at}
+use Rattle.byte_fields.specs.Fields.{IsBytes, front_at, number_at}
+use Rattle.byte_fields.proofs.Fields.{Takes, Takes-then, front_takes, front_again, wide64, number_takes, number_again}
+use Rattle.local_state.specs.Reading.{◌>>=◌, flag_at, known_at, marks_at, table_at}
 use Rattle.local_state.proofs.Fitting.{fit_set, fit_empty}
 use Rattle.local_state.proofs.Loops.{below_then, AboveZero, above_zero, above_next, next_fits}
-use Rattle.local_state.proofs.Fields.{IsBytes, bind_some, guard_some, and_true, some_is, Takes, Takes-then, front_takes, front_again, wide64, number_takes, number_again, flag_takes, flag_again}
+use Rattle.local_state.proofs.Fields.{bind_some, guard_some, and_true, some_is, flag_takes, flag_again}
 
 -- ---- one known block
 
@@ -46,7 +48,7 @@ known_takes previous bytes x fits e =
     let g = guard_some (is_lt (slice_cmp nat_cmp previous a.0.0) && nat_lt 0 b.0.0) (made a.0.0 b.0.0 c.0.0, c.0.1) x c.2 in
     let tests = and_true _ _ g.0 in
     let t0 = front_takes 16 bytes a.0 fits a.1 in
-    let t1 = number_takes w64 (2 ^ 64) wide64 a.0.1 b.0 t0.0.rest_fits b.1 in
+    let t1 = number_takes wide64 a.0.1 b.0 t0.0.rest_fits b.1 in
     let t2 = flag_takes b.0.1 c.0 t1.0.rest_fits c.1 in
     let e12 = Takes-then a.0.1 (to_le_bytes w64 b.0.0) b.0.1 (flag c.0.0 ∷ []) c.0.1 t1.0 t2 in
     let e02 = Takes-then bytes a.0.0 a.0.1 (to_le_bytes w64 b.0.0 ++ flag c.0.0 ∷ []) c.0.1 t0.0 e12 in
@@ -62,7 +64,7 @@ known_again previous id mark rest next =
     let regrouped : mark_bytes (id, mark) ++ rest ≡ id ++ (to_le_bytes w64 mark.version ++ (flag mark.live ∷ rest)) =
     append_assoc id (to_le_bytes w64 mark.version ++ flag mark.live ∷ []) rest ∙ ap (λ (x : List ℕ). id ++ x) (append_assoc (to_le_bytes w64 mark.version) (flag mark.live ∷ []) rest) in
     ap (known_at previous) regrouped
-    ∙ rw (front_again 16 id (to_le_bytes w64 mark.version ++ (flag mark.live ∷ rest)) next.length, number_again w64 (2 ^ 64) wide64 mark.version (flag mark.live ∷ rest) next.below, flag_again mark.live rest, and_so _ _ next.after (true_ltb mark.version next.from_one)) refl
+    ∙ rw (front_again 16 id (to_le_bytes w64 mark.version ++ (flag mark.live ∷ rest)) next.length, number_again wide64 mark.version (flag mark.live ∷ rest) next.below, flag_again mark.live rest, and_so _ _ next.after (true_ltb mark.version next.from_one)) refl
 
 -- ---- marks that grow at their end
 
@@ -164,7 +166,7 @@ pub table_takes : (bytes : List ℕ) (x : Marks × List ℕ) → IsBytes bytes �
 unfolding table_at
 table_takes bytes x small e =
     let a = bind_some (number_at w64 bytes) (λ n. marks_at n.0 zero_id fin.empty n.1) x e in
-    let t = number_takes w64 (2 ^ 64) wide64 bytes a.0 small a.1 in
+    let t = number_takes wide64 bytes a.0 small a.1 in
     let m = marks_take a.0.0 zero_id fin.empty a.0.1 x t.0.rest_fits before_first above_zero fit_empty a.2 in
     let same : fin.entries x.0 ≡ m.es = m.entries ∙ ap (λ (l : List (List ℕ × Mark)). l ++ m.es) entries-empty in
     let counted : length m.es < 2 ^ 64 = omega (arith, m.count, t.1) in
@@ -249,4 +251,4 @@ table_again marks rest fits few =
     let same : m.found ≡ marks = same_entries_map m.found marks (m.entries ∙ ap (λ (l : List (List ℕ × Mark)). l ++ es) entries-empty) in
     let counted : length es < 2 ^ 64 = subst (λ (n : ℕ). n < 2 ^ 64) (len-entries marks) few in
     ap table_at (append_assoc (to_le_bytes w64 (length es)) (flat_map mark_bytes es) rest)
-    ∙ rw (number_again w64 (2 ^ 64) wide64 (length es) (flat_map mark_bytes es ++ rest) counted) (m.reads ∙ ap (λ (k : Marks). Some (k, rest)) same)
+    ∙ rw (number_again wide64 (length es) (flat_map mark_bytes es ++ rest) counted) (m.reads ∙ ap (λ (k : Marks). Some (k, rest)) same)

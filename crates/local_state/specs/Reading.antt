@@ -1,10 +1,11 @@
 -- Reading a local record from left to right: a value and the bytes after it, or nothing.
-use Rattle.std.specs.Prelude.{◌≡◌, ℕ, zero, suc, Bool, true, false, ◌&&◌, List, [], ◌∷◌, ◌++◌, length, take, drop, Option, Some, None, Result, Ok, Err, nat_eq, nat_lt, ◌==◌, if◌then◌else◌}
-use Rattle.std.specs.Int.{Width, w32, w64, byte_len, from_le_bytes}
+use Rattle.std.specs.Prelude.{◌≡◌, ℕ, zero, suc, Bool, true, false, ◌&&◌, List, [], ◌∷◌, ◌++◌, length, drop, Option, Some, None, Result, Ok, Err, nat_eq, nat_lt, ◌==◌, if◌then◌else◌}
+use Rattle.std.specs.Int.{w32, w64}
 use Rattle.std.specs.List.{starts_with}
 use Rattle.std.specs.Ordering.{nat_cmp, is_lt}
 use Rattle.std.specs.Cmp.Lexicographic.{slice_cmp}
 use Rattle.std.specs.FinMap as fin
+use Rattle.byte_fields.specs.Fields.{front_at, number_at}
 use Rattle.outside.specs.Trace.{At, config, block}
 use Rattle.local_state.specs.declared.mark.Mark.{Mark}
 use Rattle.local_state.specs.declared.state.StateError.{StateError}
@@ -25,12 +26,6 @@ Fails errors.BadState read = read ≡ None
 abbrev pub Gives : {X Y : Type 0} → (X → Y) → Result X StateError → Option Y → Type 0
 Gives view (Ok x) read = read ≡ Some (view x)
 Gives view (Err e) read = Fails e read
-
-abbrev pub front_at : ℕ → List ℕ → Option (List ℕ × List ℕ)
-front_at n bytes = if nat_lt (length bytes) n then None else Some (take n bytes, drop n bytes)
-
-abbrev pub number_at : Width → List ℕ → Option (ℕ × List ℕ)
-number_at w bytes = if nat_lt (length bytes) (byte_len w) then None else Some (from_le_bytes w (take (byte_len w) bytes), drop (byte_len w) bytes)
 
 abbrev pub flag_at : List ℕ → Option (Bool × List ℕ)
 flag_at [] = None

@@ -1,5 +1,5 @@
 -- The local record: a state and a list of changes that aren't written yet, as bytes. Numbers stand low byte first.
-use Rattle.std.specs.Prelude.{◌≡◌, ℕ, ◌^◌, ◌<◌, Bool, true, false, List, [], ◌∷◌, ◌++◌, length, Option, Some, None}
+use Rattle.std.specs.Prelude.{◌≡◌, ℕ, ◌^◌, ◌<◌, Bool, true, false, List, [], ◌∷◌, ◌++◌, length, codes, Option, Some, None}
 use Rattle.std.specs.Int.{w32, w64, to_le_bytes}
 use Rattle.std.specs.List.{flat_map, AllByRecursion}
 use Rattle.std.specs.Ordering.{nat_cmp, is_lt}
@@ -42,7 +42,7 @@ plain_record x = (plain_state x.0, list_of x.1.items)
 
 -- `cryfs.localstate;1` and a zero byte
 abbrev pub magic : List ℕ
-magic = 99 ∷ 114 ∷ 121 ∷ 102 ∷ 115 ∷ 46 ∷ 108 ∷ 111 ∷ 99 ∷ 97 ∷ 108 ∷ 115 ∷ 116 ∷ 97 ∷ 116 ∷ 101 ∷ 59 ∷ 49 ∷ 0 ∷ []
+magic = codes "cryfs.localstate;1" ++ 0 ∷ []
 
 abbrev pub flag : Bool → ℕ
 flag false = 0

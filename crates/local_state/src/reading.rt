@@ -1,72 +1,20 @@
 // The state and the list of a record, read.
 ghost use Rattle.std.specs.Prelude.{◌≡◌, ◌≢◌, ◌<◌, ◌^◌, List, [], ℕ, length, None, Some, IfOk, IsErrOf};
-ghost use Rattle.std.specs.Int.{w32, w64};
 ghost use Rattle.std.specs.Option.{option_map};
 ghost use Rattle.std.specs.FinMap as fin;
 ghost use Rattle.outside.specs.View.{list_of, pending_of, at_of, change_of};
 ghost use Rattle.local_state.specs.Known.{plain_entry, zero_id, IsNext};
 ghost use Rattle.local_state.specs.Record.{PlainState, Entry, plain_state, plain_record, record_bytes, comes_after, may_change, has_bytes, HasRecord};
-ghost use Rattle.local_state.specs.Reading.{Gives, front_at, number_at, flag_at, magic_at, known_at, marks_at, table_at, name_at, change_at, entry_at, entries_at, list_at, head_at, record_at};
+ghost use Rattle.local_state.specs.Reading.{Gives, flag_at, magic_at, known_at, marks_at, table_at, name_at, change_at, entry_at, entries_at, list_at, head_at, record_at};
 
 use crate::known::Known;
 use crate::mark::Mark;
 use crate::state::{State, StateError};
-use crate::writing::{MAGIC, MARK_LEN};
+use crate::writing::{MAGIC, MAGIC_LEN, MARK_LEN};
 use block_id::BlockId;
+use byte_fields::{take_array, take_bytes, take_id, take_u32, take_u64};
 use outside::{Change, FileName, Pending};
 use std::alloc::Global;
-
-fn front_of(bytes: &[u8], len: usize) -> Result<(&[u8], &[u8]), StateError>
-    ensures gives { Gives (λ x. (x.0.now, x.1.now)) result (front_at len bytes.now) }
-    ensures length { IfOk result (λ x. length x.0.now ≡ len) }
-{
-    if bytes.len() < len {
-        return Err(StateError::BadState);
-    }
-    Ok(bytes.split_at(len))
-}
-
-fn id_of(bytes: &[u8]) -> Result<(BlockId, &[u8]), StateError>
-    ensures { Gives (λ x. (x.0.0, x.1.now)) result (front_at 16 bytes.now) }
-{
-    let (front, rest) = front_of(bytes, 16)?;
-    let mut id = [0; 16];
-    id.copy_from_slice(front);
-    Ok((BlockId(id), rest))
-}
-
-fn bytes_32_of(bytes: &[u8]) -> Result<([u8; 32], &[u8]), StateError>
-    ensures { Gives (λ x. (x.0, x.1.now)) result (front_at 32 bytes.now) }
-{
-    let (front, rest) = front_of(bytes, 32)?;
-    let mut found = [0; 32];
-    found.copy_from_slice(front);
-    Ok((found, rest))
-}
-
-fn u32_of(bytes: &[u8]) -> Result<(u32, &[u8]), StateError>
-    ensures { Gives (λ x. (x.0, x.1.now)) result (number_at w32 bytes.now) }
-{
-    if bytes.len() < 4 {
-        return Err(StateError::BadState);
-    }
-    let (front, rest) = bytes.split_at(4);
-    let number = u32::from_le_bytes([front[0], front[1], front[2], front[3]]);
-    Ok((number, rest))
-}
-
-fn u64_of(bytes: &[u8]) -> Result<(u64, &[u8]), StateError>
-    ensures { Gives (λ x. (x.0, x.1.now)) result (number_at w64 bytes.now) }
-{
-    if bytes.len() < 8 {
-        return Err(StateError::BadState);
-    }
-    let (front, rest) = bytes.split_at(8);
-    let number = u64::from_le_bytes([
-        front[0], front[1], front[2], front[3], front[4], front[5], front[6], front[7],
-    ]);
-    Ok((number, rest))
-}
 
 fn flag_of(bytes: &[u8]) -> Result<(bool, &[u8]), StateError>
     ensures { Gives (λ x. (x.0, x.1.now)) result (flag_at bytes.now) }
@@ -84,7 +32,7 @@ fn magic_of(bytes: &[u8]) -> Result<&[u8], StateError>
     if !bytes.starts_with(&MAGIC) {
         return Err(StateError::BadState);
     }
-    Ok(&bytes[19..])
+    Ok(&bytes[MAGIC_LEN..])
 }
 
 #[tactic(auto, unfolding(crate::specs::Reading::known_at))]
@@ -92,8 +40,8 @@ fn known_of(previous: BlockId, bytes: &[u8]) -> Result<((BlockId, Mark), &[u8]),
     ensures gives { Gives (λ x. (plain_entry x.0, x.1.now)) result (known_at previous.0 bytes.now) }
     ensures next { IfOk result (λ x. IsNext previous.0 x.0.0.0 x.0.1) }
 {
-    let (id, rest) = id_of(bytes)?;
-    let (version, rest) = u64_of(rest)?;
+    let (id, rest) = take_id(bytes).ok_or(StateError::BadState)?;
+    let (version, rest) = take_u64(rest).ok_or(StateError::BadState)?;
     let (live, rest) = flag_of(rest)?;
     if !previous.cmp(&id).is_lt() {
         return Err(StateError::BadState);
@@ -124,7 +72,7 @@ fn marks_of(alloc: Global, count: u64, bytes: &[u8]) -> Result<(Known, &[u8]), S
 fn table_of(alloc: Global, bytes: &[u8]) -> Result<(Known, &[u8]), StateError>
     ensures { Gives (λ x. (x.0.marks, x.1.now)) result (table_at bytes.now) }
 {
-    let (count, rest) = u64_of(bytes)?;
+    let (count, rest) = take_u64(bytes).ok_or(StateError::BadState)?;
     marks_of(alloc, count, rest)
 }
 
@@ -136,7 +84,7 @@ fn name_of(bytes: &[u8]) -> Result<(FileName, &[u8]), StateError>
     if !is_block {
         return Ok((FileName::Config, rest));
     }
-    let (id, rest) = id_of(rest)?;
+    let (id, rest) = take_id(rest).ok_or(StateError::BadState)?;
     Ok((FileName::Block(id), rest))
 }
 
@@ -148,8 +96,8 @@ fn change_in(alloc: Global, bytes: &[u8]) -> Result<(Change, &[u8]), StateError>
     if !has_bytes {
         return Ok((Change::Removal, rest));
     }
-    let (len, rest) = u32_of(rest)?;
-    let (new, rest) = front_of(rest, len as usize)?;
+    let (len, rest) = take_u32(rest).ok_or(StateError::BadState)?;
+    let (new, rest) = take_bytes(rest, len as usize).ok_or(StateError::BadState)?;
     Ok((Change::Bytes(Vec::from_slice(alloc, new)?), rest))
 }
 
@@ -223,7 +171,7 @@ fn list_in<'a>(
 ) -> Result<(Vec<Pending>, &'a [u8]), StateError>
     ensures { Gives (λ x. (list_of x.0.items, x.1.now)) result (list_at known.now.marks bytes.now) }
 {
-    let (count, rest) = u64_of(bytes)?;
+    let (count, rest) = take_u64(bytes).ok_or(StateError::BadState)?;
     entries_of(alloc, known, count, rest)
 }
 
@@ -233,10 +181,10 @@ fn head_of(alloc: Global, bytes: &[u8]) -> Result<(State, &[u8]), StateError>
 {
     let rest = magic_of(bytes)?;
     let (marked, rest) = flag_of(rest)?;
-    let (fs_id, rest) = id_of(rest)?;
-    let (key_salt, rest) = bytes_32_of(rest)?;
-    let (key_digest, rest) = bytes_32_of(rest)?;
-    let (client, rest) = u32_of(rest)?;
+    let (fs_id, rest) = take_id(rest).ok_or(StateError::BadState)?;
+    let (key_salt, rest) = take_array::<32>(rest).ok_or(StateError::BadState)?;
+    let (key_digest, rest) = take_array::<32>(rest).ok_or(StateError::BadState)?;
+    let (client, rest) = take_u32(rest).ok_or(StateError::BadState)?;
     if client == 0 {
         return Err(StateError::BadState);
     }

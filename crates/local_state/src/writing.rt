@@ -10,11 +10,14 @@ use crate::known::Known;
 use crate::mark::Mark;
 use crate::state::State;
 use block_id::{BlockId, Memory};
+use byte_fields::{put_id, put_u32, put_u64};
 use outside::{Change, FileName, Pending};
 use std::alloc::Global;
 
-// `cryfs.localstate;1` and a zero byte.
-pub(crate) const MAGIC: [u8; 19] = *b"cryfs.localstate;1\0";
+// What a record begins with: `cryfs.localstate;1` and a zero byte.
+pub(crate) const MAGIC: [u8; MAGIC_LEN] = *b"cryfs.localstate;1\0";
+
+pub(crate) const MAGIC_LEN: usize = 19;
 
 const HEAD_LEN: usize = 104;
 
@@ -29,18 +32,18 @@ fn put_head(out: &mut Vec<u8>, state: &State) -> Result<(), Memory>
 {
     out.extend_from_slice(&MAGIC)?;
     out.push(u8::from(state.marked))?;
-    out.extend_from_slice(&state.fs_id.0)?;
+    put_id(out, &state.fs_id)?;
     out.extend_from_slice(&state.key_salt)?;
     out.extend_from_slice(&state.key_digest)?;
-    out.extend_from_slice(&state.client.to_le_bytes())?;
+    put_u32(out, state.client)?;
     Ok(())
 }
 
 fn put_mark(out: &mut Vec<u8>, id: &BlockId, mark: &Mark) -> Result<(), Memory>
     ensures { OnOk result (out.new.items ≡ out.old.items ++ mark_bytes (plain_entry (id.now, mark.now))) }
 {
-    out.extend_from_slice(&id.0)?;
-    out.extend_from_slice(&mark.version.to_le_bytes())?;
+    put_id(out, id)?;
+    put_u64(out, mark.version)?;
     out.push(u8::from(mark.live))?;
     Ok(())
 }
@@ -48,7 +51,7 @@ fn put_mark(out: &mut Vec<u8>, id: &BlockId, mark: &Mark) -> Result<(), Memory>
 fn put_entries(out: &mut Vec<u8>, entries: &[(BlockId, Mark)]) -> Result<(), Memory>
     ensures { OnOk result (out.new.items ≡ out.old.items ++ known_bytes (map plain_entry entries.now)) }
 {
-    out.extend_from_slice(&(entries.len() as u64).to_le_bytes())?;
+    put_u64(out, entries.len() as u64)?;
     'marks: for entry in entries {
         put_mark(out, &entry.0, &entry.1)?;
     }
@@ -70,7 +73,7 @@ fn put_name(out: &mut Vec<u8>, name: &FileName) -> Result<(), Memory>
         FileName::Config => out.push(0)?,
         FileName::Block(id) => {
             out.push(1)?;
-            out.extend_from_slice(&id.0)?;
+            put_id(out, id)?;
         }
     }
     Ok(())
@@ -84,7 +87,7 @@ fn put_change(out: &mut Vec<u8>, change: &Change) -> Result<(), Memory>
         Change::Removal => out.push(0)?,
         Change::Bytes(bytes) => {
             out.push(1)?;
-            out.extend_from_slice(&(bytes.len() as u32).to_le_bytes())?;
+            put_u32(out, bytes.len() as u32)?;
             out.extend_from_slice(bytes)?;
         }
     }
@@ -103,7 +106,7 @@ fn put_list(out: &mut Vec<u8>, list: &[Pending]) -> Result<(), Memory>
     requires { All (λ entry. FitsBytes (change_of entry.change)) list.now }
     ensures { OnOk result (out.new.items ≡ out.old.items ++ list_bytes (list_of list.now)) }
 {
-    out.extend_from_slice(&(list.len() as u64).to_le_bytes())?;
+    put_u64(out, list.len() as u64)?;
     'entries: for entry in list {
         put_entry(out, entry)?;
     }
