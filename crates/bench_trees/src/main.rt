@@ -3,7 +3,7 @@
 //! how many blocks it changed.
 #![tactic(auto)]
 
-ghost use Rattle.std.specs.Prelude.{◌≤◌, ◌^◌};
+ghost use Rattle.std.specs.Prelude.{◌<◌, ◌≤◌, ◌^◌};
 
 use block_id::{BlockId, Fail};
 use data_tree::{new_tree, read_range};
@@ -59,58 +59,52 @@ fn read_all<S: Blocks>(
     Ok(count)
 }
 
-/// Overwrites small ranges at random places, and answers how many blocks that changed.
-fn overwrite<S: BlocksMut, R: Rng>(
+/// What is done to the tree again and again.
+#[derive(Clone, Copy)]
+enum Change {
+    /// A small range is overwritten, at a random place.
+    Overwrite,
+    /// The tree grows by a small write at its end.
+    Grow,
+    /// As much is cut off again.
+    Cut,
+}
+
+/// Changes the tree once: it is this call, counted from 0, of so many.
+fn change_once<S: BlocksMut, R: Rng>(
     alloc: Global,
     tx: &mut Tx<S>,
     root: &BlockId,
     size: u64,
+    what: Change,
+    call: u64,
     calls: u64,
     chance: &mut R,
-) -> Result<usize, Fail>
+) -> Result<(), Fail>
     requires intact { ⟦<Tx<S> as Blocks>⟧.meanings.intact tx.old }
     requires small { size ≤ 2 ^ 32 }
     requires few { calls ≤ 1000 }
+    requires within { call < calls }
     ensures { ⟦<Tx<S> as Blocks>⟧.meanings.intact tx.new }
 {
     let bytes = [9u8; SMALL];
-    let mut changed = 0usize;
-    for _ in 0..calls {
-        let place = u64::from(chance.next_u32()) % (size + 1);
-        write_range(alloc, tx, root, place.saturating_sub(4096), &bytes, chance)?;
-        changed = changed.saturating_add(keep(alloc, tx, chance)?);
+    match what {
+        Change::Overwrite => {
+            let place = u64::from(chance.next_u32()) % (size + 1);
+            write_range(alloc, tx, root, place.saturating_sub(4096), &bytes, chance)
+        }
+        Change::Grow => write_range(alloc, tx, root, size + call * 4096, &bytes, chance),
+        Change::Cut => resize(alloc, tx, root, size + (calls - call - 1) * 4096, chance),
     }
-    Ok(changed)
 }
 
-/// Grows the tree by small writes at its end, or cuts as much off again, and answers how many blocks that changed.
-fn grow<S: BlocksMut, R: Rng>(
+/// Changes the tree so often, and answers how many blocks that changed.
+fn change_often<S: BlocksMut, R: Rng>(
     alloc: Global,
     tx: &mut Tx<S>,
     root: &BlockId,
     size: u64,
-    calls: u64,
-    chance: &mut R,
-) -> Result<usize, Fail>
-    requires intact { ⟦<Tx<S> as Blocks>⟧.meanings.intact tx.old }
-    requires small { size ≤ 2 ^ 32 }
-    requires few { calls ≤ 1000 }
-    ensures { ⟦<Tx<S> as Blocks>⟧.meanings.intact tx.new }
-{
-    let bytes = [9u8; SMALL];
-    let mut changed = 0usize;
-    for call in 0..calls {
-        write_range(alloc, tx, root, size + call * 4096, &bytes, chance)?;
-        changed = changed.saturating_add(keep(alloc, tx, chance)?);
-    }
-    Ok(changed)
-}
-
-fn cut<S: BlocksMut, R: Rng>(
-    alloc: Global,
-    tx: &mut Tx<S>,
-    root: &BlockId,
-    size: u64,
+    what: Change,
     calls: u64,
     chance: &mut R,
 ) -> Result<usize, Fail>
@@ -121,7 +115,7 @@ fn cut<S: BlocksMut, R: Rng>(
 {
     let mut changed = 0usize;
     for call in 0..calls {
-        resize(alloc, tx, root, size + (calls - call - 1) * 4096, chance)?;
+        change_once(alloc, tx, root, size, what, call, calls, chance)?;
         changed = changed.saturating_add(keep(alloc, tx, chance)?);
     }
     Ok(changed)
@@ -153,11 +147,19 @@ fn take_steps<S: BlocksMut>(
     let pieces = if steps > 1 { size / PIECE + 1 } else { 0 };
     lines.push(read_all(alloc, tx, &root, pieces)?)?;
     let calls = calls_from(3, steps);
-    lines.push(overwrite(alloc, tx, &root, size, calls, &mut chance)? as u64)?;
+    lines.push(change_often(
+        alloc,
+        tx,
+        &root,
+        size,
+        Change::Overwrite,
+        calls,
+        &mut chance,
+    )? as u64)?;
     let calls = calls_from(4, steps);
-    lines.push(grow(alloc, tx, &root, size, calls, &mut chance)? as u64)?;
+    lines.push(change_often(alloc, tx, &root, size, Change::Grow, calls, &mut chance)? as u64)?;
     let calls = calls_from(5, steps);
-    lines.push(cut(alloc, tx, &root, size, calls, &mut chance)? as u64)?;
+    lines.push(change_often(alloc, tx, &root, size, Change::Cut, calls, &mut chance)? as u64)?;
     Ok(lines)
 }
 

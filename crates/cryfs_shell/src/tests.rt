@@ -106,9 +106,19 @@ fn names_the_stream_that_failed(rt: HostRuntime) -> Result<(), Fail> {
     Ok(())
 }
 
+/// Whether these words are refused with nothing written.
+fn is_refused(alloc: Global, words: &[&str]) -> Result<bool, AllocError> {
+    let case = Case {
+        words,
+        status: Status::Usage,
+        ..trial("", "")
+    };
+    holds(alloc, &case, 7)
+}
+
 #[test]
 fn refuses_other_words(rt: HostRuntime) -> Result<(), Fail> {
-    let forms: [&[&str]; 39] = [
+    let forms: [&[&str]; 20] = [
         &[],
         &["frob"],
         &["Create"],
@@ -129,6 +139,16 @@ fn refuses_other_words(rt: HostRuntime) -> Result<(), Fail> {
         &["passwd", "x"],
         &["info", "x"],
         &["info", "--help"],
+    ];
+    for words in forms {
+        assert!(rt; is_refused(rt.alloc(), words)?);
+    }
+    Ok(())
+}
+
+#[test]
+fn refuses_other_options_of_create(rt: HostRuntime) -> Result<(), Fail> {
+    let forms: [&[&str]; 19] = [
         &["create", "--blocksize", "127"],
         &["create", "--blocksize", "1048577"],
         &["create", "--scrypt-n", "1"],
@@ -150,12 +170,7 @@ fn refuses_other_words(rt: HostRuntime) -> Result<(), Fail> {
         &["create", "--"],
     ];
     for words in forms {
-        let case = Case {
-            words,
-            status: Status::Usage,
-            ..trial("", "")
-        };
-        assert!(rt; holds(rt.alloc(), &case, 7)?);
+        assert!(rt; is_refused(rt.alloc(), words)?);
     }
     Ok(())
 }

@@ -59,7 +59,7 @@ module _ {S : Type 0} {held : S → Held} {trace : S → Option (List Call)} {a 
 
 -- ---- once all is marked
 
--- the ids of a batch that is listed are marked, and nothing else is done; the ids that are used and what waits were counted
+-- the ids of a batch that is listed are raised or buried, and nothing else is done; the ids that are used and what waits were counted
 pub record Marked {S : Type 0} (held : S → Held) (trace : S → Option (List Call)) (a b : S) (m : Held) (changes : Changes) (es : List Entry) (stream left : Stream) : Type 0 where
   pub listed : Listed held trace a m changes es stream left
   pub known : Marks

@@ -1,4 +1,4 @@
-// The list of what waits: recorded, and written out.
+// The unwritten list: recorded, and written out.
 ghost use Rattle.std.specs.Prelude.{◌≡◌, ◌<◌, ◌^◌, [], ◌∷◌, length, IfOk, OnOk, OnErr};
 ghost use Rattle.std.specs.declared.option.Option.TheVariants.{Some};
 ghost use Rattle.outside.specs.Trace.{config};

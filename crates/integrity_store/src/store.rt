@@ -78,7 +78,7 @@ impl<V: Vault, C: Sealer> IntegrityStore<V, C> {
         &self.state
     }
 
-    /// The directory, without what isn't written yet.
+    /// The directory, without the unwritten list.
     pub fn into_vault(self) -> V
     where
         C: Drop,

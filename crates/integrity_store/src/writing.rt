@@ -11,7 +11,7 @@ const FORM: u16 = 1;
 // The length of what stands before the payload.
 const HEAD_LEN: usize = 30;
 
-/// The record of a block's payload at this version, by this client.
+/// The block record of a payload at this version, by this client.
 pub(crate) fn write_record(
     alloc: Global,
     id: &BlockId,

@@ -1,4 +1,4 @@
--- The local record: a state and a list of changes that aren't written yet, as bytes. Numbers stand low byte first.
+-- The local record: a state and the unwritten list, as bytes. Numbers stand low byte first.
 use Rattle.std.specs.Prelude.{◌≡◌, ℕ, ◌^◌, ◌<◌, Bool, true, false, List, [], ◌∷◌, ◌++◌, length, codes, Option, Some, None}
 use Rattle.std.specs.Int.{w32, w64, to_le_bytes}
 use Rattle.std.specs.List.{flat_map, AllByRecursion}

@@ -117,7 +117,7 @@ pub(crate) fn open_error(error: SyncError) -> OpenError
 
 impl<V: Vault, K: Keeper> Mount<V, K> {
     /// Opens the file system whose record is kept, under a password: reads the record, the configuration from its list or
-    /// the directory, sees that the one is of the other, and writes out what waits. With a wrong password nothing is
+    /// the directory, sees that the one is of the other, and writes out the unwritten list. With a wrong password nothing is
     /// written.
     pub fn attach(
         alloc: Global,

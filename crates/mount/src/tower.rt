@@ -57,7 +57,7 @@ pub(crate) fn cached_store<V: Vault>(
     }
 }
 
-/// The directory, without the cache and what isn't written yet.
+/// The directory, without the cache and the unwritten list.
 pub(crate) fn into_vault<V: Vault>(store: Cached<V>) -> V
     ensures vault { result ≡ vault_in store }
     ensures trace { V.trace result ≡ trace_in V.trace store }

@@ -96,7 +96,7 @@ fn is_error(reply: &Reply) -> bool
 }
 
 impl<S: Durable, K: Keeper> Core<S, K> {
-    /// Keeps what is present: the record with the list, what waits, the record with an empty list. Where nothing changed
+    /// Keeps what is present: the record with the unwritten list, its files, the record with none. Where nothing changed
     /// it makes no call. There was no violation.
     pub fn sync(&mut self, alloc: Global) -> Result<(), SyncError>
         requires ready { Ready S.meanings S.holdings S.durables S.records K.Keeper self.old }

@@ -24,7 +24,7 @@ pub struct Unstarted<S, K> {
     pub keeper: K,
 }
 
-/// Begins a session over a store whose record is kept: what waits is written out first, and the record is kept with an
+/// Begins a session over a store whose record is kept: the unwritten list is written out first, and the record is kept with an
 /// empty list.
 pub fn start<S: Durable, K: Keeper>(
     alloc: Global,

@@ -29,7 +29,7 @@ change_of Removal = None
 abbrev pub pending_of : Pending → At × Option (List ℕ)
 pending_of p = (at_of p.name, change_of p.change)
 
--- a list of changes that aren't written yet
+-- an unwritten list
 abbrev pub list_of : List Pending → List (At × Option (List ℕ))
 list_of ps = map pending_of ps
 

@@ -16,7 +16,7 @@ pub enum Change {
     Removal,
 }
 
-/// A change that isn't written yet.
+/// An entry of an unwritten list.
 #[derive(Debug, Drop)]
 pub struct Pending {
     pub name: FileName,

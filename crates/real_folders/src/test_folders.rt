@@ -57,6 +57,7 @@ pub struct CountedFlushes<'a> {
     pub left: &'a Cell<u32>,
 }
 
+/// A file of that system.
 #[derive(Drop)]
 pub struct CountedFile<'a> {
     file: File,

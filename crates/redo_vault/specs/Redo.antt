@@ -1,4 +1,4 @@
--- A directory with a list of changes that aren't written yet.
+-- A directory with its unwritten list.
 use Rattle.std.specs.Prelude.{◌≡◌, ℕ, ◌-◌, ◌^◌, min, List, length, sum_by}
 use Rattle.std.specs.declared.option.Option.{Option}
 use Rattle.std.specs.declared.option.Option.TheVariants.{None, Some}

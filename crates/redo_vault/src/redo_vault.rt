@@ -1,4 +1,4 @@
-// Changes that aren't written yet, over a directory.
+// The unwritten list over a directory.
 ghost use Rattle.std.specs.Prelude.{◌≡◌, ◌⊎◌, ◌≤◌, ◌<◌, ◌+◌, [], length, vec_len, vec_capacity, drop, true, false, IfOk, IfSome, OnOk, OnErr, IsErrOf};
 ghost use Rattle.std.specs.declared.option.Option.{Option};
 ghost use Rattle.std.specs.declared.option.Option.TheVariants.{None, Some};
@@ -13,7 +13,7 @@ use outside::{Change, FileName, GetFail, Memory, Pending, Vault, pending_list};
 use std::alloc::Global;
 use std::marker::Model;
 
-/// A directory, and changes of it by increasing names that aren't written yet.
+/// A directory, and its unwritten list by increasing names.
 #[derive(Drop)]
 pub struct RedoVault<V> {
     vault: V,
@@ -115,7 +115,7 @@ impl<V: Vault> RedoVault<V> {
         RedoVault { vault, list }
     }
 
-    /// The directory, without what isn't written yet.
+    /// The directory, without the unwritten list.
     pub fn into_vault(self) -> V
         ensures { result ≡ self.vault }
     {
@@ -124,7 +124,7 @@ impl<V: Vault> RedoVault<V> {
         vault
     }
 
-    /// The changes that aren't written yet.
+    /// The unwritten list.
     pub fn entries(&self) -> &[Pending]
         ensures entries { list_of result.now ≡ self.now.list }
         ensures increasing { IsIncreasing self.now.list }
@@ -172,7 +172,7 @@ impl<V: Vault> RedoVault<V> {
         sum_of_lens(&self.list)
     }
 
-    /// Puts or removes what isn't written yet, in order. Each change leaves the list as its call answers Ok; the
+    /// Writes the unwritten list out, in order. Each change leaves the list as its call answers Ok; the
     /// rest stays at the first error, which is answered.
     pub fn write_out(&mut self, alloc: Global) -> Result<(), GetFail>
         ensures ok { OnOk result (V.trace self.new.vault ≡ after_writes self.old.list (V.trace self.old.vault)) }

@@ -8,6 +8,7 @@ use crate::hex_digits::hex_digit;
 use block_id::Memory;
 use fs_model::Moment;
 
+/// One byte more.
 pub fn push_byte(out: &mut Vec<u8>, byte: u8) -> Result<(), Memory>
     ensures { Appends out.old out.new result (byte ∷ []) }
 {
@@ -15,6 +16,7 @@ pub fn push_byte(out: &mut Vec<u8>, byte: u8) -> Result<(), Memory>
     Ok(())
 }
 
+/// So many bytes more.
 pub fn push_bytes(out: &mut Vec<u8>, bytes: &[u8]) -> Result<(), Memory>
     ensures { Appends out.old out.new result bytes.now }
 {

@@ -11,6 +11,20 @@ const INVALID: Option<FsError> = Some(FsError::Invalid);
 
 const LONG: Option<FsError> = Some(FsError::NameTooLong);
 
+const ERRORS: [FsError; 11] = [
+    FsError::NoEntry,
+    FsError::Exists,
+    FsError::NotDirectory,
+    FsError::IsDirectory,
+    FsError::NotEmpty,
+    FsError::Invalid,
+    FsError::Busy,
+    FsError::NameTooLong,
+    FsError::TooLarge,
+    FsError::NotLink,
+    FsError::BadLine,
+];
+
 // The error of a line, or None where it makes a command.
 fn error_of(rt: &impl Abort, alloc: Global, line: &[u8]) -> Option<FsError> {
     match parse_line(alloc, line) {
@@ -25,54 +39,72 @@ fn error_of(rt: &impl Abort, alloc: Global, line: &[u8]) -> Option<FsError> {
 
 #[test]
 fn refuses_lines_of_another_form(rt: HostRuntime) {
-    let rows: [(&[u8], Option<FsError>); 44] = [
-        (b"", BAD),
-        (b"frob /", BAD),
-        (b"LS /", BAD),
-        (b"ls", BAD),
-        (b"ls / /", BAD),
-        (b"ls  /", BAD),
-        (b" ls /", BAD),
-        (b"ls / ", BAD),
-        (b"read /l 0", BAD),
-        (b"sync /", BAD),
-        (b"mkdir /a\\q", BAD),
-        (b"mkdir /\\", BAD),
-        (b"mkdir /\\x4", BAD),
-        (b"mkdir /\\x4g", BAD),
-        (b"mkdir /\\X41", BAD),
-        (b"symlink \\ /a", BAD),
-        (b"truncate /a 18446744073709551616", BAD),
-        (b"truncate /a 99999999999999999999", BAD),
-        (b"truncate /a 000000000000000000001", BAD),
-        (b"truncate /a +1", BAD),
-        (b"truncate /a 1x", BAD),
-        (b"chown /a 0 4294967296", BAD),
-        (b"chmod /a 8", BAD),
-        (b"chmod /a 00000", BAD),
-        (b"utime /a 1 1.000000000", BAD),
-        (b"utime /a .000000000 1.000000000", BAD),
-        (b"utime /a 1.00000000 1.000000000", BAD),
-        (b"utime /a 1.000000000 1.0000000000", BAD),
-        (b"write /a 0 abc", BAD),
-        (b"write /a 0 0g", BAD),
-        (b"write /a 0 --", BAD),
-        (b"write . x -", BAD),
-        (b"mv . \\", BAD),
-        (b"mkdir a", INVALID),
-        (b"mkdir //", INVALID),
-        (b"mkdir /.", INVALID),
-        (b"mkdir /a/..", INVALID),
-        (b"mkdir /\\x00", INVALID),
-        (b"mkdir /\\x2e\\x2E", INVALID),
-        (b"symlink a\\x00 /b", INVALID),
-        (b"truncate /a 18446744073709551615", None),
-        (b"chown /a 00000000004294967295 0", None),
-        (b"symlink a//.. /b", None),
-        (b"mkdir /a\r", None),
+    let lines: [&[u8]; 33] = [
+        b"",
+        b"frob /",
+        b"LS /",
+        b"ls",
+        b"ls / /",
+        b"ls  /",
+        b" ls /",
+        b"ls / ",
+        b"read /l 0",
+        b"sync /",
+        b"mkdir /a\\q",
+        b"mkdir /\\",
+        b"mkdir /\\x4",
+        b"mkdir /\\x4g",
+        b"mkdir /\\X41",
+        b"symlink \\ /a",
+        b"truncate /a 18446744073709551616",
+        b"truncate /a 99999999999999999999",
+        b"truncate /a 000000000000000000001",
+        b"truncate /a +1",
+        b"truncate /a 1x",
+        b"chown /a 0 4294967296",
+        b"chmod /a 8",
+        b"chmod /a 00000",
+        b"utime /a 1 1.000000000",
+        b"utime /a .000000000 1.000000000",
+        b"utime /a 1.00000000 1.000000000",
+        b"utime /a 1.000000000 1.0000000000",
+        b"write /a 0 abc",
+        b"write /a 0 0g",
+        b"write /a 0 --",
+        b"write . x -",
+        b"mv . \\",
     ];
-    for (line, error) in rows {
-        assert_eq!(rt; error_of(&rt, rt.alloc(), line), error);
+    for line in lines {
+        assert_eq!(rt; error_of(&rt, rt.alloc(), line), BAD);
+    }
+}
+
+#[test]
+fn refuses_paths_and_targets_that_are_none(rt: HostRuntime) {
+    let lines: [&[u8]; 7] = [
+        b"mkdir a",
+        b"mkdir //",
+        b"mkdir /.",
+        b"mkdir /a/..",
+        b"mkdir /\\x00",
+        b"mkdir /\\x2e\\x2E",
+        b"symlink a\\x00 /b",
+    ];
+    for line in lines {
+        assert_eq!(rt; error_of(&rt, rt.alloc(), line), INVALID);
+    }
+}
+
+#[test]
+fn takes_lines_at_their_limits(rt: HostRuntime) {
+    let lines: [&[u8]; 4] = [
+        b"truncate /a 18446744073709551615",
+        b"chown /a 00000000004294967295 0",
+        b"symlink a//.. /b",
+        b"mkdir /a\r",
+    ];
+    for line in lines {
+        assert_eq!(rt; error_of(&rt, rt.alloc(), line), None);
     }
 }
 
@@ -188,19 +220,7 @@ fn prints_each_reply(rt: HostRuntime) -> Result<(), Fail> {
     replies.push(Reply::Target(ByteText::new(Vec::from_slice(alloc, b"/x\x7f")?)))?;
     replies.push(Reply::Content(ByteText::new(Vec::new(alloc))))?;
     replies.push(Reply::Content(ByteText::new(Vec::from_slice(alloc, b"\x00\xaf")?)))?;
-    for error in [
-        FsError::NoEntry,
-        FsError::Exists,
-        FsError::NotDirectory,
-        FsError::IsDirectory,
-        FsError::NotEmpty,
-        FsError::Invalid,
-        FsError::Busy,
-        FsError::NameTooLong,
-        FsError::TooLarge,
-        FsError::NotLink,
-        FsError::BadLine,
-    ] {
+    for error in ERRORS {
         replies.push(Reply::Error(error))?;
     }
     let mut out = Vec::new(alloc);

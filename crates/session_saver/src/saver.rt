@@ -33,7 +33,7 @@ pub struct Saver<K> {
 }
 
 impl<K: Keeper> Saver<K> {
-    /// Puts what waits, and keeps the record with an empty list, which is handed in. The record with the list is kept.
+    /// Puts the unwritten list, and keeps the record with an empty one, which is handed in. The record with the list is kept.
     pub fn finish<S: Durable>(
         &mut self,
         alloc: Global,
@@ -94,7 +94,7 @@ impl<K: Keeper> Saver<K> {
         Ok(())
     }
 
-    /// Puts what waits, where the record with the list is kept, and keeps the record with an empty list.
+    /// Puts the unwritten list, where the record with the list is kept, and keeps the record with an empty list.
     pub fn write_waiting<S: Durable>(
         &mut self,
         alloc: Global,
@@ -148,7 +148,7 @@ impl<K: Keeper> Saver<K> {
         self.finish(alloc, store, short)
     }
 
-    /// Keeps the record with the list, puts what waits, and keeps the record with an empty list. Where nothing changed
+    /// Keeps the record with the unwritten list, puts the list, and keeps the record with an empty list. Where nothing changed
     /// since the last whole sync it makes no call. After a violation it would keep a record without the mark: whoever
     /// marks a record syncs no more.
     pub fn sync<S: Durable>(&mut self, alloc: Global, store: &mut S) -> Result<(), SyncError>

@@ -28,7 +28,7 @@ pub record Durables (S : Type 0) : Type 1 where
   pub identity : S → Identity
   -- the calls on the directory below, where it tells them
   pub trace : S → Option (List Call)
-  -- what isn't written yet, by increasing names
+  -- the unwritten list, by increasing names
   pub list : S → List (At × Option (List ℕ))
   -- the record, with this list or with an empty one
   pub record_of : S → Bool → List ℕ
@@ -90,6 +90,6 @@ pub record Enduring {S : Type 0} (M : Meanings S) (H : Holdings S) (applied : S 
   pub applied_trace : (a b : S) (changes : Changes) → applied a b changes → D.trace b ≡ D.trace a
   pub applied_configures : (a b : S) (changes : Changes) (bytes : List ℕ) → applied a b changes → M.intact a → M.intact b
       → R.configures (D.record_of a true) (D.trace a) bytes → R.configures (D.record_of b true) (D.trace b) bytes
-  -- what waits stands in order of its names
+  -- the unwritten list stands in order of its names
   pub in_order : (s : S) → M.intact s → IsIncreasing (D.list s)
   pub nothing_waits : (s : S) → D.list s ≡ [] → D.record_of s true ≡ D.record_of s false

@@ -22,7 +22,7 @@ pub trait Durable: BlocksMut {
     fn buffered(&self) -> usize
         ensures { result ≡ min (waiting_bytes (durables.list self.now)) usize.MAX };
 
-    /// The record, with the list of what waits or with an empty one.
+    /// The local record, with the unwritten list or with an empty one.
     fn state_bytes(&self, alloc: Global, with_list: bool) -> Result<Vec<u8>, Memory>
         requires { Self.meanings.intact self.now }
         ensures { IfOk result (λ bytes. bytes.items ≡ durables.record_of self.now with_list) };
@@ -44,7 +44,7 @@ pub trait Durable: BlocksMut {
         ensures lies { Self.meanings.lies self.new ≡ Self.meanings.lies self.old }
         ensures faults { Self.meanings.faults self.new ≡ Self.meanings.faults self.old };
 
-    /// Puts and removes what waits, in order. What isn't done at the first error still waits.
+    /// Writes the unwritten list out, in order. What isn't done at the first error stays in it.
     fn write_out(&mut self, alloc: Global) -> Result<(), GetFail>
         requires { Self.meanings.intact self.old }
         ensures intact { Self.meanings.intact self.new }

@@ -109,6 +109,7 @@ pub fn expect(
     Ok(after)
 }
 
+/// What a new file system writes, where the random bytes are zeros.
 pub const CREATED: &str = "created 00000000000000000000000000000000\n";
 
 /// A new file system under the password `pw`.
