@@ -60,7 +60,7 @@ fault_state sync_error.Memory k0 k1 cause e = absurd (cc)
 fault_state sync_error.FaultDirectory k0 k1 cause e = absurd (cc)
 
 changed_causes : (change : Result Unit SyncError) (v0 v1 v2 v3 k0 k1 k2 k3 : ℕ) (kept0 kept1 : Option (List ℕ)) (t0 t1 : Option (List Call)) (output : Stream) (status : Status) → Reports change output status
-    → v0 ≤ v1 → v1 ≤ v2 → v2 ≤ v3 → k0 ≤ k1 → k1 ≤ k2 → k2 ≤ k3
+    → v1 ≡ v0 → v1 ≤ v2 → v2 ≤ v3 → k1 ≡ k0 → k1 ≤ k2 → k2 ≤ k3
     → (IsErrOf change sync_error.FaultDirectory → RoseBy 1 v1 v2) → (IsErrOf change sync_error.FaultState → RoseBy 1 k1 k2)
     → HasCauses (record { kept = kept0; calls = t0; vault_faults = v0; keeper_faults = k0 }) (record { kept = kept1; calls = t1; vault_faults = v3; keeper_faults = k3 }) status
 changed_causes (Ok u) v0 v1 v2 v3 k0 k1 k2 k3 kept0 kept1 t0 t1 output status r a b d e f h vault keeper =
@@ -181,4 +181,4 @@ module _ {V : Type 0} {K : Type 0} (trace : V → Option (List Call)) (faults : 
       → HasCauses (outside_of trace faults G vault keeper) (outside_of trace faults G ended.vault ended.keeper) ended.status
   caused status output es r grows cause keeper_grows keeper_cause =
       changed_causes change _ _ _ _ _ _ _ _ _ _ _ _ output ended.status (reported change closing output status ended.status es (λ ok. (still change unchanged ok).0) r)
-      b.vault_grows grows z.vault_grows b.keeper_grows keeper_grows z.keeper_grows cause keeper_cause
+      b.vault_quiet grows z.vault_grows b.keeper_quiet keeper_grows z.keeper_grows cause keeper_cause

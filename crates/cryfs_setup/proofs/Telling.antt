@@ -67,4 +67,4 @@ module _ {V : Type 0} {K : Type 0} (trace : V → Option (List Call)) (faults : 
   told_causes =
       subst (λ (s : Status). HasCauses (outside_of trace faults G vault keeper) (outside_of trace faults G ended.vault ended.keeper) s) status_is
       (printed_causes (faults vault) (faults ended.vault) (G.faults keeper) (G.faults ended.keeper) _ _ _ _ output _ printed p
-      (let g = b.vault_grows in let h = z.vault_grows in omega (arith, g, h)) (let g = b.keeper_grows in let h = z.keeper_grows in omega (arith, g, h)))
+      (let g = b.vault_quiet in let h = z.vault_grows in omega (arith, g, h)) (let g = b.keeper_quiet in let h = z.keeper_grows in omega (arith, g, h)))

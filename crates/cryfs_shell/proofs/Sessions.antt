@@ -161,7 +161,7 @@ module _ {V : Type 0} {K : Type 0} (trace : V → Option (List Call)) (faults : 
       }
 
       served_unmarked : IsServed trace faults G now password Came vault keeper ended → IsKeptMarked records (G.kept keeper) → ⊥
-      served_unmarked s marked = loaded_unmarked (G.kept keeper) s.session.attached.3.state s.session.attached.3.list s.session.attached.3.loaded marked
+      served_unmarked s marked = loaded_unmarked (G.kept keeper) s.session.attached.attached.state s.session.attached.attached.list s.session.attached.attached.loaded marked
 
       served_alarm : IsServed trace faults G now password Came vault keeper ended → NoFalseAlarm input Before After ended.status
       served_alarm s bytes c first f honest e =

@@ -37,7 +37,7 @@ module _ (shows : Showing) (c : Settings) where
 
   refusing : (run : Run) (from : Tree) (was : Bool) → was ≡ true → IsRun shows run → IsKeptMarked records (before_of run).kept → Turned from was run
   refusing (session now password before after closing es) from was w run m =
-      absurd (loaded_unmarked before.kept run.attached.3.state run.attached.3.list run.attached.3.loaded m)
+      absurd (loaded_unmarked before.kept run.attached.attached.state run.attached.attached.list run.attached.attached.loaded m)
   refusing (quiet password before after) from was w run m =
       let same = run.marked m in
       (from, inr (w, record { marked = m; unanswered = refl; kept = same.0; calls = same.1 }), inr (w, subst (IsKeptMarked records) (sym same.0) m))

@@ -1,4 +1,5 @@
 pub mod Tower
+pub mod TowerLaws
 pub mod Representing
 pub mod Opening
 pub mod Unforged

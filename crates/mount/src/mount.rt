@@ -5,15 +5,16 @@ ghost use Rattle.answers.specs.Sessions.{is_violation, directory_faults, state_f
 ghost use Rattle.config_file.specs.ConfigOf.{IsOnly, opened as opened_as};
 ghost use Rattle.config_file.specs.Settings.{settings_of};
 ghost use Rattle.fs_model.specs.Fitting.{IsFitting};
+ghost use Rattle.fs_model.specs.declared.reply.Reply.TheVariants.{Done};
 ghost use Rattle.fs_model.specs.Tree.{Tree};
 ghost use Rattle.integrity_store.specs.Held.{forged};
 ghost use Rattle.integrity_store.specs.Standing.{records};
 ghost use Rattle.tree_commands.specs.Showing.{ShowsFiles};
 ghost use Rattle.tree_commands.specs.Sparing.{OnWriteInside};
 ghost use Rattle.mount_core.specs.Answers.{is_done_answer, is_structure, OnFound, OnReply, OnSpent};
-ghost use Rattle.mount_core.specs.Causes.{FoundCause, SpentCause};
+ghost use Rattle.mount_core.specs.Causes.{FoundCause, OnlyLoaded, SpentCause};
 ghost use Rattle.mount_core.specs.Configuring.{ConfigAnswered, ConfigClosed, ConfigSynced, Replaced};
-ghost use Rattle.tree_commands.specs.Performing.{IsReplyTo};
+ghost use Rattle.tree_commands.specs.Performing.{is_sync, IsReplyTo};
 ghost use Rattle.mount_core.specs.Sparing.{FewRaised};
 ghost use Rattle.mount_core.specs.Standing.{Answered, IsKeptMarked, Synced};
 ghost use Rattle.outside.specs.Causes.{RoseBy};
@@ -96,7 +97,11 @@ impl<V: Vault, K: Keeper> Mount<V, K> {
             → (tower_meanings V.trace V.faults).lies self.new.core.blobs.tx.store ≤ (tower_meanings V.trace V.faults).lies self.old.core.blobs.tx.store → is_violation result ≡ false }
         ensures built { (kept present : Tree) → self.old.core.violated ≡ false → TowerStands ShowsFiles V.trace V.faults K.Keeper self.old.core kept present
             → (tower_meanings V.trace V.faults).forgeries self.new.core.blobs.tx.store ≤ (tower_meanings V.trace V.faults).forgeries self.old.core.blobs.tx.store → is_structure result ≡ false }
-        ensures found { OnFound result (FoundCause (tower_meanings V.trace V.faults) (tower_holdings V.trace) (tower_durables V.trace) self.old.core.blobs.tx.store self.new.core.blobs.tx.store) }
+        ensures loads { OnlyLoaded (tower_meanings V.trace V.faults) (tower_holdings V.trace) (tower_durables V.trace) self.old.core.saver.changed (is_done_answer result) self.old.core.blobs.tx.store self.new.core.blobs.tx.store }
+        ensures found { OnFound result (FoundCause (tower_meanings V.trace V.faults) (tower_holdings V.trace) (tower_durables V.trace) self.old.core.saver.changed self.old.core.blobs.tx.store self.new.core.blobs.tx.store) }
+        ensures unsaved { self.old.core.saver.changed ≡ false → is_violation result ≡ false → (self.new.core.saver.keeper ≡ self.old.core.saver.keeper) × (self.new.core.saver.last ≡ self.old.core.saver.last) }
+        ensures unchanged { self.old.core.saver.changed ≡ false → is_violation result ≡ false → is_done_answer result ≡ false → self.new.core.saver.changed ≡ false }
+        ensures unmoved { is_sync command.now ≡ true → self.old.core.violated ≡ false → self.old.core.saver.changed ≡ false → (result ≡ Answer.Reply Done) × (self.new ≡ self.old) }
         ensures vault_cause { RoseBy (directory_faults result) ((tower_meanings V.trace V.faults).faults self.old.core.blobs.tx.store) ((tower_meanings V.trace V.faults).faults self.new.core.blobs.tx.store) }
         ensures vault_quiet { directory_faults result ≡ 0 → (tower_meanings V.trace V.faults).faults self.new.core.blobs.tx.store ≡ (tower_meanings V.trace V.faults).faults self.old.core.blobs.tx.store }
         ensures keeper_cause { RoseBy (state_faults result) (K.faults self.old.core.saver.keeper) (K.faults self.new.core.saver.keeper) }

@@ -1,10 +1,10 @@
 -- Why a line has an answer that no tree gives.
-use Rattle.std.specs.Prelude.{◌≡◌, ◌+◌, ◌^◌, ℕ, true, List, is_some}
+use Rattle.std.specs.Prelude.{◌≡◌, ◌⊎◌, ◌+◌, ◌^◌, ℕ, Bool, true, false, List, is_some}
 use Rattle.block_id.specs.declared.fail.Why.{Why}
 use Rattle.fs_model.specs.declared.command.Command.{Command}
 use Rattle.fs_model.specs.Laws.{OnlyLooks}
 use Rattle.outcome.specs.Meanings.{Meanings}
-use Rattle.outside.specs.Going.{GoesOn}
+use Rattle.session_saver.specs.Saving.{Wrote}
 use Rattle.store_api.specs.Durables.{Durables}
 use Rattle.store_api.specs.Holdings.{Holdings, Stays}
 
@@ -16,10 +16,19 @@ pub record SpentCause {S : Type 0} (H : Holdings S) (store : S) (command : Comma
   pub spent : H.spent store id ≡ true
   pub last : H.version store id + 1 ≡ 2 ^ 64
 
--- since the line's sync, if it made one, blocks were only loaded, and one was found wrong in this way
-pub record FoundCause {S : Type 0} (M : Meanings S) (H : Holdings S) (D : Durables S) (old new : S) (why : Why) : Type 0 where
+-- What a line made of its store. Where nothing had changed since the last sync, it didn't sync; else it may have, and then what waited was written, or a front
+-- part of it, or nothing. After that blocks were only loaded; and only the reply Done came with a further change, which made no call.
+pub record OnlyLoaded {S : Type 0} (M : Meanings S) (H : Holdings S) (D : Durables S) (changed done : Bool) (old new : S) : Type 0 where
   pub synced : S
+  pub unsynced : changed ≡ false → synced ≡ old
+  pub wrote : (synced ≡ old) ⊎ Wrote D old synced
   pub stays : Stays H old synced
-  pub goes_on : GoesOn (D.trace old) (D.trace synced)
-  pub loaded : M.loaded synced new
-  pub met : M.met synced new why
+  pub last : S
+  pub loaded : M.loaded synced last
+  pub undone : done ≡ false → new ≡ last
+  pub uncalled : D.trace new ≡ D.trace last
+
+-- among these loads, a block was found wrong in this way
+pub record FoundCause {S : Type 0} (M : Meanings S) (H : Holdings S) (D : Durables S) (changed : Bool) (old new : S) (why : Why) : Type 0 where
+  pub since : OnlyLoaded M H D changed false old new
+  pub met : M.met since.synced new why

@@ -8,7 +8,7 @@ ghost use Rattle.fs_model.specs.Instant.{Instant};
 ghost use Rattle.fs_model.specs.Tree.{Tree};
 ghost use Rattle.outside.specs.Causes.{RoseBy};
 ghost use Rattle.outside.specs.Going.{GoesOn};
-ghost use Rattle.session_saver.specs.Saving.{KeptConfigures, Whole, CanMark, UnlessDirectory, UnlessState};
+ghost use Rattle.session_saver.specs.Saving.{KeptConfigures, Whole, CanMark, Wrote, UnlessDirectory, UnlessState};
 ghost use Rattle.store_api.specs.Content.{Content, SameContent};
 ghost use Rattle.store_api.specs.Durables.{Identity, with_mark};
 ghost use Rattle.store_api.specs.Holdings.{IsFew, IsSpent, Stays, gives_payload};
@@ -17,7 +17,7 @@ ghost use Rattle.answers.specs.Sessions.{IsError, is_violation, directory_faults
 ghost use Rattle.tree_commands.specs.Showing.{ShowsFiles};
 ghost use Rattle.tree_commands.specs.Sparing.{OnWriteInside};
 ghost use Rattle.mount_core.specs.Answers.{is_structure, is_done_answer, answer_of_fail, answer_of_sync, OnReply, OnSpent, OnFound};
-ghost use Rattle.mount_core.specs.Causes.{SpentCause, FoundCause};
+ghost use Rattle.mount_core.specs.Causes.{SpentCause, OnlyLoaded, FoundCause};
 ghost use Rattle.mount_core.specs.Configuring.{Configures, ConfigSynced, ConfigAnswered, ConfigClosed, Replaced, KeptOneOf};
 ghost use Rattle.fs_model.specs.Laws.{OnlyLooks};
 ghost use Rattle.tree_commands.specs.Performing.{is_sync, IsReplyTo};
@@ -109,6 +109,7 @@ impl<S: Durable, K: Keeper> Core<S, K> {
         ensures emptied { OnOk result (K.kept self.new.saver.keeper ≡ Some (S.durables.record_of self.new.blobs.tx.store false)) }
         ensures ok { OnOk result (self.new.saver.changed ≡ false) }
         ensures unmoved { self.old.saver.changed ≡ false → IsOk result × (self.new ≡ self.old) }
+        ensures wrote { (self.new.blobs.tx.store ≡ self.old.blobs.tx.store) ⊎ Wrote S.durables self.old.blobs.tx.store self.new.blobs.tx.store }
         ensures stays { Stays S.holdings self.old.blobs.tx.store self.new.blobs.tx.store }
         ensures sound { S.meanings.sound self.old.blobs.tx.store → S.meanings.sound self.new.blobs.tx.store }
         ensures violated { self.new.violated ≡ self.old.violated }
@@ -135,6 +136,9 @@ impl<S: Durable, K: Keeper> Core<S, K> {
         ensures ready { Ready S.meanings S.holdings S.durables S.records K.Keeper self.new }
         ensures stands { (kept now : Tree) → Stands ShowsFiles S.meanings S.holdings S.durables S.records K.Keeper self.old kept now → Roomed ShowsFiles S.meanings S.holdings S.durables S.records K.Keeper self.new kept now }
         ensures configures { (may : List (List ℕ)) (now : List ℕ) → Configures S.holdings S.durables S.records K.Keeper self.old may now → Configures S.holdings S.durables S.records K.Keeper self.new may now }
+        ensures unmoved { self.old.saver.changed ≡ false → IsOk result × (self.new ≡ self.old) }
+        ensures once { OnOk result ((self.new ≡ self.old) ⊎ (self.new.saver.changed ≡ false)) }
+        ensures wrote { (self.new.blobs.tx.store ≡ self.old.blobs.tx.store) ⊎ Wrote S.durables self.old.blobs.tx.store self.new.blobs.tx.store }
         ensures stays { Stays S.holdings self.old.blobs.tx.store self.new.blobs.tx.store }
         ensures sound { S.meanings.sound self.old.blobs.tx.store → S.meanings.sound self.new.blobs.tx.store }
         ensures violated { self.new.violated ≡ self.old.violated }
@@ -169,6 +173,7 @@ impl<S: Durable, K: Keeper> Core<S, K> {
         ensures told { S.holdings.told self.new.blobs.tx.store ≡ S.holdings.told self.old.blobs.tx.store }
         ensures keeper { self.new.saver.keeper ≡ self.old.saver.keeper }
         ensures last { self.new.saver.last ≡ self.old.saver.last }
+        ensures saver { OnErr result (self.new.saver ≡ self.old.saver) }
         ensures violated { self.new.violated ≡ self.old.violated }
         ensures root { self.new.root ≡ self.old.root }
         ensures identity { S.durables.identity self.new.blobs.tx.store ≡ S.durables.identity self.old.blobs.tx.store }
@@ -178,6 +183,8 @@ impl<S: Durable, K: Keeper> Core<S, K> {
         ensures kept_configures { (kept bytes : List ℕ) → S.records.configures kept (S.durables.trace self.old.blobs.tx.store) bytes → S.records.configures kept (S.durables.trace self.new.blobs.tx.store) bytes }
         ensures configures { (bytes : List ℕ) → S.records.configures (S.durables.record_of self.old.blobs.tx.store true) (S.durables.trace self.old.blobs.tx.store) bytes
             → S.records.configures (S.durables.record_of self.new.blobs.tx.store true) (S.durables.trace self.new.blobs.tx.store) bytes }
+        ensures loaded { OnErr result (S.meanings.loaded self.old.blobs.tx.store self.new.blobs.tx.store) }
+        ensures uncalled { OnOk result (S.durables.trace self.new.blobs.tx.store ≡ S.durables.trace self.old.blobs.tx.store) }
         ensures goes_on { GoesOn (S.durables.trace self.old.blobs.tx.store) (S.durables.trace self.new.blobs.tx.store) }
         ensures sound { S.meanings.sound self.old.blobs.tx.store → S.meanings.sound self.new.blobs.tx.store }
         ensures forgeries { S.meanings.forgeries self.new.blobs.tx.store ≡ S.meanings.forgeries self.old.blobs.tx.store }
@@ -239,6 +246,9 @@ impl<S: Durable, K: Keeper> Core<S, K> {
         ensures stays { is_done_answer result ≡ false → Stays S.holdings self.old.blobs.tx.store self.new.blobs.tx.store }
         ensures keeper { self.new.saver.keeper ≡ self.old.saver.keeper }
         ensures last { self.new.saver.last ≡ self.old.saver.last }
+        ensures saver { is_done_answer result ≡ false → self.new.saver ≡ self.old.saver }
+        ensures loaded { is_done_answer result ≡ false → S.meanings.loaded self.old.blobs.tx.store self.new.blobs.tx.store }
+        ensures uncalled { is_done_answer result ≡ true → S.durables.trace self.new.blobs.tx.store ≡ S.durables.trace self.old.blobs.tx.store }
         ensures goes_on { GoesOn (S.durables.trace self.old.blobs.tx.store) (S.durables.trace self.new.blobs.tx.store) }
         ensures sound { S.meanings.sound self.old.blobs.tx.store → S.meanings.sound self.new.blobs.tx.store }
         ensures violated { self.new.violated ≡ self.old.violated }
@@ -285,6 +295,8 @@ impl<S: Durable, K: Keeper> Core<S, K> {
         ensures stays { is_done_answer result ≡ false → Stays S.holdings self.old.blobs.tx.store self.new.blobs.tx.store }
         ensures keeper { self.new.saver.keeper ≡ self.old.saver.keeper }
         ensures last { self.new.saver.last ≡ self.old.saver.last }
+        ensures saver { is_done_answer result ≡ false → self.new.saver ≡ self.old.saver }
+        ensures loads { OnlyLoaded S.meanings S.holdings S.durables false (is_done_answer result) self.old.blobs.tx.store self.new.blobs.tx.store }
         ensures goes_on { GoesOn (S.durables.trace self.old.blobs.tx.store) (S.durables.trace self.new.blobs.tx.store) }
         ensures sound { S.meanings.sound self.old.blobs.tx.store → S.meanings.forgeries self.new.blobs.tx.store ≤ S.meanings.forgeries self.old.blobs.tx.store → S.meanings.sound self.new.blobs.tx.store }
         ensures violated { self.new.violated ≡ self.old.violated }
@@ -296,7 +308,7 @@ impl<S: Durable, K: Keeper> Core<S, K> {
         ensures unforged { S.meanings.sound self.old.blobs.tx.store → S.meanings.lies self.new.blobs.tx.store ≤ S.meanings.lies self.old.blobs.tx.store → S.meanings.forgeries self.new.blobs.tx.store ≤ S.meanings.forgeries self.old.blobs.tx.store }
         ensures alarm { (kept present : Tree) → Stands ShowsFiles S.meanings S.holdings S.durables S.records K.Keeper self.old kept present → S.meanings.lies self.new.blobs.tx.store ≤ S.meanings.lies self.old.blobs.tx.store → is_violation result ≡ false }
         ensures built { (kept present : Tree) → Stands ShowsFiles S.meanings S.holdings S.durables S.records K.Keeper self.old kept present → S.meanings.forgeries self.new.blobs.tx.store ≤ S.meanings.forgeries self.old.blobs.tx.store → is_structure result ≡ false }
-        ensures found { OnFound result (λ why. S.meanings.loaded self.old.blobs.tx.store self.new.blobs.tx.store × S.meanings.met self.old.blobs.tx.store self.new.blobs.tx.store why) }
+        ensures found { OnFound result (λ why. S.meanings.met self.old.blobs.tx.store self.new.blobs.tx.store why) }
         ensures vault_grows { S.meanings.faults self.old.blobs.tx.store ≤ S.meanings.faults self.new.blobs.tx.store }
         ensures vault_cause { RoseBy (directory_faults result) (S.meanings.faults self.old.blobs.tx.store) (S.meanings.faults self.new.blobs.tx.store) }
         ensures vault_quiet { directory_faults result ≡ 0 → S.meanings.faults self.new.blobs.tx.store ≡ S.meanings.faults self.old.blobs.tx.store }
@@ -347,7 +359,11 @@ impl<S: Durable, K: Keeper> Core<S, K> {
         ensures unforged { S.meanings.sound self.old.blobs.tx.store → S.meanings.lies self.new.blobs.tx.store ≤ S.meanings.lies self.old.blobs.tx.store → S.meanings.forgeries self.new.blobs.tx.store ≤ S.meanings.forgeries self.old.blobs.tx.store }
         ensures alarm { (kept present : Tree) → self.old.violated ≡ false → Stands ShowsFiles S.meanings S.holdings S.durables S.records K.Keeper self.old kept present → S.meanings.lies self.new.blobs.tx.store ≤ S.meanings.lies self.old.blobs.tx.store → is_violation result ≡ false }
         ensures built { (kept present : Tree) → self.old.violated ≡ false → Stands ShowsFiles S.meanings S.holdings S.durables S.records K.Keeper self.old kept present → S.meanings.forgeries self.new.blobs.tx.store ≤ S.meanings.forgeries self.old.blobs.tx.store → is_structure result ≡ false }
-        ensures found { OnFound result (FoundCause S.meanings S.holdings S.durables self.old.blobs.tx.store self.new.blobs.tx.store) }
+        ensures loads { OnlyLoaded S.meanings S.holdings S.durables self.old.saver.changed (is_done_answer result) self.old.blobs.tx.store self.new.blobs.tx.store }
+        ensures found { OnFound result (FoundCause S.meanings S.holdings S.durables self.old.saver.changed self.old.blobs.tx.store self.new.blobs.tx.store) }
+        ensures unsaved { self.old.saver.changed ≡ false → is_violation result ≡ false → (self.new.saver.keeper ≡ self.old.saver.keeper) × (self.new.saver.last ≡ self.old.saver.last) }
+        ensures unchanged { self.old.saver.changed ≡ false → is_violation result ≡ false → is_done_answer result ≡ false → self.new.saver.changed ≡ false }
+        ensures unmoved { is_sync command.now ≡ true → self.old.violated ≡ false → self.old.saver.changed ≡ false → (result ≡ Answer.Reply Reply.Done) × (self.new ≡ self.old) }
         ensures vault_cause { RoseBy (directory_faults result) (S.meanings.faults self.old.blobs.tx.store) (S.meanings.faults self.new.blobs.tx.store) }
         ensures vault_quiet { directory_faults result ≡ 0 → S.meanings.faults self.new.blobs.tx.store ≡ S.meanings.faults self.old.blobs.tx.store }
         ensures keeper_cause { RoseBy (state_faults result) (K.faults self.old.saver.keeper) (K.faults self.new.saver.keeper) }

@@ -22,6 +22,7 @@ use Rattle.mount.specs.Tower.{tower_meanings, tower_holdings, tower_durables, To
 use Rattle.session_runs.specs.Answering.{calls_of, forgeries_of, lies_of, keeper_faults, version_of, kept_of, Answered, MountAnswers}
 use Rattle.session_runs.specs.Causes.{IsAnswerTo, AreBuilt}
 use Rattle.session_runs.specs.Passing.{MountKeeps, LeftAt, PassedTrees, Passed}
+use Rattle.session_runs.proofs.Still.{rested_none, rested_on}
 use Rattle.session_runs.proofs.Rising.{on_spent, unread_spent, rose_on, spent_on}
 
 pub true_is_false : true ≡ false → ⊥
@@ -160,6 +161,7 @@ module _ {V : Type 0} {K : Type 0} (shows : Showing) (trace : V → Option (List
     rose = λ id. omega arith;
     spent = tt;
     opened = refl;
+    rests = λ none idle. rested_none shows trace faults G now mount none;
     goes_on = goes_on_same (calls_of trace mount);
     forgeries = omega arith;
     lies = omega arith;
@@ -181,6 +183,7 @@ module _ {V : Type 0} {K : Type 0} (shows : Showing) (trace : V → Option (List
     rose = rose_on (version_of trace old) e es (version_of trace mid) p.rose (version_of trace new) a.raised;
     spent = spent_on (version_of trace old) e es (version_of trace mid) p.rose (last_of mid new e.asked e.answer a) p.spent;
     opened = a.opened ∙ p.opened;
+    rests = λ none idle. rested_on shows trace faults G now old mid new e es (p.rests none idle.2) p.flag a idle;
     goes_on = goes_on_onward (calls_of trace old) (calls_of trace mid) (calls_of trace new) p.goes_on a.goes_on;
     forgeries = omega (arith, p.forgeries, a.forgeries);
     lies = omega (arith, p.lies, a.lies);

@@ -1,4 +1,5 @@
 mod Rising
+mod Still
 mod Joining
 mod Passes
 mod Synced

@@ -1,6 +1,6 @@
 -- A whole session over what is kept and the calls alone, from how it began, what it went through and how it was closed.
 use Rattle.std.proofs.Common.{◌≡◌, ◌⊎◌, ◌≤◌, ◌+◌, ◌-◌, ◌||◌, ◌++◌, ℕ, Bool, true, false, List, [], ◌∷◌, refl, sym, ap, subst, ◌∙◌, inl, inr, arith, append_assoc}
-use Rattle.std.specs.Prelude.{Result, is_some, IsErrOf, OnOk}
+use Rattle.std.specs.Prelude.{Result, is_some, IsErrOf, IsOk, OnOk}
 use Rattle.std.specs.declared.option.Option.{Option}
 use Rattle.std.specs.declared.option.Option.TheVariants.{Some}
 use Rattle.std.specs.declared.result.Result.TheVariants.{Ok, Err}
@@ -32,12 +32,14 @@ use Rattle.mount.specs.Tower.{tower_holdings, tower_durables, TowerStands}
 use Rattle.mount.specs.Unforged.{IsUnforgedConfig}
 use Rattle.mount.proofs.Reading.{represents_told}
 use Rattle.mount.proofs.Standing.{represents}
-use Rattle.session_runs.specs.Answering.{calls_of, forgeries_of, lies_of, version_of, kept_of, mount_hosting}
+use Rattle.session_runs.specs.Answering.{store_of, calls_of, forgeries_of, lies_of, version_of, kept_of, mount_hosting}
 use Rattle.session_runs.specs.Passing.{MountKeeps, LeftAt, PassedTrees, Passed}
 use Rattle.session_runs.specs.Runs.{Outside, outside_of, StandsFor, forgeries, lies, OpensTo, IsFounded, AreCalm, Answers, directory_fault, state_fault, IsSessionRun}
-use Rattle.session_runs.specs.Turns.{Begun, Closing}
+use Rattle.session_runs.specs.Turns.{Begun, Closing, OnMount}
 use Rattle.answers.specs.Hosts.{Ran}
 use Rattle.session_runs.proofs.Joining.{true_is_false, latest_kept}
+use Rattle.session_runs.specs.Resting.{AreIdle, OnlyGot}
+use Rattle.session_runs.proofs.Still.{loaded_got}
 use Rattle.session_runs.proofs.Rising.{spent_of}
 use Rattle.session_runs.proofs.Passes.{passed, refusing}
 
@@ -67,13 +69,13 @@ unforged_before password kept old mid new c on u = record {
 
 -- ---- faults
 
-directory_rose : (closing : Result Unit SyncError) (n a b c d : ℕ) → a ≤ b → RoseBy n b c → c ≤ d → (IsErrOf closing FaultDirectory → RoseBy 1 c d) → RoseBy (n + directory_fault closing) a d
+directory_rose : (closing : Result Unit SyncError) (n a b c d : ℕ) → b ≡ a → RoseBy n b c → c ≤ d → (IsErrOf closing FaultDirectory → RoseBy 1 c d) → RoseBy (n + directory_fault closing) a d
 directory_rose (Ok u) n a b c d first rose last cause = omega (arith, first, rose, last)
 directory_rose (Err Memory) n a b c d first rose last cause = omega (arith, first, rose, last)
 directory_rose (Err FaultDirectory) n a b c d first rose last cause = let r = cause refl in omega (arith, first, rose, r)
 directory_rose (Err FaultState) n a b c d first rose last cause = omega (arith, first, rose, last)
 
-state_rose : (closing : Result Unit SyncError) (n a b c d : ℕ) → a ≤ b → RoseBy n b c → c ≤ d → (IsErrOf closing FaultState → RoseBy 1 c d) → RoseBy (n + state_fault closing) a d
+state_rose : (closing : Result Unit SyncError) (n a b c d : ℕ) → b ≡ a → RoseBy n b c → c ≤ d → (IsErrOf closing FaultState → RoseBy 1 c d) → RoseBy (n + state_fault closing) a d
 state_rose (Ok u) n a b c d first rose last cause = omega (arith, first, rose, last)
 state_rose (Err Memory) n a b c d first rose last cause = omega (arith, first, rose, last)
 state_rose (Err FaultDirectory) n a b c d first rose last cause = omega (arith, first, rose, last)
@@ -191,23 +193,36 @@ module _ {V : Type 0} {K : Type 0} (shows : Showing) (trace : V → Option (List
         let l = z.left (inl (p.flag ∙ v)) in
         elim (p.marked v) [
           | inl m ↦ inl (subst (λ k. IsKeptMarked records (G.kept k)) (sym l.2) m)
-          | inr r ↦ inr (let k = ap G.faults l.2 in let g = b.keeper_grows in omega (arith, r, k, g))
+          | inr r ↦ inr (let k = ap G.faults l.2 in let g = b.keeper_quiet in omega (arith, r, k, g))
         ]
 
     kept_file : (file : List ℕ) → is_some Before.calls ≡ true → KeptConfigures records Before.kept Before.calls file → KeptConfigures records After.kept After.calls file
     kept_file file told k = config_after file (violated es) p.flag (p.configures (file ∷ []) file (b.configures file told k))
 
+    rests_after : AreIdle es → IsOk closing × (After.kept ≡ kept_of G opened_) × OnlyGot (calls_of trace opened_) After.calls
+    rests_after idle =
+        let r = p.rests b.unchanged idle in
+        let l = z.left (inr r.changed) in
+        (l.0, ap G.kept (l.2 ∙ r.keeper), subst (λ (v : V). OnlyGot (calls_of trace opened_) (trace v)) (sym l.1) (loaded_got shows trace faults G now (store_of opened_) (store_of left) r.loaded))
+
     pub session_run : IsSessionRun shows now password Before After left.core.violated closing es
     session_run = record {
-      attached = (opened_.opened, kept_of G opened_, calls_of trace opened_, b.attached, goes_on_onward (calls_of trace opened_) (calls_of trace left) (trace vault) p.goes_on z.goes_on);
+      attached = record {
+        opened = opened_.opened;
+        kept = kept_of G opened_;
+        calls = calls_of trace opened_;
+        attached = b.attached;
+        goes_on = goes_on_onward (calls_of trace opened_) (calls_of trace left) (trace vault) p.goes_on z.goes_on;
+      };
+      rests = rests_after;
       refuses = refuses;
       answered = p.answered;
       spent = λ version known. spent_of (version_of trace opened_) version (λ id. b.versions b.attached.state b.attached.list b.attached.loaded id ∙ sym (known b.attached.state b.attached.list b.attached.loaded id)) es p.spent;
       violation = p.flag;
       closed = λ v. (z.left (inl (p.flag ∙ v))).0;
       refusal = refusal_after;
-      directory_faults_happened = directory_rose closing (all_directory_faults es) _ _ _ _ b.vault_grows p.vault_cause z.vault_grows z.vault_cause;
-      state_faults_happened = state_rose closing (all_state_faults es) _ _ _ _ b.keeper_grows p.keeper_cause z.keeper_grows z.keeper_cause;
+      directory_faults_happened = directory_rose closing (all_directory_faults es) _ _ _ _ b.vault_quiet p.vault_cause z.vault_grows z.vault_cause;
+      state_faults_happened = state_rose closing (all_state_faults es) _ _ _ _ b.keeper_quiet p.keeper_cause z.keeper_grows z.keeper_cause;
       directory_quiet = directory_still closing (all_directory_faults es) _ _ _ _ b.vault_quiet p.vault_quiet z.vault_quiet;
       state_quiet = λ v. state_still closing (all_state_faults es) _ _ _ _ b.keeper_quiet (p.keeper_quiet v) z.keeper_quiet;
       emptied = λ v. z.emptied (p.flag ∙ v);
@@ -217,13 +232,22 @@ module _ {V : Type 0} {K : Type 0} (shows : Showing) (trace : V → Option (List
       unforged = unforged;
     }
 
--- what answered the lines has the mount; whether a violation stood is what it says at last
+-- what answered the lines has the mount
+by_mount : {H : Type 0} {V : Type 0} {K : Type 0} (mount : H → Mount V K) (shows : Showing) (trace : V → Option (List Call)) (faults : V → ℕ) (G : KeeperGhosts K) (now : Instant) (old new : H) (es : List Exchange)
+    → Ran (mount_hosting mount shows trace faults G) now old es new → Ran (mount_hosting (λ (m : Mount V K). m) shows trace faults G) now (mount old) es (mount new)
+by_mount mount shows trace faults G now old new [] r = ap mount r
+by_mount mount shows trace faults G now old new (e ∷ es) r = (mount r.0, by_mount mount shows trace faults G now old r.0 es r.1, r.2)
+
+-- whether a violation stood is what the mount says at last
 pub whole : {H : Type 0} {V : Type 0} {K : Type 0} (mount : H → Mount V K) (shows : Showing) (trace : V → Option (List Call)) (faults : V → ℕ) (G : KeeperGhosts K) (now : Instant) (password : List ℕ)
     (vault last_vault : V) (keeper last_keeper : K) (old new : H) (es : List Exchange) (closing : Result Unit SyncError) (stood : Bool)
     → Begun shows trace faults G password vault keeper (mount old) → IsReady trace faults G (mount new) → Ran (mount_hosting mount shows trace faults G) now old es new
     → Closing shows trace faults G (mount new) closing last_vault last_keeper → stood ≡ (mount new).core.violated
     → IsSessionRun shows now password (outside_of trace faults G vault keeper) (outside_of trace faults G last_vault last_keeper) stood closing es
-whole mount shows trace faults G now password vault last_vault keeper last_keeper old new es closing stood b ready ran z is =
-    subst (λ s. IsSessionRun shows now password (outside_of trace faults G vault keeper) (outside_of trace faults G last_vault last_keeper) s closing es) (sym is)
-    (session_run shows trace faults G now es (mount old) (mount new) closing last_vault last_keeper ready (passed mount shows trace faults G now old new es b.fresh ran) z
-    password vault keeper b (refusing mount shows trace faults G now old new es b.fresh ran))
+    × OnMount shows trace faults G now password vault keeper closing last_vault last_keeper es
+whole mount shows trace faults G now password vault last_vault keeper last_keeper old new es closing stood b ready ran z is = (
+  subst (λ s. IsSessionRun shows now password (outside_of trace faults G vault keeper) (outside_of trace faults G last_vault last_keeper) s closing es) (sym is)
+      (session_run shows trace faults G now es (mount old) (mount new) closing last_vault last_keeper ready (passed mount shows trace faults G now old new es b.fresh ran) z
+      password vault keeper b (refusing mount shows trace faults G now old new es b.fresh ran)),
+  record { opened = mount old; left = mount new; begun = b; ran = by_mount mount shows trace faults G now old new es ran; closed = z },
+)

@@ -1,6 +1,7 @@
 -- A mount as what answers commands.
 use Rattle.std.specs.Prelude.{◌≡◌, ◌≢◌, ◌⊎◌, ◌≤◌, ◌+◌, ℕ, true, false, ◌||◌, List, IfOk, IfErr}
 use Rattle.std.specs.declared.option.Option.{Option}
+use Rattle.fs_model.specs.declared.reply.Reply.TheVariants.{Done}
 use Rattle.fs_model.specs.Instant.{Instant}
 use Rattle.fs_model.specs.Tree.{Tree}
 use Rattle.outside.specs.Causes.{RoseBy}
@@ -8,15 +9,17 @@ use Rattle.outside.specs.Going.{GoesOn}
 use Rattle.outside.specs.Trace.{Call}
 use Rattle.outside.specs.declared.keeper.Keeper.{Ghosts as KeeperGhosts}
 use Rattle.answers.specs.declared.answer.Answer.{Answer}
-use Rattle.answers.specs.declared.answer.Answer.TheVariants.{Refused}
+use Rattle.answers.specs.declared.answer.Answer.TheVariants.{Reply as Replied, Memory, Refused}
 use Rattle.answers.specs.Hosts.{Hosting}
 use Rattle.answers.specs.Sessions.{Asked, FollowsAsked, is_violation, is_synced, directory_faults, state_faults}
 use Rattle.store_api.specs.Holdings.{Stays}
 use Rattle.integrity_store.specs.Standing.{records}
 use Rattle.mount_core.specs.Answers.{is_done_answer, is_structure, OnFound, OnReply, OnSpent}
-use Rattle.mount_core.specs.Causes.{FoundCause, SpentCause}
+use Rattle.mount_core.specs.Causes.{FoundCause, OnlyLoaded, SpentCause}
 use Rattle.mount_core.specs.Configuring.{ConfigAnswered}
-use Rattle.tree_commands.specs.Performing.{Showing, IsReplyTo}
+use Rattle.tree_commands.specs.Performing.{Showing, is_sync, IsReplyTo}
+use Rattle.tree_commands.specs.Sparing.{OnWriteInside}
+use Rattle.mount_core.specs.Sparing.{FewRaised}
 use Rattle.mount_core.specs.Standing.{IsKeptMarked, Left}
 use Rattle.mount.specs.declared.mount.Mount.{Mount}
 use Rattle.mount.specs.Mounts.{IsReady}
@@ -75,7 +78,12 @@ pub record MountAnswers {V : Type 0} {K : Type 0} (shows : Showing) (trace : V �
   pub unforged : (tower_meanings trace faults).sound (store_of old) → lies_of trace faults new ≤ lies_of trace faults old → forgeries_of trace faults new ≤ forgeries_of trace faults old
   pub alarm : (kept present : Tree) → old.core.violated ≡ false → TowerStands shows trace faults G old.core kept present → lies_of trace faults new ≤ lies_of trace faults old → is_violation answer ≡ false
   pub built : (kept present : Tree) → old.core.violated ≡ false → TowerStands shows trace faults G old.core kept present → forgeries_of trace faults new ≤ forgeries_of trace faults old → is_structure answer ≡ false
-  pub found : OnFound answer (FoundCause (tower_meanings trace faults) (tower_holdings trace) (tower_durables trace) (store_of old) (store_of new))
+  pub loads : OnlyLoaded (tower_meanings trace faults) (tower_holdings trace) (tower_durables trace) old.core.saver.changed (is_done_answer answer) (store_of old) (store_of new)
+  pub found : OnFound answer (FoundCause (tower_meanings trace faults) (tower_holdings trace) (tower_durables trace) old.core.saver.changed (store_of old) (store_of new))
+  -- where nothing had changed since the last sync: nothing was saved, only the reply Done came with a change, and a sync did nothing
+  pub unsaved : old.core.saver.changed ≡ false → is_violation answer ≡ false → (new.core.saver.keeper ≡ old.core.saver.keeper) × (new.core.saver.last ≡ old.core.saver.last)
+  pub unchanged : old.core.saver.changed ≡ false → is_violation answer ≡ false → is_done_answer answer ≡ false → new.core.saver.changed ≡ false
+  pub unmoved : IfOk asked (λ command. is_sync command ≡ true → old.core.violated ≡ false → old.core.saver.changed ≡ false → ((answer ≡ Replied Done) ⊎ (answer ≡ Memory)) × (new ≡ old))
   pub vault_cause : RoseBy (directory_faults answer) (vault_faults trace faults old) (vault_faults trace faults new)
   pub vault_quiet : directory_faults answer ≡ 0 → vault_faults trace faults new ≡ vault_faults trace faults old
   pub keeper_cause : RoseBy (state_faults answer) (keeper_faults G old) (keeper_faults G new)
@@ -83,6 +91,8 @@ pub record MountAnswers {V : Type 0} {K : Type 0} (shows : Showing) (trace : V �
   pub marked : is_violation answer ≡ true → IsKeptMarked records (kept_of G new) ⊎ RoseBy 1 (keeper_faults G old) (keeper_faults G new)
   pub spent : IfOk asked (λ command. OnSpent answer (SpentCause (tower_holdings trace) (store_of old) command))
   pub raised : (id : List ℕ) → version_of trace new id ≤ version_of trace old id + 1
+  pub sparing : IfOk asked (λ command. (kept present : Tree) → TowerStands shows trace faults G old.core kept present → forgeries_of trace faults new ≤ forgeries_of trace faults old
+      → OnWriteInside ((tower_holdings trace).payload (store_of old)) present command (FewRaised (tower_holdings trace) (store_of old) (store_of new)))
   pub variant : IfOk asked (λ command. OnReply answer (IsReplyTo command))
 
 -- what has a mount answers by it

@@ -1,9 +1,10 @@
 -- A mount answers by the laws.
-use Rattle.std.proofs.Common.{◌≡◌, ◌≢◌, ◌||◌, ◌&&◌, ℕ, Bool, true, false, List, refl, sym, ap, subst, ◌∙◌, inl, inr, arith}
+use Rattle.std.proofs.Common.{◌≡◌, ◌≢◌, ◌⊎◌, ◌||◌, ◌&&◌, ℕ, Bool, true, false, List, [], refl, sym, ap, subst, ◌∙◌, inl, inr, arith}
 use Rattle.std.specs.Prelude.{Ok, Err, IfOk, IfErr}
 use Rattle.std.specs.declared.option.Option.{Option}
 use Rattle.block_id.specs.declared.fail.Why.{Why}
 use Rattle.fs_model.specs.declared.command.Command.{Command}
+use Rattle.fs_model.specs.declared.command.Command.TheVariants.{Write}
 use Rattle.fs_model.specs.declared.error.FsError.{FsError}
 use Rattle.fs_model.specs.declared.reply.Reply.{Reply}
 use Rattle.fs_model.specs.declared.reply.Reply.TheVariants.{Done, Rows, Info, Target, Content, Error}
@@ -20,11 +21,16 @@ use Rattle.answers.proofs.Looked.{long_stays}
 use Rattle.store_api.specs.Holdings.{Holdings, Stays}
 use Rattle.integrity_store.specs.Standing.{records}
 use Rattle.mount_core.specs.Answers.{is_done_answer, is_structure, OnFound, OnReply, OnSpent}
+use Rattle.mount_core.specs.Causes.{OnlyLoaded}
 use Rattle.mount_core.specs.Configuring.{ConfigAnswered}
 use Rattle.tree_commands.specs.Performing.{Showing, IsReplyTo}
+use Rattle.tree_commands.specs.Performing as performing
+use Rattle.tree_commands.specs.Sparing.{OnWriteInside}
+use Rattle.mount_core.specs.Sparing.{FewRaised}
 use Rattle.mount_core.specs.Standing.{Left}
 use Rattle.mount.specs.declared.mount.Mount.{Mount}
-use Rattle.mount.specs.Tower.{tower_meanings, tower_holdings, tower_durables}
+use Rattle.mount.specs.Tower.{Cached, tower_meanings, tower_holdings, tower_durables}
+use Rattle.mount.specs.TowerLaws.{tower_lawful}
 use Rattle.session_runs.specs.Answering.{store_of, calls_of, MountAnswers, mount_hosting}
 use Rattle.session_runs.specs.Causes.{IsUnread}
 
@@ -88,6 +94,23 @@ long_not_done (Error error) h = absurd h
 if_ok : (asked : Asked) (P : Command → Type 0) → ((command : Command) → P command) → IfOk asked P
 if_ok (Ok command) P h = h command
 if_ok (Err error) P h = tt
+
+none_raised : {S : Type 0} (H : Holdings S) (s : S) (payload : ℕ) (tree : Tree) (command : Command) → OnWriteInside payload tree command (FewRaised H s s)
+none_raised H s payload tree (Write p from bytes) = λ row there file least most. record { ids = []; few = omega arith; rest = λ id none. refl }
+none_raised H s payload tree _ = tt
+
+-- where nothing was done, nothing was loaded or written
+only_same : {V : Type 0} (trace : V → Option (List Call)) (faults : V → ℕ) (s : Cached V) (changed done : Bool) → OnlyLoaded (tower_meanings trace faults) (tower_holdings trace) (tower_durables trace) changed done s s
+only_same trace faults s changed done = record {
+  synced = s;
+  unsynced = λ e. refl;
+  wrote = inl refl;
+  stays = stays_same (tower_holdings trace) s;
+  last = s;
+  loaded = (tower_lawful trace faults).same s;
+  undone = λ e. refl;
+  uncalled = refl;
+}
 
 -- ---- nothing was done
 
@@ -177,8 +200,9 @@ no_sync (Ok command) (Violation why) h = absurd h
 module _ {V : Type 0} {K : Type 0} (shows : Showing) (trace : V → Option (List Call)) (faults : V → ℕ) (G : KeeperGhosts K) (now : Instant) where
   idle : (mount : Mount V K) (asked : Asked) (answer : Answer) → IsNo answer → (mount.core.violated ≡ true → answer ≡ Refused) → (mount.core.violated ≡ false → answer ≢ Refused)
       → IfErr asked (λ error. IsUnread error answer × (mount ≡ mount)) → ((tree : Tree) → mount.core.violated ≡ false → FollowsAsked now tree asked answer tree)
+      → IfOk asked (λ command. performing.is_sync command ≡ true → mount.core.violated ≡ false → mount.core.saver.changed ≡ false → ((answer ≡ Replied Done) ⊎ (answer ≡ Memory)) × (mount ≡ mount))
       → MountAnswers shows trace faults G now mount asked answer mount
-  idle mount asked answer none refuses serves unread follows =
+  idle mount asked answer none refuses serves unread follows unmoved =
       let calm = no_violation answer none in
       let d = no_directory answer none in
       let s = no_state answer none in
@@ -202,7 +226,11 @@ module _ {V : Type 0} {K : Type 0} (shows : Showing) (trace : V → Option (List
         unforged = λ sound honest. omega arith;
         alarm = λ kept present f stands few. calm;
         built = λ kept present f stands few. no_structure answer none;
+        loads = only_same trace faults (store_of mount) mount.core.saver.changed (is_done_answer answer);
         found = no_found answer _ none;
+        unsaved = λ e f. (refl, refl);
+        unchanged = λ e f d. e;
+        unmoved = unmoved;
         vault_cause = omega (arith, d);
         vault_quiet = λ e. refl;
         keeper_cause = omega (arith, s);
@@ -210,6 +238,7 @@ module _ {V : Type 0} {K : Type 0} (shows : Showing) (trace : V → Option (List
         marked = λ e. absurd (true_is_false (sym e ∙ calm));
         spent = if_ok asked _ (λ command. no_spent answer _ none);
         raised = λ id. omega arith;
+        sparing = if_ok asked _ (λ command kept present stands few. none_raised (tower_holdings trace) (store_of mount) ((tower_holdings trace).payload (store_of mount)) present command);
         variant = if_ok asked _ (λ command. no_reply answer command none);
       }
 
@@ -228,14 +257,16 @@ module _ {V : Type 0} {K : Type 0} (shows : Showing) (trace : V → Option (List
   pub refused : (mount : Mount V K) (asked : Asked) → mount.core.violated ≡ true → MountAnswers shows trace faults G now mount asked Refused mount
   refused mount asked v =
       idle mount asked Refused tt (λ t. refl) (λ f. absurd (true_is_false (sym v ∙ f))) (refused_unread mount asked) (λ tree f. absurd (true_is_false (sym v ∙ f)))
+      (if_ok asked _ (λ command is f. absurd (true_is_false (sym v ∙ f))))
 
   pub bad : (mount : Mount V K) (error : FsError) → mount.core.violated ≡ false → MountAnswers shows trace faults G now mount (Err error) (Replied (Error error)) mount
   bad mount error v =
-      idle mount (Err error) (Replied (Error error)) tt (λ t. absurd (true_is_false (sym t ∙ v))) (λ f. reply_not_refused (Error error)) (inl refl, refl) (λ tree f. (inl refl, refl))
+      idle mount (Err error) (Replied (Error error)) tt (λ t. absurd (true_is_false (sym t ∙ v))) (λ f. reply_not_refused (Error error)) (inl refl, refl) (λ tree f. (inl refl, refl)) tt
 
   pub wanting : (mount : Mount V K) (asked : Asked) → mount.core.violated ≡ false → MountAnswers shows trace faults G now mount asked Memory mount
   wanting mount asked v =
       idle mount asked Memory tt (λ t. absurd (true_is_false (sym t ∙ v))) (λ f. memory_not_refused) (memory_unread mount asked) (λ tree f. memory_follows tree asked)
+      (if_ok asked _ (λ command is f none. (inr refl, refl)))
 
   -- ---- a reply whose text finds no memory
 
@@ -246,6 +277,12 @@ module _ {V : Type 0} {K : Type 0} (shows : Showing) (trace : V → Option (List
   unsaid_follows : (tree next : Tree) (asked : Asked) (reply : Reply) → IsLong reply → FollowsAsked now tree asked (Replied reply) next → FollowsAsked now tree asked Memory next
   unsaid_follows tree next (Ok command) reply long f = long_stays tree now command reply next f long
   unsaid_follows tree next (Err error) reply long f = (inr refl, f.1)
+
+  unsaid_unmoved : (old new : Mount V K) (asked : Asked) (reply : Reply)
+      → IfOk asked (λ command. performing.is_sync command ≡ true → old.core.violated ≡ false → old.core.saver.changed ≡ false → ((Replied reply ≡ Replied Done) ⊎ (Replied reply ≡ Memory)) × (new ≡ old))
+      → IfOk asked (λ command. performing.is_sync command ≡ true → old.core.violated ≡ false → old.core.saver.changed ≡ false → ((Memory ≡ Replied Done) ⊎ (Memory ≡ Memory)) × (new ≡ old))
+  unsaid_unmoved old new (Ok command) reply w = λ is fresh none. (inr refl, (w is fresh none).1)
+  unsaid_unmoved old new (Err error) reply w = tt
 
   pub unsaid : (old new : Mount V K) (asked : Asked) (reply : Reply) → IsLong reply → MountAnswers shows trace faults G now old asked (Replied reply) new → MountAnswers shows trace faults G now old asked Memory new
   unsaid old new asked reply long w = record {
@@ -270,7 +307,11 @@ module _ {V : Type 0} {K : Type 0} (shows : Showing) (trace : V → Option (List
     unforged = w.unforged;
     alarm = λ kept present f stands few. refl;
     built = λ kept present f stands few. refl;
+    loads = subst (λ d. OnlyLoaded (tower_meanings trace faults) (tower_holdings trace) (tower_durables trace) old.core.saver.changed d (store_of old) (store_of new)) (long_not_done reply long) w.loads;
     found = tt;
+    unsaved = λ e f. w.unsaved e refl;
+    unchanged = λ e f d. w.unchanged e refl (long_not_done reply long);
+    unmoved = unsaid_unmoved old new asked reply w.unmoved;
     vault_cause = w.vault_cause;
     vault_quiet = w.vault_quiet;
     keeper_cause = w.keeper_cause;
@@ -278,6 +319,7 @@ module _ {V : Type 0} {K : Type 0} (shows : Showing) (trace : V → Option (List
     marked = λ e. absurd (true_is_false (sym e));
     spent = if_ok asked _ (λ command. tt);
     raised = w.raised;
+    sparing = w.sparing;
     variant = if_ok asked _ (λ command. tt);
   }
 

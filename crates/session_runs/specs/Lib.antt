@@ -1,7 +1,8 @@
 pub mod Causes
 pub mod Answering
 pub mod Lawful
+pub mod Resting
 pub mod Passing
+pub mod Turns
 pub mod Runs
 pub mod Coming
-pub mod Turns

@@ -16,6 +16,7 @@ use Rattle.mount.specs.declared.mount.Mount.{Mount}
 use Rattle.mount.specs.Tower.{tower_holdings, tower_durables, TowerStands, TowerConfigures}
 use Rattle.session_runs.specs.Answering.{store_of, calls_of, forgeries_of, lies_of, vault_faults, keeper_faults, version_of, kept_of}
 use Rattle.session_runs.specs.Causes.{AreAnswered, AreBuilt, AreSpent}
+use Rattle.session_runs.specs.Resting.{AreIdle, Rested}
 
 -- what is kept stands for this tree in the mount's store
 abbrev pub MountKeeps : {V : Type 0} → {K : Type 0} → Showing → (V → Option (List Call)) → KeeperGhosts K → Mount V K → Tree → Type 0
@@ -43,6 +44,8 @@ pub record Passed {V : Type 0} {K : Type 0} (shows : Showing) (trace : V → Opt
   pub rose : (id : List ℕ) → version_of trace new id ≤ version_of trace old id + length es
   pub spent : AreSpent (version_of trace old) es
   pub opened : new.opened ≡ old.opened
+  -- where nothing was to be saved at first
+  pub rests : old.core.saver.changed ≡ false → AreIdle es → Rested trace faults old new
   pub goes_on : GoesOn (calls_of trace old) (calls_of trace new)
   pub forgeries : forgeries_of trace faults old ≤ forgeries_of trace faults new
   pub lies : lies_of trace faults old ≤ lies_of trace faults new

@@ -28,6 +28,8 @@ use Rattle.mount.specs.Representing.{Represents, HasEmptyList}
 use Rattle.mount.specs.Unforged.{IsUnforgedConfig}
 use Rattle.mount.specs.declared.mount.Halted.{Halted}
 use Rattle.session_runs.specs.Causes.{AreAnswered, AreBuilt, SpentSince}
+use Rattle.session_runs.specs.Resting.{AreIdle, OnlyGot}
+use Rattle.session_runs.specs.Turns.{OnMount}
 
 -- at one moment: what is kept, the calls on the directory where they are told, the newest first, and both counts of faults
 pub record Outside : Type 0 where
@@ -93,14 +95,20 @@ state_fault (Err Memory) = 0
 state_fault (Err FaultDirectory) = 0
 state_fault (Err FaultState) = 1
 
--- opening took the record that was kept and the configuration that opened under the password, and the session went on from there
-abbrev pub WasAttached : List ℕ → Outside → Outside → Type 0
-WasAttached password before after = (o : Opened) × (kept : Option (List ℕ)) × (calls : Option (List Call)) × Attached password before.kept kept before.calls calls o × GoesOn calls after.calls
+-- opening took the record that was kept and the configuration that opened under the password, left this kept and made these calls, and the session went on from there
+pub record WasAttached (password : List ℕ) (before after : Outside) : Type 0 where
+  pub opened : Opened
+  pub kept : Option (List ℕ)
+  pub calls : Option (List Call)
+  pub attached : Attached password before.kept kept before.calls calls opened
+  pub goes_on : GoesOn calls after.calls
 
 -- A session from its opening to its end, with its exchanges: whatever the directory gave, and for each configuration and first tree that it is founded on.
 pub record IsSessionRun (shows : Showing) (now : Instant) (password : List ℕ) (before after : Outside) (stood : Bool) (closing : Result Unit SyncError) (es : List Exchange) : Type 0 where
   pub attached : WasAttached password before after
   pub refuses : RefusesAfterViolation es
+  -- where no line came to a change, nor to a violation, what opening left is kept, and since then the directory was only asked for blocks
+  pub rests : AreIdle es → IsOk closing × (after.kept ≡ attached.kept) × OnlyGot attached.calls after.calls
   -- each answer is one to what was asked
   pub answered : AreAnswered es
   pub spent : SpentSince before.kept es
@@ -128,9 +136,11 @@ pub record IsQuiet (shows : Showing) (password : List ℕ) (before after : Outsi
   pub stands : (c : Settings) (tree : Tree) → OpensTo shows password c tree before after → StandsFor shows c tree after
   pub marked : IsKeptMarked records before.kept → (after.kept ≡ before.kept) × (after.calls ≡ before.calls)
 
--- There are exchanges of such a session, with lines that came so.
-abbrev pub RanSession : Showing → Instant → List ℕ → Outside → Outside → (List Exchange → Type 0) → Bool → Result Unit SyncError → Type 0
-RanSession shows now password before after Came stood closing = (es : List Exchange) × Came es × IsSessionRun shows now password before after stood closing es
+-- There are exchanges of such a session, with lines that came so, and each answer is that of a mount.
+abbrev pub RanSession : {V : Type 0} → {K : Type 0} → Showing → (V → Option (List Call)) → (V → ℕ) → KeeperGhosts K → Instant → List ℕ → V → K → V → K → (List Exchange → Type 0) → Bool → Result Unit SyncError → Type 0
+RanSession shows trace faults G now password vault keeper last_vault last_keeper Came stood closing =
+    (es : List Exchange) × Came es × IsSessionRun shows now password (outside_of trace faults G vault keeper) (outside_of trace faults G last_vault last_keeper) stood closing es
+    × OnMount shows trace faults G now password vault keeper closing last_vault last_keeper es
 
 -- a marked record isn't opened: the directory isn't called, and it stays kept
 abbrev pub StopsAtMark : {V : Type 0} → {K : Type 0} → {T : Type 0} → (K → Option (List ℕ)) → V → K → Result T (Halted V K) → Type 0

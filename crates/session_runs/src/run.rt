@@ -36,7 +36,7 @@ pub fn run_lines<V: Vault, K: Keeper, I: Source, O: Sink, R: Rng>(
     chance: &mut R,
 ) -> Result<SessionEnd<V, K>, Halted<V, K>>
     requires ended { reader.old.ended ≡ true → Ends (coming reader.old.ahead (I.rest input.old)) }
-    ensures session { IfOk result (λ s. RanSession ShowsFiles now password.now (outside_of V.trace V.faults K.Keeper vault keeper) (outside_of V.trace V.faults K.Keeper s.vault s.keeper)
+    ensures session { IfOk result (λ s. RanSession ShowsFiles V.trace V.faults K.Keeper now password.now vault keeper s.vault s.keeper
         (λ es. EndsAs reader.old.taken (coming reader.old.ahead (I.rest input.old)) (stream_of I.rest I.faults input.old input.new) (stream_of O.written O.faults output.old output.new) es s.end)
         s.violated s.closing) }
     ensures unopened { IfErr result (λ h. Unopened ShowsFiles V.trace V.faults K.Keeper password.now vault keeper h) }
@@ -75,7 +75,7 @@ pub fn run_generated<V: Vault, K: Keeper, O: Sink, R: Rng>(
     chance: &mut R,
 ) -> Result<SessionEnd<V, K>, Halted<V, K>>
     requires few { count ≤ 1000000 }
-    ensures session { IfOk result (λ s. RanSession ShowsFiles now password.now (outside_of V.trace V.faults K.Keeper vault keeper) (outside_of V.trace V.faults K.Keeper s.vault s.keeper)
+    ensures session { IfOk result (λ s. RanSession ShowsFiles V.trace V.faults K.Keeper now password.now vault keeper s.vault s.keeper
         (λ es. CameGenerated count (stream_of O.written O.faults output.old output.new) s.end es) s.violated s.closing) }
     ensures unopened { IfErr result (λ h. Unopened ShowsFiles V.trace V.faults K.Keeper password.now vault keeper h) }
     ensures marked { IsKeptMarked records (K.kept keeper) → StopsAtMark K.kept vault keeper result }
@@ -100,7 +100,7 @@ pub fn run_single<V: Vault, K: Keeper, O: Sink, R: Rng>(
     output: &mut O,
     chance: &mut R,
 ) -> Result<SessionEnd<V, K>, Halted<V, K>>
-    ensures session { IfOk result (λ s. RanSession ShowsFiles now password.now (outside_of V.trace V.faults K.Keeper vault keeper) (outside_of V.trace V.faults K.Keeper s.vault s.keeper)
+    ensures session { IfOk result (λ s. RanSession ShowsFiles V.trace V.faults K.Keeper now password.now vault keeper s.vault s.keeper
         (λ es. CameSingle line.now (stream_of O.written O.faults output.old output.new) s.end es) s.violated s.closing) }
     ensures unopened { IfErr result (λ h. Unopened ShowsFiles V.trace V.faults K.Keeper password.now vault keeper h) }
     ensures marked { IsKeptMarked records (K.kept keeper) → StopsAtMark K.kept vault keeper result }

@@ -20,6 +20,7 @@ use Rattle.session_lines.specs.Driven.{EndsAs, IsQuiet as IsUnfailed}
 use Rattle.session_lines.specs.declared.end.End.{End}
 use Rattle.session_lines.specs.declared.end.End.TheVariants as line_end
 use Rattle.session_runs.specs.Runs.{outside_of, IsSessionRun}
+use Rattle.session_runs.specs.Turns.{OnMount}
 use Rattle.session_runs.specs.declared.turns.SessionEnd.{SessionEnd}
 use Rattle.tree_commands.specs.Showing.{ShowsFiles}
 use Rattle.shell_sessions.specs.Sessions.{IsServed, Session}
@@ -62,8 +63,9 @@ module _ {V : Type 0} {K : Type 0} (trace : V → Option (List Call)) (faults : 
   pub served : (s : SessionEnd V K) → ended.status ≡ session_status s.violated s.end s.closing → ended.vault ≡ s.vault → ended.keeper ≡ s.keeper
       → (es : List Exchange) → Came script s.end es
       → IsSessionRun ShowsFiles now password (outside_of trace faults G vault keeper) (outside_of trace faults G s.vault s.keeper) s.violated s.closing es
+      → OnMount ShowsFiles trace faults G now password vault keeper s.closing s.vault s.keeper es
       → Session trace faults G now Came input output vault keeper ended
-  served s e ev ek es came session =
+  served s e ev ek es came session mounted =
       inr (
         password,
         script,
@@ -77,6 +79,7 @@ module _ {V : Type 0} {K : Type 0} (trace : V → Option (List Call)) (faults : 
               closing = s.closing;
               came = came;
               session = subst (λ (b : Bool). IsSessionRun ShowsFiles now password (outside_of trace faults G vault keeper) (outside_of trace faults G s.vault s.keeper) b s.closing es) session.violation session;
+              mounted = mounted;
               status = subst (λ (b : Bool). ended.status ≡ session_status b s.end s.closing) session.violation e;
             }))
             ),

@@ -14,17 +14,20 @@ use Rattle.session_lines.specs.Driven.{EndsAs, IsQuiet as IsUnfailed}
 use Rattle.session_lines.specs.declared.end.End.{End}
 use Rattle.session_runs.specs.Coming.{CameGenerated, CameSingle}
 use Rattle.session_runs.specs.Runs.{outside_of, IsSessionRun}
+use Rattle.session_runs.specs.Turns.{OnMount}
 use Rattle.session_saver.specs.declared.saver.SyncError.{SyncError}
 use Rattle.tree_commands.specs.Showing.{ShowsFiles}
 use Rattle.shell_sessions.specs.Statuses.{session_status}
 
--- Under the password a file system was opened, and there are exchanges. What they are, what is kept and which faults happened is said by `session`.
+-- Under the password a file system was opened, and there are exchanges. What they are, what is kept and which faults happened is said by `session`; what each
+-- answer was given for, and what each line saved and called, by `mounted`.
 pub record IsServed {V : Type 0} {K : Type 0} (trace : V → Option (List Call)) (faults : V → ℕ) (G : KeeperGhosts K) (now : Instant) (password : List ℕ) (Came : End → List Exchange → Type 0) (vault : V) (keeper : K) (ended : Ended V K) : Type 0 where
   pub es : List Exchange
   pub end : End
   pub closing : Result Unit SyncError
   pub came : Came end es
   pub session : IsSessionRun ShowsFiles now password (outside_of trace faults G vault keeper) (outside_of trace faults G ended.vault ended.keeper) (violated es) closing es
+  pub mounted : OnMount ShowsFiles trace faults G now password vault keeper closing ended.vault ended.keeper es
   pub status : ended.status ≡ session_status (violated es) end closing
 
 -- The password line wasn't read and nothing was done; or under its password no file system was opened and nothing was written, or there are exchanges, which came

@@ -13,14 +13,17 @@ returns-clause-session g c =
     let lines = c.answer_single-end in
     let s = lines.ensures.answered in
     let z = c.close in
-    let es = single c.args.line.now s.0 in (
+    let es = single c.args.line.now s.0 in
+    let w =
+    whole (λ (m : Mounted g.row.V.Denot g.row.K.Denot). m.mount) ShowsFiles g.V.Vault.trace g.V.Vault.faults g.K.Keeper c.args.now c.args.password.now
+    c.args.vault z.result.vault c.args.keeper z.result.keeper c.in_ok-mounted.mounted lines.new.host es z.result.closing z.result.violated
+    c.in_ok-mounted.ensures.begun lines.ensures.ready s.1.ran z.ensures.closed z.ensures.violated in (
       es,
       (
         s.0,
         refl,
         subst (λ end. Reported (stream_of g.O.Sink.written g.O.Sink.faults c.args.output.now lines.new.output) (text_of_answer s.0) end) (sym z.ensures.end) s.1.written,
       ),
-      whole (λ (m : Mounted g.row.V.Denot g.row.K.Denot). m.mount) ShowsFiles g.V.Vault.trace g.V.Vault.faults g.K.Keeper c.args.now c.args.password.now
-          c.args.vault z.result.vault c.args.keeper z.result.keeper c.in_ok-mounted.mounted lines.new.host es z.result.closing z.result.violated
-          c.in_ok-mounted.ensures.begun lines.ensures.ready s.1.ran z.ensures.closed z.ensures.violated,
+      w.0,
+      w.1,
     )

@@ -17,7 +17,7 @@ returns-in-Ok-run_single-clause-session g c =
     let s = z.ensures.session in
     let k = c.end_session in
     served g.V.Vault.trace g.V.Vault.faults g.K.Keeper c.args.now (ComesCommand c.args.line.now whole output) whole output c.deref.result.now (coming b.beginning.reader.ahead begun.new) has c.args.vault c.args.keeper k.result z.session k.ensures.status k.ensures.vault k.ensures.keeper s.0
-    (s.1, r.1.stands.quiet) s.2
+    (s.1, r.1.stands.quiet) s.2 s.3
 
 pub returns-clause-session : goal.returns-clause-session
 returns-clause-session g c =

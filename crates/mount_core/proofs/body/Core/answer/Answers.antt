@@ -5,11 +5,13 @@ use Rattle.tree_commands.specs.Showing.{ShowsFiles}
 use Rattle.tree_commands.specs.Sparing.{OnWriteInside}
 use Rattle.mount_core.specs.declared.body.Core.{Core}
 use Rattle.answers.specs.Sessions.{is_violation, directory_faults, state_faults}
-use Rattle.mount_core.specs.Causes.{SpentCause}
+use Rattle.mount_core.specs.Answers.{is_done_answer}
+use Rattle.mount_core.specs.Causes.{SpentCause, OnlyLoaded, FoundCause}
 use Rattle.mount_core.specs.Sparing.{FewRaised}
 use Rattle.mount_core.specs.Configuring.{ConfigAnswered}
 use Rattle.mount_core.specs.Standing.{Roomed, Answered}
-use Rattle.mount_core.proofs.Lines.{answered_err, answered_synced, answered_performed, answered_violation, roomed_on, stays_on, no_violation, spent_on, config_marked, config_calm, marked_or, true_is_false}
+use Rattle.mount_core.proofs.Loads.{only_on, found_on}
+use Rattle.mount_core.proofs.Lines.{found_map, answered_err, answered_synced, answered_performed, answered_violation, roomed_on, stays_on, no_violation, spent_on, config_marked, config_calm, marked_or, true_is_false}
 use Rattle.mount_core.proofs.Versions.{Raised, raised_stays, raised_on, few_stays, few_on, always_inside, on_inside, spent_before}
 use Rattle.outside.specs.Going.{GoesOn, goes_on_onward}
 use Rattle.mount_core.proofs.Quiet.{sync_directory, sync_state}
@@ -224,3 +226,25 @@ returns-in_default-clause-unforged g c sound honest =
     let r = c.make_room.ensures in
     let few : M.lies c.ask-answer.new.self.blobs.tx.store ≤ M.lies c.make_room.new.self.blobs.tx.store = omega (arith, r.lies, honest) in
     omega (arith, r.forgeries, c.ask-answer.ensures.unforged (r.sound sound) few)
+
+pub returns-in_default-clause-loads : goal.returns-in_default-clause-loads
+returns-in_default-clause-loads g c =
+    let r = c.make_room.ensures in
+    only_on g.S.Blocks.meanings g.S.Blocks.holdings g.S.Durable.durables c.args.self.now.saver.changed (is_done_answer c.ask-answer.result) c.args.self.now.blobs.tx.store c.make_room.new.self.blobs.tx.store c.ask-answer.new.self.blobs.tx.store
+    (λ none. ap (λ (core : CoreOf g). core.blobs.tx.store) (r.unmoved none).1) r.wrote r.stays c.ask-answer.ensures.loads
+
+pub returns-in-Violation-clause-found : goal.returns-in-Violation-clause-found
+returns-in-Violation-clause-found g c =
+    let M = g.S.Blocks.meanings in
+    let H = g.S.Blocks.holdings in
+    let D = g.S.Durable.durables in
+    let changed = c.args.self.now.saver.changed in
+    let old = c.args.self.now.blobs.tx.store in
+    let mid = c.make_room.new.self.blobs.tx.store in
+    let new = c.ask-answer.new.self.blobs.tx.store in
+    let r = c.make_room.ensures in
+    let loads = subst (λ done. OnlyLoaded M H D false done mid new) (ap is_done_answer c.in-Violation.is) c.ask-answer.ensures.loads in
+    found_map c.ask-answer.result (λ why. M.met mid new why) (FoundCause M H D changed old c.mark.new.self.blobs.tx.store)
+    (λ why met. subst (λ (t : Tx g.row.S.Denot). FoundCause M H D changed old t.store why) (sym c.mark.ensures.store)
+    (found_on M H D changed old mid new why (λ none. ap (λ (core : CoreOf g). core.blobs.tx.store) (r.unmoved none).1) r.wrote r.stays loads met))
+    c.ask-answer.ensures.found

@@ -1,4 +1,4 @@
-use Rattle.std.proofs.Common.{subst}
+use Rattle.std.proofs.Common.{inl, subst}
 use Rattle.answers.specs.Sessions.{is_violation}
 use Rattle.integrity_store.specs.Standing.{records}
 use Rattle.tree_commands.specs.Showing.{ShowsFiles}
@@ -33,7 +33,11 @@ returns-clause-answered g c =
       unforged = e.unforged;
       alarm = e.alarm;
       built = e.built;
+      loads = e.loads;
       found = e.found;
+      unsaved = e.unsaved;
+      unchanged = e.unchanged;
+      unmoved = λ is fresh none. let u = e.unmoved is fresh none in (inl u.0, u.1);
       vault_cause = e.vault_cause;
       vault_quiet = e.vault_quiet;
       keeper_cause = e.keeper_cause;
@@ -41,5 +45,6 @@ returns-clause-answered g c =
       marked = e.marked;
       spent = e.spent;
       raised = e.raised;
+      sparing = e.sparing;
       variant = e.variant;
     }
