@@ -10,7 +10,7 @@ use Rattle.std.proofs.lemmas.Bool.{not-false}
 use Rattle.config_file.proofs.Opening.{only}
 use Rattle.config_file.specs.ConfigOf.{ConfigOf, Found, opened}
 use Rattle.config_file.specs.Settings.{Settings}
-use Rattle.integrity_store.specs.Enduring.{configured_of}
+use Rattle.integrity_store.specs.EnduringLaws.{configured_of}
 use Rattle.integrity_store.specs.Standing.{Configures, records}
 use Rattle.fs_model.specs.Tree.{Tree}
 use Rattle.line_io.specs.Lines.{first_line}

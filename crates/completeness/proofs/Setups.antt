@@ -13,7 +13,7 @@ use Rattle.cryfs_setup.specs.Info.{Told, IsTold, info_text}
 use Rattle.cryfs_setup.specs.Passwd.{Changed, IsChanged, NewOpens, changed_text, Reports as PasswdReports}
 use Rattle.cryfs_setup.specs.Printing.{Printed}
 use Rattle.fs_model.specs.Tree.{Tree, empty_tree}
-use Rattle.integrity_store.specs.Enduring.{listed_has}
+use Rattle.integrity_store.specs.EnduringLaws.{listed_has}
 use Rattle.line_io.specs.Lines.{first_line}
 use Rattle.line_io.specs.Streams.{Stream, Failed}
 use Rattle.mount.specs.Drawing.{seal_drawn}

@@ -8,7 +8,7 @@ use Rattle.config_file.specs.Settings.{Settings}
 use Rattle.fs_model.specs.Instant.{Instant}
 use Rattle.fs_model.specs.Tree.{Tree, empty_tree}
 use Rattle.aes_gcm.specs.Gcm.{opened_of}
-use Rattle.integrity_store.specs.Held.{forged}
+use Rattle.integrity_store.specs.Forgeries.{forged}
 use Rattle.integrity_store.specs.Standing.{records}
 use Rattle.outside.specs.Going.{GoesOn}
 use Rattle.outside.specs.Honest.{NonePassSince}

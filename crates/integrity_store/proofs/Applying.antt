@@ -13,17 +13,18 @@ use Rattle.outside.specs.Names.{at_cmp}
 use Rattle.outside.specs.Changes.{change_at, set_changes}
 use Rattle.outside.specs.ChangeLaws.{change_at-set_changes}
 use Rattle.local_state.specs.declared.mark.Mark.{Mark}
-use Rattle.local_state.specs.Known.{Marks, FitsMark, is_live_in}
+use Rattle.local_state.specs.Known.{Marks, FitsMark, is_live_in, version_if_live, is_last}
 use Rattle.store_api.specs.Content.{Id, id_cmp, same_id, Changes}
 use Rattle.store_api.specs.Holdings.{Fits}
 use Rattle.store_api.proofs.Rising.{ids_total}
 use Rattle.integrity_store.specs.Applied.{mark_after, WaitsAfter, Applied}
 use Rattle.integrity_store.specs.BlockRecords.{payload_in}
 use Rattle.integrity_store.specs.Draws.{AreDrawn, given_in, iv_of, draws}
-use Rattle.integrity_store.specs.Held.{Held, version_if_live, where_live, waiting, wanted, file_of, told_or_none}
+use Rattle.integrity_store.specs.Held.{Held, where_live, waiting, wanted, file_of, told_or_none}
 use Rattle.integrity_store.specs.Marking.{Entry, MayRaise, MayMark, mark_each, MayMarkEach, some_spent_in}
 use Rattle.integrity_store.specs.Sealing.{MaySeal, AreMadeOf, IsListed}
-use Rattle.integrity_store.specs.Stores.{IsWhole, is_last, holdings_by, has-keys}
+use Rattle.integrity_store.specs.Stores.{IsWhole, holdings_by}
+use Rattle.integrity_store.specs.StoreLaws.{has-keys}
 use Rattle.integrity_store.proofs.Marks.{get-mark_each, may_mark_each, not_spent}
 use Rattle.integrity_store.proofs.Sorted.{all_by, each_found}
 use Rattle.integrity_store.proofs.Waiting.{MadeAt, made_rises, made_at, none_of_config, drawn, true_of}

@@ -19,7 +19,7 @@ use Rattle.integrity_store.specs.Sealing.{IsListed}
 use Rattle.integrity_store.specs.Stores.{IsWhole, meanings_by, holdings_by}
 use Rattle.integrity_store.proofs.Applying.{Made, made_of, may_mark, may_mark_batch, applied, drawn_batch}
 use Rattle.integrity_store.proofs.Marks.{count_before, spent_found, found_spent}
-use Rattle.integrity_store.proofs.Soundness.{changed}
+use Rattle.integrity_store.proofs.BatchSoundness.{changed}
 use Rattle.integrity_store.proofs.Waiting.{test_of}
 use Rattle.integrity_store.proofs.Wholeness.{whole_after}
 

@@ -10,18 +10,18 @@ use Rattle.block_id.specs.declared.fail.Memory.{Memory}
 use Rattle.outside.specs.Trace.{config, block, Call}
 use Rattle.outside.specs.Changes.{Changes, change_at, set_change, set_changes}
 use Rattle.outside.specs.ChangeLaws.{change_at-set_change}
-use Rattle.local_state.specs.Known.{Marks}
+use Rattle.local_state.specs.Known.{Marks, is_last}
 use Rattle.local_state.specs.Record.{PlainState, FitsEntry, Rise, record_bytes, HasRecord}
 use Rattle.store_api.specs.Content.{SameContent}
 use Rattle.store_api.specs.Holdings.{Stays}
 use Rattle.store_api.specs.Lists.{MayConfigure}
 use Rattle.integrity_store.specs.BlockRecords.{Record, payload_in}
-use Rattle.integrity_store.specs.Held.{Held, live_version, waiting_or, bytes_in, told_or_none, where_live, wanted, IsPast, SoundBy}
+use Rattle.integrity_store.specs.Held.{Held, live_version, waiting_or, bytes_in, told_or_none, where_live, wanted}
+use Rattle.integrity_store.specs.Soundness.{IsPast, SoundBy}
 use Rattle.outside.specs.Honest.{last_change}
-use Rattle.integrity_store.specs.Enduring.{configures_of}
+use Rattle.integrity_store.specs.EnduringLaws.{configures_of}
 use Rattle.integrity_store.specs.Standing.{Configures}
-use Rattle.integrity_store.specs.Stores.{IsWhole, is_last, version_in, holdings_by}
-use Rattle.integrity_store.specs.WaitingLists.{IsNoBlock}
+use Rattle.integrity_store.specs.Stores.{IsWhole, version_in, holdings_by, IsNoBlock}
 use Rattle.integrity_store.proofs.OneWrite.{with_list}
 
 -- ---- what is held of blocks

@@ -1,11 +1,11 @@
 -- The outcome of a load.
 use Rattle.std.specs.Prelude.{◌≡◌, ◌≤◌, ℕ, Bool, true, false, List, Vec, Result, is_some, if◌then◌else◌}
-use Rattle.std.proofs.Common.{refl, sym, ◌∙◌, ap, subst}
+use Rattle.std.proofs.Common.{refl, sym, ap, subst}
 use Rattle.std.specs.declared.alloc.Global.{Global}
 use Rattle.std.specs.declared.option.Option.{Option}
 use Rattle.std.specs.declared.option.Option.TheVariants.{None, Some}
 use Rattle.std.specs.declared.result.Result.TheVariants.{Ok, Err}
-use Rattle.std.specs.Option.{option_map, option_map_or}
+use Rattle.std.specs.Option.{option_map_or}
 use Rattle.block_id.specs.declared.fail.Fail.{Fail}
 use Rattle.block_id.specs.declared.fail.Fail.TheVariants.{Memory, Fault, Violation}
 use Rattle.outside.specs.Trace.{Call}
@@ -15,11 +15,16 @@ use Rattle.outcome.specs.Meanings.{HasCause, UnlessFault, IsQuiet}
 use Rattle.outcome.specs.Outcome.{Outcome, idle}
 use Rattle.local_state.specs.declared.mark.Mark.{Mark}
 use Rattle.store_api.specs.Holdings.{Stays}
-use Rattle.integrity_store.specs.Held.{Held, live_version, version_if_live, wanted, where_live, file_of, told_or_none, SoundBy, forged}
+use Rattle.local_state.specs.Known.{version_if_live}
+use Rattle.integrity_store.specs.Held.{Held, live_version, wanted, where_live, file_of, told_or_none}
+use Rattle.integrity_store.specs.Soundness.{SoundBy}
+use Rattle.integrity_store.specs.Forgeries.{forged}
 use Rattle.integrity_store.specs.BlockRecords.{payload_in}
-use Rattle.integrity_store.specs.Laws.{went_sound}
-use Rattle.integrity_store.specs.Loads.{Fetched, fetched_went, fetched_met, fetched_of_blocks, fetched_value}
-use Rattle.integrity_store.specs.Stores.{OnlyRead, meanings_by, holdings_by, lawful_by, settled_by}
+use Rattle.integrity_store.specs.ReadLaws.{went_sound}
+use Rattle.integrity_store.specs.Loads.{Fetched}
+use Rattle.integrity_store.proofs.Fetches.{fetched_went, fetched_met, fetched_of_blocks, fetched_value}
+use Rattle.integrity_store.specs.Stores.{OnlyRead, meanings_by, holdings_by}
+use Rattle.integrity_store.specs.StoreLaws.{lawful_by, settled_by}
 
 module _ {S : Type 0} (held : S → Held) (trace : S → Option (List Call)) (faults : S → ℕ) (own : S → Type 0) (a b : S) (id : List ℕ) where
   only_read : (version : ℕ) (r : Result (List ℕ) Fail) → held b ≡ held a → faults a ≤ faults b → live_version (held a) id ≡ Some version
@@ -76,15 +81,6 @@ module _ {S : Type 0} (held : S → Held) (trace : S → Option (List Call)) (fa
 
 pub nothing_changed : {S : Type 0} (held : S → Held) (trace : S → Option (List Call)) (faults : S → ℕ) (a : S) → Stays (holdings_by held trace) a a
 nothing_changed held trace faults a = record { ids = λ id. refl; content = λ told id. refl; told = refl; used = refl; spent = λ id. refl; version = λ id. refl; payload = refl }
-
--- the version of a live id, by whether it lives
-pub version-live : (o : Option Mark) (b : Bool) → option_map_or (λ m. m.live) o false ≡ b → b ≡ true → option_map (λ m. m.version) o ≡ version_if_live o
-version-live None b e t = refl
-version-live (Some mark) b e t = sym (ap (λ l. if l then Some mark.version else None) (e ∙ t))
-
-pub version-dead : (o : Option Mark) (b : Bool) → option_map_or (λ m. m.live) o false ≡ b → b ≡ false → None ≡ version_if_live o
-version-dead None b e t = refl
-version-dead (Some mark) b e t = sym (ap (λ l. if l then Some mark.version else None) (e ∙ t))
 
 live_if : (live : Bool) (version : ℕ) (payload : List ℕ) → live ≡ is_some (where_live (if live then Some version else None) payload)
 live_if true version payload = refl

@@ -7,11 +7,10 @@ use Rattle.std.specs.FinMap.Entries.{find}
 use Rattle.std.specs.Cmp.{Equal-is}
 use Rattle.std.proofs.lemmas.Bool.{or_cases, or_right}
 use Rattle.local_state.specs.declared.mark.Mark.{Mark}
-use Rattle.local_state.specs.Known.{Marks}
+use Rattle.local_state.specs.Known.{Marks, is_last}
 use Rattle.store_api.specs.Content.{Id, id_cmp, same_id}
 use Rattle.store_api.proofs.Rising.{ids_total, same_id_is, not_below}
 use Rattle.integrity_store.specs.Applied.{mark_after}
-use Rattle.integrity_store.specs.Stores.{is_last}
 use Rattle.integrity_store.specs.Marking.{Entry, is_spent_at, some_spent_in, one_if_new, count_new_in, MayMark, with_mark_at, mark_one, mark_each, MayMarkEach, count_new_each}
 use Rattle.integrity_store.proofs.Sorted.{found_first, later_differs, found_later, rest_rises, first_below}
 

@@ -17,17 +17,18 @@ use Rattle.outside.specs.NameLaws.{at_total, at_exact}
 use Rattle.outside.specs.Changes.{Changes, change_at}
 use Rattle.outside.specs.Honest.{last_change}
 use Rattle.local_state.specs.declared.mark.Mark.{Mark}
-use Rattle.local_state.specs.Known.{Marks, is_live_in, is_dead_in}
+use Rattle.local_state.specs.Known.{Marks, is_live_in, is_dead_in, version_if_live}
 use Rattle.local_state.specs.Record.{Entry, FitsEntry, may_change, has_bytes}
 use Rattle.outside.specs.Writes.{call_for}
 use Rattle.sealed_store.specs.BlockFiles.{prefix, opens_file}
 use Rattle.store_api.specs.Durables.{IsConfigured}
 use Rattle.store_api.specs.Lists.{block_magic}
 use Rattle.integrity_store.specs.BlockRecords.{Record, record_of, record_in, opened, payload_in}
-use Rattle.integrity_store.specs.Held.{Held, version_if_live, live_version, waiting, waiting_or, bytes_in, file_of, where_live, wanted, was_put, own, IsPast, SoundAt}
-use Rattle.integrity_store.specs.Loads.{wanted_of}
-use Rattle.integrity_store.specs.Stores.{IsWhole}
-use Rattle.integrity_store.specs.WaitingLists.{IsNoBlock}
+use Rattle.integrity_store.specs.Held.{Held, live_version, waiting, waiting_or, bytes_in, file_of, where_live, wanted, own}
+use Rattle.integrity_store.specs.Forgeries.{was_put}
+use Rattle.integrity_store.specs.Soundness.{IsPast, SoundAt}
+use Rattle.integrity_store.proofs.Fetches.{wanted_of}
+use Rattle.integrity_store.specs.Stores.{IsWhole, IsNoBlock}
 use Rattle.integrity_store.proofs.Sorted.{of_found}
 
 true_is_false : true ≡ false → ⊥

@@ -7,7 +7,6 @@ use Rattle.std.specs.FinMap.{is_sorted}
 use Rattle.std.specs.FinMap.Entries.{below_all}
 use Rattle.std.specs.Ordering.{is_lt, nat_cmp}
 use Rattle.std.specs.Cmp.Lexicographic.{slice_cmp}
-use Rattle.block_id.proofs.Tests.{left, right}
 use Rattle.outside.specs.Trace.{At, config, block, Call}
 use Rattle.outside.specs.Names.{at_cmp}
 use Rattle.outside.specs.NameLaws.{at_total, at_exact}
@@ -16,13 +15,13 @@ use Rattle.local_state.specs.declared.mark.Mark.{Mark}
 use Rattle.local_state.specs.Known.{Marks, FitsMark, FitMarks}
 use Rattle.local_state.specs.Record.{FitsEntry, FitsHead, Rise, comes_after, may_change, has_bytes}
 use Rattle.store_api.specs.Content.{Id, Changes}
+use Rattle.block_id.proofs.Tests.{left, right}
 use Rattle.integrity_store.specs.Applied.{mark_after, WaitsAfter, Applied}
 use Rattle.integrity_store.specs.BlockRecords.{Record, opened}
 use Rattle.integrity_store.specs.Held.{Held, waiting}
-use Rattle.integrity_store.specs.Laws.{opens-length, opened-plain}
+use Rattle.integrity_store.specs.RecordLaws.{opens-length, opened-plain}
 use Rattle.integrity_store.specs.Marking.{MayMark}
-use Rattle.integrity_store.specs.Stores.{IsWhole}
-use Rattle.integrity_store.specs.WaitingLists.{IsNoBlock}
+use Rattle.integrity_store.specs.Stores.{IsWhole, IsNoBlock}
 use Rattle.integrity_store.proofs.Sorted.{all_by, each_found, of_found}
 use Rattle.integrity_store.proofs.Waiting.{true_of}
 

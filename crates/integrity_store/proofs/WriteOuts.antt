@@ -21,11 +21,14 @@ use Rattle.outside.specs.Writes.{call_for, after_writes, StopsAt}
 use Rattle.store_api.specs.Content.{SameContent}
 use Rattle.store_api.specs.Durables.{IsConfigured}
 use Rattle.store_api.proofs.Rising.{not_below}
-use Rattle.integrity_store.specs.Enduring.{configures_of, configured_of}
-use Rattle.integrity_store.specs.Held.{Held, wanted, forged, SoundBy}
+use Rattle.integrity_store.specs.EnduringLaws.{configures_of, configured_of}
+use Rattle.integrity_store.specs.Held.{Held, wanted}
+use Rattle.integrity_store.specs.Forgeries.{forged}
+use Rattle.integrity_store.specs.Soundness.{SoundBy}
 use Rattle.integrity_store.specs.Standing.{identity_of, Stands, Configures}
-use Rattle.integrity_store.specs.Stores.{IsWhole, sound_is_told}
-use Rattle.integrity_store.specs.WaitingLists.{IsNoBlock, in_order}
+use Rattle.integrity_store.specs.Stores.{IsWhole, IsNoBlock}
+use Rattle.integrity_store.specs.StoreLaws.{sound_is_told}
+use Rattle.integrity_store.specs.WaitingLaws.{in_order}
 use Rattle.integrity_store.proofs.Sorted.{found_first, first_below, found_later, each_found}
 use Rattle.integrity_store.proofs.Waiting.{test_of}
 use Rattle.integrity_store.proofs.OneWrite.{same_is, with_list, Leaves, sound_call, wanted_call, configured_call, sound_left, wanted_left, configured_left}

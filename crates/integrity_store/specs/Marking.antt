@@ -5,10 +5,9 @@ use Rattle.std.specs.Option.{option_map_or}
 use Rattle.std.specs.declared.option.Option.{Option}
 use Rattle.std.specs.declared.option.Option.TheVariants.{None, Some}
 use Rattle.local_state.specs.declared.mark.Mark.{Mark}
-use Rattle.local_state.specs.Known.{Marks, zero_id}
+use Rattle.local_state.specs.Known.{Marks, zero_id, is_last}
 use Rattle.store_api.specs.Content.{Id}
 use Rattle.integrity_store.specs.Applied.{mark_after}
-use Rattle.integrity_store.specs.Stores.{is_last}
 
 abbrev pub Entry : Type 0
 Entry = Id × Option (List ℕ)

@@ -8,11 +8,11 @@ use Rattle.outside.specs.Trace.{At, block}
 use Rattle.outside.specs.Changes.{set_changes}
 use Rattle.local_state.specs.declared.mark.Mark.{Mark}
 use Rattle.store_api.specs.Content.{Id}
+use Rattle.local_state.specs.Known.{is_last}
 use Rattle.integrity_store.specs.Applied.{IsRaised}
 use Rattle.integrity_store.specs.Draws.{iv_in}
 use Rattle.integrity_store.specs.Held.{Held}
 use Rattle.integrity_store.specs.Marking.{Entry}
-use Rattle.integrity_store.specs.Stores.{is_last}
 
 -- ---- one entry
 

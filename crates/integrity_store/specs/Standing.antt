@@ -6,7 +6,8 @@ use Rattle.outside.specs.Changes.{Changes}
 use Rattle.local_state.specs.Record.{PlainState, Entry, record_bytes, HasRecord}
 use Rattle.store_api.specs.Content.{Content, SameContent}
 use Rattle.store_api.specs.Durables.{Identity, Durables, Records, IsConfigured}
-use Rattle.integrity_store.specs.Held.{Held, wanted, SoundBy}
+use Rattle.integrity_store.specs.Held.{Held, wanted}
+use Rattle.integrity_store.specs.Soundness.{SoundBy}
 
 -- what a store that holds this was opened as
 abbrev pub identity_of : Held → Identity

@@ -10,7 +10,7 @@ ghost use Rattle.integrity_store.specs.Applied.{applied_by};
 ghost use Rattle.integrity_store.specs.Draws.{AreDrawn};
 ghost use Rattle.integrity_store.specs.Marking.{count_new_in};
 ghost use Rattle.integrity_store.specs.Sealing.{MaySeal, IsListed};
-ghost use Rattle.integrity_store.specs.Stores.{settled_by};
+ghost use Rattle.integrity_store.specs.StoreLaws.{settled_by};
 ghost use Rattle.integrity_store.specs.Views.{held_by};
 
 use crate::IntegrityStore;

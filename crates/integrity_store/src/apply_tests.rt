@@ -1,15 +1,15 @@
 // Batches over a store in memory: what is loaded, known and waits afterwards.
-ghost use Rattle.std.specs.Prelude.{◌≡◌, [], IfOk};
+ghost use Rattle.std.specs.Prelude.{◌≡◌, IfOk};
 ghost use Rattle.sealed_store.specs.Stores.{IsIntact, block_size_of, cipher_of};
 
 use crate::IntegrityStore;
+use crate::test_files::{plain_of, push_mark, push_record_head, put_file, sealed_over};
 use aes_gcm::Aes256Gcm;
 use block_id::BlockId;
 use local_state::decode;
-use outside::{Change, FileName, MemoryVault, Pending, Vault};
+use outside::{Change, FileName, MemoryVault, Pending};
 use rand_core::Rng;
 use rand_pcg::Pcg32;
-use redo_vault::RedoVault;
 use seal_api::Sealer;
 use sealed_store::{SealedStore, Seen};
 use std::alloc::Global;
@@ -33,47 +33,19 @@ fn chance() -> Pcg32 {
 
 // The record of client 7 that knows two live blocks.
 fn push_record(out: &mut Vec<u8>, version: u64) -> Result<(), Fail> {
-    out.extend_from_slice(b"cryfs.localstate;1\0\0")?;
-    out.extend_from_slice(&[0x11; 80])?;
-    out.extend_from_slice(&[7, 0, 0, 0, 2, 0, 0, 0, 0, 0, 0, 0])?;
-    out.extend_from_slice(&[1; 16])?;
-    out.extend_from_slice(&version.to_le_bytes())?;
-    out.push(1)?;
-    out.extend_from_slice(&[2; 16])?;
-    out.extend_from_slice(&[5, 0, 0, 0, 0, 0, 0, 0, 1])?;
+    push_record_head(out)?;
+    out.extend_from_slice(&2u64.to_le_bytes())?;
+    push_mark(out, &LIVE, version, true)?;
+    push_mark(out, &DYING, 5, true)?;
     out.extend_from_slice(&[0; 8])?;
     Ok(())
-}
-
-// What a block's file holds: its form, its id, client 7, its version and 50 bytes of payload.
-fn plain_of(id: u8, version: u64, payload: u8) -> [u8; 80] {
-    let mut plain = [payload; 80];
-    plain[..30].fill(0);
-    plain[0] = 1;
-    plain[2..18].fill(id);
-    plain[18] = 7;
-    plain[22..30].copy_from_slice(&version.to_le_bytes());
-    plain
-}
-
-// Blocks of 128 bytes under a key of zeros.
-fn sealed_over(below: MemoryVault, alloc: Global) -> SealedStore<MemoryVault, Aes256Gcm>
-    ensures intact { IsIntact (block_size_of result) (⟦<Aes256Gcm as Sealer>⟧.iv_size (cipher_of result)) }
-    ensures size { block_size_of result ≡ 128 }
-    ensures list { result.vault.list ≡ [] }
-{
-    let vault = RedoVault::new(below, Vec::new(alloc));
-    SealedStore::new(vault, Aes256Gcm, [0; 32], 128)
 }
 
 // A directory with the files of both blocks, whose payloads are of bytes 8 and 9.
 fn files(alloc: Global, version: u64) -> Result<MemoryVault, Fail> {
     let mut below = MemoryVault::new(alloc);
-    let sealed = sealed_over(MemoryVault::new(alloc), alloc);
-    let live = sealed.seal_plain(alloc, &LIVE, &plain_of(1, version, 8), &[0; 16])?;
-    below.put(alloc, &FileName::Block(LIVE), &live)?;
-    let dying = sealed.seal_plain(alloc, &DYING, &plain_of(2, 5, 9), &[0; 16])?;
-    below.put(alloc, &FileName::Block(DYING), &dying)?;
+    put_file(alloc, &mut below, &LIVE, &plain_of(1, 1, 7, version, 8))?;
+    put_file(alloc, &mut below, &DYING, &plain_of(1, 2, 7, 5, 9))?;
     Ok(below)
 }
 
@@ -89,7 +61,7 @@ fn store_at(alloc: Global, version: u64) -> Result<Store, Fail>
         return Err("a list".into());
     }
     let below = files(alloc, version)?;
-    Ok(IntegrityStore::new(sealed_over(below, alloc), state))
+    Ok(IntegrityStore::new(sealed_over(alloc, below), state))
 }
 
 fn tx_over(alloc: Global, store: Store) -> Tx<Store>
@@ -272,9 +244,9 @@ fn seals_with_what_is_drawn_by_rising_ids(rt: HostRuntime) -> Result<(), Fail> {
         _ => assert!(rt; false),
     }
     let live = waiting_record(rt.alloc(), &mut store.sealed, &LIVE)?;
-    assert_eq!(rt; live.as_slice(), plain_of(1, 3, 11).as_slice());
+    assert_eq!(rt; live.as_slice(), plain_of(1, 1, 7, 3, 11).as_slice());
     let new = waiting_record(rt.alloc(), &mut store.sealed, &NEW)?;
-    assert_eq!(rt; new.as_slice(), plain_of(3, 1, 33).as_slice());
+    assert_eq!(rt; new.as_slice(), plain_of(1, 3, 7, 1, 33).as_slice());
     Ok(())
 }
 

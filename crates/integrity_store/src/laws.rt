@@ -4,8 +4,10 @@ ghost use Rattle.std.specs.declared.option.Option.{Option};
 ghost use Rattle.outside.specs.Trace.{Call};
 ghost use Rattle.outside.specs.Honest.{count_told};
 ghost use Rattle.store_api.specs.Content.{SameContent};
-ghost use Rattle.integrity_store.specs.ConfigReads.{after_read};
-ghost use Rattle.integrity_store.specs.Held.{Held, wanted, SoundBy, forged};
+ghost use Rattle.integrity_store.specs.Reads.{after_read};
+ghost use Rattle.integrity_store.specs.Held.{Held, wanted};
+ghost use Rattle.integrity_store.specs.Soundness.{SoundBy};
+ghost use Rattle.integrity_store.specs.Forgeries.{forged};
 
 /// A read of the configuration's file leaves a sound store sound, with its content, and is no forgery.
 pub fn config_is_no_block()

@@ -3,13 +3,13 @@
 #![tactic(auto)]
 
 mod apply;
+mod block_record;
 mod durable;
 mod laws;
 mod marking;
-mod record;
 mod sealing;
 mod store;
-mod writing;
+mod verdict;
 
 pub use laws::config_is_no_block;
 pub use store::IntegrityStore;
@@ -17,4 +17,6 @@ pub use store::IntegrityStore;
 #[cfg(test)]
 mod apply_tests;
 #[cfg(test)]
-mod tests;
+mod load_tests;
+#[cfg(test)]
+mod test_files;

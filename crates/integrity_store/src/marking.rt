@@ -13,7 +13,7 @@ fn is_spent(known: &Known, id: &BlockId, change: &BatchChange) -> bool
     ensures { result ≡ is_spent_at (change_view change.now) (fin.get known.now.marks id.now.0) }
 {
     match change {
-        BatchChange::Payload(_) => known.version(id) == Some(u64::MAX),
+        BatchChange::Payload(_) => known.is_spent(id),
         BatchChange::Removal => false,
     }
 }

@@ -3,35 +3,22 @@ ghost use Rattle.std.specs.Prelude.{◌≡◌, ◌<◌, false, IfOk};
 ghost use Rattle.std.specs.FinMap as fin;
 ghost use Rattle.std.specs.List.{AllByRecursion};
 ghost use Rattle.outside.specs.View.{change_of, list_of};
-ghost use Rattle.local_state.specs.Known.{raised_version};
 ghost use Rattle.sealed_store.specs.Stores.{IsIntact, block_size_of, key_of, cipher_of};
 ghost use Rattle.store_api.specs.Entries.{entry_view, entries_of};
 ghost use Rattle.integrity_store.specs.Applied.{IsRaised};
 ghost use Rattle.integrity_store.specs.Draws.{iv_in};
 ghost use Rattle.integrity_store.specs.Sealing.{MaySealAt, MaySeal, drawn_iv, IsMadeOf, stream_after, AreMadeOf};
-ghost use Rattle.integrity_store.specs.Stores.{is_last};
 ghost use Rattle.integrity_store.specs.Views.{held_of};
 
-use crate::writing::write_record;
+use crate::block_record::write_record;
 use block_id::{BlockId, Memory};
-use local_state::{Known, State};
+use local_state::State;
 use outside::{Change, FileName, Pending, Vault};
 use rand_core::Rng;
 use seal_api::Sealer;
 use sealed_store::SealedStore;
 use std::alloc::Global;
 use store_api::BatchChange;
-
-// The version that a raise gives.
-fn next_version(known: &Known, id: &BlockId) -> u64
-    requires { is_last (fin.get known.now.marks id.now.0) ≡ false }
-    ensures { result ≡ raised_version (fin.get known.now.marks id.now.0) }
-{
-    match known.version(id) {
-        Some(version) => version + 1,
-        None => 1,
-    }
-}
 
 // The file of a payload's record.
 fn seal<V: Vault, C: Sealer, R: Rng>(
@@ -52,7 +39,7 @@ fn seal<V: Vault, C: Sealer, R: Rng>(
 {
     let mut iv = [0; 16];
     chance.fill_bytes(&mut iv);
-    let version = next_version(&state.known, id);
+    let version = state.known.next_version(id);
     let plain = write_record(alloc, id, state.client, version, payload)?;
     sealed.seal_plain(alloc, id, &plain, &iv)
 }

@@ -10,18 +10,17 @@ ghost use Rattle.store_api.specs.Content.{Id, Content, SameContent};
 ghost use Rattle.store_api.specs.Holdings.{IsFew, Stays};
 ghost use Rattle.store_api.specs.Loads.{answer_of};
 ghost use Rattle.sealed_store.specs.Stores.{IsIntact, block_size_of, key_of, cipher_of};
-ghost use Rattle.integrity_store.specs.Held.{version_if_live};
 ghost use Rattle.integrity_store.specs.Loads.{Fetched, fetched_of, loads_by};
-ghost use Rattle.integrity_store.specs.Stores.{version_in, meanings_by, holdings_by, lawful_by, steady_by};
+ghost use Rattle.integrity_store.specs.Stores.{version_in, meanings_by, holdings_by, IsNoBlock};
+ghost use Rattle.integrity_store.specs.StoreLaws.{lawful_by, steady_by};
 ghost use Rattle.integrity_store.specs.Standing.{identity_of, listed};
 ghost use Rattle.integrity_store.specs.Views.{held_of, held_by};
-ghost use Rattle.integrity_store.specs.Unused.{IsUntouched};
-ghost use Rattle.integrity_store.specs.WaitingLists.{IsNoBlock};
+ghost use Rattle.integrity_store.specs.Soundness.{IsUntouched};
 ghost use Rattle.std.specs.FinMap as fin;
 
-use crate::record::judge;
+use crate::verdict::judge;
 use block_id::{BlockId, Fail};
-use local_state::{Known, State};
+use local_state::State;
 use outside::{GetFail, Vault};
 use seal_api::Sealer;
 use sealed_store::SealedStore;
@@ -34,17 +33,6 @@ use store_api::{Blocks, Durable};
 pub struct IntegrityStore<V, C> {
     pub(crate) sealed: SealedStore<V, C>,
     pub(crate) state: State,
-}
-
-// The version of a live id.
-fn version_of_live(known: &Known, id: &BlockId) -> Option<u64>
-    ensures { result ≡ version_if_live (fin.get known.now.marks id.now.0) }
-{
-    if known.is_live(id) {
-        known.version(id)
-    } else {
-        None
-    }
 }
 
 impl<V: Vault, C: Sealer> IntegrityStore<V, C> {
@@ -103,7 +91,7 @@ impl<V: Vault, C: Sealer> IntegrityStore<V, C> {
     {
         let size = self.sealed.block_size();
         match self.sealed.get_plain(alloc, id) {
-            Ok(seen) => judge(alloc, size, id, self.state.client, known, &seen),
+            Ok(seen) => judge(size, id, self.state.client, known, seen),
             Err(GetFail::Memory) => Err(Fail::Memory),
             Err(GetFail::Failed) => Err(Fail::Fault),
         }
@@ -127,7 +115,7 @@ impl<V: Vault, C: Sealer> Blocks for IntegrityStore<V, C> {
         ensures sized { IfOk result (λ answer. IfSome answer (λ bytes. length bytes.items ≡ ⟦<IntegrityStore<V, C> as Blocks>⟧.holdings.payload self.old)) }
         ensures loads { loads_by (held_by C.opens) (λ s. V.trace s.sealed.vault.vault) self.old self.new id.now.0 (answer_of result) }
     {
-        match version_of_live(&self.state.known, id) {
+        match self.state.known.live_version(id) {
             None => Ok(None),
             Some(known) => match self.fetch(alloc, id, known) {
                 Ok(payload) => Ok(Some(payload)),

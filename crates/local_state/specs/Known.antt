@@ -1,5 +1,5 @@
 -- What is known of ids: a finite map to versions and marks of life. An id is a list of 16 bytes.
-use Rattle.std.specs.Prelude.{◌≡◌, ◌≢◌, ℕ, ◌+◌, ◌^◌, ◌<◌, Bool, true, false, not, ◌&&◌, List, length, map, is_some, is_none, IfSome, Option, refl}
+use Rattle.std.specs.Prelude.{◌≡◌, ◌≢◌, ℕ, zero, ◌+◌, ◌^◌, ◌<◌, ◌-◌, ◌==◌, Bool, true, false, not, ◌&&◌, List, length, map, is_some, is_none, IfSome, Option, None, Some, refl, if◌then◌else◌}
 use Rattle.std.specs.Coded.{Coded, code_by, coded×, coded_ℕ, coded_bool, coded_list}
 use Rattle.std.specs.FinMap as fin
 use Rattle.std.specs.Option.{option_map, option_map_or}
@@ -38,6 +38,16 @@ is_live_in marks id = option_map_or (λ m. m.live) (fin.get marks id) false
 
 abbrev pub is_dead_in : Marks → List ℕ → Bool
 is_dead_in marks id = is_some (fin.get marks id) && not (is_live_in marks id)
+
+-- the version, where the id lives
+abbrev pub version_if_live : Option Mark → Option ℕ
+version_if_live None = None
+version_if_live (Some mark) = if mark.live then Some mark.version else None
+
+-- a version at the end of its type
+abbrev pub is_last : Option Mark → Bool
+is_last None = false
+is_last (Some mark) = mark.version == 2 ^ 64 - 1
 
 abbrev pub is_live_at : Table → List ℕ → Bool
 is_live_at known id = is_live_in known.marks id

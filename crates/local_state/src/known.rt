@@ -1,7 +1,7 @@
 // The table of known versions.
 ghost use Rattle.std.specs.Prelude.{◌≡◌, ◌≢◌, ◌+◌, ◌-◌, ◌^◌, ◌<◌, ◌≤◌, ◌↔◌, Bool, true, false, length, IsTrue, IsSome, IsErr, IsOk, map, IfSome, IfNone, IfOk, OnOk, OnErr};
 ghost use Rattle.std.specs.FinMap as fin;
-ghost use Rattle.local_state.specs.Known.{mark_at, version_at, is_live_at, is_used_at, raised_version, zero_id, plain_entry, FitsMark, FitMarks, IsFirstFree};
+ghost use Rattle.local_state.specs.Known.{mark_at, version_at, is_live_at, is_used_at, version_if_live, is_last, raised_version, zero_id, plain_entry, FitsMark, FitMarks, IsFirstFree};
 
 use crate::mark::Mark;
 use crate::marks::{add_mark, change_mark, first_free, mark_of, put_mark, sorted_marks};
@@ -57,6 +57,32 @@ impl Known {
         ensures { result ≡ version_at self.now id.now.0 }
     {
         mark_of(&self.marks, id).map(|mark| mark.version)
+    }
+
+    /// The version of a live id.
+    pub fn live_version(&self, id: &BlockId) -> Option<u64>
+        ensures { result ≡ version_if_live (mark_at self.now id.now.0) }
+    {
+        let mark = mark_of(&self.marks, id)?;
+        if mark.live { Some(mark.version) } else { None }
+    }
+
+    /// The version that a raise gives: the first of a new id, or one more.
+    pub fn next_version(&self, id: &BlockId) -> u64
+        requires { is_last (mark_at self.now id.now.0) ≡ false }
+        ensures { result ≡ raised_version (mark_at self.now id.now.0) }
+    {
+        match self.version(id) {
+            Some(version) => version + 1,
+            None => 1,
+        }
+    }
+
+    /// Whether the id's version can't rise.
+    pub fn is_spent(&self, id: &BlockId) -> bool
+        ensures { result ≡ is_last (mark_at self.now id.now.0) }
+    {
+        self.version(id) == Some(u64::MAX)
     }
 
     /// Whether the id is used and its block lives.

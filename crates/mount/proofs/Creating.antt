@@ -18,8 +18,9 @@ use Rattle.fs_model.specs.Tree.{empty_tree}
 use Rattle.local_state.specs.Record.{PlainState}
 use Rattle.local_state.proofs.Records.{one_reading}
 use Rattle.sealed_store.specs.Stores.{IsIntact, block_size_of}
-use Rattle.integrity_store.specs.Enduring.{listed_has}
-use Rattle.integrity_store.specs.Stores.{version_in, steady_by}
+use Rattle.integrity_store.specs.EnduringLaws.{listed_has}
+use Rattle.integrity_store.specs.Stores.{version_in}
+use Rattle.integrity_store.specs.StoreLaws.{steady_by}
 use Rattle.integrity_store.specs.Standing.{identity_of, records}
 use Rattle.integrity_store.specs.declared.store.IntegrityStore.{IntegrityStore}
 use Rattle.config_file.specs.ConfigOf.{IsOnly, opened}

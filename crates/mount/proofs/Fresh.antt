@@ -11,7 +11,7 @@ use Rattle.outside.specs.Trace.{Call}
 use Rattle.local_state.specs.declared.mark.Mark.{Mark}
 use Rattle.local_state.specs.Known.{Marks, FitsMark, FitMarks}
 use Rattle.local_state.specs.Record.{PlainState, HasRecord}
-use Rattle.integrity_store.specs.Unused.{IsUntouched}
+use Rattle.integrity_store.specs.Soundness.{IsUntouched}
 use Rattle.store_api.specs.Holdings.{has_id}
 use Rattle.mount.specs.Making.{IsUnchanged}
 use Rattle.mount.proofs.Reading.{true_is_false}

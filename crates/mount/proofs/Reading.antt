@@ -17,9 +17,10 @@ use Rattle.redo_vault.specs.Redo.{Gave}
 use Rattle.fs_model.specs.Tree.{Tree}
 use Rattle.store_api.specs.Content.{Content}
 use Rattle.store_api.specs.Durables.{Identity, last_told}
-use Rattle.integrity_store.specs.ConfigReads.{read_forgeries}
-use Rattle.integrity_store.specs.Enduring.{enduring_by}
-use Rattle.integrity_store.specs.Held.{Held, forged}
+use Rattle.integrity_store.proofs.ConfigReads.{read_forgeries}
+use Rattle.integrity_store.specs.EnduringLaws.{enduring_by}
+use Rattle.integrity_store.specs.Held.{Held}
+use Rattle.integrity_store.specs.Forgeries.{forged}
 use Rattle.integrity_store.specs.Standing.{Stands, Configures, records}
 use Rattle.integrity_store.specs.Stores.{version_in}
 use Rattle.config_file.specs.ConfigOf.{ConfigOf, opened}

@@ -6,7 +6,7 @@ ghost use Rattle.outside.specs.View.{list_of};
 ghost use Rattle.local_state.specs.Record.{plain_state, record_bytes, HasRecord};
 ghost use Rattle.store_api.specs.Content.{Content, SameContent};
 ghost use Rattle.store_api.specs.Holdings.{IsFew};
-ghost use Rattle.integrity_store.specs.Held.{forged};
+ghost use Rattle.integrity_store.specs.Forgeries.{forged};
 ghost use Rattle.integrity_store.specs.Stores.{version_in};
 ghost use Rattle.integrity_store.specs.Standing.{Stands as StandsFor, records};
 ghost use Rattle.aes_gcm.specs.Gcm.{opened_of};

@@ -7,7 +7,7 @@ ghost use Rattle.config_file.specs.Settings.{settings_of};
 ghost use Rattle.fs_model.specs.Fitting.{IsFitting};
 ghost use Rattle.fs_model.specs.declared.reply.Reply.TheVariants.{Done};
 ghost use Rattle.fs_model.specs.Tree.{Tree};
-ghost use Rattle.integrity_store.specs.Held.{forged};
+ghost use Rattle.integrity_store.specs.Forgeries.{forged};
 ghost use Rattle.integrity_store.specs.Standing.{records};
 ghost use Rattle.tree_commands.specs.Showing.{ShowsFiles};
 ghost use Rattle.tree_commands.specs.Sparing.{OnWriteInside};

@@ -8,9 +8,8 @@ ghost use Rattle.store_api.specs.Content.{Content, SameContent};
 ghost use Rattle.store_api.specs.Holdings.{IsFew};
 ghost use Rattle.sealed_store.specs.Stores.{IsIntact, block_size_of};
 ghost use Rattle.integrity_store.specs.Standing.{identity_of, listed, records};
-ghost use Rattle.integrity_store.specs.Stores.{version_in};
+ghost use Rattle.integrity_store.specs.Stores.{version_in, IsNoBlock};
 ghost use Rattle.integrity_store.specs.Views.{held_of};
-ghost use Rattle.integrity_store.specs.WaitingLists.{IsNoBlock};
 ghost use Rattle.aes_gcm.specs.Gcm.{opened_of};
 ghost use Rattle.mount.specs.Tower.{vault_in, trace_in, tower_meanings, tower_holdings, tower_durables};
 

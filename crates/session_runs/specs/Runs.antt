@@ -9,7 +9,7 @@ use Rattle.config_file.specs.Settings.{Settings}
 use Rattle.config_file.specs.declared.config.Opened.{Opened}
 use Rattle.fs_model.specs.Instant.{Instant}
 use Rattle.fs_model.specs.Tree.{Tree}
-use Rattle.integrity_store.specs.Held.{forged}
+use Rattle.integrity_store.specs.Forgeries.{forged}
 use Rattle.integrity_store.specs.Standing.{records}
 use Rattle.outside.specs.Causes.{RoseBy}
 use Rattle.outside.specs.Going.{GoesOn}

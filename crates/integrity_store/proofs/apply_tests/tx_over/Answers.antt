@@ -1,4 +1,4 @@
-use Rattle.integrity_store.specs.Stores.{few_used}
+use Rattle.integrity_store.proofs.Reopening.{few_used}
 use Rattle.integrity_store.proofs.apply_tests.tx_over.Goals as goal
 
 pub new-requires-clause-few : goal.new-requires-clause-few

@@ -1,4 +1,4 @@
-use Rattle.integrity_store.specs.ConfigReads.{read_sound, read_content, read_forgeries}
+use Rattle.integrity_store.proofs.ConfigReads.{read_sound, read_content, read_forgeries}
 use Rattle.integrity_store.proofs.laws.config_is_no_block.Goals as goal
 
 pub returns-clause-sound : goal.returns-clause-sound

@@ -7,7 +7,8 @@ use Rattle.local_state.specs.Record.{plain_state, record_bytes}
 use Rattle.redo_vault.specs.Redo.{Redo}
 use Rattle.integrity_store.specs.Standing.{Stands}
 use Rattle.integrity_store.specs.Views.{held_of}
-use Rattle.integrity_store.specs.WaitingLists.{IsNoBlock, in_order}
+use Rattle.integrity_store.specs.Stores.{IsNoBlock}
+use Rattle.integrity_store.specs.WaitingLaws.{in_order}
 use Rattle.config_file.specs.Settings.{settings_of}
 use Rattle.config_file.specs.declared.config.Cipher.{Cipher}
 use Rattle.mount.specs.Opening.{OpenCause, Reads}

@@ -4,7 +4,8 @@ use Rattle.outside.specs.Honest.{count_told}
 use Rattle.outside.specs.View.{bytes_of}
 use Rattle.store_api.specs.Content.{over}
 use Rattle.store_api.specs.Durables.{Identity}
-use Rattle.integrity_store.specs.Held.{forged, wanted}
+use Rattle.integrity_store.specs.Forgeries.{forged}
+use Rattle.integrity_store.specs.Held.{wanted}
 use Rattle.integrity_store.specs.Standing.{identity_of, Stands}
 use Rattle.integrity_store.specs.Views.{held_by}
 use Rattle.tower_tests.proofs.Anew.{put_there}

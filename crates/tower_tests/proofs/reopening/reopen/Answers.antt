@@ -4,7 +4,7 @@ use Rattle.local_state.specs.Record.{plain_state, record_bytes}
 use Rattle.integrity_store.specs.Held.{Held}
 use Rattle.integrity_store.specs.Standing.{identity_of}
 use Rattle.integrity_store.specs.Views.{held_of, held_by}
-use Rattle.integrity_store.specs.WaitingLists.{in_order}
+use Rattle.integrity_store.specs.WaitingLaws.{in_order}
 use Rattle.tower_tests.proofs.Anew.{reopened}
 use Rattle.tower_tests.proofs.reopening.reopen.Goals as goal
 

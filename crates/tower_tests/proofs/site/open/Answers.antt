@@ -1,6 +1,6 @@
 use Rattle.local_state.specs.Record.{plain_state}
 use Rattle.outside.specs.View.{list_of}
-use Rattle.integrity_store.specs.WaitingLists.{in_order}
+use Rattle.integrity_store.specs.WaitingLaws.{in_order}
 use Rattle.tower_tests.proofs.site.open.Goals as goal
 
 pub sealed_over-requires : goal.sealed_over-requires

@@ -1,8 +1,7 @@
 use Rattle.integrity_store.specs.Views.{held_of}
-use Rattle.integrity_store.specs.Enduring.{opened_stands}
-use Rattle.integrity_store.specs.Unused.{untouched_sound}
+use Rattle.integrity_store.proofs.Reopening.{opened_stands, few_used}
+use Rattle.integrity_store.proofs.Untouched.{untouched_sound}
 use Rattle.local_state.specs.Record.{plain_state}
-use Rattle.integrity_store.specs.Stores.{few_used}
 use Rattle.integrity_store.proofs.store.IntegrityStore.new.Goals as goal
 
 pub returns-clause-few : goal.returns-clause-few

@@ -3,7 +3,7 @@ use Rattle.aes_gcm.specs.Gcm.{opened_of}
 use Rattle.outside.specs.Going.{GoesOn}
 use Rattle.outside.specs.Honest.{is_lie, count_told}
 use Rattle.store_api.specs.Durables.{Identity}
-use Rattle.integrity_store.specs.Held.{forged}
+use Rattle.integrity_store.specs.Forgeries.{forged}
 use Rattle.integrity_store.specs.Standing.{records}
 use Rattle.config_file.specs.Settings.{settings_of}
 use Rattle.tree_commands.specs.Showing.{ShowsFiles}

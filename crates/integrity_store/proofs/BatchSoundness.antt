@@ -6,14 +6,18 @@ use Rattle.std.specs.Option.{option_map_or}
 use Rattle.outside.specs.Trace.{Call, block}
 use Rattle.outside.specs.Honest.{last_change}
 use Rattle.local_state.specs.declared.mark.Mark.{Mark}
-use Rattle.local_state.specs.Known.{raised_version, is_dead_in}
+use Rattle.local_state.specs.Known.{raised_version, is_dead_in, version_if_live, is_last}
 use Rattle.sealed_store.specs.BlockFiles.{opens_file}
 use Rattle.store_api.specs.Content.{Id, Changes, or_else, over}
 use Rattle.store_api.specs.Holdings.{Changed, gives_payload, has_id}
 use Rattle.integrity_store.specs.Applied.{mark_after, WaitsAfter, Applied}
 use Rattle.integrity_store.specs.BlockRecords.{Record, record_of, opened, payload_of, payload_in}
-use Rattle.integrity_store.specs.Held.{Held, own, waiting, waiting_or, bytes_in, file_of, live_version, version_if_live, where_live, told_or_none, wanted, IsPast, SoundAt, SoundBy, was_put}
-use Rattle.integrity_store.specs.Stores.{IsWhole, is_last, version_in, few_used, meanings_by, holdings_by, has-keys}
+use Rattle.integrity_store.specs.Held.{Held, own, waiting, waiting_or, bytes_in, file_of, live_version, where_live, told_or_none, wanted}
+use Rattle.integrity_store.specs.Soundness.{IsPast, SoundAt, SoundBy}
+use Rattle.integrity_store.specs.Forgeries.{was_put}
+use Rattle.integrity_store.specs.Stores.{IsWhole, version_in, meanings_by, holdings_by}
+use Rattle.integrity_store.proofs.Reopening.{few_used}
+use Rattle.integrity_store.specs.StoreLaws.{has-keys}
 
 -- ---- one id
 

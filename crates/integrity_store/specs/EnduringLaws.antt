@@ -1,25 +1,25 @@
 -- What kept records stand for, and say of the configuration's file, while blocks are loaded and changed.
-use Rattle.std.specs.Prelude.{◌≡◌, ℕ, Bool, true, false, List, [], ◌∷◌, ◌++◌}
-use Rattle.std.proofs.Common.{refl, sym, ◌∙◌, ap, subst, inl, inr, arith}
+use Rattle.std.specs.Prelude.{◌≡◌, ℕ, Bool, true, false, List}
 use Rattle.std.specs.declared.option.Option.{Option}
 use Rattle.std.specs.declared.option.Option.TheVariants.{None, Some}
-use Rattle.outside.specs.Trace.{At, Call, config, got, adds}
+use Rattle.std.proofs.Common.{refl, sym, ◌∙◌, ap, subst, inl, inr, arith}
+use Rattle.outside.specs.Trace.{config, Call, got, adds, At}
 use Rattle.outside.specs.Changes.{Changes, change_at}
-use Rattle.outside.specs.Honest.{last_change}
-use Rattle.local_state.specs.Record.{PlainState, record_bytes, HasRecord}
-use Rattle.local_state.specs.Record as records_of
+use Rattle.local_state.specs.Record.{PlainState, HasRecord, record_bytes}
 use Rattle.local_state.proofs.Records.{one_reading, mark_in, marked_bytes, marked_has}
-use Rattle.store_api.specs.Content.{Content, SameContent}
-use Rattle.store_api.specs.Content.{Changes as BlockChanges}
-use Rattle.outside.specs.Going.{GoesOn}
+use Rattle.local_state.specs.Record as records_of
+use Rattle.store_api.specs.Content.{Content, SameContent, Changes as BlockChanges}
 use Rattle.store_api.specs.Durables.{Identity, Enduring, IsConfigured, last_told, with_mark}
 use Rattle.integrity_store.specs.Applied.{Applied, applied_by}
-use Rattle.integrity_store.specs.Held.{Held, AllReads, Went, wanted, SoundBy}
-use Rattle.integrity_store.specs.Laws.{went_sound, sound-got}
-use Rattle.integrity_store.specs.Loads.{went_wanted}
-use Rattle.integrity_store.specs.Standing.{identity_of, Stands, IsMarked, Configures, listed, durables_by, records}
-use Rattle.integrity_store.specs.WaitingLists.{in_order}
-use Rattle.integrity_store.specs.Stores.{meanings_by, holdings_by, sound_is_told}
+use Rattle.integrity_store.specs.Held.{Held}
+use Rattle.integrity_store.specs.ReadLaws.{goes_on, last_went, sound-got, went_sound, went_wanted}
+use Rattle.integrity_store.specs.Reads.{Went}
+use Rattle.integrity_store.specs.Standing.{Configures, IsMarked, Stands, durables_by, identity_of, listed, records}
+use Rattle.integrity_store.specs.StoreLaws.{sound_is_told}
+use Rattle.integrity_store.specs.Stores.{holdings_by, meanings_by}
+use Rattle.integrity_store.specs.WaitingLaws.{in_order}
+
+-- ---- records
 
 true_is_false : true ≡ false → ⊥
 true_is_false e = cc
@@ -76,6 +76,18 @@ applied_same a b old new changes x = λ i. record {
   opens = x.opens i;
 }
 
+got_stood : (identity : Identity) (kept : List ℕ) (trace : Option (List Call)) (content : Content) (name : At) (max : ℕ) (answer : Option (List ℕ)) → Stands identity kept trace content → Stands identity kept (adds trace (got name max answer)) content
+got_stood identity kept None content name max answer s = absurd s.sound
+got_stood identity kept (Some t) content name max answer s = record {
+  held = s.held;
+  same = s.same;
+  unmarked = s.unmarked;
+  has_record = s.has_record;
+  bytes = s.bytes;
+  sound = sound-got s.held t name max answer s.sound;
+  wants = s.wants;
+}
+
 -- ---- the configuration's file
 
 -- the record of this state and this list says of the configuration's file what the list does
@@ -88,19 +100,6 @@ pub configured_of : (state : PlainState) (list : Changes) (trace : Option (List 
 configured_of state list trace bytes has c =
     let reading = one_reading state c.state list c.list has c.has_record c.is_record in
     subst (λ (list : Changes). IsConfigured list trace bytes) (sym reading.1) c.configured
-
--- reads are no changes
-last_after : (h : Held) (name : At) (reads trace : List Call) → AllReads h reads → last_change name (reads ++ trace) ≡ last_change name trace
-last_after h name [] trace all = refl
-last_after h name (call ∷ reads) trace all = ap (λ c. last_change name (c ∷ (reads ++ trace))) all.0.is ∙ last_after h name reads trace all.1
-
-pub last_went : (h : Held) (name : At) (a b : Option (List Call)) → Went h a b → last_told name b ≡ last_told name a
-last_went h name None b went = ap (last_told name) went
-last_went h name (Some t) b (reads, is, all) = ap (last_told name) is ∙ last_after h name reads t all
-
-goes_on : (h : Held) (a b : Option (List Call)) → Went h a b → GoesOn a b
-goes_on h None b went = went
-goes_on h (Some t) b (reads, is, all) = (reads, is)
 
 read_configured : (list : Changes) (a b : Option (List Call)) (bytes : List ℕ) → last_told config b ≡ last_told config a → IsConfigured list a bytes → IsConfigured list b bytes
 read_configured list a b bytes same (inl waits) = inl waits
@@ -125,36 +124,6 @@ changed_configures : (a b : Held) (old new : Option (List Call)) (changes : Bloc
 changed_configures a b old new changes bytes x had has c =
     let before = configured_of a.state a.list old bytes had c in
     configures_of b.state b.list new bytes has (subst (λ t. IsConfigured b.list t bytes) (sym x.trace) (same_configured a.list b.list old bytes x.config before))
-
--- ---- what opens, what is read, and what is marked
-
--- of two that have the same record and identity
-same_held : (h k : Held) → HasRecord h.state h.list → HasRecord k.state k.list → identity_of k ≡ identity_of h → record_bytes h.state h.list ≡ record_bytes k.state k.list → k ≡ h
-same_held h k has had same is =
-    let reading = one_reading h.state k.state h.list k.list has had is in
-    let size : k.size ≡ h.size = ap (λ (d : Identity). d.size) same in
-    let opens : k.opens ≡ h.opens = ap (λ (d : Identity). d.opens) same in
-    let state : k.state ≡ h.state = sym reading.0 in
-    let list : k.list ≡ h.list = sym reading.1 in
-    λ i. record { size = size i; opens = opens i; state = state i; list = list i }
-
-pub opened_stands : (h : Held) (trace : Option (List Call)) (content : Content) → HasRecord h.state h.list → Stands (identity_of h) (record_bytes h.state h.list) trace content
-    → SoundBy h trace × SameContent content (wanted h trace)
-opened_stands h trace content has s =
-    let same = same_held h s.held has s.has_record s.same s.bytes in
-    (subst (λ k. SoundBy k trace) same s.sound, subst (λ k. SameContent content (wanted k trace)) same s.wants)
-
-got_stood : (identity : Identity) (kept : List ℕ) (trace : Option (List Call)) (content : Content) (name : At) (max : ℕ) (answer : Option (List ℕ)) → Stands identity kept trace content → Stands identity kept (adds trace (got name max answer)) content
-got_stood identity kept None content name max answer s = absurd s.sound
-got_stood identity kept (Some t) content name max answer s = record {
-  held = s.held;
-  same = s.same;
-  unmarked = s.unmarked;
-  has_record = s.has_record;
-  bytes = s.bytes;
-  sound = sound-got s.held t name max answer s.sound;
-  wants = s.wants;
-}
 
 got_configured : (list : Changes) (trace : Option (List Call)) (bytes : List ℕ) (name : At) (max : ℕ) (answer : Option (List ℕ)) → IsConfigured list trace bytes → IsConfigured list (adds trace (got name max answer)) bytes
 got_configured list None bytes name max answer c = c

@@ -1,26 +1,17 @@
--- What waits to be written: what may wait as the configuration, and the order of a record's list.
-use Rattle.std.specs.Prelude.{◌≡◌, ℕ, Bool, true, false, ◌&&◌, List, [], ◌∷◌, IsTrue, take}
+-- A list that has a record stands in order.
+use Rattle.std.specs.Prelude.{◌≡◌, Bool, true, false, ◌&&◌, List, [], ◌∷◌, IsTrue}
+use Rattle.std.specs.declared.option.Option.{Option}
+use Rattle.std.specs.declared.option.Option.TheVariants.{None, Some}
 use Rattle.std.proofs.Common.{refl, sym, ◌∙◌, ap}
 use Rattle.std.specs.Ordering.{is_lt}
 use Rattle.std.specs.FinMap.Entries.{below_all}
 use Rattle.std.specs.declared.cmp.Ordering.TheVariants.{Less}
-use Rattle.std.specs.declared.option.Option.{Option}
-use Rattle.std.specs.declared.option.Option.TheVariants.{None, Some}
 use Rattle.block_id.proofs.Orders.{less_is}
-use Rattle.outside.specs.Trace.{At, config, block}
+use Rattle.outside.specs.Trace.{config, block, At}
+use Rattle.outside.specs.Changes.{Changes, IsIncreasing}
 use Rattle.outside.specs.Names.{at_cmp}
 use Rattle.outside.specs.NameLaws.{at_total}
-use Rattle.outside.specs.Changes.{Changes, IsIncreasing}
-use Rattle.local_state.specs.Record.{Entry, PlainState, Rise, comes_after, HasRecord}
-use Rattle.store_api.specs.Lists.{block_magic}
-
--- bytes that wait as the configuration don't begin as a block's file does
-abbrev pub IsNoBlock : Option (Option (List ℕ)) → Type 0
-IsNoBlock None = Unit {0}
-IsNoBlock (Some None) = Unit {0}
-IsNoBlock (Some (Some bytes)) = take 14 bytes ≡ block_magic → ⊥
-
--- ---- a list that has a record stands in order
+use Rattle.local_state.specs.Record.{PlainState, Entry, HasRecord, Rise, comes_after}
 
 after_is_less : (p q : At) → comes_after (Some p) q ≡ is_lt (at_cmp p q)
 after_is_less config config = refl

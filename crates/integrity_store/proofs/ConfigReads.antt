@@ -1,17 +1,16 @@
 -- A read of the configuration's file is none of a block.
-use Rattle.std.specs.Prelude.{◌≡◌, ℕ, List, refl}
-use Rattle.std.proofs.Common.{arith}
+use Rattle.std.specs.Prelude.{◌≡◌, ℕ, List}
 use Rattle.std.specs.declared.option.Option.{Option}
 use Rattle.std.specs.declared.option.Option.TheVariants.{None, Some}
-use Rattle.outside.specs.Trace.{Call, config, got, adds}
+use Rattle.std.proofs.Common.{refl, arith}
+use Rattle.outside.specs.Trace.{config, Call}
 use Rattle.outside.specs.Honest.{count_told}
 use Rattle.store_api.specs.Content.{SameContent}
-use Rattle.integrity_store.specs.Held.{Held, wanted, SoundBy, forged}
-use Rattle.integrity_store.specs.Laws.{sound-got}
-
--- the trace after the configuration's file was asked for, and this came
-abbrev pub after_read : Option (List Call) → ℕ → Option (List ℕ) → Option (List Call)
-after_read trace max answer = adds trace (got config max answer)
+use Rattle.integrity_store.specs.Forgeries.{forged}
+use Rattle.integrity_store.specs.Held.{Held, wanted}
+use Rattle.integrity_store.specs.ReadLaws.{sound-got}
+use Rattle.integrity_store.specs.Reads.{after_read}
+use Rattle.integrity_store.specs.Soundness.{SoundBy}
 
 pub read_sound : (h : Held) (trace : Option (List Call)) (max : ℕ) (answer : Option (List ℕ)) → SoundBy h trace → SoundBy h (after_read trace max answer)
 read_sound h None max answer s = s

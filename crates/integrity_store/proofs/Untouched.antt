@@ -1,22 +1,19 @@
 -- A store that knows no block, over a directory in which nothing was changed, is sound.
-use Rattle.std.specs.Prelude.{◌≡◌, ℕ, Bool, true, false, List, [], ◌∷◌, is_some, not, ◌&&◌, if◌then◌else◌}
-use Rattle.std.proofs.Common.{refl, sym, ◌∙◌, ap}
-use Rattle.std.proofs.lemmas.Slice.Eq.{bytes_eq-Decides}
-use Rattle.std.specs.FinMap as fin
-use Rattle.std.specs.FinMap.{get-empty}
+use Rattle.std.specs.Prelude.{◌≡◌, ℕ, Bool, true, false, not, ◌&&◌, List, [], ◌∷◌, is_some, if◌then◌else◌}
 use Rattle.std.specs.declared.option.Option.{Option}
 use Rattle.std.specs.declared.option.Option.TheVariants.{None, Some}
-use Rattle.outside.specs.Trace.{At, config, block, Call, got, put, removed}
-use Rattle.outside.specs.Names.{same_at}
+use Rattle.std.proofs.Common.{refl, sym, ◌∙◌, ap}
+use Rattle.std.proofs.lemmas.Slice.Eq.{bytes_eq-Decides}
+use Rattle.std.specs.FinMap.{get-empty}
+use Rattle.std.specs.FinMap as fin
+use Rattle.outside.specs.Trace.{config, block, Call, got, put, removed, At}
 use Rattle.outside.specs.Honest.{LastChange, last_change}
+use Rattle.outside.specs.Names.{same_at}
+use Rattle.local_state.specs.Known.{is_dead_in, is_live_in, version_if_live}
 use Rattle.store_api.specs.Content.{id_cmp}
-use Rattle.local_state.specs.Known.{is_dead_in, is_live_in}
-use Rattle.integrity_store.specs.Held.{Held, version_if_live, live_version, was_put, SoundBy}
-
--- nothing was put or removed, by a trace that is told
-abbrev pub IsUntouched : Option (List Call) → Type 0
-IsUntouched None = ⊥
-IsUntouched (Some trace) = (name : At) → last_change name trace ≡ None
+use Rattle.integrity_store.specs.Forgeries.{was_put}
+use Rattle.integrity_store.specs.Held.{Held, live_version}
+use Rattle.integrity_store.specs.Soundness.{IsUntouched, SoundBy}
 
 true_is_false : true ≡ false → ⊥
 true_is_false e = cc

@@ -2,7 +2,7 @@ use Rattle.std.proofs.Common.{◌≡◌, ℕ, ◌+◌, List, [], ◌++◌, lengt
 use Rattle.std.specs.Int.{w16, w32, w64, to_le_bytes}
 use Rattle.integrity_store.specs.BlockRecords.{Record, record_of}
 use Rattle.integrity_store.proofs.Records.{FitsRecord, record_bytes, length-record_bytes, record_of-record_bytes}
-use Rattle.integrity_store.proofs.writing.write_record.Goals as goal
+use Rattle.integrity_store.proofs.block_record.write_record.Goals as goal
 
 -- five parts were appended to nothing
 joined : (none a b c d e first second third fourth fifth : List ℕ) → none ≡ [] → first ≡ none ++ a → second ≡ first ++ b → third ≡ second ++ c → fourth ≡ third ++ d → fifth ≡ fourth ++ e

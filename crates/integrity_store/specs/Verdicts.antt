@@ -1,0 +1,47 @@
+-- The verdict on what came for a block.
+use Rattle.std.specs.Prelude.{◌≡◌, ℕ, List, if◌then◌else◌, ◌==◌, nat_lt, Vec, Result}
+use Rattle.std.specs.Str.{bytes_eq}
+use Rattle.std.specs.declared.option.Option.{Option}
+use Rattle.std.specs.declared.option.Option.TheVariants.{None, Some}
+use Rattle.std.specs.declared.alloc.Global.{Global}
+use Rattle.std.specs.declared.result.Result.TheVariants.{Ok, Err}
+use Rattle.block_id.specs.declared.fail.Why.{Why}
+use Rattle.block_id.specs.declared.fail.Why.TheVariants.{Missing, BadLength, BadPrefix, NotOpened, BadRecord, WrongId, ForeignClient, OldVersion, AheadVersion}
+use Rattle.block_id.specs.declared.fail.Fail.{Fail}
+use Rattle.block_id.specs.declared.fail.Fail.TheVariants.{Memory, Fault, Violation}
+use Rattle.sealed_store.specs.BlockFiles.{Sight, absent, bad_length, bad_prefix, not_opened, plain, sight_in}
+use Rattle.integrity_store.specs.BlockRecords.{Record, record_of}
+
+-- a payload, or what is wrong
+pub data Verdict : Type 0 where
+  good : List ℕ → Verdict
+  bad : Why → Verdict
+
+-- the first that holds: no record, that of another block, that of another client, a lower version, a higher one; else the payload
+abbrev pub judged_record : List ℕ → ℕ → ℕ → Option Record → Verdict
+judged_record id client known None = bad BadRecord
+judged_record id client known (Some r) =
+    if bytes_eq r.id id
+    then (if r.client == client
+    then (if r.version == known then good r.payload else (if nat_lt r.version known then bad (OldVersion known r.version) else bad (AheadVersion known r.version)))
+    else bad (ForeignClient r.client))
+    else bad (WrongId (record { 0 = r.id }))
+
+-- what comes before that: no file, another length, another prefix, a seal that doesn't open
+abbrev pub judged : ℕ → List ℕ → ℕ → ℕ → Sight → Verdict
+judged size id client known absent = bad Missing
+judged size id client known bad_length = bad BadLength
+judged size id client known bad_prefix = bad BadPrefix
+judged size id client known not_opened = bad NotOpened
+judged size id client known (plain bytes) = judged_record id client known (record_of size bytes)
+
+-- the verdict on an answer for this id, by the state's client and the id's known version
+abbrev pub verdict : (List ℕ → Option (List ℕ)) → ℕ → List ℕ → ℕ → ℕ → Option (List ℕ) → Verdict
+verdict opens size id client known answer = judged size id client known (sight_in opens size answer)
+
+-- the payload or the reason, unless memory ran out; never a fault
+abbrev pub Judges : Verdict → Result (Vec ℕ Global) Fail → Type 0
+Judges verdict (Ok payload) = verdict ≡ good payload.items
+Judges verdict (Err Memory) = Unit {0}
+Judges verdict (Err Fault) = ⊥
+Judges verdict (Err (Violation why)) = verdict ≡ bad why

@@ -1,0 +1,67 @@
+// The files and the record of client 7, byte by byte as the format has them, for tests.
+ghost use Rattle.std.specs.Prelude.{◌≡◌, []};
+ghost use Rattle.sealed_store.specs.Stores.{IsIntact, block_size_of, cipher_of};
+
+use aes_gcm::Aes256Gcm;
+use block_id::BlockId;
+use outside::{FileName, MemoryVault, Vault};
+use redo_vault::RedoVault;
+use seal_api::Sealer;
+use sealed_store::SealedStore;
+use std::alloc::Global;
+use std::test::Fail;
+
+/// What a record has before its blocks: its first bytes, what it belongs to, the client, no mark.
+pub(crate) fn push_record_head(out: &mut Vec<u8>) -> Result<(), Fail> {
+    out.extend_from_slice(b"cryfs.localstate;1\0\0")?;
+    out.extend_from_slice(&[0x11; 80])?;
+    out.extend_from_slice(&[7, 0, 0, 0])?;
+    Ok(())
+}
+
+/// An id with its version, and whether its block lives.
+pub(crate) fn push_mark(
+    out: &mut Vec<u8>,
+    id: &BlockId,
+    version: u64,
+    live: bool,
+) -> Result<(), Fail> {
+    out.extend_from_slice(&id.0)?;
+    out.extend_from_slice(&version.to_le_bytes())?;
+    out.push(if live { 1 } else { 0 })?;
+    Ok(())
+}
+
+/// What a block's file holds: its form, its id, its client, its version and 50 bytes of payload.
+pub(crate) fn plain_of(form: u8, id: u8, client: u8, version: u64, payload: u8) -> [u8; 80] {
+    let mut plain = [payload; 80];
+    plain[..30].fill(0);
+    plain[0] = form;
+    plain[2..18].fill(id);
+    plain[18] = client;
+    plain[22..30].copy_from_slice(&version.to_le_bytes());
+    plain
+}
+
+/// Blocks of 128 bytes.
+pub(crate) fn sealed_over(alloc: Global, below: MemoryVault) -> SealedStore<MemoryVault, Aes256Gcm>
+    ensures intact { IsIntact (block_size_of result) (⟦<Aes256Gcm as Sealer>⟧.iv_size (cipher_of result)) }
+    ensures size { block_size_of result ≡ 128 }
+    ensures list { result.vault.list ≡ [] }
+{
+    let vault = RedoVault::new(below, Vec::new(alloc));
+    SealedStore::new(vault, Aes256Gcm, [3; 32], 128)
+}
+
+/// Puts the file of a block, sealed under the key.
+pub(crate) fn put_file(
+    alloc: Global,
+    below: &mut MemoryVault,
+    id: &BlockId,
+    plain: &[u8; 80],
+) -> Result<(), Fail> {
+    let sealed = sealed_over(alloc, MemoryVault::new(alloc));
+    let file = sealed.seal_plain(alloc, id, plain, &[9; 16])?;
+    below.put(alloc, &FileName::Block(*id), &file)?;
+    Ok(())
+}
