@@ -12,6 +12,7 @@ use Rattle.cryfs_setup.specs.Create.{Created, IsCreated, created_text, Reports a
 use Rattle.cryfs_setup.specs.Info.{Told, IsTold, info_text}
 use Rattle.cryfs_setup.specs.Passwd.{Changed, IsChanged, NewOpens, changed_text, Reports as PasswdReports}
 use Rattle.cryfs_setup.specs.Printing.{Printed}
+use Rattle.cryfs_setup.proofs.Ending.{ends}
 use Rattle.fs_model.specs.Tree.{Tree, empty_tree}
 use Rattle.integrity_store.specs.EnduringLaws.{listed_has}
 use Rattle.line_io.specs.Lines.{first_line}
@@ -153,7 +154,7 @@ module _ {V : Type 0} {K : Type 0} (trace : V → Option (List Call)) (faults : 
           let f = second_is input.old bytes old new has.between has.after finds.told has.old_is_next has.new_is_next in
           let t : IsChanged trace faults G (first_line bytes) (second_line bytes) chance left output vault keeper ended =
           subst (λ x. IsChanged trace faults G x (second_line bytes) chance left output vault keeper ended) e (subst (λ x. IsChanged trace faults G old x chance left output vault keeper ended) f s) in
-          by_change t t.change t.reports (t.opens told) t.emptied
+          by_change t t.change (ends t.closing output t.told ended.status t.status t.change t.reports t.closed) (t.opens told) t.emptied
 
   -- ---- create
 

@@ -1,5 +1,5 @@
 -- A file system that was opened and its password changed, or not.
-use Rattle.std.proofs.Common.{◌≡◌, ◌⊎◌, ◌≤◌, ℕ, true, false, List, [], ◌∷◌, refl, sym, ◌∙◌, ap, subst, inl, inr, arith}
+use Rattle.std.proofs.Common.{◌≡◌, ◌⊎◌, ◌≤◌, ◌+◌, ℕ, true, false, List, [], ◌∷◌, refl, sym, ◌∙◌, subst, inl, inr, arith}
 use Rattle.std.specs.Prelude.{Result, IsOk, IsErrOf, OnOk, is_some}
 use Rattle.std.specs.declared.option.Option.{Option}
 use Rattle.std.specs.declared.result.Result.TheVariants.{Ok, Err}
@@ -27,26 +27,16 @@ use Rattle.run_status.specs.declared.status.Status.{Status}
 use Rattle.run_status.specs.declared.status.Status.TheVariants.{DirectoryFault, StateFault}
 use Rattle.run_status.specs.Statuses.{first_of}
 use Rattle.session_runs.specs.Answering.{calls_of, kept_of, vault_faults, keeper_faults}
-use Rattle.session_runs.specs.Runs.{outside_of}
+use Rattle.session_runs.specs.Runs.{outside_of, directory_fault, state_fault}
 use Rattle.session_runs.specs.Turns.{Begun, Closing}
-use Rattle.session_saver.specs.Saving.{KeptConfigures}
+use Rattle.session_saver.specs.Saving.{KeptConfigures, UnlessDirectory, UnlessState}
 use Rattle.session_saver.specs.declared.saver.SyncError.{SyncError}
 use Rattle.session_saver.specs.declared.saver.SyncError.TheVariants as sync_error
 use Rattle.tree_commands.specs.Showing.{ShowsFiles}
-use Rattle.cryfs_setup.specs.Printing.{Printed}
 use Rattle.cryfs_setup.specs.Passwd.{IsChanged, NewOpens, Reports, changed_text}
 use Rattle.cryfs_setup.proofs.Closing.{attached_on, calls_on, config_is, config_ok, quiet, told_on}
-use Rattle.cryfs_setup.proofs.Telling.{closed_well, printed_causes}
-
--- an error is the first of two statuses
-error_first : (error : SyncError) (next : Status) → first_of (closing_status (Err error)) next ≡ closing_status (Err error)
-error_first sync_error.Memory next = refl
-error_first sync_error.FaultDirectory next = refl
-error_first sync_error.FaultState next = refl
-
-reported : (change closing : Result Unit SyncError) (output : Stream) (status last : Status) → last ≡ first_of status (closing_status closing) → (IsOk change → IsOk closing) → Reports change output status → Reports change output last
-reported (Ok u) closing output status last e ok r = subst (λ (s : Status). Printed output changed_text s) (sym (e ∙ closed_well closing output changed_text status (ok refl) r)) r
-reported (Err error) closing output status last e ok r = (e ∙ (ap (λ (s : Status). first_of s (closing_status closing)) r.0 ∙ error_first error (closing_status closing)), r.1)
+use Rattle.cryfs_setup.proofs.Ending.{ends}
+use Rattle.cryfs_setup.proofs.Telling.{printed_causes}
 
 -- what was a fault of the change, or none
 fault_directory : (error : SyncError) (v0 v1 : ℕ) → (IsErrOf {T = Unit} (Err error) sync_error.FaultDirectory → RoseBy 1 v0 v1) → closing_status (Err error) ≡ DirectoryFault → RoseBy 1 v0 v1
@@ -60,7 +50,7 @@ fault_state sync_error.Memory k0 k1 cause e = absurd (cc)
 fault_state sync_error.FaultDirectory k0 k1 cause e = absurd (cc)
 
 changed_causes : (change : Result Unit SyncError) (v0 v1 v2 v3 k0 k1 k2 k3 : ℕ) (kept0 kept1 : Option (List ℕ)) (t0 t1 : Option (List Call)) (output : Stream) (status : Status) → Reports change output status
-    → v1 ≡ v0 → v1 ≤ v2 → v2 ≤ v3 → k1 ≡ k0 → k1 ≤ k2 → k2 ≤ k3
+    → v0 ≤ v1 → v1 ≤ v2 → v2 ≤ v3 → k0 ≤ k1 → k1 ≤ k2 → k2 ≤ k3
     → (IsErrOf change sync_error.FaultDirectory → RoseBy 1 v1 v2) → (IsErrOf change sync_error.FaultState → RoseBy 1 k1 k2)
     → HasCauses (record { kept = kept0; calls = t0; vault_faults = v0; keeper_faults = k0 }) (record { kept = kept1; calls = t1; vault_faults = v3; keeper_faults = k3 }) status
 changed_causes (Ok u) v0 v1 v2 v3 k0 k1 k2 k3 kept0 kept1 t0 t1 output status r a b d e f h vault keeper =
@@ -71,6 +61,27 @@ changed_causes (Err error) v0 v1 v2 v3 k0 k1 k2 k3 kept0 kept1 t0 t1 output stat
   directory_fault = λ s. let rose = fault_directory error v1 v2 vault (sym r.0 ∙ s) in omega (arith, a, rose, d);
   state_fault = λ s. let rose = fault_state error k1 k2 keeper (sym r.0 ∙ s) in omega (arith, e, rose, h);
 }
+
+-- a count is as it was where no fault is named
+unnamed_directory : (result : Result Unit SyncError) (P : Type 0) → directory_fault result ≡ 0 → UnlessDirectory result P → P
+unnamed_directory (Ok u) P none p = p
+unnamed_directory (Err sync_error.Memory) P none p = p
+unnamed_directory (Err sync_error.FaultDirectory) P none p = absurd (omega (arith, none))
+unnamed_directory (Err sync_error.FaultState) P none p = p
+
+unnamed_state : (result : Result Unit SyncError) (P : Type 0) → state_fault result ≡ 0 → UnlessState result P → P
+unnamed_state (Ok u) P none p = p
+unnamed_state (Err sync_error.Memory) P none p = p
+unnamed_state (Err sync_error.FaultDirectory) P none p = p
+unnamed_state (Err sync_error.FaultState) P none p = absurd (omega (arith, none))
+
+both_directory : (change closing : Result Unit SyncError) (v0 v1 v2 v3 : ℕ) → v1 ≡ v0 → UnlessDirectory change (v2 ≡ v1) → UnlessDirectory closing (v3 ≡ v2) → directory_fault change + directory_fault closing ≡ 0 → v3 ≡ v0
+both_directory change closing v0 v1 v2 v3 first rest last none =
+    unnamed_directory closing (v3 ≡ v2) (omega (arith, none)) last ∙ (unnamed_directory change (v2 ≡ v1) (omega (arith, none)) rest ∙ first)
+
+both_state : (change closing : Result Unit SyncError) (k0 k1 k2 k3 : ℕ) → k1 ≡ k0 → UnlessState change (k2 ≡ k1) → UnlessState closing (k3 ≡ k2) → state_fault change + state_fault closing ≡ 0 → k3 ≡ k0
+both_state change closing k0 k1 k2 k3 first rest last none =
+    unnamed_state closing (k3 ≡ k2) (omega (arith, none)) last ∙ (unnamed_state change (k2 ≡ k1) (omega (arith, none)) rest ∙ first)
 
 ok_not_memory : {u : Unit {0}} → IsErrOf {E = SyncError} (Ok u) sync_error.Memory → ⊥
 ok_not_memory e = cc
@@ -157,15 +168,22 @@ module _ {V : Type 0} {K : Type 0} (trace : V → Option (List Call)) (faults : 
       → ((may : List (List ℕ)) (now : List ℕ) → TowerConfigures trace G first.core may now → Replaced (tower_holdings trace) (tower_durables trace) records G left.core may now file change)
       → IsOnly new file (opened (settings_of first.opened.config) first.opened.params) ⊎ (IsErrOf change sync_error.Memory × (left ≡ first))
       → (is_some (calls_of trace first) ≡ true → OnOk change (KeptConfigures records (kept_of G left) (calls_of trace left) file))
-      → OnOk change (HasEmptyList (kept_of G left)) → IsChanged trace faults G old new chance left_chance output vault keeper ended
-  changed status output es r drawn synced configures opens holds empty = record {
+      → OnOk change (HasEmptyList (kept_of G left))
+      → UnlessDirectory change (vault_faults trace faults left ≡ vault_faults trace faults first) → UnlessState change (keeper_faults G left ≡ keeper_faults G first) → IsChanged trace faults G old new chance left_chance output vault keeper ended
+  changed status output es r drawn synced configures opens holds empty vault_quiet keeper_quiet = record {
     o = first.opened;
     kept = kept_of G first;
     calls = calls_of trace first;
     attached = b.attached;
     goes_on = calls_on trace faults G old vault keeper first left closing ended.vault ended.keeper b z fresh same on (stands synced);
     change = change;
-    reports = reported change closing output status ended.status es (λ ok. (still change unchanged ok).0) r;
+    told = status;
+    reports = r;
+    closing = closing;
+    closed = λ ok. (still change unchanged ok).0;
+    status = es;
+    directory_quiet = both_directory change closing _ _ _ _ b.vault_quiet vault_quiet z.vault_quiet;
+    state_quiet = both_state change closing _ _ _ _ b.keeper_quiet keeper_quiet z.keeper_quiet;
     drawn = drawn;
     opens = λ told. opens_after change unchanged (holds (told_on (trace vault) (calls_of trace first) (attached_on old (G.kept keeper) (kept_of G first) (trace vault) (calls_of trace first) first.opened b.attached) told)) opens;
     stays = λ was told k. let before = b.configures was told k in stays was change unchanged before (configures (was ∷ []) was before) opens;
@@ -180,5 +198,5 @@ module _ {V : Type 0} {K : Type 0} (trace : V → Option (List Call)) (faults : 
       → keeper_faults G first ≤ keeper_faults G left → (IsErrOf change sync_error.FaultState → RoseBy 1 (keeper_faults G first) (keeper_faults G left))
       → HasCauses (outside_of trace faults G vault keeper) (outside_of trace faults G ended.vault ended.keeper) ended.status
   caused status output es r grows cause keeper_grows keeper_cause =
-      changed_causes change _ _ _ _ _ _ _ _ _ _ _ _ output ended.status (reported change closing output status ended.status es (λ ok. (still change unchanged ok).0) r)
-      b.vault_quiet grows z.vault_grows b.keeper_quiet keeper_grows z.keeper_grows cause keeper_cause
+      changed_causes change _ _ _ _ _ _ _ _ _ _ _ _ output ended.status (ends closing output status ended.status es change r (λ ok. (still change unchanged ok).0))
+      (let q = b.vault_quiet in omega (arith, q)) grows z.vault_grows (let q = b.keeper_quiet in omega (arith, q)) keeper_grows z.keeper_grows cause keeper_cause

@@ -4,3 +4,4 @@ mod Telling
 mod Changing
 mod Short
 mod Creating
+pub mod Ending

@@ -21,6 +21,7 @@ use Rattle.run_status.specs.Statuses.{first_of}
 use Rattle.session_runs.specs.Answering.{calls_of, kept_of}
 use Rattle.session_runs.specs.Runs.{outside_of}
 use Rattle.session_runs.specs.Turns.{Begun, Closing}
+use Rattle.session_saver.specs.Saving.{UnlessDirectory, UnlessState}
 use Rattle.session_saver.specs.declared.saver.SyncError.{SyncError}
 use Rattle.tree_commands.specs.Showing.{ShowsFiles}
 use Rattle.cryfs_setup.specs.Info.{IsTold, info_text}
@@ -33,6 +34,15 @@ closed_well (Ok u) output text Done ok p = refl
 closed_well (Ok u) output text OutputFault ok p = refl
 closed_well (Ok u) output text printed ok p = absurd p
 closed_well (Err e) output text printed ok p = absurd (cc)
+
+-- where closing went well, no fault was named
+closed_directory : (closing : Result Unit SyncError) (P : Type 0) → IsOk closing → UnlessDirectory closing P → P
+closed_directory (Ok u) P ok p = p
+closed_directory (Err e) P ok p = absurd (cc)
+
+closed_state : (closing : Result Unit SyncError) (P : Type 0) → IsOk closing → UnlessState closing P → P
+closed_state (Ok u) P ok p = p
+closed_state (Err e) P ok p = absurd (cc)
 
 -- a text that was printed, or wasn't, is no fault of the directory or the record
 pub printed_causes : (v0 v1 k0 k1 : ℕ) (kept0 kept1 : Option (List ℕ)) (t0 t1 : Option (List Call)) (output : Stream) (text : List ℕ) (status : Status) → Printed output text status → v0 ≤ v1 → k0 ≤ k1
@@ -60,6 +70,8 @@ module _ {V : Type 0} {K : Type 0} (trace : V → Option (List Call)) (faults : 
         config = config_is trace faults G password vault keeper mount mount closing ended.vault ended.keeper b z b.fresh refl on (λ tree s. s);
         quiet = quiet trace faults G password vault keeper mount mount closing ended.vault ended.keeper b z b.fresh refl on (λ tree s. s) unmarked;
         unmarked = unmarked;
+        directory_quiet = closed_directory closing _ l.0 z.vault_quiet ∙ b.vault_quiet;
+        state_quiet = closed_state closing _ l.0 z.keeper_quiet ∙ b.keeper_quiet;
         opens = λ other c is_told o. (o.0, o.1, config_ok (G.kept ended.keeper) (trace ended.vault) (o.0 ∷ []) o.0 closing l.0 (z.configures (o.0 ∷ []) o.0 b.fresh (b.configures o.0 is_told o.2)), o.3);
       }
 

@@ -1,5 +1,5 @@
 -- What `create` does.
-use Rattle.std.specs.Prelude.{◌≡◌, ◌⊎◌, ℕ, true, List, ◌++◌, codes, Result, Ok, Err, is_some, IsErr, IfOk, IfErr, OnOk}
+use Rattle.std.specs.Prelude.{◌≡◌, ◌≢◌, ◌⊎◌, ℕ, true, List, ◌++◌, codes, Result, Ok, Err, is_some, IsErr, IfOk, IfErr, OnOk}
 use Rattle.std.specs.declared.option.Option.{Option}
 use Rattle.std.specs.declared.option.Option.TheVariants.{None}
 use Rattle.block_id.specs.declared.id.BlockId.{BlockId}
@@ -11,7 +11,7 @@ use Rattle.line_io.specs.Streams.{Stream, Untouched}
 use Rattle.mount.specs.declared.draws.Draws.{Draws}
 use Rattle.mount.specs.declared.error.OpenError.{OpenError}
 use Rattle.mount.specs.declared.error.OpenError.TheVariants as open_error
-use Rattle.mount.specs.Making.{CreateCause, Created as Made, IsUnchanged, StaysThere, new_settings, sealed_file}
+use Rattle.mount.specs.Making.{CreateCause, Created as Made, IsUnchanged, KnowsOnly, StaysThere, new_settings, root_of, sealed_file}
 use Rattle.outside.specs.Going.{GoesOn}
 use Rattle.outside.specs.Trace.{Call, adds, got, config}
 use Rattle.outside.specs.declared.keeper.Keeper.{Ghosts as KeeperGhosts}
@@ -51,6 +51,11 @@ pub record IsCreated {V : Type 0} {K : Type 0} (trace : V → Option (List Call)
   pub asked : (G.kept ended.keeper ≡ G.kept keeper) ⊎ ((G.kept keeper ≡ None) × GoesOn (adds (trace vault) (got config 1127 None)) (trace ended.vault))
   pub exists : made ≡ Err open_error.Exists → G.kept ended.keeper ≡ G.kept keeper
   pub cause : IfErr made (CreateCause (G.kept keeper) (trace vault) (trace ended.vault) (faults vault) (faults ended.vault) (G.faults keeper) (G.faults ended.keeper))
+  -- no call that failed was passed over
+  pub directory_quiet : made ≢ Err open_error.FaultDirectory → faults ended.vault ≡ faults vault
+  pub state_quiet : made ≢ Err open_error.FaultState → G.faults ended.keeper ≡ G.faults keeper
+  -- the new record knows the root's block at its first version at most, and no other
+  pub versions : OnOk made (KnowsOnly (G.kept ended.keeper) (root_of draws.root))
 
 -- the password line wasn't read and nothing was done, or its password is the one
 abbrev pub Created : {V : Type 0} → {K : Type 0} → (V → Option (List Call)) → (V → ℕ) → KeeperGhosts K → Cost → ℕ → Draws → Stream → Stream → V → K → Ended V K → Type 0

@@ -46,6 +46,9 @@ pub record IsTold {V : Type 0} {K : Type 0} (trace : V → Option (List Call)) (
   -- it is the one under which what was kept stood for a tree
   pub config : (c : Settings) (tree : Tree) → OpensTo ShowsFiles password c tree (outside_of trace faults G vault keeper) (outside_of trace faults G ended.vault ended.keeper) → settings_of o.config ≡ c
   pub unmarked : ¬ IsKeptMarked records (G.kept keeper)
+  -- no call on a store failed
+  pub directory_quiet : faults ended.vault ≡ faults vault
+  pub state_quiet : G.faults ended.keeper ≡ G.faults keeper
   pub quiet : IsQuiet ShowsFiles password (outside_of trace faults G vault keeper) (outside_of trace faults G ended.vault ended.keeper)
   pub opens : StayOpen (outside_of trace faults G vault keeper) (outside_of trace faults G ended.vault ended.keeper)
 

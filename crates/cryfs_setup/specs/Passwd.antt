@@ -1,5 +1,5 @@
 -- What `passwd` does.
-use Rattle.std.specs.Prelude.{◌≡◌, ◌⊎◌, ℕ, true, List, codes, Result, is_some, OnOk}
+use Rattle.std.specs.Prelude.{◌≡◌, ◌⊎◌, ℕ, ◌+◌, true, List, codes, Result, is_some, IsOk, OnOk}
 use Rattle.std.specs.declared.option.Option.{Option}
 use Rattle.std.specs.declared.result.Result.TheVariants.{Ok, Err}
 use Rattle.rand_core.specs.Stream.{Stream as Chance}
@@ -23,9 +23,10 @@ use Rattle.run_openings.specs.Openings.{HasPasswords, IsUnread, IsUnopened}
 use Rattle.run_openings.specs.Statuses.{closing_status}
 use Rattle.run_status.specs.declared.ended.Ended.{Ended}
 use Rattle.run_status.specs.declared.status.Status.{Status}
+use Rattle.run_status.specs.Statuses.{first_of}
 use Rattle.script_text.specs.Texts.{line}
 use Rattle.session_lines.specs.Driven.{IsQuiet as IsUnfailed}
-use Rattle.session_runs.specs.Runs.{Outside, outside_of, OpensTo, IsQuiet}
+use Rattle.session_runs.specs.Runs.{Outside, outside_of, OpensTo, IsQuiet, directory_fault, state_fault}
 use Rattle.session_saver.specs.Saving.{KeptConfigures}
 use Rattle.session_saver.specs.declared.saver.SyncError.{SyncError}
 use Rattle.tree_commands.specs.Showing.{ShowsFiles}
@@ -35,10 +36,10 @@ use Rattle.cryfs_setup.specs.Printing.{Printed}
 abbrev pub changed_text : List ℕ
 changed_text = line (codes "changed")
 
--- after a change it was printed; the error of one that failed is the status
+-- after a change it was printed; the error of one that failed is told
 abbrev pub Reports : Result Unit SyncError → Stream → Status → Type 0
-Reports (Ok _) output status = Printed output changed_text status
-Reports (Err error) output status = (status ≡ closing_status (Err error)) × Untouched output
+Reports (Ok _) output told = Printed output changed_text told
+Reports (Err error) output told = (told ≡ closing_status (Err error)) × Untouched output
 
 -- the configuration's file holds this text, which opens under the new password and nothing else, to what was opened
 pub record NewOpens (new file : List ℕ) (o : Opened) (after : Outside) : Type 0 where
@@ -54,7 +55,16 @@ pub record IsChanged {V : Type 0} {K : Type 0} (trace : V → Option (List Call)
   pub attached : Attached old (G.kept keeper) kept (trace vault) calls o
   pub goes_on : GoesOn calls (trace ended.vault)
   pub change : Result Unit SyncError
-  pub reports : Reports change output ended.status
+  pub told : Status
+  pub reports : Reports change output told
+  -- closing had nothing to do after a change; after an error of one it may meet another
+  pub closing : Result Unit SyncError
+  pub closed : IsOk change → IsOk closing
+  -- what is told of the change comes first, so its error hides one of closing
+  pub status : ended.status ≡ first_of told (closing_status closing)
+  -- where neither names a fault of the directory none happened, and so of the record
+  pub directory_quiet : directory_fault change + directory_fault closing ≡ 0 → faults ended.vault ≡ faults vault
+  pub state_quiet : state_fault change + state_fault closing ≡ 0 → G.faults ended.keeper ≡ G.faults keeper
   pub drawn : left ≡ (seal_drawn chance).1
   -- after a change the new password opens the configuration's file; after an error it does, or the file is as it was
   pub opens : is_some (trace vault) ≡ true → OnOk change (NewOpens new (sealed_file new o.params (seal_drawn chance).0 (settings_of o.config)) o (outside_of trace faults G ended.vault ended.keeper))

@@ -4,4 +4,5 @@ pub mod Sessions
 pub mod Setups
 pub mod TrialEnds
 pub mod Doing
+pub mod Naming
 pub mod Histories

@@ -28,7 +28,7 @@ use Rattle.session_runs.proofs.Whole.{unviolated}
 use Rattle.shell_sessions.specs.Sessions.{Session, IsServed}
 use Rattle.shell_sessions.specs.Statuses.{session_status}
 use Rattle.tree_commands.specs.Showing.{ShowsFiles}
-use Rattle.cryfs_shell.specs.Clauses.{IsRefusal, IsRefusedRun, IsOpenedRun, IsFoundedRun, NoFalseAlarm, Keeps, FaultsHappened, IsEmptied}
+use Rattle.cryfs_shell.specs.Clauses.{IsRefusal, IsRefusedRun, IsOpenedRun, NoFalseAlarm, Keeps, FaultsHappened, IsEmptied}
 use Rattle.cryfs_shell.proofs.Statuses.{EndCause, opening_is_no, session_is_no, stops_is_refusal, session_directory, session_state, session_input, session_output, done_is_calm, done_is_closed, calm_is_no_alarm}
 
 -- the password of a told input is its first line

@@ -7,9 +7,10 @@ use Rattle.rand_core.specs.Stream.{Stream as Chance}
 use Rattle.block_id.specs.declared.id.BlockId.{BlockId}
 use Rattle.cryfs_setup.specs.Create.{Created, Reports as CreateReports}
 use Rattle.cryfs_setup.specs.Info.{Told}
-use Rattle.cryfs_setup.specs.Passwd.{Changed, Reports as ChangeReports, changed_text}
+use Rattle.cryfs_setup.specs.Passwd.{Changed, IsChanged, Reports as ChangeReports, changed_text}
 use Rattle.cryfs_setup.specs.Create.{created_text}
 use Rattle.cryfs_setup.specs.Printing.{Printed}
+use Rattle.cryfs_setup.proofs.Ending.{ends}
 use Rattle.integrity_store.specs.Standing.{records}
 use Rattle.line_io.specs.Streams.{Stream, Failed}
 use Rattle.mount.specs.declared.draws.Draws.{Draws}
@@ -147,10 +148,13 @@ module _ {V : Type 0} {K : Type 0} (trace : V → Option (List Call)) (faults : 
   -- ---- passwd
 
   module _ (chance left : Chance) where
+    changed_late : (old new : List ℕ) → IsChanged trace faults G old new chance left output vault keeper ended → IsLateEnd output ended.status
+    changed_late old new c = change_late output c.change ended.status (ends c.closing output c.told ended.status c.status c.change c.reports c.closed)
+
     pub changed_faults : Changed trace faults G chance left input output vault keeper ended → FaultsHappened input output (outside_of trace faults G vault keeper) (outside_of trace faults G ended.vault ended.keeper) ended.status
     changed_faults (inl (u, same)) = unread_faults trace faults G input output vault keeper ended (PasswordsUnread input) (two_unread input) u
     changed_faults (inr (old, new, has, unfailed, inl ((error, u), unwritten, same))) = unopened_faults trace faults G input output vault keeper ended old has.between has.old_is_next error u
-    changed_faults (inr (old, new, has, unfailed, inr c)) = late_faults (change_late output c.change ended.status c.reports)
+    changed_faults (inr (old, new, has, unfailed, inr c)) = late_faults (changed_late old new c)
 
     pub changed_refusal : Changed trace faults G chance left input output vault keeper ended → IsKeptMarked records (G.kept keeper) → IsRefusedRun G.kept output vault keeper ended
     changed_refusal (inl (u, same)) marked = unread_refusal trace faults G input output vault keeper ended (PasswordsUnread input) (two_unread input) u
@@ -160,7 +164,7 @@ module _ {V : Type 0} {K : Type 0} (trace : V → Option (List Call)) (faults : 
     pub changed_alarm : Changed trace faults G chance left input output vault keeper ended → NoFalseAlarm input (outside_of trace faults G vault keeper) (outside_of trace faults G ended.vault ended.keeper) ended.status
     changed_alarm (inl (u, same)) bytes c first f honest e = unread_is_no ended.status Violation (two_unread input ended.status u.cause).unread e (λ h. h)
     changed_alarm (inr (old, new, has, unfailed, inl ((error, u), unwritten, same))) bytes c first f honest e = unopened_alarm trace faults G input output vault keeper ended old has.between has.old_is_next error u bytes c first f honest e
-    changed_alarm (inr (old, new, has, unfailed, inr c)) bytes d first f honest e = late_is_no output ended.status Violation (change_late output c.change ended.status c.reports) e (λ h. h)
+    changed_alarm (inr (old, new, has, unfailed, inr c)) bytes d first f honest e = late_is_no output ended.status Violation (changed_late old new c) e (λ h. h)
 
     pub changed_keeps : Changed trace faults G chance left input output vault keeper ended → Keeps input (outside_of trace faults G vault keeper) (outside_of trace faults G ended.vault ended.keeper)
     changed_keeps (inl (u, same)) bytes c first f = unread_keeps trace faults G input output vault keeper ended (PasswordsUnread input) (two_unread input) u bytes c first f
@@ -170,9 +174,9 @@ module _ {V : Type 0} {K : Type 0} (trace : V → Option (List Call)) (faults : 
     pub changed_uncalled : Changed trace faults G chance left input output vault keeper ended → ended.status ≡ LongPassword → AreUncalled vault keeper ended
     changed_uncalled (inl (u, same)) e = u.uncalled
     changed_uncalled (inr (old, new, has, unfailed, inl ((error, u), unwritten, same))) e = absurd (opening_is_no error ended.status LongPassword u.status e (λ h. h))
-    changed_uncalled (inr (old, new, has, unfailed, inr c)) e = absurd (late_is_no output ended.status LongPassword (change_late output c.change ended.status c.reports) e (λ h. h))
+    changed_uncalled (inr (old, new, has, unfailed, inr c)) e = absurd (late_is_no output ended.status LongPassword (changed_late old new c) e (λ h. h))
 
     pub changed_usage : Changed trace faults G chance left input output vault keeper ended → ended.status ≢ Usage
     changed_usage (inl (u, same)) e = unread_is_no ended.status Usage (two_unread input ended.status u.cause).unread e (λ h. h)
     changed_usage (inr (old, new, has, unfailed, inl ((error, u), unwritten, same))) e = opening_is_no error ended.status Usage u.status e (λ h. h)
-    changed_usage (inr (old, new, has, unfailed, inr c)) e = late_is_no output ended.status Usage (change_late output c.change ended.status c.reports) e (λ h. h)
+    changed_usage (inr (old, new, has, unfailed, inr c)) e = late_is_no output ended.status Usage (changed_late old new c) e (λ h. h)

@@ -14,7 +14,10 @@ use Rattle.passwords.specs.Passwords.{InputFailed}
 use Rattle.run_status.specs.declared.ended.Ended.{Ended}
 use Rattle.run_status.specs.declared.status.Status.{Status}
 use Rattle.run_status.specs.declared.status.Status.TheVariants.{LongPassword, Violation, DirectoryFault, StateFault, InputFault, OutputFault, Memory}
+use Rattle.session_lines.specs.Driven.{IsQuiet as IsUnfailed}
 use Rattle.session_runs.specs.Runs.{Outside, StandsFor, OpensTo, forgeries, lies}
+use Rattle.shell_words.specs.declared.form.Form.{Form}
+use Rattle.shell_words.specs.declared.form.Form.TheVariants.{Passwd}
 use Rattle.tree_commands.specs.Showing.{ShowsFiles}
 
 -- what a run may say over a marked record: that it is marked, or why it wasn't read: no password was, memory was refused, or its keeper failed
@@ -61,6 +64,26 @@ pub record FaultsHappened (input output : Stream) (before after : Outside) (stat
   pub state_fault : status ≡ StateFault → RoseBy 1 before.keeper_faults after.keeper_faults
   pub input_fault : status ≡ InputFault → InputFailed input
   pub output_fault : status ≡ OutputFault → Failed output
+
+-- a status that may be the error of the change of a password, behind which a fault that closing met is hidden
+abbrev pub MayHide : Option Form → Status → Type 0
+MayHide (Some Passwd) Memory = Unit {0}
+MayHide (Some Passwd) DirectoryFault = Unit {0}
+MayHide (Some Passwd) StateFault = Unit {0}
+MayHide form status = ⊥
+
+-- Of a run that answers no lines no fault of the directory or the record is passed over: where the status doesn't name it, that count is as it was; but the error of the change in
+-- `passwd` may hide one that closing met. Behind want of memory at most one of the two counts rose.
+pub record FaultsNamed (form : Option Form) (before after : Outside) (status : Status) : Type 0 where
+  pub directory_quiet : ¬ MayHide form status → status ≢ DirectoryFault → after.vault_faults ≡ before.vault_faults
+  pub state_quiet : ¬ MayHide form status → status ≢ StateFault → after.keeper_faults ≡ before.keeper_faults
+  pub memory : status ≡ Memory → (after.vault_faults ≡ before.vault_faults) ⊎ (after.keeper_faults ≡ before.keeper_faults)
+
+-- Of no run a fault of the input or the output is passed over: where the status doesn't name it, that count is as it was. A violation may hide both, and a password line that is
+-- too long the input's.
+pub record StreamFaultsNamed (input output : Stream) (status : Status) : Type 0 where
+  pub input_quiet : status ≢ InputFault → status ≢ LongPassword → status ≢ Violation → IsUnfailed input
+  pub output_quiet : status ≢ OutputFault → status ≢ Violation → IsUnfailed output
 
 -- nothing waits to be written
 abbrev pub IsEmptied : Outside → Type 0

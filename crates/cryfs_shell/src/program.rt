@@ -16,7 +16,7 @@ ghost use Rattle.session_runs.specs.Runs.{outside_of};
 ghost use Rattle.shell_sessions.specs.Sessions.{Session, ComesShell, ComesGenerated, ComesCommand};
 ghost use Rattle.shell_words.specs.Forms.{form_of, is_create, joined, IsModest};
 ghost use Rattle.shell_words.specs.declared.form.Form.{Form};
-ghost use Rattle.cryfs_shell.specs.Clauses.{IsRefusedRun, NoFalseAlarm, Keeps, FaultsHappened, IsEmptied};
+ghost use Rattle.cryfs_shell.specs.Clauses.{IsRefusedRun, NoFalseAlarm, Keeps, FaultsHappened, FaultsNamed, StreamFaultsNamed, IsEmptied};
 ghost use Rattle.cryfs_shell.specs.Doing.{Does};
 ghost use Rattle.cryfs_shell.specs.History.{Comes, IsRunOf};
 ghost use Rattle.cryfs_shell.specs.Kinds.{IsRefused, is_session, opens, draws};
@@ -68,6 +68,8 @@ pub fn run<I: Source, O: Sink, V: Vault, K: Keeper, R: Rng>(
     ensures no_false_alarm { NoFalseAlarm (stream_of I.rest I.faults input.old input.new) (outside_of V.trace V.faults K.Keeper vault keeper) (outside_of V.trace V.faults K.Keeper result.vault result.keeper) result.status }
     ensures kept { opens (form_of (map string_bytes words.now)) ≡ true → Keeps (stream_of I.rest I.faults input.old input.new) (outside_of V.trace V.faults K.Keeper vault keeper) (outside_of V.trace V.faults K.Keeper result.vault result.keeper) }
     ensures faults_happened { FaultsHappened (stream_of I.rest I.faults input.old input.new) (stream_of O.written O.faults output.old output.new) (outside_of V.trace V.faults K.Keeper vault keeper) (outside_of V.trace V.faults K.Keeper result.vault result.keeper) result.status }
+    ensures faults_named { is_session (form_of (map string_bytes words.now)) ≡ false → FaultsNamed (form_of (map string_bytes words.now)) (outside_of V.trace V.faults K.Keeper vault keeper) (outside_of V.trace V.faults K.Keeper result.vault result.keeper) result.status }
+    ensures stream_faults_named { StreamFaultsNamed (stream_of I.rest I.faults input.old input.new) (stream_of O.written O.faults output.old output.new) result.status }
     ensures history { (form : Form) → form_of (map string_bytes words.now) ≡ Some form → is_create (map string_bytes words.now) ≡ false
         → (run : Run) × IsRunOf (Comes (map string_bytes words.now) (stream_of I.rest I.faults input.old input.new) (stream_of O.written O.faults output.old output.new) form) (outside_of V.trace V.faults K.Keeper vault keeper) (outside_of V.trace V.faults K.Keeper result.vault result.keeper) run }
     ensures done { is_session (form_of (map string_bytes words.now)) ≡ true → result.status ≡ Status.Done → IsEmptied (outside_of V.trace V.faults K.Keeper result.vault result.keeper) }

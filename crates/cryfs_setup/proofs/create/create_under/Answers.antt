@@ -15,6 +15,9 @@ returns-clause-created g c =
       asked = m.asked;
       exists = m.exists;
       cause = m.cause;
+      directory_quiet = m.vault_quiet;
+      state_quiet = m.keeper_quiet;
+      versions = m.versions;
     }
 
 pub returns-clause-causes : goal.returns-clause-causes

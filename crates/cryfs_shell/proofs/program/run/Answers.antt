@@ -1,13 +1,17 @@
 use Rattle.std.proofs.Common.{◌∙◌, map, sym, ap, subst}
 use Rattle.std.specs.String.{string_bytes}
+use Rattle.std.specs.declared.option.Option.{Option}
 use Rattle.line_io.specs.Streams.{stream_of}
 use Rattle.shell_words.specs.Forms.{form_of}
 use Rattle.shell_words.proofs.FormsOf.{create_is_create}
+use Rattle.session_runs.specs.Runs.{outside_of}
+use Rattle.cryfs_shell.specs.Clauses.{FaultsNamed}
 use Rattle.cryfs_shell.specs.Kinds.{is_session, opens}
 use Rattle.cryfs_shell.proofs.Doing.{true_is_false, the_form, create_opens_none, doing_faults, doing_refusal, doing_alarm, doing_keeps, doing_emptied, doing_uncalled, doing_usage}
 use Rattle.shell_words.specs.declared.form.Form.{Form}
 use Rattle.cryfs_shell.specs.Doing.{Does}
 use Rattle.cryfs_shell.proofs.Histories.{other_form, doing_history}
+use Rattle.cryfs_shell.proofs.Naming.{doing_named, doing_streams}
 use Rattle.cryfs_shell.proofs.program.run.Goals as goal
 
 pub returns-in-Err-clause-kept : goal.returns-in-Err-clause-kept
@@ -35,6 +39,18 @@ pub returns-in-Ok-Some-clause-faults_happened : goal.returns-in-Ok-Some-clause-f
 returns-in-Ok-Some-clause-faults_happened g c =
     let made = c.in-Ok-Some in
     doing_faults g.V.Vault.trace g.V.Vault.faults g.K.Keeper (map string_bytes c.args.words.now) c.args.now (g.R.Rng.stream c.args.chance.now) (g.R.Rng.stream c.run_form.new.chance) (stream_of g.I.Source.rest g.I.Source.faults c.args.input.now c.run_form.new.input) (stream_of g.O.Sink.written g.O.Sink.faults c.args.output.now c.run_form.new.output) c.args.vault c.args.keeper c.run_form.result made.form c.run_form.ensures.does
+
+pub returns-in-Ok-Some-clause-faults_named : goal.returns-in-Ok-Some-clause-faults_named
+returns-in-Ok-Some-clause-faults_named g c e =
+    let made = c.in-Ok-Some in
+    let is = sym made.field-0-is ∙ made.ensures.value in
+    subst (λ (form : Option Form). FaultsNamed form (outside_of g.V.Vault.trace g.V.Vault.faults g.K.Keeper c.args.vault c.args.keeper) (outside_of g.V.Vault.trace g.V.Vault.faults g.K.Keeper c.run_form.result.vault c.run_form.result.keeper) c.run_form.result.status) is
+    (doing_named g.V.Vault.trace g.V.Vault.faults g.K.Keeper (map string_bytes c.args.words.now) c.args.now (g.R.Rng.stream c.args.chance.now) (g.R.Rng.stream c.run_form.new.chance) (stream_of g.I.Source.rest g.I.Source.faults c.args.input.now c.run_form.new.input) (stream_of g.O.Sink.written g.O.Sink.faults c.args.output.now c.run_form.new.output) c.args.vault c.args.keeper c.run_form.result made.form (ap is_session is ∙ e) c.run_form.ensures.does)
+
+pub returns-in-Ok-Some-clause-stream_faults_named : goal.returns-in-Ok-Some-clause-stream_faults_named
+returns-in-Ok-Some-clause-stream_faults_named g c =
+    let made = c.in-Ok-Some in
+    doing_streams g.V.Vault.trace g.V.Vault.faults g.K.Keeper (map string_bytes c.args.words.now) c.args.now (g.R.Rng.stream c.args.chance.now) (g.R.Rng.stream c.run_form.new.chance) (stream_of g.I.Source.rest g.I.Source.faults c.args.input.now c.run_form.new.input) (stream_of g.O.Sink.written g.O.Sink.faults c.args.output.now c.run_form.new.output) c.args.vault c.args.keeper c.run_form.result made.form c.run_form.ensures.does
 
 pub returns-in-Ok-Some-clause-done : goal.returns-in-Ok-Some-clause-done
 returns-in-Ok-Some-clause-done g c e done =

@@ -1,0 +1,259 @@
+-- No fault is passed over in a run.
+use Rattle.std.proofs.Common.{◌≡◌, ◌≢◌, ◌⊎◌, ℕ, ◌+◌, Bool, true, false, List, refl, sym, ◌∙◌, ap, subst, inl, inr}
+use Rattle.std.specs.Prelude.{Result, IsOk}
+use Rattle.std.specs.declared.option.Option.{Option}
+use Rattle.std.specs.declared.option.Option.TheVariants.{Some}
+use Rattle.std.specs.declared.result.Result.TheVariants.{Ok, Err}
+use Rattle.rand_core.specs.Stream.{Stream as Chance}
+use Rattle.answers.specs.Sessions.{Exchange, violated}
+use Rattle.block_id.specs.declared.id.BlockId.{BlockId}
+use Rattle.cryfs_setup.specs.Create.{Created, Reports as CreateReports}
+use Rattle.cryfs_setup.specs.Info.{Told}
+use Rattle.cryfs_setup.specs.Passwd.{Changed, Reports as ChangeReports}
+use Rattle.cryfs_setup.specs.Printing.{Printed}
+use Rattle.cryfs_setup.proofs.Ending.{ends}
+use Rattle.fs_model.specs.Instant.{Instant}
+use Rattle.line_io.specs.Streams.{Stream, Untouched}
+use Rattle.mount.specs.Drawing.{drawn}
+use Rattle.mount.specs.declared.draws.Draws.{Draws}
+use Rattle.mount.specs.declared.error.OpenError.{OpenError}
+use Rattle.mount.specs.declared.error.OpenError.TheVariants.{FaultDirectory, FaultState}
+use Rattle.outside.specs.Trace.{Call}
+use Rattle.outside.specs.declared.keeper.Keeper.{Ghosts as KeeperGhosts}
+use Rattle.passwords.specs.Passwords.{PasswordUnread, PasswordsUnread}
+use Rattle.run_openings.specs.Openings.{AreUncalled, IsUnread, IsUnopened}
+use Rattle.run_openings.specs.Statuses.{opening_status, closing_status}
+use Rattle.run_status.specs.declared.ended.Ended.{Ended}
+use Rattle.run_status.specs.declared.status.Status.{Status}
+use Rattle.run_status.specs.declared.status.Status.TheVariants.{Done, LongPassword, DirectoryFault, StateFault, InputFault, OutputFault, Memory}
+use Rattle.scrypt_kdf.specs.Cost.{Cost}
+use Rattle.session_lines.specs.Driven.{EndsAs, Reported, IsQuiet as IsUnfailed}
+use Rattle.session_lines.specs.declared.end.End.{End}
+use Rattle.session_lines.specs.declared.end.End.TheVariants as line_end
+use Rattle.session_runs.specs.Runs.{outside_of, directory_fault, state_fault}
+use Rattle.session_saver.specs.declared.saver.SyncError.{SyncError}
+use Rattle.session_saver.specs.declared.saver.SyncError.TheVariants as sync_error
+use Rattle.shell_sessions.specs.Sessions.{Session, ComesShell, ComesGenerated, ComesCommand}
+use Rattle.shell_sessions.specs.Statuses.{session_status}
+use Rattle.shell_words.specs.declared.form.Form.{Form}
+use Rattle.shell_words.specs.declared.form.Form.TheVariants.{Trial, TrialGenerate, Create, Info, Passwd, Shell, Generate, Command}
+use Rattle.shell_words.specs.Forms.{joined}
+use Rattle.cryfs_shell.specs.Clauses.{FaultsNamed, MayHide, StreamFaultsNamed}
+use Rattle.cryfs_shell.specs.Doing.{Does}
+use Rattle.cryfs_shell.specs.Kinds.{is_session}
+use Rattle.cryfs_shell.specs.Runs.{Tried, Generated, status_of}
+
+-- ---- the change of a password
+
+-- neither the change nor closing named a fault of the directory, and so of the record
+abbrev NamesNoDirectory : Result Unit SyncError → Result Unit SyncError → Type 0
+NamesNoDirectory change closing = directory_fault change + directory_fault closing ≡ 0
+
+abbrev NamesNoState : Result Unit SyncError → Result Unit SyncError → Type 0
+NamesNoState change closing = state_fault change + state_fault closing ≡ 0
+
+-- the error of a change may hide one of closing
+error_hides : (error : SyncError) (status : Status) → status ≡ closing_status (Err error) → MayHide (Some Passwd) status
+error_hides sync_error.Memory status e = subst (MayHide (Some Passwd)) (sym e) tt
+error_hides sync_error.FaultDirectory status e = subst (MayHide (Some Passwd)) (sym e) tt
+error_hides sync_error.FaultState status e = subst (MayHide (Some Passwd)) (sym e) tt
+
+error_is_no : (error : SyncError) → IsOk {T = Unit} (Err error) → ⊥
+error_is_no error ok = cc
+
+directory_is_no : DirectoryFault ≡ Memory → ⊥
+directory_is_no e = cc
+
+state_is_no : StateFault ≡ Memory → ⊥
+state_is_no e = cc
+
+module _ (output : Stream) (status : Status) where
+  none_named : (change closing : Result Unit SyncError) → ChangeReports change output status → (IsOk change → IsOk closing) → ¬ MayHide (Some Passwd) status → NamesNoDirectory change closing × NamesNoState change closing
+  none_named (Ok u) (Ok v) r ok shown = (refl, refl)
+  none_named (Ok u) (Err error) r ok shown = absurd (error_is_no error (ok refl))
+  none_named (Err error) closing r ok shown = absurd (shown (error_hides error status r.0))
+
+  one_unnamed : (change closing : Result Unit SyncError) → ChangeReports change output status → (IsOk change → IsOk closing) → status ≡ Memory → NamesNoDirectory change closing ⊎ NamesNoState change closing
+  one_unnamed (Ok u) (Ok v) r ok m = inl refl
+  one_unnamed (Ok u) (Err error) r ok m = absurd (error_is_no error (ok refl))
+  one_unnamed (Err sync_error.Memory) (Ok v) r ok m = inl refl
+  one_unnamed (Err sync_error.Memory) (Err sync_error.Memory) r ok m = inl refl
+  one_unnamed (Err sync_error.Memory) (Err sync_error.FaultDirectory) r ok m = inr refl
+  one_unnamed (Err sync_error.Memory) (Err sync_error.FaultState) r ok m = inl refl
+  one_unnamed (Err sync_error.FaultDirectory) closing r ok m = absurd (directory_is_no (sym r.0 ∙ m))
+  one_unnamed (Err sync_error.FaultState) closing r ok m = absurd (state_is_no (sym r.0 ∙ m))
+
+-- ---- the directory and the record
+
+module _ {V : Type 0} {K : Type 0} (trace : V → Option (List Call)) (faults : V → ℕ) (G : KeeperGhosts K) (input output : Stream) (vault : V) (keeper : K) (ended : Ended V K) where
+  abbrev Named : Form → Type 0
+  Named form = FaultsNamed (Some form) (outside_of trace faults G vault keeper) (outside_of trace faults G ended.vault ended.keeper) ended.status
+
+  -- each count is as it was but where its fault is named, whatever the form
+  each_named : (form : Form) → (ended.status ≢ DirectoryFault → faults ended.vault ≡ faults vault) → (ended.status ≢ StateFault → G.faults ended.keeper ≡ G.faults keeper) → Named form
+  each_named form directory state = record {
+    directory_quiet = λ shown. directory;
+    state_quiet = λ shown. state;
+    memory = λ m. inl (directory (λ d. directory_is_no (sym d ∙ m)));
+  }
+
+  idle_named : (form : Form) → AreUncalled vault keeper ended → Named form
+  idle_named form u = each_named form (λ d. ap faults u.same_vault) (λ s. ap G.faults u.same_keeper)
+
+  unopened_named : (form : Form) (password : List ℕ) (error : OpenError) → IsUnopened trace faults G password vault keeper ended error → Named form
+  unopened_named form password error u =
+      each_named form (λ d. u.unopened.vault_quiet (λ e. d (u.status ∙ ap opening_status e))) (λ s. u.unopened.keeper_quiet (λ e. s (u.status ∙ ap opening_status e)))
+
+  -- the status tells the error that comes
+  told_error : (made : Result BlockId OpenError) (error : OpenError) → CreateReports made output ended.status → made ≡ Err error → ended.status ≡ opening_status error
+  told_error made error reports is = (subst (λ (m : Result BlockId OpenError). CreateReports m output ended.status) is reports).0
+
+  created_named : (form : Form) (cost : Cost) (block_size : ℕ) (draws : Draws) → Created trace faults G cost block_size draws input output vault keeper ended → Named form
+  created_named form cost block_size draws (inl u) = idle_named form u.uncalled
+  created_named form cost block_size draws (inr (password, after, has, unfailed, c)) =
+      each_named form (λ d. c.directory_quiet (λ e. d (told_error c.made FaultDirectory c.reports e))) (λ s. c.state_quiet (λ e. s (told_error c.made FaultState c.reports e)))
+
+  told_named : Told trace faults G input output vault keeper ended → Named Info
+  told_named (inl u) = idle_named Info u.uncalled
+  told_named (inr (password, after, has, unfailed, inl ((error, u), unwritten))) = unopened_named Info password error u
+  told_named (inr (password, after, has, unfailed, inr t)) = each_named Info (λ d. t.directory_quiet) (λ s. t.state_quiet)
+
+  one_of : (change closing : Result Unit SyncError) → (NamesNoDirectory change closing → faults ended.vault ≡ faults vault) → (NamesNoState change closing → G.faults ended.keeper ≡ G.faults keeper)
+      → NamesNoDirectory change closing ⊎ NamesNoState change closing → (faults ended.vault ≡ faults vault) ⊎ (G.faults ended.keeper ≡ G.faults keeper)
+  one_of change closing directory state (inl none) = inl (directory none)
+  one_of change closing directory state (inr none) = inr (state none)
+
+  changed_named : (chance left : Chance) → Changed trace faults G chance left input output vault keeper ended → Named Passwd
+  changed_named chance left (inl (u, same)) = idle_named Passwd u.uncalled
+  changed_named chance left (inr (old, new, has, unfailed, inl ((error, u), unwritten, same))) = unopened_named Passwd old error u
+  changed_named chance left (inr (old, new, has, unfailed, inr c)) =
+      let r = ends c.closing output c.told ended.status c.status c.change c.reports c.closed in
+      record {
+        directory_quiet = λ shown d. c.directory_quiet (none_named output ended.status c.change c.closing r c.closed shown).0;
+        state_quiet = λ shown s. c.state_quiet (none_named output ended.status c.change c.closing r c.closed shown).1;
+        memory = λ m. one_of c.change c.closing c.directory_quiet c.state_quiet (one_unnamed output ended.status c.change c.closing r c.closed m);
+      }
+
+-- ---- the input and the output
+
+-- which counts are as they were, by how the lines ended
+abbrev EndQuiet : End → Stream → Stream → Type 0
+EndQuiet line_end.Finished input output = IsUnfailed input × IsUnfailed output
+EndQuiet line_end.InputFault input output = IsUnfailed output
+EndQuiet line_end.OutputFault input output = IsUnfailed input
+
+ends_quiet : (script : Option (List ℕ)) (input output : Stream) (es : List Exchange) (end : End) → EndsAs 0 script input output es end → EndQuiet end input output
+ends_quiet script input output es line_end.Finished e = (e.input_quiet, e.output_quiet)
+ends_quiet script input output es line_end.InputFault e = e.output_quiet
+ends_quiet script input output es line_end.OutputFault e = e.input_quiet
+
+reported_quiet : (input output : Stream) (text : List ℕ) (end : End) → IsUnfailed input → Reported output text end → EndQuiet end input output
+reported_quiet input output text line_end.Finished unfailed r = (unfailed, r.1)
+reported_quiet input output text line_end.InputFault unfailed r = absurd r
+reported_quiet input output text line_end.OutputFault unfailed r = unfailed
+
+printed_quiet : (output : Stream) (text : List ℕ) (status : Status) → Printed output text status → status ≢ OutputFault → IsUnfailed output
+printed_quiet output text Done p o = p.1
+printed_quiet output text OutputFault p o = absurd (o refl)
+printed_quiet output text status p o = absurd p
+
+one_quiet : (input : Stream) (status : Status) → PasswordUnread input status → status ≢ InputFault → status ≢ LongPassword → IsUnfailed input
+one_quiet input LongPassword u i l = absurd (l refl)
+one_quiet input InputFault u i l = absurd (i refl)
+one_quiet input Memory u i l = u.1
+one_quiet input status u i l = absurd u
+
+both_quiet : (input : Stream) (status : Status) → PasswordsUnread input status → status ≢ InputFault → status ≢ LongPassword → IsUnfailed input
+both_quiet input LongPassword u i l = absurd (l refl)
+both_quiet input InputFault u i l = absurd (i refl)
+both_quiet input Memory u i l = u.1
+both_quiet input status u i l = absurd u
+
+made_quiet : (output : Stream) (made : Result BlockId OpenError) (status : Status) → CreateReports made output status → status ≢ OutputFault → IsUnfailed output
+made_quiet output (Ok id) status r o = printed_quiet output _ status r o
+made_quiet output (Err error) status r o = r.1.1
+
+change_quiet : (output : Stream) (change : Result Unit SyncError) (status : Status) → ChangeReports change output status → status ≢ OutputFault → IsUnfailed output
+change_quiet output (Ok u) status r o = printed_quiet output _ status r o
+change_quiet output (Err error) status r o = r.1.1
+
+module _ (input output : Stream) where
+  -- neither failed
+  neither : (status : Status) → IsUnfailed input → IsUnfailed output → StreamFaultsNamed input output status
+  neither status i o = record { input_quiet = λ _ _ _. i; output_quiet = λ _ _. o }
+
+  ended_named : (end : End) (status : Status) → status ≡ status_of end → EndQuiet end input output → StreamFaultsNamed input output status
+  ended_named line_end.Finished status e q = neither status q.0 q.1
+  ended_named line_end.InputFault status e q = record { input_quiet = λ i l v. absurd (i e); output_quiet = λ o v. q }
+  ended_named line_end.OutputFault status e q = record { input_quiet = λ i l v. q; output_quiet = λ o v. absurd (o e) }
+
+  served_named : (b : Bool) (end : End) (closing : Result Unit SyncError) (status : Status) → status ≡ session_status b end closing → EndQuiet end input output → StreamFaultsNamed input output status
+  served_named true end closing status e q = record { input_quiet = λ i l v. absurd (v e); output_quiet = λ o v. absurd (v e) }
+  served_named false line_end.Finished closing status e q = neither status q.0 q.1
+  served_named false line_end.InputFault closing status e q = record { input_quiet = λ i l v. absurd (i e); output_quiet = λ o v. q }
+  served_named false line_end.OutputFault closing status e q = record { input_quiet = λ i l v. q; output_quiet = λ o v. absurd (o e) }
+
+  tried_named : (now : Instant) (status : Status) → Tried now input output status → StreamFaultsNamed input output status
+  tried_named now status (inl none) = neither status none.1.1 none.2.1
+  tried_named now status (inr (end, e, es, trees, trial)) = ended_named end status e (ends_quiet input.old input output es end trial.ends)
+
+  generated_named : (now : Instant) (count : ℕ) (status : Status) → Untouched input → Generated now count output status → StreamFaultsNamed input output status
+  generated_named now count status untouched (inl none) = neither status untouched.1 none.1.1
+  generated_named now count status untouched (inr (end, e, answers, trees, g)) = ended_named end status e (reported_quiet input output _ end untouched.1 g.written)
+
+  module _ {V : Type 0} {K : Type 0} (trace : V → Option (List Call)) (faults : V → ℕ) (G : KeeperGhosts K) (vault : V) (keeper : K) (ended : Ended V K) where
+    abbrev StreamsNamed : Type 0
+    StreamsNamed = StreamFaultsNamed input output ended.status
+
+    unread_one : IsUnread (PasswordUnread input) output vault keeper ended → StreamsNamed
+    unread_one u = record { input_quiet = λ i l v. one_quiet input ended.status u.cause i l; output_quiet = λ o v. u.unwritten.1 }
+
+    created_streams : (cost : Cost) (block_size : ℕ) (draws : Draws) → Created trace faults G cost block_size draws input output vault keeper ended → StreamsNamed
+    created_streams cost block_size draws (inl u) = unread_one u
+    created_streams cost block_size draws (inr (password, after, has, unfailed, c)) = record { input_quiet = λ i l v. unfailed; output_quiet = λ o v. made_quiet output c.made ended.status c.reports o }
+
+    told_streams : Told trace faults G input output vault keeper ended → StreamsNamed
+    told_streams (inl u) = unread_one u
+    told_streams (inr (password, after, has, unfailed, inl ((error, u), unwritten))) = neither ended.status unfailed unwritten.1
+    told_streams (inr (password, after, has, unfailed, inr t)) = record { input_quiet = λ i l v. unfailed; output_quiet = λ o v. printed_quiet output _ ended.status t.printed o }
+
+    changed_streams : (chance left : Chance) → Changed trace faults G chance left input output vault keeper ended → StreamsNamed
+    changed_streams chance left (inl (u, same)) = record { input_quiet = λ i l v. both_quiet input ended.status u.cause i l; output_quiet = λ o v. u.unwritten.1 }
+    changed_streams chance left (inr (old, new, has, unfailed, inl ((error, u), unwritten, same))) = neither ended.status unfailed unwritten.1
+    changed_streams chance left (inr (old, new, has, unfailed, inr c)) = record {
+      input_quiet = λ i l v. unfailed;
+      output_quiet = λ o v. change_quiet output c.change ended.status (ends c.closing output c.told ended.status c.status c.change c.reports c.closed) o;
+    }
+
+    session_streams : (now : Instant) (Came : Option (List ℕ) → End → List Exchange → Type 0) → ((script : Option (List ℕ)) (end : End) (es : List Exchange) → Came script end es → EndQuiet end input output)
+        → Session trace faults G now Came input output vault keeper ended → StreamsNamed
+    session_streams now Came quiet (inl u) = unread_one u
+    session_streams now Came quiet (inr (password, script, has, inl ((error, u), unfailed, unwritten))) = neither ended.status unfailed unwritten.1
+    session_streams now Came quiet (inr (password, script, has, inr s)) = served_named (violated s.es) s.end s.closing ended.status s.status (quiet script s.end s.es s.came)
+
+-- ---- by its form
+
+module _ {V : Type 0} {K : Type 0} (trace : V → Option (List Call)) (faults : V → ℕ) (G : KeeperGhosts K) (words : List (List ℕ)) (now : Instant) (chance left : Chance) (input output : Stream) (vault : V) (keeper : K) (ended : Ended V K) where
+  abbrev Doing : Form → Type 0
+  Doing form = Does trace faults G words now chance left input output vault keeper ended form
+
+  pub doing_named : (form : Form) → is_session (Some form) ≡ false → Doing form → FaultsNamed (Some form) (outside_of trace faults G vault keeper) (outside_of trace faults G ended.vault ended.keeper) ended.status
+  doing_named Trial e d = idle_named trace faults G input output vault keeper ended Trial d.1
+  doing_named (TrialGenerate count) e d = idle_named trace faults G input output vault keeper ended (TrialGenerate count) d.2
+  doing_named (Create options) e d = created_named trace faults G input output vault keeper ended (Create options) options.params options.block_size (drawn chance).0 d.0
+  doing_named Info e d = told_named trace faults G input output vault keeper ended d.0
+  doing_named Passwd e d = changed_named trace faults G input output vault keeper ended chance left d.0
+  doing_named Shell e d = absurd (cc)
+  doing_named (Generate count) e d = absurd (cc)
+  doing_named Command e d = absurd (cc)
+
+  pub doing_streams : (form : Form) → Doing form → StreamFaultsNamed input output ended.status
+  doing_streams Trial d = tried_named input output now ended.status d.0
+  doing_streams (TrialGenerate count) d = generated_named input output now count ended.status d.1 d.0
+  doing_streams (Create options) d = created_streams input output trace faults G vault keeper ended options.params options.block_size (drawn chance).0 d.0
+  doing_streams Info d = told_streams input output trace faults G vault keeper ended d.0
+  doing_streams Passwd d = changed_streams input output trace faults G vault keeper ended chance left d.0
+  doing_streams Shell d = session_streams input output trace faults G vault keeper ended now (ComesShell input output) (λ script end es came. ends_quiet script input output es end came) d
+  doing_streams (Generate count) d = session_streams input output trace faults G vault keeper ended now (ComesGenerated count input output) (λ script end es came. reported_quiet input output _ end came.1 came.0.3) d
+  doing_streams Command d =
+      session_streams input output trace faults G vault keeper ended now (ComesCommand (joined words) input output) (λ script end es came. reported_quiet input output _ end came.1 came.0.2) d
