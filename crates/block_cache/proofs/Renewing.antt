@@ -6,7 +6,7 @@ use Rattle.std.specs.FinMap.{is_sorted, entries_sorted, get-entries}
 use Rattle.std.specs.FinMap.Entries.{find, below_all}
 use Rattle.std.specs.Cmp.{Equal-is}
 use Rattle.std.specs.Cmp.Lexicographic.{pointwise, texts_ties}
-use Rattle.block_id.proofs.Tests.{left, right}
+use Rattle.block_id.proofs.Conditions.{left, right}
 use Rattle.block_id.proofs.Options.{none_is}
 use Rattle.store_api.specs.Content.{Id, id_cmp, same_id, Changes}
 use Rattle.store_api.proofs.Rising.{ids_total, not_below}

@@ -1,5 +1,5 @@
 pub mod Names
 pub mod Candidates
-pub mod Tests
+pub mod Conditions
 pub mod Orders
 pub mod Options

@@ -4,7 +4,7 @@ use Rattle.std.specs.Prelude.{T}
 use Rattle.std.specs.Ordering.{is_eq, is_lt, ordering_reverse}
 use Rattle.std.specs.declared.cmp.Ordering.{Ordering}
 use Rattle.std.specs.declared.cmp.Ordering.TheVariants.{Less, Equal, Greater}
-use Rattle.block_id.proofs.Tests.{true_of}
+use Rattle.block_id.proofs.Conditions.{true_of}
 
 pub less_is : (r : Ordering) → is_lt r ≡ true → r ≡ Less
 less_is Less e = refl

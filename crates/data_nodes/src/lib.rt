@@ -5,7 +5,7 @@ mod node;
 mod reading;
 mod writing;
 
-pub use node::Node;
+pub use node::{HEADER_LEN, ID_LEN, NODE_FORMAT, Node};
 pub use reading::{one_reading, read_node};
 pub use writing::write_node;
 

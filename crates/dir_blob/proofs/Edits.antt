@@ -16,7 +16,7 @@ use Rattle.std.proofs.lemmas.List.Elements.{All-nil, All-head, All-tail, All-con
 use Rattle.std.proofs.lemmas.Nat.{le-div}
 use Rattle.std.proofs.Math.Nat.{div-mul-le_self}
 use Rattle.std.proofs.Math.Seq.{take-append-add, take-append_seam, drop-append_seam}
-use Rattle.block_id.proofs.Tests.{true_of}
+use Rattle.block_id.proofs.Conditions.{true_of}
 use Rattle.outcome.specs.Bytes.{zeros, resized, written, pieces}
 use Rattle.fs_model.specs.Tree.{name_cmp}
 use Rattle.fs_model.proofs.TreeLemmas.{name_total}

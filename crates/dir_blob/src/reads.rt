@@ -11,12 +11,12 @@ ghost use Rattle.dir_blob.specs.Directories.{IsDirectory};
 use crate::{Entry, decode_entries, locate};
 use blob_api::{Blobs, MAX_BLOB};
 use block_id::{BlockId, Fail, Why};
-use fs_blobs::read_body;
+use fs_blobs::{HEADER_LEN, read_body};
 use fs_model::{Attr, MAX_MODE, Name};
 use std::alloc::Global;
 
 /// Bytes of a body at most: those of a blob but for its header.
-const MAX_BODY: u64 = MAX_BLOB - 19;
+const MAX_BODY: u64 = MAX_BLOB - HEADER_LEN as u64;
 
 /// The body of a directory.
 pub fn whole_body<B: Blobs>(alloc: Global, b: &mut B, dir: &BlockId) -> Result<Vec<u8>, Fail>

@@ -14,7 +14,7 @@ use rand_core::Rng;
 use std::alloc::Global;
 
 /// Where a blob's body begins.
-const BODY_PLACE: u64 = 19;
+const BODY_PLACE: u64 = HEADER_LEN as u64;
 
 /// Where the id of the parent stands in a header.
 const PARENT_PLACE: u64 = 3;

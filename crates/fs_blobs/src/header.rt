@@ -11,7 +11,7 @@ use byte_fields::{take_id, take_u16};
 use fs_model::Kind;
 
 /// The format's number, with which each blob begins.
-const BLOB_FORMAT: u16 = 1;
+pub const BLOB_FORMAT: u16 = 1;
 
 /// The bytes before a blob's body: format, kind and parent.
 pub const HEADER_LEN: usize = 19;

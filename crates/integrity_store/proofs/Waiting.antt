@@ -7,7 +7,7 @@ use Rattle.std.specs.FinMap.{is_sorted}
 use Rattle.std.specs.FinMap.Entries.{find, below_all}
 use Rattle.std.specs.Ordering.{is_lt, is_eq}
 use Rattle.rand_core.specs.Stream.{Stream, fill_bytes}
-use Rattle.block_id.proofs.Tests.{left, right}
+use Rattle.block_id.proofs.Conditions.{left, right}
 use Rattle.outside.specs.Trace.{config, block}
 use Rattle.outside.specs.Names.{at_cmp}
 use Rattle.outside.specs.NameLaws.{at_total}

@@ -15,7 +15,7 @@ use Rattle.local_state.specs.declared.mark.Mark.{Mark}
 use Rattle.local_state.specs.Known.{Marks, FitsMark, FitMarks}
 use Rattle.local_state.specs.Record.{FitsEntry, FitsHead, Rise, comes_after, may_change, has_bytes}
 use Rattle.store_api.specs.Content.{Id, Changes}
-use Rattle.block_id.proofs.Tests.{left, right}
+use Rattle.block_id.proofs.Conditions.{left, right}
 use Rattle.integrity_store.specs.Applied.{mark_after, WaitsAfter, Applied}
 use Rattle.integrity_store.specs.BlockRecords.{Record, opened}
 use Rattle.integrity_store.specs.Held.{Held, waiting}

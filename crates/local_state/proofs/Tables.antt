@@ -16,7 +16,7 @@ use Rattle.std.proofs.lemmas.Bool.{ltb-true}
 use Rattle.std.proofs.lemmas.Grind.{common_steps}
 use Rattle.std.proofs.lemmas.List.{append-nil, nil_from_length}
 use Rattle.std.proofs.lemmas.List.Concat.{flat_map-cons}
-use Rattle.block_id.proofs.Tests.{true_of, left, right}
+use Rattle.block_id.proofs.Conditions.{true_of, left, right}
 use Rattle.block_id.proofs.Orders.{less_is}
 use Rattle.local_state.specs.declared.mark.Mark.{Mark}
 use Rattle.local_state.specs.Known.{Marks, zero_id, FitsMark, FitMarks, IsNext}

@@ -8,7 +8,7 @@ use Rattle.std.specs.FinMap.Entries.{find, below_all}
 use Rattle.std.specs.Cmp.{Equal-is}
 use Rattle.block_id.specs.Fresh.{zero_id}
 use Rattle.block_id.specs.declared.id.BlockId.{BlockId}
-use Rattle.block_id.proofs.Tests.{left, right}
+use Rattle.block_id.proofs.Conditions.{left, right}
 use Rattle.store_api.specs.declared.batch.BatchChange.{BatchChange}
 use Rattle.store_api.specs.Content.{Id, id_cmp, same_id, Changes}
 use Rattle.store_api.specs.Entries.{entries_of, change_view}

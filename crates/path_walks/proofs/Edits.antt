@@ -15,7 +15,7 @@ use Rattle.fs_model.specs.declared.attr.Kind.TheVariants.{Directory, File, Link}
 use Rattle.fs_model.specs.PathTexts.{is_zero}
 use Rattle.std.specs.List.{All, list_any}
 use Rattle.std.proofs.lemmas.List.Elements.{All-head, All-tail}
-use Rattle.block_id.proofs.Tests.{true_of}
+use Rattle.block_id.proofs.Conditions.{true_of}
 use Rattle.fs_model.specs.Names.{IsName}
 use Rattle.fs_model.specs.Tree.{Path, Tree, name_cmp, entry_size, entries_size, directory_size, FitsKind}
 use Rattle.fs_model.proofs.TreeLemmas.{same_name, name_total, name_exact, name_same, name_apart, name_split}

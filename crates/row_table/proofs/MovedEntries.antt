@@ -6,17 +6,16 @@ use Rattle.std.specs.declared.option.Option.TheVariants.{None, Some}
 use Rattle.std.specs.Global.{Box}
 use Rattle.std.specs.Cmp.{tied_itself}
 use Rattle.std.specs.Ordering.{is_eq}
-use Rattle.std.specs.FinMap as tree
 use Rattle.std.specs.FinMap.{get, is_sorted}
 use Rattle.std.proofs.Common.{T, length, ◌<◌, arith}
 use Rattle.std.proofs.lemmas.Option.{same_Some, none-some}
-use Rattle.fs_model.specs.Tree.{Path, Row, Tree, upward, path_cmp, name_cmp, same_path}
+use Rattle.fs_model.specs.Tree.{Path, Row, upward, path_cmp, name_cmp, same_path}
 use Rattle.fs_model.specs.Move.{strip, moved, move_entry}
-use Rattle.fs_model.proofs.TreeLemmas.{path_total, name_total}
+use Rattle.fs_model.proofs.TreeLemmas.{name_total}
 use Rattle.fs_model.proofs.MoveLemmas.{strip-append, find-moved}
 use Rattle.row_table.specs.declared.rows.Folder.{Folder}
 use Rattle.row_table.specs.declared.rows.Item.{Item}
-use Rattle.row_table.specs.Rows.{Names, item_row, item_entry, names_of, folder_entry, folders, inside, tree_of}
+use Rattle.row_table.specs.Rows.{Names, item_row, item_entry, names_of, folders, inside, tree_of}
 use Rattle.row_table.specs.Formed.{AllFull, IsOrdered}
 use Rattle.row_table.specs.Moves.{paired, IsBelowMoved}
 use Rattle.row_table.proofs.FlatLemmas.{get_named, get_root}

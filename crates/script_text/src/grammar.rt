@@ -59,15 +59,15 @@ fn sentence(alloc: Global, verb: Verb, words: &[&[u8]]) -> Result<Command, LineE
     ensures { Gives (λ command. command) result (sentence verb (map (λ w. w.now) words.now)) }
 {
     match verb {
-        Verb::List => Ok(Command::List(only_path(alloc, words)?)),
-        Verb::Stat => Ok(Command::Stat(only_path(alloc, words)?)),
-        Verb::Mkdir => Ok(Command::Mkdir(only_path(alloc, words)?)),
-        Verb::Rmdir => Ok(Command::Rmdir(only_path(alloc, words)?)),
-        Verb::Mkfile => Ok(Command::Mkfile(only_path(alloc, words)?)),
-        Verb::Rm => Ok(Command::Rm(only_path(alloc, words)?)),
+        Verb::List => only_path(alloc, words).map(Command::List),
+        Verb::Stat => only_path(alloc, words).map(Command::Stat),
+        Verb::Mkdir => only_path(alloc, words).map(Command::Mkdir),
+        Verb::Rmdir => only_path(alloc, words).map(Command::Rmdir),
+        Verb::Mkfile => only_path(alloc, words).map(Command::Mkfile),
+        Verb::Rm => only_path(alloc, words).map(Command::Rm),
         Verb::Mv => mv(alloc, words),
         Verb::Symlink => symlink(alloc, words),
-        Verb::Readlink => Ok(Command::Readlink(only_path(alloc, words)?)),
+        Verb::Readlink => only_path(alloc, words).map(Command::Readlink),
         Verb::Write => write(alloc, words),
         Verb::Read => read(alloc, words),
         Verb::Truncate => truncate(alloc, words),

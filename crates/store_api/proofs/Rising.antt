@@ -10,7 +10,7 @@ use Rattle.std.specs.Ordering.{is_eq, is_lt}
 use Rattle.std.specs.declared.cmp.Ordering.{Ordering}
 use Rattle.std.specs.declared.cmp.Ordering.TheVariants.{Less, Equal}
 use Rattle.block_id.proofs.Orders.{less_so}
-use Rattle.block_id.proofs.Tests.{left, right}
+use Rattle.block_id.proofs.Conditions.{left, right}
 use Rattle.block_id.specs.declared.id.BlockId.{BlockId}
 use Rattle.store_api.specs.declared.batch.BatchChange.{BatchChange}
 use Rattle.store_api.specs.Content.{Id, id_cmp, same_id}
