@@ -11,7 +11,7 @@ use Rattle.block_id.specs.Fresh.{zero_id}
 use Rattle.outside.specs.Trace.{At, Call}
 use Rattle.outside.specs.declared.keeper.Keeper.{Ghosts as KeeperGhosts}
 use Rattle.store_api.specs.Content.{Id, same_id}
-use Rattle.store_api.specs.Durables.{last_told}
+use Rattle.store_api.specs.Durables.{Identity, last_told}
 use Rattle.store_api.specs.Holdings.{has_id, is_free}
 use Rattle.store_api.proofs.Rising.{same_id_is}
 use Rattle.fs_model.specs.Tree.{empty_tree}
@@ -33,7 +33,7 @@ use Rattle.session_saver.specs.declared.saver.SyncError.TheVariants.{Memory as S
 use Rattle.tree_commands.specs.Performing.{Showing}
 use Rattle.mount_opening.specs.Opening.{Made, MadeConfig, OnlyRootRaised}
 use Rattle.mount.specs.declared.draws.Draws.{Draws}
-use Rattle.mount.specs.Making.{CreateCause, IsMade, KnowsOnly, new_settings, sealed_file}
+use Rattle.mount.specs.Making.{CreateCause, HasSalt, IsMade, KnowsOnly, new_settings, sealed_file}
 use Rattle.mount.specs.Opening.{error_of}
 use Rattle.mount.specs.Representing.{identity_for, HasEmptyList}
 use Rattle.mount.specs.Tower.{sealed_held, sealed_trace, sealed_meanings, sealed_holdings, sealed_durables}
@@ -58,6 +58,14 @@ knows_only {V = V} trace faults before after kept root first unused whole is rai
     let same = one_reading state h.state list [] l.has_record (listed_has h.state h.list false whole.0.has_record) (same_Some _ _ (sym l.kept ∙ is)) in
     let known : (id : Id) → version_in (fin.get state.marks id) ≡ (sealed_holdings trace).version after id = λ id. ap (λ (s : PlainState). version_in (fin.get s.marks id)) same.0 in
     (omega (arith, known root, raised.raised, none root), λ id other. known id ∙ (raised.rest id other ∙ none id))
+
+-- it has the salt that the store was opened with
+pub has_salt : {V : Type 0} (trace : V → Option (List Call)) (faults : V → ℕ) (after : IntegrityStore V Cipher) (kept : Option (List ℕ)) (c : Settings) (salt : List ℕ) → (sealed_meanings trace faults).intact after
+    → kept ≡ Some ((sealed_durables trace).record_of after false) → identity_of (sealed_held after) ≡ identity_for c salt → HasSalt kept salt
+has_salt trace faults after kept c salt whole is opened_as state list l =
+    let h = sealed_held after in
+    let same = one_reading state h.state list [] l.has_record (listed_has h.state h.list false whole.0.has_record) (some_same (sym l.kept ∙ is)) in
+    ap (λ (s : PlainState). s.key_salt) same.0 ∙ ap (λ (i : Identity). i.key_salt) opened_as
 
 pub make_cause : (kept : Option (List ℕ)) (t0 t1 : Option (List Call)) (v0 va v1 k0 ka k1 : ℕ) (result : Result Unit SyncError) (e : SyncError) → result ≡ Err e → v0 ≤ va → k0 ≤ ka
     → (result ≡ Err SyncDirectory → RoseBy 1 va v1) → (result ≡ Err SyncState → RoseBy 1 ka k1) → CreateCause kept t0 t1 v0 v1 k0 k1 (error_of e)

@@ -83,6 +83,10 @@ abbrev pub KnowsOnly : Option (List ℕ) → List ℕ → Type 0
 KnowsOnly kept root = (state : PlainState) (list : Changes) → IsLoaded kept state list
     → (version_in (fin.get state.marks root) ≤ 1) × ((id : List ℕ) → same_id id root ≡ false → version_in (fin.get state.marks id) ≡ 0)
 
+-- where a record without a violation is kept, the digest of the key in it has this salt
+abbrev pub HasSalt : Option (List ℕ) → List ℕ → Type 0
+HasSalt kept salt = (state : PlainState) (list : Changes) → IsLoaded kept state list → state.key_salt ≡ salt
+
 -- a store that holds nothing, of this configuration and salt; it is sound where no file was changed
 pub record IsNewStore {V : Type 0} (was : Option (List Call)) (failed : ℕ) (trace : V → Option (List Call)) (faults : V → ℕ) (c : Settings) (salt : List ℕ) (store : IntegrityStore V Cipher) : Type 0 where
   pub intact : (sealed_meanings trace faults).intact store

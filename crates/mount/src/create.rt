@@ -11,7 +11,7 @@ ghost use Rattle.outside.specs.Going.{GoesOn};
 ghost use Rattle.local_state.specs.Record.{HasRecord, plain_state};
 ghost use Rattle.tree_commands.specs.Showing.{ShowsFiles};
 ghost use Rattle.mount.specs.Drawing.{drawn};
-ghost use Rattle.mount.specs.Making.{CreateCause, Created, IsNewStore, IsUnchanged, KnowsOnly, StaysThere, StopsThere, new_settings, sealed_file, root_of};
+ghost use Rattle.mount.specs.Making.{CreateCause, Created, HasSalt, IsNewStore, IsUnchanged, KnowsOnly, StaysThere, StopsThere, new_settings, sealed_file, root_of};
 ghost use Rattle.mount.specs.Opening.{Reads};
 
 use crate::attach::open_error;
@@ -134,6 +134,7 @@ impl<V: Vault, K: Keeper> Mount<V, K> {
             (sealed_file password.now params.now (drawn (R.stream chance.old)).0.seal (new_settings block_size (drawn (R.stream chance.old)).0))
             (K.kept keeper) (K.kept result.2) (V.trace result.1) result.0 }
         ensures versions { OnOk result.0 (KnowsOnly (K.kept result.2) (root_of (drawn (R.stream chance.old)).0.root)) }
+        ensures salt { OnOk result.0 (HasSalt (K.kept result.2) (drawn (R.stream chance.old)).0.key_salt) }
         ensures id { IfOk result.0 (λ id. id.0 ≡ (drawn (R.stream chance.old)).0.fs_id) }
         ensures opens { IsOnly password.now (sealed_file password.now params.now (drawn (R.stream chance.old)).0.seal (new_settings block_size (drawn (R.stream chance.old)).0))
             (opened_as (new_settings block_size (drawn (R.stream chance.old)).0) params.now)

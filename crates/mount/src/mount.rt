@@ -87,6 +87,7 @@ impl<V: Vault, K: Keeper> Mount<V, K> {
             → (tower_meanings V.trace V.faults).forgeries self.new.core.blobs.tx.store ≤ (tower_meanings V.trace V.faults).forgeries self.old.core.blobs.tx.store
             → Answered ShowsFiles (tower_meanings V.trace V.faults) (tower_holdings V.trace) (tower_durables V.trace) records K.Keeper now self.new.core kept present command.now result }
         ensures stays { is_done_answer result ≡ false → Stays (tower_holdings V.trace) self.old.core.blobs.tx.store self.new.core.blobs.tx.store }
+        ensures stays_synced { is_sync command.now ≡ true → Stays (tower_holdings V.trace) self.old.core.blobs.tx.store self.new.core.blobs.tx.store }
         ensures configures { (may : List (List ℕ)) (present : List ℕ) → TowerConfigures V.trace K.Keeper self.old.core may present
             → ConfigAnswered (tower_holdings V.trace) (tower_durables V.trace) records K.Keeper self.new.core may present (is_violation result) }
         ensures goes_on { GoesOn (trace_in V.trace self.old.core.blobs.tx.store) (trace_in V.trace self.new.core.blobs.tx.store) }

@@ -348,6 +348,7 @@ impl<S: Durable, K: Keeper> Core<S, K> {
         ensures stands { (kept present : Tree) → self.old.violated ≡ false → Stands ShowsFiles S.meanings S.holdings S.durables S.records K.Keeper self.old kept present → S.meanings.forgeries self.new.blobs.tx.store ≤ S.meanings.forgeries self.old.blobs.tx.store
             → Answered ShowsFiles S.meanings S.holdings S.durables S.records K.Keeper now self.new kept present command.now result }
         ensures stays { is_done_answer result ≡ false → Stays S.holdings self.old.blobs.tx.store self.new.blobs.tx.store }
+        ensures stays_synced { is_sync command.now ≡ true → Stays S.holdings self.old.blobs.tx.store self.new.blobs.tx.store }
         ensures configures { (may : List (List ℕ)) (present : List ℕ) → Configures S.holdings S.durables S.records K.Keeper self.old may present
             → ConfigAnswered S.holdings S.durables S.records K.Keeper self.new may present (is_violation result) }
         ensures root { self.new.root ≡ self.old.root }

@@ -70,6 +70,7 @@ pub record MountAnswers {V : Type 0} {K : Type 0} (shows : Showing) (trace : V �
   pub stands : (kept present : Tree) → old.core.violated ≡ false → TowerStands shows trace faults G old.core kept present → forgeries_of trace faults new ≤ forgeries_of trace faults old
       → Answered shows trace faults G now new kept present asked answer
   pub stays : is_done_answer answer ≡ false → Stays (tower_holdings trace) (store_of old) (store_of new)
+  pub stays_synced : IfOk asked (λ command. is_sync command ≡ true → Stays (tower_holdings trace) (store_of old) (store_of new))
   pub configures : (may : List (List ℕ)) (present : List ℕ) → TowerConfigures trace G old.core may present
       → ConfigAnswered (tower_holdings trace) (tower_durables trace) records G new.core may present (is_violation answer)
   pub goes_on : GoesOn (calls_of trace old) (calls_of trace new)

@@ -219,6 +219,7 @@ module _ {V : Type 0} {K : Type 0} (shows : Showing) (trace : V → Option (List
               (subst (λ b. Left shows (tower_meanings trace faults) (tower_holdings trace) (tower_durables trace) records G mount.core kept present present false b) (sym (no_sync asked answer none)) (inl stands));
         };
         stays = λ e. stays_same (tower_holdings trace) (store_of mount);
+        stays_synced = if_ok asked _ (λ command is. stays_same (tower_holdings trace) (store_of mount));
         configures = λ may present c. subst (λ b. ConfigAnswered (tower_holdings trace) (tower_durables trace) records G mount.core may present b) (sym calm) c;
         goes_on = goes_on_same (calls_of trace mount);
         forgeries = omega arith;
@@ -300,6 +301,7 @@ module _ {V : Type 0} {K : Type 0} (shows : Showing) (trace : V → Option (List
               (long_not_synced asked reply long ∙ sym (memory_not_synced asked)) a.left;
         };
     stays = λ e. w.stays (long_not_done reply long);
+    stays_synced = w.stays_synced;
     configures = w.configures;
     goes_on = w.goes_on;
     forgeries = w.forgeries;

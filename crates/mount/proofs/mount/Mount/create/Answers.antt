@@ -12,11 +12,11 @@ use Rattle.tree_commands.specs.Showing.{ShowsFiles}
 use Rattle.mount.specs.declared.draws.Draws.{Draws}
 use Rattle.mount.specs.Drawing.{drawn}
 use Rattle.mount.specs.Opening.{error_of}
-use Rattle.mount.specs.Making.{CreateCause, IsMade, IsUnchanged, KnowsOnly, new_settings, sealed_file}
+use Rattle.mount.specs.Making.{CreateCause, HasSalt, IsMade, IsUnchanged, KnowsOnly, new_settings, sealed_file}
 use Rattle.mount.specs.Representing.{HasEmptyList}
 use Rattle.mount_opening.specs.Opening.{OnlyRootRaised}
 use Rattle.mount.specs.Tower.{sealed_held, sealed_holdings, sealed_durables}
-use Rattle.mount.proofs.Creating.{free_root, knows_only, made_ok, made_err, make_cause, opens_sealed}
+use Rattle.mount.proofs.Creating.{free_root, has_salt, knows_only, made_ok, made_err, make_cause, opens_sealed}
 use Rattle.mount.proofs.Quiet.{ok_err, start_directory, start_state}
 use Rattle.mount.proofs.Reading.{reads_told, reads_last}
 use Rattle.mount.proofs.mount.Mount.create.Goals as goal
@@ -176,3 +176,13 @@ returns-in-Ok-result-clause-versions g c =
     let raised = subst (λ r. OnOk r (OnlyRootRaised (sealed_holdings V.trace) before after config.root.0)) c.in-Ok-result.is y.versions in
     subst (KnowsOnly (g.K.Keeper.kept last)) (ap (λ (s : Settings). s.root) settings)
     (knows_only V.trace V.faults before after (g.K.Keeper.kept last) config.root.0 c.new_store-store.ensures.intact c.new_store-store.ensures.unused y.intact emptied raised)
+
+pub returns-in-Ok-result-clause-salt : goal.returns-in-Ok-result-clause-salt
+returns-in-Ok-result-clause-salt g c =
+    let V = g.V.Vault in
+    let y = c.make-result.ensures in
+    let after = c.make-result.result.1 in
+    let last = c.make-result.result.2 in
+    let emptied = subst (λ r. OnOk r (g.K.Keeper.kept last ≡ Some ((sealed_durables V.trace).record_of after false))) c.in-Ok-result.is y.emptied in
+    subst (HasSalt (g.K.Keeper.kept last)) (ap (λ (d : Draws). d.key_salt) c.draw-draws.ensures.draws)
+    (has_salt V.trace V.faults after (g.K.Keeper.kept last) (settings_of c.config_from-config.result) c.draw-draws.result.key_salt y.intact emptied (y.identity ∙ c.new_store-store.ensures.identity))

@@ -248,3 +248,7 @@ returns-in-Violation-clause-found g c =
     (λ why met. subst (λ (t : Tx g.row.S.Denot). FoundCause M H D changed old t.store why) (sym c.mark.ensures.store)
     (found_on M H D changed old mid new why (λ none. ap (λ (core : CoreOf g). core.blobs.tx.store) (r.unmoved none).1) r.wrote r.stays loads met))
     c.ask-answer.ensures.found
+
+pub returns-in-Ok-sync-clause-stays_synced : goal.returns-in-Ok-sync-clause-stays_synced
+returns-in-Ok-sync-clause-stays_synced g c is =
+    stays_on g.S.Blocks.holdings c.args.self.now.blobs.tx.store c.make_room.new.self.blobs.tx.store c.sync.new.self.blobs.tx.store c.make_room.ensures.stays c.sync.ensures.stays

@@ -26,6 +26,7 @@ returns-clause-answered g c =
                 (same_synced c.args.command.now c.answer.result) a.left;
           };
       stays = e.stays;
+      stays_synced = e.stays_synced;
       configures = e.configures;
       goes_on = e.goes_on;
       forgeries = e.forgeries;
