@@ -12,7 +12,7 @@ ghost use Rattle.integrity_store.specs.Standing.{records};
 ghost use Rattle.tree_commands.specs.Showing.{ShowsFiles};
 ghost use Rattle.tree_commands.specs.Sparing.{OnWriteInside};
 ghost use Rattle.mount_core.specs.Answers.{is_done_answer, is_structure, OnFound, OnReply, OnSpent};
-ghost use Rattle.mount_core.specs.Causes.{FoundCause, OnlyLoaded, SpentCause};
+ghost use Rattle.mount_core.specs.Causes.{FoundCause, MadeRoom, OnlyLoaded, SpentCause};
 ghost use Rattle.mount_core.specs.Configuring.{ConfigAnswered, ConfigClosed, ConfigSynced, Replaced};
 ghost use Rattle.tree_commands.specs.Performing.{is_sync, IsReplyTo};
 ghost use Rattle.mount_core.specs.Sparing.{FewRaised};
@@ -99,6 +99,7 @@ impl<V: Vault, K: Keeper> Mount<V, K> {
         ensures built { (kept present : Tree) → self.old.core.violated ≡ false → TowerStands ShowsFiles V.trace V.faults K.Keeper self.old.core kept present
             → (tower_meanings V.trace V.faults).forgeries self.new.core.blobs.tx.store ≤ (tower_meanings V.trace V.faults).forgeries self.old.core.blobs.tx.store → is_structure result ≡ false }
         ensures loads { OnlyLoaded (tower_meanings V.trace V.faults) (tower_holdings V.trace) (tower_durables V.trace) self.old.core.saver.changed (is_done_answer result) self.old.core.blobs.tx.store self.new.core.blobs.tx.store }
+        ensures room { self.old.core.violated ≡ false → is_sync command.now ≡ false → MadeRoom (tower_meanings V.trace V.faults) (tower_holdings V.trace) (tower_durables V.trace) self.old.core.saver.changed result self.old.core.blobs.tx.store self.new.core.blobs.tx.store }
         ensures found { OnFound result (FoundCause (tower_meanings V.trace V.faults) (tower_holdings V.trace) (tower_durables V.trace) self.old.core.saver.changed self.old.core.blobs.tx.store self.new.core.blobs.tx.store) }
         ensures unsaved { self.old.core.saver.changed ≡ false → is_violation result ≡ false → (self.new.core.saver.keeper ≡ self.old.core.saver.keeper) × (self.new.core.saver.last ≡ self.old.core.saver.last) }
         ensures unchanged { self.old.core.saver.changed ≡ false → is_violation result ≡ false → is_done_answer result ≡ false → self.new.core.saver.changed ≡ false }

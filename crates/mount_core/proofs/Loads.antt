@@ -1,11 +1,22 @@
 -- What a line made of its store, by its steps.
-use Rattle.std.proofs.Common.{◌≡◌, ◌⊎◌, Bool, false, refl, subst}
+use Rattle.std.proofs.Common.{◌≡◌, ◌⊎◌, ◌<◌, Bool, true, false, refl, subst}
+use Rattle.answers.specs.declared.answer.Answer.{Answer}
 use Rattle.block_id.specs.declared.fail.Why.{Why}
-use Rattle.mount_core.specs.Causes.{OnlyLoaded, FoundCause}
+use Rattle.mount_core.specs.Answers.{answer_of_sync, is_done_answer, is_performed}
+use Rattle.mount_core.specs.Causes.{OnlyLoaded, MadeRoom, FoundCause}
 use Rattle.outcome.specs.Meanings.{Meanings}
 use Rattle.session_saver.specs.Saving.{Wrote}
+use Rattle.session_saver.specs.declared.saver.SyncError.{SyncError}
+use Rattle.session_saver.specs.declared.saver.SyncError.TheVariants.{Memory as SyncMemory, FaultDirectory as SyncDirectory, FaultState as SyncState}
 use Rattle.store_api.specs.Durables.{Durables}
 use Rattle.store_api.specs.Holdings.{Holdings, Stays}
+use Rattle.store_api.specs.Lists.{waiting_bytes}
+
+unperformed : (e : SyncError) → is_performed (answer_of_sync e) ≡ true → ⊥
+unperformed SyncMemory h = cc
+unperformed SyncDirectory h = cc
+unperformed SyncState h = cc
+
 
 module _ {S : Type 0} (M : Meanings S) (H : Holdings S) (D : Durables S) where
   -- first a sync, or none
@@ -24,3 +35,17 @@ module _ {S : Type 0} (M : Meanings S) (H : Holdings S) (D : Durables S) where
   pub found_on : (changed : Bool) (old mid new : S) (why : Why) → (changed ≡ false → mid ≡ old) → (mid ≡ old) ⊎ Wrote D old mid → Stays H old mid → OnlyLoaded M H D false false mid new → M.met mid new why
       → FoundCause M H D changed old new why
   found_on changed old mid new why unsynced wrote stays l met = record { since = only_on changed false old mid new unsynced wrote stays l; met = met }
+
+  pub room_on : (changed : Bool) (answer : Answer) (old mid new : S) → (changed ≡ false → mid ≡ old) → (mid ≡ old) ⊎ Wrote D old mid → Stays H old mid → (waiting_bytes (D.list old) < 8388608 → mid ≡ old)
+      → waiting_bytes (D.list mid) < 8388608 → OnlyLoaded M H D false (is_done_answer answer) mid new → MadeRoom M H D changed answer old new
+  room_on changed answer old mid new unsynced wrote stays spared few l =
+      record { since = only_on changed (is_done_answer answer) old mid new unsynced wrote stays l; spared = spared; few = λ performed. few }
+
+  -- the sync failed
+  pub room_stopped : (changed : Bool) (e : SyncError) (old mid : S) → (changed ≡ false → mid ≡ old) → (mid ≡ old) ⊎ Wrote D old mid → Stays H old mid → (waiting_bytes (D.list old) < 8388608 → mid ≡ old)
+      → M.loaded mid mid → MadeRoom M H D changed (answer_of_sync e) old mid
+  room_stopped changed e old mid unsynced wrote stays spared same = record {
+    since = record { synced = mid; unsynced = unsynced; wrote = wrote; stays = stays; last = mid; loaded = same; undone = λ undone. refl; uncalled = refl };
+    spared = spared;
+    few = λ performed. absurd (unperformed e performed);
+  }

@@ -14,6 +14,16 @@ use Rattle.session_saver.specs.declared.saver.SyncError.{SyncError}
 use Rattle.session_saver.specs.declared.saver.SyncError.TheVariants.{Memory as SyncMemory, FaultDirectory as SyncDirectory, FaultState as SyncState}
 use Rattle.tree_commands.specs.Performing.{is_sync}
 
+-- the command was performed: the answer is a reply, a violation, or that a block has its last version
+abbrev pub is_performed : Answer → Bool
+is_performed (Replied r) = true
+is_performed (Violation why) = true
+is_performed Spent = true
+is_performed Memory = false
+is_performed FaultDirectory = false
+is_performed FaultState = false
+is_performed Refused = false
+
 -- an acknowledged sync
 abbrev pub is_synced : Command → Answer → Bool
 is_synced command answer = is_sync command && is_done_answer answer

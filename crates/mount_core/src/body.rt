@@ -1,5 +1,5 @@
 // What every session does, over any durable store and keeper.
-ghost use Rattle.std.specs.Prelude.{◌≡◌, ◌≢◌, ◌⊎◌, ◌≤◌, ◌+◌, ◌||◌, ◌↔◌, ℕ, List, true, false, length, IsErrOf, IsOk, IsTrue, OnOk, OnErr, IfOk, IfErr};
+ghost use Rattle.std.specs.Prelude.{◌≡◌, ◌≢◌, ◌⊎◌, ◌≤◌, ◌<◌, ◌+◌, ◌||◌, ◌↔◌, ℕ, List, true, false, length, IsErrOf, IsOk, IsTrue, OnOk, OnErr, IfOk, IfErr};
 ghost use Rattle.std.specs.declared.result.Result.TheVariants.{Err};
 ghost use Rattle.std.specs.declared.option.Option.TheVariants.{Some};
 ghost use Rattle.std.specs.FinMap as fin;
@@ -12,12 +12,12 @@ ghost use Rattle.session_saver.specs.Saving.{KeptConfigures, Whole, CanMark, Wro
 ghost use Rattle.store_api.specs.Content.{Content, SameContent};
 ghost use Rattle.store_api.specs.Durables.{Identity, with_mark};
 ghost use Rattle.store_api.specs.Holdings.{IsFew, IsSpent, Stays, gives_payload};
-ghost use Rattle.store_api.specs.Lists.{MayConfigure};
+ghost use Rattle.store_api.specs.Lists.{MayConfigure, waiting_bytes};
 ghost use Rattle.answers.specs.Sessions.{IsError, is_violation, directory_faults, state_faults};
 ghost use Rattle.tree_commands.specs.Showing.{ShowsFiles};
 ghost use Rattle.tree_commands.specs.Sparing.{OnWriteInside};
 ghost use Rattle.mount_core.specs.Answers.{is_structure, is_done_answer, answer_of_fail, answer_of_sync, OnReply, OnSpent, OnFound};
-ghost use Rattle.mount_core.specs.Causes.{SpentCause, OnlyLoaded, FoundCause};
+ghost use Rattle.mount_core.specs.Causes.{SpentCause, OnlyLoaded, MadeRoom, FoundCause};
 ghost use Rattle.mount_core.specs.Configuring.{Configures, ConfigSynced, ConfigAnswered, ConfigClosed, Replaced, KeptOneOf};
 ghost use Rattle.fs_model.specs.Laws.{OnlyLooks};
 ghost use Rattle.tree_commands.specs.Performing.{is_sync, IsReplyTo};
@@ -138,6 +138,8 @@ impl<S: Durable, K: Keeper> Core<S, K> {
         ensures configures { (may : List (List ℕ)) (now : List ℕ) → Configures S.holdings S.durables S.records K.Keeper self.old may now → Configures S.holdings S.durables S.records K.Keeper self.new may now }
         ensures unmoved { self.old.saver.changed ≡ false → IsOk result × (self.new ≡ self.old) }
         ensures once { OnOk result ((self.new ≡ self.old) ⊎ (self.new.saver.changed ≡ false)) }
+        ensures few { OnOk result (waiting_bytes (S.durables.list self.new.blobs.tx.store) < 8388608) }
+        ensures spared { waiting_bytes (S.durables.list self.old.blobs.tx.store) < 8388608 → IsOk result × (self.new ≡ self.old) }
         ensures wrote { (self.new.blobs.tx.store ≡ self.old.blobs.tx.store) ⊎ Wrote S.durables self.old.blobs.tx.store self.new.blobs.tx.store }
         ensures stays { Stays S.holdings self.old.blobs.tx.store self.new.blobs.tx.store }
         ensures sound { S.meanings.sound self.old.blobs.tx.store → S.meanings.sound self.new.blobs.tx.store }
@@ -361,6 +363,7 @@ impl<S: Durable, K: Keeper> Core<S, K> {
         ensures alarm { (kept present : Tree) → self.old.violated ≡ false → Stands ShowsFiles S.meanings S.holdings S.durables S.records K.Keeper self.old kept present → S.meanings.lies self.new.blobs.tx.store ≤ S.meanings.lies self.old.blobs.tx.store → is_violation result ≡ false }
         ensures built { (kept present : Tree) → self.old.violated ≡ false → Stands ShowsFiles S.meanings S.holdings S.durables S.records K.Keeper self.old kept present → S.meanings.forgeries self.new.blobs.tx.store ≤ S.meanings.forgeries self.old.blobs.tx.store → is_structure result ≡ false }
         ensures loads { OnlyLoaded S.meanings S.holdings S.durables self.old.saver.changed (is_done_answer result) self.old.blobs.tx.store self.new.blobs.tx.store }
+        ensures room { self.old.violated ≡ false → is_sync command.now ≡ false → MadeRoom S.meanings S.holdings S.durables self.old.saver.changed result self.old.blobs.tx.store self.new.blobs.tx.store }
         ensures found { OnFound result (FoundCause S.meanings S.holdings S.durables self.old.saver.changed self.old.blobs.tx.store self.new.blobs.tx.store) }
         ensures unsaved { self.old.saver.changed ≡ false → is_violation result ≡ false → (self.new.saver.keeper ≡ self.old.saver.keeper) × (self.new.saver.last ≡ self.old.saver.last) }
         ensures unchanged { self.old.saver.changed ≡ false → is_violation result ≡ false → is_done_answer result ≡ false → self.new.saver.changed ≡ false }

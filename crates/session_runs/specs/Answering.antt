@@ -15,7 +15,7 @@ use Rattle.answers.specs.Sessions.{Asked, FollowsAsked, is_violation, is_synced,
 use Rattle.store_api.specs.Holdings.{Stays}
 use Rattle.integrity_store.specs.Standing.{records}
 use Rattle.mount_core.specs.Answers.{is_done_answer, is_structure, OnFound, OnReply, OnSpent}
-use Rattle.mount_core.specs.Causes.{FoundCause, OnlyLoaded, SpentCause}
+use Rattle.mount_core.specs.Causes.{FoundCause, MadeRoom, OnlyLoaded, SpentCause}
 use Rattle.mount_core.specs.Configuring.{ConfigAnswered}
 use Rattle.tree_commands.specs.Performing.{Showing, is_sync, IsReplyTo}
 use Rattle.tree_commands.specs.Sparing.{OnWriteInside}
@@ -80,6 +80,7 @@ pub record MountAnswers {V : Type 0} {K : Type 0} (shows : Showing) (trace : V �
   pub alarm : (kept present : Tree) → old.core.violated ≡ false → TowerStands shows trace faults G old.core kept present → lies_of trace faults new ≤ lies_of trace faults old → is_violation answer ≡ false
   pub built : (kept present : Tree) → old.core.violated ≡ false → TowerStands shows trace faults G old.core kept present → forgeries_of trace faults new ≤ forgeries_of trace faults old → is_structure answer ≡ false
   pub loads : OnlyLoaded (tower_meanings trace faults) (tower_holdings trace) (tower_durables trace) old.core.saver.changed (is_done_answer answer) (store_of old) (store_of new)
+  pub room : IfOk asked (λ command. old.core.violated ≡ false → is_sync command ≡ false → MadeRoom (tower_meanings trace faults) (tower_holdings trace) (tower_durables trace) old.core.saver.changed answer (store_of old) (store_of new))
   pub found : OnFound answer (FoundCause (tower_meanings trace faults) (tower_holdings trace) (tower_durables trace) old.core.saver.changed (store_of old) (store_of new))
   -- where nothing had changed since the last sync: nothing was saved, only the reply Done came with a change, and a sync did nothing
   pub unsaved : old.core.saver.changed ≡ false → is_violation answer ≡ false → (new.core.saver.keeper ≡ old.core.saver.keeper) × (new.core.saver.last ≡ old.core.saver.last)

@@ -21,7 +21,7 @@ use Rattle.answers.proofs.Looked.{long_stays}
 use Rattle.store_api.specs.Holdings.{Holdings, Stays}
 use Rattle.integrity_store.specs.Standing.{records}
 use Rattle.mount_core.specs.Answers.{is_done_answer, is_structure, OnFound, OnReply, OnSpent}
-use Rattle.mount_core.specs.Causes.{OnlyLoaded}
+use Rattle.mount_core.specs.Causes.{MadeRoom, OnlyLoaded}
 use Rattle.mount_core.specs.Configuring.{ConfigAnswered}
 use Rattle.tree_commands.specs.Performing.{Showing, IsReplyTo}
 use Rattle.tree_commands.specs.Performing as performing
@@ -100,7 +100,7 @@ none_raised H s payload tree (Write p from bytes) = λ row there file least most
 none_raised H s payload tree _ = tt
 
 -- where nothing was done, nothing was loaded or written
-only_same : {V : Type 0} (trace : V → Option (List Call)) (faults : V → ℕ) (s : Cached V) (changed done : Bool) → OnlyLoaded (tower_meanings trace faults) (tower_holdings trace) (tower_durables trace) changed done s s
+abbrev only_same : {V : Type 0} (trace : V → Option (List Call)) (faults : V → ℕ) (s : Cached V) (changed done : Bool) → OnlyLoaded (tower_meanings trace faults) (tower_holdings trace) (tower_durables trace) changed done s s
 only_same trace faults s changed done = record {
   synced = s;
   unsynced = λ e. refl;
@@ -111,6 +111,9 @@ only_same trace faults s changed done = record {
   undone = λ e. refl;
   uncalled = refl;
 }
+
+room_same : {V : Type 0} (trace : V → Option (List Call)) (faults : V → ℕ) (s : Cached V) (changed : Bool) → MadeRoom (tower_meanings trace faults) (tower_holdings trace) (tower_durables trace) changed Memory s s
+room_same trace faults s changed = record { since = only_same trace faults s changed false; spared = λ few. refl; few = λ performed. absurd (true_is_false (sym performed)) }
 
 -- ---- nothing was done
 
@@ -201,8 +204,9 @@ module _ {V : Type 0} {K : Type 0} (shows : Showing) (trace : V → Option (List
   idle : (mount : Mount V K) (asked : Asked) (answer : Answer) → IsNo answer → (mount.core.violated ≡ true → answer ≡ Refused) → (mount.core.violated ≡ false → answer ≢ Refused)
       → IfErr asked (λ error. IsUnread error answer × (mount ≡ mount)) → ((tree : Tree) → mount.core.violated ≡ false → FollowsAsked now tree asked answer tree)
       → IfOk asked (λ command. performing.is_sync command ≡ true → mount.core.violated ≡ false → mount.core.saver.changed ≡ false → ((answer ≡ Replied Done) ⊎ (answer ≡ Memory)) × (mount ≡ mount))
+      → IfOk asked (λ command. mount.core.violated ≡ false → performing.is_sync command ≡ false → MadeRoom (tower_meanings trace faults) (tower_holdings trace) (tower_durables trace) mount.core.saver.changed answer (store_of mount) (store_of mount))
       → MountAnswers shows trace faults G now mount asked answer mount
-  idle mount asked answer none refuses serves unread follows unmoved =
+  idle mount asked answer none refuses serves unread follows unmoved room =
       let calm = no_violation answer none in
       let d = no_directory answer none in
       let s = no_state answer none in
@@ -228,6 +232,7 @@ module _ {V : Type 0} {K : Type 0} (shows : Showing) (trace : V → Option (List
         alarm = λ kept present f stands few. calm;
         built = λ kept present f stands few. no_structure answer none;
         loads = only_same trace faults (store_of mount) mount.core.saver.changed (is_done_answer answer);
+        room = room;
         found = no_found answer _ none;
         unsaved = λ e f. (refl, refl);
         unchanged = λ e f d. e;
@@ -258,16 +263,16 @@ module _ {V : Type 0} {K : Type 0} (shows : Showing) (trace : V → Option (List
   pub refused : (mount : Mount V K) (asked : Asked) → mount.core.violated ≡ true → MountAnswers shows trace faults G now mount asked Refused mount
   refused mount asked v =
       idle mount asked Refused tt (λ t. refl) (λ f. absurd (true_is_false (sym v ∙ f))) (refused_unread mount asked) (λ tree f. absurd (true_is_false (sym v ∙ f)))
-      (if_ok asked _ (λ command is f. absurd (true_is_false (sym v ∙ f))))
+      (if_ok asked _ (λ command is f. absurd (true_is_false (sym v ∙ f)))) (if_ok asked _ (λ command f is. absurd (true_is_false (sym v ∙ f))))
 
   pub bad : (mount : Mount V K) (error : FsError) → mount.core.violated ≡ false → MountAnswers shows trace faults G now mount (Err error) (Replied (Error error)) mount
   bad mount error v =
-      idle mount (Err error) (Replied (Error error)) tt (λ t. absurd (true_is_false (sym t ∙ v))) (λ f. reply_not_refused (Error error)) (inl refl, refl) (λ tree f. (inl refl, refl)) tt
+      idle mount (Err error) (Replied (Error error)) tt (λ t. absurd (true_is_false (sym t ∙ v))) (λ f. reply_not_refused (Error error)) (inl refl, refl) (λ tree f. (inl refl, refl)) tt tt
 
   pub wanting : (mount : Mount V K) (asked : Asked) → mount.core.violated ≡ false → MountAnswers shows trace faults G now mount asked Memory mount
   wanting mount asked v =
       idle mount asked Memory tt (λ t. absurd (true_is_false (sym t ∙ v))) (λ f. memory_not_refused) (memory_unread mount asked) (λ tree f. memory_follows tree asked)
-      (if_ok asked _ (λ command is f none. (inr refl, refl)))
+      (if_ok asked _ (λ command is f none. (inr refl, refl))) (if_ok asked _ (λ command f is. room_same trace faults (store_of mount) mount.core.saver.changed))
 
   -- ---- a reply whose text finds no memory
 
@@ -284,6 +289,28 @@ module _ {V : Type 0} {K : Type 0} (shows : Showing) (trace : V → Option (List
       → IfOk asked (λ command. performing.is_sync command ≡ true → old.core.violated ≡ false → old.core.saver.changed ≡ false → ((Memory ≡ Replied Done) ⊎ (Memory ≡ Memory)) × (new ≡ old))
   unsaid_unmoved old new (Ok command) reply w = λ is fresh none. (inr refl, (w is fresh none).1)
   unsaid_unmoved old new (Err error) reply w = tt
+
+  unsaid_room : (old new : Mount V K) (asked : Asked) (reply : Reply) → IsLong reply
+      → IfOk asked (λ command. old.core.violated ≡ false → performing.is_sync command ≡ false → MadeRoom (tower_meanings trace faults) (tower_holdings trace) (tower_durables trace) old.core.saver.changed (Replied reply) (store_of old) (store_of new))
+      → IfOk asked (λ command. old.core.violated ≡ false → performing.is_sync command ≡ false → MadeRoom (tower_meanings trace faults) (tower_holdings trace) (tower_durables trace) old.core.saver.changed Memory (store_of old) (store_of new))
+  unsaid_room old new (Ok command) reply long w = λ f is.
+      let r = w f is in
+      let l = r.since in
+      record {
+        since = record {
+          synced = l.synced;
+          unsynced = l.unsynced;
+          wrote = l.wrote;
+          stays = l.stays;
+          last = l.last;
+          loaded = l.loaded;
+          undone = λ e. l.undone (long_not_done reply long);
+          uncalled = l.uncalled;
+        };
+        spared = r.spared;
+        few = λ performed. absurd (true_is_false (sym performed));
+      }
+  unsaid_room old new (Err error) reply long w = tt
 
   pub unsaid : (old new : Mount V K) (asked : Asked) (reply : Reply) → IsLong reply → MountAnswers shows trace faults G now old asked (Replied reply) new → MountAnswers shows trace faults G now old asked Memory new
   unsaid old new asked reply long w = record {
@@ -310,6 +337,7 @@ module _ {V : Type 0} {K : Type 0} (shows : Showing) (trace : V → Option (List
     alarm = λ kept present f stands few. refl;
     built = λ kept present f stands few. refl;
     loads = subst (λ d. OnlyLoaded (tower_meanings trace faults) (tower_holdings trace) (tower_durables trace) old.core.saver.changed d (store_of old) (store_of new)) (long_not_done reply long) w.loads;
+    room = unsaid_room old new asked reply long w.room;
     found = tt;
     unsaved = λ e f. w.unsaved e refl;
     unchanged = λ e f d. w.unchanged e refl (long_not_done reply long);

@@ -6,11 +6,11 @@ use Rattle.tree_commands.specs.Sparing.{OnWriteInside}
 use Rattle.mount_core.specs.declared.body.Core.{Core}
 use Rattle.answers.specs.Sessions.{is_violation, directory_faults, state_faults}
 use Rattle.mount_core.specs.Answers.{is_done_answer}
-use Rattle.mount_core.specs.Causes.{SpentCause, OnlyLoaded, FoundCause}
+use Rattle.mount_core.specs.Causes.{SpentCause, OnlyLoaded, MadeRoom, FoundCause}
 use Rattle.mount_core.specs.Sparing.{FewRaised}
 use Rattle.mount_core.specs.Configuring.{ConfigAnswered}
 use Rattle.mount_core.specs.Standing.{Roomed, Answered}
-use Rattle.mount_core.proofs.Loads.{only_on, found_on}
+use Rattle.mount_core.proofs.Loads.{only_on, found_on, room_on, room_stopped}
 use Rattle.mount_core.proofs.Lines.{found_map, answered_err, answered_synced, answered_performed, answered_violation, roomed_on, stays_on, no_violation, spent_on, config_marked, config_calm, marked_or, true_is_false}
 use Rattle.mount_core.proofs.Versions.{Raised, raised_stays, raised_on, few_stays, few_on, always_inside, on_inside, spent_before}
 use Rattle.outside.specs.Going.{GoesOn, goes_on_onward}
@@ -252,3 +252,43 @@ returns-in-Violation-clause-found g c =
 pub returns-in-Ok-sync-clause-stays_synced : goal.returns-in-Ok-sync-clause-stays_synced
 returns-in-Ok-sync-clause-stays_synced g c is =
     stays_on g.S.Blocks.holdings c.args.self.now.blobs.tx.store c.make_room.new.self.blobs.tx.store c.sync.new.self.blobs.tx.store c.make_room.ensures.stays c.sync.ensures.stays
+
+pub returns-in-Err-clause-room : goal.returns-in-Err-clause-room
+returns-in-Err-clause-room g c fresh other =
+    let M = g.S.Blocks.meanings in
+    let H = g.S.Blocks.holdings in
+    let D = g.S.Durable.durables in
+    let changed = c.args.self.now.saver.changed in
+    let old = c.args.self.now.blobs.tx.store in
+    let mid = c.make_room.new.self.blobs.tx.store in
+    let r = c.make_room.ensures in
+    subst (λ a. MadeRoom M H D changed a old mid) (sym c.sync_answer.ensures)
+    (room_stopped M H D changed c.in-Err.error old mid (λ none. ap (λ (core : CoreOf g). core.blobs.tx.store) (r.unmoved none).1) r.wrote r.stays (λ few. ap (λ (core : CoreOf g). core.blobs.tx.store) (r.spared few).1)
+    (g.met.S.Blocks.lawful.same mid))
+
+pub returns-in-Violation-clause-room : goal.returns-in-Violation-clause-room
+returns-in-Violation-clause-room g c fresh other =
+    let M = g.S.Blocks.meanings in
+    let H = g.S.Blocks.holdings in
+    let D = g.S.Durable.durables in
+    let changed = c.args.self.now.saver.changed in
+    let old = c.args.self.now.blobs.tx.store in
+    let mid = c.make_room.new.self.blobs.tx.store in
+    let new = c.ask-answer.new.self.blobs.tx.store in
+    let r = c.make_room.ensures in
+    subst (λ (t : Tx g.row.S.Denot). MadeRoom M H D changed c.ask-answer.result old t.store) (sym c.mark.ensures.store)
+    (room_on M H D changed c.ask-answer.result old mid new (λ none. ap (λ (core : CoreOf g). core.blobs.tx.store) (r.unmoved none).1) r.wrote r.stays (λ few. ap (λ (core : CoreOf g). core.blobs.tx.store) (r.spared few).1)
+    c.in-Ok.ensures.few c.ask-answer.ensures.loads)
+
+pub returns-in_default-clause-room : goal.returns-in_default-clause-room
+returns-in_default-clause-room g c fresh other =
+    let M = g.S.Blocks.meanings in
+    let H = g.S.Blocks.holdings in
+    let D = g.S.Durable.durables in
+    let changed = c.args.self.now.saver.changed in
+    let old = c.args.self.now.blobs.tx.store in
+    let mid = c.make_room.new.self.blobs.tx.store in
+    let new = c.ask-answer.new.self.blobs.tx.store in
+    let r = c.make_room.ensures in
+    room_on M H D changed c.ask-answer.result old mid new (λ none. ap (λ (core : CoreOf g). core.blobs.tx.store) (r.unmoved none).1) r.wrote r.stays (λ few. ap (λ (core : CoreOf g). core.blobs.tx.store) (r.spared few).1)
+    c.in-Ok.ensures.few c.ask-answer.ensures.loads

@@ -35,6 +35,7 @@ returns-clause-answered g c =
       alarm = e.alarm;
       built = e.built;
       loads = e.loads;
+      room = e.room;
       found = e.found;
       unsaved = e.unsaved;
       unchanged = e.unchanged;
