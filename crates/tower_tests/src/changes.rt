@@ -3,6 +3,7 @@ ghost use Rattle.std.specs.Prelude.{◌≡◌, true, IfOk};
 ghost use Rattle.store_api.specs.Holdings.{IsFew, MayGet};
 ghost use Rattle.store_api.specs.Lists.{MayConfigure};
 
+use crate::tower::Tower;
 use block_id::BlockId;
 use outside::Keeper;
 use rand_pcg::Pcg32;
@@ -75,7 +76,11 @@ fn change_all<S: Blocks>(alloc: Global, tx: &mut Tx<S>, changes: &[Change]) -> R
     Ok(())
 }
 
-fn commit_all<S: BlocksMut>(alloc: Global, tx: &mut Tx<S>, changes: &[Change]) -> Result<(), Fail>
+pub(crate) fn commit_all<S: BlocksMut>(
+    alloc: Global,
+    tx: &mut Tx<S>,
+    changes: &[Change],
+) -> Result<(), Fail>
     requires { ⟦<Tx<S> as Blocks>⟧.meanings.intact tx.old }
     ensures { ⟦<Tx<S> as Blocks>⟧.meanings.intact tx.new }
 {
@@ -85,17 +90,20 @@ fn commit_all<S: BlocksMut>(alloc: Global, tx: &mut Tx<S>, changes: &[Change]) -
 }
 
 // The store after these changes.
-fn changed<S: BlocksMut + Drop>(alloc: Global, store: S, changes: &[Change]) -> Result<S, Fail>
-    requires intact { S.Blocks.meanings.intact store }
-    requires few { IsFew (S.Blocks.holdings.used store) }
-    ensures { IfOk result (λ store. S.Blocks.meanings.intact store) }
+fn changed<S: Tower>(alloc: Global, store: S, changes: &[Change]) -> Result<S, Fail>
+    requires intact { S.Durable.meanings.intact store }
+    requires few { IsFew (S.Durable.holdings.used store) }
+    ensures { IfOk result (λ store. S.Durable.meanings.intact store) }
 {
     let mut tx = Tx::new(alloc, store);
     let outcome = commit_all(alloc, &mut tx, changes);
     let store = tx.into_store();
     match outcome {
         Ok(()) => Ok(store),
-        Err(fail) => Err(fail),
+        Err(fail) => {
+            drop(store.into_vault());
+            Err(fail)
+        }
     }
 }
 
@@ -108,8 +116,13 @@ pub(crate) struct Ended<S, K> {
 }
 
 // Two syncs of a store that was changed.
-fn sync_twice<S: Durable, K: Keeper>(alloc: Global, mut store: S, keeper: K) -> Ended<S, K>
+pub(crate) fn sync_twice<S: Durable, K: Keeper>(
+    alloc: Global,
+    mut store: S,
+    keeper: K,
+) -> Ended<S, K>
     requires { S.Durable.meanings.intact store }
+    ensures { S.Durable.meanings.intact result.store }
 {
     let mut saver = Saver {
         keeper,
@@ -132,7 +145,7 @@ fn sync_twice<S: Durable, K: Keeper>(alloc: Global, mut store: S, keeper: K) -> 
 }
 
 /// Makes the changes, all at once, and syncs twice.
-pub(crate) fn change_and_sync<S: Durable + Drop, K: Keeper + Drop>(
+pub(crate) fn change_and_sync<S: Tower, K: Keeper + Drop>(
     alloc: Global,
     store: S,
     keeper: K,
@@ -177,7 +190,7 @@ fn configure<S: Durable>(alloc: Global, store: &mut S, bytes: &[u8]) -> Result<(
 }
 
 /// Makes the changes, all at once, has the configuration wait, and syncs twice.
-pub(crate) fn configure_and_sync<S: Durable + Drop, K: Keeper + Drop>(
+pub(crate) fn configure_and_sync<S: Tower, K: Keeper + Drop>(
     alloc: Global,
     store: S,
     keeper: K,
@@ -188,9 +201,17 @@ pub(crate) fn configure_and_sync<S: Durable + Drop, K: Keeper + Drop>(
     requires few { IsFew (S.Durable.holdings.used store) }
 {
     let mut store = changed(alloc, store, changes)?;
-    configure(alloc, &mut store, bytes)?;
-    let sizes = sizes_of(alloc, &store)?;
-    Ok((sizes, sync_twice(alloc, store, keeper)))
+    let sizes = match configure(alloc, &mut store, bytes) {
+        Ok(()) => sizes_of(alloc, &store),
+        Err(fail) => Err(fail),
+    };
+    match sizes {
+        Ok(sizes) => Ok((sizes, sync_twice(alloc, store, keeper))),
+        Err(fail) => {
+            drop(store.into_vault());
+            Err(fail)
+        }
+    }
 }
 
 fn follow_and_commit<S: BlocksMut>(
@@ -207,7 +228,7 @@ fn follow_and_commit<S: BlocksMut>(
 }
 
 /// Gives a block the payload of the one that it names, and syncs twice. Says whether both were there.
-pub(crate) fn follow_and_sync<S: Durable + Drop, K: Keeper + Drop>(
+pub(crate) fn follow_and_sync<S: Tower, K: Keeper + Drop>(
     alloc: Global,
     store: S,
     keeper: K,
@@ -221,6 +242,9 @@ pub(crate) fn follow_and_sync<S: Durable + Drop, K: Keeper + Drop>(
     let store = tx.into_store();
     match outcome {
         Ok(found) => Ok((found, sync_twice(alloc, store, keeper))),
-        Err(fail) => Err(fail),
+        Err(fail) => {
+            drop(store.into_vault());
+            Err(fail)
+        }
     }
 }

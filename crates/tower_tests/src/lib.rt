@@ -10,6 +10,12 @@ pub use reopening::{Reopened, Seal, put_reopen_load};
 #[cfg(test)]
 mod changes;
 #[cfg(test)]
+mod each_store;
+#[cfg(test)]
+mod promises;
+#[cfg(test)]
 mod site;
 #[cfg(test)]
 mod tests;
+#[cfg(test)]
+mod tower;

@@ -21,7 +21,7 @@ use std::alloc::Global;
 use std::test::Fail;
 use store_api::Blocks;
 
-type Store = IntegrityStore<MemoryVault, Aes256Gcm>;
+pub(crate) type Store = IntegrityStore<MemoryVault, Aes256Gcm>;
 
 /// What a load answered: the first byte of the payload.
 pub(crate) type Loaded = Result<Option<u8>, block_id::Fail>;
@@ -43,7 +43,7 @@ fn empty_record(alloc: Global) -> Result<Vec<u8>, Fail> {
     Ok(out)
 }
 
-fn first_byte(loaded: Result<Option<Vec<u8>>, block_id::Fail>) -> Loaded {
+pub(crate) fn first_byte(loaded: Result<Option<Vec<u8>>, block_id::Fail>) -> Loaded {
     match loaded {
         Ok(Some(bytes)) => Ok(bytes.first().copied()),
         Ok(None) => Ok(None),
@@ -67,7 +67,7 @@ fn sealed_over(
 }
 
 // The store that this record is of.
-fn open(alloc: Global, vault: MemoryVault, record: &[u8]) -> Result<Store, Fail>
+pub(crate) fn open(alloc: Global, vault: MemoryVault, record: &[u8]) -> Result<Store, Fail>
     ensures intact { IfOk result (λ store. ⟦<Store as Blocks>⟧.meanings.intact store) }
     ensures few { IfOk result (λ store. IsFew (⟦<Store as Blocks>⟧.holdings.used store)) }
 {

@@ -1,0 +1,53 @@
+// Durable stores that are opened over a directory in memory.
+ghost use Rattle.std.specs.Prelude.{◌≡◌, IfOk};
+ghost use Rattle.store_api.specs.Holdings.{IsFew};
+
+use crate::site::{Store, open};
+use block_cache::BlockCache;
+use outside::MemoryVault;
+use std::alloc::Global;
+use std::test::Fail;
+use store_api::Durable;
+
+/// A durable store over a directory in memory.
+pub(crate) trait Tower: Durable {
+    /// The store that this record is of.
+    fn open(alloc: Global, vault: MemoryVault, record: &[u8]) -> Result<Self, Fail>
+        ensures intact { IfOk result (λ store. Self.meanings.intact store) }
+        ensures few { IfOk result (λ store. IsFew (Self.holdings.used store)) };
+
+    /// The directory, without what isn't written yet.
+    fn into_vault(self) -> MemoryVault;
+}
+
+impl Tower for Store {
+    fn open(alloc: Global, vault: MemoryVault, record: &[u8]) -> Result<Store, Fail> {
+        open(alloc, vault, record)
+    }
+
+    fn into_vault(self) -> MemoryVault {
+        Store::into_vault(self)
+    }
+}
+
+/// The store behind a cache, as a session has it.
+pub(crate) type Cached = BlockCache<Store>;
+
+/// Fewer blocks than the tests have, so that blocks are loaded from the cache and past it.
+const CACHED_BLOCKS: usize = 2;
+
+impl Tower for Cached {
+    fn open(alloc: Global, vault: MemoryVault, record: &[u8]) -> Result<Cached, Fail> {
+        match BlockCache::new(alloc, open(alloc, vault, record)?, CACHED_BLOCKS) {
+            Ok(store) => Ok(store),
+            Err((_, below)) => {
+                drop(below);
+                Err("out of memory".into())
+            }
+        }
+    }
+
+    fn into_vault(self) -> MemoryVault {
+        self.into_store().into_vault()
+    }
+}
