@@ -79,7 +79,7 @@ impl KeyPlanes {
     }
 }
 
-// The key of round r, eight times.
+/// The key of round r, eight times.
 fn repeated_key(keys: &KeySchedule, r: usize) -> Planes
     requires { r < 15 }
     ensures { result ≡ replicate 8 (round_key (key_expansion keys.now) r) }

@@ -125,7 +125,7 @@ fn load(block: [u8; 16]) -> u8x16
     u8x16::from_array(block)
 }
 
-// In each lane, bit k of that lane at all places.
+/// In each lane, bit k of that lane at all places.
 #[inline(always)]
 fn spread(bytes: u8x16, k: u8) -> u8x16
     requires { k < 8 }

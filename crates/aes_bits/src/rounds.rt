@@ -7,7 +7,7 @@ use crate::planes::Planes;
 use crate::sub_bytes::sub_bytes;
 use crate::vectors::{add, double, next_rows, opposite_rows, shifted_rows};
 
-// ShiftRows (5.1.2).
+/// ShiftRows (5.1.2).
 #[inline(always)]
 fn shift_rows(blocks: &Planes) -> Planes
     ensures { result ≡ map shift_rows blocks.now }
@@ -16,7 +16,7 @@ fn shift_rows(blocks: &Planes) -> Planes
     Planes::from_planes(planes)
 }
 
-// MixColumns (5.1.3): of a column a, b, c, d, 2 (a + b) + b + c + d.
+/// MixColumns (5.1.3): of a column a, b, c, d, 2 (a + b) + b + c + d.
 #[inline(always)]
 fn mix_columns(blocks: &Planes) -> Planes
     ensures { result ≡ map mix_columns blocks.now }
@@ -28,7 +28,7 @@ fn mix_columns(blocks: &Planes) -> Planes
     Planes::from_planes(planes)
 }
 
-// AddRoundKey (5.1.4), of a key that stands there eight times.
+/// AddRoundKey (5.1.4), of a key that stands there eight times.
 #[inline(always)]
 fn add_round_key(blocks: &Planes, key: &Planes) -> Planes
     ensures { (w : List ℕ) → (r : ℕ) → key.now ≡ replicate 8 (round_key w r) → result ≡ map (add_round_key w r) blocks.now }
@@ -37,7 +37,7 @@ fn add_round_key(blocks: &Planes, key: &Planes) -> Planes
     Planes::from_planes(planes)
 }
 
-// One of the rounds 1 to 13.
+/// One of the rounds 1 to 13.
 #[inline(always)]
 fn round(blocks: &Planes, key: &Planes) -> Planes
     ensures { (w : List ℕ) → (r : ℕ) → key.now ≡ replicate 8 (round_key w r) → result ≡ map (λ s. add_round_key w r (mix_columns (shift_rows (sub_bytes s)))) blocks.now }

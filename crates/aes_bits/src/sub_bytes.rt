@@ -10,7 +10,7 @@ ghost use Rattle.aes_bits.specs.SBox.{input_sums, norm, norm_inverse, output_sum
 use crate::planes::Planes;
 use std::simd::u8x16;
 
-// Sums of the bits of a byte.
+/// Sums of the bits of a byte.
 #[inline(always)]
 fn input_sums(x: [u8x16; 8]) -> [u8x16; 22]
     ensures { result ≡ through vectors input_sums (first 8 x) }
@@ -45,7 +45,7 @@ fn input_sums(x: [u8x16; 8]) -> [u8x16; 22]
     ]
 }
 
-// The norm of the byte over the field of 16 elements.
+/// The norm of the byte over the field of 16 elements.
 #[inline(always)]
 fn norm(y: [u8x16; 22]) -> [u8x16; 4]
     ensures { result ≡ through vectors norm (first 22 y) }
@@ -76,7 +76,7 @@ fn norm(y: [u8x16; 22]) -> [u8x16; 4]
     [t21, t22, t23, t24]
 }
 
-// The inverse of the norm, and sums of its bits.
+/// The inverse of the norm, and sums of its bits.
 #[inline(always)]
 fn norm_inverse(t: [u8x16; 4]) -> [u8x16; 9]
     ensures { result ≡ through vectors norm_inverse (first 4 t) }
@@ -106,7 +106,7 @@ fn norm_inverse(t: [u8x16; 4]) -> [u8x16; 9]
     [t29, t33, t37, t40, t41, t42, t43, t44, t45]
 }
 
-// Products that add up to the inverse of the byte.
+/// Products that add up to the inverse of the byte.
 #[inline(always)]
 fn products(y: [u8x16; 22], t: [u8x16; 9]) -> [u8x16; 18]
     ensures { result ≡ through vectors products (first 22 y ++ first 9 t) }
@@ -134,7 +134,7 @@ fn products(y: [u8x16; 22], t: [u8x16; 9]) -> [u8x16; 18]
     ]
 }
 
-// Their sums, and the affine transformation.
+/// Their sums, and the affine transformation.
 #[inline(always)]
 fn output_sums(z: [u8x16; 18]) -> [u8x16; 8]
     ensures { result ≡ through vectors output_sums (first 18 z) }

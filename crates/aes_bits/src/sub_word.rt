@@ -3,7 +3,7 @@ use crate::planes::Planes;
 use crate::sub_bytes::sub_bytes;
 use aes_block::SubWord;
 
-// By the circuit, with no look-up.
+/// By the circuit, with no look-up.
 pub(crate) struct ByCircuit;
 
 impl SubWord for ByCircuit {

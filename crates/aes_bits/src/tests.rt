@@ -2,13 +2,13 @@
 use super::*;
 use aes_block::KeySchedule;
 
-// 0, 1, .. as a key.
+/// 0, 1, .. as a key.
 const COUNTING: [u8; 32] = [
     0, 1, 2, 3, 4, 5, 6, 7, 8, 9, 10, 11, 12, 13, 14, 15, 16, 17, 18, 19, 20, 21, 22, 23, 24, 25,
     26, 27, 28, 29, 30, 31,
 ];
 
-// What OpenSSL has after the fifty turns of `follows_the_plain_cipher`.
+/// What OpenSSL has after the fifty turns of `follows_the_plain_cipher`.
 const AFTER_FIFTY: [u128; 8] = [
     0x8c689da89e35211aef67b0ce38dbff93,
     0x2c94dec3e9b386baf5289e4a5c42d626,
@@ -20,7 +20,7 @@ const AFTER_FIFTY: [u128; 8] = [
     0x10895d05b46456531f4129621bc6bdee,
 ];
 
-// FIPS 197, C.3, in each of the eight places.
+/// FIPS 197, C.3, in each of the eight places.
 #[test]
 fn meets_the_example(rt: HostRuntime) {
     let block = 0x00112233445566778899aabbccddeeff_u128.to_be_bytes();
@@ -36,7 +36,7 @@ fn meets_the_example(rt: HostRuntime) {
     }
 }
 
-// Eight blocks under fifty keys, each made of what came before.
+/// Eight blocks under fifty keys, each made of what came before.
 #[test]
 fn follows_the_plain_cipher(rt: HostRuntime) {
     let mut key = COUNTING;

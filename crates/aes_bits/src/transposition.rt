@@ -26,8 +26,8 @@ pub(crate) fn transpose(a: [u8x16; 8]) -> [u8x16; 8]
     [d0, d1, d2, d3, d4, d5, d6, d7]
 }
 
-// Places of a lane are low and high in turn, in groups of so many. The bits of x at high places
-// change places with those of y at the low places below them, which the mask has.
+/// Places of a lane are low and high in turn, in groups of so many. The bits of x at high places
+/// change places with those of y at the low places below them, which the mask has.
 #[inline(always)]
 fn swap(x: u8x16, y: u8x16, places: u8, mask: u8) -> (u8x16, u8x16)
     requires places { places < 8 }

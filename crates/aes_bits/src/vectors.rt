@@ -91,7 +91,7 @@ pub(crate) fn double(a: [u8x16; 8]) -> [u8x16; 8]
     ]
 }
 
-// At each lane, the lane that ShiftRows puts there.
+/// At each lane, the lane that ShiftRows puts there.
 #[inline(always)]
 fn shifted_lanes(a: u8x16) -> u8x16
     ensures { result ≡ shuffled shifted_row a }
@@ -99,7 +99,7 @@ fn shifted_lanes(a: u8x16) -> u8x16
     a.swizzle([0, 5, 10, 15, 4, 9, 14, 3, 8, 13, 2, 7, 12, 1, 6, 11])
 }
 
-// At each lane, the lane of the next row.
+/// At each lane, the lane of the next row.
 #[inline(always)]
 fn next_lanes(a: u8x16) -> u8x16
     ensures { result ≡ shuffled next_row a }
@@ -107,7 +107,7 @@ fn next_lanes(a: u8x16) -> u8x16
     a.swizzle([1, 2, 3, 0, 5, 6, 7, 4, 9, 10, 11, 8, 13, 14, 15, 12])
 }
 
-// At each lane, the lane of the row after the next.
+/// At each lane, the lane of the row after the next.
 #[inline(always)]
 fn opposite_lanes(a: u8x16) -> u8x16
     ensures { result ≡ shuffled opposite_row a }

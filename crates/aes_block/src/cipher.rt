@@ -8,7 +8,7 @@ use crate::sbox::sub_byte;
 /// The bytes of an expanded key: fifteen round keys of sixteen bytes.
 pub(crate) const EXPANDED_LEN: usize = 240;
 
-// A byte times x.
+/// A byte times x.
 #[inline(always)]
 pub(crate) fn xtime(b: u8) -> u8
     ensures { result ≡ xtime b }
@@ -50,7 +50,7 @@ fn shift_rows(s: [u8; 16]) -> [u8; 16]
     ]
 }
 
-// One byte of MixColumns, with a single doubling: 2a + 3b = 2(a + b) + b.
+/// One byte of MixColumns, with a single doubling: 2a + 3b = 2(a + b) + b.
 #[inline(always)]
 fn mix_byte(a: u8, b: u8, c: u8, d: u8) -> u8
     ensures { result ≡ bit_xor (bit_xor (bit_xor (times 2 a) (times 3 b)) c) d }
@@ -94,7 +94,7 @@ fn add_round_key(w: &[u8; EXPANDED_LEN], r: usize, s: [u8; 16]) -> [u8; 16]
     out
 }
 
-// One of the rounds 1 to 13, from the state after round r.
+/// One of the rounds 1 to 13, from the state after round r.
 #[inline(always)]
 fn round(w: &[u8; EXPANDED_LEN], r: usize, s: [u8; 16]) -> [u8; 16]
     requires { r < 14 }

@@ -74,7 +74,7 @@ impl KeySchedule {
     }
 }
 
-// The 60 words of a key, as bytes.
+/// The 60 words of a key, as bytes.
 fn expand<S: SubWord>(key: &[u8; 32], way: &S) -> [u8; EXPANDED_LEN]
     ensures { result ≡ key_expansion key.now }
 {
@@ -92,7 +92,7 @@ fn expand<S: SubWord>(key: &[u8; 32], way: &S) -> [u8; EXPANDED_LEN]
     k
 }
 
-// Room for the 60 words, the first eight of which are the key.
+/// Room for the 60 words, the first eight of which are the key.
 fn first_words(key: &[u8; 32]) -> [u8; EXPANDED_LEN]
     ensures { take 32 result ≡ key.now }
 {
@@ -101,7 +101,7 @@ fn first_words(key: &[u8; 32]) -> [u8; EXPANDED_LEN]
     k
 }
 
-// What word n is added to, given word n + 7, for word n + 8.
+/// What word n is added to, given word n + 7, for word n + 8.
 #[inline(always)]
 fn key_step<S: SubWord>(n: usize, power: u8, w: [u8; 4], way: &S) -> [u8; 4]
     requires below { n < 52 }

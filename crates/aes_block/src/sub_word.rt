@@ -11,7 +11,7 @@ pub trait SubWord {
         ensures { result ≡ sub_word word };
 }
 
-// By a table, at the places that the bytes say.
+/// By a table, at the places that the bytes say.
 pub(crate) struct ByTable;
 
 impl SubWord for ByTable {

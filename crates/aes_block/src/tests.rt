@@ -1,7 +1,7 @@
 // The cipher against the example of its standard.
 use super::*;
 
-// FIPS 197, C.3.
+/// FIPS 197, C.3.
 #[test]
 fn meets_the_example(rt: HostRuntime) {
     let key: [u8; 32] = [
@@ -20,7 +20,7 @@ fn meets_the_example(rt: HostRuntime) {
     assert!(rt; KeySchedule::new(&key).encrypt(block) == text);
 }
 
-// FIPS 197, A.3.
+/// FIPS 197, A.3.
 #[test]
 fn expands_the_key(rt: HostRuntime) {
     let key: [u8; 32] = [

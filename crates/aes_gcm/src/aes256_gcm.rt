@@ -64,7 +64,7 @@ impl Sealer for Aes256Gcm {
     ghost lengths = { λ _ key text plain opens. length-opened_of key text plain opens };
 }
 
-// Appends a sealed text, or a part of it where memory is refused.
+/// Appends a sealed text, or a part of it where memory is refused.
 fn append_sealed(key: &[u8; 32], iv: &[u8], plain: &[u8], out: &mut Vec<u8>) -> Result<(), Memory>
     requires { length iv.now ≡ 16 }
     ensures ok { OnOk result (out.new.items ≡ out.old.items ++ sealed_of key.now iv.now plain.now) }

@@ -8,7 +8,7 @@ use std::test::Fail;
 
 const KEY: [u8; 32] = *b"thirty-two bytes that are no key";
 
-// Bytes without a short period.
+/// Bytes without a short period.
 fn some_bytes(alloc: Global, len: usize) -> Result<Vec<u8>, Fail> {
     let mut bytes = Vec::new(alloc);
     let mut state: u32 = 12345;
@@ -20,7 +20,7 @@ fn some_bytes(alloc: Global, len: usize) -> Result<Vec<u8>, Fail> {
     Ok(bytes)
 }
 
-// Seals and opens a plaintext of this length in both ways.
+/// Seals and opens a plaintext of this length in both ways.
 fn compare(rt: &impl Abort, alloc: Global, len: usize) -> Result<(), Fail> {
     let keys = KeySchedule::new(&KEY);
     let plain = some_bytes(alloc, len)?;

@@ -15,7 +15,7 @@ use block_id::Memory;
 use std::alloc::{AllocError, Global};
 use std::marker::Model;
 
-// A counter block that counts 1, with room for an IV of twelve bytes.
+/// A counter block that counts 1, with room for an IV of twelve bytes.
 pub(crate) const FIRST_COUNT: [u8; 16] = [0, 0, 0, 0, 0, 0, 0, 0, 0, 0, 0, 0, 0, 0, 0, 1];
 
 /// A key with what sealing needs of it: the planes of its round keys, and the tables of its hash subkey.
@@ -107,7 +107,7 @@ impl GcmKey {
         Ok(Some(plain))
     }
 
-    // The block that counts in the first place.
+    /// The block that counts in the first place.
     fn first_counter(&self, iv: &[u8]) -> [u8; 16]
         ensures { result ≡ first_counter (aes256 self.now) iv.now }
     {
@@ -122,8 +122,8 @@ impl GcmKey {
         }
     }
 
-    // The tag over the extra bytes and the ciphertext, given a first counter and what it is
-    // encrypted to.
+    /// The tag over the extra bytes and the ciphertext, given a first counter and what it is
+    /// encrypted to.
     fn tag_under(&self, counter: [u8; 16], mask: &[u8; 16], extra: &[u8], text: &[u8]) -> [u8; 16]
         requires { mask.now ≡ aes256 self.now counter }
         ensures { result ≡ gctr (aes256 self.now) counter (ghash (hash_subkey (aes256 self.now)) (padded extra.now ++ padded text.now ++ bit_length extra.now ++ bit_length text.now)) }
@@ -136,7 +136,7 @@ impl GcmKey {
     }
 }
 
-// The hash subkey.
+/// The hash subkey.
 fn subkey_of(planes: &KeyPlanes) -> u128
     ensures { result ≡ hash_subkey (aes256 planes.now) }
 {
@@ -144,7 +144,7 @@ fn subkey_of(planes: &KeyPlanes) -> u128
     u128::from_be_bytes(turn[0])
 }
 
-// Appends a text, encrypted or decrypted by the key stream without its first block.
+/// Appends a text, encrypted or decrypted by the key stream without its first block.
 fn append_crypted(
     planes: &KeyPlanes,
     first: [u8; 16],
@@ -162,7 +162,7 @@ fn append_crypted(
     Ok(())
 }
 
-// Two lengths in bytes, as the block of their lengths in bits.
+/// Two lengths in bytes, as the block of their lengths in bits.
 pub(crate) fn bit_lengths(a: usize, b: usize) -> [u8; 16]
     ensures { result ≡ to_be_bytes w64 (a * 8 % 2 ^ 64) ++ to_be_bytes w64 (b * 8 % 2 ^ 64) }
 {

@@ -7,7 +7,7 @@ ghost use Rattle.aes_gcm.specs.Tables.{AreTables, entry};
 
 use std::marker::Model;
 
-// Row p has the multiples of a subkey by the sixteen nibbles at place p of a block, from the left.
+/// Row p has the multiples of a subkey by the sixteen nibbles at place p of a block, from the left.
 type Tables = [[u128; 16]; 32];
 
 /// A hash subkey, ready to multiply blocks.
@@ -49,7 +49,7 @@ impl HashKey {
         make_tables(&mut self.tables, subkey);
     }
 
-    // The product of a block and the subkey.
+    /// The product of a block and the subkey.
     #[inline(always)]
     fn times(&self, x: u128) -> u128
         ensures { result ≡ times x self.now }
@@ -71,7 +71,7 @@ impl HashKey {
     }
 }
 
-// Block i of some bytes, with zeros past their end.
+/// Block i of some bytes, with zeros past their end.
 #[inline(always)]
 fn load(bytes: &[u8], i: usize) -> u128
     requires { 16 * i < length bytes.now }
@@ -80,7 +80,7 @@ fn load(bytes: &[u8], i: usize) -> u128
     u128::from_be_bytes(block_of(bytes, i))
 }
 
-// The bytes of that block.
+/// The bytes of that block.
 #[inline(always)]
 fn block_of(bytes: &[u8], i: usize) -> [u8; 16]
     requires { 16 * i < length bytes.now }
@@ -93,7 +93,7 @@ fn block_of(bytes: &[u8], i: usize) -> [u8; 16]
     block
 }
 
-// V shifted right by one bit, reduced.
+/// V shifted right by one bit, reduced.
 #[inline(always)]
 pub(crate) fn next_v(v: u128) -> u128
     ensures { result ≡ next_v v }
@@ -101,7 +101,7 @@ pub(crate) fn next_v(v: u128) -> u128
     (v >> 1) ^ (v % 2 * (0xe1 << 120))
 }
 
-// The sixteen multiples of a V, for a nibble that begins at its bit.
+/// The sixteen multiples of a V, for a nibble that begins at its bit.
 #[inline(always)]
 fn row(v: u128) -> [u128; 16]
     ensures { result ≡ map (entry v) (range_with_len 0 16) }
@@ -129,7 +129,7 @@ fn row(v: u128) -> [u128; 16]
     ]
 }
 
-// The tables of the subkey h.
+/// The tables of the subkey h.
 #[inline(always)]
 fn make_tables(t: &mut Tables, h: u128)
     ensures { AreTables h t.new }
@@ -143,7 +143,7 @@ fn make_tables(t: &mut Tables, h: u128)
     }
 }
 
-// The product of a block and the subkey of the tables.
+/// The product of a block and the subkey of the tables.
 #[inline(always)]
 fn times_by(t: &Tables, x: u128) -> u128
     ensures { (h : ℕ) → AreTables h t.now → result ≡ times x h }

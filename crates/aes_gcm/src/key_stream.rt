@@ -30,7 +30,7 @@ pub(crate) fn crypt(keys: &KeyPlanes, first: [u8; 16], turn: &[[u8; 16]; 8], tex
     gctr(keys, eight_after(first), &mut text[front..]);
 }
 
-// Adds the key stream from a counter block on to a text.
+/// Adds the key stream from a counter block on to a text.
 fn gctr(keys: &KeyPlanes, initial: [u8; 16], text: &mut [u8])
     ensures { text.new ≡ gctr (aes256 keys.now) initial text.old }
 {
@@ -44,7 +44,7 @@ fn gctr(keys: &KeyPlanes, initial: [u8; 16], text: &mut [u8])
     }
 }
 
-// Adds blocks to the bytes from `start` on, as far as there are both.
+/// Adds blocks to the bytes from `start` on, as far as there are both.
 #[inline(always)]
 fn add_blocks(text: &mut [u8], start: usize, blocks: &[[u8; 16]])
     requires { start ≤ length text.old }
@@ -74,7 +74,7 @@ pub(crate) fn add_block(text: &mut [u8], start: usize, block: &[u8; 16])
     }
 }
 
-// Adds a block to the sixteen bytes from `start` on.
+/// Adds a block to the sixteen bytes from `start` on.
 #[inline(always)]
 fn add_whole(text: &mut [u8], start: usize, block: &[u8; 16])
     requires { start + 16 ≤ length text.old }
@@ -86,7 +86,7 @@ fn add_whole(text: &mut [u8], start: usize, block: &[u8; 16])
     sum.copy_to_slice(&mut text[start..]);
 }
 
-// Adds a block to the bytes from `start` on, of which there are fewer than sixteen.
+/// Adds a block to the bytes from `start` on, of which there are fewer than sixteen.
 fn add_part(text: &mut [u8], start: usize, block: &[u8; 16])
     requires start { start ≤ length text.old }
     requires end { length text.old < start + 16 }

@@ -34,7 +34,7 @@ pub(crate) fn plain_seal(
     Ok((text, tag))
 }
 
-// Step 2: the block that counts in the first place.
+/// Step 2: the block that counts in the first place.
 fn first_counter(alloc: Global, subkey: u128, iv: &[u8]) -> Result<[u8; 16], AllocError>
     ensures { (cipher : List ℕ → List ℕ) → subkey ≡ hash_subkey cipher → IfOk result (λ counter. counter ≡ first_counter cipher iv.now) }
 {
@@ -49,7 +49,7 @@ fn first_counter(alloc: Global, subkey: u128, iv: &[u8]) -> Result<[u8; 16], All
     Ok(ghash(subkey, &blocks))
 }
 
-// Steps 4 and 5: the hash of the extra bytes and the ciphertext.
+/// Steps 4 and 5: the hash of the extra bytes and the ciphertext.
 fn tag_hash(alloc: Global, subkey: u128, extra: &[u8], text: &[u8]) -> Result<[u8; 16], AllocError>
     ensures { IfOk result (λ hash. hash ≡ ghash subkey (padded extra.now ++ padded text.now ++ bit_length extra.now ++ bit_length text.now)) }
 {
@@ -60,7 +60,7 @@ fn tag_hash(alloc: Global, subkey: u128, extra: &[u8], text: &[u8]) -> Result<[u
     Ok(ghash(subkey, &blocks))
 }
 
-// Appends some bytes, with zeros up to a whole number of blocks.
+/// Appends some bytes, with zeros up to a whole number of blocks.
 fn push_padded(bytes: &[u8], out: &mut Vec<u8>) -> Result<(), AllocError>
     ensures { OnOk result (out.new.items ≡ out.old.items ++ padded bytes.now) }
 {
@@ -70,7 +70,7 @@ fn push_padded(bytes: &[u8], out: &mut Vec<u8>) -> Result<(), AllocError>
     Ok(())
 }
 
-// Step 3: a text, encrypted from a counter block on.
+/// Step 3: a text, encrypted from a counter block on.
 fn crypted(
     alloc: Global,
     keys: &KeySchedule,
@@ -85,7 +85,7 @@ fn crypted(
     Ok(bytes)
 }
 
-// GCTR, one block at a time (6.5).
+/// GCTR, one block at a time (6.5).
 fn gctr(keys: &KeySchedule, initial: [u8; 16], text: &mut [u8])
     ensures { text.new ≡ gctr (aes256 keys.now) initial text.old }
 {
@@ -98,7 +98,7 @@ fn gctr(keys: &KeySchedule, initial: [u8; 16], text: &mut [u8])
     }
 }
 
-// GHASH (6.4).
+/// GHASH (6.4).
 fn ghash(subkey: u128, bytes: &[u8]) -> [u8; 16]
     ensures { result ≡ ghash subkey bytes.now }
 {
@@ -111,7 +111,7 @@ fn ghash(subkey: u128, bytes: &[u8]) -> [u8; 16]
     hash.to_be_bytes()
 }
 
-// Block i of a whole number of blocks.
+/// Block i of a whole number of blocks.
 fn load(bytes: &[u8], i: usize) -> u128
     requires { 16 * i + 16 ≤ length bytes.now }
     ensures { result ≡ block_at bytes.now i }
@@ -121,7 +121,7 @@ fn load(bytes: &[u8], i: usize) -> u128
     u128::from_be_bytes(block)
 }
 
-// The product of two blocks, one bit at a time (6.3).
+/// The product of two blocks, one bit at a time (6.3).
 fn times(x: u128, y: u128) -> u128
     ensures { result ≡ times x y }
 {

@@ -156,7 +156,7 @@ fn meets_the_vectors(rt: HostRuntime) -> Result<(), Fail> {
     Ok(())
 }
 
-// Texts of several turns, by OpenSSL: how long each is, and its tag.
+/// Texts of several turns, by OpenSSL: how long each is, and its tag.
 const LONG_CASES: [(usize, &str); 7] = [
     (112, "bb5c5979211238b99d44a7b8762f3e75"),
     (113, "0e1cb6c79c739ba19b8fac447ba6d7cf"),
@@ -167,7 +167,7 @@ const LONG_CASES: [(usize, &str); 7] = [
     (16336, "d1e0cb94f8d8b5a2dd1fd08a59790f38"),
 ];
 
-// Byte i of the long texts is i * i + 7 * i, modulo 251.
+/// Byte i of the long texts is i * i + 7 * i, modulo 251.
 fn long_text(alloc: Global, len: usize) -> Result<Vec<u8>, Fail> {
     let mut text = Vec::new(alloc);
     let mut byte: u8 = 0;

@@ -14,8 +14,8 @@ use Rattle.fs_model.specs.declared.reply.Reply.{Reply}
 use Rattle.fs_model.specs.declared.reply.Reply.TheVariants.{Done, Rows, Info, Target, Content, Error}
 use Rattle.fs_model.specs.Tree.{Path, Tree, Row, upward, parent, is_root, directory_size, is_directory, children}
 use Rattle.std.specs.FinMap.{entries}
-use Rattle.fs_model.specs.LookUp.{Seen, Found, Free, Bad, look}
-use Rattle.answers.specs.Hosts.{IsLong}
+use Rattle.fs_model.specs.LookUp.{LookedUp, Found, Free, Bad, look}
+use Rattle.answers.specs.Hosts.{IsLongReply}
 use Rattle.fs_model.specs.Step.{Stepped, new_row, with_mode, with_owner, with_times, moved_tree, list_row, answered, refused, done, by_kind, unless_root, listed, told, made, removed_directory, removed_file, target_read, on_file, content_read, written, truncated, attributes_set, moved_onto, moved_to, moved_from, moved_unless_large, step}
 
 -- the reply is Done, or the tree stays
@@ -40,32 +40,32 @@ fair_kind t Directory d f l p q r = p
 fair_kind t File d f l p q r = q
 fair_kind t Link d f l p q r = r
 
-fair_listed : (t : Tree) (p : Path) (s : Seen) → IsFair t (listed t p s)
+fair_listed : (t : Tree) (p : Path) (s : LookedUp) → IsFair t (listed t p s)
 fair_listed t p (Found row) = fair_cond t (is_directory row.attr.kind) _ _ (stays t (Rows (map list_row (entries (children t p))))) (fair_refused t NotDirectory)
 fair_listed t p Free = fair_refused t _
 fair_listed t p (Bad e) = fair_refused t _
 
-fair_told : (t : Tree) (s : Seen) → IsFair t (told t s)
+fair_told : (t : Tree) (s : LookedUp) → IsFair t (told t s)
 fair_told t (Found row) = stays t (Info row.attr (length row.bytes))
 fair_told t Free = fair_refused t _
 fair_told t (Bad e) = fair_refused t _
 
-fair_made : (t : Tree) (p : Path) (row : Row) (s : Seen) → IsFair t (made t p row s)
+fair_made : (t : Tree) (p : Path) (row : Row) (s : LookedUp) → IsFair t (made t p row s)
 fair_made t p row (Found old) = fair_refused t _
 fair_made t p row Free = fair_cond t _ _ _ (fair_refused t _) (changes t _)
 fair_made t p row (Bad e) = fair_refused t _
 
-fair_removed_directory : (t : Tree) (p : Path) (s : Seen) → IsFair t (removed_directory t p s)
+fair_removed_directory : (t : Tree) (p : Path) (s : LookedUp) → IsFair t (removed_directory t p s)
 fair_removed_directory t p (Found row) = fair_cond t _ _ _ (fair_cond t _ _ _ (fair_refused t _) (changes t _)) (fair_refused t _)
 fair_removed_directory t p Free = fair_refused t _
 fair_removed_directory t p (Bad e) = fair_refused t _
 
-fair_removed_file : (t : Tree) (p : Path) (s : Seen) → IsFair t (removed_file t p s)
+fair_removed_file : (t : Tree) (p : Path) (s : LookedUp) → IsFair t (removed_file t p s)
 fair_removed_file t p (Found row) = fair_cond t _ _ _ (fair_refused t _) (changes t _)
 fair_removed_file t p Free = fair_refused t _
 fair_removed_file t p (Bad e) = fair_refused t _
 
-fair_target_read : (t : Tree) (s : Seen) → IsFair t (target_read t s)
+fair_target_read : (t : Tree) (s : LookedUp) → IsFair t (target_read t s)
 fair_target_read t (Found row) = fair_kind t row.attr.kind _ _ _ (fair_refused t NotLink) (fair_refused t NotLink) (stays t (Target row.bytes))
 fair_target_read t Free = fair_refused t _
 fair_target_read t (Bad e) = fair_refused t _
@@ -73,22 +73,22 @@ fair_target_read t (Bad e) = fair_refused t _
 fair_on_file : (t : Tree) (k : Kind) (s : Stepped) → IsFair t s → IsFair t (on_file t k s)
 fair_on_file t k s p = fair_kind t k _ _ _ (fair_refused t _) p (fair_refused t _)
 
-fair_content_read : (t : Tree) (from count : ℕ) (s : Seen) → IsFair t (content_read t from count s)
+fair_content_read : (t : Tree) (from count : ℕ) (s : LookedUp) → IsFair t (content_read t from count s)
 fair_content_read t from count (Found row) = fair_on_file t _ _ (fair_cond t _ _ _ (fair_refused t TooLarge) (stays t (Content (take count (drop from row.bytes)))))
 fair_content_read t from count Free = fair_refused t _
 fair_content_read t from count (Bad e) = fair_refused t _
 
-fair_written : (t : Tree) (now : Instant) (p : Path) (from : ℕ) (bytes : List ℕ) (s : Seen) → IsFair t (written t now p from bytes s)
+fair_written : (t : Tree) (now : Instant) (p : Path) (from : ℕ) (bytes : List ℕ) (s : LookedUp) → IsFair t (written t now p from bytes s)
 fair_written t now p from bytes (Found row) = fair_on_file t _ _ (fair_cond t _ _ _ (changes t _) (fair_cond t _ _ _ (fair_refused t _) (changes t _)))
 fair_written t now p from bytes Free = fair_refused t _
 fair_written t now p from bytes (Bad e) = fair_refused t _
 
-fair_truncated : (t : Tree) (now : Instant) (p : Path) (n : ℕ) (s : Seen) → IsFair t (truncated t now p n s)
+fair_truncated : (t : Tree) (now : Instant) (p : Path) (n : ℕ) (s : LookedUp) → IsFair t (truncated t now p n s)
 fair_truncated t now p n (Found row) = fair_on_file t _ _ (fair_cond t _ _ _ (fair_refused t _) (changes t _))
 fair_truncated t now p n Free = fair_refused t _
 fair_truncated t now p n (Bad e) = fair_refused t _
 
-fair_attributes : (t : Tree) (p : Path) (change : Attr → Attr) (s : Seen) → IsFair t (attributes_set t p change s)
+fair_attributes : (t : Tree) (p : Path) (change : Attr → Attr) (s : LookedUp) → IsFair t (attributes_set t p change s)
 fair_attributes t p change (Found row) = changes t _
 fair_attributes t p change Free = fair_refused t _
 fair_attributes t p change (Bad e) = fair_refused t _
@@ -105,12 +105,12 @@ fair_onto t q true false s h = fair_refused t _
 fair_onto t q false true s h = fair_refused t _
 fair_onto t q false false s h = h
 
-fair_to : (t : Tree) (now : Instant) (p q : Path) (row : Row) (s : Seen) → IsFair t (moved_to t now p q row s)
+fair_to : (t : Tree) (now : Instant) (p q : Path) (row : Row) (s : LookedUp) → IsFair t (moved_to t now p q row s)
 fair_to t now p q row (Found old) = fair_cond t _ _ _ (changes t _) (fair_onto t q (is_directory row.attr.kind) (is_directory old.attr.kind) _ (fair_large t q (moved_tree t now p q row)))
 fair_to t now p q row Free = fair_large t q (moved_tree t now p q row)
 fair_to t now p q row (Bad e) = fair_refused t _
 
-fair_from : (t : Tree) (now : Instant) (p q : Path) (s : Seen) → IsFair t (moved_from t now p q s)
+fair_from : (t : Tree) (now : Instant) (p q : Path) (s : LookedUp) → IsFair t (moved_from t now p q s)
 fair_from t now p q (Found row) = fair_cond t _ _ _ (fair_refused t _) (fair_to t now p q row (look t q))
 fair_from t now p q Free = fair_refused t _
 fair_from t now p q (Bad e) = fair_refused t _
@@ -135,14 +135,14 @@ fair_step t now (command.Utime p atime mtime) = fair_unless_root t (upward p) _ 
 fair_step t now command.Sync = changes t t
 
 -- a step whose reply tells something leaves the tree
-told_stays : (t : Tree) (s : Stepped) → IsFair t s → IsLong s.reply → s.tree ≡ t
+told_stays : (t : Tree) (s : Stepped) → IsFair t s → IsLongReply s.reply → s.tree ≡ t
 told_stays t s fair long = elim fair.fair [
-  | inl done ↦ absurd (subst IsLong done long)
+  | inl done ↦ absurd (subst IsLongReply done long)
   | inr same ↦ same
 ]
 
 pub long_stays : (t : Tree) (now : Instant) (command : Command) (reply : Reply) (next : Tree)
-    → step t now command ≡ record { reply = reply; tree = next } → IsLong reply → next ≡ t
+    → step t now command ≡ record { reply = reply; tree = next } → IsLongReply reply → next ≡ t
 long_stays t now command reply next e long =
     sym (ap (λ (s : Stepped). s.tree) e)
-    ∙ told_stays t (step t now command) (fair_step t now command) (subst IsLong (sym (ap (λ (s : Stepped). s.reply) e)) long)
+    ∙ told_stays t (step t now command) (fair_step t now command) (subst IsLongReply (sym (ap (λ (s : Stepped). s.reply) e)) long)

@@ -9,11 +9,11 @@ use Rattle.fs_model.specs.declared.reply.Reply.TheVariants.{Done, Rows, Info, Ta
 use Rattle.script_text.specs.Texts.{numeral, line, text_of}
 use Rattle.script_text.proofs.Numerals.{numeral_last, numeral_step}
 use Rattle.script_text.proofs.Shorts.{length-text_of-Done, length-text_of-Error-le}
-use Rattle.answers.specs.Hosts.{IsLong}
+use Rattle.answers.specs.Hosts.{IsLongReply}
 use Rattle.answers.specs.Summaries.{Counts, IsSmall, labelled, text_of_summary}
 
 -- a text that doesn't fit tells something, or there was less room than for 256 bytes
-pub reply_wants : (reply : Reply) (room len : ℕ) → room < len + length (text_of reply) → IsLong reply ⊎ (room < len + 256)
+pub reply_wants : (reply : Reply) (room len : ℕ) → room < len + length (text_of reply) → IsLongReply reply ⊎ (room < len + 256)
 reply_wants Done room len h = inr (omega (arith, length-text_of-Done))
 reply_wants (Rows rows) room len h = inl tt
 reply_wants (Info attr size) room len h = inl tt

@@ -19,13 +19,13 @@ pub record Hosting (H : Type 0) : Type 1 where
   pub answers : H → Instant → Asked → Answer → H → Type 0
 
 -- a reply whose text may want memory: rows, attributes, a target or a content
-abbrev pub IsLong : Reply → Type 0
-IsLong Done = ⊥
-IsLong (Rows rows) = Unit {0}
-IsLong (Info attr size) = Unit {0}
-IsLong (Target target) = Unit {0}
-IsLong (Content bytes) = Unit {0}
-IsLong (Error error) = ⊥
+abbrev pub IsLongReply : Reply → Type 0
+IsLongReply Done = ⊥
+IsLongReply (Rows rows) = Unit {0}
+IsLongReply (Info attr size) = Unit {0}
+IsLongReply (Target target) = Unit {0}
+IsLongReply (Content bytes) = Unit {0}
+IsLongReply (Error error) = ⊥
 
 pub record LawfulHost {H : Type 0} (M : Hosting H) : Type 0 where
   -- one that refuses may answer so without a call
@@ -35,7 +35,7 @@ pub record LawfulHost {H : Type 0} (M : Hosting H) : Type 0 where
   -- before a call memory may be wanting
   pub wanting : (h : H) (now : Instant) (asked : Asked) → M.ready h → M.refuses h ≡ false → M.answers h now asked Memory h
   -- a reply whose text finds no memory may be told as Memory
-  pub unsaid : (h k : H) (now : Instant) (asked : Asked) (reply : Reply) → M.answers h now asked (Replied reply) k → IsLong reply → M.answers h now asked Memory k
+  pub unsaid : (h k : H) (now : Instant) (asked : Asked) (reply : Reply) → M.answers h now asked (Replied reply) k → IsLongReply reply → M.answers h now asked Memory k
   -- it refuses once there was a violation
   pub flag : (h k : H) (now : Instant) (asked : Asked) (answer : Answer) → M.answers h now asked answer k → M.refuses k ≡ (is_violation answer || M.refuses h)
   -- an answer is Refused just where it refuses

@@ -15,10 +15,10 @@ use std::{env, io};
 
 const KEY: [u8; 32] = [7; 32];
 
-// The most bytes of a block.
+/// The most bytes of a block.
 const MAX_SIZE: usize = 1 << 30;
 
-// How many blocks are sealed, how many bytes each has, and whether one key is made ready for all.
+/// How many blocks are sealed, how many bytes each has, and whether one key is made ready for all.
 #[derive(Drop)]
 struct Plan {
     count: u64,
@@ -27,7 +27,7 @@ struct Plan {
     ghost in_range: { size ≤ max_len },
 }
 
-// Seals a block into `sealed`, and opens it again.
+/// Seals a block into `sealed`, and opens it again.
 fn through(
     alloc: Global,
     iv: [u8; 16],
@@ -45,13 +45,13 @@ fn through(
     }
 }
 
-// The checksum with the last byte of a tag taken in.
+/// The checksum with the last byte of a tag taken in.
 fn taken_in(checksum: u64, sealed: &[u8]) -> u64 {
     let last = sealed.last().copied().unwrap_or(0);
     checksum.rotate_left(5) ^ u64::from(last)
 }
 
-// Seals and opens blocks of zeros, with the key made ready in each call.
+/// Seals and opens blocks of zeros, with the key made ready in each call.
 fn bench(alloc: Global, plan: &Plan) -> Result<u64, Memory> {
     let mut plain = vec![in alloc; 0u8; plan.size]?;
     let mut sealed = Vec::new(alloc);
@@ -64,7 +64,7 @@ fn bench(alloc: Global, plan: &Plan) -> Result<u64, Memory> {
     Ok(checksum)
 }
 
-// The same with the key made ready once.
+/// The same with the key made ready once.
 fn bench_kept(alloc: Global, plan: &Plan) -> Result<u64, Memory> {
     let key = GcmKey::new(&KeySchedule::new(&KEY));
     let mut plain = vec![in alloc; 0u8; plan.size]?;
@@ -82,7 +82,7 @@ fn bench_kept(alloc: Global, plan: &Plan) -> Result<u64, Memory> {
     Ok(checksum)
 }
 
-// What the words say.
+/// What the words say.
 fn plan_of(rt: &HostRuntime) -> io::Result<Option<Plan>> {
     let mut words = env::args(rt)?;
     words.next();

@@ -35,7 +35,7 @@ pub record BlobsSteady {S : Type 0} (M : Meanings S) (H : BlobHoldings S) : Type
   pub piece_stays : (a b : S) → M.loaded a b → H.piece b ≡ H.piece a
 
 -- what a call needs: that the store stands for a map
-pub record Stands {S : Type 0} (H : BlobHoldings S) (a : S) : Type 0 where
+pub record StandsForMap {S : Type 0} (H : BlobHoldings S) (a : S) : Type 0 where
   pub map : BlobMap
   pub stands : H.stands_for a map
 

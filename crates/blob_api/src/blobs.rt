@@ -4,7 +4,7 @@ ghost use Rattle.std.specs.FinMap.{get, insert, remove};
 ghost use Rattle.outcome.specs.Meanings.{Meanings, Lawful};
 ghost use Rattle.outcome.specs.Outcome.{Outcome};
 ghost use Rattle.outcome.specs.Bytes.{resized, written};
-ghost use Rattle.blob_api.specs.BlobMap.{BlobHoldings, BlobsSteady, Stands, Has, IsNew, IsSparing};
+ghost use Rattle.blob_api.specs.BlobMap.{BlobHoldings, BlobsSteady, StandsForMap, Has, IsNew, IsSparing};
 
 use block_id::{BlockId, Fail};
 use rand_core::Rng;
@@ -28,7 +28,7 @@ pub trait Blobs {
     ) -> Result<BlockId, Fail>
         requires intact { meanings.intact self.old }
         requires fits { length bytes.now ≤ MAX_BLOB }
-        ensures { Outcome meanings (Stands holdings self.old) self.old self.new result
+        ensures { Outcome meanings (StandsForMap holdings self.old) self.old self.new result
             (λ n id. IsNew holdings self.new n.map id.0 bytes.now) };
 
     /// The blob goes.

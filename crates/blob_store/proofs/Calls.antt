@@ -14,12 +14,12 @@ use Rattle.store_api.specs.Holdings.{Holdings, Stays}
 use Rattle.store_api.specs.Overlay.{meanings_over, holdings_over}
 use Rattle.data_nodes.specs.Layout.{room}
 use Rattle.data_tree.specs.Trees.{Replaces}
-use Rattle.data_tree.specs.Needs.{Keeps}
+use Rattle.data_tree.specs.Needs.{KeepsShape}
 use Rattle.data_tree.specs.Roots.{IsRoot, IsNewRoot}
 use Rattle.tree_ranges.specs.Ranges.{IsInside}
-use Rattle.blob_api.specs.BlobMap.{Stands, Has, IsNew, IsSparing}
+use Rattle.blob_api.specs.BlobMap.{StandsForMap, Has, IsNew, IsSparing}
 use Rattle.blob_store.specs.declared.store.BlobStore.{BlobStore}
-use Rattle.blob_store.specs.Meanings.{meanings_by, holdings_by, StandsFor}
+use Rattle.blob_store.specs.Meanings.{meanings_by, holdings_by, StoresMap}
 use Rattle.blob_store.proofs.Standing.{stands_on, stands_replaced, fresh_root, stands_made, stands_dropped}
 
 abbrev tx_in : {B : Type 0} → BlobStore B → Tx B
@@ -42,27 +42,27 @@ module _ {B : Type 0} (M : Meanings B) (H : Holdings B) where
       let own = n.stands.1.blob id n.bytes n.there in
       record { bytes = n.bytes; ids = n.stands.1.ids id; depth = own.depth; small = n.fits; deep = own.deep; tree = own.tree; alone = own.alone }
 
-  keeps_of : (a b : Tx B) → Stays H a.store b.store → Keeps held a b
+  keeps_of : (a b : Tx B) → Stays H a.store b.store → KeepsShape held a b
   keeps_of a b below = record { told = below.told; payload = below.payload }
 
   -- a call that only looks at a tree
   pub looked : {T : Type 0} (Q : List ℕ → T → Type 0) (a b : BlobStore B) (id : Id) (r : Result T Fail) → Outcome over_it (IsRoot held a.tx id) a.tx b.tx r (λ n x. Q n.bytes x) → Stays held a.tx b.tx
-      → Outcome (meanings_by tx_in over_it) (Has (holdings_by tx_in changes_in held) a id) a b r (λ n x. StandsFor held b.tx n.map × Q n.bytes x)
+      → Outcome (meanings_by tx_in over_it) (Has (holdings_by tx_in changes_in held) a id) a b r (λ n x. StoresMap held b.tx n.map × Q n.bytes x)
   looked Q a b id r o stays = lifted tx_in (λ x. Unit {0}) a b tt (first_ (root_of a id) o (λ n x q. (stands_on held a.tx b.tx n.map stays n.stands, q)))
 
   -- a call that puts another tree in the place of one
   pub replaced : (w : List ℕ → List ℕ) (a b : BlobStore B) (id : Id) (r : Result Unit Fail) → Outcome over_it (IsRoot held a.tx id) a.tx b.tx r (λ n x. IsNewRoot held a.tx b.tx id n.ids (w n.bytes)) → Stays H a.tx.store b.tx.store
-      → Outcome (meanings_by tx_in over_it) (Has (holdings_by tx_in changes_in held) a id) a b r (λ n x. StandsFor held b.tx (insert n.map id (w n.bytes)))
+      → Outcome (meanings_by tx_in over_it) (Has (holdings_by tx_in changes_in held) a id) a b r (λ n x. StoresMap held b.tx (insert n.map id (w n.bytes)))
   replaced w a b id r o below = lifted tx_in (λ x. Unit {0}) a b tt (first_ (root_of a id) o (λ n x q. stands_replaced held a.tx b.tx n.map id n.bytes (w n.bytes) n.stands n.there (keeps_of a.tx b.tx below) q))
 
   -- a call that drops a tree
   pub dropped : (a b : BlobStore B) (id : Id) (r : Result Unit Fail) → Outcome over_it (IsRoot held a.tx id) a.tx b.tx r (λ n x. Replaces (held.content a.tx) (held.content b.tx) n.ids []) → Stays H a.tx.store b.tx.store
-      → Outcome (meanings_by tx_in over_it) (Has (holdings_by tx_in changes_in held) a id) a b r (λ n x. StandsFor held b.tx (remove n.map id))
+      → Outcome (meanings_by tx_in over_it) (Has (holdings_by tx_in changes_in held) a id) a b r (λ n x. StoresMap held b.tx (remove n.map id))
   dropped a b id r o below = lifted tx_in (λ x. Unit {0}) a b tt (first_ (root_of a id) o (λ n x q. stands_dropped held a.tx b.tx n.map id n.stands n.bytes n.there (keeps_of a.tx b.tx below) q))
 
   -- a call that makes a tree
   pub made : (w : List ℕ) (a b : BlobStore B) (r : Result BlockId Fail) → Outcome over_it (Unit {0}) a.tx b.tx r (λ n root. IsNewRoot held a.tx b.tx root.0 [] w) → Stays H a.tx.store b.tx.store
-      → Outcome (meanings_by tx_in over_it) (Stands (holdings_by tx_in changes_in held) a) a b r (λ n root. IsNew (holdings_by tx_in changes_in held) b n.map root.0 w)
+      → Outcome (meanings_by tx_in over_it) (StandsForMap (holdings_by tx_in changes_in held) a) a b r (λ n root. IsNew (holdings_by tx_in changes_in held) b n.map root.0 w)
   made w a b r o below = lifted tx_in (λ x. Unit {0}) a b tt (first_ (λ n. tt) o (λ n root q. record {
     fresh = fresh_root held a.tx b.tx n.map root.0 w n.stands q;
     stands = stands_made held a.tx b.tx n.map root.0 w n.stands (keeps_of a.tx b.tx below) q;

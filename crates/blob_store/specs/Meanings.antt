@@ -21,13 +21,13 @@ pub lawful_by : {A B : Type 0} (f : A → B) (M : Meanings B) → Lawful M → L
 lawful_by f M laws = lawful f (λ a. Unit {0}) M laws
 
 -- the payloads are told, and the blocks are exactly the trees of these blobs
-abbrev pub StandsFor : {B : Type 0} → Holdings B → B → BlobMap → Type 0
-StandsFor H b m = (H.told b ≡ true) × StoresBlobs (H.payload b) (H.content b) (get m)
+abbrev pub StoresMap : {B : Type 0} → Holdings B → B → BlobMap → Type 0
+StoresMap H b m = (H.told b ≡ true) × StoresBlobs (H.payload b) (H.content b) (get m)
 
 -- f is the store of blocks, and g are the changes that it shows
 abbrev pub holdings_by : {A B : Type 0} → (A → B) → (B → Changes) → Holdings B → BlobHoldings A
 holdings_by f g H = record {
-  stands_for = λ a m. StandsFor H (f a) m;
+  stands_for = λ a m. StoresMap H (f a) m;
   changed = λ a. fin.len (g (f a));
   piece = λ a. Some (room (H.payload (f a)));
 }

@@ -14,8 +14,8 @@ pub(crate) fn empty(alloc: Global) -> BlobStore<MapStore>
     BlobStore::new(Tx::new(alloc, MapStore::new(alloc, 50)))
 }
 
-// How many blocks are changed once a blob of 169 bytes was made, once it was removed, and, of another one that is stored,
-// once a byte was written.
+/// How many blocks are changed once a blob of 169 bytes was made, once it was removed, and, of another one that is stored,
+/// once a byte was written.
 fn changed<S: BlocksMut>(
     alloc: Global,
     blobs: &mut BlobStore<S>,

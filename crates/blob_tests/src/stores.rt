@@ -7,7 +7,7 @@ use rand_pcg::Pcg32;
 use std::alloc::Global;
 use std::test::Fail;
 
-// Whether the store keeps each promise.
+/// Whether the store keeps each promise.
 fn conforms<B: Blobs>(alloc: Global, blobs: &mut B) -> Result<(bool, bool, bool, bool), Fail>
     requires { B.meanings.intact blobs.old }
 {

@@ -6,7 +6,7 @@ use Rattle.std.specs.declared.alloc.Global.{Global}
 use Rattle.lru.specs.LruCache.{LruCache, lru_cache, promoted, put_entries}
 use Rattle.block_id.specs.declared.id.BlockId.{BlockId}
 use Rattle.store_api.specs.Content.{Id, same_id}
-use Rattle.store_api.specs.Loads.{Answer}
+use Rattle.store_api.specs.Loads.{LoadAnswer}
 
 abbrev pub Payloads : Type 0
 Payloads = LruCache BlockId (Vec ℕ Global)
@@ -32,7 +32,7 @@ CachedOrNot id payload old new = (new ≡ old) ⊎ ((bytes : Vec ℕ Global) × 
 
 -- What a load leaves, by whether the id was cached: a cached payload that was answered is the one used last, and a payload of the
 -- store below is cached or finds no memory. Nothing else is cached, and no negative answer.
-abbrev pub AfterLoad : Bool → BlockId → Answer → Payloads → Payloads → Type 0
+abbrev pub AfterLoad : Bool → BlockId → LoadAnswer → Payloads → Payloads → Type 0
 AfterLoad true id (Ok answer) old new = new ≡ used_last id old
 AfterLoad false id (Ok (Some payload)) old new = CachedOrNot id payload old new
 AfterLoad cached id answer old new = new ≡ old

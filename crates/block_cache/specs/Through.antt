@@ -3,7 +3,7 @@ use Rattle.std.specs.Prelude.{◌≡◌, ℕ, true, List, length, is_some, Optio
 use Rattle.outcome.specs.Meanings.{Meanings, Lawful}
 use Rattle.outcome.specs.Lift.{lift_with, lawful_with}
 use Rattle.store_api.specs.Content.{Id, Changes}
-use Rattle.store_api.specs.Loads.{Answer, LoadsOver}
+use Rattle.store_api.specs.Loads.{LoadAnswer, LoadsOver}
 use Rattle.store_api.specs.Holdings.{Holdings, Steady, Stays}
 use Rattle.store_api.specs.Durables.{Durables, Records, Enduring}
 use Rattle.block_cache.specs.Payloads.{Payloads, cached_for}
@@ -18,14 +18,14 @@ abbrev pub Agree : {S : Type 0} → Holdings S → S → Payloads → Type 0
 Agree H s payloads = (id bytes : List ℕ) → cached_for payloads id ≡ Some bytes → H.content s id ≡ Some bytes
 
 -- a cached payload is answered, unless memory is wanting, and the store below is left; with none it is asked
-abbrev pub LoadsPast : {S : Type 0} → (S → S → Id → Answer → Type 0) → Option (List ℕ) → S → S → Id → Answer → Type 0
+abbrev pub LoadsPast : {S : Type 0} → (S → S → Id → LoadAnswer → Type 0) → Option (List ℕ) → S → S → Id → LoadAnswer → Type 0
 LoadsPast loads cached a b id answer = LoadsOver loads (option_map Some cached) a b id answer
 
 module _ {A B : Type 0} (f : A → B) (p : A → Payloads) where
   abbrev pub meanings_past : Meanings B → Holdings B → Meanings A
   meanings_past M H = lift_with f (λ a. AreLive H (f a) (p a)) (λ a. Agree H (f a) (p a)) M
 
-  abbrev pub loads_past : (B → B → Id → Answer → Type 0) → A → A → Id → Answer → Type 0
+  abbrev pub loads_past : (B → B → Id → LoadAnswer → Type 0) → A → A → Id → LoadAnswer → Type 0
   loads_past loads a b id answer = LoadsPast loads (cached_for (p a) id) (f a) (f b) id answer
 
   pub lawful_past : (M : Meanings B) (H : Holdings B) → Lawful M → Lawful (meanings_past M H)
@@ -48,7 +48,7 @@ durables_past f D = record {
   identity = λ a. D.identity (f a);
   trace = λ a. D.trace (f a);
   list = λ a. D.list (f a);
-  record_of = λ a. D.record_of (f a);
+  local_record_of = λ a. D.local_record_of (f a);
 }
 
 pub steady_with : {A B : Type 0} (f : A → B) (own agrees : A → Type 0) (M : Meanings B) (H : Holdings B) → Steady M H → Steady (lift_with f own agrees M) (holdings_past f H)

@@ -2,7 +2,7 @@
 ghost use Rattle.std.specs.Prelude.{◌≡◌, ◌≤◌, ◌↔◌, ℕ, true, false, List, [], OnOk, OnErr, IfOk, IfErr, IfSome, length, is_some};
 ghost use Rattle.std.specs.declared.result.Result.TheVariants.{Err};
 ghost use Rattle.std.specs.FinMap as fin;
-ghost use Rattle.outside.specs.Causes.{HasCause};
+ghost use Rattle.outside.specs.Causes.{GetHasCause};
 ghost use Rattle.outside.specs.View.{bytes_of};
 ghost use Rattle.outside.specs.Writes.{after_writes, StopsAt};
 ghost use Rattle.outcome.specs.Meanings.{IsOfBlocks};
@@ -10,7 +10,7 @@ ghost use Rattle.outcome.specs.Outcome.{Outcome};
 ghost use Rattle.lru.specs.LruCache.{lru_cache};
 ghost use Rattle.store_api.specs.Content.{Id, SameIds, SameContent};
 ghost use Rattle.store_api.specs.Lists.{MayConfigure, with_config};
-ghost use Rattle.store_api.specs.Holdings.{Fits, Changed, IsSpent, Stays};
+ghost use Rattle.store_api.specs.Holdings.{FitsStore, Changed, IsSpent, Stays};
 ghost use Rattle.store_api.specs.Loads.{answer_of};
 ghost use Rattle.block_cache.specs.Payloads.{AfterLoad, Renewed, cached_for};
 ghost use Rattle.block_cache.specs.Through.{LoadsPast, meanings_past, holdings_past, loads_past, durables_past, lawful_past, steady_past, stays_past, enduring_past};
@@ -132,7 +132,7 @@ impl<S: BlocksMut> BlocksMut for BlockCache<S> {
         chance: &mut R,
     ) -> Result<(), ApplyError>
         requires intact { ⟦<BlockCache<S> as Blocks>⟧.meanings.intact self.old }
-        requires fits { Fits ⟦<BlockCache<S> as Blocks>⟧.holdings self.old batch.now }
+        requires fits { FitsStore ⟦<BlockCache<S> as Blocks>⟧.holdings self.old batch.now }
         ensures intact { ⟦<BlockCache<S> as Blocks>⟧.meanings.intact self.new }
         ensures changed { OnOk result (Changed ⟦<BlockCache<S> as Blocks>⟧.meanings ⟦<BlockCache<S> as Blocks>⟧.holdings self.old self.new batch.now) }
         ensures applied { OnOk result (S.applied self.old.store self.new.store batch.now) }
@@ -178,9 +178,9 @@ impl<S: Durable> Durable for BlockCache<S> {
         ensures ok { OnOk result (S.durables.list self.new.store ≡ with_config bytes.items (S.durables.list self.old.store)) }
         ensures err { OnErr result (⟦<BlockCache<S> as Blocks>⟧.meanings.loaded self.old self.new) }
         ensures stays { Stays ⟦<BlockCache<S> as Blocks>⟧.holdings self.old self.new }
-        ensures empty { S.durables.record_of self.new.store false ≡ S.durables.record_of self.old.store false }
+        ensures empty { S.durables.local_record_of self.new.store false ≡ S.durables.local_record_of self.old.store false }
         ensures trace { S.durables.trace self.new.store ≡ S.durables.trace self.old.store }
-        ensures configures { OnOk result (S.records.configures (S.durables.record_of self.new.store true) (S.durables.trace self.new.store) bytes.items) }
+        ensures configures { OnOk result (S.records.configures (S.durables.local_record_of self.new.store true) (S.durables.trace self.new.store) bytes.items) }
         ensures sound { ⟦<BlockCache<S> as Blocks>⟧.meanings.sound self.old → ⟦<BlockCache<S> as Blocks>⟧.meanings.sound self.new }
         ensures forgeries { ⟦<BlockCache<S> as Blocks>⟧.meanings.forgeries self.new ≡ ⟦<BlockCache<S> as Blocks>⟧.meanings.forgeries self.old }
         ensures lies { ⟦<BlockCache<S> as Blocks>⟧.meanings.lies self.new ≡ ⟦<BlockCache<S> as Blocks>⟧.meanings.lies self.old }
@@ -205,17 +205,17 @@ impl<S: Durable> Durable for BlockCache<S> {
         ensures ok { OnOk result (S.durables.list self.new.store ≡ []) }
         ensures writes { OnOk result (S.durables.trace self.new.store ≡ after_writes (S.durables.list self.old.store) (S.durables.trace self.old.store)) }
         ensures stops { OnErr result (StopsAt (S.durables.list self.old.store) (S.durables.trace self.old.store) (S.durables.trace self.new.store) (S.durables.list self.new.store)) }
-        ensures empty { S.durables.record_of self.new.store false ≡ S.durables.record_of self.old.store false }
+        ensures empty { S.durables.local_record_of self.new.store false ≡ S.durables.local_record_of self.old.store false }
         ensures stands { ⟦<BlockCache<S> as Blocks>⟧.meanings.sound self.old → (S.durables.identity self.old.store).marked ≡ false
-            → S.records.stands (S.durables.identity self.old.store) (S.durables.record_of self.old.store true) (S.durables.trace self.new.store) (⟦<BlockCache<S> as Blocks>⟧.holdings.content self.old) }
-        ensures kept_configures { (bytes : List ℕ) → S.records.configures (S.durables.record_of self.old.store true) (S.durables.trace self.old.store) bytes
-            → S.records.configures (S.durables.record_of self.old.store true) (S.durables.trace self.new.store) bytes }
-        ensures configures { ⟦<BlockCache<S> as Blocks>⟧.holdings.told self.old ≡ true → (bytes : List ℕ) → S.records.configures (S.durables.record_of self.old.store true) (S.durables.trace self.old.store) bytes
-            → S.records.configures (S.durables.record_of self.new.store true) (S.durables.trace self.new.store) bytes }
+            → S.records.stands (S.durables.identity self.old.store) (S.durables.local_record_of self.old.store true) (S.durables.trace self.new.store) (⟦<BlockCache<S> as Blocks>⟧.holdings.content self.old) }
+        ensures kept_configures { (bytes : List ℕ) → S.records.configures (S.durables.local_record_of self.old.store true) (S.durables.trace self.old.store) bytes
+            → S.records.configures (S.durables.local_record_of self.old.store true) (S.durables.trace self.new.store) bytes }
+        ensures configures { ⟦<BlockCache<S> as Blocks>⟧.holdings.told self.old ≡ true → (bytes : List ℕ) → S.records.configures (S.durables.local_record_of self.old.store true) (S.durables.trace self.old.store) bytes
+            → S.records.configures (S.durables.local_record_of self.new.store true) (S.durables.trace self.new.store) bytes }
         ensures sound { ⟦<BlockCache<S> as Blocks>⟧.meanings.sound self.old → ⟦<BlockCache<S> as Blocks>⟧.meanings.sound self.new }
         ensures forgeries { ⟦<BlockCache<S> as Blocks>⟧.meanings.forgeries self.new ≡ ⟦<BlockCache<S> as Blocks>⟧.meanings.forgeries self.old }
         ensures lies { ⟦<BlockCache<S> as Blocks>⟧.meanings.lies self.new ≡ ⟦<BlockCache<S> as Blocks>⟧.meanings.lies self.old }
-        ensures cause { HasCause (⟦<BlockCache<S> as Blocks>⟧.meanings.faults self.old) (⟦<BlockCache<S> as Blocks>⟧.meanings.faults self.new) result }
+        ensures cause { GetHasCause (⟦<BlockCache<S> as Blocks>⟧.meanings.faults self.old) (⟦<BlockCache<S> as Blocks>⟧.meanings.faults self.new) result }
 
         ensures cached { self.new.cached ≡ self.old.cached }
     {

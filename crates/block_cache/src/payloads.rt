@@ -24,7 +24,7 @@ pub(crate) fn cache(
     }
 }
 
-// A copy of a new payload, where there is one and memory for it.
+/// A copy of a new payload, where there is one and memory for it.
 fn copy_of(alloc: Global, change: &BatchChange) -> Option<Vec<u8>>
     ensures { IfSome result (λ bytes. change_view change.now ≡ Some bytes.items) }
 {
@@ -34,7 +34,7 @@ fn copy_of(alloc: Global, change: &BatchChange) -> Option<Vec<u8>>
     }
 }
 
-// Has what is cached for this id change alike, or forgets it.
+/// Has what is cached for this id change alike, or forgets it.
 fn renew(
     alloc: Global,
     payloads: &mut LruCache<BlockId, Vec<u8>>,

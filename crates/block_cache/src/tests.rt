@@ -21,7 +21,7 @@ const ABSENT: BlockId = BlockId([4; 16]);
 
 type Cached = Tx<BlockCache<Counted<MapStore>>>;
 
-// Has an id get a payload of this byte.
+/// Has an id get a payload of this byte.
 fn give<S: Blocks>(alloc: Global, tx: &mut Tx<S>, id: &BlockId, byte: u8) -> Result<(), Fail>
     requires { ⟦<Tx<S> as Blocks>⟧.meanings.intact tx.old }
     ensures { ⟦<Tx<S> as Blocks>⟧.meanings.intact tx.new }
@@ -37,7 +37,7 @@ fn give<S: Blocks>(alloc: Global, tx: &mut Tx<S>, id: &BlockId, byte: u8) -> Res
     Ok(())
 }
 
-// Removes the payload of an id.
+/// Removes the payload of an id.
 fn take<S: Blocks>(tx: &mut Tx<S>, id: &BlockId) -> Result<(), Fail>
     requires { ⟦<Tx<S> as Blocks>⟧.meanings.intact tx.old }
     ensures { ⟦<Tx<S> as Blocks>⟧.meanings.intact tx.new }
@@ -57,7 +57,7 @@ fn commit<S: BlocksMut>(alloc: Global, tx: &mut Tx<S>) -> Result<(), Fail>
     Ok(())
 }
 
-// The first byte of a payload, or 0 where there is none.
+/// The first byte of a payload, or 0 where there is none.
 fn first_byte<S: Blocks>(alloc: Global, tx: &mut Tx<S>, id: &BlockId) -> Result<u8, Fail>
     requires { ⟦<Tx<S> as Blocks>⟧.meanings.intact tx.old }
     ensures { ⟦<Tx<S> as Blocks>⟧.meanings.intact tx.new }
@@ -79,7 +79,7 @@ fn first_bytes<S: Blocks>(alloc: Global, tx: &mut Tx<S>, ids: &[BlockId]) -> Res
     Ok(seen)
 }
 
-// Three blocks of 50 bytes, of 1, 2 and 3.
+/// Three blocks of 50 bytes, of 1, 2 and 3.
 fn give_three<S: BlocksMut>(alloc: Global, tx: &mut Tx<S>) -> Result<(), Fail>
     requires { ⟦<Tx<S> as Blocks>⟧.meanings.intact tx.old }
     ensures { ⟦<Tx<S> as Blocks>⟧.meanings.intact tx.new }
@@ -90,7 +90,7 @@ fn give_three<S: BlocksMut>(alloc: Global, tx: &mut Tx<S>) -> Result<(), Fail>
     commit(alloc, tx)
 }
 
-// No blocks, behind a cache of at most so many.
+/// No blocks, behind a cache of at most so many.
 fn empty(alloc: Global, capacity: usize) -> Result<Cached, Fail>
     requires { 1 ≤ capacity }
     ensures { IfOk result (λ tx. ⟦<Cached as Blocks>⟧.meanings.intact tx) }
@@ -108,7 +108,7 @@ fn empty(alloc: Global, capacity: usize) -> Result<Cached, Fail>
     }
 }
 
-// What these ids have after three blocks were made, one load after another.
+/// What these ids have after three blocks were made, one load after another.
 fn load_all<S: BlocksMut>(alloc: Global, tx: &mut Tx<S>, ids: &[BlockId]) -> Result<Vec<u8>, Fail>
     requires { ⟦<Tx<S> as Blocks>⟧.meanings.intact tx.old }
 {
@@ -116,7 +116,7 @@ fn load_all<S: BlocksMut>(alloc: Global, tx: &mut Tx<S>, ids: &[BlockId]) -> Res
     first_bytes(alloc, tx, ids)
 }
 
-// The same through a cache of at most so many blocks, and how many loads reached the store below.
+/// The same through a cache of at most so many blocks, and how many loads reached the store below.
 fn loaded(alloc: Global, capacity: usize, ids: &[BlockId]) -> Result<(Vec<u8>, u64), Fail>
     requires { 1 ≤ capacity }
 {
@@ -143,7 +143,7 @@ fn counts_loads_below(rt: HostRuntime) -> Result<(), Fail> {
     Ok(())
 }
 
-// Loads a block, changes it, copies another one's payload over it and removes it, and loads it each time.
+/// Loads a block, changes it, copies another one's payload over it and removes it, and loads it each time.
 fn change_one<S: BlocksMut>(alloc: Global, tx: &mut Tx<S>) -> Result<Vec<u8>, Fail>
     requires { ⟦<Tx<S> as Blocks>⟧.meanings.intact tx.old }
 {

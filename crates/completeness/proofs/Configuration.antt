@@ -8,7 +8,7 @@ use Rattle.std.specs.declared.option.Option.TheVariants.{None, Some}
 use Rattle.std.proofs.lemmas.Option.{same_Some}
 use Rattle.std.proofs.lemmas.Bool.{not-false}
 use Rattle.config_file.proofs.Opening.{only}
-use Rattle.config_file.specs.ConfigOf.{ConfigOf, Found, opened}
+use Rattle.config_file.specs.ConfigOf.{ConfigOf, ConfigFound, opened}
 use Rattle.config_file.specs.Settings.{Settings}
 use Rattle.integrity_store.specs.EnduringLaws.{configured_of}
 use Rattle.integrity_store.specs.Standing.{Configures, records}
@@ -18,7 +18,7 @@ use Rattle.line_io.specs.Streams.{Stream}
 use Rattle.mount.specs.Opening.{IsLoaded, GaveConfig}
 use Rattle.mount.specs.Unforged.{IsUnforgedConfig}
 use Rattle.mount.proofs.Reading.{true_is_false}
-use Rattle.outside.specs.Changes.{Changes, change_at, cut}
+use Rattle.outside.specs.Changes.{FileChanges, change_at, cut}
 use Rattle.outside.specs.Honest.{last_change, same_answer, is_left, is_lie, count_calls, count_told}
 use Rattle.outside.specs.HonestLaws.{count_grows, uncounted}
 use Rattle.outside.specs.Trace.{Call, config, got, adds}
@@ -61,14 +61,14 @@ none_given file (Some t) t1 told none is honest =
 waits : (file : List ℕ) (change answer : Option (List ℕ)) → length file ≤ 1127 → change ≡ Some file → answer ≡ cut 1127 change → answer ≡ Some file
 waits file change answer fits e is = is ∙ (ap (cut 1127) e ∙ ap Some (take_all 1127 file fits))
 
-gave_file : (file : List ℕ) (list : Changes) (at : Option (Option (List ℕ))) (t0 t1 : Option (List Call)) (answer : Option (List ℕ)) → length file ≤ 1127 → change_at config list ≡ at → IsConfigured list t0 file
+gave_file : (file : List ℕ) (list : FileChanges) (at : Option (Option (List ℕ))) (t0 t1 : Option (List Call)) (answer : Option (List ℕ)) → length file ≤ 1127 → change_at config list ≡ at → IsConfigured list t0 file
     → Gave at t0 t1 config 1127 answer → count_told is_lie t1 ≤ count_told is_lie t0 → answer ≡ Some file
 gave_file file list None t0 t1 answer fits at (inl w) gave honest = absurd (cc (sym at ∙ w))
 gave_file file list None t0 t1 answer fits at (inr (none, last)) gave honest = got_last file t0 t1 answer fits last gave honest
 gave_file file list (Some change) t0 t1 answer fits at (inl w) gave honest = waits file change answer fits (cc (sym at ∙ w)) gave.1
 gave_file file list (Some change) t0 t1 answer fits at (inr (none, last)) gave honest = absurd (cc (sym at ∙ none))
 
-module _ (password : List ℕ) (kept : Option (List ℕ)) (t0 t1 : Option (List Call)) (state : PlainState) (list : Changes) (l : IsLoaded kept state list) (c : Settings) (cost : Cost) (file : List ℕ)
+module _ (password : List ℕ) (kept : Option (List ℕ)) (t0 t1 : Option (List Call)) (state : PlainState) (list : FileChanges) (l : IsLoaded kept state list) (c : Settings) (cost : Cost) (file : List ℕ)
     (holds : KeptConfigures records kept t0 file) (opens : ConfigOf password file (opened c cost)) (honest : count_told is_lie t1 ≤ count_told is_lie t0) where
   configured : IsConfigured list t0 file
   configured = configured_of state list t0 file l.has_record (subst (λ x. Configures x t0 file) (same_Some _ _ (sym holds.1 ∙ l.kept)) holds.2)
@@ -78,7 +78,7 @@ module _ (password : List ℕ) (kept : Option (List ℕ)) (t0 t1 : Option (List 
   given answer gave = gave_file file list (change_at config list) t0 t1 answer (omega (arith, opens.0.size)) refl configured gave honest
 
   -- and it is nothing else under the password
-  pub given_is : (answer : List ℕ) (found : Found) → GaveConfig list t0 t1 (Some answer) → ConfigOf password answer found → found ≡ opened c cost
+  pub given_is : (answer : List ℕ) (found : ConfigFound) → GaveConfig list t0 t1 (Some answer) → ConfigOf password answer found → found ≡ opened c cost
   given_is answer found gave is = only password file found (opened c cost) (subst (λ x. ConfigOf password x found) (same_Some _ _ (given (Some answer) gave)) is) opens
 
 -- ---- the first call gives it, where it doesn't wait
@@ -95,17 +95,17 @@ same_length file bytes max e same =
 
 module _ (password : List ℕ) (kept : Option (List ℕ)) (t0 t1 : Option (List Call)) (c : Settings) (cost : Cost) (file : List ℕ)
     (holds : KeptConfigures records kept t0 file) (opens : ConfigOf password file (opened c cost)) (honest : count_told is_lie t1 ≤ count_told is_lie t0) where
-  by_record : (state : PlainState) (list : Changes) → HasRecord state list → kept ≡ Some (record_bytes state list) → IsConfigured list t0 file
+  by_record : (state : PlainState) (list : FileChanges) → HasRecord state list → kept ≡ Some (record_bytes state list) → IsConfigured list t0 file
   by_record state list has is = configured_of state list t0 file has (subst (λ x. Configures x t0 file) (same_Some _ _ (sym holds.1 ∙ is)) holds.2)
 
   is_this : (bytes : List ℕ) (found : Settings) (params : Cost) → bytes ≡ file → ConfigOf password bytes (opened found params) → found ≡ c
   is_this bytes found params e o = same_settings found c params cost (only password file (opened found params) (opened c cost) (subst (λ x. ConfigOf password x (opened found params)) e o) opens)
 
-  waiting : (list : Changes) (bytes : List ℕ) → change_at config list ≡ Some (Some bytes) → IsConfigured list t0 file → bytes ≡ file
+  waiting : (list : FileChanges) (bytes : List ℕ) → change_at config list ≡ Some (Some bytes) → IsConfigured list t0 file → bytes ≡ file
   waiting list bytes at (inl w) = cc (sym at ∙ w)
   waiting list bytes at (inr (none, last)) = absurd (cc (sym at ∙ none))
 
-  called : (list : Changes) (before calls : List Call) (max : ℕ) (bytes : List ℕ) → change_at config list ≡ None → t0 ≡ Some before → t1 ≡ Some (calls ++ got config max (Some bytes) ∷ before) → IsConfigured list t0 file
+  called : (list : FileChanges) (before calls : List Call) (max : ℕ) (bytes : List ℕ) → change_at config list ≡ None → t0 ≡ Some before → t1 ≡ Some (calls ++ got config max (Some bytes) ∷ before) → IsConfigured list t0 file
       → bytes ≡ take max file
   called list before calls max bytes none eo en (inl w) = absurd (cc (sym none ∙ w))
   called list before calls max bytes none eo en (inr (free, last)) =

@@ -14,18 +14,18 @@ use Rattle.mount_core.specs.Causes.{SpentCause}
 use Rattle.mount_core.specs.Standing.{Left}
 use Rattle.outside.specs.Trace.{Call}
 use Rattle.outside.specs.declared.keeper.Keeper.{Ghosts as KeeperGhosts}
-use Rattle.session_runs.specs.Answering.{store_of, Answered, MountAnswers}
+use Rattle.session_runs.specs.Answering.{store_of, LineAnswered, MountAnswers}
 use Rattle.session_runs.specs.Lawful.{mount_lawful}
 use Rattle.tree_commands.specs.Showing.{ShowsFiles}
 use Rattle.completeness.specs.Mounts.{MountStands, MountUntroubled, IsKeptNext, MountAnswered}
-use Rattle.completeness.specs.Sessions.{IsUnfailed}
+use Rattle.completeness.specs.Sessions.{IsFaultless}
 use Rattle.completeness.proofs.Serving.{none_rose, one_unfailed}
 
 module _ {V : Type 0} {K : Type 0} (trace : V → Option (List Call)) (faults : V → ℕ) (G : KeeperGhosts K) (now : Instant) (before after : Mount V K) (asked : Asked) (answer : Answer) (kept present : Tree) where
   abbrev Outcome : Type 0
   Outcome = MountAnswered trace faults G now kept present asked answer before after
 
-  left_so : IfOk asked (λ command. OnSpent answer (SpentCause (tower_holdings trace) (store_of before) command)) → (synced : Bool) (next : Tree) → is_synced asked answer ≡ synced → IsUnfailed answer → FollowsAsked now present asked answer next → after.core.violated ≡ false
+  left_so : IfOk asked (λ command. OnSpent answer (SpentCause (tower_holdings trace) (store_of before) command)) → (synced : Bool) (next : Tree) → is_synced asked answer ≡ synced → IsFaultless answer → FollowsAsked now present asked answer next → after.core.violated ≡ false
       → Left ShowsFiles (tower_meanings trace faults) (tower_holdings trace) (tower_durables trace) records G after.core kept present next false synced → Outcome
   left_so spent true next e unfailed follows fresh stands =
       record { unfailed = unfailed; spent = spent; next = next; follows = follows; tree = next; point = subst (λ b. IsKeptNext b kept present next next) (sym e) refl; stands = record { unviolated = fresh; stands = stands } }
@@ -40,7 +40,7 @@ module _ {V : Type 0} {K : Type 0} (trace : V → Option (List Call)) (faults : 
       let served = (mount_lawful (λ (m : Mount V K). m) ShowsFiles trace faults G).refusal before after now asked answer a ∙ stands.unviolated in
       let directory = none_rose _ _ _ a.vault_cause quiet.directory_unfailed in
       let state = none_rose _ _ _ a.keeper_cause quiet.state_unfailed in
-      let t : Answered ShowsFiles trace faults G now after kept present asked answer = a.stands kept present stands.unviolated stands.stands (a.unforged stands.stands.sound quiet.honest) in
+      let t : LineAnswered ShowsFiles trace faults G now after kept present asked answer = a.stands kept present stands.unviolated stands.stands (a.unforged stands.stands.sound quiet.honest) in
       let fresh : after.core.violated ≡ false = a.violated ∙ (ap (λ b. b || before.core.violated) calm ∙ stands.unviolated) in
       left_so a.spent (is_synced asked answer) t.next refl (one_unfailed answer calm served directory state) t.follows fresh
       (subst (λ b. Left ShowsFiles (tower_meanings trace faults) (tower_holdings trace) (tower_durables trace) records G after.core kept present t.next b (is_synced asked answer)) calm t.left)

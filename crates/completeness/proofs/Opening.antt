@@ -3,14 +3,14 @@ use Rattle.std.proofs.Common.{◌≡◌, ◌≤◌, ◌∙◌, ℕ, Bool, true, 
 use Rattle.std.specs.declared.option.Option.{Option}
 use Rattle.std.specs.declared.option.Option.TheVariants.{None}
 use Rattle.std.proofs.lemmas.Option.{none-some}
-use Rattle.config_file.specs.ConfigOf.{ConfigOf, Found, opened, form, locked, inner}
+use Rattle.config_file.specs.ConfigOf.{ConfigOf, ConfigFound, opened, form, locked, inner}
 use Rattle.config_file.specs.Settings.{Settings}
 use Rattle.config_file.specs.declared.error.ConfigError.TheVariants as config_error
 use Rattle.fs_model.specs.Tree.{Tree}
 use Rattle.integrity_store.specs.Standing.{records}
 use Rattle.line_io.specs.Lines.{first_line}
 use Rattle.line_io.specs.Streams.{Stream, Untouched}
-use Rattle.mount.specs.Mounts.{IsCalm}
+use Rattle.mount.specs.Mounts.{IsCalmOpening}
 use Rattle.mount.specs.Opening.{AttachCause}
 use Rattle.mount.specs.declared.error.OpenError.{OpenError}
 use Rattle.mount.specs.declared.error.OpenError.TheVariants as open_error
@@ -35,19 +35,19 @@ use Rattle.completeness.proofs.Passwords.{one_unread}
 
 -- ---- why a file system isn't opened
 
-abbrev is_opened : Found → Bool
+abbrev is_opened : ConfigFound → Bool
 is_opened (opened c cost) = true
 is_opened form = false
 is_opened locked = false
 is_opened inner = false
 
-not_opened : (found : Found) (c : Settings) (cost : Cost) → is_opened found ≡ false → found ≡ opened c cost → ⊥
+not_opened : (found : ConfigFound) (c : Settings) (cost : Cost) → is_opened found ≡ false → found ≡ opened c cost → ⊥
 not_opened found c cost unopened e = absurd (cc (sym unopened ∙ ap is_opened e))
 
 module _ (password : List ℕ) (kept : Option (List ℕ)) (t0 t1 : Option (List Call)) (v0 v1 k0 k1 : ℕ) (c : Settings) (cost : Cost) (file : List ℕ)
     (holds : KeptConfigures records kept t0 file) (opens : ConfigOf password file (opened c cost)) (honest : count_told is_lie t1 ≤ count_told is_lie t0)
     (directory : ¬ RoseBy 1 v0 v1) (state : ¬ RoseBy 1 k0 k1) where
-  wants : (error : OpenError) → AttachCause password kept t0 t1 v0 v1 k0 k1 error → IsCalm error → opening_status error ≡ Memory
+  wants : (error : OpenError) → AttachCause password kept t0 t1 v0 v1 k0 k1 error → IsCalmOpening error → opening_status error ≡ Memory
   wants open_error.Memory cause calm = refl
   wants open_error.NoState cause calm = absurd calm
   wants open_error.BadState cause calm = absurd calm

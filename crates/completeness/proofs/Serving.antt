@@ -10,7 +10,7 @@ use Rattle.config_file.specs.Settings.{Settings}
 use Rattle.fs_model.specs.Instant.{Instant}
 use Rattle.fs_model.specs.Tree.{Tree}
 use Rattle.line_io.specs.Lines.{first_line}
-use Rattle.line_io.specs.Streams.{Stream, Failed, TookMost}
+use Rattle.line_io.specs.Streams.{Stream, HasFailed, TookMost}
 use Rattle.mount.proofs.Reading.{represents_told}
 use Rattle.outside.specs.Causes.{RoseBy}
 use Rattle.outside.specs.Trace.{Call}
@@ -23,7 +23,7 @@ use Rattle.run_status.specs.declared.status.Status.TheVariants as status
 use Rattle.session_lines.specs.Driven.{Reported}
 use Rattle.session_lines.specs.declared.end.End.{End}
 use Rattle.session_lines.specs.declared.end.End.TheVariants.{Finished, InputFault, OutputFault}
-use Rattle.session_runs.specs.Runs.{Outside, outside_of, StandsFor, AreCalm, directory_fault, state_fault}
+use Rattle.session_runs.specs.Runs.{Outside, outside_of, OutsideStandsFor, AreCalm, directory_fault, state_fault}
 use Rattle.session_runs.proofs.Whole.{unviolated}
 use Rattle.session_saver.specs.declared.saver.SyncError.{SyncError}
 use Rattle.session_saver.specs.declared.saver.SyncError.TheVariants as sync_error
@@ -31,21 +31,21 @@ use Rattle.shell_sessions.specs.Sessions.{Session, IsServed, ComesShell, ComesGe
 use Rattle.shell_sessions.specs.Statuses.{session_status}
 use Rattle.tree_commands.specs.Showing.{ShowsFiles}
 use Rattle.completeness.specs.Premises.{IsUntroubled, Finds}
-use Rattle.completeness.specs.Sessions.{IsUnfailed, AreUnfailed, IsComplete, FindsNoMemory}
+use Rattle.completeness.specs.Sessions.{IsFaultless, AreFaultless, IsComplete, FindsNoMemory}
 use Rattle.completeness.proofs.Configuration.{opens_to}
 use Rattle.completeness.proofs.Opening.{unread, unopened}
 use Rattle.completeness.proofs.Passwords.{password_is}
 
 -- ---- how the lines ended
 
-reported : (output : Stream) (text : List ℕ) (end : End) → ¬ Failed output → Reported output text end → end ≡ Finished
+reported : (output : Stream) (text : List ℕ) (end : End) → ¬ HasFailed output → Reported output text end → end ≡ Finished
 reported output text Finished quiet r = refl
 reported output text InputFault quiet r = absurd r
 reported output text OutputFault quiet r = absurd (quiet r.1)
 
 -- lines that came so come to their end
 abbrev pub ComesToEnd : (Stream → Stream → Option (List ℕ) → End → List Exchange → Type 0) → Type 0
-ComesToEnd Comes = (input output : Stream) (script : Option (List ℕ)) (end : End) (es : List Exchange) → ¬ Failed input → ¬ Failed output → ¬ TookMost 0 input → Comes input output script end es → end ≡ Finished
+ComesToEnd Comes = (input output : Stream) (script : Option (List ℕ)) (end : End) (es : List Exchange) → ¬ HasFailed input → ¬ HasFailed output → ¬ TookMost 0 input → Comes input output script end es → end ≡ Finished
 
 pub shell_ends : ComesToEnd ComesShell
 shell_ends input output script Finished es source sink few came = refl
@@ -64,7 +64,7 @@ pub none_rose : (n a b : ℕ) → RoseBy n a b → ¬ RoseBy 1 a b → n ≡ 0
 none_rose zero a b rose none = refl
 none_rose (suc n) a b rose none = absurd (none (omega arith))
 
-pub one_unfailed : (answer : Answer) → is_violation answer ≡ false → is_refused answer ≡ false → directory_faults answer ≡ 0 → state_faults answer ≡ 0 → IsUnfailed answer
+pub one_unfailed : (answer : Answer) → is_violation answer ≡ false → is_refused answer ≡ false → directory_faults answer ≡ 0 → state_faults answer ≡ 0 → IsFaultless answer
 one_unfailed (Replied reply) violation refused directory state = tt
 one_unfailed NoMemory violation refused directory state = tt
 one_unfailed Spent violation refused directory state = tt
@@ -73,7 +73,7 @@ one_unfailed FaultState violation refused directory state = absurd (cc)
 one_unfailed (Violation why) violation refused directory state = absurd (cc)
 one_unfailed Refused violation refused directory state = absurd (cc)
 
-all_unfailed : (es : List Exchange) → AreCalm es → all_directory_faults es ≡ 0 → all_state_faults es ≡ 0 → AreUnfailed es
+all_unfailed : (es : List Exchange) → AreCalm es → all_directory_faults es ≡ 0 → all_state_faults es ≡ 0 → AreFaultless es
 all_unfailed [] calm directory state = tt
 all_unfailed (e ∷ es) calm directory state =
     (one_unfailed e.answer calm.0 calm.1 (omega (arith, directory)) (omega (arith, state)), all_unfailed es calm.2 (omega (arith, directory)) (omega (arith, state)))
@@ -108,7 +108,7 @@ module _ {V : Type 0} {K : Type 0} (trace : V → Option (List Call)) (faults : 
         let directory : all_directory_faults s.es + directory_fault s.closing ≡ 0 = none_rose _ _ _ s.session.directory_faults_happened quiet.directory_unfailed in
         let state : all_state_faults s.es + state_fault s.closing ≡ 0 = none_rose _ _ _ s.session.state_faults_happened quiet.state_unfailed in
         let ends : ended.status ≡ closing_status s.closing = s.status ∙ (ap (λ b. session_status b s.end s.closing) none ∙ ap (λ e. session_status false e s.closing) end) in
-        let kept : (tree : Tree) × IsKeptPoint first s.es a.trees tree × StandsFor ShowsFiles c tree After = elim a.kept as (λ _. (tree : Tree) × IsKeptPoint first s.es a.trees tree × StandsFor ShowsFiles c tree After) [
+        let kept : (tree : Tree) × IsKeptPoint first s.es a.trees tree × OutsideStandsFor ShowsFiles c tree After = elim a.kept as (λ _. (tree : Tree) × IsKeptPoint first s.es a.trees tree × OutsideStandsFor ShowsFiles c tree After) [
           | inl marked ↦ absurd (cc (sym marked.0 ∙ none))
           | inr point ↦ point
         ] in

@@ -8,15 +8,15 @@ use Rattle.std.proofs.lemmas.Option.{none-some}
 use Rattle.block_id.specs.declared.id.BlockId.{BlockId}
 use Rattle.config_file.specs.ConfigOf.{ConfigOf, IsOnly, opened}
 use Rattle.config_file.specs.Settings.{Settings, settings_of}
-use Rattle.cryfs_setup.specs.Create.{Created, IsCreated, created_text, Reports as CreateReports}
-use Rattle.cryfs_setup.specs.Info.{Told, IsTold, info_text}
-use Rattle.cryfs_setup.specs.Passwd.{Changed, IsChanged, NewOpens, changed_text, Reports as PasswdReports}
+use Rattle.cryfs_setup.specs.Create.{RanCreate, IsCreated, created_text, Reports as CreateReports}
+use Rattle.cryfs_setup.specs.Info.{Told, IsConfigTold, info_text}
+use Rattle.cryfs_setup.specs.Passwd.{RanPasswd, IsChanged, NewOpens, changed_text, Reports as PasswdReports}
 use Rattle.cryfs_setup.specs.Printing.{Printed}
 use Rattle.cryfs_setup.proofs.Ending.{ends}
 use Rattle.fs_model.specs.Tree.{Tree, empty_tree}
 use Rattle.integrity_store.specs.EnduringLaws.{listed_has}
 use Rattle.line_io.specs.Lines.{first_line}
-use Rattle.line_io.specs.Streams.{Stream, Failed}
+use Rattle.line_io.specs.Streams.{Stream, HasFailed}
 use Rattle.mount.specs.Drawing.{seal_drawn}
 use Rattle.mount.specs.Making.{CreateCause, Created as Made, IsMade, new_settings, sealed_file}
 use Rattle.mount.specs.Representing.{HasEmptyList}
@@ -30,7 +30,7 @@ use Rattle.outside.specs.HonestLaws.{count_grows}
 use Rattle.outside.specs.Streams.{appends}
 use Rattle.outside.specs.Trace.{At, Call, config}
 use Rattle.outside.specs.declared.keeper.Keeper.{Ghosts as KeeperGhosts}
-use Rattle.passwords.specs.Passwords.{second_line, IsLong}
+use Rattle.passwords.specs.Passwords.{second_line, IsLongLine}
 use Rattle.rand_core.specs.Stream.{Stream as Chance}
 use Rattle.run_openings.specs.Openings.{HasCauses, IsUnopened}
 use Rattle.run_status.specs.declared.ended.Ended.{Ended}
@@ -49,7 +49,7 @@ use Rattle.completeness.proofs.Configuration.{given_is, none_given, opens_to, sa
 use Rattle.completeness.proofs.Opening.{uncalled, unread, unopened}
 use Rattle.completeness.proofs.Passwords.{one_unread, two_unread, password_is, second_is}
 
-printed_done : (output : Stream) (text : List ℕ) (status : Status) → ¬ Failed output → Printed output text status → (status ≡ Done) × (output.new ≡ appends output.old text)
+printed_done : (output : Stream) (text : List ℕ) (status : Status) → ¬ HasFailed output → Printed output text status → (status ≡ Done) × (output.new ≡ appends output.old text)
 printed_done output text Done quiet p = (refl, p.0)
 printed_done output text OutputFault quiet p = absurd (quiet p.1)
 printed_done output text status quiet p = absurd p
@@ -80,7 +80,7 @@ module _ {V : Type 0} {K : Type 0} (trace : V → Option (List Call)) (faults : 
 
     -- ---- info
 
-    module _ (t : IsTold trace faults G (first_line bytes) output vault keeper ended) where
+    module _ (t : IsConfigTold trace faults G (first_line bytes) output vault keeper ended) where
       is_found : opened (settings_of t.o.config) t.o.params ≡ opened c finds.opens.1
       is_found =
           let a = t.attached in
@@ -105,7 +105,7 @@ module _ {V : Type 0} {K : Type 0} (trace : V → Option (List Call)) (faults : 
     info (inl u) = inl (unread trace faults G input output vault keeper ended bytes c tree finds quiet u)
     info (inr (password, script, has, unfailed, inl ((error, u), unwritten))) = inl (not_opened error password (password_is input.old bytes password script finds.told has.is_next) u unwritten)
     info (inr (password, script, has, unfailed, inr t)) =
-        inr (tells (subst (λ x. IsTold trace faults G x output vault keeper ended) (password_is input.old bytes password script finds.told has.is_next) t))
+        inr (tells (subst (λ x. IsConfigTold trace faults G x output vault keeper ended) (password_is input.old bytes password script finds.told has.is_next) t))
 
     -- ---- passwd
 
@@ -139,7 +139,7 @@ module _ {V : Type 0} {K : Type 0} (trace : V → Option (List Call)) (faults : 
         by_change (Err sync_error.FaultDirectory) reports new emptied = absurd (quiet.directory_unfailed (causes.directory_fault reports.0))
         by_change (Err sync_error.FaultState) reports new emptied = absurd (quiet.state_unfailed (causes.state_fault reports.0))
 
-      pub passwd : ¬ IsLong (second_line bytes) → Changed trace faults G chance left input output vault keeper ended → PasswdEnd
+      pub passwd : ¬ IsLongLine (second_line bytes) → RanPasswd trace faults G chance left input output vault keeper ended → PasswdEnd
       passwd short (inl (u, same)) =
           inl (record {
             ends = two_unread input bytes finds.told finds.short quiet.input_unfailed quiet.few short ended.status u.cause;
@@ -197,7 +197,7 @@ module _ {V : Type 0} {K : Type 0} (trace : V → Option (List Call)) (faults : 
     by_made (Err open_error.FaultState) reports is_id opens stands cause = absurd (quiet.state_unfailed cause)
     by_made (Err error) reports is_id opens stands cause = absurd cause
 
-    pub create : input.old ≡ Some bytes → ¬ IsLong (first_line bytes) → Created trace faults G cost block_size draws input output vault keeper ended → CreateEnd
+    pub create : input.old ≡ Some bytes → ¬ IsLongLine (first_line bytes) → RanCreate trace faults G cost block_size draws input output vault keeper ended → CreateEnd
     create told short (inl u) =
         inl (record {
           ends = one_unread input bytes told short quiet.input_unfailed quiet.few ended.status u.cause;

@@ -14,7 +14,7 @@ use Rattle.outside.specs.Trace.{Call}
 use Rattle.outside.specs.declared.keeper.Keeper.{Ghosts as KeeperGhosts}
 use Rattle.session_runs.specs.Answering.{MountAnswers, store_of, lies_of, vault_faults, keeper_faults}
 use Rattle.tree_commands.specs.Showing.{ShowsFiles}
-use Rattle.completeness.specs.Sessions.{IsUnfailed}
+use Rattle.completeness.specs.Sessions.{IsFaultless}
 
 -- there was no violation, and the mount stands for these trees
 pub record MountStands {V : Type 0} {K : Type 0} (trace : V → Option (List Call)) (faults : V → ℕ) (G : KeeperGhosts K) (kept present : Tree) (mount : Mount V K) : Type 0 where
@@ -34,7 +34,7 @@ IsKeptNext false kept present next tree = (tree ≡ kept) ⊎ (tree ≡ present)
 
 -- the answer is that of the tree that was present, and the mount stands for the trees that it leaves
 pub record MountAnswered {V : Type 0} {K : Type 0} (trace : V → Option (List Call)) (faults : V → ℕ) (G : KeeperGhosts K) (now : Instant) (kept present : Tree) (asked : Asked) (answer : Answer) (before after : Mount V K) : Type 0 where
-  pub unfailed : IsUnfailed answer
+  pub unfailed : IsFaultless answer
   pub spent : IfOk asked (λ command. OnSpent answer (SpentCause (tower_holdings trace) (store_of before) command))
   pub next : Tree
   pub follows : FollowsAsked now present asked answer next

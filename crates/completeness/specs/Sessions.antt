@@ -19,21 +19,21 @@ use Rattle.run_status.specs.declared.status.Status.TheVariants.{Done, Memory}
 use Rattle.session_lines.specs.declared.end.End.{End}
 use Rattle.session_lines.specs.declared.end.End.TheVariants.{Finished}
 use Rattle.session_runs.specs.Causes.{SpentSince}
-use Rattle.session_runs.specs.Runs.{Outside, outside_of, StandsFor}
+use Rattle.session_runs.specs.Runs.{Outside, outside_of, OutsideStandsFor}
 use Rattle.shell_sessions.specs.Sessions.{Session}
 use Rattle.tree_commands.specs.Showing.{ShowsFiles}
 use Rattle.completeness.specs.Premises.{IsUntroubled, Finds, Leaves}
 
 -- a reply, or memory was refused, or a block that the command would change has its last version
-abbrev pub IsUnfailed : Answer → Type 0
-IsUnfailed (Replied reply) = Unit {0}
-IsUnfailed NoMemory = Unit {0}
-IsUnfailed Spent = Unit {0}
-IsUnfailed answer = ⊥
+abbrev pub IsFaultless : Answer → Type 0
+IsFaultless (Replied reply) = Unit {0}
+IsFaultless NoMemory = Unit {0}
+IsFaultless Spent = Unit {0}
+IsFaultless answer = ⊥
 
-abbrev pub AreUnfailed : List Exchange → Type 0
-AreUnfailed [] = Unit {0}
-AreUnfailed (e ∷ es) = IsUnfailed e.answer × AreUnfailed es
+abbrev pub AreFaultless : List Exchange → Type 0
+AreFaultless [] = Unit {0}
+AreFaultless (e ∷ es) = IsFaultless e.answer × AreFaultless es
 
 -- All lines were answered from the first tree on, and the output is whole. A tree is kept as no acknowledged sync forbids, and after Done the last one, with nothing
 -- left to be written.
@@ -42,13 +42,13 @@ pub record IsComplete (now : Instant) (Came : End → List Exchange → Type 0) 
   pub trees : List Tree
   pub came : Came Finished es
   pub replies : IsSession now first es trees
-  pub unfailed : AreUnfailed es
+  pub unfailed : AreFaultless es
   pub spent : SpentSince before.kept es
   pub ends : (status ≡ Done) ⊎ (status ≡ Memory)
   pub tree : Tree
   pub point : IsKeptPoint first es trees tree
   pub leaves : Leaves password c tree after
-  pub done : status ≡ Done → StandsFor ShowsFiles c (latest first trees) after × HasEmptyList after.kept
+  pub done : status ≡ Done → OutsideStandsFor ShowsFiles c (latest first trees) after × HasEmptyList after.kept
 
 -- memory was refused before anything was answered, and the first tree is still there
 pub record FindsNoMemory (output : Stream) (password : List ℕ) (c : Settings) (first : Tree) (after : Outside) (status : Status) : Type 0 where

@@ -3,9 +3,9 @@ use Rattle.std.specs.Prelude.{◌≡◌, ◌⊎◌, ℕ, List}
 use Rattle.std.specs.declared.option.Option.{Option}
 use Rattle.std.specs.declared.option.Option.TheVariants.{None, Some}
 use Rattle.config_file.specs.Settings.{Settings}
-use Rattle.cryfs_setup.specs.Create.{Created, created_text}
+use Rattle.cryfs_setup.specs.Create.{RanCreate, created_text}
 use Rattle.cryfs_setup.specs.Info.{Told, info_text}
-use Rattle.cryfs_setup.specs.Passwd.{Changed, changed_text}
+use Rattle.cryfs_setup.specs.Passwd.{RanPasswd, changed_text}
 use Rattle.fs_model.specs.Tree.{Tree, empty_tree}
 use Rattle.line_io.specs.Lines.{first_line}
 use Rattle.line_io.specs.Streams.{Stream, Untouched}
@@ -15,7 +15,7 @@ use Rattle.mount.specs.declared.draws.Draws.{Draws}
 use Rattle.outside.specs.Streams.{appends}
 use Rattle.outside.specs.Trace.{At, Call}
 use Rattle.outside.specs.declared.keeper.Keeper.{Ghosts as KeeperGhosts}
-use Rattle.passwords.specs.Passwords.{second_line, IsLong}
+use Rattle.passwords.specs.Passwords.{second_line, IsLongLine}
 use Rattle.rand_core.specs.Stream.{Stream as Chance}
 use Rattle.run_openings.specs.Openings.{HasCauses}
 use Rattle.run_status.specs.declared.ended.Ended.{Ended}
@@ -62,10 +62,10 @@ pub record StaysOrChanges (output : Stream) (old new : List ℕ) (c : Settings) 
 abbrev pub PasswdCompletes : {V : Type 0} → {K : Type 0} → (V → Option (List Call)) → (V → ℕ) → KeeperGhosts K → Type 0
 PasswdCompletes {V = V} {K = K} trace faults G =
     (chance left : Chance) (input output : Stream) (vault : V) (keeper : K) (ended : Ended V K) (bytes : List ℕ) (c : Settings) (tree : Tree)
-    → Changed trace faults G chance left input output vault keeper ended
+    → RanPasswd trace faults G chance left input output vault keeper ended
     → HasCauses (outside_of trace faults G vault keeper) (outside_of trace faults G ended.vault ended.keeper) ended.status
     → Finds input bytes c tree (outside_of trace faults G vault keeper)
-    → ¬ IsLong (second_line bytes)
+    → ¬ IsLongLine (second_line bytes)
     → IsUntroubled input output (outside_of trace faults G vault keeper) (outside_of trace faults G ended.vault ended.keeper)
     → StaysOrChanges output (first_line bytes) (second_line bytes) c tree (outside_of trace faults G ended.vault ended.keeper) ended.status
     ⊎ IsDone output changed_text (second_line bytes) c tree (outside_of trace faults G ended.vault ended.keeper) ended.status
@@ -87,8 +87,8 @@ pub record StaysOrMakes (output : Stream) (password : List ℕ) (c : Settings) (
 abbrev pub CreateCompletes : {V : Type 0} → {K : Type 0} → (V → Option (List Call)) → (V → ℕ) → KeeperGhosts K → Type 0
 CreateCompletes {V = V} {K = K} trace faults G =
     (cost : Cost) (block_size : ℕ) (draws : Draws) (input output : Stream) (vault : V) (keeper : K) (ended : Ended V K) (bytes : List ℕ)
-    → Created trace faults G cost block_size draws input output vault keeper ended
-    → IsBare (outside_of trace faults G vault keeper) → input.old ≡ Some bytes → ¬ IsLong (first_line bytes)
+    → RanCreate trace faults G cost block_size draws input output vault keeper ended
+    → IsBare (outside_of trace faults G vault keeper) → input.old ≡ Some bytes → ¬ IsLongLine (first_line bytes)
     → IsUntroubled input output (outside_of trace faults G vault keeper) (outside_of trace faults G ended.vault ended.keeper)
     → StaysOrMakes output (first_line bytes) (new_settings block_size draws) (outside_of trace faults G ended.vault ended.keeper) ended.status
     ⊎ IsDone output (created_text draws.fs_id) (first_line bytes) (new_settings block_size draws) empty_tree (outside_of trace faults G ended.vault ended.keeper) ended.status

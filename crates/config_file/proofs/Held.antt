@@ -3,7 +3,7 @@ use Rattle.std.proofs.Common.{◌≡◌, ◌↔◌, ℕ, ◌-◌, List, length, 
 use Rattle.std.proofs.lemmas.List.{take_all}
 use Rattle.aes_gcm.specs.Gcm.{opened_of}
 use Rattle.scrypt_kdf.specs.Cost.{Cost}
-use Rattle.config_file.specs.ConfigOf.{Holds, json_in}
+use Rattle.config_file.specs.ConfigOf.{HoldsSettings, json_in}
 use Rattle.config_file.specs.Format.{cost_in, inner_in, outer_key, salt_in, sealed_in, text_in}
 use Rattle.config_file.specs.Json.{ReadsAs}
 use Rattle.config_file.specs.Settings.{Settings}
@@ -22,14 +22,14 @@ not_opened key part sealed is none = is_sealed key part sealed is ∙ ap (option
 pub is_opened : (key part sealed innermost : List ℕ) → sealed_in part ≡ Some sealed → opened_of key sealed ≡ Some innermost → json_in key part ≡ text_in innermost
 is_opened key part sealed innermost is opens = is_sealed key part sealed is ∙ ap (option_and_then text_in) opens
 
-pub not_held : (key part : List ℕ) → json_in key part ≡ None → (s : Settings) → (None ≡ Some s) ↔ Holds key part s
+pub not_held : (key part : List ℕ) → json_in key part ≡ None → (s : Settings) → (None ≡ Some s) ↔ HoldsSettings key part s
 not_held key part none s = (λ h. absurd (cc h), λ holds. absurd (cc (sym none ∙ holds.1)))
 
 same_text : (x y : List ℕ) → Some x ≡ Some y → x ≡ y
 same_text x y e = cc e
 
 pub held : (key part text : List ℕ) (o : Option Settings) → json_in key part ≡ Some text → ((s : Settings) → (o ≡ Some s) ↔ ReadsAs text s)
-    → (s : Settings) → (o ≡ Some s) ↔ Holds key part s
+    → (s : Settings) → (o ≡ Some s) ↔ HoldsSettings key part s
 held key part text o is iff s =
     (λ h. (text, is, (iff s).0 h), λ holds. (iff s).1 (subst (λ t. ReadsAs t s) (same_text holds.0 text (sym holds.1 ∙ is)) holds.2))
 

@@ -10,7 +10,7 @@ use Rattle.config_file.proofs.Held.{is_opened}
 use Rattle.config_file.proofs.JsonLength.{length_json_text}
 use Rattle.config_file.proofs.JsonReads.{text_reads}
 use Rattle.config_file.proofs.Places as place
-use Rattle.config_file.specs.ConfigOf.{ConfigOf, Found, Holds, IsOnly, form, inner, key_in, locked, opened}
+use Rattle.config_file.specs.ConfigOf.{ConfigOf, ConfigFound, HoldsSettings, IsOnly, form, inner, key_in, locked, opened}
 use Rattle.config_file.specs.Format.{HasForm, cipher_field, cost_in, inner_front, inner_in, inner_key, outer_key, salt_in, sealed_in}
 use Rattle.config_file.specs.Json.{json_text, settings_in}
 use Rattle.config_file.specs.Sealing.{AreFit, Inputs, config_text, inner_text, innermost_text, outer_text}
@@ -21,21 +21,21 @@ use Rattle.config_file.specs.Settings.{AreInLimits, Settings}
 same_some : {X : Type 0} (x y : X) → Some x ≡ Some y → x ≡ y
 same_some x y e = cc e
 
-one_held : (key part : List ℕ) (s t : Settings) → Holds key part s → Holds key part t → s ≡ t
+one_held : (key part : List ℕ) (s t : Settings) → HoldsSettings key part s → HoldsSettings key part t → s ≡ t
 one_held key part s t hs ht =
     let same : hs.0 ≡ ht.0 = same_some hs.0 ht.0 (sym hs.1 ∙ ht.1) in
     same_some s t (sym hs.2.1 ∙ ap (λ (text : List ℕ). option_and_then settings_in (read text)) same ∙ ht.2.1)
 
 -- no part that opens holds both a configuration and none
-not_both : (key part other : List ℕ) (s : Settings) (o : Option (List ℕ)) → o ≡ Some part → o ≡ Some other → Holds key part s
-    → ((t : Settings) → ¬ Holds key other t) → ⊥
-not_both key part other s o is also holds none = none s (subst (λ (p : List ℕ). Holds key p s) (same_some part other (sym is ∙ also)) holds)
+not_both : (key part other : List ℕ) (s : Settings) (o : Option (List ℕ)) → o ≡ Some part → o ≡ Some other → HoldsSettings key part s
+    → ((t : Settings) → ¬ HoldsSettings key other t) → ⊥
+not_both key part other s o is also holds none = none s (subst (λ (p : List ℕ). HoldsSettings key p s) (same_some part other (sym is ∙ also)) holds)
 
-pub only : (password bytes : List ℕ) (f g : Found) → ConfigOf password bytes f → ConfigOf password bytes g → f ≡ g
+pub only : (password bytes : List ℕ) (f g : ConfigFound) → ConfigOf password bytes f → ConfigOf password bytes g → f ≡ g
 only password bytes (opened s cost) (opened t other) hf hg =
     let key : List ℕ = key_in password bytes in
     let part : hf.2.0 ≡ hg.2.0 = same_some hf.2.0 hg.2.0 (sym hf.2.1 ∙ hg.2.1) in
-    let settings : s ≡ t = one_held key hg.2.0 s t (subst (λ (p : List ℕ). Holds key p s) part hf.2.2) hg.2.2 in
+    let settings : s ≡ t = one_held key hg.2.0 s t (subst (λ (p : List ℕ). HoldsSettings key p s) part hf.2.2) hg.2.2 in
     λ i. opened (settings i) ((hf.1 ∙ sym hg.1) i)
 only password bytes (opened s cost) form hf hg = absurd (hg hf.0)
 only password bytes (opened s cost) locked hf hg = absurd (cc (sym hf.2.1 ∙ hg.1))
@@ -82,7 +82,7 @@ module _ (i : Inputs) (s : Settings) (fit : AreFit i) (limits : AreInLimits s) w
   part_size =
       omega (arith, place.length-four_parts inner_front cipher_field (sealed_of inner_key_of i.inner_iv innermost) (slice_range i.fill 900 959), sealed_size, fill_size)
 
-  part_holds : Holds inner_key_of part s
+  part_holds : HoldsSettings inner_key_of part s
   unfolding inner_text
   part_holds =
       let sealed : List ℕ = sealed_of inner_key_of i.inner_iv innermost in
@@ -119,7 +119,7 @@ module _ (i : Inputs) (s : Settings) (fit : AreFit i) (limits : AreInLimits s) w
   file_opens : ConfigOf i.password file (opened s i.cost)
   file_opens =
       let key : inner_key_of ≡ key_in i.password file = λ k. inner_key i.password (sym salt_is k) (sym cost_is k) in
-      (has_form, sym cost_is, (part, inner_is, subst (λ (k : List ℕ). Holds k part s) key part_holds))
+      (has_form, sym cost_is, (part, inner_is, subst (λ (k : List ℕ). HoldsSettings k part s) key part_holds))
 
   -- for every password, parameters, salt, fill, IVs and configuration in their limits
   pub config_text-opens : IsOnly i.password (config_text i s) (opened s i.cost)

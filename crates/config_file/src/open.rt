@@ -1,7 +1,7 @@
 // Opening a configuration's file.
 ghost use Rattle.std.specs.Prelude.{◌≡◌, ◌↔◌, length, IfOk, IfSome, Some};
 ghost use Rattle.std.specs.Option.{option_map};
-ghost use Rattle.config_file.specs.ConfigOf.{ConfigOf, Holds, opened, locked, inner};
+ghost use Rattle.config_file.specs.ConfigOf.{ConfigOf, HoldsSettings, opened, locked, inner};
 ghost use Rattle.config_file.specs.Format.{HasForm, MayWait};
 ghost use Rattle.config_file.specs.Settings.{IsBlockSize, Settings, settings_of};
 
@@ -39,7 +39,7 @@ pub fn open_config(alloc: Global, password: &[u8], bytes: &[u8]) -> Result<Opene
 /// The configuration that an inner part holds.
 fn held_config(alloc: Global, key: &[u8; 32], part: &[u8]) -> Result<Option<Config>, Memory>
     requires { length part.now ≡ 1024 }
-    ensures holds { IfOk result (λ answer. (s : Settings) → (option_map settings_of answer ≡ Some s) ↔ Holds key.now part.now s) }
+    ensures holds { IfOk result (λ answer. (s : Settings) → (option_map settings_of answer ≡ Some s) ↔ HoldsSettings key.now part.now s) }
     ensures size { IfOk result (λ answer. IfSome answer (λ config. IsBlockSize config.block_size)) }
 {
     let Some(sealed) = sealed_from(part) else {

@@ -9,7 +9,7 @@ use Rattle.config_file.specs.declared.config.Opened.{Opened}
 use Rattle.fs_model.specs.Tree.{Tree}
 use Rattle.integrity_store.specs.Standing.{records}
 use Rattle.mount.specs.declared.mount.Mount.{Mount}
-use Rattle.mount.specs.Mounts.{Closed}
+use Rattle.mount.specs.Mounts.{MountClosed}
 use Rattle.mount.specs.Opening.{Attached}
 use Rattle.mount.specs.Representing.{Represents}
 use Rattle.mount.specs.Tower.{TowerStands}
@@ -23,7 +23,7 @@ use Rattle.outside.specs.Writes.{after_writes}
 use Rattle.redo_vault.specs.Redo.{Gave}
 use Rattle.outside.specs.declared.keeper.Keeper.{Ghosts as KeeperGhosts}
 use Rattle.session_runs.specs.Answering.{calls_of}
-use Rattle.session_runs.specs.Runs.{Outside, outside_of, StandsFor, OpensTo, IsQuiet}
+use Rattle.session_runs.specs.Runs.{Outside, outside_of, OutsideStandsFor, OpensTo, IsQuietRun}
 use Rattle.session_runs.specs.Turns.{Begun, Closing}
 use Rattle.session_runs.proofs.Whole.{unforged_before}
 use Rattle.session_saver.specs.Saving.{KeptConfigures}
@@ -69,17 +69,17 @@ module _ {V : Type 0} {K : Type 0} (trace : V → Option (List Call)) (faults : 
       b.config c (represents_told ShowsFiles Before.kept Before.calls c tree f.stands)
       (unforged_before password Before.kept Before.calls (calls_of trace first) After.calls c calls_on f.unforged_config)
 
-  of_closed : (c : Settings) (tree : Tree) (result : Result Unit SyncError) → Closed ShowsFiles c After.kept After.calls tree tree result → Represents ShowsFiles After.kept After.calls c tree
+  of_closed : (c : Settings) (tree : Tree) (result : Result Unit SyncError) → MountClosed ShowsFiles c After.kept After.calls tree tree result → Represents ShowsFiles After.kept After.calls c tree
   of_closed c tree (Ok u) s = s.0
   of_closed c tree (Err e) (inl s) = s
   of_closed c tree (Err e) (inr s) = s
 
-  stands_after : (c : Settings) (tree : Tree) → OpensTo ShowsFiles password c tree Before After → StandsFor ShowsFiles c tree After
+  stands_after : (c : Settings) (tree : Tree) → OpensTo ShowsFiles password c tree Before After → OutsideStandsFor ShowsFiles c tree After
   stands_after c tree f =
       let is = config_is c tree f in
       let begun = b.stands tree (subst (λ x. Represents ShowsFiles Before.kept Before.calls x tree) (sym is) f.stands) in
       subst (λ x. Represents ShowsFiles After.kept After.calls x tree) (ap (λ (o : Opened). settings_of o.config) same ∙ is)
       (of_closed (settings_of left.opened.config) tree closing (z.stands tree tree fresh (stands tree begun)))
 
-  pub quiet : ¬ IsKeptMarked records (G.kept keeper) → IsQuiet ShowsFiles password Before After
+  pub quiet : ¬ IsKeptMarked records (G.kept keeper) → IsQuietRun ShowsFiles password Before After
   quiet unmarked = record { stands = stands_after; marked = λ m. absurd (unmarked m) }

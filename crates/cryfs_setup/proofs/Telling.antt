@@ -24,7 +24,7 @@ use Rattle.session_runs.specs.Turns.{Begun, Closing}
 use Rattle.session_saver.specs.Saving.{UnlessDirectory, UnlessState}
 use Rattle.session_saver.specs.declared.saver.SyncError.{SyncError}
 use Rattle.tree_commands.specs.Showing.{ShowsFiles}
-use Rattle.cryfs_setup.specs.Info.{IsTold, info_text}
+use Rattle.cryfs_setup.specs.Info.{IsConfigTold, info_text}
 use Rattle.cryfs_setup.specs.Printing.{Printed}
 use Rattle.cryfs_setup.proofs.Closing.{config_is, config_ok, quiet}
 
@@ -58,7 +58,7 @@ module _ {V : Type 0} {K : Type 0} (trace : V → Option (List Call)) (faults : 
   status_is : printed ≡ ended.status
   status_is = sym (es ∙ closed_well closing output _ printed (z.left (inr unchanged)).0 p)
 
-  pub told : IsTold trace faults G password output vault keeper ended
+  pub told : IsConfigTold trace faults G password output vault keeper ended
   told =
       let l = z.left (inr unchanged) in
       let on = goes_on_same (calls_of trace mount) in

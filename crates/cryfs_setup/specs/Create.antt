@@ -20,7 +20,7 @@ use Rattle.run_openings.specs.Openings.{HasPassword, IsUnread}
 use Rattle.run_openings.specs.Statuses.{opening_status}
 use Rattle.run_status.specs.declared.ended.Ended.{Ended}
 use Rattle.run_status.specs.declared.status.Status.{Status}
-use Rattle.session_lines.specs.Driven.{IsQuiet as IsUnfailed}
+use Rattle.session_lines.specs.Driven.{IsUnfailed}
 use Rattle.tree_commands.specs.Showing.{ShowsFiles}
 use Rattle.cryfs_setup.specs.Printing.{Printed}
 
@@ -58,8 +58,8 @@ pub record IsCreated {V : Type 0} {K : Type 0} (trace : V → Option (List Call)
   pub versions : OnOk made (KnowsOnly (G.kept ended.keeper) (root_of draws.root))
 
 -- the password line wasn't read and nothing was done, or its password is the one
-abbrev pub Created : {V : Type 0} → {K : Type 0} → (V → Option (List Call)) → (V → ℕ) → KeeperGhosts K → Cost → ℕ → Draws → Stream → Stream → V → K → Ended V K → Type 0
-Created trace faults G cost block_size draws input output vault keeper ended =
+abbrev pub RanCreate : {V : Type 0} → {K : Type 0} → (V → Option (List Call)) → (V → ℕ) → KeeperGhosts K → Cost → ℕ → Draws → Stream → Stream → V → K → Ended V K → Type 0
+RanCreate trace faults G cost block_size draws input output vault keeper ended =
     IsUnread (PasswordUnread input) output vault keeper ended
     ⊎ ((password : List ℕ) × (after : Option (List ℕ)) × HasPassword input password after × IsUnfailed input
     × IsCreated trace faults G cost block_size draws password output vault keeper ended)

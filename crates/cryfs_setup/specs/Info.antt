@@ -18,8 +18,8 @@ use Rattle.outside.specs.declared.keeper.Keeper.{Ghosts as KeeperGhosts}
 use Rattle.passwords.specs.Passwords.{PasswordUnread}
 use Rattle.run_openings.specs.Openings.{HasPassword, IsUnread, IsUnopened, StayOpen}
 use Rattle.run_status.specs.declared.ended.Ended.{Ended}
-use Rattle.session_lines.specs.Driven.{IsQuiet as IsUnfailed}
-use Rattle.session_runs.specs.Runs.{outside_of, OpensTo, IsQuiet}
+use Rattle.session_lines.specs.Driven.{IsUnfailed}
+use Rattle.session_runs.specs.Runs.{outside_of, OpensTo, IsQuietRun}
 use Rattle.tree_commands.specs.Showing.{ShowsFiles}
 use Rattle.cryfs_setup.specs.Printing.{Printed}
 
@@ -39,7 +39,7 @@ abbrev pub info_text : Settings → Cost → List ℕ
 info_text s cost = ids_text s ++ sealing_text s cost
 
 -- Under the password a configuration was opened, and it was told whole, or in part where the sink failed. Nothing more was done than opening does.
-pub record IsTold {V : Type 0} {K : Type 0} (trace : V → Option (List Call)) (faults : V → ℕ) (G : KeeperGhosts K) (password : List ℕ) (output : Stream) (vault : V) (keeper : K) (ended : Ended V K) : Type 0 where
+pub record IsConfigTold {V : Type 0} {K : Type 0} (trace : V → Option (List Call)) (faults : V → ℕ) (G : KeeperGhosts K) (password : List ℕ) (output : Stream) (vault : V) (keeper : K) (ended : Ended V K) : Type 0 where
   pub o : Opened
   pub attached : Attached password (G.kept keeper) (G.kept ended.keeper) (trace vault) (trace ended.vault) o
   pub printed : Printed output (info_text (settings_of o.config) o.params) ended.status
@@ -49,14 +49,14 @@ pub record IsTold {V : Type 0} {K : Type 0} (trace : V → Option (List Call)) (
   -- no call on a store failed
   pub directory_quiet : faults ended.vault ≡ faults vault
   pub state_quiet : G.faults ended.keeper ≡ G.faults keeper
-  pub quiet : IsQuiet ShowsFiles password (outside_of trace faults G vault keeper) (outside_of trace faults G ended.vault ended.keeper)
+  pub quiet : IsQuietRun ShowsFiles password (outside_of trace faults G vault keeper) (outside_of trace faults G ended.vault ended.keeper)
   pub opens : StayOpen (outside_of trace faults G vault keeper) (outside_of trace faults G ended.vault ended.keeper)
 
 -- under the password no file system was opened and nothing was written, or its configuration was told
 abbrev pub ToldUnder : {V : Type 0} → {K : Type 0} → (V → Option (List Call)) → (V → ℕ) → KeeperGhosts K → List ℕ → Stream → V → K → Ended V K → Type 0
 ToldUnder trace faults G password output vault keeper ended =
     (((error : OpenError) × IsUnopened trace faults G password vault keeper ended error) × Untouched output)
-    ⊎ IsTold trace faults G password output vault keeper ended
+    ⊎ IsConfigTold trace faults G password output vault keeper ended
 
 -- the password line wasn't read and nothing was done, or its password is the one
 abbrev pub Told : {V : Type 0} → {K : Type 0} → (V → Option (List Call)) → (V → ℕ) → KeeperGhosts K → Stream → Stream → V → K → Ended V K → Type 0

@@ -25,8 +25,8 @@ use Rattle.run_status.specs.declared.ended.Ended.{Ended}
 use Rattle.run_status.specs.declared.status.Status.{Status}
 use Rattle.run_status.specs.Statuses.{first_of}
 use Rattle.script_text.specs.Texts.{line}
-use Rattle.session_lines.specs.Driven.{IsQuiet as IsUnfailed}
-use Rattle.session_runs.specs.Runs.{Outside, outside_of, OpensTo, IsQuiet, directory_fault, state_fault}
+use Rattle.session_lines.specs.Driven.{IsUnfailed}
+use Rattle.session_runs.specs.Runs.{Outside, outside_of, OpensTo, IsQuietRun, directory_fault, state_fault}
 use Rattle.session_saver.specs.Saving.{KeptConfigures}
 use Rattle.session_saver.specs.declared.saver.SyncError.{SyncError}
 use Rattle.tree_commands.specs.Showing.{ShowsFiles}
@@ -75,7 +75,7 @@ pub record IsChanged {V : Type 0} {K : Type 0} (trace : V → Option (List Call)
   -- it is the one under which what was kept stood for a tree
   pub config : (c : Settings) (tree : Tree) → OpensTo ShowsFiles old c tree (outside_of trace faults G vault keeper) (outside_of trace faults G ended.vault ended.keeper) → settings_of o.config ≡ c
   pub unmarked : ¬ IsKeptMarked records (G.kept keeper)
-  pub quiet : IsQuiet ShowsFiles old (outside_of trace faults G vault keeper) (outside_of trace faults G ended.vault ended.keeper)
+  pub quiet : IsQuietRun ShowsFiles old (outside_of trace faults G vault keeper) (outside_of trace faults G ended.vault ended.keeper)
 
 -- under the old password no file system was opened and nothing was written or drawn, or it was to be changed
 abbrev pub ChangedUnder : {V : Type 0} → {K : Type 0} → (V → Option (List Call)) → (V → ℕ) → KeeperGhosts K → List ℕ → List ℕ → Chance → Chance → Stream → V → K → Ended V K → Type 0
@@ -84,7 +84,7 @@ ChangedUnder trace faults G old new chance left output vault keeper ended =
     ⊎ IsChanged trace faults G old new chance left output vault keeper ended
 
 -- the password lines weren't read and nothing was done, or their passwords are the ones
-abbrev pub Changed : {V : Type 0} → {K : Type 0} → (V → Option (List Call)) → (V → ℕ) → KeeperGhosts K → Chance → Chance → Stream → Stream → V → K → Ended V K → Type 0
-Changed trace faults G chance left input output vault keeper ended =
+abbrev pub RanPasswd : {V : Type 0} → {K : Type 0} → (V → Option (List Call)) → (V → ℕ) → KeeperGhosts K → Chance → Chance → Stream → Stream → V → K → Ended V K → Type 0
+RanPasswd trace faults G chance left input output vault keeper ended =
     (IsUnread (PasswordsUnread input) output vault keeper ended × (left ≡ chance))
     ⊎ ((old : List ℕ) × (new : List ℕ) × HasPasswords input old new × IsUnfailed input × ChangedUnder trace faults G old new chance left output vault keeper ended)

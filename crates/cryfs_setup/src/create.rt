@@ -5,7 +5,7 @@ ghost use Rattle.line_io.specs.Streams.{stream_of};
 ghost use Rattle.mount.specs.Drawing.{drawn};
 ghost use Rattle.run_openings.specs.Openings.{HasCauses};
 ghost use Rattle.session_runs.specs.Runs.{outside_of};
-ghost use Rattle.cryfs_setup.specs.Create.{Created, IsCreated, Reports, created_text};
+ghost use Rattle.cryfs_setup.specs.Create.{RanCreate, IsCreated, Reports, created_text};
 ghost use Rattle.cryfs_setup.specs.Printing.{Printed};
 
 use crate::print::print;
@@ -32,7 +32,7 @@ pub fn run_create<I: Source, O: Sink, V: Vault, K: Keeper, R: Rng>(
     chance: &mut R,
 ) -> Ended<V, K>
     requires { IsBlockSize block_size }
-    ensures created { Created V.trace V.faults K.Keeper params.now block_size (drawn (R.stream chance.old)).0
+    ensures created { RanCreate V.trace V.faults K.Keeper params.now block_size (drawn (R.stream chance.old)).0
         (stream_of I.rest I.faults input.old input.new) (stream_of O.written O.faults output.old output.new) vault keeper result }
     ensures causes { HasCauses (outside_of V.trace V.faults K.Keeper vault keeper) (outside_of V.trace V.faults K.Keeper result.vault result.keeper) result.status }
     ensures input_grows { I.faults input.old ≤ I.faults input.new }

@@ -3,7 +3,7 @@ ghost use Rattle.std.specs.Prelude.{◌≡◌, ◌≤◌};
 ghost use Rattle.line_io.specs.Streams.{stream_of};
 ghost use Rattle.session_runs.specs.Runs.{outside_of};
 ghost use Rattle.run_openings.specs.Openings.{HasCauses};
-ghost use Rattle.cryfs_setup.specs.Passwd.{Changed, ChangedUnder, Reports};
+ghost use Rattle.cryfs_setup.specs.Passwd.{RanPasswd, ChangedUnder, Reports};
 
 use crate::print::print;
 use outside::{Keeper, Sink, Source, Vault};
@@ -24,7 +24,7 @@ pub fn run_passwd<I: Source, O: Sink, V: Vault, K: Keeper, R: Rng>(
     keeper: K,
     chance: &mut R,
 ) -> Ended<V, K>
-    ensures changed { Changed V.trace V.faults K.Keeper (R.stream chance.old) (R.stream chance.new)
+    ensures changed { RanPasswd V.trace V.faults K.Keeper (R.stream chance.old) (R.stream chance.new)
         (stream_of I.rest I.faults input.old input.new) (stream_of O.written O.faults output.old output.new) vault keeper result }
     ensures causes { HasCauses (outside_of V.trace V.faults K.Keeper vault keeper) (outside_of V.trace V.faults K.Keeper result.vault result.keeper) result.status }
     ensures input_grows { I.faults input.old ≤ I.faults input.new }

@@ -22,7 +22,7 @@ use Rattle.shell_words.specs.declared.form.Form.{Form}
 use Rattle.shell_words.specs.declared.form.Form.TheVariants.{Trial, TrialGenerate, Create, Info, Passwd, Shell, Generate, Command}
 use Rattle.shell_words.specs.Forms.{joined}
 use Rattle.shell_words.proofs.FormsOf.{IsPlain}
-use Rattle.cryfs_shell.specs.Clauses.{IsRefusedRun, NoFalseAlarm, Keeps, FaultsHappened, IsEmptied}
+use Rattle.cryfs_shell.specs.Clauses.{IsRefusedRun, NoFalseAlarm, KeepsTree, FaultsHappened, IsEmptied}
 use Rattle.cryfs_shell.specs.Doing.{Does}
 use Rattle.cryfs_shell.specs.Kinds.{is_session, opens}
 use Rattle.cryfs_shell.proofs.Statuses.{EndCause}
@@ -119,7 +119,7 @@ module _ {V : Type 0} {K : Type 0} (trace : V → Option (List Call)) (faults : 
   doing_alarm (Generate count) d bytes c first f honest e = session_alarm trace faults G input output vault keeper ended now (ComesGenerated count input output) (generated_causes count) d bytes c first f honest e
   doing_alarm Command d bytes c first f honest e = session_alarm trace faults G input output vault keeper ended now (ComesCommand (joined words) input output) command_causes d bytes c first f honest e
 
-  pub doing_keeps : (form : Form) → opens (Some form) ≡ true → Doing form → Keeps input (outside_of trace faults G vault keeper) (outside_of trace faults G ended.vault ended.keeper)
+  pub doing_keeps : (form : Form) → opens (Some form) ≡ true → Doing form → KeepsTree input (outside_of trace faults G vault keeper) (outside_of trace faults G ended.vault ended.keeper)
   doing_keeps Trial e d bytes c first f = absurd (cc)
   doing_keeps (TrialGenerate count) e d bytes c first f = absurd (cc)
   doing_keeps (Create options) e d bytes c first f = absurd (cc)

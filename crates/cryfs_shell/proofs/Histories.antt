@@ -5,7 +5,7 @@ use Rattle.std.specs.declared.option.Option.TheVariants.{Some}
 use Rattle.rand_core.specs.Stream.{Stream as Chance}
 use Rattle.answers.specs.Sessions.{Exchange}
 use Rattle.cryfs_setup.specs.Info.{Told}
-use Rattle.cryfs_setup.specs.Passwd.{Changed}
+use Rattle.cryfs_setup.specs.Passwd.{RanPasswd}
 use Rattle.fs_model.specs.Instant.{Instant}
 use Rattle.histories.specs.Histories.{Run, session, quiet}
 use Rattle.line_io.specs.Streams.{Stream}
@@ -14,7 +14,7 @@ use Rattle.outside.specs.declared.keeper.Keeper.{Ghosts as KeeperGhosts}
 use Rattle.run_openings.specs.Openings.{AreUncalled}
 use Rattle.run_status.specs.declared.ended.Ended.{Ended}
 use Rattle.session_lines.specs.declared.end.End.{End}
-use Rattle.session_runs.specs.Runs.{Outside, outside_of, IsQuiet}
+use Rattle.session_runs.specs.Runs.{Outside, outside_of, IsQuietRun}
 use Rattle.shell_sessions.specs.Sessions.{Session}
 use Rattle.shell_words.specs.declared.form.Form.{Form}
 use Rattle.shell_words.specs.declared.form.Form.TheVariants.{Trial, TrialGenerate, Create, Info, Passwd, Shell, Generate, Command}
@@ -25,7 +25,7 @@ use Rattle.cryfs_shell.specs.Doing.{Does}
 use Rattle.cryfs_shell.specs.History.{Comes, IsRunOf}
 
 -- nothing happened outside
-still : (password : List ℕ) (o : Outside) → IsQuiet ShowsFiles password o o
+still : (password : List ℕ) (o : Outside) → IsQuietRun ShowsFiles password o o
 still password o = record { stands = λ c tree f. f.stands; marked = λ m. (refl, refl) }
 
 module _ {V : Type 0} {K : Type 0} (trace : V → Option (List Call)) (faults : V → ℕ) (G : KeeperGhosts K) (Came : Option (List ℕ) → End → List Exchange → Type 0) (vault : V) (keeper : K) (ended : Ended V K) where
@@ -38,13 +38,13 @@ module _ {V : Type 0} {K : Type 0} (trace : V → Option (List Call)) (faults : 
   abbrev History : Type 0
   History = (run : Run) × IsRunOf Came Before After run
 
-  quietly : (password : List ℕ) → IsQuiet ShowsFiles password Before After → History
+  quietly : (password : List ℕ) → IsQuietRun ShowsFiles password Before After → History
   quietly password q = (quiet password Before After, record { is_run = q; came = tt; begins = refl; ends = refl })
 
   idly : AreUncalled vault keeper ended → History
   idly u =
-      quietly [] (subst (λ (v : V). IsQuiet ShowsFiles [] Before (outside_of trace faults G v ended.keeper)) (sym u.same_vault)
-      (subst (λ (k : K). IsQuiet ShowsFiles [] Before (outside_of trace faults G vault k)) (sym u.same_keeper) (still [] Before)))
+      quietly [] (subst (λ (v : V). IsQuietRun ShowsFiles [] Before (outside_of trace faults G v ended.keeper)) (sym u.same_vault)
+      (subst (λ (k : K). IsQuietRun ShowsFiles [] Before (outside_of trace faults G vault k)) (sym u.same_keeper) (still [] Before)))
 
   session_history : (now : Instant) (input output : Stream) → Session trace faults G now Came input output vault keeper ended → History
   session_history now input output (inl u) = idly u.uncalled
@@ -57,7 +57,7 @@ module _ {V : Type 0} {K : Type 0} (trace : V → Option (List Call)) (faults : 
   told_history input output (inr (password, after, has, unfailed, inl ((error, u), unwritten))) = quietly password u.quiet
   told_history input output (inr (password, after, has, unfailed, inr t)) = quietly password t.quiet
 
-  changed_history : (chance left : Chance) (input output : Stream) → Changed trace faults G chance left input output vault keeper ended → History
+  changed_history : (chance left : Chance) (input output : Stream) → RanPasswd trace faults G chance left input output vault keeper ended → History
   changed_history chance left input output (inl (u, same)) = idly u.uncalled
   changed_history chance left input output (inr (old, new, has, unfailed, inl ((error, u), unwritten, same))) = quietly old u.quiet
   changed_history chance left input output (inr (old, new, has, unfailed, inr c)) = quietly old c.quiet

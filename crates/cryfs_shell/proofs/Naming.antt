@@ -7,9 +7,9 @@ use Rattle.std.specs.declared.result.Result.TheVariants.{Ok, Err}
 use Rattle.rand_core.specs.Stream.{Stream as Chance}
 use Rattle.answers.specs.Sessions.{Exchange, violated}
 use Rattle.block_id.specs.declared.id.BlockId.{BlockId}
-use Rattle.cryfs_setup.specs.Create.{Created, Reports as CreateReports}
+use Rattle.cryfs_setup.specs.Create.{RanCreate, Reports as CreateReports}
 use Rattle.cryfs_setup.specs.Info.{Told}
-use Rattle.cryfs_setup.specs.Passwd.{Changed, Reports as ChangeReports}
+use Rattle.cryfs_setup.specs.Passwd.{RanPasswd, Reports as ChangeReports}
 use Rattle.cryfs_setup.specs.Printing.{Printed}
 use Rattle.cryfs_setup.proofs.Ending.{ends}
 use Rattle.fs_model.specs.Instant.{Instant}
@@ -27,7 +27,7 @@ use Rattle.run_status.specs.declared.ended.Ended.{Ended}
 use Rattle.run_status.specs.declared.status.Status.{Status}
 use Rattle.run_status.specs.declared.status.Status.TheVariants.{Done, LongPassword, DirectoryFault, StateFault, InputFault, OutputFault, Memory}
 use Rattle.scrypt_kdf.specs.Cost.{Cost}
-use Rattle.session_lines.specs.Driven.{EndsAs, Reported, IsQuiet as IsUnfailed}
+use Rattle.session_lines.specs.Driven.{EndsAs, Reported, IsUnfailed}
 use Rattle.session_lines.specs.declared.end.End.{End}
 use Rattle.session_lines.specs.declared.end.End.TheVariants as line_end
 use Rattle.session_runs.specs.Runs.{outside_of, directory_fault, state_fault}
@@ -41,7 +41,7 @@ use Rattle.shell_words.specs.Forms.{joined}
 use Rattle.cryfs_shell.specs.Clauses.{FaultsNamed, MayHide, StreamFaultsNamed}
 use Rattle.cryfs_shell.specs.Doing.{Does}
 use Rattle.cryfs_shell.specs.Kinds.{is_session}
-use Rattle.cryfs_shell.specs.Runs.{Tried, Generated, status_of}
+use Rattle.cryfs_shell.specs.Runs.{Tried, GeneratedOnPlain, status_of}
 
 -- ---- the change of a password
 
@@ -108,7 +108,7 @@ module _ {V : Type 0} {K : Type 0} (trace : V → Option (List Call)) (faults : 
   told_error : (made : Result BlockId OpenError) (error : OpenError) → CreateReports made output ended.status → made ≡ Err error → ended.status ≡ opening_status error
   told_error made error reports is = (subst (λ (m : Result BlockId OpenError). CreateReports m output ended.status) is reports).0
 
-  created_named : (form : Form) (cost : Cost) (block_size : ℕ) (draws : Draws) → Created trace faults G cost block_size draws input output vault keeper ended → Named form
+  created_named : (form : Form) (cost : Cost) (block_size : ℕ) (draws : Draws) → RanCreate trace faults G cost block_size draws input output vault keeper ended → Named form
   created_named form cost block_size draws (inl u) = idle_named form u.uncalled
   created_named form cost block_size draws (inr (password, after, has, unfailed, c)) =
       each_named form (λ d. c.directory_quiet (λ e. d (told_error c.made FaultDirectory c.reports e))) (λ s. c.state_quiet (λ e. s (told_error c.made FaultState c.reports e)))
@@ -123,7 +123,7 @@ module _ {V : Type 0} {K : Type 0} (trace : V → Option (List Call)) (faults : 
   one_of change closing directory state (inl none) = inl (directory none)
   one_of change closing directory state (inr none) = inr (state none)
 
-  changed_named : (chance left : Chance) → Changed trace faults G chance left input output vault keeper ended → Named Passwd
+  changed_named : (chance left : Chance) → RanPasswd trace faults G chance left input output vault keeper ended → Named Passwd
   changed_named chance left (inl (u, same)) = idle_named Passwd u.uncalled
   changed_named chance left (inr (old, new, has, unfailed, inl ((error, u), unwritten, same))) = unopened_named Passwd old error u
   changed_named chance left (inr (old, new, has, unfailed, inr c)) =
@@ -197,7 +197,7 @@ module _ (input output : Stream) where
   tried_named now status (inl none) = neither status none.1.1 none.2.1
   tried_named now status (inr (end, e, es, trees, trial)) = ended_named end status e (ends_quiet input.old input output es end trial.ends)
 
-  generated_named : (now : Instant) (count : ℕ) (status : Status) → Untouched input → Generated now count output status → StreamFaultsNamed input output status
+  generated_named : (now : Instant) (count : ℕ) (status : Status) → Untouched input → GeneratedOnPlain now count output status → StreamFaultsNamed input output status
   generated_named now count status untouched (inl none) = neither status untouched.1 none.1.1
   generated_named now count status untouched (inr (end, e, answers, trees, g)) = ended_named end status e (reported_quiet input output _ end untouched.1 g.written)
 
@@ -208,7 +208,7 @@ module _ (input output : Stream) where
     unread_one : IsUnread (PasswordUnread input) output vault keeper ended → StreamsNamed
     unread_one u = record { input_quiet = λ i l v. one_quiet input ended.status u.cause i l; output_quiet = λ o v. u.unwritten.1 }
 
-    created_streams : (cost : Cost) (block_size : ℕ) (draws : Draws) → Created trace faults G cost block_size draws input output vault keeper ended → StreamsNamed
+    created_streams : (cost : Cost) (block_size : ℕ) (draws : Draws) → RanCreate trace faults G cost block_size draws input output vault keeper ended → StreamsNamed
     created_streams cost block_size draws (inl u) = unread_one u
     created_streams cost block_size draws (inr (password, after, has, unfailed, c)) = record { input_quiet = λ i l v. unfailed; output_quiet = λ o v. made_quiet output c.made ended.status c.reports o }
 
@@ -217,7 +217,7 @@ module _ (input output : Stream) where
     told_streams (inr (password, after, has, unfailed, inl ((error, u), unwritten))) = neither ended.status unfailed unwritten.1
     told_streams (inr (password, after, has, unfailed, inr t)) = record { input_quiet = λ i l v. unfailed; output_quiet = λ o v. printed_quiet output _ ended.status t.printed o }
 
-    changed_streams : (chance left : Chance) → Changed trace faults G chance left input output vault keeper ended → StreamsNamed
+    changed_streams : (chance left : Chance) → RanPasswd trace faults G chance left input output vault keeper ended → StreamsNamed
     changed_streams chance left (inl (u, same)) = record { input_quiet = λ i l v. both_quiet input ended.status u.cause i l; output_quiet = λ o v. u.unwritten.1 }
     changed_streams chance left (inr (old, new, has, unfailed, inl ((error, u), unwritten, same))) = neither ended.status unfailed unwritten.1
     changed_streams chance left (inr (old, new, has, unfailed, inr c)) = record {

@@ -23,12 +23,12 @@ use Rattle.run_status.specs.declared.ended.Ended.{Ended}
 use Rattle.run_status.specs.declared.status.Status.{Status}
 use Rattle.run_status.specs.declared.status.Status.TheVariants.{Done, Usage, LongPassword, Violation, DirectoryFault, StateFault, InputFault, OutputFault, Memory}
 use Rattle.session_lines.specs.declared.end.End.{End}
-use Rattle.session_runs.specs.Runs.{Outside, outside_of, StandsFor, OpensTo, directory_fault, state_fault}
+use Rattle.session_runs.specs.Runs.{Outside, outside_of, OutsideStandsFor, OpensTo, directory_fault, state_fault}
 use Rattle.session_runs.proofs.Whole.{unviolated}
 use Rattle.shell_sessions.specs.Sessions.{Session, IsServed}
 use Rattle.shell_sessions.specs.Statuses.{session_status}
 use Rattle.tree_commands.specs.Showing.{ShowsFiles}
-use Rattle.cryfs_shell.specs.Clauses.{IsRefusal, IsRefusedRun, IsOpenedRun, NoFalseAlarm, Keeps, FaultsHappened, IsEmptied}
+use Rattle.cryfs_shell.specs.Clauses.{IsRefusingStatus, IsRefusedRun, IsOpenedRun, NoFalseAlarm, KeepsTree, FaultsHappened, IsEmptied}
 use Rattle.cryfs_shell.proofs.Statuses.{EndCause, opening_is_no, session_is_no, stops_is_refusal, session_directory, session_state, session_input, session_output, done_is_calm, done_is_closed, calm_is_no_alarm}
 
 -- the password of a told input is its first line
@@ -63,7 +63,7 @@ two_unread input InputFault u = record { unread = tt; failed = λ e. u.4 }
 two_unread input Memory u = record { unread = tt; failed = λ e. absurd (cc) }
 two_unread input status u = absurd u
 
-unread_refuses : (status : Status) → IsUnreadStatus status → IsRefusal status
+unread_refuses : (status : Status) → IsUnreadStatus status → IsRefusingStatus status
 unread_refuses LongPassword u = tt
 unread_refuses InputFault u = tt
 unread_refuses Memory u = tt
@@ -108,12 +108,12 @@ module _ {V : Type 0} {K : Type 0} (trace : V → Option (List Call)) (faults : 
     pub unread_refusal : IsRefusedRun G.kept output vault keeper ended
     unread_refusal = record { status = unread_refuses ended.status unread.unread; uncalled = u.uncalled.same_vault; stays = ap G.kept u.uncalled.same_keeper; unwritten = u.unwritten }
 
-    pub unread_keeps : Keeps input Before After
+    pub unread_keeps : KeepsTree input Before After
     unread_keeps bytes c first f =
         inr (
           first,
-          subst (λ (v : V). StandsFor ShowsFiles c first (outside_of trace faults G v ended.keeper)) (sym u.uncalled.same_vault)
-              (subst (λ (k : K). StandsFor ShowsFiles c first (outside_of trace faults G vault k)) (sym u.uncalled.same_keeper) f.opened.opens.stands),
+          subst (λ (v : V). OutsideStandsFor ShowsFiles c first (outside_of trace faults G v ended.keeper)) (sym u.uncalled.same_vault)
+              (subst (λ (k : K). OutsideStandsFor ShowsFiles c first (outside_of trace faults G vault k)) (sym u.uncalled.same_keeper) f.opened.opens.stands),
         )
 
   -- ---- where no file system was opened
@@ -139,12 +139,12 @@ module _ {V : Type 0} {K : Type 0} (trace : V → Option (List Call)) (faults : 
       pub unopened_refusal : Untouched output → IsKeptMarked records (G.kept keeper) → IsRefusedRun G.kept output vault keeper ended
       unopened_refusal unwritten marked =
           let m = u.marked marked in
-          record { status = subst IsRefusal (sym u.status) (stops_is_refusal error m.2); uncalled = m.0; stays = m.1; unwritten = unwritten }
+          record { status = subst IsRefusingStatus (sym u.status) (stops_is_refusal error m.2); uncalled = m.0; stays = m.1; unwritten = unwritten }
 
       pub unopened_alarm : NoFalseAlarm input Before After ended.status
       unopened_alarm bytes c first f honest e = u.no_false_alarm c first (opens_under bytes c first f) e
 
-      pub unopened_keeps : Keeps input Before After
+      pub unopened_keeps : KeepsTree input Before After
       unopened_keeps bytes c first f = inr (first, u.quiet.stands c first (opens_under bytes c first f.opened))
 
     -- ---- where there are exchanges
@@ -170,9 +170,9 @@ module _ {V : Type 0} {K : Type 0} (trace : V → Option (List Call)) (faults : 
           let calm : violated s.es ≡ false = unviolated s.es (a.no_false_alarm honest) in
           calm_is_no_alarm s.end s.closing (subst (λ (b : Bool). session_status b s.end s.closing ≡ Violation) calm (sym s.status ∙ e))
 
-      served_keeps : IsServed trace faults G now password Came vault keeper ended → Keeps input Before After
+      served_keeps : IsServed trace faults G now password Came vault keeper ended → KeepsTree input Before After
       served_keeps s bytes c first f =
-          elim (s.session.founded c first (record { opens = opens_under bytes c first f.opened; unforged = f.unforged })).kept as (λ _. IsKeptMarked records After.kept ⊎ ((tree : Tree) × StandsFor ShowsFiles c tree After)) [
+          elim (s.session.founded c first (record { opens = opens_under bytes c first f.opened; unforged = f.unforged })).kept as (λ _. IsKeptMarked records After.kept ⊎ ((tree : Tree) × OutsideStandsFor ShowsFiles c tree After)) [
             | inl m ↦ inl m.1
             | inr k ↦ inr (k.0, k.2)
           ]
@@ -200,7 +200,7 @@ module _ {V : Type 0} {K : Type 0} (trace : V → Option (List Call)) (faults : 
     session_alarm (inr (password, script, has, inl ((error, u), unfailed, unwritten))) bytes c first f honest e = unopened_alarm password script has.is_next error u bytes c first f honest e
     session_alarm (inr (password, script, has, inr s)) bytes c first f honest e = served_alarm password script has.is_next now (Came script) (causes script) s bytes c first f honest e
 
-    pub session_keeps : Session trace faults G now Came input output vault keeper ended → Keeps input Before After
+    pub session_keeps : Session trace faults G now Came input output vault keeper ended → KeepsTree input Before After
     session_keeps (inl u) bytes c first f = unread_keeps (PasswordUnread input) (one_unread input) u bytes c first f
     session_keeps (inr (password, script, has, inl ((error, u), unfailed, unwritten))) bytes c first f = unopened_keeps password script has.is_next error u bytes c first f
     session_keeps (inr (password, script, has, inr s)) bytes c first f = served_keeps password script has.is_next now (Came script) (causes script) s bytes c first f

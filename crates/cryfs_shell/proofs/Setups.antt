@@ -5,14 +5,14 @@ use Rattle.std.specs.declared.option.Option.{Option}
 use Rattle.std.specs.declared.result.Result.TheVariants.{Ok, Err}
 use Rattle.rand_core.specs.Stream.{Stream as Chance}
 use Rattle.block_id.specs.declared.id.BlockId.{BlockId}
-use Rattle.cryfs_setup.specs.Create.{Created, Reports as CreateReports}
+use Rattle.cryfs_setup.specs.Create.{RanCreate, Reports as CreateReports}
 use Rattle.cryfs_setup.specs.Info.{Told}
-use Rattle.cryfs_setup.specs.Passwd.{Changed, IsChanged, Reports as ChangeReports, changed_text}
+use Rattle.cryfs_setup.specs.Passwd.{RanPasswd, IsChanged, Reports as ChangeReports, changed_text}
 use Rattle.cryfs_setup.specs.Create.{created_text}
 use Rattle.cryfs_setup.specs.Printing.{Printed}
 use Rattle.cryfs_setup.proofs.Ending.{ends}
 use Rattle.integrity_store.specs.Standing.{records}
-use Rattle.line_io.specs.Streams.{Stream, Failed}
+use Rattle.line_io.specs.Streams.{Stream, HasFailed}
 use Rattle.mount.specs.declared.draws.Draws.{Draws}
 use Rattle.mount.specs.declared.error.OpenError.{OpenError}
 use Rattle.mount.specs.declared.error.OpenError.TheVariants as open_error
@@ -30,7 +30,7 @@ use Rattle.scrypt_kdf.specs.Cost.{Cost}
 use Rattle.session_runs.specs.Runs.{outside_of}
 use Rattle.session_saver.specs.declared.saver.SyncError.{SyncError}
 use Rattle.session_saver.specs.declared.saver.SyncError.TheVariants as sync_error
-use Rattle.cryfs_shell.specs.Clauses.{IsRefusedRun, NoFalseAlarm, Keeps, FaultsHappened}
+use Rattle.cryfs_shell.specs.Clauses.{IsRefusedRun, NoFalseAlarm, KeepsTree, FaultsHappened}
 use Rattle.cryfs_shell.proofs.Statuses.{opening_is_no}
 use Rattle.cryfs_shell.proofs.Sessions.{one_unread, two_unread, unread_is_no, unread_faults, unread_refusal, unread_keeps, opens_under, unopened_faults, unopened_refusal, unopened_alarm, unopened_keeps, grown}
 
@@ -45,7 +45,7 @@ IsLate status = Unit {0}
 -- it names the output's fault only where that failed
 record IsLateEnd (output : Stream) (status : Status) : Type 0 where
   late : IsLate status
-  failed : status ≡ OutputFault → Failed output
+  failed : status ≡ OutputFault → HasFailed output
 
 late_is_no : (output : Stream) (status other : Status) → IsLateEnd output status → status ≡ other → (IsLate other → ⊥) → ⊥
 late_is_no output status other l e h = h (subst IsLate e l.late)
@@ -91,24 +91,24 @@ module _ {V : Type 0} {K : Type 0} (trace : V → Option (List Call)) (faults : 
   -- ---- create
 
   module _ (cost : Cost) (block_size : ℕ) (draws : Draws) where
-    pub created_faults : Created trace faults G cost block_size draws input output vault keeper ended → FaultsHappened input output (outside_of trace faults G vault keeper) (outside_of trace faults G ended.vault ended.keeper) ended.status
+    pub created_faults : RanCreate trace faults G cost block_size draws input output vault keeper ended → FaultsHappened input output (outside_of trace faults G vault keeper) (outside_of trace faults G ended.vault ended.keeper) ended.status
     created_faults (inl u) = unread_faults trace faults G input output vault keeper ended (PasswordUnread input) (one_unread input) u
     created_faults (inr (password, after, has, unfailed, c)) = late_faults (made_late (G.kept keeper) (trace vault) (trace ended.vault) (faults vault) (faults ended.vault) (G.faults keeper) (G.faults ended.keeper) output c.made ended.status c.reports c.cause)
 
-    created_status : (other : Status) → (IsLate other → ⊥) → Created trace faults G cost block_size draws input output vault keeper ended → ended.status ≡ other → AreUncalled vault keeper ended
+    created_status : (other : Status) → (IsLate other → ⊥) → RanCreate trace faults G cost block_size draws input output vault keeper ended → ended.status ≡ other → AreUncalled vault keeper ended
     created_status other h (inl u) e = u.uncalled
     created_status other h (inr (password, after, has, unfailed, c)) e =
         absurd (late_is_no output ended.status other (made_late (G.kept keeper) (trace vault) (trace ended.vault) (faults vault) (faults ended.vault) (G.faults keeper) (G.faults ended.keeper) output c.made ended.status c.reports c.cause) e h)
 
-    pub created_uncalled : Created trace faults G cost block_size draws input output vault keeper ended → ended.status ≡ LongPassword → AreUncalled vault keeper ended
+    pub created_uncalled : RanCreate trace faults G cost block_size draws input output vault keeper ended → ended.status ≡ LongPassword → AreUncalled vault keeper ended
     created_uncalled c e = created_status LongPassword (λ h. h) c e
 
-    pub created_usage : Created trace faults G cost block_size draws input output vault keeper ended → ended.status ≢ Usage
+    pub created_usage : RanCreate trace faults G cost block_size draws input output vault keeper ended → ended.status ≢ Usage
     created_usage (inl u) e = unread_is_no ended.status Usage (one_unread input ended.status u.cause).unread e (λ h. h)
     created_usage (inr (password, after, has, unfailed, c)) e =
         late_is_no output ended.status Usage (made_late (G.kept keeper) (trace vault) (trace ended.vault) (faults vault) (faults ended.vault) (G.faults keeper) (G.faults ended.keeper) output c.made ended.status c.reports c.cause) e (λ h. h)
 
-    pub created_alarm : Created trace faults G cost block_size draws input output vault keeper ended → ended.status ≢ Violation
+    pub created_alarm : RanCreate trace faults G cost block_size draws input output vault keeper ended → ended.status ≢ Violation
     created_alarm (inl u) e = unread_is_no ended.status Violation (one_unread input ended.status u.cause).unread e (λ h. h)
     created_alarm (inr (password, after, has, unfailed, c)) e =
         late_is_no output ended.status Violation (made_late (G.kept keeper) (trace vault) (trace ended.vault) (faults vault) (faults ended.vault) (G.faults keeper) (G.faults ended.keeper) output c.made ended.status c.reports c.cause) e (λ h. h)
@@ -130,7 +130,7 @@ module _ {V : Type 0} {K : Type 0} (trace : V → Option (List Call)) (faults : 
   told_alarm (inr (password, after, has, unfailed, inl ((error, u), unwritten))) bytes c first f honest e = unopened_alarm trace faults G input output vault keeper ended password after has.is_next error u bytes c first f honest e
   told_alarm (inr (password, after, has, unfailed, inr t)) bytes c first f honest e = late_is_no output ended.status Violation (printed_late output _ ended.status t.printed) e (λ h. h)
 
-  pub told_keeps : Told trace faults G input output vault keeper ended → Keeps input (outside_of trace faults G vault keeper) (outside_of trace faults G ended.vault ended.keeper)
+  pub told_keeps : Told trace faults G input output vault keeper ended → KeepsTree input (outside_of trace faults G vault keeper) (outside_of trace faults G ended.vault ended.keeper)
   told_keeps (inl u) bytes c first f = unread_keeps trace faults G input output vault keeper ended (PasswordUnread input) (one_unread input) u bytes c first f
   told_keeps (inr (password, after, has, unfailed, inl ((error, u), unwritten))) bytes c first f = unopened_keeps trace faults G input output vault keeper ended password after has.is_next error u bytes c first f
   told_keeps (inr (password, after, has, unfailed, inr t)) bytes c first f = inr (first, t.quiet.stands c first (opens_under trace faults G input output vault keeper ended password after has.is_next bytes c first f.opened))
@@ -151,32 +151,32 @@ module _ {V : Type 0} {K : Type 0} (trace : V → Option (List Call)) (faults : 
     changed_late : (old new : List ℕ) → IsChanged trace faults G old new chance left output vault keeper ended → IsLateEnd output ended.status
     changed_late old new c = change_late output c.change ended.status (ends c.closing output c.told ended.status c.status c.change c.reports c.closed)
 
-    pub changed_faults : Changed trace faults G chance left input output vault keeper ended → FaultsHappened input output (outside_of trace faults G vault keeper) (outside_of trace faults G ended.vault ended.keeper) ended.status
+    pub changed_faults : RanPasswd trace faults G chance left input output vault keeper ended → FaultsHappened input output (outside_of trace faults G vault keeper) (outside_of trace faults G ended.vault ended.keeper) ended.status
     changed_faults (inl (u, same)) = unread_faults trace faults G input output vault keeper ended (PasswordsUnread input) (two_unread input) u
     changed_faults (inr (old, new, has, unfailed, inl ((error, u), unwritten, same))) = unopened_faults trace faults G input output vault keeper ended old has.between has.old_is_next error u
     changed_faults (inr (old, new, has, unfailed, inr c)) = late_faults (changed_late old new c)
 
-    pub changed_refusal : Changed trace faults G chance left input output vault keeper ended → IsKeptMarked records (G.kept keeper) → IsRefusedRun G.kept output vault keeper ended
+    pub changed_refusal : RanPasswd trace faults G chance left input output vault keeper ended → IsKeptMarked records (G.kept keeper) → IsRefusedRun G.kept output vault keeper ended
     changed_refusal (inl (u, same)) marked = unread_refusal trace faults G input output vault keeper ended (PasswordsUnread input) (two_unread input) u
     changed_refusal (inr (old, new, has, unfailed, inl ((error, u), unwritten, same))) marked = unopened_refusal trace faults G input output vault keeper ended old has.between has.old_is_next error u unwritten marked
     changed_refusal (inr (old, new, has, unfailed, inr c)) marked = absurd (c.unmarked marked)
 
-    pub changed_alarm : Changed trace faults G chance left input output vault keeper ended → NoFalseAlarm input (outside_of trace faults G vault keeper) (outside_of trace faults G ended.vault ended.keeper) ended.status
+    pub changed_alarm : RanPasswd trace faults G chance left input output vault keeper ended → NoFalseAlarm input (outside_of trace faults G vault keeper) (outside_of trace faults G ended.vault ended.keeper) ended.status
     changed_alarm (inl (u, same)) bytes c first f honest e = unread_is_no ended.status Violation (two_unread input ended.status u.cause).unread e (λ h. h)
     changed_alarm (inr (old, new, has, unfailed, inl ((error, u), unwritten, same))) bytes c first f honest e = unopened_alarm trace faults G input output vault keeper ended old has.between has.old_is_next error u bytes c first f honest e
     changed_alarm (inr (old, new, has, unfailed, inr c)) bytes d first f honest e = late_is_no output ended.status Violation (changed_late old new c) e (λ h. h)
 
-    pub changed_keeps : Changed trace faults G chance left input output vault keeper ended → Keeps input (outside_of trace faults G vault keeper) (outside_of trace faults G ended.vault ended.keeper)
+    pub changed_keeps : RanPasswd trace faults G chance left input output vault keeper ended → KeepsTree input (outside_of trace faults G vault keeper) (outside_of trace faults G ended.vault ended.keeper)
     changed_keeps (inl (u, same)) bytes c first f = unread_keeps trace faults G input output vault keeper ended (PasswordsUnread input) (two_unread input) u bytes c first f
     changed_keeps (inr (old, new, has, unfailed, inl ((error, u), unwritten, same))) bytes c first f = unopened_keeps trace faults G input output vault keeper ended old has.between has.old_is_next error u bytes c first f
     changed_keeps (inr (old, new, has, unfailed, inr c)) bytes d first f = inr (first, c.quiet.stands d first (opens_under trace faults G input output vault keeper ended old has.between has.old_is_next bytes d first f.opened))
 
-    pub changed_uncalled : Changed trace faults G chance left input output vault keeper ended → ended.status ≡ LongPassword → AreUncalled vault keeper ended
+    pub changed_uncalled : RanPasswd trace faults G chance left input output vault keeper ended → ended.status ≡ LongPassword → AreUncalled vault keeper ended
     changed_uncalled (inl (u, same)) e = u.uncalled
     changed_uncalled (inr (old, new, has, unfailed, inl ((error, u), unwritten, same))) e = absurd (opening_is_no error ended.status LongPassword u.status e (λ h. h))
     changed_uncalled (inr (old, new, has, unfailed, inr c)) e = absurd (late_is_no output ended.status LongPassword (changed_late old new c) e (λ h. h))
 
-    pub changed_usage : Changed trace faults G chance left input output vault keeper ended → ended.status ≢ Usage
+    pub changed_usage : RanPasswd trace faults G chance left input output vault keeper ended → ended.status ≢ Usage
     changed_usage (inl (u, same)) e = unread_is_no ended.status Usage (two_unread input ended.status u.cause).unread e (λ h. h)
     changed_usage (inr (old, new, has, unfailed, inl ((error, u), unwritten, same))) e = opening_is_no error ended.status Usage u.status e (λ h. h)
     changed_usage (inr (old, new, has, unfailed, inr c)) e = late_is_no output ended.status Usage (changed_late old new c) e (λ h. h)

@@ -3,7 +3,7 @@ use Rattle.std.proofs.Common.{◌≡◌, ◌≢◌, ◌+◌, ℕ, Bool, true, fa
 use Rattle.std.specs.Prelude.{Result, OnOk}
 use Rattle.std.specs.declared.result.Result.TheVariants.{Ok, Err}
 use Rattle.config_file.specs.declared.error.ConfigError.TheVariants as config_error
-use Rattle.line_io.specs.Streams.{Stream, Failed}
+use Rattle.line_io.specs.Streams.{Stream, HasFailed}
 use Rattle.passwords.specs.Passwords.{InputFailed}
 use Rattle.mount.specs.Mounts.{StopsMarked}
 use Rattle.mount.specs.declared.error.OpenError.{OpenError}
@@ -18,7 +18,7 @@ use Rattle.session_saver.specs.declared.saver.SyncError.{SyncError}
 use Rattle.session_saver.specs.declared.saver.SyncError.TheVariants as sync_error
 use Rattle.run_openings.specs.Statuses.{opening_status}
 use Rattle.shell_sessions.specs.Statuses.{session_status}
-use Rattle.cryfs_shell.specs.Clauses.{IsRefusal}
+use Rattle.cryfs_shell.specs.Clauses.{IsRefusingStatus}
 
 -- ---- a file system that wasn't opened
 
@@ -49,7 +49,7 @@ of_opening FaultState = tt
 pub opening_is_no : (error : OpenError) (status other : Status) → status ≡ opening_status error → status ≡ other → (IsOfOpening other → ⊥) → ⊥
 opening_is_no error status other e f h = h (subst IsOfOpening (sym e ∙ f) (of_opening error))
 
-pub stops_is_refusal : (error : OpenError) → StopsMarked error → IsRefusal (opening_status error)
+pub stops_is_refusal : (error : OpenError) → StopsMarked error → IsRefusingStatus (opening_status error)
 stops_is_refusal Marked stops = tt
 stops_is_refusal NoMemory stops = tt
 stops_is_refusal FaultState stops = tt
@@ -61,7 +61,7 @@ stops_is_refusal error stops = absurd stops
 abbrev pub EndCause : End → Stream → Stream → Type 0
 EndCause line_end.Finished input output = Unit {0}
 EndCause line_end.InputFault input output = InputFailed input
-EndCause line_end.OutputFault input output = Failed output
+EndCause line_end.OutputFault input output = HasFailed output
 
 pub session_directory : (b : Bool) (end : End) (closing : Result Unit SyncError) (n v0 v1 : ℕ) → session_status b end closing ≡ DirectoryFault → RoseBy (n + directory_fault closing) v0 v1 → RoseBy 1 v0 v1
 session_directory false line_end.Finished (Err sync_error.FaultDirectory) n v0 v1 e rose = omega arith
@@ -90,7 +90,7 @@ session_input false line_end.Finished (Err sync_error.FaultDirectory) input outp
 session_input false line_end.Finished (Err sync_error.FaultState) input output e cause = absurd (cc)
 session_input true end closing input output e cause = absurd (cc)
 
-pub session_output : (b : Bool) (end : End) (closing : Result Unit SyncError) (input output : Stream) → session_status b end closing ≡ OutputFault → EndCause end input output → Failed output
+pub session_output : (b : Bool) (end : End) (closing : Result Unit SyncError) (input output : Stream) → session_status b end closing ≡ OutputFault → EndCause end input output → HasFailed output
 session_output false line_end.OutputFault closing input output e cause = cause
 session_output false line_end.InputFault closing input output e cause = absurd (cc)
 session_output false line_end.Finished (Ok u) input output e cause = absurd (cc)

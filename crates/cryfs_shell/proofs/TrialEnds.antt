@@ -3,7 +3,7 @@ use Rattle.std.proofs.Common.{◌≡◌, ℕ, List, sym, ap, subst, inl, inr}
 use Rattle.std.specs.declared.option.Option.{Option}
 use Rattle.answers.specs.Sessions.{Exchange}
 use Rattle.fs_model.specs.Instant.{Instant}
-use Rattle.line_io.specs.Streams.{Stream, Failed}
+use Rattle.line_io.specs.Streams.{Stream, HasFailed}
 use Rattle.outside.specs.Trace.{Call}
 use Rattle.outside.specs.declared.keeper.Keeper.{Ghosts as KeeperGhosts}
 use Rattle.passwords.specs.Passwords.{InputFailed}
@@ -16,7 +16,7 @@ use Rattle.session_lines.specs.declared.end.End.{End}
 use Rattle.session_lines.specs.declared.end.End.TheVariants as line_end
 use Rattle.session_runs.specs.Runs.{outside_of}
 use Rattle.cryfs_shell.specs.Clauses.{FaultsHappened}
-use Rattle.cryfs_shell.specs.Runs.{Tried, Generated, status_of}
+use Rattle.cryfs_shell.specs.Runs.{Tried, GeneratedOnPlain, status_of}
 use Rattle.cryfs_shell.proofs.Statuses.{EndCause}
 use Rattle.cryfs_shell.proofs.Sessions.{stays_grown}
 
@@ -42,7 +42,7 @@ IsOfLines status = ⊥
 pub record IsTrialEnd (input output : Stream) (status : Status) : Type 0 where
   pub of_lines : IsOfLines status
   pub input_fault : status ≡ InputFault → InputFailed input
-  pub output_fault : status ≡ OutputFault → Failed output
+  pub output_fault : status ≡ OutputFault → HasFailed output
 
 wanting_end : (input output : Stream) (status : Status) → status ≡ Memory → IsTrialEnd input output status
 wanting_end input output status e = record { of_lines = subst IsOfLines (sym e) tt; input_fault = λ f. absurd (cc); output_fault = λ f. absurd (cc) }
@@ -56,7 +56,7 @@ pub tried_end : (now : Instant) (input output : Stream) (status : Status) → Tr
 tried_end now input output status (inl none) = wanting_end input output status none.0
 tried_end now input output status (inr (end, e, es, trees, trial)) = trial_end input output end status e (ends_cause input.old input output es end trial.ends)
 
-pub generated_end : (now : Instant) (count : ℕ) (input output : Stream) (status : Status) → Generated now count output status → IsTrialEnd input output status
+pub generated_end : (now : Instant) (count : ℕ) (input output : Stream) (status : Status) → GeneratedOnPlain now count output status → IsTrialEnd input output status
 generated_end now count input output status (inl none) = wanting_end input output status none.0
 generated_end now count input output status (inr (end, e, answers, trees, trial)) = trial_end input output end status e (reported_cause input output _ end trial.written)
 

@@ -16,7 +16,7 @@ use Rattle.run_status.specs.declared.status.Status.{Status}
 use Rattle.cryfs_shell.specs.declared.trial.Trial.{Trial}
 use Rattle.cryfs_shell.specs.Lawful.{calm}
 use Rattle.cryfs_shell.specs.Plain.{ArePlain, plain}
-use Rattle.cryfs_shell.specs.Runs.{Tried, Generated, status_of}
+use Rattle.cryfs_shell.specs.Runs.{Tried, GeneratedOnPlain, status_of}
 
 -- these trees are those that the exchanges leave, and the last of them is there
 record IsPlainSession (now : Instant) (first : Tree) (es : List Exchange) (present : Tree) (trees : List Tree) : Type 0 where
@@ -72,7 +72,7 @@ tried now old new reader input output end status t f u s =
     )
 
 pub summed : (now : Instant) (count : ℕ) (old new : Trial) (output : Stream) (end : End) (status : Status) → old.tree ≡ empty_tree → status ≡ status_of end
-    → Answered (plain (λ (t : Trial). t.tree)) now old new count output end → Generated now count output status
+    → Answered (plain (λ (t : Trial). t.tree)) now old new count output end → GeneratedOnPlain now count output status
 summed now count old new output end status t u s =
     let h = session_of (λ (t : Trial). t.tree) now old (generated s.0) new s.1.ran in
     inr (

@@ -6,7 +6,7 @@ use Rattle.config_file.specs.Settings.{Settings}
 use Rattle.fs_model.specs.Tree.{Tree}
 use Rattle.integrity_store.specs.Standing.{records}
 use Rattle.line_io.specs.Lines.{first_line}
-use Rattle.line_io.specs.Streams.{Stream, Failed, Untouched}
+use Rattle.line_io.specs.Streams.{Stream, HasFailed, Untouched}
 use Rattle.mount.specs.Representing.{HasEmptyList}
 use Rattle.mount_core.specs.Standing.{IsKeptMarked}
 use Rattle.outside.specs.Causes.{RoseBy}
@@ -14,24 +14,24 @@ use Rattle.passwords.specs.Passwords.{InputFailed}
 use Rattle.run_status.specs.declared.ended.Ended.{Ended}
 use Rattle.run_status.specs.declared.status.Status.{Status}
 use Rattle.run_status.specs.declared.status.Status.TheVariants.{LongPassword, Violation, DirectoryFault, StateFault, InputFault, OutputFault, Memory}
-use Rattle.session_lines.specs.Driven.{IsQuiet as IsUnfailed}
-use Rattle.session_runs.specs.Runs.{Outside, StandsFor, OpensTo, forgeries, lies}
+use Rattle.session_lines.specs.Driven.{IsUnfailed}
+use Rattle.session_runs.specs.Runs.{Outside, OutsideStandsFor, OpensTo, forgeries, lies}
 use Rattle.shell_words.specs.declared.form.Form.{Form}
 use Rattle.shell_words.specs.declared.form.Form.TheVariants.{Passwd}
 use Rattle.tree_commands.specs.Showing.{ShowsFiles}
 
 -- what a run may say over a marked record: that it is marked, or why it wasn't read: no password was, memory was refused, or its keeper failed
-abbrev pub IsRefusal : Status → Type 0
-IsRefusal Violation = Unit {0}
-IsRefusal LongPassword = Unit {0}
-IsRefusal InputFault = Unit {0}
-IsRefusal Memory = Unit {0}
-IsRefusal StateFault = Unit {0}
-IsRefusal status = ⊥
+abbrev pub IsRefusingStatus : Status → Type 0
+IsRefusingStatus Violation = Unit {0}
+IsRefusingStatus LongPassword = Unit {0}
+IsRefusingStatus InputFault = Unit {0}
+IsRefusingStatus Memory = Unit {0}
+IsRefusingStatus StateFault = Unit {0}
+IsRefusingStatus status = ⊥
 
 -- over a marked record: the directory isn't called, it stays kept, nothing is written, and the status refuses
 pub record IsRefusedRun {V : Type 0} {K : Type 0} (kept : K → Option (List ℕ)) (output : Stream) (vault : V) (keeper : K) (ended : Ended V K) : Type 0 where
-  pub status : IsRefusal ended.status
+  pub status : IsRefusingStatus ended.status
   pub uncalled : ended.vault ≡ vault
   pub stays : kept ended.keeper ≡ kept keeper
   pub unwritten : Untouched output
@@ -51,9 +51,9 @@ abbrev pub NoFalseAlarm : Stream → Outside → Outside → Status → Type 0
 NoFalseAlarm input before after status = (bytes : List ℕ) (c : Settings) (first : Tree) → IsOpenedRun input bytes c first before after → lies after ≤ lies before → status ≢ Violation
 
 -- afterwards the record is marked, or what is kept stands for a tree
-abbrev pub Keeps : Stream → Outside → Outside → Type 0
-Keeps input before after = (bytes : List ℕ) (c : Settings) (first : Tree) → IsFoundedRun input bytes c first before after
-    → IsKeptMarked records after.kept ⊎ ((tree : Tree) × StandsFor ShowsFiles c tree after)
+abbrev pub KeepsTree : Stream → Outside → Outside → Type 0
+KeepsTree input before after = (bytes : List ℕ) (c : Settings) (first : Tree) → IsFoundedRun input bytes c first before after
+    → IsKeptMarked records after.kept ⊎ ((tree : Tree) × OutsideStandsFor ShowsFiles c tree after)
 
 -- No count falls, and a status that names a fault comes only where that count rose in the run; a count at the end of its type is excepted. The input's fault may also
 -- say that 2^63 bytes were taken.
@@ -63,7 +63,7 @@ pub record FaultsHappened (input output : Stream) (before after : Outside) (stat
   pub directory_fault : status ≡ DirectoryFault → RoseBy 1 before.vault_faults after.vault_faults
   pub state_fault : status ≡ StateFault → RoseBy 1 before.keeper_faults after.keeper_faults
   pub input_fault : status ≡ InputFault → InputFailed input
-  pub output_fault : status ≡ OutputFault → Failed output
+  pub output_fault : status ≡ OutputFault → HasFailed output
 
 -- a status that may be the error of the change of a password, behind which a fault that closing met is hidden
 abbrev pub MayHide : Option Form → Status → Type 0

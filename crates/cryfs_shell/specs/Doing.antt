@@ -2,9 +2,9 @@
 use Rattle.std.specs.Prelude.{ℕ, List}
 use Rattle.std.specs.declared.option.Option.{Option}
 use Rattle.rand_core.specs.Stream.{Stream as Chance}
-use Rattle.cryfs_setup.specs.Create.{Created}
+use Rattle.cryfs_setup.specs.Create.{RanCreate}
 use Rattle.cryfs_setup.specs.Info.{Told}
-use Rattle.cryfs_setup.specs.Passwd.{Changed}
+use Rattle.cryfs_setup.specs.Passwd.{RanPasswd}
 use Rattle.fs_model.specs.Instant.{Instant}
 use Rattle.line_io.specs.Streams.{Stream, Untouched}
 use Rattle.mount.specs.Drawing.{drawn}
@@ -17,7 +17,7 @@ use Rattle.shell_sessions.specs.Sessions.{Session, ComesShell, ComesGenerated, C
 use Rattle.shell_words.specs.declared.form.Form.{Form}
 use Rattle.shell_words.specs.declared.form.Form.TheVariants.{Trial, TrialGenerate, Create, Info, Passwd, Shell, Generate, Command}
 use Rattle.shell_words.specs.Forms.{joined}
-use Rattle.cryfs_shell.specs.Runs.{Tried, Generated}
+use Rattle.cryfs_shell.specs.Runs.{Tried, GeneratedOnPlain}
 
 -- the status names only faults that happened
 abbrev pub Caused : {V : Type 0} → {K : Type 0} → (V → Option (List Call)) → (V → ℕ) → KeeperGhosts K → V → K → Ended V K → Type 0
@@ -25,11 +25,11 @@ Caused trace faults G vault keeper ended = HasCauses (outside_of trace faults G 
 
 abbrev pub Does : {V : Type 0} → {K : Type 0} → (V → Option (List Call)) → (V → ℕ) → KeeperGhosts K → List (List ℕ) → Instant → Chance → Chance → Stream → Stream → V → K → Ended V K → Form → Type 0
 Does trace faults G words now chance left input output vault keeper ended Trial = Tried now input output ended.status × AreUncalled vault keeper ended
-Does trace faults G words now chance left input output vault keeper ended (TrialGenerate count) = Generated now count output ended.status × Untouched input × AreUncalled vault keeper ended
+Does trace faults G words now chance left input output vault keeper ended (TrialGenerate count) = GeneratedOnPlain now count output ended.status × Untouched input × AreUncalled vault keeper ended
 Does trace faults G words now chance left input output vault keeper ended (Create options) =
-    Created trace faults G options.params options.block_size (drawn chance).0 input output vault keeper ended × Caused trace faults G vault keeper ended
+    RanCreate trace faults G options.params options.block_size (drawn chance).0 input output vault keeper ended × Caused trace faults G vault keeper ended
 Does trace faults G words now chance left input output vault keeper ended Info = Told trace faults G input output vault keeper ended × Caused trace faults G vault keeper ended
-Does trace faults G words now chance left input output vault keeper ended Passwd = Changed trace faults G chance left input output vault keeper ended × Caused trace faults G vault keeper ended
+Does trace faults G words now chance left input output vault keeper ended Passwd = RanPasswd trace faults G chance left input output vault keeper ended × Caused trace faults G vault keeper ended
 Does trace faults G words now chance left input output vault keeper ended Shell = Session trace faults G now (ComesShell input output) input output vault keeper ended
 Does trace faults G words now chance left input output vault keeper ended (Generate count) = Session trace faults G now (ComesGenerated count input output) input output vault keeper ended
 Does trace faults G words now chance left input output vault keeper ended Command = Session trace faults G now (ComesCommand (joined words) input output) input output vault keeper ended

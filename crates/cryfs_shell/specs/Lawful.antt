@@ -6,7 +6,7 @@ use Rattle.fs_model.specs.Instant.{Instant}
 use Rattle.fs_model.specs.Tree.{Tree}
 use Rattle.answers.specs.declared.answer.Answer.{Answer}
 use Rattle.answers.specs.declared.answer.Answer.TheVariants.{Reply as Replied, Memory, Spent, FaultDirectory, FaultState, Violation, Refused}
-use Rattle.answers.specs.Hosts.{LawfulHost, IsLong}
+use Rattle.answers.specs.Hosts.{LawfulHost, IsLongReply}
 use Rattle.answers.specs.Sessions.{Asked, FollowsAsked, is_violation, is_refused}
 use Rattle.answers.proofs.Looked.{long_stays}
 use Rattle.cryfs_shell.specs.Plain.{IsPlain, plain}
@@ -19,7 +19,7 @@ wanting : (now : Instant) (tree : Tree) (asked : Asked) → FollowsAsked now tre
 wanting now tree (Ok command) = refl
 wanting now tree (Err error) = (inr refl, refl)
 
-unsaid : (now : Instant) (tree next : Tree) (asked : Asked) (reply : Reply) → FollowsAsked now tree asked (Replied reply) next → IsLong reply
+unsaid : (now : Instant) (tree next : Tree) (asked : Asked) (reply : Reply) → FollowsAsked now tree asked (Replied reply) next → IsLongReply reply
     → FollowsAsked now tree asked Memory next
 unsaid now tree next (Ok command) reply f long = long_stays tree now command reply next f long
 unsaid now tree next (Err error) reply f long = (inr refl, f.1)

@@ -32,13 +32,13 @@ Tried now input output status = ((status ≡ Memory) × Untouched input × Untou
     ⊎ ((end : End) × (status ≡ status_of end) × (es : List Exchange) × (trees : List Tree) × IsTrial now input output end es trees)
 
 -- so many generated commands, answered by a new plain tree, and the summary of the answers
-pub record IsGenerated (now : Instant) (count : ℕ) (output : Stream) (end : End) (answers : List Answer) (trees : List Tree) : Type 0 where
+pub record IsGeneratedOnPlain (now : Instant) (count : ℕ) (output : Stream) (end : End) (answers : List Answer) (trees : List Tree) : Type 0 where
   pub replies : IsSession now empty_tree (generated answers) trees
   pub plain : ArePlain (generated answers)
   pub all : length answers ≡ count
   pub written : Reported output (text_of_summary (summary_of answers)) end
 
 -- memory was refused before the first command, or there are answers and trees
-abbrev pub Generated : Instant → ℕ → Stream → Status → Type 0
-Generated now count output status = ((status ≡ Memory) × Untouched output)
-    ⊎ ((end : End) × (status ≡ status_of end) × (answers : List Answer) × (trees : List Tree) × IsGenerated now count output end answers trees)
+abbrev pub GeneratedOnPlain : Instant → ℕ → Stream → Status → Type 0
+GeneratedOnPlain now count output status = ((status ≡ Memory) × Untouched output)
+    ⊎ ((end : End) × (status ≡ status_of end) × (answers : List Answer) × (trees : List Tree) × IsGeneratedOnPlain now count output end answers trees)

@@ -3,9 +3,9 @@ ghost use Rattle.std.specs.Prelude.{◌≡◌, ◌≤◌, ℕ, true, false, map}
 ghost use Rattle.std.specs.declared.option.Option.TheVariants.{None, Some};
 ghost use Rattle.std.specs.String.{string_bytes};
 ghost use Rattle.create_options.specs.declared.options.CreateOptions.{CreateOptions};
-ghost use Rattle.cryfs_setup.specs.Create.{Created};
+ghost use Rattle.cryfs_setup.specs.Create.{RanCreate};
 ghost use Rattle.cryfs_setup.specs.Info.{Told};
-ghost use Rattle.cryfs_setup.specs.Passwd.{Changed};
+ghost use Rattle.cryfs_setup.specs.Passwd.{RanPasswd};
 ghost use Rattle.histories.specs.Histories.{Run};
 ghost use Rattle.integrity_store.specs.Standing.{records};
 ghost use Rattle.line_io.specs.Streams.{stream_of, Untouched};
@@ -16,11 +16,11 @@ ghost use Rattle.session_runs.specs.Runs.{outside_of};
 ghost use Rattle.shell_sessions.specs.Sessions.{Session, ComesShell, ComesGenerated, ComesCommand};
 ghost use Rattle.shell_words.specs.Forms.{form_of, is_create, joined, IsModest};
 ghost use Rattle.shell_words.specs.declared.form.Form.{Form};
-ghost use Rattle.cryfs_shell.specs.Clauses.{IsRefusedRun, NoFalseAlarm, Keeps, FaultsHappened, FaultsNamed, StreamFaultsNamed, IsEmptied};
+ghost use Rattle.cryfs_shell.specs.Clauses.{IsRefusedRun, NoFalseAlarm, KeepsTree, FaultsHappened, FaultsNamed, StreamFaultsNamed, IsEmptied};
 ghost use Rattle.cryfs_shell.specs.Doing.{Does};
 ghost use Rattle.cryfs_shell.specs.History.{Comes, IsRunOf};
 ghost use Rattle.cryfs_shell.specs.Kinds.{IsRefused, is_session, opens, draws};
-ghost use Rattle.cryfs_shell.specs.Runs.{Tried, Generated};
+ghost use Rattle.cryfs_shell.specs.Runs.{Tried, GeneratedOnPlain};
 
 use crate::trials::{try_generated, try_lines};
 use block_id::Memory;
@@ -51,13 +51,13 @@ pub fn run<I: Source, O: Sink, V: Vault, K: Keeper, R: Rng>(
     ensures trial { form_of (map string_bytes words.now) ≡ Some Form.Trial
         → Tried now (stream_of I.rest I.faults input.old input.new) (stream_of O.written O.faults output.old output.new) result.status × AreUncalled vault keeper result }
     ensures trial_generate { (count : ℕ) → form_of (map string_bytes words.now) ≡ Some (Form.TrialGenerate count)
-        → Generated now count (stream_of O.written O.faults output.old output.new) result.status × Untouched (stream_of I.rest I.faults input.old input.new) × AreUncalled vault keeper result }
+        → GeneratedOnPlain now count (stream_of O.written O.faults output.old output.new) result.status × Untouched (stream_of I.rest I.faults input.old input.new) × AreUncalled vault keeper result }
     ensures created { (options : CreateOptions) → form_of (map string_bytes words.now) ≡ Some (Form.Create options)
-        → Created V.trace V.faults K.Keeper options.params options.block_size (drawn (R.stream chance.old)).0 (stream_of I.rest I.faults input.old input.new) (stream_of O.written O.faults output.old output.new) vault keeper result }
+        → RanCreate V.trace V.faults K.Keeper options.params options.block_size (drawn (R.stream chance.old)).0 (stream_of I.rest I.faults input.old input.new) (stream_of O.written O.faults output.old output.new) vault keeper result }
     ensures told { form_of (map string_bytes words.now) ≡ Some Form.Info
         → Told V.trace V.faults K.Keeper (stream_of I.rest I.faults input.old input.new) (stream_of O.written O.faults output.old output.new) vault keeper result }
     ensures changed { form_of (map string_bytes words.now) ≡ Some Form.Passwd
-        → Changed V.trace V.faults K.Keeper (R.stream chance.old) (R.stream chance.new) (stream_of I.rest I.faults input.old input.new) (stream_of O.written O.faults output.old output.new) vault keeper result }
+        → RanPasswd V.trace V.faults K.Keeper (R.stream chance.old) (R.stream chance.new) (stream_of I.rest I.faults input.old input.new) (stream_of O.written O.faults output.old output.new) vault keeper result }
     ensures session { form_of (map string_bytes words.now) ≡ Some Form.Shell
         → Session V.trace V.faults K.Keeper now (ComesShell (stream_of I.rest I.faults input.old input.new) (stream_of O.written O.faults output.old output.new)) (stream_of I.rest I.faults input.old input.new) (stream_of O.written O.faults output.old output.new) vault keeper result }
     ensures generate { (count : ℕ) → form_of (map string_bytes words.now) ≡ Some (Form.Generate count)
@@ -66,7 +66,7 @@ pub fn run<I: Source, O: Sink, V: Vault, K: Keeper, R: Rng>(
         → Session V.trace V.faults K.Keeper now (ComesCommand (joined (map string_bytes words.now)) (stream_of I.rest I.faults input.old input.new) (stream_of O.written O.faults output.old output.new)) (stream_of I.rest I.faults input.old input.new) (stream_of O.written O.faults output.old output.new) vault keeper result }
     ensures refusal { opens (form_of (map string_bytes words.now)) ≡ true → IsKeptMarked records (K.kept keeper) → IsRefusedRun K.kept (stream_of O.written O.faults output.old output.new) vault keeper result }
     ensures no_false_alarm { NoFalseAlarm (stream_of I.rest I.faults input.old input.new) (outside_of V.trace V.faults K.Keeper vault keeper) (outside_of V.trace V.faults K.Keeper result.vault result.keeper) result.status }
-    ensures kept { opens (form_of (map string_bytes words.now)) ≡ true → Keeps (stream_of I.rest I.faults input.old input.new) (outside_of V.trace V.faults K.Keeper vault keeper) (outside_of V.trace V.faults K.Keeper result.vault result.keeper) }
+    ensures kept { opens (form_of (map string_bytes words.now)) ≡ true → KeepsTree (stream_of I.rest I.faults input.old input.new) (outside_of V.trace V.faults K.Keeper vault keeper) (outside_of V.trace V.faults K.Keeper result.vault result.keeper) }
     ensures faults_happened { FaultsHappened (stream_of I.rest I.faults input.old input.new) (stream_of O.written O.faults output.old output.new) (outside_of V.trace V.faults K.Keeper vault keeper) (outside_of V.trace V.faults K.Keeper result.vault result.keeper) result.status }
     ensures faults_named { is_session (form_of (map string_bytes words.now)) ≡ false → FaultsNamed (form_of (map string_bytes words.now)) (outside_of V.trace V.faults K.Keeper vault keeper) (outside_of V.trace V.faults K.Keeper result.vault result.keeper) result.status }
     ensures stream_faults_named { StreamFaultsNamed (stream_of I.rest I.faults input.old input.new) (stream_of O.written O.faults output.old output.new) result.status }

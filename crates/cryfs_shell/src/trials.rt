@@ -1,7 +1,7 @@
 // Runs on a new plain tree.
 ghost use Rattle.std.specs.Prelude.{◌≡◌, ◌≤◌};
 ghost use Rattle.line_io.specs.Streams.{stream_of};
-ghost use Rattle.cryfs_shell.specs.Runs.{Tried, Generated, status_of};
+ghost use Rattle.cryfs_shell.specs.Runs.{Tried, GeneratedOnPlain, status_of};
 
 use crate::trial::Trial;
 use answers::TextBuffer;
@@ -69,7 +69,7 @@ pub fn try_generated<O: Sink, R: Rng>(
     chance: &mut R,
 ) -> Status
     requires { count ≤ 1000000 }
-    ensures generated { Generated now count (stream_of O.written O.faults output.old output.new) result }
+    ensures generated { GeneratedOnPlain now count (stream_of O.written O.faults output.old output.new) result }
     ensures output_grows { O.faults output.old ≤ O.faults output.new }
     ensures undrawn { R.stream chance.new ≡ R.stream chance.old }
 {

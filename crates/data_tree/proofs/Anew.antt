@@ -7,7 +7,7 @@ use Rattle.data_nodes.specs.Layout.{NodeText, IsNode}
 use Rattle.store_api.specs.Content.{Id, Content, same_id}
 use Rattle.store_api.specs.Holdings.{Holdings, has_id}
 use Rattle.data_tree.specs.Trees.{IsTree, Holds, IsDepth, NoDoubles, Replaces, depth_in}
-use Rattle.data_tree.specs.Needs.{Sets, HasBelow, Keeps, Built, NewTree, HasRootNode}
+use Rattle.data_tree.specs.Needs.{Sets, HasBelow, KeepsShape, Built, NewTree, HasRootNode}
 use Rattle.data_tree.specs.Roots.{IsRoot, IsNewRoot}
 use Rattle.store_api.specs.Holdings.{Stays}
 use Rattle.store_api.proofs.Rising.{same_id_is}
@@ -22,7 +22,7 @@ pub came_none : (A B : Content) (ids : List Id) → Replaces A B [] ids → (q :
 came_none A B ids r q there = false_from_ne_true (has_id ids q) (λ h. elim (r.came q h) [ inl never ↦ absurd (let no_id : has_id [] q ≡ true = never in cc) | inr none ↦ none_is (A q) none there ])
 
 pub root_made : {S : Type 0} {H : Holdings S} {a b c : S} {depth : ℕ} {node : NodeText} {w : List ℕ} (root : Id) (text : List ℕ) → is_some (H.content a root) ≡ true → IsDepth (H.payload a) depth (length w) → Built H a b depth node w
-    → IsNode text node → length text ≡ H.payload b → Sets (H.content b) (H.content c) root (Some text) → Keeps H a b → Keeps H b c → IsNewRoot H a c root (root ∷ []) w
+    → IsNode text node → length text ≡ H.payload b → Sets (H.content b) (H.content c) root (Some text) → KeepsShape H a b → KeepsShape H b c → IsNewRoot H a c root (root ∷ []) w
 root_made {H = H} {a = a} {b = b} {c = c} {depth = depth} {node = node} {w = w} root text there deep built is sized sets one two =
     let apart_from : has_id built.ids root ≡ false = came_none (H.content a) (H.content b) built.ids built.came root there in
     let same = other (H.content b) (H.content c) root (Some text) built.ids sets apart_from in
@@ -65,7 +65,7 @@ root_made {H = H} {a = a} {b = b} {c = c} {depth = depth} {node = node} {w = w} 
     came_in q (inr below) = elim (built.came.came q below) [ inl never ↦ absurd (let no_id : has_id [] q ≡ true = never in cc) | inr none ↦ inr none ]
 
 -- a new tree is that of a new root
-pub root_new : {S : Type 0} {H : Holdings S} {a b : S} {id : Id} {w : List ℕ} (depth : ℕ) → Keeps H a b → IsDepth (H.payload a) depth (length w) → NewTree H a b depth id w → IsNewRoot H a b id [] w
+pub root_new : {S : Type 0} {H : Holdings S} {a b : S} {id : Id} {w : List ℕ} (depth : ℕ) → KeepsShape H a b → IsDepth (H.payload a) depth (length w) → NewTree H a b depth id w → IsNewRoot H a b id [] w
 root_new {w = w} depth keeps deep new = record {
   ids = new.ids;
   depth = depth;
@@ -96,7 +96,7 @@ old_apart {H = H} {a = a} {root = root} {node = node} n r q h =
     let not_root : has_id (root ∷ []) q ≡ false = ap (λ b'. b' || false) differs in
     (not_root, false_from_ne_true (has_id r.ids q) (λ e. elim (r.replaces.came q e) [ inl old ↦ let bad : false ≡ true = sym not_root ∙ old in cc | inr none ↦ none_is (H.content a q) none there ]))
 
-abbrev pub old_below : {S : Type 0} {H : Holdings S} {a b : S} {root : Id} {node : NodeText} {w : List ℕ} (depth : ℕ) → depth ≡ depth_in node → Keeps H a b → (n : HasRootNode H a root node) → IsNewRoot H a b root (root ∷ []) w → HasBelow H b depth node
+abbrev pub old_below : {S : Type 0} {H : Holdings S} {a b : S} {root : Id} {node : NodeText} {w : List ℕ} (depth : ℕ) → depth ≡ depth_in node → KeepsShape H a b → (n : HasRootNode H a root node) → IsNewRoot H a b root (root ∷ []) w → HasBelow H b depth node
 old_below {H = H} {a = a} {b = b} {root = root} {node = node} depth level keeps n r = record {
   bytes = n.bytes;
   ids = n.ids;
@@ -106,7 +106,7 @@ old_below {H = H} {a = a} {b = b} {root = root} {node = node} depth level keeps 
   alone = n.alone.1;
 }
 
-pub anew : {S : Type 0} {H : Holdings S} {a b c : S} {root : Id} {node : NodeText} {w : List ℕ} → (n : HasRootNode H a root node) → (r : IsNewRoot H a b root (root ∷ []) w) → Keeps H b c → Replaces (H.content b) (H.content c) n.ids [] → IsNewRoot H a c root (root ∷ n.ids) w
+pub anew : {S : Type 0} {H : Holdings S} {a b c : S} {root : Id} {node : NodeText} {w : List ℕ} → (n : HasRootNode H a root node) → (r : IsNewRoot H a b root (root ∷ []) w) → KeepsShape H b c → Replaces (H.content b) (H.content c) n.ids [] → IsNewRoot H a c root (root ∷ n.ids) w
 anew {H = H} {a = a} {b = b} {c = c} {root = root} {w = w} n r keeps drops =
     let apart : (q : Id) → has_id n.ids q ≡ true → has_id r.ids q ≡ false = λ q h. (old_apart n r q h).1 in
     let still : (q : Id) → has_id r.ids q ≡ true → H.content c q ≡ H.content b q =

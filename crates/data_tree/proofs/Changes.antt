@@ -11,7 +11,7 @@ use Rattle.store_api.specs.Holdings.{Holdings, Stays, has_id}
 use Rattle.store_api.specs.Overlay.{without}
 use Rattle.store_api.proofs.Rising.{same_id_is}
 use Rattle.data_tree.specs.Trees.{IsTree, Holds, Forest, span, NoDoubles, Replaces}
-use Rattle.data_tree.specs.Needs.{Sets, HasTree, HasBelow, HasTrees, Keeps, DropRest}
+use Rattle.data_tree.specs.Needs.{Sets, HasTree, HasBelow, HasTrees, KeepsShape, DropRest}
 use Rattle.data_tree.proofs.Ids.{in_left, in_right, same_self, alone-parts, apart_right, drops_more, other, replaces_nothing}
 
 picked : (b : Bool) (change : Option (List ℕ)) (o : Option (Option (List ℕ))) (c : Option (List ℕ)) → or_else (cond b (Some change) o) c ≡ cond b change (or_else o c)
@@ -99,7 +99,7 @@ pub trees_frame : (payload : ℕ) (A B : Content) (depth : ℕ) (size : ℕ) (ch
 trees_frame payload A B depth size children w ids same f = forest_frame (IsTree payload A depth) (IsTree payload B depth) (λ q. B q ≡ A q) (tree_frame payload A B depth) size children w ids same f
 
 -- what stands below a node, where another block changes
-abbrev pub below_changed : {S : Type 0} {H : Holdings S} {b c : S} {depth : ℕ} {node : NodeText} {id : Id} {change : Option (List ℕ)} → (n : HasBelow H b depth node) → has_id n.ids id ≡ false → Keeps H b c → Sets (H.content b) (H.content c) id change → HasBelow H c depth node
+abbrev pub below_changed : {S : Type 0} {H : Holdings S} {b c : S} {depth : ℕ} {node : NodeText} {id : Id} {change : Option (List ℕ)} → (n : HasBelow H b depth node) → has_id n.ids id ≡ false → KeepsShape H b c → Sets (H.content b) (H.content c) id change → HasBelow H c depth node
 below_changed {H = H} {b = b} {c = c} {depth = depth} {node = node} {id = id} {change = change} n none keeps sets = record {
   bytes = n.bytes;
   ids = n.ids;
@@ -109,10 +109,10 @@ below_changed {H = H} {b = b} {c = c} {depth = depth} {node = node} {id = id} {c
   alone = n.alone;
 }
 
-pub keeps-then : {S : Type 0} {H : Holdings S} {a b c : S} → Keeps H a b → Keeps H b c → Keeps H a c
+pub keeps-then : {S : Type 0} {H : Holdings S} {a b c : S} → KeepsShape H a b → KeepsShape H b c → KeepsShape H a c
 keeps-then one two = record { told = two.told ∙ one.told; payload = two.payload ∙ one.payload }
 
-pub keeps_of : {S : Type 0} {H : Holdings S} {a b : S} → Stays H a b → Keeps H a b
+pub keeps_of : {S : Type 0} {H : Holdings S} {a b : S} → Stays H a b → KeepsShape H a b
 keeps_of stays = record { told = stays.told; payload = stays.payload }
 
 pub drop_start : {S : Type 0} {H : Holdings S} {s : S} {depth : ℕ} {children : List Id} → (n : HasTrees H s depth children) → DropRest H s s depth (drop 0 children) n.ids
@@ -126,7 +126,7 @@ first_left {H = H} {s = s} {depth = depth} child rest told alone is r =
     record { bytes = take (span (H.payload s) depth) r.bytes; ids = f.1.0; told = told; tree = f.1.1.1.0; alone = (alone-parts f.1.0 f.1.1.0 (subst NoDoubles f.1.1.1.1.1 left)).0 }
 
 pub drop_next : {S : Type 0} {H : Holdings S} {a s t : S} {depth : ℕ} {children all : List Id} (child : Id) (rest : List Id) → (told : H.told s ≡ true) → (alone : NoDoubles all) → (is : children ≡ child ∷ rest) → (r : DropRest H a s depth children all)
-    → Keeps H s t → Replaces (H.content s) (H.content t) (first_left {H = H} {a = a} {s = s} child rest told alone is r).ids [] → DropRest H a t depth rest all
+    → KeepsShape H s t → Replaces (H.content s) (H.content t) (first_left {H = H} {a = a} {s = s} child rest told alone is r).ids [] → DropRest H a t depth rest all
 drop_next {H = H} {a = a} {s = s} {t = t} {depth = depth} {all = all} child rest told alone is r keeps dropped =
     let f : Forest (IsTree (H.payload s) (H.content s) depth) (span (H.payload s) depth) (child ∷ rest) r.bytes r.left =
     subst (λ cs. Forest (IsTree (H.payload s) (H.content s) depth) (span (H.payload s) depth) cs r.bytes r.left) is r.trees in

@@ -14,7 +14,7 @@ use Rattle.store_api.specs.Content.{Id, Content, same_id}
 use Rattle.store_api.specs.Holdings.{Holdings, has_id, is_free}
 use Rattle.store_api.proofs.Rising.{same_id_is}
 use Rattle.data_tree.specs.Trees.{IsTree, Holds, Forest, span, NoDoubles, Replaces}
-use Rattle.data_tree.specs.Needs.{Sets, Keeps, Built, BuiltTrees, BuildRest, NewTree}
+use Rattle.data_tree.specs.Needs.{Sets, KeepsShape, Built, BuiltTrees, BuildRest, NewTree}
 use Rattle.data_tree.proofs.Ids.{in_one, not_both, same_self, other, replaces_nothing}
 use Rattle.data_tree.proofs.Changes.{holds_frame, trees_frame}
 
@@ -65,7 +65,7 @@ free_none used B id known free = none_of (B id) (λ there. never (has_id used id
 
 -- a tree whose node was put last
 pub tree_made : {S : Type 0} {H : Holdings S} {a b c : S} {depth : ℕ} {node : NodeText} {w : List ℕ} (id : Id) (text : List ℕ) → Built H a b depth node w → H.content b id ≡ None → IsNode text node → length text ≡ H.payload b
-    → Sets (H.content b) (H.content c) id (Some text) → Keeps H b c → NewTree H a c depth id w
+    → Sets (H.content b) (H.content c) id (Some text) → KeepsShape H b c → NewTree H a c depth id w
 tree_made {H = H} {a = a} {b = b} {c = c} {depth = depth} {node = node} {w = w} id text built none is sized sets keeps =
     let apart_from : has_id built.ids id ≡ false = not_among (H.content b) built.ids id (holds_there (H.payload b) (H.content b) depth node w built.ids built.holds) none in
     let same = other (H.content b) (H.content c) id (Some text) built.ids sets apart_from in
@@ -176,7 +176,7 @@ pub full_next : (l p n m x y : ℕ) → l ≡ n * x → p ≡ x → m ≡ n + 1 
 full_next l p n m x y so_far full more same = subst (λ k. l + p ≡ m * k) same (subst (λ k. l + p ≡ k * x) (sym more) (omega arith))
 
 pub build_next : {S : Type 0} {H : Holdings S} {a s t : S} {depth : ℕ} {children : List Id} {left all : List ℕ} (child : Id) (piece after : List ℕ) → (r : BuildRest H a s depth children left all) → left ≡ piece ++ after → 0 < length piece → length piece ≤ span (H.payload s) depth
-    → (0 < length after → length piece ≡ span (H.payload s) depth) → Keeps H s t → NewTree H s t depth child piece → BuildRest H a t depth (children ++ child ∷ []) after all
+    → (0 < length after → length piece ≡ span (H.payload s) depth) → KeepsShape H s t → NewTree H s t depth child piece → BuildRest H a t depth (children ++ child ∷ []) after all
 build_next {H = H} {a = a} {s = s} {t = t} {depth = depth} {children = children} {left = left} {all = all} child piece after r cut some fits full keeps new =
     let sized : H.payload s ≡ H.payload t = sym keeps.payload in
     let here : length r.done ≡ length children * span (H.payload s) depth = r.full (omega (arith, ap length cut, length-append piece after, some)) in

@@ -8,7 +8,7 @@ use Rattle.store_api.specs.declared.tx.Tx.{Tx}
 use Rattle.store_api.specs.Content.{Id, Content, Changes, or_else, over, same_id}
 use Rattle.store_api.specs.Overlay.{without}
 use Rattle.store_api.specs.Holdings.{Holdings, Stays, has_id}
-use Rattle.data_tree.specs.Needs.{Sets, Keeps}
+use Rattle.data_tree.specs.Needs.{Sets, KeepsShape}
 use Rattle.outcome.specs.Meanings.{Meanings, Lawful}
 use Rattle.outcome.specs.Outcome.{Outcome}
 use Rattle.store_api.specs.Overlay.{changed_over}
@@ -35,10 +35,10 @@ tx_same a b one two = λ i. record { store = one i; overlay = two i }
 pub below_same : {B : Type 0} (H : Holdings B) (a b : Tx B) → b.store ≡ a.store → Stays H a.store b.store
 below_same H a b same = subst (λ s. Stays H a.store s) (sym same) (stays-same H a.store)
 
-pub keeps_below : {B : Type 0} (H : Holdings B) (a b : Tx B) → Stays H a.store b.store → Keeps (tx_holdings H) a b
+pub keeps_below : {B : Type 0} (H : Holdings B) (a b : Tx B) → Stays H a.store b.store → KeepsShape (tx_holdings H) a b
 keeps_below H a b below = record { told = below.told; payload = below.payload }
 
-pub keeps_same : {B : Type 0} (H : Holdings B) (a b : Tx B) → b.store ≡ a.store → Keeps (tx_holdings H) a b
+pub keeps_same : {B : Type 0} (H : Holdings B) (a b : Tx B) → b.store ≡ a.store → KeepsShape (tx_holdings H) a b
 keeps_same H a b same = record { told = ap H.told same; payload = ap H.payload same }
 
 pub put_sets : {B : Type 0} (H : Holdings B) (a d : Tx B) (id : Id) (change : Option (List ℕ)) → d.store ≡ a.store → d.overlay ≡ fin.insert a.overlay id change

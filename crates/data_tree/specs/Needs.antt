@@ -38,7 +38,7 @@ pub record HasTrees {S : Type 0} (H : Holdings S) (s : S) (depth : ℕ) (childre
   pub alone : NoDoubles ids
 
 -- what no call changes
-pub record Keeps {S : Type 0} (H : Holdings S) (a b : S) : Type 0 where
+pub record KeepsShape {S : Type 0} (H : Holdings S) (a b : S) : Type 0 where
   pub told : H.told b ≡ H.told a
   pub payload : H.payload b ≡ H.payload a
 

@@ -14,7 +14,7 @@ use data_nodes::Node;
 use std::alloc::Global;
 use store_api::{Blocks, Tx};
 
-// Drops a leaf, which isn't loaded.
+/// Drops a leaf, which isn't loaded.
 fn drop_leaf<S: Blocks>(tx: &mut Tx<S>, id: &BlockId) -> Result<(), Fail>
     requires { ⟦<Tx<S> as Blocks>⟧.meanings.intact tx.old }
     ensures outcome { Outcome ⟦<Tx<S> as Blocks>⟧.meanings (HasTree ⟦<Tx<S> as Blocks>⟧.holdings tx.old 0 id.now.0) tx.old tx.new result
@@ -31,7 +31,7 @@ fn drop_leaf<S: Blocks>(tx: &mut Tx<S>, id: &BlockId) -> Result<(), Fail>
     }
 }
 
-// Drops a tree of this depth.
+/// Drops a tree of this depth.
 #[cycle(drop)]
 fn drop_below<S: Blocks>(alloc: Global, tx: &mut Tx<S>, id: &BlockId, depth: u8) -> Result<(), Fail>
     requires { ⟦<Tx<S> as Blocks>⟧.meanings.intact tx.old }

@@ -18,7 +18,7 @@ use rand_core::Rng;
 use std::alloc::Global;
 use store_api::{Blocks, Tx};
 
-// The node that a block holds.
+/// The node that a block holds.
 fn load_node<S: Blocks>(alloc: Global, tx: &mut Tx<S>, id: &BlockId) -> Result<Node, Fail>
     requires { ⟦<Tx<S> as Blocks>⟧.meanings.intact tx.old }
     ensures outcome { Outcome ⟦<Tx<S> as Blocks>⟧.meanings (HasNode ⟦<Tx<S> as Blocks>⟧.holdings tx.old id.now.0) tx.old tx.new result (λ n node. node_of node ≡ n.node) }

@@ -72,7 +72,7 @@ pub fn read_in<S: Blocks>(
     }
 }
 
-// Appends a part of the bytes of the trees that stand side by side.
+/// Appends a part of the bytes of the trees that stand side by side.
 #[cycle(read)]
 fn read_children<S: Blocks>(
     alloc: Global,

@@ -20,7 +20,7 @@ use rand_core::Rng;
 use std::alloc::Global;
 use store_api::{Blocks, Tx};
 
-// A new tree for the bytes under an id that has a block.
+/// A new tree for the bytes under an id that has a block.
 fn put_tree<S: Blocks, R: Rng>(
     alloc: Global,
     tx: &mut Tx<S>,
@@ -43,7 +43,7 @@ fn put_tree<S: Blocks, R: Rng>(
     }
 }
 
-// A new tree for the bytes under the id of a root, in place of what stands below its node.
+/// A new tree for the bytes under the id of a root, in place of what stands below its node.
 pub(crate) fn rewrite<S: Blocks, R: Rng>(
     alloc: Global,
     tx: &mut Tx<S>,
@@ -67,7 +67,7 @@ pub(crate) fn rewrite<S: Blocks, R: Rng>(
     }
 }
 
-// The root's node, and all bytes of its tree.
+/// The root's node, and all bytes of its tree.
 pub(crate) fn read_root<S: Blocks>(
     alloc: Global,
     tx: &mut Tx<S>,
@@ -103,7 +103,7 @@ pub(crate) fn read_root<S: Blocks>(
     Ok((node, bytes))
 }
 
-// Has the bytes stand from a place on, with zeros between the old end and there.
+/// Has the bytes stand from a place on, with zeros between the old end and there.
 pub(crate) fn overwrite(
     alloc: Global,
     all: &mut Vec<u8>,

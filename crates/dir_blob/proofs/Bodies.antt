@@ -19,7 +19,7 @@ use Rattle.fs_model.specs.declared.limits.TheConstants.{MAX_MODE}
 use Rattle.fs_model.specs.Tree.{name_cmp}
 use Rattle.byte_fields.specs.Fields.{IsBytes}
 use Rattle.dir_blob.specs.declared.entry.Entry.{Entry}
-use Rattle.dir_blob.specs.Layout.{Target, Listing, entry_of, listing_of, moment_text, attr_text, entry_text, body_of, IsEntry, IsInOrder, HasModes, IsListing, IsBody}
+use Rattle.dir_blob.specs.Layout.{EntryTarget, Listing, entry_of, listing_of, moment_text, attr_text, entry_text, body_of, IsEntry, IsInOrder, HasModes, IsListing, IsBody}
 use Rattle.dir_blob.specs.Reading.{kind_of, access_at, attr_at, entry_at, rises}
 use Rattle.dir_blob.proofs.EntryCodec.{entry_codec}
 
@@ -28,17 +28,17 @@ use Rattle.dir_blob.proofs.EntryCodec.{entry_codec}
 rises_on : (a b c : List ℕ) → is_lt (name_cmp a b) ≡ true → is_lt (name_cmp b c) ≡ true → is_lt (name_cmp a c) ≡ true
 rises_on a b c first second = ap is_lt (nat_list_cmp_total.trans a b c (less_is _ first) (less_is _ second))
 
-below_at : (name : List ℕ) (front : Listing) (e : List ℕ × Target) (back : Listing) → below_all name_cmp name (front ++ e ∷ back) ≡ true → is_lt (name_cmp name e.0) ≡ true
+below_at : (name : List ℕ) (front : Listing) (e : List ℕ × EntryTarget) (back : Listing) → below_all name_cmp name (front ++ e ∷ back) ≡ true → is_lt (name_cmp name e.0) ≡ true
 below_at name [] e back below = (and_parts (is_lt (name_cmp name e.0)) (below_all name_cmp name back) below).0
 below_at name (f ∷ front) e back below = below_at name front e back (and_parts (is_lt (name_cmp name f.0)) (below_all name_cmp name (front ++ e ∷ back)) below).1
 
-below_push : (name : List ℕ) (front : Listing) (e : List ℕ × Target) → below_all name_cmp name front ≡ true → is_lt (name_cmp name e.0) ≡ true → below_all name_cmp name (front ++ e ∷ []) ≡ true
+below_push : (name : List ℕ) (front : Listing) (e : List ℕ × EntryTarget) → below_all name_cmp name front ≡ true → is_lt (name_cmp name e.0) ≡ true → below_all name_cmp name (front ++ e ∷ []) ≡ true
 below_push name [] e below lt = and_from (is_lt (name_cmp name e.0)) true lt refl
 below_push name (f ∷ front) e below lt =
     let parts = and_parts (is_lt (name_cmp name f.0)) (below_all name_cmp name front) below in
     and_from (is_lt (name_cmp name f.0)) (below_all name_cmp name (front ++ e ∷ [])) parts.0 (below_push name front e parts.1 lt)
 
-sorted_push : (listing : Listing) (e : List ℕ × Target) → IsInOrder listing → rises listing e.0 ≡ true → IsInOrder (listing ++ e ∷ [])
+sorted_push : (listing : Listing) (e : List ℕ × EntryTarget) → IsInOrder listing → rises listing e.0 ≡ true → IsInOrder (listing ++ e ∷ [])
 sorted_push [] e sorted up = refl
 sorted_push (x ∷ []) e sorted up = and_from (is_lt (name_cmp x.0 e.0) && true) true (and_from (is_lt (name_cmp x.0 e.0)) true up refl) refl
 sorted_push (x ∷ y ∷ listing) e sorted up =
@@ -49,7 +49,7 @@ sorted_push (x ∷ y ∷ listing) e sorted up =
     let last : is_lt (name_cmp x.0 e.0) ≡ true = rises_on x.0 y.0 e.0 first (below_at y.0 listing e [] next.0) in
     and_from (below_all name_cmp x.0 ((y ∷ listing) ++ e ∷ [])) (is_sorted name_cmp ((y ∷ listing) ++ e ∷ [])) (below_push x.0 (y ∷ listing) e parts.0 last) rest
 
-sorted_rises : (front : Listing) (e : List ℕ × Target) (back : Listing) → IsInOrder (front ++ e ∷ back) → rises front e.0 ≡ true
+sorted_rises : (front : Listing) (e : List ℕ × EntryTarget) (back : Listing) → IsInOrder (front ++ e ∷ back) → rises front e.0 ≡ true
 sorted_rises [] e back sorted = refl
 sorted_rises (x ∷ []) e back sorted =
     (and_parts (is_lt (name_cmp x.0 e.0)) (below_all name_cmp x.0 back) (and_parts (below_all name_cmp x.0 (e ∷ back)) (is_sorted name_cmp (e ∷ back)) sorted).0).0
@@ -80,28 +80,28 @@ reads_none body fits = record {
   others = λ all is. (all, refl, is.text);
 }
 
-nothing_read : (e : List ℕ × Target) (after : List ℕ) → entry_at [] ≡ Some (e, after) → ⊥
+nothing_read : (e : List ℕ × EntryTarget) (after : List ℕ) → entry_at [] ≡ Some (e, after) → ⊥
 unfolding entry_at attr_at access_at kind_of
 nothing_read e after found = absurd cc
 
-pub All-at : (front : Listing) (e : List ℕ × Target) (back : Listing) → All IsEntry (front ++ e ∷ back) → IsEntry e
+pub All-at : (front : Listing) (e : List ℕ × EntryTarget) (back : Listing) → All IsEntry (front ++ e ∷ back) → IsEntry e
 All-at [] e back each = All-head IsEntry e back each
 All-at (f ∷ front) e back each = All-at front e back (All-tail IsEntry f (front ++ e ∷ back) each)
 
-reads_first : (listing : Listing) (rest : List ℕ) (f : List ℕ × Target) (others all : Listing) → IsListing all → all ≡ listing ++ f ∷ others → rest ≡ body_of (f ∷ others) → entry_at rest ≡ Some (f, body_of others)
+reads_first : (listing : Listing) (rest : List ℕ) (f : List ℕ × EntryTarget) (others all : Listing) → IsListing all → all ≡ listing ++ f ∷ others → rest ≡ body_of (f ∷ others) → entry_at rest ≡ Some (f, body_of others)
 reads_first listing rest f others all is split left =
     let entry : IsEntry f = All-at listing f others (subst (All IsEntry) split is.entries) in
     ap entry_at (left ∙ flat_map-cons entry_text f others) ∙ entry_codec.again f (body_of others) entry
 
 -- where an entry stands in front, it is the next of each list of entries
-pub next_of : (listing : Listing) (rest : List ℕ) (e : List ℕ × Target) (after : List ℕ) → entry_at rest ≡ Some (e, after)
+pub next_of : (listing : Listing) (rest : List ℕ) (e : List ℕ × EntryTarget) (after : List ℕ) → entry_at rest ≡ Some (e, after)
     → (all back : Listing) → IsListing all → all ≡ listing ++ back → rest ≡ body_of back → (others : Listing) × (all ≡ listing ++ e ∷ others) × (after ≡ body_of others)
 next_of listing rest e after found all [] is split left = absurd (nothing_read e after (ap entry_at (sym left) ∙ found))
 next_of listing rest e after found all (f ∷ others) is split left =
     let same = some_pair_parts e f after (body_of others) (sym found ∙ reads_first listing rest f others all is split left) in
     (others, split ∙ ap (λ x. listing ++ x ∷ others) (sym same.0), same.1)
 
-pub reads_next : (body : List ℕ) (listing : Listing) (rest : List ℕ) (e : List ℕ × Target) (after : List ℕ) → Reads body listing rest → entry_at rest ≡ Some (e, after) → rises listing e.0 ≡ true
+pub reads_next : (body : List ℕ) (listing : Listing) (rest : List ℕ) (e : List ℕ × EntryTarget) (after : List ℕ) → Reads body listing rest → entry_at rest ≡ Some (e, after) → rises listing e.0 ≡ true
     → Reads body (listing ++ e ∷ []) after
 reads_next body listing rest e after reads found up =
     let took = entry_codec.takes rest e after reads.bytes found in
@@ -128,7 +128,7 @@ reads_stuck body listing rest reads some none all is =
     stuck listing rest all back.0 is.entries back.1 back.2 some none
 
 -- an entry whose name isn't above that of the last one is in no order
-pub reads_unordered : (body : List ℕ) (listing : Listing) (rest : List ℕ) (e : List ℕ × Target) (after : List ℕ) → Reads body listing rest → entry_at rest ≡ Some (e, after) → rises listing e.0 ≡ false
+pub reads_unordered : (body : List ℕ) (listing : Listing) (rest : List ℕ) (e : List ℕ × EntryTarget) (after : List ℕ) → Reads body listing rest → entry_at rest ≡ Some (e, after) → rises listing e.0 ≡ false
     → (all : Listing) → IsBody body all → ⊥
 reads_unordered body listing rest e after reads found down all is =
     let back = reads.others all is in
@@ -153,13 +153,13 @@ reads_only body listing rest reads none all is =
     let nothing : back.0 ≡ [] = no_more back.0 (sym (ap length back.2) ∙ none) in
     sym (back.1 ∙ ap (λ x. listing ++ x) nothing ∙ append-nil listing)
 
-pub after_shorter : (rest : List ℕ) (e : List ℕ × Target) (after : List ℕ) → IsBytes rest → entry_at rest ≡ Some (e, after) → length after < length rest
+pub after_shorter : (rest : List ℕ) (e : List ℕ × EntryTarget) (after : List ℕ) → IsBytes rest → entry_at rest ≡ Some (e, after) → length after < length rest
 unfolding entry_text attr_text
 after_shorter rest e after fits found =
     let took = entry_codec.takes rest e after fits found in
     omega (arith, ap length took.0.parts, length-append (entry_text e) after)
 
-tail_of : (e : List ℕ × Target) (listing : Listing) → IsListing (e ∷ listing) → IsListing listing
+tail_of : (e : List ℕ × EntryTarget) (listing : Listing) → IsListing (e ∷ listing) → IsListing listing
 tail_of e listing is = record {
   entries = All-tail IsEntry e listing is.entries;
   order = (and_parts (below_all name_cmp e.0 listing) (is_sorted name_cmp listing) is.order).1;
@@ -209,7 +209,7 @@ pub mode_at : (entries : List Entry) (i : ℕ) (e : Entry) → HasModes (listing
 mode_at entries i e modes lt is =
     let at : get_or (listing_of entries) i (entry_of e) ≡ entry_of (get_or entries i e) = get_or-map entry_of entries i e (entry_of e) lt in
     let mode : (get_or (listing_of entries) i (entry_of e)).1.attr.mode ≤ MAX_MODE = modes i (entry_of e) (omega (arith, length-map entries entry_of)) in
-    subst (λ (x : List ℕ × Target). x.1.attr.mode ≤ MAX_MODE) (at ∙ ap entry_of (sym is)) mode
+    subst (λ (x : List ℕ × EntryTarget). x.1.attr.mode ≤ MAX_MODE) (at ∙ ap entry_of (sym is)) mode
 
 pub body_next : (entries : List Entry) (i : ℕ) (e : Entry) (out after : List ℕ) → i < length entries → e ≡ get_or entries i e → out ≡ body_of (listing_of (take i entries))
     → after ≡ out ++ entry_text (entry_of e) → after ≡ body_of (listing_of (take (i + 1) entries))

@@ -21,7 +21,7 @@ use Rattle.outcome.specs.Bytes.{zeros, resized, written, pieces}
 use Rattle.fs_model.specs.Tree.{name_cmp}
 use Rattle.fs_model.proofs.TreeLemmas.{name_total}
 use Rattle.byte_fields.specs.Fields.{IsBytes}
-use Rattle.dir_blob.specs.Layout.{Target, Listing, attr_text, moment_text, entry_text, body_of, IsEntry, IsInOrder, IsListing, IsBody}
+use Rattle.dir_blob.specs.Layout.{EntryTarget, Listing, attr_text, moment_text, entry_text, body_of, IsEntry, IsInOrder, IsListing, IsBody}
 use Rattle.dir_blob.specs.Reading.{entry_at}
 use Rattle.dir_blob.proofs.EntryCodec.{entry_codec}
 use Rattle.dir_blob.proofs.Bodies.{next_of, stuck, no_more, All-at, after_shorter}
@@ -55,7 +55,7 @@ passes_none name body fits = record {
   cuts = λ all is. record { seen = []; back = all; split = refl; text = is.text; past = All-nil (IsBelow name) };
 }
 
-pub passes_next : (name body rest : List ℕ) (e : List ℕ × Target) (after : List ℕ) → Passes name body rest → entry_at rest ≡ Some (e, after) → name_cmp name e.0 ≡ Greater → Passes name body after
+pub passes_next : (name body rest : List ℕ) (e : List ℕ × EntryTarget) (after : List ℕ) → Passes name body rest → entry_at rest ≡ Some (e, after) → name_cmp name e.0 ≡ Greater → Passes name body after
 passes_next name body rest e after passes found above =
     let fewer : length after < length rest = after_shorter rest e after passes.bytes found in
     let took = (entry_codec.takes rest e after passes.bytes found).0 in
@@ -85,7 +85,7 @@ rest_of body front rest parts =
 pub passes_rest : (name body rest : List ℕ) → Passes name body rest → drop (length body - length rest) body ≡ rest
 passes_rest name body rest passes = rest_of body passes.front rest passes.parts
 
-pub passes_after : (name body rest : List ℕ) (e : List ℕ × Target) (after : List ℕ) → Passes name body rest → entry_at rest ≡ Some (e, after) → drop (length body - length after) body ≡ after
+pub passes_after : (name body rest : List ℕ) (e : List ℕ × EntryTarget) (after : List ℕ) → Passes name body rest → entry_at rest ≡ Some (e, after) → drop (length body - length after) body ≡ after
 passes_after name body rest e after passes found =
     let took = (entry_codec.takes rest e after passes.bytes found).0 in
     rest_of body (passes.front ++ entry_text e) after (passes.parts ∙ (ap (λ x. passes.front ++ x) took.parts ∙ sym (append_assoc passes.front (entry_text e) after)))
@@ -104,11 +104,11 @@ part_order : (seen back : Listing) → IsInOrder (seen ++ back) → IsInOrder ba
 part_order [] back sorted = sorted
 part_order (e ∷ seen) back sorted = part_order seen back (and_parts _ (is_sorted name_cmp (seen ++ back)) sorted).1
 
-as_place : (name : List ℕ) (all : Listing) (front front2 : ℕ) (found : Option Target) (back back2 : List ℕ) (all2 : Listing) → IsPlace name all2 front2 found back2 → all ≡ all2 → front ≡ front2 → back ≡ back2 → IsPlace name all front found back
+as_place : (name : List ℕ) (all : Listing) (front front2 : ℕ) (found : Option EntryTarget) (back back2 : List ℕ) (all2 : Listing) → IsPlace name all2 front2 found back2 → all ≡ all2 → front ≡ front2 → back ≡ back2 → IsPlace name all front found back
 as_place name all front front2 found back back2 all2 is a f b =
     subst (λ z. IsPlace name z front found back) (sym a) (subst (λ z. IsPlace name all2 z found back) (sym f) (subst (λ z. IsPlace name all2 front2 found z) (sym b) is))
 
-pub found_before : (name body rest : List ℕ) (e : List ℕ × Target) (after : List ℕ) → Passes name body rest → entry_at rest ≡ Some (e, after) → name_cmp name e.0 ≡ Less
+pub found_before : (name body rest : List ℕ) (e : List ℕ × EntryTarget) (after : List ℕ) → Passes name body rest → entry_at rest ≡ Some (e, after) → name_cmp name e.0 ≡ Less
     → (all : Listing) → IsBody body all → IsPlace name all (length body - length rest) None (drop (length body - length rest) body)
 found_before name body rest e after passes found lt all is =
     let cut = passes.cuts all is in
@@ -117,7 +117,7 @@ found_before name body rest e after passes found lt all is =
     let text : rest ≡ body_of (e ∷ next.0) = (entry_codec.takes rest e after passes.bytes found).0.parts ∙ (ap (λ x. entry_text e ++ x) next.2 ∙ sym (flat_map-cons entry_text e next.0)) in
     as_place name all _ _ None _ _ _ (place_before name cut.seen e next.0 cut.past sorted lt) next.1 (front_of body rest all cut.seen (e ∷ next.0) is.text next.1 text) (passes_rest name body rest passes ∙ text)
 
-pub found_at : (name body rest : List ℕ) (e : List ℕ × Target) (after : List ℕ) → Passes name body rest → entry_at rest ≡ Some (e, after) → name_cmp name e.0 ≡ Equal
+pub found_at : (name body rest : List ℕ) (e : List ℕ × EntryTarget) (after : List ℕ) → Passes name body rest → entry_at rest ≡ Some (e, after) → name_cmp name e.0 ≡ Equal
     → (all : Listing) → IsBody body all → IsPlace name all (length body - length rest) (Some e.1) (drop (length body - length after) body)
 found_at name body rest e after passes found eq all is =
     let cut = passes.cuts all is in
@@ -135,7 +135,7 @@ found_end name body rest passes none all is =
 
 -- ---- lengths
 
-pub entry_length : (e : List ℕ × Target) → IsEntry e → length (entry_text e) ≡ 66 + length e.0
+pub entry_length : (e : List ℕ × EntryTarget) → IsEntry e → length (entry_text e) ≡ 66 + length e.0
 unfolding entry_text attr_text moment_text
 entry_length e is = omega (arith, length-append e.0 (0 ∷ e.1.blob), is.blob)
 
@@ -171,14 +171,14 @@ cut_written front old bytes le =
 parts_of : (seen : Listing) (own : Listing) (after : Listing) → body_of (seen ++ (own ++ after)) ≡ body_of seen ++ (body_of own ++ body_of after)
 parts_of seen own after = flat_map-append entry_text seen (own ++ after) ∙ ap (λ x. body_of seen ++ x) (flat_map-append entry_text own after)
 
-one_of : (e : List ℕ × Target) → body_of (e ∷ []) ≡ entry_text e
+one_of : (e : List ℕ × EntryTarget) → body_of (e ∷ []) ≡ entry_text e
 one_of e = flat_map-cons entry_text e [] ∙ append-nil (entry_text e)
 
-put_text : (name : List ℕ) (target : Target) (before after : Listing) → body_of (before ++ ((name, target) ∷ after)) ≡ body_of before ++ (entry_text (name, target) ++ body_of after)
+put_text : (name : List ℕ) (target : EntryTarget) (before after : Listing) → body_of (before ++ ((name, target) ∷ after)) ≡ body_of before ++ (entry_text (name, target) ++ body_of after)
 put_text name target before after = flat_map-append entry_text before ((name, target) ∷ after) ∙ ap (λ x. body_of before ++ x) (flat_map-cons entry_text (name, target) after)
 
 -- the entry and what follows it, written at its place
-pub inserted : (name : List ℕ) (target : Target) (listing : Listing) (front : ℕ) (back : List ℕ) → IsPlace name listing front None back
+pub inserted : (name : List ℕ) (target : EntryTarget) (listing : Listing) (front : ℕ) (back : List ℕ) → IsPlace name listing front None back
     → written (body_of listing) front (entry_text (name, target) ++ back) ≡ body_of (put name_cmp name target listing)
 inserted name target listing front back is =
     let text : body_of listing ≡ body_of is.before ++ body_of is.after = ap body_of is.split ∙ flat_map-append entry_text is.before is.after in
@@ -189,7 +189,7 @@ inserted name target listing front back is =
     ∙ (sym (put_text name target is.before is.after) ∙ ap body_of (sym (is.puts target))))))
 
 -- another entry of the same name, written over the old one
-pub changed : (name : List ℕ) (old target : Target) (listing : Listing) (front : ℕ) (back : List ℕ) → IsPlace name listing front (Some old) back → IsEntry (name, old) → IsEntry (name, target)
+pub changed : (name : List ℕ) (old target : EntryTarget) (listing : Listing) (front : ℕ) (back : List ℕ) → IsPlace name listing front (Some old) back → IsEntry (name, old) → IsEntry (name, target)
     → written (body_of listing) front (entry_text (name, target)) ≡ body_of (put name_cmp name target listing)
 changed name old target listing front back is first second =
     let text : body_of listing ≡ body_of is.before ++ (entry_text (name, old) ++ body_of is.after) = ap body_of is.split ∙ put_text name old is.before is.after in
@@ -199,7 +199,7 @@ changed name old target listing front back is first second =
     ∙ (sym (put_text name target is.before is.after) ∙ ap body_of (sym (is.puts target)))))
 
 -- what follows the entry, written at its place, and the end cut off
-pub removed : (name : List ℕ) (old : Target) (listing : Listing) (front : ℕ) (back : List ℕ) → IsPlace name listing front (Some old) back
+pub removed : (name : List ℕ) (old : EntryTarget) (listing : Listing) (front : ℕ) (back : List ℕ) → IsPlace name listing front (Some old) back
     → resized (written (body_of listing) front back) (front + length back) ≡ body_of (without name listing)
 removed name old listing front back is =
     let text : body_of listing ≡ body_of is.before ++ (entry_text (name, old) ++ body_of is.after) = ap body_of is.split ∙ put_text name old is.before is.after in
@@ -219,7 +219,7 @@ All-back : (front back : Listing) → All IsEntry (front ++ back) → All IsEntr
 All-back [] back each = each
 All-back (e ∷ front) back each = All-back front back (All-tail IsEntry e (front ++ back) each)
 
-pub put_listing : (name : List ℕ) (target : Target) (listing : Listing) (front : ℕ) (found : Option Target) (back : List ℕ) → IsPlace name listing front found back → IsListing listing → IsEntry (name, target) → IsListing (put name_cmp name target listing)
+pub put_listing : (name : List ℕ) (target : EntryTarget) (listing : Listing) (front : ℕ) (found : Option EntryTarget) (back : List ℕ) → IsPlace name listing front found back → IsListing listing → IsEntry (name, target) → IsListing (put name_cmp name target listing)
 put_listing name target listing front found back is entries own =
     let each = subst (All IsEntry) is.split entries.entries in
     record {
@@ -228,7 +228,7 @@ put_listing name target listing front found back is entries own =
       order = true_of (is_sorted name_cmp (put name_cmp name target listing)) (is_sorted-put name_cmp name_total name target listing (subst T (sym entries.order) tt));
     }
 
-pub without_listing : (name : List ℕ) (listing : Listing) (front : ℕ) (found : Option Target) (back : List ℕ) → IsPlace name listing front found back → IsListing listing → IsListing (without name listing)
+pub without_listing : (name : List ℕ) (listing : Listing) (front : ℕ) (found : Option EntryTarget) (back : List ℕ) → IsPlace name listing front found back → IsListing listing → IsListing (without name listing)
 without_listing name listing front found back is entries =
     let each = subst (All IsEntry) is.split entries.entries in
     record {
@@ -237,11 +237,11 @@ without_listing name listing front found back is entries =
     }
 
 -- the entry that a place holds is one
-pub held_entry : (name : List ℕ) (old : Target) (listing : Listing) (front : ℕ) (back : List ℕ) → IsPlace name listing front (Some old) back → IsListing listing → IsEntry (name, old)
+pub held_entry : (name : List ℕ) (old : EntryTarget) (listing : Listing) (front : ℕ) (back : List ℕ) → IsPlace name listing front (Some old) back → IsListing listing → IsEntry (name, old)
 held_entry name old listing front back is entries = All-at is.before (name, old) is.after (subst (All IsEntry) is.split entries.entries)
 
 -- the place of an entry and its text are within the body
-pub place_within : (name : List ℕ) (old target : Target) (listing : Listing) (front : ℕ) (back : List ℕ) → IsPlace name listing front (Some old) back → IsEntry (name, old) → IsEntry (name, target)
+pub place_within : (name : List ℕ) (old target : EntryTarget) (listing : Listing) (front : ℕ) (back : List ℕ) → IsPlace name listing front (Some old) back → IsEntry (name, old) → IsEntry (name, target)
     → front + length (entry_text (name, target)) ≤ length (body_of listing)
 place_within name old target listing front back is first second =
     let whole : length (body_of listing) ≡ length (body_of is.before) + length (entry_text (name, old) ++ body_of is.after) =

@@ -14,7 +14,7 @@ use Rattle.blob_api.specs.BlobMap.{BlobsSteady, IsSparing}
 use Rattle.fs_model.specs.declared.attr.Attr.{Attr}
 use Rattle.fs_model.specs.Tree.{name_cmp}
 use Rattle.fs_blobs.specs.Headers.{blob}
-use Rattle.dir_blob.specs.Layout.{Target, entry_text, IsEntry}
+use Rattle.dir_blob.specs.Layout.{EntryTarget, entry_text, IsEntry}
 use Rattle.dir_blob.specs.Places.{target_of, without, IsPlace}
 use Rattle.dir_blob.specs.Directories.{HasEntries, HasName, HasRoom}
 use Rattle.dir_blob.proofs.Edits.{inserted, changed, removed, put_listing, without_listing, held_entry, place_within, more_pieces}
@@ -68,7 +68,7 @@ blob_written {id = id} n from bytes le stands = record {
 pub slice_rest : (bytes : List ℕ) (k : ℕ) → take (length bytes - k) (drop k bytes) ≡ drop k bytes
 slice_rest bytes k = take_all (length bytes - k) (drop k bytes) (omega (arith, length-drop k bytes))
 
-pub present_is : (found : Option (Attr × BlockId)) (target : Target) → target_of found ≡ Some target → is_some found ≡ true
+pub present_is : (found : Option (Attr × BlockId)) (target : EntryTarget) → target_of found ≡ Some target → is_some found ≡ true
 present_is None target e = absurd cc
 present_is (Some x) target e = refl
 
@@ -90,12 +90,12 @@ insert_again m id v w = same_map name_total name_exact (insert (insert m id v) i
     twice false x y z = refl
 
 -- the place of a name that is there
-module _ (name : List ℕ) (listing : Listing) (old : Target) (front : ℕ) (found : Option (Attr × BlockId)) (back : List ℕ)
+module _ (name : List ℕ) (listing : Listing) (old : EntryTarget) (front : ℕ) (found : Option (Attr × BlockId)) (back : List ℕ)
     (place : IsPlace name listing front (target_of found) back) (present : find name_cmp name listing ≡ Some old) where
   pub place_old : IsPlace name listing front (Some old) back
   place_old = subst (λ o. IsPlace name listing front o back) (sym place.finds ∙ present) place
 
-  pub change_fits : (target : Target) → IsListing listing → IsEntry (name, target) → front + length (entry_text (name, target)) ≤ length (body_of listing)
+  pub change_fits : (target : EntryTarget) → IsListing listing → IsEntry (name, target) → front + length (entry_text (name, target)) ≤ length (body_of listing)
   change_fits target entries own = place_within name old target listing front back place_old (held_entry name old listing front back place_old entries) own
 
 module _ {S : Type 0} {H : BlobHoldings S} {a : S} {id : Id} (name : List ℕ) (n : HasName H a id name) (front : ℕ) (found : Option (Attr × BlockId)) (back : List ℕ)
@@ -103,7 +103,7 @@ module _ {S : Type 0} {H : BlobHoldings S} {a : S} {id : Id} (name : List ℕ) (
   old_place : IsPlace name n.is.listing front (Some n.target) back
   old_place = place_old name n.is.listing n.target front found back place n.present
 
-  pub changed_entries : (b : S) (target : Target) (bytes : List ℕ) → IsEntry (name, target) → bytes ≡ entry_text (name, target)
+  pub changed_entries : (b : S) (target : EntryTarget) (bytes : List ℕ) → IsEntry (name, target) → bytes ≡ entry_text (name, target)
       → H.stands_for b (insert n.is.map id (blob Directory n.is.parent (written (body_of n.is.listing) front bytes))) → HasEntries H b n.is.map id n.is.parent (put name_cmp name target n.is.listing)
   changed_entries b target bytes own text stands =
       let was = held_entry name n.target n.is.listing front back old_place n.is.entries in
@@ -126,7 +126,7 @@ module _ {S : Type 0} {H : BlobHoldings S} {a : S} {id : Id} (name : List ℕ) (
       }
 
 pub inserted_entries : {S : Type 0} {H : BlobHoldings S} {a b : S} {id : Id} (name : List ℕ) (n : HasRoom H a id name) (front : ℕ) (found : Option (Attr × BlockId)) (back : List ℕ)
-    → IsPlace name n.is.listing front (target_of found) back → (target : Target) (bytes : List ℕ) → IsEntry (name, target) → bytes ≡ entry_text (name, target) ++ back
+    → IsPlace name n.is.listing front (target_of found) back → (target : EntryTarget) (bytes : List ℕ) → IsEntry (name, target) → bytes ≡ entry_text (name, target) ++ back
     → H.stands_for b (insert n.is.map id (blob Directory n.is.parent (written (body_of n.is.listing) front bytes))) → HasEntries H b n.is.map id n.is.parent (put name_cmp name target n.is.listing)
 inserted_entries {H = H} {b = b} {id = id} name n front found back place target bytes own text stands =
     let here = subst (λ o. IsPlace name n.is.listing front o back) (sym place.finds ∙ n.absent) place in

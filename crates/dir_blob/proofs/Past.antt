@@ -12,11 +12,11 @@ use Rattle.std.proofs.lemmas.List.Elements.{All-head, All-tail}
 use Rattle.block_id.proofs.Orders.{less_is}
 use Rattle.fs_model.specs.Tree.{name_cmp}
 use Rattle.fs_model.proofs.TreeLemmas.{name_exact}
-use Rattle.dir_blob.specs.Layout.{Target, Listing, body_of, IsInOrder}
+use Rattle.dir_blob.specs.Layout.{EntryTarget, Listing, body_of, IsInOrder}
 use Rattle.dir_blob.specs.Places.{without, IsPlace}
 
 -- the name is above those of the entries
-abbrev pub IsBelow : List ℕ → List ℕ × Target → Type 0
+abbrev pub IsBelow : List ℕ → List ℕ × EntryTarget → Type 0
 IsBelow name e = name_cmp name e.0 ≡ Greater
 
 abbrev pub IsPast : List ℕ → Listing → Type 0
@@ -28,7 +28,7 @@ find_past name (e ∷ seen) back past =
     let head : name_cmp name e.0 ≡ Greater = All-head (IsBelow name) e seen past in
     ap (λ o. cond (is_eq o) (Some e.1) (find name_cmp name (seen ++ back))) head ∙ find_past name seen back (All-tail (IsBelow name) e seen past)
 
-put_past : (name : List ℕ) (target : Target) (seen back : Listing) → IsPast name seen → put name_cmp name target (seen ++ back) ≡ seen ++ put name_cmp name target back
+put_past : (name : List ℕ) (target : EntryTarget) (seen back : Listing) → IsPast name seen → put name_cmp name target (seen ++ back) ≡ seen ++ put name_cmp name target back
 put_past name target [] back past = refl
 put_past name target (e ∷ seen) back past =
     let head : name_cmp name e.0 ≡ Greater = All-head (IsBelow name) e seen past in
@@ -63,7 +63,7 @@ without_below name (e ∷ es) below =
 -- ---- the place of a name
 
 -- the name is below that of the next entry
-pub place_before : (name : List ℕ) (seen : Listing) (e : List ℕ × Target) (es : Listing) → IsPast name seen → IsInOrder (e ∷ es) → name_cmp name e.0 ≡ Less
+pub place_before : (name : List ℕ) (seen : Listing) (e : List ℕ × EntryTarget) (es : Listing) → IsPast name seen → IsInOrder (e ∷ es) → name_cmp name e.0 ≡ Less
     → IsPlace name (seen ++ (e ∷ es)) (length (body_of seen)) None (body_of (e ∷ es))
 place_before name seen e es past sorted lt =
     let parts = and_parts (below_all name_cmp e.0 es) (is_sorted name_cmp es) sorted in
@@ -80,7 +80,7 @@ place_before name seen e es past sorted lt =
     }
 
 -- the name is that of the next entry
-pub place_at : (name : List ℕ) (seen : Listing) (e : List ℕ × Target) (es : Listing) → IsPast name seen → IsInOrder (e ∷ es) → name_cmp name e.0 ≡ Equal
+pub place_at : (name : List ℕ) (seen : Listing) (e : List ℕ × EntryTarget) (es : Listing) → IsPast name seen → IsInOrder (e ∷ es) → name_cmp name e.0 ≡ Equal
     → IsPlace name (seen ++ (e ∷ es)) (length (body_of seen)) (Some e.1) (body_of es)
 place_at name seen e es past sorted eq =
     let parts = and_parts (below_all name_cmp e.0 es) (is_sorted name_cmp es) sorted in

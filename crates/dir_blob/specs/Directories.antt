@@ -10,7 +10,7 @@ use Rattle.fs_blobs.specs.declared.header.TheConstants.{HEADER_LEN}
 use Rattle.fs_blobs.specs.Headers.{blob}
 use Rattle.fs_model.specs.declared.limits.TheConstants.{MAX_ENTRIES}
 use Rattle.fs_model.specs.Tree.{name_cmp, entry_size}
-use Rattle.dir_blob.specs.Layout.{Target, Listing, IsListing, body_of}
+use Rattle.dir_blob.specs.Layout.{EntryTarget, Listing, IsListing, body_of}
 
 -- the store stands for a map in which the id is a directory of these entries
 pub record IsDirectory {S : Type 0} (H : BlobHoldings S) (a : S) (id : Id) : Type 0 where
@@ -37,7 +37,7 @@ pub record HasRoom {S : Type 0} (H : BlobHoldings S) (a : S) (id : Id) (name : L
 -- the name is there
 pub record HasName {S : Type 0} (H : BlobHoldings S) (a : S) (id : Id) (name : List ℕ) : Type 0 where
   pub is : IsDirectory H a id
-  pub target : Target
+  pub target : EntryTarget
   pub present : find name_cmp name is.listing ≡ Some target
 
 -- where the id is a directory and nothing came back that was never put, this holds of its entries

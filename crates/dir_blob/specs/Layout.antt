@@ -13,18 +13,18 @@ use Rattle.fs_blobs.specs.Kinds.{byte_of}
 use Rattle.dir_blob.specs.declared.entry.Entry.{Entry}
 
 -- what stands under a name: the attributes, and the id of the blob
-pub record Target : Type 0 where
+pub record EntryTarget : Type 0 where
   pub attr : Attr
   pub blob : List ℕ
 
 -- the entries of a directory: names with their targets
 abbrev pub Listing : Type 0
-Listing = List (List ℕ × Target)
+Listing = List (List ℕ × EntryTarget)
 
-abbrev pub named : List ℕ → Attr → BlockId → List ℕ × Target
+abbrev pub named : List ℕ → Attr → BlockId → List ℕ × EntryTarget
 named name attr blob = (name, record { attr = attr; blob = blob.0 })
 
-abbrev pub entry_of : Entry → List ℕ × Target
+abbrev pub entry_of : Entry → List ℕ × EntryTarget
 entry_of e = named e.name e.attr e.blob
 
 abbrev pub listing_of : List Entry → Listing
@@ -42,7 +42,7 @@ attr_text a =
     byte_of a.kind ∷ (to_le_bytes w32 a.mode ++ to_le_bytes w32 a.uid ++ to_le_bytes w32 a.gid ++ moment_text a.atime ++ moment_text a.mtime ++ moment_text a.ctime)
 
 -- attributes, the name and a zero byte, the blob's id
-unfoldable pub entry_text : List ℕ × Target → List ℕ
+unfoldable pub entry_text : List ℕ × EntryTarget → List ℕ
 entry_text e = attr_text e.1.attr ++ e.0 ++ 0 ∷ e.1.blob
 
 abbrev pub body_of : Listing → List ℕ
@@ -62,7 +62,7 @@ pub record IsAttr (a : Attr) : Type 0 where
   pub mtime : IsMoment a.mtime
   pub ctime : IsMoment a.ctime
 
-pub record IsEntry (e : List ℕ × Target) : Type 0 where
+pub record IsEntry (e : List ℕ × EntryTarget) : Type 0 where
   pub name : IsName e.0
   pub attr : IsAttr e.1.attr
   pub blob : length e.1.blob ≡ 16

@@ -8,9 +8,9 @@ use Rattle.std.specs.declared.option.Option.TheVariants.{None, Some}
 use Rattle.block_id.specs.declared.id.BlockId.{BlockId}
 use Rattle.fs_model.specs.declared.attr.Attr.{Attr}
 use Rattle.fs_model.specs.Tree.{name_cmp}
-use Rattle.dir_blob.specs.Layout.{Target, Listing, body_of}
+use Rattle.dir_blob.specs.Layout.{EntryTarget, Listing, body_of}
 
-abbrev pub target_of : Option (Attr × BlockId) → Option Target
+abbrev pub target_of : Option (Attr × BlockId) → Option EntryTarget
 target_of None = None
 target_of (Some x) = Some (record { attr = x.0; blob = x.1.0 })
 
@@ -19,17 +19,17 @@ abbrev pub without : List ℕ → Listing → Listing
 without name listing = where_key name_cmp (λ n. not (eq_by_cmp name_cmp name n)) listing
 
 -- the entry of a name, where it has one
-abbrev pub held : List ℕ → Option Target → Listing
+abbrev pub held : List ℕ → Option EntryTarget → Listing
 held name None = []
 held name (Some target) = (name, target) ∷ []
 
 -- the entries are those before the name, its own, and those after it
-pub record IsPlace (name : List ℕ) (listing : Listing) (front : ℕ) (found : Option Target) (back : List ℕ) : Type 0 where
+pub record IsPlace (name : List ℕ) (listing : Listing) (front : ℕ) (found : Option EntryTarget) (back : List ℕ) : Type 0 where
   pub before : Listing
   pub after : Listing
   pub starts : front ≡ length (body_of before)
   pub rest : back ≡ body_of after
   pub finds : find name_cmp name listing ≡ found
   pub split : listing ≡ before ++ (held name found ++ after)
-  pub puts : (target : Target) → put name_cmp name target listing ≡ before ++ ((name, target) ∷ after)
+  pub puts : (target : EntryTarget) → put name_cmp name target listing ≡ before ++ ((name, target) ∷ after)
   pub drops : without name listing ≡ before ++ after

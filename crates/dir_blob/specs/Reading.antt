@@ -12,7 +12,7 @@ use Rattle.fs_model.specs.Instant.{Instant}
 use Rattle.fs_model.specs.Names.{is_name}
 use Rattle.fs_model.specs.Tree.{name_cmp}
 use Rattle.fs_blobs.specs.Kinds.{kind_at}
-use Rattle.dir_blob.specs.Layout.{Target, Listing}
+use Rattle.dir_blob.specs.Layout.{EntryTarget, Listing}
 
 abbrev pub Reader : Type 0 → Type 0
 Reader A = List ℕ → Option (A × List ℕ)
@@ -59,7 +59,7 @@ times_at bytes = then_at moment_at (then_at moment_at moment_at) bytes
 unfoldable pub attr_at : Reader Attr
 attr_at bytes = map_at attr_of (then_at access_at (then_at owner_at times_at)) bytes
 
-unfoldable pub entry_at : Reader (List ℕ × Target)
+unfoldable pub entry_at : Reader (List ℕ × EntryTarget)
 entry_at bytes =
     map_at (λ p. (p.1.0, record { attr = p.0; blob = p.1.1 })) (then_at attr_at (then_at (where_at is_name text_at) (front_at 16))) bytes
 

@@ -15,7 +15,7 @@ use Rattle.fs_model.proofs.WellFormedStep.{empty_well_formed, empty_at}
 use Rattle.fs_blobs.specs.Headers.{blob}
 use Rattle.dir_blob.specs.Layout.{IsEntry}
 use Rattle.dir_blob.proofs.Needs.{map_here}
-use Rattle.forest.specs.Nodes.{IsNode}
+use Rattle.forest.specs.Nodes.{IsBlobOf}
 use Rattle.forest.specs.Shows.{above, target_for, entries_at, ShowsBy}
 use Rattle.forest.proofs.Forests.{map_apart}
 
@@ -41,10 +41,10 @@ empty_shows root wide = record {
     only [] s = refl
     only (n ∷ p) s = absurd (none_is (get empty_tree (n ∷ p)) (empty_at n p) s)
 
-    nodes : (p : Path) (row : Row) → get empty_tree p ≡ Some row → IsNode (new_blobs root) root row.attr.kind (above (λ z. root) p) row.bytes (entries_at empty_tree (λ z. root) p)
+    nodes : (p : Path) (row : Row) → get empty_tree p ≡ Some row → IsBlobOf (new_blobs root) root row.attr.kind (above (λ z. root) p) row.bytes (entries_at empty_tree (λ z. root) p)
     nodes [] row there =
         let same : root_row ≡ row = same_Some _ _ (sym (insert_here empty [] root_row) ∙ there) in
-        subst (λ (r : Row). IsNode (new_blobs root) root r.attr.kind zero_id r.bytes (entries_at empty_tree (λ z. root) [])) same (record {
+        subst (λ (r : Row). IsBlobOf (new_blobs root) root r.attr.kind zero_id r.bytes (entries_at empty_tree (λ z. root) [])) same (record {
           body = [];
           there = map_here empty root (blob Directory zero_id []);
           content = record {

@@ -11,7 +11,7 @@ use Rattle.fs_model.specs.declared.attr.Kind.TheVariants.{Directory, File, Link}
 use Rattle.fs_model.specs.Tree.{Path, Row, Tree}
 use Rattle.fs_model.proofs.TreeLemmas.{name_total, name_same, name_apart, name_split, path_split}
 use Rattle.fs_blobs.specs.Headers.{blob}
-use Rattle.forest.specs.Nodes.{Look, Content, IsNode, IsForest}
+use Rattle.forest.specs.Nodes.{Look, IsBodyOf, IsBlobOf, IsForest}
 
 -- ---- maps of blobs
 
@@ -26,16 +26,16 @@ map_gone_apart m id other differ = get-remove name_total m id other ∙ ap (λ b
 
 -- ---- nodes
 
-content_as : (kind : Kind) (bytes bytes2 : List ℕ) (look look2 : Look) (body : List ℕ) → bytes ≡ bytes2 → ((n : List ℕ) → look n ≡ look2 n) → Content kind bytes look body → Content kind bytes2 look2 body
+content_as : (kind : Kind) (bytes bytes2 : List ℕ) (look look2 : Look) (body : List ℕ) → bytes ≡ bytes2 → ((n : List ℕ) → look n ≡ look2 n) → IsBodyOf kind bytes look body → IsBodyOf kind bytes2 look2 body
 content_as Directory bytes bytes2 look look2 body e f h = record { listing = h.listing; is = h.is; entries = λ n. h.entries n ∙ f n }
 content_as File bytes bytes2 look look2 body e f h = h ∙ e
 content_as Link bytes bytes2 look look2 body e f h = h ∙ e
 
 -- the same node of another map, with equal parts
-pub node_as : (m m2 : BlobMap) (id id2 : Id) (kind kind2 : Kind) (parent parent2 : Id) (bytes bytes2 : List ℕ) (look look2 : Look) → IsNode m id kind parent bytes look
-    → get m2 id2 ≡ get m id → kind ≡ kind2 → parent ≡ parent2 → bytes ≡ bytes2 → ((n : List ℕ) → look n ≡ look2 n) → IsNode m2 id2 kind2 parent2 bytes2 look2
+pub node_as : (m m2 : BlobMap) (id id2 : Id) (kind kind2 : Kind) (parent parent2 : Id) (bytes bytes2 : List ℕ) (look look2 : Look) → IsBlobOf m id kind parent bytes look
+    → get m2 id2 ≡ get m id → kind ≡ kind2 → parent ≡ parent2 → bytes ≡ bytes2 → ((n : List ℕ) → look n ≡ look2 n) → IsBlobOf m2 id2 kind2 parent2 bytes2 look2
 node_as m m2 id id2 kind kind2 parent parent2 bytes bytes2 look look2 x there k p b f =
-    subst (λ z. IsNode m2 id2 z parent2 bytes2 look2) k (record {
+    subst (λ z. IsBlobOf m2 id2 z parent2 bytes2 look2) k (record {
       body = x.body;
       there = there ∙ (x.there ∙ ap (λ z. Some (blob kind z x.body)) p);
       content = content_as kind bytes bytes2 look look2 x.body b f x.content;
@@ -47,15 +47,15 @@ module _ (m : BlobMap) (t : Tree) (ids : Path → Id) (parents : Path → Id) (l
   -- another blob stands at the id of the path d
   pub blob_set : (d : Path) → is_some (get t d) ≡ true → (v : List ℕ) (t2 : Tree) (row2 : Row) (parents2 : Path → Id) (looks2 : Path → Look)
       → get t2 d ≡ Some row2 → ((p : Path) → (p ≡ d → ⊥) → get t2 p ≡ get t p)
-      → IsNode (insert m (ids d) v) (ids d) row2.attr.kind (parents2 d) row2.bytes (looks2 d)
+      → IsBlobOf (insert m (ids d) v) (ids d) row2.attr.kind (parents2 d) row2.bytes (looks2 d)
       → ((p : Path) → is_some (get t p) ≡ true → (p ≡ d → ⊥) → parents p ≡ parents2 p) → ((p : Path) → is_some (get t p) ≡ true → (p ≡ d → ⊥) → (n : List ℕ) → looks p n ≡ looks2 p n)
       → IsForest (insert m (ids d) v) t2 ids parents2 looks2
   blob_set d old v t2 row2 parents2 looks2 here others node same_parents same_looks = record {
     nodes = λ p row there. elim (path_split p d) [
       | inl e ↦
           let same : row2 ≡ row = same_Some _ _ (sym here ∙ (ap (get t2) (sym e) ∙ there)) in
-          subst (λ z. IsNode (insert m (ids d) v) (ids z) row.attr.kind (parents2 z) row.bytes (looks2 z)) (sym e)
-          (subst (λ (r : Row). IsNode (insert m (ids d) v) (ids d) r.attr.kind (parents2 d) r.bytes (looks2 d)) same node)
+          subst (λ z. IsBlobOf (insert m (ids d) v) (ids z) row.attr.kind (parents2 z) row.bytes (looks2 z)) (sym e)
+          (subst (λ (r : Row). IsBlobOf (insert m (ids d) v) (ids d) r.attr.kind (parents2 d) r.bytes (looks2 d)) same node)
       | inr differ ↦
           let was : get t p ≡ Some row = sym (others p differ) ∙ there in
           node_as m (insert m (ids d) v) (ids p) (ids p) row.attr.kind row.attr.kind (parents p) (parents2 p) row.bytes row.bytes (looks p) (looks2 p) (forest.nodes p row was)
@@ -87,16 +87,16 @@ module _ (m : BlobMap) (t : Tree) (ids : Path → Id) (parents : Path → Id) (l
   pub blob_added : (d : Path) → get t d ≡ None → (new : Id) → get m new ≡ None → (v : List ℕ) (t2 : Tree) (row2 : Row) (ids2 : Path → Id) (parents2 : Path → Id) (looks2 : Path → Look)
       → get t2 d ≡ Some row2 → ((p : Path) → (p ≡ d → ⊥) → get t2 p ≡ get t p)
       → ids2 d ≡ new → ((p : Path) → (p ≡ d → ⊥) → ids2 p ≡ ids p)
-      → IsNode (insert m new v) new row2.attr.kind (parents2 d) row2.bytes (looks2 d)
+      → IsBlobOf (insert m new v) new row2.attr.kind (parents2 d) row2.bytes (looks2 d)
       → ((p : Path) → is_some (get t p) ≡ true → (p ≡ d → ⊥) → parents p ≡ parents2 p) → ((p : Path) → is_some (get t p) ≡ true → (p ≡ d → ⊥) → (n : List ℕ) → looks p n ≡ looks2 p n)
       → IsForest (insert m new v) t2 ids2 parents2 looks2
   blob_added d none new unused v t2 row2 ids2 parents2 looks2 here others id_here id_others node same_parents same_looks = record {
     nodes = λ p row there. elim (path_split p d) [
       | inl e ↦
           let same : row2 ≡ row = same_Some _ _ (sym here ∙ (ap (get t2) (sym e) ∙ there)) in
-          subst (λ z. IsNode (insert m new v) z row.attr.kind (parents2 p) row.bytes (looks2 p)) (sym (ap ids2 e ∙ id_here))
-          (subst (λ z. IsNode (insert m new v) new row.attr.kind (parents2 z) row.bytes (looks2 z)) (sym e)
-          (subst (λ (r : Row). IsNode (insert m new v) new r.attr.kind (parents2 d) r.bytes (looks2 d)) same node))
+          subst (λ z. IsBlobOf (insert m new v) z row.attr.kind (parents2 p) row.bytes (looks2 p)) (sym (ap ids2 e ∙ id_here))
+          (subst (λ z. IsBlobOf (insert m new v) new row.attr.kind (parents2 z) row.bytes (looks2 z)) (sym e)
+          (subst (λ (r : Row). IsBlobOf (insert m new v) new r.attr.kind (parents2 d) r.bytes (looks2 d)) same node))
       | inr differ ↦
           let was : get t p ≡ Some row = sym (others p differ) ∙ there in
           let x = forest.nodes p row was in

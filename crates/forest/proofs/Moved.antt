@@ -16,9 +16,9 @@ use Rattle.fs_model.proofs.TreeLemmas.{same_name, path_total, path_exact, path_s
 use Rattle.fs_model.proofs.MoveLemmas.{strip-append, strip-is}
 use Rattle.fs_model.proofs.MovedTree.{CanMove, not_above, strip_none, moved-here, moved-below, moved-off, moved-gone}
 use Rattle.fs_blobs.specs.Headers.{blob}
-use Rattle.dir_blob.specs.Layout.{Target}
+use Rattle.dir_blob.specs.Layout.{EntryTarget}
 use Rattle.dir_blob.proofs.Needs.{map_here}
-use Rattle.forest.specs.Nodes.{Look, Lists, Content, IsForest}
+use Rattle.forest.specs.Nodes.{Look, Lists, IsBodyOf, IsForest}
 use Rattle.forest.specs.Shows.{above, target_for, entries_at, ShowsBy}
 use Rattle.forest.proofs.Forests.{blob_set, Carries, paths_renamed}
 use Rattle.forest.specs.Midst.{with_entry, with_parent, moved_ids}
@@ -32,7 +32,7 @@ parent_apart parents d new p differ = ap (λ b. cond b new (parents p)) (apart p
 
 -- the header of the blob at d names another parent
 pub parent_set : (m : BlobMap) (t : Tree) (ids : Path → Id) (parents : Path → Id) (looks : Path → Look) → IsForest m t ids parents looks
-    → (d : Path) (row : Row) → get t d ≡ Some row → (new : Id) (body : List ℕ) → Content row.attr.kind row.bytes (looks d) body
+    → (d : Path) (row : Row) → get t d ≡ Some row → (new : Id) (body : List ℕ) → IsBodyOf row.attr.kind row.bytes (looks d) body
     → IsForest (insert m (ids d) (blob row.attr.kind new body)) t ids (with_parent parents d new) looks
 parent_set m t ids parents looks forest d row there new body content =
     blob_set m t ids parents looks forest d (ap is_some there) (blob row.attr.kind new body) t row (with_parent parents d new) looks there (λ p differ. refl)
@@ -58,7 +58,7 @@ module _ (m : BlobMap) (root : Id) (t : Tree) (ids : Path → Id) (shows : Shows
   abbrev next : Tree
   next = moved_tree t now p q row
 
-  abbrev target : Target
+  abbrev target : EntryTarget
   target = record { attr = (with_ctime row now).attr; blob = ids p }
 
   -- the entries without p
@@ -221,7 +221,7 @@ module _ (m : BlobMap) (root : Id) (t : Tree) (ids : Path → Id) (shows : Shows
   root_stays = ap ids (from_off [] (strip_none q [] (λ s e. omega (arith, ap length e, length-append s q)))) ∙ shows.at_root
 
   module _ (m2 : BlobMap) (forest2 : IsForest m2 t ids (above ids) looks_with) where
-    pub moved_shows : (body : List ℕ) → Content row.attr.kind row.bytes (looks_with p) body → IsWellFormed next
+    pub moved_shows : (body : List ℕ) → IsBodyOf row.attr.kind row.bytes (looks_with p) body → IsWellFormed next
         → ShowsBy (insert m2 (ids p) (blob row.attr.kind (ids qd) body)) root next ids_moved
     moved_shows body content well_formed =
         let m3 = insert m2 (ids p) (blob row.attr.kind (ids qd) body) in

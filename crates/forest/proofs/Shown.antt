@@ -12,9 +12,9 @@ use Rattle.fs_model.specs.declared.attr.Kind.TheVariants.{Directory, File, Link}
 use Rattle.fs_model.specs.Tree.{Path, Row, Tree, same_path, is_directory, is_folder, IsWellFormed}
 use Rattle.fs_model.proofs.TreeLemmas.{same_name, name_same, name_apart, name_split, path_same, path_split, apart, insert_here, insert_apart, remove_here, remove_apart, none_of}
 use Rattle.fs_blobs.specs.Headers.{blob}
-use Rattle.dir_blob.specs.Layout.{Target}
+use Rattle.dir_blob.specs.Layout.{EntryTarget}
 use Rattle.dir_blob.proofs.Needs.{map_here}
-use Rattle.forest.specs.Nodes.{Look, Lists, Content, IsNode, IsForest}
+use Rattle.forest.specs.Nodes.{Look, Lists, IsBodyOf, IsBlobOf, IsForest}
 use Rattle.forest.specs.Shows.{above, target_for, entries_at, ShowsBy}
 use Rattle.forest.specs.Midst.{with_entry, ids_with}
 use Rattle.forest.proofs.Forests.{blob_set, blob_added, blob_dropped, Carries, forest_as}
@@ -39,10 +39,10 @@ folder_of t p (Some row) e h = record { row = row; there = e; kind = directory_i
 pub folder_row : (t : Tree) (p : Path) → is_folder (get t p) ≡ true → IsFolderRow t p
 folder_row t p h = folder_of t p (get t p) refl h
 
-pub entry_here : (looks : Path → Look) (q : Path) (v : Option Target) (p : Path) (n : List ℕ) → n ∷ p ≡ q → with_entry looks q v p n ≡ v
+pub entry_here : (looks : Path → Look) (q : Path) (v : Option EntryTarget) (p : Path) (n : List ℕ) → n ∷ p ≡ q → with_entry looks q v p n ≡ v
 entry_here looks q v p n e = ap (λ b. cond b v (looks p n)) (ap (λ z. same_path z q) e ∙ path_same q)
 
-pub entry_apart : (looks : Path → Look) (q : Path) (v : Option Target) (p : Path) (n : List ℕ) → (n ∷ p ≡ q → ⊥) → with_entry looks q v p n ≡ looks p n
+pub entry_apart : (looks : Path → Look) (q : Path) (v : Option EntryTarget) (p : Path) (n : List ℕ) → (n ∷ p ≡ q → ⊥) → with_entry looks q v p n ≡ looks p n
 entry_apart looks q v p n differ = ap (λ b. cond b v (looks p n)) (apart (n ∷ p) q differ)
 
 tail_is : (a b : List ℕ) (p q : Path) → a ∷ p ≡ b ∷ q → p ≡ q
@@ -59,11 +59,11 @@ same_last n k d = elim (name_split n k) [
 
 -- the directory d gets another entry k, or loses it
 pub entry_set : (m : BlobMap) (t : Tree) (ids : Path → Id) (parents : Path → Id) (looks : Path → Look) → IsForest m t ids parents looks
-    → (d : Path) → IsFolderRow t d → (k : List ℕ) (v : Option Target) (body : List ℕ) → Lists (λ n. cond (same_name n k) v (looks d n)) body
+    → (d : Path) → IsFolderRow t d → (k : List ℕ) (v : Option EntryTarget) (body : List ℕ) → Lists (λ n. cond (same_name n k) v (looks d n)) body
     → IsForest (insert m (ids d) (blob Directory (parents d) body)) t ids parents (with_entry looks (k ∷ d) v)
 entry_set m t ids parents looks forest d folder k v body lists =
     blob_set m t ids parents looks forest d (ap is_some folder.there) (blob Directory (parents d) body) t folder.row parents (with_entry looks (k ∷ d) v) folder.there (λ p differ. refl)
-    (subst (λ z. IsNode (insert m (ids d) (blob Directory (parents d) body)) (ids d) z (parents d) folder.row.bytes (with_entry looks (k ∷ d) v d)) (sym folder.kind) (record {
+    (subst (λ z. IsBlobOf (insert m (ids d) (blob Directory (parents d) body)) (ids d) z (parents d) folder.row.bytes (with_entry looks (k ∷ d) v d)) (sym folder.kind) (record {
       body = body;
       there = map_here m (ids d) (blob Directory (parents d) body);
       content = record { listing = lists.listing; is = lists.is; entries = λ n. lists.entries n ∙ ap (λ b. cond b v (looks d n)) (sym (same_last n k d)) };
@@ -86,7 +86,7 @@ module _ (m : BlobMap) (root : Id) (t : Tree) (ids : Path → Id) (shows : Shows
   parent_there : is_some (get t p) ≡ true
   parent_there = ap is_some (folder_row t p folder).there
 
-  module _ (none : get t q ≡ None) (row : Row) (new : Id) (unused : get m new ≡ None) (body : List ℕ) (content : Content row.attr.kind row.bytes (λ k. None) body) where
+  module _ (none : get t q ≡ None) (row : Row) (new : Id) (unused : get m new ≡ None) (body : List ℕ) (content : IsBodyOf row.attr.kind row.bytes (λ k. None) body) where
     old : (r : Path) → is_some (get t r) ≡ true → r ≡ q → ⊥
     old r s e = none_is (get t r) (ap (get t) e ∙ none) s
 
@@ -109,7 +109,7 @@ module _ (m : BlobMap) (root : Id) (t : Tree) (ids : Path → Id) (shows : Shows
         })
         (λ r s differ. above_same r s) (λ r s differ k. refl)
       where
-        nothing_as : (kind : Kind) → Content kind row.bytes (λ k. None) body → Content kind row.bytes (entries_at t ids q) body
+        nothing_as : (kind : Kind) → IsBodyOf kind row.bytes (λ k. None) body → IsBodyOf kind row.bytes (entries_at t ids q) body
         nothing_as Directory c = record { listing = c.listing; is = c.is; entries = λ k. c.entries k ∙ sym (ap (target_for (ids (k ∷ q))) (nothing_below k)) }
         nothing_as File c = c
         nothing_as Link c = c
@@ -118,7 +118,7 @@ module _ (m : BlobMap) (root : Id) (t : Tree) (ids : Path → Id) (shows : Shows
     pub made_shows : (listed : List ℕ) → Lists (λ k. cond (same_name k n) (Some (record { attr = row.attr; blob = new })) (entries_at t ids p k)) listed → IsWellFormed (insert t q row)
         → ShowsBy (insert (insert m new (blob row.attr.kind (ids p) body)) (ids p) (blob Directory (above ids p) listed)) root (insert t q row) (ids_with ids q new)
     made_shows listed lists well_formed =
-        let target : Target = record { attr = row.attr; blob = new } in
+        let target : EntryTarget = record { attr = row.attr; blob = new } in
         let ids2 = ids_with ids q new in
         let m1 = insert m new (blob row.attr.kind (ids p) body) in
         let t2 = insert t q row in
@@ -174,7 +174,7 @@ module _ (m : BlobMap) (root : Id) (t : Tree) (ids : Path → Id) (shows : Shows
       → (listed : List ℕ) → Lists (λ k. cond (same_name k n) (Some (record { attr = row2.attr; blob = ids q })) (entries_at t ids p k)) listed → IsWellFormed (insert t q row2)
       → ShowsBy (insert m (ids p) (blob Directory (above ids p) listed)) root (insert t q row2) ids
   attributes_show row row2 there kind bytes listed lists well_formed =
-      let target : Target = record { attr = row2.attr; blob = ids q } in
+      let target : EntryTarget = record { attr = row2.attr; blob = ids q } in
       record {
         well_formed = well_formed;
         wide = shows.wide;
@@ -208,11 +208,11 @@ module _ (m : BlobMap) (root : Id) (t : Tree) (ids : Path → Id) (shows : Shows
 
   -- ---- a file with other bytes
 
-  pub content_shows : (row row2 : Row) → get t q ≡ Some row → row.attr.kind ≡ row2.attr.kind → (body : List ℕ) → Content row2.attr.kind row2.bytes (entries_at t ids q) body
+  pub content_shows : (row row2 : Row) → get t q ≡ Some row → row.attr.kind ≡ row2.attr.kind → (body : List ℕ) → IsBodyOf row2.attr.kind row2.bytes (entries_at t ids q) body
       → (listed : List ℕ) → Lists (λ k. cond (same_name k n) (Some (record { attr = row2.attr; blob = ids q })) (entries_at t ids p k)) listed → IsWellFormed (insert t q row2)
       → ShowsBy (insert (insert m (ids q) (blob row2.attr.kind (ids p) body)) (ids p) (blob Directory (above ids p) listed)) root (insert t q row2) ids
   content_shows row row2 there kind body content listed lists well_formed =
-      let target : Target = record { attr = row2.attr; blob = ids q } in
+      let target : EntryTarget = record { attr = row2.attr; blob = ids q } in
       let t2 = insert t q row2 in
       let m1 = insert m (ids q) (blob row2.attr.kind (ids p) body) in
       let set = blob_set m t ids (above ids) (entries_at t ids) shows.forest q (ap is_some there) (blob row2.attr.kind (ids p) body) t2 row2 (above ids) (entries_at t ids) (insert_here t q row2) (λ r differ. insert_apart t q row2 r differ)

@@ -4,11 +4,11 @@ use Rattle.std.specs.declared.option.Option.{Option}
 use Rattle.blob_api.specs.BlobMap.{Id}
 use Rattle.fs_model.specs.Tree.{Path, same_path}
 use Rattle.fs_model.specs.Move.{moved}
-use Rattle.dir_blob.specs.Layout.{Target}
+use Rattle.dir_blob.specs.Layout.{EntryTarget}
 use Rattle.forest.specs.Nodes.{Look}
 
 -- entries with another one at this path
-abbrev pub with_entry : (Path → Look) → Path → Option Target → Path → Look
+abbrev pub with_entry : (Path → Look) → Path → Option EntryTarget → Path → Look
 with_entry looks q v p n = cond (same_path (n ∷ p) q) v (looks p n)
 
 -- parents with another one at this path

@@ -7,7 +7,7 @@ use Rattle.fs_model.specs.Step.{Stepped}
 use Rattle.forest.specs.Shows.{ShowsBy}
 
 -- what a command needs: the blobs show a tree
-pub record Showing {S : Type 0} (H : BlobHoldings S) (a : S) (root : Id) : Type 0 where
+pub record BlobsShow {S : Type 0} (H : BlobHoldings S) (a : S) (root : Id) : Type 0 where
   pub map : BlobMap
   pub stands : H.stands_for a map
   pub tree : Tree

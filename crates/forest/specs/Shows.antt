@@ -6,7 +6,7 @@ use Rattle.std.specs.declared.option.Option.TheVariants.{None, Some}
 use Rattle.block_id.specs.Fresh.{zero_id}
 use Rattle.blob_api.specs.BlobMap.{Id, BlobMap}
 use Rattle.fs_model.specs.Tree.{Path, Row, Tree, IsWellFormed}
-use Rattle.dir_blob.specs.Layout.{Target}
+use Rattle.dir_blob.specs.Layout.{EntryTarget}
 use Rattle.forest.specs.Nodes.{Look, IsForest}
 
 -- the parent that a header names: the blob of the directory above, and sixteen zero bytes for the root
@@ -14,7 +14,7 @@ abbrev pub above : (Path → Id) → Path → Id
 above ids [] = zero_id
 above ids (n ∷ p) = ids p
 
-abbrev pub target_for : Id → Option Row → Option Target
+abbrev pub target_for : Id → Option Row → Option EntryTarget
 target_for id None = None
 target_for id (Some row) = Some (record { attr = row.attr; blob = id })
 

@@ -3,7 +3,7 @@ ghost use Rattle.std.specs.Prelude.{◌≡◌, ◌≤◌, ◌+◌, length, take,
 ghost use Rattle.std.specs.FinMap.{insert};
 ghost use Rattle.outcome.specs.Outcome.{Outcome};
 ghost use Rattle.outcome.specs.Bytes.{resized, written};
-ghost use Rattle.blob_api.specs.BlobMap.{Stands, IsNew, IsSparing};
+ghost use Rattle.blob_api.specs.BlobMap.{StandsForMap, IsNew, IsSparing};
 ghost use Rattle.fs_blobs.specs.Headers.{blob};
 ghost use Rattle.fs_blobs.specs.Blobs.{IsBlob};
 
@@ -29,7 +29,7 @@ pub fn new_blob<B: Blobs, R: Rng>(
 ) -> Result<BlockId, Fail>
     requires intact { B.meanings.intact b.old }
     requires fits { HEADER_LEN + length body.now ≤ MAX_BLOB }
-    ensures { Outcome B.meanings (Stands B.holdings b.old) b.old b.new result
+    ensures { Outcome B.meanings (StandsForMap B.holdings b.old) b.old b.new result
         (λ n id. IsNew B.holdings b.new n.map id.0 (blob header.now.kind header.now.parent.0 body.now)) }
 {
     let mut bytes = header_bytes(header).to_vec(alloc)?;

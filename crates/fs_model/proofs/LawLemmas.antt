@@ -13,7 +13,7 @@ use Rattle.fs_model.specs.declared.reply.Reply.{Reply}
 use Rattle.fs_model.specs.declared.reply.Reply.TheVariants.{Error}
 use Rattle.fs_model.specs.Instant.{Instant}
 use Rattle.fs_model.specs.Tree.{Path, Tree, Row, same_path, is_root, is_directory, upward}
-use Rattle.fs_model.specs.LookUp.{Seen, Found, Free, Bad, look}
+use Rattle.fs_model.specs.LookUp.{LookedUp, Found, Free, Bad, look}
 use Rattle.fs_model.specs.Move.{is_above}
 use Rattle.fs_model.specs.Step.{Stepped, answered, refused, done, by_kind, on_file, unless_root, made, removed_directory, removed_file, written, truncated, attributes_set, moved_tree, moved_unless_large, moved_onto, moved_to, moved_from, has_child, new_row, with_mode, with_owner, with_times, step}
 use Rattle.fs_model.specs.Laws.{OnlyLooks}
@@ -45,32 +45,32 @@ module _ (t : Tree) where
   not_root : (p : Path) (s : Stepped) → StaysOnError t s → StaysOnError t (unless_root t p s)
   not_root p s h = either (is_root p) _ s (the_same _) h
 
-  made_error : (p : Path) (row : Row) (s : Seen) → StaysOnError t (made t p row s)
+  made_error : (p : Path) (row : Row) (s : LookedUp) → StaysOnError t (made t p row s)
   made_error p row (Found old) = the_same _
   made_error p row Free = search (either, the_same, no_error)
   made_error p row (Bad e) = the_same _
 
-  removed_directory_error : (p : Path) (s : Seen) → StaysOnError t (removed_directory t p s)
+  removed_directory_error : (p : Path) (s : LookedUp) → StaysOnError t (removed_directory t p s)
   removed_directory_error p (Found row) = search (either, the_same, no_error)
   removed_directory_error p Free = the_same _
   removed_directory_error p (Bad e) = the_same _
 
-  removed_file_error : (p : Path) (s : Seen) → StaysOnError t (removed_file t p s)
+  removed_file_error : (p : Path) (s : LookedUp) → StaysOnError t (removed_file t p s)
   removed_file_error p (Found row) = search (either, the_same, no_error)
   removed_file_error p Free = the_same _
   removed_file_error p (Bad e) = the_same _
 
-  written_error : (now : Instant) (p : Path) (from : ℕ) (bytes : List ℕ) (s : Seen) → StaysOnError t (written t now p from bytes s)
+  written_error : (now : Instant) (p : Path) (from : ℕ) (bytes : List ℕ) (s : LookedUp) → StaysOnError t (written t now p from bytes s)
   written_error now p from bytes (Found row) = search (either, the_same, no_error, kinds)
   written_error now p from bytes Free = the_same _
   written_error now p from bytes (Bad e) = the_same _
 
-  truncated_error : (now : Instant) (p : Path) (n : ℕ) (s : Seen) → StaysOnError t (truncated t now p n s)
+  truncated_error : (now : Instant) (p : Path) (n : ℕ) (s : LookedUp) → StaysOnError t (truncated t now p n s)
   truncated_error now p n (Found row) = search (either, the_same, no_error, kinds)
   truncated_error now p n Free = the_same _
   truncated_error now p n (Bad e) = the_same _
 
-  attributes_error : (p : Path) (change : Attr → Attr) (s : Seen) → StaysOnError t (attributes_set t p change s)
+  attributes_error : (p : Path) (change : Attr → Attr) (s : LookedUp) → StaysOnError t (attributes_set t p change s)
   attributes_error p change (Found row) = no_error _
   attributes_error p change Free = the_same _
   attributes_error p change (Bad e) = the_same _
@@ -87,14 +87,14 @@ module _ (t : Tree) where
   large_error : (q : Path) (next : Tree) → StaysOnError t (moved_unless_large t q next)
   large_error q next = search (either, the_same, no_error)
 
-  moved_to_error : (now : Instant) (p q : Path) (row : Row) (s : Seen) → StaysOnError t (moved_to t now p q row s)
+  moved_to_error : (now : Instant) (p q : Path) (row : Row) (s : LookedUp) → StaysOnError t (moved_to t now p q row s)
   moved_to_error now p q row (Found old) =
       let onto = onto_error q (is_directory row.attr.kind) (is_directory old.attr.kind) (moved_unless_large t q (moved_tree t now p q row)) (large_error q (moved_tree t now p q row)) in
       either (same_path p q) (done t) (moved_onto t q (is_directory row.attr.kind) (is_directory old.attr.kind) (moved_unless_large t q (moved_tree t now p q row))) (no_error t) onto
   moved_to_error now p q row Free = large_error q (moved_tree t now p q row)
   moved_to_error now p q row (Bad e) = the_same _
 
-  moved_from_error : (now : Instant) (p q : Path) (s : Seen) → StaysOnError t (moved_from t now p q s)
+  moved_from_error : (now : Instant) (p q : Path) (s : LookedUp) → StaysOnError t (moved_from t now p q s)
   moved_from_error now p q (Found row) =
       either (is_above p q) (refused t Invalid) (moved_to t now p q row (look t q)) (the_same (Error Invalid)) (moved_to_error now p q row (look t q))
   moved_from_error now p q Free = the_same _

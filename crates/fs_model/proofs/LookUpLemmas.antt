@@ -6,7 +6,7 @@ use Rattle.std.specs.declared.option.Option.{Option}
 use Rattle.std.specs.declared.option.Option.TheVariants.{None, Some}
 use Rattle.fs_model.specs.declared.error.FsError.TheVariants.{NoEntry, NotDirectory}
 use Rattle.fs_model.specs.Tree.{Path, Tree, Row, root_row, parent, same_path, is_directory, is_folder, IsRooted}
-use Rattle.fs_model.specs.LookUp.{longest, Seen, Found, Free, Bad, missing, seen, look, goes_on, start, walk}
+use Rattle.fs_model.specs.LookUp.{longest, LookedUp, Found, Free, Bad, missing, seen, look, goes_on, start, walk}
 use Rattle.fs_model.proofs.TreeLemmas.{path_same, apart}
 
 longest_here : (t : Tree) (p : Path) → is_some (get t p) ≡ true → longest t p ≡ p
@@ -74,7 +74,7 @@ pub record IsFree (t : Tree) (p : Path) (n : List ℕ) (q : Path) : Type 0 where
   pub absent : get t p ≡ None
   pub folder : is_folder (get t q) ≡ true
 
-free_on : (t : Tree) (n : List ℕ) (q : Path) (s : Seen) (o : Option Row) → get t (n ∷ q) ≡ o → walk t q ≡ s → (is_folder (get t q) ≡ true → s ≡ walk t q) → goes_on s o ≡ Free → (o ≡ None) × ((row : Row) × (walk t q ≡ Found row) × (is_directory row.attr.kind ≡ true))
+free_on : (t : Tree) (n : List ℕ) (q : Path) (s : LookedUp) (o : Option Row) → get t (n ∷ q) ≡ o → walk t q ≡ s → (is_folder (get t q) ≡ true → s ≡ walk t q) → goes_on s o ≡ Free → (o ≡ None) × ((row : Row) × (walk t q ≡ Found row) × (is_directory row.attr.kind ≡ true))
 free_on t n q (Found row) (Some r) e w f h = absurd (elim (is_directory row.attr.kind) as (λ b. cond b (Found r) (Bad NotDirectory) ≡ Free → ⊥) [ true ↦ λ h. cc | false ↦ λ h. cc ] h)
 free_on t n q (Found row) None e w f h = (refl, (row, w, elim (is_directory row.attr.kind) as (λ b. cond b Free (Bad NotDirectory) ≡ Free → b ≡ true) [ true ↦ λ h. refl | false ↦ λ h. cc ] h))
 free_on t n q Free o e w f h = cc

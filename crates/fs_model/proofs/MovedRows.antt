@@ -13,7 +13,7 @@ use Rattle.fs_model.specs.declared.limits.TheConstants.{MAX_ENTRIES}
 use Rattle.fs_model.specs.declared.reply.Reply.TheVariants.{Done}
 use Rattle.fs_model.specs.Instant.{Instant}
 use Rattle.fs_model.specs.Tree.{Path, Tree, Row, upward, parent, same_path, is_directory, children, directory_size, IsRooted}
-use Rattle.fs_model.specs.LookUp.{Seen, Found, Free, Bad, look}
+use Rattle.fs_model.specs.LookUp.{LookedUp, Found, Free, Bad, look}
 use Rattle.fs_model.specs.Move.{is_above, strip, moved_by, moved, renamed}
 use Rattle.fs_model.specs.Step.{Stepped, refused, done, unless_root, has_child, with_ctime, moved_tree, moved_unless_large, moved_onto, moved_to, moved_from}
 use Rattle.fs_model.specs.Laws.{IsMoved}
@@ -101,7 +101,7 @@ module _ (t : Tree) (now : Instant) (p q : Path) where
   onto false false s h = h (λ m bad. absurd (cc))
 
 module _ (t : Tree) (now : Instant) (pn : List ℕ) (pd : Path) (qn : List ℕ) (qd : Path) (wf : IsRooted t) (differ : pn ∷ pd ≡ qn ∷ qd → ⊥) where
-  to_moves : (row : Row) (s : Seen) → look t (pn ∷ pd) ≡ Found row → is_above (pn ∷ pd) (qn ∷ qd) ≡ false → look t (qn ∷ qd) ≡ s → MovesIfDone t now (pn ∷ pd) (qn ∷ qd) (moved_to t now (pn ∷ pd) (qn ∷ qd) row s)
+  to_moves : (row : Row) (s : LookedUp) → look t (pn ∷ pd) ≡ Found row → is_above (pn ∷ pd) (qn ∷ qd) ≡ false → look t (qn ∷ qd) ≡ s → MovesIfDone t now (pn ∷ pd) (qn ∷ qd) (moved_to t now (pn ∷ pd) (qn ∷ qd) row s)
   to_moves row (Found old) found above h =
       let next = moved_unless_large t (qn ∷ qd) (moved_tree t now (pn ∷ pd) (qn ∷ qd) row) in
       either t now (pn ∷ pd) (qn ∷ qd) (same_path (pn ∷ pd) (qn ∷ qd)) (done t) (moved_onto t (qn ∷ qd) (is_directory row.attr.kind) (is_directory old.attr.kind) next) (λ e. absurd (differ (same_path_is (pn ∷ pd) (qn ∷ qd) e))) (λ apart.
@@ -114,7 +114,7 @@ module _ (t : Tree) (now : Instant) (pn : List ℕ) (pd : Path) (qn : List ℕ) 
   to_moves row Free found above h = large t now (pn ∷ pd) (qn ∷ qd) (moved_tree t now (pn ∷ pd) (qn ∷ qd) row) (moved_rows t now pn pd qn qd row (can_move_free t pn pd qn qd row wf found above h))
   to_moves row (Bad e) found above h = refuses t now (pn ∷ pd) (qn ∷ qd) e
 
-  from_moves : (s : Seen) → look t (pn ∷ pd) ≡ s → MovesIfDone t now (pn ∷ pd) (qn ∷ qd) (moved_from t now (pn ∷ pd) (qn ∷ qd) s)
+  from_moves : (s : LookedUp) → look t (pn ∷ pd) ≡ s → MovesIfDone t now (pn ∷ pd) (qn ∷ qd) (moved_from t now (pn ∷ pd) (qn ∷ qd) s)
   from_moves (Found row) h = either t now (pn ∷ pd) (qn ∷ qd) (is_above (pn ∷ pd) (qn ∷ qd)) (refused t Invalid) (moved_to t now (pn ∷ pd) (qn ∷ qd) row (look t (qn ∷ qd))) (λ _. refuses t now (pn ∷ pd) (qn ∷ qd) Invalid) (λ above. to_moves row (look t (qn ∷ qd)) h above refl)
   from_moves Free h = refuses t now (pn ∷ pd) (qn ∷ qd) NoEntry
   from_moves (Bad e) h = refuses t now (pn ∷ pd) (qn ∷ qd) e

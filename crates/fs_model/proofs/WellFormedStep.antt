@@ -19,7 +19,7 @@ use Rattle.fs_model.specs.Instant.{Instant}
 use Rattle.fs_model.specs.Names.{IsName}
 use Rattle.fs_model.specs.Fitting.{IsFitting, HoldsNames}
 use Rattle.fs_model.specs.Tree.{Path, Tree, Row, upward, same_path, is_directory, is_folder, children, directory_size, entry_size, FitsKind, IsRooted, IsWithinLimits, IsWellFormed, empty_tree, root_row, path_cmp}
-use Rattle.fs_model.specs.LookUp.{Seen, Found, Free, Bad, look}
+use Rattle.fs_model.specs.LookUp.{LookedUp, Found, Free, Bad, look}
 use Rattle.fs_model.specs.Move.{is_above}
 use Rattle.fs_model.specs.Step.{Stepped, refused, done, by_kind, on_file, unless_root, listed, told, made, new_row, removed_directory, removed_file, has_child, target_read, content_read, is_too_long, resized, overwritten, with_content, written, truncated, attributes_set, with_mode, with_owner, with_times, moved_tree, moved_unless_large, moved_onto, moved_to, moved_from, step}
 use Rattle.fs_model.proofs.TreeLemmas.{path_split, path_same, get-children, insert_here, insert_apart, remove_here, remove_apart, none_of}
@@ -152,7 +152,7 @@ last_named ns named n q e = at_end (reverse q) (All-same IsName (reverse q ++ n 
     at_end [] h = All-head IsName n [] h
     at_end (m ∷ front) h = at_end front (All-tail IsName m (front ++ n ∷ []) h)
 
-made_keeps : (t : Tree) (p : Path) (row : Row) (s : Seen) → IsWellFormed t → ((n : List ℕ) (q : Path) → p ≡ n ∷ q → IsName n) → IsWithinLimits row → look t p ≡ s → Keeps (made t p row s)
+made_keeps : (t : Tree) (p : Path) (row : Row) (s : LookedUp) → IsWellFormed t → ((n : List ℕ) (q : Path) → p ≡ n ∷ q → IsName n) → IsWithinLimits row → look t p ≡ s → Keeps (made t p row s)
 made_keeps t p row (Found old) wf named limits h = wf
 made_keeps t p row (Bad e) wf named limits h = wf
 made_keeps t p row Free wf named limits h = free_keeps (get-free t wf.rooted p h)
@@ -195,13 +195,13 @@ unless_long_keeps t now p row bytes n wf there file is size =
     either (is_too_long (length row.bytes) n) (refused t TooLarge) (done (insert t p (with_content row now bytes))) (λ _. wf)
     (λ short. content_set t now p row bytes wf there file is (let bound = short_enough (length row.bytes) n short in omega arith))
 
-written_keeps : (t : Tree) (now : Instant) (p : Path) (from : ℕ) (bytes : List ℕ) (s : Seen) → IsWellFormed t → look t p ≡ s → Keeps (written t now p from bytes s)
+written_keeps : (t : Tree) (now : Instant) (p : Path) (from : ℕ) (bytes : List ℕ) (s : LookedUp) → IsWellFormed t → look t p ≡ s → Keeps (written t now p from bytes s)
 written_keeps t now p from bytes (Found row) wf h = file_keeps t row.attr.kind _ wf (λ file is. either (length bytes == 0) (done t) _ (λ _. wf) (λ _.
     unless_long_keeps t now p row (overwritten row.bytes from bytes) (max (length row.bytes) (from + length bytes)) wf (get-found t p row h) file is (length-overwritten row.bytes from bytes)))
 written_keeps t now p from bytes Free wf h = wf
 written_keeps t now p from bytes (Bad e) wf h = wf
 
-truncated_keeps : (t : Tree) (now : Instant) (p : Path) (n : ℕ) (s : Seen) → IsWellFormed t → look t p ≡ s → Keeps (truncated t now p n s)
+truncated_keeps : (t : Tree) (now : Instant) (p : Path) (n : ℕ) (s : LookedUp) → IsWellFormed t → look t p ≡ s → Keeps (truncated t now p n s)
 truncated_keeps t now p n (Found row) wf h = file_keeps t row.attr.kind _ wf (λ file is.
     unless_long_keeps t now p row (resized row.bytes n) n wf (get-found t p row h) file is (length-resized row.bytes n))
 truncated_keeps t now p n Free wf h = wf
@@ -211,7 +211,7 @@ unless_keeps : (t : Tree) (r : Path) (s : Stepped) → IsWellFormed t → ((n : 
 unless_keeps t [] s wf f = wf
 unless_keeps t (n ∷ q) s wf f = f n q refl
 
-attributes_keep : (t : Tree) (n : List ℕ) (q : Path) (change : Attr → Attr) (s : Seen) → IsWellFormed t → ((a : Attr) → a.kind ≡ (change a).kind) → ((a : Attr) → a.mode ≤ MAX_MODE → (change a).mode ≤ MAX_MODE)
+attributes_keep : (t : Tree) (n : List ℕ) (q : Path) (change : Attr → Attr) (s : LookedUp) → IsWellFormed t → ((a : Attr) → a.kind ≡ (change a).kind) → ((a : Attr) → a.mode ≤ MAX_MODE → (change a).mode ≤ MAX_MODE)
     → look t (n ∷ q) ≡ s → Keeps (attributes_set t (n ∷ q) change s)
 attributes_keep t n q change (Found row) wf kinds modes h =
     let there = get-found t (n ∷ q) row h in
@@ -223,14 +223,14 @@ attributes_keep t n q change (Found row) wf kinds modes h =
 attributes_keep t n q change Free wf kinds modes h = wf
 attributes_keep t n q change (Bad e) wf kinds modes h = wf
 
-removed_directory_keeps : (t : Tree) (n : List ℕ) (q : Path) (s : Seen) → IsWellFormed t → Keeps (removed_directory t (n ∷ q) s)
+removed_directory_keeps : (t : Tree) (n : List ℕ) (q : Path) (s : LookedUp) → IsWellFormed t → Keeps (removed_directory t (n ∷ q) s)
 removed_directory_keeps t n q (Found row) wf = either (is_directory row.attr.kind) (cond (has_child t (n ∷ q)) (refused t NotEmpty) (done (remove t (n ∷ q)))) (refused t NotDirectory) (λ _.
     either (has_child t (n ∷ q)) (refused t NotEmpty) (done (remove t (n ∷ q))) (λ _. wf) (λ none.
     remove_bare t n q wf (no_children t (n ∷ q) (let zero = ltb-false 0 (len (children t (n ∷ q))) none in omega arith)))) (λ _. wf)
 removed_directory_keeps t n q Free wf = wf
 removed_directory_keeps t n q (Bad e) wf = wf
 
-removed_file_keeps : (t : Tree) (n : List ℕ) (q : Path) (s : Seen) → IsWellFormed t → look t (n ∷ q) ≡ s → Keeps (removed_file t (n ∷ q) s)
+removed_file_keeps : (t : Tree) (n : List ℕ) (q : Path) (s : LookedUp) → IsWellFormed t → look t (n ∷ q) ≡ s → Keeps (removed_file t (n ∷ q) s)
 removed_file_keeps t n q (Found row) wf h = either _ _ _ (λ _. wf) (λ file. remove_bare t n q wf (below_file t (n ∷ q) row wf.rooted (get-found t (n ∷ q) row h) file))
 removed_file_keeps t n q Free wf h = wf
 removed_file_keeps t n q (Bad e) wf h = wf
@@ -272,7 +272,7 @@ onto_keeps t q true false s wf f = wf
 onto_keeps t q false true s wf f = wf
 onto_keeps t q false false s wf f = f (λ m bad. absurd (cc))
 
-moved_to_keeps : (t : Tree) (now : Instant) (pn : List ℕ) (pd : Path) (qn : List ℕ) (qd : Path) (row : Row) (s : Seen) → IsWellFormed t → IsName qn → look t (pn ∷ pd) ≡ Found row → is_above (pn ∷ pd) (qn ∷ qd) ≡ false → look t (qn ∷ qd) ≡ s
+moved_to_keeps : (t : Tree) (now : Instant) (pn : List ℕ) (pd : Path) (qn : List ℕ) (qd : Path) (row : Row) (s : LookedUp) → IsWellFormed t → IsName qn → look t (pn ∷ pd) ≡ Found row → is_above (pn ∷ pd) (qn ∷ qd) ≡ false → look t (qn ∷ qd) ≡ s
     → Keeps (moved_to t now (pn ∷ pd) (qn ∷ qd) row s)
 moved_to_keeps t now pn pd qn qd row (Found old) wf named found above h = either _ _ _ (λ _. wf) (λ differ.
     onto_keeps t (qn ∷ qd) (is_directory row.attr.kind) (is_directory old.attr.kind) _ wf (λ bare.
@@ -284,18 +284,18 @@ moved_to_keeps t now pn pd qn qd row (Found old) wf named found above h = either
 moved_to_keeps t now pn pd qn qd row Free wf named found above h = unless_large_keeps t now pn pd qn qd row wf named (can_move_free t pn pd qn qd row wf.rooted found above h)
 moved_to_keeps t now pn pd qn qd row (Bad e) wf named found above h = wf
 
-moved_from_keeps : (t : Tree) (now : Instant) (pn : List ℕ) (pd : Path) (qn : List ℕ) (qd : Path) (s : Seen) → IsWellFormed t → IsName qn → look t (pn ∷ pd) ≡ s → Keeps (moved_from t now (pn ∷ pd) (qn ∷ qd) s)
+moved_from_keeps : (t : Tree) (now : Instant) (pn : List ℕ) (pd : Path) (qn : List ℕ) (qd : Path) (s : LookedUp) → IsWellFormed t → IsName qn → look t (pn ∷ pd) ≡ s → Keeps (moved_from t now (pn ∷ pd) (qn ∷ qd) s)
 moved_from_keeps t now pn pd qn qd (Found row) wf named h = either _ _ _ (λ _. wf) (λ above. moved_to_keeps t now pn pd qn qd row (look t (qn ∷ qd)) wf named h above refl)
 moved_from_keeps t now pn pd qn qd Free wf named h = wf
 moved_from_keeps t now pn pd qn qd (Bad e) wf named h = wf
 
 -- the commands that only look
-pub listed_stays : (t : Tree) (p : Path) (s : Seen) → (listed t p s).tree ≡ t
+pub listed_stays : (t : Tree) (p : Path) (s : LookedUp) → (listed t p s).tree ≡ t
 listed_stays t p (Found row) = cond_both (is_directory row.attr.kind) _ _ (λ (s : Stepped). s.tree ≡ t) (λ _. refl) (λ _. refl)
 listed_stays t p Free = refl
 listed_stays t p (Bad e) = refl
 
-pub told_stays : (t : Tree) (s : Seen) → (told t s).tree ≡ t
+pub told_stays : (t : Tree) (s : LookedUp) → (told t s).tree ≡ t
 told_stays t (Found row) = refl
 told_stays t Free = refl
 told_stays t (Bad e) = refl
@@ -305,12 +305,12 @@ kind_stays t Directory d f l a b c = a
 kind_stays t File d f l a b c = b
 kind_stays t Link d f l a b c = c
 
-pub target_stays : (t : Tree) (s : Seen) → (target_read t s).tree ≡ t
+pub target_stays : (t : Tree) (s : LookedUp) → (target_read t s).tree ≡ t
 target_stays t (Found row) = kind_stays t row.attr.kind _ _ _ refl refl refl
 target_stays t Free = refl
 target_stays t (Bad e) = refl
 
-pub content_stays : (t : Tree) (from count : ℕ) (s : Seen) → (content_read t from count s).tree ≡ t
+pub content_stays : (t : Tree) (from count : ℕ) (s : LookedUp) → (content_read t from count s).tree ≡ t
 content_stays t from count (Found row) = kind_stays t row.attr.kind _ _ _ refl (cond_both (nat_lt MAX_READ count) _ _ (λ (s : Stepped). s.tree ≡ t) (λ _. refl) (λ _. refl)) refl
 content_stays t from count Free = refl
 content_stays t from count (Bad e) = refl

@@ -13,34 +13,34 @@ longest t [] = []
 longest t (n ∷ p) = cond (is_some (get t (n ∷ p))) (n ∷ p) (longest t p)
 
 -- what a look-up sees: a row, that the path is free, or an error
-pub data Seen : Type 0 where
-  Found : Row → Seen
-  Free : Seen
-  Bad : FsError → Seen
+pub data LookedUp : Type 0 where
+  Found : Row → LookedUp
+  Free : LookedUp
+  Bad : FsError → LookedUp
 
 -- the path isn't in the tree: q is its longest prefix that is, with the row here
-abbrev pub missing : Path → Path → Option Row → Seen
+abbrev pub missing : Path → Path → Option Row → LookedUp
 missing p q None = Bad NoEntry
 missing p q (Some row) = cond (is_directory row.attr.kind) (cond (same_path q (parent p)) Free (Bad NoEntry)) (Bad NotDirectory)
 
-abbrev pub seen : Tree → Path → Option Row → Seen
+abbrev pub seen : Tree → Path → Option Row → LookedUp
 seen t p (Some row) = Found row
 seen t p None = missing p (longest t p) (get t (longest t p))
 
-abbrev pub look : Tree → Path → Seen
+abbrev pub look : Tree → Path → LookedUp
 look t p = seen t p (get t p)
 
 -- the walk from the root on, name by name
-abbrev pub goes_on : Seen → Option Row → Seen
+abbrev pub goes_on : LookedUp → Option Row → LookedUp
 goes_on (Found row) (Some next) = cond (is_directory row.attr.kind) (Found next) (Bad NotDirectory)
 goes_on (Found row) None = cond (is_directory row.attr.kind) Free (Bad NotDirectory)
 goes_on Free next = Bad NoEntry
 goes_on (Bad e) next = Bad e
 
-abbrev pub start : Option Row → Seen
+abbrev pub start : Option Row → LookedUp
 start None = Bad NoEntry
 start (Some row) = Found row
 
-abbrev pub walk : Tree → Path → Seen
+abbrev pub walk : Tree → Path → LookedUp
 walk t [] = start (get t [])
 walk t (n ∷ p) = goes_on (walk t p) (get t (n ∷ p))

@@ -15,7 +15,7 @@ use Rattle.fs_model.specs.declared.reply.Reply.{Reply}
 use Rattle.fs_model.specs.declared.reply.Reply.TheVariants.{Done, Rows, Info, Target, Content, Error}
 use Rattle.fs_model.specs.Instant.{Instant}
 use Rattle.fs_model.specs.Tree.{Path, Tree, Row, upward, parent, last_name, is_root, same_path, is_directory, children, entry_size, directory_size}
-use Rattle.fs_model.specs.LookUp.{Seen, Found, Free, Bad, look}
+use Rattle.fs_model.specs.LookUp.{LookedUp, Found, Free, Bad, look}
 use Rattle.fs_model.specs.Move.{is_above, renamed}
 
 pub record Stepped : Type 0 where
@@ -47,13 +47,13 @@ unless_root t p s = cond (is_root p) (refused t Busy) s
 abbrev pub list_row : List ℕ × Row → ListRow
 list_row e = record { kind = e.1.attr.kind; name = e.0 }
 
-abbrev pub listed : Tree → Path → Seen → Stepped
+abbrev pub listed : Tree → Path → LookedUp → Stepped
 listed t p (Found row) = cond (is_directory row.attr.kind) (answered t (Rows (map list_row (entries (children t p))))) (refused t NotDirectory)
 listed t p Free = refused t NoEntry
 listed t p (Bad e) = refused t e
 
 -- Stat: the attributes and the number of bytes
-abbrev pub told : Tree → Seen → Stepped
+abbrev pub told : Tree → LookedUp → Stepped
 told t (Found row) = answered t (Info row.attr (length row.bytes))
 told t Free = refused t NoEntry
 told t (Bad e) = refused t e
@@ -65,7 +65,7 @@ new_row kind mode now bytes = record {
   bytes = bytes;
 }
 
-abbrev pub made : Tree → Path → Row → Seen → Stepped
+abbrev pub made : Tree → Path → Row → LookedUp → Stepped
 made t p row (Found old) = refused t Exists
 made t p row Free = cond (nat_lt MAX_ENTRIES (directory_size t (parent p) + entry_size (last_name p))) (refused t TooLarge) (done (insert t p row))
 made t p row (Bad e) = refused t e
@@ -74,19 +74,19 @@ made t p row (Bad e) = refused t e
 abbrev pub has_child : Tree → Path → Bool
 has_child t p = nat_lt 0 (len (children t p))
 
-abbrev pub removed_directory : Tree → Path → Seen → Stepped
+abbrev pub removed_directory : Tree → Path → LookedUp → Stepped
 removed_directory t p (Found row) = cond (is_directory row.attr.kind) (cond (has_child t p) (refused t NotEmpty) (done (remove t p))) (refused t NotDirectory)
 removed_directory t p Free = refused t NoEntry
 removed_directory t p (Bad e) = refused t e
 
 -- Rm: a file or a link goes
-abbrev pub removed_file : Tree → Path → Seen → Stepped
+abbrev pub removed_file : Tree → Path → LookedUp → Stepped
 removed_file t p (Found row) = cond (is_directory row.attr.kind) (refused t IsDirectory) (done (remove t p))
 removed_file t p Free = refused t NoEntry
 removed_file t p (Bad e) = refused t e
 
 -- Readlink: the target
-abbrev pub target_read : Tree → Seen → Stepped
+abbrev pub target_read : Tree → LookedUp → Stepped
 target_read t (Found row) = by_kind row.attr.kind (refused t NotLink) (refused t NotLink) (answered t (Target row.bytes))
 target_read t Free = refused t NoEntry
 target_read t (Bad e) = refused t e
@@ -96,7 +96,7 @@ abbrev pub on_file : Tree → Kind → Stepped → Stepped
 on_file t kind s = by_kind kind (refused t IsDirectory) s (refused t Invalid)
 
 -- Read: at most `count` bytes from `from`, cut at the end
-abbrev pub content_read : Tree → ℕ → ℕ → Seen → Stepped
+abbrev pub content_read : Tree → ℕ → ℕ → LookedUp → Stepped
 content_read t from count (Found row) = on_file t row.attr.kind (cond (nat_lt MAX_READ count) (refused t TooLarge) (answered t (Content (take count (drop from row.bytes)))))
 content_read t from count Free = refused t NoEntry
 content_read t from count (Bad e) = refused t e
@@ -121,7 +121,7 @@ abbrev pub with_content : Row → Instant → List ℕ → Row
 with_content row now bytes = record { attr = record row.attr { mtime = now; ctime = now }; bytes = bytes }
 
 -- Write: an empty write changes nothing
-abbrev pub written : Tree → Instant → Path → ℕ → List ℕ → Seen → Stepped
+abbrev pub written : Tree → Instant → Path → ℕ → List ℕ → LookedUp → Stepped
 written t now p from bytes (Found row) =
     on_file t row.attr.kind (cond (length bytes == 0) (done t)
     (cond (is_too_long (length row.bytes) (max (length row.bytes) (from + length bytes))) (refused t TooLarge)
@@ -130,7 +130,7 @@ written t now p from bytes Free = refused t NoEntry
 written t now p from bytes (Bad e) = refused t e
 
 -- Truncate
-abbrev pub truncated : Tree → Instant → Path → ℕ → Seen → Stepped
+abbrev pub truncated : Tree → Instant → Path → ℕ → LookedUp → Stepped
 truncated t now p n (Found row) =
     on_file t row.attr.kind (cond (is_too_long (length row.bytes) n) (refused t TooLarge)
     (done (insert t p (with_content row now (resized row.bytes n)))))
@@ -138,7 +138,7 @@ truncated t now p n Free = refused t NoEntry
 truncated t now p n (Bad e) = refused t e
 
 -- Chmod, Chown and Utime: the row with other attributes
-abbrev pub attributes_set : Tree → Path → (Attr → Attr) → Seen → Stepped
+abbrev pub attributes_set : Tree → Path → (Attr → Attr) → LookedUp → Stepped
 attributes_set t p change (Found row) = done (insert t p (record row { attr = change row.attr }))
 attributes_set t p change Free = refused t NoEntry
 attributes_set t p change (Bad e) = refused t e
@@ -169,13 +169,13 @@ moved_onto t q true false s = refused t NotDirectory
 moved_onto t q false true s = refused t IsDirectory
 moved_onto t q false false s = s
 
-abbrev pub moved_to : Tree → Instant → Path → Path → Row → Seen → Stepped
+abbrev pub moved_to : Tree → Instant → Path → Path → Row → LookedUp → Stepped
 moved_to t now p q row (Found old) =
     cond (same_path p q) (done t) (moved_onto t q (is_directory row.attr.kind) (is_directory old.attr.kind) (moved_unless_large t q (moved_tree t now p q row)))
 moved_to t now p q row Free = moved_unless_large t q (moved_tree t now p q row)
 moved_to t now p q row (Bad e) = refused t e
 
-abbrev pub moved_from : Tree → Instant → Path → Path → Seen → Stepped
+abbrev pub moved_from : Tree → Instant → Path → Path → LookedUp → Stepped
 moved_from t now p q (Found row) = cond (is_above p q) (refused t Invalid) (moved_to t now p q row (look t q))
 moved_from t now p q Free = refused t NoEntry
 moved_from t now p q (Bad e) = refused t e

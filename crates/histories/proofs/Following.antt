@@ -9,11 +9,11 @@ use Rattle.tree_commands.specs.Performing.{Showing}
 use Rattle.mount_core.specs.Standing.{IsKeptMarked}
 use Rattle.mount.specs.Representing.{Represents}
 use Rattle.mount.proofs.Reading.{loaded_unmarked}
-use Rattle.session_runs.specs.Runs.{Outside, StandsFor}
+use Rattle.session_runs.specs.Runs.{Outside, OutsideStandsFor}
 use Rattle.histories.specs.Histories.{Run, session, quiet, before_of, after_of, exchanges_of, IsRun, IsUnforgedRun, GoesOnFrom, AreRuns, end_of, was_violated, IsRefusedRun, RunsFrom, Follow, EndsWith}
 
 module _ (shows : Showing) (c : Settings) where
-  stands_on : (last next : Outside) (tree : Tree) → GoesOnFrom last next → StandsFor shows c tree last → StandsFor shows c tree next
+  stands_on : (last next : Outside) (tree : Tree) → GoesOnFrom last next → OutsideStandsFor shows c tree last → OutsideStandsFor shows c tree next
   stands_on last next tree on s = subst (λ x. Represents shows x next.calls c tree) (sym on.kept) (subst (λ x. Represents shows last.kept x c tree) (sym on.calls) s)
 
   marked_on : (last next : Outside) → GoesOnFrom last next → IsKeptMarked records last.kept → IsKeptMarked records next.kept
@@ -22,9 +22,9 @@ module _ (shows : Showing) (c : Settings) where
   -- what one more run does, and where it leaves all
   abbrev Turned : Tree → Bool → Run → Type 0
   Turned from was run = (tree : Tree) × (RunsFrom shows c from run tree ⊎ ((was ≡ true) × IsRefusedRun run))
-      × (StandsFor shows c tree (after_of run) ⊎ (((violated (exchanges_of run) || was) ≡ true) × IsKeptMarked records (after_of run).kept))
+      × (OutsideStandsFor shows c tree (after_of run) ⊎ (((violated (exchanges_of run) || was) ≡ true) × IsKeptMarked records (after_of run).kept))
 
-  serving : (run : Run) (from : Tree) (was : Bool) → IsRun shows run → IsUnforgedRun c run → StandsFor shows c from (before_of run) → Turned from was run
+  serving : (run : Run) (from : Tree) (was : Bool) → IsRun shows run → IsUnforgedRun c run → OutsideStandsFor shows c from (before_of run) → Turned from was run
   serving (session now password before after closing es) from was run u s =
       let a = run.founded c from (record { opens = record { stands = s; unforged_config = u.0 }; unforged = u.1 }) in
       elim a.kept as (λ _. Turned from was (session now password before after closing es)) [
@@ -48,7 +48,7 @@ module _ (shows : Showing) (c : Settings) where
   add : (first : Tree) (start : Outside) (run : Run) (runs : List Run) → (before : Composed first start runs) → Turned (latest first before.0) (was_violated runs) run → Composed first start (run ∷ runs)
   add first start run runs before t = (t.0 ∷ before.0, (t.1, before.1), t.2)
 
-  pub compose : (first : Tree) (start : Outside) (runs : List Run) → StandsFor shows c first start → AreRuns shows c start runs → Composed first start runs
+  pub compose : (first : Tree) (start : Outside) (runs : List Run) → OutsideStandsFor shows c first start → AreRuns shows c start runs → Composed first start runs
   compose first start [] s all = ([], tt, inl s)
   compose first start (run ∷ runs) s all =
       let before = compose first start runs s all.3 in

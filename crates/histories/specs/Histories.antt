@@ -19,7 +19,7 @@ use Rattle.mount_core.specs.Standing.{IsKeptMarked}
 use Rattle.mount.specs.Making.{Created}
 use Rattle.mount.specs.Unforged.{IsUnforgedConfig}
 use Rattle.session_runs.specs.Causes.{AreBuilt}
-use Rattle.session_runs.specs.Runs.{Outside, StandsFor, forgeries, lies, AreCalm, IsSessionRun, IsQuiet}
+use Rattle.session_runs.specs.Runs.{Outside, OutsideStandsFor, forgeries, lies, AreCalm, IsSessionRun, IsQuietRun}
 
 -- a run: the session of some exchanges at a moment, closed so, or one of no lines; each under a password, from the one moment outside to the other
 pub data Run : Type 0 where
@@ -40,7 +40,7 @@ exchanges_of (quiet password before after) = []
 
 abbrev pub IsRun : Showing → Run → Type 0
 IsRun shows (session now password before after closing es) = IsSessionRun shows now password before after (violated es) closing es
-IsRun shows (quiet password before after) = IsQuiet shows password before after
+IsRun shows (quiet password before after) = IsQuietRun shows password before after
 
 -- nothing that opens was forged from one moment to the other: no configuration under the password but this one, and no block's file
 abbrev pub IsUnforged : List ℕ → Settings → Outside → Outside → Type 0
@@ -83,14 +83,14 @@ was_violated (run ∷ runs) = violated (exchanges_of run) || was_violated runs
 pub record Serves (shows : Showing) (c : Settings) (from : Tree) (now : Instant) (before after : Outside) (es : List Exchange) (tree : Tree) : Type 0 where
   pub trees : List Tree
   pub replies : IsSession now from es trees
-  pub kept : ((violated es ≡ true) × IsKeptMarked records after.kept × (tree ≡ from)) ⊎ (IsKeptPoint from es trees tree × StandsFor shows c tree after)
+  pub kept : ((violated es ≡ true) × IsKeptMarked records after.kept × (tree ≡ from)) ⊎ (IsKeptPoint from es trees tree × OutsideStandsFor shows c tree after)
   pub no_false_alarm : lies after ≤ lies before → AreCalm es
   pub built : AreBuilt es
 
 -- what a run does from a kept tree on, and the tree that it leaves
 abbrev pub RunsFrom : Showing → Settings → Tree → Run → Tree → Type 0
 RunsFrom shows c from (session now password before after closing es) tree = Serves shows c from now before after es tree
-RunsFrom shows c from (quiet password before after) tree = (tree ≡ from) × StandsFor shows c tree after
+RunsFrom shows c from (quiet password before after) tree = (tree ≡ from) × OutsideStandsFor shows c tree after
 
 -- a marked record was kept: nothing is answered, kept or called
 pub record IsRefusedRun (run : Run) : Type 0 where
@@ -108,11 +108,11 @@ Follow shows c first (run ∷ runs) [] = ⊥
 
 -- at last the last tree is kept, or after a violation a marked record
 abbrev pub EndsWith : Showing → Settings → Tree → Outside → List Run → List Tree → Type 0
-EndsWith shows c first start runs trees = StandsFor shows c (latest first trees) (end_of start runs) ⊎ ((was_violated runs ≡ true) × IsKeptMarked records (end_of start runs).kept)
+EndsWith shows c first start runs trees = OutsideStandsFor shows c (latest first trees) (end_of start runs) ⊎ ((was_violated runs ≡ true) × IsKeptMarked records (end_of start runs).kept)
 
 -- Whatever the directory returned, lost or refused in any list of runs, the trees are there.
 abbrev pub RunsCompose : Showing → Type 0
-RunsCompose shows = (c : Settings) (first : Tree) (start : Outside) (runs : List Run) → StandsFor shows c first start → AreRuns shows c start runs
+RunsCompose shows = (c : Settings) (first : Tree) (start : Outside) (runs : List Run) → OutsideStandsFor shows c first start → AreRuns shows c start runs
     → (trees : List Tree) × Follow shows c first runs trees × EndsWith shows c first start runs trees
 
 -- the same from a file system that was made

@@ -5,12 +5,12 @@ use Rattle.std.specs.FinMap as fin
 use Rattle.std.specs.Option.{option_map_or}
 use Rattle.outside.specs.Trace.{Call, block}
 use Rattle.outside.specs.Honest.{last_change}
-use Rattle.local_state.specs.declared.mark.Mark.{Mark}
+use Rattle.local_state.specs.declared.life.Life.{Life}
 use Rattle.local_state.specs.Known.{raised_version, is_dead_in, version_if_live, is_last}
 use Rattle.sealed_store.specs.BlockFiles.{opens_file}
 use Rattle.store_api.specs.Content.{Id, Changes, or_else, over}
 use Rattle.store_api.specs.Holdings.{Changed, gives_payload, has_id}
-use Rattle.integrity_store.specs.Applied.{mark_after, WaitsAfter, Applied}
+use Rattle.integrity_store.specs.Applied.{life_after, WaitsAfter, Applied}
 use Rattle.integrity_store.specs.BlockRecords.{Record, record_of, opened, payload_of, payload_in}
 use Rattle.integrity_store.specs.Held.{Held, own, waiting, waiting_or, bytes_in, file_of, live_version, where_live, told_or_none, wanted}
 use Rattle.integrity_store.specs.Soundness.{IsPast, SoundAt, SoundBy}
@@ -21,26 +21,26 @@ use Rattle.integrity_store.specs.StoreLaws.{has-keys}
 
 -- ---- one id
 
-dead_version : (mark : Option Mark) → version_if_live (mark_after (Some None) mark) ≡ None
+dead_version : (life : Option Life) → version_if_live (life_after (Some None) life) ≡ None
 dead_version None = refl
-dead_version (Some mark) = refl
+dead_version (Some life) = refl
 
-stays_known : (said : Option (Option (List ℕ))) (mark : Option Mark) → is_some mark ≡ true → is_some (mark_after said mark) ≡ true
-stays_known None mark known = known
-stays_known (Some (Some payload)) mark known = refl
+stays_known : (said : Option (Option (List ℕ))) (life : Option Life) → is_some life ≡ true → is_some (life_after said life) ≡ true
+stays_known None life known = known
+stays_known (Some (Some payload)) life known = refl
 stays_known (Some None) None known = known
-stays_known (Some None) (Some mark) known = refl
+stays_known (Some None) (Some life) known = refl
 
--- what a past mark became
-pub record Later (said : Option (Option (List ℕ))) (old : Mark) : Type 0 where
-  pub mark : Mark
-  pub is : mark_after said (Some old) ≡ Some mark
-  pub version : old.version ≤ mark.version
+-- what a past life became
+pub record Later (said : Option (Option (List ℕ))) (old : Life) : Type 0 where
+  pub life : Life
+  pub is : life_after said (Some old) ≡ Some life
+  pub version : old.version ≤ life.version
 
-later : (said : Option (Option (List ℕ))) (old : Mark) → Later said old
-later None old = record { mark = old; is = refl; version = omega arith }
-later (Some (Some payload)) old = record { mark = record { version = old.version + 1; live = true }; is = refl; version = omega arith }
-later (Some None) old = record { mark = record { version = old.version; live = false }; is = refl; version = omega arith }
+later : (said : Option (Option (List ℕ))) (old : Life) → Later said old
+later None old = record { life = old; is = refl; version = omega arith }
+later (Some (Some payload)) old = record { life = record { version = old.version + 1; live = true }; is = refl; version = omega arith }
+later (Some None) old = record { life = record { version = old.version; live = false }; is = refl; version = omega arith }
 
 module _ (a b : Held) (old new : Option (List Call)) (changes : Changes) (x : Applied a b old new changes) where
   opened_same : (file : List ℕ) → opened b.opens b.size file ≡ opened a.opens a.size file
@@ -53,7 +53,7 @@ module _ (a b : Held) (old new : Option (List Call)) (changes : Changes) (x : Ap
   own_same id version payload = ap (λ (n : ℕ). record { id = id; client = n; version = version; payload = payload }) client_same
 
   abbrev marked : Option (Option (List ℕ)) → Id → Type 0
-  marked said id = fin.get b.state.marks id ≡ mark_after said (fin.get a.state.marks id)
+  marked said id = fin.get b.state.lives id ≡ life_after said (fin.get a.state.lives id)
 
   -- ---- the content
 
@@ -63,23 +63,23 @@ module _ (a b : Held) (old new : Option (List Call)) (changes : Changes) (x : Ap
   payload_same : (file : Option (List ℕ)) → payload_in b.opens b.size file ≡ payload_in a.opens a.size file
   payload_same file = ap (λ f. payload_in f b.size file) x.opens ∙ ap (λ n. payload_in a.opens n file) x.size
 
-  wanted_kept : (trace : Option (List Call)) (id : Id) → waiting b id ≡ waiting a id → fin.get b.state.marks id ≡ fin.get a.state.marks id → wanted b trace id ≡ wanted a trace id
-  wanted_kept trace id waits marks =
-      ap (λ m. where_live (version_if_live m) (payload_in b.opens b.size (file_of b (told_or_none trace) id))) marks
+  wanted_kept : (trace : Option (List Call)) (id : Id) → waiting b id ≡ waiting a id → fin.get b.state.lives id ≡ fin.get a.state.lives id → wanted b trace id ≡ wanted a trace id
+  wanted_kept trace id waits lives =
+      ap (λ m. where_live (version_if_live m) (payload_in b.opens b.size (file_of b (told_or_none trace) id))) lives
       ∙ ap (where_live (live_version a id)) (ap (payload_in b.opens b.size) (file_same id (told_or_none trace) waits) ∙ payload_same (file_of a (told_or_none trace) id))
 
   wanted_said : (trace : Option (List Call)) (id : Id) (said : Option (Option (List ℕ))) → WaitsAfter a b id said → marked said id → wanted b trace id ≡ or_else said (wanted a trace id)
-  wanted_said trace id None waits marks = wanted_kept trace id waits marks
-  wanted_said trace id (Some (Some payload)) waits marks =
-      ap (λ m. where_live (version_if_live m) (payload_in b.opens b.size (file_of b (told_or_none trace) id))) marks
+  wanted_said trace id None waits lives = wanted_kept trace id waits lives
+  wanted_said trace id (Some (Some payload)) waits lives =
+      ap (λ m. where_live (version_if_live m) (payload_in b.opens b.size (file_of b (told_or_none trace) id))) lives
       ∙ ap (λ w. Some (payload_in b.opens b.size (waiting_or w (bytes_in (last_change (block id) (told_or_none trace)))))) waits.1
       ∙ ap (λ r. Some (payload_of b.size r)) waits.2
-  wanted_said trace id (Some None) waits marks =
-      ap (λ m. where_live (version_if_live m) (payload_in b.opens b.size (file_of b (told_or_none trace) id))) marks
-      ∙ ap (λ v. where_live v (payload_in b.opens b.size (file_of b (told_or_none trace) id))) (dead_version (fin.get a.state.marks id))
+  wanted_said trace id (Some None) waits lives =
+      ap (λ m. where_live (version_if_live m) (payload_in b.opens b.size (file_of b (told_or_none trace) id))) lives
+      ∙ ap (λ v. where_live v (payload_in b.opens b.size (file_of b (told_or_none trace) id))) (dead_version (fin.get a.state.lives id))
 
   pub wanted_after : (trace : Option (List Call)) (id : Id) → wanted b trace id ≡ over changes (wanted a trace) id
-  wanted_after trace id = wanted_said trace id (fin.get changes id) (x.waits id) (x.marks id)
+  wanted_after trace id = wanted_said trace id (fin.get changes id) (x.waits id) (x.lives id)
 
   -- ---- soundness
 
@@ -87,51 +87,51 @@ module _ (a b : Held) (old new : Option (List Call)) (changes : Changes) (x : Ap
     waits_said : (id : Id) (version : ℕ) (change : Option (List ℕ)) (said : Option (Option (List ℕ))) → WaitsAfter a b id said → marked said id
         → live_version b id ≡ Some version → waiting b id ≡ Some change
         → (bytes payload : List ℕ) × (change ≡ Some bytes) × (opened b.opens b.size bytes ≡ Some (own b id version payload))
-    waits_said id version change None waits marks live there =
-        let w = s.waits id version change (ap version_if_live (sym marks) ∙ live) (sym waits ∙ there) in
+    waits_said id version change None waits lives live there =
+        let w = s.waits id version change (ap version_if_live (sym lives) ∙ live) (sym waits ∙ there) in
         (w.0, w.1, w.2, opened_same w.0 ∙ (w.3 ∙ ap Some (sym (own_same id version w.1))))
-    waits_said id version change (Some (Some payload)) waits marks live there =
-        let raised : Some (raised_version (fin.get a.state.marks id)) ≡ Some version = ap version_if_live (sym marks) ∙ live in
-        let same : raised_version (fin.get a.state.marks id) ≡ version = cc in
+    waits_said id version change (Some (Some payload)) waits lives live there =
+        let raised : Some (raised_version (fin.get a.state.lives id)) ≡ Some version = ap version_if_live (sym lives) ∙ live in
+        let same : raised_version (fin.get a.state.lives id) ≡ version = cc in
         let file : change ≡ Some waits.0 = cc (waits.1, there) in
         (waits.0, payload, file, waits.2 ∙ ap (λ v. Some (own b id v payload)) same)
-    waits_said id version change (Some None) waits marks live there =
-        let dead : None ≡ Some version = sym (dead_version (fin.get a.state.marks id)) ∙ (ap version_if_live (sym marks) ∙ live) in absurd (cc)
+    waits_said id version change (Some None) waits lives live there =
+        let dead : None ≡ Some version = sym (dead_version (fin.get a.state.lives id)) ∙ (ap version_if_live (sym lives) ∙ live) in absurd (cc)
 
     stands_said : (id : Id) (version : ℕ) (said : Option (Option (List ℕ))) → WaitsAfter a b id said → marked said id → live_version b id ≡ Some version → waiting b id ≡ None
         → (bytes payload : List ℕ) × (last_change (block id) trace ≡ Some (record { bytes = Some bytes; ok = true })) × (opened b.opens b.size bytes ≡ Some (own b id version payload))
-    stands_said id version None waits marks live none =
-        let w = s.stands id version (ap version_if_live (sym marks) ∙ live) (sym waits ∙ none) in
+    stands_said id version None waits lives live none =
+        let w = s.stands id version (ap version_if_live (sym lives) ∙ live) (sym waits ∙ none) in
         (w.0, w.1, w.2, opened_same w.0 ∙ (w.3 ∙ ap Some (sym (own_same id version w.1))))
-    stands_said id version (Some (Some payload)) waits marks live none = let there = waits.1 in absurd (cc)
-    stands_said id version (Some None) waits marks live none = absurd (cc)
+    stands_said id version (Some (Some payload)) waits lives live none = let there = waits.1 in absurd (cc)
+    stands_said id version (Some None) waits lives live none = absurd (cc)
 
-    buried_said : (id : Id) (said : Option (Option (List ℕ))) → WaitsAfter a b id said → marked said id → is_dead_in b.state.marks id ≡ true → waiting b id ≡ None
+    buried_said : (id : Id) (said : Option (Option (List ℕ))) → WaitsAfter a b id said → marked said id → is_dead_in b.state.lives id ≡ true → waiting b id ≡ None
         → last_change (block id) trace ≡ Some (record { bytes = None; ok = true })
-    buried_said id None waits marks dead none = s.buried id (ap (λ o. is_some o && not (option_map_or (λ m. m.live) o false)) (sym marks) ∙ dead) (sym waits ∙ none)
-    buried_said id (Some (Some payload)) waits marks dead none = let there = waits.1 in absurd (cc)
-    buried_said id (Some None) waits marks dead none = absurd (cc)
+    buried_said id None waits lives dead none = s.buried id (ap (λ o. is_some o && not (option_map_or (λ m. m.live) o false)) (sym lives) ∙ dead) (sym waits ∙ none)
+    buried_said id (Some (Some payload)) waits lives dead none = let there = waits.1 in absurd (cc)
+    buried_said id (Some None) waits lives dead none = absurd (cc)
 
     past_payload : (r : Record) (p : IsPast a trace r) (said : Option (Option (List ℕ))) → WaitsAfter a b r.id said → marked said r.id → live_version b r.id ≡ Some r.version
         → wanted b (Some trace) r.id ≡ Some r.payload
-    past_payload r p None waits marks live = wanted_kept (Some trace) r.id waits marks ∙ p.payload (ap version_if_live (sym marks) ∙ live)
-    past_payload r p (Some (Some payload)) waits marks live =
-        let raised : Some (raised_version (fin.get a.state.marks r.id)) ≡ Some r.version = ap version_if_live (sym marks) ∙ live in
-        let version : p.mark.version + 1 ≡ r.version = cc in
+    past_payload r p None waits lives live = wanted_kept (Some trace) r.id waits lives ∙ p.payload (ap version_if_live (sym lives) ∙ live)
+    past_payload r p (Some (Some payload)) waits lives live =
+        let raised : Some (raised_version (fin.get a.state.lives r.id)) ≡ Some r.version = ap version_if_live (sym lives) ∙ live in
+        let version : p.life.version + 1 ≡ r.version = cc in
         absurd (omega (arith, p.version))
-    past_payload r p (Some None) waits marks live =
-        let dead : None ≡ Some r.version = sym (dead_version (fin.get a.state.marks r.id)) ∙ (ap version_if_live (sym marks) ∙ live) in absurd (cc)
+    past_payload r p (Some None) waits lives live =
+        let dead : None ≡ Some r.version = sym (dead_version (fin.get a.state.lives r.id)) ∙ (ap version_if_live (sym lives) ∙ live) in absurd (cc)
 
     past_after : (r : Record) → IsPast a trace r → IsPast b trace r
     past_after r p =
         let said = fin.get changes r.id in
-        let l = later said p.mark in
+        let l = later said p.life in
         record {
-          mark = l.mark;
-          used = x.marks r.id ∙ (ap (mark_after said) p.used ∙ l.is);
+          life = l.life;
+          used = x.lives r.id ∙ (ap (life_after said) p.used ∙ l.is);
           client = p.client ∙ sym client_same;
           version = omega (arith, p.version, l.version);
-          payload = past_payload r p said (x.waits r.id) (x.marks r.id);
+          payload = past_payload r p said (x.waits r.id) (x.lives r.id);
         }
 
     past_put : (bytes plain : List ℕ) → was_put bytes trace ≡ true → opens_file b.opens b.size bytes ≡ Some plain → (r : Record) × (record_of b.size plain ≡ Some r) × IsPast b trace r
@@ -142,10 +142,10 @@ module _ (a b : Held) (old new : Option (List Call)) (changes : Changes) (x : Ap
 
     sound_at : SoundAt b trace
     sound_at = record {
-      waits = λ id version change live there. waits_said id version change (fin.get changes id) (x.waits id) (x.marks id) live there;
-      stands = λ id version live none. stands_said id version (fin.get changes id) (x.waits id) (x.marks id) live none;
-      buried = λ id dead none. buried_said id (fin.get changes id) (x.waits id) (x.marks id) dead none;
-      used = λ id changed. ap is_some (x.marks id) ∙ stays_known (fin.get changes id) (fin.get a.state.marks id) (s.used id changed);
+      waits = λ id version change live there. waits_said id version change (fin.get changes id) (x.waits id) (x.lives id) live there;
+      stands = λ id version live none. stands_said id version (fin.get changes id) (x.waits id) (x.lives id) live none;
+      buried = λ id dead none. buried_said id (fin.get changes id) (x.waits id) (x.lives id) dead none;
+      used = λ id changed. ap is_some (x.lives id) ∙ stays_known (fin.get changes id) (fin.get a.state.lives id) (s.used id changed);
       past = past_put;
     }
 
@@ -158,30 +158,30 @@ module _ (a b : Held) (old new : Option (List Call)) (changes : Changes) (x : Ap
 
 -- ---- the store after a batch
 
-new_or_known : (said : Option (Option (List ℕ))) (mark : Option Mark) → is_some (mark_after said mark) ≡ true → (is_some mark ≡ true) ⊎ (is_some said ≡ true)
-new_or_known None mark known = inl known
-new_or_known (Some change) mark known = inr refl
+new_or_known : (said : Option (Option (List ℕ))) (life : Option Life) → is_some (life_after said life) ≡ true → (is_some life ≡ true) ⊎ (is_some said ≡ true)
+new_or_known None life known = inl known
+new_or_known (Some change) life known = inr refl
 
-rises_or_rests : (said : Option (Option (List ℕ))) (mark : Option Mark) → (version_in mark ≤ version_in (mark_after said mark)) × (version_in (mark_after said mark) ≤ version_in mark + 1)
-rises_or_rests None mark = (omega arith, omega arith)
+rises_or_rests : (said : Option (Option (List ℕ))) (life : Option Life) → (version_in life ≤ version_in (life_after said life)) × (version_in (life_after said life) ≤ version_in life + 1)
+rises_or_rests None life = (omega arith, omega arith)
 rises_or_rests (Some (Some payload)) None = (omega arith, omega arith)
-rises_or_rests (Some (Some payload)) (Some mark) = (omega arith, omega arith)
+rises_or_rests (Some (Some payload)) (Some life) = (omega arith, omega arith)
 rises_or_rests (Some None) None = (omega arith, omega arith)
-rises_or_rests (Some None) (Some mark) = (omega arith, omega arith)
+rises_or_rests (Some None) (Some life) = (omega arith, omega arith)
 
-version_rests : (said : Option (Option (List ℕ))) (mark : Option Mark) → gives_payload said ≡ false → version_in (mark_after said mark) ≡ version_in mark
-version_rests None mark e = refl
-version_rests (Some (Some payload)) mark e = absurd (cc)
+version_rests : (said : Option (Option (List ℕ))) (life : Option Life) → gives_payload said ≡ false → version_in (life_after said life) ≡ version_in life
+version_rests None life e = refl
+version_rests (Some (Some payload)) life e = absurd (cc)
 version_rests (Some None) None e = refl
-version_rests (Some None) (Some mark) e = refl
+version_rests (Some None) (Some life) e = refl
 
 module _ {S : Type 0} (held : S → Held) (trace : S → Option (List Call)) (faults : S → ℕ) (own_ : S → Type 0) (a b : S) (changes : Changes)
     (x : Applied (held a) (held b) (trace a) (trace b) changes) (whole : IsWhole (held b)) where
   content_is : (id : Id) → wanted (held b) (trace b) id ≡ over changes (wanted (held a) (trace a)) id
   content_is id = ap (λ t. wanted (held b) t id) x.trace ∙ wanted_after (held a) (held b) (trace a) (trace b) changes x (trace a) id
 
-  used_said : (id : Id) → has_id (fin.keys (held b).state.marks) id ≡ true → (has_id (fin.keys (held a).state.marks) id ≡ true) ⊎ (is_some (fin.get changes id) ≡ true)
-  used_said id used = elim (new_or_known (fin.get changes id) (fin.get (held a).state.marks id) (ap is_some (sym (x.marks id)) ∙ (sym (has-keys (held b) id) ∙ used))) [
+  used_said : (id : Id) → has_id (fin.keys (held b).state.lives) id ≡ true → (has_id (fin.keys (held a).state.lives) id ≡ true) ⊎ (is_some (fin.get changes id) ≡ true)
+  used_said id used = elim (new_or_known (fin.get changes id) (fin.get (held a).state.lives id) (ap is_some (sym (x.lives id)) ∙ (sym (has-keys (held b) id) ∙ used))) [
     | inl known ↦ inl (has-keys (held a) id ∙ known)
     | inr said ↦ inr said
   ]
@@ -193,12 +193,12 @@ module _ {S : Type 0} (held : S → Held) (trace : S → Option (List Call)) (fa
     told = ap is_some x.trace;
     used = used_said;
     stays_used = λ id used.
-        has-keys (held b) id ∙ (ap is_some (x.marks id) ∙ stays_known (fin.get changes id) (fin.get (held a).state.marks id) (sym (has-keys (held a) id) ∙ used));
+        has-keys (held b) id ∙ (ap is_some (x.lives id) ∙ stays_known (fin.get changes id) (fin.get (held a).state.lives id) (sym (has-keys (held a) id) ∙ used));
     few = λ few. few_used (held b).state (held b).list whole.has_record;
-    spent = λ id none. ap is_last (x.marks id ∙ ap (λ o. mark_after o (fin.get (held a).state.marks id)) none);
-    kept = λ id. subst (λ o. version_in (fin.get (held a).state.marks id) ≤ version_in o) (sym (x.marks id)) (rises_or_rests (fin.get changes id) (fin.get (held a).state.marks id)).0;
-    raised = λ id. subst (λ o. version_in o ≤ version_in (fin.get (held a).state.marks id) + 1) (sym (x.marks id)) (rises_or_rests (fin.get changes id) (fin.get (held a).state.marks id)).1;
-    rests = λ id none. ap version_in (x.marks id) ∙ version_rests (fin.get changes id) (fin.get (held a).state.marks id) none;
+    spent = λ id none. ap is_last (x.lives id ∙ ap (λ o. life_after o (fin.get (held a).state.lives id)) none);
+    kept = λ id. subst (λ o. version_in (fin.get (held a).state.lives id) ≤ version_in o) (sym (x.lives id)) (rises_or_rests (fin.get changes id) (fin.get (held a).state.lives id)).0;
+    raised = λ id. subst (λ o. version_in o ≤ version_in (fin.get (held a).state.lives id) + 1) (sym (x.lives id)) (rises_or_rests (fin.get changes id) (fin.get (held a).state.lives id)).1;
+    rests = λ id none. ap version_in (x.lives id) ∙ version_rests (fin.get changes id) (fin.get (held a).state.lives id) none;
     payload = ap (λ n. n - 78) x.size;
     sound = sound_after (held a) (held b) (trace a) (trace b) changes x;
   }

@@ -8,70 +8,70 @@ use Rattle.rand_core.specs.Stream.{Stream}
 use Rattle.outside.specs.Trace.{Call}
 use Rattle.outside.specs.Names.{at_cmp}
 use Rattle.outside.specs.Changes.{IsIncreasing}
-use Rattle.local_state.specs.Known.{Marks, FitMarks}
+use Rattle.local_state.specs.Known.{Lives, FitLives}
 use Rattle.store_api.specs.Content.{Id, id_cmp, Changes}
-use Rattle.store_api.specs.Holdings.{Fits, Changed, IsSpent}
+use Rattle.store_api.specs.Holdings.{FitsStore, Changed, IsSpent}
 use Rattle.integrity_store.specs.Applied.{Applied}
 use Rattle.integrity_store.specs.Draws.{AreDrawn}
 use Rattle.integrity_store.specs.Held.{Held}
-use Rattle.integrity_store.specs.Marking.{Entry, MayMarkEach, mark_each, some_spent_in, count_new_in, count_new_each}
+use Rattle.integrity_store.specs.Raising.{BatchEntry, MayComeEach, lives_after_each, some_spent_in, count_new_in, count_new_each}
 use Rattle.integrity_store.specs.Sealing.{IsListed}
 use Rattle.integrity_store.specs.Stores.{IsWhole, meanings_by, holdings_by}
-use Rattle.integrity_store.proofs.Applying.{Made, made_of, may_mark, may_mark_batch, applied, drawn_batch}
-use Rattle.integrity_store.proofs.Marks.{count_before, spent_found, found_spent}
+use Rattle.integrity_store.proofs.Applying.{Made, made_of, may_come, may_come_batch, applied, drawn_batch}
+use Rattle.integrity_store.proofs.Lives.{count_before, spent_found, found_spent}
 use Rattle.integrity_store.proofs.BatchSoundness.{changed}
 use Rattle.integrity_store.proofs.Waiting.{test_of}
 use Rattle.integrity_store.proofs.Wholeness.{whole_after}
 
-batch_rises : (changes : Changes) (es : List Entry) → es ≡ fin.entries changes → T (is_sorted id_cmp es)
+batch_rises : (changes : Changes) (es : List BatchEntry) → es ≡ fin.entries changes → T (is_sorted id_cmp es)
 batch_rises changes es are = subst (λ xs. T (is_sorted id_cmp xs)) (sym are) (entries_sorted changes)
 
-found_in : (changes : Changes) (es : List Entry) → es ≡ fin.entries changes → (id : Id) → find id_cmp id es ≡ fin.get changes id
+found_in : (changes : Changes) (es : List BatchEntry) → es ≡ fin.entries changes → (id : Id) → find id_cmp id es ≡ fin.get changes id
 found_in changes es are id = ap (find id_cmp id) are ∙ sym (get-entries changes id)
 
 -- ---- before it
 
-module _ {S : Type 0} (held : S → Held) (trace : S → Option (List Call)) (a : S) (changes : Changes) (es : List Entry) (are : es ≡ fin.entries changes) where
-  pub is_spent : some_spent_in (held a).state.marks es ≡ true → IsSpent (holdings_by held trace) a changes
+module _ {S : Type 0} (held : S → Held) (trace : S → Option (List Call)) (a : S) (changes : Changes) (es : List BatchEntry) (are : es ≡ fin.entries changes) where
+  pub is_spent : some_spent_in (held a).state.lives es ≡ true → IsSpent (holdings_by held trace) a changes
   is_spent some =
-      let s = spent_found es (held a).state.marks (batch_rises changes es are) some in
+      let s = spent_found es (held a).state.lives (batch_rises changes es are) some in
       (s.id, s.payload, sym (found_in changes es are s.id) ∙ s.gets, s.last)
 
-  pub isnt_spent : some_spent_in (held a).state.marks es ≡ false → IsSpent (holdings_by held trace) a changes → ⊥
-  isnt_spent none s = let some : some_spent_in (held a).state.marks es ≡ true = found_spent es (held a).state.marks s.0 s.1 (found_in changes es are s.0 ∙ s.2) s.3 in cc
+  pub isnt_spent : some_spent_in (held a).state.lives es ≡ false → IsSpent (holdings_by held trace) a changes → ⊥
+  isnt_spent none s = let some : some_spent_in (held a).state.lives es ≡ true = found_spent es (held a).state.lives s.0 s.1 (found_in changes es are s.0 ∙ s.2) s.3 in cc
 
 -- ---- once all is listed
 
 -- the files of a batch that fits are listed
-pub record Listed {S : Type 0} (held : S → Held) (trace : S → Option (List Call)) (a : S) (m : Held) (changes : Changes) (es : List Entry) (stream left : Stream) : Type 0 where
+pub record Listed {S : Type 0} (held : S → Held) (trace : S → Option (List Call)) (a : S) (m : Held) (changes : Changes) (es : List BatchEntry) (stream left : Stream) : Type 0 where
   pub are : es ≡ fin.entries changes
   pub whole : IsWhole (held a)
-  pub fits : Fits (holdings_by held trace) a changes
-  pub none_spent : some_spent_in (held a).state.marks es ≡ false
+  pub fits : FitsStore (holdings_by held trace) a changes
+  pub none_spent : some_spent_in (held a).state.lives es ≡ false
   pub lists : IsListed (held a) m es stream left
 
-module _ {S : Type 0} {held : S → Held} {trace : S → Option (List Call)} {a : S} {m : Held} {changes : Changes} {es : List Entry} {stream left : Stream} (l : Listed held trace a m changes es stream left) where
-  pub may_mark_listed : MayMarkEach m.state.marks es
-  may_mark_listed = subst (λ h. MayMarkEach h.state.marks es) (sym l.lists.held) (may_mark_batch held trace a changes es l.are l.whole l.fits l.none_spent)
+module _ {S : Type 0} {held : S → Held} {trace : S → Option (List Call)} {a : S} {m : Held} {changes : Changes} {es : List BatchEntry} {stream left : Stream} (l : Listed held trace a m changes es stream left) where
+  pub may_come_listed : MayComeEach m.state.lives es
+  may_come_listed = subst (λ h. MayComeEach h.state.lives es) (sym l.lists.held) (may_come_batch held trace a changes es l.are l.whole l.fits l.none_spent)
 
-  pub room : (spare : ℕ) → count_new_in m.state.marks es ≤ spare → count_new_each m.state.marks es ≤ spare
-  room spare fits = subst (λ n. n ≤ spare) (sym (count_before es m.state.marks (batch_rises changes es l.are))) fits
+  pub room : (spare : ℕ) → count_new_in m.state.lives es ≤ spare → count_new_each m.state.lives es ≤ spare
+  room spare fits = subst (λ n. n ≤ spare) (sym (count_before es m.state.lives (batch_rises changes es l.are))) fits
 
 -- ---- once all is marked
 
 -- the ids of a batch that is listed are raised or buried, and nothing else is done; the ids that are used and what waits were counted
-pub record Marked {S : Type 0} (held : S → Held) (trace : S → Option (List Call)) (a b : S) (m : Held) (changes : Changes) (es : List Entry) (stream left : Stream) : Type 0 where
+pub record Marked {S : Type 0} (held : S → Held) (trace : S → Option (List Call)) (a b : S) (m : Held) (changes : Changes) (es : List BatchEntry) (stream left : Stream) : Type 0 where
   pub listed : Listed held trace a m changes es stream left
-  pub known : Marks
-  pub marked : known ≡ mark_each m.state.marks es
-  pub held_is : held b ≡ record m { state = record m.state { marks = known } }
+  pub known : Lives
+  pub marked : known ≡ lives_after_each m.state.lives es
+  pub held_is : held b ≡ record m { state = record m.state { lives = known } }
   pub trace_is : trace b ≡ trace a
-  pub fit : FitMarks known
+  pub fit : FitLives known
   pub few : fin.len known < 2 ^ 64
   pub rises : IsIncreasing m.list
   pub count : length m.list < 2 ^ 64
 
-module _ {S : Type 0} {held : S → Held} {trace : S → Option (List Call)} {a b : S} {m : Held} {changes : Changes} {es : List Entry} {stream left : Stream} (k : Marked held trace a b m changes es stream left) where
+module _ {S : Type 0} {held : S → Held} {trace : S → Option (List Call)} {a b : S} {m : Held} {changes : Changes} {es : List BatchEntry} {stream left : Stream} (k : Marked held trace a b m changes es stream left) where
   abbrev l : Listed held trace a m changes es stream left
   l = k.listed
 
@@ -87,8 +87,8 @@ module _ {S : Type 0} {held : S → Held} {trace : S → Option (List Call)} {a 
   pub whole_batch : IsWhole (held b)
   whole_batch =
       whole_after (held a) (held b) (trace a) (trace b) changes applied_batch l.whole
-      (λ id change said. may_mark held trace a changes es l.are l.whole l.fits l.none_spent id change (found_in changes es l.are id ∙ said))
-      (subst (λ h. FitMarks h.state.marks) (sym k.held_is) k.fit) (subst (λ h. fin.len h.state.marks < 2 ^ 64) (sym k.held_is) k.few)
+      (λ id change said. may_come held trace a changes es l.are l.whole l.fits l.none_spent id change (found_in changes es l.are id ∙ said))
+      (subst (λ h. FitLives h.state.lives) (sym k.held_is) k.fit) (subst (λ h. fin.len h.state.lives < 2 ^ 64) (sym k.held_is) k.few)
       (subst (λ h. T (is_sorted at_cmp h.list)) (sym k.held_is) (test_of (is_sorted at_cmp m.list) k.rises)) (subst (λ h. length h.list < 2 ^ 64) (sym k.held_is) k.count)
 
   pub changed_batch : (faults : S → ℕ) (own : S → Type 0) → Changed (meanings_by held trace faults own) (holdings_by held trace) a b changes

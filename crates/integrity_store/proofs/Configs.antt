@@ -8,9 +8,9 @@ use Rattle.std.specs.declared.option.Option.{Option}
 use Rattle.std.specs.declared.option.Option.TheVariants.{None, Some}
 use Rattle.block_id.specs.declared.fail.Memory.{Memory}
 use Rattle.outside.specs.Trace.{config, block, Call}
-use Rattle.outside.specs.Changes.{Changes, change_at, set_change, set_changes}
+use Rattle.outside.specs.Changes.{FileChanges, change_at, set_change, set_changes}
 use Rattle.outside.specs.ChangeLaws.{change_at-set_change}
-use Rattle.local_state.specs.Known.{Marks, is_last}
+use Rattle.local_state.specs.Known.{Lives, is_last}
 use Rattle.local_state.specs.Record.{PlainState, FitsEntry, Rise, record_bytes, HasRecord}
 use Rattle.store_api.specs.Content.{SameContent}
 use Rattle.store_api.specs.Holdings.{Stays}
@@ -27,16 +27,16 @@ use Rattle.integrity_store.proofs.OneWrite.{with_list}
 -- ---- what is held of blocks
 
 -- both lists say the same of blocks
-abbrev pub SameBlocks : Changes → Changes → Type 0
+abbrev pub SameBlocks : FileChanges → FileChanges → Type 0
 SameBlocks old new = (id : List ℕ) → change_at (block id) new ≡ change_at (block id) old
 
-module _ (h : Held) (list : Changes) (same : SameBlocks h.list list) where
+module _ (h : Held) (list : FileChanges) (same : SameBlocks h.list list) where
   pub wanted_same : (trace : Option (List Call)) → SameContent (wanted h trace) (wanted (with_list h list) trace)
   wanted_same trace id =
       ap (λ w. where_live (live_version h id) (payload_in h.opens h.size (waiting_or w (bytes_in (last_change (block id) (told_or_none trace)))))) (same id)
 
   past_same : (trace : List Call) (r : Record) → IsPast h trace r → IsPast (with_list h list) trace r
-  past_same trace r p = record { mark = p.mark; used = p.used; client = p.client; version = p.version; payload = λ live. wanted_same (Some trace) r.id ∙ p.payload live }
+  past_same trace r p = record { life = p.life; used = p.used; client = p.client; version = p.version; payload = λ live. wanted_same (Some trace) r.id ∙ p.payload live }
 
   pub sound_same : (trace : Option (List Call)) → SoundBy h trace → SoundBy (with_list h list) trace
   sound_same None s = s
@@ -50,36 +50,36 @@ module _ (h : Held) (list : Changes) (same : SameBlocks h.list list) where
 
 -- ---- a list that has a record
 
-set_each : (marks : Marks) (bytes : List ℕ) (list : Changes) → length bytes < 2 ^ 32 → AllByRecursion (FitsEntry marks) list → AllByRecursion (FitsEntry marks) (set_change config (Some bytes) list)
-set_each marks bytes [] short fits = (record { name = tt; bytes = short; change = refl }, tt)
-set_each marks bytes ((config, change) ∷ list) short fits = (record { name = tt; bytes = short; change = refl }, fits.1)
-set_each marks bytes ((block id, change) ∷ list) short fits = (record { name = tt; bytes = short; change = refl }, fits)
+set_each : (lives : Lives) (bytes : List ℕ) (list : FileChanges) → length bytes < 2 ^ 32 → AllByRecursion (FitsEntry lives) list → AllByRecursion (FitsEntry lives) (set_change config (Some bytes) list)
+set_each lives bytes [] short fits = (record { name = tt; bytes = short; change = refl }, tt)
+set_each lives bytes ((config, change) ∷ list) short fits = (record { name = tt; bytes = short; change = refl }, fits.1)
+set_each lives bytes ((block id, change) ∷ list) short fits = (record { name = tt; bytes = short; change = refl }, fits)
 
-set_rises : (bytes : List ℕ) (list : Changes) → Rise None list → Rise None (set_change config (Some bytes) list)
+set_rises : (bytes : List ℕ) (list : FileChanges) → Rise None list → Rise None (set_change config (Some bytes) list)
 set_rises bytes [] rises = (refl, tt)
 set_rises bytes ((config, change) ∷ list) rises = (refl, rises.1)
 set_rises bytes ((block id, change) ∷ list) rises = (refl, (refl, rises.1))
 
-set_has : (state : PlainState) (bytes : List ℕ) (list : Changes) → length bytes < 2 ^ 32 → length (set_change config (Some bytes) list) < 2 ^ 64 → HasRecord state list
+set_has : (state : PlainState) (bytes : List ℕ) (list : FileChanges) → length bytes < 2 ^ 32 → length (set_change config (Some bytes) list) < 2 ^ 64 → HasRecord state list
     → HasRecord state (set_change config (Some bytes) list)
 set_has state bytes list short few has = record {
   state = has.state;
-  entries = record { each = set_each state.marks bytes list short has.entries.each; order = set_rises bytes list has.entries.order; count = few };
+  entries = record { each = set_each state.lives bytes list short has.entries.each; order = set_rises bytes list has.entries.order; count = few };
 }
 
 -- ---- the whole call
 
 -- the list is as it was, or has these bytes for the configuration
-pub record Configured (bytes : List ℕ) (old new : Changes) : Type 0 where
+pub record Configured (bytes : List ℕ) (old new : FileChanges) : Type 0 where
   pub list : (new ≡ set_change config (Some bytes) old) ⊎ (new ≡ old)
   pub few : length new < 2 ^ 64
 
-pub configured : (r : Result Unit Memory) (bytes : List ℕ) (changes old new : Changes) → OnOk r (new ≡ set_changes changes old) → OnErr r (new ≡ old) → changes ≡ (config, Some bytes) ∷ [] → length new < 2 ^ 64
+pub configured : (r : Result Unit Memory) (bytes : List ℕ) (changes old new : FileChanges) → OnOk r (new ≡ set_changes changes old) → OnErr r (new ≡ old) → changes ≡ (config, Some bytes) ∷ [] → length new < 2 ^ 64
     → Configured bytes old new
 configured (Ok _) bytes changes old new set same are few = record { list = inl (set ∙ ap (λ c. set_changes c old) are); few = few }
 configured (Err _) bytes changes old new set same are few = record { list = inr same; few = few }
 
-module _ (h : Held) (bytes : List ℕ) (new : Changes) (c : Configured bytes h.list new) where
+module _ (h : Held) (bytes : List ℕ) (new : FileChanges) (c : Configured bytes h.list new) where
   blocks_same : SameBlocks h.list new
   blocks_same id = elim c.list [
     | inl is ↦ ap (change_at (block id)) is ∙ change_at-set_change (block id) config (Some bytes) h.list
@@ -100,7 +100,7 @@ module _ (h : Held) (bytes : List ℕ) (new : Changes) (c : Configured bytes h.l
   pub configured_sound : (old now : Option (List Call)) → now ≡ old → SoundBy h old → SoundBy (with_list h new) now
   configured_sound old now same sound = subst (SoundBy (with_list h new)) (sym same) (sound_same h new blocks_same old sound)
 
-pub configured_stays : {S : Type 0} (held : S → Held) (trace : S → Option (List Call)) (a b : S) (bytes : List ℕ) (new : Changes) → Configured bytes (held a).list new
+pub configured_stays : {S : Type 0} (held : S → Held) (trace : S → Option (List Call)) (a b : S) (bytes : List ℕ) (new : FileChanges) → Configured bytes (held a).list new
     → held b ≡ with_list (held a) new → trace b ≡ trace a → Stays (holdings_by held trace) a b
 configured_stays held trace a b bytes new c is same =
     let content : SameContent (wanted (held a) (trace a)) (wanted (held b) (trace b)) = λ id.
@@ -109,14 +109,14 @@ configured_stays held trace a b bytes new c is same =
       ids = λ id. ap is_some (content id);
       content = λ told. content;
       told = ap is_some same;
-      used = ap (λ h. fin.keys h.state.marks) is;
-      spent = λ id. ap (λ h. is_last (fin.get h.state.marks id)) is;
-      version = λ id. ap (λ h. version_in (fin.get h.state.marks id)) is;
+      used = ap (λ h. fin.keys h.state.lives) is;
+      spent = λ id. ap (λ h. is_last (fin.get h.state.lives id)) is;
+      version = λ id. ap (λ h. version_in (fin.get h.state.lives id)) is;
       payload = ap (λ h. h.size - 78) is;
     }
 
 -- what is kept after an ok says that these are the configuration's bytes
-pub set_configures : (r : Result Unit Memory) (h : Held) (trace : Option (List Call)) (bytes : List ℕ) (changes new : Changes) → OnOk r (new ≡ set_changes changes h.list)
+pub set_configures : (r : Result Unit Memory) (h : Held) (trace : Option (List Call)) (bytes : List ℕ) (changes new : FileChanges) → OnOk r (new ≡ set_changes changes h.list)
     → changes ≡ (config, Some bytes) ∷ [] → IsWhole (with_list h new) → OnOk r (Configures (record_bytes h.state new) trace bytes)
 set_configures (Ok _) h trace bytes changes new set are whole =
     let is : new ≡ set_change config (Some bytes) h.list = set ∙ ap (λ c. set_changes c h.list) are in

@@ -14,13 +14,13 @@ use Rattle.outside.specs.Changes.{cut}
 use Rattle.outside.specs.Honest.{count_calls, count_told}
 use Rattle.outcome.specs.Meanings.{OnVerdict, IsOfBlocks}
 use Rattle.redo_vault.specs.Redo.{Gave}
-use Rattle.sealed_store.specs.BlockFiles.{opens_file, sight_in}
+use Rattle.sealed_store.specs.BlockFiles.{opens_file, seen_file_in}
 use Rattle.integrity_store.specs.BlockRecords.{Record, opened}
 use Rattle.integrity_store.specs.Forgeries.{forged, was_put}
 use Rattle.integrity_store.specs.Held.{Held, live_version, own, waiting, wanted}
-use Rattle.integrity_store.specs.Loads.{Answers, Came, Fetched, Loads}
+use Rattle.integrity_store.specs.Loads.{LoadAnswers, Came, Fetched, Loads}
 use Rattle.integrity_store.specs.ReadLaws.{went_same}
-use Rattle.integrity_store.specs.Reads.{FoundSince, Went}
+use Rattle.integrity_store.specs.Reads.{FoundSince, WentOnByReads}
 use Rattle.integrity_store.specs.RecordLaws.{cut_whole, opened-plain, record_same}
 use Rattle.integrity_store.specs.Soundness.{IsPast, SoundAt, SoundBy}
 use Rattle.integrity_store.specs.Verdicts.{bad, good, verdict}
@@ -29,7 +29,7 @@ use Rattle.integrity_store.proofs.Judging.{came_len, good_opens, judged_structur
 -- ---- the trace
 
 went_one : (h : Held) (old new : Option (List Call)) (id : List ℕ) (version : ℕ) (file : Option (List ℕ)) → live_version h id ≡ Some version → waiting h id ≡ None
-    → new ≡ adds old (got (block id) (h.size + 1) file) → Went h old new
+    → new ≡ adds old (got (block id) (h.size + 1) file) → WentOnByReads h old new
 went_one h None new id version file live written is = is
 went_one h (Some t) new id version file live written is = (
   got (block id) (h.size + 1) file ∷ [],
@@ -38,19 +38,19 @@ went_one h (Some t) new id version file live written is = (
 )
 
 came_went : (h : Held) (old new : Option (List Call)) (id : List ℕ) (version : ℕ) (file : Option (List ℕ)) → live_version h id ≡ Some version
-    → Came h old new id file → Went h old new
+    → Came h old new id file → WentOnByReads h old new
 came_went h old new id version file live came =
-    elim (waiting h id) as (λ w. waiting h id ≡ w → Gave w old new (block id) (h.size + 1) file → Went h old new) [
-      | Some change ↦ λ e f. subst (Went h old) (sym f.0) (went_same h old)
+    elim (waiting h id) as (λ w. waiting h id ≡ w → Gave w old new (block id) (h.size + 1) file → WentOnByReads h old new) [
+      | Some change ↦ λ e f. subst (WentOnByReads h old) (sym f.0) (went_same h old)
       | None ↦ λ e f. went_one h old new id version file live e f
     ] refl came
 
 pub fetched_went : (h : Held) (old new : Option (List Call)) (id : List ℕ) (version : ℕ) (r : Result (List ℕ) Fail) → live_version h id ≡ Some version
-    → Fetched h old new id version r → Went h old new
+    → Fetched h old new id version r → WentOnByReads h old new
 fetched_went h old new id version (Ok payload) live f = came_went h old new id version f.0 live f.1
-fetched_went h old new id version (Err Memory) live (inl same) = subst (Went h old) (sym same) (went_same h old)
+fetched_went h old new id version (Err Memory) live (inl same) = subst (WentOnByReads h old) (sym same) (went_same h old)
 fetched_went h old new id version (Err Memory) live (inr f) = came_went h old new id version f.0 live f.1
-fetched_went h old new id version (Err Fault) live f = subst (Went h old) (sym f) (went_same h old)
+fetched_went h old new id version (Err Fault) live f = subst (WentOnByReads h old) (sym f) (went_same h old)
 fetched_went h old new id version (Err (Violation why)) live f = came_went h old new id version f.0 live f.1
 
 -- ---- values
@@ -157,7 +157,7 @@ pub fetched_of_blocks : (h : Held) (old new : Option (List Call)) (id : List ℕ
 fetched_of_blocks h old new id version Memory f = tt
 fetched_of_blocks h old new id version Fault f = tt
 fetched_of_blocks h old new id version (Violation why) f =
-    of_blocks why (λ e. judged_structure h.size id h.state.client version (sight_in h.opens h.size f.0) (f.2 ∙ ap bad e))
+    of_blocks why (λ e. judged_structure h.size id h.state.client version (seen_file_in h.opens h.size f.0) (f.2 ∙ ap bad e))
 
 pub fetched_value : (h : Held) (old new : Option (List Call)) (id : List ℕ) (version : ℕ) (payload : List ℕ) → live_version h id ≡ Some version
     → Fetched h old new id version (Ok payload) → SoundBy h old → count_told (forged h.opens h.size) new ≤ count_told (forged h.opens h.size) old
@@ -171,12 +171,12 @@ fetched_len h old new id version payload f = came_len h.opens h.size id h.state.
 -- ---- loads
 
 pub loads_none : (h : Held) (old : Option (List Call)) (id : List ℕ) → live_version h id ≡ None → Loads h h old old id (Ok None)
-loads_none h old id live = record { held = refl; judged = subst (λ v. Answers h old old id v (Ok None)) (sym live) refl }
+loads_none h old id live = record { held = refl; judged = subst (λ v. LoadAnswers h old old id v (Ok None)) (sym live) refl }
 
 pub loads_ok : (a b : Held) (old new : Option (List Call)) (id : List ℕ) (version : ℕ) (payload : List ℕ) → b ≡ a → live_version a id ≡ Some version → Fetched a old new id version (Ok payload)
     → Loads a b old new id (Ok (Some payload))
-loads_ok a b old new id version payload same live f = record { held = same; judged = subst (λ v. Answers a old new id v (Ok (Some payload))) (sym live) f }
+loads_ok a b old new id version payload same live f = record { held = same; judged = subst (λ v. LoadAnswers a old new id v (Ok (Some payload))) (sym live) f }
 
 pub loads_err : (a b : Held) (old new : Option (List Call)) (id : List ℕ) (version : ℕ) (e : Fail) → b ≡ a → live_version a id ≡ Some version → Fetched a old new id version (Err e)
     → Loads a b old new id (Err e)
-loads_err a b old new id version e same live f = record { held = same; judged = subst (λ v. Answers a old new id v (Err e)) (sym live) f }
+loads_err a b old new id version e same live f = record { held = same; judged = subst (λ v. LoadAnswers a old new id v (Err e)) (sym live) f }

@@ -8,7 +8,7 @@ use Rattle.std.specs.declared.option.Option.{Option}
 use Rattle.std.specs.declared.option.Option.TheVariants.{None, Some}
 use Rattle.block_id.specs.Name.{next_id}
 use Rattle.block_id.specs.Fresh as ids
-use Rattle.local_state.specs.declared.mark.Mark.{Mark}
+use Rattle.local_state.specs.declared.life.Life.{Life}
 use Rattle.local_state.specs.Known as known
 use Rattle.store_api.specs.Content.{same_id}
 use Rattle.store_api.specs.Holdings.{is_free}
@@ -17,20 +17,20 @@ same_steps : (drawn : List ℕ) (n : ℕ) → known.nth_id drawn n ≡ ids.nth_i
 same_steps drawn zero = refl
 same_steps drawn (suc n) = ap next_id (same_steps drawn n)
 
-none_not : (o : Option Mark) → not (is_some o) ≡ is_none o
+none_not : (o : Option Life) → not (is_some o) ≡ is_none o
 none_not None = refl
-none_not (Some mark) = refl
+none_not (Some life) = refl
 
-same_free : (marks : known.Marks) (id : List ℕ) → is_free (fin.keys marks) id ≡ known.is_free marks id
-same_free marks id =
-    ap (λ b. not b && not (same_id id ids.zero_id)) (sym (contains_key-keys marks id))
-    ∙ ap (λ b. b && not (same_id id ids.zero_id)) (none_not (fin.get marks id))
-    ∙ ap (λ b. is_none (fin.get marks id) && not b) (is_eq-slice_cmp id ids.zero_id)
+same_free : (lives : known.Lives) (id : List ℕ) → is_free (fin.keys lives) id ≡ known.is_free lives id
+same_free lives id =
+    ap (λ b. not b && not (same_id id ids.zero_id)) (sym (contains_key-keys lives id))
+    ∙ ap (λ b. b && not (same_id id ids.zero_id)) (none_not (fin.get lives id))
+    ∙ ap (λ b. is_none (fin.get lives id) && not b) (is_eq-slice_cmp id ids.zero_id)
 
-pub first_free : (marks : known.Marks) (drawn id : List ℕ) → known.IsFirstFree marks drawn id → ids.IsFirstFree (is_free (fin.keys marks)) drawn id
-first_free marks drawn id f = record {
-  free = same_free marks id ∙ f.free;
+pub first_free : (lives : known.Lives) (drawn id : List ℕ) → known.IsFirstFree lives drawn id → ids.IsFirstFree (is_free (fin.keys lives)) drawn id
+first_free lives drawn id f = record {
+  free = same_free lives id ∙ f.free;
   steps = f.steps;
   reached = f.reached ∙ same_steps drawn f.steps;
-  first = λ n lt. same_free marks (ids.nth_id drawn n) ∙ ap (known.is_free marks) (sym (same_steps drawn n)) ∙ f.first n lt;
+  first = λ n lt. same_free lives (ids.nth_id drawn n) ∙ ap (known.is_free lives) (sym (same_steps drawn n)) ∙ f.first n lt;
 }

@@ -8,7 +8,7 @@ use Rattle.std.proofs.lemmas.Bool.Decides.{Decides-eqb}
 use Rattle.std.proofs.lemmas.Slice.Eq.{bytes_eq-Decides}
 use Rattle.std.specs.List.{starts_with}
 use Rattle.block_id.specs.declared.fail.Why.TheVariants.{WrongId, ForeignClient, OldVersion, AheadVersion, Structure}
-use Rattle.sealed_store.specs.BlockFiles.{Sight, absent, bad_length, bad_prefix, not_opened, plain, sight_of_plain, prefix}
+use Rattle.sealed_store.specs.BlockFiles.{SeenFile, absent, bad_length, bad_prefix, not_opened, plain, seen_file_of_plain, prefix}
 use Rattle.integrity_store.specs.BlockRecords.{Record, opened, record_in, record_of}
 use Rattle.integrity_store.specs.RecordLaws.{opened-plain, record-length}
 use Rattle.integrity_store.specs.VerdictLaws.{bad_is_good}
@@ -59,7 +59,7 @@ judged_good id client version (Some r) payload is =
     ] refl is
 
 seen_judged : (size : ℕ) (id : List ℕ) (client known : ℕ) (a b : Bool) (o : Option (List ℕ)) (payload : List ℕ)
-    → judged size id client known (if a then (if b then sight_of_plain o else bad_prefix) else bad_length) ≡ good payload
+    → judged size id client known (if a then (if b then seen_file_of_plain o else bad_prefix) else bad_length) ≡ good payload
     → judged_record id client known (record_in size (if a && b then o else None)) ≡ good payload
 seen_judged size id client known true true (Some p) payload e = e
 seen_judged size id client known true true None payload e = absurd (bad_is_good e)
@@ -111,7 +111,7 @@ record_structure id client version (Some r) is =
       | false ↦ λ e. cc
     ] is
 
-pub judged_structure : (size : ℕ) (id : List ℕ) (client version : ℕ) (s : Sight) → judged size id client version s ≡ bad Structure → ⊥
+pub judged_structure : (size : ℕ) (id : List ℕ) (client version : ℕ) (s : SeenFile) → judged size id client version s ≡ bad Structure → ⊥
 judged_structure size id client version absent e = cc
 judged_structure size id client version bad_length e = cc
 judged_structure size id client version bad_prefix e = cc

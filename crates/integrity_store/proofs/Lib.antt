@@ -7,7 +7,7 @@ pub mod Fetches
 pub mod Freshness
 pub mod Judging
 pub mod Loading
-pub mod Marks
+pub mod Lives
 pub mod OneWrite
 pub mod Records
 pub mod Reopening

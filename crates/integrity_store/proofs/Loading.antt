@@ -13,7 +13,7 @@ use Rattle.outside.specs.Honest.{count_told}
 use Rattle.outside.specs.View.{bytes_of}
 use Rattle.outcome.specs.Meanings.{HasCause, UnlessFault, IsQuiet}
 use Rattle.outcome.specs.Outcome.{Outcome, idle}
-use Rattle.local_state.specs.declared.mark.Mark.{Mark}
+use Rattle.local_state.specs.declared.life.Life.{Life}
 use Rattle.store_api.specs.Holdings.{Stays}
 use Rattle.local_state.specs.Known.{version_if_live}
 use Rattle.integrity_store.specs.Held.{Held, live_version, wanted, where_live, file_of, told_or_none}
@@ -87,9 +87,9 @@ live_if true version payload = refl
 live_if false version payload = refl
 
 -- a block is in the content where it lives
-pub live_wanted : (o : Option Mark) (payload : List ℕ) → option_map_or (λ m. m.live) o false ≡ is_some (where_live (version_if_live o) payload)
+pub live_wanted : (o : Option Life) (payload : List ℕ) → option_map_or (λ m. m.live) o false ≡ is_some (where_live (version_if_live o) payload)
 live_wanted None payload = refl
-live_wanted (Some mark) payload = live_if mark.live mark.version payload
+live_wanted (Some life) payload = live_if life.live life.version payload
 
 -- where the count of faults stands, an answer is quiet
 pub still_quiet : {T : Type 0} (r : Result T Fail) (before now : ℕ) → now ≡ before → IsQuiet r before now

@@ -14,11 +14,11 @@ use Rattle.std.specs.declared.option.Option.TheVariants.{None, Some}
 use Rattle.outside.specs.Trace.{At, config, block, Call}
 use Rattle.outside.specs.Names.{same_at}
 use Rattle.outside.specs.NameLaws.{at_total, at_exact}
-use Rattle.outside.specs.Changes.{Changes, change_at}
+use Rattle.outside.specs.Changes.{FileChanges, change_at}
 use Rattle.outside.specs.Honest.{last_change}
-use Rattle.local_state.specs.declared.mark.Mark.{Mark}
-use Rattle.local_state.specs.Known.{Marks, is_live_in, is_dead_in, version_if_live}
-use Rattle.local_state.specs.Record.{Entry, FitsEntry, may_change, has_bytes}
+use Rattle.local_state.specs.declared.life.Life.{Life}
+use Rattle.local_state.specs.Known.{Lives, is_live_in, is_dead_in, version_if_live}
+use Rattle.local_state.specs.Record.{ListEntry, FitsEntry, may_change, has_bytes}
 use Rattle.outside.specs.Writes.{call_for}
 use Rattle.sealed_store.specs.BlockFiles.{prefix, opens_file}
 use Rattle.store_api.specs.Durables.{IsConfigured}
@@ -48,22 +48,22 @@ same_is (block a) (block b) e = ap block ((bytes_eq-Decides a b).0 e)
 -- ---- entries
 
 -- what waits fits
-pub fits_at : (h : Held) (e : Entry) → IsWhole h → change_at e.0 h.list ≡ Some e.1 → FitsEntry h.state.marks e
-fits_at h e whole waits = of_found at_total (FitsEntry h.state.marks) at_exact h.list e.0 e.1 whole.has_record.entries.each waits
+pub fits_at : (h : Held) (e : ListEntry) → IsWhole h → change_at e.0 h.list ≡ Some e.1 → FitsEntry h.state.lives e
+fits_at h e whole waits = of_found at_total (FitsEntry h.state.lives) at_exact h.list e.0 e.1 whole.has_record.entries.each waits
 
--- the mark of a live id
-live_mark : (o : Option Mark) → option_map_or (λ m. m.live) o false ≡ true → (mark : Mark) × (o ≡ Some mark) × (version_if_live o ≡ Some mark.version)
-live_mark None live = absurd (true_is_false (sym live))
-live_mark (Some mark) live = (mark, refl, ap (λ b. if b then Some mark.version else None) live)
+-- the life of a live id
+life_of_live : (o : Option Life) → option_map_or (λ m. m.live) o false ≡ true → (life : Life) × (o ≡ Some life) × (version_if_live o ≡ Some life.version)
+life_of_live None live = absurd (true_is_false (sym live))
+life_of_live (Some life) live = (life, refl, ap (λ b. if b then Some life.version else None) live)
 
-dead_used : (b : Bool) (o : Option Mark) → (is_some o && b) ≡ true → is_some o ≡ true
+dead_used : (b : Bool) (o : Option Life) → (is_some o && b) ≡ true → is_some o ≡ true
 dead_used b None e = absurd (true_is_false (sym e))
-dead_used b (Some mark) e = refl
+dead_used b (Some life) e = refl
 
 -- a block that waits is used
-used_at : (marks : Marks) (id : List ℕ) (change : Option (List ℕ)) → may_change marks (block id) (has_bytes change) ≡ true → is_some (fin.get marks id) ≡ true
-used_at marks id None may = dead_used (not (is_live_in marks id)) (fin.get marks id) may
-used_at marks id (Some bytes) may = let m = live_mark (fin.get marks id) may in ap is_some m.1
+used_at : (lives : Lives) (id : List ℕ) (change : Option (List ℕ)) → may_change lives (block id) (has_bytes change) ≡ true → is_some (fin.get lives id) ≡ true
+used_at lives id None may = dead_used (not (is_live_in lives id)) (fin.get lives id) may
+used_at lives id (Some bytes) may = let m = life_of_live (fin.get lives id) may in ap is_some m.1
 
 -- ---- files
 
@@ -81,16 +81,16 @@ begins opens size bytes plain is =
 
 -- ---- what one call changes
 
-last_call : (name : At) (e : Entry) (ok : Bool) (trace : List Call)
+last_call : (name : At) (e : ListEntry) (ok : Bool) (trace : List Call)
     → last_change name (call_for e ok ∷ trace) ≡ (if same_at e.0 name then Some (record { bytes = e.1; ok = ok }) else last_change name trace)
 last_call name (other, None) ok trace = refl
 last_call name (other, Some bytes) ok trace = refl
 
 -- the changes of other names are as before
-last_other : (name : At) (e : Entry) (ok : Bool) (trace : List Call) → same_at e.0 name ≡ false → last_change name (call_for e ok ∷ trace) ≡ last_change name trace
+last_other : (name : At) (e : ListEntry) (ok : Bool) (trace : List Call) → same_at e.0 name ≡ false → last_change name (call_for e ok ∷ trace) ≡ last_change name trace
 last_other name e ok trace other = last_call name e ok trace ∙ ap (λ b. if b then Some (record { bytes = e.1; ok = ok }) else last_change name trace) other
 
-last_own : (name : At) (e : Entry) (ok : Bool) (trace : List Call) → same_at e.0 name ≡ true → last_change name (call_for e ok ∷ trace) ≡ Some (record { bytes = e.1; ok = ok })
+last_own : (name : At) (e : ListEntry) (ok : Bool) (trace : List Call) → same_at e.0 name ≡ true → last_change name (call_for e ok ∷ trace) ≡ Some (record { bytes = e.1; ok = ok })
 last_own name e ok trace is = last_call name e ok trace ∙ ap (λ b. if b then Some (record { bytes = e.1; ok = ok }) else last_change name trace) is
 
 equal_or : (a b : List ℕ) (was : Bool) → (bytes_eq a b || was) ≡ true → (a ≡ b) ⊎ (was ≡ true)
@@ -100,19 +100,19 @@ equal_or a b was e = elim (bytes_eq a b) as (λ v. bytes_eq a b ≡ v → (v || 
 ] refl e
 
 -- what was put is what waited, or was put before
-put_call : (bytes : List ℕ) (e : Entry) (ok : Bool) (trace : List Call) → was_put bytes (call_for e ok ∷ trace) ≡ true → (e.1 ≡ Some bytes) ⊎ (was_put bytes trace ≡ true)
+put_call : (bytes : List ℕ) (e : ListEntry) (ok : Bool) (trace : List Call) → was_put bytes (call_for e ok ∷ trace) ≡ true → (e.1 ≡ Some bytes) ⊎ (was_put bytes trace ≡ true)
 put_call bytes (name, None) ok trace was = inr was
 put_call bytes (name, Some b) ok trace was = elim (equal_or b bytes (was_put bytes trace) was) [ inl is ↦ inl (ap Some is) | inr old ↦ inr old ]
 
 -- a name that doesn't wait isn't the one that is written
-apart : (list : Changes) (e : Entry) (name : At) → change_at e.0 list ≡ Some e.1 → change_at name list ≡ None → same_at e.0 name ≡ false
+apart : (list : FileChanges) (e : ListEntry) (name : At) → change_at e.0 list ≡ Some e.1 → change_at name list ≡ None → same_at e.0 name ≡ false
 apart list e name waits none =
     elim (same_at e.0 name) as (λ b. same_at e.0 name ≡ b → b ≡ false) [
       | true ↦ λ is. let there = subst (λ name. change_at name list ≡ Some e.1) (same_is e.0 name is) waits in absurd (true_is_false (ap is_some (sym there ∙ none)))
       | false ↦ λ is. refl
     ] refl
 
-module _ (h : Held) (trace : List Call) (e : Entry) (ok : Bool) (whole : IsWhole h) (waits : change_at e.0 h.list ≡ Some e.1) where
+module _ (h : Held) (trace : List Call) (e : ListEntry) (ok : Bool) (whole : IsWhole h) (waits : change_at e.0 h.list ≡ Some e.1) where
   -- the file of each block is as before
   file_call : (id : List ℕ) → file_of h (call_for e ok ∷ trace) id ≡ file_of h trace id
   file_call id =
@@ -127,12 +127,12 @@ module _ (h : Held) (trace : List Call) (e : Entry) (ok : Bool) (whole : IsWhole
   wanted_call id = ap (λ file. where_live (live_version h id) (payload_in h.opens h.size file)) (file_call id)
 
   past_call : (r : Record) → IsPast h trace r → IsPast h (call_for e ok ∷ trace) r
-  past_call r p = record { mark = p.mark; used = p.used; client = p.client; version = p.version; payload = λ live. wanted_call r.id ∙ p.payload live }
+  past_call r p = record { life = p.life; used = p.used; client = p.client; version = p.version; payload = λ live. wanted_call r.id ∙ p.payload live }
 
-  used_call : (id : List ℕ) → SoundAt h trace → is_some (last_change (block id) (call_for e ok ∷ trace)) ≡ true → is_some (fin.get h.state.marks id) ≡ true
+  used_call : (id : List ℕ) → SoundAt h trace → is_some (last_change (block id) (call_for e ok ∷ trace)) ≡ true → is_some (fin.get h.state.lives id) ≡ true
   used_call id s changed =
-      elim (same_at e.0 (block id)) as (λ b. same_at e.0 (block id) ≡ b → is_some (fin.get h.state.marks id) ≡ true) [
-        | true ↦ λ is. used_at h.state.marks id e.1 (subst (λ name. may_change h.state.marks name (has_bytes e.1) ≡ true) (same_is e.0 (block id) is) (fits_at h e whole waits).change)
+      elim (same_at e.0 (block id)) as (λ b. same_at e.0 (block id) ≡ b → is_some (fin.get h.state.lives id) ≡ true) [
+        | true ↦ λ is. used_at h.state.lives id e.1 (subst (λ name. may_change h.state.lives name (has_bytes e.1) ≡ true) (same_is e.0 (block id) is) (fits_at h e whole waits).change)
         | false ↦ λ is. s.used id (ap is_some (sym (last_other (block id) e ok trace is)) ∙ changed)
       ] refl
 
@@ -144,12 +144,12 @@ module _ (h : Held) (trace : List Call) (e : Entry) (ok : Bool) (whole : IsWhole
       absurd (subst IsNoBlock there whole.config (begins h.opens h.size bytes plain opens))
   past_new bytes plain (block id) is s put opens =
       let there : waiting h id ≡ Some (Some bytes) = subst (λ name. change_at name h.list ≡ Some e.1) is waits ∙ ap Some put in
-      let (mark, known, live) = live_mark (fin.get h.state.marks id) (fits_at h (block id, Some bytes) whole there).change in
-      let (b, payload, same, o) = s.waits id mark.version (Some bytes) live there in
-      let opened_so : opened h.opens h.size bytes ≡ Some (own h id mark.version payload) = ap (opened h.opens h.size) (some_bytes same) ∙ o in (
-        own h id mark.version payload,
+      let (life, known, live) = life_of_live (fin.get h.state.lives id) (fits_at h (block id, Some bytes) whole there).change in
+      let (b, payload, same, o) = s.waits id life.version (Some bytes) live there in
+      let opened_so : opened h.opens h.size bytes ≡ Some (own h id life.version payload) = ap (opened h.opens h.size) (some_bytes same) ∙ o in (
+        own h id life.version payload,
         ap (record_in h.size) (sym opens) ∙ opened_so,
-        record { mark = mark; used = known; client = refl; version = omega arith; payload = λ live'. wanted_of h (call_for e ok ∷ trace) id mark.version bytes payload live there opened_so },
+        record { life = life; used = known; client = refl; version = omega arith; payload = λ live'. wanted_of h (call_for e ok ∷ trace) id life.version bytes payload live there opened_so },
       )
 
   pub sound_call : SoundAt h trace → SoundAt h (call_for e ok ∷ trace)
@@ -169,16 +169,16 @@ module _ (h : Held) (trace : List Call) (e : Entry) (ok : Bool) (whole : IsWhole
 -- ---- an entry that was written leaves the list
 
 -- the list without one entry
-pub record Leaves (e : Entry) (list rest : Changes) : Type 0 where
+pub record Leaves (e : ListEntry) (list rest : FileChanges) : Type 0 where
   pub was : change_at e.0 list ≡ Some e.1
   pub gone : change_at e.0 rest ≡ None
   pub others : (name : At) → same_at e.0 name ≡ false → change_at name rest ≡ change_at name list
 
 -- the same but for the list
-abbrev pub with_list : Held → Changes → Held
+abbrev pub with_list : Held → FileChanges → Held
 with_list h list = record h { list = list }
 
-module _ (h : Held) (trace : List Call) (e : Entry) (rest : Changes) (whole : IsWhole h) (leaves : Leaves e h.list rest) where
+module _ (h : Held) (trace : List Call) (e : ListEntry) (rest : FileChanges) (whole : IsWhole h) (leaves : Leaves e h.list rest) where
   abbrev after : List Call
   after = call_for e true ∷ trace
 
@@ -218,23 +218,23 @@ module _ (h : Held) (trace : List Call) (e : Entry) (rest : Changes) (whole : Is
         | false ↦ λ is. s.stands id version live (sym (leaves.others (block id) is) ∙ none)
       ] refl
 
-  removal : (id : List ℕ) (change : Option (List ℕ)) → is_dead_in h.state.marks id ≡ true → may_change h.state.marks (block id) (has_bytes change) ≡ true → change ≡ None
+  removal : (id : List ℕ) (change : Option (List ℕ)) → is_dead_in h.state.lives id ≡ true → may_change h.state.lives (block id) (has_bytes change) ≡ true → change ≡ None
   removal id None dead may = refl
   removal id (Some bytes) dead may =
-      absurd (true_is_false (sym dead ∙ ap (λ b. is_some (fin.get h.state.marks id) && not b) may ∙ and-false (is_some (fin.get h.state.marks id))))
+      absurd (true_is_false (sym dead ∙ ap (λ b. is_some (fin.get h.state.lives id) && not b) may ∙ and-false (is_some (fin.get h.state.lives id))))
 
-  buried_left : SoundAt h after → (id : List ℕ) → is_dead_in h.state.marks id ≡ true → waiting (with_list h rest) id ≡ None
+  buried_left : SoundAt h after → (id : List ℕ) → is_dead_in h.state.lives id ≡ true → waiting (with_list h rest) id ≡ None
       → last_change (block id) after ≡ Some (record { bytes = None; ok = true })
   buried_left s id dead none =
       elim (same_at e.0 (block id)) as (λ b. same_at e.0 (block id) ≡ b → last_change (block id) after ≡ Some (record { bytes = None; ok = true })) [
         | true ↦ λ is.
-            let gone = removal id e.1 dead (subst (λ name. may_change h.state.marks name (has_bytes e.1) ≡ true) (same_is e.0 (block id) is) (fits_at h e whole leaves.was).change) in
+            let gone = removal id e.1 dead (subst (λ name. may_change h.state.lives name (has_bytes e.1) ≡ true) (same_is e.0 (block id) is) (fits_at h e whole leaves.was).change) in
             last_own (block id) e true trace is ∙ ap (λ b. Some (record { bytes = b; ok = true })) gone
         | false ↦ λ is. s.buried id dead (sym (leaves.others (block id) is) ∙ none)
       ] refl
 
   past_left : (r : Record) → IsPast h after r → IsPast (with_list h rest) after r
-  past_left r p = record { mark = p.mark; used = p.used; client = p.client; version = p.version; payload = λ live. wanted_left r.id ∙ p.payload live }
+  past_left r p = record { life = p.life; used = p.used; client = p.client; version = p.version; payload = λ live. wanted_left r.id ∙ p.payload live }
 
   pub sound_left : SoundAt h after → SoundAt (with_list h rest) after
   sound_left s = record {
@@ -247,7 +247,7 @@ module _ (h : Held) (trace : List Call) (e : Entry) (rest : Changes) (whole : Is
 
 -- ---- the configuration's file
 
-pub configured_call : (list : Changes) (trace : List Call) (e : Entry) (ok : Bool) (bytes : List ℕ) → change_at e.0 list ≡ Some e.1 → IsConfigured list (Some trace) bytes
+pub configured_call : (list : FileChanges) (trace : List Call) (e : ListEntry) (ok : Bool) (bytes : List ℕ) → change_at e.0 list ≡ Some e.1 → IsConfigured list (Some trace) bytes
     → IsConfigured list (Some (call_for e ok ∷ trace)) bytes
 configured_call list trace e ok bytes waits (inl there) = inl there
 configured_call list trace e ok bytes waits (inr (none, last)) = inr (none, last_other config e ok trace (apart list e config waits none) ∙ last)
@@ -256,17 +256,17 @@ some_change : {a b : Option (List ℕ)} → Some a ≡ Some b → a ≡ b
 some_change e = cc
 
 -- of the one that leaves, the list said this and says nothing now
-config_said : (e : Entry) (list rest : Changes) (bytes : List ℕ) (trace : Option (List Call)) → Leaves e list rest → same_at e.0 config ≡ true → IsConfigured list trace bytes → e.1 ≡ Some bytes
+config_said : (e : ListEntry) (list rest : FileChanges) (bytes : List ℕ) (trace : Option (List Call)) → Leaves e list rest → same_at e.0 config ≡ true → IsConfigured list trace bytes → e.1 ≡ Some bytes
 config_said e list rest bytes trace leaves is (inl there) = some_change (sym (subst (λ name. change_at name list ≡ Some e.1) (same_is e.0 config is) leaves.was) ∙ there)
 config_said e list rest bytes trace leaves is (inr (none, last)) = absurd (true_is_false (sym is ∙ apart list e config leaves.was none))
 
 -- of another, both say the same
-others_left : (e : Entry) (list rest : Changes) (bytes : List ℕ) (trace : List Call) → Leaves e list rest → same_at e.0 config ≡ false → IsConfigured list (Some trace) bytes
+others_left : (e : ListEntry) (list rest : FileChanges) (bytes : List ℕ) (trace : List Call) → Leaves e list rest → same_at e.0 config ≡ false → IsConfigured list (Some trace) bytes
     → IsConfigured rest (Some (call_for e true ∷ trace)) bytes
 others_left e list rest bytes trace leaves is (inl there) = inl (leaves.others config is ∙ there)
 others_left e list rest bytes trace leaves is (inr (none, last)) = inr (leaves.others config is ∙ none, last_other config e true trace is ∙ last)
 
-pub configured_left : (trace : List Call) (e : Entry) (list rest : Changes) (bytes : List ℕ) → Leaves e list rest → IsConfigured list (Some trace) bytes
+pub configured_left : (trace : List Call) (e : ListEntry) (list rest : FileChanges) (bytes : List ℕ) → Leaves e list rest → IsConfigured list (Some trace) bytes
     → IsConfigured rest (Some (call_for e true ∷ trace)) bytes
 configured_left trace e list rest bytes leaves c =
     elim (same_at e.0 config) as (λ b. same_at e.0 config ≡ b → IsConfigured rest (Some (call_for e true ∷ trace)) bytes) [

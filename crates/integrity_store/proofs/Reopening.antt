@@ -6,7 +6,7 @@ use Rattle.std.proofs.lemmas.List.{length-map}
 use Rattle.std.specs.FinMap.{len-entries}
 use Rattle.std.specs.FinMap as fin
 use Rattle.outside.specs.Trace.{Call}
-use Rattle.local_state.specs.Record.{PlainState, Entry, HasRecord, record_bytes}
+use Rattle.local_state.specs.Record.{PlainState, ListEntry, HasRecord, record_bytes}
 use Rattle.local_state.proofs.Records.{one_reading}
 use Rattle.store_api.specs.Content.{Content, SameContent}
 use Rattle.store_api.specs.Holdings.{IsFew}
@@ -16,8 +16,8 @@ use Rattle.integrity_store.specs.Soundness.{SoundBy}
 use Rattle.integrity_store.specs.Standing.{Stands, identity_of}
 
 -- fewer ids are used than there are numbers of 64 bits
-pub few_used : (state : PlainState) (list : List Entry) → HasRecord state list → IsFew (fin.keys state.marks)
-few_used state list has = omega (arith, length-map (fin.entries state.marks) (λ e. e.0), len-entries state.marks, has.state.count)
+pub few_used : (state : PlainState) (list : List ListEntry) → HasRecord state list → IsFew (fin.keys state.lives)
+few_used state list has = omega (arith, length-map (fin.entries state.lives) (λ e. e.0), len-entries state.lives, has.state.count)
 
 -- of two that have the same record and identity
 same_held : (h k : Held) → HasRecord h.state h.list → HasRecord k.state k.list → identity_of k ≡ identity_of h → record_bytes h.state h.list ≡ record_bytes k.state k.list → k ≡ h

@@ -32,15 +32,15 @@ no_put (got name max answer ∷ trace) bytes none was = no_put trace bytes none 
 no_put (put name b ok ∷ trace) bytes none was = some_change (same_at name name) _ _ (same_self name) (none name)
 no_put (removed name ok ∷ trace) bytes none was = some_change (same_at name name) _ _ (same_self name) (none name)
 
-never_live : (h : Held) (id : List ℕ) (version : ℕ) → h.state.marks ≡ fin.empty → live_version h id ≡ Some version → ⊥
+never_live : (h : Held) (id : List ℕ) (version : ℕ) → h.state.lives ≡ fin.empty → live_version h id ≡ Some version → ⊥
 never_live h id version empty live =
-    let none : live_version h id ≡ None = ap (λ marks. version_if_live (fin.get marks id)) empty ∙ ap version_if_live (get-empty id_cmp id) in
+    let none : live_version h id ≡ None = ap (λ lives. version_if_live (fin.get lives id)) empty ∙ ap version_if_live (get-empty id_cmp id) in
     true_is_false (ap is_some (sym live ∙ none))
 
-never_used : (h : Held) (id : List ℕ) → h.state.marks ≡ fin.empty → is_some (fin.get h.state.marks id) ≡ false
-never_used h id empty = ap (λ marks. is_some (fin.get marks id)) empty ∙ ap is_some (get-empty id_cmp id)
+never_used : (h : Held) (id : List ℕ) → h.state.lives ≡ fin.empty → is_some (fin.get h.state.lives id) ≡ false
+never_used h id empty = ap (λ lives. is_some (fin.get lives id)) empty ∙ ap is_some (get-empty id_cmp id)
 
-pub untouched_sound : (h : Held) (trace : Option (List Call)) → h.state.marks ≡ fin.empty → IsUntouched trace → SoundBy h trace
+pub untouched_sound : (h : Held) (trace : Option (List Call)) → h.state.lives ≡ fin.empty → IsUntouched trace → SoundBy h trace
 untouched_sound h None empty none = none
 untouched_sound h (Some trace) empty none = record {
   waits = λ id version change live w. absurd (never_live h id version empty live);
@@ -50,5 +50,5 @@ untouched_sound h (Some trace) empty none = record {
   past = λ bytes plain was is. absurd (no_put trace bytes none was);
 }
   where
-    dead_none : (id : List ℕ) → is_dead_in h.state.marks id ≡ false
-    dead_none id = ap (λ b. b && not (is_live_in h.state.marks id)) (never_used h id empty)
+    dead_none : (id : List ℕ) → is_dead_in h.state.lives id ≡ false
+    dead_none id = ap (λ b. b && not (is_live_in h.state.lives id)) (never_used h id empty)

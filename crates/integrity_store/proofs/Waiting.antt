@@ -11,14 +11,14 @@ use Rattle.block_id.proofs.Conditions.{left, right}
 use Rattle.outside.specs.Trace.{config, block}
 use Rattle.outside.specs.Names.{at_cmp}
 use Rattle.outside.specs.NameLaws.{at_total}
-use Rattle.outside.specs.Changes.{Changes, change_at, set_changes}
+use Rattle.outside.specs.Changes.{FileChanges, change_at, set_changes}
 use Rattle.outside.specs.ChangeLaws.{change_at-set_changes}
 use Rattle.store_api.specs.Content.{Id, id_cmp, same_id}
 use Rattle.store_api.proofs.Rising.{ids_total, same_id_is}
 use Rattle.integrity_store.specs.Applied.{IsRaised}
 use Rattle.integrity_store.specs.Draws.{draws, given_in, iv_in, iv_of}
 use Rattle.integrity_store.specs.Held.{Held}
-use Rattle.integrity_store.specs.Marking.{Entry}
+use Rattle.integrity_store.specs.Raising.{BatchEntry}
 use Rattle.integrity_store.specs.Sealing.{IsMadeOf, stream_after, AreMadeOf}
 use Rattle.integrity_store.proofs.Sorted.{rest_rises, first_below, each_found}
 
@@ -36,7 +36,7 @@ both : (a b : Bool) → T a → T b → T (a && b)
 both true b h k = k
 both false b h k = absurd h
 
-made_below : (h : Held) (id : Id) (es : List Entry) (stream left_ : Stream) (changes : Changes) → T (below_all id_cmp id es) → AreMadeOf h es stream changes left_ → T (below_all at_cmp (block id) changes)
+made_below : (h : Held) (id : Id) (es : List BatchEntry) (stream left_ : Stream) (changes : FileChanges) → T (below_all id_cmp id es) → AreMadeOf h es stream changes left_ → T (below_all at_cmp (block id) changes)
 made_below h id [] stream left_ [] below made = tt
 made_below h id [] stream left_ (change ∷ changes) below made = absurd made
 made_below h id (e ∷ es) stream left_ [] below made = absurd made
@@ -45,7 +45,7 @@ made_below h id (e ∷ es) stream left_ (change ∷ changes) below made =
     (subst (λ n. T (is_lt (at_cmp (block id) n))) (sym made.0) (left (is_lt (id_cmp id e.0)) (below_all id_cmp id es) below))
     (made_below h id es (stream_after e.1 stream) left_ changes (right (is_lt (id_cmp id e.0)) (below_all id_cmp id es) below) made.2)
 
-pub made_rises : (h : Held) (es : List Entry) (stream left_ : Stream) (changes : Changes) → T (is_sorted id_cmp es) → AreMadeOf h es stream changes left_ → T (is_sorted at_cmp changes)
+pub made_rises : (h : Held) (es : List BatchEntry) (stream left_ : Stream) (changes : FileChanges) → T (is_sorted id_cmp es) → AreMadeOf h es stream changes left_ → T (is_sorted at_cmp changes)
 made_rises h [] stream left_ [] rises made = tt
 made_rises h [] stream left_ (change ∷ changes) rises made = absurd made
 made_rises h (e ∷ es) stream left_ [] rises made = absurd made
@@ -66,7 +66,7 @@ made_here : (h : Held) (id : Id) (change : Option (List ℕ)) (stream : Stream) 
 made_here h id (Some payload) stream made is = (is.0, ap Some is.1, is.2.opens)
 made_here h id None stream made is = ap Some is
 
-pub made_at : (h : Held) (es : List Entry) (stream left_ : Stream) (changes : Changes) (id : Id) → AreMadeOf h es stream changes left_ → MadeAt h id (find id_cmp id es) (change_at (block id) changes)
+pub made_at : (h : Held) (es : List BatchEntry) (stream left_ : Stream) (changes : FileChanges) (id : Id) → AreMadeOf h es stream changes left_ → MadeAt h id (find id_cmp id es) (change_at (block id) changes)
 made_at h [] stream left_ [] id made = refl
 made_at h [] stream left_ (change ∷ changes) id made = absurd made
 made_at h (e ∷ es) stream left_ [] id made = absurd made
@@ -78,7 +78,7 @@ made_at h (e ∷ es) stream left_ (change ∷ changes) id made =
       | false ↦ λ s. there
     ] refl)
 
-pub none_of_config : (h : Held) (es : List Entry) (stream left_ : Stream) (changes : Changes) → AreMadeOf h es stream changes left_ → change_at config changes ≡ None
+pub none_of_config : (h : Held) (es : List BatchEntry) (stream left_ : Stream) (changes : FileChanges) → AreMadeOf h es stream changes left_ → change_at config changes ≡ None
 none_of_config h [] stream left_ [] made = refl
 none_of_config h [] stream left_ (change ∷ changes) made = absurd made
 none_of_config h (e ∷ es) stream left_ [] made = absurd made
@@ -91,7 +91,7 @@ abbrev with_iv : Option (List ℕ) → List (List ℕ) → List (List ℕ)
 with_iv (Some file) ivs = iv_in file ∷ ivs
 with_iv None ivs = ivs
 
-abbrev ivs_of : Changes → List (List ℕ)
+abbrev ivs_of : FileChanges → List (List ℕ)
 ivs_of [] = []
 ivs_of (change ∷ changes) = with_iv change.1 (ivs_of changes)
 
@@ -100,7 +100,7 @@ draw_first : (h : Held) (id payload : List ℕ) (stream : Stream) (made : Option
 draw_first h id payload stream made ivs left_ n is later =
     ap (λ m. (with_iv m ivs, left_)) is.1 ∙ (ap (λ iv. (iv ∷ ivs, left_)) is.2.iv ∙ ap (λ p. ((fill_bytes 16 stream).0 ∷ p.0, p.1)) later)
 
-made_draws : (h : Held) (es : List Entry) (stream left_ : Stream) (changes : Changes) → AreMadeOf h es stream changes left_ → (ivs_of changes, left_) ≡ draws (length (given_in es)) stream
+made_draws : (h : Held) (es : List BatchEntry) (stream left_ : Stream) (changes : FileChanges) → AreMadeOf h es stream changes left_ → (ivs_of changes, left_) ≡ draws (length (given_in es)) stream
 made_draws h [] stream left_ [] made = ap (λ s. ([], s)) made
 made_draws h [] stream left_ (change ∷ changes) made = absurd made
 made_draws h (e ∷ es) stream left_ [] made = absurd made
@@ -110,7 +110,7 @@ made_draws h ((id, None) ∷ es) stream left_ (change ∷ changes) made =
     ap (λ m. (with_iv m (ivs_of changes), left_)) made.1 ∙ made_draws h es stream left_ changes made.2
 
 -- where the files that were made wait, the IVs of the ids that get a payload are theirs
-shown_ivs : (h : Held) (es : List Entry) (stream left_ : Stream) (changes whole : Changes) → AreMadeOf h es stream changes left_ → AllByRecursion (λ c. change_at c.0 whole ≡ Some c.1) changes
+shown_ivs : (h : Held) (es : List BatchEntry) (stream left_ : Stream) (changes whole : FileChanges) → AreMadeOf h es stream changes left_ → AllByRecursion (λ c. change_at c.0 whole ≡ Some c.1) changes
     → map (λ id. iv_of (change_at (block id) whole)) (given_in es) ≡ ivs_of changes
 shown_ivs h [] stream left_ [] whole made shown = refl
 shown_ivs h [] stream left_ (change ∷ changes) whole made shown = absurd made
@@ -127,13 +127,13 @@ shown_ivs h ((id, None) ∷ es) stream left_ (change ∷ changes) whole made sho
 pub or_first : {A : Type 0} (a b : Option A) (x : A) → a ≡ Some x → option_or a b ≡ Some x
 or_first a b x is = ap (λ o. option_or o b) is
 
-all_shown : (changes some list : Changes) → T (is_sorted at_cmp changes) → AllByRecursion (λ c. change_at c.0 changes ≡ Some c.1) some → AllByRecursion (λ c. change_at c.0 (set_changes changes list) ≡ Some c.1) some
+all_shown : (changes some list : FileChanges) → T (is_sorted at_cmp changes) → AllByRecursion (λ c. change_at c.0 changes ≡ Some c.1) some → AllByRecursion (λ c. change_at c.0 (set_changes changes list) ≡ Some c.1) some
 all_shown changes [] list rises all = tt
 all_shown changes (c ∷ some) list rises all =
     (change_at-set_changes c.0 changes list (true_of (is_sorted at_cmp changes) rises) ∙ or_first (change_at c.0 changes) (change_at c.0 list) c.1 all.0, all_shown changes some list rises all.1)
 
 -- the IVs that wait are the draws, and what is left is what is left after them
-pub drawn : (h : Held) (es : List Entry) (stream left_ : Stream) (changes list : Changes) → T (is_sorted id_cmp es) → AreMadeOf h es stream changes left_
+pub drawn : (h : Held) (es : List BatchEntry) (stream left_ : Stream) (changes list : FileChanges) → T (is_sorted id_cmp es) → AreMadeOf h es stream changes left_
     → (map (λ id. iv_of (change_at (block id) (set_changes changes list))) (given_in es), left_) ≡ draws (length (given_in es)) stream
 drawn h es stream left_ changes list rises made =
     let in_order = made_rises h es stream left_ changes rises made in

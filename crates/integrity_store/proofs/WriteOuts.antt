@@ -14,9 +14,9 @@ use Rattle.outside.specs.declared.vault.GetFail.{GetFail}
 use Rattle.outside.specs.Trace.{At, config, block, Call, adds}
 use Rattle.outside.specs.Names.{same_at, at_cmp}
 use Rattle.outside.specs.NameLaws.{same_ties, at_total}
-use Rattle.outside.specs.Changes.{Changes, change_at}
+use Rattle.outside.specs.Changes.{FileChanges, change_at}
 use Rattle.outside.specs.Honest.{is_lie, count_told}
-use Rattle.local_state.specs.Record.{Entry, Rise, record_bytes, HasRecord}
+use Rattle.local_state.specs.Record.{ListEntry, Rise, record_bytes, HasRecord}
 use Rattle.outside.specs.Writes.{call_for, after_writes, StopsAt}
 use Rattle.store_api.specs.Content.{SameContent}
 use Rattle.store_api.specs.Durables.{IsConfigured}
@@ -42,7 +42,7 @@ same_self : (a : At) → same_at a a ≡ true
 same_self config = refl
 same_self (block id) = (bytes_eq-Decides id id).1 refl
 
-tied_back : (name : At) (e : Entry) → same_at e.0 name ≡ false → eq_by_cmp at_cmp name e.0 ≡ false
+tied_back : (name : At) (e : ListEntry) → same_at e.0 name ≡ false → eq_by_cmp at_cmp name e.0 ≡ false
 tied_back name e other =
     sym (same_ties name e.0) ∙ elim (same_at name e.0) as (λ b. same_at name e.0 ≡ b → b ≡ false) [
       | true ↦ λ is. sym (same_self e.0) ∙ ap (same_at e.0) (sym (same_is name e.0 is)) ∙ other
@@ -50,7 +50,7 @@ tied_back name e other =
     ] refl
 
 -- the first entry of a list in order stands in it alone
-first_leaves : (e : Entry) (rest : Changes) → T (is_sorted at_cmp (e ∷ rest)) → Leaves e (e ∷ rest) rest
+first_leaves : (e : ListEntry) (rest : FileChanges) → T (is_sorted at_cmp (e ∷ rest)) → Leaves e (e ∷ rest) rest
 first_leaves e rest rises = record {
   was = found_first at_total e rest;
   gone = not_below at_total e.0 e.0 rest (tied_itself at_total e.0) (first_below at_total e rest rises);
@@ -59,29 +59,29 @@ first_leaves e rest rises = record {
 
 -- ---- a list whose first entry is gone
 
-rises_none : (previous : Option At) (list : Changes) → Rise previous list → Rise None list
+rises_none : (previous : Option At) (list : FileChanges) → Rise previous list → Rise None list
 rises_none previous [] rises = tt
 rises_none previous (e ∷ list) rises = (refl, rises.1)
 
-rest_has : (h : Held) (e : Entry) (rest : Changes) → IsWhole (with_list h (e ∷ rest)) → HasRecord h.state rest
+rest_has : (h : Held) (e : ListEntry) (rest : FileChanges) → IsWhole (with_list h (e ∷ rest)) → HasRecord h.state rest
 rest_has h e rest whole =
     let entries = whole.has_record.entries in
     record { state = whole.has_record.state; entries = record { each = entries.each.1; order = rises_none (Some e.0) rest entries.order.1; count = omega (arith, entries.count) } }
 
-no_block : (e : Entry) (rest : Changes) → Leaves e (e ∷ rest) rest → IsNoBlock (change_at config (e ∷ rest)) → IsNoBlock (change_at config rest)
+no_block : (e : ListEntry) (rest : FileChanges) → Leaves e (e ∷ rest) rest → IsNoBlock (change_at config (e ∷ rest)) → IsNoBlock (change_at config rest)
 no_block e rest leaves fits =
     elim (same_at e.0 config) as (λ b. same_at e.0 config ≡ b → IsNoBlock (change_at config rest)) [
       | true ↦ λ is. subst IsNoBlock (sym (subst (λ name. change_at name rest ≡ None) (same_is e.0 config is) leaves.gone)) tt
       | false ↦ λ is. subst IsNoBlock (sym (leaves.others config is)) fits
     ] refl
 
-in_turn : (h : Held) (list : Changes) → IsWhole (with_list h list) → T (is_sorted at_cmp list)
+in_turn : (h : Held) (list : FileChanges) → IsWhole (with_list h list) → T (is_sorted at_cmp list)
 in_turn h list whole = test_of (is_sorted at_cmp list) (in_order h.state list whole.has_record)
 
-rest_leaves : (h : Held) (e : Entry) (rest : Changes) → IsWhole (with_list h (e ∷ rest)) → Leaves e (e ∷ rest) rest
+rest_leaves : (h : Held) (e : ListEntry) (rest : FileChanges) → IsWhole (with_list h (e ∷ rest)) → Leaves e (e ∷ rest) rest
 rest_leaves h e rest whole = first_leaves e rest (in_turn h (e ∷ rest) whole)
 
-rest_whole : (h : Held) (e : Entry) (rest : Changes) → IsWhole (with_list h (e ∷ rest)) → IsWhole (with_list h rest)
+rest_whole : (h : Held) (e : ListEntry) (rest : FileChanges) → IsWhole (with_list h (e ∷ rest)) → IsWhole (with_list h rest)
 rest_whole h e rest whole = record {
   least = whole.least;
   most = whole.most;
@@ -91,20 +91,20 @@ rest_whole h e rest whole = record {
 
 -- ---- each entry of a list waits in it
 
-abbrev Waits : Changes → Entry → Type 0
+abbrev Waits : FileChanges → ListEntry → Type 0
 Waits list e = change_at e.0 list ≡ Some e.1
 
-all_wait : (h : Held) (list : Changes) → IsWhole (with_list h list) → AllByRecursion (Waits list) list
+all_wait : (h : Held) (list : FileChanges) → IsWhole (with_list h list) → AllByRecursion (Waits list) list
 all_wait h list whole = each_found at_total list (in_turn h list whole)
 
 -- what waits behind others waits
-waits_behind : (h : Held) (done left : Changes) (f : Entry) → IsWhole (with_list h (done ++ left)) → Waits left f → Waits (done ++ left) f
+waits_behind : (h : Held) (done left : FileChanges) (f : ListEntry) → IsWhole (with_list h (done ++ left)) → Waits left f → Waits (done ++ left) f
 waits_behind h [] left f whole waits = waits
 waits_behind h (e ∷ done) left f whole waits =
     let rest = done ++ left in
     found_later at_total f.0 e rest f.1 (in_turn h (e ∷ rest) whole) (waits_behind h done left f (rest_whole h e rest whole) waits)
 
-first_ones : (P : Entry → Type 0) (done left : Changes) → AllByRecursion P (done ++ left) → AllByRecursion P done
+first_ones : (P : ListEntry → Type 0) (done left : FileChanges) → AllByRecursion P (done ++ left) → AllByRecursion P done
 first_ones P [] left all = tt
 first_ones P (e ∷ done) left all = (all.0, first_ones P done left all.1)
 
@@ -114,56 +114,56 @@ adds_told : (trace : Option (List Call)) (call : Call) → is_some (adds trace c
 adds_told None call = refl
 adds_told (Some trace) call = refl
 
-writes_told : (done : Changes) (trace : Option (List Call)) → is_some (after_writes done trace) ≡ is_some trace
+writes_told : (done : FileChanges) (trace : Option (List Call)) → is_some (after_writes done trace) ≡ is_some trace
 writes_told [] trace = refl
 writes_told (e ∷ done) trace = writes_told done (adds trace (call_for e true)) ∙ adds_told trace (call_for e true)
 
-call_sound : (h : Held) (trace : Option (List Call)) (e : Entry) (ok : Bool) → IsWhole h → Waits h.list e → SoundBy h trace → SoundBy h (adds trace (call_for e ok))
+call_sound : (h : Held) (trace : Option (List Call)) (e : ListEntry) (ok : Bool) → IsWhole h → Waits h.list e → SoundBy h trace → SoundBy h (adds trace (call_for e ok))
 call_sound h None e ok whole waits sound = sound
 call_sound h (Some trace) e ok whole waits sound = sound_call h trace e ok whole waits sound
 
-call_content : (h : Held) (trace : Option (List Call)) (e : Entry) (ok : Bool) → IsWhole h → Waits h.list e → is_some trace ≡ true
+call_content : (h : Held) (trace : Option (List Call)) (e : ListEntry) (ok : Bool) → IsWhole h → Waits h.list e → is_some trace ≡ true
     → SameContent (wanted h trace) (wanted h (adds trace (call_for e ok)))
 call_content h None e ok whole waits told id = absurd (true_is_false (sym told))
 call_content h (Some trace) e ok whole waits told id = wanted_call h trace e ok whole waits id
 
-call_configured : (list : Changes) (trace : Option (List Call)) (e : Entry) (ok : Bool) (bytes : List ℕ) → Waits list e → IsConfigured list trace bytes
+call_configured : (list : FileChanges) (trace : Option (List Call)) (e : ListEntry) (ok : Bool) (bytes : List ℕ) → Waits list e → IsConfigured list trace bytes
     → IsConfigured list (adds trace (call_for e ok)) bytes
 call_configured list None e ok bytes waits c = c
 call_configured list (Some trace) e ok bytes waits c = configured_call list trace e ok bytes waits c
 
-writes_sound : (h : Held) (done : Changes) (trace : Option (List Call)) → IsWhole h → AllByRecursion (Waits h.list) done → SoundBy h trace → SoundBy h (after_writes done trace)
+writes_sound : (h : Held) (done : FileChanges) (trace : Option (List Call)) → IsWhole h → AllByRecursion (Waits h.list) done → SoundBy h trace → SoundBy h (after_writes done trace)
 writes_sound h [] trace whole all sound = sound
 writes_sound h (e ∷ done) trace whole all sound = writes_sound h done (adds trace (call_for e true)) whole all.1 (call_sound h trace e true whole all.0 sound)
 
-writes_content : (h : Held) (done : Changes) (trace : Option (List Call)) → IsWhole h → AllByRecursion (Waits h.list) done → is_some trace ≡ true
+writes_content : (h : Held) (done : FileChanges) (trace : Option (List Call)) → IsWhole h → AllByRecursion (Waits h.list) done → is_some trace ≡ true
     → SameContent (wanted h trace) (wanted h (after_writes done trace))
 writes_content h [] trace whole all told id = refl
 writes_content h (e ∷ done) trace whole all told id =
     writes_content h done (adds trace (call_for e true)) whole all.1 (adds_told trace (call_for e true) ∙ told) id ∙ call_content h trace e true whole all.0 told id
 
-writes_configured : (list done : Changes) (trace : Option (List Call)) (bytes : List ℕ) → AllByRecursion (Waits list) done → IsConfigured list trace bytes
+writes_configured : (list done : FileChanges) (trace : Option (List Call)) (bytes : List ℕ) → AllByRecursion (Waits list) done → IsConfigured list trace bytes
     → IsConfigured list (after_writes done trace) bytes
 writes_configured list [] trace bytes all c = c
 writes_configured list (e ∷ done) trace bytes all c = writes_configured list done (adds trace (call_for e true)) bytes all.1 (call_configured list trace e true bytes all.0 c)
 
 -- ---- entries that leave as they are written
 
-leaves_sound : (h : Held) (trace : Option (List Call)) (e : Entry) (rest : Changes) → IsWhole h → Leaves e h.list rest → SoundBy h (adds trace (call_for e true))
+leaves_sound : (h : Held) (trace : Option (List Call)) (e : ListEntry) (rest : FileChanges) → IsWhole h → Leaves e h.list rest → SoundBy h (adds trace (call_for e true))
     → SoundBy (with_list h rest) (adds trace (call_for e true))
 leaves_sound h None e rest whole leaves sound = sound
 leaves_sound h (Some trace) e rest whole leaves sound = sound_left h trace e rest whole leaves sound
 
-leaves_content : (h : Held) (trace : Option (List Call)) (e : Entry) (rest : Changes) → IsWhole h → Leaves e h.list rest → is_some trace ≡ true
+leaves_content : (h : Held) (trace : Option (List Call)) (e : ListEntry) (rest : FileChanges) → IsWhole h → Leaves e h.list rest → is_some trace ≡ true
     → SameContent (wanted h (adds trace (call_for e true))) (wanted (with_list h rest) (adds trace (call_for e true)))
 leaves_content h None e rest whole leaves told id = absurd (true_is_false (sym told))
 leaves_content h (Some trace) e rest whole leaves told id = wanted_left h trace e rest whole leaves id
 
-left_whole : (h : Held) (done left : Changes) → IsWhole (with_list h (done ++ left)) → IsWhole (with_list h left)
+left_whole : (h : Held) (done left : FileChanges) → IsWhole (with_list h (done ++ left)) → IsWhole (with_list h left)
 left_whole h [] left whole = whole
 left_whole h (e ∷ done) left whole = left_whole h done left (rest_whole h e (done ++ left) whole)
 
-left_sound : (h : Held) (done left : Changes) (trace : Option (List Call)) → IsWhole (with_list h (done ++ left)) → SoundBy (with_list h (done ++ left)) trace
+left_sound : (h : Held) (done left : FileChanges) (trace : Option (List Call)) → IsWhole (with_list h (done ++ left)) → SoundBy (with_list h (done ++ left)) trace
     → SoundBy (with_list h left) (after_writes done trace)
 left_sound h [] left trace whole sound = sound
 left_sound h (e ∷ done) left trace whole sound =
@@ -173,7 +173,7 @@ left_sound h (e ∷ done) left trace whole sound =
     left_sound h done left (adds trace (call_for e true)) (rest_whole h e rest whole)
     (leaves_sound here trace e rest whole leaves (call_sound here trace e true whole leaves.was sound))
 
-left_content : (h : Held) (done left : Changes) (trace : Option (List Call)) → IsWhole (with_list h (done ++ left)) → is_some trace ≡ true
+left_content : (h : Held) (done left : FileChanges) (trace : Option (List Call)) → IsWhole (with_list h (done ++ left)) → is_some trace ≡ true
     → SameContent (wanted (with_list h (done ++ left)) trace) (wanted (with_list h left) (after_writes done trace))
 left_content h [] left trace whole told id = refl
 left_content h (e ∷ done) left trace whole told id =
@@ -183,12 +183,12 @@ left_content h (e ∷ done) left trace whole told id =
     left_content h done left (adds trace (call_for e true)) (rest_whole h e rest whole) (adds_told trace (call_for e true) ∙ told) id
     ∙ (leaves_content here trace e rest whole leaves told id ∙ call_content here trace e true whole leaves.was told id)
 
-leaves_configured : (trace : Option (List Call)) (e : Entry) (list rest : Changes) (bytes : List ℕ) → is_some trace ≡ true → Leaves e list rest → IsConfigured list trace bytes
+leaves_configured : (trace : Option (List Call)) (e : ListEntry) (list rest : FileChanges) (bytes : List ℕ) → is_some trace ≡ true → Leaves e list rest → IsConfigured list trace bytes
     → IsConfigured rest (adds trace (call_for e true)) bytes
 leaves_configured None e list rest bytes told leaves c = absurd (true_is_false (sym told))
 leaves_configured (Some trace) e list rest bytes told leaves c = configured_left trace e list rest bytes leaves c
 
-left_configured : (h : Held) (done left : Changes) (trace : Option (List Call)) (bytes : List ℕ) → IsWhole (with_list h (done ++ left)) → is_some trace ≡ true
+left_configured : (h : Held) (done left : FileChanges) (trace : Option (List Call)) (bytes : List ℕ) → IsWhole (with_list h (done ++ left)) → is_some trace ≡ true
     → IsConfigured (done ++ left) trace bytes → IsConfigured left (after_writes done trace) bytes
 left_configured h [] left trace bytes whole told c = c
 left_configured h (e ∷ done) left trace bytes whole told c =
@@ -199,12 +199,12 @@ left_configured h (e ∷ done) left trace bytes whole told c =
 -- ---- the whole write-out
 
 -- these were written and left the list, and the call for one that is left may have failed
-pub record Wrote (list : Changes) (old new : Option (List Call)) (left : Changes) : Type 0 where
-  pub done : Changes
+pub record Wrote (list : FileChanges) (old new : Option (List Call)) (left : FileChanges) : Type 0 where
+  pub done : FileChanges
   pub parts : list ≡ done ++ left
-  pub trace : (new ≡ after_writes done old) ⊎ ((next : Entry) × Waits left next × (new ≡ adds (after_writes done old) (call_for next false)))
+  pub trace : (new ≡ after_writes done old) ⊎ ((next : ListEntry) × Waits left next × (new ≡ adds (after_writes done old) (call_for next false)))
 
-pub wrote : (r : Result Unit GetFail) (list left : Changes) (old new : Option (List Call)) → OnOk r (new ≡ after_writes list old) → OnOk r (left ≡ []) → OnErr r (StopsAt list old new left)
+pub wrote : (r : Result Unit GetFail) (list left : FileChanges) (old new : Option (List Call)) → OnOk r (new ≡ after_writes list old) → OnOk r (left ≡ []) → OnErr r (StopsAt list old new left)
     → Wrote list old new left
 wrote (Ok _) list left old new all none stops = record { done = list; parts = sym (ap (λ l. list ++ l) none ∙ append-nil list); trace = inl all }
 wrote (Err _) list left old new all none stops = record {
@@ -216,7 +216,7 @@ wrote (Err _) list left old new all none stops = record {
   ];
 }
 
-module _ (h : Held) (old new : Option (List Call)) (left : Changes) (whole : IsWhole h) (w : Wrote h.list old new left) where
+module _ (h : Held) (old new : Option (List Call)) (left : FileChanges) (whole : IsWhole h) (w : Wrote h.list old new left) where
   parted : IsWhole (with_list h (w.done ++ left))
   parted = subst (λ list. IsWhole (with_list h list)) w.parts whole
 
@@ -226,7 +226,7 @@ module _ (h : Held) (old new : Option (List Call)) (left : Changes) (whole : IsW
   done_wait : AllByRecursion (Waits h.list) w.done
   done_wait = first_ones (Waits h.list) w.done left (subst (AllByRecursion (Waits h.list)) w.parts (all_wait h h.list whole))
 
-  next_waits : (next : Entry) → Waits left next → Waits h.list next
+  next_waits : (next : ListEntry) → Waits left next → Waits h.list next
   next_waits next waits = subst (λ list. Waits list next) (sym w.parts) (waits_behind h w.done left next parted waits)
 
   -- the full list, over the trace as it is now
@@ -276,7 +276,7 @@ module _ (h : Held) (old new : Option (List Call)) (left : Changes) (whole : IsW
 
   pub configured_of_rest : (bytes : List ℕ) → is_some old ≡ true → IsConfigured h.list old bytes → IsConfigured left new bytes
   configured_of_rest bytes told c =
-      let written = left_configured h w.done left old bytes parted told (subst (λ (list : Changes). IsConfigured list old bytes) w.parts c) in
+      let written = left_configured h w.done left old bytes parted told (subst (λ (list : FileChanges). IsConfigured list old bytes) w.parts c) in
       elim w.trace [
         | inl is ↦ subst (λ t. IsConfigured left t bytes) (sym is) written
         | inr (next, waits, is) ↦ subst (λ t. IsConfigured left t bytes) (sym is) (call_configured left (after_writes w.done old) next false bytes waits written)
@@ -284,7 +284,7 @@ module _ (h : Held) (old new : Option (List Call)) (left : Changes) (whole : IsW
 
 -- ---- what no write changes: whether the trace is told, and counts of what was given
 
-pub still_told : (list : Changes) (old new : Option (List Call)) (left : Changes) → Wrote list old new left → is_some new ≡ is_some old
+pub still_told : (list : FileChanges) (old new : Option (List Call)) (left : FileChanges) → Wrote list old new left → is_some new ≡ is_some old
 still_told list old new left w = elim w.trace [
   | inl is ↦ ap is_some is ∙ writes_told w.done old
   | inr (next, waits, is) ↦ ap is_some is ∙ (adds_told (after_writes w.done old) (call_for next false) ∙ writes_told w.done old)
@@ -292,7 +292,7 @@ still_told list old new left w = elim w.trace [
 
 -- a test that no put or removal passes
 abbrev pub Spares : (List Call → Call → Bool) → Type 0
-Spares test = (before : List Call) (e : Entry) (ok : Bool) → test before (call_for e ok) ≡ false
+Spares test = (before : List Call) (e : ListEntry) (ok : Bool) → test before (call_for e ok) ≡ false
 
 pub lies_spare : Spares is_lie
 lies_spare before (name, None) ok = refl
@@ -302,15 +302,15 @@ pub forgeries_spare : (opens : List ℕ → Option (List ℕ)) (size : ℕ) → 
 forgeries_spare opens size before (name, None) ok = refl
 forgeries_spare opens size before (name, Some bytes) ok = refl
 
-call_count : (test : List Call → Call → Bool) (trace : Option (List Call)) (e : Entry) (ok : Bool) → Spares test → count_told test (adds trace (call_for e ok)) ≡ count_told test trace
+call_count : (test : List Call → Call → Bool) (trace : Option (List Call)) (e : ListEntry) (ok : Bool) → Spares test → count_told test (adds trace (call_for e ok)) ≡ count_told test trace
 call_count test None e ok spares = refl
 call_count test (Some trace) e ok spares = let none = spares trace e ok in rw none (omega arith)
 
-writes_count : (test : List Call → Call → Bool) (done : Changes) (trace : Option (List Call)) → Spares test → count_told test (after_writes done trace) ≡ count_told test trace
+writes_count : (test : List Call → Call → Bool) (done : FileChanges) (trace : Option (List Call)) → Spares test → count_told test (after_writes done trace) ≡ count_told test trace
 writes_count test [] trace spares = refl
 writes_count test (e ∷ done) trace spares = writes_count test done (adds trace (call_for e true)) spares ∙ call_count test trace e true spares
 
-pub same_count : (test : List Call → Call → Bool) (list : Changes) (old new : Option (List Call)) (left : Changes) → Spares test → Wrote list old new left → count_told test new ≡ count_told test old
+pub same_count : (test : List Call → Call → Bool) (list : FileChanges) (old new : Option (List Call)) (left : FileChanges) → Spares test → Wrote list old new left → count_told test new ≡ count_told test old
 same_count test list old new left spares w = elim w.trace [
   | inl is ↦ ap (count_told test) is ∙ writes_count test w.done old spares
   | inr (next, waits, is) ↦ ap (count_told test) is ∙ (call_count test (after_writes w.done old) next false spares ∙ writes_count test w.done old spares)
@@ -318,7 +318,7 @@ same_count test list old new left spares w = elim w.trace [
 
 -- ---- all of it
 
-pub record Written (h : Held) (old new : Option (List Call)) (left : Changes) : Type 0 where
+pub record Written (h : Held) (old new : Option (List Call)) (left : FileChanges) : Type 0 where
   pub whole : IsWhole (with_list h left)
   pub told : is_some new ≡ is_some old
   pub sound : SoundBy h old → SoundBy (with_list h left) new
@@ -329,7 +329,7 @@ pub record Written (h : Held) (old new : Option (List Call)) (left : Changes) : 
   pub lies : count_told is_lie new ≡ count_told is_lie old
   pub forgeries : count_told (forged h.opens h.size) new ≡ count_told (forged h.opens h.size) old
 
-pub written : (h : Held) (left : Changes) (old new : Option (List Call)) (r : Result Unit GetFail) → IsWhole h → OnOk r (new ≡ after_writes h.list old) → OnOk r (left ≡ []) → OnErr r (StopsAt h.list old new left)
+pub written : (h : Held) (left : FileChanges) (old new : Option (List Call)) (r : Result Unit GetFail) → IsWhole h → OnOk r (new ≡ after_writes h.list old) → OnOk r (left ≡ []) → OnErr r (StopsAt h.list old new left)
     → Written h old new left
 written h left old new r whole all none stops =
     let w = wrote r h.list left old new all none stops in

@@ -16,7 +16,7 @@ use Rattle.redo_vault.specs.Redo.{Gave}
 use Rattle.integrity_store.specs.Held.{Held, live_version, waiting}
 use Rattle.integrity_store.specs.Loads.{Came}
 use Rattle.integrity_store.specs.ReadLaws.{sound-reads}
-use Rattle.integrity_store.specs.Reads.{AllReads, Among, FoundSince, IsRead, Went}
+use Rattle.integrity_store.specs.Reads.{AllReads, Among, FoundSince, IsRead, WentOnByReads}
 use Rattle.integrity_store.specs.RecordLaws.{cut_whole}
 use Rattle.integrity_store.specs.Soundness.{SoundAt, SoundBy}
 use Rattle.integrity_store.specs.VerdictLaws.{bad_is_good, opened_good}
@@ -82,7 +82,7 @@ among_good h t (call ∷ reads) id version file why live all sound few wrong (in
     among_good h t reads id version file why live all.1 sound (omega (arith, few)) wrong later
 
 -- where the directory gave what was last written, nothing was found wrong
-pub found_unmet : (h : Held) (t u : Option (List Call)) (why : Why) → Went h t u → SoundBy h t → count_told is_lie u ≤ count_told is_lie t → FoundSince h t u why → ⊥
+pub found_unmet : (h : Held) (t u : Option (List Call)) (why : Why) → WentOnByReads h t u → SoundBy h t → count_told is_lie u ≤ count_told is_lie t → FoundSince h t u why → ⊥
 found_unmet h None u why went sound few found = sound
 found_unmet h (Some t) u why (reads, is, all) sound few (others, is', f) =
     let same : others ≡ reads = append_cancel_right others reads t (some_trace (sym is' ∙ is)) in

@@ -6,21 +6,21 @@ use Rattle.std.specs.declared.option.Option.{Option}
 use Rattle.std.specs.declared.option.Option.TheVariants.{None, Some}
 use Rattle.outside.specs.Trace.{Call, config}
 use Rattle.outside.specs.Changes.{change_at}
-use Rattle.local_state.specs.declared.mark.Mark.{Mark}
+use Rattle.local_state.specs.declared.life.Life.{Life}
 use Rattle.local_state.specs.Known.{raised_version}
 use Rattle.store_api.specs.Content.{Changes}
 use Rattle.integrity_store.specs.BlockRecords.{opened}
 use Rattle.integrity_store.specs.Held.{Held, waiting, own}
 
--- the mark of an id after a batch that says nothing of it, gives it a payload, or removes it
-abbrev pub mark_after : Option (Option (List ℕ)) → Option Mark → Option Mark
-mark_after None mark = mark
-mark_after (Some (Some payload)) mark = Some (record { version = raised_version mark; live = true })
-mark_after (Some None) mark = option_map (λ m. record { version = m.version; live = false }) mark
+-- the life of an id after a batch that says nothing of it, gives it a payload, or removes it
+abbrev pub life_after : Option (Option (List ℕ)) → Option Life → Option Life
+life_after None life = life
+life_after (Some (Some payload)) life = Some (record { version = raised_version life; live = true })
+life_after (Some None) life = option_map (λ m. record { version = m.version; live = false }) life
 
 -- a file of this id's record, at the version that follows the one in a
 abbrev pub IsRaised : Held → Held → List ℕ → List ℕ → List ℕ → Type 0
-IsRaised a b id payload file = opened b.opens b.size file ≡ Some (own b id (raised_version (fin.get a.state.marks id)) payload)
+IsRaised a b id payload file = opened b.opens b.size file ≡ Some (own b id (raised_version (fin.get a.state.lives id)) payload)
 
 -- what waits for an id after a batch that says nothing of it, gives it a payload, or removes it
 abbrev pub WaitsAfter : Held → Held → List ℕ → Option (Option (List ℕ)) → Type 0
@@ -33,8 +33,8 @@ pub record Applied (a b : Held) (old new : Option (List Call)) (changes : Change
   pub trace : new ≡ old
   pub size : b.size ≡ a.size
   pub opens : b.opens ≡ a.opens
-  pub state : b.state ≡ record a.state { marks = b.state.marks }
-  pub marks : (id : List ℕ) → fin.get b.state.marks id ≡ mark_after (fin.get changes id) (fin.get a.state.marks id)
+  pub state : b.state ≡ record a.state { lives = b.state.lives }
+  pub lives : (id : List ℕ) → fin.get b.state.lives id ≡ life_after (fin.get changes id) (fin.get a.state.lives id)
   pub waits : (id : List ℕ) → WaitsAfter a b id (fin.get changes id)
   pub config : change_at config b.list ≡ change_at config a.list
 

@@ -4,7 +4,7 @@ use Rattle.std.specs.declared.option.Option.{Option}
 use Rattle.std.specs.declared.option.Option.TheVariants.{None, Some}
 use Rattle.std.proofs.Common.{refl, sym, ◌∙◌, ap, subst, inl, inr, arith}
 use Rattle.outside.specs.Trace.{config, Call, got, adds, At}
-use Rattle.outside.specs.Changes.{Changes, change_at}
+use Rattle.outside.specs.Changes.{FileChanges, change_at}
 use Rattle.local_state.specs.Record.{PlainState, HasRecord, record_bytes}
 use Rattle.local_state.proofs.Records.{one_reading, mark_in, marked_bytes, marked_has}
 use Rattle.local_state.specs.Record as records_of
@@ -13,7 +13,7 @@ use Rattle.store_api.specs.Durables.{Identity, Enduring, IsConfigured, last_told
 use Rattle.integrity_store.specs.Applied.{Applied, applied_by}
 use Rattle.integrity_store.specs.Held.{Held}
 use Rattle.integrity_store.specs.ReadLaws.{goes_on, last_went, sound-got, went_sound, went_wanted}
-use Rattle.integrity_store.specs.Reads.{Went}
+use Rattle.integrity_store.specs.Reads.{WentOnByReads}
 use Rattle.integrity_store.specs.Standing.{Configures, IsMarked, Stands, durables_by, identity_of, listed, records}
 use Rattle.integrity_store.specs.StoreLaws.{sound_is_told}
 use Rattle.integrity_store.specs.Stores.{holdings_by, meanings_by}
@@ -25,7 +25,7 @@ true_is_false : true ≡ false → ⊥
 true_is_false e = cc
 
 -- a state that has a record with a list has one with an empty list
-pub listed_has : (state : PlainState) (list : Changes) (with_list : Bool) → HasRecord state list → HasRecord state (listed with_list list)
+pub listed_has : (state : PlainState) (list : FileChanges) (with_list : Bool) → HasRecord state list → HasRecord state (listed with_list list)
 listed_has state list true has = has
 listed_has state list false has = record { state = has.state; entries = record { each = tt; order = tt; count = omega arith } }
 
@@ -45,7 +45,7 @@ never_marked identity kept trace content s m =
     let reading = one_reading s.held.state m.state s.held.list m.list s.has_record m.has_record (sym s.bytes ∙ m.bytes) in
     true_is_false (sym m.is_marked ∙ ap (λ (state : PlainState). state.marked) (sym reading.0) ∙ s.unmarked)
 
-marked_record : (state : PlainState) (list : Changes) (with_list : Bool) → HasRecord state list → IsMarked (with_mark (record_bytes state (listed with_list list)))
+marked_record : (state : PlainState) (list : FileChanges) (with_list : Bool) → HasRecord state list → IsMarked (with_mark (record_bytes state (listed with_list list)))
 marked_record state list with_list has = record {
   state = records_of.with_mark state;
   list = listed with_list list;
@@ -55,7 +55,7 @@ marked_record state list with_list has = record {
 }
 
 -- reads leave what a kept record stands for
-read_stands : (h : Held) (a b : Option (List Call)) (identity : Identity) (kept : List ℕ) (content : Content) → Went h a b → Stands identity kept a content → Stands identity kept b content
+read_stands : (h : Held) (a b : Option (List Call)) (identity : Identity) (kept : List ℕ) (content : Content) → WentOnByReads h a b → Stands identity kept a content → Stands identity kept b content
 read_stands h a b identity kept content went s = record {
   held = s.held;
   same = s.same;
@@ -91,21 +91,21 @@ got_stood identity kept (Some t) content name max answer s = record {
 -- ---- the configuration's file
 
 -- the record of this state and this list says of the configuration's file what the list does
-pub configures_of : (state : PlainState) (list : Changes) (trace : Option (List Call)) (bytes : List ℕ) → HasRecord state list → IsConfigured list trace bytes
+pub configures_of : (state : PlainState) (list : FileChanges) (trace : Option (List Call)) (bytes : List ℕ) → HasRecord state list → IsConfigured list trace bytes
     → Configures (record_bytes state list) trace bytes
 configures_of state list trace bytes has configured = record { state = state; list = list; has_record = has; is_record = refl; configured = configured }
 
-pub configured_of : (state : PlainState) (list : Changes) (trace : Option (List Call)) (bytes : List ℕ) → HasRecord state list → Configures (record_bytes state list) trace bytes
+pub configured_of : (state : PlainState) (list : FileChanges) (trace : Option (List Call)) (bytes : List ℕ) → HasRecord state list → Configures (record_bytes state list) trace bytes
     → IsConfigured list trace bytes
 configured_of state list trace bytes has c =
     let reading = one_reading state c.state list c.list has c.has_record c.is_record in
-    subst (λ (list : Changes). IsConfigured list trace bytes) (sym reading.1) c.configured
+    subst (λ (list : FileChanges). IsConfigured list trace bytes) (sym reading.1) c.configured
 
-read_configured : (list : Changes) (a b : Option (List Call)) (bytes : List ℕ) → last_told config b ≡ last_told config a → IsConfigured list a bytes → IsConfigured list b bytes
+read_configured : (list : FileChanges) (a b : Option (List Call)) (bytes : List ℕ) → last_told config b ≡ last_told config a → IsConfigured list a bytes → IsConfigured list b bytes
 read_configured list a b bytes same (inl waits) = inl waits
 read_configured list a b bytes same (inr (none, last)) = inr (none, same ∙ last)
 
-read_configures : (h : Held) (a b : Option (List Call)) (kept bytes : List ℕ) → Went h a b → Configures kept a bytes → Configures kept b bytes
+read_configures : (h : Held) (a b : Option (List Call)) (kept bytes : List ℕ) → WentOnByReads h a b → Configures kept a bytes → Configures kept b bytes
 read_configures h a b kept bytes went c = record {
   state = c.state;
   list = c.list;
@@ -115,7 +115,7 @@ read_configures h a b kept bytes went c = record {
 }
 
 -- a list that says the same of the configuration
-same_configured : (old new : Changes) (trace : Option (List Call)) (bytes : List ℕ) → change_at config new ≡ change_at config old → IsConfigured old trace bytes → IsConfigured new trace bytes
+same_configured : (old new : FileChanges) (trace : Option (List Call)) (bytes : List ℕ) → change_at config new ≡ change_at config old → IsConfigured old trace bytes → IsConfigured new trace bytes
 same_configured old new trace bytes same (inl waits) = inl (same ∙ waits)
 same_configured old new trace bytes same (inr (none, last)) = inr (same ∙ none, last)
 
@@ -125,7 +125,7 @@ changed_configures a b old new changes bytes x had has c =
     let before = configured_of a.state a.list old bytes had c in
     configures_of b.state b.list new bytes has (subst (λ t. IsConfigured b.list t bytes) (sym x.trace) (same_configured a.list b.list old bytes x.config before))
 
-got_configured : (list : Changes) (trace : Option (List Call)) (bytes : List ℕ) (name : At) (max : ℕ) (answer : Option (List ℕ)) → IsConfigured list trace bytes → IsConfigured list (adds trace (got name max answer)) bytes
+got_configured : (list : FileChanges) (trace : Option (List Call)) (bytes : List ℕ) (name : At) (max : ℕ) (answer : Option (List ℕ)) → IsConfigured list trace bytes → IsConfigured list (adds trace (got name max answer)) bytes
 got_configured list None bytes name max answer c = c
 got_configured list (Some t) bytes name max answer c = c
 

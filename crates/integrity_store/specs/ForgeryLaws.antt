@@ -16,7 +16,7 @@ use Rattle.sealed_store.specs.BlockFiles.{opens_file}
 use Rattle.integrity_store.specs.Forgeries.{forged, opens_unput, was_put}
 use Rattle.integrity_store.specs.Held.{Held}
 use Rattle.integrity_store.specs.ReadLaws.{sound-reads}
-use Rattle.integrity_store.specs.Reads.{AllReads, IsRead, Went}
+use Rattle.integrity_store.specs.Reads.{AllReads, IsRead, WentOnByReads}
 use Rattle.integrity_store.specs.RecordLaws.{opened-plain, opens-length}
 use Rattle.integrity_store.specs.Soundness.{SoundAt, SoundBy}
 
@@ -26,7 +26,7 @@ true_is_false e = cc
 none_is_some : {A B : Type 0} {x : A} → None ≡ Some x → B
 none_is_some {B = B} e = absurd (true_is_false (ap is_some (sym e)))
 
-pub went_count : (test : List Call → Call → Bool) (h : Held) (a b : Option (List Call)) → Went h a b → count_told test a ≤ count_told test b
+pub went_count : (test : List Call → Call → Bool) (h : Held) (a b : Option (List Call)) → WentOnByReads h a b → count_told test a ≤ count_told test b
 went_count test h None b went = omega arith
 went_count test h (Some t) b (reads, is, all) = subst (λ b. count_calls test t ≤ count_told test b) (sym is) (count_grows test t reads)
 
@@ -98,7 +98,7 @@ fewer_forged h trace (call ∷ reads) all sound =
     omega (arith, first, rest)
 
 -- where nothing but what was last written came back, nothing came back that was never put
-pub went_honest : (h : Held) (a b : Option (List Call)) → Went h a b → SoundBy h a → count_told is_lie b ≤ count_told is_lie a
+pub went_honest : (h : Held) (a b : Option (List Call)) → WentOnByReads h a b → SoundBy h a → count_told is_lie b ≤ count_told is_lie a
     → count_told (forged h.opens h.size) b ≤ count_told (forged h.opens h.size) a
 went_honest h None b went sound few = absurd sound
 went_honest h (Some t) b (reads, is, all) sound few =

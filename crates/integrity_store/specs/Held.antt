@@ -4,23 +4,23 @@ use Rattle.std.specs.declared.option.Option.{Option}
 use Rattle.std.specs.declared.option.Option.TheVariants.{None, Some}
 use Rattle.std.specs.FinMap as fin
 use Rattle.outside.specs.Trace.{block, Call}
-use Rattle.outside.specs.Changes.{Changes, change_at}
+use Rattle.outside.specs.Changes.{FileChanges, change_at}
 use Rattle.outside.specs.Honest.{LastChange, last_change}
 use Rattle.local_state.specs.Known.{version_if_live}
 use Rattle.local_state.specs.Record.{PlainState}
 use Rattle.store_api.specs.Content.{Content}
 use Rattle.integrity_store.specs.BlockRecords.{Record, payload_in}
 
--- the size of a block, what a sealed text opens to, the state, and what isn't written yet
+-- the size of a block, what a sealed text opens to, the state, and the unwritten list
 pub record Held : Type 0 where
   pub size : ℕ
   pub opens : List ℕ → Option (List ℕ)
   pub state : PlainState
-  pub list : Changes
+  pub list : FileChanges
 
 -- the version of a live id
 abbrev pub live_version : Held → List ℕ → Option ℕ
-live_version h id = version_if_live (fin.get h.state.marks id)
+live_version h id = version_if_live (fin.get h.state.lives id)
 
 -- the record of this id at this version, by the own client
 abbrev pub own : Held → List ℕ → ℕ → List ℕ → Record

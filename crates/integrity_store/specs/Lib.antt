@@ -7,7 +7,7 @@ pub mod Forgeries
 pub mod ForgeryLaws
 pub mod Held
 pub mod Loads
-pub mod Marking
+pub mod Raising
 pub mod ReadLaws
 pub mod Reads
 pub mod RecordLaws

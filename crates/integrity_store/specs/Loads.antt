@@ -8,7 +8,7 @@ use Rattle.block_id.specs.declared.fail.Fail.{Fail}
 use Rattle.block_id.specs.declared.fail.Fail.TheVariants.{Memory, Fault, Violation}
 use Rattle.outside.specs.Trace.{block, Call}
 use Rattle.redo_vault.specs.Redo.{Gave}
-use Rattle.store_api.specs.Loads.{Answer}
+use Rattle.store_api.specs.Loads.{LoadAnswer}
 use Rattle.integrity_store.specs.Held.{Held, live_version, waiting}
 use Rattle.integrity_store.specs.Verdicts.{bad, good, verdict}
 
@@ -31,19 +31,19 @@ Fetched h old new id version (Err (Violation why)) =
     (file : Option (List ℕ)) × Came h old new id file × (verdict h.opens h.size id h.state.client version file ≡ bad why)
 
 -- what a load of an id answers: none where it doesn't live, without a call; else by the verdict on what came
-abbrev pub Answers : Held → Option (List Call) → Option (List Call) → List ℕ → Option ℕ → Answer → Type 0
-Answers h old new id None (Ok None) = new ≡ old
-Answers h old new id None (Ok (Some payload)) = ⊥
-Answers h old new id None (Err e) = ⊥
-Answers h old new id (Some version) (Ok None) = ⊥
-Answers h old new id (Some version) (Ok (Some payload)) = Fetched h old new id version (Ok payload)
-Answers h old new id (Some version) (Err e) = Fetched h old new id version (Err e)
+abbrev pub LoadAnswers : Held → Option (List Call) → Option (List Call) → List ℕ → Option ℕ → LoadAnswer → Type 0
+LoadAnswers h old new id None (Ok None) = new ≡ old
+LoadAnswers h old new id None (Ok (Some payload)) = ⊥
+LoadAnswers h old new id None (Err e) = ⊥
+LoadAnswers h old new id (Some version) (Ok None) = ⊥
+LoadAnswers h old new id (Some version) (Ok (Some payload)) = Fetched h old new id version (Ok payload)
+LoadAnswers h old new id (Some version) (Err e) = Fetched h old new id version (Err e)
 
 -- a load leaves what is held, and answers by the verdict
-pub record Loads (a b : Held) (old new : Option (List Call)) (id : List ℕ) (answer : Answer) : Type 0 where
+pub record Loads (a b : Held) (old new : Option (List Call)) (id : List ℕ) (answer : LoadAnswer) : Type 0 where
   pub held : b ≡ a
-  pub judged : Answers a old new id (live_version a id) answer
+  pub judged : LoadAnswers a old new id (live_version a id) answer
 
 -- the same of a store, by the views of what it holds and of its trace
-abbrev pub loads_by : {S : Type 0} → (S → Held) → (S → Option (List Call)) → S → S → List ℕ → Answer → Type 0
+abbrev pub loads_by : {S : Type 0} → (S → Held) → (S → Option (List Call)) → S → S → List ℕ → LoadAnswer → Type 0
 loads_by held trace a b id answer = Loads (held a) (held b) (trace a) (trace b) id answer

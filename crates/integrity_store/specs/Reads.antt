@@ -23,9 +23,9 @@ AllReads h [] = Unit {0}
 AllReads h (call ∷ calls) = IsRead h call × AllReads h calls
 
 -- the trace went on by reads alone
-abbrev pub Went : Held → Option (List Call) → Option (List Call) → Type 0
-Went h None new = new ≡ None
-Went h (Some old) new = (reads : List Call) × (new ≡ Some (reads ++ old)) × AllReads h reads
+abbrev pub WentOnByReads : Held → Option (List Call) → Option (List Call) → Type 0
+WentOnByReads h None new = new ≡ None
+WentOnByReads h (Some old) new = (reads : List Call) × (new ≡ Some (reads ++ old)) × AllReads h reads
 
 -- the call is one of these
 abbrev pub Among : List Call → Call → Type 0
@@ -33,7 +33,7 @@ Among [] call = ⊥
 Among (first ∷ calls) call = (first ≡ call) ⊎ Among calls call
 
 -- of a live block, the file that waits or one that these calls gave is wrong in this way
-pub record Found (h : Held) (calls : List Call) (why : Why) : Type 0 where
+pub record FoundWrong (h : Held) (calls : List Call) (why : Why) : Type 0 where
   pub id : List ℕ
   pub version : ℕ
   pub file : Option (List ℕ)
@@ -44,7 +44,7 @@ pub record Found (h : Held) (calls : List Call) (why : Why) : Type 0 where
 -- since then something was found wrong in this way, of a directory that tells its calls
 abbrev pub FoundSince : Held → Option (List Call) → Option (List Call) → Why → Type 0
 FoundSince h None new why = Unit {0}
-FoundSince h (Some old) new why = (reads : List Call) × (new ≡ Some (reads ++ old)) × Found h reads why
+FoundSince h (Some old) new why = (reads : List Call) × (new ≡ Some (reads ++ old)) × FoundWrong h reads why
 
 -- the trace after the configuration's file was asked for, and this came
 abbrev pub after_read : Option (List Call) → ℕ → Option (List ℕ) → Option (List Call)

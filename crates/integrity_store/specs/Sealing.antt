@@ -6,23 +6,23 @@ use Rattle.std.specs.declared.option.Option.TheVariants.{None, Some}
 use Rattle.rand_core.specs.Stream.{Stream, fill_bytes}
 use Rattle.outside.specs.Trace.{At, block}
 use Rattle.outside.specs.Changes.{set_changes}
-use Rattle.local_state.specs.declared.mark.Mark.{Mark}
+use Rattle.local_state.specs.declared.life.Life.{Life}
 use Rattle.store_api.specs.Content.{Id}
 use Rattle.local_state.specs.Known.{is_last}
 use Rattle.integrity_store.specs.Applied.{IsRaised}
 use Rattle.integrity_store.specs.Draws.{iv_in}
 use Rattle.integrity_store.specs.Held.{Held}
-use Rattle.integrity_store.specs.Marking.{Entry}
+use Rattle.integrity_store.specs.Raising.{BatchEntry}
 
 -- ---- one entry
 
 -- a payload has its length, and the version of its id can rise
-pub record MaySealAt (h : Held) (payload : List ℕ) (mark : Option Mark) : Type 0 where
+pub record MaySealAt (h : Held) (payload : List ℕ) (life : Option Life) : Type 0 where
   pub sized : length payload + 78 ≡ h.size
-  pub not_last : is_last mark ≡ false
+  pub not_last : is_last life ≡ false
 
-abbrev pub MaySeal : Held → Entry → Type 0
-MaySeal h (id, Some payload) = MaySealAt h payload (fin.get h.state.marks id)
+abbrev pub MaySeal : Held → BatchEntry → Type 0
+MaySeal h (id, Some payload) = MaySealAt h payload (fin.get h.state.lives id)
 MaySeal h (id, None) = Unit {0}
 
 -- the IV of a file that is made next
@@ -46,7 +46,7 @@ stream_after None stream = stream
 
 -- ---- all entries, in order
 
-abbrev pub AreMadeOf : Held → List Entry → Stream → List (At × Option (List ℕ)) → Stream → Type 0
+abbrev pub AreMadeOf : Held → List BatchEntry → Stream → List (At × Option (List ℕ)) → Stream → Type 0
 AreMadeOf h [] stream [] left = left ≡ stream
 AreMadeOf h [] stream (change ∷ changes) left = ⊥
 AreMadeOf h (e ∷ es) stream [] left = ⊥
@@ -54,7 +54,7 @@ AreMadeOf h (e ∷ es) stream (change ∷ changes) left =
     (change.0 ≡ block e.0) × IsMadeOf h e.0 e.1 stream change.1 × AreMadeOf h es (stream_after e.1 stream) changes left
 
 -- what was made of the entries waits, and all else is the same
-pub record IsListed (a b : Held) (es : List Entry) (stream left : Stream) : Type 0 where
+pub record IsListed (a b : Held) (es : List BatchEntry) (stream left : Stream) : Type 0 where
   pub changes : List (At × Option (List ℕ))
   pub made : AreMadeOf a es stream changes left
   pub held : b ≡ record a { list = set_changes changes a.list }

@@ -5,7 +5,7 @@ use Rattle.std.specs.declared.option.Option.TheVariants.{None, Some}
 use Rattle.std.specs.FinMap as fin
 use Rattle.outside.specs.Trace.{block, Call, At}
 use Rattle.outside.specs.Honest.{last_change}
-use Rattle.local_state.specs.declared.mark.Mark.{Mark}
+use Rattle.local_state.specs.declared.life.Life.{Life}
 use Rattle.local_state.specs.Known.{is_dead_in}
 use Rattle.sealed_store.specs.BlockFiles.{opens_file}
 use Rattle.integrity_store.specs.BlockRecords.{Record, opened, record_of}
@@ -14,10 +14,10 @@ use Rattle.integrity_store.specs.Held.{Held, live_version, own, waiting, wanted}
 
 -- a record of a used id by the own client, no version above the known one; at the known version of a live id it is what is wanted
 pub record IsPast (h : Held) (trace : List Call) (r : Record) : Type 0 where
-  pub mark : Mark
-  pub used : fin.get h.state.marks r.id ≡ Some mark
+  pub life : Life
+  pub used : fin.get h.state.lives r.id ≡ Some life
   pub client : r.client ≡ h.state.client
-  pub version : r.version ≤ mark.version
+  pub version : r.version ≤ life.version
   pub payload : live_version h r.id ≡ Some r.version → wanted h (Some trace) r.id ≡ Some r.payload
 
 -- what waits or was put last is the record of the known version, and whatever else was put is of the past
@@ -30,10 +30,10 @@ pub record SoundAt (h : Held) (trace : List Call) : Type 0 where
       → (bytes payload : List ℕ) × (last_change (block id) trace ≡ Some (record { bytes = Some bytes; ok = true }))
       × (opened h.opens h.size bytes ≡ Some (own h id version payload))
   -- a dead block whose removal doesn't wait was removed last
-  pub buried : (id : List ℕ) → is_dead_in h.state.marks id ≡ true → waiting h id ≡ None
+  pub buried : (id : List ℕ) → is_dead_in h.state.lives id ≡ true → waiting h id ≡ None
       → last_change (block id) trace ≡ Some (record { bytes = None; ok = true })
   -- only used blocks were changed
-  pub used : (id : List ℕ) → is_some (last_change (block id) trace) ≡ true → is_some (fin.get h.state.marks id) ≡ true
+  pub used : (id : List ℕ) → is_some (last_change (block id) trace) ≡ true → is_some (fin.get h.state.lives id) ≡ true
   -- each file that was put and opens is a record of the past
   pub past : (bytes plain : List ℕ) → was_put bytes trace ≡ true → opens_file h.opens h.size bytes ≡ Some plain
       → (r : Record) × (record_of h.size plain ≡ Some r) × IsPast h trace r

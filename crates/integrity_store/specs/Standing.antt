@@ -2,8 +2,8 @@
 use Rattle.std.specs.Prelude.{◌≡◌, ℕ, Bool, true, false, List, []}
 use Rattle.std.specs.declared.option.Option.{Option}
 use Rattle.outside.specs.Trace.{Call}
-use Rattle.outside.specs.Changes.{Changes}
-use Rattle.local_state.specs.Record.{PlainState, Entry, record_bytes, HasRecord}
+use Rattle.outside.specs.Changes.{FileChanges}
+use Rattle.local_state.specs.Record.{PlainState, ListEntry, record_bytes, HasRecord}
 use Rattle.store_api.specs.Content.{Content, SameContent}
 use Rattle.store_api.specs.Durables.{Identity, Durables, Records, IsConfigured}
 use Rattle.integrity_store.specs.Held.{Held, wanted}
@@ -34,7 +34,7 @@ pub record Stands (identity : Identity) (kept : List ℕ) (trace : Option (List 
 -- a record with its mark set
 pub record IsMarked (kept : List ℕ) : Type 0 where
   pub state : PlainState
-  pub list : List Entry
+  pub list : List ListEntry
   pub is_marked : state.marked ≡ true
   pub has_record : HasRecord state list
   pub bytes : kept ≡ record_bytes state list
@@ -42,13 +42,13 @@ pub record IsMarked (kept : List ℕ) : Type 0 where
 -- The kept bytes are a record, by whose list and the trace the configuration's file holds these bytes.
 pub record Configures (kept : List ℕ) (trace : Option (List Call)) (bytes : List ℕ) : Type 0 where
   pub state : PlainState
-  pub list : List Entry
+  pub list : List ListEntry
   pub has_record : HasRecord state list
   pub is_record : kept ≡ record_bytes state list
   pub configured : IsConfigured list trace bytes
 
 -- the list, or an empty one
-abbrev pub listed : Bool → Changes → Changes
+abbrev pub listed : Bool → FileChanges → FileChanges
 listed true list = list
 listed false list = []
 
@@ -57,7 +57,7 @@ durables_by held trace = record {
   identity = λ s. identity_of (held s);
   trace = trace;
   list = λ s. (held s).list;
-  record_of = λ s with_list. record_bytes (held s).state (listed with_list (held s).list);
+  local_record_of = λ s with_list. record_bytes (held s).state (listed with_list (held s).list);
 }
 
 abbrev pub records : Records

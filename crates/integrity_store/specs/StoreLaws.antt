@@ -11,8 +11,8 @@ use Rattle.block_id.specs.Fresh.{zero_id}
 use Rattle.outside.specs.Trace.{Call}
 use Rattle.outside.specs.Honest.{is_lie, count_told}
 use Rattle.outcome.specs.Meanings.{Lawful}
-use Rattle.local_state.specs.declared.mark.Mark.{Mark}
-use Rattle.local_state.specs.Known.{FitMarks, version_if_live, is_last}
+use Rattle.local_state.specs.declared.life.Life.{Life}
+use Rattle.local_state.specs.Known.{FitLives, version_if_live, is_last}
 use Rattle.store_api.specs.Content.{Id}
 use Rattle.store_api.specs.Holdings.{Steady, Stays, has_id}
 use Rattle.integrity_store.specs.AlarmLaws.{found_unmet}
@@ -21,7 +21,7 @@ use Rattle.integrity_store.specs.Forgeries.{forged}
 use Rattle.integrity_store.specs.ForgeryLaws.{went_count, went_honest}
 use Rattle.integrity_store.specs.Held.{Held, file_of, live_version, told_or_none, wanted, where_live}
 use Rattle.integrity_store.specs.ReadLaws.{found_after, found_before, wanted_ids, went_on, went_same, went_told, went_wanted}
-use Rattle.integrity_store.specs.Reads.{FoundSince, Went}
+use Rattle.integrity_store.specs.Reads.{FoundSince, WentOnByReads}
 use Rattle.integrity_store.specs.RecordLaws.{opened_len}
 use Rattle.integrity_store.specs.Soundness.{SoundBy}
 use Rattle.integrity_store.specs.Stores.{OnlyRead, holdings_by, meanings_by, version_in}
@@ -31,16 +31,16 @@ use Rattle.integrity_store.specs.Stores.{OnlyRead, holdings_by, meanings_by, ver
 only_on : (a b c : Held) (t u v : Option (List Call)) (f g k : ℕ) → OnlyRead a b t u f g → OnlyRead b c u v g k → OnlyRead a c t v f k
 only_on a b c t u v f g k x y = record {
   held = y.held ∙ x.held;
-  trace = went_on a t u v x.trace (subst (λ s. Went s u v) x.held y.trace);
+  trace = went_on a t u v x.trace (subst (λ s. WentOnByReads s u v) x.held y.trace);
   faults = omega (arith, x.faults, y.faults);
 }
 
 only_before : (a b c : Held) (t u v : Option (List Call)) (f g k : ℕ) (why : Why) → OnlyRead a b t u f g → OnlyRead b c u v g k → FoundSince a t u why → FoundSince a t v why
-only_before a b c t u v f g k why x y found = found_before a t u v why x.trace (subst (λ s. Went s u v) x.held y.trace) found
+only_before a b c t u v f g k why x y found = found_before a t u v why x.trace (subst (λ s. WentOnByReads s u v) x.held y.trace) found
 
 only_after : (a b c : Held) (t u v : Option (List Call)) (f g k : ℕ) (why : Why) → OnlyRead a b t u f g → OnlyRead b c u v g k → FoundSince b u v why → FoundSince a t v why
 only_after a b c t u v f g k why x y found =
-    found_after a t u v why x.trace (subst (λ s. Went s u v) x.held y.trace) (subst (λ s. FoundSince s u v why) x.held found)
+    found_after a t u v why x.trace (subst (λ s. WentOnByReads s u v) x.held y.trace) (subst (λ s. FoundSince s u v why) x.held found)
 
 only_forgeries : (a b : Held) (t u : Option (List Call)) (f g : ℕ) → OnlyRead a b t u f g → count_told (forged a.opens a.size) t ≤ count_told (forged b.opens b.size) u
 only_forgeries a b t u f g x =
@@ -77,36 +77,36 @@ sound_is_told h None s = absurd s
 sound_is_told h (Some t) s = refl
 
 -- an id is among the used ones exactly where it is known
-pub has-keys : (h : Held) (id : Id) → has_id (fin.keys h.state.marks) id ≡ is_some (fin.get h.state.marks id)
-has-keys h id = sym (contains_key-keys h.state.marks id)
+pub has-keys : (h : Held) (id : Id) → has_id (fin.keys h.state.lives) id ≡ is_some (fin.get h.state.lives id)
+has-keys h id = sym (contains_key-keys h.state.lives id)
 
-live_known : (mark : Option Mark) (payload : List ℕ) → is_some (where_live (version_if_live mark) payload) ≡ true → is_some mark ≡ true
+live_known : (life : Option Life) (payload : List ℕ) → is_some (where_live (version_if_live life) payload) ≡ true → is_some life ≡ true
 live_known None payload e = e
-live_known (Some mark) payload e = refl
+live_known (Some life) payload e = refl
 
-wanted_used : (h : Held) (t : Option (List Call)) (id : Id) → is_some (wanted h t id) ≡ true → has_id (fin.keys h.state.marks) id ≡ true
-wanted_used h t id e = has-keys h id ∙ live_known (fin.get h.state.marks id) (payload_in h.opens h.size (file_of h (told_or_none t) id)) e
+wanted_used : (h : Held) (t : Option (List Call)) (id : Id) → is_some (wanted h t id) ≡ true → has_id (fin.keys h.state.lives) id ≡ true
+wanted_used h t id e = has-keys h id ∙ live_known (fin.get h.state.lives id) (payload_in h.opens h.size (file_of h (told_or_none t) id)) e
 
-last_version : (mark : Option Mark) → is_last mark ≡ true → version_in mark + 1 ≡ 2 ^ 64
+last_version : (life : Option Life) → is_last life ≡ true → version_in life + 1 ≡ 2 ^ 64
 last_version None e = absurd (cc)
-last_version (Some mark) e = ap (λ n. n + 1) (eqb-true mark.version (2 ^ 64 - 1) e)
+last_version (Some life) e = ap (λ n. n + 1) (eqb-true life.version (2 ^ 64 - 1) e)
 
-version_last : (mark : Option Mark) → version_in mark + 1 ≡ 2 ^ 64 → is_last mark ≡ true
+version_last : (life : Option Life) → version_in life + 1 ≡ 2 ^ 64 → is_last life ≡ true
 version_last None e = absurd (omega arith)
-version_last (Some mark) e = eq-eqb mark.version (2 ^ 64 - 1) (omega arith)
+version_last (Some life) e = eq-eqb life.version (2 ^ 64 - 1) (omega arith)
 
-no_version : (mark : Option Mark) → is_some mark ≡ false → version_in mark ≡ 0
+no_version : (life : Option Life) → is_some life ≡ false → version_in life ≡ 0
 no_version None e = refl
-no_version (Some mark) e = absurd (cc)
+no_version (Some life) e = absurd (cc)
 
-last_known : (mark : Option Mark) → is_last mark ≡ true → is_some mark ≡ true
+last_known : (life : Option Life) → is_last life ≡ true → is_some life ≡ true
 last_known None e = e
-last_known (Some mark) e = refl
+last_known (Some life) e = refl
 
-zero_free : (h : Held) → FitMarks h.state.marks → has_id (fin.keys h.state.marks) zero_id ≡ false
-zero_free h fits = has-keys h zero_id ∙ elim (fin.get h.state.marks zero_id) as (λ m. fin.get h.state.marks zero_id ≡ m → is_some m ≡ false) [
+zero_free : (h : Held) → FitLives h.state.lives → has_id (fin.keys h.state.lives) zero_id ≡ false
+zero_free h fits = has-keys h zero_id ∙ elim (fin.get h.state.lives zero_id) as (λ m. fin.get h.state.lives zero_id ≡ m → is_some m ≡ false) [
   | None ↦ λ e. refl
-  | Some mark ↦ λ e. let f = rw e at (fits zero_id) in absurd (f.not_zero refl)
+  | Some life ↦ λ e. let f = rw e at (fits zero_id) in absurd (f.not_zero refl)
 ] refl
 
 file_len : (h : Held) (file : Option (List ℕ)) → length (payload_in h.opens h.size file) ≡ h.size - 78
@@ -130,14 +130,14 @@ steady_by held trace faults own = record {
   at_least = λ a i. omega (arith, i.0.least);
   at_most = λ a i. omega (arith, i.0.most);
   content_used = λ a id i e. wanted_used (held a) (trace a) id e;
-  zero_unused = λ a i. zero_free (held a) i.0.has_record.state.marks;
+  zero_unused = λ a i. zero_free (held a) i.0.has_record.state.lives;
   sized = λ a id bytes i told e. wanted_len (held a) (trace a) id bytes e;
-  spent_used = λ a id i e. has-keys (held a) id ∙ last_known (fin.get (held a).state.marks id) e;
-  spent_last = λ a id i e. last_version (fin.get (held a).state.marks id) e;
-  last_spent = λ a id i e. version_last (fin.get (held a).state.marks id) e;
-  unused_version = λ a id i e. no_version (fin.get (held a).state.marks id) (sym (has-keys (held a) id) ∙ e);
+  spent_used = λ a id i e. has-keys (held a) id ∙ last_known (fin.get (held a).state.lives id) e;
+  spent_last = λ a id i e. last_version (fin.get (held a).state.lives id) e;
+  last_spent = λ a id i e. version_last (fin.get (held a).state.lives id) e;
+  unused_version = λ a id i e. no_version (fin.get (held a).state.lives id) (sym (has-keys (held a) id) ∙ e);
   loaded_payload = λ a b x. ap (λ h. h.size - 78) x.held;
-  loaded_version = λ a b id x. ap (λ h. version_in (fin.get h.state.marks id)) x.held;
+  loaded_version = λ a b id x. ap (λ h. version_in (fin.get h.state.lives id)) x.held;
 }
 
 -- ---- loading
@@ -149,8 +149,8 @@ settled_by held trace faults a b x = record {
   ids = λ id. subst (λ h. is_some (wanted h (trace b) id) ≡ is_some (wanted (held a) (trace a) id)) (sym x.held) (wanted_ids (held a) (trace a) (trace b) id);
   content = λ told id. subst (λ h. wanted h (trace b) id ≡ wanted (held a) (trace a) id) (sym x.held) (went_wanted (held a) (held a) (trace a) (trace b) x.trace told id);
   told = went_told (held a) (trace a) (trace b) x.trace;
-  used = ap (λ h. fin.keys h.state.marks) x.held;
-  spent = λ id. ap (λ h. is_last (fin.get h.state.marks id)) x.held;
-  version = λ id. ap (λ h. version_in (fin.get h.state.marks id)) x.held;
+  used = ap (λ h. fin.keys h.state.lives) x.held;
+  spent = λ id. ap (λ h. is_last (fin.get h.state.lives id)) x.held;
+  version = λ id. ap (λ h. version_in (fin.get h.state.lives id)) x.held;
   payload = ap (λ h. h.size - 78) x.held;
 }

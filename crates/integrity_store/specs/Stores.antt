@@ -7,14 +7,14 @@ use Rattle.outside.specs.Trace.{config, Call}
 use Rattle.outside.specs.Changes.{change_at}
 use Rattle.outside.specs.Honest.{is_lie, count_told}
 use Rattle.outcome.specs.Meanings.{Meanings}
-use Rattle.local_state.specs.declared.mark.Mark.{Mark}
+use Rattle.local_state.specs.declared.life.Life.{Life}
 use Rattle.local_state.specs.Known.{is_last}
 use Rattle.local_state.specs.Record.{HasRecord}
 use Rattle.store_api.specs.Holdings.{Holdings}
 use Rattle.store_api.specs.Lists.{block_magic}
 use Rattle.integrity_store.specs.Forgeries.{forged}
 use Rattle.integrity_store.specs.Held.{Held, wanted}
-use Rattle.integrity_store.specs.Reads.{FoundSince, Went}
+use Rattle.integrity_store.specs.Reads.{FoundSince, WentOnByReads}
 use Rattle.integrity_store.specs.Soundness.{SoundBy}
 
 -- bytes that wait as the configuration don't begin as a block's file does
@@ -33,13 +33,13 @@ pub record IsWhole (h : Held) : Type 0 where
 -- only reads of live blocks were made, and all else is the same
 pub record OnlyRead (a b : Held) (old new : Option (List Call)) (was now : ℕ) : Type 0 where
   pub held : b ≡ a
-  pub trace : Went a old new
+  pub trace : WentOnByReads a old new
   pub faults : was ≤ now
 
 -- the known version, and 0 of an id that isn't used
-abbrev pub version_in : Option Mark → ℕ
+abbrev pub version_in : Option Life → ℕ
 version_in None = 0
-version_in (Some mark) = mark.version
+version_in (Some life) = life.version
 
 -- what a store means, by the views of what it holds, of its trace and of its faults
 abbrev pub meanings_by : {S : Type 0} → (S → Held) → (S → Option (List Call)) → (S → ℕ) → (S → Type 0) → Meanings S
@@ -58,8 +58,8 @@ abbrev pub holdings_by : {S : Type 0} → (S → Held) → (S → Option (List C
 holdings_by held trace = record {
   content = λ s. wanted (held s) (trace s);
   told = λ s. is_some (trace s);
-  used = λ s. fin.keys (held s).state.marks;
-  spent = λ s id. is_last (fin.get (held s).state.marks id);
-  version = λ s id. version_in (fin.get (held s).state.marks id);
+  used = λ s. fin.keys (held s).state.lives;
+  spent = λ s id. is_last (fin.get (held s).state.lives id);
+  version = λ s id. version_in (fin.get (held s).state.lives id);
   payload = λ s. (held s).size - 78;
 }

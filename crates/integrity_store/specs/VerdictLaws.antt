@@ -7,7 +7,7 @@ use Rattle.std.specs.List.{starts_with}
 use Rattle.std.specs.declared.option.Option.{Option}
 use Rattle.std.specs.declared.option.Option.TheVariants.{None, Some}
 use Rattle.block_id.specs.declared.fail.Why.{Why}
-use Rattle.sealed_store.specs.BlockFiles.{bad_length, bad_prefix, sight_of_plain, prefix}
+use Rattle.sealed_store.specs.BlockFiles.{bad_length, bad_prefix, seen_file_of_plain, prefix}
 use Rattle.integrity_store.specs.BlockRecords.{Record, opened, record_in}
 use Rattle.integrity_store.specs.Verdicts.{bad, good, judged, judged_record, verdict}
 
@@ -19,7 +19,7 @@ bad_is_good e = cc
 
 judged_seen : (size : ℕ) (id : List ℕ) (client known : ℕ) (a b : Bool) (o : Option (List ℕ)) (r : Record)
     → record_in size (if a && b then o else None) ≡ Some r
-    → judged size id client known (if a then (if b then sight_of_plain o else bad_prefix) else bad_length) ≡ judged_record id client known (Some r)
+    → judged size id client known (if a then (if b then seen_file_of_plain o else bad_prefix) else bad_length) ≡ judged_record id client known (Some r)
 judged_seen size id client known true true (Some p) r e = ap (judged_record id client known) e
 judged_seen size id client known true true None r e = absurd (false_is_true (ap is_some e))
 judged_seen size id client known true false o r e = absurd (false_is_true (ap is_some e))

@@ -9,7 +9,7 @@ use Rattle.block_id.specs.declared.fail.Why.{Why}
 use Rattle.block_id.specs.declared.fail.Why.TheVariants.{Missing, BadLength, BadPrefix, NotOpened, BadRecord, WrongId, ForeignClient, OldVersion, AheadVersion}
 use Rattle.block_id.specs.declared.fail.Fail.{Fail}
 use Rattle.block_id.specs.declared.fail.Fail.TheVariants.{Memory, Fault, Violation}
-use Rattle.sealed_store.specs.BlockFiles.{Sight, absent, bad_length, bad_prefix, not_opened, plain, sight_in}
+use Rattle.sealed_store.specs.BlockFiles.{SeenFile, absent, bad_length, bad_prefix, not_opened, plain, seen_file_in}
 use Rattle.integrity_store.specs.BlockRecords.{Record, record_of}
 
 -- a payload, or what is wrong
@@ -28,7 +28,7 @@ judged_record id client known (Some r) =
     else bad (WrongId (record { 0 = r.id }))
 
 -- what comes before that: no file, another length, another prefix, a seal that doesn't open
-abbrev pub judged : ℕ → List ℕ → ℕ → ℕ → Sight → Verdict
+abbrev pub judged : ℕ → List ℕ → ℕ → ℕ → SeenFile → Verdict
 judged size id client known absent = bad Missing
 judged size id client known bad_length = bad BadLength
 judged size id client known bad_prefix = bad BadPrefix
@@ -37,7 +37,7 @@ judged size id client known (plain bytes) = judged_record id client known (recor
 
 -- the verdict on an answer for this id, by the state's client and the id's known version
 abbrev pub verdict : (List ℕ → Option (List ℕ)) → ℕ → List ℕ → ℕ → ℕ → Option (List ℕ) → Verdict
-verdict opens size id client known answer = judged size id client known (sight_in opens size answer)
+verdict opens size id client known answer = judged size id client known (seen_file_in opens size answer)
 
 -- the payload or the reason, unless memory ran out; never a fault
 abbrev pub Judges : Verdict → Result (Vec ℕ Global) Fail → Type 0

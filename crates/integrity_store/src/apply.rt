@@ -5,16 +5,16 @@ ghost use Rattle.std.specs.List.{AllByRecursion};
 ghost use Rattle.std.specs.FinMap as fin;
 ghost use Rattle.sealed_store.specs.Stores.{IsIntact, block_size_of, key_of, cipher_of};
 ghost use Rattle.store_api.specs.Entries.{entries_of};
-ghost use Rattle.store_api.specs.Holdings.{Fits, Changed, IsSpent};
+ghost use Rattle.store_api.specs.Holdings.{FitsStore, Changed, IsSpent};
 ghost use Rattle.integrity_store.specs.Applied.{applied_by};
 ghost use Rattle.integrity_store.specs.Draws.{AreDrawn};
-ghost use Rattle.integrity_store.specs.Marking.{count_new_in};
+ghost use Rattle.integrity_store.specs.Raising.{count_new_in};
 ghost use Rattle.integrity_store.specs.Sealing.{MaySeal, IsListed};
 ghost use Rattle.integrity_store.specs.StoreLaws.{settled_by};
 ghost use Rattle.integrity_store.specs.Views.{held_by};
 
 use crate::IntegrityStore;
-use crate::marking::{count_new, mark_all, some_spent};
+use crate::raising::{count_new, raise_or_bury_all, some_spent};
 use crate::sealing::seal_all;
 use block_id::{BlockId, Memory};
 use outside::Vault;
@@ -24,7 +24,7 @@ use std::alloc::Global;
 use store_api::{ApplyError, Batch, BatchChange, Blocks, BlocksMut};
 
 impl<V: Vault, C: Sealer> IntegrityStore<V, C> {
-    // Has the files and removals of the entries wait, and takes the memory for their new ids.
+    /// Has the files and removals of the entries wait, and takes the memory for their new ids.
     fn put_sealed<R: Rng>(
         &mut self,
         alloc: Global,
@@ -35,7 +35,7 @@ impl<V: Vault, C: Sealer> IntegrityStore<V, C> {
         requires may { AllByRecursion (MaySeal (held_by C.opens self.old)) (entries_of entries.now) }
         ensures intact { IsIntact (block_size_of self.new.sealed) (C.iv_size (cipher_of self.new.sealed)) }
         ensures vault { self.new.sealed.vault.vault ≡ self.old.sealed.vault.vault }
-        ensures room { OnOk result (count_new_in self.new.state.known.marks (entries_of entries.now) ≤ self.new.state.known.spare) }
+        ensures room { OnOk result (count_new_in self.new.state.known.lives (entries_of entries.now) ≤ self.new.state.known.spare) }
         ensures listed { OnOk result (IsListed (held_by C.opens self.old)
             (held_by C.opens self.new) (entries_of entries.now) (R.stream chance.old) (R.stream chance.new)) }
         ensures held { OnErr result (held_by C.opens self.new
@@ -61,7 +61,7 @@ impl<V: Vault, C: Sealer> BlocksMut for IntegrityStore<V, C> {
         chance: &mut R,
     ) -> Result<(), ApplyError>
         requires intact { ⟦<IntegrityStore<V, C> as Blocks>⟧.meanings.intact self.old }
-        requires fits { Fits ⟦<IntegrityStore<V, C> as Blocks>⟧.holdings self.old batch.now }
+        requires fits { FitsStore ⟦<IntegrityStore<V, C> as Blocks>⟧.holdings self.old batch.now }
         ensures intact { ⟦<IntegrityStore<V, C> as Blocks>⟧.meanings.intact self.new }
         ensures changed { OnOk result (Changed ⟦<IntegrityStore<V, C> as Blocks>⟧.meanings ⟦<IntegrityStore<V, C> as Blocks>⟧.holdings self.old self.new batch.now) }
         ensures applied { OnOk result (applied_by (held_by C.opens) (λ s. V.trace s.sealed.vault.vault) self.old self.new batch.now) }
@@ -80,7 +80,7 @@ impl<V: Vault, C: Sealer> BlocksMut for IntegrityStore<V, C> {
         }
         match self.put_sealed(alloc, entries, chance) {
             Ok(()) => {
-                mark_all(&mut self.state.known, entries);
+                raise_or_bury_all(&mut self.state.known, entries);
                 // With their numbers read, the used ids and what waits are known to be few enough for a record.
                 let _used = self.state.known.len();
                 let _waiting = self.sealed.vault.entries().len();

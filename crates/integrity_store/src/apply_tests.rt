@@ -3,7 +3,7 @@ ghost use Rattle.std.specs.Prelude.{◌≡◌, IfOk};
 ghost use Rattle.sealed_store.specs.Stores.{IsIntact, block_size_of, cipher_of};
 
 use crate::IntegrityStore;
-use crate::test_files::{plain_of, push_mark, push_record_head, put_file, sealed_over};
+use crate::test_files::{plain_of, push_life, push_record_head, put_file, sealed_over};
 use aes_gcm::Aes256Gcm;
 use block_id::BlockId;
 use local_state::decode;
@@ -18,30 +18,30 @@ use store_api::{ApplyError, Blocks, BlocksMut, Tx};
 
 type Store = IntegrityStore<MemoryVault, Aes256Gcm>;
 
-// Live at a version that is to be told.
+/// Live at a version that is to be told.
 const LIVE: BlockId = BlockId([1; 16]);
 
-// Live at version 5.
+/// Live at version 5.
 const DYING: BlockId = BlockId([2; 16]);
 
 const NEW: BlockId = BlockId([3; 16]);
 
-// A source that always begins alike.
+/// A source that always begins alike.
 fn chance() -> Pcg32 {
     Pcg32::new(1, 2)
 }
 
-// The record of client 7 that knows two live blocks.
+/// The record of client 7 that knows two live blocks.
 fn push_record(out: &mut Vec<u8>, version: u64) -> Result<(), Fail> {
     push_record_head(out)?;
     out.extend_from_slice(&2u64.to_le_bytes())?;
-    push_mark(out, &LIVE, version, true)?;
-    push_mark(out, &DYING, 5, true)?;
+    push_life(out, &LIVE, version, true)?;
+    push_life(out, &DYING, 5, true)?;
     out.extend_from_slice(&[0; 8])?;
     Ok(())
 }
 
-// A directory with the files of both blocks, whose payloads are of bytes 8 and 9.
+/// A directory with the files of both blocks, whose payloads are of bytes 8 and 9.
 fn files(alloc: Global, version: u64) -> Result<MemoryVault, Fail> {
     let mut below = MemoryVault::new(alloc);
     put_file(alloc, &mut below, &LIVE, &plain_of(1, 1, 7, version, 8))?;
@@ -72,7 +72,7 @@ fn tx_over(alloc: Global, store: Store) -> Tx<Store>
     Tx::new(alloc, store)
 }
 
-// Has a block get another payload, of this byte.
+/// Has a block get another payload, of this byte.
 fn renew<S: Blocks>(alloc: Global, tx: &mut Tx<S>, id: &BlockId, byte: u8) -> Result<(), Fail>
     requires { ⟦<Tx<S> as Blocks>⟧.meanings.intact tx.old }
     ensures { ⟦<Tx<S> as Blocks>⟧.meanings.intact tx.new }
@@ -90,7 +90,7 @@ fn renew<S: Blocks>(alloc: Global, tx: &mut Tx<S>, id: &BlockId, byte: u8) -> Re
     }
 }
 
-// Has a free id get a payload of this byte.
+/// Has a free id get a payload of this byte.
 fn give<S: Blocks>(alloc: Global, tx: &mut Tx<S>, id: &BlockId, byte: u8) -> Result<(), Fail>
     requires { ⟦<Tx<S> as Blocks>⟧.meanings.intact tx.old }
     ensures { ⟦<Tx<S> as Blocks>⟧.meanings.intact tx.new }
@@ -121,7 +121,7 @@ fn take<S: Blocks>(alloc: Global, tx: &mut Tx<S>, id: &BlockId) -> Result<(), Fa
     Ok(())
 }
 
-// Whether this is the payload of the block, 50 times this byte; without a byte, whether it has none.
+/// Whether this is the payload of the block, 50 times this byte; without a byte, whether it has none.
 fn holds<S: Blocks>(
     alloc: Global,
     tx: &mut Tx<S>,
@@ -138,10 +138,10 @@ fn holds<S: Blocks>(
     }
 }
 
-// What a batch answered, and whether its three blocks are as it says.
+/// What a batch answered, and whether its three blocks are as it says.
 type Outcome = (Result<(), ApplyError>, [bool; 3]);
 
-// A batch that is put in an order that isn't that of the ids, and removes a block.
+/// A batch that is put in an order that isn't that of the ids, and removes a block.
 fn change<S: BlocksMut, R: Rng>(
     alloc: Global,
     tx: &mut Tx<S>,
@@ -187,7 +187,7 @@ fn draw(source: &mut Pcg32) -> [u8; 16] {
     bytes
 }
 
-// The name of a block's file that waits, and its IV, or none where the removal waits.
+/// The name of a block's file that waits, and its IV, or none where the removal waits.
 fn waiting(pending: &Pending) -> (&FileName, Option<&[u8]>) {
     match &pending.change {
         Change::Bytes(file) => (&pending.name, file.get(16..32)),
@@ -195,7 +195,7 @@ fn waiting(pending: &Pending) -> (&FileName, Option<&[u8]>) {
     }
 }
 
-// The record that waits for a block.
+/// The record that waits for a block.
 fn waiting_record(
     alloc: Global,
     sealed: &mut SealedStore<MemoryVault, Aes256Gcm>,

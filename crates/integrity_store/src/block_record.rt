@@ -7,10 +7,10 @@ ghost use Rattle.integrity_store.specs.BlockRecords.{record_of, with_payload};
 use block_id::{BlockId, Memory};
 use std::alloc::Global;
 
-// The form of a record.
+/// The form of a record.
 const FORM: u16 = 1;
 
-// What a sealed file has more than its payload's record.
+/// What a sealed file has more than its payload's record.
 const SEAL_LEN: usize = 48;
 
 /// The length of what stands before the payload.

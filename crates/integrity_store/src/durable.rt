@@ -18,7 +18,7 @@ use seal_api::Sealer;
 use std::alloc::Global;
 use store_api::Durable;
 
-// The configuration's file, as the one change.
+/// The configuration's file, as the one change.
 fn config_change(alloc: Global, bytes: Vec<u8>) -> Result<Vec<Pending>, Memory>
     ensures { IfOk result (λ changes. list_of changes.items ≡ (config, Some bytes.items) ∷ []) }
 {
@@ -30,7 +30,7 @@ fn config_change(alloc: Global, bytes: Vec<u8>) -> Result<Vec<Pending>, Memory>
     Ok(changes)
 }
 
-// Has these changes wait. The list is then known to be no longer than a record has room for.
+/// Has these changes wait. The list is then known to be no longer than a record has room for.
 fn put_waiting<V: Vault>(vault: &mut RedoVault<V>, changes: Vec<Pending>) -> Result<(), Memory>
     ensures ok { OnOk result (vault.new.list ≡ set_changes (list_of changes.items) vault.old.list) }
     ensures err { OnErr result (vault.new.list ≡ vault.old.list) }
@@ -43,7 +43,7 @@ fn put_waiting<V: Vault>(vault: &mut RedoVault<V>, changes: Vec<Pending>) -> Res
 }
 
 impl<V: Vault, C: Sealer> IntegrityStore<V, C> {
-    // What waits, or nothing.
+    /// What waits, or nothing.
     fn listed(&self, with_list: bool) -> &[Pending]
         ensures { list_of result.now ≡ listed with_list self.now.sealed.vault.list }
     {

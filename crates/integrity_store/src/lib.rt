@@ -6,7 +6,7 @@ mod apply;
 mod block_record;
 mod durable;
 mod laws;
-mod marking;
+mod raising;
 mod sealing;
 mod store;
 mod verdict;

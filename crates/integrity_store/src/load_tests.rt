@@ -1,7 +1,7 @@
 // What a load answers, by what an attacker made of the directory. Client 7 knows block 1 as live at version 2 and
 // block 4 as removed at version 3.
 use crate::IntegrityStore;
-use crate::test_files::{plain_of, push_mark, push_record_head, put_file, sealed_over};
+use crate::test_files::{plain_of, push_life, push_record_head, put_file, sealed_over};
 use block_id::{BlockId, Why};
 use local_state::decode;
 use outside::MemoryVault;
@@ -18,8 +18,8 @@ type Answer = Result<Option<Vec<u8>>, block_id::Fail>;
 fn push_record(out: &mut Vec<u8>) -> Result<(), Fail> {
     push_record_head(out)?;
     out.extend_from_slice(&2u64.to_le_bytes())?;
-    push_mark(out, &LIVE, 2, true)?;
-    push_mark(out, &REMOVED, 3, false)?;
+    push_life(out, &LIVE, 2, true)?;
+    push_life(out, &REMOVED, 3, false)?;
     out.extend_from_slice(&[0; 8])?;
     Ok(())
 }

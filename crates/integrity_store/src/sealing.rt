@@ -20,7 +20,7 @@ use sealed_store::SealedStore;
 use std::alloc::Global;
 use store_api::BatchChange;
 
-// The file of a payload's record.
+/// The file of a payload's record.
 fn seal<V: Vault, C: Sealer, R: Rng>(
     alloc: Global,
     sealed: &SealedStore<V, C>,
@@ -31,7 +31,7 @@ fn seal<V: Vault, C: Sealer, R: Rng>(
 ) -> Result<Vec<u8>, Memory>
     requires intact { IsIntact (block_size_of sealed.now) (C.iv_size (cipher_of sealed.now)) }
     requires client { 0 < state.now.client }
-    requires may { MaySealAt (held_of C.opens sealed.now state.now) payload.now (fin.get state.now.known.marks id.now.0) }
+    requires may { MaySealAt (held_of C.opens sealed.now state.now) payload.now (fin.get state.now.known.lives id.now.0) }
     ensures opens { IfOk result (λ file. IsRaised (held_of C.opens sealed.now state.now)
         (held_of C.opens sealed.now state.now) id.now.0 payload.now file.items) }
     ensures iv { IfOk result (λ file. iv_in file.items ≡ drawn_iv (R.stream chance.old)) }
@@ -44,7 +44,7 @@ fn seal<V: Vault, C: Sealer, R: Rng>(
     sealed.seal_plain(alloc, id, &plain, &iv)
 }
 
-// What waits for an entry: the file of its payload's record, or its removal.
+/// What waits for an entry: the file of its payload's record, or its removal.
 fn seal_entry<V: Vault, C: Sealer, R: Rng>(
     alloc: Global,
     sealed: &SealedStore<V, C>,

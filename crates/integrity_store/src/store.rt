@@ -46,14 +46,14 @@ impl<V: Vault, C: Sealer> IntegrityStore<V, C> {
         ensures identity { ⟦<IntegrityStore<V, C> as Durable>⟧.durables.identity result ≡ identity_of (held_of C.opens sealed state) }
         ensures list { ⟦<IntegrityStore<V, C> as Durable>⟧.durables.list result ≡ sealed.vault.list }
         ensures trace { ⟦<IntegrityStore<V, C> as Durable>⟧.durables.trace result ≡ V.trace sealed.vault.vault }
-        ensures records { (with_list : Bool) → ⟦<IntegrityStore<V, C> as Durable>⟧.durables.record_of result with_list ≡ record_bytes (plain_state state) (listed with_list sealed.vault.list) }
-        ensures used { ⟦<IntegrityStore<V, C> as Blocks>⟧.holdings.used result ≡ fin.keys (plain_state state).marks }
-        ensures version { (id : Id) → ⟦<IntegrityStore<V, C> as Blocks>⟧.holdings.version result id ≡ version_in (fin.get (plain_state state).marks id) }
+        ensures records { (with_list : Bool) → ⟦<IntegrityStore<V, C> as Durable>⟧.durables.local_record_of result with_list ≡ record_bytes (plain_state state) (listed with_list sealed.vault.list) }
+        ensures used { ⟦<IntegrityStore<V, C> as Blocks>⟧.holdings.used result ≡ fin.keys (plain_state state).lives }
+        ensures version { (id : Id) → ⟦<IntegrityStore<V, C> as Blocks>⟧.holdings.version result id ≡ version_in (fin.get (plain_state state).lives id) }
         ensures payload { ⟦<IntegrityStore<V, C> as Blocks>⟧.holdings.payload result ≡ block_size_of sealed - 78 }
         ensures faults { ⟦<IntegrityStore<V, C> as Blocks>⟧.meanings.faults result ≡ V.faults sealed.vault.vault }
-        ensures fresh { (plain_state state).marks ≡ fin.empty → IsUntouched (V.trace sealed.vault.vault) → ⟦<IntegrityStore<V, C> as Blocks>⟧.meanings.sound result }
+        ensures fresh { (plain_state state).lives ≡ fin.empty → IsUntouched (V.trace sealed.vault.vault) → ⟦<IntegrityStore<V, C> as Blocks>⟧.meanings.sound result }
         ensures opened { (content : Content) → ⟦<IntegrityStore<V, C> as Durable>⟧.records.stands (⟦<IntegrityStore<V, C> as Durable>⟧.durables.identity result)
-            (⟦<IntegrityStore<V, C> as Durable>⟧.durables.record_of result true) (⟦<IntegrityStore<V, C> as Durable>⟧.durables.trace result) content
+            (⟦<IntegrityStore<V, C> as Durable>⟧.durables.local_record_of result true) (⟦<IntegrityStore<V, C> as Durable>⟧.durables.trace result) content
             → ⟦<IntegrityStore<V, C> as Blocks>⟧.meanings.sound result × SameContent content (⟦<IntegrityStore<V, C> as Blocks>⟧.holdings.content result) }
     {
         IntegrityStore { sealed, state }
@@ -79,7 +79,7 @@ impl<V: Vault, C: Sealer> IntegrityStore<V, C> {
         sealed.vault.into_vault()
     }
 
-    // The payload of a live id at its version.
+    /// The payload of a live id at its version.
     fn fetch(&mut self, alloc: Global, id: &BlockId, known: u64) -> Result<Vec<u8>, Fail>
         requires { ⟦<IntegrityStore<V, C> as Blocks>⟧.meanings.intact self.old }
         ensures fetched { Fetched (held_by C.opens self.old) (V.trace self.old.sealed.vault.vault) (V.trace self.new.sealed.vault.vault) id.now.0 known (fetched_of result) }

@@ -11,7 +11,7 @@ use sealed_store::SealedStore;
 use std::alloc::Global;
 use std::test::Fail;
 
-/// What a record has before its blocks: its first bytes, what it belongs to, the client, no mark.
+/// What a record has before its blocks: its first bytes, what it belongs to, the client, no life.
 pub(crate) fn push_record_head(out: &mut Vec<u8>) -> Result<(), Fail> {
     out.extend_from_slice(b"cryfs.localstate;1\0\0")?;
     out.extend_from_slice(&[0x11; 80])?;
@@ -20,7 +20,7 @@ pub(crate) fn push_record_head(out: &mut Vec<u8>) -> Result<(), Fail> {
 }
 
 /// An id with its version, and whether its block lives.
-pub(crate) fn push_mark(
+pub(crate) fn push_life(
     out: &mut Vec<u8>,
     id: &BlockId,
     version: u64,

@@ -1,7 +1,7 @@
 // The verdict on what came for a block: the first reason that holds, or its payload.
 ghost use Rattle.std.specs.Prelude.{◌≡◌, ◌≤◌, List, ℕ, drop, length, IfSome, IfNone};
 ghost use Rattle.std.specs.declared.option.Option.TheVariants.{Some};
-ghost use Rattle.sealed_store.specs.Stores.{sight_of};
+ghost use Rattle.sealed_store.specs.Stores.{seen_file_of};
 ghost use Rattle.integrity_store.specs.BlockRecords.{record_of, with_payload};
 ghost use Rattle.integrity_store.specs.Verdicts.{judged_record, judged, good, bad, Judges};
 
@@ -9,7 +9,7 @@ use crate::block_record::{HEAD_LEN, Head, head_of};
 use block_id::{BlockId, Fail, Why};
 use sealed_store::Seen;
 
-// What is wrong with a record for this id, client and known version.
+/// What is wrong with a record for this id, client and known version.
 fn mismatch(head: &Head, id: &BlockId, client: u32, known: u64) -> Option<Why>
     ensures some { IfSome result (λ why. (payload : List ℕ) → judged_record id.now.0 client known (Some (with_payload head.now payload)) ≡ bad why) }
     ensures none { IfNone result ((payload : List ℕ) → judged_record id.now.0 client known (Some (with_payload head.now payload)) ≡ good payload) }
@@ -31,7 +31,7 @@ fn mismatch(head: &Head, id: &BlockId, client: u32, known: u64) -> Option<Why>
     }
 }
 
-// The payload of a record, in the record's own memory.
+/// The payload of a record, in the record's own memory.
 fn without_head(plain: Vec<u8>) -> Vec<u8>
     requires { 30 ≤ length plain.items }
     ensures { result.items ≡ drop 30 plain.items }
@@ -42,7 +42,7 @@ fn without_head(plain: Vec<u8>) -> Vec<u8>
     payload
 }
 
-// The payload of a plaintext, or what is wrong with it.
+/// The payload of a plaintext, or what is wrong with it.
 fn judge_plain(
     size: usize,
     id: &BlockId,
@@ -71,7 +71,7 @@ pub(crate) fn judge(
     seen: Seen,
 ) -> Result<Vec<u8>, Fail>
     requires { (128 ≤ size) × (size ≤ 1048576) }
-    ensures { Judges (judged size id.now.0 client known (sight_of seen)) result }
+    ensures { Judges (judged size id.now.0 client known (seen_file_of seen)) result }
 {
     match seen {
         Seen::Absent => Err(Fail::Violation(Why::Missing)),

@@ -5,7 +5,7 @@ use Rattle.std.proofs.lemmas.Bool.Decides.{nat_tests}
 use Rattle.std.specs.List.{position, position_or_len}
 use Rattle.std.specs.declared.option.Option.{Option}
 use Rattle.std.specs.declared.option.Option.TheVariants.{None, Some}
-use Rattle.line_io.specs.Lines.{is_newline, lines, onto_first, IsUnbroken, IsCut, kept, kept_on}
+use Rattle.line_io.specs.Lines.{is_newline, lines, onto_first, IsUnbroken, IsFirstNewline, kept, kept_on}
 
 abbrev place : List ℕ → ℕ
 place bytes = position_or_len is_newline bytes
@@ -43,10 +43,10 @@ found_by bytes k n true e f = (cc, grind (arith, nat_tests))
 found_by bytes k n false e f = absurd (cc)
 
 -- where a newline was found, it is the first
-pub found : (bytes : List ℕ) (n : ℕ) → Some n ≡ position is_newline bytes → IsCut bytes n
+pub found : (bytes : List ℕ) (n : ℕ) → Some n ≡ position is_newline bytes → IsFirstNewline bytes n
 found bytes n e =
     let f : (n ≡ place bytes) × (place bytes < length bytes) = found_by bytes (place bytes) n _ refl e in
-    subst (λ k. IsCut bytes k) (sym f.0) (unbroken_before bytes, cut_before bytes f.1)
+    subst (λ k. IsFirstNewline bytes k) (sym f.0) (unbroken_before bytes, cut_before bytes f.1)
 
 none_by : (bytes : List ℕ) (k : ℕ) (b : Bool) → nat_lt k (length bytes) ≡ b → ◌≡◌ {A = Option ℕ} None (cond b (Some k) None) → length bytes ≤ k
 none_by bytes k true e f = absurd (cc)

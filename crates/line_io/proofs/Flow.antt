@@ -2,13 +2,13 @@
 use Rattle.std.proofs.Common.{◌≡◌, ℕ, List, [], ◌∷◌, ◌++◌, refl, sym, ◌∙◌, ap, subst, append_assoc, append-nil}
 use Rattle.std.specs.declared.option.Option.{Option}
 use Rattle.std.specs.declared.option.Option.TheVariants.{None, Some}
-use Rattle.outside.specs.Streams.{appends, Gives, Ends}
+use Rattle.outside.specs.Streams.{appends, WereTaken, Ends}
 use Rattle.line_io.specs.Lines.{lines, IsUnbroken}
 use Rattle.line_io.specs.Reading.{coming, Line}
 use Rattle.line_io.proofs.Cutting.{lines-cut, lines-last}
 
 -- what was given and what is left is all that was left before
-pub coming-given : (old new : Option (List ℕ)) (bytes : List ℕ) → Gives old new bytes → coming bytes new ≡ old
+pub coming-given : (old new : Option (List ℕ)) (bytes : List ℕ) → WereTaken old new bytes → coming bytes new ≡ old
 coming-given None new bytes g = ap (coming bytes) g
 coming-given (Some old) new bytes g = ap (coming bytes) g.2 ∙ ap Some (sym g.1)
 
@@ -41,12 +41,12 @@ Line-last byte line (Some rest) u e =
     (rest, subst (λ r. lines (byte ∷ (line ++ r)) ≡ (byte ∷ line) ∷ lines r) (sym e) (ap (λ l. lines (byte ∷ l)) (append-nil line) ∙ lines-last byte line u), refl)
 
 -- nothing was taken
-pub Gives-nil : (old new : Option (List ℕ)) → new ≡ old → Gives old new []
-Gives-nil None new e = e
-Gives-nil (Some old) new e = (old, refl, e)
+pub WereTaken-nil : (old new : Option (List ℕ)) → new ≡ old → WereTaken old new []
+WereTaken-nil None new e = e
+WereTaken-nil (Some old) new e = (old, refl, e)
 
-pub Gives-append : (old mid new : Option (List ℕ)) (a b : List ℕ) → Gives old mid a → Gives mid new b → Gives old new (a ++ b)
-Gives-append None mid new a b g h = subst (λ (m : Option (List ℕ)). Gives m new b) g h
-Gives-append (Some old) mid new a b g h =
-    let k : Gives (Some g.0) new b = subst (λ (m : Option (List ℕ)). Gives m new b) g.2 h in
+pub WereTaken-append : (old mid new : Option (List ℕ)) (a b : List ℕ) → WereTaken old mid a → WereTaken mid new b → WereTaken old new (a ++ b)
+WereTaken-append None mid new a b g h = subst (λ (m : Option (List ℕ)). WereTaken m new b) g h
+WereTaken-append (Some old) mid new a b g h =
+    let k : WereTaken (Some g.0) new b = subst (λ (m : Option (List ℕ)). WereTaken m new b) g.2 h in
     (k.0, g.1 ∙ (ap (λ (l : List ℕ). a ++ l) k.1 ∙ sym (append_assoc a b k.0)), k.2)

@@ -5,11 +5,11 @@ use Rattle.std.proofs.lemmas.List.{drop-take, drop-drop, length-take}
 use Rattle.std.specs.List.{position}
 use Rattle.std.specs.declared.option.Option.{Option}
 use Rattle.std.specs.declared.option.Option.TheVariants.{None, Some}
-use Rattle.line_io.specs.Lines.{is_newline, IsUnbroken, IsCut, kept_on}
+use Rattle.line_io.specs.Lines.{is_newline, IsUnbroken, IsFirstNewline, kept_on}
 use Rattle.line_io.proofs.Cutting.{found, not_found}
 
-pub IsCut-lt : (bytes : List ℕ) (n : ℕ) → IsCut bytes n → n < length bytes
-IsCut-lt bytes n cut = omega (arith, simp (length-append, length-take) at (ap length cut.1))
+pub IsFirstNewline-lt : (bytes : List ℕ) (n : ℕ) → IsFirstNewline bytes n → n < length bytes
+IsFirstNewline-lt bytes n cut = omega (arith, simp (length-append, length-take) at (ap length cut.1))
 
 -- the bytes that follow a newline in a part of a block
 slice_rest : (items : List ℕ) (start end n : ℕ) → start ≤ end → start + (n + 1) ≤ end
@@ -35,9 +35,9 @@ pub piece_cut : (line now : Option (List ℕ)) (items : List ℕ) (start end n :
     → (part : List ℕ) × IsUnbroken part × (slice_range items start end ≡ part ++ 10 ∷ slice_range items (start + (n + 1)) end) × (now ≡ kept_on line part)
 piece_cut line now items start end n h k e f =
     let slice = slice_range items start end in
-    let cut : IsCut slice n = found slice n e in
+    let cut : IsFirstNewline slice n = found slice n e in
     let l : length slice ≡ end - start = slice_length items start end h k in
-    let m : n < end - start = omega (arith, IsCut-lt slice n cut, l) in (
+    let m : n < end - start = omega (arith, IsFirstNewline-lt slice n cut, l) in (
       take n slice,
       cut.0,
       cut.1 ∙ ap (λ (rest : List ℕ). take n slice ++ 10 ∷ rest) (slice_rest items start end n h (omega arith)),

@@ -2,11 +2,11 @@
 use Rattle.std.proofs.Common.{◌≡◌, not, ◌<◌, ◌++◌, [], ◌∷◌, ℕ, List, Bool, true, false, MatchBool, Result, Ok, Err, OnErr, length, ap, ◌∙◌, arith, sym, subst, append_assoc, append-nil, IsTrue, refl}
 use Rattle.std.specs.declared.option.Option.{Option}
 use Rattle.std.specs.declared.option.Option.TheVariants.{None, Some}
-use Rattle.outside.specs.Streams.{Ends, Gives}
+use Rattle.outside.specs.Streams.{Ends, WereTaken}
 use Rattle.line_io.specs.Lines.{IsUnbroken, kept, kept_on, first_line, first_of}
 use Rattle.line_io.specs.Reading.{coming, Line, TookLine, TookAhead, ShowsFirst, ShowsUnended}
 use Rattle.line_io.proofs.Cutting.{IsUnbroken-append, kept-append, lines-cut, lines-last}
-use Rattle.line_io.proofs.Flow.{coming-append, Gives-append, Line-cut, Line-last}
+use Rattle.line_io.proofs.Flow.{coming-append, WereTaken-append, Line-cut, Line-last}
 
 -- the pieces of a line so far, before what was read ahead and what is left
 pub record Part (all shown : Option (List ℕ)) (ahead : List ℕ) (rest : Option (List ℕ)) (part : List ℕ) : Type 0 where
@@ -75,7 +75,7 @@ at_not false P Q e m = m
 -- the pieces so far, and what was read ahead, are what was read ahead at first and what was taken since
 pub record Taken (first ahead : List ℕ) (old rest : Option (List ℕ)) (part : List ℕ) : Type 0 where
   pub taken : List ℕ
-  pub gave : Gives old rest taken
+  pub gave : WereTaken old rest taken
   pub same : first ++ taken ≡ part ++ ahead
 
 -- more was read ahead
@@ -83,7 +83,7 @@ pub Taken-ahead : (first ahead next part : List ℕ) (old rest new : Option (Lis
     → Taken first next old new part
 Taken-ahead first ahead next part old rest new t a = record {
   taken = t.taken ++ a.0;
-  gave = Gives-append old rest new t.taken a.0 t.gave a.1;
+  gave = WereTaken-append old rest new t.taken a.0 t.gave a.1;
   same = sym (append_assoc first t.taken a.0) ∙ (ap (λ (l : List ℕ). l ++ a.0) t.same ∙ (append_assoc part ahead a.0 ∙ ap (λ (l : List ℕ). part ++ l) (sym a.2)));
 }
 

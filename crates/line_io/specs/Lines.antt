@@ -32,8 +32,8 @@ IsUnbroken [] = Unit {0}
 IsUnbroken (byte ∷ bytes) = (is_newline byte ≡ false) × IsUnbroken bytes
 
 -- the first newline stands at this place
-abbrev pub IsCut : List ℕ → ℕ → Type 0
-IsCut bytes n = IsUnbroken (take n bytes) × (bytes ≡ take n bytes ++ 10 ∷ drop (n + 1) bytes)
+abbrev pub IsFirstNewline : List ℕ → ℕ → Type 0
+IsFirstNewline bytes n = IsUnbroken (take n bytes) × (bytes ≡ take n bytes ++ 10 ∷ drop (n + 1) bytes)
 
 -- what is kept of a line: a line of more than 1,048,576 bytes isn't
 abbrev pub kept : List ℕ → Option (List ℕ)

@@ -2,7 +2,7 @@
 use Rattle.std.specs.Prelude.{◌≡◌, ℕ, ◌+◌, ◌-◌, ◌^◌, Bool, false, List, [], ◌∷◌, ◌++◌, length}
 use Rattle.std.specs.declared.option.Option.{Option}
 use Rattle.std.specs.declared.option.Option.TheVariants.{None, Some}
-use Rattle.outside.specs.Streams.{Gives}
+use Rattle.outside.specs.Streams.{WereTaken}
 use Rattle.line_io.specs.Lines.{lines, first_line, kept, IsUnbroken}
 
 -- the line that was read last, the bytes that were read ahead, how many were read, and whether the input has ended
@@ -37,15 +37,15 @@ TookLine before shown after = (line : List ℕ) × (shown ≡ kept line) × Line
 
 -- bytes were taken, and stand behind those that were read ahead
 abbrev pub TookAhead : List ℕ → Option (List ℕ) → Option (List ℕ) → List ℕ → Type 0
-TookAhead ahead old new now = (taken : List ℕ) × Gives old new taken × (now ≡ ahead ++ taken)
+TookAhead ahead old new now = (taken : List ℕ) × WereTaken old new taken × (now ≡ ahead ++ taken)
 
 -- bytes were taken, and of the first line in what was read ahead and in them is kept what is shown
 abbrev pub ShowsFirst : List ℕ → Option (List ℕ) → Option (List ℕ) → Option (List ℕ) → Type 0
-ShowsFirst ahead old new shown = (taken : List ℕ) × Gives old new taken × (shown ≡ kept (first_line (ahead ++ taken)))
+ShowsFirst ahead old new shown = (taken : List ℕ) × WereTaken old new taken × (shown ≡ kept (first_line (ahead ++ taken)))
 
 -- bytes were taken, no line ends in what was read ahead and in them, and of all that is kept what is shown
 abbrev pub ShowsUnended : List ℕ → Option (List ℕ) → Option (List ℕ) → Option (List ℕ) → Type 0
-ShowsUnended ahead old new shown = (taken : List ℕ) × Gives old new taken × IsUnbroken (ahead ++ taken) × (shown ≡ kept (ahead ++ taken))
+ShowsUnended ahead old new shown = (taken : List ℕ) × WereTaken old new taken × IsUnbroken (ahead ++ taken) × (shown ≡ kept (ahead ++ taken))
 
 -- how many bytes are still to be answered
 abbrev pub remaining : Reading → ℕ

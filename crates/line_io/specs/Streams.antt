@@ -21,8 +21,8 @@ abbrev pub Untouched : Stream → Type 0
 Untouched s = (s.new ≡ s.old) × (s.risen ≡ s.faults)
 
 -- the count of faults rose
-abbrev pub Failed : Stream → Type 0
-Failed s = RoseBy 1 s.faults s.risen
+abbrev pub HasFailed : Stream → Type 0
+HasFailed s = RoseBy 1 s.faults s.risen
 
 -- 2^63 bytes were taken, where they are told
 abbrev pub TookMost : ℕ → Stream → Type 0

@@ -5,7 +5,7 @@ ghost use Rattle.std.specs.declared.option.Option.TheVariants.{None, Some};
 ghost use Rattle.std.specs.Option.{option_copied};
 ghost use Rattle.std.specs.List.{position};
 ghost use Rattle.outside.specs.Causes.{RoseBy};
-ghost use Rattle.outside.specs.Streams.{Gives, Ends};
+ghost use Rattle.outside.specs.Streams.{WereTaken, Ends};
 ghost use Rattle.line_io.specs.Asking.{ReadsLine, LooksAhead};
 ghost use Rattle.line_io.specs.Lines.{is_newline, IsUnbroken, kept_on};
 ghost use Rattle.line_io.specs.Reading.{Reading, fresh, coming, total, TookLine, TookAhead, ShowsFirst, ShowsUnended, remaining};
@@ -56,7 +56,7 @@ fn newline_at(bytes: &[u8]) -> Option<usize>
 fn read_block<I: Source>(input: &mut I, block: &mut [u8], len: usize) -> Result<usize, Failed>
     requires { len ≤ length block.old }
     ensures bound { IfOk result (λ n. n ≤ len) }
-    ensures ok { IfOk result (λ n. Gives (I.rest input.old) (I.rest input.new) (take n block.new)) }
+    ensures ok { IfOk result (λ n. WereTaken (I.rest input.old) (I.rest input.new) (take n block.new)) }
     ensures took { IfOk result (λ n. I.took input.old input.new (take n block.new)) }
     ensures end { IfOk result (λ n. n ≡ 0 → 0 < len → Ends (I.rest input.old)) }
     ensures err { OnErr result (I.rest input.new ≡ I.rest input.old) }

@@ -18,26 +18,26 @@ use Rattle.std.proofs.lemmas.List.{append-nil, nil_from_length}
 use Rattle.std.proofs.lemmas.List.Concat.{flat_map-cons}
 use Rattle.block_id.proofs.Conditions.{true_of, left, right}
 use Rattle.block_id.proofs.Orders.{less_is}
-use Rattle.local_state.specs.declared.mark.Mark.{Mark}
-use Rattle.local_state.specs.Known.{Marks, zero_id, FitsMark, FitMarks, IsNext}
-use Rattle.local_state.specs.Record.{flag, mark_bytes, known_bytes, marks_bytes}
+use Rattle.local_state.specs.declared.life.Life.{Life}
+use Rattle.local_state.specs.Known.{Lives, zero_id, FitsLife, FitLives, IsNext}
+use Rattle.local_state.specs.Record.{flag, life_bytes, known_bytes, lives_bytes}
 use Rattle.byte_fields.specs.Fields.{IsBytes, front_at, number_at}
 use Rattle.byte_fields.proofs.Fields.{Takes, Takes-then, front_takes, front_again, wide64, number_takes, number_again}
-use Rattle.local_state.specs.Reading.{◌>>=◌, flag_at, known_at, marks_at, table_at}
+use Rattle.local_state.specs.Reading.{◌>>=◌, flag_at, known_at, lives_at, table_at}
 use Rattle.local_state.proofs.Fitting.{fit_set, fit_empty}
 use Rattle.local_state.proofs.Loops.{below_then, AboveZero, above_zero, above_next, next_fits}
 use Rattle.local_state.proofs.Fields.{bind_some, guard_some, and_true, some_is, flag_takes, flag_again}
 
 -- ---- one known block
 
-made : List ℕ → ℕ → Bool → List ℕ × Mark
+made : List ℕ → ℕ → Bool → List ℕ × Life
 made id version live = (id, record { version = version; live = live })
 
 and_so : (a b : Bool) → a ≡ true → b ≡ true → (a && b) ≡ true
 and_so true b p q = q
 and_so false b p q = absurd cc
 
-pub known_takes : (previous bytes : List ℕ) (x : (List ℕ × Mark) × List ℕ) → IsBytes bytes → known_at previous bytes ≡ Some x → Takes bytes (mark_bytes x.0) x.1 × IsNext previous x.0.0 x.0.1
+pub known_takes : (previous bytes : List ℕ) (x : (List ℕ × Life) × List ℕ) → IsBytes bytes → known_at previous bytes ≡ Some x → Takes bytes (life_bytes x.0) x.1 × IsNext previous x.0.0 x.0.1
 unfolding known_at made
 known_takes previous bytes x fits e =
     let a = bind_some (front_at 16 bytes) (λ id. number_at w64 id.1 >>= λ version. flag_at version.1 >>= λ live.
@@ -53,131 +53,131 @@ known_takes previous bytes x fits e =
     let e12 = Takes-then a.0.1 (to_le_bytes w64 b.0.0) b.0.1 (flag c.0.0 ∷ []) c.0.1 t1.0 t2 in
     let e02 = Takes-then bytes a.0.0 a.0.1 (to_le_bytes w64 b.0.0 ++ flag c.0.0 ∷ []) c.0.1 t0.0 e12 in
     let next : IsNext previous a.0.0 (record { version = b.0.0; live = c.0.0 }) = record { length = t0.1; after = tests.0; from_one = ltb-true 0 b.0.0 tests.1; below = t1.1 } in
-    subst (λ (y : (List ℕ × Mark) × List ℕ). Takes bytes (mark_bytes y.0) y.1 × IsNext previous y.0.0 y.0.1) g.1 (e02, next)
+    subst (λ (y : (List ℕ × Life) × List ℕ). Takes bytes (life_bytes y.0) y.1 × IsNext previous y.0.0 y.0.1) g.1 (e02, next)
 
 pub true_ltb : (n : ℕ) → 0 < n → nat_lt 0 n ≡ true
 true_ltb n lt = grind (arith, common_steps)
 
-pub known_again : (previous id : List ℕ) (mark : Mark) (rest : List ℕ) → IsNext previous id mark → known_at previous (mark_bytes (id, mark) ++ rest) ≡ Some ((id, mark), rest)
+pub known_again : (previous id : List ℕ) (life : Life) (rest : List ℕ) → IsNext previous id life → known_at previous (life_bytes (id, life) ++ rest) ≡ Some ((id, life), rest)
 unfolding known_at
-known_again previous id mark rest next =
-    let regrouped : mark_bytes (id, mark) ++ rest ≡ id ++ (to_le_bytes w64 mark.version ++ (flag mark.live ∷ rest)) =
-    append_assoc id (to_le_bytes w64 mark.version ++ flag mark.live ∷ []) rest ∙ ap (λ (x : List ℕ). id ++ x) (append_assoc (to_le_bytes w64 mark.version) (flag mark.live ∷ []) rest) in
+known_again previous id life rest next =
+    let regrouped : life_bytes (id, life) ++ rest ≡ id ++ (to_le_bytes w64 life.version ++ (flag life.live ∷ rest)) =
+    append_assoc id (to_le_bytes w64 life.version ++ flag life.live ∷ []) rest ∙ ap (λ (x : List ℕ). id ++ x) (append_assoc (to_le_bytes w64 life.version) (flag life.live ∷ []) rest) in
     ap (known_at previous) regrouped
-    ∙ rw (front_again 16 id (to_le_bytes w64 mark.version ++ (flag mark.live ∷ rest)) next.length, number_again wide64 mark.version (flag mark.live ∷ rest) next.below, flag_again mark.live rest, and_so _ _ next.after (true_ltb mark.version next.from_one)) refl
+    ∙ rw (front_again 16 id (to_le_bytes w64 life.version ++ (flag life.live ∷ rest)) next.length, number_again wide64 life.version (flag life.live ∷ rest) next.below, flag_again life.live rest, and_so _ _ next.after (true_ltb life.version next.from_one)) refl
 
--- ---- marks that grow at their end
+-- ---- lives that grow at their end
 
 abbrev order : List ℕ → List ℕ → Ordering
 order x y = slice_cmp nat_cmp x y
 
-abbrev All-below : List ℕ → List (List ℕ × Mark) → Type 0
+abbrev All-below : List ℕ → List (List ℕ × Life) → Type 0
 All-below id es = AllByRecursion (λ e. is_lt (order e.0 id) ≡ true) es
 
 -- the ids that come after the previous one come after each of these
-abbrev Before : List ℕ → List (List ℕ × Mark) → Type 0
+abbrev Before : List ℕ → List (List ℕ × Life) → Type 0
 Before previous es = (id : List ℕ) → is_lt (order previous id) ≡ true → All-below id es
 
-put_last : (id : List ℕ) (mark : Mark) (es : List (List ℕ × Mark)) → All-below id es → put (slice_cmp nat_cmp) id mark es ≡ es ++ (id, mark) ∷ []
-put_last id mark [] below = refl
-put_last id mark (e ∷ es) below =
+put_last : (id : List ℕ) (life : Life) (es : List (List ℕ × Life)) → All-below id es → put (slice_cmp nat_cmp) id life es ≡ es ++ (id, life) ∷ []
+put_last id life [] below = refl
+put_last id life (e ∷ es) below =
     let above : order id e.0 ≡ Greater = nat_list_cmp_total.antisymm id e.0 ∙ ap ordering_reverse (less_is _ below.0) in
-    ap (λ r. by_order r ((id, mark) ∷ e ∷ es) ((e.0, mark) ∷ es) (e ∷ put (slice_cmp nat_cmp) id mark es)) above ∙ ap (λ (l : List (List ℕ × Mark)). e ∷ l) (put_last id mark es below.1)
+    ap (λ r. by_order r ((id, life) ∷ e ∷ es) ((e.0, life) ∷ es) (e ∷ put (slice_cmp nat_cmp) id life es)) above ∙ ap (λ (l : List (List ℕ × Life)). e ∷ l) (put_last id life es below.1)
 
-entries-last : (marks : Marks) (id : List ℕ) (mark : Mark) → All-below id (fin.entries marks) → fin.entries (fin.insert marks id mark) ≡ fin.entries marks ++ (id, mark) ∷ []
-entries-last marks id mark below = entries-insert nat_list_cmp_total marks id mark ∙ put_last id mark (fin.entries marks) below
+entries-last : (lives : Lives) (id : List ℕ) (life : Life) → All-below id (fin.entries lives) → fin.entries (fin.insert lives id life) ≡ fin.entries lives ++ (id, life) ∷ []
+entries-last lives id life below = entries-insert nat_list_cmp_total lives id life ∙ put_last id life (fin.entries lives) below
 
-below_push : (id other : List ℕ) (mark : Mark) (es : List (List ℕ × Mark)) → All-below other es → is_lt (order id other) ≡ true → All-below other (es ++ (id, mark) ∷ [])
-below_push id other mark [] below lt = (lt, tt)
-below_push id other mark (e ∷ es) below lt = (below.0, below_push id other mark es below.1 lt)
+below_push : (id other : List ℕ) (life : Life) (es : List (List ℕ × Life)) → All-below other es → is_lt (order id other) ≡ true → All-below other (es ++ (id, life) ∷ [])
+below_push id other life [] below lt = (lt, tt)
+below_push id other life (e ∷ es) below lt = (below.0, below_push id other life es below.1 lt)
 
-before_next : (previous id : List ℕ) (mark : Mark) (marks : Marks) → is_lt (order previous id) ≡ true → Before previous (fin.entries marks) → Before id (fin.entries (fin.insert marks id mark))
-before_next previous id mark marks after before other lt =
-    subst (λ (l : List (List ℕ × Mark)). All-below other l) (sym (entries-last marks id mark (before id after)))
-    (below_push id other mark (fin.entries marks) (before other (below_then previous id other after lt)) lt)
+before_next : (previous id : List ℕ) (life : Life) (lives : Lives) → is_lt (order previous id) ≡ true → Before previous (fin.entries lives) → Before id (fin.entries (fin.insert lives id life))
+before_next previous id life lives after before other lt =
+    subst (λ (l : List (List ℕ × Life)). All-below other l) (sym (entries-last lives id life (before id after)))
+    (below_push id other life (fin.entries lives) (before other (below_then previous id other after lt)) lt)
 
-entries-empty : fin.entries (fin.empty {X = Mark} {R = slice_cmp nat_cmp}) ≡ []
-entries-empty = nil_from_length _ (sym (len-entries fin.empty) ∙ len-empty (slice_cmp nat_cmp) Mark)
+entries-empty : fin.entries (fin.empty {X = Life} {R = slice_cmp nat_cmp}) ≡ []
+entries-empty = nil_from_length _ (sym (len-entries fin.empty) ∙ len-empty (slice_cmp nat_cmp) Life)
 
-before_first : Before zero_id (fin.entries (fin.empty {X = Mark} {R = slice_cmp nat_cmp}))
-before_first id lt = subst (λ (l : List (List ℕ × Mark)). All-below id l) (sym entries-empty) tt
+before_first : Before zero_id (fin.entries (fin.empty {X = Life} {R = slice_cmp nat_cmp}))
+before_first id lt = subst (λ (l : List (List ℕ × Life)). All-below id l) (sym entries-empty) tt
 
 -- ---- so many known blocks
 
-pub record MarksTaken (n : ℕ) (marks : Marks) (bytes : List ℕ) (x : Marks × List ℕ) : Type 0 where
-  pub es : List (List ℕ × Mark)
-  pub takes : Takes bytes (flat_map mark_bytes es) x.1
+pub record LivesTaken (n : ℕ) (lives : Lives) (bytes : List ℕ) (x : Lives × List ℕ) : Type 0 where
+  pub es : List (List ℕ × Life)
+  pub takes : Takes bytes (flat_map life_bytes es) x.1
   pub count : length es ≡ n
-  pub entries : fin.entries x.0 ≡ fin.entries marks ++ es
-  pub fits : FitMarks x.0
+  pub entries : fin.entries x.0 ≡ fin.entries lives ++ es
+  pub fits : FitLives x.0
 
-marks_take : (n : ℕ) (previous : List ℕ) (marks : Marks) (bytes : List ℕ) (x : Marks × List ℕ) → IsBytes bytes → Before previous (fin.entries marks) → AboveZero previous → FitMarks marks
-    → marks_at n previous marks bytes ≡ Some x → MarksTaken n marks bytes x
-unfolding marks_at
-marks_take zero previous marks bytes x small before above fits e =
-    subst (λ (y : Marks × List ℕ). MarksTaken 0 marks bytes y) (some_is (marks, bytes) x e)
-    (record { es = []; takes = record { parts = refl; rest_fits = small }; count = refl; entries = sym (append-nil (fin.entries marks)); fits = fits })
-marks_take (suc n) previous marks bytes x small before above fits e =
-    let a = bind_some (known_at previous bytes) (λ e. marks_at n e.0.0 (fin.insert marks e.0.0 e.0.1) e.1) x e in
+lives_take : (n : ℕ) (previous : List ℕ) (lives : Lives) (bytes : List ℕ) (x : Lives × List ℕ) → IsBytes bytes → Before previous (fin.entries lives) → AboveZero previous → FitLives lives
+    → lives_at n previous lives bytes ≡ Some x → LivesTaken n lives bytes x
+unfolding lives_at
+lives_take zero previous lives bytes x small before above fits e =
+    subst (λ (y : Lives × List ℕ). LivesTaken 0 lives bytes y) (some_is (lives, bytes) x e)
+    (record { es = []; takes = record { parts = refl; rest_fits = small }; count = refl; entries = sym (append-nil (fin.entries lives)); fits = fits })
+lives_take (suc n) previous lives bytes x small before above fits e =
+    let a = bind_some (known_at previous bytes) (λ e. lives_at n e.0.0 (fin.insert lives e.0.0 e.0.1) e.1) x e in
     let k = a.0.0 in
     let t = known_takes previous bytes a.0 small a.1 in
     let next = t.1 in
-    let m = marks_take n k.0 (fin.insert marks k.0 k.1) a.0.1 x t.0.rest_fits (before_next previous k.0 k.1 marks next.after before) (above_next previous k.0 next.after above)
-    (fit_set marks k.0 k.1 (next_fits previous k.0 k.1 next above) fits) a.2 in
-    let both = Takes-then bytes (mark_bytes k) a.0.1 (flat_map mark_bytes m.es) x.1 t.0 m.takes in
+    let m = lives_take n k.0 (fin.insert lives k.0 k.1) a.0.1 x t.0.rest_fits (before_next previous k.0 k.1 lives next.after before) (above_next previous k.0 next.after above)
+    (fit_set lives k.0 k.1 (next_fits previous k.0 k.1 next above) fits) a.2 in
+    let both = Takes-then bytes (life_bytes k) a.0.1 (flat_map life_bytes m.es) x.1 t.0 m.takes in
     record {
       es = k ∷ m.es;
       takes = rw flat_map-cons both;
       count = ap suc m.count;
-      entries = m.entries ∙ ap (λ (l : List (List ℕ × Mark)). l ++ m.es) (entries-last marks k.0 k.1 (before k.0 next.after)) ∙ append_assoc (fin.entries marks) (k ∷ []) m.es;
+      entries = m.entries ∙ ap (λ (l : List (List ℕ × Life)). l ++ m.es) (entries-last lives k.0 k.1 (before k.0 next.after)) ∙ append_assoc (fin.entries lives) (k ∷ []) m.es;
       fits = m.fits;
     }
 
 -- each may come after the one before
-abbrev Follow : List ℕ → List (List ℕ × Mark) → Type 0
+abbrev Follow : List ℕ → List (List ℕ × Life) → Type 0
 Follow previous [] = Unit {0}
 Follow previous (e ∷ es) = IsNext previous e.0 e.1 × Follow e.0 es
 
-record MarksAgain (es : List (List ℕ × Mark)) (previous : List ℕ) (marks : Marks) (rest : List ℕ) : Type 0 where
-  found : Marks
-  reads : marks_at (length es) previous marks (flat_map mark_bytes es ++ rest) ≡ Some (found, rest)
-  entries : fin.entries found ≡ fin.entries marks ++ es
+record LivesAgain (es : List (List ℕ × Life)) (previous : List ℕ) (lives : Lives) (rest : List ℕ) : Type 0 where
+  found : Lives
+  reads : lives_at (length es) previous lives (flat_map life_bytes es ++ rest) ≡ Some (found, rest)
+  entries : fin.entries found ≡ fin.entries lives ++ es
 
-marks_again : (es : List (List ℕ × Mark)) (previous : List ℕ) (marks : Marks) (rest : List ℕ) → Before previous (fin.entries marks) → Follow previous es → MarksAgain es previous marks rest
-unfolding marks_at
-marks_again [] previous marks rest before follow = record { found = marks; reads = refl; entries = sym (append-nil (fin.entries marks)) }
-marks_again (e ∷ es) previous marks rest before follow =
+lives_again : (es : List (List ℕ × Life)) (previous : List ℕ) (lives : Lives) (rest : List ℕ) → Before previous (fin.entries lives) → Follow previous es → LivesAgain es previous lives rest
+unfolding lives_at
+lives_again [] previous lives rest before follow = record { found = lives; reads = refl; entries = sym (append-nil (fin.entries lives)) }
+lives_again (e ∷ es) previous lives rest before follow =
     let next = follow.0 in
-    let m = marks_again es e.0 (fin.insert marks e.0 e.1) rest (before_next previous e.0 e.1 marks next.after before) follow.1 in
-    let regrouped : flat_map mark_bytes (e ∷ es) ++ rest ≡ mark_bytes e ++ (flat_map mark_bytes es ++ rest) =
-    ap (λ (x : List ℕ). x ++ rest) (flat_map-cons mark_bytes e es) ∙ append_assoc (mark_bytes e) (flat_map mark_bytes es) rest in
+    let m = lives_again es e.0 (fin.insert lives e.0 e.1) rest (before_next previous e.0 e.1 lives next.after before) follow.1 in
+    let regrouped : flat_map life_bytes (e ∷ es) ++ rest ≡ life_bytes e ++ (flat_map life_bytes es ++ rest) =
+    ap (λ (x : List ℕ). x ++ rest) (flat_map-cons life_bytes e es) ∙ append_assoc (life_bytes e) (flat_map life_bytes es) rest in
     record {
       found = m.found;
-      reads = ap (marks_at (suc (length es)) previous marks) regrouped ∙ rw (known_again previous e.0 e.1 (flat_map mark_bytes es ++ rest) next) m.reads;
-      entries = m.entries ∙ ap (λ (l : List (List ℕ × Mark)). l ++ es) (entries-last marks e.0 e.1 (before e.0 next.after)) ∙ append_assoc (fin.entries marks) (e ∷ []) es;
+      reads = ap (lives_at (suc (length es)) previous lives) regrouped ∙ rw (known_again previous e.0 e.1 (flat_map life_bytes es ++ rest) next) m.reads;
+      entries = m.entries ∙ ap (λ (l : List (List ℕ × Life)). l ++ es) (entries-last lives e.0 e.1 (before e.0 next.after)) ∙ append_assoc (fin.entries lives) (e ∷ []) es;
     }
 
-pub record TableTaken (bytes : List ℕ) (x : Marks × List ℕ) : Type 0 where
-  pub takes : Takes bytes (marks_bytes x.0) x.1
-  pub fits : FitMarks x.0
+pub record TableTaken (bytes : List ℕ) (x : Lives × List ℕ) : Type 0 where
+  pub takes : Takes bytes (lives_bytes x.0) x.1
+  pub fits : FitLives x.0
   pub count : fin.len x.0 < 2 ^ 64
 
-pub table_takes : (bytes : List ℕ) (x : Marks × List ℕ) → IsBytes bytes → table_at bytes ≡ Some x → TableTaken bytes x
+pub table_takes : (bytes : List ℕ) (x : Lives × List ℕ) → IsBytes bytes → table_at bytes ≡ Some x → TableTaken bytes x
 unfolding table_at
 table_takes bytes x small e =
-    let a = bind_some (number_at w64 bytes) (λ n. marks_at n.0 zero_id fin.empty n.1) x e in
+    let a = bind_some (number_at w64 bytes) (λ n. lives_at n.0 zero_id fin.empty n.1) x e in
     let t = number_takes wide64 bytes a.0 small a.1 in
-    let m = marks_take a.0.0 zero_id fin.empty a.0.1 x t.0.rest_fits before_first above_zero fit_empty a.2 in
-    let same : fin.entries x.0 ≡ m.es = m.entries ∙ ap (λ (l : List (List ℕ × Mark)). l ++ m.es) entries-empty in
+    let m = lives_take a.0.0 zero_id fin.empty a.0.1 x t.0.rest_fits before_first above_zero fit_empty a.2 in
+    let same : fin.entries x.0 ≡ m.es = m.entries ∙ ap (λ (l : List (List ℕ × Life)). l ++ m.es) entries-empty in
     let counted : length m.es < 2 ^ 64 = omega (arith, m.count, t.1) in
-    let both : Takes bytes (known_bytes m.es) x.1 = subst (λ (n : ℕ). Takes bytes (to_le_bytes w64 n ++ flat_map mark_bytes m.es) x.1) (sym m.count) (Takes-then bytes (to_le_bytes w64 a.0.0) a.0.1 (flat_map mark_bytes m.es) x.1 t.0 m.takes) in
+    let both : Takes bytes (known_bytes m.es) x.1 = subst (λ (n : ℕ). Takes bytes (to_le_bytes w64 n ++ flat_map life_bytes m.es) x.1) (sym m.count) (Takes-then bytes (to_le_bytes w64 a.0.0) a.0.1 (flat_map life_bytes m.es) x.1 t.0 m.takes) in
     record {
-      takes = subst (λ (l : List (List ℕ × Mark)). Takes bytes (known_bytes l) x.1) (sym same) both;
+      takes = subst (λ (l : List (List ℕ × Life)). Takes bytes (known_bytes l) x.1) (sym same) both;
       fits = m.fits;
       count = subst (λ (n : ℕ). n < 2 ^ 64) (sym (len-entries x.0 ∙ ap length same)) counted;
     }
 
--- ---- the entries of marks that fit follow one another
+-- ---- the entries of lives that fit follow one another
 
 both : (a b : Bool) → a ≡ true → T b → T (a && b)
 both true b p q = q
@@ -188,30 +188,30 @@ not_tied Less p = refl
 not_tied Equal p = absurd p
 not_tied Greater p = absurd p
 
-find_above : (q : List ℕ) (es : List (List ℕ × Mark)) → T (below_all (slice_cmp nat_cmp) q es) → find (slice_cmp nat_cmp) q es ≡ None
+find_above : (q : List ℕ) (es : List (List ℕ × Life)) → T (below_all (slice_cmp nat_cmp) q es) → find (slice_cmp nat_cmp) q es ≡ None
 find_above q [] p = refl
 find_above q (e ∷ es) p =
     ap (λ b. cond b (Some e.1) (find (slice_cmp nat_cmp) q es)) (not_tied (order q e.0) (left (is_lt (order q e.0)) _ p)) ∙ find_above q es (right (is_lt (order q e.0)) _ p)
 
-FitEach : List (List ℕ × Mark) → Type 0
-FitEach es = (q : List ℕ) → IfSome (find (slice_cmp nat_cmp) q es) (FitsMark q)
+FitEach : List (List ℕ × Life) → Type 0
+FitEach es = (q : List ℕ) → IfSome (find (slice_cmp nat_cmp) q es) (FitsLife q)
 
-fit_head : (e : List ℕ × Mark) (es : List (List ℕ × Mark)) → FitEach (e ∷ es) → FitsMark e.0 e.1
+fit_head : (e : List ℕ × Life) (es : List (List ℕ × Life)) → FitEach (e ∷ es) → FitsLife e.0 e.1
 unfolding FitEach
 fit_head e es fits =
-    subst (λ (o : Option Mark). IfSome o (FitsMark e.0)) (ap (λ r. cond (is_eq r) (Some e.1) (find (slice_cmp nat_cmp) e.0 es)) (tied_itself nat_list_cmp_total e.0)) (fits e.0)
+    subst (λ (o : Option Life). IfSome o (FitsLife e.0)) (ap (λ r. cond (is_eq r) (Some e.1) (find (slice_cmp nat_cmp) e.0 es)) (tied_itself nat_list_cmp_total e.0)) (fits e.0)
 
-fit_tail : (e : List ℕ × Mark) (es : List (List ℕ × Mark)) → T (below_all (slice_cmp nat_cmp) e.0 es) → FitEach (e ∷ es) → FitEach es
+fit_tail : (e : List ℕ × Life) (es : List (List ℕ × Life)) → T (below_all (slice_cmp nat_cmp) e.0 es) → FitEach (e ∷ es) → FitEach es
 unfolding FitEach
 fit_tail e es below fits q = by (eq_by_cmp (slice_cmp nat_cmp) q e.0) refl (fits q)
   where
-    by : (b : Bool) → b ≡ eq_by_cmp (slice_cmp nat_cmp) q e.0 → IfSome (cond b (Some e.1) (find (slice_cmp nat_cmp) q es)) (FitsMark q) → IfSome (find (slice_cmp nat_cmp) q es) (FitsMark q)
+    by : (b : Bool) → b ≡ eq_by_cmp (slice_cmp nat_cmp) q e.0 → IfSome (cond b (Some e.1) (find (slice_cmp nat_cmp) q es)) (FitsLife q) → IfSome (find (slice_cmp nat_cmp) q es) (FitsLife q)
     by true is h =
         let same : q ≡ e.0 = slice_cmp-IsAntisymmetric nat_cmp-IsAntisymmetric q e.0 ((Equal-is (slice_cmp nat_cmp q e.0)).0 (sym is)) in
-        subst (λ (o : Option Mark). IfSome o (FitsMark q)) (sym (ap (λ (x : List ℕ). find (slice_cmp nat_cmp) x es) same ∙ find_above e.0 es below)) tt
+        subst (λ (o : Option Life). IfSome o (FitsLife q)) (sym (ap (λ (x : List ℕ). find (slice_cmp nat_cmp) x es) same ∙ find_above e.0 es below)) tt
     by false is h = h
 
-follow : (previous : List ℕ) (es : List (List ℕ × Mark)) → T (below_all (slice_cmp nat_cmp) previous es) → T (is_sorted (slice_cmp nat_cmp) es) → FitEach es → Follow previous es
+follow : (previous : List ℕ) (es : List (List ℕ × Life)) → T (below_all (slice_cmp nat_cmp) previous es) → T (is_sorted (slice_cmp nat_cmp) es) → FitEach es → Follow previous es
 follow previous [] below sorted fits = tt
 follow previous (e ∷ es) below sorted fits =
     let fit = fit_head e es fits in
@@ -233,22 +233,22 @@ zero_least zero (x ∷ xs) len differs = absurd (omega arith)
 zero_least (suc n) [] len differs = absurd (omega arith)
 zero_least (suc n) (x ∷ xs) len differs = least x xs n (λ d. zero_least n xs (omega arith) d) differs
 
-all_above_zero : (es : List (List ℕ × Mark)) → T (is_sorted (slice_cmp nat_cmp) es) → FitEach es → T (below_all (slice_cmp nat_cmp) zero_id es)
+all_above_zero : (es : List (List ℕ × Life)) → T (is_sorted (slice_cmp nat_cmp) es) → FitEach es → T (below_all (slice_cmp nat_cmp) zero_id es)
 all_above_zero [] sorted fits = tt
 all_above_zero (e ∷ es) sorted fits =
     let fit = fit_head e es fits in
     let under = left (below_all (slice_cmp nat_cmp) e.0 es) _ sorted in
     both (is_lt (order zero_id e.0)) _ (zero_least 16 e.0 fit.length fit.not_zero) (all_above_zero es (right (below_all (slice_cmp nat_cmp) e.0 es) _ sorted) (fit_tail e es under fits))
 
--- marks that fit are read again
-pub table_again : (marks : Marks) (rest : List ℕ) → FitMarks marks → fin.len marks < 2 ^ 64 → table_at (marks_bytes marks ++ rest) ≡ Some (marks, rest)
+-- lives that fit are read again
+pub table_again : (lives : Lives) (rest : List ℕ) → FitLives lives → fin.len lives < 2 ^ 64 → table_at (lives_bytes lives ++ rest) ≡ Some (lives, rest)
 unfolding table_at FitEach
-table_again marks rest fits few =
-    let es = fin.entries marks in
-    let each : FitEach es = λ q. subst (λ (o : Option Mark). IfSome o (FitsMark q)) (get-entries marks q) (fits q) in
-    let sorted = entries_sorted marks in
-    let m = marks_again es zero_id fin.empty rest before_first (follow zero_id es (all_above_zero es sorted each) sorted each) in
-    let same : m.found ≡ marks = same_entries_map m.found marks (m.entries ∙ ap (λ (l : List (List ℕ × Mark)). l ++ es) entries-empty) in
-    let counted : length es < 2 ^ 64 = subst (λ (n : ℕ). n < 2 ^ 64) (len-entries marks) few in
-    ap table_at (append_assoc (to_le_bytes w64 (length es)) (flat_map mark_bytes es) rest)
-    ∙ rw (number_again wide64 (length es) (flat_map mark_bytes es ++ rest) counted) (m.reads ∙ ap (λ (k : Marks). Some (k, rest)) same)
+table_again lives rest fits few =
+    let es = fin.entries lives in
+    let each : FitEach es = λ q. subst (λ (o : Option Life). IfSome o (FitsLife q)) (get-entries lives q) (fits q) in
+    let sorted = entries_sorted lives in
+    let m = lives_again es zero_id fin.empty rest before_first (follow zero_id es (all_above_zero es sorted each) sorted each) in
+    let same : m.found ≡ lives = same_entries_map m.found lives (m.entries ∙ ap (λ (l : List (List ℕ × Life)). l ++ es) entries-empty) in
+    let counted : length es < 2 ^ 64 = subst (λ (n : ℕ). n < 2 ^ 64) (len-entries lives) few in
+    ap table_at (append_assoc (to_le_bytes w64 (length es)) (flat_map life_bytes es) rest)
+    ∙ rw (number_again wide64 (length es) (flat_map life_bytes es ++ rest) counted) (m.reads ∙ ap (λ (k : Lives). Some (k, rest)) same)

@@ -7,11 +7,11 @@ use Rattle.std.specs.Cmp.Lexicographic.{slice_cmp}
 use Rattle.std.specs.FinMap as fin
 use Rattle.byte_fields.specs.Fields.{front_at, number_at}
 use Rattle.outside.specs.Trace.{At, config, block}
-use Rattle.local_state.specs.declared.mark.Mark.{Mark}
+use Rattle.local_state.specs.declared.life.Life.{Life}
 use Rattle.local_state.specs.declared.state.StateError.{StateError}
 use Rattle.local_state.specs.declared.state.StateError.TheVariants as errors
-use Rattle.local_state.specs.Known.{Marks, zero_id}
-use Rattle.local_state.specs.Record.{PlainState, Entry, magic, comes_after, may_change, has_bytes}
+use Rattle.local_state.specs.Known.{Lives, zero_id}
+use Rattle.local_state.specs.Record.{PlainState, ListEntry, magic, comes_after, may_change, has_bytes}
 
 infixl 10 ◌>>=◌
 abbrev pub ◌>>=◌ : {A B : Type 0} → Option A → (A → Option B) → Option B
@@ -34,24 +34,24 @@ flag_at (suc zero ∷ rest) = Some (true, rest)
 flag_at (suc (suc b) ∷ rest) = None
 
 -- a known block, whose id comes after the previous one
-unfoldable pub known_at : List ℕ → List ℕ → Option ((List ℕ × Mark) × List ℕ)
+unfoldable pub known_at : List ℕ → List ℕ → Option ((List ℕ × Life) × List ℕ)
 known_at previous bytes = do
   id ← front_at 16 bytes
   version ← number_at w64 id.1
   live ← flag_at version.1
   if is_lt (slice_cmp nat_cmp previous id.0) && nat_lt 0 version.0 then Some ((id.0, record { version = version.0; live = live.0 }), live.1) else None
 
--- so many known blocks, put to the marks before
-unfoldable pub marks_at : ℕ → List ℕ → Marks → List ℕ → Option (Marks × List ℕ)
-marks_at zero previous marks bytes = Some (marks, bytes)
-marks_at (suc n) previous marks bytes = do
+-- so many known blocks, put to the lives before
+unfoldable pub lives_at : ℕ → List ℕ → Lives → List ℕ → Option (Lives × List ℕ)
+lives_at zero previous lives bytes = Some (lives, bytes)
+lives_at (suc n) previous lives bytes = do
   e ← known_at previous bytes
-  marks_at n e.0.0 (fin.insert marks e.0.0 e.0.1) e.1
+  lives_at n e.0.0 (fin.insert lives e.0.0 e.0.1) e.1
 
-unfoldable pub table_at : List ℕ → Option (Marks × List ℕ)
+unfoldable pub table_at : List ℕ → Option (Lives × List ℕ)
 table_at bytes = do
   n ← number_at w64 bytes
-  marks_at n.0 zero_id fin.empty n.1
+  lives_at n.0 zero_id fin.empty n.1
 
 unfoldable pub name_at : List ℕ → Option (At × List ℕ)
 name_at bytes = do
@@ -64,23 +64,23 @@ change_at bytes = do
   if has_bytes.0 then number_at w32 has_bytes.1 >>= (λ n. front_at n.0 n.1 >>= (λ new. Some (Some new.0, new.1))) else Some (None, has_bytes.1)
 
 -- a list entry, whose name comes after the previous one
-unfoldable pub entry_at : Marks → Option At → List ℕ → Option (Entry × List ℕ)
-entry_at marks previous bytes = do
+unfoldable pub entry_at : Lives → Option At → List ℕ → Option (ListEntry × List ℕ)
+entry_at lives previous bytes = do
   name ← name_at bytes
   change ← change_at name.1
-  if comes_after previous name.0 && may_change marks name.0 (has_bytes change.0) then Some ((name.0, change.0), change.1) else None
+  if comes_after previous name.0 && may_change lives name.0 (has_bytes change.0) then Some ((name.0, change.0), change.1) else None
 
 -- so many list entries after those before
-unfoldable pub entries_at : Marks → ℕ → Option At → List Entry → List ℕ → Option (List Entry × List ℕ)
-entries_at marks zero previous before bytes = Some (before, bytes)
-entries_at marks (suc n) previous before bytes = do
-  e ← entry_at marks previous bytes
-  entries_at marks n (Some e.0.0) (before ++ e.0 ∷ []) e.1
+unfoldable pub entries_at : Lives → ℕ → Option At → List ListEntry → List ℕ → Option (List ListEntry × List ℕ)
+entries_at lives zero previous before bytes = Some (before, bytes)
+entries_at lives (suc n) previous before bytes = do
+  e ← entry_at lives previous bytes
+  entries_at lives n (Some e.0.0) (before ++ e.0 ∷ []) e.1
 
-unfoldable pub list_at : Marks → List ℕ → Option (List Entry × List ℕ)
-list_at marks bytes = do
+unfoldable pub list_at : Lives → List ℕ → Option (List ListEntry × List ℕ)
+list_at lives bytes = do
   n ← number_at w64 bytes
-  entries_at marks n.0 None [] n.1
+  entries_at lives n.0 None [] n.1
 
 -- the bytes after the magic ones
 abbrev pub magic_at : List ℕ → Option (List ℕ)
@@ -95,12 +95,12 @@ head_at bytes = do
   key_salt ← front_at 32 fs_id.1
   key_digest ← front_at 32 key_salt.1
   client ← number_at w32 key_digest.1
-  if nat_lt 0 client.0 then Some (record { marked = marked.0; fs_id = fs_id.0; key_salt = key_salt.0; key_digest = key_digest.0; client = client.0; marks = fin.empty }, client.1) else None
+  if nat_lt 0 client.0 then Some (record { marked = marked.0; fs_id = fs_id.0; key_salt = key_salt.0; key_digest = key_digest.0; client = client.0; lives = fin.empty }, client.1) else None
 
 -- a state, a list, and no more bytes
-unfoldable pub record_at : List ℕ → Option (PlainState × List Entry)
+unfoldable pub record_at : List ℕ → Option (PlainState × List ListEntry)
 record_at bytes = do
   head ← head_at bytes
   known ← table_at head.1
   list ← list_at known.0 known.1
-  if length list.1 == 0 then Some (record head.0 { marks = known.0 }, list.0) else None
+  if length list.1 == 0 then Some (record head.0 { lives = known.0 }, list.0) else None

@@ -9,9 +9,9 @@ use Rattle.std.specs.Global.{Vec}
 use Rattle.outside.specs.declared.change.Pending.{Pending}
 use Rattle.outside.specs.View.{list_of}
 use Rattle.outside.specs.Trace.{At, config, block}
-use Rattle.local_state.specs.declared.mark.Mark.{Mark}
+use Rattle.local_state.specs.declared.life.Life.{Life}
 use Rattle.local_state.specs.declared.state.State.{State}
-use Rattle.local_state.specs.Known.{Marks, FitMarks, is_live_in, is_dead_in}
+use Rattle.local_state.specs.Known.{Lives, FitLives, is_live_in, is_dead_in}
 
 -- ---- what a record holds
 
@@ -22,20 +22,20 @@ pub record PlainState : Type 0 where
   pub key_salt : List ℕ
   pub key_digest : List ℕ
   pub client : ℕ
-  pub marks : Marks
+  pub lives : Lives
 
 abbrev pub plain_state : State → PlainState
-plain_state s = record { marked = s.marked; fs_id = s.fs_id.0; key_salt = s.key_salt; key_digest = s.key_digest; client = s.client; marks = s.known.marks }
+plain_state s = record { marked = s.marked; fs_id = s.fs_id.0; key_salt = s.key_salt; key_digest = s.key_digest; client = s.client; lives = s.known.lives }
 
 -- the same state with its mark set
 abbrev pub with_mark : PlainState → PlainState
 with_mark s = record s { marked = true }
 
 -- a file and its change: new bytes, or none for a removal
-abbrev pub Entry : Type 0
-Entry = At × Option (List ℕ)
+abbrev pub ListEntry : Type 0
+ListEntry = At × Option (List ℕ)
 
-abbrev pub plain_record : State × Vec Pending → PlainState × List Entry
+abbrev pub plain_record : State × Vec Pending → PlainState × List ListEntry
 plain_record x = (plain_state x.0, list_of x.1.items)
 
 -- ---- its bytes
@@ -49,16 +49,16 @@ flag false = 0
 flag true = 1
 
 -- a known block: id, version, and whether it lives
-abbrev pub mark_bytes : List ℕ × Mark → List ℕ
-mark_bytes e = e.0 ++ (to_le_bytes w64 e.1.version ++ flag e.1.live ∷ [])
+abbrev pub life_bytes : List ℕ × Life → List ℕ
+life_bytes e = e.0 ++ (to_le_bytes w64 e.1.version ++ flag e.1.live ∷ [])
 
 -- the number of known blocks, and these
-abbrev pub known_bytes : List (List ℕ × Mark) → List ℕ
-known_bytes es = to_le_bytes w64 (length es) ++ flat_map mark_bytes es
+abbrev pub known_bytes : List (List ℕ × Life) → List ℕ
+known_bytes es = to_le_bytes w64 (length es) ++ flat_map life_bytes es
 
 -- by rising ids
-abbrev pub marks_bytes : Marks → List ℕ
-marks_bytes marks = known_bytes (fin.entries marks)
+abbrev pub lives_bytes : Lives → List ℕ
+lives_bytes lives = known_bytes (fin.entries lives)
 
 abbrev pub name_bytes : At → List ℕ
 name_bytes config = 0 ∷ []
@@ -69,26 +69,26 @@ abbrev pub change_bytes : Option (List ℕ) → List ℕ
 change_bytes None = 0 ∷ []
 change_bytes (Some bytes) = 1 ∷ (to_le_bytes w32 (length bytes) ++ bytes)
 
-abbrev pub entry_bytes : Entry → List ℕ
+abbrev pub entry_bytes : ListEntry → List ℕ
 entry_bytes e = name_bytes e.0 ++ change_bytes e.1
 
-abbrev pub list_bytes : List Entry → List ℕ
+abbrev pub list_bytes : List ListEntry → List ℕ
 list_bytes list = to_le_bytes w64 (length list) ++ flat_map entry_bytes list
 
 -- what stands before the known blocks
 unfoldable pub head_bytes : PlainState → List ℕ
 head_bytes s = magic ++ (flag s.marked ∷ (s.fs_id ++ (s.key_salt ++ (s.key_digest ++ to_le_bytes w32 s.client))))
 
-unfoldable pub record_bytes : PlainState → List Entry → List ℕ
-record_bytes s list = head_bytes s ++ (marks_bytes s.marks ++ list_bytes list)
+unfoldable pub record_bytes : PlainState → List ListEntry → List ℕ
+record_bytes s list = head_bytes s ++ (lives_bytes s.lives ++ list_bytes list)
 
 -- ---- which states and lists have a record
 
 -- the configuration comes first and has no removal; a block's bytes stand for a live id, its removal for a dead one
-abbrev pub may_change : Marks → At → Bool → Bool
-may_change marks config has_bytes = has_bytes
-may_change marks (block id) true = is_live_in marks id
-may_change marks (block id) false = is_dead_in marks id
+abbrev pub may_change : Lives → At → Bool → Bool
+may_change lives config has_bytes = has_bytes
+may_change lives (block id) true = is_live_in lives id
+may_change lives (block id) false = is_dead_in lives id
 
 -- blocks come after the configuration, by rising ids
 abbrev pub comes_after : Option At → At → Bool
@@ -98,7 +98,7 @@ comes_after (Some config) (block id) = true
 comes_after (Some (block other)) config = false
 comes_after (Some (block other)) (block id) = is_lt (slice_cmp nat_cmp other id)
 
-abbrev pub Rise : Option At → List Entry → Type 0
+abbrev pub Rise : Option At → List ListEntry → Type 0
 Rise previous [] = Unit {0}
 Rise previous (e ∷ es) = (comes_after previous e.0 ≡ true) × Rise (Some e.0) es
 
@@ -114,13 +114,13 @@ abbrev pub has_bytes : Option (List ℕ) → Bool
 has_bytes None = false
 has_bytes (Some bytes) = true
 
-pub record FitsEntry (marks : Marks) (e : Entry) : Type 0 where
+pub record FitsEntry (lives : Lives) (e : ListEntry) : Type 0 where
   pub name : FitsName e.0
   pub bytes : FitsBytes e.1
-  pub change : may_change marks e.0 (has_bytes e.1) ≡ true
+  pub change : may_change lives e.0 (has_bytes e.1) ≡ true
 
-pub record FitsList (marks : Marks) (list : List Entry) : Type 0 where
-  pub each : AllByRecursion (FitsEntry marks) list
+pub record FitsList (lives : Lives) (list : List ListEntry) : Type 0 where
+  pub each : AllByRecursion (FitsEntry lives) list
   pub order : Rise None list
   pub count : length list < 2 ^ 64
 
@@ -134,10 +134,10 @@ pub record FitsHead (s : PlainState) : Type 0 where
 pub record FitsState (s : PlainState) : Type 0 where
   pub head : FitsHead s
   pub client : 0 < s.client
-  pub marks : FitMarks s.marks
-  pub count : fin.len s.marks < 2 ^ 64
+  pub lives : FitLives s.lives
+  pub count : fin.len s.lives < 2 ^ 64
 
 -- the state and the list have a record
-pub record HasRecord (s : PlainState) (list : List Entry) : Type 0 where
+pub record HasRecord (s : PlainState) (list : List ListEntry) : Type 0 where
   pub state : FitsState s
-  pub entries : FitsList s.marks list
+  pub entries : FitsList s.lives list

@@ -1,10 +1,10 @@
 // The table of known versions.
 ghost use Rattle.std.specs.Prelude.{◌≡◌, ◌≢◌, ◌+◌, ◌-◌, ◌^◌, ◌<◌, ◌≤◌, ◌↔◌, Bool, true, false, length, IsTrue, IsSome, IsErr, IsOk, map, IfSome, IfNone, IfOk, OnOk, OnErr};
 ghost use Rattle.std.specs.FinMap as fin;
-ghost use Rattle.local_state.specs.Known.{mark_at, version_at, is_live_at, is_used_at, version_if_live, is_last, raised_version, zero_id, plain_entry, FitsMark, FitMarks, IsFirstFree};
+ghost use Rattle.local_state.specs.Known.{life_at, version_at, is_live_at, is_used_at, version_if_live, is_last, raised_version, zero_id, plain_entry, FitsLife, FitLives, IsFirstFree};
 
-use crate::mark::Mark;
-use crate::marks::{add_mark, change_mark, first_free, mark_of, put_mark, sorted_marks};
+use crate::life::Life;
+use crate::lives::{add_life, change_life, first_free, life_of, put_life, sorted_lives};
 use block_id::{BlockId, Memory};
 use std::alloc::Global;
 use std::collections::HashMap;
@@ -17,60 +17,60 @@ pub struct Spent;
 /// A finite map from ids of blocks to a version and whether the block lives. An id is used where it is in the map.
 #[derive(Debug, Drop)]
 pub struct Known {
-    marks: HashMap<BlockId, Mark>,
+    lives: HashMap<BlockId, Life>,
 }
 
 impl Model for Known {
     ghost use Rattle.std.specs.HashMap.{spare};
-    ghost use Rattle.local_state.specs.Known.{Table, table_code, marks_of, FitMarks};
+    ghost use Rattle.local_state.specs.Known.{KnownTable, table_code, lives_of, FitLives};
 
-    ghost Value = { Table };
+    ghost Value = { KnownTable };
 
     ghost coded = { table_code };
 
-    ghost view = { λ k. record { marks = marks_of k.marks.entries; spare = spare k.marks } };
+    ghost view = { λ k. record { lives = lives_of k.lives.entries; spare = spare k.lives } };
 
-    ghost invariant = { λ k. FitMarks (marks_of k.marks.entries) };
+    ghost invariant = { λ k. FitLives (lives_of k.lives.entries) };
 }
 
 impl Known {
     /// Nothing is known.
     pub fn new(alloc: Global) -> Known
-        ensures { result.marks ≡ fin.empty }
+        ensures { result.lives ≡ fin.empty }
     {
         Known {
-            marks: HashMap::new(alloc),
+            lives: HashMap::new(alloc),
         }
     }
 
     /// How many ids are used.
     pub fn len(&self) -> usize
-        ensures len { result ≡ fin.len self.now.marks }
+        ensures len { result ≡ fin.len self.now.lives }
         ensures bound { result < 2 ^ 63 }
-        ensures fits { FitMarks self.now.marks }
+        ensures fits { FitLives self.now.lives }
     {
-        self.marks.len()
+        self.lives.len()
     }
 
     /// The version of a used id.
     pub fn version(&self, id: &BlockId) -> Option<u64>
         ensures { result ≡ version_at self.now id.now.0 }
     {
-        mark_of(&self.marks, id).map(|mark| mark.version)
+        life_of(&self.lives, id).map(|life| life.version)
     }
 
     /// The version of a live id.
     pub fn live_version(&self, id: &BlockId) -> Option<u64>
-        ensures { result ≡ version_if_live (mark_at self.now id.now.0) }
+        ensures { result ≡ version_if_live (life_at self.now id.now.0) }
     {
-        let mark = mark_of(&self.marks, id)?;
-        if mark.live { Some(mark.version) } else { None }
+        let life = life_of(&self.lives, id)?;
+        if life.live { Some(life.version) } else { None }
     }
 
     /// The version that a raise gives: the first of a new id, or one more.
     pub fn next_version(&self, id: &BlockId) -> u64
-        requires { is_last (mark_at self.now id.now.0) ≡ false }
-        ensures { result ≡ raised_version (mark_at self.now id.now.0) }
+        requires { is_last (life_at self.now id.now.0) ≡ false }
+        ensures { result ≡ raised_version (life_at self.now id.now.0) }
     {
         match self.version(id) {
             Some(version) => version + 1,
@@ -80,7 +80,7 @@ impl Known {
 
     /// Whether the id's version can't rise.
     pub fn is_spent(&self, id: &BlockId) -> bool
-        ensures { result ≡ is_last (mark_at self.now id.now.0) }
+        ensures { result ≡ is_last (life_at self.now id.now.0) }
     {
         self.version(id) == Some(u64::MAX)
     }
@@ -89,61 +89,61 @@ impl Known {
     pub fn is_live(&self, id: &BlockId) -> bool
         ensures { result ≡ is_live_at self.now id.now.0 }
     {
-        mark_of(&self.marks, id).is_some_and(|mark| mark.live)
+        life_of(&self.lives, id).is_some_and(|life| life.live)
     }
 
     /// Whether the id is in the map.
     pub fn is_used(&self, id: &BlockId) -> bool
         ensures { result ≡ is_used_at self.now id.now.0 }
     {
-        mark_of(&self.marks, id).is_some()
+        life_of(&self.lives, id).is_some()
     }
 
     /// Takes memory for `n` new ids.
     pub fn reserve(&mut self, n: usize) -> Result<(), Memory>
         ensures room { OnOk result (n ≤ self.new.spare) }
-        ensures marks { self.new.marks ≡ self.old.marks }
+        ensures lives { self.new.lives ≡ self.old.lives }
         ensures spare { self.old.spare ≤ self.new.spare }
     {
-        self.marks.reserve(n)?;
+        self.lives.reserve(n)?;
         Ok(())
     }
 
     /// Gives a new id version 1, or a live one the next version, and answers it. It takes no memory.
     pub fn raise(&mut self, id: &BlockId) -> Result<u64, Spent>
         requires not_zero { id.now.0 ≢ zero_id }
-        requires not_dead { IfSome (mark_at self.old id.now.0) (λ mark. mark.live ≡ true) }
-        requires room { IfNone (mark_at self.old id.now.0) (0 < self.old.spare) }
-        ensures version { IfOk result (λ version. version ≡ raised_version (mark_at self.old id.now.0)) }
-        ensures marks { IfOk result (λ version. self.new.marks
-            ≡ fin.insert self.old.marks id.now.0 (record { version = version; live = true })) }
+        requires not_dead { IfSome (life_at self.old id.now.0) (λ life. life.live ≡ true) }
+        requires room { IfNone (life_at self.old id.now.0) (0 < self.old.spare) }
+        ensures version { IfOk result (λ version. version ≡ raised_version (life_at self.old id.now.0)) }
+        ensures lives { IfOk result (λ version. self.new.lives
+            ≡ fin.insert self.old.lives id.now.0 (record { version = version; live = true })) }
         ensures spent { IsErr result ↔ (version_at self.old id.now.0 ≡ Some (2 ^ 64 - 1)) }
         ensures err { OnErr result (self.new ≡ self.old) }
         ensures spare { self.old.spare ≤ self.new.spare + 1 }
-        ensures no_room_taken { IsSome (mark_at self.old id.now.0) → self.old.spare ≤ self.new.spare }
-        ensures fits { FitMarks self.new.marks }
+        ensures no_room_taken { IsSome (life_at self.old id.now.0) → self.old.spare ≤ self.new.spare }
+        ensures fits { FitLives self.new.lives }
     {
         // With its bytes read the id is known to have 16.
         let _bytes = id.0;
-        match mark_of(&self.marks, id) {
+        match life_of(&self.lives, id) {
             None => {
-                add_mark(
-                    &mut self.marks,
+                add_life(
+                    &mut self.lives,
                     *id,
-                    Mark {
+                    Life {
                         version: 1,
                         live: true,
                     },
                 );
                 Ok(1)
             }
-            Some(mark) if mark.version == u64::MAX => Err(Spent),
-            Some(mark) => {
-                let version = mark.version + 1;
-                change_mark(
-                    &mut self.marks,
+            Some(life) if life.version == u64::MAX => Err(Spent),
+            Some(life) => {
+                let version = life.version + 1;
+                change_life(
+                    &mut self.lives,
                     id,
-                    Mark {
+                    Life {
                         version,
                         live: true,
                     },
@@ -153,36 +153,36 @@ impl Known {
         }
     }
 
-    // Gives an id a mark that was read.
-    pub(crate) fn learn(&mut self, id: &BlockId, mark: Mark) -> Result<(), Memory>
-        requires { FitsMark id.now.0 mark }
-        ensures { OnOk result (self.new.marks ≡ fin.insert self.old.marks id.now.0 mark) }
+    /// Gives an id a life that was read.
+    pub(crate) fn learn(&mut self, id: &BlockId, life: Life) -> Result<(), Memory>
+        requires { FitsLife id.now.0 life }
+        ensures { OnOk result (self.new.lives ≡ fin.insert self.old.lives id.now.0 life) }
     {
-        put_mark(&mut self.marks, id, mark)
+        put_life(&mut self.lives, id, life)
     }
 
-    // The ids with their marks, by rising ids.
-    pub(crate) fn sorted(&self, alloc: Global) -> Result<Vec<(BlockId, Mark)>, Memory>
-        ensures entries { IfOk result (λ v. map plain_entry v.items ≡ fin.entries self.now.marks) }
-        ensures fits { FitMarks self.now.marks }
+    /// The ids with their lives, by rising ids.
+    pub(crate) fn sorted(&self, alloc: Global) -> Result<Vec<(BlockId, Life)>, Memory>
+        ensures entries { IfOk result (λ v. map plain_entry v.items ≡ fin.entries self.now.lives) }
+        ensures fits { FitLives self.now.lives }
     {
-        sorted_marks(alloc, &self.marks)
+        sorted_lives(alloc, &self.lives)
     }
 
     /// Makes a live id dead. Its version stays.
     pub fn bury(&mut self, id: &BlockId)
         requires { is_live_at self.old id.now.0 ≡ true }
-        ensures marks { IfSome (version_at self.old id.now.0) (λ version. self.new.marks
-            ≡ fin.insert self.old.marks id.now.0 (record { version = version; live = false })) }
+        ensures lives { IfSome (version_at self.old id.now.0) (λ version. self.new.lives
+            ≡ fin.insert self.old.lives id.now.0 (record { version = version; live = false })) }
         ensures spare { self.old.spare ≤ self.new.spare }
-        ensures fits { FitMarks self.new.marks }
+        ensures fits { FitLives self.new.lives }
     {
-        if let Some(mark) = mark_of(&self.marks, id) {
-            change_mark(
-                &mut self.marks,
+        if let Some(life) = life_of(&self.lives, id) {
+            change_life(
+                &mut self.lives,
                 id,
-                Mark {
-                    version: mark.version,
+                Life {
+                    version: life.version,
                     live: false,
                 },
             );
@@ -191,8 +191,8 @@ impl Known {
 
     /// The first id that is neither used nor zero among `drawn`, the next one and so on.
     pub fn fresh(&self, drawn: BlockId) -> BlockId
-        ensures { IsFirstFree self.now.marks drawn.0 result.0 }
+        ensures { IsFirstFree self.now.lives drawn.0 result.0 }
     {
-        first_free(&self.marks, drawn)
+        first_free(&self.lives, drawn)
     }
 }

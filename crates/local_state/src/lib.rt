@@ -3,15 +3,15 @@
 
 mod known;
 mod laws;
-mod mark;
-mod marks;
+mod life;
+mod lives;
 mod reading;
 mod state;
 mod writing;
 
 pub use known::{Known, Spent};
 pub use laws::{mark_stands_at_19, one_reading};
-pub use mark::Mark;
+pub use life::Life;
 pub use reading::decode;
 pub use state::{State, StateError, key_digest};
 pub use writing::encode;

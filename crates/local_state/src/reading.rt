@@ -4,13 +4,13 @@ ghost use Rattle.std.specs.Option.{option_map};
 ghost use Rattle.std.specs.FinMap as fin;
 ghost use Rattle.outside.specs.View.{list_of, pending_of, at_of, change_of};
 ghost use Rattle.local_state.specs.Known.{plain_entry, zero_id, IsNext};
-ghost use Rattle.local_state.specs.Record.{PlainState, Entry, plain_state, plain_record, record_bytes, comes_after, may_change, has_bytes, HasRecord};
-ghost use Rattle.local_state.specs.Reading.{Gives, flag_at, magic_at, known_at, marks_at, table_at, name_at, change_at, entry_at, entries_at, list_at, head_at, record_at};
+ghost use Rattle.local_state.specs.Record.{PlainState, ListEntry, plain_state, plain_record, record_bytes, comes_after, may_change, has_bytes, HasRecord};
+ghost use Rattle.local_state.specs.Reading.{Gives, flag_at, magic_at, known_at, lives_at, table_at, name_at, change_at, entry_at, entries_at, list_at, head_at, record_at};
 
 use crate::known::Known;
-use crate::mark::Mark;
+use crate::life::Life;
 use crate::state::{State, StateError};
-use crate::writing::{MAGIC, MAGIC_LEN, MARK_LEN};
+use crate::writing::{LIFE_LEN, MAGIC, MAGIC_LEN};
 use block_id::BlockId;
 use byte_fields::{take_array, take_bytes, take_id, take_u32, take_u64};
 use outside::{Change, FileName, Pending};
@@ -36,7 +36,7 @@ fn magic_of(bytes: &[u8]) -> Result<&[u8], StateError>
 }
 
 #[tactic(auto, unfolding(crate::specs::Reading::known_at))]
-fn known_of(previous: BlockId, bytes: &[u8]) -> Result<((BlockId, Mark), &[u8]), StateError>
+fn known_of(previous: BlockId, bytes: &[u8]) -> Result<((BlockId, Life), &[u8]), StateError>
     ensures gives { Gives (λ x. (plain_entry x.0, x.1.now)) result (known_at previous.0 bytes.now) }
     ensures next { IfOk result (λ x. IsNext previous.0 x.0.0.0 x.0.1) }
 {
@@ -49,19 +49,19 @@ fn known_of(previous: BlockId, bytes: &[u8]) -> Result<((BlockId, Mark), &[u8]),
     if version == 0 {
         return Err(StateError::BadState);
     }
-    Ok(((id, Mark { version, live }), rest))
+    Ok(((id, Life { version, live }), rest))
 }
 
-fn marks_of(alloc: Global, count: u64, bytes: &[u8]) -> Result<(Known, &[u8]), StateError>
-    ensures { Gives (λ x. (x.0.marks, x.1.now)) result (marks_at count zero_id fin.empty bytes.now) }
+fn lives_of(alloc: Global, count: u64, bytes: &[u8]) -> Result<(Known, &[u8]), StateError>
+    ensures { Gives (λ x. (x.0.lives, x.1.now)) result (lives_at count zero_id fin.empty bytes.now) }
 {
     let mut known = Known::new(alloc);
-    known.reserve((bytes.len() / MARK_LEN).min(count as usize))?;
+    known.reserve((bytes.len() / LIFE_LEN).min(count as usize))?;
     let mut previous = BlockId([0; 16]);
     let mut rest = bytes;
-    'marks: for _ in 0..count {
-        let ((id, mark), after) = known_of(previous, rest)?;
-        known.learn(&id, mark)?;
+    'lives: for _ in 0..count {
+        let ((id, life), after) = known_of(previous, rest)?;
+        known.learn(&id, life)?;
         previous = id;
         rest = after;
     }
@@ -70,10 +70,10 @@ fn marks_of(alloc: Global, count: u64, bytes: &[u8]) -> Result<(Known, &[u8]), S
 
 #[tactic(auto, unfolding(crate::specs::Reading::table_at))]
 fn table_of(alloc: Global, bytes: &[u8]) -> Result<(Known, &[u8]), StateError>
-    ensures { Gives (λ x. (x.0.marks, x.1.now)) result (table_at bytes.now) }
+    ensures { Gives (λ x. (x.0.lives, x.1.now)) result (table_at bytes.now) }
 {
     let (count, rest) = take_u64(bytes).ok_or(StateError::BadState)?;
-    marks_of(alloc, count, rest)
+    lives_of(alloc, count, rest)
 }
 
 #[tactic(auto, unfolding(crate::specs::Reading::name_at))]
@@ -115,7 +115,7 @@ fn comes_after(previous: Option<FileName>, name: FileName) -> bool
 }
 
 fn may_change(known: &Known, name: FileName, change: &Change) -> bool
-    ensures { result ≡ may_change known.now.marks (at_of name) (has_bytes (change_of change.now)) }
+    ensures { result ≡ may_change known.now.lives (at_of name) (has_bytes (change_of change.now)) }
 {
     match name {
         FileName::Config => matches!(change, Change::Bytes(_)),
@@ -133,7 +133,7 @@ fn entry_of<'a>(
     previous: Option<FileName>,
     bytes: &'a [u8],
 ) -> Result<(Pending, &'a [u8]), StateError>
-    ensures { Gives (λ x. (pending_of x.0, x.1.now)) result (entry_at known.now.marks (option_map at_of previous) bytes.now) }
+    ensures { Gives (λ x. (pending_of x.0, x.1.now)) result (entry_at known.now.lives (option_map at_of previous) bytes.now) }
 {
     let (name, rest) = name_of(bytes)?;
     let (change, rest) = change_in(alloc, rest)?;
@@ -149,7 +149,7 @@ fn entries_of<'a>(
     count: u64,
     bytes: &'a [u8],
 ) -> Result<(Vec<Pending>, &'a [u8]), StateError>
-    ensures { Gives (λ x. (list_of x.0.items, x.1.now)) result (entries_at known.now.marks count None [] bytes.now) }
+    ensures { Gives (λ x. (list_of x.0.items, x.1.now)) result (entries_at known.now.lives count None [] bytes.now) }
 {
     let mut list = Vec::new(alloc);
     let mut previous = None;
@@ -169,7 +169,7 @@ fn list_in<'a>(
     known: &Known,
     bytes: &'a [u8],
 ) -> Result<(Vec<Pending>, &'a [u8]), StateError>
-    ensures { Gives (λ x. (list_of x.0.items, x.1.now)) result (list_at known.now.marks bytes.now) }
+    ensures { Gives (λ x. (list_of x.0.items, x.1.now)) result (list_at known.now.lives bytes.now) }
 {
     let (count, rest) = take_u64(bytes).ok_or(StateError::BadState)?;
     entries_of(alloc, known, count, rest)
@@ -219,10 +219,10 @@ pub fn decode(alloc: Global, bytes: &[u8]) -> Result<(State, Vec<Pending>), Stat
     ensures has_record { IfOk result (λ x. HasRecord (plain_state x.0) (list_of x.1.items)) }
     ensures bytes { IfOk result (λ x. bytes.now ≡ record_bytes (plain_state x.0) (list_of x.1.items)) }
     // No other state and list have them.
-    ensures only { IfOk result (λ x. (state : PlainState) (list : List Entry) → HasRecord state list
+    ensures only { IfOk result (λ x. (state : PlainState) (list : List ListEntry) → HasRecord state list
         → bytes.now ≡ record_bytes state list → plain_record x ≡ (state, list)) }
     // Where no state and list have these bytes.
-    ensures bad_state { IsErrOf result StateError.BadState → (state : PlainState) (list : List Entry) → HasRecord state list
+    ensures bad_state { IsErrOf result StateError.BadState → (state : PlainState) (list : List ListEntry) → HasRecord state list
         → bytes.now ≢ record_bytes state list }
 {
     record_of(alloc, bytes)

@@ -17,7 +17,7 @@ fn push_head(out: &mut Vec<u8>) -> Result<(), AllocError> {
     out.extend_from_slice(&[7, 0, 0, 0])
 }
 
-// Two known blocks, a live and a dead one, and a list of the configuration and both.
+/// Two known blocks, a live and a dead one, and a list of the configuration and both.
 fn full_record(alloc: Global) -> Result<Vec<u8>, AllocError> {
     let mut out = Vec::new(alloc);
     push_head(&mut out)?;
@@ -104,10 +104,10 @@ fn record_with_a_list_is_read_and_written_again(rt: HostRuntime) -> Result<(), F
     Ok(())
 }
 
-// From where to where a byte is set, and what is then wrong.
+/// From where to where a byte is set, and what is then wrong.
 const WRONG: [(usize, usize, u8, &str); 17] = [
     (0, 1, b'C', "other magic bytes"),
-    (19, 20, 2, "a mark of 2"),
+    (19, 20, 2, "a life of 2"),
     (100, 101, 0, "client 0"),
     (104, 105, 3, "more blocks than there are"),
     (112, 128, 0, "a zero id"),

@@ -3,25 +3,25 @@ ghost use Rattle.std.specs.Prelude.{◌≡◌, ◌<◌, ◌^◌, ◌++◌, lengt
 ghost use Rattle.std.specs.Int.{w64, to_le_bytes};
 ghost use Rattle.std.specs.FinMap as fin;
 ghost use Rattle.outside.specs.View.{list_of, pending_of, at_of, change_of};
-ghost use Rattle.local_state.specs.Known.{plain_entry, FitMarks};
-ghost use Rattle.local_state.specs.Record.{plain_state, head_bytes, mark_bytes, known_bytes, marks_bytes, name_bytes, change_bytes, entry_bytes, list_bytes, record_bytes, FitsHead, FitsBytes, FitsList, HasRecord};
+ghost use Rattle.local_state.specs.Known.{plain_entry, FitLives};
+ghost use Rattle.local_state.specs.Record.{plain_state, head_bytes, life_bytes, known_bytes, lives_bytes, name_bytes, change_bytes, entry_bytes, list_bytes, record_bytes, FitsHead, FitsBytes, FitsList, HasRecord};
 
 use crate::known::Known;
-use crate::mark::Mark;
+use crate::life::Life;
 use crate::state::State;
 use block_id::{BlockId, Memory};
 use byte_fields::{put_id, put_u32, put_u64};
 use outside::{Change, FileName, Pending};
 use std::alloc::Global;
 
-// What a record begins with: `cryfs.localstate;1` and a zero byte.
+/// What a record begins with: `cryfs.localstate;1` and a zero byte.
 pub(crate) const MAGIC: [u8; MAGIC_LEN] = *b"cryfs.localstate;1\0";
 
 pub(crate) const MAGIC_LEN: usize = 19;
 
 const HEAD_LEN: usize = 104;
 
-pub(crate) const MARK_LEN: usize = 25;
+pub(crate) const LIFE_LEN: usize = 25;
 
 const COUNT_LEN: usize = 8;
 
@@ -39,28 +39,28 @@ fn put_head(out: &mut Vec<u8>, state: &State) -> Result<(), Memory>
     Ok(())
 }
 
-fn put_mark(out: &mut Vec<u8>, id: &BlockId, mark: &Mark) -> Result<(), Memory>
-    ensures { OnOk result (out.new.items ≡ out.old.items ++ mark_bytes (plain_entry (id.now, mark.now))) }
+fn put_life(out: &mut Vec<u8>, id: &BlockId, life: &Life) -> Result<(), Memory>
+    ensures { OnOk result (out.new.items ≡ out.old.items ++ life_bytes (plain_entry (id.now, life.now))) }
 {
     put_id(out, id)?;
-    put_u64(out, mark.version)?;
-    out.push(u8::from(mark.live))?;
+    put_u64(out, life.version)?;
+    out.push(u8::from(life.live))?;
     Ok(())
 }
 
-fn put_entries(out: &mut Vec<u8>, entries: &[(BlockId, Mark)]) -> Result<(), Memory>
+fn put_entries(out: &mut Vec<u8>, entries: &[(BlockId, Life)]) -> Result<(), Memory>
     ensures { OnOk result (out.new.items ≡ out.old.items ++ known_bytes (map plain_entry entries.now)) }
 {
     put_u64(out, entries.len() as u64)?;
-    'marks: for entry in entries {
-        put_mark(out, &entry.0, &entry.1)?;
+    'lives: for entry in entries {
+        put_life(out, &entry.0, &entry.1)?;
     }
     Ok(())
 }
 
 fn put_known(alloc: Global, out: &mut Vec<u8>, known: &Known) -> Result<(), Memory>
-    ensures bytes { OnOk result (out.new.items ≡ out.old.items ++ marks_bytes known.now.marks) }
-    ensures fits { OnOk result (FitMarks known.now.marks) }
+    ensures bytes { OnOk result (out.new.items ≡ out.old.items ++ lives_bytes known.now.lives) }
+    ensures fits { OnOk result (FitLives known.now.lives) }
 {
     let entries = known.sorted(alloc)?;
     put_entries(out, &entries)
@@ -117,7 +117,7 @@ fn put_list(out: &mut Vec<u8>, list: &[Pending]) -> Result<(), Memory>
 #[tactic(auto, unfolding(crate::specs::Record::record_bytes))]
 pub fn encode(alloc: Global, state: &State, list: &[Pending]) -> Result<Vec<u8>, Memory>
     requires client { 0 < state.now.client }
-    requires list { FitsList state.now.known.marks (list_of list.now) }
+    requires list { FitsList state.now.known.lives (list_of list.now) }
     ensures bytes { IfOk result (λ v. v.items ≡ record_bytes (plain_state state.now) (list_of list.now)) }
     ensures has_record { OnOk result (HasRecord (plain_state state.now) (list_of list.now)) }
 {
@@ -127,7 +127,7 @@ pub fn encode(alloc: Global, state: &State, list: &[Pending]) -> Result<Vec<u8>,
         state
             .known
             .len()
-            .saturating_mul(MARK_LEN)
+            .saturating_mul(LIFE_LEN)
             .saturating_add(len),
     )?;
     put_head(&mut out, state)?;

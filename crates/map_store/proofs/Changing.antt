@@ -5,7 +5,7 @@ use Rattle.std.specs.FinMap as fin
 use Rattle.std.specs.FinMap.{get-empty}
 use Rattle.block_id.specs.Fresh.{zero_id}
 use Rattle.store_api.specs.Content.{Id, id_cmp, Changes, same_id, or_else, over}
-use Rattle.store_api.specs.Holdings.{Fits, Changed, IsFew, has_id}
+use Rattle.store_api.specs.Holdings.{FitsStore, Changed, IsFew, has_id}
 use Rattle.map_store.specs.Rows.{Kept, AreWith, newer, content_of, meanings_of, holdings_of, has_id-keys}
 
 abbrev pub Row : Type 0
@@ -49,7 +49,7 @@ kept_nothing payload rows low high is = record {
 
 module _ {S : Type 0} (p : S → ℕ) (r : S → Changes) (a b : S) (changes : Changes) where
   -- the changes say nothing of the zero id
-  zero_unchanged : Kept (p a) (r a) → Fits (holdings_of p r) a changes → (o : Row) → fin.get changes zero_id ≡ o → o ≡ None
+  zero_unchanged : Kept (p a) (r a) → FitsStore (holdings_of p r) a changes → (o : Row) → fin.get changes zero_id ≡ o → o ≡ None
   zero_unchanged k fits None e = refl
   zero_unchanged k fits (Some None) e = absurd (not_there (fin.get (r a) zero_id) k.no_zero (fits.removes zero_id e))
   zero_unchanged k fits (Some (Some bytes)) e = elim (fits.gets zero_id bytes e) [
@@ -57,7 +57,7 @@ module _ {S : Type 0} (p : S → ℕ) (r : S → Changes) (a b : S) (changes : C
     | inr free ↦ absurd (never (has_id (fin.keys (r a)) zero_id) free)
   ]
 
-  pub kept_with : Kept (p a) (r a) → Fits (holdings_of p r) a changes → p b ≡ p a → AreWith changes (r a) (r b) → Kept (p b) (r b)
+  pub kept_with : Kept (p a) (r a) → FitsStore (holdings_of p r) a changes → p b ≡ p a → AreWith changes (r a) (r b) → Kept (p b) (r b)
   kept_with k fits same are = record {
     at_least = subst (λ n. 50 ≤ n) (sym same) k.at_least;
     at_most = subst (λ n. n ≤ 1048576) (sym same) k.at_most;

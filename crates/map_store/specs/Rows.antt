@@ -6,7 +6,7 @@ use Rattle.std.specs.FinMap.{contains_key-keys}
 use Rattle.block_id.specs.Fresh.{zero_id}
 use Rattle.outcome.specs.Meanings.{Meanings, Lawful}
 use Rattle.store_api.specs.Content.{Id, Content, Changes, or_else}
-use Rattle.store_api.specs.Loads.{Answer, Gives}
+use Rattle.store_api.specs.Loads.{LoadAnswer, GivesPayload}
 use Rattle.store_api.specs.Holdings.{Holdings, Steady, Stays, has_id}
 
 abbrev pub content_of : Changes → Content
@@ -54,8 +54,8 @@ abbrev pub applied_of : {S : Type 0} → (S → ℕ) → (S → Changes) → S �
 applied_of p r a b changes = (p b ≡ p a) × AreWith changes (r a) (r b)
 
 -- a load leaves the rows, and gives what they have
-abbrev pub loads_of : {S : Type 0} → (S → ℕ) → (S → Changes) → S → S → Id → Answer → Type 0
-loads_of p r a b id answer = (p b ≡ p a) × (r b ≡ r a) × Gives (content_of (r a) id) answer
+abbrev pub loads_of : {S : Type 0} → (S → ℕ) → (S → Changes) → S → S → Id → LoadAnswer → Type 0
+loads_of p r a b id answer = (p b ≡ p a) × (r b ≡ r a) × GivesPayload (content_of (r a) id) answer
 
 pub lawful_of : {S : Type 0} (p : S → ℕ) (r : S → Changes) → Lawful (meanings_of p r)
 lawful_of p r = record {

@@ -11,7 +11,7 @@ use block_id::{BlockId, Memory};
 use std::alloc::Global;
 use store_api::{Batch, BatchChange};
 
-// Sets a row to a copy of this change.
+/// Sets a row to a copy of this change.
 fn set(alloc: Global, rows: &mut Batch, id: &BlockId, change: &BatchChange) -> Result<(), Memory>
     ensures { OnOk result (rows.new ≡ fin.insert rows.old id.now.0 (change_view change.now)) }
 {
@@ -21,7 +21,7 @@ fn set(alloc: Global, rows: &mut Batch, id: &BlockId, change: &BatchChange) -> R
     }
 }
 
-// Sets a row for each of the entries.
+/// Sets a row for each of the entries.
 fn set_entries(
     alloc: Global,
     rows: &mut Batch,
@@ -35,7 +35,7 @@ fn set_entries(
     Ok(())
 }
 
-// Sets a row for each of the changes.
+/// Sets a row for each of the changes.
 fn set_all(alloc: Global, rows: &mut Batch, changes: &Batch) -> Result<(), Memory>
     ensures { OnOk result (AreWith changes.now rows.old rows.new) }
 {
@@ -54,7 +54,7 @@ pub(crate) fn changed(alloc: Global, rows: &Batch, changes: &Batch) -> Result<Ba
     Ok(new)
 }
 
-// Whether the id is neither zero nor that of a row.
+/// Whether the id is neither zero nor that of a row.
 fn is_unused(rows: &Batch, id: &BlockId) -> bool
     ensures { result ≡ is_free (fin.keys rows.now) id.now.0 }
 {

@@ -14,12 +14,12 @@ const B: BlockId = BlockId([2; 16]);
 
 const C: BlockId = BlockId([3; 16]);
 
-// A generator that always begins alike.
+/// A generator that always begins alike.
 fn chance() -> Pcg32 {
     Pcg32::new(1, 2)
 }
 
-// Has a free id get a payload of this byte.
+/// Has a free id get a payload of this byte.
 fn give<S: Blocks>(alloc: Global, tx: &mut Tx<S>, id: &BlockId, byte: u8) -> Result<(), Fail>
     requires { ⟦<Tx<S> as Blocks>⟧.meanings.intact tx.old }
     ensures { ⟦<Tx<S> as Blocks>⟧.meanings.intact tx.new }
@@ -38,7 +38,7 @@ fn give<S: Blocks>(alloc: Global, tx: &mut Tx<S>, id: &BlockId, byte: u8) -> Res
     Ok(())
 }
 
-// Removes the payload of an id.
+/// Removes the payload of an id.
 fn take<S: Blocks>(tx: &mut Tx<S>, id: &BlockId) -> Result<(), Fail>
     requires { ⟦<Tx<S> as Blocks>⟧.meanings.intact tx.old }
     ensures { ⟦<Tx<S> as Blocks>⟧.meanings.intact tx.new }
@@ -50,7 +50,7 @@ fn take<S: Blocks>(tx: &mut Tx<S>, id: &BlockId) -> Result<(), Fail>
     Ok(())
 }
 
-// The first byte of a payload.
+/// The first byte of a payload.
 fn first_byte<S: Blocks>(alloc: Global, tx: &mut Tx<S>, id: &BlockId) -> Result<Option<u8>, Fail>
     requires { ⟦<Tx<S> as Blocks>⟧.meanings.intact tx.old }
     ensures { ⟦<Tx<S> as Blocks>⟧.meanings.intact tx.new }
@@ -61,7 +61,7 @@ fn first_byte<S: Blocks>(alloc: Global, tx: &mut Tx<S>, id: &BlockId) -> Result<
     }
 }
 
-// The first bytes of a removed block before and after it is committed, and whether its id is used.
+/// The first bytes of a removed block before and after it is committed, and whether its id is used.
 fn remove_one<S: BlocksMut>(
     alloc: Global,
     tx: &mut Tx<S>,
@@ -81,7 +81,7 @@ fn remove_one<S: BlocksMut>(
     Ok((changes, before, first_byte(alloc, tx, &A)?, tx.is_used(&A)))
 }
 
-// Whether the second block got the payload of the third one, and its first byte.
+/// Whether the second block got the payload of the third one, and its first byte.
 fn follow_one<S: BlocksMut>(alloc: Global, tx: &mut Tx<S>) -> Result<(bool, Option<u8>), Fail>
     requires { ⟦<Tx<S> as Blocks>⟧.meanings.intact tx.old }
     ensures { ⟦<Tx<S> as Blocks>⟧.meanings.intact tx.new }

@@ -5,7 +5,7 @@ use Rattle.std.specs.declared.option.Option.{Option}
 use Rattle.std.specs.declared.option.Option.TheVariants.{None, Some}
 use Rattle.std.specs.declared.result.Result.TheVariants.{Err}
 use Rattle.std.proofs.lemmas.Option.{same_Some, none-some}
-use Rattle.outside.specs.Changes.{Changes}
+use Rattle.outside.specs.Changes.{FileChanges}
 use Rattle.outside.specs.Going.{GoesOn, goes_on_same, goes_on_onward}
 use Rattle.outside.specs.Honest.{count_told}
 use Rattle.outside.specs.Trace.{Call, config}
@@ -25,7 +25,7 @@ use Rattle.config_file.proofs.Waiting.{form_waits}
 use Rattle.config_file.specs.Format.{HasForm}
 use Rattle.config_file.specs.Settings.{Settings, settings_of}
 use Rattle.config_file.specs.declared.config.Opened.{Opened}
-use Rattle.session_saver.specs.Saving.{KeptConfigures, Represents as ContentKept, UnlessDirectory, UnlessState}
+use Rattle.session_saver.specs.Saving.{KeptConfigures, RepresentsContent as ContentKept, UnlessDirectory, UnlessState}
 use Rattle.session_saver.specs.declared.saver.SyncError.{SyncError}
 use Rattle.session_saver.specs.declared.saver.SyncError.TheVariants.{Memory as SyncMemory, FaultDirectory as SyncDirectory, FaultState as SyncState}
 use Rattle.tree_commands.specs.Performing.{Showing}
@@ -33,8 +33,8 @@ use Rattle.mount_core.specs.Standing.{IsKeptMarked}
 use Rattle.mount_opening.specs.Opening.{CauseOf}
 use Rattle.mount.specs.declared.error.OpenError.{OpenError}
 use Rattle.mount.specs.declared.error.OpenError.TheVariants.{Memory, NoState, BadState, Exists, Marked, Mismatch, NoConfig, Config as OfConfig, FaultDirectory, FaultState}
-use Rattle.mount.specs.Mounts.{Unopened, IsUncalled, IsUnsaved, IsCalm, StopsMarked}
-use Rattle.mount.specs.Opening.{IsLoaded, LoadCause, ConfigCause, OpenCause, AttachCause, IsOf, Found, Reads, error_of}
+use Rattle.mount.specs.Mounts.{Unopened, IsUncalled, IsUnsaved, IsCalmOpening, StopsMarked}
+use Rattle.mount.specs.Opening.{IsLoaded, LoadCause, ConfigCause, OpenCause, AttachCause, IsOf, OpenedConfig, ReadsConfigOnce, error_of}
 use Rattle.mount.specs.Representing.{identity_for, Represents}
 use Rattle.mount.specs.Unforged.{IsUnforgedConfig}
 use Rattle.mount.proofs.Quiet.{start_directory, start_state}
@@ -54,7 +54,7 @@ load_attach password kept t0 t1 v0 v1 k0 k1 (OfConfig x) h = absurd h
 load_attach password kept t0 t1 v0 v1 k0 k1 FaultDirectory h = absurd h
 load_attach password kept t0 t1 v0 v1 k0 k1 FaultState h = h
 
-load_calm : (shows : Showing) (kept : Option (List ℕ)) (trace : Option (List Call)) (c : Settings) (tree : Tree) (k0 k1 : ℕ) (e : OpenError) → Represents shows kept trace c tree → LoadCause kept k0 k1 e → IsCalm e
+load_calm : (shows : Showing) (kept : Option (List ℕ)) (trace : Option (List Call)) (c : Settings) (tree : Tree) (k0 k1 : ℕ) (e : OpenError) → Represents shows kept trace c tree → LoadCause kept k0 k1 e → IsCalmOpening e
 load_calm shows kept trace c tree k0 k1 Memory rep h = tt
 load_calm shows kept trace c tree k0 k1 NoState rep h = none-some rep.keeps.represents.0 (sym h ∙ rep.keeps.represents.1)
 load_calm shows kept trace c tree k0 k1 BadState rep h =
@@ -85,7 +85,7 @@ load_marked kept k0 k1 FaultState m h = tt
 
 -- ---- the configuration isn't taken
 
-module _ (password : List ℕ) (kept : Option (List ℕ)) (state : PlainState) (list : Changes) (l : IsLoaded kept state list) where
+module _ (password : List ℕ) (kept : Option (List ℕ)) (state : PlainState) (list : FileChanges) (l : IsLoaded kept state list) where
   open_attach : (t0 t1 : Option (List Call)) (v0 v1 k0 k1 : ℕ) (e : OpenError) → OpenCause password state list t0 t1 v0 v1 e → AttachCause password kept t0 t1 v0 v1 k0 k1 e
   open_attach t0 t1 v0 v1 k0 k1 Memory h = tt
   open_attach t0 t1 v0 v1 k0 k1 NoState h = absurd h
@@ -111,7 +111,7 @@ module _ (password : List ℕ) (kept : Option (List ℕ)) (state : PlainState) (
   open_uncalled t0 t1 v0 v1 FaultState h u = u
 
   open_calm : (shows : Showing) (t0 t1 : Option (List Call)) (c : Settings) (tree : Tree) (v0 v1 : ℕ) (e : OpenError) → Represents shows kept t0 c tree → IsUnforgedConfig password kept t0 t1 c
-      → OpenCause password state list t0 t1 v0 v1 e → IsCalm e
+      → OpenCause password state list t0 t1 v0 v1 e → IsCalmOpening e
   open_calm shows t0 t1 c tree v0 v1 Memory rep u h = tt
   open_calm shows t0 t1 c tree v0 v1 NoState rep u h = h
   open_calm shows t0 t1 c tree v0 v1 BadState rep u h = h
@@ -142,7 +142,7 @@ start_unsaved SyncMemory u = u
 start_unsaved SyncDirectory u = u
 start_unsaved SyncState u = u
 
-start_calm : (e : SyncError) → IsCalm (error_of e)
+start_calm : (e : SyncError) → IsCalmOpening (error_of e)
 start_calm SyncMemory = tt
 start_calm SyncDirectory = tt
 start_calm SyncState = tt
@@ -168,8 +168,8 @@ module _ {V : Type 0} {K : Type 0} (shows : Showing) (trace : V → Option (List
     keeper_quiet = quiet;
   }
 
-  pub halted_opening : (state : PlainState) (list : Changes) (u : V) (after : K) (e : OpenError) → IsLoaded (G.kept keeper) state list
-      → OpenCause password state list (trace vault) (trace u) (faults vault) (faults u) e → Reads (trace vault) (trace u) → faults vault ≤ faults u → (e ≢ FaultDirectory → faults u ≡ faults vault) → G.kept after ≡ G.kept keeper → G.faults after ≡ G.faults keeper
+  pub halted_opening : (state : PlainState) (list : FileChanges) (u : V) (after : K) (e : OpenError) → IsLoaded (G.kept keeper) state list
+      → OpenCause password state list (trace vault) (trace u) (faults vault) (faults u) e → ReadsConfigOnce (trace vault) (trace u) → faults vault ≤ faults u → (e ≢ FaultDirectory → faults u ≡ faults vault) → G.kept after ≡ G.kept keeper → G.faults after ≡ G.faults keeper
       → Unopened shows trace faults G password vault keeper (record { error = e; vault = u; keeper = after })
   halted_opening state list u after e l cause reads more quiet kept same = record {
     cause = open_attach password (G.kept keeper) state list l (trace vault) (trace u) (faults vault) (faults u) (G.faults keeper) (G.faults after) e cause;
@@ -190,10 +190,10 @@ module _ {V : Type 0} {K : Type 0} (shows : Showing) (trace : V → Option (List
   }
 
   -- what writing out leaves, where it isn't done
-  pub record Stopped (state : PlainState) (list : Changes) (o : Opened) (read : Option (List Call)) (v k : ℕ) (u : V) (after : K) (e : SyncError) : Type 0 where
+  pub record Stopped (state : PlainState) (list : FileChanges) (o : Opened) (read : Option (List Call)) (v k : ℕ) (u : V) (after : K) (e : SyncError) : Type 0 where
     pub loaded : IsLoaded (G.kept keeper) state list
-    pub found : Found password list (trace vault) read o
-    pub reads : Reads (trace vault) read
+    pub found : OpenedConfig password list (trace vault) read o
+    pub reads : ReadsConfigOnce (trace vault) read
     pub on : GoesOn read (trace u)
     pub cause : CauseOf v (faults u) k (G.faults after) e
     pub keeps : (G.kept after ≡ Some (record_bytes state list)) ⊎ (G.kept after ≡ Some (record_bytes state []))
@@ -207,7 +207,7 @@ module _ {V : Type 0} {K : Type 0} (shows : Showing) (trace : V → Option (List
     pub keeper_grows : k ≤ G.faults after
     pub keeper_quiet : UnlessState (Err e) (G.faults after ≡ k)
 
-  pub halted_starting : (state : PlainState) (list : Changes) (o : Opened) (read : Option (List Call)) (v k : ℕ) (u : V) (after : K) (e : SyncError) → Stopped state list o read v k u after e
+  pub halted_starting : (state : PlainState) (list : FileChanges) (o : Opened) (read : Option (List Call)) (v k : ℕ) (u : V) (after : K) (e : SyncError) → Stopped state list o read v k u after e
       → Unopened shows trace faults G password vault keeper (record { error = error_of e; vault = u; keeper = after })
   halted_starting state list o read v k u after e s = record {
     cause = start_attach password (G.kept keeper) state list s.loaded (trace vault) (trace u) (faults vault) v (faults u) (G.faults keeper) k (G.faults after) e (omega (arith, s.vault_first)) (omega (arith, s.keeper_first)) s.cause;
@@ -228,7 +228,7 @@ module _ {V : Type 0} {K : Type 0} (shows : Showing) (trace : V → Option (List
 
 -- ---- what starting is given, and gives back
 
-pub config_open : (password : List ℕ) (state : PlainState) (list : Changes) (old new : Option (List Call)) (v0 v1 : ℕ) (e : OpenError) → ConfigCause password list old new v0 v1 e → OpenCause password state list old new v0 v1 e
+pub config_open : (password : List ℕ) (state : PlainState) (list : FileChanges) (old new : Option (List Call)) (v0 v1 : ℕ) (e : OpenError) → ConfigCause password list old new v0 v1 e → OpenCause password state list old new v0 v1 e
 config_open password state list old new v0 v1 Memory h = h
 config_open password state list old new v0 v1 NoState h = h
 config_open password state list old new v0 v1 BadState h = h
@@ -241,7 +241,7 @@ config_open password state list old new v0 v1 FaultDirectory h = h
 config_open password state list old new v0 v1 FaultState h = h
 
 -- the configuration's file, by what the store's record says
-pub config_start : (kept : Option (List ℕ)) (record_ : List ℕ) (state : PlainState) (list : Changes) (t0 t : Option (List Call)) (bytes : List ℕ) → IsLoaded kept state list → Reads t0 t → record_ ≡ record_bytes state list
+pub config_start : (kept : Option (List ℕ)) (record_ : List ℕ) (state : PlainState) (list : FileChanges) (t0 t : Option (List Call)) (bytes : List ℕ) → IsLoaded kept state list → ReadsConfigOnce t0 t → record_ ≡ record_bytes state list
     → KeptConfigures records kept t0 bytes → Configures record_ t bytes
 config_start kept record_ state list t0 t bytes l reads e k =
     subst (λ r. Configures r t bytes) (sym e) (reads_configures (record_bytes state list) bytes t0 t reads (subst (λ r. Configures r t0 bytes) (same_Some _ _ (sym k.1 ∙ l.kept)) k.2))

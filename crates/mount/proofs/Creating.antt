@@ -49,19 +49,19 @@ free_root used root e n = both_not (has_id used root) (same_id root zero_id) e (
 
 -- the record that is kept of a store knows what the store does
 pub knows_only : {V : Type 0} (trace : V → Option (List Call)) (faults : V → ℕ) (before after : IntegrityStore V Cipher) (kept : Option (List ℕ)) (root : List ℕ) → (sealed_meanings trace faults).intact before
-    → ((id : Id) → has_id ((sealed_holdings trace).used before) id ≡ false) → (sealed_meanings trace faults).intact after → kept ≡ Some ((sealed_durables trace).record_of after false)
+    → ((id : Id) → has_id ((sealed_holdings trace).used before) id ≡ false) → (sealed_meanings trace faults).intact after → kept ≡ Some ((sealed_durables trace).local_record_of after false)
     → OnlyRootRaised (sealed_holdings trace) before after root → KnowsOnly kept root
 knows_only {V = V} trace faults before after kept root first unused whole is raised state list l =
     let steady = steady_by {S = IntegrityStore V Cipher} sealed_held (sealed_trace trace) (λ s. faults s.sealed.vault.vault) (λ s. IsIntact (block_size_of s.sealed) 16) in
     let h = sealed_held after in
     let none : (id : Id) → (sealed_holdings trace).version before id ≡ 0 = λ id. steady.unused_version before id first (unused id) in
     let same = one_reading state h.state list [] l.has_record (listed_has h.state h.list false whole.0.has_record) (same_Some _ _ (sym l.kept ∙ is)) in
-    let known : (id : Id) → version_in (fin.get state.marks id) ≡ (sealed_holdings trace).version after id = λ id. ap (λ (s : PlainState). version_in (fin.get s.marks id)) same.0 in
+    let known : (id : Id) → version_in (fin.get state.lives id) ≡ (sealed_holdings trace).version after id = λ id. ap (λ (s : PlainState). version_in (fin.get s.lives id)) same.0 in
     (omega (arith, known root, raised.raised, none root), λ id other. known id ∙ (raised.rest id other ∙ none id))
 
 -- it has the salt that the store was opened with
 pub has_salt : {V : Type 0} (trace : V → Option (List Call)) (faults : V → ℕ) (after : IntegrityStore V Cipher) (kept : Option (List ℕ)) (c : Settings) (salt : List ℕ) → (sealed_meanings trace faults).intact after
-    → kept ≡ Some ((sealed_durables trace).record_of after false) → identity_of (sealed_held after) ≡ identity_for c salt → HasSalt kept salt
+    → kept ≡ Some ((sealed_durables trace).local_record_of after false) → identity_of (sealed_held after) ≡ identity_for c salt → HasSalt kept salt
 has_salt trace faults after kept c salt whole is opened_as state list l =
     let h = sealed_held after in
     let same = one_reading state h.state list [] l.has_record (listed_has h.state h.list false whole.0.has_record) (some_same (sym l.kept ∙ is)) in

@@ -8,38 +8,38 @@ use Rattle.std.specs.Cmp.Lexicographic.{slice_cmp}
 use Rattle.std.specs.declared.option.Option.{Option}
 use Rattle.std.specs.declared.option.Option.TheVariants.{None, Some}
 use Rattle.outside.specs.Trace.{Call}
-use Rattle.local_state.specs.declared.mark.Mark.{Mark}
-use Rattle.local_state.specs.Known.{Marks, FitsMark, FitMarks}
+use Rattle.local_state.specs.declared.life.Life.{Life}
+use Rattle.local_state.specs.Known.{Lives, FitsLife, FitLives}
 use Rattle.local_state.specs.Record.{PlainState, HasRecord}
 use Rattle.integrity_store.specs.Soundness.{IsUntouched}
 use Rattle.store_api.specs.Holdings.{has_id}
 use Rattle.mount.specs.Making.{IsUnchanged}
 use Rattle.mount.proofs.Reading.{true_is_false}
 
-marks_get : (marks : Marks) (id : List ℕ) → marks ≡ fin.empty → fin.get marks id ≡ None
-marks_get marks id e = ap (λ m. fin.get m id) e ∙ get-empty (slice_cmp nat_cmp) id
+lives_get : (lives : Lives) (id : List ℕ) → lives ≡ fin.empty → fin.get lives id ≡ None
+lives_get lives id e = ap (λ m. fin.get m id) e ∙ get-empty (slice_cmp nat_cmp) id
 
 pub unused_none : (content : Option (List ℕ)) (used : Bool) → used ≡ false → (is_some content ≡ true → used ≡ true) → content ≡ None
 unused_none None used e f = refl
 unused_none (Some bytes) used e f = absurd (true_is_false (sym (f refl) ∙ e))
 
-pub none_used : (marks : Marks) (id : List ℕ) → marks ≡ fin.empty → has_id (fin.keys marks) id ≡ false
-none_used marks id e = sym (contains_key-keys marks id) ∙ ap is_some (marks_get marks id e)
+pub none_used : (lives : Lives) (id : List ℕ) → lives ≡ fin.empty → has_id (fin.keys lives) id ≡ false
+none_used lives id e = sym (contains_key-keys lives id) ∙ ap is_some (lives_get lives id e)
 
 pub untouched : (t : Option (List Call)) → IsUnchanged t → IsUntouched t
 untouched None u = absurd (true_is_false (sym u.told))
 untouched (Some t) u = u.none
 
-no_marks : (marks : Marks) → marks ≡ fin.empty → FitMarks marks
-no_marks marks e id = subst (λ o. IfSome o (FitsMark id)) (sym (marks_get marks id e)) tt
+no_lives : (lives : Lives) → lives ≡ fin.empty → FitLives lives
+no_lives lives e id = subst (λ o. IfSome o (FitsLife id)) (sym (lives_get lives id e)) tt
 
-pub fresh_record : (state : PlainState) → length state.fs_id ≡ 16 → length state.key_salt ≡ 32 → length state.key_digest ≡ 32 → state.client ≡ 1 → state.marks ≡ fin.empty → HasRecord state []
+pub fresh_record : (state : PlainState) → length state.fs_id ≡ 16 → length state.key_salt ≡ 32 → length state.key_digest ≡ 32 → state.client ≡ 1 → state.lives ≡ fin.empty → HasRecord state []
 fresh_record state f s d c m = record {
   state = record {
     head = record { fs_id = f; key_salt = s; key_digest = d; client = omega (arith, c) };
     client = omega (arith, c);
-    marks = no_marks state.marks m;
-    count = let z : fin.len state.marks ≡ 0 = ap fin.len m ∙ len-empty (slice_cmp nat_cmp) Mark in omega (arith, z);
+    lives = no_lives state.lives m;
+    count = let z : fin.len state.lives ≡ 0 = ap fin.len m ∙ len-empty (slice_cmp nat_cmp) Life in omega (arith, z);
   };
   entries = record { each = tt; order = tt; count = omega arith };
 }

@@ -10,7 +10,7 @@ use Rattle.sha2.specs.Sha256.{sha256}
 use Rattle.outside.specs.Going.{GoesOn, goes_on_call, goes_on_equal}
 use Rattle.outside.specs.Trace.{At, Call, config, got, adds}
 use Rattle.outside.specs.Honest.{is_lie, count_calls, count_told}
-use Rattle.outside.specs.Changes.{Changes, change_at, cut}
+use Rattle.outside.specs.Changes.{FileChanges, change_at, cut}
 use Rattle.local_state.specs.Record.{PlainState, record_bytes, HasRecord}
 use Rattle.local_state.proofs.Records.{one_reading}
 use Rattle.redo_vault.specs.Redo.{Gave}
@@ -29,7 +29,7 @@ use Rattle.config_file.specs.declared.config.Opened.{Opened}
 use Rattle.session_saver.specs.Saving.{KeptConfigures}
 use Rattle.tree_commands.specs.Performing.{Showing}
 use Rattle.mount_core.specs.Standing.{IsKeptMarked}
-use Rattle.mount.specs.Opening.{IsLoaded, AreKnown, IsOf, Found, Reads}
+use Rattle.mount.specs.Opening.{IsLoaded, AreKnown, IsOf, OpenedConfig, ReadsConfigOnce}
 use Rattle.mount.specs.Representing.{identity_for, Represents}
 use Rattle.mount.specs.Unforged.{IsUnforgedConfig}
 
@@ -38,27 +38,27 @@ true_is_false e = cc
 
 -- ---- a get of the configuration
 
-pub reads_gave : (o : Option (Option (List ℕ))) (a b : Option (List Call)) (answer : Option (List ℕ)) → Gave o a b config 1127 answer → Reads a b
+pub reads_gave : (o : Option (Option (List ℕ))) (a b : Option (List Call)) (answer : Option (List ℕ)) → Gave o a b config 1127 answer → ReadsConfigOnce a b
 reads_gave None a b answer gave = inr (answer, gave)
 reads_gave (Some change) a b answer gave = inl gave.0
 
-pub reads_on : (a b : Option (List Call)) → Reads a b → GoesOn a b
+pub reads_on : (a b : Option (List Call)) → ReadsConfigOnce a b → GoesOn a b
 reads_on a b (inl e) = goes_on_equal a b e
 reads_on a b (inr (answer, e)) = subst (λ x. GoesOn a x) (sym e) (goes_on_call a (got config 1127 answer))
 
-pub reads_stands : (identity : Identity) (kept : List ℕ) (content : Content) (a b : Option (List Call)) → Reads a b → Stands identity kept a content → Stands identity kept b content
+pub reads_stands : (identity : Identity) (kept : List ℕ) (content : Content) (a b : Option (List Call)) → ReadsConfigOnce a b → Stands identity kept a content → Stands identity kept b content
 reads_stands identity kept content a b (inl e) s = subst (λ x. Stands identity kept x content) (sym e) s
 reads_stands identity kept content a b (inr (answer, e)) s =
     let laws = enduring_by {S = Held} (λ h. h) (λ h. None) (λ h. 0) (λ h. Unit {0}) in
     subst (λ x. Stands identity kept x content) (sym e) (laws.got_stands identity kept a content config 1127 answer s)
 
-pub reads_configures : (kept bytes : List ℕ) (a b : Option (List Call)) → Reads a b → Configures kept a bytes → Configures kept b bytes
+pub reads_configures : (kept bytes : List ℕ) (a b : Option (List Call)) → ReadsConfigOnce a b → Configures kept a bytes → Configures kept b bytes
 reads_configures kept bytes a b (inl e) s = subst (λ x. Configures kept x bytes) (sym e) s
 reads_configures kept bytes a b (inr (answer, e)) s =
     let laws = enduring_by {S = Held} (λ h. h) (λ h. None) (λ h. 0) (λ h. Unit {0}) in
     subst (λ x. Configures kept x bytes) (sym e) (laws.got_configures kept a bytes config 1127 answer s)
 
-pub reads_forgeries : (opens : List ℕ → Option (List ℕ)) (size : ℕ) (a b : Option (List Call)) → Reads a b → count_told (forged opens size) b ≡ count_told (forged opens size) a
+pub reads_forgeries : (opens : List ℕ → Option (List ℕ)) (size : ℕ) (a b : Option (List Call)) → ReadsConfigOnce a b → count_told (forged opens size) b ≡ count_told (forged opens size) a
 reads_forgeries opens size a b (inl e) = ap (count_told (forged opens size)) e
 reads_forgeries opens size a b (inr (answer, e)) = ap (count_told (forged opens size)) e ∙ read_forgeries opens size a 1127 answer
 
@@ -70,7 +70,7 @@ added_lies : (a : Option (List Call)) (call : Call) → count_told is_lie a ≤ 
 added_lies None call = omega arith
 added_lies (Some t) call = more (is_lie t call) (count_calls is_lie t)
 
-pub reads_lies : (a b : Option (List Call)) → Reads a b → count_told is_lie a ≤ count_told is_lie b
+pub reads_lies : (a b : Option (List Call)) → ReadsConfigOnce a b → count_told is_lie a ≤ count_told is_lie b
 reads_lies a b (inl e) = subst (λ x. count_told is_lie a ≤ count_told is_lie x) (sym e) (omega arith)
 reads_lies a b (inr (answer, e)) = subst (λ x. count_told is_lie a ≤ count_told is_lie x) (sym e) (added_lies a (got config 1127 answer))
 
@@ -78,7 +78,7 @@ got_last : (name : At) (a : Option (List Call)) (answer : Option (List ℕ)) →
 got_last name None answer = refl
 got_last name (Some t) answer = refl
 
-pub reads_last : (name : At) (a b : Option (List Call)) → Reads a b → last_told name b ≡ last_told name a
+pub reads_last : (name : At) (a b : Option (List Call)) → ReadsConfigOnce a b → last_told name b ≡ last_told name a
 reads_last name a b (inl e) = ap (last_told name) e
 reads_last name a b (inr (answer, e)) = ap (last_told name) e ∙ got_last name a answer
 
@@ -86,11 +86,11 @@ got_told : (a : Option (List Call)) (answer : Option (List ℕ)) → is_some (ad
 got_told None answer = refl
 got_told (Some t) answer = refl
 
-pub reads_told : (a b : Option (List Call)) → Reads a b → is_some b ≡ is_some a
+pub reads_told : (a b : Option (List Call)) → ReadsConfigOnce a b → is_some b ≡ is_some a
 reads_told a b (inl e) = ap is_some e
 reads_told a b (inr (answer, e)) = ap is_some e ∙ got_told a answer
 
-pub reads_represents : (shows : Showing) (kept : Option (List ℕ)) (a b : Option (List Call)) (c : Settings) (tree : Tree) → Reads a b → Represents shows kept a c tree → Represents shows kept b c tree
+pub reads_represents : (shows : Showing) (kept : Option (List ℕ)) (a b : Option (List Call)) (c : Settings) (tree : Tree) → ReadsConfigOnce a b → Represents shows kept a c tree → Represents shows kept b c tree
 reads_represents shows kept a b c tree reads rep = record {
   salt = rep.salt;
   keeps = record {
@@ -100,35 +100,35 @@ reads_represents shows kept a b c tree reads rep = record {
   };
 }
 
-pub reads_kept : (kept : Option (List ℕ)) (a b : Option (List Call)) (bytes : List ℕ) → Reads a b → KeptConfigures records kept a bytes → KeptConfigures records kept b bytes
+pub reads_kept : (kept : Option (List ℕ)) (a b : Option (List Call)) (bytes : List ℕ) → ReadsConfigOnce a b → KeptConfigures records kept a bytes → KeptConfigures records kept b bytes
 reads_kept kept a b bytes reads k = (k.0, k.1, reads_configures k.0 bytes a b reads k.2)
 
 -- ---- the record that is kept
 
 -- the versions of one record that is kept are those of any
-pub are_known : (kept : Option (List ℕ)) (state : PlainState) (list : Changes) (version : List ℕ → ℕ) → IsLoaded kept state list → ((id : List ℕ) → version id ≡ version_in (fin.get state.marks id)) → AreKnown kept version
+pub are_known : (kept : Option (List ℕ)) (state : PlainState) (list : FileChanges) (version : List ℕ → ℕ) → IsLoaded kept state list → ((id : List ℕ) → version id ≡ version_in (fin.get state.lives id)) → AreKnown kept version
 are_known kept state list version l known = λ other more m id.
     let same = one_reading state other list more l.has_record m.has_record (same_Some _ _ (sym l.kept ∙ m.kept)) in
-    known id ∙ ap (λ (s : PlainState). version_in (fin.get s.marks id)) same.0
+    known id ∙ ap (λ (s : PlainState). version_in (fin.get s.lives id)) same.0
 
-pub loaded_unmarked : (kept : Option (List ℕ)) (state : PlainState) (list : Changes) → IsLoaded kept state list → IsKeptMarked records kept → ⊥
+pub loaded_unmarked : (kept : Option (List ℕ)) (state : PlainState) (list : FileChanges) → IsLoaded kept state list → IsKeptMarked records kept → ⊥
 loaded_unmarked kept state list l (bytes, is, m) =
     let reading = one_reading state m.state list m.list l.has_record m.has_record (same_Some _ _ (sym l.kept ∙ is) ∙ m.bytes) in
     true_is_false (sym m.is_marked ∙ ap (λ (s : PlainState). s.marked) (sym reading.0) ∙ l.unmarked)
 
 -- what stands under a configuration was opened by its record's salt
-pub stands_salt : (c : Settings) (salt : List ℕ) (state : PlainState) (list : Changes) (trace : Option (List Call)) (content : Content) → HasRecord state list
+pub stands_salt : (c : Settings) (salt : List ℕ) (state : PlainState) (list : FileChanges) (trace : Option (List Call)) (content : Content) → HasRecord state list
     → Stands (identity_for c salt) (record_bytes state list) trace content → state.key_salt ≡ salt
 stands_salt c salt state list trace content has s =
     ap (λ (p : PlainState). p.key_salt) (one_reading state s.held.state list s.held.list has s.has_record s.bytes).0 ∙ ap (λ (i : Identity). i.key_salt) s.same
 
-pub represents_of : (shows : Showing) (kept : Option (List ℕ)) (trace : Option (List Call)) (c : Settings) (tree : Tree) (state : PlainState) (list : Changes) → IsLoaded kept state list
+pub represents_of : (shows : Showing) (kept : Option (List ℕ)) (trace : Option (List Call)) (c : Settings) (tree : Tree) (state : PlainState) (list : FileChanges) → IsLoaded kept state list
     → (rep : Represents shows kept trace c tree) → Stands (identity_for c rep.salt) (record_bytes state list) trace rep.keeps.content
 represents_of shows kept trace c tree state list l rep =
     subst (λ x. Stands (identity_for c rep.salt) x trace rep.keeps.content) (same_Some _ _ (sym rep.keeps.represents.1 ∙ l.kept)) rep.keeps.represents.2
 
 -- a record that stands for a tree of a configuration is of it
-pub represents_is_of : (shows : Showing) (kept : Option (List ℕ)) (trace : Option (List Call)) (c : Settings) (tree : Tree) (state : PlainState) (list : Changes) → IsLoaded kept state list
+pub represents_is_of : (shows : Showing) (kept : Option (List ℕ)) (trace : Option (List Call)) (c : Settings) (tree : Tree) (state : PlainState) (list : FileChanges) → IsLoaded kept state list
     → Represents shows kept trace c tree → IsOf state c
 represents_is_of shows kept trace c tree state list l rep =
     let s = represents_of shows kept trace c tree state list l rep in
@@ -155,7 +155,7 @@ short_cut max answer bytes e short =
     let fits : length bytes ≤ max = omega (arith, length-take max bytes, ap length e, short) in
     sym (e ∙ take_all max bytes fits)
 
-module _ (password : List ℕ) (kept : Option (List ℕ)) (state : PlainState) (list : Changes) (t0 read t1 : Option (List Call)) (o : Opened) (c : Settings)
+module _ (password : List ℕ) (kept : Option (List ℕ)) (state : PlainState) (list : FileChanges) (t0 read t1 : Option (List Call)) (o : Opened) (c : Settings)
     (l : IsLoaded kept state list) (on : GoesOn read t1) (unforged : IsUnforgedConfig password kept t0 t1 c) where
   in_list : (change : Option (List ℕ)) (answer : List ℕ) → change_at config list ≡ Some change → Some answer ≡ cut 1127 change → ConfigOf password answer (opened (settings_of o.config) o.params) → settings_of o.config ≡ c
   in_list None answer at is opens = absurd (none-some answer (sym is))
@@ -176,5 +176,5 @@ module _ (password : List ℕ) (kept : Option (List ℕ)) (state : PlainState) (
   found_at (Some change) answer at told gave opens = in_list change answer at gave.1 opens
 
   -- the configuration that opened is the one
-  pub found_is : is_some t0 ≡ true → Found password list t0 read o → settings_of o.config ≡ c
+  pub found_is : is_some t0 ≡ true → OpenedConfig password list t0 read o → settings_of o.config ≡ c
   found_is told f = found_at (change_at config list) f.answer refl told f.gave f.opens

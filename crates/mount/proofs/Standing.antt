@@ -18,7 +18,7 @@ use Rattle.tree_commands.specs.Performing.{Showing}
 use Rattle.mount_core.specs.Standing as core_standing
 use Rattle.mount_core.specs.Standing.{Keeps}
 use Rattle.mount_core.proofs.Moving.{keeps_along}
-use Rattle.mount.specs.Mounts.{Closed}
+use Rattle.mount.specs.Mounts.{MountClosed}
 use Rattle.mount.specs.Representing.{identity_for, Represents, HasEmptyList}
 use Rattle.mount.specs.Tower.{Cached, sealed_held, sealed_meanings, sealed_durables, held_in, vault_in, tower_meanings, tower_durables}
 
@@ -28,12 +28,12 @@ on_ok (Err e) P p = tt
 
 -- the record with an empty list is kept
 pub emptied : {V : Type 0} (trace : V → Option (List Call)) (faults : V → ℕ) (store : IntegrityStore V Cipher) (kept : Option (List ℕ)) → (sealed_meanings trace faults).intact store
-    → kept ≡ Some ((sealed_durables trace).record_of store false) → HasEmptyList kept
+    → kept ≡ Some ((sealed_durables trace).local_record_of store false) → HasEmptyList kept
 emptied trace faults store kept intact e =
     record { state = (sealed_held store).state; has_record = listed_has (sealed_held store).state (sealed_held store).list false intact.0.has_record; kept = e }
 
 pub emptied_on : {V : Type 0} {T E : Type 0} (trace : V → Option (List Call)) (faults : V → ℕ) (store : Cached V) (kept : Option (List ℕ)) (result : Result T E) → (tower_meanings trace faults).intact store
-    → OnOk result (kept ≡ Some ((tower_durables trace).record_of store false)) → OnOk result (HasEmptyList kept)
+    → OnOk result (kept ≡ Some ((tower_durables trace).local_record_of store false)) → OnOk result (HasEmptyList kept)
 emptied_on trace faults store kept (Ok x) intact e = emptied trace faults store.store kept intact.0 e
 emptied_on trace faults store kept (Err x) intact e = tt
 
@@ -47,7 +47,7 @@ module _ {V : Type 0} {K : Type 0} (shows : Showing) (trace : V → Option (List
   -- what a closed session leaves, by its configuration
   pub closed : (c : Settings) (salt : List ℕ) (payload : ℕ) (root : List ℕ) (store : Cached V) (keeper : K) (kept now : Tree) (result : Result Unit SyncError)
       → payload ≡ c.block_size - 78 → root ≡ c.root → identity_of (held_in store) ≡ identity_for c salt → (tower_meanings trace faults).intact store
-      → core_standing.Closed (shows payload root) (tower_durables trace) records G store keeper kept now result → Closed shows c (G.kept keeper) (trace (vault_in store)) kept now result
+      → core_standing.Closed (shows payload root) (tower_durables trace) records G store keeper kept now result → MountClosed shows c (G.kept keeper) (trace (vault_in store)) kept now result
   closed c salt payload root store keeper kept now (Ok u) ep er ei intact s =
       (represents shows c salt payload root _ (G.kept keeper) (trace (vault_in store)) now ep er ei s.keeps, emptied trace faults store.store (G.kept keeper) intact.0 s.empty)
   closed c salt payload root store keeper kept now (Err e) ep er ei intact (inl k) = inl (represents shows c salt payload root _ (G.kept keeper) (trace (vault_in store)) kept ep er ei k)

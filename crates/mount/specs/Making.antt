@@ -13,7 +13,7 @@ use Rattle.outside.specs.Trace.{At, Call, adds, got, config}
 use Rattle.fs_model.specs.Tree.{empty_tree}
 use Rattle.scrypt_kdf.specs.Cost.{Cost}
 use Rattle.local_state.specs.Record.{PlainState}
-use Rattle.outside.specs.Changes.{Changes}
+use Rattle.outside.specs.Changes.{FileChanges}
 use Rattle.store_api.specs.Content.{Id, same_id}
 use Rattle.store_api.specs.Durables.{last_told}
 use Rattle.store_api.specs.Holdings.{has_id}
@@ -80,12 +80,12 @@ Created shows c file kept0 kept1 t1 (Err error) = ((kept1 ≡ kept0) × ((name :
 
 -- where a record without a violation is kept, it knows the root's block at version 1 at most, and no other block
 abbrev pub KnowsOnly : Option (List ℕ) → List ℕ → Type 0
-KnowsOnly kept root = (state : PlainState) (list : Changes) → IsLoaded kept state list
-    → (version_in (fin.get state.marks root) ≤ 1) × ((id : List ℕ) → same_id id root ≡ false → version_in (fin.get state.marks id) ≡ 0)
+KnowsOnly kept root = (state : PlainState) (list : FileChanges) → IsLoaded kept state list
+    → (version_in (fin.get state.lives root) ≤ 1) × ((id : List ℕ) → same_id id root ≡ false → version_in (fin.get state.lives id) ≡ 0)
 
 -- where a record without a violation is kept, the digest of the key in it has this salt
 abbrev pub HasSalt : Option (List ℕ) → List ℕ → Type 0
-HasSalt kept salt = (state : PlainState) (list : Changes) → IsLoaded kept state list → state.key_salt ≡ salt
+HasSalt kept salt = (state : PlainState) (list : FileChanges) → IsLoaded kept state list → state.key_salt ≡ salt
 
 -- a store that holds nothing, of this configuration and salt; it is sound where no file was changed
 pub record IsNewStore {V : Type 0} (was : Option (List Call)) (failed : ℕ) (trace : V → Option (List Call)) (faults : V → ℕ) (c : Settings) (salt : List ℕ) (store : IntegrityStore V Cipher) : Type 0 where

@@ -4,7 +4,7 @@ use Rattle.std.specs.declared.option.Option.{Option}
 use Rattle.std.specs.declared.option.Option.TheVariants.{Some}
 use Rattle.std.specs.declared.result.Result.TheVariants.{Ok, Err}
 use Rattle.fs_model.specs.Tree.{Tree}
-use Rattle.outside.specs.Changes.{Changes}
+use Rattle.outside.specs.Changes.{FileChanges}
 use Rattle.outside.specs.Honest.{count_told}
 use Rattle.outside.specs.Trace.{Call}
 use Rattle.outside.specs.declared.keeper.Keeper.{Ghosts as KeeperGhosts}
@@ -47,13 +47,13 @@ IsUnsaved FaultState = ⊥
 IsUnsaved error = Unit {0}
 
 -- no word against what is kept
-abbrev pub IsCalm : OpenError → Type 0
-IsCalm NoState = ⊥
-IsCalm BadState = ⊥
-IsCalm Exists = ⊥
-IsCalm Marked = ⊥
-IsCalm (Mismatch kept found) = ⊥
-IsCalm error = Unit {0}
+abbrev pub IsCalmOpening : OpenError → Type 0
+IsCalmOpening NoState = ⊥
+IsCalmOpening BadState = ⊥
+IsCalmOpening Exists = ⊥
+IsCalmOpening Marked = ⊥
+IsCalmOpening (Mismatch kept found) = ⊥
+IsCalmOpening error = Unit {0}
 
 -- what an opening that failed leaves
 pub record Unopened {V : Type 0} {K : Type 0} (shows : Showing) (trace : V → Option (List Call)) (faults : V → ℕ) (G : KeeperGhosts K) (password : List ℕ) (vault : V) (keeper : K) (h : Halted V K) : Type 0 where
@@ -61,9 +61,9 @@ pub record Unopened {V : Type 0} {K : Type 0} (shows : Showing) (trace : V → O
   pub uncalled : IsUncalled h.error → h.vault ≡ vault
   pub unsaved : IsUnsaved h.error → G.kept h.keeper ≡ G.kept keeper
   -- what is kept is the same, or its state with an empty list
-  pub kept : (G.kept h.keeper ≡ G.kept keeper) ⊎ ((state : PlainState) × (list : Changes) × IsLoaded (G.kept keeper) state list × (G.kept h.keeper ≡ Some (record_bytes state [])))
+  pub kept : (G.kept h.keeper ≡ G.kept keeper) ⊎ ((state : PlainState) × (list : FileChanges) × IsLoaded (G.kept keeper) state list × (G.kept h.keeper ≡ Some (record_bytes state [])))
   pub represents : (c : Settings) (first : Tree) → Represents shows (G.kept keeper) (trace vault) c first → IsUnforgedConfig password (G.kept keeper) (trace vault) (trace h.vault) c
-      → Represents shows (G.kept h.keeper) (trace h.vault) c first × IsCalm h.error
+      → Represents shows (G.kept h.keeper) (trace h.vault) c first × IsCalmOpening h.error
   pub configures : (bytes : List ℕ) → is_some (trace vault) ≡ true → KeptConfigures records (G.kept keeper) (trace vault) bytes → KeptConfigures records (G.kept h.keeper) (trace h.vault) bytes
   pub goes_on : GoesOn (trace vault) (trace h.vault)
   -- no block was read, so none was forged, whatever the key and the size
@@ -87,6 +87,6 @@ StaysMarked kept vault keeper (Ok mount) = ⊥
 StaysMarked kept vault keeper (Err h) = (h.vault ≡ vault) × (kept h.keeper ≡ kept keeper) × StopsMarked h.error
 
 -- after closing: the tree now is kept with an empty list, or after an error that or the one that was kept
-abbrev pub Closed : Showing → Settings → Option (List ℕ) → Option (List Call) → Tree → Tree → Result Unit SyncError → Type 0
-Closed shows c kept1 t1 kept now (Ok _) = Represents shows kept1 t1 c now × HasEmptyList kept1
-Closed shows c kept1 t1 kept now (Err _) = Represents shows kept1 t1 c kept ⊎ Represents shows kept1 t1 c now
+abbrev pub MountClosed : Showing → Settings → Option (List ℕ) → Option (List Call) → Tree → Tree → Result Unit SyncError → Type 0
+MountClosed shows c kept1 t1 kept now (Ok _) = Represents shows kept1 t1 c now × HasEmptyList kept1
+MountClosed shows c kept1 t1 kept now (Err _) = Represents shows kept1 t1 c kept ⊎ Represents shows kept1 t1 c now

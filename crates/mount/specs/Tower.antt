@@ -18,9 +18,9 @@ use Rattle.block_cache.specs.Through.{meanings_past, holdings_past, durables_pas
 use Rattle.config_file.specs.declared.config.Cipher.{Cipher}
 use Rattle.aes_gcm.specs.Gcm.{opened_of}
 use Rattle.mount_core.specs.declared.body.Core.{Core}
-use Rattle.mount_core.specs.Configuring.{Configures}
+use Rattle.mount_core.specs.Configuring.{CoreConfigures}
 use Rattle.tree_commands.specs.Performing.{Showing}
-use Rattle.mount_core.specs.Standing.{Ready, Stands}
+use Rattle.mount_core.specs.Standing.{Ready, CoreStands}
 
 -- ---- sealed blocks
 
@@ -68,7 +68,7 @@ abbrev pub TowerReady : {V : Type 0} → {K : Type 0} → (V → Option (List Ca
 TowerReady trace faults G core = Ready (tower_meanings trace faults) (tower_holdings trace) (tower_durables trace) records G core
 
 abbrev pub TowerStands : {V : Type 0} → {K : Type 0} → Showing → (V → Option (List Call)) → (V → ℕ) → KeeperGhosts K → Core (Cached V) K → Tree → Tree → Type 0
-TowerStands shows trace faults G core kept now = Stands shows (tower_meanings trace faults) (tower_holdings trace) (tower_durables trace) records G core kept now
+TowerStands shows trace faults G core kept now = CoreStands shows (tower_meanings trace faults) (tower_holdings trace) (tower_durables trace) records G core kept now
 
 abbrev pub TowerConfigures : {V : Type 0} → {K : Type 0} → (V → Option (List Call)) → KeeperGhosts K → Core (Cached V) K → List (List ℕ) → List ℕ → Type 0
-TowerConfigures trace G core may now = Configures (tower_holdings trace) (tower_durables trace) records G core may now
+TowerConfigures trace G core may now = CoreConfigures (tower_holdings trace) (tower_durables trace) records G core may now

@@ -16,7 +16,7 @@ ghost use Rattle.session_saver.specs.Saving.{KeptConfigures};
 ghost use Rattle.tree_commands.specs.Showing.{ShowsFiles};
 ghost use Rattle.mount_core.specs.Standing.{IsKeptMarked};
 ghost use Rattle.mount.specs.Mounts.{IsReady, Unopened, StaysMarked};
-ghost use Rattle.mount.specs.Opening.{Found, IsOf, OpenCause, Reads, Attached, AreKnown, error_of};
+ghost use Rattle.mount.specs.Opening.{OpenedConfig, IsOf, OpenCause, ReadsConfigOnce, Attached, AreKnown, error_of};
 ghost use Rattle.mount.specs.Representing.{identity_for, Represents};
 ghost use Rattle.mount.specs.Tower.{trace_in, tower_meanings, tower_holdings, tower_durables, TowerStands, TowerConfigures};
 ghost use Rattle.mount.specs.Unforged.{IsUnforgedConfig};
@@ -58,20 +58,20 @@ fn open_store<V: Vault>(
     requires unmarked { state.marked ≡ false }
     ensures intact { IfOk result (λ o. (tower_meanings V.trace V.faults).intact o.store) }
     ensures few { IfOk result (λ o. IsFew ((tower_holdings V.trace).used o.store)) }
-    ensures found { IfOk result (λ o. Found password.now (list_of list.items) (V.trace vault) (trace_in V.trace o.store) o.opened) }
+    ensures found { IfOk result (λ o. OpenedConfig password.now (list_of list.items) (V.trace vault) (trace_in V.trace o.store) o.opened) }
     ensures is_of { IfOk result (λ o. IsOf (plain_state state) (settings_of o.opened.config)) }
     ensures list { IfOk result (λ o. (tower_durables V.trace).list o.store ≡ list_of list.items) }
-    ensures record_of { IfOk result (λ o. (tower_durables V.trace).record_of o.store true ≡ record_bytes (plain_state state) (list_of list.items)) }
-    ensures short { IfOk result (λ o. (tower_durables V.trace).record_of o.store false ≡ record_bytes (plain_state state) []) }
+    ensures record_of { IfOk result (λ o. (tower_durables V.trace).local_record_of o.store true ≡ record_bytes (plain_state state) (list_of list.items)) }
+    ensures short { IfOk result (λ o. (tower_durables V.trace).local_record_of o.store false ≡ record_bytes (plain_state state) []) }
     ensures identity { IfOk result (λ o. (tower_durables V.trace).identity o.store ≡ identity_for (settings_of o.opened.config) state.key_salt) }
     ensures stands { IfOk result (λ o. (salt : List ℕ) (content : Content)
         → StandsFor (identity_for (settings_of o.opened.config) salt) (record_bytes (plain_state state) (list_of list.items)) (V.trace vault) content
         → (tower_meanings V.trace V.faults).sound o.store × SameContent content ((tower_holdings V.trace).content o.store)) }
-    ensures version { IfOk result (λ o. (id : List ℕ) → (tower_holdings V.trace).version o.store id ≡ version_in (fin.get (plain_state state).marks id)) }
-    ensures reads { IfOk result (λ o. Reads (V.trace vault) (trace_in V.trace o.store)) }
+    ensures version { IfOk result (λ o. (id : List ℕ) → (tower_holdings V.trace).version o.store id ≡ version_in (fin.get (plain_state state).lives id)) }
+    ensures reads { IfOk result (λ o. ReadsConfigOnce (V.trace vault) (trace_in V.trace o.store)) }
     ensures faults { IfOk result (λ o. (tower_meanings V.trace V.faults).faults o.store ≡ V.faults vault) }
     ensures err { IfErr result (λ u. OpenCause password.now (plain_state state) (list_of list.items) (V.trace vault) (V.trace u.vault) (V.faults vault) (V.faults u.vault) u.error) }
-    ensures err_reads { IfErr result (λ u. Reads (V.trace vault) (V.trace u.vault)) }
+    ensures err_reads { IfErr result (λ u. ReadsConfigOnce (V.trace vault) (V.trace u.vault)) }
     ensures err_faults { IfErr result (λ u. V.faults vault ≤ V.faults u.vault) }
     ensures err_quiet { IfErr result (λ u. u.error ≢ OpenError.FaultDirectory → V.faults u.vault ≡ V.faults vault) }
 {

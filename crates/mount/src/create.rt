@@ -12,7 +12,7 @@ ghost use Rattle.local_state.specs.Record.{HasRecord, plain_state};
 ghost use Rattle.tree_commands.specs.Showing.{ShowsFiles};
 ghost use Rattle.mount.specs.Drawing.{drawn};
 ghost use Rattle.mount.specs.Making.{CreateCause, Created, HasSalt, IsNewStore, IsUnchanged, KnowsOnly, StaysThere, StopsThere, new_settings, sealed_file, root_of};
-ghost use Rattle.mount.specs.Opening.{Reads};
+ghost use Rattle.mount.specs.Opening.{ReadsConfigOnce};
 
 use crate::attach::open_error;
 use crate::draws::Draws;
@@ -40,7 +40,7 @@ fn ask_absent<V: Vault, K: Keeper>(
     ensures ok { OnOk result ((K.kept keeper.old ≡ None) × (V.trace vault.new ≡ adds (V.trace vault.old) (got config 1127 None))) }
     ensures err { IfErr result (λ e. CreateCause (K.kept keeper.old) (V.trace vault.old) (V.trace vault.new) (V.faults vault.old) (V.faults vault.new) (K.faults keeper.old) (K.faults keeper.new) e) }
     ensures there { is_some (K.kept keeper.old) ≡ true → IsErr result × (vault.new ≡ vault.old) × IfErr result StopsThere }
-    ensures reads { Reads (V.trace vault.old) (V.trace vault.new) }
+    ensures reads { ReadsConfigOnce (V.trace vault.old) (V.trace vault.new) }
     ensures kept { K.kept keeper.new ≡ K.kept keeper.old }
     ensures vault_grows { V.faults vault.old ≤ V.faults vault.new }
     ensures keeper_grows { K.faults keeper.old ≤ K.faults keeper.new }
@@ -87,7 +87,7 @@ fn config_from(block_size: u32, draws: &Draws) -> Config
 /// A state that knows no block.
 fn new_state(alloc: Global, fs_id: [u8; 16], key_salt: [u8; 32], key_digest: [u8; 32]) -> State
     ensures record_ { HasRecord (plain_state result) [] }
-    ensures is { plain_state result ≡ record { marked = false; fs_id = fs_id; key_salt = key_salt; key_digest = key_digest; client = 1; marks = fin.empty } }
+    ensures is { plain_state result ≡ record { marked = false; fs_id = fs_id; key_salt = key_salt; key_digest = key_digest; client = 1; lives = fin.empty } }
 {
     State {
         marked: false,

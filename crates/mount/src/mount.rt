@@ -24,7 +24,7 @@ ghost use Rattle.store_api.specs.Holdings.{Stays};
 ghost use Rattle.session_saver.specs.Saving.{KeptConfigures, UnlessDirectory, UnlessState};
 ghost use Rattle.mount.specs.Drawing.{seal_drawn};
 ghost use Rattle.mount.specs.Making.{sealed_file};
-ghost use Rattle.mount.specs.Mounts.{IsReady, Closed};
+ghost use Rattle.mount.specs.Mounts.{IsReady, MountClosed};
 ghost use Rattle.mount.specs.Representing.{HasEmptyList};
 ghost use Rattle.mount.specs.Tower.{vault_in, trace_in, tower_meanings, tower_holdings, tower_durables, TowerStands, TowerConfigures};
 
@@ -203,7 +203,7 @@ impl<V: Vault, K: Keeper> Mount<V, K> {
     pub fn close(self, alloc: Global) -> (Result<(), SyncError>, V, K)
         requires ready { IsReady V.trace V.faults K.Keeper self }
         ensures stands { (kept now : Tree) → self.core.violated ≡ false → TowerStands ShowsFiles V.trace V.faults K.Keeper self.core kept now
-            → Closed ShowsFiles (settings_of self.opened.config) (K.kept result.2) (V.trace result.1) kept now result.0 }
+            → MountClosed ShowsFiles (settings_of self.opened.config) (K.kept result.2) (V.trace result.1) kept now result.0 }
         ensures configures { (may : List (List ℕ)) (now : List ℕ) → self.core.violated ≡ false → TowerConfigures V.trace K.Keeper self.core may now
             → ConfigClosed records (K.kept result.2) (V.trace result.1) may now result.0 }
         ensures left { (self.core.violated ≡ true) ⊎ (self.core.saver.changed ≡ false) → IsOk result.0 × (result.1 ≡ vault_in self.core.blobs.tx.store) × (result.2 ≡ self.core.saver.keeper) }

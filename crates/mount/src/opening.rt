@@ -4,7 +4,7 @@ ghost use Rattle.std.specs.declared.result.Result.TheVariants.{Err};
 ghost use Rattle.outside.specs.View.{list_of};
 ghost use Rattle.local_state.specs.Record.{plain_state, record_bytes};
 ghost use Rattle.config_file.specs.Settings.{IsBlockSize, settings_of};
-ghost use Rattle.mount.specs.Opening.{IsLoaded, LoadCause, Found, ConfigCause, IsOf, Reads};
+ghost use Rattle.mount.specs.Opening.{IsLoaded, LoadCause, OpenedConfig, ConfigCause, IsOf, ReadsConfigOnce};
 
 use crate::error::OpenError;
 use config_file::{Config, ConfigError, Opened, open_config};
@@ -56,10 +56,10 @@ pub(crate) fn read_config<V: Vault>(
     vault: &mut RedoVault<V>,
     password: &[u8],
 ) -> Result<Opened, OpenError>
-    ensures ok { IfOk result (λ o. Found password.now vault.old.list (V.trace vault.old.vault) (V.trace vault.new.vault) o) }
+    ensures ok { IfOk result (λ o. OpenedConfig password.now vault.old.list (V.trace vault.old.vault) (V.trace vault.new.vault) o) }
     ensures err { IfErr result (λ e. ConfigCause password.now vault.old.list (V.trace vault.old.vault) (V.trace vault.new.vault) (V.faults vault.old.vault) (V.faults vault.new.vault) e) }
     ensures size { IfOk result (λ o. IsBlockSize o.config.block_size) }
-    ensures reads { Reads (V.trace vault.old.vault) (V.trace vault.new.vault) }
+    ensures reads { ReadsConfigOnce (V.trace vault.old.vault) (V.trace vault.new.vault) }
     ensures list { vault.new.list ≡ vault.old.list }
     ensures grows { V.faults vault.old.vault ≤ V.faults vault.new.vault }
     ensures quiet { result ≢ Err OpenError.FaultDirectory → V.faults vault.new.vault ≡ V.faults vault.old.vault }

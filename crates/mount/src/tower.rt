@@ -42,10 +42,10 @@ pub(crate) fn cached_store<V: Vault>(
     ensures identity { IfOk result (λ store. (tower_durables V.trace).identity store ≡ identity_of (held_of (λ cipher key text. opened_of key text) sealed state)) }
     ensures list { IfOk result (λ store. (tower_durables V.trace).list store ≡ sealed.vault.list) }
     ensures trace { IfOk result (λ store. trace_in V.trace store ≡ V.trace sealed.vault.vault) }
-    ensures records { IfOk result (λ store. (with_list : Bool) → (tower_durables V.trace).record_of store with_list ≡ record_bytes (plain_state state) (listed with_list sealed.vault.list)) }
-    ensures version { IfOk result (λ store. (id : List ℕ) → (tower_holdings V.trace).version store id ≡ version_in (fin.get (plain_state state).marks id)) }
+    ensures records { IfOk result (λ store. (with_list : Bool) → (tower_durables V.trace).local_record_of store with_list ≡ record_bytes (plain_state state) (listed with_list sealed.vault.list)) }
+    ensures version { IfOk result (λ store. (id : List ℕ) → (tower_holdings V.trace).version store id ≡ version_in (fin.get (plain_state state).lives id)) }
     ensures faults { IfOk result (λ store. (tower_meanings V.trace V.faults).faults store ≡ V.faults sealed.vault.vault) }
-    ensures opened { IfOk result (λ store. (content : Content) → records.stands ((tower_durables V.trace).identity store) ((tower_durables V.trace).record_of store true) (trace_in V.trace store) content
+    ensures opened { IfOk result (λ store. (content : Content) → records.stands ((tower_durables V.trace).identity store) ((tower_durables V.trace).local_record_of store true) (trace_in V.trace store) content
         → (tower_meanings V.trace V.faults).sound store × SameContent content ((tower_holdings V.trace).content store)) }
     ensures err_trace { IfErr result (λ vault. V.trace vault ≡ V.trace sealed.vault.vault) }
     ensures err_faults { IfErr result (λ vault. V.faults vault ≡ V.faults sealed.vault.vault) }

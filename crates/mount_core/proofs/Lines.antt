@@ -26,7 +26,7 @@ use Rattle.outside.specs.Trace.{Call}
 use Rattle.outside.specs.declared.keeper.Keeper.{Ghosts as KeeperGhosts}
 use Rattle.outcome.specs.Meanings.{Meanings, IsCalm, IsOfBlocks, OnVerdict}
 use Rattle.store_api.specs.Content.{Content, SameContent, Changes, or_else, over, id_cmp}
-use Rattle.store_api.specs.Holdings.{Holdings, Steady, Fits, Stays, IsSpent, has_id}
+use Rattle.store_api.specs.Holdings.{Holdings, Steady, FitsStore, Stays, IsSpent, has_id}
 use Rattle.store_api.specs.Durables.{Identity, Durables, Records, Enduring, with_mark}
 use Rattle.store_api.specs.declared.tx.Tx.{Tx}
 use Rattle.answers.specs.declared.answer.Answer.{Answer}
@@ -37,10 +37,10 @@ use Rattle.session_saver.specs.declared.saver.SyncError.{SyncError}
 use Rattle.session_saver.specs.declared.saver.SyncError.TheVariants.{Memory as SyncMemory, FaultDirectory as SyncDirectory, FaultState as SyncState}
 use Rattle.answers.specs.Sessions.{Follows, IsError, is_violation}
 use Rattle.mount_core.specs.Answers.{is_synced, is_done_answer, is_structure, answer_of_fail, answer_of_sync, OnSpent, OnFound}
-use Rattle.mount_core.specs.Configuring.{IsOneOf, KeptOneOf, Configures, ConfigAnswered, ConfigSynced, Replaced, ConfigClosed}
+use Rattle.mount_core.specs.Configuring.{IsOneOf, KeptOneOf, CoreConfigures, ConfigAnswered, ConfigSynced, Replaced, ConfigClosed}
 use Rattle.tree_commands.specs.Performing.{Showing, is_sync}
 use Rattle.session_saver.specs.Saving.{KeptConfigures, CanMark}
-use Rattle.mount_core.specs.Standing.{Stands, Synced, Roomed, Performed, Left, Answered, IsKeptMarked, Closed}
+use Rattle.mount_core.specs.Standing.{CoreStands, Synced, Roomed, CorePerformed, Left, Answered, IsKeptMarked, Closed}
 use Rattle.mount_core.proofs.Moving.{shown_along, keeps_along, SameShown}
 
 -- ---- no changes
@@ -61,7 +61,7 @@ none_of (x ∷ xs) e = let z : length (x ∷ xs) ≡ 0 = eqb-true (length (x ∷
 some_is_none : {A : Type 0} (x : A) → ◌≡◌ {A = Option A} None (Some x) → ⊥
 some_is_none x e = cc
 
-pub fits_empty : {S : Type 0} (H : Holdings S) (s : S) (changes : Changes) → changes ≡ fin.empty → Fits H s changes
+pub fits_empty : {S : Type 0} (H : Holdings S) (s : S) (changes : Changes) → changes ≡ fin.empty → FitsStore H s changes
 fits_empty H s changes e = record {
   sized = λ id bytes h. absurd (some_is_none (Some bytes) (sym (ap (λ m. fin.get m id) e ∙ get-empty id_cmp id) ∙ h));
   gets = λ id bytes h. absurd (some_is_none (Some bytes) (sym (ap (λ m. fin.get m id) e ∙ get-empty id_cmp id) ∙ h));
@@ -186,7 +186,7 @@ free_used true c free used = true_is_false (sym free)
 free_used false c free used = true_is_false (sym used)
 
 -- an id that can get no payload, though changes that fit give it one, is in the content
-pub spent_live : {S : Type 0} (M : Meanings S) (H : Holdings S) (s : S) (changes : Changes) → Steady M H → M.intact s → Fits H s changes → IsSpent H s changes
+pub spent_live : {S : Type 0} (M : Meanings S) (H : Holdings S) (s : S) (changes : Changes) → Steady M H → M.intact s → FitsStore H s changes → IsSpent H s changes
     → (id : List ℕ) × (is_some (H.content s id) ≡ true) × (H.spent s id ≡ true)
 spent_live M H s changes steady intact fits (id, bytes, gets, spent) = elim (fits.gets id bytes gets) [
   | inl live ↦ (id, live, spent)
@@ -225,13 +225,13 @@ marked_or R saver kept can (inr other) = inr other
 
 module _ {S : Type 0} {K : Type 0} (shows : Showing) (M : Meanings S) (H : Holdings S) (D : Durables S) (R : Records) (G : KeeperGhosts K) where
   -- what is kept stands for the same, and the content shows this tree
-  pub stands_on : (old new : Core S K) (kept now next : Tree) → Stands shows M H D R G old kept now
+  pub stands_on : (old new : Core S K) (kept now next : Tree) → CoreStands shows M H D R G old kept now
       → new.root.0 ≡ old.root.0 → D.identity new.blobs.tx.store ≡ D.identity old.blobs.tx.store → H.payload new.blobs.tx.store ≡ H.payload old.blobs.tx.store
       → G.kept new.saver.keeper ≡ G.kept old.saver.keeper
       → ((identity : Identity) (bytes : List ℕ) (content : Content) → R.stands identity bytes (D.trace old.blobs.tx.store) content → R.stands identity bytes (D.trace new.blobs.tx.store) content)
       → M.sound new.blobs.tx.store
       → shows (H.payload old.blobs.tx.store) old.root.0 (H.content new.blobs.tx.store) next
-      → Stands shows M H D R G new kept next
+      → CoreStands shows M H D R G new kept next
   stands_on old new kept now next s er ei ep ek on sound shown = record {
     keeps = record {
       content = s.keeps.content;
@@ -248,20 +248,20 @@ module _ {S : Type 0} {K : Type 0} (shows : Showing) (M : Meanings S) (H : Holdi
   }
 
   -- blocks were only loaded
-  pub stands_loaded : (law : SameShown shows) (applied : S → S → Changes → Type 0) → Enduring M H applied D R → (old new : Core S K) (kept now : Tree) → Stands shows M H D R G old kept now
+  pub stands_loaded : (law : SameShown shows) (applied : S → S → Changes → Type 0) → Enduring M H applied D R → (old new : Core S K) (kept now : Tree) → CoreStands shows M H D R G old kept now
       → M.loaded old.blobs.tx.store new.blobs.tx.store → Stays H old.blobs.tx.store new.blobs.tx.store → H.told old.blobs.tx.store ≡ true
       → new.root.0 ≡ old.root.0 → G.kept new.saver.keeper ≡ G.kept old.saver.keeper → M.sound new.blobs.tx.store
-      → Stands shows M H D R G new kept now
+      → CoreStands shows M H D R G new kept now
   stands_loaded law applied endures old new kept now s loaded stays told er ek sound =
       stands_on old new kept now now s er (endures.loaded_identity old.blobs.tx.store new.blobs.tx.store loaded) stays.payload ek
       (λ identity bytes content h. endures.loaded_stands old.blobs.tx.store new.blobs.tx.store identity bytes content loaded h) sound
       (law _ _ (H.content old.blobs.tx.store) (H.content new.blobs.tx.store) now (stays.content told) s.shown)
 
   -- what is kept, the last record and what the store would keep say the same, on another trace
-  pub configures_on : (old new : Core S K) (may : List (List ℕ)) (now : List ℕ) → Configures H D R G old may now → H.told new.blobs.tx.store ≡ H.told old.blobs.tx.store
+  pub configures_on : (old new : Core S K) (may : List (List ℕ)) (now : List ℕ) → CoreConfigures H D R G old may now → H.told new.blobs.tx.store ≡ H.told old.blobs.tx.store
       → G.kept new.saver.keeper ≡ G.kept old.saver.keeper → new.saver.last.items ≡ old.saver.last.items
       → ((kept bytes : List ℕ) → R.configures kept (D.trace old.blobs.tx.store) bytes → R.configures kept (D.trace new.blobs.tx.store) bytes)
-      → R.configures (D.record_of new.blobs.tx.store true) (D.trace new.blobs.tx.store) now → Configures H D R G new may now
+      → R.configures (D.local_record_of new.blobs.tx.store true) (D.trace new.blobs.tx.store) now → CoreConfigures H D R G new may now
   configures_on old new may now c et ek el on present = record {
     told = et ∙ c.told;
     among = c.among;
@@ -270,21 +270,21 @@ module _ {S : Type 0} {K : Type 0} (shows : Showing) (M : Meanings S) (H : Holdi
     present = present;
   }
 
-  pub configures_loaded : (applied : S → S → Changes → Type 0) → Enduring M H applied D R → (old new : Core S K) (may : List (List ℕ)) (now : List ℕ) → Configures H D R G old may now
+  pub configures_loaded : (applied : S → S → Changes → Type 0) → Enduring M H applied D R → (old new : Core S K) (may : List (List ℕ)) (now : List ℕ) → CoreConfigures H D R G old may now
       → M.loaded old.blobs.tx.store new.blobs.tx.store → Stays H old.blobs.tx.store new.blobs.tx.store → G.kept new.saver.keeper ≡ G.kept old.saver.keeper → new.saver.last.items ≡ old.saver.last.items
-      → Configures H D R G new may now
+      → CoreConfigures H D R G new may now
   configures_loaded applied endures old new may now c loaded stays ek el =
       configures_on old new may now c stays.told ek el (λ kept bytes h. endures.loaded_configures old.blobs.tx.store new.blobs.tx.store kept bytes loaded h)
       (subst (λ r. R.configures r (D.trace new.blobs.tx.store) now) (sym (endures.loaded_records old.blobs.tx.store new.blobs.tx.store true loaded))
       (endures.loaded_configures old.blobs.tx.store new.blobs.tx.store _ now loaded c.present))
 
-  pub config_calm : (core : Core S K) (may : List (List ℕ)) (now : List ℕ) (bad : Bool) → bad ≡ false → Configures H D R G core may now → ConfigAnswered H D R G core may now bad
+  pub config_calm : (core : Core S K) (may : List (List ℕ)) (now : List ℕ) (bad : Bool) → bad ≡ false → CoreConfigures H D R G core may now → ConfigAnswered H D R G core may now bad
   config_calm core may now false e c = c
   config_calm core may now true e c = absurd (true_is_false e)
 
   -- the last record is marked and kept, or what was kept is
   pub config_marked : ((kept : List ℕ) (trace : Option (List Call)) (bytes : List ℕ) → R.configures kept trace bytes → R.configures (with_mark kept) trace bytes) → (old new : Core S K) (may : List (List ℕ)) (now : List ℕ)
-      → new.blobs.tx ≡ old.blobs.tx → (G.kept new.saver.keeper ≡ Some (with_mark old.saver.last.items)) ⊎ (G.kept new.saver.keeper ≡ G.kept old.saver.keeper) → Configures H D R G old may now
+      → new.blobs.tx ≡ old.blobs.tx → (G.kept new.saver.keeper ≡ Some (with_mark old.saver.last.items)) ⊎ (G.kept new.saver.keeper ≡ G.kept old.saver.keeper) → CoreConfigures H D R G old may now
       → KeptOneOf R (G.kept new.saver.keeper) (D.trace new.blobs.tx.store) may
   config_marked law old new may now et (inl marked) c = subst (λ (t : Tx S). KeptOneOf R (G.kept new.saver.keeper) (D.trace t.store) may) (sym et)
       (c.last.0, c.last.1, (with_mark old.saver.last.items, marked, law old.saver.last.items (D.trace old.blobs.tx.store) c.last.0 c.last.2))
@@ -292,9 +292,9 @@ module _ {S : Type 0} {K : Type 0} (shows : Showing) (M : Meanings S) (H : Holdi
       (c.kept.0, c.kept.1, (c.kept.2.0, same ∙ c.kept.2.1, c.kept.2.2))
 
   -- a reply whose changes aren't there, or are forgotten
-  pub performed_same : (moment : Instant) (old new : Core S K) (kept now next : Tree) (command : Command) (reply : Reply) → Stands shows M H D R G old kept now
+  pub performed_same : (moment : Instant) (old new : Core S K) (kept now next : Tree) (command : Command) (reply : Reply) → CoreStands shows M H D R G old kept now
       → new.blobs.tx.store ≡ old.blobs.tx.store → new.saver ≡ old.saver → new.root ≡ old.root → step now moment command ≡ record { reply = reply; tree = next }
-      → shows (H.payload old.blobs.tx.store) old.root.0 (H.content old.blobs.tx.store) next → Performed shows M H D R G moment new kept now command (Replied reply)
+      → shows (H.payload old.blobs.tx.store) old.root.0 (H.content old.blobs.tx.store) next → CorePerformed shows M H D R G moment new kept now command (Replied reply)
   performed_same moment old new kept now next command reply s et es er stepped shown = record {
     next = next;
     follows = stepped;
@@ -305,13 +305,13 @@ module _ {S : Type 0} {K : Type 0} (shows : Showing) (M : Meanings S) (H : Holdi
 
   -- ---- a line
 
-  left_other : (core : Core S K) (kept now next : Tree) (bad synced : Bool) → bad ≡ false → synced ≡ false → Stands shows M H D R G core kept next ⊎ Stands shows M H D R G core now next
+  left_other : (core : Core S K) (kept now next : Tree) (bad synced : Bool) → bad ≡ false → synced ≡ false → CoreStands shows M H D R G core kept next ⊎ CoreStands shows M H D R G core now next
       → Left shows M H D R G core kept now next bad synced
   left_other core kept now next false false b s m = m
   left_other core kept now next true synced b s m = absurd cc
   left_other core kept now next false true b s m = absurd cc
 
-  left_synced : (core : Core S K) (kept now : Tree) (bad synced : Bool) → bad ≡ false → Stands shows M H D R G core now now → Left shows M H D R G core kept now now bad synced
+  left_synced : (core : Core S K) (kept now : Tree) (bad synced : Bool) → bad ≡ false → CoreStands shows M H D R G core now now → Left shows M H D R G core kept now now bad synced
   left_synced core kept now false true b m = m
   left_synced core kept now false false b m = inr m
   left_synced core kept now true synced b m = absurd cc
@@ -324,13 +324,13 @@ module _ {S : Type 0} {K : Type 0} (shows : Showing) (M : Meanings S) (H : Holdi
     left = left_other core kept now now _ _ (sync_error_calm e) (and_false (is_sync command) (is_done_answer (answer_of_sync e)) (sync_error_undone e)) r;
   }
 
-  pub roomed_on : (old new : Core S K) (kept now : Tree) → Roomed shows M H D R G old kept now → ((k n : Tree) → Stands shows M H D R G old k n → Roomed shows M H D R G new k n)
+  pub roomed_on : (old new : Core S K) (kept now : Tree) → Roomed shows M H D R G old kept now → ((k n : Tree) → CoreStands shows M H D R G old k n → Roomed shows M H D R G new k n)
       → Roomed shows M H D R G new kept now
   roomed_on old new kept now (inl m) f = f kept now m
   roomed_on old new kept now (inr m) f = elim (f now now m) [ inl a ↦ inr a | inr a ↦ inr a ]
 
   pub answered_synced : (moment : Instant) (old new : Core S K) (kept now : Tree) (command : Command) → is_sync command ≡ true → Roomed shows M H D R G old kept now
-      → ((k n : Tree) → Stands shows M H D R G old k n → Stands shows M H D R G new n n) → Answered shows M H D R G moment new kept now command (Replied Done)
+      → ((k n : Tree) → CoreStands shows M H D R G old k n → CoreStands shows M H D R G new n n) → Answered shows M H D R G moment new kept now command (Replied Done)
   answered_synced moment old new kept now command e r f = record {
     next = now;
     follows = sync_steps moment now command e;
@@ -338,18 +338,18 @@ module _ {S : Type 0} {K : Type 0} (shows : Showing) (M : Meanings S) (H : Holdi
   }
 
   pub answered_performed : (moment : Instant) (old new : Core S K) (kept now : Tree) (command : Command) (answer : Answer) → is_violation answer ≡ false → is_sync command ≡ false
-      → Roomed shows M H D R G old kept now → ((k n : Tree) → Stands shows M H D R G old k n → Performed shows M H D R G moment new k n command answer)
+      → Roomed shows M H D R G old kept now → ((k n : Tree) → CoreStands shows M H D R G old k n → CorePerformed shows M H D R G moment new k n command answer)
       → Answered shows M H D R G moment new kept now command answer
   answered_performed moment old new kept now command answer v n (inl m) f =
-      let p : Performed shows M H D R G moment new kept now command answer = f kept now m in
+      let p : CorePerformed shows M H D R G moment new kept now command answer = f kept now m in
       record { next = p.next; follows = p.follows; left = left_other new kept now p.next _ _ v (not_and (is_sync command) (is_done_answer answer) n) (inl p.stands) }
   answered_performed moment old new kept now command answer v n (inr m) f =
-      let p : Performed shows M H D R G moment new now now command answer = f now now m in
+      let p : CorePerformed shows M H D R G moment new now now command answer = f now now m in
       record { next = p.next; follows = p.follows; left = left_other new kept now p.next _ _ v (not_and (is_sync command) (is_done_answer answer) n) (inr p.stands) }
 
   left_marked : (mid new : Core S K) (kept now next : Tree) (synced : Bool) → new.blobs.tx ≡ mid.blobs.tx → new.root ≡ mid.root
       → IsKeptMarked R (G.kept new.saver.keeper) ⊎ (G.kept new.saver.keeper ≡ G.kept mid.saver.keeper)
-      → Stands shows M H D R G mid kept next ⊎ Stands shows M H D R G mid now next → Left shows M H D R G new kept now next true synced
+      → CoreStands shows M H D R G mid kept next ⊎ CoreStands shows M H D R G mid now next → Left shows M H D R G new kept now next true synced
   left_marked mid new kept now next synced et er (inl marked) m = inl marked
   left_marked mid new kept now next synced et er (inr same) (inl m) =
       inr (inl (keeps_along shows R _ _ _ _ _ _ _ _ _ _ kept (ap (λ (t : Tx S). H.payload t.store) et) (ap (λ x. x.0) er) (ap (λ (t : Tx S). D.identity t.store) et) same (ap (λ (t : Tx S). D.trace t.store) et) m.keeps))
@@ -358,26 +358,26 @@ module _ {S : Type 0} {K : Type 0} (shows : Showing) (M : Meanings S) (H : Holdi
 
   pub answered_violation : (moment : Instant) (old mid new : Core S K) (kept now : Tree) (command : Command) (why : Why) → new.blobs.tx ≡ mid.blobs.tx → new.root ≡ mid.root
       → IsKeptMarked R (G.kept new.saver.keeper) ⊎ (G.kept new.saver.keeper ≡ G.kept mid.saver.keeper) → Roomed shows M H D R G old kept now
-      → ((k n : Tree) → Stands shows M H D R G old k n → Performed shows M H D R G moment mid k n command (Violation why))
+      → ((k n : Tree) → CoreStands shows M H D R G old k n → CorePerformed shows M H D R G moment mid k n command (Violation why))
       → Answered shows M H D R G moment new kept now command (Violation why)
   answered_violation moment old mid new kept now command why et er ek (inl m) f =
-      let p : Performed shows M H D R G moment mid kept now command (Violation why) = f kept now m in
+      let p : CorePerformed shows M H D R G moment mid kept now command (Violation why) = f kept now m in
       record { next = p.next; follows = p.follows; left = left_marked mid new kept now p.next (is_synced command (Violation why)) et er ek (inl p.stands) }
   answered_violation moment old mid new kept now command why et er ek (inr m) f =
-      let p : Performed shows M H D R G moment mid now now command (Violation why) = f now now m in
+      let p : CorePerformed shows M H D R G moment mid now now command (Violation why) = f now now m in
       record { next = p.next; follows = p.follows; left = left_marked mid new kept now p.next (is_synced command (Violation why)) et er ek (inr p.stands) }
 
   -- ---- the end
 
   closed : (core : Core S K) (payload : ℕ) (root : List ℕ) (kept now : Tree) (result : Result Unit SyncError) → payload ≡ H.payload core.blobs.tx.store → root ≡ core.root.0
-      → Synced shows M H D R G core kept now result → OnOk result (G.kept core.saver.keeper ≡ Some (D.record_of core.blobs.tx.store false))
+      → Synced shows M H D R G core kept now result → OnOk result (G.kept core.saver.keeper ≡ Some (D.local_record_of core.blobs.tx.store false))
       → Closed (shows payload root) D R G core.blobs.tx.store core.saver.keeper kept now result
   closed core payload root kept now (Ok u) ep er s w = record { keeps = keeps_along shows R _ _ _ _ _ _ _ _ _ _ now ep er refl refl refl s.keeps; empty = w }
   closed core payload root kept now (Err e) ep er (inl a) w = inl (keeps_along shows R _ _ _ _ _ _ _ _ _ _ kept ep er refl refl refl a.keeps)
   closed core payload root kept now (Err e) ep er (inr a) w = inr (keeps_along shows R _ _ _ _ _ _ _ _ _ _ now ep er refl refl refl a.keeps)
 
   pub closed_along : (core last : Core S K) (store : S) (payload : ℕ) (root : List ℕ) (kept now : Tree) (result answer : Result Unit SyncError) → last ≡ core → answer ≡ result → store ≡ last.blobs.tx.store
-      → payload ≡ H.payload core.blobs.tx.store → root ≡ core.root.0 → Synced shows M H D R G core kept now result → OnOk result (G.kept core.saver.keeper ≡ Some (D.record_of core.blobs.tx.store false))
+      → payload ≡ H.payload core.blobs.tx.store → root ≡ core.root.0 → Synced shows M H D R G core kept now result → OnOk result (G.kept core.saver.keeper ≡ Some (D.local_record_of core.blobs.tx.store false))
       → Closed (shows payload root) D R G store last.saver.keeper kept now answer
   closed_along core last store payload root kept now result answer el ea es ep er s w =
       subst (λ x. Closed (shows payload root) D R G x last.saver.keeper kept now answer) (sym es)
@@ -385,9 +385,9 @@ module _ {S : Type 0} {K : Type 0} (shows : Showing) (M : Meanings S) (H : Holdi
       (subst (λ a. Closed (shows payload root) D R G core.blobs.tx.store core.saver.keeper kept now a) (sym ea) (closed core payload root kept now result ep er s w)))
 
   -- a file that waits now beside those that may be there
-  pub config_waiting : (old mid : Core S K) (may : List (List ℕ)) (now bytes : List ℕ) → Configures H D R G old may now → H.told mid.blobs.tx.store ≡ H.told old.blobs.tx.store
+  pub config_waiting : (old mid : Core S K) (may : List (List ℕ)) (now bytes : List ℕ) → CoreConfigures H D R G old may now → H.told mid.blobs.tx.store ≡ H.told old.blobs.tx.store
       → G.kept mid.saver.keeper ≡ G.kept old.saver.keeper → mid.saver.last.items ≡ old.saver.last.items → D.trace mid.blobs.tx.store ≡ D.trace old.blobs.tx.store
-      → R.configures (D.record_of mid.blobs.tx.store true) (D.trace mid.blobs.tx.store) bytes → Configures H D R G mid (bytes ∷ may) bytes
+      → R.configures (D.local_record_of mid.blobs.tx.store true) (D.trace mid.blobs.tx.store) bytes → CoreConfigures H D R G mid (bytes ∷ may) bytes
   config_waiting old mid may now bytes c et ek el etr present = record {
     told = et ∙ c.told;
     among = inl refl;
@@ -417,9 +417,9 @@ module _ {S : Type 0} {K : Type 0} (shows : Showing) (M : Meanings S) (H : Holdi
       (subst (λ a. ConfigClosed R (G.kept core.saver.keeper) (D.trace core.blobs.tx.store) may now a) (sym ea) (config_closed core may now result s)))
 
   -- the configuration's file waits anew
-  pub stands_waiting : (law : SameShown shows) (old new : Core S K) (kept now : Tree) → Stands shows M H D R G old kept now → H.told old.blobs.tx.store ≡ true
+  pub stands_waiting : (law : SameShown shows) (old new : Core S K) (kept now : Tree) → CoreStands shows M H D R G old kept now → H.told old.blobs.tx.store ≡ true
       → new.root ≡ old.root → D.identity new.blobs.tx.store ≡ D.identity old.blobs.tx.store → Stays H old.blobs.tx.store new.blobs.tx.store → G.kept new.saver.keeper ≡ G.kept old.saver.keeper
-      → D.trace new.blobs.tx.store ≡ D.trace old.blobs.tx.store → M.sound new.blobs.tx.store → Stands shows M H D R G new kept now
+      → D.trace new.blobs.tx.store ≡ D.trace old.blobs.tx.store → M.sound new.blobs.tx.store → CoreStands shows M H D R G new kept now
   stands_waiting law old new kept now s told er ei stays ek et sound =
       stands_on old new kept now now s (ap (λ x. x.0) er) ei stays.payload ek (λ identity bytes content h. subst (λ t. R.stands identity bytes t content) (sym et) h) sound
       (law _ _ (H.content old.blobs.tx.store) (H.content new.blobs.tx.store) now (stays.content told) s.shown)

@@ -17,7 +17,6 @@ unperformed SyncMemory h = cc
 unperformed SyncDirectory h = cc
 unperformed SyncState h = cc
 
-
 module _ {S : Type 0} (M : Meanings S) (H : Holdings S) (D : Durables S) where
   -- first a sync, or none
   abbrev pub only_on : (changed done : Bool) (old mid new : S) → (changed ≡ false → mid ≡ old) → (mid ≡ old) ⊎ Wrote D old mid → Stays H old mid → OnlyLoaded M H D false done mid new → OnlyLoaded M H D changed done old new

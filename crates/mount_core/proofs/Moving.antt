@@ -14,13 +14,13 @@ use Rattle.mount_core.specs.declared.body.Core.{Core}
 use Rattle.session_saver.specs.declared.saver.Saver.{Saver}
 use Rattle.session_saver.specs.declared.saver.SyncError.{SyncError}
 use Rattle.session_saver.specs.declared.saver.SyncError.TheVariants.{Memory, FaultDirectory, FaultState}
-use Rattle.session_saver.specs.Saving.{Represents, KeptConfigures, Unmoved, Saved, SavedConfig, LastBeforeLong, LastAfterLong}
-use Rattle.mount_core.specs.Configuring.{IsOneOf, KeptOneOf, Configures, ConfigSynced}
+use Rattle.session_saver.specs.Saving.{RepresentsContent, KeptConfigures, Unmoved, Saved, SavedConfig, LastBeforeLong, LastAfterLong}
+use Rattle.mount_core.specs.Configuring.{IsOneOf, KeptOneOf, CoreConfigures, ConfigSynced}
 use Rattle.tree_commands.specs.Performing.{Showing}
-use Rattle.mount_core.specs.Standing.{Keeps, Stands, Synced, Roomed}
+use Rattle.mount_core.specs.Standing.{Keeps, CoreStands, Synced, Roomed}
 
 pub represents_along : (R : Records) (i j : Identity) (k l : Option (List ℕ)) (t u : Option (List Call)) (content : Content) → j ≡ i → l ≡ k → u ≡ t
-    → Represents R i k t content → Represents R j l u content
+    → RepresentsContent R i k t content → RepresentsContent R j l u content
 represents_along R i j k l t u content ei ek et h =
     (h.0, ek ∙ h.1, subst (λ x. R.stands j h.0 x content) (sym et) (subst (λ x. R.stands x h.0 t content) (sym ei) h.2))
 
@@ -40,7 +40,7 @@ SameShown shows = (payload : ℕ) (root : List ℕ) (old new : Content) (tree : 
 
 module _ {S : Type 0} {K : Type 0} (shows : Showing) (M : Meanings S) (H : Holdings S) (D : Durables S) (R : Records) (G : KeeperGhosts K) where
   -- a sync, whatever it answers
-  pub synced : (law : SameShown shows) (old new : Core S K) (kept now : Tree) (result : Result Unit SyncError) → Stands shows M H D R G old kept now
+  pub synced : (law : SameShown shows) (old new : Core S K) (kept now : Tree) (result : Result Unit SyncError) → CoreStands shows M H D R G old kept now
       → new.root ≡ old.root → D.identity new.blobs.tx.store ≡ D.identity old.blobs.tx.store → H.payload new.blobs.tx.store ≡ H.payload old.blobs.tx.store
       → SameContent (H.content old.blobs.tx.store) (H.content new.blobs.tx.store) → M.sound new.blobs.tx.store
       → Saved D R G old.saver old.blobs.tx.store new.saver new.blobs.tx.store (H.content old.blobs.tx.store) result
@@ -66,7 +66,7 @@ module _ {S : Type 0} {K : Type 0} (shows : Showing) (M : Meanings S) (H : Holdi
 
   -- after an error the last record is the one from before, and the store is as it was, or it is the long one
   last_either : (old new : Core S K) (e : SyncError) → LastBeforeLong D G old.saver old.blobs.tx.store new.saver new.blobs.tx.store (Err e) ⊎ LastAfterLong D G old.blobs.tx.store new.saver (Err e)
-      → ((new.saver.last.items ≡ old.saver.last.items) × (new.blobs.tx.store ≡ old.blobs.tx.store)) ⊎ (new.saver.last.items ≡ D.record_of old.blobs.tx.store true)
+      → ((new.saver.last.items ≡ old.saver.last.items) × (new.blobs.tx.store ≡ old.blobs.tx.store)) ⊎ (new.saver.last.items ≡ D.local_record_of old.blobs.tx.store true)
   last_either old new Memory (inl before) = inl (before.0, before.1)
   last_either old new Memory (inr after) = inr after.0
   last_either old new FaultDirectory (inl before) = absurd before
@@ -74,21 +74,21 @@ module _ {S : Type 0} {K : Type 0} (shows : Showing) (M : Meanings S) (H : Holdi
   last_either old new FaultState (inl before) = inl (before.0, before.1)
   last_either old new FaultState (inr after) = inr after.0
 
-  last_after : (old new : Core S K) (may : List (List ℕ)) (now : List ℕ) → Configures H D R G old may now → R.configures (D.record_of old.blobs.tx.store true) (D.trace new.blobs.tx.store) now
-      → ((new.saver.last.items ≡ old.saver.last.items) × (new.blobs.tx.store ≡ old.blobs.tx.store)) ⊎ (new.saver.last.items ≡ D.record_of old.blobs.tx.store true)
+  last_after : (old new : Core S K) (may : List (List ℕ)) (now : List ℕ) → CoreConfigures H D R G old may now → R.configures (D.local_record_of old.blobs.tx.store true) (D.trace new.blobs.tx.store) now
+      → ((new.saver.last.items ≡ old.saver.last.items) × (new.blobs.tx.store ≡ old.blobs.tx.store)) ⊎ (new.saver.last.items ≡ D.local_record_of old.blobs.tx.store true)
       → (bytes : List ℕ) × IsOneOf may bytes × R.configures new.saver.last.items (D.trace new.blobs.tx.store) bytes
   last_after old new may now c waiting (inl same) =
       (c.last.0, c.last.1, subst (λ x. R.configures x (D.trace new.blobs.tx.store) c.last.0) (sym same.0) (subst (λ x. R.configures old.saver.last.items (D.trace x) c.last.0) (sym same.1) c.last.2))
   last_after old new may now c waiting (inr full) = (now, c.among, subst (λ x. R.configures x (D.trace new.blobs.tx.store) now) (sym full) waiting)
 
-  kept_after : (old new : Core S K) (may : List (List ℕ)) (now : List ℕ) → Configures H D R G old may now
+  kept_after : (old new : Core S K) (may : List (List ℕ)) (now : List ℕ) → CoreConfigures H D R G old may now
       → Unmoved D G old.saver old.blobs.tx.store new.saver new.blobs.tx.store ⊎ KeptConfigures R (G.kept new.saver.keeper) (D.trace new.blobs.tx.store) now → KeptOneOf R (G.kept new.saver.keeper) (D.trace new.blobs.tx.store) may
   kept_after old new may now c (inl unmoved) =
       (c.kept.0, c.kept.1, (c.kept.2.0, unmoved.kept ∙ c.kept.2.1, subst (λ x. R.configures c.kept.2.0 x c.kept.0) (sym unmoved.trace) c.kept.2.2))
   kept_after old new may now c (inr saved) = (now, c.among, saved)
 
-  pub config_synced : (old new : Core S K) (may : List (List ℕ)) (now : List ℕ) (result : Result Unit SyncError) → Configures H D R G old may now
-      → H.told new.blobs.tx.store ≡ H.told old.blobs.tx.store → R.configures (D.record_of new.blobs.tx.store true) (D.trace new.blobs.tx.store) now → R.configures (D.record_of old.blobs.tx.store true) (D.trace new.blobs.tx.store) now
+  pub config_synced : (old new : Core S K) (may : List (List ℕ)) (now : List ℕ) (result : Result Unit SyncError) → CoreConfigures H D R G old may now
+      → H.told new.blobs.tx.store ≡ H.told old.blobs.tx.store → R.configures (D.local_record_of new.blobs.tx.store true) (D.trace new.blobs.tx.store) now → R.configures (D.local_record_of old.blobs.tx.store true) (D.trace new.blobs.tx.store) now
       → SavedConfig D R G old.saver old.blobs.tx.store new.saver new.blobs.tx.store now result → OnOk result (R.configures new.saver.last.items (D.trace new.blobs.tx.store) now)
       → LastBeforeLong D G old.saver old.blobs.tx.store new.saver new.blobs.tx.store result ⊎ LastAfterLong D G old.blobs.tx.store new.saver result → ConfigSynced H D R G new may now result
   config_synced old new may now (Ok u) c et present waiting saved short last =
@@ -101,7 +101,7 @@ module _ {S : Type 0} {K : Type 0} (shows : Showing) (M : Meanings S) (H : Holdi
   one_of may now bytes among (inr none) = absurd none
 
   -- what holds one file may hold others
-  pub config_widened : (core : Core S K) (may : List (List ℕ)) (now : List ℕ) → IsOneOf may now → Configures H D R G core (now ∷ []) now → Configures H D R G core may now
+  pub config_widened : (core : Core S K) (may : List (List ℕ)) (now : List ℕ) → IsOneOf may now → CoreConfigures H D R G core (now ∷ []) now → CoreConfigures H D R G core may now
   config_widened core may now among c = record {
     told = c.told;
     among = among;
@@ -110,7 +110,7 @@ module _ {S : Type 0} {K : Type 0} (shows : Showing) (M : Meanings S) (H : Holdi
     present = c.present;
   }
 
-  pub config_roomed : (core : Core S K) (may : List (List ℕ)) (now : List ℕ) (result : Result Unit SyncError) → IsOneOf may now → ConfigSynced H D R G core may now result → Configures H D R G core may now
+  pub config_roomed : (core : Core S K) (may : List (List ℕ)) (now : List ℕ) (result : Result Unit SyncError) → IsOneOf may now → ConfigSynced H D R G core may now result → CoreConfigures H D R G core may now
   config_roomed core may now (Ok u) among s = config_widened core may now among s
   config_roomed core may now (Err e) among s = s
 

@@ -18,11 +18,11 @@ ghost use Rattle.tree_commands.specs.Showing.{ShowsFiles};
 ghost use Rattle.tree_commands.specs.Sparing.{OnWriteInside};
 ghost use Rattle.mount_core.specs.Answers.{is_structure, is_done_answer, answer_of_fail, answer_of_sync, OnReply, OnSpent, OnFound};
 ghost use Rattle.mount_core.specs.Causes.{SpentCause, OnlyLoaded, MadeRoom, FoundCause};
-ghost use Rattle.mount_core.specs.Configuring.{Configures, ConfigSynced, ConfigAnswered, ConfigClosed, Replaced, KeptOneOf};
+ghost use Rattle.mount_core.specs.Configuring.{CoreConfigures, ConfigSynced, ConfigAnswered, ConfigClosed, Replaced, KeptOneOf};
 ghost use Rattle.fs_model.specs.Laws.{OnlyLooks};
 ghost use Rattle.tree_commands.specs.Performing.{is_sync, IsReplyTo};
 ghost use Rattle.mount_core.specs.Sparing.{FewRaised};
-ghost use Rattle.mount_core.specs.Standing.{Ready, Stands, Synced, Roomed, Performed, Answered, IsKeptMarked, Asked, Closed};
+ghost use Rattle.mount_core.specs.Standing.{Ready, CoreStands, Synced, Roomed, CorePerformed, Answered, IsKeptMarked, Unapplied, Closed};
 
 use answers::Answer;
 use blob_store::BlobStore;
@@ -102,11 +102,11 @@ impl<S: Durable, K: Keeper> Core<S, K> {
         requires ready { Ready S.meanings S.holdings S.durables S.records K.Keeper self.old }
         requires fresh { self.old.violated ≡ false }
         ensures ready { Ready S.meanings S.holdings S.durables S.records K.Keeper self.new }
-        ensures stands { (kept now : Tree) → Stands ShowsFiles S.meanings S.holdings S.durables S.records K.Keeper self.old kept now → Synced ShowsFiles S.meanings S.holdings S.durables S.records K.Keeper self.new kept now result }
-        ensures configures { (may : List (List ℕ)) (now : List ℕ) → Configures S.holdings S.durables S.records K.Keeper self.old may now → ConfigSynced S.holdings S.durables S.records K.Keeper self.new may now result }
-        ensures holds { (bytes : List ℕ) → S.holdings.told self.old.blobs.tx.store ≡ true → S.records.configures (S.durables.record_of self.old.blobs.tx.store true) (S.durables.trace self.old.blobs.tx.store) bytes
+        ensures stands { (kept now : Tree) → CoreStands ShowsFiles S.meanings S.holdings S.durables S.records K.Keeper self.old kept now → Synced ShowsFiles S.meanings S.holdings S.durables S.records K.Keeper self.new kept now result }
+        ensures configures { (may : List (List ℕ)) (now : List ℕ) → CoreConfigures S.holdings S.durables S.records K.Keeper self.old may now → ConfigSynced S.holdings S.durables S.records K.Keeper self.new may now result }
+        ensures holds { (bytes : List ℕ) → S.holdings.told self.old.blobs.tx.store ≡ true → S.records.configures (S.durables.local_record_of self.old.blobs.tx.store true) (S.durables.trace self.old.blobs.tx.store) bytes
             → OnOk result (KeptConfigures S.records (K.kept self.new.saver.keeper) (S.durables.trace self.new.blobs.tx.store) bytes) }
-        ensures emptied { OnOk result (K.kept self.new.saver.keeper ≡ Some (S.durables.record_of self.new.blobs.tx.store false)) }
+        ensures emptied { OnOk result (K.kept self.new.saver.keeper ≡ Some (S.durables.local_record_of self.new.blobs.tx.store false)) }
         ensures ok { OnOk result (self.new.saver.changed ≡ false) }
         ensures unmoved { self.old.saver.changed ≡ false → IsOk result × (self.new ≡ self.old) }
         ensures wrote { (self.new.blobs.tx.store ≡ self.old.blobs.tx.store) ⊎ Wrote S.durables self.old.blobs.tx.store self.new.blobs.tx.store }
@@ -134,8 +134,8 @@ impl<S: Durable, K: Keeper> Core<S, K> {
         requires ready { Ready S.meanings S.holdings S.durables S.records K.Keeper self.old }
         requires fresh { self.old.violated ≡ false }
         ensures ready { Ready S.meanings S.holdings S.durables S.records K.Keeper self.new }
-        ensures stands { (kept now : Tree) → Stands ShowsFiles S.meanings S.holdings S.durables S.records K.Keeper self.old kept now → Roomed ShowsFiles S.meanings S.holdings S.durables S.records K.Keeper self.new kept now }
-        ensures configures { (may : List (List ℕ)) (now : List ℕ) → Configures S.holdings S.durables S.records K.Keeper self.old may now → Configures S.holdings S.durables S.records K.Keeper self.new may now }
+        ensures stands { (kept now : Tree) → CoreStands ShowsFiles S.meanings S.holdings S.durables S.records K.Keeper self.old kept now → Roomed ShowsFiles S.meanings S.holdings S.durables S.records K.Keeper self.new kept now }
+        ensures configures { (may : List (List ℕ)) (now : List ℕ) → CoreConfigures S.holdings S.durables S.records K.Keeper self.old may now → CoreConfigures S.holdings S.durables S.records K.Keeper self.new may now }
         ensures unmoved { self.old.saver.changed ≡ false → IsOk result × (self.new ≡ self.old) }
         ensures once { OnOk result ((self.new ≡ self.old) ⊎ (self.new.saver.changed ≡ false)) }
         ensures few { OnOk result (waiting_bytes (S.durables.list self.new.blobs.tx.store) < 8388608) }
@@ -183,8 +183,8 @@ impl<S: Durable, K: Keeper> Core<S, K> {
         ensures stands { (identity : Identity) (kept : List ℕ) (content : Content) → S.records.stands identity kept (S.durables.trace self.old.blobs.tx.store) content
             → S.records.stands identity kept (S.durables.trace self.new.blobs.tx.store) content }
         ensures kept_configures { (kept bytes : List ℕ) → S.records.configures kept (S.durables.trace self.old.blobs.tx.store) bytes → S.records.configures kept (S.durables.trace self.new.blobs.tx.store) bytes }
-        ensures configures { (bytes : List ℕ) → S.records.configures (S.durables.record_of self.old.blobs.tx.store true) (S.durables.trace self.old.blobs.tx.store) bytes
-            → S.records.configures (S.durables.record_of self.new.blobs.tx.store true) (S.durables.trace self.new.blobs.tx.store) bytes }
+        ensures configures { (bytes : List ℕ) → S.records.configures (S.durables.local_record_of self.old.blobs.tx.store true) (S.durables.trace self.old.blobs.tx.store) bytes
+            → S.records.configures (S.durables.local_record_of self.new.blobs.tx.store true) (S.durables.trace self.new.blobs.tx.store) bytes }
         ensures loaded { OnErr result (S.meanings.loaded self.old.blobs.tx.store self.new.blobs.tx.store) }
         ensures uncalled { OnOk result (S.durables.trace self.new.blobs.tx.store ≡ S.durables.trace self.old.blobs.tx.store) }
         ensures goes_on { GoesOn (S.durables.trace self.old.blobs.tx.store) (S.durables.trace self.new.blobs.tx.store) }
@@ -242,9 +242,9 @@ impl<S: Durable, K: Keeper> Core<S, K> {
         requires whole { Whole S.durables K.Keeper self.old.saver self.old.blobs.tx.store }
         requires form { IsReplyTo command.now reply }
         ensures ready { Ready S.meanings S.holdings S.durables S.records K.Keeper self.new }
-        ensures stands { (moment : Instant) (kept now : Tree) → Asked ShowsFiles S.meanings S.holdings S.durables S.records K.Keeper moment self.old kept now command.now reply
-            → Performed ShowsFiles S.meanings S.holdings S.durables S.records K.Keeper moment self.new kept now command.now result }
-        ensures configures { (may : List (List ℕ)) (now : List ℕ) → Configures S.holdings S.durables S.records K.Keeper self.old may now → Configures S.holdings S.durables S.records K.Keeper self.new may now }
+        ensures stands { (moment : Instant) (kept now : Tree) → Unapplied ShowsFiles S.meanings S.holdings S.durables S.records K.Keeper moment self.old kept now command.now reply
+            → CorePerformed ShowsFiles S.meanings S.holdings S.durables S.records K.Keeper moment self.new kept now command.now result }
+        ensures configures { (may : List (List ℕ)) (now : List ℕ) → CoreConfigures S.holdings S.durables S.records K.Keeper self.old may now → CoreConfigures S.holdings S.durables S.records K.Keeper self.new may now }
         ensures stays { is_done_answer result ≡ false → Stays S.holdings self.old.blobs.tx.store self.new.blobs.tx.store }
         ensures keeper { self.new.saver.keeper ≡ self.old.saver.keeper }
         ensures last { self.new.saver.last ≡ self.old.saver.last }
@@ -291,9 +291,9 @@ impl<S: Durable, K: Keeper> Core<S, K> {
         requires ready { Ready S.meanings S.holdings S.durables S.records K.Keeper self.old }
         requires fits { IsFitting command.now }
         ensures ready { Ready S.meanings S.holdings S.durables S.records K.Keeper self.new }
-        ensures stands { (kept present : Tree) → Stands ShowsFiles S.meanings S.holdings S.durables S.records K.Keeper self.old kept present → S.meanings.forgeries self.new.blobs.tx.store ≤ S.meanings.forgeries self.old.blobs.tx.store
-            → Performed ShowsFiles S.meanings S.holdings S.durables S.records K.Keeper now self.new kept present command.now result }
-        ensures configures { (may : List (List ℕ)) (now : List ℕ) → Configures S.holdings S.durables S.records K.Keeper self.old may now → Configures S.holdings S.durables S.records K.Keeper self.new may now }
+        ensures stands { (kept present : Tree) → CoreStands ShowsFiles S.meanings S.holdings S.durables S.records K.Keeper self.old kept present → S.meanings.forgeries self.new.blobs.tx.store ≤ S.meanings.forgeries self.old.blobs.tx.store
+            → CorePerformed ShowsFiles S.meanings S.holdings S.durables S.records K.Keeper now self.new kept present command.now result }
+        ensures configures { (may : List (List ℕ)) (now : List ℕ) → CoreConfigures S.holdings S.durables S.records K.Keeper self.old may now → CoreConfigures S.holdings S.durables S.records K.Keeper self.new may now }
         ensures stays { is_done_answer result ≡ false → Stays S.holdings self.old.blobs.tx.store self.new.blobs.tx.store }
         ensures keeper { self.new.saver.keeper ≡ self.old.saver.keeper }
         ensures last { self.new.saver.last ≡ self.old.saver.last }
@@ -308,8 +308,8 @@ impl<S: Durable, K: Keeper> Core<S, K> {
         ensures forgeries { S.meanings.forgeries self.old.blobs.tx.store ≤ S.meanings.forgeries self.new.blobs.tx.store }
         ensures lies { S.meanings.lies self.old.blobs.tx.store ≤ S.meanings.lies self.new.blobs.tx.store }
         ensures unforged { S.meanings.sound self.old.blobs.tx.store → S.meanings.lies self.new.blobs.tx.store ≤ S.meanings.lies self.old.blobs.tx.store → S.meanings.forgeries self.new.blobs.tx.store ≤ S.meanings.forgeries self.old.blobs.tx.store }
-        ensures alarm { (kept present : Tree) → Stands ShowsFiles S.meanings S.holdings S.durables S.records K.Keeper self.old kept present → S.meanings.lies self.new.blobs.tx.store ≤ S.meanings.lies self.old.blobs.tx.store → is_violation result ≡ false }
-        ensures built { (kept present : Tree) → Stands ShowsFiles S.meanings S.holdings S.durables S.records K.Keeper self.old kept present → S.meanings.forgeries self.new.blobs.tx.store ≤ S.meanings.forgeries self.old.blobs.tx.store → is_structure result ≡ false }
+        ensures alarm { (kept present : Tree) → CoreStands ShowsFiles S.meanings S.holdings S.durables S.records K.Keeper self.old kept present → S.meanings.lies self.new.blobs.tx.store ≤ S.meanings.lies self.old.blobs.tx.store → is_violation result ≡ false }
+        ensures built { (kept present : Tree) → CoreStands ShowsFiles S.meanings S.holdings S.durables S.records K.Keeper self.old kept present → S.meanings.forgeries self.new.blobs.tx.store ≤ S.meanings.forgeries self.old.blobs.tx.store → is_structure result ≡ false }
         ensures found { OnFound result (λ why. S.meanings.met self.old.blobs.tx.store self.new.blobs.tx.store why) }
         ensures vault_grows { S.meanings.faults self.old.blobs.tx.store ≤ S.meanings.faults self.new.blobs.tx.store }
         ensures vault_cause { RoseBy (directory_faults result) (S.meanings.faults self.old.blobs.tx.store) (S.meanings.faults self.new.blobs.tx.store) }
@@ -317,7 +317,7 @@ impl<S: Durable, K: Keeper> Core<S, K> {
         ensures keeper_cause { state_faults result ≡ 0 }
         ensures spent { OnSpent result (SpentCause S.holdings self.old.blobs.tx.store command.now) }
         ensures raised { (id : List ℕ) → S.holdings.version self.new.blobs.tx.store id ≤ S.holdings.version self.old.blobs.tx.store id + 1 }
-        ensures sparing { (kept present : Tree) → Stands ShowsFiles S.meanings S.holdings S.durables S.records K.Keeper self.old kept present → S.meanings.forgeries self.new.blobs.tx.store ≤ S.meanings.forgeries self.old.blobs.tx.store
+        ensures sparing { (kept present : Tree) → CoreStands ShowsFiles S.meanings S.holdings S.durables S.records K.Keeper self.old kept present → S.meanings.forgeries self.new.blobs.tx.store ≤ S.meanings.forgeries self.old.blobs.tx.store
             → OnWriteInside (S.holdings.payload self.old.blobs.tx.store) present command.now (FewRaised S.holdings self.old.blobs.tx.store self.new.blobs.tx.store) }
         ensures variant { OnReply result (IsReplyTo command.now) }
         ensures served { result ≢ Answer.Refused }
@@ -347,11 +347,11 @@ impl<S: Durable, K: Keeper> Core<S, K> {
         ensures refused { self.old.violated ≡ true → (result ≡ Answer.Refused) × (self.new ≡ self.old) }
         ensures served { self.old.violated ≡ false → result ≢ Answer.Refused }
         ensures violated { self.new.violated ≡ (is_violation result || self.old.violated) }
-        ensures stands { (kept present : Tree) → self.old.violated ≡ false → Stands ShowsFiles S.meanings S.holdings S.durables S.records K.Keeper self.old kept present → S.meanings.forgeries self.new.blobs.tx.store ≤ S.meanings.forgeries self.old.blobs.tx.store
+        ensures stands { (kept present : Tree) → self.old.violated ≡ false → CoreStands ShowsFiles S.meanings S.holdings S.durables S.records K.Keeper self.old kept present → S.meanings.forgeries self.new.blobs.tx.store ≤ S.meanings.forgeries self.old.blobs.tx.store
             → Answered ShowsFiles S.meanings S.holdings S.durables S.records K.Keeper now self.new kept present command.now result }
         ensures stays { is_done_answer result ≡ false → Stays S.holdings self.old.blobs.tx.store self.new.blobs.tx.store }
         ensures stays_synced { is_sync command.now ≡ true → Stays S.holdings self.old.blobs.tx.store self.new.blobs.tx.store }
-        ensures configures { (may : List (List ℕ)) (present : List ℕ) → Configures S.holdings S.durables S.records K.Keeper self.old may present
+        ensures configures { (may : List (List ℕ)) (present : List ℕ) → CoreConfigures S.holdings S.durables S.records K.Keeper self.old may present
             → ConfigAnswered S.holdings S.durables S.records K.Keeper self.new may present (is_violation result) }
         ensures root { self.new.root ≡ self.old.root }
         ensures payload { S.holdings.payload self.new.blobs.tx.store ≡ S.holdings.payload self.old.blobs.tx.store }
@@ -360,8 +360,8 @@ impl<S: Durable, K: Keeper> Core<S, K> {
         ensures forgeries { S.meanings.forgeries self.old.blobs.tx.store ≤ S.meanings.forgeries self.new.blobs.tx.store }
         ensures lies { S.meanings.lies self.old.blobs.tx.store ≤ S.meanings.lies self.new.blobs.tx.store }
         ensures unforged { S.meanings.sound self.old.blobs.tx.store → S.meanings.lies self.new.blobs.tx.store ≤ S.meanings.lies self.old.blobs.tx.store → S.meanings.forgeries self.new.blobs.tx.store ≤ S.meanings.forgeries self.old.blobs.tx.store }
-        ensures alarm { (kept present : Tree) → self.old.violated ≡ false → Stands ShowsFiles S.meanings S.holdings S.durables S.records K.Keeper self.old kept present → S.meanings.lies self.new.blobs.tx.store ≤ S.meanings.lies self.old.blobs.tx.store → is_violation result ≡ false }
-        ensures built { (kept present : Tree) → self.old.violated ≡ false → Stands ShowsFiles S.meanings S.holdings S.durables S.records K.Keeper self.old kept present → S.meanings.forgeries self.new.blobs.tx.store ≤ S.meanings.forgeries self.old.blobs.tx.store → is_structure result ≡ false }
+        ensures alarm { (kept present : Tree) → self.old.violated ≡ false → CoreStands ShowsFiles S.meanings S.holdings S.durables S.records K.Keeper self.old kept present → S.meanings.lies self.new.blobs.tx.store ≤ S.meanings.lies self.old.blobs.tx.store → is_violation result ≡ false }
+        ensures built { (kept present : Tree) → self.old.violated ≡ false → CoreStands ShowsFiles S.meanings S.holdings S.durables S.records K.Keeper self.old kept present → S.meanings.forgeries self.new.blobs.tx.store ≤ S.meanings.forgeries self.old.blobs.tx.store → is_structure result ≡ false }
         ensures loads { OnlyLoaded S.meanings S.holdings S.durables self.old.saver.changed (is_done_answer result) self.old.blobs.tx.store self.new.blobs.tx.store }
         ensures room { self.old.violated ≡ false → is_sync command.now ≡ false → MadeRoom S.meanings S.holdings S.durables self.old.saver.changed result self.old.blobs.tx.store self.new.blobs.tx.store }
         ensures found { OnFound result (FoundCause S.meanings S.holdings S.durables self.old.saver.changed self.old.blobs.tx.store self.new.blobs.tx.store) }
@@ -375,7 +375,7 @@ impl<S: Durable, K: Keeper> Core<S, K> {
         ensures marked { is_violation result ≡ true → IsKeptMarked S.records (K.kept self.new.saver.keeper) ⊎ RoseBy 1 (K.faults self.old.saver.keeper) (K.faults self.new.saver.keeper) }
         ensures spent { OnSpent result (SpentCause S.holdings self.old.blobs.tx.store command.now) }
         ensures raised { (id : List ℕ) → S.holdings.version self.new.blobs.tx.store id ≤ S.holdings.version self.old.blobs.tx.store id + 1 }
-        ensures sparing { (kept present : Tree) → Stands ShowsFiles S.meanings S.holdings S.durables S.records K.Keeper self.old kept present → S.meanings.forgeries self.new.blobs.tx.store ≤ S.meanings.forgeries self.old.blobs.tx.store
+        ensures sparing { (kept present : Tree) → CoreStands ShowsFiles S.meanings S.holdings S.durables S.records K.Keeper self.old kept present → S.meanings.forgeries self.new.blobs.tx.store ≤ S.meanings.forgeries self.old.blobs.tx.store
             → OnWriteInside (S.holdings.payload self.old.blobs.tx.store) present command.now (FewRaised S.holdings self.old.blobs.tx.store self.new.blobs.tx.store) }
         ensures variant { OnReply result (IsReplyTo command.now) }
     {
@@ -407,11 +407,11 @@ impl<S: Durable, K: Keeper> Core<S, K> {
         requires fresh { self.old.violated ≡ false }
         requires may { MayConfigure bytes.items }
         ensures ready { Ready S.meanings S.holdings S.durables S.records K.Keeper self.new }
-        ensures stands { (kept now : Tree) → Stands ShowsFiles S.meanings S.holdings S.durables S.records K.Keeper self.old kept now → Synced ShowsFiles S.meanings S.holdings S.durables S.records K.Keeper self.new kept now result }
-        ensures configures { (may : List (List ℕ)) (now : List ℕ) → Configures S.holdings S.durables S.records K.Keeper self.old may now → Replaced S.holdings S.durables S.records K.Keeper self.new may now bytes.items result }
+        ensures stands { (kept now : Tree) → CoreStands ShowsFiles S.meanings S.holdings S.durables S.records K.Keeper self.old kept now → Synced ShowsFiles S.meanings S.holdings S.durables S.records K.Keeper self.new kept now result }
+        ensures configures { (may : List (List ℕ)) (now : List ℕ) → CoreConfigures S.holdings S.durables S.records K.Keeper self.old may now → Replaced S.holdings S.durables S.records K.Keeper self.new may now bytes.items result }
         ensures holds { S.holdings.told self.old.blobs.tx.store ≡ true
             → OnOk result (KeptConfigures S.records (K.kept self.new.saver.keeper) (S.durables.trace self.new.blobs.tx.store) bytes.items) }
-        ensures emptied { OnOk result (K.kept self.new.saver.keeper ≡ Some (S.durables.record_of self.new.blobs.tx.store false)) }
+        ensures emptied { OnOk result (K.kept self.new.saver.keeper ≡ Some (S.durables.local_record_of self.new.blobs.tx.store false)) }
         ensures ok { OnOk result (self.new.saver.changed ≡ false) }
         ensures stays { Stays S.holdings self.old.blobs.tx.store self.new.blobs.tx.store }
         ensures sound { S.meanings.sound self.old.blobs.tx.store → S.meanings.sound self.new.blobs.tx.store }
@@ -440,12 +440,12 @@ impl<S: Durable, K: Keeper> Core<S, K> {
     /// Ends the session: syncs, or leaves all as it is where there was a violation.
     pub fn close(self, alloc: Global) -> (Result<(), SyncError>, S, K)
         requires { Ready S.meanings S.holdings S.durables S.records K.Keeper self }
-        ensures stands { (kept now : Tree) → self.violated ≡ false → Stands ShowsFiles S.meanings S.holdings S.durables S.records K.Keeper self kept now
+        ensures stands { (kept now : Tree) → self.violated ≡ false → CoreStands ShowsFiles S.meanings S.holdings S.durables S.records K.Keeper self kept now
             → Closed (ShowsFiles (S.holdings.payload self.blobs.tx.store) self.root.0) S.durables S.records K.Keeper result.1 result.2 kept now result.0 }
-        ensures configures { (may : List (List ℕ)) (now : List ℕ) → self.violated ≡ false → Configures S.holdings S.durables S.records K.Keeper self may now
+        ensures configures { (may : List (List ℕ)) (now : List ℕ) → self.violated ≡ false → CoreConfigures S.holdings S.durables S.records K.Keeper self may now
             → ConfigClosed S.records (K.kept result.2) (S.durables.trace result.1) may now result.0 }
         ensures left { (self.violated ≡ true) ⊎ (self.saver.changed ≡ false) → IsOk result.0 × (result.1 ≡ self.blobs.tx.store) × (result.2 ≡ self.saver.keeper) }
-        ensures emptied { self.violated ≡ false → OnOk result.0 (K.kept result.2 ≡ Some (S.durables.record_of result.1 false)) }
+        ensures emptied { self.violated ≡ false → OnOk result.0 (K.kept result.2 ≡ Some (S.durables.local_record_of result.1 false)) }
         ensures intact { S.meanings.intact result.1 }
         ensures identity { S.durables.identity result.1 ≡ S.durables.identity self.blobs.tx.store }
         ensures goes_on { GoesOn (S.durables.trace self.blobs.tx.store) (S.durables.trace result.1) }

@@ -11,7 +11,7 @@ use Rattle.outcome.specs.Meanings.{Meanings}
 use Rattle.session_saver.specs.declared.saver.SyncError.{SyncError}
 use Rattle.session_saver.specs.declared.saver.SyncError.TheVariants.{Memory, FaultDirectory, FaultState}
 use Rattle.outside.specs.Going.{GoesOn}
-use Rattle.session_saver.specs.Saving.{Represents, KeptConfigures, IsRecordOf, Wrote, UnlessDirectory, UnlessState}
+use Rattle.session_saver.specs.Saving.{RepresentsContent, KeptConfigures, IsRecordOf, Wrote, UnlessDirectory, UnlessState}
 use Rattle.store_api.specs.Content.{Content, SameContent, same_id}
 use Rattle.store_api.specs.Durables.{Durables, Records, last_told}
 use Rattle.store_api.specs.Holdings.{Holdings}
@@ -27,8 +27,8 @@ CauseOf v0 v1 k0 k1 FaultState = RoseBy 1 k0 k1
 -- where a session didn't begin, what is kept stands for what it did
 pub record Halting {S : Type 0} {K : Type 0} (M : Meanings S) (H : Holdings S) (D : Durables S) (R : Records) (G : KeeperGhosts K) (store : S) (keeper : K) (u : Unstarted S K) : Type 0 where
   pub identity : D.identity u.store ≡ D.identity store
-  pub stands : (now : Content) → M.sound store → (D.identity store).marked ≡ false → SameContent now (H.content store) → Represents R (D.identity store) (G.kept u.keeper) (D.trace u.store) now
-  pub configures : (bytes : List ℕ) → H.told store ≡ true → R.configures (D.record_of store true) (D.trace store) bytes → KeptConfigures R (G.kept u.keeper) (D.trace u.store) bytes
+  pub stands : (now : Content) → M.sound store → (D.identity store).marked ≡ false → SameContent now (H.content store) → RepresentsContent R (D.identity store) (G.kept u.keeper) (D.trace u.store) now
+  pub configures : (bytes : List ℕ) → H.told store ≡ true → R.configures (D.local_record_of store true) (D.trace store) bytes → KeptConfigures R (G.kept u.keeper) (D.trace u.store) bytes
   pub keeps : IsRecordOf D store (G.kept u.keeper)
   -- nothing was written, or what waited up to a call that failed, or all of it
   pub stops : (u.store ≡ store) ⊎ Wrote D store u.store
@@ -48,7 +48,7 @@ SameChanges old new = (name : At) → last_told name new ≡ last_told name old
 -- a new file system's empty tree is kept, with an empty list
 pub record MadeWhole {S : Type 0} {K : Type 0} (shows : Content → Tree → Type 0) (D : Durables S) (R : Records) (G : KeeperGhosts K) (after : S) (keeper : K) : Type 0 where
   pub keeps : Keeps R shows (D.identity after) (G.kept keeper) (D.trace after) empty_tree
-  pub empty : G.kept keeper ≡ Some (D.record_of after false)
+  pub empty : G.kept keeper ≡ Some (D.local_record_of after false)
 
 -- after an error nothing is kept anew and no file was changed, or the empty tree is kept
 abbrev pub Made : {S : Type 0} → {K : Type 0} → (Content → Tree → Type 0) → Durables S → Records → KeeperGhosts K → S → K → S → K → Result Unit SyncError → Type 0

@@ -34,7 +34,7 @@ pub fn make<S: Durable, K: Keeper, R: Rng>(
     ensures stands { S.meanings.sound store → (S.durables.identity store).marked ≡ false
         → Made (ShowsFiles (S.holdings.payload store) root.0) S.durables S.records K.Keeper store keeper result.1 result.2 result.0 }
     ensures configures { S.holdings.told store ≡ true → MadeConfig S.durables S.records K.Keeper store keeper result.1 result.2 config.items result.0 }
-    ensures emptied { OnOk result.0 (K.kept result.2 ≡ Some (S.durables.record_of result.1 false)) }
+    ensures emptied { OnOk result.0 (K.kept result.2 ≡ Some (S.durables.local_record_of result.1 false)) }
     ensures versions { OnOk result.0 (OnlyRootRaised S.holdings store result.1 root.0) }
     ensures intact { S.meanings.intact result.1 }
     ensures identity { S.durables.identity result.1 ≡ S.durables.identity store }

@@ -12,7 +12,7 @@ use Rattle.outside.specs.declared.change.Pending.{Pending}
 use Rattle.outside.specs.Trace.{At}
 use Rattle.outside.specs.Names.{same_at, at_cmp}
 use Rattle.outside.specs.NameLaws.{same_ties, at_exact}
-use Rattle.outside.specs.Changes.{Changes, change_at, set_change}
+use Rattle.outside.specs.Changes.{FileChanges, change_at, set_change}
 use Rattle.outside.specs.View.{at_of, change_of, pending_of, list_of}
 
 pub item_here : (ps : List Pending) (i : ℕ) (p : Pending) → i < length ps → p ≡ get_or ps i p → drop i (list_of ps) ≡ pending_of p ∷ drop (i + 1) (list_of ps)
@@ -38,29 +38,29 @@ lookup_later n ps i p r h is e t so =
     so ∙ lookup_here n ps i p h is ∙ ap (λ b. cond b (Some (change_of p.change)) (change_at n (list_of (drop (i + 1) ps)))) (sym e ∙ t)
 
 -- a change is set beyond the first i entries
-pub record IsBeyond (n : At) (list : Changes) (i : ℕ) : Type 0 where
+pub record IsBeyond (n : At) (list : FileChanges) (i : ℕ) : Type 0 where
   pub beyond : (change : Option (List ℕ)) → set_change n change list ≡ take i list ++ set_change n change (drop i list)
 
-step : (n : At) (change : Option (List ℕ)) (list : Changes) (i : ℕ) (e : At × Option (List ℕ)) (o : Ordering) → IsBeyond n list i → drop i list ≡ e ∷ drop (i + 1) list → at_cmp n e.0 ≡ o
+step : (n : At) (change : Option (List ℕ)) (list : FileChanges) (i : ℕ) (e : At × Option (List ℕ)) (o : Ordering) → IsBeyond n list i → drop i list ≡ e ∷ drop (i + 1) list → at_cmp n e.0 ≡ o
     → set_change n change list ≡ take i list ++ by_order o ((n, change) ∷ e ∷ drop (i + 1) list) ((e.0, change) ∷ drop (i + 1) list) (e ∷ set_change n change (drop (i + 1) list))
 step n change list i e o b d q =
     b.beyond change ∙ ap (λ x. take i list ++ set_change n change x) d
     ∙ ap (λ r. take i list ++ by_order r ((n, change) ∷ e ∷ drop (i + 1) list) ((e.0, change) ∷ drop (i + 1) list) (e ∷ set_change n change (drop (i + 1) list))) q
 
-pub set_before : (n : At) (list : Changes) (i : ℕ) (e : At × Option (List ℕ)) → IsBeyond n list i → drop i list ≡ e ∷ drop (i + 1) list → at_cmp n e.0 ≡ Less
+pub set_before : (n : At) (list : FileChanges) (i : ℕ) (e : At × Option (List ℕ)) → IsBeyond n list i → drop i list ≡ e ∷ drop (i + 1) list → at_cmp n e.0 ≡ Less
     → (change : Option (List ℕ)) → set_change n change list ≡ take i list ++ (n, change) ∷ drop i list
 set_before n list i e b d q change = step n change list i e Less b d q ∙ ap (λ x. take i list ++ (n, change) ∷ x) (sym d)
 
-pub set_here : (n : At) (list : Changes) (i : ℕ) (e : At × Option (List ℕ)) → IsBeyond n list i → drop i list ≡ e ∷ drop (i + 1) list → at_cmp n e.0 ≡ Equal
+pub set_here : (n : At) (list : FileChanges) (i : ℕ) (e : At × Option (List ℕ)) → IsBeyond n list i → drop i list ≡ e ∷ drop (i + 1) list → at_cmp n e.0 ≡ Equal
     → (change : Option (List ℕ)) → set_change n change list ≡ take i list ++ (n, change) ∷ drop (i + 1) list
 set_here n list i e b d q change =
     step n change list i e Equal b d q ∙ ap (λ m. take i list ++ (m, change) ∷ drop (i + 1) list) (sym (at_exact n e.0 q))
 
-split_more : (list : Changes) (i : ℕ) (e : At × Option (List ℕ)) → drop i list ≡ e ∷ drop (i + 1) list → i < length list → take (i + 1) list ≡ take i list ++ e ∷ []
+split_more : (list : FileChanges) (i : ℕ) (e : At × Option (List ℕ)) → drop i list ≡ e ∷ drop (i + 1) list → i < length list → take (i + 1) list ≡ take i list ++ e ∷ []
 split_more list i e d h =
     let same : get_or list i e ≡ e = cc (drop-cons list i e h) in take_more list i e h ∙ ap (λ x. take i list ++ x ∷ []) same
 
-pub set_later : (n : At) (list : Changes) (i : ℕ) (e : At × Option (List ℕ)) → IsBeyond n list i → drop i list ≡ e ∷ drop (i + 1) list → i < length list → at_cmp n e.0 ≡ Greater
+pub set_later : (n : At) (list : FileChanges) (i : ℕ) (e : At × Option (List ℕ)) → IsBeyond n list i → drop i list ≡ e ∷ drop (i + 1) list → i < length list → at_cmp n e.0 ≡ Greater
     → IsBeyond n list (i + 1)
 set_later n list i e b d h q = record {
   beyond = λ change.
@@ -68,7 +68,7 @@ set_later n list i e b d h q = record {
       ∙ ap (λ x. x ++ set_change n change (drop (i + 1) list)) (sym (split_more list i e d h));
 }
 
-pub set_last : (n : At) (list : Changes) (i : ℕ) → IsBeyond n list i → length list ≤ i → (change : Option (List ℕ)) → set_change n change list ≡ take i list ++ (n, change) ∷ drop i list
+pub set_last : (n : At) (list : FileChanges) (i : ℕ) → IsBeyond n list i → length list ≤ i → (change : Option (List ℕ)) → set_change n change list ≡ take i list ++ (n, change) ∷ drop i list
 set_last n list i b h change =
     b.beyond change ∙ ap (λ x. take i list ++ set_change n change x) (drop_all i list h) ∙ ap (λ x. take i list ++ (n, change) ∷ x) (sym (drop_all i list h))
 

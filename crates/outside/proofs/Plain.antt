@@ -16,9 +16,9 @@ use Rattle.outside.specs.View.{at_of, call_of, pending_of, list_of}
 use Rattle.outside.specs.Trace.{At, Call, got, put, removed}
 use Rattle.outside.specs.Names.{same_at, at_cmp}
 use Rattle.outside.specs.NameLaws.{same_ties, at_total, at_exact}
-use Rattle.outside.specs.Changes.{Changes, change_at, set_change, cut}
+use Rattle.outside.specs.Changes.{FileChanges, change_at, set_change, cut}
 use Rattle.outside.specs.Honest.{LastChange, last_change, same_answer, is_left, lies}
-use Rattle.outside.specs.Vaults.{VaultState, answer_at, file_at, given, without, IsLeftBy, IsPlain}
+use Rattle.outside.specs.Vaults.{VaultState, answer_at, file_at, given, without, IsLeftBy, IsUntampered}
 
 flips : (a b : At) → same_at a b ≡ eq_by_cmp at_cmp b a
 flips a b = same_ties a b ∙ ap is_eq (at_total.antisymm a b) ∙ eq_reverse (at_cmp b a)
@@ -31,12 +31,12 @@ kept : (b : Bool) (o : Option (Option (List ℕ))) → option_and_then (λ (c : 
 kept true o = refl
 kept false o = refl
 
-file_at-set : (n m : At) (change : Option (List ℕ)) (files : Changes) → file_at m (set_change n change files) ≡ cond (same_at n m) change (file_at m files)
+file_at-set : (n m : At) (change : Option (List ℕ)) (files : FileChanges) → file_at m (set_change n change files) ≡ cond (same_at n m) change (file_at m files)
 file_at-set n m change files =
     ap (option_and_then (λ c. c)) (find-put at_cmp at_total m n change files ∙ ap (λ b. cond b (Some change) (change_at m files)) (sym (flips n m)))
     ∙ chosen (same_at n m) change (change_at m files)
 
-file_at-without : (n m : At) (files : Changes) → file_at m (without n files) ≡ cond (same_at n m) None (file_at m files)
+file_at-without : (n m : At) (files : FileChanges) → file_at m (without n files) ≡ cond (same_at n m) None (file_at m files)
 file_at-without n m files =
     ap (option_and_then (λ c. c)) (find-where_key at_cmp (λ x. not (same_at n x)) m (λ x e. ap (λ y. not (same_at n y)) (sym (at_exact m x e))) files)
     ∙ kept (same_at n m) (change_at m files)
@@ -57,37 +57,37 @@ pub record AsPlain (v w : VaultState) : Type 0 where
   pub files : w.files ≡ v.files
   pub answers : w.answers ≡ v.answers
 
-pub plain_same : (v w : VaultState) → AsPlain v w → IsPlain v → IsPlain w
+pub plain_same : (v w : VaultState) → AsPlain v w → IsUntampered v → IsUntampered w
 plain_same v w e p = record {
   none_replaced = e.answers ∙ p.none_replaced;
   files_left = λ name. subst (λ t. IsLeftBy (last_change name t) (file_at name w.files)) (sym e.trace)
       (subst (λ f. IsLeftBy (last_change name v.trace) (file_at name f)) (sym e.files) (p.files_left name));
 }
 
-pub plain_got : (v : VaultState) (n : At) (max : ℕ) (answer : Option (List ℕ)) → IsPlain v → IsPlain (record v { trace = got n max answer ∷ v.trace })
+pub plain_got : (v : VaultState) (n : At) (max : ℕ) (answer : Option (List ℕ)) → IsUntampered v → IsUntampered (record v { trace = got n max answer ∷ v.trace })
 plain_got v n max answer p = record { none_replaced = p.none_replaced; files_left = p.files_left }
 
-pub plain_put : (v : VaultState) (n : At) (bytes : List ℕ) → IsPlain v → IsPlain (record v { trace = put n bytes true ∷ v.trace; files = set_change n (Some bytes) v.files })
+pub plain_put : (v : VaultState) (n : At) (bytes : List ℕ) → IsUntampered v → IsUntampered (record v { trace = put n bytes true ∷ v.trace; files = set_change n (Some bytes) v.files })
 plain_put v n bytes p = record {
   none_replaced = p.none_replaced;
   files_left = λ m. subst (IsLeftBy (last_change m (put n bytes true ∷ v.trace))) (sym (file_at-set n m (Some bytes) v.files))
       (changed_left (same_at n m) (Some bytes) (last_change m v.trace) (file_at m v.files) (p.files_left m));
 }
 
-pub plain_removed : (v : VaultState) (n : At) → IsPlain v → IsPlain (record v { trace = removed n true ∷ v.trace; files = without n v.files })
+pub plain_removed : (v : VaultState) (n : At) → IsUntampered v → IsUntampered (record v { trace = removed n true ∷ v.trace; files = without n v.files })
 plain_removed v n p = record {
   none_replaced = p.none_replaced;
   files_left = λ m. subst (IsLeftBy (last_change m (removed n true ∷ v.trace))) (sym (file_at-without n m v.files))
       (changed_left (same_at n m) None (last_change m v.trace) (file_at m v.files) (p.files_left m));
 }
 
-pub plain_failed_put : (v : VaultState) (n : At) (bytes : List ℕ) → IsPlain v → IsPlain (record v { trace = put n bytes false ∷ v.trace })
+pub plain_failed_put : (v : VaultState) (n : At) (bytes : List ℕ) → IsUntampered v → IsUntampered (record v { trace = put n bytes false ∷ v.trace })
 plain_failed_put v n bytes p = record {
   none_replaced = p.none_replaced;
   files_left = λ m. failed_left (same_at n m) (Some bytes) (last_change m v.trace) (file_at m v.files) (p.files_left m);
 }
 
-pub plain_failed_removal : (v : VaultState) (n : At) → IsPlain v → IsPlain (record v { trace = removed n false ∷ v.trace })
+pub plain_failed_removal : (v : VaultState) (n : At) → IsUntampered v → IsUntampered (record v { trace = removed n false ∷ v.trace })
 plain_failed_removal v n p = record {
   none_replaced = p.none_replaced;
   files_left = λ m. failed_left (same_at n m) None (last_change m v.trace) (file_at m v.files) (p.files_left m);
@@ -110,7 +110,7 @@ left_is (Some last) max file (inr h) =
 none_given : (v : VaultState) (n : At) (number : ℕ) → v.answers ≡ [] → unwrap_or (answer_at v.answers number) (file_at n v.files) ≡ file_at n v.files
 none_given v n number h = ap (λ a. unwrap_or (answer_at a number) (file_at n v.files)) h
 
-pub honest_get : (v : VaultState) (n : At) (max : ℕ) (answer : Option (List ℕ)) → answer ≡ cut max (given v n) → IsPlain v → lies (got n max answer ∷ v.trace) ≡ lies v.trace
+pub honest_get : (v : VaultState) (n : At) (max : ℕ) (answer : Option (List ℕ)) → answer ≡ cut max (given v n) → IsUntampered v → lies (got n max answer ∷ v.trace) ≡ lies v.trace
 honest_get v n max answer e p =
     let file : answer ≡ cut max (file_at n v.files) = e ∙ ap (cut max) (none_given v n _ p.none_replaced) in
     let left : is_left (last_change n v.trace) max answer ≡ true =

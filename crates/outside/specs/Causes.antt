@@ -18,7 +18,7 @@ UnlessFailed (Ok x) P = P
 UnlessFailed (Err fail) P = UnlessFault fail P
 
 -- the count never falls, Failed is answered only where it rose, and every other answer leaves it
-pub record HasCause {T : Type 0} (before now : ℕ) (result : Result T GetFail) : Type 0 where
+pub record GetHasCause {T : Type 0} (before now : ℕ) (result : Result T GetFail) : Type 0 where
   pub grows : before ≤ now
   pub failed : IsErrOf result Failed → RoseBy 1 before now
   pub quiet : UnlessFailed result (now ≡ before)

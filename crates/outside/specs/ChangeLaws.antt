@@ -12,7 +12,7 @@ use Rattle.std.specs.Cmp.{Equal-is}
 use Rattle.outside.specs.Trace.{At}
 use Rattle.outside.specs.Names.{at_cmp}
 use Rattle.outside.specs.NameLaws.{at_total, at_exact}
-use Rattle.outside.specs.Changes.{Changes, IsIncreasing, change_at, set_change, set_changes}
+use Rattle.outside.specs.Changes.{FileChanges, IsIncreasing, change_at, set_change, set_changes}
 
 test_of : (b : Bool) → IsTrue b → T b
 test_of true h = tt
@@ -22,16 +22,16 @@ true_of : (b : Bool) → T b → IsTrue b
 true_of true h = refl
 true_of false h = absurd h
 
-pub IsIncreasing-set_change : (name : At) (change : Option (List ℕ)) (list : Changes) → IsIncreasing list → IsIncreasing (set_change name change list)
+pub IsIncreasing-set_change : (name : At) (change : Option (List ℕ)) (list : FileChanges) → IsIncreasing list → IsIncreasing (set_change name change list)
 IsIncreasing-set_change name change list h =
     true_of (is_sorted at_cmp (set_change name change list)) (is_sorted-put at_cmp at_total name change list (test_of (is_sorted at_cmp list) h))
 
-pub IsIncreasing-set_changes : (changes list : Changes) → IsIncreasing list → IsIncreasing (set_changes changes list)
+pub IsIncreasing-set_changes : (changes list : FileChanges) → IsIncreasing list → IsIncreasing (set_changes changes list)
 IsIncreasing-set_changes [] list h = h
 IsIncreasing-set_changes (change ∷ changes) list h =
     IsIncreasing-set_changes changes (set_change change.0 change.1 list) (IsIncreasing-set_change change.0 change.1 list h)
 
-pub change_at-set_change : (other name : At) (change : Option (List ℕ)) (list : Changes)
+pub change_at-set_change : (other name : At) (change : Option (List ℕ)) (list : FileChanges)
     → change_at other (set_change name change list) ≡ cond (eq_by_cmp at_cmp other name) (Some change) (change_at other list)
 change_at-set_change other name change list = find-put at_cmp at_total other name change list
 
@@ -49,7 +49,7 @@ rest true b h = h
 rest false b h = absurd (cc)
 
 -- a name below all of a list isn't in it
-not_in : (name : At) (list : Changes) → IsTrue (below_all at_cmp name list) → change_at name list ≡ None
+not_in : (name : At) (list : FileChanges) → IsTrue (below_all at_cmp name list) → change_at name list ≡ None
 not_in name [] h = refl
 not_in name (e ∷ list) h =
     ap (λ b. cond b (Some e.1) (change_at name list)) (is_before (at_cmp name e.0) (front (is_lt (at_cmp name e.0)) (below_all at_cmp name list) h))
@@ -60,7 +60,7 @@ merge_step true x later old h = ap (λ o. option_or o (Some x)) (h refl)
 merge_step false x later old h = refl
 
 -- setting changes that stand in order merges two finite maps, the changes first
-pub change_at-set_changes : (name : At) (changes list : Changes) → IsIncreasing changes → change_at name (set_changes changes list) ≡ option_or (change_at name changes) (change_at name list)
+pub change_at-set_changes : (name : At) (changes list : FileChanges) → IsIncreasing changes → change_at name (set_changes changes list) ≡ option_or (change_at name changes) (change_at name list)
 change_at-set_changes name [] list h = refl
 change_at-set_changes name (e ∷ changes) list h =
     change_at-set_changes name changes (set_change e.0 e.1 list) (rest (below_all at_cmp e.0 changes) (is_sorted at_cmp changes) h)
@@ -69,7 +69,7 @@ change_at-set_changes name (e ∷ changes) list h =
     ap (λ n. change_at n changes) (at_exact name e.0 ((Equal-is (at_cmp name e.0)).0 t)) ∙ not_in e.0 changes (front (below_all at_cmp e.0 changes) (is_sorted at_cmp changes) h))
 
 -- a list in order stays so where its front is dropped
-pub IsIncreasing-drop : (n : ℕ) (list : Changes) → IsIncreasing list → IsIncreasing (drop n list)
+pub IsIncreasing-drop : (n : ℕ) (list : FileChanges) → IsIncreasing list → IsIncreasing (drop n list)
 IsIncreasing-drop zero list h = h
 IsIncreasing-drop (suc n) [] h = h
 IsIncreasing-drop (suc n) (e ∷ list) h = IsIncreasing-drop n list (rest (below_all at_cmp e.0 list) (is_sorted at_cmp list) h)

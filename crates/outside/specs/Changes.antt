@@ -7,23 +7,23 @@ use Rattle.outside.specs.Trace.{At}
 use Rattle.outside.specs.Names.{at_cmp}
 
 -- a name, and its new bytes or None for its removal
-abbrev pub Changes : Type 0
-Changes = List (At × Option (List ℕ))
+abbrev pub FileChanges : Type 0
+FileChanges = List (At × Option (List ℕ))
 
 -- the names strictly rise
-abbrev pub IsIncreasing : Changes → Type 0
+abbrev pub IsIncreasing : FileChanges → Type 0
 IsIncreasing list = IsTrue (is_sorted at_cmp list)
 
 -- what a list says of a name, if it has the name
-abbrev pub change_at : At → Changes → Option (Option (List ℕ))
+abbrev pub change_at : At → FileChanges → Option (Option (List ℕ))
 change_at name list = find at_cmp name list
 
 -- the list with one change in its place
-abbrev pub set_change : At → Option (List ℕ) → Changes → Changes
+abbrev pub set_change : At → Option (List ℕ) → FileChanges → FileChanges
 set_change name change list = put at_cmp name change list
 
 -- the list with these changes in their places
-abbrev pub set_changes : Changes → Changes → Changes
+abbrev pub set_changes : FileChanges → FileChanges → FileChanges
 set_changes [] list = list
 set_changes (change ∷ changes) list = set_changes changes (set_change change.0 change.1 list)
 

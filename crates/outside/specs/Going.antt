@@ -4,7 +4,7 @@ use Rattle.std.proofs.Common.{refl, sym, ◌∙◌, ap, subst, inl, inr, append_
 use Rattle.std.specs.declared.option.Option.{Option}
 use Rattle.std.specs.declared.option.Option.TheVariants.{None, Some}
 use Rattle.outside.specs.Trace.{Call, adds}
-use Rattle.outside.specs.Changes.{Changes}
+use Rattle.outside.specs.Changes.{FileChanges}
 use Rattle.outside.specs.Writes.{after_writes, call_for, StopsAt}
 
 -- calls were added to the old ones, where they are told; what isn't told stays so
@@ -32,13 +32,13 @@ pub goes_on_equal : (a b : Option (List Call)) → b ≡ a → GoesOn a b
 goes_on_equal a b e = subst (λ x. GoesOn a x) (sym e) (goes_on_same a)
 
 -- by what is written
-pub goes_on_writes : (list : Changes) (a : Option (List Call)) → GoesOn a (after_writes list a)
+pub goes_on_writes : (list : FileChanges) (a : Option (List Call)) → GoesOn a (after_writes list a)
 goes_on_writes [] a = goes_on_same a
 goes_on_writes (change ∷ changes) a =
     goes_on_onward a (adds a (call_for change true)) (after_writes changes (adds a (call_for change true)))
     (goes_on_call a (call_for change true)) (goes_on_writes changes (adds a (call_for change true)))
 
-pub goes_on_stops : (list left : Changes) (a b : Option (List Call)) → StopsAt list a b left → GoesOn a b
+pub goes_on_stops : (list left : FileChanges) (a b : Option (List Call)) → StopsAt list a b left → GoesOn a b
 goes_on_stops list left a b s = elim s.trace [
   | inl e ↦ subst (λ x. GoesOn a x) (sym e) (goes_on_writes s.done a)
   | inr e ↦ subst (λ x. GoesOn a x) (sym e)

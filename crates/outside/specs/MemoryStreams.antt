@@ -1,7 +1,7 @@
 -- What streams in memory hold, and how often they were called.
 use Rattle.std.specs.Prelude.{◌≡◌, ℕ, ◌+◌, ◌-◌, ◌^◌, min, List}
 use Rattle.std.specs.declared.option.Option.TheVariants.{Some}
-use Rattle.outside.specs.Streams.{Gives}
+use Rattle.outside.specs.Streams.{WereTaken}
 
 -- one call or one fault more; a count stays at its type's end
 abbrev pub one_more : ℕ → ℕ
@@ -18,7 +18,7 @@ pub record Feed : Type 0 where
 -- one call took these bytes from the front
 pub record TookOnce (old new : Feed) (bytes : List ℕ) : Type 0 where
   pub calls : new.calls ≡ one_more old.calls
-  pub rest : Gives (Some old.rest) (Some new.rest) bytes
+  pub rest : WereTaken (Some old.rest) (Some new.rest) bytes
 
 -- the bytes that were written, the most that one call takes and that all take, the numbers of the calls that fail, the calls and the faults so far
 pub record Drain : Type 0 where

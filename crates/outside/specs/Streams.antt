@@ -4,9 +4,9 @@ use Rattle.std.specs.declared.option.Option.{Option}
 use Rattle.std.specs.declared.option.Option.TheVariants.{None, Some}
 
 -- these bytes were taken from the front of what was left
-abbrev pub Gives : Option (List ℕ) → Option (List ℕ) → List ℕ → Type 0
-Gives None new bytes = new ≡ None
-Gives (Some old) new bytes = (rest : List ℕ) × (old ≡ bytes ++ rest) × (new ≡ Some rest)
+abbrev pub WereTaken : Option (List ℕ) → Option (List ℕ) → List ℕ → Type 0
+WereTaken None new bytes = new ≡ None
+WereTaken (Some old) new bytes = (rest : List ℕ) × (old ≡ bytes ++ rest) × (new ≡ Some rest)
 
 -- nothing was left
 abbrev pub Ends : Option (List ℕ) → Type 0

@@ -6,13 +6,13 @@ use Rattle.std.specs.declared.option.Option.TheVariants.{None, Some}
 use Rattle.outside.specs.Trace.{At, Call}
 use Rattle.outside.specs.MemoryStreams.{one_more}
 use Rattle.outside.specs.Names.{same_at}
-use Rattle.outside.specs.Changes.{Changes, change_at}
+use Rattle.outside.specs.Changes.{FileChanges, change_at}
 use Rattle.outside.specs.Honest.{LastChange, last_change}
 
 pub record VaultState : Type 0 where
   -- the calls, the newest first
   pub trace : List Call
-  pub files : Changes
+  pub files : FileChanges
   pub faults : ℕ
   -- how many calls, gets, and puts and removals there were since the last setting
   pub calls : ℕ
@@ -37,7 +37,7 @@ answer_at [] number = None
 answer_at (answer ∷ answers) number = if answer.0 == number then Some answer.1 else answer_at answers number
 
 -- the bytes of a file, where it is there
-abbrev pub file_at : At → Changes → Option (List ℕ)
+abbrev pub file_at : At → FileChanges → Option (List ℕ)
 file_at name files = option_and_then (λ change. change) (change_at name files)
 
 -- whether the next call is made to fail, as a get, or as a put or removal
@@ -51,7 +51,7 @@ change_fails v = is_listed v.failing (one_more v.calls) || is_from v.failing_fro
 abbrev pub given : VaultState → At → Option (List ℕ)
 given v name = unwrap_or (answer_at v.answers (one_more v.gets)) (file_at name v.files)
 
-abbrev pub without : At → Changes → Changes
+abbrev pub without : At → FileChanges → FileChanges
 without name files = filter (λ file. not (same_at name file.0)) files
 
 abbrev pub after_get : VaultState → Call → VaultState
@@ -61,7 +61,7 @@ abbrev pub after_failed_get : VaultState → VaultState
 after_failed_get v = record v { faults = one_more v.faults; calls = one_more v.calls; gets = one_more v.gets }
 
 -- after a put or a removal that answered ok, with the files that it left
-abbrev pub after_change : VaultState → Call → Changes → VaultState
+abbrev pub after_change : VaultState → Call → FileChanges → VaultState
 after_change v call files = record v { trace = call ∷ v.trace; files = files; calls = one_more v.calls; changes = one_more v.changes }
 
 abbrev pub after_failed_change : VaultState → Call → VaultState
@@ -77,6 +77,6 @@ IsLeftBy None file = file ≡ None
 IsLeftBy (Some last) file = (last.ok ≡ false) ⊎ (file ≡ last.bytes)
 
 -- no answer is replaced, and each file is what its last change left
-pub record IsPlain (v : VaultState) : Type 0 where
+pub record IsUntampered (v : VaultState) : Type 0 where
   pub none_replaced : v.answers ≡ []
   pub files_left : (name : At) → IsLeftBy (last_change name v.trace) (file_at name v.files)

@@ -2,7 +2,7 @@
 ghost use Rattle.std.specs.Prelude.{◌≡◌, ◌⊎◌, ◌≤◌, List, ℕ, length, IfOk, OnOk, OnErr};
 ghost use Rattle.std.specs.declared.option.Option.{Option};
 ghost use Rattle.std.specs.declared.option.Option.TheVariants.{Some};
-ghost use Rattle.outside.specs.Causes.{HasCause, RoseBy};
+ghost use Rattle.outside.specs.Causes.{GetHasCause, RoseBy};
 ghost use Rattle.outside.specs.View.{bytes_of};
 
 use crate::GetFail;
@@ -25,7 +25,7 @@ pub trait Keeper {
         ensures ok { IfOk result (λ answer. bytes_of answer ≡ kept self.old) }
         ensures kept { kept self.new ≡ kept self.old }
         ensures room { room self.old ≤ room self.new }
-        ensures cause { HasCause (faults self.old) (faults self.new) result };
+        ensures cause { GetHasCause (faults self.old) (faults self.new) result };
 
     /// Takes the memory for records of up to `len` bytes. It is no call on the outside.
     fn prepare(&mut self, alloc: Global, len: usize) -> Result<(), Memory>

@@ -2,7 +2,7 @@
 ghost use Rattle.std.specs.Prelude.{◌≡◌, ◌⊎◌, ◌≤◌, List, ℕ, Bool, length, is_some, is_ok, is_none, IfOk, OnOk, OnErr, vec_capacity, IfSome, IfNone, IsErrOf, false, true, [], option_map};
 ghost use Rattle.std.specs.declared.option.Option.{Option};
 ghost use Rattle.std.specs.declared.option.Option.TheVariants.{None, Some};
-ghost use Rattle.outside.specs.Causes.{HasCause, RoseBy};
+ghost use Rattle.outside.specs.Causes.{GetHasCause, RoseBy};
 ghost use Rattle.outside.specs.MemoryStreams.{one_more};
 ghost use Rattle.outside.specs.Keepers.{failure_at, failure_from, failure_of, load_fails, after_load, after_failed_load, kept_by, faults_by};
 ghost use Rattle.outside.specs.View.{bytes_of};
@@ -46,7 +46,7 @@ impl Model for MemoryKeeper {
     } };
 }
 
-// Whether the save of this number keeps its record although it fails, or None where it doesn't fail.
+/// Whether the save of this number keeps its record although it fails, or None where it doesn't fail.
 fn failure(failing: &[(u64, bool)], number: u64) -> Option<bool>
     ensures { result ≡ failure_at failing.now number }
 {
@@ -58,7 +58,7 @@ fn failure(failing: &[(u64, bool)], number: u64) -> Option<bool>
     None
 }
 
-// The same of saves of which each from one on fails.
+/// The same of saves of which each from one on fails.
 fn later_failure(first: Option<(u64, bool)>, number: u64) -> Option<bool>
     ensures { result ≡ failure_from first number }
 {
@@ -68,7 +68,7 @@ fn later_failure(first: Option<(u64, bool)>, number: u64) -> Option<bool>
     }
 }
 
-// Keeps these bytes, where there is room for them.
+/// Keeps these bytes, where there is room for them.
 fn keep(kept: &mut Vec<u8>, bytes: &[u8])
     requires { length bytes.now ≤ vec_capacity kept.old }
     ensures items { kept.new.items ≡ bytes.now }
@@ -121,7 +121,7 @@ impl MemoryKeeper {
         self.saves_since = 0;
     }
 
-    // How the next save fails, if it does.
+    /// How the next save fails, if it does.
     fn next_failure(&self) -> Option<bool>
         ensures { result ≡ failure_of self.now }
     {
@@ -154,7 +154,7 @@ impl Keeper for MemoryKeeper {
         ensures ok { IfOk result (λ answer. bytes_of answer ≡ self.old.kept) }
         ensures kept { self.new.kept ≡ self.old.kept }
         ensures room { self.old.room ≤ self.new.room }
-        ensures cause { HasCause self.old.faults self.new.faults result }
+        ensures cause { GetHasCause self.old.faults self.new.faults result }
 
         ensures after { OnOk result (self.new ≡ after_load self.old) }
         ensures ok_where_not_listed { OnOk result (load_fails self.old ≡ false) }

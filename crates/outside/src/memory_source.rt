@@ -3,7 +3,7 @@ ghost use Rattle.std.specs.Prelude.{◌≡◌, ◌≤◌, ◌<◌, ◌↔◌, �
 ghost use Rattle.std.specs.declared.option.Option.TheVariants.{Some};
 ghost use Rattle.outside.specs.Causes.{RoseBy};
 ghost use Rattle.outside.specs.MemoryStreams.{Feed, TookOnce, one_more};
-ghost use Rattle.outside.specs.Streams.{Gives, Ends};
+ghost use Rattle.outside.specs.Streams.{WereTaken, Ends};
 
 use crate::Source;
 use block_id::Failed;
@@ -54,7 +54,7 @@ impl Source for MemorySource {
 
     fn read(&mut self, piece: &mut [u8]) -> Result<usize, Failed>
         ensures bound { IfOk result (λ n. n ≤ length piece.old) }
-        ensures ok { IfOk result (λ n. Gives (Some self.old.rest) (Some self.new.rest) (take n piece.new)) }
+        ensures ok { IfOk result (λ n. WereTaken (Some self.old.rest) (Some self.new.rest) (take n piece.new)) }
         ensures took { IfOk result (λ n. TookOnce self.old self.new (take n piece.new)) }
         ensures end { IfOk result (λ n. n ≡ 0 → 0 < length piece.old → Ends (Some self.old.rest)) }
         ensures err { OnErr result (self.new.rest ≡ self.old.rest) }

@@ -2,12 +2,12 @@
 ghost use Rattle.std.specs.Prelude.{◌≡◌, ◌⊎◌, ◌≤◌, ◌<◌, ℕ, List, [], map, reverse, length, true, false, IfOk, IfSome, IfNone, OnOk, OnErr, IsErrOf};
 ghost use Rattle.std.specs.declared.option.Option.{Option};
 ghost use Rattle.std.specs.declared.option.Option.TheVariants.{None, Some};
-ghost use Rattle.outside.specs.Causes.{HasCause};
+ghost use Rattle.outside.specs.Causes.{GetHasCause};
 ghost use Rattle.outside.specs.Trace.{got, put as put_call, removed, adds};
 ghost use Rattle.outside.specs.Changes.{change_at, set_change, cut};
 ghost use Rattle.outside.specs.Honest.{lies};
 ghost use Rattle.outside.specs.MemoryStreams.{one_more};
-ghost use Rattle.outside.specs.Vaults.{is_listed, is_from, answer_at, get_fails, change_fails, given, without, after_get, after_failed_get, after_change, after_failed_change, restarted, IsPlain};
+ghost use Rattle.outside.specs.Vaults.{is_listed, is_from, answer_at, get_fails, change_fails, given, without, after_get, after_failed_get, after_change, after_failed_change, restarted, IsUntampered};
 ghost use Rattle.outside.specs.View.{at_of, bytes_of, call_of, list_of, answers_of};
 
 use crate::{Change, Event, FileName, GetFail, Pending, Vault, pending_list};
@@ -64,7 +64,7 @@ fn is_reached(first: Option<u64>, number: u64) -> bool
     }
 }
 
-// The answer that replaces that of the get of this number.
+/// The answer that replaces that of the get of this number.
 fn replacement(answers: &[(u64, Option<Vec<u8>>)], number: u64) -> Option<&Option<Vec<u8>>>
     ensures some { IfSome result (λ answer. answer_at (answers_of answers.now) number ≡ Some (bytes_of answer.now)) }
     ensures none { IfNone result (answer_at (answers_of answers.now) number ≡ None) }
@@ -86,7 +86,7 @@ fn copy(alloc: Global, bytes: &Option<Vec<u8>>) -> Result<Option<Vec<u8>>, Alloc
     }
 }
 
-// Drops the file, if it is there.
+/// Drops the file, if it is there.
 fn drop_file(files: &mut Vec<Pending>, name: &FileName)
     ensures { list_of files.new.items ≡ without (at_of name.now) (list_of files.old.items) }
 {
@@ -101,7 +101,7 @@ impl MemoryVault {
         ensures faults { result.faults ≡ 0 }
         ensures counts { (result.calls ≡ 0) × (result.gets ≡ 0) × (result.changes ≡ 0) }
         ensures settings { (result.failing ≡ []) × (result.failing_from ≡ None) × (result.answers ≡ []) }
-        ensures plain { IsPlain result }
+        ensures plain { IsUntampered result }
     {
         MemoryVault {
             trace: Vec::new(alloc),
@@ -127,7 +127,7 @@ impl MemoryVault {
     /// Makes the calls of these numbers fail, counted from 1 from here on.
     pub fn fail_calls(&mut self, list: Vec<u64>)
         ensures set { self.new ≡ record (restarted self.old) { failing = list.items } }
-        ensures plain { IsPlain self.old → IsPlain self.new }
+        ensures plain { IsUntampered self.old → IsUntampered self.new }
     {
         self.failing = list;
         self.restart();
@@ -136,7 +136,7 @@ impl MemoryVault {
     /// Makes every put and removal from the n-th one on fail, counted from 1 from here on.
     pub fn fail_from(&mut self, n: u64)
         ensures set { self.new ≡ record (restarted self.old) { failing_from = Some n } }
-        ensures plain { IsPlain self.old → IsPlain self.new }
+        ensures plain { IsUntampered self.old → IsUntampered self.new }
     {
         self.failing_from = Some(n);
         self.restart();
@@ -172,7 +172,7 @@ impl MemoryVault {
         &self.files
     }
 
-    // A copy of what the next get gives.
+    /// A copy of what the next get gives.
     fn answer(
         &self,
         alloc: Global,
@@ -205,15 +205,15 @@ impl Vault for MemoryVault {
         ensures bound { IfOk result (λ answer. IfSome answer (λ bytes. length bytes.items ≤ max)) }
         ensures ok { IfOk result (λ answer. Some self.new.trace ≡ adds (Some self.old.trace) (got (at_of name.now) max (bytes_of answer))) }
         ensures err { OnErr result (Some self.new.trace ≡ Some self.old.trace) }
-        ensures cause { HasCause self.old.faults self.new.faults result }
+        ensures cause { GetHasCause self.old.faults self.new.faults result }
 
         ensures gives { IfOk result (λ answer. bytes_of answer ≡ cut max (given self.old (at_of name.now))) }
         ensures after { IfOk result (λ answer. self.new ≡ after_get self.old (got (at_of name.now) max (bytes_of answer))) }
         ensures ok_where_not_listed { OnOk result (get_fails self.old ≡ false) }
         ensures failed_where_listed { IsErrOf result GetFail.Failed → (get_fails self.old ≡ true) × (self.new ≡ after_failed_get self.old) }
         ensures memory { IsErrOf result GetFail.Memory → (get_fails self.old ≡ false) × (self.new ≡ self.old) }
-        ensures honest { IsPlain self.old → lies self.new.trace ≡ lies self.old.trace }
-        ensures plain { IsPlain self.old → IsPlain self.new }
+        ensures honest { IsUntampered self.old → lies self.new.trace ≡ lies self.old.trace }
+        ensures plain { IsUntampered self.old → IsUntampered self.new }
     {
         if contains(&self.failing, self.calls.saturating_add(1)) {
             self.faults = self.faults.saturating_add(1);
@@ -237,7 +237,7 @@ impl Vault for MemoryVault {
         ensures ok { OnOk result (Some self.new.trace ≡ adds (Some self.old.trace) (put_call (at_of name.now) bytes.now true)) }
         ensures err { OnErr result ((Some self.new.trace ≡ Some self.old.trace)
             ⊎ (Some self.new.trace ≡ adds (Some self.old.trace) (put_call (at_of name.now) bytes.now false))) }
-        ensures cause { HasCause self.old.faults self.new.faults result }
+        ensures cause { GetHasCause self.old.faults self.new.faults result }
 
         ensures after { OnOk result (self.new
             ≡ after_change self.old (put_call (at_of name.now) bytes.now true) (set_change (at_of name.now) (Some bytes.now) self.old.files)) }
@@ -245,7 +245,7 @@ impl Vault for MemoryVault {
         ensures failed_where_listed { IsErrOf result GetFail.Failed → (change_fails self.old ≡ true)
             × (self.new ≡ after_failed_change self.old (put_call (at_of name.now) bytes.now false)) }
         ensures memory { IsErrOf result GetFail.Memory → self.new ≡ self.old }
-        ensures plain { IsPlain self.old → IsPlain self.new }
+        ensures plain { IsUntampered self.old → IsUntampered self.new }
     {
         let told = bytes.to_vec(alloc)?;
         let file = bytes.to_vec(alloc)?;
@@ -284,7 +284,7 @@ impl Vault for MemoryVault {
         ensures ok { OnOk result (Some self.new.trace ≡ adds (Some self.old.trace) (removed (at_of name.now) true)) }
         ensures err { OnErr result ((Some self.new.trace ≡ Some self.old.trace)
             ⊎ (Some self.new.trace ≡ adds (Some self.old.trace) (removed (at_of name.now) false))) }
-        ensures cause { HasCause self.old.faults self.new.faults result }
+        ensures cause { GetHasCause self.old.faults self.new.faults result }
 
         ensures after { OnOk result (self.new
             ≡ after_change self.old (removed (at_of name.now) true) (without (at_of name.now) self.old.files)) }
@@ -292,7 +292,7 @@ impl Vault for MemoryVault {
         ensures failed_where_listed { IsErrOf result GetFail.Failed → (change_fails self.old ≡ true)
             × (self.new ≡ after_failed_change self.old (removed (at_of name.now) false)) }
         ensures memory { IsErrOf result GetFail.Memory → self.new ≡ self.old }
-        ensures plain { IsPlain self.old → IsPlain self.new }
+        ensures plain { IsUntampered self.old → IsUntampered self.new }
     {
         let _ = alloc;
         if contains(&self.failing, self.calls.saturating_add(1))

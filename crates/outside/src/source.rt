@@ -2,7 +2,7 @@
 ghost use Rattle.std.specs.Prelude.{◌≡◌, ◌≤◌, ◌<◌, List, ℕ, length, take, IfOk, OnOk, OnErr};
 ghost use Rattle.std.specs.declared.option.Option.{Option};
 ghost use Rattle.outside.specs.Causes.{RoseBy};
-ghost use Rattle.outside.specs.Streams.{Gives, Ends};
+ghost use Rattle.outside.specs.Streams.{WereTaken, Ends};
 
 use block_id::Failed;
 
@@ -21,7 +21,7 @@ pub trait Source {
     /// the end of input.
     fn read(&mut self, piece: &mut [u8]) -> Result<usize, Failed>
         ensures bound { IfOk result (λ n. n ≤ length piece.old) }
-        ensures ok { IfOk result (λ n. Gives (rest self.old) (rest self.new) (take n piece.new)) }
+        ensures ok { IfOk result (λ n. WereTaken (rest self.old) (rest self.new) (take n piece.new)) }
         ensures took { IfOk result (λ n. took self.old self.new (take n piece.new)) }
         ensures end { IfOk result (λ n. n ≡ 0 → 0 < length piece.old → Ends (rest self.old)) }
         ensures err { OnErr result (rest self.new ≡ rest self.old) }

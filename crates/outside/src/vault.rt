@@ -1,7 +1,7 @@
 // The block directory.
 ghost use Rattle.std.specs.Prelude.{◌≡◌, ◌⊎◌, ◌≤◌, List, ℕ, true, false, length, IfOk, IfSome, OnOk, OnErr};
 ghost use Rattle.std.specs.declared.option.Option.{Option};
-ghost use Rattle.outside.specs.Causes.{HasCause};
+ghost use Rattle.outside.specs.Causes.{GetHasCause};
 ghost use Rattle.outside.specs.Trace.{Call, got, put, removed, adds};
 ghost use Rattle.outside.specs.View.{at_of, bytes_of};
 
@@ -53,19 +53,19 @@ pub trait Vault {
         ensures bound { IfOk result (λ answer. IfSome answer (λ bytes. length bytes.items ≤ max)) }
         ensures ok { IfOk result (λ answer. trace self.new ≡ adds (trace self.old) (got (at_of name.now) max (bytes_of answer))) }
         ensures err { OnErr result (trace self.new ≡ trace self.old) }
-        ensures cause { HasCause (faults self.old) (faults self.new) result };
+        ensures cause { GetHasCause (faults self.old) (faults self.new) result };
 
     /// Gives the file these bytes.
     fn put(&mut self, alloc: Global, name: &FileName, bytes: &[u8]) -> Result<(), GetFail>
         ensures ok { OnOk result (trace self.new ≡ adds (trace self.old) (put (at_of name.now) bytes.now true)) }
         ensures err { OnErr result ((trace self.new ≡ trace self.old)
             ⊎ (trace self.new ≡ adds (trace self.old) (put (at_of name.now) bytes.now false))) }
-        ensures cause { HasCause (faults self.old) (faults self.new) result };
+        ensures cause { GetHasCause (faults self.old) (faults self.new) result };
 
     /// Removes the file; that it isn't there is no error.
     fn remove(&mut self, alloc: Global, name: &FileName) -> Result<(), GetFail>
         ensures ok { OnOk result (trace self.new ≡ adds (trace self.old) (removed (at_of name.now) true)) }
         ensures err { OnErr result ((trace self.new ≡ trace self.old)
             ⊎ (trace self.new ≡ adds (trace self.old) (removed (at_of name.now) false))) }
-        ensures cause { HasCause (faults self.old) (faults self.new) result };
+        ensures cause { GetHasCause (faults self.old) (faults self.new) result };
 }

@@ -11,7 +11,7 @@ use std::test::Fail;
 /// How many generated records are saved, one after another.
 const SAVES: usize = 100;
 
-// Whether a load answers this record.
+/// Whether a load answers this record.
 fn has<K: Keeper>(alloc: Global, keeper: &mut K, want: Option<&Vec<u8>>) -> Result<bool, Fail>
     ensures { K.room keeper.old ≤ K.room keeper.new }
 {
@@ -19,7 +19,7 @@ fn has<K: Keeper>(alloc: Global, keeper: &mut K, want: Option<&Vec<u8>>) -> Resu
     Ok(is_front(&came, want, usize::MAX))
 }
 
-// Takes the memory for a record, and saves it.
+/// Takes the memory for a record, and saves it.
 fn save<K: Keeper>(alloc: Global, keeper: &mut K, bytes: &[u8]) -> Result<(), Fail> {
     keeper.prepare(alloc, bytes.len())?;
     keeper.save(bytes)?;
@@ -78,7 +78,7 @@ pub fn keeps_its_record_while_it_takes_memory<K: Keeper>(
     Ok(())
 }
 
-// Saves a record for which there is room, and loads it.
+/// Saves a record for which there is room, and loads it.
 fn save_within<K: Keeper>(alloc: Global, keeper: &mut K, len: usize) -> Result<(), Fail>
     requires { len ≤ K.room keeper.old }
     ensures { K.room keeper.old ≤ K.room keeper.new }

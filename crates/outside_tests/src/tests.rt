@@ -16,7 +16,7 @@ use std::alloc::Global;
 use std::fs;
 use std::test::Fail;
 
-// Each promise in turn, over a directory without files.
+/// Each promise in turn, over a directory without files.
 fn directory_keeps_all<V: Vault>(alloc: Global, vault: &mut V) -> Result<(), Fail> {
     gives_none_for_a_missing_name(alloc, vault)?;
     gets_what_was_put(alloc, vault)?;
@@ -27,7 +27,7 @@ fn directory_keeps_all<V: Vault>(alloc: Global, vault: &mut V) -> Result<(), Fai
     follows_a_map(alloc, vault)
 }
 
-// Each promise in turn, over a keeper of nothing.
+/// Each promise in turn, over a keeper of nothing.
 fn record_keeps_all<K: Keeper>(alloc: Global, keeper: &mut K) -> Result<(), Fail> {
     loads_nothing_at_first(alloc, keeper)?;
     loads_what_was_saved(alloc, keeper)?;

@@ -19,7 +19,7 @@ const STEPS: usize = 400;
 /// How many names there are.
 const COUNT: u32 = 6;
 
-// The block whose id begins with these two bytes, ends with this one, and is zeros between.
+/// The block whose id begins with these two bytes, ends with this one, and is zeros between.
 fn block(front: [u8; 2], last: u8) -> FileName {
     let mut id = [last; 16];
     id[..15].fill(0);
@@ -27,7 +27,7 @@ fn block(front: [u8; 2], last: u8) -> FileName {
     FileName::Block(BlockId(id))
 }
 
-// The configuration, a block, and blocks of which each differs from that one in one place of its name.
+/// The configuration, a block, and blocks of which each differs from that one in one place of its name.
 fn names() -> [FileName; 6] {
     [
         FileName::Config,
@@ -39,12 +39,12 @@ fn names() -> [FileName; 6] {
     ]
 }
 
-// The configuration and a block.
+/// The configuration and a block.
 fn two_names() -> [FileName; 2] {
     [FileName::Config, block([0xA0, 0x10], 1)]
 }
 
-// Whether a get of at most so many bytes answers the front of these.
+/// Whether a get of at most so many bytes answers the front of these.
 fn gives<V: Vault>(
     alloc: Global,
     vault: &mut V,
@@ -56,7 +56,7 @@ fn gives<V: Vault>(
     Ok(is_front(&came, want, max))
 }
 
-// Whether a get answers these bytes whole.
+/// Whether a get answers these bytes whole.
 fn has<V: Vault>(
     alloc: Global,
     vault: &mut V,
@@ -139,7 +139,7 @@ pub fn gives_at_most_what_is_asked_for<V: Vault>(alloc: Global, vault: &mut V) -
     Ok(())
 }
 
-// Whether each name is the file that it ought to be, of which at most so many bytes are asked for.
+/// Whether each name is the file that it ought to be, of which at most so many bytes are asked for.
 fn has_all<V: Vault>(
     alloc: Global,
     vault: &mut V,
@@ -177,7 +177,7 @@ fn remove<V: Vault>(
     Ok(())
 }
 
-// Leaves no file.
+/// Leaves no file.
 fn remove_all<V: Vault>(alloc: Global, vault: &mut V) -> Result<Files, Fail> {
     for name in names() {
         vault.remove(alloc, &name)?;
@@ -209,7 +209,7 @@ pub fn keeps_names_apart<V: Vault>(alloc: Global, vault: &mut V) -> Result<(), F
     Ok(())
 }
 
-// A number below the limit.
+/// A number below the limit.
 fn drawn(chance: &mut Pcg32, limit: u32) -> usize
     requires { 0 < limit }
     ensures { result < limit }
@@ -217,7 +217,7 @@ fn drawn(chance: &mut Pcg32, limit: u32) -> usize
     (chance.next_u32() % limit) as usize
 }
 
-// Puts or removes a file, each at random.
+/// Puts or removes a file, each at random.
 fn change<V: Vault>(
     alloc: Global,
     vault: &mut V,

@@ -4,12 +4,12 @@ use Rattle.std.proofs.lemmas.Bool.Decides.{nat_tests}
 use Rattle.std.proofs.lemmas.List.{append_cancel_right}
 use Rattle.std.specs.declared.option.Option.{Option}
 use Rattle.std.specs.declared.option.Option.TheVariants.{None, Some}
-use Rattle.outside.specs.Streams.{Gives}
+use Rattle.outside.specs.Streams.{WereTaken}
 use Rattle.line_io.specs.Lines.{is_newline, lines, onto_first, first_of, first_line, IsUnbroken, kept}
 use Rattle.line_io.specs.Reading.{coming}
 use Rattle.line_io.proofs.Cutting.{lines-cut, lines-last}
-use Rattle.line_io.proofs.Flow.{Gives-append}
-use Rattle.passwords.specs.Passwords.{after_first, second_line, IsLong, IsNextPassword}
+use Rattle.line_io.proofs.Flow.{WereTaken-append}
+use Rattle.passwords.specs.Passwords.{after_first, second_line, IsLongLine, IsNextPassword}
 
 -- ---- lines, each with its newline
 
@@ -87,11 +87,11 @@ lines_in taken ahead (byte ∷ rest) part left line e f =
 -- these bytes were taken, and this is their first line, and that their second
 pub record AreTaken (old new : Option (List ℕ)) (line next : List ℕ) : Type 0 where
   pub taken : List ℕ
-  pub gave : Gives old new taken
+  pub gave : WereTaken old new taken
   pub is_first : line ≡ first_line taken
   pub is_second : next ≡ second_line taken
 
-pub two_taken : (old mid new : Option (List ℕ)) (taken ahead part line : List ℕ) → Gives old mid taken → Gives mid new part → line ≡ first_line taken → IsNextPassword old line (coming ahead mid)
+pub two_taken : (old mid new : Option (List ℕ)) (taken ahead part line : List ℕ) → WereTaken old mid taken → WereTaken mid new part → line ≡ first_line taken → IsNextPassword old line (coming ahead mid)
     → AreTaken old new line (first_line (ahead ++ part))
 two_taken None mid new taken ahead part line g h f n =
     let next = first_line (ahead ++ part) in
@@ -99,18 +99,18 @@ two_taken None mid new taken ahead part line g h f n =
     let cut : lines (line ++ 10 ∷ next) ≡ line ∷ lines next = lines-cut line next unbroken in
     record {
       taken = line ++ 10 ∷ next;
-      gave = subst (λ (m : Option (List ℕ)). Gives m new part) g h;
+      gave = subst (λ (m : Option (List ℕ)). WereTaken m new part) g h;
       is_first = sym (ap first_of cut);
       is_second = sym (ap (λ (l : List (List ℕ)). first_of (after_first l)) cut ∙ first_whole next (first_unbroken (ahead ++ part)));
     }
 two_taken (Some old) mid new taken ahead part line g h f (inl n) =
-    let m : Gives (Some g.0) new part = subst (λ (m : Option (List ℕ)). Gives m new part) g.2 h in
+    let m : WereTaken (Some g.0) new part = subst (λ (m : Option (List ℕ)). WereTaken m new part) g.2 h in
     let more : ahead ++ g.0 ≡ n.0 = same (ahead ++ g.0) n.0 (ap (coming ahead) (sym g.2) ∙ n.2) in
     let e : lines (taken ++ g.0) ≡ line ∷ lines (ahead ++ g.0) = ap lines (sym g.1) ∙ (n.1 ∙ ap (λ (l : List ℕ). line ∷ lines l) (sym more)) in
     let l = lines_in taken ahead g.0 part m.0 line e m.1 in
     record {
       taken = taken ++ part;
-      gave = Gives-append (Some old) mid new taken part g h;
+      gave = WereTaken-append (Some old) mid new taken part g h;
       is_first = sym (ap first_of l);
       is_second = sym (ap (λ (l : List (List ℕ)). first_of (after_first l)) l);
     }
@@ -118,14 +118,14 @@ two_taken (Some old) mid new taken ahead part line g h f (inl n) =
     same : (a b : List ℕ) → ◌≡◌ {A = Option (List ℕ)} (Some a) (Some b) → a ≡ b
     same a b e = cc
 two_taken (Some old) mid new taken ahead part line g h f (inr n) =
-    let m : Gives (Some g.0) new part = subst (λ (m : Option (List ℕ)). Gives m new part) g.2 h in
+    let m : WereTaken (Some g.0) new part = subst (λ (m : Option (List ℕ)). WereTaken m new part) g.2 h in
     let first = split_nil taken g.0 (sym g.1 ∙ n.0) in
     let second = split_nil part m.0 (sym m.1 ∙ first.1) in
     let none : (ahead ≡ []) × (g.0 ≡ []) = split_nil ahead g.0 (same (ahead ++ g.0) old (ap (coming ahead) (sym g.2) ∙ n.2) ∙ n.0) in
     let all : taken ++ part ≡ [] = ap (λ (l : List ℕ). l ++ part) first.0 ∙ second.0 in
     record {
       taken = taken ++ part;
-      gave = Gives-append (Some old) mid new taken part g h;
+      gave = WereTaken-append (Some old) mid new taken part g h;
       is_first = n.1 ∙ sym (ap first_line all);
       is_second = ap first_line (ap (λ (l : List ℕ). l ++ part) none.0 ∙ second.0) ∙ sym (ap second_line all);
     }
@@ -135,16 +135,16 @@ two_taken (Some old) mid new taken ahead part line g h f (inr n) =
 
 -- ---- what is kept of a line
 
-pub kept_line : (line held : List ℕ) → Some held ≡ kept line → (held ≡ line) × (¬ IsLong line)
+pub kept_line : (line held : List ℕ) → Some held ≡ kept line → (held ≡ line) × (¬ IsLongLine line)
 kept_line line held = by_length (nat_le (length line) 1048576) refl
   where
-    by_length : (b : Bool) → nat_le (length line) 1048576 ≡ b → Some held ≡ cond b (Some line) None → (held ≡ line) × (¬ IsLong line)
+    by_length : (b : Bool) → nat_le (length line) 1048576 ≡ b → Some held ≡ cond b (Some line) None → (held ≡ line) × (¬ IsLongLine line)
     by_length true e f = (cc, λ l. absurd (grind (arith, nat_tests)))
     by_length false e f = absurd (cc)
 
-pub kept_none : (line : List ℕ) → ◌≡◌ {A = Option (List ℕ)} None (kept line) → IsLong line
+pub kept_none : (line : List ℕ) → ◌≡◌ {A = Option (List ℕ)} None (kept line) → IsLongLine line
 kept_none line = by_length (nat_le (length line) 1048576) refl
   where
-    by_length : (b : Bool) → nat_le (length line) 1048576 ≡ b → ◌≡◌ {A = Option (List ℕ)} None (cond b (Some line) None) → IsLong line
+    by_length : (b : Bool) → nat_le (length line) 1048576 ≡ b → ◌≡◌ {A = Option (List ℕ)} None (cond b (Some line) None) → IsLongLine line
     by_length true e f = absurd (cc)
     by_length false e f = grind (arith, nat_tests)

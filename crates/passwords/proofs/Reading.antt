@@ -3,14 +3,14 @@ use Rattle.std.proofs.Common.{◌≡◌, ◌⊎◌, ◌^◌, ℕ, List, [], ◌+
 use Rattle.std.specs.Option.{option_copied, is_some}
 use Rattle.std.specs.declared.option.Option.{Option}
 use Rattle.std.specs.declared.option.Option.TheVariants.{None, Some}
-use Rattle.outside.specs.Streams.{Gives, Ends}
+use Rattle.outside.specs.Streams.{WereTaken, Ends}
 use Rattle.outside.specs.Causes.{RoseBy}
 use Rattle.line_io.specs.Lines.{first_line, kept}
 use Rattle.line_io.specs.Reading.{Reading, Line, TookLine, ShowsFirst, ShowsUnended, coming, fresh, total}
 use Rattle.line_io.specs.Streams.{Stream}
 use Rattle.line_io.proofs.Flow.{coming-nil}
 use Rattle.run_status.specs.declared.status.Status.TheVariants.{InputFault}
-use Rattle.passwords.specs.Passwords.{IsLong, IsNextPassword, PasswordRead, PasswordUnread}
+use Rattle.passwords.specs.Passwords.{IsLongLine, IsNextPassword, PasswordRead, PasswordUnread}
 use Rattle.passwords.proofs.Following.{kept_line, kept_none, split_nil, first_whole}
 
 -- the line that is held
@@ -23,13 +23,13 @@ held_none None line none e f h = sym e
 held_none (Some bytes) line none e f h = absurd (cc)
 
 -- the same line is the next one and the first in what was taken
-pub is_first : (line : Option (List ℕ)) (password bytes : List ℕ) → line ≡ Some password → line ≡ kept (first_line bytes) → (password ≡ first_line bytes) × (¬ IsLong password)
+pub is_first : (line : Option (List ℕ)) (password bytes : List ℕ) → line ≡ Some password → line ≡ kept (first_line bytes) → (password ≡ first_line bytes) × (¬ IsLongLine password)
 is_first line password bytes e f =
     let k = kept_line (first_line bytes) password (sym e ∙ f) in
-    (k.0, subst (λ (l : List ℕ). ¬ IsLong l) (sym k.0) k.1)
+    (k.0, subst (λ (l : List ℕ). ¬ IsLongLine l) (sym k.0) k.1)
 
 -- where nothing comes, the line is empty
-empty : (ahead later part password : List ℕ) (old new line : Option (List ℕ)) → Gives old new part → line ≡ Some password → line ≡ kept (first_line (ahead ++ part))
+empty : (ahead later part password : List ℕ) (old new line : Option (List ℕ)) → WereTaken old new part → line ≡ Some password → line ≡ kept (first_line (ahead ++ part))
     → Ends (coming ahead old) → Ends (coming later new) → IsNextPassword (coming ahead old) password (coming later new)
 empty ahead later part password None new line g e f before after = inl (ap (coming later) g)
 empty ahead later part password (Some old) new line g e f before after =
@@ -76,7 +76,7 @@ first_password start reader input found password s e shown took none over ended 
 
 -- of the first line so much was taken that it passes its limit
 pub first_long : (start : Reading) (old new shown : Option (List ℕ)) → start ≡ fresh → shown ≡ None → ShowsFirst start.ahead old new shown
-    → (taken : List ℕ) × Gives old new taken × IsLong (first_line taken)
+    → (taken : List ℕ) × WereTaken old new taken × IsLongLine (first_line taken)
 first_long start old new shown s e f =
     let first : ShowsFirst [] old new shown = subst (λ (l : List ℕ). ShowsFirst l old new shown) (ap (λ (r : Reading). r.ahead) s) f in
     (first.0, first.1, kept_none (first_line first.0) (sym e ∙ first.2))
@@ -95,6 +95,6 @@ first_unended start reader input password s e shown counted cause =
       first.0,
       first.1,
       first.2,
-      subst (λ (l : List ℕ). ¬ IsLong l) (sym (first_whole first.0 first.2)) short.1,
+      subst (λ (l : List ℕ). ¬ IsLongLine l) (sym (first_whole first.0 first.2)) short.1,
       failed input.faults input.risen reader.taken input.old input.new (counted ∙ ap (λ (r : Reading). total r.taken input.old) s) cause,
     )

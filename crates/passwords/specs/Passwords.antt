@@ -2,11 +2,11 @@
 use Rattle.std.specs.Prelude.{◌≡◌, ◌⊎◌, ◌<◌, ℕ, true, List, [], ◌∷◌, length}
 use Rattle.std.specs.declared.option.Option.{Option}
 use Rattle.std.specs.declared.option.Option.TheVariants.{Some}
-use Rattle.outside.specs.Streams.{Gives, Ends}
+use Rattle.outside.specs.Streams.{WereTaken, Ends}
 use Rattle.script_text.specs.declared.grammar.TheConstants.{MAX_LINE}
 use Rattle.line_io.specs.Lines.{lines, first_of, first_line, IsUnbroken}
 use Rattle.line_io.specs.Reading.{Reading, Line, coming, total}
-use Rattle.line_io.specs.Streams.{Stream, Failed, TookMost, Untouched}
+use Rattle.line_io.specs.Streams.{Stream, HasFailed, TookMost, Untouched}
 use Rattle.run_status.specs.declared.status.Status.{Status}
 use Rattle.run_status.specs.declared.status.Status.TheVariants.{LongPassword, InputFault, Memory}
 
@@ -20,8 +20,8 @@ abbrev pub second_line : List ℕ → List ℕ
 second_line bytes = first_of (after_first (lines bytes))
 
 -- a password line of more than 1,048,576 bytes
-abbrev pub IsLong : List ℕ → Type 0
-IsLong line = MAX_LINE < length line
+abbrev pub IsLongLine : List ℕ → Type 0
+IsLongLine line = MAX_LINE < length line
 
 -- the password is the next line of what comes, or no bytes where nothing comes, and this follows it
 abbrev pub IsNextPassword : Option (List ℕ) → List ℕ → Option (List ℕ) → Type 0
@@ -29,7 +29,7 @@ IsNextPassword before password after = Line before password after ⊎ (Ends befo
 
 -- Where the reader stands after password lines: these bytes were taken from the input without a fault, and the reader has counted them.
 pub record StandsAfter (input : Stream) (reader : Reading) (taken : List ℕ) : Type 0 where
-  pub took : Gives input.old input.new taken
+  pub took : WereTaken input.old input.new taken
   pub ended : reader.ended ≡ true → Ends (coming reader.ahead input.new)
   pub counted : total reader.taken input.new ≡ total 0 input.old
   pub quiet : input.risen ≡ input.faults
@@ -38,7 +38,7 @@ pub record StandsAfter (input : Stream) (reader : Reading) (taken : List ℕ) : 
 pub record PasswordRead (input : Stream) (reader : Reading) (taken password : List ℕ) : Type 0 where
   pub stands : StandsAfter input reader taken
   pub held : reader.line ≡ Some password
-  pub short : ¬ IsLong password
+  pub short : ¬ IsLongLine password
   pub is_first : password ≡ first_line taken
   pub is_next : IsNextPassword input.old password (coming reader.ahead input.new)
 
@@ -46,8 +46,8 @@ pub record PasswordRead (input : Stream) (reader : Reading) (taken password : Li
 pub record PasswordsRead (input : Stream) (reader : Reading) (taken old new : List ℕ) : Type 0 where
   pub stands : StandsAfter input reader taken
   pub held : reader.line ≡ Some new
-  pub old_short : ¬ IsLong old
-  pub new_short : ¬ IsLong new
+  pub old_short : ¬ IsLongLine old
+  pub new_short : ¬ IsLongLine new
   pub is_first : old ≡ first_line taken
   pub is_second : new ≡ second_line taken
   pub between : Option (List ℕ)
@@ -56,19 +56,19 @@ pub record PasswordsRead (input : Stream) (reader : Reading) (taken old new : Li
 
 -- the input failed, or 2^63 bytes were taken
 abbrev pub InputFailed : Stream → Type 0
-InputFailed input = Failed input ⊎ TookMost 0 input
+InputFailed input = HasFailed input ⊎ TookMost 0 input
 
 -- why no password was read: its line passes its limit in the bytes that were taken, or it doesn't and didn't end in them because the input failed, or
 -- memory was refused before anything was read
 abbrev pub PasswordUnread : Stream → Status → Type 0
-PasswordUnread input LongPassword = (taken : List ℕ) × Gives input.old input.new taken × IsLong (first_line taken)
-PasswordUnread input InputFault = (taken : List ℕ) × Gives input.old input.new taken × IsUnbroken taken × (¬ IsLong (first_line taken)) × InputFailed input
+PasswordUnread input LongPassword = (taken : List ℕ) × WereTaken input.old input.new taken × IsLongLine (first_line taken)
+PasswordUnread input InputFault = (taken : List ℕ) × WereTaken input.old input.new taken × IsUnbroken taken × (¬ IsLongLine (first_line taken)) × InputFailed input
 PasswordUnread input Memory = Untouched input
 PasswordUnread input status = ⊥
 
 -- the same of two password lines
 abbrev pub PasswordsUnread : Stream → Status → Type 0
-PasswordsUnread input LongPassword = (taken : List ℕ) × Gives input.old input.new taken × (IsLong (first_line taken) ⊎ IsLong (second_line taken))
-PasswordsUnread input InputFault = (taken : List ℕ) × Gives input.old input.new taken × (¬ IsLong (first_line taken)) × (¬ IsLong (second_line taken)) × InputFailed input
+PasswordsUnread input LongPassword = (taken : List ℕ) × WereTaken input.old input.new taken × (IsLongLine (first_line taken) ⊎ IsLongLine (second_line taken))
+PasswordsUnread input InputFault = (taken : List ℕ) × WereTaken input.old input.new taken × (¬ IsLongLine (first_line taken)) × (¬ IsLongLine (second_line taken)) × InputFailed input
 PasswordsUnread input Memory = Untouched input
 PasswordsUnread input status = ⊥

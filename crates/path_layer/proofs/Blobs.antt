@@ -16,18 +16,18 @@ use Rattle.fs_model.specs.Tree.{Path, Row, Tree, is_directory, FitsKind}
 use Rattle.fs_blobs.specs.declared.header.TheConstants.{HEADER_LEN}
 use Rattle.fs_blobs.specs.Headers.{blob}
 use Rattle.fs_blobs.specs.Blobs.{IsBlob}
-use Rattle.forest.specs.Nodes.{Look, Content, IsNode}
+use Rattle.forest.specs.Nodes.{Look, IsBodyOf, IsBlobOf}
 use Rattle.forest.specs.Shows.{above, entries_at, ShowsBy}
 use Rattle.path_walks.proofs.Nodes.{above_wide}
 use Rattle.path_walks.proofs.Edits.{content_fits}
 
-plain_is : (kind : Kind) (bytes : List ℕ) (look : Look) (body : List ℕ) → is_directory kind ≡ false → Content kind bytes look body → body ≡ bytes
+plain_is : (kind : Kind) (bytes : List ℕ) (look : Look) (body : List ℕ) → is_directory kind ≡ false → IsBodyOf kind bytes look body → body ≡ bytes
 plain_is Directory bytes look body e c = let bad : true ≡ false = e in cc
 plain_is File bytes look body e c = c
 plain_is Link bytes look body e c = c
 
 module _ {m : BlobMap} {root : Id} {t : Tree} {ids : Path → Id} (shows : ShowsBy m root t ids) (p : Path) (row : Row) (there : get t p ≡ Some row) where
-  pub node : IsNode m (ids p) row.attr.kind (above ids p) row.bytes (entries_at t ids p)
+  pub node : IsBlobOf m (ids p) row.attr.kind (above ids p) row.bytes (entries_at t ids p)
   node = shows.forest.nodes p row there
 
   pub node_fits : HEADER_LEN + length node.body ≤ MAX_BLOB

@@ -21,7 +21,7 @@ use Rattle.tree_rules.specs.declared.attributes.AttrChange.{AttrChange}
 use Rattle.tree_rules.specs.declared.attributes.AttrChange.TheVariants.{Mode, Owner, Times}
 use Rattle.tree_rules.specs.Changes.{changed_by}
 use Rattle.path_layer.specs.Attributes.{ChangeFits}
-use Rattle.path_layer.specs.Places.{Finding, Folder}
+use Rattle.path_layer.specs.Places.{Finding, DirectoryAt}
 use Rattle.path_layer.proofs.Told.{shown_done}
 
 pub kind_kept : (c : AttrChange) (now : Instant) (a : Attr) → a.kind ≡ (changed_by c now a).kind
@@ -48,7 +48,7 @@ module _ {S : Type 0} {H : BlobHoldings S} {a : S} {root : Id} {dir : Place} {n 
   pub is_folder_by : (b : Bool) → is_directory place.attr.kind ≡ b → is_directory w.is.here.row.attr.kind ≡ b
   is_folder_by b e = ap (λ (x : Attr). is_directory x.kind) w.is.here.attr ∙ e
 
-  abbrev pub folder : place.attr.kind ≡ Directory → Folder H a place
+  abbrev pub folder : place.attr.kind ≡ Directory → DirectoryAt H a place
   folder kind = record { map = w.map; stands = w.stands; root = root; tree = w.tree; ids = w.ids; shows = w.shows; path = q; at = w.is.here; folder = kind }
 
   pub without : ((m : List ℕ) → get w.tree (m ∷ q) ≡ None) → IsWellFormed (remove w.tree q)

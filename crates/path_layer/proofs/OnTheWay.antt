@@ -6,12 +6,12 @@ use Rattle.fs_model.specs.declared.attr.Attr.{Attr}
 use Rattle.fs_model.specs.Instant.{Instant}
 use Rattle.fs_model.specs.Tree.{Path, Tree, upward, is_directory, is_root, same_path}
 use Rattle.fs_model.specs.Move.{is_above}
-use Rattle.fs_model.specs.LookUp.{Seen, Found, look}
+use Rattle.fs_model.specs.LookUp.{LookedUp, Found, look}
 use Rattle.fs_model.specs.Step.{Stepped, moved_to, moved_onto, moved_tree, moved_unless_large}
 use Rattle.fs_model.proofs.LookUpLemmas.{look-found}
 use Rattle.fs_model.proofs.WellFormedStep.{can_move_free, can_move_found}
 use Rattle.forest.specs.Shows.{ShowsBy}
-use Rattle.forest.specs.Showing.{Showing}
+use Rattle.forest.specs.Showing.{BlobsShow}
 use Rattle.tree_rules.proofs.PathLemmas.{not_root}
 use Rattle.path_walks.specs.declared.spots.Place.{Place}
 use Rattle.path_walks.specs.Sights.{IsFound, IsVacant}
@@ -38,7 +38,7 @@ module _ {S : Type 0} {H : BlobHoldings S} {a : S} {root : Id} {dir : Place} {n 
   abbrev pub p : Path
   p = n ∷ w.path
 
-  abbrev pub showing : Showing H a root
+  abbrev pub showing : BlobsShow H a root
   showing = record { map = w.map; stands = w.stands; tree = w.tree; ids = w.ids; shows = w.shows }
 
   pub look_here : look w.tree p ≡ Found w.is.here.row
@@ -55,7 +55,7 @@ module _ {S : Type 0} {H : BlobHoldings S} {a : S} {root : Id} {dir : Place} {n 
     same_by b e = ap (same_path p) (sym split) ∙ (w.same_is ∙ e)
 
     -- the step, by what stands at the other path
-    pub going : (now : Instant) (s : Seen) → look w.tree (k ∷ d) ≡ s → moved_to w.tree now p q w.is.here.row (look w.tree q) ≡ moved_to w.tree now p (k ∷ d) w.is.here.row s
+    pub going : (now : Instant) (s : LookedUp) → look w.tree (k ∷ d) ≡ s → moved_to w.tree now p q w.is.here.row (look w.tree q) ≡ moved_to w.tree now p (k ∷ d) w.is.here.row s
     going now s h = on_path w.tree (λ z x. moved_to w.tree now p z w.is.here.row x) q (k ∷ d) s split h
 
     abbrev pub standing : (b : S) → H.stands_for b w.map → (to old : Place) → IsFound w.tree w.ids d k to old → Standing H b old

@@ -7,11 +7,11 @@ use Rattle.fs_model.specs.declared.attr.Kind.TheVariants.{Directory}
 use Rattle.fs_model.specs.declared.error.FsError.{FsError}
 use Rattle.fs_model.specs.declared.error.FsError.TheVariants.{NoEntry}
 use Rattle.fs_model.specs.Tree.{Path, Row, Tree, IsRooted, IsWithinLimits, is_directory}
-use Rattle.fs_model.specs.LookUp.{Seen, Found, Free, Bad, look, walk, goes_on}
+use Rattle.fs_model.specs.LookUp.{LookedUp, Found, Free, Bad, look, walk, goes_on}
 use Rattle.fs_model.specs.Step.{Stepped, refused}
 use Rattle.fs_model.proofs.LookUpLemmas.{look-walk, look-found, get-found}
 use Rattle.forest.specs.Shows.{ShowsBy}
-use Rattle.forest.specs.Showing.{Showing}
+use Rattle.forest.specs.Showing.{BlobsShow}
 use Rattle.path_walks.specs.declared.spots.Place.{Place}
 use Rattle.path_walks.specs.declared.spots.Spot.{Spot}
 use Rattle.path_walks.specs.declared.spots.Spot.TheVariants.{Here}
@@ -29,13 +29,13 @@ bad_same : (x y : FsError) → Bad x ≡ Bad y → x ≡ y
 bad_same x y h = cc
 
 -- where nothing stands, each step that refuses what isn't found answers the walk's error
-pub wrong_steps : (t : Tree) → IsRooted t → (p : Path) (e : FsError) → IsWrong t p e → (f : Seen → Stepped) → f Free ≡ refused t NoEntry → ((x : FsError) → f (Bad x) ≡ refused t x) → f (look t p) ≡ refused t e
+pub wrong_steps : (t : Tree) → IsRooted t → (p : Path) (e : FsError) → IsWrong t p e → (f : LookedUp → Stepped) → f Free ≡ refused t NoEntry → ((x : FsError) → f (Bad x) ≡ refused t x) → f (look t p) ≡ refused t e
 wrong_steps t rooted p e wrong f free bad = seen (look t p) refl
   where
-    below_is : (s : Seen) → look t p ≡ s → goes_on s (get t ([] ∷ p)) ≡ Bad e
+    below_is : (s : LookedUp) → look t p ≡ s → goes_on s (get t ([] ∷ p)) ≡ Bad e
     below_is s h = ap (λ z. goes_on z (get t ([] ∷ p))) (sym h ∙ look-walk t rooted p) ∙ wrong.below []
 
-    seen : (s : Seen) → look t p ≡ s → f s ≡ refused t e
+    seen : (s : LookedUp) → look t p ≡ s → f s ≡ refused t e
     seen (Found row) h = absurd (none-some row (sym wrong.none ∙ get-found t p row h))
     seen Free h = free ∙ ap (refused t) (bad_same NoEntry e (below_is Free h))
     seen (Bad x) h = bad x ∙ ap (refused t) (bad_same x e (below_is (Bad x) h))
@@ -43,7 +43,7 @@ wrong_steps t rooted p e wrong f free bad = seen (look t p) refl
 abbrev pub here : (t : Tree) (ids : Path → Id) (p : Path) (spot : Spot) → SpotIs t ids p spot → (place : Place) → spot ≡ Here place → IsAt t ids p place
 here t ids p spot h place is = subst (SpotIs t ids p) is h
 
-module _ {S : Type 0} {H : BlobHoldings S} {a : S} {root : Id} (w : Showing H a root) (b : S) (stands : H.stands_for b w.map) where
+module _ {S : Type 0} {H : BlobHoldings S} {a : S} {root : Id} (w : BlobsShow H a root) (b : S) (stands : H.stands_for b w.map) where
   abbrev pub standing : (p : Path) (place : Place) → IsAt w.tree w.ids p place → Standing H b place
   standing p place at = record { map = w.map; stands = stands; root = root; tree = w.tree; ids = w.ids; shows = w.shows; path = p; at = at }
 
@@ -82,5 +82,5 @@ abbrev pub making : {S : Type 0} {H : BlobHoldings S} {b : S} {row : Row} (m : B
 making m stands root t ids shows p dir is limits = record { map = m; stands = stands; root = root; tree = t; ids = ids; shows = shows; path = p; place = dir; is = is; id = refl; limits = limits }
 
 -- a step at a path, by the parts of the path and what stands there
-pub on_path : (t : Tree) (f : Path → Seen → Stepped) (p q : Path) (s : Seen) → p ≡ q → look t q ≡ s → f p (look t p) ≡ f q s
+pub on_path : (t : Tree) (f : Path → LookedUp → Stepped) (p q : Path) (s : LookedUp) → p ≡ q → look t q ≡ s → f p (look t p) ≡ f q s
 on_path t f p q s e h = ap (λ z. f z (look t z)) e ∙ ap (f q) h

@@ -6,14 +6,14 @@ use Rattle.fs_model.specs.Tree.{Path, Tree}
 use Rattle.fs_model.specs.declared.reply.Reply.TheVariants.{Done}
 use Rattle.fs_model.specs.Step.{Stepped, answered, done}
 use Rattle.forest.specs.Shows.{ShowsBy}
-use Rattle.forest.specs.Showing.{Showing, IsShownBy, PerformedBy, Performed}
+use Rattle.forest.specs.Showing.{BlobsShow, IsShownBy, PerformedBy, Performed}
 
 -- the tree stays, and this is the reply
 pub stays : {S : Type 0} {H : BlobHoldings S} {root : Id} (m : BlobMap) (t : Tree) (ids : Path → Id) → ShowsBy m root t ids → (b : S) → H.stands_for b m → (s : Stepped) (r : Reply) → s ≡ answered t r → Performed H b root s r
 stays {H = H} {root = root} m t ids shows b stands s r e = subst (λ z. Performed H b root z r) (sym e) (record { told = refl; map = m; stands = stands; ids = ids; shows = shows })
 
 -- the same, said of the reply and the tree apart
-pub looked : {S : Type 0} {H : BlobHoldings S} {a : S} {root : Id} (w : Showing H a root) (b : S) → H.stands_for b w.map → (s : Stepped) (r : Reply) → r ≡ s.reply → s.tree ≡ w.tree → Performed H b root s r
+pub looked : {S : Type 0} {H : BlobHoldings S} {a : S} {root : Id} (w : BlobsShow H a root) (b : S) → H.stands_for b w.map → (s : Stepped) (r : Reply) → r ≡ s.reply → s.tree ≡ w.tree → Performed H b root s r
 looked {root = root} w b stands s r told tree = record { told = told; map = w.map; stands = stands; ids = w.ids; shows = subst (λ t. ShowsBy w.map root t w.ids) (sym tree) w.shows }
 
 -- a step under another name

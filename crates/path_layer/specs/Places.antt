@@ -31,7 +31,7 @@ pub record Holding {S : Type 0} (H : BlobHoldings S) (a : S) (place : Place) : T
   pub plain : is_directory place.attr.kind ≡ false
 
 -- a directory stands there
-pub record Folder {S : Type 0} (H : BlobHoldings S) (a : S) (place : Place) : Type 0 where
+pub record DirectoryAt {S : Type 0} (H : BlobHoldings S) (a : S) (place : Place) : Type 0 where
   pub map : BlobMap
   pub stands : H.stands_for a map
   pub root : Id

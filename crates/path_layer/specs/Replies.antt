@@ -3,7 +3,7 @@ use Rattle.fs_model.specs.declared.command.Command.{Command}
 use Rattle.fs_model.specs.declared.command.Command.TheVariants as command
 use Rattle.fs_model.specs.declared.reply.Reply.{Reply}
 use Rattle.fs_model.specs.declared.reply.Reply.TheVariants.{Done, Rows, Info, Target, Content, Error}
-use Rattle.path_walks.specs.Changes.{IsDone}
+use Rattle.path_walks.specs.Changes.{IsChangeReply}
 
 -- rows, or an error of the language
 abbrev pub IsRows : Reply → Type 0
@@ -14,13 +14,13 @@ IsRows (Info attr size) = ⊥
 IsRows (Target target) = ⊥
 IsRows (Content bytes) = ⊥
 
-abbrev pub IsInfo : Reply → Type 0
-IsInfo (Info attr size) = Unit {0}
-IsInfo (Error e) = Unit {0}
-IsInfo Done = ⊥
-IsInfo (Rows rows) = ⊥
-IsInfo (Target target) = ⊥
-IsInfo (Content bytes) = ⊥
+abbrev pub IsStatReply : Reply → Type 0
+IsStatReply (Info attr size) = Unit {0}
+IsStatReply (Error e) = Unit {0}
+IsStatReply Done = ⊥
+IsStatReply (Rows rows) = ⊥
+IsStatReply (Target target) = ⊥
+IsStatReply (Content bytes) = ⊥
 
 abbrev pub IsTarget : Reply → Type 0
 IsTarget (Target target) = Unit {0}
@@ -41,7 +41,7 @@ IsContent (Target target) = ⊥
 -- a reply that is no error has the form that its command asks for
 abbrev pub IsReplyOf : Command → Reply → Type 0
 IsReplyOf (command.List p) reply = IsRows reply
-IsReplyOf (command.Stat p) reply = IsInfo reply
+IsReplyOf (command.Stat p) reply = IsStatReply reply
 IsReplyOf (command.Readlink p) reply = IsTarget reply
 IsReplyOf (command.Read p from count) reply = IsContent reply
-IsReplyOf _ reply = IsDone reply
+IsReplyOf _ reply = IsChangeReply reply

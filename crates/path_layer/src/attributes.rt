@@ -4,9 +4,9 @@ ghost use Rattle.outcome.specs.Outcome.{Outcome};
 ghost use Rattle.fs_model.specs.Tree.{upward};
 ghost use Rattle.fs_model.specs.LookUp.{Found, look};
 ghost use Rattle.fs_model.specs.Step.{unless_root, attributes_set};
-ghost use Rattle.forest.specs.Showing.{Showing, Performed};
+ghost use Rattle.forest.specs.Showing.{BlobsShow, Performed};
 ghost use Rattle.tree_rules.specs.Changes.{changed_by};
-ghost use Rattle.path_walks.specs.Changes.{IsDone};
+ghost use Rattle.path_walks.specs.Changes.{IsChangeReply};
 ghost use Rattle.path_layer.specs.Attributes.{ChangeFits};
 ghost use Rattle.path_layer.specs.Places.{Finding};
 
@@ -32,9 +32,9 @@ pub fn set_attributes<B: Blobs, R: Rng>(
 ) -> Result<Reply, Fail>
     requires intact { B.meanings.intact b.old }
     requires fits { ChangeFits change }
-    ensures outcome { Outcome B.meanings (Showing B.holdings b.old root.now.0) b.old b.new result
+    ensures outcome { Outcome B.meanings (BlobsShow B.holdings b.old root.now.0) b.old b.new result
         (λ n r. Performed B.holdings b.new root.now.0 (unless_root n.tree (upward names.now) (attributes_set n.tree (upward names.now) (changed_by change now) (look n.tree (upward names.now)))) r) }
-    ensures variant { IfOk result IsDone }
+    ensures variant { IfOk result IsChangeReply }
 {
     match split_last(names) {
         None => Ok(Reply::Error(FsError::Busy)),
@@ -65,7 +65,7 @@ fn set_found<B: Blobs, R: Rng>(
     requires mode { place.now.attr.mode ≤ MAX_MODE }
     ensures outcome { Outcome B.meanings (Finding B.holdings b.old root.now.0 dir.now name.now place.now) b.old b.new result
         (λ n r. Performed B.holdings b.new root.now.0 (attributes_set n.tree (name.now ∷ n.path) (changed_by change now) (Found n.is.here.row)) r) }
-    ensures variant { IfOk result IsDone }
+    ensures variant { IfOk result IsChangeReply }
 {
     let entry = Entry {
         name: name.try_clone()?,

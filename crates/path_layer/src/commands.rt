@@ -4,7 +4,7 @@ ghost use Rattle.outcome.specs.Outcome.{Outcome};
 ghost use Rattle.fs_model.specs.Fitting.{IsFitting};
 ghost use Rattle.fs_model.specs.Laws.{OnlyLooks};
 ghost use Rattle.fs_model.specs.Step.{step};
-ghost use Rattle.forest.specs.Showing.{Showing, Performed};
+ghost use Rattle.forest.specs.Showing.{BlobsShow, Performed};
 ghost use Rattle.path_layer.specs.Replies.{IsReplyOf};
 ghost use Rattle.path_layer.specs.Sparing.{IsSparingIn};
 
@@ -32,10 +32,10 @@ pub fn perform<B: Blobs, R: Rng>(
 ) -> Result<Reply, Fail>
     requires intact { B.meanings.intact b.old }
     requires fits { IsFitting command.now }
-    ensures outcome { Outcome B.meanings (Showing B.holdings b.old root.now.0) b.old b.new result
+    ensures outcome { Outcome B.meanings (BlobsShow B.holdings b.old root.now.0) b.old b.new result
         (λ n r. Performed B.holdings b.new root.now.0 (step n.tree now command.now) r) }
     // Whatever it answers.
-    ensures sparing { (n : Showing B.holdings b.old root.now.0) → B.meanings.sound b.old → B.meanings.forgeries b.new ≤ B.meanings.forgeries b.old
+    ensures sparing { (n : BlobsShow B.holdings b.old root.now.0) → B.meanings.sound b.old → B.meanings.forgeries b.new ≤ B.meanings.forgeries b.old
         → IsSparingIn B.holdings b.old b.new n.tree command.now }
     // Whatever the blobs show.
     ensures variant { IfOk result (IsReplyOf command.now) }

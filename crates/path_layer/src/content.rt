@@ -4,8 +4,8 @@ ghost use Rattle.outcome.specs.Outcome.{Outcome};
 ghost use Rattle.fs_model.specs.Tree.{upward, directory_size};
 ghost use Rattle.fs_model.specs.LookUp.{Found, look};
 ghost use Rattle.fs_model.specs.Step.{written, truncated};
-ghost use Rattle.forest.specs.Showing.{Showing, Performed};
-ghost use Rattle.path_walks.specs.Changes.{IsDone, IsSparingTwice};
+ghost use Rattle.forest.specs.Showing.{BlobsShow, Performed};
+ghost use Rattle.path_walks.specs.Changes.{IsChangeReply, IsSparingTwice};
 ghost use Rattle.path_layer.specs.Places.{Finding};
 ghost use Rattle.path_layer.specs.Sparing.{IsSparingAt};
 
@@ -32,11 +32,11 @@ pub fn write<B: Blobs, R: Rng>(
     chance: &mut R,
 ) -> Result<Reply, Fail>
     requires { B.meanings.intact b.old }
-    ensures outcome { Outcome B.meanings (Showing B.holdings b.old root.now.0) b.old b.new result
+    ensures outcome { Outcome B.meanings (BlobsShow B.holdings b.old root.now.0) b.old b.new result
         (λ n r. Performed B.holdings b.new root.now.0 (written n.tree now (upward names.now) from bytes.now (look n.tree (upward names.now))) r) }
-    ensures sparing { (n : Showing B.holdings b.old root.now.0) → B.meanings.sound b.old → B.meanings.forgeries b.new ≤ B.meanings.forgeries b.old
+    ensures sparing { (n : BlobsShow B.holdings b.old root.now.0) → B.meanings.sound b.old → B.meanings.forgeries b.new ≤ B.meanings.forgeries b.old
         → IsSparingAt B.holdings b.old b.new n.tree (upward names.now) from (length bytes.now) }
-    ensures variant { IfOk result IsDone }
+    ensures variant { IfOk result IsChangeReply }
 {
     match split_last(names) {
         None => Ok(Reply::Error(FsError::IsDirectory)),
@@ -69,7 +69,7 @@ fn write_found<B: Blobs, R: Rng>(
         (λ n r. Performed B.holdings b.new root.now.0 (written n.tree now (name.now ∷ n.path) from bytes.now (Found n.is.here.row)) r) }
     ensures sparing { (n : Finding B.holdings b.old root.now.0 dir.now name.now place.now) → B.meanings.sound b.old → B.meanings.forgeries b.new ≤ B.meanings.forgeries b.old
         → IsSparingTwice B.holdings b.old b.new (length n.is.here.row.bytes) (directory_size n.tree n.path) from (length bytes.now) }
-    ensures variant { IfOk result IsDone }
+    ensures variant { IfOk result IsChangeReply }
 {
     match place.attr.kind {
         Kind::Directory => return Ok(Reply::Error(FsError::IsDirectory)),
@@ -100,9 +100,9 @@ pub fn truncate<B: Blobs, R: Rng>(
     chance: &mut R,
 ) -> Result<Reply, Fail>
     requires { B.meanings.intact b.old }
-    ensures outcome { Outcome B.meanings (Showing B.holdings b.old root.now.0) b.old b.new result
+    ensures outcome { Outcome B.meanings (BlobsShow B.holdings b.old root.now.0) b.old b.new result
         (λ n r. Performed B.holdings b.new root.now.0 (truncated n.tree now (upward names.now) len (look n.tree (upward names.now))) r) }
-    ensures variant { IfOk result IsDone }
+    ensures variant { IfOk result IsChangeReply }
 {
     match split_last(names) {
         None => Ok(Reply::Error(FsError::IsDirectory)),
@@ -132,7 +132,7 @@ fn truncate_found<B: Blobs, R: Rng>(
     requires mode { place.now.attr.mode ≤ MAX_MODE }
     ensures outcome { Outcome B.meanings (Finding B.holdings b.old root.now.0 dir.now name.now place.now) b.old b.new result
         (λ n r. Performed B.holdings b.new root.now.0 (truncated n.tree now (name.now ∷ n.path) len (Found n.is.here.row)) r) }
-    ensures variant { IfOk result IsDone }
+    ensures variant { IfOk result IsChangeReply }
 {
     match place.attr.kind {
         Kind::Directory => return Ok(Reply::Error(FsError::IsDirectory)),

@@ -6,8 +6,8 @@ ghost use Rattle.fs_model.specs.Fitting.{is_target};
 ghost use Rattle.fs_model.specs.Tree.{upward, IsWithinLimits};
 ghost use Rattle.fs_model.specs.LookUp.{look};
 ghost use Rattle.fs_model.specs.Step.{made, new_row};
-ghost use Rattle.forest.specs.Showing.{Showing, Performed};
-ghost use Rattle.path_walks.specs.Changes.{IsDone};
+ghost use Rattle.forest.specs.Showing.{BlobsShow, Performed};
+ghost use Rattle.path_walks.specs.Changes.{IsChangeReply};
 
 use crate::names::split_last;
 use blob_api::Blobs;
@@ -30,9 +30,9 @@ pub fn make_directory<B: Blobs, R: Rng>(
     chance: &mut R,
 ) -> Result<Reply, Fail>
     requires { B.meanings.intact b.old }
-    ensures outcome { Outcome B.meanings (Showing B.holdings b.old root.now.0) b.old b.new result
+    ensures outcome { Outcome B.meanings (BlobsShow B.holdings b.old root.now.0) b.old b.new result
         (λ n r. Performed B.holdings b.new root.now.0 (made n.tree (upward names.now) (new_row Directory DIRECTORY_MODE now []) (look n.tree (upward names.now))) r) }
-    ensures variant { IfOk result IsDone }
+    ensures variant { IfOk result IsChangeReply }
 {
     let attr = new_attr(Kind::Directory, DIRECTORY_MODE, now);
     make(alloc, b, root, names, attr, &[], chance)
@@ -48,9 +48,9 @@ pub fn make_file<B: Blobs, R: Rng>(
     chance: &mut R,
 ) -> Result<Reply, Fail>
     requires { B.meanings.intact b.old }
-    ensures outcome { Outcome B.meanings (Showing B.holdings b.old root.now.0) b.old b.new result
+    ensures outcome { Outcome B.meanings (BlobsShow B.holdings b.old root.now.0) b.old b.new result
         (λ n r. Performed B.holdings b.new root.now.0 (made n.tree (upward names.now) (new_row File FILE_MODE now []) (look n.tree (upward names.now))) r) }
-    ensures variant { IfOk result IsDone }
+    ensures variant { IfOk result IsChangeReply }
 {
     let attr = new_attr(Kind::File, FILE_MODE, now);
     make(alloc, b, root, names, attr, &[], chance)
@@ -68,9 +68,9 @@ pub fn make_link<B: Blobs, R: Rng>(
 ) -> Result<Reply, Fail>
     requires intact { B.meanings.intact b.old }
     requires target { IsTrue (is_target target.now) }
-    ensures outcome { Outcome B.meanings (Showing B.holdings b.old root.now.0) b.old b.new result
+    ensures outcome { Outcome B.meanings (BlobsShow B.holdings b.old root.now.0) b.old b.new result
         (λ n r. Performed B.holdings b.new root.now.0 (made n.tree (upward names.now) (new_row Link LINK_MODE now target.now) (look n.tree (upward names.now))) r) }
-    ensures variant { IfOk result IsDone }
+    ensures variant { IfOk result IsChangeReply }
 {
     let attr = new_attr(Kind::Link, LINK_MODE, now);
     make(alloc, b, root, names, attr, target, chance)
@@ -89,9 +89,9 @@ fn make<B: Blobs, R: Rng>(
     requires intact { B.meanings.intact b.old }
     requires limits { IsWithinLimits (record { attr = attr; bytes = bytes.now }) }
     requires short { length bytes.now ≤ MAX_TARGET }
-    ensures outcome { Outcome B.meanings (Showing B.holdings b.old root.now.0) b.old b.new result
+    ensures outcome { Outcome B.meanings (BlobsShow B.holdings b.old root.now.0) b.old b.new result
         (λ n r. Performed B.holdings b.new root.now.0 (made n.tree (upward names.now) (record { attr = attr; bytes = bytes.now }) (look n.tree (upward names.now))) r) }
-    ensures variant { IfOk result IsDone }
+    ensures variant { IfOk result IsChangeReply }
 {
     match split_last(names) {
         None => Ok(Reply::Error(FsError::Exists)),

@@ -4,8 +4,8 @@ ghost use Rattle.outcome.specs.Outcome.{Outcome};
 ghost use Rattle.fs_model.specs.Tree.{upward, is_directory as model_is_directory};
 ghost use Rattle.fs_model.specs.LookUp.{look};
 ghost use Rattle.fs_model.specs.Step.{unless_root, moved_from, moved_to};
-ghost use Rattle.forest.specs.Showing.{Showing, Performed};
-ghost use Rattle.path_walks.specs.Changes.{IsDone};
+ghost use Rattle.forest.specs.Showing.{BlobsShow, Performed};
+ghost use Rattle.path_walks.specs.Changes.{IsChangeReply};
 ghost use Rattle.path_layer.specs.Places.{Standing};
 ghost use Rattle.path_layer.specs.Moves.{Onward, RefusesOnto};
 
@@ -30,9 +30,9 @@ pub fn move_row<B: Blobs, R: Rng>(
     chance: &mut R,
 ) -> Result<Reply, Fail>
     requires { B.meanings.intact b.old }
-    ensures outcome { Outcome B.meanings (Showing B.holdings b.old root.now.0) b.old b.new result
+    ensures outcome { Outcome B.meanings (BlobsShow B.holdings b.old root.now.0) b.old b.new result
         (λ n r. Performed B.holdings b.new root.now.0 (unless_root n.tree (upward from.now) (unless_root n.tree (upward to.now) (moved_from n.tree now (upward from.now) (upward to.now) (look n.tree (upward from.now))))) r) }
-    ensures variant { IfOk result IsDone }
+    ensures variant { IfOk result IsChangeReply }
 {
     if to.is_empty() {
         return Ok(Reply::Error(FsError::Busy));
@@ -70,7 +70,7 @@ fn move_found<B: Blobs, R: Rng>(
     requires mode { place.attr.mode ≤ MAX_MODE }
     ensures outcome { Outcome B.meanings (Onward B.holdings b.old root.now.0 dir name.now place (upward to_names.now) same) b.old b.new result
         (λ n r. Performed B.holdings b.new root.now.0 (moved_to n.tree now (name.now ∷ n.path) (upward to_names.now) n.is.here.row (look n.tree (upward to_names.now))) r) }
-    ensures variant { IfOk result IsDone }
+    ensures variant { IfOk result IsChangeReply }
 {
     match split_last(to_names) {
         None => Ok(Reply::Error(FsError::Busy)),

@@ -3,7 +3,7 @@ ghost use Rattle.std.specs.Prelude.{◌≡◌, length, take, drop};
 ghost use Rattle.outcome.specs.Outcome.{Outcome};
 ghost use Rattle.fs_model.specs.Step.{has_child as model_has_child};
 ghost use Rattle.fs_model.specs.Tree.{is_directory as model_is_directory};
-ghost use Rattle.path_layer.specs.Places.{Standing, Holding, Folder};
+ghost use Rattle.path_layer.specs.Places.{Standing, Holding, DirectoryAt};
 
 use blob_api::Blobs;
 use block_id::Fail;
@@ -45,7 +45,7 @@ pub fn bytes_at<B: Blobs>(
 /// Whether something stands below a directory.
 pub fn has_child<B: Blobs>(alloc: Global, b: &mut B, place: &Place) -> Result<bool, Fail>
     requires { B.meanings.intact b.old }
-    ensures outcome { Outcome B.meanings (Folder B.holdings b.old place.now) b.old b.new result
+    ensures outcome { Outcome B.meanings (DirectoryAt B.holdings b.old place.now) b.old b.new result
         (λ n answer. B.holdings.stands_for b.new n.map × (answer ≡ model_has_child n.tree n.path)) }
     ensures unchanged { B.holdings.changed b.new ≡ B.holdings.changed b.old }
 {

@@ -4,8 +4,8 @@ ghost use Rattle.outcome.specs.Outcome.{Outcome};
 ghost use Rattle.fs_model.specs.Tree.{upward};
 ghost use Rattle.fs_model.specs.LookUp.{look};
 ghost use Rattle.fs_model.specs.Step.{listed, told, target_read, content_read};
-ghost use Rattle.forest.specs.Showing.{Showing, Performed};
-ghost use Rattle.path_layer.specs.Replies.{IsRows, IsInfo, IsTarget, IsContent};
+ghost use Rattle.forest.specs.Showing.{BlobsShow, Performed};
+ghost use Rattle.path_layer.specs.Replies.{IsRows, IsStatReply, IsTarget, IsContent};
 
 use crate::places::{bytes_at, size_at};
 use blob_api::Blobs;
@@ -22,7 +22,7 @@ pub fn list<B: Blobs>(
     names: &[Name],
 ) -> Result<Reply, Fail>
     requires { B.meanings.intact b.old }
-    ensures outcome { Outcome B.meanings (Showing B.holdings b.old root.now.0) b.old b.new result
+    ensures outcome { Outcome B.meanings (BlobsShow B.holdings b.old root.now.0) b.old b.new result
         (λ n r. Performed B.holdings b.new root.now.0 (listed n.tree (upward names.now) (look n.tree (upward names.now))) r) }
     ensures variant { IfOk result IsRows }
     ensures unchanged { B.holdings.changed b.new ≡ B.holdings.changed b.old }
@@ -45,9 +45,9 @@ pub fn stat<B: Blobs>(
     names: &[Name],
 ) -> Result<Reply, Fail>
     requires { B.meanings.intact b.old }
-    ensures outcome { Outcome B.meanings (Showing B.holdings b.old root.now.0) b.old b.new result
+    ensures outcome { Outcome B.meanings (BlobsShow B.holdings b.old root.now.0) b.old b.new result
         (λ n r. Performed B.holdings b.new root.now.0 (told n.tree (look n.tree (upward names.now))) r) }
-    ensures variant { IfOk result IsInfo }
+    ensures variant { IfOk result IsStatReply }
     ensures unchanged { B.holdings.changed b.new ≡ B.holdings.changed b.old }
 {
     match walk(alloc, b, root, names)? {
@@ -67,7 +67,7 @@ pub fn read_link<B: Blobs>(
     names: &[Name],
 ) -> Result<Reply, Fail>
     requires { B.meanings.intact b.old }
-    ensures outcome { Outcome B.meanings (Showing B.holdings b.old root.now.0) b.old b.new result
+    ensures outcome { Outcome B.meanings (BlobsShow B.holdings b.old root.now.0) b.old b.new result
         (λ n r. Performed B.holdings b.new root.now.0 (target_read n.tree (look n.tree (upward names.now))) r) }
     ensures variant { IfOk result IsTarget }
     ensures unchanged { B.holdings.changed b.new ≡ B.holdings.changed b.old }
@@ -95,7 +95,7 @@ pub fn read<B: Blobs>(
     count: u64,
 ) -> Result<Reply, Fail>
     requires { B.meanings.intact b.old }
-    ensures outcome { Outcome B.meanings (Showing B.holdings b.old root.now.0) b.old b.new result
+    ensures outcome { Outcome B.meanings (BlobsShow B.holdings b.old root.now.0) b.old b.new result
         (λ n r. Performed B.holdings b.new root.now.0 (content_read n.tree from count (look n.tree (upward names.now))) r) }
     ensures variant { IfOk result IsContent }
     ensures unchanged { B.holdings.changed b.new ≡ B.holdings.changed b.old }

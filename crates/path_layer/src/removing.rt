@@ -4,8 +4,8 @@ ghost use Rattle.outcome.specs.Outcome.{Outcome};
 ghost use Rattle.fs_model.specs.Tree.{upward};
 ghost use Rattle.fs_model.specs.LookUp.{Found, look};
 ghost use Rattle.fs_model.specs.Step.{unless_root, removed_directory, removed_file};
-ghost use Rattle.forest.specs.Showing.{Showing, Performed};
-ghost use Rattle.path_walks.specs.Changes.{IsDone};
+ghost use Rattle.forest.specs.Showing.{BlobsShow, Performed};
+ghost use Rattle.path_walks.specs.Changes.{IsChangeReply};
 ghost use Rattle.path_layer.specs.Places.{Finding};
 
 use crate::names::split_last;
@@ -26,9 +26,9 @@ pub fn remove_directory<B: Blobs, R: Rng>(
     chance: &mut R,
 ) -> Result<Reply, Fail>
     requires { B.meanings.intact b.old }
-    ensures outcome { Outcome B.meanings (Showing B.holdings b.old root.now.0) b.old b.new result
+    ensures outcome { Outcome B.meanings (BlobsShow B.holdings b.old root.now.0) b.old b.new result
         (λ n r. Performed B.holdings b.new root.now.0 (unless_root n.tree (upward names.now) (removed_directory n.tree (upward names.now) (look n.tree (upward names.now)))) r) }
-    ensures variant { IfOk result IsDone }
+    ensures variant { IfOk result IsChangeReply }
 {
     match split_last(names) {
         None => Ok(Reply::Error(FsError::Busy)),
@@ -53,7 +53,7 @@ fn drop_directory<B: Blobs, R: Rng>(
     requires { B.meanings.intact b.old }
     ensures outcome { Outcome B.meanings (Finding B.holdings b.old root.now.0 dir.now name.now place.now) b.old b.new result
         (λ n r. Performed B.holdings b.new root.now.0 (removed_directory n.tree (name.now ∷ n.path) (Found n.is.here.row)) r) }
-    ensures variant { IfOk result IsDone }
+    ensures variant { IfOk result IsChangeReply }
 {
     match place.attr.kind {
         Kind::Directory => {
@@ -77,9 +77,9 @@ pub fn remove_file<B: Blobs, R: Rng>(
     chance: &mut R,
 ) -> Result<Reply, Fail>
     requires { B.meanings.intact b.old }
-    ensures outcome { Outcome B.meanings (Showing B.holdings b.old root.now.0) b.old b.new result
+    ensures outcome { Outcome B.meanings (BlobsShow B.holdings b.old root.now.0) b.old b.new result
         (λ n r. Performed B.holdings b.new root.now.0 (unless_root n.tree (upward names.now) (removed_file n.tree (upward names.now) (look n.tree (upward names.now)))) r) }
-    ensures variant { IfOk result IsDone }
+    ensures variant { IfOk result IsChangeReply }
 {
     match split_last(names) {
         None => Ok(Reply::Error(FsError::Busy)),
@@ -104,7 +104,7 @@ fn drop_file<B: Blobs, R: Rng>(
     requires { B.meanings.intact b.old }
     ensures outcome { Outcome B.meanings (Finding B.holdings b.old root.now.0 dir.now name.now place.now) b.old b.new result
         (λ n r. Performed B.holdings b.new root.now.0 (removed_file n.tree (name.now ∷ n.path) (Found n.is.here.row)) r) }
-    ensures variant { IfOk result IsDone }
+    ensures variant { IfOk result IsChangeReply }
 {
     if is_directory(place.attr.kind) {
         return Ok(Reply::Error(FsError::IsDirectory));

@@ -13,7 +13,7 @@ use Rattle.fs_model.proofs.TreeLemmas.{same_name}
 use Rattle.dir_blob.specs.Layout.{body_of, IsListing}
 use Rattle.dir_blob.specs.Places.{without}
 use Rattle.dir_blob.specs.Directories.{HasName, HasEntries}
-use Rattle.forest.specs.Nodes.{Lists, IsNode, IsForest}
+use Rattle.forest.specs.Nodes.{Lists, IsBlobOf, IsForest}
 use Rattle.forest.specs.Shows.{above, target_for, entries_at, ShowsBy}
 use Rattle.forest.specs.Midst.{with_entry}
 use Rattle.forest.proofs.Shown.{IsFolderRow, folder_row, entry_set, entry_apart, gone_shows}
@@ -52,10 +52,10 @@ module _ {S : Type 0} {H : BlobHoldings S} {a : S} {dir : Id} {n : List ℕ} {id
   forest1 : IsListing (without n has_name.is.listing) → IsForest (insert w.map (w.ids w.path) (blob Directory (above w.ids w.path) listed)) w.tree w.ids (above w.ids) (with_entry (entries_at w.tree w.ids) (n ∷ w.path) None)
   forest1 is = entry_set w.map w.tree w.ids (above w.ids) (entries_at w.tree w.ids) w.shows.forest w.path row_above n None listed (lists_then is)
 
-  pub node1 : IsListing (without n has_name.is.listing) → IsNode map1 id w.row.attr.kind (above w.ids (n ∷ w.path)) w.row.bytes (with_entry (entries_at w.tree w.ids) (n ∷ w.path) None (n ∷ w.path))
+  pub node1 : IsListing (without n has_name.is.listing) → IsBlobOf map1 id w.row.attr.kind (above w.ids (n ∷ w.path)) w.row.bytes (with_entry (entries_at w.tree w.ids) (n ∷ w.path) None (n ∷ w.path))
   node1 is =
-      subst (λ z. IsNode map1 z w.row.attr.kind (above w.ids (n ∷ w.path)) w.row.bytes (with_entry (entries_at w.tree w.ids) (n ∷ w.path) None (n ∷ w.path))) w.blob_id
-      (subst (λ z. IsNode (insert w.map z (blob Directory (above w.ids w.path) listed)) (w.ids (n ∷ w.path)) w.row.attr.kind (above w.ids (n ∷ w.path)) w.row.bytes (with_entry (entries_at w.tree w.ids) (n ∷ w.path) None (n ∷ w.path))) w.dir_id
+      subst (λ z. IsBlobOf map1 z w.row.attr.kind (above w.ids (n ∷ w.path)) w.row.bytes (with_entry (entries_at w.tree w.ids) (n ∷ w.path) None (n ∷ w.path))) w.blob_id
+      (subst (λ z. IsBlobOf (insert w.map z (blob Directory (above w.ids w.path) listed)) (w.ids (n ∷ w.path)) w.row.attr.kind (above w.ids (n ∷ w.path)) w.row.bytes (with_entry (entries_at w.tree w.ids) (n ∷ w.path) None (n ∷ w.path))) w.dir_id
       ((forest1 is).nodes (n ∷ w.path) w.row w.there))
 
   pub fits_here : (is : IsListing (without n has_name.is.listing)) → length (blob w.row.attr.kind (above w.ids (n ∷ w.path)) (node1 is).body) ≤ MAX_BLOB

@@ -20,9 +20,9 @@ use Rattle.fs_model.specs.Names.{IsName}
 use Rattle.fs_model.specs.Tree.{Path, Tree, name_cmp, entry_size, entries_size, directory_size, FitsKind}
 use Rattle.fs_model.proofs.TreeLemmas.{same_name, name_total, name_exact, name_same, name_apart, name_split}
 use Rattle.fs_blobs.specs.declared.header.TheConstants.{HEADER_LEN}
-use Rattle.dir_blob.specs.Layout.{Target, Listing, body_of, IsEntry, IsListing}
+use Rattle.dir_blob.specs.Layout.{EntryTarget, Listing, body_of, IsEntry, IsListing}
 use Rattle.dir_blob.specs.Places.{without}
-use Rattle.forest.specs.Nodes.{Look, Lists, Content}
+use Rattle.forest.specs.Nodes.{Look, Lists, IsBodyOf}
 use Rattle.forest.specs.Shows.{entries_at}
 use Rattle.path_walks.proofs.Sizes.{sizes_shown, body_size}
 
@@ -38,22 +38,22 @@ entries_without listing n k =
           ∙ sym (ap (λ b. cond b None (find name_cmp k listing)) (name_apart k n d))
     ]
 
-pub entries_with : (listing : Listing) (n : List ℕ) (target : Target) (k : List ℕ) → find name_cmp k (put name_cmp n target listing) ≡ cond (same_name k n) (Some target) (find name_cmp k listing)
+pub entries_with : (listing : Listing) (n : List ℕ) (target : EntryTarget) (k : List ℕ) → find name_cmp k (put name_cmp n target listing) ≡ cond (same_name k n) (Some target) (find name_cmp k listing)
 entries_with listing n target k = find-put name_cmp name_total k n target listing
 
 pub lists_without : (look : Look) (listing : Listing) (n : List ℕ) → ((k : List ℕ) → find name_cmp k listing ≡ look k) → IsListing (without n listing) → Lists (λ k. cond (same_name k n) None (look k)) (body_of (without n listing))
 lists_without look listing n found is = record { listing = without n listing; is = record { entries = is; text = refl }; entries = λ k. entries_without listing n k ∙ ap (cond (same_name k n) None) (found k) }
 
-pub lists_with : (look : Look) (listing : Listing) (n : List ℕ) (target : Target) → ((k : List ℕ) → find name_cmp k listing ≡ look k) → IsListing (put name_cmp n target listing)
+pub lists_with : (look : Look) (listing : Listing) (n : List ℕ) (target : EntryTarget) → ((k : List ℕ) → find name_cmp k listing ≡ look k) → IsListing (put name_cmp n target listing)
     → Lists (λ k. cond (same_name k n) (Some target) (look k)) (body_of (put name_cmp n target listing))
 lists_with look listing n target found is =
     record { listing = put name_cmp n target listing; is = record { entries = is; text = refl }; entries = λ k. entries_with listing n target k ∙ ap (cond (same_name k n) (Some target)) (found k) }
 
-pub sorted_put : (n : List ℕ) (target : Target) (listing : Listing) → is_sorted name_cmp listing ≡ true → is_sorted name_cmp (put name_cmp n target listing) ≡ true
+pub sorted_put : (n : List ℕ) (target : EntryTarget) (listing : Listing) → is_sorted name_cmp listing ≡ true → is_sorted name_cmp (put name_cmp n target listing) ≡ true
 sorted_put n target listing sorted = true_of (is_sorted name_cmp (put name_cmp n target listing)) (is_sorted-put name_cmp name_total n target listing (subst T (sym sorted) tt))
 
 -- the name of an entry that was put is one
-pub put_named : (n : List ℕ) (target : Target) (listing : Listing) → All IsEntry (put name_cmp n target listing) → IsName n
+pub put_named : (n : List ℕ) (target : EntryTarget) (listing : Listing) → All IsEntry (put name_cmp n target listing) → IsName n
 put_named n target [] all = (All-head IsEntry (n, target) [] all).name
 put_named n target (e ∷ es) all = elim (name_cmp n e.0) as (λ o. name_cmp n e.0 ≡ o → All IsEntry (by_order o ((n, target) ∷ e ∷ es) ((e.0, target) ∷ es) (e ∷ put name_cmp n target es)) → IsName n) [
   | Less ↦ λ is h. (All-head IsEntry (n, target) (e ∷ es) h).name
@@ -62,7 +62,7 @@ put_named n target (e ∷ es) all = elim (name_cmp n e.0) as (λ o. name_cmp n e
 ] refl all
 
 -- a new entry takes its size
-pub size_put : (n : List ℕ) (target : Target) (listing : Listing) → find name_cmp n listing ≡ None → entries_size (put name_cmp n target listing) ≡ entries_size listing + entry_size n
+pub size_put : (n : List ℕ) (target : EntryTarget) (listing : Listing) → find name_cmp n listing ≡ None → entries_size (put name_cmp n target listing) ≡ entries_size listing + entry_size n
 size_put n target [] none = omega arith
 size_put n target (e ∷ es) none = elim (name_cmp n e.0) as (λ o. cond (is_eq o) (Some e.1) (find name_cmp n es) ≡ None → entries_size (by_order o ((n, target) ∷ e ∷ es) ((e.0, target) ∷ es) (e ∷ put name_cmp n target es)) ≡ entries_size (e ∷ es) + entry_size n) [
   | Less ↦ λ h. omega arith
@@ -72,7 +72,7 @@ size_put n target (e ∷ es) none = elim (name_cmp n e.0) as (λ o. cond (is_eq 
 
 -- what the blob of a path holds is within the limit of blobs
 pub content_fits : (t : Tree) (ids : Path → Id) (p : Path) (kind : Kind) (bytes : List ℕ) (look : Look) (body : List ℕ) → directory_size t p ≤ MAX_ENTRIES → FitsKind kind bytes → ((k : List ℕ) → look k ≡ entries_at t ids p k)
-    → Content kind bytes look body → HEADER_LEN + length body ≤ MAX_BLOB
+    → IsBodyOf kind bytes look body → HEADER_LEN + length body ≤ MAX_BLOB
 content_fits t ids p Directory bytes look body small fits same c =
     let size = sizes_shown t ids p c.listing c.is.entries.order (λ k. c.entries k ∙ same k) in
     omega (arith, ap length c.is.text, body_size c.listing c.is.entries.entries, size, small)

@@ -26,7 +26,7 @@ use Rattle.path_walks.proofs.Movable.{can_of}
 use Rattle.path_walks.proofs.Steps.{directory_seen, folder_is}
 use Rattle.path_walks.proofs.Nodes.{size_at}
 use Rattle.dir_blob.specs.Directories.{IsDirectory}
-use Rattle.dir_blob.specs.Layout.{Target, body_of}
+use Rattle.dir_blob.specs.Layout.{EntryTarget, body_of}
 
 module _ {S : Type 0} {H : BlobHoldings S} {a : S} {now : Instant} {from : Place} {n : List ℕ} {place to : Place} {k : List ℕ} (w : Heading H a now from n place to k) where
   abbrev pub next : Tree
@@ -64,7 +64,7 @@ module _ {S : Type 0} {H : BlobHoldings S} {a : S} {now : Instant} {from : Place
       let is = stepped_by true (lt-ltb _ _ over) in
       record { told = sym (ap (λ (s : Stepped). s.reply) is); shown = record { map = w.map; stands = stands; shows = subst (λ (s : Stepped). ShowsBy w.map w.root s.tree w.ids) (sym is) w.shows } }
 
-  pub attr_is : (t : Target) → t.attr ≡ record place.attr { ctime = now } → (with_ctime w.row now).attr ≡ t.attr
+  pub attr_is : (t : EntryTarget) → t.attr ≡ record place.attr { ctime = now } → (with_ctime w.row now).attr ≡ t.attr
   attr_is t attr = ap (λ (x : Attr). record x { ctime = now }) (same_row ∙ w.place_at.attr) ∙ sym attr
     where
       same_row : w.row.attr ≡ w.place_at.row.attr
@@ -83,7 +83,7 @@ module _ {S : Type 0} {H : BlobHoldings S} {a : S} {now : Instant} {from : Place
   formed_as z e named small = subst (λ x. IsWellFormed (moved_tree w.tree now (n ∷ w.above) (x ∷ w.below) w.row)) e (well_formed_next named small)
 
   -- the move can be made, under an equal name
-  abbrev pub moving : (b : S) → H.stands_for b w.map → IsName k → directory_size next w.below ≤ MAX_ENTRIES → (z : List ℕ) → k ≡ z → (t : Target) → t.attr ≡ record place.attr { ctime = now } → t.blob ≡ place.blob.0 → Moving H b from.blob.0 n to.blob.0 (z, t)
+  abbrev pub moving : (b : S) → H.stands_for b w.map → IsName k → directory_size next w.below ≤ MAX_ENTRIES → (z : List ℕ) → k ≡ z → (t : EntryTarget) → t.attr ≡ record place.attr { ctime = now } → t.blob ≡ place.blob.0 → Moving H b from.blob.0 n to.blob.0 (z, t)
   moving b stands named small z zk t attr blob = record {
     map = w.map;
     stands = stands;

@@ -18,9 +18,9 @@ use Rattle.fs_model.specs.Step.{Stepped, refused, done, made}
 use Rattle.fs_model.proofs.LookUpLemmas.{look-walk}
 use Rattle.fs_model.proofs.WellFormedStep.{insert_free}
 use Rattle.fs_blobs.specs.Headers.{blob}
-use Rattle.dir_blob.specs.Layout.{Target, body_of, IsEntry}
+use Rattle.dir_blob.specs.Layout.{EntryTarget, body_of, IsEntry}
 use Rattle.dir_blob.specs.Directories.{IsDirectory, HasRoom, HasEntries}
-use Rattle.forest.specs.Nodes.{Content}
+use Rattle.forest.specs.Nodes.{IsBodyOf}
 use Rattle.forest.specs.Shows.{above, target_for, entries_at, ShowsBy}
 use Rattle.forest.proofs.Forests.{map_apart}
 use Rattle.forest.specs.Midst.{ids_with}
@@ -32,7 +32,7 @@ use Rattle.path_walks.proofs.Nodes.{lists_at, directory_at, size_at}
 use Rattle.path_walks.proofs.Edits.{lists_with, put_named}
 use Rattle.path_walks.proofs.Steps.{folder_is, walk_free}
 
-new_content : (kind : Kind) (bytes : List ℕ) → FitsKind kind bytes → Content kind bytes (λ k. None) bytes
+new_content : (kind : Kind) (bytes : List ℕ) → FitsKind kind bytes → IsBodyOf kind bytes (λ k. None) bytes
 new_content Directory bytes fits = record { listing = []; is = record { entries = record { entries = All-nil IsEntry; order = refl }; text = fits }; entries = λ k. refl }
 new_content File bytes fits = refl
 new_content Link bytes fits = refl
@@ -106,7 +106,7 @@ module _ {S : Type 0} {H : BlobHoldings S} {a : S} {dir : Id} {n : List ℕ} {ro
     pub added : (c : S) → HasEntries H c map1 dir (above w.ids w.path) (put name_cmp n (record { attr = row.attr; blob = id }) directory.listing) → IsShownBy H c w.root (insert w.tree (n ∷ w.path) row) (ids_with w.ids (n ∷ w.path) id)
     added c h =
         let folder : is_folder (get w.tree w.path) ≡ true = ap is_folder at.there ∙ ap is_directory kind in
-        let target : Target = record { attr = row.attr; blob = id } in
+        let target : EntryTarget = record { attr = row.attr; blob = id } in
         let listed = body_of (put name_cmp n target directory.listing) in
         let here : w.ids w.path ≡ dir = at.blob ∙ w.id in
         record {

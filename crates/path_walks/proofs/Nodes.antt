@@ -11,19 +11,19 @@ use Rattle.fs_model.specs.declared.attr.Kind.TheVariants.{Directory}
 use Rattle.fs_model.specs.Tree.{Path, Row, Tree, directory_size}
 use Rattle.fs_blobs.specs.declared.header.TheConstants.{HEADER_LEN}
 use Rattle.fs_blobs.specs.Headers.{blob}
-use Rattle.dir_blob.specs.Layout.{Target, Listing, body_of, IsEntry}
+use Rattle.dir_blob.specs.Layout.{EntryTarget, Listing, body_of, IsEntry}
 use Rattle.dir_blob.specs.Directories.{IsDirectory}
-use Rattle.forest.specs.Nodes.{Look, Lists, Content}
+use Rattle.forest.specs.Nodes.{Look, Lists, IsBodyOf}
 use Rattle.forest.specs.Shows.{above, target_for, entries_at, ShowsBy}
 use Rattle.forest.proofs.Shown.{folder_row}
 use Rattle.path_walks.proofs.Sizes.{sizes_shown, body_size, found_entry}
 
-pub lists_of : (kind : Kind) (bytes : List ℕ) (look : Look) (body : List ℕ) → kind ≡ Directory → Content kind bytes look body → Lists look body
-lists_of kind bytes look body e c = subst (λ k. Content k bytes look body) e c
+pub lists_of : (kind : Kind) (bytes : List ℕ) (look : Look) (body : List ℕ) → kind ≡ Directory → IsBodyOf kind bytes look body → Lists look body
+lists_of kind bytes look body e c = subst (λ k. IsBodyOf k bytes look body) e c
 
-entry_ids : (listing : Listing) → All IsEntry listing → All (λ (e : List ℕ × Target). length e.1.blob ≡ 16) listing
-entry_ids [] each = All-nil (λ (e : List ℕ × Target). length e.1.blob ≡ 16)
-entry_ids (x ∷ xs) each = All-cons (λ (e : List ℕ × Target). length e.1.blob ≡ 16) x xs (All-head IsEntry x xs each).blob (entry_ids xs (All-tail IsEntry x xs each))
+entry_ids : (listing : Listing) → All IsEntry listing → All (λ (e : List ℕ × EntryTarget). length e.1.blob ≡ 16) listing
+entry_ids [] each = All-nil (λ (e : List ℕ × EntryTarget). length e.1.blob ≡ 16)
+entry_ids (x ∷ xs) each = All-cons (λ (e : List ℕ × EntryTarget). length e.1.blob ≡ 16) x xs (All-head IsEntry x xs each).blob (entry_ids xs (All-tail IsEntry x xs each))
 
 module _ {m : BlobMap} {root : Id} {t : Tree} {ids : Path → Id} (shows : ShowsBy m root t ids) where
   -- the entries of a directory
@@ -35,7 +35,7 @@ module _ {m : BlobMap} {root : Id} {t : Tree} {ids : Path → Id} (shows : Shows
   wide_at (n ∷ p) row there =
       let folder = folder_row t p (shows.well_formed.rooted.parents n p (ap is_some there)) in
       let lists = lists_at p folder.row folder.there folder.kind in
-      found_entry (λ (x : Target). length x.blob ≡ 16) n lists.listing (record { attr = row.attr; blob = ids (n ∷ p) }) (entry_ids lists.listing lists.is.entries.entries)
+      found_entry (λ (x : EntryTarget). length x.blob ≡ 16) n lists.listing (record { attr = row.attr; blob = ids (n ∷ p) }) (entry_ids lists.listing lists.is.entries.entries)
       (lists.entries n ∙ ap (target_for (ids (n ∷ p))) there)
 
   pub above_wide : (p : Path) (row : Row) → get t p ≡ Some row → length (above ids p) ≡ 16

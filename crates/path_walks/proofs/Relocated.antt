@@ -14,10 +14,10 @@ use Rattle.fs_model.proofs.MovedTree.{parent_off_p}
 use Rattle.fs_blobs.specs.declared.header.TheConstants.{HEADER_LEN}
 use Rattle.fs_blobs.specs.Headers.{blob}
 use Rattle.fs_blobs.specs.Blobs.{IsBlob}
-use Rattle.dir_blob.specs.Layout.{Target, body_of}
+use Rattle.dir_blob.specs.Layout.{EntryTarget, body_of}
 use Rattle.dir_blob.specs.Places.{without}
 use Rattle.dir_blob.specs.Directories.{HasName, HasRoom, HasEntries}
-use Rattle.forest.specs.Nodes.{Look, Lists, IsNode, IsForest}
+use Rattle.forest.specs.Nodes.{Look, Lists, IsBlobOf, IsForest}
 use Rattle.forest.specs.Shows.{above, target_for, entries_at}
 use Rattle.forest.proofs.Shown.{IsFolderRow, folder_row, entry_apart, same_last}
 use Rattle.forest.proofs.Moved.{looks_without, looks_with, from_without, onto_with, ids_moved, moved_shows, look_off, qd_off_q, below_p, below_q}
@@ -35,14 +35,14 @@ pub record IsOnTheWay {S : Type 0} (H : BlobHoldings S) (b : S) (t : Tree) (ids 
   pub stands : H.stands_for b map
   pub forest : IsForest map t ids (above ids) looks
 
-module _ {S : Type 0} {H : BlobHoldings S} {a : S} {from : Id} {n : List ℕ} {to : Id} {e : List ℕ × Target} (w : Moving H a from n to e) where
+module _ {S : Type 0} {H : BlobHoldings S} {a : S} {from : Id} {n : List ℕ} {to : Id} {e : List ℕ × EntryTarget} (w : Moving H a from n to e) where
   abbrev pub p : Path
   p = n ∷ w.above
 
   abbrev pub next : Tree
   next = moved_tree w.tree w.now p (e.0 ∷ w.below) w.row
 
-  abbrev pub target : Target
+  abbrev pub target : EntryTarget
   target = record { attr = (with_ctime w.row w.now).attr; blob = w.ids p }
 
   target_is : target ≡ e.1
@@ -80,7 +80,7 @@ module _ {S : Type 0} {H : BlobHoldings S} {a : S} {from : Id} {n : List ℕ} {t
   -- ---- the entry comes
 
   module _ {b : S} (way : IsOnTheWay H b w.tree w.ids looks1) where
-    pub node_to : IsNode way.map (w.ids w.below) row_to.row.attr.kind (above w.ids w.below) row_to.row.bytes (looks1 w.below)
+    pub node_to : IsBlobOf way.map (w.ids w.below) row_to.row.attr.kind (above w.ids w.below) row_to.row.bytes (looks1 w.below)
     node_to = way.forest.nodes w.below row_to.row row_to.there
 
     pub lists_to : Lists (looks1 w.below) node_to.body
@@ -136,7 +136,7 @@ module _ {S : Type 0} {H : BlobHoldings S} {a : S} {from : Id} {n : List ℕ} {t
   -- ---- the blob gets its new parent
 
   module _ {c : S} (way : IsOnTheWay H c w.tree w.ids looks2) where
-    pub node_moved : IsNode way.map (w.ids p) w.row.attr.kind (above w.ids p) w.row.bytes (looks2 p)
+    pub node_moved : IsBlobOf way.map (w.ids p) w.row.attr.kind (above w.ids p) w.row.bytes (looks2 p)
     node_moved = way.forest.nodes p w.row w.can.here
 
     look_moved : (k : List ℕ) → looks2 p k ≡ entries_at w.tree w.ids p k

@@ -17,9 +17,9 @@ use Rattle.fs_model.proofs.WellFormedStep.{length-overwritten, length-resized}
 use Rattle.fs_blobs.specs.declared.header.TheConstants.{HEADER_LEN}
 use Rattle.fs_blobs.specs.Headers.{blob}
 use Rattle.fs_blobs.specs.Blobs.{IsBlob}
-use Rattle.dir_blob.specs.Layout.{Target, body_of, IsListing}
+use Rattle.dir_blob.specs.Layout.{EntryTarget, body_of, IsListing}
 use Rattle.dir_blob.specs.Directories.{HasName, HasEntries}
-use Rattle.forest.specs.Nodes.{Look, Lists, Content, IsNode}
+use Rattle.forest.specs.Nodes.{Look, Lists, IsBodyOf, IsBlobOf}
 use Rattle.forest.specs.Shows.{above, target_for, entries_at}
 use Rattle.forest.proofs.Forests.{map_apart}
 use Rattle.dir_blob.proofs.Bodies.{no_more}
@@ -29,7 +29,7 @@ use Rattle.path_walks.specs.Changes.{Setting, IsSparingTwice}
 use Rattle.path_walks.proofs.Nodes.{lists_at, directory_at, above_wide, size_at}
 use Rattle.path_walks.proofs.Edits.{lists_with}
 
-module _ {S : Type 0} {H : BlobHoldings S} {a : S} {dir : Id} {e : List ℕ × Target} (w : Setting H a dir e) where
+module _ {S : Type 0} {H : BlobHoldings S} {a : S} {dir : Id} {e : List ℕ × EntryTarget} (w : Setting H a dir e) where
   abbrev pub q : Path
   q = e.0 ∷ w.path
 
@@ -82,10 +82,10 @@ module _ {S : Type 0} {H : BlobHoldings S} {a : S} {dir : Id} {e : List ℕ × T
   -- ---- a file's content
 
   module _ (file : e.1.attr.kind ≡ File) where
-    file_body : (kind : Kind) (bytes : List ℕ) (look : Look) (body : List ℕ) → kind ≡ File → Content kind bytes look body → body ≡ bytes
-    file_body kind bytes look body is c = subst (λ k. Content k bytes look body) is c
+    file_body : (kind : Kind) (bytes : List ℕ) (look : Look) (body : List ℕ) → kind ≡ File → IsBodyOf kind bytes look body → body ≡ bytes
+    file_body kind bytes look body is c = subst (λ k. IsBodyOf k bytes look body) is c
 
-    node : IsNode w.map (w.ids q) w.row.attr.kind (above w.ids q) w.row.bytes (entries_at w.tree w.ids q)
+    node : IsBlobOf w.map (w.ids q) w.row.attr.kind (above w.ids q) w.row.bytes (entries_at w.tree w.ids q)
     node = w.shows.forest.nodes q w.row w.there
 
     same_body : node.body ≡ w.row.bytes
@@ -141,7 +141,7 @@ module _ {S : Type 0} {H : BlobHoldings S} {a : S} {dir : Id} {e : List ℕ × T
             stands = subst (λ k. H.stands_for c (insert (insert w.map (w.ids q) (blob k (w.ids w.path) new)) (w.ids w.path) (blob Directory (above w.ids w.path) listed))) (sym file)
                 (subst (λ z. H.stands_for c (insert (insert w.map z (blob File (w.ids w.path) new)) (w.ids w.path) (blob Directory (above w.ids w.path) listed))) (sym w.blob)
                 (subst (λ z. H.stands_for c (insert map1 z (blob Directory (above w.ids w.path) listed))) (sym w.dir_id) h.stands));
-            shows = content_shows w.map w.root w.tree w.ids w.shows e.0 w.path folder w.row (row_with new) w.there w.kind new (subst (λ k. Content k new (entries_at w.tree w.ids q) new) (sym file) refl) listed (lists_then h.entries) (w.well_formed new fits);
+            shows = content_shows w.map w.root w.tree w.ids w.shows e.0 w.path folder w.row (row_with new) w.there w.kind new (subst (λ k. IsBodyOf k new (entries_at w.tree w.ids q) new) (sym file) refl) listed (lists_then h.entries) (w.well_formed new fits);
           }
 
     pub written_few : (from : ℕ) (bytes : List ℕ) → from + length bytes ≤ MAX_FILE → length (written w.row.bytes from bytes) ≤ MAX_FILE

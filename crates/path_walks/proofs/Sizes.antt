@@ -17,7 +17,7 @@ use Rattle.fs_model.specs.declared.reply.ListRow.{ListRow}
 use Rattle.fs_model.specs.Step.{list_row}
 use Rattle.fs_model.specs.Tree.{Path, Row, Tree, name_cmp, children, entry_size, entries_size, directory_size}
 use Rattle.fs_model.proofs.TreeLemmas.{get-children, name_total, name_exact}
-use Rattle.dir_blob.specs.Layout.{Target, Listing, entry_text, body_of, IsEntry}
+use Rattle.dir_blob.specs.Layout.{EntryTarget, Listing, entry_text, body_of, IsEntry}
 use Rattle.dir_blob.proofs.Edits.{entry_length}
 use Rattle.path_walks.specs.Listed.{shown_row}
 use Rattle.forest.specs.Shows.{target_for, entries_at}
@@ -37,7 +37,7 @@ sorted-with : {K X Y : Type 0} (R : K → K → Ordering) (f : X → Y) (es : Li
 sorted-with R f [] = refl
 sorted-with R f (e ∷ es) = ap (λ b. b && is_sorted R (with_values f es)) (below-with R f e.0 es) ∙ ap (λ b. below_all R e.0 es && b) (sorted-with R f es)
 
-attr_for : (id : Id) (o : Option Row) → option_map (λ (r : Row). r.attr) o ≡ option_map (λ (x : Target). x.attr) (target_for id o)
+attr_for : (id : Id) (o : Option Row) → option_map (λ (r : Row). r.attr) o ≡ option_map (λ (x : EntryTarget). x.attr) (target_for id o)
 attr_for id None = refl
 attr_for id (Some row) = refl
 
@@ -53,27 +53,27 @@ unfolding row_of
 rows-attr [] = refl
 rows-attr (e ∷ es) = ap (λ xs. list_row e ∷ xs) (rows-attr es)
 
-shown-attr : (es : Listing) → map shown_row es ≡ map row_of (with_values (λ (x : Target). x.attr) es)
+shown-attr : (es : Listing) → map shown_row es ≡ map row_of (with_values (λ (x : EntryTarget). x.attr) es)
 unfolding row_of
 shown-attr [] = refl
 shown-attr (e ∷ es) = ap (λ xs. shown_row e ∷ xs) (shown-attr es)
 
 module _ (t : Tree) (ids : Path → Id) (p : Path) (listing : Listing) (sorted : is_sorted name_cmp listing ≡ true) (found : (n : List ℕ) → find name_cmp n listing ≡ entries_at t ids p n) where
-  attrs_shown : with_values (λ (r : Row). r.attr) (entries (children t p)) ≡ with_values (λ (x : Target). x.attr) listing
+  attrs_shown : with_values (λ (r : Row). r.attr) (entries (children t p)) ≡ with_values (λ (x : EntryTarget). x.attr) listing
   attrs_shown = same_entries name_cmp name_total name_exact _ _
       (subst T (sym (sorted-with name_cmp (λ (r : Row). r.attr) (entries (children t p)))) (entries_sorted (children t p)))
-      (subst T (sym (sorted-with name_cmp (λ (x : Target). x.attr) listing ∙ sorted)) tt)
+      (subst T (sym (sorted-with name_cmp (λ (x : EntryTarget). x.attr) listing ∙ sorted)) tt)
       (λ q. find-with name_cmp (λ (r : Row). r.attr) q (entries (children t p))
       ∙ (ap (option_map (λ (r : Row). r.attr)) (sym (get-entries (children t p) q) ∙ get-children t p q)
       ∙ (attr_for (ids (q ∷ p)) (get t (q ∷ p))
-      ∙ (ap (option_map (λ (x : Target). x.attr)) (sym (found q))
-      ∙ sym (find-with name_cmp (λ (x : Target). x.attr) q listing)))))
+      ∙ (ap (option_map (λ (x : EntryTarget). x.attr)) (sym (found q))
+      ∙ sym (find-with name_cmp (λ (x : EntryTarget). x.attr) q listing)))))
 
   pub rows_shown : map shown_row listing ≡ map list_row (entries (children t p))
   rows_shown = shown-attr listing ∙ (ap (map row_of) (sym attrs_shown) ∙ sym (rows-attr (entries (children t p))))
 
   pub sizes_shown : entries_size listing ≡ directory_size t p
-  sizes_shown = sym (size-with (λ (x : Target). x.attr) listing) ∙ (ap entries_size (sym attrs_shown) ∙ size-with (λ (r : Row). r.attr) (entries (children t p)))
+  sizes_shown = sym (size-with (λ (x : EntryTarget). x.attr) listing) ∙ (ap entries_size (sym attrs_shown) ∙ size-with (λ (r : Row). r.attr) (entries (children t p)))
 
 pub body_size : (listing : Listing) → All IsEntry listing → length (body_of listing) ≡ entries_size listing
 body_size [] each = refl
@@ -82,7 +82,7 @@ body_size (e ∷ es) each =
     let rest = body_size es (All-tail IsEntry e es each) in
     ap length (flat_map-cons entry_text e es) ∙ (length-append (entry_text e) (body_of es) ∙ omega (arith, own, rest))
 
-pub found_entry : (P : Target → Type 0) (n : List ℕ) (listing : Listing) (target : Target) → All (λ e. P e.1) listing → find name_cmp n listing ≡ Some target → P target
+pub found_entry : (P : EntryTarget → Type 0) (n : List ℕ) (listing : Listing) (target : EntryTarget) → All (λ e. P e.1) listing → find name_cmp n listing ≡ Some target → P target
 found_entry P n [] target each e = absurd cc
 found_entry P n (x ∷ xs) target each e = elim (eq_by_cmp name_cmp n x.0) as (λ b. cond b (Some x.1) (find name_cmp n xs) ≡ Some target → P target) [
   | true ↦ λ h. let same : x.1 ≡ target = cc in subst P same (All-head (λ e. P e.1) x xs each)

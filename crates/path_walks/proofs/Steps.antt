@@ -10,10 +10,10 @@ use Rattle.fs_model.specs.declared.attr.Attr.{Attr}
 use Rattle.fs_model.specs.declared.attr.Kind.TheVariants.{Directory}
 use Rattle.fs_model.specs.declared.error.FsError.TheVariants.{NoEntry, NotDirectory}
 use Rattle.fs_model.specs.Tree.{Path, Row, Tree, name_cmp, is_directory, upward}
-use Rattle.fs_model.specs.LookUp.{Seen, Found, Free, Bad, goes_on, walk}
+use Rattle.fs_model.specs.LookUp.{LookedUp, Found, Free, Bad, goes_on, walk}
 use Rattle.fs_model.specs.declared.error.FsError.{FsError}
 use Rattle.fs_model.proofs.WellFormedStep.{below_file, below_none}
-use Rattle.dir_blob.specs.Layout.{Target}
+use Rattle.dir_blob.specs.Layout.{EntryTarget}
 use Rattle.dir_blob.specs.Places.{target_of}
 use Rattle.dir_blob.specs.Directories.{IsDirectory}
 use Rattle.tree_rules.proofs.PathLemmas.{names_more}
@@ -21,7 +21,7 @@ use Rattle.forest.specs.Shows.{target_for, ShowsBy}
 use Rattle.path_walks.specs.declared.spots.Place.{Place}
 use Rattle.path_walks.specs.declared.spots.Spot.{Spot}
 use Rattle.path_walks.specs.declared.spots.Spot.TheVariants.{Here, Wrong}
-use Rattle.forest.specs.Showing.{Showing}
+use Rattle.forest.specs.Showing.{BlobsShow}
 use Rattle.path_walks.specs.Sights.{IsAt, IsWrong, SpotIs, SightIs, sight_of, Walking}
 use Rattle.path_walks.proofs.Nodes.{lists_at, directory_at}
 
@@ -33,7 +33,7 @@ abbrev pub directory_seen : {S : Type 0} {H : BlobHoldings S} {a : S} {m : BlobM
     → (p : Path) (dir : Place) (at : IsAt t ids p dir) → dir.attr.kind ≡ Directory → IsDirectory H a dir.blob.0
 directory_seen {t = t} {ids = ids} shows stands p dir at kind = directory_at shows stands p at.row at.there (folder_is t ids p dir at kind) dir.blob.0 at.blob
 
-goes_in : (row : Row) (o : Option Row) → row.attr.kind ≡ Directory → goes_on (Found row) o ≡ elim o as (λ _. Seen) [ None ↦ Free | Some next ↦ Found next ]
+goes_in : (row : Row) (o : Option Row) → row.attr.kind ≡ Directory → goes_on (Found row) o ≡ elim o as (λ _. LookedUp) [ None ↦ Free | Some next ↦ Found next ]
 goes_in row None kind = ap (λ k. cond (is_directory k) Free (Bad NotDirectory)) kind
 goes_in row (Some next) kind = ap (λ k. cond (is_directory k) (Found next) (Bad NotDirectory)) kind
 
@@ -41,7 +41,7 @@ module _ {m : BlobMap} {root : Id} {t : Tree} {ids : Path → Id} (shows : Shows
   abbrev pub row_kind : at.row.attr.kind ≡ Directory
   row_kind = folder_is t ids p dir at kind
 
-  walks : (o : Option Row) → get t (n ∷ p) ≡ o → walk t (n ∷ p) ≡ elim o as (λ _. Seen) [ None ↦ Free | Some next ↦ Found next ]
+  walks : (o : Option Row) → get t (n ∷ p) ≡ o → walk t (n ∷ p) ≡ elim o as (λ _. LookedUp) [ None ↦ Free | Some next ↦ Found next ]
   walks o e = ap (λ s. goes_on s (get t (n ∷ p))) at.walked ∙ (ap (goes_on (Found at.row)) e ∙ goes_in at.row o row_kind)
 
   -- the entry that was found is the row below
@@ -49,14 +49,14 @@ module _ {m : BlobMap} {root : Id} {t : Tree} {ids : Path → Id} (shows : Shows
       → IsAt t ids (n ∷ p) (record { attr = attr; blob = blob; holder = dir.blob })
   stepped_to attr blob found = below (get t (n ∷ p)) refl (sym ((lists_at shows p at.row at.there row_kind).entries n) ∙ found)
     where
-      attr_is : (x y : Target) → Some x ≡ Some y → x.attr ≡ y.attr
-      attr_is x y e = ap (λ (z : Target). z.attr) (same_Some _ _ e)
+      attr_is : (x y : EntryTarget) → Some x ≡ Some y → x.attr ≡ y.attr
+      attr_is x y e = ap (λ (z : EntryTarget). z.attr) (same_Some _ _ e)
 
-      blob_is : (x y : Target) → Some x ≡ Some y → x.blob ≡ y.blob
-      blob_is x y e = ap (λ (z : Target). z.blob) (same_Some _ _ e)
+      blob_is : (x y : EntryTarget) → Some x ≡ Some y → x.blob ≡ y.blob
+      blob_is x y e = ap (λ (z : EntryTarget). z.blob) (same_Some _ _ e)
 
       below : (o : Option Row) → get t (n ∷ p) ≡ o → target_for (ids (n ∷ p)) (get t (n ∷ p)) ≡ Some (record { attr = attr; blob = blob.0 }) → IsAt t ids (n ∷ p) (record { attr = attr; blob = blob; holder = dir.blob })
-      below None e h = absurd (none-some {A = Target} (record { attr = attr; blob = blob.0 }) (sym (ap (target_for (ids (n ∷ p))) e) ∙ h))
+      below None e h = absurd (none-some {A = EntryTarget} (record { attr = attr; blob = blob.0 }) (sym (ap (target_for (ids (n ∷ p))) e) ∙ h))
       below (Some row) e h =
           let same : Some (record { attr = row.attr; blob = ids (n ∷ p) }) ≡ Some (record { attr = attr; blob = blob.0 }) = sym (ap (target_for (ids (n ∷ p))) e) ∙ h in
           record { row = row; there = e; walked = walks (Some row) e; attr = attr_is _ _ same; blob = blob_is _ _ same; holder = at.blob }
@@ -66,7 +66,7 @@ module _ {m : BlobMap} {root : Id} {t : Tree} {ids : Path → Id} (shows : Shows
     where
       below : (o : Option Row) → get t (n ∷ p) ≡ o → target_for (ids (n ∷ p)) (get t (n ∷ p)) ≡ None → get t (n ∷ p) ≡ None
       below None e h = e
-      below (Some row) e h = absurd (none-some {A = Target} (record { attr = row.attr; blob = ids (n ∷ p) }) (sym (sym (ap (target_for (ids (n ∷ p))) e) ∙ h)))
+      below (Some row) e h = absurd (none-some {A = EntryTarget} (record { attr = row.attr; blob = ids (n ∷ p) }) (sym (sym (ap (target_for (ids (n ∷ p))) e) ∙ h)))
 
   pub walk_free : get t (n ∷ p) ≡ None → walk t (n ∷ p) ≡ Free
   walk_free e = walks None e
@@ -86,7 +86,7 @@ names_on ns i n lt e = ap (λ x. x ∷ upward (take i ns)) e ∙ sym (names_more
 abbrev pub at_spot : {S : Type 0} {H : BlobHoldings S} {a : S} {spot : Spot} (w : Walking H a spot) (dir : Place) → spot ≡ Here dir → IsAt w.tree w.ids w.path dir
 at_spot w dir is = subst (SpotIs w.tree w.ids w.path) is w.is
 
-abbrev pub walking : {S : Type 0} {H : BlobHoldings S} {a b : S} {root : Id} {spot : Spot} (n : Showing H a root) → (p : Path) → H.stands_for b n.map → SpotIs n.tree n.ids p spot → Walking H b spot
+abbrev pub walking : {S : Type 0} {H : BlobHoldings S} {a b : S} {root : Id} {spot : Spot} (n : BlobsShow H a root) → (p : Path) → H.stands_for b n.map → SpotIs n.tree n.ids p spot → Walking H b spot
 walking {root = root} n p stands is = record { map = n.map; stands = stands; root = root; tree = n.tree; ids = n.ids; shows = n.shows; path = p; is = is }
 
 abbrev pub at_here : (t : Tree) (ids : Path → Id) (p : Path) (spot : Spot) → SpotIs t ids p spot → (dir : Place) → spot ≡ Here dir → IsAt t ids p dir

@@ -8,7 +8,7 @@ use Rattle.fs_model.specs.declared.limits.TheConstants.{MAX_ENTRIES}
 use Rattle.fs_model.specs.declared.reply.Reply.{Reply}
 use Rattle.fs_model.specs.declared.reply.Reply.TheVariants.{Done, Rows, Info, Target as LinkTarget, Content, Error}
 use Rattle.fs_model.specs.Tree.{Path, Row, Tree, IsWellFormed, IsWithinLimits, FitsKind, entry_size, directory_size}
-use Rattle.dir_blob.specs.Layout.{Target}
+use Rattle.dir_blob.specs.Layout.{EntryTarget}
 use Rattle.forest.specs.Shows.{ShowsBy}
 use Rattle.path_walks.specs.declared.spots.Place.{Place}
 use Rattle.path_walks.specs.Sights.{IsVacant}
@@ -48,7 +48,7 @@ pub record Dropping {S : Type 0} (H : BlobHoldings S) (a : S) (dir : Id) (n : Li
   pub well_formed : IsWellFormed (remove tree (n ∷ path))
 
 -- a row that gets other attributes of its kind: the entry e says them
-pub record Setting {S : Type 0} (H : BlobHoldings S) (a : S) (dir : Id) (e : List ℕ × Target) : Type 0 where
+pub record Setting {S : Type 0} (H : BlobHoldings S) (a : S) (dir : Id) (e : List ℕ × EntryTarget) : Type 0 where
   pub map : BlobMap
   pub stands : H.stands_for a map
   pub root : Id
@@ -68,10 +68,10 @@ abbrev pub IsSparingTwice : {S : Type 0} → BlobHoldings S → S → S → ℕ 
 IsSparingTwice H a b old size from n = (l : ℕ) → H.piece a ≡ Some l → 1 ≤ n → from + n ≤ old → H.changed b ≤ H.changed a + pieces n l + pieces size l + 2
 
 -- done, or an error of the language
-abbrev pub IsDone : Reply → Type 0
-IsDone Done = Unit {0}
-IsDone (Error e) = Unit {0}
-IsDone (Rows rows) = ⊥
-IsDone (Info attr size) = ⊥
-IsDone (LinkTarget target) = ⊥
-IsDone (Content bytes) = ⊥
+abbrev pub IsChangeReply : Reply → Type 0
+IsChangeReply Done = Unit {0}
+IsChangeReply (Error e) = Unit {0}
+IsChangeReply (Rows rows) = ⊥
+IsChangeReply (Info attr size) = ⊥
+IsChangeReply (LinkTarget target) = ⊥
+IsChangeReply (Content bytes) = ⊥

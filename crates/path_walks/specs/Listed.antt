@@ -6,23 +6,23 @@ use Rattle.fs_model.specs.declared.reply.ListRow.{ListRow}
 use Rattle.fs_model.specs.declared.reply.Reply.{Reply}
 use Rattle.fs_model.specs.declared.reply.Reply.TheVariants.{Done, Rows, Info, Target as LinkTarget, Content, Error}
 use Rattle.fs_model.specs.Tree.{Path, Tree}
-use Rattle.dir_blob.specs.Layout.{Target}
+use Rattle.dir_blob.specs.Layout.{EntryTarget}
 use Rattle.forest.specs.Shows.{ShowsBy}
 use Rattle.path_walks.specs.declared.spots.Place.{Place}
 use Rattle.path_walks.specs.Sights.{IsAt}
 
 -- what a listing shows of an entry
-abbrev pub shown_row : List ℕ × Target → ListRow
+abbrev pub shown_row : List ℕ × EntryTarget → ListRow
 shown_row e = record { kind = e.1.attr.kind; name = e.0 }
 
 -- a listing
-abbrev pub AreRows : Reply → Type 0
-AreRows (Rows rows) = Unit {0}
-AreRows Done = ⊥
-AreRows (Info attr size) = ⊥
-AreRows (LinkTarget target) = ⊥
-AreRows (Content bytes) = ⊥
-AreRows (Error e) = ⊥
+abbrev pub IsListReply : Reply → Type 0
+IsListReply (Rows rows) = Unit {0}
+IsListReply Done = ⊥
+IsListReply (Info attr size) = ⊥
+IsListReply (LinkTarget target) = ⊥
+IsListReply (Content bytes) = ⊥
+IsListReply (Error e) = ⊥
 
 -- a directory of the shown tree
 pub record InFolder {S : Type 0} (H : BlobHoldings S) (a : S) (dir : Id) : Type 0 where

@@ -10,7 +10,7 @@ use Rattle.fs_model.specs.Instant.{Instant}
 use Rattle.fs_model.specs.Tree.{Path, Row, Tree, is_folder, IsWellFormed}
 use Rattle.fs_model.specs.Move.{is_above}
 use Rattle.fs_model.specs.Step.{with_ctime, moved_tree}
-use Rattle.dir_blob.specs.Layout.{Target}
+use Rattle.dir_blob.specs.Layout.{EntryTarget}
 use Rattle.forest.specs.Shows.{ShowsBy}
 use Rattle.path_walks.specs.declared.spots.Place.{Place}
 use Rattle.path_walks.specs.Sights.{IsAt}
@@ -24,7 +24,7 @@ pub record MayMove (t : Tree) (pn : List ℕ) (pd : Path) (qn : List ℕ) (qd : 
   pub bare : (s : Path) (n : List ℕ) → get t (n ∷ (s ++ (qn ∷ qd))) ≡ None
 
 -- a row that may move to a free path: from the directory `above` to the directory `below`, under the entry e
-pub record Moving {S : Type 0} (H : BlobHoldings S) (a : S) (from : Id) (n : List ℕ) (to : Id) (e : List ℕ × Target) : Type 0 where
+pub record Moving {S : Type 0} (H : BlobHoldings S) (a : S) (from : Id) (n : List ℕ) (to : Id) (e : List ℕ × EntryTarget) : Type 0 where
   pub map : BlobMap
   pub stands : H.stands_for a map
   pub root : Id

@@ -4,7 +4,7 @@ ghost use Rattle.outcome.specs.Outcome.{Outcome};
 ghost use Rattle.fs_model.specs.LookUp.{Found};
 ghost use Rattle.fs_model.specs.Step.{listed};
 ghost use Rattle.dir_blob.specs.Layout.{listing_of};
-ghost use Rattle.path_walks.specs.Listed.{InFolder, AreRows, shown_row};
+ghost use Rattle.path_walks.specs.Listed.{InFolder, IsListReply, shown_row};
 
 use blob_api::Blobs;
 use block_id::{BlockId, Fail, Memory};
@@ -31,7 +31,7 @@ pub fn list_in<B: Blobs>(alloc: Global, b: &mut B, dir: &BlockId) -> Result<Repl
     requires { B.meanings.intact b.old }
     ensures outcome { Outcome B.meanings (InFolder B.holdings b.old dir.now.0) b.old b.new result
         (λ n r. B.holdings.stands_for b.new n.map × (r ≡ (listed n.tree n.path (Found n.at.row)).reply)) }
-    ensures variant { IfOk result AreRows }
+    ensures variant { IfOk result IsListReply }
     ensures unchanged { B.holdings.changed b.new ≡ B.holdings.changed b.old }
 {
     let found = entries(alloc, b, dir)?;

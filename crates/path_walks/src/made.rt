@@ -6,7 +6,7 @@ ghost use Rattle.fs_model.specs.LookUp.{look};
 ghost use Rattle.fs_model.specs.Step.{made};
 ghost use Rattle.forest.specs.Midst.{ids_with};
 ghost use Rattle.forest.specs.Showing.{IsShownBy, Performed};
-ghost use Rattle.path_walks.specs.Changes.{Making, Adding, IsDone};
+ghost use Rattle.path_walks.specs.Changes.{Making, Adding, IsChangeReply};
 
 use blob_api::Blobs;
 use block_id::{BlockId, Fail};
@@ -55,7 +55,7 @@ pub fn make_in<B: Blobs, R: Rng>(
     requires intact { B.meanings.intact b.old }
     requires mode { attr.mode ≤ MAX_MODE }
     requires short { length bytes.now ≤ MAX_TARGET }
-    ensures variant { IfOk result IsDone }
+    ensures variant { IfOk result IsChangeReply }
     ensures did { Outcome B.meanings (Making B.holdings b.old dir.now.0 name.now (record { attr = attr; bytes = bytes.now })) b.old b.new result
         (λ n r. Performed B.holdings b.new n.root (made n.tree (name.now ∷ n.path) (record { attr = attr; bytes = bytes.now }) (look n.tree (name.now ∷ n.path))) r) }
 {

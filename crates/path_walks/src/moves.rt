@@ -6,7 +6,7 @@ ghost use Rattle.fs_model.specs.Step.{moved_tree, moved_unless_large};
 ghost use Rattle.blob_api.specs.BlobMap.{id_cmp};
 ghost use Rattle.forest.specs.Midst.{moved_ids};
 ghost use Rattle.forest.specs.Showing.{PerformedBy};
-ghost use Rattle.path_walks.specs.Changes.{IsDone};
+ghost use Rattle.path_walks.specs.Changes.{IsChangeReply};
 ghost use Rattle.path_walks.specs.Moves.{Heading, Replacing, ids_then};
 
 use crate::{Place, drop_at, relocate};
@@ -38,7 +38,7 @@ pub fn move_free<B: Blobs, R: Rng>(
 ) -> Result<Reply, Fail>
     requires intact { B.meanings.intact b.old }
     requires mode { place.attr.mode ≤ MAX_MODE }
-    ensures variant { IfOk result IsDone }
+    ensures variant { IfOk result IsChangeReply }
     ensures did { Outcome B.meanings (Heading B.holdings b.old now from name.now place to to_name.now) b.old b.new result
         (λ n r. PerformedBy B.holdings b.new n.root (moved_unless_large n.tree (to_name.now ∷ n.below) (moved_tree n.tree now (name.now ∷ n.above) (to_name.now ∷ n.below) n.row)) r
         (ids_then r n.ids (moved_ids n.ids (name.now ∷ n.above) (to_name.now ∷ n.below)))) }
@@ -82,7 +82,7 @@ pub fn move_onto<B: Blobs, R: Rng>(
 ) -> Result<Reply, Fail>
     requires intact { B.meanings.intact b.old }
     requires mode { place.attr.mode ≤ MAX_MODE }
-    ensures variant { IfOk result IsDone }
+    ensures variant { IfOk result IsChangeReply }
     ensures did { Outcome B.meanings (Replacing B.holdings b.old now from name.now place to to_name.now replaced) b.old b.new result
         (λ n r. PerformedBy B.holdings b.new n.root (moved_unless_large n.tree (to_name.now ∷ n.below) (moved_tree n.tree now (name.now ∷ n.above) (to_name.now ∷ n.below) n.row)) r
         (ids_then r n.ids (moved_ids n.ids (name.now ∷ n.above) (to_name.now ∷ n.below)))) }

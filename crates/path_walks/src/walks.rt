@@ -2,7 +2,7 @@
 ghost use Rattle.std.specs.Prelude.{◌≡◌, ◌∷◌, IfOk};
 ghost use Rattle.outcome.specs.Outcome.{Outcome};
 ghost use Rattle.fs_model.specs.Tree.{upward};
-ghost use Rattle.forest.specs.Showing.{Showing};
+ghost use Rattle.forest.specs.Showing.{BlobsShow};
 ghost use Rattle.path_walks.specs.Sights.{SpotIs, SightIs, HasMode, HaveModes, Walking};
 
 use crate::{Place, Sight, Spot};
@@ -46,7 +46,7 @@ pub fn walk<B: Blobs>(
     names: &[Name],
 ) -> Result<Spot, Fail>
     requires { B.meanings.intact b.old }
-    ensures outcome { Outcome B.meanings (Showing B.holdings b.old root.now.0) b.old b.new result
+    ensures outcome { Outcome B.meanings (BlobsShow B.holdings b.old root.now.0) b.old b.new result
         (λ n s. B.holdings.stands_for b.new n.map × SpotIs n.tree n.ids (upward names.now) s) }
     ensures mode { IfOk result HasMode }
     ensures unchanged { B.holdings.changed b.new ≡ B.holdings.changed b.old }
@@ -71,7 +71,7 @@ pub fn look_at<B: Blobs>(
     name: &Name,
 ) -> Result<Sight, Fail>
     requires { B.meanings.intact b.old }
-    ensures outcome { Outcome B.meanings (Showing B.holdings b.old root.now.0) b.old b.new result
+    ensures outcome { Outcome B.meanings (BlobsShow B.holdings b.old root.now.0) b.old b.new result
         (λ n s. B.holdings.stands_for b.new n.map × SightIs n.tree n.ids (upward names.now) name.now s) }
     ensures modes { IfOk result HaveModes }
     ensures unchanged { B.holdings.changed b.new ≡ B.holdings.changed b.old }

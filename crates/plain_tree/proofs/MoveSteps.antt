@@ -14,7 +14,7 @@ use Rattle.fs_model.specs.declared.reply.Reply.TheVariants.{Done, Error}
 use Rattle.fs_model.specs.declared.attr.Attr.{Attr}
 use Rattle.fs_model.specs.Instant.{Instant}
 use Rattle.fs_model.specs.Tree.{Path, Row, Tree, parent, is_root, is_directory, same_path, children, directory_size}
-use Rattle.fs_model.specs.LookUp.{Seen, Found, Free, Bad, look}
+use Rattle.fs_model.specs.LookUp.{LookedUp, Found, Free, Bad, look}
 use Rattle.fs_model.specs.Move.{is_above}
 use Rattle.fs_model.specs.Step.{Stepped, refused, done, unless_root, has_child, moved_tree, moved_unless_large, moved_onto, moved_to, moved_from}
 use Rattle.fs_model.proofs.SizeLemmas.{no_children}
@@ -68,7 +68,7 @@ module _ (t : Tree) (p q : Path) (now : Instant) where
   abbrev pub whole : Stepped
   whole = unless_root t p (unless_root t q (moved_from t now p q (look t p)))
 
-  pub whole_from : (s : Seen) → is_root p ≡ false → is_root q ≡ false → look t p ≡ s → whole ≡ moved_from t now p q s
+  pub whole_from : (s : LookedUp) → is_root p ≡ false → is_root q ≡ false → look t p ≡ s → whole ≡ moved_from t now p q s
   whole_from s named_p named_q here =
       ap (λ b. cond b (refused t Busy) (unless_root t q (moved_from t now p q (look t p)))) named_p
       ∙ (ap (λ b. cond b (refused t Busy) (moved_from t now p q (look t p))) named_q

@@ -21,7 +21,7 @@ use Rattle.fs_model.specs.declared.reply.Reply.{Reply}
 use Rattle.fs_model.specs.declared.reply.Reply.TheVariants.{Done, Error}
 use Rattle.fs_model.specs.Instant.{Instant}
 use Rattle.fs_model.specs.Tree.{Path, Row, Tree, upward, parent, last_name, is_root, is_directory, same_path, entry_size, directory_size, root_row, IsRooted, IsWellFormed}
-use Rattle.fs_model.specs.LookUp.{Seen, Found, Free, Bad, look, goes_on}
+use Rattle.fs_model.specs.LookUp.{LookedUp, Found, Free, Bad, look, goes_on}
 use Rattle.fs_model.specs.Step.{Stepped, answered, refused, done, step, unless_root, made, has_child, removed_directory, removed_file, attributes_set, written, truncated, on_file, is_too_long, with_content, overwritten, resized}
 use Rattle.fs_model.proofs.TreeLemmas.{path_total, path_exact, path_split, insert_here, insert_apart}
 use Rattle.fs_model.proofs.LookUpLemmas.{look-walk, look-found, get-found, get-free, IsFree}
@@ -52,7 +52,7 @@ pub free_absent : (t : Tree) (p : Path) → IsWellFormed t → look t p ≡ Free
 free_absent t p formed h = let free = get-free t formed.rooted p h in free.1.1.absent
 
 -- the look-up of a path without a row, by its parent's
-pub seen_above : (t : Tree) (ns : List (List ℕ)) (s : Seen) → IsWellFormed t → 0 < length ns → get t (upward ns) ≡ None → look t (upward (take (length ns - 1) ns)) ≡ s → look t (upward ns) ≡ goes_on s None
+pub seen_above : (t : Tree) (ns : List (List ℕ)) (s : LookedUp) → IsWellFormed t → 0 < length ns → get t (upward ns) ≡ None → look t (upward (take (length ns - 1) ns)) ≡ s → look t (upward ns) ≡ goes_on s None
 seen_above t [] s formed some none above = absurd (omega arith)
 seen_above t (m ∷ ms) s formed some none above =
     let ns = m ∷ ms in

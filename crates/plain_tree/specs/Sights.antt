@@ -7,25 +7,25 @@ use Rattle.fs_model.specs.declared.error.FsError.TheVariants.{NoEntry, IsDirecto
 use Rattle.fs_model.specs.declared.attr.Attr.{Attr}
 use Rattle.fs_model.specs.declared.attr.Kind.TheVariants.{File}
 use Rattle.fs_model.specs.Tree.{Path, Row, Tree}
-use Rattle.fs_model.specs.LookUp.{Seen, Found as Stands, Free as Missing, Bad as Refused, look}
+use Rattle.fs_model.specs.LookUp.{LookedUp, Found as Stands, Free as Missing, Bad as Refused, look}
 use Rattle.fs_model.specs.Step.{by_kind}
-use Rattle.plain_tree.specs.declared.look.Sight.{Sight}
-use Rattle.plain_tree.specs.declared.look.Sight.TheVariants.{Found, Free, Bad}
+use Rattle.plain_tree.specs.declared.look.LookUp.{LookUp}
+use Rattle.plain_tree.specs.declared.look.LookUp.TheVariants.{Found, Free, Bad}
 
 -- what was seen
-abbrev pub seen_of : Sight → Seen
+abbrev pub seen_of : LookUp → LookedUp
 seen_of (Found attr bytes) = Stands (record { attr = attr; bytes = bytes.now })
 seen_of Free = Missing
 seen_of (Bad e) = Refused e
 
 -- why a look-up gives no row
-abbrev pub refusal_of : Seen → Option FsError
+abbrev pub refusal_of : LookedUp → Option FsError
 refusal_of (Stands row) = None
 refusal_of Missing = Some NoEntry
 refusal_of (Refused e) = Some e
 
 -- why the content of what was seen isn't touched
-abbrev pub file_refusal : Seen → Option FsError
+abbrev pub file_refusal : LookedUp → Option FsError
 file_refusal (Stands row) = by_kind row.attr.kind (Some IsDirectory) None (Some Invalid)
 file_refusal Missing = Some NoEntry
 file_refusal (Refused e) = Some e

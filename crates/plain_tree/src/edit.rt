@@ -6,7 +6,7 @@ ghost use Rattle.fs_model.specs.LookUp.{look};
 ghost use Rattle.fs_model.specs.Step as step;
 ghost use Rattle.plain_tree.specs.Answers.{IsAnswer};
 
-use crate::look::{Sight, look_up, row_of};
+use crate::look::{LookUp, look_up, row_of};
 use block_id::Memory;
 use fs_model::{Attr, FsError, Kind, MAX_ENTRIES, Name, Reply};
 use row_table::{Table, name_size};
@@ -29,9 +29,9 @@ pub fn make(table: &mut Table, names: &[Name], attr: Attr, bytes: Vec<u8>) -> Re
     ensures err { OnErr result (table.new ≡ table.old) }
 {
     match look_up(table, names) {
-        Sight::Found(_, _) => return Ok(Reply::Error(FsError::Exists)),
-        Sight::Free => {}
-        Sight::Bad(error) => return Ok(Reply::Error(error)),
+        LookUp::Found(_, _) => return Ok(Reply::Error(FsError::Exists)),
+        LookUp::Free => {}
+        LookUp::Bad(error) => return Ok(Reply::Error(error)),
     }
     if names.is_empty() {
         return Ok(Reply::Error(FsError::Exists));

@@ -9,19 +9,19 @@ use row_table::Table;
 
 /// What a look-up gives: a row, that the path is free, or an error.
 #[derive(Clone, Copy, Debug)]
-pub enum Sight<'a> {
+pub enum LookUp<'a> {
     Found(Attr, &'a [u8]),
     Free,
     Bad(FsError),
 }
 
 /// Looks a path up: it has a row, or its parent's look-up tells.
-pub fn look_up<'a>(table: &'a Table, names: &[Name]) -> Sight<'a>
+pub fn look_up<'a>(table: &'a Table, names: &[Name]) -> LookUp<'a>
     requires { IsWellFormed table.now }
     ensures { look table.now (upward names.now) ≡ seen_of result }
 {
     match table.row(names) {
-        Some((attr, bytes)) => return Sight::Found(attr, bytes),
+        Some((attr, bytes)) => return LookUp::Found(attr, bytes),
         None => {}
     }
     if names.is_empty() {
@@ -29,13 +29,13 @@ pub fn look_up<'a>(table: &'a Table, names: &[Name]) -> Sight<'a>
     }
     let last = names.len() - 1;
     match look_up(table, &names[..last]) {
-        Sight::Found(attr, _) => match attr.kind {
-            Kind::Directory => Sight::Free,
-            Kind::File => Sight::Bad(FsError::NotDirectory),
-            Kind::Link => Sight::Bad(FsError::NotDirectory),
+        LookUp::Found(attr, _) => match attr.kind {
+            Kind::Directory => LookUp::Free,
+            Kind::File => LookUp::Bad(FsError::NotDirectory),
+            Kind::Link => LookUp::Bad(FsError::NotDirectory),
         },
-        Sight::Free => Sight::Bad(FsError::NoEntry),
-        Sight::Bad(error) => Sight::Bad(error),
+        LookUp::Free => LookUp::Bad(FsError::NoEntry),
+        LookUp::Bad(error) => LookUp::Bad(error),
     }
 }
 
@@ -46,9 +46,9 @@ pub fn row_of<'a>(table: &'a Table, names: &[Name]) -> Result<(Attr, &'a [u8]), 
     ensures refused { IfErr result (λ e. refusal_of (look table.now (upward names.now)) ≡ Some e) }
 {
     match look_up(table, names) {
-        Sight::Found(attr, bytes) => Ok((attr, bytes)),
-        Sight::Free => Err(FsError::NoEntry),
-        Sight::Bad(error) => Err(error),
+        LookUp::Found(attr, bytes) => Ok((attr, bytes)),
+        LookUp::Free => Err(FsError::NoEntry),
+        LookUp::Bad(error) => Err(error),
     }
 }
 

@@ -14,7 +14,7 @@ ghost use Rattle.plain_tree.specs.Moves.{IsMove, held};
 
 use crate::change::same_attr;
 use crate::edit::{has_child, is_directory};
-use crate::look::{Sight, look_up, row_of};
+use crate::look::{LookUp, look_up, row_of};
 use block_id::Memory;
 use fs_model::{Attr, FsError, Kind, MAX_ENTRIES, Moment, Name, Reply};
 use row_table::{Table, name_size};
@@ -177,9 +177,9 @@ pub fn move_rows(
         return Ok(Reply::Error(FsError::Invalid));
     }
     let onto = match look_up(table, to) {
-        Sight::Found(onto, _) => onto.kind,
-        Sight::Free => return relocate(table, from, to, attr, false, now),
-        Sight::Bad(error) => return Ok(Reply::Error(error)),
+        LookUp::Found(onto, _) => onto.kind,
+        LookUp::Free => return relocate(table, from, to, attr, false, now),
+        LookUp::Bad(error) => return Ok(Reply::Error(error)),
     };
     move_onto(table, from, to, attr, onto, now)
 }

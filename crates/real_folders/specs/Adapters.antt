@@ -8,7 +8,7 @@ use Rattle.outside.specs.MemoryStreams.{one_more}
 use Rattle.outside.specs.Trace.{Call}
 
 -- the path of a block directory, and how often a call failed
-pub record VaultState : Type 0 where
+pub record FolderVaultState : Type 0 where
   pub directory : List ℕ
   pub faults : ℕ
 
@@ -17,7 +17,7 @@ abbrev pub untold : Option (List Call)
 untold = None
 
 -- the record that was read or saved last, the length up to which one can be saved, and how often a call failed
-pub record KeeperState : Type 0 where
+pub record FolderKeeperState : Type 0 where
   pub kept : Option (List ℕ)
   pub room : ℕ
   pub faults : ℕ

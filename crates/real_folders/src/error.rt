@@ -1,7 +1,7 @@
 // Why a call on a real folder fails, and how it is counted.
 ghost use Rattle.std.specs.Prelude.{◌≡◌, IfOk};
 ghost use Rattle.std.specs.declared.result.Result.TheVariants.{Ok};
-ghost use Rattle.outside.specs.Causes.{HasCause};
+ghost use Rattle.outside.specs.Causes.{GetHasCause};
 ghost use Rattle.real_folders.specs.Adapters.{counted};
 
 use outside::GetFail;
@@ -22,7 +22,7 @@ pub enum FolderError {
 pub fn count<T: Drop>(faults: &mut u64, answer: Result<T, FolderError>) -> Result<T, GetFail>
     ensures value { IfOk result (λ x. answer ≡ Ok x) }
     ensures faults { faults.new ≡ counted result faults.old }
-    ensures cause { HasCause faults.old faults.new result }
+    ensures cause { GetHasCause faults.old faults.new result }
 {
     match answer {
         Ok(value) => Ok(value),

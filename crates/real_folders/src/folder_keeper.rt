@@ -2,7 +2,7 @@
 ghost use Rattle.std.specs.Prelude.{◌≡◌, ◌⊎◌, ◌≤◌, length, IfOk, OnOk, OnErr, IsTrue};
 ghost use Rattle.std.specs.declared.option.Option.TheVariants.{None, Some};
 ghost use Rattle.std.specs.Option.{option_map};
-ghost use Rattle.outside.specs.Causes.{HasCause, RoseBy};
+ghost use Rattle.outside.specs.Causes.{GetHasCause, RoseBy};
 ghost use Rattle.outside.specs.MemoryStreams.{one_more};
 ghost use Rattle.outside.specs.View.{bytes_of};
 ghost use Rattle.real_folders.specs.Adapters.{counted};
@@ -39,9 +39,9 @@ pub struct FolderKeeper<'a, R: Files> {
 }
 
 impl<'a, R: Files> Model for FolderKeeper<'a, R> {
-    ghost use Rattle.real_folders.specs.Adapters.{KeeperState};
+    ghost use Rattle.real_folders.specs.Adapters.{FolderKeeperState};
 
-    ghost Value = { KeeperState };
+    ghost Value = { FolderKeeperState };
 
     ghost view = { λ k. record { kept = k.known.kept; room = k.known.room; faults = k.faults } };
 }
@@ -164,7 +164,7 @@ where
         ensures ok { IfOk result (λ answer. bytes_of answer ≡ self.old.kept) }
         ensures kept { self.new.kept ≡ self.old.kept }
         ensures room { self.old.room ≤ self.new.room }
-        ensures cause { HasCause self.old.faults self.new.faults result }
+        ensures cause { GetHasCause self.old.faults self.new.faults result }
 
         ensures counts { self.new ≡ record self.old { faults = counted result self.old.faults } }
     {

@@ -2,7 +2,7 @@
 ghost use Rattle.std.specs.Prelude.{◌≡◌, ◌⊎◌, ◌≤◌, List, true, false, length, IfOk, IfSome, OnOk, OnErr};
 ghost use Rattle.std.specs.declared.option.Option.{Option};
 ghost use Rattle.std.specs.declared.option.Option.TheVariants.{None};
-ghost use Rattle.outside.specs.Causes.{HasCause};
+ghost use Rattle.outside.specs.Causes.{GetHasCause};
 ghost use Rattle.outside.specs.Trace.{Call, got, put, removed, adds};
 ghost use Rattle.outside.specs.View.{at_of, bytes_of};
 ghost use Rattle.real_folders.specs.Adapters.{counted, untold};
@@ -33,9 +33,9 @@ pub struct FolderVault<'a, R: Files> {
 }
 
 impl<'a, R: Files> Model for FolderVault<'a, R> {
-    ghost use Rattle.real_folders.specs.Adapters.{VaultState};
+    ghost use Rattle.real_folders.specs.Adapters.{FolderVaultState};
 
-    ghost Value = { VaultState };
+    ghost Value = { FolderVaultState };
 
     ghost view = { λ v. record { directory = v.directory.now; faults = v.faults } };
 }
@@ -164,7 +164,7 @@ where
         ensures bound { IfOk result (λ answer. IfSome answer (λ bytes. length bytes.items ≤ max)) }
         ensures ok { IfOk result (λ answer. untold ≡ adds untold (got (at_of name.now) max (bytes_of answer))) }
         ensures err { OnErr result (untold ≡ untold) }
-        ensures cause { HasCause self.old.faults self.new.faults result }
+        ensures cause { GetHasCause self.old.faults self.new.faults result }
 
         ensures counts { self.new ≡ record self.old { faults = counted result self.old.faults } }
     {
@@ -175,7 +175,7 @@ where
     fn put(&mut self, alloc: Global, name: &FileName, bytes: &[u8]) -> Result<(), GetFail>
         ensures ok { OnOk result (untold ≡ adds untold (put (at_of name.now) bytes.now true)) }
         ensures err { OnErr result ((untold ≡ untold) ⊎ (untold ≡ adds untold (put (at_of name.now) bytes.now false))) }
-        ensures cause { HasCause self.old.faults self.new.faults result }
+        ensures cause { GetHasCause self.old.faults self.new.faults result }
 
         ensures counts { self.new ≡ record self.old { faults = counted result self.old.faults } }
     {
@@ -186,7 +186,7 @@ where
     fn remove(&mut self, alloc: Global, name: &FileName) -> Result<(), GetFail>
         ensures ok { OnOk result (untold ≡ adds untold (removed (at_of name.now) true)) }
         ensures err { OnErr result ((untold ≡ untold) ⊎ (untold ≡ adds untold (removed (at_of name.now) false))) }
-        ensures cause { HasCause self.old.faults self.new.faults result }
+        ensures cause { GetHasCause self.old.faults self.new.faults result }
 
         ensures counts { self.new ≡ record self.old { faults = counted result self.old.faults } }
     {

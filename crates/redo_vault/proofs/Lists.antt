@@ -7,13 +7,13 @@ use Rattle.std.proofs.lemmas.List.Sums.{sum_by_more}
 use Rattle.std.specs.declared.option.Option.{Option}
 use Rattle.outside.specs.declared.change.Pending.{Pending}
 use Rattle.outside.specs.Trace.{At, Call, adds}
-use Rattle.outside.specs.Changes.{Changes, set_change, set_changes}
+use Rattle.outside.specs.Changes.{FileChanges, set_change, set_changes}
 use Rattle.outside.specs.View.{at_of, change_of, pending_of, list_of}
 use Rattle.outside.proofs.Lists.{item_here}
 use Rattle.redo_vault.specs.Redo.{bytes_len, buffered_len}
 use Rattle.outside.specs.Writes.{call_for, after_writes, StopsAt}
 
-after_push : (done : Changes) (change : At × Option (List ℕ)) (trace : Option (List Call)) → after_writes (done ++ change ∷ []) trace ≡ adds (after_writes done trace) (call_for change true)
+after_push : (done : FileChanges) (change : At × Option (List ℕ)) (trace : Option (List Call)) → after_writes (done ++ change ∷ []) trace ≡ adds (after_writes done trace) (call_for change true)
 after_push [] change trace = refl
 after_push (first ∷ done) change trace = after_push done change (adds trace (call_for first true))
 
@@ -33,7 +33,7 @@ written_more ps i p first before now h is written wrote =
     wrote ∙ ap (λ t. adds t (call_for (pending_of p) true)) written ∙ sym (after_push (take i (list_of ps)) (pending_of p) first)
     ∙ ap (λ done. after_writes done first) (sym (take_here ps i p h is))
 
-failed_trace : (done : Changes) (change : At × Option (List ℕ)) (first before now : Option (List Call)) → before ≡ after_writes done first
+failed_trace : (done : FileChanges) (change : At × Option (List ℕ)) (first before now : Option (List Call)) → before ≡ after_writes done first
     → (now ≡ before) ⊎ (now ≡ adds before (call_for change false)) → (now ≡ after_writes done first) ⊎ (now ≡ adds (after_writes done first) (call_for change false))
 failed_trace done change first before now written (inl same) = inl (same ∙ written)
 failed_trace done change first before now written (inr went) = inr (went ∙ ap (λ t. adds t (call_for change false)) written)
@@ -59,7 +59,7 @@ pub front_dropped : (ps rotated_ps new : List Pending) (n left : ℕ) → n ≤ 
 front_dropped ps rotated_ps new n left h e r t =
     ap list_of (t ∙ ap (take left) r ∙ rotated ps n left h e) ∙ sym (drop-map pending_of n ps)
 
-pub set_more : (ps : List Pending) (i : ℕ) (p : Pending) (old new target : Changes) → i < length ps → p ≡ get_or ps i p
+pub set_more : (ps : List Pending) (i : ℕ) (p : Pending) (old new target : FileChanges) → i < length ps → p ≡ get_or ps i p
     → set_changes (drop i (list_of ps)) old ≡ target → new ≡ set_change (at_of p.name) (change_of p.change) old → set_changes (drop (i + 1) (list_of ps)) new ≡ target
 set_more ps i p old new target h is so e =
     ap (set_changes (drop (i + 1) (list_of ps))) e ∙ ap (λ changes. set_changes changes old) (sym (item_here ps i p h is)) ∙ so

@@ -3,12 +3,12 @@ use Rattle.std.specs.Prelude.{◌≡◌, ℕ, ◌-◌, ◌^◌, min, List, lengt
 use Rattle.std.specs.declared.option.Option.{Option}
 use Rattle.std.specs.declared.option.Option.TheVariants.{None, Some}
 use Rattle.outside.specs.Trace.{At, Call, got, adds}
-use Rattle.outside.specs.Changes.{Changes, cut}
+use Rattle.outside.specs.Changes.{FileChanges, cut}
 
 -- the directory below, and the changes in order of their names
 pub record Redo (V : Type 0) : Type 0 where
   pub vault : V
-  pub list : Changes
+  pub list : FileChanges
 
 -- A get gave this answer: where the list has the name, its bytes cut at max, without a call; else by one call.
 abbrev pub Gave : Option (Option (List ℕ)) → Option (List Call) → Option (List Call) → At → ℕ → Option (List ℕ) → Type 0
@@ -21,5 +21,5 @@ bytes_len None = 0
 bytes_len (Some bytes) = length bytes
 
 -- how many bytes are to be put, up to the end of the type
-abbrev pub buffered_len : Changes → ℕ
+abbrev pub buffered_len : FileChanges → ℕ
 buffered_len list = min (sum_by (λ change. bytes_len change.1) list) (2 ^ 64 - 1)

@@ -2,9 +2,9 @@
 ghost use Rattle.std.specs.Prelude.{◌≡◌, ◌⊎◌, ◌≤◌, ◌<◌, ◌+◌, [], length, vec_len, vec_capacity, drop, true, false, IfOk, IfSome, OnOk, OnErr, IsErrOf};
 ghost use Rattle.std.specs.declared.option.Option.{Option};
 ghost use Rattle.std.specs.declared.option.Option.TheVariants.{None, Some};
-ghost use Rattle.outside.specs.Causes.{HasCause};
+ghost use Rattle.outside.specs.Causes.{GetHasCause};
 ghost use Rattle.outside.specs.Trace.{adds};
-ghost use Rattle.outside.specs.Changes.{Changes, IsIncreasing, change_at, set_changes};
+ghost use Rattle.outside.specs.Changes.{FileChanges, IsIncreasing, change_at, set_changes};
 ghost use Rattle.outside.specs.View.{at_of, bytes_of, change_of, list_of, pending_of};
 ghost use Rattle.redo_vault.specs.Redo.{Gave, bytes_len, buffered_len};
 ghost use Rattle.outside.specs.Writes.{call_for, after_writes, StopsAt};
@@ -32,12 +32,12 @@ impl<V> Model for RedoVault<V> {
     ghost invariant = { λ r. IsIncreasing (list_of r.list.items) };
 }
 
-// Makes the one call that writes a change.
+/// Makes the one call that writes a change.
 fn write<V: Vault>(alloc: Global, vault: &mut V, pending: &Pending) -> Result<(), GetFail>
     ensures ok { OnOk result (V.trace vault.new ≡ adds (V.trace vault.old) (call_for (pending_of pending.now) true)) }
     ensures err { OnErr result ((V.trace vault.new ≡ V.trace vault.old)
         ⊎ (V.trace vault.new ≡ adds (V.trace vault.old) (call_for (pending_of pending.now) false))) }
-    ensures cause { HasCause (V.faults vault.old) (V.faults vault.new) result }
+    ensures cause { GetHasCause (V.faults vault.old) (V.faults vault.new) result }
 {
     match &pending.change {
         Change::Bytes(bytes) => vault.put(alloc, &pending.name, bytes),
@@ -45,7 +45,7 @@ fn write<V: Vault>(alloc: Global, vault: &mut V, pending: &Pending) -> Result<()
     }
 }
 
-// Writes the changes in order until a call fails, and says how many were written.
+/// Writes the changes in order until a call fails, and says how many were written.
 fn write_all<V: Vault>(
     alloc: Global,
     vault: &mut V,
@@ -55,7 +55,7 @@ fn write_all<V: Vault>(
     ensures all { OnOk result.1 (result.0 ≡ length list.now) }
     ensures ok { OnOk result.1 (V.trace vault.new ≡ after_writes (list_of list.now) (V.trace vault.old)) }
     ensures err { OnErr result.1 (StopsAt (list_of list.now) (V.trace vault.old) (V.trace vault.new) (drop result.0 (list_of list.now))) }
-    ensures cause { HasCause (V.faults vault.old) (V.faults vault.new) result.1 }
+    ensures cause { GetHasCause (V.faults vault.old) (V.faults vault.new) result.1 }
     ensures idle { length list.now ≡ 0 → vault.new ≡ vault.old }
 {
     for (i, pending) in list.iter().enumerate() {
@@ -67,7 +67,7 @@ fn write_all<V: Vault>(
     (list.len(), Ok(()))
 }
 
-// Sets the changes, one after another, in a list that has room for them.
+/// Sets the changes, one after another, in a list that has room for them.
 fn set_all(list: &mut Vec<Pending>, changes: Vec<Pending>)
     requires { vec_len list.old + vec_len changes ≤ vec_capacity list.old }
     ensures { list_of list.new.items ≡ set_changes (list_of changes.items) (list_of list.old.items) }
@@ -77,7 +77,7 @@ fn set_all(list: &mut Vec<Pending>, changes: Vec<Pending>)
     }
 }
 
-// Drops the first n changes.
+/// Drops the first n changes.
 fn drop_front(list: &mut Vec<Pending>, n: usize)
     requires { n ≤ vec_len list.old }
     ensures { list_of list.new.items ≡ drop n (list_of list.old.items) }
@@ -146,7 +146,7 @@ impl<V: Vault> RedoVault<V> {
         ensures without_a_call { IfSome (change_at (at_of name.now) self.old.list) (λ _. self.new ≡ self.old) }
         ensures failed_by_a_call { IsErrOf result GetFail.Failed → change_at (at_of name.now) self.old.list ≡ None }
         ensures list { self.new.list ≡ self.old.list }
-        ensures cause { HasCause (V.faults self.old.vault) (V.faults self.new.vault) result }
+        ensures cause { GetHasCause (V.faults self.old.vault) (V.faults self.new.vault) result }
     {
         match pending_list::lookup(&self.list, name) {
             Some(change) => Ok(pending_list::cut_change(alloc, change, max)?),
@@ -179,7 +179,7 @@ impl<V: Vault> RedoVault<V> {
         ensures all_left { OnOk result (self.new.list ≡ []) }
         ensures err { OnErr result (StopsAt self.old.list (V.trace self.old.vault) (V.trace self.new.vault) self.new.list) }
         ensures idle { length self.old.list ≡ 0 → self.new.vault ≡ self.old.vault }
-        ensures cause { HasCause (V.faults self.old.vault) (V.faults self.new.vault) result }
+        ensures cause { GetHasCause (V.faults self.old.vault) (V.faults self.new.vault) result }
     {
         let (written, outcome) = write_all(alloc, &mut self.vault, &self.list);
         drop_front(&mut self.list, written);

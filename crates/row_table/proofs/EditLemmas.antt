@@ -24,7 +24,7 @@ use Rattle.fs_model.proofs.TreeLemmas.{path_total, path_exact, path_split, path_
 use Rattle.tree_rules.proofs.PathLemmas.{last_split, last_at}
 use Rattle.row_table.specs.declared.rows.Folder.{Folder}
 use Rattle.row_table.specs.declared.rows.Item.{Item}
-use Rattle.row_table.specs.Sorted.{IsAt, IsGap}
+use Rattle.row_table.specs.Sorted.{IsElementAt, IsGap}
 use Rattle.row_table.specs.Rows.{Names, item_row, item_entry, names_of, folder_entry, folders, inside, flat, tree_of}
 use Rattle.row_table.specs.Formed.{IsFull, AllFull, IsOrdered}
 use Rattle.row_table.specs.Places.{IsRowAt, IsTable}
@@ -71,7 +71,7 @@ put_edited old new n q es o ordered is full at =
     )
 
 -- another directory in its place
-pub folder_set : (fs : List (Box Folder)) (p : Path) (f : ℕ) (x b : Box Folder) (y : Folder) (o : Option Row) → IsOrdered fs → is_root p ≡ false → IsAt path_cmp folder_entry fs (parent p) f
+pub folder_set : (fs : List (Box Folder)) (p : Path) (f : ℕ) (x b : Box Folder) (y : Folder) (o : Option Row) → IsOrdered fs → is_root p ≡ false → IsElementAt path_cmp folder_entry fs (parent p) f
     → x ≡ get_or fs f x → y ≡ x.value → b.value.path ≡ y.path → IsFull b.value
     → ((m : List ℕ) → find name_cmp m (names_of b.value) ≡ cond (eq_by_cmp name_cmp m (last_name p)) o (find name_cmp m (names_of y)))
     → IsOrdered (set fs f b) × ((r : Path) → get (tree_of (set fs f b)) r ≡ cond (same_path r p) o (get (tree_of fs) r))
@@ -89,7 +89,7 @@ remove_set (y ∷ ys) zero x = refl
 remove_set (y ∷ ys) (suc i) x = ap (λ zs. y ∷ zs) (remove_set ys i x)
 
 -- a directory whose last row goes, goes
-pub folder_gone : (fs : List (Box Folder)) (p : Path) (f : ℕ) (x b : Box Folder) (y : Folder) → IsOrdered fs → is_root p ≡ false → IsAt path_cmp folder_entry fs (parent p) f
+pub folder_gone : (fs : List (Box Folder)) (p : Path) (f : ℕ) (x b : Box Folder) (y : Folder) → IsOrdered fs → is_root p ≡ false → IsElementAt path_cmp folder_entry fs (parent p) f
     → x ≡ get_or fs f x → y ≡ x.value → names_of b.value ≡ []
     → ((m : List ℕ) → find name_cmp m (names_of b.value) ≡ cond (eq_by_cmp name_cmp m (last_name p)) None (find name_cmp m (names_of y)))
     → IsOrdered (remove (set fs f b) f) × ((r : Path) → get (tree_of (remove (set fs f b) f)) r ≡ cond (same_path r p) None (get (tree_of fs) r))
@@ -134,8 +134,8 @@ pub row_behind : (fs : List (Box Folder)) (p : Path) (f i : ℕ) (x : Box Folder
     → get (tree_of fs) p ≡ Some (item_row (get_or y.items.items i e).value)
 row_behind fs p f i x y e ordered named at hx hy = row_at fs p f i x e ordered named at ∙ ap (λ z. Some (item_row (get_or z.items.items i e).value)) (sym (hy ∙ ap (λ b. b.value) hx))
 
-pub item_behind : (fs : List (Box Folder)) (p : Path) (f i : ℕ) (x : Box Folder) (y : Folder) → IsRowAt fs p f i → x ≡ get_or fs f x → y ≡ x.value → IsAt name_cmp item_entry y.items.items (last_name p) i
-item_behind fs p f i x y at hx hy = subst (λ z. IsAt name_cmp item_entry z.items.items (last_name p) i) (sym (hy ∙ ap (λ b. b.value) hx)) (at.item x)
+pub item_behind : (fs : List (Box Folder)) (p : Path) (f i : ℕ) (x : Box Folder) (y : Folder) → IsRowAt fs p f i → x ≡ get_or fs f x → y ≡ x.value → IsElementAt name_cmp item_entry y.items.items (last_name p) i
+item_behind fs p f i x y at hx hy = subst (λ z. IsElementAt name_cmp item_entry z.items.items (last_name p) i) (sym (hy ∙ ap (λ b. b.value) hx)) (at.item x)
 
 -- rows that aren't there
 pub no_folder : (fs : List (Box Folder)) (ns : List (List ℕ)) → IsOrdered fs → 0 < length ns → find path_cmp (upward (take (length ns - 1) ns)) (folders fs) ≡ None → get (tree_of fs) (upward ns) ≡ None
@@ -144,7 +144,7 @@ no_folder fs ns ordered some none =
     ap (get (tree_of fs)) s.1 ∙ (get_named fs s.0 (upward (take (length ns - 1) ns)) ordered.sorted ∙ ap (λ z. inside z s.0) none)
 
 pub in_folder : (fs : List (Box Folder)) (ns : List (List ℕ)) (n : List ℕ) (f : ℕ) (x : Box Folder) (y : Folder) → IsOrdered fs → 0 < length ns → n ≡ get_or ns (length ns - 1) n
-    → IsAt path_cmp folder_entry fs (upward (take (length ns - 1) ns)) f → x ≡ get_or fs f x → y ≡ x.value → get (tree_of fs) (upward ns) ≡ find name_cmp n (names_of y)
+    → IsElementAt path_cmp folder_entry fs (upward (take (length ns - 1) ns)) f → x ≡ get_or fs f x → y ≡ x.value → get (tree_of fs) (upward ns) ≡ find name_cmp n (names_of y)
 in_folder fs ns n f x y ordered some hn at hx hy =
     let q = upward (take (length ns - 1) ns) in
     ap (get (tree_of fs)) (last_at ns n some ∙ ap (λ z. z ∷ q) (sym hn))
@@ -158,7 +158,7 @@ abbrev pub row_with : Attr → List ℕ → Row
 row_with attr bytes = record { attr = attr; bytes = bytes }
 
 -- a directory whose rows stay
-pub folder_kept : (fs : List (Box Folder)) (q : Path) (f : ℕ) (x b : Box Folder) (y : Folder) → IsOrdered fs → IsAt path_cmp folder_entry fs q f
+pub folder_kept : (fs : List (Box Folder)) (q : Path) (f : ℕ) (x b : Box Folder) (y : Folder) → IsOrdered fs → IsElementAt path_cmp folder_entry fs q f
     → x ≡ get_or fs f x → y ≡ x.value → b.value.path ≡ y.path → IsFull b.value → names_of b.value ≡ names_of y → IsTable (set fs f b) (tree_of fs)
 folder_kept fs q f x b y ordered at hx hy path full rows =
     let same : upward b.value.path ≡ upward (get_or fs f x).value.path = ap upward (path ∙ ap (λ z. z.path) (hy ∙ ap (λ z. z.value) hx)) in
@@ -176,7 +176,7 @@ folder_kept fs q f x b y ordered at hx hy path full rows =
     }
 
 -- the bytes that the entries of a directory take
-pub folder_size : (fs : List (Box Folder)) (q : Path) (f : ℕ) (x : Box Folder) (y : Folder) → IsOrdered fs → IsAt path_cmp folder_entry fs q f → x ≡ get_or fs f x → y ≡ x.value → y.size ≡ directory_size (tree_of fs) q
+pub folder_size : (fs : List (Box Folder)) (q : Path) (f : ℕ) (x : Box Folder) (y : Folder) → IsOrdered fs → IsElementAt path_cmp folder_entry fs q f → x ≡ get_or fs f x → y ≡ x.value → y.size ≡ directory_size (tree_of fs) q
 folder_size fs q f x y ordered at hx hy =
     let full = full_at fs f x ordered.full at.in_range in
     ap (λ z. z.size) (hy ∙ ap (λ b. b.value) hx)

@@ -16,7 +16,7 @@ use Rattle.std.specs.Cmp.{IsTotalOrder, tied_itself}
 use Rattle.std.specs.FinMap.{find, is_sorted}
 use Rattle.std.specs.FinMap.Entries.{put, by_order, below_all, where_key}
 use Rattle.fs_model.proofs.TreeLemmas.{left_T, right_T}
-use Rattle.row_table.specs.Sorted.{IsAt, IsGap}
+use Rattle.row_table.specs.Sorted.{IsElementAt, IsGap}
 
 less_is : (o : Ordering) → T (is_lt o) → o ≡ Less
 less_is Less h = refl
@@ -144,7 +144,7 @@ module _ {A K X : Type 0} {R : K → K → Ordering} (o : IsTotalOrder R) (entry
 
   -- what a search by halves finds
   pub searched_at : ((x y : K) → R x y ≡ Equal → x ≡ y) → (xs : List A) (p : K) (r : Result ℕ ℕ) → T (is_sorted R (map entry xs)) → IsSearchInRange r (length xs)
-      → IsBinarySearchResult (λ x. R (entry x).0 p) xs r → IfOk r (IsAt R entry xs p)
+      → IsBinarySearchResult (λ x. R (entry x).0 p) xs r → IfOk r (IsElementAt R entry xs p)
   searched_at exact xs p (Err i) h range position = tt
   searched_at exact xs p (Ok i) h range position = record {
     in_range = range;

@@ -3,14 +3,14 @@ use Rattle.std.specs.Prelude.{◌≡◌, ℕ, List, slice_index_or}
 use Rattle.std.specs.Global.{Box}
 use Rattle.fs_model.specs.Tree.{Path, Tree, name_cmp, path_cmp, parent, last_name}
 use Rattle.row_table.specs.declared.rows.Folder.{Folder}
-use Rattle.row_table.specs.Sorted.{IsAt}
+use Rattle.row_table.specs.Sorted.{IsElementAt}
 use Rattle.row_table.specs.Rows.{item_entry, folder_entry, tree_of}
 use Rattle.row_table.specs.Formed.{IsOrdered}
 
 -- the row of this path is the i-th of the f-th directory
 pub record IsRowAt (fs : List (Box Folder)) (p : Path) (f i : ℕ) : Type 0 where
-  pub folder : IsAt path_cmp folder_entry fs (parent p) f
-  pub item : (d : Box Folder) → IsAt name_cmp item_entry (slice_index_or fs f d).value.items.items (last_name p) i
+  pub folder : IsElementAt path_cmp folder_entry fs (parent p) f
+  pub item : (d : Box Folder) → IsElementAt name_cmp item_entry (slice_index_or fs f d).value.items.items (last_name p) i
 
 -- the directories are this tree, and in order
 pub record IsTable (fs : List (Box Folder)) (t : Tree) : Type 0 where

@@ -10,7 +10,7 @@ abbrev pub pairs : {A K X : Type 0} → (A → K × X) → List A → List (K ×
 pairs entry xs = map entry xs
 
 -- the element of this key
-pub record IsAt {A K X : Type 0} (R : K → K → Ordering) (entry : A → K × X) (xs : List A) (k : K) (i : ℕ) : Type 0 where
+pub record IsElementAt {A K X : Type 0} (R : K → K → Ordering) (entry : A → K × X) (xs : List A) (k : K) (i : ℕ) : Type 0 where
   pub in_range : i < length xs
   pub key : (d : A) → (entry (slice_index_or xs i d)).0 ≡ k
   pub found : (d : A) → find R k (map entry xs) ≡ Some (entry (slice_index_or xs i d)).1

@@ -2,7 +2,7 @@
 ghost use Rattle.std.specs.Prelude.{T, IfOk, IfErr, map};
 ghost use Rattle.std.specs.FinMap.{is_sorted};
 ghost use Rattle.fs_model.specs.Tree.{upward, path_cmp, name_cmp};
-ghost use Rattle.row_table.specs.Sorted.{IsAt, IsGap};
+ghost use Rattle.row_table.specs.Sorted.{IsElementAt, IsGap};
 ghost use Rattle.row_table.specs.Rows.{folder_entry, item_entry};
 
 use crate::rows::{Folder, Item};
@@ -12,7 +12,7 @@ use tree_rules::cmp_names;
 /// The directory of a path, or the place where it would stand.
 pub fn find_folder(folders: &[Box<Folder>], names: &[Name]) -> Result<usize, usize>
     requires { T (is_sorted path_cmp (map folder_entry folders.now)) }
-    ensures found { IfOk result (IsAt path_cmp folder_entry folders.now (upward names.now)) }
+    ensures found { IfOk result (IsElementAt path_cmp folder_entry folders.now (upward names.now)) }
     ensures absent { IfErr result (IsGap path_cmp folder_entry folders.now (upward names.now)) }
 {
     folders.binary_search_by(|folder| cmp_names(folder.path.names(), names))
@@ -21,7 +21,7 @@ pub fn find_folder(folders: &[Box<Folder>], names: &[Name]) -> Result<usize, usi
 /// The row of a name, or the place where it would stand.
 pub fn find_item(items: &[Box<Item>], name: &Name) -> Result<usize, usize>
     requires { T (is_sorted name_cmp (map item_entry items.now)) }
-    ensures found { IfOk result (IsAt name_cmp item_entry items.now name.now) }
+    ensures found { IfOk result (IsElementAt name_cmp item_entry items.now name.now) }
     ensures absent { IfErr result (IsGap name_cmp item_entry items.now name.now) }
 {
     items.binary_search_by(|item| item.name.as_slice().cmp(&name.as_slice()))

@@ -17,7 +17,7 @@ use Rattle.mount_core.specs.Standing.{IsKeptMarked}
 use Rattle.outside.specs.Trace.{Call}
 use Rattle.outside.specs.declared.keeper.Keeper.{Ghosts as KeeperGhosts}
 use Rattle.run_status.specs.declared.status.Status.TheVariants.{Done}
-use Rattle.session_runs.specs.Runs.{Outside, outside_of, StandsFor}
+use Rattle.session_runs.specs.Runs.{Outside, outside_of, OutsideStandsFor}
 use Rattle.shell_words.specs.declared.form.Form.{Form}
 use Rattle.shell_words.specs.declared.form.Form.TheVariants.{Create}
 use Rattle.shell_words.specs.Forms.{form_of}
@@ -40,7 +40,7 @@ goes_on first second third a b = record { kept = b.kept ∙ a.kept; calls = b.ca
 marked_is_some : (kept : Option (List ℕ)) → IsKeptMarked records kept → is_some kept ≡ true
 marked_is_some kept m = ap is_some m.1
 
-end_is_some : (c : Settings) (tree : Tree) (was : Bool) (end : Outside) → StandsFor ShowsFiles c tree end ⊎ ((was ≡ true) × IsKeptMarked records end.kept) → is_some end.kept ≡ true
+end_is_some : (c : Settings) (tree : Tree) (was : Bool) (end : Outside) → OutsideStandsFor ShowsFiles c tree end ⊎ ((was ≡ true) × IsKeptMarked records end.kept) → is_some end.kept ≡ true
 end_is_some c tree was end (inl s) = ap is_some s.keeps.represents.1
 end_is_some c tree was end (inr m) = marked_is_some end.kept m.1
 
@@ -63,7 +63,7 @@ module _ {V : Type 0} {K : Type 0} (trace : V → Option (List Call)) (faults : 
 
   -- ---- what they do from a kept tree on
 
-  module _ (composes : RunsCompose ShowsFiles) (c : Settings) (first : Tree) (start : Outside) (stands : StandsFor ShowsFiles c first start) where
+  module _ (composes : RunsCompose ShowsFiles) (c : Settings) (first : Tree) (start : Outside) (stands : OutsideStandsFor ShowsFiles c first start) where
     -- the runs go on from one another, and the calls left what the last of them did
     record AreLinked (calls : List RunCall) (runs : List Run) : Type 0 where
       are_runs : AreRuns ShowsFiles c start runs
@@ -104,7 +104,7 @@ module _ {V : Type 0} {K : Type 0} (trace : V → Option (List Call)) (faults : 
     NewSettings = new_settings options.block_size (drawn made.chance).0
 
     reported : (file : List ℕ) (id : Result BlockId OpenError) → Reports id made.output h.ended.status → OnOk id (G.kept h.keeper ≡ None)
-        → (G.kept h.keeper ≡ None → Made ShowsFiles NewSettings file (G.kept h.keeper) (G.kept h.ended.keeper) (trace h.ended.vault) id) → StandsFor ShowsFiles NewSettings empty_tree (outside_of trace faults G h.ended.vault h.ended.keeper)
+        → (G.kept h.keeper ≡ None → Made ShowsFiles NewSettings file (G.kept h.keeper) (G.kept h.ended.keeper) (trace h.ended.vault) id) → OutsideStandsFor ShowsFiles NewSettings empty_tree (outside_of trace faults G h.ended.vault h.ended.keeper)
     reported file (Ok id) r none stands = (stands none).0.represents
     reported file (Err error) r none stands = absurd (opening_is_no error h.ended.status Done r.0 (sym h.status ∙ done) (λ x. x))
 
@@ -112,12 +112,12 @@ module _ {V : Type 0} {K : Type 0} (trace : V → Option (List Call)) (faults : 
     on_ok (Ok id) P Q both = both.0
     on_ok (Err error) P Q both = tt
 
-    created : Did trace faults G made h.vault h.keeper h.ended (Some (Create options)) → StandsFor ShowsFiles NewSettings empty_tree (outside_of trace faults G h.ended.vault h.ended.keeper)
+    created : Did trace faults G made h.vault h.keeper h.ended (Some (Create options)) → OutsideStandsFor ShowsFiles NewSettings empty_tree (outside_of trace faults G h.ended.vault h.ended.keeper)
     created (inl u) = absurd (unread_is_no h.ended.status Done (one_unread made.input h.ended.status u.cause).unread (sym h.status ∙ done) (λ x. x))
     created (inr (password, script, has, unfailed, c)) =
         reported _ c.made c.reports (on_ok c.made (G.kept h.keeper ≡ None) _ c.absent) (λ none. c.stands (subst (λ (o : Outside). IsUnchanged o.calls) h.begins unchanged) none)
 
-    pub made_stands : form_of made.words ≡ Some (Create options) → StandsFor ShowsFiles NewSettings empty_tree made.after
+    pub made_stands : form_of made.words ≡ Some (Create options) → OutsideStandsFor ShowsFiles NewSettings empty_tree made.after
     made_stands asked =
-        subst (λ (o : Outside). StandsFor ShowsFiles NewSettings empty_tree o) (sym h.ends)
+        subst (λ (o : Outside). OutsideStandsFor ShowsFiles NewSettings empty_tree o) (sym h.ends)
         (created (subst (λ (form : Option Form). Did trace faults G made h.vault h.keeper h.ended form) asked h.did))

@@ -17,19 +17,19 @@ use Rattle.passwords.specs.Passwords.{IsNextPassword, PasswordUnread, PasswordsU
 use Rattle.run_openings.specs.Openings.{AreUncalled, IsUnread, IsUnopened}
 use Rattle.run_status.specs.declared.status.Status.{Status}
 use Rattle.run_status.specs.declared.status.Status.TheVariants.{Done}
-use Rattle.session_runs.specs.Runs.{Outside, outside_of, StandsFor, IsQuiet}
+use Rattle.session_runs.specs.Runs.{Outside, outside_of, OutsideStandsFor, IsQuietRun}
 use Rattle.shell_sessions.specs.Sessions.{Session}
 use Rattle.shell_words.specs.declared.form.Form.{Form}
 use Rattle.shell_words.specs.declared.form.Form.TheVariants.{Trial, TrialGenerate, Create, Info, Passwd, Shell, Generate, Command}
 use Rattle.shell_words.specs.Forms.{form_of}
 use Rattle.tree_commands.specs.Showing.{ShowsFiles}
 use Rattle.histories.specs.Histories.{Run, session, quiet, before_of, after_of, IsRun, GoesOnFrom}
-use Rattle.cryfs_shell.specs.Clauses.{IsRefusal, NoFalseAlarm, FaultsHappened}
+use Rattle.cryfs_shell.specs.Clauses.{IsRefusingStatus, NoFalseAlarm, FaultsHappened}
 use Rattle.cryfs_shell.specs.Kinds.{opens, is_session}
 use Rattle.cryfs_shell.proofs.Statuses.{opening_is_no}
 use Rattle.cryfs_shell.proofs.Sessions.{UnreadCause, one_unread, two_unread, unread_is_no, password_is}
 use Rattle.run_histories.specs.Calls.{RunCall, Did, IsRunCall}
-use Rattle.run_histories.specs.Lists.{Answered, Comes, IsRunOf, creates, password_of}
+use Rattle.run_histories.specs.Lists.{CallAnswered, CallComes, IsRunOf, creates, password_of}
 
 -- the first line of a told input
 abbrev password_in : Option (List ℕ) → List ℕ
@@ -50,9 +50,9 @@ module _ {V : Type 0} {K : Type 0} (trace : V → Option (List Call)) (faults : 
     begins : before_of run ≡ Before
     ends : after_of run ≡ After
     password : (bytes : List ℕ) → call.input.old ≡ Some bytes → password_of run ≡ first_line bytes
-    answered : Answered call asked run
+    answered : CallAnswered call asked run
 
-  quiet_ran : (asked : Option Form) (password : List ℕ) → ((bytes : List ℕ) → call.input.old ≡ Some bytes → password ≡ first_line bytes) → IsQuiet ShowsFiles password Before After
+  quiet_ran : (asked : Option Form) (password : List ℕ) → ((bytes : List ℕ) → call.input.old ≡ Some bytes → password ≡ first_line bytes) → IsQuietRun ShowsFiles password Before After
       → (is_session asked ≡ true → Untouched call.output × (h.ended.status ≢ Done)) → Ran asked
   quiet_ran asked password first q silent = record {
     run = quiet password Before After;
@@ -63,10 +63,10 @@ module _ {V : Type 0} {K : Type 0} (trace : V → Option (List Call)) (faults : 
     answered = λ e. ((silent e).0, λ done. (silent e).1 (sym h.status ∙ done));
   }
 
-  uncalled_quiet : (password : List ℕ) → AreUncalled h.vault h.keeper h.ended → IsQuiet ShowsFiles password Before After
+  uncalled_quiet : (password : List ℕ) → AreUncalled h.vault h.keeper h.ended → IsQuietRun ShowsFiles password Before After
   uncalled_quiet password u = record {
-    stands = λ c tree f. subst (λ (v : V). StandsFor ShowsFiles c tree (outside_of trace faults G v h.ended.keeper)) (sym u.same_vault)
-        (subst (λ (k : K). StandsFor ShowsFiles c tree (outside_of trace faults G h.vault k)) (sym u.same_keeper) f.stands);
+    stands = λ c tree f. subst (λ (v : V). OutsideStandsFor ShowsFiles c tree (outside_of trace faults G v h.ended.keeper)) (sym u.same_vault)
+        (subst (λ (k : K). OutsideStandsFor ShowsFiles c tree (outside_of trace faults G h.vault k)) (sym u.same_keeper) f.stands);
     marked = λ m. (ap G.kept u.same_keeper, ap trace u.same_vault);
   }
 
@@ -83,7 +83,7 @@ module _ {V : Type 0} {K : Type 0} (trace : V → Option (List Call)) (faults : 
   unopened_ran asked password script next error u unwritten =
       quiet_ran asked password (next_first password script next) u.quiet (λ e. (unwritten, λ done. opening_is_no error h.ended.status Done u.status done (λ x. x)))
 
-  session_ran : (asked : Option Form) → Session trace faults G call.now (Comes call asked) call.input call.output h.vault h.keeper h.ended → Ran asked
+  session_ran : (asked : Option Form) → Session trace faults G call.now (CallComes call asked) call.input call.output h.vault h.keeper h.ended → Ran asked
   session_ran asked (inl u) = unread_ran asked (PasswordUnread call.input) (one_unread call.input) u
   session_ran asked (inr (password, script, has, inl ((error, u), unfailed, unwritten))) = unopened_ran asked password script has.is_next error u unwritten
   session_ran asked (inr (password, script, has, inr s)) = record {
@@ -114,10 +114,10 @@ module _ {V : Type 0} {K : Type 0} (trace : V → Option (List Call)) (faults : 
   stated : (P : Outside → Outside → Status → Type 0) → P Before After h.ended.status → P call.before call.after call.status
   stated P p = subst (λ (o : Outside). P o call.after call.status) (sym h.begins) (subst (λ (o : Outside). P Before o call.status) (sym h.ends) (subst (P Before After) (sym h.status) p))
 
-  refusing : opens (form_of call.words) ≡ true → IsKeptMarked records call.before.kept → IsRefusal call.status × Untouched call.output
+  refusing : opens (form_of call.words) ≡ true → IsKeptMarked records call.before.kept → IsRefusingStatus call.status × Untouched call.output
   refusing e m =
       let r = h.refusal e (subst (λ (o : Outside). IsKeptMarked records o.kept) h.begins m) in
-      (subst IsRefusal (sym h.status) r.status, r.unwritten)
+      (subst IsRefusingStatus (sym h.status) r.status, r.unwritten)
 
   pub one : opens (form_of call.words) ≡ true → (run : Run) × IsRunOf call run
   one e =

@@ -3,9 +3,9 @@ use Rattle.std.specs.Prelude.{◌≡◌, ℕ, true, List}
 use Rattle.std.specs.declared.option.Option.{Option}
 use Rattle.std.specs.declared.option.Option.TheVariants.{None, Some}
 use Rattle.rand_core.specs.Stream.{Stream as Chance}
-use Rattle.cryfs_setup.specs.Create.{Created}
+use Rattle.cryfs_setup.specs.Create.{RanCreate}
 use Rattle.cryfs_setup.specs.Info.{Told}
-use Rattle.cryfs_setup.specs.Passwd.{Changed}
+use Rattle.cryfs_setup.specs.Passwd.{RanPasswd}
 use Rattle.fs_model.specs.Instant.{Instant}
 use Rattle.integrity_store.specs.Standing.{records}
 use Rattle.line_io.specs.Streams.{Stream, Untouched}
@@ -39,9 +39,9 @@ pub record RunCall : Type 0 where
 -- what `run` says that it did, by what the words ask for; words of no form are refused, and nothing is done
 abbrev pub Did : {V : Type 0} → {K : Type 0} → (V → Option (List Call)) → (V → ℕ) → KeeperGhosts K → RunCall → V → K → Ended V K → Option Form → Type 0
 Did trace faults G call vault keeper ended None = IsRefused call.words ended.status × Untouched call.input × Untouched call.output × AreUncalled vault keeper ended × (call.left ≡ call.chance)
-Did trace faults G call vault keeper ended (Some (Create options)) = Created trace faults G options.params options.block_size (drawn call.chance).0 call.input call.output vault keeper ended
+Did trace faults G call vault keeper ended (Some (Create options)) = RanCreate trace faults G options.params options.block_size (drawn call.chance).0 call.input call.output vault keeper ended
 Did trace faults G call vault keeper ended (Some Info) = Told trace faults G call.input call.output vault keeper ended
-Did trace faults G call vault keeper ended (Some Passwd) = Changed trace faults G call.chance call.left call.input call.output vault keeper ended
+Did trace faults G call vault keeper ended (Some Passwd) = RanPasswd trace faults G call.chance call.left call.input call.output vault keeper ended
 Did trace faults G call vault keeper ended (Some form) = Does trace faults G call.words call.now call.chance call.left call.input call.output vault keeper ended form
 
 -- there was a call of `run` with these values, over a directory and a local record whose meanings are given

@@ -17,7 +17,7 @@ use Rattle.outside.specs.declared.keeper.Keeper.{Ghosts as KeeperGhosts}
 use Rattle.run_openings.specs.Openings.{HasPassword}
 use Rattle.run_status.specs.declared.status.Status.TheVariants.{Done}
 use Rattle.session_lines.specs.declared.end.End.{End}
-use Rattle.session_runs.specs.Runs.{Outside, StandsFor}
+use Rattle.session_runs.specs.Runs.{Outside, OutsideStandsFor}
 use Rattle.shell_sessions.specs.Sessions.{ComesShell, ComesGenerated, ComesCommand}
 use Rattle.shell_sessions.specs.Statuses.{session_status}
 use Rattle.shell_words.specs.declared.form.Form.{Form}
@@ -25,7 +25,7 @@ use Rattle.shell_words.specs.declared.form.Form.TheVariants.{Create, Shell, Gene
 use Rattle.shell_words.specs.Forms.{form_of, joined}
 use Rattle.tree_commands.specs.Showing.{ShowsFiles}
 use Rattle.histories.specs.Histories.{Run, session, quiet, before_of, after_of, IsRun, IsUnforgedRun, GoesOnFrom, end_of, Follow, EndsWith}
-use Rattle.cryfs_shell.specs.Clauses.{IsRefusal, NoFalseAlarm, FaultsHappened}
+use Rattle.cryfs_shell.specs.Clauses.{IsRefusingStatus, NoFalseAlarm, FaultsHappened}
 use Rattle.cryfs_shell.specs.Kinds.{opens, is_session}
 use Rattle.run_histories.specs.Calls.{RunCall, IsRunCall}
 
@@ -34,18 +34,18 @@ password_of (session now password before after closing es) = password
 password_of (quiet password before after) = password
 
 -- how the exchanges of a session come from the input after the password line, and are written
-abbrev pub Comes : RunCall → Option Form → Option (List ℕ) → End → List Exchange → Type 0
-Comes call (Some Shell) = ComesShell call.input call.output
-Comes call (Some (Generate count)) = ComesGenerated count call.input call.output
-Comes call (Some Command) = ComesCommand (joined call.words) call.input call.output
-Comes call _ = λ script end es. ⊥
+abbrev pub CallComes : RunCall → Option Form → Option (List ℕ) → End → List Exchange → Type 0
+CallComes call (Some Shell) = ComesShell call.input call.output
+CallComes call (Some (Generate count)) = ComesGenerated count call.input call.output
+CallComes call (Some Command) = ComesCommand (joined call.words) call.input call.output
+CallComes call _ = λ script end es. ⊥
 
 -- in a session the exchanges came so, and the status is theirs; in a run of no lines the words ask for none, or nothing was written and the status isn't Done
-abbrev pub Answered : RunCall → Option Form → Run → Type 0
-Answered call asked (session now password before after closing es) =
+abbrev pub CallAnswered : RunCall → Option Form → Run → Type 0
+CallAnswered call asked (session now password before after closing es) =
     (now ≡ call.now) × (script : Option (List ℕ)) × HasPassword call.input password script
-    × (end : End) × Comes call asked script end es × (call.status ≡ session_status (violated es) end closing)
-Answered call asked (quiet password before after) = is_session asked ≡ true → Untouched call.output × (call.status ≢ Done)
+    × (end : End) × CallComes call asked script end es × (call.status ≡ session_status (violated es) end closing)
+CallAnswered call asked (quiet password before after) = is_session asked ≡ true → Untouched call.output × (call.status ≢ Done)
 
 -- the call is this run
 pub record IsRunOf (call : RunCall) (run : Run) : Type 0 where
@@ -54,9 +54,9 @@ pub record IsRunOf (call : RunCall) (run : Run) : Type 0 where
   pub ends : after_of run ≡ call.after
   -- its password is the first line of the input, where that is told
   pub password : (bytes : List ℕ) → call.input.old ≡ Some bytes → password_of run ≡ first_line bytes
-  pub answered : Answered call (form_of call.words) run
+  pub answered : CallAnswered call (form_of call.words) run
   -- over a marked record the status refuses, and nothing is written
-  pub refused : IsKeptMarked records call.before.kept → IsRefusal call.status × Untouched call.output
+  pub refused : IsKeptMarked records call.before.kept → IsRefusingStatus call.status × Untouched call.output
   -- where the directory gave what was last written, it is no violation, and it names only faults that happened
   pub no_false_alarm : NoFalseAlarm call.input call.before call.after call.status
   pub faults_happened : FaultsHappened call.input call.output call.before call.after call.status
@@ -105,7 +105,7 @@ CallsCompose c first start calls runs = AreUnforged c runs
 -- whatever the directory returns, loses or refuses in any list of calls, from any tree on that is kept
 abbrev pub EveryListOfRuns : {V : Type 0} → {K : Type 0} → (V → Option (List Call)) → (V → ℕ) → KeeperGhosts K → Type 0
 EveryListOfRuns trace faults G = (start : Outside) (calls : List RunCall) → AreRunCalls trace faults G start calls
-    → (runs : List Run) × AreRunsOf calls runs × ((c : Settings) (first : Tree) → StandsFor ShowsFiles c first start → CallsCompose c first start calls runs)
+    → (runs : List Run) × AreRunsOf calls runs × ((c : Settings) (first : Tree) → OutsideStandsFor ShowsFiles c first start → CallsCompose c first start calls runs)
 
 -- and from a `create` on that ended with Done over a directory that nothing was put in
 abbrev pub EveryListFromCreate : {V : Type 0} → {K : Type 0} → (V → Option (List Call)) → (V → ℕ) → KeeperGhosts K → Type 0

@@ -3,7 +3,7 @@ use Rattle.std.proofs.Common.{◌≡◌, ◌≢◌, ℕ, List, sym, ap, subst, r
 use Rattle.std.specs.declared.option.Option.{Option}
 use Rattle.config_file.specs.declared.error.ConfigError.TheVariants as config_error
 use Rattle.integrity_store.specs.Standing.{records}
-use Rattle.mount.specs.Mounts.{IsCalm, StopsMarked, Unopened}
+use Rattle.mount.specs.Mounts.{IsCalmOpening, StopsMarked, Unopened}
 use Rattle.mount.specs.Opening.{AttachCause}
 use Rattle.mount.specs.declared.error.OpenError.{OpenError}
 use Rattle.mount.specs.declared.error.OpenError.TheVariants as open_error
@@ -19,7 +19,7 @@ use Rattle.tree_commands.specs.Showing.{ShowsFiles}
 use Rattle.run_openings.specs.Openings.{HasCauses, IsUnopened}
 use Rattle.run_openings.specs.Statuses.{opening_status}
 
-calm_status : (error : OpenError) → IsCalm error → opening_status error ≢ Violation
+calm_status : (error : OpenError) → IsCalmOpening error → opening_status error ≢ Violation
 calm_status open_error.Memory calm e = absurd (cc)
 calm_status open_error.NoState calm e = absurd calm
 calm_status open_error.BadState calm e = absurd calm

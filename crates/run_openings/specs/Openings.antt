@@ -11,23 +11,23 @@ use Rattle.mount_core.specs.Standing.{IsKeptMarked}
 use Rattle.outside.specs.Causes.{RoseBy}
 use Rattle.outside.specs.Trace.{Call}
 use Rattle.outside.specs.declared.keeper.Keeper.{Ghosts as KeeperGhosts}
-use Rattle.passwords.specs.Passwords.{IsLong, IsNextPassword}
+use Rattle.passwords.specs.Passwords.{IsLongLine, IsNextPassword}
 use Rattle.run_status.specs.declared.ended.Ended.{Ended}
 use Rattle.run_status.specs.declared.status.Status.{Status}
 use Rattle.run_status.specs.declared.status.Status.TheVariants.{Violation, DirectoryFault, StateFault}
-use Rattle.session_runs.specs.Runs.{Outside, outside_of, OpensTo, IsQuiet, PasswordOpens}
+use Rattle.session_runs.specs.Runs.{Outside, outside_of, OpensTo, IsQuietRun, PasswordOpens}
 use Rattle.tree_commands.specs.Showing.{ShowsFiles}
 use Rattle.run_openings.specs.Statuses.{opening_status}
 
 -- the password is the first line of the input, and this follows it
 pub record HasPassword (input : Stream) (password : List ℕ) (after : Option (List ℕ)) : Type 0 where
-  pub short : ¬ IsLong password
+  pub short : ¬ IsLongLine password
   pub is_next : IsNextPassword input.old password after
 
 -- the old password is the first line of the input, and the new one the second
 pub record HasPasswords (input : Stream) (old new : List ℕ) : Type 0 where
-  pub old_short : ¬ IsLong old
-  pub new_short : ¬ IsLong new
+  pub old_short : ¬ IsLongLine old
+  pub new_short : ¬ IsLongLine new
   pub between : Option (List ℕ)
   pub after : Option (List ℕ)
   pub old_is_next : IsNextPassword input.old old between
@@ -63,7 +63,7 @@ pub record HasCauses (before after : Outside) (status : Status) : Type 0 where
 pub record IsUnopened {V : Type 0} {K : Type 0} (trace : V → Option (List Call)) (faults : V → ℕ) (G : KeeperGhosts K) (password : List ℕ) (vault : V) (keeper : K) (ended : Ended V K) (error : OpenError) : Type 0 where
   pub status : ended.status ≡ opening_status error
   pub unopened : Unopened ShowsFiles trace faults G password vault keeper (record { error = error; vault = ended.vault; keeper = ended.keeper })
-  pub quiet : IsQuiet ShowsFiles password (outside_of trace faults G vault keeper) (outside_of trace faults G ended.vault ended.keeper)
+  pub quiet : IsQuietRun ShowsFiles password (outside_of trace faults G vault keeper) (outside_of trace faults G ended.vault ended.keeper)
   pub marked : IsKeptMarked records (G.kept keeper) → (ended.vault ≡ vault) × (G.kept ended.keeper ≡ G.kept keeper) × StopsMarked error
   pub opens : StayOpen (outside_of trace faults G vault keeper) (outside_of trace faults G ended.vault ended.keeper)
   pub no_false_alarm : IsNoFalseAlarm password (outside_of trace faults G vault keeper) (outside_of trace faults G ended.vault ended.keeper) ended.status

@@ -21,7 +21,7 @@ use Rattle.fs_model.specs.declared.reply.ListRow.{ListRow}
 use Rattle.fs_model.specs.declared.reply.Reply.{Reply}
 use Rattle.fs_model.specs.declared.reply.Reply.TheVariants.{Done, Rows, Info, Target, Content, Error}
 use Rattle.script_text.specs.Texts.{numeral, octal, hex_byte, is_plain, escape, escaped, hex_text, last_digits, moment_text, kind_letter, row_text, rows_text, info_text, error_name, text_of, line, word}
-use Rattle.script_text.specs.Shown.{AreBytes, IsMoment, IsInfo, AreRows, IsShown, texts_of, HasOneReading}
+use Rattle.script_text.specs.Shown.{AreBytes, IsMoment, IsInfoShown, AreRowsShown, IsShown, texts_of, HasOneReading}
 use Rattle.script_text.proofs.Numerals.{numeral_some, numeral-zero}
 
 -- no byte of the text is this one
@@ -314,7 +314,7 @@ rows_same (x ∷ xs) (y ∷ ys) r s l fx fy e =
 rows_shape : (xs : List ListRow) (r : List ℕ) → rows_text xs ++ r ≡ 108 ∷ 105 ∷ 115 ∷ 116 ∷ 32 ∷ (decimal (length xs) ++ 10 ∷ (flat_map row_text xs ++ r))
 rows_shape xs r = simp append_assoc
 
-all_rows_same : (xs ys : List ListRow) (r s : List ℕ) → AreRows xs → AreRows ys → rows_text xs ++ r ≡ rows_text ys ++ s → (xs ≡ ys) × (r ≡ s)
+all_rows_same : (xs ys : List ListRow) (r s : List ℕ) → AreRowsShown xs → AreRowsShown ys → rows_text xs ++ r ≡ rows_text ys ++ s → (xs ≡ ys) × (r ≡ s)
 all_rows_same xs ys r s fx fy e =
     let whole = sym (rows_shape xs r) ∙ e ∙ rows_shape ys s in
     let parts = ends 10 (decimal (length xs)) (decimal (length ys)) (flat_map row_text xs ++ r) (flat_map row_text ys ++ s) (free_decimal 10 (length xs) (omega arith) fx.count) (free_decimal 10 (length ys) (omega arith) fy.count) (ap (drop 5) whole) in
@@ -338,7 +338,7 @@ info_shape a size r = shape (kind_letter a.kind) (octal a.mode) (decimal a.uid) 
 abbrev SameInfo : Attr → ℕ → Attr → ℕ → List ℕ → List ℕ → Type 0
 SameInfo a m b n r s = (Info a m ≡ Info b n) × (r ≡ s)
 
-info_same : (a b : Attr) (m n : ℕ) (r s : List ℕ) → IsInfo a m → IsInfo b n → info_text a m ++ r ≡ info_text b n ++ s → SameInfo a m b n r s
+info_same : (a b : Attr) (m n : ℕ) (r s : List ℕ) → IsInfoShown a m → IsInfoShown b n → info_text a m ++ r ≡ info_text b n ++ s → SameInfo a m b n r s
 info_same a b m n r s fa fb e =
     let whole = sym (info_shape a m r) ∙ e ∙ info_shape b n s in
     let kind = kind_same a.kind b.kind (ap (λ z. get_or z 5 0) whole) in

@@ -17,7 +17,7 @@ use Rattle.script_text.specs.Words.{words, is_empty, one, two, three}
 use Rattle.script_text.specs.Numbers.{number_of, id_of, mode_of, time_of}
 use Rattle.script_text.specs.Escapes.{unescaped, bytes_of}
 use Rattle.script_text.specs.Grammar.{◌>>=◌, formed, path_from, path, target, verb_of, only_path, with_path, mv, symlink, write, read, truncate, chmod, chown, utime, sync, sentence, command_in, command_of}
-use Rattle.script_text.specs.Forms.{Form}
+use Rattle.script_text.specs.Forms.{WordForm}
 use Rattle.script_text.specs.Forms as form
 use Rattle.script_text.specs.Forms.{has_form, have_forms, forms_of, fit_verb, are_command, is_formed, RefusesUnformed}
 
@@ -67,27 +67,27 @@ forms3 (Some x) (Some y) None f h = refl
 forms3 (Some x) None q f h = refl
 forms3 None p q f h = refl
 
-unequal : (fs : List Form) (ws : List (List ℕ)) → (length fs ≡ length ws → ⊥) → have_forms fs ws ≡ false
+unequal : (fs : List WordForm) (ws : List (List ℕ)) → (length fs ≡ length ws → ⊥) → have_forms fs ws ≡ false
 unequal [] [] ne = absurd (ne refl)
 unequal [] (w ∷ ws) ne = refl
 unequal (f ∷ fs) [] ne = refl
 unequal (f ∷ fs) (w ∷ ws) ne = and_right (has_form f w) (have_forms fs ws) (unequal fs ws (λ e. ne (ap (λ n. suc n) e)))
 
-miscounted : (fs : List Form) (ws : List (List ℕ)) → (length fs ≡ length ws → ⊥) → true ≡ not (have_forms fs ws)
+miscounted : (fs : List WordForm) (ws : List (List ℕ)) → (length fs ≡ length ws → ⊥) → true ≡ not (have_forms fs ws)
 miscounted fs ws ne = sym (ap not (unequal fs ws ne))
 
-one_form : {B : Type 0} (f : Form) (next : List ℕ → Result B FsError) (ws : List (List ℕ)) → ((a : List ℕ) → is_bad (next a) ≡ not (have_forms (f ∷ []) (a ∷ []))) → is_bad (one ws >>= next) ≡ not (have_forms (f ∷ []) ws)
+one_form : {B : Type 0} (f : WordForm) (next : List ℕ → Result B FsError) (ws : List (List ℕ)) → ((a : List ℕ) → is_bad (next a) ≡ not (have_forms (f ∷ []) (a ∷ []))) → is_bad (one ws >>= next) ≡ not (have_forms (f ∷ []) ws)
 one_form f next [] h = refl
 one_form f next (a ∷ []) h = h a
 one_form f next (a ∷ b ∷ ws) h = miscounted (f ∷ []) (a ∷ b ∷ ws) (λ e. omega arith)
 
-two_forms : {B : Type 0} (f g : Form) (next : List ℕ × List ℕ → Result B FsError) (ws : List (List ℕ)) → ((a b : List ℕ) → is_bad (next (a, b)) ≡ not (have_forms (f ∷ g ∷ []) (a ∷ b ∷ []))) → is_bad (two ws >>= next) ≡ not (have_forms (f ∷ g ∷ []) ws)
+two_forms : {B : Type 0} (f g : WordForm) (next : List ℕ × List ℕ → Result B FsError) (ws : List (List ℕ)) → ((a b : List ℕ) → is_bad (next (a, b)) ≡ not (have_forms (f ∷ g ∷ []) (a ∷ b ∷ []))) → is_bad (two ws >>= next) ≡ not (have_forms (f ∷ g ∷ []) ws)
 two_forms f g next [] h = refl
 two_forms f g next (a ∷ []) h = miscounted (f ∷ g ∷ []) (a ∷ []) (λ e. omega arith)
 two_forms f g next (a ∷ b ∷ []) h = h a b
 two_forms f g next (a ∷ b ∷ c ∷ ws) h = miscounted (f ∷ g ∷ []) (a ∷ b ∷ c ∷ ws) (λ e. omega arith)
 
-three_forms : {B : Type 0} (f g k : Form) (next : List ℕ × List ℕ × List ℕ → Result B FsError) (ws : List (List ℕ)) → ((a b c : List ℕ) → is_bad (next (a, b, c)) ≡ not (have_forms (f ∷ g ∷ k ∷ []) (a ∷ b ∷ c ∷ []))) → is_bad (three ws >>= next) ≡ not (have_forms (f ∷ g ∷ k ∷ []) ws)
+three_forms : {B : Type 0} (f g k : WordForm) (next : List ℕ × List ℕ × List ℕ → Result B FsError) (ws : List (List ℕ)) → ((a b c : List ℕ) → is_bad (next (a, b, c)) ≡ not (have_forms (f ∷ g ∷ k ∷ []) (a ∷ b ∷ c ∷ []))) → is_bad (three ws >>= next) ≡ not (have_forms (f ∷ g ∷ k ∷ []) ws)
 three_forms f g k next [] h = refl
 three_forms f g k next (a ∷ []) h = miscounted (f ∷ g ∷ k ∷ []) (a ∷ []) (λ e. omega arith)
 three_forms f g k next (a ∷ b ∷ []) h = miscounted (f ∷ g ∷ k ∷ []) (a ∷ b ∷ []) (λ e. omega arith)

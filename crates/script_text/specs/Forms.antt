@@ -11,16 +11,16 @@ use Rattle.script_text.specs.Escapes.{unescaped, bytes_of}
 use Rattle.script_text.specs.Grammar.{verb_of, command_of}
 
 -- what a word may be
-pub data Form : Type 0 where
-  path : Form
-  target : Form
-  number : Form
-  id : Form
-  mode : Form
-  time : Form
-  hex : Form
+pub data WordForm : Type 0 where
+  path : WordForm
+  target : WordForm
+  number : WordForm
+  id : WordForm
+  mode : WordForm
+  time : WordForm
+  hex : WordForm
 
-abbrev pub has_form : Form → List ℕ → Bool
+abbrev pub has_form : WordForm → List ℕ → Bool
 has_form path word = is_some (unescaped word)
 has_form target word = is_some (unescaped word)
 has_form number word = is_some (number_of word)
@@ -30,7 +30,7 @@ has_form time word = is_some (time_of word)
 has_form hex word = is_some (bytes_of word)
 
 -- the words that follow a command's name
-abbrev pub forms_of : Verb → List Form
+abbrev pub forms_of : Verb → List WordForm
 forms_of verb.List = path ∷ []
 forms_of verb.Stat = path ∷ []
 forms_of verb.Mkdir = path ∷ []
@@ -49,7 +49,7 @@ forms_of verb.Utime = path ∷ time ∷ time ∷ []
 forms_of verb.Sync = []
 
 -- as many words as forms, each of its form
-abbrev pub have_forms : List Form → List (List ℕ) → Bool
+abbrev pub have_forms : List WordForm → List (List ℕ) → Bool
 have_forms [] [] = true
 have_forms (form ∷ forms) (word ∷ more) = has_form form word && have_forms forms more
 have_forms [] (word ∷ more) = false

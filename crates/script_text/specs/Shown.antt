@@ -15,7 +15,7 @@ pub record IsMoment (m : Instant) : Type 0 where
   pub secs : m.secs < 2 ^ 64
   pub nanos : m.nanos < 1_000_000_000
 
-pub record IsInfo (attr : Attr) (count : ℕ) : Type 0 where
+pub record IsInfoShown (attr : Attr) (count : ℕ) : Type 0 where
   pub uid : attr.uid < 2 ^ 64
   pub gid : attr.gid < 2 ^ 64
   pub size : count < 2 ^ 64
@@ -23,14 +23,14 @@ pub record IsInfo (attr : Attr) (count : ℕ) : Type 0 where
   pub mtime : IsMoment attr.mtime
   pub ctime : IsMoment attr.ctime
 
-pub record AreRows (rows : List ListRow) : Type 0 where
+pub record AreRowsShown (rows : List ListRow) : Type 0 where
   pub count : length rows < 2 ^ 64
   pub names : AllByRecursion (λ row. AreBytes row.name) rows
 
 abbrev pub IsShown : Reply → Type 0
 IsShown Done = Unit {0}
-IsShown (Rows rows) = AreRows rows
-IsShown (Info attr size) = IsInfo attr size
+IsShown (Rows rows) = AreRowsShown rows
+IsShown (Info attr size) = IsInfoShown attr size
 IsShown (Target target) = AreBytes target
 IsShown (Content bytes) = AreBytes bytes
 IsShown (Error e) = Unit {0}

@@ -25,7 +25,7 @@ const ERRORS: [FsError; 11] = [
     FsError::BadLine,
 ];
 
-// The error of a line, or None where it makes a command.
+/// The error of a line, or None where it makes a command.
 fn error_of(rt: &impl Abort, alloc: Global, line: &[u8]) -> Option<FsError> {
     match parse_line(alloc, line) {
         Ok(command) => {
@@ -108,7 +108,7 @@ fn takes_lines_at_their_limits(rt: HostRuntime) {
     }
 }
 
-// The front, the piece that often, and the back.
+/// The front, the piece that often, and the back.
 fn line_of(
     alloc: Global,
     front: &[u8],

@@ -26,7 +26,7 @@ pub fn hmac_sha256(key: &[u8], text: &[u8]) -> [u8; 32]
     outer.finalize()
 }
 
-// The key, hashed if it is longer than a block, and padded with zeros to a block.
+/// The key, hashed if it is longer than a block, and padded with zeros to a block.
 pub(crate) fn key_block(key: &[u8]) -> [u8; 64]
     ensures { result ≡ key_block key.now }
 {
@@ -40,7 +40,7 @@ pub(crate) fn key_block(key: &[u8]) -> [u8; 64]
     block
 }
 
-// A hasher that holds a block xored with `byte`.
+/// A hasher that holds a block xored with `byte`.
 pub(crate) fn padded(block: &[u8; 64], byte: u8) -> Sha256
     ensures { Holds256 result (map (λ x. bit_xor x byte) block.now) }
 {

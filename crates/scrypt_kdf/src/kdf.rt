@@ -41,7 +41,7 @@ fn zeros(alloc: Global, len: usize) -> Result<Vec<u8>, AllocError>
     vec![in alloc; 0u8; len]
 }
 
-// ROMix of each of the p parts of `b`, in place; `v` is to have room for N times a part.
+/// ROMix of each of the p parts of `b`, in place; `v` is to have room for N times a part.
 fn mix_parts(params: &Params, b: &mut [u8], v: &mut Vec<u8>) -> Result<(), AllocError>
     requires { length b.old ≡ 128 * params.now.r * params.now.p }
     ensures { OnOk result (b.new ≡ mixed_parts params.now b.old) }

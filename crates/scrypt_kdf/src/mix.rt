@@ -12,7 +12,7 @@ use std::alloc::AllocError;
 
 const BLOCK_LEN: usize = 64;
 
-// ROMix of `x`, 128 * r bytes, in place; `v` is to have room for N times as many.
+/// ROMix of `x`, 128 * r bytes, in place; `v` is to have room for N times as many.
 pub(crate) fn ro_mix(r: usize, n: usize, x: &mut [u8], v: &mut Vec<u8>) -> Result<(), AllocError>
     requires r_low { 1 ≤ r }
     requires r_high { r ≤ 8 }
@@ -28,7 +28,7 @@ pub(crate) fn ro_mix(r: usize, n: usize, x: &mut [u8], v: &mut Vec<u8>) -> Resul
     Ok(())
 }
 
-// The first loop: `v` becomes the N iterates, joined, and `x` the next one.
+/// The first loop: `v` becomes the N iterates, joined, and `x` the next one.
 fn fill(r: usize, n: usize, x: &mut [u8], v: &mut Vec<u8>) -> Result<(), AllocError>
     requires r_low { 1 ≤ r }
     requires r_high { r ≤ 8 }
@@ -48,7 +48,7 @@ fn fill(r: usize, n: usize, x: &mut [u8], v: &mut Vec<u8>) -> Result<(), AllocEr
     Ok(())
 }
 
-// The second loop, over iterates that `v` has joined.
+/// The second loop, over iterates that `v` has joined.
 fn look_up(r: usize, n: usize, x: &mut [u8], v: &[u8])
     requires r_low { 1 ≤ r }
     requires r_high { r ≤ 8 }
@@ -70,8 +70,8 @@ fn look_up(r: usize, n: usize, x: &mut [u8], v: &[u8])
     }
 }
 
-// Integerify of `x`, modulo N: as N is a power of two up to 2^20, the low four bytes decide, which
-// stand first on the diagonals too.
+/// Integerify of `x`, modulo N: as N is a power of two up to 2^20, the low four bytes decide, which
+/// stand first on the diagonals too.
 #[inline(always)]
 fn integerify(r: usize, n: usize, x: &[u8]) -> usize
     requires r_low { 1 ≤ r }
@@ -87,7 +87,7 @@ fn integerify(r: usize, n: usize, x: &[u8]) -> usize
     (low & (n as u32 - 1)) as usize
 }
 
-// Makes `t` the bytes of `x` xored with those of `y`.
+/// Makes `t` the bytes of `x` xored with those of `y`.
 #[inline(always)]
 fn xor_to(t: &mut [u8], x: &[u8], y: &[u8])
     requires first { length t.old ≡ length x.now }
@@ -99,7 +99,7 @@ fn xor_to(t: &mut [u8], x: &[u8], y: &[u8])
     }
 }
 
-// BlockMix of `b` into `y`, both of 128 * r bytes.
+/// BlockMix of `b` into `y`, both of 128 * r bytes.
 pub(crate) fn block_mix(r: usize, b: &[u8], y: &mut [u8])
     requires r_low { 1 ≤ r }
     requires r_high { r ≤ 8 }
@@ -119,7 +119,7 @@ pub(crate) fn block_mix(r: usize, b: &[u8], y: &mut [u8])
     }
 }
 
-// Part `i` of `b`, in parts of `len` bytes.
+/// Part `i` of `b`, in parts of `len` bytes.
 #[inline(always)]
 fn part(len: usize, b: &[u8], i: usize) -> &[u8]
     requires { len * i + len ≤ length b.now }

@@ -12,7 +12,7 @@ pub(crate) const TO_DIAGONALS: usize = 5;
 /// And back, since 5 * 13 is 1 modulo 16.
 pub(crate) const FROM_DIAGONALS: usize = 13;
 
-// Takes each word of each block of 64 bytes from `step` times its place, modulo 16.
+/// Takes each word of each block of 64 bytes from `step` times its place, modulo 16.
 pub(crate) fn reorder(x: &mut [u8], step: usize)
     requires blocks { length x.old % 64 ≡ 0 }
     requires len { length x.old ≤ 1024 }

@@ -31,7 +31,7 @@ pub fn pbkdf2(password: &[u8], salt: &[u8], out: &mut [u8])
     }
 }
 
-// What the two hashers make of the number `i`, four bytes, high first.
+/// What the two hashers make of the number `i`, four bytes, high first.
 fn numbered(inner: &Sha256, outer: &Sha256, i: u32) -> [u8; 32]
     ensures { (m n : List ℕ) → Holds256 inner.now m → Holds256 outer.now n
         → result ≡ sha256 (n ++ sha256 (m ++ to_be_bytes w32 i)) }

@@ -9,10 +9,10 @@ ghost use Rattle.scrypt_kdf.specs.Scrypt.{xor_bytes};
 use crate::order::{FROM_DIAGONALS, TO_DIAGONALS, reorder};
 use std::simd::{u8x16, u32x4};
 
-// The bytes of a block.
+/// The bytes of a block.
 pub(crate) type Block = [u8x16; 4];
 
-// The words of a block, a diagonal in each vector: a round works on them lane by lane.
+/// The words of a block, a diagonal in each vector: a round works on them lane by lane.
 type Rows = [u32x4; 4];
 
 /// The Salsa20/8 core of a block of sixteen words, each low byte first (RFC 7914, section 3).
@@ -52,7 +52,7 @@ pub(crate) fn store(x: Block, block: &mut [u8])
     put(s, 3, block);
 }
 
-// Writes vector `i` of a block.
+/// Writes vector `i` of a block.
 #[inline(always)]
 fn put(x: u8x16, i: usize, block: &mut [u8])
     requires len { length block.old ≡ 64 }
@@ -72,7 +72,7 @@ pub(crate) fn xor(x: Block, y: Block) -> Block
     [a ^ e, b ^ f, c ^ g, d ^ h]
 }
 
-// The core of a block whose words stand on its diagonals.
+/// The core of a block whose words stand on its diagonals.
 #[inline(always)]
 pub(crate) fn core(x: Block) -> Block
     ensures { (b : List ℕ) → length b ≡ 64 → x ≡ quarters (on_diagonals b)
@@ -106,8 +106,8 @@ fn core_words(x: Rows) -> Rows
     [sum(e, a), sum(f, b), sum(g, c), sum(h, d)]
 }
 
-// A round on the columns, and one on the rows, whose words stand in the lanes of the same diagonals,
-// turned.
+/// A round on the columns, and one on the rows, whose words stand in the lanes of the same diagonals,
+/// turned.
 #[inline(always)]
 fn double_round(x: Rows) -> Rows
     ensures { (w : List ℕ) → length w ≡ 16 → x ≡ diagonals w → result ≡ diagonals (double_round w) }
@@ -127,7 +127,7 @@ fn double_round(x: Rows) -> Rows
     [a, turned_1(b), turned_2(c), turned_3(d)]
 }
 
-// b ^ R(a + d, n) in each lane.
+/// b ^ R(a + d, n) in each lane.
 #[inline(always)]
 fn mixed(b: u32x4, a: u32x4, d: u32x4, n: u32) -> u32x4
     requires low { 0 < n }

@@ -13,19 +13,19 @@ abbrev pub opens_file : (List ℕ → Option (List ℕ)) → ℕ → List ℕ �
 opens_file opens size bytes = if length bytes == size && starts_with nat_eq bytes prefix then opens (drop 16 bytes) else None
 
 -- how the answer for a block's file is seen
-pub data Sight : Type 0 where
-  absent : Sight
-  bad_length : Sight
-  bad_prefix : Sight
-  not_opened : Sight
-  plain : List ℕ → Sight
+pub data SeenFile : Type 0 where
+  absent : SeenFile
+  bad_length : SeenFile
+  bad_prefix : SeenFile
+  not_opened : SeenFile
+  plain : List ℕ → SeenFile
 
-abbrev pub sight_of_plain : Option (List ℕ) → Sight
-sight_of_plain None = not_opened
-sight_of_plain (Some bytes) = plain bytes
+abbrev pub seen_file_of_plain : Option (List ℕ) → SeenFile
+seen_file_of_plain None = not_opened
+seen_file_of_plain (Some bytes) = plain bytes
 
 -- the first that holds: no file, another length, another prefix, a seal that doesn't open; else the plaintext
-abbrev pub sight_in : (List ℕ → Option (List ℕ)) → ℕ → Option (List ℕ) → Sight
-sight_in opens size None = absent
-sight_in opens size (Some bytes) =
-    if length bytes == size then (if starts_with nat_eq bytes prefix then sight_of_plain (opens (drop 16 bytes)) else bad_prefix) else bad_length
+abbrev pub seen_file_in : (List ℕ → Option (List ℕ)) → ℕ → Option (List ℕ) → SeenFile
+seen_file_in opens size None = absent
+seen_file_in opens size (Some bytes) =
+    if length bytes == size then (if starts_with nat_eq bytes prefix then seen_file_of_plain (opens (drop 16 bytes)) else bad_prefix) else bad_length

@@ -2,13 +2,13 @@
 ghost use Rattle.std.specs.Prelude.{◌≡◌, ◌⊎◌, ◌≤◌, ◌+◌, ℕ, List, length, take, drop, IfOk, IfSome, OnErr, IsErrOf};
 ghost use Rattle.std.specs.declared.option.Option.{Option};
 ghost use Rattle.std.specs.declared.option.Option.TheVariants.{None, Some};
-ghost use Rattle.outside.specs.Causes.{HasCause};
+ghost use Rattle.outside.specs.Causes.{GetHasCause};
 ghost use Rattle.outside.specs.Trace.{block};
 ghost use Rattle.outside.specs.Changes.{change_at};
 ghost use Rattle.outside.specs.View.{bytes_of};
 ghost use Rattle.redo_vault.specs.Redo.{Gave};
-ghost use Rattle.sealed_store.specs.BlockFiles.{prefix, opens_file, sight_in};
-ghost use Rattle.sealed_store.specs.Stores.{sight_of, IsIntact, Sees, block_size_of, key_of, cipher_of};
+ghost use Rattle.sealed_store.specs.BlockFiles.{prefix, opens_file, seen_file_in};
+ghost use Rattle.sealed_store.specs.Stores.{seen_file_of, IsIntact, Sees, block_size_of, key_of, cipher_of};
 
 use crate::Seen;
 use block_id::BlockId;
@@ -28,7 +28,7 @@ pub struct SealedStore<V, C> {
     block_size: usize,
 }
 
-// What an answer shows.
+/// What an answer shows.
 fn see<C: Sealer>(
     alloc: Global,
     cipher: &C,
@@ -37,7 +37,7 @@ fn see<C: Sealer>(
     answer: &Option<Vec<u8>>,
 ) -> Result<Seen, Memory>
     requires { 16 ≤ block_size }
-    ensures { IfOk result (λ seen. sight_of seen ≡ sight_in (C.opens cipher.now key.now) block_size (bytes_of answer.now)) }
+    ensures { IfOk result (λ seen. seen_file_of seen ≡ seen_file_in (C.opens cipher.now key.now) block_size (bytes_of answer.now)) }
 {
     let Some(bytes) = answer else {
         return Ok(Seen::Absent);
@@ -91,7 +91,7 @@ impl<V: Vault, C: Sealer> SealedStore<V, C> {
     pub fn get_plain(&mut self, alloc: Global, id: &BlockId) -> Result<Seen, GetFail>
         requires { IsIntact (block_size_of self.old) (C.iv_size (cipher_of self.old)) }
         ensures sees { IfOk result (λ seen. Sees (C.opens (cipher_of self.old) (key_of self.old)) (block_size_of self.old)
-            (change_at (block id.now.0) self.old.vault.list) (V.trace self.old.vault.vault) (V.trace self.new.vault.vault) id.now.0 (sight_of seen)) }
+            (change_at (block id.now.0) self.old.vault.list) (V.trace self.old.vault.vault) (V.trace self.new.vault.vault) id.now.0 (seen_file_of seen)) }
         ensures asked_once { OnErr result ((V.trace self.new.vault.vault ≡ V.trace self.old.vault.vault)
             ⊎ ((answer : Option (List ℕ)) × Gave (change_at (block id.now.0) self.old.vault.list) (V.trace self.old.vault.vault)
             (V.trace self.new.vault.vault) (block id.now.0) (block_size_of self.old + 1) answer)) }
@@ -101,7 +101,7 @@ impl<V: Vault, C: Sealer> SealedStore<V, C> {
         ensures list { self.new.vault.list ≡ self.old.vault.list }
         ensures same { self.new ≡ record self.old { vault = self.new.vault } }
         ensures intact { IsIntact (block_size_of self.new) (C.iv_size (cipher_of self.new)) }
-        ensures cause { HasCause (V.faults self.old.vault.vault) (V.faults self.new.vault.vault) result }
+        ensures cause { GetHasCause (V.faults self.old.vault.vault) (V.faults self.new.vault.vault) result }
     {
         let name = FileName::Block(*id);
         let answer = self.vault.get(alloc, &name, self.block_size + 1)?;
@@ -144,7 +144,7 @@ mod tests {
 
     const ID: BlockId = BlockId([7; 16]);
 
-    // A store of blocks of 128 bytes.
+    /// A store of blocks of 128 bytes.
     fn store_over(alloc: Global, below: MemoryVault) -> SealedStore<MemoryVault, Aes256Gcm>
         ensures intact { IsIntact (block_size_of result) (⟦<Aes256Gcm as Sealer>⟧.iv_size (cipher_of result)) }
         ensures size { block_size_of result ≡ 128 }
@@ -176,7 +176,7 @@ mod tests {
         Ok(())
     }
 
-    // The sealed file with one byte changed.
+    /// The sealed file with one byte changed.
     fn changed(alloc: Global, at: usize) -> Result<Vec<u8>, Fail> {
         let mut file = sealed(alloc)?;
         let byte = file.get_mut(at).ok_or("no such byte")?;

@@ -8,7 +8,7 @@ use Rattle.outside.specs.Causes.{RoseBy}
 use Rattle.outside.specs.Streams.{appends, Ends}
 use Rattle.line_io.specs.Lines.{lines}
 use Rattle.line_io.specs.Reading.{Line, total}
-use Rattle.line_io.specs.Streams.{Cut, Failed, TookMost}
+use Rattle.line_io.specs.Streams.{Cut, HasFailed, TookMost}
 use Rattle.line_io.proofs.Flow.{appends-append, appends-nil}
 use Rattle.script_text.specs.Grammar.{command_of}
 use Rattle.answers.specs.declared.answer.Answer.{Answer}
@@ -88,7 +88,7 @@ risen a b c e r = subst (λ (n : ℕ). RoseBy 1 n c) e r
 
 input_cause : (first : ℕ) (old mid new : Option (List ℕ)) (taken now a b c : ℕ) → b ≡ a
     → total now new ≡ total taken mid → total taken mid ≡ total first old → RoseBy 1 b c ⊎ (now ≡ 2 ^ 63)
-    → Failed (record { old = old; new = new; faults = a; risen = c }) ⊎ TookMost first (record { old = old; new = new; faults = a; risen = c })
+    → HasFailed (record { old = old; new = new; faults = a; risen = c }) ⊎ TookMost first (record { old = old; new = new; faults = a; risen = c })
 input_cause first old mid new taken now a b c h e f (inl r) = inl (risen a b c h r)
 input_cause first old mid new taken now a b c h e f (inr m) = inr (ap (λ (n : ℕ). total n new) (sym m) ∙ (e ∙ f))
 

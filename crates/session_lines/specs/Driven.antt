@@ -4,7 +4,7 @@ use Rattle.std.specs.declared.option.Option.{Option}
 use Rattle.fs_model.specs.Instant.{Instant}
 use Rattle.outside.specs.Streams.{appends, Ends}
 use Rattle.line_io.specs.Reading.{Line}
-use Rattle.line_io.specs.Streams.{Stream, Failed, TookMost, Cut}
+use Rattle.line_io.specs.Streams.{Stream, HasFailed, TookMost, Cut}
 use Rattle.script_text.specs.Grammar.{command_of}
 use Rattle.answers.specs.declared.answer.Answer.{Answer}
 use Rattle.answers.specs.Hosts.{Hosting, Ran}
@@ -16,34 +16,34 @@ use Rattle.session_lines.specs.declared.end.End.TheVariants.{Finished, InputFaul
 use Rattle.session_lines.specs.Asking.{said_in, AskedFirst, AskedAll, CutLast, generated, single}
 
 -- no call failed
-abbrev pub IsQuiet : Stream → Type 0
-IsQuiet s = s.risen ≡ s.faults
+abbrev pub IsUnfailed : Stream → Type 0
+IsUnfailed s = s.risen ≡ s.faults
 
 -- the input was read to its end, all its lines were answered, and all answers were written
-pub record IsWhole (coming : Option (List ℕ)) (input output : Stream) (es : List Exchange) : Type 0 where
+pub record IsWholeSession (coming : Option (List ℕ)) (input output : Stream) (es : List Exchange) : Type 0 where
   pub asked : AskedAll coming es
   pub ends : Ends input.new
   pub written : output.new ≡ appends output.old (said_in es)
-  pub input_quiet : IsQuiet input
-  pub output_quiet : IsQuiet output
+  pub input_quiet : IsUnfailed input
+  pub output_quiet : IsUnfailed output
 
 -- the input failed after some lines, whose answers were written
 pub record IsCutInput (taken : ℕ) (coming : Option (List ℕ)) (input output : Stream) (es : List Exchange) : Type 0 where
   pub asked : AskedFirst coming es
   pub written : output.new ≡ appends output.old (said_in es)
-  pub cause : Failed input ⊎ TookMost taken input
-  pub output_quiet : IsQuiet output
+  pub cause : HasFailed input ⊎ TookMost taken input
+  pub output_quiet : IsUnfailed output
 
 -- the output failed in the answer to one of the lines
 pub record IsCutOutput (coming : Option (List ℕ)) (input output : Stream) (es : List Exchange) : Type 0 where
   pub asked : AskedFirst coming es
   pub written : CutLast output.old output.new es
-  pub cause : Failed output
-  pub input_quiet : IsQuiet input
+  pub cause : HasFailed output
+  pub input_quiet : IsUnfailed input
 
 -- which lines were answered and what was written, by the way in which they ended
 abbrev pub EndsAs : ℕ → Option (List ℕ) → Stream → Stream → List Exchange → End → Type 0
-EndsAs taken coming input output es Finished = IsWhole coming input output es
+EndsAs taken coming input output es Finished = IsWholeSession coming input output es
 EndsAs taken coming input output es InputFault = IsCutInput taken coming input output es
 EndsAs taken coming input output es OutputFault = IsCutOutput coming input output es
 
@@ -53,9 +53,9 @@ Served M now old new taken coming input output end = (es : List Exchange) × Ran
 
 -- the text was written whole, or in part where the sink failed
 abbrev pub Reported : Stream → List ℕ → End → Type 0
-Reported output text Finished = (output.new ≡ appends output.old text) × IsQuiet output
+Reported output text Finished = (output.new ≡ appends output.old text) × IsUnfailed output
 Reported output text InputFault = ⊥
-Reported output text OutputFault = Cut output.old output.new text × Failed output
+Reported output text OutputFault = Cut output.old output.new text × HasFailed output
 
 -- so many generated commands were answered, with these counts
 abbrev pub Summed : {H : Type 0} → Hosting H → Instant → H → H → ℕ → Counts → Type 0
@@ -88,10 +88,10 @@ TellsNext M now old new before after text = (line : List ℕ) × TellsLine M now
 
 -- and its text was written
 abbrev pub Took : {H : Type 0} → Hosting H → Instant → H → H → Option (List ℕ) → Option (List ℕ) → List ℕ → Stream → Stream → Type 0
-Took M now old new before after text input output = TellsNext M now old new before after text × (output.new ≡ appends output.old text) × IsQuiet input × IsQuiet output
+Took M now old new before after text input output = TellsNext M now old new before after text × (output.new ≡ appends output.old text) × IsUnfailed input × IsUnfailed output
 
 -- a turn in which the lines ended: none was left, the source failed in the next, or the sink failed in the answer
 abbrev pub Stopped : {H : Type 0} → Hosting H → Instant → H → H → Option (List ℕ) → Option (List ℕ) → ℕ → Stream → Stream → List ℕ → End → Type 0
-Stopped M now old new before after taken input output text Finished = (new ≡ old) × Ends before × Ends input.new × (output.new ≡ output.old) × IsQuiet input × IsQuiet output
-Stopped M now old new before after taken input output text InputFault = (new ≡ old) × (output.new ≡ output.old) × (Failed input ⊎ (taken ≡ 2 ^ 63)) × IsQuiet output
-Stopped M now old new before after taken input output text OutputFault = TellsNext M now old new before after text × Cut output.old output.new text × Failed output × IsQuiet input
+Stopped M now old new before after taken input output text Finished = (new ≡ old) × Ends before × Ends input.new × (output.new ≡ output.old) × IsUnfailed input × IsUnfailed output
+Stopped M now old new before after taken input output text InputFault = (new ≡ old) × (output.new ≡ output.old) × (HasFailed input ⊎ (taken ≡ 2 ^ 63)) × IsUnfailed output
+Stopped M now old new before after taken input output text OutputFault = TellsNext M now old new before after text × Cut output.old output.new text × HasFailed output × IsUnfailed input

@@ -19,7 +19,7 @@ use Rattle.tree_commands.specs.Performing.{Showing}
 use Rattle.mount_core.specs.Standing.{IsKeptMarked, Left}
 use Rattle.mount.specs.declared.mount.Mount.{Mount}
 use Rattle.mount.specs.Tower.{tower_meanings, tower_holdings, tower_durables, TowerStands}
-use Rattle.session_runs.specs.Answering.{calls_of, forgeries_of, lies_of, keeper_faults, version_of, kept_of, Answered, MountAnswers}
+use Rattle.session_runs.specs.Answering.{calls_of, forgeries_of, lies_of, keeper_faults, version_of, kept_of, LineAnswered, MountAnswers}
 use Rattle.session_runs.specs.Causes.{IsAnswerTo, AreBuilt}
 use Rattle.session_runs.specs.Passing.{MountKeeps, LeftAt, PassedTrees, Passed}
 use Rattle.session_runs.proofs.Still.{rested_none, rested_on}
@@ -96,7 +96,7 @@ module _ {V : Type 0} {K : Type 0} (shows : Showing) (trace : V → Option (List
       → (trees : List Tree) → IsSession now first es trees → LeftAt shows trace faults G mid first es trees flag → (lies_of trace faults mid ≤ lies_of trace faults old → flag ≡ false) → AreBuilt es
       → PassedTrees shows trace faults G now old new first (e ∷ es)
   trees_on old mid new e es first false ev em a few grew trees s left honest built =
-      let t : Answered shows trace faults G now new left.0 (latest first trees) e.asked e.answer = a.stands left.0 (latest first trees) em left.2 few in
+      let t : LineAnswered shows trace faults G now new left.0 (latest first trees) e.asked e.answer = a.stands left.0 (latest first trees) em left.2 few in
       record {
         trees = t.next ∷ trees;
         session = (subst (λ b. Next b now (latest first trees) e.asked e.answer t.next) (sym ev) t.follows, s);

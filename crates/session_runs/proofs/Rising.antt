@@ -5,7 +5,7 @@ use Rattle.answers.specs.declared.answer.Answer.{Answer}
 use Rattle.answers.specs.declared.answer.Answer.TheVariants.{Reply as Replied, Memory, Spent, FaultDirectory, FaultState, Violation, Refused}
 use Rattle.answers.specs.Sessions.{Exchange}
 use Rattle.mount_core.specs.Answers.{OnSpent}
-use Rattle.session_runs.specs.Causes.{IsUnread, AreSpent}
+use Rattle.session_runs.specs.Causes.{IsBadLineAnswer, AreSpent}
 
 -- of a weaker cause
 pub on_spent : (answer : Answer) (cause weaker : Type 0) → (cause → weaker) → OnSpent answer cause → OnSpent answer weaker
@@ -18,7 +18,7 @@ on_spent (Violation why) cause weaker f c = tt
 on_spent Refused cause weaker f c = tt
 
 -- a line that is none isn't answered so
-pub unread_spent : (error : FsError) (answer : Answer) (cause : Type 0) → IsUnread error answer → OnSpent answer cause
+pub unread_spent : (error : FsError) (answer : Answer) (cause : Type 0) → IsBadLineAnswer error answer → OnSpent answer cause
 unread_spent error answer cause (inl e) = subst (λ x. OnSpent x cause) (sym e) tt
 unread_spent error answer cause (inr (inl e)) = subst (λ x. OnSpent x cause) (sym e) tt
 unread_spent error answer cause (inr (inr e)) = subst (λ x. OnSpent x cause) (sym e) tt

@@ -12,7 +12,7 @@ use Rattle.fs_model.specs.declared.reply.Reply.TheVariants.{Done, Rows, Info, Ta
 use Rattle.fs_model.specs.Instant.{Instant}
 use Rattle.fs_model.specs.Laws.{OnlyLooks}
 use Rattle.integrity_store.specs.Held.{Held}
-use Rattle.integrity_store.specs.Reads.{AllReads, Went}
+use Rattle.integrity_store.specs.Reads.{AllReads, WentOnByReads}
 use Rattle.mount.specs.declared.mount.Mount.{Mount}
 use Rattle.mount.specs.Tower.{Cached, held_in, trace_in, tower_meanings}
 use Rattle.mount.specs.TowerLaws.{tower_lawful}
@@ -60,7 +60,7 @@ all_gets : (h : Held) (calls : List Call) → AllReads h calls → AreGets calls
 all_gets h [] all = tt
 all_gets h (call ∷ calls) all = (subst IsGet (sym all.0.is) tt, all_gets h calls all.1)
 
-went_got : (h : Held) (old new : Option (List Call)) → Went h old new → OnlyGot old new
+went_got : (h : Held) (old new : Option (List Call)) → WentOnByReads h old new → OnlyGot old new
 went_got h None new w = w
 went_got h (Some old) new w = (w.0, w.1, all_gets h w.0 w.2)
 

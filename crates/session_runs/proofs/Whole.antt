@@ -26,7 +26,7 @@ use Rattle.mount_core.specs.Configuring.{KeptOneOf, ConfigAnswered, ConfigClosed
 use Rattle.tree_commands.specs.Performing.{Showing}
 use Rattle.mount_core.specs.Standing.{IsKeptMarked}
 use Rattle.mount.specs.declared.mount.Mount.{Mount}
-use Rattle.mount.specs.Mounts.{IsReady, Closed}
+use Rattle.mount.specs.Mounts.{IsReady, MountClosed}
 use Rattle.mount.specs.Representing.{Represents}
 use Rattle.mount.specs.Tower.{tower_holdings, tower_durables, TowerStands}
 use Rattle.mount.specs.Unforged.{IsUnforgedConfig}
@@ -34,7 +34,7 @@ use Rattle.mount.proofs.Reading.{represents_told}
 use Rattle.mount.proofs.Standing.{represents}
 use Rattle.session_runs.specs.Answering.{store_of, calls_of, forgeries_of, lies_of, version_of, kept_of, mount_hosting}
 use Rattle.session_runs.specs.Passing.{MountKeeps, LeftAt, PassedTrees, Passed}
-use Rattle.session_runs.specs.Runs.{Outside, outside_of, StandsFor, forgeries, lies, OpensTo, IsFounded, AreCalm, Answers, directory_fault, state_fault, IsSessionRun}
+use Rattle.session_runs.specs.Runs.{Outside, outside_of, OutsideStandsFor, forgeries, lies, OpensTo, IsFounded, AreCalm, Answers, directory_fault, state_fault, IsSessionRun}
 use Rattle.session_runs.specs.Turns.{Begun, Closing, OnMount}
 use Rattle.answers.specs.Hosts.{Ran}
 use Rattle.session_runs.proofs.Joining.{true_is_false, latest_kept}
@@ -121,25 +121,25 @@ module _ {V : Type 0} {K : Type 0} (shows : Showing) (trace : V → Option (List
     of_keeps tree k = subst (λ x. Represents shows (kept_of G left) (calls_of trace left) x tree) is
         (represents shows (settings_of left.opened.config) ready.salt _ _ _ (kept_of G left) (calls_of trace left) tree (ap (λ (i : Identity). i.size - 78) ready.identity) (ap (λ x. x.0) ready.root) ready.identity k)
 
-    of_closed : (kept : Tree) → IsKeptPoint first es trees kept → (result : Result Unit SyncError) → Closed shows (settings_of left.opened.config) After.kept After.calls kept (latest first trees) result
-        → (tree : Tree) × IsKeptPoint first es trees tree × StandsFor shows c tree After
+    of_closed : (kept : Tree) → IsKeptPoint first es trees kept → (result : Result Unit SyncError) → MountClosed shows (settings_of left.opened.config) After.kept After.calls kept (latest first trees) result
+        → (tree : Tree) × IsKeptPoint first es trees tree × OutsideStandsFor shows c tree After
     of_closed kept k (Ok u) s = (latest first trees, point, subst (λ x. Represents shows After.kept After.calls x (latest first trees)) is s.0)
     of_closed kept k (Err e) (inl s) = (kept, k, subst (λ x. Represents shows After.kept After.calls x kept) is s)
     of_closed kept k (Err e) (inr s) = (latest first trees, point, subst (λ x. Represents shows After.kept After.calls x (latest first trees)) is s)
 
     kept_after : (flag : Bool) → violated es ≡ flag → LeftAt shows trace faults G left first es trees flag
-        → ((violated es ≡ true) × IsKeptMarked records After.kept) ⊎ ((tree : Tree) × IsKeptPoint first es trees tree × StandsFor shows c tree After)
+        → ((violated es ≡ true) × IsKeptMarked records After.kept) ⊎ ((tree : Tree) × IsKeptPoint first es trees tree × OutsideStandsFor shows c tree After)
     kept_after true v (inl m) = let l = z.left (inl (p.flag ∙ v)) in inl (v, subst (λ k. IsKeptMarked records (G.kept k)) (sym l.2) m)
     kept_after true v (inr (tree, k, keeps)) =
         let l = z.left (inl (p.flag ∙ v)) in
         inr (tree, k, subst (λ k. Represents shows (G.kept k) (trace vault) c tree) (sym l.2) (subst (λ x. Represents shows (kept_of G left) (trace x) c tree) (sym l.1) (of_keeps tree keeps)))
     kept_after false v (kept, k, s) = inr (of_closed kept k closing (z.stands kept (latest first trees) (p.flag ∙ v) s))
 
-    of_done : (kept : Tree) (result : Result Unit SyncError) → Closed shows (settings_of left.opened.config) After.kept After.calls kept (latest first trees) result → OnOk result (StandsFor shows c (latest first trees) After)
+    of_done : (kept : Tree) (result : Result Unit SyncError) → MountClosed shows (settings_of left.opened.config) After.kept After.calls kept (latest first trees) result → OnOk result (OutsideStandsFor shows c (latest first trees) After)
     of_done kept (Ok u) s = subst (λ x. Represents shows After.kept After.calls x (latest first trees)) is s.0
     of_done kept (Err e) s = tt
 
-    done_after : (flag : Bool) → violated es ≡ flag → LeftAt shows trace faults G left first es trees flag → violated es ≡ false → OnOk closing (StandsFor shows c (latest first trees) After)
+    done_after : (flag : Bool) → violated es ≡ flag → LeftAt shows trace faults G left first es trees flag → violated es ≡ false → OnOk closing (OutsideStandsFor shows c (latest first trees) After)
     done_after true v s f = absurd (true_is_false (sym v ∙ f))
     done_after false v (kept, k, s) f = of_done kept closing (z.stands kept (latest first trees) (p.flag ∙ v) s)
 

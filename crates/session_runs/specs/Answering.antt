@@ -24,7 +24,7 @@ use Rattle.mount_core.specs.Standing.{IsKeptMarked, Left}
 use Rattle.mount.specs.declared.mount.Mount.{Mount}
 use Rattle.mount.specs.Mounts.{IsReady}
 use Rattle.mount.specs.Tower.{Cached, trace_in, tower_meanings, tower_holdings, tower_durables, TowerStands, TowerConfigures}
-use Rattle.session_runs.specs.Causes.{IsUnread}
+use Rattle.session_runs.specs.Causes.{IsBadLineAnswer}
 
 -- ---- what a mount tells
 
@@ -55,7 +55,7 @@ kept_of G mount = G.kept mount.core.saver.keeper
 -- ---- an answer
 
 -- the tree that an answer leaves, and where it leaves the mount
-pub record Answered {V : Type 0} {K : Type 0} (shows : Showing) (trace : V → Option (List Call)) (faults : V → ℕ) (G : KeeperGhosts K) (now : Instant) (mount : Mount V K) (kept present : Tree) (asked : Asked) (answer : Answer) : Type 0 where
+pub record LineAnswered {V : Type 0} {K : Type 0} (shows : Showing) (trace : V → Option (List Call)) (faults : V → ℕ) (G : KeeperGhosts K) (now : Instant) (mount : Mount V K) (kept present : Tree) (asked : Asked) (answer : Answer) : Type 0 where
   pub next : Tree
   pub follows : FollowsAsked now present asked answer next
   pub left : Left shows (tower_meanings trace faults) (tower_holdings trace) (tower_durables trace) records G mount.core kept present next (is_violation answer) (is_synced asked answer)
@@ -66,9 +66,9 @@ pub record MountAnswers {V : Type 0} {K : Type 0} (shows : Showing) (trace : V �
   pub refused : old.core.violated ≡ true → (answer ≡ Refused) × (new ≡ old)
   pub served : old.core.violated ≡ false → answer ≢ Refused
   pub violated : new.core.violated ≡ (is_violation answer || old.core.violated)
-  pub unread : IfErr asked (λ error. IsUnread error answer × (new ≡ old))
+  pub unread : IfErr asked (λ error. IsBadLineAnswer error answer × (new ≡ old))
   pub stands : (kept present : Tree) → old.core.violated ≡ false → TowerStands shows trace faults G old.core kept present → forgeries_of trace faults new ≤ forgeries_of trace faults old
-      → Answered shows trace faults G now new kept present asked answer
+      → LineAnswered shows trace faults G now new kept present asked answer
   pub stays : is_done_answer answer ≡ false → Stays (tower_holdings trace) (store_of old) (store_of new)
   pub stays_synced : IfOk asked (λ command. is_sync command ≡ true → Stays (tower_holdings trace) (store_of old) (store_of new))
   pub configures : (may : List (List ℕ)) (present : List ℕ) → TowerConfigures trace G old.core may present

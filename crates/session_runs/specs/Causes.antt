@@ -12,13 +12,13 @@ use Rattle.mount_core.specs.Answers.{is_structure, OnReply, OnSpent}
 use Rattle.tree_commands.specs.Performing.{IsReplyTo}
 
 -- a line that is none gets its error, or finds no memory, or is refused
-abbrev pub IsUnread : FsError → Answer → Type 0
-IsUnread error answer = (answer ≡ Replied (Error error)) ⊎ ((answer ≡ Memory) ⊎ (answer ≡ Refused))
+abbrev pub IsBadLineAnswer : FsError → Answer → Type 0
+IsBadLineAnswer error answer = (answer ≡ Replied (Error error)) ⊎ ((answer ≡ Memory) ⊎ (answer ≡ Refused))
 
 -- a line that is none is answered so; the reply to a command has its form, and only one that changes something is answered by Spent
 abbrev pub IsAnswerTo : Asked → Answer → Type 0
 IsAnswerTo (Ok command) answer = OnReply answer (IsReplyTo command) × OnSpent answer (OnlyLooks command → ⊥)
-IsAnswerTo (Err error) answer = IsUnread error answer
+IsAnswerTo (Err error) answer = IsBadLineAnswer error answer
 
 abbrev pub AreAnswered : List Exchange → Type 0
 AreAnswered [] = Unit {0}

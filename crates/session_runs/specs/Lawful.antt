@@ -15,7 +15,7 @@ use Rattle.outside.specs.Trace.{Call}
 use Rattle.outside.specs.declared.keeper.Keeper.{Ghosts as KeeperGhosts}
 use Rattle.answers.specs.declared.answer.Answer.{Answer}
 use Rattle.answers.specs.declared.answer.Answer.TheVariants.{Reply as Replied, Memory, Spent, FaultDirectory, FaultState, Violation, Refused}
-use Rattle.answers.specs.Hosts.{LawfulHost, IsLong}
+use Rattle.answers.specs.Hosts.{LawfulHost, IsLongReply}
 use Rattle.answers.specs.Sessions.{Asked, FollowsAsked, is_violation, is_refused, is_sync, is_synced, directory_faults, state_faults}
 use Rattle.answers.proofs.Looked.{long_stays}
 use Rattle.store_api.specs.Holdings.{Holdings, Stays}
@@ -32,7 +32,7 @@ use Rattle.mount.specs.declared.mount.Mount.{Mount}
 use Rattle.mount.specs.Tower.{Cached, tower_meanings, tower_holdings, tower_durables}
 use Rattle.mount.specs.TowerLaws.{tower_lawful}
 use Rattle.session_runs.specs.Answering.{store_of, calls_of, MountAnswers, mount_hosting}
-use Rattle.session_runs.specs.Causes.{IsUnread}
+use Rattle.session_runs.specs.Causes.{IsBadLineAnswer}
 
 true_is_false : true ≡ false → ⊥
 true_is_false e = cc
@@ -74,7 +74,7 @@ memory_not_synced : (asked : Asked) → is_synced asked Memory ≡ false
 memory_not_synced (Ok command) = and_false (is_sync command)
 memory_not_synced (Err error) = refl
 
-long_not_synced : (asked : Asked) (reply : Reply) → IsLong reply → is_synced asked (Replied reply) ≡ false
+long_not_synced : (asked : Asked) (reply : Reply) → IsLongReply reply → is_synced asked (Replied reply) ≡ false
 long_not_synced (Err error) reply h = refl
 long_not_synced (Ok command) (Rows rows) h = and_false (is_sync command)
 long_not_synced (Ok command) (Info attr size) h = and_false (is_sync command)
@@ -83,7 +83,7 @@ long_not_synced (Ok command) (Content bytes) h = and_false (is_sync command)
 long_not_synced (Ok command) Done h = absurd h
 long_not_synced (Ok command) (Error error) h = absurd h
 
-long_not_done : (reply : Reply) → IsLong reply → is_done_answer (Replied reply) ≡ false
+long_not_done : (reply : Reply) → IsLongReply reply → is_done_answer (Replied reply) ≡ false
 long_not_done (Rows rows) h = refl
 long_not_done (Info attr size) h = refl
 long_not_done (Target target) h = refl
@@ -202,7 +202,7 @@ no_sync (Ok command) (Violation why) h = absurd h
 
 module _ {V : Type 0} {K : Type 0} (shows : Showing) (trace : V → Option (List Call)) (faults : V → ℕ) (G : KeeperGhosts K) (now : Instant) where
   idle : (mount : Mount V K) (asked : Asked) (answer : Answer) → IsNo answer → (mount.core.violated ≡ true → answer ≡ Refused) → (mount.core.violated ≡ false → answer ≢ Refused)
-      → IfErr asked (λ error. IsUnread error answer × (mount ≡ mount)) → ((tree : Tree) → mount.core.violated ≡ false → FollowsAsked now tree asked answer tree)
+      → IfErr asked (λ error. IsBadLineAnswer error answer × (mount ≡ mount)) → ((tree : Tree) → mount.core.violated ≡ false → FollowsAsked now tree asked answer tree)
       → IfOk asked (λ command. performing.is_sync command ≡ true → mount.core.violated ≡ false → mount.core.saver.changed ≡ false → ((answer ≡ Replied Done) ⊎ (answer ≡ Memory)) × (mount ≡ mount))
       → IfOk asked (λ command. mount.core.violated ≡ false → performing.is_sync command ≡ false → MadeRoom (tower_meanings trace faults) (tower_holdings trace) (tower_durables trace) mount.core.saver.changed answer (store_of mount) (store_of mount))
       → MountAnswers shows trace faults G now mount asked answer mount
@@ -248,11 +248,11 @@ module _ {V : Type 0} {K : Type 0} (shows : Showing) (trace : V → Option (List
         variant = if_ok asked _ (λ command. no_reply answer command none);
       }
 
-  refused_unread : (mount : Mount V K) (asked : Asked) → IfErr asked (λ error. IsUnread error Refused × (mount ≡ mount))
+  refused_unread : (mount : Mount V K) (asked : Asked) → IfErr asked (λ error. IsBadLineAnswer error Refused × (mount ≡ mount))
   refused_unread mount (Ok command) = tt
   refused_unread mount (Err error) = (inr (inr refl), refl)
 
-  memory_unread : (mount : Mount V K) (asked : Asked) → IfErr asked (λ error. IsUnread error Memory × (mount ≡ mount))
+  memory_unread : (mount : Mount V K) (asked : Asked) → IfErr asked (λ error. IsBadLineAnswer error Memory × (mount ≡ mount))
   memory_unread mount (Ok command) = tt
   memory_unread mount (Err error) = (inr (inl refl), refl)
 
@@ -276,11 +276,11 @@ module _ {V : Type 0} {K : Type 0} (shows : Showing) (trace : V → Option (List
 
   -- ---- a reply whose text finds no memory
 
-  unsaid_unread : (old new : Mount V K) (asked : Asked) (reply : Reply) → IfErr asked (λ error. IsUnread error (Replied reply) × (new ≡ old)) → IfErr asked (λ error. IsUnread error Memory × (new ≡ old))
+  unsaid_unread : (old new : Mount V K) (asked : Asked) (reply : Reply) → IfErr asked (λ error. IsBadLineAnswer error (Replied reply) × (new ≡ old)) → IfErr asked (λ error. IsBadLineAnswer error Memory × (new ≡ old))
   unsaid_unread old new (Ok command) reply w = tt
   unsaid_unread old new (Err error) reply w = (inr (inl refl), w.1)
 
-  unsaid_follows : (tree next : Tree) (asked : Asked) (reply : Reply) → IsLong reply → FollowsAsked now tree asked (Replied reply) next → FollowsAsked now tree asked Memory next
+  unsaid_follows : (tree next : Tree) (asked : Asked) (reply : Reply) → IsLongReply reply → FollowsAsked now tree asked (Replied reply) next → FollowsAsked now tree asked Memory next
   unsaid_follows tree next (Ok command) reply long f = long_stays tree now command reply next f long
   unsaid_follows tree next (Err error) reply long f = (inr refl, f.1)
 
@@ -290,7 +290,7 @@ module _ {V : Type 0} {K : Type 0} (shows : Showing) (trace : V → Option (List
   unsaid_unmoved old new (Ok command) reply w = λ is fresh none. (inr refl, (w is fresh none).1)
   unsaid_unmoved old new (Err error) reply w = tt
 
-  unsaid_room : (old new : Mount V K) (asked : Asked) (reply : Reply) → IsLong reply
+  unsaid_room : (old new : Mount V K) (asked : Asked) (reply : Reply) → IsLongReply reply
       → IfOk asked (λ command. old.core.violated ≡ false → performing.is_sync command ≡ false → MadeRoom (tower_meanings trace faults) (tower_holdings trace) (tower_durables trace) old.core.saver.changed (Replied reply) (store_of old) (store_of new))
       → IfOk asked (λ command. old.core.violated ≡ false → performing.is_sync command ≡ false → MadeRoom (tower_meanings trace faults) (tower_holdings trace) (tower_durables trace) old.core.saver.changed Memory (store_of old) (store_of new))
   unsaid_room old new (Ok command) reply long w = λ f is.
@@ -312,7 +312,7 @@ module _ {V : Type 0} {K : Type 0} (shows : Showing) (trace : V → Option (List
       }
   unsaid_room old new (Err error) reply long w = tt
 
-  pub unsaid : (old new : Mount V K) (asked : Asked) (reply : Reply) → IsLong reply → MountAnswers shows trace faults G now old asked (Replied reply) new → MountAnswers shows trace faults G now old asked Memory new
+  pub unsaid : (old new : Mount V K) (asked : Asked) (reply : Reply) → IsLongReply reply → MountAnswers shows trace faults G now old asked (Replied reply) new → MountAnswers shows trace faults G now old asked Memory new
   unsaid old new asked reply long w = record {
     opened = w.opened;
     refused = λ t. absurd (reply_not_refused reply (w.refused t).0);

@@ -42,8 +42,8 @@ abbrev pub outside_of : {V : Type 0} → {K : Type 0} → (V → Option (List Ca
 outside_of trace faults G vault keeper = record { kept = G.kept keeper; calls = trace vault; vault_faults = faults vault; keeper_faults = G.faults keeper }
 
 -- under this configuration they stand for this tree
-abbrev pub StandsFor : Showing → Settings → Tree → Outside → Type 0
-StandsFor shows c tree o = Represents shows o.kept o.calls c tree
+abbrev pub OutsideStandsFor : Showing → Settings → Tree → Outside → Type 0
+OutsideStandsFor shows c tree o = Represents shows o.kept o.calls c tree
 
 -- the configuration's file opens to this configuration under the password
 abbrev pub PasswordOpens : List ℕ → Settings → Outside → Type 0
@@ -58,7 +58,7 @@ lies o = count_told is_lie o.calls
 
 -- what opening must find: under this configuration they stood for the tree, and no other configuration opens under the password
 pub record OpensTo (shows : Showing) (password : List ℕ) (c : Settings) (tree : Tree) (before after : Outside) : Type 0 where
-  pub stands : StandsFor shows c tree before
+  pub stands : OutsideStandsFor shows c tree before
   pub unforged_config : IsUnforgedConfig password before.kept before.calls after.calls c
 
 -- what a session must find besides: no block file that opens was forged since
@@ -76,11 +76,11 @@ pub record Answers (shows : Showing) (now : Instant) (c : Settings) (first : Tre
   pub trees : List Tree
   pub replies : IsSession now first es trees
   -- a marked record is kept only after a violation
-  pub kept : ((violated es ≡ true) × IsKeptMarked records after.kept) ⊎ ((tree : Tree) × IsKeptPoint first es trees tree × StandsFor shows c tree after)
+  pub kept : ((violated es ≡ true) × IsKeptMarked records after.kept) ⊎ ((tree : Tree) × IsKeptPoint first es trees tree × OutsideStandsFor shows c tree after)
   pub no_false_alarm : lies after ≤ lies before → AreCalm es
   pub built : AreBuilt es
   -- without a violation, a session that closed leaves its last tree
-  pub done : violated es ≡ false → OnOk closing (StandsFor shows c (latest first trees) after)
+  pub done : violated es ≡ false → OnOk closing (OutsideStandsFor shows c (latest first trees) after)
 
 -- the faults that closing names
 abbrev pub directory_fault : Result Unit SyncError → ℕ
@@ -132,8 +132,8 @@ pub record IsSessionRun (shows : Showing) (now : Instant) (password : List ℕ) 
   pub unforged : (c : Settings) (first : Tree) → OpensTo shows password c first before after → lies after ≤ lies before → forgeries c after ≤ forgeries c before
 
 -- a run of no lines: it leaves what was kept, and a marked record with all that was called
-pub record IsQuiet (shows : Showing) (password : List ℕ) (before after : Outside) : Type 0 where
-  pub stands : (c : Settings) (tree : Tree) → OpensTo shows password c tree before after → StandsFor shows c tree after
+pub record IsQuietRun (shows : Showing) (password : List ℕ) (before after : Outside) : Type 0 where
+  pub stands : (c : Settings) (tree : Tree) → OpensTo shows password c tree before after → OutsideStandsFor shows c tree after
   pub marked : IsKeptMarked records before.kept → (after.kept ≡ before.kept) × (after.calls ≡ before.calls)
 
 -- There are exchanges of such a session, with lines that came so, and each answer is that of a mount.

@@ -20,7 +20,7 @@ use Rattle.session_saver.specs.declared.saver.SyncError.TheVariants.{FaultDirect
 use Rattle.mount_core.specs.Configuring.{ConfigClosed}
 use Rattle.tree_commands.specs.Performing.{Showing}
 use Rattle.mount.specs.declared.mount.Mount.{Mount}
-use Rattle.mount.specs.Mounts.{IsReady, Closed}
+use Rattle.mount.specs.Mounts.{IsReady, MountClosed}
 use Rattle.mount.specs.Opening.{AreKnown, Attached}
 use Rattle.mount.specs.Representing.{Represents, HasEmptyList}
 use Rattle.mount.specs.Tower.{vault_in, TowerStands, TowerConfigures}
@@ -46,7 +46,7 @@ pub record Begun {V : Type 0} {K : Type 0} (shows : Showing) (trace : V → Opti
 -- the mount was closed with this answer, and gave back its directory and its keeper
 pub record Closing {V : Type 0} {K : Type 0} (shows : Showing) (trace : V → Option (List Call)) (faults : V → ℕ) (G : KeeperGhosts K) (mount : Mount V K) (closing : Result Unit SyncError) (vault : V) (keeper : K) : Type 0 where
   pub stands : (kept now : Tree) → mount.core.violated ≡ false → TowerStands shows trace faults G mount.core kept now
-      → Closed shows (settings_of mount.opened.config) (G.kept keeper) (trace vault) kept now closing
+      → MountClosed shows (settings_of mount.opened.config) (G.kept keeper) (trace vault) kept now closing
   pub configures : (may : List (List ℕ)) (now : List ℕ) → mount.core.violated ≡ false → TowerConfigures trace G mount.core may now → ConfigClosed records (G.kept keeper) (trace vault) may now closing
   pub left : (mount.core.violated ≡ true) ⊎ (mount.core.saver.changed ≡ false) → IsOk closing × (vault ≡ vault_in (store_of mount)) × (keeper ≡ mount.core.saver.keeper)
   pub emptied : mount.core.violated ≡ false → OnOk closing (HasEmptyList (G.kept keeper))

@@ -9,7 +9,7 @@ ghost use Rattle.tree_commands.specs.Showing.{ShowsFiles};
 ghost use Rattle.mount_core.specs.Standing.{IsKeptMarked};
 ghost use Rattle.mount.specs.Mounts.{Unopened};
 ghost use Rattle.session_runs.specs.Coming.{CameGenerated, CameSingle};
-ghost use Rattle.session_runs.specs.Runs.{outside_of, IsQuiet, RanSession, StopsAtMark};
+ghost use Rattle.session_runs.specs.Runs.{outside_of, IsQuietRun, RanSession, StopsAtMark};
 
 use crate::turns::{SessionEnd, close, open};
 use answers::TextBuffer;
@@ -41,7 +41,7 @@ pub fn run_lines<V: Vault, K: Keeper, I: Source, O: Sink, R: Rng>(
         s.violated s.closing) }
     ensures unopened { IfErr result (λ h. Unopened ShowsFiles V.trace V.faults K.Keeper password.now vault keeper h) }
     ensures marked { IsKeptMarked records (K.kept keeper) → StopsAtMark K.kept vault keeper result }
-    ensures quiet { IfErr result (λ h. IsQuiet ShowsFiles password.now (outside_of V.trace V.faults K.Keeper vault keeper) (outside_of V.trace V.faults K.Keeper h.vault h.keeper)) }
+    ensures quiet { IfErr result (λ h. IsQuietRun ShowsFiles password.now (outside_of V.trace V.faults K.Keeper vault keeper) (outside_of V.trace V.faults K.Keeper h.vault h.keeper)) }
     ensures unread { OnErr result (input.new ≡ input.old) }
     ensures unwritten { OnErr result (output.new ≡ output.old) }
     ensures input_grows { I.faults input.old ≤ I.faults input.new }
@@ -79,7 +79,7 @@ pub fn run_generated<V: Vault, K: Keeper, O: Sink, R: Rng>(
         (λ es. CameGenerated count (stream_of O.written O.faults output.old output.new) s.end es) s.violated s.closing) }
     ensures unopened { IfErr result (λ h. Unopened ShowsFiles V.trace V.faults K.Keeper password.now vault keeper h) }
     ensures marked { IsKeptMarked records (K.kept keeper) → StopsAtMark K.kept vault keeper result }
-    ensures quiet { IfErr result (λ h. IsQuiet ShowsFiles password.now (outside_of V.trace V.faults K.Keeper vault keeper) (outside_of V.trace V.faults K.Keeper h.vault h.keeper)) }
+    ensures quiet { IfErr result (λ h. IsQuietRun ShowsFiles password.now (outside_of V.trace V.faults K.Keeper vault keeper) (outside_of V.trace V.faults K.Keeper h.vault h.keeper)) }
     ensures unwritten { OnErr result (output.new ≡ output.old) }
     ensures output_grows { O.faults output.old ≤ O.faults output.new }
 {
@@ -104,7 +104,7 @@ pub fn run_single<V: Vault, K: Keeper, O: Sink, R: Rng>(
         (λ es. CameSingle line.now (stream_of O.written O.faults output.old output.new) s.end es) s.violated s.closing) }
     ensures unopened { IfErr result (λ h. Unopened ShowsFiles V.trace V.faults K.Keeper password.now vault keeper h) }
     ensures marked { IsKeptMarked records (K.kept keeper) → StopsAtMark K.kept vault keeper result }
-    ensures quiet { IfErr result (λ h. IsQuiet ShowsFiles password.now (outside_of V.trace V.faults K.Keeper vault keeper) (outside_of V.trace V.faults K.Keeper h.vault h.keeper)) }
+    ensures quiet { IfErr result (λ h. IsQuietRun ShowsFiles password.now (outside_of V.trace V.faults K.Keeper vault keeper) (outside_of V.trace V.faults K.Keeper h.vault h.keeper)) }
     ensures unwritten { OnErr result (output.new ≡ output.old) }
     ensures output_grows { O.faults output.old ≤ O.faults output.new }
 {

@@ -4,7 +4,7 @@ ghost use Rattle.integrity_store.specs.Standing.{records};
 ghost use Rattle.tree_commands.specs.Showing.{ShowsFiles};
 ghost use Rattle.mount_core.specs.Standing.{IsKeptMarked};
 ghost use Rattle.mount.specs.Mounts.{IsReady, Unopened};
-ghost use Rattle.session_runs.specs.Runs.{outside_of, IsQuiet, StopsAtMark};
+ghost use Rattle.session_runs.specs.Runs.{outside_of, IsQuietRun, StopsAtMark};
 ghost use Rattle.session_runs.specs.Turns.{Begun, Closing};
 
 use crate::mounted::Mounted;
@@ -36,7 +36,7 @@ pub(crate) fn open<V: Vault, K: Keeper>(
     ensures begun { IfOk result (λ m. Begun ShowsFiles V.trace V.faults K.Keeper password.now vault keeper m.mount) }
     ensures unopened { IfErr result (λ h. Unopened ShowsFiles V.trace V.faults K.Keeper password.now vault keeper h) }
     ensures marked { IsKeptMarked records (K.kept keeper) → StopsAtMark K.kept vault keeper result }
-    ensures quiet { IfErr result (λ h. IsQuiet ShowsFiles password.now (outside_of V.trace V.faults K.Keeper vault keeper) (outside_of V.trace V.faults K.Keeper h.vault h.keeper)) }
+    ensures quiet { IfErr result (λ h. IsQuietRun ShowsFiles password.now (outside_of V.trace V.faults K.Keeper vault keeper) (outside_of V.trace V.faults K.Keeper h.vault h.keeper)) }
 {
     match Mount::attach(alloc, vault, keeper, password) {
         Ok(mount) => Ok(Mounted { mount }),

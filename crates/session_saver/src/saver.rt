@@ -7,7 +7,7 @@ ghost use Rattle.outside.specs.Writes.{after_writes};
 ghost use Rattle.store_api.specs.Content.{Content, SameContent};
 ghost use Rattle.store_api.specs.Durables.{mark_place, with_mark};
 ghost use Rattle.store_api.specs.Holdings.{Stays};
-ghost use Rattle.session_saver.specs.Saving.{Represents, KeptConfigures, Whole, CanMark, Saved, SavedConfig, LastBeforeLong, LastAfterLong, Wrote, IsRecordOf, UnlessDirectory, UnlessState};
+ghost use Rattle.session_saver.specs.Saving.{RepresentsContent, KeptConfigures, Whole, CanMark, Saved, SavedConfig, LastBeforeLong, LastAfterLong, Wrote, IsRecordOf, UnlessDirectory, UnlessState};
 
 use block_id::{Failed, Memory};
 use outside::{GetFail, Keeper};
@@ -43,13 +43,13 @@ impl<K: Keeper> Saver<K> {
         requires intact { S.meanings.intact store.old }
         requires room { length self.old.last.items ≤ K.room self.old.keeper }
         requires short_room { length short.items ≤ K.room self.old.keeper }
-        requires short { short.items ≡ S.durables.record_of store.old false }
-        requires kept { K.kept self.old.keeper ≡ Some (S.durables.record_of store.old true) }
-        requires last { self.old.last.items ≡ S.durables.record_of store.old true }
+        requires short { short.items ≡ S.durables.local_record_of store.old false }
+        requires kept { K.kept self.old.keeper ≡ Some (S.durables.local_record_of store.old true) }
+        requires last { self.old.last.items ≡ S.durables.local_record_of store.old true }
         requires changed { self.old.changed ≡ true }
         ensures stands { (now : Content) → S.meanings.sound store.old → (S.durables.identity store.old).marked ≡ false → SameContent now (S.holdings.content store.old)
-            → Represents S.records (S.durables.identity store.new) (K.kept self.new.keeper) (S.durables.trace store.new) now }
-        ensures configures { (bytes : List ℕ) → S.holdings.told store.old ≡ true → S.records.configures (S.durables.record_of store.old true) (S.durables.trace store.old) bytes
+            → RepresentsContent S.records (S.durables.identity store.new) (K.kept self.new.keeper) (S.durables.trace store.new) now }
+        ensures configures { (bytes : List ℕ) → S.holdings.told store.old ≡ true → S.records.configures (S.durables.local_record_of store.old true) (S.durables.trace store.old) bytes
             → KeptConfigures S.records (K.kept self.new.keeper) (S.durables.trace store.new) bytes }
         ensures last { LastAfterLong S.durables K.Keeper store.old self.new result }
         ensures keeps { IsRecordOf S.durables store.old (K.kept self.new.keeper) }
@@ -62,10 +62,10 @@ impl<K: Keeper> Saver<K> {
         ensures writes { OnOk result (S.durables.trace store.new ≡ after_writes (S.durables.list store.old) (S.durables.trace store.old)) }
         ensures stops { OnErr result ((store.new ≡ store.old) ⊎ Wrote S.durables store.old store.new) }
         ensures goes_on { GoesOn (S.durables.trace store.old) (S.durables.trace store.new) }
-        ensures waiting { (bytes : List ℕ) → S.records.configures (S.durables.record_of store.old true) (S.durables.trace store.old) bytes
-            → S.records.configures (S.durables.record_of store.old true) (S.durables.trace store.new) bytes }
-        ensures present { (bytes : List ℕ) → S.holdings.told store.old ≡ true → S.records.configures (S.durables.record_of store.old true) (S.durables.trace store.old) bytes
-            → S.records.configures (S.durables.record_of store.new true) (S.durables.trace store.new) bytes }
+        ensures waiting { (bytes : List ℕ) → S.records.configures (S.durables.local_record_of store.old true) (S.durables.trace store.old) bytes
+            → S.records.configures (S.durables.local_record_of store.old true) (S.durables.trace store.new) bytes }
+        ensures present { (bytes : List ℕ) → S.holdings.told store.old ≡ true → S.records.configures (S.durables.local_record_of store.old true) (S.durables.trace store.old) bytes
+            → S.records.configures (S.durables.local_record_of store.new true) (S.durables.trace store.new) bytes }
         ensures identity { S.durables.identity store.new ≡ S.durables.identity store.old }
         ensures stays { Stays S.holdings store.old store.new }
         ensures sound { S.meanings.sound store.old → S.meanings.sound store.new }
@@ -102,12 +102,12 @@ impl<K: Keeper> Saver<K> {
     ) -> Result<(), SyncError>
         requires intact { S.meanings.intact store.old }
         requires room { length self.old.last.items ≤ K.room self.old.keeper }
-        requires kept { K.kept self.old.keeper ≡ Some (S.durables.record_of store.old true) }
-        requires last { self.old.last.items ≡ S.durables.record_of store.old true }
+        requires kept { K.kept self.old.keeper ≡ Some (S.durables.local_record_of store.old true) }
+        requires last { self.old.last.items ≡ S.durables.local_record_of store.old true }
         requires changed { self.old.changed ≡ true }
         ensures stands { (now : Content) → S.meanings.sound store.old → (S.durables.identity store.old).marked ≡ false → SameContent now (S.holdings.content store.old)
-            → Represents S.records (S.durables.identity store.new) (K.kept self.new.keeper) (S.durables.trace store.new) now }
-        ensures configures { (bytes : List ℕ) → S.holdings.told store.old ≡ true → S.records.configures (S.durables.record_of store.old true) (S.durables.trace store.old) bytes
+            → RepresentsContent S.records (S.durables.identity store.new) (K.kept self.new.keeper) (S.durables.trace store.new) now }
+        ensures configures { (bytes : List ℕ) → S.holdings.told store.old ≡ true → S.records.configures (S.durables.local_record_of store.old true) (S.durables.trace store.old) bytes
             → KeptConfigures S.records (K.kept self.new.keeper) (S.durables.trace store.new) bytes }
         ensures last { LastAfterLong S.durables K.Keeper store.old self.new result }
         ensures keeps { IsRecordOf S.durables store.old (K.kept self.new.keeper) }
@@ -120,10 +120,10 @@ impl<K: Keeper> Saver<K> {
         ensures writes { OnOk result (S.durables.trace store.new ≡ after_writes (S.durables.list store.old) (S.durables.trace store.old)) }
         ensures stops { OnErr result ((store.new ≡ store.old) ⊎ Wrote S.durables store.old store.new) }
         ensures goes_on { GoesOn (S.durables.trace store.old) (S.durables.trace store.new) }
-        ensures waiting { (bytes : List ℕ) → S.records.configures (S.durables.record_of store.old true) (S.durables.trace store.old) bytes
-            → S.records.configures (S.durables.record_of store.old true) (S.durables.trace store.new) bytes }
-        ensures present { (bytes : List ℕ) → S.holdings.told store.old ≡ true → S.records.configures (S.durables.record_of store.old true) (S.durables.trace store.old) bytes
-            → S.records.configures (S.durables.record_of store.new true) (S.durables.trace store.new) bytes }
+        ensures waiting { (bytes : List ℕ) → S.records.configures (S.durables.local_record_of store.old true) (S.durables.trace store.old) bytes
+            → S.records.configures (S.durables.local_record_of store.old true) (S.durables.trace store.new) bytes }
+        ensures present { (bytes : List ℕ) → S.holdings.told store.old ≡ true → S.records.configures (S.durables.local_record_of store.old true) (S.durables.trace store.old) bytes
+            → S.records.configures (S.durables.local_record_of store.new true) (S.durables.trace store.new) bytes }
         ensures identity { S.durables.identity store.new ≡ S.durables.identity store.old }
         ensures stays { Stays S.holdings store.old store.new }
         ensures sound { S.meanings.sound store.old → S.meanings.sound store.new }
@@ -158,7 +158,7 @@ impl<K: Keeper> Saver<K> {
         ensures unchanged { self.old.changed ≡ false → IsOk result × (self.new ≡ self.old) × (store.new ≡ store.old) }
         ensures stands { (now : Content) → S.meanings.sound store.old → (S.durables.identity store.old).marked ≡ false → SameContent now (S.holdings.content store.old)
             → Saved S.durables S.records K.Keeper self.old store.old self.new store.new now result }
-        ensures configures { (bytes : List ℕ) → S.holdings.told store.old ≡ true → S.records.configures (S.durables.record_of store.old true) (S.durables.trace store.old) bytes
+        ensures configures { (bytes : List ℕ) → S.holdings.told store.old ≡ true → S.records.configures (S.durables.local_record_of store.old true) (S.durables.trace store.old) bytes
             → SavedConfig S.durables S.records K.Keeper self.old store.old self.new store.new bytes result }
         ensures last { LastBeforeLong S.durables K.Keeper self.old store.old self.new store.new result ⊎ LastAfterLong S.durables K.Keeper store.old self.new result }
         ensures keeps { (K.kept self.new.keeper ≡ K.kept self.old.keeper) ⊎ IsRecordOf S.durables store.old (K.kept self.new.keeper) }
@@ -171,10 +171,10 @@ impl<K: Keeper> Saver<K> {
         ensures writes { OnOk result (S.durables.trace store.new ≡ after_writes (S.durables.list store.old) (S.durables.trace store.old)) }
         ensures stops { OnErr result ((store.new ≡ store.old) ⊎ Wrote S.durables store.old store.new) }
         ensures goes_on { GoesOn (S.durables.trace store.old) (S.durables.trace store.new) }
-        ensures waiting { (bytes : List ℕ) → S.records.configures (S.durables.record_of store.old true) (S.durables.trace store.old) bytes
-            → S.records.configures (S.durables.record_of store.old true) (S.durables.trace store.new) bytes }
-        ensures present { (bytes : List ℕ) → S.holdings.told store.old ≡ true → S.records.configures (S.durables.record_of store.old true) (S.durables.trace store.old) bytes
-            → S.records.configures (S.durables.record_of store.new true) (S.durables.trace store.new) bytes }
+        ensures waiting { (bytes : List ℕ) → S.records.configures (S.durables.local_record_of store.old true) (S.durables.trace store.old) bytes
+            → S.records.configures (S.durables.local_record_of store.old true) (S.durables.trace store.new) bytes }
+        ensures present { (bytes : List ℕ) → S.holdings.told store.old ≡ true → S.records.configures (S.durables.local_record_of store.old true) (S.durables.trace store.old) bytes
+            → S.records.configures (S.durables.local_record_of store.new true) (S.durables.trace store.new) bytes }
         ensures identity { S.durables.identity store.new ≡ S.durables.identity store.old }
         ensures stays { Stays S.holdings store.old store.new }
         ensures sound { S.meanings.sound store.old → S.meanings.sound store.new }

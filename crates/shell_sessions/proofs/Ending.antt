@@ -5,7 +5,7 @@ use Rattle.answers.specs.Sessions.{Exchange}
 use Rattle.fs_model.specs.Instant.{Instant}
 use Rattle.integrity_store.specs.Standing.{records}
 use Rattle.line_io.specs.Reading.{Reading, coming, total}
-use Rattle.line_io.specs.Streams.{Stream, stream_of, Failed, TookMost, Untouched}
+use Rattle.line_io.specs.Streams.{Stream, stream_of, HasFailed, TookMost, Untouched}
 use Rattle.outside.specs.Trace.{Call}
 use Rattle.outside.specs.declared.keeper.Keeper.{Ghosts as KeeperGhosts}
 use Rattle.mount.specs.Mounts.{StopsMarked, Unopened}
@@ -16,7 +16,7 @@ use Rattle.run_openings.specs.Openings.{HasPassword}
 use Rattle.run_openings.specs.Statuses.{opening_status}
 use Rattle.run_openings.proofs.Unopened.{unopened}
 use Rattle.run_status.specs.declared.ended.Ended.{Ended}
-use Rattle.session_lines.specs.Driven.{EndsAs, IsQuiet as IsUnfailed}
+use Rattle.session_lines.specs.Driven.{EndsAs, IsUnfailed}
 use Rattle.session_lines.specs.declared.end.End.{End}
 use Rattle.session_lines.specs.declared.end.End.TheVariants as line_end
 use Rattle.session_runs.specs.Runs.{outside_of, IsSessionRun}
@@ -33,7 +33,7 @@ from_start taken script before mid after f0 f1 f2 output es line_end.Finished co
     record { asked = e.asked; ends = e.ends; written = e.written; input_quiet = e.input_quiet ∙ quiet; output_quiet = e.output_quiet }
 from_start taken script before mid after f0 f1 f2 output es line_end.InputFault counted quiet e =
     let e0 = subst (λ f. EndsAs taken script (record { old = mid; new = after; faults = f; risen = f2 }) output es line_end.InputFault) quiet e in
-    record { asked = e0.asked; written = e0.written; cause = elim e0.cause as (λ _. Failed (record { old = before; new = after; faults = f0; risen = f2 }) ⊎ TookMost 0 (record { old = before; new = after; faults = f0; risen = f2 })) [ inl failed ↦ inl failed | inr most ↦ inr (most ∙ counted) ]; output_quiet = e0.output_quiet }
+    record { asked = e0.asked; written = e0.written; cause = elim e0.cause as (λ _. HasFailed (record { old = before; new = after; faults = f0; risen = f2 }) ⊎ TookMost 0 (record { old = before; new = after; faults = f0; risen = f2 })) [ inl failed ↦ inl failed | inr most ↦ inr (most ∙ counted) ]; output_quiet = e0.output_quiet }
 from_start taken script before mid after f0 f1 f2 output es line_end.OutputFault counted quiet e =
     record { asked = e.asked; written = e.written; cause = e.cause; input_quiet = e.input_quiet ∙ quiet }
 

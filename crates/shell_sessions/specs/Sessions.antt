@@ -10,7 +10,7 @@ use Rattle.outside.specs.declared.keeper.Keeper.{Ghosts as KeeperGhosts}
 use Rattle.passwords.specs.Passwords.{PasswordUnread}
 use Rattle.run_openings.specs.Openings.{HasPassword, IsUnopened, IsUnread}
 use Rattle.run_status.specs.declared.ended.Ended.{Ended}
-use Rattle.session_lines.specs.Driven.{EndsAs, IsQuiet as IsUnfailed}
+use Rattle.session_lines.specs.Driven.{EndsAs, IsUnfailed}
 use Rattle.session_lines.specs.declared.end.End.{End}
 use Rattle.session_runs.specs.Coming.{CameGenerated, CameSingle}
 use Rattle.session_runs.specs.Runs.{outside_of, IsSessionRun}

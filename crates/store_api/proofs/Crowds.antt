@@ -12,7 +12,7 @@ use Rattle.std.proofs.Common.{length-append}
 use Rattle.store_api.specs.Content.{Id, same_id, Changes}
 use Rattle.store_api.specs.Overlay.{has_id-over}
 use Rattle.store_api.specs.Holdings.{has_id, is_free}
-use Rattle.store_api.specs.Passing.{Passed}
+use Rattle.store_api.specs.Passing.{PassedOver}
 use Rattle.store_api.proofs.Rising.{same_id_is}
 
 -- how many of the ids lie n or more places behind d
@@ -68,12 +68,12 @@ taken used id h = cases (has_id used id) (same_id id zero_id) h
     cases false false h = absurd (cc)
 
 -- how many ids may be passed over before a free one
-pub passed-few : (used : List Id) (drawn id : Id) → length used < 2 ^ 66 → (p : Passed (is_free used) drawn id) → (p.steps ≤ length used + 1) × (behind (value drawn) (value id) ≡ p.steps)
+pub passed-few : (used : List Id) (drawn id : Id) → length used < 2 ^ 66 → (p : PassedOver (is_free used) drawn id) → (p.steps ≤ length used + 1) × (behind (value drawn) (value id) ≡ p.steps)
 passed-few used drawn id small p =
     let few : p.steps ≤ length (zero_id ∷ used) = few_taken drawn (zero_id ∷ used) p.steps (omega arith) (λ n lt. taken used (nth_id drawn n) (p.first n lt)) in
     (omega arith, ap (λ (y : Id). behind (value drawn) (value y)) p.reached ∙ behind-nth_id drawn p.steps (omega arith))
 
-pub passed-none : (is_free : Id → Bool) (drawn : Id) → Passed is_free drawn drawn
+pub passed-none : (is_free : Id → Bool) (drawn : Id) → PassedOver is_free drawn drawn
 passed-none is_free drawn = record { steps = 0; reached = refl; first = λ n lt. absurd (omega arith) }
 
 -- free of the changes and of the store
@@ -92,7 +92,7 @@ both_true : (a b : Bool) → a ≡ false → b ≡ true → (not a && b) ≡ tru
 both_true a b e f = ap (λ c. not c && b) e ∙ f
 
 -- what is passed over in the store is passed over in both
-pub stepped : (changes : Changes) (used : List Id) (drawn id new : Id) → Passed (is_free (fin.keys changes ++ used)) drawn id → IsFirstFree (is_free used) id new → Passed (is_free (fin.keys changes ++ used)) drawn new
+pub stepped : (changes : Changes) (used : List Id) (drawn id new : Id) → PassedOver (is_free (fin.keys changes ++ used)) drawn id → IsFirstFree (is_free used) id new → PassedOver (is_free (fin.keys changes ++ used)) drawn new
 stepped changes used drawn id new p f = record {
   steps = p.steps + f.steps;
   reached = f.reached ∙ (ap (λ x. nth_id x f.steps) p.reached ∙ nth_id-add drawn p.steps f.steps);
@@ -107,7 +107,7 @@ stepped changes used drawn id new p f = record {
   ] refl;
 }
 
-pub ends_free : (changes : Changes) (used : List Id) (drawn id new : Id) → Passed (is_free (fin.keys changes ++ used)) drawn id → IsFirstFree (is_free used) id new → is_some (fin.get changes new) ≡ false
+pub ends_free : (changes : Changes) (used : List Id) (drawn id new : Id) → PassedOver (is_free (fin.keys changes ++ used)) drawn id → IsFirstFree (is_free used) id new → is_some (fin.get changes new) ≡ false
     → IsFirstFree (is_free (fin.keys changes ++ used)) drawn new
 ends_free changes used drawn id new p f none =
     let q = stepped changes used drawn id new p f in
@@ -119,20 +119,20 @@ ends_free changes used drawn id new p f none =
     }
 
 -- one more is passed over
-unfoldable pub passed-next : (is_free : Id → Bool) (drawn id next : Id) → Passed is_free drawn id → is_free id ≡ false → next ≡ next_id id → Passed is_free drawn next
+unfoldable pub passed-next : (is_free : Id → Bool) (drawn id next : Id) → PassedOver is_free drawn id → is_free id ≡ false → next ≡ next_id id → PassedOver is_free drawn next
 passed-next is_free drawn id next p not_free is = record {
   steps = p.steps + 1;
   reached = is ∙ (ap next_id p.reached ∙ ap (nth_id drawn) (sym (add-one p.steps)));
   first = below_more (λ n. is_free (nth_id drawn n) ≡ false) p.steps p.first (subst (λ x. is_free x ≡ false) p.reached not_free);
 }
 
-pub passed-taken : (changes : Changes) (used : List Id) (drawn id new next : Id) → Passed (is_free (fin.keys changes ++ used)) drawn id → IsFirstFree (is_free used) id new
-    → is_some (fin.get changes new) ≡ true → next ≡ next_id new → Passed (is_free (fin.keys changes ++ used)) drawn next
+pub passed-taken : (changes : Changes) (used : List Id) (drawn id new next : Id) → PassedOver (is_free (fin.keys changes ++ used)) drawn id → IsFirstFree (is_free used) id new
+    → is_some (fin.get changes new) ≡ true → next ≡ next_id new → PassedOver (is_free (fin.keys changes ++ used)) drawn next
 passed-taken changes used drawn id new next p f some is =
     passed-next (is_free (fin.keys changes ++ used)) drawn new next (stepped changes used drawn id new p f)
     (free-over changes used new ∙ ap (λ b. not b && is_free used new) some) is
 
-pub passed-smaller : (changes : Changes) (used : List Id) (drawn id new next : Id) → length (fin.keys changes ++ used) < 2 ^ 65 → (p : Passed (is_free (fin.keys changes ++ used)) drawn id) → (f : IsFirstFree (is_free used) id new)
+pub passed-smaller : (changes : Changes) (used : List Id) (drawn id new next : Id) → length (fin.keys changes ++ used) < 2 ^ 65 → (p : PassedOver (is_free (fin.keys changes ++ used)) drawn id) → (f : IsFirstFree (is_free used) id new)
     → is_some (fin.get changes new) ≡ true → next ≡ next_id new
     → (length (fin.keys changes ++ used) + 2) - behind (value drawn) (value next) < (length (fin.keys changes ++ used) + 2) - behind (value drawn) (value id)
 unfolding passed-taken passed-next stepped

@@ -6,11 +6,11 @@ use Rattle.std.specs.FinMap.{get-empty, get-insert, get-remove}
 use Rattle.std.proofs.lemmas.Option.{none-some}
 use Rattle.block_id.specs.Fresh.{zero_id}
 use Rattle.store_api.specs.Content.{Id, id_cmp, same_id, Changes, or_else, over}
-use Rattle.store_api.specs.Holdings.{Holdings, Fits, MayGet, Stays, has_id, is_free}
+use Rattle.store_api.specs.Holdings.{Holdings, FitsStore, MayGet, Stays, has_id, is_free}
 use Rattle.store_api.specs.Overlay.{has_id-over}
 use Rattle.store_api.proofs.Rising.{ids_total, same_id_is}
 
-pub fits_nothing : {S : Type 0} (H : Holdings S) (s : S) → Fits H s fin.empty
+pub fits_nothing : {S : Type 0} (H : Holdings S) (s : S) → FitsStore H s fin.empty
 fits_nothing H s = record {
   sized = λ id bytes e. absurd (none-some (Some bytes) (sym (get-empty id_cmp id) ∙ e));
   gets = λ id bytes e. absurd (none-some (Some bytes) (sym (get-empty id_cmp id) ∙ e));
@@ -21,7 +21,7 @@ may_get-stays : {S : Type 0} (H : Holdings S) (a b : S) (id : Id) → Stays H a 
 may_get-stays H a b id stays (inl there) = inl (stays.ids id ∙ there)
 may_get-stays H a b id stays (inr free) = inr (ap (λ used. is_free used id) stays.used ∙ free)
 
-pub fits-stays : {S : Type 0} (H : Holdings S) (a b : S) (changes : Changes) → Stays H a b → Fits H a changes → Fits H b changes
+pub fits-stays : {S : Type 0} (H : Holdings S) (a b : S) (changes : Changes) → Stays H a b → FitsStore H a changes → FitsStore H b changes
 fits-stays H a b changes stays fits = record {
   sized = λ id bytes e. fits.sized id bytes e ∙ sym stays.payload;
   gets = λ id bytes e. may_get-stays H a b id stays (fits.gets id bytes e);
@@ -29,7 +29,7 @@ fits-stays H a b changes stays fits = record {
 }
 
 -- what the changes let an id get, the store below lets it get
-below : {S : Type 0} (H : Holdings S) (s : S) (changes : Changes) (id : Id) → Fits H s changes → (o : Option (Option (List ℕ))) → fin.get changes id ≡ o
+below : {S : Type 0} (H : Holdings S) (s : S) (changes : Changes) (id : Id) → FitsStore H s changes → (o : Option (Option (List ℕ))) → fin.get changes id ≡ o
     → (is_some (or_else o (H.content s id)) ≡ true) ⊎ (is_free (fin.keys changes ++ H.used s) id ≡ true) → MayGet H s id
 below H s changes id fits (Some (Some bytes)) e may = fits.gets id bytes e
 below H s changes id fits (Some None) e (inl there) = absurd (cc)
@@ -52,8 +52,8 @@ entry_cases changes id change q c e =
     own : (x y : Option (List ℕ)) → Some x ≡ Some y → x ≡ y
     own x y h = cc
 
-pub fits-put : {S : Type 0} (H : Holdings S) (s : S) (changes : Changes) (id bytes : List ℕ) → Fits H s changes → length bytes ≡ H.payload s
-    → (is_some (over changes (H.content s) id) ≡ true) ⊎ (is_free (fin.keys changes ++ H.used s) id ≡ true) → Fits H s (fin.insert changes id (Some bytes))
+pub fits-put : {S : Type 0} (H : Holdings S) (s : S) (changes : Changes) (id bytes : List ℕ) → FitsStore H s changes → length bytes ≡ H.payload s
+    → (is_some (over changes (H.content s) id) ≡ true) ⊎ (is_free (fin.keys changes ++ H.used s) id ≡ true) → FitsStore H s (fin.insert changes id (Some bytes))
 fits-put H s changes id bytes fits sized may = record {
   sized = λ q other e. elim (entry_cases changes id (Some bytes) q (Some other) e) [
     | inl new ↦ ap length (sym (own bytes other new.1)) ∙ sized
@@ -74,10 +74,10 @@ fits-put H s changes id bytes fits sized may = record {
 
 -- after one more change was set, or was not
 pub fits-put_or_not : {E : Type 0} (r : Result Unit E) {S : Type 0} (H : Holdings S) (s : S) (old new : Changes) (id bytes : List ℕ)
-    → OnOk r (new ≡ fin.insert old id (Some bytes)) → OnErr r (new ≡ old) → Fits H s old → length bytes ≡ H.payload s
-    → (is_some (over old (H.content s) id) ≡ true) ⊎ (is_free (fin.keys old ++ H.used s) id ≡ true) → Fits H s new
-fits-put_or_not (Ok u) H s old new id bytes ok err fits sized may = subst (Fits H s) (sym ok) (fits-put H s old id bytes fits sized may)
-fits-put_or_not (Err e) H s old new id bytes ok err fits sized may = subst (Fits H s) (sym err) fits
+    → OnOk r (new ≡ fin.insert old id (Some bytes)) → OnErr r (new ≡ old) → FitsStore H s old → length bytes ≡ H.payload s
+    → (is_some (over old (H.content s) id) ≡ true) ⊎ (is_free (fin.keys old ++ H.used s) id ≡ true) → FitsStore H s new
+fits-put_or_not (Ok u) H s old new id bytes ok err fits sized may = subst (FitsStore H s) (sym ok) (fits-put H s old id bytes fits sized may)
+fits-put_or_not (Err e) H s old new id bytes ok err fits sized may = subst (FitsStore H s) (sym err) fits
 
 pub same_some : {X Y : Type 0} (r : Option X) (o : Option Y) (v : X → Y) → IfSome r (λ x. o ≡ Some (v x)) → IfNone r (o ≡ None) → is_some r ≡ is_some o
 same_some None o v some none = ap is_some (sym none)
@@ -99,7 +99,7 @@ entry_left changes id q c e =
       | false ↦ λ h. h
     ] (sym (get-remove ids_total changes id q) ∙ e)
 
-pub fits-forget : {S : Type 0} (H : Holdings S) (s : S) (changes : Changes) (id : Id) → Fits H s changes → Fits H s (fin.remove changes id)
+pub fits-forget : {S : Type 0} (H : Holdings S) (s : S) (changes : Changes) (id : Id) → FitsStore H s changes → FitsStore H s (fin.remove changes id)
 fits-forget H s changes id fits = record {
   sized = λ q bytes e. fits.sized q bytes (entry_left changes id q (Some bytes) e);
   gets = λ q bytes e. fits.gets q bytes (entry_left changes id q (Some bytes) e);
@@ -107,7 +107,7 @@ fits-forget H s changes id fits = record {
 }
 
 -- what the changes show of a used id, the store has
-shown : {S : Type 0} (H : Holdings S) (s : S) (changes : Changes) (id : Id) → Fits H s changes → has_id (H.used s) id ≡ true → (o : Option (Option (List ℕ))) → fin.get changes id ≡ o
+shown : {S : Type 0} (H : Holdings S) (s : S) (changes : Changes) (id : Id) → FitsStore H s changes → has_id (H.used s) id ≡ true → (o : Option (Option (List ℕ))) → fin.get changes id ≡ o
     → is_some (or_else o (H.content s id)) ≡ true → is_some (H.content s id) ≡ true
 shown H s changes id fits used None e h = h
 shown H s changes id fits used (Some None) e h = absurd (cc)
@@ -120,7 +120,7 @@ shown H s changes id fits used (Some (Some bytes)) e h = elim (fits.gets id byte
     never true b e h = absurd (cc)
     never false b e h = absurd (cc)
 
-pub fits-remove : {S : Type 0} (H : Holdings S) (s : S) (changes : Changes) (id : Id) → Fits H s changes → has_id (H.used s) id ≡ true → is_some (over changes (H.content s) id) ≡ true → Fits H s (fin.insert changes id None)
+pub fits-remove : {S : Type 0} (H : Holdings S) (s : S) (changes : Changes) (id : Id) → FitsStore H s changes → has_id (H.used s) id ≡ true → is_some (over changes (H.content s) id) ≡ true → FitsStore H s (fin.insert changes id None)
 fits-remove H s changes id fits used there = record {
   sized = λ q bytes e. elim (entry_cases changes id None q (Some bytes) e) [
     | inl new ↦ absurd (none-some bytes new.1)
@@ -137,6 +137,6 @@ fits-remove H s changes id fits used there = record {
 }
 
 pub fits-remove_or_not : {E : Type 0} (r : Result Unit E) {S : Type 0} (H : Holdings S) (s : S) (old new : Changes) (id : Id)
-    → OnOk r (new ≡ fin.insert old id None) → OnErr r (new ≡ old) → Fits H s old → has_id (H.used s) id ≡ true → is_some (over old (H.content s) id) ≡ true → Fits H s new
-fits-remove_or_not (Ok u) H s old new id ok err fits used there = subst (Fits H s) (sym ok) (fits-remove H s old id fits used there)
-fits-remove_or_not (Err e) H s old new id ok err fits used there = subst (Fits H s) (sym err) fits
+    → OnOk r (new ≡ fin.insert old id None) → OnErr r (new ≡ old) → FitsStore H s old → has_id (H.used s) id ≡ true → is_some (over old (H.content s) id) ≡ true → FitsStore H s new
+fits-remove_or_not (Ok u) H s old new id ok err fits used there = subst (FitsStore H s) (sym ok) (fits-remove H s old id fits used there)
+fits-remove_or_not (Err e) H s old new id ok err fits used there = subst (FitsStore H s) (sym err) fits

@@ -31,7 +31,7 @@ pub record Durables (S : Type 0) : Type 1 where
   -- the unwritten list, by increasing names
   pub list : S → List (At × Option (List ℕ))
   -- the record, with this list or with an empty one
-  pub record_of : S → Bool → List ℕ
+  pub local_record_of : S → Bool → List ℕ
 
 -- the last change of a file, by the calls that are told
 abbrev pub last_told : At → Option (List Call) → Option LastChange
@@ -62,7 +62,7 @@ with_mark bytes = slice_set bytes mark_place 1
 
 pub record Enduring {S : Type 0} (M : Meanings S) (H : Holdings S) (applied : S → S → Changes → Type 0) (D : Durables S) (R : Records) : Type 0 where
   -- what a sound store keeps now stands for its content, unless a violation is marked in it
-  pub stands_now : (s : S) → M.intact s → M.sound s → (D.identity s).marked ≡ false → R.stands (D.identity s) (D.record_of s true) (D.trace s) (H.content s)
+  pub stands_now : (s : S) → M.intact s → M.sound s → (D.identity s).marked ≡ false → R.stands (D.identity s) (D.local_record_of s true) (D.trace s) (H.content s)
   -- a get of any file leaves what a kept record stands for and says of the configuration's file, and so does a mark of the latter
   pub got_stands : (identity : Identity) (kept : List ℕ) (trace : Option (List Call)) (content : Content) (name : At) (max : ℕ) (answer : Option (List ℕ)) → R.stands identity kept trace content → R.stands identity kept (adds trace (got name max answer)) content
   pub got_configures : (kept : List ℕ) (trace : Option (List Call)) (bytes : List ℕ) (name : At) (max : ℕ) (answer : Option (List ℕ)) → R.configures kept trace bytes → R.configures kept (adds trace (got name max answer)) bytes
@@ -71,25 +71,25 @@ pub record Enduring {S : Type 0} (M : Meanings S) (H : Holdings S) (applied : S 
   pub applied_config : (a b : S) (changes : Changes) → applied a b changes → change_at config (D.list b) ≡ change_at config (D.list a)
   pub stands_same : (identity : Identity) (kept : List ℕ) (trace : Option (List Call)) (old new : Content) → SameContent old new → R.stands identity kept trace old → R.stands identity kept trace new
   pub stands_unmarked : (identity : Identity) (kept : List ℕ) (trace : Option (List Call)) (content : Content) → R.stands identity kept trace content → R.marked kept → ⊥
-  pub marked : (s : S) (with_list : Bool) → M.intact s → R.marked (with_mark (D.record_of s with_list))
-  pub long : (s : S) (with_list : Bool) → M.intact s → mark_place < length (D.record_of s with_list)
+  pub marked : (s : S) (with_list : Bool) → M.intact s → R.marked (with_mark (D.local_record_of s with_list))
+  pub long : (s : S) (with_list : Bool) → M.intact s → mark_place < length (D.local_record_of s with_list)
   -- what a store keeps now says of the configuration's file what its list and its trace do
-  pub configures_now : (s : S) (bytes : List ℕ) → M.intact s → IsConfigured (D.list s) (D.trace s) bytes → R.configures (D.record_of s true) (D.trace s) bytes
-  pub configured_now : (s : S) (bytes : List ℕ) → M.intact s → R.configures (D.record_of s true) (D.trace s) bytes → IsConfigured (D.list s) (D.trace s) bytes
+  pub configures_now : (s : S) (bytes : List ℕ) → M.intact s → IsConfigured (D.list s) (D.trace s) bytes → R.configures (D.local_record_of s true) (D.trace s) bytes
+  pub configured_now : (s : S) (bytes : List ℕ) → M.intact s → R.configures (D.local_record_of s true) (D.trace s) bytes → IsConfigured (D.list s) (D.trace s) bytes
   -- loading leaves the identity, the list and both records, and what any kept record stands for and says of the configuration's file
   pub loaded_identity : (a b : S) → M.loaded a b → D.identity b ≡ D.identity a
   pub loaded_list : (a b : S) → M.loaded a b → D.list b ≡ D.list a
   -- loading only adds calls, none of which changes a file
   pub loaded_goes_on : (a b : S) → M.loaded a b → GoesOn (D.trace a) (D.trace b)
   pub loaded_last : (a b : S) (name : At) → M.loaded a b → last_told name (D.trace b) ≡ last_told name (D.trace a)
-  pub loaded_records : (a b : S) (with_list : Bool) → M.loaded a b → D.record_of b with_list ≡ D.record_of a with_list
+  pub loaded_records : (a b : S) (with_list : Bool) → M.loaded a b → D.local_record_of b with_list ≡ D.local_record_of a with_list
   pub loaded_stands : (a b : S) (identity : Identity) (kept : List ℕ) (content : Content) → M.loaded a b → R.stands identity kept (D.trace a) content → R.stands identity kept (D.trace b) content
   pub loaded_configures : (a b : S) (kept bytes : List ℕ) → M.loaded a b → R.configures kept (D.trace a) bytes → R.configures kept (D.trace b) bytes
   -- changes of blocks leave the identity and the trace, and what the store keeps says the same of the configuration's file
   pub applied_identity : (a b : S) (changes : Changes) → applied a b changes → D.identity b ≡ D.identity a
   pub applied_trace : (a b : S) (changes : Changes) → applied a b changes → D.trace b ≡ D.trace a
   pub applied_configures : (a b : S) (changes : Changes) (bytes : List ℕ) → applied a b changes → M.intact a → M.intact b
-      → R.configures (D.record_of a true) (D.trace a) bytes → R.configures (D.record_of b true) (D.trace b) bytes
+      → R.configures (D.local_record_of a true) (D.trace a) bytes → R.configures (D.local_record_of b true) (D.trace b) bytes
   -- the unwritten list stands in order of its names
   pub in_order : (s : S) → M.intact s → IsIncreasing (D.list s)
-  pub nothing_waits : (s : S) → D.list s ≡ [] → D.record_of s true ≡ D.record_of s false
+  pub nothing_waits : (s : S) → D.list s ≡ [] → D.local_record_of s true ≡ D.local_record_of s false

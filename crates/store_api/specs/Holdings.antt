@@ -65,14 +65,14 @@ abbrev pub MayGet : {S : Type 0} → Holdings S → S → Id → Type 0
 MayGet H s id = (is_some (H.content s id) ≡ true) ⊎ (is_free (H.used s) id ≡ true)
 
 -- each payload has its length and an id that may get it; each removed id is in the content
-pub record Fits {S : Type 0} (H : Holdings S) (s : S) (changes : Changes) : Type 0 where
+pub record FitsStore {S : Type 0} (H : Holdings S) (s : S) (changes : Changes) : Type 0 where
   pub sized : (id bytes : List ℕ) → get changes id ≡ Some (Some bytes) → length bytes ≡ H.payload s
   pub gets : (id bytes : List ℕ) → get changes id ≡ Some (Some bytes) → MayGet H s id
   pub removes : (id : Id) → get changes id ≡ Some None → is_some (H.content s id) ≡ true
 
 -- changes that fit a store of which so few ids are used that new ones can be drawn
 pub record Overlaid {S : Type 0} (H : Holdings S) (s : S) (changes : Changes) : Type 0 where
-  pub fits : Fits H s changes
+  pub fits : FitsStore H s changes
   pub few : IsFew (H.used s)
 
 -- the change is a payload

@@ -10,7 +10,7 @@ use Rattle.outcome.specs.Meanings.{Meanings, Lawful}
 use Rattle.outcome.specs.Lift.{lift, lawful}
 use Rattle.outcome.specs.Outcome.{Outcome}
 use Rattle.store_api.specs.Content.{Id, same_id, Changes, or_else, over}
-use Rattle.store_api.specs.Holdings.{Holdings, Steady, Fits, Overlaid, has_id}
+use Rattle.store_api.specs.Holdings.{Holdings, Steady, FitsStore, Overlaid, has_id}
 
 -- the changes with the removal of an id: an id that the store doesn't know is forgotten
 abbrev pub without : List Id → Changes → Id → Changes
@@ -42,7 +42,7 @@ used_if (Some change) c b f h = refl
 used_if None c b f h = f h
 
 -- the changes say nothing of the zero id
-no_zero : {B : Type 0} (M : Meanings B) (H : Holdings B) (s : B) (changes : Changes) → Steady M H → M.intact s → Fits H s changes → (o : Option (Option (List ℕ))) → fin.get changes zero_id ≡ o → is_some o ≡ false
+no_zero : {B : Type 0} (M : Meanings B) (H : Holdings B) (s : B) (changes : Changes) → Steady M H → M.intact s → FitsStore H s changes → (o : Option (Option (List ℕ))) → fin.get changes zero_id ≡ o → is_some o ≡ false
 no_zero M H s changes st i fits None e = refl
 no_zero M H s changes st i fits (Some None) e = let bad : true ≡ false = sym (st.content_used s zero_id i (fits.removes zero_id e)) ∙ st.zero_unused s i in absurd (cc)
 no_zero M H s changes st i fits (Some (Some bytes)) e = elim (fits.gets zero_id bytes e) [

@@ -39,7 +39,7 @@ impl Model for Batch {
     ghost invariant = { λ b. T (is_sorted id_cmp (entries_of b.entries.items)) };
 }
 
-// Whether the id stands behind the entry at this place.
+/// Whether the id stands behind the entry at this place.
 fn is_behind(entries: &[(BlockId, BatchChange)], at: usize, id: &BlockId) -> bool
     requires rises { T (is_sorted id_cmp (entries_of entries.now)) }
     requires within { at < length entries.now }
@@ -49,7 +49,7 @@ fn is_behind(entries: &[(BlockId, BatchChange)], at: usize, id: &BlockId) -> boo
     id.cmp(&entries[at].0).is_gt()
 }
 
-// Where the id stands, or would stand: found by halves.
+/// Where the id stands, or would stand: found by halves.
 #[tactic(auto, using(crate::proofs::Places::place_in))]
 fn place_of(entries: &[(BlockId, BatchChange)], id: &BlockId) -> usize
     requires { T (is_sorted id_cmp (entries_of entries.now)) }
@@ -69,7 +69,7 @@ fn place_of(entries: &[(BlockId, BatchChange)], id: &BlockId) -> usize
     from
 }
 
-// Whether the entry at this place is that of the id.
+/// Whether the entry at this place is that of the id.
 fn stands_at(entries: &[(BlockId, BatchChange)], at: usize, id: &BlockId) -> bool
     ensures value { result ≡ is_entry_of id.now.0 (slice_get (entries_of entries.now) at) }
     ensures in_range { IsTrue result → at < length entries.now }
@@ -80,7 +80,7 @@ fn stands_at(entries: &[(BlockId, BatchChange)], at: usize, id: &BlockId) -> boo
     }
 }
 
-// The change of this id.
+/// The change of this id.
 fn find<'a>(entries: &'a [(BlockId, BatchChange)], id: &BlockId) -> Option<&'a BatchChange>
     requires { T (is_sorted id_cmp (entries_of entries.now)) }
     ensures some { IfSome result (λ change. found id_cmp id.now.0 (entries_of entries.now) ≡ Some (change_view change.now)) }
@@ -94,7 +94,7 @@ fn find<'a>(entries: &'a [(BlockId, BatchChange)], id: &BlockId) -> Option<&'a B
     }
 }
 
-// Sets the one change of this id.
+/// Sets the one change of this id.
 fn set(
     entries: &mut Vec<(BlockId, BatchChange)>,
     id: &BlockId,
@@ -113,7 +113,7 @@ fn set(
     Ok(())
 }
 
-// Takes out the change of this id.
+/// Takes out the change of this id.
 fn take_out(entries: &mut Vec<(BlockId, BatchChange)>, id: &BlockId)
     requires { T (is_sorted id_cmp (entries_of entries.old.items)) }
     ensures { entries_of entries.new.items ≡ others id.now.0 (entries_of entries.old.items) }

@@ -8,8 +8,8 @@ ghost use Rattle.block_id.specs.Fresh.{IsFirstFree};
 ghost use Rattle.rand_core.specs.Stream.{Stream};
 ghost use Rattle.std.specs.FinMap as fin;
 ghost use Rattle.store_api.specs.Content.{Id, Changes};
-ghost use Rattle.store_api.specs.Loads.{Answer, answer_of};
-ghost use Rattle.store_api.specs.Holdings.{Holdings, Steady, Stays, Fits, Changed, IsSpent, IsFew, is_free, has_id};
+ghost use Rattle.store_api.specs.Loads.{LoadAnswer, answer_of};
+ghost use Rattle.store_api.specs.Holdings.{Holdings, Steady, Stays, FitsStore, Changed, IsSpent, IsFew, is_free, has_id};
 
 use crate::Batch;
 use block_id::{BlockId, Fail};
@@ -30,7 +30,7 @@ pub trait Blocks {
     ghost holdings: { Holdings Self };
 
     // What one load of this id may leave and answer, whether or not the store is sound.
-    ghost loads: { Self → Self → Id → Answer → Type 0 };
+    ghost loads: { Self → Self → Id → LoadAnswer → Type 0 };
 
     /// The payload of the id, or None where the id isn't in the content.
     fn load(&mut self, alloc: Global, id: &BlockId) -> Result<Option<Vec<u8>>, Fail>
@@ -79,7 +79,7 @@ pub trait BlocksMut: Blocks {
         chance: &mut R,
     ) -> Result<(), ApplyError>
         requires intact { Self.meanings.intact self.old }
-        requires fits { Fits Self.holdings self.old batch.now }
+        requires fits { FitsStore Self.holdings self.old batch.now }
         ensures intact { Self.meanings.intact self.new }
         ensures changed { OnOk result (Changed Self.meanings Self.holdings self.old self.new batch.now) }
         ensures applied { OnOk result (applied self.old self.new batch.now) }

@@ -1,6 +1,6 @@
 // A store whose changes wait until they are written out.
 ghost use Rattle.std.specs.Prelude.{◌≡◌, ◌≤◌, ◌<◌, ◌^◌, ◌-◌, min, ℕ, List, true, false, [], IfOk, OnOk, OnErr, length};
-ghost use Rattle.outside.specs.Causes.{HasCause};
+ghost use Rattle.outside.specs.Causes.{GetHasCause};
 ghost use Rattle.outside.specs.Writes.{after_writes, StopsAt};
 ghost use Rattle.store_api.specs.Content.{Id, SameIds, SameContent};
 ghost use Rattle.store_api.specs.Durables.{Durables, Records, Enduring};
@@ -25,7 +25,7 @@ pub trait Durable: BlocksMut {
     /// The local record, with the unwritten list or with an empty one.
     fn state_bytes(&self, alloc: Global, with_list: bool) -> Result<Vec<u8>, Memory>
         requires { Self.meanings.intact self.now }
-        ensures { IfOk result (λ bytes. bytes.items ≡ durables.record_of self.now with_list) };
+        ensures { IfOk result (λ bytes. bytes.items ≡ durables.local_record_of self.now with_list) };
 
     /// Has the configuration's file wait with these bytes.
     fn put_config(&mut self, alloc: Global, bytes: Vec<u8>) -> Result<(), Memory>
@@ -36,9 +36,9 @@ pub trait Durable: BlocksMut {
         ensures ok { OnOk result (durables.list self.new ≡ with_config bytes.items (durables.list self.old)) }
         ensures err { OnErr result (Self.meanings.loaded self.old self.new) }
         ensures stays { Stays Self.holdings self.old self.new }
-        ensures empty { durables.record_of self.new false ≡ durables.record_of self.old false }
+        ensures empty { durables.local_record_of self.new false ≡ durables.local_record_of self.old false }
         ensures trace { durables.trace self.new ≡ durables.trace self.old }
-        ensures configures { OnOk result (records.configures (durables.record_of self.new true) (durables.trace self.new) bytes.items) }
+        ensures configures { OnOk result (records.configures (durables.local_record_of self.new true) (durables.trace self.new) bytes.items) }
         ensures sound { Self.meanings.sound self.old → Self.meanings.sound self.new }
         ensures forgeries { Self.meanings.forgeries self.new ≡ Self.meanings.forgeries self.old }
         ensures lies { Self.meanings.lies self.new ≡ Self.meanings.lies self.old }
@@ -59,17 +59,17 @@ pub trait Durable: BlocksMut {
         ensures ok { OnOk result (durables.list self.new ≡ []) }
         ensures writes { OnOk result (durables.trace self.new ≡ after_writes (durables.list self.old) (durables.trace self.old)) }
         ensures stops { OnErr result (StopsAt (durables.list self.old) (durables.trace self.old) (durables.trace self.new) (durables.list self.new)) }
-        ensures empty { durables.record_of self.new false ≡ durables.record_of self.old false }
+        ensures empty { durables.local_record_of self.new false ≡ durables.local_record_of self.old false }
         ensures stands { Self.meanings.sound self.old → (durables.identity self.old).marked ≡ false
-            → records.stands (durables.identity self.old) (durables.record_of self.old true) (durables.trace self.new) (Self.holdings.content self.old) }
-        ensures kept_configures { (bytes : List ℕ) → records.configures (durables.record_of self.old true) (durables.trace self.old) bytes
-            → records.configures (durables.record_of self.old true) (durables.trace self.new) bytes }
-        ensures configures { Self.holdings.told self.old ≡ true → (bytes : List ℕ) → records.configures (durables.record_of self.old true) (durables.trace self.old) bytes
-            → records.configures (durables.record_of self.new true) (durables.trace self.new) bytes }
+            → records.stands (durables.identity self.old) (durables.local_record_of self.old true) (durables.trace self.new) (Self.holdings.content self.old) }
+        ensures kept_configures { (bytes : List ℕ) → records.configures (durables.local_record_of self.old true) (durables.trace self.old) bytes
+            → records.configures (durables.local_record_of self.old true) (durables.trace self.new) bytes }
+        ensures configures { Self.holdings.told self.old ≡ true → (bytes : List ℕ) → records.configures (durables.local_record_of self.old true) (durables.trace self.old) bytes
+            → records.configures (durables.local_record_of self.new true) (durables.trace self.new) bytes }
         ensures sound { Self.meanings.sound self.old → Self.meanings.sound self.new }
         ensures forgeries { Self.meanings.forgeries self.new ≡ Self.meanings.forgeries self.old }
         ensures lies { Self.meanings.lies self.new ≡ Self.meanings.lies self.old }
-        ensures cause { HasCause (Self.meanings.faults self.old) (Self.meanings.faults self.new) result };
+        ensures cause { GetHasCause (Self.meanings.faults self.old) (Self.meanings.faults self.new) result };
 
     ghost enduring: { Enduring Self.meanings Self.holdings Self.applied durables records };
 }

@@ -7,7 +7,7 @@ ghost use Rattle.std.specs.declared.result.Result.TheVariants.{Err};
 ghost use Rattle.std.specs.FinMap as fin;
 ghost use Rattle.rand_core.specs.Stream.{fill_bytes};
 ghost use Rattle.block_id.specs.Fresh.{IsFirstFree};
-ghost use Rattle.store_api.specs.Holdings.{Fits, Changed, MayGet, IsFew, IsSpent, Stays, is_free};
+ghost use Rattle.store_api.specs.Holdings.{FitsStore, Changed, MayGet, IsFew, IsSpent, Stays, is_free};
 ghost use Rattle.store_api.specs.Loads.{LoadsOver, loads_over, answer_of};
 ghost use Rattle.store_api.specs.Overlay.{without, meanings_over, holdings_over, lawful_over, steady_over};
 

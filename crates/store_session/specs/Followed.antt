@@ -8,6 +8,6 @@ after content None = None
 after content (Some bytes) = content (take 16 bytes)
 
 -- where it was found, the new content has it under the id, and else the content is as it was
-abbrev pub Follows : Content → Content → Id → Bool → Type 0
-Follows old new id true = (payload : List ℕ) × (after old (old id) ≡ Some payload) × ((other : Id) → new other ≡ cond (same_id other id) (Some payload) (old other))
-Follows old new id false = (after old (old id) ≡ None) × SameContent old new
+abbrev pub ContentFollows : Content → Content → Id → Bool → Type 0
+ContentFollows old new id true = (payload : List ℕ) × (after old (old id) ≡ Some payload) × ((other : Id) → new other ≡ cond (same_id other id) (Some payload) (old other))
+ContentFollows old new id false = (after old (old id) ≡ None) × SameContent old new

@@ -1,7 +1,7 @@
 // Loads and a change of one command over any store.
 ghost use Rattle.std.specs.Prelude.{◌≡◌, ◌≤◌, true, length, take};
 ghost use Rattle.outcome.specs.Outcome.{Outcome};
-ghost use Rattle.store_session.specs.Followed.{Follows};
+ghost use Rattle.store_session.specs.Followed.{ContentFollows};
 
 use block_id::{BlockId, Fail};
 use std::alloc::Global;
@@ -20,7 +20,7 @@ fn first_id(bytes: &[u8]) -> BlockId
 pub fn follow<S: Blocks>(alloc: Global, tx: &mut Tx<S>, id: &BlockId) -> Result<bool, Fail>
     requires { ⟦<Tx<S> as Blocks>⟧.meanings.intact tx.old }
     ensures { Outcome ⟦<Tx<S> as Blocks>⟧.meanings (⟦<Tx<S> as Blocks>⟧.holdings.told tx.old ≡ true) tx.old tx.new result
-        (λ _ found. Follows (⟦<Tx<S> as Blocks>⟧.holdings.content tx.old) (⟦<Tx<S> as Blocks>⟧.holdings.content tx.new) id.now.0 found) }
+        (λ _ found. ContentFollows (⟦<Tx<S> as Blocks>⟧.holdings.content tx.old) (⟦<Tx<S> as Blocks>⟧.holdings.content tx.new) id.now.0 found) }
 {
     let first = match tx.load(alloc, id)? {
         Some(bytes) => bytes,

@@ -12,7 +12,7 @@ use std::test::Fail;
 use store_api::{Blocks, BlocksMut, Durable, Tx};
 use tree_ranges::{resize, write_range};
 
-// A call on a tree, with the place and the number of bytes, or with the new length.
+/// A call on a tree, with the place and the number of bytes, or with the new length.
 #[derive(Clone, Copy)]
 enum Call {
     Make,
@@ -23,8 +23,8 @@ enum Call {
     Drop,
 }
 
-// A leaf has 42 bytes and a node two children. 42 bytes are a leaf alone; 85 bytes three leaves, and 6 nodes on 3 levels; 169 bytes
-// five leaves, and 11 nodes on 4 levels; 336 bytes eight leaves, and 15 nodes on 4 levels, all full.
+/// A leaf has 42 bytes and a node two children. 42 bytes are a leaf alone; 85 bytes three leaves, and 6 nodes on 3 levels; 169 bytes
+/// five leaves, and 11 nodes on 4 levels; 336 bytes eight leaves, and 15 nodes on 4 levels, all full.
 const LOADS: [(usize, Call, usize); 52] = [
     // Making a tree loads nothing.
     (42, Call::Make, 0),
@@ -89,7 +89,7 @@ const LOADS: [(usize, Call, usize); 52] = [
     (336, Call::Resize(42), 4 + 3 + 4),
 ];
 
-// A tree of n bytes, applied to the store.
+/// A tree of n bytes, applied to the store.
 fn make<S: BlocksMut>(alloc: Global, tx: &mut Tx<S>, n: usize) -> Result<BlockId, Fail>
     requires { ⟦<Tx<S> as Blocks>⟧.meanings.intact tx.old }
     ensures { ⟦<Tx<S> as Blocks>⟧.meanings.intact tx.new }
@@ -104,7 +104,7 @@ fn make<S: BlocksMut>(alloc: Global, tx: &mut Tx<S>, n: usize) -> Result<BlockId
     Ok(root)
 }
 
-// The store with a tree of n bytes in its directory, and the tree's root.
+/// The store with a tree of n bytes in its directory, and the tree's root.
 fn made<S: Durable + Drop>(alloc: Global, store: S, n: usize) -> Result<(S, BlockId), Fail>
     requires intact { S.Durable.meanings.intact store }
     requires few { IsFew (S.Durable.holdings.used store) }
@@ -136,7 +136,7 @@ fn write<S: Blocks>(
     Ok(())
 }
 
-// Makes a call on a tree that is there.
+/// Makes a call on a tree that is there.
 fn make_call<S: Blocks>(
     alloc: Global,
     tx: &mut Tx<S>,
@@ -157,7 +157,7 @@ fn make_call<S: Blocks>(
     Ok(())
 }
 
-// The store after a call on a tree.
+/// The store after a call on a tree.
 fn called<S: Blocks + Drop>(alloc: Global, store: S, root: &BlockId, which: Call) -> Result<S, Fail>
     requires intact { S.Blocks.meanings.intact store }
     requires few { IsFew (S.Blocks.holdings.used store) }
@@ -169,7 +169,7 @@ fn called<S: Blocks + Drop>(alloc: Global, store: S, root: &BlockId, which: Call
     Ok(store)
 }
 
-// How often a directory was asked for a file, until a tree of n bytes was made in it and a call made on the tree.
+/// How often a directory was asked for a file, until a tree of n bytes was made in it and a call made on the tree.
 fn loads_of(alloc: Global, n: usize, which: Call) -> Result<usize, Fail> {
     let (store, root) = made(alloc, empty_store(alloc)?, n)?;
     let vault = called(alloc, store, &root, which)?.into_vault();

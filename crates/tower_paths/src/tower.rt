@@ -23,7 +23,7 @@ use tree_commands::{empty_root, perform};
 /// Sealed blocks over a directory in memory.
 pub type Store = IntegrityStore<MemoryVault, Aes256Gcm>;
 
-// The record of client 1 that knows no block.
+/// The record of client 1 that knows no block.
 fn empty_record(alloc: Global) -> Result<Vec<u8>, Fail> {
     let mut out = Vec::new(alloc);
     out.extend_from_slice(b"cryfs.localstate;1\0\0")?;
@@ -33,7 +33,7 @@ fn empty_record(alloc: Global) -> Result<Vec<u8>, Fail> {
     Ok(out)
 }
 
-// Blocks of 128 bytes over an empty directory, with nothing unwritten.
+/// Blocks of 128 bytes over an empty directory, with nothing unwritten.
 fn sealed_over(alloc: Global) -> SealedStore<MemoryVault, Aes256Gcm>
     ensures intact { IsIntact (block_size_of result) (⟦<Aes256Gcm as Sealer>⟧.iv_size (cipher_of result)) }
     ensures size { block_size_of result ≡ 128 }
@@ -58,7 +58,7 @@ pub fn empty_store(alloc: Global) -> Result<Store, Fail>
     Ok(IntegrityStore::new(sealed_over(alloc), state))
 }
 
-// Puts the root of the empty tree.
+/// Puts the root of the empty tree.
 fn make_root<S: Blocks>(alloc: Global, tx: &mut Tx<S>, root: &BlockId) -> Result<(), Fail>
     requires { ⟦<Tx<S> as Blocks>⟧.meanings.intact tx.old }
     ensures { ⟦<Tx<S> as Blocks>⟧.meanings.intact tx.new }
@@ -73,7 +73,7 @@ fn make_root<S: Blocks>(alloc: Global, tx: &mut Tx<S>, root: &BlockId) -> Result
     Ok(())
 }
 
-// Performs a line and applies its changes.
+/// Performs a line and applies its changes.
 fn answer<S: BlocksMut>(
     alloc: Global,
     blobs: &mut BlobStore<S>,
@@ -101,7 +101,7 @@ fn answer<S: BlocksMut>(
     Ok(text)
 }
 
-// The texts of the replies to these lines, one after another.
+/// The texts of the replies to these lines, one after another.
 fn answer_all<S: BlocksMut>(
     alloc: Global,
     blobs: &mut BlobStore<S>,

@@ -18,7 +18,7 @@ pub(crate) type Change = (BlockId, Option<u8>);
 
 pub(crate) type Synced = Result<(), SyncError>;
 
-// Whether the id may get a payload.
+/// Whether the id may get a payload.
 fn may_get<S: Blocks>(alloc: Global, tx: &mut Tx<S>, id: &BlockId) -> Result<bool, Fail>
     requires { ⟦<Tx<S> as Blocks>⟧.meanings.intact tx.old }
     ensures intact { ⟦<Tx<S> as Blocks>⟧.meanings.intact tx.new }
@@ -89,7 +89,7 @@ pub(crate) fn commit_all<S: BlocksMut>(
     Ok(())
 }
 
-// The store after these changes.
+/// The store after these changes.
 fn changed<S: Tower>(alloc: Global, store: S, changes: &[Change]) -> Result<S, Fail>
     requires intact { S.Durable.meanings.intact store }
     requires few { IsFew (S.Durable.holdings.used store) }
@@ -115,7 +115,7 @@ pub(crate) struct Ended<S, K> {
     pub(crate) keeper: K,
 }
 
-// Two syncs of a store that was changed.
+/// Two syncs of a store that was changed.
 pub(crate) fn sync_twice<S: Durable, K: Keeper>(
     alloc: Global,
     mut store: S,
@@ -169,14 +169,14 @@ fn sizes_of<S: Durable>(alloc: Global, store: &S) -> Result<Sizes, Fail>
     Ok((store.buffered(), with_list.len(), without.len()))
 }
 
-// Whether these bytes may wait as the configuration.
+/// Whether these bytes may wait as the configuration.
 fn may_configure(bytes: &[u8]) -> bool
     ensures { result ≡ true → MayConfigure bytes.now }
 {
     bytes.len() < 1000 && !bytes.starts_with(b"cryfs;block;0\0")
 }
 
-// Has these bytes wait as the configuration.
+/// Has these bytes wait as the configuration.
 fn configure<S: Durable>(alloc: Global, store: &mut S, bytes: &[u8]) -> Result<(), Fail>
     requires { S.Durable.meanings.intact store.old }
     ensures { S.Durable.meanings.intact store.new }

@@ -9,7 +9,7 @@ use crate::tower::{Cached, Tower};
 use std::alloc::Global;
 use std::test::Fail;
 
-// The first promise that isn't kept, by its place in the list.
+/// The first promise that isn't kept, by its place in the list.
 fn broken<S: Tower>(alloc: Global) -> Result<Option<usize>, Fail> {
     let kept = [
         reads_again_what_was_synced::<S>(alloc)?,

@@ -25,7 +25,7 @@ type Syncs = (Synced, Synced);
 
 const WELL: Syncs = (Ok(()), Ok(()));
 
-// The store that is kept at a site, and its keeper.
+/// The store that is kept at a site, and its keeper.
 fn begin<S: Tower>(alloc: Global, site: &mut Site) -> Result<(S, MemoryKeeper), Fail>
     ensures intact { IfOk result (λ begun. S.Durable.meanings.intact begun.0) }
     ensures few { IfOk result (λ begun. IsFew (S.Durable.holdings.used begun.0)) }
@@ -37,7 +37,7 @@ fn begin<S: Tower>(alloc: Global, site: &mut Site) -> Result<(S, MemoryKeeper), 
     Ok((store, std::mem::replace(&mut site.keeper, none)))
 }
 
-// Leaves what is kept at the site.
+/// Leaves what is kept at the site.
 fn end<S: Tower>(site: &mut Site, ended: Ended<S, MemoryKeeper>) -> Syncs {
     let Ended {
         first,
@@ -50,14 +50,14 @@ fn end<S: Tower>(site: &mut Site, ended: Ended<S, MemoryKeeper>) -> Syncs {
     (first, second)
 }
 
-// Opens the store, makes the changes, all at once, and syncs twice.
+/// Opens the store, makes the changes, all at once, and syncs twice.
 fn run<S: Tower>(alloc: Global, site: &mut Site, changes: &[Change]) -> Result<Syncs, Fail> {
     let (store, keeper) = begin::<S>(alloc, site)?;
     let ended = change_and_sync(alloc, store, keeper, changes)?;
     Ok(end(site, ended))
 }
 
-// The same, while the configuration waits.
+/// The same, while the configuration waits.
 fn configure<S: Tower>(
     alloc: Global,
     site: &mut Site,
@@ -69,14 +69,14 @@ fn configure<S: Tower>(
     Ok((sizes, end(site, ended)))
 }
 
-// Opens the store, gives a block the payload of the one that it names, and syncs twice.
+/// Opens the store, gives a block the payload of the one that it names, and syncs twice.
 fn follow<S: Tower>(alloc: Global, site: &mut Site, id: &BlockId) -> Result<(bool, Syncs), Fail> {
     let (store, keeper) = begin::<S>(alloc, site)?;
     let (found, ended) = follow_and_sync(alloc, store, keeper, id)?;
     Ok((found, end(site, ended)))
 }
 
-// What the three blocks have.
+/// What the three blocks have.
 fn load_each<S: Blocks>(alloc: Global, store: &mut S) -> [Loaded; 3]
     requires { S.meanings.intact store.old }
     ensures { S.meanings.intact store.new }
@@ -87,7 +87,7 @@ fn load_each<S: Blocks>(alloc: Global, store: &mut S) -> [Loaded; 3]
     [a, b, c]
 }
 
-// Whether the store that is opened anew has these three payloads.
+/// Whether the store that is opened anew has these three payloads.
 fn has<S: Tower>(alloc: Global, site: &mut Site, want: [Option<u8>; 3]) -> Result<bool, Fail> {
     let (mut store, keeper) = begin::<S>(alloc, site)?;
     let seen = load_each(alloc, &mut store);
@@ -121,7 +121,7 @@ pub(crate) fn reads_no_old_payload<S: Tower>(alloc: Global) -> Result<bool, Fail
     Ok(well && has::<S>(alloc, &mut site, [Some(8), None, Some(7)])?)
 }
 
-// What is loaded after each of two changes.
+/// What is loaded after each of two changes.
 fn change_twice<S: BlocksMut>(
     alloc: Global,
     tx: &mut Tx<S>,
@@ -137,7 +137,7 @@ fn change_twice<S: BlocksMut>(
     Ok((before, load_each(alloc, tx)))
 }
 
-// What is loaded after each of two changes, and after the sync of both.
+/// What is loaded after each of two changes, and after the sync of both.
 fn change_in_one_session<S: Tower>(
     alloc: Global,
     site: &mut Site,
@@ -178,7 +178,7 @@ pub(crate) fn follows_from_a_block_to_the_next<S: Tower>(alloc: Global) -> Resul
     Ok(well && found && none && has::<S>(alloc, &mut site, [Some(7), Some(7), None])?)
 }
 
-// Whether this call put this configuration.
+/// Whether this call put this configuration.
 fn put_config(event: Option<&Event>, want: &[u8]) -> bool {
     match event {
         Some(Event::Put { name, bytes, ok }) => {

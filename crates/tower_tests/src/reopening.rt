@@ -8,7 +8,7 @@ ghost use Rattle.outside.specs.View.{bytes_of, list_of};
 ghost use Rattle.store_api.specs.Content.{Content, SameContent, over};
 ghost use Rattle.store_api.specs.Durables.{Identity};
 ghost use Rattle.store_api.specs.Holdings.{Changed, IsFew, MayGet};
-ghost use Rattle.session_saver.specs.Saving.{Represents};
+ghost use Rattle.session_saver.specs.Saving.{RepresentsContent};
 ghost use Rattle.integrity_store.specs.Forgeries.{forged};
 ghost use Rattle.integrity_store.specs.Standing.{Stands};
 ghost use Rattle.integrity_store.specs.Stores.{IsNoBlock};
@@ -26,14 +26,14 @@ use std::alloc::Global;
 use std::test::Fail;
 use store_api::{Blocks, BlocksMut, Durable, Tx};
 
-// Whether an id may get a payload.
+/// Whether an id may get a payload.
 fn may_get<S: Blocks>(tx: &Tx<S>, id: &BlockId) -> bool
     ensures { result ≡ true → MayGet ⟦<Tx<S> as Blocks>⟧.holdings tx.now id.now.0 }
 {
     tx.contains(id) || (!tx.is_used(id) && !id.cmp(&BlockId([0; 16])).is_eq())
 }
 
-// Has an id get a payload, over a store without changes.
+/// Has an id get a payload, over a store without changes.
 fn put_one<S: BlocksMut, R: Rng>(
     alloc: Global,
     tx: &mut Tx<S>,
@@ -56,7 +56,7 @@ fn put_one<S: BlocksMut, R: Rng>(
     Ok(())
 }
 
-// Has an id get a payload, and syncs.
+/// Has an id get a payload, and syncs.
 fn put_and_sync<S: Durable + Drop, K: Keeper + Drop, R: Rng>(
     alloc: Global,
     store: S,
@@ -73,7 +73,7 @@ fn put_and_sync<S: Durable + Drop, K: Keeper + Drop, R: Rng>(
     ensures intact { IfOk result (λ end. S.Durable.meanings.intact end.0) }
     ensures identity { IfOk result (λ end. S.durables.identity end.0 ≡ S.durables.identity store) }
     ensures forgeries { IfOk result (λ end. S.Durable.meanings.forgeries end.0 ≡ S.Durable.meanings.forgeries store) }
-    ensures kept { IfOk result (λ end. Represents S.records (S.durables.identity store) (K.kept end.1) (S.durables.trace end.0)
+    ensures kept { IfOk result (λ end. RepresentsContent S.records (S.durables.identity store) (K.kept end.1) (S.durables.trace end.0)
         (over (fin.insert fin.empty id.now.0 (Some payload.items)) (S.Durable.holdings.content store))) }
 {
     let Saver {
@@ -102,7 +102,7 @@ fn put_and_sync<S: Durable + Drop, K: Keeper + Drop, R: Rng>(
     }
 }
 
-// Whether what waits as the configuration begins as no block's file.
+/// Whether what waits as the configuration begins as no block's file.
 pub(crate) fn is_no_block(list: &[Pending]) -> bool
     ensures { result ≡ true → IsNoBlock (change_at config (list_of list.now)) }
 {
@@ -121,7 +121,7 @@ pub struct Seal<C> {
     pub block_size: usize,
 }
 
-// The store that a record is of.
+/// The store that a record is of.
 fn reopen<V: Vault + Drop, C: Sealer + Drop>(
     alloc: Global,
     vault: V,

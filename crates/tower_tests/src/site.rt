@@ -33,7 +33,7 @@ pub(crate) struct Site {
     pub(crate) keeper: MemoryKeeper,
 }
 
-// The record of client 1 that knows no block.
+/// The record of client 1 that knows no block.
 fn empty_record(alloc: Global) -> Result<Vec<u8>, Fail> {
     let mut out = Vec::new(alloc);
     out.extend_from_slice(b"cryfs.localstate;1\0\0")?;
@@ -51,7 +51,7 @@ pub(crate) fn first_byte(loaded: Result<Option<Vec<u8>>, block_id::Fail>) -> Loa
     }
 }
 
-// Blocks of 128 bytes.
+/// Blocks of 128 bytes.
 fn sealed_over(
     alloc: Global,
     vault: MemoryVault,
@@ -66,7 +66,7 @@ fn sealed_over(
     SealedStore::new(RedoVault::new(vault, list), Aes256Gcm, [3; 32], 128)
 }
 
-// The store that this record is of.
+/// The store that this record is of.
 pub(crate) fn open(alloc: Global, vault: MemoryVault, record: &[u8]) -> Result<Store, Fail>
     ensures intact { IfOk result (λ store. ⟦<Store as Blocks>⟧.meanings.intact store) }
     ensures few { IfOk result (λ store. IsFew (⟦<Store as Blocks>⟧.holdings.used store)) }
@@ -103,12 +103,12 @@ impl Site {
         Ok(())
     }
 
-    // Takes the directory out.
+    /// Takes the directory out.
     fn take_vault(&mut self, alloc: Global) -> MemoryVault {
         std::mem::replace(&mut self.vault, MemoryVault::new(alloc))
     }
 
-    // Takes the local record out.
+    /// Takes the local record out.
     fn take_keeper(&mut self, alloc: Global) -> MemoryKeeper {
         let none = MemoryKeeper::new(alloc, None, Vec::new(alloc));
         std::mem::replace(&mut self.keeper, none)
@@ -154,7 +154,7 @@ impl Site {
         Ok((found, self.end(ended)))
     }
 
-    // Puts the directory and the local record back.
+    /// Puts the directory and the local record back.
     fn end(&mut self, ended: Ended<Store, MemoryKeeper>) -> (Synced, Synced) {
         let Ended {
             first,

@@ -14,7 +14,7 @@ const C: BlockId = BlockId([3; 16]);
 
 const WELL: (Result<(), SyncError>, Result<(), SyncError>) = (Ok(()), Ok(()));
 
-// How a file is damaged.
+/// How a file is damaged.
 #[derive(Clone, Copy)]
 enum Damage {
     Absent,
@@ -42,7 +42,7 @@ fn damaged(alloc: Global, file: &[u8], damage: &Damage) -> Result<Option<Vec<u8>
     Ok(Some(bytes))
 }
 
-// A directory of these files.
+/// A directory of these files.
 fn files_of(alloc: Global, files: [(BlockId, Vec<u8>); 2]) -> Result<Vec<Pending>, Fail> {
     let [first, second] = files;
     let mut list = Vec::with_capacity(alloc, 2)?;

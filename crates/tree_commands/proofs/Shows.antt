@@ -20,7 +20,7 @@ use Rattle.fs_model.specs.Instant.{Instant}
 use Rattle.fs_model.specs.Step.{step}
 use Rattle.fs_model.specs.Tree.{Tree, empty_tree}
 use Rattle.forest.specs.Shows.{ShowsBy}
-use Rattle.forest.specs.Showing.{Showing as NeedsTree, Performed}
+use Rattle.forest.specs.Showing.{BlobsShow as NeedsTree, Performed}
 use Rattle.tree_commands.specs.Performing.{Shown, Steps}
 use Rattle.tree_commands.specs.Showing.{ShowsFiles}
 

@@ -11,7 +11,7 @@ use Rattle.data_nodes.specs.Layout.{room}
 use Rattle.fs_model.specs.declared.command.Command.{Command}
 use Rattle.fs_model.specs.declared.command.Command.TheVariants.{Write}
 use Rattle.fs_model.specs.Tree.{Tree}
-use Rattle.forest.specs.Showing.{Showing as NeedsTree}
+use Rattle.forest.specs.Showing.{BlobsShow as NeedsTree}
 use Rattle.path_layer.specs.Sparing.{IsSparingIn}
 use Rattle.tree_commands.specs.Performing.{Shown}
 use Rattle.tree_commands.specs.Showing.{ShowsFiles}

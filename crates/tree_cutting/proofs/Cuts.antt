@@ -13,7 +13,7 @@ use Rattle.store_api.specs.declared.tx.Tx.{Tx}
 use Rattle.store_api.specs.Content.{Id, Content, Changes, same_id}
 use Rattle.store_api.specs.Holdings.{Holdings, Stays, has_id}
 use Rattle.data_tree.specs.Trees.{IsTree, Holds, Forest, span, IsDepth, NoDoubles, Replaces}
-use Rattle.data_tree.specs.Needs.{Sets, SetsNode, HasTree, HasTrees, Keeps}
+use Rattle.data_tree.specs.Needs.{Sets, SetsNode, HasTree, HasTrees, KeepsShape}
 use Rattle.data_tree.specs.Roots.{IsRoot, IsNewRoot}
 use Rattle.data_tree.proofs.Anew.{replaces_then, then_drops}
 use Rattle.data_tree.proofs.Changes.{tree_frame, trees_frame}
@@ -156,7 +156,7 @@ cut_since {H = H} {a = a} {b = b} {c = c} {old = old} stays told r =
     record { ids = r.ids; tree = r.tree; alone = r.alone; replaces = subst (λ A. Replaces A (H.content c) old r.ids) path r.replaces }
 
 -- a leaf that was cut
-pub cut_leaf_is : {S : Type 0} {H : Holdings S} {a b : S} {depth n : ℕ} {id : Id} (node : NodeText) (old : List ℕ) → leaf old ≡ node → (m : MayCutNode H a depth id node n) → Keeps H a b → SetsNode H a b id (leaf (take n old)) → IsCut H a b depth id (take n m.below.bytes) (id ∷ m.below.ids)
+pub cut_leaf_is : {S : Type 0} {H : Holdings S} {a b : S} {depth n : ℕ} {id : Id} (node : NodeText) (old : List ℕ) → leaf old ≡ node → (m : MayCutNode H a depth id node n) → KeepsShape H a b → SetsNode H a b id (leaf (take n old)) → IsCut H a b depth id (take n m.below.bytes) (id ∷ m.below.ids)
 cut_leaf_is {H = H} {a = a} {b = b} {depth = depth} {n = n} {id = id} node old at m keeps (text, (is, (sized, sets))) =
     let A = H.content a in
     let B = H.content b in
@@ -189,7 +189,7 @@ put_border B depth id old new others q there = by (same_id q id) refl
 
 -- the trees behind the last one that stays, after the node above them was put
 abbrev pub cut_behind : {S : Type 0} {H : Holdings S} {a b : S} {low k n : ℕ} {id last : Id} {children : List Id} {node : NodeText} (t : MayCutTrees H a low id children n) → CutAt (IsTree (H.payload a) (H.content a) low) (span (H.payload a) low) k children last t.trees.bytes t.trees.ids
-    → SetsNode H a b id node → Keeps H a b → HasTrees H b low (drop (k + 1) children)
+    → SetsNode H a b id node → KeepsShape H a b → HasTrees H b low (drop (k + 1) children)
 cut_behind {H = H} {a = a} {b = b} {low = low} {k = k} {id = id} {children = children} t s (text, (is, (sized, sets))) keeps =
     let both : NoDoubles (s.ids1 ++ (s.own ++ s.ids3)) = subst NoDoubles s.names t.trees.alone in
     let none : has_id s.ids3 id ≡ false = (not_both s.own s.ids3 id (not_both s.ids1 (s.own ++ s.ids3) id (subst (λ xs. has_id xs id ≡ false) s.names t.apart)).1).1 in
@@ -204,7 +204,7 @@ cut_behind {H = H} {a = a} {b = b} {low = low} {k = k} {id = id} {children = chi
 
 -- the last one that stays, after those behind it were dropped
 abbrev pub cut_last : {S : Type 0} {H : Holdings S} {a b c : S} {low k n : ℕ} {id last : Id} {children : List Id} {node : NodeText} (m : ℕ) (t : MayCutTrees H a low id children n)
-    → (s : CutAt (IsTree (H.payload a) (H.content a) low) (span (H.payload a) low) k children last t.trees.bytes t.trees.ids) → SetsNode H a b id node → Keeps H a b → Keeps H b c → Replaces (H.content b) (H.content c) s.ids3 [] → m ≤ length s.w2 → MayCut H c low last m
+    → (s : CutAt (IsTree (H.payload a) (H.content a) low) (span (H.payload a) low) k children last t.trees.bytes t.trees.ids) → SetsNode H a b id node → KeepsShape H a b → KeepsShape H b c → Replaces (H.content b) (H.content c) s.ids3 [] → m ≤ length s.w2 → MayCut H c low last m
 cut_last {H = H} {a = a} {b = b} {c = c} {low = low} {id = id} {last = last} m t s (text, (is, (sized, sets))) ab bc dropped fits =
     let both : NoDoubles (s.ids1 ++ (s.own ++ s.ids3)) = subst NoDoubles s.names t.trees.alone in
     let behind : NoDoubles (s.own ++ s.ids3) = (alone-parts s.ids1 (s.own ++ s.ids3) both).1 in
@@ -224,7 +224,7 @@ cut_last {H = H} {a = a} {b = b} {c = c} {low = low} {id = id} {last = last} m t
 
 -- a node that was put with fewer children, of which the last was cut
 pub cut_inner_is : {S : Type 0} {H : Holdings S} {a b c d : S} {low k n : ℕ} {id last : Id} {children : List Id} (depth m : ℕ) (kept : List Id) (t : MayCutTrees H a low id children n)
-    → (s : CutAt (IsTree (H.payload a) (H.content a) low) (span (H.payload a) low) k children last t.trees.bytes t.trees.ids) → (put : SetsNode H a b id (inner depth kept)) → Keeps H a b → Keeps H b c → Keeps H c d → Replaces (H.content b) (H.content c) s.ids3 []
+    → (s : CutAt (IsTree (H.payload a) (H.content a) low) (span (H.payload a) low) k children last t.trees.bytes t.trees.ids) → (put : SetsNode H a b id (inner depth kept)) → KeepsShape H a b → KeepsShape H b c → KeepsShape H c d → Replaces (H.content b) (H.content c) s.ids3 []
     → IsCut H c d low last (take m s.w2) s.own → kept ≡ take k children ++ last ∷ [] → k < length children → low + 1 ≡ depth → n ≡ k * span (H.payload a) low + m → 0 < m → m ≤ span (H.payload a) low → m ≤ length s.w2 → IsCut H a d depth id (take n t.trees.bytes) (id ∷ t.trees.ids) × (H.content d id ≡ Some put.0)
 cut_inner_is {H = H} {a = a} {b = b} {c = c} {d = d} {low = low} {k = k} {n = n} {id = id} {last = last} {children = children} depth m kept t s (text, (is, (sized, sets))) ab bc cd dropped cut listed lt deep place some small fits =
     let A = H.content a in
@@ -373,7 +373,7 @@ lower_there {H = H} {b = b} {c = c} {root = root} {first = first} {below = below
     ap is_some (r.replaces.kept first old (not_new (H.content b) (H.content c) (root ∷ below) r.ids first r.replaces there old)) ∙ there
 
 abbrev pub lower_rest : {S : Type 0} {H : Holdings S} {a b c d : S} {low n depth : ℕ} {root first : Id} {children : List Id} {w : List ℕ} (t : MayCutTrees H a low root children n)
-    → (s : CutAt (IsTree (H.payload a) (H.content a) low) (span (H.payload a) low) 0 children first t.trees.bytes t.trees.ids) → Stays H a b → Keeps H b c → Keeps H c d → IsCut H b c depth root w (root ∷ s.tree.below) → Sets (H.content c) (H.content d) first None → HasTrees H d low (drop 1 children)
+    → (s : CutAt (IsTree (H.payload a) (H.content a) low) (span (H.payload a) low) 0 children first t.trees.bytes t.trees.ids) → Stays H a b → KeepsShape H b c → KeepsShape H c d → IsCut H b c depth root w (root ∷ s.tree.below) → Sets (H.content c) (H.content d) first None → HasTrees H d low (drop 1 children)
 lower_rest {H = H} {a = a} {b = b} {c = c} {d = d} {low = low} {root = root} {first = first} {children = children} t s stays bc cd r sets =
     let A = H.content a in
     let B = H.content b in
@@ -395,7 +395,7 @@ lower_rest {H = H} {a = a} {b = b} {c = c} {d = d} {low = low} {root = root} {fi
 
 -- the tree that was cut, after the rest was dropped, and its border
 pub lower_is : {S : Type 0} {H : Holdings S} {a b c d e : S} {low n depth : ℕ} {root first : Id} {children : List Id} (t : MayCutTrees H a low root children n)
-    → (s : CutAt (IsTree (H.payload a) (H.content a) low) (span (H.payload a) low) 0 children first t.trees.bytes t.trees.ids) → n ≤ length s.w2 → 50 ≤ H.payload a → Stays H a b → Keeps H b c → Keeps H c d → Keeps H d e → IsCut H b c depth root (take n s.w2) (root ∷ s.tree.below)
+    → (s : CutAt (IsTree (H.payload a) (H.content a) low) (span (H.payload a) low) 0 children first t.trees.bytes t.trees.ids) → n ≤ length s.w2 → 50 ≤ H.payload a → Stays H a b → KeepsShape H b c → KeepsShape H c d → KeepsShape H d e → IsCut H b c depth root (take n s.w2) (root ∷ s.tree.below)
     → Sets (H.content c) (H.content d) first None → Replaces (H.content d) (H.content e) s.ids3 [] → IsCut H a e depth root (take n t.trees.bytes) (root ∷ t.trees.ids) × ((q : Id) → OnBorder (H.content c) depth root q → OnBorder (H.content e) depth root q)
 lower_is {H = H} {a = a} {b = b} {c = c} {d = d} {e = e} {low = low} {n = n} {depth = depth} {root = root} {first = first} {children = children} t s fits least stays bc cd de r sets dropped =
     let A = H.content a in

@@ -15,7 +15,7 @@ use data_tree::{Level, drop_children, load_at, put_node, remove};
 use std::alloc::Global;
 use store_api::{Blocks, Tx};
 
-// Cuts a leaf to so many bytes.
+/// Cuts a leaf to so many bytes.
 fn cut_leaf<S: Blocks>(
     alloc: Global,
     tx: &mut Tx<S>,
@@ -45,7 +45,7 @@ fn cut_leaf<S: Blocks>(
     }
 }
 
-// Cuts a tree to so many bytes.
+/// Cuts a tree to so many bytes.
 #[cycle(cut)]
 fn cut_below<S: Blocks>(
     alloc: Global,
@@ -68,7 +68,7 @@ fn cut_below<S: Blocks>(
     }
 }
 
-// Gives an id a node that was loaded, cut to so many bytes.
+/// Gives an id a node that was loaded, cut to so many bytes.
 #[cycle(cut)]
 fn cut_in<S: Blocks>(
     alloc: Global,
@@ -98,7 +98,7 @@ fn cut_in<S: Blocks>(
     }
 }
 
-// Gives an id an inner node of the children that so many bytes need, drops the others and cuts the last one.
+/// Gives an id an inner node of the children that so many bytes need, drops the others and cuts the last one.
 #[cycle(cut)]
 fn cut_children<S: Blocks>(
     alloc: Global,
@@ -148,7 +148,7 @@ fn cut_children<S: Blocks>(
     )
 }
 
-// Removes a block whose node was loaded.
+/// Removes a block whose node was loaded.
 fn remove_loaded<S: Blocks>(tx: &mut Tx<S>, id: &BlockId) -> Result<(), Fail>
     requires { ⟦<Tx<S> as Blocks>⟧.meanings.intact tx.old }
     ensures outcome { Outcome ⟦<Tx<S> as Blocks>⟧.meanings (is_some (⟦<Tx<S> as Blocks>⟧.holdings.content tx.old id.now.0) ≡ true) tx.old tx.new result
@@ -200,7 +200,7 @@ pub fn cut_root<S: Blocks>(
     }
 }
 
-// Gives a root the first bytes of its first child, and drops the children.
+/// Gives a root the first bytes of its first child, and drops the children.
 #[cycle(lower)]
 fn lower<S: Blocks>(
     alloc: Global,

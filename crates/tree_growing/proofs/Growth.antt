@@ -9,7 +9,7 @@ use Rattle.data_nodes.specs.Layout.{NodeText, leaf, inner}
 use Rattle.store_api.specs.Content.{Id, Content, same_id}
 use Rattle.store_api.specs.Holdings.{Holdings, Stays, has_id}
 use Rattle.data_tree.specs.Trees.{IsTree, Holds, Forest, span, NoDoubles, Replaces}
-use Rattle.data_tree.specs.Needs.{SetsNode, HasTree, HasTrees, HasBelow, Keeps, BuiltTrees}
+use Rattle.data_tree.specs.Needs.{SetsNode, HasTree, HasTrees, HasBelow, KeepsShape, BuiltTrees}
 use Rattle.data_tree.proofs.Ids.{same_self, apart, alone-parts, other}
 use Rattle.data_tree.proofs.Changes.{holds_frame, tree_frame, trees_frame}
 use Rattle.data_tree.proofs.Making.{alone-join, tree_there, trees_there}
@@ -70,7 +70,7 @@ abbrev pub split_tree : {S : Type 0} {H : Holdings S} {a : S} {low : ℕ} {child
 split_tree n s = record { bytes = s.w2; ids = s.own; told = n.told; tree = s.tree; alone = (alone-parts s.ids1 s.own (subst NoDoubles s.names n.alone)).1 }
 
 pub grown_trees : {S : Type 0} {H : Holdings S} {a b c d e : S} {low : ℕ} {children front : List Id} {last : Id} (all new : List Id) (node : NodeText) (t1 t2 : List ℕ) (n : HasTrees H a low children)
-    → (s : Split (IsTree (H.payload a) (H.content a) low) (span (H.payload a) low) front last n.bytes n.ids) → all ≡ front ++ last ∷ new → Stays H a b → Keeps H b c → Keeps H c d → Keeps H d e → Grown H b c low node (s.w2 ++ t1) s.tree.below → SetsNode H c d last node
+    → (s : Split (IsTree (H.payload a) (H.content a) low) (span (H.payload a) low) front last n.bytes n.ids) → all ≡ front ++ last ∷ new → Stays H a b → KeepsShape H b c → KeepsShape H c d → KeepsShape H d e → Grown H b c low node (s.w2 ++ t1) s.tree.below → SetsNode H c d last node
     → (0 < length t2 → length (s.w2 ++ t1) ≡ span (H.payload a) low) → BuiltTrees H d e low new t2 → GrownTrees H a e low all (n.bytes ++ (t1 ++ t2)) n.ids
 grown_trees {H = H} {a = a} {b = b} {c = c} {d = d} {e = e} {low = low} {front = front} {last = last} all new node t1 t2 n s listed stays bc cd de g (text, (is, (sized, sets))) full built =
     let A = H.content a in

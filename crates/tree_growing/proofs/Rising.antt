@@ -10,7 +10,7 @@ use Rattle.data_nodes.specs.Layout.{NodeText, inner, fan_out}
 use Rattle.store_api.specs.Content.{Id, Content, same_id}
 use Rattle.store_api.specs.Holdings.{Holdings, has_id}
 use Rattle.data_tree.specs.Trees.{IsTree, Holds, Forest, IsDepth, span, NoDoubles, Replaces}
-use Rattle.data_tree.specs.Needs.{Sets, SetsNode, Keeps, BuiltTrees}
+use Rattle.data_tree.specs.Needs.{Sets, SetsNode, KeepsShape, BuiltTrees}
 use Rattle.data_tree.proofs.Anew.{came_none, replaces_then}
 use Rattle.data_tree.proofs.Changes.{holds_frame, tree_frame}
 use Rattle.data_tree.proofs.Ids.{other, same_self}
@@ -18,7 +18,7 @@ use Rattle.data_tree.proofs.Levels.{span-some}
 use Rattle.data_tree.proofs.Making.{alone-join, holds_there, tree_there, not_among}
 use Rattle.data_tree.proofs.Borders.{replace_part, holds_inner}
 use Rattle.tree_growing.proofs.Growth.{forest_join, replaces_same}
-use Rattle.tree_growing.specs.Growing.{Grown, MayRaise, Raised}
+use Rattle.tree_growing.specs.Growing.{Grown, MayGrow, Raised}
 
 pub span-doubles : (payload depth : ℕ) → 50 ≤ payload → 2 * span payload depth ≤ fan_out payload * span payload depth
 span-doubles payload depth least = let two : 2 ≤ fan_out payload = omega arith in mul-le-mul_right (span payload depth) two
@@ -58,7 +58,7 @@ replaces_new A B id text ids sets none = record {
 
 -- a full node was put under a new id, and new trees beside it
 pub risen : {S : Type 0} {H : Holdings S} {a b c : S} (depth above : ℕ) (first : Id) (node : NodeText) (new : List Id) (w t : List ℕ) (ids : List Id) → Holds (H.payload a) (H.content a) depth node w ids → NoDoubles ids → H.content a first ≡ None → SetsNode H a b first node
-    → Keeps H a b → Keeps H b c → 0 < length w → length w ≡ span (H.payload a) depth → BuiltTrees H b c depth new t → depth + 1 ≡ above → Grown H a c above (inner above (first ∷ new)) (w ++ t) ids
+    → KeepsShape H a b → KeepsShape H b c → 0 < length w → length w ≡ span (H.payload a) depth → BuiltTrees H b c depth new t → depth + 1 ≡ above → Grown H a c above (inner above (first ∷ new)) (w ++ t) ids
 risen {H = H} {a = a} {b = b} {c = c} depth above first node new w t ids holds alone none (text, (is, (sized, sets))) ab bc some full built deep =
     let A = H.content a in
     let B = H.content b in
@@ -93,7 +93,7 @@ risen {H = H} {a = a} {b = b} {c = c} depth above first node new w t ids holds a
     }
 
 -- a node with room for all needs no more
-pub raise_done : {S : Type 0} {H : Holdings S} {a : S} (depth room n : ℕ) (node : NodeText) (rest : List ℕ) → room ≡ span (H.payload a) depth → n ≤ room → (m : MayRaise H a depth node n (length rest)) → Raised H a a node (m.bytes ++ rest) m.ids × (0 ≡ length rest)
+pub raise_done : {S : Type 0} {H : Holdings S} {a : S} (depth room n : ℕ) (node : NodeText) (rest : List ℕ) → room ≡ span (H.payload a) depth → n ≤ room → (m : MayGrow H a depth node n (length rest)) → Raised H a a node (m.bytes ++ rest) m.ids × (0 ≡ length rest)
 raise_done {H = H} {a = a} depth room n node rest is fits m =
     let none : length rest ≡ 0 = elim (cases_lt 0 (length rest)) [ inl some ↦ omega (arith, m.full some, m.sum, is, fits, some) | inr le ↦ omega (arith, le) ] in
     let whole : m.bytes ≡ m.bytes ++ rest = sym (append-nil m.bytes) ∙ ap (λ xs. m.bytes ++ xs) (sym (nil_from_length rest none)) in
@@ -109,8 +109,8 @@ raise_done {H = H} {a = a} depth room n node rest is fits m =
 -- one level more, and then as many as it takes
 pub raise_more : {S : Type 0} {H : Holdings S} {a c d : S} {node up last : NodeText} (depth above n used more : ℕ) (rest : List ℕ) → 50 ≤ H.payload a → depth + 1 ≡ above → span (H.payload a) depth < n → H.payload c ≡ H.payload a → used + span (H.payload a) depth ≤ span (H.payload a) above → (used < length rest → used + span (H.payload a) depth ≡ span (H.payload a) above) → used ≤ length rest
     → ((w t : List ℕ) (ids : List Id) → Holds (H.payload a) (H.content a) depth node w ids → NoDoubles ids → 0 < length w → length w ≡ span (H.payload a) depth → t ≡ take used rest → Grown H a c above up (w ++ t) ids)
-    → ((m : MayRaise H c above up n (length (drop used rest))) → Raised H c d last (m.bytes ++ drop used rest) m.ids × (more ≡ length (drop used rest)))
-    → (m : MayRaise H a depth node n (length rest)) → Raised H a d last (m.bytes ++ rest) m.ids × (used + more ≡ length rest)
+    → ((m : MayGrow H c above up n (length (drop used rest))) → Raised H c d last (m.bytes ++ drop used rest) m.ids × (more ≡ length (drop used rest)))
+    → (m : MayGrow H a depth node n (length rest)) → Raised H a d last (m.bytes ++ rest) m.ids × (used + more ≡ length rest)
 raise_more {H = H} {a = a} {c = c} {d = d} {node = node} {up = up} {last = last} depth above n used more rest least deep small payload all fills fits step go m =
     let some : 0 < length rest = elim (cases_lt 0 (length rest)) [ inl some ↦ some | inr le ↦ absurd (omega (arith, m.fits, m.sum, small, le)) ] in
     let full = m.full some in
@@ -119,7 +119,7 @@ raise_more {H = H} {a = a} {c = c} {d = d} {node = node} {up = up} {last = last}
     let g = step m.bytes t m.ids m.holds m.alone room full refl in
     let t_len : length t ≡ used = omega (arith, length-take used rest, fits) in
     let left : length (drop used rest) ≡ length rest - used = length-drop used rest in
-    let next : MayRaise H c above up n (length (drop used rest)) = record {
+    let next : MayGrow H c above up n (length (drop used rest)) = record {
       bytes = m.bytes ++ t;
       ids = g.ids;
       holds = g.holds;

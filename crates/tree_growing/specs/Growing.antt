@@ -21,7 +21,7 @@ pub record GrownTrees {S : Type 0} (H : Holdings S) (a b : S) (depth : ℕ) (chi
 
 -- A node of this depth, which isn't put, holds what stands before so many bytes, which make n. Where any are left it is full, and n is more than a tree of
 -- a lower depth has room for.
-pub record MayRaise {S : Type 0} (H : Holdings S) (s : S) (depth : ℕ) (node : NodeText) (n left : ℕ) : Type 0 where
+pub record MayGrow {S : Type 0} (H : Holdings S) (s : S) (depth : ℕ) (node : NodeText) (n left : ℕ) : Type 0 where
   pub bytes : List ℕ
   pub ids : List Id
   pub holds : Holds (H.payload s) (H.content s) depth node bytes ids

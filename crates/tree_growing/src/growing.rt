@@ -17,7 +17,7 @@ use rand_core::Rng;
 use std::alloc::Global;
 use store_api::{Blocks, Tx};
 
-// A leaf with as many of the bytes behind its own as it has room for, and how many these are.
+/// A leaf with as many of the bytes behind its own as it has room for, and how many these are.
 fn grown_leaf(alloc: Global, old: &[u8], room: u64, bytes: &[u8]) -> Result<(Node, usize), Memory>
     requires { length old.now ≤ room }
     ensures used { IfOk result (λ grown. grown.1 ≡ min (room - length old.now) (length bytes.now)) }
@@ -30,7 +30,7 @@ fn grown_leaf(alloc: Global, old: &[u8], room: u64, bytes: &[u8]) -> Result<(Nod
     Ok((Node::Leaf(all), used))
 }
 
-// Children with new trees behind them for as many of the bytes as there are places for, and how many these are.
+/// Children with new trees behind them for as many of the bytes as there are places for, and how many these are.
 pub(crate) fn grown_children<S: Blocks, R: Rng>(
     alloc: Global,
     tx: &mut Tx<S>,
@@ -108,7 +108,7 @@ pub fn grown_node<S: Blocks, R: Rng>(
     }
 }
 
-// The children of a node, the last of them grown, with new ones behind it.
+/// The children of a node, the last of them grown, with new ones behind it.
 #[cycle(grow)]
 fn grown_inner<S: Blocks, R: Rng>(
     alloc: Global,

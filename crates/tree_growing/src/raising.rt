@@ -4,7 +4,7 @@ ghost use Rattle.std.specs.FinMap.{get};
 ghost use Rattle.store_api.specs.Content.{Id};
 ghost use Rattle.data_nodes.specs.Layout.{fan_out, node_of, FitsPayload};
 ghost use Rattle.data_tree.specs.Trees.{span};
-ghost use Rattle.tree_growing.specs.Growing.{MayRaise, Raised};
+ghost use Rattle.tree_growing.specs.Growing.{MayGrow, Raised};
 
 use crate::growing::grown_children;
 use block_id::{BlockId, Memory};
@@ -14,7 +14,7 @@ use rand_core::Rng;
 use std::alloc::Global;
 use store_api::{Blocks, Tx};
 
-// The level above, where blocks have payloads of this length.
+/// The level above, where blocks have payloads of this length.
 fn above(level: Level, payload: usize) -> Level
     requires least { 50 ≤ payload }
     requires most { payload ≤ 1048576 }
@@ -47,7 +47,7 @@ pub fn raised<S: Blocks, R: Rng>(
     requires small { n ≤ 2 ^ 40 }
     ensures intact { ⟦<Tx<S> as Blocks>⟧.meanings.intact tx.new }
     ensures store { tx.new.store ≡ tx.old.store }
-    ensures raised { IfOk result (λ up. (m : MayRaise ⟦<Tx<S> as Blocks>⟧.holdings tx.old level.depth (node_of node) n (length rest.now))
+    ensures raised { IfOk result (λ up. (m : MayGrow ⟦<Tx<S> as Blocks>⟧.holdings tx.old level.depth (node_of node) n (length rest.now))
         → Raised ⟦<Tx<S> as Blocks>⟧.holdings tx.old tx.new (node_of up.0) (m.bytes ++ rest.now) m.ids × (up.1 ≡ length rest.now)) }
     ensures used { IfOk result (λ up. up.1 ≤ length rest.now) }
     ensures fits { IfOk result (λ up. FitsPayload (⟦<Tx<S> as Blocks>⟧.holdings.payload tx.old) (node_of up.0)) }

@@ -10,13 +10,13 @@ use Rattle.store_api.specs.Content.{Id, SameIds, or_else}
 use Rattle.store_api.specs.Holdings.{Holdings, Stays}
 use Rattle.data_tree.specs.Trees.{IsTree, Holds, IsDepth, Replaces, depth_in}
 use Rattle.data_tree.proofs.Forests.{moved}
-use Rattle.data_tree.specs.Needs.{HasTree, Keeps}
+use Rattle.data_tree.specs.Needs.{HasTree, KeepsShape}
 use Rattle.data_tree.specs.Roots.{IsRoot, IsNewRoot}
 use Rattle.data_tree.proofs.Loads.{tx_holdings, holds-depth}
 use Rattle.tree_writing.proofs.Leaves.{leaf_of}
 use Rattle.tree_writing.proofs.Overwriting.{length-written}
 use Rattle.tree_writing.specs.Leaves.{OnlyLeaves}
-use Rattle.tree_writing.specs.Writing.{Wrote, written_at}
+use Rattle.tree_writing.specs.Writing.{WroteTree, written_at}
 
 pub root_depth : {S : Type 0} {H : Holdings S} {a : S} {id : Id} (node : NodeText) (depth : ℕ) → (n : IsRoot H a id) → node ≡ n.tree.node → depth_in node ≡ depth → n.depth ≡ depth
 root_depth {H = H} {a = a} node depth n is level = sym (holds-depth (H.payload a) (H.content a) n.depth n.tree.node n.bytes n.tree.below n.tree.holds) ∙ ap depth_in (sym is) ∙ level
@@ -80,8 +80,8 @@ written_is from (byte ∷ piece) w some le =
     let front : take from w ++ replicate (from - length w) 0 ≡ take from w = ap (λ k. take from w ++ replicate k 0) none ∙ append-nil (take from w) in
     sym (ap (λ xs. (xs ++ (byte ∷ piece)) ++ drop (from + length (byte ∷ piece)) w) front)
 
-pub wrote_root : {S : Type 0} {H : Holdings S} {a b c : S} {root : Id} (depth from : ℕ) (piece : List ℕ) → Stays H a b → H.told a ≡ true → (n : IsRoot H a root) → n.depth ≡ depth → 0 < length piece → from + length piece ≤ length n.bytes → Keeps H b c
-    → Wrote H b c depth root (written_at from piece n.bytes) n.ids → IsNewRoot H a c root n.ids (written n.bytes from piece)
+pub wrote_root : {S : Type 0} {H : Holdings S} {a b c : S} {root : Id} (depth from : ℕ) (piece : List ℕ) → Stays H a b → H.told a ≡ true → (n : IsRoot H a root) → n.depth ≡ depth → 0 < length piece → from + length piece ≤ length n.bytes → KeepsShape H b c
+    → WroteTree H b c depth root (written_at from piece n.bytes) n.ids → IsNewRoot H a c root n.ids (written n.bytes from piece)
 wrote_root {H = H} {a = a} {b = b} {c = c} {root = root} depth from piece stays told n same some fits keeps wrote =
     let is = written_is from piece n.bytes some (omega arith) in
     let long : length n.bytes ≡ length (written n.bytes from piece) = sym (length-written from piece n.bytes (λ s. fits)) ∙ ap length is in

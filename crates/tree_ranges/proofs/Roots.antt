@@ -7,7 +7,7 @@ use Rattle.data_nodes.specs.Layout.{NodeText, FitsPayload}
 use Rattle.store_api.specs.Content.{Id, same_id}
 use Rattle.store_api.specs.Holdings.{Holdings, Stays, has_id}
 use Rattle.data_tree.specs.Trees.{Holds, span, IsDepth, NoDoubles, Replaces}
-use Rattle.data_tree.specs.Needs.{SetsNode, Keeps}
+use Rattle.data_tree.specs.Needs.{SetsNode, KeepsShape}
 use Rattle.data_tree.specs.Roots.{IsRoot, IsNewRoot}
 use Rattle.data_tree.proofs.Ids.{same_self, other}
 use Rattle.data_tree.proofs.Changes.{holds_frame}
@@ -18,11 +18,11 @@ use Rattle.tree_ranges.specs.Ranges.{GrowsTo}
 use Rattle.data_tree.proofs.Borders.{replace_part, replaces_put}
 use Rattle.tree_growing.proofs.Growth.{off_the_new}
 use Rattle.tree_growing.proofs.Rising.{more_than, grown_then}
-use Rattle.tree_growing.specs.Growing.{Grown, MayRaise, Raised}
-use Rattle.tree_writing.specs.Writing.{Wrote, written_at}
+use Rattle.tree_growing.specs.Growing.{Grown, MayGrow, Raised}
+use Rattle.tree_writing.specs.Writing.{WroteTree, written_at}
 
 -- a root that grew and was put
-pub root_grown : {S : Type 0} {H : Holdings S} {a b c d : S} {root : Id} {node : NodeText} {w : List ℕ} (depth : ℕ) → Stays H a b → H.told a ≡ true → (n : IsRoot H a root) → IsDepth (H.payload d) depth (length w) → Keeps H b c → Keeps H c d
+pub root_grown : {S : Type 0} {H : Holdings S} {a b c d : S} {root : Id} {node : NodeText} {w : List ℕ} (depth : ℕ) → Stays H a b → H.told a ≡ true → (n : IsRoot H a root) → IsDepth (H.payload d) depth (length w) → KeepsShape H b c → KeepsShape H c d
     → Grown H b c depth node w n.tree.below → SetsNode H c d root node → IsNewRoot H a d root n.ids w
 root_grown {H = H} {a = a} {b = b} {c = c} {d = d} {root = root} {node = node} {w = w} depth stays told n deep bc cd g (text, (is, (sized, sets))) =
     let A = H.content a in
@@ -53,7 +53,7 @@ root_grown {H = H} {a = a} {b = b} {c = c} {d = d} {root = root} {node = node} {
     }
 
 -- a root whose tree was written inside its length
-abbrev pub root_wrote : {S : Type 0} {H : Holdings S} {a b : S} {root : Id} {w : List ℕ} (depth : ℕ) → (n : IsRoot H a root) → n.depth ≡ depth → length n.bytes ≡ length w → Keeps H a b → Wrote H a b depth root w n.ids → IsRoot H b root
+abbrev pub root_wrote : {S : Type 0} {H : Holdings S} {a b : S} {root : Id} {w : List ℕ} (depth : ℕ) → (n : IsRoot H a root) → n.depth ≡ depth → length n.bytes ≡ length w → KeepsShape H a b → WroteTree H a b depth root w n.ids → IsRoot H b root
 root_wrote {H = H} {a = a} {b = b} {root = root} {w = w} depth n same long keeps wrote = record {
   bytes = w;
   ids = n.ids;
@@ -64,7 +64,7 @@ root_wrote {H = H} {a = a} {b = b} {root = root} {w = w} depth n same long keeps
   alone = n.alone;
 }
 
-pub wrote_then : {S : Type 0} {H : Holdings S} {a b c : S} {root : Id} {w v : List ℕ} {depth : ℕ} {ids : List Id} → Wrote H a b depth root w ids → IsNewRoot H b c root ids v → IsNewRoot H a c root ids v
+pub wrote_then : {S : Type 0} {H : Holdings S} {a b c : S} {root : Id} {w v : List ℕ} {depth : ℕ} {ids : List Id} → WroteTree H a b depth root w ids → IsNewRoot H b c root ids v → IsNewRoot H a c root ids v
 wrote_then {H = H} {a = a} {b = b} {c = c} {ids = ids} wrote r = record {
   ids = r.ids;
   depth = r.depth;
@@ -99,9 +99,9 @@ written_over from (byte ∷ bytes) w inside some over is =
     ]
 
 -- the root's node grew, and then rose as far as n bytes need
-pub then_raised : {S : Type 0} {H : Holdings S} {a b d e : S} {root : Id} {grown last : NodeText} {more : ℕ} (depth : ℕ) (tail rest : List ℕ) (used n : ℕ) → Stays H a b → H.told a ≡ true → (g : GrowsTo H a root (length tail) n) → g.tree.depth ≡ depth → rest ≡ drop used tail → used ≤ length tail → Keeps H b d
+pub then_raised : {S : Type 0} {H : Holdings S} {a b d e : S} {root : Id} {grown last : NodeText} {more : ℕ} (depth : ℕ) (tail rest : List ℕ) (used n : ℕ) → Stays H a b → H.told a ≡ true → (g : GrowsTo H a root (length tail) n) → g.tree.depth ≡ depth → rest ≡ drop used tail → used ≤ length tail → KeepsShape H b d
     → FitsPayload (H.payload b) grown → (used < length tail → length g.tree.bytes + used ≡ span (H.payload b) depth) → Grown H b d depth grown (g.tree.bytes ++ take used tail) g.tree.tree.below
-    → ((m : MayRaise H d depth grown n (length rest)) → Raised H d e last (m.bytes ++ rest) m.ids × (more ≡ length rest)) → Raised H b e last (g.tree.bytes ++ tail) g.tree.tree.below × (more ≡ length rest)
+    → ((m : MayGrow H d depth grown n (length rest)) → Raised H d e last (m.bytes ++ rest) m.ids × (more ≡ length rest)) → Raised H b e last (g.tree.bytes ++ tail) g.tree.tree.below × (more ≡ length rest)
 then_raised {H = H} {a = a} {b = b} {d = d} {e = e} {grown = grown} {last = last} depth tail rest used n stays told g same cut fits keeps holds full one rise =
     let w = g.tree.bytes ++ take used tail in
     let long : length w ≡ length g.tree.bytes + used = omega (arith, length-append g.tree.bytes (take used tail), length-take used tail, fits) in
@@ -109,7 +109,7 @@ then_raised {H = H} {a = a} {b = b} {d = d} {e = e} {grown = grown} {last = last
     let deep : IsDepth (H.payload a) depth (length g.tree.bytes) = subst (λ k. IsDepth (H.payload a) k (length g.tree.bytes)) same g.tree.deep in
     let room : span (H.payload d) depth ≡ span (H.payload b) depth = ap (λ p. span p depth) keeps.payload in
     let payload : H.payload a ≡ H.payload d = sym (keeps.payload ∙ stays.payload) in
-    let next : MayRaise H d depth grown n (length rest) = record {
+    let next : MayGrow H d depth grown n (length rest) = record {
       bytes = w;
       ids = one.ids;
       holds = one.holds;

@@ -11,7 +11,7 @@ pub record IsInside {S : Type 0} (H : Holdings S) (s : S) (root : Id) (from n : 
   pub fits : from + n ≤ length tree.bytes
 
 -- n bytes from a place on reach past the end of the tree of this root
-pub record IsPast {S : Type 0} (H : Holdings S) (s : S) (root : Id) (from n : ℕ) : Type 0 where
+pub record ReachesPast {S : Type 0} (H : Holdings S) (s : S) (root : Id) (from n : ℕ) : Type 0 where
   pub tree : IsRoot H s root
   pub over : length tree.bytes < from + n
 

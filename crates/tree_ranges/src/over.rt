@@ -19,7 +19,7 @@ use store_api::{Blocks, Tx};
 use tree_growing::{grown_node, raised};
 use tree_writing::write_below;
 
-// Appends bytes, so that the tree has n of them. Its depth rises where n needs it.
+/// Appends bytes, so that the tree has n of them. Its depth rises where n needs it.
 pub(crate) fn append<S: Blocks, R: Rng>(
     alloc: Global,
     tx: &mut Tx<S>,
@@ -58,7 +58,7 @@ pub(crate) fn append<S: Blocks, R: Rng>(
     }
 }
 
-// So many zeros, and the bytes.
+/// So many zeros, and the bytes.
 pub(crate) fn after_zeros(alloc: Global, count: usize, bytes: &[u8]) -> Result<Vec<u8>, Memory>
     ensures { IfOk result (λ all. all.items ≡ zeros count ++ bytes.now) }
 {
@@ -68,7 +68,7 @@ pub(crate) fn after_zeros(alloc: Global, count: usize, bytes: &[u8]) -> Result<V
     Ok(all)
 }
 
-// Writes bytes over the end of a tree.
+/// Writes bytes over the end of a tree.
 pub(crate) fn write_over<S: Blocks, R: Rng>(
     alloc: Global,
     tx: &mut Tx<S>,

@@ -10,7 +10,7 @@ ghost use Rattle.data_tree.specs.Roots.{IsRoot, IsNewRoot, IsTooDeep};
 ghost use Rattle.data_tree.specs.Trees.{IsDepth, span, depth_in};
 ghost use Rattle.tree_ranges.specs.Border.{Grew, Shrank};
 ghost use Rattle.tree_writing.specs.Leaves.{OnlyLeaves};
-ghost use Rattle.tree_ranges.specs.Ranges.{HasAtLeast, IsInside, IsPast};
+ghost use Rattle.tree_ranges.specs.Ranges.{HasAtLeast, IsInside, ReachesPast};
 
 use crate::over::{after_zeros, append, write_over};
 use block_id::{BlockId, Fail};
@@ -22,7 +22,7 @@ use store_api::{Blocks, Tx};
 use tree_cutting::cut_root;
 use tree_writing::write_in;
 
-// The root's node with its level, and how many bytes the tree has.
+/// The root's node with its level, and how many bytes the tree has.
 fn open_root<S: Blocks>(
     alloc: Global,
     tx: &mut Tx<S>,
@@ -80,7 +80,7 @@ pub fn write_range<S: Blocks, R: Rng>(
         → ⟦<Tx<S> as Blocks>⟧.meanings.forgeries tx.new ≤ ⟦<Tx<S> as Blocks>⟧.meanings.forgeries tx.old
         → SameIds (⟦<Tx<S> as Blocks>⟧.holdings.content tx.old) (⟦<Tx<S> as Blocks>⟧.holdings.content tx.new) }
     // Past the end no id goes, and of those that were there only the right border and the leaves of the range change, whatever is answered.
-    ensures grown { (n : IsPast ⟦<Tx<S> as Blocks>⟧.holdings tx.old root.now.0 from (length bytes.now)) → ⟦<Tx<S> as Blocks>⟧.meanings.sound tx.old → ⟦<Tx<S> as Blocks>⟧.meanings.forgeries tx.new ≤ ⟦<Tx<S> as Blocks>⟧.meanings.forgeries tx.old
+    ensures grown { (n : ReachesPast ⟦<Tx<S> as Blocks>⟧.holdings tx.old root.now.0 from (length bytes.now)) → ⟦<Tx<S> as Blocks>⟧.meanings.sound tx.old → ⟦<Tx<S> as Blocks>⟧.meanings.forgeries tx.new ≤ ⟦<Tx<S> as Blocks>⟧.meanings.forgeries tx.old
         → Grew (⟦<Tx<S> as Blocks>⟧.holdings.payload tx.old) (⟦<Tx<S> as Blocks>⟧.holdings.content tx.old) (⟦<Tx<S> as Blocks>⟧.holdings.content tx.new) n.tree.depth root.now.0 from (length n.tree.bytes) tx.old.overlay tx.new.overlay }
     ensures below { Stays S.holdings tx.old.store tx.new.store }
 {
@@ -113,7 +113,7 @@ pub fn resize<S: Blocks, R: Rng>(
     ensures shallow { ⟦<Tx<S> as Blocks>⟧.meanings.sound tx.old → ⟦<Tx<S> as Blocks>⟧.meanings.forgeries tx.new ≤ ⟦<Tx<S> as Blocks>⟧.meanings.forgeries tx.old
         → OnOk result (IsTooDeep ⟦<Tx<S> as Blocks>⟧.holdings tx.old root.now.0 → ⊥) }
     // As it grows no id goes, and of those that were there only the right border changes, whatever is answered.
-    ensures grown { (old : IsPast ⟦<Tx<S> as Blocks>⟧.holdings tx.old root.now.0 n 0) → ⟦<Tx<S> as Blocks>⟧.meanings.sound tx.old → ⟦<Tx<S> as Blocks>⟧.meanings.forgeries tx.new ≤ ⟦<Tx<S> as Blocks>⟧.meanings.forgeries tx.old
+    ensures grown { (old : ReachesPast ⟦<Tx<S> as Blocks>⟧.holdings tx.old root.now.0 n 0) → ⟦<Tx<S> as Blocks>⟧.meanings.sound tx.old → ⟦<Tx<S> as Blocks>⟧.meanings.forgeries tx.new ≤ ⟦<Tx<S> as Blocks>⟧.meanings.forgeries tx.old
         → Grew (⟦<Tx<S> as Blocks>⟧.holdings.payload tx.old) (⟦<Tx<S> as Blocks>⟧.holdings.content tx.old) (⟦<Tx<S> as Blocks>⟧.holdings.content tx.new) old.tree.depth root.now.0 n (length old.tree.bytes) tx.old.overlay tx.new.overlay }
     // As it is cut no id is new, whatever is answered, and of those that stay only the new right border changes.
     ensures fewer { HasAtLeast ⟦<Tx<S> as Blocks>⟧.holdings tx.old root.now.0 n → ⟦<Tx<S> as Blocks>⟧.meanings.sound tx.old → ⟦<Tx<S> as Blocks>⟧.meanings.forgeries tx.new ≤ ⟦<Tx<S> as Blocks>⟧.meanings.forgeries tx.old

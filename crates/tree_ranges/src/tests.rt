@@ -16,7 +16,7 @@ const SIZES: [usize; 7] = [0, 42, 43, 84, 85, 168, 169];
 
 const COUNTS: [usize; 7] = [1, 1, 3, 3, 6, 7, 11];
 
-// Sizes at the borders of a leaf's room and of each depth's, with how many nodes stand on the right border.
+/// Sizes at the borders of a leaf's room and of each depth's, with how many nodes stand on the right border.
 const BORDERS: [(usize, usize); 15] = [
     (0, 1),
     (41, 1),
@@ -43,14 +43,14 @@ fn bytes_of(alloc: Global, n: usize) -> Result<Vec<u8>, Fail> {
     Ok(out)
 }
 
-// No changes over an empty store of the smallest blocks.
+/// No changes over an empty store of the smallest blocks.
 fn empty(alloc: Global) -> Tx<MapStore>
     ensures { ⟦<Tx<MapStore> as Blocks>⟧.meanings.intact result }
 {
     Tx::new(alloc, MapStore::new(alloc, 50))
 }
 
-// Whether a tree of one size has the nodes and the bytes of another after it was grown or cut.
+/// Whether a tree of one size has the nodes and the bytes of another after it was grown or cut.
 fn is_resized<S: Blocks>(
     alloc: Global,
     tx: &mut Tx<S>,
@@ -91,7 +91,7 @@ fn each_size_grown_or_cut_to_each(rt: HostRuntime) -> Result<(), Fail> {
     Ok(())
 }
 
-// The nodes of a tree from its root on, each before those below it: a leaf's bytes, or the depth once for each child.
+/// The nodes of a tree from its root on, each before those below it: a leaf's bytes, or the depth once for each child.
 #[cycle(shape)]
 fn shape_below<S: Blocks>(
     alloc: Global,
@@ -115,7 +115,7 @@ fn shape_below<S: Blocks>(
     Ok(())
 }
 
-// The call on ranges, or the plain one.
+/// The call on ranges, or the plain one.
 fn resize_by<S: Blocks, R: Rng>(
     alloc: Global,
     tx: &mut Tx<S>,
@@ -134,7 +134,7 @@ fn resize_by<S: Blocks, R: Rng>(
     resize(alloc, tx, root, n, chance)
 }
 
-// How many nodes a stored tree of one size has, its nodes as it was grown or cut to another, and the number of changes.
+/// How many nodes a stored tree of one size has, its nodes as it was grown or cut to another, and the number of changes.
 fn shape_after<S: BlocksMut>(
     alloc: Global,
     tx: &mut Tx<S>,
@@ -163,7 +163,7 @@ fn shape_after<S: BlocksMut>(
     Ok((old, nodes, changes))
 }
 
-// Whether both bodies leave the same nodes, and the one on ranges changes no more than the border and the nodes that come or go.
+/// Whether both bodies leave the same nodes, and the one on ranges changes no more than the border and the nodes that come or go.
 fn agrees<S: BlocksMut>(
     alloc: Global,
     tx: &mut Tx<S>,
@@ -201,7 +201,7 @@ fn ranges_leave_the_nodes_that_a_rewrite_leaves(rt: HostRuntime) -> Result<(), F
     Ok(())
 }
 
-// How many entries a batch has when bytes are written at a place of a stored tree of 169 bytes, and what is read there.
+/// How many entries a batch has when bytes are written at a place of a stored tree of 169 bytes, and what is read there.
 fn written<S: BlocksMut>(
     alloc: Global,
     tx: &mut Tx<S>,
@@ -252,7 +252,7 @@ fn a_write_changes_the_leaves_of_its_range_and_the_border_past_the_end(
     Ok(())
 }
 
-// Whether each call on a root answers that the blocks are no tree.
+/// Whether each call on a root answers that the blocks are no tree.
 fn is_refused<S: Blocks>(alloc: Global, tx: &mut Tx<S>, root: &BlockId) -> bool
     requires { ⟦<Tx<S> as Blocks>⟧.meanings.intact tx.old }
     ensures { ⟦<Tx<S> as Blocks>⟧.meanings.intact tx.new }
@@ -270,7 +270,7 @@ fn is_refused<S: Blocks>(alloc: Global, tx: &mut Tx<S>, root: &BlockId) -> bool
         && matches!(dropped, Err(block_id::Fail::Violation(Why::Structure)))
 }
 
-// A root of this depth whose only child is a leaf, itself, or absent, refused.
+/// A root of this depth whose only child is a leaf, itself, or absent, refused.
 fn refuses<S: Blocks>(alloc: Global, tx: &mut Tx<S>, depth: u8, which: u8) -> Result<bool, Fail>
     requires { ⟦<Tx<S> as Blocks>⟧.meanings.intact tx.old }
 {
@@ -304,7 +304,7 @@ fn blocks_that_are_no_tree_are_refused(rt: HostRuntime) -> Result<(), Fail> {
     Ok(())
 }
 
-// Whether a root that names one child twice is refused as it is cut.
+/// Whether a root that names one child twice is refused as it is cut.
 fn refuses_twins<S: Blocks>(alloc: Global, tx: &mut Tx<S>) -> Result<bool, Fail>
     requires { ⟦<Tx<S> as Blocks>⟧.meanings.intact tx.old }
 {

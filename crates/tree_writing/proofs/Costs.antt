@@ -3,7 +3,7 @@ use Rattle.std.proofs.Common.{◌≡◌, ◌⊎◌, ℕ, ◌+◌, ◌-◌, ◌*�
 use Rattle.std.specs.Prelude.{min}
 use Rattle.std.proofs.lemmas.Bool.{cases_lt}
 use Rattle.std.proofs.Math.Nat.{mul-le-mul_right}
-use Rattle.tree_writing.specs.Writing.{Cost, CostRest}
+use Rattle.tree_writing.specs.Writing.{LeafCost, CostRest}
 
 pub cost_start : (room before from n size : ℕ) → 0 < room → CostRest room before before from n 0 size from n
 cost_start room before from n size some = record {
@@ -26,7 +26,7 @@ cost_start room before from n size some = record {
 passed_one : (i size : ℕ) → (i + 1) * size ≡ i * size + size
 passed_one i size = omega arith
 
-pub cost_next : {room before now later from n i size place left : ℕ} → (r : CostRest room before now from n i size place left) → (m : ℕ) → Cost room now later place m size → m ≡ min (size - place) left → (place2 left2 : ℕ) → place2 ≡ place - size → left ≡ m + left2 → 0 < size
+pub cost_next : {room before now later from n i size place left : ℕ} → (r : CostRest room before now from n i size place left) → (m : ℕ) → LeafCost room now later place m size → m ≡ min (size - place) left → (place2 left2 : ℕ) → place2 ≡ place - size → left ≡ m + left2 → 0 < size
     → CostRest room before later from n (i + 1) size place2 left2
 cost_next {room = room} {before = before} {now = now} {later = later} {from = from} {n = n} {i = i} {size = size} {place = place} {left = left} r m c is place2 left2 lower rest positive =
     elim (cases_lt 0 m) [
@@ -73,7 +73,7 @@ cost_next {room = room} {before = before} {now = now} {later = later} {from = fr
           }
     ]
 
-pub cost_done : {room before now from n i size place left : ℕ} (most : ℕ) → CostRest room before now from n i size place left → i ≤ most → Cost room before now from n (most * size)
+pub cost_done : {room before now from n i size place left : ℕ} (most : ℕ) → CostRest room before now from n i size place left → i ≤ most → LeafCost room before now from n (most * size)
 cost_done {room = room} {before = before} {now = now} {from = from} {n = n} {i = i} {size = size} {place = place} {left = left} most r le = record {
   leaves = r.leaves;
   head = r.head;
@@ -87,7 +87,7 @@ cost_done {room = room} {before = before} {now = now} {from = from} {n = n} {i =
   none = r.none;
 }
 
-pub cost_none : (room before after from n all : ℕ) → 0 < room → after ≤ before → Cost room before after from n all
+pub cost_none : (room before after from n all : ℕ) → 0 < room → after ≤ before → LeafCost room before after from n all
 cost_none room before after from n all some le = record {
   leaves = 0;
   head = 0;
@@ -101,7 +101,7 @@ cost_none room before after from n all some le = record {
   none = λ e. refl;
 }
 
-pub cost_leaf : (room before after from n all len : ℕ) → 0 < room → 0 < n → len ≤ room → all ≡ room → (after ≤ before) ⊎ ((after ≤ before + 1) × (from + n ≤ len)) → Cost room before after from n all
+pub cost_leaf : (room before after from n all len : ℕ) → 0 < room → 0 < n → len ≤ room → all ≡ room → (after ≤ before) ⊎ ((after ≤ before + 1) × (from + n ≤ len)) → LeafCost room before after from n all
 cost_leaf room before after from n all len some bytes fits is (inl le) = cost_none room before after from n all some le
 cost_leaf room before after from n all len some bytes fits is (inr one) = record {
   leaves = 1;
@@ -116,7 +116,7 @@ cost_leaf room before after from n all len some bytes fits is (inr one) = record
   none = λ e. absurd (omega arith);
 }
 
-pub cost_same : (room before mid after from n all all2 : ℕ) → mid ≤ before → all ≡ all2 → Cost room mid after from n all → Cost room before after from n all2
+pub cost_same : (room before mid after from n all all2 : ℕ) → mid ≤ before → all ≡ all2 → LeafCost room mid after from n all → LeafCost room before after from n all2
 cost_same room before mid after from n all all2 le is c = record {
   leaves = c.leaves;
   head = c.head;
@@ -131,7 +131,7 @@ cost_same room before mid after from n all all2 le is c = record {
 }
 
 -- so it is one leaf for each that the bytes fill, and two more at most less one
-pub cost_few : {room before after from n all : ℕ} → (c : Cost room before after from n all) → (q : ℕ) → n ≤ q * room → after ≤ before + (q + 1)
+pub cost_few : {room before after from n all : ℕ} → (c : LeafCost room before after from n all) → (q : ℕ) → n ≤ q * room → after ≤ before + (q + 1)
 cost_few {room = room} {before = before} {after = after} {n = n} c q fits =
     elim (cases_lt c.leaves (q + 2)) [
       | inl lt ↦ omega (arith, c.most)

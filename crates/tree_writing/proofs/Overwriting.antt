@@ -8,13 +8,13 @@ use Rattle.data_nodes.specs.Layout.{NodeText, leaf, inner, IsNode}
 use Rattle.store_api.specs.Content.{Id, Content, same_id}
 use Rattle.store_api.specs.Holdings.{Holdings, Stays, has_id}
 use Rattle.data_tree.specs.Trees.{IsTree, Holds, Forest, span, NoDoubles, depth_in}
-use Rattle.data_tree.specs.Needs.{Sets, HasTree, HasTrees, Keeps}
+use Rattle.data_tree.specs.Needs.{Sets, HasTree, HasTrees, KeepsShape}
 use Rattle.data_tree.proofs.Ids.{in_left, not_both, same_self, alone-parts, apart, apart_right}
 use Rattle.data_tree.proofs.Changes.{trees_frame}
 use Rattle.data_tree.proofs.Making.{forest_more, full_next}
 use Rattle.data_tree.proofs.Forests.{moved}
 use Rattle.data_tree.proofs.Borders.{holds_leaf, holds_inner}
-use Rattle.tree_writing.specs.Writing.{MayWrite, Wrote, WroteTrees, WriteRest, written_at}
+use Rattle.tree_writing.specs.Writing.{MayWrite, WroteTree, WroteTrees, WriteRest, written_at}
 
 pub written_none : (from : ℕ) (piece w : List ℕ) → length piece ≡ 0 → written_at from piece w ≡ w
 written_none from piece w none =
@@ -126,15 +126,15 @@ not_other A B id change below ids sets all q h =
     let parts = or_parts (same_id q id) (has_id below q) (subst (λ xs. has_id xs q ≡ false) all h) in
     sets q ∙ ap (λ b. cond b change (A q)) parts.0
 
-pub wrote_nothing : {S : Type 0} {H : Holdings S} {a : S} {depth : ℕ} {id : Id} (from : ℕ) (piece : List ℕ) → length piece ≡ 0 → (n : HasTree H a depth id) → Wrote H a a depth id (written_at from piece n.bytes) n.ids
+pub wrote_nothing : {S : Type 0} {H : Holdings S} {a : S} {depth : ℕ} {id : Id} (from : ℕ) (piece : List ℕ) → length piece ≡ 0 → (n : HasTree H a depth id) → WroteTree H a a depth id (written_at from piece n.bytes) n.ids
 wrote_nothing {H = H} {a = a} {depth = depth} {id = id} from piece none n =
     record { tree = subst (λ w. IsTree (H.payload a) (H.content a) depth id w n.ids) (sym (written_none from piece n.bytes none)) n.tree; kept = λ q h. refl }
 
-pub wrote_since : {S : Type 0} {H : Holdings S} {a b c : S} {depth : ℕ} {id : Id} {w : List ℕ} {ids : List Id} → Stays H a b → H.told a ≡ true → Wrote H b c depth id w ids → Wrote H a c depth id w ids
+pub wrote_since : {S : Type 0} {H : Holdings S} {a b c : S} {depth : ℕ} {id : Id} {w : List ℕ} {ids : List Id} → Stays H a b → H.told a ≡ true → WroteTree H b c depth id w ids → WroteTree H a c depth id w ids
 wrote_since stays told r = record { tree = r.tree; kept = λ q h. r.kept q h ∙ stays.content told q }
 
 pub wrote_leaf : {S : Type 0} {H : Holdings S} {a b : S} {depth : ℕ} {id : Id} (node : NodeText) (old : List ℕ) (from : ℕ) (piece text : List ℕ) → (n : HasTree H a depth id) → node ≡ n.tree.node → leaf old ≡ node → old ≡ n.bytes
-    → IsNode text (leaf (written_at from piece old)) → length text ≡ H.payload a → Sets (H.content a) (H.content b) id (Some text) → Keeps H a b → Wrote H a b depth id (written_at from piece n.bytes) n.ids
+    → IsNode text (leaf (written_at from piece old)) → length text ≡ H.payload a → Sets (H.content a) (H.content b) id (Some text) → KeepsShape H a b → WroteTree H a b depth id (written_at from piece n.bytes) n.ids
 wrote_leaf {H = H} {a = a} {b = b} {depth = depth} {id = id} node old from piece text n is leaf_at whole new sized sets keeps =
     let w = written_at from piece n.bytes in
     record {
@@ -152,7 +152,7 @@ wrote_leaf {H = H} {a = a} {b = b} {depth = depth} {id = id} node old from piece
     }
 
 pub wrote_inner : {S : Type 0} {H : Holdings S} {a b : S} {depth : ℕ} {id : Id} {w : List ℕ} (node : NodeText) (d low : ℕ) (children : List Id) → (n : HasTree H a depth id) → node ≡ n.tree.node → inner d children ≡ node → depth_in node ≡ depth → low + 1 ≡ depth
-    → has_id n.tree.below id ≡ false → Keeps H a b → WroteTrees H a b low children w n.tree.below → Wrote H a b depth id w n.ids
+    → has_id n.tree.below id ≡ false → KeepsShape H a b → WroteTrees H a b low children w n.tree.below → WroteTree H a b depth id w n.ids
 wrote_inner {H = H} {a = a} {b = b} {depth = depth} {id = id} {w = w} node d low children n is inner_at level deep apart keeps r = record {
   tree = record {
     text = n.tree.text;
@@ -219,8 +219,8 @@ left_kept {H = H} {s = s} {depth = depth} child rest alone is r q h =
 
 pub write_next : {S : Type 0} {H : Holdings S} {a s t : S} {depth : ℕ} {passed children : List Id} {place : ℕ} {bytes all : List ℕ} {ids : List Id} (child : Id) (rest more : List Id) (size m place2 : ℕ) (now later : List ℕ) → (positive : 0 < span (H.payload s) depth) → (told : H.told s ≡ true) → (alone : NoDoubles ids)
     → (is : children ≡ child ∷ rest) → (sized : size ≡ span (H.payload s) depth) → (cut : m ≡ min (size - place) (length bytes)) → (front : now ≡ take m bytes) → (back : later ≡ drop m bytes) → (r : WriteRest H a s depth passed children place bytes all ids)
-    → place2 ≡ place - size → more ≡ passed ++ child ∷ [] → Keeps H s t
-    → Wrote H s t depth child (written_at place now (take (span (H.payload s) depth) r.left)) (first_of_left {H = H} {s = s} {depth = depth} child rest is r.trees_left).own → WriteRest H a t depth more rest place2 later all ids
+    → place2 ≡ place - size → more ≡ passed ++ child ∷ [] → KeepsShape H s t
+    → WroteTree H s t depth child (written_at place now (take (span (H.payload s) depth) r.left)) (first_of_left {H = H} {s = s} {depth = depth} child rest is r.trees_left).own → WriteRest H a t depth more rest place2 later all ids
 write_next {H = H} {a = a} {s = s} {t = t} {depth = depth} {passed = passed} {place = place} {bytes = bytes} {all = all} {ids = ids} child rest more size m place2 now later positive told alone is sized cut front back r lower grown keeps wrote =
     let x = span (H.payload s) depth in
     let f = first_of_left {H = H} {s = s} {depth = depth} child rest is r.trees_left in

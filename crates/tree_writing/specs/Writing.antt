@@ -25,7 +25,7 @@ pub record MayWriteTrees {S : Type 0} (H : Holdings S) (s : S) (depth : ℕ) (ch
   pub inside : 0 < n → from + n ≤ length trees.bytes
 
 -- the tree holds these bytes now, under the same ids, and no other block changed
-pub record Wrote {S : Type 0} (H : Holdings S) (a b : S) (depth : ℕ) (id : Id) (w : List ℕ) (ids : List Id) : Type 0 where
+pub record WroteTree {S : Type 0} (H : Holdings S) (a b : S) (depth : ℕ) (id : Id) (w : List ℕ) (ids : List Id) : Type 0 where
   pub tree : IsTree (H.payload b) (H.content b) depth id w ids
   pub kept : (q : Id) → has_id ids q ≡ false → H.content b q ≡ H.content a q
 
@@ -49,7 +49,7 @@ pub record WriteRest {S : Type 0} (H : Holdings S) (a s : S) (depth : ℕ) (pass
 
 -- Writing n bytes from a place on raises a number of changes by so many leaves at most: they have room for the n bytes, for what stands before
 -- these in the first leaf, and for what follows in the last one.
-pub record Cost (room before after from n all : ℕ) : Type 0 where
+pub record LeafCost (room before after from n all : ℕ) : Type 0 where
   pub leaves : ℕ
   pub head : ℕ
   pub tail : ℕ

@@ -9,7 +9,7 @@ ghost use Rattle.data_nodes.specs.Layout.{room, fan_out, ids_of, node_of, leaf, 
 ghost use Rattle.data_tree.specs.Needs.{SetsNode};
 ghost use Rattle.data_tree.specs.Trees.{span, depth_in};
 ghost use Rattle.tree_writing.specs.Leaves.{OnlyLeaves, OnlyAmong};
-ghost use Rattle.tree_writing.specs.Writing.{Cost, MayWrite, MayWriteNode, MayWriteTrees, Wrote, WroteTrees, written_at};
+ghost use Rattle.tree_writing.specs.Writing.{LeafCost, MayWrite, MayWriteNode, MayWriteTrees, WroteTree, WroteTrees, written_at};
 
 use block_id::{BlockId, Fail, Memory, Why};
 use data_nodes::Node;
@@ -17,7 +17,7 @@ use data_tree::{Level, load_at, put_node};
 use std::alloc::Global;
 use store_api::{Blocks, Tx};
 
-// The list with these bytes from a place on.
+/// The list with these bytes from a place on.
 fn replaced(alloc: Global, old: &[u8], start: usize, bytes: &[u8]) -> Result<Vec<u8>, Memory>
     requires { start + length bytes.now ≤ length old.now }
     ensures { IfOk result (λ new. new.items ≡ written_at start bytes.now old.now) }
@@ -29,7 +29,7 @@ fn replaced(alloc: Global, old: &[u8], start: usize, bytes: &[u8]) -> Result<Vec
     Ok(new)
 }
 
-// Gives a leaf the bytes from a place on.
+/// Gives a leaf the bytes from a place on.
 fn write_leaf<S: Blocks>(
     alloc: Global,
     tx: &mut Tx<S>,
@@ -75,10 +75,10 @@ pub fn write_below<S: Blocks>(
     requires intact { ⟦<Tx<S> as Blocks>⟧.meanings.intact tx.old }
     requires level { level.room ≡ span (⟦<Tx<S> as Blocks>⟧.holdings.payload tx.old) level.depth }
     ensures outcome { Outcome ⟦<Tx<S> as Blocks>⟧.meanings (MayWrite ⟦<Tx<S> as Blocks>⟧.holdings tx.old level.depth id.now.0 from (length bytes.now)) tx.old tx.new result
-        (λ n _. Wrote ⟦<Tx<S> as Blocks>⟧.holdings tx.old tx.new level.depth id.now.0 (written_at from bytes.now n.tree.bytes) n.tree.ids) }
+        (λ n _. WroteTree ⟦<Tx<S> as Blocks>⟧.holdings tx.old tx.new level.depth id.now.0 (written_at from bytes.now n.tree.bytes) n.tree.ids) }
     ensures only { (n : MayWrite ⟦<Tx<S> as Blocks>⟧.holdings tx.old level.depth id.now.0 from (length bytes.now)) → ⟦<Tx<S> as Blocks>⟧.meanings.sound tx.old → ⟦<Tx<S> as Blocks>⟧.meanings.forgeries tx.new ≤ ⟦<Tx<S> as Blocks>⟧.meanings.forgeries tx.old
         → OnlyLeaves (⟦<Tx<S> as Blocks>⟧.holdings.payload tx.old) (⟦<Tx<S> as Blocks>⟧.holdings.content tx.old) level.depth id.now.0 from (length bytes.now) tx.old.overlay tx.new.overlay }
-    ensures cost { Cost (room (⟦<Tx<S> as Blocks>⟧.holdings.payload tx.old)) (fin.len tx.old.overlay) (fin.len tx.new.overlay) from (length bytes.now) level.room }
+    ensures cost { LeafCost (room (⟦<Tx<S> as Blocks>⟧.holdings.payload tx.old)) (fin.len tx.old.overlay) (fin.len tx.new.overlay) from (length bytes.now) level.room }
     ensures below { Stays S.holdings tx.old.store tx.new.store }
     ensures there { (q : Id) → is_some (⟦<Tx<S> as Blocks>⟧.holdings.content tx.old q) ≡ true → is_some (⟦<Tx<S> as Blocks>⟧.holdings.content tx.new q) ≡ true }
 {
@@ -109,10 +109,10 @@ pub fn write_in<S: Blocks>(
     requires depth { depth_in (node_of node.now) ≡ level.depth }
     requires some { 0 < length bytes.now }
     ensures outcome { Outcome ⟦<Tx<S> as Blocks>⟧.meanings (MayWriteNode ⟦<Tx<S> as Blocks>⟧.holdings tx.old level.depth id.now.0 (node_of node.now) from (length bytes.now)) tx.old tx.new result
-        (λ n _. Wrote ⟦<Tx<S> as Blocks>⟧.holdings tx.old tx.new level.depth id.now.0 (written_at from bytes.now n.tree.bytes) n.tree.ids) }
+        (λ n _. WroteTree ⟦<Tx<S> as Blocks>⟧.holdings tx.old tx.new level.depth id.now.0 (written_at from bytes.now n.tree.bytes) n.tree.ids) }
     ensures only { (n : MayWriteNode ⟦<Tx<S> as Blocks>⟧.holdings tx.old level.depth id.now.0 (node_of node.now) from (length bytes.now)) → ⟦<Tx<S> as Blocks>⟧.meanings.sound tx.old → ⟦<Tx<S> as Blocks>⟧.meanings.forgeries tx.new ≤ ⟦<Tx<S> as Blocks>⟧.meanings.forgeries tx.old
         → OnlyLeaves (⟦<Tx<S> as Blocks>⟧.holdings.payload tx.old) (⟦<Tx<S> as Blocks>⟧.holdings.content tx.old) level.depth id.now.0 from (length bytes.now) tx.old.overlay tx.new.overlay }
-    ensures cost { Cost (room (⟦<Tx<S> as Blocks>⟧.holdings.payload tx.old)) (fin.len tx.old.overlay) (fin.len tx.new.overlay) from (length bytes.now) level.room }
+    ensures cost { LeafCost (room (⟦<Tx<S> as Blocks>⟧.holdings.payload tx.old)) (fin.len tx.old.overlay) (fin.len tx.new.overlay) from (length bytes.now) level.room }
     ensures below { Stays S.holdings tx.old.store tx.new.store }
     ensures there { (q : Id) → is_some (⟦<Tx<S> as Blocks>⟧.holdings.content tx.old q) ≡ true → is_some (⟦<Tx<S> as Blocks>⟧.holdings.content tx.new q) ≡ true }
 {
@@ -125,7 +125,7 @@ pub fn write_in<S: Blocks>(
     }
 }
 
-// Has the bytes stand from a place on in the trees that stand side by side.
+/// Has the bytes stand from a place on in the trees that stand side by side.
 #[cycle(write)]
 fn write_children<S: Blocks>(
     alloc: Global,
@@ -142,7 +142,7 @@ fn write_children<S: Blocks>(
         (λ n _. WroteTrees ⟦<Tx<S> as Blocks>⟧.holdings tx.old tx.new level.depth (ids_of children.now) (written_at from bytes.now n.trees.bytes) n.trees.ids) }
     ensures only { (n : MayWriteTrees ⟦<Tx<S> as Blocks>⟧.holdings tx.old level.depth (ids_of children.now) from (length bytes.now)) → ⟦<Tx<S> as Blocks>⟧.meanings.sound tx.old → ⟦<Tx<S> as Blocks>⟧.meanings.forgeries tx.new ≤ ⟦<Tx<S> as Blocks>⟧.meanings.forgeries tx.old
         → OnlyAmong (⟦<Tx<S> as Blocks>⟧.holdings.payload tx.old) (⟦<Tx<S> as Blocks>⟧.holdings.content tx.old) level.depth (ids_of children.now) from (length bytes.now) tx.old.overlay tx.new.overlay }
-    ensures cost { Cost (room (⟦<Tx<S> as Blocks>⟧.holdings.payload tx.old)) (fin.len tx.old.overlay) (fin.len tx.new.overlay) from (length bytes.now) (fan_out (⟦<Tx<S> as Blocks>⟧.holdings.payload tx.old) * level.room) }
+    ensures cost { LeafCost (room (⟦<Tx<S> as Blocks>⟧.holdings.payload tx.old)) (fin.len tx.old.overlay) (fin.len tx.new.overlay) from (length bytes.now) (fan_out (⟦<Tx<S> as Blocks>⟧.holdings.payload tx.old) * level.room) }
     ensures below { Stays S.holdings tx.old.store tx.new.store }
     ensures there { (q : Id) → is_some (⟦<Tx<S> as Blocks>⟧.holdings.content tx.old q) ≡ true → is_some (⟦<Tx<S> as Blocks>⟧.holdings.content tx.new q) ≡ true }
 {

@@ -114,7 +114,7 @@ mod tests {
     use super::*;
     use std::test::Fail;
 
-    // The command as a line, with the bytes of a write as how many there are and the first.
+    /// The command as a line, with the bytes of a write as how many there are and the first.
     fn line_of(alloc: Global, command: &Command) -> Result<String, Fail> {
         Ok(match command {
             Command::Mkdir(path) => format!(in alloc; "mkdir {}", text_of(alloc, path)?)?,

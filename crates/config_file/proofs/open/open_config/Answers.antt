@@ -1,7 +1,7 @@
 use Rattle.std.proofs.Common.{◌≡◌, ℕ, List, None, Some, sym, ap, ◌∙◌, subst, Vec, Global}
 use Rattle.std.specs.Option.{option_map}
 use Rattle.config_file.proofs.Held.{opens_part}
-use Rattle.config_file.specs.ConfigOf.{Holds, key_in}
+use Rattle.config_file.specs.ConfigOf.{HoldsSettings, key_in}
 use Rattle.config_file.specs.Format.{inner_in, inner_key, salt_in}
 use Rattle.config_file.specs.Settings.{Settings, settings_of}
 use Rattle.config_file.proofs.open.open_config.Goals as goal
@@ -26,7 +26,7 @@ returns-in-Some-3-clause-found c =
     ∙ sym c.in_ok-part.ensures.plain ∙ ap (option_map {T = Vec ℕ Global} {U = List ℕ} (λ plain. plain.items)) c.in-Some-2.is in
     let key : c.in_ok-keys.keys.inner ≡ key_in password bytes = c.in_ok-keys.ensures.inner ∙ ap (inner_key password (salt_in bytes)) c.in-Some.ensures.value in
     let has = (c.in_ok-config.ensures.holds s).0 (ap (option_map settings_of) c.in-Some-3.is) in
-    let holds = subst (λ (k : List ℕ). Holds k part s) key (subst (λ (p : List ℕ). Holds c.in_ok-keys.keys.inner p s) c.deref.ensures.value has) in
+    let holds = subst (λ (k : List ℕ). HoldsSettings k part s) key (subst (λ (p : List ℕ). HoldsSettings c.in_ok-keys.keys.inner p s) c.deref.ensures.value has) in
     (c.in-Some.ensures.form, c.in-Some.ensures.value, (part, opens, holds))
 
 pub returns-clause-inner : goal.returns-clause-inner
@@ -44,7 +44,7 @@ returns-clause-inner c =
         part,
         opens,
         λ s holds.
-            let has = subst (λ (p : List ℕ). Holds c.in_ok-keys.keys.inner p s) (sym c.deref.ensures.value) (subst (λ (k : List ℕ). Holds k part s) (sym key) holds) in
+            let has = subst (λ (p : List ℕ). HoldsSettings c.in_ok-keys.keys.inner p s) (sym c.deref.ensures.value) (subst (λ (k : List ℕ). HoldsSettings k part s) (sym key) holds) in
             let wrong : None ≡ Some s = sym (ap (option_map settings_of) c.in-None.is) ∙ (c.in_ok-config.ensures.holds s).1 has in
             absurd (cc wrong),
       ),

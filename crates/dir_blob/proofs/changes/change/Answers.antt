@@ -2,7 +2,7 @@
 use Rattle.std.proofs.Common.{◌≡◌, ◌++◌, length, sym, ◌∙◌, ap, arith}
 use Rattle.std.specs.Prelude.{is_some, not, true, false}
 use Rattle.outcome.specs.Outcome.{first_, then_, unbuilt}
-use Rattle.dir_blob.specs.Layout.{Target, body_of, entry_of, entry_text, IsBody}
+use Rattle.dir_blob.specs.Layout.{EntryTarget, body_of, entry_of, entry_text, IsBody}
 use Rattle.dir_blob.proofs.Edits.{entry_length}
 use Rattle.dir_blob.proofs.Needs.{blob_still, present_is, change_fits, changed_entries, sparing_over}
 use Rattle.dir_blob.proofs.changes.change.Goals as goal
@@ -11,7 +11,7 @@ use Rattle.dir_blob.proofs.changes.change.Goals.{then-is_none-via-then-is_none, 
 pub returns-then-is_none-clause-outcome : goal.returns-then-is_none-clause-outcome
 returns-then-is_none-clause-outcome g c =
     let name = c.args.entry.now.name in
-    let target : Target = (entry_of c.args.entry.now).1 in
+    let target : EntryTarget = (entry_of c.args.entry.now).1 in
     unbuilt g.met.B.Blobs.lawful (first_ (λ n. n.is) c.in_ok-body.ensures.outcome (λ n y h. h))
     (λ n h.
     let body : IsBody c.deref.result.now n.is.listing = record { entries = n.is.entries; text = c.deref.ensures.value ∙ h.1 } in
@@ -28,7 +28,7 @@ returns-then-is_none-clause-outcome g c =
 pub returns-in-Some-clause-outcome : goal.returns-in-Some-clause-outcome
 returns-in-Some-clause-outcome g c =
     let name = c.args.entry.now.name in
-    let target : Target = (entry_of c.args.entry.now).1 in
+    let target : EntryTarget = (entry_of c.args.entry.now).1 in
     then_ g.met.B.Blobs.lawful (first_ (λ n. n.is) c.in_ok-body.ensures.outcome (λ n y h. h)) (λ n h. blob_still n.is h.0) c.write_body.ensures.outcome
     (λ n h y k.
     let body : IsBody c.deref.result.now n.is.listing = record { entries = n.is.entries; text = c.deref.ensures.value ∙ h.1 } in
@@ -39,7 +39,7 @@ returns-in-Some-clause-outcome g c =
 pub returns-in-Some-clause-sparing : goal.returns-in-Some-clause-sparing
 returns-in-Some-clause-sparing g c =
     let name = c.args.entry.now.name in
-    let target : Target = (entry_of c.args.entry.now).1 in
+    let target : EntryTarget = (entry_of c.args.entry.now).1 in
     λ n sound unforged.
     let text : c.deref-in-Some.result.now ≡ entry_text (name, target) = c.deref-in-Some.ensures.value ∙ (c.in_ok-put_entry.ensures.text ∙ ap (λ z. z ++ entry_text (name, target)) c.new-bytes.ensures.items) in
     let long = entry_length (name, target) c.in_ok-put_entry.ensures.types in

@@ -2,7 +2,7 @@
 use Rattle.std.proofs.Common.{◌≡◌, ◌-◌, ◌++◌, length, take, drop, sym, ◌∙◌, ap, arith}
 use Rattle.std.specs.Prelude.{is_some, true, false}
 use Rattle.outcome.specs.Outcome.{first_, then_, unbuilt}
-use Rattle.dir_blob.specs.Layout.{Target, entry_of, entry_text, IsBody}
+use Rattle.dir_blob.specs.Layout.{EntryTarget, entry_of, entry_text, IsBody}
 use Rattle.dir_blob.proofs.Edits.{entry_length}
 use Rattle.dir_blob.proofs.Needs.{blob_still, slice_rest, absent_is, inserted_entries, when_ok}
 use Rattle.dir_blob.proofs.changes.insert.Goals as goal
@@ -11,7 +11,7 @@ use Rattle.dir_blob.proofs.changes.insert.Goals.{then-is_some-via-then-is_some, 
 pub returns-then-is_some-clause-outcome : goal.returns-then-is_some-clause-outcome
 returns-then-is_some-clause-outcome g c =
     let name = c.args.entry.now.name in
-    let target : Target = (entry_of c.args.entry.now).1 in
+    let target : EntryTarget = (entry_of c.args.entry.now).1 in
     unbuilt g.met.B.Blobs.lawful (first_ (λ n. n.is) c.in_ok-body.ensures.outcome (λ n y h. h))
     (λ n h.
     let body : IsBody c.deref.result.now n.is.listing = record { entries = n.is.entries; text = c.deref.ensures.value ∙ h.1 } in
@@ -28,7 +28,7 @@ returns-then-is_some-clause-outcome g c =
 pub returns-in-Some-clause-outcome : goal.returns-in-Some-clause-outcome
 returns-in-Some-clause-outcome g c =
     let name = c.args.entry.now.name in
-    let target : Target = (entry_of c.args.entry.now).1 in
+    let target : EntryTarget = (entry_of c.args.entry.now).1 in
     then_ g.met.B.Blobs.lawful (first_ (λ n. n.is) c.in_ok-body.ensures.outcome (λ n y h. h)) (λ n h. blob_still n.is h.0) c.write_body.ensures.outcome
     (λ n h y k.
     let body : IsBody c.deref.result.now n.is.listing = record { entries = n.is.entries; text = c.deref.ensures.value ∙ h.1 } in
@@ -43,7 +43,7 @@ returns-in-Some-clause-outcome g c =
 pub returns-in-Some-clause-room : goal.returns-in-Some-clause-room
 returns-in-Some-clause-room g c =
     let name = c.args.entry.now.name in
-    let target : Target = (entry_of c.args.entry.now).1 in
+    let target : EntryTarget = (entry_of c.args.entry.now).1 in
     λ n sound unforged.
     let own : c.put_entry.new.out.items ≡ entry_text (name, target) = c.in_ok-put_entry.ensures.text ∙ ap (λ z. z ++ entry_text (name, target)) c.new-bytes.ensures.items in
     let long = entry_length (name, target) c.in_ok-put_entry.ensures.types in

@@ -2,7 +2,7 @@ use Rattle.std.proofs.Common.{◌≡◌, ℕ, ◌+◌, ◌<◌, List, length, Re
 use Rattle.std.specs.Prelude.{IfOk, Option}
 use Rattle.std.specs.declared.alloc.Global.{Global}
 use Rattle.std.specs.FinMap as fin
-use Rattle.local_state.specs.declared.mark.Mark.{Mark}
+use Rattle.local_state.specs.declared.life.Life.{Life}
 use Rattle.local_state.specs.Known.{raised_version}
 use Rattle.sealed_store.specs.BlockFiles.{opens_file}
 use Rattle.integrity_store.specs.BlockRecords.{Record, record_of, record_in}
@@ -11,12 +11,12 @@ use Rattle.integrity_store.specs.Applied.{IsRaised}
 use Rattle.integrity_store.specs.Views.{held_of}
 use Rattle.integrity_store.proofs.sealing.seal.Goals as goal
 
-from_one : (mark : Option Mark) → 0 < raised_version mark
+from_one : (life : Option Life) → 0 < raised_version life
 from_one None = omega arith
-from_one (Some mark) = omega arith
+from_one (Some life) = omega arith
 
 pub write_record-requires-clause-version : goal.write_record-requires-clause-version
-write_record-requires-clause-version g c = omega (arith, c.next_version-version.ensures, from_one (fin.get c.args.state.now.known.marks c.args.id.now.0))
+write_record-requires-clause-version g c = omega (arith, c.next_version-version.ensures, from_one (fin.get c.args.state.now.known.lives c.args.id.now.0))
 
 pub seal_plain-requires-clause-plain : goal.seal_plain-requires-clause-plain
 seal_plain-requires-clause-plain g c = omega (arith, ap length c.deref.ensures.value, c.in_ok-plain.ensures.len, c.requires.may.sized)
@@ -26,7 +26,7 @@ reads_as : (size : ℕ) (plain items : List ℕ) (r : Record) → plain ≡ item
 reads_as size plain items r copy len is = ap (record_of size) copy ∙ (ap (λ n. record_of n items) (sym len) ∙ is)
 
 -- a file that opens to this record, where one was made
-opens_to : {E : Type 0} (h : Held) (id payload plain : List ℕ) (version : ℕ) (r : Result (Vec ℕ Global) E) → version ≡ raised_version (fin.get h.state.marks id)
+opens_to : {E : Type 0} (h : Held) (id payload plain : List ℕ) (version : ℕ) (r : Result (Vec ℕ Global) E) → version ≡ raised_version (fin.get h.state.lives id)
     → record_of h.size plain ≡ Some (own h id version payload) → IfOk r (λ file. opens_file h.opens h.size file.items ≡ Some plain) → IfOk r (λ file. IsRaised h h id payload file.items)
 opens_to h id payload plain version (Ok file) raised reads opens = ap (record_in h.size) opens ∙ (reads ∙ ap (λ v. Some (own h id v payload)) raised)
 opens_to h id payload plain version (Err e) raised reads opens = tt

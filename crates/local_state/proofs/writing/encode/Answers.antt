@@ -3,10 +3,10 @@ use Rattle.local_state.proofs.Written.{each_fits}
 use Rattle.local_state.proofs.writing.encode.Goals as goal
 
 pub put_list-requires : goal.put_list-requires
-put_list-requires c = each_fits c.args.state.now.known.marks c.args.list.now c.requires.list.each
+put_list-requires c = each_fits c.args.state.now.known.lives c.args.list.now c.requires.list.each
 
 pub returns-clause-has_record : goal.returns-clause-has_record
 returns-clause-has_record c = record {
-  state = record { head = c.in_ok-put_head.ensures.fits; client = c.requires.client; marks = c.in_ok-put_known.ensures.fits; count = omega (arith, c.len.ensures) };
+  state = record { head = c.in_ok-put_head.ensures.fits; client = c.requires.client; lives = c.in_ok-put_known.ensures.fits; count = omega (arith, c.len.ensures) };
   entries = c.requires.list;
 }

@@ -11,7 +11,7 @@ use Rattle.integrity_store.specs.Stores.{IsNoBlock}
 use Rattle.integrity_store.specs.WaitingLaws.{in_order}
 use Rattle.config_file.specs.Settings.{settings_of}
 use Rattle.config_file.specs.declared.config.Cipher.{Cipher}
-use Rattle.mount.specs.Opening.{OpenCause, Reads}
+use Rattle.mount.specs.Opening.{OpenCause, ReadsConfigOnce}
 use Rattle.mount.specs.Representing.{identity_for}
 use Rattle.mount.specs.Tower.{vault_in, tower_durables}
 use Rattle.mount.proofs.Attaching.{config_open, identity_is, no_block}
@@ -68,11 +68,11 @@ returns-in-Ok-cached_store-clause-stands g c salt content s =
     let t = V.trace (vault_in c.in-Ok-cached_store.store) in
     let e : state.key_salt ≡ salt = stands_salt cfg salt state list t0 content c.requires.record_ s in
     let et : t ≡ V.trace c.read_config.new.vault.vault = c.in-Ok-cached_store.ensures.trace ∙ ap (λ (x : RedoOf g). V.trace x.vault) c.new-sealed.ensures.vault in
-    let reads : Reads t0 t = subst (λ x. Reads t0 x) (sym et) (subst (λ (x : RedoOf g). Reads (V.trace x.vault) (V.trace c.read_config.new.vault.vault)) c.new-redo.ensures c.read_config.ensures.reads) in
+    let reads : ReadsConfigOnce t0 t = subst (λ x. ReadsConfigOnce t0 x) (sym et) (subst (λ (x : RedoOf g). ReadsConfigOnce (V.trace x.vault) (V.trace c.read_config.new.vault.vault)) c.new-redo.ensures c.read_config.ensures.reads) in
     let s1 : Stands (identity_for cfg state.key_salt) (record_bytes state list) t0 content = subst (λ x. Stands (identity_for cfg x) (record_bytes state list) t0 content) (sym e) s in
     let s2 : Stands (identity_for cfg state.key_salt) (record_bytes state list) t content = reads_stands (identity_for cfg state.key_salt) (record_bytes state list) content t0 t reads s1 in
     c.in-Ok-cached_store.ensures.opened content
-    (subst (λ i. Stands i ((tower_durables V.trace).record_of c.in-Ok-cached_store.store true) t content) (sym (returns-in-Ok-cached_store-clause-identity g c)) (subst (λ r. Stands (identity_for cfg state.key_salt) r t content) (sym (returns-in-Ok-cached_store-clause-record_of g c)) s2))
+    (subst (λ i. Stands i ((tower_durables V.trace).local_record_of c.in-Ok-cached_store.store true) t content) (sym (returns-in-Ok-cached_store-clause-identity g c)) (subst (λ r. Stands (identity_for cfg state.key_salt) r t content) (sym (returns-in-Ok-cached_store-clause-record_of g c)) s2))
 
 pub returns-in-Err-clause-err_quiet : goal.returns-in-Err-clause-err_quiet
 returns-in-Err-clause-err_quiet g c n =

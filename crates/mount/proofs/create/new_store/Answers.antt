@@ -31,11 +31,11 @@ returns g c =
     let n = c.new-2.ensures in
     let s1 = c.new-sealed.ensures in
     let state = c.new_state-state.ensures.is in
-    let marks = ap (λ (s : PlainState). s.marks) state in
+    let lives = ap (λ (s : PlainState). s.lives) state in
     let vault = ap (λ (x : RedoOf g). x.vault) s1.vault ∙ ap (λ (x : RedoOf g). x.vault) c.new-redo.ensures in
     let store = c.new-2.result in
     let steady = steady_by sealed_held (sealed_trace g.V.Vault.trace) (λ s. g.V.Vault.faults s.sealed.vault.vault) (λ s. IsIntact (block_size_of s.sealed) 16) in
-    let unused : (id : List ℕ) → has_id ((sealed_holdings g.V.Vault.trace).used store) id ≡ false = λ id. ap (λ u. has_id u id) n.used ∙ none_used (plain_state c.new_state-state.result).marks id marks in
+    let unused : (id : List ℕ) → has_id ((sealed_holdings g.V.Vault.trace).used store) id ≡ false = λ id. ap (λ u. has_id u id) n.used ∙ none_used (plain_state c.new_state-state.result).lives id lives in
     record {
       intact = n.intact;
       same = n.trace ∙ ap g.V.Vault.trace vault;
@@ -49,5 +49,5 @@ returns g c =
             fs_id = ap (λ (s : PlainState). s.fs_id) state;
             digest = ap (λ (s : PlainState). s.key_digest) state ∙ (c.key_digest-digest.ensures ∙ ap (λ x. sha256 (x ++ c.args.config.key)) (sym (ap (λ (s : PlainState). s.key_salt) state)));
           }) ∙ ap (identity_for (settings_of c.args.config)) (ap (λ (s : PlainState). s.key_salt) state));
-      sound = λ unchanged. n.fresh marks (untouched _ (subst IsUnchanged (sym (ap g.V.Vault.trace vault)) unchanged));
+      sound = λ unchanged. n.fresh lives (untouched _ (subst IsUnchanged (sym (ap g.V.Vault.trace vault)) unchanged));
     }

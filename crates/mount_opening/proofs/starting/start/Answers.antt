@@ -31,7 +31,7 @@ returns-clause-stands g c first sound unmarked shown =
             stays = stays_same H old old refl;
             sound = sound;
             identity = refl;
-            represents = (D.record_of old true, c.prepare.ensures.kept ∙ c.requires.kept, g.met.S.Durable.enduring.stands_now old c.requires.intact sound unmarked);
+            represents = (D.local_record_of old true, c.prepare.ensures.kept ∙ c.requires.kept, g.met.S.Durable.enduring.stands_now old c.requires.intact sound unmarked);
           })
     ] in
     let core : CoreOf g = record { blobs = record { tx = c.new.result }; saver = c.if-waits.saver; root = c.args.root; violated = false } in

@@ -6,7 +6,7 @@ use Rattle.fs_model.specs.declared.reply.Reply.TheVariants.{Done}
 use Rattle.fs_model.specs.Fitting.{IsFitting, is_target}
 use Rattle.fs_model.specs.Laws.{OnlyLooks}
 use Rattle.fs_model.specs.Step.{step}
-use Rattle.forest.specs.Showing.{Showing, Performed}
+use Rattle.forest.specs.Showing.{BlobsShow, Performed}
 use Rattle.path_layer.specs.Replies.{IsReplyOf}
 use Rattle.path_layer.specs.Sparing.{IsSparingIn}
 use Rattle.path_layer.proofs.Told.{stays}
@@ -15,8 +15,8 @@ use Rattle.path_layer.proofs.commands.perform.Goals as goal
 
 pub returns-in-List-clause-outcome : goal.returns-in-List-clause-outcome
 returns-in-List-clause-outcome g c =
-    subst (λ z. Outcome g.B.Blobs.meanings (Showing g.B.Blobs.holdings c.args.b.now c.args.root.now.0) c.args.b.now c.list.new.b c.list.result (λ n r. Performed g.B.Blobs.holdings c.list.new.b c.args.root.now.0 (step n.tree c.args.now z) r)) (sym c.in-List.is)
-    (subst (λ z. Outcome g.B.Blobs.meanings (Showing g.B.Blobs.holdings c.args.b.now c.args.root.now.0) c.args.b.now c.list.new.b c.list.result (λ n r. Performed g.B.Blobs.holdings c.list.new.b c.args.root.now.0 (step n.tree c.args.now (command.List z)) r)) c.names.ensures c.list.ensures.outcome)
+    subst (λ z. Outcome g.B.Blobs.meanings (BlobsShow g.B.Blobs.holdings c.args.b.now c.args.root.now.0) c.args.b.now c.list.new.b c.list.result (λ n r. Performed g.B.Blobs.holdings c.list.new.b c.args.root.now.0 (step n.tree c.args.now z) r)) (sym c.in-List.is)
+    (subst (λ z. Outcome g.B.Blobs.meanings (BlobsShow g.B.Blobs.holdings c.args.b.now c.args.root.now.0) c.args.b.now c.list.new.b c.list.result (λ n r. Performed g.B.Blobs.holdings c.list.new.b c.args.root.now.0 (step n.tree c.args.now (command.List z)) r)) c.names.ensures c.list.ensures.outcome)
 
 pub returns-in-List-clause-variant : goal.returns-in-List-clause-variant
 returns-in-List-clause-variant g c = subst (λ z. IfOk c.list.result (IsReplyOf z)) (sym c.in-List.is) c.list.ensures.variant
@@ -29,8 +29,8 @@ returns-in-List-clause-sparing g c = λ n s f. subst (IsSparingIn g.B.Blobs.hold
 
 pub returns-in-Stat-clause-outcome : goal.returns-in-Stat-clause-outcome
 returns-in-Stat-clause-outcome g c =
-    subst (λ z. Outcome g.B.Blobs.meanings (Showing g.B.Blobs.holdings c.args.b.now c.args.root.now.0) c.args.b.now c.stat.new.b c.stat.result (λ n r. Performed g.B.Blobs.holdings c.stat.new.b c.args.root.now.0 (step n.tree c.args.now z) r)) (sym c.in-Stat.is)
-    (subst (λ z. Outcome g.B.Blobs.meanings (Showing g.B.Blobs.holdings c.args.b.now c.args.root.now.0) c.args.b.now c.stat.new.b c.stat.result (λ n r. Performed g.B.Blobs.holdings c.stat.new.b c.args.root.now.0 (step n.tree c.args.now (command.Stat z)) r)) c.names-in-Stat.ensures c.stat.ensures.outcome)
+    subst (λ z. Outcome g.B.Blobs.meanings (BlobsShow g.B.Blobs.holdings c.args.b.now c.args.root.now.0) c.args.b.now c.stat.new.b c.stat.result (λ n r. Performed g.B.Blobs.holdings c.stat.new.b c.args.root.now.0 (step n.tree c.args.now z) r)) (sym c.in-Stat.is)
+    (subst (λ z. Outcome g.B.Blobs.meanings (BlobsShow g.B.Blobs.holdings c.args.b.now c.args.root.now.0) c.args.b.now c.stat.new.b c.stat.result (λ n r. Performed g.B.Blobs.holdings c.stat.new.b c.args.root.now.0 (step n.tree c.args.now (command.Stat z)) r)) c.names-in-Stat.ensures c.stat.ensures.outcome)
 
 pub returns-in-Stat-clause-variant : goal.returns-in-Stat-clause-variant
 returns-in-Stat-clause-variant g c = subst (λ z. IfOk c.stat.result (IsReplyOf z)) (sym c.in-Stat.is) c.stat.ensures.variant
@@ -43,8 +43,8 @@ returns-in-Stat-clause-sparing g c = λ n s f. subst (IsSparingIn g.B.Blobs.hold
 
 pub returns-in-Readlink-clause-outcome : goal.returns-in-Readlink-clause-outcome
 returns-in-Readlink-clause-outcome g c =
-    subst (λ z. Outcome g.B.Blobs.meanings (Showing g.B.Blobs.holdings c.args.b.now c.args.root.now.0) c.args.b.now c.read_link.new.b c.read_link.result (λ n r. Performed g.B.Blobs.holdings c.read_link.new.b c.args.root.now.0 (step n.tree c.args.now z) r)) (sym c.in-Readlink.is)
-    (subst (λ z. Outcome g.B.Blobs.meanings (Showing g.B.Blobs.holdings c.args.b.now c.args.root.now.0) c.args.b.now c.read_link.new.b c.read_link.result (λ n r. Performed g.B.Blobs.holdings c.read_link.new.b c.args.root.now.0 (step n.tree c.args.now (command.Readlink z)) r)) c.names-in-Readlink.ensures c.read_link.ensures.outcome)
+    subst (λ z. Outcome g.B.Blobs.meanings (BlobsShow g.B.Blobs.holdings c.args.b.now c.args.root.now.0) c.args.b.now c.read_link.new.b c.read_link.result (λ n r. Performed g.B.Blobs.holdings c.read_link.new.b c.args.root.now.0 (step n.tree c.args.now z) r)) (sym c.in-Readlink.is)
+    (subst (λ z. Outcome g.B.Blobs.meanings (BlobsShow g.B.Blobs.holdings c.args.b.now c.args.root.now.0) c.args.b.now c.read_link.new.b c.read_link.result (λ n r. Performed g.B.Blobs.holdings c.read_link.new.b c.args.root.now.0 (step n.tree c.args.now (command.Readlink z)) r)) c.names-in-Readlink.ensures c.read_link.ensures.outcome)
 
 pub returns-in-Readlink-clause-variant : goal.returns-in-Readlink-clause-variant
 returns-in-Readlink-clause-variant g c = subst (λ z. IfOk c.read_link.result (IsReplyOf z)) (sym c.in-Readlink.is) c.read_link.ensures.variant
@@ -57,8 +57,8 @@ returns-in-Readlink-clause-sparing g c = λ n s f. subst (IsSparingIn g.B.Blobs.
 
 pub returns-in-Read-clause-outcome : goal.returns-in-Read-clause-outcome
 returns-in-Read-clause-outcome g c =
-    subst (λ z. Outcome g.B.Blobs.meanings (Showing g.B.Blobs.holdings c.args.b.now c.args.root.now.0) c.args.b.now c.read.new.b c.read.result (λ n r. Performed g.B.Blobs.holdings c.read.new.b c.args.root.now.0 (step n.tree c.args.now z) r)) (sym c.in-Read.is)
-    (subst (λ z. Outcome g.B.Blobs.meanings (Showing g.B.Blobs.holdings c.args.b.now c.args.root.now.0) c.args.b.now c.read.new.b c.read.result (λ n r. Performed g.B.Blobs.holdings c.read.new.b c.args.root.now.0 (step n.tree c.args.now (command.Read z c.in-Read.from c.in-Read.count)) r)) c.names-in-Read.ensures c.read.ensures.outcome)
+    subst (λ z. Outcome g.B.Blobs.meanings (BlobsShow g.B.Blobs.holdings c.args.b.now c.args.root.now.0) c.args.b.now c.read.new.b c.read.result (λ n r. Performed g.B.Blobs.holdings c.read.new.b c.args.root.now.0 (step n.tree c.args.now z) r)) (sym c.in-Read.is)
+    (subst (λ z. Outcome g.B.Blobs.meanings (BlobsShow g.B.Blobs.holdings c.args.b.now c.args.root.now.0) c.args.b.now c.read.new.b c.read.result (λ n r. Performed g.B.Blobs.holdings c.read.new.b c.args.root.now.0 (step n.tree c.args.now (command.Read z c.in-Read.from c.in-Read.count)) r)) c.names-in-Read.ensures c.read.ensures.outcome)
 
 pub returns-in-Read-clause-variant : goal.returns-in-Read-clause-variant
 returns-in-Read-clause-variant g c = subst (λ z. IfOk c.read.result (IsReplyOf z)) (sym c.in-Read.is) c.read.ensures.variant
@@ -71,8 +71,8 @@ returns-in-Read-clause-sparing g c = λ n s f. subst (IsSparingIn g.B.Blobs.hold
 
 pub returns-in-Mkdir-clause-outcome : goal.returns-in-Mkdir-clause-outcome
 returns-in-Mkdir-clause-outcome g c =
-    subst (λ z. Outcome g.B.Blobs.meanings (Showing g.B.Blobs.holdings c.args.b.now c.args.root.now.0) c.args.b.now c.make_directory.new.b c.make_directory.result (λ n r. Performed g.B.Blobs.holdings c.make_directory.new.b c.args.root.now.0 (step n.tree c.args.now z) r)) (sym c.in-Mkdir.is)
-    (subst (λ z. Outcome g.B.Blobs.meanings (Showing g.B.Blobs.holdings c.args.b.now c.args.root.now.0) c.args.b.now c.make_directory.new.b c.make_directory.result (λ n r. Performed g.B.Blobs.holdings c.make_directory.new.b c.args.root.now.0 (step n.tree c.args.now (command.Mkdir z)) r)) c.names-in-Mkdir.ensures c.make_directory.ensures.outcome)
+    subst (λ z. Outcome g.B.Blobs.meanings (BlobsShow g.B.Blobs.holdings c.args.b.now c.args.root.now.0) c.args.b.now c.make_directory.new.b c.make_directory.result (λ n r. Performed g.B.Blobs.holdings c.make_directory.new.b c.args.root.now.0 (step n.tree c.args.now z) r)) (sym c.in-Mkdir.is)
+    (subst (λ z. Outcome g.B.Blobs.meanings (BlobsShow g.B.Blobs.holdings c.args.b.now c.args.root.now.0) c.args.b.now c.make_directory.new.b c.make_directory.result (λ n r. Performed g.B.Blobs.holdings c.make_directory.new.b c.args.root.now.0 (step n.tree c.args.now (command.Mkdir z)) r)) c.names-in-Mkdir.ensures c.make_directory.ensures.outcome)
 
 pub returns-in-Mkdir-clause-variant : goal.returns-in-Mkdir-clause-variant
 returns-in-Mkdir-clause-variant g c = subst (λ z. IfOk c.make_directory.result (IsReplyOf z)) (sym c.in-Mkdir.is) c.make_directory.ensures.variant
@@ -85,8 +85,8 @@ returns-in-Mkdir-clause-sparing g c = λ n s f. subst (IsSparingIn g.B.Blobs.hol
 
 pub returns-in-Mkfile-clause-outcome : goal.returns-in-Mkfile-clause-outcome
 returns-in-Mkfile-clause-outcome g c =
-    subst (λ z. Outcome g.B.Blobs.meanings (Showing g.B.Blobs.holdings c.args.b.now c.args.root.now.0) c.args.b.now c.make_file.new.b c.make_file.result (λ n r. Performed g.B.Blobs.holdings c.make_file.new.b c.args.root.now.0 (step n.tree c.args.now z) r)) (sym c.in-Mkfile.is)
-    (subst (λ z. Outcome g.B.Blobs.meanings (Showing g.B.Blobs.holdings c.args.b.now c.args.root.now.0) c.args.b.now c.make_file.new.b c.make_file.result (λ n r. Performed g.B.Blobs.holdings c.make_file.new.b c.args.root.now.0 (step n.tree c.args.now (command.Mkfile z)) r)) c.names-in-Mkfile.ensures c.make_file.ensures.outcome)
+    subst (λ z. Outcome g.B.Blobs.meanings (BlobsShow g.B.Blobs.holdings c.args.b.now c.args.root.now.0) c.args.b.now c.make_file.new.b c.make_file.result (λ n r. Performed g.B.Blobs.holdings c.make_file.new.b c.args.root.now.0 (step n.tree c.args.now z) r)) (sym c.in-Mkfile.is)
+    (subst (λ z. Outcome g.B.Blobs.meanings (BlobsShow g.B.Blobs.holdings c.args.b.now c.args.root.now.0) c.args.b.now c.make_file.new.b c.make_file.result (λ n r. Performed g.B.Blobs.holdings c.make_file.new.b c.args.root.now.0 (step n.tree c.args.now (command.Mkfile z)) r)) c.names-in-Mkfile.ensures c.make_file.ensures.outcome)
 
 pub returns-in-Mkfile-clause-variant : goal.returns-in-Mkfile-clause-variant
 returns-in-Mkfile-clause-variant g c = subst (λ z. IfOk c.make_file.result (IsReplyOf z)) (sym c.in-Mkfile.is) c.make_file.ensures.variant
@@ -99,8 +99,8 @@ returns-in-Mkfile-clause-sparing g c = λ n s f. subst (IsSparingIn g.B.Blobs.ho
 
 pub returns-in-Symlink-clause-outcome : goal.returns-in-Symlink-clause-outcome
 returns-in-Symlink-clause-outcome g c =
-    subst (λ z. Outcome g.B.Blobs.meanings (Showing g.B.Blobs.holdings c.args.b.now c.args.root.now.0) c.args.b.now c.make_link.new.b c.make_link.result (λ n r. Performed g.B.Blobs.holdings c.make_link.new.b c.args.root.now.0 (step n.tree c.args.now z) r)) (sym c.in-Symlink.is)
-    (subst (λ z. Outcome g.B.Blobs.meanings (Showing g.B.Blobs.holdings c.args.b.now c.args.root.now.0) c.args.b.now c.make_link.new.b c.make_link.result (λ n r. Performed g.B.Blobs.holdings c.make_link.new.b c.args.root.now.0 (step n.tree c.args.now (command.Symlink c.in-Symlink.target z)) r)) c.names-in-Symlink.ensures (subst (λ z. Outcome g.B.Blobs.meanings (Showing g.B.Blobs.holdings c.args.b.now c.args.root.now.0) c.args.b.now c.make_link.new.b c.make_link.result (λ n r. Performed g.B.Blobs.holdings c.make_link.new.b c.args.root.now.0 (step n.tree c.args.now (command.Symlink z c.names-in-Symlink.result.now)) r)) c.as_slice-target.ensures c.make_link.ensures.outcome))
+    subst (λ z. Outcome g.B.Blobs.meanings (BlobsShow g.B.Blobs.holdings c.args.b.now c.args.root.now.0) c.args.b.now c.make_link.new.b c.make_link.result (λ n r. Performed g.B.Blobs.holdings c.make_link.new.b c.args.root.now.0 (step n.tree c.args.now z) r)) (sym c.in-Symlink.is)
+    (subst (λ z. Outcome g.B.Blobs.meanings (BlobsShow g.B.Blobs.holdings c.args.b.now c.args.root.now.0) c.args.b.now c.make_link.new.b c.make_link.result (λ n r. Performed g.B.Blobs.holdings c.make_link.new.b c.args.root.now.0 (step n.tree c.args.now (command.Symlink c.in-Symlink.target z)) r)) c.names-in-Symlink.ensures (subst (λ z. Outcome g.B.Blobs.meanings (BlobsShow g.B.Blobs.holdings c.args.b.now c.args.root.now.0) c.args.b.now c.make_link.new.b c.make_link.result (λ n r. Performed g.B.Blobs.holdings c.make_link.new.b c.args.root.now.0 (step n.tree c.args.now (command.Symlink z c.names-in-Symlink.result.now)) r)) c.as_slice-target.ensures c.make_link.ensures.outcome))
 
 pub returns-in-Symlink-clause-variant : goal.returns-in-Symlink-clause-variant
 returns-in-Symlink-clause-variant g c = subst (λ z. IfOk c.make_link.result (IsReplyOf z)) (sym c.in-Symlink.is) c.make_link.ensures.variant
@@ -113,8 +113,8 @@ returns-in-Symlink-clause-sparing g c = λ n s f. subst (IsSparingIn g.B.Blobs.h
 
 pub returns-in-Rmdir-clause-outcome : goal.returns-in-Rmdir-clause-outcome
 returns-in-Rmdir-clause-outcome g c =
-    subst (λ z. Outcome g.B.Blobs.meanings (Showing g.B.Blobs.holdings c.args.b.now c.args.root.now.0) c.args.b.now c.remove_directory.new.b c.remove_directory.result (λ n r. Performed g.B.Blobs.holdings c.remove_directory.new.b c.args.root.now.0 (step n.tree c.args.now z) r)) (sym c.in-Rmdir.is)
-    (subst (λ z. Outcome g.B.Blobs.meanings (Showing g.B.Blobs.holdings c.args.b.now c.args.root.now.0) c.args.b.now c.remove_directory.new.b c.remove_directory.result (λ n r. Performed g.B.Blobs.holdings c.remove_directory.new.b c.args.root.now.0 (step n.tree c.args.now (command.Rmdir z)) r)) c.names-in-Rmdir.ensures c.remove_directory.ensures.outcome)
+    subst (λ z. Outcome g.B.Blobs.meanings (BlobsShow g.B.Blobs.holdings c.args.b.now c.args.root.now.0) c.args.b.now c.remove_directory.new.b c.remove_directory.result (λ n r. Performed g.B.Blobs.holdings c.remove_directory.new.b c.args.root.now.0 (step n.tree c.args.now z) r)) (sym c.in-Rmdir.is)
+    (subst (λ z. Outcome g.B.Blobs.meanings (BlobsShow g.B.Blobs.holdings c.args.b.now c.args.root.now.0) c.args.b.now c.remove_directory.new.b c.remove_directory.result (λ n r. Performed g.B.Blobs.holdings c.remove_directory.new.b c.args.root.now.0 (step n.tree c.args.now (command.Rmdir z)) r)) c.names-in-Rmdir.ensures c.remove_directory.ensures.outcome)
 
 pub returns-in-Rmdir-clause-variant : goal.returns-in-Rmdir-clause-variant
 returns-in-Rmdir-clause-variant g c = subst (λ z. IfOk c.remove_directory.result (IsReplyOf z)) (sym c.in-Rmdir.is) c.remove_directory.ensures.variant
@@ -127,8 +127,8 @@ returns-in-Rmdir-clause-sparing g c = λ n s f. subst (IsSparingIn g.B.Blobs.hol
 
 pub returns-in-Rm-clause-outcome : goal.returns-in-Rm-clause-outcome
 returns-in-Rm-clause-outcome g c =
-    subst (λ z. Outcome g.B.Blobs.meanings (Showing g.B.Blobs.holdings c.args.b.now c.args.root.now.0) c.args.b.now c.remove_file.new.b c.remove_file.result (λ n r. Performed g.B.Blobs.holdings c.remove_file.new.b c.args.root.now.0 (step n.tree c.args.now z) r)) (sym c.in-Rm.is)
-    (subst (λ z. Outcome g.B.Blobs.meanings (Showing g.B.Blobs.holdings c.args.b.now c.args.root.now.0) c.args.b.now c.remove_file.new.b c.remove_file.result (λ n r. Performed g.B.Blobs.holdings c.remove_file.new.b c.args.root.now.0 (step n.tree c.args.now (command.Rm z)) r)) c.names-in-Rm.ensures c.remove_file.ensures.outcome)
+    subst (λ z. Outcome g.B.Blobs.meanings (BlobsShow g.B.Blobs.holdings c.args.b.now c.args.root.now.0) c.args.b.now c.remove_file.new.b c.remove_file.result (λ n r. Performed g.B.Blobs.holdings c.remove_file.new.b c.args.root.now.0 (step n.tree c.args.now z) r)) (sym c.in-Rm.is)
+    (subst (λ z. Outcome g.B.Blobs.meanings (BlobsShow g.B.Blobs.holdings c.args.b.now c.args.root.now.0) c.args.b.now c.remove_file.new.b c.remove_file.result (λ n r. Performed g.B.Blobs.holdings c.remove_file.new.b c.args.root.now.0 (step n.tree c.args.now (command.Rm z)) r)) c.names-in-Rm.ensures c.remove_file.ensures.outcome)
 
 pub returns-in-Rm-clause-variant : goal.returns-in-Rm-clause-variant
 returns-in-Rm-clause-variant g c = subst (λ z. IfOk c.remove_file.result (IsReplyOf z)) (sym c.in-Rm.is) c.remove_file.ensures.variant
@@ -141,8 +141,8 @@ returns-in-Rm-clause-sparing g c = λ n s f. subst (IsSparingIn g.B.Blobs.holdin
 
 pub returns-in-Mv-clause-outcome : goal.returns-in-Mv-clause-outcome
 returns-in-Mv-clause-outcome g c =
-    subst (λ z. Outcome g.B.Blobs.meanings (Showing g.B.Blobs.holdings c.args.b.now c.args.root.now.0) c.args.b.now c.move_row.new.b c.move_row.result (λ n r. Performed g.B.Blobs.holdings c.move_row.new.b c.args.root.now.0 (step n.tree c.args.now z) r)) (sym c.in-Mv.is)
-    (subst (λ z. Outcome g.B.Blobs.meanings (Showing g.B.Blobs.holdings c.args.b.now c.args.root.now.0) c.args.b.now c.move_row.new.b c.move_row.result (λ n r. Performed g.B.Blobs.holdings c.move_row.new.b c.args.root.now.0 (step n.tree c.args.now (command.Mv c.in-Mv.from z)) r)) c.names-in-Mv-2.ensures (subst (λ z. Outcome g.B.Blobs.meanings (Showing g.B.Blobs.holdings c.args.b.now c.args.root.now.0) c.args.b.now c.move_row.new.b c.move_row.result (λ n r. Performed g.B.Blobs.holdings c.move_row.new.b c.args.root.now.0 (step n.tree c.args.now (command.Mv z c.names-in-Mv-2.result.now)) r)) c.names-in-Mv.ensures c.move_row.ensures.outcome))
+    subst (λ z. Outcome g.B.Blobs.meanings (BlobsShow g.B.Blobs.holdings c.args.b.now c.args.root.now.0) c.args.b.now c.move_row.new.b c.move_row.result (λ n r. Performed g.B.Blobs.holdings c.move_row.new.b c.args.root.now.0 (step n.tree c.args.now z) r)) (sym c.in-Mv.is)
+    (subst (λ z. Outcome g.B.Blobs.meanings (BlobsShow g.B.Blobs.holdings c.args.b.now c.args.root.now.0) c.args.b.now c.move_row.new.b c.move_row.result (λ n r. Performed g.B.Blobs.holdings c.move_row.new.b c.args.root.now.0 (step n.tree c.args.now (command.Mv c.in-Mv.from z)) r)) c.names-in-Mv-2.ensures (subst (λ z. Outcome g.B.Blobs.meanings (BlobsShow g.B.Blobs.holdings c.args.b.now c.args.root.now.0) c.args.b.now c.move_row.new.b c.move_row.result (λ n r. Performed g.B.Blobs.holdings c.move_row.new.b c.args.root.now.0 (step n.tree c.args.now (command.Mv z c.names-in-Mv-2.result.now)) r)) c.names-in-Mv.ensures c.move_row.ensures.outcome))
 
 pub returns-in-Mv-clause-variant : goal.returns-in-Mv-clause-variant
 returns-in-Mv-clause-variant g c = subst (λ z. IfOk c.move_row.result (IsReplyOf z)) (sym c.in-Mv.is) c.move_row.ensures.variant
@@ -155,8 +155,8 @@ returns-in-Mv-clause-sparing g c = λ n s f. subst (IsSparingIn g.B.Blobs.holdin
 
 pub returns-in-Write-clause-outcome : goal.returns-in-Write-clause-outcome
 returns-in-Write-clause-outcome g c =
-    subst (λ z. Outcome g.B.Blobs.meanings (Showing g.B.Blobs.holdings c.args.b.now c.args.root.now.0) c.args.b.now c.write.new.b c.write.result (λ n r. Performed g.B.Blobs.holdings c.write.new.b c.args.root.now.0 (step n.tree c.args.now z) r)) (sym c.in-Write.is)
-    (subst (λ z. Outcome g.B.Blobs.meanings (Showing g.B.Blobs.holdings c.args.b.now c.args.root.now.0) c.args.b.now c.write.new.b c.write.result (λ n r. Performed g.B.Blobs.holdings c.write.new.b c.args.root.now.0 (step n.tree c.args.now (command.Write z c.in-Write.from c.in-Write.bytes)) r)) c.names-in-Write.ensures (subst (λ z. Outcome g.B.Blobs.meanings (Showing g.B.Blobs.holdings c.args.b.now c.args.root.now.0) c.args.b.now c.write.new.b c.write.result (λ n r. Performed g.B.Blobs.holdings c.write.new.b c.args.root.now.0 (step n.tree c.args.now (command.Write c.names-in-Write.result.now c.in-Write.from z)) r)) c.as_slice-bytes.ensures c.write.ensures.outcome))
+    subst (λ z. Outcome g.B.Blobs.meanings (BlobsShow g.B.Blobs.holdings c.args.b.now c.args.root.now.0) c.args.b.now c.write.new.b c.write.result (λ n r. Performed g.B.Blobs.holdings c.write.new.b c.args.root.now.0 (step n.tree c.args.now z) r)) (sym c.in-Write.is)
+    (subst (λ z. Outcome g.B.Blobs.meanings (BlobsShow g.B.Blobs.holdings c.args.b.now c.args.root.now.0) c.args.b.now c.write.new.b c.write.result (λ n r. Performed g.B.Blobs.holdings c.write.new.b c.args.root.now.0 (step n.tree c.args.now (command.Write z c.in-Write.from c.in-Write.bytes)) r)) c.names-in-Write.ensures (subst (λ z. Outcome g.B.Blobs.meanings (BlobsShow g.B.Blobs.holdings c.args.b.now c.args.root.now.0) c.args.b.now c.write.new.b c.write.result (λ n r. Performed g.B.Blobs.holdings c.write.new.b c.args.root.now.0 (step n.tree c.args.now (command.Write c.names-in-Write.result.now c.in-Write.from z)) r)) c.as_slice-bytes.ensures c.write.ensures.outcome))
 
 pub returns-in-Write-clause-variant : goal.returns-in-Write-clause-variant
 returns-in-Write-clause-variant g c = subst (λ z. IfOk c.write.result (IsReplyOf z)) (sym c.in-Write.is) c.write.ensures.variant
@@ -172,8 +172,8 @@ returns-in-Write-clause-sparing g c = λ n s f.
 
 pub returns-in-Truncate-clause-outcome : goal.returns-in-Truncate-clause-outcome
 returns-in-Truncate-clause-outcome g c =
-    subst (λ z. Outcome g.B.Blobs.meanings (Showing g.B.Blobs.holdings c.args.b.now c.args.root.now.0) c.args.b.now c.truncate.new.b c.truncate.result (λ n r. Performed g.B.Blobs.holdings c.truncate.new.b c.args.root.now.0 (step n.tree c.args.now z) r)) (sym c.in-Truncate.is)
-    (subst (λ z. Outcome g.B.Blobs.meanings (Showing g.B.Blobs.holdings c.args.b.now c.args.root.now.0) c.args.b.now c.truncate.new.b c.truncate.result (λ n r. Performed g.B.Blobs.holdings c.truncate.new.b c.args.root.now.0 (step n.tree c.args.now (command.Truncate z c.in-Truncate.len)) r)) c.names-in-Truncate.ensures c.truncate.ensures.outcome)
+    subst (λ z. Outcome g.B.Blobs.meanings (BlobsShow g.B.Blobs.holdings c.args.b.now c.args.root.now.0) c.args.b.now c.truncate.new.b c.truncate.result (λ n r. Performed g.B.Blobs.holdings c.truncate.new.b c.args.root.now.0 (step n.tree c.args.now z) r)) (sym c.in-Truncate.is)
+    (subst (λ z. Outcome g.B.Blobs.meanings (BlobsShow g.B.Blobs.holdings c.args.b.now c.args.root.now.0) c.args.b.now c.truncate.new.b c.truncate.result (λ n r. Performed g.B.Blobs.holdings c.truncate.new.b c.args.root.now.0 (step n.tree c.args.now (command.Truncate z c.in-Truncate.len)) r)) c.names-in-Truncate.ensures c.truncate.ensures.outcome)
 
 pub returns-in-Truncate-clause-variant : goal.returns-in-Truncate-clause-variant
 returns-in-Truncate-clause-variant g c = subst (λ z. IfOk c.truncate.result (IsReplyOf z)) (sym c.in-Truncate.is) c.truncate.ensures.variant
@@ -186,8 +186,8 @@ returns-in-Truncate-clause-sparing g c = λ n s f. subst (IsSparingIn g.B.Blobs.
 
 pub returns-in-Chmod-clause-outcome : goal.returns-in-Chmod-clause-outcome
 returns-in-Chmod-clause-outcome g c =
-    subst (λ z. Outcome g.B.Blobs.meanings (Showing g.B.Blobs.holdings c.args.b.now c.args.root.now.0) c.args.b.now c.set_attributes.new.b c.set_attributes.result (λ n r. Performed g.B.Blobs.holdings c.set_attributes.new.b c.args.root.now.0 (step n.tree c.args.now z) r)) (sym c.in-Chmod.is)
-    (subst (λ z. Outcome g.B.Blobs.meanings (Showing g.B.Blobs.holdings c.args.b.now c.args.root.now.0) c.args.b.now c.set_attributes.new.b c.set_attributes.result (λ n r. Performed g.B.Blobs.holdings c.set_attributes.new.b c.args.root.now.0 (step n.tree c.args.now (command.Chmod z c.in-Chmod.mode)) r)) c.names-in-Chmod.ensures c.set_attributes.ensures.outcome)
+    subst (λ z. Outcome g.B.Blobs.meanings (BlobsShow g.B.Blobs.holdings c.args.b.now c.args.root.now.0) c.args.b.now c.set_attributes.new.b c.set_attributes.result (λ n r. Performed g.B.Blobs.holdings c.set_attributes.new.b c.args.root.now.0 (step n.tree c.args.now z) r)) (sym c.in-Chmod.is)
+    (subst (λ z. Outcome g.B.Blobs.meanings (BlobsShow g.B.Blobs.holdings c.args.b.now c.args.root.now.0) c.args.b.now c.set_attributes.new.b c.set_attributes.result (λ n r. Performed g.B.Blobs.holdings c.set_attributes.new.b c.args.root.now.0 (step n.tree c.args.now (command.Chmod z c.in-Chmod.mode)) r)) c.names-in-Chmod.ensures c.set_attributes.ensures.outcome)
 
 pub returns-in-Chmod-clause-variant : goal.returns-in-Chmod-clause-variant
 returns-in-Chmod-clause-variant g c = subst (λ z. IfOk c.set_attributes.result (IsReplyOf z)) (sym c.in-Chmod.is) c.set_attributes.ensures.variant
@@ -200,8 +200,8 @@ returns-in-Chmod-clause-sparing g c = λ n s f. subst (IsSparingIn g.B.Blobs.hol
 
 pub returns-in-Chown-clause-outcome : goal.returns-in-Chown-clause-outcome
 returns-in-Chown-clause-outcome g c =
-    subst (λ z. Outcome g.B.Blobs.meanings (Showing g.B.Blobs.holdings c.args.b.now c.args.root.now.0) c.args.b.now c.set_attributes-in-Chown.new.b c.set_attributes-in-Chown.result (λ n r. Performed g.B.Blobs.holdings c.set_attributes-in-Chown.new.b c.args.root.now.0 (step n.tree c.args.now z) r)) (sym c.in-Chown.is)
-    (subst (λ z. Outcome g.B.Blobs.meanings (Showing g.B.Blobs.holdings c.args.b.now c.args.root.now.0) c.args.b.now c.set_attributes-in-Chown.new.b c.set_attributes-in-Chown.result (λ n r. Performed g.B.Blobs.holdings c.set_attributes-in-Chown.new.b c.args.root.now.0 (step n.tree c.args.now (command.Chown z c.in-Chown.uid c.in-Chown.gid)) r)) c.names-in-Chown.ensures c.set_attributes-in-Chown.ensures.outcome)
+    subst (λ z. Outcome g.B.Blobs.meanings (BlobsShow g.B.Blobs.holdings c.args.b.now c.args.root.now.0) c.args.b.now c.set_attributes-in-Chown.new.b c.set_attributes-in-Chown.result (λ n r. Performed g.B.Blobs.holdings c.set_attributes-in-Chown.new.b c.args.root.now.0 (step n.tree c.args.now z) r)) (sym c.in-Chown.is)
+    (subst (λ z. Outcome g.B.Blobs.meanings (BlobsShow g.B.Blobs.holdings c.args.b.now c.args.root.now.0) c.args.b.now c.set_attributes-in-Chown.new.b c.set_attributes-in-Chown.result (λ n r. Performed g.B.Blobs.holdings c.set_attributes-in-Chown.new.b c.args.root.now.0 (step n.tree c.args.now (command.Chown z c.in-Chown.uid c.in-Chown.gid)) r)) c.names-in-Chown.ensures c.set_attributes-in-Chown.ensures.outcome)
 
 pub returns-in-Chown-clause-variant : goal.returns-in-Chown-clause-variant
 returns-in-Chown-clause-variant g c = subst (λ z. IfOk c.set_attributes-in-Chown.result (IsReplyOf z)) (sym c.in-Chown.is) c.set_attributes-in-Chown.ensures.variant
@@ -214,8 +214,8 @@ returns-in-Chown-clause-sparing g c = λ n s f. subst (IsSparingIn g.B.Blobs.hol
 
 pub returns-in-Utime-clause-outcome : goal.returns-in-Utime-clause-outcome
 returns-in-Utime-clause-outcome g c =
-    subst (λ z. Outcome g.B.Blobs.meanings (Showing g.B.Blobs.holdings c.args.b.now c.args.root.now.0) c.args.b.now c.set_attributes-in-Utime.new.b c.set_attributes-in-Utime.result (λ n r. Performed g.B.Blobs.holdings c.set_attributes-in-Utime.new.b c.args.root.now.0 (step n.tree c.args.now z) r)) (sym c.in-Utime.is)
-    (subst (λ z. Outcome g.B.Blobs.meanings (Showing g.B.Blobs.holdings c.args.b.now c.args.root.now.0) c.args.b.now c.set_attributes-in-Utime.new.b c.set_attributes-in-Utime.result (λ n r. Performed g.B.Blobs.holdings c.set_attributes-in-Utime.new.b c.args.root.now.0 (step n.tree c.args.now (command.Utime z c.in-Utime.atime c.in-Utime.mtime)) r)) c.names-in-Utime.ensures c.set_attributes-in-Utime.ensures.outcome)
+    subst (λ z. Outcome g.B.Blobs.meanings (BlobsShow g.B.Blobs.holdings c.args.b.now c.args.root.now.0) c.args.b.now c.set_attributes-in-Utime.new.b c.set_attributes-in-Utime.result (λ n r. Performed g.B.Blobs.holdings c.set_attributes-in-Utime.new.b c.args.root.now.0 (step n.tree c.args.now z) r)) (sym c.in-Utime.is)
+    (subst (λ z. Outcome g.B.Blobs.meanings (BlobsShow g.B.Blobs.holdings c.args.b.now c.args.root.now.0) c.args.b.now c.set_attributes-in-Utime.new.b c.set_attributes-in-Utime.result (λ n r. Performed g.B.Blobs.holdings c.set_attributes-in-Utime.new.b c.args.root.now.0 (step n.tree c.args.now (command.Utime z c.in-Utime.atime c.in-Utime.mtime)) r)) c.names-in-Utime.ensures c.set_attributes-in-Utime.ensures.outcome)
 
 pub returns-in-Utime-clause-variant : goal.returns-in-Utime-clause-variant
 returns-in-Utime-clause-variant g c = subst (λ z. IfOk c.set_attributes-in-Utime.result (IsReplyOf z)) (sym c.in-Utime.is) c.set_attributes-in-Utime.ensures.variant

@@ -8,7 +8,7 @@ use Rattle.fs_model.specs.Tree.{upward, is_directory}
 use Rattle.fs_model.specs.LookUp.{look}
 use Rattle.fs_model.specs.Step as model
 use Rattle.fs_model.proofs.LookUpLemmas.{look-found}
-use Rattle.forest.specs.Showing.{Showing, Performed}
+use Rattle.forest.specs.Showing.{BlobsShow, Performed}
 use Rattle.path_walks.proofs.Steps.{wrong_here}
 use Rattle.path_layer.proofs.Told.{stays}
 use Rattle.path_layer.proofs.Seeing.{here, wrong_steps, holding}
@@ -41,7 +41,7 @@ pub returns-in_ok-bytes-in-Link-clause-outcome : goal.returns-in_ok-bytes-in-Lin
 returns-in_ok-bytes-in-Link-clause-outcome g c =
     let p = upward c.args.names.now in
     let place = c.in-Here.place in
-    let o : Outcome g.B.Blobs.meanings (Showing g.B.Blobs.holdings c.args.b.now c.args.root.now.0) c.args.b.now c.bytes_at.new.b (Ok c.in_ok-bytes-in-Link.bytes)
+    let o : Outcome g.B.Blobs.meanings (BlobsShow g.B.Blobs.holdings c.args.b.now c.args.root.now.0) c.args.b.now c.bytes_at.new.b (Ok c.in_ok-bytes-in-Link.bytes)
     (λ n y. Performed g.B.Blobs.holdings c.bytes_at.new.b c.args.root.now.0 (model.target_read n.tree (look n.tree p)) (Target y.items)) =
     then_ g.met.B.Blobs.lawful c.in_ok-place.ensures.outcome
     (λ n h. holding n c.walk.new.b h.0 p place (here n.tree n.ids p c.in_ok-place.field-0 h.1 place c.in-Here.is) (ap is_directory c.in-Link.is)) c.in_ok-bytes-in-Link.ensures.outcome

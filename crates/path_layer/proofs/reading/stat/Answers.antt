@@ -6,7 +6,7 @@ use Rattle.fs_model.specs.Tree.{upward}
 use Rattle.fs_model.specs.LookUp.{look}
 use Rattle.fs_model.specs.Step as model
 use Rattle.fs_model.proofs.LookUpLemmas.{look-found}
-use Rattle.forest.specs.Showing.{Showing, Performed}
+use Rattle.forest.specs.Showing.{BlobsShow, Performed}
 use Rattle.path_walks.proofs.Steps.{wrong_here}
 use Rattle.path_layer.proofs.Told.{stays}
 use Rattle.path_layer.proofs.Seeing.{here, wrong_steps, standing}
@@ -24,7 +24,7 @@ pub returns-in_ok-size-in-Here-clause-outcome : goal.returns-in_ok-size-in-Here-
 returns-in_ok-size-in-Here-clause-outcome g c =
     let p = upward c.args.names.now in
     let place = c.in-Here.place in
-    let o : Outcome g.B.Blobs.meanings (Showing g.B.Blobs.holdings c.args.b.now c.args.root.now.0) c.args.b.now c.size_at.new.b (Ok c.in_ok-size-in-Here.size)
+    let o : Outcome g.B.Blobs.meanings (BlobsShow g.B.Blobs.holdings c.args.b.now c.args.root.now.0) c.args.b.now c.size_at.new.b (Ok c.in_ok-size-in-Here.size)
     (λ n y. Performed g.B.Blobs.holdings c.size_at.new.b c.args.root.now.0 (model.told n.tree (look n.tree p)) (Info place.attr y)) =
     then_ g.met.B.Blobs.lawful c.in_ok-place.ensures.outcome
     (λ n h. standing n c.walk.new.b h.0 p place (here n.tree n.ids p c.in_ok-place.field-0 h.1 place c.in-Here.is)) c.in_ok-size-in-Here.ensures.outcome

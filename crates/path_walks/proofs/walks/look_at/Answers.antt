@@ -2,7 +2,7 @@ use Rattle.std.proofs.Common.{ap, subst}
 use Rattle.std.proofs.lemmas.Result.{err_from_is_err_and}
 use Rattle.outcome.specs.Outcome.{Outcome, then_, failed_, answered}
 use Rattle.fs_model.specs.Tree.{upward, is_directory}
-use Rattle.forest.specs.Showing.{Showing}
+use Rattle.forest.specs.Showing.{BlobsShow}
 use Rattle.path_walks.specs.Sights.{SightIs, sight_of}
 use Rattle.std.proofs.Common.{Ok}
 use Rattle.path_walks.proofs.Steps.{at_here, wrong_here, directory_seen, seen_under, no_folder}
@@ -17,7 +17,7 @@ returns-in_err-attr-in-Directory-clause-outcome g c =
 
 pub returns-in-Some-clause-outcome : goal.returns-in-Some-clause-outcome
 returns-in-Some-clause-outcome g c =
-    let o : Outcome g.B.Blobs.meanings (Showing g.B.Blobs.holdings c.args.b.now c.args.root.now.0) c.args.b.now c.find_target.new.b (Ok c.in_ok-attr-in-Directory.field-0)
+    let o : Outcome g.B.Blobs.meanings (BlobsShow g.B.Blobs.holdings c.args.b.now c.args.root.now.0) c.args.b.now c.find_target.new.b (Ok c.in_ok-attr-in-Directory.field-0)
     (λ n y. g.B.Blobs.holdings.stands_for c.find_target.new.b n.map × SightIs n.tree n.ids (upward c.args.names.now) c.args.name.now (sight_of c.in-Here.dir y)) =
     then_ g.met.B.Blobs.lawful c.in_ok-dir.ensures.outcome
     (λ n h. directory_seen n.shows h.0 (upward c.args.names.now) c.in-Here.dir (at_here n.tree n.ids (upward c.args.names.now) c.in_ok-dir.field-0 h.1 c.in-Here.dir c.in-Here.is) c.in-Directory.is)
@@ -27,7 +27,7 @@ returns-in-Some-clause-outcome g c =
 
 pub returns-in-None-clause-outcome : goal.returns-in-None-clause-outcome
 returns-in-None-clause-outcome g c =
-    let o : Outcome g.B.Blobs.meanings (Showing g.B.Blobs.holdings c.args.b.now c.args.root.now.0) c.args.b.now c.find_target.new.b (Ok c.in_ok-attr-in-Directory.field-0)
+    let o : Outcome g.B.Blobs.meanings (BlobsShow g.B.Blobs.holdings c.args.b.now c.args.root.now.0) c.args.b.now c.find_target.new.b (Ok c.in_ok-attr-in-Directory.field-0)
     (λ n y. g.B.Blobs.holdings.stands_for c.find_target.new.b n.map × SightIs n.tree n.ids (upward c.args.names.now) c.args.name.now (sight_of c.in-Here.dir y)) =
     then_ g.met.B.Blobs.lawful c.in_ok-dir.ensures.outcome
     (λ n h. directory_seen n.shows h.0 (upward c.args.names.now) c.in-Here.dir (at_here n.tree n.ids (upward c.args.names.now) c.in_ok-dir.field-0 h.1 c.in-Here.dir c.in-Here.is) c.in-Directory.is)

@@ -1,7 +1,7 @@
 use Rattle.std.proofs.Common.{sym, ◌∙◌, ap, subst}
 use Rattle.fs_model.specs.Tree.{upward, path_cmp}
 use Rattle.fs_model.proofs.TreeLemmas.{path_total}
-use Rattle.row_table.specs.Sorted.{IsAt}
+use Rattle.row_table.specs.Sorted.{IsElementAt}
 use Rattle.row_table.specs.Rows.{folder_entry}
 use Rattle.row_table.specs.Formed.{AllFull}
 use Rattle.row_table.proofs.SortedLemmas.{set_put}
@@ -12,8 +12,8 @@ pub returns-in-Ok-clause-entries : goal.returns-in-Ok-clause-entries
 returns-in-Ok-clause-entries c =
     let fs = c.args.folders.now.items in
     let x = c.index_mut.result.now in
-    let at = subst (λ z. IsAt path_cmp folder_entry fs (upward z) c.in-Ok.f) (c.names.ensures ∙ ap (λ g. g.path) c.deref-2.ensures)
-    (subst (λ z. IsAt path_cmp folder_entry z (upward c.names.result.now) c.in-Ok.f) c.deref.ensures.value c.in-Ok.ensures.found) in
+    let at = subst (λ z. IsElementAt path_cmp folder_entry fs (upward z) c.in-Ok.f) (c.names.ensures ∙ ap (λ g. g.path) c.deref-2.ensures)
+    (subst (λ z. IsElementAt path_cmp folder_entry z (upward c.names.result.now) c.in-Ok.f) c.deref.ensures.value c.in-Ok.ensures.found) in
     set_put path_total folder_entry fs c.in-Ok.f c.args.folder x c.requires.sorted at.in_range (sym (at.key x))
 
 pub returns-in-Ok-clause-full : goal.returns-in-Ok-clause-full

@@ -6,7 +6,7 @@ use Rattle.outcome.specs.Outcome.{first_, then_, failed_, answered, no_memory}
 use Rattle.store_api.specs.declared.tx.Tx.{Tx}
 use Rattle.store_api.specs.Content.{Changes, over}
 use Rattle.store_api.specs.Overlay.{holdings_over, lawful_over, changed_over}
-use Rattle.store_session.specs.Followed.{Follows}
+use Rattle.store_session.specs.Followed.{ContentFollows}
 use Rattle.store_session.proofs.Following.{found_none, found_some, put_over}
 use Rattle.store_session.proofs.client.follow.Goals as goal
 
@@ -66,4 +66,4 @@ returns g c =
     let b = c.load.new.self in
     let one = first_ {N = H.told a ≡ true} {R = λ n y. bytes_of y ≡ H.content a c.args.id.now.0} (λ n. tt) c.in_ok-bytes.ensures.outcome (λ n y h. h) in
     let both = then_ laws {R = λ n y. Unit {0}} one (λ n h. tt) c.in_ok-bytes-2.ensures.outcome (λ n h y k. tt) in
-    no_memory {Q = λ n found. Follows (H.content a) (H.content c.put.new.self) c.args.id.now.0 found} (changed_over f changes g.S.Blocks.meanings g.S.Blocks.holdings {y = c.in_ok-bytes-2.field-0} {Q = λ n y. Unit {0}} a c.load-2.new.self c.put.new.self c.put.ensures.store c.put.ensures.intact both (λ n p. p))
+    no_memory {Q = λ n found. ContentFollows (H.content a) (H.content c.put.new.self) c.args.id.now.0 found} (changed_over f changes g.S.Blocks.meanings g.S.Blocks.holdings {y = c.in_ok-bytes-2.field-0} {Q = λ n y. Unit {0}} a c.load-2.new.self c.put.new.self c.put.ensures.store c.put.ensures.intact both (λ n p. p))

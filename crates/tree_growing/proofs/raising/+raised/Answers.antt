@@ -9,7 +9,7 @@ use Rattle.data_tree.specs.Trees.{span}
 use Rattle.data_tree.proofs.Levels.{span-some}
 use Rattle.data_tree.proofs.Loads.{store_in, changes_in, tx_holdings}
 use Rattle.data_tree.proofs.Puts.{keeps_same}
-use Rattle.tree_growing.specs.Growing.{Grown, MayRaise, Raised}
+use Rattle.tree_growing.specs.Growing.{Grown, MayGrow, Raised}
 use Rattle.tree_growing.proofs.Rising.{filled_up, raise_more, risen}
 use Rattle.tree_growing.proofs.raising.+raised.Goals as goal
 
@@ -64,4 +64,4 @@ returns-clause-raised g t c m =
     (λ less. omega (arith, full.1 less, c.requires.level, all)) fits
     (λ w t ids holds alone some full is.
     subst (λ cs. Grown H a d above (inner above cs) (w ++ t) ids) (sym built.1.0) (risen {H = H} {a = a} {b = b} {c = d} depth above first (node_of c.args.node) built.0 w t ids holds alone c.in_ok-first.ensures.new c.in_ok-first.ensures.sets ab bd some full (subst (λ x. BuiltTrees H b d depth built.0 x) (sym is) built.1.1) deep))
-    (subst (λ xs. (m : MayRaise H d above up c.args.n (length xs)) → Raised H d e last (m.bytes ++ xs) m.ids × (more ≡ length xs)) cut c.in_ok-node.ensures.raised) m
+    (subst (λ xs. (m : MayGrow H d above up c.args.n (length xs)) → Raised H d e last (m.bytes ++ xs) m.ids × (more ≡ length xs)) cut c.in_ok-node.ensures.raised) m

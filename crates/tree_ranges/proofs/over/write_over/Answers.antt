@@ -8,7 +8,7 @@ use Rattle.data_tree.proofs.Loads.{store_in, changes_in, tx_holdings, tx_laws}
 use Rattle.data_tree.proofs.Puts.{keeps_below, unforged_before}
 use Rattle.tree_ranges.specs.Border.{Grew}
 use Rattle.tree_ranges.specs.Ranges.{IsOpened}
-use Rattle.tree_writing.specs.Writing.{MayWrite, Wrote, written_at}
+use Rattle.tree_writing.specs.Writing.{MayWrite, WroteTree, written_at}
 use Rattle.tree_ranges.proofs.Borders.{border_back, border_only, range_only}
 use Rattle.tree_ranges.proofs.Roots.{root_wrote, wrote_then, written_over}
 use Rattle.tree_ranges.proofs.Inside.{root_tree}
@@ -44,7 +44,7 @@ returns-clause-outcome g c =
     let rest_len : length rest ≡ length bytes - inside = ap length c.split_at.ensures.back ∙ length-drop inside bytes in
     let made : tail ≡ zeros c.saturating_sub-2.result ++ rest = c.deref.ensures.value ∙ c.in-Ok-after_zeros.ensures in
     let tail_len : length tail ≡ c.saturating_sub-2.result + length rest = ap length made ∙ length-append (zeros c.saturating_sub-2.result) rest ∙ ap (λ k. k + length rest) (length-replicate c.saturating_sub-2.result 0) in
-    let one = first_ {N = IsOpened H a root depth c.args.len} {R = λ n _. Wrote H a d depth root (written_at from piece n.tree.bytes) n.tree.ids}
+    let one = first_ {N = IsOpened H a root depth c.args.len} {R = λ n _. WroteTree H a d depth root (written_at from piece n.tree.bytes) n.tree.ids}
     (λ n. record { tree = root_tree depth n.told n.tree n.same; inside = λ some. omega (arith, some, piece_len, c.saturating_sub.ensures, n.long) }) c.in-Ok.ensures.outcome (λ n y w. w) in
     then_ laws one
     (λ n w.

@@ -2,7 +2,7 @@ use Rattle.std.proofs.Common.{◌≡◌, ◌+◌, ◌-◌, ◌≤◌, sym, ◌�
 use Rattle.block_id.specs.declared.id.BlockId.{BlockId}
 use Rattle.outcome.specs.Outcome.{first_, idle, then_, failed_, answered}
 use Rattle.data_nodes.specs.Layout.{node_of, ids_of, leaf, inner, room, fan_out, FitsPayload, IsNode}
-use Rattle.tree_writing.specs.Writing.{MayWrite, MayWriteNode, MayWriteTrees, Cost}
+use Rattle.tree_writing.specs.Writing.{MayWrite, MayWriteNode, MayWriteTrees, LeafCost}
 use Rattle.data_tree.proofs.Loads.{store_in, changes_in, tx_holdings, tx_laws}
 use Rattle.data_tree.proofs.Forests.{below_of, root_apart, children_of, leaf_is, stays-same, stays-then}
 use Rattle.data_tree.proofs.Gathering.{next_child, no_child, more_children, all_children}
@@ -98,7 +98,7 @@ write_children-loop-child-preserved g t c =
     let positive = span-some (H.payload c.loop-child.tx) c.args.level.depth (steady.at_least c.loop-child.tx inv.outcome.intact) in
     let now_len = c.split_at.ensures.front_len ∙ cut in
     let rest_len = ap length c.split_at.ensures.by_index.0 ∙ length-append c.split_at.result.0.now c.split_at.result.1.now in
-    let paid = subst (λ p. Cost (room p) (fin.len c.loop-child.tx.overlay) (fin.len c.write_below.new.tx.overlay) c.loop-child.place (length c.split_at.result.0.now) c.args.level.room) inv.below.payload c.write_below.ensures.cost in
+    let paid = subst (λ p. LeafCost (room p) (fin.len c.loop-child.tx.overlay) (fin.len c.write_below.new.tx.overlay) c.loop-child.place (length c.split_at.result.0.now) c.args.level.room) inv.below.payload c.write_below.ensures.cost in
     record {
       outcome = then_ laws inv.outcome
           (λ n h. child_left child.0 rest c.args.level.room c.min.result c.split_at.result.0.now c.split_at.result.1.now (inv.below.told ∙ n.trees.told) n.trees.alone here sized cut c.split_at.ensures.front c.split_at.ensures.back h)
@@ -132,7 +132,7 @@ write_children-returns-in-Err-clause-cost g t c =
     let positive = span-some (H.payload c.loop-child.tx) c.args.level.depth (steady.at_least c.loop-child.tx inv.outcome.intact) in
     let now_len = c.split_at.ensures.front_len ∙ cut in
     let rest_len = ap length c.split_at.ensures.by_index.0 ∙ length-append c.split_at.result.0.now c.split_at.result.1.now in
-    let paid = subst (λ p. Cost (room p) (fin.len c.loop-child.tx.overlay) (fin.len c.write_below.new.tx.overlay) c.loop-child.place (length c.split_at.result.0.now) c.args.level.room) inv.below.payload c.write_below.ensures.cost in
+    let paid = subst (λ p. LeafCost (room p) (fin.len c.loop-child.tx.overlay) (fin.len c.write_below.new.tx.overlay) c.loop-child.place (length c.split_at.result.0.now) c.args.level.room) inv.below.payload c.write_below.ensures.cost in
     let next = cost_next inv.cost (length c.split_at.result.0.now) paid now_len (c.loop-child.place - c.args.level.room) (length c.split_at.result.1.now) refl rest_len (omega (arith, positive, sized)) in
     cost_done (fan_out (H.payload c.args.tx.now)) next (omega (arith, c.loop-child-test.true, c.requires.few))
 

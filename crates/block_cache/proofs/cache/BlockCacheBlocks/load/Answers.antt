@@ -2,7 +2,7 @@ use Rattle.std.proofs.Common.{◌≡◌, Bool, sym, ◌∙◌, ap, subst, is_som
 use Rattle.block_id.specs.declared.id.BlockId.{BlockId}
 use Rattle.outcome.specs.Outcome.{Outcome}
 use Rattle.outside.specs.View.{bytes_of}
-use Rattle.store_api.specs.Loads.{Answer}
+use Rattle.store_api.specs.Loads.{LoadAnswer}
 use Rattle.block_cache.specs.Payloads.{Payloads, cached_for, CachedOrNot, AfterLoad}
 use Rattle.block_cache.proofs.Lookups.{items_of}
 use Rattle.block_cache.proofs.Caching.{past, cache_of, outcome-cached, outcome-loaded}
@@ -35,7 +35,7 @@ returns-in-Some-2-clause-outcome g c =
     c.requires.1 (cached g c) loaded.stays c.in-Some-2.is loaded.none loaded.sized loaded.outcome
 
 -- the store was asked where nothing was cached
-missed : (there : Bool) (id : BlockId) (answer : Answer) (old new : Payloads) → there ≡ false → AfterLoad false id answer old new → AfterLoad there id answer old new
+missed : (there : Bool) (id : BlockId) (answer : LoadAnswer) (old new : Payloads) → there ≡ false → AfterLoad false id answer old new → AfterLoad there id answer old new
 missed there id answer old new is h = subst (λ b. AfterLoad b id answer old new) (sym is) h
 
 pub returns-in-Some-2-clause-cached : goal.returns-in-Some-2-clause-cached

@@ -9,7 +9,7 @@ use Rattle.integrity_store.specs.declared.store.IntegrityStore.{IntegrityStore}
 use Rattle.integrity_store.specs.Held.{Held}
 use Rattle.integrity_store.specs.Views.{held_by}
 use Rattle.integrity_store.proofs.Applying.{may_seal_batch, applied_nothing}
-use Rattle.integrity_store.proofs.Batches.{is_spent, isnt_spent, Listed, may_mark_listed, room, Marked, applied_batch, drawn_in, whole_batch, changed_batch}
+use Rattle.integrity_store.proofs.Batches.{is_spent, isnt_spent, Listed, may_come_listed, room, Marked, applied_batch, drawn_in, whole_batch, changed_batch}
 use Rattle.integrity_store.proofs.apply.IntegrityStoreBlocksMut.apply.Given.{Over}
 use Rattle.integrity_store.proofs.apply.IntegrityStoreBlocksMut.apply.Goals as goal
 
@@ -43,7 +43,7 @@ put_sealed-requires-clause-may g c =
     may_seal_batch (held g) (trace g) c.args.self.now c.args.batch.now (entries_of c.entries-entries.result.now) c.entries-entries.ensures c.requires.intact.0 c.requires.fits
     (sym c.some_spent.ensures ∙ c.if-some_spent.false)
 
-listed : (g : Over) (c : goal.After-mark_all-arg-1 g)
+listed : (g : Over) (c : goal.After-raise_or_bury_all-arg-1 g)
     → Listed (held g) (trace g) c.args.self.now (held g c.put_sealed.new.self) c.args.batch.now (entries_of c.entries-entries.result.now) (g.R.Rng.stream c.args.chance.now) (g.R.Rng.stream c.put_sealed.new.chance)
 listed g c = record {
   are = c.entries-entries.ensures;
@@ -53,16 +53,16 @@ listed g c = record {
   lists = c.in-Ok.ensures.listed;
 }
 
-pub mark_all-requires-clause-may : goal.mark_all-requires-clause-may
-mark_all-requires-clause-may g c = may_mark_listed (listed g c)
+pub raise_or_bury_all-requires-clause-may : goal.raise_or_bury_all-requires-clause-may
+raise_or_bury_all-requires-clause-may g c = may_come_listed (listed g c)
 
-pub mark_all-requires-clause-room : goal.mark_all-requires-clause-room
-mark_all-requires-clause-room g c = room (listed g c) c.put_sealed.new.self.state.known.spare c.in-Ok.ensures.room
+pub raise_or_bury_all-requires-clause-room : goal.raise_or_bury_all-requires-clause-room
+raise_or_bury_all-requires-clause-room g c = room (listed g c) c.put_sealed.new.self.state.known.spare c.in-Ok.ensures.room
 
 -- ---- what is returned after Ok
 
 abbrev new : (g : Over) → goal.After-entries-waiting g → Store g
-new g c = let put = c.put_sealed.new.self in record put { state = record put.state { known = c.mark_all.new.known } }
+new g c = let put = c.put_sealed.new.self in record put { state = record put.state { known = c.raise_or_bury_all.new.known } }
 
 marked : (g : Over) (c : goal.After-entries-waiting g)
     → Marked (held g) (trace g) c.args.self.now (new g c) (held g c.put_sealed.new.self) c.args.batch.now (entries_of c.entries-entries.result.now) (g.R.Rng.stream c.args.chance.now) (g.R.Rng.stream c.put_sealed.new.chance)
@@ -74,8 +74,8 @@ marked g c = record {
     none_spent = sym c.some_spent.ensures ∙ c.if-some_spent.false;
     lists = c.in-Ok.ensures.listed;
   };
-  known = c.mark_all.new.known.marks;
-  marked = c.mark_all.ensures;
+  known = c.raise_or_bury_all.new.known.lives;
+  marked = c.raise_or_bury_all.ensures;
   held_is = refl;
   trace_is = ap g.V.Vault.trace c.in-Ok.ensures.vault;
   fit = c.len-used.ensures.fits;

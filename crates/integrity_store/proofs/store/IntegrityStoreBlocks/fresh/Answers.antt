@@ -2,4 +2,4 @@ use Rattle.integrity_store.proofs.Freshness.{first_free}
 use Rattle.integrity_store.proofs.store.IntegrityStoreBlocks.fresh.Goals as goal
 
 pub returns : goal.returns
-returns g c = first_free c.args.self.now.state.known.marks c.args.drawn.0 c.fresh.result.0 c.fresh.ensures
+returns g c = first_free c.args.self.now.state.known.lives c.args.drawn.0 c.fresh.result.0 c.fresh.ensures

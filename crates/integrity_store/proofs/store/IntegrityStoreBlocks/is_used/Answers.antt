@@ -3,4 +3,4 @@ use Rattle.std.specs.FinMap.{contains_key-keys}
 use Rattle.integrity_store.proofs.store.IntegrityStoreBlocks.is_used.Goals as goal
 
 pub returns : goal.returns
-returns g c = c.is_used.ensures ∙ contains_key-keys c.args.self.now.state.known.marks c.args.id.now.0
+returns g c = c.is_used.ensures ∙ contains_key-keys c.args.self.now.state.known.lives c.args.id.now.0

@@ -2,12 +2,12 @@ use Rattle.std.proofs.Common.{◌≡◌, ◌≤◌, ◌++◌, ℕ, List, [], len
 use Rattle.std.proofs.lemmas.List.{take_at}
 use Rattle.std.proofs.lemmas.Grind.{common_steps}
 use Rattle.std.specs.declared.option.Option.{Option}
-use Rattle.outside.specs.Streams.{Gives}
+use Rattle.outside.specs.Streams.{WereTaken}
 use Rattle.line_io.specs.Reading.{Reading, coming}
-use Rattle.line_io.proofs.Flow.{coming-given, Gives-nil}
+use Rattle.line_io.proofs.Flow.{coming-given, WereTaken-nil}
 use Rattle.line_io.proofs.reader.LineReader.fill.Goals as goal
 
-coming_read : (block now : List ℕ) (n : ℕ) (old new : Option (List ℕ)) → now ≡ block → Gives old new (take n block)
+coming_read : (block now : List ℕ) (n : ℕ) (old new : Option (List ℕ)) → now ≡ block → WereTaken old new (take n block)
     → coming (slice_range now 0 n) new ≡ old
 coming_read block now n old new e g = ap (λ front. coming front new) (front block now n e) ∙ coming-given old new (take n block) g
   where
@@ -23,7 +23,7 @@ still_empty items other start end e h k = grind (arith, common_steps)
 pub returns-in_err-n-clause-gave : goal.returns-in_err-n-clause-gave
 returns-in_err-n-clause-gave g c = (
   [],
-  Gives-nil _ _ c.in_err-n.ensures.err,
+  WereTaken-nil _ _ c.in_err-n.ensures.err,
   still_empty c.self.inside.block.items _ c.self.inside.start c.self.inside.end (ap (λ (r : Reading). r.ahead) c.self.view_is ∙ c.requires) (omega arith) (omega arith)
       ∙ sym (ap (λ (l : List ℕ). l ++ []) c.requires),
 )

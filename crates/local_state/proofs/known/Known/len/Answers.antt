@@ -1,8 +1,8 @@
 use Rattle.std.proofs.Common.{sym, ap, ◌∙◌}
-use Rattle.local_state.specs.Known.{Table}
+use Rattle.local_state.specs.Known.{KnownTable}
 use Rattle.std.specs.FinMap as fin
-use Rattle.local_state.proofs.Lookups.{len-marks_of}
+use Rattle.local_state.proofs.Lookups.{len-lives_of}
 use Rattle.local_state.proofs.known.Known.len.Goals as goal
 
 pub returns-clause-len : goal.returns-clause-len
-returns-clause-len c = c.len.ensures.len ∙ sym (len-marks_of c.self.inside.marks.entries c.len.ensures.unique) ∙ ap (λ (t : Table). fin.len t.marks) c.self.view_is
+returns-clause-len c = c.len.ensures.len ∙ sym (len-lives_of c.self.inside.lives.entries c.len.ensures.unique) ∙ ap (λ (t : KnownTable). fin.len t.lives) c.self.view_is

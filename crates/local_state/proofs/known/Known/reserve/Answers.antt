@@ -1,12 +1,12 @@
 use Rattle.std.proofs.Common.{ap, subst, sym, ◌∙◌}
-use Rattle.local_state.specs.Known.{Table, Marks, FitMarks}
-use Rattle.local_state.proofs.Lookups.{marks_of-same}
+use Rattle.local_state.specs.Known.{KnownTable, Lives, FitLives}
+use Rattle.local_state.proofs.Lookups.{lives_of-same}
 use Rattle.local_state.proofs.known.Known.reserve.Goals as goal
 
-pub returns-clause-marks : goal.returns-clause-marks
-returns-clause-marks c =
-    marks_of-same c.self.inside.marks.entries c.reserve.new.self.entries c.reserve.ensures.entries.2 ∙ ap (λ (t : Table). t.marks) c.self.view_is
+pub returns-clause-lives : goal.returns-clause-lives
+returns-clause-lives c =
+    lives_of-same c.self.inside.lives.entries c.reserve.new.self.entries c.reserve.ensures.entries.2 ∙ ap (λ (t : KnownTable). t.lives) c.self.view_is
 
 pub invariant_of-self-2 : goal.invariant_of-self-2
 invariant_of-self-2 c =
-    subst (λ (m : Marks). FitMarks m) (sym (marks_of-same c.self.inside.marks.entries c.reserve.new.self.entries c.reserve.ensures.entries.2)) c.self.invariant
+    subst (λ (m : Lives). FitLives m) (sym (lives_of-same c.self.inside.lives.entries c.reserve.new.self.entries c.reserve.ensures.entries.2)) c.self.invariant

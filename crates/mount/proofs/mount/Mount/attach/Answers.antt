@@ -103,7 +103,7 @@ returns-in-Ok-start-clause-configures g c bytes told k =
     let t0 = g.V.Vault.trace c.args.vault in
     let read = trace_in g.V.Vault.trace store in
     c.in-Ok-start.ensures.configures bytes (reads_told t0 read o.reads ∙ told)
-    (config_start (g.K.Keeper.kept c.args.keeper) ((tower_durables g.V.Vault.trace).record_of store true) (plain_state c.in-Ok.loaded.state) (list_of c.in-Ok.loaded.list.items) t0 read bytes c.in-Ok.ensures.ok o.reads o.record_of k)
+    (config_start (g.K.Keeper.kept c.args.keeper) ((tower_durables g.V.Vault.trace).local_record_of store true) (plain_state c.in-Ok.loaded.state) (list_of c.in-Ok.loaded.list.items) t0 read bytes c.in-Ok.ensures.ok o.reads o.record_of k)
 
 pub returns-in-Ok-start-clause-forgeries : goal.returns-in-Ok-start-clause-forgeries
 returns-in-Ok-start-clause-forgeries g c =
@@ -156,7 +156,7 @@ returns-in-Err-start-clause-halted g c =
           (h.stands rep.keeps.content opened.0 (ap (λ (i : Identity). i.marked) o.identity) opened.1);
       configures = λ bytes told k.
           h.configures bytes (reads_told t0 read o.reads ∙ told)
-          (config_start kept ((tower_durables g.V.Vault.trace).record_of opening.store true) state list t0 read bytes l o.reads o.record_of k);
+          (config_start kept ((tower_durables g.V.Vault.trace).local_record_of opening.store true) state list t0 read bytes l o.reads o.record_of k);
       forgeries = λ opens size. stopped_forgeries g.V.Vault.trace opens size opening.store c.in-Err-start.unstarted.store h.stops;
       vault_first = o.faults;
       vault_grows = h.vault_grows;

@@ -9,7 +9,7 @@ use Rattle.config_file.specs.Settings.{settings_of}
 use Rattle.tree_commands.specs.Showing.{ShowsFiles}
 use Rattle.mount_core.specs.Configuring.{ConfigClosed}
 use Rattle.session_saver.specs.Saving.{UnlessDirectory}
-use Rattle.mount.specs.Mounts.{Closed}
+use Rattle.mount.specs.Mounts.{MountClosed}
 use Rattle.mount.specs.Tower.{trace_in, tower_meanings}
 use Rattle.mount.proofs.Standing.{closed, emptied_on}
 use Rattle.mount.proofs.mount.Mount.close.Goals as goal
@@ -21,7 +21,7 @@ returns-clause-stands g c kept now v s =
     let cfg = settings_of c.args.self.opened.config in
     let after = z.result.1 in
     let last = z.result.2 in
-    subst (λ v. Closed ShowsFiles cfg (g.K.Keeper.kept last) (g.V.Vault.trace v) kept now z.result.0) (sym c.into_vault.ensures.vault)
+    subst (λ v. MountClosed ShowsFiles cfg (g.K.Keeper.kept last) (g.V.Vault.trace v) kept now z.result.0) (sym c.into_vault.ensures.vault)
     (closed ShowsFiles g.V.Vault.trace g.V.Vault.faults g.K.Keeper cfg r.salt _ _ after last kept now z.result.0 (ap (λ (i : Identity). i.size - 78) r.identity) (ap (λ x. x.0) r.root)
     (z.ensures.identity ∙ r.identity) z.ensures.intact (z.ensures.stands kept now v s))
 

@@ -172,7 +172,7 @@ returns-in-Ok-result-clause-versions g c =
     let last = c.make-result.result.2 in
     let config = c.config_from-config.result in
     let settings = c.config_from-config.ensures.settings ∙ ap (λ d. new_settings c.args.block_size d) c.draw-draws.ensures.draws in
-    let emptied = subst (λ r. OnOk r (g.K.Keeper.kept last ≡ Some ((sealed_durables V.trace).record_of after false))) c.in-Ok-result.is y.emptied in
+    let emptied = subst (λ r. OnOk r (g.K.Keeper.kept last ≡ Some ((sealed_durables V.trace).local_record_of after false))) c.in-Ok-result.is y.emptied in
     let raised = subst (λ r. OnOk r (OnlyRootRaised (sealed_holdings V.trace) before after config.root.0)) c.in-Ok-result.is y.versions in
     subst (KnowsOnly (g.K.Keeper.kept last)) (ap (λ (s : Settings). s.root) settings)
     (knows_only V.trace V.faults before after (g.K.Keeper.kept last) config.root.0 c.new_store-store.ensures.intact c.new_store-store.ensures.unused y.intact emptied raised)
@@ -183,6 +183,6 @@ returns-in-Ok-result-clause-salt g c =
     let y = c.make-result.ensures in
     let after = c.make-result.result.1 in
     let last = c.make-result.result.2 in
-    let emptied = subst (λ r. OnOk r (g.K.Keeper.kept last ≡ Some ((sealed_durables V.trace).record_of after false))) c.in-Ok-result.is y.emptied in
+    let emptied = subst (λ r. OnOk r (g.K.Keeper.kept last ≡ Some ((sealed_durables V.trace).local_record_of after false))) c.in-Ok-result.is y.emptied in
     subst (HasSalt (g.K.Keeper.kept last)) (ap (λ (d : Draws). d.key_salt) c.draw-draws.ensures.draws)
     (has_salt V.trace V.faults after (g.K.Keeper.kept last) (settings_of c.config_from-config.result) c.draw-draws.result.key_salt y.intact emptied (y.identity ∙ c.new_store-store.ensures.identity))

@@ -11,7 +11,7 @@ use Rattle.store_api.specs.Overlay.{lawful_over}
 use Rattle.mount_core.specs.Answers.{is_structure}
 use Rattle.mount_core.specs.Causes.{SpentCause}
 use Rattle.mount_core.specs.Sparing.{FewRaised}
-use Rattle.mount_core.specs.Standing.{Stands, Performed}
+use Rattle.mount_core.specs.Standing.{CoreStands, CorePerformed}
 use Rattle.mount_core.proofs.Lines.{fits_empty, configures_loaded, calm, of_blocks, spent_on, stays_on}
 use Rattle.mount_core.proofs.Asking.{shown_now, asked, performed_failed}
 use Rattle.mount_core.proofs.Versions.{Raised, raised_stays, raised_on, few_stays, few_on, few_changed, always_inside, on_inside, spent_before}
@@ -23,7 +23,7 @@ abbrev CoreOf : Over → Type 0
 CoreOf g = Core g.row.S.Denot g.row.K.Denot
 
 abbrev StandsBy : (g : Over) → CoreOf g → Tree → Tree → Type 0
-StandsBy g core kept now = Stands ShowsFiles g.S.Blocks.meanings g.S.Blocks.holdings g.S.Durable.durables g.S.Durable.records g.K.Keeper core kept now
+StandsBy g core kept now = CoreStands ShowsFiles g.S.Blocks.meanings g.S.Blocks.holdings g.S.Durable.durables g.S.Durable.records g.K.Keeper core kept now
 
 pub perform-requires-clause-intact : goal.perform-requires-clause-intact
 perform-requires-clause-intact g c = (
@@ -73,7 +73,7 @@ returns-in-Err-clause-stands g c kept present s few =
     let o = c.perform.ensures.outcome in
     let same = c.abandon.ensures.store in
     let unforged : g.S.Blocks.meanings.forgeries c.perform.new.blobs.tx.store ≤ g.S.Blocks.meanings.forgeries old.blobs.tx.store = subst (λ x. g.S.Blocks.meanings.forgeries x ≤ g.S.Blocks.meanings.forgeries old.blobs.tx.store) same few in
-    subst (λ a. Performed ShowsFiles g.S.Blocks.meanings g.S.Blocks.holdings g.S.Durable.durables g.S.Durable.records g.K.Keeper c.args.now new kept present c.args.command.now a) (sym c.fail_answer.ensures)
+    subst (λ a. CorePerformed ShowsFiles g.S.Blocks.meanings g.S.Blocks.holdings g.S.Durable.durables g.S.Durable.records g.K.Keeper c.args.now new kept present c.args.command.now a) (sym c.fail_answer.ensures)
     (performed_failed ShowsFiles g.S.Blocks.meanings g.S.Blocks.holdings g.S.Durable.durables g.S.Durable.records g.K.Keeper files_same g.met.S.Blocks.steady g.S.BlocksMut.applied
     g.met.S.BlocksMut.settled g.met.S.Durable.enduring c.args.now old new kept present c.args.command.now c.in-Err.fail s (subst (λ x. g.S.Blocks.meanings.loaded old.blobs.tx.store x) (sym same) o.loaded) refl refl
     (subst g.S.Blocks.meanings.sound (sym same) (o.sound s.sound unforged)))

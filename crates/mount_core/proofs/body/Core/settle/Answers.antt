@@ -11,7 +11,7 @@ use Rattle.tree_commands.proofs.Shows.{files_same}
 use Rattle.mount_core.specs.declared.body.Core.{Core}
 use Rattle.answers.specs.Sessions.{IsError}
 use Rattle.fs_model.specs.Step.{Stepped}
-use Rattle.mount_core.specs.Standing.{Asked, Stands}
+use Rattle.mount_core.specs.Standing.{Unapplied, CoreStands}
 use Rattle.mount_core.proofs.Lines.{performed_same, stands_on, over_none, none_of, looks_next, error_next, spent_live, true_is_false}
 use Rattle.mount_core.proofs.Versions.{raised_same}
 use Rattle.mount_core.proofs.body.Core.settle.Given.{Over}
@@ -19,10 +19,10 @@ use Rattle.mount_core.proofs.body.Core.settle.Goals as goal
 use Rattle.mount_core.proofs.body.Core.settle.Goals.{then-only_looks-via-then-only_looks, then-only_looks-via-else-only_looks+then-is_error}
 
 abbrev AskedBy : (g : Over) → Instant → Core g.row.S.Denot g.row.K.Denot → Tree → Tree → Command → Reply → Type 0
-AskedBy g moment core kept now command reply = Asked ShowsFiles g.S.Blocks.meanings g.S.Blocks.holdings g.S.Durable.durables g.S.Durable.records g.K.Keeper moment core kept now command reply
+AskedBy g moment core kept now command reply = Unapplied ShowsFiles g.S.Blocks.meanings g.S.Blocks.holdings g.S.Durable.durables g.S.Durable.records g.K.Keeper moment core kept now command reply
 
 abbrev StandsBy : (g : Over) → Core g.row.S.Denot g.row.K.Denot → Tree → Tree → Type 0
-StandsBy g core kept now = Stands ShowsFiles g.S.Blocks.meanings g.S.Blocks.holdings g.S.Durable.durables g.S.Durable.records g.K.Keeper core kept now
+StandsBy g core kept now = CoreStands ShowsFiles g.S.Blocks.meanings g.S.Blocks.holdings g.S.Durable.durables g.S.Durable.records g.K.Keeper core kept now
 
 as_stands : (g : Over) (moment : Instant) (core : Core g.row.S.Denot g.row.K.Denot) (kept now : Tree) (command : Command) (reply : Reply) → AskedBy g moment core kept now command reply → StandsBy g core kept now
 as_stands g moment core kept now command reply a = record { keeps = a.keeps; sound = a.sound; unmarked = a.unmarked; shown = a.shown }

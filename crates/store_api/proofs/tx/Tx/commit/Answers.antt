@@ -1,5 +1,5 @@
 use Rattle.std.proofs.Common.{sym, subst}
-use Rattle.store_api.specs.Holdings.{Fits, IsFew}
+use Rattle.store_api.specs.Holdings.{FitsStore, IsFew}
 use Rattle.store_api.proofs.Overlays.{fits_nothing, fits-stays}
 use Rattle.store_api.proofs.tx.Tx.commit.Goals as goal
 
@@ -14,4 +14,4 @@ returns-in_err-apply-clause-intact g c =
     )
 
 pub returns-clause-intact : goal.returns-clause-intact
-returns-clause-intact g c = (c.apply.ensures.intact, record { fits = subst (Fits g.S.Blocks.holdings c.apply.new.self) (sym c.clear.ensures) (fits_nothing g.S.Blocks.holdings c.apply.new.self); few = c.in_ok-apply.ensures.changed.few c.requires.1.few })
+returns-clause-intact g c = (c.apply.ensures.intact, record { fits = subst (FitsStore g.S.Blocks.holdings c.apply.new.self) (sym c.clear.ensures) (fits_nothing g.S.Blocks.holdings c.apply.new.self); few = c.in_ok-apply.ensures.changed.few c.requires.1.few })

@@ -1,5 +1,5 @@
 use Rattle.std.proofs.Common.{sym, ◌∙◌, subst}
-use Rattle.store_api.specs.Holdings.{Fits}
+use Rattle.store_api.specs.Holdings.{FitsStore}
 use Rattle.store_api.proofs.Overlays.{fits-remove_or_not, fits-forget}
 use Rattle.store_api.proofs.tx.Tx.remove.Goals as goal
 
@@ -15,4 +15,4 @@ returns-then-is_used-clause-intact g c = (
 
 pub returns-clause-intact : goal.returns-clause-intact
 returns-clause-intact g c =
-    (c.requires.intact.0, record { fits = subst (Fits g.S.Blocks.holdings c.args.self.now.store) (sym c.forget.ensures) (fits-forget g.S.Blocks.holdings c.args.self.now.store c.args.self.now.overlay c.args.id.now.0 c.requires.intact.1.fits); few = c.requires.intact.1.few })
+    (c.requires.intact.0, record { fits = subst (FitsStore g.S.Blocks.holdings c.args.self.now.store) (sym c.forget.ensures) (fits-forget g.S.Blocks.holdings c.args.self.now.store c.args.self.now.overlay c.args.id.now.0 c.requires.intact.1.fits); few = c.requires.intact.1.few })

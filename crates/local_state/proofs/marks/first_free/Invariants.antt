@@ -1,5 +1,0 @@
-use Rattle.local_state.proofs.Ahead.{Passed}
-use Rattle.local_state.proofs.marks.first_free.Given as goal
-
-abbrev pub invariant-candidates : goal.invariant-candidates
-invariant-candidates l = Passed l.fn.drawn l.id l.counter l.marks.entries
