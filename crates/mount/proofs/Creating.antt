@@ -64,7 +64,7 @@ pub has_salt : {V : Type 0} (trace : V → Option (List Call)) (faults : V → �
     → kept ≡ Some ((sealed_durables trace).local_record_of after false) → identity_of (sealed_held after) ≡ identity_for c salt → HasSalt kept salt
 has_salt trace faults after kept c salt whole is opened_as state list l =
     let h = sealed_held after in
-    let same = one_reading state h.state list [] l.has_record (listed_has h.state h.list false whole.0.has_record) (some_same (sym l.kept ∙ is)) in
+    let same = one_reading state h.state list [] l.has_record (listed_has h.state h.list false whole.0.has_record) (same_Some _ _ (sym l.kept ∙ is)) in
     ap (λ (s : PlainState). s.key_salt) same.0 ∙ ap (λ (i : Identity). i.key_salt) opened_as
 
 pub make_cause : (kept : Option (List ℕ)) (t0 t1 : Option (List Call)) (v0 va v1 k0 ka k1 : ℕ) (result : Result Unit SyncError) (e : SyncError) → result ≡ Err e → v0 ≤ va → k0 ≤ ka
