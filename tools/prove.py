@@ -7,7 +7,7 @@ proves up to JOBS libraries at once, and gives a library the processors that no 
 comes for each that is done, with what rt said of it. Ends with 0 where all are proved.
 
 `rt` locks a crate and all below it while it works. So each library is proved in a folder of its own, which holds links
-to the files that rt reads, and what was built there is moved to its place."""
+to the files that rt reads (copies, where the disk has no links), and what was built there is moved to its place."""
 
 import os
 import shutil
@@ -59,9 +59,16 @@ def weigh_chains(names, below):
     return weight
 
 
+def link_or_copy(old, new):
+    try:
+        os.link(old, new)
+    except OSError:
+        shutil.copy2(old, new)
+
+
 def link_folder(old, new):
     if os.path.isdir(old):
-        shutil.copytree(old, new, copy_function=os.link)
+        shutil.copytree(old, new, copy_function=link_or_copy)
 
 
 def prove(name, lines, jobs):
@@ -69,7 +76,7 @@ def prove(name, lines, jobs):
     room, place = f"{TOP}/crates/cryfs/out/rooms/{name}", f"{TOP}/crates/{name}/out"
     shutil.rmtree(room, ignore_errors=True)
     os.makedirs(room)
-    os.link(f"{TOP}/HANDLES", f"{room}/HANDLES")
+    link_or_copy(f"{TOP}/HANDLES", f"{room}/HANDLES")
     with open(f"{room}/crates.txt", "w", encoding="utf-8") as file:
         file.writelines(lines.values())
     for one in lines:
