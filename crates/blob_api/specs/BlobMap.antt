@@ -8,7 +8,7 @@ use Rattle.std.specs.declared.option.Option.{Option}
 use Rattle.std.specs.declared.option.Option.TheVariants.{None, Some}
 use Rattle.outcome.specs.Meanings.{Meanings}
 use Rattle.blob_api.specs.declared.blobs.TheConstants.{MAX_BLOB}
-use Rattle.outcome.specs.Bytes.{pieces}
+use Rattle.block_id.specs.Contents.{pieces}
 
 abbrev pub Id : Type 0
 Id = List ℕ

@@ -3,7 +3,7 @@ ghost use Rattle.std.specs.Prelude.{◌≡◌, ◌≤◌, ◌+◌, length, take,
 ghost use Rattle.std.specs.FinMap.{get, insert, remove};
 ghost use Rattle.outcome.specs.Meanings.{Meanings, Lawful};
 ghost use Rattle.outcome.specs.Outcome.{Outcome};
-ghost use Rattle.outcome.specs.Bytes.{resized, written};
+ghost use Rattle.block_id.specs.Contents.{resized, written};
 ghost use Rattle.blob_api.specs.BlobMap.{BlobHoldings, BlobsSteady, StandsForMap, Has, IsNew, IsSparing};
 
 use block_id::{BlockId, Fail};

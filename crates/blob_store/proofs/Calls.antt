@@ -4,7 +4,7 @@ use Rattle.std.specs.Prelude.{Result}
 use Rattle.std.specs.FinMap.{insert, remove, len}
 use Rattle.block_id.specs.declared.fail.Fail.{Fail}
 use Rattle.block_id.specs.declared.id.BlockId.{BlockId}
-use Rattle.outcome.specs.Bytes.{pieces}
+use Rattle.block_id.specs.Contents.{pieces}
 use Rattle.outcome.specs.Meanings.{Meanings}
 use Rattle.outcome.specs.Lift.{lifted}
 use Rattle.outcome.specs.Outcome.{Outcome, first_}

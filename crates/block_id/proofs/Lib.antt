@@ -3,3 +3,4 @@ pub mod Candidates
 pub mod Conditions
 pub mod Orders
 pub mod Options
+pub mod Contents

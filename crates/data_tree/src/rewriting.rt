@@ -1,6 +1,6 @@
 // Writing a tree anew under the id of its root.
 ghost use Rattle.std.specs.Prelude.{◌≡◌, ◌≤◌, ◌<◌, ◌+◌, ◌^◌, [], ◌∷◌, true, is_some, length, IfOk, OnOk};
-ghost use Rattle.outcome.specs.Bytes.{written};
+ghost use Rattle.block_id.specs.Contents.{written};
 ghost use Rattle.outcome.specs.Outcome.{Outcome};
 ghost use Rattle.store_api.specs.Content.{Id};
 ghost use Rattle.store_api.specs.Holdings.{Stays};

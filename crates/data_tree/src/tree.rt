@@ -1,7 +1,7 @@
 // The calls on trees.
 ghost use Rattle.std.specs.Prelude.{◌≡◌, ◌≤◌, ◌<◌, ◌+◌, ◌^◌, [], length, take, drop, IfOk, IfErr, OnOk};
 ghost use Rattle.block_id.specs.declared.fail.Fail.TheVariants.{Memory};
-ghost use Rattle.outcome.specs.Bytes.{resized, written};
+ghost use Rattle.block_id.specs.Contents.{resized, written};
 ghost use Rattle.outcome.specs.Outcome.{Outcome};
 ghost use Rattle.store_api.specs.Holdings.{Stays};
 ghost use Rattle.data_tree.specs.Roots.{IsRoot, IsNewRoot, IsTooDeep};

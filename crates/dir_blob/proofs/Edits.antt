@@ -17,7 +17,8 @@ use Rattle.std.proofs.lemmas.Nat.{le-div}
 use Rattle.std.proofs.Math.Nat.{div-mul-le_self}
 use Rattle.std.proofs.Math.Seq.{take-append-add, take-append_seam, drop-append_seam}
 use Rattle.block_id.proofs.Conditions.{true_of}
-use Rattle.outcome.specs.Bytes.{zeros, resized, written, pieces}
+use Rattle.block_id.specs.Contents.{resized, written, pieces}
+use Rattle.block_id.proofs.Contents.{written_inside, written_tail, cut_written}
 use Rattle.fs_model.specs.Tree.{name_cmp}
 use Rattle.fs_model.proofs.TreeLemmas.{name_total}
 use Rattle.byte_fields.specs.Fields.{IsBytes}
@@ -27,7 +28,6 @@ use Rattle.dir_blob.proofs.EntryCodec.{entry_codec}
 use Rattle.dir_blob.proofs.Bodies.{next_of, stuck, no_more, All-at, after_shorter}
 use Rattle.dir_blob.specs.Places.{without, held, IsPlace}
 use Rattle.dir_blob.proofs.Past.{IsBelow, IsPast, place_before, place_at, place_end}
-use Rattle.fs_blobs.proofs.Parts.{written_inside, written_behind, overwritten_start}
 
 -- ---- reading past entries
 
@@ -138,35 +138,6 @@ found_end name body rest passes none all is =
 pub entry_length : (e : List ℕ × EntryTarget) → IsEntry e → length (entry_text e) ≡ 66 + length e.0
 unfolding entry_text attr_text moment_text
 entry_length e is = omega (arith, length-append e.0 (0 ∷ e.1.blob), is.blob)
-
--- ---- writing
-
-written_over : (old bytes : List ℕ) → length old ≤ length bytes → written old 0 bytes ≡ bytes
-written_over old [] le = nil_from_length old (omega arith)
-written_over old (b ∷ bytes) le = overwritten_start old (b ∷ bytes) ∙ (ap (λ x. (b ∷ bytes) ++ x) (drop_all (length (b ∷ bytes)) old le) ∙ append-nil (b ∷ bytes))
-
-written_tail : (front old bytes : List ℕ) → length old ≤ length bytes → written (front ++ old) (length front) bytes ≡ front ++ bytes
-written_tail front old bytes le =
-    let start : length front ≡ length front + 0 = omega arith in
-    ap (λ k. written (front ++ old) k bytes) start ∙ (written_behind front old 0 bytes ∙ ap (λ x. front ++ x) (written_over old bytes le))
-
-written_short : (old bytes : List ℕ) → length bytes ≤ length old → written old 0 bytes ≡ bytes ++ drop (length bytes) old
-written_short old [] le = refl
-written_short old (b ∷ bytes) le = overwritten_start old (b ∷ bytes)
-
-cut_after : (front bytes rest : List ℕ) → resized (front ++ (bytes ++ rest)) (length front + length bytes) ≡ front ++ bytes
-cut_after front bytes rest =
-    let none : (length front + length bytes) - length (front ++ (bytes ++ rest)) ≡ 0 = omega (arith, length-append front (bytes ++ rest), length-append bytes rest) in
-    ap (λ k. take (length front + length bytes) (front ++ (bytes ++ rest)) ++ zeros k) none
-    ∙ (append-nil (take (length front + length bytes) (front ++ (bytes ++ rest)))
-    ∙ (take-append-add front (bytes ++ rest) (length bytes) ∙ ap (λ x. front ++ x) (take-append_seam bytes rest)))
-
-cut_written : (front old bytes : List ℕ) → length bytes ≤ length old → resized (written (front ++ old) (length front) bytes) (length front + length bytes) ≡ front ++ bytes
-cut_written front old bytes le =
-    let start : length front ≡ length front + 0 = omega arith in
-    ap (λ x. resized x (length front + length bytes))
-    (ap (λ k. written (front ++ old) k bytes) start ∙ (written_behind front old 0 bytes ∙ ap (λ x. front ++ x) (written_short old bytes le)))
-    ∙ cut_after front bytes (drop (length bytes) old)
 
 parts_of : (seen : Listing) (own : Listing) (after : Listing) → body_of (seen ++ (own ++ after)) ≡ body_of seen ++ (body_of own ++ body_of after)
 parts_of seen own after = flat_map-append entry_text seen (own ++ after) ∙ ap (λ x. body_of seen ++ x) (flat_map-append entry_text own after)

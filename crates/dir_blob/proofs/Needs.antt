@@ -5,11 +5,11 @@ use Rattle.std.specs.FinMap.{get, find, put, insert, get-insert, same_map}
 use Rattle.std.specs.Ordering.{eq_by_cmp}
 use Rattle.std.specs.Prelude.{Bool, cond}
 use Rattle.fs_model.proofs.TreeLemmas.{name_total, name_exact, name_same}
-use Rattle.fs_model.proofs.WellFormedStep.{length-overwritten}
 use Rattle.blob_api.specs.BlobMap.{BlobMap}
 use Rattle.outcome.specs.Meanings.{Meanings}
 use Rattle.block_id.specs.declared.id.BlockId.{BlockId}
-use Rattle.outcome.specs.Bytes.{resized, written}
+use Rattle.block_id.specs.Contents.{resized, written}
+use Rattle.block_id.proofs.Contents.{length-written}
 use Rattle.blob_api.specs.BlobMap.{BlobsSteady, IsSparing}
 use Rattle.fs_model.specs.declared.attr.Attr.{Attr}
 use Rattle.fs_model.specs.Tree.{name_cmp}
@@ -42,10 +42,6 @@ whole body fits = take_all MAX_BLOB body (omega (arith, fits))
 
 pub map_here : (m : BlobMap) (id : Id) (v : List ℕ) → get (insert m id v) id ≡ Some v
 map_here m id v = get-insert name_total m id v id ∙ ap (λ b. cond b (Some v) (get m id)) (name_same id)
-
-length-written : (old : List ℕ) (from : ℕ) (bytes : List ℕ) → from + length bytes ≤ length old → length (written old from bytes) ≡ length old
-length-written old from [] le = refl
-length-written old from (b ∷ bytes) le = omega (arith, length-overwritten old from (b ∷ bytes), le)
 
 pub still_fits : (old : List ℕ) (from : ℕ) (bytes : List ℕ) → from + length bytes ≤ length old → HEADER_LEN + length old ≤ MAX_BLOB → HEADER_LEN + length (written old from bytes) ≤ MAX_BLOB
 still_fits old from bytes le fits = omega (arith, length-written old from bytes le, fits)

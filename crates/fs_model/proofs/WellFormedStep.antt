@@ -7,6 +7,8 @@ use Rattle.std.proofs.lemmas.List.Elements.{All-head, All-tail, All-same}
 use Rattle.std.proofs.lemmas.Bool.{cond_both, ltb-false, leb-true, or_parts}
 use Rattle.std.specs.FinMap.{get, insert, remove, len, empty, get-empty}
 use Rattle.std.specs.declared.option.Option.TheVariants.{None, Some}
+use Rattle.block_id.specs.Contents.{resized, overwritten}
+use Rattle.block_id.proofs.Contents.{length-resized, length-overwritten}
 use Rattle.fs_model.specs.declared.attr.Attr.{Attr}
 use Rattle.fs_model.specs.declared.attr.Kind.{Kind}
 use Rattle.fs_model.specs.declared.attr.Kind.TheVariants.{Directory, File, Link}
@@ -21,8 +23,9 @@ use Rattle.fs_model.specs.Fitting.{IsFitting, HoldsNames}
 use Rattle.fs_model.specs.Tree.{Path, Tree, Row, upward, same_path, is_directory, is_folder, children, directory_size, entry_size, FitsKind, IsRooted, IsWithinLimits, IsWellFormed, empty_tree, root_row, path_cmp}
 use Rattle.fs_model.specs.LookUp.{LookedUp, Found, Free, Bad, look}
 use Rattle.fs_model.specs.Move.{is_above}
-use Rattle.fs_model.specs.Step.{Stepped, refused, done, by_kind, on_file, unless_root, listed, told, made, new_row, removed_directory, removed_file, has_child, target_read, content_read, is_too_long, resized, overwritten, with_content, written, truncated, attributes_set, with_mode, with_owner, with_times, moved_tree, moved_unless_large, moved_onto, moved_to, moved_from, step}
+use Rattle.fs_model.specs.Step.{Stepped, refused, done, by_kind, on_file, unless_root, listed, told, made, new_row, removed_directory, removed_file, has_child, target_read, content_read, is_too_long, with_content, written, truncated, attributes_set, with_mode, with_owner, with_times, moved_tree, moved_unless_large, moved_onto, moved_to, moved_from, step}
 use Rattle.fs_model.proofs.TreeLemmas.{path_split, path_same, get-children, insert_here, insert_apart, remove_here, remove_apart, none_of}
+use Rattle.fs_model.proofs.Lengths.{short_enough}
 use Rattle.fs_model.proofs.LookUpLemmas.{get-found, get-free, IsFree}
 use Rattle.fs_model.proofs.SizeLemmas.{map_size, children-insert, children-insert_apart, children-remove, children-remove_apart, size-insert, size-set, size-remove-le, no_children, no_names, size-empty}
 use Rattle.fs_model.proofs.MovedTree.{CanMove, moved_well_formed}
@@ -177,16 +180,6 @@ content_set t now (n ∷ p) row bytes wf there file is short =
       content = subst (λ k. FitsKind k bytes) (sym is) short;
       mode = (wf.rows (n ∷ p) row there).mode;
     })
-
-pub length-resized : (old : List ℕ) (n : ℕ) → length (resized old n) ≡ n
-length-resized old n = omega (arith, length-append (take n old) (replicate (n - length old) 0), length-take n old, length-replicate {A = ℕ} (n - length old) 0)
-
-pub length-overwritten : (old : List ℕ) (from : ℕ) (bytes : List ℕ) → length (overwritten old from bytes) ≡ max (length old) (from + length bytes)
-length-overwritten old from bytes =
-    omega (arith, length-append (resized old from ++ bytes) (drop (from + length bytes) old), length-append (resized old from) bytes, length-resized old from, length-drop (from + length bytes) old)
-
-pub short_enough : (old new : ℕ) → is_too_long old new ≡ false → new ≤ MAX_FILE
-short_enough old new h = ltb-false MAX_FILE new (or_parts (nat_lt MAX_FILE new) (nat_lt (old + MAX_GROWTH) new) h).0
 
 -- another content of n bytes, where that is let through
 unless_long_keeps : (t : Tree) (now : Instant) (p : Path) (row : Row) (bytes : List ℕ) (n : ℕ) → IsWellFormed t → get t p ≡ Some row → is_directory row.attr.kind ≡ false → row.attr.kind ≡ File → length bytes ≡ n

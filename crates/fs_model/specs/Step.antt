@@ -1,6 +1,7 @@
 -- One command on the tree: its reply and the next tree.
-use Rattle.std.specs.Prelude.{ℕ, ◌+◌, ◌-◌, max, Bool, true, false, cond, ◌||◌, ◌==◌, nat_lt, List, [], ◌++◌, length, take, drop, map, replicate}
+use Rattle.std.specs.Prelude.{ℕ, ◌+◌, max, Bool, true, false, cond, ◌||◌, ◌==◌, nat_lt, List, [], ◌++◌, length, take, drop, map}
 use Rattle.std.specs.FinMap.{entries, insert, remove, len}
+use Rattle.block_id.specs.Contents.{resized, overwritten}
 use Rattle.fs_model.specs.declared.attr.Attr.{Attr}
 use Rattle.fs_model.specs.declared.attr.Kind.{Kind}
 use Rattle.fs_model.specs.declared.attr.Kind.TheVariants.{Directory, File, Link}
@@ -104,17 +105,6 @@ content_read t from count (Bad e) = refused t e
 -- a file of the old length may not get this length
 abbrev pub is_too_long : ℕ → ℕ → Bool
 is_too_long old new = nat_lt MAX_FILE new || nat_lt (old + MAX_GROWTH) new
-
-abbrev pub zeros : ℕ → List ℕ
-zeros n = replicate n 0
-
--- cut to n bytes, or filled up with zeros
-abbrev pub resized : List ℕ → ℕ → List ℕ
-resized old n = take n old ++ zeros (n - length old)
-
--- these bytes at `from`, zeros between the old end and `from`
-abbrev pub overwritten : List ℕ → ℕ → List ℕ → List ℕ
-overwritten old from bytes = (resized old from ++ bytes) ++ drop (from + length bytes) old
 
 -- the row with another content: mtime and ctime are now
 abbrev pub with_content : Row → Instant → List ℕ → Row

@@ -1,6 +1,6 @@
 // Bytes that are cut, filled up and overwritten.
 ghost use Rattle.std.specs.Prelude.{◌≡◌, ◌<◌, ◌+◌, ◌^◌, length, IfOk};
-ghost use Rattle.outcome.specs.Bytes.{resized, written};
+ghost use Rattle.block_id.specs.Contents.{resized, written};
 
 use block_id::Memory;
 use std::alloc::Global;

@@ -1,4 +1,3 @@
 pub mod Meanings
 pub mod Outcome
 pub mod Lift
-pub mod Bytes

@@ -1,7 +1,7 @@
 -- How few blocks a write changed, after calls that only looked.
 use Rattle.std.proofs.Common.{◌≡◌, ℕ, ◌+◌, ◌≤◌, ◌∙◌, ap, arith}
 use Rattle.outcome.specs.Meanings.{Meanings}
-use Rattle.outcome.specs.Bytes.{pieces}
+use Rattle.block_id.specs.Contents.{pieces}
 use Rattle.blob_api.specs.BlobMap.{BlobHoldings, BlobsSteady}
 use Rattle.path_walks.specs.Changes.{IsSparingTwice}
 

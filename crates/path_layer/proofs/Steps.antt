@@ -10,7 +10,8 @@ use Rattle.fs_model.specs.Instant.{Instant}
 use Rattle.fs_model.specs.Tree.{Path, Row, Tree, is_directory, is_root, same_path, children}
 use Rattle.fs_model.specs.Move.{is_above}
 use Rattle.fs_model.specs.LookUp.{Found, look}
-use Rattle.fs_model.specs.Step.{Stepped, answered, refused, done, by_kind, on_file, listed, list_row, told, target_read, content_read, removed_directory, removed_file, has_child, written, truncated, is_too_long, with_content, overwritten, resized, unless_root, moved_from, moved_to, moved_onto, moved_unless_large, moved_tree}
+use Rattle.block_id.specs.Contents.{overwritten, resized}
+use Rattle.fs_model.specs.Step.{Stepped, answered, refused, done, by_kind, on_file, listed, list_row, told, target_read, content_read, removed_directory, removed_file, has_child, written, truncated, is_too_long, with_content, unless_root, moved_from, moved_to, moved_onto, moved_unless_large, moved_tree}
 
 module _ (t : Tree) (p : Path) (row : Row) (found : look t p ≡ Found row) where
   pub list_refused : is_directory row.attr.kind ≡ false → listed t p (look t p) ≡ refused t NotDirectory

@@ -6,14 +6,14 @@ use Rattle.std.specs.declared.option.Option.TheVariants.{Some}
 use Rattle.std.proofs.lemmas.Option.{none-some}
 use Rattle.outcome.specs.Meanings.{Meanings}
 use Rattle.blob_api.specs.declared.blobs.TheConstants.{MAX_BLOB}
-use Rattle.outcome.specs.Bytes.{resized, written, pieces}
+use Rattle.block_id.specs.Contents.{resized, written, pieces}
+use Rattle.block_id.proofs.Contents.{length-overwritten, length-resized}
 use Rattle.blob_api.specs.BlobMap.{Id, BlobMap, BlobHoldings, BlobsSteady, IsSparing}
 use Rattle.fs_model.specs.declared.limits.TheConstants.{MAX_FILE}
 use Rattle.fs_model.specs.declared.attr.Kind.{Kind}
 use Rattle.fs_model.specs.declared.attr.Kind.TheVariants.{Directory, File}
 use Rattle.fs_model.specs.Tree.{Path, Row, name_cmp, is_folder, directory_size, FitsKind}
 use Rattle.fs_model.proofs.TreeLemmas.{same_name}
-use Rattle.fs_model.proofs.WellFormedStep.{length-overwritten, length-resized}
 use Rattle.fs_blobs.specs.declared.header.TheConstants.{HEADER_LEN}
 use Rattle.fs_blobs.specs.Headers.{blob}
 use Rattle.fs_blobs.specs.Blobs.{IsBlob}

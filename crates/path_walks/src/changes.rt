@@ -3,7 +3,7 @@ ghost use Rattle.std.specs.Prelude.{◌≡◌, ◌≤◌, ◌+◌, ◌∷◌, le
 ghost use Rattle.std.specs.FinMap.{insert as with_key, remove as without_key};
 ghost use Rattle.fs_model.specs.declared.attr.Kind.TheVariants.{File};
 ghost use Rattle.outcome.specs.Outcome.{Outcome};
-ghost use Rattle.outcome.specs.Bytes.{resized, written};
+ghost use Rattle.block_id.specs.Contents.{resized, written};
 ghost use Rattle.fs_model.specs.Step.{moved_tree};
 ghost use Rattle.fs_model.specs.Tree.{directory_size};
 ghost use Rattle.dir_blob.specs.Layout.{entry_of};

@@ -8,30 +8,8 @@ use Rattle.std.specs.Result.{OnErr}
 use Rattle.std.specs.declared.result.Result.{Result}
 use Rattle.std.specs.declared.result.Result.TheVariants.{Ok, Err}
 use Rattle.fs_model.specs.declared.limits.TheConstants.{MAX_FILE, MAX_GROWTH}
-use Rattle.fs_model.specs.Step.{is_too_long, resized, overwritten}
-use Rattle.fs_model.proofs.WellFormedStep.{length-resized}
-
--- a test on the saturated end tells what one on the end does
-pub end_short : (old from len end whole : ℕ) → end ≡ min (from + len) 18446744073709551615 → whole ≡ max end old → is_too_long old whole ≡ false → is_too_long old (max old (from + len)) ≡ false
-end_short old from len end whole e w h =
-    let parts = or_parts (nat_lt MAX_FILE whole) (nat_lt (old + MAX_GROWTH) whole) h in
-    let file = ltb-false MAX_FILE whole parts.0 in
-    let growth = ltb-false (old + MAX_GROWTH) whole parts.1 in
-    or_from (nat_lt MAX_FILE (max old (from + len))) (nat_lt (old + MAX_GROWTH) (max old (from + len))) (le-ltb MAX_FILE (max old (from + len)) (omega arith)) (le-ltb (old + MAX_GROWTH) (max old (from + len)) (omega arith))
-
-pub end_long : (old from len end whole : ℕ) → end ≡ min (from + len) 18446744073709551615 → whole ≡ max end old → is_too_long old whole ≡ true → is_too_long old (max old (from + len)) ≡ true
-end_long old from len end whole e w h = elim (nat_lt MAX_FILE whole) as (λ x. nat_lt MAX_FILE whole ≡ x → is_too_long old (max old (from + len)) ≡ true) [
-  | true ↦ λ a. let over = ltb-true MAX_FILE whole a in or_left (nat_lt MAX_FILE (max old (from + len))) (nat_lt (old + MAX_GROWTH) (max old (from + len))) (lt-ltb MAX_FILE (max old (from + len)) (omega arith))
-  | false ↦ λ a.
-      let over = ltb-true (old + MAX_GROWTH) whole (sym (ap (λ z. z || nat_lt (old + MAX_GROWTH) whole) a) ∙ h) in
-      or_right (nat_lt MAX_FILE (max old (from + len))) (nat_lt (old + MAX_GROWTH) (max old (from + len))) (lt-ltb (old + MAX_GROWTH) (max old (from + len)) (omega arith))
-] refl
-
--- bytes put over a content that reaches their end
-pub put_inside : (old bytes : List ℕ) (from : ℕ) → from + length bytes ≤ length old → take from old ++ bytes ++ drop (from + length bytes) old ≡ overwritten old from bytes
-put_inside old bytes from le =
-    let none : from - length old ≡ 0 = omega arith in
-    ap (λ xs. (xs ++ bytes) ++ drop (from + length bytes) old) (sym (ap (λ k. take from old ++ replicate k 0) none ∙ append-nil (take from old)))
+use Rattle.block_id.specs.Contents.{resized, overwritten}
+use Rattle.block_id.proofs.Contents.{length-resized}
 
 take_split : (n : ℕ) (xs ys : List ℕ) → take n (xs ++ ys) ≡ take n xs ++ take (n - length xs) ys
 take_split zero [] ys = let same : 0 - 0 ≡ 0 = omega arith in sym (ap (λ k. take k ys) same)

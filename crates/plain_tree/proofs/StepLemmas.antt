@@ -22,7 +22,8 @@ use Rattle.fs_model.specs.declared.reply.Reply.TheVariants.{Done, Error}
 use Rattle.fs_model.specs.Instant.{Instant}
 use Rattle.fs_model.specs.Tree.{Path, Row, Tree, upward, parent, last_name, is_root, is_directory, same_path, entry_size, directory_size, root_row, IsRooted, IsWellFormed}
 use Rattle.fs_model.specs.LookUp.{LookedUp, Found, Free, Bad, look, goes_on}
-use Rattle.fs_model.specs.Step.{Stepped, answered, refused, done, step, unless_root, made, has_child, removed_directory, removed_file, attributes_set, written, truncated, on_file, is_too_long, with_content, overwritten, resized}
+use Rattle.block_id.specs.Contents.{overwritten, resized}
+use Rattle.fs_model.specs.Step.{Stepped, answered, refused, done, step, unless_root, made, has_child, removed_directory, removed_file, attributes_set, written, truncated, on_file, is_too_long, with_content}
 use Rattle.fs_model.proofs.TreeLemmas.{path_total, path_exact, path_split, insert_here, insert_apart}
 use Rattle.fs_model.proofs.LookUpLemmas.{look-walk, look-found, get-found, get-free, IsFree}
 use Rattle.tree_rules.proofs.PathLemmas.{last_at}

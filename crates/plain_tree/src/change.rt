@@ -1,5 +1,6 @@
 // Commands that change the content or the attributes of one row.
 ghost use Rattle.std.specs.Prelude.{◌≡◌, ◌+◌, ◌≤◌, ◌++◌, length, take, drop, IfOk, OnOk, OnErr};
+ghost use Rattle.block_id.specs.Contents.{overwritten, resized};
 ghost use Rattle.fs_model.specs.declared.limits.TheConstants.{MAX_FILE};
 ghost use Rattle.fs_model.specs.Tree.{upward, IsWellFormed};
 ghost use Rattle.fs_model.specs.LookUp.{look};
@@ -90,7 +91,7 @@ pub fn write(
 /// Puts the bytes at `from`, with zeros between the old end and it. Memory is taken first.
 fn overwrite(content: &mut Vec<u8>, from: usize, bytes: &[u8]) -> Result<(), Memory>
     requires { from + length bytes.now ≤ MAX_FILE }
-    ensures ok { OnOk result (content.new.items ≡ step.overwritten content.old.items from bytes.now) }
+    ensures ok { OnOk result (content.new.items ≡ overwritten content.old.items from bytes.now) }
     ensures err { OnErr result (content.new.items ≡ content.old.items) }
 {
     let end = from + bytes.len();
@@ -138,7 +139,7 @@ pub fn truncate(table: &mut Table, names: &[Name], len: u64, now: Moment) -> Res
 
 /// Cuts the bytes, or fills them up with zeros.
 fn resize(content: &mut Vec<u8>, len: usize) -> Result<(), Memory>
-    ensures ok { OnOk result (content.new.items ≡ step.resized content.old.items len) }
+    ensures ok { OnOk result (content.new.items ≡ resized content.old.items len) }
     ensures err { OnErr result (content.new.items ≡ content.old.items) }
 {
     content.resize(len, 0)?;

@@ -2,7 +2,7 @@
 use Rattle.std.specs.Prelude.{◌≡◌, ◌≤◌, ◌+◌, ℕ, length}
 use Rattle.std.specs.FinMap.{get}
 use Rattle.std.specs.declared.option.Option.TheVariants.{Some}
-use Rattle.outcome.specs.Bytes.{pieces}
+use Rattle.block_id.specs.Contents.{pieces}
 use Rattle.data_nodes.specs.Layout.{room}
 use Rattle.fs_model.specs.declared.attr.Kind.TheVariants.{File}
 use Rattle.fs_model.specs.declared.command.Command.{Command}

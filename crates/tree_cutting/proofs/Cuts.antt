@@ -7,7 +7,8 @@ use Rattle.std.proofs.lemmas.List.{take-append-drop, length-take, length-drop, l
 use Rattle.std.proofs.Math.Seq.{take-append-add}
 use Rattle.store_api.proofs.Rising.{same_id_is}
 use Rattle.block_id.proofs.Options.{none_is}
-use Rattle.outcome.specs.Bytes.{resized}
+use Rattle.block_id.specs.Contents.{resized}
+use Rattle.block_id.proofs.Contents.{resized_within}
 use Rattle.data_nodes.specs.Layout.{NodeText, leaf, inner, IsNode}
 use Rattle.store_api.specs.declared.tx.Tx.{Tx}
 use Rattle.store_api.specs.Content.{Id, Content, Changes, same_id}
@@ -447,8 +448,7 @@ lower_only H a b c d e depth root same cd de only removed dropped border q there
 -- a root that was cut
 pub cut_root_is : {S : Type 0} {H : Holdings S} {a b c : S} {depth n : ℕ} {root : Id} → Stays H a b → H.told a ≡ true → (r : IsRoot H a root) → n ≤ length r.bytes → IsDepth (H.payload c) depth n → IsCut H b c depth root (take n r.bytes) (root ∷ r.tree.below) → IsNewRoot H a c root r.ids (resized r.bytes n)
 cut_root_is {H = H} {a = a} {b = b} {c = c} {depth = depth} {n = n} {root = root} stays told r le deep cut =
-    let none : n - length r.bytes ≡ 0 = omega arith in
-    let is : take n r.bytes ≡ resized r.bytes n = sym (ap (λ k. take n r.bytes ++ replicate k 0) none ∙ append-nil (take n r.bytes)) in
+    let is : take n r.bytes ≡ resized r.bytes n = sym (resized_within r.bytes n le) in
     let long : n ≡ length (take n r.bytes) = omega (arith, length-take n r.bytes, le) in
     let since = cut_since {H = H} {a = a} {b = b} {c = c} stays told cut in
     record {

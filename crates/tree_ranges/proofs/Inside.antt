@@ -3,7 +3,8 @@ use Rattle.std.proofs.Common.{◌≡◌, ℕ, ◌+◌, ◌-◌, ◌*◌, ◌/◌
 use Rattle.std.specs.Prelude.{Option, Some, None, is_some}
 use Rattle.std.specs.FinMap.{get}
 use Rattle.std.proofs.Math.Nat.{lt-div-mul-add}
-use Rattle.outcome.specs.Bytes.{pieces, resized, written}
+use Rattle.block_id.specs.Contents.{pieces, resized, written}
+use Rattle.block_id.proofs.Contents.{resized_within, overwritten_within}
 use Rattle.data_nodes.specs.Layout.{NodeText}
 use Rattle.store_api.specs.declared.tx.Tx.{Tx}
 use Rattle.store_api.specs.Content.{Id, SameIds, or_else}
@@ -61,8 +62,7 @@ new_since {H = H} {a = a} {b = b} {c = c} {old = old} stays told r =
 -- a tree that has the length already
 pub root_same : {S : Type 0} {H : Holdings S} {a b : S} {id : Id} {n : ℕ} → Stays H a b → H.told a ≡ true → (r : IsRoot H a id) → take n r.bytes ≡ r.bytes → n ≤ length r.bytes → IsNewRoot H a b id r.ids (resized r.bytes n)
 root_same {H = H} {a = a} {b = b} {id = id} {n = n} stays told r whole le =
-    let none : n - length r.bytes ≡ 0 = omega arith in
-    let is : r.bytes ≡ resized r.bytes n = sym (ap (λ k. take n r.bytes ++ replicate k 0) none ∙ append-nil (take n r.bytes) ∙ whole) in
+    let is : r.bytes ≡ resized r.bytes n = sym (resized_within r.bytes n le ∙ whole) in
     let now = root_at stays told r in
     record {
       ids = r.ids;
@@ -75,10 +75,7 @@ root_same {H = H} {a = a} {b = b} {id = id} {n = n} stays told r whole le =
 
 written_is : (from : ℕ) (piece w : List ℕ) → 0 < length piece → from ≤ length w → written_at from piece w ≡ written w from piece
 written_is from [] w some le = absurd (omega arith)
-written_is from (byte ∷ piece) w some le =
-    let none : from - length w ≡ 0 = omega arith in
-    let front : take from w ++ replicate (from - length w) 0 ≡ take from w = ap (λ k. take from w ++ replicate k 0) none ∙ append-nil (take from w) in
-    sym (ap (λ xs. (xs ++ (byte ∷ piece)) ++ drop (from + length (byte ∷ piece)) w) front)
+written_is from (byte ∷ piece) w some le = sym (overwritten_within w from (byte ∷ piece) le)
 
 pub wrote_root : {S : Type 0} {H : Holdings S} {a b c : S} {root : Id} (depth from : ℕ) (piece : List ℕ) → Stays H a b → H.told a ≡ true → (n : IsRoot H a root) → n.depth ≡ depth → 0 < length piece → from + length piece ≤ length n.bytes → KeepsShape H b c
     → WroteTree H b c depth root (written_at from piece n.bytes) n.ids → IsNewRoot H a c root n.ids (written n.bytes from piece)

@@ -13,7 +13,7 @@ use Rattle.data_tree.proofs.Ids.{same_self, other}
 use Rattle.data_tree.proofs.Changes.{holds_frame}
 use Rattle.data_tree.proofs.Anew.{replaces_then}
 use Rattle.data_tree.proofs.Forests.{holds-fits}
-use Rattle.outcome.specs.Bytes.{written, zeros}
+use Rattle.block_id.specs.Contents.{written, zeros}
 use Rattle.tree_ranges.specs.Ranges.{GrowsTo}
 use Rattle.data_tree.proofs.Borders.{replace_part, replaces_put}
 use Rattle.tree_growing.proofs.Growth.{off_the_new}

@@ -1,7 +1,7 @@
 // Growing a tree.
 ghost use Rattle.std.specs.Prelude.{◌≡◌, ◌⊎◌, ◌≤◌, ◌<◌, ◌+◌, ◌++◌, ◌^◌, true, is_some, length, IfOk};
 ghost use Rattle.std.specs.FinMap.{get};
-ghost use Rattle.outcome.specs.Bytes.{written, zeros};
+ghost use Rattle.block_id.specs.Contents.{written, zeros};
 ghost use Rattle.outcome.specs.Outcome.{Outcome};
 ghost use Rattle.store_api.specs.Content.{Id};
 ghost use Rattle.store_api.specs.Holdings.{Stays};

@@ -1,7 +1,7 @@
 // The calls that change a range of a tree.
 ghost use Rattle.std.specs.FinMap as fin;
 ghost use Rattle.std.specs.Prelude.{◌≡◌, ◌≤◌, ◌<◌, ◌+◌, ◌^◌, ℕ, true, is_some, length, IfOk, OnOk};
-ghost use Rattle.outcome.specs.Bytes.{pieces, resized, written};
+ghost use Rattle.block_id.specs.Contents.{pieces, resized, written};
 ghost use Rattle.outcome.specs.Outcome.{Outcome};
 ghost use Rattle.store_api.specs.Content.{Id, SameIds};
 ghost use Rattle.store_api.specs.Holdings.{Stays};

@@ -1,7 +1,7 @@
 use Rattle.std.proofs.Common.{◌∙◌, ap}
 use Rattle.data_nodes.specs.Layout.{node_of}
 use Rattle.outcome.specs.Outcome.{then_}
-use Rattle.outcome.specs.Bytes.{written}
+use Rattle.block_id.specs.Contents.{written}
 use Rattle.data_tree.proofs.Loads.{tx_laws}
 use Rattle.data_tree.proofs.Anew.{root_node, root_since}
 use Rattle.data_tree.proofs.Puts.{on_any, unforged_before}

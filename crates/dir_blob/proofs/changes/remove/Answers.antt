@@ -8,7 +8,7 @@ use Rattle.fs_model.specs.declared.attr.Kind.TheVariants.{Directory}
 use Rattle.dir_blob.specs.Layout.{body_of, IsBody}
 use Rattle.std.proofs.Common.{Ok}
 use Rattle.std.proofs.lemmas.List.{length-drop}
-use Rattle.outcome.specs.Bytes.{written}
+use Rattle.block_id.specs.Contents.{written}
 use Rattle.outcome.specs.Outcome.{Outcome}
 use Rattle.dir_blob.specs.Directories.{HasName}
 use Rattle.dir_blob.proofs.Needs.{blob_still, slice_rest, blob_written, removed_entries}

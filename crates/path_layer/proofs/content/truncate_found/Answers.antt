@@ -2,7 +2,7 @@ use Rattle.std.proofs.Common.{◌≡◌, ◌≤◌, Ok, true, false, length, sym
 use Rattle.block_id.specs.declared.id.BlockId.{BlockId}
 use Rattle.std.proofs.lemmas.Result.{err_from_is_err_and}
 use Rattle.outcome.specs.Outcome.{Outcome, first_, then_, failed_, passed, answered, idle}
-use Rattle.outcome.specs.Bytes as bytes
+use Rattle.block_id.specs.Contents as bytes
 use Rattle.fs_model.specs.declared.attr.Attr.{Attr}
 use Rattle.fs_model.specs.declared.attr.Kind.TheVariants.{Directory, File, Link}
 use Rattle.fs_model.specs.declared.error.FsError.TheVariants.{IsDirectory, Invalid}
@@ -15,7 +15,7 @@ use Rattle.path_layer.proofs.Told.{stays, told_as}
 use Rattle.path_layer.proofs.Blobs.{blob_at, plain_body}
 use Rattle.path_layer.proofs.Found.{q, is_kind, is_folder_by, setting_by, set_done}
 use Rattle.path_layer.proofs.Files.{touched}
-use Rattle.fs_model.proofs.WellFormedStep.{short_enough}
+use Rattle.fs_model.proofs.Lengths.{short_enough}
 use Rattle.path_layer.proofs.Steps.{cut_by, unless_long}
 use Rattle.path_layer.proofs.content.truncate_found.Goals as goal
 

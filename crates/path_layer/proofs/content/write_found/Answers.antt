@@ -3,7 +3,7 @@ use Rattle.std.specs.FinMap.{insert}
 use Rattle.block_id.specs.declared.id.BlockId.{BlockId}
 use Rattle.std.proofs.lemmas.Result.{err_from_is_err_and}
 use Rattle.outcome.specs.Outcome.{Outcome, first_, then_, failed_, passed, answered, idle}
-use Rattle.outcome.specs.Bytes as bytes
+use Rattle.block_id.specs.Contents as bytes
 use Rattle.fs_model.specs.declared.attr.Attr.{Attr}
 use Rattle.fs_model.specs.declared.attr.Kind.TheVariants.{Directory, File, Link}
 use Rattle.fs_model.specs.declared.error.FsError.TheVariants.{IsDirectory, Invalid}
@@ -15,7 +15,8 @@ use Rattle.path_layer.specs.Places.{Finding}
 use Rattle.path_layer.proofs.Told.{stays, told_as}
 use Rattle.path_layer.proofs.Blobs.{blob_at, plain_body}
 use Rattle.path_layer.proofs.Found.{q, is_kind, is_folder_by, setting_by, set_done}
-use Rattle.path_layer.proofs.Files.{touched, written_some, end_tests, end_fits}
+use Rattle.fs_model.proofs.Lengths.{end_tests, end_fits}
+use Rattle.path_layer.proofs.Files.{touched, written_some}
 use Rattle.path_layer.proofs.Steps.{write_by, write_empty, unless_long}
 use Rattle.path_layer.proofs.Spared.{unspent, onward}
 use Rattle.path_layer.proofs.content.write_found.Goals as goal

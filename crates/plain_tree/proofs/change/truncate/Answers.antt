@@ -2,7 +2,8 @@ use Rattle.std.proofs.Common.{◌≡◌, false, true, length, refl, sym, ◌∙�
 use Rattle.std.specs.Prelude.{IsSome}
 use Rattle.std.specs.FinMap as tree
 use Rattle.fs_model.specs.Tree.{upward}
-use Rattle.fs_model.specs.Step.{is_too_long, resized}
+use Rattle.block_id.specs.Contents.{resized}
+use Rattle.fs_model.specs.Step.{is_too_long}
 use Rattle.fs_model.proofs.LookUpLemmas.{get-found}
 use Rattle.plain_tree.proofs.StepLemmas.{there_of, file_named, set_there, put_back, bytes_are, same_row, content_set, truncated_done, truncated_large}
 use Rattle.plain_tree.proofs.Refusals.{truncate_refused}

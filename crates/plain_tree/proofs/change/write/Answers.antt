@@ -2,10 +2,11 @@ use Rattle.std.proofs.Common.{◌≡◌, ◌+◌, false, true, length, max, refl
 use Rattle.std.specs.Prelude.{IsSome}
 use Rattle.std.specs.FinMap as tree
 use Rattle.fs_model.specs.Tree.{upward}
-use Rattle.fs_model.specs.Step.{is_too_long, overwritten}
+use Rattle.block_id.specs.Contents.{overwritten}
+use Rattle.fs_model.specs.Step.{is_too_long}
+use Rattle.fs_model.proofs.Lengths.{end_tests}
 use Rattle.fs_model.proofs.LookUpLemmas.{get-found}
 use Rattle.plain_tree.proofs.StepLemmas.{there_of, file_named, set_there, put_back, bytes_are, same_row, content_set, written_done, written_nothing, written_large}
-use Rattle.plain_tree.proofs.ContentLemmas.{end_short, end_long}
 use Rattle.plain_tree.proofs.Refusals.{write_refused}
 use Rattle.plain_tree.proofs.change.write.Goals as goal
 
@@ -23,8 +24,8 @@ returns-then-is_too_long-clause-ok c =
     let old = length f.row.bytes in
     let end = c.saturating_add-end.result in
     let long : is_too_long old (max old (c.args.from + length c.args.bytes.now)) ≡ true =
-    end_long old c.args.from (length c.args.bytes.now) end c.max.result c.saturating_add-end.ensures (c.max.ensures ∙ ap (max end) (sym f.len))
-    (ap (λ n. is_too_long n c.max.result) f.len ∙ (sym c.is_too_long.ensures ∙ c.if-is_too_long.true)) in
+    end_tests old c.args.from (length c.args.bytes.now) end c.max.result c.saturating_add-end.ensures (c.max.ensures ∙ ap (max end) (sym f.len))
+    ∙ (ap (λ n. is_too_long n c.max.result) f.len ∙ (sym c.is_too_long.ensures ∙ c.if-is_too_long.true)) in
     written_large c.args.table.now (upward c.args.names.now) f.row c.args.now f.seen f.kind c.args.from c.args.bytes.now (sym c.is_empty.ensures ∙ c.if-is_empty.false) long
 
 pub set-content-requires-clause-named : goal.set-content-requires-clause-named
@@ -43,8 +44,8 @@ returns-in-Ok-overwrite-clause-ok c =
     let old = length f.row.bytes in
     let end = c.saturating_add-end.result in
     let short : is_too_long old (max old (from + length bytes)) ≡ false =
-    end_short old from (length bytes) end c.max.result c.saturating_add-end.ensures (c.max.ensures ∙ ap (max end) (sym f.len))
-    (ap (λ n. is_too_long n c.max.result) f.len ∙ (sym c.is_too_long.ensures ∙ c.if-is_too_long.false)) in
+    end_tests old from (length bytes) end c.max.result c.saturating_add-end.ensures (c.max.ensures ∙ ap (max end) (sym f.len))
+    ∙ (ap (λ n. is_too_long n c.max.result) f.len ∙ (sym c.is_too_long.ensures ∙ c.if-is_too_long.false)) in
     let content = bytes_are (tree.get t p) f.row c.set-content.result.items (get-found t p f.row f.seen) c.set-content.ensures.bytes in
     let whole = c.in-Ok-overwrite.ensures.ok ∙ ap (λ z. overwritten z from bytes) content in
     written_done t c.set.new.self p f.row c.args.now f.seen f.kind from bytes (sym c.is_empty.ensures ∙ c.if-is_empty.false) short

@@ -1,6 +1,6 @@
 use Rattle.std.proofs.Common.{◌≡◌, ◌≤◌, ◌<◌, ◌+◌, ◌-◌, ◌++◌, sym, ◌∙◌, ap, subst, take, drop, length, inl, inr, arith}
 use Rattle.std.proofs.lemmas.List.{length-append, length-drop, length-replicate}
-use Rattle.outcome.specs.Bytes.{zeros, written}
+use Rattle.block_id.specs.Contents.{zeros, written}
 use Rattle.outcome.specs.Outcome.{first_, then_, passed}
 use Rattle.store_api.specs.Overlay.{steady_over}
 use Rattle.data_tree.specs.Roots.{IsNewRoot}

@@ -1,7 +1,7 @@
 use Rattle.std.proofs.Common.{◌≡◌, ◌-◌, ◌++◌, sym, ◌∙◌, ap, subst, length, inl, inr, arith, append-nil}
 use Rattle.std.specs.FinMap.{get}
 use Rattle.std.proofs.lemmas.List.{take_all, length-replicate}
-use Rattle.outcome.specs.Bytes.{resized, zeros}
+use Rattle.block_id.specs.Contents.{resized, zeros}
 use Rattle.outcome.specs.Outcome.{answered, then_}
 use Rattle.data_nodes.specs.Layout.{node_of}
 use Rattle.store_api.specs.Overlay.{steady_over}

@@ -1,6 +1,6 @@
 use Rattle.std.proofs.Common.{◌≤◌, ◌+◌, refl, sym, ◌∙◌, subst, length, arith}
 use Rattle.std.specs.FinMap as fin
-use Rattle.outcome.specs.Bytes.{pieces}
+use Rattle.block_id.specs.Contents.{pieces}
 use Rattle.outcome.specs.Outcome.{then_}
 use Rattle.data_nodes.specs.Layout.{node_of, room}
 use Rattle.store_api.specs.Overlay.{steady_over}

@@ -1,4 +1,4 @@
-use Rattle.outcome.specs.Bytes.{resized}
+use Rattle.block_id.specs.Contents.{resized}
 use Rattle.blob_store.proofs.Calls.{replaced}
 use Rattle.blob_store.proofs.store.BlobStoreBlobs.resize.Goals as goal
 

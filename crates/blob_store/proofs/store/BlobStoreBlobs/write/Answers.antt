@@ -1,5 +1,5 @@
 use Rattle.std.proofs.Common.{length}
-use Rattle.outcome.specs.Bytes.{written}
+use Rattle.block_id.specs.Contents.{written}
 use Rattle.blob_store.proofs.Calls.{replaced, sparing}
 use Rattle.blob_store.proofs.store.BlobStoreBlobs.write.Goals as goal
 

@@ -2,7 +2,7 @@ use Rattle.std.proofs.Common.{◌≡◌, sym, ◌∙◌, ap, subst}
 use Rattle.std.specs.FinMap.{insert}
 use Rattle.std.specs.FinMap as fin
 use Rattle.std.specs.declared.option.Option.TheVariants.{Some}
-use Rattle.outcome.specs.Bytes.{written}
+use Rattle.block_id.specs.Contents.{written}
 use Rattle.map_blobs.specs.Rows.{AreRows}
 use Rattle.map_blobs.proofs.Calm.{went_well}
 use Rattle.map_blobs.proofs.Puts.{rows_put, same_bytes}
