@@ -1,20 +1,18 @@
 -- A move, over the blobs that show the tree: an entry goes, another comes, and the moved blob gets another parent.
-use Rattle.std.specs.Prelude.{◌≡◌, ℕ, true, cond, List, [], ◌∷◌, ◌++◌, length, is_some}
+use Rattle.std.specs.Prelude.{◌≡◌, ℕ, true, cond, List, [], ◌∷◌, ◌++◌, length, is_some, Option, Some, None}
 use Rattle.std.proofs.Common.{refl, sym, ◌∙◌, ap, subst, inl, inr, arith, length-append}
 use Rattle.std.specs.FinMap.{get, insert, remove, same_map}
-use Rattle.std.specs.declared.option.Option.{Option}
-use Rattle.std.specs.declared.option.Option.TheVariants.{None, Some}
 use Rattle.std.proofs.lemmas.Option.{same_Some, none-some}
 use Rattle.block_id.proofs.Options.{none_is}
 use Rattle.blob_api.specs.BlobMap.{Id, BlobMap}
 use Rattle.fs_model.specs.declared.attr.Kind.TheVariants.{Directory}
 use Rattle.fs_model.specs.Instant.{Instant}
 use Rattle.fs_model.specs.Tree.{Path, Row, Tree, is_folder, IsWellFormed}
-use Rattle.fs_model.specs.Move.{under, strip, moved_by, moved, renamed}
+use Rattle.fs_model.specs.Move.{CanMove, under, strip, moved_by, moved, renamed}
 use Rattle.fs_model.specs.Step.{with_ctime, moved_tree}
 use Rattle.fs_model.proofs.TreeLemmas.{same_name, path_total, path_exact, path_same, path_split, apart, remove_here, remove_apart}
 use Rattle.fs_model.proofs.MoveLemmas.{strip-append, strip-is}
-use Rattle.fs_model.proofs.MovedTree.{CanMove, not_above, strip_none, moved-here, moved-below, moved-off, moved-gone}
+use Rattle.fs_model.proofs.MovedTree.{not_above, strip_none, moved-here, moved-below, moved-off, moved-gone}
 use Rattle.fs_blobs.specs.Headers.{blob}
 use Rattle.dir_blob.specs.Layout.{EntryTarget}
 use Rattle.dir_blob.proofs.Needs.{map_here}
@@ -55,9 +53,6 @@ module _ (m : BlobMap) (root : Id) (t : Tree) (ids : Path → Id) (shows : Shows
   abbrev q : Path
   q = qn ∷ qd
 
-  abbrev next : Tree
-  next = moved_tree t now p q row
-
   abbrev target : EntryTarget
   target = record { attr = (with_ctime row now).attr; blob = ids p }
 
@@ -77,6 +72,9 @@ module _ (m : BlobMap) (root : Id) (t : Tree) (ids : Path → Id) (shows : Shows
     pub onto_with : (listed : List ℕ) → Lists (λ k. cond (same_name k qn) (Some target) (looks_without qd k)) listed
         → IsForest (insert m1 (ids qd) (blob Directory (above ids qd) listed)) t ids (above ids) looks_with
     onto_with listed lists = entry_set m1 t ids (above ids) looks_without forest1 qd (folder_row t qd can.folder) qn (Some target) listed lists
+
+  abbrev next : Tree
+  next = moved_tree t now p q row
 
   -- where the node at a path of the next tree was
   abbrev from : Path → Path

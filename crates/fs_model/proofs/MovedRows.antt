@@ -1,11 +1,9 @@
 -- A move keeps the rows but the one that it replaces.
-use Rattle.std.specs.Prelude.{◌≡◌, ℕ, Bool, true, false, cond, List, [], ◌∷◌, ◌++◌, nat_lt, reverse}
+use Rattle.std.specs.Prelude.{◌≡◌, ℕ, Bool, true, false, cond, List, [], ◌∷◌, ◌++◌, nat_lt, reverse, Option, Some, None}
 use Rattle.std.proofs.Common.{refl, sym, ◌∙◌, ap, arith}
 use Rattle.std.proofs.lemmas.Bool.{ltb-false}
 use Rattle.std.proofs.lemmas.List.{reverse-reverse}
 use Rattle.std.specs.FinMap.{get, len, remove}
-use Rattle.std.specs.declared.option.Option.{Option}
-use Rattle.std.specs.declared.option.Option.TheVariants.{None, Some}
 use Rattle.std.proofs.lemmas.Option.{none-some, same_Some}
 use Rattle.fs_model.specs.declared.error.FsError.{FsError}
 use Rattle.fs_model.specs.declared.error.FsError.TheVariants.{NoEntry, Invalid, TooLarge, Busy, NotEmpty, NotDirectory, IsDirectory}
@@ -14,14 +12,14 @@ use Rattle.fs_model.specs.declared.reply.Reply.TheVariants.{Done}
 use Rattle.fs_model.specs.Instant.{Instant}
 use Rattle.fs_model.specs.Tree.{Path, Tree, Row, upward, parent, same_path, is_directory, children, directory_size, IsRooted}
 use Rattle.fs_model.specs.LookUp.{LookedUp, Found, Free, Bad, look}
-use Rattle.fs_model.specs.Move.{is_above, strip, moved_by, moved, renamed}
+use Rattle.fs_model.specs.Move.{CanMove, is_above, strip, moved_by, moved, renamed}
 use Rattle.fs_model.specs.Step.{Stepped, refused, done, unless_root, has_child, with_ctime, moved_tree, moved_unless_large, moved_onto, moved_to, moved_from}
 use Rattle.fs_model.specs.Laws.{IsMoved}
 use Rattle.fs_model.proofs.TreeLemmas.{same_path_is, insert_here}
 use Rattle.fs_model.proofs.LookUpLemmas.{get-found}
 use Rattle.fs_model.proofs.SizeLemmas.{no_children}
 use Rattle.fs_model.proofs.MoveLemmas.{strip-append, strip-is}
-use Rattle.fs_model.proofs.MovedTree.{CanMove, not_above, moved-below, moved-off, moved-gone}
+use Rattle.fs_model.proofs.MovedTree.{not_above, moved-below, moved-off, moved-gone}
 use Rattle.fs_model.proofs.WellFormedStep.{can_move_free, can_move_found, below_file}
 
 module _ (t : Tree) (now : Instant) (pn : List ℕ) (pd : Path) (qn : List ℕ) (qd : Path) (row : Row) (can : CanMove t pn pd qn qd row) where

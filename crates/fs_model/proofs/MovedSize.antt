@@ -1,17 +1,15 @@
 -- The size of the directory that a move goes to, and a move of a row whose ctime is set before.
-use Rattle.std.specs.Prelude.{◌≡◌, ℕ, ◌+◌, List, [], ◌∷◌, ◌++◌, length}
+use Rattle.std.specs.Prelude.{◌≡◌, ℕ, ◌+◌, List, [], ◌∷◌, ◌++◌, length, Option, Some, None}
 use Rattle.std.proofs.Common.{refl, sym, ◌∙◌, ap, inl, inr, arith, length-append}
 use Rattle.std.specs.FinMap.{get, insert, remove, same_map}
-use Rattle.std.specs.declared.option.Option.{Option}
-use Rattle.std.specs.declared.option.Option.TheVariants.{None, Some}
 use Rattle.fs_model.specs.Instant.{Instant}
 use Rattle.fs_model.specs.Tree.{Path, Tree, Row, children, directory_size, entry_size}
-use Rattle.fs_model.specs.Move.{strip, renamed}
+use Rattle.fs_model.specs.Move.{CanMove, strip, renamed}
 use Rattle.fs_model.specs.Step.{with_ctime, moved_tree}
 use Rattle.fs_model.proofs.TreeLemmas.{path_total, path_exact, name_split, get-children, insert_here, insert_apart, remove_here, remove_apart}
 use Rattle.fs_model.proofs.MoveLemmas.{strip-append, strip-is, source, get-renamed}
 use Rattle.fs_model.proofs.SizeLemmas.{map_size, same_children, name_insert_here, name_insert_apart, name_remove_here, name_remove_apart, size-insert, size-remove, size-set}
-use Rattle.fs_model.proofs.MovedTree.{CanMove, not_above, strip_none, moved-here, moved-below, moved-off, moved-gone}
+use Rattle.fs_model.proofs.MovedTree.{not_above, strip_none, moved-here, moved-below, moved-off, moved-gone}
 
 module _ (t : Tree) (now : Instant) (pn : List ℕ) (pd : Path) (qn : List ℕ) (qd : Path) (row : Row) (can : CanMove t pn pd qn qd row) where
   abbrev p : Path

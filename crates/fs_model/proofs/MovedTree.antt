@@ -1,16 +1,14 @@
 -- The tree after a move: what it has at a path, and that it stays well formed.
-use Rattle.std.specs.Prelude.{◌≡◌, ℕ, ◌≤◌, true, false, List, [], ◌∷◌, ◌++◌, length, is_some}
+use Rattle.std.specs.Prelude.{◌≡◌, ℕ, ◌≤◌, true, false, List, [], ◌∷◌, ◌++◌, length, is_some, Option, Some, None}
 use Rattle.std.proofs.Common.{refl, sym, ◌∙◌, ap, subst, inl, inr, arith, length-append}
 use Rattle.std.proofs.lemmas.Bool.{or_right, or_left}
 use Rattle.std.specs.FinMap.{get, remove, empty}
-use Rattle.std.specs.declared.option.Option.{Option}
-use Rattle.std.specs.declared.option.Option.TheVariants.{None, Some}
 use Rattle.std.proofs.lemmas.Option.{none-some}
 use Rattle.fs_model.specs.declared.limits.TheConstants.{MAX_ENTRIES}
 use Rattle.fs_model.specs.Instant.{Instant}
 use Rattle.fs_model.specs.Names.{IsName}
 use Rattle.fs_model.specs.Tree.{Path, Tree, Row, same_path, is_folder, children, directory_size, IsRooted, IsWithinLimits, IsWellFormed}
-use Rattle.fs_model.specs.Move.{is_above, strip, renamed}
+use Rattle.fs_model.specs.Move.{CanMove, is_above, strip, renamed}
 use Rattle.fs_model.specs.Step.{with_ctime, moved_tree}
 use Rattle.fs_model.proofs.TreeLemmas.{path_split, path_same, name_split, get-children, insert_here, insert_apart, remove_here, remove_apart}
 use Rattle.fs_model.proofs.MoveLemmas.{strip-append, strip-is, source, get-renamed}
@@ -35,14 +33,6 @@ strip_none p r off = elim (strip p r) as (λ o. strip p r ≡ o → strip p r �
 
 pub strip_off : (p r : Path) → strip p r ≡ None → (s : Path) → r ≡ s ++ p → ⊥
 strip_off p r none s e = none-some s (sym none ∙ (ap (strip p) e ∙ strip-append p s))
-
--- a row at p, and a path q that isn't below p, stands below a directory and has nothing below it
-pub record CanMove (t : Tree) (pn : List ℕ) (pd : Path) (qn : List ℕ) (qd : Path) (row : Row) : Type 0 where
-  pub here : get t (pn ∷ pd) ≡ Some row
-  pub above : is_above (pn ∷ pd) (qn ∷ qd) ≡ false
-  pub differ : pn ∷ pd ≡ qn ∷ qd → ⊥
-  pub folder : is_folder (get t qd) ≡ true
-  pub bare : (s : Path) (n : List ℕ) → get t (n ∷ (s ++ (qn ∷ qd))) ≡ None
 
 module _ (t : Tree) (now : Instant) (pn : List ℕ) (pd : Path) (qn : List ℕ) (qd : Path) (row : Row) (can : CanMove t pn pd qn qd row) where
   abbrev p : Path

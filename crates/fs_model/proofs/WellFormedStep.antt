@@ -22,13 +22,13 @@ use Rattle.fs_model.specs.Names.{IsName}
 use Rattle.fs_model.specs.Fitting.{IsFitting, HoldsNames}
 use Rattle.fs_model.specs.Tree.{Path, Tree, Row, upward, same_path, is_directory, is_folder, children, directory_size, entry_size, FitsKind, IsRooted, IsWithinLimits, IsWellFormed, empty_tree, root_row, path_cmp}
 use Rattle.fs_model.specs.LookUp.{LookedUp, Found, Free, Bad, look}
-use Rattle.fs_model.specs.Move.{is_above}
+use Rattle.fs_model.specs.Move.{CanMove, is_above}
 use Rattle.fs_model.specs.Step.{Stepped, refused, done, by_kind, on_file, unless_root, listed, told, made, new_row, removed_directory, removed_file, has_child, target_read, content_read, is_too_long, with_content, written, truncated, attributes_set, with_mode, with_owner, with_times, moved_tree, moved_unless_large, moved_onto, moved_to, moved_from, step}
 use Rattle.fs_model.proofs.TreeLemmas.{path_split, path_same, get-children, insert_here, insert_apart, remove_here, remove_apart, none_of}
 use Rattle.fs_model.proofs.Lengths.{short_enough}
 use Rattle.fs_model.proofs.LookUpLemmas.{get-found, get-free, IsFree}
 use Rattle.fs_model.proofs.SizeLemmas.{map_size, children-insert, children-insert_apart, children-remove, children-remove_apart, size-insert, size-set, size-remove-le, no_children, no_names, size-empty}
-use Rattle.fs_model.proofs.MovedTree.{CanMove, moved_well_formed}
+use Rattle.fs_model.proofs.MovedTree.{moved_well_formed}
 
 abbrev pub Keeps : Stepped → Type 0
 Keeps s = IsWellFormed s.tree

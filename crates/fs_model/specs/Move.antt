@@ -1,9 +1,9 @@
 -- Replacing a prefix of paths.
-use Rattle.std.specs.Prelude.{ℕ, Bool, false, cond, ◌||◌, List, [], ◌∷◌, ◌++◌, map}
-use Rattle.std.specs.FinMap.{entries, from_entries}
+use Rattle.std.specs.Prelude.{◌≡◌, ℕ, Bool, true, false, cond, ◌||◌, List, [], ◌∷◌, ◌++◌, map}
+use Rattle.std.specs.FinMap.{entries, from_entries, get}
 use Rattle.std.specs.declared.option.Option.{Option}
 use Rattle.std.specs.declared.option.Option.TheVariants.{None, Some}
-use Rattle.fs_model.specs.Tree.{Path, Tree, same_path}
+use Rattle.fs_model.specs.Tree.{Path, Row, Tree, same_path, is_folder}
 
 -- p is a proper prefix of this path
 abbrev pub is_above : Path → Path → Bool
@@ -33,3 +33,11 @@ move_entry p q e = (moved p q e.0, e.1)
 -- every path that has the prefix p gets the prefix q
 unfoldable pub renamed : Tree → Path → Path → Tree
 renamed t p q = from_entries (map (move_entry p q) (entries t))
+
+-- the row at the name pn of pd may go to the name qn of the directory qd: nothing stands below that, nor is it below the row
+pub record CanMove (t : Tree) (pn : List ℕ) (pd : Path) (qn : List ℕ) (qd : Path) (row : Row) : Type 0 where
+  pub here : get t (pn ∷ pd) ≡ Some row
+  pub above : is_above (pn ∷ pd) (qn ∷ qd) ≡ false
+  pub differ : pn ∷ pd ≡ qn ∷ qd → ⊥
+  pub folder : is_folder (get t qd) ≡ true
+  pub bare : (s : Path) (n : List ℕ) → get t (n ∷ (s ++ (qn ∷ qd))) ≡ None

@@ -16,8 +16,7 @@ use Rattle.tree_rules.proofs.PathLemmas.{not_root}
 use Rattle.path_walks.specs.declared.spots.Place.{Place}
 use Rattle.path_walks.specs.Sights.{IsFound, IsVacant}
 use Rattle.path_walks.specs.Moves.{Heading, Replacing}
-use Rattle.path_walks.proofs.Movable.{may_of}
-use Rattle.path_layer.specs.Places.{Standing}
+use Rattle.path_walks.specs.Sights.{Standing}
 use Rattle.path_layer.specs.Moves.{Onward, Lets}
 use Rattle.path_layer.proofs.Seeing.{look_found, look_free, on_path}
 use Rattle.path_layer.proofs.Steps.{onto_by, onto_unless}
@@ -72,7 +71,7 @@ module _ {S : Type 0} {H : BlobHoldings S} {a : S} {root : Id} {dir : Place} {n 
       above = w.path;
       below = d;
       row = w.is.here.row;
-      can = may_of (can_move_free w.tree n w.path k d w.is.here.row w.shows.well_formed.rooted look_here off (look_free w.shows d k to is));
+      can = can_move_free w.tree n w.path k d w.is.here.row w.shows.well_formed.rooted look_here off (look_free w.shows d k to is);
       free = is.none;
       from_at = w.is.above;
       place_at = w.is.here;
@@ -107,7 +106,7 @@ module _ {S : Type 0} {H : BlobHoldings S} {a : S} {root : Id} {dir : Place} {n 
         above = w.path;
         below = d;
         row = w.is.here.row;
-        can = may_of (can_move_found w.tree n w.path k d w.is.here.row is.here.row w.shows.well_formed.rooted look_here off look_there (same_by false e) lets.bare);
+        can = can_move_found w.tree n w.path k d w.is.here.row is.here.row w.shows.well_formed.rooted look_here off look_there (same_by false e) lets.bare;
         from_at = w.is.above;
         place_at = w.is.here;
         to_at = is.above;

@@ -21,8 +21,8 @@ use Rattle.forest.specs.Shows.{ShowsBy}
 use Rattle.path_walks.specs.declared.spots.Place.{Place}
 use Rattle.forest.specs.Showing.{IsShownBy, PerformedBy}
 use Rattle.forest.specs.Midst.{moved_ids}
-use Rattle.path_walks.specs.Moves.{MayMove, Moving, Heading}
-use Rattle.path_walks.proofs.Movable.{can_of}
+use Rattle.fs_model.specs.Move.{CanMove}
+use Rattle.path_walks.specs.Moves.{Moving, Heading}
 use Rattle.path_walks.proofs.Steps.{directory_seen, folder_is}
 use Rattle.path_walks.proofs.Nodes.{size_at}
 use Rattle.dir_blob.specs.Directories.{IsDirectory}
@@ -46,11 +46,11 @@ module _ {S : Type 0} {H : BlobHoldings S} {a : S} {now : Instant} {from : Place
   size_next = elim (path_split w.above w.below) [
     | inl e ↦
         ap (λ b. directory_size next w.below + cond b (entry_size n) 0) (ap (same_name from.blob.0) (sym w.to_at.blob ∙ (ap w.ids (sym e) ∙ w.from_at.blob)) ∙ name_same from.blob.0)
-        ∙ size_within_free w.tree now n w.above k w.below w.row (can_of w.can) e w.free
+        ∙ size_within_free w.tree now n w.above k w.below w.row w.can e w.free
     | inr d ↦
         ap (λ b. directory_size next w.below + cond b (entry_size n) 0)
         (name_apart from.blob.0 to.blob.0 (λ e. d (w.shows.forest.distinct w.above w.below (ap is_some w.from_at.there) (ap is_some w.to_at.there) (w.from_at.blob ∙ (e ∙ sym w.to_at.blob)))))
-        ∙ nothing (directory_size next w.below) ∙ size_across_free w.tree now n w.above k w.below w.row (can_of w.can) d w.free
+        ∙ nothing (directory_size next w.below) ∙ size_across_free w.tree now n w.above k w.below w.row w.can d w.free
   ]
     where
       nothing : (x : ℕ) → x + 0 ≡ x
@@ -71,10 +71,10 @@ module _ {S : Type 0} {H : BlobHoldings S} {a : S} {now : Instant} {from : Place
       same_row = let both : Some w.row ≡ Some w.place_at.row = sym w.can.here ∙ w.place_at.there in ap (λ (r : Row). r.attr) (same_Some _ _ both)
 
   pub well_formed_next : IsName k → directory_size next w.below ≤ MAX_ENTRIES → IsWellFormed next
-  well_formed_next named small = moved_well_formed w.tree now n w.above k w.below w.row (can_of w.can) w.shows.well_formed named small
+  well_formed_next named small = moved_well_formed w.tree now n w.above k w.below w.row w.can w.shows.well_formed named small
 
-  pub can_as : (z : List ℕ) → k ≡ z → MayMove w.tree n w.above z w.below w.row
-  can_as z e = subst (λ x. MayMove w.tree n w.above x w.below w.row) e w.can
+  pub can_as : (z : List ℕ) → k ≡ z → CanMove w.tree n w.above z w.below w.row
+  can_as z e = subst (λ x. CanMove w.tree n w.above x w.below w.row) e w.can
 
   pub free_as : (z : List ℕ) → k ≡ z → get w.tree (z ∷ w.below) ≡ None
   free_as z e = subst (λ x. get w.tree (x ∷ w.below) ≡ None) e w.free

@@ -24,7 +24,6 @@ use Rattle.forest.proofs.Moved.{looks_without, looks_with, from_without, onto_wi
 use Rattle.forest.specs.Showing.{IsShownBy}
 use Rattle.forest.specs.Midst.{moved_ids}
 use Rattle.path_walks.specs.Moves.{Moving}
-use Rattle.path_walks.proofs.Movable.{can_of}
 use Rattle.path_walks.proofs.Nodes.{lists_at, lists_of, directory_at, above_wide}
 use Rattle.path_walks.proofs.Sizes.{sizes_shown, body_size}
 use Rattle.path_walks.proofs.Edits.{lists_without, lists_with, entries_with, sorted_put, size_put, content_fits}
@@ -49,10 +48,10 @@ module _ {S : Type 0} {H : BlobHoldings S} {a : S} {from : Id} {n : List ℕ} {t
   target_is = λ i. record { attr = w.attr i; blob = w.blob i }
 
   abbrev pub looks1 : Path → Look
-  looks1 = looks_without w.map w.root w.tree w.ids w.shows w.now n w.above e.0 w.below w.row (can_of w.can) w.free
+  looks1 = looks_without w.map w.root w.tree w.ids w.shows w.now n w.above e.0 w.below w.row w.can w.free
 
   abbrev pub looks2 : Path → Look
-  looks2 = looks_with w.map w.root w.tree w.ids w.shows w.now n w.above e.0 w.below w.row (can_of w.can) w.free
+  looks2 = looks_with w.map w.root w.tree w.ids w.shows w.now n w.above e.0 w.below w.row w.can w.free
 
   pub row_from : IsFolderRow w.tree w.above
   row_from = folder_row w.tree w.above (w.shows.well_formed.rooted.parents n w.above (ap is_some w.can.here))
@@ -73,7 +72,7 @@ module _ {S : Type 0} {H : BlobHoldings S} {a : S} {from : Id} {n : List ℕ} {t
   gone b h = record {
     map = insert w.map (w.ids w.above) (blob Directory (above w.ids w.above) (body_of (without n has_name.is.listing)));
     stands = subst (λ z. H.stands_for b (insert w.map z (blob Directory (above w.ids w.above) (body_of (without n has_name.is.listing))))) (sym w.from_id) h.stands;
-    forest = from_without w.map w.root w.tree w.ids w.shows w.now n w.above e.0 w.below w.row (can_of w.can) w.free (body_of (without n has_name.is.listing))
+    forest = from_without w.map w.root w.tree w.ids w.shows w.now n w.above e.0 w.below w.row w.can w.free (body_of (without n has_name.is.listing))
         (lists_without (entries_at w.tree w.ids w.above) has_name.is.listing n (lists_at w.shows w.above row_from.row row_from.there row_from.kind).entries h.entries);
   }
 
@@ -94,10 +93,10 @@ module _ {S : Type 0} {H : BlobHoldings S} {a : S} {from : Id} {n : List ℕ} {t
         let found = λ (k : List ℕ). entries_with lists_to.listing e.0 target k
         ∙ (ap (cond (same_name k e.0) (Some target)) (lists_to.entries k)
         ∙ (ap (λ z. cond z (Some target) (looks1 w.below k)) (sym (same_last k e.0 w.below))
-        ∙ look_off w.map w.root w.tree w.ids w.shows w.now n w.above e.0 w.below w.row (can_of w.can) w.free w.below
-        (qd_off_q w.map w.root w.tree w.ids w.shows w.now n w.above e.0 w.below w.row (can_of w.can) w.free)
-        (parent_off_p w.tree w.now n w.above e.0 w.below w.row (can_of w.can)) k)) in
-        let size = sizes_shown next (ids_moved w.map w.root w.tree w.ids w.shows w.now n w.above e.0 w.below w.row (can_of w.can) w.free) w.below (put name_cmp e.0 target lists_to.listing) (sorted_put e.0 target lists_to.listing lists_to.is.entries.order) found in
+        ∙ look_off w.map w.root w.tree w.ids w.shows w.now n w.above e.0 w.below w.row w.can w.free w.below
+        (qd_off_q w.map w.root w.tree w.ids w.shows w.now n w.above e.0 w.below w.row w.can w.free)
+        (parent_off_p w.tree w.now n w.above e.0 w.below w.row w.can) k)) in
+        let size = sizes_shown next (ids_moved w.map w.root w.tree w.ids w.shows w.now n w.above e.0 w.below w.row w.can w.free) w.below (put name_cmp e.0 target lists_to.listing) (sorted_put e.0 target lists_to.listing lists_to.is.entries.order) found in
         omega (arith, body_size lists_to.listing lists_to.is.entries.entries, size_put e.0 target lists_to.listing none_to, size, w.well_formed.directories w.below)
 
     pub there_to : get way.map to ≡ Some (blob Directory (above w.ids w.below) (body_of lists_to.listing))
@@ -129,7 +128,7 @@ module _ {S : Type 0} {H : BlobHoldings S} {a : S} {from : Id} {n : List ℕ} {t
         record {
           map = insert way.map (w.ids w.below) (blob Directory (above w.ids w.below) (body_of (put name_cmp e.0 target lists_to.listing)));
           stands = subst (λ z. H.stands_for c (insert way.map z (blob Directory (above w.ids w.below) (body_of (put name_cmp e.0 target lists_to.listing))))) (sym w.to_id) after.stands;
-          forest = onto_with w.map w.root w.tree w.ids w.shows w.now n w.above e.0 w.below w.row (can_of w.can) w.free way.map way.forest (body_of (put name_cmp e.0 target lists_to.listing))
+          forest = onto_with w.map w.root w.tree w.ids w.shows w.now n w.above e.0 w.below w.row w.can w.free way.map way.forest (body_of (put name_cmp e.0 target lists_to.listing))
               (lists_with (looks1 w.below) lists_to.listing e.0 target lists_to.entries after.entries);
         }
 
@@ -141,8 +140,8 @@ module _ {S : Type 0} {H : BlobHoldings S} {a : S} {from : Id} {n : List ℕ} {t
 
     look_moved : (k : List ℕ) → looks2 p k ≡ entries_at w.tree w.ids p k
     look_moved k =
-        entry_apart looks1 (e.0 ∷ w.below) (Some target) p k (below_q w.map w.root w.tree w.ids w.shows w.now n w.above e.0 w.below w.row (can_of w.can) w.free k [])
-        ∙ entry_apart (entries_at w.tree w.ids) p None p k (below_p w.map w.root w.tree w.ids w.shows w.now n w.above e.0 w.below w.row (can_of w.can) w.free k [])
+        entry_apart looks1 (e.0 ∷ w.below) (Some target) p k (below_q w.map w.root w.tree w.ids w.shows w.now n w.above e.0 w.below w.row w.can w.free k [])
+        ∙ entry_apart (entries_at w.tree w.ids) p None p k (below_p w.map w.root w.tree w.ids w.shows w.now n w.above e.0 w.below w.row w.can w.free k [])
 
     pub fits_moved : HEADER_LEN + length node_moved.body ≤ MAX_BLOB
     fits_moved = content_fits w.tree w.ids p w.row.attr.kind w.row.bytes (looks2 p) node_moved.body (w.shows.well_formed.directories p) (w.shows.well_formed.rows p w.row w.can.here).content look_moved node_moved.content
@@ -167,5 +166,5 @@ module _ {S : Type 0} {H : BlobHoldings S} {a : S} {from : Id} {n : List ℕ} {t
       map = insert way.map (w.ids p) (blob w.row.attr.kind (w.ids w.below) node_moved.body);
       stands = subst (λ z. H.stands_for d (insert way.map z (blob w.row.attr.kind (w.ids w.below) node_moved.body))) (sym w.blob)
           (subst (λ z. H.stands_for d (insert way.map e.1.blob (blob w.row.attr.kind z node_moved.body))) (sym w.to_id) stands);
-      shows = moved_shows w.map w.root w.tree w.ids w.shows w.now n w.above e.0 w.below w.row (can_of w.can) w.free way.map way.forest node_moved.body node_moved.content w.well_formed;
+      shows = moved_shows w.map w.root w.tree w.ids w.shows w.now n w.above e.0 w.below w.row w.can w.free way.map way.forest node_moved.body node_moved.content w.well_formed;
     }

@@ -20,7 +20,6 @@ use Rattle.forest.specs.Showing.{IsShownBy, PerformedBy}
 use Rattle.path_walks.specs.Sights.{IsAt}
 use Rattle.path_walks.specs.Changes.{Dropping}
 use Rattle.path_walks.specs.Moves.{Heading, Replacing}
-use Rattle.path_walks.proofs.Movable.{can_of, may_of}
 
 module _ {S : Type 0} {H : BlobHoldings S} {a : S} {now : Instant} {from : Place} {n : List ℕ} {place to : Place} {k : List ℕ} {replaced : Place} (w : Replacing H a now from n place to k replaced) where
   abbrev pub q : Path
@@ -79,7 +78,7 @@ module _ {S : Type 0} {H : BlobHoldings S} {a : S} {now : Instant} {from : Place
     above = w.above;
     below = w.below;
     row = w.row;
-    can = may_of (can_move_after w.tree n w.above k w.below w.row (can_of w.can));
+    can = can_move_after w.tree n w.above k w.below w.row w.can;
     free = remove_here w.tree q;
     from_at = from_stays;
     place_at = place_stays;
@@ -92,8 +91,8 @@ module _ {S : Type 0} {H : BlobHoldings S} {a : S} {now : Instant} {from : Place
 
   small : directory_size next w.below ≤ MAX_ENTRIES
   small = elim (path_split w.above w.below) [
-    | inl e ↦ let size = size_within_found w.tree now n w.above k w.below w.row (can_of w.can) w.old_at.row e w.old_at.there in omega (arith, size, w.shows.well_formed.directories w.below)
-    | inr d ↦ let size = size_across_found w.tree now n w.above k w.below w.row (can_of w.can) w.old_at.row d w.old_at.there in omega (arith, size, w.shows.well_formed.directories w.below)
+    | inl e ↦ let size = size_within_found w.tree now n w.above k w.below w.row w.can w.old_at.row e w.old_at.there in omega (arith, size, w.shows.well_formed.directories w.below)
+    | inr d ↦ let size = size_across_found w.tree now n w.above k w.below w.row w.can w.old_at.row d w.old_at.there in omega (arith, size, w.shows.well_formed.directories w.below)
   ]
 
   same_step : moved_unless_large rest q (moved_tree rest now (n ∷ w.above) q w.row) ≡ moved_unless_large w.tree q next

@@ -1,27 +1,19 @@
 -- What a move needs.
-use Rattle.std.specs.Prelude.{◌≡◌, ℕ, true, false, List, ◌∷◌, ◌++◌}
+use Rattle.std.specs.Prelude.{◌≡◌, ℕ, List, ◌∷◌}
 use Rattle.std.specs.FinMap.{get}
-use Rattle.std.specs.declared.option.Option.TheVariants.{None, Some}
+use Rattle.std.specs.declared.option.Option.TheVariants.{None}
 use Rattle.blob_api.specs.BlobMap.{Id, BlobMap, BlobHoldings}
 use Rattle.fs_model.specs.declared.attr.Kind.TheVariants.{Directory}
 use Rattle.fs_model.specs.declared.reply.Reply.{Reply}
 use Rattle.fs_model.specs.declared.reply.Reply.TheVariants.{Done, Rows, Info, Target as LinkTarget, Content, Error}
 use Rattle.fs_model.specs.Instant.{Instant}
-use Rattle.fs_model.specs.Tree.{Path, Row, Tree, is_folder, IsWellFormed}
-use Rattle.fs_model.specs.Move.{is_above}
+use Rattle.fs_model.specs.Tree.{Path, Row, Tree, IsWellFormed}
+use Rattle.fs_model.specs.Move.{CanMove}
 use Rattle.fs_model.specs.Step.{with_ctime, moved_tree}
 use Rattle.dir_blob.specs.Layout.{EntryTarget}
 use Rattle.forest.specs.Shows.{ShowsBy}
 use Rattle.path_walks.specs.declared.spots.Place.{Place}
 use Rattle.path_walks.specs.Sights.{IsAt}
-
--- the row at the name pn of pd may go to the name qn of the directory qd: nothing stands below that, nor is it below the row
-pub record MayMove (t : Tree) (pn : List ℕ) (pd : Path) (qn : List ℕ) (qd : Path) (row : Row) : Type 0 where
-  pub here : get t (pn ∷ pd) ≡ Some row
-  pub above : is_above (pn ∷ pd) (qn ∷ qd) ≡ false
-  pub differ : pn ∷ pd ≡ qn ∷ qd → ⊥
-  pub folder : is_folder (get t qd) ≡ true
-  pub bare : (s : Path) (n : List ℕ) → get t (n ∷ (s ++ (qn ∷ qd))) ≡ None
 
 -- a row that may move to a free path: from the directory `above` to the directory `below`, under the entry e
 pub record Moving {S : Type 0} (H : BlobHoldings S) (a : S) (from : Id) (n : List ℕ) (to : Id) (e : List ℕ × EntryTarget) : Type 0 where
@@ -35,7 +27,7 @@ pub record Moving {S : Type 0} (H : BlobHoldings S) (a : S) (from : Id) (n : Lis
   pub above : Path
   pub below : Path
   pub row : Row
-  pub can : MayMove tree n above e.0 below row
+  pub can : CanMove tree n above e.0 below row
   pub free : get tree (e.0 ∷ below) ≡ None
   pub from_id : ids above ≡ from
   pub to_id : ids below ≡ to
@@ -54,7 +46,7 @@ pub record Heading {S : Type 0} (H : BlobHoldings S) (a : S) (now : Instant) (fr
   pub above : Path
   pub below : Path
   pub row : Row
-  pub can : MayMove tree n above k below row
+  pub can : CanMove tree n above k below row
   pub free : get tree (k ∷ below) ≡ None
   pub from_at : IsAt tree ids above from
   pub place_at : IsAt tree ids (n ∷ above) place
@@ -72,7 +64,7 @@ pub record Replacing {S : Type 0} (H : BlobHoldings S) (a : S) (now : Instant) (
   pub above : Path
   pub below : Path
   pub row : Row
-  pub can : MayMove tree n above k below row
+  pub can : CanMove tree n above k below row
   pub from_at : IsAt tree ids above from
   pub place_at : IsAt tree ids (n ∷ above) place
   pub to_at : IsAt tree ids below to

@@ -14,12 +14,12 @@ use Rattle.fs_model.specs.declared.attr.Attr.{Attr}
 use Rattle.fs_model.specs.Instant.{Instant}
 use Rattle.fs_model.specs.Tree.{Path, Row, Tree, upward, parent, last_name, is_root, same_path, is_directory, directory_size, entry_size, root_row, IsRooted, IsWellFormed}
 use Rattle.fs_model.specs.LookUp.{Found, Free, look}
-use Rattle.fs_model.specs.Move.{strip, is_above}
+use Rattle.fs_model.specs.Move.{CanMove, strip, is_above}
 use Rattle.fs_model.specs.Step.{with_ctime, moved_tree}
 use Rattle.fs_model.proofs.TreeLemmas.{path_total, path_exact, path_split, path_same, apart, insert_here, insert_apart, remove_here, remove_apart}
 use Rattle.fs_model.proofs.LookUpLemmas.{look-found, get-found, get-free, IsFree}
 use Rattle.fs_model.proofs.MoveLemmas.{strip-append, strip-is}
-use Rattle.fs_model.proofs.MovedTree.{CanMove, not_above, strip_none, moved-here, moved-below, moved-off, moved-gone, strip_off}
+use Rattle.fs_model.proofs.MovedTree.{not_above, strip_none, moved-here, moved-below, moved-off, moved-gone, strip_off}
 use Rattle.fs_model.proofs.MovedSize.{size_within_free, size_within_found, size_across_free, size_across_found}
 use Rattle.fs_model.proofs.WellFormedStep.{below_file, bare_below, can_move_free, can_move_found}
 use Rattle.tree_rules.proofs.PathLemmas.{parent_at, name_at}
