@@ -49,7 +49,7 @@ module _ {S : Type 0} {H : BlobHoldings S} {a : S} {root : Id} {dir : Place} {n 
   is_folder_by b e = ap (λ (x : Attr). is_directory x.kind) w.is.here.attr ∙ e
 
   abbrev pub folder : place.attr.kind ≡ Directory → DirectoryAt H a place
-  folder kind = record { map = w.map; stands = w.stands; root = root; tree = w.tree; ids = w.ids; shows = w.shows; path = q; at = w.is.here; folder = kind }
+  folder kind = record { standing = record { map = w.map; stands = w.stands; root = root; tree = w.tree; ids = w.ids; shows = w.shows; path = q; at = w.is.here }; folder = kind }
 
   pub without : ((m : List ℕ) → get w.tree (m ∷ q) ≡ None) → IsWellFormed (remove w.tree q)
   without bare = remove_bare w.tree n w.path w.shows.well_formed bare

@@ -17,11 +17,11 @@ use Rattle.path_walks.specs.declared.spots.Spot.{Spot}
 use Rattle.path_walks.specs.declared.spots.Spot.TheVariants.{Here}
 use Rattle.path_walks.specs.declared.spots.Sight.{Sight}
 use Rattle.path_walks.specs.declared.spots.Sight.TheVariants as sight
-use Rattle.path_walks.specs.Sights.{IsAt, IsWrong, SpotIs, SightIs, IsFound, IsVacant}
+use Rattle.path_walks.specs.Sights.{IsAt, IsWrong, SpotIs, SightIs, IsFound, IsVacant, Standing}
 use Rattle.path_walks.specs.Listed.{InFolder}
 use Rattle.path_walks.specs.Changes.{Making}
 use Rattle.path_walks.proofs.Steps.{walk_free}
-use Rattle.path_layer.specs.Places.{Standing, Holding, Finding}
+use Rattle.path_layer.specs.Places.{Holding, Finding}
 
 -- ---- spots
 
@@ -48,10 +48,10 @@ module _ {S : Type 0} {H : BlobHoldings S} {a : S} {root : Id} (w : BlobsShow H 
   standing p place at = record { map = w.map; stands = stands; root = root; tree = w.tree; ids = w.ids; shows = w.shows; path = p; at = at }
 
   abbrev pub holding : (p : Path) (place : Place) → IsAt w.tree w.ids p place → is_directory place.attr.kind ≡ false → Holding H b place
-  holding p place at plain = record { map = w.map; stands = stands; root = root; tree = w.tree; ids = w.ids; shows = w.shows; path = p; at = at; plain = plain }
+  holding p place at plain = record { standing = standing p place at; plain = plain }
 
   abbrev pub in_folder : (p : Path) (place : Place) → IsAt w.tree w.ids p place → place.attr.kind ≡ Directory → InFolder H b place.blob.0
-  in_folder p place at kind = record { map = w.map; stands = stands; root = root; tree = w.tree; ids = w.ids; shows = w.shows; path = p; place = place; at = at; folder = kind; id = refl }
+  in_folder p place at kind = record { place = place; standing = standing p place at; folder = kind; id = refl }
 
   abbrev pub finding : (p : Path) (n : List ℕ) (dir place : Place) → IsFound w.tree w.ids p n dir place → Finding H b root dir n place
   finding p n dir place is = record { map = w.map; stands = stands; tree = w.tree; ids = w.ids; shows = w.shows; path = p; is = is }

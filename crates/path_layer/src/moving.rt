@@ -6,7 +6,7 @@ ghost use Rattle.fs_model.specs.LookUp.{look};
 ghost use Rattle.fs_model.specs.Step.{unless_root, moved_from, moved_to};
 ghost use Rattle.forest.specs.Showing.{BlobsShow, Performed};
 ghost use Rattle.path_walks.specs.Changes.{IsChangeReply};
-ghost use Rattle.path_layer.specs.Places.{Standing};
+ghost use Rattle.path_walks.specs.Sights.{Standing};
 ghost use Rattle.path_layer.specs.Moves.{Onward, RefusesOnto};
 
 use crate::names::split_last;

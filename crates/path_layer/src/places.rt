@@ -3,7 +3,8 @@ ghost use Rattle.std.specs.Prelude.{◌≡◌, length, take, drop};
 ghost use Rattle.outcome.specs.Outcome.{Outcome};
 ghost use Rattle.fs_model.specs.Step.{has_child as model_has_child};
 ghost use Rattle.fs_model.specs.Tree.{is_directory as model_is_directory};
-ghost use Rattle.path_layer.specs.Places.{Standing, Holding, DirectoryAt};
+ghost use Rattle.path_walks.specs.Sights.{Standing};
+ghost use Rattle.path_layer.specs.Places.{Holding, DirectoryAt};
 
 use blob_api::Blobs;
 use block_id::Fail;
@@ -36,7 +37,7 @@ pub fn bytes_at<B: Blobs>(
 ) -> Result<Vec<u8>, Fail>
     requires { B.meanings.intact b.old }
     ensures outcome { Outcome B.meanings (Holding B.holdings b.old place.now) b.old b.new result
-        (λ n bytes. B.holdings.stands_for b.new n.map × (bytes.items ≡ take count (drop from n.at.row.bytes))) }
+        (λ n bytes. B.holdings.stands_for b.new n.standing.map × (bytes.items ≡ take count (drop from n.standing.at.row.bytes))) }
     ensures unchanged { B.holdings.changed b.new ≡ B.holdings.changed b.old }
 {
     read_body(alloc, b, &place.blob, from, count)
@@ -46,7 +47,7 @@ pub fn bytes_at<B: Blobs>(
 pub fn has_child<B: Blobs>(alloc: Global, b: &mut B, place: &Place) -> Result<bool, Fail>
     requires { B.meanings.intact b.old }
     ensures outcome { Outcome B.meanings (DirectoryAt B.holdings b.old place.now) b.old b.new result
-        (λ n answer. B.holdings.stands_for b.new n.map × (answer ≡ model_has_child n.tree n.path)) }
+        (λ n answer. B.holdings.stands_for b.new n.standing.map × (answer ≡ model_has_child n.standing.tree n.standing.path)) }
     ensures unchanged { B.holdings.changed b.new ≡ B.holdings.changed b.old }
 {
     Ok(body_len(alloc, b, &place.blob)? > 0)

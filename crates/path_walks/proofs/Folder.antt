@@ -16,14 +16,14 @@ use Rattle.path_walks.proofs.Sizes.{rows_shown}
 use Rattle.path_walks.proofs.Steps.{folder_is}
 
 module _ {S : Type 0} {H : BlobHoldings S} {a : S} {dir : Id} (w : InFolder H a dir) where
-  abbrev pub kind : w.at.row.attr.kind ≡ Directory
-  kind = folder_is w.tree w.ids w.path w.place w.at w.folder
+  abbrev pub kind : w.standing.at.row.attr.kind ≡ Directory
+  kind = folder_is w.standing.tree w.standing.ids w.standing.path w.place w.standing.at w.folder
 
   abbrev pub directory : IsDirectory H a dir
-  directory = directory_at w.shows w.stands w.path w.at.row w.at.there kind dir (w.at.blob ∙ w.id)
+  directory = directory_at w.standing.shows w.standing.stands w.standing.path w.standing.at.row w.standing.at.there kind dir (w.standing.at.blob ∙ w.id)
 
-  pub rows_told : Rows (map shown_row directory.listing) ≡ (listed w.tree w.path (Found w.at.row)).reply
+  pub rows_told : Rows (map shown_row directory.listing) ≡ (listed w.standing.tree w.standing.path (Found w.standing.at.row)).reply
   rows_told =
-      let lists = lists_at w.shows w.path w.at.row w.at.there kind in
-      ap Rows (rows_shown w.tree w.ids w.path lists.listing lists.is.entries.order lists.entries)
-      ∙ sym (ap (λ k. (cond (is_directory k) (answered w.tree (Rows (map list_row (entries (children w.tree w.path))))) (refused w.tree NotDirectory)).reply) kind)
+      let lists = lists_at w.standing.shows w.standing.path w.standing.at.row w.standing.at.there kind in
+      ap Rows (rows_shown w.standing.tree w.standing.ids w.standing.path lists.listing lists.is.entries.order lists.entries)
+      ∙ sym (ap (λ k. (cond (is_directory k) (answered w.standing.tree (Rows (map list_row (entries (children w.standing.tree w.standing.path))))) (refused w.standing.tree NotDirectory)).reply) kind)

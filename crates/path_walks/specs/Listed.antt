@@ -1,15 +1,13 @@
 -- What listing needs.
 use Rattle.std.specs.Prelude.{◌≡◌, ℕ, List}
-use Rattle.blob_api.specs.BlobMap.{Id, BlobMap, BlobHoldings}
+use Rattle.blob_api.specs.BlobMap.{Id, BlobHoldings}
 use Rattle.fs_model.specs.declared.attr.Kind.TheVariants.{Directory}
 use Rattle.fs_model.specs.declared.reply.ListRow.{ListRow}
 use Rattle.fs_model.specs.declared.reply.Reply.{Reply}
 use Rattle.fs_model.specs.declared.reply.Reply.TheVariants.{Done, Rows, Info, Target as LinkTarget, Content, Error}
-use Rattle.fs_model.specs.Tree.{Path, Tree}
 use Rattle.dir_blob.specs.Layout.{EntryTarget}
-use Rattle.forest.specs.Shows.{ShowsBy}
 use Rattle.path_walks.specs.declared.spots.Place.{Place}
-use Rattle.path_walks.specs.Sights.{IsAt}
+use Rattle.path_walks.specs.Sights.{Standing}
 
 -- what a listing shows of an entry
 abbrev pub shown_row : List ℕ × EntryTarget → ListRow
@@ -26,14 +24,7 @@ IsListReply (Error e) = ⊥
 
 -- a directory of the shown tree
 pub record InFolder {S : Type 0} (H : BlobHoldings S) (a : S) (dir : Id) : Type 0 where
-  pub map : BlobMap
-  pub stands : H.stands_for a map
-  pub root : Id
-  pub tree : Tree
-  pub ids : Path → Id
-  pub shows : ShowsBy map root tree ids
-  pub path : Path
   pub place : Place
-  pub at : IsAt tree ids path place
+  pub standing : Standing H a place
   pub folder : place.attr.kind ≡ Directory
   pub id : place.blob.0 ≡ dir

@@ -83,3 +83,14 @@ pub record Walking {S : Type 0} (H : BlobHoldings S) (a : S) (spot : Spot) : Typ
   pub shows : ShowsBy map root tree ids
   pub path : Path
   pub is : SpotIs tree ids path spot
+
+-- a row stands at this place
+pub record Standing {S : Type 0} (H : BlobHoldings S) (a : S) (place : Place) : Type 0 where
+  pub map : BlobMap
+  pub stands : H.stands_for a map
+  pub root : Id
+  pub tree : Tree
+  pub ids : Path → Id
+  pub shows : ShowsBy map root tree ids
+  pub path : Path
+  pub at : IsAt tree ids path place

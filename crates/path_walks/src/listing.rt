@@ -30,7 +30,7 @@ fn rows_of(alloc: Global, entries: &[Entry]) -> Result<Vec<ListRow>, Memory>
 pub fn list_in<B: Blobs>(alloc: Global, b: &mut B, dir: &BlockId) -> Result<Reply, Fail>
     requires { B.meanings.intact b.old }
     ensures outcome { Outcome B.meanings (InFolder B.holdings b.old dir.now.0) b.old b.new result
-        (λ n r. B.holdings.stands_for b.new n.map × (r ≡ (listed n.tree n.path (Found n.at.row)).reply)) }
+        (λ n r. B.holdings.stands_for b.new n.standing.map × (r ≡ (listed n.standing.tree n.standing.path (Found n.standing.at.row)).reply)) }
     ensures variant { IfOk result IsListReply }
     ensures unchanged { B.holdings.changed b.new ≡ B.holdings.changed b.old }
 {

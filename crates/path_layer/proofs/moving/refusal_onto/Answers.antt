@@ -30,16 +30,16 @@ returns-in-false-false-clause-outcome g c = idle g.met.B.Blobs.lawful c.args.b.n
 pub returns-in_err-has_child-in-true-true-clause-outcome : goal.returns-in_err-has_child-in-true-true-clause-outcome
 returns-in_err-has_child-in-true-true-clause-outcome g c =
     let e = err_from_is_err_and c.from_residual.result c.from_residual.ensures.1 in
-    rw (e.1, e.2) (passed (first_ (λ w. record { map = w.map; stands = w.stands; root = w.root; tree = w.tree; ids = w.ids; shows = w.shows; path = w.path; at = w.at; folder = directory_is c.args.old.now.attr.kind (sym c.in-true-true.ensures') }) c.in_err-has_child-in-true-true.ensures.outcome (λ w y h. h)))
+    rw (e.1, e.2) (passed (first_ (λ w. record { standing = w; folder = directory_is c.args.old.now.attr.kind (sym c.in-true-true.ensures') }) c.in_err-has_child-in-true-true.ensures.outcome (λ w y h. h)))
 
 pub returns-then-branch-clause-outcome : goal.returns-then-branch-clause-outcome
 returns-then-branch-clause-outcome g c =
-    answered (first_ (λ w. record { map = w.map; stands = w.stands; root = w.root; tree = w.tree; ids = w.ids; shows = w.shows; path = w.path; at = w.at; folder = directory_is c.args.old.now.attr.kind (sym c.in-true-true.ensures') }) c.in_ok-has_child-in-true-true.ensures.outcome (λ w y h. h))
+    answered (first_ (λ w. record { standing = w; folder = directory_is c.args.old.now.attr.kind (sym c.in-true-true.ensures') }) c.in_ok-has_child-in-true-true.ensures.outcome (λ w y h. h))
     (λ w h. (h.0, λ s. onto_by w.tree w.path _ _ s true true c.in-true-true.ensures c.in-true-true.ensures' ∙ ap (λ b. cond b (refused w.tree NotEmpty) s) (sym h.1 ∙ c.if-branch.true)))
 
 pub returns-else-branch-clause-outcome : goal.returns-else-branch-clause-outcome
 returns-else-branch-clause-outcome g c =
-    answered (first_ (λ w. record { map = w.map; stands = w.stands; root = w.root; tree = w.tree; ids = w.ids; shows = w.shows; path = w.path; at = w.at; folder = directory_is c.args.old.now.attr.kind (sym c.in-true-true.ensures') }) c.in_ok-has_child-in-true-true.ensures.outcome (λ w y h. h))
+    answered (first_ (λ w. record { standing = w; folder = directory_is c.args.old.now.attr.kind (sym c.in-true-true.ensures') }) c.in_ok-has_child-in-true-true.ensures.outcome (λ w y h. h))
     (λ w h. (
       h.0,
       record {

@@ -7,5 +7,5 @@ use Rattle.path_layer.proofs.places.bytes_at.Goals as goal
 
 pub returns-clause-outcome : goal.returns-clause-outcome
 returns-clause-outcome g c =
-    first_ (λ w. blob_at w.shows w.path w.at.row w.at.there w.stands c.args.place.now.blob.0 w.at.blob) c.read_body.ensures.outcome
-    (λ w y h. (h.0, h.1 ∙ ap (λ z. take c.args.count (drop c.args.from z)) (plain_body w.shows w.path w.at.row w.at.there (ap (λ (a : Attr). is_directory a.kind) w.at.attr ∙ w.plain))))
+    first_ (λ w. blob_at w.standing.shows w.standing.path w.standing.at.row w.standing.at.there w.standing.stands c.args.place.now.blob.0 w.standing.at.blob) c.read_body.ensures.outcome
+    (λ w y h. (h.0, h.1 ∙ ap (λ z. take c.args.count (drop c.args.from z)) (plain_body w.standing.shows w.standing.path w.standing.at.row w.standing.at.there (ap (λ (a : Attr). is_directory a.kind) w.standing.at.attr ∙ w.plain))))

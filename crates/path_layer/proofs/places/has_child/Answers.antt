@@ -11,9 +11,9 @@ use Rattle.path_layer.proofs.places.has_child.Goals as goal
 pub returns-in_err-body_len-clause-outcome : goal.returns-in_err-body_len-clause-outcome
 returns-in_err-body_len-clause-outcome g c =
     let p = err_from_is_err_and c.from_residual.result c.from_residual.ensures.1 in
-    rw (p.1, p.2) (passed (first_ (λ w. blob_of (directory_seen w.shows w.stands w.path c.args.place.now w.at w.folder)) c.in_err-body_len.ensures.outcome (λ w y h. h)))
+    rw (p.1, p.2) (passed (first_ (λ w. blob_of (directory_seen w.standing.shows w.standing.stands w.standing.path c.args.place.now w.standing.at w.folder)) c.in_err-body_len.ensures.outcome (λ w y h. h)))
 
 pub returns-clause-outcome : goal.returns-clause-outcome
 returns-clause-outcome g c =
-    answered (first_ (λ w. blob_of (directory_seen w.shows w.stands w.path c.args.place.now w.at w.folder)) c.in_ok-body_len.ensures.outcome (λ w y h. h))
-    (λ w h. (h.0, ap (nat_lt 0) (h.1 ∙ size_at w.shows w.path w.at.row w.at.there (folder_is w.tree w.ids w.path c.args.place.now w.at w.folder)) ∙ has_child-size w.tree w.path))
+    answered (first_ (λ w. blob_of (directory_seen w.standing.shows w.standing.stands w.standing.path c.args.place.now w.standing.at w.folder)) c.in_ok-body_len.ensures.outcome (λ w y h. h))
+    (λ w h. (h.0, ap (nat_lt 0) (h.1 ∙ size_at w.standing.shows w.standing.path w.standing.at.row w.standing.at.there (folder_is w.standing.tree w.standing.ids w.standing.path c.args.place.now w.standing.at w.folder)) ∙ has_child-size w.standing.tree w.standing.path))
