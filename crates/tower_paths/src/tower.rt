@@ -8,7 +8,7 @@ use blob_store::BlobStore;
 use block_id::BlockId;
 use fs_model::Moment;
 use integrity_store::IntegrityStore;
-use local_state::decode;
+use local_state::{Known, State, decode, encode};
 use outside::MemoryVault;
 use rand_pcg::Pcg32;
 use redo_vault::RedoVault;
@@ -25,12 +25,15 @@ pub type Store = IntegrityStore<MemoryVault, Aes256Gcm>;
 
 /// The record of client 1 that knows no block.
 fn empty_record(alloc: Global) -> Result<Vec<u8>, Fail> {
-    let mut out = Vec::new(alloc);
-    out.extend_from_slice(b"cryfs.localstate;1\0\0")?;
-    out.extend_from_slice(&[0x11; 80])?;
-    out.extend_from_slice(&[1, 0, 0, 0])?;
-    out.extend_from_slice(&[0; 16])?;
-    Ok(out)
+    let state = State {
+        marked: false,
+        fs_id: BlockId([0x11; 16]),
+        key_salt: [0x11; 32],
+        key_digest: [0x11; 32],
+        client: 1,
+        known: Known::new(alloc),
+    };
+    Ok(encode(alloc, &state, &[])?)
 }
 
 /// Blocks of 128 bytes over an empty directory, with nothing unwritten.

@@ -45,24 +45,14 @@ fn put<S: Blocks>(alloc: Global, tx: &mut Tx<S>, id: &BlockId, byte: u8) -> Resu
     Ok(())
 }
 
-fn remove<S: Blocks>(tx: &mut Tx<S>, id: &BlockId) -> Result<(), Fail>
-    requires { ⟦<Tx<S> as Blocks>⟧.meanings.intact tx.old }
-    ensures { ⟦<Tx<S> as Blocks>⟧.meanings.intact tx.new }
-{
-    if !tx.contains(id) {
-        return Err(Fail::from("no payload"));
-    }
-    tx.remove(id)?;
-    Ok(())
-}
-
 fn change<S: Blocks>(alloc: Global, tx: &mut Tx<S>, change: &Change) -> Result<(), Fail>
     requires { ⟦<Tx<S> as Blocks>⟧.meanings.intact tx.old }
     ensures { ⟦<Tx<S> as Blocks>⟧.meanings.intact tx.new }
 {
     match change.1 {
         Some(byte) => put(alloc, tx, &change.0, byte),
-        None => remove(tx, &change.0),
+        None if tx.contains(&change.0) => Ok(tx.remove(&change.0)?),
+        None => Err("no payload".into()),
     }
 }
 

@@ -21,9 +21,9 @@ const B: BlockId = BlockId([2; 16]);
 
 const C: BlockId = BlockId([3; 16]);
 
-type Syncs = (Synced, Synced);
+pub(crate) type Syncs = (Synced, Synced);
 
-const WELL: Syncs = (Ok(()), Ok(()));
+pub(crate) const WELL: Syncs = (Ok(()), Ok(()));
 
 /// The store that is kept at a site, and its keeper.
 fn begin<S: Tower>(alloc: Global, site: &mut Site) -> Result<(S, MemoryKeeper), Fail>
@@ -51,7 +51,11 @@ fn end<S: Tower>(site: &mut Site, ended: Ended<S, MemoryKeeper>) -> Syncs {
 }
 
 /// Opens the store, makes the changes, all at once, and syncs twice.
-fn run<S: Tower>(alloc: Global, site: &mut Site, changes: &[Change]) -> Result<Syncs, Fail> {
+pub(crate) fn run<S: Tower>(
+    alloc: Global,
+    site: &mut Site,
+    changes: &[Change],
+) -> Result<Syncs, Fail> {
     let (store, keeper) = begin::<S>(alloc, site)?;
     let ended = change_and_sync(alloc, store, keeper, changes)?;
     Ok(end(site, ended))
@@ -105,7 +109,8 @@ pub(crate) fn reads_again_what_was_synced<S: Tower>(alloc: Global) -> Result<boo
     let mut site = Site::new(alloc)?;
     let nothing = has::<S>(alloc, &mut site, [None, None, None])?;
     let well = run::<S>(alloc, &mut site, &[(A, Some(5)), (B, Some(6))])? == WELL;
-    Ok(nothing && well && has::<S>(alloc, &mut site, [Some(5), Some(6), None])?)
+    let long = site.record(alloc)?.len() == 170 && site.file(alloc, &A)?.len() == 128;
+    Ok(nothing && well && long && has::<S>(alloc, &mut site, [Some(5), Some(6), None])?)
 }
 
 /// A second put replaces the first, and a removed block is gone.
@@ -203,7 +208,7 @@ pub(crate) fn goes_on_after_a_put_that_failed<S: Tower>(alloc: Global) -> Result
     let mut site = Site::new(alloc)?;
     site.vault.fail_calls([2].to_vec(alloc)?);
     let syncs = run::<S>(alloc, &mut site, &[(A, Some(5)), (B, Some(6))])?;
-    let well = syncs == (Err(SyncError::FaultDirectory), Ok(()));
+    let well = syncs == (Err(SyncError::FaultDirectory), Ok(())) && site.vault.trace().len() == 3;
     Ok(well && has::<S>(alloc, &mut site, [Some(5), Some(6), None])?)
 }
 
@@ -213,7 +218,8 @@ pub(crate) fn finds_in_the_list_what_was_not_put<S: Tower>(alloc: Global) -> Res
     site.vault.fail_from(2);
     let syncs = run::<S>(alloc, &mut site, &[(A, Some(5)), (B, Some(6))])?;
     let fault = Err(SyncError::FaultDirectory);
-    let failed = syncs == (fault, fault) && site.vault.files().len() == 1;
+    let long = site.record(alloc)?.len() == 320;
+    let failed = syncs == (fault, fault) && long && site.vault.files().len() == 1;
     site.vault.fail_from(u64::MAX);
     let listed = has::<S>(alloc, &mut site, [Some(5), Some(6), None])?;
     let well = run::<S>(alloc, &mut site, &[])? == WELL && site.vault.files().len() == 2;
@@ -228,6 +234,6 @@ pub(crate) fn saves_again_after_a_save_that_failed<S: Tower>(
     let mut site = Site::new(alloc)?;
     site.fail_saves(alloc, &[(1, keeps)])?;
     let syncs = run::<S>(alloc, &mut site, &[(A, Some(5))])?;
-    let well = syncs == (Err(SyncError::FaultState), Ok(()));
+    let well = syncs == (Err(SyncError::FaultState), Ok(())) && site.vault.trace().len() == 1;
     Ok(well && has::<S>(alloc, &mut site, [Some(5), None, None])?)
 }

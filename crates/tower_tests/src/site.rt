@@ -5,9 +5,6 @@ ghost use Rattle.outside.specs.View.{list_of};
 ghost use Rattle.sealed_store.specs.Stores.{IsIntact, block_size_of, cipher_of};
 ghost use Rattle.store_api.specs.Holdings.{IsFew};
 
-use crate::changes::{
-    Change as Payload, Ended, Sizes, Synced, change_and_sync, configure_and_sync, follow_and_sync,
-};
 use crate::reopening::is_no_block;
 use aes_gcm::Aes256Gcm;
 use block_id::BlockId;
@@ -106,65 +103,6 @@ impl Site {
     /// Takes the directory out.
     fn take_vault(&mut self, alloc: Global) -> MemoryVault {
         std::mem::replace(&mut self.vault, MemoryVault::new(alloc))
-    }
-
-    /// Takes the local record out.
-    fn take_keeper(&mut self, alloc: Global) -> MemoryKeeper {
-        let none = MemoryKeeper::new(alloc, None, Vec::new(alloc));
-        std::mem::replace(&mut self.keeper, none)
-    }
-
-    /// Opens the store, makes the changes, all at once, and syncs twice.
-    pub(crate) fn run(
-        &mut self,
-        alloc: Global,
-        changes: &[Payload],
-    ) -> Result<(Synced, Synced), Fail> {
-        let record = self.record(alloc)?;
-        let store = open(alloc, self.take_vault(alloc), &record)?;
-        let keeper = self.take_keeper(alloc);
-        let ended = change_and_sync(alloc, store, keeper, changes)?;
-        Ok(self.end(ended))
-    }
-
-    /// Opens the store, makes the changes, all at once, has the configuration wait, and syncs twice.
-    pub(crate) fn configure(
-        &mut self,
-        alloc: Global,
-        changes: &[Payload],
-        bytes: &[u8],
-    ) -> Result<(Sizes, (Synced, Synced)), Fail> {
-        let record = self.record(alloc)?;
-        let store = open(alloc, self.take_vault(alloc), &record)?;
-        let keeper = self.take_keeper(alloc);
-        let (sizes, ended) = configure_and_sync(alloc, store, keeper, changes, bytes)?;
-        Ok((sizes, self.end(ended)))
-    }
-
-    /// Opens the store, gives a block the payload of the one that it names, and syncs twice.
-    pub(crate) fn follow(
-        &mut self,
-        alloc: Global,
-        id: &BlockId,
-    ) -> Result<(bool, (Synced, Synced)), Fail> {
-        let record = self.record(alloc)?;
-        let store = open(alloc, self.take_vault(alloc), &record)?;
-        let keeper = self.take_keeper(alloc);
-        let (found, ended) = follow_and_sync(alloc, store, keeper, id)?;
-        Ok((found, self.end(ended)))
-    }
-
-    /// Puts the directory and the local record back.
-    fn end(&mut self, ended: Ended<Store, MemoryKeeper>) -> (Synced, Synced) {
-        let Ended {
-            first,
-            second,
-            store,
-            keeper,
-        } = ended;
-        self.vault = store.into_vault();
-        self.keeper = keeper;
-        (first, second)
     }
 
     /// Opens the store and loads a block.
