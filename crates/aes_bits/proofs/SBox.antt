@@ -29,10 +29,10 @@ s_box on x = from_sums on (through on input_sums x)
 abbrev pub byte_bits : ℕ → List ℕ
 byte_bits b = map (bit_at b) (range_with_len 0 8)
 
-abbrev is_right : ℕ → Bool
-is_right b = of_bits (slice_index (s_box bits (byte_bits b))) == sub_byte b
+abbrev gates_are_right : ℕ → Bool
+gates_are_right b = of_bits (slice_index (s_box bits (byte_bits b))) == sub_byte b
 
-s_box_right : all_below is_right 256 ≡ true
+s_box_right : all_below gates_are_right 256 ≡ true
 unfolding times inverse sub_byte
 s_box_right = refl
 
@@ -94,7 +94,7 @@ s_box_bytes planes p j lp lj h =
     plane_bytes (s_box vectors x) (s_box bits) sub_byte planes p j refl
     (from_sums_bits (through vectors input_sums x) p j lp lj (through_vectors input_sums x hx)
     ∙ ap (from_sums bits) (through_bits input_sums x p j lp lj hx))
-    (λ b lt. eqb-true _ _ (all_below_at is_right 256 b s_box_right lt))
+    (λ b lt. eqb-true _ _ (all_below_at gates_are_right 256 b s_box_right lt))
 
 pub doubling_bytes : (planes : List (List ℕ)) (p j : ℕ) → p < 16 → j < 8 → AreVectors planes
     → byte_of (through vectors doubling (first 8 planes)) p j ≡ xtime (byte_of planes p j)

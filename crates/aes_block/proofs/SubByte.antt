@@ -21,12 +21,12 @@ all_below_at p (suc n) k h lt =
           rw e parts.0
     ]
 
-abbrev is_right : ℕ → Bool
-is_right b = slice_index SBOX b == sub_byte b
+abbrev entry_is_right : ℕ → Bool
+entry_is_right b = slice_index SBOX b == sub_byte b
 
-table_holds : all_below is_right 256 ≡ true
+table_holds : all_below entry_is_right 256 ≡ true
 unfolding times inverse sub_byte
 table_holds = refl
 
 pub sub_byte_table : (b : ℕ) → b < 256 → slice_index SBOX b ≡ sub_byte b
-sub_byte_table b lt = eqb-true (slice_index SBOX b) (sub_byte b) (all_below_at is_right 256 b table_holds lt)
+sub_byte_table b lt = eqb-true (slice_index SBOX b) (sub_byte b) (all_below_at entry_is_right 256 b table_holds lt)
