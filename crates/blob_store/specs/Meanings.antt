@@ -6,6 +6,7 @@ use Rattle.std.specs.FinMap.{get}
 use Rattle.std.specs.declared.option.Option.TheVariants.{Some}
 use Rattle.outcome.specs.Meanings.{Meanings, Lawful}
 use Rattle.outcome.specs.Lift.{lift, lawful}
+use Rattle.block_id.specs.declared.sizes.TheConstants.{MIN_PAYLOAD}
 use Rattle.data_nodes.specs.Layout.{room}
 use Rattle.store_api.specs.Content.{Changes}
 use Rattle.store_api.specs.Holdings.{Holdings, Steady}
@@ -32,7 +33,7 @@ holdings_by f g H = record {
   piece = λ a. Some (room (H.payload (f a)));
 }
 
-some_room : (payload l : ℕ) → 50 ≤ payload → Some (room payload) ≡ Some l → 1 ≤ l
+some_room : (payload l : ℕ) → MIN_PAYLOAD ≤ payload → Some (room payload) ≡ Some l → 1 ≤ l
 some_room payload l least e = let same : room payload ≡ l = cc in omega (arith, same)
 
 pub steady_by : {A B : Type 0} (f : A → B) (g : B → Changes) (M : Meanings B) (H : Holdings B) → Steady M H → BlobsSteady (meanings_by f M) (holdings_by f g H)

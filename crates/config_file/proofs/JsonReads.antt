@@ -8,6 +8,7 @@ use Rattle.std.specs.Result.{result_ok}
 use Rattle.std.specs.Str.{IsAscii, bytes_eq}
 use Rattle.hex.proofs.HexLemmas.{IsAscii-encode_with, decode_of-encode_upper, decode_sized-twice, length-encode_with}
 use Rattle.hex.specs.Hex.{decode_sized, encode_upper, upper_digits}
+use Rattle.block_id.specs.declared.sizes.TheConstants.{MIN_BLOCK, MAX_BLOCK}
 use Rattle.json.proofs.Printed.Decimals.{IsNumber-decimal}
 use Rattle.json.proofs.Printed.Tokens.{tokens-print}
 use Rattle.json.proofs.Printed.Trees.{ArePrintable-json_tokens, value-json_tokens}
@@ -107,8 +108,8 @@ read_text s size =
 
 -- ---- the value says the configuration
 
-size_in : (n : ℕ) → IsBlockSize n → (cond (nat_lt n 128 || nat_lt 1048576 n) None (Some n)) ≡ Some n
-size_in n size = λ i. cond {A = Option ℕ} (le-ltb n 128 size.low i || le-ltb 1048576 n size.high i) None (Some n)
+size_in : (n : ℕ) → IsBlockSize n → (cond (nat_lt n MIN_BLOCK || nat_lt MAX_BLOCK n) None (Some n)) ≡ Some n
+size_in n size = λ i. cond {A = Option ℕ} (le-ltb n MIN_BLOCK size.low i || le-ltb MAX_BLOCK n size.high i) None (Some n)
 
 bytes_in : (len : ℕ) (bytes : List ℕ) → AreBytes len bytes → result_ok (decode_sized (encode_upper bytes) len) ≡ Some bytes
 bytes_in len bytes h =

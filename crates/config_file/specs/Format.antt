@@ -5,6 +5,7 @@ use Rattle.std.specs.List.{slice_range, starts_with}
 use Rattle.aes_gcm.specs.Gcm.{opened_of}
 use Rattle.scrypt_kdf.specs.Cost.{Cost, IsAllowed}
 use Rattle.scrypt_kdf.specs.Scrypt.{scrypt}
+use Rattle.config_file.specs.declared.format.TheConstants.{FILE_LEN}
 
 abbrev pub begins_with : List ℕ → List ℕ → Bool
 begins_with bytes front = starts_with nat_eq bytes front
@@ -23,7 +24,7 @@ cost_in bytes = record {
 
 -- the outer form is right
 pub record HasForm (bytes : List ℕ) : Type 0 where
-  pub size : length bytes ≡ 1126
+  pub size : length bytes ≡ FILE_LEN
   pub front : IsTrue (begins_with bytes outer_front)
   pub cost : IsAllowed (cost_in bytes)
 

@@ -8,6 +8,7 @@ use Rattle.serde_json.specs.Data.{Data, number, unsigned, string, object, member
 use Rattle.serde_json.specs.Find.{get, as_str, as_number, as_u64}
 use Rattle.serde_json.specs.Read.{read}
 use Rattle.serde_json.specs.Written.{compact_text}
+use Rattle.block_id.specs.declared.sizes.TheConstants.{MIN_BLOCK, MAX_BLOCK}
 use Rattle.config_file.specs.declared.config.Cipher.{Cipher}
 use Rattle.config_file.specs.declared.config.Cipher.TheVariants.{Aes256Gcm}
 use Rattle.config_file.specs.Settings.{Settings, cipher_name}
@@ -27,7 +28,7 @@ cipher_at d = option_and_then (λ text. if bytes_eq text (cipher_name Aes256Gcm)
 
 unfoldable pub block_size_at : Data → Option ℕ
 block_size_at d =
-    option_and_then (λ n. if nat_lt n 128 || nat_lt 1048576 n then None else Some n)
+    option_and_then (λ n. if nat_lt n MIN_BLOCK || nat_lt MAX_BLOCK n then None else Some n)
     (option_and_then (λ n. option_and_then as_u64 (as_number n)) (get (codes "blocksizeBytes") d))
 
 -- what the members of a value say; other members are ignored

@@ -1,6 +1,7 @@
 -- What a configuration says.
 use Rattle.std.specs.Prelude.{ℕ, ◌≡◌, ◌≤◌, List, codes, length}
 use Rattle.hex.specs.Hex.{IsBytes}
+use Rattle.block_id.specs.declared.sizes.TheConstants.{MIN_BLOCK, MAX_BLOCK}
 use Rattle.config_file.specs.declared.config.Cipher.{Cipher}
 use Rattle.config_file.specs.declared.config.Cipher.TheVariants.{Aes256Gcm}
 use Rattle.config_file.specs.declared.config.Config.{Config}
@@ -21,8 +22,8 @@ cipher_name Aes256Gcm = codes "aes-256-gcm"
 
 -- a block has 128 to 1,048,576 bytes
 pub record IsBlockSize (size : ℕ) : Type 0 where
-  pub low : 128 ≤ size
-  pub high : size ≤ 1048576
+  pub low : MIN_BLOCK ≤ size
+  pub high : size ≤ MAX_BLOCK
 
 pub record AreBytes (len : ℕ) (bytes : List ℕ) : Type 0 where
   pub size : length bytes ≡ len

@@ -7,7 +7,7 @@ use byte_fields::{u32_of, u64_of};
 use scrypt_kdf::Params;
 
 /// How many bytes the file has.
-pub(crate) const FILE_LEN: usize = 1126;
+pub const FILE_LEN: usize = 1126;
 
 pub(crate) const OUTER_FRONT: [u8; 22] = *b"cryfs.config;1;scrypt\0";
 

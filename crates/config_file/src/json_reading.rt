@@ -8,7 +8,7 @@ ghost use Rattle.config_file.specs.Json.{ReadsAs, block_size_at, bytes_at, ciphe
 ghost use Rattle.config_file.specs.Settings.{IsBlockSize, Settings, settings_of};
 
 use crate::config::{Cipher, Config};
-use block_id::{BlockId, Memory};
+use block_id::{BlockId, MAX_BLOCK, MIN_BLOCK, Memory};
 use hex::FromHex;
 use serde_json::{Category, Value};
 use std::alloc::Global;
@@ -66,7 +66,7 @@ fn block_size_in(value: &Value) -> Option<u32>
     ensures size { IfSome result (λ size. IsBlockSize size) }
 {
     let size = number_in(value)?;
-    if size < 128 || size > 1048576 {
+    if size < MIN_BLOCK as u64 || size > MAX_BLOCK as u64 {
         return None;
     }
     Some(size as u32)

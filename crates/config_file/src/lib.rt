@@ -12,6 +12,7 @@ mod seal;
 
 pub use config::{Cipher, Config, Opened};
 pub use error::ConfigError;
+pub use format::FILE_LEN;
 pub use open::open_config;
 pub use seal::seal_config;
 

@@ -3,6 +3,7 @@ use Rattle.std.specs.Prelude.{ℕ, ◌^◌, ◌==◌, ◌&&◌, Bool, List, Opti
 use Rattle.std.specs.List.{list_any, range_with_len}
 use Rattle.std.specs.Option.{option_map_or}
 use Rattle.clap.specs.Words.{Row, Text, first_of}
+use Rattle.block_id.specs.declared.sizes.TheConstants.{MIN_BLOCK, MAX_BLOCK}
 use Rattle.scrypt_kdf.specs.Cost.{Cost}
 use Rattle.script_text.specs.Numbers.{number_of}
 use Rattle.create_options.specs.Command.{are_options, values_in}
@@ -32,7 +33,7 @@ cost_at values =
 unfoldable pub options_at : List Row → Option CreateOptions
 options_at values =
     option_and_then (λ size. option_map (λ cost. record { block_size = size; params = cost }) (cost_at values))
-    (number_within (codes "blocksize") 16384 128 1048576 values)
+    (number_within (codes "blocksize") 16384 MIN_BLOCK MAX_BLOCK values)
 
 -- the options that the words say, or None where they aren't options of `create`
 unfoldable pub options_of : List Text → Option CreateOptions

@@ -1,13 +1,14 @@
 // The options that words say.
 ghost use Rattle.std.specs.Prelude.{◌≡◌, ◌≤◌, IfOk, IfSome, map};
 ghost use Rattle.std.specs.String.{string_bytes};
+ghost use Rattle.block_id.specs.declared.sizes.TheConstants.{MIN_BLOCK, MAX_BLOCK};
 ghost use Rattle.clap.specs.Words.{found_of, rows_of};
 ghost use Rattle.create_options.specs.Command.{has_separator};
 ghost use Rattle.create_options.specs.Options.{cost_at, number_at, number_within, options_at, options_of};
 
 use crate::command::{BLOCK_SIZE, SCRYPT_N, SCRYPT_P, SCRYPT_R, matches_in};
 use crate::options::CreateOptions;
-use block_id::Memory;
+use block_id::{MAX_BLOCK, MIN_BLOCK, Memory};
 use clap::ArgMatches;
 use script_text::number;
 use scrypt_kdf::Params;
@@ -22,7 +23,7 @@ pub fn parse_create_options(
     words: &[String],
 ) -> Result<Option<CreateOptions>, Memory>
     ensures said { IfOk result (λ options. options ≡ options_of (map string_bytes words.now)) }
-    ensures limits { IfOk result (λ options. IfSome options (λ o. (128 ≤ o.block_size) × (o.block_size ≤ 1048576))) }
+    ensures limits { IfOk result (λ options. IfSome options (λ o. (MIN_BLOCK ≤ o.block_size) × (o.block_size ≤ MAX_BLOCK))) }
 {
     if has_separator(words) {
         return Ok(None);
@@ -43,9 +44,9 @@ fn has_separator(words: &[String]) -> bool
 #[tactic(auto, unfolding(crate::specs::Options::options_at))]
 fn options_in(matches: &ArgMatches<'_>) -> Option<CreateOptions>
     ensures value { result ≡ options_at (rows_of (found_of matches.now)) }
-    ensures limits { IfSome result (λ o. (128 ≤ o.block_size) × (o.block_size ≤ 1048576)) }
+    ensures limits { IfSome result (λ o. (MIN_BLOCK ≤ o.block_size) × (o.block_size ≤ MAX_BLOCK)) }
 {
-    let block_size = number_within(matches, BLOCK_SIZE, 16384, 128, 1048576)?;
+    let block_size = number_within(matches, BLOCK_SIZE, 16384, MIN_BLOCK, MAX_BLOCK)?;
     let params = params_in(matches)?;
     Some(CreateOptions { block_size, params })
 }

@@ -3,6 +3,7 @@ use Rattle.std.specs.Prelude.{◌≡◌, ◌<◌, ◌≤◌, ◌-◌, ◌/◌, �
 use Rattle.std.specs.List.{concat}
 use Rattle.std.specs.Int.{w16, w32, to_le_bytes}
 use Rattle.block_id.specs.declared.id.BlockId.{BlockId}
+use Rattle.block_id.specs.declared.sizes.TheConstants.{MIN_PAYLOAD, MAX_BLOCK}
 use Rattle.data_nodes.specs.declared.node.Node.{Node}
 use Rattle.data_nodes.specs.declared.node.Node.TheVariants.{Leaf, Inner}
 
@@ -27,7 +28,7 @@ abbrev pub fan_out : ℕ → ℕ
 fan_out payload = room payload / 16
 
 abbrev pub IsPayloadLen : ℕ → Type 0
-IsPayloadLen payload = (50 ≤ payload) × (payload ≤ 1048576)
+IsPayloadLen payload = (MIN_PAYLOAD ≤ payload) × (payload ≤ MAX_BLOCK)
 
 -- the bounds on a node in a payload of this many bytes
 abbrev pub FitsPayload : ℕ → NodeText → Type 0

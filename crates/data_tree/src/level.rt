@@ -1,5 +1,6 @@
 // Depths of a tree with their room, and parts of its bytes.
 ghost use Rattle.std.specs.Prelude.{◌≡◌, ◌+◌, ◌-◌, ◌*◌, ◌≤◌, ◌<◌, ◌^◌, ℕ, take, drop, ◌++◌, OnOk, IfSome, IfNone};
+ghost use Rattle.block_id.specs.declared.sizes.TheConstants.{MIN_PAYLOAD, MAX_BLOCK};
 ghost use Rattle.data_nodes.specs.Layout.{fan_out, node_of};
 ghost use Rattle.data_tree.specs.Trees.{span, depth_in, between, IsDepth};
 
@@ -24,7 +25,7 @@ impl Level {
     /// The level below, where blocks have payloads of this length.
     pub fn below(self, payload: usize) -> Level
         requires deep { 0 < self.depth }
-        requires payload { 50 ≤ payload }
+        requires payload { MIN_PAYLOAD ≤ payload }
         requires room { self.room ≡ span payload self.depth }
         ensures depth { result.depth + 1 ≡ self.depth }
         ensures room { result.room ≡ span payload result.depth }
@@ -75,8 +76,8 @@ pub const MOST_BYTES: u64 = 1 << 40;
 
 /// The level of this depth, or None where the depth is above that of a tree of the most bytes.
 pub fn level_of(payload: usize, depth: u8) -> Option<Level>
-    requires least { 50 ≤ payload }
-    requires most { payload ≤ 1048576 }
+    requires least { MIN_PAYLOAD ≤ payload }
+    requires most { payload ≤ MAX_BLOCK }
     ensures depth { IfSome result (λ level. level.depth ≡ depth) }
     ensures room { IfSome result (λ level. level.room ≡ span payload depth) }
     ensures fits { IfSome result (λ level. level.room < 2 ^ 63) }
@@ -95,8 +96,8 @@ pub fn level_of(payload: usize, depth: u8) -> Option<Level>
 
 /// The level of the tree of so many bytes.
 pub fn level_for(payload: usize, len: u64) -> Level
-    requires least { 50 ≤ payload }
-    requires most { payload ≤ 1048576 }
+    requires least { MIN_PAYLOAD ≤ payload }
+    requires most { payload ≤ MAX_BLOCK }
     requires len { len ≤ 2 ^ 40 }
     ensures deep { IsDepth payload result.depth len }
     ensures room { result.room ≡ span payload result.depth }

@@ -1,6 +1,7 @@
 -- What a store of sealed blocks was made with, and what it sees.
 use Rattle.std.specs.Prelude.{◌≡◌, ℕ, ◌+◌, ◌≤◌, List}
 use Rattle.std.specs.declared.option.Option.{Option}
+use Rattle.block_id.specs.declared.sizes.TheConstants.{MIN_BLOCK, MAX_BLOCK}
 use Rattle.outside.specs.Trace.{Call, block}
 use Rattle.redo_vault.specs.Redo.{Gave}
 use Rattle.sealed_store.specs.declared.seen.Seen.{Seen}
@@ -17,8 +18,8 @@ seen_file_of (Plain bytes) = plain bytes.items
 
 -- a block size within its limits, and an IV of 16 bytes
 pub record IsIntact (block_size iv_size : ℕ) : Type 0 where
-  pub least : 128 ≤ block_size
-  pub most : block_size ≤ 1048576
+  pub least : MIN_BLOCK ≤ block_size
+  pub most : block_size ≤ MAX_BLOCK
   pub iv : iv_size ≡ 16
 
 -- the parts that a store was made of

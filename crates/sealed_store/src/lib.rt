@@ -4,5 +4,5 @@
 mod sealed_store;
 mod seen;
 
-pub use sealed_store::SealedStore;
+pub use sealed_store::{SEAL_LEN, SealedStore};
 pub use seen::Seen;

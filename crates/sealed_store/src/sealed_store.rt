@@ -2,11 +2,13 @@
 ghost use Rattle.std.specs.Prelude.{◌≡◌, ◌⊎◌, ◌≤◌, ◌+◌, ℕ, List, length, take, drop, IfOk, IfSome, OnErr, IsErrOf};
 ghost use Rattle.std.specs.declared.option.Option.{Option};
 ghost use Rattle.std.specs.declared.option.Option.TheVariants.{None, Some};
+ghost use Rattle.block_id.specs.declared.sizes.TheConstants.{MIN_BLOCK, MAX_BLOCK};
 ghost use Rattle.outside.specs.Causes.{GetHasCause};
 ghost use Rattle.outside.specs.Trace.{block};
 ghost use Rattle.outside.specs.Changes.{change_at};
 ghost use Rattle.outside.specs.View.{bytes_of};
 ghost use Rattle.redo_vault.specs.Redo.{Gave};
+ghost use Rattle.sealed_store.specs.declared.sealed_store.TheConstants.{SEAL_LEN};
 ghost use Rattle.sealed_store.specs.BlockFiles.{prefix, opens_file, seen_file_in};
 ghost use Rattle.sealed_store.specs.Stores.{seen_file_of, IsIntact, Sees, block_size_of, key_of, cipher_of};
 
@@ -16,6 +18,9 @@ use outside::{FileName, GetFail, Memory, Vault};
 use redo_vault::RedoVault;
 use seal_api::Sealer;
 use std::alloc::Global;
+
+/// Bytes of a block's file beside the record that it seals: the prefix, the IV and the tag.
+pub const SEAL_LEN: usize = 48;
 
 const PREFIX: [u8; 16] = *b"cryfs;block;0\0\x01\0";
 
@@ -57,7 +62,7 @@ fn see<C: Sealer>(
 impl<V: Vault, C: Sealer> SealedStore<V, C> {
     /// A directory of block files of `block_size` bytes, sealed under this key.
     pub fn new(vault: RedoVault<V>, cipher: C, key: [u8; 32], block_size: usize) -> Self
-        requires size { (128 ≤ block_size) × (block_size ≤ 1048576) }
+        requires size { (MIN_BLOCK ≤ block_size) × (block_size ≤ MAX_BLOCK) }
         requires iv { C.iv_size cipher ≡ 16 }
         ensures vault { result.vault ≡ vault }
         ensures cipher { cipher_of result ≡ cipher }
@@ -120,7 +125,7 @@ impl<V: Vault, C: Sealer> SealedStore<V, C> {
         iv: &[u8],
     ) -> Result<Vec<u8>, Memory>
         requires intact { IsIntact (block_size_of self.now) (C.iv_size (cipher_of self.now)) }
-        requires plain { length plain.now + 48 ≡ block_size_of self.now }
+        requires plain { length plain.now + SEAL_LEN ≡ block_size_of self.now }
         requires iv { length iv.now ≡ C.iv_size (cipher_of self.now) }
         ensures len { IfOk result (λ file. length file.items ≡ block_size_of self.now) }
         ensures prefix { IfOk result (λ file. take 16 file.items ≡ prefix) }

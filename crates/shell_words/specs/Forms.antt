@@ -5,6 +5,7 @@ use Rattle.std.specs.declared.option.Option.{Option}
 use Rattle.std.specs.declared.option.Option.TheVariants.{None, Some}
 use Rattle.std.specs.Option.{option_map}
 use Rattle.std.specs.Str.{bytes_eq}
+use Rattle.block_id.specs.declared.sizes.TheConstants.{MIN_BLOCK, MAX_BLOCK}
 use Rattle.script_text.specs.Grammar.{verb_of}
 use Rattle.script_text.specs.Numbers.{number_of, below}
 use Rattle.create_options.specs.Options.{options_of}
@@ -54,6 +55,6 @@ joined (first ∷ others) = first ++ flat_map (λ word. 32 ∷ word) others
 -- at most 1,000,000 commands, and blocks of 128 to 1,048,576 bytes
 abbrev pub IsModest : Form → Type 0
 IsModest (Generate count) = count ≤ 1000000
-IsModest (Create options) = (128 ≤ options.block_size) × (options.block_size ≤ 1048576)
+IsModest (Create options) = (MIN_BLOCK ≤ options.block_size) × (options.block_size ≤ MAX_BLOCK)
 IsModest (TrialGenerate count) = count ≤ 1000000
 IsModest _ = Unit {0}

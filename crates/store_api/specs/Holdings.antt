@@ -5,6 +5,7 @@ use Rattle.std.specs.declared.option.Option.{Option}
 use Rattle.std.specs.declared.option.Option.TheVariants.{None, Some}
 use Rattle.std.specs.FinMap.{get}
 use Rattle.block_id.specs.Fresh.{zero_id}
+use Rattle.block_id.specs.declared.sizes.TheConstants.{MIN_PAYLOAD, MAX_BLOCK}
 use Rattle.outcome.specs.Meanings.{Meanings}
 use Rattle.store_api.specs.Content.{Id, Content, same_id, SameIds, SameContent, Changes, over}
 
@@ -36,8 +37,8 @@ IsFew used = length used < 2 ^ 64
 -- what holds of every store that is intact
 pub record Steady {S : Type 0} (M : Meanings S) (H : Holdings S) : Type 0 where
   pub sound_told : (a : S) → M.sound a → H.told a ≡ true
-  pub at_least : (a : S) → M.intact a → 50 ≤ H.payload a
-  pub at_most : (a : S) → M.intact a → H.payload a ≤ 1048576
+  pub at_least : (a : S) → M.intact a → MIN_PAYLOAD ≤ H.payload a
+  pub at_most : (a : S) → M.intact a → H.payload a ≤ MAX_BLOCK
   pub content_used : (a : S) (id : Id) → M.intact a → is_some (H.content a id) ≡ true → has_id (H.used a) id ≡ true
   pub zero_unused : (a : S) → M.intact a → has_id (H.used a) zero_id ≡ false
   pub sized : (a : S) (id bytes : List ℕ) → M.intact a → H.told a ≡ true → H.content a id ≡ Some bytes → length bytes ≡ H.payload a

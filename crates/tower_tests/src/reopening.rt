@@ -1,6 +1,7 @@
 // A payload that is put, synced, and loaded by the store that is opened anew from what was kept.
 ghost use Rattle.std.specs.Prelude.{◌≡◌, ◌≤◌, Some, true, false, length, IfOk, OnOk};
 ghost use Rattle.std.specs.FinMap as fin;
+ghost use Rattle.block_id.specs.declared.sizes.TheConstants.{MIN_BLOCK, MAX_BLOCK};
 ghost use Rattle.outside.specs.Changes.{change_at};
 ghost use Rattle.outside.specs.Honest.{count_told};
 ghost use Rattle.outside.specs.Trace.{config};
@@ -128,7 +129,7 @@ fn reopen<V: Vault + Drop, C: Sealer + Drop>(
     seal: Seal<C>,
     kept: &[u8],
 ) -> Result<IntegrityStore<V, C>, Fail>
-    requires size { (128 ≤ seal.block_size) × (seal.block_size ≤ 1048576) }
+    requires size { (MIN_BLOCK ≤ seal.block_size) × (seal.block_size ≤ MAX_BLOCK) }
     requires iv { C.iv_size seal.cipher ≡ 16 }
     ensures intact { IfOk result (λ store. ⟦<IntegrityStore<V, C> as Blocks>⟧.meanings.intact store) }
     ensures forgeries { IfOk result (λ store. ⟦<IntegrityStore<V, C> as Blocks>⟧.meanings.forgeries store
@@ -170,7 +171,7 @@ pub fn put_reopen_load<V: Vault + Drop, C: Sealer + Drop, K: Keeper + Drop, R: R
     payload: Vec<u8>,
     chance: &mut R,
 ) -> Result<Reopened<V, C, K>, Fail>
-    requires size { (128 ≤ seal.block_size) × (seal.block_size ≤ 1048576) }
+    requires size { (MIN_BLOCK ≤ seal.block_size) × (seal.block_size ≤ MAX_BLOCK) }
     requires iv { C.iv_size seal.cipher ≡ 16 }
     requires intact { ⟦<IntegrityStore<V, C> as Blocks>⟧.meanings.intact store }
     requires few { IsFew (⟦<IntegrityStore<V, C> as Blocks>⟧.holdings.used store) }

@@ -1,6 +1,7 @@
 // A tree whose depth rises: its node moves under a new id, and new trees stand beside it.
 ghost use Rattle.std.specs.Prelude.{◌≡◌, ◌≤◌, ◌<◌, ◌+◌, ◌*◌, ◌++◌, ◌^◌, true, is_some, length, IfOk};
 ghost use Rattle.std.specs.FinMap.{get};
+ghost use Rattle.block_id.specs.declared.sizes.TheConstants.{MIN_PAYLOAD, MAX_BLOCK};
 ghost use Rattle.store_api.specs.Content.{Id};
 ghost use Rattle.data_nodes.specs.Layout.{fan_out, node_of, FitsPayload};
 ghost use Rattle.data_tree.specs.Trees.{span};
@@ -16,8 +17,8 @@ use store_api::{Blocks, Tx};
 
 /// The level above, where blocks have payloads of this length.
 fn above(level: Level, payload: usize) -> Level
-    requires least { 50 ≤ payload }
-    requires most { payload ≤ 1048576 }
+    requires least { MIN_PAYLOAD ≤ payload }
+    requires most { payload ≤ MAX_BLOCK }
     requires small { level.room < 2 ^ 40 }
     requires room { level.room ≡ span payload level.depth }
     ensures depth { result.depth ≡ level.depth + 1 }
