@@ -10,6 +10,7 @@ use Rattle.config_file.specs.ConfigOf.{IsOnly, opened}
 use Rattle.line_io.specs.Streams.{Stream, Untouched}
 use Rattle.mount.specs.declared.draws.Draws.{Draws}
 use Rattle.mount.specs.declared.error.OpenError.{OpenError}
+use Rattle.mount.specs.declared.opening.TheConstants.{MAX_CONFIG}
 use Rattle.mount.specs.declared.error.OpenError.TheVariants as open_error
 use Rattle.mount.specs.Making.{CreateCause, Created as Made, IsUnchanged, KnowsOnly, StaysThere, new_settings, root_of, sealed_file}
 use Rattle.outside.specs.Going.{GoesOn}
@@ -47,8 +48,8 @@ pub record IsCreated {V : Type 0} {K : Type 0} (trace : V → Option (List Call)
   -- where something is kept, neither is written
   pub there : is_some (G.kept keeper) ≡ true → StaysThere G.kept vault keeper ended.vault ended.keeper made
   -- nothing is kept anew unless nothing was kept and the directory gave no configuration
-  pub absent : OnOk made ((G.kept keeper ≡ None) × GoesOn (adds (trace vault) (got config 1127 None)) (trace ended.vault))
-  pub asked : (G.kept ended.keeper ≡ G.kept keeper) ⊎ ((G.kept keeper ≡ None) × GoesOn (adds (trace vault) (got config 1127 None)) (trace ended.vault))
+  pub absent : OnOk made ((G.kept keeper ≡ None) × GoesOn (adds (trace vault) (got config MAX_CONFIG None)) (trace ended.vault))
+  pub asked : (G.kept ended.keeper ≡ G.kept keeper) ⊎ ((G.kept keeper ≡ None) × GoesOn (adds (trace vault) (got config MAX_CONFIG None)) (trace ended.vault))
   pub exists : made ≡ Err open_error.Exists → G.kept ended.keeper ≡ G.kept keeper
   pub cause : IfErr made (CreateCause (G.kept keeper) (trace vault) (trace ended.vault) (faults vault) (faults ended.vault) (G.faults keeper) (G.faults ended.keeper))
   -- no call that failed was passed over

@@ -26,6 +26,7 @@ use Rattle.config_file.specs.declared.config.Cipher.{Cipher}
 use Rattle.config_file.specs.declared.config.Cipher.TheVariants.{Aes256Gcm}
 use Rattle.session_saver.specs.Saving.{KeptConfigures}
 use Rattle.tree_commands.specs.Performing.{Showing}
+use Rattle.mount.specs.declared.opening.TheConstants.{MAX_CONFIG}
 use Rattle.mount.specs.declared.draws.Draws.{Draws}
 use Rattle.mount.specs.declared.draws.SealDraws.{SealDraws}
 use Rattle.mount.specs.declared.error.OpenError.{OpenError}
@@ -62,7 +63,7 @@ pub record IsUnchanged (trace : Option (List Call)) : Type 0 where
 -- why a file system isn't made
 abbrev pub CreateCause : Option (List ℕ) → Option (List Call) → Option (List Call) → ℕ → ℕ → ℕ → ℕ → OpenError → Type 0
 CreateCause kept t0 t1 v0 v1 k0 k1 Memory = Unit {0}
-CreateCause kept t0 t1 v0 v1 k0 k1 Exists = (is_some kept ≡ true) ⊎ ((file : List ℕ) × (t1 ≡ adds t0 (got config 1127 (Some file))))
+CreateCause kept t0 t1 v0 v1 k0 k1 Exists = (is_some kept ≡ true) ⊎ ((file : List ℕ) × (t1 ≡ adds t0 (got config MAX_CONFIG (Some file))))
 CreateCause kept t0 t1 v0 v1 k0 k1 FaultDirectory = RoseBy 1 v0 v1
 CreateCause kept t0 t1 v0 v1 k0 k1 FaultState = RoseBy 1 k0 k1
 CreateCause kept t0 t1 v0 v1 k0 k1 error = ⊥

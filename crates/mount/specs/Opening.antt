@@ -20,6 +20,7 @@ use Rattle.session_saver.specs.declared.saver.SyncError.{SyncError}
 use Rattle.session_saver.specs.declared.saver.SyncError.TheVariants.{Memory as SyncMemory, FaultDirectory as SyncDirectory, FaultState as SyncState}
 use Rattle.mount_core.specs.Standing.{IsKeptMarked}
 use Rattle.mount.specs.declared.error.OpenError.{OpenError}
+use Rattle.mount.specs.declared.opening.TheConstants.{MAX_CONFIG}
 use Rattle.mount.specs.declared.error.OpenError.TheVariants.{Memory, NoState, BadState, Marked, Mismatch, NoConfig, Config as OfConfig, FaultDirectory, FaultState}
 
 -- the record of this state and list is kept, and no violation is marked in it
@@ -49,11 +50,11 @@ LoadCause kept k0 k1 error = ⊥
 
 -- what the list, or else one call, gave for the configuration
 abbrev pub GaveConfig : FileChanges → Option (List Call) → Option (List Call) → Option (List ℕ) → Type 0
-GaveConfig list old new answer = Gave (change_at config list) old new config 1127 answer
+GaveConfig list old new answer = Gave (change_at config list) old new config MAX_CONFIG answer
 
 -- no call, or one get of the configuration
 abbrev pub ReadsConfigOnce : Option (List Call) → Option (List Call) → Type 0
-ReadsConfigOnce old new = (new ≡ old) ⊎ ((answer : Option (List ℕ)) × (new ≡ adds old (got config 1127 answer)))
+ReadsConfigOnce old new = (new ≡ old) ⊎ ((answer : Option (List ℕ)) × (new ≡ adds old (got config MAX_CONFIG answer)))
 
 -- the configuration that was given opened under the password
 pub record OpenedConfig (password : List ℕ) (list : FileChanges) (old new : Option (List Call)) (o : Opened) : Type 0 where

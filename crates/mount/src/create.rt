@@ -10,6 +10,7 @@ ghost use Rattle.config_file.specs.Settings.{IsBlockSize, settings_of};
 ghost use Rattle.outside.specs.Going.{GoesOn};
 ghost use Rattle.local_state.specs.Record.{HasRecord, plain_state};
 ghost use Rattle.tree_commands.specs.Showing.{ShowsFiles};
+ghost use Rattle.mount.specs.declared.opening.TheConstants.{MAX_CONFIG};
 ghost use Rattle.mount.specs.Drawing.{drawn};
 ghost use Rattle.mount.specs.Making.{CreateCause, Created, HasSalt, IsNewStore, IsUnchanged, KnowsOnly, StaysThere, StopsThere, new_settings, sealed_file, root_of};
 ghost use Rattle.mount.specs.Opening.{ReadsConfigOnce};
@@ -37,7 +38,7 @@ fn ask_absent<V: Vault, K: Keeper>(
     vault: &mut V,
     keeper: &mut K,
 ) -> Result<(), OpenError>
-    ensures ok { OnOk result ((K.kept keeper.old ≡ None) × (V.trace vault.new ≡ adds (V.trace vault.old) (got config 1127 None))) }
+    ensures ok { OnOk result ((K.kept keeper.old ≡ None) × (V.trace vault.new ≡ adds (V.trace vault.old) (got config MAX_CONFIG None))) }
     ensures err { IfErr result (λ e. CreateCause (K.kept keeper.old) (V.trace vault.old) (V.trace vault.new) (V.faults vault.old) (V.faults vault.new) (K.faults keeper.old) (K.faults keeper.new) e) }
     ensures there { is_some (K.kept keeper.old) ≡ true → IsErr result × (vault.new ≡ vault.old) × IfErr result StopsThere }
     ensures reads { ReadsConfigOnce (V.trace vault.old) (V.trace vault.new) }
@@ -139,8 +140,8 @@ impl<V: Vault, K: Keeper> Mount<V, K> {
         ensures opens { IsOnly password.now (sealed_file password.now params.now (drawn (R.stream chance.old)).0.seal (new_settings block_size (drawn (R.stream chance.old)).0))
             (opened_as (new_settings block_size (drawn (R.stream chance.old)).0) params.now)
             ⊎ ((K.kept result.2 ≡ K.kept keeper) × IsErr result.0) }
-        ensures absent { OnOk result.0 ((K.kept keeper ≡ None) × GoesOn (adds (V.trace vault) (got config 1127 None)) (V.trace result.1)) }
-        ensures asked { (K.kept result.2 ≡ K.kept keeper) ⊎ ((K.kept keeper ≡ None) × GoesOn (adds (V.trace vault) (got config 1127 None)) (V.trace result.1)) }
+        ensures absent { OnOk result.0 ((K.kept keeper ≡ None) × GoesOn (adds (V.trace vault) (got config MAX_CONFIG None)) (V.trace result.1)) }
+        ensures asked { (K.kept result.2 ≡ K.kept keeper) ⊎ ((K.kept keeper ≡ None) × GoesOn (adds (V.trace vault) (got config MAX_CONFIG None)) (V.trace result.1)) }
         ensures there { is_some (K.kept keeper) ≡ true → StaysThere K.kept vault keeper result.1 result.2 result.0 }
         ensures exists { (result.0 ≡ Err OpenError.Exists) → K.kept result.2 ≡ K.kept keeper }
         ensures cause { IfErr result.0 (λ e. CreateCause (K.kept keeper) (V.trace vault) (V.trace result.1) (V.faults vault) (V.faults result.1) (K.faults keeper) (K.faults result.2) e) }

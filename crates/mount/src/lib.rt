@@ -13,4 +13,5 @@ mod tower;
 pub use draws::{Draws, SealDraws};
 pub use error::OpenError;
 pub use mount::{Halted, Mount};
+pub use opening::MAX_CONFIG;
 pub use tower::Cached;

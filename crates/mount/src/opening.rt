@@ -7,14 +7,14 @@ ghost use Rattle.config_file.specs.Settings.{IsBlockSize, settings_of};
 ghost use Rattle.mount.specs.Opening.{IsLoaded, LoadCause, OpenedConfig, ConfigCause, IsOf, ReadsConfigOnce};
 
 use crate::error::OpenError;
-use config_file::{Config, ConfigError, Opened, open_config};
+use config_file::{Config, ConfigError, FILE_LEN, Opened, open_config};
 use local_state::{State, StateError, decode, key_digest};
 use outside::{FileName, GetFail, Keeper, Pending, Vault};
 use redo_vault::RedoVault;
 use std::alloc::Global;
 
 /// Bytes of the configuration's file that are asked for: one more than it has.
-pub(crate) const MAX_CONFIG: usize = 1127;
+pub const MAX_CONFIG: usize = FILE_LEN + 1;
 
 /// A record that was kept, with what it says.
 pub(crate) struct Loaded {
