@@ -7,6 +7,7 @@ use Rattle.std.specs.Cmp.Lexicographic.{nat_list_cmp_total}
 use Rattle.std.specs.declared.option.Option.{Option}
 use Rattle.std.specs.declared.option.Option.TheVariants.{None, Some}
 use Rattle.outcome.specs.Meanings.{Meanings, Lawful}
+use Rattle.outcome.specs.InMemory.{in_memory, in_memory_lawful}
 use Rattle.store_api.specs.Content.{Changes}
 use Rattle.blob_api.specs.BlobMap.{Id, BlobMap, BlobHoldings, BlobsSteady}
 
@@ -19,31 +20,13 @@ abbrev pub AreRows : Changes → BlobMap → Type 0
 AreRows rows m = (id : Id) → fin.get m id ≡ row_of (fin.get rows id)
 
 abbrev pub meanings_of : {S : Type 0} → Meanings S
-meanings_of = record {
-  intact = λ s. Unit {0};
-  sound = λ s. Unit {0};
-  forgeries = λ s. 0;
-  lies = λ s. 0;
-  faults = λ s. 0;
-  loaded = λ a b. Unit {0};
-  met = λ a b why. ⊥;
-}
+meanings_of = in_memory (λ s. Unit {0}) (λ a b. Unit {0})
 
 abbrev pub holdings_of : {S : Type 0} → (S → Changes) → BlobHoldings S
 holdings_of r = record { stands_for = λ s m. AreRows (r s) m; changed = λ s. 0; piece = λ s. Some 1 }
 
 pub lawful_of : {S : Type 0} → Lawful (meanings_of {S = S})
-lawful_of = record {
-  same = λ a. tt;
-  onward = λ a b c h k. tt;
-  met_before = λ a b c why h k m. m;
-  met_after = λ a b c why h k m. m;
-  forgeries_grow = λ a b h. omega arith;
-  lies_grow = λ a b h. omega arith;
-  faults_grow = λ a b h. omega arith;
-  honest_unforged = λ a b h s l. omega arith;
-  honest_unmet = λ a b why h s l m. m;
-}
+lawful_of = in_memory_lawful (λ s. Unit {0}) (λ a b. Unit {0}) (λ a. tt) (λ a b c h k. tt)
 
 one : (l : ℕ) → Some 1 ≡ Some l → 1 ≤ l
 one l e = let same : 1 ≡ l = cc in omega (arith, same)

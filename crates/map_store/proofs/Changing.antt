@@ -4,6 +4,7 @@ use Rattle.std.specs.Prelude.{Option, Some, None, is_some, not, ◌&&◌}
 use Rattle.std.specs.FinMap as fin
 use Rattle.std.specs.FinMap.{get-empty}
 use Rattle.block_id.specs.Fresh.{zero_id}
+use Rattle.block_id.specs.declared.sizes.TheConstants.{MIN_PAYLOAD, MAX_BLOCK}
 use Rattle.store_api.specs.Content.{Id, id_cmp, Changes, same_id, or_else, over}
 use Rattle.store_api.specs.Holdings.{FitsStore, Changed, IsFew, has_id}
 use Rattle.map_store.specs.Rows.{Kept, AreWith, newer, content_of, meanings_of, holdings_of, has_id-keys}
@@ -39,7 +40,7 @@ none_some : (x : Option (List ℕ)) → None ≡ Some x → ⊥
 none_some x e = absurd (cc)
 
 -- a new store
-pub kept_nothing : (payload : ℕ) (rows : Changes) → 50 ≤ payload → payload ≤ 1048576 → rows ≡ fin.empty → Kept payload rows
+pub kept_nothing : (payload : ℕ) (rows : Changes) → MIN_PAYLOAD ≤ payload → payload ≤ MAX_BLOCK → rows ≡ fin.empty → Kept payload rows
 kept_nothing payload rows low high is = record {
   at_least = low;
   at_most = high;
@@ -59,8 +60,8 @@ module _ {S : Type 0} (p : S → ℕ) (r : S → Changes) (a b : S) (changes : C
 
   pub kept_with : Kept (p a) (r a) → FitsStore (holdings_of p r) a changes → p b ≡ p a → AreWith changes (r a) (r b) → Kept (p b) (r b)
   kept_with k fits same are = record {
-    at_least = subst (λ n. 50 ≤ n) (sym same) k.at_least;
-    at_most = subst (λ n. n ≤ 1048576) (sym same) k.at_most;
+    at_least = subst (λ n. MIN_PAYLOAD ≤ n) (sym same) k.at_least;
+    at_most = subst (λ n. n ≤ MAX_BLOCK) (sym same) k.at_most;
     sized = λ id bytes h. elim (newer_cases (fin.get changes id) (fin.get (r a) id) (Some (Some bytes)) (sym (are id) ∙ h)) [
       | inl new ↦ fits.sized id bytes new ∙ sym same
       | inr old ↦ k.sized id bytes old ∙ sym same

@@ -4,7 +4,9 @@ use Rattle.std.proofs.Common.{sym, ◌∙◌, ap, arith}
 use Rattle.std.specs.FinMap as fin
 use Rattle.std.specs.FinMap.{contains_key-keys}
 use Rattle.block_id.specs.Fresh.{zero_id}
+use Rattle.block_id.specs.declared.sizes.TheConstants.{MIN_PAYLOAD, MAX_BLOCK}
 use Rattle.outcome.specs.Meanings.{Meanings, Lawful}
+use Rattle.outcome.specs.InMemory.{in_memory, in_memory_lawful}
 use Rattle.store_api.specs.Content.{Id, Content, Changes, or_else}
 use Rattle.store_api.specs.Loads.{LoadAnswer, GivesPayload}
 use Rattle.store_api.specs.Holdings.{Holdings, Steady, Stays, has_id}
@@ -14,8 +16,8 @@ content_of rows id = or_else (fin.get rows id) None
 
 -- what every store of rows keeps: each payload has this length, and no row is of the zero id
 pub record Kept (payload : ℕ) (rows : Changes) : Type 0 where
-  pub at_least : 50 ≤ payload
-  pub at_most : payload ≤ 1048576
+  pub at_least : MIN_PAYLOAD ≤ payload
+  pub at_most : payload ≤ MAX_BLOCK
   pub sized : (id bytes : List ℕ) → fin.get rows id ≡ Some (Some bytes) → length bytes ≡ payload
   pub no_zero : fin.get rows zero_id ≡ None
 
@@ -30,15 +32,7 @@ AreWith changes old new = (id : Id) → fin.get new id ≡ newer (fin.get change
 
 -- p is the length of each payload, and r are the rows
 abbrev pub meanings_of : {S : Type 0} → (S → ℕ) → (S → Changes) → Meanings S
-meanings_of p r = record {
-  intact = λ s. Kept (p s) (r s);
-  sound = λ s. Unit {0};
-  forgeries = λ s. 0;
-  lies = λ s. 0;
-  faults = λ s. 0;
-  loaded = λ a b. (p b ≡ p a) × (r b ≡ r a);
-  met = λ a b why. ⊥;
-}
+meanings_of p r = in_memory (λ s. Kept (p s) (r s)) (λ a b. (p b ≡ p a) × (r b ≡ r a))
 
 abbrev pub holdings_of : {S : Type 0} → (S → ℕ) → (S → Changes) → Holdings S
 holdings_of p r = record {
@@ -58,17 +52,7 @@ abbrev pub loads_of : {S : Type 0} → (S → ℕ) → (S → Changes) → S →
 loads_of p r a b id answer = (p b ≡ p a) × (r b ≡ r a) × GivesPayload (content_of (r a) id) answer
 
 pub lawful_of : {S : Type 0} (p : S → ℕ) (r : S → Changes) → Lawful (meanings_of p r)
-lawful_of p r = record {
-  same = λ a. (refl, refl);
-  onward = λ a b c h k. (k.0 ∙ h.0, k.1 ∙ h.1);
-  met_before = λ a b c why h k m. m;
-  met_after = λ a b c why h k m. m;
-  forgeries_grow = λ a b h. omega arith;
-  lies_grow = λ a b h. omega arith;
-  faults_grow = λ a b h. omega arith;
-  honest_unforged = λ a b h s l. omega arith;
-  honest_unmet = λ a b why h s l m. m;
-}
+lawful_of p r = in_memory_lawful (λ s. Kept (p s) (r s)) (λ a b. (p b ≡ p a) × (r b ≡ r a)) (λ a. (refl, refl)) (λ a b c h k. (k.0 ∙ h.0, k.1 ∙ h.1))
 
 -- an id is used where it has a row
 pub has_id-keys : (rows : Changes) (id : Id) → has_id (fin.keys rows) id ≡ is_some (fin.get rows id)

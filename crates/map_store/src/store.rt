@@ -1,6 +1,7 @@
 // A store of blocks in memory.
 ghost use Rattle.std.specs.Prelude.{◌≡◌, ◌≤◌};
 ghost use Rattle.std.specs.FinMap as fin;
+ghost use Rattle.block_id.specs.declared.sizes.TheConstants.{MIN_PAYLOAD, MAX_BLOCK};
 ghost use Rattle.map_store.specs.Rows.{meanings_of, holdings_of, loads_of, applied_of, lawful_of, steady_of, settled_of};
 
 use crate::rows::{changed, first_free};
@@ -19,8 +20,8 @@ pub struct MapStore {
 impl MapStore {
     /// An empty store of payloads of this length, which is 50 to 1,048,576.
     pub fn new(alloc: Global, payload: usize) -> MapStore
-        requires at_least { 50 ≤ payload }
-        requires at_most { payload ≤ 1048576 }
+        requires at_least { MIN_PAYLOAD ≤ payload }
+        requires at_most { payload ≤ MAX_BLOCK }
         ensures intact { ⟦<MapStore as Blocks>⟧.meanings.intact result }
         ensures payload { result.payload ≡ payload }
         ensures rows { result.rows ≡ fin.empty }

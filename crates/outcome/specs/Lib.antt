@@ -1,3 +1,4 @@
 pub mod Meanings
 pub mod Outcome
 pub mod Lift
+pub mod InMemory
