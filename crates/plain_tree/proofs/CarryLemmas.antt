@@ -12,12 +12,12 @@ use Rattle.std.specs.declared.option.Option.TheVariants.{None, Some}
 use Rattle.std.proofs.lemmas.Option.{none-some}
 use Rattle.fs_model.specs.declared.attr.Attr.{Attr}
 use Rattle.fs_model.specs.Instant.{Instant}
-use Rattle.fs_model.specs.Tree.{Path, Row, Tree, upward, parent, last_name, is_root, same_path, is_directory, directory_size, entry_size, root_row, IsRooted, IsWellFormed}
+use Rattle.fs_model.specs.Tree.{Path, Row, Tree, upward, parent, last_name, is_root, same_path, is_directory, directory_size, entry_size, IsRooted, IsWellFormed}
 use Rattle.fs_model.specs.LookUp.{Found, Free, look}
 use Rattle.fs_model.specs.Move.{CanMove, strip, is_above}
 use Rattle.fs_model.specs.Step.{with_ctime, moved_tree}
 use Rattle.fs_model.proofs.TreeLemmas.{path_total, path_exact, path_split, path_same, apart, insert_here, insert_apart, remove_here, remove_apart}
-use Rattle.fs_model.proofs.LookUpLemmas.{look-found, get-found, get-free, IsFree}
+use Rattle.fs_model.proofs.LookUpLemmas.{get-found, get-free}
 use Rattle.fs_model.proofs.MoveLemmas.{strip-append, strip-is}
 use Rattle.fs_model.proofs.MovedTree.{not_above, strip_none, moved-here, moved-below, moved-off, moved-gone, strip_off}
 use Rattle.fs_model.proofs.MovedSize.{size_within_free, size_within_found, size_across_free, size_across_found}

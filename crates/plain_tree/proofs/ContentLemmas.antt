@@ -1,13 +1,11 @@
 -- The content of a file after a write.
-use Rattle.std.proofs.Common.{◌≡◌, ℕ, ◌+◌, ◌-◌, ◌<◌, ◌≤◌, ◌++◌, min, max, length, take, drop, suc, zero, true, false, refl, List, [], ◌∷◌, sym, ◌∙◌, ap, arith}
+use Rattle.std.proofs.Common.{◌≡◌, ℕ, ◌+◌, ◌-◌, ◌<◌, ◌++◌, length, take, drop, suc, zero, List, [], ◌∷◌, sym, ◌∙◌, ap, arith}
 use Rattle.std.proofs.lemmas.List.{take_all, append-nil, take-replicate}
-use Rattle.std.proofs.lemmas.Bool.{or_parts, or_from, or_left, or_right, ltb-false, ltb-true, le-ltb, lt-ltb}
-use Rattle.std.specs.Prelude.{replicate, nat_lt, ◌||◌}
+use Rattle.std.specs.Prelude.{replicate}
 use Rattle.std.proofs.Math.ListN.{drop_of_length-le}
 use Rattle.std.specs.Result.{OnErr}
 use Rattle.std.specs.declared.result.Result.{Result}
 use Rattle.std.specs.declared.result.Result.TheVariants.{Ok, Err}
-use Rattle.fs_model.specs.declared.limits.TheConstants.{MAX_FILE, MAX_GROWTH}
 use Rattle.block_id.specs.Contents.{resized, overwritten}
 use Rattle.block_id.proofs.Contents.{length-resized}
 

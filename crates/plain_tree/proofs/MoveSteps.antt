@@ -14,7 +14,7 @@ use Rattle.fs_model.specs.declared.reply.Reply.TheVariants.{Done, Error}
 use Rattle.fs_model.specs.declared.attr.Attr.{Attr}
 use Rattle.fs_model.specs.Instant.{Instant}
 use Rattle.fs_model.specs.Tree.{Path, Row, Tree, parent, is_root, is_directory, same_path, children, directory_size}
-use Rattle.fs_model.specs.LookUp.{LookedUp, Found, Free, Bad, look}
+use Rattle.fs_model.specs.LookUp.{LookedUp, Found, Bad, look}
 use Rattle.fs_model.specs.Move.{is_above}
 use Rattle.fs_model.specs.Step.{Stepped, refused, done, unless_root, has_child, moved_tree, moved_unless_large, moved_onto, moved_to, moved_from}
 use Rattle.fs_model.proofs.SizeLemmas.{no_children}

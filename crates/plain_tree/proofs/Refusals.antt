@@ -1,14 +1,14 @@
 -- Steps that are refused.
-use Rattle.std.proofs.Common.{◌≡◌, ℕ, Bool, true, false, cond, List, [], refl, sym, ◌∙◌, ap}
+use Rattle.std.proofs.Common.{◌≡◌, ℕ, true, false, cond, List, ◌∙◌, ap}
 use Rattle.std.specs.declared.option.Option.TheVariants.{None, Some}
 use Rattle.fs_model.specs.declared.attr.Attr.{Attr}
 use Rattle.fs_model.specs.declared.attr.Kind.{Kind}
 use Rattle.fs_model.specs.declared.attr.Kind.TheVariants.{Directory, File, Link}
 use Rattle.fs_model.specs.declared.error.FsError.{FsError}
-use Rattle.fs_model.specs.declared.error.FsError.TheVariants.{NoEntry, Busy, IsDirectory, Invalid}
+use Rattle.fs_model.specs.declared.error.FsError.TheVariants.{Busy, IsDirectory, Invalid}
 use Rattle.fs_model.specs.declared.reply.Reply.TheVariants.{Error}
 use Rattle.fs_model.specs.Instant.{Instant}
-use Rattle.fs_model.specs.Tree.{Path, Row, Tree, is_root}
+use Rattle.fs_model.specs.Tree.{Path, Tree, is_root}
 use Rattle.fs_model.specs.LookUp.{LookedUp, Found, Free, Bad, look}
 use Rattle.fs_model.specs.Step.{Stepped, refused, unless_root, by_kind, on_file, removed_directory, removed_file, attributes_set, written, truncated, moved_from}
 use Rattle.plain_tree.specs.Sights.{refusal_of, file_refusal}

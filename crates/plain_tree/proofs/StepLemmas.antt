@@ -1,10 +1,10 @@
 -- The step on a tree, exit by exit.
-use Rattle.std.proofs.Common.{◌≡◌, ℕ, ◌+◌, ◌-◌, ◌<◌, ◌≤◌, length, take, get_or, max, Bool, true, false, cond, List, [], ◌∷◌, refl, sym, ◌∙◌, ap, subst, arith, IfOk, inl, inr}
-use Rattle.std.specs.Prelude.{nat_lt, ◌==◌, is_some, IsSome}
+use Rattle.std.proofs.Common.{◌≡◌, ℕ, ◌+◌, ◌-◌, ◌<◌, ◌≤◌, length, take, get_or, max, true, false, cond, List, [], ◌∷◌, refl, sym, ◌∙◌, ap, subst, arith, IfOk, inl, inr}
+use Rattle.std.specs.Prelude.{nat_lt, ◌==◌, IsSome}
 use Rattle.std.specs.Option.{option_map}
-use Rattle.std.proofs.lemmas.Bool.{le-ltb, lt-ltb, ltb-false}
+use Rattle.std.proofs.lemmas.Bool.{le-ltb, lt-ltb}
 use Rattle.std.specs.FinMap as tree
-use Rattle.std.specs.FinMap.{get, len, same_map}
+use Rattle.std.specs.FinMap.{get, same_map}
 use Rattle.std.specs.Result.{OnErr}
 use Rattle.std.specs.declared.option.Option.{Option}
 use Rattle.std.specs.declared.option.Option.TheVariants.{None, Some}
@@ -15,17 +15,16 @@ use Rattle.fs_model.specs.declared.attr.Attr.{Attr}
 use Rattle.fs_model.specs.declared.attr.Kind.TheVariants.{Directory, File}
 use Rattle.fs_model.specs.declared.command.Command.{Command}
 use Rattle.fs_model.specs.declared.limits.TheConstants.{MAX_ENTRIES}
-use Rattle.fs_model.specs.declared.error.FsError.{FsError}
-use Rattle.fs_model.specs.declared.error.FsError.TheVariants.{NoEntry, Busy, NotEmpty, NotDirectory, IsDirectory, TooLarge}
+use Rattle.fs_model.specs.declared.error.FsError.TheVariants.{Busy, NotEmpty, NotDirectory, IsDirectory, TooLarge}
 use Rattle.fs_model.specs.declared.reply.Reply.{Reply}
 use Rattle.fs_model.specs.declared.reply.Reply.TheVariants.{Done, Error}
 use Rattle.fs_model.specs.Instant.{Instant}
-use Rattle.fs_model.specs.Tree.{Path, Row, Tree, upward, parent, last_name, is_root, is_directory, same_path, entry_size, directory_size, root_row, IsRooted, IsWellFormed}
-use Rattle.fs_model.specs.LookUp.{LookedUp, Found, Free, Bad, look, goes_on}
+use Rattle.fs_model.specs.Tree.{Path, Row, Tree, upward, parent, last_name, is_root, is_directory, entry_size, directory_size, root_row, IsWellFormed}
+use Rattle.fs_model.specs.LookUp.{LookedUp, Found, Free, look, goes_on}
 use Rattle.block_id.specs.Contents.{overwritten, resized}
 use Rattle.fs_model.specs.Step.{Stepped, answered, refused, done, step, unless_root, made, has_child, removed_directory, removed_file, attributes_set, written, truncated, on_file, is_too_long, with_content}
 use Rattle.fs_model.proofs.TreeLemmas.{path_total, path_exact, path_split, insert_here, insert_apart}
-use Rattle.fs_model.proofs.LookUpLemmas.{look-walk, look-found, get-found, get-free, IsFree}
+use Rattle.fs_model.proofs.LookUpLemmas.{look-walk, get-found, get-free}
 use Rattle.tree_rules.proofs.PathLemmas.{last_at}
 use Rattle.plain_tree.specs.Answers.{IsAnswer}
 

@@ -19,8 +19,8 @@ use Rattle.std.specs.FinMap.{get, find, is_sorted, from_entries}
 use Rattle.std.specs.FinMap.Entries.{put, find-put, is_sorted-put, where_key, find-where_key, is_sorted-where_key}
 use Rattle.block_id.proofs.Orders.{eq_reverse}
 use Rattle.fs_model.specs.declared.attr.Attr.{Attr}
-use Rattle.fs_model.specs.Tree.{Path, Row, Tree, directory_size, entry_size, entries_size, upward, parent, last_name, is_root, name_cmp, path_cmp, same_path, root_row, empty_tree}
-use Rattle.fs_model.proofs.TreeLemmas.{path_total, path_exact, path_split, path_same, apart, name_total, name_exact}
+use Rattle.fs_model.specs.Tree.{Path, Row, directory_size, entry_size, entries_size, upward, parent, last_name, is_root, name_cmp, path_cmp, same_path, root_row, empty_tree}
+use Rattle.fs_model.proofs.TreeLemmas.{path_total, path_exact, path_split, path_same, apart}
 use Rattle.tree_rules.proofs.PathLemmas.{last_split, last_at}
 use Rattle.row_table.specs.declared.rows.Folder.{Folder}
 use Rattle.row_table.specs.declared.rows.Item.{Item}
@@ -29,7 +29,7 @@ use Rattle.row_table.specs.Rows.{Names, item_row, item_entry, names_of, folder_e
 use Rattle.row_table.specs.Formed.{IsFull, AllFull, IsOrdered}
 use Rattle.row_table.specs.Places.{IsRowAt, IsTable}
 use Rattle.row_table.proofs.SortedLemmas.{set_put, remove_where}
-use Rattle.row_table.proofs.FlatLemmas.{get_named, get_root, same_tree, edited, inserted_is, removed_is, entries-children}
+use Rattle.row_table.proofs.FlatLemmas.{get_named, same_tree, edited, inserted_is, removed_is, entries-children}
 use Rattle.row_table.proofs.FullLemmas.{full_at, full-set, full-insert, full-remove}
 
 -- some element, where an index is in range

@@ -1,5 +1,5 @@
 -- What the tree of directories has at a path.
-use Rattle.std.proofs.Common.{◌≡◌, ℕ, ◌++◌, map, true, false, not, Bool, ◌&&◌, cond, T, List, [], ◌∷◌, refl, sym, ◌∙◌, ap, subst, inl, inr}
+use Rattle.std.proofs.Common.{◌≡◌, ℕ, ◌++◌, true, false, Bool, ◌&&◌, cond, T, List, [], ◌∷◌, refl, sym, ◌∙◌, ap, inl, inr}
 use Rattle.std.specs.Global.{Box}
 use Rattle.std.specs.declared.option.Option.{Option}
 use Rattle.std.specs.declared.option.Option.TheVariants.{None, Some}
@@ -8,13 +8,11 @@ use Rattle.std.specs.Cmp.{tied_then}
 use Rattle.std.specs.FinMap as tree
 use Rattle.std.specs.FinMap.{get, find, entries, from_entries, is_sorted, get-from_entries, get-entries, get-insert, get-remove, entries_sorted, same_map}
 use Rattle.std.specs.FinMap.Entries.{same_entries}
-use Rattle.fs_model.specs.Tree.{Path, Row, Tree, name_cmp, path_cmp, same_path, root_row, children, directory_size, entries_size}
+use Rattle.fs_model.specs.Tree.{Path, Row, name_cmp, path_cmp, same_path, root_row, children}
 use Rattle.fs_model.proofs.TreeLemmas.{path_total, path_exact, path_split, path_same, apart, same_path_is, name_total, name_exact}
 use Rattle.fs_model.proofs.SizeLemmas.{same_children}
 use Rattle.row_table.specs.declared.rows.Folder.{Folder}
 use Rattle.row_table.specs.Rows.{Names, folders, inside, below, flat, tree_of}
-use Rattle.row_table.specs.Formed.{IsOrdered}
-use Rattle.row_table.specs.Places.{IsTable}
 use Rattle.row_table.proofs.SortedLemmas.{find_below, head_sorted, tail_sorted}
 
 -- the first, if there is one

@@ -1,9 +1,9 @@
 -- Directories that are full, and the bytes of their entries.
-use Rattle.std.proofs.Common.{◌≡◌, ℕ, suc, zero, ◌+◌, ◌<◌, ◌≤◌, length, get_or, map, List, [], ◌∷◌, refl, sym, ◌∙◌, ap, arith}
+use Rattle.std.proofs.Common.{◌≡◌, ℕ, suc, zero, ◌+◌, ◌<◌, ◌≤◌, length, get_or, map, List, [], ◌∷◌, refl, ap, arith}
 use Rattle.std.proofs.Math.ListN.{set}
 use Rattle.std.specs.Global.{Box}
 use Rattle.std.specs.List.{insert, remove}
-use Rattle.fs_model.specs.Tree.{Row, entry_size, entries_size}
+use Rattle.fs_model.specs.Tree.{entry_size, entries_size}
 use Rattle.row_table.specs.declared.rows.Folder.{Folder}
 use Rattle.row_table.specs.Formed.{IsFull, AllFull}
 

@@ -1,5 +1,5 @@
 -- Elements in the order of their keys: finding, placing and removing one.
-use Rattle.std.proofs.Common.{◌≡◌, ℕ, suc, zero, ◌+◌, ◌<◌, ◌≤◌, length, get_or, map, true, false, not, cond, T, List, [], ◌∷◌, refl, sym, ◌∙◌, ap, subst, arith, add-one, IfOk, IfErr, inl, inr}
+use Rattle.std.proofs.Common.{◌≡◌, ℕ, suc, zero, ◌+◌, ◌<◌, ◌≤◌, length, get_or, map, false, not, cond, T, List, [], ◌∷◌, refl, sym, ◌∙◌, ap, subst, arith, add-one, IfOk, IfErr, inl, inr}
 use Rattle.std.proofs.lemmas.Bool.{cases_lt}
 use Rattle.std.proofs.lemmas.List.{length-map}
 use Rattle.std.proofs.lemmas.List.Sorted.{searchable_from_sorted}

@@ -2,8 +2,8 @@ use Rattle.std.proofs.Common.{◌≡◌, ◌+◌, ◌<◌, ◌≤◌, ◌-◌, l
 use Rattle.std.proofs.lemmas.Bool.Decides.{nat_tests}
 use Rattle.std.specs.FinMap.{get}
 use Rattle.fs_model.specs.declared.limits.TheConstants.{MAX_ENTRIES}
-use Rattle.fs_model.specs.Tree.{Row, upward, parent, directory_size, entry_size, root_row}
-use Rattle.fs_model.specs.LookUp.{LookedUp, Found, Free, look}
+use Rattle.fs_model.specs.Tree.{upward, parent, directory_size, entry_size, root_row}
+use Rattle.fs_model.specs.LookUp.{Found, Free}
 use Rattle.fs_model.proofs.LookUpLemmas.{look-found}
 use Rattle.tree_rules.proofs.PathLemmas.{not_root}
 use Rattle.row_table.proofs.EditLemmas.{no_names}

@@ -1,4 +1,4 @@
-use Rattle.std.proofs.Common.{◌≡◌, refl, sym, ◌∙◌, ap, None, Some}
+use Rattle.std.proofs.Common.{refl, ◌∙◌, ap, None, Some}
 use Rattle.fs_model.specs.declared.error.FsError.TheVariants.{IsDirectory, Invalid}
 use Rattle.fs_model.specs.Tree.{upward}
 use Rattle.fs_model.specs.LookUp.{look}

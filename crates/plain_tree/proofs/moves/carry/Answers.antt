@@ -1,7 +1,7 @@
-use Rattle.std.proofs.Common.{◌≡◌, ◌∷◌, ◌++◌, refl, sym, ◌∙◌, ap, subst}
+use Rattle.std.proofs.Common.{◌∷◌, ◌++◌, refl, sym, ◌∙◌, ap, subst}
 use Rattle.std.specs.Prelude.{cond, IsSome, is_some}
 use Rattle.std.specs.FinMap as tree
-use Rattle.fs_model.specs.Tree.{Row, upward, parent, is_directory}
+use Rattle.fs_model.specs.Tree.{upward, parent, is_directory}
 use Rattle.fs_model.specs.declared.attr.Attr.{Attr}
 use Rattle.row_table.specs.Moves.{IsBelowMoved}
 use Rattle.plain_tree.specs.Moves.{held}

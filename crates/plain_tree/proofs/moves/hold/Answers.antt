@@ -1,10 +1,7 @@
-use Rattle.std.proofs.Common.{sym, ◌∙◌, ap}
-use Rattle.std.specs.Prelude.{cond}
+use Rattle.std.proofs.Common.{◌∙◌}
 use Rattle.std.specs.FinMap as tree
-use Rattle.fs_model.specs.Tree.{upward, Row}
-use Rattle.plain_tree.specs.Moves.{held}
+use Rattle.fs_model.specs.Tree.{upward}
 use Rattle.plain_tree.proofs.CarryLemmas.{no_row, held_kept, held_new}
-use Rattle.plain_tree.proofs.StepLemmas.{stays}
 use Rattle.plain_tree.proofs.moves.hold.Goals as goal
 
 pub returns-then-replaces-clause-ok : goal.returns-then-replaces-clause-ok

@@ -1,5 +1,3 @@
-use Rattle.std.proofs.Common.{sym, ◌∙◌, ap}
-use Rattle.std.specs.Prelude.{cond}
 use Rattle.std.specs.FinMap as tree
 use Rattle.fs_model.specs.Tree.{upward}
 use Rattle.plain_tree.proofs.CarryLemmas.{is_there}

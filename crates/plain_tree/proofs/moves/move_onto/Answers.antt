@@ -1,7 +1,5 @@
-use Rattle.std.proofs.Common.{◌≡◌, sym, ◌∙◌, ap, subst, true, false}
-use Rattle.std.specs.FinMap.{get}
-use Rattle.fs_model.specs.Tree.{Row, upward, is_directory}
-use Rattle.fs_model.specs.declared.attr.Kind.{Kind}
+use Rattle.std.proofs.Common.{sym, ◌∙◌, ap, subst, true, false}
+use Rattle.fs_model.specs.Tree.{upward, is_directory}
 use Rattle.fs_model.proofs.LookUpLemmas.{get-found}
 use Rattle.fs_model.proofs.WellFormedStep.{below_file}
 use Rattle.plain_tree.specs.Answers.{IsAnswer}

@@ -1,12 +1,11 @@
-use Rattle.std.proofs.Common.{◌≡◌, ◌<◌, length, refl, sym, ◌∙◌, ap, subst, arith}
+use Rattle.std.proofs.Common.{◌<◌, length, refl, sym, ◌∙◌, ap, subst, arith}
 use Rattle.std.proofs.lemmas.Bool.Decides.{nat_tests}
 use Rattle.fs_model.specs.Tree.{Row, upward}
 use Rattle.fs_model.specs.Step.{moved_to}
 use Rattle.tree_rules.proofs.PathLemmas.{not_root}
-use Rattle.row_table.proofs.EditLemmas.{no_names}
 use Rattle.plain_tree.specs.Answers.{IsAnswer}
 use Rattle.plain_tree.proofs.CarryLemmas.{is_move_free}
-use Rattle.plain_tree.proofs.MoveSteps.{answer_map, whole_step, whole_invalid, whole_bad, whole_refused, busy_from, busy_to}
+use Rattle.plain_tree.proofs.MoveSteps.{answer_map, whole_step, whole_invalid, whole_bad, whole_refused}
 use Rattle.plain_tree.proofs.moves.move_rows.Goals as goal
 
 pub returns-in-Err-clause-ok : goal.returns-in-Err-clause-ok

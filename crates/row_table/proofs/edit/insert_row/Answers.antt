@@ -1,16 +1,15 @@
-use Rattle.std.proofs.Common.{◌≡◌, ℕ, ◌≤◌, ◌<◌, ◌-◌, List, [], ◌∷◌, length, take, get_or, map, Some, None, refl, sym, ◌∙◌, ap, subst, arith}
+use Rattle.std.proofs.Common.{◌≡◌, ◌≤◌, ◌-◌, [], ◌∷◌, length, take, map, Some, sym, ◌∙◌, ap, subst}
 use Rattle.std.specs.Prelude.{cond}
 use Rattle.std.specs.Box.{with_value}
 use Rattle.std.specs.Ordering.{eq_by_cmp}
 use Rattle.std.specs.FinMap.{find}
 use Rattle.std.specs.FinMap.Entries.{find-put}
-use Rattle.std.proofs.Math.ListN.{set}
 use Rattle.fs_model.specs.declared.limits.TheConstants.{MAX_ENTRIES}
-use Rattle.fs_model.specs.Tree.{Row, upward, parent, last_name, name_cmp, path_cmp, directory_size}
+use Rattle.fs_model.specs.Tree.{Row, upward, parent, last_name, name_cmp, path_cmp}
 use Rattle.fs_model.proofs.TreeLemmas.{name_total}
 use Rattle.tree_rules.proofs.PathLemmas.{some_names, parent_at, name_at}
 use Rattle.row_table.specs.Sorted.{IsElementAt, IsGap}
-use Rattle.row_table.specs.Rows.{names_of, item_row, item_entry, folder_entry, tree_of}
+use Rattle.row_table.specs.Rows.{names_of, item_row, item_entry, folder_entry}
 use Rattle.row_table.proofs.EditLemmas.{full_behind, in_folder, folder_set, folder_kept, folder_new, folder_size, single_full, inserted_table, on_ok_map, on_err_map}
 use Rattle.row_table.proofs.edit.insert_row.Goals as goal
 

@@ -1,4 +1,4 @@
-use Rattle.std.proofs.Common.{◌≡◌, ◌<◌, length, map, T, refl, sym, ◌∙◌, ap, subst}
+use Rattle.std.proofs.Common.{map, T, refl, sym, ◌∙◌, ap, subst}
 use Rattle.std.specs.FinMap.{find, is_sorted}
 use Rattle.fs_model.specs.Tree.{name_cmp}
 use Rattle.tree_rules.proofs.PathLemmas.{some_names}

@@ -1,4 +1,4 @@
-use Rattle.std.proofs.Common.{◌≡◌, ℕ, List, get_or, Some, None, refl, sym, ◌∙◌, ap, subst}
+use Rattle.std.proofs.Common.{◌≡◌, ℕ, List, Some, None, sym, ◌∙◌, ap, subst}
 use Rattle.std.specs.Prelude.{cond}
 use Rattle.std.specs.Box.{with_value}
 use Rattle.std.specs.List.{remove}
@@ -9,7 +9,7 @@ use Rattle.std.specs.FinMap as tree
 use Rattle.std.proofs.Math.ListN.{set}
 use Rattle.fs_model.specs.Tree.{Row, upward, name_cmp, last_name}
 use Rattle.fs_model.proofs.TreeLemmas.{name_total, name_exact}
-use Rattle.row_table.specs.Rows.{names_of, item_row, tree_of}
+use Rattle.row_table.specs.Rows.{names_of, tree_of}
 use Rattle.row_table.specs.Places.{IsTable}
 use Rattle.row_table.proofs.EditLemmas.{full_behind, folder_set, folder_gone, gone, removed_table, row_behind, item_behind}
 use Rattle.row_table.proofs.edit.remove_row.Goals as goal

@@ -1,10 +1,10 @@
-use Rattle.std.proofs.Common.{◌≡◌, get_or, Some, refl, sym, ◌∙◌, ap}
+use Rattle.std.proofs.Common.{get_or, Some, sym, ◌∙◌, ap}
 use Rattle.std.specs.Prelude.{cond}
 use Rattle.std.specs.Option.{option_map}
 use Rattle.std.specs.Ordering.{eq_by_cmp}
 use Rattle.std.specs.FinMap.{find}
 use Rattle.std.specs.FinMap.Entries.{find-put}
-use Rattle.fs_model.specs.Tree.{Row, upward, name_cmp, last_name}
+use Rattle.fs_model.specs.Tree.{Row, upward, name_cmp}
 use Rattle.fs_model.proofs.TreeLemmas.{name_total}
 use Rattle.row_table.specs.Rows.{names_of}
 use Rattle.row_table.proofs.EditLemmas.{some_element, full_behind, folder_set, inserted_table, row_behind, item_behind}

@@ -1,4 +1,4 @@
-use Rattle.std.proofs.Common.{◌≡◌, sym, ◌∙◌, ap, subst, map, None, Some, ◌+◌}
+use Rattle.std.proofs.Common.{sym, ◌∙◌, ap, subst, map, ◌+◌}
 use Rattle.std.specs.FinMap.{find}
 use Rattle.fs_model.specs.Tree.{name_cmp, entry_size}
 use Rattle.row_table.specs.Sorted.{IsGap}

@@ -1,4 +1,4 @@
-use Rattle.std.proofs.Common.{◌≡◌, get_or, map, Some, None, IfOk, refl, sym, ◌∙◌, ap, subst}
+use Rattle.std.proofs.Common.{◌≡◌, get_or, map, Some, None, IfOk, sym, ◌∙◌, ap, subst}
 use Rattle.fs_model.specs.Tree.{upward}
 use Rattle.fs_model.specs.Step.{list_row}
 use Rattle.row_table.specs.Rows.{names_of, item_entry}

@@ -1,4 +1,4 @@
-use Rattle.std.proofs.Common.{◌≡◌, get_or, Some, None, refl, sym, ◌∙◌, ap}
+use Rattle.std.proofs.Common.{get_or, Some, None, sym, ◌∙◌, ap}
 use Rattle.fs_model.specs.Tree.{upward, entries_size}
 use Rattle.row_table.specs.Rows.{names_of}
 use Rattle.row_table.proofs.FlatLemmas.{entries-children}

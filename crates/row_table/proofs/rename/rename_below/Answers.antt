@@ -1,8 +1,7 @@
-use Rattle.std.proofs.Common.{◌≡◌, map, sym, ◌∙◌, ap}
+use Rattle.std.proofs.Common.{map, ◌∙◌, ap}
 use Rattle.std.specs.FinMap.{find}
-use Rattle.fs_model.specs.Tree.{Path, upward, path_cmp}
+use Rattle.fs_model.specs.Tree.{upward, path_cmp}
 use Rattle.fs_model.specs.Move.{moved}
-use Rattle.row_table.specs.Moves.{paired}
 use Rattle.row_table.proofs.MovedEntries.{paired-moved, below_moved}
 use Rattle.row_table.proofs.rename.rename_below.Goals as goal
 

@@ -1,4 +1,3 @@
-use Rattle.std.proofs.Common.{subst}
 use Rattle.plain_tree.proofs.StepLemmas.{formed_after}
 use Rattle.plain_tree.proofs.tree.PlainTree.step.Goals as goal
 
