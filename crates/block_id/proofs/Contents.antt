@@ -1,7 +1,7 @@
 -- Laws of byte lists that are cut, filled up or written into.
 use Rattle.std.specs.Prelude.{◌≡◌, ℕ, ◌+◌, ◌-◌, ◌≤◌, max, List, [], ◌∷◌, ◌++◌, length, take, drop, replicate}
 use Rattle.std.proofs.Common.{refl, sym, ◌∙◌, ap, append_assoc, arith}
-use Rattle.std.proofs.lemmas.List.{length-append, length-take, length-drop, length-replicate, drop_all, append-nil, nil_from_length}
+use Rattle.std.proofs.lemmas.List.{length-append, length-take, length-drop, length-replicate, drop_all, append-nil}
 use Rattle.std.proofs.Math.Seq.{take-append-add, drop-append-add, take-append_seam, drop-append_seam}
 use Rattle.block_id.specs.Contents.{zeros, resized, overwritten, written}
 

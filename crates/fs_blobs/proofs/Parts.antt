@@ -1,9 +1,9 @@
 -- A blob as its header and its body.
 use Rattle.std.specs.Prelude.{◌≡◌, ℕ, ◌+◌, ◌-◌, ◌≤◌, List, [], ◌∷◌, ◌++◌, length, take, drop}
-use Rattle.std.proofs.Common.{refl, sym, ◌∙◌, ap, append_assoc, arith}
+use Rattle.std.proofs.Common.{sym, ◌∙◌, ap, arith}
 use Rattle.std.specs.Int.{w16, to_le_bytes}
 use Rattle.std.proofs.lemmas.List.{length-append, drop_all, append-nil}
-use Rattle.std.proofs.Math.Seq.{take-append-add, drop-append-add, take-append_seam, drop-append_seam}
+use Rattle.std.proofs.Math.Seq.{drop-append-add, take-append_seam}
 use Rattle.blob_api.specs.declared.blobs.TheConstants.{MAX_BLOB}
 use Rattle.fs_blobs.specs.declared.header.TheConstants.{HEADER_LEN}
 use Rattle.block_id.specs.Contents.{resized, written}

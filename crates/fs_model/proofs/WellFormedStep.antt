@@ -1,10 +1,10 @@
 -- Each command keeps a tree well formed.
-use Rattle.std.specs.Prelude.{◌≡◌, ℕ, ◌+◌, ◌≤◌, ◌==◌, max, Bool, true, false, cond, List, [], ◌∷◌, ◌++◌, length, is_some, nat_lt, take, drop, replicate, reverse}
+use Rattle.std.specs.Prelude.{◌≡◌, ℕ, ◌+◌, ◌≤◌, ◌==◌, max, Bool, true, false, cond, List, [], ◌∷◌, ◌++◌, length, is_some, nat_lt, reverse}
 use Rattle.std.specs.List.{All}
-use Rattle.std.proofs.Common.{◌-◌, refl, sym, ◌∙◌, ap, subst, inl, inr, arith, lit≤, length-append, length-drop}
-use Rattle.std.proofs.lemmas.List.{length-take, length-replicate, reverse-append, reverse-reverse}
+use Rattle.std.proofs.Common.{◌-◌, refl, sym, ◌∙◌, ap, subst, inl, inr, arith, lit≤}
+use Rattle.std.proofs.lemmas.List.{reverse-append, reverse-reverse}
 use Rattle.std.proofs.lemmas.List.Elements.{All-head, All-tail, All-same}
-use Rattle.std.proofs.lemmas.Bool.{cond_both, ltb-false, leb-true, or_parts}
+use Rattle.std.proofs.lemmas.Bool.{cond_both, ltb-false, leb-true}
 use Rattle.std.specs.FinMap.{get, insert, remove, len, empty, get-empty}
 use Rattle.std.specs.declared.option.Option.TheVariants.{None, Some}
 use Rattle.block_id.specs.Contents.{resized, overwritten}
@@ -13,7 +13,7 @@ use Rattle.fs_model.specs.declared.attr.Attr.{Attr}
 use Rattle.fs_model.specs.declared.attr.Kind.{Kind}
 use Rattle.fs_model.specs.declared.attr.Kind.TheVariants.{Directory, File, Link}
 use Rattle.fs_model.specs.declared.attr.TheConstants.{DIRECTORY_MODE, FILE_MODE, LINK_MODE}
-use Rattle.fs_model.specs.declared.limits.TheConstants.{MAX_ENTRIES, MAX_FILE, MAX_MODE, MAX_GROWTH, MAX_READ}
+use Rattle.fs_model.specs.declared.limits.TheConstants.{MAX_ENTRIES, MAX_FILE, MAX_MODE, MAX_READ}
 use Rattle.fs_model.specs.declared.error.FsError.TheVariants.{NotEmpty, NotDirectory, TooLarge}
 use Rattle.fs_model.specs.declared.command.Command.{Command}
 use Rattle.fs_model.specs.declared.command.Command.TheVariants as command

@@ -1,5 +1,5 @@
 -- One command on the tree: its reply and the next tree.
-use Rattle.std.specs.Prelude.{ℕ, ◌+◌, max, Bool, true, false, cond, ◌||◌, ◌==◌, nat_lt, List, [], ◌++◌, length, take, drop, map}
+use Rattle.std.specs.Prelude.{ℕ, ◌+◌, max, Bool, true, false, cond, ◌||◌, ◌==◌, nat_lt, List, [], length, take, drop, map}
 use Rattle.std.specs.FinMap.{entries, insert, remove, len}
 use Rattle.block_id.specs.Contents.{resized, overwritten}
 use Rattle.fs_model.specs.declared.attr.Attr.{Attr}

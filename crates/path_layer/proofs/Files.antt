@@ -1,9 +1,7 @@
 -- A file that was found, and its new content.
-use Rattle.std.proofs.Common.{◌≡◌, ℕ, ◌+◌, ◌≤◌, ◌<◌, true, false, List, [], ◌∷◌, length, max, min, refl, sym, ◌∙◌, ap, arith, inl, inr}
-use Rattle.std.specs.Prelude.{nat_lt, ◌||◌, ◌==◌}
-use Rattle.std.proofs.lemmas.Bool.{cases_lt, lt-ltb}
+use Rattle.std.proofs.Common.{◌≡◌, ℕ, true, false, List, [], ◌∷◌, length, refl}
+use Rattle.std.specs.Prelude.{◌==◌}
 use Rattle.block_id.specs.Contents.{overwritten, written}
-use Rattle.fs_model.specs.declared.limits.TheConstants.{MAX_FILE, MAX_GROWTH}
 use Rattle.fs_model.specs.declared.attr.Attr.{Attr}
 use Rattle.fs_model.specs.Instant.{Instant}
 
@@ -15,4 +13,3 @@ touched now a = record a { mtime = now; ctime = now }
 pub written_some : (old : List ℕ) (from : ℕ) (new : List ℕ) → (length new == 0) ≡ false → written old from new ≡ overwritten old from new
 written_some old from [] e = let bad : true ≡ false = e in cc
 written_some old from (x ∷ new) e = refl
-
