@@ -1,3 +1,2 @@
 pub mod FileNames
 pub mod Lists
-pub mod Plain

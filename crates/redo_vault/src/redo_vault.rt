@@ -191,7 +191,7 @@ impl<V: Vault> RedoVault<V> {
 mod tests {
     use super::*;
     use block_id::BlockId;
-    use outside::MemoryVault;
+    use memory_outside::MemoryVault;
     use std::test::Fail;
 
     const FIRST: FileName = FileName::Block(BlockId([1; 16]));

@@ -1,7 +1,8 @@
 // What a client that begins anew is answered, over a directory in memory.
 use crate::site::Site;
 use block_id::{BlockId, Why};
-use outside::{Change, Event, FileName, Pending};
+use memory_outside::Event;
+use outside::{Change, FileName, Pending};
 use session_saver::SyncError;
 use std::alloc::Global;
 use std::test::Fail;
