@@ -12,7 +12,7 @@ ghost use Rattle.outside.specs.View.{at_of, bytes_of, list_of};
 ghost use Rattle.memory_outside.specs.View.{call_of, answers_of};
 
 use crate::Event;
-use outside::{Change, FileName, GetFail, Pending, Vault, pending_list};
+use outside::{Change, FileName, GetFail, Pending, Vault};
 use std::alloc::{AllocError, Global};
 use std::marker::Model;
 

@@ -3,7 +3,6 @@
 
 mod change;
 mod keeper;
-pub mod pending_list;
 mod sink;
 mod source;
 mod vault;

@@ -14,7 +14,7 @@ use block_id::BlockId;
 use integrity_store::IntegrityStore;
 use local_state::decode;
 use memory_outside::{MemoryKeeper, MemoryVault};
-use outside::{Change, FileName, Pending, pending_list};
+use outside::{Change, FileName, Pending};
 use redo_vault::RedoVault;
 use seal_api::Sealer;
 use sealed_store::SealedStore;

@@ -1,8 +1,8 @@
 use Rattle.std.proofs.Common.{sym, ◌∙◌, arith}
 use Rattle.std.proofs.lemmas.List.{length-map}
 use Rattle.outside.specs.View.{at_of, pending_of, list_of}
-use Rattle.outside.proofs.Lists.{item_here, set_before, set_here, set_later}
-use Rattle.outside.proofs.pending_list.place.Goals as goal
+use Rattle.pending_list.proofs.Lists.{item_here, set_before, set_here, set_later}
+use Rattle.pending_list.proofs.list.place.Goals as goal
 
 pub returns-in-Less-clause-absent : goal.returns-in-Less-clause-absent
 returns-in-Less-clause-absent c =

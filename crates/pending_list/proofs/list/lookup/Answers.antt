@@ -1,6 +1,6 @@
 use Rattle.outside.specs.View.{at_of}
-use Rattle.outside.proofs.Lists.{lookup_found, lookup_later}
-use Rattle.outside.proofs.pending_list.lookup.Goals as goal
+use Rattle.pending_list.proofs.Lists.{lookup_found, lookup_later}
+use Rattle.pending_list.proofs.list.lookup.Goals as goal
 
 pub returns-then-is_same-clause-some : goal.returns-then-is_same-clause-some
 returns-then-is_same-clause-some c =

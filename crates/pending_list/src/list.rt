@@ -6,7 +6,7 @@ ghost use Rattle.outside.specs.Changes.{change_at, set_change, cut as cut_at};
 ghost use Rattle.outside.specs.Names.{same_at, at_cmp};
 ghost use Rattle.outside.specs.View.{at_of, bytes_of, change_of, list_of};
 
-use crate::{Change, FileName, Pending};
+use outside::{Change, FileName, Pending};
 use std::alloc::{AllocError, Global};
 use std::cmp::Ordering;
 

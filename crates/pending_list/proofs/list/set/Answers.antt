@@ -1,7 +1,7 @@
 use Rattle.std.proofs.Common.{◌∙◌, ap}
 use Rattle.outside.specs.View.{list_of}
-use Rattle.outside.proofs.Lists.{was_set, was_inserted}
-use Rattle.outside.proofs.pending_list.set.Goals as goal
+use Rattle.pending_list.proofs.Lists.{was_set, was_inserted}
+use Rattle.pending_list.proofs.list.set.Goals as goal
 
 pub returns-in-Ok-clause-items : goal.returns-in-Ok-clause-items
 returns-in-Ok-clause-items c =

@@ -1,7 +1,7 @@
 use Rattle.std.proofs.Common.{◌≡◌, drop}
 use Rattle.outside.specs.Changes.{change_at}
 use Rattle.outside.specs.View.{at_of, list_of}
-use Rattle.outside.proofs.pending_list.lookup.Given as goal
+use Rattle.pending_list.proofs.list.lookup.Given as goal
 
 abbrev pub invariant-loop-pending : goal.invariant-loop-pending
 invariant-loop-pending l =
