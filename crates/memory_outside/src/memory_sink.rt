@@ -5,8 +5,8 @@ ghost use Rattle.outside.specs.Causes.{RoseBy};
 ghost use Rattle.memory_outside.specs.MemoryStreams.{Drain, one_more};
 ghost use Rattle.outside.specs.Streams.{appends};
 
-use outside::Sink;
 use block_id::{Failed, Memory};
+use outside::Sink;
 use std::alloc::Global;
 use std::marker::Model;
 

@@ -5,8 +5,8 @@ ghost use Rattle.outside.specs.Causes.{RoseBy};
 ghost use Rattle.memory_outside.specs.MemoryStreams.{Feed, TookOnce, one_more};
 ghost use Rattle.outside.specs.Streams.{WereTaken, Ends};
 
-use outside::Source;
 use block_id::Failed;
+use outside::Source;
 use std::marker::Model;
 
 /// Bytes, given in pieces; listed calls fail.
