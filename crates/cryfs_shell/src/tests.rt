@@ -4,7 +4,7 @@ use crate::trial::Trial;
 use crate::{Status, run};
 use answers::TextBuffer;
 use fs_model::Moment;
-use outside::{MemoryKeeper, MemorySink, MemorySource, MemoryVault};
+use memory_outside::{MemoryKeeper, MemorySink, MemorySource, MemoryVault};
 use plain_tree::PlainTree;
 use rand_pcg::Pcg32;
 use session_lines::{End, answer_single};

@@ -1,7 +1,8 @@
 // Sessions over a directory or a record that was changed.
 
 use cryfs_shell::Status;
-use outside::{FileName, MemoryKeeper, Pending};
+use memory_outside::MemoryKeeper;
+use outside::{FileName, Pending};
 use std::alloc::Global;
 use std::test::Fail;
 use test_systems::{System, block, copy_files, file, new_system, session, store};

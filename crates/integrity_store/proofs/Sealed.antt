@@ -9,8 +9,8 @@ use Rattle.block_id.specs.declared.id.BlockId.{BlockId}
 use Rattle.outside.specs.declared.change.Pending.{Pending}
 use Rattle.outside.specs.Trace.{At, block}
 use Rattle.outside.specs.View.{at_of, change_of, pending_of, list_of}
-use Rattle.store_api.specs.declared.batch.BatchChange.{BatchChange}
-use Rattle.store_api.specs.Entries.{entry_view, entries_of}
+use Rattle.block_batch.specs.declared.batch.BatchChange.{BatchChange}
+use Rattle.block_batch.specs.Entries.{entry_view, entries_of}
 use Rattle.store_api.proofs.Rising.{turn}
 use Rattle.integrity_store.specs.Held.{Held}
 use Rattle.integrity_store.specs.Sealing.{MaySeal, IsMadeOf, stream_after, AreMadeOf}

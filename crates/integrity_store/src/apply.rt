@@ -4,7 +4,7 @@ ghost use Rattle.std.specs.declared.result.Result.TheVariants.{Err};
 ghost use Rattle.std.specs.List.{AllByRecursion};
 ghost use Rattle.std.specs.FinMap as fin;
 ghost use Rattle.sealed_store.specs.Stores.{IsIntact, block_size_of, key_of, cipher_of};
-ghost use Rattle.store_api.specs.Entries.{entries_of};
+ghost use Rattle.block_batch.specs.Entries.{entries_of};
 ghost use Rattle.store_api.specs.Holdings.{FitsStore, Changed, IsSpent};
 ghost use Rattle.integrity_store.specs.Applied.{applied_by};
 ghost use Rattle.integrity_store.specs.Draws.{AreDrawn};

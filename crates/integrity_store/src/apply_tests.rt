@@ -7,7 +7,8 @@ use crate::test_files::{plain_of, push_life, push_record_head, put_file, sealed_
 use aes_gcm::Aes256Gcm;
 use block_id::BlockId;
 use local_state::decode;
-use outside::{Change, FileName, MemoryVault, Pending};
+use memory_outside::MemoryVault;
+use outside::{Change, FileName, Pending};
 use rand_core::Rng;
 use rand_pcg::Pcg32;
 use seal_api::Sealer;

@@ -4,7 +4,7 @@ use crate::IntegrityStore;
 use crate::test_files::{plain_of, push_life, push_record_head, put_file, sealed_over};
 use block_id::{BlockId, Why};
 use local_state::decode;
-use outside::MemoryVault;
+use memory_outside::MemoryVault;
 use std::alloc::Global;
 use std::test::Fail;
 use store_api::Blocks;

@@ -1,7 +1,7 @@
 // What a batch makes of the known versions.
 ghost use Rattle.std.specs.Prelude.{◌≡◌, ◌≤◌, ◌+◌};
 ghost use Rattle.std.specs.FinMap as fin;
-ghost use Rattle.store_api.specs.Entries.{entry_view, entries_of, change_view};
+ghost use Rattle.block_batch.specs.Entries.{entry_view, entries_of, change_view};
 ghost use Rattle.integrity_store.specs.Raising.{is_spent_at, some_spent_in, one_if_new, count_new_in, MayCome, lives_after_one, lives_after_each, MayComeEach, count_new_each};
 
 use block_id::BlockId;

@@ -4,7 +4,7 @@ ghost use Rattle.std.specs.FinMap as fin;
 ghost use Rattle.std.specs.List.{AllByRecursion};
 ghost use Rattle.outside.specs.View.{change_of, list_of};
 ghost use Rattle.sealed_store.specs.Stores.{IsIntact, block_size_of, key_of, cipher_of};
-ghost use Rattle.store_api.specs.Entries.{entry_view, entries_of};
+ghost use Rattle.block_batch.specs.Entries.{entry_view, entries_of};
 ghost use Rattle.integrity_store.specs.Applied.{IsRaised};
 ghost use Rattle.integrity_store.specs.Draws.{iv_in};
 ghost use Rattle.integrity_store.specs.Sealing.{MaySealAt, MaySeal, drawn_iv, IsMadeOf, stream_after, AreMadeOf};

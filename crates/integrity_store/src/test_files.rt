@@ -4,7 +4,8 @@ ghost use Rattle.sealed_store.specs.Stores.{IsIntact, block_size_of, cipher_of};
 
 use aes_gcm::Aes256Gcm;
 use block_id::BlockId;
-use outside::{FileName, MemoryVault, Vault};
+use memory_outside::MemoryVault;
+use outside::{FileName, Vault};
 use redo_vault::RedoVault;
 use seal_api::Sealer;
 use sealed_store::SealedStore;

@@ -9,9 +9,9 @@ use Rattle.std.specs.Cmp.{Equal-is}
 use Rattle.block_id.specs.Fresh.{zero_id}
 use Rattle.block_id.specs.declared.id.BlockId.{BlockId}
 use Rattle.block_id.proofs.Conditions.{left, right}
-use Rattle.store_api.specs.declared.batch.BatchChange.{BatchChange}
+use Rattle.block_batch.specs.declared.batch.BatchChange.{BatchChange}
 use Rattle.store_api.specs.Content.{Id, id_cmp, same_id, Changes}
-use Rattle.store_api.specs.Entries.{entries_of, change_view}
+use Rattle.block_batch.specs.Entries.{entries_of, change_view}
 use Rattle.store_api.specs.Holdings.{IsFew, is_free}
 use Rattle.store_api.proofs.Rising.{ids_total, not_below, turn}
 use Rattle.map_store.specs.Rows.{AreWith, newer}

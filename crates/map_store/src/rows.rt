@@ -2,7 +2,7 @@
 ghost use Rattle.std.specs.Prelude.{◌≡◌, OnOk, IfOk};
 ghost use Rattle.std.specs.FinMap as fin;
 ghost use Rattle.block_id.specs.Fresh.{IsFirstFree};
-ghost use Rattle.store_api.specs.Entries.{change_view, entries_of};
+ghost use Rattle.block_batch.specs.Entries.{change_view, entries_of};
 ghost use Rattle.store_api.specs.Holdings.{IsFew, is_free};
 ghost use Rattle.map_store.specs.Rows.{AreWith};
 ghost use Rattle.map_store.specs.Setting.{put_all};

@@ -4,12 +4,9 @@ pub mod Changes
 pub mod Going
 pub mod Honest
 pub mod HonestLaws
-pub mod Keepers
-pub mod MemoryStreams
 pub mod NameLaws
 pub mod Names
 pub mod Streams
 pub mod Trace
-pub mod Vaults
 pub mod View
 pub mod Writes

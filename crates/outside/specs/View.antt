@@ -8,9 +8,7 @@ use Rattle.outside.specs.declared.change.FileName.TheVariants.{Config, Block}
 use Rattle.outside.specs.declared.change.Change.{Change}
 use Rattle.outside.specs.declared.change.Change.TheVariants.{Bytes, Removal}
 use Rattle.outside.specs.declared.change.Pending.{Pending}
-use Rattle.outside.specs.declared.event.Event.{Event}
-use Rattle.outside.specs.declared.event.Event.TheVariants.{Got, Put, Removed}
-use Rattle.outside.specs.Trace.{At, config, block, Call, got, put, removed}
+use Rattle.outside.specs.Trace.{At, config, block}
 
 abbrev pub at_of : FileName → At
 at_of Config = config
@@ -32,13 +30,3 @@ pending_of p = (at_of p.name, change_of p.change)
 -- an unwritten list
 abbrev pub list_of : List Pending → List (At × Option (List ℕ))
 list_of ps = map pending_of ps
-
--- a call that was made
-abbrev pub call_of : Event → Call
-call_of (Got name max answer) = got (at_of name) max (bytes_of answer)
-call_of (Put name bytes ok) = put (at_of name) bytes.items ok
-call_of (Removed name ok) = removed (at_of name) ok
-
--- answers, each with the number of its call
-abbrev pub answers_of : List (ℕ × Option (Vec ℕ Global)) → List (ℕ × Option (List ℕ))
-answers_of answers = map (λ answer. (answer.0, bytes_of answer.1)) answers

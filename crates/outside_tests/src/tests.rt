@@ -10,7 +10,8 @@ use crate::vault_promises::{
     gives_none_for_a_missing_name, keeps_names_apart, removes_a_name_once_or_more,
     replaces_by_a_second_put,
 };
-use outside::{Keeper, MemoryKeeper, MemoryVault, Vault};
+use memory_outside::{MemoryKeeper, MemoryVault};
+use outside::{Keeper, Vault};
 use real_folders::{FolderKeeper, FolderRun, FolderVault};
 use std::alloc::Global;
 use std::fs;

@@ -3,7 +3,7 @@ ghost use Rattle.std.specs.Prelude.{◌≡◌, ◌⊎◌, ◌≤◌, length, IfO
 ghost use Rattle.std.specs.declared.option.Option.TheVariants.{None, Some};
 ghost use Rattle.std.specs.Option.{option_map};
 ghost use Rattle.outside.specs.Causes.{GetHasCause, RoseBy};
-ghost use Rattle.outside.specs.MemoryStreams.{one_more};
+ghost use Rattle.memory_outside.specs.MemoryStreams.{one_more};
 ghost use Rattle.outside.specs.View.{bytes_of};
 ghost use Rattle.real_folders.specs.Adapters.{counted};
 
@@ -12,7 +12,8 @@ use crate::files::open_or_create;
 use crate::folder_run::FolderRun;
 use crate::lock::Lock;
 use crate::stored_file::StoredFile;
-use outside::{Failed, GetFail, Keeper, Memory, MemoryKeeper};
+use memory_outside::MemoryKeeper;
+use outside::{Failed, GetFail, Keeper, Memory};
 use std::alloc::Global;
 use std::fs::Files;
 use std::io;

@@ -9,7 +9,7 @@ use Rattle.outside.specs.declared.change.Pending.{Pending}
 use Rattle.outside.specs.Trace.{At, Call, adds}
 use Rattle.outside.specs.Changes.{FileChanges, set_change, set_changes}
 use Rattle.outside.specs.View.{at_of, change_of, pending_of, list_of}
-use Rattle.outside.proofs.Lists.{item_here}
+use Rattle.pending_list.proofs.Lists.{item_here}
 use Rattle.redo_vault.specs.Redo.{bytes_len, buffered_len}
 use Rattle.outside.specs.Writes.{call_for, after_writes, StopsAt}
 

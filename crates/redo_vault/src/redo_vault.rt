@@ -9,7 +9,7 @@ ghost use Rattle.outside.specs.View.{at_of, bytes_of, change_of, list_of, pendin
 ghost use Rattle.redo_vault.specs.Redo.{Gave, bytes_len, buffered_len};
 ghost use Rattle.outside.specs.Writes.{call_for, after_writes, StopsAt};
 
-use outside::{Change, FileName, GetFail, Memory, Pending, Vault, pending_list};
+use outside::{Change, FileName, GetFail, Memory, Pending, Vault};
 use std::alloc::Global;
 use std::marker::Model;
 
@@ -191,7 +191,7 @@ impl<V: Vault> RedoVault<V> {
 mod tests {
     use super::*;
     use block_id::BlockId;
-    use outside::MemoryVault;
+    use memory_outside::MemoryVault;
     use std::test::Fail;
 
     const FIRST: FileName = FileName::Block(BlockId([1; 16]));

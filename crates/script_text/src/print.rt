@@ -72,9 +72,16 @@ fn push_info(out: &mut Vec<u8>, attr: &Attr, size: u64) -> Result<(), Memory>
 {
     push_bytes(out, b"stat ")?;
     push_byte(out, kind_letter(attr.kind))?;
-    push_numbers(out, attr, size)?;
-    push_moments(out, attr)?;
+    push_details(out, attr, size)?;
     push_byte(out, b'\n')
+}
+
+/// What stands behind the kind.
+fn push_details(out: &mut Vec<u8>, attr: &Attr, size: u64) -> Result<(), Memory>
+    ensures { Appends out.old out.new result (numbers_text attr.now size ++ moments_text attr.now) }
+{
+    push_numbers(out, attr, size)?;
+    push_moments(out, attr)
 }
 
 fn push_numbers(out: &mut Vec<u8>, attr: &Attr, size: u64) -> Result<(), Memory>

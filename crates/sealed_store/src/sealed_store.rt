@@ -144,7 +144,7 @@ impl<V: Vault, C: Sealer> SealedStore<V, C> {
 mod tests {
     use super::*;
     use aes_gcm::Aes256Gcm;
-    use outside::MemoryVault;
+    use memory_outside::MemoryVault;
     use std::test::Fail;
 
     const ID: BlockId = BlockId([7; 16]);

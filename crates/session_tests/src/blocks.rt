@@ -1,7 +1,8 @@
 // How many block files there are after each session, and how often they are asked for.
 
 use cryfs_shell::Status;
-use outside::{Event, FileName, MemoryVault};
+use memory_outside::{Event, MemoryVault};
+use outside::FileName;
 use std::alloc::Global;
 use std::test::Fail;
 use test_systems::{CREATED, System, count_blocks, expect, new_system, nothing, plain, session};

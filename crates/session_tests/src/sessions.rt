@@ -1,7 +1,7 @@
 // Sessions over a directory that keeps its promises.
 
 use cryfs_shell::Status;
-use outside::MemoryKeeper;
+use memory_outside::MemoryKeeper;
 use std::alloc::Global;
 use std::test::Fail;
 use test_systems::{

@@ -4,7 +4,8 @@ use crate::files::{BY_HAND, COUNTED, OTHER_CIPHER, OTHER_JSON, SMALL_BLOCKS};
 use config_file::open_config;
 use cryfs_shell::Status;
 use local_state::key_digest;
-use outside::{Change, FileName, MemoryKeeper, MemoryVault, Pending};
+use memory_outside::{MemoryKeeper, MemoryVault};
+use outside::{Change, FileName, Pending};
 use std::alloc::{AllocError, Global};
 use std::test::Fail;
 use test_systems::{

@@ -1,4 +1,3 @@
 pub mod Rising
-mod Places
 mod Overlays
 pub mod Crowds

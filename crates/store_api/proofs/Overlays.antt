@@ -1,6 +1,6 @@
 -- What the changes of a store owe it, as they and it change.
 use Rattle.std.proofs.Common.{◌≡◌, ◌⊎◌, ℕ, Bool, true, false, List, length, refl, sym, ◌∙◌, ap, subst, inl, inr}
-use Rattle.std.specs.Prelude.{Result, Ok, Err, OnOk, OnErr, IfSome, IfNone, not, cond, ◌&&◌, ◌||◌, ◌++◌, is_some, Option, Some, None}
+use Rattle.std.specs.Prelude.{Result, Ok, Err, OnOk, OnErr, not, cond, ◌&&◌, ◌||◌, ◌++◌, is_some, Option, Some, None}
 use Rattle.std.specs.FinMap as fin
 use Rattle.std.specs.FinMap.{get-empty, get-insert, get-remove}
 use Rattle.std.proofs.lemmas.Option.{none-some}
@@ -78,10 +78,6 @@ pub fits-put_or_not : {E : Type 0} (r : Result Unit E) {S : Type 0} (H : Holding
     → (is_some (over old (H.content s) id) ≡ true) ⊎ (is_free (fin.keys old ++ H.used s) id ≡ true) → FitsStore H s new
 fits-put_or_not (Ok u) H s old new id bytes ok err fits sized may = subst (FitsStore H s) (sym ok) (fits-put H s old id bytes fits sized may)
 fits-put_or_not (Err e) H s old new id bytes ok err fits sized may = subst (FitsStore H s) (sym err) fits
-
-pub same_some : {X Y : Type 0} (r : Option X) (o : Option Y) (v : X → Y) → IfSome r (λ x. o ≡ Some (v x)) → IfNone r (o ≡ None) → is_some r ≡ is_some o
-same_some None o v some none = ap is_some (sym none)
-same_some (Some x) o v some none = ap is_some (sym some)
 
 pub or_true : (r a b : Bool) → r ≡ true → r ≡ a → r ≡ (a || b)
 or_true r true b t e = t

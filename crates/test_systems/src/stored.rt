@@ -2,7 +2,8 @@
 
 use crate::system::System;
 use block_id::BlockId;
-use outside::{Change, FileName, MemoryVault, Pending};
+use memory_outside::MemoryVault;
+use outside::{Change, FileName, Pending};
 use std::alloc::{AllocError, Global};
 use std::test::Fail;
 

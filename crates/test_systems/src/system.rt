@@ -3,7 +3,7 @@
 use crate::random::ZEROS;
 use cryfs_shell::{Ended, Status, run};
 use fs_model::Moment;
-use outside::{MemoryKeeper, MemorySink, MemorySource, MemoryVault};
+use memory_outside::{MemoryKeeper, MemorySink, MemorySource, MemoryVault};
 use rand_core::Rng;
 use std::alloc::{AllocError, Global};
 use std::test::Fail;

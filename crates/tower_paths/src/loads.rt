@@ -5,7 +5,7 @@ ghost use Rattle.store_api.specs.Holdings.{IsFew};
 use crate::tower::empty_store;
 use block_id::BlockId;
 use data_tree::{drop_tree, len, new_tree, read_range};
-use outside::Event;
+use memory_outside::Event;
 use rand_pcg::Pcg32;
 use std::alloc::Global;
 use std::test::Fail;

@@ -9,7 +9,7 @@ use block_id::BlockId;
 use fs_model::Moment;
 use integrity_store::IntegrityStore;
 use local_state::{Known, State, decode, encode};
-use outside::MemoryVault;
+use memory_outside::MemoryVault;
 use rand_pcg::Pcg32;
 use redo_vault::RedoVault;
 use script_text::{parse_line, print_reply};

@@ -9,7 +9,8 @@ use crate::changes::{
 use crate::site::{Loaded, Site, first_byte};
 use crate::tower::Tower;
 use block_id::BlockId;
-use outside::{Event, FileName, MemoryKeeper, MemoryVault};
+use memory_outside::{Event, MemoryKeeper, MemoryVault};
+use outside::FileName;
 use session_saver::SyncError;
 use std::alloc::Global;
 use std::test::Fail;

@@ -17,7 +17,7 @@ ghost use Rattle.integrity_store.specs.Stores.{IsNoBlock};
 use block_id::BlockId;
 use integrity_store::IntegrityStore;
 use local_state::decode;
-use outside::{Change, FileName, Keeper, Pending, Vault, pending_list};
+use outside::{Change, FileName, Keeper, Pending, Vault};
 use rand_core::Rng;
 use redo_vault::RedoVault;
 use seal_api::Sealer;

@@ -4,7 +4,7 @@ ghost use Rattle.store_api.specs.Holdings.{IsFew};
 
 use crate::site::{Store, open};
 use block_cache::BlockCache;
-use outside::MemoryVault;
+use memory_outside::MemoryVault;
 use std::alloc::Global;
 use std::test::Fail;
 use store_api::Durable;

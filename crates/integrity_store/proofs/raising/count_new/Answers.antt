@@ -4,8 +4,8 @@ use Rattle.std.specs.FinMap as fin
 use Rattle.block_id.specs.declared.id.BlockId.{BlockId}
 use Rattle.local_state.specs.declared.life.Life.{Life}
 use Rattle.local_state.specs.Known.{Lives}
-use Rattle.store_api.specs.declared.batch.BatchChange.{BatchChange}
-use Rattle.store_api.specs.Entries.{entries_of}
+use Rattle.block_batch.specs.declared.batch.BatchChange.{BatchChange}
+use Rattle.block_batch.specs.Entries.{entries_of}
 use Rattle.store_api.proofs.Rising.{turn}
 use Rattle.integrity_store.specs.Raising.{one_if_new, count_new_in}
 use Rattle.integrity_store.proofs.raising.count_new.Goals as goal

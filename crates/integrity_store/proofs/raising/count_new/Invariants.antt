@@ -1,5 +1,5 @@
 use Rattle.std.proofs.Common.{◌≡◌, ◌+◌, ◌≤◌, drop}
-use Rattle.store_api.specs.Entries.{entries_of}
+use Rattle.block_batch.specs.Entries.{entries_of}
 use Rattle.integrity_store.specs.Raising.{count_new_in}
 use Rattle.integrity_store.proofs.raising.count_new.Given as goal
 

@@ -1,6 +1,6 @@
 use Rattle.std.proofs.Common.{◌≡◌, ◌+◌, drop, sym, ◌∙◌, ap, subst, arith}
 use Rattle.std.specs.FinMap as fin
-use Rattle.store_api.specs.Entries.{entry_view, entries_of}
+use Rattle.block_batch.specs.Entries.{entry_view, entries_of}
 use Rattle.store_api.proofs.Rising.{turn}
 use Rattle.integrity_store.specs.Raising.{one_if_new, lives_after_one, lives_after_each, MayComeEach, count_new_each}
 use Rattle.integrity_store.proofs.raising.raise_or_bury_all.Goals as goal

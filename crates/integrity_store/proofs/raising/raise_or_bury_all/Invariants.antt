@@ -1,5 +1,5 @@
 use Rattle.std.proofs.Common.{◌≡◌, ◌≤◌, drop}
-use Rattle.store_api.specs.Entries.{entries_of}
+use Rattle.block_batch.specs.Entries.{entries_of}
 use Rattle.integrity_store.specs.Raising.{lives_after_each, MayComeEach, count_new_each}
 use Rattle.integrity_store.proofs.raising.raise_or_bury_all.Given as goal
 

@@ -3,8 +3,8 @@ use Rattle.std.specs.Prelude.{◌||◌}
 use Rattle.std.specs.FinMap as fin
 use Rattle.block_id.specs.declared.id.BlockId.{BlockId}
 use Rattle.local_state.specs.Known.{Lives}
-use Rattle.store_api.specs.declared.batch.BatchChange.{BatchChange}
-use Rattle.store_api.specs.Entries.{entries_of, change_view}
+use Rattle.block_batch.specs.declared.batch.BatchChange.{BatchChange}
+use Rattle.block_batch.specs.Entries.{entries_of, change_view}
 use Rattle.store_api.proofs.Rising.{turn}
 use Rattle.integrity_store.specs.Raising.{is_spent_at, some_spent_in}
 use Rattle.integrity_store.proofs.raising.some_spent.Goals as goal

@@ -1,6 +1,6 @@
 use Rattle.std.proofs.Common.{drop}
 use Rattle.std.specs.List.{AllByRecursion}
-use Rattle.store_api.specs.Entries.{entries_of}
+use Rattle.block_batch.specs.Entries.{entries_of}
 use Rattle.integrity_store.specs.Sealing.{MaySeal}
 use Rattle.integrity_store.specs.Views.{held_of}
 use Rattle.integrity_store.proofs.Sealed.{MadeSoFar}

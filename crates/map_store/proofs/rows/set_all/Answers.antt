@@ -1,4 +1,4 @@
-use Rattle.store_api.specs.Entries.{entries_of}
+use Rattle.block_batch.specs.Entries.{entries_of}
 use Rattle.map_store.proofs.Put.{all_set_or_not}
 use Rattle.map_store.proofs.rows.set_all.Goals as goal
 

@@ -1,5 +1,5 @@
 use Rattle.map_store.specs.Setting.{put_all}
-use Rattle.store_api.specs.Entries.{entries_of}
+use Rattle.block_batch.specs.Entries.{entries_of}
 use Rattle.map_store.proofs.Put.{put_more}
 use Rattle.map_store.proofs.rows.set_entries.Goals as goal
 

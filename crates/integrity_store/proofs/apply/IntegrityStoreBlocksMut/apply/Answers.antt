@@ -4,7 +4,7 @@ use Rattle.std.proofs.lemmas.List.{length-map}
 use Rattle.outside.specs.Trace.{Call}
 use Rattle.outside.specs.View.{pending_of}
 use Rattle.sealed_store.specs.Stores.{IsIntact, block_size_of, cipher_of}
-use Rattle.store_api.specs.Entries.{entries_of}
+use Rattle.block_batch.specs.Entries.{entries_of}
 use Rattle.integrity_store.specs.declared.store.IntegrityStore.{IntegrityStore}
 use Rattle.integrity_store.specs.Held.{Held}
 use Rattle.integrity_store.specs.Views.{held_by}

@@ -1,7 +1,7 @@
 use Rattle.std.proofs.Common.{◌≡◌, refl, sym, ◌∙◌, ap, subst, []}
 use Rattle.std.specs.FinMap as fin
 use Rattle.std.specs.declared.result.Result.TheVariants.{Err}
-use Rattle.store_api.specs.Entries.{entries_of}
+use Rattle.block_batch.specs.Entries.{entries_of}
 use Rattle.fs_model.specs.Instant.{Instant}
 use Rattle.fs_model.specs.Tree.{Tree}
 use Rattle.fs_model.specs.declared.command.Command.{Command}

@@ -1,0 +1,38 @@
+use Rattle.std.proofs.Common.{◌≡◌, ◌≤◌, ◌+◌, ◌-◌, ◌++◌, ℕ, List, length, take, drop, arith, refl, ap, sym, ◌∙◌}
+use Rattle.std.proofs.lemmas.Grind.{common_steps}
+use Rattle.std.proofs.lemmas.List.{take_at, take-append-drop, length-take-le, drop_all, drop-drop}
+use Rattle.memory_outside.specs.MemoryStreams.{Feed, one_more}
+use Rattle.memory_outside.proofs.memory_source.MemorySourceSource.read.Goals as goal
+
+-- the bytes copied to the front of a piece are the first of what was left
+front_copied : (left piece copied : List ℕ) (n : ℕ) → n ≤ length left → copied ≡ take n left
+    → left ≡ take n (copied ++ drop n piece) ++ drop n left
+front_copied left piece copied n h e =
+    let l : length copied ≡ n = ap length e ∙ length-take-le n left h in
+    let f : take n (copied ++ drop n piece) ≡ take n left = take_at copied (drop n piece) n l ∙ e in
+    sym (ap (λ (front : List ℕ). front ++ drop n left) f ∙ take-append-drop n left)
+
+given_less : (given n : ℕ) → given + n - given ≡ n
+given_less given n = omega arith
+
+pub returns-clause-ok : goal.returns-clause-ok
+returns-clause-ok c =
+    let i = c.self.inside in
+    let n = c.min-n.result in
+    let left = drop i.given i.bytes.items in
+    let h : n ≤ length left = grind (arith, common_steps) in
+    let e : c.copy_from_slice.new.self ≡ take n left =
+    grind (arith, given_less i.given n, c.copy_from_slice.ensures.after, c.deref-2.ensures.value) in (
+      drop (i.given + n) i.bytes.items,
+      sym (ap (λ (s : Feed). s.rest) c.self.view_is) ∙ (front_copied left c.args.piece.now c.copy_from_slice.new.self n h e
+          ∙ ap (λ (rest : List ℕ). take n (c.copy_from_slice.new.self ++ drop n c.args.piece.now) ++ rest) (drop-drop n i.given i.bytes.items)),
+      refl,
+    )
+
+pub returns-clause-took : goal.returns-clause-took
+returns-clause-took c = record { calls = c.saturating_add-self-inside.ensures ∙ ap (λ (s : Feed). one_more s.calls) c.self.view_is; rest = returns-clause-ok c }
+
+pub returns-clause-end : goal.returns-clause-end
+returns-clause-end c = λ z more.
+    let i = c.self.inside in
+    sym (ap (λ (s : Feed). s.rest) c.self.view_is) ∙ drop_all i.given i.bytes.items (omega arith)

@@ -1,0 +1,4 @@
+pub mod Keepers
+pub mod MemoryStreams
+pub mod Vaults
+pub mod View

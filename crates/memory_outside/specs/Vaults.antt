@@ -1,0 +1,82 @@
+-- A directory in memory: what it holds, what is set, and what its calls do.
+use Rattle.std.specs.Prelude.{◌≡◌, ◌⊎◌, ℕ, Bool, false, not, ◌||◌, nat_le, ◌==◌, List, [], ◌∷◌, filter, if◌then◌else◌, unwrap_or, option_and_then}
+use Rattle.std.specs.List.{list_any}
+use Rattle.std.specs.declared.option.Option.{Option}
+use Rattle.std.specs.declared.option.Option.TheVariants.{None, Some}
+use Rattle.outside.specs.Trace.{At, Call}
+use Rattle.memory_outside.specs.MemoryStreams.{one_more}
+use Rattle.outside.specs.Names.{same_at}
+use Rattle.outside.specs.Changes.{FileChanges, change_at}
+use Rattle.outside.specs.Honest.{LastChange, last_change}
+
+pub record VaultState : Type 0 where
+  -- the calls, the newest first
+  pub trace : List Call
+  pub files : FileChanges
+  pub faults : ℕ
+  -- how many calls, gets, and puts and removals there were since the last setting
+  pub calls : ℕ
+  pub gets : ℕ
+  pub changes : ℕ
+  -- the numbers of calls that fail, the first put or removal from which on each fails, and answers of gets
+  pub failing : List ℕ
+  pub failing_from : Option ℕ
+  pub answers : List (ℕ × Option (List ℕ))
+
+-- the number is one of these
+abbrev pub is_listed : List ℕ → ℕ → Bool
+is_listed numbers number = list_any (λ n. n == number) numbers
+
+abbrev pub is_from : Option ℕ → ℕ → Bool
+is_from None number = false
+is_from (Some first) number = nat_le first number
+
+-- the answer that replaces that of the get of this number
+abbrev pub answer_at : List (ℕ × Option (List ℕ)) → ℕ → Option (Option (List ℕ))
+answer_at [] number = None
+answer_at (answer ∷ answers) number = if answer.0 == number then Some answer.1 else answer_at answers number
+
+-- the bytes of a file, where it is there
+abbrev pub file_at : At → FileChanges → Option (List ℕ)
+file_at name files = option_and_then (λ change. change) (change_at name files)
+
+-- whether the next call is made to fail, as a get, or as a put or removal
+abbrev pub get_fails : VaultState → Bool
+get_fails v = is_listed v.failing (one_more v.calls)
+
+abbrev pub change_fails : VaultState → Bool
+change_fails v = is_listed v.failing (one_more v.calls) || is_from v.failing_from (one_more v.changes)
+
+-- what the next get gives, before it is cut
+abbrev pub given : VaultState → At → Option (List ℕ)
+given v name = unwrap_or (answer_at v.answers (one_more v.gets)) (file_at name v.files)
+
+abbrev pub without : At → FileChanges → FileChanges
+without name files = filter (λ file. not (same_at name file.0)) files
+
+abbrev pub after_get : VaultState → Call → VaultState
+after_get v call = record v { trace = call ∷ v.trace; calls = one_more v.calls; gets = one_more v.gets }
+
+abbrev pub after_failed_get : VaultState → VaultState
+after_failed_get v = record v { faults = one_more v.faults; calls = one_more v.calls; gets = one_more v.gets }
+
+-- after a put or a removal that answered ok, with the files that it left
+abbrev pub after_change : VaultState → Call → FileChanges → VaultState
+after_change v call files = record v { trace = call ∷ v.trace; files = files; calls = one_more v.calls; changes = one_more v.changes }
+
+abbrev pub after_failed_change : VaultState → Call → VaultState
+after_failed_change v call = record v { trace = call ∷ v.trace; faults = one_more v.faults; calls = one_more v.calls; changes = one_more v.changes }
+
+-- after a setting
+abbrev pub restarted : VaultState → VaultState
+restarted v = record v { calls = 0; gets = 0; changes = 0 }
+
+-- a file is what its last change left, or that change didn't answer ok
+abbrev pub IsLeftBy : Option LastChange → Option (List ℕ) → Type 0
+IsLeftBy None file = file ≡ None
+IsLeftBy (Some last) file = (last.ok ≡ false) ⊎ (file ≡ last.bytes)
+
+-- no answer is replaced, and each file is what its last change left
+pub record IsUntampered (v : VaultState) : Type 0 where
+  pub none_replaced : v.answers ≡ []
+  pub files_left : (name : At) → IsLeftBy (last_change name v.trace) (file_at name v.files)

@@ -1,0 +1,14 @@
+//! The outside in memory, for tests and for what keeps a copy: input, output, the block directory, the local record, whose calls can be made to fail.
+#![tactic(auto)]
+
+mod event;
+mod memory_keeper;
+mod memory_sink;
+mod memory_source;
+mod memory_vault;
+
+pub use event::Event;
+pub use memory_keeper::MemoryKeeper;
+pub use memory_sink::MemorySink;
+pub use memory_source::MemorySource;
+pub use memory_vault::MemoryVault;

@@ -1,0 +1,285 @@
+// A local record in memory.
+ghost use Rattle.std.specs.Prelude.{◌≡◌, ◌⊎◌, ◌≤◌, List, ℕ, Bool, length, is_some, is_ok, is_none, IfOk, OnOk, OnErr, vec_capacity, IfSome, IfNone, IsErrOf, false, true, [], option_map};
+ghost use Rattle.std.specs.declared.option.Option.{Option};
+ghost use Rattle.std.specs.declared.option.Option.TheVariants.{None, Some};
+ghost use Rattle.outside.specs.Causes.{GetHasCause, RoseBy};
+ghost use Rattle.memory_outside.specs.MemoryStreams.{one_more};
+ghost use Rattle.memory_outside.specs.Keepers.{failure_at, failure_from, failure_of, load_fails, after_load, after_failed_load, kept_by, faults_by};
+ghost use Rattle.outside.specs.View.{bytes_of};
+
+use crate::memory_vault::contains;
+use outside::{Failed, GetFail, Keeper, Memory};
+use std::alloc::Global;
+use std::marker::Model;
+
+/// A record in memory. Loads and saves can be made to fail.
+#[derive(Drop)]
+pub struct MemoryKeeper {
+    is_kept: bool,
+    bytes: Vec<u8>,
+    faults: u64,
+    saves: u64,
+    failing: Vec<(u64, bool)>,
+    failing_loads: Vec<u64>,
+    loads: u64,
+    failing_from: Option<(u64, bool)>,
+    saves_since: u64,
+}
+
+impl Model for MemoryKeeper {
+    ghost use Rattle.std.specs.Prelude.{vec_capacity, if◌then◌else◌};
+    ghost use Rattle.std.specs.declared.option.Option.TheVariants.{None, Some};
+    ghost use Rattle.memory_outside.specs.Keepers.{KeeperState};
+
+    ghost Value = { KeeperState };
+
+    ghost view = { λ k. record {
+      kept = if k.is_kept then Some k.bytes.items else None;
+      room = vec_capacity k.bytes;
+      faults = k.faults;
+      saves = k.saves;
+      failing = k.failing.items;
+      failing_loads = k.failing_loads.items;
+      loads = k.loads;
+      failing_from = k.failing_from;
+      saves_since = k.saves_since;
+    } };
+}
+
+/// Whether the save of this number keeps its record although it fails, or None where it doesn't fail.
+fn failure(failing: &[(u64, bool)], number: u64) -> Option<bool>
+    ensures { result ≡ failure_at failing.now number }
+{
+    for failure in failing {
+        if failure.0 == number {
+            return Some(failure.1);
+        }
+    }
+    None
+}
+
+/// The same of saves of which each from one on fails.
+fn later_failure(first: Option<(u64, bool)>, number: u64) -> Option<bool>
+    ensures { result ≡ failure_from first number }
+{
+    match first {
+        Some((first, keeps)) if first <= number => Some(keeps),
+        _ => None,
+    }
+}
+
+/// Keeps these bytes, where there is room for them.
+fn keep(kept: &mut Vec<u8>, bytes: &[u8])
+    requires { length bytes.now ≤ vec_capacity kept.old }
+    ensures items { kept.new.items ≡ bytes.now }
+    ensures capacity { vec_capacity kept.old ≤ vec_capacity kept.new }
+{
+    kept.clear();
+    match kept.extend_from_slice(bytes) {
+        Ok(()) => {}
+        Err(_) => unreachable!(),
+    }
+}
+
+impl MemoryKeeper {
+    /// What is kept, the numbers of saves that fail, counted from 1, and whether such a save keeps the new record.
+    pub fn new(alloc: Global, kept: Option<Vec<u8>>, fails: Vec<(u64, bool)>) -> MemoryKeeper
+        ensures kept { result.kept ≡ bytes_of kept }
+        ensures counts { (result.faults ≡ 0) × (result.saves ≡ 0) }
+        ensures failing { result.failing ≡ fails.items }
+        ensures settings { (result.failing_loads ≡ []) × (result.failing_from ≡ None) }
+        ensures counts_since { (result.loads ≡ 0) × (result.saves_since ≡ 0) }
+    {
+        let is_kept = kept.is_some();
+        MemoryKeeper {
+            is_kept,
+            bytes: kept.unwrap_or(Vec::new(alloc)),
+            faults: 0,
+            saves: 0,
+            failing: fails,
+            failing_loads: Vec::new(alloc),
+            loads: 0,
+            failing_from: None,
+            saves_since: 0,
+        }
+    }
+
+    /// Makes the loads of these numbers fail, counted from 1 from here on. No save is counted.
+    pub fn fail_loads(&mut self, list: Vec<u64>)
+        ensures { self.new ≡ record self.old { failing_loads = list.items; loads = 0 } }
+    {
+        self.failing_loads = list;
+        self.loads = 0;
+    }
+
+    /// Makes every save from the n-th one on fail, counted from 1 from here on, and keep its record where `takes`. What
+    /// was listed for a save counts before. No load is counted.
+    pub fn fail_from(&mut self, n: u64, takes: bool)
+        ensures { self.new ≡ record self.old { failing_from = Some (n, takes); saves_since = 0 } }
+    {
+        self.failing_from = Some((n, takes));
+        self.saves_since = 0;
+    }
+
+    /// How the next save fails, if it does.
+    fn next_failure(&self) -> Option<bool>
+        ensures { result ≡ failure_of self.now }
+    {
+        match failure(&self.failing, self.saves.saturating_add(1)) {
+            Some(keeps) => Some(keeps),
+            None => later_failure(self.failing_from, self.saves_since.saturating_add(1)),
+        }
+    }
+
+    /// What is kept.
+    pub fn kept(&self) -> Option<&[u8]>
+        ensures { option_map (λ bytes. bytes.now) result ≡ self.now.kept }
+    {
+        if self.is_kept {
+            Some(&self.bytes)
+        } else {
+            None
+        }
+    }
+}
+
+impl Keeper for MemoryKeeper {
+    ghost kept = { λ k. k.kept };
+
+    ghost room = { λ k. k.room };
+
+    ghost faults = { λ k. k.faults };
+
+    fn load(&mut self, alloc: Global) -> Result<Option<Vec<u8>>, GetFail>
+        ensures ok { IfOk result (λ answer. bytes_of answer ≡ self.old.kept) }
+        ensures kept { self.new.kept ≡ self.old.kept }
+        ensures room { self.old.room ≤ self.new.room }
+        ensures cause { GetHasCause self.old.faults self.new.faults result }
+
+        ensures after { OnOk result (self.new ≡ after_load self.old) }
+        ensures ok_where_not_listed { OnOk result (load_fails self.old ≡ false) }
+        ensures failed_where_listed { IsErrOf result GetFail.Failed → (load_fails self.old ≡ true) × (self.new ≡ after_failed_load self.old) }
+        ensures memory { IsErrOf result GetFail.Memory → (load_fails self.old ≡ false) × (self.new ≡ self.old) }
+    {
+        if contains(&self.failing_loads, self.loads.saturating_add(1)) {
+            self.loads = self.loads.saturating_add(1);
+            self.faults = self.faults.saturating_add(1);
+            return Err(GetFail::Failed);
+        }
+        let answer = if self.is_kept {
+            Some(self.bytes.as_slice().to_vec(alloc)?)
+        } else {
+            None
+        };
+        self.loads = self.loads.saturating_add(1);
+        Ok(answer)
+    }
+
+    fn prepare(&mut self, alloc: Global, len: usize) -> Result<(), Memory>
+        ensures ok { OnOk result (len ≤ self.new.room) }
+        ensures kept { self.new.kept ≡ self.old.kept }
+        ensures room { self.old.room ≤ self.new.room }
+        ensures faults { self.new.faults ≡ self.old.faults }
+
+        ensures saves { self.new.saves ≡ self.old.saves }
+        ensures failing { self.new.failing ≡ self.old.failing }
+        ensures rest { self.new ≡ record self.old { room = self.new.room } }
+    {
+        let _ = alloc;
+        let more = len.saturating_sub(self.bytes.len());
+        self.bytes.reserve(more)?;
+        Ok(())
+    }
+
+    fn save(&mut self, bytes: &[u8]) -> Result<(), Failed>
+        requires { length bytes.now ≤ self.old.room }
+        ensures ok { OnOk result (self.new.kept ≡ Some bytes.now) }
+        ensures err { OnErr result ((self.new.kept ≡ self.old.kept) ⊎ (self.new.kept ≡ Some bytes.now)) }
+        ensures room { self.old.room ≤ self.new.room }
+        ensures grows { self.old.faults ≤ self.new.faults }
+        ensures cause { OnErr result (RoseBy 1 self.old.faults self.new.faults) }
+        ensures quiet { OnOk result (self.new.faults ≡ self.old.faults) }
+
+        ensures fails_where_listed { is_ok result ≡ is_none (failure_of self.old) }
+        ensures kept { self.new.kept ≡ kept_by (failure_of self.old) self.old.kept bytes.now }
+        ensures faults { self.new.faults ≡ faults_by (failure_of self.old) self.old.faults }
+        ensures saves { self.new.saves ≡ one_more self.old.saves }
+        ensures failing { self.new.failing ≡ self.old.failing }
+        ensures loads { (self.new.failing_loads ≡ self.old.failing_loads) × (self.new.loads ≡ self.old.loads) }
+        ensures from { (self.new.failing_from ≡ self.old.failing_from) × (self.new.saves_since ≡ one_more self.old.saves_since) }
+    {
+        let failure = self.next_failure();
+        self.saves = self.saves.saturating_add(1);
+        self.saves_since = self.saves_since.saturating_add(1);
+        match failure {
+            Some(keeps) => {
+                if keeps {
+                    keep(&mut self.bytes, bytes);
+                    self.is_kept = true;
+                }
+                self.faults = self.faults.saturating_add(1);
+                Err(Failed)
+            }
+            None => {
+                keep(&mut self.bytes, bytes);
+                self.is_kept = true;
+                Ok(())
+            }
+        }
+    }
+}
+
+#[cfg(test)]
+mod tests {
+    use super::*;
+    use std::test::Fail;
+
+    #[test]
+    fn keeps_what_is_saved_and_fails_as_listed(rt: HostRuntime) -> Result<(), Fail> {
+        let fails = [(2, false), (3, true)].to_vec(rt.alloc())?;
+        let mut keeper = MemoryKeeper::new(rt.alloc(), None, fails);
+        assert!(rt; keeper.load(rt.alloc())?.is_none());
+        keeper.prepare(rt.alloc(), 3)?;
+        keeper.save(&[1, 2])?;
+        assert_eq!(rt; keeper.save(&[3]).err(), Some(Failed));
+        assert_eq!(rt; keeper.kept().ok_or("nothing")?, [1, 2].as_slice());
+        assert_eq!(rt; keeper.save(&[4, 5, 6]).err(), Some(Failed));
+        let answer = keeper.load(rt.alloc())?.ok_or("nothing")?;
+        assert_eq!(rt; answer.as_slice(), [4, 5, 6].as_slice());
+        Ok(())
+    }
+
+    #[test]
+    fn fails_in_the_listed_loads(rt: HostRuntime) -> Result<(), Fail> {
+        let kept = [1].to_vec(rt.alloc())?;
+        let mut keeper = MemoryKeeper::new(rt.alloc(), Some(kept), Vec::new(rt.alloc()));
+        assert!(rt; keeper.load(rt.alloc())?.is_some());
+        keeper.fail_loads([1, 3].to_vec(rt.alloc())?);
+        for failure in [Some(GetFail::Failed), None, Some(GetFail::Failed), None] {
+            keeper.prepare(rt.alloc(), 1)?;
+            keeper.save(&[2])?;
+            assert_eq!(rt; keeper.load(rt.alloc()).err(), failure);
+        }
+        Ok(())
+    }
+
+    #[test]
+    fn fails_in_all_saves_from_one_on(rt: HostRuntime) -> Result<(), Fail> {
+        let fails = [(2, false)].to_vec(rt.alloc())?;
+        let mut keeper = MemoryKeeper::new(rt.alloc(), None, fails);
+        keeper.prepare(rt.alloc(), 1)?;
+        keeper.fail_from(2, true);
+        keeper.save(&[1])?;
+        for (byte, want) in [(2, [1]), (3, [3]), (4, [4])] {
+            assert!(rt; keeper.load(rt.alloc())?.is_some());
+            keeper.prepare(rt.alloc(), 1)?;
+            assert_eq!(rt; keeper.save(&[byte]).err(), Some(Failed));
+            assert_eq!(rt; keeper.kept().ok_or("nothing")?, want.as_slice());
+        }
+        keeper.fail_from(1, false);
+        keeper.prepare(rt.alloc(), 1)?;
+        assert_eq!(rt; keeper.save(&[5]).err(), Some(Failed));
+        assert_eq!(rt; keeper.kept().ok_or("nothing")?, [4].as_slice());
+        Ok(())
+    }
+}

@@ -1,0 +1,103 @@
+// Input that stands in memory.
+ghost use Rattle.std.specs.Prelude.{◌≡◌, ◌≤◌, ◌<◌, ◌↔◌, ◌+◌, ◌++◌, ℕ, List, [], length, min, take, drop, IfOk, OnOk, OnErr, IsErr, Contains};
+ghost use Rattle.std.specs.declared.option.Option.TheVariants.{Some};
+ghost use Rattle.outside.specs.Causes.{RoseBy};
+ghost use Rattle.memory_outside.specs.MemoryStreams.{Feed, TookOnce, one_more};
+ghost use Rattle.outside.specs.Streams.{WereTaken, Ends};
+
+use block_id::Failed;
+use outside::Source;
+use std::marker::Model;
+
+/// Bytes, given in pieces; listed calls fail.
+#[derive(Drop)]
+pub struct MemorySource {
+    bytes: Vec<u8>,
+    given: usize,
+    piece: usize,
+    fails: Vec<u64>,
+    calls: u64,
+    faults: u64,
+}
+
+impl Model for MemorySource {
+    ghost Value = { Feed };
+
+    ghost view = { λ s. record { rest = drop s.given s.bytes.items; piece = s.piece; fails = s.fails.items; calls = s.calls; faults = s.faults } };
+
+    ghost invariant = { λ s. (1 ≤ s.piece) × (s.given ≤ length s.bytes.items) };
+}
+
+impl MemorySource {
+    /// Gives at most `piece` bytes a call. The calls whose numbers, counted from 1, are in `fails` fail.
+    pub fn new(bytes: Vec<u8>, piece: usize, fails: Vec<u64>) -> MemorySource
+        requires { 1 ≤ piece }
+        ensures { result ≡ record { rest = bytes.items; piece = piece; fails = fails.items; calls = 0; faults = 0 } }
+    {
+        MemorySource {
+            bytes,
+            given: 0,
+            piece,
+            fails,
+            calls: 0,
+            faults: 0,
+        }
+    }
+}
+
+impl Source for MemorySource {
+    ghost rest = { λ s. Some s.rest };
+
+    ghost faults = { λ s. s.faults };
+
+    ghost took = { λ old new bytes. TookOnce old new bytes };
+
+    fn read(&mut self, piece: &mut [u8]) -> Result<usize, Failed>
+        ensures bound { IfOk result (λ n. n ≤ length piece.old) }
+        ensures ok { IfOk result (λ n. WereTaken (Some self.old.rest) (Some self.new.rest) (take n piece.new)) }
+        ensures took { IfOk result (λ n. TookOnce self.old self.new (take n piece.new)) }
+        ensures end { IfOk result (λ n. n ≡ 0 → 0 < length piece.old → Ends (Some self.old.rest)) }
+        ensures err { OnErr result (self.new.rest ≡ self.old.rest) }
+        ensures grows { self.old.faults ≤ self.new.faults }
+        ensures cause { OnErr result (RoseBy 1 self.old.faults self.new.faults) }
+        ensures quiet { OnOk result (self.new.faults ≡ self.old.faults) }
+        ensures fails_as_listed { IsErr result ↔ Contains self.old.fails (one_more self.old.calls) }
+        ensures many { IfOk result (λ n. n ≡ min self.old.piece (min (length piece.old) (length self.old.rest))) }
+        ensures given { IfOk result (λ n. piece.new ≡ take n self.old.rest ++ drop n piece.old) }
+        ensures goes_on { IfOk result (λ n. self.new ≡ record self.old { rest = drop n self.old.rest; calls = one_more self.old.calls }) }
+        ensures faulty { OnErr result (self.new ≡ record self.old { calls = one_more self.old.calls; faults = one_more self.old.faults }) }
+        ensures untouched { OnErr result (piece.new ≡ piece.old) }
+    {
+        self.calls = self.calls.saturating_add(1);
+        if self.fails.contains(&self.calls) {
+            self.faults = self.faults.saturating_add(1);
+            return Err(Failed);
+        }
+        let left = self.bytes.len() - self.given;
+        let n = self.piece.min(piece.len().min(left));
+        piece[..n].copy_from_slice(&self.bytes[self.given..self.given + n]);
+        self.given += n;
+        Ok(n)
+    }
+}
+
+#[cfg(test)]
+mod tests {
+    use super::*;
+    use std::test::Fail;
+
+    #[test]
+    fn gives_pieces_and_fails_as_listed(rt: HostRuntime) -> Result<(), Fail> {
+        let bytes = b"abcde".to_vec(rt.alloc())?;
+        let mut source = MemorySource::new(bytes, 3, vec![in rt.alloc(); 2, 4]?);
+        let mut piece = [0; 4];
+        assert_eq!(rt; source.read(&mut piece), Ok(3));
+        assert_eq!(rt; piece.as_slice(), b"abc\0".as_slice());
+        assert_eq!(rt; source.read(&mut piece), Err(Failed));
+        assert_eq!(rt; source.read(&mut piece), Ok(2));
+        assert_eq!(rt; piece.as_slice(), b"dec\0".as_slice());
+        assert_eq!(rt; source.read(&mut piece), Err(Failed));
+        assert_eq!(rt; source.read(&mut piece), Ok(0));
+        Ok(())
+    }
+}

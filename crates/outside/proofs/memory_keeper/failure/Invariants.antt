@@ -1,6 +1,0 @@
-use Rattle.std.proofs.Common.{◌≡◌, drop}
-use Rattle.outside.specs.Keepers.{failure_at}
-use Rattle.outside.proofs.memory_keeper.failure.Given as goal
-
-abbrev pub invariant-loop-failure : goal.invariant-loop-failure
-invariant-loop-failure l = failure_at l.failing l.number ≡ failure_at (drop l.failure-index l.failing) l.number

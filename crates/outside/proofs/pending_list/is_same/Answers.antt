@@ -1,6 +1,0 @@
-use Rattle.std.proofs.Common.{◌∙◌}
-use Rattle.outside.proofs.FileNames.{same_names}
-use Rattle.outside.proofs.pending_list.is_same.Goals as goal
-
-pub returns : goal.returns
-returns c = c.eq.ensures ∙ same_names c.args.a.now c.args.b.now
