@@ -18,7 +18,7 @@ ghost use Rattle.integrity_store.specs.Views.{held_of, held_by};
 ghost use Rattle.integrity_store.specs.Soundness.{IsUntouched};
 ghost use Rattle.std.specs.FinMap as fin;
 
-use crate::verdict::judge;
+use block_records::judge;
 use block_id::{BlockId, Fail};
 use local_state::State;
 use outside::{GetFail, Vault};

@@ -2,8 +2,8 @@
 ghost use Rattle.std.specs.Prelude.{◌≡◌, ◌≤◌, List, ℕ, drop, length, IfSome, IfNone};
 ghost use Rattle.std.specs.declared.option.Option.TheVariants.{Some};
 ghost use Rattle.sealed_store.specs.Stores.{seen_file_of};
-ghost use Rattle.integrity_store.specs.BlockRecords.{record_of, with_payload};
-ghost use Rattle.integrity_store.specs.Verdicts.{judged_record, judged, good, bad, Judges};
+ghost use Rattle.block_records.specs.BlockRecords.{record_of, with_payload};
+ghost use Rattle.block_records.specs.Verdicts.{judged_record, judged, good, bad, Judges};
 
 use crate::block_record::{HEAD_LEN, Head, head_of};
 use block_id::{BlockId, Fail, Why};
@@ -63,7 +63,7 @@ fn judge_plain(
 }
 
 /// The payload of what was seen, or what is wrong with it.
-pub(crate) fn judge(
+pub fn judge(
     size: usize,
     id: &BlockId,
     client: u32,

@@ -1,8 +1,8 @@
 use Rattle.std.proofs.Common.{◌≡◌, ℕ, ◌+◌, List, [], ◌++◌, length, refl, ◌∙◌, ap, append_assoc, arith, rules}
 use Rattle.std.specs.Int.{w16, w32, w64, to_le_bytes}
-use Rattle.integrity_store.specs.BlockRecords.{Record, record_of}
-use Rattle.integrity_store.proofs.Records.{FitsRecord, record_bytes, length-record_bytes, record_of-record_bytes}
-use Rattle.integrity_store.proofs.block_record.write_record.Goals as goal
+use Rattle.block_records.specs.BlockRecords.{Record, record_of}
+use Rattle.block_records.proofs.Records.{FitsRecord, record_bytes, length-record_bytes, record_of-record_bytes}
+use Rattle.block_records.proofs.block_record.write_record.Goals as goal
 
 -- five parts were appended to nothing
 joined : (none a b c d e first second third fourth fifth : List ℕ) → none ≡ [] → first ≡ none ++ a → second ≡ first ++ b → third ≡ second ++ c → fourth ≡ third ++ d → fifth ≡ fourth ++ e

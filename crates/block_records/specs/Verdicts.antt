@@ -10,7 +10,7 @@ use Rattle.block_id.specs.declared.fail.Why.TheVariants.{Missing, BadLength, Bad
 use Rattle.block_id.specs.declared.fail.Fail.{Fail}
 use Rattle.block_id.specs.declared.fail.Fail.TheVariants.{Memory, Fault, Violation}
 use Rattle.sealed_store.specs.BlockFiles.{SeenFile, absent, bad_length, bad_prefix, not_opened, plain, seen_file_in}
-use Rattle.integrity_store.specs.BlockRecords.{Record, record_of}
+use Rattle.block_records.specs.BlockRecords.{Record, record_of}
 
 -- a payload, or what is wrong
 pub data Verdict : Type 0 where

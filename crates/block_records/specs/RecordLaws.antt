@@ -6,7 +6,7 @@ use Rattle.std.proofs.Common.{refl, sym, ap, subst, arith, length-drop}
 use Rattle.std.proofs.lemmas.Bool.Decides.{Decides-eqb}
 use Rattle.std.proofs.lemmas.List.{length-replicate, take_all}
 use Rattle.sealed_store.specs.BlockFiles.{opens_file}
-use Rattle.integrity_store.specs.BlockRecords.{Record, fields_of, is_record, opened, payload_of, record_in, record_of}
+use Rattle.block_records.specs.BlockRecords.{Record, fields_of, is_record, opened, payload_of, record_in, record_of}
 
 true_is_false : true ≡ false → ⊥
 true_is_false e = cc

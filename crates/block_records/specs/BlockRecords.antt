@@ -4,7 +4,7 @@ use Rattle.std.specs.declared.option.Option.{Option}
 use Rattle.std.specs.declared.option.Option.TheVariants.{None, Some}
 use Rattle.std.specs.Int.{w16, w32, w64, from_le_bytes}
 use Rattle.sealed_store.specs.BlockFiles.{opens_file}
-use Rattle.integrity_store.specs.declared.block_record.Head.{Head}
+use Rattle.block_records.specs.declared.block_record.Head.{Head}
 
 -- an id as 16 bytes, the number of the client that wrote it, the version, and the payload
 pub record Record : Type 0 where

@@ -2,7 +2,7 @@
 ghost use Rattle.std.specs.Prelude.{◌≡◌, ◌≤◌, ◌<◌, ◌+◌, take, drop, length, IfOk, IfSome, IfNone};
 ghost use Rattle.std.specs.Int.{w16, w32, w64, from_le_bytes};
 ghost use Rattle.std.specs.declared.option.Option.TheVariants.{None, Some};
-ghost use Rattle.integrity_store.specs.BlockRecords.{record_of, with_payload};
+ghost use Rattle.block_records.specs.BlockRecords.{record_of, with_payload};
 
 use block_id::{BlockId, Memory};
 use std::alloc::Global;
@@ -18,10 +18,10 @@ pub(crate) const HEAD_LEN: usize = 30;
 
 /// What stands before the payload.
 #[derive(Clone, Copy)]
-pub(crate) struct Head {
-    pub(crate) id: BlockId,
-    pub(crate) client: u32,
-    pub(crate) version: u64,
+pub struct Head {
+    pub id: BlockId,
+    pub client: u32,
+    pub version: u64,
 }
 
 // ---- read
@@ -86,7 +86,7 @@ pub(crate) fn head_of(size: usize, plain: &[u8]) -> Option<Head>
 // ---- written
 
 /// The block record of a payload at this version, by this client.
-pub(crate) fn write_record(
+pub fn write_record(
     alloc: Global,
     id: &BlockId,
     client: u32,
