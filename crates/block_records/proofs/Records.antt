@@ -1,87 +1,113 @@
--- A record that is written is read again.
-use Rattle.std.proofs.Common.{◌≡◌, ℕ, ◌+◌, ◌^◌, ◌<◌, Bool, true, List, ◌++◌, length, take, drop, refl, sym, ap, ◌∙◌, append_assoc, arith}
-use Rattle.std.specs.Prelude.{◌&&◌, nat_lt, Some, None, if◌then◌else◌}
-use Rattle.std.specs.Int.{w16, w32, w64, from_le_bytes, to_le_bytes}
-use Rattle.std.proofs.lemmas.Bool.{eq-eqb, lt-ltb}
-use Rattle.std.proofs.lemmas.List.{take_at, drop_at, length-append}
-use Rattle.std.proofs.lemmas.Nat.{from_le_bytes-to_le_bytes_2, from_le_bytes-to_le_bytes_4, from_le_bytes-to_le_bytes_8}
-use Rattle.block_records.specs.BlockRecords.{Record, fields_of, is_record, record_of}
+-- A record that is written is read again, and what is read was written so.
+use Rattle.std.proofs.Common.{◌≡◌, ℕ, ◌+◌, ◌≤◌, true, List, [], ◌++◌, length, drop, refl, sym, ap, subst, ◌∙◌, append_assoc, arith}
+use Rattle.std.specs.Prelude.{◌&&◌, ◌==◌, nat_lt, Option, Some, None, if◌then◌else◌}
+use Rattle.std.specs.Int.{w16, w32, w64, to_le_bytes}
+use Rattle.std.proofs.lemmas.Bool.{and_from, and_parts, eq-eqb, eqb-true, lt-ltb, ltb-true}
+use Rattle.std.proofs.lemmas.List.{length-append}
+use Rattle.byte_fields.specs.Fields.{IsBytes, front_at, number_at}
+use Rattle.byte_fields.proofs.Fields.{bound, front_again, front_takes, number_again, number_takes, wide16, wide32, wide64}
+use Rattle.block_records.specs.declared.block_record.Head.{Head}
+use Rattle.block_records.specs.BlockRecords.{Record, FitsFile, ◌>>=◌, record_of, text_of, with_payload}
+use Rattle.block_records.specs.RecordLaws.{if_some, record-payload}
 
--- what stands after two parts
-drop_two : (a b rest : List ℕ) (n : ℕ) → length a + length b ≡ n → drop n (a ++ (b ++ rest)) ≡ rest
-drop_two a b rest n e = ap (drop n) (sym (append_assoc a b rest)) ∙ drop_at (a ++ b) rest n (length-append a b ∙ e)
+pub length-text : (r : Record) → length r.id ≡ 16 → length (text_of r) ≡ 30 + length r.payload
+length-text r wide =
+    let version = to_le_bytes w64 r.version ++ r.payload in
+    let client = to_le_bytes w32 r.client ++ version in
+    omega (
+      arith,
+      wide,
+      length-append (to_le_bytes w16 1) (r.id ++ client),
+      length-append r.id client,
+      length-append (to_le_bytes w32 r.client) version,
+      length-append (to_le_bytes w64 r.version) r.payload,
+      wide16.len 1,
+      wide32.len r.client,
+      wide64.len r.version,
+    )
 
-drop_three : (a b c rest : List ℕ) (n : ℕ) → length a + (length b + length c) ≡ n → drop n (a ++ (b ++ (c ++ rest))) ≡ rest
-drop_three a b c rest n e = ap (λ x. drop n (a ++ x)) (sym (append_assoc b c rest)) ∙ drop_two a (b ++ c) rest n (ap (λ k. length a + k) (length-append b c) ∙ e)
+-- five parts that were appended to nothing
+pub joined : (none a b c d e first second third fourth fifth : List ℕ) → none ≡ [] → first ≡ none ++ a → second ≡ first ++ b → third ≡ second ++ c → fourth ≡ third ++ d → fifth ≡ fourth ++ e
+    → fifth ≡ a ++ (b ++ (c ++ (d ++ e)))
+joined none a b c d e first second third fourth fifth p0 p1 p2 p3 p4 p5 =
+    p5 ∙ ap (λ x. x ++ e) (p4 ∙ ap (λ x. x ++ d) (p3 ∙ ap (λ x. x ++ c) (p2 ∙ ap (λ x. x ++ b) (p1 ∙ ap (λ x. x ++ a) p0))))
+    ∙ simp append_assoc
 
-drop_four : (a b c d rest : List ℕ) (n : ℕ) → length a + (length b + (length c + length d)) ≡ n → drop n (a ++ (b ++ (c ++ (d ++ rest)))) ≡ rest
-drop_four a b c d rest n e =
-    ap (λ x. drop n (a ++ (b ++ x))) (sym (append_assoc c d rest)) ∙ drop_three a b (c ++ d) rest n (ap (λ k. length a + (length b + k)) (length-append c d) ∙ e)
+-- ---- what is behind each field
 
--- the five parts of a text, the first four of these lengths
-pub record Parts (a b c d payload : List ℕ) : Type 0 where
-  pub form : length a ≡ 2
-  pub id : length b ≡ 16
-  pub client : length c ≡ 4
-  pub version : length d ≡ 8
+abbrev made : ℕ → List ℕ → ℕ → List ℕ → ℕ → ℕ × List ℕ → Option Record
+made size bytes format id client version =
+    if length bytes + 48 == size && format == 1 && nat_lt 0 client && nat_lt 0 version.0 then Some (record { id = id; client = client; version = version.0; payload = version.1 }) else None
 
-module _ (a b c d payload : List ℕ) (p : Parts a b c d payload) where
-  abbrev text : List ℕ
-  text = a ++ (b ++ (c ++ (d ++ payload)))
+abbrev after_client : ℕ → List ℕ → ℕ → List ℕ → ℕ × List ℕ → Option Record
+after_client size bytes format id client = number_at w64 client.1 >>= made size bytes format id client.0
 
-  form_part : take 2 text ≡ a
-  form_part = take_at a (b ++ (c ++ (d ++ payload))) 2 p.form
+abbrev after_id : ℕ → List ℕ → ℕ → List ℕ × List ℕ → Option Record
+after_id size bytes format id = number_at w32 id.1 >>= after_client size bytes format id.0
 
-  id_part : take 16 (drop 2 text) ≡ b
-  id_part = ap (take 16) (drop_at a (b ++ (c ++ (d ++ payload))) 2 p.form) ∙ take_at b (c ++ (d ++ payload)) 16 p.id
+abbrev after_format : ℕ → List ℕ → ℕ × List ℕ → Option Record
+after_format size bytes format = front_at 16 format.1 >>= after_id size bytes format.0
 
-  client_part : take 4 (drop 18 text) ≡ c
-  client_part = ap (take 4) (drop_two a b (c ++ (d ++ payload)) 18 (omega (arith, p.form, p.id))) ∙ take_at c (d ++ payload) 4 p.client
+-- ---- written, and read again
 
-  version_part : take 8 (drop 22 text) ≡ d
-  version_part = ap (take 8) (drop_three a b c (d ++ payload) 22 (omega (arith, p.form, p.id, p.client))) ∙ take_at d payload 8 p.version
-
-  payload_part : drop 30 text ≡ payload
-  payload_part = drop_four a b c d payload 30 (omega (arith, p.form, p.id, p.client, p.version))
-
-  text_len : length text ≡ 30 + length payload
-  text_len = omega (arith, length-append a (b ++ (c ++ (d ++ payload))), length-append b (c ++ (d ++ payload)), length-append c (d ++ payload), length-append d payload, p.form, p.id, p.client, p.version)
-
--- 1 as two bytes, the id, the client as four bytes, the version as eight, and the payload
-abbrev pub record_bytes : Record → List ℕ
-record_bytes r = to_le_bytes w16 1 ++ (r.id ++ (to_le_bytes w32 r.client ++ (to_le_bytes w64 r.version ++ r.payload)))
-
-all_true : (a b c d : Bool) → a ≡ true → b ≡ true → c ≡ true → d ≡ true → (a && b && c && d) ≡ true
-all_true a b c d p q r s = rw (p, q, r, s) refl
-
--- what may be written of a block where blocks have this size
-pub record FitsRecord (size : ℕ) (r : Record) : Type 0 where
-  pub id : length r.id ≡ 16
-  pub client : 0 < r.client
-  pub client_fits : r.client < 2 ^ 32
-  pub version : 0 < r.version
-  pub version_fits : r.version < 2 ^ 64
-  pub payload : length r.payload + 78 ≡ size
-
-pub length-record_bytes : (size : ℕ) (r : Record) → FitsRecord size r → length (record_bytes r) + 48 ≡ size
-length-record_bytes size r f =
-    let len = text_len (to_le_bytes w16 1) r.id (to_le_bytes w32 r.client) (to_le_bytes w64 r.version) r.payload (record { form = refl; id = f.id; client = refl; version = refl }) in
-    omega (arith, len, f.payload)
-
-pub record_of-record_bytes : (size : ℕ) (r : Record) → FitsRecord size r → record_of size (record_bytes r) ≡ Some r
+pub record_again : (size : ℕ) (r : Record) → FitsFile size r → record_of size (text_of r) ≡ Some r
 unfolding record_of
-record_of-record_bytes size r f =
-    let form = to_le_bytes w16 1 in
-    let client = to_le_bytes w32 r.client in
-    let version = to_le_bytes w64 r.version in
-    let parts : Parts form r.id client version r.payload = record { form = refl; id = f.id; client = refl; version = refl } in
-    let bytes = record_bytes r in
-    let is_form : from_le_bytes w16 (take 2 bytes) ≡ 1 = ap (from_le_bytes w16) (form_part form r.id client version r.payload parts) ∙ from_le_bytes-to_le_bytes_2 1 (omega arith) in
-    let is_client : from_le_bytes w32 (take 4 (drop 18 bytes)) ≡ r.client = ap (from_le_bytes w32) (client_part form r.id client version r.payload parts) ∙ from_le_bytes-to_le_bytes_4 r.client f.client_fits in
-    let is_version : from_le_bytes w64 (take 8 (drop 22 bytes)) ≡ r.version = ap (from_le_bytes w64) (version_part form r.id client version r.payload parts) ∙ from_le_bytes-to_le_bytes_8 r.version f.version_fits in
-    let is : is_record size bytes ≡ true = all_true _ _ _ _ (eq-eqb (length bytes + 48) size (length-record_bytes size r f)) (eq-eqb _ 1 is_form)
-    (ap (nat_lt 0) is_client ∙ lt-ltb 0 r.client f.client) (ap (nat_lt 0) is_version ∙ lt-ltb 0 r.version f.version) in
-    let is_id = id_part form r.id client version r.payload parts in
-    let is_payload = payload_part form r.id client version r.payload parts in
-    let same : fields_of bytes ≡ r = λ i. record { id = is_id i; client = is_client i; version = is_version i; payload = is_payload i } in
-    ap (λ b. if b then Some (fields_of bytes) else None) is ∙ ap Some same
+record_again size r f =
+    let version = to_le_bytes w64 r.version ++ r.payload in
+    let client = to_le_bytes w32 r.client ++ version in
+    let bytes = text_of r in
+    let len : length bytes + 48 ≡ size = omega (arith, length-text r f.id, f.payload) in
+    let passes : (length bytes + 48 == size && 1 == 1 && nat_lt 0 r.client && nat_lt 0 r.version) ≡ true =
+    and_from _ _ (and_from _ _ (and_from _ _ (eq-eqb _ _ len) refl) (lt-ltb 0 r.client f.client)) (lt-ltb 0 r.version f.version) in
+    ap (λ o. o >>= after_format size bytes) (number_again wide16 1 (r.id ++ client) (omega arith))
+    ∙ ap (λ o. o >>= after_id size bytes 1) (front_again 16 r.id client f.id)
+    ∙ ap (λ o. o >>= after_client size bytes 1 r.id) (number_again wide32 r.client version f.client_fits)
+    ∙ ap (λ o. o >>= made size bytes 1 r.id r.client) (number_again wide64 r.version r.payload f.version_fits)
+    ∙ ap (λ b. if b then Some r else None) passes
+
+-- ---- read, and so written
+
+fields_took : (size : ℕ) (bytes : List ℕ) (format : ℕ × List ℕ) (id : List ℕ × List ℕ) (client version : ℕ × List ℕ) (r : Record) → IsBytes bytes
+    → number_at w16 bytes ≡ Some format → front_at 16 format.1 ≡ Some id → number_at w32 id.1 ≡ Some client → number_at w64 client.1 ≡ Some version
+    → made size bytes format.0 id.0 client.0 version ≡ Some r → FitsFile size r × (bytes ≡ text_of r)
+fields_took size bytes format id client version r fits is_format is_id is_client is_version e =
+    let first = number_takes wide16 bytes format fits is_format in
+    let second = front_takes 16 format.1 id first.0.rest_fits is_id in
+    let third = number_takes wide32 id.1 client second.0.rest_fits is_client in
+    let fourth = number_takes wide64 client.1 version third.0.rest_fits is_version in
+    let last = if_some _ _ r e in
+    let tests = and_parts _ _ last.0 in
+    let more = and_parts _ _ tests.0 in
+    let most = and_parts _ _ more.0 in
+    let one : format.0 ≡ 1 = eqb-true _ _ most.1 in
+    let len : length bytes + 48 ≡ size = eqb-true _ _ most.0 in
+    let found : Record = record { id = id.0; client = client.0; version = version.0; payload = version.1 } in
+    let text : bytes ≡ text_of found =
+    first.0.parts ∙ ap (λ n. to_le_bytes w16 n ++ format.1) one ∙ ap (λ x. to_le_bytes w16 1 ++ x) (second.0.parts ∙ ap (λ x. id.0 ++ x) (third.0.parts ∙ ap (λ x. to_le_bytes w32 client.0 ++ x) fourth.0.parts)) in
+    let whole : FitsFile size found = record {
+      id = second.1;
+      client = ltb-true _ _ more.1;
+      client_fits = third.1;
+      version = ltb-true _ _ tests.1;
+      version_fits = fourth.1;
+      payload = omega (arith, len, ap length text, length-text found second.1);
+    } in
+    subst (λ (s : Record). FitsFile size s × (bytes ≡ text_of s)) last.1 (whole, text)
+
+pub record_took : (size : ℕ) (bytes : List ℕ) (r : Record) → IsBytes bytes → record_of size bytes ≡ Some r → FitsFile size r × (bytes ≡ text_of r)
+unfolding record_of
+record_took size bytes r fits e =
+    let format = bound (number_at w16 bytes) (after_format size bytes) r e in
+    let id = bound (front_at 16 format.0.1) (after_id size bytes format.0.0) r format.2 in
+    let client = bound (number_at w32 id.0.1) (after_client size bytes format.0.0 id.0.0) r id.2 in
+    let version = bound (number_at w64 client.0.1) (made size bytes format.0.0 id.0.0 client.0.0) r client.2 in
+    fields_took size bytes format.0 id.0 client.0 version.0 r fits format.1 id.1 client.1 version.1 version.2
+
+-- ---- the head alone
+
+-- a payload that was taken off is what stands behind the head
+pub head_alone : (size : ℕ) (bytes payload : List ℕ) (head : Head) → Some (with_payload head payload) ≡ record_of size bytes
+    → (Some (with_payload head (drop 30 bytes)) ≡ record_of size bytes) × (30 ≤ length bytes)
+head_alone size bytes payload head e =
+    let behind = (record-payload size bytes (with_payload head payload) (sym e)).1 in
+    (ap (λ p. Some (with_payload head p)) (sym behind.1) ∙ e, behind.0)

@@ -1,91 +1,72 @@
 // The record in a block's file: its layout, read and written.
-ghost use Rattle.std.specs.Prelude.{◌≡◌, ◌≤◌, ◌<◌, ◌+◌, take, drop, length, IfOk, IfSome, IfNone};
-ghost use Rattle.std.specs.Int.{w16, w32, w64, from_le_bytes};
-ghost use Rattle.std.specs.declared.option.Option.TheVariants.{None, Some};
-ghost use Rattle.block_records.specs.BlockRecords.{record_of, with_payload};
+ghost use Rattle.std.specs.Prelude.{◌≡◌, ◌≤◌, ◌<◌, ◌+◌, ◌++◌, drop, length, IfOk, OnOk, IfSome, Some};
+ghost use Rattle.std.specs.Int.{w16, w32, w64, to_le_bytes};
+ghost use Rattle.std.specs.Option.{option_map};
+ghost use Rattle.block_records.specs.BlockRecords.{record_of, text_of, with_payload};
 
 use block_id::{BlockId, Memory};
+use byte_fields::{put_id, put_u16, put_u32, put_u64, take_id, take_u16, take_u32, take_u64};
 use std::alloc::Global;
 
-/// The form of a record.
-const FORM: u16 = 1;
+/// The format's number, with which each record begins.
+pub const RECORD_FORMAT: u16 = 1;
 
-/// What a sealed file has more than its payload's record.
-const SEAL_LEN: usize = 48;
+/// The bytes of a record before its payload: format, id, client and version.
+pub const HEAD_LEN: usize = 30;
 
-/// The length of what stands before the payload.
-pub(crate) const HEAD_LEN: usize = 30;
+/// The bytes of a block's file that aren't its record: those that each file begins with, and what sealing adds.
+pub const SEAL_LEN: usize = 48;
 
-/// What stands before the payload.
-#[derive(Clone, Copy)]
+/// The bytes of a block's file that aren't its payload.
+pub const OVERHEAD: usize = SEAL_LEN + HEAD_LEN;
+
+/// What stands before the payload, behind the format's number.
+#[derive(Clone, Copy, Debug, PartialEq, Eq)]
 pub struct Head {
     pub id: BlockId,
+    /// The client that wrote it, from 1.
     pub client: u32,
+    /// From 1.
     pub version: u64,
 }
 
 // ---- read
 
-fn id_at_2(plain: &[u8]) -> BlockId
-    requires { 30 ≤ length plain.now }
-    ensures { result.0 ≡ take 16 (drop 2 plain.now) }
+/// What stands before the payload in the record that a plaintext is, where a block's file has `size` bytes. None where
+/// it is no record of such a file.
+pub fn read_head(size: usize, plain: &[u8]) -> Option<Head>
+    ensures record { option_map (λ head. with_payload head (drop HEAD_LEN plain.now)) result ≡ record_of size plain.now }
+    ensures long { IfSome result (λ _. HEAD_LEN ≤ length plain.now) }
 {
-    let mut id = [0; 16];
-    id.copy_from_slice(&plain[2..18]);
-    BlockId(id)
+    let (head, _) = head_and_payload(size, plain)?;
+    Some(head)
 }
 
-fn client_at_18(plain: &[u8]) -> u32
-    requires { 30 ≤ length plain.now }
-    ensures { result ≡ from_le_bytes w32 (take 4 (drop 18 plain.now)) }
-{
-    let bytes = &plain[18..22];
-    u32::from_le_bytes([bytes[0], bytes[1], bytes[2], bytes[3]])
-}
-
-fn version_at_22(plain: &[u8]) -> u64
-    requires { 30 ≤ length plain.now }
-    ensures { result ≡ from_le_bytes w64 (take 8 (drop 22 plain.now)) }
-{
-    let bytes = &plain[22..30];
-    u64::from_le_bytes([
-        bytes[0], bytes[1], bytes[2], bytes[3], bytes[4], bytes[5], bytes[6], bytes[7],
-    ])
-}
-
-fn form_of(plain: &[u8]) -> u16
-    requires { 30 ≤ length plain.now }
-    ensures { result ≡ from_le_bytes w16 (take 2 plain.now) }
-{
-    let bytes = &plain[..2];
-    u16::from_le_bytes([bytes[0], bytes[1]])
-}
-
-/// The head of the record that a plaintext is, where a block has this size.
 #[tactic(auto, unfolding(crate::specs::BlockRecords::record_of))]
-pub(crate) fn head_of(size: usize, plain: &[u8]) -> Option<Head>
-    requires { (128 ≤ size) × (size ≤ 1048576) }
-    ensures some { IfSome result (λ head. record_of size plain.now ≡ Some (with_payload head (drop 30 plain.now))) }
-    ensures long { IfSome result (λ _. 30 ≤ length plain.now) }
-    ensures none { IfNone result (record_of size plain.now ≡ None) }
+fn head_and_payload(size: usize, plain: &[u8]) -> Option<(Head, &[u8])>
+    ensures { option_map (λ x. with_payload x.0 x.1.now) result ≡ record_of size plain.now }
 {
-    if plain.len() != size - SEAL_LEN {
+    let (format, rest) = take_u16(plain)?;
+    let (id, rest) = take_id(rest)?;
+    let (client, rest) = take_u32(rest)?;
+    let (version, payload) = take_u64(rest)?;
+    if plain.len() + SEAL_LEN != size || format != RECORD_FORMAT {
+        return None;
+    }
+    if client == 0 || version == 0 {
         return None;
     }
     let head = Head {
-        id: id_at_2(plain),
-        client: client_at_18(plain),
-        version: version_at_22(plain),
+        id,
+        client,
+        version,
     };
-    if form_of(plain) != FORM || head.client == 0 || head.version == 0 {
-        return None;
-    }
-    Some(head)
+    Some((head, payload))
 }
 
 // ---- written
 
-/// The block record of a payload at this version, by this client.
+/// The record of a payload at this version, by this client.
 pub fn write_record(
     alloc: Global,
     id: &BlockId,
@@ -95,15 +76,15 @@ pub fn write_record(
 ) -> Result<Vec<u8>, Memory>
     requires client { 0 < client }
     requires version { 0 < version }
-    requires payload { length payload.now ≤ 1048576 }
-    ensures len { IfOk result (λ plain. length plain.items ≡ 30 + length payload.now) }
-    ensures record_of { IfOk result (λ plain. record_of (length plain.items + 48) plain.items ≡ Some (record { id = id.now.0; client = client; version = version; payload = payload.now })) }
+    ensures text { IfOk result (λ plain. plain.items ≡ text_of (record { id = id.now.0; client = client; version = version; payload = payload.now })) }
+    ensures len { IfOk result (λ plain. length plain.items ≡ HEAD_LEN + length payload.now) }
+    ensures record_of { IfOk result (λ plain. record_of (length plain.items + SEAL_LEN) plain.items ≡ Some (record { id = id.now.0; client = client; version = version; payload = payload.now })) }
 {
     let mut plain = Vec::with_capacity(alloc, HEAD_LEN + payload.len())?;
-    plain.extend_from_slice(&FORM.to_le_bytes())?;
-    plain.extend_from_slice(&id.0)?;
-    plain.extend_from_slice(&client.to_le_bytes())?;
-    plain.extend_from_slice(&version.to_le_bytes())?;
+    put_u16(&mut plain, RECORD_FORMAT)?;
+    put_id(&mut plain, id)?;
+    put_u32(&mut plain, client)?;
+    put_u64(&mut plain, version)?;
     plain.extend_from_slice(payload)?;
     Ok(plain)
 }

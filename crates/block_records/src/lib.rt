@@ -3,7 +3,14 @@
 #![tactic(auto)]
 
 mod block_record;
+mod laws;
 mod verdict;
 
-pub use block_record::write_record;
+pub use block_record::{
+    HEAD_LEN, Head, OVERHEAD, RECORD_FORMAT, SEAL_LEN, read_head, write_record,
+};
+pub use laws::records_as_texts;
 pub use verdict::judge;
+
+#[cfg(test)]
+mod tests;
