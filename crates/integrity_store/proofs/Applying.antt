@@ -17,8 +17,8 @@ use Rattle.local_state.specs.Known.{Lives, FitsLife, is_live_in, version_if_live
 use Rattle.store_api.specs.Content.{Id, id_cmp, same_id, Changes}
 use Rattle.store_api.specs.Holdings.{FitsStore}
 use Rattle.store_api.proofs.Rising.{ids_total}
+use Rattle.block_records.specs.BlockRecords.{payload_in}
 use Rattle.integrity_store.specs.Applied.{life_after, WaitsAfter, Applied}
-use Rattle.integrity_store.specs.BlockRecords.{payload_in}
 use Rattle.integrity_store.specs.Draws.{AreDrawn, given_in, iv_of, draws}
 use Rattle.integrity_store.specs.Held.{Held, where_live, waiting, wanted, file_of, told_or_none}
 use Rattle.integrity_store.specs.Raising.{BatchEntry, MayRaise, MayCome, lives_after_each, MayComeEach, some_spent_in}

@@ -10,8 +10,8 @@ use Rattle.local_state.specs.Known.{raised_version, is_dead_in, version_if_live,
 use Rattle.sealed_store.specs.BlockFiles.{opens_file}
 use Rattle.store_api.specs.Content.{Id, Changes, or_else, over}
 use Rattle.store_api.specs.Holdings.{Changed, gives_payload, has_id}
+use Rattle.block_records.specs.BlockRecords.{Record, record_of, opened, payload_of, payload_in}
 use Rattle.integrity_store.specs.Applied.{life_after, WaitsAfter, Applied}
-use Rattle.integrity_store.specs.BlockRecords.{Record, record_of, opened, payload_of, payload_in}
 use Rattle.integrity_store.specs.Held.{Held, own, waiting, waiting_or, bytes_in, file_of, live_version, where_live, told_or_none, wanted}
 use Rattle.integrity_store.specs.Soundness.{IsPast, SoundAt, SoundBy}
 use Rattle.integrity_store.specs.Forgeries.{was_put}

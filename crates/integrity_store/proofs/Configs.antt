@@ -15,7 +15,7 @@ use Rattle.local_state.specs.Record.{PlainState, FitsEntry, Rise, record_bytes, 
 use Rattle.store_api.specs.Content.{SameContent}
 use Rattle.store_api.specs.Holdings.{Stays}
 use Rattle.store_api.specs.Lists.{MayConfigure}
-use Rattle.integrity_store.specs.BlockRecords.{Record, payload_in}
+use Rattle.block_records.specs.BlockRecords.{Record, payload_in}
 use Rattle.integrity_store.specs.Held.{Held, live_version, waiting_or, bytes_in, told_or_none, where_live, wanted}
 use Rattle.integrity_store.specs.Soundness.{IsPast, SoundBy}
 use Rattle.outside.specs.Honest.{last_change}

@@ -15,16 +15,16 @@ use Rattle.outside.specs.Honest.{count_calls, count_told}
 use Rattle.outcome.specs.Meanings.{OnVerdict, IsOfBlocks}
 use Rattle.redo_vault.specs.Redo.{Gave}
 use Rattle.sealed_store.specs.BlockFiles.{opens_file, seen_file_in}
-use Rattle.integrity_store.specs.BlockRecords.{Record, opened}
+use Rattle.block_records.proofs.Judging.{came_len, good_opens, judged_structure}
+use Rattle.block_records.specs.BlockRecords.{Record, opened}
+use Rattle.block_records.specs.RecordLaws.{cut_whole, opened-plain, record_same}
+use Rattle.block_records.specs.Verdicts.{bad, good, verdict}
 use Rattle.integrity_store.specs.Forgeries.{forged, was_put}
 use Rattle.integrity_store.specs.Held.{Held, live_version, own, waiting, wanted}
 use Rattle.integrity_store.specs.Loads.{LoadAnswers, Came, Fetched, Loads}
 use Rattle.integrity_store.specs.ReadLaws.{went_same}
 use Rattle.integrity_store.specs.Reads.{FoundSince, WentOnByReads}
-use Rattle.integrity_store.specs.RecordLaws.{cut_whole, opened-plain, record_same}
 use Rattle.integrity_store.specs.Soundness.{IsPast, SoundAt, SoundBy}
-use Rattle.integrity_store.specs.Verdicts.{bad, good, verdict}
-use Rattle.integrity_store.proofs.Judging.{came_len, good_opens, judged_structure}
 
 -- ---- the trace
 

@@ -5,11 +5,9 @@ pub mod ConfigReads
 pub mod Configs
 pub mod Fetches
 pub mod Freshness
-pub mod Judging
 pub mod Loading
 pub mod Lives
 pub mod OneWrite
-pub mod Records
 pub mod Reopening
 pub mod Sealed
 pub mod Sorted

@@ -16,10 +16,10 @@ use Rattle.outcome.specs.Outcome.{Outcome, idle}
 use Rattle.local_state.specs.declared.life.Life.{Life}
 use Rattle.store_api.specs.Holdings.{Stays}
 use Rattle.local_state.specs.Known.{version_if_live}
+use Rattle.block_records.specs.BlockRecords.{payload_in}
 use Rattle.integrity_store.specs.Held.{Held, live_version, wanted, where_live, file_of, told_or_none}
 use Rattle.integrity_store.specs.Soundness.{SoundBy}
 use Rattle.integrity_store.specs.Forgeries.{forged}
-use Rattle.integrity_store.specs.BlockRecords.{payload_in}
 use Rattle.integrity_store.specs.ReadLaws.{went_sound}
 use Rattle.integrity_store.specs.Loads.{Fetched}
 use Rattle.integrity_store.proofs.Fetches.{fetched_went, fetched_met, fetched_of_blocks, fetched_value}

@@ -23,7 +23,7 @@ use Rattle.outside.specs.Writes.{call_for}
 use Rattle.sealed_store.specs.BlockFiles.{prefix, opens_file}
 use Rattle.store_api.specs.Durables.{IsConfigured}
 use Rattle.store_api.specs.Lists.{block_magic}
-use Rattle.integrity_store.specs.BlockRecords.{Record, record_of, record_in, opened, payload_in}
+use Rattle.block_records.specs.BlockRecords.{Record, record_of, record_in, opened, payload_in}
 use Rattle.integrity_store.specs.Held.{Held, live_version, waiting, waiting_or, bytes_in, file_of, where_live, wanted, own}
 use Rattle.integrity_store.specs.Forgeries.{was_put}
 use Rattle.integrity_store.specs.Soundness.{IsPast, SoundAt}

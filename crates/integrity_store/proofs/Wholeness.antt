@@ -16,10 +16,10 @@ use Rattle.local_state.specs.Known.{Lives, FitsLife, FitLives}
 use Rattle.local_state.specs.Record.{FitsEntry, FitsHead, Rise, comes_after, may_change, has_bytes}
 use Rattle.store_api.specs.Content.{Id, Changes}
 use Rattle.block_id.proofs.Conditions.{left, right}
+use Rattle.block_records.specs.BlockRecords.{Record, opened}
+use Rattle.block_records.specs.RecordLaws.{opens-length, opened-plain}
 use Rattle.integrity_store.specs.Applied.{life_after, WaitsAfter, Applied}
-use Rattle.integrity_store.specs.BlockRecords.{Record, opened}
 use Rattle.integrity_store.specs.Held.{Held, waiting}
-use Rattle.integrity_store.specs.RecordLaws.{opens-length, opened-plain}
 use Rattle.integrity_store.specs.Raising.{MayCome}
 use Rattle.integrity_store.specs.Stores.{IsWhole, IsNoBlock}
 use Rattle.integrity_store.proofs.Sorted.{all_by, each_found, of_found}

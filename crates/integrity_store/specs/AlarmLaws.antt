@@ -13,14 +13,14 @@ use Rattle.outside.specs.Changes.{cut}
 use Rattle.outside.specs.HonestLaws.{count_grows, uncounted}
 use Rattle.outside.specs.Honest.{same_answer, is_left, is_lie, count_calls, count_told}
 use Rattle.redo_vault.specs.Redo.{Gave}
+use Rattle.block_records.specs.RecordLaws.{cut_whole}
+use Rattle.block_records.specs.VerdictLaws.{bad_is_good, opened_good}
+use Rattle.block_records.specs.Verdicts.{bad, verdict}
 use Rattle.integrity_store.specs.Held.{Held, live_version, waiting}
 use Rattle.integrity_store.specs.Loads.{Came}
 use Rattle.integrity_store.specs.ReadLaws.{sound-reads}
 use Rattle.integrity_store.specs.Reads.{AllReads, Among, FoundSince, IsRead, WentOnByReads}
-use Rattle.integrity_store.specs.RecordLaws.{cut_whole}
 use Rattle.integrity_store.specs.Soundness.{SoundAt, SoundBy}
-use Rattle.integrity_store.specs.VerdictLaws.{bad_is_good, opened_good}
-use Rattle.integrity_store.specs.Verdicts.{bad, verdict}
 
 false_is_true : false ≡ true → ⊥
 false_is_true e = cc

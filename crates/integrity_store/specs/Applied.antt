@@ -9,7 +9,7 @@ use Rattle.outside.specs.Changes.{change_at}
 use Rattle.local_state.specs.declared.life.Life.{Life}
 use Rattle.local_state.specs.Known.{raised_version}
 use Rattle.store_api.specs.Content.{Changes}
-use Rattle.integrity_store.specs.BlockRecords.{opened}
+use Rattle.block_records.specs.BlockRecords.{opened}
 use Rattle.integrity_store.specs.Held.{Held, waiting, own}
 
 -- the life of an id after a batch that says nothing of it, gives it a payload, or removes it

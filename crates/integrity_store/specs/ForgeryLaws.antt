@@ -13,11 +13,11 @@ use Rattle.outside.specs.Honest.{LastChange, last_change, same_answer, is_left, 
 use Rattle.outside.specs.HonestLaws.{count_grows}
 use Rattle.outside.specs.Names.{same_at}
 use Rattle.sealed_store.specs.BlockFiles.{opens_file}
+use Rattle.block_records.specs.RecordLaws.{opened-plain, opens-length}
 use Rattle.integrity_store.specs.Forgeries.{forged, opens_unput, was_put}
 use Rattle.integrity_store.specs.Held.{Held}
 use Rattle.integrity_store.specs.ReadLaws.{sound-reads}
 use Rattle.integrity_store.specs.Reads.{AllReads, IsRead, WentOnByReads}
-use Rattle.integrity_store.specs.RecordLaws.{opened-plain, opens-length}
 use Rattle.integrity_store.specs.Soundness.{SoundAt, SoundBy}
 
 true_is_false : true ≡ false → ⊥

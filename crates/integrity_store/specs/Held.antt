@@ -9,7 +9,7 @@ use Rattle.outside.specs.Honest.{LastChange, last_change}
 use Rattle.local_state.specs.Known.{version_if_live}
 use Rattle.local_state.specs.Record.{PlainState}
 use Rattle.store_api.specs.Content.{Content}
-use Rattle.integrity_store.specs.BlockRecords.{Record, payload_in}
+use Rattle.block_records.specs.BlockRecords.{Record, payload_in}
 
 -- the size of a block, what a sealed text opens to, the state, and the unwritten list
 pub record Held : Type 0 where

@@ -1,6 +1,5 @@
 pub mod AlarmLaws
 pub mod Applied
-pub mod BlockRecords
 pub mod Draws
 pub mod EnduringLaws
 pub mod Forgeries
@@ -10,13 +9,10 @@ pub mod Loads
 pub mod Raising
 pub mod ReadLaws
 pub mod Reads
-pub mod RecordLaws
 pub mod Sealing
 pub mod Soundness
 pub mod Standing
 pub mod StoreLaws
 pub mod Stores
-pub mod VerdictLaws
-pub mod Verdicts
 pub mod Views
 pub mod WaitingLaws

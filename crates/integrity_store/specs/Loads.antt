@@ -9,8 +9,8 @@ use Rattle.block_id.specs.declared.fail.Fail.TheVariants.{Memory, Fault, Violati
 use Rattle.outside.specs.Trace.{block, Call}
 use Rattle.redo_vault.specs.Redo.{Gave}
 use Rattle.store_api.specs.Loads.{LoadAnswer}
+use Rattle.block_records.specs.Verdicts.{bad, good, verdict}
 use Rattle.integrity_store.specs.Held.{Held, live_version, waiting}
-use Rattle.integrity_store.specs.Verdicts.{bad, good, verdict}
 
 -- a file came for this id, from the list or by one call
 abbrev pub Came : Held → Option (List Call) → Option (List Call) → List ℕ → Option (List ℕ) → Type 0

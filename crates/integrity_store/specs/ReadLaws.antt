@@ -9,7 +9,7 @@ use Rattle.outside.specs.Honest.{last_change}
 use Rattle.outside.specs.Going.{GoesOn}
 use Rattle.store_api.specs.Content.{SameIds, SameContent}
 use Rattle.store_api.specs.Durables.{last_told}
-use Rattle.integrity_store.specs.BlockRecords.{Record, payload_in}
+use Rattle.block_records.specs.BlockRecords.{Record, payload_in}
 use Rattle.integrity_store.specs.Held.{Held, file_of, live_version, told_or_none, wanted, where_live}
 use Rattle.integrity_store.specs.Reads.{AllReads, Among, FoundWrong, FoundSince, WentOnByReads}
 use Rattle.integrity_store.specs.Soundness.{IsPast, SoundAt, SoundBy}

@@ -5,8 +5,8 @@ use Rattle.std.specs.declared.option.Option.TheVariants.{None, Some}
 use Rattle.block_id.specs.declared.fail.Why.{Why}
 use Rattle.outside.specs.Trace.{config, block, Call, got, adds}
 use Rattle.outside.specs.Changes.{cut}
+use Rattle.block_records.specs.Verdicts.{bad, verdict}
 use Rattle.integrity_store.specs.Held.{Held, live_version, waiting}
-use Rattle.integrity_store.specs.Verdicts.{bad, verdict}
 
 -- a live block that doesn't wait was asked for, with one byte more than a file has
 pub record IsRead (h : Held) (call : Call) : Type 0 where

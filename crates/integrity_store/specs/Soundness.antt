@@ -8,7 +8,7 @@ use Rattle.outside.specs.Honest.{last_change}
 use Rattle.local_state.specs.declared.life.Life.{Life}
 use Rattle.local_state.specs.Known.{is_dead_in}
 use Rattle.sealed_store.specs.BlockFiles.{opens_file}
-use Rattle.integrity_store.specs.BlockRecords.{Record, opened, record_of}
+use Rattle.block_records.specs.BlockRecords.{Record, opened, record_of}
 use Rattle.integrity_store.specs.Forgeries.{was_put}
 use Rattle.integrity_store.specs.Held.{Held, live_version, own, waiting, wanted}
 

@@ -15,14 +15,14 @@ use Rattle.local_state.specs.declared.life.Life.{Life}
 use Rattle.local_state.specs.Known.{FitLives, version_if_live, is_last}
 use Rattle.store_api.specs.Content.{Id}
 use Rattle.store_api.specs.Holdings.{Steady, Stays, has_id}
+use Rattle.block_records.specs.BlockRecords.{opened, payload_in}
+use Rattle.block_records.specs.RecordLaws.{opened_len}
 use Rattle.integrity_store.specs.AlarmLaws.{found_unmet}
-use Rattle.integrity_store.specs.BlockRecords.{opened, payload_in}
 use Rattle.integrity_store.specs.Forgeries.{forged}
 use Rattle.integrity_store.specs.ForgeryLaws.{went_count, went_honest}
 use Rattle.integrity_store.specs.Held.{Held, file_of, live_version, told_or_none, wanted, where_live}
 use Rattle.integrity_store.specs.ReadLaws.{found_after, found_before, wanted_ids, went_on, went_same, went_told, went_wanted}
 use Rattle.integrity_store.specs.Reads.{FoundSince, WentOnByReads}
-use Rattle.integrity_store.specs.RecordLaws.{opened_len}
 use Rattle.integrity_store.specs.Soundness.{SoundBy}
 use Rattle.integrity_store.specs.Stores.{OnlyRead, holdings_by, meanings_by, version_in}
 

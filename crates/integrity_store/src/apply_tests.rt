@@ -45,8 +45,8 @@ fn push_record(out: &mut Vec<u8>, version: u64) -> Result<(), Fail> {
 /// A directory with the files of both blocks, whose payloads are of bytes 8 and 9.
 fn files(alloc: Global, version: u64) -> Result<MemoryVault, Fail> {
     let mut below = MemoryVault::new(alloc);
-    put_file(alloc, &mut below, &LIVE, &plain_of(1, 1, 7, version, 8))?;
-    put_file(alloc, &mut below, &DYING, &plain_of(1, 2, 7, 5, 9))?;
+    put_file(alloc, &mut below, &LIVE, &plain_of(1, version, 8))?;
+    put_file(alloc, &mut below, &DYING, &plain_of(2, 5, 9))?;
     Ok(below)
 }
 
@@ -245,9 +245,9 @@ fn seals_with_what_is_drawn_by_rising_ids(rt: HostRuntime) -> Result<(), Fail> {
         _ => assert!(rt; false),
     }
     let live = waiting_record(rt.alloc(), &mut store.sealed, &LIVE)?;
-    assert_eq!(rt; live.as_slice(), plain_of(1, 1, 7, 3, 11).as_slice());
+    assert_eq!(rt; live.as_slice(), plain_of(1, 3, 11).as_slice());
     let new = waiting_record(rt.alloc(), &mut store.sealed, &NEW)?;
-    assert_eq!(rt; new.as_slice(), plain_of(1, 3, 7, 1, 33).as_slice());
+    assert_eq!(rt; new.as_slice(), plain_of(3, 1, 33).as_slice());
     Ok(())
 }
 

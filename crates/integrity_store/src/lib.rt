@@ -3,13 +3,11 @@
 #![tactic(auto)]
 
 mod apply;
-mod block_record;
 mod durable;
 mod laws;
 mod raising;
 mod sealing;
 mod store;
-mod verdict;
 
 pub use laws::config_is_no_block;
 pub use store::IntegrityStore;

@@ -10,8 +10,8 @@ ghost use Rattle.integrity_store.specs.Draws.{iv_in};
 ghost use Rattle.integrity_store.specs.Sealing.{MaySealAt, MaySeal, drawn_iv, IsMadeOf, stream_after, AreMadeOf};
 ghost use Rattle.integrity_store.specs.Views.{held_of};
 
-use crate::block_record::write_record;
 use block_id::{BlockId, Memory};
+use block_records::write_record;
 use local_state::State;
 use outside::{Change, FileName, Pending, Vault};
 use rand_core::Rng;

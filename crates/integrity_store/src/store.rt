@@ -18,8 +18,8 @@ ghost use Rattle.integrity_store.specs.Views.{held_of, held_by};
 ghost use Rattle.integrity_store.specs.Soundness.{IsUntouched};
 ghost use Rattle.std.specs.FinMap as fin;
 
-use crate::verdict::judge;
 use block_id::{BlockId, Fail};
+use block_records::{OVERHEAD, judge};
 use local_state::State;
 use outside::{GetFail, Vault};
 use seal_api::Sealer;
@@ -91,7 +91,7 @@ impl<V: Vault, C: Sealer> IntegrityStore<V, C> {
     {
         let size = self.sealed.block_size();
         match self.sealed.get_plain(alloc, id) {
-            Ok(seen) => judge(size, id, self.state.client, known, seen),
+            Ok(seen) => judge(size, id, self.state.client, known, seen).map_err(Fail::Violation),
             Err(GetFail::Memory) => Err(Fail::Memory),
             Err(GetFail::Failed) => Err(Fail::Fault),
         }
@@ -137,7 +137,7 @@ impl<V: Vault, C: Sealer> Blocks for IntegrityStore<V, C> {
     }
 
     fn payload(&self) -> usize {
-        self.sealed.block_size().saturating_sub(78)
+        self.sealed.block_size().saturating_sub(OVERHEAD)
     }
 
     ghost lawful = { lawful_by (held_by C.opens) (λ s. V.trace s.sealed.vault.vault)

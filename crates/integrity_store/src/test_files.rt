@@ -33,13 +33,13 @@ pub(crate) fn push_life(
     Ok(())
 }
 
-/// What a block's file holds: its form, its id, its client, its version and 50 bytes of payload.
-pub(crate) fn plain_of(form: u8, id: u8, client: u8, version: u64, payload: u8) -> [u8; 80] {
+/// What a block's file of client 7 holds: the format's number, its id, its client, its version and 50 bytes of payload.
+pub(crate) fn plain_of(id: u8, version: u64, payload: u8) -> [u8; 80] {
     let mut plain = [payload; 80];
     plain[..30].fill(0);
-    plain[0] = form;
+    plain[0] = 1;
     plain[2..18].fill(id);
-    plain[18] = client;
+    plain[18] = 7;
     plain[22..30].copy_from_slice(&version.to_le_bytes());
     plain
 }

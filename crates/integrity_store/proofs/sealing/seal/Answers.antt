@@ -5,7 +5,7 @@ use Rattle.std.specs.FinMap as fin
 use Rattle.local_state.specs.declared.life.Life.{Life}
 use Rattle.local_state.specs.Known.{raised_version}
 use Rattle.sealed_store.specs.BlockFiles.{opens_file}
-use Rattle.integrity_store.specs.BlockRecords.{Record, record_of, record_in}
+use Rattle.block_records.specs.BlockRecords.{Record, record_of, record_in}
 use Rattle.integrity_store.specs.Held.{Held, own}
 use Rattle.integrity_store.specs.Applied.{IsRaised}
 use Rattle.integrity_store.specs.Views.{held_of}

@@ -1,12 +1,11 @@
 // The verdict on what came for a block: the first reason that holds, or its payload.
-ghost use Rattle.std.specs.Prelude.{◌≡◌, ◌≤◌, List, ℕ, drop, length, IfSome, IfNone};
-ghost use Rattle.std.specs.declared.option.Option.TheVariants.{Some};
+ghost use Rattle.std.specs.Prelude.{◌≡◌, ◌≤◌, List, ℕ, drop, length, IfSome, IfNone, Some};
 ghost use Rattle.sealed_store.specs.Stores.{seen_file_of};
-ghost use Rattle.integrity_store.specs.BlockRecords.{record_of, with_payload};
-ghost use Rattle.integrity_store.specs.Verdicts.{judged_record, judged, good, bad, Judges};
+ghost use Rattle.block_records.specs.BlockRecords.{record_of, with_payload};
+ghost use Rattle.block_records.specs.Verdicts.{judged_record, judged, good, bad, verdict_of};
 
-use crate::block_record::{HEAD_LEN, Head, head_of};
-use block_id::{BlockId, Fail, Why};
+use crate::block_record::{HEAD_LEN, Head, read_head};
+use block_id::{BlockId, Why};
 use sealed_store::Seen;
 
 /// What is wrong with a record for this id, client and known version.
@@ -33,8 +32,8 @@ fn mismatch(head: &Head, id: &BlockId, client: u32, known: u64) -> Option<Why>
 
 /// The payload of a record, in the record's own memory.
 fn without_head(plain: Vec<u8>) -> Vec<u8>
-    requires { 30 ≤ length plain.items }
-    ensures { result.items ≡ drop 30 plain.items }
+    requires { HEAD_LEN ≤ length plain.items }
+    ensures { result.items ≡ drop HEAD_LEN plain.items }
 {
     let mut payload = plain;
     payload.copy_within(HEAD_LEN.., 0);
@@ -49,35 +48,28 @@ fn judge_plain(
     client: u32,
     known: u64,
     plain: Vec<u8>,
-) -> Result<Vec<u8>, Fail>
-    requires { (128 ≤ size) × (size ≤ 1048576) }
-    ensures { Judges (judged_record id.now.0 client known (record_of size plain.items)) result }
+) -> Result<Vec<u8>, Why>
+    ensures { verdict_of result ≡ judged_record id.now.0 client known (record_of size plain.items) }
 {
-    let Some(head) = head_of(size, &plain) else {
-        return Err(Fail::Violation(Why::BadRecord));
+    let Some(head) = read_head(size, &plain) else {
+        return Err(Why::BadRecord);
     };
     match mismatch(&head, id, client, known) {
-        Some(why) => Err(Fail::Violation(why)),
+        Some(why) => Err(why),
         None => Ok(without_head(plain)),
     }
 }
 
-/// The payload of what was seen, or what is wrong with it.
-pub(crate) fn judge(
-    size: usize,
-    id: &BlockId,
-    client: u32,
-    known: u64,
-    seen: Seen,
-) -> Result<Vec<u8>, Fail>
-    requires { (128 ≤ size) × (size ≤ 1048576) }
-    ensures { Judges (judged size id.now.0 client known (seen_file_of seen)) result }
+/// The payload of what was seen for a block, or the first reason against it: a client asked for this id, which it knows
+/// at version `known`, and a block's file has `size` bytes. It takes no memory.
+pub fn judge(size: usize, id: &BlockId, client: u32, known: u64, seen: Seen) -> Result<Vec<u8>, Why>
+    ensures { verdict_of result ≡ judged size id.now.0 client known (seen_file_of seen) }
 {
     match seen {
-        Seen::Absent => Err(Fail::Violation(Why::Missing)),
-        Seen::BadLength => Err(Fail::Violation(Why::BadLength)),
-        Seen::BadPrefix => Err(Fail::Violation(Why::BadPrefix)),
-        Seen::NotOpened => Err(Fail::Violation(Why::NotOpened)),
+        Seen::Absent => Err(Why::Missing),
+        Seen::BadLength => Err(Why::BadLength),
+        Seen::BadPrefix => Err(Why::BadPrefix),
+        Seen::NotOpened => Err(Why::NotOpened),
         Seen::Plain(plain) => judge_plain(size, id, client, known, plain),
     }
 }

@@ -9,10 +9,10 @@ use Rattle.std.proofs.lemmas.Slice.Eq.{bytes_eq-Decides}
 use Rattle.std.specs.List.{starts_with}
 use Rattle.block_id.specs.declared.fail.Why.TheVariants.{WrongId, ForeignClient, OldVersion, AheadVersion, Structure}
 use Rattle.sealed_store.specs.BlockFiles.{SeenFile, absent, bad_length, bad_prefix, not_opened, plain, seen_file_of_plain, prefix}
-use Rattle.integrity_store.specs.BlockRecords.{Record, opened, record_in, record_of}
-use Rattle.integrity_store.specs.RecordLaws.{opened-plain, record-length}
-use Rattle.integrity_store.specs.VerdictLaws.{bad_is_good}
-use Rattle.integrity_store.specs.Verdicts.{Verdict, bad, good, judged, judged_record, verdict}
+use Rattle.block_records.specs.BlockRecords.{Record, opened, record_in, record_of}
+use Rattle.block_records.specs.RecordLaws.{opened-plain, record-length}
+use Rattle.block_records.specs.VerdictLaws.{bad_is_good}
+use Rattle.block_records.specs.Verdicts.{Verdict, bad, good, judged, judged_record, verdict}
 
 false_is_true : false ≡ true → ⊥
 false_is_true e = cc

@@ -8,8 +8,8 @@ use Rattle.std.specs.declared.option.Option.{Option}
 use Rattle.std.specs.declared.option.Option.TheVariants.{None, Some}
 use Rattle.block_id.specs.declared.fail.Why.{Why}
 use Rattle.sealed_store.specs.BlockFiles.{bad_length, bad_prefix, seen_file_of_plain, prefix}
-use Rattle.integrity_store.specs.BlockRecords.{Record, opened, record_in}
-use Rattle.integrity_store.specs.Verdicts.{bad, good, judged, judged_record, verdict}
+use Rattle.block_records.specs.BlockRecords.{Record, opened, record_in}
+use Rattle.block_records.specs.Verdicts.{bad, good, judged, judged_record, verdict}
 
 false_is_true : false ≡ true → ⊥
 false_is_true e = cc

@@ -1,5 +1,5 @@
 -- The verdict on what came for a block.
-use Rattle.std.specs.Prelude.{◌≡◌, ℕ, List, if◌then◌else◌, ◌==◌, nat_lt, Vec, Result}
+use Rattle.std.specs.Prelude.{ℕ, List, if◌then◌else◌, ◌==◌, nat_lt, Vec, Result}
 use Rattle.std.specs.Str.{bytes_eq}
 use Rattle.std.specs.declared.option.Option.{Option}
 use Rattle.std.specs.declared.option.Option.TheVariants.{None, Some}
@@ -7,10 +7,8 @@ use Rattle.std.specs.declared.alloc.Global.{Global}
 use Rattle.std.specs.declared.result.Result.TheVariants.{Ok, Err}
 use Rattle.block_id.specs.declared.fail.Why.{Why}
 use Rattle.block_id.specs.declared.fail.Why.TheVariants.{Missing, BadLength, BadPrefix, NotOpened, BadRecord, WrongId, ForeignClient, OldVersion, AheadVersion}
-use Rattle.block_id.specs.declared.fail.Fail.{Fail}
-use Rattle.block_id.specs.declared.fail.Fail.TheVariants.{Memory, Fault, Violation}
 use Rattle.sealed_store.specs.BlockFiles.{SeenFile, absent, bad_length, bad_prefix, not_opened, plain, seen_file_in}
-use Rattle.integrity_store.specs.BlockRecords.{Record, record_of}
+use Rattle.block_records.specs.BlockRecords.{Record, record_of}
 
 -- a payload, or what is wrong
 pub data Verdict : Type 0 where
@@ -39,9 +37,7 @@ judged size id client known (plain bytes) = judged_record id client known (recor
 abbrev pub verdict : (List ℕ → Option (List ℕ)) → ℕ → List ℕ → ℕ → ℕ → Option (List ℕ) → Verdict
 verdict opens size id client known answer = judged size id client known (seen_file_in opens size answer)
 
--- the payload or the reason, unless memory ran out; never a fault
-abbrev pub Judges : Verdict → Result (Vec ℕ Global) Fail → Type 0
-Judges verdict (Ok payload) = verdict ≡ good payload.items
-Judges verdict (Err Memory) = Unit {0}
-Judges verdict (Err Fault) = ⊥
-Judges verdict (Err (Violation why)) = verdict ≡ bad why
+-- an answer as a verdict
+abbrev pub verdict_of : Result (Vec ℕ Global) Why → Verdict
+verdict_of (Ok payload) = good payload.items
+verdict_of (Err why) = bad why

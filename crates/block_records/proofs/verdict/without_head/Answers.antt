@@ -3,7 +3,7 @@ use Rattle.std.specs.Prelude.{vec_len}
 use Rattle.std.proofs.lemmas.List.{take_rest}
 use Rattle.std.proofs.lemmas.List.Edits.{take-paste}
 use Rattle.std.proofs.Math.Seq.{paste}
-use Rattle.integrity_store.proofs.verdict.without_head.Goals as goal
+use Rattle.block_records.proofs.verdict.without_head.Goals as goal
 
 -- what follows the first bytes, copied to the front, with the rest cut off
 front : (from size : ℕ) (bytes : List ℕ) → size ≡ length bytes → take (size - from) (paste bytes 0 (drop from bytes) (size - from)) ≡ drop from bytes

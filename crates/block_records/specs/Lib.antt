@@ -1,0 +1,4 @@
+pub mod BlockRecords
+pub mod RecordLaws
+pub mod VerdictLaws
+pub mod Verdicts

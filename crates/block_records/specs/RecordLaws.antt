@@ -1,0 +1,94 @@
+-- A file that opens to a record: how long it is, and how long its payload.
+use Rattle.std.specs.Prelude.{◌≡◌, ◌≤◌, ℕ, ◌+◌, Bool, true, false, ◌&&◌, List, Option, Some, None, is_some, if◌then◌else◌, ◌-◌, take, drop, length, nat_lt}
+use Rattle.std.specs.Int.{Width, w16, w32, w64, byte_len, from_le_bytes}
+use Rattle.std.proofs.Common.{refl, ◌∙◌, sym, ap, subst, arith, length-drop}
+use Rattle.std.proofs.lemmas.Bool.{and_parts, ltb-false}
+use Rattle.std.proofs.lemmas.Bool.Decides.{Decides-eqb}
+use Rattle.std.proofs.lemmas.List.{drop-drop, length-replicate, take_all}
+use Rattle.std.proofs.lemmas.Option.{same_Some}
+use Rattle.byte_fields.specs.Fields.{front_at, number_at}
+use Rattle.byte_fields.proofs.Fields.{bound, some_behind}
+use Rattle.sealed_store.specs.BlockFiles.{opens_file}
+use Rattle.block_records.specs.declared.block_record.TheConstants.{HEAD_LEN, SEAL_LEN, OVERHEAD}
+use Rattle.block_records.specs.BlockRecords.{Record, opened, payload_of, record_in, record_of}
+
+true_is_false : true ≡ false → ⊥
+true_is_false e = cc
+
+none_is_some : {A B : Type 0} {x : A} → None ≡ Some x → B
+none_is_some {B = B} e = absurd (true_is_false (ap is_some (sym e)))
+
+length_if : (b c : Bool) (o : Option (List ℕ)) (p : List ℕ) → (if b && c then o else None) ≡ Some p → b ≡ true
+length_if true c o p e = refl
+length_if false c o p e = none_is_some e
+
+-- a file that opens is as long as a block
+pub opens-length : (opens : List ℕ → Option (List ℕ)) (size : ℕ) (bytes plain : List ℕ) → opens_file opens size bytes ≡ Some plain → length bytes ≡ size
+opens-length opens size bytes plain is = (Decides-eqb (length bytes) size).0 (length_if _ _ _ _ is)
+
+plain_of : (size : ℕ) (o : Option (List ℕ)) (r : Record) → record_in size o ≡ Some r → (plain : List ℕ) × (o ≡ Some plain) × (record_of size plain ≡ Some r)
+plain_of size None r e = none_is_some e
+plain_of size (Some plain) r e = (plain, refl, e)
+
+-- a file that opens to a record opens
+pub opened-plain : (opens : List ℕ → Option (List ℕ)) (size : ℕ) (bytes : List ℕ) (r : Record) → opened opens size bytes ≡ Some r
+    → (plain : List ℕ) × (opens_file opens size bytes ≡ Some plain) × (record_of size plain ≡ Some r)
+opened-plain opens size bytes r e = plain_of size (opens_file opens size bytes) r e
+
+pub record_same : {a b : Record} → Some a ≡ Some b → a ≡ b
+record_same e = cc
+
+-- ---- the parts of a record
+
+-- these stand behind so many bytes
+abbrev pub IsBehind : ℕ → List ℕ → List ℕ → Type 0
+IsBehind n bytes rest = (n ≤ length bytes) × (rest ≡ drop n bytes)
+
+behind_then : (n m : ℕ) (bytes rest after : List ℕ) → IsBehind n bytes rest → IsBehind m rest after → IsBehind (n + m) bytes after
+behind_then n m bytes rest after p q = (omega (arith, p.0, q.0, ap length p.1, length-drop n bytes), q.1 ∙ ap (drop m) p.1 ∙ drop-drop m n bytes)
+
+number_behind : (w : Width) (bytes : List ℕ) (x : ℕ × List ℕ) → number_at w bytes ≡ Some x → IsBehind (byte_len w) bytes x.1
+unfolding number_at
+number_behind w bytes x e =
+    let found = some_behind (nat_lt (length bytes) (byte_len w)) (Some (from_le_bytes w (take (byte_len w) bytes), drop (byte_len w) bytes)) x e in
+    (ltb-false _ _ found.0, ap (λ (y : ℕ × List ℕ). y.1) (sym (same_Some _ _ found.1)))
+
+front_behind : (n : ℕ) (bytes : List ℕ) (x : List ℕ × List ℕ) → front_at n bytes ≡ Some x → IsBehind n bytes x.1
+unfolding front_at
+front_behind n bytes x e =
+    let found = some_behind (nat_lt (length bytes) n) (Some (take n bytes, drop n bytes)) x e in
+    (ltb-false _ _ found.0, ap (λ (y : List ℕ × List ℕ). y.1) (sym (same_Some _ _ found.1)))
+
+pub if_some : (b : Bool) (r s : Record) → (if b then Some r else None) ≡ Some s → (b ≡ true) × (r ≡ s)
+if_some true r s e = (refl, record_same e)
+if_some false r s e = none_is_some e
+
+-- the payload of a record is what stands behind its head
+pub record-payload : (size : ℕ) (bytes : List ℕ) (r : Record) → record_of size bytes ≡ Some r → (length bytes + SEAL_LEN ≡ size) × IsBehind HEAD_LEN bytes r.payload
+unfolding record_of
+record-payload size bytes r e =
+    let format = bound (number_at w16 bytes) _ r e in
+    let id = bound (front_at 16 format.0.1) _ r format.2 in
+    let client = bound (number_at w32 id.0.1) _ r id.2 in
+    let version = bound (number_at w64 client.0.1) _ r client.2 in
+    let last = if_some _ _ r version.2 in
+    let one = behind_then 2 16 bytes format.0.1 id.0.1 (number_behind w16 bytes format.0 format.1) (front_behind 16 format.0.1 id.0 id.1) in
+    let two = behind_then 4 8 id.0.1 client.0.1 version.0.1 (number_behind w32 id.0.1 client.0 client.1) (number_behind w64 client.0.1 version.0 version.1) in
+    let whole = behind_then 18 12 bytes id.0.1 version.0.1 one two in
+    let len = (and_parts _ _ (and_parts _ _ (and_parts _ _ last.0).0).0).0 in
+    ((Decides-eqb (length bytes + 48) size).0 len, subst (λ (s : Record). IsBehind 30 bytes s.payload) last.1 whole)
+
+pub record-length : (size : ℕ) (bytes : List ℕ) (r : Record) → record_of size bytes ≡ Some r → length r.payload ≡ size - OVERHEAD
+record-length size bytes r e =
+    let (len, behind) = record-payload size bytes r e in
+    omega (arith, len, behind.0, ap length behind.1, length-drop 30 bytes)
+
+pub opened_len : (size : ℕ) (opens : List ℕ → Option (List ℕ)) (bytes : List ℕ) (o : Option Record) → opened opens size bytes ≡ o → length (payload_of size o) ≡ size - OVERHEAD
+opened_len size opens bytes None e = length-replicate (size - OVERHEAD) 0
+opened_len size opens bytes (Some r) e = let p = opened-plain opens size bytes r e in record-length size p.0 r p.2
+
+-- asked for with one byte more than a block has, it comes whole
+pub cut_whole : (opens : List ℕ → Option (List ℕ)) (size : ℕ) (bytes : List ℕ) (r : Record) → opened opens size bytes ≡ Some r → take (size + 1) bytes ≡ bytes
+cut_whole opens size bytes r o =
+    let p = opened-plain opens size bytes r o in
+    take_all (size + 1) bytes (omega (arith, opens-length opens size bytes p.0 p.1))

@@ -1,0 +1,16 @@
+//! The record in a block's file, as bytes, and the verdict on what came for a block: its payload, or the first reason
+//! against it.
+#![tactic(auto)]
+
+mod block_record;
+mod laws;
+mod verdict;
+
+pub use block_record::{
+    HEAD_LEN, Head, OVERHEAD, RECORD_FORMAT, SEAL_LEN, read_head, write_record,
+};
+pub use laws::records_as_texts;
+pub use verdict::judge;
+
+#[cfg(test)]
+mod tests;
