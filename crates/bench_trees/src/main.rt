@@ -6,13 +6,13 @@
 ghost use Rattle.std.specs.Prelude.{◌<◌, ◌≤◌, ◌^◌};
 
 use block_id::{BlockId, Fail};
-use data_tree::{new_tree, read_range};
 use map_store::MapStore;
 use rand_core::Rng;
 use rand_pcg::Pcg32;
 use std::alloc::Global;
 use std::{env, io};
 use store_api::{Blocks, BlocksMut, Tx};
+use tree_calls::{new_tree, read_range};
 use tree_ranges::{resize, write_range};
 
 /// The bytes of a payload, as in a block file of 16,384.

@@ -5,10 +5,10 @@ ghost use Rattle.blob_store.specs.Meanings.{meanings_by, holdings_by, lawful_by,
 
 use blob_api::Blobs;
 use block_id::{BlockId, Fail};
-use data_tree::{drop_tree, new_tree, read_range};
 use rand_core::Rng;
 use std::alloc::Global;
 use store_api::{Blocks, Tx};
+use tree_calls::{drop_tree, new_tree, read_range};
 use tree_ranges::write_range;
 
 /// Byte lists in the blocks of a store, as its changes show them: the blocks are exactly the trees of the lists.
@@ -52,7 +52,7 @@ impl<S: Blocks> Blobs for BlobStore<S> {
     }
 
     fn len(&mut self, alloc: Global, id: &BlockId) -> Result<u64, Fail> {
-        data_tree::len(alloc, &mut self.tx, id)
+        tree_calls::len(alloc, &mut self.tx, id)
     }
 
     fn read(

@@ -112,9 +112,9 @@ replaces_put A B id text ids sets among = record {
   came = λ q n. inl n;
 }
 
-pub border_top : (B : Content) (depth : ℕ) (id : Id) → OnBorder B depth id id
-border_top B zero id = refl
-border_top B (suc depth) id = inl refl
+pub border_top : (B : Content) (depth : ℕ) (id q : Id) → q ≡ id → OnBorder B depth id q
+border_top B zero id q same = same
+border_top B (suc depth) id q same = inl same
 
 -- where the inner nodes of a tree are the same in another content, its border there is its border
 pub border_on : (payload : ℕ) (A D : Content) (depth : ℕ) (id : Id) (w : List ℕ) (ids : List Id) (q : Id) → 50 ≤ payload → IsTree payload A depth id w ids

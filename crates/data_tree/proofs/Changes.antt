@@ -112,9 +112,6 @@ below_changed {H = H} {b = b} {c = c} {depth = depth} {node = node} {id = id} {c
 pub keeps-then : {S : Type 0} {H : Holdings S} {a b c : S} → KeepsShape H a b → KeepsShape H b c → KeepsShape H a c
 keeps-then one two = record { told = two.told ∙ one.told; payload = two.payload ∙ one.payload }
 
-pub keeps_of : {S : Type 0} {H : Holdings S} {a b : S} → Stays H a b → KeepsShape H a b
-keeps_of stays = record { told = stays.told; payload = stays.payload }
-
 pub drop_start : {S : Type 0} {H : Holdings S} {s : S} {depth : ℕ} {children : List Id} → (n : HasTrees H s depth children) → DropRest H s s depth (drop 0 children) n.ids
 drop_start {H = H} {s = s} n = record { bytes = n.bytes; gone = []; left = n.ids; parts = refl; trees = n.trees; dropped = replaces_nothing (H.content s) }
 

@@ -29,8 +29,5 @@ pub not_zero : (n : ℕ) → false ≡ (n == 0) → 0 < n
 not_zero zero e = absurd (cc)
 not_zero (suc n) e = omega arith
 
-pub sum_is : (i x y l m : ℕ) → x ≡ y → l ≡ m → i * x + l ≡ i * y + m
-sum_is i x y l m one two = ap (λ k. i * k + l) one ∙ ap (λ k. i * y + k) two
-
 pub is_zero : (n : ℕ) → true ≡ (n == 0) → n ≡ 0
 is_zero n e = eqb-true n 0 (sym e)

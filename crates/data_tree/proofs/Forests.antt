@@ -18,24 +18,6 @@ moved H a b stays told Q q =
     let path : H.content a ≡ H.content b = λ i id. sym (stays.content told id) i in
     subst (λ B. Q (H.payload b) B) path (subst (λ p. Q p (H.content a)) (sym stays.payload) q)
 
-abbrev pub tree_on : {S : Type 0} {H : Holdings S} {a b : S} {depth : ℕ} {id : Id} → Stays H a b → HasTree H a depth id → HasTree H b depth id
-tree_on {H = H} {a = a} {b = b} {depth = depth} {id = id} stays n = record {
-  bytes = n.bytes;
-  ids = n.ids;
-  told = stays.told ∙ n.told;
-  tree = moved H a b stays n.told (λ p B. IsTree p B depth id n.bytes n.ids) n.tree;
-  alone = n.alone;
-}
-
-abbrev pub trees_on : {S : Type 0} {H : Holdings S} {a b : S} {depth : ℕ} {children : List Id} → Stays H a b → HasTrees H a depth children → HasTrees H b depth children
-trees_on {H = H} {a = a} {b = b} {depth = depth} {children = children} stays n = record {
-  bytes = n.bytes;
-  ids = n.ids;
-  told = stays.told ∙ n.told;
-  trees = moved H a b stays n.told (λ p B. Forest (IsTree p B depth) (span p depth) children n.bytes n.ids) n.trees;
-  alone = n.alone;
-}
-
 abbrev pub below_on : {S : Type 0} {H : Holdings S} {a b : S} {depth : ℕ} {node : NodeText} → Stays H a b → HasBelow H a depth node → HasBelow H b depth node
 below_on {H = H} {a = a} {b = b} {depth = depth} {node = node} stays n = record {
   bytes = n.bytes;
@@ -101,9 +83,6 @@ holds-fits payload B (suc depth) node w below (children, (same, forest)) fits =
 pub holds-length : (payload : ℕ) (B : Content) (depth : ℕ) (node : NodeText) (text w : List ℕ) (below : List Id) → Holds payload B depth node w below → IsNode text node → length text ≡ payload → length w ≤ span payload depth
 holds-length payload B depth node text w below h is sized = holds-fits payload B depth node w below h (subst (λ n. FitsPayload n node) sized is.fits)
 
-pub tree-length : {S : Type 0} {H : Holdings S} {a : S} {depth : ℕ} {id : Id} → (n : HasTree H a depth id) → length n.bytes ≤ span (H.payload a) depth
-tree-length {H = H} {a = a} {depth = depth} n = holds-length (H.payload a) (H.content a) depth n.tree.node n.tree.text n.bytes n.tree.below n.tree.holds n.tree.is n.tree.sized
-
 pub root_apart : {S : Type 0} {H : Holdings S} {a : S} {depth : ℕ} {id : Id} → (n : HasTree H a depth id) → has_id n.tree.below id ≡ false
 root_apart {id = id} n = let both : NoDoubles (id ∷ n.tree.below) = subst NoDoubles n.tree.all n.alone in both.0
 
@@ -126,56 +105,6 @@ deep_of payload depth d node children is fits level =
     let deep : 0 < d = (subst (FitsPayload payload) (sym is) fits).0 in
     let same : d ≡ depth = ap depth_in is ∙ level in
     omega arith
-
--- the trees from a place on, and how many bytes stand before it
-pub record ForestFrom (T : Id → List ℕ → List Id → Type 0) (size : ℕ) (children : List Id) (i : ℕ) (w : List ℕ) (ids : List Id) : Type 0 where
-  pub rest : List ℕ
-  pub before : List Id
-  pub after : List Id
-  pub trees : Forest T size (drop i children) rest after
-  pub len : length w ≡ i * size + length rest
-  pub parts : ids ≡ before ++ after
-
-forest-some : (T : Id → List ℕ → List Id → Type 0) (size i : ℕ) (children : List Id) (w : List ℕ) (ids : List Id) → i < length children → Forest T size children w ids → 0 < length w
-forest-some T size i [] w ids lt f = absurd (omega arith)
-forest-some T size i (child ∷ children) w ids lt f = f.0
-
-pub forest_from : (T : Id → List ℕ → List Id → Type 0) (size i : ℕ) (children : List Id) (w : List ℕ) (ids : List Id) → i < length children → Forest T size children w ids → ForestFrom T size children i w ids
-forest_from T size zero children w ids lt f = record { rest = w; before = []; after = ids; trees = f; len = omega arith; parts = refl }
-forest_from T size (suc i) [] w ids lt f = absurd (omega arith)
-forest_from T size (suc i) (child ∷ children) w ids lt (some, (own, (rest, (first, (others, all))))) =
-    let more = forest_from T size i children (drop size w) rest (omega arith) others in
-    let left : 0 < length (drop size w) = forest-some T size i children (drop size w) rest (omega arith) others in
-    record {
-      rest = more.rest;
-      before = own ++ more.before;
-      after = more.after;
-      trees = more.trees;
-      len = omega (arith, more.len, left, length-drop size w);
-      parts = all ∙ ap (λ xs. own ++ xs) more.parts ∙ sym (append_assoc own more.before more.after);
-    }
-
--- the last of the trees, and the length of all
-pub last_of : {S : Type 0} {H : Holdings S} {a : S} {depth : ℕ} (children : List Id) (i : ℕ) (last : Id) → i < length children → drop i children ≡ last ∷ [] → HasTrees H a depth children → HasTree H a depth last
-last_of {H = H} {a = a} {depth = depth} children i last lt is n =
-    let from = forest_from (IsTree (H.payload a) (H.content a) depth) (span (H.payload a) depth) i children n.bytes n.ids lt n.trees in
-    let f : Forest (IsTree (H.payload a) (H.content a) depth) (span (H.payload a) depth) (last ∷ []) from.rest from.after =
-    subst (λ cs. Forest (IsTree (H.payload a) (H.content a) depth) (span (H.payload a) depth) cs from.rest from.after) is from.trees in
-    let alone : NoDoubles (f.1.0 ++ f.1.1.0) = subst NoDoubles f.1.1.1.1.1 (alone-parts from.before from.after (subst NoDoubles from.parts n.alone)).1 in
-    record { bytes = take (span (H.payload a) depth) from.rest; ids = f.1.0; told = n.told; tree = f.1.1.1.0; alone = (alone-parts f.1.0 f.1.1.0 alone).0 }
-
-pub last-length : {S : Type 0} {H : Holdings S} {a : S} {depth : ℕ} (children : List Id) (i : ℕ) (last : Id) (lt : i < length children) (is : drop i children ≡ last ∷ []) (n : HasTrees H a depth children)
-    → length n.bytes ≡ i * span (H.payload a) depth + length (last_of {H = H} {a = a} {depth = depth} children i last lt is n).bytes
-unfolding last_of
-last-length {H = H} {a = a} {depth = depth} children i last lt is n =
-    let from = forest_from (IsTree (H.payload a) (H.content a) depth) (span (H.payload a) depth) i children n.bytes n.ids lt n.trees in
-    let f : Forest (IsTree (H.payload a) (H.content a) depth) (span (H.payload a) depth) (last ∷ []) from.rest from.after =
-    subst (λ cs. Forest (IsTree (H.payload a) (H.content a) depth) (span (H.payload a) depth) cs from.rest from.after) is from.trees in
-    let none : length (drop (span (H.payload a) depth) from.rest) ≡ 0 = ap length f.1.1.1.1.0.0 in
-    omega (arith, from.len, none, length-drop (span (H.payload a) depth) from.rest, length-take (span (H.payload a) depth) from.rest)
-
-abbrev pub tree_of : {S : Type 0} {H : Holdings S} {a : S} {id : Id} → H.told a ≡ true → (n : IsRoot H a id) → HasTree H a n.depth id
-tree_of told n = record { bytes = n.bytes; ids = n.ids; told = told; tree = n.tree; alone = n.alone }
 
 pub alone_root : {S : Type 0} {H : Holdings S} {a : S} {id : Id} → (n : IsRoot H a id) → (has_id n.tree.below id ≡ false) × NoDoubles n.tree.below
 alone_root {id = id} n = let both : NoDoubles (id ∷ n.tree.below) = subst NoDoubles n.tree.all n.alone in both

@@ -1,7 +1,6 @@
 pub mod Ids
 pub mod Levels
 pub mod Loads
-pub mod Parts
 pub mod Forests
 pub mod Gathering
 pub mod Changes

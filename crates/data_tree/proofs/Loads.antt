@@ -41,9 +41,6 @@ pub read_none : (there : Option (List ℕ)) (text bytes now : List ℕ) (node : 
     → ((other : NodeText) → IsNode now other → option_map node_of answer ≡ Some other) → ⊥
 read_none there text bytes now node answer got holds found same is only = none-some node (ap (option_map node_of) (sym got) ∙ read_is there text bytes now node answer holds found same is only)
 
-pub not_there : (there : Option (List ℕ)) (text : List ℕ) → there ≡ Some text → None ≡ there → ⊥
-not_there there text holds found = none-some text (found ∙ holds)
-
 -- the node of a tree has its depth
 pub holds-depth : (payload : ℕ) (B : Content) (depth : ℕ) (node : NodeText) (w : List ℕ) (below : List Id) → Holds payload B depth node w below → depth_in node ≡ depth
 holds-depth payload B zero node w below h = ap depth_in h.0

@@ -10,10 +10,11 @@ use Rattle.store_api.specs.Overlay.{without}
 use Rattle.store_api.specs.Holdings.{Holdings, Stays, has_id}
 use Rattle.data_tree.specs.Needs.{Sets, KeepsShape}
 use Rattle.outcome.specs.Meanings.{Meanings, Lawful}
-use Rattle.outcome.specs.Outcome.{Outcome}
+use Rattle.outcome.specs.Outcome.{Outcome, idle, no_memory}
+use Rattle.block_id.specs.declared.fail.Fail.TheVariants.{Memory}
 use Rattle.store_api.specs.Overlay.{changed_over}
 use Rattle.store_api.proofs.Rising.{same_id_is}
-use Rattle.data_tree.proofs.Loads.{store_in, changes_in, tx_holdings, tx_meanings}
+use Rattle.data_tree.proofs.Loads.{store_in, changes_in, tx_holdings, tx_meanings, tx_laws}
 use Rattle.data_tree.proofs.Forests.{stays-same}
 use Rattle.data_tree.proofs.Changes.{sets_put, there_put}
 
@@ -34,6 +35,9 @@ tx_same a b one two = λ i. record { store = one i; overlay = two i }
 
 pub below_same : {B : Type 0} (H : Holdings B) (a b : Tx B) → b.store ≡ a.store → Stays H a.store b.store
 below_same H a b same = subst (λ s. Stays H a.store s) (sym same) (stays-same H a.store)
+
+pub below_then : {B : Type 0} (H : Holdings B) (a b d : Tx B) → Stays H a.store b.store → d.store ≡ b.store → Stays H a.store d.store
+below_then H a b d below same = subst (λ s. Stays H a.store s) (sym same) below
 
 pub keeps_below : {B : Type 0} (H : Holdings B) (a b : Tx B) → Stays H a.store b.store → KeepsShape (tx_holdings H) a b
 keeps_below H a b below = record { told = below.told; payload = below.payload }
@@ -71,8 +75,18 @@ pub changed_ : {B : Type 0} (M : Meanings B) (H : Holdings B) {T N : Type 0} {x 
     → Outcome (tx_meanings M H) {T = Unit {0}} N a d (Ok tt) (λ n _. R n)
 changed_ M H a c d same intact o into = changed_over store_in changes_in M H a c d same intact o into
 
+-- memory was wanting after a call that went well and a change of the changes alone, or after such a change alone
+pub memory_after : {B : Type 0} (M : Meanings B) (H : Holdings B) {T U N : Type 0} {x : T} {P : N → T → Type 0} {Q : N → U → Type 0} (a c d : Tx B) → d.store ≡ c.store → (tx_meanings M H).intact d → Outcome (tx_meanings M H) N a c (Ok x) P → Outcome (tx_meanings M H) {T = U} N a d (Err Memory) Q
+memory_after M H a c d same intact o = no_memory (changed_ M H {R = λ n. Unit {0}} a c d same intact o (λ n p. tt))
+
+pub memory_first : {B : Type 0} (M : Meanings B) (H : Holdings B) {U N : Type 0} {Q : N → U → Type 0} → Lawful M → (a d : Tx B) → (tx_meanings M H).intact a → d.store ≡ a.store → (tx_meanings M H).intact d → Outcome (tx_meanings M H) {T = U} N a d (Err Memory) Q
+memory_first M H laws a d before same intact = memory_after M H a a d same intact (idle (tx_laws M H laws) {T = Unit {0}} {P = λ n _. Unit {0}} a tt before (λ n. tt))
+
 pub unforged_before : {S : Type 0} {M : Meanings S} (laws : Lawful M) (a b c : S) → M.loaded b c → M.forgeries c ≤ M.forgeries a → M.forgeries b ≤ M.forgeries a
 unforged_before {M = M} laws a b c loaded few = let grown : M.forgeries b ≤ M.forgeries c = laws.forgeries_grow b c loaded in omega arith
+
+pub unforged_on : {B : Type 0} (M : Meanings B) (a b c : Tx B) → c.store ≡ b.store → M.forgeries c.store ≤ M.forgeries a.store → M.forgeries b.store ≤ M.forgeries a.store
+unforged_on M a b c same few = subst (λ s. M.forgeries s ≤ M.forgeries a.store) same few
 
 -- an id that has a block isn't one that has none
 pub differs : {T : Type 0} (o : Option T) (b : Bool) → (b ≡ true → o ≡ None) → is_some o ≡ true → b ≡ false

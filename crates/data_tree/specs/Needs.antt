@@ -1,9 +1,9 @@
 -- What the steps of the calls on trees need of the content, and what they leave.
-use Rattle.std.specs.Prelude.{◌≡◌, ◌<◌, ◌*◌, ℕ, true, cond, List, [], ◌∷◌, Option, Some, ◌++◌, length}
+use Rattle.std.specs.Prelude.{◌≡◌, ◌<◌, ◌*◌, ℕ, true, cond, List, [], Option, Some, ◌++◌, length}
 use Rattle.data_nodes.specs.Layout.{NodeText, IsNode}
 use Rattle.store_api.specs.Content.{Id, Content, same_id}
 use Rattle.store_api.specs.Holdings.{Holdings}
-use Rattle.data_tree.specs.Trees.{IsTree, Holds, Forest, span, between, NoDoubles, Replaces, depth_in}
+use Rattle.data_tree.specs.Trees.{IsTree, Holds, Forest, span, NoDoubles, Replaces}
 
 -- the block of this id holds a node
 pub record HasNode {S : Type 0} (H : Holdings S) (s : S) (id : Id) : Type 0 where
@@ -50,14 +50,6 @@ Sets A B id change = (q : Id) → B q ≡ cond (same_id q id) change (A q)
 abbrev pub SetsNode : {S : Type 0} → Holdings S → S → S → Id → NodeText → Type 0
 SetsNode H a b id node = (text : List ℕ) × (IsNode text node × ((length text ≡ H.payload a) × Sets (H.content a) (H.content b) id (Some text)))
 
--- what is left to read: the trees below these ids, and what follows of the part
-pub record ReadRest {S : Type 0} (H : Holdings S) (s : S) (depth : ℕ) (children : List Id) (before after : List ℕ) (from to : ℕ) (all : List ℕ) : Type 0 where
-  pub bytes : List ℕ
-  pub ids : List Id
-  pub trees : Forest (IsTree (H.payload s) (H.content s) depth) (span (H.payload s) depth) children bytes ids
-  pub alone : NoDoubles ids
-  pub joined : after ++ between from to bytes ≡ before ++ all
-
 -- what is left to drop: the trees below these ids, after others were dropped
 pub record DropRest {S : Type 0} (H : Holdings S) (a s : S) (depth : ℕ) (children all : List Id) : Type 0 where
   pub bytes : List ℕ
@@ -97,11 +89,3 @@ pub record BuildRest {S : Type 0} (H : Holdings S) (a s : S) (depth : ℕ) (chil
   pub trees : Forest (IsTree (H.payload s) (H.content s) depth) (span (H.payload s) depth) children done ids
   pub alone : NoDoubles ids
   pub came : Replaces (H.content a) (H.content s) [] ids
-
--- a root's node, with what stands below it
-pub record HasRootNode {S : Type 0} (H : Holdings S) (s : S) (root : Id) (node : NodeText) : Type 0 where
-  pub bytes : List ℕ
-  pub ids : List Id
-  pub told : H.told s ≡ true
-  pub holds : Holds (H.payload s) (H.content s) (depth_in node) node bytes ids
-  pub alone : NoDoubles (root ∷ ids)

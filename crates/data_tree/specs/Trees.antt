@@ -45,10 +45,6 @@ abbrev pub depth_in : NodeText → ℕ
 depth_in (leaf bytes) = 0
 depth_in (inner depth children) = depth
 
--- the places from the first number up to the second
-abbrev pub between : ℕ → ℕ → List ℕ → List ℕ
-between from to w = drop from (take to w)
-
 -- each id stands there once
 abbrev pub NoDoubles : List Id → Type 0
 NoDoubles [] = Unit {0}

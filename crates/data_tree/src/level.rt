@@ -1,10 +1,9 @@
-// Depths of a tree with their room, and parts of its bytes.
-ghost use Rattle.std.specs.Prelude.{◌≡◌, ◌+◌, ◌-◌, ◌*◌, ◌≤◌, ◌<◌, ◌^◌, ℕ, take, drop, ◌++◌, OnOk, IfSome, IfNone};
+// Depths of a tree with their room.
+ghost use Rattle.std.specs.Prelude.{◌≡◌, ◌+◌, ◌*◌, ◌≤◌, ◌<◌, ◌^◌, ℕ, IfSome, IfNone};
 ghost use Rattle.block_id.specs.declared.sizes.TheConstants.{MIN_PAYLOAD, MAX_BLOCK};
 ghost use Rattle.data_nodes.specs.Layout.{fan_out, node_of};
-ghost use Rattle.data_tree.specs.Trees.{span, depth_in, between, IsDepth};
+ghost use Rattle.data_tree.specs.Trees.{span, depth_in, IsDepth};
 
-use block_id::Memory;
 use data_nodes::Node;
 
 /// A depth, and for how many bytes a tree of it has room.
@@ -12,13 +11,6 @@ use data_nodes::Node;
 pub struct Level {
     pub depth: u8,
     pub room: u64,
-}
-
-/// The places of a list from `from` up to `to`.
-#[derive(Clone, Copy)]
-pub struct Part {
-    pub from: u64,
-    pub to: u64,
 }
 
 impl Level {
@@ -38,19 +30,6 @@ impl Level {
     }
 }
 
-impl Part {
-    /// The part as it lies behind the first `room` places.
-    pub fn after(self, room: u64) -> Part
-        ensures from { result.from ≡ self.from - room }
-        ensures to { result.to ≡ self.to - room }
-    {
-        Part {
-            from: self.from.saturating_sub(room),
-            to: self.to.saturating_sub(room),
-        }
-    }
-}
-
 /// The depth of a node: 0 for a leaf.
 pub fn depth_of(node: &Node) -> u8
     ensures { result ≡ depth_in (node_of node.now) }
@@ -59,16 +38,6 @@ pub fn depth_of(node: &Node) -> u8
         Node::Leaf(_) => 0,
         Node::Inner { depth, .. } => *depth,
     }
-}
-
-/// Appends a part of the bytes.
-pub fn append_part(bytes: &[u8], part: Part, out: &mut Vec<u8>) -> Result<(), Memory>
-    ensures { OnOk result (out.new.items ≡ out.old.items ++ between part.from part.to bytes.now) }
-{
-    let end = part.to.min(bytes.len() as u64) as usize;
-    let start = part.from.min(end as u64) as usize;
-    out.extend_from_slice(&bytes[start..end])?;
-    Ok(())
 }
 
 /// A tree has at most so many bytes.

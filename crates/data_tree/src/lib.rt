@@ -3,17 +3,10 @@
 
 mod building;
 mod dropping;
-mod length;
 mod level;
 mod nodes;
-mod reading;
-mod rewriting;
-mod tree;
 
 pub use building::{build, build_children, new_below};
 pub use dropping::{drop_children, drop_in};
-pub use length::len_in;
-pub use level::{Level, MOST_BYTES, Part, append_part, depth_of, level_for, level_of};
+pub use level::{Level, MOST_BYTES, depth_of, level_for, level_of};
 pub use nodes::{load_at, load_root, put_new, put_node, remove};
-pub use reading::{read_below, read_in};
-pub use tree::{drop_tree, len, new_tree, read_range, resize, write_range};

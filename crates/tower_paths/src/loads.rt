@@ -4,12 +4,12 @@ ghost use Rattle.store_api.specs.Holdings.{IsFew};
 
 use crate::tower::empty_store;
 use block_id::BlockId;
-use data_tree::{drop_tree, len, new_tree, read_range};
 use memory_outside::Event;
 use rand_pcg::Pcg32;
 use std::alloc::Global;
 use std::test::Fail;
 use store_api::{Blocks, BlocksMut, Durable, Tx};
+use tree_calls::{drop_tree, len, new_tree, read_range};
 use tree_ranges::{resize, write_range};
 
 /// A call on a tree, with the place and the number of bytes, or with the new length.

@@ -185,7 +185,7 @@ pub put_border : (B : Content) (depth : ℕ) (id : Id) (old new : Changes) → (
 put_border B depth id old new others q there = by (same_id q id) refl
   where
     by : (b : Bool) → same_id q id ≡ b → (get new q ≡ get old q) ⊎ OnBorder B depth id q
-    by true e = inr (subst (λ x. OnBorder B depth id x) (sym (same_id_is q id e)) (border_top B depth id))
+    by true e = inr (border_top B depth id q (same_id_is q id e))
     by false e = inl (others q e)
 
 -- the trees behind the last one that stays, after the node above them was put

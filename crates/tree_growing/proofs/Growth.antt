@@ -1,11 +1,17 @@
 -- Trees that stand side by side, the last of them grown, with new ones behind it.
-use Rattle.std.proofs.Common.{◌≡◌, ℕ, ◌+◌, ◌*◌, ◌<◌, ◌≤◌, true, false, cond, List, [], ◌∷◌, ◌++◌, length, take, drop, refl, sym, ◌∙◌, ap, subst, inl, inr, arith, append_assoc, append-nil}
-use Rattle.std.specs.Prelude.{Some, is_some}
+use Rattle.std.proofs.Common.{◌≡◌, ℕ, ◌+◌, ◌-◌, ◌*◌, ◌<◌, ◌≤◌, true, false, cond, List, [], ◌∷◌, ◌++◌, length, take, drop, get_or, refl, sym, ◌∙◌, ap, subst, inl, inr, arith, append_assoc, append-nil}
+use Rattle.std.specs.Prelude.{Some, is_some, Result, Ok}
 use Rattle.std.proofs.lemmas.Bool.{cases_lt, false_from_ne_true, or_left}
-use Rattle.std.proofs.lemmas.List.{take-append-drop, length-take, length-drop, length-append, take-append-le, drop-append-le, take_all, drop_all, nil_from_length}
+use Rattle.std.proofs.lemmas.List.{take-append-drop, length-map, length-take, length-drop, length-append, take-append-le, drop-append-le, take_all, drop_all, nil_from_length}
 use Rattle.std.proofs.Math.Seq.{take-append-add}
+use Rattle.block_id.specs.declared.fail.Fail.{Fail}
+use Rattle.block_id.specs.declared.id.BlockId.{BlockId}
 use Rattle.block_id.proofs.Options.{none_is}
-use Rattle.data_nodes.specs.Layout.{NodeText, leaf, inner}
+use Rattle.outcome.specs.Meanings.{Meanings, Lawful}
+use Rattle.outcome.specs.Outcome.{Outcome, first_, then_}
+use Rattle.data_nodes.specs.declared.node.Node.{Node}
+use Rattle.data_nodes.specs.Layout.{NodeText, leaf, inner, ids_of, node_of}
+use Rattle.store_api.specs.declared.tx.Tx.{Tx}
 use Rattle.store_api.specs.Content.{Id, Content, same_id}
 use Rattle.store_api.specs.Holdings.{Holdings, Stays, has_id}
 use Rattle.data_tree.specs.Trees.{IsTree, Holds, Forest, span, NoDoubles, Replaces}
@@ -14,7 +20,10 @@ use Rattle.data_tree.proofs.Ids.{same_self, apart, alone-parts, other}
 use Rattle.data_tree.proofs.Changes.{holds_frame, tree_frame, trees_frame}
 use Rattle.data_tree.proofs.Making.{alone-join, tree_there, trees_there}
 use Rattle.data_tree.proofs.Anew.{replaces_then}
-use Rattle.data_tree.proofs.Forests.{holds-length}
+use Rattle.data_tree.proofs.Forests.{below_on, below_of, holds-length}
+use Rattle.data_tree.proofs.Gathering.{last_child}
+use Rattle.data_tree.proofs.Levels.{span-some}
+use Rattle.data_tree.proofs.Loads.{tx_holdings, tx_meanings}
 use Rattle.data_tree.proofs.Borders.{holds_leaf, holds_inner, Split, one_more, forest_split, replace_part, replaces_put}
 use Rattle.tree_growing.specs.Growing.{Grown, GrownTrees}
 
@@ -62,12 +71,33 @@ off_the_new A B old new r q there o =
     let n = false_from_ne_true (has_id new q) (λ h. elim (r.came q h) [ inl was ↦ let bad : false ≡ true = sym o ∙ was in cc | inr none ↦ none_is (A q) none there ]) in
     (n, r.kept q o n)
 
-pub split_of : {S : Type 0} {H : Holdings S} {a : S} {low : ℕ} {children : List Id} (i : ℕ) (last : Id) → 0 < span (H.payload a) low → i < length children → drop i children ≡ last ∷ [] → (n : HasTrees H a low children)
-    → Split (IsTree (H.payload a) (H.content a) low) (span (H.payload a) low) (take i children) last n.bytes n.ids
-split_of {H = H} {a = a} {low = low} {children = children} i last positive lt is n = forest_split (IsTree (H.payload a) (H.content a) low) (span (H.payload a) low) i children last n.bytes n.ids positive lt is n.trees
+-- the last of the children
+abbrev pub last_id : List BlockId → Id
+last_id children = (get_or children (length children - 1) (record { 0 = [] })).0
+
+pub last_alone : (children : List BlockId) → 0 < length children → (length children - 1 < length (ids_of children)) × (drop (length children - 1) (ids_of children) ≡ last_id children ∷ [])
+last_alone children some =
+    let whole : length children - 1 + 1 ≡ length children = omega arith in
+    (omega (arith, whole, length-map children (λ (x : BlockId). x.0)), last_child children (length children - 1) (record { 0 = [] }) whole)
+
+pub split_of : {S : Type 0} {H : Holdings S} {a : S} {low : ℕ} (children : List BlockId) → 0 < length children → 50 ≤ H.payload a → (n : HasTrees H a low (ids_of children))
+    → Split (IsTree (H.payload a) (H.content a) low) (span (H.payload a) low) (take (length children - 1) (ids_of children)) (last_id children) n.bytes n.ids
+split_of {H = H} {a = a} {low = low} children some least n =
+    let at = last_alone children some in
+    forest_split (IsTree (H.payload a) (H.content a) low) (span (H.payload a) low) (length children - 1) (ids_of children) (last_id children) n.bytes n.ids (span-some (H.payload a) low least) at.0 at.1 n.trees
 
 abbrev pub split_tree : {S : Type 0} {H : Holdings S} {a : S} {low : ℕ} {children front : List Id} {last : Id} (n : HasTrees H a low children) → Split (IsTree (H.payload a) (H.content a) low) (span (H.payload a) low) front last n.bytes n.ids → HasTree H a low last
 split_tree n s = record { bytes = s.w2; ids = s.own; told = n.told; tree = s.tree; alone = (alone-parts s.ids1 s.own (subst NoDoubles s.names n.alone)).1 }
+
+-- the last child was loaded, and a call was made on what stands below its node
+pub last_then : {B : Type 0} (M : Meanings B) (H0 : Holdings B) (laws : Lawful (tx_meanings M H0)) (a b d : Tx B) {low : ℕ} (children : List BlockId) (some : 0 < length children) (least : 50 ≤ H0.payload a.store) {child : Node} {U : Type 0} {r : Result U Fail} {Q : HasBelow (tx_holdings H0) b low (node_of child) → U → Type 0}
+    → Outcome (tx_meanings M H0) (HasTree (tx_holdings H0) a low (last_id children)) a b (Ok child) (λ n node. node_of node ≡ n.tree.node) → (stays : Stays (tx_holdings H0) a b) → Outcome (tx_meanings M H0) (HasBelow (tx_holdings H0) b low (node_of child)) b d r Q
+    → Outcome (tx_meanings M H0) (HasTrees (tx_holdings H0) a low (ids_of children)) a d r
+        (λ n y. (is : node_of child ≡ (split_of {H = tx_holdings H0} {a = a} children some least n).tree.node) × Q (below_on stays (below_of (node_of child) (split_tree n (split_of {H = tx_holdings H0} {a = a} children some least n)) is)) y)
+last_then M H0 laws a b d {low = low} children some least {child = child} loaded stays called =
+    let H = tx_holdings H0 in
+    let one = first_ {N = HasTrees H a low (ids_of children)} {R = λ n node. node_of node ≡ (split_of {H = H} {a = a} children some least n).tree.node} (λ n. split_tree n (split_of {H = H} {a = a} children some least n)) loaded (λ n y h. h) in
+    then_ laws one (λ n is. below_on stays (below_of (node_of child) (split_tree n (split_of {H = H} {a = a} children some least n)) is)) called (λ n is y h. (is, h))
 
 pub grown_trees : {S : Type 0} {H : Holdings S} {a b c d e : S} {low : ℕ} {children front : List Id} {last : Id} (all new : List Id) (node : NodeText) (t1 t2 : List ℕ) (n : HasTrees H a low children)
     → (s : Split (IsTree (H.payload a) (H.content a) low) (span (H.payload a) low) front last n.bytes n.ids) → all ≡ front ++ last ∷ new → Stays H a b → KeepsShape H b c → KeepsShape H c d → KeepsShape H d e → Grown H b c low node (s.w2 ++ t1) s.tree.below → SetsNode H c d last node

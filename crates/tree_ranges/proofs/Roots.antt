@@ -1,18 +1,25 @@
 -- Roots of trees that grew or were written.
 use Rattle.std.proofs.Common.{◌≡◌, ℕ, ◌+◌, ◌-◌, ◌<◌, ◌≤◌, ◌^◌, true, false, cond, List, [], ◌∷◌, ◌++◌, length, take, drop, refl, sym, ◌∙◌, ap, subst, inl, inr, arith, append_assoc, append-nil}
-use Rattle.std.specs.Prelude.{Some, is_some}
+use Rattle.std.specs.Prelude.{Some, is_some, Result, Ok}
 use Rattle.std.proofs.lemmas.Bool.{cases_lt, or_left}
 use Rattle.std.proofs.lemmas.List.{take-append-drop, length-take, length-drop, length-append, drop_all}
-use Rattle.data_nodes.specs.Layout.{NodeText, FitsPayload}
+use Rattle.block_id.specs.declared.fail.Fail.{Fail}
+use Rattle.outcome.specs.Meanings.{Meanings, Lawful}
+use Rattle.outcome.specs.Outcome.{Outcome, first_, then_}
+use Rattle.data_nodes.specs.declared.node.Node.{Node}
+use Rattle.data_nodes.specs.Layout.{NodeText, FitsPayload, node_of}
+use Rattle.store_api.specs.declared.tx.Tx.{Tx}
 use Rattle.store_api.specs.Content.{Id, same_id}
 use Rattle.store_api.specs.Holdings.{Holdings, Stays, has_id}
-use Rattle.data_tree.specs.Trees.{Holds, span, IsDepth, NoDoubles, Replaces}
-use Rattle.data_tree.specs.Needs.{SetsNode, KeepsShape}
+use Rattle.data_tree.specs.declared.level.Level.{Level}
+use Rattle.data_tree.specs.Trees.{Holds, span, IsDepth, NoDoubles, Replaces, depth_in}
+use Rattle.data_tree.specs.Needs.{HasBelow, SetsNode, KeepsShape}
 use Rattle.data_tree.specs.Roots.{IsRoot, IsNewRoot}
 use Rattle.data_tree.proofs.Ids.{same_self, other}
 use Rattle.data_tree.proofs.Changes.{holds_frame}
 use Rattle.data_tree.proofs.Anew.{replaces_then}
-use Rattle.data_tree.proofs.Forests.{holds-fits}
+use Rattle.data_tree.proofs.Forests.{below_on, below_root, holds-fits}
+use Rattle.data_tree.proofs.Loads.{tx_holdings, tx_meanings}
 use Rattle.block_id.specs.Contents.{written, zeros}
 use Rattle.tree_ranges.specs.Ranges.{GrowsTo}
 use Rattle.data_tree.proofs.Borders.{replace_part, replaces_put}
@@ -20,6 +27,17 @@ use Rattle.tree_growing.proofs.Growth.{off_the_new}
 use Rattle.tree_growing.proofs.Rising.{more_than, grown_then}
 use Rattle.tree_growing.specs.Growing.{Grown, MayGrow, Raised}
 use Rattle.tree_writing.specs.Writing.{WroteTree, written_at}
+
+-- the root was loaded, and a call was made on what stands below its node
+pub root_then : {B : Type 0} (M : Meanings B) (H0 : Holdings B) (laws : Lawful (tx_meanings M H0)) (a b d : Tx B) {root : Id} {more n : ℕ} {found : Node × Level} {U : Type 0} {r : Result U Fail} {Q : HasBelow (tx_holdings H0) b found.1.depth (node_of found.0) → U → Type 0}
+    → Outcome (tx_meanings M H0) (IsRoot (tx_holdings H0) a root) a b (Ok found) (λ n found. ((tx_holdings H0).told a ≡ true) × (node_of found.0 ≡ n.tree.node)) → (stays : Stays (tx_holdings H0) a b) → (level : depth_in (node_of found.0) ≡ found.1.depth)
+    → Outcome (tx_meanings M H0) (HasBelow (tx_holdings H0) b found.1.depth (node_of found.0)) b d r Q
+    → Outcome (tx_meanings M H0) (GrowsTo (tx_holdings H0) a root more n) a d r
+        (λ g y. (p : ((tx_holdings H0).told a ≡ true) × (node_of found.0 ≡ g.tree.tree.node)) × Q (below_on stays (below_root (node_of found.0) found.1.depth p.0 g.tree p.1 level)) y)
+root_then M H0 laws a b d {root = root} {more = more} {n = n} {found = found} loaded stays level called =
+    let H = tx_holdings H0 in
+    let one = first_ {N = GrowsTo H a root more n} {R = λ g y. (H.told a ≡ true) × (node_of y.0 ≡ g.tree.tree.node)} (λ g. g.tree) loaded (λ g y h. h) in
+    then_ laws one (λ g p. below_on stays (below_root (node_of found.0) found.1.depth p.0 g.tree p.1 level)) called (λ g p y h. (p, h))
 
 -- a root that grew and was put
 pub root_grown : {S : Type 0} {H : Holdings S} {a b c d : S} {root : Id} {node : NodeText} {w : List ℕ} (depth : ℕ) → Stays H a b → H.told a ≡ true → (n : IsRoot H a root) → IsDepth (H.payload d) depth (length w) → KeepsShape H b c → KeepsShape H c d

@@ -15,10 +15,11 @@ ghost use Rattle.tree_ranges.specs.Ranges.{HasAtLeast, IsInside, ReachesPast};
 use crate::over::{after_zeros, append, write_over};
 use block_id::{BlockId, Fail};
 use data_nodes::Node;
-use data_tree::{Level, len_in, level_for, load_root};
+use data_tree::{Level, level_for, load_root};
 use rand_core::Rng;
 use std::alloc::Global;
 use store_api::{Blocks, Tx};
+use tree_calls::len_in;
 use tree_cutting::cut_root;
 use tree_writing::write_in;
 

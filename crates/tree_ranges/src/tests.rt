@@ -4,13 +4,14 @@ ghost use Rattle.std.specs.Prelude.{◌≤◌, ◌^◌};
 use super::{resize, write_range};
 use block_id::{BlockId, Why};
 use data_nodes::Node;
-use data_tree::{drop_tree, len, load_at, load_root, new_tree, put_new, put_node, read_range};
+use data_tree::{load_at, load_root, put_new, put_node};
 use map_store::MapStore;
 use rand_core::Rng;
 use rand_pcg::Pcg32;
 use std::alloc::Global;
 use std::test::Fail;
 use store_api::{Blocks, BlocksMut, Tx};
+use tree_calls::{drop_tree, len, new_tree, read_range};
 
 const SIZES: [usize; 7] = [0, 42, 43, 84, 85, 168, 169];
 
@@ -129,7 +130,7 @@ fn resize_by<S: Blocks, R: Rng>(
     ensures { ⟦<Tx<S> as Blocks>⟧.meanings.intact tx.new }
 {
     if plainly {
-        return data_tree::resize(alloc, tx, root, n, chance);
+        return tree_calls::resize(alloc, tx, root, n, chance);
     }
     resize(alloc, tx, root, n, chance)
 }

@@ -1,14 +1,14 @@
 use Rattle.std.proofs.Common.{◌≡◌, sym, ◌∙◌, ap, subst, [], ◌∷◌, ◌++◌, List, length, ◌+◌, ◌<◌, arith, refl, inl, inr}
 use Rattle.std.specs.Prelude.{min}
-use Rattle.std.proofs.lemmas.List.{length-append}
+use Rattle.std.proofs.lemmas.List.{length-append, length-map}
 use Rattle.block_id.specs.declared.id.BlockId.{BlockId}
 use Rattle.data_nodes.specs.Layout.{ids_of, fan_out}
 use Rattle.data_tree.specs.Trees.{span}
 use Rattle.data_tree.specs.Needs.{BuildRest}
 use Rattle.data_tree.proofs.Loads.{tx_holdings}
 use Rattle.data_tree.proofs.Puts.{if_ok_both, keeps_same, kept_put}
-use Rattle.data_tree.proofs.Making.{tree_made, build_start, build_next, built_inner, pushed}
-use Rattle.data_tree.proofs.Counting.{not_zero, count_few, count_whole, count_below, next_whole, next_below}
+use Rattle.data_tree.proofs.Making.{tree_made, build_start, build_next, build_done, built_leaf, built_inner, pushed}
+use Rattle.data_tree.proofs.Counting.{not_zero, is_zero, count_few, count_whole, count_below, next_whole, next_below}
 use Rattle.data_tree.proofs.building.+build.Goals as goal
 
 pub build-returns-in-Ok-build_children-clause-built : goal.build-returns-in-Ok-build_children-clause-built
@@ -81,3 +81,20 @@ build_children-returns-in-Err-clause-there g t c = λ q h. c.new_below.ensures.t
 
 pub build_children-returns-in-Err-clause-kept : goal.build_children-returns-in-Err-clause-kept
 build_children-returns-in-Err-clause-kept g t c = kept_put g.S.Blocks.holdings c.args.tx.now c.loop-rest.tx c.new_below.new.tx c.loop-rest.invariant.there c.loop-rest.invariant.kept c.new_below.ensures.kept
+
+pub build_children-returns-clause-built : goal.build_children-returns-clause-built
+build_children-returns-clause-built g t c = build_done (is_zero (length c.loop-rest.rest.now) c.loop-rest-test.ensures) c.loop-rest.invariant.built
+
+pub build_children-returns-clause-some : goal.build_children-returns-clause-some
+build_children-returns-clause-some g t c more =
+    elim c.loop-rest.invariant.begun [ inl some ↦ some | inr none ↦ absurd (omega (arith, more, none, is_zero (length c.loop-rest.rest.now) c.loop-rest-test.ensures)) ]
+
+pub build-returns-in-Ok-build_children-clause-fits : goal.build-returns-in-Ok-build_children-clause-fits
+build-returns-in-Ok-build_children-clause-fits g t c =
+    let deep : 0 < c.args.level.depth = omega (arith, c.if-level-eq0.false) in
+    let made = c.in-Ok-build_children.ensures in
+    let listed = length-map c.in-Ok-build_children.children.items (λ (x : BlockId). x.0) in
+    (deep, omega (arith, listed, made.some (c.requires.some deep)), omega (arith, listed, made.few))
+
+pub build-returns-in-Ok-clause-built : goal.build-returns-in-Ok-clause-built
+build-returns-in-Ok-clause-built g t c = built_leaf c.args.level.depth c.args.bytes.now c.in-Ok.bytes.items c.if-level-eq0.true (c.in-Ok.ensures.items_if_clones_equal (λ x y e. e))

@@ -11,7 +11,7 @@ use Rattle.data_tree.proofs.Forests.{below_of, below_on, children_of, forest-len
 use Rattle.data_tree.proofs.Gathering.{more_children, next_child}
 use Rattle.data_tree.proofs.Levels.{span-some}
 use Rattle.data_tree.proofs.Loads.{store_in, changes_in, tx_holdings, tx_meanings, tx_laws}
-use Rattle.data_tree.proofs.Puts.{below_same, changed_, keeps_below, keeps_same, was_there}
+use Rattle.data_tree.proofs.Puts.{below_same, changed_, keeps_below, keeps_same, memory_first, was_there}
 use Rattle.tree_cutting.specs.Cutting.{OnlyBorder, IsCut, MayCut, MayCutNode, MayCutTrees}
 use Rattle.tree_cutting.proofs.Cuts.{cut_at, cut_behind, cut_fits, cut_inner_is, cut_last, cut_leaf_is, cut_only, cut_since, fewer_put, put_border}
 use Rattle.tree_cutting.proofs.cutting.+cut.Goals as goal
@@ -177,3 +177,15 @@ cut_children-returns-clause-outcome g t c =
     let fits = cut_fits c.args.n m place small n.fits (s n) in
     let whole = cut_inner_is {H = H} {a = a} {b = b} {c = d} {d = e} depth m kept n (s n) p.0 ab bd de p.1 r.0 listed more refl place some small fits in
     (whole.0, cut_only (H.content d) (H.content e) depth low k id last.0 ids kept p.0.0 a.overlay b.overlay d.overlay e.overlay whole.1 p.0.1.0 listed refl c.cut_below.ensures.fewer c.put_node.ensures.others c.drop_children.ensures.kept r.1))
+
+pub cut_children-overflow_mul-last : goal.cut_children-overflow_mul-last
+cut_children-overflow_mul-last g t c = omega (arith, div-mul-le_self (c.args.n - 1) c.args.level.room, c.ranges.n.fits)
+
+pub cut_children-overflow_sub-n : goal.cut_children-overflow_sub-n
+cut_children-overflow_sub-n g t c = omega (arith, div-mul-le_self (c.args.n - 1) c.args.level.room)
+
+pub cut_children-returns-in-Err-clause-outcome : goal.cut_children-returns-in-Err-clause-outcome
+cut_children-returns-in-Err-clause-outcome g t c = memory_first g.S.Blocks.meanings g.S.Blocks.holdings g.met.S.Blocks.lawful c.args.tx.now c.args.tx.now c.requires.intact refl c.requires.intact
+
+pub cut_children-returns-in-Err-put_node-clause-outcome : goal.cut_children-returns-in-Err-put_node-clause-outcome
+cut_children-returns-in-Err-put_node-clause-outcome g t c = memory_first g.S.Blocks.meanings g.S.Blocks.holdings g.met.S.Blocks.lawful c.args.tx.now c.put_node.new.tx c.requires.intact c.put_node.ensures.store c.put_node.ensures.intact

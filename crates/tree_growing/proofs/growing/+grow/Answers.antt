@@ -1,21 +1,18 @@
-use Rattle.std.proofs.Common.{◌≡◌, ◌≤◌, ◌<◌, inl, inr, ◌+◌, ◌-◌, ◌*◌, ◌/◌, ◌^◌, ◌++◌, [], ◌∷◌, sym, ◌∙◌, ap, subst, take, drop, length, get_or, List, arith, append_assoc}
-use Rattle.std.proofs.lemmas.List.{length-map, length-append, length-take, length-drop, take-append-drop, take_all}
+use Rattle.std.proofs.Common.{◌≡◌, ◌≤◌, ◌<◌, inl, inr, ◌+◌, ◌-◌, ◌*◌, ◌/◌, ◌^◌, ◌++◌, [], ◌∷◌, refl, sym, ◌∙◌, ap, subst, take, drop, length, List, arith, append_assoc}
+use Rattle.std.proofs.lemmas.List.{length-append, length-take, length-drop, take-append-drop, take_all}
 use Rattle.block_id.specs.declared.id.BlockId.{BlockId}
-use Rattle.outcome.specs.Outcome.{first_, idle, then_, failed_, answered, passed}
+use Rattle.outcome.specs.Outcome.{first_, idle, answered, passed}
 use Rattle.data_nodes.specs.Layout.{node_of, ids_of, leaf, inner, fan_out, FitsPayload}
 use Rattle.store_api.specs.Overlay.{steady_over, changed_over}
 use Rattle.data_tree.specs.Needs.{HasBelow, HasTrees}
 use Rattle.data_tree.specs.Trees.{span, depth_in}
 use Rattle.data_tree.proofs.Loads.{store_in, changes_in, tx_holdings, tx_laws}
-use Rattle.data_tree.proofs.Forests.{below_on, below_of, children_of, leaf_is}
-use Rattle.data_tree.proofs.Gathering.{last_child}
+use Rattle.data_tree.proofs.Forests.{children_of, leaf_is, stays-then}
 use Rattle.data_tree.proofs.Levels.{span-some}
-use Rattle.data_tree.proofs.Puts.{keeps_below, keeps_same}
+use Rattle.data_tree.proofs.Puts.{below_then, keeps_below, keeps_same, memory_after, memory_first, unforged_on}
 use Rattle.tree_growing.specs.Growing.{Grown, GrownTrees}
-use Rattle.data_tree.specs.Border.{OnBorder}
-use Rattle.tree_growing.proofs.Borders.{border_inner, border_last, inner_only, put_only, then_only}
-use Rattle.data_tree.proofs.Borders.{border_top}
-use Rattle.tree_growing.proofs.Growth.{split_of, split_tree, grown_trees, grown_leaf_is, grown_inner_is, filled, taken}
+use Rattle.tree_growing.proofs.Borders.{border_inner, inner_only, put_last, then_only}
+use Rattle.tree_growing.proofs.Growth.{last_id, last_alone, last_then, split_of, split_tree, grown_trees, grown_leaf_is, grown_inner_is, filled, taken}
 use Rattle.tree_growing.proofs.growing.+grow.Goals as goal
 
 pub grown_node-returns-in-Ok-clause-outcome : goal.grown_node-returns-in-Ok-clause-outcome
@@ -34,6 +31,9 @@ grown_node-returns-in-Ok-clause-outcome g t c =
       subst (λ x. Grown H a a c.args.level.depth x (n.bytes ++ take c.in-Ok.grown.1 c.args.bytes.now) n.ids) (sym c.in-Ok.ensures.node) (grown_leaf_is node old (take c.in-Ok.grown.1 c.args.bytes.now) leaf_at n is),
       λ less. omega (arith, c.in-Ok.ensures.used, ap length is, less, room, fits),
     ))
+
+pub grown_node-returns-in-Err-clause-outcome : goal.grown_node-returns-in-Err-clause-outcome
+grown_node-returns-in-Err-clause-outcome g t c = memory_first g.S.Blocks.meanings g.S.Blocks.holdings g.met.S.Blocks.lawful c.args.tx.now c.args.tx.now c.requires.intact refl c.requires.intact
 
 pub grown_node-returns-in-Ok-grown_inner-clause-outcome : goal.grown_node-returns-in-Ok-grown_inner-clause-outcome
 grown_node-returns-in-Ok-grown_inner-clause-outcome g t c =
@@ -82,32 +82,38 @@ grown_inner-returns-in-Err-clause-outcome g t c =
     let H = tx_holdings g.S.Blocks.holdings in
     let steady = steady_over store_in changes_in g.S.Blocks.meanings g.S.Blocks.holdings g.met.S.Blocks.steady in
     let a = c.args.tx.now in
-    let low = c.args.level.depth in
     let children = c.args.children.now in
-    let i = length children - 1 in
-    let last : BlockId = get_or children i (record { 0 = [] }) in
-    let whole : i + 1 ≡ length children = omega (arith, c.requires.some) in
-    let lt : i < length (ids_of children) = omega (arith, whole, length-map children (λ (x : BlockId). x.0)) in
-    let is = last_child children i (record { 0 = [] }) whole in
-    let positive = span-some (H.payload a) low (steady.at_least a c.requires.intact) in
-    passed (first_ {N = HasTrees H a low (ids_of children)} {R = λ _ _. Unit {0}} (λ n. split_tree n (split_of {H = H} {a = a} i last.0 positive lt is n)) c.in-Err.ensures.outcome (λ _ _ _. tt))
+    passed (first_ {N = HasTrees H a c.args.level.depth (ids_of children)} {R = λ _ _. Unit {0}} (λ n. split_tree n (split_of {H = H} {a = a} children c.requires.some (steady.at_least a c.requires.intact) n)) c.in-Err.ensures.outcome (λ _ _ _. tt))
 
 pub grown_inner-returns-in-Err-grown_node-clause-outcome : goal.grown_inner-returns-in-Err-grown_node-clause-outcome
 grown_inner-returns-in-Err-grown_node-clause-outcome g t c =
-    let H = tx_holdings g.S.Blocks.holdings in
-    let laws = tx_laws g.S.Blocks.meanings g.S.Blocks.holdings g.met.S.Blocks.lawful in
-    let steady = steady_over store_in changes_in g.S.Blocks.meanings g.S.Blocks.holdings g.met.S.Blocks.steady in
+    let M = g.S.Blocks.meanings in
+    let H0 = g.S.Blocks.holdings in
+    let laws = tx_laws M H0 g.met.S.Blocks.lawful in
+    let steady = steady_over store_in changes_in M H0 g.met.S.Blocks.steady in
     let a = c.args.tx.now in
-    let low = c.args.level.depth in
-    let children = c.args.children.now in
-    let i = length children - 1 in
-    let last : BlockId = get_or children i (record { 0 = [] }) in
-    let whole : i + 1 ≡ length children = omega (arith, c.requires.some) in
-    let lt : i < length (ids_of children) = omega (arith, whole, length-map children (λ (x : BlockId). x.0)) in
-    let is = last_child children i (record { 0 = [] }) whole in
-    let positive = span-some (H.payload a) low (steady.at_least a c.requires.intact) in
-    let one = first_ {N = HasTrees H a low (ids_of children)} {R = λ n y. node_of y ≡ (split_of {H = H} {a = a} i last.0 positive lt is n).tree.node} (λ n. split_tree n (split_of {H = H} {a = a} i last.0 positive lt is n)) c.in-Ok.ensures.outcome (λ n y h. h) in
-    failed_ laws one (λ n p. below_on c.load_at.ensures.stays (below_of (node_of c.in-Ok.child) (split_tree n (split_of {H = H} {a = a} i last.0 positive lt is n)) p)) c.in-Err-grown_node.ensures.outcome
+    let d = c.grown_node.new.tx in
+    passed (last_then M H0 laws a c.load_at.new.tx d c.args.children.now c.requires.some (steady.at_least a c.requires.intact) c.in-Ok.ensures.outcome c.load_at.ensures.stays c.in-Err-grown_node.ensures.outcome)
+
+pub grown_inner-returns-in-Err-put_node-clause-outcome : goal.grown_inner-returns-in-Err-put_node-clause-outcome
+grown_inner-returns-in-Err-put_node-clause-outcome g t c =
+    let M = g.S.Blocks.meanings in
+    let H0 = g.S.Blocks.holdings in
+    let laws = tx_laws M H0 g.met.S.Blocks.lawful in
+    let steady = steady_over store_in changes_in M H0 g.met.S.Blocks.steady in
+    let a = c.args.tx.now in
+    let d = c.grown_node.new.tx in
+    memory_after M H0 a d c.put_node.new.tx c.put_node.ensures.store c.put_node.ensures.intact (last_then M H0 laws a c.load_at.new.tx d c.args.children.now c.requires.some (steady.at_least a c.requires.intact) c.in-Ok.ensures.outcome c.load_at.ensures.stays c.in-Ok-grown_node.ensures.outcome)
+
+pub grown_inner-returns-clause-outcome : goal.grown_inner-returns-clause-outcome
+grown_inner-returns-clause-outcome g t c =
+    let M = g.S.Blocks.meanings in
+    let H0 = g.S.Blocks.holdings in
+    let laws = tx_laws M H0 g.met.S.Blocks.lawful in
+    let steady = steady_over store_in changes_in M H0 g.met.S.Blocks.steady in
+    let a = c.args.tx.now in
+    let d = c.grown_node.new.tx in
+    memory_after M H0 a d c.grown_children.new.tx (c.grown_children.ensures.store ∙ c.put_node.ensures.store) c.grown_children.ensures.intact (last_then M H0 laws a c.load_at.new.tx d c.args.children.now c.requires.some (steady.at_least a c.requires.intact) c.in-Ok.ensures.outcome c.load_at.ensures.stays c.in-Ok-grown_node.ensures.outcome)
 
 pub grown_inner-returns-in-Ok-grown_children-clause-outcome : goal.grown_inner-returns-in-Ok-grown_children-clause-outcome
 grown_inner-returns-in-Ok-grown_children-clause-outcome g t c =
@@ -129,11 +135,9 @@ grown_inner-returns-in-Ok-grown_children-clause-outcome g t c =
     let more = c.in-Ok-grown_children.more in
     let node = node_of c.in-Ok-grown_node.grown.0 in
     let i = length children - 1 in
-    let last : BlockId = get_or children i (record { 0 = [] }) in
-    let whole : i + 1 ≡ length children = omega (arith, c.requires.some) in
-    let lt : i < length (ids_of children) = omega (arith, whole, length-map children (λ (x : BlockId). x.0)) in
-    let is = last_child children i (record { 0 = [] }) whole in
-    let positive = span-some (H.payload a) low (steady.at_least a c.requires.intact) in
+    let last = last_id children in
+    let at = last_alone children c.requires.some in
+    let least = steady.at_least a c.requires.intact in
     let built = c.in-Ok-grown_children.ensures.built in
     let fits : used ≤ length bytes = c.in-Ok-grown_node.ensures.used in
     let rest : take (length bytes - used) (drop used bytes) ≡ drop used bytes = take_all (length bytes - used) (drop used bytes) (omega (arith, length-drop used bytes)) in
@@ -141,19 +145,17 @@ grown_inner-returns-in-Ok-grown_children-clause-outcome g t c =
     let t1 = take used bytes in
     let t2 = take more (take (length bytes - used) (drop used bytes)) in
     let sum : t1 ++ t2 ≡ take (used + more) bytes = ap (λ xs. t1 ++ take more xs) rest ∙ sym (taken used more bytes fits) in
-    let listed : ids_of c.in-Ok-grown_children.all.items ≡ take i (ids_of children) ++ last.0 ∷ built.0 =
-    built.1.0 ∙ ap (λ xs. xs ++ built.0) (sym (take-append-drop i (ids_of children)) ∙ ap (λ xs. take i (ids_of children) ++ xs) is) ∙ append_assoc (take i (ids_of children)) (last.0 ∷ []) built.0 in
-    let one = first_ {N = HasTrees H a low (ids_of children)} {R = λ n y. node_of y ≡ (split_of {H = H} {a = a} i last.0 positive lt is n).tree.node} (λ n. split_tree n (split_of {H = H} {a = a} i last.0 positive lt is n)) c.in-Ok.ensures.outcome (λ n y h. h) in
-    let two = then_ laws {R = λ n x. Grown H b d low (node_of x.0) ((split_of {H = H} {a = a} i last.0 positive lt is n).w2 ++ take x.1 bytes) (split_of {H = H} {a = a} i last.0 positive lt is n).tree.below × (x.1 < length bytes → length (split_of {H = H} {a = a} i last.0 positive lt is n).w2 + x.1 ≡ room)} one
-    (λ n p. below_on c.load_at.ensures.stays (below_of (node_of c.in-Ok.child) (split_tree n (split_of {H = H} {a = a} i last.0 positive lt is n)) p)) c.in-Ok-grown_node.ensures.outcome (λ n p y h. h) in
+    let listed : ids_of c.in-Ok-grown_children.all.items ≡ take i (ids_of children) ++ last ∷ built.0 =
+    built.1.0 ∙ ap (λ xs. xs ++ built.0) (sym (take-append-drop i (ids_of children)) ∙ ap (λ xs. take i (ids_of children) ++ xs) at.1) ∙ append_assoc (take i (ids_of children)) (last ∷ []) built.0 in
+    let two = last_then M H0 laws a b d children c.requires.some least c.in-Ok.ensures.outcome c.load_at.ensures.stays c.in-Ok-grown_node.ensures.outcome in
     changed_over store_in changes_in M H0 a d f (c.grown_children.ensures.store ∙ c.put_node.ensures.store) c.grown_children.ensures.intact two (λ n p.
-    let s = split_of {H = H} {a = a} i last.0 positive lt is n in
+    let s = split_of {H = H} {a = a} children c.requires.some least n in
     let w2_len : length (s.w2 ++ t1) ≡ length s.w2 + used = omega (arith, length-append s.w2 t1, length-take used bytes, fits) in (
       subst (λ w. GrownTrees H a f low (ids_of c.in-Ok-grown_children.all.items) (n.bytes ++ w) n.ids) sum
-          (grown_trees (ids_of c.in-Ok-grown_children.all.items) built.0 node t1 t2 n s listed c.load_at.ensures.stays (keeps_below H0 b d c.grown_node.ensures.below) (keeps_same H0 d e c.put_node.ensures.store) (keeps_same H0 e f c.grown_children.ensures.store) p.0
-          c.in-Ok-put_node.ensures.sets (λ some. w2_len ∙ p.1 (omega (arith, some, length-take more (take (length bytes - used) (drop used bytes)), rest_len)) ∙ c.requires.level) built.1.1),
-      λ less. filled i (length children) ((c.payload.result - 8) / 16 - length children) (fan_out (H.payload a)) room (length s.w1) (length s.w2 + used) more (length n.bytes + (used + more)) whole (omega (arith, c.payload.ensures, c.requires.few))
-          (s.full ∙ ap (λ k. k * span (H.payload a) low) (let l : length (take i (ids_of children)) ≡ i = omega (arith, length-take i (ids_of children), lt) in l) ∙ ap (λ k. i * k) (sym c.requires.level)) (p.1 (omega (arith, less)))
+          (grown_trees (ids_of c.in-Ok-grown_children.all.items) built.0 node t1 t2 n s listed c.load_at.ensures.stays (keeps_below H0 b d c.grown_node.ensures.below) (keeps_same H0 d e c.put_node.ensures.store) (keeps_same H0 e f c.grown_children.ensures.store) p.1.0
+          c.in-Ok-put_node.ensures.sets (λ some. w2_len ∙ p.1.1 (omega (arith, some, length-take more (take (length bytes - used) (drop used bytes)), rest_len)) ∙ c.requires.level) built.1.1),
+      λ less. filled i (length children) ((c.payload.result - 8) / 16 - length children) (fan_out (H.payload a)) room (length s.w1) (length s.w2 + used) more (length n.bytes + (used + more)) (omega (arith, c.requires.some)) (omega (arith, c.payload.ensures, c.requires.few))
+          (s.full ∙ ap (λ k. k * span (H.payload a) low) (let l : length (take i (ids_of children)) ≡ i = omega (arith, length-take i (ids_of children), at.0) in l) ∙ ap (λ k. i * k) (sym c.requires.level)) (p.1.1 (omega (arith, less)))
           (omega (arith, c.in-Ok-grown_children.ensures.used, less, rest_len)) (omega (arith, ap length s.bytes, length-append s.w1 s.w2)),
     ))
 
@@ -161,98 +163,58 @@ pub grown_inner-returns-in-Err-grown_node-clause-only : goal.grown_inner-returns
 grown_inner-returns-in-Err-grown_node-clause-only g t c n s h q there =
     let M = g.S.Blocks.meanings in
     let H0 = g.S.Blocks.holdings in
-    let H = tx_holdings H0 in
     let laws = tx_laws M H0 g.met.S.Blocks.lawful in
     let steady = steady_over store_in changes_in M H0 g.met.S.Blocks.steady in
     let a = c.args.tx.now in
-    let b = c.load_at.new.tx in
     let d = c.grown_node.new.tx in
-    let low = c.args.level.depth in
-    let children = c.args.children.now in
-    let i = length children - 1 in
-    let last : BlockId = get_or children i (record { 0 = [] }) in
-    let whole : i + 1 ≡ length children = omega (arith, c.requires.some) in
-    let lt : i < length (ids_of children) = omega (arith, whole, length-map children (λ (x : BlockId). x.0)) in
-    let is = last_child children i (record { 0 = [] }) whole in
-    let positive = span-some (H.payload a) low (steady.at_least a c.requires.intact) in
-    inner_only M H0 laws a b d {children = ids_of children} i last.0 positive lt is c.in-Ok.ensures.outcome c.load_at.ensures.stays c.load_at.ensures.overlay c.grown_node.ensures.outcome.loaded c.grown_node.ensures.only n s h q there
-
-pub grown_inner-returns-in-Ok-grown_children-clause-only : goal.grown_inner-returns-in-Ok-grown_children-clause-only
-grown_inner-returns-in-Ok-grown_children-clause-only g t c n s h q there =
-    let M = g.S.Blocks.meanings in
-    let H0 = g.S.Blocks.holdings in
-    let H = tx_holdings H0 in
-    let laws = tx_laws M H0 g.met.S.Blocks.lawful in
-    let steady = steady_over store_in changes_in M H0 g.met.S.Blocks.steady in
-    let a = c.args.tx.now in
-    let b = c.load_at.new.tx in
-    let d = c.grown_node.new.tx in
-    let low = c.args.level.depth in
-    let children = c.args.children.now in
-    let i = length children - 1 in
-    let last : BlockId = get_or children i (record { 0 = [] }) in
-    let whole : i + 1 ≡ length children = omega (arith, c.requires.some) in
-    let lt : i < length (ids_of children) = omega (arith, whole, length-map children (λ (x : BlockId). x.0)) in
-    let is = last_child children i (record { 0 = [] }) whole in
-    let positive = span-some (H.payload a) low (steady.at_least a c.requires.intact) in
-    let e = c.put_node.new.tx in
-    let f = c.grown_children.new.tx in
-    let A = H.content a in
-    let still : M.forgeries d.store ≤ M.forgeries a.store = subst (λ x. M.forgeries x ≤ M.forgeries a.store) (c.grown_children.ensures.store ∙ c.put_node.ensures.store) h in
-    let one = inner_only M H0 laws a b d {children = ids_of children} i last.0 positive lt is c.in-Ok.ensures.outcome c.load_at.ensures.stays c.load_at.ensures.overlay c.grown_node.ensures.outcome.loaded c.grown_node.ensures.only n s still q there in
-    let two = put_only a.overlay d.overlay e.overlay last.0 q (c.put_node.ensures.others q) (λ same. border_last A low i (ids_of children) last.0 q is (subst (λ x. OnBorder A low last.0 x) (sym same) (border_top A low last.0))) one in
-    then_only a.overlay e.overlay f.overlay q (c.grown_children.ensures.kept q (c.put_node.ensures.there q (c.grown_node.ensures.there q (c.load_at.ensures.stays.ids q ∙ there)))) two
-
-pub grown_inner-returns-clause-only : goal.grown_inner-returns-clause-only
-grown_inner-returns-clause-only g t c n s h q there =
-    let M = g.S.Blocks.meanings in
-    let H0 = g.S.Blocks.holdings in
-    let H = tx_holdings H0 in
-    let laws = tx_laws M H0 g.met.S.Blocks.lawful in
-    let steady = steady_over store_in changes_in M H0 g.met.S.Blocks.steady in
-    let a = c.args.tx.now in
-    let b = c.load_at.new.tx in
-    let d = c.grown_node.new.tx in
-    let low = c.args.level.depth in
-    let children = c.args.children.now in
-    let i = length children - 1 in
-    let last : BlockId = get_or children i (record { 0 = [] }) in
-    let whole : i + 1 ≡ length children = omega (arith, c.requires.some) in
-    let lt : i < length (ids_of children) = omega (arith, whole, length-map children (λ (x : BlockId). x.0)) in
-    let is = last_child children i (record { 0 = [] }) whole in
-    let positive = span-some (H.payload a) low (steady.at_least a c.requires.intact) in
-    let e = c.put_node.new.tx in
-    let f = c.grown_children.new.tx in
-    let A = H.content a in
-    let still : M.forgeries d.store ≤ M.forgeries a.store = subst (λ x. M.forgeries x ≤ M.forgeries a.store) (c.grown_children.ensures.store ∙ c.put_node.ensures.store) h in
-    let one = inner_only M H0 laws a b d {children = ids_of children} i last.0 positive lt is c.in-Ok.ensures.outcome c.load_at.ensures.stays c.load_at.ensures.overlay c.grown_node.ensures.outcome.loaded c.grown_node.ensures.only n s still q there in
-    let two = put_only a.overlay d.overlay e.overlay last.0 q (c.put_node.ensures.others q) (λ same. border_last A low i (ids_of children) last.0 q is (subst (λ x. OnBorder A low last.0 x) (sym same) (border_top A low last.0))) one in
-    then_only a.overlay e.overlay f.overlay q (c.grown_children.ensures.kept q (c.put_node.ensures.there q (c.grown_node.ensures.there q (c.load_at.ensures.stays.ids q ∙ there)))) two
+    inner_only M H0 laws a c.load_at.new.tx d c.args.children.now c.requires.some (steady.at_least a c.requires.intact) c.in-Ok.ensures.outcome c.load_at.ensures.stays c.load_at.ensures.overlay c.grown_node.ensures.outcome.loaded c.grown_node.ensures.only n s h q there
 
 pub grown_inner-returns-in-Err-put_node-clause-only : goal.grown_inner-returns-in-Err-put_node-clause-only
 grown_inner-returns-in-Err-put_node-clause-only g t c n s h q there =
     let M = g.S.Blocks.meanings in
     let H0 = g.S.Blocks.holdings in
-    let H = tx_holdings H0 in
     let laws = tx_laws M H0 g.met.S.Blocks.lawful in
     let steady = steady_over store_in changes_in M H0 g.met.S.Blocks.steady in
     let a = c.args.tx.now in
-    let b = c.load_at.new.tx in
     let d = c.grown_node.new.tx in
-    let low = c.args.level.depth in
-    let children = c.args.children.now in
-    let i = length children - 1 in
-    let last : BlockId = get_or children i (record { 0 = [] }) in
-    let whole : i + 1 ≡ length children = omega (arith, c.requires.some) in
-    let lt : i < length (ids_of children) = omega (arith, whole, length-map children (λ (x : BlockId). x.0)) in
-    let is = last_child children i (record { 0 = [] }) whole in
-    let positive = span-some (H.payload a) low (steady.at_least a c.requires.intact) in
-    let e = c.put_node.new.tx in
-    let A = H.content a in
-    let still : M.forgeries d.store ≤ M.forgeries a.store = subst (λ x. M.forgeries x ≤ M.forgeries a.store) (c.put_node.ensures.store) h in
-    let one = inner_only M H0 laws a b d {children = ids_of children} i last.0 positive lt is c.in-Ok.ensures.outcome c.load_at.ensures.stays c.load_at.ensures.overlay c.grown_node.ensures.outcome.loaded c.grown_node.ensures.only n s still q there in
-    let two = put_only a.overlay d.overlay e.overlay last.0 q (c.put_node.ensures.others q) (λ same. border_last A low i (ids_of children) last.0 q is (subst (λ x. OnBorder A low last.0 x) (sym same) (border_top A low last.0))) one in
-    two
+    let one = inner_only M H0 laws a c.load_at.new.tx d c.args.children.now c.requires.some (steady.at_least a c.requires.intact) c.in-Ok.ensures.outcome c.load_at.ensures.stays c.load_at.ensures.overlay c.grown_node.ensures.outcome.loaded c.grown_node.ensures.only n s (unforged_on M a d c.put_node.new.tx c.put_node.ensures.store h) q there in
+    put_last H0 a d c.put_node.new.tx c.args.level.depth c.args.children.now c.requires.some q (c.put_node.ensures.others q) (one)
+
+pub grown_inner-returns-in-Ok-grown_children-clause-only : goal.grown_inner-returns-in-Ok-grown_children-clause-only
+grown_inner-returns-in-Ok-grown_children-clause-only g t c n s h q there =
+    let M = g.S.Blocks.meanings in
+    let H0 = g.S.Blocks.holdings in
+    let laws = tx_laws M H0 g.met.S.Blocks.lawful in
+    let steady = steady_over store_in changes_in M H0 g.met.S.Blocks.steady in
+    let a = c.args.tx.now in
+    let d = c.grown_node.new.tx in
+    let f = c.grown_children.new.tx in
+    let one = inner_only M H0 laws a c.load_at.new.tx d c.args.children.now c.requires.some (steady.at_least a c.requires.intact) c.in-Ok.ensures.outcome c.load_at.ensures.stays c.load_at.ensures.overlay c.grown_node.ensures.outcome.loaded c.grown_node.ensures.only n s (unforged_on M a d f (c.grown_children.ensures.store ∙ c.put_node.ensures.store) h) q there in
+    then_only a.overlay c.put_node.new.tx.overlay f.overlay q (c.grown_children.ensures.kept q (c.put_node.ensures.there q (c.grown_node.ensures.there q (c.load_at.ensures.stays.ids q ∙ there)))) (put_last H0 a d c.put_node.new.tx c.args.level.depth c.args.children.now c.requires.some q (c.put_node.ensures.others q) (one))
+
+pub grown_inner-returns-clause-only : goal.grown_inner-returns-clause-only
+grown_inner-returns-clause-only g t c n s h q there =
+    let M = g.S.Blocks.meanings in
+    let H0 = g.S.Blocks.holdings in
+    let laws = tx_laws M H0 g.met.S.Blocks.lawful in
+    let steady = steady_over store_in changes_in M H0 g.met.S.Blocks.steady in
+    let a = c.args.tx.now in
+    let d = c.grown_node.new.tx in
+    let f = c.grown_children.new.tx in
+    let one = inner_only M H0 laws a c.load_at.new.tx d c.args.children.now c.requires.some (steady.at_least a c.requires.intact) c.in-Ok.ensures.outcome c.load_at.ensures.stays c.load_at.ensures.overlay c.grown_node.ensures.outcome.loaded c.grown_node.ensures.only n s (unforged_on M a d f (c.grown_children.ensures.store ∙ c.put_node.ensures.store) h) q there in
+    then_only a.overlay c.put_node.new.tx.overlay f.overlay q (c.grown_children.ensures.kept q (c.put_node.ensures.there q (c.grown_node.ensures.there q (c.load_at.ensures.stays.ids q ∙ there)))) (put_last H0 a d c.put_node.new.tx c.args.level.depth c.args.children.now c.requires.some q (c.put_node.ensures.others q) (one))
+
+pub grown_inner-returns-in-Err-grown_node-clause-below : goal.grown_inner-returns-in-Err-grown_node-clause-below
+grown_inner-returns-in-Err-grown_node-clause-below g t c = stays-then c.load_at.ensures.below c.grown_node.ensures.below
+
+pub grown_inner-returns-in-Err-put_node-clause-below : goal.grown_inner-returns-in-Err-put_node-clause-below
+grown_inner-returns-in-Err-put_node-clause-below g t c = below_then g.S.Blocks.holdings c.args.tx.now c.grown_node.new.tx c.put_node.new.tx (stays-then c.load_at.ensures.below c.grown_node.ensures.below) c.put_node.ensures.store
+
+pub grown_inner-returns-in-Ok-grown_children-clause-below : goal.grown_inner-returns-in-Ok-grown_children-clause-below
+grown_inner-returns-in-Ok-grown_children-clause-below g t c = below_then g.S.Blocks.holdings c.args.tx.now c.grown_node.new.tx c.grown_children.new.tx (stays-then c.load_at.ensures.below c.grown_node.ensures.below) (c.grown_children.ensures.store ∙ c.put_node.ensures.store)
+
+pub grown_inner-returns-clause-below : goal.grown_inner-returns-clause-below
+grown_inner-returns-clause-below g t c = below_then g.S.Blocks.holdings c.args.tx.now c.grown_node.new.tx c.grown_children.new.tx (stays-then c.load_at.ensures.below c.grown_node.ensures.below) (c.grown_children.ensures.store ∙ c.put_node.ensures.store)
 
 pub grown_node-returns-in-Ok-grown_inner-clause-only : goal.grown_node-returns-in-Ok-grown_inner-clause-only
 grown_node-returns-in-Ok-grown_inner-clause-only g t c n s h q there =

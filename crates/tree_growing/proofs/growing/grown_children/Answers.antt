@@ -1,7 +1,8 @@
-use Rattle.std.proofs.Common.{◌≤◌, ◌*◌, length, take, arith}
-use Rattle.std.proofs.lemmas.List.{length-take}
+use Rattle.std.proofs.Common.{◌≡◌, ◌≤◌, ◌*◌, ◌++◌, ◌∙◌, ap, length, take, arith}
+use Rattle.std.proofs.lemmas.List.{length-take, map-append}
 use Rattle.std.proofs.Math.Nat.{mul-le-mul_right}
-use Rattle.data_nodes.specs.Layout.{fan_out}
+use Rattle.block_id.specs.declared.id.BlockId.{BlockId}
+use Rattle.data_nodes.specs.Layout.{fan_out, ids_of}
 use Rattle.data_tree.proofs.Counting.{count_few}
 use Rattle.tree_growing.proofs.growing.grown_children.Goals as goal
 
@@ -26,3 +27,11 @@ returns-clause-few g c =
     let used : length taken ≤ c.args.places * c.args.level.room = omega (arith, length-take c.min-used.result c.args.bytes.now, c.min-used.ensures) in
     let fewer : length new ≤ c.args.places = count_few (length new) c.args.level.room (length taken) c.args.places c.in_ok-new.ensures.under used in
     omega (arith, fewer, c.requires.places, c.in_ok-extend_from_slice-2.ensures.len, c.in_ok-extend_from_slice.ensures.len, c.in_ok-all.ensures.len, c.deref.ensures.len)
+
+pub returns-clause-built : goal.returns-clause-built
+returns-clause-built g c =
+    let children = c.args.children.now in
+    let new = c.in_ok-new.new.items in
+    let all : c.extend_from_slice-2.new.self.items ≡ children ++ new =
+    c.in_ok-extend_from_slice-2.ensures.items ∙ ap (λ xs. xs ++ c.deref.result.now) (c.in_ok-extend_from_slice.ensures.items ∙ ap (λ xs. xs ++ children) c.in_ok-all.ensures.items) ∙ ap (λ xs. children ++ xs) c.deref.ensures.value in
+    (ids_of new, (ap ids_of all ∙ map-append (λ (x : BlockId). x.0) children new, c.in_ok-new.ensures.built))

@@ -1,20 +1,18 @@
-use Rattle.std.proofs.Common.{◌≡◌, ◌≤◌, ◌<◌, ◌+◌, ◌-◌, ◌++◌, sym, ◌∙◌, ap, subst, take, drop, length, true, arith}
+use Rattle.std.proofs.Common.{◌≡◌, ◌≤◌, ◌-◌, ◌++◌, sym, ◌∙◌, ap, subst, take, drop, length, true, arith}
 use Rattle.std.proofs.lemmas.List.{take_all, length-drop}
-use Rattle.outcome.specs.Outcome.{first_, then_, failed_, no_memory, unbuilt, passed}
+use Rattle.outcome.specs.Outcome.{first_, unbuilt, passed}
 use Rattle.data_nodes.specs.Layout.{node_of}
 use Rattle.store_api.specs.Overlay.{changed_over}
 use Rattle.data_tree.specs.Trees.{IsDepth, span}
 use Rattle.data_tree.proofs.Changes.{keeps-then}
 use Rattle.data_tree.proofs.Loads.{store_in, changes_in, tx_holdings, tx_laws}
-use Rattle.data_tree.proofs.Forests.{below_on, below_root}
-use Rattle.data_tree.proofs.Puts.{changed_, keeps_below, keeps_same}
-use Rattle.data_tree.specs.Border.{OnBorder}
-use Rattle.tree_growing.specs.Growing.{Grown, Raised}
+use Rattle.data_tree.proofs.Puts.{keeps_below, keeps_same, memory_after, unforged_on}
+use Rattle.tree_growing.specs.Growing.{Raised}
 use Rattle.tree_ranges.specs.Ranges.{GrowsTo}
 use Rattle.data_tree.proofs.Borders.{border_top}
 use Rattle.tree_growing.proofs.Borders.{put_only, then_only}
 use Rattle.tree_ranges.proofs.Borders.{root_only}
-use Rattle.tree_ranges.proofs.Roots.{root_grown, then_raised}
+use Rattle.tree_ranges.proofs.Roots.{root_then, root_grown, then_raised}
 use Rattle.tree_ranges.proofs.Inside.{root_depth}
 use Rattle.tree_ranges.proofs.over.append.Goals as goal
 
@@ -24,12 +22,30 @@ returns-in-Err-clause-outcome g c =
 
 pub returns-in-Err-grown_node-clause-outcome : goal.returns-in-Err-grown_node-clause-outcome
 returns-in-Err-grown_node-clause-outcome g c =
-    let H = tx_holdings g.S.Blocks.holdings in
-    let laws = tx_laws g.S.Blocks.meanings g.S.Blocks.holdings g.met.S.Blocks.lawful in
+    let M = g.S.Blocks.meanings in
+    let H0 = g.S.Blocks.holdings in
+    let laws = tx_laws M H0 g.met.S.Blocks.lawful in
     let a = c.args.tx.now in
-    let node = node_of c.in-Ok.found.0 in
-    let one = first_ {N = GrowsTo H a c.args.root.now.0 (length c.args.tail.now) c.args.n} {R = λ n y. (H.told a ≡ true) × (node_of y.0 ≡ n.tree.tree.node)} (λ n. n.tree) c.in-Ok.ensures.outcome (λ n y h. h) in
-    failed_ laws one (λ n p. below_on c.load_root.ensures.stays (below_root node c.in-Ok.found.1.depth p.0 n.tree p.1 c.in-Ok.ensures.depth)) c.in-Err-grown_node.ensures.outcome
+    let d = c.grown_node.new.tx in
+    passed (root_then M H0 laws a c.load_root.new.tx d c.in-Ok.ensures.outcome c.load_root.ensures.stays c.in-Ok.ensures.depth c.in-Err-grown_node.ensures.outcome)
+
+pub returns-in-Err-raised-clause-outcome : goal.returns-in-Err-raised-clause-outcome
+returns-in-Err-raised-clause-outcome g c =
+    let M = g.S.Blocks.meanings in
+    let H0 = g.S.Blocks.holdings in
+    let laws = tx_laws M H0 g.met.S.Blocks.lawful in
+    let a = c.args.tx.now in
+    let d = c.grown_node.new.tx in
+    memory_after M H0 a d c.raised.new.tx c.raised.ensures.store c.raised.ensures.intact (root_then M H0 laws a c.load_root.new.tx d c.in-Ok.ensures.outcome c.load_root.ensures.stays c.in-Ok.ensures.depth c.in-Ok-grown_node.ensures.outcome)
+
+pub returns-clause-outcome : goal.returns-clause-outcome
+returns-clause-outcome g c =
+    let M = g.S.Blocks.meanings in
+    let H0 = g.S.Blocks.holdings in
+    let laws = tx_laws M H0 g.met.S.Blocks.lawful in
+    let a = c.args.tx.now in
+    let d = c.grown_node.new.tx in
+    memory_after M H0 a d c.put_node.new.tx (c.put_node.ensures.store ∙ c.raised.ensures.store) c.put_node.ensures.intact (root_then M H0 laws a c.load_root.new.tx d c.in-Ok.ensures.outcome c.load_root.ensures.stays c.in-Ok.ensures.depth c.in-Ok-grown_node.ensures.outcome)
 
 pub returns-then-used-more-clause-outcome : goal.returns-then-used-more-clause-outcome
 returns-then-used-more-clause-outcome g c =
@@ -50,38 +66,10 @@ returns-then-used-more-clause-outcome g c =
     let rest = take (length tail - used) (drop used tail) in
     let fits : used ≤ length tail = c.in-Ok-grown_node.ensures.used in
     let cut : rest ≡ drop used tail = take_all (length tail - used) (drop used tail) (omega (arith, length-drop used tail)) in
-    let one = first_ {N = GrowsTo H a root (length tail) c.args.n} {R = λ n y. (H.told a ≡ true) × (node_of y.0 ≡ n.tree.tree.node)} (λ n. n.tree) c.in-Ok.ensures.outcome (λ n y h. h) in
-    let two = then_ laws {R = λ n y. ((H.told a ≡ true) × (node ≡ n.tree.tree.node)) × (Grown H b d depth (node_of y.0) (n.tree.bytes ++ take y.1 tail) n.tree.tree.below × (y.1 < length tail → length n.tree.bytes + y.1 ≡ c.in-Ok.found.1.room))} one
-    (λ n p. below_on stays (below_root node depth p.0 n.tree p.1 c.in-Ok.ensures.depth)) c.in-Ok-grown_node.ensures.outcome (λ n p y h. (p, h)) in
+    let two = root_then M H0 laws a b d c.in-Ok.ensures.outcome stays c.in-Ok.ensures.depth c.in-Ok-grown_node.ensures.outcome in
     let three = changed_over store_in changes_in M H0 {y = c.in-Ok-raised.grown} {Q = λ n y. ((H.told a ≡ true) × (node ≡ n.tree.tree.node)) × (Raised H b e (node_of y.0) (n.tree.bytes ++ tail) n.tree.tree.below × (y.1 ≡ length rest))} a d e c.raised.ensures.store c.raised.ensures.intact two
     (λ n p. (p.0, then_raised depth tail rest used c.args.n stays p.0.0 n (root_depth node depth n.tree p.0.1 c.in-Ok.ensures.depth) cut fits (keeps_below H0 b d c.grown_node.ensures.below) c.in-Ok-grown_node.ensures.fits (λ less. p.1.1 less ∙ (c.in-Ok.ensures.room ∙ ap (λ k. span k depth) (sym stays.payload))) p.1.0 c.in-Ok-raised.ensures.raised)) in
     unbuilt laws three (λ n p. absurd (omega (arith, p.1.1, ap length cut, length-drop used tail, fits, c.if-used-more.true)))
-
-pub returns-clause-outcome : goal.returns-clause-outcome
-returns-clause-outcome g c =
-    let M = g.S.Blocks.meanings in
-    let H0 = g.S.Blocks.holdings in
-    let H = tx_holdings H0 in
-    let laws = tx_laws M H0 g.met.S.Blocks.lawful in
-    let a = c.args.tx.now in
-    let b = c.load_root.new.tx in
-    let d = c.grown_node.new.tx in
-    let e = c.raised.new.tx in
-    let tail = c.args.tail.now in
-    let root = c.args.root.now.0 in
-    let used = c.in-Ok-grown_node.grown.1 in
-    let node = node_of c.in-Ok.found.0 in
-    let depth = c.in-Ok.found.1.depth in
-    let stays = c.load_root.ensures.stays in
-    let rest = take (length tail - used) (drop used tail) in
-    let fits : used ≤ length tail = c.in-Ok-grown_node.ensures.used in
-    let cut : rest ≡ drop used tail = take_all (length tail - used) (drop used tail) (omega (arith, length-drop used tail)) in
-    let one = first_ {N = GrowsTo H a root (length tail) c.args.n} {R = λ n y. (H.told a ≡ true) × (node_of y.0 ≡ n.tree.tree.node)} (λ n. n.tree) c.in-Ok.ensures.outcome (λ n y h. h) in
-    let two = then_ laws {R = λ n y. ((H.told a ≡ true) × (node ≡ n.tree.tree.node)) × (Grown H b d depth (node_of y.0) (n.tree.bytes ++ take y.1 tail) n.tree.tree.below × (y.1 < length tail → length n.tree.bytes + y.1 ≡ c.in-Ok.found.1.room))} one
-    (λ n p. below_on stays (below_root node depth p.0 n.tree p.1 c.in-Ok.ensures.depth)) c.in-Ok-grown_node.ensures.outcome (λ n p y h. (p, h)) in
-    let three = changed_over store_in changes_in M H0 {y = c.in-Ok-raised.grown} {Q = λ n y. ((H.told a ≡ true) × (node ≡ n.tree.tree.node)) × (Raised H b e (node_of y.0) (n.tree.bytes ++ tail) n.tree.tree.below × (y.1 ≡ length rest))} a d e c.raised.ensures.store c.raised.ensures.intact two
-    (λ n p. (p.0, then_raised depth tail rest used c.args.n stays p.0.0 n (root_depth node depth n.tree p.0.1 c.in-Ok.ensures.depth) cut fits (keeps_below H0 b d c.grown_node.ensures.below) c.in-Ok-grown_node.ensures.fits (λ less. p.1.1 less ∙ (c.in-Ok.ensures.room ∙ ap (λ k. span k depth) (sym stays.payload))) p.1.0 c.in-Ok-raised.ensures.raised)) in
-    no_memory (changed_ M H0 {R = λ n. Unit {0}} a e c.put_node.new.tx c.put_node.ensures.store c.put_node.ensures.intact three (λ n p. tt))
 
 pub returns-in-Ok-put_node-clause-outcome : goal.returns-in-Ok-put_node-clause-outcome
 returns-in-Ok-put_node-clause-outcome g c =
@@ -102,9 +90,7 @@ returns-in-Ok-put_node-clause-outcome g c =
     let rest = take (length tail - used) (drop used tail) in
     let fits : used ≤ length tail = c.in-Ok-grown_node.ensures.used in
     let cut : rest ≡ drop used tail = take_all (length tail - used) (drop used tail) (omega (arith, length-drop used tail)) in
-    let one = first_ {N = GrowsTo H a root (length tail) c.args.n} {R = λ n y. (H.told a ≡ true) × (node_of y.0 ≡ n.tree.tree.node)} (λ n. n.tree) c.in-Ok.ensures.outcome (λ n y h. h) in
-    let two = then_ laws {R = λ n y. ((H.told a ≡ true) × (node ≡ n.tree.tree.node)) × (Grown H b d depth (node_of y.0) (n.tree.bytes ++ take y.1 tail) n.tree.tree.below × (y.1 < length tail → length n.tree.bytes + y.1 ≡ c.in-Ok.found.1.room))} one
-    (λ n p. below_on stays (below_root node depth p.0 n.tree p.1 c.in-Ok.ensures.depth)) c.in-Ok-grown_node.ensures.outcome (λ n p y h. (p, h)) in
+    let two = root_then M H0 laws a b d c.in-Ok.ensures.outcome stays c.in-Ok.ensures.depth c.in-Ok-grown_node.ensures.outcome in
     let three = changed_over store_in changes_in M H0 {y = c.in-Ok-raised.grown} {Q = λ n y. ((H.told a ≡ true) × (node ≡ n.tree.tree.node)) × (Raised H b e (node_of y.0) (n.tree.bytes ++ tail) n.tree.tree.below × (y.1 ≡ length rest))} a d e c.raised.ensures.store c.raised.ensures.intact two
     (λ n p. (p.0, then_raised depth tail rest used c.args.n stays p.0.0 n (root_depth node depth n.tree p.0.1 c.in-Ok.ensures.depth) cut fits (keeps_below H0 b d c.grown_node.ensures.below) c.in-Ok-grown_node.ensures.fits (λ less. p.1.1 less ∙ (c.in-Ok.ensures.room ∙ ap (λ k. span k depth) (sym stays.payload))) p.1.0 c.in-Ok-raised.ensures.raised)) in
     let f = c.put_node.new.tx in
@@ -118,73 +104,53 @@ pub returns-in-Err-grown_node-clause-only : goal.returns-in-Err-grown_node-claus
 returns-in-Err-grown_node-clause-only g c r s h q there =
     let M = g.S.Blocks.meanings in
     let H0 = g.S.Blocks.holdings in
-    let H = tx_holdings H0 in
     let laws = tx_laws M H0 g.met.S.Blocks.lawful in
     let a = c.args.tx.now in
-    let b = c.load_root.new.tx in
     let d = c.grown_node.new.tx in
-    let still : M.forgeries d.store ≤ M.forgeries a.store = h in
-    let one = root_only M H0 laws a b d c.in-Ok.found.1.depth c.in-Ok.ensures.depth c.in-Ok.ensures.outcome c.load_root.ensures.stays c.load_root.ensures.overlay c.grown_node.ensures.outcome.loaded c.grown_node.ensures.only r s still q there in
-    one
+    root_only M H0 laws a c.load_root.new.tx d c.in-Ok.found.1.depth c.in-Ok.ensures.depth c.in-Ok.ensures.outcome c.load_root.ensures.stays c.load_root.ensures.overlay c.grown_node.ensures.outcome.loaded c.grown_node.ensures.only r s h q there
 
 pub returns-in-Err-raised-clause-only : goal.returns-in-Err-raised-clause-only
 returns-in-Err-raised-clause-only g c r s h q there =
     let M = g.S.Blocks.meanings in
     let H0 = g.S.Blocks.holdings in
-    let H = tx_holdings H0 in
     let laws = tx_laws M H0 g.met.S.Blocks.lawful in
     let a = c.args.tx.now in
-    let b = c.load_root.new.tx in
     let d = c.grown_node.new.tx in
-    let still : M.forgeries d.store ≤ M.forgeries a.store = subst (λ x. M.forgeries x ≤ M.forgeries a.store) (c.raised.ensures.store) h in
-    let one = root_only M H0 laws a b d c.in-Ok.found.1.depth c.in-Ok.ensures.depth c.in-Ok.ensures.outcome c.load_root.ensures.stays c.load_root.ensures.overlay c.grown_node.ensures.outcome.loaded c.grown_node.ensures.only r s still q there in
     let e = c.raised.new.tx in
-    let two = then_only a.overlay d.overlay e.overlay q (c.raised.ensures.kept q (c.grown_node.ensures.there q (c.load_root.ensures.stays.ids q ∙ there))) one in
-    two
+    then_only a.overlay d.overlay e.overlay q (c.raised.ensures.kept q (c.grown_node.ensures.there q (c.load_root.ensures.stays.ids q ∙ there))) (root_only M H0 laws a c.load_root.new.tx d c.in-Ok.found.1.depth c.in-Ok.ensures.depth c.in-Ok.ensures.outcome c.load_root.ensures.stays c.load_root.ensures.overlay c.grown_node.ensures.outcome.loaded c.grown_node.ensures.only r s (unforged_on M a d e c.raised.ensures.store h) q there)
 
 pub returns-then-used-more-clause-only : goal.returns-then-used-more-clause-only
 returns-then-used-more-clause-only g c r s h q there =
     let M = g.S.Blocks.meanings in
     let H0 = g.S.Blocks.holdings in
-    let H = tx_holdings H0 in
     let laws = tx_laws M H0 g.met.S.Blocks.lawful in
     let a = c.args.tx.now in
-    let b = c.load_root.new.tx in
     let d = c.grown_node.new.tx in
-    let still : M.forgeries d.store ≤ M.forgeries a.store = subst (λ x. M.forgeries x ≤ M.forgeries a.store) (c.raised.ensures.store) h in
-    let one = root_only M H0 laws a b d c.in-Ok.found.1.depth c.in-Ok.ensures.depth c.in-Ok.ensures.outcome c.load_root.ensures.stays c.load_root.ensures.overlay c.grown_node.ensures.outcome.loaded c.grown_node.ensures.only r s still q there in
     let e = c.raised.new.tx in
-    let two = then_only a.overlay d.overlay e.overlay q (c.raised.ensures.kept q (c.grown_node.ensures.there q (c.load_root.ensures.stays.ids q ∙ there))) one in
-    two
+    then_only a.overlay d.overlay e.overlay q (c.raised.ensures.kept q (c.grown_node.ensures.there q (c.load_root.ensures.stays.ids q ∙ there))) (root_only M H0 laws a c.load_root.new.tx d c.in-Ok.found.1.depth c.in-Ok.ensures.depth c.in-Ok.ensures.outcome c.load_root.ensures.stays c.load_root.ensures.overlay c.grown_node.ensures.outcome.loaded c.grown_node.ensures.only r s (unforged_on M a d e c.raised.ensures.store h) q there)
 
 pub returns-in-Ok-put_node-clause-only : goal.returns-in-Ok-put_node-clause-only
 returns-in-Ok-put_node-clause-only g c r s h q there =
     let M = g.S.Blocks.meanings in
     let H0 = g.S.Blocks.holdings in
-    let H = tx_holdings H0 in
     let laws = tx_laws M H0 g.met.S.Blocks.lawful in
     let a = c.args.tx.now in
-    let b = c.load_root.new.tx in
     let d = c.grown_node.new.tx in
-    let still : M.forgeries d.store ≤ M.forgeries a.store = subst (λ x. M.forgeries x ≤ M.forgeries a.store) (c.put_node.ensures.store ∙ c.raised.ensures.store) h in
-    let one = root_only M H0 laws a b d c.in-Ok.found.1.depth c.in-Ok.ensures.depth c.in-Ok.ensures.outcome c.load_root.ensures.stays c.load_root.ensures.overlay c.grown_node.ensures.outcome.loaded c.grown_node.ensures.only r s still q there in
     let e = c.raised.new.tx in
-    let two = then_only a.overlay d.overlay e.overlay q (c.raised.ensures.kept q (c.grown_node.ensures.there q (c.load_root.ensures.stays.ids q ∙ there))) one in
     let f = c.put_node.new.tx in
-    put_only a.overlay e.overlay f.overlay c.args.root.now.0 q (c.put_node.ensures.others q) (λ same. subst (λ x. OnBorder (H.content a) r.depth c.args.root.now.0 x) (sym same) (border_top (H.content a) r.depth c.args.root.now.0)) two
+    let A = (tx_holdings H0).content a in
+    let two = then_only a.overlay d.overlay e.overlay q (c.raised.ensures.kept q (c.grown_node.ensures.there q (c.load_root.ensures.stays.ids q ∙ there))) (root_only M H0 laws a c.load_root.new.tx d c.in-Ok.found.1.depth c.in-Ok.ensures.depth c.in-Ok.ensures.outcome c.load_root.ensures.stays c.load_root.ensures.overlay c.grown_node.ensures.outcome.loaded c.grown_node.ensures.only r s (unforged_on M a d f (c.put_node.ensures.store ∙ c.raised.ensures.store) h) q there) in
+    put_only a.overlay e.overlay f.overlay c.args.root.now.0 q (c.put_node.ensures.others q) (border_top A r.depth c.args.root.now.0 q) two
 
 pub returns-clause-only : goal.returns-clause-only
 returns-clause-only g c r s h q there =
     let M = g.S.Blocks.meanings in
     let H0 = g.S.Blocks.holdings in
-    let H = tx_holdings H0 in
     let laws = tx_laws M H0 g.met.S.Blocks.lawful in
     let a = c.args.tx.now in
-    let b = c.load_root.new.tx in
     let d = c.grown_node.new.tx in
-    let still : M.forgeries d.store ≤ M.forgeries a.store = subst (λ x. M.forgeries x ≤ M.forgeries a.store) (c.put_node.ensures.store ∙ c.raised.ensures.store) h in
-    let one = root_only M H0 laws a b d c.in-Ok.found.1.depth c.in-Ok.ensures.depth c.in-Ok.ensures.outcome c.load_root.ensures.stays c.load_root.ensures.overlay c.grown_node.ensures.outcome.loaded c.grown_node.ensures.only r s still q there in
     let e = c.raised.new.tx in
-    let two = then_only a.overlay d.overlay e.overlay q (c.raised.ensures.kept q (c.grown_node.ensures.there q (c.load_root.ensures.stays.ids q ∙ there))) one in
     let f = c.put_node.new.tx in
-    put_only a.overlay e.overlay f.overlay c.args.root.now.0 q (c.put_node.ensures.others q) (λ same. subst (λ x. OnBorder (H.content a) r.depth c.args.root.now.0 x) (sym same) (border_top (H.content a) r.depth c.args.root.now.0)) two
+    let A = (tx_holdings H0).content a in
+    let two = then_only a.overlay d.overlay e.overlay q (c.raised.ensures.kept q (c.grown_node.ensures.there q (c.load_root.ensures.stays.ids q ∙ there))) (root_only M H0 laws a c.load_root.new.tx d c.in-Ok.found.1.depth c.in-Ok.ensures.depth c.in-Ok.ensures.outcome c.load_root.ensures.stays c.load_root.ensures.overlay c.grown_node.ensures.outcome.loaded c.grown_node.ensures.only r s (unforged_on M a d f (c.put_node.ensures.store ∙ c.raised.ensures.store) h) q there) in
+    put_only a.overlay e.overlay f.overlay c.args.root.now.0 q (c.put_node.ensures.others q) (border_top A r.depth c.args.root.now.0 q) two

@@ -2,14 +2,14 @@ use Rattle.std.proofs.Common.{◌≡◌, ◌-◌, ◌++◌, sym, ◌∙◌, ap, 
 use Rattle.std.specs.FinMap.{get}
 use Rattle.std.proofs.lemmas.List.{take_all, length-replicate}
 use Rattle.block_id.specs.Contents.{resized, zeros}
-use Rattle.outcome.specs.Outcome.{answered, then_}
+use Rattle.outcome.specs.Outcome.{answered, no_memory, then_}
 use Rattle.data_nodes.specs.Layout.{node_of}
 use Rattle.store_api.specs.Overlay.{steady_over}
 use Rattle.data_tree.specs.Roots.{IsNewRoot}
 use Rattle.data_tree.specs.Trees.{IsDepth, span}
 use Rattle.data_tree.proofs.Forests.{alone_root, below_on, below_root}
 use Rattle.data_tree.proofs.Loads.{store_in, changes_in, tx_holdings, tx_laws}
-use Rattle.data_tree.proofs.Puts.{keeps_below, unforged_before}
+use Rattle.data_tree.proofs.Puts.{keeps_below, on_any, unforged_before}
 use Rattle.tree_cutting.specs.Cutting.{OnlyBorder, MayCutNode}
 use Rattle.tree_ranges.proofs.Borders.{grew_nothing, grew_since}
 use Rattle.tree_cutting.proofs.Cuts.{cut_root_is, depth_least, on_ok_if}
@@ -40,6 +40,19 @@ returns-then-n-len-2-clause-outcome g c =
     then_ laws c.in-Ok.ensures.outcome
     (λ r p. record { below = below_on stays (below_root node own p.0 r p.1.0 c.in-Ok.ensures.depth); apart = (alone_root r).0; fits = omega (arith, c.if-n-len-2.true, p.1.1) }) c.cut_root.ensures.outcome
     (λ r p y cut. cut_root_is {H = H} {a = a} {b = b} {c = d} stays p.0 r (omega (arith, c.if-n-len-2.true, p.1.1)) deep cut.0)
+
+pub returns-then-n-len-2-clause-shallow : goal.returns-then-n-len-2-clause-shallow
+returns-then-n-len-2-clause-shallow g c s h =
+    let laws = tx_laws g.S.Blocks.meanings g.S.Blocks.holdings g.met.S.Blocks.lawful in
+    on_any c.cut_root.result (c.in-Ok.ensures.shallow s (unforged_before laws c.args.tx.now c.open_root.new.tx c.cut_root.new.tx c.cut_root.ensures.outcome.loaded h))
+
+pub returns-clause-shallow : goal.returns-clause-shallow
+returns-clause-shallow g c s h =
+    let laws = tx_laws g.S.Blocks.meanings g.S.Blocks.holdings g.met.S.Blocks.lawful in
+    on_any c.append.result (c.in-Ok.ensures.shallow s (unforged_before laws c.args.tx.now c.open_root.new.tx c.append.new.tx c.append.ensures.outcome.loaded h))
+
+pub returns-in-Err-after_zeros-clause-outcome : goal.returns-in-Err-after_zeros-clause-outcome
+returns-in-Err-after_zeros-clause-outcome g c = no_memory c.in-Ok.ensures.outcome
 
 pub cut_root-requires-clause-low : goal.cut_root-requires-clause-low
 cut_root-requires-clause-low g c =

@@ -32,6 +32,11 @@ returns-then-from-bytes-clause-outcome g c =
     (λ n p y w. wrote_root depth c.args.from c.args.bytes.now stays p.0 n (root_depth node depth n p.1.0 c.in-Ok.ensures.depth) (not_zero (length c.args.bytes.now) c.if-is_empty.ensures) (omega (arith, c.if-from-bytes.true, p.1.1))
     (keeps_below g.S.Blocks.holdings b c.write_in.new.tx c.write_in.ensures.below) w)
 
+pub returns-then-from-bytes-clause-shallow : goal.returns-then-from-bytes-clause-shallow
+returns-then-from-bytes-clause-shallow g c s h some =
+    let laws = tx_laws g.S.Blocks.meanings g.S.Blocks.holdings g.met.S.Blocks.lawful in
+    on_any c.write_in.result (c.in-Ok.ensures.shallow s (unforged_before laws c.args.tx.now c.open_root.new.tx c.write_in.new.tx c.write_in.ensures.outcome.loaded h))
+
 pub returns-then-from-bytes-clause-inside : goal.returns-then-from-bytes-clause-inside
 returns-then-from-bytes-clause-inside g c n s h =
     let H = tx_holdings g.S.Blocks.holdings in

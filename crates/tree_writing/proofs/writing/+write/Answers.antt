@@ -8,7 +8,7 @@ use Rattle.data_tree.proofs.Forests.{below_of, root_apart, children_of, leaf_is,
 use Rattle.data_tree.proofs.Gathering.{next_child, no_child, more_children, all_children}
 use Rattle.data_tree.proofs.Counting.{is_zero}
 use Rattle.data_tree.proofs.Levels.{span-some}
-use Rattle.tree_writing.proofs.Costs.{cost_start, cost_next, cost_done, cost_leaf}
+use Rattle.tree_writing.proofs.Costs.{cost_start, cost_next, cost_done, cost_leaf, cost_none, cost_same}
 use Rattle.std.specs.FinMap as fin
 use Rattle.store_api.specs.Overlay.{steady_over}
 use Rattle.std.specs.Prelude.{min}
@@ -148,6 +148,29 @@ write_in-returns-in-Leaf-clause-cost g t c =
     let low : 0 ≡ c.args.level.depth = ap depth_in leaf_at ∙ c.requires.depth in
     let all : c.args.level.room ≡ room P = c.requires.level ∙ ap (span P) (sym low) in
     cost_leaf (room P) _ _ c.args.from (length c.args.bytes.now) c.args.level.room (length c.deref.result.now) (omega (arith, steady.at_least c.args.tx.now c.requires.intact)) c.requires.some (subst (FitsPayload P) (sym leaf_at) c.requires.fits) all c.write_leaf.ensures.few
+
+pub write_below-returns-then-is_empty-clause-cost : goal.write_below-returns-then-is_empty-clause-cost
+write_below-returns-then-is_empty-clause-cost g t c =
+    let P = (tx_holdings g.S.Blocks.holdings).payload c.args.tx.now in
+    let steady = steady_over store_in changes_in g.S.Blocks.meanings g.S.Blocks.holdings g.met.S.Blocks.steady in
+    cost_none (room P) _ _ c.args.from (length c.args.bytes.now) c.args.level.room (omega (arith, steady.at_least c.args.tx.now c.requires.intact)) (omega arith)
+
+pub write_below-returns-in-Err-clause-cost : goal.write_below-returns-in-Err-clause-cost
+write_below-returns-in-Err-clause-cost g t c =
+    let P = (tx_holdings g.S.Blocks.holdings).payload c.args.tx.now in
+    let steady = steady_over store_in changes_in g.S.Blocks.meanings g.S.Blocks.holdings g.met.S.Blocks.steady in
+    cost_none (room P) _ _ c.args.from (length c.args.bytes.now) c.args.level.room (omega (arith, steady.at_least c.args.tx.now c.requires.intact)) (omega (arith, ap fin.len c.load_at.ensures.overlay))
+
+pub write_below-returns-in-Ok-clause-cost : goal.write_below-returns-in-Ok-clause-cost
+write_below-returns-in-Ok-clause-cost g t c =
+    let old = fin.len c.args.tx.now.overlay in
+    let new = fin.len c.write_in.new.tx.overlay in
+    let cost = cost_same _ old _ new c.args.from (length c.args.bytes.now) c.args.level.room c.args.level.room (omega (arith, ap fin.len c.load_at.ensures.overlay)) refl c.write_in.ensures.cost in
+    subst (λ p. LeafCost (room p) old new c.args.from (length c.args.bytes.now) c.args.level.room) c.load_at.ensures.stays.payload cost
+
+pub write_in-returns-in-Inner-clause-cost : goal.write_in-returns-in-Inner-clause-cost
+write_in-returns-in-Inner-clause-cost g t c =
+    cost_same _ _ _ _ c.args.from (length c.args.bytes.now) _ c.args.level.room (omega arith) (ap (λ k. fan_out k * c.below-below.result.room) (sym c.payload.ensures) ∙ c.below-below.ensures.all) c.write_children.ensures.cost
 
 pub write_children-returns-in-Err-clause-only : goal.write_children-returns-in-Err-clause-only
 write_children-returns-in-Err-clause-only g t c =

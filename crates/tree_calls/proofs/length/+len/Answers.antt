@@ -1,0 +1,78 @@
+use Rattle.std.proofs.Common.{◌≡◌, sym, ◌∙◌, ap, subst, drop, [], ◌∷◌, length, ◌+◌, ◌-◌, ◌<◌, arith}
+use Rattle.std.proofs.lemmas.List.{length-map}
+use Rattle.block_id.specs.declared.id.BlockId.{BlockId}
+use Rattle.outcome.specs.Outcome.{idle, first_, then_, answered, passed}
+use Rattle.data_nodes.specs.Layout.{node_of, ids_of, fan_out, FitsPayload}
+use Rattle.data_tree.specs.Trees.{span}
+use Rattle.data_tree.specs.Needs.{HasBelow}
+use Rattle.data_tree.proofs.Loads.{tx_holdings, tx_laws}
+use Rattle.data_tree.proofs.Forests.{below_on, below_of, children_of, leaf_is}
+use Rattle.tree_calls.proofs.Lasts.{last_fits, last_of, last-length, sum_is}
+use Rattle.data_tree.proofs.Gathering.{last_child}
+use Rattle.tree_calls.proofs.length.+len.Goals as goal
+
+pub len_below-returns-in-Ok-clause-outcome : goal.len_below-returns-in-Ok-clause-outcome
+len_below-returns-in-Ok-clause-outcome g t c =
+    let laws = tx_laws g.S.Blocks.meanings g.S.Blocks.holdings g.met.S.Blocks.lawful in
+    then_ laws c.in-Ok.ensures.outcome (λ n p. below_on c.load_at.ensures.stays (below_of (node_of c.in-Ok.node) n p)) c.len_in.ensures.outcome (λ n p y h. h)
+
+pub len_in-returns-in-Leaf-clause-outcome : goal.len_in-returns-in-Leaf-clause-outcome
+len_in-returns-in-Leaf-clause-outcome g t c =
+    let H = tx_holdings g.S.Blocks.holdings in
+    let laws = tx_laws g.S.Blocks.meanings g.S.Blocks.holdings g.met.S.Blocks.lawful in
+    let a = c.args.tx.now in
+    idle laws a _ c.requires.intact (λ n.
+    let is = leaf_is (H.payload a) (H.content a) c.args.level.depth (node_of c.args.node.now) n.bytes c.in-Leaf.bytes.items n.ids n.holds (ap node_of (sym c.in-Leaf.is)) in
+    c.len.ensures ∙ c.in-Leaf.bytes.ok.0 ∙ ap length is)
+
+pub len_in-returns-in-Ok-clause-outcome : goal.len_in-returns-in-Ok-clause-outcome
+len_in-returns-in-Ok-clause-outcome g t c =
+    let H = tx_holdings g.S.Blocks.holdings in
+    let a = c.args.tx.now in
+    let low = c.below-below.result.depth in
+    let children = ids_of c.in-Inner.children.items in
+    let i = c.len-before.result - 1 in
+    let is = ap node_of (sym c.in-Inner.is) in
+    let fits = subst (FitsPayload ((tx_holdings g.S.Blocks.holdings).payload c.args.tx.now)) (sym is) c.requires.fits in
+    let whole : i + 1 ≡ length c.in-Inner.children.items = omega (arith, c.len-before.ensures, c.in-Inner.children.ok.0, fits.1, length-map c.in-Inner.children.items (λ (x : BlockId). x.0)) in
+    let some : i < length children = omega (arith, whole, length-map c.in-Inner.children.items (λ (x : BlockId). x.0)) in
+    let last : drop i children ≡ c.index.result.now.0 ∷ [] = last_child c.in-Inner.children.items i c.index.result.now whole ∙ ap (λ (x : BlockId). x.0 ∷ []) (sym c.index.ensures) in
+    let deep = c.below-below.ensures.depth in
+    let one = first_ {N = HasBelow H a c.args.level.depth (node_of c.args.node.now)} {R = λ n y. y ≡ length (last_of {H = H} {a = a} {depth = low} children i c.index.result.now.0 some last (children_of (node_of c.args.node.now) c.in-Inner.depth low children is deep n)).bytes}
+    (λ n. last_of children i c.index.result.now.0 some last (children_of (node_of c.args.node.now) c.in-Inner.depth low children is deep n)) c.in-Ok.ensures.outcome (λ n y h. h) in
+    answered one (λ n p. let e = last-length {H = H} {a = a} {depth = low} children i c.index.result.now.0 some last (children_of (node_of c.args.node.now) c.in-Inner.depth low children is deep n) in sym (e ∙ sum_is i (span (H.payload a) low) c.below-below.result.room _ c.in-Ok.len (sym (c.below-below.ensures.room ∙ ap (λ p. span p low) c.payload.ensures)) (sym p)))
+
+pub len_in-returns-in-Err-clause-outcome : goal.len_in-returns-in-Err-clause-outcome
+len_in-returns-in-Err-clause-outcome g t c =
+    let children = ids_of c.in-Inner.children.items in
+    let i = c.len-before.result - 1 in
+    let is = ap node_of (sym c.in-Inner.is) in
+    let fits = subst (FitsPayload ((tx_holdings g.S.Blocks.holdings).payload c.args.tx.now)) (sym is) c.requires.fits in
+    let whole : i + 1 ≡ length c.in-Inner.children.items = omega (arith, c.len-before.ensures, c.in-Inner.children.ok.0, fits.1, length-map c.in-Inner.children.items (λ (x : BlockId). x.0)) in
+    let some : i < length children = omega (arith, whole, length-map c.in-Inner.children.items (λ (x : BlockId). x.0)) in
+    let last : drop i children ≡ c.index.result.now.0 ∷ [] = last_child c.in-Inner.children.items i c.index.result.now whole ∙ ap (λ (x : BlockId). x.0 ∷ []) (sym c.index.ensures) in
+    passed (first_ {R = λ n y. Unit {0}} (λ n. last_of children i c.index.result.now.0 some last (children_of (node_of c.args.node.now) c.in-Inner.depth c.below-below.result.depth children is c.below-below.ensures.depth n)) c.in-Err.ensures.outcome (λ n y h. tt))
+
+pub len_in-overflow_mul-result : goal.len_in-overflow_mul-result
+len_in-overflow_mul-result g t c =
+    let i = c.len-before.result - 1 in
+    let fits = subst (FitsPayload ((tx_holdings g.S.Blocks.holdings).payload c.args.tx.now)) (ap node_of c.in-Inner.is) c.requires.fits in
+    let few : i < fan_out c.payload.result = omega (arith, c.len-before.ensures, c.in-Inner.children.ok.0, fits.1, fits.2, length-map c.in-Inner.children.items (λ (x : BlockId). x.0), c.payload.ensures) in
+    let all = last_fits i (fan_out c.payload.result) c.below-below.result.room 0 c.args.level.room few c.below-below.ensures.all (omega arith) in
+    omega (arith, all, c.requires.small)
+
+pub len_in-overflow_add-result : goal.len_in-overflow_add-result
+len_in-overflow_add-result g t c =
+    let i = c.len-before.result - 1 in
+    let fits = subst (FitsPayload ((tx_holdings g.S.Blocks.holdings).payload c.args.tx.now)) (ap node_of c.in-Inner.is) c.requires.fits in
+    let few : i < fan_out c.payload.result = omega (arith, c.len-before.ensures, c.in-Inner.children.ok.0, fits.1, fits.2, length-map c.in-Inner.children.items (λ (x : BlockId). x.0), c.payload.ensures) in
+    let all = last_fits i (fan_out c.payload.result) c.below-below.result.room c.in-Ok.len c.args.level.room few c.below-below.ensures.all c.in-Ok.ensures.most in
+    omega (arith, all, c.requires.small)
+
+pub len_in-returns-in-Ok-clause-most : goal.len_in-returns-in-Ok-clause-most
+len_in-returns-in-Ok-clause-most g t c =
+    let i = c.len-before.result - 1 in
+    let fits = subst (FitsPayload ((tx_holdings g.S.Blocks.holdings).payload c.args.tx.now)) (ap node_of c.in-Inner.is) c.requires.fits in
+    let few : i < fan_out c.payload.result = omega (arith, c.len-before.ensures, c.in-Inner.children.ok.0, fits.1, fits.2, length-map c.in-Inner.children.items (λ (x : BlockId). x.0), c.payload.ensures) in
+    let all = last_fits i (fan_out c.payload.result) c.below-below.result.room c.in-Ok.len c.args.level.room few c.below-below.ensures.all c.in-Ok.ensures.most in
+    all

@@ -1,0 +1,36 @@
+use Rattle.std.proofs.Common.{◌≡◌, ◌∙◌, ap, ◌++◌, length, arith, true}
+use Rattle.data_nodes.specs.Layout.{node_of}
+use Rattle.outcome.specs.Outcome.{then_, failed_, answered, unbuilt}
+use Rattle.tree_calls.specs.Reading.{between}
+use Rattle.data_tree.proofs.Loads.{tx_holdings, tx_laws}
+use Rattle.data_tree.proofs.Forests.{below_on, below_root}
+use Rattle.tree_calls.proofs.Parts.{all_between}
+use Rattle.data_tree.proofs.Puts.{unforged_before}
+use Rattle.tree_calls.proofs.rewriting.read_root.Goals as goal
+
+pub returns-in-Err-read_in-clause-outcome : goal.returns-in-Err-read_in-clause-outcome
+returns-in-Err-read_in-clause-outcome g c =
+    let laws = tx_laws g.S.Blocks.meanings g.S.Blocks.holdings g.met.S.Blocks.lawful in
+    failed_ laws c.in-Ok.ensures.outcome (λ n p. below_on c.load_root.ensures.stays (below_root (node_of c.in-Ok.found.0) c.in-Ok.found.1.depth p.0 n p.1 c.in-Ok.ensures.depth)) c.in-Err-read_in.ensures.outcome
+
+pub returns-clause-outcome : goal.returns-clause-outcome
+returns-clause-outcome g c =
+    let H = tx_holdings g.S.Blocks.holdings in
+    let laws = tx_laws g.S.Blocks.meanings g.S.Blocks.holdings g.met.S.Blocks.lawful in
+    let two = then_ laws {R = λ n _. (H.told c.args.tx.now ≡ true) × ((node_of c.in-Ok.found.0 ≡ n.tree.node) × (c.read_in.new.out.items ≡ c.new-bytes.result.items ++ between 0 18446744073709551615 n.bytes))} c.in-Ok.ensures.outcome
+    (λ n p. below_on c.load_root.ensures.stays (below_root (node_of c.in-Ok.found.0) c.in-Ok.found.1.depth p.0 n p.1 c.in-Ok.ensures.depth)) c.in-Ok-read_in.ensures.outcome (λ n p y h. (p.0, (p.1, h))) in
+    answered two (λ n p. (p.0, (p.1.0, p.1.1 ∙ ap (λ xs. xs ++ between 0 18446744073709551615 n.bytes) c.new-bytes.ensures.items ∙ all_between 18446744073709551615 n.bytes (omega (arith, n.small)))))
+
+pub returns-clause-shallow : goal.returns-clause-shallow
+returns-clause-shallow g c s h =
+    let laws = tx_laws g.S.Blocks.meanings g.S.Blocks.holdings g.met.S.Blocks.lawful in
+    c.in-Ok.ensures.shallow s (unforged_before laws c.args.tx.now c.load_root.new.tx c.read_in.new.tx c.read_in.ensures.outcome.loaded h)
+
+pub returns-then-len-gt-MOST_BYTES-clause-outcome : goal.returns-then-len-gt-MOST_BYTES-clause-outcome
+returns-then-len-gt-MOST_BYTES-clause-outcome g c =
+    let laws = tx_laws g.S.Blocks.meanings g.S.Blocks.holdings g.met.S.Blocks.lawful in
+    let two = then_ laws {R = λ n _. c.read_in.new.out.items ≡ c.new-bytes.result.items ++ between 0 18446744073709551615 n.bytes} c.in-Ok.ensures.outcome
+    (λ n p. below_on c.load_root.ensures.stays (below_root (node_of c.in-Ok.found.0) c.in-Ok.found.1.depth p.0 n p.1 c.in-Ok.ensures.depth)) c.in-Ok-read_in.ensures.outcome (λ n p y h. h) in
+    unbuilt laws two (λ n p.
+    let whole = p ∙ ap (λ xs. xs ++ between 0 18446744073709551615 n.bytes) c.new-bytes.ensures.items ∙ all_between 18446744073709551615 n.bytes (omega (arith, n.small)) in
+    absurd (omega (arith, ap length whole, n.small, c.len.ensures, c.read_in.new.out.ok.0, c.if-len-gt-MOST_BYTES.true)))

@@ -1,0 +1,67 @@
+// The length of what a tree holds.
+ghost use Rattle.std.specs.Prelude.{◌≡◌, ◌≤◌, ◌<◌, ◌^◌, ◌+◌, ◌*◌, true, is_some, length, IfOk, OnOk};
+ghost use Rattle.outcome.specs.Outcome.{Outcome};
+ghost use Rattle.store_api.specs.Holdings.{Stays};
+ghost use Rattle.data_nodes.specs.Layout.{node_of, FitsPayload};
+ghost use Rattle.data_tree.specs.Needs.{HasTree, HasBelow};
+ghost use Rattle.data_tree.specs.Trees.{span, depth_in};
+
+use block_id::{BlockId, Fail};
+use data_nodes::Node;
+use data_tree::{Level, load_at};
+use std::alloc::Global;
+use store_api::{Blocks, Tx};
+
+#[cycle(len)]
+fn len_below<S: Blocks>(
+    alloc: Global,
+    tx: &mut Tx<S>,
+    id: &BlockId,
+    level: Level,
+) -> Result<u64, Fail>
+    requires intact { ⟦<Tx<S> as Blocks>⟧.meanings.intact tx.old }
+    requires level { level.room ≡ span (⟦<Tx<S> as Blocks>⟧.holdings.payload tx.old) level.depth }
+    requires small { level.room < 2 ^ 63 }
+    ensures outcome { Outcome ⟦<Tx<S> as Blocks>⟧.meanings (HasTree ⟦<Tx<S> as Blocks>⟧.holdings tx.old level.depth id.now.0) tx.old tx.new result (λ n len. len ≡ length n.bytes) }
+    ensures most { IfOk result (λ len. len ≤ level.room) }
+    ensures stays { Stays ⟦<Tx<S> as Blocks>⟧.holdings tx.old tx.new }
+    ensures below { Stays S.holdings tx.old.store tx.new.store }
+    ensures overlay { tx.new.overlay ≡ tx.old.overlay }
+{
+    match load_at(alloc, tx, id, level.depth) {
+        Ok(node) => len_in(alloc, tx, &node, level),
+        Err(fail) => Err(fail),
+    }
+}
+
+/// The length of what stands below a node.
+#[cycle(len)]
+pub fn len_in<S: Blocks>(
+    alloc: Global,
+    tx: &mut Tx<S>,
+    node: &Node,
+    level: Level,
+) -> Result<u64, Fail>
+    requires intact { ⟦<Tx<S> as Blocks>⟧.meanings.intact tx.old }
+    requires level { level.room ≡ span (⟦<Tx<S> as Blocks>⟧.holdings.payload tx.old) level.depth }
+    requires small { level.room < 2 ^ 63 }
+    requires fits { FitsPayload (⟦<Tx<S> as Blocks>⟧.holdings.payload tx.old) (node_of node.now) }
+    requires depth { depth_in (node_of node.now) ≡ level.depth }
+    ensures outcome { Outcome ⟦<Tx<S> as Blocks>⟧.meanings (HasBelow ⟦<Tx<S> as Blocks>⟧.holdings tx.old level.depth (node_of node.now)) tx.old tx.new result (λ n len. len ≡ length n.bytes) }
+    ensures most { IfOk result (λ len. len ≤ level.room) }
+    ensures stays { Stays ⟦<Tx<S> as Blocks>⟧.holdings tx.old tx.new }
+    ensures below { Stays S.holdings tx.old.store tx.new.store }
+    ensures overlay { tx.new.overlay ≡ tx.old.overlay }
+{
+    match node {
+        Node::Leaf(bytes) => Ok(bytes.len() as u64),
+        Node::Inner { depth: _, children } => {
+            let below = level.below(tx.payload());
+            let before = children.len() - 1;
+            match len_below(alloc, tx, &children[before], below) {
+                Ok(len) => Ok(before as u64 * below.room + len),
+                Err(fail) => Err(fail),
+            }
+        }
+    }
+}
