@@ -2,9 +2,10 @@
 use Rattle.std.specs.Prelude.{◌≡◌, ◌<◌, ℕ, ◌+◌, ◌-◌, ◌^◌, ◌&&◌, List, ◌++◌, Option, Some, None, option_and_then, if◌then◌else◌, ◌==◌, nat_lt, length, replicate}
 use Rattle.std.specs.Int.{w16, w32, w64, to_le_bytes}
 use Rattle.byte_fields.specs.Fields.{front_at, number_at}
+use Rattle.sealed_store.specs.declared.sealed_store.TheConstants.{SEAL_LEN}
 use Rattle.sealed_store.specs.BlockFiles.{opens_file}
 use Rattle.block_records.specs.declared.block_record.Head.{Head}
-use Rattle.block_records.specs.declared.block_record.TheConstants.{RECORD_FORMAT, SEAL_LEN, OVERHEAD}
+use Rattle.block_records.specs.declared.block_record.TheConstants.{RECORD_FORMAT, OVERHEAD}
 
 -- an id as 16 bytes, the number of the client that wrote it, the version, and the payload
 pub record Record : Type 0 where

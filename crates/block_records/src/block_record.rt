@@ -2,10 +2,12 @@
 ghost use Rattle.std.specs.Prelude.{◌≡◌, ◌≤◌, ◌<◌, ◌+◌, ◌++◌, drop, length, IfOk, OnOk, IfSome, Some};
 ghost use Rattle.std.specs.Int.{w16, w32, w64, to_le_bytes};
 ghost use Rattle.std.specs.Option.{option_map};
+ghost use Rattle.sealed_store.specs.declared.sealed_store.TheConstants.{SEAL_LEN};
 ghost use Rattle.block_records.specs.BlockRecords.{record_of, text_of, with_payload};
 
 use block_id::{BlockId, Memory};
 use byte_fields::{put_id, put_u16, put_u32, put_u64, take_id, take_u16, take_u32, take_u64};
+use sealed_store::SEAL_LEN;
 use std::alloc::Global;
 
 /// The format's number, with which each record begins.
@@ -13,9 +15,6 @@ pub const RECORD_FORMAT: u16 = 1;
 
 /// The bytes of a record before its payload: format, id, client and version.
 pub const HEAD_LEN: usize = 30;
-
-/// The bytes of a block's file that aren't its record: those that each file begins with, and what sealing adds.
-pub const SEAL_LEN: usize = 48;
 
 /// The bytes of a block's file that aren't its payload.
 pub const OVERHEAD: usize = SEAL_LEN + HEAD_LEN;

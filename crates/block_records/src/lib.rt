@@ -6,9 +6,7 @@ mod block_record;
 mod laws;
 mod verdict;
 
-pub use block_record::{
-    HEAD_LEN, Head, OVERHEAD, RECORD_FORMAT, SEAL_LEN, read_head, write_record,
-};
+pub use block_record::{HEAD_LEN, Head, OVERHEAD, RECORD_FORMAT, read_head, write_record};
 pub use laws::records_as_texts;
 pub use verdict::judge;
 

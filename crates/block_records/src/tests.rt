@@ -2,7 +2,7 @@
 // of 128 bytes.
 use super::*;
 use block_id::{BlockId, Why};
-use sealed_store::Seen;
+use sealed_store::{SEAL_LEN, Seen};
 use std::alloc::Global;
 use std::test::Fail;
 

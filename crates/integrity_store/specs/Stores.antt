@@ -3,6 +3,7 @@ use Rattle.std.specs.Prelude.{◌≡◌, ◌≤◌, ℕ, ◌-◌, List, take, is
 use Rattle.std.specs.declared.option.Option.{Option}
 use Rattle.std.specs.declared.option.Option.TheVariants.{None, Some}
 use Rattle.std.specs.FinMap as fin
+use Rattle.block_id.specs.declared.sizes.TheConstants.{MIN_BLOCK, MAX_BLOCK}
 use Rattle.outside.specs.Trace.{config, Call}
 use Rattle.outside.specs.Changes.{change_at}
 use Rattle.outside.specs.Honest.{is_lie, count_told}
@@ -25,8 +26,8 @@ IsNoBlock (Some (Some bytes)) = take 14 bytes ≡ block_magic → ⊥
 
 -- a block size within its limits, a state and a list that have a record, and no block's file that waits as the configuration
 pub record IsWhole (h : Held) : Type 0 where
-  pub least : 128 ≤ h.size
-  pub most : h.size ≤ 1048576
+  pub least : MIN_BLOCK ≤ h.size
+  pub most : h.size ≤ MAX_BLOCK
   pub has_record : HasRecord h.state h.list
   pub config : IsNoBlock (change_at config h.list)
 
