@@ -17,7 +17,7 @@ use Rattle.outside.specs.Trace.{Call}
 use Rattle.outside.specs.declared.keeper.Keeper.{Ghosts as KeeperGhosts}
 use Rattle.passwords.specs.Passwords.{IsNextPassword}
 use Rattle.run_openings.specs.Openings.{IsUnopened}
-use Rattle.run_openings.specs.Statuses.{closing_status}
+use Rattle.run_openings.specs.Statuses.{closing_status, session_status}
 use Rattle.run_status.specs.declared.ended.Ended.{Ended}
 use Rattle.run_status.specs.declared.status.Status.TheVariants as status
 use Rattle.session_lines.specs.Driven.{Reported}
@@ -28,7 +28,6 @@ use Rattle.session_runs.proofs.Whole.{unviolated}
 use Rattle.session_saver.specs.declared.saver.SyncError.{SyncError}
 use Rattle.session_saver.specs.declared.saver.SyncError.TheVariants as sync_error
 use Rattle.shell_sessions.specs.Sessions.{Session, IsServed, ComesShell, ComesGenerated, ComesCommand}
-use Rattle.shell_sessions.specs.Statuses.{session_status}
 use Rattle.tree_commands.specs.Showing.{ShowsFiles}
 use Rattle.completeness.specs.Premises.{IsUntroubled, Finds}
 use Rattle.completeness.specs.Sessions.{IsFaultless, AreFaultless, IsComplete, FindsNoMemory}

@@ -6,9 +6,9 @@ ghost use Rattle.run_openings.specs.Openings.{HasCauses};
 ghost use Rattle.cryfs_setup.specs.Info.{Told, ToldUnder};
 
 use crate::info_text::{MAX_TEXT, print_info};
+use crate::opening::{end_run, open};
 use outside::{Keeper, Sink, Source, Vault};
 use passwords::read_password;
-use run_openings::{end_run, open};
 use run_status::{Ended, Status};
 use std::alloc::Global;
 

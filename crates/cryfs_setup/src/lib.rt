@@ -5,6 +5,7 @@
 mod create;
 mod info;
 mod info_text;
+mod opening;
 mod passwd;
 mod print;
 

@@ -5,11 +5,12 @@ ghost use Rattle.session_runs.specs.Runs.{outside_of};
 ghost use Rattle.run_openings.specs.Openings.{HasCauses};
 ghost use Rattle.cryfs_setup.specs.Passwd.{RanPasswd, ChangedUnder, Reports};
 
+use crate::opening::{end_run, open};
 use crate::print::print;
 use outside::{Keeper, Sink, Source, Vault};
 use passwords::{PasswordChange, read_two_passwords};
 use rand_core::Rng;
-use run_openings::{closing_status, end_run, open};
+use run_openings::closing_status;
 use run_status::{Ended, Status};
 use session_saver::SyncError;
 use std::alloc::Global;

@@ -26,7 +26,7 @@ use Rattle.session_lines.specs.declared.end.End.{End}
 use Rattle.session_runs.specs.Runs.{Outside, outside_of, OutsideStandsFor, OpensTo, directory_fault, state_fault}
 use Rattle.session_runs.proofs.Whole.{unviolated}
 use Rattle.shell_sessions.specs.Sessions.{Session, IsServed}
-use Rattle.shell_sessions.specs.Statuses.{session_status}
+use Rattle.run_openings.specs.Statuses.{session_status}
 use Rattle.tree_commands.specs.Showing.{ShowsFiles}
 use Rattle.cryfs_shell.specs.Clauses.{IsRefusingStatus, IsRefusedRun, IsOpenedRun, NoFalseAlarm, KeepsTree, FaultsHappened, IsEmptied}
 use Rattle.cryfs_shell.proofs.Statuses.{EndCause, opening_is_no, session_is_no, stops_is_refusal, session_directory, session_state, session_input, session_output, done_is_calm, done_is_closed, calm_is_no_alarm}

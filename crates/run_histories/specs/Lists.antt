@@ -19,7 +19,7 @@ use Rattle.run_status.specs.declared.status.Status.TheVariants.{Done}
 use Rattle.session_lines.specs.declared.end.End.{End}
 use Rattle.session_runs.specs.Runs.{Outside, OutsideStandsFor}
 use Rattle.shell_sessions.specs.Sessions.{ComesShell, ComesGenerated, ComesCommand}
-use Rattle.shell_sessions.specs.Statuses.{session_status}
+use Rattle.run_openings.specs.Statuses.{session_status}
 use Rattle.shell_words.specs.declared.form.Form.{Form}
 use Rattle.shell_words.specs.declared.form.Form.TheVariants.{Create, Shell, Generate, Command}
 use Rattle.shell_words.specs.Forms.{form_of, joined}

@@ -1,9 +1,11 @@
--- Errors as statuses.
-use Rattle.std.specs.Prelude.{Result}
+-- Errors and ends of sessions as statuses.
+use Rattle.std.specs.Prelude.{Bool, true, false, Result}
 use Rattle.std.specs.declared.result.Result.TheVariants.{Ok, Err}
 use Rattle.config_file.specs.declared.error.ConfigError.TheVariants as config_error
 use Rattle.mount.specs.declared.error.OpenError.{OpenError}
 use Rattle.mount.specs.declared.error.OpenError.TheVariants as open_error
+use Rattle.session_lines.specs.declared.end.End.{End}
+use Rattle.session_lines.specs.declared.end.End.TheVariants as line_end
 use Rattle.session_saver.specs.declared.saver.SyncError.{SyncError}
 use Rattle.session_saver.specs.declared.saver.SyncError.TheVariants as sync_error
 use Rattle.run_status.specs.declared.status.Status.{Status}
@@ -31,3 +33,16 @@ closing_status (Ok _) = status.Done
 closing_status (Err sync_error.Memory) = status.Memory
 closing_status (Err sync_error.FaultDirectory) = status.DirectoryFault
 closing_status (Err sync_error.FaultState) = status.StateFault
+
+-- ---- of a session
+
+-- how the lines ended goes before how closing did
+abbrev pub ended_status : End → Result Unit SyncError → Status
+ended_status line_end.OutputFault closing = status.OutputFault
+ended_status line_end.InputFault closing = status.InputFault
+ended_status line_end.Finished closing = closing_status closing
+
+-- a violation goes before both
+abbrev pub session_status : Bool → End → Result Unit SyncError → Status
+session_status true end closing = status.Violation
+session_status false end closing = ended_status end closing

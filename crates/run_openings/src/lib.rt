@@ -1,9 +1,8 @@
-//! How a run of the program begins and ends that opens a file system, with its status, and what an opening that failed
-//! leaves.
+//! How a run of the program ends that opened no file system, and the statuses of errors of opening and closing and of sessions.
 #![tactic(auto)]
 
 mod opening;
 mod status;
 
-pub use opening::{end_opening, end_run, open};
-pub use status::{closing_status, opening_status};
+pub use opening::end_opening;
+pub use status::{closing_status, opening_status, session_status};

@@ -1,10 +1,11 @@
 // Errors as statuses.
 ghost use Rattle.std.specs.Prelude.{◌≡◌};
-ghost use Rattle.run_openings.specs.Statuses.{opening_status, closing_status};
+ghost use Rattle.run_openings.specs.Statuses.{opening_status, closing_status, session_status};
 
 use config_file::ConfigError;
 use mount::OpenError;
 use run_status::Status;
+use session_lines::End;
 use session_saver::SyncError;
 
 /// The status of a file system that wasn't opened or made. A record that is marked, or is of another file system, is a
@@ -36,5 +37,19 @@ pub fn closing_status(closing: Result<(), SyncError>) -> Status
         Err(SyncError::Memory) => Status::Memory,
         Err(SyncError::FaultDirectory) => Status::DirectoryFault,
         Err(SyncError::FaultState) => Status::StateFault,
+    }
+}
+
+/// The status of a session: a violation goes first, then how the lines ended, then how closing did.
+pub fn session_status(violated: bool, end: End, closing: Result<(), SyncError>) -> Status
+    ensures { result ≡ session_status violated end closing }
+{
+    if violated {
+        return Status::Violation;
+    }
+    match end {
+        End::OutputFault => Status::OutputFault,
+        End::InputFault => Status::InputFault,
+        End::Finished => closing_status(closing),
     }
 }

@@ -2,5 +2,4 @@ mod Rising
 mod Still
 mod Joining
 mod Passes
-mod Synced
 pub mod Whole

@@ -1,12 +1,3 @@
-//! Whole sessions over a mount: opening under a password, the lines of an input, generated commands or one line, and
-//! closing.
+//! What a whole session over a mount is, from its opening to its end, and the laws by which its exchanges follow from those of
+//! the mount. The calls are those of `shell_sessions`: a crate with none loads little of what lies below it.
 #![tactic(auto)]
-
-mod mounted;
-mod run;
-mod turns;
-
-pub use mount::Halted;
-pub use mounted::Mounted;
-pub use run::{run_generated, run_lines, run_single};
-pub use turns::SessionEnd;

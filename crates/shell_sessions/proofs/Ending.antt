@@ -13,7 +13,7 @@ use Rattle.mount.specs.declared.mount.Halted.{Halted}
 use Rattle.mount_core.specs.Standing.{IsKeptMarked}
 use Rattle.passwords.specs.Passwords.{PasswordRead, IsNextPassword}
 use Rattle.run_openings.specs.Openings.{HasPassword}
-use Rattle.run_openings.specs.Statuses.{opening_status}
+use Rattle.run_openings.specs.Statuses.{opening_status, session_status}
 use Rattle.run_openings.proofs.Unopened.{unopened}
 use Rattle.run_status.specs.declared.ended.Ended.{Ended}
 use Rattle.session_lines.specs.Driven.{EndsAs, IsUnfailed}
@@ -21,10 +21,9 @@ use Rattle.session_lines.specs.declared.end.End.{End}
 use Rattle.session_lines.specs.declared.end.End.TheVariants as line_end
 use Rattle.session_runs.specs.Runs.{outside_of, IsSessionRun}
 use Rattle.session_runs.specs.Turns.{OnMount}
-use Rattle.session_runs.specs.declared.turns.SessionEnd.{SessionEnd}
+use Rattle.shell_sessions.specs.declared.turns.SessionEnd.{SessionEnd}
 use Rattle.tree_commands.specs.Showing.{ShowsFiles}
 use Rattle.shell_sessions.specs.Sessions.{IsServed, Session}
-use Rattle.shell_sessions.specs.Statuses.{session_status}
 
 -- from the first byte on
 pub from_start : (taken : ℕ) (script before mid after : Option (List ℕ)) (f0 f1 f2 : ℕ) (output : Stream) (es : List Exchange) (end : End) → total taken mid ≡ total 0 before → f1 ≡ f0

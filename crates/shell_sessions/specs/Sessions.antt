@@ -17,7 +17,7 @@ use Rattle.session_runs.specs.Runs.{outside_of, IsSessionRun}
 use Rattle.session_runs.specs.Turns.{OnMount}
 use Rattle.session_saver.specs.declared.saver.SyncError.{SyncError}
 use Rattle.tree_commands.specs.Showing.{ShowsFiles}
-use Rattle.shell_sessions.specs.Statuses.{session_status}
+use Rattle.run_openings.specs.Statuses.{session_status}
 
 -- Under the password a file system was opened, and there are exchanges. What they are, what is kept and which faults happened is said by `session`; what each
 -- answer was given for, and what each line saved and called, by `mounted`.

@@ -4,13 +4,13 @@ ghost use Rattle.line_io.specs.Streams.{stream_of};
 ghost use Rattle.shell_sessions.specs.Sessions.{Session, ComesShell, ComesGenerated, ComesCommand};
 
 use crate::begin::{Beginning, begin};
+use crate::session::{run_generated, run_lines, run_single};
 use crate::status::end_session;
 use fs_model::Moment;
 use outside::{Keeper, Sink, Source, Vault};
 use rand_core::Rng;
 use run_openings::end_opening;
 use run_status::Ended;
-use session_runs::{run_generated, run_lines, run_single};
 use std::alloc::Global;
 
 /// Opens the file system under the password line of the input, answers each line after it before the next is taken, and

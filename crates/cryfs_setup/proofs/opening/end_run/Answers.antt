@@ -1,6 +1,6 @@
 use Rattle.std.proofs.Common.{ap, ◌∙◌}
 use Rattle.run_status.specs.Statuses.{first_of}
-use Rattle.run_openings.proofs.opening.end_run.Goals as goal
+use Rattle.cryfs_setup.proofs.opening.end_run.Goals as goal
 
 pub returns : goal.returns
 returns g c =

@@ -4,8 +4,8 @@ use Rattle.integrity_store.specs.Standing.{records}
 use Rattle.tree_commands.specs.Showing.{ShowsFiles}
 use Rattle.mount_core.specs.Standing.{Left}
 use Rattle.mount.specs.Tower.{tower_meanings, tower_holdings, tower_durables}
-use Rattle.session_runs.proofs.Synced.{same_synced}
-use Rattle.session_runs.proofs.mounted.MountedHost.answer.Goals as goal
+use Rattle.shell_sessions.proofs.Synced.{same_synced}
+use Rattle.shell_sessions.proofs.mounted.MountedHost.answer.Goals as goal
 
 pub returns-clause-answered : goal.returns-clause-answered
 returns-clause-answered g c =

@@ -16,7 +16,7 @@ pub struct Mounted<V, K> {
 }
 
 impl<V: Vault, K: Keeper> Host for Mounted<V, K> {
-    ghost use Rattle.session_runs.specs.declared.mounted.Mounted.{Mounted};
+    ghost use Rattle.shell_sessions.specs.declared.mounted.Mounted.{Mounted};
 
     ghost hosting = { mount_hosting (λ m. m.mount) ShowsFiles V.trace V.faults K.Keeper };
 

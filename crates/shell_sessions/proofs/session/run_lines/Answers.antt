@@ -3,9 +3,9 @@ use Rattle.line_io.specs.Reading.{coming}
 use Rattle.line_io.specs.Streams.{stream_of}
 use Rattle.session_lines.specs.Driven.{EndsAs}
 use Rattle.tree_commands.specs.Showing.{ShowsFiles}
-use Rattle.session_runs.specs.declared.mounted.Mounted.{Mounted}
+use Rattle.shell_sessions.specs.declared.mounted.Mounted.{Mounted}
 use Rattle.session_runs.proofs.Whole.{whole}
-use Rattle.session_runs.proofs.run.run_lines.Goals as goal
+use Rattle.shell_sessions.proofs.session.run_lines.Goals as goal
 
 pub returns-clause-session : goal.returns-clause-session
 returns-clause-session g c =

@@ -1,5 +1,5 @@
 use Rattle.run_openings.proofs.Unopened.{unopened, caused}
-use Rattle.run_openings.proofs.opening.open.Goals as goal
+use Rattle.cryfs_setup.proofs.opening.open.Goals as goal
 
 pub returns-in-Err-clause-unopened : goal.returns-in-Err-clause-unopened
 returns-in-Err-clause-unopened g c =

@@ -4,9 +4,9 @@ use Rattle.answers.specs.Texts.{text_of_answer}
 use Rattle.session_lines.specs.Asking.{single}
 use Rattle.session_lines.specs.Driven.{Reported}
 use Rattle.tree_commands.specs.Showing.{ShowsFiles}
-use Rattle.session_runs.specs.declared.mounted.Mounted.{Mounted}
+use Rattle.shell_sessions.specs.declared.mounted.Mounted.{Mounted}
 use Rattle.session_runs.proofs.Whole.{whole}
-use Rattle.session_runs.proofs.run.run_single.Goals as goal
+use Rattle.shell_sessions.proofs.session.run_single.Goals as goal
 
 pub returns-clause-session : goal.returns-clause-session
 returns-clause-session g c =

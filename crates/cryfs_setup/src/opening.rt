@@ -1,0 +1,56 @@
+// Opening and closing, as a run beside sessions does it.
+ghost use Rattle.std.specs.Prelude.{◌≡◌, false, Result, IfOk, IfErr};
+ghost use Rattle.integrity_store.specs.Standing.{records};
+ghost use Rattle.mount.specs.Mounts.{IsReady};
+ghost use Rattle.mount.specs.declared.error.OpenError.{OpenError};
+ghost use Rattle.mount_core.specs.Standing.{IsKeptMarked};
+ghost use Rattle.session_runs.specs.Runs.{outside_of};
+ghost use Rattle.run_status.specs.Statuses.{first_of};
+ghost use Rattle.session_runs.specs.Turns.{Begun, Closing};
+ghost use Rattle.session_saver.specs.declared.saver.SyncError.{SyncError};
+ghost use Rattle.tree_commands.specs.Showing.{ShowsFiles};
+ghost use Rattle.run_openings.specs.Openings.{HasCauses, IsUnopened};
+ghost use Rattle.run_openings.specs.Statuses.{closing_status};
+
+use mount::Mount;
+use outside::{Keeper, Vault};
+use run_openings::{closing_status, end_opening};
+use run_status::{Ended, Status};
+use std::alloc::Global;
+
+/// Opens the file system under the password, or ends the run.
+pub(crate) fn open<V: Vault, K: Keeper>(
+    alloc: Global,
+    vault: V,
+    keeper: K,
+    password: &[u8],
+) -> Result<Mount<V, K>, Ended<V, K>>
+    ensures begun { IfOk result (λ mount. Begun ShowsFiles V.trace V.faults K.Keeper password.now vault keeper mount) }
+    ensures unchanged { IfOk result (λ mount. mount.core.saver.changed ≡ false) }
+    ensures unmarked { IfOk result (λ mount. ¬ IsKeptMarked records (K.kept keeper)) }
+    ensures unopened { IfErr result (λ ended. (error : OpenError) × IsUnopened V.trace V.faults K.Keeper password.now vault keeper ended error) }
+    ensures causes { IfErr result (λ ended. HasCauses (outside_of V.trace V.faults K.Keeper vault keeper) (outside_of V.trace V.faults K.Keeper ended.vault ended.keeper) ended.status) }
+{
+    match Mount::attach(alloc, vault, keeper, password) {
+        Ok(mount) => Ok(mount),
+        Err(halted) => Err(end_opening(halted)),
+    }
+}
+
+/// Closes the file system, and ends the run with this status, or where that is Done with that of closing.
+pub(crate) fn end_run<V: Vault, K: Keeper>(
+    alloc: Global,
+    mount: Mount<V, K>,
+    status: Status,
+) -> Ended<V, K>
+    requires ready { IsReady V.trace V.faults K.Keeper mount }
+    ensures { (closing : Result Unit SyncError) × (result.status ≡ first_of status (closing_status closing))
+        × Closing ShowsFiles V.trace V.faults K.Keeper mount closing result.vault result.keeper }
+{
+    let (closing, vault, keeper) = mount.close(alloc);
+    Ended {
+        status: status.or(closing_status(closing)),
+        vault,
+        keeper,
+    }
+}
