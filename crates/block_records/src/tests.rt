@@ -76,8 +76,15 @@ fn says_what_is_wrong_with_a_record(rt: HostRuntime) -> Result<(), Fail> {
             Err(found) => assert_eq!(rt; found, *why),
         }
     }
-    let shorter = judge_plain(rt.alloc(), &plain_of(1, 1, 7, 2)[..79])?;
-    assert!(rt; matches!(shorter, Err(Why::BadRecord)));
+    Ok(())
+}
+
+#[test]
+fn a_shorter_record_is_none(rt: HostRuntime) -> Result<(), Fail> {
+    let plain = plain_of(1, 1, 7, 2);
+    let (_, shorter) = plain.split_last().ok_or("no byte")?;
+    let answer = judge_plain(rt.alloc(), shorter)?;
+    assert!(rt; matches!(answer, Err(Why::BadRecord)));
     Ok(())
 }
 
