@@ -1,9 +1,11 @@
-use Rattle.std.proofs.Common.{sym, ◌∙◌, ap, subst}
+use Rattle.std.proofs.Common.{Some, None, sym, ◌∙◌, ap, subst}
+use Rattle.block_batch.specs.Entries.{change_view}
 use Rattle.outcome.specs.Lift.{lifted}
-use Rattle.outcome.specs.Outcome.{first_}
+use Rattle.outcome.specs.Outcome.{first_, idle}
 use Rattle.store_api.specs.declared.tx.Tx.{Tx}
 use Rattle.store_api.specs.Content.{or_else}
 use Rattle.store_api.specs.Holdings.{Overlaid, IsFew}
+use Rattle.store_api.specs.Overlay.{lawful_over}
 use Rattle.store_api.proofs.Overlays.{fits-stays}
 use Rattle.store_api.proofs.tx.TxBlocks.load.Goals as goal
 
@@ -18,3 +20,18 @@ returns-in-None-clause-outcome g c =
     } in
     first_ (λ n. n) (lifted (λ (t : Tx g.row.S.Denot). t.store) (λ (t : Tx g.row.S.Denot). Overlaid H t.store t.overlay) before after kept c.load.ensures.outcome)
     (λ n y h. h ∙ ap (λ o. or_else o (H.content before.store c.args.id.now.0)) (sym c.in-None.ensures.none))
+
+pub returns-in_ok-to_vec-in-Some-Payload-clause-outcome : goal.returns-in_ok-to_vec-in-Some-Payload-clause-outcome
+returns-in_ok-to_vec-in-Some-Payload-clause-outcome g c =
+    let laws = lawful_over (λ (t : Tx g.row.S.Denot). t.store) (λ (t : Tx g.row.S.Denot). t.overlay) g.S.Blocks.meanings g.S.Blocks.holdings g.met.S.Blocks.lawful in
+    let content = g.S.Blocks.holdings.content c.args.self.now.store c.args.id.now.0 in
+    let copied = c.in_ok-to_vec-in-Some-Payload.ensures.items_if_clones_equal (λ x y e. e) ∙ c.as_slice.ensures.value in
+    idle laws c.args.self.now _ c.requires
+    (λ n. ap Some copied ∙ sym (ap (λ o. or_else o content) (c.in-Some-Payload.ensures.some ∙ ap (λ change. Some (change_view change)) c.in-Some-Payload.field-0-is)))
+
+pub returns-in-Some-Removal-clause-outcome : goal.returns-in-Some-Removal-clause-outcome
+returns-in-Some-Removal-clause-outcome g c =
+    let laws = lawful_over (λ (t : Tx g.row.S.Denot). t.store) (λ (t : Tx g.row.S.Denot). t.overlay) g.S.Blocks.meanings g.S.Blocks.holdings g.met.S.Blocks.lawful in
+    let content = g.S.Blocks.holdings.content c.args.self.now.store c.args.id.now.0 in
+    idle laws c.args.self.now None c.requires
+    (λ n. sym (ap (λ o. or_else o content) (c.in-Some-Removal.ensures.some ∙ ap (λ change. Some (change_view change)) c.in-Some-Removal.field-0-is)))
