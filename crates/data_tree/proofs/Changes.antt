@@ -7,7 +7,7 @@ use Rattle.std.specs.Cmp.Lexicographic.{nat_list_cmp_total}
 use Rattle.std.proofs.lemmas.Bool.{or_right, or_left}
 use Rattle.data_nodes.specs.Layout.{NodeText}
 use Rattle.store_api.specs.Content.{Id, Content, same_id, Changes, or_else, over}
-use Rattle.store_api.specs.Holdings.{Holdings, Stays, has_id}
+use Rattle.store_api.specs.Holdings.{Holdings, has_id}
 use Rattle.store_api.specs.Overlay.{without}
 use Rattle.store_api.proofs.Rising.{same_id_is}
 use Rattle.data_tree.specs.Trees.{IsTree, Holds, Forest, span, NoDoubles, Replaces}

@@ -1,13 +1,12 @@
 -- Trees that stand side by side, and their lengths.
-use Rattle.std.proofs.Common.{◌≡◌, ℕ, zero, suc, ◌+◌, ◌-◌, ◌*◌, ◌<◌, ◌≤◌, List, [], ◌∷◌, ◌++◌, length, take, drop, refl, sym, ◌∙◌, ap, subst, arith, append_assoc}
+use Rattle.std.proofs.Common.{◌≡◌, ℕ, zero, suc, ◌+◌, ◌-◌, ◌*◌, ◌<◌, ◌≤◌, List, [], ◌∷◌, length, drop, refl, sym, ◌∙◌, ap, subst, arith}
 use Rattle.std.specs.Prelude.{true, false}
-use Rattle.std.proofs.lemmas.List.{length-take, length-drop}
+use Rattle.std.proofs.lemmas.List.{length-drop}
 use Rattle.std.proofs.Math.Nat.{mul-le-mul_left}
 use Rattle.data_nodes.specs.Layout.{NodeText, leaf, inner, IsNode, FitsPayload}
 use Rattle.store_api.specs.Content.{Id, Content}
 use Rattle.store_api.specs.Holdings.{Holdings, Stays, has_id}
 use Rattle.data_tree.specs.Trees.{IsTree, Holds, Forest, span, NoDoubles, depth_in}
-use Rattle.data_tree.proofs.Ids.{alone-parts}
 use Rattle.data_tree.proofs.Loads.{holds-depth}
 use Rattle.data_tree.specs.Needs.{HasTree, HasTrees, HasBelow}
 use Rattle.data_tree.specs.Roots.{IsRoot}

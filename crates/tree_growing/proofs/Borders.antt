@@ -12,7 +12,7 @@ use Rattle.data_nodes.specs.Layout.{NodeText, inner, IsNode, ids_of, node_of}
 use Rattle.store_api.specs.declared.tx.Tx.{Tx}
 use Rattle.store_api.specs.Content.{Id, Content, Changes, same_id}
 use Rattle.store_api.specs.Holdings.{Holdings, Stays}
-use Rattle.data_tree.specs.Trees.{span, depth_in}
+use Rattle.data_tree.specs.Trees.{depth_in}
 use Rattle.data_tree.specs.Needs.{HasTree, HasTrees, HasBelow}
 use Rattle.data_tree.proofs.Forests.{below_on, below_of}
 use Rattle.data_tree.proofs.Borders.{border_top}

@@ -93,7 +93,7 @@ split_tree n s = record { bytes = s.w2; ids = s.own; told = n.told; tree = s.tre
 pub last_then : {B : Type 0} (M : Meanings B) (H0 : Holdings B) (laws : Lawful (tx_meanings M H0)) (a b d : Tx B) {low : ℕ} (children : List BlockId) (some : 0 < length children) (least : 50 ≤ H0.payload a.store) {child : Node} {U : Type 0} {r : Result U Fail} {Q : HasBelow (tx_holdings H0) b low (node_of child) → U → Type 0}
     → Outcome (tx_meanings M H0) (HasTree (tx_holdings H0) a low (last_id children)) a b (Ok child) (λ n node. node_of node ≡ n.tree.node) → (stays : Stays (tx_holdings H0) a b) → Outcome (tx_meanings M H0) (HasBelow (tx_holdings H0) b low (node_of child)) b d r Q
     → Outcome (tx_meanings M H0) (HasTrees (tx_holdings H0) a low (ids_of children)) a d r
-        (λ n y. (is : node_of child ≡ (split_of {H = tx_holdings H0} {a = a} children some least n).tree.node) × Q (below_on stays (below_of (node_of child) (split_tree n (split_of {H = tx_holdings H0} {a = a} children some least n)) is)) y)
+    (λ n y. (is : node_of child ≡ (split_of {H = tx_holdings H0} {a = a} children some least n).tree.node) × Q (below_on stays (below_of (node_of child) (split_tree n (split_of {H = tx_holdings H0} {a = a} children some least n)) is)) y)
 last_then M H0 laws a b d {low = low} children some least {child = child} loaded stays called =
     let H = tx_holdings H0 in
     let one = first_ {N = HasTrees H a low (ids_of children)} {R = λ n node. node_of node ≡ (split_of {H = H} {a = a} children some least n).tree.node} (λ n. split_tree n (split_of {H = H} {a = a} children some least n)) loaded (λ n y h. h) in

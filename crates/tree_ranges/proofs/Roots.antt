@@ -33,7 +33,7 @@ pub root_then : {B : Type 0} (M : Meanings B) (H0 : Holdings B) (laws : Lawful (
     → Outcome (tx_meanings M H0) (IsRoot (tx_holdings H0) a root) a b (Ok found) (λ n found. ((tx_holdings H0).told a ≡ true) × (node_of found.0 ≡ n.tree.node)) → (stays : Stays (tx_holdings H0) a b) → (level : depth_in (node_of found.0) ≡ found.1.depth)
     → Outcome (tx_meanings M H0) (HasBelow (tx_holdings H0) b found.1.depth (node_of found.0)) b d r Q
     → Outcome (tx_meanings M H0) (GrowsTo (tx_holdings H0) a root more n) a d r
-        (λ g y. (p : ((tx_holdings H0).told a ≡ true) × (node_of found.0 ≡ g.tree.tree.node)) × Q (below_on stays (below_root (node_of found.0) found.1.depth p.0 g.tree p.1 level)) y)
+    (λ g y. (p : ((tx_holdings H0).told a ≡ true) × (node_of found.0 ≡ g.tree.tree.node)) × Q (below_on stays (below_root (node_of found.0) found.1.depth p.0 g.tree p.1 level)) y)
 root_then M H0 laws a b d {root = root} {more = more} {n = n} {found = found} loaded stays level called =
     let H = tx_holdings H0 in
     let one = first_ {N = GrowsTo H a root more n} {R = λ g y. (H.told a ≡ true) × (node_of y.0 ≡ g.tree.tree.node)} (λ g. g.tree) loaded (λ g y h. h) in

@@ -204,6 +204,15 @@ grown_inner-returns-clause-only g t c n s h q there =
     let one = inner_only M H0 laws a c.load_at.new.tx d c.args.children.now c.requires.some (steady.at_least a c.requires.intact) c.in-Ok.ensures.outcome c.load_at.ensures.stays c.load_at.ensures.overlay c.grown_node.ensures.outcome.loaded c.grown_node.ensures.only n s (unforged_on M a d f (c.grown_children.ensures.store ∙ c.put_node.ensures.store) h) q there in
     then_only a.overlay c.put_node.new.tx.overlay f.overlay q (c.grown_children.ensures.kept q (c.put_node.ensures.there q (c.grown_node.ensures.there q (c.load_at.ensures.stays.ids q ∙ there)))) (put_last H0 a d c.put_node.new.tx c.args.level.depth c.args.children.now c.requires.some q (c.put_node.ensures.others q) (one))
 
+pub grown_inner-returns-in-Err-put_node-clause-there : goal.grown_inner-returns-in-Err-put_node-clause-there
+grown_inner-returns-in-Err-put_node-clause-there g t c q h = c.put_node.ensures.there q (c.grown_node.ensures.there q (c.load_at.ensures.stays.ids q ∙ h))
+
+pub grown_inner-returns-in-Ok-grown_children-clause-there : goal.grown_inner-returns-in-Ok-grown_children-clause-there
+grown_inner-returns-in-Ok-grown_children-clause-there g t c q h = c.grown_children.ensures.there q (c.put_node.ensures.there q (c.grown_node.ensures.there q (c.load_at.ensures.stays.ids q ∙ h)))
+
+pub grown_inner-returns-clause-there : goal.grown_inner-returns-clause-there
+grown_inner-returns-clause-there g t c q h = c.grown_children.ensures.there q (c.put_node.ensures.there q (c.grown_node.ensures.there q (c.load_at.ensures.stays.ids q ∙ h)))
+
 pub grown_inner-returns-in-Err-grown_node-clause-below : goal.grown_inner-returns-in-Err-grown_node-clause-below
 grown_inner-returns-in-Err-grown_node-clause-below g t c = stays-then c.load_at.ensures.below c.grown_node.ensures.below
 

@@ -65,3 +65,19 @@ returns-clause-raised g t c m =
     (λ w t ids holds alone some full is.
     subst (λ cs. Grown H a d above (inner above cs) (w ++ t) ids) (sym built.1.0) (risen {H = H} {a = a} {b = b} {c = d} depth above first (node_of c.args.node) built.0 w t ids holds alone c.in_ok-first.ensures.new c.in_ok-first.ensures.sets ab bd some full (subst (λ x. BuiltTrees H b d depth built.0 x) (sym is) built.1.1) deep))
     (subst (λ xs. (m : MayGrow H d above up c.args.n (length xs)) → Raised H d e last (m.bytes ++ xs) m.ids × (more ≡ length xs)) cut c.in_ok-node.ensures.raised) m
+
+pub returns-in_err-node-clause-there : goal.returns-in_err-node-clause-there
+returns-in_err-node-clause-there g t c q h = c.raised.ensures.there q (c.grown_children.ensures.there q (c.put_new.ensures.there q h))
+
+pub returns-in_err-node-clause-kept : goal.returns-in_err-node-clause-kept
+returns-in_err-node-clause-kept g t c q h =
+    let there = c.put_new.ensures.there q h in
+    c.raised.ensures.kept q (c.grown_children.ensures.there q there) ∙ c.grown_children.ensures.kept q there ∙ c.put_new.ensures.kept q h
+
+pub returns-clause-there : goal.returns-clause-there
+returns-clause-there g t c q h = c.raised.ensures.there q (c.grown_children.ensures.there q (c.put_new.ensures.there q h))
+
+pub returns-clause-kept : goal.returns-clause-kept
+returns-clause-kept g t c q h =
+    let there = c.put_new.ensures.there q h in
+    c.raised.ensures.kept q (c.grown_children.ensures.there q there) ∙ c.grown_children.ensures.kept q there ∙ c.put_new.ensures.kept q h

@@ -6,7 +6,8 @@ use Rattle.store_api.specs.Overlay.{changed_over}
 use Rattle.data_tree.specs.Trees.{IsDepth, span}
 use Rattle.data_tree.proofs.Changes.{keeps-then}
 use Rattle.data_tree.proofs.Loads.{store_in, changes_in, tx_holdings, tx_laws}
-use Rattle.data_tree.proofs.Puts.{keeps_below, keeps_same, memory_after, unforged_on}
+use Rattle.data_tree.proofs.Forests.{stays-then}
+use Rattle.data_tree.proofs.Puts.{below_then, keeps_below, keeps_same, memory_after, unforged_on}
 use Rattle.tree_growing.specs.Growing.{Raised}
 use Rattle.tree_ranges.specs.Ranges.{GrowsTo}
 use Rattle.data_tree.proofs.Borders.{border_top}
@@ -154,3 +155,30 @@ returns-clause-only g c r s h q there =
     let A = (tx_holdings H0).content a in
     let two = then_only a.overlay d.overlay e.overlay q (c.raised.ensures.kept q (c.grown_node.ensures.there q (c.load_root.ensures.stays.ids q ∙ there))) (root_only M H0 laws a c.load_root.new.tx d c.in-Ok.found.1.depth c.in-Ok.ensures.depth c.in-Ok.ensures.outcome c.load_root.ensures.stays c.load_root.ensures.overlay c.grown_node.ensures.outcome.loaded c.grown_node.ensures.only r s (unforged_on M a d f (c.put_node.ensures.store ∙ c.raised.ensures.store) h) q there) in
     put_only a.overlay e.overlay f.overlay c.args.root.now.0 q (c.put_node.ensures.others q) (border_top A r.depth c.args.root.now.0 q) two
+
+pub returns-in-Err-raised-clause-there : goal.returns-in-Err-raised-clause-there
+returns-in-Err-raised-clause-there g c q h = c.raised.ensures.there q (c.grown_node.ensures.there q (c.load_root.ensures.stays.ids q ∙ h))
+
+pub returns-then-used-more-clause-there : goal.returns-then-used-more-clause-there
+returns-then-used-more-clause-there g c q h = c.raised.ensures.there q (c.grown_node.ensures.there q (c.load_root.ensures.stays.ids q ∙ h))
+
+pub returns-in-Ok-put_node-clause-there : goal.returns-in-Ok-put_node-clause-there
+returns-in-Ok-put_node-clause-there g c q h = c.put_node.ensures.there q (c.raised.ensures.there q (c.grown_node.ensures.there q (c.load_root.ensures.stays.ids q ∙ h)))
+
+pub returns-clause-there : goal.returns-clause-there
+returns-clause-there g c q h = c.put_node.ensures.there q (c.raised.ensures.there q (c.grown_node.ensures.there q (c.load_root.ensures.stays.ids q ∙ h)))
+
+pub returns-in-Err-grown_node-clause-below : goal.returns-in-Err-grown_node-clause-below
+returns-in-Err-grown_node-clause-below g c = stays-then c.load_root.ensures.below c.grown_node.ensures.below
+
+pub returns-in-Err-raised-clause-below : goal.returns-in-Err-raised-clause-below
+returns-in-Err-raised-clause-below g c = below_then g.S.Blocks.holdings c.args.tx.now c.grown_node.new.tx c.raised.new.tx (stays-then c.load_root.ensures.below c.grown_node.ensures.below) c.raised.ensures.store
+
+pub returns-then-used-more-clause-below : goal.returns-then-used-more-clause-below
+returns-then-used-more-clause-below g c = below_then g.S.Blocks.holdings c.args.tx.now c.grown_node.new.tx c.raised.new.tx (stays-then c.load_root.ensures.below c.grown_node.ensures.below) c.raised.ensures.store
+
+pub returns-in-Ok-put_node-clause-below : goal.returns-in-Ok-put_node-clause-below
+returns-in-Ok-put_node-clause-below g c = below_then g.S.Blocks.holdings c.args.tx.now c.grown_node.new.tx c.put_node.new.tx (stays-then c.load_root.ensures.below c.grown_node.ensures.below) (c.put_node.ensures.store ∙ c.raised.ensures.store)
+
+pub returns-clause-below : goal.returns-clause-below
+returns-clause-below g c = below_then g.S.Blocks.holdings c.args.tx.now c.grown_node.new.tx c.put_node.new.tx (stays-then c.load_root.ensures.below c.grown_node.ensures.below) (c.put_node.ensures.store ∙ c.raised.ensures.store)

@@ -1,4 +1,4 @@
-use Rattle.std.proofs.Common.{◌≡◌, ◌+◌, ◌-◌, ◌≤◌, sym, ◌∙◌, ap, subst, arith, length, List, [], take, drop, get_or, refl, ℕ, inl}
+use Rattle.std.proofs.Common.{◌≡◌, ◌+◌, ◌-◌, ◌*◌, ◌≤◌, sym, ◌∙◌, ap, subst, arith, length, List, [], take, drop, get_or, refl, ℕ, inl}
 use Rattle.block_id.specs.declared.id.BlockId.{BlockId}
 use Rattle.outcome.specs.Outcome.{first_, idle, then_, failed_, answered}
 use Rattle.data_nodes.specs.Layout.{node_of, ids_of, leaf, inner, room, fan_out, FitsPayload, IsNode}
