@@ -55,9 +55,7 @@ fn store_at(alloc: Global, version: u64) -> Result<Store, Fail>
 {
     let mut bytes = Vec::new(alloc);
     push_record(&mut bytes, version)?;
-    let Ok((state, list)) = decode(alloc, &bytes) else {
-        return Err("no record".into());
-    };
+    let (state, list) = decode(alloc, &bytes)?;
     if !list.is_empty() {
         return Err("a list".into());
     }

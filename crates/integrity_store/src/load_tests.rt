@@ -26,9 +26,7 @@ fn push_record(out: &mut Vec<u8>) -> Result<(), Fail> {
 fn load_from(alloc: Global, below: MemoryVault, id: &BlockId) -> Result<Answer, Fail> {
     let mut bytes = Vec::new(alloc);
     push_record(&mut bytes)?;
-    let Ok((state, list)) = decode(alloc, &bytes) else {
-        return Err("no record".into());
-    };
+    let (state, list) = decode(alloc, &bytes)?;
     if !list.is_empty() {
         return Err("a list".into());
     }

@@ -52,9 +52,7 @@ pub fn empty_store(alloc: Global) -> Result<Store, Fail>
     ensures few { IfOk result (λ store. IsFew (⟦<Store as Blocks>⟧.holdings.used store)) }
 {
     let record = empty_record(alloc)?;
-    let Ok((state, list)) = decode(alloc, &record) else {
-        return Err("no record".into());
-    };
+    let (state, list) = decode(alloc, &record)?;
     if !list.is_empty() {
         return Err("a list".into());
     }
