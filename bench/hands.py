@@ -56,7 +56,9 @@ class Tree:
             shutil.copy2(f"{TOP}/{name}", f"{folder}/{name}")
         self.write("crates.txt", CRATES)
         for line in CRATES.splitlines():
-            self.write(f"crates/{line.split(':')[0]}/src/lib.rt", "pub fn one() {}\n")
+            name, _, libraries = line.partition(":")
+            uses = "".join(f"use {it};\n" for it in libraries.split())
+            self.write(f"crates/{name}/src/lib.rt", f"{uses}pub fn one() {{}}\n")
         self.write("bin/rt", RT, 0o755)
         self.write("stub", PROGRAM, 0o755)
 
