@@ -1,4 +1,4 @@
-use Rattle.std.proofs.Common.{◌≡◌, ◌+◌, ◌-◌, ◌++◌, length, take, drop, ◌∙◌, ap, arith}
+use Rattle.std.proofs.Common.{◌≡◌, ◌+◌, ◌-◌, ◌++◌, length, take, drop, sym, ◌∙◌, ap, arith}
 use Rattle.std.specs.Prelude.{replicate, vec_len}
 use Rattle.block_id.specs.Contents.{overwritten}
 use Rattle.block_id.proofs.Contents.{overwritten_within}
