@@ -36,6 +36,20 @@ pub record RunCall : Type 0 where
   pub after : Outside
   pub status : Status
 
+-- the call with these values
+abbrev pub call_of : {V : Type 0} → {K : Type 0} → (V → Option (List Call)) → (V → ℕ) → KeeperGhosts K → List (List ℕ) → Instant → Chance → Chance → Stream → Stream → V → K → Ended V K → RunCall
+call_of trace faults G words now chance left input output vault keeper ended = record {
+  words = words;
+  now = now;
+  chance = chance;
+  left = left;
+  input = input;
+  output = output;
+  before = outside_of trace faults G vault keeper;
+  after = outside_of trace faults G ended.vault ended.keeper;
+  status = ended.status;
+}
+
 -- what `run` says that it did, by what the words ask for; words of no form are refused, and nothing is done
 abbrev pub Did : {V : Type 0} → {K : Type 0} → (V → Option (List Call)) → (V → ℕ) → KeeperGhosts K → RunCall → V → K → Ended V K → Option Form → Type 0
 Did trace faults G call vault keeper ended None = IsRefused call.words ended.status × Untouched call.input × Untouched call.output × AreUncalled vault keeper ended × (call.left ≡ call.chance)

@@ -1,9 +1,10 @@
 // The program's call as plain values.
-ghost use Rattle.std.specs.Prelude.{map};
+ghost use Rattle.std.specs.Prelude.{map, [], ◌∷◌};
 ghost use Rattle.std.specs.String.{string_bytes};
 ghost use Rattle.line_io.specs.Streams.{stream_of};
 ghost use Rattle.session_runs.specs.Runs.{outside_of};
-ghost use Rattle.run_histories.specs.Calls.{IsRunCall};
+ghost use Rattle.run_histories.specs.Calls.{IsRunCall, call_of};
+ghost use Rattle.run_histories.specs.Lists.{AreRunCalls};
 
 use cryfs_shell::{Ended, run};
 use fs_model::Moment;
@@ -11,7 +12,7 @@ use outside::{Keeper, Sink, Source, Vault};
 use rand_core::Rng;
 use std::alloc::Global;
 
-/// Calls `run`: so each call of it is one of those that the laws speak of.
+/// Calls `run`: so each call of it is one of those that the laws speak of, and so is the list of it alone.
 pub fn run_call<I: Source, O: Sink, V: Vault, K: Keeper, R: Rng>(
     alloc: Global,
     words: &[String],
@@ -22,17 +23,12 @@ pub fn run_call<I: Source, O: Sink, V: Vault, K: Keeper, R: Rng>(
     keeper: K,
     chance: &mut R,
 ) -> Ended<V, K>
-    ensures { IsRunCall V.trace V.faults K.Keeper (record {
-      words = map string_bytes words.now;
-      now = now;
-      chance = R.stream chance.old;
-      left = R.stream chance.new;
-      input = stream_of I.rest I.faults input.old input.new;
-      output = stream_of O.written O.faults output.old output.new;
-      before = outside_of V.trace V.faults K.Keeper vault keeper;
-      after = outside_of V.trace V.faults K.Keeper result.vault result.keeper;
-      status = result.status;
-    }) }
+    ensures call { IsRunCall V.trace V.faults K.Keeper (call_of V.trace V.faults K.Keeper
+        (map string_bytes words.now) now (R.stream chance.old) (R.stream chance.new)
+        (stream_of I.rest I.faults input.old input.new) (stream_of O.written O.faults output.old output.new) vault keeper result) }
+    ensures listed { AreRunCalls V.trace V.faults K.Keeper (outside_of V.trace V.faults K.Keeper vault keeper) (call_of V.trace V.faults K.Keeper
+        (map string_bytes words.now) now (R.stream chance.old) (R.stream chance.new)
+        (stream_of I.rest I.faults input.old input.new) (stream_of O.written O.faults output.old output.new) vault keeper result ∷ []) }
 {
     run(alloc, words, now, input, output, vault, keeper, chance)
 }

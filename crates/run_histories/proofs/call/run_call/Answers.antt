@@ -1,28 +1,19 @@
 use Rattle.std.proofs.Common.{map, refl}
 use Rattle.std.specs.String.{string_bytes}
 use Rattle.line_io.specs.Streams.{stream_of}
-use Rattle.session_runs.specs.Runs.{outside_of}
 use Rattle.shell_words.specs.Forms.{form_of}
-use Rattle.run_histories.specs.Calls.{RunCall}
+use Rattle.run_histories.specs.Calls.{RunCall, call_of}
 use Rattle.run_histories.proofs.Called.{did}
 use Rattle.run_histories.proofs.call.run_call.Goals as goal
 
-pub returns : goal.returns
-returns g c =
+pub returns-clause-call : goal.returns-clause-call
+returns-clause-call g c =
     let r = c.run in
     let e = r.ensures in
     let words = map string_bytes c.args.words.now in
-    let call : RunCall = record {
-      words = words;
-      now = c.args.now;
-      chance = g.R.Rng.stream c.args.chance.now;
-      left = g.R.Rng.stream r.new.chance;
-      input = stream_of g.I.Source.rest g.I.Source.faults c.args.input.now r.new.input;
-      output = stream_of g.O.Sink.written g.O.Sink.faults c.args.output.now r.new.output;
-      before = outside_of g.V.Vault.trace g.V.Vault.faults g.K.Keeper c.args.vault c.args.keeper;
-      after = outside_of g.V.Vault.trace g.V.Vault.faults g.K.Keeper r.result.vault r.result.keeper;
-      status = r.result.status;
-    } in
+    let call : RunCall = call_of g.V.Vault.trace g.V.Vault.faults g.K.Keeper words c.args.now (g.R.Rng.stream c.args.chance.now) (g.R.Rng.stream r.new.chance)
+    (stream_of g.I.Source.rest g.I.Source.faults c.args.input.now r.new.input) (stream_of g.O.Sink.written g.O.Sink.faults c.args.output.now r.new.output)
+    c.args.vault c.args.keeper r.result in
     record {
       vault = c.args.vault;
       keeper = c.args.keeper;
@@ -36,3 +27,6 @@ returns g c =
       no_false_alarm = e.no_false_alarm;
       faults_happened = e.faults_happened;
     }
+
+pub returns-clause-listed : goal.returns-clause-listed
+returns-clause-listed g c = (returns-clause-call g c, record { kept = refl; calls = refl }, tt)
