@@ -13,10 +13,10 @@ use Rattle.session_runs.specs.Runs.{Outside, OutsideStandsFor}
 use Rattle.histories.specs.Histories.{Run, session, quiet, before_of, after_of, exchanges_of, IsRun, IsUnforgedRun, GoesOnFrom, AreRuns, end_of, was_violated, IsRefusedRun, RunsFrom, Follow, EndsWith}
 
 module _ (shows : Showing) (c : Settings) where
-  stands_on : (last next : Outside) (tree : Tree) → GoesOnFrom last next → OutsideStandsFor shows c tree last → OutsideStandsFor shows c tree next
+  pub stands_on : (last next : Outside) (tree : Tree) → GoesOnFrom last next → OutsideStandsFor shows c tree last → OutsideStandsFor shows c tree next
   stands_on last next tree on s = subst (λ x. Represents shows x next.calls c tree) (sym on.kept) (subst (λ x. Represents shows last.kept x c tree) (sym on.calls) s)
 
-  marked_on : (last next : Outside) → GoesOnFrom last next → IsKeptMarked records last.kept → IsKeptMarked records next.kept
+  pub marked_on : (last next : Outside) → GoesOnFrom last next → IsKeptMarked records last.kept → IsKeptMarked records next.kept
   marked_on last next on m = subst (IsKeptMarked records) (sym on.kept) m
 
   -- what one more run does, and where it leaves all

@@ -1,1 +1,3 @@
 mod Following
+pub mod Configuration
+mod Honest

@@ -4,6 +4,7 @@ use Rattle.std.specs.declared.option.Option.{Option}
 use Rattle.std.specs.declared.result.Result.TheVariants.{Ok}
 use Rattle.block_id.specs.declared.id.BlockId.{BlockId}
 use Rattle.answers.specs.Sessions.{Exchange, IsSession, IsKeptPoint, latest, violated}
+use Rattle.config_file.specs.ConfigOf.{ConfigOf, locked}
 use Rattle.config_file.specs.Settings.{Settings}
 use Rattle.fs_model.specs.Instant.{Instant}
 use Rattle.fs_model.specs.Tree.{Tree, empty_tree}
@@ -13,13 +14,14 @@ use Rattle.integrity_store.specs.Standing.{records}
 use Rattle.outside.specs.Going.{GoesOn}
 use Rattle.outside.specs.Honest.{NonePassSince}
 use Rattle.outside.specs.HonestLaws.{none_since_where_no_rise, no_rise_where_none_since}
+use Rattle.session_saver.specs.Saving.{KeptConfigures}
 use Rattle.session_saver.specs.declared.saver.SyncError.{SyncError}
 use Rattle.tree_commands.specs.Performing.{Showing}
 use Rattle.mount_core.specs.Standing.{IsKeptMarked}
 use Rattle.mount.specs.Making.{Created}
 use Rattle.mount.specs.Unforged.{IsUnforgedConfig}
 use Rattle.session_runs.specs.Causes.{AreBuilt}
-use Rattle.session_runs.specs.Runs.{Outside, OutsideStandsFor, forgeries, lies, AreCalm, IsSessionRun, IsQuietRun}
+use Rattle.session_runs.specs.Runs.{Outside, OutsideStandsFor, PasswordOpens, forgeries, lies, AreCalm, IsSessionRun, IsQuietRun}
 
 -- a run: the session of some exchanges at a moment, closed so, or one of no lines; each under a password, from the one moment outside to the other
 pub data Run : Type 0 where
@@ -119,3 +121,30 @@ RunsCompose shows = (c : Settings) (first : Tree) (start : Outside) (runs : List
 abbrev pub RunsComposeFromCreate : Showing → Type 0
 RunsComposeFromCreate shows = (c : Settings) (file : List ℕ) (kept : Option (List ℕ)) (id : BlockId) (start : Outside) (runs : List Run) → Created shows c file kept start.kept start.calls (Ok id) → AreRuns shows c start runs
     → (trees : List Tree) × Follow shows c empty_tree runs trees × EndsWith shows c empty_tree start runs trees
+
+-- ---- where nothing lies
+
+-- under the password the file that is kept is this configuration, or it is locked
+abbrev pub OpensOrLocks : List ℕ → Settings → Outside → Type 0
+OpensOrLocks password c o = PasswordOpens password c o ⊎ ((file : List ℕ) × KeptConfigures records o.kept o.calls file × ConfigOf password file locked)
+
+-- the directory gave what was last written, and the configuration in it was this one
+pub record IsHonest (password : List ℕ) (c : Settings) (before after : Outside) : Type 0 where
+  pub gave : lies after ≤ lies before
+  pub opens : OpensOrLocks password c before
+
+abbrev pub IsHonestRun : Settings → Run → Type 0
+IsHonestRun c (session now password before after closing es) = IsHonest password c before after
+IsHonestRun c (quiet password before after) = IsHonest password c before after
+
+abbrev pub AreHonestRuns : Showing → Settings → Outside → List Run → Type 0
+AreHonestRuns shows c start [] = Unit {0}
+AreHonestRuns shows c start (run ∷ runs) = IsRun shows run × IsHonestRun c run × GoesOnFrom (end_of start runs) (before_of run) × AreHonestRuns shows c start runs
+
+-- nothing that opens was forged in an honest run from a kept tree on
+abbrev pub HonestRunIsUnforged : Showing → Type 0
+HonestRunIsUnforged shows = (c : Settings) (tree : Tree) (run : Run) → IsRun shows run → OutsideStandsFor shows c tree (before_of run) → IsHonestRun c run → IsUnforgedRun c run
+
+-- nor in any list of them, so they are runs that compose
+abbrev pub HonestRunsCompose : Showing → Type 0
+HonestRunsCompose shows = (c : Settings) (first : Tree) (start : Outside) (runs : List Run) → OutsideStandsFor shows c first start → AreHonestRuns shows c start runs → AreRuns shows c start runs

@@ -1,6 +1,6 @@
 // What one run leaves is what the next one needs.
 ghost use Rattle.tree_commands.specs.Showing.{ShowsFiles};
-ghost use Rattle.histories.specs.Histories.{RunsCompose, RunsComposeFromCreate};
+ghost use Rattle.histories.specs.Histories.{RunsCompose, RunsComposeFromCreate, HonestRunIsUnforged, HonestRunsCompose};
 
 /// Whatever the block directory returns, loses or refuses in any list of runs: each answers as a session of the plain tree from
 /// the tree that the one before it left, which is that of a kept point of its own session; or, once there was a violation,
@@ -8,4 +8,11 @@ ghost use Rattle.histories.specs.Histories.{RunsCompose, RunsComposeFromCreate};
 pub fn runs_compose()
     ensures all { RunsCompose ShowsFiles }
     ensures from_create { RunsComposeFromCreate ShowsFiles }
+{}
+
+/// That premise is met over a directory that gives what was last written: nothing that opens was forged in a run from a kept tree
+/// on, nor in any list of them, where each password opens the configuration that is kept or finds it locked.
+pub fn honest_runs_are_unforged()
+    ensures one { HonestRunIsUnforged ShowsFiles }
+    ensures all { HonestRunsCompose ShowsFiles }
 {}

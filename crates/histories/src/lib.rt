@@ -3,4 +3,4 @@
 
 mod law;
 
-pub use law::runs_compose;
+pub use law::{honest_runs_are_unforged, runs_compose};

@@ -1,0 +1,44 @@
+-- Where a directory gave what was last written, nothing that opens was forged.
+use Rattle.std.proofs.Common.{◌≤◌, ℕ, List, [], ◌∷◌, inl, inr}
+use Rattle.answers.specs.Sessions.{latest}
+use Rattle.config_file.specs.Settings.{Settings}
+use Rattle.fs_model.specs.Tree.{Tree}
+use Rattle.integrity_store.specs.Standing.{records}
+use Rattle.tree_commands.specs.Performing.{Showing}
+use Rattle.mount_core.specs.Standing.{IsKeptMarked}
+use Rattle.mount.specs.Unforged.{IsUnforgedConfig}
+use Rattle.mount.proofs.Reading.{loaded_unmarked}
+use Rattle.session_runs.specs.Runs.{Outside, OutsideStandsFor, lies}
+use Rattle.histories.specs.Histories.{Run, session, quiet, before_of, IsRun, IsUnforgedRun, AreRuns, end_of, OpensOrLocks, IsHonestRun, AreHonestRuns}
+use Rattle.histories.proofs.Configuration.{opened_only, locked_only, unforged_config}
+use Rattle.histories.proofs.Following.{stands_on, marked_on, compose}
+
+config_unforged : (password : List ℕ) (c : Settings) (before after : Outside) → OpensOrLocks password c before → lies after ≤ lies before → IsUnforgedConfig password before.kept before.calls after.calls c
+config_unforged password c before after (inl (file, cost, holds, opens)) honest =
+    unforged_config password before.kept before.calls after.calls c file holds opens.0 (opened_only password file c cost opens) honest
+config_unforged password c before after (inr (file, holds, locks)) honest =
+    unforged_config password before.kept before.calls after.calls c file holds locks.0 (locked_only password file c locks) honest
+
+module _ (shows : Showing) (c : Settings) where
+  pub one_unforged : (tree : Tree) (run : Run) → IsRun shows run → OutsideStandsFor shows c tree (before_of run) → IsHonestRun c run → IsUnforgedRun c run
+  one_unforged tree (session now password before after closing es) run stands h =
+      let config = config_unforged password c before after h.opens h.gave in
+      (config, run.unforged c tree (record { stands = stands; unforged_config = config }) h.gave)
+  one_unforged tree (quiet password before after) run stands h = config_unforged password c before after h.opens h.gave
+
+  -- no session is opened over a marked record
+  marked_unforged : (run : Run) → IsRun shows run → IsKeptMarked records (before_of run).kept → IsHonestRun c run → IsUnforgedRun c run
+  marked_unforged (session now password before after closing es) run m h =
+      absurd (loaded_unmarked before.kept run.attached.attached.state run.attached.attached.list run.attached.attached.loaded m)
+  marked_unforged (quiet password before after) run m h = config_unforged password c before after h.opens h.gave
+
+  pub all_unforged : (first : Tree) (start : Outside) (runs : List Run) → OutsideStandsFor shows c first start → AreHonestRuns shows c start runs → AreRuns shows c start runs
+  all_unforged first start [] s all = tt
+  all_unforged first start (run ∷ runs) s all =
+      let before = all_unforged first start runs s all.3 in
+      let left = compose shows c first start runs s before in
+      let unforged = elim left.2 as (λ _. IsUnforgedRun c run) [
+        | inl stands ↦ one_unforged (latest first left.0) run all.0 (stands_on shows c (end_of start runs) (before_of run) (latest first left.0) all.2 stands) all.1
+        | inr marked ↦ marked_unforged run all.0 (marked_on shows c (end_of start runs) (before_of run) all.2 marked.1) all.1
+      ] in
+      (all.0, unforged, all.2, before)

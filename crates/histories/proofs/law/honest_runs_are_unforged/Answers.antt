@@ -1,0 +1,9 @@
+use Rattle.tree_commands.specs.Showing.{ShowsFiles}
+use Rattle.histories.proofs.Honest.{one_unforged, all_unforged}
+use Rattle.histories.proofs.law.honest_runs_are_unforged.Goals as goal
+
+pub returns-clause-one : goal.returns-clause-one
+returns-clause-one k settings tree run is stands honest = one_unforged ShowsFiles settings tree run is stands honest
+
+pub returns-clause-all : goal.returns-clause-all
+returns-clause-all k settings first start runs s all = all_unforged ShowsFiles settings first start runs s all
