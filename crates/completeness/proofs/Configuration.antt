@@ -1,5 +1,5 @@
 -- The configuration that an honest directory gives is the one that what is kept says.
-use Rattle.std.proofs.Common.{◌≡◌, ◌≤◌, ℕ, true, false, not, List, ◌∷◌, ◌++◌, length, take, refl, sym, ◌∙◌, ap, subst, inl, inr, arith}
+use Rattle.std.proofs.Common.{◌≡◌, ◌≤◌, ◌+◌, ℕ, true, false, not, List, ◌∷◌, ◌++◌, length, take, refl, sym, ◌∙◌, ap, subst, inl, inr, arith}
 use Rattle.std.specs.Prelude.{is_some}
 use Rattle.std.proofs.lemmas.List.{take_all, length-take}
 use Rattle.std.proofs.lemmas.Slice.Eq.{bytes_eq-Decides}
@@ -13,6 +13,7 @@ use Rattle.config_file.specs.Settings.{Settings}
 use Rattle.integrity_store.specs.EnduringLaws.{configured_of}
 use Rattle.integrity_store.specs.Standing.{Configures, records}
 use Rattle.fs_model.specs.Tree.{Tree}
+use Rattle.histories.proofs.Configuration.{opened_only, unforged_config}
 use Rattle.line_io.specs.Lines.{first_line}
 use Rattle.line_io.specs.Streams.{Stream}
 use Rattle.mount.specs.Opening.{IsLoaded, GaveConfig}
@@ -20,7 +21,7 @@ use Rattle.mount.specs.Unforged.{IsUnforgedConfig}
 use Rattle.mount.proofs.Reading.{true_is_false}
 use Rattle.outside.specs.Changes.{FileChanges, change_at, cut}
 use Rattle.outside.specs.Honest.{last_change, same_answer, is_left, is_lie, count_calls, count_told}
-use Rattle.outside.specs.HonestLaws.{count_grows, uncounted}
+use Rattle.outside.specs.HonestLaws.{uncounted}
 use Rattle.outside.specs.Trace.{Call, config, got, adds}
 use Rattle.local_state.specs.Record.{PlainState, record_bytes, HasRecord}
 use Rattle.redo_vault.specs.Redo.{Gave}
@@ -30,9 +31,6 @@ use Rattle.session_saver.specs.Saving.{KeptConfigures}
 use Rattle.store_api.specs.Durables.{last_told, IsConfigured}
 use Rattle.tree_commands.specs.Showing.{ShowsFiles}
 use Rattle.completeness.specs.Premises.{IsUntroubled, Finds}
-
-pub same_settings : (s t : Settings) (k l : Cost) → opened s k ≡ opened t l → s ≡ t
-same_settings s t k l e = cc e
 
 -- ---- one honest get of the configuration
 
@@ -81,49 +79,9 @@ module _ (password : List ℕ) (kept : Option (List ℕ)) (t0 t1 : Option (List 
   pub given_is : (answer : List ℕ) (found : ConfigFound) → GaveConfig list t0 t1 (Some answer) → ConfigOf password answer found → found ≡ opened c cost
   given_is answer found gave is = only password file found (opened c cost) (subst (λ x. ConfigOf password x found) (same_Some _ _ (given (Some answer) gave)) is) opens
 
--- ---- the first call gives it, where it doesn't wait
-
--- one get of a file that was put last, asked for any number of bytes
-got_put : (file : List ℕ) (max : ℕ) (before : List Call) (bytes : List ℕ) → last_change config before ≡ Some (record { bytes = Some file; ok = true }) → is_lie before (got config max (Some bytes)) ≡ false → bytes ≡ take max file
-got_put file max before bytes last true_call =
-    (bytes_eq-Decides bytes (take max file)).0 (not-false (same_answer (Some bytes) (Some (take max file))) (ap (λ l. not (is_left l max (Some bytes))) (sym last) ∙ true_call))
-
-same_length : (file bytes : List ℕ) (max : ℕ) → bytes ≡ take max file → length bytes ≡ length file → bytes ≡ file
-same_length file bytes max e same =
-    let fits : length file ≤ max = omega (arith, length-take max file, ap length e, same) in
-    e ∙ take_all max file fits
-
-module _ (password : List ℕ) (kept : Option (List ℕ)) (t0 t1 : Option (List Call)) (c : Settings) (cost : Cost) (file : List ℕ)
-    (holds : KeptConfigures records kept t0 file) (opens : ConfigOf password file (opened c cost)) (honest : count_told is_lie t1 ≤ count_told is_lie t0) where
-  by_record : (state : PlainState) (list : FileChanges) → HasRecord state list → kept ≡ Some (record_bytes state list) → IsConfigured list t0 file
-  by_record state list has is = configured_of state list t0 file has (subst (λ x. Configures x t0 file) (same_Some _ _ (sym holds.1 ∙ is)) holds.2)
-
-  is_this : (bytes : List ℕ) (found : Settings) (params : Cost) → bytes ≡ file → ConfigOf password bytes (opened found params) → found ≡ c
-  is_this bytes found params e o = same_settings found c params cost (only password file (opened found params) (opened c cost) (subst (λ x. ConfigOf password x (opened found params)) e o) opens)
-
-  waiting : (list : FileChanges) (bytes : List ℕ) → change_at config list ≡ Some (Some bytes) → IsConfigured list t0 file → bytes ≡ file
-  waiting list bytes at (inl w) = cc (sym at ∙ w)
-  waiting list bytes at (inr (none, last)) = absurd (cc (sym at ∙ none))
-
-  called : (list : FileChanges) (before calls : List Call) (max : ℕ) (bytes : List ℕ) → change_at config list ≡ None → t0 ≡ Some before → t1 ≡ Some (calls ++ got config max (Some bytes) ∷ before) → IsConfigured list t0 file
-      → bytes ≡ take max file
-  called list before calls max bytes none eo en (inl w) = absurd (cc (sym none ∙ w))
-  called list before calls max bytes none eo en (inr (free, last)) =
-      let call = got config max (Some bytes) in
-      let all : count_calls is_lie (calls ++ call ∷ before) ≤ count_calls is_lie before = subst (λ x. count_told is_lie (Some (calls ++ call ∷ before)) ≤ count_told is_lie x) eo (subst (λ x. count_told is_lie x ≤ count_told is_lie t0) en honest) in
-      let first : count_calls is_lie (call ∷ before) ≤ count_calls is_lie before = omega (arith, all, count_grows is_lie (call ∷ before) calls) in
-      got_put file max before bytes (ap (last_told config) (sym eo) ∙ last) (uncounted (is_lie before call) (count_calls is_lie before) first)
-
-  -- so no other configuration opens
-  pub unforged_config : IsUnforgedConfig password kept t0 t1 c
-  unforged_config = record {
-    listed = λ state list bytes found params has is at o. is_this bytes found params (waiting list bytes at (by_record state list has is)) o;
-    given = λ state list before calls max bytes found params has is none eo en o.
-        is_this bytes found params (same_length file bytes max (called list before calls max bytes none eo en (by_record state list has is)) (omega (arith, o.0.size, opens.0.size))) o;
-  }
-
 pub opens_to : (input output : Stream) (bytes : List ℕ) (c : Settings) (first : Tree) (before after : Outside) → Finds input bytes c first before → IsUntroubled input output before after → OpensTo ShowsFiles (first_line bytes) c first before after
 opens_to input output bytes c first before after finds quiet = record {
   stands = finds.stands;
-  unforged_config = unforged_config (first_line bytes) before.kept before.calls after.calls c finds.opens.1 finds.opens.0 finds.opens.2 finds.opens.3 quiet.honest;
+  unforged_config = unforged_config (first_line bytes) before.kept before.calls after.calls c finds.opens.0 finds.opens.2 finds.opens.3.0
+      (opened_only (first_line bytes) finds.opens.0 c finds.opens.1 finds.opens.3) quiet.honest;
 }

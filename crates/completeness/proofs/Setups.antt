@@ -14,6 +14,7 @@ use Rattle.cryfs_setup.specs.Passwd.{RanPasswd, IsChanged, NewOpens, changed_tex
 use Rattle.cryfs_setup.specs.Printing.{Printed}
 use Rattle.cryfs_setup.proofs.Ending.{ends}
 use Rattle.fs_model.specs.Tree.{Tree, empty_tree}
+use Rattle.histories.proofs.Configuration.{same_settings}
 use Rattle.integrity_store.specs.EnduringLaws.{listed_has}
 use Rattle.line_io.specs.Lines.{first_line}
 use Rattle.line_io.specs.Streams.{Stream, HasFailed}
@@ -45,7 +46,7 @@ use Rattle.tree_commands.specs.Showing.{ShowsFiles}
 use Rattle.completeness.specs.Premises.{IsUntroubled, Finds, Leaves}
 use Rattle.completeness.specs.Sessions.{FindsNoMemory}
 use Rattle.completeness.specs.Setups.{IsDone, StaysOrChanges, StaysOrMakes, IsBare}
-use Rattle.completeness.proofs.Configuration.{given_is, none_given, opens_to, same_settings}
+use Rattle.completeness.proofs.Configuration.{given_is, none_given, opens_to}
 use Rattle.completeness.proofs.Opening.{uncalled, unread, unopened}
 use Rattle.completeness.proofs.Passwords.{one_unread, two_unread, password_is, second_is}
 
