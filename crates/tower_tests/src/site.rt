@@ -69,7 +69,9 @@ pub(crate) fn open(alloc: Global, vault: MemoryVault, record: &[u8]) -> Result<S
     ensures intact { IfOk result (λ store. ⟦<Store as Blocks>⟧.meanings.intact store) }
     ensures few { IfOk result (λ store. IsFew (⟦<Store as Blocks>⟧.holdings.used store)) }
 {
-    let (state, list) = decode(alloc, record)?;
+    let Ok((state, list)) = decode(alloc, record) else {
+        return Err("no record".into());
+    };
     if !is_no_block(&list) {
         return Err("a block as the configuration".into());
     }
