@@ -1,7 +1,9 @@
 // What a local record promises, over any keeper.
-ghost use Rattle.std.specs.Prelude.{◌≤◌, length, OnOk};
+ghost use Rattle.std.specs.Prelude.{◌≡◌, ◌↔◌, ◌≤◌, length, IsTrue, IfOk, OnOk, option_map};
+ghost use Rattle.std.specs.Option.{option_copied};
+ghost use Rattle.outside.specs.View.{bytes_of};
 
-use crate::expected::{LENGTHS, expect, generated, is_front};
+use crate::expected::{LENGTHS, expect, generated, is_same};
 use outside::Keeper;
 use rand_core::Rng;
 use rand_pcg::Pcg32;
@@ -13,14 +15,19 @@ const SAVES: usize = 100;
 
 /// Whether a load answers this record.
 fn has<K: Keeper>(alloc: Global, keeper: &mut K, want: Option<&Vec<u8>>) -> Result<bool, Fail>
-    ensures { K.room keeper.old ≤ K.room keeper.new }
+    ensures same { IfOk result (λ same. IsTrue same ↔ (K.kept keeper.old ≡ bytes_of (option_copied want.entry))) }
+    ensures kept { K.kept keeper.new ≡ K.kept keeper.old }
+    ensures room { K.room keeper.old ≤ K.room keeper.new }
+    ensures quiet { OnOk result (K.faults keeper.new ≡ K.faults keeper.old) }
 {
     let came = keeper.load(alloc)?;
-    Ok(is_front(&came, want, usize::MAX))
+    Ok(is_same(&came, want))
 }
 
 /// Takes the memory for a record, and saves it.
-fn save<K: Keeper>(alloc: Global, keeper: &mut K, bytes: &[u8]) -> Result<(), Fail> {
+fn save<K: Keeper>(alloc: Global, keeper: &mut K, bytes: &[u8]) -> Result<(), Fail>
+    ensures { OnOk result (K.kept keeper.new ≡ Some bytes.now) }
+{
     keeper.prepare(alloc, bytes.len())?;
     keeper.save(bytes)?;
     Ok(())
@@ -81,12 +88,10 @@ pub fn keeps_its_record_while_it_takes_memory<K: Keeper>(
 /// Saves a record for which there is room, and loads it.
 fn save_within<K: Keeper>(alloc: Global, keeper: &mut K, len: usize) -> Result<(), Fail>
     requires { len ≤ K.room keeper.old }
-    ensures { K.room keeper.old ≤ K.room keeper.new }
+    ensures saved { OnOk result (option_map length (K.kept keeper.new) ≡ Some len) }
+    ensures room { K.room keeper.old ≤ K.room keeper.new }
 {
     let bytes = generated(alloc, 3, len)?;
-    if bytes.len() != len {
-        return Err("another length".into());
-    }
     keeper.save(&bytes)?;
     let saved = has(alloc, keeper, Some(&bytes))?;
     expect(alloc, saved, "keeps room for its longest record", len)

@@ -1,5 +1,10 @@
 // What a block directory promises, over any directory.
-ghost use Rattle.std.specs.Prelude.{◌<◌};
+ghost use Rattle.std.specs.Prelude.{◌≡◌, ◌<◌, true, take, IsTrue, IfOk, OnOk};
+ghost use Rattle.std.specs.Option.{option_copied};
+ghost use Rattle.outside.specs.Trace.{put as put_call, removed, adds};
+ghost use Rattle.outside.specs.View.{at_of, bytes_of};
+ghost use Rattle.outside_tests.specs.Gets.{gave, file_in, after_gets};
+ghost use Rattle.outside_tests.specs.Names.{block_of, six_names};
 
 use crate::expected::{LENGTHS, expect, generated, is_front};
 use block_id::BlockId;
@@ -20,15 +25,19 @@ const STEPS: usize = 400;
 const COUNT: u32 = 6;
 
 /// The block whose id begins with these two bytes, ends with this one, and is zeros between.
-fn block(front: [u8; 2], last: u8) -> FileName {
-    let mut id = [last; 16];
-    id[..15].fill(0);
+fn block(front: [u8; 2], last: u8) -> FileName
+    ensures { result ≡ block_of front last }
+{
+    let mut id = [0; 16];
+    id[15] = last;
     id[..2].copy_from_slice(&front);
     FileName::Block(BlockId(id))
 }
 
 /// The configuration, a block, and blocks of which each differs from that one in one place of its name.
-fn names() -> [FileName; 6] {
+fn names() -> [FileName; 6]
+    ensures { result ≡ six_names }
+{
     [
         FileName::Config,
         block([0xA0, 0x10], 1),
@@ -40,7 +49,9 @@ fn names() -> [FileName; 6] {
 }
 
 /// The configuration and a block.
-fn two_names() -> [FileName; 2] {
+fn two_names() -> [FileName; 2]
+    ensures { result ≡ take 2 six_names }
+{
     [FileName::Config, block([0xA0, 0x10], 1)]
 }
 
@@ -51,7 +62,9 @@ fn gives<V: Vault>(
     name: &FileName,
     want: Option<&Vec<u8>>,
     max: usize,
-) -> Result<bool, Fail> {
+) -> Result<bool, Fail>
+    ensures { IfOk result (λ same. IsTrue same → V.trace vault.new ≡ adds (V.trace vault.old) (gave name.now max (bytes_of (option_copied want.entry)))) }
+{
     let came = vault.get(alloc, name, max)?;
     Ok(is_front(&came, want, max))
 }
@@ -62,7 +75,9 @@ fn has<V: Vault>(
     vault: &mut V,
     name: &FileName,
     want: Option<&Vec<u8>>,
-) -> Result<bool, Fail> {
+) -> Result<bool, Fail>
+    ensures { IfOk result (λ same. IsTrue same → V.trace vault.new ≡ adds (V.trace vault.old) (gave name.now usize.MAX (bytes_of (option_copied want.entry)))) }
+{
     gives(alloc, vault, name, want, usize::MAX)
 }
 
@@ -140,12 +155,9 @@ pub fn gives_at_most_what_is_asked_for<V: Vault>(alloc: Global, vault: &mut V) -
 }
 
 /// Whether each name is the file that it ought to be, of which at most so many bytes are asked for.
-fn has_all<V: Vault>(
-    alloc: Global,
-    vault: &mut V,
-    files: &Files,
-    max: usize,
-) -> Result<bool, Fail> {
+fn has_all<V: Vault>(alloc: Global, vault: &mut V, files: &Files, max: usize) -> Result<bool, Fail>
+    ensures { IfOk result (λ same. IsTrue same → V.trace vault.new ≡ after_gets (file_in files.now) max six_names (V.trace vault.old)) }
+{
     for name in names() {
         if !gives(alloc, vault, &name, files.get(&name), max)? {
             return Ok(false);
@@ -160,7 +172,9 @@ fn put<V: Vault>(
     files: &mut Files,
     name: FileName,
     bytes: Vec<u8>,
-) -> Result<(), Fail> {
+) -> Result<(), Fail>
+    ensures { OnOk result (V.trace vault.new ≡ adds (V.trace vault.old) (put_call (at_of name) bytes.items true)) }
+{
     vault.put(alloc, &name, &bytes)?;
     files.insert(name, bytes)?;
     Ok(())
@@ -171,7 +185,9 @@ fn remove<V: Vault>(
     vault: &mut V,
     files: &mut Files,
     name: &FileName,
-) -> Result<(), Fail> {
+) -> Result<(), Fail>
+    ensures { OnOk result (V.trace vault.new ≡ adds (V.trace vault.old) (removed (at_of name.now) true)) }
+{
     vault.remove(alloc, name)?;
     files.remove(name);
     Ok(())

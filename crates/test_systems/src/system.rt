@@ -1,4 +1,10 @@
 // A directory and a record in memory, and runs over them.
+ghost use Rattle.std.specs.Prelude.{◌≡◌, ◌&&◌, ◌∷◌, ◌++◌, [], max, codes, IfOk};
+ghost use Rattle.std.specs.Str.{bytes_eq};
+ghost use Rattle.std.specs.String.{string_bytes};
+ghost use Rattle.outside.specs.View.{bytes_of};
+ghost use Rattle.memory_outside.specs.Vaults.{restarted};
+ghost use Rattle.test_systems.specs.Runs.{same_status};
 
 use crate::random::ZEROS;
 use cryfs_shell::{Ended, Status, run};
@@ -29,7 +35,12 @@ pub struct Run<'a> {
 }
 
 /// A run at 100.000000005 whose streams don't fail.
-pub fn plain<'a>(words: &'a [&'a str], input: &'a str) -> Run<'a> {
+pub fn plain<'a>(words: &'a [&'a str], input: &'a str) -> Run<'a>
+    ensures given { (result.words.now ≡ words.now) × (result.input.now ≡ input.now) }
+    ensures piece { result.piece ≡ 7 }
+    ensures moment { (result.secs ≡ 100) × (result.nanos ≡ 5) }
+    ensures fails { (result.reads.now ≡ []) × (result.writes.now ≡ []) }
+{
     Run {
         words,
         input: input.as_bytes(),
@@ -42,10 +53,32 @@ pub fn plain<'a>(words: &'a [&'a str], input: &'a str) -> Run<'a> {
 }
 
 /// Nothing is kept, and the directory is empty.
-pub fn nothing(alloc: Global) -> System {
+pub fn nothing(alloc: Global) -> System
+    ensures { (result.vault.files ≡ []) × (result.keeper.kept ≡ None) }
+{
     System {
         vault: MemoryVault::new(alloc),
         keeper: MemoryKeeper::new(alloc, None, Vec::new(alloc)),
+    }
+}
+
+/// A run's input.
+fn source(alloc: Global, case: &Run<'_>) -> Result<MemorySource, AllocError>
+    ensures { IfOk result (λ source. source ≡ record { rest = case.now.input.now; piece = max case.now.piece 1; fails = case.now.reads.now; calls = 0; faults = 0 }) }
+{
+    let piece = case.piece.max(1);
+    Ok(MemorySource::new(case.input.to_vec(alloc)?, piece, case.reads.to_vec(alloc)?))
+}
+
+/// Where a run writes.
+fn sink(alloc: Global, case: &Run<'_>) -> Result<MemorySink, AllocError>
+    ensures piece { IfOk result (λ sink. sink.piece ≡ max case.now.piece 1) }
+    ensures fails { IfOk result (λ sink. sink.fails ≡ case.now.writes.now) }
+{
+    let piece = case.piece.max(1);
+    match MemorySink::new(alloc, piece, 1 << 20, case.writes.to_vec(alloc)?) {
+        Ok(sink) => Ok(sink),
+        Err(_) => Err(AllocError),
     }
 }
 
@@ -63,11 +96,8 @@ pub fn outcome<R: Rng>(
     let Some(now) = Moment::new(case.secs, case.nanos) else {
         return Err(AllocError);
     };
-    let piece = case.piece.max(1);
-    let mut input = MemorySource::new(case.input.to_vec(alloc)?, piece, case.reads.to_vec(alloc)?);
-    let Ok(mut output) = MemorySink::new(alloc, piece, 1 << 20, case.writes.to_vec(alloc)?) else {
-        return Err(AllocError);
-    };
+    let mut input = source(alloc, case)?;
+    let mut output = sink(alloc, case)?;
     let System { vault, keeper } = system;
     let Ended {
         status,
@@ -90,6 +120,13 @@ pub fn outcome<R: Rng>(
     ))
 }
 
+/// Whether a run wrote this text and ended with this status.
+fn is_as_wanted(written: &[u8], ended: Status, text: &str, status: Status) -> bool
+    ensures { result ≡ (same_status ended status && bytes_eq written.now text.now) }
+{
+    ended == status && written == text.as_bytes()
+}
+
 /// A run with zeros for random bytes, which has to write this text and end with this status.
 pub fn expect(
     alloc: Global,
@@ -100,7 +137,7 @@ pub fn expect(
 ) -> Result<System, Fail> {
     let mut zeros = ZEROS;
     let (written, ended, after) = outcome(alloc, system, case, &mut zeros)?;
-    if ended != status || written.as_slice() != text.as_bytes() {
+    if !is_as_wanted(&written, ended, text, status) {
         let shown = str::from_utf8(written.as_slice()).unwrap_or("bytes");
         return Err(Fail::new(format_args!(
             "{ended:?} after {shown:?} and not {status:?} after {text:?}"
@@ -125,7 +162,9 @@ pub fn new_system(alloc: Global) -> Result<System, Fail> {
 }
 
 /// The lines after the password line.
-pub fn script(alloc: Global, lines: &str) -> Result<String, AllocError> {
+pub fn script(alloc: Global, lines: &str) -> Result<String, AllocError>
+    ensures { IfOk result (λ input. string_bytes input ≡ codes "pw" ++ 10 ∷ lines.now) }
+{
     format!(in alloc; "pw\n{lines}")
 }
 
@@ -141,18 +180,29 @@ pub fn session(
     expect(alloc, system, &plain(&["shell"], &input), text, status)
 }
 
+/// A copy of what is kept.
+fn copy_record(alloc: Global, keeper: &MemoryKeeper) -> Result<Option<Vec<u8>>, AllocError>
+    ensures { IfOk result (λ copied. bytes_of copied ≡ keeper.now.kept) }
+{
+    match keeper.kept() {
+        Some(bytes) => Ok(Some(bytes.to_vec(alloc)?)),
+        None => Ok(None),
+    }
+}
+
 /// The same files and record, where the saves of these numbers fail, counted from 1 from here on, and where such a save
 /// keeps its record as is said beside its number.
 pub fn failing_saves(
     alloc: Global,
     system: System,
     fails: Vec<(u64, bool)>,
-) -> Result<System, AllocError> {
+) -> Result<System, AllocError>
+    ensures directory { IfOk result (λ after. after.vault ≡ system.vault) }
+    ensures kept { IfOk result (λ after. after.keeper.kept ≡ system.keeper.kept) }
+    ensures listed { IfOk result (λ after. after.keeper.failing ≡ fails.items) }
+{
     let System { vault, keeper } = system;
-    let kept = match keeper.kept() {
-        Some(bytes) => Some(bytes.to_vec(alloc)?),
-        None => None,
-    };
+    let kept = copy_record(alloc, &keeper)?;
     Ok(System {
         vault,
         keeper: MemoryKeeper::new(alloc, kept, fails),
@@ -160,7 +210,11 @@ pub fn failing_saves(
 }
 
 /// The same files and record, where nothing fails any more.
-pub fn mended(alloc: Global, system: System) -> Result<System, AllocError> {
+pub fn mended(alloc: Global, system: System) -> Result<System, AllocError>
+    ensures directory { IfOk result (λ after. after.vault ≡ record (restarted system.vault) { failing = []; failing_from = Some u64.MAX }) }
+    ensures kept { IfOk result (λ after. after.keeper.kept ≡ system.keeper.kept) }
+    ensures none_listed { IfOk result (λ after. after.keeper.failing ≡ []) }
+{
     let mut system = failing_saves(alloc, system, Vec::new(alloc))?;
     system.vault.fail_calls(Vec::new(alloc));
     system.vault.fail_from(u64::MAX);
