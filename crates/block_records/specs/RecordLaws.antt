@@ -16,7 +16,8 @@ use Rattle.block_records.specs.BlockRecords.{Record, opened, payload_of, record_
 true_is_false : true ≡ false → ⊥
 true_is_false e = cc
 
-none_is_some : {A B : Type 0} {x : A} → None ≡ Some x → B
+-- nothing is no value
+pub none_is_some : {A B : Type 0} {x : A} → None ≡ Some x → B
 none_is_some {B = B} e = absurd (true_is_false (ap is_some (sym e)))
 
 length_if : (b c : Bool) (o : Option (List ℕ)) (p : List ℕ) → (if b && c then o else None) ≡ Some p → b ≡ true

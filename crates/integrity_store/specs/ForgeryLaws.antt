@@ -13,18 +13,12 @@ use Rattle.outside.specs.Honest.{LastChange, last_change, same_answer, is_left, 
 use Rattle.outside.specs.HonestLaws.{count_grows}
 use Rattle.outside.specs.Names.{same_at}
 use Rattle.sealed_store.specs.BlockFiles.{opens_file}
-use Rattle.block_records.specs.RecordLaws.{opened-plain, opens-length}
+use Rattle.block_records.specs.RecordLaws.{none_is_some, opened-plain, opens-length}
 use Rattle.integrity_store.specs.Forgeries.{forged, opens_unput, was_put}
 use Rattle.integrity_store.specs.Held.{Held}
 use Rattle.integrity_store.specs.ReadLaws.{sound-reads}
 use Rattle.integrity_store.specs.Reads.{AllReads, IsRead, WentOnByReads}
 use Rattle.integrity_store.specs.Soundness.{SoundAt, SoundBy}
-
-true_is_false : true ≡ false → ⊥
-true_is_false e = cc
-
-none_is_some : {A B : Type 0} {x : A} → None ≡ Some x → B
-none_is_some {B = B} e = absurd (true_is_false (ap is_some (sym e)))
 
 pub went_count : (test : List Call → Call → Bool) (h : Held) (a b : Option (List Call)) → WentOnByReads h a b → count_told test a ≤ count_told test b
 went_count test h None b went = omega arith
