@@ -14,6 +14,3 @@ pub use encode::encode_entries;
 pub use entry::Entry;
 pub use place::{Located, locate};
 pub use reads::{entries, find, find_target, whole_body};
-
-#[cfg(test)]
-mod tests;

@@ -6,6 +6,3 @@ mod over;
 mod ranges;
 
 pub use ranges::{resize, write_range};
-
-#[cfg(test)]
-mod tests;

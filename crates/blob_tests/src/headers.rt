@@ -1,6 +1,6 @@
 // A header as bytes.
-use super::*;
 use block_id::BlockId;
+use fs_blobs::{Header, header_bytes, read_header};
 use fs_model::Kind;
 
 #[test]

@@ -1,7 +1,6 @@
 // Trees over a store in memory, at the smallest block: a leaf has 42 bytes, and a node two children.
 ghost use Rattle.std.specs.Prelude.{◌≤◌, ◌^◌};
 
-use super::{resize, write_range};
 use block_id::{BlockId, Why};
 use data_nodes::Node;
 use data_tree::{load_at, load_root, put_new, put_node};
@@ -12,6 +11,7 @@ use std::alloc::Global;
 use std::test::Fail;
 use store_api::{Blocks, BlocksMut, Tx};
 use tree_calls::{drop_tree, len, new_tree, read_range};
+use tree_ranges::{resize, write_range};
 
 const SIZES: [usize; 7] = [0, 42, 43, 84, 85, 168, 169];
 

@@ -1,8 +1,8 @@
 // Entries as bytes: a whole one, names of 1 and 255 bytes, and their order.
 ghost use Rattle.std.specs.Prelude.{◌≤◌, IfSome};
 
-use super::*;
 use block_id::{BlockId, Memory};
+use dir_blob::{Entry, decode_entries, encode_entries};
 use fs_model::{Attr, Kind, MAX_MODE, Moment, Name};
 use std::alloc::Global;
 use std::test::Fail;

@@ -1,6 +1,6 @@
 use Rattle.std.proofs.Common.{◌<◌}
 use Rattle.data_tree.proofs.Loads.{tx_meanings}
-use Rattle.tree_ranges.proofs.tests.+shape.Given as goal
+use Rattle.blob_tests.proofs.trees.+shape.Given as goal
 
 abbrev pub decreases-shape_below : goal.decreases-shape_below
 decreases-shape_below g l = l.depth
