@@ -10,6 +10,3 @@ mod transposition;
 mod vectors;
 
 pub use key_planes::KeyPlanes;
-
-#[cfg(test)]
-mod tests;

@@ -8,6 +8,3 @@ mod sub_word;
 
 pub use key_schedule::KeySchedule;
 pub use sub_word::SubWord;
-
-#[cfg(test)]
-mod tests;

@@ -4,7 +4,7 @@ ghost use Rattle.aes_gcm.specs.Gctr.{counter_block, inc32};
 
 /// The counter block after this one.
 #[inline(always)]
-pub(crate) fn inc32(block: [u8; 16]) -> [u8; 16]
+fn inc32(block: [u8; 16]) -> [u8; 16]
     ensures { result ≡ inc32 block }
 {
     let count = u32::from_be_bytes([block[12], block[13], block[14], block[15]]);

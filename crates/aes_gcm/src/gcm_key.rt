@@ -16,7 +16,7 @@ use std::alloc::{AllocError, Global};
 use std::marker::Model;
 
 /// A counter block that counts 1, with room for an IV of twelve bytes.
-pub(crate) const FIRST_COUNT: [u8; 16] = [0, 0, 0, 0, 0, 0, 0, 0, 0, 0, 0, 0, 0, 0, 0, 1];
+const FIRST_COUNT: [u8; 16] = [0, 0, 0, 0, 0, 0, 0, 0, 0, 0, 0, 0, 0, 0, 0, 1];
 
 /// A key with what sealing needs of it: the planes of its round keys, and the tables of its hash subkey.
 #[derive(Drop)]
@@ -163,7 +163,7 @@ fn append_crypted(
 }
 
 /// Two lengths in bytes, as the block of their lengths in bits.
-pub(crate) fn bit_lengths(a: usize, b: usize) -> [u8; 16]
+fn bit_lengths(a: usize, b: usize) -> [u8; 16]
     ensures { result ≡ to_be_bytes w64 (a * 8 % 2 ^ 64) ++ to_be_bytes w64 (b * 8 % 2 ^ 64) }
 {
     let mut block = [0u8; 16];

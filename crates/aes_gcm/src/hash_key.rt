@@ -95,7 +95,7 @@ fn block_of(bytes: &[u8], i: usize) -> [u8; 16]
 
 /// V shifted right by one bit, reduced.
 #[inline(always)]
-pub(crate) fn next_v(v: u128) -> u128
+fn next_v(v: u128) -> u128
     ensures { result ≡ next_v v }
 {
     (v >> 1) ^ (v % 2 * (0xe1 << 120))

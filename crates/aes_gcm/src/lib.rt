@@ -11,10 +11,3 @@ mod key_stream;
 pub use aes256_gcm::Aes256Gcm;
 pub use gcm::{gcm_seal, gcm_unseal};
 pub use gcm_key::GcmKey;
-
-#[cfg(test)]
-mod compared;
-#[cfg(test)]
-mod plain;
-#[cfg(test)]
-mod tests;

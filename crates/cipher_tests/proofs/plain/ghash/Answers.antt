@@ -2,7 +2,7 @@ use Rattle.std.proofs.Common.{◌≡◌, ℕ, List, ◌/◌, length, bit_xor, re
 use Rattle.std.specs.Int.{w128, to_be_bytes}
 use Rattle.aes_gcm.specs.Ghash.{ghash, hashed, times}
 use Rattle.aes_gcm.proofs.Hashing.{hashed_next}
-use Rattle.aes_gcm.proofs.plain.ghash.Goals as goal
+use Rattle.cipher_tests.proofs.plain.ghash.Goals as goal
 
 pub turns-init : goal.turns-init
 unfolding hashed

@@ -3,7 +3,7 @@ use Rattle.aes_block.specs.KeyExpansion.{aes256}
 use Rattle.aes_gcm.specs.Gctr.{counter_block, inc32, key_byte}
 use Rattle.aes_gcm.proofs.Counters.{counter_block_next}
 use Rattle.aes_gcm.proofs.Streams.{added_more, gctr_all}
-use Rattle.aes_gcm.proofs.plain.gctr.Goals as goal
+use Rattle.cipher_tests.proofs.plain.gctr.Goals as goal
 
 pub turns-init : goal.turns-init
 unfolding counter_block

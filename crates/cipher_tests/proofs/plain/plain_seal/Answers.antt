@@ -5,7 +5,7 @@ use Rattle.aes_gcm.specs.Gcm.{bit_length, crypt, first_counter, hash_subkey, pad
 use Rattle.aes_gcm.specs.Gctr.{gctr, inc32}
 use Rattle.aes_gcm.specs.Ghash.{ghash}
 use Rattle.aes_gcm.proofs.Tags.{crypt_from, tag_from}
-use Rattle.aes_gcm.proofs.plain.plain_seal.Goals as goal
+use Rattle.cipher_tests.proofs.plain.plain_seal.Goals as goal
 
 pub returns-clause-text : goal.returns-clause-text
 unfolding hash_subkey

@@ -1,7 +1,7 @@
 // GCM under keys of 32 bytes, against outside vectors: first the six test cases that the mode's
 // authors give, then cases that OpenSSL made.
-use super::*;
 use aes_block::KeySchedule;
+use aes_gcm::{Aes256Gcm, gcm_seal, gcm_unseal};
 use seal_api::Sealer;
 use std::alloc::Global;
 use std::test::Fail;

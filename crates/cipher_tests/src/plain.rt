@@ -7,10 +7,7 @@ ghost use Rattle.aes_gcm.specs.Gcm.{bit_length, crypt, first_counter, hash_subke
 ghost use Rattle.aes_gcm.specs.Gctr.{gctr};
 ghost use Rattle.aes_gcm.specs.Ghash.{block_at, ghash, times};
 
-use crate::counter::inc32;
-use crate::gcm_key::{FIRST_COUNT, bit_lengths};
-use crate::hash_key::next_v;
-use crate::key_stream::add_block;
+use crate::plain_steps::{FIRST_COUNT, add_block, bit_lengths, inc32, next_v};
 use aes_block::KeySchedule;
 use block_id::Memory;
 use std::alloc::{AllocError, Global};

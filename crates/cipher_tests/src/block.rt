@@ -1,5 +1,5 @@
 // The cipher against the example of its standard.
-use super::*;
+use aes_block::KeySchedule;
 
 /// FIPS 197, C.3.
 #[test]

@@ -1,7 +1,7 @@
 use Rattle.std.proofs.Common.{◌≡◌, ℕ, ◌++◌, List, sym, ap, ◌∙◌, append_assoc}
 use Rattle.aes_gcm.specs.Gcm.{bit_length, padded}
 use Rattle.aes_gcm.specs.Ghash.{ghash}
-use Rattle.aes_gcm.proofs.plain.tag_hash.Goals as goal
+use Rattle.cipher_tests.proofs.plain.tag_hash.Goals as goal
 
 pub returns : goal.returns
 unfolding bit_length

@@ -2,7 +2,7 @@ use Rattle.std.proofs.Common.{◌≡◌, ℕ, [], ◌∷◌, ◌++◌, List, rep
 use Rattle.aes_gcm.specs.Gcm.{bit_length, first_counter, padded}
 use Rattle.aes_gcm.specs.Ghash.{ghash}
 use Rattle.aes_gcm.proofs.Tags.{first_counter_long, first_counter_short}
-use Rattle.aes_gcm.proofs.plain.first_counter.Goals as goal
+use Rattle.cipher_tests.proofs.plain.first_counter.Goals as goal
 
 pub returns-then-iv-eq12 : goal.returns-then-iv-eq12
 returns-then-iv-eq12 c = λ cipher key.

@@ -1,5 +1,5 @@
 // The cipher on eight blocks, against its standard and against the cipher on one block.
-use super::*;
+use aes_bits::KeyPlanes;
 use aes_block::KeySchedule;
 
 /// 0, 1, .. as a key.

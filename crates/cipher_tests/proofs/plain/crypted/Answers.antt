@@ -3,7 +3,7 @@ use Rattle.std.proofs.lemmas.List.{take_at}
 use Rattle.aes_block.specs.KeyExpansion.{aes256}
 use Rattle.aes_gcm.specs.Gctr.{gctr}
 use Rattle.aes_gcm.specs.Lengths.{length-gctr}
-use Rattle.aes_gcm.proofs.plain.crypted.Goals as goal
+use Rattle.cipher_tests.proofs.plain.crypted.Goals as goal
 
 pub returns : goal.returns
 returns c =

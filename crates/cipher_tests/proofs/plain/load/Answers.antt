@@ -1,7 +1,7 @@
 use Rattle.std.proofs.Common.{ap, ◌∙◌}
 use Rattle.std.specs.Int.{w128, from_be_bytes}
 use Rattle.aes_gcm.specs.Ghash.{block_at}
-use Rattle.aes_gcm.proofs.plain.load.Goals as goal
+use Rattle.cipher_tests.proofs.plain.load.Goals as goal
 
 pub returns : goal.returns
 unfolding block_at

@@ -1,7 +1,7 @@
 // Sealing and opening, compared with the plain bodies at many lengths.
 use crate::plain::plain_seal;
-use crate::{gcm_seal, gcm_unseal};
 use aes_block::KeySchedule;
+use aes_gcm::{gcm_seal, gcm_unseal};
 use std::alloc::Global;
 use std::process::Abort;
 use std::test::Fail;

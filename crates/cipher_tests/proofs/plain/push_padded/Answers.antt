@@ -1,7 +1,7 @@
 use Rattle.std.proofs.Common.{ℕ, ◌-◌, ◌%◌, List, ◌++◌, length, take, replicate, ap, ◌∙◌, append_assoc, arith}
 use Rattle.std.proofs.lemmas.List.{take-replicate}
 use Rattle.aes_gcm.specs.Gcm.{padded}
-use Rattle.aes_gcm.proofs.plain.push_padded.Goals as goal
+use Rattle.cipher_tests.proofs.plain.push_padded.Goals as goal
 
 pub returns : goal.returns
 unfolding padded

@@ -3,8 +3,8 @@ use Rattle.std.proofs.Math.Nat.{one-mul, zero-mul}
 use Rattle.std.specs.Int.Bits.{xor_zero_r}
 use Rattle.aes_gcm.specs.Ghash.{block_bit, next_v, v_at, z_at}
 use Rattle.aes_gcm.proofs.Product.{v_at_next, z_at_next}
-use Rattle.aes_gcm.proofs.plain.times.Goals as goal
-use Rattle.aes_gcm.proofs.plain.times.Goals.{else-x-i-eq1, then-x-i-eq1}
+use Rattle.cipher_tests.proofs.plain.times.Goals as goal
+use Rattle.cipher_tests.proofs.plain.times.Goals.{else-x-i-eq1, then-x-i-eq1}
 
 z_at_one : (x y i z v : ℕ) → z ≡ z_at x y i → v ≡ v_at y i → block_bit x i ≡ 1 → bit_xor z v ≡ z_at x y (i + 1)
 z_at_one x y i z v ez ev h = rw (z_at_next x y i, h, one-mul, ez, ev) refl

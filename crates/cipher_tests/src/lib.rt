@@ -1,0 +1,16 @@
+//! AES-256 on one block and on eight, and its Galois/Counter Mode, against outside vectors and plain bodies.
+//! There is nothing here but tests.
+#![tactic(auto)]
+
+#[cfg(test)]
+mod bits;
+#[cfg(test)]
+mod block;
+#[cfg(test)]
+mod compared;
+#[cfg(test)]
+mod gcm;
+#[cfg(test)]
+mod plain;
+#[cfg(test)]
+mod plain_steps;
