@@ -6,8 +6,3 @@ mod cache;
 mod payloads;
 
 pub use cache::BlockCache;
-
-#[cfg(test)]
-mod counted;
-#[cfg(test)]
-mod tests;

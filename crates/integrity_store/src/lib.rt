@@ -11,10 +11,3 @@ mod store;
 
 pub use laws::config_is_no_block;
 pub use store::IntegrityStore;
-
-#[cfg(test)]
-mod apply_tests;
-#[cfg(test)]
-mod load_tests;
-#[cfg(test)]
-mod test_files;

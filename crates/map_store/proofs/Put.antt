@@ -1,9 +1,9 @@
 -- Rows that are set one after another.
-use Rattle.std.proofs.Common.{◌≡◌, ℕ, ◌+◌, ◌<◌, List, [], ◌∷◌, Bool, true, false, cond, length, drop, get_or, refl, sym, ◌∙◌, ap, subst, arith}
+use Rattle.std.proofs.Common.{◌≡◌, ℕ, ◌+◌, ◌<◌, List, [], ◌∷◌, Bool, true, false, cond, length, drop, get_or, refl, sym, ◌∙◌, ap, subst}
 use Rattle.std.specs.Prelude.{T, Option, Some, None, Result, Ok, Err, OnOk, ◌&&◌, not}
 use Rattle.std.proofs.lemmas.List.{length-map}
 use Rattle.std.specs.FinMap as fin
-use Rattle.std.specs.FinMap.{contains_key-keys, is_sorted, entries_sorted, get-entries, get-empty, get-insert, len-empty, len-entries}
+use Rattle.std.specs.FinMap.{contains_key-keys, is_sorted, entries_sorted, get-entries, get-empty, get-insert, len-entries}
 use Rattle.std.specs.FinMap.Entries.{find, below_all}
 use Rattle.std.specs.Cmp.{Equal-is}
 use Rattle.block_id.specs.Fresh.{zero_id}
@@ -12,7 +12,7 @@ use Rattle.block_id.proofs.Conditions.{left, right}
 use Rattle.block_batch.specs.declared.batch.BatchChange.{BatchChange}
 use Rattle.store_api.specs.Content.{Id, id_cmp, same_id, Changes}
 use Rattle.block_batch.specs.Entries.{entries_of, change_view}
-use Rattle.store_api.specs.Holdings.{IsFew, is_free}
+use Rattle.store_api.specs.Holdings.{is_free}
 use Rattle.store_api.proofs.Rising.{ids_total, not_below, turn}
 use Rattle.map_store.specs.Rows.{AreWith, newer}
 use Rattle.map_store.specs.Setting.{put_all}
@@ -67,8 +67,3 @@ free_where_no_row rows id has zero row is none =
 pub not_free_where_row : (rows : Changes) (id : Id) (has : Bool) → has ≡ fin.contains_key rows id → has ≡ true → not has ≡ is_free (fin.keys rows) id
 not_free_where_row rows id has row some =
     ap not some ∙ ap (λ used. not used && not (same_id id zero_id)) (sym some ∙ (row ∙ contains_key-keys rows id))
-
-pub few_nothing : (rows : Changes) → rows ≡ fin.empty → IsFew (fin.keys rows)
-few_nothing rows is =
-    let none : length (fin.keys rows) ≡ 0 = length-keys rows ∙ (ap (λ m. fin.len m) is ∙ len-empty id_cmp (Option (List ℕ))) in
-    omega (arith, none)

@@ -5,6 +5,3 @@ mod rows;
 mod store;
 
 pub use store::MapStore;
-
-#[cfg(test)]
-mod tests;

@@ -1,8 +1,8 @@
 // What is loaded through a cache, and how often the store below is asked.
 ghost use Rattle.std.specs.Prelude.{◌≤◌, IfOk};
 
-use crate::BlockCache;
 use crate::counted::Counted;
+use block_cache::BlockCache;
 use block_id::BlockId;
 use map_store::MapStore;
 use rand_pcg::Pcg32;

@@ -1,4 +1,4 @@
-// The files and the record of client 7, byte by byte as the format has them, for tests.
+// The files and the record of client 7, byte by byte as the format has them.
 ghost use Rattle.std.specs.Prelude.{◌≡◌, []};
 ghost use Rattle.sealed_store.specs.Stores.{IsIntact, block_size_of, cipher_of};
 
@@ -33,7 +33,8 @@ pub(crate) fn push_life(
     Ok(())
 }
 
-/// What a block's file of client 7 holds: the format's number, its id, its client, its version and 50 bytes of payload.
+/// What a block's file of client 7 holds: the format's number, its id, its client, its version and
+/// 50 bytes of payload.
 pub(crate) fn plain_of(id: u8, version: u64, payload: u8) -> [u8; 80] {
     let mut plain = [payload; 80];
     plain[..30].fill(0);

@@ -1,6 +1,6 @@
 // Changes over a store in memory, and what is loaded of them.
-use super::*;
 use block_id::BlockId;
+use map_store::MapStore;
 use rand_core::Rng;
 use rand_pcg::Pcg32;
 use std::alloc::Global;

@@ -2,10 +2,10 @@
 ghost use Rattle.std.specs.Prelude.{◌≡◌, IfOk};
 ghost use Rattle.sealed_store.specs.Stores.{IsIntact, block_size_of, cipher_of};
 
-use crate::IntegrityStore;
-use crate::test_files::{plain_of, push_life, push_record_head, put_file, sealed_over};
+use crate::integrity_files::{plain_of, push_life, push_record_head, put_file, sealed_over};
 use aes_gcm::Aes256Gcm;
 use block_id::BlockId;
+use integrity_store::IntegrityStore;
 use local_state::decode;
 use memory_outside::MemoryVault;
 use outside::{Change, FileName, Pending};
@@ -15,7 +15,7 @@ use seal_api::Sealer;
 use sealed_store::{SealedStore, Seen};
 use std::alloc::Global;
 use std::test::Fail;
-use store_api::{ApplyError, Blocks, BlocksMut, Tx};
+use store_api::{ApplyError, Blocks, BlocksMut, Durable, Tx};
 
 type Store = IntegrityStore<MemoryVault, Aes256Gcm>;
 
@@ -194,8 +194,17 @@ fn waiting(pending: &Pending) -> (&FileName, Option<&[u8]>) {
     }
 }
 
-/// The record that waits for a block.
-fn waiting_record(
+/// What waits, as the local record lists it.
+fn waiting_list(alloc: Global, store: &Store) -> Result<Vec<Pending>, Fail>
+    requires { ⟦<Store as Blocks>⟧.meanings.intact store.now }
+{
+    let record = store.state_bytes(alloc, true)?;
+    let (_, list) = decode(alloc, &record)?;
+    Ok(list)
+}
+
+/// The record in a block's file.
+fn written_record(
     alloc: Global,
     sealed: &mut SealedStore<MemoryVault, Aes256Gcm>,
     id: &BlockId,
@@ -234,7 +243,8 @@ fn seals_with_what_is_drawn_by_rising_ids(rt: HostRuntime) -> Result<(), Fail> {
     let mut same = chance();
     let (first, second) = (draw(&mut same), draw(&mut same));
     assert!(rt; draw(&mut source) == draw(&mut same));
-    match store.sealed.vault.entries() {
+    let list = waiting_list(rt.alloc(), &store)?;
+    match list.as_slice() {
         [live, dying, new] => {
             assert!(rt; waiting(live) == (&FileName::Block(LIVE), Some(&first[..])));
             assert!(rt; waiting(dying) == (&FileName::Block(DYING), None));
@@ -242,9 +252,11 @@ fn seals_with_what_is_drawn_by_rising_ids(rt: HostRuntime) -> Result<(), Fail> {
         }
         _ => assert!(rt; false),
     }
-    let live = waiting_record(rt.alloc(), &mut store.sealed, &LIVE)?;
+    store.write_out(rt.alloc())?;
+    let mut sealed = sealed_over(rt.alloc(), store.into_vault());
+    let live = written_record(rt.alloc(), &mut sealed, &LIVE)?;
     assert_eq!(rt; live.as_slice(), plain_of(1, 3, 11).as_slice());
-    let new = waiting_record(rt.alloc(), &mut store.sealed, &NEW)?;
+    let new = written_record(rt.alloc(), &mut sealed, &NEW)?;
     assert_eq!(rt; new.as_slice(), plain_of(3, 1, 33).as_slice());
     Ok(())
 }
@@ -259,7 +271,7 @@ fn changes_nothing_where_an_id_is_spent(rt: HostRuntime) -> Result<(), Fail> {
     assert_eq!(rt; store.state().known.version(&LIVE), Some(u64::MAX));
     assert!(rt; store.state().known.is_live(&DYING));
     assert!(rt; !store.state().known.is_used(&NEW));
-    assert_eq!(rt; store.sealed.vault.entries().len(), 0);
+    assert_eq!(rt; waiting_list(rt.alloc(), &store)?.len(), 0);
     Ok(())
 }
 

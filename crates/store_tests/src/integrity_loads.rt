@@ -1,7 +1,8 @@
-// What a load answers of a removed block. Client 7 knows block 1 as live at version 2 and block 4 as removed at version 3.
-use crate::IntegrityStore;
-use crate::test_files::{plain_of, push_life, push_record_head, put_file, sealed_over};
+// What a load answers of a removed block. Client 7 knows block 1 as live at version 2 and block 4 as
+// removed at version 3.
+use crate::integrity_files::{plain_of, push_life, push_record_head, put_file, sealed_over};
 use block_id::BlockId;
+use integrity_store::IntegrityStore;
 use local_state::decode;
 use memory_outside::MemoryVault;
 use std::alloc::Global;

@@ -1,6 +1,6 @@
 use Rattle.outcome.specs.Lift.{lifted_with}
-use Rattle.block_cache.specs.declared.counted.Counted.{Counted}
-use Rattle.block_cache.proofs.counted.CountedBlocks.load.Goals as goal
+use Rattle.store_tests.specs.declared.counted.Counted.{Counted}
+use Rattle.store_tests.proofs.counted.CountedBlocks.load.Goals as goal
 
 pub returns-clause-outcome : goal.returns-clause-outcome
 returns-clause-outcome g c =

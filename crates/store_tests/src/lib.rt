@@ -1,0 +1,20 @@
+//! Single stores, and the list of changes below them: what is written, opened, cached and loaded, and what
+//! waits. There is nothing here but tests.
+#![tactic(auto)]
+
+#[cfg(test)]
+mod block_caches;
+#[cfg(test)]
+mod counted;
+#[cfg(test)]
+mod integrity_batches;
+#[cfg(test)]
+mod integrity_files;
+#[cfg(test)]
+mod integrity_loads;
+#[cfg(test)]
+mod map_stores;
+#[cfg(test)]
+mod redo_vaults;
+#[cfg(test)]
+mod sealed_stores;
