@@ -8,6 +8,3 @@ mod sizes;
 pub use fail::{Fail, Failed, Memory, Why};
 pub use id::BlockId;
 pub use sizes::{MAX_BLOCK, MIN_BLOCK, MIN_PAYLOAD};
-
-#[cfg(test)]
-mod tests;

@@ -9,6 +9,3 @@ mod verdict;
 pub use block_record::{HEAD_LEN, Head, OVERHEAD, RECORD_FORMAT, read_head, write_record};
 pub use laws::records_as_texts;
 pub use verdict::judge;
-
-#[cfg(test)]
-mod tests;

@@ -11,6 +11,3 @@ pub use reading::{
     id_of, take_array, take_bytes, take_id, take_u16, take_u32, take_u64, u16_of, u32_of, u64_of,
 };
 pub use writing::{put_id, put_u16, put_u32, put_u64};
-
-#[cfg(test)]
-mod tests;

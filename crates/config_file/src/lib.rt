@@ -15,8 +15,3 @@ pub use error::ConfigError;
 pub use format::FILE_LEN;
 pub use open::open_config;
 pub use seal::seal_config;
-
-#[cfg(test)]
-mod tests;
-#[cfg(test)]
-mod text_tests;

@@ -8,6 +8,3 @@ mod writing;
 pub use node::{HEADER_LEN, ID_LEN, NODE_FORMAT, Node};
 pub use reading::{one_reading, read_node};
 pub use writing::write_node;
-
-#[cfg(test)]
-mod tests;

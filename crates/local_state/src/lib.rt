@@ -15,6 +15,3 @@ pub use life::Life;
 pub use reading::decode;
 pub use state::{State, StateError, key_digest};
 pub use writing::encode;
-
-#[cfg(test)]
-mod tests;

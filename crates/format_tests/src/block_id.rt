@@ -1,5 +1,5 @@
 // Names of ids, and the id after.
-use super::*;
+use block_id::BlockId;
 
 #[test]
 fn names_both_ways(rt: HostRuntime) {

@@ -3,8 +3,8 @@
 // hold no configuration.
 ghost use Rattle.config_file.specs.Settings.{IsBlockSize};
 
-use super::*;
 use block_id::BlockId;
+use config_file::{Cipher, Config, ConfigError, open_config, seal_config};
 use scrypt_kdf::Params;
 use std::alloc::Global;
 use std::test::Fail;

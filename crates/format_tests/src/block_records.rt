@@ -1,7 +1,7 @@
 // Records byte by byte, and what a client says of each. Client 7 asks for block 1, which it knows at version 2, of blocks
 // of 128 bytes.
-use super::*;
 use block_id::{BlockId, Why};
+use block_records::{Head, OVERHEAD, judge, read_head, write_record};
 use sealed_store::{SEAL_LEN, Seen};
 use std::alloc::Global;
 use std::test::Fail;

@@ -2,8 +2,8 @@
 ghost use Rattle.std.specs.Prelude.{◌≤◌, ◌<◌};
 ghost use Rattle.data_nodes.specs.Layout.{FitsPayload, IsPayloadLen, fan_out, node_of, room};
 
-use super::*;
 use block_id::{BlockId, Memory};
+use data_nodes::{Node, read_node, write_node};
 use std::alloc::Global;
 use std::test::Fail;
 

@@ -1,6 +1,9 @@
 // Numbers with their bytes written out, at their limits too, and too few bytes.
-use super::*;
 use block_id::BlockId;
+use byte_fields::{
+    id_of, put_id, put_u16, put_u32, put_u64, take_array, take_bytes, take_id, take_u16, take_u32,
+    take_u64, u16_of, u32_of, u64_of,
+};
 use std::test::Fail;
 
 const BYTES: [u8; 14] = [2, 1, 4, 3, 2, 1, 8, 7, 6, 5, 4, 3, 2, 1];

@@ -1,11 +1,10 @@
 // JSON texts in files that are sealed here as the formats say, part by part, with zeros for the salt, the IVs and the fill.
-
-use super::*;
-use crate::keys::derive_keys;
-use crate::tests::{PASSWORD, config};
+use crate::config_file::{PASSWORD, config};
 use aes_block::KeySchedule;
 use aes_gcm::gcm_seal;
-use scrypt_kdf::Params;
+use byte_fields::take_array;
+use config_file::{ConfigError, Opened, open_config};
+use scrypt_kdf::{Params, scrypt};
 use std::alloc::Global;
 use std::test::Fail;
 
@@ -77,18 +76,27 @@ fn inner_of(alloc: Global, key: &[u8; 32], json: &[u8]) -> Result<Vec<u8>, Fail>
     Ok(inner)
 }
 
+/// The keys of the outer and of the inner seal: the halves of the 64 bytes that scrypt derives from the password.
+fn keys_of(alloc: Global, salt: &[u8; 32], params: &Params) -> Result<([u8; 32], [u8; 32]), Fail> {
+    let mut derived = [0; 64];
+    scrypt(alloc, PASSWORD, salt, params, &mut derived)?;
+    let (outer, rest) = take_array::<32>(&derived).ok_or("the outer key")?;
+    let (inner, _) = take_array::<32>(rest).ok_or("the inner key")?;
+    Ok((outer, inner))
+}
+
 /// The file that holds this text, under N = 2, r = 1 and p = 1.
 fn file_of(alloc: Global, json: &[u8]) -> Result<Vec<u8>, Fail> {
     let salt = [0; 32];
-    let keys = derive_keys(alloc, PASSWORD, &salt, &Params::new(2, 1, 1)?)?;
+    let (outer_key, inner_key) = keys_of(alloc, &salt, &Params::new(2, 1, 1)?)?;
     let mut file = Vec::new(alloc);
     file.extend_from_slice(b"cryfs.config;1;scrypt\0")?;
     file.extend_from_slice(&2u64.to_le_bytes())?;
     file.extend_from_slice(&1u32.to_le_bytes())?;
     file.extend_from_slice(&1u32.to_le_bytes())?;
     file.extend_from_slice(&salt)?;
-    let inner = inner_of(alloc, &keys.inner, json)?;
-    append_sealed(&keys.outer, &inner, &mut file)?;
+    let inner = inner_of(alloc, &inner_key, json)?;
+    append_sealed(&outer_key, &inner, &mut file)?;
     Ok(file)
 }
 

@@ -1,8 +1,8 @@
 // Records byte by byte, each refusal, and the table of versions.
 ghost use Rattle.std.specs.Prelude.{◌<◌};
 
-use super::*;
 use block_id::BlockId;
+use local_state::{Known, Spent, State, StateError, decode, encode, key_digest};
 use std::alloc::{AllocError, Global};
 use std::test::Fail;
 
