@@ -105,11 +105,12 @@ fn record_with_a_list_is_read_and_written_again(rt: HostRuntime) -> Result<(), F
 }
 
 /// From where to where a byte is set, and what is then wrong.
-const WRONG: [(usize, usize, u8, &str); 17] = [
+const WRONG: [(usize, usize, u8, &str); 18] = [
     (0, 1, b'C', "other magic bytes"),
     (19, 20, 2, "a life of 2"),
     (100, 101, 0, "client 0"),
     (104, 105, 3, "more blocks than there are"),
+    (104, 112, 0xff, "2^64 - 1 blocks"),
     (112, 128, 0, "a zero id"),
     (128, 130, 0, "version 0"),
     (136, 137, 2, "neither live nor dead"),
