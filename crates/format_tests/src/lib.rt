@@ -1,17 +1,18 @@
-//! What lies in files and messages, against texts and bytes that are written out here. There is nothing here but tests.
+//! What lies in files and messages, against texts and bytes that are written out here. There is nothing here but
+//! tests.
 #![tactic(auto)]
 
 #[cfg(test)]
-mod block_id;
+mod configuration_texts;
 #[cfg(test)]
-mod block_records;
+mod configurations;
 #[cfg(test)]
-mod byte_fields;
+mod fields;
 #[cfg(test)]
-mod config_file;
+mod ids;
 #[cfg(test)]
-mod config_texts;
+mod nodes;
 #[cfg(test)]
-mod data_nodes;
+mod records;
 #[cfg(test)]
-mod local_state;
+mod states;

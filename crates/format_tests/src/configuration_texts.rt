@@ -1,5 +1,5 @@
 // JSON texts in files that are sealed here as the formats say, part by part, with zeros for the salt, the IVs and the fill.
-use crate::config_file::{PASSWORD, config};
+use crate::configurations::{PASSWORD, config};
 use aes_block::KeySchedule;
 use aes_gcm::gcm_seal;
 use byte_fields::take_array;
