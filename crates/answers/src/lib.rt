@@ -6,8 +6,6 @@ mod host;
 mod law;
 mod print;
 mod summary;
-#[cfg(test)]
-mod tests;
 mod text_buffer;
 
 pub use answer::Answer;

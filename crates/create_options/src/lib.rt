@@ -7,6 +7,3 @@ mod reading;
 
 pub use options::CreateOptions;
 pub use reading::parse_create_options;
-
-#[cfg(test)]
-mod tests;

@@ -12,8 +12,6 @@ mod name;
 mod parse;
 mod path;
 mod reply;
-#[cfg(test)]
-mod tests;
 
 pub use attr::{Attr, DIRECTORY_MODE, FILE_MODE, Kind, LINK_MODE};
 pub use block_id::Memory;

@@ -6,8 +6,6 @@ mod edit;
 mod look;
 mod moves;
 mod read;
-#[cfg(test)]
-mod tests;
 mod tree;
 
 pub use block_id::Memory;

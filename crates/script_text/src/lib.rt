@@ -10,8 +10,6 @@ mod hex_digits;
 mod law;
 mod numbers;
 mod print;
-#[cfg(test)]
-mod tests;
 mod verb;
 mod words;
 

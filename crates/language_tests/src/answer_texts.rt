@@ -1,6 +1,6 @@
 // The texts of answers, and a summary.
 
-use crate::{Answer, Summary, TextBuffer, print_answer};
+use answers::{Answer, Summary, TextBuffer, print_answer};
 use block_id::{BlockId, Why};
 use fs_model::{ByteText, FsError, Reply};
 use std::alloc::{AllocError, Global};

@@ -1,7 +1,7 @@
 // Depth, and lengths past what is worth storing in blobs. The worked rows stand in `path_tests`, beside the tree of blobs.
 
-use crate::PlainTree;
 use fs_model::{Command, FsError, Moment, Name, Path, Reply};
+use plain_tree::PlainTree;
 use std::alloc::Global;
 use std::test::Fail;
 

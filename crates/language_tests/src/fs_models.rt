@@ -1,6 +1,6 @@
 // Names and paths of texts.
 
-use crate::{ByteText, Name, Path, PathError, parse_path};
+use fs_model::{ByteText, Name, Path, PathError, parse_path};
 use std::alloc::Global;
 use std::process::Abort;
 use std::test::Fail;
