@@ -9,8 +9,6 @@ mod folder_run;
 mod folder_vault;
 mod lock;
 mod stored_file;
-#[cfg(test)]
-mod test_folders;
 
 pub use folder_keeper::FolderKeeper;
 pub use folder_run::FolderRun;

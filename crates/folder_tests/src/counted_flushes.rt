@@ -1,60 +1,21 @@
-// For tests: fresh folders, and a system some of whose flushes fail.
-use crate::files::if_there;
-use crate::lock::Lock;
-use outside::Keeper;
-use std::alloc::{Allocator, Global};
+// A system some of whose flushes fail.
+use real_folders::Lock;
+use std::alloc::Allocator;
 use std::cell::Cell;
-use std::fs::{self, File, Files, Metadata, OpenFile, OpenOptions};
+use std::fs::{File, Files, Metadata, OpenFile, OpenOptions};
 use std::io::{self, Empty, ErrorKind, Read, Seek, SeekFrom, Write};
-use std::path::{Path, PathBuf};
-use std::{env, process};
-
-/// A path for this test alone, at which nothing is.
-pub fn fresh_folder(rt: &HostRuntime, test: &str) -> io::Result<PathBuf> {
-    let id = process::id(rt.process());
-    let name = format!(in rt.alloc(); "real_folders-{id}-{test}")?;
-    let path = env::temp_dir(rt)?.join(rt.alloc(), name.as_str())?;
-    if_there(fs::remove_dir_all(rt, path.as_path()))?;
-    Ok(path)
-}
-
-/// Writes a file of the folder, past the adapters.
-pub fn write(rt: &HostRuntime, folder: &str, name: &str, bytes: &str) -> io::Result<()> {
-    let path = Path::new(folder).join(rt.alloc(), name)?;
-    fs::write(rt, path, bytes)
-}
-
-fn read(rt: &HostRuntime, folder: &str, name: &str) -> io::Result<Vec<u8>> {
-    let path = Path::new(folder).join(rt.alloc(), name)?;
-    fs::read(rt, path)
-}
-
-/// Whether the file of the folder has these bytes.
-pub fn holds(rt: &HostRuntime, folder: &str, name: &str, want: &str) -> bool {
-    match read(rt, folder, name) {
-        Ok(bytes) => bytes.as_slice() == want.as_bytes(),
-        Err(_) => false,
-    }
-}
-
-/// Whether the system says that the file isn't there.
-pub fn is_absent(rt: &HostRuntime, folder: &str, name: &str) -> bool {
-    match Path::new(folder).join(rt.alloc(), name) {
-        Ok(path) => matches!(fs::exists(rt, path), Ok(false)),
-        Err(_) => false,
-    }
-}
-
-/// Whether this record is saved.
-pub fn saves<K: Keeper>(alloc: Global, keeper: &mut K, text: &str) -> bool {
-    keeper.prepare(alloc, text.len()).is_ok() && keeper.save(text.as_bytes()).is_ok()
-}
 
 /// The system with a number of flushes that succeed; after them each fails.
 #[derive(Drop)]
 pub struct CountedFlushes<'a> {
-    pub host: HostRuntime,
+    host: HostRuntime,
     pub left: &'a Cell<u32>,
+}
+
+impl<'a> CountedFlushes<'a> {
+    pub fn new(host: HostRuntime, left: &'a Cell<u32>) -> CountedFlushes<'a> {
+        CountedFlushes { host, left }
+    }
 }
 
 /// A file of that system.

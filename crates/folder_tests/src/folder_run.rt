@@ -1,0 +1,99 @@
+// What a run flushes before it saves a record.
+use crate::counted_flushes::CountedFlushes;
+use crate::folders::{fresh_folder, holds, remove_folder, saves};
+use block_id::BlockId;
+use outside::{FileName, Keeper, Vault};
+use real_folders::{FolderKeeper, FolderRun, FolderVault};
+use std::alloc::Global;
+use std::cell::Cell;
+use std::fs;
+use std::path::Path;
+use std::test::Fail;
+
+const ONE: FileName = FileName::Block(BlockId([0; 16]));
+
+const TWO: FileName = FileName::Block(BlockId([0x10; 16]));
+
+fn puts_two<V: Vault>(alloc: Global, vault: &mut V) -> bool {
+    vault.put(alloc, &ONE, b"one").is_ok() && vault.put(alloc, &TWO, b"two").is_ok()
+}
+
+/// Whether a save succeeds with so many flushes, and needs each.
+fn needs<K: Keeper>(alloc: Global, keeper: &mut K, left: &Cell<u32>, flushes: u32) -> bool {
+    left.set(flushes);
+    saves(alloc, keeper, "new") && left.get() == 0
+}
+
+/// Whether a save after puts fails with so many flushes, and fails again with enough.
+fn fails_with<V: Vault, K: Keeper>(
+    alloc: Global,
+    vault: &mut V,
+    keeper: &mut K,
+    left: &Cell<u32>,
+    flushes: u32,
+) -> bool {
+    left.set(9);
+    let began = saves(alloc, keeper, "old") && puts_two(alloc, vault);
+    left.set(flushes);
+    let failed = !saves(alloc, keeper, "new");
+    left.set(9);
+    began && failed && !saves(alloc, keeper, "new")
+}
+
+/// The same in a run of its own, with blocks in a folder of this one.
+fn fails_in_a_run(
+    alloc: Global,
+    host: &CountedFlushes<'_>,
+    folder: &str,
+    flushes: u32,
+) -> Result<bool, Fail> {
+    let blocks = Path::new(folder).join(alloc, "blocks")?;
+    let run = FolderRun::new(alloc, 1)?;
+    let mut vault = FolderVault::new(host, blocks.as_str(), &run);
+    let mut keeper = FolderKeeper::new(alloc, host, folder, &run)?;
+    Ok(fails_with(alloc, &mut vault, &mut keeper, host.left, flushes))
+}
+
+/// Whether each file and folder of blocks is flushed by the first save after its change alone.
+fn flushes_once<V: Vault, K: Keeper>(
+    alloc: Global,
+    vault: &mut V,
+    keeper: &mut K,
+    left: &Cell<u32>,
+) -> bool {
+    puts_two(alloc, vault)
+        && needs(alloc, keeper, left, 7)
+        && needs(alloc, keeper, left, 2)
+        && vault.remove(alloc, &ONE).is_ok()
+        && needs(alloc, keeper, left, 4)
+}
+
+/// Of two files, their folders and the block folder each has to be flushed.
+#[test]
+fn saves_only_after_blocks_are_flushed(rt: HostRuntime) -> Result<(), Fail> {
+    let folder = fresh_folder(&rt, "unflushed")?;
+    let path = folder.as_str();
+    let left = Cell::new(0);
+    let host = CountedFlushes::new(rt, &left);
+    for flushes in 0..5 {
+        let failed = fails_in_a_run(rt.alloc(), &host, path, flushes)?;
+        let kept = holds(&rt, path, "cryfs.localstate", "old");
+        assert!(rt; failed && kept, "with {flushes}");
+    }
+    remove_folder(&rt, path)
+}
+
+/// Two flushes are those of the record itself.
+#[test]
+fn flushes_each_file_and_folder_once(rt: HostRuntime) -> Result<(), Fail> {
+    let folder = fresh_folder(&rt, "in_place")?;
+    let blocks = folder.join(rt.alloc(), "blocks")?;
+    fs::create_dir_all(&rt, blocks.as_path())?;
+    let left = Cell::new(0);
+    let host = CountedFlushes::new(rt, &left);
+    let run = FolderRun::new(rt.alloc(), 1)?;
+    let mut vault = FolderVault::new(&host, blocks.as_str(), &run);
+    let mut keeper = FolderKeeper::new(rt.alloc(), &host, folder.as_str(), &run)?;
+    assert!(rt; flushes_once(rt.alloc(), &mut vault, &mut keeper, &left));
+    remove_folder(&rt, folder.as_str())
+}
