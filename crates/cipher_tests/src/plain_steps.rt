@@ -4,8 +4,6 @@ ghost use Rattle.std.specs.Int.{w64, to_be_bytes};
 ghost use Rattle.aes_gcm.specs.Gctr.{inc32};
 ghost use Rattle.aes_gcm.specs.Ghash.{next_v};
 
-use std::simd::u8x16;
-
 /// The bytes of a block.
 const BLOCK_LEN: usize = 16;
 
@@ -46,32 +44,8 @@ pub(crate) fn add_block(text: &mut [u8], start: usize, block: &[u8; 16])
     ensures before { (k : ℕ) → k < start → slice_index text.new k ≡ slice_index text.old k }
     ensures after { (k : ℕ) → start + 16 ≤ k → slice_index text.new k ≡ slice_index text.old k }
 {
-    if BLOCK_LEN <= text.len() - start {
-        add_whole(text, start, block);
-    } else {
-        add_part(text, start, block);
-    }
-}
-
-/// Adds a block to the sixteen bytes from `start` on.
-fn add_whole(text: &mut [u8], start: usize, block: &[u8; 16])
-    requires { start + 16 ≤ length text.old }
-    ensures inside { (j : ℕ) → j < 16 → slice_index text.new (start + j) ≡ bit_xor (slice_index text.old (start + j)) (slice_index block.now j) }
-    ensures before { (k : ℕ) → k < start → slice_index text.new k ≡ slice_index text.old k }
-    ensures after { (k : ℕ) → start + 16 ≤ k → slice_index text.new k ≡ slice_index text.old k }
-{
-    let sum = u8x16::from_slice(&text[start..]) ^ u8x16::from_array(*block);
-    sum.copy_to_slice(&mut text[start..]);
-}
-
-/// Adds a block to the bytes from `start` on, of which there are fewer than sixteen.
-fn add_part(text: &mut [u8], start: usize, block: &[u8; 16])
-    requires start { start ≤ length text.old }
-    requires end { length text.old < start + 16 }
-    ensures inside { (j : ℕ) → j < 16 → start + j < length text.old → slice_index text.new (start + j) ≡ bit_xor (slice_index text.old (start + j)) (slice_index block.now j) }
-    ensures before { (k : ℕ) → k < start → slice_index text.new k ≡ slice_index text.old k }
-{
-    let len = text.len() - start;
+    let left = text.len() - start;
+    let len = if left < BLOCK_LEN { left } else { BLOCK_LEN };
     'bytes: for j in 0..len {
         text[start + j] ^= block[j];
     }

@@ -1,5 +1,5 @@
 use Rattle.std.proofs.Common.{◌≡◌, ℕ, ◌+◌, ◌<◌, ◌≤◌, slice_index, bit_xor}
-use Rattle.cipher_tests.proofs.plain_steps.add_part.Given as goal
+use Rattle.cipher_tests.proofs.plain_steps.add_block.Given as goal
 
 abbrev pub invariant-bytes : goal.invariant-bytes
 invariant-bytes l = record {
