@@ -11,7 +11,7 @@ use Rattle.config_file.proofs.Opening.{only}
 use Rattle.config_file.specs.ConfigOf.{ConfigOf, ConfigFound, opened}
 use Rattle.config_file.specs.Settings.{Settings}
 use Rattle.integrity_store.specs.EnduringLaws.{configured_of}
-use Rattle.integrity_store.specs.Standing.{Configures, records}
+use Rattle.held_blocks.specs.Standing.{Configures, records}
 use Rattle.fs_model.specs.Tree.{Tree}
 use Rattle.histories.proofs.Configuration.{opened_only, unforged_config}
 use Rattle.line_io.specs.Lines.{first_line}

@@ -6,7 +6,7 @@ use Rattle.answers.specs.Sessions.{Asked, FollowsAsked, is_violation, is_synced}
 use Rattle.answers.specs.declared.answer.Answer.{Answer}
 use Rattle.fs_model.specs.Instant.{Instant}
 use Rattle.fs_model.specs.Tree.{Tree}
-use Rattle.integrity_store.specs.Standing.{records}
+use Rattle.held_blocks.specs.Standing.{records}
 use Rattle.mount.specs.Tower.{tower_meanings, tower_holdings, tower_durables}
 use Rattle.mount.specs.declared.mount.Mount.{Mount}
 use Rattle.mount_core.specs.Answers.{OnSpent}

@@ -7,7 +7,7 @@ use Rattle.config_file.specs.ConfigOf.{ConfigOf, ConfigFound, opened, form, lock
 use Rattle.config_file.specs.Settings.{Settings}
 use Rattle.config_file.specs.declared.error.ConfigError.TheVariants as config_error
 use Rattle.fs_model.specs.Tree.{Tree}
-use Rattle.integrity_store.specs.Standing.{records}
+use Rattle.held_blocks.specs.Standing.{records}
 use Rattle.line_io.specs.Lines.{first_line}
 use Rattle.line_io.specs.Streams.{Stream, Untouched}
 use Rattle.mount.specs.Mounts.{IsCalmOpening}

@@ -7,7 +7,7 @@ use Rattle.rand_core.specs.Stream.{Stream as Chance}
 use Rattle.config_file.specs.ConfigOf.{IsOnly, opened}
 use Rattle.config_file.specs.Settings.{settings_of}
 use Rattle.fs_model.specs.Tree.{Tree}
-use Rattle.integrity_store.specs.Standing.{records}
+use Rattle.held_blocks.specs.Standing.{records}
 use Rattle.line_io.specs.Streams.{Stream}
 use Rattle.mount.specs.Drawing.{seal_drawn}
 use Rattle.mount.specs.Making.{sealed_file}

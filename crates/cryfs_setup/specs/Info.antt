@@ -8,7 +8,7 @@ use Rattle.scrypt_kdf.specs.Cost.{Cost}
 use Rattle.config_file.specs.Settings.{Settings, settings_of, cipher_name}
 use Rattle.config_file.specs.declared.config.Opened.{Opened}
 use Rattle.fs_model.specs.Tree.{Tree}
-use Rattle.integrity_store.specs.Standing.{records}
+use Rattle.held_blocks.specs.Standing.{records}
 use Rattle.line_io.specs.Streams.{Stream, Untouched}
 use Rattle.mount.specs.Opening.{Attached}
 use Rattle.mount.specs.declared.error.OpenError.{OpenError}

@@ -7,7 +7,7 @@ use Rattle.config_file.specs.ConfigOf.{IsOnly, opened}
 use Rattle.config_file.specs.Settings.{Settings, settings_of}
 use Rattle.config_file.specs.declared.config.Opened.{Opened}
 use Rattle.fs_model.specs.Tree.{Tree}
-use Rattle.integrity_store.specs.Standing.{records}
+use Rattle.held_blocks.specs.Standing.{records}
 use Rattle.line_io.specs.Streams.{Stream, Untouched}
 use Rattle.mount.specs.Drawing.{seal_drawn}
 use Rattle.mount.specs.Making.{sealed_file}

@@ -1,6 +1,6 @@
 // Opening and closing, as a run beside sessions does it.
 ghost use Rattle.std.specs.Prelude.{◌≡◌, false, Result, IfOk, IfErr};
-ghost use Rattle.integrity_store.specs.Standing.{records};
+ghost use Rattle.held_blocks.specs.Standing.{records};
 ghost use Rattle.mount.specs.Mounts.{IsReady};
 ghost use Rattle.mount.specs.declared.error.OpenError.{OpenError};
 ghost use Rattle.mount_core.specs.Standing.{IsKeptMarked};

@@ -6,7 +6,7 @@ use Rattle.answers.specs.Sessions.{Exchange, violated, all_directory_faults, all
 use Rattle.config_file.specs.Settings.{Settings}
 use Rattle.fs_model.specs.Instant.{Instant}
 use Rattle.fs_model.specs.Tree.{Tree}
-use Rattle.integrity_store.specs.Standing.{records}
+use Rattle.held_blocks.specs.Standing.{records}
 use Rattle.line_io.specs.Lines.{first_of, first_line}
 use Rattle.line_io.specs.Streams.{Stream, Untouched}
 use Rattle.mount.specs.Representing.{HasEmptyList}

@@ -11,7 +11,7 @@ use Rattle.cryfs_setup.specs.Passwd.{RanPasswd, IsChanged, Reports as ChangeRepo
 use Rattle.cryfs_setup.specs.Create.{created_text}
 use Rattle.cryfs_setup.specs.Printing.{Printed}
 use Rattle.cryfs_setup.proofs.Ending.{ends}
-use Rattle.integrity_store.specs.Standing.{records}
+use Rattle.held_blocks.specs.Standing.{records}
 use Rattle.line_io.specs.Streams.{Stream, HasFailed}
 use Rattle.mount.specs.declared.draws.Draws.{Draws}
 use Rattle.mount.specs.declared.error.OpenError.{OpenError}

@@ -4,7 +4,7 @@ use Rattle.std.specs.declared.option.Option.{Option}
 use Rattle.std.specs.declared.option.Option.TheVariants.{Some}
 use Rattle.config_file.specs.Settings.{Settings}
 use Rattle.fs_model.specs.Tree.{Tree}
-use Rattle.integrity_store.specs.Standing.{records}
+use Rattle.held_blocks.specs.Standing.{records}
 use Rattle.line_io.specs.Lines.{first_line}
 use Rattle.line_io.specs.Streams.{Stream, HasFailed, Untouched}
 use Rattle.mount.specs.Representing.{HasEmptyList}

@@ -7,7 +7,7 @@ ghost use Rattle.cryfs_setup.specs.Create.{RanCreate};
 ghost use Rattle.cryfs_setup.specs.Info.{Told};
 ghost use Rattle.cryfs_setup.specs.Passwd.{RanPasswd};
 ghost use Rattle.histories.specs.Histories.{Run};
-ghost use Rattle.integrity_store.specs.Standing.{records};
+ghost use Rattle.held_blocks.specs.Standing.{records};
 ghost use Rattle.line_io.specs.Streams.{stream_of, Untouched};
 ghost use Rattle.mount.specs.Drawing.{drawn};
 ghost use Rattle.mount_core.specs.Standing.{IsKeptMarked};

@@ -9,8 +9,8 @@ use Rattle.config_file.specs.Settings.{Settings}
 use Rattle.fs_model.specs.Instant.{Instant}
 use Rattle.fs_model.specs.Tree.{Tree, empty_tree}
 use Rattle.aes_gcm.specs.Gcm.{opened_of}
-use Rattle.integrity_store.specs.Forgeries.{forged}
-use Rattle.integrity_store.specs.Standing.{records}
+use Rattle.held_blocks.specs.Forgeries.{forged}
+use Rattle.held_blocks.specs.Standing.{records}
 use Rattle.outside.specs.Going.{GoesOn}
 use Rattle.outside.specs.Honest.{NonePassSince}
 use Rattle.outside.specs.HonestLaws.{none_since_where_no_rise, no_rise_where_none_since}

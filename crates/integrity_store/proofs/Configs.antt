@@ -16,12 +16,12 @@ use Rattle.store_api.specs.Content.{SameContent}
 use Rattle.store_api.specs.Holdings.{Stays}
 use Rattle.store_api.specs.Lists.{MayConfigure}
 use Rattle.block_records.specs.BlockRecords.{Record, payload_in}
-use Rattle.integrity_store.specs.Held.{Held, live_version, waiting_or, bytes_in, told_or_none, where_live, wanted}
-use Rattle.integrity_store.specs.Soundness.{IsPast, SoundBy}
+use Rattle.held_blocks.specs.Held.{Held, live_version, waiting_or, bytes_in, told_or_none, where_live, wanted}
+use Rattle.held_blocks.specs.Soundness.{IsPast, SoundBy}
 use Rattle.outside.specs.Honest.{last_change}
 use Rattle.integrity_store.specs.EnduringLaws.{configures_of}
-use Rattle.integrity_store.specs.Standing.{Configures}
-use Rattle.integrity_store.specs.Stores.{IsWhole, version_in, holdings_by, IsNoBlock}
+use Rattle.held_blocks.specs.Standing.{Configures}
+use Rattle.held_blocks.specs.Stores.{IsWhole, version_in, holdings_by, IsNoBlock}
 use Rattle.integrity_store.proofs.OneWrite.{with_list}
 
 -- ---- what is held of blocks

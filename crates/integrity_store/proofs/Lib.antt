@@ -1,17 +1,3 @@
-pub mod Applying
-pub mod BatchSoundness
-pub mod Batches
-pub mod ConfigReads
 pub mod Configs
-pub mod Fetches
-pub mod Freshness
-pub mod Loading
-pub mod Lives
 pub mod OneWrite
-pub mod Reopening
-pub mod Sealed
-pub mod Sorted
-pub mod Untouched
-pub mod Waiting
-pub mod Wholeness
 pub mod WriteOuts

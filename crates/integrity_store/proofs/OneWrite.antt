@@ -24,12 +24,12 @@ use Rattle.sealed_store.specs.BlockFiles.{prefix, opens_file}
 use Rattle.store_api.specs.Durables.{IsConfigured}
 use Rattle.store_api.specs.Lists.{block_magic}
 use Rattle.block_records.specs.BlockRecords.{Record, record_of, record_in, opened, payload_in}
-use Rattle.integrity_store.specs.Held.{Held, live_version, waiting, waiting_or, bytes_in, file_of, where_live, wanted, own}
-use Rattle.integrity_store.specs.Forgeries.{was_put}
-use Rattle.integrity_store.specs.Soundness.{IsPast, SoundAt}
-use Rattle.integrity_store.proofs.Fetches.{wanted_of}
-use Rattle.integrity_store.specs.Stores.{IsWhole, IsNoBlock}
-use Rattle.integrity_store.proofs.Sorted.{of_found}
+use Rattle.held_blocks.specs.Held.{Held, live_version, waiting, waiting_or, bytes_in, file_of, where_live, wanted, own}
+use Rattle.held_blocks.specs.Forgeries.{was_put}
+use Rattle.held_blocks.specs.Soundness.{IsPast, SoundAt}
+use Rattle.held_blocks.proofs.Fetches.{wanted_of}
+use Rattle.held_blocks.specs.Stores.{IsWhole, IsNoBlock}
+use Rattle.batch_sealing.proofs.Sorted.{of_found}
 
 true_is_false : true ≡ false → ⊥
 true_is_false e = cc

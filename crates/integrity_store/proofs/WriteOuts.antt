@@ -22,15 +22,15 @@ use Rattle.store_api.specs.Content.{SameContent}
 use Rattle.store_api.specs.Durables.{IsConfigured}
 use Rattle.store_api.proofs.Rising.{not_below}
 use Rattle.integrity_store.specs.EnduringLaws.{configures_of, configured_of}
-use Rattle.integrity_store.specs.Held.{Held, wanted}
-use Rattle.integrity_store.specs.Forgeries.{forged}
-use Rattle.integrity_store.specs.Soundness.{SoundBy}
-use Rattle.integrity_store.specs.Standing.{identity_of, Stands, Configures}
-use Rattle.integrity_store.specs.Stores.{IsWhole, IsNoBlock}
-use Rattle.integrity_store.specs.StoreLaws.{sound_is_told}
+use Rattle.held_blocks.specs.Held.{Held, wanted}
+use Rattle.held_blocks.specs.Forgeries.{forged}
+use Rattle.held_blocks.specs.Soundness.{SoundBy}
+use Rattle.held_blocks.specs.Standing.{identity_of, Stands, Configures}
+use Rattle.held_blocks.specs.Stores.{IsWhole, IsNoBlock}
+use Rattle.held_blocks.specs.StoreLaws.{sound_is_told}
 use Rattle.integrity_store.specs.WaitingLaws.{in_order}
-use Rattle.integrity_store.proofs.Sorted.{found_first, first_below, found_later, each_found}
-use Rattle.integrity_store.proofs.Waiting.{test_of}
+use Rattle.batch_sealing.proofs.Sorted.{found_first, first_below, found_later, each_found}
+use Rattle.batch_sealing.proofs.Waiting.{test_of}
 use Rattle.integrity_store.proofs.OneWrite.{same_is, with_list, Leaves, sound_call, wanted_call, configured_call, sound_left, wanted_left, configured_left}
 
 true_is_false : true ≡ false → ⊥

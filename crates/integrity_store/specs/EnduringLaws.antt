@@ -10,13 +10,13 @@ use Rattle.local_state.proofs.Records.{one_reading, mark_in, marked_bytes, marke
 use Rattle.local_state.specs.Record as records_of
 use Rattle.store_api.specs.Content.{Content, SameContent, Changes as BlockChanges}
 use Rattle.store_api.specs.Durables.{Identity, Enduring, IsConfigured, last_told, with_mark}
-use Rattle.integrity_store.specs.Applied.{Applied, applied_by}
-use Rattle.integrity_store.specs.Held.{Held}
-use Rattle.integrity_store.specs.ReadLaws.{goes_on, last_went, sound-got, went_sound, went_wanted}
-use Rattle.integrity_store.specs.Reads.{WentOnByReads}
-use Rattle.integrity_store.specs.Standing.{Configures, IsMarked, Stands, durables_by, identity_of, listed, records}
-use Rattle.integrity_store.specs.StoreLaws.{sound_is_told}
-use Rattle.integrity_store.specs.Stores.{holdings_by, meanings_by}
+use Rattle.batch_sealing.specs.Applied.{Applied, applied_by}
+use Rattle.held_blocks.specs.Held.{Held}
+use Rattle.held_blocks.specs.ReadLaws.{goes_on, last_went, sound-got, went_sound, went_wanted}
+use Rattle.held_blocks.specs.Reads.{WentOnByReads}
+use Rattle.held_blocks.specs.Standing.{Configures, IsMarked, Stands, durables_by, identity_of, listed, records}
+use Rattle.held_blocks.specs.StoreLaws.{sound_is_told}
+use Rattle.held_blocks.specs.Stores.{holdings_by, meanings_by}
 use Rattle.integrity_store.specs.WaitingLaws.{in_order}
 
 -- ---- records

@@ -1,16 +1,9 @@
 -- A store's parts as plain data.
 use Rattle.std.specs.Prelude.{ℕ, List}
 use Rattle.std.specs.declared.option.Option.{Option}
-use Rattle.local_state.specs.declared.state.State.{State}
-use Rattle.local_state.specs.Record.{plain_state}
-use Rattle.sealed_store.specs.declared.sealed_store.SealedStore.{SealedStore}
-use Rattle.sealed_store.specs.Stores.{block_size_of, key_of, cipher_of}
-use Rattle.integrity_store.specs.Held.{Held}
+use Rattle.held_blocks.specs.Held.{Held}
+use Rattle.held_blocks.specs.Views.{held_of}
 use Rattle.integrity_store.specs.declared.store.IntegrityStore.{IntegrityStore}
-
--- the size of a block and the list of a sealed store, what its sealed texts open to by its cipher and key, and a state
-abbrev pub held_of : {V C : Type 0} → (C → List ℕ → List ℕ → Option (List ℕ)) → SealedStore V C → State → Held
-held_of opens sealed state = record { size = block_size_of sealed; opens = opens (cipher_of sealed) (key_of sealed); state = plain_state state; list = sealed.vault.list }
 
 -- what a store holds
 abbrev pub held_by : {V C : Type 0} → (C → List ℕ → List ℕ → Option (List ℕ)) → IntegrityStore V C → Held

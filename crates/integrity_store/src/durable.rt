@@ -6,7 +6,7 @@ ghost use Rattle.outside.specs.Changes.{set_changes};
 ghost use Rattle.outside.specs.View.{list_of};
 ghost use Rattle.sealed_store.specs.Stores.{IsIntact, block_size_of, key_of, cipher_of};
 ghost use Rattle.integrity_store.specs.EnduringLaws.{enduring_by};
-ghost use Rattle.integrity_store.specs.Standing.{durables_by, records, listed};
+ghost use Rattle.held_blocks.specs.Standing.{durables_by, records, listed};
 ghost use Rattle.integrity_store.specs.Views.{held_by};
 
 use crate::IntegrityStore;

@@ -4,10 +4,6 @@
 
 mod apply;
 mod durable;
-mod laws;
-mod raising;
-mod sealing;
 mod store;
 
-pub use laws::config_is_no_block;
 pub use store::IntegrityStore;

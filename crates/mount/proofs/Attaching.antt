@@ -13,14 +13,14 @@ use Rattle.outside.specs.declared.keeper.Keeper.{Ghosts as KeeperGhosts}
 use Rattle.fs_model.specs.Tree.{Tree}
 use Rattle.local_state.specs.Record.{PlainState, record_bytes}
 use Rattle.integrity_store.specs.EnduringLaws.{enduring_by}
-use Rattle.integrity_store.specs.Held.{Held}
-use Rattle.integrity_store.specs.Forgeries.{forged}
+use Rattle.held_blocks.specs.Held.{Held}
+use Rattle.held_blocks.specs.Forgeries.{forged}
 use Rattle.aes_gcm.specs.Gcm.{opened_of}
 use Rattle.redo_vault.specs.Redo.{Gave}
 use Rattle.store_api.specs.Content.{Content}
 use Rattle.store_api.specs.Durables.{Identity}
-use Rattle.integrity_store.specs.Standing.{Configures, identity_of, records}
-use Rattle.integrity_store.specs.Stores.{IsNoBlock}
+use Rattle.held_blocks.specs.Standing.{Configures, identity_of, records}
+use Rattle.held_blocks.specs.Stores.{IsNoBlock}
 use Rattle.config_file.proofs.Waiting.{form_waits}
 use Rattle.config_file.specs.Format.{HasForm}
 use Rattle.config_file.specs.Settings.{Settings, settings_of}

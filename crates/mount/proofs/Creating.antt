@@ -19,9 +19,9 @@ use Rattle.local_state.specs.Record.{PlainState}
 use Rattle.local_state.proofs.Records.{one_reading}
 use Rattle.sealed_store.specs.Stores.{IsIntact, block_size_of}
 use Rattle.integrity_store.specs.EnduringLaws.{listed_has}
-use Rattle.integrity_store.specs.Stores.{version_in}
-use Rattle.integrity_store.specs.StoreLaws.{steady_by}
-use Rattle.integrity_store.specs.Standing.{identity_of, records}
+use Rattle.held_blocks.specs.Stores.{version_in}
+use Rattle.held_blocks.specs.StoreLaws.{steady_by}
+use Rattle.held_blocks.specs.Standing.{identity_of, records}
 use Rattle.integrity_store.specs.declared.store.IntegrityStore.{IntegrityStore}
 use Rattle.config_file.specs.ConfigOf.{IsOnly, opened}
 use Rattle.config_file.specs.Settings.{Settings}

@@ -11,7 +11,7 @@ use Rattle.outside.specs.Trace.{Call}
 use Rattle.local_state.specs.declared.life.Life.{Life}
 use Rattle.local_state.specs.Known.{Lives, FitsLife, FitLives}
 use Rattle.local_state.specs.Record.{PlainState, HasRecord}
-use Rattle.integrity_store.specs.Soundness.{IsUntouched}
+use Rattle.held_blocks.specs.Soundness.{IsUntouched}
 use Rattle.store_api.specs.Holdings.{has_id}
 use Rattle.mount.specs.Making.{IsUnchanged}
 use Rattle.mount.proofs.Reading.{true_is_false}

@@ -17,12 +17,12 @@ use Rattle.redo_vault.specs.Redo.{Gave}
 use Rattle.fs_model.specs.Tree.{Tree}
 use Rattle.store_api.specs.Content.{Content}
 use Rattle.store_api.specs.Durables.{Identity, last_told}
-use Rattle.integrity_store.proofs.ConfigReads.{read_forgeries}
+use Rattle.held_blocks.proofs.ConfigReads.{read_forgeries}
 use Rattle.integrity_store.specs.EnduringLaws.{enduring_by}
-use Rattle.integrity_store.specs.Held.{Held}
-use Rattle.integrity_store.specs.Forgeries.{forged}
-use Rattle.integrity_store.specs.Standing.{Stands, Configures, records}
-use Rattle.integrity_store.specs.Stores.{version_in}
+use Rattle.held_blocks.specs.Held.{Held}
+use Rattle.held_blocks.specs.Forgeries.{forged}
+use Rattle.held_blocks.specs.Standing.{Stands, Configures, records}
+use Rattle.held_blocks.specs.Stores.{version_in}
 use Rattle.config_file.specs.ConfigOf.{ConfigOf, opened}
 use Rattle.config_file.specs.Settings.{Settings, settings_of}
 use Rattle.config_file.specs.declared.config.Opened.{Opened}

@@ -9,7 +9,7 @@ use Rattle.outside.specs.declared.keeper.Keeper.{Ghosts as KeeperGhosts}
 use Rattle.fs_model.specs.Tree.{Tree}
 use Rattle.store_api.specs.Durables.{Identity}
 use Rattle.integrity_store.specs.EnduringLaws.{listed_has}
-use Rattle.integrity_store.specs.Standing.{identity_of, records}
+use Rattle.held_blocks.specs.Standing.{identity_of, records}
 use Rattle.integrity_store.specs.declared.store.IntegrityStore.{IntegrityStore}
 use Rattle.config_file.specs.Settings.{Settings}
 use Rattle.config_file.specs.declared.config.Cipher.{Cipher}

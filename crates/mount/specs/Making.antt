@@ -18,8 +18,8 @@ use Rattle.store_api.specs.Content.{Id, same_id}
 use Rattle.store_api.specs.Durables.{last_told}
 use Rattle.store_api.specs.Holdings.{has_id}
 use Rattle.integrity_store.specs.declared.store.IntegrityStore.{IntegrityStore}
-use Rattle.integrity_store.specs.Standing.{records}
-use Rattle.integrity_store.specs.Stores.{version_in}
+use Rattle.held_blocks.specs.Standing.{records}
+use Rattle.held_blocks.specs.Stores.{version_in}
 use Rattle.config_file.specs.Sealing.{config_text}
 use Rattle.config_file.specs.Settings.{Settings}
 use Rattle.config_file.specs.declared.config.Cipher.{Cipher}

@@ -9,8 +9,8 @@ use Rattle.outside.specs.Honest.{count_told}
 use Rattle.outside.specs.Trace.{Call}
 use Rattle.outside.specs.declared.keeper.Keeper.{Ghosts as KeeperGhosts}
 use Rattle.local_state.specs.Record.{PlainState, record_bytes}
-use Rattle.integrity_store.specs.Forgeries.{forged}
-use Rattle.integrity_store.specs.Standing.{records}
+use Rattle.held_blocks.specs.Forgeries.{forged}
+use Rattle.held_blocks.specs.Standing.{records}
 use Rattle.config_file.specs.Settings.{Settings, settings_of}
 use Rattle.outside.specs.Going.{GoesOn}
 use Rattle.session_saver.specs.Saving.{KeptConfigures}

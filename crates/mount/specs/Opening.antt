@@ -10,8 +10,8 @@ use Rattle.outside.specs.Trace.{Call, config, got, adds}
 use Rattle.outside.specs.Writes.{after_writes}
 use Rattle.local_state.specs.Record.{PlainState, record_bytes, HasRecord}
 use Rattle.redo_vault.specs.Redo.{Gave}
-use Rattle.integrity_store.specs.Standing.{records}
-use Rattle.integrity_store.specs.Stores.{version_in}
+use Rattle.held_blocks.specs.Standing.{records}
+use Rattle.held_blocks.specs.Stores.{version_in}
 use Rattle.config_file.specs.ConfigOf.{ConfigOf, opened, form, locked, inner}
 use Rattle.config_file.specs.Settings.{Settings, settings_of}
 use Rattle.config_file.specs.declared.config.Opened.{Opened}

@@ -8,7 +8,7 @@ use Rattle.outside.specs.Trace.{Call}
 use Rattle.fs_model.specs.Tree.{Tree}
 use Rattle.local_state.specs.Record.{PlainState, HasRecord, record_bytes}
 use Rattle.store_api.specs.Durables.{Identity}
-use Rattle.integrity_store.specs.Standing.{records}
+use Rattle.held_blocks.specs.Standing.{records}
 use Rattle.config_file.specs.Settings.{Settings}
 use Rattle.tree_commands.specs.Performing.{Showing}
 use Rattle.mount_core.specs.Standing.{Keeps}

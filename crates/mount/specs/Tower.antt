@@ -9,9 +9,9 @@ use Rattle.sealed_store.specs.Stores.{IsIntact, block_size_of}
 use Rattle.store_api.specs.Holdings.{Holdings}
 use Rattle.store_api.specs.Durables.{Durables}
 use Rattle.integrity_store.specs.declared.store.IntegrityStore.{IntegrityStore}
-use Rattle.integrity_store.specs.Held.{Held}
-use Rattle.integrity_store.specs.Standing.{durables_by, records}
-use Rattle.integrity_store.specs.Stores.{meanings_by, holdings_by}
+use Rattle.held_blocks.specs.Held.{Held}
+use Rattle.held_blocks.specs.Standing.{durables_by, records}
+use Rattle.held_blocks.specs.Stores.{meanings_by, holdings_by}
 use Rattle.integrity_store.specs.Views.{held_by}
 use Rattle.block_cache.specs.declared.cache.BlockCache.{BlockCache}
 use Rattle.block_cache.specs.Through.{meanings_past, holdings_past, durables_past}

@@ -2,7 +2,7 @@
 use Rattle.std.specs.Prelude.{ℕ, List}
 use Rattle.std.specs.declared.option.Option.{Option}
 use Rattle.block_cache.specs.Through.{lawful_past}
-use Rattle.integrity_store.specs.StoreLaws.{lawful_by}
+use Rattle.held_blocks.specs.StoreLaws.{lawful_by}
 use Rattle.outcome.specs.Meanings.{Lawful}
 use Rattle.outside.specs.Trace.{Call}
 use Rattle.sealed_store.specs.Stores.{IsIntact, block_size_of}

@@ -7,9 +7,9 @@ ghost use Rattle.local_state.specs.Record.{plain_state, record_bytes, HasRecord}
 ghost use Rattle.store_api.specs.Content.{Content, SameContent};
 ghost use Rattle.store_api.specs.Holdings.{IsFew};
 ghost use Rattle.sealed_store.specs.Stores.{IsIntact, block_size_of};
-ghost use Rattle.integrity_store.specs.Standing.{identity_of, listed, records};
-ghost use Rattle.integrity_store.specs.Stores.{version_in, IsNoBlock};
-ghost use Rattle.integrity_store.specs.Views.{held_of};
+ghost use Rattle.held_blocks.specs.Standing.{identity_of, listed, records};
+ghost use Rattle.held_blocks.specs.Stores.{version_in, IsNoBlock};
+ghost use Rattle.held_blocks.specs.Views.{held_of};
 ghost use Rattle.aes_gcm.specs.Gcm.{opened_of};
 ghost use Rattle.mount.specs.Tower.{vault_in, trace_in, tower_meanings, tower_holdings, tower_durables};
 

@@ -9,7 +9,7 @@ use Rattle.config_file.specs.Settings.{Settings}
 use Rattle.create_options.specs.declared.options.CreateOptions.{CreateOptions}
 use Rattle.cryfs_setup.specs.Create.{Reports}
 use Rattle.fs_model.specs.Tree.{Tree, empty_tree}
-use Rattle.integrity_store.specs.Standing.{records}
+use Rattle.held_blocks.specs.Standing.{records}
 use Rattle.mount.specs.Drawing.{drawn}
 use Rattle.mount.specs.Making.{IsUnchanged, Created as Made, new_settings}
 use Rattle.mount.specs.declared.error.OpenError.{OpenError}

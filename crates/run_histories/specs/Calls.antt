@@ -7,7 +7,7 @@ use Rattle.cryfs_setup.specs.Create.{RanCreate}
 use Rattle.cryfs_setup.specs.Info.{Told}
 use Rattle.cryfs_setup.specs.Passwd.{RanPasswd}
 use Rattle.fs_model.specs.Instant.{Instant}
-use Rattle.integrity_store.specs.Standing.{records}
+use Rattle.held_blocks.specs.Standing.{records}
 use Rattle.line_io.specs.Streams.{Stream, Untouched}
 use Rattle.mount.specs.Drawing.{drawn}
 use Rattle.mount_core.specs.Standing.{IsKeptMarked}

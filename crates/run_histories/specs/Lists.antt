@@ -6,7 +6,7 @@ use Rattle.answers.specs.Sessions.{Exchange, violated}
 use Rattle.config_file.specs.Settings.{Settings}
 use Rattle.create_options.specs.declared.options.CreateOptions.{CreateOptions}
 use Rattle.fs_model.specs.Tree.{Tree, empty_tree}
-use Rattle.integrity_store.specs.Standing.{records}
+use Rattle.held_blocks.specs.Standing.{records}
 use Rattle.line_io.specs.Lines.{first_line}
 use Rattle.line_io.specs.Streams.{Untouched}
 use Rattle.mount.specs.Drawing.{drawn}

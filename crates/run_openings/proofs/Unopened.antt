@@ -2,7 +2,7 @@
 use Rattle.std.proofs.Common.{◌≡◌, ◌≢◌, ℕ, List, sym, ap, subst, refl}
 use Rattle.std.specs.declared.option.Option.{Option}
 use Rattle.config_file.specs.declared.error.ConfigError.TheVariants as config_error
-use Rattle.integrity_store.specs.Standing.{records}
+use Rattle.held_blocks.specs.Standing.{records}
 use Rattle.mount.specs.Mounts.{IsCalmOpening, StopsMarked, Unopened}
 use Rattle.mount.specs.Opening.{AttachCause}
 use Rattle.mount.specs.declared.error.OpenError.{OpenError}

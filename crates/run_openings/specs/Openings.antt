@@ -3,7 +3,7 @@ use Rattle.std.specs.Prelude.{◌≡◌, ◌≢◌, ◌≤◌, ℕ, true, List, 
 use Rattle.std.specs.declared.option.Option.{Option}
 use Rattle.config_file.specs.Settings.{Settings}
 use Rattle.fs_model.specs.Tree.{Tree}
-use Rattle.integrity_store.specs.Standing.{records}
+use Rattle.held_blocks.specs.Standing.{records}
 use Rattle.line_io.specs.Streams.{Stream, Untouched}
 use Rattle.mount.specs.Mounts.{StopsMarked, Unopened}
 use Rattle.mount.specs.declared.error.OpenError.{OpenError}

@@ -11,8 +11,8 @@ use Rattle.fs_model.specs.declared.command.Command.TheVariants.{List as Listed, 
 use Rattle.fs_model.specs.declared.reply.Reply.TheVariants.{Done, Rows, Info, Target, Content, Error}
 use Rattle.fs_model.specs.Instant.{Instant}
 use Rattle.fs_model.specs.Laws.{OnlyLooks}
-use Rattle.integrity_store.specs.Held.{Held}
-use Rattle.integrity_store.specs.Reads.{AllReads, WentOnByReads}
+use Rattle.held_blocks.specs.Held.{Held}
+use Rattle.held_blocks.specs.Reads.{AllReads, WentOnByReads}
 use Rattle.mount.specs.declared.mount.Mount.{Mount}
 use Rattle.mount.specs.Tower.{Cached, held_in, trace_in, tower_meanings}
 use Rattle.mount.specs.TowerLaws.{tower_lawful}

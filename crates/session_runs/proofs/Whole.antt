@@ -15,8 +15,8 @@ use Rattle.outside.specs.Trace.{Call, config, got}
 use Rattle.outside.specs.declared.keeper.Keeper.{Ghosts as KeeperGhosts}
 use Rattle.answers.specs.Sessions.{Exchange, RefusesAfterViolation, IsKeptPoint, is_violation, latest, violated, all_directory_faults, all_state_faults}
 use Rattle.store_api.specs.Durables.{Identity}
-use Rattle.integrity_store.specs.Forgeries.{forged}
-use Rattle.integrity_store.specs.Standing.{records}
+use Rattle.held_blocks.specs.Forgeries.{forged}
+use Rattle.held_blocks.specs.Standing.{records}
 use Rattle.config_file.specs.Settings.{Settings, settings_of}
 use Rattle.config_file.specs.declared.config.Opened.{Opened}
 use Rattle.session_saver.specs.Saving.{KeptConfigures, UnlessDirectory, UnlessState}

@@ -13,7 +13,7 @@ use Rattle.answers.specs.declared.answer.Answer.TheVariants.{Reply as Replied, M
 use Rattle.answers.specs.Hosts.{Hosting}
 use Rattle.answers.specs.Sessions.{Asked, FollowsAsked, is_violation, is_synced, directory_faults, state_faults}
 use Rattle.store_api.specs.Holdings.{Stays}
-use Rattle.integrity_store.specs.Standing.{records}
+use Rattle.held_blocks.specs.Standing.{records}
 use Rattle.mount_core.specs.Answers.{is_done_answer, is_structure, OnFound, OnReply, OnSpent}
 use Rattle.mount_core.specs.Causes.{FoundCause, MadeRoom, OnlyLoaded, SpentCause}
 use Rattle.mount_core.specs.Configuring.{ConfigAnswered}

@@ -19,7 +19,7 @@ use Rattle.answers.specs.Hosts.{LawfulHost, IsLongReply}
 use Rattle.answers.specs.Sessions.{Asked, FollowsAsked, is_violation, is_refused, is_sync, is_synced, directory_faults, state_faults}
 use Rattle.answers.proofs.Looked.{long_stays}
 use Rattle.store_api.specs.Holdings.{Holdings, Stays}
-use Rattle.integrity_store.specs.Standing.{records}
+use Rattle.held_blocks.specs.Standing.{records}
 use Rattle.mount_core.specs.Answers.{is_done_answer, is_structure, OnFound, OnReply, OnSpent}
 use Rattle.mount_core.specs.Causes.{MadeRoom, OnlyLoaded}
 use Rattle.mount_core.specs.Configuring.{ConfigAnswered}

@@ -8,7 +8,7 @@ use Rattle.outside.specs.Going.{GoesOn}
 use Rattle.outside.specs.Trace.{Call}
 use Rattle.outside.specs.declared.keeper.Keeper.{Ghosts as KeeperGhosts}
 use Rattle.answers.specs.Sessions.{Exchange, IsSession, IsKeptPoint, latest, violated, all_directory_faults, all_state_faults}
-use Rattle.integrity_store.specs.Standing.{records}
+use Rattle.held_blocks.specs.Standing.{records}
 use Rattle.mount_core.specs.Configuring.{ConfigAnswered}
 use Rattle.tree_commands.specs.Performing.{Showing}
 use Rattle.mount_core.specs.Standing.{IsKeptMarked, Keeps}

@@ -3,7 +3,7 @@ use Rattle.std.proofs.Common.{◌≡◌, ◌⊎◌, ◌∙◌, ℕ, Bool, List, 
 use Rattle.std.specs.declared.option.Option.{Option}
 use Rattle.answers.specs.Sessions.{Exchange}
 use Rattle.fs_model.specs.Instant.{Instant}
-use Rattle.integrity_store.specs.Standing.{records}
+use Rattle.held_blocks.specs.Standing.{records}
 use Rattle.line_io.specs.Reading.{Reading, coming, total}
 use Rattle.line_io.specs.Streams.{Stream, stream_of, HasFailed, TookMost, Untouched}
 use Rattle.outside.specs.Trace.{Call}

@@ -3,7 +3,7 @@ ghost use Rattle.std.specs.Prelude.{◌≡◌, ◌≤◌, true, IfOk, IfErr, OnE
 ghost use Rattle.outside.specs.Streams.{Ends};
 ghost use Rattle.line_io.specs.Reading.{coming};
 ghost use Rattle.line_io.specs.Streams.{stream_of};
-ghost use Rattle.integrity_store.specs.Standing.{records};
+ghost use Rattle.held_blocks.specs.Standing.{records};
 ghost use Rattle.session_lines.specs.Driven.{EndsAs};
 ghost use Rattle.tree_commands.specs.Showing.{ShowsFiles};
 ghost use Rattle.mount_core.specs.Standing.{IsKeptMarked};

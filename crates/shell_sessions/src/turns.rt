@@ -1,6 +1,6 @@
 // The beginning of a session, and its end.
 ghost use Rattle.std.specs.Prelude.{◌≡◌, IfOk, IfErr};
-ghost use Rattle.integrity_store.specs.Standing.{records};
+ghost use Rattle.held_blocks.specs.Standing.{records};
 ghost use Rattle.tree_commands.specs.Showing.{ShowsFiles};
 ghost use Rattle.mount_core.specs.Standing.{IsKeptMarked};
 ghost use Rattle.mount.specs.Mounts.{IsReady, Unopened};

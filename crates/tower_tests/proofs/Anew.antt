@@ -12,8 +12,8 @@ use Rattle.local_state.proofs.Records.{one_reading}
 use Rattle.store_api.specs.Content.{Content, SameContent, same_id, Changes, or_else, over}
 use Rattle.store_api.specs.Durables.{Identity, Durables, Records, Enduring}
 use Rattle.store_api.specs.Holdings.{Holdings, Steady, Changed}
-use Rattle.integrity_store.specs.Held.{Held}
-use Rattle.integrity_store.specs.Standing.{identity_of, Stands}
+use Rattle.held_blocks.specs.Held.{Held}
+use Rattle.held_blocks.specs.Standing.{identity_of, Stands}
 
 -- ---- a put
 

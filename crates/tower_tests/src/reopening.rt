@@ -10,9 +10,9 @@ ghost use Rattle.store_api.specs.Content.{Content, SameContent, over};
 ghost use Rattle.store_api.specs.Durables.{Identity};
 ghost use Rattle.store_api.specs.Holdings.{Changed, IsFew, MayGet};
 ghost use Rattle.session_saver.specs.Saving.{RepresentsContent};
-ghost use Rattle.integrity_store.specs.Forgeries.{forged};
-ghost use Rattle.integrity_store.specs.Standing.{Stands};
-ghost use Rattle.integrity_store.specs.Stores.{IsNoBlock};
+ghost use Rattle.held_blocks.specs.Forgeries.{forged};
+ghost use Rattle.held_blocks.specs.Standing.{Stands};
+ghost use Rattle.held_blocks.specs.Stores.{IsNoBlock};
 
 use block_id::BlockId;
 use integrity_store::IntegrityStore;

@@ -5,9 +5,9 @@ use Rattle.outside.specs.Trace.{config}
 use Rattle.outside.specs.View.{list_of}
 use Rattle.local_state.specs.Record.{plain_state, record_bytes}
 use Rattle.redo_vault.specs.Redo.{Redo}
-use Rattle.integrity_store.specs.Standing.{Stands}
-use Rattle.integrity_store.specs.Views.{held_of}
-use Rattle.integrity_store.specs.Stores.{IsNoBlock}
+use Rattle.held_blocks.specs.Standing.{Stands}
+use Rattle.held_blocks.specs.Views.{held_of}
+use Rattle.held_blocks.specs.Stores.{IsNoBlock}
 use Rattle.integrity_store.specs.WaitingLaws.{in_order}
 use Rattle.config_file.specs.Settings.{settings_of}
 use Rattle.config_file.specs.declared.config.Cipher.{Cipher}

@@ -4,8 +4,8 @@ use Rattle.local_state.specs.Record.{PlainState, plain_state, HasRecord}
 use Rattle.outside.specs.View.{list_of}
 use Rattle.redo_vault.specs.Redo.{Redo}
 use Rattle.sealed_store.specs.Stores.{IsIntact, block_size_of}
-use Rattle.integrity_store.specs.StoreLaws.{steady_by}
-use Rattle.integrity_store.specs.Views.{held_of}
+use Rattle.held_blocks.specs.StoreLaws.{steady_by}
+use Rattle.held_blocks.specs.Views.{held_of}
 use Rattle.config_file.specs.Settings.{settings_of}
 use Rattle.config_file.specs.declared.config.Cipher.{Cipher}
 use Rattle.sha2.specs.Sha256.{sha256}

@@ -1,5 +1,5 @@
 use Rattle.std.proofs.Common.{sym, ◌∙◌, ap, subst, true}
-use Rattle.integrity_store.specs.Standing.{Stands}
+use Rattle.held_blocks.specs.Standing.{Stands}
 use Rattle.integrity_store.specs.declared.store.IntegrityStore.{IntegrityStore}
 use Rattle.config_file.specs.declared.config.Cipher.{Cipher}
 use Rattle.store_api.specs.Content.{SameContent}

@@ -4,9 +4,9 @@ use Rattle.outside.specs.Honest.{count_told}
 use Rattle.outside.specs.View.{bytes_of}
 use Rattle.store_api.specs.Content.{over}
 use Rattle.store_api.specs.Durables.{Identity}
-use Rattle.integrity_store.specs.Forgeries.{forged}
-use Rattle.integrity_store.specs.Held.{wanted}
-use Rattle.integrity_store.specs.Standing.{identity_of, Stands}
+use Rattle.held_blocks.specs.Forgeries.{forged}
+use Rattle.held_blocks.specs.Held.{wanted}
+use Rattle.held_blocks.specs.Standing.{identity_of, Stands}
 use Rattle.integrity_store.specs.Views.{held_by}
 use Rattle.tower_tests.proofs.Anew.{put_there}
 use Rattle.tower_tests.proofs.reopening.put_reopen_load.Goals as goal

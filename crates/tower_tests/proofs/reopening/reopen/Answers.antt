@@ -1,9 +1,10 @@
 use Rattle.std.proofs.Common.{◌≡◌, ◌∙◌, ap, true}
 use Rattle.outside.specs.View.{list_of}
 use Rattle.local_state.specs.Record.{plain_state, record_bytes}
-use Rattle.integrity_store.specs.Held.{Held}
-use Rattle.integrity_store.specs.Standing.{identity_of}
-use Rattle.integrity_store.specs.Views.{held_of, held_by}
+use Rattle.held_blocks.specs.Held.{Held}
+use Rattle.held_blocks.specs.Standing.{identity_of}
+use Rattle.held_blocks.specs.Views.{held_of}
+use Rattle.integrity_store.specs.Views.{held_by}
 use Rattle.integrity_store.specs.WaitingLaws.{in_order}
 use Rattle.tower_tests.proofs.Anew.{reopened}
 use Rattle.tower_tests.proofs.reopening.reopen.Goals as goal

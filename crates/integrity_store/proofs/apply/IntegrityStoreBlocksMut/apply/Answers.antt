@@ -6,10 +6,10 @@ use Rattle.outside.specs.View.{pending_of}
 use Rattle.sealed_store.specs.Stores.{IsIntact, block_size_of, cipher_of}
 use Rattle.block_batch.specs.Entries.{entries_of}
 use Rattle.integrity_store.specs.declared.store.IntegrityStore.{IntegrityStore}
-use Rattle.integrity_store.specs.Held.{Held}
+use Rattle.held_blocks.specs.Held.{Held}
 use Rattle.integrity_store.specs.Views.{held_by}
-use Rattle.integrity_store.proofs.Applying.{may_seal_batch, applied_nothing}
-use Rattle.integrity_store.proofs.Batches.{is_spent, isnt_spent, Listed, may_come_listed, room, Marked, applied_batch, drawn_in, whole_batch, changed_batch}
+use Rattle.batch_sealing.proofs.Applying.{may_seal_batch, applied_nothing}
+use Rattle.batch_sealing.proofs.Batches.{is_spent, isnt_spent, Listed, may_come_listed, room, Marked, applied_batch, drawn_in, whole_batch, changed_batch}
 use Rattle.integrity_store.proofs.apply.IntegrityStoreBlocksMut.apply.Given.{Over}
 use Rattle.integrity_store.proofs.apply.IntegrityStoreBlocksMut.apply.Goals as goal
 

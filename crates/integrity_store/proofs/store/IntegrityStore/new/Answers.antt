@@ -1,6 +1,6 @@
-use Rattle.integrity_store.specs.Views.{held_of}
-use Rattle.integrity_store.proofs.Reopening.{opened_stands, few_used}
-use Rattle.integrity_store.proofs.Untouched.{untouched_sound}
+use Rattle.held_blocks.specs.Views.{held_of}
+use Rattle.held_blocks.proofs.Reopening.{opened_stands, few_used}
+use Rattle.held_blocks.proofs.Untouched.{untouched_sound}
 use Rattle.local_state.specs.Record.{plain_state}
 use Rattle.integrity_store.proofs.store.IntegrityStore.new.Goals as goal
 

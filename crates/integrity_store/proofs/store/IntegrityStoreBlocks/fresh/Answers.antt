@@ -1,4 +1,4 @@
-use Rattle.integrity_store.proofs.Freshness.{first_free}
+use Rattle.held_blocks.proofs.Freshness.{first_free}
 use Rattle.integrity_store.proofs.store.IntegrityStoreBlocks.fresh.Goals as goal
 
 pub returns : goal.returns

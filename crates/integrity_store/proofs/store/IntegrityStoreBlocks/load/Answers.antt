@@ -3,10 +3,10 @@ use Rattle.std.specs.declared.option.Option.TheVariants.{Some}
 use Rattle.std.specs.declared.result.Result.TheVariants.{Ok}
 use Rattle.sealed_store.specs.Stores.{IsIntact, block_size_of, cipher_of}
 use Rattle.integrity_store.specs.declared.store.IntegrityStore.{IntegrityStore}
-use Rattle.integrity_store.specs.Held.{live_version}
-use Rattle.integrity_store.proofs.Fetches.{fetched_len, loads_none, loads_ok, loads_err}
+use Rattle.held_blocks.specs.Held.{live_version}
+use Rattle.held_blocks.proofs.Fetches.{fetched_len, loads_none, loads_ok, loads_err}
 use Rattle.integrity_store.specs.Views.{held_by}
-use Rattle.integrity_store.proofs.Loading.{stays, loaded_ok, loaded_err}
+use Rattle.held_blocks.proofs.Loading.{stays, loaded_ok, loaded_err}
 use Rattle.integrity_store.proofs.store.IntegrityStoreBlocks.load.Goals as goal
 
 pub returns-in-Ok-clause-outcome : goal.returns-in-Ok-clause-outcome

@@ -9,7 +9,7 @@ use Rattle.outside.specs.View.{list_of}
 use Rattle.outside.specs.Writes.{after_writes}
 use Rattle.local_state.specs.Record.{plain_state}
 use Rattle.store_api.specs.Durables.{Identity}
-use Rattle.integrity_store.specs.Forgeries.{forged}
+use Rattle.held_blocks.specs.Forgeries.{forged}
 use Rattle.config_file.specs.Settings.{settings_of}
 use Rattle.tree_commands.specs.Showing.{ShowsFiles}
 use Rattle.tree_commands.proofs.Shows.{files_same}

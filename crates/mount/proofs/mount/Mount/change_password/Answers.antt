@@ -1,7 +1,7 @@
 use Rattle.std.proofs.Common.{◌≤◌, inl, refl, ◌∙◌, ap, subst}
 use Rattle.config_file.specs.ConfigOf.{IsOnly, opened}
 use Rattle.config_file.specs.Settings.{settings_of}
-use Rattle.integrity_store.specs.Standing.{records}
+use Rattle.held_blocks.specs.Standing.{records}
 use Rattle.mount_core.specs.Configuring.{Replaced}
 use Rattle.mount.specs.Making.{sealed_file}
 use Rattle.std.specs.Prelude.{OnOk}

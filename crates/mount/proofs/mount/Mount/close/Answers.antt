@@ -3,8 +3,8 @@ use Rattle.aes_gcm.specs.Gcm.{opened_of}
 use Rattle.outside.specs.Going.{GoesOn}
 use Rattle.outside.specs.Honest.{is_lie, count_told}
 use Rattle.store_api.specs.Durables.{Identity}
-use Rattle.integrity_store.specs.Forgeries.{forged}
-use Rattle.integrity_store.specs.Standing.{records}
+use Rattle.held_blocks.specs.Forgeries.{forged}
+use Rattle.held_blocks.specs.Standing.{records}
 use Rattle.config_file.specs.Settings.{settings_of}
 use Rattle.tree_commands.specs.Showing.{ShowsFiles}
 use Rattle.mount_core.specs.Configuring.{ConfigClosed}

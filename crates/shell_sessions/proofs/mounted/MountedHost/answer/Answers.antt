@@ -1,6 +1,6 @@
 use Rattle.std.proofs.Common.{inl, subst}
 use Rattle.answers.specs.Sessions.{is_violation}
-use Rattle.integrity_store.specs.Standing.{records}
+use Rattle.held_blocks.specs.Standing.{records}
 use Rattle.tree_commands.specs.Showing.{ShowsFiles}
 use Rattle.mount_core.specs.Standing.{Left}
 use Rattle.mount.specs.Tower.{tower_meanings, tower_holdings, tower_durables}

@@ -1,0 +1,204 @@
+-- A batch changes the content as it says, and leaves a sound store sound.
+use Rattle.std.proofs.Common.{◌≡◌, ℕ, ◌+◌, ◌-◌, ◌≤◌, List, true, false, refl, sym, ◌∙◌, ap, subst, inl, inr, arith}
+use Rattle.std.specs.Prelude.{Option, Some, None, is_some, not, ◌&&◌, ◌⊎◌}
+use Rattle.std.specs.FinMap as fin
+use Rattle.std.specs.Option.{option_map_or}
+use Rattle.outside.specs.Trace.{Call, block}
+use Rattle.outside.specs.Honest.{last_change}
+use Rattle.local_state.specs.declared.life.Life.{Life}
+use Rattle.local_state.specs.Known.{raised_version, is_dead_in, version_if_live, is_last}
+use Rattle.sealed_store.specs.BlockFiles.{opens_file}
+use Rattle.store_api.specs.Content.{Id, Changes, or_else, over}
+use Rattle.store_api.specs.Holdings.{Changed, gives_payload, has_id}
+use Rattle.block_records.specs.BlockRecords.{Record, record_of, opened, payload_of, payload_in}
+use Rattle.batch_sealing.specs.Applied.{life_after, WaitsAfter, Applied}
+use Rattle.held_blocks.specs.Held.{Held, own, waiting, waiting_or, bytes_in, file_of, live_version, where_live, told_or_none, wanted}
+use Rattle.held_blocks.specs.Soundness.{IsPast, SoundAt, SoundBy}
+use Rattle.held_blocks.specs.Forgeries.{was_put}
+use Rattle.held_blocks.specs.Stores.{IsWhole, version_in, meanings_by, holdings_by}
+use Rattle.held_blocks.proofs.Reopening.{few_used}
+use Rattle.held_blocks.specs.StoreLaws.{has-keys}
+
+-- ---- one id
+
+dead_version : (life : Option Life) → version_if_live (life_after (Some None) life) ≡ None
+dead_version None = refl
+dead_version (Some life) = refl
+
+stays_known : (said : Option (Option (List ℕ))) (life : Option Life) → is_some life ≡ true → is_some (life_after said life) ≡ true
+stays_known None life known = known
+stays_known (Some (Some payload)) life known = refl
+stays_known (Some None) None known = known
+stays_known (Some None) (Some life) known = refl
+
+-- what a past life became
+pub record Later (said : Option (Option (List ℕ))) (old : Life) : Type 0 where
+  pub life : Life
+  pub is : life_after said (Some old) ≡ Some life
+  pub version : old.version ≤ life.version
+
+later : (said : Option (Option (List ℕ))) (old : Life) → Later said old
+later None old = record { life = old; is = refl; version = omega arith }
+later (Some (Some payload)) old = record { life = record { version = old.version + 1; live = true }; is = refl; version = omega arith }
+later (Some None) old = record { life = record { version = old.version; live = false }; is = refl; version = omega arith }
+
+module _ (a b : Held) (old new : Option (List Call)) (changes : Changes) (x : Applied a b old new changes) where
+  opened_same : (file : List ℕ) → opened b.opens b.size file ≡ opened a.opens a.size file
+  opened_same file = ap (λ f. opened f b.size file) x.opens ∙ ap (λ n. opened a.opens n file) x.size
+
+  client_same : b.state.client ≡ a.state.client
+  client_same = ap (λ s. s.client) x.state
+
+  own_same : (id : Id) (version : ℕ) (payload : List ℕ) → own b id version payload ≡ own a id version payload
+  own_same id version payload = ap (λ (n : ℕ). record { id = id; client = n; version = version; payload = payload }) client_same
+
+  abbrev marked : Option (Option (List ℕ)) → Id → Type 0
+  marked said id = fin.get b.state.lives id ≡ life_after said (fin.get a.state.lives id)
+
+  -- ---- the content
+
+  file_same : (id : Id) (trace : List Call) → waiting b id ≡ waiting a id → file_of b trace id ≡ file_of a trace id
+  file_same id trace same = ap (λ w. waiting_or w (bytes_in (last_change (block id) trace))) same
+
+  payload_same : (file : Option (List ℕ)) → payload_in b.opens b.size file ≡ payload_in a.opens a.size file
+  payload_same file = ap (λ f. payload_in f b.size file) x.opens ∙ ap (λ n. payload_in a.opens n file) x.size
+
+  wanted_kept : (trace : Option (List Call)) (id : Id) → waiting b id ≡ waiting a id → fin.get b.state.lives id ≡ fin.get a.state.lives id → wanted b trace id ≡ wanted a trace id
+  wanted_kept trace id waits lives =
+      ap (λ m. where_live (version_if_live m) (payload_in b.opens b.size (file_of b (told_or_none trace) id))) lives
+      ∙ ap (where_live (live_version a id)) (ap (payload_in b.opens b.size) (file_same id (told_or_none trace) waits) ∙ payload_same (file_of a (told_or_none trace) id))
+
+  wanted_said : (trace : Option (List Call)) (id : Id) (said : Option (Option (List ℕ))) → WaitsAfter a b id said → marked said id → wanted b trace id ≡ or_else said (wanted a trace id)
+  wanted_said trace id None waits lives = wanted_kept trace id waits lives
+  wanted_said trace id (Some (Some payload)) waits lives =
+      ap (λ m. where_live (version_if_live m) (payload_in b.opens b.size (file_of b (told_or_none trace) id))) lives
+      ∙ ap (λ w. Some (payload_in b.opens b.size (waiting_or w (bytes_in (last_change (block id) (told_or_none trace)))))) waits.1
+      ∙ ap (λ r. Some (payload_of b.size r)) waits.2
+  wanted_said trace id (Some None) waits lives =
+      ap (λ m. where_live (version_if_live m) (payload_in b.opens b.size (file_of b (told_or_none trace) id))) lives
+      ∙ ap (λ v. where_live v (payload_in b.opens b.size (file_of b (told_or_none trace) id))) (dead_version (fin.get a.state.lives id))
+
+  pub wanted_after : (trace : Option (List Call)) (id : Id) → wanted b trace id ≡ over changes (wanted a trace) id
+  wanted_after trace id = wanted_said trace id (fin.get changes id) (x.waits id) (x.lives id)
+
+  -- ---- soundness
+
+  module _ (trace : List Call) (s : SoundAt a trace) where
+    waits_said : (id : Id) (version : ℕ) (change : Option (List ℕ)) (said : Option (Option (List ℕ))) → WaitsAfter a b id said → marked said id
+        → live_version b id ≡ Some version → waiting b id ≡ Some change
+        → (bytes payload : List ℕ) × (change ≡ Some bytes) × (opened b.opens b.size bytes ≡ Some (own b id version payload))
+    waits_said id version change None waits lives live there =
+        let w = s.waits id version change (ap version_if_live (sym lives) ∙ live) (sym waits ∙ there) in
+        (w.0, w.1, w.2, opened_same w.0 ∙ (w.3 ∙ ap Some (sym (own_same id version w.1))))
+    waits_said id version change (Some (Some payload)) waits lives live there =
+        let raised : Some (raised_version (fin.get a.state.lives id)) ≡ Some version = ap version_if_live (sym lives) ∙ live in
+        let same : raised_version (fin.get a.state.lives id) ≡ version = cc in
+        let file : change ≡ Some waits.0 = cc (waits.1, there) in
+        (waits.0, payload, file, waits.2 ∙ ap (λ v. Some (own b id v payload)) same)
+    waits_said id version change (Some None) waits lives live there =
+        let dead : None ≡ Some version = sym (dead_version (fin.get a.state.lives id)) ∙ (ap version_if_live (sym lives) ∙ live) in absurd (cc)
+
+    stands_said : (id : Id) (version : ℕ) (said : Option (Option (List ℕ))) → WaitsAfter a b id said → marked said id → live_version b id ≡ Some version → waiting b id ≡ None
+        → (bytes payload : List ℕ) × (last_change (block id) trace ≡ Some (record { bytes = Some bytes; ok = true })) × (opened b.opens b.size bytes ≡ Some (own b id version payload))
+    stands_said id version None waits lives live none =
+        let w = s.stands id version (ap version_if_live (sym lives) ∙ live) (sym waits ∙ none) in
+        (w.0, w.1, w.2, opened_same w.0 ∙ (w.3 ∙ ap Some (sym (own_same id version w.1))))
+    stands_said id version (Some (Some payload)) waits lives live none = let there = waits.1 in absurd (cc)
+    stands_said id version (Some None) waits lives live none = absurd (cc)
+
+    buried_said : (id : Id) (said : Option (Option (List ℕ))) → WaitsAfter a b id said → marked said id → is_dead_in b.state.lives id ≡ true → waiting b id ≡ None
+        → last_change (block id) trace ≡ Some (record { bytes = None; ok = true })
+    buried_said id None waits lives dead none = s.buried id (ap (λ o. is_some o && not (option_map_or (λ m. m.live) o false)) (sym lives) ∙ dead) (sym waits ∙ none)
+    buried_said id (Some (Some payload)) waits lives dead none = let there = waits.1 in absurd (cc)
+    buried_said id (Some None) waits lives dead none = absurd (cc)
+
+    past_payload : (r : Record) (p : IsPast a trace r) (said : Option (Option (List ℕ))) → WaitsAfter a b r.id said → marked said r.id → live_version b r.id ≡ Some r.version
+        → wanted b (Some trace) r.id ≡ Some r.payload
+    past_payload r p None waits lives live = wanted_kept (Some trace) r.id waits lives ∙ p.payload (ap version_if_live (sym lives) ∙ live)
+    past_payload r p (Some (Some payload)) waits lives live =
+        let raised : Some (raised_version (fin.get a.state.lives r.id)) ≡ Some r.version = ap version_if_live (sym lives) ∙ live in
+        let version : p.life.version + 1 ≡ r.version = cc in
+        absurd (omega (arith, p.version))
+    past_payload r p (Some None) waits lives live =
+        let dead : None ≡ Some r.version = sym (dead_version (fin.get a.state.lives r.id)) ∙ (ap version_if_live (sym lives) ∙ live) in absurd (cc)
+
+    past_after : (r : Record) → IsPast a trace r → IsPast b trace r
+    past_after r p =
+        let said = fin.get changes r.id in
+        let l = later said p.life in
+        record {
+          life = l.life;
+          used = x.lives r.id ∙ (ap (life_after said) p.used ∙ l.is);
+          client = p.client ∙ sym client_same;
+          version = omega (arith, p.version, l.version);
+          payload = past_payload r p said (x.waits r.id) (x.lives r.id);
+        }
+
+    past_put : (bytes plain : List ℕ) → was_put bytes trace ≡ true → opens_file b.opens b.size bytes ≡ Some plain → (r : Record) × (record_of b.size plain ≡ Some r) × IsPast b trace r
+    past_put bytes plain was opens =
+        let before : opens_file a.opens a.size bytes ≡ Some plain = ap (λ f. opens_file f a.size bytes) (sym x.opens) ∙ (ap (λ n. opens_file b.opens n bytes) (sym x.size) ∙ opens) in
+        let p = s.past bytes plain was before in
+        (p.0, ap (λ n. record_of n plain) x.size ∙ p.1, past_after p.0 p.2)
+
+    sound_at : SoundAt b trace
+    sound_at = record {
+      waits = λ id version change live there. waits_said id version change (fin.get changes id) (x.waits id) (x.lives id) live there;
+      stands = λ id version live none. stands_said id version (fin.get changes id) (x.waits id) (x.lives id) live none;
+      buried = λ id dead none. buried_said id (fin.get changes id) (x.waits id) (x.lives id) dead none;
+      used = λ id changed. ap is_some (x.lives id) ∙ stays_known (fin.get changes id) (fin.get a.state.lives id) (s.used id changed);
+      past = past_put;
+    }
+
+  sound_by : (trace : Option (List Call)) → SoundBy a trace → SoundBy b trace
+  sound_by None s = absurd s
+  sound_by (Some trace) s = sound_at trace s
+
+  pub sound_after : SoundBy a old → SoundBy b new
+  sound_after s = subst (SoundBy b) (sym x.trace) (sound_by old s)
+
+-- ---- the store after a batch
+
+new_or_known : (said : Option (Option (List ℕ))) (life : Option Life) → is_some (life_after said life) ≡ true → (is_some life ≡ true) ⊎ (is_some said ≡ true)
+new_or_known None life known = inl known
+new_or_known (Some change) life known = inr refl
+
+rises_or_rests : (said : Option (Option (List ℕ))) (life : Option Life) → (version_in life ≤ version_in (life_after said life)) × (version_in (life_after said life) ≤ version_in life + 1)
+rises_or_rests None life = (omega arith, omega arith)
+rises_or_rests (Some (Some payload)) None = (omega arith, omega arith)
+rises_or_rests (Some (Some payload)) (Some life) = (omega arith, omega arith)
+rises_or_rests (Some None) None = (omega arith, omega arith)
+rises_or_rests (Some None) (Some life) = (omega arith, omega arith)
+
+version_rests : (said : Option (Option (List ℕ))) (life : Option Life) → gives_payload said ≡ false → version_in (life_after said life) ≡ version_in life
+version_rests None life e = refl
+version_rests (Some (Some payload)) life e = absurd (cc)
+version_rests (Some None) None e = refl
+version_rests (Some None) (Some life) e = refl
+
+module _ {S : Type 0} (held : S → Held) (trace : S → Option (List Call)) (faults : S → ℕ) (own_ : S → Type 0) (a b : S) (changes : Changes)
+    (x : Applied (held a) (held b) (trace a) (trace b) changes) (whole : IsWhole (held b)) where
+  content_is : (id : Id) → wanted (held b) (trace b) id ≡ over changes (wanted (held a) (trace a)) id
+  content_is id = ap (λ t. wanted (held b) t id) x.trace ∙ wanted_after (held a) (held b) (trace a) (trace b) changes x (trace a) id
+
+  used_said : (id : Id) → has_id (fin.keys (held b).state.lives) id ≡ true → (has_id (fin.keys (held a).state.lives) id ≡ true) ⊎ (is_some (fin.get changes id) ≡ true)
+  used_said id used = elim (new_or_known (fin.get changes id) (fin.get (held a).state.lives id) (ap is_some (sym (x.lives id)) ∙ (sym (has-keys (held b) id) ∙ used))) [
+    | inl known ↦ inl (has-keys (held a) id ∙ known)
+    | inr said ↦ inr said
+  ]
+
+  pub changed : Changed (meanings_by held trace faults own_) (holdings_by held trace) a b changes
+  changed = record {
+    ids = λ id. ap is_some (content_is id);
+    content = λ told id. content_is id;
+    told = ap is_some x.trace;
+    used = used_said;
+    stays_used = λ id used.
+        has-keys (held b) id ∙ (ap is_some (x.lives id) ∙ stays_known (fin.get changes id) (fin.get (held a).state.lives id) (sym (has-keys (held a) id) ∙ used));
+    few = λ few. few_used (held b).state (held b).list whole.has_record;
+    spent = λ id none. ap is_last (x.lives id ∙ ap (λ o. life_after o (fin.get (held a).state.lives id)) none);
+    kept = λ id. subst (λ o. version_in (fin.get (held a).state.lives id) ≤ version_in o) (sym (x.lives id)) (rises_or_rests (fin.get changes id) (fin.get (held a).state.lives id)).0;
+    raised = λ id. subst (λ o. version_in o ≤ version_in (fin.get (held a).state.lives id) + 1) (sym (x.lives id)) (rises_or_rests (fin.get changes id) (fin.get (held a).state.lives id)).1;
+    rests = λ id none. ap version_in (x.lives id) ∙ version_rests (fin.get changes id) (fin.get (held a).state.lives id) none;
+    payload = ap (λ n. n - 78) x.size;
+    sound = sound_after (held a) (held b) (trace a) (trace b) changes x;
+  }

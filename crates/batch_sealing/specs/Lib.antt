@@ -1,0 +1,4 @@
+pub mod Applied
+pub mod Draws
+pub mod Raising
+pub mod Sealing

@@ -1,0 +1,6 @@
+pub mod ConfigReads
+pub mod Fetches
+pub mod Freshness
+pub mod Loading
+pub mod Reopening
+pub mod Untouched

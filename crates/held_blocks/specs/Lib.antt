@@ -1,0 +1,12 @@
+pub mod AlarmLaws
+pub mod Forgeries
+pub mod ForgeryLaws
+pub mod Held
+pub mod Loads
+pub mod ReadLaws
+pub mod Reads
+pub mod Soundness
+pub mod Standing
+pub mod StoreLaws
+pub mod Stores
+pub mod Views

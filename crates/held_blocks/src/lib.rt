@@ -1,0 +1,7 @@
+//! What a directory, a local record and an unwritten list hold of blocks with versions: the content that they call for, when
+//! no file is another than that, what comes of a read, and what a forged file is. No store is named.
+#![tactic(auto)]
+
+mod laws;
+
+pub use laws::config_is_no_block;
