@@ -5,6 +5,7 @@ use Rattle.std.proofs.Common.{take, drop, get_or, [], ◌∷◌, append-nil}
 use Rattle.std.proofs.lemmas.List.{take_more, drop_more, take_all, flat_map_more, take-append-drop}
 use Rattle.std.proofs.lemmas.List.Concat.{flat_map-append}
 use Rattle.std.specs.List.{flat_map}
+use Rattle.std.specs.Prelude.{IsErr}
 use Rattle.std.specs.Vec.{vec_capacity}
 use Rattle.std.specs.declared.vec.Vec.{Vec}
 use Rattle.script_text.specs.Appending.{Appends}
@@ -25,11 +26,11 @@ then_all a b c (Ok v) s x y u ran first second =
     }
 then_all a b c (Err e) s x y u ran first second = absurd (cc ran)
 
--- a text that ends early
-pub stopped : {A E F : Type 0} (a b : Vec ℕ A) (r : Result (Unit {0}) E) (s : Result (Unit {0}) F) (x y : List ℕ) (e : E) (f : F) → r ≡ Err e → s ≡ Err f → Appends a b r x → Appends a b s (x ++ y)
-stopped a b (Ok v) s x y e f ran bad first = absurd (cc ran)
-stopped a b (Err d) (Ok v) x y e f ran bad first = absurd (cc bad)
-stopped a b (Err d) (Err g) x y e f ran bad first =
+-- a text that ends early, by a `?`
+pub stopped : {A E F : Type 0} (a b : Vec ℕ A) (r : Result (Unit {0}) E) (s : Result (Unit {0}) F) (x y : List ℕ) (e : E) → r ≡ Err e → IsErr s → Appends a b r x → Appends a b s (x ++ y)
+stopped a b (Ok v) s x y e ran bad first = absurd (cc ran)
+stopped a b (Err d) (Ok v) x y e ran bad first = absurd (cc bad)
+stopped a b (Err d) (Err g) x y e ran bad first =
     let whole = length-append x y in
     let short = first.full in
     record { ok = tt; err = first.err; capacity = first.capacity; full = omega arith }
@@ -55,12 +56,12 @@ grown_more f xs i x a b c (Ok v) u within at ran so_far more =
 grown_more f xs i x a b c (Err e) u within at ran so_far more = absurd (cc ran)
 
 -- an element whose text wasn't appended whole
-pub grown_stops : {X A E F : Type 0} (f : X → List ℕ) (xs : List X) (i : ℕ) (x : X) (a b c : Vec ℕ A) (r : Result (Unit {0}) E) (s : Result (Unit {0}) F) (e : E) (g : F)
-    → i < length xs → x ≡ get_or xs i x → r ≡ Err e → s ≡ Err g → Grown f xs i a b → Appends b c r (f x) → Appends a c s (flat_map f xs)
-grown_stops {E = E} f xs i x a b c r s e g within at ran bad so_far more =
+pub grown_stops : {X A E F : Type 0} (f : X → List ℕ) (xs : List X) (i : ℕ) (x : X) (a b c : Vec ℕ A) (r : Result (Unit {0}) E) (s : Result (Unit {0}) F) (e : E)
+    → i < length xs → x ≡ get_or xs i x → r ≡ Err e → IsErr s → Grown f xs i a b → Appends b c r (f x) → Appends a c s (flat_map f xs)
+grown_stops {E = E} f xs i x a b c r s e within at ran bad so_far more =
     let rest = flat_map f (drop (i + 1) xs) in
     let first : Appends {E = E} a b (Ok tt) (flat_map f (take i xs)) = record { ok = so_far.0; err = tt; capacity = so_far.1; full = tt } in
-    let second : Appends b c s (f x ++ rest) = stopped b c r s (f x) rest e g ran bad more in
+    let second : Appends b c s (f x ++ rest) = stopped b c r s (f x) rest e ran bad more in
     let whole : flat_map f xs ≡ flat_map f (take i xs) ++ (f x ++ rest) =
     ap (flat_map f) (sym (take-append-drop i xs)) ∙ flat_map-append f (take i xs) (drop i xs)
     ∙ ap (λ z. flat_map f (take i xs) ++ flat_map f z) (drop_more xs i x within ∙ ap (λ y. y ∷ drop (i + 1) xs) (sym at)) in

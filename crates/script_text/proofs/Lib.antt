@@ -4,6 +4,7 @@ pub mod HexDigits
 pub mod Lines
 pub mod Numerals
 pub mod OneReading
+pub mod Parts
 pub mod Shorts
 pub mod Spelled
 pub mod Unformed

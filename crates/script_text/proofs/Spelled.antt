@@ -1,7 +1,8 @@
 -- Words with escapes, byte by byte.
-use Rattle.std.proofs.Common.{◌≡◌, ℕ, ◌-◌, ◌<◌, ◌≤◌, List, [], ◌∷◌, ◌++◌, length, take, drop, get_or, Option, Some, None, refl, sym, ap, ◌∙◌, arith, append_assoc, append-nil, length-drop}
+use Rattle.std.proofs.Common.{◌≡◌, ℕ, ◌+◌, ◌*◌, ◌-◌, ◌<◌, ◌≤◌, List, [], ◌∷◌, ◌++◌, length, take, drop, get_or, Option, Some, None, refl, sym, ap, ◌∙◌, arith, append_assoc, append-nil, length-drop}
 use Rattle.std.specs.Option.{option_map}
-use Rattle.std.proofs.lemmas.Bool.{ne_eqb}
+use Rattle.std.specs.Prelude.{◌&&◌, cond, nat_lt}
+use Rattle.std.proofs.lemmas.Bool.{ne_eqb, cond-true, cond-false, and_from, and_right, lt-ltb, le-ltb}
 use Rattle.std.proofs.lemmas.List.{take_rest}
 use Rattle.script_text.specs.Escapes.{byte_of, with_byte, escape_of, unescaped}
 
@@ -61,6 +62,16 @@ pub unescaped_byte : (w : List ℕ) (o : Option ℕ) → 4 ≤ length w → get_
 unescaped_byte w o h slash x byte =
     escape_here w h slash ∙ ap (λ c. with_byte (escape_of c (get_or w 2 0) (get_or w 3 0)) (unescaped (take (length w - 4) (drop 4 w)))) x
     ∙ ap (λ b. with_byte b (unescaped (take (length w - 4) (drop 4 w)))) (sym byte)
+
+-- the byte of two digits by their values
+pub no_high : (h l : ℕ) → (h < 16 → ⊥) → cond (nat_lt h 16 && nat_lt l 16) (Some (16 * h + l)) None ≡ None
+no_high h l bad = cond-false (nat_lt h 16 && nat_lt l 16) _ _ (ap (λ b. b && nat_lt l 16) (le-ltb h 16 (omega arith)))
+
+pub no_low : (h l : ℕ) → (l < 16 → ⊥) → cond (nat_lt h 16 && nat_lt l 16) (Some (16 * h + l)) None ≡ None
+no_low h l bad = cond-false (nat_lt h 16 && nat_lt l 16) _ _ (and_right (nat_lt h 16) (nat_lt l 16) (le-ltb l 16 (omega arith)))
+
+pub of_digits : (h l x y : ℕ) → (h < 16) × (x ≡ h) → (l < 16) × (y ≡ l) → Some (16 * x + y) ≡ cond (nat_lt h 16 && nat_lt l 16) (Some (16 * h + l)) None
+of_digits h l x y high low = rw (high.1, low.1) (sym (cond-true _ _ _ (and_from _ _ (lt-ltb h 16 high.0) (lt-ltb l 16 low.0))))
 
 -- bytes so far, and one more
 pub one_more : (bytes : List ℕ) (b : ℕ) (o : Option (List ℕ)) → option_map (λ after. bytes ++ after) (with_byte (Some b) o) ≡ option_map (λ after. (bytes ++ b ∷ []) ++ after) o

@@ -3,6 +3,7 @@ pub mod Numbers
 pub mod Escapes
 pub mod Forms
 pub mod Grammar
+pub mod Parts
 pub mod Answers
 pub mod Texts
 pub mod Appending

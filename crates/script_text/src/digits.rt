@@ -36,24 +36,31 @@ pub fn push_hex(out: &mut Vec<u8>, byte: u8) -> Result<(), Memory>
 pub fn push_decimal(out: &mut Vec<u8>, n: u64) -> Result<(), Memory>
     ensures { Appends out.old out.new result (word (decimal n)) }
 {
-    push_byte(out, b' ')?;
-    push_number(out, 10, n as u128)
+    push_word(out, 10, n as u128)
 }
 
 /// A space and a number of up to 128 bits in decimal digits.
 pub fn push_numeral(out: &mut Vec<u8>, n: u128) -> Result<(), Memory>
     ensures { Appends out.old out.new result (word (numeral 10 n)) }
 {
-    push_byte(out, b' ')?;
-    push_number(out, 10, n)
+    push_word(out, 10, n)
 }
 
 /// A space and a number in octal digits.
 pub fn push_octal(out: &mut Vec<u8>, n: u64) -> Result<(), Memory>
     ensures { Appends out.old out.new result (word (octal n)) }
 {
+    push_word(out, 8, n as u128)
+}
+
+/// A space and a number in a base from 2 to 10.
+fn push_word(out: &mut Vec<u8>, base: u128, n: u128) -> Result<(), Memory>
+    requires low { 2 ≤ base }
+    requires high { base ≤ 10 }
+    ensures { Appends out.old out.new result (word (numeral base n)) }
+{
     push_byte(out, b' ')?;
-    push_number(out, 8, n as u128)
+    push_number(out, base, n)
 }
 
 /// A number in a base from 2 to 10.

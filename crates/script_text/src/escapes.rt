@@ -43,9 +43,9 @@ fn first_byte(word: &[u8]) -> Option<(u8, &[u8])>
 fn byte_of(high: u8, low: u8) -> Option<u8>
     ensures { result ≡ byte_of high low }
 {
-    let high = char::from(high).to_digit(16)?;
-    let low = char::from(low).to_digit(16)?;
-    u8::try_from(16 * high + low).ok()
+    let high = (high as char).to_digit(16)?;
+    let low = (low as char).to_digit(16)?;
+    Some((16 * high + low) as u8)
 }
 
 #[tactic(auto, unfolding(crate::specs::Escapes::bytes_of))]

@@ -5,6 +5,7 @@ ghost use Rattle.fs_model.specs.Fitting.{IsFitting};
 ghost use Rattle.fs_model.specs.PathTexts.{is_zero};
 ghost use Rattle.script_text.specs.Grammar as grammar;
 ghost use Rattle.script_text.specs.Grammar.{command_of, sentence, command_in, only_path};
+ghost use Rattle.script_text.specs.Parts.{two_texts, text_before, path_before, both};
 ghost use Rattle.script_text.specs.Answers.{Gives, IsRefusal};
 
 use crate::LineError;
@@ -84,108 +85,79 @@ fn only_path(alloc: Global, words: &[&[u8]]) -> Result<Path, LineError>
     ensures { Gives (λ path. path) result (only_path (map (λ w. w.now) words.now)) }
 {
     let text = unescaped(alloc, one(words)?)?;
-    path(alloc, &text)
+    path(alloc, text)
 }
 
 /// PATH PATH
-#[tactic(auto, unfolding(crate::specs::Grammar::mv))]
 fn mv(alloc: Global, words: &[&[u8]]) -> Result<Command, LineError>
     ensures { Gives (λ command. command) result (grammar.mv (map (λ w. w.now) words.now)) }
 {
-    let (from, to) = two(words)?;
-    let from = unescaped(alloc, from)?;
-    let to = unescaped(alloc, to)?;
-    let from = path(alloc, &from)?;
-    let to = path(alloc, &to)?;
-    Ok(Command::Mv(from, to))
+    let (from, to) = two_texts(alloc, words)?;
+    let from = path(alloc, from)?;
+    Ok(Command::Mv(from, path(alloc, to)?))
 }
 
 /// TARGET PATH
-#[tactic(auto, unfolding(crate::specs::Grammar::symlink))]
 fn symlink(alloc: Global, words: &[&[u8]]) -> Result<Command, LineError>
     ensures { Gives (λ command. command) result (grammar.symlink (map (λ w. w.now) words.now)) }
 {
-    let (to, at) = two(words)?;
-    let to = unescaped(alloc, to)?;
-    let at = unescaped(alloc, at)?;
+    let (to, at) = two_texts(alloc, words)?;
     let to = target(to)?;
-    let at = path(alloc, &at)?;
-    Ok(Command::Symlink(to, at))
+    Ok(Command::Symlink(to, path(alloc, at)?))
 }
 
 /// PATH NUMBER HEX
-#[tactic(auto, unfolding(crate::specs::Grammar::write))]
 fn write(alloc: Global, words: &[&[u8]]) -> Result<Command, LineError>
     ensures { Gives (λ command. command) result (grammar.write (map (λ w. w.now) words.now)) }
 {
     let (at, from, hex) = three(words)?;
-    let at = unescaped(alloc, at)?;
-    let from = number(from).ok_or(BAD_LINE)?;
+    let (at, from) = text_before(alloc, at, number(from))?;
     let bytes = bytes(alloc, hex)?;
-    let at = path(alloc, &at)?;
-    Ok(Command::Write(at, from, ByteText::new(bytes)))
+    Ok(Command::Write(path(alloc, at)?, from, ByteText::new(bytes)))
 }
 
 /// PATH NUMBER NUMBER
-#[tactic(auto, unfolding(crate::specs::Grammar::read))]
 fn read(alloc: Global, words: &[&[u8]]) -> Result<Command, LineError>
     ensures { Gives (λ command. command) result (grammar.read (map (λ w. w.now) words.now)) }
 {
     let (at, from, count) = three(words)?;
-    let at = unescaped(alloc, at)?;
-    let from = number(from).ok_or(BAD_LINE)?;
-    let count = number(count).ok_or(BAD_LINE)?;
-    let at = path(alloc, &at)?;
+    let (at, (from, count)) = path_before(alloc, at, both(number(from), number(count)))?;
     Ok(Command::Read(at, from, count))
 }
 
 /// PATH NUMBER
-#[tactic(auto, unfolding(crate::specs::Grammar::truncate))]
 fn truncate(alloc: Global, words: &[&[u8]]) -> Result<Command, LineError>
     ensures { Gives (λ command. command) result (grammar.truncate (map (λ w. w.now) words.now)) }
 {
     let (at, length) = two(words)?;
-    let at = unescaped(alloc, at)?;
-    let length = number(length).ok_or(BAD_LINE)?;
-    let at = path(alloc, &at)?;
+    let (at, length) = path_before(alloc, at, number(length))?;
     Ok(Command::Truncate(at, length))
 }
 
 /// PATH MODE
-#[tactic(auto, unfolding(crate::specs::Grammar::chmod))]
 fn chmod(alloc: Global, words: &[&[u8]]) -> Result<Command, LineError>
     ensures { Gives (λ command. command) result (grammar.chmod (map (λ w. w.now) words.now)) }
 {
     let (at, bits) = two(words)?;
-    let at = unescaped(alloc, at)?;
-    let bits = mode(bits).ok_or(BAD_LINE)?;
-    let at = path(alloc, &at)?;
+    let (at, bits) = path_before(alloc, at, mode(bits))?;
     Ok(Command::Chmod(at, bits))
 }
 
 /// PATH ID ID
-#[tactic(auto, unfolding(crate::specs::Grammar::chown))]
 fn chown(alloc: Global, words: &[&[u8]]) -> Result<Command, LineError>
     ensures { Gives (λ command. command) result (grammar.chown (map (λ w. w.now) words.now)) }
 {
     let (at, uid, gid) = three(words)?;
-    let at = unescaped(alloc, at)?;
-    let uid = id(uid).ok_or(BAD_LINE)?;
-    let gid = id(gid).ok_or(BAD_LINE)?;
-    let at = path(alloc, &at)?;
+    let (at, (uid, gid)) = path_before(alloc, at, both(id(uid), id(gid)))?;
     Ok(Command::Chown(at, uid, gid))
 }
 
 /// PATH TIME TIME
-#[tactic(auto, unfolding(crate::specs::Grammar::utime))]
 fn utime(alloc: Global, words: &[&[u8]]) -> Result<Command, LineError>
     ensures { Gives (λ command. command) result (grammar.utime (map (λ w. w.now) words.now)) }
 {
     let (at, atime, mtime) = three(words)?;
-    let at = unescaped(alloc, at)?;
-    let atime = time(atime).ok_or(BAD_LINE)?;
-    let mtime = time(mtime).ok_or(BAD_LINE)?;
-    let at = path(alloc, &at)?;
+    let (at, (atime, mtime)) = path_before(alloc, at, both(time(atime), time(mtime)))?;
     Ok(Command::Utime(at, atime, mtime))
 }
 
@@ -201,11 +173,57 @@ fn sync(words: &[&[u8]]) -> Result<Command, LineError>
     }
 }
 
-/// The path of a text whose escapes are read.
-fn path(alloc: Global, text: &[u8]) -> Result<Path, LineError>
-    ensures { Gives (λ path. path) result (grammar.path text.now) }
+/// The texts of two words.
+fn two_texts(alloc: Global, words: &[&[u8]]) -> Result<(Vec<u8>, Vec<u8>), LineError>
+    ensures { Gives (λ texts. (texts.0.items, texts.1.items)) result (two_texts (map (λ w. w.now) words.now)) }
 {
-    parse_path(alloc, text).map_err(|e| match e {
+    let (first, second) = two(words)?;
+    let first = unescaped(alloc, first)?;
+    Ok((first, unescaped(alloc, second)?))
+}
+
+/// The text of a word, and what the words behind it say.
+fn text_before<T: Copy>(
+    alloc: Global,
+    word: &[u8],
+    others: Option<T>,
+) -> Result<(Vec<u8>, T), LineError>
+    ensures { Gives (λ both. (both.0.items, both.1)) result (text_before word.now others) }
+{
+    let text = unescaped(alloc, word)?;
+    match others {
+        Some(others) => Ok((text, others)),
+        None => Err(BAD_LINE),
+    }
+}
+
+/// The path of a word, and what the words behind it say, whose forms come first.
+fn path_before<T: Copy>(
+    alloc: Global,
+    word: &[u8],
+    others: Option<T>,
+) -> Result<(Path, T), LineError>
+    ensures { Gives (λ both. both) result (path_before word.now others) }
+{
+    let (text, others) = text_before(alloc, word, others)?;
+    Ok((path(alloc, text)?, others))
+}
+
+/// What two words say.
+fn both<A: Copy, B: Copy>(first: Option<A>, second: Option<B>) -> Option<(A, B)>
+    ensures { result ≡ both first second }
+{
+    match (first, second) {
+        (Some(first), Some(second)) => Some((first, second)),
+        _ => None,
+    }
+}
+
+/// The path of a text whose escapes are read.
+fn path(alloc: Global, text: Vec<u8>) -> Result<Path, LineError>
+    ensures { Gives (λ path. path) result (grammar.path text.items) }
+{
+    parse_path(alloc, &text).map_err(|e| match e {
         PathError::Form | PathError::Dot => LineError::Bad(FsError::Invalid),
         PathError::LongName | PathError::LongPath => LineError::Bad(FsError::NameTooLong),
         PathError::Memory => LineError::Memory,

@@ -1,6 +1,6 @@
 // The numbers and moments that words write.
 ghost use Rattle.std.specs.Prelude.{◌≡◌, ◌≤◌, ◌<◌, ◌^◌, IfSome};
-ghost use Rattle.script_text.specs.Numbers.{number_in, number_of, id_of, mode_of, time_of};
+ghost use Rattle.script_text.specs.Numbers.{number_in, number_of, id_of, mode_of, instant_of, time_of};
 
 use fs_model::Moment;
 
@@ -46,7 +46,17 @@ pub fn id(word: &[u8]) -> Option<u32>
 pub fn mode(word: &[u8]) -> Option<u32>
     ensures { result ≡ mode_of word.now }
 {
-    u32::try_from(number_in(8, 4, word)?).ok()
+    short_number(8, 4, word)
+}
+
+/// The number that one to `most` digits of the base write, where no more than nine may stand.
+fn short_number(base: u8, most: usize, word: &[u8]) -> Option<u32>
+    requires decimal { base ≤ 10 }
+    requires short { most ≤ 9 }
+    ensures value { result ≡ number_in base most word.now }
+    ensures bound { IfSome result (λ n. n < 10 ^ most) }
+{
+    u32::try_from(number_in(base, most, word)?).ok()
 }
 
 #[tactic(auto, unfolding(crate::specs::Numbers::time_of))]
@@ -61,7 +71,19 @@ pub fn time(word: &[u8]) -> Option<Moment>
     if word[point] != b'.' {
         return None;
     }
-    let secs = number(&word[..point])?;
-    let nanos = u32::try_from(number_in(10, 9, &word[point + 1..])?).ok()?;
-    Moment::new(secs, nanos)
+    moment(
+        number(&word[..point]),
+        short_number(10, 9, &word[point + 1..]),
+    )
+}
+
+/// The moment of these seconds and nanoseconds.
+fn moment(secs: Option<u64>, nanos: Option<u32>) -> Option<Moment>
+    requires { IfSome nanos (λ n. n < 10 ^ 9) }
+    ensures { result ≡ instant_of secs nanos }
+{
+    match (secs, nanos) {
+        (Some(secs), Some(nanos)) => Moment::new(secs, nanos),
+        _ => None,
+    }
 }

@@ -62,8 +62,15 @@ fn push_row(out: &mut Vec<u8>, row: &ListRow) -> Result<(), Memory>
     ensures { Appends out.old out.new result (row_text row.now) }
 {
     push_byte(out, kind_letter(row.kind))?;
+    push_last_word(out, row.name.as_slice())
+}
+
+/// The last word of a line: bytes of a name or a target.
+fn push_last_word(out: &mut Vec<u8>, bytes: &[u8]) -> Result<(), Memory>
+    ensures { Appends out.old out.new result (line (word (escaped bytes.now))) }
+{
     push_byte(out, b' ')?;
-    push_escaped(out, row.name.as_slice())?;
+    push_escaped(out, bytes)?;
     push_byte(out, b'\n')
 }
 
@@ -87,9 +94,9 @@ fn push_details(out: &mut Vec<u8>, attr: &Attr, size: u64) -> Result<(), Memory>
 fn push_numbers(out: &mut Vec<u8>, attr: &Attr, size: u64) -> Result<(), Memory>
     ensures { Appends out.old out.new result (numbers_text attr.now size) }
 {
-    push_octal(out, u64::from(attr.mode))?;
-    push_decimal(out, u64::from(attr.uid))?;
-    push_decimal(out, u64::from(attr.gid))?;
+    push_octal(out, attr.mode as u64)?;
+    push_decimal(out, attr.uid as u64)?;
+    push_decimal(out, attr.gid as u64)?;
     push_decimal(out, size)
 }
 
@@ -104,9 +111,8 @@ fn push_moments(out: &mut Vec<u8>, attr: &Attr) -> Result<(), Memory>
 fn push_target(out: &mut Vec<u8>, target: &[u8]) -> Result<(), Memory>
     ensures { Appends out.old out.new result (line (codes "link" ++ word (escaped target.now))) }
 {
-    push_bytes(out, b"link ")?;
-    push_escaped(out, target)?;
-    push_byte(out, b'\n')
+    push_bytes(out, b"link")?;
+    push_last_word(out, target)
 }
 
 fn push_content(out: &mut Vec<u8>, bytes: &[u8]) -> Result<(), Memory>

@@ -1,4 +1,3 @@
-use Rattle.std.proofs.lemmas.Result.{err_from_is_err_and}
 use Rattle.script_text.proofs.Appended.{then_all, stopped}
 use Rattle.script_text.proofs.Numerals.{numeral_last, numeral_step}
 use Rattle.script_text.proofs.digits.+push_number.Goals as goal
@@ -7,9 +6,7 @@ pub returns-then-n-base : goal.returns-then-n-base
 returns-then-n-base t c = rw (numeral_last c.args.base c.args.n c.requires.low c.if-n-base.true) c.push_byte.ensures
 
 pub returns-in_err-push_number : goal.returns-in_err-push_number
-returns-in_err-push_number t c =
-    let failed = err_from_is_err_and c.from_residual.result c.from_residual.ensures.1 in
-    rw (numeral_step c.args.base c.args.n c.requires.low c.if-n-base.false) (stopped _ _ _ _ _ _ _ _ c.in_err-push_number.was failed.1 c.push_number.ensures)
+returns-in_err-push_number t c = rw (numeral_step c.args.base c.args.n c.requires.low c.if-n-base.false) (stopped _ _ _ _ _ _ _ c.in_err-push_number.was c.from_residual.ensures.0 c.push_number.ensures)
 
 pub returns : goal.returns
 returns t c = rw (numeral_step c.args.base c.args.n c.requires.low c.if-n-base.false) (then_all _ _ _ _ _ _ _ _ c.in_ok-push_number.was c.push_number.ensures c.push_byte-2.ensures)
