@@ -1,5 +1,5 @@
 -- The step on a tree, exit by exit.
-use Rattle.std.proofs.Common.{◌≡◌, ℕ, ◌+◌, ◌-◌, ◌<◌, ◌≤◌, length, take, get_or, max, true, false, cond, List, [], ◌∷◌, refl, sym, ◌∙◌, ap, subst, arith, IfOk, inl, inr}
+use Rattle.std.proofs.Common.{◌≡◌, ℕ, ◌+◌, ◌-◌, ◌<◌, ◌≤◌, length, take, get_or, max, Bool, true, false, cond, List, [], ◌∷◌, refl, sym, ◌∙◌, ap, subst, arith, IfOk, inl, inr}
 use Rattle.std.specs.Prelude.{nat_lt, ◌==◌, IsSome}
 use Rattle.std.specs.Option.{option_map}
 use Rattle.std.proofs.lemmas.Bool.{le-ltb, lt-ltb}
@@ -27,6 +27,11 @@ use Rattle.fs_model.proofs.TreeLemmas.{path_total, path_exact, path_split, inser
 use Rattle.fs_model.proofs.LookUpLemmas.{look-walk, get-found, get-free}
 use Rattle.tree_rules.proofs.PathLemmas.{last_at}
 use Rattle.plain_tree.specs.Answers.{IsAnswer}
+
+-- names that aren't none
+pub any_names : {empty : Bool} (ns : List (List ℕ)) → empty ≡ (length ns == 0) → empty ≡ false → 0 < length ns
+any_names [] said some = absurd (cc)
+any_names (n ∷ ns) said some = omega arith
 
 -- the tree stays
 pub stays : (t : Tree) (r : Reply) (s : Stepped) → s ≡ answered t r → IsAnswer t r s

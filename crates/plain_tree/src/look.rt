@@ -8,7 +8,7 @@ use fs_model::{Attr, FsError, Kind, Name};
 use row_table::Table;
 
 /// What a look-up gives: a row, that the path is free, or an error.
-#[derive(Clone, Copy, Debug)]
+#[derive(Clone, Copy)]
 pub enum LookUp<'a> {
     Found(Attr, &'a [u8]),
     Free,

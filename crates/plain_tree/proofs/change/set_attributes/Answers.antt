@@ -1,13 +1,12 @@
-use Rattle.std.proofs.Common.{◌<◌, length, sym, ◌∙◌, ap, subst, arith}
+use Rattle.std.proofs.Common.{sym, ◌∙◌, ap, subst}
 use Rattle.std.specs.Prelude.{IsSome}
-use Rattle.std.proofs.lemmas.Bool.Decides.{nat_tests}
 use Rattle.std.specs.FinMap as tree
 use Rattle.fs_model.specs.Tree.{Row, upward, is_root}
 use Rattle.fs_model.proofs.LookUpLemmas.{get-found}
 use Rattle.tree_rules.proofs.PathLemmas.{not_root}
 use Rattle.tree_rules.specs.Changes.{changed_by}
 use Rattle.row_table.proofs.EditLemmas.{no_names}
-use Rattle.plain_tree.proofs.StepLemmas.{there_of, set_there, set_after, bytes_are, same_row, attributes_done}
+use Rattle.plain_tree.proofs.StepLemmas.{any_names, there_of, set_there, set_after, bytes_are, same_row, attributes_done}
 use Rattle.plain_tree.proofs.Refusals.{root_step, attributes_refused}
 use Rattle.plain_tree.proofs.change.set_attributes.Goals as goal
 
@@ -16,12 +15,12 @@ returns-then-is_empty c = root_step c.args.table.now (upward c.args.names.now) _
 
 pub returns-in-Err : goal.returns-in-Err
 returns-in-Err c =
-    let some : 0 < length c.args.names.now = grind (arith, nat_tests, c.if-is_empty.false, c.is_empty.ensures) in
+    let some = any_names c.args.names.now c.is_empty.ensures c.if-is_empty.false in
     attributes_refused c.args.table.now (upward c.args.names.now) (changed_by c.args.change c.args.now) c.in-Err.error (not_root c.args.names.now some) c.in-Err.ensures.refused
 
 pub set-bytes-requires-clause-named : goal.set-bytes-requires-clause-named
 set-bytes-requires-clause-named c =
-    let some : 0 < length c.args.names.now = grind (arith, nat_tests, c.if-is_empty.false, c.is_empty.ensures) in
+    let some = any_names c.args.names.now c.is_empty.ensures c.if-is_empty.false in
     not_root c.args.names.now some
 
 pub set-bytes-requires-clause-there : goal.set-bytes-requires-clause-there
@@ -29,7 +28,7 @@ set-bytes-requires-clause-there c = there_of c.args.table.now (upward c.args.nam
 
 pub set-requires-clause-named : goal.set-requires-clause-named
 set-requires-clause-named c =
-    let some : 0 < length c.args.names.now = grind (arith, nat_tests, c.if-is_empty.false, c.is_empty.ensures) in
+    let some = any_names c.args.names.now c.is_empty.ensures c.if-is_empty.false in
     not_root c.args.names.now some
 
 pub set-requires-clause-there : goal.set-requires-clause-there
@@ -41,7 +40,7 @@ pub returns : goal.returns
 returns c =
     let t = c.args.table.now in
     let p = upward c.args.names.now in
-    let some : 0 < length c.args.names.now = grind (arith, nat_tests, c.if-is_empty.false, c.is_empty.ensures) in
+    let some = any_names c.args.names.now c.is_empty.ensures c.if-is_empty.false in
     let row : Row = record { attr = c.in-Ok.row.0; bytes = c.in-Ok.row.1.now } in
     let content = bytes_are (tree.get t p) row c.set-bytes.result.items (get-found t p row c.in-Ok.ensures.found) c.set-bytes.ensures.bytes in
     let twice = set_after t c.set-bytes.new.self c.set.new.self p (record { attr = c.same_attr.result; bytes = c.new-none.result.items }) (record { attr = c.changed-attr.result; bytes = c.set-bytes.result.items }) c.set-bytes.ensures.tree c.set.ensures.tree in

@@ -1,4 +1,4 @@
-use Rattle.std.proofs.Common.{false, true, sym, ◌∙◌, ap, subst}
+use Rattle.std.proofs.Common.{sym, ◌∙◌, ap, subst}
 use Rattle.std.specs.Prelude.{IsSome}
 use Rattle.std.specs.FinMap as tree
 use Rattle.fs_model.specs.Tree.{upward}

@@ -1,5 +1,4 @@
 use Rattle.std.proofs.Common.{◌≡◌, ◌+◌, ◌<◌, ◌≤◌, ◌-◌, length, take, sym, ◌∙◌, ap, arith}
-use Rattle.std.proofs.lemmas.Bool.Decides.{nat_tests}
 use Rattle.std.specs.FinMap.{get}
 use Rattle.fs_model.specs.declared.limits.TheConstants.{MAX_ENTRIES}
 use Rattle.fs_model.specs.Tree.{upward, parent, directory_size, entry_size, root_row}
@@ -7,7 +6,7 @@ use Rattle.fs_model.specs.LookUp.{Found, Free}
 use Rattle.fs_model.proofs.LookUpLemmas.{look-found}
 use Rattle.tree_rules.proofs.PathLemmas.{not_root}
 use Rattle.row_table.proofs.EditLemmas.{no_names}
-use Rattle.plain_tree.proofs.StepLemmas.{free_absent, made_new, made_large}
+use Rattle.plain_tree.proofs.StepLemmas.{any_names, free_absent, made_new, made_large}
 use Rattle.plain_tree.proofs.edit.make.Goals as goal
 
 pub returns-then-is_empty-clause-ok : goal.returns-then-is_empty-clause-ok
@@ -18,7 +17,7 @@ returns-then-is_empty-clause-ok c =
 
 pub insert-requires-clause-named : goal.insert-requires-clause-named
 insert-requires-clause-named c =
-    let some : 0 < length c.args.names.now = grind (arith, nat_tests, c.if-is_empty.false, c.is_empty.ensures) in
+    let some = any_names c.args.names.now c.is_empty.ensures c.if-is_empty.false in
     not_root c.args.names.now some
 
 pub insert-requires-clause-absent : goal.insert-requires-clause-absent
@@ -32,7 +31,7 @@ returns-then-size-name_size-gt-MAX_ENTRIES-clause-ok c =
     let t = c.args.table.now in
     let ns = c.args.names.now in
     let n = c.index-names-last.result in
-    let some : 0 < length c.args.names.now = grind (arith, nat_tests, c.if-is_empty.false, c.is_empty.ensures) in
+    let some = any_names c.args.names.now c.is_empty.ensures c.if-is_empty.false in
     let passes : MAX_ENTRIES < directory_size t (upward (take (length ns - 1) ns)) + entry_size n = omega (arith, c.size.ensures, c.name_size.ensures.value, c.if-size-name_size-gt-MAX_ENTRIES.true) in
     made_large t ns n _ some c.index-names-last.is c.in-Free.ensures passes
 
@@ -41,6 +40,6 @@ returns-clause-ok c =
     let t = c.args.table.now in
     let ns = c.args.names.now in
     let n = c.index-names-last.result in
-    let some : 0 < length c.args.names.now = grind (arith, nat_tests, c.if-is_empty.false, c.is_empty.ensures) in
+    let some = any_names c.args.names.now c.is_empty.ensures c.if-is_empty.false in
     let fits : directory_size t (upward (take (length ns - 1) ns)) + entry_size n ≤ MAX_ENTRIES = omega (arith, c.size.ensures, c.name_size.ensures.value, c.if-size-name_size-gt-MAX_ENTRIES.false) in
     made_new t c.insert.new.self ns n _ some c.index-names-last.is c.in-Free.ensures fits c.in_ok-insert.ensures.ok

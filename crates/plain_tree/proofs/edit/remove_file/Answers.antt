@@ -1,9 +1,8 @@
-use Rattle.std.proofs.Common.{◌<◌, length, sym, ◌∙◌, ap, arith}
-use Rattle.std.proofs.lemmas.Bool.Decides.{nat_tests}
+use Rattle.std.proofs.Common.{sym, ◌∙◌, ap}
 use Rattle.fs_model.specs.Tree.{upward, is_root}
 use Rattle.tree_rules.proofs.PathLemmas.{not_root}
 use Rattle.row_table.proofs.EditLemmas.{no_names}
-use Rattle.plain_tree.proofs.StepLemmas.{there_of, file_gone, no_file}
+use Rattle.plain_tree.proofs.StepLemmas.{any_names, there_of, file_gone, no_file}
 use Rattle.plain_tree.proofs.Refusals.{root_step, removal_refused}
 use Rattle.plain_tree.proofs.edit.remove_file.Goals as goal
 
@@ -12,17 +11,17 @@ returns-then-is_empty c = root_step c.args.table.now (upward c.args.names.now) _
 
 pub returns-in-Err : goal.returns-in-Err
 returns-in-Err c =
-    let some : 0 < length c.args.names.now = grind (arith, nat_tests, c.if-is_empty.false, c.is_empty.ensures) in
+    let some = any_names c.args.names.now c.is_empty.ensures c.if-is_empty.false in
     removal_refused c.args.table.now (upward c.args.names.now) c.in-Err.error (not_root c.args.names.now some) c.in-Err.ensures.refused
 
 pub returns-then-is_directory : goal.returns-then-is_directory
 returns-then-is_directory c =
-    let some : 0 < length c.args.names.now = grind (arith, nat_tests, c.if-is_empty.false, c.is_empty.ensures) in
+    let some = any_names c.args.names.now c.is_empty.ensures c.if-is_empty.false in
     no_file c.args.table.now c.args.table.now (upward c.args.names.now) _ (not_root c.args.names.now some) c.in-Ok.ensures.found (sym c.is_directory.ensures ∙ c.if-is_directory.true)
 
 pub remove-requires-clause-named : goal.remove-requires-clause-named
 remove-requires-clause-named c =
-    let some : 0 < length c.args.names.now = grind (arith, nat_tests, c.if-is_empty.false, c.is_empty.ensures) in
+    let some = any_names c.args.names.now c.is_empty.ensures c.if-is_empty.false in
     not_root c.args.names.now some
 
 pub remove-requires-clause-there : goal.remove-requires-clause-there
@@ -30,5 +29,5 @@ remove-requires-clause-there c = there_of c.args.table.now (upward c.args.names.
 
 pub returns : goal.returns
 returns c =
-    let some : 0 < length c.args.names.now = grind (arith, nat_tests, c.if-is_empty.false, c.is_empty.ensures) in
+    let some = any_names c.args.names.now c.is_empty.ensures c.if-is_empty.false in
     file_gone c.args.table.now c.remove.new.self (upward c.args.names.now) _ (not_root c.args.names.now some) c.in-Ok.ensures.found (sym c.is_directory.ensures ∙ c.if-is_directory.false) c.remove.ensures.tree

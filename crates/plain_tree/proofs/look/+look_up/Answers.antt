@@ -1,13 +1,12 @@
-use Rattle.std.proofs.Common.{◌≡◌, ◌<◌, length, sym, ◌∙◌, ap, arith, None, Some}
+use Rattle.std.proofs.Common.{◌≡◌, sym, ◌∙◌, ap, None, Some}
 use Rattle.std.specs.Prelude.{cond}
-use Rattle.std.proofs.lemmas.Bool.Decides.{nat_tests}
 use Rattle.std.specs.FinMap.{get}
 use Rattle.fs_model.specs.declared.error.FsError.TheVariants.{NotDirectory}
 use Rattle.fs_model.specs.Tree.{upward, is_directory, root_row}
 use Rattle.fs_model.specs.LookUp.{Free, Bad}
 use Rattle.fs_model.proofs.LookUpLemmas.{look-found}
 use Rattle.row_table.proofs.EditLemmas.{no_names}
-use Rattle.plain_tree.proofs.StepLemmas.{seen_above}
+use Rattle.plain_tree.proofs.StepLemmas.{any_names, seen_above}
 use Rattle.plain_tree.proofs.look.+look_up.Goals as goal
 
 pub returns-in-Some : goal.returns-in-Some
@@ -21,25 +20,25 @@ unreachable-requires t c =
 
 pub returns-in-Directory : goal.returns-in-Directory
 returns-in-Directory t c =
-    let some : 0 < length c.args.names.now = grind (arith, nat_tests, c.if-is_empty.false, c.is_empty.ensures) in
+    let some = any_names c.args.names.now c.is_empty.ensures c.if-is_empty.false in
     seen_above c.args.table.now c.args.names.now _ c.requires some (sym c.in-None.ensures) c.in-Found.ensures ∙ ap (λ k. cond (is_directory k) Free (Bad NotDirectory)) c.in-Directory.is
 
 pub returns-in-File : goal.returns-in-File
 returns-in-File t c =
-    let some : 0 < length c.args.names.now = grind (arith, nat_tests, c.if-is_empty.false, c.is_empty.ensures) in
+    let some = any_names c.args.names.now c.is_empty.ensures c.if-is_empty.false in
     seen_above c.args.table.now c.args.names.now _ c.requires some (sym c.in-None.ensures) c.in-Found.ensures ∙ ap (λ k. cond (is_directory k) Free (Bad NotDirectory)) c.in-File.is
 
 pub returns-in-Link : goal.returns-in-Link
 returns-in-Link t c =
-    let some : 0 < length c.args.names.now = grind (arith, nat_tests, c.if-is_empty.false, c.is_empty.ensures) in
+    let some = any_names c.args.names.now c.is_empty.ensures c.if-is_empty.false in
     seen_above c.args.table.now c.args.names.now _ c.requires some (sym c.in-None.ensures) c.in-Found.ensures ∙ ap (λ k. cond (is_directory k) Free (Bad NotDirectory)) c.in-Link.is
 
 pub returns-in-Free : goal.returns-in-Free
 returns-in-Free t c =
-    let some : 0 < length c.args.names.now = grind (arith, nat_tests, c.if-is_empty.false, c.is_empty.ensures) in
+    let some = any_names c.args.names.now c.is_empty.ensures c.if-is_empty.false in
     seen_above c.args.table.now c.args.names.now _ c.requires some (sym c.in-None.ensures) c.in-Free.ensures
 
 pub returns-in-Bad : goal.returns-in-Bad
 returns-in-Bad t c =
-    let some : 0 < length c.args.names.now = grind (arith, nat_tests, c.if-is_empty.false, c.is_empty.ensures) in
+    let some = any_names c.args.names.now c.is_empty.ensures c.if-is_empty.false in
     seen_above c.args.table.now c.args.names.now _ c.requires some (sym c.in-None.ensures) c.in-Bad.ensures
