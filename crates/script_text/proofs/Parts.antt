@@ -54,6 +54,11 @@ text_first : {A C : Type 0} (word : List ℕ) (others : Option A) (f : List ℕ 
     → (formed (unescaped word) >>= (λ text. formed others >>= (λ x. f text x))) ≡ (text_before word others >>= (λ all. f all.0 all.1))
 text_first word others f = text_form (unescaped word) others f
 
+-- the path by the text
+pub path_by_text : {A : Type 0} (word : List ℕ) (others : Option A)
+    → path_before word others ≡ (text_before word others >>= (λ both. path both.0 >>= (λ at. let all : List (List ℕ) × A = (at, both.1) in Ok all)))
+path_by_text {A = A} word others = text_first word others (λ text x. path text >>= (λ at. let all : List (List ℕ) × A = (at, x) in Ok all))
+
 -- a path and a word of another form in one
 path_form : {A C : Type 0} (o : Option (List ℕ)) (p : Option A) (f : List (List ℕ) → A → Result C FsError)
     → (formed o >>= (λ text. formed p >>= (λ x. path text >>= (λ at. f at x))))

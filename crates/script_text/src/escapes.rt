@@ -16,7 +16,9 @@ pub fn unescaped(alloc: Global, word: &[u8]) -> Result<Vec<u8>, LineError>
     let mut bytes = Vec::new(alloc);
     let mut rest = word;
     while !rest.is_empty() {
-        let (byte, after) = first_byte(rest).ok_or(BAD_LINE)?;
+        let Some((byte, after)) = first_byte(rest) else {
+            return Err(BAD_LINE);
+        };
         bytes.push(byte)?;
         rest = after;
     }

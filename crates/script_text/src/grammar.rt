@@ -50,8 +50,10 @@ fn command_in(alloc: Global, words: &[&[u8]]) -> Result<Command, LineError>
     ensures { Gives (λ command. command) result (command_in (map (λ w. w.now) words.now)) }
 {
     let (name, words) = front(words)?;
-    let verb = verb_of(name).ok_or(BAD_LINE)?;
-    sentence(alloc, verb, words)
+    match verb_of(name) {
+        Some(verb) => sentence(alloc, verb, words),
+        None => Err(BAD_LINE),
+    }
 }
 
 /// The command of a verb and the words after it.
