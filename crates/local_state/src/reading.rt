@@ -1,5 +1,5 @@
 // The state and the list of a record, read.
-ghost use Rattle.std.specs.Prelude.{◌≡◌, ◌≢◌, ◌<◌, ◌^◌, List, [], ℕ, length, None, Some, IfOk, IsErrOf};
+ghost use Rattle.std.specs.Prelude.{◌≡◌, ◌≢◌, ◌<◌, ◌^◌, List, [], ℕ, length, None, Some, IfOk, IfSome, IsErrOf};
 ghost use Rattle.std.specs.Option.{option_map};
 ghost use Rattle.std.specs.FinMap as fin;
 ghost use Rattle.outside.specs.View.{list_of, pending_of, at_of, change_of};
@@ -16,40 +16,37 @@ use byte_fields::{take_array, take_bytes, take_id, take_u32, take_u64};
 use outside::{Change, FileName, Pending};
 use std::alloc::Global;
 
-fn flag_of(bytes: &[u8]) -> Result<(bool, &[u8]), StateError>
-    ensures { Gives (λ x. (x.0, x.1.now)) result (flag_at bytes.now) }
+fn flag_of(bytes: &[u8]) -> Option<(bool, &[u8])>
+    ensures { option_map (λ x. (x.0, x.1.now)) result ≡ flag_at bytes.now }
 {
     match bytes {
-        [0, rest @ ..] => Ok((false, rest)),
-        [1, rest @ ..] => Ok((true, rest)),
-        _ => Err(StateError::BadState),
+        [0, rest @ ..] => Some((false, rest)),
+        [1, rest @ ..] => Some((true, rest)),
+        _ => None,
     }
 }
 
-fn magic_of(bytes: &[u8]) -> Result<&[u8], StateError>
-    ensures { Gives (λ rest. rest.now) result (magic_at bytes.now) }
+fn magic_of(bytes: &[u8]) -> Option<&[u8]>
+    ensures { option_map (λ rest. rest.now) result ≡ magic_at bytes.now }
 {
     if !bytes.starts_with(&MAGIC) {
-        return Err(StateError::BadState);
+        return None;
     }
-    Ok(&bytes[MAGIC_LEN..])
+    Some(&bytes[MAGIC_LEN..])
 }
 
 #[tactic(auto, unfolding(crate::specs::Reading::known_at))]
-fn known_of(previous: BlockId, bytes: &[u8]) -> Result<((BlockId, Life), &[u8]), StateError>
-    ensures gives { Gives (λ x. (plain_entry x.0, x.1.now)) result (known_at previous.0 bytes.now) }
-    ensures next { IfOk result (λ x. IsNext previous.0 x.0.0.0 x.0.1) }
+fn known_of(previous: BlockId, bytes: &[u8]) -> Option<((BlockId, Life), &[u8])>
+    ensures reads { option_map (λ x. (plain_entry x.0, x.1.now)) result ≡ known_at previous.0 bytes.now }
+    ensures next { IfSome result (λ x. IsNext previous.0 x.0.0.0 x.0.1) }
 {
-    let (id, rest) = take_id(bytes).ok_or(StateError::BadState)?;
-    let (version, rest) = take_u64(rest).ok_or(StateError::BadState)?;
+    let (id, rest) = take_id(bytes)?;
+    let (version, rest) = take_u64(rest)?;
     let (live, rest) = flag_of(rest)?;
-    if !previous.cmp(&id).is_lt() {
-        return Err(StateError::BadState);
+    if !previous.cmp(&id).is_lt() || version == 0 {
+        return None;
     }
-    if version == 0 {
-        return Err(StateError::BadState);
-    }
-    Ok(((id, Life { version, live }), rest))
+    Some(((id, Life { version, live }), rest))
 }
 
 fn lives_of(alloc: Global, count: u64, bytes: &[u8]) -> Result<(Known, &[u8]), StateError>
@@ -60,7 +57,9 @@ fn lives_of(alloc: Global, count: u64, bytes: &[u8]) -> Result<(Known, &[u8]), S
     let mut previous = BlockId([0; 16]);
     let mut rest = bytes;
     'lives: for _ in 0..count {
-        let ((id, life), after) = known_of(previous, rest)?;
+        let Some(((id, life), after)) = known_of(previous, rest) else {
+            return Err(StateError::BadState);
+        };
         known.learn(&id, life)?;
         previous = id;
         rest = after;
@@ -72,33 +71,46 @@ fn lives_of(alloc: Global, count: u64, bytes: &[u8]) -> Result<(Known, &[u8]), S
 fn table_of(alloc: Global, bytes: &[u8]) -> Result<(Known, &[u8]), StateError>
     ensures { Gives (λ x. (x.0.lives, x.1.now)) result (table_at bytes.now) }
 {
-    let (count, rest) = take_u64(bytes).ok_or(StateError::BadState)?;
+    let Some((count, rest)) = take_u64(bytes) else {
+        return Err(StateError::BadState);
+    };
     lives_of(alloc, count, rest)
 }
 
 #[tactic(auto, unfolding(crate::specs::Reading::name_at))]
-fn name_of(bytes: &[u8]) -> Result<(FileName, &[u8]), StateError>
-    ensures { Gives (λ x. (at_of x.0, x.1.now)) result (name_at bytes.now) }
+fn name_of(bytes: &[u8]) -> Option<(FileName, &[u8])>
+    ensures { option_map (λ x. (at_of x.0, x.1.now)) result ≡ name_at bytes.now }
 {
     let (is_block, rest) = flag_of(bytes)?;
     if !is_block {
-        return Ok((FileName::Config, rest));
+        return Some((FileName::Config, rest));
     }
-    let (id, rest) = take_id(rest).ok_or(StateError::BadState)?;
-    Ok((FileName::Block(id), rest))
+    let (id, rest) = take_id(rest)?;
+    Some((FileName::Block(id), rest))
 }
 
+/// The new bytes of a change, none for a removal, where they stand.
 #[tactic(auto, unfolding(crate::specs::Reading::change_at))]
-fn change_in(alloc: Global, bytes: &[u8]) -> Result<(Change, &[u8]), StateError>
-    ensures { Gives (λ x. (change_of x.0, x.1.now)) result (change_at bytes.now) }
+fn new_bytes_of(bytes: &[u8]) -> Option<(Option<&[u8]>, &[u8])>
+    ensures { option_map (λ x. (option_map (λ new. new.now) x.0, x.1.now)) result ≡ change_at bytes.now }
 {
     let (has_bytes, rest) = flag_of(bytes)?;
     if !has_bytes {
-        return Ok((Change::Removal, rest));
+        return Some((None, rest));
     }
-    let (len, rest) = take_u32(rest).ok_or(StateError::BadState)?;
-    let (new, rest) = take_bytes(rest, len as usize).ok_or(StateError::BadState)?;
-    Ok((Change::Bytes(Vec::from_slice(alloc, new)?), rest))
+    let (len, rest) = take_u32(rest)?;
+    let (new, rest) = take_bytes(rest, len as usize)?;
+    Some((Some(new), rest))
+}
+
+fn change_in(alloc: Global, bytes: &[u8]) -> Result<(Change, &[u8]), StateError>
+    ensures { Gives (λ x. (change_of x.0, x.1.now)) result (change_at bytes.now) }
+{
+    match new_bytes_of(bytes) {
+        None => Err(StateError::BadState),
+        Some((None, rest)) => Ok((Change::Removal, rest)),
+        Some((Some(new), rest)) => Ok((Change::Bytes(Vec::from_slice(alloc, new)?), rest)),
+    }
 }
 
 fn comes_after(previous: Option<FileName>, name: FileName) -> bool
@@ -135,7 +147,9 @@ fn entry_of<'a>(
 ) -> Result<(Pending, &'a [u8]), StateError>
     ensures { Gives (λ x. (pending_of x.0, x.1.now)) result (entry_at known.now.lives (option_map at_of previous) bytes.now) }
 {
-    let (name, rest) = name_of(bytes)?;
+    let Some((name, rest)) = name_of(bytes) else {
+        return Err(StateError::BadState);
+    };
     let (change, rest) = change_in(alloc, rest)?;
     if !comes_after(previous, name) || !may_change(known, name, &change) {
         return Err(StateError::BadState);
@@ -171,22 +185,24 @@ fn list_in<'a>(
 ) -> Result<(Vec<Pending>, &'a [u8]), StateError>
     ensures { Gives (λ x. (list_of x.0.items, x.1.now)) result (list_at known.now.lives bytes.now) }
 {
-    let (count, rest) = take_u64(bytes).ok_or(StateError::BadState)?;
+    let Some((count, rest)) = take_u64(bytes) else {
+        return Err(StateError::BadState);
+    };
     entries_of(alloc, known, count, rest)
 }
 
 #[tactic(auto, unfolding(crate::specs::Reading::head_at))]
-fn head_of(alloc: Global, bytes: &[u8]) -> Result<(State, &[u8]), StateError>
-    ensures { Gives (λ x. (plain_state x.0, x.1.now)) result (head_at bytes.now) }
+fn head_of(alloc: Global, bytes: &[u8]) -> Option<(State, &[u8])>
+    ensures { option_map (λ x. (plain_state x.0, x.1.now)) result ≡ head_at bytes.now }
 {
     let rest = magic_of(bytes)?;
     let (marked, rest) = flag_of(rest)?;
-    let (fs_id, rest) = take_id(rest).ok_or(StateError::BadState)?;
-    let (key_salt, rest) = take_array::<32>(rest).ok_or(StateError::BadState)?;
-    let (key_digest, rest) = take_array::<32>(rest).ok_or(StateError::BadState)?;
-    let (client, rest) = take_u32(rest).ok_or(StateError::BadState)?;
+    let (fs_id, rest) = take_id(rest)?;
+    let (key_salt, rest) = take_array::<32>(rest)?;
+    let (key_digest, rest) = take_array::<32>(rest)?;
+    let (client, rest) = take_u32(rest)?;
     if client == 0 {
-        return Err(StateError::BadState);
+        return None;
     }
     let state = State {
         marked,
@@ -196,14 +212,16 @@ fn head_of(alloc: Global, bytes: &[u8]) -> Result<(State, &[u8]), StateError>
         client,
         known: Known::new(alloc),
     };
-    Ok((state, rest))
+    Some((state, rest))
 }
 
 #[tactic(auto, unfolding(crate::specs::Reading::record_at))]
 fn record_of(alloc: Global, bytes: &[u8]) -> Result<(State, Vec<Pending>), StateError>
     ensures { Gives (λ x. (plain_state x.0, list_of x.1.items)) result (record_at bytes.now) }
 {
-    let (mut state, rest) = head_of(alloc, bytes)?;
+    let Some((mut state, rest)) = head_of(alloc, bytes) else {
+        return Err(StateError::BadState);
+    };
     let (known, rest) = table_of(alloc, rest)?;
     state.known = known;
     let (list, rest) = list_in(alloc, &state.known, rest)?;
