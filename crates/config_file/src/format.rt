@@ -35,13 +35,15 @@ pub(crate) fn params_from(bytes: &[u8]) -> Option<Params>
 }
 
 /// The innermost part, sealed, in an inner part.
-#[tactic(auto, unfolding(crate::specs::Format::sealed_in), using(crate::proofs::Sealed::all_after))]
 pub(crate) fn sealed_from(inner: &[u8]) -> Option<&[u8]>
     requires { length inner.now ≡ 1024 }
     ensures value { option_map (λ sealed. sealed.now) result ≡ sealed_in inner.now }
     ensures len { IfSome result (λ sealed. length sealed.now ≡ 932) }
 {
-    if !inner.starts_with(&INNER_FRONT) || !names_cipher(&inner[21..]) {
+    if !inner.starts_with(&INNER_FRONT) {
+        return None;
+    }
+    if !names_cipher(&inner[21..]) {
         return None;
     }
     Some(&inner[33..965])

@@ -1,8 +1,8 @@
 // Opening a configuration's file.
-ghost use Rattle.std.specs.Prelude.{◌≡◌, ◌↔◌, length, IfOk, IfSome, Some};
+ghost use Rattle.std.specs.Prelude.{◌≡◌, ◌≢◌, ◌↔◌, length, IfOk, IfSome, Some};
 ghost use Rattle.std.specs.Option.{option_map};
 ghost use Rattle.config_file.specs.ConfigOf.{ConfigOf, HoldsSettings, opened, locked, inner};
-ghost use Rattle.config_file.specs.Format.{HasForm, MayWait};
+ghost use Rattle.config_file.specs.Format.{HasForm, MayWait, cost_in};
 ghost use Rattle.config_file.specs.Settings.{IsBlockSize, Settings, settings_of};
 
 use crate::config::{Config, Opened};
@@ -11,6 +11,7 @@ use crate::format::{params_from, sealed_from, text_from};
 use crate::json_reading::config_from;
 use crate::keys::{derive_keys, unseal};
 use block_id::Memory;
+use scrypt_kdf::Params;
 use std::alloc::Global;
 
 /// The configuration that a file of any length holds under the password, with its parameters.
@@ -26,12 +27,33 @@ pub fn open_config(alloc: Global, password: &[u8], bytes: &[u8]) -> Result<Opene
     let Some(params) = params_from(bytes) else {
         return Err(ConfigError::Form);
     };
-    let keys = derive_keys(alloc, password, &bytes[38..70], &params)?;
+    opened_by(alloc, password, bytes, &params)
+}
+
+/// The same of a file that has the outer form with these parameters.
+fn opened_by(
+    alloc: Global,
+    password: &[u8],
+    bytes: &[u8],
+    params: &Params,
+) -> Result<Opened, ConfigError>
+    requires form { HasForm bytes.now }
+    requires cost { params.now ≡ cost_in bytes.now }
+    ensures found { IfOk result (λ o. ConfigOf password.now bytes.now (opened (settings_of o.config) o.params)) }
+    ensures size { IfOk result (λ o. IsBlockSize o.config.block_size) }
+    ensures form { result ≢ Err ConfigError.Form }
+    ensures locked { result ≡ Err ConfigError.Locked → ConfigOf password.now bytes.now locked }
+    ensures inner { result ≡ Err ConfigError.Inner → ConfigOf password.now bytes.now inner }
+{
+    let keys = derive_keys(alloc, password, &bytes[38..70], params)?;
     let Some(part) = unseal(alloc, &keys.outer, &bytes[70..])? else {
         return Err(ConfigError::Locked);
     };
     match held_config(alloc, &keys.inner, &part)? {
-        Some(config) => Ok(Opened { config, params }),
+        Some(config) => Ok(Opened {
+            config,
+            params: *params,
+        }),
         None => Err(ConfigError::Inner),
     }
 }
