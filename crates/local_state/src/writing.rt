@@ -35,8 +35,7 @@ fn put_head(out: &mut Vec<u8>, state: &State) -> Result<(), Memory>
     put_id(out, &state.fs_id)?;
     out.extend_from_slice(&state.key_salt)?;
     out.extend_from_slice(&state.key_digest)?;
-    put_u32(out, state.client)?;
-    Ok(())
+    put_u32(out, state.client)
 }
 
 fn put_life(out: &mut Vec<u8>, id: &BlockId, life: &Life) -> Result<(), Memory>
@@ -70,13 +69,12 @@ fn put_name(out: &mut Vec<u8>, name: &FileName) -> Result<(), Memory>
     ensures { OnOk result (out.new.items ≡ out.old.items ++ name_bytes (at_of name.now)) }
 {
     match name {
-        FileName::Config => out.push(0)?,
+        FileName::Config => Ok(out.push(0)?),
         FileName::Block(id) => {
             out.push(1)?;
-            put_id(out, id)?;
+            put_id(out, id)
         }
     }
-    Ok(())
 }
 
 fn put_change(out: &mut Vec<u8>, change: &Change) -> Result<(), Memory>
