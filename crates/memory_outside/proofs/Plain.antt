@@ -10,6 +10,8 @@ use Rattle.std.proofs.lemmas.List.{map-append, reverse-append}
 use Rattle.memory_outside.specs.declared.event.Event.{Event}
 use Rattle.std.specs.Prelude.{filter}
 use Rattle.block_id.proofs.Orders.{eq_reverse}
+use Rattle.outside.specs.declared.vault.GetFail.{GetFail}
+use Rattle.outside.specs.declared.vault.GetFail.TheVariants.{Memory, Failed}
 use Rattle.outside.specs.declared.change.FileName.{FileName}
 use Rattle.outside.specs.declared.change.Pending.{Pending}
 use Rattle.outside.specs.View.{at_of, pending_of, list_of}
@@ -19,7 +21,7 @@ use Rattle.outside.specs.Names.{same_at, at_cmp}
 use Rattle.outside.specs.NameLaws.{same_ties, at_total, at_exact}
 use Rattle.outside.specs.Changes.{FileChanges, change_at, set_change, cut}
 use Rattle.outside.specs.Honest.{LastChange, last_change, same_answer, is_left, lies}
-use Rattle.memory_outside.specs.Vaults.{VaultState, answer_at, file_at, given, without, IsLeftBy, IsUntampered}
+use Rattle.memory_outside.specs.Vaults.{VaultState, answer_at, file_at, given, without, after_get, after_change, after_failed_change, IsLeftBy, IsUntampered}
 
 flips : (a b : At) → same_at a b ≡ eq_by_cmp at_cmp b a
 flips a b = same_ties a b ∙ ap is_eq (at_total.antisymm a b) ∙ eq_reverse (at_cmp b a)
@@ -65,34 +67,39 @@ plain_same v w e p = record {
       (subst (λ f. IsLeftBy (last_change name v.trace) (file_at name f)) (sym e.files) (p.files_left name));
 }
 
-pub plain_got : (v : VaultState) (n : At) (max : ℕ) (answer : Option (List ℕ)) → IsUntampered v → IsUntampered (record v { trace = got n max answer ∷ v.trace })
+pub plain_got : (v : VaultState) (n : At) (max : ℕ) (answer : Option (List ℕ)) → IsUntampered v → IsUntampered (after_get v (got n max answer))
 plain_got v n max answer p = record { none_replaced = p.none_replaced; files_left = p.files_left }
 
-pub plain_put : (v : VaultState) (n : At) (bytes : List ℕ) → IsUntampered v → IsUntampered (record v { trace = put n bytes true ∷ v.trace; files = set_change n (Some bytes) v.files })
+pub plain_put : (v : VaultState) (n : At) (bytes : List ℕ) → IsUntampered v → IsUntampered (after_change v (put n bytes true) (set_change n (Some bytes) v.files))
 plain_put v n bytes p = record {
   none_replaced = p.none_replaced;
   files_left = λ m. subst (IsLeftBy (last_change m (put n bytes true ∷ v.trace))) (sym (file_at-set n m (Some bytes) v.files))
       (changed_left (same_at n m) (Some bytes) (last_change m v.trace) (file_at m v.files) (p.files_left m));
 }
 
-pub plain_removed : (v : VaultState) (n : At) → IsUntampered v → IsUntampered (record v { trace = removed n true ∷ v.trace; files = without n v.files })
+pub plain_removed : (v : VaultState) (n : At) → IsUntampered v → IsUntampered (after_change v (removed n true) (without n v.files))
 plain_removed v n p = record {
   none_replaced = p.none_replaced;
   files_left = λ m. subst (IsLeftBy (last_change m (removed n true ∷ v.trace))) (sym (file_at-without n m v.files))
       (changed_left (same_at n m) None (last_change m v.trace) (file_at m v.files) (p.files_left m));
 }
 
-pub plain_failed_put : (v : VaultState) (n : At) (bytes : List ℕ) → IsUntampered v → IsUntampered (record v { trace = put n bytes false ∷ v.trace })
+pub plain_failed_put : (v : VaultState) (n : At) (bytes : List ℕ) → IsUntampered v → IsUntampered (after_failed_change v (put n bytes false))
 plain_failed_put v n bytes p = record {
   none_replaced = p.none_replaced;
   files_left = λ m. failed_left (same_at n m) (Some bytes) (last_change m v.trace) (file_at m v.files) (p.files_left m);
 }
 
-pub plain_failed_removal : (v : VaultState) (n : At) → IsUntampered v → IsUntampered (record v { trace = removed n false ∷ v.trace })
+pub plain_failed_removal : (v : VaultState) (n : At) → IsUntampered v → IsUntampered (after_failed_change v (removed n false))
 plain_failed_removal v n p = record {
   none_replaced = p.none_replaced;
   files_left = λ m. failed_left (same_at n m) None (last_change m v.trace) (file_at m v.files) (p.files_left m);
 }
+
+-- after a put or a removal that failed, of which only a fault of the outside tells
+pub plain_failed : (fail : GetFail) (old new failed : VaultState) → (fail ≡ Failed → new ≡ failed) → (fail ≡ Memory → new ≡ old) → IsUntampered failed → IsUntampered old → IsUntampered new
+plain_failed Failed old new failed told untold p q = subst IsUntampered (sym (told refl)) p
+plain_failed Memory old new failed told untold p q = subst IsUntampered (sym (untold refl)) q
 
 same_itself : (answer : Option (List ℕ)) → same_answer answer answer ≡ true
 same_itself None = refl

@@ -12,7 +12,7 @@ ghost use Rattle.outside.specs.View.{at_of, bytes_of, list_of};
 ghost use Rattle.memory_outside.specs.View.{call_of, answers_of};
 
 use crate::Event;
-use outside::{Change, FileName, GetFail, Pending, Vault};
+use outside::{Change, FileName, GetFail, Memory, Pending, Vault};
 use std::alloc::{AllocError, Global};
 use std::marker::Model;
 
@@ -192,6 +192,60 @@ impl MemoryVault {
             None => Ok(None),
         }
     }
+
+    /// Tells a get that gave this.
+    fn tell_get(
+        &mut self,
+        alloc: Global,
+        name: &FileName,
+        max: usize,
+        answer: &Option<Vec<u8>>,
+    ) -> Result<(), Memory>
+        ensures ok { OnOk result (self.new ≡ after_get self.old (got (at_of name.now) max (bytes_of answer.now))) }
+        ensures err { OnErr result (self.new ≡ self.old) }
+    {
+        let answer = copy(alloc, answer)?;
+        self.trace.push(Event::Got {
+            name: *name,
+            max,
+            answer,
+        })?;
+        self.calls = self.calls.saturating_add(1);
+        self.gets = self.gets.saturating_add(1);
+        Ok(())
+    }
+
+    /// Whether the next put or removal is made to fail.
+    fn change_fails(&self) -> bool
+        ensures { result ≡ change_fails self.now }
+    {
+        contains(&self.failing, self.calls.saturating_add(1))
+            || is_reached(self.failing_from, self.changes.saturating_add(1))
+    }
+
+    /// Tells a put or a removal.
+    fn tell_change(&mut self, event: Event) -> Result<(), Memory>
+        ensures ok { OnOk result (self.new ≡ after_change self.old (call_of event) self.old.files) }
+        ensures err { OnErr result (self.new ≡ self.old) }
+    {
+        self.trace.push(event)?;
+        self.calls = self.calls.saturating_add(1);
+        self.changes = self.changes.saturating_add(1);
+        Ok(())
+    }
+
+    /// Tells a put or a removal that is made to fail, and says how it fails.
+    fn fail_change(&mut self, event: Event) -> GetFail
+        ensures failed { result ≡ GetFail.Failed → self.new ≡ after_failed_change self.old (call_of event) }
+        ensures memory { result ≡ GetFail.Memory → self.new ≡ self.old }
+        ensures grows { self.old.faults ≤ self.new.faults }
+    {
+        if self.tell_change(event).is_err() {
+            return GetFail::Memory;
+        }
+        self.faults = self.faults.saturating_add(1);
+        GetFail::Failed
+    }
 }
 
 impl Vault for MemoryVault {
@@ -225,15 +279,10 @@ impl Vault for MemoryVault {
             return Err(GetFail::Failed);
         }
         let answer = self.answer(alloc, name, max)?;
-        let told = copy(alloc, &answer)?;
-        self.trace.push(Event::Got {
-            name: *name,
-            max,
-            answer: told,
-        })?;
-        self.calls = self.calls.saturating_add(1);
-        self.gets = self.gets.saturating_add(1);
-        Ok(answer)
+        match self.tell_get(alloc, name, max, &answer) {
+            Ok(()) => Ok(answer),
+            Err(_) => Err(GetFail::Memory),
+        }
     }
 
     fn put(&mut self, alloc: Global, name: &FileName, bytes: &[u8]) -> Result<(), GetFail>
@@ -252,18 +301,12 @@ impl Vault for MemoryVault {
     {
         let told = bytes.to_vec(alloc)?;
         let file = bytes.to_vec(alloc)?;
-        if contains(&self.failing, self.calls.saturating_add(1))
-            || is_reached(self.failing_from, self.changes.saturating_add(1))
-        {
-            self.trace.push(Event::Put {
+        if self.change_fails() {
+            return Err(self.fail_change(Event::Put {
                 name: *name,
                 bytes: told,
                 ok: false,
-            })?;
-            self.faults = self.faults.saturating_add(1);
-            self.calls = self.calls.saturating_add(1);
-            self.changes = self.changes.saturating_add(1);
-            return Err(GetFail::Failed);
+            }));
         }
         self.files.reserve(1)?;
         self.trace.push(Event::Put {
@@ -298,25 +341,22 @@ impl Vault for MemoryVault {
         ensures plain { IsUntampered self.old → IsUntampered self.new }
     {
         let _ = alloc;
-        if contains(&self.failing, self.calls.saturating_add(1))
-            || is_reached(self.failing_from, self.changes.saturating_add(1))
-        {
-            self.trace.push(Event::Removed {
+        if self.change_fails() {
+            return Err(self.fail_change(Event::Removed {
                 name: *name,
                 ok: false,
-            })?;
-            self.faults = self.faults.saturating_add(1);
-            self.calls = self.calls.saturating_add(1);
-            self.changes = self.changes.saturating_add(1);
-            return Err(GetFail::Failed);
+            }));
         }
-        self.trace.push(Event::Removed {
+        let event = Event::Removed {
             name: *name,
             ok: true,
-        })?;
-        drop_file(&mut self.files, name);
-        self.calls = self.calls.saturating_add(1);
-        self.changes = self.changes.saturating_add(1);
-        Ok(())
+        };
+        match self.tell_change(event) {
+            Ok(()) => {
+                drop_file(&mut self.files, name);
+                Ok(())
+            }
+            Err(_) => Err(GetFail::Memory),
+        }
     }
 }

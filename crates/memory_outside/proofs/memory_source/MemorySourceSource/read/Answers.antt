@@ -36,3 +36,16 @@ pub returns-clause-end : goal.returns-clause-end
 returns-clause-end c = λ z more.
     let i = c.self.inside in
     sym (ap (λ (s : Feed). s.rest) c.self.view_is) ∙ drop_all i.given i.bytes.items (omega arith)
+
+pub returns-clause-goes_on : goal.returns-clause-goes_on
+returns-clause-goes_on c =
+    let i = c.self.inside in
+    let rest = sym (drop-drop c.min-n.result i.given i.bytes.items) ∙ ap (λ (s : Feed). drop c.min-n.result s.rest) c.self.view_is in
+    let calls = c.saturating_add-self-inside.ensures ∙ ap (λ (s : Feed). one_more s.calls) c.self.view_is in
+    λ k. record (c.self.view_is k) { rest = rest k; calls = calls k }
+
+pub returns-then-contains-clause-faulty : goal.returns-then-contains-clause-faulty
+returns-then-contains-clause-faulty c =
+    let calls = c.saturating_add-self-inside.ensures ∙ ap (λ (s : Feed). one_more s.calls) c.self.view_is in
+    let faults = c.saturating_add-self-inside-then-contains.ensures ∙ ap (λ (s : Feed). one_more s.faults) c.self.view_is in
+    λ k. record (c.self.view_is k) { calls = calls k; faults = faults k }
