@@ -67,14 +67,26 @@ pub fn read_at_most<F: Read>(
 /// link that lies there isn't followed. The folder is made where it is missing.
 pub fn create_anew<R: Files>(files: &R, folder: Path<'_>, path: Path<'_>) -> io::Result<R::File> {
     match File::create_new(files, path) {
-        Err(error) if error.kind() == ErrorKind::NotFound => make_folder(
-            files,
-            folder.as_os_str(),
-        )?,
-        Err(error) if error.kind() == ErrorKind::AlreadyExists => fs::remove_file(files, path)?,
-        created => return created,
+        Err(error) => {
+            make_way(files, folder, path, error)?;
+            File::create_new(files, path)
+        }
+        created => created,
     }
-    File::create_new(files, path)
+}
+
+/// Makes the folder, or removes the file, where that is what the error asks for.
+fn make_way<R: Files>(
+    files: &R,
+    folder: Path<'_>,
+    path: Path<'_>,
+    error: io::Error,
+) -> io::Result<()> {
+    match error.kind() {
+        ErrorKind::NotFound => make_folder(files, folder.as_os_str()),
+        ErrorKind::AlreadyExists => fs::remove_file(files, path),
+        _ => Err(error),
+    }
 }
 
 /// A new file in this folder, which is made where it is missing in one that is there. Nothing is flushed.

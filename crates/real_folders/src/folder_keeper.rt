@@ -8,33 +8,23 @@ ghost use Rattle.outside.specs.View.{bytes_of};
 ghost use Rattle.real_folders.specs.Adapters.{counted};
 
 use crate::error::{FolderError, count};
-use crate::files::open_or_create;
 use crate::folder_run::FolderRun;
 use crate::lock::Lock;
-use crate::stored_file::StoredFile;
+use crate::record_file::RecordFile;
 use memory_outside::MemoryKeeper;
 use outside::{Failed, GetFail, Keeper, Memory};
 use std::alloc::Global;
 use std::fs::Files;
 use std::io;
 use std::marker::Model;
-use std::path::PathBuf;
-
-const RECORD_FILE: &str = "cryfs.localstate";
-
-const LOCK_FILE: &str = "cryfs.lock";
 
 /// The record in a file of a real folder. What is kept is what the file held as this was made, where it was read then, or what
 /// was saved last since; a load finds out whether the file still holds that. From the first load or save on no other run can load or save.
 /// A save first flushes the files of blocks that this run wrote.
 #[derive(Drop)]
 pub struct FolderKeeper<'a, R: Files> {
-    files: R,
     run: &'a FolderRun,
-    file: StoredFile,
-    beside: PathBuf,
-    lock_path: PathBuf,
-    lock: Option<R::File>,
+    record: RecordFile<R>,
     known: MemoryKeeper,
     faults: u64,
 }
@@ -61,14 +51,9 @@ where
     ) -> Result<FolderKeeper<'a, R>, Memory>
         ensures { IfOk result (λ keeper. keeper.faults ≡ 0) }
     {
-        let mut keeper = FolderKeeper::unread(alloc, files, folder, run)?;
-        let found = match keeper.file.read(&keeper.files, alloc, usize::MAX) {
-            Ok(found) => found,
-            Err(FolderError::Memory(_)) => return Err(Memory),
-            Err(FolderError::Io(_)) => None,
-        };
-        keeper.known = MemoryKeeper::new(alloc, found, Vec::new(alloc));
-        Ok(keeper)
+        let record = RecordFile::new(alloc, files, folder, run.ending())?;
+        let found = unless_failed(record.read(alloc))?;
+        Ok(FolderKeeper::knowing(alloc, run, record, found))
     }
 
     /// The same for a run that doesn't use the record: its file isn't looked at, and counts as not there. So a load fails
@@ -81,40 +66,33 @@ where
     ) -> Result<FolderKeeper<'a, R>, Memory>
         ensures { IfOk result (λ keeper. (keeper.kept ≡ None) × (keeper.faults ≡ 0)) }
     {
-        let folder = PathBuf::from_str(alloc, folder)?;
-        let lock_path = folder.join(alloc, LOCK_FILE)?;
-        let file = StoredFile::new(alloc, folder, RECORD_FILE)?;
-        let beside = file.beside(alloc, run.ending())?;
-        Ok(FolderKeeper {
-            files,
-            run,
-            file,
-            beside,
-            lock_path,
-            lock: None,
-            known: MemoryKeeper::new(alloc, None, Vec::new(alloc)),
-            faults: 0,
-        })
+        let record = RecordFile::new(alloc, files, folder, run.ending())?;
+        Ok(FolderKeeper::knowing(alloc, run, record, None))
     }
 
-    /// Takes the lock where this run doesn't hold it yet, and fails where another run does.
-    fn hold(&mut self) -> io::Result<()>
-        ensures { self.new ≡ self.old }
+    /// What is kept is this.
+    fn knowing(
+        alloc: Global,
+        run: &'a FolderRun,
+        record: RecordFile<R>,
+        kept: Option<Vec<u8>>,
+    ) -> FolderKeeper<'a, R>
+        ensures kept { result.kept ≡ bytes_of kept }
+        ensures faults { result.faults ≡ 0 }
     {
-        if self.lock.is_none() {
-            let folder = self.file.folder.as_path();
-            let lock = open_or_create(&self.files, folder, self.lock_path.as_path())?;
-            lock.take_lock()?;
-            self.lock = Some(lock);
+        FolderKeeper {
+            run,
+            record,
+            known: MemoryKeeper::new(alloc, kept, Vec::new(alloc)),
+            faults: 0,
         }
-        Ok(())
     }
 
     /// What the file holds, where that is what is kept.
     fn read(&self, alloc: Global) -> Result<Option<Vec<u8>>, FolderError>
         ensures { IfOk result (λ answer. bytes_of answer ≡ self.now.kept) }
     {
-        let found = self.file.read(&self.files, alloc, usize::MAX)?;
+        let found = self.record.read(alloc)?;
         if is_same(&found, self.known.kept()) {
             Ok(found)
         } else {
@@ -130,14 +108,20 @@ where
         ensures room { self.old.room ≤ self.new.room }
         ensures faults { self.new.faults ≡ self.old.faults }
     {
-        self.hold()?;
-        self.run.flush(&self.files)?;
-        self.file
-            .replace(&self.files, self.beside.as_path(), bytes)?;
+        self.record.write(self.run, bytes)?;
         match self.known.save(bytes) {
             Ok(()) => Ok(()),
             Err(Failed) => Err(io::Error::other("the record was not taken")),
         }
+    }
+}
+
+/// What was read, or nothing where the system failed.
+fn unless_failed(answer: Result<Option<Vec<u8>>, FolderError>) -> Result<Option<Vec<u8>>, Memory> {
+    match answer {
+        Ok(found) => Ok(found),
+        Err(FolderError::Memory(_)) => Err(Memory),
+        Err(FolderError::Io(_)) => Ok(None),
     }
 }
 
@@ -169,7 +153,7 @@ where
 
         ensures counts { self.new ≡ record self.old { faults = counted result self.old.faults } }
     {
-        let answer = match self.hold() {
+        let answer = match self.record.hold() {
             Ok(()) => self.read(alloc),
             Err(error) => Err(FolderError::Io(error)),
         };

@@ -7,15 +7,13 @@ ghost use Rattle.outside.specs.Trace.{Call, got, put, removed, adds};
 ghost use Rattle.outside.specs.View.{at_of, bytes_of};
 ghost use Rattle.real_folders.specs.Adapters.{counted, untold};
 
-use crate::error::{FolderError, count};
-use crate::file_names::place;
-use crate::files::{if_there, make_new_folder};
+use crate::error::count;
 use crate::folder_run::FolderRun;
+use crate::held_folder::HeldFolder;
 use crate::lock::Lock;
 use outside::{FileName, GetFail, Vault};
 use std::alloc::Global;
-use std::fs::{self, Files};
-use std::io::{self, ErrorKind};
+use std::fs::Files;
 use std::marker::Model;
 
 /// A real folder of which nothing is told. The configuration is flushed as it is put, with the names of its file and its folder. Files
@@ -23,12 +21,8 @@ use std::marker::Model;
 /// on that finds the folder no other run can use it.
 #[derive(Drop)]
 pub struct FolderVault<'a, R: Files> {
-    files: R,
     directory: &'a str,
-    run: &'a FolderRun,
-    /// The folder, open, with its lock.
-    held: Option<R::File>,
-    was_missing: bool,
+    folder: HeldFolder<'a, R>,
     faults: u64,
 }
 
@@ -49,101 +43,10 @@ where
         ensures { result ≡ record { directory = directory.now; faults = 0 } }
     {
         FolderVault {
-            files,
             directory,
-            run,
-            held: None,
-            was_missing: false,
+            folder: HeldFolder::new(files, run),
             faults: 0,
         }
-    }
-
-    /// Takes the lock on the folder, where it is there and this run doesn't hold it yet. A run that found no folder uses none
-    /// that another run has made since.
-    fn hold(&mut self) -> io::Result<()>
-        ensures { self.new ≡ self.old }
-    {
-        if self.held.is_some() {
-            return Ok(());
-        }
-        match if_there(fs::open(&self.files, self.directory))? {
-            None => {
-                self.was_missing = true;
-                Ok(())
-            }
-            Some(_) if self.was_missing => Err(io::Error::other("another run made the folder")),
-            Some(folder) => self.lock(folder),
-        }
-    }
-
-    /// Holds the folder, which is made where it is missing.
-    fn hold_or_make(&mut self) -> io::Result<()>
-        ensures { self.new ≡ self.old }
-    {
-        self.hold()?;
-        if self.held.is_none() {
-            make_new_folder(&self.files, self.directory)?;
-            let folder = fs::open(&self.files, self.directory)?;
-            self.lock(folder)?;
-        }
-        Ok(())
-    }
-
-    /// Locks the folder that was opened. Where the file system has no locks, the run goes on without.
-    fn lock(&mut self, folder: R::File) -> io::Result<()>
-        ensures { self.new ≡ self.old }
-    {
-        match folder.take_lock() {
-            Err(error) if error.kind() == ErrorKind::WouldBlock => Err(error),
-            _ => {
-                self.held = Some(folder);
-                Ok(())
-            }
-        }
-    }
-
-    fn read(
-        &mut self,
-        alloc: Global,
-        name: &FileName,
-        max: usize,
-    ) -> Result<Option<Vec<u8>>, FolderError>
-        ensures bound { IfOk result (λ answer. IfSome answer (λ bytes. length bytes.items ≤ max)) }
-        ensures same { self.new ≡ self.old }
-    {
-        self.hold()?;
-        place(alloc, self.directory, name)?.read(&self.files, alloc, max)
-    }
-
-    fn write(&mut self, alloc: Global, name: &FileName, bytes: &[u8]) -> Result<(), FolderError>
-        ensures { self.new ≡ self.old }
-    {
-        let place = place(alloc, self.directory, name)?;
-        self.hold_or_make()?;
-        match name {
-            FileName::Config => {
-                let beside = place.beside(alloc, self.run.ending())?;
-                place.replace(&self.files, beside.as_path(), bytes)?;
-            }
-            FileName::Block(_) => {
-                place.overwrite(&self.files, bytes)?;
-                self.run.remember(place)?;
-            }
-        }
-        Ok(())
-    }
-
-    fn delete(&mut self, alloc: Global, name: &FileName) -> Result<(), FolderError>
-        ensures { self.new ≡ self.old }
-    {
-        self.hold()?;
-        let place = place(alloc, self.directory, name)?;
-        place.remove(&self.files)?;
-        match name {
-            FileName::Config => place.flush_folder(&self.files)?,
-            FileName::Block(_) => self.run.remember(place)?,
-        }
-        Ok(())
     }
 }
 
@@ -168,7 +71,7 @@ where
 
         ensures counts { self.new ≡ record self.old { faults = counted result self.old.faults } }
     {
-        let answer = self.read(alloc, name, max);
+        let answer = self.folder.read(alloc, self.directory, name, max);
         count(&mut self.faults, answer)
     }
 
@@ -179,7 +82,7 @@ where
 
         ensures counts { self.new ≡ record self.old { faults = counted result self.old.faults } }
     {
-        let answer = self.write(alloc, name, bytes);
+        let answer = self.folder.write(alloc, self.directory, name, bytes);
         count(&mut self.faults, answer)
     }
 
@@ -190,7 +93,7 @@ where
 
         ensures counts { self.new ≡ record self.old { faults = counted result self.old.faults } }
     {
-        let answer = self.delete(alloc, name);
+        let answer = self.folder.delete(alloc, self.directory, name);
         count(&mut self.faults, answer)
     }
 }

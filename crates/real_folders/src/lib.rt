@@ -7,7 +7,9 @@ mod files;
 mod folder_keeper;
 mod folder_run;
 mod folder_vault;
+mod held_folder;
 mod lock;
+mod record_file;
 mod stored_file;
 
 pub use folder_keeper::FolderKeeper;

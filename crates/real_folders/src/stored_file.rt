@@ -42,13 +42,8 @@ impl StoredFile {
     ) -> Result<Option<Vec<u8>>, FolderError>
         ensures { IfOk result (λ answer. IfSome answer (λ bytes. length bytes.items ≤ max)) }
     {
-        let path = self.file.as_path();
-        let Some(found) = if_there(fs::metadata(files, path))? else {
-            return Ok(None);
-        };
-        check_is_file(&found)?;
-        match if_there(fs::open(files, path))? {
-            Some(mut file) => Ok(Some(read_at_most(alloc, &mut file, max)?)),
+        match open_file(files, self.file.as_path())? {
+            Some(mut file) => read_at_most(alloc, &mut file, max).map(Some),
             None => Ok(None),
         }
     }
@@ -105,6 +100,17 @@ impl StoredFile {
             Some(file) => file.sync_data(),
             None => Ok(()),
         }
+    }
+}
+
+/// The file, open for reading, or None where it isn't there. A pipe isn't opened.
+fn open_file<R: Files>(files: &R, path: Path<'_>) -> io::Result<Option<R::File>> {
+    match if_there(fs::metadata(files, path))? {
+        Some(found) => {
+            check_is_file(&found)?;
+            if_there(fs::open(files, path))
+        }
+        None => Ok(None),
     }
 }
 
