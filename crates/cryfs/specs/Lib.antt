@@ -1,2 +1,1 @@
-pub mod Adapters
 pub mod RecordUse

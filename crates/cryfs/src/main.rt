@@ -1,19 +1,16 @@
 //! The program: its words, the clock, random bytes, the real streams and folders.
 #![tactic(auto)]
 
-mod reader_source;
 mod record_use;
-mod writer_sink;
 
-use crate::reader_source::ReaderSource;
 use crate::record_use::uses_record;
-use crate::writer_sink::WriterSink;
 use cryfs_shell::{Status, run};
 use fs_model::Moment;
 use outside::Memory;
 use rand_chacha::ChaCha20Rng;
 use rand_core::Rng;
 use real_folders::{FolderKeeper, FolderRun, FolderVault};
+use real_streams::{ReaderSource, WriterSink};
 use std::env;
 use std::io::{self, ErrorKind};
 use std::process::ExitCode;

@@ -1,7 +1,7 @@
 -- What is seen of the adapters: what they read from or write to, and how often a call failed.
 use Rattle.std.specs.Prelude.{ℕ}
-use Rattle.cryfs.specs.declared.reader_source.ReaderSource.{ReaderSource}
-use Rattle.cryfs.specs.declared.writer_sink.WriterSink.{WriterSink}
+use Rattle.real_streams.specs.declared.reader_source.ReaderSource.{ReaderSource}
+use Rattle.real_streams.specs.declared.writer_sink.WriterSink.{WriterSink}
 
 -- the reader of a source
 abbrev pub reader_of : {R : Type 0} → ReaderSource R → R

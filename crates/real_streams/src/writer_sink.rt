@@ -16,7 +16,7 @@ pub struct WriterSink<W> {
 }
 
 impl<W> WriterSink<W> {
-    ghost use Rattle.cryfs.specs.Adapters.{writer_of, sink_faults};
+    ghost use Rattle.real_streams.specs.Adapters.{writer_of, sink_faults};
 
     /// No fault so far.
     pub fn new(writer: W) -> WriterSink<W>
@@ -28,7 +28,7 @@ impl<W> WriterSink<W> {
 }
 
 impl<W: Write> Sink for WriterSink<W> {
-    ghost use Rattle.cryfs.specs.Adapters.{writer_of, sink_faults};
+    ghost use Rattle.real_streams.specs.Adapters.{writer_of, sink_faults};
 
     ghost written = { λ _. None };
 
