@@ -1,5 +1,4 @@
-use Rattle.std.proofs.Common.{sym, subst, refl}
-use Rattle.script_text.specs.Answers.{Gives}
+use Rattle.std.proofs.Common.{refl}
 use Rattle.script_text.specs.Grammar.{path}
 use Rattle.script_text.specs.Parts.{text_before}
 use Rattle.script_text.proofs.Parts.{handed_on, path_by_text}
