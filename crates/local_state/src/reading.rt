@@ -49,10 +49,10 @@ fn known_of(previous: BlockId, bytes: &[u8]) -> Option<((BlockId, Life), &[u8])>
     Some(((id, Life { version, live }), rest))
 }
 
-fn lives_of(alloc: Global, count: u64, bytes: &[u8]) -> Result<(Known, &[u8]), StateError>
-    ensures { Gives (λ x. (x.0.lives, x.1.now)) result (lives_at count zero_id fin.empty bytes.now) }
+fn lives_of<'a>(known: &mut Known, count: u64, bytes: &'a [u8]) -> Result<&'a [u8], StateError>
+    requires { known.old.lives ≡ fin.empty }
+    ensures { Gives (λ rest. (known.new.lives, rest.now)) result (lives_at count zero_id fin.empty bytes.now) }
 {
-    let mut known = Known::new(alloc);
     known.reserve((bytes.len() / LIFE_LEN).min(count as usize))?;
     let mut previous = BlockId([0; 16]);
     let mut rest = bytes;
@@ -64,17 +64,18 @@ fn lives_of(alloc: Global, count: u64, bytes: &[u8]) -> Result<(Known, &[u8]), S
         previous = id;
         rest = after;
     }
-    Ok((known, rest))
+    Ok(rest)
 }
 
 #[tactic(auto, unfolding(crate::specs::Reading::table_at))]
-fn table_of(alloc: Global, bytes: &[u8]) -> Result<(Known, &[u8]), StateError>
-    ensures { Gives (λ x. (x.0.lives, x.1.now)) result (table_at bytes.now) }
+fn table_of<'a>(known: &mut Known, bytes: &'a [u8]) -> Result<&'a [u8], StateError>
+    requires { known.old.lives ≡ fin.empty }
+    ensures { Gives (λ rest. (known.new.lives, rest.now)) result (table_at bytes.now) }
 {
     let Some((count, rest)) = take_u64(bytes) else {
         return Err(StateError::BadState);
     };
-    lives_of(alloc, count, rest)
+    lives_of(known, count, rest)
 }
 
 #[tactic(auto, unfolding(crate::specs::Reading::name_at))]
@@ -89,28 +90,23 @@ fn name_of(bytes: &[u8]) -> Option<(FileName, &[u8])>
     Some((FileName::Block(id), rest))
 }
 
-/// The new bytes of a change, none for a removal, where they stand.
 #[tactic(auto, unfolding(crate::specs::Reading::change_at))]
-fn new_bytes_of(bytes: &[u8]) -> Option<(Option<&[u8]>, &[u8])>
-    ensures { option_map (λ x. (option_map (λ new. new.now) x.0, x.1.now)) result ≡ change_at bytes.now }
-{
-    let (has_bytes, rest) = flag_of(bytes)?;
-    if !has_bytes {
-        return Some((None, rest));
-    }
-    let (len, rest) = take_u32(rest)?;
-    let (new, rest) = take_bytes(rest, len as usize)?;
-    Some((Some(new), rest))
-}
-
 fn change_in(alloc: Global, bytes: &[u8]) -> Result<(Change, &[u8]), StateError>
     ensures { Gives (λ x. (change_of x.0, x.1.now)) result (change_at bytes.now) }
 {
-    match new_bytes_of(bytes) {
-        None => Err(StateError::BadState),
-        Some((None, rest)) => Ok((Change::Removal, rest)),
-        Some((Some(new), rest)) => Ok((Change::Bytes(Vec::from_slice(alloc, new)?), rest)),
+    let Some((has_bytes, rest)) = flag_of(bytes) else {
+        return Err(StateError::BadState);
+    };
+    if !has_bytes {
+        return Ok((Change::Removal, rest));
     }
+    let Some((len, rest)) = take_u32(rest) else {
+        return Err(StateError::BadState);
+    };
+    let Some((new, rest)) = take_bytes(rest, len as usize) else {
+        return Err(StateError::BadState);
+    };
+    Ok((Change::Bytes(Vec::from_slice(alloc, new)?), rest))
 }
 
 fn comes_after(previous: Option<FileName>, name: FileName) -> bool
@@ -193,7 +189,8 @@ fn list_in<'a>(
 
 #[tactic(auto, unfolding(crate::specs::Reading::head_at))]
 fn head_of(alloc: Global, bytes: &[u8]) -> Option<(State, &[u8])>
-    ensures { option_map (λ x. (plain_state x.0, x.1.now)) result ≡ head_at bytes.now }
+    ensures reads { option_map (λ x. (plain_state x.0, x.1.now)) result ≡ head_at bytes.now }
+    ensures nothing_known { IfSome result (λ x. x.0.known.lives ≡ fin.empty) }
 {
     let rest = magic_of(bytes)?;
     let (marked, rest) = flag_of(rest)?;
@@ -222,8 +219,7 @@ fn record_of(alloc: Global, bytes: &[u8]) -> Result<(State, Vec<Pending>), State
     let Some((mut state, rest)) = head_of(alloc, bytes) else {
         return Err(StateError::BadState);
     };
-    let (known, rest) = table_of(alloc, rest)?;
-    state.known = known;
+    let rest = table_of(&mut state.known, rest)?;
     let (list, rest) = list_in(alloc, &state.known, rest)?;
     if !rest.is_empty() {
         return Err(StateError::BadState);

@@ -7,7 +7,7 @@ use Rattle.local_state.proofs.Loops.{lives_start, lives_go_on, lives_fail, lives
 use Rattle.local_state.proofs.reading.lives_of.Goals as goal
 
 pub lives-init : goal.lives-init
-lives-init c = record { reads = lives_start c.args.count c.reserve.new.self.lives c.args.bytes.now (c.in_ok-reserve.ensures.lives ∙ c.new-known.ensures); above = above_zero }
+lives-init c = record { reads = lives_start c.args.count c.reserve.new.self.lives c.args.bytes.now (c.in_ok-reserve.ensures.lives ∙ c.requires); above = above_zero }
 
 pub learn-requires : goal.learn-requires
 learn-requires c = next_fits c.lives.previous.0 c.in-Some.id.0 c.in-Some.life c.in-Some.ensures.next c.lives.invariant.above
