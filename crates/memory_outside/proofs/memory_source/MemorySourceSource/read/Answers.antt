@@ -1,4 +1,4 @@
-use Rattle.std.proofs.Common.{◌≡◌, ◌≤◌, ◌+◌, ◌-◌, ◌++◌, ℕ, List, length, take, drop, arith, refl, ap, sym, ◌∙◌}
+use Rattle.std.proofs.Common.{◌≡◌, ◌≤◌, ◌+◌, ◌-◌, ◌++◌, ℕ, List, length, min, take, drop, arith, refl, ap, sym, ◌∙◌}
 use Rattle.std.proofs.lemmas.Grind.{common_steps}
 use Rattle.std.proofs.lemmas.List.{take_at, take-append-drop, length-take-le, drop_all, drop-drop}
 use Rattle.memory_outside.specs.MemoryStreams.{Feed, one_more}
@@ -14,6 +14,12 @@ front_copied left piece copied n h e =
 
 given_less : (given n : ℕ) → given + n - given ≡ n
 given_less given n = omega arith
+
+smaller : (n piece small wanted left : ℕ) → n ≡ min piece small → small ≡ min wanted left → n ≤ wanted
+smaller n piece small wanted left is also = omega arith
+
+pub returns-clause-bound : goal.returns-clause-bound
+returns-clause-bound c = smaller _ c.self.inside.piece c.min.result (length c.args.piece.now) _ c.min-n.ensures c.min.ensures
 
 pub returns-clause-ok : goal.returns-clause-ok
 returns-clause-ok c =

@@ -20,3 +20,9 @@ returns-in-Ok-clause-honest c p =
 pub returns-in-Ok-clause-plain : goal.returns-in-Ok-clause-plain
 returns-in-Ok-clause-plain c p =
     subst IsUntampered (sym c.in-Ok.ensures.ok) (plain_got c.args.self.now (at_of c.args.name.now) c.args.max (bytes_of c.in_ok-answer.answer) p)
+
+pub returns-in-Err-clause-honest : goal.returns-in-Err-clause-honest
+returns-in-Err-clause-honest c p = ap (λ (v : VaultState). lies v.trace) c.in-Err.ensures.err
+
+pub returns-in-Err-clause-plain : goal.returns-in-Err-clause-plain
+returns-in-Err-clause-plain c p = subst IsUntampered (sym c.in-Err.ensures.err) p

@@ -1,4 +1,4 @@
-use Rattle.std.proofs.Common.{◌∙◌, ap, sym, subst, ◌∷◌, true, false}
+use Rattle.std.proofs.Common.{◌∙◌, ap, sym, subst, ◌∷◌, true}
 use Rattle.std.specs.declared.option.Option.TheVariants.{Some}
 use Rattle.outside.specs.Trace.{put}
 use Rattle.outside.specs.Changes.{set_change}

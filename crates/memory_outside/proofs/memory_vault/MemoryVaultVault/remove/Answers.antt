@@ -1,7 +1,6 @@
 use Rattle.std.proofs.Common.{◌∙◌, ap, sym, subst}
-use Rattle.std.specs.declared.option.Option.TheVariants.{Some}
 use Rattle.outside.specs.View.{at_of}
-use Rattle.memory_outside.specs.Vaults.{VaultState, IsUntampered, without}
+use Rattle.memory_outside.specs.Vaults.{IsUntampered, without}
 use Rattle.memory_outside.proofs.Plain.{plain_removed, plain_failed, plain_failed_removal}
 use Rattle.memory_outside.proofs.memory_vault.MemoryVaultVault.remove.Goals as goal
 
