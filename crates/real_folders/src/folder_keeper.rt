@@ -10,7 +10,7 @@ ghost use Rattle.real_folders.specs.Adapters.{counted};
 use crate::error::{FolderError, count};
 use crate::folder_run::FolderRun;
 use crate::lock::Lock;
-use crate::record_file::RecordFile;
+use crate::record_file::{RecordFile, RecordPaths};
 use memory_outside::MemoryKeeper;
 use outside::{Failed, GetFail, Keeper, Memory};
 use std::alloc::Global;
@@ -51,8 +51,9 @@ where
     ) -> Result<FolderKeeper<'a, R>, Memory>
         ensures { IfOk result (λ keeper. keeper.faults ≡ 0) }
     {
-        let record = RecordFile::new(alloc, files, folder, run.ending())?;
-        let found = unless_failed(record.read(alloc))?;
+        let paths = RecordPaths::new(alloc, folder, run.ending())?;
+        let found = unless_failed(paths.read(&files, alloc))?;
+        let record = RecordFile::new(files, paths);
         Ok(FolderKeeper::knowing(alloc, run, record, found))
     }
 
@@ -66,7 +67,8 @@ where
     ) -> Result<FolderKeeper<'a, R>, Memory>
         ensures { IfOk result (λ keeper. (keeper.kept ≡ None) × (keeper.faults ≡ 0)) }
     {
-        let record = RecordFile::new(alloc, files, folder, run.ending())?;
+        let paths = RecordPaths::new(alloc, folder, run.ending())?;
+        let record = RecordFile::new(files, paths);
         Ok(FolderKeeper::knowing(alloc, run, record, None))
     }
 
@@ -87,33 +89,6 @@ where
             faults: 0,
         }
     }
-
-    /// What the file holds, where that is what is kept.
-    fn read(&self, alloc: Global) -> Result<Option<Vec<u8>>, FolderError>
-        ensures { IfOk result (λ answer. bytes_of answer ≡ self.now.kept) }
-    {
-        let found = self.record.read(alloc)?;
-        if is_same(&found, self.known.kept()) {
-            Ok(found)
-        } else {
-            Err(FolderError::Io(io::Error::other("another run changed the record")))
-        }
-    }
-
-    /// Flushes the files of blocks, writes the record to its file, and then knows it.
-    fn write(&mut self, bytes: &[u8]) -> io::Result<()>
-        requires { length bytes.now ≤ self.old.room }
-        ensures ok { OnOk result (self.new.kept ≡ Some bytes.now) }
-        ensures err { OnErr result ((self.new.kept ≡ self.old.kept) ⊎ (self.new.kept ≡ Some bytes.now)) }
-        ensures room { self.old.room ≤ self.new.room }
-        ensures faults { self.new.faults ≡ self.old.faults }
-    {
-        self.record.write(self.run, bytes)?;
-        match self.known.save(bytes) {
-            Ok(()) => Ok(()),
-            Err(Failed) => Err(io::Error::other("the record was not taken")),
-        }
-    }
 }
 
 /// What was read, or nothing where the system failed.
@@ -122,6 +97,20 @@ fn unless_failed(answer: Result<Option<Vec<u8>>, FolderError>) -> Result<Option<
         Ok(found) => Ok(found),
         Err(FolderError::Memory(_)) => Err(Memory),
         Err(FolderError::Io(_)) => Ok(None),
+    }
+}
+
+/// What was loaded, where that is what is kept.
+fn if_kept(
+    loaded: Result<Option<Vec<u8>>, FolderError>,
+    kept: Option<&[u8]>,
+) -> Result<Option<Vec<u8>>, FolderError>
+    ensures { IfOk result (λ answer. bytes_of answer ≡ option_map (λ bytes. bytes.now) kept.entry) }
+{
+    match loaded {
+        Ok(found) if is_same(&found, kept) => Ok(found),
+        Ok(_) => Err(FolderError::Io(io::Error::other("another run changed the record"))),
+        Err(error) => Err(error),
     }
 }
 
@@ -153,10 +142,8 @@ where
 
         ensures counts { self.new ≡ record self.old { faults = counted result self.old.faults } }
     {
-        let answer = match self.record.hold() {
-            Ok(()) => self.read(alloc),
-            Err(error) => Err(FolderError::Io(error)),
-        };
+        let loaded = self.record.load(alloc);
+        let answer = if_kept(loaded, self.known.kept());
         count(&mut self.faults, answer)
     }
 
@@ -176,12 +163,10 @@ where
         ensures counts_none { OnOk result (self.new.faults ≡ self.old.faults) }
         ensures counts_one { OnErr result (self.new.faults ≡ one_more self.old.faults) }
     {
-        match self.write(bytes) {
-            Ok(()) => Ok(()),
-            Err(_) => {
-                self.faults = self.faults.saturating_add(1);
-                Err(Failed)
-            }
+        if self.record.write(self.run, bytes).is_ok() && self.known.save(bytes).is_ok() {
+            return Ok(());
         }
+        self.faults = self.faults.saturating_add(1);
+        Err(Failed)
     }
 }

@@ -15,14 +15,15 @@ const LOCK_FILE: &str = "cryfs.lock";
 
 /// The record's file, the path that its next bytes are written to first, and the file whose lock a run holds.
 #[derive(Drop)]
-struct RecordPaths {
+pub struct RecordPaths {
     record: StoredFile,
     beside: PathBuf,
     lock: PathBuf,
 }
 
 impl RecordPaths {
-    fn new(alloc: Global, folder: &str, ending: &str) -> Result<RecordPaths, AllocError> {
+    /// Those in the folder at this path, of a run with this ending.
+    pub fn new(alloc: Global, folder: &str, ending: &str) -> Result<RecordPaths, AllocError> {
         let folder = PathBuf::from_str(alloc, folder)?;
         let lock = folder.join(alloc, LOCK_FILE)?;
         let record = StoredFile::new(alloc, folder, RECORD_FILE)?;
@@ -32,6 +33,11 @@ impl RecordPaths {
             beside,
             lock,
         })
+    }
+
+    /// The record's bytes, or None where its file isn't there.
+    pub fn read<R: Files>(&self, files: &R, alloc: Global) -> Result<Option<Vec<u8>>, FolderError> {
+        self.record.read(files, alloc, usize::MAX)
     }
 
     /// The file for the lock, locked. It and its folder are made where they are missing.
@@ -57,35 +63,30 @@ impl<R: Files + Drop> RecordFile<R>
 where
     R::File: Lock,
 {
-    /// The record's file in the folder at this path. Nothing is read or made.
-    pub fn new(
-        alloc: Global,
-        files: R,
-        folder: &str,
-        ending: &str,
-    ) -> Result<RecordFile<R>, AllocError> {
-        let paths = RecordPaths::new(alloc, folder, ending)?;
-        Ok(RecordFile {
+    /// The file at these paths, whose lock isn't held yet.
+    pub fn new(files: R, paths: RecordPaths) -> RecordFile<R> {
+        RecordFile {
             files,
             paths,
             lock: None,
-        })
+        }
     }
 
     /// Takes the lock where this run doesn't hold it yet, and fails where another run does.
-    pub fn hold(&mut self) -> io::Result<()> {
+    fn hold(&mut self) -> io::Result<()> {
         if self.lock.is_none() {
             self.lock = Some(self.paths.take_lock(&self.files)?);
         }
         Ok(())
     }
 
-    /// The file's bytes, or None where it isn't there.
-    pub fn read(&self, alloc: Global) -> Result<Option<Vec<u8>>, FolderError> {
-        self.paths.record.read(&self.files, alloc, usize::MAX)
+    /// The record's bytes under the lock, or None where its file isn't there.
+    pub fn load(&mut self, alloc: Global) -> Result<Option<Vec<u8>>, FolderError> {
+        self.hold()?;
+        self.paths.read(&self.files, alloc)
     }
 
-    /// Flushes the files of blocks that the run wrote, then gives the file these bytes.
+    /// Flushes the files of blocks that the run wrote, then gives the file these bytes under the lock.
     pub fn write(&mut self, run: &FolderRun, bytes: &[u8]) -> io::Result<()> {
         self.hold()?;
         run.flush(&self.files)?;
