@@ -1,6 +1,7 @@
 -- A command that was performed, from what performing promises.
-use Rattle.std.proofs.Common.{◌≡◌, true, ◌∙◌, ap}
+use Rattle.std.proofs.Common.{◌≡◌, true, refl, ◌∙◌, ap}
 use Rattle.std.specs.FinMap as fin
+use Rattle.answers.specs.Sessions.{Follows}
 use Rattle.block_id.specs.declared.fail.Fail.{Fail}
 use Rattle.fs_model.specs.declared.command.Command.{Command}
 use Rattle.fs_model.specs.declared.reply.Reply.{Reply}
@@ -17,7 +18,7 @@ use Rattle.mount_core.specs.Answers.{answer_of_fail}
 use Rattle.tree_commands.specs.Performing.{Showing, Steps}
 use Rattle.mount_core.specs.Standing.{CoreStands, CorePerformed, Unapplied}
 use Rattle.mount_core.proofs.Moving.{shown_along, SameShown}
-use Rattle.mount_core.proofs.Lines.{over_empty, stands_loaded, fail_follows}
+use Rattle.mount_core.proofs.Lines.{over_empty, stands_loaded, fail_each}
 
 module _ {S : Type 0} {K : Type 0} (shows : Showing) (M : Meanings S) (H : Holdings S) (D : Durables S) (R : Records) (G : KeeperGhosts K) (law : SameShown shows) (steady : Steady M H)
     (applied : S → S → Changes → Type 0) (settled : (a b : S) → M.loaded a b → Stays H a b) (endures : Enduring M H applied D R) where
@@ -54,7 +55,7 @@ module _ {S : Type 0} {K : Type 0} (shows : Showing) (M : Meanings S) (H : Holdi
       → new.saver ≡ old.saver → new.root ≡ old.root → M.sound new.blobs.tx.store → CorePerformed shows M H D R G moment new kept now command (answer_of_fail fail)
   performed_failed moment old new kept now command fail s loaded es er sound = record {
     next = now;
-    follows = fail_follows moment now command fail;
+    follows = fail_each fail (λ a. Follows moment now command a now) refl refl (λ why. refl);
     stands = stands_loaded shows M H D R G law applied endures old new kept now s loaded (settled old.blobs.tx.store new.blobs.tx.store loaded) (steady.sound_told old.blobs.tx.store s.sound)
         (ap (λ x. x.0) er) (ap (λ (x : Saver K). G.kept x.keeper) es) sound;
   }

@@ -28,6 +28,8 @@ use Rattle.outcome.specs.Meanings.{Meanings, IsCalm, IsOfBlocks, OnVerdict}
 use Rattle.store_api.specs.Content.{Content, SameContent, Changes, or_else, over, id_cmp}
 use Rattle.store_api.specs.Holdings.{Holdings, Steady, FitsStore, Stays, IsSpent, has_id}
 use Rattle.store_api.specs.Durables.{Identity, Durables, Records, Enduring, with_mark}
+use Rattle.store_api.specs.declared.blocks.ApplyError.{ApplyError}
+use Rattle.store_api.specs.declared.blocks.ApplyError.TheVariants.{Memory as ApplyMemory, Spent as ApplySpent}
 use Rattle.store_api.specs.declared.tx.Tx.{Tx}
 use Rattle.answers.specs.declared.answer.Answer.{Answer}
 use Rattle.answers.specs.declared.answer.Answer.TheVariants.{Reply as Replied, Memory, Spent, FaultDirectory, FaultState, Violation, Refused}
@@ -36,10 +38,10 @@ use Rattle.session_saver.specs.declared.saver.Saver.{Saver}
 use Rattle.session_saver.specs.declared.saver.SyncError.{SyncError}
 use Rattle.session_saver.specs.declared.saver.SyncError.TheVariants.{Memory as SyncMemory, FaultDirectory as SyncDirectory, FaultState as SyncState}
 use Rattle.answers.specs.Sessions.{Follows, IsError, is_violation}
-use Rattle.mount_core.specs.Answers.{is_synced, is_done_answer, is_structure, answer_of_fail, answer_of_sync, OnSpent, OnFound}
+use Rattle.mount_core.specs.Answers.{is_synced, is_done, is_done_answer, is_structure, answer_of_fail, answer_of_sync, answer_of_apply, OnSpent, OnFound}
 use Rattle.mount_core.specs.Configuring.{IsOneOf, KeptOneOf, CoreConfigures, ConfigAnswered, ConfigSynced, Replaced, ConfigClosed}
-use Rattle.tree_commands.specs.Performing.{Showing, is_sync}
-use Rattle.session_saver.specs.Saving.{KeptConfigures, CanMark}
+use Rattle.tree_commands.specs.Performing.{Showing, is_sync, is_reader, IsReplyTo}
+use Rattle.session_saver.specs.Saving.{KeptConfigures, CanMark, Whole}
 use Rattle.mount_core.specs.Standing.{CoreStands, Synced, Roomed, CorePerformed, Left, Answered, IsKeptMarked, Closed}
 use Rattle.mount_core.proofs.Moving.{shown_along, keeps_along, SameShown}
 
@@ -89,15 +91,38 @@ of_blocks (FailViolation (ForeignClient i)) h = refl
 of_blocks (FailViolation (OldVersion i j)) h = refl
 of_blocks (FailViolation (AheadVersion i j)) h = refl
 
-pub fail_follows : (moment : Instant) (tree : Tree) (command : Command) (f : Fail) → Follows moment tree command (answer_of_fail f) tree
-fail_follows moment tree command FailMemory = refl
-fail_follows moment tree command Fault = refl
-fail_follows moment tree command (FailViolation why) = refl
+-- ---- what holds of each answer that a step gives
 
-pub sync_follows : (moment : Instant) (tree : Tree) (command : Command) (e : SyncError) → Follows moment tree command (answer_of_sync e) tree
-sync_follows moment tree command SyncMemory = refl
-sync_follows moment tree command SyncDirectory = refl
-sync_follows moment tree command SyncState = refl
+pub fail_each : (f : Fail) (P : Answer → Type 0) → P Memory → P FaultDirectory → ((why : Why) → P (Violation why)) → P (answer_of_fail f)
+fail_each FailMemory P memory fault violation = memory
+fail_each Fault P memory fault violation = fault
+fail_each (FailViolation why) P memory fault violation = violation why
+
+pub settle_each : (answer : Answer) (reply : Reply) → (answer ≡ Replied reply) ⊎ ((answer ≡ Memory) ⊎ (answer ≡ Spent)) → (P : Answer → Type 0) → P (Replied reply) → P Memory → P Spent → P answer
+settle_each answer reply (inl e) P replied memory spent = subst P (sym e) replied
+settle_each answer reply (inr (inl e)) P replied memory spent = subst P (sym e) memory
+settle_each answer reply (inr (inr e)) P replied memory spent = subst P (sym e) spent
+
+pub sync_each : (e : SyncError) (P : Answer → Type 0) → P Memory → P FaultDirectory → P FaultState → P (answer_of_sync e)
+sync_each SyncMemory P memory directory state = memory
+sync_each SyncDirectory P memory directory state = directory
+sync_each SyncState P memory directory state = state
+
+pub apply_follows : (moment : Instant) (tree : Tree) (command : Command) (e : ApplyError) → (OnlyLooks command → ⊥) → (IsError (step tree moment command).reply → ⊥) → Follows moment tree command (answer_of_apply e) tree
+apply_follows moment tree command ApplyMemory changes served = refl
+apply_follows moment tree command ApplySpent changes served = (changes, served, refl)
+
+pub apply_undone : (e : ApplyError) → is_done_answer (answer_of_apply e) ≡ false
+apply_undone ApplyMemory = refl
+apply_undone ApplySpent = refl
+
+pub apply_answers : (e : ApplyError) → (answer_of_apply e ≡ Memory) ⊎ (answer_of_apply e ≡ Spent)
+apply_answers ApplyMemory = inl refl
+apply_answers ApplySpent = inr refl
+
+pub apply_spent : (e : ApplyError) (P : Type 0) → (e ≡ ApplySpent → P) → OnSpent (answer_of_apply e) P
+apply_spent ApplyMemory P f = tt
+apply_spent ApplySpent P f = f refl
 
 pub spent_on : (answer : Answer) (P Q : Type 0) → (P → Q) → OnSpent answer P → OnSpent answer Q
 spent_on Spent P Q f h = f h
@@ -117,16 +142,6 @@ no_violation FaultDirectory n = refl
 no_violation FaultState n = refl
 no_violation Refused n = refl
 
-sync_error_calm : (e : SyncError) → is_violation (answer_of_sync e) ≡ false
-sync_error_calm SyncMemory = refl
-sync_error_calm SyncDirectory = refl
-sync_error_calm SyncState = refl
-
-sync_error_undone : (e : SyncError) → is_done_answer (answer_of_sync e) ≡ false
-sync_error_undone SyncMemory = refl
-sync_error_undone SyncDirectory = refl
-sync_error_undone SyncState = refl
-
 pub or_right : (b c : Bool) → c ≡ true → (b || c) ≡ true
 or_right true c e = refl
 or_right false c e = e
@@ -142,6 +157,10 @@ not_and false c e = refl
 sync_steps : (moment : Instant) (tree : Tree) (command : Command) → is_sync command ≡ true → step tree moment command ≡ record { reply = Done; tree = tree }
 sync_steps moment tree Sync e = refl
 sync_steps moment tree _ e = absurd cc
+
+pub sync_reads : (command : Command) → is_sync command ≡ true → is_reader command ≡ false
+sync_reads Sync e = refl
+sync_reads _ e = absurd cc
 
 pub true_is_false : true ≡ false → ⊥
 true_is_false e = cc
@@ -164,6 +183,15 @@ error_next tree moment command (Rows rows) next is h = absurd h
 error_next tree moment command (Info attr size) next is h = absurd h
 error_next tree moment command (Target target) next is h = absurd h
 error_next tree moment command (Contents bytes) next is h = absurd h
+
+-- a command that changes the tree has the reply Done
+pub change_done : (command : Command) (reply : Reply) → IsReplyTo command reply → (OnlyLooks command → ⊥) → (IsError reply → ⊥) → is_done reply ≡ true
+change_done command Done form changes served = refl
+change_done command (Error e) form changes served = absurd (served tt)
+change_done command (Rows rows) form changes served = absurd (changes (subst OnlyLooks (sym form.1) tt))
+change_done command (Info attr size) form changes served = absurd (changes (subst OnlyLooks (sym form.1) tt))
+change_done command (Target target) form changes served = absurd (changes (subst OnlyLooks (sym form.1) tt))
+change_done command (Contents bytes) form changes served = absurd (changes (subst OnlyLooks (sym form.3) tt))
 
 -- ---- what a store holds
 
@@ -208,6 +236,15 @@ found_of (FailViolation (WrongId i)) P Q f h = f _ h
 found_of (FailViolation (ForeignClient i)) P Q f h = f _ h
 found_of (FailViolation (OldVersion i j)) P Q f h = f _ h
 found_of (FailViolation (AheadVersion i j)) P Q f h = f _ h
+
+pub found_calm : (answer : Answer) (P : Why → Type 0) → is_violation answer ≡ false → OnFound answer P
+found_calm (Violation why) P e = absurd (true_is_false e)
+found_calm (Replied r) P e = tt
+found_calm Memory P e = tt
+found_calm Spent P e = tt
+found_calm FaultDirectory P e = tt
+found_calm FaultState P e = tt
+found_calm Refused P e = tt
 
 pub found_map : (answer : Answer) (P Q : Why → Type 0) → ((why : Why) → P why → Q why) → OnFound answer P → OnFound answer Q
 found_map (Violation why) P Q f h = found_of (FailViolation why) P Q f h
@@ -256,6 +293,11 @@ module _ {S : Type 0} {K : Type 0} (shows : Showing) (M : Meanings S) (H : Holdi
       stands_on old new kept now now s er (endures.loaded_identity old.blobs.tx.store new.blobs.tx.store loaded) stays.payload ek
       (λ identity bytes content h. endures.loaded_stands old.blobs.tx.store new.blobs.tx.store identity bytes content loaded h) sound
       (law _ _ (H.content old.blobs.tx.store) (H.content new.blobs.tx.store) now (stays.content told) s.shown)
+
+  pub whole_loaded : (applied : S → S → Changes → Type 0) → Enduring M H applied D R → (saver : Saver K) (a b : S) → M.loaded a b → Whole D G saver a → Whole D G saver b
+  whole_loaded applied endures saver a b loaded w =
+      let same = endures.loaded_records a b false loaded in
+      record { kept = λ u. w.kept u ∙ ap Some (sym same); last = λ u. w.last u ∙ sym same; none = λ u. endures.loaded_list a b loaded ∙ w.none u }
 
   -- what is kept, the last record and what the store would keep say the same, on another trace
   pub configures_on : (old new : Core S K) (may : List (List ℕ)) (now : List ℕ) → CoreConfigures H D R G old may now → H.told new.blobs.tx.store ≡ H.told old.blobs.tx.store
@@ -320,22 +362,14 @@ module _ {S : Type 0} {K : Type 0} (shows : Showing) (M : Meanings S) (H : Holdi
       → Answered shows M H D R G moment core kept now command (answer_of_sync e)
   answered_err moment core kept now command e r = record {
     next = now;
-    follows = sync_follows moment now command e;
-    left = left_other core kept now now _ _ (sync_error_calm e) (and_false (is_sync command) (is_done_answer (answer_of_sync e)) (sync_error_undone e)) r;
+    follows = sync_each e (λ a. Follows moment now command a now) refl refl refl;
+    left = left_other core kept now now _ _ (sync_each e (λ a. is_violation a ≡ false) refl refl refl)
+        (and_false (is_sync command) (is_done_answer (answer_of_sync e)) (sync_each e (λ a. is_done_answer a ≡ false) refl refl refl)) r;
   }
 
-  pub roomed_on : (old new : Core S K) (kept now : Tree) → Roomed shows M H D R G old kept now → ((k n : Tree) → CoreStands shows M H D R G old k n → Roomed shows M H D R G new k n)
-      → Roomed shows M H D R G new kept now
-  roomed_on old new kept now (inl m) f = f kept now m
-  roomed_on old new kept now (inr m) f = elim (f now now m) [ inl a ↦ inr a | inr a ↦ inr a ]
-
-  pub answered_synced : (moment : Instant) (old new : Core S K) (kept now : Tree) (command : Command) → is_sync command ≡ true → Roomed shows M H D R G old kept now
-      → ((k n : Tree) → CoreStands shows M H D R G old k n → CoreStands shows M H D R G new n n) → Answered shows M H D R G moment new kept now command (Replied Done)
-  answered_synced moment old new kept now command e r f = record {
-    next = now;
-    follows = sync_steps moment now command e;
-    left = left_synced new kept now false _ refl (elim r [ inl m ↦ f kept now m | inr m ↦ f now now m ]);
-  }
+  pub answered_synced : (moment : Instant) (core : Core S K) (kept now : Tree) (command : Command) → is_sync command ≡ true → CoreStands shows M H D R G core now now
+      → Answered shows M H D R G moment core kept now command (Replied Done)
+  answered_synced moment core kept now command e s = record { next = now; follows = sync_steps moment now command e; left = left_synced core kept now false _ refl s }
 
   pub answered_performed : (moment : Instant) (old new : Core S K) (kept now : Tree) (command : Command) (answer : Answer) → is_violation answer ≡ false → is_sync command ≡ false
       → Roomed shows M H D R G old kept now → ((k n : Tree) → CoreStands shows M H D R G old k n → CorePerformed shows M H D R G moment new k n command answer)

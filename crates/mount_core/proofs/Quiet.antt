@@ -1,13 +1,14 @@
 -- That no fault is passed over, from step to step.
-use Rattle.std.proofs.Common.{◌≡◌, ℕ, sym, subst, arith}
-use Rattle.std.specs.Prelude.{Result}
+use Rattle.std.proofs.Common.{◌≡◌, ◌≤◌, ℕ, refl, sym, subst, arith}
+use Rattle.std.specs.Prelude.{Result, IsErrOf}
 use Rattle.std.specs.declared.result.Result.TheVariants.{Ok, Err}
 use Rattle.answers.specs.Sessions.{directory_faults, state_faults}
 use Rattle.block_id.specs.declared.fail.Fail.{Fail}
 use Rattle.block_id.specs.declared.fail.Fail.TheVariants.{Memory as FailMemory, Fault, Violation as FailViolation}
 use Rattle.mount_core.specs.Answers.{answer_of_fail, answer_of_sync}
 use Rattle.mount_core.specs.declared.body.Core.{Core}
-use Rattle.outcome.specs.Meanings.{UnlessFault}
+use Rattle.outcome.specs.Meanings.{HasCause, UnlessFault}
+use Rattle.outside.specs.Causes.{RoseBy}
 use Rattle.session_saver.specs.Saving.{UnlessDirectory, UnlessState}
 use Rattle.session_saver.specs.declared.saver.SyncError.{SyncError}
 use Rattle.session_saver.specs.declared.saver.SyncError.TheVariants.{Memory as SyncMemory, FaultDirectory as SyncDirectory, FaultState as SyncState}
@@ -25,6 +26,30 @@ unless_state (Ok x) P Q f h = f h
 unless_state (Err SyncMemory) P Q f h = f h
 unless_state (Err SyncDirectory) P Q f h = f h
 unless_state (Err SyncState) P Q f h = tt
+
+-- ---- answers that name a fault
+
+-- want of memory is none
+pub memory_directory : IsErrOf {T = Unit} (Err SyncMemory) SyncDirectory → ⊥
+memory_directory is = cc
+
+pub memory_state : IsErrOf {T = Unit} (Err SyncMemory) SyncState → ⊥
+memory_state is = cc
+
+pub sync_directory_rose : (e : SyncError) (before now : ℕ) → before ≤ now → (IsErrOf {T = Unit} (Err e) SyncDirectory → RoseBy 1 before now) → RoseBy (directory_faults (answer_of_sync e)) before now
+sync_directory_rose SyncMemory before now grows rose = omega arith
+sync_directory_rose SyncDirectory before now grows rose = rose refl
+sync_directory_rose SyncState before now grows rose = omega arith
+
+pub sync_state_rose : (e : SyncError) (before now : ℕ) → before ≤ now → (IsErrOf {T = Unit} (Err e) SyncState → RoseBy 1 before now) → RoseBy (state_faults (answer_of_sync e)) before now
+sync_state_rose SyncMemory before now grows rose = omega arith
+sync_state_rose SyncDirectory before now grows rose = omega arith
+sync_state_rose SyncState before now grows rose = rose refl
+
+pub fail_directory_rose : (f : Fail) (before now : ℕ) → before ≤ now → HasCause f before now → RoseBy (directory_faults (answer_of_fail f)) before now
+fail_directory_rose FailMemory before now grows cause = omega arith
+fail_directory_rose Fault before now grows cause = cause
+fail_directory_rose (FailViolation why) before now grows cause = omega arith
 
 -- ---- answers that name no fault
 

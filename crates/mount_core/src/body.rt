@@ -1,5 +1,5 @@
 // What every session does, over any durable store and keeper.
-ghost use Rattle.std.specs.Prelude.{◌≡◌, ◌≢◌, ◌⊎◌, ◌≤◌, ◌<◌, ◌+◌, ◌||◌, ◌↔◌, ℕ, List, true, false, length, IsErrOf, IsOk, IsTrue, OnOk, OnErr, IfOk, IfErr};
+ghost use Rattle.std.specs.Prelude.{◌≡◌, ◌≢◌, ◌⊎◌, ◌≤◌, ◌<◌, ◌+◌, ◌||◌, ◌↔◌, ℕ, List, true, false, length, IsErrOf, IsOk, IsTrue, OnOk};
 ghost use Rattle.std.specs.declared.result.Result.TheVariants.{Err};
 ghost use Rattle.std.specs.declared.option.Option.TheVariants.{Some};
 ghost use Rattle.std.specs.FinMap as fin;
@@ -9,16 +9,15 @@ ghost use Rattle.fs_model.specs.Tree.{Tree};
 ghost use Rattle.outside.specs.Causes.{RoseBy};
 ghost use Rattle.outside.specs.Going.{GoesOn};
 ghost use Rattle.session_saver.specs.Saving.{KeptConfigures, Whole, CanMark, Wrote, UnlessDirectory, UnlessState};
-ghost use Rattle.store_api.specs.Content.{Content, SameContent};
-ghost use Rattle.store_api.specs.Durables.{Identity, with_mark};
-ghost use Rattle.store_api.specs.Holdings.{IsFew, IsSpent, Stays, gives_payload};
+ghost use Rattle.store_api.specs.Durables.{with_mark};
+ghost use Rattle.store_api.specs.Holdings.{Stays, gives_payload};
 ghost use Rattle.store_api.specs.Lists.{MayConfigure, waiting_bytes};
 ghost use Rattle.answers.specs.Sessions.{IsError, is_violation, directory_faults, state_faults};
 ghost use Rattle.tree_commands.specs.Showing.{ShowsFiles};
 ghost use Rattle.tree_commands.specs.Sparing.{OnWriteInside};
-ghost use Rattle.mount_core.specs.Answers.{is_structure, is_done_answer, answer_of_fail, answer_of_sync, OnReply, OnSpent, OnFound};
+ghost use Rattle.mount_core.specs.Answers.{is_structure, is_done_answer, answer_of_fail, answer_of_sync, answer_of_apply, OnReply, OnSpent, OnFound};
 ghost use Rattle.mount_core.specs.Causes.{SpentCause, OnlyLoaded, MadeRoom, FoundCause};
-ghost use Rattle.mount_core.specs.Configuring.{CoreConfigures, ConfigSynced, ConfigAnswered, ConfigClosed, Replaced, KeptOneOf};
+ghost use Rattle.mount_core.specs.Configuring.{CoreConfigures, ConfigSynced, ConfigAnswered, ConfigClosed, Replaced};
 ghost use Rattle.fs_model.specs.Laws.{OnlyLooks};
 ghost use Rattle.tree_commands.specs.Performing.{is_sync, IsReplyTo};
 ghost use Rattle.mount_core.specs.Sparing.{FewRaised};
@@ -67,6 +66,15 @@ fn sync_answer(error: SyncError) -> Answer
         SyncError::Memory => Answer::Memory,
         SyncError::FaultDirectory => Answer::FaultDirectory,
         SyncError::FaultState => Answer::FaultState,
+    }
+}
+
+fn apply_answer(error: ApplyError) -> Answer
+    ensures { result ≡ answer_of_apply error }
+{
+    match error {
+        ApplyError::Memory => Answer::Memory,
+        ApplyError::Spent => Answer::Spent,
     }
 }
 
@@ -129,17 +137,17 @@ impl<S: Durable, K: Keeper> Core<S, K> {
         self.saver.sync(alloc, &mut self.blobs.tx.store)
     }
 
-    /// Syncs where much waits.
-    fn make_room(&mut self, alloc: Global) -> Result<(), SyncError>
+    /// Syncs where much waits, or for `Sync`.
+    fn make_room(&mut self, alloc: Global, command: &Command) -> Result<(), SyncError>
         requires ready { Ready S.meanings S.holdings S.durables S.records K.Keeper self.old }
         requires fresh { self.old.violated ≡ false }
         ensures ready { Ready S.meanings S.holdings S.durables S.records K.Keeper self.new }
         ensures stands { (kept now : Tree) → CoreStands ShowsFiles S.meanings S.holdings S.durables S.records K.Keeper self.old kept now → Roomed ShowsFiles S.meanings S.holdings S.durables S.records K.Keeper self.new kept now }
+        ensures synced { is_sync command.now ≡ true → (kept now : Tree) → CoreStands ShowsFiles S.meanings S.holdings S.durables S.records K.Keeper self.old kept now → Synced ShowsFiles S.meanings S.holdings S.durables S.records K.Keeper self.new kept now result }
         ensures configures { (may : List (List ℕ)) (now : List ℕ) → CoreConfigures S.holdings S.durables S.records K.Keeper self.old may now → CoreConfigures S.holdings S.durables S.records K.Keeper self.new may now }
         ensures unmoved { self.old.saver.changed ≡ false → IsOk result × (self.new ≡ self.old) }
-        ensures once { OnOk result ((self.new ≡ self.old) ⊎ (self.new.saver.changed ≡ false)) }
         ensures few { OnOk result (waiting_bytes (S.durables.list self.new.blobs.tx.store) < 8388608) }
-        ensures spared { waiting_bytes (S.durables.list self.old.blobs.tx.store) < 8388608 → IsOk result × (self.new ≡ self.old) }
+        ensures spared { is_sync command.now ≡ false → waiting_bytes (S.durables.list self.old.blobs.tx.store) < 8388608 → IsOk result × (self.new ≡ self.old) }
         ensures wrote { (self.new.blobs.tx.store ≡ self.old.blobs.tx.store) ⊎ Wrote S.durables self.old.blobs.tx.store self.new.blobs.tx.store }
         ensures stays { Stays S.holdings self.old.blobs.tx.store self.new.blobs.tx.store }
         ensures sound { S.meanings.sound self.old.blobs.tx.store → S.meanings.sound self.new.blobs.tx.store }
@@ -157,55 +165,10 @@ impl<S: Durable, K: Keeper> Core<S, K> {
         ensures keeper_cause { IsErrOf result SyncError.FaultState → RoseBy 1 (K.faults self.old.saver.keeper) (K.faults self.new.saver.keeper) }
         ensures keeper_quiet { UnlessState result (K.faults self.new.saver.keeper ≡ K.faults self.old.saver.keeper) }
     {
-        if self.blobs.tx.store.buffered() < MOST_WAITING {
-            return Ok(());
+        if is_sync(command) || self.blobs.tx.store.buffered() >= MOST_WAITING {
+            return self.sync(alloc);
         }
-        self.sync(alloc)
-    }
-
-    /// Applies the changes of a command that was performed.
-    fn apply<R: Rng>(&mut self, alloc: Global, chance: &mut R) -> Result<(), ApplyError>
-        requires intact { ⟦<Tx<S> as Blocks>⟧.meanings.intact self.old.blobs.tx }
-        requires room { length self.old.saver.last.items ≤ K.room self.old.saver.keeper }
-        requires can_mark { CanMark S.records self.old.saver }
-        requires whole { Whole S.durables K.Keeper self.old.saver self.old.blobs.tx.store }
-        ensures ready { Ready S.meanings S.holdings S.durables S.records K.Keeper self.new }
-        ensures content { OnOk result (S.holdings.told self.old.blobs.tx.store ≡ true → SameContent (⟦<Tx<S> as Blocks>⟧.holdings.content self.old.blobs.tx) (S.holdings.content self.new.blobs.tx.store)) }
-        ensures stays { OnErr result (Stays S.holdings self.old.blobs.tx.store self.new.blobs.tx.store) }
-        ensures told { S.holdings.told self.new.blobs.tx.store ≡ S.holdings.told self.old.blobs.tx.store }
-        ensures keeper { self.new.saver.keeper ≡ self.old.saver.keeper }
-        ensures last { self.new.saver.last ≡ self.old.saver.last }
-        ensures saver { OnErr result (self.new.saver ≡ self.old.saver) }
-        ensures violated { self.new.violated ≡ self.old.violated }
-        ensures root { self.new.root ≡ self.old.root }
-        ensures identity { S.durables.identity self.new.blobs.tx.store ≡ S.durables.identity self.old.blobs.tx.store }
-        ensures payload { S.holdings.payload self.new.blobs.tx.store ≡ S.holdings.payload self.old.blobs.tx.store }
-        ensures stands { (identity : Identity) (kept : List ℕ) (content : Content) → S.records.stands identity kept (S.durables.trace self.old.blobs.tx.store) content
-            → S.records.stands identity kept (S.durables.trace self.new.blobs.tx.store) content }
-        ensures kept_configures { (kept bytes : List ℕ) → S.records.configures kept (S.durables.trace self.old.blobs.tx.store) bytes → S.records.configures kept (S.durables.trace self.new.blobs.tx.store) bytes }
-        ensures configures { (bytes : List ℕ) → S.records.configures (S.durables.local_record_of self.old.blobs.tx.store true) (S.durables.trace self.old.blobs.tx.store) bytes
-            → S.records.configures (S.durables.local_record_of self.new.blobs.tx.store true) (S.durables.trace self.new.blobs.tx.store) bytes }
-        ensures loaded { OnErr result (S.meanings.loaded self.old.blobs.tx.store self.new.blobs.tx.store) }
-        ensures uncalled { OnOk result (S.durables.trace self.new.blobs.tx.store ≡ S.durables.trace self.old.blobs.tx.store) }
-        ensures goes_on { GoesOn (S.durables.trace self.old.blobs.tx.store) (S.durables.trace self.new.blobs.tx.store) }
-        ensures sound { S.meanings.sound self.old.blobs.tx.store → S.meanings.sound self.new.blobs.tx.store }
-        ensures forgeries { S.meanings.forgeries self.new.blobs.tx.store ≡ S.meanings.forgeries self.old.blobs.tx.store }
-        ensures lies { S.meanings.lies self.new.blobs.tx.store ≡ S.meanings.lies self.old.blobs.tx.store }
-        ensures faults { S.meanings.faults self.new.blobs.tx.store ≡ S.meanings.faults self.old.blobs.tx.store }
-        ensures spent { (result ≡ Err ApplyError.Spent) → IsSpent S.holdings self.old.blobs.tx.store self.old.blobs.tx.overlay }
-        ensures raised { (id : List ℕ) → S.holdings.version self.new.blobs.tx.store id ≤ S.holdings.version self.old.blobs.tx.store id + 1 }
-        ensures rests { (id : List ℕ) → gives_payload (fin.get self.old.blobs.tx.overlay id) ≡ false → S.holdings.version self.new.blobs.tx.store id ≡ S.holdings.version self.old.blobs.tx.store id }
-    {
-        match self.blobs.tx.commit(alloc, chance) {
-            Ok(()) => {
-                self.saver.changed = true;
-                Ok(())
-            }
-            Err(error) => {
-                self.blobs.tx.abandon();
-                Err(error)
-            }
-        }
+        Ok(())
     }
 
     /// Marks the last record, and has it kept.
@@ -265,18 +228,19 @@ impl<S: Durable, K: Keeper> Core<S, K> {
         ensures raised { (id : List ℕ) → S.holdings.version self.new.blobs.tx.store id ≤ S.holdings.version self.old.blobs.tx.store id + 1 }
         ensures rests { (id : List ℕ) → gives_payload (fin.get self.old.blobs.tx.overlay id) ≡ false → S.holdings.version self.new.blobs.tx.store id ≡ S.holdings.version self.old.blobs.tx.store id }
     {
-        if only_looks(command) || is_error(&reply) {
+        if only_looks(command) || is_error(&reply) || self.blobs.tx.batch().entries().is_empty() {
             self.blobs.tx.abandon();
             return Answer::Reply(reply);
         }
-        if self.blobs.tx.batch().entries().is_empty() {
-            self.blobs.tx.abandon();
-            return Answer::Reply(reply);
-        }
-        match self.apply(alloc, chance) {
-            Ok(()) => Answer::Reply(reply),
-            Err(ApplyError::Memory) => Answer::Memory,
-            Err(ApplyError::Spent) => Answer::Spent,
+        match self.blobs.tx.commit(alloc, chance) {
+            Ok(()) => {
+                self.saver.changed = true;
+                Answer::Reply(reply)
+            }
+            Err(error) => {
+                self.blobs.tx.abandon();
+                apply_answer(error)
+            }
         }
     }
 
@@ -382,15 +346,12 @@ impl<S: Durable, K: Keeper> Core<S, K> {
         if self.violated {
             return Answer::Refused;
         }
-        match self.make_room(alloc) {
+        match self.make_room(alloc, command) {
             Ok(()) => {}
             Err(error) => return sync_answer(error),
         }
         if is_sync(command) {
-            return match self.sync(alloc) {
-                Ok(()) => Answer::Reply(Reply::Done),
-                Err(error) => sync_answer(error),
-            };
+            return Answer::Reply(Reply::Done);
         }
         let answer = self.ask(alloc, now, command, chance);
         match answer {

@@ -1,29 +1,32 @@
 use Rattle.std.specs.FinMap as fin
 use Rattle.std.proofs.Common.{◌≡◌, ◌≤◌, ◌+◌, refl, sym, ◌∙◌, ap, subst, false, arith}
-use Rattle.fs_model.specs.Tree.{Tree}
+use Rattle.answers.specs.declared.answer.Answer.{Answer}
+use Rattle.answers.specs.declared.answer.Answer.TheVariants.{Reply as Replied, Memory, Spent, FaultDirectory, Violation, Refused}
+use Rattle.answers.specs.Sessions.{is_violation, directory_faults, state_faults}
+use Rattle.block_id.specs.declared.fail.Why.{Why}
+use Rattle.outcome.specs.Meanings.{HasCause}
+use Rattle.outcome.specs.Outcome.{alarm as no_alarm}
+use Rattle.outside.specs.Causes.{RoseBy}
+use Rattle.outside.specs.Going.{goes_on_onward}
+use Rattle.store_api.specs.Overlay.{lawful_over}
+use Rattle.tree_commands.specs.Performing.{IsReplyTo}
 use Rattle.tree_commands.specs.Showing.{ShowsFiles}
 use Rattle.tree_commands.proofs.Shows.{files_same}
-use Rattle.mount_core.specs.declared.body.Core.{Core}
-use Rattle.answers.specs.Sessions.{is_violation, directory_faults}
-use Rattle.outcome.specs.Outcome.{alarm as no_alarm}
-use Rattle.outside.specs.Going.{GoesOn, goes_on_onward}
-use Rattle.store_api.specs.Overlay.{lawful_over}
-use Rattle.mount_core.specs.Answers.{is_structure}
+use Rattle.mount_core.specs.Answers.{is_done_answer, is_structure, OnReply, OnSpent, OnFound}
 use Rattle.mount_core.specs.Causes.{SpentCause}
 use Rattle.mount_core.specs.Sparing.{FewRaised}
-use Rattle.mount_core.specs.Standing.{CoreStands, CorePerformed}
-use Rattle.mount_core.proofs.Lines.{fits_empty, configures_loaded, calm, of_blocks, spent_on, stays_on}
+use Rattle.mount_core.specs.Standing.{CorePerformed}
+use Rattle.mount_core.specs.declared.body.Core.{Core}
 use Rattle.mount_core.proofs.Asking.{shown_now, asked, performed_failed}
-use Rattle.mount_core.proofs.Versions.{Raised, raised_stays, raised_on, few_stays, few_on, few_changed, always_inside, on_inside, spent_before}
-use Rattle.mount_core.proofs.Quiet.{fail_directory}
+use Rattle.mount_core.proofs.Lines.{calm, configures_loaded, fail_each, fits_empty, found_of, of_blocks, settle_each, spent_on, stays_on, whole_loaded}
+use Rattle.mount_core.proofs.Loads.{only_asked, only_loaded}
+use Rattle.mount_core.proofs.Versions.{raised_stays, raised_on, few_stays, few_on, few_changed, always_inside, on_inside, spent_before}
+use Rattle.mount_core.proofs.Quiet.{fail_directory, fail_directory_rose}
 use Rattle.mount_core.proofs.body.Core.ask.Given.{Over}
 use Rattle.mount_core.proofs.body.Core.ask.Goals as goal
 
 abbrev CoreOf : Over → Type 0
 CoreOf g = Core g.row.S.Denot g.row.K.Denot
-
-abbrev StandsBy : (g : Over) → CoreOf g → Tree → Tree → Type 0
-StandsBy g core kept now = CoreStands ShowsFiles g.S.Blocks.meanings g.S.Blocks.holdings g.S.Durable.durables g.S.Durable.records g.K.Keeper core kept now
 
 pub perform-requires-clause-intact : goal.perform-requires-clause-intact
 perform-requires-clause-intact g c = (
@@ -31,143 +34,130 @@ perform-requires-clause-intact g c = (
   record { fits = fits_empty g.S.Blocks.holdings c.args.self.now.blobs.tx.store c.args.self.now.blobs.tx.overlay c.requires.ready.empty; few = c.requires.ready.few },
 )
 
-pub returns-in-Ok-clause-stands : goal.returns-in-Ok-clause-stands
-returns-in-Ok-clause-stands g c kept present s few =
-    let old = c.args.self.now in
-    let mid : CoreOf g = record old { blobs = c.perform.new.blobs } in
-    let o = c.in-Ok.ensures.outcome in
-    let unforged : g.S.Blocks.meanings.forgeries c.perform.new.blobs.tx.store ≤ g.S.Blocks.meanings.forgeries old.blobs.tx.store = omega (arith, c.settle.ensures.forgeries, few) in
-    let n = shown_now ShowsFiles g.S.Blocks.meanings g.S.Blocks.holdings g.S.Durable.durables g.S.Durable.records g.K.Keeper files_same g.met.S.Blocks.steady g.S.BlocksMut.applied
-    g.met.S.BlocksMut.settled g.met.S.Durable.enduring old kept present s c.requires.ready.empty in
-    c.settle.ensures.stands c.args.now kept present
-    (asked ShowsFiles g.S.Blocks.meanings g.S.Blocks.holdings g.S.Durable.durables g.S.Durable.records g.K.Keeper files_same g.met.S.Blocks.steady g.S.BlocksMut.applied
-    g.met.S.BlocksMut.settled g.met.S.Durable.enduring c.args.now old mid kept present c.args.command.now c.in-Ok.reply s o.loaded refl refl (o.sound s.sound unforged) (o.value (record { tree = present; shown = n }) s.sound unforged))
-
-pub returns-in-Ok-clause-configures : goal.returns-in-Ok-clause-configures
-returns-in-Ok-clause-configures g c may present s =
-    let old = c.args.self.now in
-    let mid : CoreOf g = record old { blobs = c.perform.new.blobs } in
-    let o = c.perform.ensures.outcome in
-    c.settle.ensures.configures may present
-    (configures_loaded ShowsFiles g.S.Blocks.meanings g.S.Blocks.holdings g.S.Durable.durables g.S.Durable.records g.K.Keeper g.S.BlocksMut.applied g.met.S.Durable.enduring old mid may present s o.loaded
-    (g.met.S.BlocksMut.settled old.blobs.tx.store c.perform.new.blobs.tx.store o.loaded) refl refl)
-
-pub returns-in-Ok-clause-stays : goal.returns-in-Ok-clause-stays
-returns-in-Ok-clause-stays g c undone =
-    let old = c.args.self.now.blobs.tx.store in
-    let mid = c.perform.new.blobs.tx.store in
-    stays_on g.S.Blocks.holdings old mid c.settle.new.self.blobs.tx.store (g.met.S.BlocksMut.settled old mid c.perform.ensures.outcome.loaded) (c.settle.ensures.stays undone)
-
-pub returns-in-Ok-clause-spent : goal.returns-in-Ok-clause-spent
-returns-in-Ok-clause-spent g c =
-    let old = c.args.self.now in
-    let mid = c.perform.new.blobs.tx.store in
-    let stays = g.met.S.BlocksMut.settled old.blobs.tx.store mid c.perform.ensures.outcome.loaded in
-    spent_on c.settle.result (SpentCause g.S.Blocks.holdings mid c.args.command.now) (SpentCause g.S.Blocks.holdings old.blobs.tx.store c.args.command.now)
-    (spent_before g.S.Blocks.holdings old.blobs.tx.store mid c.args.command.now stays) c.settle.ensures.spent
-
-pub returns-in-Err-clause-stands : goal.returns-in-Err-clause-stands
-returns-in-Err-clause-stands g c kept present s few =
-    let old = c.args.self.now in
-    let new : CoreOf g = record old { blobs = record { tx = c.abandon.new.self } } in
-    let o = c.perform.ensures.outcome in
-    let same = c.abandon.ensures.store in
-    let unforged : g.S.Blocks.meanings.forgeries c.perform.new.blobs.tx.store ≤ g.S.Blocks.meanings.forgeries old.blobs.tx.store = subst (λ x. g.S.Blocks.meanings.forgeries x ≤ g.S.Blocks.meanings.forgeries old.blobs.tx.store) same few in
-    subst (λ a. CorePerformed ShowsFiles g.S.Blocks.meanings g.S.Blocks.holdings g.S.Durable.durables g.S.Durable.records g.K.Keeper c.args.now new kept present c.args.command.now a) (sym c.fail_answer.ensures)
-    (performed_failed ShowsFiles g.S.Blocks.meanings g.S.Blocks.holdings g.S.Durable.durables g.S.Durable.records g.K.Keeper files_same g.met.S.Blocks.steady g.S.BlocksMut.applied
-    g.met.S.BlocksMut.settled g.met.S.Durable.enduring c.args.now old new kept present c.args.command.now c.in-Err.fail s (subst (λ x. g.S.Blocks.meanings.loaded old.blobs.tx.store x) (sym same) o.loaded) refl refl
-    (subst g.S.Blocks.meanings.sound (sym same) (o.sound s.sound unforged)))
-
-pub returns-in-Err-clause-alarm : goal.returns-in-Err-clause-alarm
-returns-in-Err-clause-alarm g c kept present s honest =
-    let old = c.args.self.now in
-    let n = shown_now ShowsFiles g.S.Blocks.meanings g.S.Blocks.holdings g.S.Durable.durables g.S.Durable.records g.K.Keeper files_same g.met.S.Blocks.steady g.S.BlocksMut.applied
-    g.met.S.BlocksMut.settled g.met.S.Durable.enduring old kept present s c.requires.ready.empty in
-    let few = subst (λ x. g.S.Blocks.meanings.lies x ≤ g.S.Blocks.meanings.lies old.blobs.tx.store) c.abandon.ensures.store honest in
-    subst (λ a. is_violation a ≡ false) (sym c.fail_answer.ensures) (calm c.in-Err.fail
-    (no_alarm (lawful_over (λ t. t.store) (λ t. t.overlay) g.S.Blocks.meanings g.S.Blocks.holdings g.met.S.Blocks.lawful) c.in-Err.ensures.outcome (record { tree = present; shown = n }) s.sound few))
-
-pub returns-in-Err-clause-built : goal.returns-in-Err-clause-built
-returns-in-Err-clause-built g c kept present s few =
-    let old = c.args.self.now in
-    let n = shown_now ShowsFiles g.S.Blocks.meanings g.S.Blocks.holdings g.S.Durable.durables g.S.Durable.records g.K.Keeper files_same g.met.S.Blocks.steady g.S.BlocksMut.applied
-    g.met.S.BlocksMut.settled g.met.S.Durable.enduring old kept present s c.requires.ready.empty in
-    let unforged = subst (λ x. g.S.Blocks.meanings.forgeries x ≤ g.S.Blocks.meanings.forgeries old.blobs.tx.store) c.abandon.ensures.store few in
-    subst (λ a. is_structure a ≡ false) (sym c.fail_answer.ensures) (of_blocks c.in-Err.fail (c.in-Err.ensures.outcome.structure (record { tree = present; shown = n }) s.sound unforged))
-
-pub returns-in-Err-clause-configures : goal.returns-in-Err-clause-configures
-returns-in-Err-clause-configures g c may present s =
-    let old = c.args.self.now in
-    let new : CoreOf g = record old { blobs = record { tx = c.abandon.new.self } } in
-    let loaded = subst (λ x. g.S.Blocks.meanings.loaded old.blobs.tx.store x) (sym c.abandon.ensures.store) c.perform.ensures.outcome.loaded in
-    configures_loaded ShowsFiles g.S.Blocks.meanings g.S.Blocks.holdings g.S.Durable.durables g.S.Durable.records g.K.Keeper g.S.BlocksMut.applied g.met.S.Durable.enduring old new may present s loaded
-    (g.met.S.BlocksMut.settled old.blobs.tx.store new.blobs.tx.store loaded) refl refl
-
-pub returns-in-Ok-clause-goes_on : goal.returns-in-Ok-clause-goes_on
-returns-in-Ok-clause-goes_on g c =
-    let trace = g.S.Durable.durables.trace in
-    goes_on_onward _ (trace c.perform.new.blobs.tx.store) _ ((g.met.S.Durable.enduring.loaded_goes_on c.args.self.now.blobs.tx.store c.perform.new.blobs.tx.store c.perform.ensures.outcome.loaded)) c.settle.ensures.goes_on
-
-pub returns-in-Err-clause-goes_on : goal.returns-in-Err-clause-goes_on
-returns-in-Err-clause-goes_on g c =
-    let trace = g.S.Durable.durables.trace in
-    subst (λ store. GoesOn (trace c.args.self.now.blobs.tx.store) (trace store)) (sym c.abandon.ensures.store)
-    ((g.met.S.Durable.enduring.loaded_goes_on c.args.self.now.blobs.tx.store c.perform.new.blobs.tx.store c.perform.ensures.outcome.loaded))
-
-pub returns-in-Ok-clause-raised : goal.returns-in-Ok-clause-raised
-returns-in-Ok-clause-raised g c =
-    let old = c.args.self.now.blobs.tx.store in
-    let mid = c.perform.new.blobs.tx.store in
-    raised_on g.S.Blocks.holdings old mid c.settle.new.self.blobs.tx.store (g.met.S.BlocksMut.settled old mid c.perform.ensures.outcome.loaded) c.settle.ensures.raised
-
-pub returns-in-Ok-clause-sparing : goal.returns-in-Ok-clause-sparing
-returns-in-Ok-clause-sparing g c kept present s few =
-    let H = g.S.Blocks.holdings in
-    let old = c.args.self.now in
-    let mid = c.perform.new.blobs.tx in
-    let new = c.settle.new.self.blobs.tx.store in
-    let unforged : g.S.Blocks.meanings.forgeries mid.store ≤ g.S.Blocks.meanings.forgeries old.blobs.tx.store = omega (arith, c.settle.ensures.forgeries, few) in
-    let n = shown_now ShowsFiles g.S.Blocks.meanings H g.S.Durable.durables g.S.Durable.records g.K.Keeper files_same g.met.S.Blocks.steady g.S.BlocksMut.applied
-    g.met.S.BlocksMut.settled g.met.S.Durable.enduring old kept present s c.requires.ready.empty in
-    on_inside (H.payload old.blobs.tx.store) present c.args.command.now (λ most. fin.len mid.overlay ≤ fin.len old.blobs.tx.overlay + most) (FewRaised H old.blobs.tx.store new)
-    (λ most count. few_on H old.blobs.tx.store mid.store new most (g.met.S.BlocksMut.settled old.blobs.tx.store mid.store c.perform.ensures.outcome.loaded)
-    (few_changed H mid.store new old.blobs.tx.overlay mid.overlay most c.requires.ready.empty count c.settle.ensures.rests))
-    (c.perform.ensures.sparing (record { tree = present; shown = n }) s.sound unforged)
-
-pub returns-in-Err-clause-raised : goal.returns-in-Err-clause-raised
-returns-in-Err-clause-raised g c =
-    let H = g.S.Blocks.holdings in
-    let old = c.args.self.now.blobs.tx.store in
-    let mid = c.perform.new.blobs.tx.store in
-    subst (Raised H old) (sym c.abandon.ensures.store) (raised_stays H old mid (g.met.S.BlocksMut.settled old mid c.perform.ensures.outcome.loaded))
-
-pub returns-in-Err-clause-sparing : goal.returns-in-Err-clause-sparing
-returns-in-Err-clause-sparing g c kept present s few =
-    let H = g.S.Blocks.holdings in
-    let old = c.args.self.now.blobs.tx.store in
-    let mid = c.perform.new.blobs.tx.store in
-    always_inside (H.payload old) present c.args.command.now (FewRaised H old c.abandon.new.self.store)
-    (λ most. subst (λ x. FewRaised H old x most) (sym c.abandon.ensures.store) (few_stays H old mid most (g.met.S.BlocksMut.settled old mid c.perform.ensures.outcome.loaded)))
-
-pub returns-in-Ok-clause-vault_quiet : goal.returns-in-Ok-clause-vault_quiet
-returns-in-Ok-clause-vault_quiet g c none = c.settle.ensures.faults ∙ c.in-Ok.ensures.outcome.quiet
-
-pub returns-in-Err-clause-vault_quiet : goal.returns-in-Err-clause-vault_quiet
-returns-in-Err-clause-vault_quiet g c none =
-    let faults = g.S.Blocks.meanings.faults in
-    ap faults c.abandon.ensures.store ∙ fail_directory c.in-Err.fail (faults c.perform.new.blobs.tx.store ≡ faults c.args.self.now.blobs.tx.store) c.in-Err.ensures.outcome.quiet
-    (subst (λ a. directory_faults a ≡ 0) c.fail_answer.ensures none)
-
-pub returns-in-Ok-clause-unforged : goal.returns-in-Ok-clause-unforged
-returns-in-Ok-clause-unforged g c sound honest =
+pub returns-in-Ok : goal.returns-in-Ok
+returns-in-Ok g c =
     let M = g.S.Blocks.meanings in
-    let old = c.args.self.now.blobs.tx.store in
-    let mid = c.perform.new.blobs.tx.store in
-    let few : M.lies mid ≤ M.lies old = omega (arith, c.settle.ensures.lies, honest) in
-    omega (arith, c.settle.ensures.forgeries, g.met.S.Blocks.lawful.honest_unforged old mid c.perform.ensures.outcome.loaded sound few)
+    let H = g.S.Blocks.holdings in
+    let D = g.S.Durable.durables in
+    let R = g.S.Durable.records in
+    let lawful = g.met.S.Blocks.lawful in
+    let endures = g.met.S.Durable.enduring in
+    let old = c.args.self.now in
+    let store = old.blobs.tx.store in
+    let command = c.args.command.now in
+    let mid : CoreOf g = record old { blobs = c.perform.new.blobs } in
+    let asked_of = mid.blobs.tx.store in
+    let new = c.settle.new.self.blobs.tx.store in
+    let answer = c.settle.result in
+    let o = c.in-Ok.ensures.outcome in
+    let z = c.settle.ensures in
+    let stays = g.met.S.BlocksMut.settled store asked_of o.loaded in
+    let each : (P : Answer → Type 0) → P (Replied c.in-Ok.reply) → P Memory → P Spent → P answer = settle_each answer c.in-Ok.reply z.answers in
+    let rose : RoseBy 0 (M.faults store) (M.faults new) = omega (arith, z.faults, lawful.faults_grow store asked_of o.loaded) in
+    let unforged : M.forgeries new ≤ M.forgeries store → M.forgeries asked_of ≤ M.forgeries store = λ few. omega (arith, z.forgeries, few) in
+    record {
+      ready = z.ready;
+      stands = λ kept present s few.
+          let shown = shown_now ShowsFiles M H D R g.K.Keeper files_same g.met.S.Blocks.steady g.S.BlocksMut.applied g.met.S.BlocksMut.settled endures old kept present s c.requires.ready.empty in
+          z.stands c.args.now kept present
+          (asked ShowsFiles M H D R g.K.Keeper files_same g.met.S.Blocks.steady g.S.BlocksMut.applied g.met.S.BlocksMut.settled endures c.args.now old mid kept present command c.in-Ok.reply s o.loaded refl refl (o.sound s.sound (unforged few)) (o.value (record { tree = present; shown = shown }) s.sound (unforged few)));
+      configures = λ may present s. z.configures may present (configures_loaded ShowsFiles M H D R g.K.Keeper g.S.BlocksMut.applied endures old mid may present s o.loaded stays refl refl);
+      stays = λ undone. stays_on H store asked_of new stays (z.stays undone);
+      keeper = z.keeper;
+      last = z.last;
+      saver = z.saver;
+      loads = only_asked M H D (is_done_answer answer) store asked_of new o.loaded (λ undone. lawful.onward store asked_of new o.loaded (z.loaded undone)) z.uncalled;
+      goes_on = goes_on_onward _ (D.trace asked_of) _ (endures.loaded_goes_on store asked_of o.loaded) z.goes_on;
+      sound = λ sound few. z.sound (o.sound sound (unforged few));
+      violated = z.violated;
+      root = z.root;
+      payload = z.payload ∙ stays.payload;
+      identity = z.identity ∙ endures.loaded_identity store asked_of o.loaded;
+      forgeries = omega (arith, z.forgeries, lawful.forgeries_grow store asked_of o.loaded);
+      lies = omega (arith, z.lies, lawful.lies_grow store asked_of o.loaded);
+      unforged = λ sound honest. omega (arith, z.forgeries, lawful.honest_unforged store asked_of o.loaded sound (omega (arith, z.lies, honest)));
+      alarm = λ kept present s honest. each (λ a. is_violation a ≡ false) refl refl refl;
+      built = λ kept present s few. each (λ a. is_structure a ≡ false) refl refl refl;
+      found = each (λ a. OnFound a (M.met store new)) tt tt tt;
+      vault_grows = omega (arith, z.faults, lawful.faults_grow store asked_of o.loaded);
+      vault_cause = each (λ a. RoseBy (directory_faults a) (M.faults store) (M.faults new)) rose rose rose;
+      vault_quiet = λ none. z.faults ∙ o.quiet;
+      keeper_cause = each (λ a. state_faults a ≡ 0) refl refl refl;
+      spent = spent_on answer (SpentCause H asked_of command) (SpentCause H store command) (spent_before H store asked_of command stays) z.spent;
+      raised = raised_on H store asked_of new stays z.raised;
+      sparing = λ kept present s few.
+          let shown = shown_now ShowsFiles M H D R g.K.Keeper files_same g.met.S.Blocks.steady g.S.BlocksMut.applied g.met.S.BlocksMut.settled endures old kept present s c.requires.ready.empty in
+          on_inside (H.payload store) present command (λ most. fin.len mid.blobs.tx.overlay ≤ fin.len old.blobs.tx.overlay + most) (FewRaised H store new)
+          (λ most count. few_on H store asked_of new most stays (few_changed H asked_of new old.blobs.tx.overlay mid.blobs.tx.overlay most c.requires.ready.empty count z.rests))
+          (c.perform.ensures.sparing (record { tree = present; shown = shown }) s.sound (unforged few));
+      variant = each (λ a. OnReply a (IsReplyTo command)) c.in-Ok.ensures.variant tt tt;
+      served = each (λ a. a ≡ Refused → ⊥) (λ is. cc) (λ is. cc) (λ is. cc);
+    }
 
-pub returns-in-Err-clause-unforged : goal.returns-in-Err-clause-unforged
-returns-in-Err-clause-unforged g c sound honest =
-    let old = c.args.self.now.blobs.tx.store in
-    let new = c.abandon.new.self.store in
-    g.met.S.Blocks.lawful.honest_unforged old new (subst (λ x. g.S.Blocks.meanings.loaded old x) (sym c.abandon.ensures.store) c.perform.ensures.outcome.loaded) sound honest
+pub returns-in-Err : goal.returns-in-Err
+returns-in-Err g c =
+    let M = g.S.Blocks.meanings in
+    let H = g.S.Blocks.holdings in
+    let D = g.S.Durable.durables in
+    let R = g.S.Durable.records in
+    let lawful = g.met.S.Blocks.lawful in
+    let endures = g.met.S.Durable.enduring in
+    let old = c.args.self.now in
+    let store = old.blobs.tx.store in
+    let command = c.args.command.now in
+    let new : CoreOf g = record old { blobs = record { tx = c.abandon.new.self } } in
+    let after = new.blobs.tx.store in
+    let e = c.abandon.ensures.store in
+    let fail = c.in-Err.fail in
+    let o = c.in-Err.ensures.outcome in
+    let loaded = subst (M.loaded store) (sym e) o.loaded in
+    let stays = g.met.S.BlocksMut.settled store after loaded in
+    let answer = c.fail_answer.ensures in
+    let each : (P : Answer → Type 0) → P Memory → P FaultDirectory → ((why : Why) → P (Violation why)) → P c.fail_answer.result = λ P memory fault violation. subst P (sym answer) (fail_each fail P memory fault violation) in
+    let unforged : M.forgeries after ≤ M.forgeries store → M.forgeries c.perform.new.blobs.tx.store ≤ M.forgeries store = subst (λ x. M.forgeries x ≤ M.forgeries store) e in
+    let sound : M.sound store → M.forgeries after ≤ M.forgeries store → M.sound after = λ sound few. subst M.sound (sym e) (o.sound sound (unforged few)) in
+    record {
+      ready = record {
+        intact = c.abandon.ensures.intact.0;
+        empty = c.abandon.ensures.overlay;
+        few = c.abandon.ensures.intact.1.few;
+        room = c.requires.ready.room;
+        can_mark = c.requires.ready.can_mark;
+        whole = whole_loaded ShowsFiles M H D R g.K.Keeper g.S.BlocksMut.applied endures old.saver store after loaded c.requires.ready.whole;
+      };
+      stands = λ kept present s few. subst (λ a. CorePerformed ShowsFiles M H D R g.K.Keeper c.args.now new kept present command a) (sym answer)
+          (performed_failed ShowsFiles M H D R g.K.Keeper files_same g.met.S.Blocks.steady g.S.BlocksMut.applied g.met.S.BlocksMut.settled endures c.args.now old new kept present command fail s loaded refl refl (sound s.sound few));
+      configures = λ may present s. configures_loaded ShowsFiles M H D R g.K.Keeper g.S.BlocksMut.applied endures old new may present s loaded stays refl refl;
+      stays = λ undone. stays;
+      keeper = refl;
+      last = refl;
+      saver = λ undone. refl;
+      loads = only_loaded M H D (is_done_answer c.fail_answer.result) store after loaded;
+      goes_on = endures.loaded_goes_on store after loaded;
+      sound = sound;
+      violated = refl;
+      root = refl;
+      payload = stays.payload;
+      identity = endures.loaded_identity store after loaded;
+      forgeries = lawful.forgeries_grow store after loaded;
+      lies = lawful.lies_grow store after loaded;
+      unforged = lawful.honest_unforged store after loaded;
+      alarm = λ kept present s honest.
+          let shown = shown_now ShowsFiles M H D R g.K.Keeper files_same g.met.S.Blocks.steady g.S.BlocksMut.applied g.met.S.BlocksMut.settled endures old kept present s c.requires.ready.empty in
+          subst (λ a. is_violation a ≡ false) (sym answer) (calm fail
+          (no_alarm (lawful_over (λ t. t.store) (λ t. t.overlay) M H lawful) o (record { tree = present; shown = shown }) s.sound (subst (λ x. M.lies x ≤ M.lies store) e honest)));
+      built = λ kept present s few.
+          let shown = shown_now ShowsFiles M H D R g.K.Keeper files_same g.met.S.Blocks.steady g.S.BlocksMut.applied g.met.S.BlocksMut.settled endures old kept present s c.requires.ready.empty in
+          subst (λ a. is_structure a ≡ false) (sym answer) (of_blocks fail (o.structure (record { tree = present; shown = shown }) s.sound (unforged few)));
+      found = subst (λ a. OnFound a (M.met store after)) (sym answer) (found_of fail (M.met store c.perform.new.blobs.tx.store) (M.met store after) (λ why. subst (λ x. M.met store x why) (sym e)) o.met);
+      vault_grows = lawful.faults_grow store after loaded;
+      vault_cause = subst (λ a. RoseBy (directory_faults a) (M.faults store) (M.faults after)) (sym answer)
+          (fail_directory_rose fail _ _ (lawful.faults_grow store after loaded) (subst (λ x. HasCause fail (M.faults store) (M.faults x)) (sym e) o.fault));
+      vault_quiet = λ none. ap M.faults e ∙ fail_directory fail (M.faults c.perform.new.blobs.tx.store ≡ M.faults store) o.quiet (subst (λ a. directory_faults a ≡ 0) answer none);
+      keeper_cause = each (λ a. state_faults a ≡ 0) refl refl (λ why. refl);
+      spent = each (λ a. OnSpent a (SpentCause H store command)) tt tt (λ why. tt);
+      raised = raised_stays H store after stays;
+      sparing = λ kept present s few. always_inside (H.payload store) present command (FewRaised H store after) (λ most. few_stays H store after most stays);
+      variant = each (λ a. OnReply a (IsReplyTo command)) tt tt (λ why. tt);
+      served = each (λ a. a ≡ Refused → ⊥) (λ is. cc) (λ is. cc) (λ why is. cc);
+    }

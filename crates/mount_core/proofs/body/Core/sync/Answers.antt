@@ -1,4 +1,4 @@
-use Rattle.std.proofs.Common.{◌≡◌, false, refl, sym, ◌∙◌, subst}
+use Rattle.std.proofs.Common.{◌≡◌, ℕ, List, false, refl, sym, ◌∙◌, subst}
 use Rattle.tree_commands.specs.Showing.{ShowsFiles}
 use Rattle.tree_commands.proofs.Shows.{files_same}
 use Rattle.mount_core.proofs.Lines.{map_ok}
@@ -19,7 +19,7 @@ returns-clause-configures g c may now s =
     let present = e.present now s.told s.present in
     config_synced ShowsFiles g.S.Blocks.meanings g.S.Blocks.holdings g.S.Durable.durables g.S.Durable.records g.K.Keeper c.args.self.now _ may now c.sync.result s e.stays.told present (e.waiting now s.present) (e.configures now s.told s.present)
     (map_ok c.sync.result _ _ (λ (u : c.sync.new.self.changed ≡ false). subst (λ r. g.S.Durable.records.configures r (g.S.Durable.durables.trace store) now)
-    (g.met.S.Durable.enduring.nothing_waits store (e.whole.none u) ∙ sym (e.whole.last u)) present) e.ok) e.last
+    (g.met.S.Durable.enduring.nothing_waits store (e.whole.none u) ∙ sym {A = List ℕ} (e.whole.last u)) present) e.ok) e.last
 
 pub returns-clause-holds : goal.returns-clause-holds
 returns-clause-holds g c bytes told k =
