@@ -1,72 +1,133 @@
-use Rattle.std.proofs.Common.{◌≡◌, length, refl, sym, ◌∙◌, ap, subst, rules}
-use Rattle.std.specs.FinMap as fin
-use Rattle.std.specs.declared.option.Option.TheVariants.{Some}
+use Rattle.std.proofs.Common.{◌≡◌, length, inl, refl, sym, ◌∙◌, ap, subst, arith, rules}
 use Rattle.data_nodes.specs.Layout.{IsPayloadLen}
 use Rattle.fs_model.specs.Tree.{empty_tree}
-use Rattle.store_api.specs.Durables.{Identity}
+use Rattle.outside.specs.Causes.{RoseBy}
+use Rattle.outside.specs.Going.{GoesOn, goes_on_equal}
+use Rattle.store_api.specs.Durables.{Identity, last_told}
 use Rattle.tree_commands.specs.Showing.{ShowsFiles}
 use Rattle.mount_core.proofs.Quiet.{unless_directory}
-use Rattle.mount_opening.proofs.NewBlock.{fits_one, root_raised, always_ok, on_ok, only_one, made, made_config, fine_ok}
+use Rattle.mount_opening.proofs.NewBlock.{fits_one, root_raised, always_ok, on_ok, only_one, made, made_config, fine_ok, no_directory, no_state}
 use Rattle.mount_opening.proofs.making.make.Goals as goal
 
-pub empty_root-requires : goal.empty_root-requires
-empty_root-requires g c =
+pub root_batch-requires : goal.root_batch-requires
+root_batch-requires g c =
     let b = c.put_config.new.self in
     let intact = c.put_config.ensures.intact in
     subst IsPayloadLen (sym c.payload.ensures) (g.met.S.Blocks.steady.at_least b intact, g.met.S.Blocks.steady.at_most b intact)
 
 pub apply-requires-clause-fits : goal.apply-requires-clause-fits
 apply-requires-clause-fits g c =
-    let root = c.args.root.0 in
-    let bytes = c.in-Ok-empty_root.payload.items in
-    fits_one g.S.Blocks.holdings c.args.store c.put_config.new.self c.put.new.self root bytes (c.in-Ok-put.ensures.ok ∙ ap (λ m. fin.insert m root (Some bytes)) c.new-batch.ensures)
-    (c.in-Ok-empty_root.ensures.sized ∙ c.payload.ensures) c.put_config.ensures.stays c.requires.free
+    let puts = c.in-Ok-root_batch.ensures in
+    fits_one g.S.Blocks.holdings c.args.store c.put_config.new.self c.in-Ok-root_batch.batch c.args.root.0 puts.bytes puts.one (puts.sized ∙ c.payload.ensures) c.put_config.ensures.stays c.requires.free
 
-pub returns-clause-stands : goal.returns-clause-stands
-returns-clause-stands g c sound unmarked =
+pub returns-in-Err : goal.returns-in-Err
+returns-in-Err g c =
+    let p = c.put_config.ensures in
+    let trace = g.S.Durable.durables.trace in
+    record {
+      stands = λ sound unmarked. inl (refl, λ name. ap (last_told name) p.trace);
+      configures = λ told. inl (refl, λ name. ap (last_told name) p.trace);
+      emptied = tt;
+      versions = tt;
+      intact = p.intact;
+      identity = p.identity;
+      goes_on = goes_on_equal (trace c.args.store) (trace c.put_config.new.self) p.trace;
+      vault_grows = omega (arith, p.faults);
+      vault_cause = λ is. absurd (no_directory is);
+      vault_quiet = p.faults;
+      keeper_grows = omega arith;
+      keeper_cause = λ is. absurd (no_state is);
+      keeper_quiet = refl;
+    }
+
+pub returns-in-Err-root_batch : goal.returns-in-Err-root_batch
+returns-in-Err-root_batch g c =
+    let p = c.put_config.ensures in
+    let trace = g.S.Durable.durables.trace in
+    record {
+      stands = λ sound unmarked. inl (refl, λ name. ap (last_told name) p.trace);
+      configures = λ told. inl (refl, λ name. ap (last_told name) p.trace);
+      emptied = tt;
+      versions = tt;
+      intact = p.intact;
+      identity = p.identity;
+      goes_on = goes_on_equal (trace c.args.store) (trace c.put_config.new.self) p.trace;
+      vault_grows = omega (arith, p.faults);
+      vault_cause = λ is. absurd (no_directory is);
+      vault_quiet = p.faults;
+      keeper_grows = omega arith;
+      keeper_cause = λ is. absurd (no_state is);
+      keeper_quiet = refl;
+    }
+
+pub returns-in-Err-apply : goal.returns-in-Err-apply
+returns-in-Err-apply g c =
+    let trace = g.S.Durable.durables.trace in
+    let endures = g.met.S.Durable.enduring in
+    let b = c.put_config.new.self in
+    let d = c.apply.new.self in
+    let p = c.put_config.ensures in
+    let z = c.apply.ensures in
+    let loaded = c.in-Err-apply.ensures.loaded in
+    let faults = z.faults ∙ p.faults in
+    record {
+      stands = λ sound unmarked. inl (refl, λ name. endures.loaded_last b d name loaded ∙ ap (last_told name) p.trace);
+      configures = λ told. inl (refl, λ name. endures.loaded_last b d name loaded ∙ ap (last_told name) p.trace);
+      emptied = tt;
+      versions = tt;
+      intact = z.intact;
+      identity = endures.loaded_identity b d loaded ∙ p.identity;
+      goes_on = subst (λ t. GoesOn t (trace d)) p.trace (endures.loaded_goes_on b d loaded);
+      vault_grows = omega (arith, faults);
+      vault_cause = λ is. absurd (no_directory is);
+      vault_quiet = faults;
+      keeper_grows = omega arith;
+      keeper_cause = λ is. absurd (no_state is);
+      keeper_quiet = refl;
+    }
+
+pub returns : goal.returns
+returns g c =
+    let M = g.S.Blocks.meanings in
+    let H = g.S.Blocks.holdings in
+    let D = g.S.Durable.durables in
+    let endures = g.met.S.Durable.enduring in
     let a = c.args.store in
     let b = c.put_config.new.self in
     let d = c.apply.new.self in
-    let p = c.put_config.ensures in
-    let changed = c.in-Ok-apply.ensures.changed in
-    let applied = c.in-Ok-apply.ensures.applied in
+    let last = c.sync-result.new.store in
+    let result = c.sync-result.result in
     let root = c.args.root.0 in
-    let bytes = c.in-Ok-empty_root.payload.items in
-    let told = g.met.S.Blocks.steady.sound_told a sound in
-    let e : c.put.new.self ≡ fin.insert fin.empty root (Some bytes) = c.in-Ok-put.ensures.ok ∙ ap (λ m. fin.insert m root (Some bytes)) c.new-batch.ensures in
-    let only = only_one (g.S.Blocks.holdings.content a) (g.S.Blocks.holdings.content b) (g.S.Blocks.holdings.content d) c.put.new.self root bytes e c.requires.none (p.stays.content told) (changed.content (p.stays.told ∙ told)) in
-    let wide : length root ≡ 16 = search rules in
-    let shown = subst (λ n. ShowsFiles n root (g.S.Blocks.holdings.content d) empty_tree) (c.payload.ensures ∙ p.stays.payload) (c.in-Ok-empty_root.ensures.shows root (g.S.Blocks.holdings.content d) wide only) in
-    let identity = g.met.S.Durable.enduring.applied_identity b d c.put.new.self applied ∙ p.identity in
-    let y = c.sync-result.ensures in
-    made (ShowsFiles (g.S.Blocks.holdings.payload a) root) g.S.Durable.durables g.S.Durable.records g.K.Keeper a c.sync-result.new.store _ c.sync-result.new.self d (g.S.Blocks.holdings.content d) c.sync-result.result
-    (g.met.S.Durable.enduring.applied_trace b d c.put.new.self applied ∙ p.trace) shown (λ f. y.whole.kept (fine_ok c.sync-result.result _ f y.ok))
-    (y.stands (g.S.Blocks.holdings.content d) (changed.sound (p.sound sound)) (ap (λ (i : Identity). i.marked) identity ∙ unmarked) (λ id. refl))
-
-pub returns-clause-configures : goal.returns-clause-configures
-returns-clause-configures g c told =
-    let b = c.put_config.new.self in
-    let d = c.apply.new.self in
+    let batch = c.in-Ok-root_batch.batch in
+    let puts = c.in-Ok-root_batch.ensures in
     let p = c.put_config.ensures in
-    let q = c.in-Ok.ensures in
     let z = c.apply.ensures in
+    let y = c.sync-result.ensures in
     let changed = c.in-Ok-apply.ensures.changed in
     let applied = c.in-Ok-apply.ensures.applied in
-    let present = g.met.S.Durable.enduring.applied_configures b d c.put.new.self c.args.config.items applied p.intact z.intact q.configures in
-    made_config (ShowsFiles (g.S.Blocks.holdings.payload c.args.store) c.args.root.0) g.S.Durable.durables g.S.Durable.records g.K.Keeper c.args.store c.sync-result.new.store _ c.sync-result.new.self d
-    c.args.config.items c.sync-result.result (g.met.S.Durable.enduring.applied_trace b d c.put.new.self applied ∙ p.trace)
-    (c.sync-result.ensures.configures c.args.config.items (changed.told ∙ (p.stays.told ∙ told)) present)
-
-pub returns-clause-vault_quiet : goal.returns-clause-vault_quiet
-returns-clause-vault_quiet g c = unless_directory c.sync-result.result _ _ (λ e. e ∙ (c.apply.ensures.faults ∙ c.put_config.ensures.faults)) c.sync-result.ensures.vault_quiet
-
-pub returns-clause-emptied : goal.returns-clause-emptied
-returns-clause-emptied g c = on_ok c.sync-result.result _ _ c.sync-result.ensures.whole.kept c.sync-result.ensures.ok
-
-pub returns-clause-versions : goal.returns-clause-versions
-returns-clause-versions g c =
-    let root = c.args.root.0 in
-    let bytes = c.in-Ok-empty_root.payload.items in
-    let e : c.put.new.self ≡ fin.insert fin.empty root (Some bytes) = c.in-Ok-put.ensures.ok ∙ ap (λ m. fin.insert m root (Some bytes)) c.new-batch.ensures in
-    always_ok c.sync-result.result _
-    (root_raised g.S.Blocks.meanings g.S.Blocks.holdings c.args.store c.put_config.new.self c.apply.new.self c.sync-result.new.store c.put.new.self root bytes e c.put_config.ensures.stays c.in-Ok-apply.ensures.changed c.sync-result.ensures.stays)
+    let identity = endures.applied_identity b d batch applied ∙ p.identity in
+    let trace = endures.applied_trace b d batch applied ∙ p.trace in
+    let faults = z.faults ∙ p.faults in
+    record {
+      stands = λ sound unmarked.
+          let told = g.met.S.Blocks.steady.sound_told a sound in
+          let only = only_one (H.content a) (H.content b) (H.content d) batch root puts.bytes puts.one c.requires.none (p.stays.content told) (changed.content (p.stays.told ∙ told)) in
+          let wide : length root ≡ 16 = search rules in
+          let shown = subst (λ n. ShowsFiles n root (H.content d) empty_tree) (c.payload.ensures ∙ p.stays.payload) (puts.shows (H.content d) wide only) in
+          made (ShowsFiles (H.payload a) root) D g.S.Durable.records g.K.Keeper a last _ c.sync-result.new.self d (H.content d) result trace shown (λ f. y.whole.kept (fine_ok result _ f y.ok))
+          (y.stands (H.content d) (changed.sound (p.sound sound)) (ap (λ (i : Identity). i.marked) identity ∙ unmarked) (λ id. refl));
+      configures = λ told.
+          made_config (ShowsFiles (H.payload a) root) D g.S.Durable.records g.K.Keeper a last _ c.sync-result.new.self d c.args.config.items result trace
+          (y.configures c.args.config.items (changed.told ∙ (p.stays.told ∙ told)) (endures.applied_configures b d batch c.args.config.items applied p.intact z.intact c.in-Ok.ensures.configures));
+      emptied = on_ok result _ _ y.whole.kept y.ok;
+      versions = always_ok result _ (root_raised M H a b d last batch root puts.bytes puts.one p.stays changed y.stays);
+      intact = y.intact;
+      identity = y.identity ∙ identity;
+      goes_on = subst (λ t. GoesOn t (D.trace last)) trace y.goes_on;
+      vault_grows = omega (arith, y.vault_grows, faults);
+      vault_cause = λ is. subst (λ n. RoseBy 1 n (M.faults last)) faults (y.vault_cause is);
+      vault_quiet = unless_directory result _ _ (λ e. e ∙ faults) y.vault_quiet;
+      keeper_grows = y.keeper_grows;
+      keeper_cause = y.keeper_cause;
+      keeper_quiet = y.keeper_quiet;
+    }

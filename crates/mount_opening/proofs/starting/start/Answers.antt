@@ -1,11 +1,16 @@
-use Rattle.std.proofs.Common.{◌≡◌, true, false, refl, sym, ◌∙◌, ap, subst}
-use Rattle.store_api.specs.Holdings.{Stays}
+use Rattle.std.proofs.Common.{◌≡◌, ◌<◌, true, false, length, inl, refl, sym, ◌∙◌, ap, subst, arith}
+use Rattle.std.specs.declared.option.Option.TheVariants.{Some}
+use Rattle.std.specs.declared.result.Result.TheVariants.{Err}
+use Rattle.outside.specs.Going.{goes_on_same}
+use Rattle.outside.specs.Writes.{after_writes}
+use Rattle.session_saver.specs.Saving.{RepresentsContent}
+use Rattle.store_api.specs.Durables.{mark_place, with_mark}
 use Rattle.tree_commands.specs.Showing.{ShowsFiles}
 use Rattle.tree_commands.proofs.Shows.{files_same}
 use Rattle.mount_core.specs.declared.body.Core.{Core}
 use Rattle.mount_core.proofs.Lines.{stays_same}
-use Rattle.session_saver.specs.declared.saver.Saver.{Saver}
-use Rattle.mount_opening.proofs.Beginning.{Written, written_at, begun}
+use Rattle.mount_core.proofs.Quiet.{unless_state}
+use Rattle.mount_opening.proofs.Beginning.{Written, written_at, begun, configured}
 use Rattle.mount_opening.proofs.starting.start.Given.{Over}
 use Rattle.mount_opening.proofs.starting.start.Goals as goal
 use Rattle.mount_opening.proofs.starting.start.Goals.{then-waits+in-Ok-write_waiting, else-waits}
@@ -13,55 +18,138 @@ use Rattle.mount_opening.proofs.starting.start.Goals.{then-waits+in-Ok-write_wai
 abbrev CoreOf : Over → Type 0
 CoreOf g = Core g.row.S.Denot g.row.K.Denot
 
-pub returns-clause-stands : goal.returns-clause-stands
-returns-clause-stands g c first sound unmarked shown =
+pub returns-in-Err-clause-halted : goal.returns-in-Err-clause-halted
+returns-in-Err-clause-halted g c =
+    let M = g.S.Blocks.meanings in
+    let H = g.S.Blocks.holdings in
+    let D = g.S.Durable.durables in
+    let endures = g.met.S.Durable.enduring in
+    let old = c.args.store in
+    let kept = c.prepare.ensures.kept ∙ c.requires.kept in
+    record {
+      identity = refl;
+      stands = λ now sound unmarked same. (D.local_record_of old true, kept, endures.stands_same _ _ _ (H.content old) now (λ id. sym (same id)) (endures.stands_now old c.requires.intact sound unmarked));
+      configures = λ bytes told h. (D.local_record_of old true, kept, h);
+      keeps = inl kept;
+      stops = inl refl;
+      goes_on = goes_on_same _;
+      forgeries = refl;
+      lies = refl;
+      vault_grows = omega arith;
+      keeper_grows = omega (arith, c.prepare.ensures.faults);
+      vault_quiet = refl;
+      keeper_quiet = c.prepare.ensures.faults;
+    }
+
+pub returns-in-Err-write_waiting-clause-halted : goal.returns-in-Err-write_waiting-clause-halted
+returns-in-Err-write_waiting-clause-halted g c =
+    let D = g.S.Durable.durables in
+    let z = c.write_waiting.ensures in
+    let f = c.in-Err-write_waiting.ensures in
+    record {
+      identity = z.identity;
+      stands = λ now sound unmarked same. subst (λ i. RepresentsContent g.S.Durable.records i (g.K.Keeper.kept c.write_waiting.new.self.keeper) (D.trace c.write_waiting.new.store) now) z.identity (z.stands now sound unmarked same);
+      configures = z.configures;
+      keeps = z.keeps;
+      stops = f.stops;
+      goes_on = z.goes_on;
+      forgeries = z.forgeries;
+      lies = z.lies;
+      vault_grows = z.vault_grows;
+      keeper_grows = omega (arith, z.keeper_grows, c.prepare.ensures.faults);
+      vault_quiet = f.vault_quiet;
+      keeper_quiet = unless_state (Err c.in-Err-write_waiting.error) _ _ (λ e. e ∙ c.prepare.ensures.faults) f.keeper_quiet;
+    }
+
+written : (g : Over) (c : goal.After-new g) → Written g.S.Blocks.meanings g.S.Blocks.holdings g.S.Durable.durables g.S.Durable.records g.K.Keeper c.args.store c.args.keeper c.if-waits.store c.if-waits.saver
+written g c =
     let M = g.S.Blocks.meanings in
     let H = g.S.Blocks.holdings in
     let D = g.S.Durable.durables in
     let R = g.S.Durable.records in
+    let endures = g.met.S.Durable.enduring in
     let old = c.args.store in
-    let w : Written M H D R g.K.Keeper old c.if-waits.store c.if-waits.saver = elim c.if-waits.branch [
+    elim c.if-waits.branch [
       | then-waits+in-Ok-write_waiting w ↦
           let z = w.write_waiting.ensures in
-          written_at M H D R g.K.Keeper old _ _ _ _ w.store-is w.saver-is
-          (record { stays = z.stays; sound = z.sound sound; identity = z.identity; represents = z.stands (H.content old) sound unmarked (λ id. refl) })
-      | else-waits w ↦
-          written_at M H D R g.K.Keeper old _ _ _ _ w.store-is w.saver-is
+          let f = w.in-Ok-write_waiting.ensures in
+          written_at M H D R g.K.Keeper old c.args.keeper _ _ _ _ w.store-is w.saver-is
           (record {
-            stays = stays_same H old old refl;
-            sound = sound;
-            identity = refl;
-            represents = (D.local_record_of old true, c.prepare.ensures.kept ∙ c.requires.kept, g.met.S.Durable.enduring.stands_now old c.requires.intact sound unmarked);
+            room = z.room;
+            can_mark = z.can_mark;
+            whole = z.whole;
+            unchanged = f.ok;
+            kept = z.whole.kept f.ok ∙ ap Some (sym (z.whole.last f.ok) ∙ f.last);
+            stays = z.stays;
+            sound = z.sound;
+            identity = z.identity;
+            represents = λ sound unmarked. z.stands (H.content old) sound unmarked (λ id. refl);
+            present = z.present;
+            writes = f.writes;
+            forgeries = z.forgeries;
+            lies = z.lies;
+            vault_quiet = f.vault_quiet;
+            keeper_quiet = f.keeper_quiet ∙ c.prepare.ensures.faults;
           })
-    ] in
-    let core : CoreOf g = record { blobs = record { tx = c.new.result }; saver = c.if-waits.saver; root = c.args.root; violated = false } in
-    begun M H D R g.K.Keeper ShowsFiles files_same old core first (g.met.S.Blocks.steady.sound_told old sound) unmarked shown
-    (subst (λ x. Written M H D R g.K.Keeper old x c.if-waits.saver) (sym c.new.ensures.store) w)
+      | else-waits w ↦
+          let none = c.requires.waits w.if-waits.false in
+          let short = endures.nothing_waits old none in
+          let kept = c.prepare.ensures.kept ∙ c.requires.kept in
+          written_at M H D R g.K.Keeper old c.args.keeper _ _ _ _ w.store-is w.saver-is
+          (record {
+            room = omega (arith, c.in-Ok.ensures.ok, c.len.ensures);
+            can_mark = record {
+              marks = subst (λ r. R.marked (with_mark r)) (sym c.requires.last) (endures.marked old true c.requires.intact);
+              long = subst (λ r. mark_place < length r) (sym c.requires.last) (endures.long old true c.requires.intact);
+            };
+            whole = record { kept = λ u. kept ∙ ap Some short; last = λ u. c.requires.last ∙ short; none = λ u. none };
+            unchanged = w.if-waits.false;
+            kept = kept ∙ ap Some short;
+            stays = stays_same H old old refl;
+            sound = λ sound. sound;
+            identity = refl;
+            represents = λ sound unmarked. (D.local_record_of old true, kept, endures.stands_now old c.requires.intact sound unmarked);
+            present = λ bytes told h. h;
+            writes = sym (ap (λ l. after_writes l (D.trace old)) none);
+            forgeries = refl;
+            lies = refl;
+            vault_quiet = refl;
+            keeper_quiet = c.prepare.ensures.faults;
+          })
+    ]
 
-pub returns-clause-vault_quiet : goal.returns-clause-vault_quiet
-returns-clause-vault_quiet g c =
-    let faults = g.S.Blocks.meanings.faults in
-    let same : faults c.if-waits.store ≡ faults c.args.store = elim c.if-waits.branch [
-      | then-waits+in-Ok-write_waiting w ↦ ap faults w.store-is ∙ w.in-Ok-write_waiting.ensures.vault_quiet
-      | else-waits w ↦ ap faults w.store-is
-    ] in
-    ap faults c.new.ensures.store ∙ same
-
-pub returns-clause-keeper_quiet : goal.returns-clause-keeper_quiet
-returns-clause-keeper_quiet g c =
-    let faults = g.K.Keeper.faults in
-    let same : faults c.if-waits.saver.keeper ≡ faults c.prepare.new.self = elim c.if-waits.branch [
-      | then-waits+in-Ok-write_waiting w ↦ ap (λ (s : Saver g.row.K.Denot). faults s.keeper) w.saver-is ∙ w.in-Ok-write_waiting.ensures.keeper_quiet
-      | else-waits w ↦ ap (λ (s : Saver g.row.K.Denot). faults s.keeper) w.saver-is
-    ] in
-    same ∙ c.prepare.ensures.faults
-
-pub returns-clause-stays : goal.returns-clause-stays
-returns-clause-stays g c =
+pub returns : goal.returns
+returns g c =
+    let M = g.S.Blocks.meanings in
     let H = g.S.Blocks.holdings in
+    let D = g.S.Durable.durables in
+    let R = g.S.Durable.records in
+    let endures = g.met.S.Durable.enduring in
     let old = c.args.store in
-    let stays : Stays H old c.if-waits.store = elim c.if-waits.branch [
-      | then-waits+in-Ok-write_waiting w ↦ subst (Stays H old) (sym w.store-is) w.write_waiting.ensures.stays
-      | else-waits w ↦ stays_same H old c.if-waits.store w.store-is
-    ] in
-    subst (Stays H old) (sym c.new.ensures.store) stays
+    let core : CoreOf g = record { blobs = record { tx = c.new.result }; saver = c.if-waits.saver; root = c.args.root; violated = false } in
+    let w = written_at M H D R g.K.Keeper old c.args.keeper c.if-waits.store core.blobs.tx.store core.saver core.saver c.new.ensures.store refl (written g c) in
+    record {
+      ready = record {
+        intact = c.new.ensures.intact.0;
+        empty = c.new.ensures.overlay;
+        few = c.new.ensures.intact.1.few;
+        room = w.room;
+        can_mark = w.can_mark;
+        whole = w.whole;
+      };
+      fresh = refl;
+      unchanged = w.unchanged;
+      root = refl;
+      identity = w.identity;
+      stands = λ first sound unmarked shown. begun M H D R g.K.Keeper ShowsFiles files_same old c.args.keeper core first (g.met.S.Blocks.steady.sound_told old sound) sound unmarked shown w;
+      configures = λ bytes told h. configured M H D R g.K.Keeper old c.args.keeper core bytes (endures.nothing_waits core.blobs.tx.store) told h w;
+      kept = w.kept;
+      stays = w.stays;
+      writes = w.writes;
+      forgeries = w.forgeries;
+      lies = w.lies;
+      vault_quiet = w.vault_quiet;
+      keeper_quiet = w.keeper_quiet;
+      halted = tt;
+      cause = tt;
+    }

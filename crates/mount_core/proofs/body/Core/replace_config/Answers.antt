@@ -1,4 +1,4 @@
-use Rattle.std.proofs.Common.{◌≡◌, true, inl, refl, sym, ◌∙◌, subst, arith}
+use Rattle.std.proofs.Common.{true, inl, refl, sym, ◌∙◌, subst, arith}
 use Rattle.outside.specs.Causes.{RoseBy}
 use Rattle.outside.specs.Going.{GoesOn, goes_on_equal}
 use Rattle.store_api.specs.Holdings.{IsFew}
