@@ -294,6 +294,10 @@ module _ {S : Type 0} {K : Type 0} (shows : Showing) (M : Meanings S) (H : Holdi
       (λ identity bytes content h. endures.loaded_stands old.blobs.tx.store new.blobs.tx.store identity bytes content loaded h) sound
       (law _ _ (H.content old.blobs.tx.store) (H.content new.blobs.tx.store) now (stays.content told) s.shown)
 
+  -- something changed
+  pub whole_changed : (saver : Saver K) (store : S) → saver.changed ≡ true → Whole D G saver store
+  whole_changed saver store e = record { kept = λ u. absurd (true_is_false (sym e ∙ u)); last = λ u. absurd (true_is_false (sym e ∙ u)); none = λ u. absurd (true_is_false (sym e ∙ u)) }
+
   pub whole_loaded : (applied : S → S → Changes → Type 0) → Enduring M H applied D R → (saver : Saver K) (a b : S) → M.loaded a b → Whole D G saver a → Whole D G saver b
   whole_loaded applied endures saver a b loaded w =
       let same = endures.loaded_records a b false loaded in

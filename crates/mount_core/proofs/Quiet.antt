@@ -29,6 +29,9 @@ unless_state (Err SyncState) P Q f h = tt
 
 -- ---- answers that name a fault
 
+pub ok_no_error : (e : SyncError) → IsErrOf {T = Unit} (Ok tt) e → ⊥
+ok_no_error e is = cc
+
 -- want of memory is none
 pub memory_directory : IsErrOf {T = Unit} (Err SyncMemory) SyncDirectory → ⊥
 memory_directory is = cc

@@ -18,7 +18,7 @@ use Rattle.mount_core.specs.Answers.{is_done_answer, OnSpent}
 use Rattle.mount_core.specs.Causes.{SpentCause}
 use Rattle.mount_core.specs.Standing.{Unapplied, CoreStands}
 use Rattle.mount_core.specs.declared.body.Core.{Core}
-use Rattle.mount_core.proofs.Lines.{apply_answers, apply_follows, apply_spent, apply_undone, change_done, configures_loaded, configures_on, error_next, looks_next, none_of, over_none, performed_same, spent_live, stands_loaded, stands_on, stays_same, true_is_false, whole_loaded}
+use Rattle.mount_core.proofs.Lines.{apply_answers, apply_follows, apply_spent, apply_undone, change_done, configures_loaded, configures_on, error_next, looks_next, none_of, over_none, performed_same, spent_live, stands_loaded, stands_on, stays_same, true_is_false, whole_changed, whole_loaded}
 use Rattle.mount_core.proofs.Versions.{raised_same, raised_stays}
 use Rattle.mount_core.proofs.body.Core.settle.Given.{Over}
 use Rattle.mount_core.proofs.body.Core.settle.Goals as goal
@@ -117,7 +117,7 @@ returns-in-Ok g c =
         few = z.intact.1.few;
         room = c.requires.room;
         can_mark = record { marks = c.requires.can_mark.marks; long = c.requires.can_mark.long };
-        whole = record { kept = λ u. absurd (true_is_false u); last = λ u. absurd (true_is_false u); none = λ u. absurd (true_is_false u) };
+        whole = whole_changed ShowsFiles M H D R g.K.Keeper new.saver new.blobs.tx.store refl;
       };
       stands = λ moment kept now a. record {
         next = a.steps.next;
