@@ -22,6 +22,7 @@ use Rattle.path_walks.specs.Listed.{InFolder}
 use Rattle.path_walks.specs.Changes.{Making}
 use Rattle.path_walks.proofs.Steps.{walk_free}
 use Rattle.path_layer.specs.Places.{Holding, Finding}
+use Rattle.path_layer.specs.Reaching.{IsRow}
 
 -- ---- spots
 
@@ -84,3 +85,12 @@ making m stands root t ids shows p dir is limits = record { map = m; stands = st
 -- a step at a path, by the parts of the path and what stands there
 pub on_path : (t : Tree) (f : Path → LookedUp → Stepped) (p q : Path) (s : LookedUp) → p ≡ q → look t q ≡ s → f p (look t p) ≡ f q s
 on_path t f p q s e h = ap (λ z. f z (look t z)) e ∙ ap (f q) h
+
+-- ---- rows
+
+abbrev pub row_finding : {S : Type 0} {H : BlobHoldings S} {a : S} {root : Id} (w : BlobsShow H a root) (b : S) → H.stands_for b w.map → {p : Path} {n : List ℕ} {dir place : Place} → IsRow w.tree w.ids p n dir place → Finding H b root dir n place
+row_finding w b stands {n = n} {dir = dir} {place = place} row = finding w b stands row.above n dir place row.is
+
+-- a step at the path of a row
+pub on_row : {t : Tree} {ids : Path → Id} (f : Path → LookedUp → Stepped) {p : Path} {n : List ℕ} {dir place : Place} (row : IsRow t ids p n dir place) → f p (look t p) ≡ f (n ∷ row.above) (Found row.is.here.row)
+on_row {t = t} f {p = p} {n = n} row = on_path t f p (n ∷ row.above) (Found row.is.here.row) row.split (look-found t (n ∷ row.above) row.is.here.row row.is.here.there)

@@ -1,4 +1,7 @@
 -- The form of a reply, by its command.
+use Rattle.std.specs.Prelude.{Result}
+use Rattle.std.specs.declared.result.Result.TheVariants.{Ok, Err}
+use Rattle.block_id.specs.declared.fail.Fail.{Fail}
 use Rattle.fs_model.specs.declared.command.Command.{Command}
 use Rattle.fs_model.specs.declared.command.Command.TheVariants as command
 use Rattle.fs_model.specs.declared.reply.Reply.{Reply}
@@ -45,3 +48,8 @@ IsReplyOf (command.Stat p) reply = IsStatReply reply
 IsReplyOf (command.Readlink p) reply = IsTarget reply
 IsReplyOf (command.Read p from count) reply = IsContent reply
 IsReplyOf _ reply = IsChangeReply reply
+
+-- the reply of a change that was made
+abbrev pub replied : {T : Type 0} → Result T Fail → Result Reply Fail
+replied (Ok x) = Ok Done
+replied (Err e) = Err e

@@ -10,12 +10,13 @@ ghost use Rattle.path_walks.specs.Changes.{IsChangeReply};
 ghost use Rattle.path_layer.specs.Attributes.{ChangeFits};
 ghost use Rattle.path_layer.specs.Places.{Finding};
 
-use crate::names::split_last;
+use crate::done::done;
+use crate::reaching::{Reached, reach};
 use blob_api::Blobs;
 use block_id::{BlockId, Fail};
 use dir_blob::Entry;
 use fs_model::{FsError, MAX_MODE, Moment, Name, Reply};
-use path_walks::{Place, Sight, look_at, set_entry};
+use path_walks::{Place, set_entry};
 use rand_core::Rng;
 use std::alloc::Global;
 use tree_rules::{AttrChange, changed};
@@ -36,15 +37,12 @@ pub fn set_attributes<B: Blobs, R: Rng>(
         (λ n r. Performed B.holdings b.new root.now.0 (unless_root n.tree (upward names.now) (attributes_set n.tree (upward names.now) (changed_by change now) (look n.tree (upward names.now)))) r) }
     ensures variant { IfOk result IsChangeReply }
 {
-    match split_last(names) {
-        None => Ok(Reply::Error(FsError::Busy)),
-        Some((name, dirs)) => match look_at(alloc, b, root, dirs, name)? {
-            Sight::Found(dir, place) => {
-                set_found(alloc, b, root, &dir, name, &place, change, now, chance)
-            }
-            Sight::Vacant(_) => Ok(Reply::Error(FsError::NoEntry)),
-            Sight::Lost(error) => Ok(Reply::Error(error)),
-        },
+    match reach(alloc, b, root, names, FsError::Busy) {
+        Ok(Reached::Row(dir, name, place)) => {
+            set_found(alloc, b, root, &dir, name, &place, change, now, chance)
+        }
+        Ok(Reached::Refused(error)) => Ok(Reply::Error(error)),
+        Err(fail) => Err(fail),
     }
 }
 
@@ -72,6 +70,5 @@ fn set_found<B: Blobs, R: Rng>(
         attr: changed(place.attr, change, now),
         blob: place.blob,
     };
-    set_entry(alloc, b, &dir.blob, &entry, chance)?;
-    Ok(Reply::Done)
+    done(set_entry(alloc, b, &dir.blob, &entry, chance))
 }

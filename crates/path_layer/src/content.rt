@@ -9,13 +9,15 @@ ghost use Rattle.path_walks.specs.Changes.{IsChangeReply, IsSparingTwice};
 ghost use Rattle.path_layer.specs.Places.{Finding};
 ghost use Rattle.path_layer.specs.Sparing.{IsSparingAt};
 
-use crate::names::split_last;
+use crate::done::done;
+use crate::places::content_refusal;
+use crate::reaching::{Reached, reach};
 use blob_api::Blobs;
 use block_id::{BlockId, Fail, Memory};
 use dir_blob::Entry;
 use fs_blobs::body_len;
-use fs_model::{Attr, FsError, Kind, MAX_MODE, Moment, Name, Reply};
-use path_walks::{Place, Sight, look_at, resize_at, write_at};
+use fs_model::{Attr, FsError, MAX_MODE, Moment, Name, Reply};
+use path_walks::{Place, resize_at, write_at};
 use rand_core::Rng;
 use std::alloc::Global;
 use tree_rules::is_too_long;
@@ -38,15 +40,12 @@ pub fn write<B: Blobs, R: Rng>(
         → IsSparingAt B.holdings b.old b.new n.tree (upward names.now) from (length bytes.now) }
     ensures variant { IfOk result IsChangeReply }
 {
-    match split_last(names) {
-        None => Ok(Reply::Error(FsError::IsDirectory)),
-        Some((name, dirs)) => match look_at(alloc, b, root, dirs, name)? {
-            Sight::Found(dir, place) => {
-                write_found(alloc, b, root, &dir, name, &place, from, bytes, now, chance)
-            }
-            Sight::Vacant(_) => Ok(Reply::Error(FsError::NoEntry)),
-            Sight::Lost(error) => Ok(Reply::Error(error)),
-        },
+    match reach(alloc, b, root, names, FsError::IsDirectory) {
+        Ok(Reached::Row(dir, name, place)) => {
+            write_found(alloc, b, root, &dir, name, &place, from, bytes, now, chance)
+        }
+        Ok(Reached::Refused(error)) => Ok(Reply::Error(error)),
+        Err(fail) => Err(fail),
     }
 }
 
@@ -71,10 +70,9 @@ fn write_found<B: Blobs, R: Rng>(
         → IsSparingTwice B.holdings b.old b.new (length n.is.here.row.bytes) (directory_size n.tree n.path) from (length bytes.now) }
     ensures variant { IfOk result IsChangeReply }
 {
-    match place.attr.kind {
-        Kind::Directory => return Ok(Reply::Error(FsError::IsDirectory)),
-        Kind::Link => return Ok(Reply::Error(FsError::Invalid)),
-        Kind::File => {}
+    match content_refusal(place.attr.kind) {
+        Some(refusal) => return Ok(Reply::Error(refusal)),
+        None => {}
     }
     if bytes.is_empty() {
         return Ok(Reply::Done);
@@ -85,8 +83,7 @@ fn write_found<B: Blobs, R: Rng>(
         return Ok(Reply::Error(FsError::TooLarge));
     }
     let entry = touched(name, place, now)?;
-    write_at(alloc, b, &dir.blob, &entry, from, bytes, chance)?;
-    Ok(Reply::Done)
+    done(write_at(alloc, b, &dir.blob, &entry, from, bytes, chance))
 }
 
 /// A file is cut to a length, or filled up with zeros.
@@ -104,15 +101,12 @@ pub fn truncate<B: Blobs, R: Rng>(
         (λ n r. Performed B.holdings b.new root.now.0 (truncated n.tree now (upward names.now) len (look n.tree (upward names.now))) r) }
     ensures variant { IfOk result IsChangeReply }
 {
-    match split_last(names) {
-        None => Ok(Reply::Error(FsError::IsDirectory)),
-        Some((name, dirs)) => match look_at(alloc, b, root, dirs, name)? {
-            Sight::Found(dir, place) => {
-                truncate_found(alloc, b, root, &dir, name, &place, len, now, chance)
-            }
-            Sight::Vacant(_) => Ok(Reply::Error(FsError::NoEntry)),
-            Sight::Lost(error) => Ok(Reply::Error(error)),
-        },
+    match reach(alloc, b, root, names, FsError::IsDirectory) {
+        Ok(Reached::Row(dir, name, place)) => {
+            truncate_found(alloc, b, root, &dir, name, &place, len, now, chance)
+        }
+        Ok(Reached::Refused(error)) => Ok(Reply::Error(error)),
+        Err(fail) => Err(fail),
     }
 }
 
@@ -134,18 +128,16 @@ fn truncate_found<B: Blobs, R: Rng>(
         (λ n r. Performed B.holdings b.new root.now.0 (truncated n.tree now (name.now ∷ n.path) len (Found n.is.here.row)) r) }
     ensures variant { IfOk result IsChangeReply }
 {
-    match place.attr.kind {
-        Kind::Directory => return Ok(Reply::Error(FsError::IsDirectory)),
-        Kind::Link => return Ok(Reply::Error(FsError::Invalid)),
-        Kind::File => {}
+    match content_refusal(place.attr.kind) {
+        Some(refusal) => return Ok(Reply::Error(refusal)),
+        None => {}
     }
     let size = body_len(alloc, b, &place.blob)?;
     if is_too_long(size, len) {
         return Ok(Reply::Error(FsError::TooLarge));
     }
     let entry = touched(name, place, now)?;
-    resize_at(alloc, b, &dir.blob, &entry, len, chance)?;
-    Ok(Reply::Done)
+    done(resize_at(alloc, b, &dir.blob, &entry, len, chance))
 }
 
 /// The entry of a row whose content changes now.

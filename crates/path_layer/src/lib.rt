@@ -4,11 +4,13 @@
 mod attributes;
 mod commands;
 mod content;
+mod done;
 mod empty;
 mod making;
 mod moving;
 mod names;
 mod places;
+mod reaching;
 mod reading;
 mod removing;
 

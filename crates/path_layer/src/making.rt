@@ -95,10 +95,11 @@ fn make<B: Blobs, R: Rng>(
 {
     match split_last(names) {
         None => Ok(Reply::Error(FsError::Exists)),
-        Some((name, dirs)) => match look_at(alloc, b, root, dirs, name)? {
-            Sight::Found(_, _) => Ok(Reply::Error(FsError::Exists)),
-            Sight::Vacant(dir) => make_in(alloc, b, &dir.blob, name, attr, bytes, chance),
-            Sight::Lost(error) => Ok(Reply::Error(error)),
+        Some((name, dirs)) => match look_at(alloc, b, root, dirs, name) {
+            Ok(Sight::Found(_, _)) => Ok(Reply::Error(FsError::Exists)),
+            Ok(Sight::Vacant(dir)) => make_in(alloc, b, &dir.blob, name, attr, bytes, chance),
+            Ok(Sight::Lost(error)) => Ok(Reply::Error(error)),
+            Err(fail) => Err(fail),
         },
     }
 }

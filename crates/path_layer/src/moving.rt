@@ -11,6 +11,7 @@ ghost use Rattle.path_layer.specs.Moves.{Onward, RefusesOnto};
 
 use crate::names::split_last;
 use crate::places::{has_child, is_directory};
+use crate::reaching::{Reached, reach};
 use blob_api::Blobs;
 use block_id::{BlockId, Fail};
 use fs_model::{FsError, MAX_MODE, Moment, Name, Reply};
@@ -37,19 +38,16 @@ pub fn move_row<B: Blobs, R: Rng>(
     if to.is_empty() {
         return Ok(Reply::Error(FsError::Busy));
     }
-    match split_last(from) {
-        None => Ok(Reply::Error(FsError::Busy)),
-        Some((name, dirs)) => match look_at(alloc, b, root, dirs, name)? {
-            Sight::Found(dir, place) => {
-                if is_above(from, to) {
-                    return Ok(Reply::Error(FsError::Invalid));
-                }
-                let same = same_names(from, to);
-                move_found(alloc, b, root, dir, name, place, to, same, now, chance)
+    match reach(alloc, b, root, from, FsError::Busy) {
+        Ok(Reached::Row(dir, name, place)) => {
+            if is_above(from, to) {
+                return Ok(Reply::Error(FsError::Invalid));
             }
-            Sight::Vacant(_) => Ok(Reply::Error(FsError::NoEntry)),
-            Sight::Lost(error) => Ok(Reply::Error(error)),
-        },
+            let same = same_names(from, to);
+            move_found(alloc, b, root, dir, name, place, to, same, now, chance)
+        }
+        Ok(Reached::Refused(error)) => Ok(Reply::Error(error)),
+        Err(fail) => Err(fail),
     }
 }
 
@@ -74,8 +72,8 @@ fn move_found<B: Blobs, R: Rng>(
 {
     match split_last(to_names) {
         None => Ok(Reply::Error(FsError::Busy)),
-        Some((to_name, to_dirs)) => match look_at(alloc, b, root, to_dirs, to_name)? {
-            Sight::Found(to, old) => {
+        Some((to_name, to_dirs)) => match look_at(alloc, b, root, to_dirs, to_name) {
+            Ok(Sight::Found(to, old)) => {
                 if same {
                     return Ok(Reply::Done);
                 }
@@ -84,8 +82,11 @@ fn move_found<B: Blobs, R: Rng>(
                     None => move_onto(alloc, b, now, dir, name, place, to, to_name, old, chance),
                 }
             }
-            Sight::Vacant(to) => move_free(alloc, b, now, dir, name, place, to, to_name, chance),
-            Sight::Lost(error) => Ok(Reply::Error(error)),
+            Ok(Sight::Vacant(to)) => {
+                move_free(alloc, b, now, dir, name, place, to, to_name, chance)
+            }
+            Ok(Sight::Lost(error)) => Ok(Reply::Error(error)),
+            Err(fail) => Err(fail),
         },
     }
 }

@@ -1,15 +1,16 @@
 // What the blob of a place has.
-ghost use Rattle.std.specs.Prelude.{◌≡◌, length, take, drop};
+ghost use Rattle.std.specs.Prelude.{◌≡◌, length, take, drop, MatchOption};
 ghost use Rattle.outcome.specs.Outcome.{Outcome};
-ghost use Rattle.fs_model.specs.Step.{has_child as model_has_child};
-ghost use Rattle.fs_model.specs.Tree.{is_directory as model_is_directory};
+ghost use Rattle.fs_model.specs.declared.attr.Kind.TheVariants.{File};
+ghost use Rattle.fs_model.specs.Step.{Stepped, refused, on_file, has_child as model_has_child};
+ghost use Rattle.fs_model.specs.Tree.{Tree, is_directory as model_is_directory};
 ghost use Rattle.path_walks.specs.Sights.{Standing};
 ghost use Rattle.path_layer.specs.Places.{Holding, DirectoryAt};
 
 use blob_api::Blobs;
 use block_id::Fail;
 use fs_blobs::{body_len, read_body};
-use fs_model::Kind;
+use fs_model::{FsError, Kind};
 use path_walks::Place;
 use std::alloc::Global;
 
@@ -51,6 +52,17 @@ pub fn has_child<B: Blobs>(alloc: Global, b: &mut B, place: &Place) -> Result<bo
     ensures unchanged { B.holdings.changed b.new ≡ B.holdings.changed b.old }
 {
     Ok(body_len(alloc, b, &place.blob)? > 0)
+}
+
+/// Why the content of a row isn't touched: a file's is.
+pub fn content_refusal(kind: Kind) -> Option<FsError>
+    ensures { MatchOption result (kind ≡ File) (λ e. (t : Tree) (s : Stepped) → on_file t kind s ≡ refused t e) }
+{
+    match kind {
+        Kind::Directory => Some(FsError::IsDirectory),
+        Kind::Link => Some(FsError::Invalid),
+        Kind::File => None,
+    }
 }
 
 /// A directory, and not a file or a link.

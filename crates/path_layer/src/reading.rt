@@ -7,7 +7,7 @@ ghost use Rattle.fs_model.specs.Step.{listed, told, target_read, content_read};
 ghost use Rattle.forest.specs.Showing.{BlobsShow, Performed};
 ghost use Rattle.path_layer.specs.Replies.{IsRows, IsStatReply, IsTarget, IsContent};
 
-use crate::places::{bytes_at, size_at};
+use crate::places::{bytes_at, content_refusal, size_at};
 use blob_api::Blobs;
 use block_id::{BlockId, Fail};
 use fs_model::{ByteText, FsError, Kind, MAX_READ, MAX_TARGET, Name, Reply};
@@ -27,13 +27,14 @@ pub fn list<B: Blobs>(
     ensures variant { IfOk result IsRows }
     ensures unchanged { B.holdings.changed b.new ≡ B.holdings.changed b.old }
 {
-    match walk(alloc, b, root, names)? {
-        Spot::Here(place) => match place.attr.kind {
+    match walk(alloc, b, root, names) {
+        Ok(Spot::Here(place)) => match place.attr.kind {
             Kind::Directory => list_in(alloc, b, &place.blob),
             Kind::File => Ok(Reply::Error(FsError::NotDirectory)),
             Kind::Link => Ok(Reply::Error(FsError::NotDirectory)),
         },
-        Spot::Wrong(error) => Ok(Reply::Error(error)),
+        Ok(Spot::Wrong(error)) => Ok(Reply::Error(error)),
+        Err(fail) => Err(fail),
     }
 }
 
@@ -50,12 +51,13 @@ pub fn stat<B: Blobs>(
     ensures variant { IfOk result IsStatReply }
     ensures unchanged { B.holdings.changed b.new ≡ B.holdings.changed b.old }
 {
-    match walk(alloc, b, root, names)? {
-        Spot::Here(place) => {
+    match walk(alloc, b, root, names) {
+        Ok(Spot::Here(place)) => {
             let size = size_at(alloc, b, &place)?;
             Ok(Reply::Info(place.attr, size))
         }
-        Spot::Wrong(error) => Ok(Reply::Error(error)),
+        Ok(Spot::Wrong(error)) => Ok(Reply::Error(error)),
+        Err(fail) => Err(fail),
     }
 }
 
@@ -72,8 +74,8 @@ pub fn read_link<B: Blobs>(
     ensures variant { IfOk result IsTarget }
     ensures unchanged { B.holdings.changed b.new ≡ B.holdings.changed b.old }
 {
-    match walk(alloc, b, root, names)? {
-        Spot::Here(place) => match place.attr.kind {
+    match walk(alloc, b, root, names) {
+        Ok(Spot::Here(place)) => match place.attr.kind {
             Kind::Directory => Ok(Reply::Error(FsError::NotLink)),
             Kind::File => Ok(Reply::Error(FsError::NotLink)),
             Kind::Link => {
@@ -81,7 +83,8 @@ pub fn read_link<B: Blobs>(
                 Ok(Reply::Target(ByteText::new(bytes)))
             }
         },
-        Spot::Wrong(error) => Ok(Reply::Error(error)),
+        Ok(Spot::Wrong(error)) => Ok(Reply::Error(error)),
+        Err(fail) => Err(fail),
     }
 }
 
@@ -100,11 +103,10 @@ pub fn read<B: Blobs>(
     ensures variant { IfOk result IsContent }
     ensures unchanged { B.holdings.changed b.new ≡ B.holdings.changed b.old }
 {
-    match walk(alloc, b, root, names)? {
-        Spot::Here(place) => match place.attr.kind {
-            Kind::Directory => Ok(Reply::Error(FsError::IsDirectory)),
-            Kind::Link => Ok(Reply::Error(FsError::Invalid)),
-            Kind::File => {
+    match walk(alloc, b, root, names) {
+        Ok(Spot::Here(place)) => match content_refusal(place.attr.kind) {
+            Some(refusal) => Ok(Reply::Error(refusal)),
+            None => {
                 if count > MAX_READ {
                     return Ok(Reply::Error(FsError::TooLarge));
                 }
@@ -112,6 +114,7 @@ pub fn read<B: Blobs>(
                 Ok(Reply::Content(ByteText::new(bytes)))
             }
         },
-        Spot::Wrong(error) => Ok(Reply::Error(error)),
+        Ok(Spot::Wrong(error)) => Ok(Reply::Error(error)),
+        Err(fail) => Err(fail),
     }
 }

@@ -8,12 +8,13 @@ ghost use Rattle.forest.specs.Showing.{BlobsShow, Performed};
 ghost use Rattle.path_walks.specs.Changes.{IsChangeReply};
 ghost use Rattle.path_layer.specs.Places.{Finding};
 
-use crate::names::split_last;
+use crate::done::done;
 use crate::places::{has_child, is_directory};
+use crate::reaching::{Reached, reach};
 use blob_api::Blobs;
 use block_id::{BlockId, Fail};
 use fs_model::{FsError, Kind, Name, Reply};
-use path_walks::{Place, Sight, drop_at, look_at};
+use path_walks::{Place, drop_at};
 use rand_core::Rng;
 use std::alloc::Global;
 
@@ -30,13 +31,12 @@ pub fn remove_directory<B: Blobs, R: Rng>(
         (λ n r. Performed B.holdings b.new root.now.0 (unless_root n.tree (upward names.now) (removed_directory n.tree (upward names.now) (look n.tree (upward names.now)))) r) }
     ensures variant { IfOk result IsChangeReply }
 {
-    match split_last(names) {
-        None => Ok(Reply::Error(FsError::Busy)),
-        Some((name, dirs)) => match look_at(alloc, b, root, dirs, name)? {
-            Sight::Found(dir, place) => drop_directory(alloc, b, root, &dir, name, &place, chance),
-            Sight::Vacant(_) => Ok(Reply::Error(FsError::NoEntry)),
-            Sight::Lost(error) => Ok(Reply::Error(error)),
-        },
+    match reach(alloc, b, root, names, FsError::Busy) {
+        Ok(Reached::Row(dir, name, place)) => {
+            drop_directory(alloc, b, root, &dir, name, &place, chance)
+        }
+        Ok(Reached::Refused(error)) => Ok(Reply::Error(error)),
+        Err(fail) => Err(fail),
     }
 }
 
@@ -60,8 +60,7 @@ fn drop_directory<B: Blobs, R: Rng>(
             if has_child(alloc, b, place)? {
                 return Ok(Reply::Error(FsError::NotEmpty));
             }
-            drop_at(alloc, b, &dir.blob, name, &place.blob, chance)?;
-            Ok(Reply::Done)
+            done(drop_at(alloc, b, &dir.blob, name, &place.blob, chance))
         }
         Kind::File => Ok(Reply::Error(FsError::NotDirectory)),
         Kind::Link => Ok(Reply::Error(FsError::NotDirectory)),
@@ -81,13 +80,12 @@ pub fn remove_file<B: Blobs, R: Rng>(
         (λ n r. Performed B.holdings b.new root.now.0 (unless_root n.tree (upward names.now) (removed_file n.tree (upward names.now) (look n.tree (upward names.now)))) r) }
     ensures variant { IfOk result IsChangeReply }
 {
-    match split_last(names) {
-        None => Ok(Reply::Error(FsError::Busy)),
-        Some((name, dirs)) => match look_at(alloc, b, root, dirs, name)? {
-            Sight::Found(dir, place) => drop_file(alloc, b, root, &dir, name, &place, chance),
-            Sight::Vacant(_) => Ok(Reply::Error(FsError::NoEntry)),
-            Sight::Lost(error) => Ok(Reply::Error(error)),
-        },
+    match reach(alloc, b, root, names, FsError::Busy) {
+        Ok(Reached::Row(dir, name, place)) => {
+            drop_file(alloc, b, root, &dir, name, &place, chance)
+        }
+        Ok(Reached::Refused(error)) => Ok(Reply::Error(error)),
+        Err(fail) => Err(fail),
     }
 }
 
@@ -109,6 +107,5 @@ fn drop_file<B: Blobs, R: Rng>(
     if is_directory(place.attr.kind) {
         return Ok(Reply::Error(FsError::IsDirectory));
     }
-    drop_at(alloc, b, &dir.blob, name, &place.blob, chance)?;
-    Ok(Reply::Done)
+    done(drop_at(alloc, b, &dir.blob, name, &place.blob, chance))
 }

@@ -2,17 +2,16 @@ use Rattle.std.proofs.Common.{◌≡◌, ◌≤◌, ◌+◌, Ok, true, false, le
 use Rattle.std.specs.FinMap.{insert}
 use Rattle.block_id.specs.declared.id.BlockId.{BlockId}
 use Rattle.std.proofs.lemmas.Result.{err_from_is_err_and}
-use Rattle.outcome.specs.Outcome.{Outcome, first_, then_, failed_, passed, answered, idle}
+use Rattle.outcome.specs.Outcome.{Outcome, first_, then_, passed, answered, idle}
 use Rattle.block_id.specs.Contents as bytes
 use Rattle.fs_model.specs.declared.attr.Attr.{Attr}
-use Rattle.fs_model.specs.declared.attr.Kind.TheVariants.{Directory, File, Link}
-use Rattle.fs_model.specs.declared.error.FsError.TheVariants.{IsDirectory, Invalid}
+use Rattle.fs_model.specs.declared.attr.Kind.TheVariants.{File}
 use Rattle.fs_model.specs.declared.limits.TheConstants.{MAX_MODE}
 use Rattle.fs_model.specs.declared.reply.Reply.TheVariants.{Done, Error}
 use Rattle.fs_model.specs.Tree.{is_directory}
 use Rattle.fs_model.specs.Step as model
 use Rattle.path_layer.specs.Places.{Finding}
-use Rattle.path_layer.proofs.Told.{stays, told_as}
+use Rattle.path_layer.proofs.Told.{stays, told_as, made}
 use Rattle.path_layer.proofs.Blobs.{blob_at, plain_body}
 use Rattle.path_layer.proofs.Found.{q, is_kind, is_folder_by, setting_by, set_done}
 use Rattle.fs_model.proofs.Lengths.{end_tests, end_fits}
@@ -25,33 +24,26 @@ pub write_at-requires-clause-mode : goal.write_at-requires-clause-mode
 write_at-requires-clause-mode g c = subst (λ (a : Attr). a.mode ≤ MAX_MODE) (sym c.in_ok-entry.ensures.attr) c.requires.mode
 
 pub write_at-requires-clause-file : goal.write_at-requires-clause-file
-write_at-requires-clause-file g c = ap (λ (a : Attr). a.kind) c.in_ok-entry.ensures.attr ∙ c.in-File.is
+write_at-requires-clause-file g c = ap (λ (a : Attr). a.kind) c.in_ok-entry.ensures.attr ∙ c.in-None.ensures
 
 pub write_at-requires-clause-fits : goal.write_at-requires-clause-fits
 write_at-requires-clause-fits g c =
     end_fits c.in_ok-size.size c.args.from (length c.args.bytes.now) c.saturating_add-end.result c.max.result c.saturating_add-end.ensures c.max.ensures (sym c.is_too_long.ensures ∙ c.if-is_too_long.false)
 
-pub returns-in-Directory-clause-outcome : goal.returns-in-Directory-clause-outcome
-returns-in-Directory-clause-outcome g c =
-    idle g.met.B.Blobs.lawful c.args.b.now (Error IsDirectory) c.requires.intact (λ w.
-    stays w.map w.tree w.ids w.shows c.args.b.now w.stands _ _ (write_by w.tree (q w) w.is.here.row c.args.now c.args.from c.args.bytes.now Directory (is_kind w Directory c.in-Directory.is)))
+pub returns-in-Some-clause-outcome : goal.returns-in-Some-clause-outcome
+returns-in-Some-clause-outcome g c =
+    idle g.met.B.Blobs.lawful c.args.b.now (Error c.in-Some.refusal) c.requires.intact (λ w.
+    stays w.map w.tree w.ids w.shows c.args.b.now w.stands _ _
+    (write_by w.tree (q w) w.is.here.row c.args.now c.args.from c.args.bytes.now c.args.place.now.attr.kind (is_kind w _ refl) ∙ c.in-Some.ensures w.tree _))
 
-pub returns-in-Directory-clause-sparing : goal.returns-in-Directory-clause-sparing
-returns-in-Directory-clause-sparing g c = λ w s f. unspent g.B.Blobs.holdings c.args.b.now c.args.b.now _ _ _ _ refl
-
-pub returns-in-Link-clause-outcome : goal.returns-in-Link-clause-outcome
-returns-in-Link-clause-outcome g c =
-    idle g.met.B.Blobs.lawful c.args.b.now (Error Invalid) c.requires.intact (λ w.
-    stays w.map w.tree w.ids w.shows c.args.b.now w.stands _ _ (write_by w.tree (q w) w.is.here.row c.args.now c.args.from c.args.bytes.now Link (is_kind w Link c.in-Link.is)))
-
-pub returns-in-Link-clause-sparing : goal.returns-in-Link-clause-sparing
-returns-in-Link-clause-sparing g c = λ w s f. unspent g.B.Blobs.holdings c.args.b.now c.args.b.now _ _ _ _ refl
+pub returns-in-Some-clause-sparing : goal.returns-in-Some-clause-sparing
+returns-in-Some-clause-sparing g c = λ w s f. unspent g.B.Blobs.holdings c.args.b.now c.args.b.now _ _ _ _ refl
 
 pub returns-then-is_empty-clause-outcome : goal.returns-then-is_empty-clause-outcome
 returns-then-is_empty-clause-outcome g c =
     idle g.met.B.Blobs.lawful c.args.b.now Done c.requires.intact (λ w.
     stays w.map w.tree w.ids w.shows c.args.b.now w.stands _ _
-    (write_by w.tree (q w) w.is.here.row c.args.now c.args.from c.args.bytes.now File (is_kind w File c.in-File.is)
+    (write_by w.tree (q w) w.is.here.row c.args.now c.args.from c.args.bytes.now File (is_kind w File c.in-None.ensures)
     ∙ write_empty w.tree (q w) w.is.here.row c.args.now c.args.from c.args.bytes.now true (sym c.is_empty.ensures ∙ c.if-is_empty.true)))
 
 pub returns-then-is_empty-clause-sparing : goal.returns-then-is_empty-clause-sparing
@@ -73,9 +65,9 @@ returns-then-is_too_long-clause-outcome g c =
     answered (first_ (λ w. blob_at w.shows (q w) w.is.here.row w.is.here.there w.stands c.args.place.now.blob.0 w.is.here.blob) c.in_ok-size.ensures.outcome (λ w y h. h))
     (λ w h.
     let old = w.is.here.row.bytes in
-    let size : c.in_ok-size.size ≡ length old = h.1 ∙ ap length (plain_body w.shows (q w) w.is.here.row w.is.here.there (is_folder_by w false (ap is_directory c.in-File.is))) in
+    let size : c.in_ok-size.size ≡ length old = h.1 ∙ ap length (plain_body w.shows (q w) w.is.here.row w.is.here.there (is_folder_by w false (ap is_directory c.in-None.ensures))) in
     stays w.map w.tree w.ids w.shows c.body_len.new.b h.0 _ _
-    (write_by w.tree (q w) w.is.here.row now from new File (is_kind w File c.in-File.is)
+    (write_by w.tree (q w) w.is.here.row now from new File (is_kind w File c.in-None.ensures)
     ∙ (write_empty w.tree (q w) w.is.here.row now from new false (sym c.is_empty.ensures ∙ c.if-is_empty.false)
     ∙ unless_long w.tree (q w) w.is.here.row (length old) (max (length old) (from + length new)) _ true
     (end_tests (length old) from (length new) c.saturating_add-end.result c.max.result c.saturating_add-end.ensures (c.max.ensures ∙ ap (max c.saturating_add-end.result) size)
@@ -86,40 +78,6 @@ returns-then-is_too_long-clause-sparing g c = λ w s f. unspent g.B.Blobs.holdin
 
 pub returns-in_err-entry-clause-sparing : goal.returns-in_err-entry-clause-sparing
 returns-in_err-entry-clause-sparing g c = λ w s f. unspent g.B.Blobs.holdings c.args.b.now c.body_len.new.b _ _ _ _ c.body_len.ensures.unchanged
-
-pub returns-in_err-write_at-clause-outcome : goal.returns-in_err-write_at-clause-outcome
-returns-in_err-write_at-clause-outcome g c =
-    let H = g.B.Blobs.holdings in
-    let now = c.args.now in
-    let from = c.args.from in
-    let new = c.args.bytes.now in
-    let o : Outcome g.B.Blobs.meanings (Finding H c.args.b.now c.args.root.now.0 c.args.dir.now c.args.name.now c.args.place.now) c.args.b.now c.body_len.new.b (Ok c.in_ok-size.size)
-    (λ w y. H.stands_for c.body_len.new.b w.map × (model.is_too_long (length w.is.here.row.bytes) (max (length w.is.here.row.bytes) (from + length new)) ≡ false)) =
-    answered (first_ (λ w. blob_at w.shows (q w) w.is.here.row w.is.here.there w.stands c.args.place.now.blob.0 w.is.here.blob) c.in_ok-size.ensures.outcome (λ w y h. h))
-    (λ w h.
-    let old = w.is.here.row.bytes in
-    let size : c.in_ok-size.size ≡ length old = h.1 ∙ ap length (plain_body w.shows (q w) w.is.here.row w.is.here.there (is_folder_by w false (ap is_directory c.in-File.is))) in (
-      h.0,
-      end_tests (length old) from (length new) c.saturating_add-end.result c.max.result c.saturating_add-end.ensures (c.max.ensures ∙ ap (max c.saturating_add-end.result) size)
-          ∙ (ap (λ z. model.is_too_long z c.max.result) (sym size) ∙ (sym c.is_too_long.ensures ∙ c.if-is_too_long.false)),
-    )) in
-    let e = err_from_is_err_and c.from_residual-in_err-write_at.result c.from_residual-in_err-write_at.ensures.1 in
-    rw (e.1, e.2) (failed_ g.met.B.Blobs.lawful o (λ w h. setting_by w c.body_len.new.b h.0 c.in_ok-entry.entry.name (sym c.in_ok-entry.ensures.name) c.in_ok-entry.entry.attr (ap (λ (a : Attr). a.kind) (sym c.in_ok-entry.ensures.attr)) (subst (λ (a : Attr). a.mode ≤ MAX_MODE) (sym c.in_ok-entry.ensures.attr) c.requires.mode)
-    c.in_ok-entry.entry.blob.0 (ap (λ (z : BlockId). z.0) (sym c.in_ok-entry.ensures.blob))) c.in_err-write_at.ensures.outcome)
-
-pub returns-in_err-write_at-clause-sparing : goal.returns-in_err-write_at-clause-sparing
-returns-in_err-write_at-clause-sparing g c = λ w s f.
-    let M = g.B.Blobs.meanings in
-    let laws = g.met.B.Blobs.lawful in
-    let look = c.in_ok-size.ensures in
-    let early = laws.forgeries_grow c.args.b.now c.body_len.new.b look.outcome.loaded in
-    let late = laws.forgeries_grow c.body_len.new.b c.write_at.new.b c.write_at.ensures.outcome.loaded in
-    let one : M.forgeries c.body_len.new.b ≤ M.forgeries c.args.b.now = omega (arith, early, late, f) in
-    let two : M.forgeries c.write_at.new.b ≤ M.forgeries c.body_len.new.b = omega (arith, early, late, f) in
-    let h = look.outcome.value (blob_at w.shows (q w) w.is.here.row w.is.here.there w.stands c.args.place.now.blob.0 w.is.here.blob) s one in
-    onward g.met.B.Blobs.steady c.args.b.now c.body_len.new.b c.write_at.new.b look.outcome.loaded look.unchanged _ _ _ _ _ _ refl refl
-    (c.write_at.ensures.sparing (setting_by w c.body_len.new.b h.0 c.in_ok-entry.entry.name (sym c.in_ok-entry.ensures.name) c.in_ok-entry.entry.attr (ap (λ (a : Attr). a.kind) (sym c.in_ok-entry.ensures.attr)) (subst (λ (a : Attr). a.mode ≤ MAX_MODE) (sym c.in_ok-entry.ensures.attr) c.requires.mode)
-    c.in_ok-entry.entry.blob.0 (ap (λ (z : BlockId). z.0) (sym c.in_ok-entry.ensures.blob))) (look.outcome.sound s one) two)
 
 pub returns-clause-outcome : goal.returns-clause-outcome
 returns-clause-outcome g c =
@@ -132,22 +90,22 @@ returns-clause-outcome g c =
     answered (first_ (λ w. blob_at w.shows (q w) w.is.here.row w.is.here.there w.stands c.args.place.now.blob.0 w.is.here.blob) c.in_ok-size.ensures.outcome (λ w y h. h))
     (λ w h.
     let old = w.is.here.row.bytes in
-    let size : c.in_ok-size.size ≡ length old = h.1 ∙ ap length (plain_body w.shows (q w) w.is.here.row w.is.here.there (is_folder_by w false (ap is_directory c.in-File.is))) in (
+    let size : c.in_ok-size.size ≡ length old = h.1 ∙ ap length (plain_body w.shows (q w) w.is.here.row w.is.here.there (is_folder_by w false (ap is_directory c.in-None.ensures))) in (
       h.0,
       end_tests (length old) from (length new) c.saturating_add-end.result c.max.result c.saturating_add-end.ensures (c.max.ensures ∙ ap (max c.saturating_add-end.result) size)
           ∙ (ap (λ z. model.is_too_long z c.max.result) (sym size) ∙ (sym c.is_too_long.ensures ∙ c.if-is_too_long.false)),
     )) in
-    answered (then_ g.met.B.Blobs.lawful o (λ w h. setting_by w c.body_len.new.b h.0 c.in_ok-entry.entry.name (sym c.in_ok-entry.ensures.name) c.in_ok-entry.entry.attr (ap (λ (a : Attr). a.kind) (sym c.in_ok-entry.ensures.attr)) (subst (λ (a : Attr). a.mode ≤ MAX_MODE) (sym c.in_ok-entry.ensures.attr) c.requires.mode)
-    c.in_ok-entry.entry.blob.0 (ap (λ (z : BlockId). z.0) (sym c.in_ok-entry.ensures.blob))) c.in_ok-write_at.ensures.outcome
+    made c.done.ensures.is (then_ g.met.B.Blobs.lawful o (λ w h. setting_by w c.body_len.new.b h.0 c.in_ok-entry.entry.name (sym c.in_ok-entry.ensures.name) c.in_ok-entry.entry.attr (ap (λ (a : Attr). a.kind) (sym c.in_ok-entry.ensures.attr)) (subst (λ (a : Attr). a.mode ≤ MAX_MODE) (sym c.in_ok-entry.ensures.attr) c.requires.mode)
+    c.in_ok-entry.entry.blob.0 (ap (λ (z : BlockId). z.0) (sym c.in_ok-entry.ensures.blob))) c.write_at.ensures.outcome
     (λ w h y r.
     let row = w.is.here.row in
     told_as _ _ Done
-    (write_by w.tree (q w) row now from new File (is_kind w File c.in-File.is)
+    (write_by w.tree (q w) row now from new File (is_kind w File c.in-None.ensures)
     ∙ (write_empty w.tree (q w) row now from new false (sym c.is_empty.ensures ∙ c.if-is_empty.false)
     ∙ (unless_long w.tree (q w) row (length row.bytes) (max (length row.bytes) (from + length new)) _ false h.1
     ∙ ap (λ z. model.done (insert w.tree (q w) (model.with_content row now z))) (sym (written_some row.bytes from new (sym c.is_empty.ensures ∙ c.if-is_empty.false))))))
     (set_done w c.in_ok-entry.entry.name (sym c.in_ok-entry.ensures.name) c.in_ok-entry.entry.attr (touched now row.attr) (c.in_ok-entry.ensures.attr ∙ ap (touched now) (sym w.is.here.attr)) (bytes.written row.bytes from new) c.write_at.new.b r)))
-    (λ w h. h)
+    (λ w y h. h)
 
 pub returns-clause-sparing : goal.returns-clause-sparing
 returns-clause-sparing g c = λ w s f.

@@ -15,30 +15,30 @@ use Rattle.path_layer.proofs.reading.list.Goals as goal
 pub returns-in-Directory-clause-outcome : goal.returns-in-Directory-clause-outcome
 returns-in-Directory-clause-outcome g c =
     let p = upward c.args.names.now in
-    then_ g.met.B.Blobs.lawful c.in_ok-place.ensures.outcome
-    (λ n h. in_folder n c.walk.new.b h.0 p c.in-Here.place (here n.tree n.ids p c.in_ok-place.field-0 h.1 c.in-Here.place c.in-Here.is) c.in-Directory.is)
+    then_ g.met.B.Blobs.lawful c.in-Ok-Here.ensures.outcome
+    (λ n h. in_folder n c.walk.new.b h.0 p c.in-Ok-Here.place (here n.tree n.ids p c.in-Ok-Here.field-0 h.1 c.in-Ok-Here.place c.in-Ok-Here.field-0-is) c.in-Directory.is)
     c.list_in.ensures.outcome
     (λ n h y k. looked n c.list_in.new.b k.0 (listed n.tree p (look n.tree p)) y
-    (k.1 ∙ ap (λ s. (listed n.tree p s).reply) (sym (look-found n.tree p _ (here n.tree n.ids p c.in_ok-place.field-0 h.1 c.in-Here.place c.in-Here.is).there)))
+    (k.1 ∙ ap (λ s. (listed n.tree p s).reply) (sym (look-found n.tree p _ (here n.tree n.ids p c.in-Ok-Here.field-0 h.1 c.in-Ok-Here.place c.in-Ok-Here.field-0-is).there)))
     (listed_stays n.tree p (look n.tree p)))
 
 pub returns-in-File-clause-outcome : goal.returns-in-File-clause-outcome
 returns-in-File-clause-outcome g c =
     let p = upward c.args.names.now in
-    answered c.in_ok-place.ensures.outcome (λ n h.
-    let at = here n.tree n.ids p c.in_ok-place.field-0 h.1 c.in-Here.place c.in-Here.is in
+    answered c.in-Ok-Here.ensures.outcome (λ n h.
+    let at = here n.tree n.ids p c.in-Ok-Here.field-0 h.1 c.in-Ok-Here.place c.in-Ok-Here.field-0-is in
     stays n.map n.tree n.ids n.shows c.walk.new.b h.0 _ _ (list_refused n.tree p at.row (look-found n.tree p at.row at.there) (ap (λ (a : Attr). is_directory a.kind) at.attr ∙ ap is_directory c.in-File.is)))
 
 pub returns-in-Link-clause-outcome : goal.returns-in-Link-clause-outcome
 returns-in-Link-clause-outcome g c =
     let p = upward c.args.names.now in
-    answered c.in_ok-place.ensures.outcome (λ n h.
-    let at = here n.tree n.ids p c.in_ok-place.field-0 h.1 c.in-Here.place c.in-Here.is in
+    answered c.in-Ok-Here.ensures.outcome (λ n h.
+    let at = here n.tree n.ids p c.in-Ok-Here.field-0 h.1 c.in-Ok-Here.place c.in-Ok-Here.field-0-is in
     stays n.map n.tree n.ids n.shows c.walk.new.b h.0 _ _ (list_refused n.tree p at.row (look-found n.tree p at.row at.there) (ap (λ (a : Attr). is_directory a.kind) at.attr ∙ ap is_directory c.in-Link.is)))
 
-pub returns-in-Wrong-clause-outcome : goal.returns-in-Wrong-clause-outcome
-returns-in-Wrong-clause-outcome g c =
+pub returns-in-Ok-Wrong-clause-outcome : goal.returns-in-Ok-Wrong-clause-outcome
+returns-in-Ok-Wrong-clause-outcome g c =
     let p = upward c.args.names.now in
-    answered c.in_ok-place.ensures.outcome (λ n h.
+    answered c.in-Ok-Wrong.ensures.outcome (λ n h.
     stays n.map n.tree n.ids n.shows c.walk.new.b h.0 _ _
-    (wrong_steps n.tree n.shows.well_formed.rooted p c.in-Wrong.error (wrong_here n.tree n.ids p c.in_ok-place.field-0 h.1 c.in-Wrong.error c.in-Wrong.is) (listed n.tree p) refl (λ x. refl)))
+    (wrong_steps n.tree n.shows.well_formed.rooted p c.in-Ok-Wrong.error (wrong_here n.tree n.ids p c.in-Ok-Wrong.field-0 h.1 c.in-Ok-Wrong.error c.in-Ok-Wrong.field-0-is) (listed n.tree p) refl (λ x. refl)))

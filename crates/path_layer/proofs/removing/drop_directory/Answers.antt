@@ -1,13 +1,13 @@
 use Rattle.std.proofs.Common.{◌≡◌, Ok, true, false, cond, sym, ◌∙◌, ap}
 use Rattle.std.specs.FinMap.{remove}
 use Rattle.std.proofs.lemmas.Result.{err_from_is_err_and}
-use Rattle.outcome.specs.Outcome.{Outcome, first_, then_, failed_, passed, answered, idle}
+use Rattle.outcome.specs.Outcome.{Outcome, first_, then_, passed, answered, idle}
 use Rattle.fs_model.specs.declared.error.FsError.TheVariants.{NotDirectory, NotEmpty}
 use Rattle.fs_model.specs.declared.reply.Reply.TheVariants.{Done, Error}
 use Rattle.fs_model.specs.Tree.{is_directory}
 use Rattle.fs_model.specs.Step as model
 use Rattle.path_layer.specs.Places.{Finding}
-use Rattle.path_layer.proofs.Told.{stays, told_as, shown_done}
+use Rattle.path_layer.proofs.Told.{stays, told_as, shown_done, made}
 use Rattle.path_layer.proofs.Found.{q, folder, is_folder_by, dropping, childless}
 use Rattle.path_layer.proofs.Steps.{folder_by, folder_refused}
 use Rattle.path_layer.proofs.removing.drop_directory.Goals as goal
@@ -24,27 +24,18 @@ returns-then-branch-clause-outcome g c =
     (folder_by w.tree (q w) w.is.here.row (is_folder_by w true (ap is_directory c.in-Directory.is))
     ∙ ap (λ b. cond b (model.refused w.tree NotEmpty) (model.done (remove w.tree (q w)))) (sym h.1 ∙ c.if-branch.true)))
 
-pub returns-in_err-drop_at-in-Directory-clause-outcome : goal.returns-in_err-drop_at-in-Directory-clause-outcome
-returns-in_err-drop_at-in-Directory-clause-outcome g c =
-    let H = g.B.Blobs.holdings in
-    let e = err_from_is_err_and c.from_residual-in_err-drop_at-in-Directory.result c.from_residual-in_err-drop_at-in-Directory.ensures.1 in
-    let o : Outcome g.B.Blobs.meanings (Finding H c.args.b.now c.args.root.now.0 c.args.dir.now c.args.name.now c.args.place.now) c.args.b.now c.has_child.new.b (Ok c.in_ok-has_child-in-Directory.field-0)
-    (λ w y. H.stands_for c.has_child.new.b w.map × (model.has_child w.tree (q w) ≡ false)) =
-    answered (first_ (λ w. folder w c.in-Directory.is) c.in_ok-has_child-in-Directory.ensures.outcome (λ w y h. h)) (λ w h. (h.0, sym h.1 ∙ c.if-branch.false)) in
-    rw (e.1, e.2) (failed_ g.met.B.Blobs.lawful o (λ w h. dropping w c.has_child.new.b h.0 (childless w.tree (q w) h.1)) c.in_err-drop_at-in-Directory.ensures)
-
-pub returns-in_ok-drop_at-in-Directory-clause-outcome : goal.returns-in_ok-drop_at-in-Directory-clause-outcome
-returns-in_ok-drop_at-in-Directory-clause-outcome g c =
+pub returns-else-branch-clause-outcome : goal.returns-else-branch-clause-outcome
+returns-else-branch-clause-outcome g c =
     let H = g.B.Blobs.holdings in
     let o : Outcome g.B.Blobs.meanings (Finding H c.args.b.now c.args.root.now.0 c.args.dir.now c.args.name.now c.args.place.now) c.args.b.now c.has_child.new.b (Ok c.in_ok-has_child-in-Directory.field-0)
     (λ w y. H.stands_for c.has_child.new.b w.map × (model.has_child w.tree (q w) ≡ false)) =
     answered (first_ (λ w. folder w c.in-Directory.is) c.in_ok-has_child-in-Directory.ensures.outcome (λ w y h. h)) (λ w h. (h.0, sym h.1 ∙ c.if-branch.false)) in
-    answered (then_ g.met.B.Blobs.lawful o (λ w h. dropping w c.has_child.new.b h.0 (childless w.tree (q w) h.1)) c.in_ok-drop_at-in-Directory.ensures
+    made c.done.ensures.is (then_ g.met.B.Blobs.lawful o (λ w h. dropping w c.has_child.new.b h.0 (childless w.tree (q w) h.1)) c.drop_at.ensures
     (λ w h y r. told_as _ _ Done
     (folder_by w.tree (q w) w.is.here.row (is_folder_by w true (ap is_directory c.in-Directory.is))
     ∙ ap (λ b. cond b (model.refused w.tree NotEmpty) (model.done (remove w.tree (q w)))) h.1)
     (shown_done (remove w.tree (q w)) w.ids r)))
-    (λ w h. h)
+    (λ w y h. h)
 
 pub returns-in-File-clause-outcome : goal.returns-in-File-clause-outcome
 returns-in-File-clause-outcome g c =

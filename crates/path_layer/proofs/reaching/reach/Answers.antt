@@ -1,0 +1,42 @@
+use Rattle.std.proofs.Common.{[], ◌∷◌, ◌∙◌}
+use Rattle.outcome.specs.Outcome.{answered, idle}
+use Rattle.fs_model.specs.Tree.{upward, root_row}
+use Rattle.fs_model.specs.LookUp.{Found, Bad, Free}
+use Rattle.fs_model.proofs.LookUpLemmas.{look-found}
+use Rattle.path_layer.specs.declared.reaching.Reached.TheVariants.{Refused}
+use Rattle.path_layer.proofs.Seeing.{found, vacant, lost, look_free, look_lost, on_path}
+use Rattle.path_layer.proofs.reaching.reach.Goals as goal
+
+pub returns-in-None-clause-outcome : goal.returns-in-None-clause-outcome
+returns-in-None-clause-outcome g c =
+    idle g.met.B.Blobs.lawful c.args.b.now (Refused c.args.at_root) c.requires (λ w. (
+      w.stands,
+      record { by = λ f at_root free bad. on_path w.tree f (upward c.args.names.now) [] (Found root_row) c.in-None.ensures (look-found w.tree [] root_row w.shows.well_formed.rooted.root) ∙ at_root },
+    ))
+
+pub returns-in-Ok-Found-clause-outcome : goal.returns-in-Ok-Found-clause-outcome
+returns-in-Ok-Found-clause-outcome g c =
+    let d = upward c.in-Some.dirs.now in
+    answered c.in-Ok-Found.ensures.outcome (λ n h. (
+      h.0,
+      record { above = d; split = c.in-Some.ensures; is = found n.tree n.ids d c.in-Some.name.now c.in-Ok-Found.field-0 h.1 c.in-Ok-Found.dir c.in-Ok-Found.place c.in-Ok-Found.field-0-is },
+    ))
+
+pub returns-in-Ok-Vacant-clause-outcome : goal.returns-in-Ok-Vacant-clause-outcome
+returns-in-Ok-Vacant-clause-outcome g c =
+    let d = upward c.in-Some.dirs.now in
+    let k = c.in-Some.name.now in
+    answered c.in-Ok-Vacant.ensures.outcome (λ n h. (
+      h.0,
+      record { by = λ f at_root free bad. on_path n.tree f (upward c.args.names.now) (k ∷ d) Free c.in-Some.ensures (look_free n.shows d k _ (vacant n.tree n.ids d k c.in-Ok-Vacant.field-0 h.1 _ c.in-Ok-Vacant.field-0-is)) ∙ free k d },
+    ))
+
+pub returns-in-Ok-Lost-clause-outcome : goal.returns-in-Ok-Lost-clause-outcome
+returns-in-Ok-Lost-clause-outcome g c =
+    let d = upward c.in-Some.dirs.now in
+    let k = c.in-Some.name.now in
+    let e = c.in-Ok-Lost.error in
+    answered c.in-Ok-Lost.ensures.outcome (λ n h. (
+      h.0,
+      record { by = λ f at_root free bad. on_path n.tree f (upward c.args.names.now) (k ∷ d) (Bad e) c.in-Some.ensures (look_lost n.shows d k e (lost n.tree n.ids d k c.in-Ok-Lost.field-0 h.1 e c.in-Ok-Lost.field-0-is)) ∙ bad k d e },
+    ))
