@@ -77,3 +77,33 @@ read_children-loop-child-preserved g t c =
 pub read_children-returns-clause-outcome : goal.read_children-returns-clause-outcome
 read_children-returns-clause-outcome g t c =
     answered c.loop-child.invariant.outcome (λ n h. read_done (no_child c.args.children.now c.loop-child.child-index c.loop-child-test.false) h)
+
+pub read_below-returns-then-part-clause-stays : goal.read_below-returns-then-part-clause-stays
+read_below-returns-then-part-clause-stays g t c = stays-same (tx_holdings g.S.Blocks.holdings) c.args.tx.now
+
+pub read_below-returns-then-part-clause-below : goal.read_below-returns-then-part-clause-below
+read_below-returns-then-part-clause-below g t c = stays-same g.S.Blocks.holdings c.args.tx.now.store
+
+pub read_in-returns-in-Ok-clause-stays : goal.read_in-returns-in-Ok-clause-stays
+read_in-returns-in-Ok-clause-stays g t c = stays-same (tx_holdings g.S.Blocks.holdings) c.args.tx.now
+
+pub read_in-returns-in-Ok-clause-below : goal.read_in-returns-in-Ok-clause-below
+read_in-returns-in-Ok-clause-below g t c = stays-same g.S.Blocks.holdings c.args.tx.now.store
+
+pub read_in-returns-in-Err-clause-stays : goal.read_in-returns-in-Err-clause-stays
+read_in-returns-in-Err-clause-stays g t c = stays-same (tx_holdings g.S.Blocks.holdings) c.args.tx.now
+
+pub read_in-returns-in-Err-clause-below : goal.read_in-returns-in-Err-clause-below
+read_in-returns-in-Err-clause-below g t c = stays-same g.S.Blocks.holdings c.args.tx.now.store
+
+pub read_below-returns-in-Ok-clause-stays : goal.read_below-returns-in-Ok-clause-stays
+read_below-returns-in-Ok-clause-stays g t c = stays-then c.load_at.ensures.stays c.read_in.ensures.stays
+
+pub read_below-returns-in-Ok-clause-below : goal.read_below-returns-in-Ok-clause-below
+read_below-returns-in-Ok-clause-below g t c = stays-then c.load_at.ensures.below c.read_in.ensures.below
+
+pub read_children-returns-in-Err-clause-stays : goal.read_children-returns-in-Err-clause-stays
+read_children-returns-in-Err-clause-stays g t c = stays-then c.loop-child.invariant.stays c.read_below.ensures.stays
+
+pub read_children-returns-in-Err-clause-below : goal.read_children-returns-in-Err-clause-below
+read_children-returns-in-Err-clause-below g t c = stays-then c.loop-child.invariant.below c.read_below.ensures.below

@@ -3,7 +3,7 @@ use Rattle.data_nodes.specs.Layout.{node_of}
 use Rattle.outcome.specs.Outcome.{then_, failed_, answered, unbuilt}
 use Rattle.tree_calls.specs.Reading.{between}
 use Rattle.data_tree.proofs.Loads.{tx_holdings, tx_laws}
-use Rattle.data_tree.proofs.Forests.{below_on, below_root}
+use Rattle.data_tree.proofs.Forests.{below_on, below_root, stays-then}
 use Rattle.tree_calls.proofs.Parts.{all_between}
 use Rattle.data_tree.proofs.Puts.{unforged_before}
 use Rattle.tree_calls.proofs.rewriting.read_root.Goals as goal
@@ -34,3 +34,21 @@ returns-then-len-gt-MOST_BYTES-clause-outcome g c =
     unbuilt laws two (λ n p.
     let whole = p ∙ ap (λ xs. xs ++ between 0 18446744073709551615 n.bytes) c.new-bytes.ensures.items ∙ all_between 18446744073709551615 n.bytes (omega (arith, n.small)) in
     absurd (omega (arith, ap length whole, n.small, c.len.ensures, c.read_in.new.out.ok.0, c.if-len-gt-MOST_BYTES.true)))
+
+pub returns-in-Err-read_in-clause-stays : goal.returns-in-Err-read_in-clause-stays
+returns-in-Err-read_in-clause-stays g c = stays-then c.load_root.ensures.stays c.read_in.ensures.stays
+
+pub returns-in-Err-read_in-clause-below : goal.returns-in-Err-read_in-clause-below
+returns-in-Err-read_in-clause-below g c = stays-then c.load_root.ensures.below c.read_in.ensures.below
+
+pub returns-then-len-gt-MOST_BYTES-clause-stays : goal.returns-then-len-gt-MOST_BYTES-clause-stays
+returns-then-len-gt-MOST_BYTES-clause-stays g c = stays-then c.load_root.ensures.stays c.read_in.ensures.stays
+
+pub returns-then-len-gt-MOST_BYTES-clause-below : goal.returns-then-len-gt-MOST_BYTES-clause-below
+returns-then-len-gt-MOST_BYTES-clause-below g c = stays-then c.load_root.ensures.below c.read_in.ensures.below
+
+pub returns-clause-stays : goal.returns-clause-stays
+returns-clause-stays g c = stays-then c.load_root.ensures.stays c.read_in.ensures.stays
+
+pub returns-clause-below : goal.returns-clause-below
+returns-clause-below g c = stays-then c.load_root.ensures.below c.read_in.ensures.below

@@ -3,7 +3,7 @@ use Rattle.data_nodes.specs.Layout.{node_of}
 use Rattle.outcome.specs.Outcome.{then_, failed_, answered}
 use Rattle.tree_calls.specs.Reading.{between}
 use Rattle.data_tree.proofs.Loads.{tx_laws}
-use Rattle.data_tree.proofs.Forests.{below_on, below_root}
+use Rattle.data_tree.proofs.Forests.{below_on, below_root, stays-then}
 use Rattle.tree_calls.proofs.Parts.{counted}
 use Rattle.data_tree.proofs.Puts.{unforged_before}
 use Rattle.tree_calls.proofs.tree.read_range.Goals as goal
@@ -24,3 +24,15 @@ pub returns-in-Ok-read_in-clause-shallow : goal.returns-in-Ok-read_in-clause-sha
 returns-in-Ok-read_in-clause-shallow g c s h =
     let laws = tx_laws g.S.Blocks.meanings g.S.Blocks.holdings g.met.S.Blocks.lawful in
     c.in-Ok.ensures.shallow s (unforged_before laws c.args.tx.now c.load_root.new.tx c.read_in.new.tx c.read_in.ensures.outcome.loaded h)
+
+pub returns-in-Ok-read_in-clause-stays : goal.returns-in-Ok-read_in-clause-stays
+returns-in-Ok-read_in-clause-stays g c = stays-then c.load_root.ensures.stays c.read_in.ensures.stays
+
+pub returns-in-Ok-read_in-clause-below : goal.returns-in-Ok-read_in-clause-below
+returns-in-Ok-read_in-clause-below g c = stays-then c.load_root.ensures.below c.read_in.ensures.below
+
+pub returns-clause-stays : goal.returns-clause-stays
+returns-clause-stays g c = stays-then c.load_root.ensures.stays c.read_in.ensures.stays
+
+pub returns-clause-below : goal.returns-clause-below
+returns-clause-below g c = stays-then c.load_root.ensures.below c.read_in.ensures.below

@@ -1,9 +1,10 @@
 use Rattle.std.proofs.Common.{◌∙◌, ap}
 use Rattle.data_nodes.specs.Layout.{node_of}
-use Rattle.outcome.specs.Outcome.{then_}
+use Rattle.outcome.specs.Outcome.{then_, no_memory}
 use Rattle.block_id.specs.Contents.{written}
 use Rattle.data_tree.proofs.Loads.{tx_laws}
 use Rattle.tree_calls.proofs.Anew.{root_node, root_since}
+use Rattle.data_tree.proofs.Forests.{stays-then}
 use Rattle.data_tree.proofs.Puts.{on_any, unforged_before}
 use Rattle.tree_calls.proofs.tree.write_range.Goals as goal
 
@@ -17,3 +18,9 @@ pub returns-clause-shallow : goal.returns-clause-shallow
 returns-clause-shallow g c s h some =
     let laws = tx_laws g.S.Blocks.meanings g.S.Blocks.holdings g.met.S.Blocks.lawful in
     on_any c.rewrite.result (c.in-Ok.ensures.shallow s (unforged_before laws c.args.tx.now c.read_root.new.tx c.rewrite.new.tx c.rewrite.ensures.outcome.loaded h))
+
+pub returns-clause-below : goal.returns-clause-below
+returns-clause-below g c = stays-then c.read_root.ensures.below c.rewrite.ensures.below
+
+pub returns-in-Err-overwrite-clause-outcome : goal.returns-in-Err-overwrite-clause-outcome
+returns-in-Err-overwrite-clause-outcome g c = no_memory c.in-Ok.ensures.outcome
