@@ -8,7 +8,7 @@ use crate::limits::{MAX_MODE, MAX_TARGET};
 use crate::{ByteText, Moment, Path};
 
 /// One command on the tree.
-#[derive(Debug, Drop)]
+#[derive(Drop)]
 pub enum Command {
     List(Path),
     Stat(Path),
@@ -57,20 +57,20 @@ impl Command {
                 from.holds_names();
                 to.holds_names();
             }
-            Command::List(path) => path.holds_names(),
-            Command::Stat(path) => path.holds_names(),
-            Command::Mkdir(path) => path.holds_names(),
-            Command::Rmdir(path) => path.holds_names(),
-            Command::Mkfile(path) => path.holds_names(),
-            Command::Rm(path) => path.holds_names(),
-            Command::Symlink(_, path) => path.holds_names(),
-            Command::Readlink(path) => path.holds_names(),
-            Command::Write(path, _, _) => path.holds_names(),
-            Command::Read(path, _, _) => path.holds_names(),
-            Command::Truncate(path, _) => path.holds_names(),
-            Command::Chmod(path, _) => path.holds_names(),
-            Command::Chown(path, _, _) => path.holds_names(),
-            Command::Utime(path, _, _) => path.holds_names(),
+            Command::List(path)
+            | Command::Stat(path)
+            | Command::Mkdir(path)
+            | Command::Rmdir(path)
+            | Command::Mkfile(path)
+            | Command::Rm(path)
+            | Command::Symlink(_, path)
+            | Command::Readlink(path)
+            | Command::Write(path, _, _)
+            | Command::Read(path, _, _)
+            | Command::Truncate(path, _)
+            | Command::Chmod(path, _)
+            | Command::Chown(path, _, _)
+            | Command::Utime(path, _, _) => path.holds_names(),
             Command::Sync => (),
         }
     }
