@@ -76,6 +76,10 @@ pub not_found : (found : Option (Attr × BlockId)) → is_some found ≡ false �
 not_found None e = refl
 not_found (Some x) e = absurd cc
 
+pub found_there : (found : Option (Attr × BlockId)) → is_some found ≡ true → is_some (target_of found) ≡ true
+found_there None e = e
+found_there (Some x) e = refl
+
 insert_again : (m : BlobMap) (id : Id) (v w : List ℕ) → insert (insert m id v) id w ≡ insert m id w
 insert_again m id v w = same_map name_total name_exact (insert (insert m id v) id w) (insert m id w) (λ q.
     get-insert name_total (insert m id v) id w q ∙ (ap (cond (eq_by_cmp name_cmp q id) (Some w)) (get-insert name_total m id v q)

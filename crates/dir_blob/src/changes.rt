@@ -1,18 +1,18 @@
 // Changing one entry of a directory that is a blob.
-ghost use Rattle.std.specs.Prelude.{◌≡◌, ◌≤◌, ◌+◌, IfOk, length, is_some, None, true};
+ghost use Rattle.std.specs.Prelude.{◌≡◌, ◌≤◌, ◌+◌, IfOk, drop, length, is_some, None, true};
 ghost use Rattle.std.specs.FinMap.{find as found_in, put};
 ghost use Rattle.outcome.specs.Outcome.{Outcome};
 ghost use Rattle.blob_api.specs.BlobMap.{IsSparing};
 ghost use Rattle.fs_model.specs.Tree.{name_cmp, entry_size};
-ghost use Rattle.dir_blob.specs.Layout.{entry_of, body_of};
-ghost use Rattle.dir_blob.specs.Places.{without};
-ghost use Rattle.dir_blob.specs.Directories.{HasEntries, HasRoom, HasName, OfEntries};
+ghost use Rattle.dir_blob.specs.Layout.{entry_of, entry_text, IsEntry, body_of};
+ghost use Rattle.dir_blob.specs.Places.{IsPlace, target_of, without};
+ghost use Rattle.dir_blob.specs.Directories.{IsDirectory, HasEntries, HasRoom, HasName, OfEntries};
 
 use crate::encode::put_entry;
-use crate::{Entry, locate, whole_body};
-use blob_api::Blobs;
+use crate::{Entry, Located, locate, whole_body};
+use blob_api::{Blobs, MAX_BLOB};
 use block_id::{BlockId, Fail, Why};
-use fs_blobs::{resize_body, write_body};
+use fs_blobs::{HEADER_LEN, resize_body, write_body};
 use fs_model::{MAX_ENTRIES, MAX_MODE, Name};
 use rand_core::Rng;
 use std::alloc::Global;
@@ -32,19 +32,12 @@ pub fn insert<B: Blobs, R: Rng>(
     ensures absent { OfEntries B.meanings B.holdings b.old b.new dir.now.0 (λ listing. IfOk result (λ _. found_in name_cmp entry.now.name listing ≡ None)) }
     ensures room { OfEntries B.meanings B.holdings b.old b.new dir.now.0 (λ listing. IfOk result (λ _. length (body_of listing) + entry_size entry.now.name ≤ MAX_ENTRIES)) }
 {
-    let body = whole_body(alloc, b, dir)?;
-    let mut bytes = Vec::new(alloc);
-    put_entry(&mut bytes, entry)?;
-    match locate(&body, &entry.name) {
-        Some(place) => {
-            if place.found.is_some() || body.len() as u64 + bytes.len() as u64 > MAX_ENTRIES {
-                return Err(Fail::Violation(Why::Structure));
-            }
-            bytes.extend_from_slice(&body[place.back..])?;
-            write_body(alloc, b, dir, place.front as u64, &bytes, chance)
-        }
-        None => Err(Fail::Violation(Why::Structure)),
+    let (body, mut bytes, place) = read_for(alloc, b, dir, entry)?;
+    if place.found.is_some() || body.len() as u64 + bytes.len() as u64 > MAX_ENTRIES {
+        return Err(Fail::Violation(Why::Structure));
     }
+    bytes.extend_from_slice(&body[place.back..])?;
+    write_body(alloc, b, dir, place.front as u64, &bytes, chance)
 }
 
 /// The entry of a name goes.
@@ -91,16 +84,36 @@ pub fn change<B: Blobs, R: Rng>(
     // Whatever it answers.
     ensures sparing { OfEntries B.meanings B.holdings b.old b.new dir.now.0 (λ listing. IsSparing B.holdings b.old b.new (length (body_of listing)) 0 (length (body_of listing))) }
 {
+    let (body, bytes, place) = read_for(alloc, b, dir, entry)?;
+    if place.found.is_none() || place.front + bytes.len() > body.len() {
+        return Err(Fail::Violation(Why::Structure));
+    }
+    write_body(alloc, b, dir, place.front as u64, &bytes, chance)
+}
+
+/// The body of a directory, the bytes of an entry, and the place of its name.
+fn read_for<B: Blobs>(
+    alloc: Global,
+    b: &mut B,
+    dir: &BlockId,
+    entry: &Entry,
+) -> Result<(Vec<u8>, Vec<u8>, Located), Fail>
+    requires intact { B.meanings.intact b.old }
+    requires mode { entry.now.attr.mode ≤ MAX_MODE }
+    ensures outcome { Outcome B.meanings (IsDirectory B.holdings b.old dir.now.0) b.old b.new result
+        (λ n x. B.holdings.stands_for b.new n.map × (x.0.items ≡ body_of n.listing)
+        × IsPlace entry.now.name n.listing x.2.front (target_of x.2.found) (drop x.2.back x.0.items)) }
+    ensures text { IfOk result (λ x. x.1.items ≡ entry_text (entry_of entry.now)) }
+    ensures types { IfOk result (λ _. IsEntry (entry_of entry.now)) }
+    ensures within { IfOk result (λ x. (x.2.front ≤ x.2.back) × (x.2.back ≤ length x.0.items)) }
+    ensures short { IfOk result (λ x. HEADER_LEN + length x.0.items ≤ MAX_BLOB) }
+    ensures unchanged { B.holdings.changed b.new ≡ B.holdings.changed b.old }
+{
     let body = whole_body(alloc, b, dir)?;
     let mut bytes = Vec::new(alloc);
     put_entry(&mut bytes, entry)?;
     match locate(&body, &entry.name) {
-        Some(place) => {
-            if place.found.is_none() || place.front + bytes.len() > body.len() {
-                return Err(Fail::Violation(Why::Structure));
-            }
-            write_body(alloc, b, dir, place.front as u64, &bytes, chance)
-        }
+        Some(place) => Ok((body, bytes, place)),
         None => Err(Fail::Violation(Why::Structure)),
     }
 }

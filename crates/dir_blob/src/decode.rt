@@ -118,8 +118,12 @@ pub(crate) fn first_entry(bytes: &[u8]) -> Option<Front<'_>>
 fn attr_from(bytes: &[u8]) -> Option<(Attr, &[u8])>
     ensures { option_map (λ x. (x.0, x.1.now)) result ≡ attr_at bytes.now }
 {
-    let ((kind, mode), rest) = access_from(bytes)?;
-    let ((uid, gid), rest) = owner_from(rest)?;
+    let Some(((kind, mode), rest)) = access_from(bytes) else {
+        return None;
+    };
+    let Some(((uid, gid), rest)) = owner_from(rest) else {
+        return None;
+    };
     let Some(((atime, mtime, ctime), rest)) = times_from(rest) else {
         return None;
     };
@@ -140,8 +144,12 @@ fn attr_from(bytes: &[u8]) -> Option<(Attr, &[u8])>
 fn access_from(bytes: &[u8]) -> Option<((Kind, u32), &[u8])>
     ensures { option_map (λ x. (x.0, x.1.now)) result ≡ access_at bytes.now }
 {
-    let (kind, rest) = next_kind(bytes)?;
-    let (mode, rest) = take_u32(rest)?;
+    let Some((kind, rest)) = next_kind(bytes) else {
+        return None;
+    };
+    let Some((mode, rest)) = take_u32(rest) else {
+        return None;
+    };
     if mode > MAX_MODE {
         return None;
     }
@@ -153,8 +161,12 @@ fn access_from(bytes: &[u8]) -> Option<((Kind, u32), &[u8])>
 fn owner_from(bytes: &[u8]) -> Option<((u32, u32), &[u8])>
     ensures { option_map (λ x. (x.0, x.1.now)) result ≡ owner_at bytes.now }
 {
-    let (uid, rest) = take_u32(bytes)?;
-    let (gid, rest) = take_u32(rest)?;
+    let Some((uid, rest)) = take_u32(bytes) else {
+        return None;
+    };
+    let Some((gid, rest)) = take_u32(rest) else {
+        return None;
+    };
     Some(((uid, gid), rest))
 }
 
@@ -179,17 +191,29 @@ fn times_from(bytes: &[u8]) -> Option<((Moment, Moment, Moment), &[u8])>
 fn next_kind(bytes: &[u8]) -> Option<(Kind, &[u8])>
     ensures { option_map (λ x. (x.0, x.1.now)) result ≡ kind_of bytes.now }
 {
-    let (first, rest) = bytes.split_first()?;
-    Some((kind_from(*first)?, rest))
+    let Some((first, rest)) = bytes.split_first() else {
+        return None;
+    };
+    let Some(kind) = kind_from(*first) else {
+        return None;
+    };
+    Some((kind, rest))
 }
 
 #[tactic(auto, unfolding(crate::specs::Reading::moment_at))]
 fn moment_from(bytes: &[u8]) -> Option<(Moment, &[u8])>
     ensures { option_map (λ x. (x.0, x.1.now)) result ≡ moment_at bytes.now }
 {
-    let (secs, rest) = take_u64(bytes)?;
-    let (nanos, rest) = take_u32(rest)?;
-    Some((Moment::new(secs, nanos)?, rest))
+    let Some((secs, rest)) = take_u64(bytes) else {
+        return None;
+    };
+    let Some((nanos, rest)) = take_u32(rest) else {
+        return None;
+    };
+    let Some(moment) = Moment::new(secs, nanos) else {
+        return None;
+    };
+    Some((moment, rest))
 }
 
 /// What stands before the first zero, and after it.
@@ -197,7 +221,9 @@ fn moment_from(bytes: &[u8]) -> Option<(Moment, &[u8])>
 fn text_from(bytes: &[u8]) -> Option<(&[u8], &[u8])>
     ensures { option_map (λ x. (x.0.now, x.1.now)) result ≡ text_at bytes.now }
 {
-    let end = first_zero(bytes)?;
+    let Some(end) = first_zero(bytes) else {
+        return None;
+    };
     Some((&bytes[..end], &bytes[end + 1..]))
 }
 

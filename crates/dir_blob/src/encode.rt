@@ -46,8 +46,7 @@ fn put_attr(out: &mut Vec<u8>, attr: &Attr) -> Result<(), Memory>
     put_u32(out, attr.gid)?;
     put_moment(out, attr.atime)?;
     put_moment(out, attr.mtime)?;
-    put_moment(out, attr.ctime)?;
-    Ok(())
+    put_moment(out, attr.ctime)
 }
 
 fn put_moment(out: &mut Vec<u8>, moment: Moment) -> Result<(), Memory>
@@ -55,8 +54,7 @@ fn put_moment(out: &mut Vec<u8>, moment: Moment) -> Result<(), Memory>
     ensures types { IsMoment moment }
 {
     put_u64(out, moment.secs())?;
-    put_u32(out, moment.nanos())?;
-    Ok(())
+    put_u32(out, moment.nanos())
 }
 
 fn put_name(out: &mut Vec<u8>, name: &Name) -> Result<(), Memory>
