@@ -54,7 +54,7 @@ fn parse_names(alloc: Global, rest: &[u8]) -> Result<Path, PathError>
 fn pieces_of(alloc: Global, rest: &[u8]) -> Result<Vec<&[u8]>, AllocError>
     ensures { IfOk result (λ pieces. map (λ piece. piece.now) pieces.items ≡ slice_split is_slash rest.now) }
 {
-    rest.split(|b| *b == b'/').collect(alloc)
+    rest.split(is_slash).collect(alloc)
 }
 
 /// The path of these names.
@@ -73,22 +73,26 @@ fn path_of_pieces(alloc: Global, pieces: &[&[u8]]) -> Result<Path, PathError>
     Ok(path)
 }
 
+fn is_slash(byte: &u8) -> bool
+    ensures { result ≡ is_slash byte.now }
+{
+    *byte == b'/'
+}
+
 fn has_piece_empty(rest: &[u8]) -> bool
     ensures { result ≡ list_any is_empty (slice_split is_slash rest.now) }
 {
-    rest.split(|b| *b == b'/').any(|piece| piece.is_empty())
+    rest.split(is_slash).any(|piece| piece.is_empty())
 }
 
 fn has_piece_of_dots(rest: &[u8]) -> bool
     ensures { result ≡ list_any is_dots (slice_split is_slash rest.now) }
 {
-    rest.split(|b| *b == b'/')
-        .any(|piece| has_dots_alone(piece))
+    rest.split(is_slash).any(|piece| has_dots_alone(piece))
 }
 
 fn has_piece_long(rest: &[u8]) -> bool
     ensures { result ≡ list_any is_long (slice_split is_slash rest.now) }
 {
-    rest.split(|b| *b == b'/')
-        .any(|piece| piece.len() > MAX_NAME)
+    rest.split(is_slash).any(|piece| piece.len() > MAX_NAME)
 }
