@@ -12,7 +12,7 @@ use Rattle.dir_blob.proofs.changes.change.Goals.{then-is_none-via-then-is_none, 
 pub returns-in_err-body-clause-outcome : goal.returns-in_err-body-clause-outcome
 returns-in_err-body-clause-outcome g c =
     let p = err_from_is_err_and c.from_residual.result c.from_residual.ensures.1 in
-    rw (p.1, p.2) (passed (first_ (λ n. n.is) c.in_err-body.ensures.outcome (λ n y h. h)))
+    rw (p.1, p.2) (passed (first_ {R = λ _ _. Unit {0}} (λ n. n.is) c.in_err-body.ensures.outcome (λ _ _ _. tt)))
 
 pub returns-then-is_none-clause-outcome : goal.returns-then-is_none-clause-outcome
 returns-then-is_none-clause-outcome g c =

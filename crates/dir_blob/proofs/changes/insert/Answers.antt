@@ -12,7 +12,7 @@ use Rattle.dir_blob.proofs.changes.insert.Goals.{then-is_some-via-then-is_some, 
 pub returns-in_err-body-clause-outcome : goal.returns-in_err-body-clause-outcome
 returns-in_err-body-clause-outcome g c =
     let p = err_from_is_err_and c.from_residual.result c.from_residual.ensures.1 in
-    rw (p.1, p.2) (passed (first_ (λ n. n.is) c.in_err-body.ensures.outcome (λ n y h. h)))
+    rw (p.1, p.2) (passed (first_ {R = λ _ _. Unit {0}} (λ n. n.is) c.in_err-body.ensures.outcome (λ _ _ _. tt)))
 
 pub returns-then-is_some-clause-outcome : goal.returns-then-is_some-clause-outcome
 returns-then-is_some-clause-outcome g c =
@@ -29,7 +29,7 @@ returns-then-is_some-clause-outcome g c =
 pub returns-in_err-extend_from_slice-clause-outcome : goal.returns-in_err-extend_from_slice-clause-outcome
 returns-in_err-extend_from_slice-clause-outcome g c =
     let p = err_from_is_err_and c.from_residual-in_err-extend_from_slice.result c.from_residual-in_err-extend_from_slice.ensures.1 in
-    rw (p.1, p.2) (no_memory (first_ (λ n. n.is) c.in_ok-body.ensures.outcome (λ n y h. h)))
+    rw (p.1, p.2) (no_memory (first_ {R = λ _ _. Unit {0}} (λ n. n.is) c.in_ok-body.ensures.outcome (λ _ _ _. tt)))
 
 pub returns-clause-outcome : goal.returns-clause-outcome
 returns-clause-outcome g c =
