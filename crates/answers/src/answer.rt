@@ -4,7 +4,7 @@ use block_id::Why;
 use fs_model::Reply;
 
 /// What a command is answered, or a line that is none.
-#[derive(Debug, Drop)]
+#[derive(Drop)]
 pub enum Answer {
     /// The tree's reply.
     Reply(Reply),

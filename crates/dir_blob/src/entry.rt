@@ -4,7 +4,7 @@ use block_id::BlockId;
 use fs_model::{Attr, Name};
 
 /// A name in a directory, with the attributes and the id of the blob that it stands for.
-#[derive(Debug, Drop)]
+#[derive(Drop)]
 pub struct Entry {
     pub name: Name,
     pub attr: Attr,

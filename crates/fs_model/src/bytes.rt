@@ -5,7 +5,7 @@ use block_id::Memory;
 use std::marker::Model;
 
 /// A list of bytes.
-#[derive(Debug, Drop)]
+#[derive(Drop)]
 pub struct ByteText {
     bytes: Vec<u8>,
 }

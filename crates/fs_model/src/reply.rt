@@ -5,14 +5,14 @@ use crate::{Attr, ByteText, FsError, Kind, Name};
 use std::marker::Model;
 
 /// One child of a directory.
-#[derive(Debug, Drop)]
+#[derive(Drop)]
 pub struct ListRow {
     pub kind: Kind,
     pub name: Name,
 }
 
 /// The children of a directory, by increasing bytes of their names.
-#[derive(Debug, Drop)]
+#[derive(Drop)]
 pub struct RowList {
     rows: Vec<ListRow>,
 }
@@ -43,7 +43,7 @@ impl RowList {
 }
 
 /// What a command answers.
-#[derive(Debug, Drop)]
+#[derive(Drop)]
 pub enum Reply {
     Done,
     Rows(RowList),
