@@ -24,7 +24,7 @@ use Rattle.blob_api.specs.BlobMap.{Id, BlobHoldings}
 use Rattle.fs_model.specs.declared.attr.Kind.TheVariants.{Directory}
 use Rattle.fs_blobs.specs.declared.header.TheConstants.{HEADER_LEN}
 use Rattle.fs_blobs.specs.Blobs.{IsBlob}
-use Rattle.dir_blob.specs.Layout.{Listing, IsListing, IsBody, body_of}
+use Rattle.dir_blob.specs.Layout.{Listing, IsListing, body_of}
 use Rattle.dir_blob.specs.Directories.{IsDirectory}
 
 abbrev pub blob_of : {S : Type 0} {H : BlobHoldings S} {a : S} {id : Id} → IsDirectory H a id → IsBlob H a id
@@ -33,9 +33,6 @@ blob_of n = record { map = n.map; stands = n.stands; kind = Directory; parent = 
 -- the same directory, where only blocks were loaded
 abbrev pub blob_still : {S : Type 0} {H : BlobHoldings S} {a b : S} {id : Id} (n : IsDirectory H a id) → H.stands_for b n.map → IsBlob H b id
 blob_still n stands = record { map = n.map; stands = stands; kind = Directory; parent = n.parent; body = body_of n.listing; there = n.there; wide = n.wide; fits = n.fits }
-
-pub body_is : (listing : Listing) → IsListing listing → IsBody (body_of listing) listing
-body_is listing is = record { entries = is; text = refl }
 
 pub whole : (body : List ℕ) → HEADER_LEN + length body ≤ MAX_BLOB → take MAX_BLOB (drop 0 body) ≡ body
 whole body fits = take_all MAX_BLOB body (omega (arith, fits))

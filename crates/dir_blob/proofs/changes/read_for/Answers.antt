@@ -1,5 +1,5 @@
 -- What reading for a change comes to.
-use Rattle.std.proofs.Common.{◌≡◌, ◌++◌, drop, subst, ◌∙◌, ap}
+use Rattle.std.proofs.Common.{◌++◌, drop, subst, ◌∙◌, ap}
 use Rattle.std.proofs.lemmas.Result.{err_from_is_err_and}
 use Rattle.outcome.specs.Outcome.{passed, answered, no_memory, unbuilt}
 use Rattle.dir_blob.specs.Layout.{entry_of, entry_text, IsBody}

@@ -4,8 +4,11 @@ use Rattle.std.proofs.lemmas.Bool.{eqb-false, eqb-true}
 use Rattle.std.proofs.lemmas.List.{map_push}
 use Rattle.dir_blob.specs.Layout.{entry_of, listing_of}
 use Rattle.dir_blob.specs.Reading.{entry_at, rises}
-use Rattle.dir_blob.proofs.Bodies.{reads_next, reads_stuck, reads_unordered, reads_only, after_shorter}
+use Rattle.dir_blob.proofs.Bodies.{reads_none, reads_next, reads_end, reads_stuck, reads_unordered, reads_only, after_shorter}
 use Rattle.dir_blob.proofs.decode.decode_entries.Goals as goal
+
+pub loop-rest-init : goal.loop-rest-init
+loop-rest-init c = rw c.new-entries.ensures.items (reads_none c.args.body.now (λ i. omega (arith, c.type_inv.body i)))
 
 pub returns-in-Ok-None-clause-only : goal.returns-in-Ok-None-clause-only
 returns-in-Ok-None-clause-only c = λ listing is.
@@ -33,6 +36,11 @@ loop-rest-preserved c =
     let more : listing_of c.push.new.self.items ≡ listing_of c.loop-rest.entries.items ++ entry_of c.in-Ok-Some.next.0 ∷ [] =
     ap listing_of c.in_ok-push.ensures.items ∙ map_push entry_of c.loop-rest.entries.items c.in-Ok-Some.next.0 in
     rw more (reads_next c.args.body.now (listing_of c.loop-rest.entries.items) c.loop-rest.rest.now (entry_of c.in-Ok-Some.next.0) c.in-Ok-Some.next.1.now c.loop-rest.invariant found up)
+
+pub returns-clause-found : goal.returns-clause-found
+returns-clause-found c =
+    let none : length c.loop-rest.rest.now ≡ 0 = eqb-true _ _ (sym c.is_empty.ensures ∙ c.loop-rest-test.false) in
+    reads_end _ _ _ c.loop-rest.invariant none
 
 pub returns-clause-only : goal.returns-clause-only
 returns-clause-only c = λ listing is.
