@@ -16,9 +16,9 @@ use Rattle.fs_model.specs.Tree.{Tree}
 use Rattle.histories.proofs.Configuration.{opened_only, unforged_config}
 use Rattle.line_io.specs.Lines.{first_line}
 use Rattle.line_io.specs.Streams.{Stream}
-use Rattle.mount.specs.Opening.{IsLoaded, GaveConfig}
-use Rattle.mount.specs.Unforged.{IsUnforgedConfig}
-use Rattle.mount.proofs.Reading.{true_is_false}
+use Rattle.mount_tower.specs.Opening.{IsLoaded, GaveConfig}
+use Rattle.mount_tower.specs.Unforged.{IsUnforgedConfig}
+use Rattle.mount_tower.proofs.Reading.{true_is_false}
 use Rattle.outside.specs.Changes.{FileChanges, change_at, cut}
 use Rattle.outside.specs.Honest.{last_change, same_answer, is_left, is_lie, count_calls, count_told}
 use Rattle.outside.specs.HonestLaws.{uncounted}

@@ -12,8 +12,8 @@ use Rattle.line_io.specs.Lines.{first_line}
 use Rattle.line_io.specs.Streams.{Stream, Untouched}
 use Rattle.mount.specs.Mounts.{IsCalmOpening}
 use Rattle.mount.specs.Opening.{AttachCause}
-use Rattle.mount.specs.declared.error.OpenError.{OpenError}
-use Rattle.mount.specs.declared.error.OpenError.TheVariants as open_error
+use Rattle.mount_tower.specs.declared.error.OpenError.{OpenError}
+use Rattle.mount_tower.specs.declared.error.OpenError.TheVariants as open_error
 use Rattle.mount.proofs.Reading.{represents_told}
 use Rattle.outside.specs.Causes.{RoseBy}
 use Rattle.outside.specs.Honest.{is_lie, count_told}

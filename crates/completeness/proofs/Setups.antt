@@ -18,13 +18,15 @@ use Rattle.histories.proofs.Configuration.{same_settings}
 use Rattle.integrity_store.specs.EnduringLaws.{listed_has}
 use Rattle.line_io.specs.Lines.{first_line}
 use Rattle.line_io.specs.Streams.{Stream, HasFailed}
-use Rattle.mount.specs.Drawing.{seal_drawn}
-use Rattle.mount.specs.Making.{CreateCause, Created as Made, IsMade, new_settings, sealed_file}
-use Rattle.mount.specs.Representing.{HasEmptyList}
-use Rattle.mount.specs.declared.draws.Draws.{Draws}
-use Rattle.mount.specs.declared.error.OpenError.{OpenError}
-use Rattle.mount.specs.declared.error.OpenError.TheVariants as open_error
-use Rattle.mount.proofs.Reading.{represents_told, true_is_false}
+use Rattle.mount_tower.specs.Drawing.{seal_drawn}
+use Rattle.mount.specs.Making.{Created as Made, IsMade}
+use Rattle.mount_tower.specs.Making.{CreateCause, new_settings, sealed_file}
+use Rattle.mount_tower.specs.Identities.{HasEmptyList}
+use Rattle.mount_tower.specs.declared.draws.Draws.{Draws}
+use Rattle.mount_tower.specs.declared.error.OpenError.{OpenError}
+use Rattle.mount_tower.specs.declared.error.OpenError.TheVariants as open_error
+use Rattle.mount.proofs.Reading.{represents_told}
+use Rattle.mount_tower.proofs.Reading.{true_is_false}
 use Rattle.outside.specs.Going.{GoesOn, goes_on_writes}
 use Rattle.outside.specs.Honest.{is_lie, count_calls, count_told}
 use Rattle.outside.specs.HonestLaws.{count_grows}

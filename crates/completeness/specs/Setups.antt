@@ -9,9 +9,9 @@ use Rattle.cryfs_setup.specs.Passwd.{RanPasswd, changed_text}
 use Rattle.fs_model.specs.Tree.{Tree, empty_tree}
 use Rattle.line_io.specs.Lines.{first_line}
 use Rattle.line_io.specs.Streams.{Stream, Untouched}
-use Rattle.mount.specs.Making.{IsUnchanged, new_settings}
-use Rattle.mount.specs.Representing.{HasEmptyList}
-use Rattle.mount.specs.declared.draws.Draws.{Draws}
+use Rattle.mount_tower.specs.Making.{IsUnchanged, new_settings}
+use Rattle.mount_tower.specs.Identities.{HasEmptyList}
+use Rattle.mount_tower.specs.declared.draws.Draws.{Draws}
 use Rattle.outside.specs.Streams.{appends}
 use Rattle.outside.specs.Trace.{At, Call}
 use Rattle.outside.specs.declared.keeper.Keeper.{Ghosts as KeeperGhosts}

@@ -9,10 +9,11 @@ use Rattle.config_file.specs.Settings.{settings_of}
 use Rattle.fs_model.specs.Tree.{Tree}
 use Rattle.held_blocks.specs.Standing.{records}
 use Rattle.line_io.specs.Streams.{Stream}
-use Rattle.mount.specs.Drawing.{seal_drawn}
-use Rattle.mount.specs.Making.{sealed_file}
-use Rattle.mount.specs.Representing.{HasEmptyList}
-use Rattle.mount.specs.Tower.{tower_meanings, tower_holdings, tower_durables, TowerStands, TowerConfigures}
+use Rattle.mount_tower.specs.Drawing.{seal_drawn}
+use Rattle.mount_tower.specs.Making.{sealed_file}
+use Rattle.mount_tower.specs.Identities.{HasEmptyList}
+use Rattle.mount.specs.Tower.{TowerStands, TowerConfigures}
+use Rattle.mount_tower.specs.Tower.{tower_meanings, tower_holdings, tower_durables}
 use Rattle.mount.specs.declared.mount.Mount.{Mount}
 use Rattle.mount_core.specs.Configuring.{ConfigClosed, KeptOneOf, Replaced}
 use Rattle.mount_core.specs.Standing.{IsKeptMarked, Synced}

@@ -5,9 +5,9 @@ use Rattle.std.specs.declared.option.Option.{Option}
 use Rattle.std.specs.declared.result.Result.TheVariants.{Ok, Err}
 use Rattle.block_id.specs.declared.id.BlockId.{BlockId}
 use Rattle.line_io.specs.Streams.{Stream}
-use Rattle.mount.specs.declared.error.OpenError.{OpenError}
-use Rattle.mount.specs.declared.error.OpenError.TheVariants as open_error
-use Rattle.mount.specs.Making.{CreateCause}
+use Rattle.mount_tower.specs.declared.error.OpenError.{OpenError}
+use Rattle.mount_tower.specs.declared.error.OpenError.TheVariants as open_error
+use Rattle.mount_tower.specs.Making.{CreateCause}
 use Rattle.outside.specs.Causes.{RoseBy}
 use Rattle.outside.specs.Trace.{Call}
 use Rattle.run_openings.specs.Openings.{HasCauses}

@@ -8,11 +8,12 @@ use Rattle.script_text.specs.Texts.{line}
 use Rattle.scrypt_kdf.specs.Cost.{Cost}
 use Rattle.config_file.specs.ConfigOf.{IsOnly, opened}
 use Rattle.line_io.specs.Streams.{Stream, Untouched}
-use Rattle.mount.specs.declared.draws.Draws.{Draws}
-use Rattle.mount.specs.declared.error.OpenError.{OpenError}
-use Rattle.mount.specs.declared.opening.TheConstants.{MAX_CONFIG}
-use Rattle.mount.specs.declared.error.OpenError.TheVariants as open_error
-use Rattle.mount.specs.Making.{CreateCause, Created as Made, IsUnchanged, KnowsOnly, StaysThere, new_settings, root_of, sealed_file}
+use Rattle.mount_tower.specs.declared.draws.Draws.{Draws}
+use Rattle.mount_tower.specs.declared.error.OpenError.{OpenError}
+use Rattle.mount_tower.specs.declared.opening.TheConstants.{MAX_CONFIG}
+use Rattle.mount_tower.specs.declared.error.OpenError.TheVariants as open_error
+use Rattle.mount.specs.Making.{Created as Made}
+use Rattle.mount_tower.specs.Making.{CreateCause, IsUnchanged, KnowsOnly, StaysThere, new_settings, root_of, sealed_file}
 use Rattle.outside.specs.Going.{GoesOn}
 use Rattle.outside.specs.Trace.{Call, adds, got, config}
 use Rattle.outside.specs.declared.keeper.Keeper.{Ghosts as KeeperGhosts}

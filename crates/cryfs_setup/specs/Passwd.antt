@@ -9,11 +9,11 @@ use Rattle.config_file.specs.declared.config.Opened.{Opened}
 use Rattle.fs_model.specs.Tree.{Tree}
 use Rattle.held_blocks.specs.Standing.{records}
 use Rattle.line_io.specs.Streams.{Stream, Untouched}
-use Rattle.mount.specs.Drawing.{seal_drawn}
-use Rattle.mount.specs.Making.{sealed_file}
-use Rattle.mount.specs.Opening.{Attached}
-use Rattle.mount.specs.Representing.{HasEmptyList}
-use Rattle.mount.specs.declared.error.OpenError.{OpenError}
+use Rattle.mount_tower.specs.Drawing.{seal_drawn}
+use Rattle.mount_tower.specs.Making.{sealed_file}
+use Rattle.mount_tower.specs.Opening.{Attached}
+use Rattle.mount_tower.specs.Identities.{HasEmptyList}
+use Rattle.mount_tower.specs.declared.error.OpenError.{OpenError}
 use Rattle.mount_core.specs.Standing.{IsKeptMarked}
 use Rattle.outside.specs.Going.{GoesOn}
 use Rattle.outside.specs.Trace.{Call}

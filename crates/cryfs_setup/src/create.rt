@@ -2,7 +2,7 @@
 ghost use Rattle.std.specs.Prelude.{◌≡◌, ◌≤◌};
 ghost use Rattle.config_file.specs.Settings.{IsBlockSize};
 ghost use Rattle.line_io.specs.Streams.{stream_of};
-ghost use Rattle.mount.specs.Drawing.{drawn};
+ghost use Rattle.mount_tower.specs.Drawing.{drawn};
 ghost use Rattle.run_openings.specs.Openings.{HasCauses};
 ghost use Rattle.session_runs.specs.Runs.{outside_of};
 ghost use Rattle.cryfs_setup.specs.Create.{RanCreate, IsCreated, Reports, created_text};
@@ -10,7 +10,8 @@ ghost use Rattle.cryfs_setup.specs.Printing.{Printed};
 
 use crate::print::print;
 use block_id::BlockId;
-use mount::{Mount, OpenError};
+use mount::Mount;
+use mount_tower::OpenError;
 use outside::{Keeper, Sink, Source, Vault};
 use passwords::read_password;
 use rand_core::Rng;

@@ -2,7 +2,7 @@
 ghost use Rattle.std.specs.Prelude.{◌≡◌, false, Result, IfOk, IfErr};
 ghost use Rattle.held_blocks.specs.Standing.{records};
 ghost use Rattle.mount.specs.Mounts.{IsReady};
-ghost use Rattle.mount.specs.declared.error.OpenError.{OpenError};
+ghost use Rattle.mount_tower.specs.declared.error.OpenError.{OpenError};
 ghost use Rattle.mount_core.specs.Standing.{IsKeptMarked};
 ghost use Rattle.session_runs.specs.Runs.{outside_of};
 ghost use Rattle.run_status.specs.Statuses.{first_of};

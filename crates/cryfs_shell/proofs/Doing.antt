@@ -7,7 +7,7 @@ use Rattle.answers.specs.Sessions.{Exchange}
 use Rattle.fs_model.specs.Instant.{Instant}
 use Rattle.held_blocks.specs.Standing.{records}
 use Rattle.line_io.specs.Streams.{Stream}
-use Rattle.mount.specs.Drawing.{drawn}
+use Rattle.mount_tower.specs.Drawing.{drawn}
 use Rattle.mount_core.specs.Standing.{IsKeptMarked}
 use Rattle.outside.specs.Trace.{Call}
 use Rattle.outside.specs.declared.keeper.Keeper.{Ghosts as KeeperGhosts}

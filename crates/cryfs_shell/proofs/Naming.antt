@@ -14,10 +14,10 @@ use Rattle.cryfs_setup.specs.Printing.{Printed}
 use Rattle.cryfs_setup.proofs.Ending.{ends}
 use Rattle.fs_model.specs.Instant.{Instant}
 use Rattle.line_io.specs.Streams.{Stream, Untouched}
-use Rattle.mount.specs.Drawing.{drawn}
-use Rattle.mount.specs.declared.draws.Draws.{Draws}
-use Rattle.mount.specs.declared.error.OpenError.{OpenError}
-use Rattle.mount.specs.declared.error.OpenError.TheVariants.{FaultDirectory, FaultState}
+use Rattle.mount_tower.specs.Drawing.{drawn}
+use Rattle.mount_tower.specs.declared.draws.Draws.{Draws}
+use Rattle.mount_tower.specs.declared.error.OpenError.{OpenError}
+use Rattle.mount_tower.specs.declared.error.OpenError.TheVariants.{FaultDirectory, FaultState}
 use Rattle.outside.specs.Trace.{Call}
 use Rattle.outside.specs.declared.keeper.Keeper.{Ghosts as KeeperGhosts}
 use Rattle.passwords.specs.Passwords.{PasswordUnread, PasswordsUnread}

@@ -9,8 +9,8 @@ use Rattle.fs_model.specs.Tree.{Tree}
 use Rattle.held_blocks.specs.Standing.{records}
 use Rattle.line_io.specs.Lines.{first_of, first_line}
 use Rattle.line_io.specs.Streams.{Stream, Untouched}
-use Rattle.mount.specs.Representing.{HasEmptyList}
-use Rattle.mount.specs.declared.error.OpenError.{OpenError}
+use Rattle.mount_tower.specs.Identities.{HasEmptyList}
+use Rattle.mount_tower.specs.declared.error.OpenError.{OpenError}
 use Rattle.mount.proofs.Reading.{loaded_unmarked}
 use Rattle.mount_core.specs.Standing.{IsKeptMarked}
 use Rattle.outside.specs.Causes.{RoseBy}

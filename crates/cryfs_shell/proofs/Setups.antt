@@ -13,10 +13,10 @@ use Rattle.cryfs_setup.specs.Printing.{Printed}
 use Rattle.cryfs_setup.proofs.Ending.{ends}
 use Rattle.held_blocks.specs.Standing.{records}
 use Rattle.line_io.specs.Streams.{Stream, HasFailed}
-use Rattle.mount.specs.declared.draws.Draws.{Draws}
-use Rattle.mount.specs.declared.error.OpenError.{OpenError}
-use Rattle.mount.specs.declared.error.OpenError.TheVariants as open_error
-use Rattle.mount.specs.Making.{CreateCause}
+use Rattle.mount_tower.specs.declared.draws.Draws.{Draws}
+use Rattle.mount_tower.specs.declared.error.OpenError.{OpenError}
+use Rattle.mount_tower.specs.declared.error.OpenError.TheVariants as open_error
+use Rattle.mount_tower.specs.Making.{CreateCause}
 use Rattle.mount_core.specs.Standing.{IsKeptMarked}
 use Rattle.outside.specs.Trace.{Call}
 use Rattle.outside.specs.declared.keeper.Keeper.{Ghosts as KeeperGhosts}

@@ -6,8 +6,8 @@ use Rattle.config_file.specs.declared.error.ConfigError.TheVariants as config_er
 use Rattle.line_io.specs.Streams.{Stream, HasFailed}
 use Rattle.passwords.specs.Passwords.{InputFailed}
 use Rattle.mount.specs.Mounts.{StopsMarked}
-use Rattle.mount.specs.declared.error.OpenError.{OpenError}
-use Rattle.mount.specs.declared.error.OpenError.TheVariants.{Memory as NoMemory, NoState, BadState, Exists, Marked, Mismatch, NoConfig, Config as OfConfig, FaultDirectory, FaultState}
+use Rattle.mount_tower.specs.declared.error.OpenError.{OpenError}
+use Rattle.mount_tower.specs.declared.error.OpenError.TheVariants.{Memory as NoMemory, NoState, BadState, Exists, Marked, Mismatch, NoConfig, Config as OfConfig, FaultDirectory, FaultState}
 use Rattle.outside.specs.Causes.{RoseBy}
 use Rattle.run_status.specs.declared.status.Status.{Status}
 use Rattle.run_status.specs.declared.status.Status.TheVariants.{Done, Usage, LongPassword, Violation, DirectoryFault, StateFault, InputFault, OutputFault}

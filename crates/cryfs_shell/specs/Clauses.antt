@@ -7,7 +7,7 @@ use Rattle.fs_model.specs.Tree.{Tree}
 use Rattle.held_blocks.specs.Standing.{records}
 use Rattle.line_io.specs.Lines.{first_line}
 use Rattle.line_io.specs.Streams.{Stream, HasFailed, Untouched}
-use Rattle.mount.specs.Representing.{HasEmptyList}
+use Rattle.mount_tower.specs.Identities.{HasEmptyList}
 use Rattle.mount_core.specs.Standing.{IsKeptMarked}
 use Rattle.outside.specs.Causes.{RoseBy}
 use Rattle.passwords.specs.Passwords.{InputFailed}

@@ -7,7 +7,7 @@ use Rattle.cryfs_setup.specs.Info.{Told}
 use Rattle.cryfs_setup.specs.Passwd.{RanPasswd}
 use Rattle.fs_model.specs.Instant.{Instant}
 use Rattle.line_io.specs.Streams.{Stream, Untouched}
-use Rattle.mount.specs.Drawing.{drawn}
+use Rattle.mount_tower.specs.Drawing.{drawn}
 use Rattle.outside.specs.Trace.{Call}
 use Rattle.outside.specs.declared.keeper.Keeper.{Ghosts as KeeperGhosts}
 use Rattle.run_openings.specs.Openings.{AreUncalled, HasCauses}

@@ -9,7 +9,7 @@ ghost use Rattle.cryfs_setup.specs.Passwd.{RanPasswd};
 ghost use Rattle.histories.specs.Histories.{Run};
 ghost use Rattle.held_blocks.specs.Standing.{records};
 ghost use Rattle.line_io.specs.Streams.{stream_of, Untouched};
-ghost use Rattle.mount.specs.Drawing.{drawn};
+ghost use Rattle.mount_tower.specs.Drawing.{drawn};
 ghost use Rattle.mount_core.specs.Standing.{IsKeptMarked};
 ghost use Rattle.run_openings.specs.Openings.{AreUncalled};
 ghost use Rattle.session_runs.specs.Runs.{outside_of};

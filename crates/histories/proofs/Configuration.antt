@@ -12,7 +12,7 @@ use Rattle.config_file.specs.Format.{HasForm}
 use Rattle.config_file.specs.Settings.{Settings}
 use Rattle.integrity_store.specs.EnduringLaws.{configured_of}
 use Rattle.held_blocks.specs.Standing.{Configures, records}
-use Rattle.mount.specs.Unforged.{IsUnforgedConfig}
+use Rattle.mount_tower.specs.Unforged.{IsUnforgedConfig}
 use Rattle.outside.specs.Changes.{FileChanges, change_at}
 use Rattle.outside.specs.Honest.{last_change, same_answer, is_left, is_lie, count_calls, count_told}
 use Rattle.outside.specs.HonestLaws.{count_grows, uncounted}

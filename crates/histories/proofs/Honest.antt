@@ -6,7 +6,7 @@ use Rattle.fs_model.specs.Tree.{Tree}
 use Rattle.held_blocks.specs.Standing.{records}
 use Rattle.tree_commands.specs.Performing.{Showing}
 use Rattle.mount_core.specs.Standing.{IsKeptMarked}
-use Rattle.mount.specs.Unforged.{IsUnforgedConfig}
+use Rattle.mount_tower.specs.Unforged.{IsUnforgedConfig}
 use Rattle.mount.proofs.Reading.{loaded_unmarked}
 use Rattle.session_runs.specs.Runs.{Outside, OutsideStandsFor, lies}
 use Rattle.histories.specs.Histories.{Run, session, quiet, before_of, IsRun, IsUnforgedRun, AreRuns, end_of, OpensOrLocks, IsHonestRun, AreHonestRuns}

@@ -19,7 +19,7 @@ use Rattle.session_saver.specs.declared.saver.SyncError.{SyncError}
 use Rattle.tree_commands.specs.Performing.{Showing}
 use Rattle.mount_core.specs.Standing.{IsKeptMarked}
 use Rattle.mount.specs.Making.{Created}
-use Rattle.mount.specs.Unforged.{IsUnforgedConfig}
+use Rattle.mount_tower.specs.Unforged.{IsUnforgedConfig}
 use Rattle.session_runs.specs.Causes.{AreBuilt}
 use Rattle.session_runs.specs.Runs.{Outside, OutsideStandsFor, PasswordOpens, forgeries, lies, AreCalm, IsSessionRun, IsQuietRun}
 

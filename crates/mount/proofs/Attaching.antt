@@ -1,5 +1,5 @@
 -- What an opening that failed leaves, at each place where it stops.
-use Rattle.std.proofs.Common.{◌≡◌, ◌≢◌, ◌⊎◌, ◌≤◌, ◌-◌, ℕ, List, [], take, true, false, refl, sym, ◌∙◌, ap, subst, inl, inr, arith}
+use Rattle.std.proofs.Common.{◌≡◌, ◌≢◌, ◌⊎◌, ◌≤◌, ◌-◌, ℕ, List, [], true, refl, sym, ◌∙◌, subst, inl, inr, arith}
 use Rattle.std.specs.Prelude.{is_some}
 use Rattle.std.specs.declared.option.Option.{Option}
 use Rattle.std.specs.declared.option.Option.TheVariants.{None, Some}
@@ -8,21 +8,16 @@ use Rattle.std.proofs.lemmas.Option.{same_Some, none-some}
 use Rattle.outside.specs.Changes.{FileChanges}
 use Rattle.outside.specs.Going.{GoesOn, goes_on_same, goes_on_onward}
 use Rattle.outside.specs.Honest.{count_told}
-use Rattle.outside.specs.Trace.{Call, config}
+use Rattle.outside.specs.Trace.{Call}
 use Rattle.outside.specs.declared.keeper.Keeper.{Ghosts as KeeperGhosts}
 use Rattle.fs_model.specs.Tree.{Tree}
 use Rattle.local_state.specs.Record.{PlainState, record_bytes}
 use Rattle.integrity_store.specs.EnduringLaws.{enduring_by}
 use Rattle.held_blocks.specs.Held.{Held}
 use Rattle.held_blocks.specs.Forgeries.{forged}
-use Rattle.aes_gcm.specs.Gcm.{opened_of}
-use Rattle.redo_vault.specs.Redo.{Gave}
 use Rattle.store_api.specs.Content.{Content}
 use Rattle.store_api.specs.Durables.{Identity}
-use Rattle.held_blocks.specs.Standing.{Configures, identity_of, records}
-use Rattle.held_blocks.specs.Stores.{IsNoBlock}
-use Rattle.config_file.proofs.Waiting.{form_waits}
-use Rattle.config_file.specs.Format.{HasForm}
+use Rattle.held_blocks.specs.Standing.{records}
 use Rattle.config_file.specs.Settings.{Settings, settings_of}
 use Rattle.config_file.specs.declared.config.Opened.{Opened}
 use Rattle.session_saver.specs.Saving.{KeptConfigures, RepresentsContent as ContentKept, UnlessDirectory, UnlessState}
@@ -31,14 +26,17 @@ use Rattle.session_saver.specs.declared.saver.SyncError.TheVariants.{Memory as S
 use Rattle.tree_commands.specs.Performing.{Showing}
 use Rattle.mount_core.specs.Standing.{IsKeptMarked}
 use Rattle.mount_opening.specs.Opening.{CauseOf}
-use Rattle.mount.specs.declared.error.OpenError.{OpenError}
-use Rattle.mount.specs.declared.error.OpenError.TheVariants.{Memory, NoState, BadState, Exists, Marked, Mismatch, NoConfig, Config as OfConfig, FaultDirectory, FaultState}
+use Rattle.mount_tower.specs.declared.error.OpenError.{OpenError}
+use Rattle.mount_tower.specs.declared.error.OpenError.TheVariants.{Memory, NoState, BadState, Exists, Marked, Mismatch, NoConfig, Config as OfConfig, FaultDirectory, FaultState}
 use Rattle.mount.specs.Mounts.{Unopened, IsUncalled, IsUnsaved, IsCalmOpening, StopsMarked}
-use Rattle.mount.specs.Opening.{IsLoaded, LoadCause, ConfigCause, OpenCause, AttachCause, IsOf, OpenedConfig, ReadsConfigOnce, error_of}
-use Rattle.mount.specs.Representing.{identity_for, Represents}
-use Rattle.mount.specs.Unforged.{IsUnforgedConfig}
-use Rattle.mount.proofs.Quiet.{start_directory, start_state}
-use Rattle.mount.proofs.Reading.{represents_is_of, represents_told, found_is, reads_forgeries, reads_on, reads_represents, reads_kept, reads_configures, short_cut}
+use Rattle.mount.specs.Opening.{LoadCause, AttachCause}
+use Rattle.mount_tower.specs.Opening.{IsLoaded, OpenCause, IsOf, OpenedConfig, ReadsConfigOnce, error_of}
+use Rattle.mount.specs.Representing.{Represents}
+use Rattle.mount_tower.specs.Identities.{identity_for}
+use Rattle.mount_tower.specs.Unforged.{IsUnforgedConfig}
+use Rattle.mount_tower.proofs.Quiet.{start_directory, start_state}
+use Rattle.mount.proofs.Reading.{represents_is_of, represents_told, reads_represents}
+use Rattle.mount_tower.proofs.Reading.{found_is, reads_forgeries, reads_on, reads_kept}
 
 -- ---- the record isn't taken
 
@@ -226,25 +224,7 @@ module _ {V : Type 0} {K : Type 0} (shows : Showing) (trace : V → Option (List
     keeper_quiet = λ n. start_state e (G.faults after ≡ k) s.keeper_quiet n ∙ s.keeper_first;
   }
 
--- ---- what starting is given, and gives back
-
-pub config_open : (password : List ℕ) (state : PlainState) (list : FileChanges) (old new : Option (List Call)) (v0 v1 : ℕ) (e : OpenError) → ConfigCause password list old new v0 v1 e → OpenCause password state list old new v0 v1 e
-config_open password state list old new v0 v1 Memory h = h
-config_open password state list old new v0 v1 NoState h = h
-config_open password state list old new v0 v1 BadState h = h
-config_open password state list old new v0 v1 Exists h = h
-config_open password state list old new v0 v1 Marked h = h
-config_open password state list old new v0 v1 (Mismatch a b) h = absurd h
-config_open password state list old new v0 v1 NoConfig h = h
-config_open password state list old new v0 v1 (OfConfig x) h = h
-config_open password state list old new v0 v1 FaultDirectory h = h
-config_open password state list old new v0 v1 FaultState h = h
-
--- the configuration's file, by what the store's record says
-pub config_start : (kept : Option (List ℕ)) (record_ : List ℕ) (state : PlainState) (list : FileChanges) (t0 t : Option (List Call)) (bytes : List ℕ) → IsLoaded kept state list → ReadsConfigOnce t0 t → record_ ≡ record_bytes state list
-    → KeptConfigures records kept t0 bytes → Configures record_ t bytes
-config_start kept record_ state list t0 t bytes l reads e k =
-    subst (λ r. Configures r t bytes) (sym e) (reads_configures (record_bytes state list) bytes t0 t reads (subst (λ r. Configures r t0 bytes) (same_Some _ _ (sym k.1 ∙ l.kept)) k.2))
+-- ---- what starting gives back
 
 -- what is kept stands for the tree that it did, by the store's identity
 pub represents_kept : (shows : Showing) (kept : Option (List ℕ)) (trace : Option (List Call)) (c : Settings) (salt : List ℕ) (identity : Identity) (content : Content) (tree : Tree) → identity ≡ identity_for c salt
@@ -252,22 +232,4 @@ pub represents_kept : (shows : Showing) (kept : Option (List ℕ)) (trace : Opti
 represents_kept shows kept trace c salt identity content tree ei shown r = record {
   salt = salt;
   keeps = record { content = content; represents = subst (λ i. ContentKept records i kept trace content) ei r; shown = shown };
-}
-
--- a configuration may wait where it was found
-pub no_block : (w : Option (Option (List ℕ))) (t0 t : Option (List Call)) (answer : List ℕ) → Gave w t0 t config 1127 (Some answer) → HasForm answer → IsNoBlock w
-no_block None t0 t answer gave form = tt
-no_block (Some None) t0 t answer gave form = absurd (none-some answer (sym gave.1))
-no_block (Some (Some bytes)) t0 t answer gave form =
-    let is : bytes ≡ answer = short_cut 1127 answer bytes (same_Some _ _ gave.1) (omega (arith, form.size)) in
-    λ magic. (form_waits answer form).1 (ap (take 14) (sym is) ∙ magic)
-
-pub identity_is : (h : Held) (c : Settings) (state : PlainState) → h.size ≡ c.block_size → h.opens ≡ opened_of c.key → h.state ≡ state → state.marked ≡ false → IsOf state c → identity_of h ≡ identity_for c state.key_salt
-identity_is h c state size opens is unmarked of = λ i. record {
-  marked = (ap (λ (p : PlainState). p.marked) is ∙ unmarked) i;
-  fs_id = (ap (λ (p : PlainState). p.fs_id) is ∙ of.fs_id) i;
-  key_salt = (is i).key_salt;
-  key_digest = (ap (λ (p : PlainState). p.key_digest) is ∙ of.digest) i;
-  size = size i;
-  opens = opens i;
 }

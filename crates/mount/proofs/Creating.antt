@@ -23,21 +23,20 @@ use Rattle.held_blocks.specs.Stores.{version_in}
 use Rattle.held_blocks.specs.StoreLaws.{steady_by}
 use Rattle.held_blocks.specs.Standing.{identity_of, records}
 use Rattle.integrity_store.specs.declared.store.IntegrityStore.{IntegrityStore}
-use Rattle.config_file.specs.ConfigOf.{IsOnly, opened}
 use Rattle.config_file.specs.Settings.{Settings}
-use Rattle.scrypt_kdf.specs.Cost.{Cost}
 use Rattle.config_file.specs.declared.config.Cipher.{Cipher}
 use Rattle.outside.specs.Causes.{RoseBy}
 use Rattle.session_saver.specs.declared.saver.SyncError.{SyncError}
 use Rattle.session_saver.specs.declared.saver.SyncError.TheVariants.{Memory as SyncMemory, FaultDirectory as SyncDirectory, FaultState as SyncState}
 use Rattle.tree_commands.specs.Performing.{Showing}
 use Rattle.mount_opening.specs.Opening.{Made, MadeConfig, OnlyRootRaised}
-use Rattle.mount.specs.declared.draws.Draws.{Draws}
-use Rattle.mount.specs.Making.{CreateCause, HasSalt, IsMade, KnowsOnly, new_settings, sealed_file}
-use Rattle.mount.specs.Opening.{error_of}
-use Rattle.mount.specs.Representing.{identity_for, HasEmptyList}
-use Rattle.mount.specs.Tower.{sealed_held, sealed_trace, sealed_meanings, sealed_holdings, sealed_durables}
-use Rattle.mount.proofs.Standing.{represents, emptied}
+use Rattle.mount.specs.Making.{IsMade}
+use Rattle.mount_tower.specs.Making.{CreateCause, HasSalt, KnowsOnly}
+use Rattle.mount_tower.specs.Opening.{error_of}
+use Rattle.mount_tower.specs.Identities.{identity_for, HasEmptyList}
+use Rattle.mount_tower.specs.Tower.{sealed_held, sealed_trace, sealed_meanings, sealed_holdings, sealed_durables}
+use Rattle.mount.proofs.Standing.{represents}
+use Rattle.mount_tower.proofs.Emptied.{emptied}
 
 both_not : (b c : Bool) → b ≡ false → c ≡ false → (not b && not c) ≡ true
 both_not true c e f = absurd cc
@@ -73,6 +72,10 @@ make_cause kept t0 t1 v0 va v1 k0 ka k1 result SyncMemory is v k vc kc = tt
 make_cause kept t0 t1 v0 va v1 k0 ka k1 result SyncDirectory is v k vc kc = omega (arith, v, vc is)
 make_cause kept t0 t1 v0 va v1 k0 ka k1 result SyncState is v k vc kc = omega (arith, k, kc is)
 
+-- by an equal configuration, and an equal file
+pub made_as : (shows : Showing) (c now : Settings) (file text : List ℕ) (kept : Option (List ℕ)) (trace : Option (List Call)) → c ≡ now → file ≡ text → IsMade shows c file kept trace → IsMade shows now text kept trace
+made_as shows c now file text kept trace ec ef m = subst (λ f. IsMade shows now f kept trace) ef (subst (λ s. IsMade shows s file kept trace) ec m)
+
 module _ {V : Type 0} {K : Type 0} (shows : Showing) (trace : V → Option (List Call)) (faults : V → ℕ) (G : KeeperGhosts K) (c : Settings) (salt file : List ℕ) (payload : ℕ) (before after : IntegrityStore V Cipher) (old last : K)
     (ep : payload ≡ c.block_size - 78) (ei : identity_of (sealed_held after) ≡ identity_for c salt) (intact : (sealed_meanings trace faults).intact after) where
   pub made_ok : (result : Result Unit SyncError) (u : Unit {0}) → result ≡ Ok u → Made (shows payload c.root) (sealed_durables trace) records G before old after last result
@@ -95,11 +98,3 @@ module _ {V : Type 0} {K : Type 0} (shows : Showing) (trace : V → Option (List
           | inr x ↦ inr (record { represents = represents shows c salt payload c.root _ (G.kept last) (trace after.sealed.vault.vault) empty_tree ep refl ei k; configures = x })
         ]
       ]
-
--- what was sealed of the draws opens as what they make
-pub opens_sealed : (password : List ℕ) (cost : Cost) (block_size : ℕ) (draws now : Draws) (config : Settings) (bytes : List ℕ) → config ≡ new_settings block_size draws → draws ≡ now
-    → bytes ≡ sealed_file password cost draws.seal config → IsOnly password bytes (opened config cost)
-    → IsOnly password (sealed_file password cost now.seal (new_settings block_size now)) (opened (new_settings block_size now) cost)
-opens_sealed password cost block_size draws now config bytes ec ed eb only =
-    subst (λ (d : Draws). IsOnly password (sealed_file password cost d.seal (new_settings block_size d)) (opened (new_settings block_size d) cost)) ed
-    (subst (λ (s : Settings). IsOnly password (sealed_file password cost draws.seal s) (opened s cost)) ec (subst (λ (b : List ℕ). IsOnly password b (opened config cost)) eb only))

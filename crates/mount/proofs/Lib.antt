@@ -1,6 +1,4 @@
 pub mod Reading
 pub mod Attaching
-pub mod Fresh
 pub mod Standing
 pub mod Creating
-pub mod Quiet

@@ -1,72 +1,19 @@
--- Making a file system, and sealing its configuration.
-use Rattle.std.specs.Prelude.{◌≡◌, ◌⊎◌, ◌≤◌, ℕ, true, false, List, Result, is_some, if◌then◌else◌}
-use Rattle.std.specs.Str.{bytes_eq}
-use Rattle.std.specs.FinMap as fin
+-- Making a file system.
+use Rattle.std.specs.Prelude.{◌≡◌, ◌⊎◌, ℕ, List, Result}
 use Rattle.std.specs.declared.option.Option.{Option}
-use Rattle.std.specs.declared.option.Option.TheVariants.{None, Some}
+use Rattle.std.specs.declared.option.Option.TheVariants.{None}
 use Rattle.std.specs.declared.result.Result.TheVariants.{Ok, Err}
 use Rattle.block_id.specs.declared.id.BlockId.{BlockId}
-use Rattle.block_id.specs.Fresh.{zero_id}
-use Rattle.block_id.specs.Name.{next_id}
-use Rattle.outside.specs.Causes.{RoseBy}
-use Rattle.outside.specs.Trace.{At, Call, adds, got, config}
+use Rattle.outside.specs.Trace.{At, Call}
 use Rattle.fs_model.specs.Tree.{empty_tree}
-use Rattle.scrypt_kdf.specs.Cost.{Cost}
-use Rattle.local_state.specs.Record.{PlainState}
-use Rattle.outside.specs.Changes.{FileChanges}
-use Rattle.store_api.specs.Content.{Id, same_id}
 use Rattle.store_api.specs.Durables.{last_told}
-use Rattle.store_api.specs.Holdings.{has_id}
-use Rattle.integrity_store.specs.declared.store.IntegrityStore.{IntegrityStore}
 use Rattle.held_blocks.specs.Standing.{records}
-use Rattle.held_blocks.specs.Stores.{version_in}
-use Rattle.config_file.specs.Sealing.{config_text}
 use Rattle.config_file.specs.Settings.{Settings}
-use Rattle.config_file.specs.declared.config.Cipher.{Cipher}
-use Rattle.config_file.specs.declared.config.Cipher.TheVariants.{Aes256Gcm}
 use Rattle.session_saver.specs.Saving.{KeptConfigures}
 use Rattle.tree_commands.specs.Performing.{Showing}
-use Rattle.mount.specs.declared.opening.TheConstants.{MAX_CONFIG}
-use Rattle.mount.specs.declared.draws.Draws.{Draws}
-use Rattle.mount.specs.declared.draws.SealDraws.{SealDraws}
-use Rattle.mount.specs.declared.error.OpenError.{OpenError}
-use Rattle.mount.specs.declared.error.OpenError.TheVariants.{Memory, Exists, FaultDirectory, FaultState}
-use Rattle.mount.specs.Opening.{IsLoaded}
-use Rattle.mount.specs.Representing.{identity_for, Represents, HasEmptyList}
-use Rattle.mount.specs.Tower.{sealed_trace, sealed_meanings, sealed_holdings, sealed_durables}
-
--- the id of the root: the drawn one, or the next where that is zero
-abbrev pub root_of : List ℕ → List ℕ
-root_of id = if bytes_eq id zero_id then next_id id else id
-
--- what the new file system is made of
-abbrev pub new_settings : ℕ → Draws → Settings
-new_settings block_size draws =
-    record { root = root_of draws.root; key = draws.key; cipher = Aes256Gcm; block_size = block_size; fs_id = draws.fs_id }
-
--- a configuration's file under the password
-abbrev pub sealed_file : List ℕ → Cost → SealDraws → Settings → List ℕ
-sealed_file password cost draws c = config_text (record {
-  password = password;
-  cost = cost;
-  salt = draws.scrypt_salt;
-  fill = draws.fill;
-  inner_iv = draws.inner_iv;
-  outer_iv = draws.outer_iv;
-}) c
-
--- nothing was put or removed, by a trace that is told
-pub record IsUnchanged (trace : Option (List Call)) : Type 0 where
-  pub told : is_some trace ≡ true
-  pub none : (name : At) → last_told name trace ≡ None
-
--- why a file system isn't made
-abbrev pub CreateCause : Option (List ℕ) → Option (List Call) → Option (List Call) → ℕ → ℕ → ℕ → ℕ → OpenError → Type 0
-CreateCause kept t0 t1 v0 v1 k0 k1 Memory = Unit {0}
-CreateCause kept t0 t1 v0 v1 k0 k1 Exists = (is_some kept ≡ true) ⊎ ((file : List ℕ) × (t1 ≡ adds t0 (got config MAX_CONFIG (Some file))))
-CreateCause kept t0 t1 v0 v1 k0 k1 FaultDirectory = RoseBy 1 v0 v1
-CreateCause kept t0 t1 v0 v1 k0 k1 FaultState = RoseBy 1 k0 k1
-CreateCause kept t0 t1 v0 v1 k0 k1 error = ⊥
+use Rattle.mount_tower.specs.declared.error.OpenError.{OpenError}
+use Rattle.mount.specs.Representing.{Represents}
+use Rattle.mount_tower.specs.Identities.{HasEmptyList}
 
 -- the empty tree is kept, and the configuration's file holds these bytes
 pub record IsMade (shows : Showing) (c : Settings) (file : List ℕ) (kept : Option (List ℕ)) (trace : Option (List Call)) : Type 0 where
@@ -78,34 +25,3 @@ pub record IsMade (shows : Showing) (c : Settings) (file : List ℕ) (kept : Opt
 abbrev pub Created : Showing → Settings → List ℕ → Option (List ℕ) → Option (List ℕ) → Option (List Call) → Result BlockId OpenError → Type 0
 Created shows c file kept0 kept1 t1 (Ok id) = IsMade shows c file kept1 t1 × HasEmptyList kept1
 Created shows c file kept0 kept1 t1 (Err error) = ((kept1 ≡ kept0) × ((name : At) → last_told name t1 ≡ None)) ⊎ IsMade shows c file kept1 t1
-
--- where a record without a violation is kept, it knows the root's block at version 1 at most, and no other block
-abbrev pub KnowsOnly : Option (List ℕ) → List ℕ → Type 0
-KnowsOnly kept root = (state : PlainState) (list : FileChanges) → IsLoaded kept state list
-    → (version_in (fin.get state.lives root) ≤ 1) × ((id : List ℕ) → same_id id root ≡ false → version_in (fin.get state.lives id) ≡ 0)
-
--- where a record without a violation is kept, the digest of the key in it has this salt
-abbrev pub HasSalt : Option (List ℕ) → List ℕ → Type 0
-HasSalt kept salt = (state : PlainState) (list : FileChanges) → IsLoaded kept state list → state.key_salt ≡ salt
-
--- a store that holds nothing, of this configuration and salt; it is sound where no file was changed
-pub record IsNewStore {V : Type 0} (was : Option (List Call)) (failed : ℕ) (trace : V → Option (List Call)) (faults : V → ℕ) (c : Settings) (salt : List ℕ) (store : IntegrityStore V Cipher) : Type 0 where
-  pub intact : (sealed_meanings trace faults).intact store
-  pub same : sealed_trace trace store ≡ was
-  pub few : (sealed_meanings trace faults).faults store ≡ failed
-  pub unused : (id : Id) → has_id ((sealed_holdings trace).used store) id ≡ false
-  pub none : (id : Id) → (sealed_holdings trace).content store id ≡ None
-  pub identity : (sealed_durables trace).identity store ≡ identity_for c salt
-  pub sound : IsUnchanged was → (sealed_meanings trace faults).sound store
-
--- what may be answered where something is kept
-abbrev pub StopsThere : OpenError → Type 0
-StopsThere Exists = Unit {0}
-StopsThere Memory = Unit {0}
-StopsThere FaultState = Unit {0}
-StopsThere error = ⊥
-
--- something was kept: no file system is made, the directory isn't called, and it stays kept
-abbrev pub StaysThere : {V : Type 0} → {K : Type 0} → (K → Option (List ℕ)) → V → K → V → K → Result BlockId OpenError → Type 0
-StaysThere kept v0 k0 v1 k1 (Ok id) = ⊥
-StaysThere kept v0 k0 v1 k1 (Err error) = (v1 ≡ v0) × (kept k1 ≡ kept k0) × StopsThere error

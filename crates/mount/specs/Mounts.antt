@@ -16,14 +16,17 @@ use Rattle.outside.specs.Going.{GoesOn}
 use Rattle.session_saver.specs.Saving.{KeptConfigures}
 use Rattle.session_saver.specs.declared.saver.SyncError.{SyncError}
 use Rattle.tree_commands.specs.Performing.{Showing}
-use Rattle.mount.specs.declared.error.OpenError.{OpenError}
-use Rattle.mount.specs.declared.error.OpenError.TheVariants.{Memory, NoState, BadState, Exists, Marked, Mismatch, FaultDirectory, FaultState}
+use Rattle.mount_tower.specs.declared.error.OpenError.{OpenError}
+use Rattle.mount_tower.specs.declared.error.OpenError.TheVariants.{Memory, NoState, BadState, Exists, Marked, Mismatch, FaultDirectory, FaultState}
 use Rattle.mount.specs.declared.mount.Halted.{Halted}
 use Rattle.mount.specs.declared.mount.Mount.{Mount}
-use Rattle.mount.specs.Opening.{IsLoaded, AttachCause}
-use Rattle.mount.specs.Representing.{identity_for, Represents, HasEmptyList}
-use Rattle.mount.specs.Tower.{tower_durables, TowerReady}
-use Rattle.mount.specs.Unforged.{IsUnforgedConfig}
+use Rattle.mount.specs.Opening.{AttachCause}
+use Rattle.mount_tower.specs.Opening.{IsLoaded}
+use Rattle.mount.specs.Representing.{Represents}
+use Rattle.mount_tower.specs.Identities.{identity_for, HasEmptyList}
+use Rattle.mount.specs.Tower.{TowerReady}
+use Rattle.mount_tower.specs.Tower.{tower_durables}
+use Rattle.mount_tower.specs.Unforged.{IsUnforgedConfig}
 
 -- what each call needs of a mount, and leaves: its store was opened by its configuration
 pub record IsReady {V : Type 0} {K : Type 0} (trace : V → Option (List Call)) (faults : V → ℕ) (G : KeeperGhosts K) (mount : Mount V K) : Type 0 where

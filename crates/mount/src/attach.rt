@@ -1,14 +1,8 @@
 // Opening a file system.
-ghost use Rattle.std.specs.Prelude.{◌≡◌, ◌≢◌, ◌≤◌, ℕ, List, [], ◌∷◌, true, false, is_some, IfOk, IfErr};
-ghost use Rattle.std.specs.FinMap as fin;
+ghost use Rattle.std.specs.Prelude.{◌≡◌, ◌≤◌, ℕ, List, [], ◌∷◌, true, false, is_some, IfOk, IfErr};
 ghost use Rattle.outside.specs.Honest.{is_lie, count_told};
-ghost use Rattle.outside.specs.View.{list_of};
-ghost use Rattle.local_state.specs.Record.{plain_state, record_bytes, HasRecord};
-ghost use Rattle.store_api.specs.Content.{Content, SameContent};
-ghost use Rattle.store_api.specs.Holdings.{IsFew};
 ghost use Rattle.held_blocks.specs.Forgeries.{forged};
-ghost use Rattle.held_blocks.specs.Stores.{version_in};
-ghost use Rattle.held_blocks.specs.Standing.{Stands as StandsFor, records};
+ghost use Rattle.held_blocks.specs.Standing.{records};
 ghost use Rattle.aes_gcm.specs.Gcm.{opened_of};
 ghost use Rattle.config_file.specs.Settings.{Settings, settings_of};
 ghost use Rattle.fs_model.specs.Tree.{Tree};
@@ -16,104 +10,18 @@ ghost use Rattle.session_saver.specs.Saving.{KeptConfigures};
 ghost use Rattle.tree_commands.specs.Showing.{ShowsFiles};
 ghost use Rattle.mount_core.specs.Standing.{IsKeptMarked};
 ghost use Rattle.mount.specs.Mounts.{IsReady, Unopened, StaysMarked};
-ghost use Rattle.mount.specs.Opening.{OpenedConfig, IsOf, OpenCause, ReadsConfigOnce, Attached, AreKnown, error_of};
-ghost use Rattle.mount.specs.Representing.{identity_for, Represents};
-ghost use Rattle.mount.specs.Tower.{trace_in, tower_meanings, tower_holdings, tower_durables, TowerStands, TowerConfigures};
-ghost use Rattle.mount.specs.Unforged.{IsUnforgedConfig};
+ghost use Rattle.mount_tower.specs.Opening.{Attached, AreKnown};
+ghost use Rattle.mount.specs.Representing.{Represents};
+ghost use Rattle.mount.specs.Tower.{TowerStands, TowerConfigures};
+ghost use Rattle.mount_tower.specs.Tower.{trace_in, tower_meanings, tower_holdings};
+ghost use Rattle.mount_tower.specs.Unforged.{IsUnforgedConfig};
 
-use crate::error::OpenError;
 use crate::mount::{Halted, Mount};
-use crate::opening::{Loaded, check_identity, load_record, read_config};
-use crate::tower::{Cached, cached_store, into_vault};
-use config_file::Opened;
-use local_state::State;
+use crate::opening::{Loaded, load_record};
 use mount_opening::{Unstarted, start};
-use outside::{Keeper, Pending, Vault};
-use redo_vault::RedoVault;
-use sealed_store::SealedStore;
-use session_saver::SyncError;
+use mount_tower::{OpenError, Opening, Unread, into_vault, open_error, open_store};
+use outside::{Keeper, Vault};
 use std::alloc::Global;
-
-/// A store, and the configuration that it was opened by.
-struct Opening<V> {
-    store: Cached<V>,
-    opened: Opened,
-}
-
-/// A directory that wasn't opened.
-struct Unread<V> {
-    error: OpenError,
-    vault: V,
-}
-
-/// The store of a record, over the configuration that the list or the directory gives.
-fn open_store<V: Vault>(
-    alloc: Global,
-    vault: V,
-    password: &[u8],
-    state: State,
-    list: Vec<Pending>,
-) -> Result<Opening<V>, Unread<V>>
-    requires record_ { HasRecord (plain_state state) (list_of list.items) }
-    requires unmarked { state.marked ≡ false }
-    ensures intact { IfOk result (λ o. (tower_meanings V.trace V.faults).intact o.store) }
-    ensures few { IfOk result (λ o. IsFew ((tower_holdings V.trace).used o.store)) }
-    ensures found { IfOk result (λ o. OpenedConfig password.now (list_of list.items) (V.trace vault) (trace_in V.trace o.store) o.opened) }
-    ensures is_of { IfOk result (λ o. IsOf (plain_state state) (settings_of o.opened.config)) }
-    ensures list { IfOk result (λ o. (tower_durables V.trace).list o.store ≡ list_of list.items) }
-    ensures record_of { IfOk result (λ o. (tower_durables V.trace).local_record_of o.store true ≡ record_bytes (plain_state state) (list_of list.items)) }
-    ensures short { IfOk result (λ o. (tower_durables V.trace).local_record_of o.store false ≡ record_bytes (plain_state state) []) }
-    ensures identity { IfOk result (λ o. (tower_durables V.trace).identity o.store ≡ identity_for (settings_of o.opened.config) state.key_salt) }
-    ensures stands { IfOk result (λ o. (salt : List ℕ) (content : Content)
-        → StandsFor (identity_for (settings_of o.opened.config) salt) (record_bytes (plain_state state) (list_of list.items)) (V.trace vault) content
-        → (tower_meanings V.trace V.faults).sound o.store × SameContent content ((tower_holdings V.trace).content o.store)) }
-    ensures version { IfOk result (λ o. (id : List ℕ) → (tower_holdings V.trace).version o.store id ≡ version_in (fin.get (plain_state state).lives id)) }
-    ensures reads { IfOk result (λ o. ReadsConfigOnce (V.trace vault) (trace_in V.trace o.store)) }
-    ensures faults { IfOk result (λ o. (tower_meanings V.trace V.faults).faults o.store ≡ V.faults vault) }
-    ensures err { IfErr result (λ u. OpenCause password.now (plain_state state) (list_of list.items) (V.trace vault) (V.trace u.vault) (V.faults vault) (V.faults u.vault) u.error) }
-    ensures err_reads { IfErr result (λ u. ReadsConfigOnce (V.trace vault) (V.trace u.vault)) }
-    ensures err_faults { IfErr result (λ u. V.faults vault ≤ V.faults u.vault) }
-    ensures err_quiet { IfErr result (λ u. u.error ≢ OpenError.FaultDirectory → V.faults u.vault ≡ V.faults vault) }
-{
-    let mut redo = RedoVault::new(vault, list);
-    let opened = match read_config(alloc, &mut redo, password) {
-        Ok(opened) => opened,
-        Err(error) => {
-            return Err(Unread {
-                error,
-                vault: redo.into_vault(),
-            });
-        }
-    };
-    match check_identity(&state, &opened.config) {
-        Ok(()) => {}
-        Err(error) => {
-            return Err(Unread {
-                error,
-                vault: redo.into_vault(),
-            });
-        }
-    }
-    let config = opened.config;
-    let sealed = SealedStore::new(redo, config.cipher, config.key, config.block_size as usize);
-    match cached_store(alloc, sealed, state) {
-        Ok(store) => Ok(Opening { store, opened }),
-        Err(vault) => Err(Unread {
-            error: OpenError::Memory,
-            vault,
-        }),
-    }
-}
-
-pub(crate) fn open_error(error: SyncError) -> OpenError
-    ensures { result ≡ error_of error }
-{
-    match error {
-        SyncError::Memory => OpenError::Memory,
-        SyncError::FaultDirectory => OpenError::FaultDirectory,
-        SyncError::FaultState => OpenError::FaultState,
-    }
-}
 
 impl<V: Vault, K: Keeper> Mount<V, K> {
     /// Opens the file system whose record is kept, under a password: reads the record, the configuration from its list or

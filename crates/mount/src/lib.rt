@@ -4,14 +4,7 @@
 
 mod attach;
 mod create;
-mod draws;
-mod error;
 mod mount;
 mod opening;
-mod tower;
 
-pub use draws::{Draws, SealDraws};
-pub use error::OpenError;
 pub use mount::{Halted, Mount};
-pub use opening::MAX_CONFIG;
-pub use tower::Cached;

@@ -22,19 +22,18 @@ ghost use Rattle.outside.specs.Honest.{is_lie, count_told};
 ghost use Rattle.outside.specs.Going.{GoesOn};
 ghost use Rattle.store_api.specs.Holdings.{Stays};
 ghost use Rattle.session_saver.specs.Saving.{KeptConfigures, UnlessDirectory, UnlessState};
-ghost use Rattle.mount.specs.Drawing.{seal_drawn};
-ghost use Rattle.mount.specs.Making.{sealed_file};
+ghost use Rattle.mount_tower.specs.Drawing.{seal_drawn};
+ghost use Rattle.mount_tower.specs.Making.{sealed_file};
 ghost use Rattle.mount.specs.Mounts.{IsReady, MountClosed};
-ghost use Rattle.mount.specs.Representing.{HasEmptyList};
-ghost use Rattle.mount.specs.Tower.{vault_in, trace_in, tower_meanings, tower_holdings, tower_durables, TowerStands, TowerConfigures};
+ghost use Rattle.mount_tower.specs.Identities.{HasEmptyList};
+ghost use Rattle.mount.specs.Tower.{TowerStands, TowerConfigures};
+ghost use Rattle.mount_tower.specs.Tower.{vault_in, trace_in, tower_meanings, tower_holdings, tower_durables};
 
-use crate::draws::SealDraws;
-use crate::error::OpenError;
-use crate::tower::{Cached, into_vault};
 use answers::Answer;
-use config_file::{Opened, seal_config};
+use config_file::Opened;
 use fs_model::{Command, Moment};
 use mount_core::Core;
+use mount_tower::{Cached, OpenError, SealDraws, into_vault, seal_file};
 use outside::{Keeper, Vault};
 use rand_core::Rng;
 use session_saver::SyncError;
@@ -184,14 +183,11 @@ impl<V: Vault, K: Keeper> Mount<V, K> {
         ensures keeper_quiet { UnlessState result (K.faults self.new.core.saver.keeper ≡ K.faults self.old.core.saver.keeper) }
     {
         let draws = SealDraws::draw(chance);
-        let Ok(file) = seal_config(
+        let Ok(file) = seal_file(
             alloc,
             password,
             &self.opened.params,
-            &draws.scrypt_salt,
-            &draws.fill,
-            &draws.inner_iv,
-            &draws.outer_iv,
+            &draws,
             &self.opened.config,
         ) else {
             return Err(SyncError::Memory);

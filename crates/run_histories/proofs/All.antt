@@ -10,9 +10,10 @@ use Rattle.create_options.specs.declared.options.CreateOptions.{CreateOptions}
 use Rattle.cryfs_setup.specs.Create.{Reports}
 use Rattle.fs_model.specs.Tree.{Tree, empty_tree}
 use Rattle.held_blocks.specs.Standing.{records}
-use Rattle.mount.specs.Drawing.{drawn}
-use Rattle.mount.specs.Making.{IsUnchanged, Created as Made, new_settings}
-use Rattle.mount.specs.declared.error.OpenError.{OpenError}
+use Rattle.mount_tower.specs.Drawing.{drawn}
+use Rattle.mount.specs.Making.{Created as Made}
+use Rattle.mount_tower.specs.Making.{IsUnchanged, new_settings}
+use Rattle.mount_tower.specs.declared.error.OpenError.{OpenError}
 use Rattle.mount_core.specs.Standing.{IsKeptMarked}
 use Rattle.outside.specs.Trace.{Call}
 use Rattle.outside.specs.declared.keeper.Keeper.{Ghosts as KeeperGhosts}

@@ -8,8 +8,8 @@ use Rattle.block_id.specs.declared.id.BlockId.{BlockId}
 use Rattle.held_blocks.specs.Standing.{records}
 use Rattle.line_io.specs.Lines.{first_line}
 use Rattle.line_io.specs.Streams.{Untouched}
-use Rattle.mount.specs.Making.{StaysThere}
-use Rattle.mount.specs.declared.error.OpenError.{OpenError}
+use Rattle.mount_tower.specs.Making.{StaysThere}
+use Rattle.mount_tower.specs.declared.error.OpenError.{OpenError}
 use Rattle.mount_core.specs.Standing.{IsKeptMarked}
 use Rattle.outside.specs.Trace.{Call}
 use Rattle.outside.specs.declared.keeper.Keeper.{Ghosts as KeeperGhosts}

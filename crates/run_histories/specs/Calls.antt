@@ -9,7 +9,7 @@ use Rattle.cryfs_setup.specs.Passwd.{RanPasswd}
 use Rattle.fs_model.specs.Instant.{Instant}
 use Rattle.held_blocks.specs.Standing.{records}
 use Rattle.line_io.specs.Streams.{Stream, Untouched}
-use Rattle.mount.specs.Drawing.{drawn}
+use Rattle.mount_tower.specs.Drawing.{drawn}
 use Rattle.mount_core.specs.Standing.{IsKeptMarked}
 use Rattle.outside.specs.Trace.{Call}
 use Rattle.outside.specs.declared.keeper.Keeper.{Ghosts as KeeperGhosts}

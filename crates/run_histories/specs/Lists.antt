@@ -9,8 +9,8 @@ use Rattle.fs_model.specs.Tree.{Tree, empty_tree}
 use Rattle.held_blocks.specs.Standing.{records}
 use Rattle.line_io.specs.Lines.{first_line}
 use Rattle.line_io.specs.Streams.{Untouched}
-use Rattle.mount.specs.Drawing.{drawn}
-use Rattle.mount.specs.Making.{IsUnchanged, new_settings}
+use Rattle.mount_tower.specs.Drawing.{drawn}
+use Rattle.mount_tower.specs.Making.{IsUnchanged, new_settings}
 use Rattle.mount_core.specs.Standing.{IsKeptMarked}
 use Rattle.outside.specs.Trace.{Call}
 use Rattle.outside.specs.declared.keeper.Keeper.{Ghosts as KeeperGhosts}

@@ -5,8 +5,8 @@ use Rattle.config_file.specs.declared.error.ConfigError.TheVariants as config_er
 use Rattle.held_blocks.specs.Standing.{records}
 use Rattle.mount.specs.Mounts.{IsCalmOpening, StopsMarked, Unopened}
 use Rattle.mount.specs.Opening.{AttachCause}
-use Rattle.mount.specs.declared.error.OpenError.{OpenError}
-use Rattle.mount.specs.declared.error.OpenError.TheVariants as open_error
+use Rattle.mount_tower.specs.declared.error.OpenError.{OpenError}
+use Rattle.mount_tower.specs.declared.error.OpenError.TheVariants as open_error
 use Rattle.mount.specs.declared.mount.Halted.{Halted}
 use Rattle.mount_core.specs.Standing.{IsKeptMarked}
 use Rattle.outside.specs.Causes.{RoseBy}

@@ -6,7 +6,7 @@ use Rattle.fs_model.specs.Tree.{Tree}
 use Rattle.held_blocks.specs.Standing.{records}
 use Rattle.line_io.specs.Streams.{Stream, Untouched}
 use Rattle.mount.specs.Mounts.{StopsMarked, Unopened}
-use Rattle.mount.specs.declared.error.OpenError.{OpenError}
+use Rattle.mount_tower.specs.declared.error.OpenError.{OpenError}
 use Rattle.mount_core.specs.Standing.{IsKeptMarked}
 use Rattle.outside.specs.Causes.{RoseBy}
 use Rattle.outside.specs.Trace.{Call}

@@ -3,7 +3,7 @@ ghost use Rattle.std.specs.Prelude.{◌≡◌};
 ghost use Rattle.run_openings.specs.Statuses.{opening_status, closing_status, session_status};
 
 use config_file::ConfigError;
-use mount::OpenError;
+use mount_tower::OpenError;
 use run_status::Status;
 use session_lines::End;
 use session_saver::SyncError;

@@ -18,7 +18,8 @@ use Rattle.mount_core.specs.Configuring.{ConfigAnswered}
 use Rattle.tree_commands.specs.Performing.{Showing}
 use Rattle.mount_core.specs.Standing.{IsKeptMarked, Left}
 use Rattle.mount.specs.declared.mount.Mount.{Mount}
-use Rattle.mount.specs.Tower.{tower_meanings, tower_holdings, tower_durables, TowerStands}
+use Rattle.mount.specs.Tower.{TowerStands}
+use Rattle.mount_tower.specs.Tower.{tower_meanings, tower_holdings, tower_durables}
 use Rattle.session_runs.specs.Answering.{calls_of, forgeries_of, lies_of, keeper_faults, version_of, kept_of, LineAnswered, MountAnswers}
 use Rattle.session_runs.specs.Causes.{IsAnswerTo, AreBuilt}
 use Rattle.session_runs.specs.Passing.{MountKeeps, LeftAt, PassedTrees, Passed}

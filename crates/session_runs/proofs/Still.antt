@@ -14,8 +14,8 @@ use Rattle.fs_model.specs.Laws.{OnlyLooks}
 use Rattle.held_blocks.specs.Held.{Held}
 use Rattle.held_blocks.specs.Reads.{AllReads, WentOnByReads}
 use Rattle.mount.specs.declared.mount.Mount.{Mount}
-use Rattle.mount.specs.Tower.{Cached, held_in, trace_in, tower_meanings}
-use Rattle.mount.specs.TowerLaws.{tower_lawful}
+use Rattle.mount_tower.specs.Tower.{Cached, held_in, trace_in, tower_meanings}
+use Rattle.mount_tower.specs.TowerLaws.{tower_lawful}
 use Rattle.mount_core.specs.Answers.{is_done_answer, OnReply}
 use Rattle.outside.specs.Trace.{Call}
 use Rattle.outside.specs.declared.keeper.Keeper.{Ghosts as KeeperGhosts}

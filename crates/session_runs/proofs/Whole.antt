@@ -28,8 +28,9 @@ use Rattle.mount_core.specs.Standing.{IsKeptMarked}
 use Rattle.mount.specs.declared.mount.Mount.{Mount}
 use Rattle.mount.specs.Mounts.{IsReady, MountClosed}
 use Rattle.mount.specs.Representing.{Represents}
-use Rattle.mount.specs.Tower.{tower_holdings, tower_durables, TowerStands}
-use Rattle.mount.specs.Unforged.{IsUnforgedConfig}
+use Rattle.mount.specs.Tower.{TowerStands}
+use Rattle.mount_tower.specs.Tower.{tower_holdings, tower_durables}
+use Rattle.mount_tower.specs.Unforged.{IsUnforgedConfig}
 use Rattle.mount.proofs.Reading.{represents_told}
 use Rattle.mount.proofs.Standing.{represents}
 use Rattle.session_runs.specs.Answering.{store_of, calls_of, forgeries_of, lies_of, version_of, kept_of, mount_hosting}

@@ -23,7 +23,8 @@ use Rattle.mount_core.specs.Sparing.{FewRaised}
 use Rattle.mount_core.specs.Standing.{IsKeptMarked, Left}
 use Rattle.mount.specs.declared.mount.Mount.{Mount}
 use Rattle.mount.specs.Mounts.{IsReady}
-use Rattle.mount.specs.Tower.{Cached, trace_in, tower_meanings, tower_holdings, tower_durables, TowerStands, TowerConfigures}
+use Rattle.mount.specs.Tower.{TowerStands, TowerConfigures}
+use Rattle.mount_tower.specs.Tower.{Cached, trace_in, tower_meanings, tower_holdings, tower_durables}
 use Rattle.session_runs.specs.Causes.{IsBadLineAnswer}
 
 -- ---- what a mount tells

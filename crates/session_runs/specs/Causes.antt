@@ -7,7 +7,7 @@ use Rattle.fs_model.specs.Laws.{OnlyLooks}
 use Rattle.answers.specs.declared.answer.Answer.{Answer}
 use Rattle.answers.specs.declared.answer.Answer.TheVariants.{Reply as Replied, Memory, Refused}
 use Rattle.answers.specs.Sessions.{Asked, Exchange}
-use Rattle.mount.specs.Opening.{AreKnown}
+use Rattle.mount_tower.specs.Opening.{AreKnown}
 use Rattle.mount_core.specs.Answers.{is_structure, OnReply, OnSpent}
 use Rattle.tree_commands.specs.Performing.{IsReplyTo}
 

@@ -29,8 +29,8 @@ use Rattle.tree_commands.specs.Sparing.{OnWriteInside}
 use Rattle.mount_core.specs.Sparing.{FewRaised}
 use Rattle.mount_core.specs.Standing.{Left}
 use Rattle.mount.specs.declared.mount.Mount.{Mount}
-use Rattle.mount.specs.Tower.{Cached, tower_meanings, tower_holdings, tower_durables}
-use Rattle.mount.specs.TowerLaws.{tower_lawful}
+use Rattle.mount_tower.specs.Tower.{Cached, tower_meanings, tower_holdings, tower_durables}
+use Rattle.mount_tower.specs.TowerLaws.{tower_lawful}
 use Rattle.session_runs.specs.Answering.{store_of, calls_of, MountAnswers, mount_hosting}
 use Rattle.session_runs.specs.Causes.{IsBadLineAnswer}
 

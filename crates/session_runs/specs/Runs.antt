@@ -23,9 +23,10 @@ use Rattle.session_saver.specs.declared.saver.SyncError.TheVariants.{Memory, Fau
 use Rattle.tree_commands.specs.Performing.{Showing}
 use Rattle.mount_core.specs.Standing.{IsKeptMarked}
 use Rattle.mount.specs.Mounts.{StopsMarked}
-use Rattle.mount.specs.Opening.{Attached}
-use Rattle.mount.specs.Representing.{Represents, HasEmptyList}
-use Rattle.mount.specs.Unforged.{IsUnforgedConfig}
+use Rattle.mount_tower.specs.Opening.{Attached}
+use Rattle.mount.specs.Representing.{Represents}
+use Rattle.mount_tower.specs.Identities.{HasEmptyList}
+use Rattle.mount_tower.specs.Unforged.{IsUnforgedConfig}
 use Rattle.mount.specs.declared.mount.Halted.{Halted}
 use Rattle.session_runs.specs.Causes.{AreAnswered, AreBuilt, SpentSince}
 use Rattle.session_runs.specs.Resting.{AreIdle, OnlyGot}

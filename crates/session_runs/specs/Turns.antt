@@ -21,10 +21,12 @@ use Rattle.mount_core.specs.Configuring.{ConfigClosed}
 use Rattle.tree_commands.specs.Performing.{Showing}
 use Rattle.mount.specs.declared.mount.Mount.{Mount}
 use Rattle.mount.specs.Mounts.{IsReady, MountClosed}
-use Rattle.mount.specs.Opening.{AreKnown, Attached}
-use Rattle.mount.specs.Representing.{Represents, HasEmptyList}
-use Rattle.mount.specs.Tower.{vault_in, TowerStands, TowerConfigures}
-use Rattle.mount.specs.Unforged.{IsUnforgedConfig}
+use Rattle.mount_tower.specs.Opening.{AreKnown, Attached}
+use Rattle.mount.specs.Representing.{Represents}
+use Rattle.mount_tower.specs.Identities.{HasEmptyList}
+use Rattle.mount.specs.Tower.{TowerStands, TowerConfigures}
+use Rattle.mount_tower.specs.Tower.{vault_in}
+use Rattle.mount_tower.specs.Unforged.{IsUnforgedConfig}
 use Rattle.session_runs.specs.Answering.{store_of, calls_of, forgeries_of, lies_of, vault_faults, keeper_faults, version_of, kept_of, mount_hosting}
 
 -- the mount that was opened under the password

@@ -14,11 +14,13 @@ use Rattle.config_file.specs.Settings.{settings_of}
 use Rattle.tree_commands.specs.Showing.{ShowsFiles}
 use Rattle.tree_commands.proofs.Shows.{files_same}
 use Rattle.mount.specs.Mounts.{Unopened}
-use Rattle.mount.specs.Opening.{error_of}
-use Rattle.mount.specs.Tower.{held_in, vault_in, trace_in, tower_holdings, tower_durables}
-use Rattle.mount.proofs.Attaching.{halted_loading, halted_opening, halted_starting, Stopped, config_start, represents_kept, load_marked}
-use Rattle.mount.proofs.Quiet.{err_same, ok_err, stopped_forgeries}
-use Rattle.mount.proofs.Reading.{loaded_unmarked, are_known, represents_of, found_is, reads_told, reads_forgeries, reads_lies}
+use Rattle.mount_tower.specs.Opening.{error_of}
+use Rattle.mount_tower.specs.Tower.{held_in, vault_in, trace_in, tower_holdings, tower_durables}
+use Rattle.mount.proofs.Attaching.{halted_loading, halted_opening, halted_starting, Stopped, represents_kept, load_marked}
+use Rattle.mount_tower.proofs.Found.{config_start}
+use Rattle.mount_tower.proofs.Quiet.{err_same, ok_err, stopped_forgeries}
+use Rattle.mount.proofs.Reading.{loaded_unmarked, represents_of}
+use Rattle.mount_tower.proofs.Reading.{are_known, found_is, reads_told, reads_forgeries, reads_lies}
 use Rattle.mount.proofs.mount.Mount.attach.Goals as goal
 
 not_false : (b : Bool) → not b ≡ false → b ≡ true

@@ -3,17 +3,17 @@ use Rattle.config_file.specs.ConfigOf.{IsOnly, opened}
 use Rattle.config_file.specs.Settings.{settings_of}
 use Rattle.held_blocks.specs.Standing.{records}
 use Rattle.mount_core.specs.Configuring.{Replaced}
-use Rattle.mount.specs.Making.{sealed_file}
+use Rattle.mount_tower.specs.Making.{sealed_file}
 use Rattle.std.specs.Prelude.{OnOk}
 use Rattle.session_saver.specs.Saving.{KeptConfigures}
-use Rattle.mount.specs.Tower.{trace_in, tower_holdings, tower_durables}
+use Rattle.mount_tower.specs.Tower.{trace_in, tower_holdings, tower_durables}
 use Rattle.config_file.proofs.Waiting.{form_waits}
 use Rattle.store_api.specs.Durables.{Identity}
-use Rattle.mount.proofs.Standing.{emptied_on}
+use Rattle.mount_tower.proofs.Emptied.{emptied_on}
 use Rattle.mount.proofs.mount.Mount.change_password.Goals as goal
 
-pub seal_config-requires : goal.seal_config-requires
-seal_config-requires g c =
+pub seal_file-requires : goal.seal_file-requires
+seal_file-requires g c =
     let r = c.requires.ready in
     let size = ap (λ (i : Identity). i.size) r.identity in
     record { low = subst (λ n. 128 ≤ n) size r.core.intact.0.1.least; high = subst (λ n. n ≤ 1048576) size r.core.intact.0.1.most }

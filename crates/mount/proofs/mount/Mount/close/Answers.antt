@@ -10,8 +10,9 @@ use Rattle.tree_commands.specs.Showing.{ShowsFiles}
 use Rattle.mount_core.specs.Configuring.{ConfigClosed}
 use Rattle.session_saver.specs.Saving.{UnlessDirectory}
 use Rattle.mount.specs.Mounts.{MountClosed}
-use Rattle.mount.specs.Tower.{trace_in, tower_meanings}
-use Rattle.mount.proofs.Standing.{closed, emptied_on}
+use Rattle.mount_tower.specs.Tower.{trace_in, tower_meanings}
+use Rattle.mount.proofs.Standing.{closed}
+use Rattle.mount_tower.proofs.Emptied.{emptied_on}
 use Rattle.mount.proofs.mount.Mount.close.Goals as goal
 
 pub returns-clause-stands : goal.returns-clause-stands

@@ -7,18 +7,20 @@ use Rattle.outside.specs.Going.{GoesOn}
 use Rattle.outside.specs.Trace.{At, adds, got, config}
 use Rattle.store_api.specs.Durables.{Identity, last_told}
 use Rattle.config_file.proofs.Waiting.{form_waits}
+use Rattle.config_file.specs.ConfigOf.{IsOnly, opened}
 use Rattle.config_file.specs.Settings.{Settings, settings_of}
 use Rattle.tree_commands.specs.Showing.{ShowsFiles}
-use Rattle.mount.specs.declared.draws.Draws.{Draws}
-use Rattle.mount.specs.Drawing.{drawn}
-use Rattle.mount.specs.Opening.{error_of}
-use Rattle.mount.specs.Making.{CreateCause, HasSalt, IsMade, IsUnchanged, KnowsOnly, new_settings, sealed_file}
-use Rattle.mount.specs.Representing.{HasEmptyList}
 use Rattle.mount_opening.specs.Opening.{OnlyRootRaised}
-use Rattle.mount.specs.Tower.{sealed_held, sealed_holdings, sealed_durables}
-use Rattle.mount.proofs.Creating.{free_root, has_salt, knows_only, made_ok, made_err, make_cause, opens_sealed}
-use Rattle.mount.proofs.Quiet.{ok_err, start_directory, start_state}
-use Rattle.mount.proofs.Reading.{reads_told, reads_last}
+use Rattle.mount_tower.specs.Drawing.{drawn}
+use Rattle.mount_tower.specs.Identities.{HasEmptyList}
+use Rattle.mount_tower.specs.Making.{CreateCause, KnowsOnly, new_settings, sealed_file}
+use Rattle.mount_tower.specs.Opening.{error_of}
+use Rattle.mount_tower.specs.Tower.{sealed_held, sealed_holdings, sealed_durables}
+use Rattle.mount_tower.proofs.Fresh.{reads_unchanged}
+use Rattle.mount_tower.proofs.Quiet.{ok_err, start_directory, start_state}
+use Rattle.mount_tower.proofs.Reading.{reads_last}
+use Rattle.mount.specs.Making.{IsMade}
+use Rattle.mount.proofs.Creating.{free_root, has_salt, knows_only, made_as, made_ok, made_err, make_cause}
 use Rattle.mount.proofs.mount.Mount.create.Goals as goal
 
 pub returns-in-Err-clause-made : goal.returns-in-Err-clause-made
@@ -27,120 +29,106 @@ returns-in-Err-clause-made g c unchanged none =
 
 pub make-result-requires-clause-free : goal.make-result-requires-clause-free
 make-result-requires-clause-free g c =
-    let root = c.config_from-config.result.root.0 in
-    free_root _ root (c.new_store-store.ensures.unused root) c.config_from-config.ensures.root
+    let n = c.in-Ok-new_store.ensures in
+    let root = c.in-Ok-new_store.fresh.config.root.0 in
+    free_root _ root (n.is_new.unused root) n.root
 
 pub make-result-requires-clause-may : goal.make-result-requires-clause-may
-make-result-requires-clause-may g c = form_waits c.in-Ok-seal_config.file.items ((c.in-Ok-seal_config.ensures.opens _).1 refl).0
+make-result-requires-clause-may g c = form_waits c.in-Ok-new_store.fresh.file.items ((c.in-Ok-new_store.ensures.opens _).1 refl).0
 
 pub returns-in-Ok-result-clause-made : goal.returns-in-Ok-result-clause-made
 returns-in-Ok-result-clause-made g c unchanged none =
     let V = g.V.Vault in
-    let n = c.new_store-store.ensures in
-    let q = c.ask_absent.ensures in
+    let fresh = c.in-Ok-new_store.fresh in
+    let n = c.in-Ok-new_store.ensures in
+    let identity = n.is_new.identity in
     let y = c.make-result.ensures in
     let after = c.make-result.result.1 in
     let last = c.make-result.result.2 in
-    let t0 = V.trace c.args.vault in
-    let t = V.trace c.ask_absent.new.vault in
-    let still : IsUnchanged t = record { told = reads_told t0 t q.reads ∙ unchanged.told; none = λ name. reads_last name t0 t q.reads ∙ unchanged.none name } in
-    let cfg = settings_of c.config_from-config.result in
-    let size = ap (λ (i : Identity). i.size - 78) n.identity in
-    let made = made_ok ShowsFiles V.trace V.faults g.K.Keeper cfg c.draw-draws.result.key_salt c.in-Ok-seal_config.file.items ((sealed_held c.new_store-store.result).size - 78) c.new_store-store.result after
-    c.ask_absent.new.keeper last size (y.identity ∙ n.identity) y.intact c.make-result.result.0 _ c.in-Ok-result.is (y.stands (n.sound still) (ap (λ (i : Identity). i.marked) n.identity))
-    (y.configures (ap is_some n.same ∙ still.told)) in
-    let settings = c.config_from-config.ensures.settings ∙ ap (λ d. new_settings c.args.block_size d) c.draw-draws.ensures.draws in
-    let drawn_now = (drawn (g.R.Rng.stream c.args.chance.now)).0 in
-    let cfg1 = new_settings c.args.block_size drawn_now in
-    let text = sealed_file c.args.password.now c.args.params.now drawn_now.seal cfg1 in
-    let file : c.in-Ok-seal_config.file.items ≡ text = c.in-Ok-seal_config.ensures.text
-    ∙ (ap (λ s. sealed_file c.args.password.now c.args.params.now c.draw-draws.result.seal s) settings
-    ∙ ap (λ (d : Draws). sealed_file c.args.password.now c.args.params.now d.seal cfg1) c.draw-draws.ensures.draws) in
-    subst (λ v. IsMade ShowsFiles cfg1 text (g.K.Keeper.kept last) (V.trace v) × HasEmptyList (g.K.Keeper.kept last)) (sym c.into_vault.ensures.vault) (
-      subst (λ f. IsMade ShowsFiles cfg1 f (g.K.Keeper.kept last) (V.trace after.sealed.vault.vault)) file
-          (subst (λ s. IsMade ShowsFiles s c.in-Ok-seal_config.file.items (g.K.Keeper.kept last) (V.trace after.sealed.vault.vault)) settings made.0),
-      made.1,
-    )
+    let draws = (drawn (g.R.Rng.stream c.args.chance.now)).0 in
+    let cfg = new_settings c.args.block_size draws in
+    let text = sealed_file c.args.password.now c.args.params.now draws.seal cfg in
+    let still = reads_unchanged _ _ c.ask_absent.ensures.reads unchanged in
+    let made = made_ok ShowsFiles V.trace V.faults g.K.Keeper (settings_of fresh.config) draws.key_salt fresh.file.items ((sealed_held fresh.store).size - 78) fresh.store after
+    c.ask_absent.new.keeper last (ap (λ (i : Identity). i.size - 78) identity) (y.identity ∙ identity) y.intact c.make-result.result.0 _ c.in-Ok-result.is
+    (y.stands (n.is_new.sound still) (ap (λ (i : Identity). i.marked) identity)) (y.configures (ap is_some n.is_new.same ∙ still.told)) in
+    subst (λ v. IsMade ShowsFiles cfg text (g.K.Keeper.kept last) (V.trace v) × HasEmptyList (g.K.Keeper.kept last)) (sym c.into_vault-vault.ensures.vault)
+    (made_as ShowsFiles (settings_of fresh.config) cfg fresh.file.items text (g.K.Keeper.kept last) (V.trace after.sealed.vault.vault) n.settings n.file made.0, made.1)
 
 pub returns-in-Err-result-clause-made : goal.returns-in-Err-result-clause-made
 returns-in-Err-result-clause-made g c unchanged none =
     let V = g.V.Vault in
-    let n = c.new_store-store.ensures in
+    let fresh = c.in-Ok-new_store.fresh in
+    let n = c.in-Ok-new_store.ensures in
+    let identity = n.is_new.identity in
     let q = c.ask_absent.ensures in
     let y = c.make-result.ensures in
     let after = c.make-result.result.1 in
     let last = c.make-result.result.2 in
-    let t0 = V.trace c.args.vault in
-    let t = V.trace c.ask_absent.new.vault in
-    let still : IsUnchanged t = record { told = reads_told t0 t q.reads ∙ unchanged.told; none = λ name. reads_last name t0 t q.reads ∙ unchanged.none name } in
-    let cfg = settings_of c.config_from-config.result in
-    let size = ap (λ (i : Identity). i.size - 78) n.identity in
-    let made = made_err ShowsFiles V.trace V.faults g.K.Keeper cfg c.draw-draws.result.key_salt c.in-Ok-seal_config.file.items ((sealed_held c.new_store-store.result).size - 78) c.new_store-store.result after
-    c.ask_absent.new.keeper last size (y.identity ∙ n.identity) y.intact c.make-result.result.0 c.in-Err-result.error c.in-Err-result.is (q.kept ∙ none) (λ name. ap (last_told name) n.same ∙ still.none name)
-    (y.stands (n.sound still) (ap (λ (i : Identity). i.marked) n.identity)) (y.configures (ap is_some n.same ∙ still.told)) in
-    let settings = c.config_from-config.ensures.settings ∙ ap (λ d. new_settings c.args.block_size d) c.draw-draws.ensures.draws in
-    let drawn_now = (drawn (g.R.Rng.stream c.args.chance.now)).0 in
-    let cfg1 = new_settings c.args.block_size drawn_now in
-    let text = sealed_file c.args.password.now c.args.params.now drawn_now.seal cfg1 in
-    let file : c.in-Ok-seal_config.file.items ≡ text = c.in-Ok-seal_config.ensures.text
-    ∙ (ap (λ s. sealed_file c.args.password.now c.args.params.now c.draw-draws.result.seal s) settings
-    ∙ ap (λ (d : Draws). sealed_file c.args.password.now c.args.params.now d.seal cfg1) c.draw-draws.ensures.draws) in
-    subst (λ v. ((g.K.Keeper.kept last ≡ g.K.Keeper.kept c.args.keeper) × ((name : At) → last_told name (V.trace v) ≡ None)) ⊎ IsMade ShowsFiles cfg1 text (g.K.Keeper.kept last) (V.trace v)) (sym c.into_vault-in-Err-result.ensures.vault)
+    let draws = (drawn (g.R.Rng.stream c.args.chance.now)).0 in
+    let cfg = new_settings c.args.block_size draws in
+    let text = sealed_file c.args.password.now c.args.params.now draws.seal cfg in
+    let still = reads_unchanged _ _ q.reads unchanged in
+    let made = made_err ShowsFiles V.trace V.faults g.K.Keeper (settings_of fresh.config) draws.key_salt fresh.file.items ((sealed_held fresh.store).size - 78) fresh.store after
+    c.ask_absent.new.keeper last (ap (λ (i : Identity). i.size - 78) identity) (y.identity ∙ identity) y.intact c.make-result.result.0 c.in-Err-result.error c.in-Err-result.is (q.kept ∙ none)
+    (λ name. ap (last_told name) n.is_new.same ∙ still.none name) (y.stands (n.is_new.sound still) (ap (λ (i : Identity). i.marked) identity)) (y.configures (ap is_some n.is_new.same ∙ still.told)) in
+    subst (λ v. ((g.K.Keeper.kept last ≡ g.K.Keeper.kept c.args.keeper) × ((name : At) → last_told name (V.trace v) ≡ None)) ⊎ IsMade ShowsFiles cfg text (g.K.Keeper.kept last) (V.trace v)) (sym c.into_vault-vault.ensures.vault)
     (elim made [
       | inl u ↦ inl (u.0 ∙ q.kept, u.1)
-      | inr m ↦ inr (subst (λ f. IsMade ShowsFiles cfg1 f (g.K.Keeper.kept last) (V.trace after.sealed.vault.vault)) file
-          (subst (λ s. IsMade ShowsFiles s c.in-Ok-seal_config.file.items (g.K.Keeper.kept last) (V.trace after.sealed.vault.vault)) settings m))
+      | inr m ↦ inr (made_as ShowsFiles (settings_of fresh.config) cfg fresh.file.items text (g.K.Keeper.kept last) (V.trace after.sealed.vault.vault) n.settings n.file m)
     ])
 
-pub returns-in_default-clause-made : goal.returns-in_default-clause-made
-returns-in_default-clause-made g c unchanged none =
-    inl (c.ask_absent.ensures.kept, λ name. reads_last name _ _ c.ask_absent.ensures.reads ∙ unchanged.none name)
+pub returns-in-Err-new_store-clause-made : goal.returns-in-Err-new_store-clause-made
+returns-in-Err-new_store-clause-made g c unchanged none =
+    inl (c.ask_absent.ensures.kept, λ name. ap (λ v. last_told name (g.V.Vault.trace v)) c.in-Err-new_store.ensures.err ∙ (reads_last name _ _ c.ask_absent.ensures.reads ∙ unchanged.none name))
 
 pub returns-in-Err-result-clause-cause : goal.returns-in-Err-result-clause-cause
 returns-in-Err-result-clause-cause g c =
     let V = g.V.Vault in
     let K = g.K.Keeper in
-    let n = c.new_store-store.ensures in
+    let before = c.in-Ok-new_store.fresh.store.sealed.vault.vault in
     let q = c.ask_absent.ensures in
     let y = c.make-result.ensures in
     let t0 = V.trace c.args.vault in
     let after = c.make-result.result.1.sealed.vault.vault in
     let last = c.make-result.result.2 in
-    let from : V.faults c.args.vault ≤ V.faults c.new_store-store.result.sealed.vault.vault = subst (λ f. V.faults c.args.vault ≤ f) (sym n.few) q.vault_grows in
-    subst (λ e. CreateCause (K.kept c.args.keeper) t0 (V.trace c.into_vault-in-Err-result.result) (V.faults c.args.vault) (V.faults c.into_vault-in-Err-result.result) (K.faults c.args.keeper) (K.faults last) e) (sym c.open_error.ensures)
-    (subst (λ v. CreateCause (K.kept c.args.keeper) t0 (V.trace v) (V.faults c.args.vault) (V.faults v) (K.faults c.args.keeper) (K.faults last) (error_of c.in-Err-result.error)) (sym c.into_vault-in-Err-result.ensures.vault)
-    (make_cause (K.kept c.args.keeper) t0 (V.trace after) (V.faults c.args.vault) (V.faults c.new_store-store.result.sealed.vault.vault) (V.faults after) (K.faults c.args.keeper) (K.faults c.ask_absent.new.keeper) (K.faults last)
+    let from : V.faults c.args.vault ≤ V.faults before = subst (λ f. V.faults c.args.vault ≤ f) (sym c.in-Ok-new_store.ensures.is_new.few) q.vault_grows in
+    subst (λ e. CreateCause (K.kept c.args.keeper) t0 (V.trace c.into_vault-vault.result) (V.faults c.args.vault) (V.faults c.into_vault-vault.result) (K.faults c.args.keeper) (K.faults last) e) (sym c.open_error.ensures)
+    (subst (λ v. CreateCause (K.kept c.args.keeper) t0 (V.trace v) (V.faults c.args.vault) (V.faults v) (K.faults c.args.keeper) (K.faults last) (error_of c.in-Err-result.error)) (sym c.into_vault-vault.ensures.vault)
+    (make_cause (K.kept c.args.keeper) t0 (V.trace after) (V.faults c.args.vault) (V.faults before) (V.faults after) (K.faults c.args.keeper) (K.faults c.ask_absent.new.keeper) (K.faults last)
     c.make-result.result.0 c.in-Err-result.error c.in-Err-result.is from q.keeper_grows y.vault_cause y.keeper_cause))
 
 pub returns-in-Ok-result-clause-asked : goal.returns-in-Ok-result-clause-asked
 returns-in-Ok-result-clause-asked g c =
     let V = g.V.Vault in
     let after = V.trace c.make-result.result.1.sealed.vault.vault in
-    let on = subst (λ t. GoesOn t after) (c.new_store-store.ensures.same ∙ c.in-Ok.ensures.ok.1) c.make-result.ensures.goes_on in
-    inr (c.in-Ok.ensures.ok.0, subst (λ v. GoesOn (adds (V.trace c.args.vault) (got config 1127 None)) (V.trace v)) (sym c.into_vault.ensures.vault) on)
+    let on = subst (λ t. GoesOn t after) (c.in-Ok-new_store.ensures.is_new.same ∙ c.in-Ok.ensures.ok.1) c.make-result.ensures.goes_on in
+    inr (c.in-Ok.ensures.ok.0, subst (λ v. GoesOn (adds (V.trace c.args.vault) (got config 1127 None)) (V.trace v)) (sym c.into_vault-vault.ensures.vault) on)
 
 pub returns-in-Err-result-clause-asked : goal.returns-in-Err-result-clause-asked
 returns-in-Err-result-clause-asked g c =
     let V = g.V.Vault in
     let after = V.trace c.make-result.result.1.sealed.vault.vault in
-    let on = subst (λ t. GoesOn t after) (c.new_store-store.ensures.same ∙ c.in-Ok.ensures.ok.1) c.make-result.ensures.goes_on in
-    inr (c.in-Ok.ensures.ok.0, subst (λ v. GoesOn (adds (V.trace c.args.vault) (got config 1127 None)) (V.trace v)) (sym c.into_vault-in-Err-result.ensures.vault) on)
+    let on = subst (λ t. GoesOn t after) (c.in-Ok-new_store.ensures.is_new.same ∙ c.in-Ok.ensures.ok.1) c.make-result.ensures.goes_on in
+    inr (c.in-Ok.ensures.ok.0, subst (λ v. GoesOn (adds (V.trace c.args.vault) (got config 1127 None)) (V.trace v)) (sym c.into_vault-vault.ensures.vault) on)
 
 pub returns-in-Ok-result-clause-opens : goal.returns-in-Ok-result-clause-opens
 returns-in-Ok-result-clause-opens g c =
-    inl (opens_sealed c.args.password.now c.args.params.now c.args.block_size c.draw-draws.result _ _ c.in-Ok-seal_config.file.items
-    c.config_from-config.ensures.settings c.draw-draws.ensures.draws c.in-Ok-seal_config.ensures.text c.in-Ok-seal_config.ensures.opens)
+    let n = c.in-Ok-new_store.ensures in
+    let cfg = new_settings c.args.block_size (drawn (g.R.Rng.stream c.args.chance.now)).0 in
+    inl (subst (λ f. IsOnly c.args.password.now f (opened cfg c.args.params.now)) n.file n.opens)
 
 pub returns-in-Err-result-clause-opens : goal.returns-in-Err-result-clause-opens
 returns-in-Err-result-clause-opens g c =
-    inl (opens_sealed c.args.password.now c.args.params.now c.args.block_size c.draw-draws.result _ _ c.in-Ok-seal_config.file.items
-    c.config_from-config.ensures.settings c.draw-draws.ensures.draws c.in-Ok-seal_config.ensures.text c.in-Ok-seal_config.ensures.opens)
+    let n = c.in-Ok-new_store.ensures in
+    let cfg = new_settings c.args.block_size (drawn (g.R.Rng.stream c.args.chance.now)).0 in
+    inl (subst (λ f. IsOnly c.args.password.now f (opened cfg c.args.params.now)) n.file n.opens)
 
 pub returns-in-Ok-result-clause-vault_quiet : goal.returns-in-Ok-result-clause-vault_quiet
 returns-in-Ok-result-clause-vault_quiet g c n =
     let faults = g.V.Vault.faults in
-    let made = subst (λ r. UnlessDirectory r (faults c.make-result.result.1.sealed.vault.vault ≡ faults c.new_store-store.result.sealed.vault.vault)) c.in-Ok-result.is c.make-result.ensures.vault_quiet in
-    ap faults c.into_vault.ensures.vault ∙ (made ∙ (c.new_store-store.ensures.few ∙ c.in-Ok.ensures.vault_quiet (λ e. ok_err tt _ e)))
+    let made = subst (λ r. UnlessDirectory r (faults c.make-result.result.1.sealed.vault.vault ≡ faults c.in-Ok-new_store.fresh.store.sealed.vault.vault)) c.in-Ok-result.is c.make-result.ensures.vault_quiet in
+    ap faults c.into_vault-vault.ensures.vault ∙ (made ∙ (c.in-Ok-new_store.ensures.is_new.few ∙ c.in-Ok.ensures.vault_quiet (λ e. ok_err tt _ e)))
 
 pub returns-in-Ok-result-clause-keeper_quiet : goal.returns-in-Ok-result-clause-keeper_quiet
 returns-in-Ok-result-clause-keeper_quiet g c n =
@@ -151,10 +139,10 @@ returns-in-Ok-result-clause-keeper_quiet g c n =
 pub returns-in-Err-result-clause-vault_quiet : goal.returns-in-Err-result-clause-vault_quiet
 returns-in-Err-result-clause-vault_quiet g c n =
     let faults = g.V.Vault.faults in
-    let same = faults c.make-result.result.1.sealed.vault.vault ≡ faults c.new_store-store.result.sealed.vault.vault in
+    let same = faults c.make-result.result.1.sealed.vault.vault ≡ faults c.in-Ok-new_store.fresh.store.sealed.vault.vault in
     let made = subst (λ r. UnlessDirectory r same) c.in-Err-result.is c.make-result.ensures.vault_quiet in
-    ap faults c.into_vault-in-Err-result.ensures.vault
-    ∙ (start_directory c.in-Err-result.error same made (λ e. n (ap Err (c.open_error.ensures ∙ e))) ∙ (c.new_store-store.ensures.few ∙ c.in-Ok.ensures.vault_quiet (λ e. ok_err tt _ e)))
+    ap faults c.into_vault-vault.ensures.vault
+    ∙ (start_directory c.in-Err-result.error same made (λ e. n (ap Err (c.open_error.ensures ∙ e))) ∙ (c.in-Ok-new_store.ensures.is_new.few ∙ c.in-Ok.ensures.vault_quiet (λ e. ok_err tt _ e)))
 
 pub returns-in-Err-result-clause-keeper_quiet : goal.returns-in-Err-result-clause-keeper_quiet
 returns-in-Err-result-clause-keeper_quiet g c n =
@@ -166,16 +154,16 @@ returns-in-Err-result-clause-keeper_quiet g c n =
 pub returns-in-Ok-result-clause-versions : goal.returns-in-Ok-result-clause-versions
 returns-in-Ok-result-clause-versions g c =
     let V = g.V.Vault in
+    let n = c.in-Ok-new_store.ensures in
     let y = c.make-result.ensures in
-    let before = c.new_store-store.result in
+    let before = c.in-Ok-new_store.fresh.store in
+    let root = c.in-Ok-new_store.fresh.config.root.0 in
     let after = c.make-result.result.1 in
     let last = c.make-result.result.2 in
-    let config = c.config_from-config.result in
-    let settings = c.config_from-config.ensures.settings ∙ ap (λ d. new_settings c.args.block_size d) c.draw-draws.ensures.draws in
     let emptied = subst (λ r. OnOk r (g.K.Keeper.kept last ≡ Some ((sealed_durables V.trace).local_record_of after false))) c.in-Ok-result.is y.emptied in
-    let raised = subst (λ r. OnOk r (OnlyRootRaised (sealed_holdings V.trace) before after config.root.0)) c.in-Ok-result.is y.versions in
-    subst (KnowsOnly (g.K.Keeper.kept last)) (ap (λ (s : Settings). s.root) settings)
-    (knows_only V.trace V.faults before after (g.K.Keeper.kept last) config.root.0 c.new_store-store.ensures.intact c.new_store-store.ensures.unused y.intact emptied raised)
+    let raised = subst (λ r. OnOk r (OnlyRootRaised (sealed_holdings V.trace) before after root)) c.in-Ok-result.is y.versions in
+    subst (KnowsOnly (g.K.Keeper.kept last)) (ap (λ (s : Settings). s.root) n.settings)
+    (knows_only V.trace V.faults before after (g.K.Keeper.kept last) root n.is_new.intact n.is_new.unused y.intact emptied raised)
 
 pub returns-in-Ok-result-clause-salt : goal.returns-in-Ok-result-clause-salt
 returns-in-Ok-result-clause-salt g c =
@@ -184,5 +172,4 @@ returns-in-Ok-result-clause-salt g c =
     let after = c.make-result.result.1 in
     let last = c.make-result.result.2 in
     let emptied = subst (λ r. OnOk r (g.K.Keeper.kept last ≡ Some ((sealed_durables V.trace).local_record_of after false))) c.in-Ok-result.is y.emptied in
-    subst (HasSalt (g.K.Keeper.kept last)) (ap (λ (d : Draws). d.key_salt) c.draw-draws.ensures.draws)
-    (has_salt V.trace V.faults after (g.K.Keeper.kept last) (settings_of c.config_from-config.result) c.draw-draws.result.key_salt y.intact emptied (y.identity ∙ c.new_store-store.ensures.identity))
+    has_salt V.trace V.faults after (g.K.Keeper.kept last) (settings_of c.in-Ok-new_store.fresh.config) (drawn (g.R.Rng.stream c.args.chance.now)).0.key_salt y.intact emptied (y.identity ∙ c.in-Ok-new_store.ensures.is_new.identity)

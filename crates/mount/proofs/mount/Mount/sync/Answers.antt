@@ -1,4 +1,4 @@
-use Rattle.mount.proofs.Standing.{emptied_on}
+use Rattle.mount_tower.proofs.Emptied.{emptied_on}
 use Rattle.mount.proofs.mount.Mount.sync.Goals as goal
 
 pub returns-clause-emptied : goal.returns-clause-emptied

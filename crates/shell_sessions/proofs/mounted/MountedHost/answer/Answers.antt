@@ -3,7 +3,7 @@ use Rattle.answers.specs.Sessions.{is_violation}
 use Rattle.held_blocks.specs.Standing.{records}
 use Rattle.tree_commands.specs.Showing.{ShowsFiles}
 use Rattle.mount_core.specs.Standing.{Left}
-use Rattle.mount.specs.Tower.{tower_meanings, tower_holdings, tower_durables}
+use Rattle.mount_tower.specs.Tower.{tower_meanings, tower_holdings, tower_durables}
 use Rattle.shell_sessions.proofs.Synced.{same_synced}
 use Rattle.shell_sessions.proofs.mounted.MountedHost.answer.Goals as goal
 

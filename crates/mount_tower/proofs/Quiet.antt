@@ -5,10 +5,10 @@ use Rattle.std.specs.declared.option.Option.{Option}
 use Rattle.std.specs.declared.result.Result.TheVariants.{Ok, Err}
 use Rattle.integrity_store.proofs.WriteOuts.{wrote, same_count, forgeries_spare}
 use Rattle.held_blocks.specs.Forgeries.{forged}
-use Rattle.mount.specs.Opening.{error_of}
-use Rattle.mount.specs.Tower.{Cached, trace_in, tower_durables}
-use Rattle.mount.specs.declared.error.OpenError.{OpenError}
-use Rattle.mount.specs.declared.error.OpenError.TheVariants.{FaultDirectory, FaultState}
+use Rattle.mount_tower.specs.Opening.{error_of}
+use Rattle.mount_tower.specs.Tower.{Cached, trace_in, tower_durables}
+use Rattle.mount_tower.specs.declared.error.OpenError.{OpenError}
+use Rattle.mount_tower.specs.declared.error.OpenError.TheVariants.{FaultDirectory, FaultState}
 use Rattle.outside.specs.Honest.{count_told}
 use Rattle.outside.specs.Trace.{Call}
 use Rattle.outside.specs.declared.vault.GetFail.TheVariants.{Failed}

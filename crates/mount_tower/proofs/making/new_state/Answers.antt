@@ -1,7 +1,7 @@
 use Rattle.std.proofs.Common.{rules, false, refl}
 use Rattle.local_state.specs.Record.{plain_state}
-use Rattle.mount.proofs.Fresh.{fresh_record}
-use Rattle.mount.proofs.create.new_state.Goals as goal
+use Rattle.mount_tower.proofs.Fresh.{fresh_record}
+use Rattle.mount_tower.proofs.making.new_state.Goals as goal
 
 pub returns-clause-record_ : goal.returns-clause-record_
 returns-clause-record_ c =

@@ -11,14 +11,14 @@ use Rattle.held_blocks.specs.Stores.{IsNoBlock}
 use Rattle.integrity_store.specs.WaitingLaws.{in_order}
 use Rattle.config_file.specs.Settings.{settings_of}
 use Rattle.config_file.specs.declared.config.Cipher.{Cipher}
-use Rattle.mount.specs.Opening.{OpenCause, ReadsConfigOnce}
-use Rattle.mount.specs.Representing.{identity_for}
-use Rattle.mount.specs.Tower.{vault_in, tower_durables}
-use Rattle.mount.proofs.Attaching.{config_open, identity_is, no_block}
-use Rattle.mount.proofs.Quiet.{err_same, ok_err}
-use Rattle.mount.proofs.Reading.{reads_stands, stands_salt}
-use Rattle.mount.proofs.attach.open_store.Given.{Over}
-use Rattle.mount.proofs.attach.open_store.Goals as goal
+use Rattle.mount_tower.specs.Opening.{OpenCause, ReadsConfigOnce}
+use Rattle.mount_tower.specs.Identities.{identity_for}
+use Rattle.mount_tower.specs.Tower.{vault_in, tower_durables}
+use Rattle.mount_tower.proofs.Found.{config_open, identity_is, no_block}
+use Rattle.mount_tower.proofs.Quiet.{err_same, ok_err}
+use Rattle.mount_tower.proofs.Reading.{reads_stands, stands_salt}
+use Rattle.mount_tower.proofs.opening.open_store.Given.{Over}
+use Rattle.mount_tower.proofs.opening.open_store.Goals as goal
 
 abbrev RedoOf : Over → Type 0
 RedoOf g = Redo g.row.V.Denot

@@ -1,5 +1,5 @@
-use Rattle.mount.proofs.Reading.{reads_gave}
-use Rattle.mount.proofs.opening.read_config.Goals as goal
+use Rattle.mount_tower.proofs.Reading.{reads_gave}
+use Rattle.mount_tower.proofs.opening.read_config.Goals as goal
 
 pub returns-in-Ok-clause-reads : goal.returns-in-Ok-clause-reads
 returns-in-Ok-clause-reads g c = reads_gave _ _ _ _ c.in-Ok-Some.ensures.gave

@@ -3,9 +3,9 @@ use Rattle.held_blocks.specs.Standing.{Stands}
 use Rattle.integrity_store.specs.declared.store.IntegrityStore.{IntegrityStore}
 use Rattle.config_file.specs.declared.config.Cipher.{Cipher}
 use Rattle.store_api.specs.Content.{SameContent}
-use Rattle.mount.specs.Tower.{sealed_trace, sealed_holdings, sealed_durables}
-use Rattle.mount.proofs.tower.cached_store.Given.{Over}
-use Rattle.mount.proofs.tower.cached_store.Goals as goal
+use Rattle.mount_tower.specs.Tower.{sealed_trace, sealed_holdings, sealed_durables}
+use Rattle.mount_tower.proofs.tower.cached_store.Given.{Over}
+use Rattle.mount_tower.proofs.tower.cached_store.Goals as goal
 
 abbrev StoreOf : Over → Type 0
 StoreOf g = IntegrityStore g.row.V.Denot Cipher

@@ -13,8 +13,9 @@ use Rattle.local_state.specs.Known.{Lives, FitsLife, FitLives}
 use Rattle.local_state.specs.Record.{PlainState, HasRecord}
 use Rattle.held_blocks.specs.Soundness.{IsUntouched}
 use Rattle.store_api.specs.Holdings.{has_id}
-use Rattle.mount.specs.Making.{IsUnchanged}
-use Rattle.mount.proofs.Reading.{true_is_false}
+use Rattle.mount_tower.specs.Making.{IsUnchanged}
+use Rattle.mount_tower.specs.Opening.{ReadsConfigOnce}
+use Rattle.mount_tower.proofs.Reading.{true_is_false, reads_told, reads_last}
 
 lives_get : (lives : Lives) (id : List ℕ) → lives ≡ fin.empty → fin.get lives id ≡ None
 lives_get lives id e = ap (λ m. fin.get m id) e ∙ get-empty (slice_cmp nat_cmp) id
@@ -29,6 +30,9 @@ none_used lives id e = sym (contains_key-keys lives id) ∙ ap is_some (lives_ge
 pub untouched : (t : Option (List Call)) → IsUnchanged t → IsUntouched t
 untouched None u = absurd (true_is_false (sym u.told))
 untouched (Some t) u = u.none
+
+pub reads_unchanged : (a b : Option (List Call)) → ReadsConfigOnce a b → IsUnchanged a → IsUnchanged b
+reads_unchanged a b reads u = record { told = reads_told a b reads ∙ u.told; none = λ name. reads_last name a b reads ∙ u.none name }
 
 no_lives : (lives : Lives) → lives ≡ fin.empty → FitLives lives
 no_lives lives e id = subst (λ o. IfSome o (FitsLife id)) (sym (lives_get lives id e)) tt

@@ -6,7 +6,7 @@ use Rattle.held_blocks.specs.StoreLaws.{lawful_by}
 use Rattle.outcome.specs.Meanings.{Lawful}
 use Rattle.outside.specs.Trace.{Call}
 use Rattle.sealed_store.specs.Stores.{IsIntact, block_size_of}
-use Rattle.mount.specs.Tower.{sealed_held, sealed_trace, sealed_meanings, sealed_holdings, tower_meanings}
+use Rattle.mount_tower.specs.Tower.{sealed_held, sealed_trace, sealed_meanings, sealed_holdings, tower_meanings}
 
 pub tower_lawful : {V : Type 0} (trace : V → Option (List Call)) (faults : V → ℕ) → Lawful (tower_meanings trace faults)
 tower_lawful trace faults =

@@ -10,13 +10,13 @@ use Rattle.config_file.specs.Settings.{settings_of}
 use Rattle.config_file.specs.declared.config.Cipher.{Cipher}
 use Rattle.sha2.specs.Sha256.{sha256}
 use Rattle.store_api.specs.Holdings.{has_id}
-use Rattle.mount.specs.Making.{IsUnchanged}
-use Rattle.mount.specs.Representing.{identity_for}
-use Rattle.mount.specs.Tower.{sealed_held, sealed_trace, sealed_holdings}
-use Rattle.mount.proofs.Attaching.{identity_is}
-use Rattle.mount.proofs.Fresh.{none_used, unused_none, untouched}
-use Rattle.mount.proofs.create.new_store.Given.{Over}
-use Rattle.mount.proofs.create.new_store.Goals as goal
+use Rattle.mount_tower.specs.Making.{IsUnchanged}
+use Rattle.mount_tower.specs.Identities.{identity_for}
+use Rattle.mount_tower.specs.Tower.{sealed_held, sealed_trace, sealed_holdings}
+use Rattle.mount_tower.proofs.Found.{identity_is}
+use Rattle.mount_tower.proofs.Fresh.{none_used, unused_none, untouched}
+use Rattle.mount_tower.proofs.making.empty_store.Given.{Over}
+use Rattle.mount_tower.proofs.making.empty_store.Goals as goal
 
 abbrev RedoOf : Over → Type 0
 RedoOf g = Redo g.row.V.Denot

@@ -1,7 +1,7 @@
 // The random bytes of a new file system, and of a new password.
 ghost use Rattle.std.specs.Prelude.{◌≡◌};
 ghost use Rattle.rand_core.specs.Stream.{fill_bytes};
-ghost use Rattle.mount.specs.Drawing.{drawn, seal_drawn};
+ghost use Rattle.mount_tower.specs.Drawing.{drawn, seal_drawn};
 
 use rand_core::Rng;
 

@@ -11,7 +11,7 @@ ghost use Rattle.held_blocks.specs.Standing.{identity_of, listed, records};
 ghost use Rattle.held_blocks.specs.Stores.{version_in, IsNoBlock};
 ghost use Rattle.held_blocks.specs.Views.{held_of};
 ghost use Rattle.aes_gcm.specs.Gcm.{opened_of};
-ghost use Rattle.mount.specs.Tower.{vault_in, trace_in, tower_meanings, tower_holdings, tower_durables};
+ghost use Rattle.mount_tower.specs.Tower.{vault_in, trace_in, tower_meanings, tower_holdings, tower_durables};
 
 use block_cache::BlockCache;
 use config_file::Cipher;
@@ -57,7 +57,7 @@ pub(crate) fn cached_store<V: Vault>(
 }
 
 /// The directory, without the cache and the unwritten list.
-pub(crate) fn into_vault<V: Vault>(store: Cached<V>) -> V
+pub fn into_vault<V: Vault>(store: Cached<V>) -> V
     ensures vault { result ≡ vault_in store }
     ensures trace { V.trace result ≡ trace_in V.trace store }
 {

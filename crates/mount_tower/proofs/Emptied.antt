@@ -1,0 +1,27 @@
+-- What is kept with an empty list.
+use Rattle.std.proofs.Common.{◌≡◌, ℕ, List, false}
+use Rattle.std.specs.Prelude.{Result, OnOk}
+use Rattle.std.specs.declared.option.Option.{Option}
+use Rattle.std.specs.declared.option.Option.TheVariants.{Some}
+use Rattle.std.specs.declared.result.Result.TheVariants.{Ok, Err}
+use Rattle.outside.specs.Trace.{Call}
+use Rattle.integrity_store.specs.EnduringLaws.{listed_has}
+use Rattle.integrity_store.specs.declared.store.IntegrityStore.{IntegrityStore}
+use Rattle.config_file.specs.declared.config.Cipher.{Cipher}
+use Rattle.mount_tower.specs.Identities.{HasEmptyList}
+use Rattle.mount_tower.specs.Tower.{Cached, sealed_held, sealed_meanings, sealed_durables, tower_meanings, tower_durables}
+
+pub on_ok : {T E : Type 0} (result : Result T E) (P : Type 0) → P → OnOk result P
+on_ok (Ok x) P p = p
+on_ok (Err e) P p = tt
+
+-- the record with an empty list is kept
+pub emptied : {V : Type 0} (trace : V → Option (List Call)) (faults : V → ℕ) (store : IntegrityStore V Cipher) (kept : Option (List ℕ)) → (sealed_meanings trace faults).intact store
+    → kept ≡ Some ((sealed_durables trace).local_record_of store false) → HasEmptyList kept
+emptied trace faults store kept intact e =
+    record { state = (sealed_held store).state; has_record = listed_has (sealed_held store).state (sealed_held store).list false intact.0.has_record; kept = e }
+
+pub emptied_on : {V : Type 0} {T E : Type 0} (trace : V → Option (List Call)) (faults : V → ℕ) (store : Cached V) (kept : Option (List ℕ)) (result : Result T E) → (tower_meanings trace faults).intact store
+    → OnOk result (kept ≡ Some ((tower_durables trace).local_record_of store false)) → OnOk result (HasEmptyList kept)
+emptied_on trace faults store kept (Ok x) intact e = emptied trace faults store.store kept intact.0 e
+emptied_on trace faults store kept (Err x) intact e = tt

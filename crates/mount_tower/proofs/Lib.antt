@@ -1,0 +1,5 @@
+pub mod Quiet
+pub mod Reading
+pub mod Found
+pub mod Emptied
+pub mod Fresh

@@ -1,0 +1,19 @@
+-- What a store is opened as, and a record that nothing waits in.
+use Rattle.std.specs.Prelude.{◌≡◌, ℕ, false, List, [], ◌++◌}
+use Rattle.std.specs.declared.option.Option.{Option}
+use Rattle.std.specs.declared.option.Option.TheVariants.{Some}
+use Rattle.sha2.specs.Sha256.{sha256}
+use Rattle.aes_gcm.specs.Gcm.{opened_of}
+use Rattle.local_state.specs.Record.{PlainState, HasRecord, record_bytes}
+use Rattle.store_api.specs.Durables.{Identity}
+use Rattle.config_file.specs.Settings.{Settings}
+
+-- what a store of this configuration is opened as, where its record's salt is this
+abbrev pub identity_for : Settings → List ℕ → Identity
+identity_for c salt = record { marked = false; fs_id = c.fs_id; key_salt = salt; key_digest = sha256 (salt ++ c.key); size = c.block_size; opens = opened_of c.key }
+
+-- a record with an empty list is kept
+pub record HasEmptyList (was : Option (List ℕ)) : Type 0 where
+  pub state : PlainState
+  pub has_record : HasRecord state []
+  pub kept : was ≡ Some (record_bytes state [])

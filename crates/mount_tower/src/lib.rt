@@ -1,0 +1,15 @@
+//! The stores that a mount runs over: opened by a record and the configuration that its list or the directory gives, and made
+//! for a new file system, with what is drawn for that; and why none is opened or made.
+#![tactic(auto)]
+
+mod draws;
+mod error;
+mod making;
+mod opening;
+mod tower;
+
+pub use draws::{Draws, SealDraws};
+pub use error::{OpenError, open_error};
+pub use making::{NewStore, ask_absent, new_store, seal_file};
+pub use opening::{MAX_CONFIG, Opening, Unread, open_store};
+pub use tower::{Cached, into_vault};
