@@ -1,8 +1,10 @@
-use Rattle.std.proofs.Common.{◌≡◌, ◌⊎◌, ◌≤◌, ◌-◌, false, refl, sym, ◌∙◌, ap, subst, inl, inr}
+use Rattle.std.proofs.Common.{◌≡◌, ◌⊎◌, ◌≤◌, ◌-◌, ℕ, false, refl, sym, ◌∙◌, ap, subst, inl, inr, arith}
 use Rattle.std.specs.Prelude.{is_some, OnOk}
 use Rattle.std.specs.declared.option.Option.TheVariants.{None, Some}
 use Rattle.std.specs.declared.result.Result.TheVariants.{Err}
 use Rattle.session_saver.specs.Saving.{UnlessDirectory, UnlessState}
+use Rattle.session_saver.specs.declared.saver.SyncError.{SyncError}
+use Rattle.session_saver.specs.declared.saver.SyncError.TheVariants.{Memory as SyncMemory, FaultDirectory as SyncDirectory, FaultState as SyncState}
 use Rattle.outside.specs.Going.{GoesOn}
 use Rattle.outside.specs.Trace.{At, adds, got, config}
 use Rattle.store_api.specs.Durables.{Identity, last_told}
@@ -12,16 +14,25 @@ use Rattle.config_file.specs.Settings.{Settings, settings_of}
 use Rattle.tree_commands.specs.Showing.{ShowsFiles}
 use Rattle.mount_opening.specs.Opening.{OnlyRootRaised}
 use Rattle.mount_tower.specs.Drawing.{drawn}
+use Rattle.mount_tower.specs.declared.error.OpenError.TheVariants.{Exists}
 use Rattle.mount_tower.specs.Identities.{HasEmptyList}
 use Rattle.mount_tower.specs.Making.{CreateCause, KnowsOnly, new_settings, sealed_file}
 use Rattle.mount_tower.specs.Opening.{error_of}
 use Rattle.mount_tower.specs.Tower.{sealed_held, sealed_holdings, sealed_durables}
 use Rattle.mount_tower.proofs.Fresh.{reads_unchanged}
-use Rattle.mount_tower.proofs.Quiet.{ok_err, start_directory, start_state}
-use Rattle.mount_tower.proofs.Reading.{reads_last}
+use Rattle.mount_tower.proofs.Quiet.{err_same, ok_err, start_directory, start_state}
+use Rattle.mount_tower.proofs.Reading.{reads_last, true_is_false}
 use Rattle.mount.specs.Making.{IsMade}
 use Rattle.mount.proofs.Creating.{free_root, has_salt, knows_only, made_as, made_ok, made_err, make_cause}
 use Rattle.mount.proofs.mount.Mount.create.Goals as goal
+
+not_exists : (e : SyncError) → error_of e ≡ Exists → ⊥
+not_exists SyncMemory e = cc
+not_exists SyncDirectory e = cc
+not_exists SyncState e = cc
+
+grows : (a b c d e : ℕ) → a ≤ b → c ≡ b → c ≤ d → e ≡ d → a ≤ e
+grows a b c d e first same next last = omega (arith, first, same, next, last)
 
 pub returns-in-Err-clause-made : goal.returns-in-Err-clause-made
 returns-in-Err-clause-made g c unchanged none =
@@ -98,12 +109,15 @@ returns-in-Err-result-clause-cause g c =
     (make_cause (K.kept c.args.keeper) t0 (V.trace after) (V.faults c.args.vault) (V.faults before) (V.faults after) (K.faults c.args.keeper) (K.faults c.ask_absent.new.keeper) (K.faults last)
     c.make-result.result.0 c.in-Err-result.error c.in-Err-result.is from q.keeper_grows y.vault_cause y.keeper_cause))
 
-pub returns-in-Ok-result-clause-asked : goal.returns-in-Ok-result-clause-asked
-returns-in-Ok-result-clause-asked g c =
+pub returns-in-Ok-result-clause-absent : goal.returns-in-Ok-result-clause-absent
+returns-in-Ok-result-clause-absent g c =
     let V = g.V.Vault in
     let after = V.trace c.make-result.result.1.sealed.vault.vault in
     let on = subst (λ t. GoesOn t after) (c.in-Ok-new_store.ensures.is_new.same ∙ c.in-Ok.ensures.ok.1) c.make-result.ensures.goes_on in
-    inr (c.in-Ok.ensures.ok.0, subst (λ v. GoesOn (adds (V.trace c.args.vault) (got config 1127 None)) (V.trace v)) (sym c.into_vault-vault.ensures.vault) on)
+    (c.in-Ok.ensures.ok.0, subst (λ v. GoesOn (adds (V.trace c.args.vault) (got config 1127 None)) (V.trace v)) (sym c.into_vault-vault.ensures.vault) on)
+
+pub returns-in-Ok-result-clause-asked : goal.returns-in-Ok-result-clause-asked
+returns-in-Ok-result-clause-asked g c = inr (returns-in-Ok-result-clause-absent g c)
 
 pub returns-in-Err-result-clause-asked : goal.returns-in-Err-result-clause-asked
 returns-in-Err-result-clause-asked g c =
@@ -173,3 +187,32 @@ returns-in-Ok-result-clause-salt g c =
     let last = c.make-result.result.2 in
     let emptied = subst (λ r. OnOk r (g.K.Keeper.kept last ≡ Some ((sealed_durables V.trace).local_record_of after false))) c.in-Ok-result.is y.emptied in
     has_salt V.trace V.faults after (g.K.Keeper.kept last) (settings_of c.in-Ok-new_store.fresh.config) (drawn (g.R.Rng.stream c.args.chance.now)).0.key_salt y.intact emptied (y.identity ∙ c.in-Ok-new_store.ensures.is_new.identity)
+
+pub returns-in-Ok-result-clause-id : goal.returns-in-Ok-result-clause-id
+returns-in-Ok-result-clause-id g c = ap (λ (s : Settings). s.fs_id) c.in-Ok-new_store.ensures.settings
+
+pub returns-in-Err-clause-opens : goal.returns-in-Err-clause-opens
+returns-in-Err-clause-opens g c = inr (c.ask_absent.ensures.kept, refl)
+
+pub returns-in-Err-new_store-clause-opens : goal.returns-in-Err-new_store-clause-opens
+returns-in-Err-new_store-clause-opens g c = inr (c.ask_absent.ensures.kept, refl)
+
+pub returns-in-Ok-result-clause-vault_grows : goal.returns-in-Ok-result-clause-vault_grows
+returns-in-Ok-result-clause-vault_grows g c =
+    grows _ _ _ _ _ c.ask_absent.ensures.vault_grows c.in-Ok-new_store.ensures.is_new.few c.make-result.ensures.vault_grows (ap g.V.Vault.faults c.into_vault-vault.ensures.vault)
+
+pub returns-in-Err-result-clause-vault_grows : goal.returns-in-Err-result-clause-vault_grows
+returns-in-Err-result-clause-vault_grows g c =
+    grows _ _ _ _ _ c.ask_absent.ensures.vault_grows c.in-Ok-new_store.ensures.is_new.few c.make-result.ensures.vault_grows (ap g.V.Vault.faults c.into_vault-vault.ensures.vault)
+
+pub returns-in-Ok-result-clause-there : goal.returns-in-Ok-result-clause-there
+returns-in-Ok-result-clause-there g c some = absurd (true_is_false (sym some ∙ ap is_some c.in-Ok.ensures.ok.0))
+
+pub returns-in-Err-result-clause-there : goal.returns-in-Err-result-clause-there
+returns-in-Err-result-clause-there g c some = absurd (true_is_false (sym some ∙ ap is_some c.in-Ok.ensures.ok.0))
+
+pub returns-in-Err-new_store-clause-there : goal.returns-in-Err-new_store-clause-there
+returns-in-Err-new_store-clause-there g c some = absurd (true_is_false (sym some ∙ ap is_some c.in-Ok.ensures.ok.0))
+
+pub returns-in-Err-result-clause-exists : goal.returns-in-Err-result-clause-exists
+returns-in-Err-result-clause-exists g c e = absurd (not_exists c.in-Err-result.error (sym c.open_error.ensures ∙ err_same e))
