@@ -6,7 +6,7 @@ use Rattle.data_nodes.specs.Layout.{node_of, ids_of, fan_out, FitsPayload}
 use Rattle.data_tree.specs.Trees.{span}
 use Rattle.data_tree.specs.Needs.{HasBelow}
 use Rattle.data_tree.proofs.Loads.{tx_holdings, tx_laws}
-use Rattle.data_tree.proofs.Forests.{below_on, below_of, children_of, leaf_is, stays-then, stays-same}
+use Rattle.data_tree.proofs.Forests.{below_on, below_of, children_of, leaf_is}
 use Rattle.tree_calls.proofs.Lasts.{last_fits, last_of, last-length, sum_is}
 use Rattle.data_tree.proofs.Gathering.{last_child}
 use Rattle.tree_calls.proofs.length.+len.Goals as goal
@@ -77,14 +77,5 @@ len_in-returns-in-Ok-clause-most g t c =
     let all = last_fits i (fan_out c.payload.result) c.below-below.result.room c.in-Ok.len c.args.level.room few c.below-below.ensures.all c.in-Ok.ensures.most in
     all
 
-pub len_below-returns-in-Ok-clause-stays : goal.len_below-returns-in-Ok-clause-stays
-len_below-returns-in-Ok-clause-stays g t c = stays-then c.load_at.ensures.stays c.len_in.ensures.stays
-
-pub len_below-returns-in-Ok-clause-below : goal.len_below-returns-in-Ok-clause-below
-len_below-returns-in-Ok-clause-below g t c = stays-then c.load_at.ensures.below c.len_in.ensures.below
-
-pub len_in-returns-in-Leaf-clause-stays : goal.len_in-returns-in-Leaf-clause-stays
-len_in-returns-in-Leaf-clause-stays g t c = stays-same (tx_holdings g.S.Blocks.holdings) c.args.tx.now
-
-pub len_in-returns-in-Leaf-clause-below : goal.len_in-returns-in-Leaf-clause-below
-len_in-returns-in-Leaf-clause-below g t c = stays-same g.S.Blocks.holdings c.args.tx.now.store
+pub len_below-returns-in-Err-clause-outcome : goal.len_below-returns-in-Err-clause-outcome
+len_below-returns-in-Err-clause-outcome g t c = passed c.in-Err.ensures.outcome

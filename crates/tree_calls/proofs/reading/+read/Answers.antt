@@ -1,9 +1,10 @@
-use Rattle.std.proofs.Common.{◌⊎◌, ◌++◌, sym, ◌∙◌, ap, inl, inr, arith, append-nil, drop, get_or, [], ◌≤◌, ◌+◌, List}
+use Rattle.std.proofs.Common.{◌⊎◌, ◌++◌, sym, ◌∙◌, ap, inl, inr, arith, append-nil, drop, get_or, [], ◌≤◌, ◌+◌, List, refl}
 use Rattle.block_id.specs.declared.id.BlockId.{BlockId}
-use Rattle.outcome.specs.Outcome.{idle, first_, then_, failed_, answered}
+use Rattle.outcome.specs.Outcome.{idle, first_, then_, failed_, answered, passed}
 use Rattle.data_nodes.specs.Layout.{node_of, ids_of, inner}
 use Rattle.tree_calls.specs.Reading.{between}
 use Rattle.data_tree.proofs.Loads.{tx_holdings, tx_laws}
+use Rattle.data_tree.proofs.Puts.{memory_first}
 use Rattle.tree_calls.proofs.Parts.{between-none}
 use Rattle.data_tree.proofs.Forests.{below_on, below_of, children_of, stays-then, stays-same, leaf_is}
 use Rattle.data_tree.proofs.Gathering.{next_child, no_child}
@@ -107,3 +108,9 @@ read_children-returns-in-Err-clause-stays g t c = stays-then c.loop-child.invari
 
 pub read_children-returns-in-Err-clause-below : goal.read_children-returns-in-Err-clause-below
 read_children-returns-in-Err-clause-below g t c = stays-then c.loop-child.invariant.below c.read_below.ensures.below
+
+pub read_below-returns-in-Err-clause-outcome : goal.read_below-returns-in-Err-clause-outcome
+read_below-returns-in-Err-clause-outcome g t c = passed c.in-Err.ensures.outcome
+
+pub read_in-returns-in-Err-clause-outcome : goal.read_in-returns-in-Err-clause-outcome
+read_in-returns-in-Err-clause-outcome g t c = memory_first g.S.Blocks.meanings g.S.Blocks.holdings g.met.S.Blocks.lawful c.args.tx.now c.args.tx.now c.requires.intact refl c.requires.intact

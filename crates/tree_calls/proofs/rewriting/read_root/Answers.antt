@@ -1,6 +1,6 @@
 use Rattle.std.proofs.Common.{◌≡◌, ◌∙◌, ap, ◌++◌, length, arith, true}
 use Rattle.data_nodes.specs.Layout.{node_of}
-use Rattle.outcome.specs.Outcome.{then_, failed_, answered, unbuilt}
+use Rattle.outcome.specs.Outcome.{then_, failed_, answered, unbuilt, passed}
 use Rattle.tree_calls.specs.Reading.{between}
 use Rattle.data_tree.proofs.Loads.{tx_holdings, tx_laws}
 use Rattle.data_tree.proofs.Forests.{below_on, below_root, stays-then}
@@ -52,3 +52,6 @@ returns-clause-stays g c = stays-then c.load_root.ensures.stays c.read_in.ensure
 
 pub returns-clause-below : goal.returns-clause-below
 returns-clause-below g c = stays-then c.load_root.ensures.below c.read_in.ensures.below
+
+pub returns-in-Err-clause-outcome : goal.returns-in-Err-clause-outcome
+returns-in-Err-clause-outcome g c = passed c.in-Err.ensures.outcome

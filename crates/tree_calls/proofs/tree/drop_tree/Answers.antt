@@ -1,6 +1,6 @@
 use Rattle.std.proofs.Common.{◌≡◌, None, true}
 use Rattle.data_nodes.specs.Layout.{node_of}
-use Rattle.outcome.specs.Outcome.{then_}
+use Rattle.outcome.specs.Outcome.{then_, passed}
 use Rattle.data_tree.specs.Needs.{Sets}
 use Rattle.data_tree.proofs.Loads.{tx_holdings, tx_laws}
 use Rattle.data_tree.proofs.Ids.{drops_tree}
@@ -32,3 +32,6 @@ returns-in-Ok-remove-clause-shallow g c s h =
 
 pub returns-clause-outcome : goal.returns-clause-outcome
 returns-clause-outcome g c = memory_after g.S.Blocks.meanings g.S.Blocks.holdings c.args.tx.now c.load_root.new.tx c.remove.new.tx c.remove.ensures.store c.remove.ensures.intact c.in-Ok.ensures.outcome
+
+pub returns-in-Err-clause-outcome : goal.returns-in-Err-clause-outcome
+returns-in-Err-clause-outcome g c = passed c.in-Err.ensures.outcome

@@ -1,7 +1,7 @@
 use Rattle.data_nodes.specs.Layout.{node_of}
-use Rattle.outcome.specs.Outcome.{then_}
+use Rattle.outcome.specs.Outcome.{then_, passed}
 use Rattle.data_tree.proofs.Loads.{tx_laws}
-use Rattle.data_tree.proofs.Forests.{below_on, below_root, stays-then}
+use Rattle.data_tree.proofs.Forests.{below_on, below_root}
 use Rattle.data_tree.proofs.Puts.{on_any, unforged_before}
 use Rattle.tree_calls.proofs.tree.len.Goals as goal
 
@@ -15,8 +15,5 @@ returns-in-Ok-clause-shallow g c s h =
     let laws = tx_laws g.S.Blocks.meanings g.S.Blocks.holdings g.met.S.Blocks.lawful in
     on_any c.len_in.result (c.in-Ok.ensures.shallow s (unforged_before laws c.args.tx.now c.load_root.new.tx c.len_in.new.tx c.len_in.ensures.outcome.loaded h))
 
-pub returns-in-Ok-clause-stays : goal.returns-in-Ok-clause-stays
-returns-in-Ok-clause-stays g c = stays-then c.load_root.ensures.stays c.len_in.ensures.stays
-
-pub returns-in-Ok-clause-below : goal.returns-in-Ok-clause-below
-returns-in-Ok-clause-below g c = stays-then c.load_root.ensures.below c.len_in.ensures.below
+pub returns-in-Err-clause-outcome : goal.returns-in-Err-clause-outcome
+returns-in-Err-clause-outcome g c = passed c.in-Err.ensures.outcome

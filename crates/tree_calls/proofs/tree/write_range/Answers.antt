@@ -1,6 +1,6 @@
 use Rattle.std.proofs.Common.{◌∙◌, ap}
 use Rattle.data_nodes.specs.Layout.{node_of}
-use Rattle.outcome.specs.Outcome.{then_, no_memory}
+use Rattle.outcome.specs.Outcome.{then_, no_memory, passed}
 use Rattle.block_id.specs.Contents.{written}
 use Rattle.data_tree.proofs.Loads.{tx_laws}
 use Rattle.tree_calls.proofs.Anew.{root_node, root_since}
@@ -24,3 +24,6 @@ returns-clause-below g c = stays-then c.read_root.ensures.below c.rewrite.ensure
 
 pub returns-in-Err-overwrite-clause-outcome : goal.returns-in-Err-overwrite-clause-outcome
 returns-in-Err-overwrite-clause-outcome g c = no_memory c.in-Ok.ensures.outcome
+
+pub returns-in-Err-clause-outcome : goal.returns-in-Err-clause-outcome
+returns-in-Err-clause-outcome g c = passed c.in-Err.ensures.outcome
