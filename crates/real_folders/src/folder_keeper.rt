@@ -53,8 +53,8 @@ where
     {
         let paths = RecordPaths::new(alloc, folder, run.ending())?;
         let found = unless_failed(paths.read(&files, alloc))?;
-        let record = RecordFile::new(files, paths);
-        Ok(FolderKeeper::knowing(alloc, run, record, found))
+        let file = RecordFile::new(files, paths);
+        Ok(FolderKeeper::knowing(alloc, run, file, found))
     }
 
     /// The same for a run that doesn't use the record: its file isn't looked at, and counts as not there. So a load fails
@@ -68,15 +68,15 @@ where
         ensures { IfOk result (λ keeper. (keeper.kept ≡ None) × (keeper.faults ≡ 0)) }
     {
         let paths = RecordPaths::new(alloc, folder, run.ending())?;
-        let record = RecordFile::new(files, paths);
-        Ok(FolderKeeper::knowing(alloc, run, record, None))
+        let file = RecordFile::new(files, paths);
+        Ok(FolderKeeper::knowing(alloc, run, file, None))
     }
 
     /// What is kept is this.
     fn knowing(
         alloc: Global,
         run: &'a FolderRun,
-        record: RecordFile<R>,
+        file: RecordFile<R>,
         kept: Option<Vec<u8>>,
     ) -> FolderKeeper<'a, R>
         ensures kept { result.kept ≡ bytes_of kept }
@@ -84,7 +84,7 @@ where
     {
         FolderKeeper {
             run,
-            record,
+            record: file,
             known: MemoryKeeper::new(alloc, kept, Vec::new(alloc)),
             faults: 0,
         }
