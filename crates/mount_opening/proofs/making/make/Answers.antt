@@ -5,8 +5,8 @@ use Rattle.outside.specs.Causes.{RoseBy}
 use Rattle.outside.specs.Going.{GoesOn, goes_on_equal}
 use Rattle.store_api.specs.Durables.{Identity, last_told}
 use Rattle.tree_commands.specs.Showing.{ShowsFiles}
-use Rattle.mount_core.proofs.Quiet.{unless_directory}
-use Rattle.mount_opening.proofs.NewBlock.{fits_one, root_raised, always_ok, on_ok, only_one, made, made_config, fine_ok, no_directory, no_state}
+use Rattle.mount_core.proofs.Quiet.{unless_directory, memory_directory, memory_state}
+use Rattle.mount_opening.proofs.NewBlock.{fits_one, root_raised, always_ok, on_ok, only_one, made, made_config, fine_ok}
 use Rattle.mount_opening.proofs.making.make.Goals as goal
 
 pub root_batch-requires : goal.root_batch-requires
@@ -33,10 +33,10 @@ returns-in-Err g c =
       identity = p.identity;
       goes_on = goes_on_equal (trace c.args.store) (trace c.put_config.new.self) p.trace;
       vault_grows = omega (arith, p.faults);
-      vault_cause = λ is. absurd (no_directory is);
+      vault_cause = λ is. absurd (memory_directory is);
       vault_quiet = p.faults;
       keeper_grows = omega arith;
-      keeper_cause = λ is. absurd (no_state is);
+      keeper_cause = λ is. absurd (memory_state is);
       keeper_quiet = refl;
     }
 
@@ -53,10 +53,10 @@ returns-in-Err-root_batch g c =
       identity = p.identity;
       goes_on = goes_on_equal (trace c.args.store) (trace c.put_config.new.self) p.trace;
       vault_grows = omega (arith, p.faults);
-      vault_cause = λ is. absurd (no_directory is);
+      vault_cause = λ is. absurd (memory_directory is);
       vault_quiet = p.faults;
       keeper_grows = omega arith;
-      keeper_cause = λ is. absurd (no_state is);
+      keeper_cause = λ is. absurd (memory_state is);
       keeper_quiet = refl;
     }
 
@@ -79,10 +79,10 @@ returns-in-Err-apply g c =
       identity = endures.loaded_identity b d loaded ∙ p.identity;
       goes_on = subst (λ t. GoesOn t (trace d)) p.trace (endures.loaded_goes_on b d loaded);
       vault_grows = omega (arith, faults);
-      vault_cause = λ is. absurd (no_directory is);
+      vault_cause = λ is. absurd (memory_directory is);
       vault_quiet = faults;
       keeper_grows = omega arith;
-      keeper_cause = λ is. absurd (no_state is);
+      keeper_cause = λ is. absurd (memory_state is);
       keeper_quiet = refl;
     }
 
