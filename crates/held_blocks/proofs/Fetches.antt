@@ -4,6 +4,7 @@ use Rattle.std.specs.declared.option.Option.{Option}
 use Rattle.std.specs.declared.option.Option.TheVariants.{None, Some}
 use Rattle.std.specs.declared.result.Result.TheVariants.{Ok, Err}
 use Rattle.std.proofs.Common.{refl, sym, ◌∙◌, ap, subst, inl, inr}
+use Rattle.std.proofs.lemmas.Option.{same_Some}
 use Rattle.block_id.specs.declared.fail.Why.{Why}
 use Rattle.block_id.specs.declared.fail.Why.TheVariants.{Missing, BadLength, BadPrefix, NotOpened, BadRecord, WrongId, ForeignClient, OldVersion, AheadVersion, Structure}
 use Rattle.block_id.specs.declared.fail.Fail.{Fail}
@@ -79,9 +80,6 @@ put_wanted h t id bytes payload version live sound o was =
     let q = sound.past bytes p.0 was p.1 in
     past_wanted h t id payload version q.0 live q.2 (record_same (sym q.1 ∙ p.2))
 
-some_bytes : {a b : List ℕ} → Some a ≡ Some b → a ≡ b
-some_bytes e = cc
-
 -- Where no forged file came, the payload of a good one is the content's.
 came_value : (h : Held) (old new : Option (List Call)) (id : List ℕ) (version : ℕ) (file : Option (List ℕ)) (payload : List ℕ) → live_version h id ≡ Some version
     → Came h old new id file → verdict h.opens h.size id h.state.client version file ≡ good payload
@@ -93,7 +91,7 @@ came_value h (Some t) new id version file payload live came is sound few =
       | Some change ↦ λ e f.
           let (b, p, sameb, ob) = sound.waits id version change live e in
           let whole : take (h.size + 1) b ≡ b = cut_whole h.opens h.size b _ ob in
-          let eq : b ≡ bytes = sym whole ∙ some_bytes (sym (f.1 ∙ ap (cut (h.size + 1)) sameb) ∙ same) in
+          let eq : b ≡ bytes = sym whole ∙ same_Some _ _ (sym (f.1 ∙ ap (cut (h.size + 1)) sameb) ∙ same) in
           wanted_of h t id version bytes payload live (e ∙ ap Some (sameb ∙ ap Some eq)) o
       | None ↦ λ e f.
           let few' : count_calls (forged h.opens h.size) (got (block id) (h.size + 1) file ∷ t) ≤ count_calls (forged h.opens h.size) t = rw f at few in

@@ -18,7 +18,7 @@ use Rattle.held_blocks.specs.Soundness.{IsUntouched, SoundBy}
 true_is_false : true ≡ false → ⊥
 true_is_false e = cc
 
-same_self : (a : At) → same_at a a ≡ true
+pub same_self : (a : At) → same_at a a ≡ true
 same_self config = refl
 same_self (block a) = (bytes_eq-Decides a a).1 refl
 

@@ -8,6 +8,7 @@ use Rattle.std.proofs.lemmas.List.{take_all}
 use Rattle.std.proofs.lemmas.Bool.{or_right}
 use Rattle.std.proofs.lemmas.Slice.Eq.{bytes_eq-Decides}
 use Rattle.std.proofs.Math.Bool.{and-false}
+use Rattle.std.proofs.lemmas.Option.{same_Some}
 use Rattle.outside.specs.Trace.{block, Call, got, put, removed, At}
 use Rattle.outside.specs.Honest.{LastChange, last_change, same_answer, is_left, is_lie, count_calls, count_told}
 use Rattle.outside.specs.HonestLaws.{count_grows}
@@ -33,12 +34,9 @@ abbrev bytes_out : Option LastChange → Option (List ℕ)
 bytes_out None = None
 bytes_out (Some c) = c.bytes
 
-some_same : {a b : List ℕ} → Some a ≡ Some b → a ≡ b
-some_same e = cc
-
 put_or : (b : Bool) (bytes other : List ℕ) (ok ok' : Bool) (last : Option LastChange) (was : Bool) → (if b then Some (record { bytes = Some other; ok = ok' }) else last) ≡ Some (record { bytes = Some bytes; ok = ok })
     → (last ≡ Some (record { bytes = Some bytes; ok = ok }) → was ≡ true) → (bytes_eq other bytes || was) ≡ true
-put_or true bytes other ok ok' last was e f = ap (λ x. x || was) ((bytes_eq-Decides other bytes).1 (some_same (ap bytes_out e)))
+put_or true bytes other ok ok' last was e f = ap (λ x. x || was) ((bytes_eq-Decides other bytes).1 (same_Some _ _ (ap bytes_out e)))
 put_or false bytes other ok ok' last was e f = or_right (bytes_eq other bytes) was (f e)
 
 removed_or : (b : Bool) (bytes : List ℕ) (ok ok' : Bool) (last : Option LastChange) (was : Bool) → (if b then Some (record { bytes = None; ok = ok' }) else last) ≡ Some (record { bytes = Some bytes; ok = ok })

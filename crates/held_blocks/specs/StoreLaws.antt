@@ -6,6 +6,7 @@ use Rattle.std.proofs.Common.{refl, sym, ◌∙◌, ap, subst, arith, eqb-true, 
 use Rattle.std.proofs.lemmas.List.{length-replicate}
 use Rattle.std.specs.FinMap.{contains_key-keys}
 use Rattle.std.specs.FinMap as fin
+use Rattle.std.proofs.lemmas.Option.{same_Some}
 use Rattle.block_id.specs.declared.fail.Why.{Why}
 use Rattle.block_id.specs.Fresh.{zero_id}
 use Rattle.outside.specs.Trace.{Call}
@@ -113,12 +114,9 @@ file_len : (h : Held) (file : Option (List ℕ)) → length (payload_in h.opens 
 file_len h None = length-replicate (h.size - 78) 0
 file_len h (Some bytes) = opened_len h.size h.opens bytes (opened h.opens h.size bytes) refl
 
-some_same : {a b : List ℕ} → Some a ≡ Some b → a ≡ b
-some_same e = cc
-
 live_payload : (live : Option ℕ) (payload bytes : List ℕ) → where_live live payload ≡ Some bytes → payload ≡ bytes
 live_payload None payload bytes e = absurd (true_is_false (ap is_some (sym e)))
-live_payload (Some version) payload bytes e = some_same e
+live_payload (Some version) payload bytes e = same_Some payload bytes e
 
 wanted_len : (h : Held) (t : Option (List Call)) (id bytes : List ℕ) → wanted h t id ≡ Some bytes → length bytes ≡ h.size - 78
 wanted_len h t id bytes e =

@@ -11,6 +11,7 @@ use Rattle.std.proofs.lemmas.List.{take-take}
 use Rattle.std.proofs.lemmas.Slice.Eq.{bytes_eq-Decides}
 use Rattle.std.specs.declared.option.Option.{Option}
 use Rattle.std.specs.declared.option.Option.TheVariants.{None, Some}
+use Rattle.std.proofs.lemmas.Option.{same_Some}
 use Rattle.outside.specs.Trace.{At, config, block, Call}
 use Rattle.outside.specs.Names.{same_at}
 use Rattle.outside.specs.NameLaws.{at_total, at_exact}
@@ -33,9 +34,6 @@ use Rattle.batch_sealing.proofs.Sorted.{of_found}
 
 true_is_false : true ≡ false → ⊥
 true_is_false e = cc
-
-some_bytes : {a b : List ℕ} → Some a ≡ Some b → a ≡ b
-some_bytes e = cc
 
 -- ---- names
 
@@ -146,7 +144,7 @@ module _ (h : Held) (trace : List Call) (e : ListEntry) (ok : Bool) (whole : IsW
       let there : waiting h id ≡ Some (Some bytes) = subst (λ name. change_at name h.list ≡ Some e.1) is waits ∙ ap Some put in
       let (life, known, live) = life_of_live (fin.get h.state.lives id) (fits_at h (block id, Some bytes) whole there).change in
       let (b, payload, same, o) = s.waits id life.version (Some bytes) live there in
-      let opened_so : opened h.opens h.size bytes ≡ Some (own h id life.version payload) = ap (opened h.opens h.size) (some_bytes same) ∙ o in (
+      let opened_so : opened h.opens h.size bytes ≡ Some (own h id life.version payload) = ap (opened h.opens h.size) (same_Some _ _ same) ∙ o in (
         own h id life.version payload,
         ap (record_in h.size) (sym opens) ∙ opened_so,
         record { life = life; used = known; client = refl; version = omega arith; payload = λ live'. wanted_of h (call_for e ok ∷ trace) id life.version bytes payload live there opened_so },

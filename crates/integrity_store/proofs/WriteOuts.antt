@@ -6,7 +6,6 @@ use Rattle.std.specs.FinMap.{is_sorted}
 use Rattle.std.specs.List.{AllByRecursion}
 use Rattle.std.specs.Ordering.{eq_by_cmp}
 use Rattle.std.proofs.lemmas.List.{append-nil}
-use Rattle.std.proofs.lemmas.Slice.Eq.{bytes_eq-Decides}
 use Rattle.std.specs.declared.result.Result.TheVariants.{Ok, Err}
 use Rattle.std.specs.declared.option.Option.{Option}
 use Rattle.std.specs.declared.option.Option.TheVariants.{None, Some}
@@ -27,6 +26,7 @@ use Rattle.held_blocks.specs.Forgeries.{forged}
 use Rattle.held_blocks.specs.Soundness.{SoundBy}
 use Rattle.held_blocks.specs.Standing.{identity_of, Stands, Configures}
 use Rattle.held_blocks.specs.Stores.{IsWhole, IsNoBlock}
+use Rattle.held_blocks.proofs.Untouched.{same_self}
 use Rattle.held_blocks.specs.StoreLaws.{sound_is_told}
 use Rattle.integrity_store.specs.WaitingLaws.{in_order}
 use Rattle.batch_sealing.proofs.Sorted.{found_first, first_below, found_later, each_found}
@@ -37,10 +37,6 @@ true_is_false : true ≡ false → ⊥
 true_is_false e = cc
 
 -- ---- the first entry of a list
-
-same_self : (a : At) → same_at a a ≡ true
-same_self config = refl
-same_self (block id) = (bytes_eq-Decides id id).1 refl
 
 tied_back : (name : At) (e : ListEntry) → same_at e.0 name ≡ false → eq_by_cmp at_cmp name e.0 ≡ false
 tied_back name e other =
