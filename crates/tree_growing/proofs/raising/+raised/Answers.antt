@@ -1,7 +1,8 @@
-use Rattle.std.proofs.Common.{◌≡◌, ◌≤◌, ◌+◌, ◌-◌, ◌*◌, ◌/◌, ◌++◌, sym, ◌∙◌, ap, subst, take, drop, length, arith}
+use Rattle.std.proofs.Common.{◌≡◌, ◌≤◌, ◌+◌, ◌-◌, ◌*◌, ◌/◌, ◌++◌, sym, ◌∙◌, ap, subst, take, drop, length, arith, rules}
 use Rattle.std.specs.Prelude.{min}
-use Rattle.std.proofs.lemmas.List.{length-drop, take_all}
+use Rattle.std.proofs.lemmas.List.{length-drop, length-map, take_all}
 use Rattle.std.proofs.Math.Nat.{mul-le-mul_right}
+use Rattle.block_id.specs.declared.id.BlockId.{BlockId}
 use Rattle.data_nodes.specs.Layout.{fan_out, ids_of, inner, node_of}
 use Rattle.store_api.specs.Overlay.{steady_over}
 use Rattle.data_tree.specs.Needs.{BuiltTrees}
@@ -81,3 +82,16 @@ pub returns-clause-kept : goal.returns-clause-kept
 returns-clause-kept g t c q h =
     let there = c.put_new.ensures.there q h in
     c.raised.ensures.kept q (c.grown_children.ensures.there q there) ∙ c.grown_children.ensures.kept q there ∙ c.put_new.ensures.kept q h
+
+pub raised-requires : goal.raised-requires
+raised-requires g t c =
+    let payload = g.S.Blocks.holdings.payload in
+    let items = c.in_ok-children.children.items in
+    let up = c.above-level.result in
+    let count = length-map items (λ (x : BlockId). x.0) in
+    let few = subst (λ p. length items ≤ fan_out p) (ap payload (sym c.grown_children.ensures.store)) c.in_ok-children.ensures.few in
+    let level : up.room ≡ span (payload c.grown_children.new.tx.store) up.depth = c.above-level.ensures.room ∙ ap (λ p. span p up.depth) c.payload-2.ensures in
+    λ κs lives. (
+      search rules,
+      (search rules, (search rules, (c.grown_children.ensures.intact, (level, ((omega (arith, c.above-level.ensures.depth), omega (arith, count, c.in_ok-children.ensures.some), omega (arith, count, few)), c.requires.small))))),
+    )
