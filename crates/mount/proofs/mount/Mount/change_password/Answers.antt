@@ -1,4 +1,4 @@
-use Rattle.std.proofs.Common.{◌≤◌, inl, refl, ◌∙◌, ap, subst}
+use Rattle.std.proofs.Common.{◌≤◌, inl, inr, refl, ◌∙◌, ap, subst}
 use Rattle.config_file.specs.ConfigOf.{IsOnly, opened}
 use Rattle.config_file.specs.Settings.{settings_of}
 use Rattle.held_blocks.specs.Standing.{records}
@@ -48,3 +48,18 @@ returns-clause-holds g c told =
     let file = c.in-Ok.ensures.text ∙ ap (λ d. sealed_file c.args.password.now params d config) c.draw-draws.ensures.draws in
     let core = c.replace_config.new.self in
     subst (λ f. OnOk c.replace_config.result (KeptConfigures records (g.K.Keeper.kept core.saver.keeper) (trace_in g.V.Vault.trace core.blobs.tx.store) f)) file (c.replace_config.ensures.holds told)
+
+pub returns-clause-ready : goal.returns-clause-ready
+returns-clause-ready g c =
+    let r = c.requires.ready in
+    let e = c.replace_config.ensures in
+    record { core = e.ready; salt = r.salt; identity = e.identity ∙ r.identity; root = e.root ∙ r.root }
+
+pub returns-in_default-clause-stands : goal.returns-in_default-clause-stands
+returns-in_default-clause-stands g c kept now s = inl s
+
+pub returns-in_default-clause-configures : goal.returns-in_default-clause-configures
+returns-in_default-clause-configures g c may now s = inl s
+
+pub returns-in_default-clause-opens : goal.returns-in_default-clause-opens
+returns-in_default-clause-opens g c = inr (refl, refl)
