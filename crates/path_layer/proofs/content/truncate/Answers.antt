@@ -1,5 +1,5 @@
 use Rattle.std.proofs.Common.{refl, subst}
-use Rattle.outcome.specs.Outcome.{then_, answered}
+use Rattle.outcome.specs.Outcome.{then_, answered, passed}
 use Rattle.fs_model.specs.declared.error.FsError.TheVariants.{IsDirectory}
 use Rattle.fs_model.specs.Tree.{upward}
 use Rattle.fs_model.specs.Step as model
@@ -22,3 +22,6 @@ returns-in-Ok-Row-clause-outcome g c =
 
 pub truncate_found-requires-clause-mode : goal.truncate_found-requires-clause-mode
 truncate_found-requires-clause-mode g c = subst HasRowMode c.in-Ok-Row.field-0-is c.in-Ok-Row.ensures.mode
+
+pub returns-in-Err-clause-outcome : goal.returns-in-Err-clause-outcome
+returns-in-Err-clause-outcome g c = passed c.in-Err.ensures.outcome

@@ -1,7 +1,7 @@
 use Rattle.std.proofs.Common.{◌≤◌, length, refl, sym, ◌∙◌, ap, subst, arith}
 use Rattle.std.specs.FinMap.{get}
 use Rattle.std.proofs.lemmas.Option.{same_Some}
-use Rattle.outcome.specs.Outcome.{then_, answered}
+use Rattle.outcome.specs.Outcome.{then_, answered, passed}
 use Rattle.fs_model.specs.declared.error.FsError.TheVariants.{IsDirectory}
 use Rattle.fs_model.specs.Tree.{Row, upward, parent, directory_size}
 use Rattle.fs_model.specs.Step as model
@@ -48,3 +48,6 @@ returns-in-Ok-Row-clause-sparing g c = λ n s f row there file.
     (ap (λ (r : Row). length r.bytes) (same_Some _ _ (sym at.is.here.there ∙ (ap (get n.tree) (sym at.split) ∙ there))))
     (ap (λ z. directory_size n.tree (parent z)) (sym at.split))
     (c.write_found.ensures.sparing (row_finding n b h.0 at) (reached.outcome.sound s one) two)
+
+pub returns-in-Err-clause-outcome : goal.returns-in-Err-clause-outcome
+returns-in-Err-clause-outcome g c = passed c.in-Err.ensures.outcome

@@ -1,5 +1,5 @@
 use Rattle.std.proofs.Common.{[], ◌∷◌, ap}
-use Rattle.outcome.specs.Outcome.{then_, answered, idle}
+use Rattle.outcome.specs.Outcome.{then_, answered, idle, passed}
 use Rattle.fs_model.specs.declared.error.FsError.TheVariants.{Exists}
 use Rattle.fs_model.specs.declared.reply.Reply.TheVariants.{Error}
 use Rattle.fs_model.specs.Tree.{upward, root_row}
@@ -40,3 +40,6 @@ returns-in-Ok-Vacant-clause-outcome g c =
     (λ n h. making n.map h.0 c.args.root.now.0 n.tree n.ids n.shows d c.in-Ok-Vacant.dir (vacant n.tree n.ids d k c.in-Ok-Vacant.field-0 h.1 c.in-Ok-Vacant.dir c.in-Ok-Vacant.field-0-is) c.requires.limits)
     c.make_in.ensures.did
     (λ n h y r. told_as _ _ y (ap (λ z. model.made n.tree z (record { attr = c.args.attr; bytes = c.args.bytes.now }) (look n.tree z)) c.in-Some.ensures) r)
+
+pub returns-in-Err-clause-outcome : goal.returns-in-Err-clause-outcome
+returns-in-Err-clause-outcome g c = passed c.in-Err.ensures.outcome

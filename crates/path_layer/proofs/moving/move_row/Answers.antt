@@ -1,6 +1,6 @@
 use Rattle.std.proofs.Common.{◌∷◌, true, false, refl, sym, ◌∙◌, ap, subst}
 use Rattle.std.proofs.lemmas.Bool.{eqb-true}
-use Rattle.outcome.specs.Outcome.{then_, answered, idle}
+use Rattle.outcome.specs.Outcome.{then_, answered, idle, passed}
 use Rattle.fs_model.specs.declared.error.FsError.TheVariants.{Busy}
 use Rattle.fs_model.specs.declared.reply.Reply.TheVariants.{Error}
 use Rattle.fs_model.specs.Tree.{upward, same_path}
@@ -57,3 +57,6 @@ returns-else-is_above-clause-outcome g c =
 
 pub move_found-requires-clause-mode : goal.move_found-requires-clause-mode
 move_found-requires-clause-mode g c = subst HasRowMode c.in-Ok-Row.field-0-is c.in-Ok-Row.ensures.mode
+
+pub returns-in-Err-clause-outcome : goal.returns-in-Err-clause-outcome
+returns-in-Err-clause-outcome g c = passed c.in-Err.ensures.outcome

@@ -1,5 +1,5 @@
 use Rattle.std.proofs.Common.{[], ◌∷◌, ◌∙◌}
-use Rattle.outcome.specs.Outcome.{answered, idle}
+use Rattle.outcome.specs.Outcome.{answered, idle, passed}
 use Rattle.fs_model.specs.Tree.{upward, root_row}
 use Rattle.fs_model.specs.LookUp.{Found, Bad, Free}
 use Rattle.fs_model.proofs.LookUpLemmas.{look-found}
@@ -40,3 +40,6 @@ returns-in-Ok-Lost-clause-outcome g c =
       h.0,
       record { by = λ f at_root free bad. on_path n.tree f (upward c.args.names.now) (k ∷ d) (Bad e) c.in-Some.ensures (look_lost n.shows d k e (lost n.tree n.ids d k c.in-Ok-Lost.field-0 h.1 e c.in-Ok-Lost.field-0-is)) ∙ bad k d e },
     ))
+
+pub returns-in-Err-clause-outcome : goal.returns-in-Err-clause-outcome
+returns-in-Err-clause-outcome g c = passed c.in-Err.ensures.outcome

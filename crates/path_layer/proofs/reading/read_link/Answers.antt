@@ -1,6 +1,6 @@
 use Rattle.std.proofs.Common.{◌≡◌, Ok, refl, sym, ◌∙◌, ap, subst}
 use Rattle.std.proofs.lemmas.Result.{err_from_is_err_and}
-use Rattle.outcome.specs.Outcome.{Outcome, then_, failed_, answered}
+use Rattle.outcome.specs.Outcome.{Outcome, then_, failed_, answered, passed}
 use Rattle.fs_model.specs.declared.attr.Attr.{Attr}
 use Rattle.fs_model.specs.declared.attr.Kind.TheVariants.{Directory, File, Link}
 use Rattle.fs_model.specs.declared.reply.Reply.TheVariants.{Target}
@@ -59,3 +59,6 @@ returns-in-Ok-Wrong-clause-outcome g c =
     answered c.in-Ok-Wrong.ensures.outcome (λ n h.
     stays n.map n.tree n.ids n.shows c.walk.new.b h.0 _ _
     (wrong_steps n.tree n.shows.well_formed.rooted p c.in-Ok-Wrong.error (wrong_here n.tree n.ids p c.in-Ok-Wrong.field-0 h.1 c.in-Ok-Wrong.error c.in-Ok-Wrong.field-0-is) (model.target_read n.tree) refl (λ x. refl)))
+
+pub returns-in-Err-clause-outcome : goal.returns-in-Err-clause-outcome
+returns-in-Err-clause-outcome g c = passed c.in-Err.ensures.outcome

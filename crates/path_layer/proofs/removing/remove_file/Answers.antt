@@ -1,5 +1,5 @@
 use Rattle.std.proofs.Common.{refl, subst}
-use Rattle.outcome.specs.Outcome.{then_, answered}
+use Rattle.outcome.specs.Outcome.{then_, answered, passed}
 use Rattle.fs_model.specs.declared.error.FsError.TheVariants.{Busy}
 use Rattle.fs_model.specs.Tree.{upward}
 use Rattle.fs_model.specs.Step as model
@@ -19,3 +19,6 @@ returns-in-Ok-Row-clause-outcome g c =
     let p = upward c.args.names.now in
     then_ g.met.B.Blobs.lawful c.in-Ok-Row.ensures.outcome (λ n h. row_finding n c.reach.new.b h.0 (subst (ReachedIs n.tree n.ids p Busy) c.in-Ok-Row.field-0-is h.1)) c.drop_file.ensures.outcome
     (λ n h y r. told_as _ _ y (on_row (λ p s. model.unless_root n.tree p (model.removed_file n.tree p s)) (subst (ReachedIs n.tree n.ids p Busy) c.in-Ok-Row.field-0-is h.1)) r)
+
+pub returns-in-Err-clause-outcome : goal.returns-in-Err-clause-outcome
+returns-in-Err-clause-outcome g c = passed c.in-Err.ensures.outcome
