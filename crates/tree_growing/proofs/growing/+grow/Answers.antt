@@ -1,4 +1,4 @@
-use Rattle.std.proofs.Common.{◌≡◌, ◌≤◌, ◌<◌, inl, inr, ◌+◌, ◌-◌, ◌*◌, ◌/◌, ◌^◌, ◌++◌, [], ◌∷◌, refl, sym, ◌∙◌, ap, subst, take, drop, length, List, arith, append_assoc}
+use Rattle.std.proofs.Common.{◌≡◌, ◌≤◌, ◌<◌, inl, inr, ◌+◌, ◌-◌, ◌*◌, ◌/◌, ◌^◌, ◌++◌, [], ◌∷◌, refl, sym, ◌∙◌, ap, subst, take, drop, length, List, arith, append_assoc, rules}
 use Rattle.std.proofs.lemmas.List.{length-append, length-take, length-drop, take-append-drop, take_all}
 use Rattle.block_id.specs.declared.id.BlockId.{BlockId}
 use Rattle.outcome.specs.Outcome.{first_, idle, answered, passed}
@@ -249,22 +249,9 @@ grown_node-returns-in-Err-grown_inner-clause-only g t c n s h q there =
       | inr found ↦ inr (border_inner (H.content c.args.tx.now) c.args.level.depth c.in-Inner.depth low node children q is c.requires.depth c.below-below.ensures.depth found)
     ]
 
-pub grown_node-returns-in-Ok-clause-only : goal.grown_node-returns-in-Ok-clause-only
-grown_node-returns-in-Ok-clause-only g t c n s h q there = inl refl
-
-pub grown_inner-put_node-requires-clause-id : goal.grown_inner-put_node-requires-clause-id
-grown_inner-put_node-requires-clause-id g t c = inl (c.grown_node.ensures.there _ (c.load_at.ensures.stays.ids _ ∙ c.in-Ok.ensures.there))
-
-pub grown_inner-put_node-requires-clause-fits : goal.grown_inner-put_node-requires-clause-fits
-grown_inner-put_node-requires-clause-fits g t c = subst (λ p. FitsPayload p (node_of c.in-Ok-grown_node.grown.0)) (sym c.grown_node.ensures.below.payload) c.in-Ok-grown_node.ensures.fits
-
-pub grown_inner-returns-in-Ok-grown_children-clause-used : goal.grown_inner-returns-in-Ok-grown_children-clause-used
-grown_inner-returns-in-Ok-grown_children-clause-used g t c =
-    let bytes = c.args.bytes.now in
-    let used = c.in-Ok-grown_node.grown.1 in
-    omega (arith, c.in-Ok-grown_node.ensures.used, c.in-Ok-grown_children.ensures.used, length-take (length bytes - used) (drop used bytes), length-drop used bytes)
-
-pub grown_inner-returns-in-Ok-grown_children-clause-few : goal.grown_inner-returns-in-Ok-grown_children-clause-few
-grown_inner-returns-in-Ok-grown_children-clause-few g t c =
-    let same = ap g.S.Blocks.holdings.payload c.in-Ok-put_node.ensures.store ∙ c.grown_node.ensures.below.payload ∙ c.load_at.ensures.below.payload in
-    subst (λ p. length c.in-Ok-grown_children.all.items ≤ fan_out p) same c.in-Ok-grown_children.ensures.few
+pub grown_inner-grown_node-requires : goal.grown_inner-grown_node-requires
+grown_inner-grown_node-requires g t c =
+    let same = sym c.load_at.ensures.stays.payload in
+    let level = c.requires.level ∙ ap (λ p. span p c.args.level.depth) same in
+    let fits = subst (λ p. FitsPayload p (node_of c.in-Ok.child)) same c.in-Ok.ensures.fits in
+    λ κs lives. (search rules, (search rules, (search rules, (c.in-Ok.ensures.outcome.intact, (level, (fits, c.in-Ok.ensures.depth))))))
