@@ -24,7 +24,7 @@ use std::marker::Model;
 #[derive(Drop)]
 pub struct FolderKeeper<'a, R: Files> {
     run: &'a FolderRun,
-    record: RecordFile<R>,
+    file: RecordFile<R>,
     known: MemoryKeeper,
     faults: u64,
 }
@@ -84,7 +84,7 @@ where
     {
         FolderKeeper {
             run,
-            record: file,
+            file,
             known: MemoryKeeper::new(alloc, kept, Vec::new(alloc)),
             faults: 0,
         }
@@ -142,7 +142,7 @@ where
 
         ensures counts { self.new ≡ record self.old { faults = counted result self.old.faults } }
     {
-        let loaded = self.record.load(alloc);
+        let loaded = self.file.load(alloc);
         let answer = if_kept(loaded, self.known.kept());
         count(&mut self.faults, answer)
     }
@@ -163,7 +163,7 @@ where
         ensures counts_none { OnOk result (self.new.faults ≡ self.old.faults) }
         ensures counts_one { OnErr result (self.new.faults ≡ one_more self.old.faults) }
     {
-        if self.record.write(self.run, bytes).is_ok() && self.known.save(bytes).is_ok() {
+        if self.file.write(self.run, bytes).is_ok() && self.known.save(bytes).is_ok() {
             return Ok(());
         }
         self.faults = self.faults.saturating_add(1);
