@@ -11,10 +11,6 @@ use Rattle.config_file.specs.declared.config.Cipher.{Cipher}
 use Rattle.mount_tower.specs.Identities.{HasEmptyList}
 use Rattle.mount_tower.specs.Tower.{Cached, sealed_held, sealed_meanings, sealed_durables, tower_meanings, tower_durables}
 
-pub on_ok : {T E : Type 0} (result : Result T E) (P : Type 0) → P → OnOk result P
-on_ok (Ok x) P p = p
-on_ok (Err e) P p = tt
-
 -- the record with an empty list is kept
 pub emptied : {V : Type 0} (trace : V → Option (List Call)) (faults : V → ℕ) (store : IntegrityStore V Cipher) (kept : Option (List ℕ)) → (sealed_meanings trace faults).intact store
     → kept ≡ Some ((sealed_durables trace).local_record_of store false) → HasEmptyList kept
