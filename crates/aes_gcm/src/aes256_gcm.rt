@@ -14,7 +14,7 @@ const IV_LEN: usize = 16;
 const TAG_LEN: usize = 16;
 
 /// Sealed texts are an IV of 16 bytes, the ciphertext and a tag of 16 bytes, with no extra bytes.
-#[derive(Clone, Copy, Debug)]
+#[derive(Clone, Copy)]
 pub struct Aes256Gcm;
 
 impl Sealer for Aes256Gcm {

@@ -9,7 +9,7 @@ use fs_model::Reply;
 use script_text::{push_bytes, push_numeral};
 
 /// Counts of answers.
-#[derive(Clone, Copy, Debug)]
+#[derive(Clone, Copy)]
 pub struct Summary {
     pub lines: u64,
     pub replies: u64,

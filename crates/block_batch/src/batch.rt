@@ -11,7 +11,7 @@ use std::alloc::Global;
 use std::marker::Model;
 
 /// What becomes of a block: a new payload, or its removal.
-#[derive(Debug, Drop)]
+#[derive(Drop)]
 pub enum BatchChange {
     Payload(Vec<u8>),
     Removal,

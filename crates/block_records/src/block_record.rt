@@ -20,7 +20,7 @@ pub const HEAD_LEN: usize = 30;
 pub const OVERHEAD: usize = SEAL_LEN + HEAD_LEN;
 
 /// What stands before the payload, behind the format's number.
-#[derive(Clone, Copy, Debug, PartialEq, Eq)]
+#[derive(Clone, Copy, PartialEq, Eq)]
 pub struct Head {
     pub id: BlockId,
     /// The client that wrote it, from 1.

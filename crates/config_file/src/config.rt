@@ -7,14 +7,14 @@ use seal_api::Sealer;
 use std::alloc::Global;
 
 /// What seals the blocks.
-#[derive(Clone, Copy, Debug, PartialEq, Eq)]
+#[derive(Clone, Copy, PartialEq, Eq)]
 pub enum Cipher {
     /// AES-256 in Galois/Counter Mode, named `aes-256-gcm`.
     Aes256Gcm,
 }
 
 /// What a file system is made of.
-#[derive(Clone, Copy, Debug, PartialEq, Eq)]
+#[derive(Clone, Copy, PartialEq, Eq)]
 pub struct Config {
     /// The blob of the root directory.
     pub root: BlockId,

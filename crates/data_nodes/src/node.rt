@@ -3,7 +3,7 @@
 use block_id::BlockId;
 
 /// A node of a tree: a leaf with bytes, or an inner node with the ids of its children in order.
-#[derive(Debug, Drop)]
+#[derive(Drop)]
 pub enum Node {
     Leaf(Vec<u8>),
     /// An inner node; `depth` counts the levels below it, from 1.

@@ -9,7 +9,7 @@ use block_id::Memory;
 use std::marker::Model;
 
 /// 1 to 255 bytes without `/` and zero, not `.` or `..`.
-#[derive(Debug, Drop)]
+#[derive(Drop)]
 pub struct Name {
     bytes: Vec<u8>,
 }

@@ -15,7 +15,7 @@ use std::marker::Model;
 pub struct Spent;
 
 /// A finite map from ids of blocks to a version and whether the block lives. An id is used where it is in the map.
-#[derive(Debug, Drop)]
+#[derive(Drop)]
 pub struct Known {
     lives: HashMap<BlockId, Life>,
 }

@@ -8,7 +8,7 @@ use sha2::{Digest, Sha256};
 use std::alloc::{AllocError, AllocFailed};
 
 /// What a client keeps of one file system.
-#[derive(Debug, Drop)]
+#[derive(Drop)]
 pub struct State {
     /// Whether a violation was seen.
     pub marked: bool,

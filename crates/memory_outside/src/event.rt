@@ -3,7 +3,7 @@
 use outside::FileName;
 
 /// A call that was made, with what it gave or whether it answered ok.
-#[derive(Debug, Drop)]
+#[derive(Drop)]
 pub enum Event {
     Got {
         name: FileName,

@@ -32,7 +32,7 @@ fn try_rows(
         }
     }
     let shown = str::from_utf8(text.as_slice()).unwrap_or("bytes");
-    Err(Fail::new(format_args!("{status:?} after {shown:?}")))
+    Err(Fail::new(format_args!("{} after {shown:?}", status.code())))
 }
 
 /// How the later run ends, which may be refused memory where the first wasn't.
@@ -60,7 +60,8 @@ fn try_later(
     }
     let shown = str::from_utf8(text.as_slice()).unwrap_or("bytes");
     Err(Fail::new(format_args!(
-        "{status:?} after {shown:?} in the later run, and {:?} before",
+        "{} after {shown:?} in the later run, and {:?} before",
+        status.code(),
         row.text
     )))
 }

@@ -3,21 +3,21 @@
 use block_id::BlockId;
 
 /// The name of a file: the configuration first, then blocks in order of their ids.
-#[derive(Clone, Copy, Debug, PartialEq, Eq, PartialOrd, Ord)]
+#[derive(Clone, Copy, PartialEq, Eq, PartialOrd, Ord)]
 pub enum FileName {
     Config,
     Block(BlockId),
 }
 
 /// New bytes of a file, or its removal.
-#[derive(Debug, Drop)]
+#[derive(Drop)]
 pub enum Change {
     Bytes(Vec<u8>),
     Removal,
 }
 
 /// An entry of an unwritten list.
-#[derive(Debug, Drop)]
+#[derive(Drop)]
 pub struct Pending {
     pub name: FileName,
     pub change: Change,

@@ -22,7 +22,7 @@ use std::marker::Model;
 use tree_rules::{AttrChange, new_attr};
 
 /// A table of rows that is a tree.
-#[derive(Debug, Drop)]
+#[derive(Drop)]
 pub struct PlainTree {
     table: Table,
 }

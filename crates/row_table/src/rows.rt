@@ -2,7 +2,7 @@
 use fs_model::{Attr, Name, Path};
 
 /// A row under its directory.
-#[derive(Debug, Drop)]
+#[derive(Drop)]
 pub struct Item {
     pub name: Name,
     pub attr: Attr,
@@ -10,7 +10,7 @@ pub struct Item {
 }
 
 /// A directory that has children: its path, its rows by their names, and the bytes that their entries take.
-#[derive(Debug, Drop)]
+#[derive(Drop)]
 pub struct Folder {
     pub path: Path,
     pub items: Vec<Box<Item>>,

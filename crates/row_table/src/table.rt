@@ -18,7 +18,7 @@ use std::alloc::Global;
 use std::marker::Model;
 
 /// A tree's rows: sorted directories, each with its rows in order. The root's row stands apart and stays.
-#[derive(Debug, Drop)]
+#[derive(Drop)]
 pub struct Table {
     folders: Vec<Box<Folder>>,
 }

@@ -6,7 +6,7 @@ use fs_model::FsError;
 use std::alloc::{AllocError, AllocFailed};
 
 /// Why a line makes no command.
-#[derive(Clone, Copy, Debug, PartialEq, Eq)]
+#[derive(Clone, Copy, PartialEq, Eq)]
 pub enum LineError {
     /// Memory was refused.
     Memory,

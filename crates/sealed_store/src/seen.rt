@@ -2,7 +2,7 @@
 
 /// What a directory gave for a block: nothing, a file of another length, one that begins with other bytes, one whose
 /// seal doesn't open, or the plaintext of its record.
-#[derive(Debug, Drop)]
+#[derive(Drop)]
 pub enum Seen {
     Absent,
     BadLength,

@@ -1,7 +1,7 @@
 // How a session ends.
 
 /// How the lines of a session ended.
-#[derive(Clone, Copy, Debug, PartialEq, Eq)]
+#[derive(Clone, Copy, PartialEq, Eq)]
 pub enum End {
     /// All were answered.
     Finished,

@@ -15,7 +15,7 @@ use std::alloc::Global;
 use store_api::Durable;
 
 /// Why a sync isn't whole.
-#[derive(Clone, Copy, Debug, PartialEq, Eq)]
+#[derive(Clone, Copy, PartialEq, Eq)]
 pub enum SyncError {
     /// Want of the program's memory.
     Memory,

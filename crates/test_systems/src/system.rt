@@ -140,7 +140,9 @@ pub fn expect(
     if !is_as_wanted(&written, ended, text, status) {
         let shown = str::from_utf8(written.as_slice()).unwrap_or("bytes");
         return Err(Fail::new(format_args!(
-            "{ended:?} after {shown:?} and not {status:?} after {text:?}"
+            "{} after {shown:?} and not {} after {text:?}",
+            ended.code(),
+            status.code()
         )));
     }
     Ok(after)

@@ -40,7 +40,7 @@ pub fn new_attr(kind: Kind, mode: u32, now: Moment) -> Attr
 }
 
 /// New attributes.
-#[derive(Clone, Copy, Debug)]
+#[derive(Clone, Copy)]
 pub enum AttrChange {
     Mode(u32),
     /// The uid and the gid.
