@@ -10,7 +10,7 @@ use hex::FromHex;
 const UPPER_DIGITS: [u8; 16] = *b"0123456789ABCDEF";
 
 /// 16 bytes under which a block is kept, ordered by bytes.
-#[derive(Clone, Copy, Debug, PartialEq, Eq, PartialOrd, Ord, Hash)]
+#[derive(Clone, Copy, PartialEq, Eq, PartialOrd, Ord, Hash)]
 pub struct BlockId(pub [u8; 16]);
 
 impl BlockId {

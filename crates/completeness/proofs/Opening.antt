@@ -20,8 +20,8 @@ use Rattle.outside.specs.Honest.{is_lie, count_told}
 use Rattle.outside.specs.Trace.{Call}
 use Rattle.outside.specs.declared.keeper.Keeper.{Ghosts as KeeperGhosts}
 use Rattle.passwords.specs.Passwords.{PasswordUnread}
-use Rattle.run_openings.specs.Openings.{AreUncalled, IsUnread, IsUnopened}
-use Rattle.run_openings.specs.Statuses.{opening_status}
+use Rattle.session_runs.specs.Openings.{AreUncalled, IsUnread, IsUnopened}
+use Rattle.run_edges.specs.Statuses.{opening_status}
 use Rattle.run_status.specs.declared.ended.Ended.{Ended}
 use Rattle.run_status.specs.declared.status.Status.TheVariants.{Memory}
 use Rattle.scrypt_kdf.specs.Cost.{Cost}

@@ -7,7 +7,7 @@ use Rattle.std.specs.declared.option.Option.TheVariants.{None, Some}
 use Rattle.line_io.specs.Reading.{Reading, coming}
 use Rattle.line_io.specs.Streams.{Stream}
 use Rattle.passwords.specs.Passwords.{PasswordRead, PasswordUnread, PasswordsRead, PasswordsUnread}
-use Rattle.run_openings.specs.Openings.{HasCauses, HasPassword, HasPasswords}
+use Rattle.session_runs.specs.Openings.{HasCauses, HasPassword, HasPasswords}
 use Rattle.run_status.specs.declared.status.Status.{Status}
 use Rattle.run_status.specs.declared.status.Status.TheVariants.{LongPassword, InputFault, Memory}
 use Rattle.session_runs.specs.Runs.{Outside}

@@ -21,8 +21,8 @@ use Rattle.outside.specs.Causes.{RoseBy}
 use Rattle.outside.specs.Going.{GoesOn}
 use Rattle.outside.specs.Trace.{Call}
 use Rattle.outside.specs.declared.keeper.Keeper.{Ghosts as KeeperGhosts}
-use Rattle.run_openings.specs.Openings.{HasCauses}
-use Rattle.run_openings.specs.Statuses.{closing_status}
+use Rattle.session_runs.specs.Openings.{HasCauses}
+use Rattle.run_edges.specs.Statuses.{closing_status}
 use Rattle.run_status.specs.declared.ended.Ended.{Ended}
 use Rattle.run_status.specs.declared.status.Status.{Status}
 use Rattle.run_status.specs.declared.status.Status.TheVariants.{DirectoryFault, StateFault}
@@ -34,7 +34,8 @@ use Rattle.session_saver.specs.Saving.{KeptConfigures, UnlessDirectory, UnlessSt
 use Rattle.session_saver.specs.declared.saver.SyncError.{SyncError}
 use Rattle.session_saver.specs.declared.saver.SyncError.TheVariants as sync_error
 use Rattle.tree_commands.specs.Showing.{ShowsFiles}
-use Rattle.cryfs_setup.specs.Passwd.{IsChanged, NewOpens, Reports, changed_text}
+use Rattle.cryfs_setup.specs.Passwd.{IsChanged, NewOpens}
+use Rattle.setup_texts.specs.PasswdText.{Reports, changed_text}
 use Rattle.cryfs_setup.proofs.Closing.{attached_on, calls_on, config_is, config_ok, quiet, told_on}
 use Rattle.cryfs_setup.proofs.Ending.{ends}
 use Rattle.cryfs_setup.proofs.Telling.{printed_causes}

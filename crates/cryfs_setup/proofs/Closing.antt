@@ -9,8 +9,7 @@ use Rattle.config_file.specs.declared.config.Opened.{Opened}
 use Rattle.fs_model.specs.Tree.{Tree}
 use Rattle.held_blocks.specs.Standing.{records}
 use Rattle.mount.specs.declared.mount.Mount.{Mount}
-use Rattle.mount.specs.Mounts.{MountClosed}
-use Rattle.mount_tower.specs.Opening.{Attached}
+use Rattle.mount.specs.Mounts.{MountClosed, Attached}
 use Rattle.mount.specs.Representing.{Represents}
 use Rattle.mount.specs.Tower.{TowerStands}
 use Rattle.mount.proofs.Reading.{represents_told}

@@ -10,11 +10,11 @@ use Rattle.mount_tower.specs.declared.error.OpenError.TheVariants as open_error
 use Rattle.mount_tower.specs.Making.{CreateCause}
 use Rattle.outside.specs.Causes.{RoseBy}
 use Rattle.outside.specs.Trace.{Call}
-use Rattle.run_openings.specs.Openings.{HasCauses}
-use Rattle.run_openings.specs.Statuses.{opening_status}
+use Rattle.session_runs.specs.Openings.{HasCauses}
+use Rattle.run_edges.specs.Statuses.{opening_status}
 use Rattle.run_status.specs.declared.status.Status.{Status}
 use Rattle.run_status.specs.declared.status.Status.TheVariants.{DirectoryFault, StateFault}
-use Rattle.cryfs_setup.specs.Create.{Reports, created_text}
+use Rattle.setup_texts.specs.CreateText.{Reports, created_text}
 use Rattle.cryfs_setup.proofs.Telling.{printed_causes}
 
 module _ (kept0 kept1 : Option (List ℕ)) (t0 t1 : Option (List Call)) (v0 v1 k0 k1 : ℕ) where

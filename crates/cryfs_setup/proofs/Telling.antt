@@ -7,13 +7,13 @@ use Rattle.config_file.specs.Settings.{settings_of}
 use Rattle.held_blocks.specs.Standing.{records}
 use Rattle.line_io.specs.Streams.{Stream}
 use Rattle.mount.specs.declared.mount.Mount.{Mount}
-use Rattle.mount_tower.specs.Opening.{Attached}
+use Rattle.mount.specs.Mounts.{Attached}
 use Rattle.mount_core.specs.Standing.{IsKeptMarked}
 use Rattle.outside.specs.Going.{goes_on_same}
 use Rattle.outside.specs.Trace.{Call}
 use Rattle.outside.specs.declared.keeper.Keeper.{Ghosts as KeeperGhosts}
-use Rattle.run_openings.specs.Openings.{HasCauses}
-use Rattle.run_openings.specs.Statuses.{closing_status}
+use Rattle.session_runs.specs.Openings.{HasCauses}
+use Rattle.run_edges.specs.Statuses.{closing_status}
 use Rattle.run_status.specs.declared.ended.Ended.{Ended}
 use Rattle.run_status.specs.declared.status.Status.{Status}
 use Rattle.run_status.specs.declared.status.Status.TheVariants.{Done, OutputFault}
@@ -24,8 +24,9 @@ use Rattle.session_runs.specs.Turns.{Begun, Closing}
 use Rattle.session_saver.specs.Saving.{UnlessDirectory, UnlessState}
 use Rattle.session_saver.specs.declared.saver.SyncError.{SyncError}
 use Rattle.tree_commands.specs.Showing.{ShowsFiles}
-use Rattle.cryfs_setup.specs.Info.{IsConfigTold, info_text}
-use Rattle.cryfs_setup.specs.Printing.{Printed}
+use Rattle.cryfs_setup.specs.Info.{IsConfigTold}
+use Rattle.setup_texts.specs.InfoText.{info_text}
+use Rattle.setup_texts.specs.Printing.{Printed}
 use Rattle.cryfs_setup.proofs.Closing.{config_is, config_ok, quiet}
 
 -- where closing went well, the status is that of printing

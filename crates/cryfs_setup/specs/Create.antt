@@ -1,39 +1,26 @@
 -- What `create` does.
-use Rattle.std.specs.Prelude.{◌≡◌, ◌≢◌, ◌⊎◌, ℕ, true, List, ◌++◌, codes, Result, Ok, Err, is_some, IsErr, IfOk, IfErr, OnOk}
+use Rattle.std.specs.Prelude.{◌≡◌, ◌≢◌, ◌⊎◌, ℕ, true, List, Result, Err, is_some, IsErr, IfOk, IfErr, OnOk}
 use Rattle.std.specs.declared.option.Option.{Option}
 use Rattle.std.specs.declared.option.Option.TheVariants.{None}
 use Rattle.block_id.specs.declared.id.BlockId.{BlockId}
-use Rattle.block_id.specs.Name.{name_of}
-use Rattle.script_text.specs.Texts.{line}
 use Rattle.scrypt_kdf.specs.Cost.{Cost}
 use Rattle.config_file.specs.ConfigOf.{IsOnly, opened}
-use Rattle.line_io.specs.Streams.{Stream, Untouched}
+use Rattle.line_io.specs.Streams.{Stream}
 use Rattle.mount_tower.specs.declared.draws.Draws.{Draws}
 use Rattle.mount_tower.specs.declared.error.OpenError.{OpenError}
 use Rattle.mount_tower.specs.declared.opening.TheConstants.{MAX_CONFIG}
 use Rattle.mount_tower.specs.declared.error.OpenError.TheVariants as open_error
-use Rattle.mount.specs.Making.{Created as Made}
-use Rattle.mount_tower.specs.Making.{CreateCause, IsUnchanged, KnowsOnly, StaysThere, new_settings, root_of, sealed_file}
+use Rattle.mount.specs.Making.{Created as Made, KnowsOnly, StaysThere}
+use Rattle.mount_tower.specs.Making.{CreateCause, IsUnchanged, new_settings, root_of, sealed_file}
 use Rattle.outside.specs.Going.{GoesOn}
 use Rattle.outside.specs.Trace.{Call, adds, got, config}
 use Rattle.outside.specs.declared.keeper.Keeper.{Ghosts as KeeperGhosts}
 use Rattle.passwords.specs.Passwords.{PasswordUnread}
-use Rattle.run_openings.specs.Openings.{HasPassword, IsUnread}
-use Rattle.run_openings.specs.Statuses.{opening_status}
+use Rattle.session_runs.specs.Openings.{HasPassword, IsUnread}
 use Rattle.run_status.specs.declared.ended.Ended.{Ended}
-use Rattle.run_status.specs.declared.status.Status.{Status}
 use Rattle.session_lines.specs.Driven.{IsUnfailed}
 use Rattle.tree_commands.specs.Showing.{ShowsFiles}
-use Rattle.cryfs_setup.specs.Printing.{Printed}
-
--- what is printed
-abbrev pub created_text : List ℕ → List ℕ
-created_text fs_id = line (codes "created " ++ name_of fs_id)
-
--- the id of a file system that was made was printed; the error of one that wasn't is the status
-abbrev pub Reports : Result BlockId OpenError → Stream → Status → Type 0
-Reports (Ok id) output status = Printed output (created_text id.0) status
-Reports (Err error) output status = (status ≡ opening_status error) × Untouched output
+use Rattle.setup_texts.specs.CreateText.{Reports}
 
 -- A file system of this cost and block size was made under the password, of what was drawn, or it wasn't by an error.
 pub record IsCreated {V : Type 0} {K : Type 0} (trace : V → Option (List Call)) (faults : V → ℕ) (G : KeeperGhosts K) (cost : Cost) (block_size : ℕ) (draws : Draws) (password : List ℕ) (output : Stream) (vault : V) (keeper : K) (ended : Ended V K) : Type 0 where

@@ -1,42 +1,24 @@
 -- What `info` does.
-use Rattle.std.specs.Prelude.{◌≡◌, ◌⊎◌, ℕ, List, ◌++◌, codes}
+use Rattle.std.specs.Prelude.{◌≡◌, ◌⊎◌, ℕ, List}
 use Rattle.std.specs.declared.option.Option.{Option}
-use Rattle.std.specs.Fmt.{decimal}
-use Rattle.block_id.specs.Name.{name_of}
-use Rattle.script_text.specs.Texts.{line, word}
-use Rattle.scrypt_kdf.specs.Cost.{Cost}
-use Rattle.config_file.specs.Settings.{Settings, settings_of, cipher_name}
+use Rattle.config_file.specs.Settings.{Settings, settings_of}
 use Rattle.config_file.specs.declared.config.Opened.{Opened}
 use Rattle.fs_model.specs.Tree.{Tree}
 use Rattle.held_blocks.specs.Standing.{records}
 use Rattle.line_io.specs.Streams.{Stream, Untouched}
-use Rattle.mount_tower.specs.Opening.{Attached}
+use Rattle.mount.specs.Mounts.{Attached}
 use Rattle.mount_tower.specs.declared.error.OpenError.{OpenError}
 use Rattle.mount_core.specs.Standing.{IsKeptMarked}
 use Rattle.outside.specs.Trace.{Call}
 use Rattle.outside.specs.declared.keeper.Keeper.{Ghosts as KeeperGhosts}
 use Rattle.passwords.specs.Passwords.{PasswordUnread}
-use Rattle.run_openings.specs.Openings.{HasPassword, IsUnread, IsUnopened, StayOpen}
+use Rattle.session_runs.specs.Openings.{HasPassword, IsUnread, IsUnopened, StayOpen}
 use Rattle.run_status.specs.declared.ended.Ended.{Ended}
 use Rattle.session_lines.specs.Driven.{IsUnfailed}
 use Rattle.session_runs.specs.Runs.{outside_of, OpensTo, IsQuietRun}
 use Rattle.tree_commands.specs.Showing.{ShowsFiles}
-use Rattle.cryfs_setup.specs.Printing.{Printed}
-
--- the lines of both ids
-abbrev pub ids_text : Settings → List ℕ
-ids_text s = line (codes "filesystem " ++ name_of s.fs_id) ++ line (codes "root " ++ name_of s.root)
-
--- the lines of the cipher, the blocks' size and the parameters
-abbrev pub sealing_text : Settings → Cost → List ℕ
-sealing_text s cost =
-    line (codes "cipher " ++ cipher_name s.cipher)
-    ++ line (codes "blocksize" ++ word (decimal s.block_size))
-    ++ line (codes "scrypt" ++ word (decimal cost.n) ++ word (decimal cost.r) ++ word (decimal cost.p))
-
--- the five lines that are printed
-abbrev pub info_text : Settings → Cost → List ℕ
-info_text s cost = ids_text s ++ sealing_text s cost
+use Rattle.setup_texts.specs.InfoText.{info_text}
+use Rattle.setup_texts.specs.Printing.{Printed}
 
 -- Under the password a configuration was opened, and it was told whole, or in part where the sink failed. Nothing more was done than opening does.
 pub record IsConfigTold {V : Type 0} {K : Type 0} (trace : V → Option (List Call)) (faults : V → ℕ) (G : KeeperGhosts K) (password : List ℕ) (output : Stream) (vault : V) (keeper : K) (ended : Ended V K) : Type 0 where

@@ -1,4 +1,3 @@
-pub mod Printing
 pub mod Create
 pub mod Info
 pub mod Passwd

@@ -1,7 +1,6 @@
 -- What `passwd` does.
-use Rattle.std.specs.Prelude.{◌≡◌, ◌⊎◌, ℕ, ◌+◌, true, List, codes, Result, is_some, IsOk, OnOk}
+use Rattle.std.specs.Prelude.{◌≡◌, ◌⊎◌, ℕ, ◌+◌, true, List, Result, is_some, IsOk, OnOk}
 use Rattle.std.specs.declared.option.Option.{Option}
-use Rattle.std.specs.declared.result.Result.TheVariants.{Ok, Err}
 use Rattle.rand_core.specs.Stream.{Stream as Chance}
 use Rattle.config_file.specs.ConfigOf.{IsOnly, opened}
 use Rattle.config_file.specs.Settings.{Settings, settings_of}
@@ -11,7 +10,7 @@ use Rattle.held_blocks.specs.Standing.{records}
 use Rattle.line_io.specs.Streams.{Stream, Untouched}
 use Rattle.mount_tower.specs.Drawing.{seal_drawn}
 use Rattle.mount_tower.specs.Making.{sealed_file}
-use Rattle.mount_tower.specs.Opening.{Attached}
+use Rattle.mount.specs.Mounts.{Attached}
 use Rattle.mount_tower.specs.Identities.{HasEmptyList}
 use Rattle.mount_tower.specs.declared.error.OpenError.{OpenError}
 use Rattle.mount_core.specs.Standing.{IsKeptMarked}
@@ -19,27 +18,17 @@ use Rattle.outside.specs.Going.{GoesOn}
 use Rattle.outside.specs.Trace.{Call}
 use Rattle.outside.specs.declared.keeper.Keeper.{Ghosts as KeeperGhosts}
 use Rattle.passwords.specs.Passwords.{PasswordsUnread}
-use Rattle.run_openings.specs.Openings.{HasPasswords, IsUnread, IsUnopened}
-use Rattle.run_openings.specs.Statuses.{closing_status}
+use Rattle.session_runs.specs.Openings.{HasPasswords, IsUnread, IsUnopened}
+use Rattle.run_edges.specs.Statuses.{closing_status}
 use Rattle.run_status.specs.declared.ended.Ended.{Ended}
 use Rattle.run_status.specs.declared.status.Status.{Status}
 use Rattle.run_status.specs.Statuses.{first_of}
-use Rattle.script_text.specs.Texts.{line}
 use Rattle.session_lines.specs.Driven.{IsUnfailed}
 use Rattle.session_runs.specs.Runs.{Outside, outside_of, OpensTo, IsQuietRun, directory_fault, state_fault}
 use Rattle.session_saver.specs.Saving.{KeptConfigures}
 use Rattle.session_saver.specs.declared.saver.SyncError.{SyncError}
 use Rattle.tree_commands.specs.Showing.{ShowsFiles}
-use Rattle.cryfs_setup.specs.Printing.{Printed}
-
--- what is printed
-abbrev pub changed_text : List ℕ
-changed_text = line (codes "changed")
-
--- after a change it was printed; the error of one that failed is told
-abbrev pub Reports : Result Unit SyncError → Stream → Status → Type 0
-Reports (Ok _) output told = Printed output changed_text told
-Reports (Err error) output told = (told ≡ closing_status (Err error)) × Untouched output
+use Rattle.setup_texts.specs.PasswdText.{Reports}
 
 -- the configuration's file holds this text, which opens under the new password and nothing else, to what was opened
 pub record NewOpens (new file : List ℕ) (o : Opened) (after : Outside) : Type 0 where

@@ -1,23 +1,19 @@
 // `create`: makes a file system.
-ghost use Rattle.std.specs.Prelude.{◌≡◌, ◌≤◌};
+ghost use Rattle.std.specs.Prelude.{◌≤◌};
 ghost use Rattle.config_file.specs.Settings.{IsBlockSize};
 ghost use Rattle.line_io.specs.Streams.{stream_of};
 ghost use Rattle.mount_tower.specs.Drawing.{drawn};
-ghost use Rattle.run_openings.specs.Openings.{HasCauses};
+ghost use Rattle.session_runs.specs.Openings.{HasCauses};
 ghost use Rattle.session_runs.specs.Runs.{outside_of};
-ghost use Rattle.cryfs_setup.specs.Create.{RanCreate, IsCreated, Reports, created_text};
-ghost use Rattle.cryfs_setup.specs.Printing.{Printed};
+ghost use Rattle.cryfs_setup.specs.Create.{RanCreate, IsCreated};
 
-use crate::print::print;
-use block_id::BlockId;
-use mount::Mount;
-use mount_tower::OpenError;
+use mount_calls::create;
 use outside::{Keeper, Sink, Source, Vault};
 use passwords::read_password;
 use rand_core::Rng;
-use run_openings::opening_status;
-use run_status::{Ended, Status};
+use run_status::Ended;
 use scrypt_kdf::Params;
+use setup_texts::report_created;
 use std::alloc::Global;
 
 /// Makes a file system of blocks of this size under the password line of the input, where nothing is there, and prints
@@ -72,33 +68,10 @@ fn create_under<O: Sink, V: Vault, K: Keeper, R: Rng>(
     ensures causes { HasCauses (outside_of V.trace V.faults K.Keeper vault keeper) (outside_of V.trace V.faults K.Keeper result.vault result.keeper) result.status }
     ensures output_grows { O.faults output.old ≤ O.faults output.new }
 {
-    let (made, vault, keeper) = Mount::create(
-        alloc, vault, keeper, password, params, block_size, chance,
-    );
+    let (made, vault, keeper) = create(alloc, vault, keeper, password, params, block_size, chance);
     Ended {
-        status: report(made, output),
+        status: report_created(made, output),
         vault,
         keeper,
     }
-}
-
-/// Prints the id of a file system that was made.
-fn report<O: Sink>(made: Result<BlockId, OpenError>, output: &mut O) -> Status
-    ensures reports { Reports made (stream_of O.written O.faults output.old output.new) result }
-    ensures grows { O.faults output.old ≤ O.faults output.new }
-{
-    match made {
-        Ok(id) => print_created(&id, output),
-        Err(error) => opening_status(error),
-    }
-}
-
-/// Prints the id of a new file system.
-fn print_created<O: Sink>(fs_id: &BlockId, output: &mut O) -> Status
-    ensures printed { Printed (stream_of O.written O.faults output.old output.new) (created_text fs_id.now.0) result }
-    ensures grows { O.faults output.old ≤ O.faults output.new }
-{
-    let mut text = *b"created ________________________________\n";
-    text[8..40].copy_from_slice(&fs_id.to_name());
-    print(&text, output)
 }

@@ -2,14 +2,14 @@
 ghost use Rattle.std.specs.Prelude.{◌≡◌, ◌≤◌, [], vec_capacity};
 ghost use Rattle.line_io.specs.Streams.{stream_of};
 ghost use Rattle.session_runs.specs.Runs.{outside_of};
-ghost use Rattle.run_openings.specs.Openings.{HasCauses};
+ghost use Rattle.session_runs.specs.Openings.{HasCauses};
 ghost use Rattle.cryfs_setup.specs.Info.{Told, ToldUnder};
 
-use crate::info_text::{MAX_TEXT, print_info};
 use crate::opening::{end_run, open};
 use outside::{Keeper, Sink, Source, Vault};
 use passwords::read_password;
 use run_status::{Ended, Status};
+use setup_texts::{MAX_TEXT, print_info};
 use std::alloc::Global;
 
 /// Opens the file system under the password line of the input, prints what its configuration says, and closes it. All
@@ -67,6 +67,6 @@ fn tell_under<O: Sink, V: Vault, K: Keeper>(
         Ok(mount) => mount,
         Err(ended) => return ended,
     };
-    let printed = print_info(*mount.opened(), &mut text, output);
+    let printed = print_info(mount.opened, &mut text, output);
     end_run(alloc, mount, printed)
 }

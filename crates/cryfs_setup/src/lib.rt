@@ -4,10 +4,8 @@
 
 mod create;
 mod info;
-mod info_text;
 mod opening;
 mod passwd;
-mod print;
 
 pub use create::run_create;
 pub use info::run_info;

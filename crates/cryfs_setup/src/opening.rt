@@ -9,12 +9,13 @@ ghost use Rattle.run_status.specs.Statuses.{first_of};
 ghost use Rattle.session_runs.specs.Turns.{Begun, Closing};
 ghost use Rattle.session_saver.specs.declared.saver.SyncError.{SyncError};
 ghost use Rattle.tree_commands.specs.Showing.{ShowsFiles};
-ghost use Rattle.run_openings.specs.Openings.{HasCauses, IsUnopened};
-ghost use Rattle.run_openings.specs.Statuses.{closing_status};
+ghost use Rattle.session_runs.specs.Openings.{HasCauses, IsUnopened};
+ghost use Rattle.run_edges.specs.Statuses.{closing_status};
 
-use mount::Mount;
+use mount::{Halted, Mount};
+use mount_calls::{attach, close};
 use outside::{Keeper, Vault};
-use run_openings::{closing_status, end_opening};
+use run_edges::{closing_status, opening_status};
 use run_status::{Ended, Status};
 use std::alloc::Global;
 
@@ -31,9 +32,20 @@ pub(crate) fn open<V: Vault, K: Keeper>(
     ensures unopened { IfErr result (λ ended. (error : OpenError) × IsUnopened V.trace V.faults K.Keeper password.now vault keeper ended error) }
     ensures causes { IfErr result (λ ended. HasCauses (outside_of V.trace V.faults K.Keeper vault keeper) (outside_of V.trace V.faults K.Keeper ended.vault ended.keeper) ended.status) }
 {
-    match Mount::attach(alloc, vault, keeper, password) {
+    match attach(alloc, vault, keeper, password) {
         Ok(mount) => Ok(mount),
-        Err(halted) => Err(end_opening(halted)),
+        Err(halted) => {
+            let Halted {
+                error,
+                vault,
+                keeper,
+            } = halted;
+            Err(Ended {
+                status: opening_status(error),
+                vault,
+                keeper,
+            })
+        }
     }
 }
 
@@ -47,7 +59,7 @@ pub(crate) fn end_run<V: Vault, K: Keeper>(
     ensures { (closing : Result Unit SyncError) × (result.status ≡ first_of status (closing_status closing))
         × Closing ShowsFiles V.trace V.faults K.Keeper mount closing result.vault result.keeper }
 {
-    let (closing, vault, keeper) = mount.close(alloc);
+    let (closing, vault, keeper) = close(alloc, mount);
     Ended {
         status: status.or(closing_status(closing)),
         vault,

@@ -1,18 +1,17 @@
 // `passwd`: changes the password of a file system.
-ghost use Rattle.std.specs.Prelude.{◌≡◌, ◌≤◌};
+ghost use Rattle.std.specs.Prelude.{◌≤◌};
 ghost use Rattle.line_io.specs.Streams.{stream_of};
 ghost use Rattle.session_runs.specs.Runs.{outside_of};
-ghost use Rattle.run_openings.specs.Openings.{HasCauses};
-ghost use Rattle.cryfs_setup.specs.Passwd.{RanPasswd, ChangedUnder, Reports};
+ghost use Rattle.session_runs.specs.Openings.{HasCauses};
+ghost use Rattle.cryfs_setup.specs.Passwd.{RanPasswd, ChangedUnder};
 
 use crate::opening::{end_run, open};
-use crate::print::print;
+use mount_calls::change_password;
 use outside::{Keeper, Sink, Source, Vault};
 use passwords::{PasswordChange, read_two_passwords};
 use rand_core::Rng;
-use run_openings::closing_status;
-use run_status::{Ended, Status};
-use session_saver::SyncError;
+use run_status::Ended;
+use setup_texts::report_changed;
 use std::alloc::Global;
 
 /// Opens the file system under the first line of the input, changes its password to the second line, says so where that
@@ -65,18 +64,7 @@ fn change_under<O: Sink, V: Vault, K: Keeper, R: Rng>(
         Ok(mount) => mount,
         Err(ended) => return ended,
     };
-    let change = mount.change_password(alloc, new, chance);
-    let reported = report(change, output);
+    let change = change_password(alloc, &mut mount, new, chance);
+    let reported = report_changed(change, output);
     end_run(alloc, mount, reported)
-}
-
-/// Says that the password was changed, where that was done.
-fn report<O: Sink>(change: Result<(), SyncError>, output: &mut O) -> Status
-    ensures reports { Reports change (stream_of O.written O.faults output.old output.new) result }
-    ensures grows { O.faults output.old ≤ O.faults output.new }
-{
-    match change {
-        Ok(()) => print(b"changed\n", output),
-        Err(_) => closing_status(change),
-    }
 }

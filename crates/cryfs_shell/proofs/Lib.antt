@@ -1,4 +1,3 @@
-pub mod Tried
 pub mod Statuses
 pub mod Sessions
 pub mod Setups

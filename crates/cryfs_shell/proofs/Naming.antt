@@ -7,10 +7,12 @@ use Rattle.std.specs.declared.result.Result.TheVariants.{Ok, Err}
 use Rattle.rand_core.specs.Stream.{Stream as Chance}
 use Rattle.answers.specs.Sessions.{Exchange, violated}
 use Rattle.block_id.specs.declared.id.BlockId.{BlockId}
-use Rattle.cryfs_setup.specs.Create.{RanCreate, Reports as CreateReports}
+use Rattle.cryfs_setup.specs.Create.{RanCreate}
+use Rattle.setup_texts.specs.CreateText.{Reports as CreateReports}
 use Rattle.cryfs_setup.specs.Info.{Told}
-use Rattle.cryfs_setup.specs.Passwd.{RanPasswd, Reports as ChangeReports}
-use Rattle.cryfs_setup.specs.Printing.{Printed}
+use Rattle.cryfs_setup.specs.Passwd.{RanPasswd}
+use Rattle.setup_texts.specs.PasswdText.{Reports as ChangeReports}
+use Rattle.setup_texts.specs.Printing.{Printed}
 use Rattle.cryfs_setup.proofs.Ending.{ends}
 use Rattle.fs_model.specs.Instant.{Instant}
 use Rattle.line_io.specs.Streams.{Stream, Untouched}
@@ -21,8 +23,8 @@ use Rattle.mount_tower.specs.declared.error.OpenError.TheVariants.{FaultDirector
 use Rattle.outside.specs.Trace.{Call}
 use Rattle.outside.specs.declared.keeper.Keeper.{Ghosts as KeeperGhosts}
 use Rattle.passwords.specs.Passwords.{PasswordUnread, PasswordsUnread}
-use Rattle.run_openings.specs.Openings.{AreUncalled, IsUnread, IsUnopened}
-use Rattle.run_openings.specs.Statuses.{opening_status, closing_status, session_status}
+use Rattle.session_runs.specs.Openings.{AreUncalled, IsUnread, IsUnopened}
+use Rattle.run_edges.specs.Statuses.{opening_status, closing_status, session_status}
 use Rattle.run_status.specs.declared.ended.Ended.{Ended}
 use Rattle.run_status.specs.declared.status.Status.{Status}
 use Rattle.run_status.specs.declared.status.Status.TheVariants.{Done, LongPassword, DirectoryFault, StateFault, InputFault, OutputFault, Memory}
@@ -40,7 +42,7 @@ use Rattle.shell_words.specs.Forms.{joined}
 use Rattle.cryfs_shell.specs.Clauses.{FaultsNamed, MayHide, StreamFaultsNamed}
 use Rattle.cryfs_shell.specs.Doing.{Does}
 use Rattle.cryfs_shell.specs.Kinds.{is_session}
-use Rattle.cryfs_shell.specs.Runs.{Tried, GeneratedOnPlain, status_of}
+use Rattle.plain_trials.specs.Runs.{Tried, GeneratedOnPlain, status_of}
 
 -- ---- the change of a password
 

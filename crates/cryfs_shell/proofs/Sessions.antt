@@ -1,5 +1,5 @@
 -- What holds of each run of a session.
-use Rattle.std.proofs.Common.{◌≡◌, ◌≢◌, ◌⊎◌, ◌≤◌, ◌+◌, ◌∙◌, ℕ, Bool, false, List, refl, sym, ap, subst, inl, inr, arith}
+use Rattle.std.proofs.Common.{◌≡◌, ◌≢◌, ◌⊎◌, ◌≤◌, ◌+◌, ◌∙◌, ℕ, Bool, false, List, sym, ap, subst, inl, inr, arith}
 use Rattle.std.specs.declared.option.Option.{Option}
 use Rattle.std.specs.declared.option.Option.TheVariants.{Some}
 use Rattle.answers.specs.Sessions.{Exchange, violated, all_directory_faults, all_state_faults}
@@ -17,8 +17,8 @@ use Rattle.outside.specs.Causes.{RoseBy}
 use Rattle.outside.specs.Trace.{Call}
 use Rattle.outside.specs.declared.keeper.Keeper.{Ghosts as KeeperGhosts}
 use Rattle.passwords.specs.Passwords.{InputFailed, IsNextPassword, PasswordUnread, PasswordsUnread}
-use Rattle.run_openings.specs.Openings.{AreUncalled, IsUnread, IsUnopened}
-use Rattle.run_openings.proofs.Unopened.{caused}
+use Rattle.session_runs.specs.Openings.{AreUncalled, IsUnread, IsUnopened}
+use Rattle.session_runs.proofs.Unopened.{caused}
 use Rattle.run_status.specs.declared.ended.Ended.{Ended}
 use Rattle.run_status.specs.declared.status.Status.{Status}
 use Rattle.run_status.specs.declared.status.Status.TheVariants.{Done, Usage, LongPassword, Violation, DirectoryFault, StateFault, InputFault, OutputFault, Memory}
@@ -26,7 +26,7 @@ use Rattle.session_lines.specs.declared.end.End.{End}
 use Rattle.session_runs.specs.Runs.{Outside, outside_of, OutsideStandsFor, OpensTo, directory_fault, state_fault}
 use Rattle.session_runs.proofs.Whole.{unviolated}
 use Rattle.shell_sessions.specs.Sessions.{Session, IsServed}
-use Rattle.run_openings.specs.Statuses.{session_status}
+use Rattle.run_edges.specs.Statuses.{session_status}
 use Rattle.tree_commands.specs.Showing.{ShowsFiles}
 use Rattle.cryfs_shell.specs.Clauses.{IsRefusingStatus, IsRefusedRun, IsOpenedRun, NoFalseAlarm, KeepsTree, FaultsHappened, IsEmptied}
 use Rattle.cryfs_shell.proofs.Statuses.{EndCause, opening_is_no, session_is_no, stops_is_refusal, session_directory, session_state, session_input, session_output, done_is_calm, done_is_closed, calm_is_no_alarm}
@@ -126,7 +126,7 @@ module _ {V : Type 0} {K : Type 0} (trace : V → Option (List Call)) (faults : 
     module _ (error : OpenError) (u : IsUnopened trace faults G password vault keeper ended error) where
       pub unopened_faults : FaultsHappened input output Before After ended.status
       unopened_faults =
-          let k = caused trace faults G password vault keeper (record { error = error; vault = ended.vault; keeper = ended.keeper }) u.unopened ended u.status refl refl in
+          let k = caused trace faults G password vault keeper (record { error = error; vault = ended.vault; keeper = ended.keeper }) u.unopened ended.status u.status in
           record {
             vault_grows = grown (faults vault) (faults ended.vault) k.vault_grows;
             keeper_grows = grown (G.faults keeper) (G.faults ended.keeper) k.keeper_grows;

@@ -5,11 +5,13 @@ use Rattle.std.specs.declared.option.Option.{Option}
 use Rattle.std.specs.declared.result.Result.TheVariants.{Ok, Err}
 use Rattle.rand_core.specs.Stream.{Stream as Chance}
 use Rattle.block_id.specs.declared.id.BlockId.{BlockId}
-use Rattle.cryfs_setup.specs.Create.{RanCreate, Reports as CreateReports}
+use Rattle.cryfs_setup.specs.Create.{RanCreate}
+use Rattle.setup_texts.specs.CreateText.{Reports as CreateReports}
 use Rattle.cryfs_setup.specs.Info.{Told}
-use Rattle.cryfs_setup.specs.Passwd.{RanPasswd, IsChanged, Reports as ChangeReports, changed_text}
-use Rattle.cryfs_setup.specs.Create.{created_text}
-use Rattle.cryfs_setup.specs.Printing.{Printed}
+use Rattle.cryfs_setup.specs.Passwd.{RanPasswd, IsChanged}
+use Rattle.setup_texts.specs.PasswdText.{Reports as ChangeReports, changed_text}
+use Rattle.setup_texts.specs.CreateText.{created_text}
+use Rattle.setup_texts.specs.Printing.{Printed}
 use Rattle.cryfs_setup.proofs.Ending.{ends}
 use Rattle.held_blocks.specs.Standing.{records}
 use Rattle.line_io.specs.Streams.{Stream, HasFailed}
@@ -21,8 +23,8 @@ use Rattle.mount_core.specs.Standing.{IsKeptMarked}
 use Rattle.outside.specs.Trace.{Call}
 use Rattle.outside.specs.declared.keeper.Keeper.{Ghosts as KeeperGhosts}
 use Rattle.passwords.specs.Passwords.{PasswordUnread, PasswordsUnread}
-use Rattle.run_openings.specs.Openings.{AreUncalled, HasCauses}
-use Rattle.run_openings.specs.Statuses.{opening_status, closing_status}
+use Rattle.session_runs.specs.Openings.{AreUncalled, HasCauses}
+use Rattle.run_edges.specs.Statuses.{opening_status, closing_status}
 use Rattle.run_status.specs.declared.ended.Ended.{Ended}
 use Rattle.run_status.specs.declared.status.Status.{Status}
 use Rattle.run_status.specs.declared.status.Status.TheVariants.{Done, Usage, LongPassword, Violation, InputFault, OutputFault}

@@ -16,7 +16,7 @@ use Rattle.session_lines.specs.declared.end.End.TheVariants as line_end
 use Rattle.session_runs.specs.Runs.{directory_fault, state_fault}
 use Rattle.session_saver.specs.declared.saver.SyncError.{SyncError}
 use Rattle.session_saver.specs.declared.saver.SyncError.TheVariants as sync_error
-use Rattle.run_openings.specs.Statuses.{opening_status, session_status}
+use Rattle.run_edges.specs.Statuses.{opening_status, session_status}
 use Rattle.cryfs_shell.specs.Clauses.{IsRefusingStatus}
 
 -- ---- a file system that wasn't opened

@@ -10,14 +10,14 @@ use Rattle.line_io.specs.Streams.{Stream, Untouched}
 use Rattle.mount_tower.specs.Drawing.{drawn}
 use Rattle.outside.specs.Trace.{Call}
 use Rattle.outside.specs.declared.keeper.Keeper.{Ghosts as KeeperGhosts}
-use Rattle.run_openings.specs.Openings.{AreUncalled, HasCauses}
+use Rattle.session_runs.specs.Openings.{AreUncalled, HasCauses}
 use Rattle.run_status.specs.declared.ended.Ended.{Ended}
 use Rattle.session_runs.specs.Runs.{outside_of}
 use Rattle.shell_sessions.specs.Sessions.{Session, ComesShell, ComesGenerated, ComesCommand}
 use Rattle.shell_words.specs.declared.form.Form.{Form}
 use Rattle.shell_words.specs.declared.form.Form.TheVariants.{Trial, TrialGenerate, Create, Info, Passwd, Shell, Generate, Command}
 use Rattle.shell_words.specs.Forms.{joined}
-use Rattle.cryfs_shell.specs.Runs.{Tried, GeneratedOnPlain}
+use Rattle.plain_trials.specs.Runs.{Tried, GeneratedOnPlain}
 
 -- the status names only faults that happened
 abbrev pub Caused : {V : Type 0} → {K : Type 0} → (V → Option (List Call)) → (V → ℕ) → KeeperGhosts K → V → K → Ended V K → Type 0

@@ -1,6 +1,3 @@
-pub mod Plain
-pub mod Lawful
-pub mod Runs
 pub mod Kinds
 pub mod Clauses
 pub mod Doing

@@ -4,8 +4,6 @@
 mod program;
 #[cfg(test)]
 mod tests;
-mod trial;
-mod trials;
 
 pub use program::run;
 pub use run_status::{Ended, Status};

@@ -11,7 +11,7 @@ ghost use Rattle.held_blocks.specs.Standing.{records};
 ghost use Rattle.line_io.specs.Streams.{stream_of, Untouched};
 ghost use Rattle.mount_tower.specs.Drawing.{drawn};
 ghost use Rattle.mount_core.specs.Standing.{IsKeptMarked};
-ghost use Rattle.run_openings.specs.Openings.{AreUncalled};
+ghost use Rattle.session_runs.specs.Openings.{AreUncalled};
 ghost use Rattle.session_runs.specs.Runs.{outside_of};
 ghost use Rattle.shell_sessions.specs.Sessions.{Session, ComesShell, ComesGenerated, ComesCommand};
 ghost use Rattle.shell_words.specs.Forms.{form_of, is_create, joined, IsModest};
@@ -20,13 +20,13 @@ ghost use Rattle.cryfs_shell.specs.Clauses.{IsRefusedRun, NoFalseAlarm, KeepsTre
 ghost use Rattle.cryfs_shell.specs.Doing.{Does};
 ghost use Rattle.cryfs_shell.specs.History.{Comes, IsRunOf};
 ghost use Rattle.cryfs_shell.specs.Kinds.{IsRefused, is_session, opens, draws};
-ghost use Rattle.cryfs_shell.specs.Runs.{Tried, GeneratedOnPlain};
+ghost use Rattle.plain_trials.specs.Runs.{Tried, GeneratedOnPlain};
 
-use crate::trials::{try_generated, try_lines};
 use block_id::Memory;
 use cryfs_setup::{run_create, run_info, run_passwd};
 use fs_model::Moment;
 use outside::{Keeper, Sink, Source, Vault};
+use plain_trials::{try_generated, try_lines};
 use rand_core::Rng;
 use run_status::{Ended, Status};
 use shell_sessions::{run_command, run_generate, run_shell};

@@ -1,11 +1,11 @@
 // Whole runs over streams in memory.
 
-use crate::trial::Trial;
 use crate::{Status, run};
 use answers::TextBuffer;
 use fs_model::Moment;
 use memory_outside::{MemoryKeeper, MemorySink, MemorySource, MemoryVault};
 use plain_tree::PlainTree;
+use plain_trials::Trial;
 use rand_pcg::Pcg32;
 use session_lines::{End, answer_single};
 use std::alloc::{AllocError, Global};

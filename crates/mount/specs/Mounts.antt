@@ -21,12 +21,14 @@ use Rattle.mount_tower.specs.declared.error.OpenError.TheVariants.{Memory, NoSta
 use Rattle.mount.specs.declared.mount.Halted.{Halted}
 use Rattle.mount.specs.declared.mount.Mount.{Mount}
 use Rattle.mount.specs.Opening.{AttachCause}
-use Rattle.mount_tower.specs.Opening.{IsLoaded}
+use Rattle.mount_tower.specs.Opening.{IsLoaded, OpenedConfig, IsOf}
 use Rattle.mount.specs.Representing.{Represents}
 use Rattle.mount_tower.specs.Identities.{identity_for, HasEmptyList}
 use Rattle.mount.specs.Tower.{TowerReady}
 use Rattle.mount_tower.specs.Tower.{tower_durables}
 use Rattle.mount_tower.specs.Unforged.{IsUnforgedConfig}
+use Rattle.outside.specs.Writes.{after_writes}
+use Rattle.config_file.specs.declared.config.Opened.{Opened}
 
 -- what each call needs of a mount, and leaves: its store was opened by its configuration
 pub record IsReady {V : Type 0} {K : Type 0} (trace : V → Option (List Call)) (faults : V → ℕ) (G : KeeperGhosts K) (mount : Mount V K) : Type 0 where
@@ -34,6 +36,18 @@ pub record IsReady {V : Type 0} {K : Type 0} (trace : V → Option (List Call)) 
   pub salt : List ℕ
   pub identity : (tower_durables trace).identity mount.core.blobs.tx.store ≡ identity_for (settings_of mount.opened.config) salt
   pub root : mount.core.root ≡ mount.opened.config.root
+
+-- What attaching found: the record that was kept, the configuration for the password in its list or in the directory, and that the one is of the
+-- other. What waited was written, and the record with an empty list is kept.
+pub record Attached (password : List ℕ) (kept0 kept1 : Option (List ℕ)) (t0 t1 : Option (List Call)) (o : Opened) : Type 0 where
+  pub state : PlainState
+  pub list : FileChanges
+  pub loaded : IsLoaded kept0 state list
+  pub read : Option (List Call)
+  pub found : OpenedConfig password list t0 read o
+  pub is_of : IsOf state (settings_of o.config)
+  pub writes : t1 ≡ after_writes list read
+  pub kept : kept1 ≡ Some (record_bytes state [])
 
 -- the directory wasn't called: the record wasn't taken
 abbrev pub IsUncalled : OpenError → Type 0

@@ -1,23 +1,17 @@
 -- A new file system's configuration and store, and why none is made.
-use Rattle.std.specs.Prelude.{◌≡◌, ◌⊎◌, ◌≤◌, ℕ, true, false, List, Result, is_some, if◌then◌else◌}
+use Rattle.std.specs.Prelude.{◌≡◌, ◌⊎◌, ℕ, true, false, List, is_some, if◌then◌else◌}
 use Rattle.std.specs.Str.{bytes_eq}
-use Rattle.std.specs.FinMap as fin
 use Rattle.std.specs.declared.option.Option.{Option}
 use Rattle.std.specs.declared.option.Option.TheVariants.{None, Some}
-use Rattle.std.specs.declared.result.Result.TheVariants.{Ok, Err}
-use Rattle.block_id.specs.declared.id.BlockId.{BlockId}
 use Rattle.block_id.specs.Fresh.{zero_id}
 use Rattle.block_id.specs.Name.{next_id}
 use Rattle.outside.specs.Causes.{RoseBy}
 use Rattle.outside.specs.Trace.{At, Call, adds, got, config}
 use Rattle.scrypt_kdf.specs.Cost.{Cost}
-use Rattle.local_state.specs.Record.{PlainState}
-use Rattle.outside.specs.Changes.{FileChanges}
-use Rattle.store_api.specs.Content.{Id, same_id}
+use Rattle.store_api.specs.Content.{Id}
 use Rattle.store_api.specs.Durables.{last_told}
 use Rattle.store_api.specs.Holdings.{has_id}
 use Rattle.integrity_store.specs.declared.store.IntegrityStore.{IntegrityStore}
-use Rattle.held_blocks.specs.Stores.{version_in}
 use Rattle.config_file.specs.Sealing.{config_text}
 use Rattle.config_file.specs.Settings.{Settings}
 use Rattle.config_file.specs.declared.config.Cipher.{Cipher}
@@ -27,7 +21,6 @@ use Rattle.mount_tower.specs.declared.draws.Draws.{Draws}
 use Rattle.mount_tower.specs.declared.draws.SealDraws.{SealDraws}
 use Rattle.mount_tower.specs.declared.error.OpenError.{OpenError}
 use Rattle.mount_tower.specs.declared.error.OpenError.TheVariants.{Memory, Exists, FaultDirectory, FaultState}
-use Rattle.mount_tower.specs.Opening.{IsLoaded}
 use Rattle.mount_tower.specs.Identities.{identity_for}
 use Rattle.mount_tower.specs.Tower.{sealed_trace, sealed_meanings, sealed_holdings, sealed_durables}
 
@@ -64,15 +57,6 @@ CreateCause kept t0 t1 v0 v1 k0 k1 FaultDirectory = RoseBy 1 v0 v1
 CreateCause kept t0 t1 v0 v1 k0 k1 FaultState = RoseBy 1 k0 k1
 CreateCause kept t0 t1 v0 v1 k0 k1 error = ⊥
 
--- where a record without a violation is kept, it knows the root's block at version 1 at most, and no other block
-abbrev pub KnowsOnly : Option (List ℕ) → List ℕ → Type 0
-KnowsOnly kept root = (state : PlainState) (list : FileChanges) → IsLoaded kept state list
-    → (version_in (fin.get state.lives root) ≤ 1) × ((id : List ℕ) → same_id id root ≡ false → version_in (fin.get state.lives id) ≡ 0)
-
--- where a record without a violation is kept, the digest of the key in it has this salt
-abbrev pub HasSalt : Option (List ℕ) → List ℕ → Type 0
-HasSalt kept salt = (state : PlainState) (list : FileChanges) → IsLoaded kept state list → state.key_salt ≡ salt
-
 -- a store that holds nothing, of this configuration and salt; it is sound where no file was changed
 pub record IsNewStore {V : Type 0} (was : Option (List Call)) (failed : ℕ) (trace : V → Option (List Call)) (faults : V → ℕ) (c : Settings) (salt : List ℕ) (store : IntegrityStore V Cipher) : Type 0 where
   pub intact : (sealed_meanings trace faults).intact store
@@ -89,8 +73,3 @@ StopsThere Exists = Unit {0}
 StopsThere Memory = Unit {0}
 StopsThere FaultState = Unit {0}
 StopsThere error = ⊥
-
--- something was kept: no file system is made, the directory isn't called, and it stays kept
-abbrev pub StaysThere : {V : Type 0} → {K : Type 0} → (K → Option (List ℕ)) → V → K → V → K → Result BlockId OpenError → Type 0
-StaysThere kept v0 k0 v1 k1 (Ok id) = ⊥
-StaysThere kept v0 k0 v1 k1 (Err error) = (v1 ≡ v0) × (kept k1 ≡ kept k0) × StopsThere error

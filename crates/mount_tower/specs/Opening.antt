@@ -1,5 +1,5 @@
 -- What opening reads, and why it stops.
-use Rattle.std.specs.Prelude.{◌≡◌, ◌≢◌, ◌⊎◌, ℕ, false, List, [], ◌++◌}
+use Rattle.std.specs.Prelude.{◌≡◌, ◌⊎◌, ℕ, false, List, ◌++◌}
 use Rattle.std.specs.FinMap as fin
 use Rattle.std.specs.declared.option.Option.{Option}
 use Rattle.std.specs.declared.option.Option.TheVariants.{None, Some}
@@ -7,7 +7,6 @@ use Rattle.sha2.specs.Sha256.{sha256}
 use Rattle.outside.specs.Causes.{RoseBy}
 use Rattle.outside.specs.Changes.{FileChanges, change_at}
 use Rattle.outside.specs.Trace.{Call, config, got, adds}
-use Rattle.outside.specs.Writes.{after_writes}
 use Rattle.local_state.specs.Record.{PlainState, record_bytes, HasRecord}
 use Rattle.redo_vault.specs.Redo.{Gave}
 use Rattle.held_blocks.specs.Stores.{version_in}
@@ -30,12 +29,6 @@ pub record IsLoaded (was : Option (List ℕ)) (state : PlainState) (list : FileC
 -- where a record without a violation is kept, these are the versions in it, and 0 for an id that it doesn't know
 abbrev pub AreKnown : Option (List ℕ) → (List ℕ → ℕ) → Type 0
 AreKnown was version = (state : PlainState) (list : FileChanges) → IsLoaded was state list → (id : List ℕ) → version id ≡ version_in (fin.get state.lives id)
-
--- what is kept is no record
-pub record IsNoRecord (was : Option (List ℕ)) : Type 0 where
-  pub bytes : List ℕ
-  pub kept : was ≡ Some bytes
-  pub differs : (state : PlainState) (list : FileChanges) → HasRecord state list → bytes ≢ record_bytes state list
 
 -- what the list, or else one call, gave for the configuration
 abbrev pub GaveConfig : FileChanges → Option (List Call) → Option (List Call) → Option (List ℕ) → Type 0
@@ -83,15 +76,3 @@ abbrev pub error_of : SyncError → OpenError
 error_of SyncMemory = Memory
 error_of SyncDirectory = FaultDirectory
 error_of SyncState = FaultState
-
--- What attaching found: the record that was kept, the configuration for the password in its list or in the directory, and that the one is of the
--- other. What waited was written, and the record with an empty list is kept.
-pub record Attached (password : List ℕ) (kept0 kept1 : Option (List ℕ)) (t0 t1 : Option (List Call)) (o : Opened) : Type 0 where
-  pub state : PlainState
-  pub list : FileChanges
-  pub loaded : IsLoaded kept0 state list
-  pub read : Option (List Call)
-  pub found : OpenedConfig password list t0 read o
-  pub is_of : IsOf state (settings_of o.config)
-  pub writes : t1 ≡ after_writes list read
-  pub kept : kept1 ≡ Some (record_bytes state [])

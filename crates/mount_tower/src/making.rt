@@ -160,6 +160,7 @@ pub fn new_store<V: Vault, R: Rng>(
     ensures file { IfOk result (λ new. new.file.items ≡ sealed_file password.now params.now (drawn (R.stream chance.old)).0.seal (new_settings block_size (drawn (R.stream chance.old)).0)) }
     ensures opens { IfOk result (λ new. IsOnly password.now new.file.items (opened_as (new_settings block_size (drawn (R.stream chance.old)).0) params.now)) }
     ensures err { IfErr result (λ back. back ≡ vault) }
+    ensures stream { R.stream chance.new ≡ (drawn (R.stream chance.old)).1 }
 {
     let draws = Draws::draw(chance);
     let config = config_from(block_size, &draws);

@@ -7,7 +7,7 @@ use Rattle.std.specs.declared.result.Result.TheVariants.{Ok, Err}
 use Rattle.block_id.specs.declared.id.BlockId.{BlockId}
 use Rattle.config_file.specs.Settings.{Settings}
 use Rattle.create_options.specs.declared.options.CreateOptions.{CreateOptions}
-use Rattle.cryfs_setup.specs.Create.{Reports}
+use Rattle.setup_texts.specs.CreateText.{Reports}
 use Rattle.fs_model.specs.Tree.{Tree, empty_tree}
 use Rattle.held_blocks.specs.Standing.{records}
 use Rattle.mount_tower.specs.Drawing.{drawn}

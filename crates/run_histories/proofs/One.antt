@@ -8,13 +8,13 @@ use Rattle.block_id.specs.declared.id.BlockId.{BlockId}
 use Rattle.held_blocks.specs.Standing.{records}
 use Rattle.line_io.specs.Lines.{first_line}
 use Rattle.line_io.specs.Streams.{Untouched}
-use Rattle.mount_tower.specs.Making.{StaysThere}
+use Rattle.mount.specs.Making.{StaysThere}
 use Rattle.mount_tower.specs.declared.error.OpenError.{OpenError}
 use Rattle.mount_core.specs.Standing.{IsKeptMarked}
 use Rattle.outside.specs.Trace.{Call}
 use Rattle.outside.specs.declared.keeper.Keeper.{Ghosts as KeeperGhosts}
 use Rattle.passwords.specs.Passwords.{IsNextPassword, PasswordUnread, PasswordsUnread}
-use Rattle.run_openings.specs.Openings.{AreUncalled, IsUnread, IsUnopened}
+use Rattle.session_runs.specs.Openings.{AreUncalled, IsUnread, IsUnopened}
 use Rattle.run_status.specs.declared.status.Status.{Status}
 use Rattle.run_status.specs.declared.status.Status.TheVariants.{Done}
 use Rattle.session_runs.specs.Runs.{Outside, outside_of, OutsideStandsFor, IsQuietRun}

@@ -14,12 +14,12 @@ use Rattle.mount_tower.specs.Making.{IsUnchanged, new_settings}
 use Rattle.mount_core.specs.Standing.{IsKeptMarked}
 use Rattle.outside.specs.Trace.{Call}
 use Rattle.outside.specs.declared.keeper.Keeper.{Ghosts as KeeperGhosts}
-use Rattle.run_openings.specs.Openings.{HasPassword}
+use Rattle.session_runs.specs.Openings.{HasPassword}
 use Rattle.run_status.specs.declared.status.Status.TheVariants.{Done}
 use Rattle.session_lines.specs.declared.end.End.{End}
 use Rattle.session_runs.specs.Runs.{Outside, OutsideStandsFor}
 use Rattle.shell_sessions.specs.Sessions.{ComesShell, ComesGenerated, ComesCommand}
-use Rattle.run_openings.specs.Statuses.{session_status}
+use Rattle.run_edges.specs.Statuses.{session_status}
 use Rattle.shell_words.specs.declared.form.Form.{Form}
 use Rattle.shell_words.specs.declared.form.Form.TheVariants.{Create, Shell, Generate, Command}
 use Rattle.shell_words.specs.Forms.{form_of, joined}

@@ -3,3 +3,4 @@ mod Still
 mod Joining
 mod Passes
 pub mod Whole
+pub mod Unopened

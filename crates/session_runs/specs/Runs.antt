@@ -22,15 +22,12 @@ use Rattle.session_saver.specs.declared.saver.SyncError.{SyncError}
 use Rattle.session_saver.specs.declared.saver.SyncError.TheVariants.{Memory, FaultDirectory, FaultState}
 use Rattle.tree_commands.specs.Performing.{Showing}
 use Rattle.mount_core.specs.Standing.{IsKeptMarked}
-use Rattle.mount.specs.Mounts.{StopsMarked}
-use Rattle.mount_tower.specs.Opening.{Attached}
+use Rattle.mount.specs.Mounts.{Attached}
 use Rattle.mount.specs.Representing.{Represents}
 use Rattle.mount_tower.specs.Identities.{HasEmptyList}
 use Rattle.mount_tower.specs.Unforged.{IsUnforgedConfig}
-use Rattle.mount.specs.declared.mount.Halted.{Halted}
 use Rattle.session_runs.specs.Causes.{AreAnswered, AreBuilt, SpentSince}
 use Rattle.session_runs.specs.Resting.{AreIdle, OnlyGot}
-use Rattle.session_runs.specs.Turns.{OnMount}
 
 -- at one moment: what is kept, the calls on the directory where they are told, the newest first, and both counts of faults
 pub record Outside : Type 0 where
@@ -136,14 +133,3 @@ pub record IsSessionRun (shows : Showing) (now : Instant) (password : List ℕ) 
 pub record IsQuietRun (shows : Showing) (password : List ℕ) (before after : Outside) : Type 0 where
   pub stands : (c : Settings) (tree : Tree) → OpensTo shows password c tree before after → OutsideStandsFor shows c tree after
   pub marked : IsKeptMarked records before.kept → (after.kept ≡ before.kept) × (after.calls ≡ before.calls)
-
--- There are exchanges of such a session, with lines that came so, and each answer is that of a mount.
-abbrev pub RanSession : {V : Type 0} → {K : Type 0} → Showing → (V → Option (List Call)) → (V → ℕ) → KeeperGhosts K → Instant → List ℕ → V → K → V → K → (List Exchange → Type 0) → Bool → Result Unit SyncError → Type 0
-RanSession shows trace faults G now password vault keeper last_vault last_keeper Came stood closing =
-    (es : List Exchange) × Came es × IsSessionRun shows now password (outside_of trace faults G vault keeper) (outside_of trace faults G last_vault last_keeper) stood closing es
-    × OnMount shows trace faults G now password vault keeper closing last_vault last_keeper es
-
--- a marked record isn't opened: the directory isn't called, and it stays kept
-abbrev pub StopsAtMark : {V : Type 0} → {K : Type 0} → {T : Type 0} → (K → Option (List ℕ)) → V → K → Result T (Halted V K) → Type 0
-StopsAtMark kept vault keeper (Ok ended) = ⊥
-StopsAtMark kept vault keeper (Err h) = (h.vault ≡ vault) × (kept h.keeper ≡ kept keeper) × StopsMarked h.error

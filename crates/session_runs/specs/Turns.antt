@@ -20,8 +20,8 @@ use Rattle.session_saver.specs.declared.saver.SyncError.TheVariants.{FaultDirect
 use Rattle.mount_core.specs.Configuring.{ConfigClosed}
 use Rattle.tree_commands.specs.Performing.{Showing}
 use Rattle.mount.specs.declared.mount.Mount.{Mount}
-use Rattle.mount.specs.Mounts.{IsReady, MountClosed}
-use Rattle.mount_tower.specs.Opening.{AreKnown, Attached}
+use Rattle.mount.specs.Mounts.{IsReady, MountClosed, Attached}
+use Rattle.mount_tower.specs.Opening.{AreKnown}
 use Rattle.mount.specs.Representing.{Represents}
 use Rattle.mount_tower.specs.Identities.{HasEmptyList}
 use Rattle.mount.specs.Tower.{TowerStands, TowerConfigures}

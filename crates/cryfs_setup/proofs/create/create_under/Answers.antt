@@ -6,7 +6,7 @@ returns-clause-created g c =
     let m = c.create-made.ensures in
     record {
       made = c.create-made.result.0;
-      reports = c.report.ensures.reports;
+      reports = c.report_created.ensures.reports;
       id = m.id;
       stands = m.made;
       opens = m.opens;
@@ -23,4 +23,4 @@ returns-clause-created g c =
 pub returns-clause-causes : goal.returns-clause-causes
 returns-clause-causes g c =
     let m = c.create-made.ensures in
-    created_causes _ _ _ _ _ _ _ _ c.create-made.result.0 _ c.report.result c.report.ensures.reports m.cause m.vault_grows m.keeper_grows
+    created_causes _ _ _ _ _ _ _ _ c.create-made.result.0 _ c.report_created.result c.report_created.ensures.reports m.cause m.vault_grows m.keeper_grows

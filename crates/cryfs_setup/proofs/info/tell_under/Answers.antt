@@ -1,8 +1,8 @@
 use Rattle.std.proofs.Common.{refl, inl, inr, subst}
 use Rattle.config_file.specs.Settings.{settings_of}
 use Rattle.line_io.specs.Streams.{stream_of}
-use Rattle.cryfs_setup.specs.Info.{info_text}
-use Rattle.cryfs_setup.specs.Printing.{Printed}
+use Rattle.setup_texts.specs.InfoText.{info_text}
+use Rattle.setup_texts.specs.Printing.{Printed}
 use Rattle.cryfs_setup.proofs.Telling.{told, told_causes}
 use Rattle.cryfs_setup.proofs.info.tell_under.Goals as goal
 
@@ -10,14 +10,14 @@ pub returns-clause-told : goal.returns-clause-told
 returns-clause-told g c =
     let e = c.end_run.ensures in
     let m = c.in-Ok.ensures in
-    let p = subst (λ o. Printed (stream_of g.O.Sink.written g.O.Sink.faults c.args.output.now c.print_info-printed.new.output) (info_text (settings_of o.config) o.params) c.print_info-printed.result) c.opened.ensures c.print_info-printed.ensures.printed in
+    let p = c.print_info-printed.ensures.printed in
     inr (told g.V.Vault.trace g.V.Vault.faults g.K.Keeper c.args.password.now c.args.vault c.args.keeper c.in-Ok.mount e.0 c.end_run.result m.begun m.unchanged m.unmarked e.2 _ c.print_info-printed.result p e.1)
 
 pub returns-clause-causes : goal.returns-clause-causes
 returns-clause-causes g c =
     let e = c.end_run.ensures in
     let m = c.in-Ok.ensures in
-    let p = subst (λ o. Printed (stream_of g.O.Sink.written g.O.Sink.faults c.args.output.now c.print_info-printed.new.output) (info_text (settings_of o.config) o.params) c.print_info-printed.result) c.opened.ensures c.print_info-printed.ensures.printed in
+    let p = c.print_info-printed.ensures.printed in
     told_causes g.V.Vault.trace g.V.Vault.faults g.K.Keeper c.args.password.now c.args.vault c.args.keeper c.in-Ok.mount e.0 c.end_run.result m.begun m.unchanged m.unmarked e.2 _ c.print_info-printed.result p e.1
 
 pub returns-in-Err-clause-told : goal.returns-in-Err-clause-told

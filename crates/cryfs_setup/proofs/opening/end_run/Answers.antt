@@ -1,4 +1,5 @@
-use Rattle.std.proofs.Common.{ap, ◌∙◌}
+use Rattle.std.proofs.Common.{◌≡◌, subst}
+use Rattle.run_status.specs.declared.status.Status.{Status}
 use Rattle.run_status.specs.Statuses.{first_of}
 use Rattle.cryfs_setup.proofs.opening.end_run.Goals as goal
 
@@ -6,7 +7,7 @@ pub returns : goal.returns
 returns g c =
     let z = c.close-closing.ensures in (
       c.close-closing.result.0,
-      c.or.ensures ∙ ap (first_of c.args.status) c.closing_status.ensures,
+      subst (λ (s : Status). c.or.result ≡ first_of c.args.status s) c.closing_status.ensures c.or.ensures,
       record {
         stands = z.stands;
         configures = z.configures;

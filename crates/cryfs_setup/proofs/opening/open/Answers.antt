@@ -1,14 +1,30 @@
-use Rattle.run_openings.proofs.Unopened.{unopened, caused}
+use Rattle.session_runs.proofs.Unopened.{unopened, caused}
 use Rattle.cryfs_setup.proofs.opening.open.Goals as goal
+
+pub returns-in-Ok-clause-begun : goal.returns-in-Ok-clause-begun
+returns-in-Ok-clause-begun g c =
+    let e = c.in-Ok.ensures in
+    record {
+      ready = e.ready;
+      fresh = e.fresh;
+      unchanged = e.unchanged;
+      attached = e.attached;
+      config = e.config;
+      stands = e.stands;
+      configures = e.configures;
+      forgeries = e.forgeries;
+      lies = e.lies;
+      vault_quiet = e.vault_quiet;
+      keeper_quiet = e.keeper_quiet;
+      versions = e.versions;
+    }
 
 pub returns-in-Err-clause-unopened : goal.returns-in-Err-clause-unopened
 returns-in-Err-clause-unopened g c =
     let h = c.in-Err.halted in
-    let e = c.end_opening in
-    (h.error, unopened g.V.Vault.trace g.V.Vault.faults g.K.Keeper c.args.password.now c.args.vault c.args.keeper h c.in-Err.ensures.halted e.result e.ensures.status e.ensures.vault e.ensures.keeper c.in-Err.ensures.marked)
+    (h.error, unopened g.V.Vault.trace g.V.Vault.faults g.K.Keeper c.args.password.now c.args.vault c.args.keeper h c.in-Err.ensures.halted c.opening_status.result c.opening_status.ensures c.in-Err.ensures.marked)
 
 pub returns-in-Err-clause-causes : goal.returns-in-Err-clause-causes
 returns-in-Err-clause-causes g c =
     let h = c.in-Err.halted in
-    let e = c.end_opening in
-    caused g.V.Vault.trace g.V.Vault.faults g.K.Keeper c.args.password.now c.args.vault c.args.keeper h c.in-Err.ensures.halted e.result e.ensures.status e.ensures.vault e.ensures.keeper
+    caused g.V.Vault.trace g.V.Vault.faults g.K.Keeper c.args.password.now c.args.vault c.args.keeper h c.in-Err.ensures.halted c.opening_status.result c.opening_status.ensures

@@ -8,7 +8,7 @@ use Rattle.store_api.specs.Durables.{mark_place, with_mark}
 use Rattle.tree_commands.specs.Showing.{ShowsFiles}
 use Rattle.tree_commands.proofs.Shows.{files_same}
 use Rattle.mount_core.specs.declared.body.Core.{Core}
-use Rattle.mount_core.proofs.Lines.{stays_same}
+use Rattle.mount_core.proofs.Moving.{stays_same}
 use Rattle.mount_core.proofs.Quiet.{unless_state}
 use Rattle.mount_opening.proofs.Beginning.{Written, written_at, begun, configured}
 use Rattle.mount_opening.proofs.starting.start.Given.{Over}

@@ -21,3 +21,9 @@ returns-in-Ok-clause-file g c =
 pub returns-in-Ok-clause-opens : goal.returns-in-Ok-clause-opens
 returns-in-Ok-clause-opens g c =
     subst (λ s. IsOnly c.args.password.now c.in-Ok.file.items (opened s c.args.params.now)) (returns-in-Ok-clause-settings g c) c.in-Ok.ensures.opens
+
+pub returns-in-Ok-clause-stream : goal.returns-in-Ok-clause-stream
+returns-in-Ok-clause-stream g c = c.draw-draws.ensures.stream
+
+pub returns-in-Err-clause-stream : goal.returns-in-Err-clause-stream
+returns-in-Err-clause-stream g c = c.draw-draws.ensures.stream

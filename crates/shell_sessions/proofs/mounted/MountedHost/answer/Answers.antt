@@ -22,7 +22,7 @@ returns-clause-answered g c =
           record {
             next = a.next;
             follows = a.follows;
-            left = subst (λ b. Left ShowsFiles (tower_meanings trace g.V.Vault.faults) (tower_holdings trace) (tower_durables trace) records g.K.Keeper c.answer.new.self.core kept present a.next (is_violation c.answer.result) b)
+            left = subst (λ b. Left ShowsFiles (tower_meanings trace g.V.Vault.faults) (tower_holdings trace) (tower_durables trace) records g.K.Keeper c.answer.new.mount.core kept present a.next (is_violation c.answer.result) b)
                 (same_synced c.args.command.now c.answer.result) a.left;
           };
       stays = e.stays;

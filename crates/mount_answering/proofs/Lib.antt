@@ -1,0 +1,6 @@
+mod Syncing
+mod Lines
+mod Asking
+mod Versions
+mod Loads
+mod Quiet

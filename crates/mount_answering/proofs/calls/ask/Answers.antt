@@ -1,0 +1,163 @@
+use Rattle.std.specs.FinMap as fin
+use Rattle.std.proofs.Common.{◌≡◌, ◌≤◌, ◌+◌, refl, sym, ◌∙◌, ap, subst, false, arith}
+use Rattle.answers.specs.declared.answer.Answer.{Answer}
+use Rattle.answers.specs.declared.answer.Answer.TheVariants.{Reply as Replied, Memory, Spent, FaultDirectory, Violation, Refused}
+use Rattle.answers.specs.Sessions.{is_violation, directory_faults, state_faults}
+use Rattle.block_id.specs.declared.fail.Why.{Why}
+use Rattle.outcome.specs.Meanings.{HasCause}
+use Rattle.outcome.specs.Outcome.{alarm as no_alarm}
+use Rattle.outside.specs.Causes.{RoseBy}
+use Rattle.outside.specs.Going.{goes_on_onward}
+use Rattle.store_api.specs.Overlay.{lawful_over}
+use Rattle.tree_commands.specs.Performing.{IsReplyTo}
+use Rattle.tree_commands.specs.Showing.{ShowsFiles}
+use Rattle.tree_commands.proofs.Shows.{files_same}
+use Rattle.mount_core.specs.Answers.{is_done_answer, is_structure, OnReply, OnSpent, OnFound}
+use Rattle.mount_core.specs.Causes.{SpentCause}
+use Rattle.mount_core.specs.Sparing.{FewRaised}
+use Rattle.mount_core.specs.Standing.{CorePerformed}
+use Rattle.mount_core.specs.declared.body.Core.{Core}
+use Rattle.mount_answering.proofs.Asking.{shown_now, asked, performed_failed}
+use Rattle.mount_answering.proofs.Lines.{calm, configures_loaded, fail_each, fits_empty, found_of, of_blocks, settle_each, spent_on, stays_on, whole_loaded}
+use Rattle.mount_answering.proofs.Loads.{only_asked, only_loaded}
+use Rattle.mount_answering.proofs.Versions.{raised_stays, raised_on, few_stays, few_on, few_changed, always_inside, on_inside, spent_before}
+use Rattle.mount_answering.proofs.Quiet.{fail_directory, fail_directory_rose}
+use Rattle.mount_answering.proofs.calls.ask.Given.{Over}
+use Rattle.mount_answering.proofs.calls.ask.Goals as goal
+
+abbrev CoreOf : Over → Type 0
+CoreOf g = Core g.row.S.Denot g.row.K.Denot
+
+pub perform-requires-clause-intact : goal.perform-requires-clause-intact
+perform-requires-clause-intact g c = (
+  c.requires.ready.intact,
+  record { fits = fits_empty g.S.Blocks.holdings c.args.core.now.blobs.tx.store c.args.core.now.blobs.tx.overlay c.requires.ready.empty; few = c.requires.ready.few },
+)
+
+pub returns-in-Ok : goal.returns-in-Ok
+returns-in-Ok g c =
+    let M = g.S.Blocks.meanings in
+    let H = g.S.Blocks.holdings in
+    let D = g.S.Durable.durables in
+    let R = g.S.Durable.records in
+    let lawful = g.met.S.Blocks.lawful in
+    let endures = g.met.S.Durable.enduring in
+    let old = c.args.core.now in
+    let store = old.blobs.tx.store in
+    let command = c.args.command.now in
+    let mid : CoreOf g = record old { blobs = c.perform.new.blobs } in
+    let asked_of = mid.blobs.tx.store in
+    let new = c.settle.new.core.blobs.tx.store in
+    let answer = c.settle.result in
+    let o = c.in-Ok.ensures.outcome in
+    let z = c.settle.ensures in
+    let stays = g.met.S.BlocksMut.settled store asked_of o.loaded in
+    let each : (P : Answer → Type 0) → P (Replied c.in-Ok.reply) → P Memory → P Spent → P answer = settle_each answer c.in-Ok.reply z.answers in
+    let rose : RoseBy 0 (M.faults store) (M.faults new) = omega (arith, z.faults, lawful.faults_grow store asked_of o.loaded) in
+    let unforged : M.forgeries new ≤ M.forgeries store → M.forgeries asked_of ≤ M.forgeries store = λ few. omega (arith, z.forgeries, few) in
+    record {
+      ready = z.ready;
+      stands = λ kept present s few.
+          let shown = shown_now ShowsFiles M H D R g.K.Keeper files_same g.met.S.Blocks.steady g.S.BlocksMut.applied g.met.S.BlocksMut.settled endures old kept present s c.requires.ready.empty in
+          z.stands c.args.now kept present
+          (asked ShowsFiles M H D R g.K.Keeper files_same g.met.S.Blocks.steady g.S.BlocksMut.applied g.met.S.BlocksMut.settled endures c.args.now old mid kept present command c.in-Ok.reply s o.loaded refl refl (o.sound s.sound (unforged few)) (o.value (record { tree = present; shown = shown }) s.sound (unforged few)));
+      configures = λ may present s. z.configures may present (configures_loaded ShowsFiles M H D R g.K.Keeper g.S.BlocksMut.applied endures old mid may present s o.loaded stays refl refl);
+      stays = λ undone. stays_on H store asked_of new stays (z.stays undone);
+      keeper = z.keeper;
+      last = z.last;
+      saver = z.saver;
+      loads = only_asked M H D (is_done_answer answer) store asked_of new o.loaded (λ undone. lawful.onward store asked_of new o.loaded (z.loaded undone)) z.uncalled;
+      goes_on = goes_on_onward _ (D.trace asked_of) _ (endures.loaded_goes_on store asked_of o.loaded) z.goes_on;
+      sound = λ sound few. z.sound (o.sound sound (unforged few));
+      violated = z.violated;
+      root = z.root;
+      payload = z.payload ∙ stays.payload;
+      identity = z.identity ∙ endures.loaded_identity store asked_of o.loaded;
+      forgeries = omega (arith, z.forgeries, lawful.forgeries_grow store asked_of o.loaded);
+      lies = omega (arith, z.lies, lawful.lies_grow store asked_of o.loaded);
+      unforged = λ sound honest. omega (arith, z.forgeries, lawful.honest_unforged store asked_of o.loaded sound (omega (arith, z.lies, honest)));
+      alarm = λ kept present s honest. each (λ a. is_violation a ≡ false) refl refl refl;
+      built = λ kept present s few. each (λ a. is_structure a ≡ false) refl refl refl;
+      found = each (λ a. OnFound a (M.met store new)) tt tt tt;
+      vault_grows = omega (arith, z.faults, lawful.faults_grow store asked_of o.loaded);
+      vault_cause = each (λ a. RoseBy (directory_faults a) (M.faults store) (M.faults new)) rose rose rose;
+      vault_quiet = λ none. z.faults ∙ o.quiet;
+      keeper_cause = each (λ a. state_faults a ≡ 0) refl refl refl;
+      spent = spent_on answer (SpentCause H asked_of command) (SpentCause H store command) (spent_before H store asked_of command stays) z.spent;
+      raised = raised_on H store asked_of new stays z.raised;
+      sparing = λ kept present s few.
+          let shown = shown_now ShowsFiles M H D R g.K.Keeper files_same g.met.S.Blocks.steady g.S.BlocksMut.applied g.met.S.BlocksMut.settled endures old kept present s c.requires.ready.empty in
+          on_inside (H.payload store) present command (λ most. fin.len mid.blobs.tx.overlay ≤ fin.len old.blobs.tx.overlay + most) (FewRaised H store new)
+          (λ most count. few_on H store asked_of new most stays (few_changed H asked_of new old.blobs.tx.overlay mid.blobs.tx.overlay most c.requires.ready.empty count z.rests))
+          (c.perform.ensures.sparing (record { tree = present; shown = shown }) s.sound (unforged few));
+      variant = each (λ a. OnReply a (IsReplyTo command)) c.in-Ok.ensures.variant tt tt;
+      served = each (λ a. a ≡ Refused → ⊥) (λ is. cc) (λ is. cc) (λ is. cc);
+    }
+
+pub returns-in-Err : goal.returns-in-Err
+returns-in-Err g c =
+    let M = g.S.Blocks.meanings in
+    let H = g.S.Blocks.holdings in
+    let D = g.S.Durable.durables in
+    let R = g.S.Durable.records in
+    let lawful = g.met.S.Blocks.lawful in
+    let endures = g.met.S.Durable.enduring in
+    let old = c.args.core.now in
+    let store = old.blobs.tx.store in
+    let command = c.args.command.now in
+    let new : CoreOf g = record old { blobs = record { tx = c.abandon.new.self } } in
+    let after = new.blobs.tx.store in
+    let e = c.abandon.ensures.store in
+    let fail = c.in-Err.fail in
+    let o = c.in-Err.ensures.outcome in
+    let loaded = subst (M.loaded store) (sym e) o.loaded in
+    let stays = g.met.S.BlocksMut.settled store after loaded in
+    let answer = c.fail_answer.ensures in
+    let each : (P : Answer → Type 0) → P Memory → P FaultDirectory → ((why : Why) → P (Violation why)) → P c.fail_answer.result = λ P memory fault violation. subst P (sym answer) (fail_each fail P memory fault violation) in
+    let unforged : M.forgeries after ≤ M.forgeries store → M.forgeries c.perform.new.blobs.tx.store ≤ M.forgeries store = subst (λ x. M.forgeries x ≤ M.forgeries store) e in
+    let sound : M.sound store → M.forgeries after ≤ M.forgeries store → M.sound after = λ sound few. subst M.sound (sym e) (o.sound sound (unforged few)) in
+    record {
+      ready = record {
+        intact = c.abandon.ensures.intact.0;
+        empty = c.abandon.ensures.overlay;
+        few = c.abandon.ensures.intact.1.few;
+        room = c.requires.ready.room;
+        can_mark = c.requires.ready.can_mark;
+        whole = whole_loaded ShowsFiles M H D R g.K.Keeper g.S.BlocksMut.applied endures old.saver store after loaded c.requires.ready.whole;
+      };
+      stands = λ kept present s few. subst (λ a. CorePerformed ShowsFiles M H D R g.K.Keeper c.args.now new kept present command a) (sym answer)
+          (performed_failed ShowsFiles M H D R g.K.Keeper files_same g.met.S.Blocks.steady g.S.BlocksMut.applied g.met.S.BlocksMut.settled endures c.args.now old new kept present command fail s loaded refl refl (sound s.sound few));
+      configures = λ may present s. configures_loaded ShowsFiles M H D R g.K.Keeper g.S.BlocksMut.applied endures old new may present s loaded stays refl refl;
+      stays = λ undone. stays;
+      keeper = refl;
+      last = refl;
+      saver = λ undone. refl;
+      loads = only_loaded M H D (is_done_answer c.fail_answer.result) store after loaded;
+      goes_on = endures.loaded_goes_on store after loaded;
+      sound = sound;
+      violated = refl;
+      root = refl;
+      payload = stays.payload;
+      identity = endures.loaded_identity store after loaded;
+      forgeries = lawful.forgeries_grow store after loaded;
+      lies = lawful.lies_grow store after loaded;
+      unforged = lawful.honest_unforged store after loaded;
+      alarm = λ kept present s honest.
+          let shown = shown_now ShowsFiles M H D R g.K.Keeper files_same g.met.S.Blocks.steady g.S.BlocksMut.applied g.met.S.BlocksMut.settled endures old kept present s c.requires.ready.empty in
+          subst (λ a. is_violation a ≡ false) (sym answer) (calm fail
+          (no_alarm (lawful_over (λ t. t.store) (λ t. t.overlay) M H lawful) o (record { tree = present; shown = shown }) s.sound (subst (λ x. M.lies x ≤ M.lies store) e honest)));
+      built = λ kept present s few.
+          let shown = shown_now ShowsFiles M H D R g.K.Keeper files_same g.met.S.Blocks.steady g.S.BlocksMut.applied g.met.S.BlocksMut.settled endures old kept present s c.requires.ready.empty in
+          subst (λ a. is_structure a ≡ false) (sym answer) (of_blocks fail (o.structure (record { tree = present; shown = shown }) s.sound (unforged few)));
+      found = subst (λ a. OnFound a (M.met store after)) (sym answer) (found_of fail (M.met store c.perform.new.blobs.tx.store) (M.met store after) (λ why. subst (λ x. M.met store x why) (sym e)) o.met);
+      vault_grows = lawful.faults_grow store after loaded;
+      vault_cause = subst (λ a. RoseBy (directory_faults a) (M.faults store) (M.faults after)) (sym answer)
+          (fail_directory_rose fail _ _ (lawful.faults_grow store after loaded) (subst (λ x. HasCause fail (M.faults store) (M.faults x)) (sym e) o.fault));
+      vault_quiet = λ none. ap M.faults e ∙ fail_directory fail (M.faults c.perform.new.blobs.tx.store ≡ M.faults store) o.quiet (subst (λ a. directory_faults a ≡ 0) answer none);
+      keeper_cause = each (λ a. state_faults a ≡ 0) refl refl (λ why. refl);
+      spent = each (λ a. OnSpent a (SpentCause H store command)) tt tt (λ why. tt);
+      raised = raised_stays H store after stays;
+      sparing = λ kept present s few. always_inside (H.payload store) present command (FewRaised H store after) (λ most. few_stays H store after most stays);
+      variant = each (λ a. OnReply a (IsReplyTo command)) tt tt (λ why. tt);
+      served = each (λ a. a ≡ Refused → ⊥) (λ is. cc) (λ is. cc) (λ why is. cc);
+    }

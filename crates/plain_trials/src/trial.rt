@@ -1,0 +1,41 @@
+// The plain tree as what answers commands.
+ghost use Rattle.plain_trials.specs.Plain.{plain};
+ghost use Rattle.plain_trials.specs.Lawful.{plain_lawful};
+
+use answers::{Answer, Host};
+use block_id::Memory;
+use fs_model::{Command, Moment};
+use plain_tree::PlainTree;
+use rand_core::Rng;
+use std::alloc::Global;
+
+/// A plain tree, which gives its replies, or `Memory`.
+#[derive(Drop)]
+pub struct Trial {
+    pub tree: PlainTree,
+}
+
+impl Host for Trial {
+    ghost use Rattle.plain_trials.specs.declared.trial.Trial.{Trial};
+
+    ghost hosting = { plain (λ (t : Trial). t.tree) };
+
+    fn refuses(&self) -> bool {
+        false
+    }
+
+    fn answer<R: Rng>(
+        &mut self,
+        _alloc: Global,
+        now: Moment,
+        command: &Command,
+        _chance: &mut R,
+    ) -> Answer {
+        match self.tree.step(now, command) {
+            Ok(reply) => Answer::Reply(reply),
+            Err(Memory) => Answer::Memory,
+        }
+    }
+
+    ghost lawful = { plain_lawful (λ (t : Trial). t.tree) };
+}

@@ -1,0 +1,24 @@
+-- The five lines need no memory beyond 256 bytes.
+use Rattle.std.proofs.Common.{◌≡◌, ◌≤◌, ◌<◌, ℕ, ◌^◌, List, ◌++◌, length, arith, length-append, codes}
+use Rattle.std.specs.Fmt.{decimal}
+use Rattle.block_id.specs.Name.{name_of}
+use Rattle.block_id.proofs.Names.{length-name_of}
+use Rattle.script_text.specs.Texts.{line, word}
+use Rattle.answers.proofs.Short.{decimal_short}
+use Rattle.scrypt_kdf.specs.Cost.{Cost}
+use Rattle.config_file.specs.Settings.{Settings, cipher_name}
+use Rattle.config_file.specs.declared.config.Cipher.{Cipher}
+use Rattle.config_file.specs.declared.config.Cipher.TheVariants.{Aes256Gcm}
+use Rattle.setup_texts.specs.InfoText.{info_text}
+
+cipher_short : (c : Cipher) → length (codes "cipher " ++ cipher_name c) ≤ 18
+cipher_short Aes256Gcm = omega arith
+
+pub info_short : (s : Settings) (cost : Cost) → length s.fs_id ≡ 16 → length s.root ≡ 16 → s.block_size < 2 ^ 64 → cost.n < 2 ^ 64 → cost.r < 2 ^ 64 → cost.p < 2 ^ 64 → length (info_text s cost) ≤ 256
+info_short s cost fs_id root size n r p =
+    sums (name_of s.fs_id) (name_of s.root) (codes "cipher " ++ cipher_name s.cipher) (decimal s.block_size) (decimal cost.n) (decimal cost.r) (decimal cost.p)
+    (length-name_of s.fs_id fs_id) (length-name_of s.root root) (cipher_short s.cipher) (decimal_short s.block_size size) (decimal_short cost.n n) (decimal_short cost.r r) (decimal_short cost.p p)
+  where
+    sums : (a b d e f g h : List ℕ) → length a ≡ 32 → length b ≡ 32 → length d ≤ 18 → length e ≤ 20 → length f ≤ 20 → length g ≤ 20 → length h ≤ 20
+        → length ((line (codes "filesystem " ++ a) ++ line (codes "root " ++ b)) ++ (line d ++ line (codes "blocksize" ++ word e) ++ line (codes "scrypt" ++ word f ++ word g ++ word h))) ≤ 256
+    sums a b d e f g h la lb ld le lf lg lh = simp length-append (omega arith)

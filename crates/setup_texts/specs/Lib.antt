@@ -1,0 +1,4 @@
+pub mod Printing
+pub mod CreateText
+pub mod InfoText
+pub mod PasswdText
