@@ -1,9 +1,9 @@
 // The commands that numbers make, beside the tree in memory.
 use crate::site::{empty_site, text_of};
 use fs_model::Moment;
-use path_layer::perform;
 use plain_tree::PlainTree;
 use std::test::Fail;
+use tree_commands::perform_on_blobs;
 use workload::generated;
 
 /// So many groups of eight make directories of hundreds of entries.
@@ -18,7 +18,7 @@ fn each_reply_is_that_of_the_tree_in_memory(rt: HostRuntime) -> Result<(), Fail>
     for i in 0..COMMANDS {
         let command = generated(alloc, i)?;
         let told = tree.step(now, &command)?;
-        let reply = perform(
+        let reply = perform_on_blobs(
             alloc,
             &mut site.blobs,
             &site.root,

@@ -3,12 +3,13 @@ use blob_api::Blobs;
 use block_id::{BlockId, Fail as Failure};
 use fs_model::{Moment, Reply};
 use map_blobs::MapBlobs;
-use path_layer::{empty_root, perform};
+use path_rows::empty_root;
 use plain_tree::PlainTree;
 use rand_pcg::Pcg32;
 use script_text::{parse_line, print_reply};
 use std::alloc::Global;
 use std::test::Fail;
+use tree_commands::perform_on_blobs;
 
 /// The blobs, the root's id, and what ids are drawn from.
 #[derive(Drop)]
@@ -42,7 +43,7 @@ pub fn asked(
     line: &[u8],
 ) -> Result<Result<Reply, Failure>, Fail> {
     match parse_line(alloc, line) {
-        Ok(command) => Ok(perform(
+        Ok(command) => Ok(perform_on_blobs(
             alloc,
             &mut site.blobs,
             &site.root,

@@ -1,22 +1,28 @@
 -- The blob of a path, as the calls on directories and bodies need it.
-use Rattle.std.proofs.Common.{◌≡◌, ℕ, ◌+◌, ◌≤◌, List, [], ◌∷◌, length, refl, sym, ◌∙◌, ap, subst, arith}
-use Rattle.std.specs.Prelude.{All, is_some}
-use Rattle.std.specs.FinMap.{get}
+use Rattle.std.proofs.Common.{◌≡◌, ℕ, ◌+◌, ◌≤◌, List, [], ◌∷◌, length, refl, sym, ◌∙◌, ap, subst, arith, cond}
+use Rattle.std.specs.Prelude.{All, is_some, not, ◌&&◌, nat_lt, nat_le}
+use Rattle.std.specs.FinMap.{get, find, put}
 use Rattle.std.specs.declared.option.Option.TheVariants.{Some}
 use Rattle.std.proofs.lemmas.List.Elements.{All-nil, All-cons, All-head, All-tail}
 use Rattle.blob_api.specs.declared.blobs.TheConstants.{MAX_BLOB}
 use Rattle.blob_api.specs.BlobMap.{Id, BlobMap, BlobHoldings}
 use Rattle.fs_model.specs.declared.attr.Kind.{Kind}
-use Rattle.fs_model.specs.declared.attr.Kind.TheVariants.{Directory}
-use Rattle.fs_model.specs.Tree.{Path, Row, Tree, directory_size}
+use Rattle.fs_model.specs.declared.attr.Kind.TheVariants.{Directory, File, Link}
+use Rattle.fs_model.specs.Tree.{Path, Row, Tree, directory_size, name_cmp, FitsKind}
 use Rattle.fs_blobs.specs.declared.header.TheConstants.{HEADER_LEN}
 use Rattle.fs_blobs.specs.Headers.{blob}
-use Rattle.dir_blob.specs.Layout.{EntryTarget, Listing, body_of, IsEntry}
+use Rattle.dir_blob.specs.Layout.{EntryTarget, Listing, body_of, IsEntry, IsListing}
 use Rattle.dir_blob.specs.Directories.{IsDirectory}
 use Rattle.forest.specs.Nodes.{Look, Lists, IsBodyOf}
 use Rattle.forest.specs.Shows.{above, target_for, entries_at, ShowsBy}
 use Rattle.forest.proofs.Shown.{folder_row}
 use Rattle.path_walks.proofs.Sizes.{sizes_shown, body_size, found_entry}
+use Rattle.std.specs.FinMap.Entries.{find-put}
+use Rattle.std.proofs.lemmas.Bool.{and_parts, leb-true}
+use Rattle.std.specs.List.{list_any}
+use Rattle.fs_model.specs.declared.limits.TheConstants.{MAX_ENTRIES, MAX_TARGET}
+use Rattle.fs_model.specs.PathTexts.{is_zero}
+use Rattle.fs_model.proofs.TreeLemmas.{same_name, name_total}
 
 pub lists_of : (kind : Kind) (bytes : List ℕ) (look : Look) (body : List ℕ) → kind ≡ Directory → IsBodyOf kind bytes look body → Lists look body
 lists_of kind bytes look body e c = subst (λ k. IsBodyOf k bytes look body) e c
@@ -70,3 +76,24 @@ module _ {m : BlobMap} {root : Id} {t : Tree} {ids : Path → Id} (shows : Shows
     wide = above_wide p row there;
     fits = fits_at p row there kind;
   }
+
+-- entries of a directory after one comes
+pub entries_with : (listing : Listing) (n : List ℕ) (target : EntryTarget) (k : List ℕ) → find name_cmp k (put name_cmp n target listing) ≡ cond (same_name k n) (Some target) (find name_cmp k listing)
+entries_with listing n target k = find-put name_cmp name_total k n target listing
+
+pub lists_with : (look : Look) (listing : Listing) (n : List ℕ) (target : EntryTarget) → ((k : List ℕ) → find name_cmp k listing ≡ look k) → IsListing (put name_cmp n target listing)
+    → Lists (λ k. cond (same_name k n) (Some target) (look k)) (body_of (put name_cmp n target listing))
+lists_with look listing n target found is =
+    record { listing = put name_cmp n target listing; is = record { entries = is; text = refl }; entries = λ k. entries_with listing n target k ∙ ap (cond (same_name k n) (Some target)) (found k) }
+
+-- what the blob of a path holds is within the limit of blobs
+pub content_fits : (t : Tree) (ids : Path → Id) (p : Path) (kind : Kind) (bytes : List ℕ) (look : Look) (body : List ℕ) → directory_size t p ≤ MAX_ENTRIES → FitsKind kind bytes → ((k : List ℕ) → look k ≡ entries_at t ids p k)
+    → IsBodyOf kind bytes look body → HEADER_LEN + length body ≤ MAX_BLOB
+content_fits t ids p Directory bytes look body small fits same c =
+    let size = sizes_shown t ids p c.listing c.is.entries.order (λ k. c.entries k ∙ same k) in
+    omega (arith, ap length c.is.text, body_size c.listing c.is.entries.entries, size, small)
+content_fits t ids p File bytes look body small fits same c = omega (arith, ap length c, fits)
+content_fits t ids p Link bytes look body small fits same c =
+    let long = and_parts (nat_lt 0 (length bytes)) (nat_le (length bytes) MAX_TARGET && not (list_any is_zero bytes)) fits in
+    let short = leb-true (length bytes) MAX_TARGET (and_parts (nat_le (length bytes) MAX_TARGET) (not (list_any is_zero bytes)) long.1).0 in
+    omega (arith, ap length c, short)

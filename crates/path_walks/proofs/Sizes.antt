@@ -12,17 +12,13 @@ use Rattle.std.proofs.lemmas.List.{length-append}
 use Rattle.std.proofs.lemmas.List.Concat.{flat_map-cons}
 use Rattle.std.proofs.lemmas.List.Elements.{All-head, All-tail}
 use Rattle.blob_api.specs.BlobMap.{Id}
-use Rattle.fs_model.specs.declared.attr.Attr.{Attr}
-use Rattle.fs_model.specs.declared.reply.ListRow.{ListRow}
-use Rattle.fs_model.specs.Step.{list_row}
 use Rattle.fs_model.specs.Tree.{Path, Row, Tree, name_cmp, children, entry_size, entries_size, directory_size}
 use Rattle.fs_model.proofs.TreeLemmas.{get-children, name_total, name_exact}
 use Rattle.dir_blob.specs.Layout.{EntryTarget, Listing, entry_text, body_of, IsEntry}
 use Rattle.dir_blob.proofs.Edits.{entry_length}
-use Rattle.path_walks.specs.Listed.{shown_row}
 use Rattle.forest.specs.Shows.{target_for, entries_at}
 
-abbrev with_values : {K X Y : Type 0} → (X → Y) → List (K × X) → List (K × Y)
+abbrev pub with_values : {K X Y : Type 0} → (X → Y) → List (K × X) → List (K × Y)
 with_values f es = map (λ e. (e.0, f e.1)) es
 
 find-with : {K X Y : Type 0} (R : K → K → Ordering) (f : X → Y) (q : K) (es : List (K × X)) → find R q (with_values f es) ≡ option_map f (find R q es)
@@ -45,21 +41,8 @@ size-with : {X Y : Type 0} (f : X → Y) (es : List (List ℕ × X)) → entries
 size-with f [] = refl
 size-with f (e ∷ es) = ap (λ n. entry_size e.0 + n) (size-with f es)
 
-row_of : List ℕ × Attr → ListRow
-row_of e = record { kind = e.1.kind; name = e.0 }
-
-rows-attr : (es : List (List ℕ × Row)) → map list_row es ≡ map row_of (with_values (λ (r : Row). r.attr) es)
-unfolding row_of
-rows-attr [] = refl
-rows-attr (e ∷ es) = ap (λ xs. list_row e ∷ xs) (rows-attr es)
-
-shown-attr : (es : Listing) → map shown_row es ≡ map row_of (with_values (λ (x : EntryTarget). x.attr) es)
-unfolding row_of
-shown-attr [] = refl
-shown-attr (e ∷ es) = ap (λ xs. shown_row e ∷ xs) (shown-attr es)
-
 module _ (t : Tree) (ids : Path → Id) (p : Path) (listing : Listing) (sorted : is_sorted name_cmp listing ≡ true) (found : (n : List ℕ) → find name_cmp n listing ≡ entries_at t ids p n) where
-  attrs_shown : with_values (λ (r : Row). r.attr) (entries (children t p)) ≡ with_values (λ (x : EntryTarget). x.attr) listing
+  pub attrs_shown : with_values (λ (r : Row). r.attr) (entries (children t p)) ≡ with_values (λ (x : EntryTarget). x.attr) listing
   attrs_shown = same_entries name_cmp name_total name_exact _ _
       (subst T (sym (sorted-with name_cmp (λ (r : Row). r.attr) (entries (children t p)))) (entries_sorted (children t p)))
       (subst T (sym (sorted-with name_cmp (λ (x : EntryTarget). x.attr) listing ∙ sorted)) tt)
@@ -68,9 +51,6 @@ module _ (t : Tree) (ids : Path → Id) (p : Path) (listing : Listing) (sorted :
       ∙ (attr_for (ids (q ∷ p)) (get t (q ∷ p))
       ∙ (ap (option_map (λ (x : EntryTarget). x.attr)) (sym (found q))
       ∙ sym (find-with name_cmp (λ (x : EntryTarget). x.attr) q listing)))))
-
-  pub rows_shown : map shown_row listing ≡ map list_row (entries (children t p))
-  rows_shown = shown-attr listing ∙ (ap (map row_of) (sym attrs_shown) ∙ sym (rows-attr (entries (children t p))))
 
   pub sizes_shown : entries_size listing ≡ directory_size t p
   sizes_shown = sym (size-with (λ (x : EntryTarget). x.attr) listing) ∙ (ap entries_size (sym attrs_shown) ∙ size-with (λ (r : Row). r.attr) (entries (children t p)))

@@ -1,4 +1,3 @@
 pub mod Sights
-pub mod Listed
-pub mod Changes
-pub mod Moves
+pub mod Reaching
+pub mod Replies

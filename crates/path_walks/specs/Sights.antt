@@ -94,3 +94,13 @@ pub record Standing {S : Type 0} (H : BlobHoldings S) (a : S) (place : Place) : 
   pub shows : ShowsBy map root tree ids
   pub path : Path
   pub at : IsAt tree ids path place
+
+-- a row stands under the name of a directory, from this root on
+pub record Finding {S : Type 0} (H : BlobHoldings S) (a : S) (root : Id) (dir : Place) (n : List ℕ) (place : Place) : Type 0 where
+  pub map : BlobMap
+  pub stands : H.stands_for a map
+  pub tree : Tree
+  pub ids : Path → Id
+  pub shows : ShowsBy map root tree ids
+  pub path : Path
+  pub is : IsFound tree ids path n dir place

@@ -1,16 +1,14 @@
-//! Walks along paths over directories that are kept blob by blob, and each change of the tree that they show.
+//! Walks along paths over directories that are kept blob by blob, and the row that a command finds.
 #![tactic(auto)]
 
-mod changes;
-mod listing;
-mod made;
-mod moves;
+mod names;
+mod reaching;
+mod replies;
 mod spots;
 mod walks;
 
-pub use changes::{drop_at, relocate, resize_at, set_entry, write_at};
-pub use listing::list_in;
-pub use made::{add_row, make_in};
-pub use moves::{move_free, move_onto};
+pub use names::split_last;
+pub use reaching::{Reached, reach};
+pub use replies::done;
 pub use spots::{Place, Sight, Spot};
 pub use walks::{advance, look_at, walk};

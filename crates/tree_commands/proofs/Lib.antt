@@ -1,2 +1,3 @@
 pub mod Shows
 mod Spared
+mod Fits

@@ -12,10 +12,9 @@ use Rattle.fs_model.specs.declared.command.Command.{Command}
 use Rattle.fs_model.specs.declared.command.Command.TheVariants.{Write}
 use Rattle.fs_model.specs.Tree.{Tree}
 use Rattle.forest.specs.Showing.{BlobsShow as NeedsTree}
-use Rattle.path_layer.specs.Sparing.{IsSparingIn}
+use Rattle.tree_commands.specs.Sparing.{IsSparingIn, OnWriteInside}
 use Rattle.tree_commands.specs.Performing.{Shown}
 use Rattle.tree_commands.specs.Showing.{ShowsFiles}
-use Rattle.tree_commands.specs.Sparing.{OnWriteInside}
 
 joined : (x y a b : ℕ) → y ≤ x + a + b + 2 → y ≤ x + (a + b + 2)
 joined x y a b h = omega arith

@@ -1,3 +1,4 @@
 pub mod Performing
+pub mod Replies
 pub mod Showing
 pub mod Sparing

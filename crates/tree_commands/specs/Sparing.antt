@@ -18,3 +18,8 @@ abbrev pub OnWriteInside : ℕ → Tree → Command → (ℕ → Type 0) → Typ
 OnWriteInside payload t (Write p from bytes) P = (row : Row) → get t (upward p) ≡ Some row → row.attr.kind ≡ File → 1 ≤ length bytes → from + length bytes ≤ length row.bytes
     → P (most_touched payload (length bytes) (directory_size t (parent (upward p))))
 OnWriteInside payload t _ P = Unit {0}
+
+-- over any blobs: of a write alone something is said
+abbrev pub IsSparingIn : {S : Type 0} → BlobHoldings S → S → S → Tree → Command → Type 0
+IsSparingIn H a b t (Write p from bytes) = IsSparingAt H a b t (upward p) from (length bytes)
+IsSparingIn H a b t _ = Unit {0}

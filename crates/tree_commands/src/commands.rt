@@ -11,6 +11,7 @@ ghost use Rattle.tree_commands.specs.Performing.{Shown, Steps, IsReplyTo};
 ghost use Rattle.tree_commands.specs.Showing.{ShowsFiles};
 ghost use Rattle.tree_commands.specs.Sparing.{OnWriteInside};
 
+use crate::blobs::perform_on_blobs;
 use blob_store::BlobStore;
 use block_id::{BlockId, Fail, Memory};
 use data_nodes::{Node, write_node};
@@ -37,7 +38,7 @@ pub fn perform<S: Blocks, R: Rng>(
         → OnWriteInside (S.holdings.payload blobs.old.tx.store) n.tree command.now (λ most. fin.len blobs.new.tx.overlay ≤ fin.len blobs.old.tx.overlay + most) }
     ensures variant { IfOk result (λ reply. IsReplyTo command.now reply) }
 {
-    path_layer::perform(alloc, blobs, root, now, command, chance)
+    perform_on_blobs(alloc, blobs, root, now, command, chance)
 }
 
 /// The payload of a root's block that shows the empty tree, where there is no other block.
@@ -47,6 +48,6 @@ pub fn empty_root(alloc: Global, payload: usize) -> Result<Vec<u8>, Memory>
     ensures shows { IfOk result (λ bytes. (root : List ℕ) (content : Content) → length root ≡ 16
         → ((id : List ℕ) → content id ≡ cond (same_id id root) (Some bytes.items) None) → ShowsFiles payload root content empty_tree) }
 {
-    let blob = path_layer::empty_root(alloc)?;
+    let blob = path_rows::empty_root(alloc)?;
     write_node(alloc, &Node::Leaf(blob), payload)
 }

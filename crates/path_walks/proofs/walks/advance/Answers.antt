@@ -1,4 +1,4 @@
-use Rattle.std.proofs.Common.{◌∙◌, ap}
+use Rattle.std.proofs.Common.{refl, ◌∙◌, ap}
 use Rattle.std.proofs.lemmas.Result.{err_from_is_err_and}
 use Rattle.outcome.specs.Outcome.{first_, passed, answered, idle}
 use Rattle.fs_model.specs.Tree.{is_directory}
@@ -38,3 +38,24 @@ returns-in-Link-clause-outcome g c =
 pub returns-in-Wrong-clause-outcome : goal.returns-in-Wrong-clause-outcome
 returns-in-Wrong-clause-outcome g c =
     idle g.met.B.Blobs.lawful c.args.b.now (Wrong c.in-Wrong.e) c.requires (λ w. (w.stands, wrong_on w.shows w.path c.in-Wrong.e (wrong_spot w c.in-Wrong.e c.in-Wrong.is) c.args.name.now))
+
+pub returns-in-None-clause-mode : goal.returns-in-None-clause-mode
+returns-in-None-clause-mode g c = λ h. tt
+
+pub returns-in-File-clause-mode : goal.returns-in-File-clause-mode
+returns-in-File-clause-mode g c = λ h. tt
+
+pub returns-in-Link-clause-mode : goal.returns-in-Link-clause-mode
+returns-in-Link-clause-mode g c = λ h. tt
+
+pub returns-in-Wrong-clause-mode : goal.returns-in-Wrong-clause-mode
+returns-in-Wrong-clause-mode g c = λ h. tt
+
+pub returns-in-File-clause-unchanged : goal.returns-in-File-clause-unchanged
+returns-in-File-clause-unchanged g c = refl
+
+pub returns-in-Link-clause-unchanged : goal.returns-in-Link-clause-unchanged
+returns-in-Link-clause-unchanged g c = refl
+
+pub returns-in-Wrong-clause-unchanged : goal.returns-in-Wrong-clause-unchanged
+returns-in-Wrong-clause-unchanged g c = refl

@@ -1,10 +1,9 @@
-use Rattle.std.proofs.Common.{ap, subst}
+use Rattle.std.proofs.Common.{ap, subst, Ok}
 use Rattle.std.proofs.lemmas.Result.{err_from_is_err_and}
 use Rattle.outcome.specs.Outcome.{Outcome, then_, failed_, answered}
 use Rattle.fs_model.specs.Tree.{upward, is_directory}
 use Rattle.forest.specs.Showing.{BlobsShow}
 use Rattle.path_walks.specs.Sights.{SightIs, sight_of}
-use Rattle.std.proofs.Common.{Ok}
 use Rattle.path_walks.proofs.Steps.{at_here, wrong_here, directory_seen, seen_under, no_folder}
 use Rattle.path_walks.proofs.walks.look_at.Goals as goal
 
@@ -48,3 +47,12 @@ returns-in-Link-clause-outcome g c =
 pub returns-in-Wrong-clause-outcome : goal.returns-in-Wrong-clause-outcome
 returns-in-Wrong-clause-outcome g c =
     answered c.in_ok-dir.ensures.outcome (λ n h. (h.0, (wrong_here n.tree n.ids (upward c.args.names.now) c.in_ok-dir.field-0 h.1 c.in-Wrong.e c.in-Wrong.is).below c.args.name.now))
+
+pub returns-in-File-clause-modes : goal.returns-in-File-clause-modes
+returns-in-File-clause-modes g c = tt
+
+pub returns-in-Link-clause-modes : goal.returns-in-Link-clause-modes
+returns-in-Link-clause-modes g c = tt
+
+pub returns-in-Wrong-clause-modes : goal.returns-in-Wrong-clause-modes
+returns-in-Wrong-clause-modes g c = tt

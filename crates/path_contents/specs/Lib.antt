@@ -1,0 +1,6 @@
+pub mod Changes
+pub mod Listed
+pub mod Attributes
+pub mod Places
+pub mod Replies
+pub mod Sparing

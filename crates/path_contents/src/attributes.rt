@@ -1,0 +1,73 @@
+// Commands that set attributes.
+ghost use Rattle.std.specs.Prelude.{◌≤◌, ◌∷◌, IfOk};
+ghost use Rattle.outcome.specs.Outcome.{Outcome};
+ghost use Rattle.fs_model.specs.Tree.{upward};
+ghost use Rattle.fs_model.specs.LookUp.{Found, look};
+ghost use Rattle.fs_model.specs.Step.{unless_root, attributes_set};
+ghost use Rattle.forest.specs.Showing.{BlobsShow, Performed};
+ghost use Rattle.tree_rules.specs.Changes.{changed_by};
+ghost use Rattle.path_walks.specs.Replies.{IsChangeReply};
+ghost use Rattle.path_contents.specs.Attributes.{ChangeFits};
+ghost use Rattle.path_walks.specs.Sights.{Finding};
+
+use crate::changes::set_entry;
+use blob_api::Blobs;
+use block_id::{BlockId, Fail};
+use dir_blob::Entry;
+use fs_model::{FsError, MAX_MODE, Moment, Name, Reply};
+use path_walks::{Place, Reached, done, reach};
+use rand_core::Rng;
+use std::alloc::Global;
+use tree_rules::{AttrChange, changed};
+
+/// Sets attributes of all but the root.
+pub fn set_attributes<B: Blobs, R: Rng>(
+    alloc: Global,
+    b: &mut B,
+    root: &BlockId,
+    names: &[Name],
+    change: AttrChange,
+    now: Moment,
+    chance: &mut R,
+) -> Result<Reply, Fail>
+    requires intact { B.meanings.intact b.old }
+    requires fits { ChangeFits change }
+    ensures outcome { Outcome B.meanings (BlobsShow B.holdings b.old root.now.0) b.old b.new result
+        (λ n r. Performed B.holdings b.new root.now.0 (unless_root n.tree (upward names.now) (attributes_set n.tree (upward names.now) (changed_by change now) (look n.tree (upward names.now)))) r) }
+    ensures variant { IfOk result IsChangeReply }
+{
+    match reach(alloc, b, root, names, FsError::Busy) {
+        Ok(Reached::Row(dir, name, place)) => {
+            set_found(alloc, b, root, &dir, name, &place, change, now, chance)
+        }
+        Ok(Reached::Refused(error)) => Ok(Reply::Error(error)),
+        Err(fail) => Err(fail),
+    }
+}
+
+/// What was found gets other attributes.
+fn set_found<B: Blobs, R: Rng>(
+    alloc: Global,
+    b: &mut B,
+    root: &BlockId,
+    dir: &Place,
+    name: &Name,
+    place: &Place,
+    change: AttrChange,
+    now: Moment,
+    chance: &mut R,
+) -> Result<Reply, Fail>
+    requires intact { B.meanings.intact b.old }
+    requires fits { ChangeFits change }
+    requires mode { place.now.attr.mode ≤ MAX_MODE }
+    ensures outcome { Outcome B.meanings (Finding B.holdings b.old root.now.0 dir.now name.now place.now) b.old b.new result
+        (λ n r. Performed B.holdings b.new root.now.0 (attributes_set n.tree (name.now ∷ n.path) (changed_by change now) (Found n.is.here.row)) r) }
+    ensures variant { IfOk result IsChangeReply }
+{
+    let entry = Entry {
+        name: name.try_clone()?,
+        attr: changed(place.attr, change, now),
+        blob: place.blob,
+    };
+    done(set_entry(alloc, b, &dir.blob, &entry, chance))
+}

@@ -1,0 +1,157 @@
+// Commands that change the content of a file.
+ghost use Rattle.std.specs.Prelude.{◌≡◌, ◌≤◌, ◌∷◌, IfOk, length};
+ghost use Rattle.outcome.specs.Outcome.{Outcome};
+ghost use Rattle.fs_model.specs.Tree.{upward, directory_size};
+ghost use Rattle.fs_model.specs.LookUp.{Found, look};
+ghost use Rattle.fs_model.specs.Step.{written, truncated};
+ghost use Rattle.forest.specs.Showing.{BlobsShow, Performed};
+ghost use Rattle.path_walks.specs.Replies.{IsChangeReply};
+ghost use Rattle.path_contents.specs.Sparing.{IsSparingTwice, IsSparingAt};
+ghost use Rattle.path_walks.specs.Sights.{Finding};
+
+use crate::changes::{resize_at, write_at};
+use crate::places::content_refusal;
+use blob_api::Blobs;
+use block_id::{BlockId, Fail, Memory};
+use dir_blob::Entry;
+use fs_blobs::body_len;
+use fs_model::{Attr, FsError, MAX_MODE, Moment, Name, Reply};
+use path_walks::{Place, Reached, done, reach};
+use rand_core::Rng;
+use std::alloc::Global;
+use tree_rules::is_too_long;
+
+/// The bytes are written at `from`.
+pub fn write<B: Blobs, R: Rng>(
+    alloc: Global,
+    b: &mut B,
+    root: &BlockId,
+    names: &[Name],
+    from: u64,
+    bytes: &[u8],
+    now: Moment,
+    chance: &mut R,
+) -> Result<Reply, Fail>
+    requires { B.meanings.intact b.old }
+    ensures outcome { Outcome B.meanings (BlobsShow B.holdings b.old root.now.0) b.old b.new result
+        (λ n r. Performed B.holdings b.new root.now.0 (written n.tree now (upward names.now) from bytes.now (look n.tree (upward names.now))) r) }
+    ensures sparing { (n : BlobsShow B.holdings b.old root.now.0) → B.meanings.sound b.old → B.meanings.forgeries b.new ≤ B.meanings.forgeries b.old
+        → IsSparingAt B.holdings b.old b.new n.tree (upward names.now) from (length bytes.now) }
+    ensures variant { IfOk result IsChangeReply }
+{
+    match reach(alloc, b, root, names, FsError::IsDirectory) {
+        Ok(Reached::Row(dir, name, place)) => {
+            write_found(alloc, b, root, &dir, name, &place, from, bytes, now, chance)
+        }
+        Ok(Reached::Refused(error)) => Ok(Reply::Error(error)),
+        Err(fail) => Err(fail),
+    }
+}
+
+/// What was found is written, where it is a file.
+fn write_found<B: Blobs, R: Rng>(
+    alloc: Global,
+    b: &mut B,
+    root: &BlockId,
+    dir: &Place,
+    name: &Name,
+    place: &Place,
+    from: u64,
+    bytes: &[u8],
+    now: Moment,
+    chance: &mut R,
+) -> Result<Reply, Fail>
+    requires intact { B.meanings.intact b.old }
+    requires mode { place.now.attr.mode ≤ MAX_MODE }
+    ensures outcome { Outcome B.meanings (Finding B.holdings b.old root.now.0 dir.now name.now place.now) b.old b.new result
+        (λ n r. Performed B.holdings b.new root.now.0 (written n.tree now (name.now ∷ n.path) from bytes.now (Found n.is.here.row)) r) }
+    ensures sparing { (n : Finding B.holdings b.old root.now.0 dir.now name.now place.now) → B.meanings.sound b.old → B.meanings.forgeries b.new ≤ B.meanings.forgeries b.old
+        → IsSparingTwice B.holdings b.old b.new (length n.is.here.row.bytes) (directory_size n.tree n.path) from (length bytes.now) }
+    ensures variant { IfOk result IsChangeReply }
+{
+    match content_refusal(place.attr.kind) {
+        Some(refusal) => return Ok(Reply::Error(refusal)),
+        None => {}
+    }
+    if bytes.is_empty() {
+        return Ok(Reply::Done);
+    }
+    let size = body_len(alloc, b, &place.blob)?;
+    let end = from.saturating_add(bytes.len() as u64);
+    if is_too_long(size, end.max(size)) {
+        return Ok(Reply::Error(FsError::TooLarge));
+    }
+    let entry = touched(name, place, now)?;
+    done(write_at(alloc, b, &dir.blob, &entry, from, bytes, chance))
+}
+
+/// A file is cut to a length, or filled up with zeros.
+pub fn truncate<B: Blobs, R: Rng>(
+    alloc: Global,
+    b: &mut B,
+    root: &BlockId,
+    names: &[Name],
+    len: u64,
+    now: Moment,
+    chance: &mut R,
+) -> Result<Reply, Fail>
+    requires { B.meanings.intact b.old }
+    ensures outcome { Outcome B.meanings (BlobsShow B.holdings b.old root.now.0) b.old b.new result
+        (λ n r. Performed B.holdings b.new root.now.0 (truncated n.tree now (upward names.now) len (look n.tree (upward names.now))) r) }
+    ensures variant { IfOk result IsChangeReply }
+{
+    match reach(alloc, b, root, names, FsError::IsDirectory) {
+        Ok(Reached::Row(dir, name, place)) => {
+            truncate_found(alloc, b, root, &dir, name, &place, len, now, chance)
+        }
+        Ok(Reached::Refused(error)) => Ok(Reply::Error(error)),
+        Err(fail) => Err(fail),
+    }
+}
+
+/// What was found gets this length, where it is a file.
+fn truncate_found<B: Blobs, R: Rng>(
+    alloc: Global,
+    b: &mut B,
+    root: &BlockId,
+    dir: &Place,
+    name: &Name,
+    place: &Place,
+    len: u64,
+    now: Moment,
+    chance: &mut R,
+) -> Result<Reply, Fail>
+    requires intact { B.meanings.intact b.old }
+    requires mode { place.now.attr.mode ≤ MAX_MODE }
+    ensures outcome { Outcome B.meanings (Finding B.holdings b.old root.now.0 dir.now name.now place.now) b.old b.new result
+        (λ n r. Performed B.holdings b.new root.now.0 (truncated n.tree now (name.now ∷ n.path) len (Found n.is.here.row)) r) }
+    ensures variant { IfOk result IsChangeReply }
+{
+    match content_refusal(place.attr.kind) {
+        Some(refusal) => return Ok(Reply::Error(refusal)),
+        None => {}
+    }
+    let size = body_len(alloc, b, &place.blob)?;
+    if is_too_long(size, len) {
+        return Ok(Reply::Error(FsError::TooLarge));
+    }
+    let entry = touched(name, place, now)?;
+    done(resize_at(alloc, b, &dir.blob, &entry, len, chance))
+}
+
+/// The entry of a row whose content changes now.
+fn touched(name: &Name, place: &Place, now: Moment) -> Result<Entry, Memory>
+    ensures name { IfOk result (λ entry. entry.name ≡ name.now) }
+    ensures attr { IfOk result (λ entry. entry.attr ≡ record place.now.attr { mtime = now; ctime = now }) }
+    ensures blob { IfOk result (λ entry. entry.blob ≡ place.now.blob) }
+{
+    Ok(Entry {
+        name: name.try_clone()?,
+        attr: Attr {
+            mtime: now,
+            ctime: now,
+            ..place.attr
+        },
+        blob: place.blob,
+    })
+}

@@ -1,9 +1,0 @@
-pub mod Told
-pub mod Seeing
-pub mod Steps
-pub mod Blobs
-pub mod Found
-pub mod Files
-pub mod Spared
-pub mod OnTheWay
-pub mod Fits

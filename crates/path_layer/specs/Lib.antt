@@ -1,6 +1,0 @@
-pub mod Replies
-pub mod Places
-pub mod Reaching
-pub mod Sparing
-pub mod Attributes
-pub mod Moves

@@ -1,0 +1,9 @@
+pub mod Edits
+pub mod Dropped
+pub mod Relocated
+pub mod NewRow
+pub mod Heading
+pub mod Replacing
+pub mod Found
+pub mod Steps
+pub mod OnTheWay

@@ -1,0 +1,31 @@
+use Rattle.std.proofs.Common.{Ok}
+use Rattle.std.proofs.lemmas.Result.{err_from_is_err_and}
+use Rattle.outcome.specs.Outcome.{Outcome, first_, then_, failed_, passed}
+use Rattle.dir_blob.specs.Layout.{entry_of}
+use Rattle.path_rows.specs.Moves.{Moving}
+use Rattle.path_rows.proofs.Relocated.{IsOnTheWay, looks1, looks2, has_name, gone, has_room, came, blob_moved, relocated}
+use Rattle.path_rows.proofs.changes.relocate.Goals as goal
+
+pub returns-in_err-remove : goal.returns-in_err-remove
+returns-in_err-remove g c =
+    let p = err_from_is_err_and c.from_residual.result c.from_residual.ensures.1 in
+    rw (p.1, p.2) (passed (first_ (λ w. has_name w) c.in_err-remove.ensures.outcome (λ w y h. h)))
+
+pub returns-in_err-insert : goal.returns-in_err-insert
+returns-in_err-insert g c =
+    let M = g.B.Blobs.meanings in
+    let H = g.B.Blobs.holdings in
+    let p = err_from_is_err_and c.from_residual-in_err-insert.result c.from_residual-in_err-insert.ensures.1 in
+    let o1 : Outcome M (Moving H c.args.b.now c.args.from.now.0 c.args.name.now c.args.to.now.0 (entry_of c.args.entry.now)) c.args.b.now c.remove.new.b (Ok tt) (λ w _. IsOnTheWay H c.remove.new.b w.tree w.ids (looks1 w)) =
+    first_ (λ w. has_name w) c.in_ok-remove.ensures.outcome (λ w y h. gone w c.remove.new.b h) in
+    rw (p.1, p.2) (failed_ g.met.B.Blobs.lawful o1 (λ w h. has_room w h) c.in_err-insert.ensures.outcome)
+
+pub returns : goal.returns
+returns g c =
+    let M = g.B.Blobs.meanings in
+    let H = g.B.Blobs.holdings in
+    let o1 : Outcome M (Moving H c.args.b.now c.args.from.now.0 c.args.name.now c.args.to.now.0 (entry_of c.args.entry.now)) c.args.b.now c.remove.new.b (Ok tt) (λ w _. IsOnTheWay H c.remove.new.b w.tree w.ids (looks1 w)) =
+    first_ (λ w. has_name w) c.in_ok-remove.ensures.outcome (λ w y h. gone w c.remove.new.b h) in
+    let o2 : Outcome M (Moving H c.args.b.now c.args.from.now.0 c.args.name.now c.args.to.now.0 (entry_of c.args.entry.now)) c.args.b.now c.insert.new.b (Ok tt) (λ w _. IsOnTheWay H c.insert.new.b w.tree w.ids (looks2 w)) =
+    then_ g.met.B.Blobs.lawful o1 (λ w h. has_room w h) c.in_ok-insert.ensures.outcome (λ w h y k. came w h c.insert.new.b k) in
+    then_ g.met.B.Blobs.lawful o2 (λ w h. blob_moved w h) c.set_parent.ensures (λ w h y k. relocated w h c.set_parent.new.b k)

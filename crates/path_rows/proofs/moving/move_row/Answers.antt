@@ -1,0 +1,61 @@
+use Rattle.std.proofs.Common.{◌∷◌, true, false, refl, sym, ◌∙◌, ap, subst}
+use Rattle.std.proofs.lemmas.Bool.{eqb-true}
+use Rattle.outcome.specs.Outcome.{then_, answered, idle, passed}
+use Rattle.fs_model.specs.declared.error.FsError.TheVariants.{Busy}
+use Rattle.fs_model.specs.declared.reply.Reply.TheVariants.{Error}
+use Rattle.fs_model.specs.Tree.{upward, same_path}
+use Rattle.fs_model.specs.Move.{is_above}
+use Rattle.fs_model.specs.Step as model
+use Rattle.path_walks.proofs.Commands.{reached_none}
+use Rattle.path_walks.specs.Reaching.{ReachedIs, HasRowMode}
+use Rattle.path_walks.proofs.Told.{stays, told_as}
+use Rattle.path_walks.proofs.Seeing.{on_row}
+use Rattle.path_rows.proofs.OnTheWay.{no_names, not_empty, onward}
+use Rattle.path_rows.proofs.Steps.{to_root, not_root, from_by}
+use Rattle.path_rows.proofs.moving.move_row.Goals as goal
+
+pub returns-then-is_empty-clause-outcome : goal.returns-then-is_empty-clause-outcome
+returns-then-is_empty-clause-outcome g c =
+    idle g.met.B.Blobs.lawful c.args.b.now (Error Busy) c.requires (λ w. stays w.map w.tree w.ids w.shows c.args.b.now w.stands _ _
+    (to_root w.tree (upward c.args.from.now) (upward c.args.to.now) _ (no_names c.args.to.now (eqb-true _ _ (sym c.is_empty.ensures ∙ c.if-is_empty.true)))))
+
+pub returns-in-Ok-Refused-clause-outcome : goal.returns-in-Ok-Refused-clause-outcome
+returns-in-Ok-Refused-clause-outcome g c =
+    let q = upward c.args.to.now in
+    let off_root = not_empty c.args.to.now (sym c.is_empty.ensures ∙ c.if-is_empty.false) in
+    reached_none Busy c.in-Ok-Refused.ensures.outcome (λ t p s. model.unless_root t p (model.unless_root t q (model.moved_from t c.args.now p q s))) c.in-Ok-Refused.field-0-is (λ t. refl) (λ t k d. not_root t q _ off_root) (λ t k d x. not_root t q _ off_root)
+
+pub returns-then-is_above-clause-outcome : goal.returns-then-is_above-clause-outcome
+returns-then-is_above-clause-outcome g c =
+    let p = upward c.args.from.now in
+    let q = upward c.args.to.now in
+    let off_root = not_empty c.args.to.now (sym c.is_empty.ensures ∙ c.if-is_empty.false) in
+    answered c.in-Ok-Row.ensures.outcome (λ n h.
+    let row = subst (ReachedIs n.tree n.ids p Busy) c.in-Ok-Row.field-0-is h.1 in
+    stays n.map n.tree n.ids n.shows c.reach.new.b h.0 _ _
+    (on_row (λ p s. model.unless_root n.tree p (model.unless_root n.tree q (model.moved_from n.tree c.args.now p q s))) row
+    ∙ from_by n.tree c.args.now (c.in-Ok-Row.name.now ∷ row.above) q row.is.here.row off_root true (ap (λ z. is_above z q) (sym row.split) ∙ (sym c.is_above.ensures ∙ c.if-is_above.true))))
+
+pub returns-else-is_above-clause-outcome : goal.returns-else-is_above-clause-outcome
+returns-else-is_above-clause-outcome g c =
+    let p = upward c.args.from.now in
+    let q = upward c.args.to.now in
+    let off_root = not_empty c.args.to.now (sym c.is_empty.ensures ∙ c.if-is_empty.false) in
+    let off = sym c.is_above.ensures ∙ c.if-is_above.false in
+    then_ g.met.B.Blobs.lawful c.in-Ok-Row.ensures.outcome
+    (λ n h.
+    let row = subst (ReachedIs n.tree n.ids p Busy) c.in-Ok-Row.field-0-is h.1 in
+    onward n.map h.0 c.args.root.now.0 n.tree n.ids n.shows row.above c.in-Ok-Row.name.now c.in-Ok-Row.dir c.in-Ok-Row.place row.is q (ap (λ z. is_above z q) (sym row.split) ∙ off) off_root
+    c.same_names-same.result (ap (λ z. same_path z q) (sym row.split) ∙ sym c.same_names-same.ensures))
+    c.move_found.ensures.outcome
+    (λ n h y r.
+    let row = subst (ReachedIs n.tree n.ids p Busy) c.in-Ok-Row.field-0-is h.1 in
+    told_as _ _ y
+    (on_row (λ p s. model.unless_root n.tree p (model.unless_root n.tree q (model.moved_from n.tree c.args.now p q s))) row
+    ∙ from_by n.tree c.args.now (c.in-Ok-Row.name.now ∷ row.above) q row.is.here.row off_root false (ap (λ z. is_above z q) (sym row.split) ∙ off)) r)
+
+pub move_found-requires-clause-mode : goal.move_found-requires-clause-mode
+move_found-requires-clause-mode g c = subst HasRowMode c.in-Ok-Row.field-0-is c.in-Ok-Row.ensures.mode
+
+pub returns-in-Err-clause-outcome : goal.returns-in-Err-clause-outcome
+returns-in-Err-clause-outcome g c = passed c.in-Err.ensures.outcome

@@ -1,0 +1,56 @@
+// Changes of what the blobs show.
+ghost use Rattle.std.specs.Prelude.{◌≤◌, ◌∷◌};
+ghost use Rattle.std.specs.FinMap.{remove as without_key};
+ghost use Rattle.outcome.specs.Outcome.{Outcome};
+ghost use Rattle.fs_model.specs.Step.{moved_tree};
+ghost use Rattle.dir_blob.specs.Layout.{entry_of};
+ghost use Rattle.forest.specs.Midst.{moved_ids};
+ghost use Rattle.forest.specs.Showing.{IsShownBy};
+ghost use Rattle.path_rows.specs.Changes.{Dropping};
+ghost use Rattle.path_rows.specs.Moves.{Moving};
+
+use blob_api::Blobs;
+use block_id::{BlockId, Fail};
+use dir_blob::{Entry, insert, remove};
+use fs_blobs::set_parent;
+use fs_model::{MAX_MODE, Name};
+use rand_core::Rng;
+use std::alloc::Global;
+
+/// A row with nothing below it goes: its entry, and its blob.
+pub fn drop_at<B: Blobs, R: Rng>(
+    alloc: Global,
+    b: &mut B,
+    dir: &BlockId,
+    name: &Name,
+    blob: &BlockId,
+    chance: &mut R,
+) -> Result<(), Fail>
+    requires { B.meanings.intact b.old }
+    ensures { Outcome B.meanings (Dropping B.holdings b.old dir.now.0 name.now blob.now.0) b.old b.new result
+        (λ n _. IsShownBy B.holdings b.new n.root (without_key n.tree (name.now ∷ n.path)) n.ids) }
+{
+    remove(alloc, b, dir, name, chance)?;
+    b.remove(alloc, blob)
+}
+
+/// A row and what lies below it go to a path that is free: the entry goes from its directory to another or the
+/// same one, and the header of the blob names that.
+pub fn relocate<B: Blobs, R: Rng>(
+    alloc: Global,
+    b: &mut B,
+    from: &BlockId,
+    name: &Name,
+    to: &BlockId,
+    entry: &Entry,
+    chance: &mut R,
+) -> Result<(), Fail>
+    requires intact { B.meanings.intact b.old }
+    requires mode { entry.now.attr.mode ≤ MAX_MODE }
+    ensures { Outcome B.meanings (Moving B.holdings b.old from.now.0 name.now to.now.0 (entry_of entry.now)) b.old b.new result
+        (λ n _. IsShownBy B.holdings b.new n.root (moved_tree n.tree n.now (name.now ∷ n.above) (entry.now.name ∷ n.below) n.row) (moved_ids n.ids (name.now ∷ n.above) (entry.now.name ∷ n.below))) }
+{
+    remove(alloc, b, from, name, chance)?;
+    insert(alloc, b, to, entry, chance)?;
+    set_parent(alloc, b, &entry.blob, to, chance)
+}

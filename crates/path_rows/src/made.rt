@@ -1,0 +1,69 @@
+// Commands that make a row.
+ghost use Rattle.std.specs.Prelude.{◌≤◌, ◌∷◌, IfOk, length};
+ghost use Rattle.std.specs.FinMap.{insert as with_row};
+ghost use Rattle.outcome.specs.Outcome.{Outcome};
+ghost use Rattle.fs_model.specs.LookUp.{look};
+ghost use Rattle.fs_model.specs.Step.{made};
+ghost use Rattle.forest.specs.Midst.{ids_with};
+ghost use Rattle.forest.specs.Showing.{IsShownBy, Performed};
+ghost use Rattle.path_rows.specs.Changes.{Making, Adding};
+ghost use Rattle.path_walks.specs.Replies.{IsChangeReply};
+
+use blob_api::Blobs;
+use block_id::{BlockId, Fail};
+use dir_blob::{Entry, insert};
+use fs_blobs::{Header, body_len, new_blob};
+use fs_model::{Attr, ENTRY_SIZE, FsError, MAX_ENTRIES, MAX_MODE, MAX_TARGET, Name, Reply};
+use rand_core::Rng;
+use std::alloc::Global;
+
+/// A new row where its directory has room for its entry: its blob, and then its entry.
+pub fn add_row<B: Blobs, R: Rng>(
+    alloc: Global,
+    b: &mut B,
+    dir: &BlockId,
+    name: &Name,
+    attr: Attr,
+    bytes: &[u8],
+    chance: &mut R,
+) -> Result<BlockId, Fail>
+    requires intact { B.meanings.intact b.old }
+    requires mode { attr.mode ≤ MAX_MODE }
+    requires short { length bytes.now ≤ MAX_TARGET }
+    ensures { Outcome B.meanings (Adding B.holdings b.old dir.now.0 name.now (record { attr = attr; bytes = bytes.now })) b.old b.new result
+        (λ n id. IsShownBy B.holdings b.new n.making.root (with_row n.making.tree (name.now ∷ n.making.path) (record { attr = attr; bytes = bytes.now })) (ids_with n.making.ids (name.now ∷ n.making.path) id.0)) }
+{
+    let name = name.try_clone()?;
+    let header = Header {
+        kind: attr.kind,
+        parent: *dir,
+    };
+    let blob = new_blob(alloc, b, &header, bytes, chance)?;
+    insert(alloc, b, dir, &Entry { name, attr, blob }, chance)?;
+    Ok(blob)
+}
+
+/// A new row of a directory in which the name is free.
+pub fn make_in<B: Blobs, R: Rng>(
+    alloc: Global,
+    b: &mut B,
+    dir: &BlockId,
+    name: &Name,
+    attr: Attr,
+    bytes: &[u8],
+    chance: &mut R,
+) -> Result<Reply, Fail>
+    requires intact { B.meanings.intact b.old }
+    requires mode { attr.mode ≤ MAX_MODE }
+    requires short { length bytes.now ≤ MAX_TARGET }
+    ensures variant { IfOk result IsChangeReply }
+    ensures did { Outcome B.meanings (Making B.holdings b.old dir.now.0 name.now (record { attr = attr; bytes = bytes.now })) b.old b.new result
+        (λ n r. Performed B.holdings b.new n.root (made n.tree (name.now ∷ n.path) (record { attr = attr; bytes = bytes.now }) (look n.tree (name.now ∷ n.path))) r) }
+{
+    let size = body_len(alloc, b, dir)?;
+    if size > MAX_ENTRIES || size + ENTRY_SIZE + name.as_slice().len() as u64 > MAX_ENTRIES {
+        return Ok(Reply::Error(FsError::TooLarge));
+    }
+    add_row(alloc, b, dir, name, attr, bytes, chance)?;
+    Ok(Reply::Done)
+}

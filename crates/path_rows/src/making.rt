@@ -1,0 +1,105 @@
+// Commands that make a row.
+ghost use Rattle.std.specs.Prelude.{◌≤◌, [], IfOk, IsTrue, length};
+ghost use Rattle.outcome.specs.Outcome.{Outcome};
+ghost use Rattle.fs_model.specs.declared.attr.Kind.TheVariants.{Directory, File, Link};
+ghost use Rattle.fs_model.specs.Fitting.{is_target};
+ghost use Rattle.fs_model.specs.Tree.{upward, IsWithinLimits};
+ghost use Rattle.fs_model.specs.LookUp.{look};
+ghost use Rattle.fs_model.specs.Step.{made, new_row};
+ghost use Rattle.forest.specs.Showing.{BlobsShow, Performed};
+ghost use Rattle.path_walks.specs.Replies.{IsChangeReply};
+
+use crate::made::make_in;
+use blob_api::Blobs;
+use block_id::{BlockId, Fail};
+use fs_model::{
+    Attr, DIRECTORY_MODE, FILE_MODE, FsError, Kind, LINK_MODE, MAX_TARGET, Moment, Name, Reply,
+};
+use path_walks::{Sight, look_at, split_last};
+use rand_core::Rng;
+use std::alloc::Global;
+use tree_rules::new_attr;
+
+/// A new directory.
+pub fn make_directory<B: Blobs, R: Rng>(
+    alloc: Global,
+    b: &mut B,
+    root: &BlockId,
+    names: &[Name],
+    now: Moment,
+    chance: &mut R,
+) -> Result<Reply, Fail>
+    requires { B.meanings.intact b.old }
+    ensures outcome { Outcome B.meanings (BlobsShow B.holdings b.old root.now.0) b.old b.new result
+        (λ n r. Performed B.holdings b.new root.now.0 (made n.tree (upward names.now) (new_row Directory DIRECTORY_MODE now []) (look n.tree (upward names.now))) r) }
+    ensures variant { IfOk result IsChangeReply }
+{
+    let attr = new_attr(Kind::Directory, DIRECTORY_MODE, now);
+    make(alloc, b, root, names, attr, &[], chance)
+}
+
+/// A new file without bytes.
+pub fn make_file<B: Blobs, R: Rng>(
+    alloc: Global,
+    b: &mut B,
+    root: &BlockId,
+    names: &[Name],
+    now: Moment,
+    chance: &mut R,
+) -> Result<Reply, Fail>
+    requires { B.meanings.intact b.old }
+    ensures outcome { Outcome B.meanings (BlobsShow B.holdings b.old root.now.0) b.old b.new result
+        (λ n r. Performed B.holdings b.new root.now.0 (made n.tree (upward names.now) (new_row File FILE_MODE now []) (look n.tree (upward names.now))) r) }
+    ensures variant { IfOk result IsChangeReply }
+{
+    let attr = new_attr(Kind::File, FILE_MODE, now);
+    make(alloc, b, root, names, attr, &[], chance)
+}
+
+/// A new link to this target.
+pub fn make_link<B: Blobs, R: Rng>(
+    alloc: Global,
+    b: &mut B,
+    root: &BlockId,
+    names: &[Name],
+    target: &[u8],
+    now: Moment,
+    chance: &mut R,
+) -> Result<Reply, Fail>
+    requires intact { B.meanings.intact b.old }
+    requires target { IsTrue (is_target target.now) }
+    ensures outcome { Outcome B.meanings (BlobsShow B.holdings b.old root.now.0) b.old b.new result
+        (λ n r. Performed B.holdings b.new root.now.0 (made n.tree (upward names.now) (new_row Link LINK_MODE now target.now) (look n.tree (upward names.now))) r) }
+    ensures variant { IfOk result IsChangeReply }
+{
+    let attr = new_attr(Kind::Link, LINK_MODE, now);
+    make(alloc, b, root, names, attr, target, chance)
+}
+
+/// A new row of these attributes and bytes.
+fn make<B: Blobs, R: Rng>(
+    alloc: Global,
+    b: &mut B,
+    root: &BlockId,
+    names: &[Name],
+    attr: Attr,
+    bytes: &[u8],
+    chance: &mut R,
+) -> Result<Reply, Fail>
+    requires intact { B.meanings.intact b.old }
+    requires limits { IsWithinLimits (record { attr = attr; bytes = bytes.now }) }
+    requires short { length bytes.now ≤ MAX_TARGET }
+    ensures outcome { Outcome B.meanings (BlobsShow B.holdings b.old root.now.0) b.old b.new result
+        (λ n r. Performed B.holdings b.new root.now.0 (made n.tree (upward names.now) (record { attr = attr; bytes = bytes.now }) (look n.tree (upward names.now))) r) }
+    ensures variant { IfOk result IsChangeReply }
+{
+    match split_last(names) {
+        None => Ok(Reply::Error(FsError::Exists)),
+        Some((name, dirs)) => match look_at(alloc, b, root, dirs, name) {
+            Ok(Sight::Found(_, _)) => Ok(Reply::Error(FsError::Exists)),
+            Ok(Sight::Vacant(dir)) => make_in(alloc, b, &dir.blob, name, attr, bytes, chance),
+            Ok(Sight::Lost(error)) => Ok(Reply::Error(error)),
+            Err(fail) => Err(fail),
+        },
+    }
+}

@@ -1,0 +1,93 @@
+// Moves.
+ghost use Rattle.std.specs.Prelude.{◌≡◌, ◌≤◌, ◌∷◌, IfOk};
+ghost use Rattle.std.specs.Ordering.{eq_by_cmp};
+ghost use Rattle.outcome.specs.Outcome.{Outcome};
+ghost use Rattle.fs_model.specs.Step.{moved_tree, moved_unless_large};
+ghost use Rattle.blob_api.specs.BlobMap.{id_cmp};
+ghost use Rattle.forest.specs.Midst.{moved_ids};
+ghost use Rattle.forest.specs.Showing.{PerformedBy};
+ghost use Rattle.path_walks.specs.Replies.{IsChangeReply};
+ghost use Rattle.path_rows.specs.Moves.{Heading, Replacing, ids_then};
+
+use crate::changes::{drop_at, relocate};
+use blob_api::Blobs;
+use block_id::{BlockId, Fail};
+use dir_blob::Entry;
+use fs_blobs::body_len;
+use fs_model::{Attr, ENTRY_SIZE, FsError, MAX_ENTRIES, MAX_MODE, Moment, Name, Reply};
+use path_walks::Place;
+use rand_core::Rng;
+use std::alloc::Global;
+
+fn is_same(a: &BlockId, b: &BlockId) -> bool
+    ensures { result ≡ eq_by_cmp id_cmp a.now.0 b.now.0 }
+{
+    a.cmp(b).is_eq()
+}
+
+/// A row moves to a free path, where the directory there has room for its entry.
+pub fn move_free<B: Blobs, R: Rng>(
+    alloc: Global,
+    b: &mut B,
+    now: Moment,
+    from: Place,
+    name: &Name,
+    place: Place,
+    to: Place,
+    to_name: &Name,
+    chance: &mut R,
+) -> Result<Reply, Fail>
+    requires intact { B.meanings.intact b.old }
+    requires mode { place.attr.mode ≤ MAX_MODE }
+    ensures variant { IfOk result IsChangeReply }
+    ensures did { Outcome B.meanings (Heading B.holdings b.old now from name.now place to to_name.now) b.old b.new result
+        (λ n r. PerformedBy B.holdings b.new n.root (moved_unless_large n.tree (to_name.now ∷ n.below) (moved_tree n.tree now (name.now ∷ n.above) (to_name.now ∷ n.below) n.row)) r
+        (ids_then r n.ids (moved_ids n.ids (name.now ∷ n.above) (to_name.now ∷ n.below)))) }
+{
+    let size = body_len(alloc, b, &to.blob)?;
+    let left = if is_same(&from.blob, &to.blob) {
+        ENTRY_SIZE + name.as_slice().len() as u64
+    } else {
+        0
+    };
+    if size > MAX_ENTRIES
+        || size + ENTRY_SIZE + to_name.as_slice().len() as u64 > MAX_ENTRIES + left
+    {
+        return Ok(Reply::Error(FsError::TooLarge));
+    }
+    let attr = Attr {
+        ctime: now,
+        ..place.attr
+    };
+    let entry = Entry {
+        name: to_name.try_clone()?,
+        attr,
+        blob: place.blob,
+    };
+    relocate(alloc, b, &from.blob, name, &to.blob, &entry, chance)?;
+    Ok(Reply::Done)
+}
+
+/// A row moves onto another one, which goes with its blob.
+pub fn move_onto<B: Blobs, R: Rng>(
+    alloc: Global,
+    b: &mut B,
+    now: Moment,
+    from: Place,
+    name: &Name,
+    place: Place,
+    to: Place,
+    to_name: &Name,
+    replaced: Place,
+    chance: &mut R,
+) -> Result<Reply, Fail>
+    requires intact { B.meanings.intact b.old }
+    requires mode { place.attr.mode ≤ MAX_MODE }
+    ensures variant { IfOk result IsChangeReply }
+    ensures did { Outcome B.meanings (Replacing B.holdings b.old now from name.now place to to_name.now replaced) b.old b.new result
+        (λ n r. PerformedBy B.holdings b.new n.root (moved_unless_large n.tree (to_name.now ∷ n.below) (moved_tree n.tree now (name.now ∷ n.above) (to_name.now ∷ n.below) n.row)) r
+        (ids_then r n.ids (moved_ids n.ids (name.now ∷ n.above) (to_name.now ∷ n.below)))) }
+{
+    drop_at(alloc, b, &to.blob, to_name, &replaced.blob, chance)?;
+    move_free(alloc, b, now, from, name, place, to, to_name, chance)
+}

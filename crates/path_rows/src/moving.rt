@@ -1,0 +1,119 @@
+// Moving what stands at a path, with all that stands below it.
+ghost use Rattle.std.specs.Prelude.{◌≡◌, ◌≤◌, ◌∷◌, IfOk};
+ghost use Rattle.outcome.specs.Outcome.{Outcome};
+ghost use Rattle.fs_model.specs.Tree.{upward, is_directory as model_is_directory};
+ghost use Rattle.fs_model.specs.LookUp.{look};
+ghost use Rattle.fs_model.specs.Step.{unless_root, moved_from, moved_to};
+ghost use Rattle.forest.specs.Showing.{BlobsShow, Performed};
+ghost use Rattle.path_walks.specs.Replies.{IsChangeReply};
+ghost use Rattle.path_walks.specs.Sights.{Standing};
+ghost use Rattle.path_rows.specs.Onward.{Onward, RefusesOnto};
+
+use crate::folders::{has_child, is_directory};
+use crate::moves::{move_free, move_onto};
+use blob_api::Blobs;
+use block_id::{BlockId, Fail};
+use fs_model::{FsError, MAX_MODE, Moment, Name, Reply};
+use path_walks::{Place, Reached, Sight, look_at, reach, split_last};
+use rand_core::Rng;
+use std::alloc::Global;
+use tree_rules::{is_above, same_names};
+
+/// Every path that has the prefix `from` gets the prefix `to`.
+pub fn move_row<B: Blobs, R: Rng>(
+    alloc: Global,
+    b: &mut B,
+    root: &BlockId,
+    from: &[Name],
+    to: &[Name],
+    now: Moment,
+    chance: &mut R,
+) -> Result<Reply, Fail>
+    requires { B.meanings.intact b.old }
+    ensures outcome { Outcome B.meanings (BlobsShow B.holdings b.old root.now.0) b.old b.new result
+        (λ n r. Performed B.holdings b.new root.now.0 (unless_root n.tree (upward from.now) (unless_root n.tree (upward to.now) (moved_from n.tree now (upward from.now) (upward to.now) (look n.tree (upward from.now))))) r) }
+    ensures variant { IfOk result IsChangeReply }
+{
+    if to.is_empty() {
+        return Ok(Reply::Error(FsError::Busy));
+    }
+    match reach(alloc, b, root, from, FsError::Busy) {
+        Ok(Reached::Row(dir, name, place)) => {
+            if is_above(from, to) {
+                return Ok(Reply::Error(FsError::Invalid));
+            }
+            let same = same_names(from, to);
+            move_found(alloc, b, root, dir, name, place, to, same, now, chance)
+        }
+        Ok(Reached::Refused(error)) => Ok(Reply::Error(error)),
+        Err(fail) => Err(fail),
+    }
+}
+
+/// What was found moves to another path, which isn't the root.
+fn move_found<B: Blobs, R: Rng>(
+    alloc: Global,
+    b: &mut B,
+    root: &BlockId,
+    dir: Place,
+    name: &Name,
+    place: Place,
+    to_names: &[Name],
+    same: bool,
+    now: Moment,
+    chance: &mut R,
+) -> Result<Reply, Fail>
+    requires intact { B.meanings.intact b.old }
+    requires mode { place.attr.mode ≤ MAX_MODE }
+    ensures outcome { Outcome B.meanings (Onward B.holdings b.old root.now.0 dir name.now place (upward to_names.now) same) b.old b.new result
+        (λ n r. Performed B.holdings b.new root.now.0 (moved_to n.tree now (name.now ∷ n.path) (upward to_names.now) n.is.here.row (look n.tree (upward to_names.now))) r) }
+    ensures variant { IfOk result IsChangeReply }
+{
+    match split_last(to_names) {
+        None => Ok(Reply::Error(FsError::Busy)),
+        Some((to_name, to_dirs)) => match look_at(alloc, b, root, to_dirs, to_name) {
+            Ok(Sight::Found(to, old)) => {
+                if same {
+                    return Ok(Reply::Done);
+                }
+                match refusal_onto(alloc, b, &place, &old)? {
+                    Some(refusal) => Ok(Reply::Error(refusal)),
+                    None => move_onto(alloc, b, now, dir, name, place, to, to_name, old, chance),
+                }
+            }
+            Ok(Sight::Vacant(to)) => {
+                move_free(alloc, b, now, dir, name, place, to, to_name, chance)
+            }
+            Ok(Sight::Lost(error)) => Ok(Reply::Error(error)),
+            Err(fail) => Err(fail),
+        },
+    }
+}
+
+/// Why nothing of this kind may move onto what stands there: both are directories or neither is, and nothing stands
+/// below the one that goes.
+fn refusal_onto<B: Blobs>(
+    alloc: Global,
+    b: &mut B,
+    place: &Place,
+    old: &Place,
+) -> Result<Option<FsError>, Fail>
+    requires { B.meanings.intact b.old }
+    ensures outcome { Outcome B.meanings (Standing B.holdings b.old old.now) b.old b.new result
+        (λ n answer. B.holdings.stands_for b.new n.map × RefusesOnto n.tree n.path (model_is_directory place.now.attr.kind) (model_is_directory old.now.attr.kind) answer) }
+    ensures unchanged { B.holdings.changed b.new ≡ B.holdings.changed b.old }
+{
+    let moves = is_directory(place.attr.kind);
+    let stays = is_directory(old.attr.kind);
+    match (moves, stays) {
+        (true, false) => Ok(Some(FsError::NotDirectory)),
+        (false, true) => Ok(Some(FsError::IsDirectory)),
+        (false, false) => Ok(None),
+        (true, true) => {
+            if has_child(alloc, b, old)? {
+                return Ok(Some(FsError::NotEmpty));
+            }
+            Ok(None)
+        }
+    }
+}

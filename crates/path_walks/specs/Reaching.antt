@@ -1,0 +1,36 @@
+-- What a path comes to, for a command that changes its row.
+use Rattle.std.specs.Prelude.{◌≡◌, ◌≤◌, List, ℕ, [], ◌∷◌}
+use Rattle.std.specs.declared.option.Option.{Option}
+use Rattle.std.specs.declared.option.Option.TheVariants.{None, Some}
+use Rattle.blob_api.specs.BlobMap.{Id}
+use Rattle.fs_model.specs.declared.error.FsError.{FsError}
+use Rattle.fs_model.specs.declared.error.FsError.TheVariants.{NoEntry}
+use Rattle.fs_model.specs.declared.limits.TheConstants.{MAX_MODE}
+use Rattle.fs_model.specs.Tree.{Path, Tree}
+use Rattle.fs_model.specs.LookUp.{LookedUp, Found, Free, Bad, look}
+use Rattle.path_walks.specs.declared.spots.Place.{Place}
+use Rattle.path_walks.specs.Sights.{IsFound}
+use Rattle.path_walks.specs.declared.reaching.Reached.{Reached}
+use Rattle.path_walks.specs.declared.reaching.Reached.TheVariants.{Row, Refused}
+
+-- a row stands under the last name of the path
+pub record IsRow (t : Tree) (ids : Path → Id) (p : Path) (n : List ℕ) (dir place : Place) : Type 0 where
+  pub above : Path
+  pub split : p ≡ n ∷ above
+  pub is : IsFound t ids above n dir place
+
+-- the error of a path that has no row to change: the root, which no directory holds, gets its own
+abbrev pub refusal : FsError → Path → LookedUp → Option FsError
+refusal at_root [] s = Some at_root
+refusal at_root (n ∷ d) Free = Some NoEntry
+refusal at_root (n ∷ d) (Bad e) = Some e
+refusal at_root (n ∷ d) (Found row) = None
+
+abbrev pub ReachedIs : Tree → (Path → Id) → Path → FsError → Reached → Type 0
+ReachedIs t ids p at_root (Row dir name place) = IsRow t ids p name.now dir place
+ReachedIs t ids p at_root (Refused e) = refusal at_root p (look t p) ≡ Some e
+
+-- the mode that was found is within its limit
+abbrev pub HasRowMode : Reached → Type 0
+HasRowMode (Row dir name place) = place.attr.mode ≤ MAX_MODE
+HasRowMode (Refused e) = Unit {0}

@@ -1,0 +1,45 @@
+// The row that a command changes.
+ghost use Rattle.std.specs.Prelude.{◌≡◌, IfOk};
+ghost use Rattle.outcome.specs.Outcome.{Outcome};
+ghost use Rattle.fs_model.specs.Tree.{upward};
+ghost use Rattle.forest.specs.Showing.{BlobsShow};
+ghost use Rattle.path_walks.specs.Reaching.{ReachedIs, HasRowMode};
+
+use crate::names::split_last;
+use crate::{Place, Sight, look_at};
+use blob_api::Blobs;
+use block_id::{BlockId, Fail};
+use fs_model::{FsError, Name};
+use std::alloc::Global;
+
+/// What a path comes to.
+pub enum Reached<'a> {
+    /// The directory, the name in it, and what stands there.
+    Row(Place, &'a Name, Place),
+    Refused(FsError),
+}
+
+/// The row of a path: `at_root` is what the root gets, which no directory holds.
+pub fn reach<'a, B: Blobs>(
+    alloc: Global,
+    b: &mut B,
+    root: &BlockId,
+    names: &'a [Name],
+    at_root: FsError,
+) -> Result<Reached<'a>, Fail>
+    requires { B.meanings.intact b.old }
+    ensures outcome { Outcome B.meanings (BlobsShow B.holdings b.old root.now.0) b.old b.new result
+        (λ n r. B.holdings.stands_for b.new n.map × ReachedIs n.tree n.ids (upward names.now) at_root r) }
+    ensures mode { IfOk result HasRowMode }
+    ensures unchanged { B.holdings.changed b.new ≡ B.holdings.changed b.old }
+{
+    match split_last(names) {
+        None => Ok(Reached::Refused(at_root)),
+        Some((name, dirs)) => match look_at(alloc, b, root, dirs, name) {
+            Ok(Sight::Found(dir, place)) => Ok(Reached::Row(dir, name, place)),
+            Ok(Sight::Vacant(_)) => Ok(Reached::Refused(FsError::NoEntry)),
+            Ok(Sight::Lost(error)) => Ok(Reached::Refused(error)),
+            Err(fail) => Err(fail),
+        },
+    }
+}
