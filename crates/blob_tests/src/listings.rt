@@ -2,7 +2,8 @@
 ghost use Rattle.std.specs.Prelude.{◌≤◌, IfOk, length};
 
 use block_id::BlockId;
-use dir_blob::{Entry, change, encode_entries, entries, find, insert, remove, whole_body};
+use dir_blob::{change, entries, find_target, insert, remove, whole_body};
+use dir_entries::{Entry, encode_entries};
 use fs_blobs::{Header, new_blob};
 use fs_model::{Attr, FILE_MODE, Kind, MAX_MODE, Moment, Name};
 use map_blobs::MapBlobs;
@@ -43,10 +44,10 @@ fn both_ends_and_the_middle_of_many(rt: HostRuntime) -> Result<(), Fail> {
     assert_eq!(rt; entries(alloc, &mut blobs, &dir)?.len(), 10_003);
     for number in &ODD {
         let name = numbered(alloc, *number, 0)?.name;
-        let entry = find(alloc, &mut blobs, &dir, &name)?.ok_or("the entry")?;
-        assert_eq!(rt; entry.attr.uid, 7);
+        let (attr, _) = find_target(alloc, &mut blobs, &dir, &name)?.ok_or("the entry")?;
+        assert_eq!(rt; attr.uid, 7);
         remove(alloc, &mut blobs, &dir, &name, &mut chance)?;
-        assert!(rt; find(alloc, &mut blobs, &dir, &name)?.is_none());
+        assert!(rt; find_target(alloc, &mut blobs, &dir, &name)?.is_none());
     }
     let left = whole_body(alloc, &mut blobs, &dir)?;
     assert!(rt; left.as_slice() == even.as_slice());

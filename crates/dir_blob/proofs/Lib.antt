@@ -1,6 +1,1 @@
-pub mod Fields
-pub mod EntryCodec
-pub mod Bodies
-pub mod Past
-pub mod Edits
 pub mod Needs

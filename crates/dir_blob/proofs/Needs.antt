@@ -8,23 +8,26 @@ use Rattle.fs_model.proofs.TreeLemmas.{name_total, name_exact, name_same}
 use Rattle.blob_api.specs.BlobMap.{BlobMap}
 use Rattle.outcome.specs.Meanings.{Meanings}
 use Rattle.block_id.specs.declared.id.BlockId.{BlockId}
-use Rattle.block_id.specs.Contents.{resized, written}
+use Rattle.block_id.specs.Contents.{resized, written, pieces}
 use Rattle.block_id.proofs.Contents.{length-written}
 use Rattle.blob_api.specs.BlobMap.{BlobsSteady, IsSparing}
 use Rattle.fs_model.specs.declared.attr.Attr.{Attr}
 use Rattle.fs_model.specs.Tree.{name_cmp}
 use Rattle.fs_blobs.specs.Headers.{blob}
-use Rattle.dir_blob.specs.Layout.{EntryTarget, entry_text, IsEntry}
-use Rattle.dir_blob.specs.Places.{target_of, without, IsPlace}
+use Rattle.dir_entries.specs.Layout.{EntryTarget, entry_text, IsEntry}
+use Rattle.dir_entries.specs.Places.{target_of, without, IsPlace}
 use Rattle.dir_blob.specs.Directories.{HasEntries, HasName, HasRoom}
-use Rattle.dir_blob.proofs.Edits.{inserted, changed, removed, put_listing, without_listing, held_entry, place_within, more_pieces}
+use Rattle.dir_entries.proofs.Edits.{inserted, changed, removed, put_listing, without_listing, held_entry, place_within}
 use Rattle.std.proofs.lemmas.List.{take_all, length-drop}
+use Rattle.std.proofs.lemmas.Nat.{le-div}
+use Rattle.std.proofs.Math.Nat.{div-mul-le_self}
 use Rattle.blob_api.specs.declared.blobs.TheConstants.{MAX_BLOB}
 use Rattle.blob_api.specs.BlobMap.{Id, BlobHoldings}
 use Rattle.fs_model.specs.declared.attr.Kind.TheVariants.{Directory}
 use Rattle.fs_blobs.specs.declared.header.TheConstants.{HEADER_LEN}
 use Rattle.fs_blobs.specs.Blobs.{IsBlob}
-use Rattle.dir_blob.specs.Layout.{Listing, IsListing, body_of}
+use Rattle.fs_blobs.proofs.Parts.{map_here}
+use Rattle.dir_entries.specs.Layout.{Listing, IsListing, body_of}
 use Rattle.dir_blob.specs.Directories.{IsDirectory}
 
 abbrev pub blob_of : {S : Type 0} {H : BlobHoldings S} {a : S} {id : Id} → IsDirectory H a id → IsBlob H a id
@@ -36,9 +39,6 @@ blob_still n stands = record { map = n.map; stands = stands; kind = Directory; p
 
 pub whole : (body : List ℕ) → HEADER_LEN + length body ≤ MAX_BLOB → take MAX_BLOB (drop 0 body) ≡ body
 whole body fits = take_all MAX_BLOB body (omega (arith, fits))
-
-pub map_here : (m : BlobMap) (id : Id) (v : List ℕ) → get (insert m id v) id ≡ Some v
-map_here m id v = get-insert name_total m id v id ∙ ap (λ b. cond b (Some v) (get m id)) (name_same id)
 
 pub still_fits : (old : List ℕ) (from : ℕ) (bytes : List ℕ) → from + length bytes ≤ length old → HEADER_LEN + length old ≤ MAX_BLOB → HEADER_LEN + length (written old from bytes) ≤ MAX_BLOB
 still_fits old from bytes le fits = omega (arith, length-written old from bytes le, fits)
@@ -137,6 +137,9 @@ inserted_entries {H = H} {b = b} {id = id} name n front found back place target 
 pub when_ok : {T E P : Type 0} (r : Result T E) → P → IfOk r (λ _. P)
 when_ok (Ok x) h = h
 when_ok (Err e) h = tt
+
+more_pieces : (m n l : ℕ) → 1 ≤ l → m ≤ n → pieces m l ≤ pieces n l
+more_pieces m n l some le = le-div (pieces m l) (n + (l - 1)) l (omega arith) (omega (arith, div-mul-le_self (m + (l - 1)) l, le))
 
 -- the bound of a write within a body, from before the body was read
 pub sparing_over : {S : Type 0} {M : Meanings S} {H : BlobHoldings S} (steady : BlobsSteady M H) (a b c : S) (body front count : ℕ) → M.intact a → M.loaded a b → H.changed b ≡ H.changed a

@@ -10,7 +10,7 @@ use Rattle.fs_blobs.specs.declared.header.TheConstants.{HEADER_LEN}
 use Rattle.fs_blobs.specs.Headers.{blob}
 use Rattle.fs_model.specs.declared.limits.TheConstants.{MAX_ENTRIES}
 use Rattle.fs_model.specs.Tree.{name_cmp, entry_size}
-use Rattle.dir_blob.specs.Layout.{EntryTarget, Listing, IsListing, body_of}
+use Rattle.dir_entries.specs.Layout.{EntryTarget, Listing, IsListing, body_of}
 
 -- the store stands for a map in which the id is a directory of these entries
 pub record IsDirectory {S : Type 0} (H : BlobHoldings S) (a : S) (id : Id) : Type 0 where

@@ -4,14 +4,14 @@ ghost use Rattle.std.specs.FinMap.{find as found_in, put};
 ghost use Rattle.outcome.specs.Outcome.{Outcome};
 ghost use Rattle.blob_api.specs.BlobMap.{IsSparing};
 ghost use Rattle.fs_model.specs.Tree.{name_cmp, entry_size};
-ghost use Rattle.dir_blob.specs.Layout.{entry_of, entry_text, IsEntry, body_of};
-ghost use Rattle.dir_blob.specs.Places.{IsPlace, target_of, without};
+ghost use Rattle.dir_entries.specs.Layout.{entry_of, entry_text, IsEntry, body_of};
+ghost use Rattle.dir_entries.specs.Places.{IsPlace, target_of, without};
 ghost use Rattle.dir_blob.specs.Directories.{IsDirectory, HasEntries, HasRoom, HasName, OfEntries};
 
-use crate::encode::put_entry;
-use crate::{Entry, Located, locate, whole_body};
+use crate::whole_body;
 use blob_api::{Blobs, MAX_BLOB};
 use block_id::{BlockId, Fail, Why};
+use dir_entries::{Entry, Located, locate, put_entry};
 use fs_blobs::{HEADER_LEN, resize_body, write_body};
 use fs_model::{MAX_ENTRIES, MAX_MODE, Name};
 use rand_core::Rng;
@@ -55,16 +55,13 @@ pub fn remove<B: Blobs, R: Rng>(
 {
     let body = whole_body(alloc, b, dir)?;
     match locate(&body, name) {
-        Some(place) => {
-            if place.found.is_none() {
-                return Err(Fail::Violation(Why::Structure));
-            }
+        Some(place) if place.found.is_some() => {
             let front = place.front as u64;
             let back = &body[place.back..];
             write_body(alloc, b, dir, front, back, chance)?;
             resize_body(alloc, b, dir, front + back.len() as u64, chance)
         }
-        None => Err(Fail::Violation(Why::Structure)),
+        _ => Err(Fail::Violation(Why::Structure)),
     }
 }
 

@@ -1,16 +1,15 @@
 // Reading a directory that is a blob.
 ghost use Rattle.std.specs.Prelude.{◌≡◌, ◌≤◌, IfOk, IfSome, length};
 ghost use Rattle.std.specs.FinMap.{find as found_in};
-ghost use Rattle.std.specs.Option.{option_map};
 ghost use Rattle.outcome.specs.Outcome.{Outcome};
 ghost use Rattle.fs_model.specs.Tree.{name_cmp};
-ghost use Rattle.dir_blob.specs.Layout.{IsListing, listing_of, entry_of, body_of};
-ghost use Rattle.dir_blob.specs.Places.{target_of};
+ghost use Rattle.dir_entries.specs.Layout.{IsListing, listing_of, body_of};
+ghost use Rattle.dir_entries.specs.Places.{target_of};
 ghost use Rattle.dir_blob.specs.Directories.{IsDirectory};
 
-use crate::{Entry, decode_entries, locate};
 use blob_api::{Blobs, MAX_BLOB};
 use block_id::{BlockId, Fail, Why};
+use dir_entries::{Entry, decode_entries, locate};
 use fs_blobs::{HEADER_LEN, read_body};
 use fs_model::{Attr, MAX_MODE, Name};
 use std::alloc::Global;
@@ -65,28 +64,5 @@ pub fn find_target<B: Blobs>(
     match locate(&body, name) {
         Some(place) => Ok(place.found),
         None => Err(Fail::Violation(Why::Structure)),
-    }
-}
-
-/// The entry of a name.
-pub fn find<B: Blobs>(
-    alloc: Global,
-    b: &mut B,
-    dir: &BlockId,
-    name: &Name,
-) -> Result<Option<Entry>, Fail>
-    requires { B.meanings.intact b.old }
-    ensures outcome { Outcome B.meanings (IsDirectory B.holdings b.old dir.now.0) b.old b.new result
-        (λ n answer. B.holdings.stands_for b.new n.map × (found_in name_cmp name.now n.listing ≡ option_map (λ e. (entry_of e).1) answer)) }
-    ensures name { IfOk result (λ answer. IfSome answer (λ e. e.name ≡ name.now)) }
-    ensures mode { IfOk result (λ answer. IfSome answer (λ e. e.attr.mode ≤ MAX_MODE)) }
-    ensures unchanged { B.holdings.changed b.new ≡ B.holdings.changed b.old }
-{
-    match find_target(alloc, b, dir, name)? {
-        Some((attr, blob)) => {
-            let name = name.try_clone()?;
-            Ok(Some(Entry { name, attr, blob }))
-        }
-        None => Ok(None),
     }
 }

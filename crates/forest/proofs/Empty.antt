@@ -13,8 +13,8 @@ use Rattle.fs_model.specs.Tree.{Path, Row, root_row, empty_tree}
 use Rattle.fs_model.proofs.TreeLemmas.{name_split, insert_here}
 use Rattle.fs_model.proofs.WellFormedStep.{empty_well_formed, empty_at}
 use Rattle.fs_blobs.specs.Headers.{blob}
-use Rattle.dir_blob.specs.Layout.{IsEntry}
-use Rattle.dir_blob.proofs.Needs.{map_here}
+use Rattle.dir_entries.specs.Layout.{IsEntry}
+use Rattle.fs_blobs.proofs.Parts.{map_here}
 use Rattle.forest.specs.Nodes.{IsBlobOf}
 use Rattle.forest.specs.Shows.{above, target_for, entries_at, ShowsBy}
 use Rattle.forest.proofs.Forests.{map_apart}

@@ -14,8 +14,8 @@ use Rattle.fs_model.proofs.TreeLemmas.{same_name, path_total, path_exact, path_s
 use Rattle.fs_model.proofs.MoveLemmas.{strip-append, strip-is}
 use Rattle.fs_model.proofs.MovedTree.{not_above, strip_none, moved-here, moved-below, moved-off, moved-gone}
 use Rattle.fs_blobs.specs.Headers.{blob}
-use Rattle.dir_blob.specs.Layout.{EntryTarget}
-use Rattle.dir_blob.proofs.Needs.{map_here}
+use Rattle.dir_entries.specs.Layout.{EntryTarget}
+use Rattle.fs_blobs.proofs.Parts.{map_here}
 use Rattle.forest.specs.Nodes.{Look, Lists, IsBodyOf, IsForest}
 use Rattle.forest.specs.Shows.{above, target_for, entries_at, ShowsBy}
 use Rattle.forest.proofs.Forests.{blob_set, Carries, paths_renamed}

@@ -12,8 +12,8 @@ use Rattle.fs_model.specs.declared.attr.Kind.TheVariants.{Directory, File, Link}
 use Rattle.fs_model.specs.Tree.{Path, Row, Tree, same_path, is_directory, is_folder, IsWellFormed}
 use Rattle.fs_model.proofs.TreeLemmas.{same_name, name_same, name_apart, name_split, path_same, path_split, apart, insert_here, insert_apart, remove_here, remove_apart, none_of}
 use Rattle.fs_blobs.specs.Headers.{blob}
-use Rattle.dir_blob.specs.Layout.{EntryTarget}
-use Rattle.dir_blob.proofs.Needs.{map_here}
+use Rattle.dir_entries.specs.Layout.{EntryTarget}
+use Rattle.fs_blobs.proofs.Parts.{map_here}
 use Rattle.forest.specs.Nodes.{Look, Lists, IsBodyOf, IsBlobOf, IsForest}
 use Rattle.forest.specs.Shows.{above, target_for, entries_at, ShowsBy}
 use Rattle.forest.specs.Midst.{with_entry, ids_with}

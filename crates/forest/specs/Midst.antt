@@ -4,7 +4,7 @@ use Rattle.std.specs.declared.option.Option.{Option}
 use Rattle.blob_api.specs.BlobMap.{Id}
 use Rattle.fs_model.specs.Tree.{Path, same_path}
 use Rattle.fs_model.specs.Move.{moved}
-use Rattle.dir_blob.specs.Layout.{EntryTarget}
+use Rattle.dir_entries.specs.Layout.{EntryTarget}
 use Rattle.forest.specs.Nodes.{Look}
 
 -- entries with another one at this path

@@ -8,7 +8,7 @@ use Rattle.fs_model.specs.declared.attr.Kind.{Kind}
 use Rattle.fs_model.specs.declared.attr.Kind.TheVariants.{Directory, File, Link}
 use Rattle.fs_model.specs.Tree.{Path, Row, Tree, name_cmp}
 use Rattle.fs_blobs.specs.Headers.{blob}
-use Rattle.dir_blob.specs.Layout.{EntryTarget, Listing, IsBody}
+use Rattle.dir_entries.specs.Layout.{EntryTarget, Listing, IsBody}
 
 -- what the entries of a directory have under a name
 abbrev pub Look : Type 0

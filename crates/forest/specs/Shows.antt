@@ -6,7 +6,7 @@ use Rattle.std.specs.declared.option.Option.TheVariants.{None, Some}
 use Rattle.block_id.specs.Fresh.{zero_id}
 use Rattle.blob_api.specs.BlobMap.{Id, BlobMap}
 use Rattle.fs_model.specs.Tree.{Path, Row, Tree, IsWellFormed}
-use Rattle.dir_blob.specs.Layout.{EntryTarget}
+use Rattle.dir_entries.specs.Layout.{EntryTarget}
 use Rattle.forest.specs.Nodes.{Look, IsForest}
 
 -- the parent that a header names: the blob of the directory above, and sixteen zero bytes for the root

@@ -1,5 +1,5 @@
 -- What is read stands in front, and what stands in front is read.
-use Rattle.std.proofs.Common.{◌≡◌, ℕ, zero, suc, cond, eqb, List, [], ◌∷◌, ◌++◌, length, drop, refl, sym, ap, subst, ◌∙◌, arith}
+use Rattle.std.proofs.Common.{◌≡◌, ℕ, cond, eqb, List, [], ◌∷◌, ◌++◌, length, drop, refl, sym, ap, subst, ◌∙◌, arith}
 use Rattle.std.specs.Prelude.{not, Option, Some, None, option_and_then, IfSome, IsSomeAnd}
 use Rattle.std.specs.Option.{option_map}
 use Rattle.std.specs.Int.{w16, to_le_bytes}
@@ -7,24 +7,13 @@ use Rattle.std.proofs.lemmas.Bool.{eqb-true, not-false}
 use Rattle.std.proofs.lemmas.List.{drop_at}
 use Rattle.std.proofs.lemmas.Option.{some_pair_parts}
 use Rattle.fs_model.specs.declared.attr.Kind.{Kind}
-use Rattle.fs_model.specs.declared.attr.Kind.TheVariants.{Directory, File, Link}
 use Rattle.byte_fields.specs.Fields.{IsBytes, front_at, number_at}
 use Rattle.byte_fields.proofs.Fields.{some_behind, bound, mapped, fronts, front_again, wide16, number_takes, number_again}
 use Rattle.fs_blobs.specs.declared.header.Header.{Header}
-use Rattle.fs_blobs.specs.Kinds.{byte_of, kind_at}
+use Rattle.fs_model.specs.Kinds.{byte_of, kind_at}
+use Rattle.fs_model.proofs.KindBytes.{kind_takes, kind_again}
 use Rattle.fs_blobs.specs.Headers.{BeginsWith, header_text, blob}
 use Rattle.fs_blobs.specs.Reading.{parts_of, parts_at, header_at}
-
-pub kind_takes : (byte : ℕ) (kind : Kind) → kind_at byte ≡ Some kind → byte ≡ byte_of kind
-kind_takes zero kind e = let is : Directory ≡ kind = cc in ap byte_of is
-kind_takes (suc zero) kind e = let is : File ≡ kind = cc in ap byte_of is
-kind_takes (suc (suc zero)) kind e = let is : Link ≡ kind = cc in ap byte_of is
-kind_takes (suc (suc (suc byte))) kind e = absurd cc
-
-pub kind_again : (kind : Kind) → kind_at (byte_of kind) ≡ Some kind
-kind_again Directory = refl
-kind_again File = refl
-kind_again Link = refl
 
 parts_take : (bytes : List ℕ) (kind : Kind) (parent : List ℕ) → parts_at bytes ≡ Some (kind, parent) → (body : List ℕ) × (bytes ≡ byte_of kind ∷ (parent ++ body)) × (length parent ≡ 16)
 parts_take [] kind parent e = absurd cc

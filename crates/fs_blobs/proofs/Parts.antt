@@ -1,16 +1,18 @@
 -- A blob as its header and its body.
-use Rattle.std.specs.Prelude.{◌≡◌, ℕ, ◌+◌, ◌-◌, ◌≤◌, List, [], ◌∷◌, ◌++◌, length, take, drop}
+use Rattle.std.specs.Prelude.{◌≡◌, ℕ, ◌+◌, ◌-◌, ◌≤◌, List, [], ◌∷◌, ◌++◌, length, take, drop, cond, Some}
 use Rattle.std.proofs.Common.{sym, ◌∙◌, ap, arith}
 use Rattle.std.specs.Int.{w16, to_le_bytes}
+use Rattle.std.specs.FinMap.{get, insert, get-insert}
 use Rattle.std.proofs.lemmas.List.{length-append, drop_all, append-nil}
 use Rattle.std.proofs.Math.Seq.{drop-append-add, take-append_seam}
 use Rattle.blob_api.specs.declared.blobs.TheConstants.{MAX_BLOB}
 use Rattle.fs_blobs.specs.declared.header.TheConstants.{HEADER_LEN}
 use Rattle.block_id.specs.Contents.{resized, written}
 use Rattle.block_id.proofs.Contents.{resized_behind, written_behind, written_inside}
-use Rattle.blob_api.specs.BlobMap.{Id, BlobHoldings, Has}
+use Rattle.blob_api.specs.BlobMap.{Id, BlobMap, BlobHoldings, Has}
 use Rattle.fs_model.specs.declared.attr.Kind.{Kind}
-use Rattle.fs_blobs.specs.Kinds.{byte_of}
+use Rattle.fs_model.specs.Kinds.{byte_of}
+use Rattle.fs_model.proofs.TreeLemmas.{name_total, name_same}
 use Rattle.fs_blobs.specs.Headers.{header_text, blob, BeginsWith}
 use Rattle.fs_blobs.specs.Blobs.{IsBlob}
 
@@ -50,3 +52,7 @@ pub header_alone : (kind : Kind) (parent : Id) (body : List ℕ) → length pare
 header_alone kind parent body wide =
     let is : take 19 (blob kind parent body) ≡ header_text kind parent = ap (λ k. take k (blob kind parent body)) (sym (length-header kind parent wide)) ∙ take-append_seam (header_text kind parent) body in
     record { id = wide; text = is ∙ (sym (append-nil (header_text kind parent)) ∙ ap (λ x. header_text kind parent ++ x) (sym (drop_all 19 (take 19 (blob kind parent body)) (omega (arith, ap length is, length-header kind parent wide))))) }
+
+-- the blob that was put under an id
+pub map_here : (m : BlobMap) (id : Id) (v : List ℕ) → get (insert m id v) id ≡ Some v
+map_here m id v = get-insert name_total m id v id ∙ ap (λ b. cond b (Some v) (get m id)) (name_same id)

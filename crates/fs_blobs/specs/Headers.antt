@@ -3,7 +3,7 @@ use Rattle.std.specs.Prelude.{◌≡◌, ℕ, List, ◌∷◌, ◌++◌, length,
 use Rattle.std.specs.Int.{w16, to_le_bytes}
 use Rattle.fs_model.specs.declared.attr.Kind.{Kind}
 use Rattle.fs_blobs.specs.declared.header.TheConstants.{HEADER_LEN}
-use Rattle.fs_blobs.specs.Kinds.{byte_of}
+use Rattle.fs_model.specs.Kinds.{byte_of}
 
 -- a u16 1, the kind's byte and the parent's id
 abbrev pub header_text : Kind → List ℕ → List ℕ

@@ -1,4 +1,3 @@
-pub mod Kinds
 pub mod Headers
 pub mod Reading
 pub mod Blobs

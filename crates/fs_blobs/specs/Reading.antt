@@ -5,7 +5,7 @@ use Rattle.std.specs.Int.{w16}
 use Rattle.byte_fields.specs.Fields.{front_at, number_at}
 use Rattle.fs_model.specs.declared.attr.Kind.{Kind}
 use Rattle.fs_blobs.specs.declared.header.Header.{Header}
-use Rattle.fs_blobs.specs.Kinds.{kind_at}
+use Rattle.fs_model.specs.Kinds.{kind_at}
 
 abbrev pub parts_of : Header → Kind × List ℕ
 parts_of h = (h.kind, h.parent.0)

@@ -5,10 +5,9 @@ ghost use Rattle.fs_blobs.specs.Headers.{BeginsWith, header_text};
 ghost use Rattle.fs_blobs.specs.Reading.{header_at, parts_at, parts_of};
 ghost use Rattle.fs_model.specs.declared.attr.Kind.{Kind as KindText};
 
-use crate::{kind_byte, kind_from};
 use block_id::BlockId;
 use byte_fields::{take_id, take_u16};
-use fs_model::Kind;
+use fs_model::{Kind, kind_byte, kind_from};
 
 /// The format's number, with which each blob begins.
 pub const BLOB_FORMAT: u16 = 1;

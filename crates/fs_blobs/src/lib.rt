@@ -3,8 +3,6 @@
 
 mod body;
 mod header;
-mod kind;
 
 pub use body::{blob_header, body_len, new_blob, read_body, resize_body, set_parent, write_body};
 pub use header::{BLOB_FORMAT, HEADER_LEN, Header, header_bytes, one_header, read_header};
-pub use kind::{kind_byte, kind_from};

@@ -5,6 +5,7 @@ mod attr;
 mod bytes;
 mod command;
 mod error;
+mod kind;
 pub mod laws;
 mod limits;
 mod moment;
@@ -18,6 +19,7 @@ pub use block_id::Memory;
 pub use bytes::ByteText;
 pub use command::Command;
 pub use error::{FsError, PathError};
+pub use kind::{kind_byte, kind_from};
 pub use limits::{
     ENTRY_SIZE, MAX_ENTRIES, MAX_FILE, MAX_GROWTH, MAX_MODE, MAX_NAME, MAX_PATH_TEXT, MAX_READ,
     MAX_TARGET, NANOS_PER_SEC,

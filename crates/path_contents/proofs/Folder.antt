@@ -15,7 +15,7 @@ use Rattle.path_walks.proofs.Steps.{folder_is}
 use Rattle.fs_model.specs.declared.attr.Attr.{Attr}
 use Rattle.fs_model.specs.declared.reply.ListRow.{ListRow}
 use Rattle.std.specs.FinMap.Entries.{is_sorted}
-use Rattle.dir_blob.specs.Layout.{EntryTarget, Listing}
+use Rattle.dir_entries.specs.Layout.{EntryTarget, Listing}
 use Rattle.forest.specs.Shows.{entries_at}
 use Rattle.path_walks.proofs.Sizes.{with_values, attrs_shown}
 

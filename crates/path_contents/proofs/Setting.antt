@@ -17,12 +17,12 @@ use Rattle.fs_model.proofs.TreeLemmas.{same_name}
 use Rattle.fs_blobs.specs.declared.header.TheConstants.{HEADER_LEN}
 use Rattle.fs_blobs.specs.Headers.{blob}
 use Rattle.fs_blobs.specs.Blobs.{IsBlob}
-use Rattle.dir_blob.specs.Layout.{EntryTarget, body_of, IsListing}
+use Rattle.dir_entries.specs.Layout.{EntryTarget, body_of, IsListing}
 use Rattle.dir_blob.specs.Directories.{HasName, HasEntries}
 use Rattle.forest.specs.Nodes.{Look, Lists, IsBodyOf, IsBlobOf}
 use Rattle.forest.specs.Shows.{above, target_for, entries_at}
 use Rattle.forest.proofs.Forests.{map_apart}
-use Rattle.dir_blob.proofs.Bodies.{no_more}
+use Rattle.dir_entries.proofs.Bodies.{no_more}
 use Rattle.forest.proofs.Shown.{IsFolderRow, folder_row, attributes_show, content_shows}
 use Rattle.forest.specs.Showing.{IsShownBy}
 use Rattle.path_contents.specs.Changes.{Setting}

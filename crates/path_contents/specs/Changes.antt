@@ -4,7 +4,7 @@ use Rattle.std.specs.FinMap.{get, insert}
 use Rattle.std.specs.declared.option.Option.TheVariants.{Some}
 use Rattle.blob_api.specs.BlobMap.{Id, BlobMap, BlobHoldings}
 use Rattle.fs_model.specs.Tree.{Path, Row, Tree, IsWellFormed, FitsKind}
-use Rattle.dir_blob.specs.Layout.{EntryTarget}
+use Rattle.dir_entries.specs.Layout.{EntryTarget}
 use Rattle.forest.specs.Shows.{ShowsBy}
 
 -- a row that gets other attributes of its kind: the entry e says them

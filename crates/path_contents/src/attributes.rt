@@ -13,7 +13,7 @@ ghost use Rattle.path_walks.specs.Sights.{Finding};
 use crate::changes::set_entry;
 use blob_api::Blobs;
 use block_id::{BlockId, Fail};
-use dir_blob::Entry;
+use dir_entries::Entry;
 use fs_model::{FsError, MAX_MODE, Moment, Name, Reply};
 use path_walks::{Place, Reached, done, reach};
 use rand_core::Rng;

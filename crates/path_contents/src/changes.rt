@@ -5,14 +5,15 @@ ghost use Rattle.fs_model.specs.declared.attr.Kind.TheVariants.{File};
 ghost use Rattle.outcome.specs.Outcome.{Outcome};
 ghost use Rattle.block_id.specs.Contents.{resized, written};
 ghost use Rattle.fs_model.specs.Tree.{directory_size};
-ghost use Rattle.dir_blob.specs.Layout.{entry_of};
+ghost use Rattle.dir_entries.specs.Layout.{entry_of};
 ghost use Rattle.forest.specs.Showing.{IsShownBy};
 ghost use Rattle.path_contents.specs.Changes.{Setting};
 ghost use Rattle.path_contents.specs.Sparing.{IsSparingTwice};
 
 use blob_api::Blobs;
 use block_id::{BlockId, Fail};
-use dir_blob::{Entry, change};
+use dir_blob::change;
+use dir_entries::Entry;
 use fs_blobs::{resize_body, write_body};
 use fs_model::{MAX_FILE, MAX_MODE};
 use rand_core::Rng;

@@ -13,7 +13,7 @@ use crate::changes::{resize_at, write_at};
 use crate::places::content_refusal;
 use blob_api::Blobs;
 use block_id::{BlockId, Fail, Memory};
-use dir_blob::Entry;
+use dir_entries::Entry;
 use fs_blobs::body_len;
 use fs_model::{Attr, FsError, MAX_MODE, Moment, Name, Reply};
 use path_walks::{Place, Reached, done, reach};

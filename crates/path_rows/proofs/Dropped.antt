@@ -10,8 +10,8 @@ use Rattle.fs_model.specs.Tree.{is_folder}
 use Rattle.fs_blobs.specs.Headers.{blob}
 use Rattle.fs_blobs.proofs.Parts.{blob_fits}
 use Rattle.fs_model.proofs.TreeLemmas.{same_name}
-use Rattle.dir_blob.specs.Layout.{body_of, IsListing}
-use Rattle.dir_blob.specs.Places.{without}
+use Rattle.dir_entries.specs.Layout.{body_of, IsListing}
+use Rattle.dir_entries.specs.Places.{without}
 use Rattle.dir_blob.specs.Directories.{HasName, HasEntries}
 use Rattle.forest.specs.Nodes.{Lists, IsBlobOf, IsForest}
 use Rattle.forest.specs.Shows.{above, target_for, entries_at, ShowsBy}

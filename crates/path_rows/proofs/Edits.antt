@@ -12,8 +12,8 @@ use Rattle.block_id.proofs.Conditions.{true_of}
 use Rattle.fs_model.specs.Names.{IsName}
 use Rattle.fs_model.specs.Tree.{name_cmp, entry_size, entries_size}
 use Rattle.fs_model.proofs.TreeLemmas.{same_name, name_total, name_exact, name_same, name_apart, name_split}
-use Rattle.dir_blob.specs.Layout.{EntryTarget, Listing, body_of, IsEntry, IsListing}
-use Rattle.dir_blob.specs.Places.{without}
+use Rattle.dir_entries.specs.Layout.{EntryTarget, Listing, body_of, IsEntry, IsListing}
+use Rattle.dir_entries.specs.Places.{without}
 use Rattle.forest.specs.Nodes.{Look, Lists}
 
 pub entries_without : (listing : Listing) (n k : List ℕ) → find name_cmp k (without n listing) ≡ cond (same_name k n) None (find name_cmp k listing)

@@ -26,7 +26,7 @@ use Rattle.path_rows.specs.Moves.{Moving, Heading}
 use Rattle.path_walks.proofs.Steps.{directory_seen, folder_is}
 use Rattle.path_walks.proofs.Nodes.{size_at}
 use Rattle.dir_blob.specs.Directories.{IsDirectory}
-use Rattle.dir_blob.specs.Layout.{EntryTarget, body_of}
+use Rattle.dir_entries.specs.Layout.{EntryTarget, body_of}
 
 module _ {S : Type 0} {H : BlobHoldings S} {a : S} {now : Instant} {from : Place} {n : List ℕ} {place to : Place} {k : List ℕ} (w : Heading H a now from n place to k) where
   abbrev pub next : Tree

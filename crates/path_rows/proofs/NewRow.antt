@@ -18,7 +18,7 @@ use Rattle.fs_model.specs.Step.{Stepped, refused, done, made}
 use Rattle.fs_model.proofs.LookUpLemmas.{look-walk}
 use Rattle.fs_model.proofs.WellFormedStep.{insert_free}
 use Rattle.fs_blobs.specs.Headers.{blob}
-use Rattle.dir_blob.specs.Layout.{EntryTarget, body_of, IsEntry}
+use Rattle.dir_entries.specs.Layout.{EntryTarget, body_of, IsEntry}
 use Rattle.dir_blob.specs.Directories.{IsDirectory, HasRoom, HasEntries}
 use Rattle.forest.specs.Nodes.{IsBodyOf}
 use Rattle.forest.specs.Shows.{above, target_for, entries_at, ShowsBy}

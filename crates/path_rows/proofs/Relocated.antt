@@ -14,8 +14,8 @@ use Rattle.fs_model.proofs.MovedTree.{parent_off_p}
 use Rattle.fs_blobs.specs.declared.header.TheConstants.{HEADER_LEN}
 use Rattle.fs_blobs.specs.Headers.{blob}
 use Rattle.fs_blobs.specs.Blobs.{IsBlob}
-use Rattle.dir_blob.specs.Layout.{EntryTarget, body_of}
-use Rattle.dir_blob.specs.Places.{without}
+use Rattle.dir_entries.specs.Layout.{EntryTarget, body_of}
+use Rattle.dir_entries.specs.Places.{without}
 use Rattle.dir_blob.specs.Directories.{HasName, HasRoom, HasEntries}
 use Rattle.forest.specs.Nodes.{Look, Lists, IsBlobOf, IsForest}
 use Rattle.forest.specs.Shows.{above, target_for, entries_at}

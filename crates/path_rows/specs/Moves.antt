@@ -10,7 +10,7 @@ use Rattle.fs_model.specs.Instant.{Instant}
 use Rattle.fs_model.specs.Tree.{Path, Row, Tree, IsWellFormed}
 use Rattle.fs_model.specs.Move.{CanMove}
 use Rattle.fs_model.specs.Step.{with_ctime, moved_tree}
-use Rattle.dir_blob.specs.Layout.{EntryTarget}
+use Rattle.dir_entries.specs.Layout.{EntryTarget}
 use Rattle.forest.specs.Shows.{ShowsBy}
 use Rattle.path_walks.specs.declared.spots.Place.{Place}
 use Rattle.path_walks.specs.Sights.{IsAt}

@@ -3,7 +3,7 @@ ghost use Rattle.std.specs.Prelude.{◌≤◌, ◌∷◌};
 ghost use Rattle.std.specs.FinMap.{remove as without_key};
 ghost use Rattle.outcome.specs.Outcome.{Outcome};
 ghost use Rattle.fs_model.specs.Step.{moved_tree};
-ghost use Rattle.dir_blob.specs.Layout.{entry_of};
+ghost use Rattle.dir_entries.specs.Layout.{entry_of};
 ghost use Rattle.forest.specs.Midst.{moved_ids};
 ghost use Rattle.forest.specs.Showing.{IsShownBy};
 ghost use Rattle.path_rows.specs.Changes.{Dropping};
@@ -11,7 +11,8 @@ ghost use Rattle.path_rows.specs.Moves.{Moving};
 
 use blob_api::Blobs;
 use block_id::{BlockId, Fail};
-use dir_blob::{Entry, insert, remove};
+use dir_blob::{insert, remove};
+use dir_entries::Entry;
 use fs_blobs::set_parent;
 use fs_model::{MAX_MODE, Name};
 use rand_core::Rng;

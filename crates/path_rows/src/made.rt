@@ -11,7 +11,8 @@ ghost use Rattle.path_walks.specs.Replies.{IsChangeReply};
 
 use blob_api::Blobs;
 use block_id::{BlockId, Fail};
-use dir_blob::{Entry, insert};
+use dir_blob::insert;
+use dir_entries::Entry;
 use fs_blobs::{Header, body_len, new_blob};
 use fs_model::{Attr, ENTRY_SIZE, FsError, MAX_ENTRIES, MAX_MODE, MAX_TARGET, Name, Reply};
 use rand_core::Rng;

@@ -12,7 +12,7 @@ ghost use Rattle.path_rows.specs.Moves.{Heading, Replacing, ids_then};
 use crate::changes::{drop_at, relocate};
 use blob_api::Blobs;
 use block_id::{BlockId, Fail};
-use dir_blob::Entry;
+use dir_entries::Entry;
 use fs_blobs::body_len;
 use fs_model::{Attr, ENTRY_SIZE, FsError, MAX_ENTRIES, MAX_MODE, Moment, Name, Reply};
 use path_walks::Place;

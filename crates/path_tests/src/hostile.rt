@@ -1,7 +1,8 @@
 // Blobs that show no tree: each command returns, with an error or a reply of its form.
 use crate::site::{Site, answer, asked, empty_site};
 use block_id::{BlockId, Fail as Failure, Why};
-use dir_blob::{Entry, insert};
+use dir_blob::insert;
+use dir_entries::Entry;
 use fs_blobs::{Header, new_blob};
 use fs_model::{Attr, FILE_MODE, Kind, Moment, Name, Reply};
 use std::alloc::Global;

@@ -11,7 +11,7 @@ use Rattle.fs_model.specs.declared.attr.Kind.TheVariants.{Directory, File, Link}
 use Rattle.fs_model.specs.Tree.{Path, Row, Tree, directory_size, name_cmp, FitsKind}
 use Rattle.fs_blobs.specs.declared.header.TheConstants.{HEADER_LEN}
 use Rattle.fs_blobs.specs.Headers.{blob}
-use Rattle.dir_blob.specs.Layout.{EntryTarget, Listing, body_of, IsEntry, IsListing}
+use Rattle.dir_entries.specs.Layout.{EntryTarget, Listing, body_of, IsEntry, IsListing}
 use Rattle.dir_blob.specs.Directories.{IsDirectory}
 use Rattle.forest.specs.Nodes.{Look, Lists, IsBodyOf}
 use Rattle.forest.specs.Shows.{above, target_for, entries_at, ShowsBy}

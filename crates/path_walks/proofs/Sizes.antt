@@ -14,8 +14,8 @@ use Rattle.std.proofs.lemmas.List.Elements.{All-head, All-tail}
 use Rattle.blob_api.specs.BlobMap.{Id}
 use Rattle.fs_model.specs.Tree.{Path, Row, Tree, name_cmp, children, entry_size, entries_size, directory_size}
 use Rattle.fs_model.proofs.TreeLemmas.{get-children, name_total, name_exact}
-use Rattle.dir_blob.specs.Layout.{EntryTarget, Listing, entry_text, body_of, IsEntry}
-use Rattle.dir_blob.proofs.Edits.{entry_length}
+use Rattle.dir_entries.specs.Layout.{EntryTarget, Listing, entry_text, body_of, IsEntry}
+use Rattle.dir_entries.proofs.Edits.{entry_length}
 use Rattle.forest.specs.Shows.{target_for, entries_at}
 
 abbrev pub with_values : {K X Y : Type 0} → (X → Y) → List (K × X) → List (K × Y)

@@ -2,8 +2,8 @@
 use Rattle.std.proofs.Common.{◌++◌, drop, subst, ◌∙◌, ap}
 use Rattle.std.proofs.lemmas.Result.{err_from_is_err_and}
 use Rattle.outcome.specs.Outcome.{passed, answered, no_memory, unbuilt}
-use Rattle.dir_blob.specs.Layout.{entry_of, entry_text, IsBody}
-use Rattle.dir_blob.specs.Places.{IsPlace, target_of}
+use Rattle.dir_entries.specs.Layout.{entry_of, entry_text, IsBody}
+use Rattle.dir_entries.specs.Places.{IsPlace, target_of}
 use Rattle.dir_blob.proofs.changes.read_for.Goals as goal
 
 pub returns-in_err-body-clause-outcome : goal.returns-in_err-body-clause-outcome

@@ -1,33 +1,24 @@
 -- What a removal comes to.
-use Rattle.std.proofs.Common.{◌≡◌, ◌+◌, ◌-◌, true, false, not, is_some, length, take, drop, refl, sym, ◌∙◌, ap, arith}
+use Rattle.std.proofs.Common.{◌≡◌, ◌+◌, ◌-◌, true, false, is_some, length, take, drop, refl, sym, ◌∙◌, ap, arith}
 use Rattle.std.specs.FinMap.{insert}
 use Rattle.std.proofs.lemmas.Result.{err_from_is_err_and}
 use Rattle.outcome.specs.Outcome.{first_, then_, passed, failed_, unbuilt}
 use Rattle.fs_blobs.specs.Headers.{blob}
 use Rattle.fs_model.specs.declared.attr.Kind.TheVariants.{Directory}
-use Rattle.dir_blob.specs.Layout.{body_of, IsBody}
-use Rattle.std.proofs.Common.{Ok}
+use Rattle.dir_entries.specs.Layout.{body_of, IsBody}
+use Rattle.std.proofs.Common.{Ok, None}
 use Rattle.std.proofs.lemmas.List.{length-drop}
 use Rattle.block_id.specs.Contents.{written}
 use Rattle.outcome.specs.Outcome.{Outcome}
 use Rattle.dir_blob.specs.Directories.{HasName}
 use Rattle.dir_blob.proofs.Needs.{blob_still, slice_rest, present_is, found_there, blob_written, removed_entries, when_ok}
 use Rattle.dir_blob.proofs.changes.remove.Goals as goal
+use Rattle.dir_blob.proofs.changes.remove.Goals.{in_default-2, in_default}
 
 pub returns-in_err-body-clause-outcome : goal.returns-in_err-body-clause-outcome
 returns-in_err-body-clause-outcome g c =
     let p = err_from_is_err_and c.from_residual.result c.from_residual.ensures.1 in
     rw (p.1, p.2) (passed (first_ {R = λ _ _. Unit {0}} (λ n. n.is) c.in_err-body.ensures.outcome (λ _ _ _. tt)))
-
-pub returns-then-is_none-clause-outcome : goal.returns-then-is_none-clause-outcome
-returns-then-is_none-clause-outcome g c =
-    unbuilt g.met.B.Blobs.lawful (first_ (λ n. n.is) c.in_ok-body.ensures.outcome (λ n y h. h))
-    (λ n h.
-    let body : IsBody c.deref.result.now n.is.listing = record { entries = n.is.entries; text = c.deref.ensures.value ∙ h.1 } in
-    let place = c.in-Some.ensures.place n.is.listing body in
-    let there : is_some c.in-Some.place.found ≡ true = present_is c.in-Some.place.found n.target (sym place.finds ∙ n.present) in
-    let bad : true ≡ false = sym there ∙ (c.is_none.ensures ∙ ap not c.if-is_none.true) in
-    cc)
 
 pub returns-in_err-write_body-in-Some-clause-outcome : goal.returns-in_err-write_body-in-Some-clause-outcome
 returns-in_err-write_body-in-Some-clause-outcome g c =
@@ -64,11 +55,20 @@ returns-in-Some-clause-present g c = λ n sound unforged.
     let read = c.in_ok-body.ensures.outcome.value n sound (omega (arith, wrote, cut, unforged)) in
     let body : IsBody c.deref.result.now n.listing = record { entries = n.entries; text = c.deref.ensures.value ∙ read.1 } in
     let place = c.in-Some.ensures.place n.listing body in
-    when_ok c.resize_body.result (ap is_some place.finds ∙ found_there c.in-Some.place.found (c.is_none.ensures ∙ ap not c.if-is_none.false))
+    when_ok c.resize_body.result (ap is_some place.finds ∙ found_there c.in-Some.place.found (sym c.is_some.ensures ∙ c.if-is_some.true))
 
 pub returns-clause-outcome : goal.returns-clause-outcome
 returns-clause-outcome g c =
-    unbuilt g.met.B.Blobs.lawful (first_ (λ n. n.is) c.in_ok-body.ensures.outcome (λ n y h. h))
-    (λ n h.
-    let body : IsBody c.deref.result.now n.is.listing = record { entries = n.is.entries; text = c.deref.ensures.value ∙ h.1 } in
-    c.in-None.ensures.place n.is.listing body)
+    elim c.match-locate.branch [
+      | in_default-2 w ↦ rw w.result-is (unbuilt g.met.B.Blobs.lawful (first_ (λ n. n.is) c.in_ok-body.ensures.outcome (λ n y h. h)) (λ n h.
+          let body : IsBody c.deref.result.now n.is.listing = record { entries = n.is.entries; text = c.deref.ensures.value ∙ h.1 } in
+          let place = w.in-Some.ensures.place n.is.listing body in
+          let there : is_some w.in-Some.place.found ≡ true = present_is w.in-Some.place.found n.target (sym place.finds ∙ n.present) in
+          let bad : true ≡ false = sym there ∙ (sym w.is_some.ensures ∙ w.if-is_some.false) in
+          cc))
+      | in_default w ↦
+          let none : c.locate.result ≡ None = w.in_default.is in
+          rw w.result-is (unbuilt g.met.B.Blobs.lawful (first_ (λ n. n.is) c.in_ok-body.ensures.outcome (λ n y h. h)) (λ (n : HasName g.B.Blobs.holdings c.args.b.now c.args.dir.now.0 c.args.name.now) h.
+          let body : IsBody c.deref.result.now n.is.listing = record { entries = n.is.entries; text = c.deref.ensures.value ∙ h.1 } in
+          rw none at (c.locate.ensures.place n.is.listing body)))
+    ]

@@ -1,7 +1,7 @@
 use Rattle.std.proofs.Common.{◌∙◌}
 use Rattle.std.proofs.lemmas.Result.{err_from_is_err_and}
 use Rattle.outcome.specs.Outcome.{passed, answered, unbuilt}
-use Rattle.dir_blob.specs.Layout.{IsBody}
+use Rattle.dir_entries.specs.Layout.{IsBody}
 use Rattle.dir_blob.proofs.reads.find_target.Goals as goal
 
 pub returns-in_err-body-clause-outcome : goal.returns-in_err-body-clause-outcome

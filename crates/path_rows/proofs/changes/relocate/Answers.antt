@@ -1,7 +1,7 @@
 use Rattle.std.proofs.Common.{Ok}
 use Rattle.std.proofs.lemmas.Result.{err_from_is_err_and}
 use Rattle.outcome.specs.Outcome.{Outcome, first_, then_, failed_, passed}
-use Rattle.dir_blob.specs.Layout.{entry_of}
+use Rattle.dir_entries.specs.Layout.{entry_of}
 use Rattle.path_rows.specs.Moves.{Moving}
 use Rattle.path_rows.proofs.Relocated.{IsOnTheWay, looks1, looks2, has_name, gone, has_room, came, blob_moved, relocated}
 use Rattle.path_rows.proofs.changes.relocate.Goals as goal

@@ -1,5 +1,0 @@
-use Rattle.dir_blob.proofs.Bodies.{one_listing}
-use Rattle.dir_blob.proofs.decode.one_reading.Goals as goal
-
-pub returns : goal.returns
-returns c = one_listing

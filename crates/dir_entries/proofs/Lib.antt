@@ -1,0 +1,5 @@
+pub mod Fields
+pub mod EntryCodec
+pub mod Bodies
+pub mod Past
+pub mod Edits
