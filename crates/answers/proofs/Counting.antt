@@ -1,7 +1,8 @@
 -- The summary of one answer more.
-use Rattle.std.proofs.Common.{◌≡◌, ◌+◌, ℕ, List, ◌∷◌, length, sym, ap, ◌∙◌, arith, cond}
+use Rattle.std.proofs.Common.{◌≡◌, ◌+◌, ℕ, List, ◌∷◌, length, refl, sym, ap, ◌∙◌, arith, cond}
 use Rattle.std.proofs.lemmas.List.Sums.{sum_by-cons}
 use Rattle.std.specs.List.{count_by, sum_by}
+use Rattle.fs_model.specs.declared.reply.Reply.{Reply}
 use Rattle.fs_model.specs.declared.reply.Reply.TheVariants.{Done, Rows, Info, Target, Content, Error}
 use Rattle.answers.specs.declared.answer.Answer.{Answer}
 use Rattle.answers.specs.declared.answer.Answer.TheVariants.{Reply as Replied, Memory, Spent, FaultDirectory, FaultState, Violation, Refused}
@@ -57,3 +58,14 @@ more Refused rest = summary-cons Refused rest _ _ _ _ _ (omega arith) (omega ari
 -- the counts now are those before with this answer more
 pub counted : (a b : Answer) (old now : Counts) (answers : List Answer) → a ≡ b → now ≡ one_more b old → old ≡ summary_of answers → now ≡ summary_of (a ∷ answers)
 counted a b old now answers e f g = f ∙ (ap (one_more b) g ∙ (more b answers ∙ ap (λ (x : Answer). summary_of (x ∷ answers)) (sym e)))
+
+-- the same of an answer that is no reply
+pub counted_other : (a : Answer) (old now : Counts) (answers : List Answer) → ((reply : Reply) → ¬ (a ≡ Replied reply)) → now ≡ with_other old → old ≡ summary_of answers
+    → now ≡ summary_of (a ∷ answers)
+counted_other (Replied reply) old now answers none f g = absurd (none reply refl)
+counted_other Memory old now answers none f g = counted Memory Memory old now answers refl f g
+counted_other Spent old now answers none f g = counted Spent Spent old now answers refl f g
+counted_other FaultDirectory old now answers none f g = counted FaultDirectory FaultDirectory old now answers refl f g
+counted_other FaultState old now answers none f g = counted FaultState FaultState old now answers refl f g
+counted_other (Violation why) old now answers none f g = counted (Violation why) (Violation why) old now answers refl f g
+counted_other Refused old now answers none f g = counted Refused Refused old now answers refl f g

@@ -45,12 +45,7 @@ impl Summary {
     {
         match answer {
             Answer::Reply(reply) => self.add_reply(reply),
-            Answer::Memory => self.add_other(),
-            Answer::Spent => self.add_other(),
-            Answer::FaultDirectory => self.add_other(),
-            Answer::FaultState => self.add_other(),
-            Answer::Violation(_) => self.add_other(),
-            Answer::Refused => self.add_other(),
+            _ => self.add_other(),
         }
     }
 

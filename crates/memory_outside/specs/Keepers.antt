@@ -2,7 +2,7 @@
 use Rattle.std.specs.Prelude.{ℕ, Bool, nat_le, ◌==◌, List, [], ◌∷◌, if◌then◌else◌}
 use Rattle.std.specs.declared.option.Option.{Option}
 use Rattle.std.specs.declared.option.Option.TheVariants.{None, Some}
-use Rattle.memory_outside.specs.MemoryStreams.{one_more}
+use Rattle.outside.specs.Causes.{one_more}
 use Rattle.memory_outside.specs.Vaults.{is_listed}
 
 pub record KeeperState : Type 0 where

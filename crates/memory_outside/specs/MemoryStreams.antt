@@ -1,11 +1,8 @@
 -- What streams in memory hold, and how often they were called.
-use Rattle.std.specs.Prelude.{◌≡◌, ℕ, ◌+◌, ◌-◌, ◌^◌, min, List}
+use Rattle.std.specs.Prelude.{◌≡◌, ℕ, List}
 use Rattle.std.specs.declared.option.Option.TheVariants.{Some}
+use Rattle.outside.specs.Causes.{one_more}
 use Rattle.outside.specs.Streams.{WereTaken}
-
--- one call or one fault more; a count stays at its type's end
-abbrev pub one_more : ℕ → ℕ
-one_more count = min (count + 1) (2 ^ 64 - 1)
 
 -- the bytes that are left, the most that one call gives, the numbers of the calls that fail, the calls and the faults so far
 pub record Feed : Type 0 where

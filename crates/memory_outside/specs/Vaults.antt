@@ -4,7 +4,7 @@ use Rattle.std.specs.List.{list_any}
 use Rattle.std.specs.declared.option.Option.{Option}
 use Rattle.std.specs.declared.option.Option.TheVariants.{None, Some}
 use Rattle.outside.specs.Trace.{At, Call}
-use Rattle.memory_outside.specs.MemoryStreams.{one_more}
+use Rattle.outside.specs.Causes.{one_more}
 use Rattle.outside.specs.Names.{same_at}
 use Rattle.outside.specs.Changes.{FileChanges, change_at}
 use Rattle.outside.specs.Honest.{LastChange, last_change}

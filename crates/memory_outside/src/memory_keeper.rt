@@ -1,22 +1,20 @@
 // A local record in memory.
-ghost use Rattle.std.specs.Prelude.{◌≡◌, ◌⊎◌, ◌≤◌, List, ℕ, Bool, length, is_some, is_ok, is_none, IfOk, OnOk, OnErr, vec_capacity, IfSome, IfNone, IsErrOf, false, true, [], option_map};
+ghost use Rattle.std.specs.Prelude.{◌≡◌, ◌⊎◌, ◌≤◌, List, ℕ, Bool, length, is_some, is_ok, is_none, IfOk, OnOk, OnErr, IfSome, IfNone, IsErrOf, false, true, [], option_map};
 ghost use Rattle.std.specs.declared.option.Option.{Option};
 ghost use Rattle.std.specs.declared.option.Option.TheVariants.{None, Some};
-ghost use Rattle.outside.specs.Causes.{GetHasCause, RoseBy};
-ghost use Rattle.memory_outside.specs.MemoryStreams.{one_more};
+ghost use Rattle.outside.specs.Causes.{GetHasCause, RoseBy, one_more};
 ghost use Rattle.memory_outside.specs.Keepers.{failure_at, failure_from, failure_of, load_fails, after_load, after_failed_load, kept_by, faults_by};
 ghost use Rattle.outside.specs.View.{bytes_of};
 
 use crate::memory_vault::contains;
-use outside::{Failed, GetFail, Keeper, Memory};
+use outside::{Failed, GetFail, Keeper, KeptRecord, Memory};
 use std::alloc::Global;
 use std::marker::Model;
 
 /// A record in memory. Loads and saves can be made to fail.
 #[derive(Drop)]
 pub struct MemoryKeeper {
-    is_kept: bool,
-    bytes: Vec<u8>,
+    known: KeptRecord,
     faults: u64,
     saves: u64,
     failing: Vec<(u64, bool)>,
@@ -27,15 +25,13 @@ pub struct MemoryKeeper {
 }
 
 impl Model for MemoryKeeper {
-    ghost use Rattle.std.specs.Prelude.{vec_capacity, if◌then◌else◌};
-    ghost use Rattle.std.specs.declared.option.Option.TheVariants.{None, Some};
     ghost use Rattle.memory_outside.specs.Keepers.{KeeperState};
 
     ghost Value = { KeeperState };
 
     ghost view = { λ k. record {
-      kept = if k.is_kept then Some k.bytes.items else None;
-      room = vec_capacity k.bytes;
+      kept = k.known.kept;
+      room = k.known.room;
       faults = k.faults;
       saves = k.saves;
       failing = k.failing.items;
@@ -68,19 +64,6 @@ fn later_failure(first: Option<(u64, bool)>, number: u64) -> Option<bool>
     }
 }
 
-/// Keeps these bytes, where there is room for them.
-fn keep(kept: &mut Vec<u8>, bytes: &[u8])
-    requires { length bytes.now ≤ vec_capacity kept.old }
-    ensures items { kept.new.items ≡ bytes.now }
-    ensures capacity { vec_capacity kept.old ≤ vec_capacity kept.new }
-{
-    kept.clear();
-    match kept.extend_from_slice(bytes) {
-        Ok(()) => {}
-        Err(_) => unreachable!(),
-    }
-}
-
 impl MemoryKeeper {
     /// What is kept, the numbers of saves that fail, counted from 1, and whether such a save keeps the new record.
     pub fn new(alloc: Global, kept: Option<Vec<u8>>, fails: Vec<(u64, bool)>) -> MemoryKeeper
@@ -90,10 +73,8 @@ impl MemoryKeeper {
         ensures settings { (result.failing_loads ≡ []) × (result.failing_from ≡ None) }
         ensures counts_since { (result.loads ≡ 0) × (result.saves_since ≡ 0) }
     {
-        let is_kept = kept.is_some();
         MemoryKeeper {
-            is_kept,
-            bytes: kept.unwrap_or(Vec::new(alloc)),
+            known: KeptRecord::new(alloc, kept),
             faults: 0,
             saves: 0,
             failing: fails,
@@ -135,11 +116,7 @@ impl MemoryKeeper {
     pub fn kept(&self) -> Option<&[u8]>
         ensures { option_map (λ bytes. bytes.now) result ≡ self.now.kept }
     {
-        if self.is_kept {
-            Some(&self.bytes)
-        } else {
-            None
-        }
+        self.known.get()
     }
 }
 
@@ -166,10 +143,9 @@ impl Keeper for MemoryKeeper {
             self.faults = self.faults.saturating_add(1);
             return Err(GetFail::Failed);
         }
-        let answer = if self.is_kept {
-            Some(self.bytes.as_slice().to_vec(alloc)?)
-        } else {
-            None
+        let answer = match self.known.get() {
+            Some(bytes) => Some(bytes.to_vec(alloc)?),
+            None => None,
         };
         self.loads = self.loads.saturating_add(1);
         Ok(answer)
@@ -186,9 +162,7 @@ impl Keeper for MemoryKeeper {
         ensures rest { self.new ≡ record self.old { room = self.new.room } }
     {
         let _ = alloc;
-        let more = len.saturating_sub(self.bytes.len());
-        self.bytes.reserve(more)?;
-        Ok(())
+        self.known.prepare(len)
     }
 
     fn save(&mut self, bytes: &[u8]) -> Result<(), Failed>
@@ -214,15 +188,13 @@ impl Keeper for MemoryKeeper {
         match failure {
             Some(keeps) => {
                 if keeps {
-                    keep(&mut self.bytes, bytes);
-                    self.is_kept = true;
+                    self.known.keep(bytes);
                 }
                 self.faults = self.faults.saturating_add(1);
                 Err(Failed)
             }
             None => {
-                keep(&mut self.bytes, bytes);
-                self.is_kept = true;
+                self.known.keep(bytes);
                 Ok(())
             }
         }

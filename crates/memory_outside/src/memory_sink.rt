@@ -1,8 +1,8 @@
 // Output that goes into memory.
 ghost use Rattle.std.specs.Prelude.{◌≡◌, ◌⊎◌, ◌≤◌, ◌<◌, ◌↔◌, ◌+◌, ◌-◌, ◌++◌, ℕ, List, [], length, min, take, IfOk, OnOk, OnErr, IsErr, Contains, vec_capacity};
 ghost use Rattle.std.specs.declared.option.Option.TheVariants.{Some};
-ghost use Rattle.outside.specs.Causes.{RoseBy};
-ghost use Rattle.memory_outside.specs.MemoryStreams.{Drain, one_more};
+ghost use Rattle.outside.specs.Causes.{RoseBy, one_more};
+ghost use Rattle.memory_outside.specs.MemoryStreams.{Drain};
 ghost use Rattle.outside.specs.Streams.{appends};
 
 use block_id::{Failed, Memory};

@@ -1,8 +1,8 @@
 // Input that stands in memory.
 ghost use Rattle.std.specs.Prelude.{◌≡◌, ◌≤◌, ◌<◌, ◌↔◌, ◌+◌, ◌++◌, ℕ, List, [], length, min, take, drop, IfOk, OnOk, OnErr, IsErr, Contains};
 ghost use Rattle.std.specs.declared.option.Option.TheVariants.{Some};
-ghost use Rattle.outside.specs.Causes.{RoseBy};
-ghost use Rattle.memory_outside.specs.MemoryStreams.{Feed, TookOnce, one_more};
+ghost use Rattle.outside.specs.Causes.{RoseBy, one_more};
+ghost use Rattle.memory_outside.specs.MemoryStreams.{Feed, TookOnce};
 ghost use Rattle.outside.specs.Streams.{WereTaken, Ends};
 
 use block_id::Failed;

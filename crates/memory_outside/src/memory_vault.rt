@@ -2,11 +2,10 @@
 ghost use Rattle.std.specs.Prelude.{◌≡◌, ◌⊎◌, ◌≤◌, ◌<◌, ℕ, List, [], map, reverse, length, true, false, IfOk, IfSome, IfNone, OnOk, OnErr, IsErrOf};
 ghost use Rattle.std.specs.declared.option.Option.{Option};
 ghost use Rattle.std.specs.declared.option.Option.TheVariants.{None, Some};
-ghost use Rattle.outside.specs.Causes.{GetHasCause};
+ghost use Rattle.outside.specs.Causes.{GetHasCause, one_more};
 ghost use Rattle.outside.specs.Trace.{got, put as put_call, removed, adds};
 ghost use Rattle.outside.specs.Changes.{change_at, set_change, cut};
 ghost use Rattle.outside.specs.Honest.{lies};
-ghost use Rattle.memory_outside.specs.MemoryStreams.{one_more};
 ghost use Rattle.memory_outside.specs.Vaults.{is_listed, is_from, answer_at, get_fails, change_fails, given, without, after_get, after_failed_get, after_change, after_failed_change, restarted, IsUntampered};
 ghost use Rattle.outside.specs.View.{at_of, bytes_of, list_of};
 ghost use Rattle.memory_outside.specs.View.{call_of, answers_of};

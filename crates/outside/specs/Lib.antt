@@ -4,6 +4,7 @@ pub mod Changes
 pub mod Going
 pub mod Honest
 pub mod HonestLaws
+pub mod Kept
 pub mod NameLaws
 pub mod Names
 pub mod Streams

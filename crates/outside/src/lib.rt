@@ -3,6 +3,7 @@
 
 mod change;
 mod keeper;
+mod kept_record;
 mod sink;
 mod source;
 mod vault;
@@ -10,6 +11,7 @@ mod vault;
 pub use block_id::{Failed, Memory};
 pub use change::{Change, FileName, Pending};
 pub use keeper::Keeper;
+pub use kept_record::KeptRecord;
 pub use sink::Sink;
 pub use source::Source;
 pub use vault::{GetFail, Vault};

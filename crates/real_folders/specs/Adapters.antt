@@ -4,7 +4,7 @@ use Rattle.std.specs.declared.option.Option.{Option}
 use Rattle.std.specs.declared.option.Option.TheVariants.{None}
 use Rattle.outside.specs.declared.vault.GetFail.{GetFail}
 use Rattle.outside.specs.declared.vault.GetFail.TheVariants.{Memory, Failed}
-use Rattle.memory_outside.specs.MemoryStreams.{one_more}
+use Rattle.outside.specs.Causes.{one_more}
 use Rattle.outside.specs.Trace.{Call}
 
 -- the path of a block directory, and how often a call failed

@@ -75,7 +75,8 @@ pub fn create_anew<R: Files>(files: &R, folder: Path<'_>, path: Path<'_>) -> io:
     }
 }
 
-/// Makes the folder, or removes the file, where that is what the error asks for.
+/// After a file couldn't be made: makes its folder where that is missing, removes what lies at its path, and hands on any
+/// other error.
 fn make_way<R: Files>(
     files: &R,
     folder: Path<'_>,

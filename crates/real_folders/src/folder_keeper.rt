@@ -2,17 +2,15 @@
 ghost use Rattle.std.specs.Prelude.{◌≡◌, ◌⊎◌, ◌≤◌, length, IfOk, OnOk, OnErr, IsTrue};
 ghost use Rattle.std.specs.declared.option.Option.TheVariants.{None, Some};
 ghost use Rattle.std.specs.Option.{option_map};
-ghost use Rattle.outside.specs.Causes.{GetHasCause, RoseBy};
-ghost use Rattle.memory_outside.specs.MemoryStreams.{one_more};
+ghost use Rattle.outside.specs.Causes.{GetHasCause, RoseBy, one_more};
 ghost use Rattle.outside.specs.View.{bytes_of};
 ghost use Rattle.real_folders.specs.Adapters.{counted};
 
 use crate::error::{FolderError, count};
 use crate::folder_run::FolderRun;
 use crate::lock::Lock;
-use crate::record_file::{RecordFile, RecordPaths};
-use memory_outside::MemoryKeeper;
-use outside::{Failed, GetFail, Keeper, Memory};
+use crate::record_file::RecordFile;
+use outside::{Failed, GetFail, Keeper, KeptRecord, Memory};
 use std::alloc::Global;
 use std::fs::Files;
 use std::io;
@@ -25,7 +23,7 @@ use std::marker::Model;
 pub struct FolderKeeper<'a, R: Files> {
     run: &'a FolderRun,
     file: RecordFile<R>,
-    known: MemoryKeeper,
+    known: KeptRecord,
     faults: u64,
 }
 
@@ -51,10 +49,10 @@ where
     ) -> Result<FolderKeeper<'a, R>, Memory>
         ensures { IfOk result (λ keeper. keeper.faults ≡ 0) }
     {
-        let paths = RecordPaths::new(alloc, folder, run.ending())?;
-        let found = unless_failed(paths.read(&files, alloc))?;
-        let file = RecordFile::new(files, paths);
-        Ok(FolderKeeper::knowing(alloc, run, file, found))
+        let mut keeper = FolderKeeper::unread(alloc, files, folder, run)?;
+        let found = unless_failed(keeper.file.read(alloc))?;
+        keeper.known = KeptRecord::new(alloc, found);
+        Ok(keeper)
     }
 
     /// The same for a run that doesn't use the record: its file isn't looked at, and counts as not there. So a load fails
@@ -67,27 +65,12 @@ where
     ) -> Result<FolderKeeper<'a, R>, Memory>
         ensures { IfOk result (λ keeper. (keeper.kept ≡ None) × (keeper.faults ≡ 0)) }
     {
-        let paths = RecordPaths::new(alloc, folder, run.ending())?;
-        let file = RecordFile::new(files, paths);
-        Ok(FolderKeeper::knowing(alloc, run, file, None))
-    }
-
-    /// What is kept is this.
-    fn knowing(
-        alloc: Global,
-        run: &'a FolderRun,
-        file: RecordFile<R>,
-        kept: Option<Vec<u8>>,
-    ) -> FolderKeeper<'a, R>
-        ensures kept { result.kept ≡ bytes_of kept }
-        ensures faults { result.faults ≡ 0 }
-    {
-        FolderKeeper {
+        Ok(FolderKeeper {
             run,
-            file,
-            known: MemoryKeeper::new(alloc, kept, Vec::new(alloc)),
+            file: RecordFile::new(alloc, files, folder, run.ending())?,
+            known: KeptRecord::new(alloc, None),
             faults: 0,
-        }
+        })
     }
 }
 
@@ -143,12 +126,13 @@ where
         ensures counts { self.new ≡ record self.old { faults = counted result self.old.faults } }
     {
         let loaded = self.file.load(alloc);
-        let answer = if_kept(loaded, self.known.kept());
+        let answer = if_kept(loaded, self.known.get());
         count(&mut self.faults, answer)
     }
 
     fn prepare(&mut self, alloc: Global, len: usize) -> Result<(), Memory> {
-        self.known.prepare(alloc, len)
+        let _ = alloc;
+        self.known.prepare(len)
     }
 
     fn save(&mut self, bytes: &[u8]) -> Result<(), Failed>
@@ -163,10 +147,11 @@ where
         ensures counts_none { OnOk result (self.new.faults ≡ self.old.faults) }
         ensures counts_one { OnErr result (self.new.faults ≡ one_more self.old.faults) }
     {
-        if self.file.write(self.run, bytes).is_ok() && self.known.save(bytes).is_ok() {
-            return Ok(());
+        if self.file.write(self.run, bytes).is_err() {
+            self.faults = self.faults.saturating_add(1);
+            return Err(Failed);
         }
-        self.faults = self.faults.saturating_add(1);
-        Err(Failed)
+        self.known.keep(bytes);
+        Ok(())
     }
 }

@@ -98,7 +98,8 @@ where
     fn hold_or_make(&mut self, directory: &str) -> io::Result<()> {
         self.hold(directory)?;
         if self.held.is_none() {
-            self.held = Some(make(&self.files, directory)?);
+            make_new_folder(&self.files, directory)?;
+            self.held = Some(lock(fs::open(&self.files, directory)?)?);
         }
         Ok(())
     }
@@ -106,29 +107,18 @@ where
     /// Takes the lock on the folder, where it is there and this run doesn't hold it yet. A run that found no folder uses none
     /// that another run has made since.
     fn hold(&mut self, directory: &str) -> io::Result<()> {
-        if self.held.is_none() {
-            self.held = self.find(directory)?;
-            self.was_missing = self.held.is_none();
+        if self.held.is_some() {
+            return Ok(());
+        }
+        match if_there(fs::open(&self.files, directory))? {
+            None => self.was_missing = true,
+            Some(_) if self.was_missing => return Err(io::Error::other(
+                "another run made the folder",
+            )),
+            Some(folder) => self.held = Some(lock(folder)?),
         }
         Ok(())
     }
-
-    fn find(&self, directory: &str) -> io::Result<Option<R::File>> {
-        match if_there(fs::open(&self.files, directory))? {
-            None => Ok(None),
-            Some(_) if self.was_missing => Err(io::Error::other("another run made the folder")),
-            Some(folder) => lock(folder).map(Some),
-        }
-    }
-}
-
-/// Makes the folder, and opens and locks it.
-fn make<R: Files>(files: &R, directory: &str) -> io::Result<R::File>
-where
-    R::File: Lock,
-{
-    make_new_folder(files, directory)?;
-    lock(fs::open(files, directory)?)
 }
 
 /// Locks the folder that was opened. Where the file system has no locks, the run goes on without.

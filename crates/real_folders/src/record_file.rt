@@ -13,9 +13,9 @@ const RECORD_FILE: &str = "cryfs.localstate";
 
 const LOCK_FILE: &str = "cryfs.lock";
 
-/// The record's file, the path that its next bytes are written to first, and the file whose lock a run holds.
+/// The record's file, the path that its next bytes are written to first, and that of the file whose lock a run holds.
 #[derive(Drop)]
-pub struct RecordPaths {
+struct RecordPaths {
     record: StoredFile,
     beside: PathBuf,
     lock: PathBuf,
@@ -23,7 +23,7 @@ pub struct RecordPaths {
 
 impl RecordPaths {
     /// Those in the folder at this path, of a run with this ending.
-    pub fn new(alloc: Global, folder: &str, ending: &str) -> Result<RecordPaths, AllocError> {
+    fn new(alloc: Global, folder: &str, ending: &str) -> Result<RecordPaths, AllocError> {
         let folder = PathBuf::from_str(alloc, folder)?;
         let lock = folder.join(alloc, LOCK_FILE)?;
         let record = StoredFile::new(alloc, folder, RECORD_FILE)?;
@@ -34,21 +34,6 @@ impl RecordPaths {
             lock,
         })
     }
-
-    /// The record's bytes, or None where its file isn't there.
-    pub fn read<R: Files>(&self, files: &R, alloc: Global) -> Result<Option<Vec<u8>>, FolderError> {
-        self.record.read(files, alloc, usize::MAX)
-    }
-
-    /// The file for the lock, locked. It and its folder are made where they are missing.
-    fn take_lock<R: Files>(&self, files: &R) -> io::Result<R::File>
-    where
-        R::File: Lock,
-    {
-        let lock = open_or_create(files, self.record.folder.as_path(), self.lock.as_path())?;
-        lock.take_lock()?;
-        Ok(lock)
-    }
 }
 
 /// The record's file in a real folder, and the lock where this run holds it.
@@ -56,26 +41,40 @@ impl RecordPaths {
 pub struct RecordFile<R: Files> {
     files: R,
     paths: RecordPaths,
-    lock: Option<R::File>,
+    held: Option<R::File>,
 }
 
 impl<R: Files + Drop> RecordFile<R>
 where
     R::File: Lock,
 {
-    /// The file at these paths, whose lock isn't held yet.
-    pub fn new(files: R, paths: RecordPaths) -> RecordFile<R> {
-        RecordFile {
+    /// The file in the folder at this path, of a run with this ending. Its lock isn't held yet.
+    pub fn new(
+        alloc: Global,
+        files: R,
+        folder: &str,
+        ending: &str,
+    ) -> Result<RecordFile<R>, AllocError> {
+        Ok(RecordFile {
             files,
-            paths,
-            lock: None,
-        }
+            paths: RecordPaths::new(alloc, folder, ending)?,
+            held: None,
+        })
     }
 
-    /// Takes the lock where this run doesn't hold it yet, and fails where another run does.
+    /// The record's bytes, or None where its file isn't there.
+    pub fn read(&self, alloc: Global) -> Result<Option<Vec<u8>>, FolderError> {
+        self.paths.record.read(&self.files, alloc, usize::MAX)
+    }
+
+    /// Takes the lock where this run doesn't hold it yet, and fails where another run does. The file for the lock and its
+    /// folder are made where they are missing.
     fn hold(&mut self) -> io::Result<()> {
-        if self.lock.is_none() {
-            self.lock = Some(self.paths.take_lock(&self.files)?);
+        if self.held.is_none() {
+            let folder = self.paths.record.folder.as_path();
+            let lock = open_or_create(&self.files, folder, self.paths.lock.as_path())?;
+            lock.take_lock()?;
+            self.held = Some(lock);
         }
         Ok(())
     }
@@ -83,7 +82,7 @@ where
     /// The record's bytes under the lock, or None where its file isn't there.
     pub fn load(&mut self, alloc: Global) -> Result<Option<Vec<u8>>, FolderError> {
         self.hold()?;
-        self.paths.read(&self.files, alloc)
+        self.read(alloc)
     }
 
     /// Flushes the files of blocks that the run wrote, then gives the file these bytes under the lock.

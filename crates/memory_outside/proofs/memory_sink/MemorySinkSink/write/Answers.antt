@@ -1,5 +1,6 @@
 use Rattle.std.proofs.Common.{◌++◌, take, ap, ◌∙◌}
-use Rattle.memory_outside.specs.MemoryStreams.{Drain, one_more}
+use Rattle.memory_outside.specs.MemoryStreams.{Drain}
+use Rattle.outside.specs.Causes.{one_more}
 use Rattle.memory_outside.proofs.memory_sink.MemorySinkSink.write.Goals as goal
 
 pub returns-then-contains-clause-faulty : goal.returns-then-contains-clause-faulty

@@ -1,7 +1,8 @@
 use Rattle.std.proofs.Common.{◌≡◌, ◌≤◌, ◌+◌, ◌-◌, ◌++◌, ℕ, List, length, min, take, drop, arith, refl, ap, sym, ◌∙◌}
 use Rattle.std.proofs.lemmas.Grind.{common_steps}
 use Rattle.std.proofs.lemmas.List.{take_at, take-append-drop, length-take-le, drop_all, drop-drop}
-use Rattle.memory_outside.specs.MemoryStreams.{Feed, one_more}
+use Rattle.memory_outside.specs.MemoryStreams.{Feed}
+use Rattle.outside.specs.Causes.{one_more}
 use Rattle.memory_outside.proofs.memory_source.MemorySourceSource.read.Goals as goal
 
 -- the bytes copied to the front of a piece are the first of what was left

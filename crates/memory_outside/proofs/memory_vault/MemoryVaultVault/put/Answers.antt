@@ -3,7 +3,7 @@ use Rattle.std.specs.declared.option.Option.TheVariants.{Some}
 use Rattle.outside.specs.Trace.{put}
 use Rattle.outside.specs.Changes.{set_change}
 use Rattle.outside.specs.View.{at_of, list_of}
-use Rattle.memory_outside.specs.MemoryStreams.{one_more}
+use Rattle.outside.specs.Causes.{one_more}
 use Rattle.memory_outside.specs.Vaults.{VaultState, IsUntampered}
 use Rattle.memory_outside.specs.declared.event.Event.TheVariants.{Put}
 use Rattle.memory_outside.proofs.Plain.{pushed, plain_put, plain_failed, plain_failed_put}
