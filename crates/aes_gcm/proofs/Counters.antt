@@ -1,5 +1,5 @@
 -- Counter blocks in a row.
-use Rattle.std.proofs.Common.{◌≡◌, ℕ, zero, suc, ◌+◌, ◌<◌, List, [], ◌∷◌, slice_index_or, refl, sym, ap, ◌∙◌, add-one, arith}
+use Rattle.std.proofs.Common.{◌≡◌, ℕ, zero, suc, ◌+◌, ◌<◌, List, sym, ap, ◌∙◌, add-one, arith}
 use Rattle.aes_gcm.specs.Gctr.{counter_block, inc32}
 
 pub counter_block_next : (block : List ℕ) (n : ℕ) → counter_block block (n + 1) ≡ inc32 (counter_block block n)

@@ -18,7 +18,6 @@ const TAG_LEN: usize = 16;
 pub struct Aes256Gcm;
 
 impl Sealer for Aes256Gcm {
-    ghost use Rattle.std.specs.Prelude.{ℕ};
     ghost use Rattle.aes_gcm.specs.Gcm.{opened_of};
     ghost use Rattle.aes_gcm.specs.Lengths.{length-opened_of};
 
@@ -65,7 +64,12 @@ impl Sealer for Aes256Gcm {
 }
 
 /// Appends a sealed text, or a part of it where memory is refused.
-fn append_sealed(key: &[u8; 32], iv: &[u8], plain: &[u8], out: &mut Vec<u8>) -> Result<(), Memory>
+pub fn append_sealed(
+    key: &[u8; 32],
+    iv: &[u8],
+    plain: &[u8],
+    out: &mut Vec<u8>,
+) -> Result<(), Memory>
     requires { length iv.now ≡ 16 }
     ensures ok { OnOk result (out.new.items ≡ out.old.items ++ sealed_of key.now iv.now plain.now) }
     ensures err { OnErr result (take (vec_len out.old) out.new.items ≡ out.old.items) }

@@ -1,5 +1,5 @@
 // A key of AES-256 in GCM, made ready (SP 800-38D, 7).
-ghost use Rattle.std.specs.Prelude.{◌≡◌, ◌≢◌, ◌↔◌, ◌+◌, ◌*◌, ◌%◌, ◌^◌, ◌<◌, ◌++◌, [], length, slice_index_or, IfOk, OnOk, OnErr, IsNone};
+ghost use Rattle.std.specs.Prelude.{◌≡◌, ◌≢◌, ◌↔◌, ◌+◌, ◌*◌, ◌%◌, ◌^◌, ◌<◌, ◌++◌, length, IfOk, OnOk, OnErr, IsNone};
 ghost use Rattle.std.specs.Int.{w64, to_be_bytes};
 ghost use Rattle.std.specs.Option.{option_map};
 ghost use Rattle.aes_block.specs.KeyExpansion.{aes256};

@@ -8,6 +8,6 @@ mod gcm_key;
 mod hash_key;
 mod key_stream;
 
-pub use aes256_gcm::Aes256Gcm;
+pub use aes256_gcm::{Aes256Gcm, append_sealed};
 pub use gcm::{gcm_seal, gcm_unseal};
 pub use gcm_key::GcmKey;

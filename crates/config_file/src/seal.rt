@@ -1,6 +1,5 @@
 // Sealing a configuration as its file.
-ghost use Rattle.std.specs.Prelude.{◌≡◌, ◌≤◌, ◌++◌, length, IfOk, OnOk};
-ghost use Rattle.aes_gcm.specs.Gcm.{sealed_of};
+ghost use Rattle.std.specs.Prelude.{◌≡◌, ◌≤◌, length, IfOk};
 ghost use Rattle.scrypt_kdf.specs.Cost.{IsAllowed};
 ghost use Rattle.config_file.specs.ConfigOf.{IsOnly, opened};
 ghost use Rattle.config_file.specs.Sealing.{config_text, inner_text, innermost_text, outer_text};
@@ -10,8 +9,7 @@ use crate::config::Config;
 use crate::format::{CIPHER_FIELD, FILE_LEN, INNER_FRONT, OUTER_FRONT};
 use crate::json_writing::write_json;
 use crate::keys::{Keys, derive_keys};
-use aes_block::KeySchedule;
-use aes_gcm::gcm_seal;
+use aes_gcm::append_sealed;
 use block_id::Memory;
 use byte_fields::{put_u32, put_u64};
 use scrypt_kdf::Params;
@@ -92,19 +90,4 @@ fn outer_part(alloc: Global, params: &Params, salt: &[u8; 32]) -> Result<Vec<u8>
     put_u32(&mut part, params.p())?;
     part.extend_from_slice(salt)?;
     Ok(part)
-}
-
-/// Appends a plaintext, sealed.
-fn append_sealed(
-    key: &[u8; 32],
-    iv: &[u8; 16],
-    plain: &[u8],
-    out: &mut Vec<u8>,
-) -> Result<(), Memory>
-    ensures { OnOk result (out.new.items ≡ out.old.items ++ sealed_of key.now iv.now plain.now) }
-{
-    out.extend_from_slice(iv)?;
-    let tag = gcm_seal(&KeySchedule::new(key), iv, &[], plain, out)?;
-    out.extend_from_slice(&tag)?;
-    Ok(())
 }

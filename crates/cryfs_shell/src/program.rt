@@ -2,7 +2,7 @@
 ghost use Rattle.std.specs.Prelude.{◌≡◌, ◌≤◌, ℕ, true, false, map};
 ghost use Rattle.std.specs.declared.option.Option.TheVariants.{None, Some};
 ghost use Rattle.std.specs.String.{string_bytes};
-ghost use Rattle.create_options.specs.declared.options.CreateOptions.{CreateOptions};
+ghost use Rattle.shell_words.specs.declared.create_options.CreateOptions.{CreateOptions};
 ghost use Rattle.cryfs_setup.specs.Create.{RanCreate};
 ghost use Rattle.cryfs_setup.specs.Info.{Told};
 ghost use Rattle.cryfs_setup.specs.Passwd.{RanPasswd};

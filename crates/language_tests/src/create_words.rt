@@ -1,6 +1,6 @@
 // Words of `create`, and what they say.
 
-use create_options::parse_create_options;
+use shell_words::parse_create_options;
 use std::alloc::{AllocError, Global};
 use std::test::Fail;
 

@@ -1,7 +1,8 @@
 -- What the loops of the writer have written.
-use Rattle.std.proofs.Common.{◌≡◌, ℕ, ◌+◌, ◌<◌, List, [], ◌∷◌, ◌++◌, map, length, take, get_or, All, sym, ap, ◌∙◌}
+use Rattle.std.proofs.Common.{◌≡◌, ℕ, ◌+◌, ◌<◌, ◌≤◌, List, [], ◌∷◌, ◌++◌, map, length, take, get_or, All, sym, ap, ◌∙◌, append_assoc}
+use Rattle.std.specs.Int.{w64, to_le_bytes}
 use Rattle.std.specs.List.{flat_map, AllByRecursion}
-use Rattle.std.proofs.lemmas.List.{take_more, map_push, flat_map_more}
+use Rattle.std.proofs.lemmas.List.{take_more, take_all, length-map, map_push, flat_map_more}
 use Rattle.std.proofs.lemmas.List.Elements.{All-from_recursion}
 use Rattle.outside.specs.declared.change.Pending.{Pending}
 use Rattle.outside.specs.View.{list_of, change_of}
@@ -22,3 +23,11 @@ pub written_more : {A B : Type 0} (bytes_of : B → List ℕ) (plain : A → B) 
 written_more bytes_of plain front xs i x lt is =
     let next : take i xs ++ x ∷ [] ≡ take (i + 1) xs = ap (λ y. take i xs ++ y ∷ []) is ∙ sym (take_more xs i x lt) in
     flat_map_more bytes_of front (map plain (take i xs)) (plain x) ∙ ap (λ ys. front ++ flat_map bytes_of ys) (sym (map_push plain (take i xs) x) ∙ ap (map plain) next)
+
+-- all entries stand behind their number
+pub written_all : {A B : Type 0} (bytes_of : B → List ℕ) (plain : A → B) (front : List ℕ) (xs : List A) (i : ℕ) → length xs ≤ i
+    → (front ++ to_le_bytes w64 (length xs)) ++ flat_map bytes_of (map plain (take i xs)) ≡ front ++ (to_le_bytes w64 (length (map plain xs)) ++ flat_map bytes_of (map plain xs))
+written_all bytes_of plain front xs i le =
+    ap (λ ys. (front ++ to_le_bytes w64 (length xs)) ++ flat_map bytes_of (map plain ys)) (take_all i xs le)
+    ∙ append_assoc front (to_le_bytes w64 (length xs)) (flat_map bytes_of (map plain xs))
+    ∙ ap (λ n. front ++ (to_le_bytes w64 n ++ flat_map bytes_of (map plain xs))) (sym (length-map xs plain))

@@ -1,5 +1,5 @@
 -- What is known of ids: a finite map to their lives: a version, and whether the block lives. An id is a list of 16 bytes.
-use Rattle.std.specs.Prelude.{◌≡◌, ◌≢◌, ℕ, zero, ◌+◌, ◌^◌, ◌<◌, ◌-◌, ◌==◌, Bool, true, false, not, ◌&&◌, List, length, map, is_some, is_none, IfSome, Option, None, Some, refl, if◌then◌else◌}
+use Rattle.std.specs.Prelude.{◌≡◌, ◌≢◌, ℕ, ◌+◌, ◌^◌, ◌<◌, ◌-◌, ◌==◌, Bool, true, false, not, ◌&&◌, List, length, map, is_some, is_none, IfSome, Option, None, Some, refl, if◌then◌else◌}
 use Rattle.std.specs.Coded.{Coded, code_by, coded×, coded_ℕ, coded_bool, coded_list}
 use Rattle.std.specs.FinMap as fin
 use Rattle.std.specs.Option.{option_map, option_map_or}

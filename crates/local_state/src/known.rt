@@ -1,5 +1,5 @@
 // The table of known versions.
-ghost use Rattle.std.specs.Prelude.{◌≡◌, ◌≢◌, ◌+◌, ◌-◌, ◌^◌, ◌<◌, ◌≤◌, ◌↔◌, Bool, true, false, length, IsTrue, IsSome, IsErr, IsOk, map, IfSome, IfNone, IfOk, OnOk, OnErr};
+ghost use Rattle.std.specs.Prelude.{◌≡◌, ◌≢◌, ◌+◌, ◌-◌, ◌^◌, ◌<◌, ◌≤◌, ◌↔◌, true, false, IsSome, IsErr, map, IfSome, IfNone, IfOk, OnOk, OnErr};
 ghost use Rattle.std.specs.FinMap as fin;
 ghost use Rattle.local_state.specs.Known.{life_at, version_at, is_live_at, is_used_at, version_if_live, is_last, raised_version, zero_id, plain_entry, FitsLife, FitLives, IsFirstFree};
 

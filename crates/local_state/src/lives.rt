@@ -1,5 +1,5 @@
 // The program's map from ids to lives, as a finite map.
-ghost use Rattle.std.specs.Prelude.{◌≡◌, ◌+◌, ◌<◌, ◌≤◌, true, map, IsSome, IfOk, OnOk, OnErr, None};
+ghost use Rattle.std.specs.Prelude.{◌≡◌, ◌+◌, ◌<◌, ◌≤◌, map, IsSome, IfOk, OnOk, OnErr, None};
 ghost use Rattle.std.specs.HashMap.{spare};
 ghost use Rattle.std.specs.FinMap as fin;
 ghost use Rattle.local_state.specs.Known.{lives_of, plain_entry, HaveDistinctIds, is_free, IsFirstFree};

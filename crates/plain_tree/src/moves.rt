@@ -1,5 +1,5 @@
 // Moving all that is at or below a path.
-ghost use Rattle.std.specs.Prelude.{◌≡◌, ◌+◌, ◌≤◌, ◌++◌, ℕ, List, ◌∷◌, true, false, cond, is_some, IfOk, OnOk, OnErr, None, Some};
+ghost use Rattle.std.specs.Prelude.{◌≡◌, ◌+◌, ◌≤◌, ◌++◌, ℕ, List, ◌∷◌, true, false, cond, is_some, IfOk, OnOk, OnErr, None};
 ghost use Rattle.std.specs.FinMap as tree;
 ghost use Rattle.std.specs.FinMap.{get};
 ghost use Rattle.fs_model.specs.declared.limits.TheConstants.{MAX_ENTRIES};

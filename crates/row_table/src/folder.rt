@@ -7,7 +7,7 @@ ghost use Rattle.std.specs.FinMap.Entries.{put, where_key};
 ghost use Rattle.fs_model.specs.declared.limits.TheConstants.{MAX_ENTRIES};
 ghost use Rattle.fs_model.specs.Tree.{name_cmp};
 ghost use Rattle.fs_model.specs.Tree as model;
-ghost use Rattle.row_table.specs.Rows.{item_entry, item_row, names_of};
+ghost use Rattle.row_table.specs.Rows.{item_row, names_of};
 ghost use Rattle.row_table.specs.Formed.{IsFull};
 
 use crate::find::find_item;

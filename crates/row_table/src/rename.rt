@@ -6,7 +6,6 @@ ghost use Rattle.fs_model.specs.Tree.{upward, path_cmp};
 ghost use Rattle.fs_model.specs.Tree as model;
 ghost use Rattle.row_table.specs.Rows.{folder_entry, names_of, tree_of};
 ghost use Rattle.row_table.specs.Formed.{IsFull, AllFull, IsOrdered};
-ghost use Rattle.row_table.specs.Places.{IsTable};
 ghost use Rattle.row_table.specs.Moves.{paired, IsBelowMoved};
 
 use crate::find::find_folder;

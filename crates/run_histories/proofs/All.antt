@@ -6,7 +6,7 @@ use Rattle.std.specs.declared.option.Option.TheVariants.{None, Some}
 use Rattle.std.specs.declared.result.Result.TheVariants.{Ok, Err}
 use Rattle.block_id.specs.declared.id.BlockId.{BlockId}
 use Rattle.config_file.specs.Settings.{Settings}
-use Rattle.create_options.specs.declared.options.CreateOptions.{CreateOptions}
+use Rattle.shell_words.specs.declared.create_options.CreateOptions.{CreateOptions}
 use Rattle.setup_texts.specs.CreateText.{Reports}
 use Rattle.fs_model.specs.Tree.{Tree, empty_tree}
 use Rattle.held_blocks.specs.Standing.{records}

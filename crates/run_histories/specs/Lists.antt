@@ -4,7 +4,7 @@ use Rattle.std.specs.declared.option.Option.{Option}
 use Rattle.std.specs.declared.option.Option.TheVariants.{Some}
 use Rattle.answers.specs.Sessions.{Exchange, violated}
 use Rattle.config_file.specs.Settings.{Settings}
-use Rattle.create_options.specs.declared.options.CreateOptions.{CreateOptions}
+use Rattle.shell_words.specs.declared.create_options.CreateOptions.{CreateOptions}
 use Rattle.fs_model.specs.Tree.{Tree, empty_tree}
 use Rattle.held_blocks.specs.Standing.{records}
 use Rattle.line_io.specs.Lines.{first_line}

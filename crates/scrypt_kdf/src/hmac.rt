@@ -1,8 +1,8 @@
 // HMAC over SHA-256 (RFC 2104).
 
-ghost use Rattle.std.specs.Prelude.{◌≡◌, ◌++◌, map, bit_xor};
+ghost use Rattle.std.specs.Prelude.{◌≡◌, map, bit_xor};
 ghost use Rattle.sha2.specs.Hashers.{Holds256};
-ghost use Rattle.scrypt_kdf.specs.Hmac.{hmac_sha256, key_block, key_pad};
+ghost use Rattle.scrypt_kdf.specs.Hmac.{hmac_sha256, key_block};
 
 use sha2::{Digest, Sha256};
 

@@ -1,7 +1,6 @@
 // scrypt (RFC 7914, section 6).
 
 ghost use Rattle.std.specs.Prelude.{◌≡◌, ◌≤◌, ◌*◌, ◌^◌, IfOk, OnErr, OnOk, length, replicate, vec_len};
-ghost use Rattle.scrypt_kdf.specs.Cost.{Cost, IsAllowed};
 ghost use Rattle.scrypt_kdf.specs.Scrypt.{mixed_parts, scrypt};
 
 use crate::mix::ro_mix;

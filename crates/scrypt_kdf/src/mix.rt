@@ -1,7 +1,7 @@
 // scryptBlockMix and scryptROMix (RFC 7914, sections 4 and 5). But for ROMix's own input and output,
 // the words of each block stand on its diagonals, as Salsa20/8 works on them.
 
-ghost use Rattle.std.specs.Prelude.{◌≡◌, ◌<◌, ◌≤◌, ◌+◌, ◌*◌, ◌%◌, ◌^◌, List, ℕ, IfOk, OnOk, length, vec_len};
+ghost use Rattle.std.specs.Prelude.{◌≡◌, ◌<◌, ◌≤◌, ◌+◌, ◌*◌, ◌%◌, ◌^◌, List, ℕ, OnOk, length, vec_len};
 ghost use Rattle.std.specs.Int.{IsPowerOfTwo};
 ghost use Rattle.scrypt_kdf.specs.Order.{on_diagonals};
 ghost use Rattle.scrypt_kdf.specs.Scrypt.{block_mix, integerify, iterate, iterates, joined, part, ro_mix, turned, xor_bytes};

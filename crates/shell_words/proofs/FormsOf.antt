@@ -4,8 +4,8 @@ use Rattle.std.specs.Prelude.{option_map, is_some}
 use Rattle.std.specs.Str.{bytes_eq}
 use Rattle.std.specs.declared.option.Option.{Option}
 use Rattle.std.specs.declared.option.Option.TheVariants.{None, Some}
-use Rattle.create_options.specs.declared.options.CreateOptions.{CreateOptions}
-use Rattle.create_options.specs.Options.{options_of}
+use Rattle.shell_words.specs.declared.create_options.CreateOptions.{CreateOptions}
+use Rattle.shell_words.specs.CreateOptions.{options_of}
 use Rattle.script_text.specs.Grammar.{verb_of}
 use Rattle.shell_words.specs.declared.form.Form.{Form}
 use Rattle.shell_words.specs.declared.form.Form.TheVariants.{Trial, TrialGenerate, Create, Info, Passwd, Shell, Generate, Command}

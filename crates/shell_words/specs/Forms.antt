@@ -8,7 +8,7 @@ use Rattle.std.specs.Str.{bytes_eq}
 use Rattle.block_id.specs.declared.sizes.TheConstants.{MIN_BLOCK, MAX_BLOCK}
 use Rattle.script_text.specs.Grammar.{verb_of}
 use Rattle.script_text.specs.Numbers.{number_of, below}
-use Rattle.create_options.specs.Options.{options_of}
+use Rattle.shell_words.specs.CreateOptions.{options_of}
 use Rattle.shell_words.specs.declared.form.Form.{Form}
 use Rattle.shell_words.specs.declared.form.Form.TheVariants.{Trial, TrialGenerate, Create, Info, Passwd, Shell, Generate, Command}
 use Rattle.shell_words.specs.declared.words.TheConstants.{MAX_GENERATE}

@@ -1,1 +1,3 @@
+pub mod CreateCommand
+pub mod CreateOptions
 pub mod Forms

@@ -1,6 +1,6 @@
 // What the program can be asked for.
 
-use create_options::CreateOptions;
+use crate::create_options::CreateOptions;
 
 /// What the words ask for.
 #[derive(Clone, Copy)]

@@ -1,14 +1,12 @@
 // The words that the program is called with.
-ghost use Rattle.std.specs.Prelude.{◌≡◌, ◌≤◌, ◌+◌, true, is_some, map, IfSome, IfOk, OnErr};
-ghost use Rattle.std.specs.List.{list_any};
-ghost use Rattle.std.specs.Str.{bytes_eq};
+ghost use Rattle.std.specs.Prelude.{◌≡◌, ◌≤◌, true, is_some, map, IfSome, IfOk, OnErr};
 ghost use Rattle.std.specs.String.{string_bytes};
 ghost use Rattle.script_text.specs.Grammar.{verb_of};
 ghost use Rattle.shell_words.specs.Forms.{count_of, single_form, plain_form, other_form, form_of, is_create, IsModest};
 
+use crate::create_options::parse_create_options;
 use crate::form::Form;
 use block_id::Memory;
-use create_options::parse_create_options;
 use script_text::number;
 use std::alloc::Global;
 
@@ -40,14 +38,7 @@ fn read_count(word: &[u8]) -> Option<u64>
 fn is_command(word: &str) -> bool
     ensures { result ≡ is_some (verb_of word.now) }
 {
-    is_among(&COMMANDS, word)
-}
-
-/// Whether the word is one of these names.
-fn is_among(names: &[&str], word: &str) -> bool
-    ensures { result ≡ list_any (λ name. bytes_eq name.now word.now) names.now }
-{
-    names.iter().any(|name| *name == word)
+    COMMANDS.contains(&word)
 }
 
 /// A word that stands alone, `generate N` or `trial generate N`.

@@ -1,7 +1,20 @@
-use Rattle.std.proofs.Common.{arith}
+use Rattle.std.proofs.Common.{arith, rules, List, [], ◌∷◌}
+use Rattle.std.proofs.lemmas.Simd.{Each2-splat}
+use Rattle.std.specs.Simd.Lanes.{Each1}
 use Rattle.aes_bits.proofs.Swaps.{high_row, high_vector, low_row, low_vector}
 use Rattle.aes_bits.proofs.Lanes.{vector_from}
 use Rattle.aes_bits.proofs.transposition.swap.Goals as goal
+
+-- what holds of all values holds of each lane
+each : {A : Type 0} (P : A → Type 0) → ((a : A) → P a) → (xs : List A) → Each1 P xs
+each P holds [] = tt
+each P holds (x ∷ xs) = (holds x, each P holds xs)
+
+pub overflow_shr-moved : goal.overflow_shr-moved
+overflow_shr-moved c = Each2-splat _ c.args.x 16 c.args.places (each _ (λ x. search rules) c.args.x)
+
+pub overflow_shl-result : goal.overflow_shl-result
+overflow_shl-result c = Each2-splat _ _ 16 c.args.places (each _ (λ x. search rules) _)
 
 pub returns-clause-vectors : goal.returns-clause-vectors
 returns-clause-vectors c =

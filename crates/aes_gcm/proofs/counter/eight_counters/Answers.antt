@@ -1,4 +1,4 @@
-use Rattle.std.proofs.Common.{◌≡◌, ℕ, List, [], slice_index_or, refl, sym, ap, ◌∙◌}
+use Rattle.std.proofs.Common.{◌≡◌, refl, ap, ◌∙◌}
 use Rattle.aes_gcm.specs.Gctr.{counter_block, inc32}
 use Rattle.aes_gcm.proofs.Counters.{below_eight}
 use Rattle.aes_gcm.proofs.counter.eight_counters.Goals as goal

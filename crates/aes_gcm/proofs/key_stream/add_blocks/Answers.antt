@@ -1,4 +1,4 @@
-use Rattle.std.proofs.Common.{◌≡◌, ℕ, ◌+◌, ◌-◌, ◌*◌, ◌/◌, ◌%◌, ◌<◌, ◌≤◌, [], length, slice_index, slice_index_or, bit_xor, ap, refl, ◌∙◌, arith}
+use Rattle.std.proofs.Common.{◌≡◌, ℕ, ◌+◌, ◌-◌, ◌*◌, ◌/◌, ◌%◌, ◌<◌, [], slice_index, slice_index_or, ◌∙◌, arith}
 use Rattle.aes_gcm.proofs.Streams.{added_more}
 use Rattle.aes_gcm.proofs.key_stream.add_blocks.Goals as goal
 

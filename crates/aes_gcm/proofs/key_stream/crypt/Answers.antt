@@ -1,6 +1,6 @@
-use Rattle.std.proofs.Common.{◌≡◌, ℕ, ◌+◌, ◌-◌, ◌*◌, ◌/◌, ◌%◌, ◌<◌, List, [], length, take, drop, slice_index, slice_index_or, bit_xor, ap, refl, ◌∙◌, arith}
+use Rattle.std.proofs.Common.{◌≡◌, ℕ, ◌+◌, ◌-◌, ◌/◌, ◌%◌, ◌<◌, List, [], length, take, drop, slice_index, slice_index_or, bit_xor, ap, refl, ◌∙◌, arith}
 use Rattle.aes_block.specs.KeyExpansion.{aes256}
-use Rattle.aes_gcm.specs.Gctr.{counter_block, gctr, inc32, key_byte}
+use Rattle.aes_gcm.specs.Gctr.{counter_block, inc32, key_byte}
 use Rattle.aes_gcm.proofs.Streams.{gctr_joined, later_stream, stream_byte}
 use Rattle.aes_gcm.proofs.key_stream.crypt.Goals as goal
 

@@ -1,7 +1,7 @@
-use Rattle.std.proofs.Common.{◌≡◌, ℕ, ◌<◌, List, [], length, map, slice_index_or, ap, ◌∙◌, arith}
+use Rattle.std.proofs.Common.{ℕ, ◌<◌, List, [], slice_index_or, ap, ◌∙◌, arith}
 use Rattle.std.proofs.lemmas.List.{get_or-map}
 use Rattle.aes_block.specs.KeyExpansion.{aes256}
-use Rattle.aes_gcm.specs.Gctr.{HasStream, counter_block}
+use Rattle.aes_gcm.specs.Gctr.{HasStream}
 use Rattle.aes_gcm.proofs.key_stream.first_turn.Goals as goal
 
 pub returns : goal.returns

@@ -1,4 +1,4 @@
-use Rattle.std.proofs.Common.{◌≡◌, ℕ, ◌+◌, ◌-◌, ◌*◌, ◌/◌, ◌%◌, ◌<◌, List, [], length, slice_index, slice_index_or, bit_xor, ap, refl, ◌∙◌, arith}
+use Rattle.std.proofs.Common.{◌≡◌, ℕ, ◌+◌, ◌-◌, ◌*◌, ◌/◌, ◌%◌, ◌<◌, List, [], length, slice_index, slice_index_or, ap, refl, ◌∙◌, arith}
 use Rattle.aes_block.specs.KeyExpansion.{aes256}
 use Rattle.aes_gcm.specs.Gctr.{counter_block, key_byte}
 use Rattle.aes_gcm.proofs.Counters.{counter_block_from}

@@ -3,4 +3,4 @@ use Rattle.shell_words.proofs.Verbs.{named}
 use Rattle.shell_words.proofs.words.is_command.Goals as goal
 
 pub returns : goal.returns
-returns c = c.is_among.ensures ∙ named c.args.word.now
+returns c = c.contains.ensures.value ∙ named c.args.word.now

@@ -1,4 +1,4 @@
-use Rattle.std.proofs.Common.{◌≡◌, ℕ, ◌++◌, List, length, ap, ◌∙◌, arith}
+use Rattle.std.proofs.Common.{◌≡◌, ℕ, ◌++◌, List, ap, ◌∙◌, arith}
 use Rattle.std.specs.Int.{w128, to_be_bytes}
 use Rattle.aes_block.specs.KeyExpansion.{aes256}
 use Rattle.aes_gcm.specs.Gcm.{bit_length, hash_subkey, padded}

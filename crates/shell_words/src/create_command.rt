@@ -1,9 +1,9 @@
-// The options as a command of `clap`.
-ghost use Rattle.std.specs.Prelude.{◌≡◌, ◌≢◌, [], IfOk, IfSome, false, codes, map};
+// The options of `create` as a command of `clap`.
+ghost use Rattle.std.specs.Prelude.{◌≡◌, ◌≢◌, [], IfOk, IfSome, false, map};
 ghost use Rattle.std.specs.Option.{IsNone};
 ghost use Rattle.std.specs.String.{string_bytes};
-ghost use Rattle.clap.specs.Words.{app_of, fault_of, found_of, rows_of, rule_of};
-ghost use Rattle.create_options.specs.Command.{bare_app, create_app, option_rule, values_in};
+ghost use Rattle.clap.specs.Words.{app_of, fault_of, found_of, rows_of, rule_of, with_rule};
+ghost use Rattle.shell_words.specs.CreateCommand.{bare_app, create_app, option_rule, values_in};
 
 use block_id::Memory;
 use clap::error::ErrorKind;
@@ -42,11 +42,21 @@ pub(crate) fn matches_in<'a>(
 fn create_command<'a>(alloc: Global) -> Result<Command<'a>, AllocError>
     ensures { IfOk result (λ command. app_of command ≡ create_app) }
 {
-    bare_command(alloc)
-        .arg(option(alloc, BLOCK_SIZE))?
-        .arg(option(alloc, SCRYPT_N))?
-        .arg(option(alloc, SCRYPT_R))?
-        .arg(option(alloc, SCRYPT_P))
+    let command = with_option(alloc, bare_command(alloc), BLOCK_SIZE)?;
+    let command = with_option(alloc, command, SCRYPT_N)?;
+    let command = with_option(alloc, command, SCRYPT_R)?;
+    with_option(alloc, command, SCRYPT_P)
+}
+
+/// One option more.
+fn with_option<'a>(
+    alloc: Global,
+    command: Command<'a>,
+    name: &'a str,
+) -> Result<Command<'a>, AllocError>
+    ensures { IfOk result (λ more. app_of more ≡ with_rule (app_of command.entry) (option_rule name.entry.now)) }
+{
+    command.arg(option(alloc, name))
 }
 
 /// No argument; the first word isn't the program's name, and `--help` and `-h` aren't known.

@@ -4,8 +4,8 @@ use Rattle.std.specs.String.{string_bytes}
 use Rattle.clap.specs.contracts.error.kind.ErrorKind.{the_type}
 use Rattle.clap.specs.declared.error.kind.ErrorKind.TheVariants.{OutOfMemory}
 use Rattle.clap.specs.Words.{App, IsAmong, fault_of, is_simple, is_simple_and_free, kind_of, matches_of}
-use Rattle.create_options.proofs.Simple.{create_app_is_free, create_app_is_simple}
-use Rattle.create_options.proofs.command.matches_in.Goals as goal
+use Rattle.shell_words.proofs.Simple.{create_app_is_free, create_app_is_simple}
+use Rattle.shell_words.proofs.create_command.matches_in.Goals as goal
 
 pub returns-in-Ok-clause-some : goal.returns-in-Ok-clause-some
 returns-in-Ok-clause-some c =

@@ -7,7 +7,7 @@ use Rattle.std.proofs.Math.Pow.{pow-lt, pow_mono}
 use Rattle.std.specs.List.{list_any, range_with_len}
 use Rattle.std.specs.Result.{IfOk, IsOk, result_ok}
 use Rattle.scrypt_kdf.specs.Cost.{Cost, IsAllowed}
-use Rattle.create_options.specs.Options.{is_power}
+use Rattle.shell_words.specs.CreateOptions.{is_power}
 
 abbrev one_of : ℕ → ℕ → Bool
 one_of m n = list_any (λ k. n == 2 ^ k) (range_with_len 1 m)

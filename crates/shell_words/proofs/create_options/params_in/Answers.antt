@@ -1,8 +1,8 @@
 use Rattle.std.proofs.Common.{ℕ, Option, Some, None, cond, ◌∙◌, option_and_then}
 use Rattle.scrypt_kdf.specs.Cost.{Cost}
-use Rattle.create_options.proofs.Powers.{made}
-use Rattle.create_options.specs.Options.{cost_at, is_power}
-use Rattle.create_options.proofs.reading.params_in.Goals as goal
+use Rattle.shell_words.proofs.Powers.{made}
+use Rattle.shell_words.specs.CreateOptions.{cost_at, is_power}
+use Rattle.shell_words.proofs.create_options.params_in.Goals as goal
 
 abbrev cost_of : Option ℕ → Option ℕ → Option ℕ → Option Cost
 cost_of ns rs ps =

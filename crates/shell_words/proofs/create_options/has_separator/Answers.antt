@@ -4,7 +4,7 @@ use Rattle.std.proofs.lemmas.Iterator.Search.{any_from_yields_List}
 use Rattle.std.specs.Str.{bytes_eq}
 use Rattle.std.specs.String.{string_bytes}
 use Rattle.clap.proofs.WalkLemmas.{list_any-map}
-use Rattle.create_options.proofs.reading.has_separator.Goals as goal
+use Rattle.shell_words.proofs.create_options.has_separator.Goals as goal
 
 pub returns : goal.returns
 returns c =

@@ -6,8 +6,8 @@ use Rattle.clap.specs.Words.{Row, Text, first_of}
 use Rattle.block_id.specs.declared.sizes.TheConstants.{MIN_BLOCK, MAX_BLOCK}
 use Rattle.scrypt_kdf.specs.Cost.{Cost}
 use Rattle.script_text.specs.Numbers.{number_of}
-use Rattle.create_options.specs.Command.{are_options, values_in}
-use Rattle.create_options.specs.declared.options.CreateOptions.{CreateOptions}
+use Rattle.shell_words.specs.CreateCommand.{are_options, values_in}
+use Rattle.shell_words.specs.declared.create_options.CreateOptions.{CreateOptions}
 
 -- the number that an option's value is, or `absent` where the option isn't there
 unfoldable pub number_at : Text → ℕ → List Row → Option ℕ
