@@ -24,7 +24,12 @@ fn one_directory(rt: HostRuntime) -> Result<(), Fail> {
     assert_eq!(rt; entries.len(), 1);
     for entry in &entries {
         assert_eq!(rt; entry.name.as_slice(), b"a".as_slice());
-        assert!(rt; entry.attr == attributes().ok_or("a moment")?);
+        let attr = &entry.attr;
+        assert!(rt; matches!(attr.kind, Kind::Directory));
+        assert_eq!(rt; (attr.mode, attr.uid, attr.gid), (0o755, 0, 0));
+        for time in [attr.atime, attr.mtime, attr.ctime] {
+            assert_eq!(rt; (time.secs(), time.nanos()), (100, 5));
+        }
         assert!(rt; entry.blob == BlockId(BLOB));
     }
     Ok(())

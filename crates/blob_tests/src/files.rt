@@ -22,7 +22,7 @@ fn a_file_from_its_header_to_its_end(rt: HostRuntime) -> Result<(), Fail> {
     set_parent(alloc, &mut blobs, &id, &BlockId([8; 16]), &mut chance)?;
     resize_body(alloc, &mut blobs, &id, 8, &mut chance)?;
     let moved = blob_header(alloc, &mut blobs, &id)?;
-    assert!(rt; moved.kind == Kind::File);
+    assert!(rt; matches!(moved.kind, Kind::File));
     assert!(rt; moved.parent == BlockId([8; 16]));
     assert_eq!(rt; body_len(alloc, &mut blobs, &id)?, 8);
     let tail = read_body(alloc, &mut blobs, &id, 2, 100)?;

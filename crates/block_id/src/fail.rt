@@ -3,6 +3,7 @@ ghost use Rattle.std.specs.Prelude.{◌≡◌};
 
 use crate::BlockId;
 use std::alloc::{AllocError, AllocFailed};
+use std::fmt::{self, Debug, Formatter};
 
 /// Memory was refused.
 #[derive(Clone, Copy, Debug, PartialEq, Eq)]
@@ -13,7 +14,7 @@ pub struct Memory;
 pub struct Failed;
 
 /// What is wrong with a block: the reasons 1 to 10, in this order.
-#[derive(Clone, Copy, Debug, PartialEq, Eq)]
+#[derive(Clone, Copy, PartialEq, Eq)]
 pub enum Why {
     /// The file isn't there.
     Missing,
@@ -38,11 +39,21 @@ pub enum Why {
 }
 
 /// How a call on stored blocks fails.
-#[derive(Clone, Copy, Debug, PartialEq, Eq)]
+#[derive(Clone, Copy, PartialEq, Eq)]
 pub enum Fail {
     Memory,
     Fault,
     Violation(Why),
+}
+
+impl Debug for Fail {
+    fn fmt<W: fmt::Write>(&self, f: &mut Formatter<W>) -> fmt::Result {
+        f.write_str(match self {
+            Fail::Memory => "Memory",
+            Fail::Fault => "Fault",
+            Fail::Violation(_) => "Violation",
+        })
+    }
 }
 
 impl From<AllocError> for Memory {

@@ -16,7 +16,7 @@ pub const BLOB_FORMAT: u16 = 1;
 pub const HEADER_LEN: usize = 19;
 
 /// What a blob is, and the id of the directory that holds it. The root's parent is sixteen zero bytes.
-#[derive(Clone, Copy, PartialEq, Eq)]
+#[derive(Clone, Copy)]
 pub struct Header {
     pub kind: Kind,
     pub parent: BlockId,

@@ -5,8 +5,7 @@ use Rattle.fs_model.specs.declared.limits.TheConstants.{MAX_TARGET, MAX_MODE}
 use Rattle.fs_model.specs.declared.command.Command.{Command}
 use Rattle.fs_model.specs.declared.command.Command.TheVariants.{Symlink, Chmod}
 use Rattle.fs_model.specs.declared.command.Command.TheVariants as command
-use Rattle.fs_model.specs.Names.{IsName}
-use Rattle.fs_model.specs.PathTexts.{is_zero}
+use Rattle.fs_model.specs.Names.{IsName, is_zero}
 
 -- 1 to 4,095 bytes, none of them zero
 abbrev pub is_target : List ℕ → Bool

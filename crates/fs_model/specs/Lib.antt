@@ -1,6 +1,5 @@
 pub mod Instant
 pub mod Names
-pub mod PathTexts
 pub mod Fitting
 pub mod Tree
 pub mod LookUp

@@ -10,6 +10,9 @@ is_dots (a ∷ []) = a == 46
 is_dots (a ∷ b ∷ []) = (a == 46) && (b == 46)
 is_dots (a ∷ b ∷ c ∷ rest) = false
 
+abbrev pub is_zero : ℕ → Bool
+is_zero b = b == 0
+
 -- a zero byte, or the slash between the names of a path
 abbrev pub is_reserved : ℕ → Bool
 is_reserved b = (b == 0) || (b == 47)

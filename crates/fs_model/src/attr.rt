@@ -12,7 +12,7 @@ pub const FILE_MODE: u32 = 0o644;
 pub const LINK_MODE: u32 = 0o777;
 
 /// What stands at a path.
-#[derive(Clone, Copy, PartialEq, Eq)]
+#[derive(Clone, Copy)]
 pub enum Kind {
     Directory,
     File,
@@ -20,7 +20,7 @@ pub enum Kind {
 }
 
 /// What a row is beside its bytes.
-#[derive(Clone, Copy, PartialEq, Eq)]
+#[derive(Clone, Copy)]
 pub struct Attr {
     pub kind: Kind,
     /// At most 7777 octal.

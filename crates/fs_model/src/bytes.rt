@@ -1,7 +1,6 @@
 // Bytes of a file or of a link's target.
-ghost use Rattle.std.specs.Prelude.{◌≡◌, IfOk};
+ghost use Rattle.std.specs.Prelude.{◌≡◌};
 
-use block_id::Memory;
 use std::marker::Model;
 
 /// A list of bytes.
@@ -31,14 +30,5 @@ impl ByteText {
         ensures { result.now ≡ self.now }
     {
         self.bytes.as_slice()
-    }
-
-    /// The same bytes.
-    pub fn try_clone(&self) -> Result<ByteText, Memory>
-        ensures { IfOk result (λ copy. copy ≡ self.now) }
-    {
-        Ok(ByteText {
-            bytes: self.bytes.clone()?,
-        })
     }
 }

@@ -1,7 +1,7 @@
 // The commands of the tree language.
 ghost use Rattle.std.specs.Prelude.{◌≡◌, ◌↔◌, IsTrue};
 ghost use Rattle.fs_model.specs.Fitting.{IsFitting, HoldsNames, is_target};
-ghost use Rattle.fs_model.specs.PathTexts.{is_zero};
+ghost use Rattle.fs_model.specs.Names.{is_zero};
 ghost use Rattle.std.specs.List.{list_any};
 
 use crate::limits::{MAX_MODE, MAX_TARGET};
@@ -89,5 +89,5 @@ fn has_target_form(bytes: &[u8]) -> bool
 pub fn has_zero(bytes: &[u8]) -> bool
     ensures { result ≡ list_any is_zero bytes.now }
 {
-    bytes.iter().any(|b| *b == 0)
+    bytes.contains(&0)
 }

@@ -10,22 +10,20 @@ pub mod laws;
 mod limits;
 mod moment;
 mod name;
-mod parse;
 mod path;
 mod reply;
 
 pub use attr::{Attr, DIRECTORY_MODE, FILE_MODE, Kind, LINK_MODE};
 pub use block_id::Memory;
 pub use bytes::ByteText;
-pub use command::Command;
-pub use error::{FsError, PathError};
+pub use command::{Command, has_zero};
+pub use error::FsError;
 pub use kind::{kind_byte, kind_from};
 pub use limits::{
     ENTRY_SIZE, MAX_ENTRIES, MAX_FILE, MAX_GROWTH, MAX_MODE, MAX_NAME, MAX_PATH_TEXT, MAX_READ,
     MAX_TARGET, NANOS_PER_SEC,
 };
 pub use moment::Moment;
-pub use name::{Name, has_name_form};
-pub use parse::parse_path;
+pub use name::{Name, has_dots_alone, has_name_form};
 pub use path::Path;
 pub use reply::{ListRow, Reply, RowList};

@@ -6,7 +6,7 @@ use crate::limits::NANOS_PER_SEC;
 use std::marker::Model;
 
 /// Seconds, and nanoseconds below 1,000,000,000.
-#[derive(Clone, Copy, PartialEq, Eq)]
+#[derive(Clone, Copy)]
 pub struct Moment {
     secs: u64,
     nanos: u32,

@@ -4,6 +4,7 @@ ghost use Rattle.std.specs.Option.{SomeIff};
 ghost use Rattle.fs_model.specs.Names.{IsName, is_name, is_dots, is_reserved};
 ghost use Rattle.std.specs.List.{list_any};
 
+use crate::command::has_zero;
 use crate::limits::MAX_NAME;
 use block_id::Memory;
 use std::marker::Model;
@@ -69,7 +70,7 @@ pub fn has_name_form(bytes: &[u8]) -> bool
 fn has_reserved(bytes: &[u8]) -> bool
     ensures { result ≡ list_any is_reserved bytes.now }
 {
-    bytes.iter().any(|b| *b == 0 || *b == b'/')
+    has_zero(bytes) || bytes.contains(&b'/')
 }
 
 /// `.` or `..`

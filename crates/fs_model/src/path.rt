@@ -1,5 +1,5 @@
 // A path of the tree.
-ghost use Rattle.std.specs.Prelude.{◌≡◌, [], ◌∷◌, ◌++◌, All, IfOk, OnOk, OnErr};
+ghost use Rattle.std.specs.Prelude.{◌≡◌, [], ◌∷◌, ◌++◌, All, OnOk, OnErr};
 ghost use Rattle.fs_model.specs.Names.{IsName};
 
 use crate::Name;
@@ -58,16 +58,5 @@ impl Path {
         let _bytes = name.as_slice();
         self.names.push(name)?;
         Ok(())
-    }
-
-    /// The same path.
-    pub fn try_clone(&self) -> Result<Path, Memory>
-        ensures { IfOk result (λ copy. copy ≡ self.now) }
-    {
-        let mut names = Vec::new(*self.names.allocator());
-        for name in &self.names {
-            names.push(name.try_clone()?)?;
-        }
-        Ok(Path { names })
     }
 }

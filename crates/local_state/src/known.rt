@@ -11,7 +11,7 @@ use std::collections::HashMap;
 use std::marker::Model;
 
 /// A version can't rise: it is at the end of its type.
-#[derive(Clone, Copy, PartialEq, Eq)]
+#[derive(Clone, Copy, Debug, PartialEq, Eq)]
 pub struct Spent;
 
 /// A finite map from ids of blocks to a version and whether the block lives. An id is used where it is in the map.

@@ -11,7 +11,7 @@ use Rattle.blob_api.specs.BlobMap.{Id, BlobMap, BlobHoldings}
 use Rattle.fs_model.specs.declared.attr.Kind.{Kind}
 use Rattle.fs_model.specs.declared.attr.Kind.TheVariants.{Directory, File, Link}
 use Rattle.fs_model.specs.declared.limits.TheConstants.{MAX_TARGET}
-use Rattle.fs_model.specs.PathTexts.{is_zero}
+use Rattle.fs_model.specs.Names.{is_zero}
 use Rattle.fs_model.specs.Tree.{Path, Row, Tree, is_directory, FitsKind}
 use Rattle.fs_blobs.specs.declared.header.TheConstants.{HEADER_LEN}
 use Rattle.fs_blobs.specs.Headers.{blob}

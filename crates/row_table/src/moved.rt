@@ -37,7 +37,7 @@ fn moved_path(alloc: Global, path: &Path, from: &[Name], to: &[Name]) -> Result<
     if has_prefix(names, from) {
         joined(alloc, to, &names[from.len()..])
     } else {
-        path.try_clone()
+        joined(alloc, &[], names)
     }
 }
 

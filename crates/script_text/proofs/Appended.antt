@@ -1,5 +1,5 @@
 -- One text after another.
-use Rattle.std.proofs.Common.{◌≡◌, ℕ, ◌+◌, ◌<◌, ◌≤◌, List, ◌++◌, length, Result, Ok, Err, refl, sym, ap, ◌∙◌, append_assoc, length-append, arith}
+use Rattle.std.proofs.Common.{◌≡◌, ℕ, ◌+◌, ◌<◌, ◌≤◌, List, ◌++◌, length, Result, Ok, Err, refl, sym, ap, ◌∙◌, append_assoc, length-append, le_trans, arith}
 use Rattle.std.proofs.lemmas.Result.{on_ok_weaker, on_err_weaker}
 use Rattle.std.proofs.Common.{take, drop, get_or, [], ◌∷◌, append-nil}
 use Rattle.std.proofs.lemmas.List.{take_more, drop_more, take_all, flat_map_more, take-append-drop}
@@ -21,7 +21,7 @@ then_all a b c (Ok v) s x y u ran first second =
     record {
       ok = on_ok_weaker s (λ e. e ∙ ap (λ z. z ++ y) joined ∙ append_assoc a.items x y) second.ok;
       err = on_err_weaker s (λ part. (x ++ part.0, part.1 ∙ ap (λ z. z ++ part.0) joined ∙ append_assoc a.items x part.0)) second.err;
-      capacity = omega (arith, second.capacity);
+      capacity = le_trans first.capacity second.capacity;
       full = on_err_weaker s (λ short. omega arith) second.full;
     }
 then_all a b c (Err e) s x y u ran first second = absurd (cc ran)
@@ -31,9 +31,7 @@ pub stopped : {A E F : Type 0} (a b : Vec ℕ A) (r : Result (Unit {0}) E) (s : 
 stopped a b (Ok v) s x y e ran bad first = absurd (cc ran)
 stopped a b (Err d) (Ok v) x y e ran bad first = absurd (cc bad)
 stopped a b (Err d) (Err g) x y e ran bad first =
-    let whole = length-append x y in
-    let short = first.full in
-    record { ok = tt; err = first.err; capacity = first.capacity; full = omega arith }
+    record { ok = tt; err = first.err; capacity = first.capacity; full = omega (arith, length-append x y, first.full) }
 
 -- a text for which there was no room
 pub refused : {A E : Type 0} (a b : Vec ℕ A) (r : Result (Unit {0}) E) (text : List ℕ) (e : E) → r ≡ Err e → b.items ≡ a.items → vec_capacity a ≤ vec_capacity b
@@ -51,7 +49,7 @@ pub grown_more : {X A E : Type 0} (f : X → List ℕ) (xs : List X) (i : ℕ) (
 grown_more f xs i x a b c (Ok v) u within at ran so_far more =
     let next : take (i + 1) xs ≡ take i xs ++ x ∷ [] = take_more xs i x within ∙ ap (λ y. take i xs ++ y ∷ []) (sym at) in (
       more.ok ∙ ap (λ z. z ++ f x) so_far.0 ∙ flat_map_more f a.items (take i xs) x ∙ ap (λ z. a.items ++ flat_map f z) (sym next),
-      omega (arith, so_far.1, more.capacity),
+      le_trans so_far.1 more.capacity,
     )
 grown_more f xs i x a b c (Err e) u within at ran so_far more = absurd (cc ran)
 
@@ -70,6 +68,3 @@ grown_stops {E = E} f xs i x a b c r s e within at ran bad so_far more =
 -- all of them
 pub grown_all : {X A E : Type 0} (f : X → List ℕ) (xs : List X) (i : ℕ) (a b : Vec ℕ A) → length xs ≤ i → Grown f xs i a b → Appends {E = E} a b (Ok tt) (flat_map f xs)
 grown_all f xs i a b past so_far = record { ok = so_far.0 ∙ ap (λ z. a.items ++ flat_map f z) (take_all i xs past); err = tt; capacity = so_far.1; full = tt }
-
-pub grown_none : {X A : Type 0} (f : X → List ℕ) (xs : List X) (a : Vec ℕ A) → Grown f xs 0 a a
-grown_none f xs a = (sym (append-nil a.items), omega arith)

@@ -5,6 +5,7 @@ pub mod Lines
 pub mod Numerals
 pub mod OneReading
 pub mod Parts
+pub mod Pieces
 pub mod Shorts
 pub mod Spelled
 pub mod Unformed

@@ -10,7 +10,7 @@ use Rattle.std.proofs.lemmas.Int.Digits.{digits_value-lt}
 use Rattle.std.proofs.lemmas.Option.{cond_some, same_Some, none-some}
 use Rattle.std.proofs.lemmas.Result.{IfOk-at_ok}
 use Rattle.fs_model.specs.Fitting.{IsFitting, is_target, is_mode}
-use Rattle.fs_model.specs.PathTexts.{is_zero}
+use Rattle.fs_model.specs.Names.{is_zero}
 use Rattle.fs_model.specs.declared.command.Command.{Command}
 use Rattle.fs_model.specs.declared.command.Command.TheVariants as made
 use Rattle.fs_model.specs.declared.error.FsError.{FsError}

@@ -27,19 +27,19 @@ same_then (Ok x) f g h = h x
 same_then (Err e) f g h = refl
 
 -- two texts in one
-two_forms : {C : Type 0} (o p : Option (List ℕ)) (f : List ℕ → List ℕ → Result C FsError)
+two_texts_form : {C : Type 0} (o p : Option (List ℕ)) (f : List ℕ → List ℕ → Result C FsError)
     → (formed o >>= (λ first. formed p >>= (λ second. f first second)))
     ≡ ((formed o >>= (λ first. formed p >>= (λ second. let texts : List ℕ × List ℕ = (first, second) in Ok texts))) >>= (λ texts. f texts.0 texts.1))
-two_forms (Some a) (Some b) f = refl
-two_forms (Some a) None f = refl
-two_forms None p f = refl
+two_texts_form (Some a) (Some b) f = refl
+two_texts_form (Some a) None f = refl
+two_texts_form None p f = refl
 
 -- the texts of two words come first
 texts_first : {C : Type 0} (ws : List (List ℕ)) (f : List ℕ → List ℕ → Result C FsError)
     → (two ws >>= (λ both. formed (unescaped both.0) >>= (λ first. formed (unescaped both.1) >>= (λ second. f first second)))) ≡ (two_texts ws >>= (λ texts. f texts.0 texts.1))
 texts_first [] f = refl
 texts_first (a ∷ []) f = refl
-texts_first (a ∷ b ∷ []) f = two_forms (unescaped a) (unescaped b) f
+texts_first (a ∷ b ∷ []) f = two_texts_form (unescaped a) (unescaped b) f
 texts_first (a ∷ b ∷ c ∷ ws) f = refl
 
 -- the text of a word and a word of another form in one
@@ -54,27 +54,21 @@ text_first : {A C : Type 0} (word : List ℕ) (others : Option A) (f : List ℕ 
     → (formed (unescaped word) >>= (λ text. formed others >>= (λ x. f text x))) ≡ (text_before word others >>= (λ all. f all.0 all.1))
 text_first word others f = text_form (unescaped word) others f
 
--- the path by the text
-pub path_by_text : {A : Type 0} (word : List ℕ) (others : Option A)
-    → path_before word others ≡ (text_before word others >>= (λ both. path both.0 >>= (λ at. let all : List (List ℕ) × A = (at, both.1) in Ok all)))
-path_by_text {A = A} word others = text_first word others (λ text x. path text >>= (λ at. let all : List (List ℕ) × A = (at, x) in Ok all))
-
--- a path and a word of another form in one
-path_form : {A C : Type 0} (o : Option (List ℕ)) (p : Option A) (f : List (List ℕ) → A → Result C FsError)
-    → (formed o >>= (λ text. formed p >>= (λ x. path text >>= (λ at. f at x))))
-    ≡ ((formed o >>= (λ text. formed p >>= (λ x. path text >>= (λ at. let all : List (List ℕ) × A = (at, x) in Ok all)))) >>= (λ all. f all.0 all.1))
-path_form {A = A} (Some text) (Some x) f = by (path text)
+-- the path of a text and what stands behind it in one
+path_form : {A C : Type 0} (r : Result (List ℕ × A) FsError) (f : List (List ℕ) → A → Result C FsError)
+    → (r >>= (λ all. path all.0 >>= (λ at. f at all.1)))
+    ≡ ((r >>= (λ all. path all.0 >>= (λ at. let said : List (List ℕ) × A = (at, all.1) in Ok said))) >>= (λ said. f said.0 said.1))
+path_form {A = A} (Ok all) f = by (path all.0)
   where
-    by : (r : Result (List (List ℕ)) FsError) → (r >>= (λ at. f at x)) ≡ ((r >>= (λ at. let all : List (List ℕ) × A = (at, x) in Ok all)) >>= (λ all. f all.0 all.1))
+    by : (r : Result (List (List ℕ)) FsError) → (r >>= (λ at. f at all.1)) ≡ ((r >>= (λ at. let said : List (List ℕ) × A = (at, all.1) in Ok said)) >>= (λ said. f said.0 said.1))
     by (Ok at) = refl
     by (Err e) = refl
-path_form (Some text) None f = refl
-path_form None p f = refl
+path_form (Err e) f = refl
 
 -- the path of a word before a word of another form
 path_first : {A C : Type 0} (word : List ℕ) (others : Option A) (f : List (List ℕ) → A → Result C FsError)
     → (formed (unescaped word) >>= (λ text. formed others >>= (λ x. path text >>= (λ at. f at x)))) ≡ (path_before word others >>= (λ all. f all.0 all.1))
-path_first word others f = path_form (unescaped word) others f
+path_first word others f = text_first word others (λ text x. path text >>= (λ at. f at x)) ∙ path_form (text_before word others) f
 
 -- the path of a word before two such words
 path_first_of_two : {A B C : Type 0} (word : List ℕ) (a : Option A) (b : Option B) (f : List (List ℕ) → A → B → Result C FsError)

@@ -1,5 +1,5 @@
 -- Words with escapes, byte by byte.
-use Rattle.std.proofs.Common.{◌≡◌, ℕ, ◌+◌, ◌*◌, ◌-◌, ◌<◌, ◌≤◌, List, [], ◌∷◌, ◌++◌, length, take, drop, get_or, Option, Some, None, refl, sym, ap, ◌∙◌, arith, append_assoc, append-nil, length-drop}
+use Rattle.std.proofs.Common.{◌≡◌, ℕ, ◌+◌, ◌*◌, ◌-◌, ◌<◌, ◌≤◌, List, [], ◌∷◌, ◌++◌, length, take, drop, get_or, Option, Some, None, refl, sym, ap, ◌∙◌, arith, append-nil, length-drop}
 use Rattle.std.specs.Option.{option_map}
 use Rattle.std.specs.Prelude.{◌&&◌, cond, nat_lt}
 use Rattle.std.proofs.lemmas.Bool.{ne_eqb, cond-true, cond-false, and_from, and_right, lt-ltb, le-ltb}
@@ -72,11 +72,6 @@ no_low h l bad = cond-false (nat_lt h 16 && nat_lt l 16) _ _ (and_right (nat_lt 
 
 pub of_digits : (h l x y : ℕ) → (h < 16) × (x ≡ h) → (l < 16) × (y ≡ l) → Some (16 * x + y) ≡ cond (nat_lt h 16 && nat_lt l 16) (Some (16 * h + l)) None
 of_digits h l x y high low = rw (high.1, low.1) (sym (cond-true _ _ _ (and_from _ _ (lt-ltb h 16 high.0) (lt-ltb l 16 low.0))))
-
--- bytes so far, and one more
-pub one_more : (bytes : List ℕ) (b : ℕ) (o : Option (List ℕ)) → option_map (λ after. bytes ++ after) (with_byte (Some b) o) ≡ option_map (λ after. (bytes ++ b ∷ []) ++ after) o
-one_more bytes b None = refl
-one_more bytes b (Some after) = ap Some (sym (append_assoc bytes (b ∷ []) after))
 
 pub none_more : (bytes : List ℕ) → option_map (λ after. bytes ++ after) (unescaped []) ≡ Some bytes
 none_more bytes = ap (option_map (λ after. bytes ++ after)) unescaped-nil ∙ ap Some (append-nil bytes)

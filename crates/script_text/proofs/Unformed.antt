@@ -2,13 +2,14 @@
 use Rattle.std.proofs.Common.{◌≡◌, ℕ, Bool, true, false, cond, not, ◌&&◌, List, [], ◌∷◌, length, Option, Some, None, Result, Ok, Err, is_some, refl, sym, ap, ◌∙◌, arith, nat_lt, inl, inr, suc}
 use Rattle.std.specs.List.{list_any}
 use Rattle.std.proofs.lemmas.Bool.{cases_lt, cond-true, cond-false, and_right, lt-ltb, le-ltb, le-leb, lt-leb, not-true}
-use Rattle.fs_model.specs.PathTexts.{path_of, is_zero}
+use Rattle.fs_model.specs.Names.{is_zero}
+use Rattle.script_text.specs.PathTexts.{path_of}
 use Rattle.fs_model.specs.declared.command.Command.{Command}
 use Rattle.fs_model.specs.declared.command.Command.TheVariants as made
 use Rattle.fs_model.specs.declared.error.FsError.{FsError}
 use Rattle.fs_model.specs.declared.error.FsError.TheVariants.{NoEntry, Exists, NotDirectory, IsDirectory, NotEmpty, Invalid, Busy, NameTooLong, TooLarge, NotLink, BadLine}
-use Rattle.fs_model.specs.declared.error.PathError.{PathError}
-use Rattle.fs_model.specs.declared.error.PathError.TheVariants.{Form as NoPath, Dot, LongName, LongPath, Memory}
+use Rattle.script_text.specs.declared.error.PathError.{PathError}
+use Rattle.script_text.specs.declared.error.PathError.TheVariants.{Form as NoPath, Dot, LongName, LongPath, Memory}
 use Rattle.fs_model.specs.declared.limits.TheConstants.{MAX_TARGET}
 use Rattle.script_text.specs.declared.verb.Verb.{Verb}
 use Rattle.script_text.specs.declared.verb.Verb.TheVariants as verb

@@ -6,10 +6,11 @@ use Rattle.fs_model.specs.declared.command.Command.{Command}
 use Rattle.fs_model.specs.declared.command.Command.TheVariants as made
 use Rattle.fs_model.specs.declared.error.FsError.{FsError}
 use Rattle.fs_model.specs.declared.error.FsError.TheVariants.{Invalid, NameTooLong, BadLine}
-use Rattle.fs_model.specs.declared.error.PathError.{PathError}
-use Rattle.fs_model.specs.declared.error.PathError.TheVariants.{LongName, LongPath}
+use Rattle.script_text.specs.declared.error.PathError.{PathError}
+use Rattle.script_text.specs.declared.error.PathError.TheVariants.{LongName, LongPath}
 use Rattle.fs_model.specs.declared.limits.TheConstants.{MAX_TARGET}
-use Rattle.fs_model.specs.PathTexts.{path_of, is_zero}
+use Rattle.fs_model.specs.Names.{is_zero}
+use Rattle.script_text.specs.PathTexts.{path_of}
 use Rattle.script_text.specs.declared.verb.Verb.{Verb}
 use Rattle.script_text.specs.declared.verb.Verb.TheVariants as verb
 use Rattle.script_text.specs.declared.verb.TheConstants.{VERBS}

@@ -1,6 +1,7 @@
 pub mod Words
 pub mod Numbers
 pub mod Escapes
+pub mod PathTexts
 pub mod Forms
 pub mod Grammar
 pub mod Parts

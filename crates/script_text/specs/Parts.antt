@@ -8,9 +8,9 @@ use Rattle.script_text.specs.Grammar.{◌>>=◌, formed, path}
 -- the texts of two words
 abbrev pub two_texts : List (List ℕ) → Result (List ℕ × List ℕ) FsError
 two_texts words = do
-  both ← two words
-  first ← formed (unescaped both.0)
-  second ← formed (unescaped both.1)
+  pair ← two words
+  first ← formed (unescaped pair.0)
+  second ← formed (unescaped pair.1)
   Ok (first, second)
 
 -- the text of a word, and what the words behind it say
@@ -23,10 +23,9 @@ text_before word others = do
 -- the path of a word, and what the words behind it say, whose forms come first
 abbrev pub path_before : {A : Type 0} → List ℕ → Option A → Result (List (List ℕ) × A) FsError
 path_before word others = do
-  text ← formed (unescaped word)
-  rest ← formed others
-  at ← path text
-  Ok (at, rest)
+  all ← text_before word others
+  at ← path all.0
+  Ok (at, all.1)
 
 -- what two words say
 abbrev pub both : {A B : Type 0} → Option A → Option B → Option (A × B)

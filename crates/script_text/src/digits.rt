@@ -1,5 +1,5 @@
 // Bytes, numbers and moments at the end of a text.
-ghost use Rattle.std.specs.Prelude.{◌≡◌, ◌+◌, ◌≤◌, ◌∷◌, []};
+ghost use Rattle.std.specs.Prelude.{◌+◌, ◌≤◌, ◌∷◌, []};
 ghost use Rattle.std.specs.Fmt.{decimal};
 ghost use Rattle.script_text.specs.Texts.{hex_byte, last_digits, moment_text, numeral, octal, word};
 ghost use Rattle.script_text.specs.Appending.{Appends};

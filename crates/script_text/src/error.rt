@@ -1,4 +1,4 @@
-// Why a line makes no command.
+// Why a line makes no command, and a text no path.
 ghost use Rattle.std.specs.Prelude.{◌≡◌};
 
 use block_id::Memory;
@@ -44,5 +44,50 @@ impl<T: Drop> From<AllocFailed<T>> for LineError {
 
     fn from(_: AllocFailed<T>) -> Self {
         LineError::Memory
+    }
+}
+
+/// Why a text is no path.
+#[derive(Clone, Copy, PartialEq, Eq)]
+pub enum PathError {
+    /// It doesn't begin with `/`, has a zero byte, or has an empty name and isn't `/` alone.
+    Form,
+    /// A name is `.` or `..`.
+    Dot,
+    /// A name has more than 255 bytes.
+    LongName,
+    /// The text has more than 4,096 bytes.
+    LongPath,
+    /// Memory was refused.
+    Memory,
+}
+
+impl From<Memory> for PathError {
+    ghost use Rattle.script_text.specs.declared.error.PathError.TheVariants.{Memory};
+
+    ghost from_gives = { λ _ e. e ≡ Memory };
+
+    fn from(_: Memory) -> Self {
+        PathError::Memory
+    }
+}
+
+impl From<AllocError> for PathError {
+    ghost use Rattle.script_text.specs.declared.error.PathError.TheVariants.{Memory};
+
+    ghost from_gives = { λ _ e. e ≡ Memory };
+
+    fn from(_: AllocError) -> Self {
+        PathError::Memory
+    }
+}
+
+impl<T: Drop> From<AllocFailed<T>> for PathError {
+    ghost use Rattle.script_text.specs.declared.error.PathError.TheVariants.{Memory};
+
+    ghost from_gives = { λ _ e. e ≡ Memory };
+
+    fn from(_: AllocFailed<T>) -> Self {
+        PathError::Memory
     }
 }

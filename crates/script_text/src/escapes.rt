@@ -1,5 +1,5 @@
 // Words with escapes, and words in hexadecimal.
-ghost use Rattle.std.specs.Prelude.{◌≡◌, ◌<◌, [], length, MatchOption, Some, None};
+ghost use Rattle.std.specs.Prelude.{◌≡◌, ◌<◌, length, MatchOption, Some, None};
 ghost use Rattle.script_text.specs.Escapes.{byte_of, with_byte, unescaped, bytes_of};
 ghost use Rattle.script_text.specs.Grammar.{formed};
 ghost use Rattle.script_text.specs.Answers.{Gives};

@@ -1,20 +1,19 @@
 // The command that a line says.
 ghost use Rattle.std.specs.Prelude.{◌≡◌, map, IfOk, IfErr};
-ghost use Rattle.std.specs.List.{list_any};
 ghost use Rattle.fs_model.specs.Fitting.{IsFitting};
-ghost use Rattle.fs_model.specs.PathTexts.{is_zero};
 ghost use Rattle.script_text.specs.Grammar as grammar;
 ghost use Rattle.script_text.specs.Grammar.{command_of, sentence, command_in, only_path};
 ghost use Rattle.script_text.specs.Parts.{two_texts, text_before, path_before, both};
 ghost use Rattle.script_text.specs.Answers.{Gives, IsRefusal};
 
-use crate::LineError;
 use crate::error::BAD_LINE;
 use crate::escapes::{bytes, unescaped};
 use crate::numbers::{id, mode, number, time};
+use crate::paths::parse_path;
 use crate::verb::{Verb, verb_of};
 use crate::words::{front, has_empty_word, one, three, two, words};
-use fs_model::{ByteText, Command, FsError, MAX_TARGET, Path, PathError, parse_path};
+use crate::{LineError, PathError};
+use fs_model::{ByteText, Command, FsError, MAX_TARGET, Path, has_zero};
 use std::alloc::Global;
 
 /// Bytes of a line, without its newline.
@@ -221,7 +220,7 @@ fn both<A: Copy, B: Copy>(first: Option<A>, second: Option<B>) -> Option<(A, B)>
     }
 }
 
-/// The path of a text whose escapes are read.
+/// The path that a text says, or the error of the language that refuses it. No escape is read here.
 fn path(alloc: Global, text: Vec<u8>) -> Result<Path, LineError>
     ensures { Gives (λ path. path) result (grammar.path text.items) }
 {
@@ -243,10 +242,4 @@ fn target(text: Vec<u8>) -> Result<ByteText, LineError>
         return Err(LineError::Bad(FsError::NameTooLong));
     }
     Ok(ByteText::new(text))
-}
-
-fn has_zero(text: &[u8]) -> bool
-    ensures { result ≡ list_any is_zero text.now }
-{
-    text.iter().any(|b| *b == 0)
 }

@@ -1,5 +1,5 @@
 // The words of a line.
-ghost use Rattle.std.specs.Prelude.{◌≡◌, ◌∷◌, ◌<◌, [], length, map, IfOk, IsTrue, MatchOption};
+ghost use Rattle.std.specs.Prelude.{◌≡◌, ◌∷◌, ◌<◌, [], length, map, IfOk, MatchOption};
 ghost use Rattle.std.specs.List.{list_any};
 ghost use Rattle.script_text.specs.Words.{words, is_empty, front, one, two, three};
 ghost use Rattle.script_text.specs.Answers.{Gives};

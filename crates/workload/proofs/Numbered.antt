@@ -7,8 +7,7 @@ use Rattle.std.specs.Str.Parse.{AllDigits}
 use Rattle.std.proofs.lemmas.Bool.{ne_eqb, lt-ltb, le-leb, and_from, and_left, or_from, not_from_false}
 use Rattle.std.proofs.lemmas.Fmt.{decimal_is_IsNumeral, length-decimal-le}
 use Rattle.std.proofs.lemmas.Str.Parse.{digit_from_value}
-use Rattle.fs_model.specs.Names.{is_dots, is_reserved, IsName}
-use Rattle.fs_model.specs.PathTexts.{is_zero}
+use Rattle.fs_model.specs.Names.{is_dots, is_reserved, is_zero, IsName}
 use Rattle.fs_model.specs.Fitting.{is_target}
 use Rattle.fs_model.specs.declared.limits.TheConstants.{MAX_NAME, MAX_TARGET}
 use Rattle.workload.specs.Generated.{numbered}

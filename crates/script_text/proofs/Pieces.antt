@@ -4,8 +4,9 @@ use Rattle.std.specs.List.{list_any, slice_split, onto_first}
 use Rattle.std.proofs.lemmas.Bool.{or_parts, or_from, and_from, not_from_false, eqb-false, ltb-false, lt-ltb, le-leb}
 use Rattle.std.proofs.lemmas.List.Elements.{All-nil, All-cons, All-head, All-tail}
 use Rattle.fs_model.specs.declared.limits.TheConstants.{MAX_NAME}
-use Rattle.fs_model.specs.Names.{IsName, is_dots, is_reserved}
-use Rattle.fs_model.specs.PathTexts.{is_slash, is_zero, is_empty, is_long}
+use Rattle.fs_model.specs.Names.{IsName, is_dots, is_reserved, is_zero}
+use Rattle.script_text.specs.PathTexts.{is_slash, is_long}
+use Rattle.script_text.specs.Words.{is_empty}
 
 -- no byte of the piece is reserved
 abbrev pub Free : List ℕ → Type 0

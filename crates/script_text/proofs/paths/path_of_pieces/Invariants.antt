@@ -1,5 +1,5 @@
 use Rattle.std.proofs.Common.{◌≡◌, take, map}
-use Rattle.fs_model.proofs.parse.path_of_pieces.Given as goal
+use Rattle.script_text.proofs.paths.path_of_pieces.Given as goal
 
 abbrev pub invariant-loop-piece : goal.invariant-loop-piece
 invariant-loop-piece l = l.path ≡ map (λ piece. piece.now) (take l.piece-index l.pieces)

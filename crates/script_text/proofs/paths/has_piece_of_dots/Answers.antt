@@ -2,7 +2,7 @@ use Rattle.std.proofs.Common.{rules, tests}
 use Rattle.std.proofs.lemmas.Iterator.Search.{any_from_yields_List}
 use Rattle.std.proofs.lemmas.Iterator.Splits.{YieldsList-from_slice_split}
 use Rattle.fs_model.specs.Names.{is_dots}
-use Rattle.fs_model.proofs.parse.has_piece_of_dots.Goals as goal
+use Rattle.script_text.proofs.paths.has_piece_of_dots.Goals as goal
 
 pub returns : goal.returns
 returns c =

@@ -1,13 +1,12 @@
 // The paths that texts say.
 ghost use Rattle.std.specs.Prelude.{◌≡◌, ◌⊎◌, false, map, IfOk, IfErr, All, Ok, Err};
 ghost use Rattle.std.specs.List.{list_any, slice_split};
-ghost use Rattle.fs_model.specs.Names.{IsName, is_dots};
-ghost use Rattle.fs_model.specs.PathTexts.{path_of, path_of_names, is_slash, is_zero, is_empty, is_long};
+ghost use Rattle.fs_model.specs.Names.{IsName, is_dots, is_zero};
+ghost use Rattle.script_text.specs.PathTexts.{path_of, path_of_names, is_slash, is_long};
+ghost use Rattle.script_text.specs.Words.{is_empty};
 
-use crate::command::has_zero;
-use crate::limits::{MAX_NAME, MAX_PATH_TEXT};
-use crate::name::has_dots_alone;
-use crate::{Name, Path, PathError};
+use crate::PathError;
+use fs_model::{MAX_NAME, MAX_PATH_TEXT, Name, Path, has_dots_alone, has_zero};
 use std::alloc::{AllocError, Global};
 
 /// The path that a text says: its names between slashes. `/` alone is the root. The first refusal that
@@ -82,17 +81,35 @@ fn is_slash(byte: &u8) -> bool
 fn has_piece_empty(rest: &[u8]) -> bool
     ensures { result ≡ list_any is_empty (slice_split is_slash rest.now) }
 {
-    rest.split(is_slash).any(|piece| piece.is_empty())
+    rest.split(is_slash).any(is_empty)
 }
 
 fn has_piece_of_dots(rest: &[u8]) -> bool
     ensures { result ≡ list_any is_dots (slice_split is_slash rest.now) }
 {
-    rest.split(is_slash).any(|piece| has_dots_alone(piece))
+    rest.split(is_slash).any(is_dots)
 }
 
 fn has_piece_long(rest: &[u8]) -> bool
     ensures { result ≡ list_any is_long (slice_split is_slash rest.now) }
 {
-    rest.split(is_slash).any(|piece| piece.len() > MAX_NAME)
+    rest.split(is_slash).any(is_long)
+}
+
+fn is_empty(piece: &[u8]) -> bool
+    ensures { result ≡ is_empty piece.now }
+{
+    piece.is_empty()
+}
+
+fn is_dots(piece: &[u8]) -> bool
+    ensures { result ≡ is_dots piece.now }
+{
+    has_dots_alone(piece)
+}
+
+fn is_long(piece: &[u8]) -> bool
+    ensures { result ≡ is_long piece.now }
+{
+    piece.len() > MAX_NAME
 }

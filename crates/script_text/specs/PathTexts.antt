@@ -2,18 +2,13 @@
 use Rattle.std.specs.Prelude.{ℕ, Bool, cond, not, ◌||◌, ◌==◌, nat_lt, List, [], ◌∷◌, length, Result, Ok, Err}
 use Rattle.std.specs.List.{list_any, slice_split}
 use Rattle.fs_model.specs.declared.limits.TheConstants.{MAX_NAME, MAX_PATH_TEXT}
-use Rattle.fs_model.specs.declared.error.PathError.{PathError}
-use Rattle.fs_model.specs.declared.error.PathError.TheVariants.{Form, Dot, LongName, LongPath}
-use Rattle.fs_model.specs.Names.{is_dots}
+use Rattle.fs_model.specs.Names.{is_dots, is_zero}
+use Rattle.script_text.specs.declared.error.PathError.{PathError}
+use Rattle.script_text.specs.declared.error.PathError.TheVariants.{Form, Dot, LongName, LongPath}
+use Rattle.script_text.specs.Words.{is_empty}
 
 abbrev pub is_slash : ℕ → Bool
 is_slash b = b == 47
-
-abbrev pub is_zero : ℕ → Bool
-is_zero b = b == 0
-
-abbrev pub is_empty : List ℕ → Bool
-is_empty n = length n == 0
 
 abbrev pub is_long : List ℕ → Bool
 is_long n = nat_lt MAX_NAME (length n)

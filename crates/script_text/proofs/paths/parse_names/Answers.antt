@@ -1,9 +1,9 @@
 use Rattle.std.proofs.Common.{sym, subst, All}
 use Rattle.std.specs.List.{slice_split}
 use Rattle.fs_model.specs.Names.{IsName}
-use Rattle.fs_model.specs.PathTexts.{is_slash}
-use Rattle.fs_model.proofs.Pieces.{pieces_free, pieces_names, all_of_map}
-use Rattle.fs_model.proofs.parse.parse_names.Goals as goal
+use Rattle.script_text.specs.PathTexts.{is_slash}
+use Rattle.script_text.proofs.Pieces.{pieces_free, pieces_names, all_of_map}
+use Rattle.script_text.proofs.paths.parse_names.Goals as goal
 
 pub path_of_pieces-requires : goal.path_of_pieces-requires
 path_of_pieces-requires c =

@@ -1,8 +1,8 @@
 use Rattle.std.proofs.Common.{rules, tests}
 use Rattle.std.proofs.lemmas.Iterator.Search.{any_from_yields_List}
 use Rattle.std.proofs.lemmas.Iterator.Splits.{YieldsList-from_slice_split}
-use Rattle.fs_model.specs.PathTexts.{is_empty}
-use Rattle.fs_model.proofs.parse.has_piece_empty.Goals as goal
+use Rattle.script_text.specs.Words.{is_empty}
+use Rattle.script_text.proofs.paths.has_piece_empty.Goals as goal
 
 pub returns : goal.returns
 returns c =
