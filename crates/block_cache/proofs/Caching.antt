@@ -1,16 +1,18 @@
 -- What a cache owes its store.
-use Rattle.std.proofs.Common.{◌≡◌, ◌⊎◌, ℕ, true, List, Vec, Global, length, Option, Some, refl, sym, ◌∙◌, ap, subst, inl, inr}
-use Rattle.std.specs.Prelude.{Result, Ok, Err, OnErr, IfSome, is_some}
+use Rattle.std.proofs.Common.{◌≡◌, ◌⊎◌, ℕ, true, List, Vec, Global, length, Option, None, Some, refl, sym, ◌∙◌, ap, subst, inl, inr}
+use Rattle.std.specs.Prelude.{Ok, IfSome, is_some}
 use Rattle.block_id.specs.declared.id.BlockId.{BlockId}
 use Rattle.outside.specs.View.{bytes_of}
 use Rattle.outcome.specs.Meanings.{Meanings, Lawful}
 use Rattle.outcome.specs.Outcome.{Outcome}
 use Rattle.outcome.specs.Lift.{lifted_with}
-use Rattle.store_api.specs.Content.{Id}
-use Rattle.store_api.specs.Holdings.{Holdings, Steady, Stays}
+use Rattle.std.specs.FinMap.{get}
+use Rattle.std.proofs.lemmas.Option.{none-some}
+use Rattle.store_api.specs.Content.{Id, Changes, or_else}
+use Rattle.store_api.specs.Holdings.{Holdings, Steady, Stays, Changed}
 use Rattle.block_cache.specs.declared.cache.BlockCache.{BlockCache}
-use Rattle.block_cache.specs.Payloads.{Payloads, cached_for, used_last, CachedOrNot}
-use Rattle.block_cache.specs.Through.{AreLive, Agree, meanings_past}
+use Rattle.block_cache.specs.Payloads.{Payloads, cached_for, used_last, CachedOrNot, Renewed}
+use Rattle.block_cache.specs.Through.{AreLive, Agree, meanings_past, holdings_past}
 use Rattle.block_cache.proofs.Lookups.{cached-used, cached-with}
 
 -- what is cached of q was cached of p, or is this payload
@@ -23,6 +25,12 @@ grew id payload p q (inr put) other found h = elim (cached-with id put.0 p other
   | inl new ↦ inl (new.0, sym put.1 ∙ new.1)
   | inr old ↦ inr old
 ]
+
+-- a cached payload was cached before, where its id wasn't changed, or is the change's
+renewed_from : (change : Option (Option (List ℕ))) (old new : Option (List ℕ)) (bytes : List ℕ) → Renewed change old new → new ≡ Some bytes → ((change ≡ None) × (old ≡ Some bytes)) ⊎ (change ≡ Some (Some bytes))
+renewed_from None old new bytes same found = inl (refl, sym same ∙ found)
+renewed_from (Some change) old new bytes (inl none) found = absurd (none-some bytes (sym none ∙ found))
+renewed_from (Some change) old new bytes (inr is) found = inr (ap Some (sym is ∙ found))
 
 module _ {S : Type 0} (M : Meanings S) (H : Holdings S) where
   abbrev pub cache_of : S → Payloads → BlockCache S
@@ -85,9 +93,47 @@ module _ {S : Type 0} (M : Meanings S) (H : Holdings S) where
       loaded_some steady s t p q id bytes live cached stays (sym there ∙ ap is_some is) (subst (λ answer. IfSome answer (λ payload. length payload.items ≡ H.payload s)) is sized)
       (subst (λ answer. Outcome M (Unit {0}) s t (Ok answer) (λ _ answer. bytes_of answer ≡ H.content s id.0)) is o)
 
+  pub live-stays : (s t : S) (p : Payloads) → Stays H s t → AreLive H s p → AreLive H t p
+  live-stays s t p stays live = record {
+    sized = λ id bytes found. live.sized id bytes found ∙ sym stays.payload;
+    there = λ id bytes found. stays.ids id ∙ live.there id bytes found;
+  }
+
   pub agree-stays : Steady M H → (s t : S) (p : Payloads) → Stays H s t → M.sound s × Agree H s p → Agree H t p
   agree-stays steady s t p stays sound id found h = stays.content (steady.sound_told s sound.0) id ∙ sound.1 id found h
 
-pub on_err : {T E : Type 0} (r : Result T E) (P : Type 0) → P → OnErr r P
-on_err (Ok x) P h = tt
-on_err (Err e) P h = h
+  -- the changes of a batch were made, and followed
+  pub live-renewed : (s t : S) (changes : Changes) (p q : Payloads) → ((id bytes : List ℕ) → get changes id ≡ Some (Some bytes) → length bytes ≡ H.payload s) → Changed M H s t changes → ((id : Id) → Renewed (get changes id) (cached_for p id) (cached_for q id)) → AreLive H s p → AreLive H t q
+  live-renewed s t changes p q sized changed renewed live = record {
+    sized = λ id bytes found. elim (renewed_from (get changes id) (cached_for p id) (cached_for q id) bytes (renewed id) found) [
+      | inl old ↦ live.sized id bytes old.1 ∙ sym changed.payload
+      | inr new ↦ sized id bytes new ∙ sym changed.payload
+    ];
+    there = λ id bytes found. changed.ids id ∙ elim (renewed_from (get changes id) (cached_for p id) (cached_for q id) bytes (renewed id) found) [
+      | inl old ↦ ap (λ change. is_some (or_else change (H.content s id))) old.0 ∙ live.there id bytes old.1
+      | inr new ↦ ap (λ change. is_some (or_else change (H.content s id))) new
+    ];
+  }
+
+  agree-renewed : (s t : S) (changes : Changes) (p q : Payloads) → H.told s ≡ true → Changed M H s t changes → ((id : Id) → Renewed (get changes id) (cached_for p id) (cached_for q id)) → Agree H s p → Agree H t q
+  agree-renewed s t changes p q told changed renewed agree id bytes found = changed.content told id ∙ elim (renewed_from (get changes id) (cached_for p id) (cached_for q id) bytes (renewed id) found) [
+    | inl old ↦ ap (λ change. or_else change (H.content s id)) old.0 ∙ agree id bytes old.1
+    | inr new ↦ ap (λ change. or_else change (H.content s id)) new
+  ]
+
+  pub changed-renewed : Steady M H → (s t : S) (changes : Changes) (p q : Payloads) → Changed M H s t changes → ((id : Id) → Renewed (get changes id) (cached_for p id) (cached_for q id))
+      → Changed past (holdings_past (λ (c : BlockCache S). c.store) H) (cache_of s p) (cache_of t q) changes
+  changed-renewed steady s t changes p q changed renewed = record {
+    ids = changed.ids;
+    content = changed.content;
+    told = changed.told;
+    used = changed.used;
+    stays_used = changed.stays_used;
+    few = changed.few;
+    spent = changed.spent;
+    kept = changed.kept;
+    raised = changed.raised;
+    rests = changed.rests;
+    payload = changed.payload;
+    sound = λ sound. (changed.sound sound.0, agree-renewed s t changes p q (steady.sound_told s sound.0) changed renewed sound.1);
+  }

@@ -149,9 +149,13 @@ impl<S: BlocksMut> BlocksMut for BlockCache<S> {
         ensures kept { OnErr result (self.new.cached ≡ self.old.cached) }
         ensures capacity { self.new.cached.cap ≡ self.old.cached.cap }
     {
-        self.store.apply(alloc, batch, chance)?;
-        renew_all(alloc, &mut self.cached, batch);
-        Ok(())
+        match self.store.apply(alloc, batch, chance) {
+            Ok(()) => {
+                renew_all(alloc, &mut self.cached, batch);
+                Ok(())
+            }
+            Err(error) => Err(error),
+        }
     }
 
     ghost settled = { λ a b loaded. stays_past (λ c. c.store) S.Blocks.holdings a b (S.settled a.store b.store loaded) };

@@ -1,5 +1,5 @@
 // The three steps of a sync.
-ghost use Rattle.std.specs.Prelude.{◌≡◌, ◌⊎◌, ◌≤◌, ◌<◌, ℕ, List, false, true, length, IsErrOf, IsOk, OnOk, OnErr};
+ghost use Rattle.std.specs.Prelude.{◌≡◌, ◌⊎◌, ◌≤◌, ◌<◌, ℕ, List, false, true, length, IfOk, IsErrOf, IsOk, OnOk, OnErr};
 ghost use Rattle.std.specs.declared.option.Option.TheVariants.{Some};
 ghost use Rattle.outside.specs.Causes.{RoseBy};
 ghost use Rattle.outside.specs.Going.{GoesOn};
@@ -30,6 +30,25 @@ pub struct Saver<K> {
     pub keeper: K,
     pub last: Vec<u8>,
     pub changed: bool,
+}
+
+/// The record with the unwritten list or with an empty one, once the keeper has memory for its save.
+fn record_to_save<K: Keeper, S: Durable>(
+    alloc: Global,
+    keeper: &mut K,
+    store: &S,
+    with_list: bool,
+) -> Result<Vec<u8>, Memory>
+    requires { S.meanings.intact store.now }
+    ensures record_ { IfOk result (λ bytes. bytes.items ≡ S.durables.local_record_of store.now with_list) }
+    ensures fits { IfOk result (λ bytes. length bytes.items ≤ K.room keeper.new) }
+    ensures kept { K.kept keeper.new ≡ K.kept keeper.old }
+    ensures room { K.room keeper.old ≤ K.room keeper.new }
+    ensures faults { K.faults keeper.new ≡ K.faults keeper.old }
+{
+    let bytes = store.state_bytes(alloc, with_list)?;
+    keeper.prepare(alloc, bytes.len())?;
+    Ok(bytes)
 }
 
 impl<K: Keeper> Saver<K> {
@@ -137,14 +156,10 @@ impl<K: Keeper> Saver<K> {
         ensures keeper_quiet { UnlessState result (K.faults self.new.keeper ≡ K.faults self.old.keeper) }
     {
         // Memory is taken before the first call on the outside, so that its want leaves all as it was.
-        let short = match store.state_bytes(alloc, false) {
+        let short = match record_to_save(alloc, &mut self.keeper, store, false) {
             Ok(bytes) => bytes,
             Err(Memory) => return Err(SyncError::Memory),
         };
-        match self.keeper.prepare(alloc, short.len()) {
-            Ok(()) => {}
-            Err(Memory) => return Err(SyncError::Memory),
-        }
         self.finish(alloc, store, short)
     }
 
@@ -192,22 +207,14 @@ impl<K: Keeper> Saver<K> {
             return Ok(());
         }
         // Memory is taken before the first call on the outside, so that its want leaves all as it was.
-        let full = match store.state_bytes(alloc, true) {
+        let full = match record_to_save(alloc, &mut self.keeper, store, true) {
             Ok(bytes) => bytes,
             Err(Memory) => return Err(SyncError::Memory),
         };
-        let short = match store.state_bytes(alloc, false) {
+        let short = match record_to_save(alloc, &mut self.keeper, store, false) {
             Ok(bytes) => bytes,
             Err(Memory) => return Err(SyncError::Memory),
         };
-        match self.keeper.prepare(alloc, full.len()) {
-            Ok(()) => {}
-            Err(Memory) => return Err(SyncError::Memory),
-        }
-        match self.keeper.prepare(alloc, short.len()) {
-            Ok(()) => {}
-            Err(Memory) => return Err(SyncError::Memory),
-        }
         // The versions and the bytes of what is to be put are kept before the first put, so that no later start takes a file for older than it is.
         match self.keeper.save(&full) {
             Ok(()) => {}

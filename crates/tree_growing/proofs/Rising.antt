@@ -1,6 +1,6 @@
 -- A full node that moves under a new id, with new trees beside it.
 use Rattle.std.proofs.Common.{◌≡◌, ℕ, zero, suc, ◌+◌, ◌-◌, ◌*◌, ◌<◌, ◌≤◌, ◌^◌, true, false, cond, List, [], ◌∷◌, ◌++◌, length, take, drop, refl, sym, ◌∙◌, ap, subst, inl, inr, arith, append_assoc, append-nil}
-use Rattle.std.specs.Prelude.{Some, None, min}
+use Rattle.std.specs.Prelude.{Some, None, min, Result, Ok, Err, IfOk, IsErr}
 use Rattle.std.proofs.lemmas.Bool.{cases_lt, or_cases, or_parts}
 use Rattle.std.proofs.lemmas.List.{take-append-drop, length-append, length-take, length-drop, take_all, drop_all, nil_from_length}
 use Rattle.std.proofs.Math.Nat.{mul-le-mul_right}
@@ -19,6 +19,11 @@ use Rattle.data_tree.proofs.Making.{alone-join, holds_there, tree_there, not_amo
 use Rattle.data_tree.proofs.Borders.{replace_part, holds_inner}
 use Rattle.tree_growing.proofs.Growth.{forest_join, replaces_same}
 use Rattle.tree_growing.specs.Growing.{Grown, MayGrow, Raised}
+
+-- of an error nothing is asked that an Ok owes
+pub no_ok : {T E : Type 0} (r : Result T E) (P : T → Type 0) → IsErr r → IfOk r P
+no_ok (Ok x) P is = absurd (cc)
+no_ok (Err e) P is = tt
 
 pub span-doubles : (payload depth : ℕ) → 50 ≤ payload → 2 * span payload depth ≤ fan_out payload * span payload depth
 span-doubles payload depth least = let two : 2 ≤ fan_out payload = omega arith in mul-le-mul_right (span payload depth) two

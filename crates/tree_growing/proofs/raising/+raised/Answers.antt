@@ -3,7 +3,7 @@ use Rattle.std.specs.Prelude.{min}
 use Rattle.std.proofs.lemmas.List.{length-drop, length-map, take_all}
 use Rattle.std.proofs.Math.Nat.{mul-le-mul_right}
 use Rattle.block_id.specs.declared.id.BlockId.{BlockId}
-use Rattle.data_nodes.specs.Layout.{fan_out, ids_of, inner, node_of}
+use Rattle.data_nodes.specs.Layout.{fan_out, ids_of, inner, node_of, FitsPayload}
 use Rattle.store_api.specs.Overlay.{steady_over}
 use Rattle.data_tree.specs.Needs.{BuiltTrees}
 use Rattle.data_tree.specs.Trees.{span}
@@ -11,7 +11,7 @@ use Rattle.data_tree.proofs.Levels.{span-some}
 use Rattle.data_tree.proofs.Loads.{store_in, changes_in, tx_holdings}
 use Rattle.data_tree.proofs.Puts.{keeps_same}
 use Rattle.tree_growing.specs.Growing.{Grown, MayGrow, Raised}
-use Rattle.tree_growing.proofs.Rising.{filled_up, raise_more, risen}
+use Rattle.tree_growing.proofs.Rising.{filled_up, no_ok, raise_more, risen}
 use Rattle.tree_growing.proofs.raising.+raised.Goals as goal
 
 pub grown_children-requires-clause-room : goal.grown_children-requires-clause-room
@@ -32,8 +32,8 @@ grown_children-requires-clause-small g t c =
     let much : fan * c.args.level.room ≤ 65536 * c.args.level.room = mul-le-mul_right c.args.level.room most in
     omega (arith, much, c.if-level-n.false, c.requires.small)
 
-pub returns-clause-raised : goal.returns-clause-raised
-returns-clause-raised g t c m =
+pub returns : goal.returns
+returns g t c =
     let H0 = g.S.Blocks.holdings in
     let H = tx_holdings H0 in
     let steady = steady_over store_in changes_in g.S.Blocks.meanings H0 g.met.S.Blocks.steady in
@@ -61,27 +61,67 @@ returns-clause-raised g t c m =
     let all : fan_out (H.payload a) * c.args.level.room ≡ span (H.payload a) above = sym (ap (λ p. fan_out p * c.args.level.room) fan2) ∙ sym c.above-level.ensures.all ∙ c.above-level.ensures.room ∙ ap (λ p. span p above) fan2 in
     let fits : used ≤ length rest = omega (arith, c.in_ok-children.ensures.used) in
     let cut : take (length rest - used) (drop used rest) ≡ drop used rest = take_all (length rest - used) (drop used rest) (omega (arith, length-drop used rest)) in
-    raise_more {H = H} {a = a} {c = d} {d = e} {node = node_of c.args.node} {up = up} {last = last} depth above c.args.n used more rest least deep (omega (arith, c.if-level-n.false, c.requires.level)) payload (omega (arith, full.0, c.requires.level, all))
-    (λ less. omega (arith, full.1 less, c.requires.level, all)) fits
-    (λ w t ids holds alone some full is.
-    subst (λ cs. Grown H a d above (inner above cs) (w ++ t) ids) (sym built.1.0) (risen {H = H} {a = a} {b = b} {c = d} depth above first (node_of c.args.node) built.0 w t ids holds alone c.in_ok-first.ensures.new c.in_ok-first.ensures.sets ab bd some full (subst (λ x. BuiltTrees H b d depth built.0 x) (sym is) built.1.1) deep))
-    (subst (λ xs. (m : MayGrow H d above up c.args.n (length xs)) → Raised H d e last (m.bytes ++ xs) m.ids × (more ≡ length xs)) cut c.in_ok-node.ensures.raised) m
+    let p = c.put_new.ensures in
+    let q = c.grown_children.ensures in
+    let z = c.raised.ensures in
+    record {
+      intact = z.intact;
+      store = z.store ∙ q.store ∙ p.store;
+      raised = raise_more {H = H} {a = a} {c = d} {d = e} {node = node_of c.args.node} {up = up} {last = last} depth above c.args.n used more rest least deep (omega (arith, c.if-level-n.false, c.requires.level)) payload (omega (arith, full.0, c.requires.level, all))
+          (λ less. omega (arith, full.1 less, c.requires.level, all)) fits
+          (λ w t ids holds alone some full is.
+          subst (λ cs. Grown H a d above (inner above cs) (w ++ t) ids) (sym built.1.0) (risen {H = H} {a = a} {b = b} {c = d} depth above first (node_of c.args.node) built.0 w t ids holds alone c.in_ok-first.ensures.new c.in_ok-first.ensures.sets ab bd some full (subst (λ x. BuiltTrees H b d depth built.0 x) (sym is) built.1.1) deep))
+          (subst (λ xs. (m : MayGrow H d above up c.args.n (length xs)) → Raised H d e last (m.bytes ++ xs) m.ids × (more ≡ length xs)) cut c.in_ok-node.ensures.raised);
+      used = omega (arith, c.in_ok-node.ensures.used, length-drop used rest, fits);
+      fits = subst (λ n. FitsPayload n last) payload c.in_ok-node.ensures.fits;
+      there = λ id h. z.there id (q.there id (p.there id h));
+      kept = λ id h. z.kept id (q.there id (p.there id h)) ∙ q.kept id (p.there id h) ∙ p.kept id h;
+    }
 
-pub returns-in_err-node-clause-there : goal.returns-in_err-node-clause-there
-returns-in_err-node-clause-there g t c q h = c.raised.ensures.there q (c.grown_children.ensures.there q (c.put_new.ensures.there q h))
+pub returns-in_err-first : goal.returns-in_err-first
+returns-in_err-first g t c =
+    let p = c.put_new.ensures in
+    let none = c.from_residual.ensures.0 in
+    record {
+      intact = c.in_err-first.ensures.intact;
+      store = p.store;
+      raised = no_ok c.from_residual.result _ none;
+      used = no_ok c.from_residual.result _ none;
+      fits = no_ok c.from_residual.result _ none;
+      there = p.there;
+      kept = p.kept;
+    }
 
-pub returns-in_err-node-clause-kept : goal.returns-in_err-node-clause-kept
-returns-in_err-node-clause-kept g t c q h =
-    let there = c.put_new.ensures.there q h in
-    c.raised.ensures.kept q (c.grown_children.ensures.there q there) ∙ c.grown_children.ensures.kept q there ∙ c.put_new.ensures.kept q h
+pub returns-in_err-children : goal.returns-in_err-children
+returns-in_err-children g t c =
+    let p = c.put_new.ensures in
+    let q = c.grown_children.ensures in
+    let none = c.from_residual-in_err-children.ensures.0 in
+    record {
+      intact = q.intact;
+      store = q.store ∙ p.store;
+      raised = no_ok c.from_residual-in_err-children.result _ none;
+      used = no_ok c.from_residual-in_err-children.result _ none;
+      fits = no_ok c.from_residual-in_err-children.result _ none;
+      there = λ id h. q.there id (p.there id h);
+      kept = λ id h. q.kept id (p.there id h) ∙ p.kept id h;
+    }
 
-pub returns-clause-there : goal.returns-clause-there
-returns-clause-there g t c q h = c.raised.ensures.there q (c.grown_children.ensures.there q (c.put_new.ensures.there q h))
-
-pub returns-clause-kept : goal.returns-clause-kept
-returns-clause-kept g t c q h =
-    let there = c.put_new.ensures.there q h in
-    c.raised.ensures.kept q (c.grown_children.ensures.there q there) ∙ c.grown_children.ensures.kept q there ∙ c.put_new.ensures.kept q h
+pub returns-in_err-node : goal.returns-in_err-node
+returns-in_err-node g t c =
+    let p = c.put_new.ensures in
+    let q = c.grown_children.ensures in
+    let z = c.raised.ensures in
+    let none = c.from_residual-in_err-node.ensures.0 in
+    record {
+      intact = z.intact;
+      store = z.store ∙ q.store ∙ p.store;
+      raised = no_ok c.from_residual-in_err-node.result _ none;
+      used = no_ok c.from_residual-in_err-node.result _ none;
+      fits = no_ok c.from_residual-in_err-node.result _ none;
+      there = λ id h. z.there id (q.there id (p.there id h));
+      kept = λ id h. z.kept id (q.there id (p.there id h)) ∙ q.kept id (p.there id h) ∙ p.kept id h;
+    }
 
 pub raised-requires : goal.raised-requires
 raised-requires g t c =

@@ -1,13 +1,57 @@
-use Rattle.block_cache.specs.Through.{Agree}
-use Rattle.block_cache.proofs.Caching.{agree-stays, on_err}
+use Rattle.std.proofs.Common.{refl}
+use Rattle.block_cache.proofs.Caching.{agree-stays, live-stays, live-renewed, changed-renewed}
 use Rattle.block_cache.proofs.cache.BlockCacheBlocksMut.apply.Goals as goal
 
-pub returns-in_err-apply-clause-sound : goal.returns-in_err-apply-clause-sound
-returns-in_err-apply-clause-sound g c =
+pub returns-in-Err : goal.returns-in-Err
+returns-in-Err g c =
     let M = g.S.Blocks.meanings in
     let H = g.S.Blocks.holdings in
     let s = c.args.self.now.store in
     let t = c.apply.new.self in
     let p = c.args.self.now.cached in
-    on_err c.from_residual.result (M.sound s × Agree H s p → M.sound t × Agree H t p)
-    (λ sound. (c.in_err-apply.ensures.sound sound.0, agree-stays M H g.met.S.Blocks.steady s t p (g.met.S.BlocksMut.settled s t c.in_err-apply.ensures.loaded) sound))
+    let e = c.in-Err.ensures in
+    let stays = g.met.S.BlocksMut.settled s t e.loaded in
+    record {
+      intact = (e.intact, live-stays M H s t p stays c.requires.intact.1);
+      changed = tt;
+      applied = tt;
+      drawn = tt;
+      nothing = e.nothing;
+      forgeries = e.forgeries;
+      lies = e.lies;
+      faults = e.faults;
+      spent = e.spent;
+      loaded = e.loaded;
+      sound = λ sound. (e.sound sound.0, agree-stays M H g.met.S.Blocks.steady s t p stays sound);
+      renewed = tt;
+      kept = refl {a = p};
+      capacity = refl {a = p.cap};
+    }
+
+pub returns-in-Ok : goal.returns-in-Ok
+returns-in-Ok g c =
+    let M = g.S.Blocks.meanings in
+    let H = g.S.Blocks.holdings in
+    let s = c.args.self.now.store in
+    let t = c.apply.new.self in
+    let p = c.args.self.now.cached in
+    let q = c.renew_all.new.payloads in
+    let batch = c.args.batch.now in
+    let e = c.in-Ok.ensures in
+    let renewed = c.renew_all.ensures.renewed in
+    record {
+      intact = (e.intact, live-renewed M H s t batch p q c.requires.fits.sized e.changed renewed c.requires.intact.1);
+      changed = changed-renewed M H g.met.S.Blocks.steady s t batch p q e.changed renewed;
+      applied = e.applied;
+      drawn = e.drawn;
+      nothing = tt;
+      forgeries = e.forgeries;
+      lies = e.lies;
+      faults = e.faults;
+      spent = e.spent;
+      loaded = tt;
+      sound = tt;
+      renewed = renewed;
+      kept = tt;
+      capacity = c.renew_all.ensures.capacity;
+    }
