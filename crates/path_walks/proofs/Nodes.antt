@@ -21,7 +21,7 @@ use Rattle.std.specs.FinMap.Entries.{find-put}
 use Rattle.std.proofs.lemmas.Bool.{and_parts, leb-true}
 use Rattle.std.specs.List.{list_any}
 use Rattle.fs_model.specs.declared.limits.TheConstants.{MAX_ENTRIES, MAX_TARGET}
-use Rattle.fs_model.specs.PathTexts.{is_zero}
+use Rattle.fs_model.specs.Names.{is_zero}
 use Rattle.fs_model.proofs.TreeLemmas.{same_name, name_total}
 
 pub lists_of : (kind : Kind) (bytes : List ℕ) (look : Look) (body : List ℕ) → kind ≡ Directory → IsBodyOf kind bytes look body → Lists look body

@@ -3,11 +3,13 @@ use Rattle.std.specs.Prelude.{◌≡◌, ◌≤◌, ◌+◌, ℕ, length}
 use Rattle.std.specs.FinMap.{get}
 use Rattle.std.specs.declared.option.Option.TheVariants.{Some}
 use Rattle.block_id.specs.Contents.{pieces}
+use Rattle.blob_api.specs.BlobMap.{BlobHoldings}
 use Rattle.data_nodes.specs.Layout.{room}
 use Rattle.fs_model.specs.declared.attr.Kind.TheVariants.{File}
 use Rattle.fs_model.specs.declared.command.Command.{Command}
 use Rattle.fs_model.specs.declared.command.Command.TheVariants.{Write}
 use Rattle.fs_model.specs.Tree.{Row, Tree, upward, parent, directory_size}
+use Rattle.path_contents.specs.Sparing.{IsSparingAt}
 
 -- how many payloads of this length n bytes of a file and the entries of its directory touch at most
 abbrev pub most_touched : ℕ → ℕ → ℕ → ℕ

@@ -1,12 +1,10 @@
-use Rattle.std.proofs.Common.{◌∙◌, Bool, ap}
-use Rattle.run_edges.specs.Statuses.{session_status}
 use Rattle.shell_sessions.proofs.turns.close.Goals as goal
 
 pub returns : goal.returns
 returns g c =
     let z = c.close-closing.ensures in (
       c.close-closing.result.0,
-      c.session_status.ensures ∙ ap (λ (stood : Bool). session_status stood c.args.end c.close-closing.result.0) c.violated-violated.ensures,
+      c.session_status.ensures,
       record {
         stands = z.stands;
         configures = z.configures;
