@@ -12,15 +12,6 @@ stores_same payload A B M same s =
     let path : A ≡ B = λ i id. sym (same id) i in
     subst (λ C. StoresBlobs payload C M) path s
 
--- there is no block and no blob
-pub stores_none : (payload : ℕ) (B : Content) (M : Id → Option (List ℕ)) → ((x : Id) → B x ≡ None) → ((x : Id) → M x ≡ None) → StoresBlobs payload B M
-stores_none payload B M no_block no_blob = record {
-  ids = λ id. [];
-  blob = λ id w e. absurd (none_is (M id) (no_blob id) (ap is_some e));
-  apart = λ a b x p q h k. absurd (none_is (M a) (no_blob a) p);
-  all = λ x there. absurd (none_is (B x) (no_block x) there);
-}
-
 -- the one block is a leaf, and the one blob has its bytes
 module _ (payload : ℕ) (B : Content) (M : Id → Option (List ℕ)) (root : Id) (text w : List ℕ) (is : IsNode text (leaf w)) (sized : length text ≡ payload) (fits : length w ≤ room payload)
     (block : B root ≡ Some text) (no_block : (q : Id) → same_id q root ≡ false → B q ≡ None) (blob : M root ≡ Some w) (no_blob : (q : Id) → same_id q root ≡ false → M q ≡ None) where

@@ -52,30 +52,6 @@ create_opens_none (Some Shell) h = absurd (h Shell refl tt)
 create_opens_none (Some (Generate count)) h = absurd (h (Generate count) refl tt)
 create_opens_none (Some Command) h = absurd (h Command refl tt)
 
--- a form that opens none is no session
-pub session_opens : (asked : Option Form) → is_session asked ≡ true → opens asked ≡ true
-session_opens None e = absurd (cc)
-session_opens (Some Trial) e = absurd (cc)
-session_opens (Some (TrialGenerate count)) e = absurd (cc)
-session_opens (Some (Create options)) e = absurd (cc)
-session_opens (Some Info) e = refl
-session_opens (Some Passwd) e = refl
-session_opens (Some Shell) e = refl
-session_opens (Some (Generate count)) e = refl
-session_opens (Some Command) e = refl
-
--- a run that did nothing
-pub idle_faults : {V : Type 0} {K : Type 0} (trace : V → Option (List Call)) (faults : V → ℕ) (G : KeeperGhosts K) (input output : Stream) (vault : V) (keeper : K) (status : Status)
-    → status ≢ DirectoryFault → status ≢ StateFault → status ≢ InputFault → status ≢ OutputFault → FaultsHappened input output (outside_of trace faults G vault keeper) (outside_of trace faults G vault keeper) status
-idle_faults trace faults G input output vault keeper status d s i o = record {
-  vault_grows = stays_grown (faults vault) (faults vault) refl;
-  keeper_grows = stays_grown (G.faults keeper) (G.faults keeper) refl;
-  directory_fault = λ e. absurd (d e);
-  state_fault = λ e. absurd (s e);
-  input_fault = λ e. absurd (i e);
-  output_fault = λ e. absurd (o e);
-}
-
 module _ {V : Type 0} {K : Type 0} (trace : V → Option (List Call)) (faults : V → ℕ) (G : KeeperGhosts K) (words : List (List ℕ)) (now : Instant) (chance left : Chance) (input output : Stream) (vault : V) (keeper : K) (ended : Ended V K) where
   shell_causes : (script : Option (List ℕ)) (end : End) (es : List Exchange) → ComesShell input output script end es → EndCause end input output
   shell_causes script end es came = ends_cause script input output es end came

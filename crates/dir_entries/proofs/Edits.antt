@@ -44,15 +44,6 @@ pub record Passes (name body rest : List ℕ) : Type 0 where
   pub parts : body ≡ front ++ rest
   pub cuts : (all : Listing) → IsBody body all → Cut name all rest
 
-pub passes_none : (name body : List ℕ) → IsBytes body → Passes name body body
-passes_none name body fits = record {
-  bytes = fits;
-  shorter = omega arith;
-  front = [];
-  parts = refl;
-  cuts = λ all is. record { seen = []; back = all; split = refl; text = is.text; past = All-nil (IsBelow name) };
-}
-
 pub passes_next : (name body rest : List ℕ) (e : List ℕ × EntryTarget) (after : List ℕ) → Passes name body rest → entry_at rest ≡ Some (e, after) → name_cmp name e.0 ≡ Greater → Passes name body after
 passes_next name body rest e after passes found above =
     let fewer : length after < length rest = after_shorter rest e after passes.bytes found in

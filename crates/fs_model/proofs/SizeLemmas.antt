@@ -93,9 +93,6 @@ size-empty X = size_of_none (entries (empty {X = X} {R = name_cmp})) (sym (len-e
 pub same_children : (t : Tree) (p : Path) (m : NameMap Row) → ((n : List ℕ) → get t (n ∷ p) ≡ get m n) → children t p ≡ m
 same_children t p m same = same_names (children t p) m (λ n. get-children t p n ∙ same n)
 
-longer_by_one : (n : List ℕ) (p : Path) → n ∷ p ≡ p → ⊥
-longer_by_one n p e = omega (arith, ap length e)
-
 other_name : (n k : List ℕ) (p : Path) → (k ≡ n → ⊥) → k ∷ p ≡ n ∷ p → ⊥
 other_name n k p d e = d (cc)
 

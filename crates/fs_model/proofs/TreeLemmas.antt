@@ -113,10 +113,6 @@ pub none_of : (o : Option Row) → (is_some o ≡ true → ⊥) → o ≡ None
 none_of None h = refl
 none_of (Some row) h = absurd (h refl)
 
-pub both_T : (a b : Bool) → T a → T b → T (a && b)
-both_T true b p q = q
-both_T false b p q = absurd p
-
 pub left_T : (a b : Bool) → T (a && b) → T a
 left_T true b p = tt
 left_T false b p = absurd p
@@ -124,37 +120,3 @@ left_T false b p = absurd p
 pub right_T : (a b : Bool) → T (a && b) → T b
 right_T true b p = p
 right_T false b p = absurd p
-
-pub less_then : (a b : Ordering) → is_eq b ≡ true → T (is_lt (ordering_then a b)) → T (is_lt a)
-less_then Less b e h = tt
-less_then Equal Less e h = cc
-less_then Equal Equal e h = h
-less_then Equal Greater e h = h
-less_then Greater b e h = h
-
--- the names below p rise as the paths do
-child_below : (n : List ℕ) (p : Path) (es : List (Path × Row)) → T (below_all path_cmp (n ∷ p) es) → T (below_all name_cmp n (child_entries p es))
-child_below n p [] h = tt
-child_below n p (([], row) ∷ es) h = absurd h
-child_below n p ((m ∷ q, row) ∷ es) h =
-    let rest = child_below n p es (right_T (is_lt (path_cmp (n ∷ p) (m ∷ q))) (below_all path_cmp (n ∷ p) es) h) in
-    elim (same_path p q) as (λ b. same_path p q ≡ b → T (below_all name_cmp n (cond b ((m, row) ∷ child_entries p es) (child_entries p es)))) [
-      | true ↦ λ e. both_T (is_lt (name_cmp n m)) (below_all name_cmp n (child_entries p es)) (less_then (name_cmp n m) (path_cmp p q) e (left_T (is_lt (path_cmp (n ∷ p) (m ∷ q))) (below_all path_cmp (n ∷ p) es) h)) rest
-      | false ↦ λ e. rest
-    ] refl
-
-pub child_sorted : (p : Path) (es : List (Path × Row)) → T (is_sorted path_cmp es) → T (is_sorted name_cmp (child_entries p es))
-child_sorted p [] h = tt
-child_sorted p (([], row) ∷ es) h = child_sorted p es (right_T (below_all path_cmp [] es) (is_sorted path_cmp es) h)
-child_sorted p ((m ∷ q, row) ∷ es) h =
-    let rest = child_sorted p es (right_T (below_all path_cmp (m ∷ q) es) (is_sorted path_cmp es) h) in
-    elim (path_split p q) [
-      | inl e ↦ subst (λ b. T (is_sorted name_cmp (cond b ((m, row) ∷ child_entries p es) (child_entries p es)))) (sym (ap (same_path p) (sym e) ∙ path_same p))
-          (both_T (below_all name_cmp m (child_entries p es)) (is_sorted name_cmp (child_entries p es)) (child_below m p es (subst (λ z. T (below_all path_cmp (m ∷ z) es)) (sym e) (left_T (below_all path_cmp (m ∷ q) es) (is_sorted path_cmp es) h))) rest)
-      | inr d ↦ subst (λ b. T (is_sorted name_cmp (cond b ((m, row) ∷ child_entries p es) (child_entries p es)))) (sym (apart p q d)) rest
-    ]
-
--- of rows in the order of their paths, the children are those in the same order
-pub children-sorted : (p : Path) (es : List (Path × Row)) → T (is_sorted path_cmp es) → entries (children (from_entries es) p) ≡ child_entries p es
-children-sorted p es h = same_entries name_cmp name_total name_exact _ _ (entries_sorted (children (from_entries es) p)) (child_sorted p es h)
-    (λ q. sym (get-entries (children (from_entries es) p) q) ∙ (get-children (from_entries es) p q ∙ (get-from_entries path_total es (q ∷ p) ∙ sym (find-child q p es))))

@@ -79,9 +79,6 @@ module _ {S : Type 0} (held : S → Held) (trace : S → Option (List Call)) (fa
       → Outcome (meanings_by held trace faults own) {T = Option (Vec ℕ Global)} Unit a a (Ok None) (λ _ answer. bytes_of answer ≡ wanted (held a) (trace a) id)
   not_loaded intact dead = idle (lawful_by held trace faults own) a None intact (λ n. sym (not_wanted dead))
 
-pub nothing_changed : {S : Type 0} (held : S → Held) (trace : S → Option (List Call)) (faults : S → ℕ) (a : S) → Stays (holdings_by held trace) a a
-nothing_changed held trace faults a = record { ids = λ id. refl; content = λ told id. refl; told = refl; used = refl; spent = λ id. refl; version = λ id. refl; payload = refl }
-
 live_if : (live : Bool) (version : ℕ) (payload : List ℕ) → live ≡ is_some (where_live (if live then Some version else None) payload)
 live_if true version payload = refl
 live_if false version payload = refl
@@ -90,10 +87,3 @@ live_if false version payload = refl
 pub live_wanted : (o : Option Life) (payload : List ℕ) → option_map_or (λ m. m.live) o false ≡ is_some (where_live (version_if_live o) payload)
 live_wanted None payload = refl
 live_wanted (Some life) payload = live_if life.live life.version payload
-
--- where the count of faults stands, an answer is quiet
-pub still_quiet : {T : Type 0} (r : Result T Fail) (before now : ℕ) → now ≡ before → IsQuiet r before now
-still_quiet (Ok x) before now same = same
-still_quiet (Err Memory) before now same = same
-still_quiet (Err Fault) before now same = tt
-still_quiet (Err (Violation why)) before now same = same

@@ -1,5 +1,5 @@
 //! What a directory, a local record and an unwritten list hold of blocks with versions: the content that they call for, when
-//! no file is another than that, what comes of a read, and what a forged file is. No store is named.
+//! no file is another than that, what comes of a read, and what a forged file is. No store of blocks is named.
 #![tactic(auto)]
 
 mod laws;

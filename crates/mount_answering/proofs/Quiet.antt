@@ -15,9 +15,6 @@ use Rattle.session_saver.specs.declared.saver.SyncError.TheVariants.{Memory as S
 
 -- ---- answers that name a fault
 
-pub ok_no_error : (e : SyncError) → IsErrOf {T = Unit} (Ok tt) e → ⊥
-ok_no_error e is = cc
-
 pub sync_directory_rose : (e : SyncError) (before now : ℕ) → before ≤ now → (IsErrOf {T = Unit} (Err e) SyncDirectory → RoseBy 1 before now) → RoseBy (directory_faults (answer_of_sync e)) before now
 sync_directory_rose SyncMemory before now grows rose = omega arith
 sync_directory_rose SyncDirectory before now grows rose = rose refl

@@ -74,13 +74,6 @@ first_password start reader input found password s e shown took none over ended 
 
 -- ---- lines that weren't read
 
--- of the first line so much was taken that it passes its limit
-pub first_long : (start : Reading) (old new shown : Option (List ℕ)) → start ≡ fresh → shown ≡ None → ShowsFirst start.ahead old new shown
-    → (taken : List ℕ) × WereTaken old new taken × IsLongLine (first_line taken)
-first_long start old new shown s e f =
-    let first : ShowsFirst [] old new shown = subst (λ (l : List ℕ). ShowsFirst l old new shown) (ap (λ (r : Reading). r.ahead) s) f in
-    (first.0, first.1, kept_none (first_line first.0) (sym e ∙ first.2))
-
 -- why a read failed, by the bytes that were counted
 pub failed : (before after taken : ℕ) (old new : Option (List ℕ)) → total taken new ≡ total 0 old → RoseBy 1 before after ⊎ (taken ≡ 2 ^ 63) → RoseBy 1 before after ⊎ (total (2 ^ 63) new ≡ total 0 old)
 failed before after taken old new counted (inl rose) = inl rose

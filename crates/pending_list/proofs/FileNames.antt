@@ -12,9 +12,3 @@ same_names Config Config = refl
 same_names Config (Block y) = refl
 same_names (Block x) Config = refl
 same_names (Block x) (Block y) = refl
-
-pub names_cmp : (a b : FileName) → ord.ghosts.cmp a b ≡ at_cmp (at_of a) (at_of b)
-names_cmp Config Config = refl
-names_cmp Config (Block y) = refl
-names_cmp (Block x) Config = refl
-names_cmp (Block x) (Block y) = refl

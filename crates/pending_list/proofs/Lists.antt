@@ -68,10 +68,6 @@ set_later n list i e b d h q = record {
       ∙ ap (λ x. x ++ set_change n change (drop (i + 1) list)) (sym (split_more list i e d h));
 }
 
-pub set_last : (n : At) (list : FileChanges) (i : ℕ) → IsBeyond n list i → length list ≤ i → (change : Option (List ℕ)) → set_change n change list ≡ take i list ++ (n, change) ∷ drop i list
-set_last n list i b h change =
-    b.beyond change ∙ ap (λ x. take i list ++ set_change n change x) (drop_all i list h) ∙ ap (λ x. take i list ++ (n, change) ∷ x) (sym (drop_all i list h))
-
 pub set_split : {X : Type 0} (xs : List X) (i : ℕ) (y : X) → i < length xs → set xs i y ≡ take i xs ++ y ∷ drop (suc i) xs
 set_split [] i y h = absurd (omega arith)
 set_split (x ∷ xs) zero y h = refl

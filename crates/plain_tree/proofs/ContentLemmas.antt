@@ -26,10 +26,6 @@ put_past old bytes from whole lt is =
     ap (λ xs. (xs ++ bytes) ++ drop end whole) front
     ∙ ap (λ ys. (resized old from ++ bytes) ++ ys) (drop_of_length-le whole (omega arith) ∙ sym (drop_of_length-le old (omega arith)))
 
-pub always_err : {T E P : Type 0} (r : Result T E) → P → OnErr r P
-always_err (Ok x) p = tt
-always_err (Err e) p = p
-
 -- a slice of all that was written back
 pub written_back : (n : ℕ) (new slice items : List ℕ) → slice ≡ items → length slice ≡ n → length new ≡ length slice → take n (new ++ drop (length new) items) ≡ new
 written_back n new slice items is size same =

@@ -16,13 +16,6 @@ moved_front ns ps qs h =
     reverse-append qs (drop (length ps) ns)
     ∙ sym (ap (λ o. moved_by o (upward qs) (upward ns)) (strips ns ps (front_strip ns ps ∙ h)))
 
-pub moved_stays : (ns ps qs : List (List ℕ)) → is_some (strip (upward ps) (upward ns)) ≡ false → upward ns ≡ moved (upward ps) (upward qs) (upward ns)
-moved_stays ns ps qs h = none_stays (strip (upward ps) (upward ns)) h
-  where
-    none_stays : (o : Option Path) → is_some o ≡ false → upward ns ≡ moved_by o (upward qs) (upward ns)
-    none_stays None h = refl
-    none_stays (Some s) h = cc
-
 pub joined_is : {E : Type 0} (r : Result (List (List ℕ)) E) (xs : List (List ℕ)) (m : Path) → IfOk r (λ path. path ≡ xs) → upward xs ≡ m → IfOk r (λ path. upward path ≡ m)
 joined_is (Ok x) xs m is e = ap upward is ∙ e
 joined_is (Err x) xs m is e = tt

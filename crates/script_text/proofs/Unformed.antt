@@ -50,11 +50,7 @@ target_good text f h = by (list_any is_zero text) (nat_lt MAX_TARGET (length tex
     by false true = refl
     by false false = h text
 
--- words of their forms, one, two or three of them
-forms1 : {A C : Type 0} (o : Option A) (f : A → Result C FsError) → ((x : A) → is_bad (f x) ≡ false) → is_bad (formed o >>= f) ≡ not (is_some o && true)
-forms1 (Some x) f h = h x
-forms1 None f h = refl
-
+-- words of their forms, two or three of them
 forms2 : {A B C : Type 0} (o : Option A) (p : Option B) (f : A → B → Result C FsError) → ((x : A) (y : B) → is_bad (f x y) ≡ false)
     → is_bad (formed o >>= (λ x. formed p >>= (λ y. f x y))) ≡ not (is_some o && (is_some p && true))
 forms2 (Some x) (Some y) f h = h x y
@@ -76,11 +72,6 @@ unequal (f ∷ fs) (w ∷ ws) ne = and_right (has_form f w) (have_forms fs ws) (
 
 miscounted : (fs : List WordForm) (ws : List (List ℕ)) → (length fs ≡ length ws → ⊥) → true ≡ not (have_forms fs ws)
 miscounted fs ws ne = sym (ap not (unequal fs ws ne))
-
-one_form : {B : Type 0} (f : WordForm) (next : List ℕ → Result B FsError) (ws : List (List ℕ)) → ((a : List ℕ) → is_bad (next a) ≡ not (have_forms (f ∷ []) (a ∷ []))) → is_bad (one ws >>= next) ≡ not (have_forms (f ∷ []) ws)
-one_form f next [] h = refl
-one_form f next (a ∷ []) h = h a
-one_form f next (a ∷ b ∷ ws) h = miscounted (f ∷ []) (a ∷ b ∷ ws) (λ e. omega arith)
 
 two_forms : {B : Type 0} (f g : WordForm) (next : List ℕ × List ℕ → Result B FsError) (ws : List (List ℕ)) → ((a b : List ℕ) → is_bad (next (a, b)) ≡ not (have_forms (f ∷ g ∷ []) (a ∷ b ∷ []))) → is_bad (two ws >>= next) ≡ not (have_forms (f ∷ g ∷ []) ws)
 two_forms f g next [] h = refl

@@ -288,10 +288,6 @@ cut_only C D (suc depth) low k id last children kept text first mid dropped new 
       | inr on ↦ inr on
     ]
 
-pub deep_some : (payload depth n : ℕ) → IsDepth payload depth n → 0 < depth → 0 < n
-deep_some payload zero n deep some = absurd (omega arith)
-deep_some payload (suc depth) n deep some = omega (arith, deep.0)
-
 -- a depth is the least with room
 pub depth_least : (payload depth low n : ℕ) → 50 ≤ payload → IsDepth payload depth n → n ≤ span payload low → depth ≤ low
 depth_least payload depth low n least deep fits = elim (cases_lt low depth) [

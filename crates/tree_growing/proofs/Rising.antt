@@ -39,10 +39,6 @@ not_deep payload depth room least is small = elim (cases_lt 40 depth) [
   | inr le ↦ le
 ]
 
-pub depth_is : (payload depth n : ℕ) → ((low : ℕ) → low + 1 ≡ depth → span payload low < n) → n ≤ span payload depth → IsDepth payload depth n
-depth_is payload zero n more fits = fits
-depth_is payload (suc depth) n more fits = (more depth (omega arith), fits)
-
 pub more_than : (payload depth n m : ℕ) → IsDepth payload depth n → n ≤ m → (low : ℕ) → low + 1 ≡ depth → span payload low < m
 more_than payload zero n m deep le low is = absurd (omega arith)
 more_than payload (suc depth) n m deep le low is = let same : depth ≡ low = omega arith in subst (λ k. span payload k < m) same (omega (arith, deep.0, le))
@@ -96,20 +92,6 @@ risen {H = H} {a = a} {b = b} {c = c} depth above first node new w t ids holds a
       alone = alone-join moved built.ids (apart, alone) built.alone free;
       replaces = replaces_then A B C ids moved (moved ++ built.ids) one two;
     }
-
--- a node with room for all needs no more
-pub raise_done : {S : Type 0} {H : Holdings S} {a : S} (depth room n : ℕ) (node : NodeText) (rest : List ℕ) → room ≡ span (H.payload a) depth → n ≤ room → (m : MayGrow H a depth node n (length rest)) → Raised H a a node (m.bytes ++ rest) m.ids × (0 ≡ length rest)
-raise_done {H = H} {a = a} depth room n node rest is fits m =
-    let none : length rest ≡ 0 = elim (cases_lt 0 (length rest)) [ inl some ↦ omega (arith, m.full some, m.sum, is, fits, some) | inr le ↦ omega (arith, le) ] in
-    let whole : m.bytes ≡ m.bytes ++ rest = sym (append-nil m.bytes) ∙ ap (λ xs. m.bytes ++ xs) (sym (nil_from_length rest none)) in
-    let long : length (m.bytes ++ rest) ≡ n = length-append m.bytes rest ∙ m.sum in (
-      record {
-        depth = depth;
-        deep = subst (IsDepth (H.payload a) depth) (sym long) (depth_is (H.payload a) depth n m.more (omega (arith, is, fits)));
-        grown = record { ids = m.ids; holds = subst (λ w. Holds (H.payload a) (H.content a) depth node w m.ids) whole m.holds; alone = m.alone; replaces = replaces_same (H.content a) m.ids };
-      },
-      sym none,
-    )
 
 -- one level more, and then as many as it takes
 pub raise_more : {S : Type 0} {H : Holdings S} {a c d : S} {node up last : NodeText} (depth above n used more : ℕ) (rest : List ℕ) → 50 ≤ H.payload a → depth + 1 ≡ above → span (H.payload a) depth < n → H.payload c ≡ H.payload a → used + span (H.payload a) depth ≤ span (H.payload a) above → (used < length rest → used + span (H.payload a) depth ≡ span (H.payload a) above) → used ≤ length rest
