@@ -1,7 +1,7 @@
 -- The configuration that an honest directory gives is the one that what is kept says.
-use Rattle.std.proofs.Common.{◌≡◌, ◌≤◌, ◌+◌, ℕ, true, false, not, List, ◌∷◌, ◌++◌, length, take, refl, sym, ◌∙◌, ap, subst, inl, inr, arith}
+use Rattle.std.proofs.Common.{◌≡◌, ◌≤◌, ℕ, true, false, not, List, length, take, refl, sym, ◌∙◌, ap, subst, inl, inr, arith}
 use Rattle.std.specs.Prelude.{is_some}
-use Rattle.std.proofs.lemmas.List.{take_all, length-take}
+use Rattle.std.proofs.lemmas.List.{take_all}
 use Rattle.std.proofs.lemmas.Slice.Eq.{bytes_eq-Decides}
 use Rattle.std.specs.declared.option.Option.{Option}
 use Rattle.std.specs.declared.option.Option.TheVariants.{None, Some}
@@ -17,13 +17,12 @@ use Rattle.histories.proofs.Configuration.{opened_only, unforged_config}
 use Rattle.line_io.specs.Lines.{first_line}
 use Rattle.line_io.specs.Streams.{Stream}
 use Rattle.mount_tower.specs.Opening.{IsLoaded, GaveConfig}
-use Rattle.mount_tower.specs.Unforged.{IsUnforgedConfig}
 use Rattle.mount_tower.proofs.Reading.{true_is_false}
 use Rattle.outside.specs.Changes.{FileChanges, change_at, cut}
-use Rattle.outside.specs.Honest.{last_change, same_answer, is_left, is_lie, count_calls, count_told}
+use Rattle.outside.specs.Honest.{same_answer, is_left, is_lie, count_calls, count_told}
 use Rattle.outside.specs.HonestLaws.{uncounted}
 use Rattle.outside.specs.Trace.{Call, config, got, adds}
-use Rattle.local_state.specs.Record.{PlainState, record_bytes, HasRecord}
+use Rattle.local_state.specs.Record.{PlainState}
 use Rattle.redo_vault.specs.Redo.{Gave}
 use Rattle.scrypt_kdf.specs.Cost.{Cost}
 use Rattle.session_runs.specs.Runs.{Outside, OpensTo}

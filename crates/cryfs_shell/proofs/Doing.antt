@@ -13,8 +13,7 @@ use Rattle.outside.specs.Trace.{Call}
 use Rattle.outside.specs.declared.keeper.Keeper.{Ghosts as KeeperGhosts}
 use Rattle.session_runs.specs.Openings.{AreUncalled}
 use Rattle.run_status.specs.declared.ended.Ended.{Ended}
-use Rattle.run_status.specs.declared.status.Status.{Status}
-use Rattle.run_status.specs.declared.status.Status.TheVariants.{Done, Usage, LongPassword, Violation, DirectoryFault, StateFault, InputFault, OutputFault}
+use Rattle.run_status.specs.declared.status.Status.TheVariants.{Done, Usage, LongPassword, Violation}
 use Rattle.session_lines.specs.declared.end.End.{End}
 use Rattle.session_runs.specs.Runs.{outside_of}
 use Rattle.shell_sessions.specs.Sessions.{ComesShell, ComesGenerated, ComesCommand}
@@ -26,7 +25,7 @@ use Rattle.cryfs_shell.specs.Clauses.{IsRefusedRun, NoFalseAlarm, KeepsTree, Fau
 use Rattle.cryfs_shell.specs.Doing.{Does}
 use Rattle.cryfs_shell.specs.Kinds.{is_session, opens}
 use Rattle.cryfs_shell.proofs.Statuses.{EndCause}
-use Rattle.cryfs_shell.proofs.Sessions.{session_faults, session_refusal, session_alarm, session_keeps, session_emptied, session_uncalled, session_usage, stays_grown}
+use Rattle.cryfs_shell.proofs.Sessions.{session_faults, session_refusal, session_alarm, session_keeps, session_emptied, session_uncalled, session_usage}
 use Rattle.cryfs_shell.proofs.Setups.{created_faults, created_uncalled, created_usage, created_alarm, told_faults, told_refusal, told_alarm, told_keeps, told_uncalled, told_usage, changed_faults, changed_refusal, changed_alarm, changed_keeps, changed_uncalled, changed_usage}
 use Rattle.cryfs_shell.proofs.TrialEnds.{ends_cause, reported_cause, tried_end, generated_end, trial_is_no, trial_faults}
 

@@ -4,7 +4,7 @@ use Rattle.std.proofs.Common.{refl, sym, ◌∙◌, ap, subst, arith}
 use Rattle.std.specs.FinMap.{get, find, put, insert, get-insert, same_map}
 use Rattle.std.specs.Ordering.{eq_by_cmp}
 use Rattle.std.specs.Prelude.{Bool, cond}
-use Rattle.fs_model.proofs.TreeLemmas.{name_total, name_exact, name_same}
+use Rattle.fs_model.proofs.TreeLemmas.{name_total, name_exact}
 use Rattle.blob_api.specs.BlobMap.{BlobMap}
 use Rattle.outcome.specs.Meanings.{Meanings}
 use Rattle.block_id.specs.declared.id.BlockId.{BlockId}

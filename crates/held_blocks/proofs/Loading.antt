@@ -7,11 +7,10 @@ use Rattle.std.specs.declared.option.Option.TheVariants.{None, Some}
 use Rattle.std.specs.declared.result.Result.TheVariants.{Ok, Err}
 use Rattle.std.specs.Option.{option_map_or}
 use Rattle.block_id.specs.declared.fail.Fail.{Fail}
-use Rattle.block_id.specs.declared.fail.Fail.TheVariants.{Memory, Fault, Violation}
 use Rattle.outside.specs.Trace.{Call}
 use Rattle.outside.specs.Honest.{count_told}
 use Rattle.outside.specs.View.{bytes_of}
-use Rattle.outcome.specs.Meanings.{HasCause, UnlessFault, IsQuiet}
+use Rattle.outcome.specs.Meanings.{HasCause, UnlessFault}
 use Rattle.outcome.specs.Outcome.{Outcome, idle}
 use Rattle.local_state.specs.declared.life.Life.{Life}
 use Rattle.store_api.specs.Holdings.{Stays}

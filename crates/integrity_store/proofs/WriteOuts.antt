@@ -10,7 +10,7 @@ use Rattle.std.specs.declared.result.Result.TheVariants.{Ok, Err}
 use Rattle.std.specs.declared.option.Option.{Option}
 use Rattle.std.specs.declared.option.Option.TheVariants.{None, Some}
 use Rattle.outside.specs.declared.vault.GetFail.{GetFail}
-use Rattle.outside.specs.Trace.{At, config, block, Call, adds}
+use Rattle.outside.specs.Trace.{At, config, Call, adds}
 use Rattle.outside.specs.Names.{same_at, at_cmp}
 use Rattle.outside.specs.NameLaws.{same_ties, at_total}
 use Rattle.outside.specs.Changes.{FileChanges, change_at}

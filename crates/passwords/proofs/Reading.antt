@@ -11,7 +11,7 @@ use Rattle.line_io.specs.Streams.{Stream}
 use Rattle.line_io.proofs.Flow.{coming-nil}
 use Rattle.run_status.specs.declared.status.Status.TheVariants.{InputFault}
 use Rattle.passwords.specs.Passwords.{IsLongLine, IsNextPassword, PasswordRead, PasswordUnread}
-use Rattle.passwords.proofs.Following.{kept_line, kept_none, split_nil, first_whole}
+use Rattle.passwords.proofs.Following.{kept_line, split_nil, first_whole}
 
 -- the line that is held
 pub held_some : (shown : Option (Bor (List ℕ))) (line : Option (List ℕ)) → option_copied shown ≡ line → is_some shown ≡ true → (password : List ℕ) × (line ≡ Some password)

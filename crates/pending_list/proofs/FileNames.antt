@@ -4,7 +4,7 @@ use Rattle.outside.specs.declared.change.FileName.{FileName}
 use Rattle.outside.specs.declared.change.FileName.TheVariants.{Config, Block}
 use Rattle.outside.specs.contracts.change.FileNamePartialEq.TheImpl as partial_eq
 use Rattle.outside.specs.contracts.change.FileNameOrd.TheImpl as ord
-use Rattle.outside.specs.Names.{same_at, at_cmp}
+use Rattle.outside.specs.Names.{same_at}
 use Rattle.outside.specs.View.{at_of}
 
 pub same_names : (a b : FileName) → partial_eq.ghosts.eq a b ≡ same_at (at_of a) (at_of b)

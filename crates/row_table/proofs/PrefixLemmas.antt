@@ -1,9 +1,7 @@
 -- Paths after a move.
-use Rattle.std.proofs.Common.{◌≡◌, ◌++◌, length, drop, true, false, List, ℕ, refl, sym, ◌∙◌, ap, IfOk}
+use Rattle.std.proofs.Common.{◌≡◌, ◌++◌, length, drop, true, List, ℕ, sym, ◌∙◌, ap, IfOk}
 use Rattle.std.specs.Prelude.{is_some}
 use Rattle.std.proofs.lemmas.List.{reverse-append}
-use Rattle.std.specs.declared.option.Option.{Option}
-use Rattle.std.specs.declared.option.Option.TheVariants.{None, Some}
 use Rattle.std.specs.declared.result.Result.{Result}
 use Rattle.std.specs.declared.result.Result.TheVariants.{Ok, Err}
 use Rattle.fs_model.specs.Tree.{Path, upward}

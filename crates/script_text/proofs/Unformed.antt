@@ -14,7 +14,7 @@ use Rattle.fs_model.specs.declared.limits.TheConstants.{MAX_TARGET}
 use Rattle.script_text.specs.declared.verb.Verb.{Verb}
 use Rattle.script_text.specs.declared.verb.Verb.TheVariants as verb
 use Rattle.script_text.specs.declared.grammar.TheConstants.{MAX_LINE}
-use Rattle.script_text.specs.Words.{words, is_empty, one, two, three}
+use Rattle.script_text.specs.Words.{words, is_empty, two, three}
 use Rattle.script_text.specs.Numbers.{number_of, id_of, mode_of, time_of}
 use Rattle.script_text.specs.Escapes.{unescaped, bytes_of}
 use Rattle.script_text.specs.Grammar.{◌>>=◌, formed, path_from, path, target, verb_of, only_path, with_path, mv, symlink, write, read, truncate, chmod, chown, utime, sync, sentence, command_in, command_of}

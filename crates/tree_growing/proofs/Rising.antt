@@ -2,7 +2,7 @@
 use Rattle.std.proofs.Common.{◌≡◌, ℕ, zero, suc, ◌+◌, ◌-◌, ◌*◌, ◌<◌, ◌≤◌, ◌^◌, true, false, cond, List, [], ◌∷◌, ◌++◌, length, take, drop, refl, sym, ◌∙◌, ap, subst, inl, inr, arith, append_assoc, append-nil}
 use Rattle.std.specs.Prelude.{Some, None, min, Result, Ok, Err, IfOk, IsErr}
 use Rattle.std.proofs.lemmas.Bool.{cases_lt, or_cases, or_parts}
-use Rattle.std.proofs.lemmas.List.{take-append-drop, length-append, length-take, length-drop, take_all, drop_all, nil_from_length}
+use Rattle.std.proofs.lemmas.List.{take-append-drop, length-append, length-take, length-drop, take_all, drop_all}
 use Rattle.std.proofs.Math.Nat.{mul-le-mul_right}
 use Rattle.std.proofs.Math.Pow.{pow-lt}
 use Rattle.store_api.proofs.Rising.{same_id_is}
@@ -17,7 +17,7 @@ use Rattle.data_tree.proofs.Ids.{other, same_self}
 use Rattle.data_tree.proofs.Levels.{span-some}
 use Rattle.data_tree.proofs.Making.{alone-join, holds_there, tree_there, not_among}
 use Rattle.data_tree.proofs.Borders.{replace_part, holds_inner}
-use Rattle.tree_growing.proofs.Growth.{forest_join, replaces_same}
+use Rattle.tree_growing.proofs.Growth.{forest_join}
 use Rattle.tree_growing.specs.Growing.{Grown, MayGrow, Raised}
 
 -- of an error nothing is asked that an Ok owes

@@ -1,5 +1,5 @@
 use Rattle.std.proofs.Common.{◌≡◌, ℕ, [], ◌∷◌, ◌++◌, List, replicate, sym, ap, ◌∙◌, append_assoc}
-use Rattle.aes_gcm.specs.Gcm.{bit_length, first_counter, padded}
+use Rattle.aes_gcm.specs.Gcm.{bit_length, padded}
 use Rattle.aes_gcm.specs.Ghash.{ghash}
 use Rattle.aes_gcm.proofs.Tags.{first_counter_long, first_counter_short}
 use Rattle.cipher_tests.proofs.plain.first_counter.Goals as goal

@@ -1,8 +1,4 @@
-use Rattle.std.proofs.Common.{refl, inl, inr, subst}
-use Rattle.config_file.specs.Settings.{settings_of}
-use Rattle.line_io.specs.Streams.{stream_of}
-use Rattle.setup_texts.specs.InfoText.{info_text}
-use Rattle.setup_texts.specs.Printing.{Printed}
+use Rattle.std.proofs.Common.{refl, inl, inr}
 use Rattle.cryfs_setup.proofs.Telling.{told, told_causes}
 use Rattle.cryfs_setup.proofs.info.tell_under.Goals as goal
 
