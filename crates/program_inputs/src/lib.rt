@@ -1,9 +1,7 @@
-//! What the program takes from the system before it runs: its words, the clock, and the record in the state folder.
+//! What the program takes from the system before it runs: its words, the clock, random bytes, and its two folders.
 #![tactic(auto)]
 
-mod record;
+mod inputs;
 mod record_use;
-mod system;
 
-pub use record::make_keeper;
-pub use system::{read_clock, read_words};
+pub use inputs::Inputs;

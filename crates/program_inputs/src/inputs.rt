@@ -1,0 +1,82 @@
+// What the system gives the program.
+use crate::record_use::uses_record;
+use fs_model::Moment;
+use outside::Memory;
+use rand_chacha::ChaCha20Rng;
+use rand_core::Rng;
+use real_folders::{FolderKeeper, FolderRun, FolderVault};
+use run_status::Status;
+use std::env;
+use std::io::ErrorKind;
+use std::time::{SystemTime, UNIX_EPOCH};
+
+/// What the program is run with: the folders that its first two words name, the words after them, and this moment.
+#[derive(Drop)]
+pub struct Inputs {
+    blocks: String,
+    state: String,
+    folders: FolderRun,
+    pub words: Vec<String>,
+    pub now: Moment,
+}
+
+impl Inputs {
+    /// What the system gives, and random bytes that begin with the system's. The clock and those bytes are inputs: where
+    /// either is refused, that is an input that failed. Words that are no text are of no known form.
+    pub fn read(rt: &HostRuntime) -> Result<(Inputs, ChaCha20Rng), Status> {
+        let mut all = match env::args(rt) {
+            Ok(all) => all,
+            Err(error) if error.kind() == ErrorKind::OutOfMemory => return Err(Status::Memory),
+            Err(_) => return Err(Status::Usage),
+        };
+        let (Some(_program), Some(blocks), Some(state)) = (all.next(), all.next(), all.next())
+        else {
+            return Err(Status::Usage);
+        };
+        if blocks.is_empty() || state.is_empty() {
+            return Err(Status::Usage);
+        }
+        let mut words = Vec::new(rt.alloc());
+        for word in all {
+            if words.push(word).is_err() {
+                return Err(Status::Memory);
+            }
+        }
+        let now = read_clock(rt).ok_or(Status::InputFault)?;
+        let Ok(mut chance) = rand::make_rng::<ChaCha20Rng, HostRuntime>(rt) else {
+            return Err(Status::InputFault);
+        };
+        let Ok(folders) = FolderRun::new(rt.alloc(), chance.next_u64()) else {
+            return Err(Status::Memory);
+        };
+        let inputs = Inputs {
+            blocks,
+            state,
+            folders,
+            words,
+            now,
+        };
+        Ok((inputs, chance))
+    }
+
+    /// The block folder.
+    pub fn vault(&self, rt: &HostRuntime) -> FolderVault<'_, HostRuntime> {
+        FolderVault::new(*rt, &self.blocks, &self.folders)
+    }
+
+    /// The record in the state folder, whose file is read only where the words need it.
+    pub fn make_keeper(&self, rt: &HostRuntime) -> Result<FolderKeeper<'_, HostRuntime>, Memory> {
+        if uses_record(rt.alloc(), &self.words)? {
+            FolderKeeper::new(rt.alloc(), *rt, &self.state, &self.folders)
+        } else {
+            FolderKeeper::unread(rt.alloc(), *rt, &self.state, &self.folders)
+        }
+    }
+}
+
+/// This moment, where the clock tells it.
+fn read_clock(rt: &HostRuntime) -> Option<Moment> {
+    let now = SystemTime::now(rt).ok()?;
+    let passed = now.duration_since(UNIX_EPOCH).ok()?;
+    Moment::new(passed.as_secs(), passed.subsec_nanos())
+}
