@@ -81,7 +81,10 @@ pub fn load_root<S: Blocks>(
     ensures room { IfOk result (λ found. found.1.room ≡ span (⟦<Tx<S> as Blocks>⟧.holdings.payload tx.old) found.1.depth) }
     ensures small { IfOk result (λ found. found.1.room < 2 ^ 63) }
 {
-    let node = load_node(alloc, tx, root)?;
+    let node = match load_node(alloc, tx, root) {
+        Ok(node) => node,
+        Err(fail) => return Err(fail),
+    };
     match level_of(tx.payload(), depth_of(&node)) {
         Some(level) => Ok((node, level)),
         None => Err(Fail::Violation(Why::Structure)),

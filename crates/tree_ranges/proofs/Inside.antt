@@ -73,6 +73,18 @@ root_same {H = H} {a = a} {b = b} {id = id} {n = n} stays told r whole le =
       replaces = record { kept = λ q o k. stays.content told q; gone = λ q o k. let bad : true ≡ false = sym o ∙ k in absurd (cc); came = λ q h. inl h };
     }
 
+-- no bytes change nothing
+pub root_kept : {S : Type 0} {H : Holdings S} {a : S} {id : Id} (r : IsRoot H a id) (from : ℕ) (bytes : List ℕ) → length bytes ≡ 0 → IsNewRoot H a a id r.ids (written r.bytes from bytes)
+root_kept r from [] none = record {
+  ids = r.ids;
+  depth = r.depth;
+  deep = r.deep;
+  tree = r.tree;
+  alone = r.alone;
+  replaces = record { kept = λ q o k. refl; gone = λ q o k. let bad : true ≡ false = sym o ∙ k in absurd (cc); came = λ q h. inl h };
+}
+root_kept r from (b ∷ bytes) none = absurd (omega (arith, none))
+
 written_is : (from : ℕ) (piece w : List ℕ) → 0 < length piece → from ≤ length w → written_at from piece w ≡ written w from piece
 written_is from [] w some le = absurd (omega arith)
 written_is from (byte ∷ piece) w some le = sym (overwritten_within w from (byte ∷ piece) le)

@@ -1,11 +1,12 @@
-use Rattle.std.proofs.Common.{◌≡◌, sym, ◌∙◌, ap, subst, [], ◌∷◌, ◌++◌, List, length, ◌+◌, ◌<◌, arith, refl, inl, inr}
+use Rattle.std.proofs.Common.{◌≡◌, sym, ◌∙◌, ap, subst, [], ◌∷◌, ◌++◌, List, length, ◌+◌, ◌<◌, ◌≤◌, ◌*◌, arith, rules, refl, inl, inr}
 use Rattle.std.specs.Prelude.{min}
 use Rattle.std.proofs.lemmas.List.{length-append, length-map}
 use Rattle.block_id.specs.declared.id.BlockId.{BlockId}
-use Rattle.data_nodes.specs.Layout.{ids_of, fan_out}
+use Rattle.data_nodes.specs.Layout.{ids_of, node_of, fan_out, FitsPayload}
 use Rattle.data_tree.specs.Trees.{span}
 use Rattle.data_tree.specs.Needs.{BuildRest}
 use Rattle.data_tree.proofs.Loads.{tx_holdings}
+use Rattle.data_tree.proofs.Levels.{span-some}
 use Rattle.data_tree.proofs.Puts.{if_ok_both, keeps_same, kept_put}
 use Rattle.data_tree.proofs.Making.{tree_made, build_start, build_next, build_done, built_leaf, built_inner, pushed}
 use Rattle.data_tree.proofs.Counting.{not_zero, is_zero, count_few, count_whole, count_below, next_whole, next_below}
@@ -98,3 +99,42 @@ build-returns-in-Ok-build_children-clause-fits g t c =
 
 pub build-returns-in-Ok-clause-built : goal.build-returns-in-Ok-clause-built
 build-returns-in-Ok-clause-built g t c = built_leaf c.args.level.depth c.args.bytes.now c.in-Ok.bytes.items c.if-level-eq0.true (c.in-Ok.ensures.items_if_clones_equal (λ x y e. e))
+
+pub build-build_children-requires : goal.build-build_children-requires
+build-build_children-requires g t c κs within =
+    let below = c.below-below.result in
+    let long = c.payload.ensures in
+    let level = c.below-below.ensures.room ∙ ap (λ p. span p below.depth) long in
+    let least = g.met.S.Blocks.steady.at_least c.args.tx.now.store c.requires.intact.0 in
+    let some : 0 < below.room = omega (arith, span-some (g.S.Blocks.holdings.payload c.args.tx.now.store) below.depth least, level) in
+    let fits = subst (λ n. length c.args.bytes.now ≤ n) (sym c.below-below.ensures.all ∙ ap (λ p. fan_out p * below.room) long) c.requires.fits in
+    (search rules, (within.0, (within.1, (c.requires.intact, (level, (some, fits))))))
+
+pub new_below-build-requires : goal.new_below-build-requires
+new_below-build-requires g t c κs within = (search rules, (within.0, (within.1, (c.requires.intact, (c.requires.level, (c.requires.fits, c.requires.some))))))
+
+pub build_children-new_below-requires : goal.build_children-new_below-requires
+build_children-new_below-requires g t c κs within =
+    let inv = c.loop-rest.invariant in
+    let some : 0 < length c.loop-rest.rest.now = not_zero (length c.loop-rest.rest.now) c.loop-rest-test.ensures in
+    let cut : length c.split_at.result.0.now ≡ min c.args.level.room (length c.loop-rest.rest.now) = c.split_at.ensures.front_len ∙ c.min.ensures in
+    let level = c.requires.level ∙ ap (λ s. span (g.S.Blocks.holdings.payload s) c.args.level.depth) (sym inv.store) in
+    (search rules, (within.0, (within.1, (inv.intact, (level, (omega (arith, cut), λ deep. omega (arith, cut, some, c.requires.room)))))))
+
+pub build-below-below-requires-clause-payload : goal.build-below-below-requires-clause-payload
+build-below-below-requires-clause-payload g t c = omega (arith, g.met.S.Blocks.steady.at_least c.args.tx.now.store c.requires.intact.0, c.payload.ensures)
+
+pub build-below-below-requires-clause-room : goal.build-below-below-requires-clause-room
+build-below-below-requires-clause-room g t c = c.requires.level ∙ ap (λ p. span p c.args.level.depth) (sym c.payload.ensures)
+
+pub new_below-put_new-requires-clause-fits : goal.new_below-put_new-requires-clause-fits
+new_below-put_new-requires-clause-fits g t c = subst (λ s. FitsPayload (g.S.Blocks.holdings.payload s) (node_of c.in-Ok.node)) (sym c.build.ensures.store) c.in-Ok.ensures.fits
+
+pub new_below-returns-in-Ok-clause-there : goal.new_below-returns-in-Ok-clause-there
+new_below-returns-in-Ok-clause-there g t c q h = c.put_new.ensures.there q (c.build.ensures.there q h)
+
+pub build_children-returns-in-Err-push-clause-there : goal.build_children-returns-in-Err-push-clause-there
+build_children-returns-in-Err-push-clause-there g t c q h = c.new_below.ensures.there q (c.loop-rest.invariant.there q h)
+
+pub build_children-returns-in-Err-push-clause-kept : goal.build_children-returns-in-Err-push-clause-kept
+build_children-returns-in-Err-push-clause-kept g t c = kept_put g.S.Blocks.holdings c.args.tx.now c.loop-rest.tx c.new_below.new.tx c.loop-rest.invariant.there c.loop-rest.invariant.kept c.new_below.ensures.kept

@@ -1,6 +1,6 @@
 use Rattle.std.proofs.Common.{◌≡◌, sym, ◌∙◌, ap, subst, length, true}
 use Rattle.data_nodes.specs.Layout.{node_of, inner}
-use Rattle.outcome.specs.Outcome.{answered, unbuilt, sounded_}
+use Rattle.outcome.specs.Outcome.{answered, passed, unbuilt, sounded_}
 use Rattle.data_tree.specs.Needs.{HasNode}
 use Rattle.data_tree.specs.Roots.{IsRoot}
 use Rattle.data_tree.specs.Trees.{depth_in, IsDepth}
@@ -13,7 +13,7 @@ returns-in-Some-clause-outcome g c =
     let a = c.args.tx.now in
     let told = g.met.S.Blocks.steady.sound_told a.store in
     let one = sounded_ {N = IsRoot H a c.args.root.now.0} {R = λ n y. (H.told a ≡ true) × (node_of y ≡ n.tree.node)}
-    (λ s n. record { text = n.tree.text; node = n.tree.node; told = told s; there = n.tree.there; is = n.tree.is }) c.in_ok-node.ensures.outcome (λ s n y h. (told s, h)) in
+    (λ s n. record { text = n.tree.text; node = n.tree.node; told = told s; there = n.tree.there; is = n.tree.is }) c.in-Ok.ensures.outcome (λ s n y h. (told s, h)) in
     answered one (λ n p. p)
 
 pub returns-in-Some-clause-shallow : goal.returns-in-Some-clause-shallow
@@ -21,9 +21,9 @@ returns-in-Some-clause-shallow g c s h deep =
     let H = tx_holdings g.S.Blocks.holdings in
     let a = c.args.tx.now in
     let there : HasNode H a c.args.root.now.0 = record { text = deep.text; node = inner deep.depth deep.children; told = g.met.S.Blocks.steady.sound_told a.store s; there = deep.there; is = deep.is } in
-    let node : node_of c.in_ok-node.node ≡ inner deep.depth deep.children = c.in_ok-node.ensures.outcome.value there s h in
+    let node : node_of c.in-Ok.node ≡ inner deep.depth deep.children = c.in-Ok.ensures.outcome.value there s h in
     let level : c.in-Some.level.depth ≡ deep.depth = c.in-Some.ensures.depth ∙ c.depth_of.ensures ∙ ap depth_in node in
-    let long : c.payload.result ≡ H.payload a = c.payload.ensures ∙ c.in_ok-node.ensures.stays.payload in
+    let long : c.payload.result ≡ H.payload a = c.payload.ensures ∙ c.load_node.ensures.stays.payload in
     let some = c.in-Some.ensures.some in
     deep.deeper some.0 some.1.0 (subst (λ p. IsDepth p deep.depth some.0) long (subst (λ d. IsDepth c.payload.result d some.0) level some.1.1))
 
@@ -34,8 +34,60 @@ returns-in-None-clause-outcome g c =
     let a = c.args.tx.now in
     let told = g.met.S.Blocks.steady.sound_told a.store in
     let one = sounded_ {N = IsRoot H a c.args.root.now.0} {R = λ n y. node_of y ≡ n.tree.node}
-    (λ s n. record { text = n.tree.text; node = n.tree.node; told = told s; there = n.tree.there; is = n.tree.is }) c.in_ok-node.ensures.outcome (λ s n y h. h) in
+    (λ s n. record { text = n.tree.text; node = n.tree.node; told = told s; there = n.tree.there; is = n.tree.is }) c.in-Ok.ensures.outcome (λ s n y h. h) in
     unbuilt laws one (λ n p.
     let deep : c.depth_of.result ≡ n.depth = c.depth_of.ensures ∙ ap depth_in p ∙ holds-depth (H.payload a) (H.content a) n.depth n.tree.node n.bytes n.tree.below n.tree.holds in
-    let long : c.payload.result ≡ H.payload a = c.payload.ensures ∙ c.in_ok-node.ensures.stays.payload in
+    let long : c.payload.result ≡ H.payload a = c.payload.ensures ∙ c.load_node.ensures.stays.payload in
     c.in-None.ensures.none (length n.bytes) n.small (subst (λ p. IsDepth p c.depth_of.result (length n.bytes)) (sym long) (subst (λ d. IsDepth (H.payload a) d (length n.bytes)) (sym deep) n.deep)))
+
+pub returns-in-Err-clause-outcome : goal.returns-in-Err-clause-outcome
+returns-in-Err-clause-outcome g c =
+    let a = c.args.tx.now in
+    let told = g.met.S.Blocks.steady.sound_told a.store in
+    passed (sounded_ {N = IsRoot (tx_holdings g.S.Blocks.holdings) a c.args.root.now.0} {R = λ n y. Unit {0}}
+    (λ s n. record { text = n.tree.text; node = n.tree.node; told = told s; there = n.tree.there; is = n.tree.is }) c.in-Err.ensures.outcome (λ s n y h. tt))
+
+pub returns-in-Err-clause-stays : goal.returns-in-Err-clause-stays
+returns-in-Err-clause-stays g c = c.load_node.ensures.stays
+
+pub returns-in-Err-clause-below : goal.returns-in-Err-clause-below
+returns-in-Err-clause-below g c = c.load_node.ensures.below
+
+pub returns-in-Err-clause-overlay : goal.returns-in-Err-clause-overlay
+returns-in-Err-clause-overlay g c = c.load_node.ensures.overlay
+
+pub returns-in-Some-clause-stays : goal.returns-in-Some-clause-stays
+returns-in-Some-clause-stays g c = c.load_node.ensures.stays
+
+pub returns-in-Some-clause-below : goal.returns-in-Some-clause-below
+returns-in-Some-clause-below g c = c.load_node.ensures.below
+
+pub returns-in-Some-clause-overlay : goal.returns-in-Some-clause-overlay
+returns-in-Some-clause-overlay g c = c.load_node.ensures.overlay
+
+pub returns-in-None-clause-stays : goal.returns-in-None-clause-stays
+returns-in-None-clause-stays g c = c.load_node.ensures.stays
+
+pub returns-in-None-clause-below : goal.returns-in-None-clause-below
+returns-in-None-clause-below g c = c.load_node.ensures.below
+
+pub returns-in-None-clause-overlay : goal.returns-in-None-clause-overlay
+returns-in-None-clause-overlay g c = c.load_node.ensures.overlay
+
+pub returns-in-Err-clause-shallow : goal.returns-in-Err-clause-shallow
+returns-in-Err-clause-shallow g c s h = tt
+
+pub returns-in-None-clause-shallow : goal.returns-in-None-clause-shallow
+returns-in-None-clause-shallow g c s h = tt
+
+pub returns-in-Some-clause-fits : goal.returns-in-Some-clause-fits
+returns-in-Some-clause-fits g c = c.in-Ok.ensures.fits
+
+pub returns-in-Some-clause-depth : goal.returns-in-Some-clause-depth
+returns-in-Some-clause-depth g c = sym (c.in-Some.ensures.depth ∙ c.depth_of.ensures)
+
+pub returns-in-Some-clause-there : goal.returns-in-Some-clause-there
+returns-in-Some-clause-there g c = c.in-Ok.ensures.there
+
+pub returns-in-Some-clause-small : goal.returns-in-Some-clause-small
+returns-in-Some-clause-small g c = c.in-Some.ensures.fits

@@ -1,12 +1,12 @@
-use Rattle.std.proofs.Common.{◌≡◌, sym, ◌∙◌, ap, subst, drop, [], ◌∷◌, length, ◌+◌, ◌-◌, ◌<◌, arith}
+use Rattle.std.proofs.Common.{◌≡◌, sym, ◌∙◌, ap, subst, drop, [], ◌∷◌, length, ◌+◌, ◌-◌, ◌<◌, arith, rules}
 use Rattle.std.proofs.lemmas.List.{length-map}
 use Rattle.block_id.specs.declared.id.BlockId.{BlockId}
 use Rattle.outcome.specs.Outcome.{idle, first_, then_, answered, passed}
 use Rattle.data_nodes.specs.Layout.{node_of, ids_of, fan_out, FitsPayload}
-use Rattle.data_tree.specs.Trees.{span}
+use Rattle.data_tree.specs.Trees.{span, depth_in}
 use Rattle.data_tree.specs.Needs.{HasBelow}
 use Rattle.data_tree.proofs.Loads.{tx_holdings, tx_laws}
-use Rattle.data_tree.proofs.Forests.{below_on, below_of, children_of, leaf_is}
+use Rattle.data_tree.proofs.Forests.{below_on, below_of, children_of, leaf_is, stays-then, stays-same}
 use Rattle.tree_calls.proofs.Lasts.{last_fits, last_of, last-length, sum_is}
 use Rattle.data_tree.proofs.Gathering.{last_child}
 use Rattle.tree_calls.proofs.length.+len.Goals as goal
@@ -79,3 +79,59 @@ len_in-returns-in-Ok-clause-most g t c =
 
 pub len_below-returns-in-Err-clause-outcome : goal.len_below-returns-in-Err-clause-outcome
 len_below-returns-in-Err-clause-outcome g t c = passed c.in-Err.ensures.outcome
+
+pub len_below-len_in-requires : goal.len_below-len_in-requires
+len_below-len_in-requires g t c κs within =
+    let same = sym c.load_at.ensures.stays.payload in
+    let level = c.requires.level ∙ ap (λ p. span p c.args.level.depth) same in
+    let fits = subst (λ p. FitsPayload p (node_of c.in-Ok.node)) same c.in-Ok.ensures.fits in
+    (search rules, (within, (c.in-Ok.ensures.outcome.intact, (level, (c.requires.small, (fits, c.in-Ok.ensures.depth))))))
+
+pub len_in-len_below-requires : goal.len_in-len_below-requires
+len_in-len_below-requires g t c κs within =
+    let level = c.below-below.ensures.room ∙ ap (λ p. span p c.below-below.result.depth) c.payload.ensures in
+    let fits = subst (FitsPayload ((tx_holdings g.S.Blocks.holdings).payload c.args.tx.now)) (ap node_of c.in-Inner.is) c.requires.fits in
+    let some : 0 < fan_out c.payload.result = omega (arith, fits.1, fits.2, c.payload.ensures) in
+    let all = last_fits 0 (fan_out c.payload.result) c.below-below.result.room c.below-below.result.room c.args.level.room some c.below-below.ensures.all (omega arith) in
+    (search rules, (within, (c.requires.intact, (level, omega (arith, all, c.requires.small)))))
+
+pub len_in-below-below-requires-clause-deep : goal.len_in-below-below-requires-clause-deep
+len_in-below-below-requires-clause-deep g t c =
+    let fits = subst (FitsPayload ((tx_holdings g.S.Blocks.holdings).payload c.args.tx.now)) (ap node_of c.in-Inner.is) c.requires.fits in
+    omega (arith, fits.0, ap (λ x. depth_in (node_of x)) c.in-Inner.is, c.requires.depth)
+
+pub len_in-below-below-requires-clause-payload : goal.len_in-below-below-requires-clause-payload
+len_in-below-below-requires-clause-payload g t c = omega (arith, g.met.S.Blocks.steady.at_least c.args.tx.now.store c.requires.intact.0, c.payload.ensures)
+
+pub len_in-below-below-requires-clause-room : goal.len_in-below-below-requires-clause-room
+len_in-below-below-requires-clause-room g t c = c.requires.level ∙ ap (λ p. span p c.args.level.depth) (sym c.payload.ensures)
+
+pub len_below-returns-in-Ok-clause-stays : goal.len_below-returns-in-Ok-clause-stays
+len_below-returns-in-Ok-clause-stays g t c = stays-then c.load_at.ensures.stays c.len_in.ensures.stays
+
+pub len_below-returns-in-Ok-clause-below : goal.len_below-returns-in-Ok-clause-below
+len_below-returns-in-Ok-clause-below g t c = stays-then c.load_at.ensures.below c.len_in.ensures.below
+
+pub len_below-returns-in-Err-clause-stays : goal.len_below-returns-in-Err-clause-stays
+len_below-returns-in-Err-clause-stays g t c = c.load_at.ensures.stays
+
+pub len_below-returns-in-Err-clause-below : goal.len_below-returns-in-Err-clause-below
+len_below-returns-in-Err-clause-below g t c = c.load_at.ensures.below
+
+pub len_in-returns-in-Leaf-clause-stays : goal.len_in-returns-in-Leaf-clause-stays
+len_in-returns-in-Leaf-clause-stays g t c = stays-same (tx_holdings g.S.Blocks.holdings) c.args.tx.now
+
+pub len_in-returns-in-Leaf-clause-below : goal.len_in-returns-in-Leaf-clause-below
+len_in-returns-in-Leaf-clause-below g t c = stays-same g.S.Blocks.holdings c.args.tx.now.store
+
+pub len_in-returns-in-Ok-clause-stays : goal.len_in-returns-in-Ok-clause-stays
+len_in-returns-in-Ok-clause-stays g t c = c.len_below.ensures.stays
+
+pub len_in-returns-in-Ok-clause-below : goal.len_in-returns-in-Ok-clause-below
+len_in-returns-in-Ok-clause-below g t c = c.len_below.ensures.below
+
+pub len_in-returns-in-Err-clause-stays : goal.len_in-returns-in-Err-clause-stays
+len_in-returns-in-Err-clause-stays g t c = c.len_below.ensures.stays
+
+pub len_in-returns-in-Err-clause-below : goal.len_in-returns-in-Err-clause-below
+len_in-returns-in-Err-clause-below g t c = c.len_below.ensures.below

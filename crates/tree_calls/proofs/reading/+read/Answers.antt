@@ -1,8 +1,9 @@
-use Rattle.std.proofs.Common.{◌⊎◌, ◌++◌, sym, ◌∙◌, ap, inl, inr, arith, append-nil, drop, get_or, [], ◌≤◌, ◌+◌, List, refl}
+use Rattle.std.proofs.Common.{◌⊎◌, ◌++◌, sym, ◌∙◌, ap, inl, inr, arith, append-nil, drop, get_or, [], ◌≤◌, ◌+◌, List, refl, rules, subst}
 use Rattle.block_id.specs.declared.id.BlockId.{BlockId}
 use Rattle.outcome.specs.Outcome.{idle, first_, then_, failed_, answered, passed}
-use Rattle.data_nodes.specs.Layout.{node_of, ids_of, inner}
+use Rattle.data_nodes.specs.Layout.{node_of, ids_of, inner, FitsPayload}
 use Rattle.tree_calls.specs.Reading.{between}
+use Rattle.data_tree.specs.Trees.{span, depth_in}
 use Rattle.data_tree.proofs.Loads.{tx_holdings, tx_laws}
 use Rattle.data_tree.proofs.Puts.{memory_first}
 use Rattle.tree_calls.proofs.Parts.{between-none}
@@ -114,3 +115,50 @@ read_below-returns-in-Err-clause-outcome g t c = passed c.in-Err.ensures.outcome
 
 pub read_in-returns-in-Err-clause-outcome : goal.read_in-returns-in-Err-clause-outcome
 read_in-returns-in-Err-clause-outcome g t c = memory_first g.S.Blocks.meanings g.S.Blocks.holdings g.met.S.Blocks.lawful c.args.tx.now c.args.tx.now c.requires.intact refl c.requires.intact
+
+pub read_below-read_in-requires : goal.read_below-read_in-requires
+read_below-read_in-requires g t c κs within =
+    let same = sym c.load_at.ensures.stays.payload in
+    let level = c.requires.level ∙ ap (λ p. span p c.args.level.depth) same in
+    let fits = subst (λ p. FitsPayload p (node_of c.in-Ok.node)) same c.in-Ok.ensures.fits in
+    (search rules, (within, (c.in-Ok.ensures.outcome.intact, (level, (fits, c.in-Ok.ensures.depth)))))
+
+pub read_in-read_children-requires : goal.read_in-read_children-requires
+read_in-read_children-requires g t c κs within =
+    let level = c.below-below.ensures.room ∙ ap (λ p. span p c.below-below.result.depth) c.payload.ensures in
+    (search rules, (within, (c.requires.intact, level)))
+
+pub read_in-below-below-requires-clause-deep : goal.read_in-below-below-requires-clause-deep
+read_in-below-below-requires-clause-deep g t c =
+    let fits = subst (FitsPayload ((tx_holdings g.S.Blocks.holdings).payload c.args.tx.now)) (ap node_of c.in-Inner.is) c.requires.fits in
+    omega (arith, fits.0, ap (λ x. depth_in (node_of x)) c.in-Inner.is, c.requires.depth)
+
+pub read_in-below-below-requires-clause-payload : goal.read_in-below-below-requires-clause-payload
+read_in-below-below-requires-clause-payload g t c = omega (arith, g.met.S.Blocks.steady.at_least c.args.tx.now.store c.requires.intact.0, c.payload.ensures)
+
+pub read_in-below-below-requires-clause-room : goal.read_in-below-below-requires-clause-room
+read_in-below-below-requires-clause-room g t c = c.requires.level ∙ ap (λ p. span p c.args.level.depth) (sym c.payload.ensures)
+
+pub read_children-read_below-requires : goal.read_children-read_below-requires
+read_children-read_below-requires g t c κs within =
+    let inv = c.loop-child.invariant in
+    let level = c.requires.level ∙ ap (λ p. span p c.args.level.depth) (sym inv.stays.payload) in
+    (search rules, (within, (inv.outcome.intact, level)))
+
+pub read_below-returns-in-Err-clause-stays : goal.read_below-returns-in-Err-clause-stays
+read_below-returns-in-Err-clause-stays g t c = c.load_at.ensures.stays
+
+pub read_below-returns-in-Err-clause-below : goal.read_below-returns-in-Err-clause-below
+read_below-returns-in-Err-clause-below g t c = c.load_at.ensures.below
+
+pub read_in-returns-in-Inner-clause-stays : goal.read_in-returns-in-Inner-clause-stays
+read_in-returns-in-Inner-clause-stays g t c = c.read_children.ensures.stays
+
+pub read_in-returns-in-Inner-clause-below : goal.read_in-returns-in-Inner-clause-below
+read_in-returns-in-Inner-clause-below g t c = c.read_children.ensures.below
+
+pub read_children-returns-clause-stays : goal.read_children-returns-clause-stays
+read_children-returns-clause-stays g t c = c.loop-child.invariant.stays
+
+pub read_children-returns-clause-below : goal.read_children-returns-clause-below
+read_children-returns-clause-below g t c = c.loop-child.invariant.below

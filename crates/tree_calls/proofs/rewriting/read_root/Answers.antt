@@ -1,7 +1,8 @@
-use Rattle.std.proofs.Common.{◌≡◌, ◌∙◌, ap, ◌++◌, length, arith, true}
-use Rattle.data_nodes.specs.Layout.{node_of}
+use Rattle.std.proofs.Common.{◌≡◌, ◌∙◌, ap, ◌++◌, length, arith, true, subst, sym}
+use Rattle.data_nodes.specs.Layout.{node_of, FitsPayload}
 use Rattle.outcome.specs.Outcome.{then_, failed_, answered, unbuilt, passed}
 use Rattle.tree_calls.specs.Reading.{between}
+use Rattle.data_tree.specs.Trees.{span}
 use Rattle.data_tree.proofs.Loads.{tx_holdings, tx_laws}
 use Rattle.data_tree.proofs.Forests.{below_on, below_root, stays-then}
 use Rattle.tree_calls.proofs.Parts.{all_between}
@@ -55,3 +56,15 @@ returns-clause-below g c = stays-then c.load_root.ensures.below c.read_in.ensure
 
 pub returns-in-Err-clause-outcome : goal.returns-in-Err-clause-outcome
 returns-in-Err-clause-outcome g c = passed c.in-Err.ensures.outcome
+
+pub read_in-requires-clause-level : goal.read_in-requires-clause-level
+read_in-requires-clause-level g c = c.in-Ok.ensures.room ∙ ap (λ p. span p c.in-Ok.found.1.depth) (sym c.load_root.ensures.stays.payload)
+
+pub read_in-requires-clause-fits : goal.read_in-requires-clause-fits
+read_in-requires-clause-fits g c = subst (λ p. FitsPayload p (node_of c.in-Ok.found.0)) (sym c.load_root.ensures.stays.payload) c.in-Ok.ensures.fits
+
+pub returns-in-Err-clause-stays : goal.returns-in-Err-clause-stays
+returns-in-Err-clause-stays g c = c.load_root.ensures.stays
+
+pub returns-in-Err-clause-below : goal.returns-in-Err-clause-below
+returns-in-Err-clause-below g c = c.load_root.ensures.below

@@ -1,5 +1,5 @@
-use Rattle.std.proofs.Common.{◌∙◌, ap}
-use Rattle.data_nodes.specs.Layout.{node_of}
+use Rattle.std.proofs.Common.{◌∙◌, ap, subst, sym}
+use Rattle.data_nodes.specs.Layout.{node_of, FitsPayload}
 use Rattle.outcome.specs.Outcome.{then_, no_memory, passed}
 use Rattle.block_id.specs.Contents.{written}
 use Rattle.data_tree.proofs.Loads.{tx_laws}
@@ -27,3 +27,15 @@ returns-in-Err-overwrite-clause-outcome g c = no_memory c.in-Ok.ensures.outcome
 
 pub returns-in-Err-clause-outcome : goal.returns-in-Err-clause-outcome
 returns-in-Err-clause-outcome g c = passed c.in-Err.ensures.outcome
+
+pub rewrite-requires-clause-there : goal.rewrite-requires-clause-there
+rewrite-requires-clause-there g c = c.read_root.ensures.stays.ids c.args.root.now.0 ∙ c.in-Ok.ensures.there
+
+pub rewrite-requires-clause-fits : goal.rewrite-requires-clause-fits
+rewrite-requires-clause-fits g c = subst (λ p. FitsPayload p (node_of c.in-Ok.found.0)) (sym c.read_root.ensures.stays.payload) c.in-Ok.ensures.fits
+
+pub returns-in-Err-clause-below : goal.returns-in-Err-clause-below
+returns-in-Err-clause-below g c = c.read_root.ensures.below
+
+pub returns-in-Err-overwrite-clause-below : goal.returns-in-Err-overwrite-clause-below
+returns-in-Err-overwrite-clause-below g c = c.read_root.ensures.below

@@ -1,5 +1,6 @@
 use Rattle.std.proofs.Common.{◌≡◌, ◌≤◌, ◌<◌, inl, inr, ◌+◌, ◌-◌, ◌*◌, ◌/◌, ◌^◌, ◌++◌, [], ◌∷◌, refl, sym, ◌∙◌, ap, subst, take, drop, length, List, arith, append_assoc, rules}
-use Rattle.std.proofs.lemmas.List.{length-append, length-take, length-drop, take-append-drop, take_all}
+use Rattle.std.proofs.lemmas.List.{length-append, length-map, length-take, length-drop, take-append-drop, take_all}
+use Rattle.std.specs.FinMap.{get}
 use Rattle.block_id.specs.declared.id.BlockId.{BlockId}
 use Rattle.outcome.specs.Outcome.{first_, idle, answered, passed}
 use Rattle.data_nodes.specs.Layout.{node_of, ids_of, leaf, inner, fan_out, FitsPayload}
@@ -7,7 +8,7 @@ use Rattle.store_api.specs.Overlay.{steady_over, changed_over}
 use Rattle.data_tree.specs.Needs.{HasBelow, HasTrees}
 use Rattle.data_tree.specs.Trees.{span, depth_in}
 use Rattle.data_tree.proofs.Loads.{store_in, changes_in, tx_holdings, tx_laws}
-use Rattle.data_tree.proofs.Forests.{children_of, leaf_is, stays-then}
+use Rattle.data_tree.proofs.Forests.{children_of, leaf_is, stays-same, stays-then}
 use Rattle.data_tree.proofs.Levels.{span-some}
 use Rattle.data_tree.proofs.Puts.{below_then, keeps_below, keeps_same, memory_after, memory_first, unforged_on}
 use Rattle.tree_growing.specs.Growing.{Grown, GrownTrees}
@@ -255,3 +256,77 @@ grown_inner-grown_node-requires g t c =
     let level = c.requires.level ∙ ap (λ p. span p c.args.level.depth) same in
     let fits = subst (λ p. FitsPayload p (node_of c.in-Ok.child)) same c.in-Ok.ensures.fits in
     λ κs lives. (search rules, (search rules, (search rules, (c.in-Ok.ensures.outcome.intact, (level, (fits, c.in-Ok.ensures.depth))))))
+
+pub grown_node-grown_inner-requires : goal.grown_node-grown_inner-requires
+grown_node-grown_inner-requires g t c κs within =
+    let payload = g.S.Blocks.holdings.payload c.args.tx.now.store in
+    let below = c.below-below.result in
+    let items = c.deref-in-Inner.result.now in
+    let is = ap (λ (xs : List BlockId). inner c.in-Inner.depth (ids_of xs)) c.deref-in-Inner.ensures.value ∙ ap node_of (sym c.in-Inner.is) in
+    let fits = subst (FitsPayload payload) (sym is) c.requires.fits in
+    let count = length-map items (λ (x : BlockId). x.0) in
+    let level = c.below-below.ensures.room ∙ ap (λ p. span p below.depth) c.payload.ensures in
+    let wide : c.args.level.room < 2 ^ 64 = search rules in
+    let small = subst (λ n. n < 2 ^ 64) (sym c.below-below.ensures.all ∙ ap (λ p. fan_out p * below.room) c.payload.ensures) wide in
+    (search rules, (within.0, (within.1, (c.requires.intact, (level, (small, (omega (arith, fits.1, count), omega (arith, fits.2, count))))))))
+
+pub grown_node-below-below-requires-clause-deep : goal.grown_node-below-below-requires-clause-deep
+grown_node-below-below-requires-clause-deep g t c =
+    let fits = subst (FitsPayload (g.S.Blocks.holdings.payload c.args.tx.now.store)) (ap node_of c.in-Inner.is) c.requires.fits in
+    omega (arith, fits.0, ap (λ x. depth_in (node_of x)) c.in-Inner.is, c.requires.depth)
+
+pub grown_node-below-below-requires-clause-payload : goal.grown_node-below-below-requires-clause-payload
+grown_node-below-below-requires-clause-payload g t c = omega (arith, g.met.S.Blocks.steady.at_least c.args.tx.now.store c.requires.intact.0, c.payload.ensures)
+
+pub grown_node-below-below-requires-clause-room : goal.grown_node-below-below-requires-clause-room
+grown_node-below-below-requires-clause-room g t c = c.requires.level ∙ ap (λ p. span p c.args.level.depth) (sym c.payload.ensures)
+
+pub grown_inner-put_node-requires-clause-fits : goal.grown_inner-put_node-requires-clause-fits
+grown_inner-put_node-requires-clause-fits g t c = subst (λ p. FitsPayload p (node_of c.in-Ok-grown_node.grown.0)) (sym c.grown_node.ensures.below.payload) c.in-Ok-grown_node.ensures.fits
+
+pub grown_inner-put_node-requires-clause-id : goal.grown_inner-put_node-requires-clause-id
+grown_inner-put_node-requires-clause-id g t c =
+    let last = last_id c.args.children.now in
+    inl (c.grown_node.ensures.there last (c.load_at.ensures.stays.ids last ∙ c.in-Ok.ensures.there))
+
+pub grown_inner-grown_children-requires-clause-level : goal.grown_inner-grown_children-requires-clause-level
+grown_inner-grown_children-requires-clause-level g t c =
+    let same = ap g.S.Blocks.holdings.payload c.in-Ok-put_node.ensures.store ∙ c.grown_node.ensures.below.payload ∙ c.load_at.ensures.below.payload in
+    c.requires.level ∙ ap (λ p. span p c.args.level.depth) (sym same)
+
+pub grown_node-returns-in-Ok-clause-fits : goal.grown_node-returns-in-Ok-clause-fits
+grown_node-returns-in-Ok-clause-fits g t c =
+    let payload = g.S.Blocks.holdings.payload c.args.tx.now.store in
+    let old = c.deref.result.now in
+    let leaf_at : leaf old ≡ node_of c.args.node.now = ap leaf c.deref.ensures.value ∙ ap node_of (sym c.in-Leaf.is) in
+    let low : 0 ≡ c.args.level.depth = ap depth_in leaf_at ∙ c.requires.depth in
+    let room : c.args.level.room ≡ payload - 8 = c.requires.level ∙ ap (span payload) (sym low) in
+    let fits : length old ≤ payload - 8 = subst (FitsPayload payload) (sym leaf_at) c.requires.fits in
+    let new = take c.in-Ok.grown.1 c.args.bytes.now in
+    subst (FitsPayload payload) (sym c.in-Ok.ensures.node) (omega (arith, length-append old new, length-take c.in-Ok.grown.1 c.args.bytes.now, c.in-Ok.ensures.used, room, fits))
+
+pub grown_node-returns-in-Ok-clause-only : goal.grown_node-returns-in-Ok-clause-only
+grown_node-returns-in-Ok-clause-only g t c n s h q there = inl refl
+
+pub grown_node-returns-in-Err-clause-only : goal.grown_node-returns-in-Err-clause-only
+grown_node-returns-in-Err-clause-only g t c n s h q there = inl refl
+
+pub grown_node-returns-in-Ok-grown_inner-clause-fits : goal.grown_node-returns-in-Ok-grown_inner-clause-fits
+grown_node-returns-in-Ok-grown_inner-clause-fits g t c =
+    let payload = g.S.Blocks.holdings.payload c.args.tx.now.store in
+    let made = c.in-Ok-grown_inner.ensures in
+    let fits = subst (FitsPayload payload) (ap node_of c.in-Inner.is) c.requires.fits in
+    let count = length-map c.in-Ok-grown_inner.children.items (λ (x : BlockId). x.0) in
+    (fits.0, omega (arith, count, made.some), omega (arith, count, made.few))
+
+pub grown_inner-returns-in-Err-clause-only : goal.grown_inner-returns-in-Err-clause-only
+grown_inner-returns-in-Err-clause-only g t c n s h q there = inl (ap (λ m. get m q) c.load_at.ensures.overlay)
+
+pub grown_inner-returns-in-Err-clause-below : goal.grown_inner-returns-in-Err-clause-below
+grown_inner-returns-in-Err-clause-below g t c = c.load_at.ensures.below
+
+pub grown_node-returns-in-Ok-clause-below : goal.grown_node-returns-in-Ok-clause-below
+grown_node-returns-in-Ok-clause-below g t c = stays-same g.S.Blocks.holdings c.args.tx.now.store
+
+pub grown_node-returns-in-Err-clause-below : goal.grown_node-returns-in-Err-clause-below
+grown_node-returns-in-Err-clause-below g t c = stays-same g.S.Blocks.holdings c.args.tx.now.store

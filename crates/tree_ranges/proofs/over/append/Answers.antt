@@ -1,7 +1,8 @@
-use Rattle.std.proofs.Common.{◌≡◌, ◌≤◌, ◌-◌, ◌++◌, sym, ◌∙◌, ap, subst, take, drop, length, true, arith}
+use Rattle.std.proofs.Common.{◌≡◌, ◌≤◌, ◌-◌, ◌++◌, sym, ◌∙◌, ap, subst, take, drop, length, true, inl, arith}
 use Rattle.std.proofs.lemmas.List.{take_all, length-drop}
+use Rattle.std.specs.FinMap.{get}
 use Rattle.outcome.specs.Outcome.{first_, unbuilt, passed}
-use Rattle.data_nodes.specs.Layout.{node_of}
+use Rattle.data_nodes.specs.Layout.{node_of, FitsPayload}
 use Rattle.store_api.specs.Overlay.{changed_over}
 use Rattle.data_tree.specs.Trees.{IsDepth, span}
 use Rattle.data_tree.proofs.Changes.{keeps-then}
@@ -182,3 +183,37 @@ returns-in-Ok-put_node-clause-below g c = below_then g.S.Blocks.holdings c.args.
 
 pub returns-clause-below : goal.returns-clause-below
 returns-clause-below g c = below_then g.S.Blocks.holdings c.args.tx.now c.grown_node.new.tx c.put_node.new.tx (stays-then c.load_root.ensures.below c.grown_node.ensures.below) (c.put_node.ensures.store ∙ c.raised.ensures.store)
+
+pub grown_node-requires-clause-level : goal.grown_node-requires-clause-level
+grown_node-requires-clause-level g c = c.in-Ok.ensures.room ∙ ap (λ p. span p c.in-Ok.found.1.depth) (sym c.load_root.ensures.stays.payload)
+
+pub grown_node-requires-clause-fits : goal.grown_node-requires-clause-fits
+grown_node-requires-clause-fits g c = subst (λ p. FitsPayload p (node_of c.in-Ok.found.0)) (sym c.load_root.ensures.stays.payload) c.in-Ok.ensures.fits
+
+pub put_node-requires-clause-id : goal.put_node-requires-clause-id
+put_node-requires-clause-id g c =
+    let root = c.args.root.now.0 in
+    inl (c.raised.ensures.there root (c.grown_node.ensures.there root (c.load_root.ensures.stays.ids root ∙ c.in-Ok.ensures.there)))
+
+pub returns-in-Err-clause-only : goal.returns-in-Err-clause-only
+returns-in-Err-clause-only g c r s h q there = inl (ap (λ m. get m q) c.load_root.ensures.overlay)
+
+pub returns-in-Err-clause-there : goal.returns-in-Err-clause-there
+returns-in-Err-clause-there g c q h = c.load_root.ensures.stays.ids q ∙ h
+
+pub returns-in-Err-clause-below : goal.returns-in-Err-clause-below
+returns-in-Err-clause-below g c = c.load_root.ensures.below
+
+pub returns-in-Err-grown_node-clause-there : goal.returns-in-Err-grown_node-clause-there
+returns-in-Err-grown_node-clause-there g c q h = c.grown_node.ensures.there q (c.load_root.ensures.stays.ids q ∙ h)
+
+pub raised-requires-clause-level : goal.raised-requires-clause-level
+raised-requires-clause-level g c =
+    let same = c.grown_node.ensures.below.payload ∙ c.load_root.ensures.below.payload in
+    c.in-Ok.ensures.room ∙ ap (λ p. span p c.in-Ok.found.1.depth) (sym same)
+
+pub raised-requires-clause-fits : goal.raised-requires-clause-fits
+raised-requires-clause-fits g c = subst (λ p. FitsPayload p (node_of c.in-Ok-grown_node.grown.0)) (sym c.grown_node.ensures.below.payload) c.in-Ok-grown_node.ensures.fits
+
+pub put_node-requires-clause-fits : goal.put_node-requires-clause-fits
+put_node-requires-clause-fits g c = subst (λ s. FitsPayload (g.S.Blocks.holdings.payload s) (node_of c.in-Ok-raised.grown.0)) (sym c.raised.ensures.store) c.in-Ok-raised.ensures.fits

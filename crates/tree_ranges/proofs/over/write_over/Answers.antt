@@ -1,10 +1,11 @@
 use Rattle.std.proofs.Common.{◌≡◌, ◌≤◌, ◌<◌, ◌+◌, ◌-◌, ◌++◌, sym, ◌∙◌, ap, subst, take, drop, length, inl, inr, arith}
 use Rattle.std.proofs.lemmas.List.{length-append, length-drop, length-replicate}
 use Rattle.block_id.specs.Contents.{zeros, written}
-use Rattle.outcome.specs.Outcome.{first_, then_, passed}
+use Rattle.outcome.specs.Outcome.{first_, no_memory, then_, passed}
 use Rattle.store_api.specs.Overlay.{steady_over}
 use Rattle.data_tree.specs.Roots.{IsNewRoot}
 use Rattle.data_tree.proofs.Loads.{store_in, changes_in, tx_holdings, tx_laws}
+use Rattle.data_tree.proofs.Forests.{stays-then}
 use Rattle.data_tree.proofs.Puts.{keeps_below, unforged_before}
 use Rattle.tree_ranges.specs.Border.{Grew}
 use Rattle.tree_ranges.specs.Ranges.{IsOpened}
@@ -146,3 +147,25 @@ returns-clause-grown g c n s h =
             | inr on ↦ inr (border_back H0 a d depth root from (length piece) q (steady.at_least a c.requires.intact) tree fits c.write_below.ensures.below only on)
           ]);
     })
+
+pub returns-in-Err-after_zeros-clause-outcome : goal.returns-in-Err-after_zeros-clause-outcome
+returns-in-Err-after_zeros-clause-outcome g c =
+    let H = tx_holdings g.S.Blocks.holdings in
+    let piece_len : length c.split_at.result.0.now ≡ c.saturating_sub.result = c.split_at.ensures.front_len in
+    no_memory (first_ {N = IsOpened H c.args.tx.now c.args.root.now.0 c.args.level.depth c.args.len} {R = λ _ _. Unit {0}}
+    (λ n. record { tree = root_tree c.args.level.depth n.told n.tree n.same; inside = λ some. omega (arith, some, piece_len, c.saturating_sub.ensures, n.long) }) c.in-Ok.ensures.outcome (λ _ _ _. tt))
+
+pub returns-in-Err-clause-below : goal.returns-in-Err-clause-below
+returns-in-Err-clause-below g c = c.write_below.ensures.below
+
+pub returns-in-Err-after_zeros-clause-below : goal.returns-in-Err-after_zeros-clause-below
+returns-in-Err-after_zeros-clause-below g c = c.write_below.ensures.below
+
+pub returns-clause-below : goal.returns-clause-below
+returns-clause-below g c = stays-then c.write_below.ensures.below c.append.ensures.below
+
+pub split_at-requires : goal.split_at-requires
+split_at-requires g c = omega (arith, c.saturating_sub.ensures, c.requires.over)
+
+pub append-requires-clause-intact : goal.append-requires-clause-intact
+append-requires-clause-intact g c = c.write_below.ensures.outcome.intact

@@ -1,8 +1,9 @@
-use Rattle.std.proofs.Common.{◌≡◌, true, length}
-use Rattle.data_nodes.specs.Layout.{node_of}
-use Rattle.outcome.specs.Outcome.{then_, failed_, answered}
+use Rattle.std.proofs.Common.{◌≡◌, true, length, sym, ap, subst, ◌∙◌}
+use Rattle.data_nodes.specs.Layout.{node_of, FitsPayload}
+use Rattle.outcome.specs.Outcome.{then_, failed_, answered, passed}
+use Rattle.data_tree.specs.Trees.{span}
 use Rattle.data_tree.proofs.Loads.{tx_holdings, tx_laws}
-use Rattle.data_tree.proofs.Forests.{below_on, below_root}
+use Rattle.data_tree.proofs.Forests.{below_on, below_root, stays-then}
 use Rattle.data_tree.proofs.Puts.{unforged_before}
 use Rattle.tree_ranges.proofs.ranges.open_root.Goals as goal
 
@@ -23,3 +24,45 @@ pub returns-in-Err-len_in-clause-outcome : goal.returns-in-Err-len_in-clause-out
 returns-in-Err-len_in-clause-outcome g c =
     let laws = tx_laws g.S.Blocks.meanings g.S.Blocks.holdings g.met.S.Blocks.lawful in
     failed_ laws c.in-Ok.ensures.outcome (λ n p. below_on c.load_root.ensures.stays (below_root (node_of c.in-Ok.found.0) c.in-Ok.found.1.depth p.0 n p.1 c.in-Ok.ensures.depth)) c.in-Err-len_in.ensures.outcome
+
+pub returns-in-Err-clause-outcome : goal.returns-in-Err-clause-outcome
+returns-in-Err-clause-outcome g c = passed c.in-Err.ensures.outcome
+
+pub returns-in-Err-clause-shallow : goal.returns-in-Err-clause-shallow
+returns-in-Err-clause-shallow g c s h = tt
+
+pub returns-in-Err-len_in-clause-shallow : goal.returns-in-Err-len_in-clause-shallow
+returns-in-Err-len_in-clause-shallow g c s h = tt
+
+pub returns-in-Err-clause-stays : goal.returns-in-Err-clause-stays
+returns-in-Err-clause-stays g c = c.load_root.ensures.stays
+
+pub returns-in-Ok-len_in-clause-stays : goal.returns-in-Ok-len_in-clause-stays
+returns-in-Ok-len_in-clause-stays g c = stays-then c.load_root.ensures.stays c.len_in.ensures.stays
+
+pub returns-in-Err-len_in-clause-stays : goal.returns-in-Err-len_in-clause-stays
+returns-in-Err-len_in-clause-stays g c = stays-then c.load_root.ensures.stays c.len_in.ensures.stays
+
+pub returns-in-Err-clause-below : goal.returns-in-Err-clause-below
+returns-in-Err-clause-below g c = c.load_root.ensures.below
+
+pub returns-in-Ok-len_in-clause-below : goal.returns-in-Ok-len_in-clause-below
+returns-in-Ok-len_in-clause-below g c = stays-then c.load_root.ensures.below c.len_in.ensures.below
+
+pub returns-in-Err-len_in-clause-below : goal.returns-in-Err-len_in-clause-below
+returns-in-Err-len_in-clause-below g c = stays-then c.load_root.ensures.below c.len_in.ensures.below
+
+pub returns-in-Ok-len_in-clause-fits : goal.returns-in-Ok-len_in-clause-fits
+returns-in-Ok-len_in-clause-fits g c = c.in-Ok.ensures.fits
+
+pub returns-in-Ok-len_in-clause-depth : goal.returns-in-Ok-len_in-clause-depth
+returns-in-Ok-len_in-clause-depth g c = c.in-Ok.ensures.depth
+
+pub returns-in-Ok-len_in-clause-room : goal.returns-in-Ok-len_in-clause-room
+returns-in-Ok-len_in-clause-room g c = c.in-Ok.ensures.room
+
+pub len_in-requires-clause-level : goal.len_in-requires-clause-level
+len_in-requires-clause-level g c = c.in-Ok.ensures.room ∙ ap (λ p. span p c.in-Ok.found.1.depth) (sym c.load_root.ensures.stays.payload)
+
+pub len_in-requires-clause-fits : goal.len_in-requires-clause-fits
+len_in-requires-clause-fits g c = subst (λ p. FitsPayload p (node_of c.in-Ok.found.0)) (sym c.load_root.ensures.stays.payload) c.in-Ok.ensures.fits

@@ -2,12 +2,12 @@ use Rattle.std.proofs.Common.{◌≡◌, ◌-◌, ◌++◌, sym, ◌∙◌, ap, 
 use Rattle.std.specs.FinMap.{get}
 use Rattle.std.proofs.lemmas.List.{take_all, length-replicate}
 use Rattle.block_id.specs.Contents.{resized, zeros}
-use Rattle.outcome.specs.Outcome.{answered, no_memory, then_}
+use Rattle.outcome.specs.Outcome.{answered, no_memory, passed, then_}
 use Rattle.data_nodes.specs.Layout.{node_of}
 use Rattle.store_api.specs.Overlay.{steady_over}
 use Rattle.data_tree.specs.Roots.{IsNewRoot}
 use Rattle.data_tree.specs.Trees.{IsDepth, span}
-use Rattle.data_tree.proofs.Forests.{alone_root, below_on, below_root}
+use Rattle.data_tree.proofs.Forests.{alone_root, below_on, below_root, stays-then}
 use Rattle.data_tree.proofs.Loads.{store_in, changes_in, tx_holdings, tx_laws}
 use Rattle.data_tree.proofs.Puts.{keeps_below, on_any, unforged_before}
 use Rattle.tree_cutting.specs.Cutting.{OnlyBorder, MayCutNode}
@@ -176,3 +176,42 @@ returns-clause-grown g c r s h =
       stay = c.append.ensures.there;
       only = λ q there. elim (only q there) [ inl same ↦ inl same | inr on ↦ inr (inl on) ];
     })
+
+pub returns-in-Err-clause-outcome : goal.returns-in-Err-clause-outcome
+returns-in-Err-clause-outcome g c = passed c.in-Err.ensures.outcome
+
+pub returns-in-Err-clause-shallow : goal.returns-in-Err-clause-shallow
+returns-in-Err-clause-shallow g c s h = tt
+
+pub returns-in-Err-clause-shrank : goal.returns-in-Err-clause-shrank
+returns-in-Err-clause-shrank g c n s h = tt
+
+pub returns-in-Err-after_zeros-clause-shallow : goal.returns-in-Err-after_zeros-clause-shallow
+returns-in-Err-after_zeros-clause-shallow g c s h = tt
+
+pub returns-in-Err-after_zeros-clause-shrank : goal.returns-in-Err-after_zeros-clause-shrank
+returns-in-Err-after_zeros-clause-shrank g c n s h = tt
+
+pub returns-in-Err-clause-fewer : goal.returns-in-Err-clause-fewer
+returns-in-Err-clause-fewer g c n s h q there = sym (c.open_root.ensures.stays.ids q) ∙ there
+
+pub returns-in-Err-clause-below : goal.returns-in-Err-clause-below
+returns-in-Err-clause-below g c = c.open_root.ensures.below
+
+pub returns-in-Err-after_zeros-clause-fewer : goal.returns-in-Err-after_zeros-clause-fewer
+returns-in-Err-after_zeros-clause-fewer g c n s h q there = sym (c.open_root.ensures.stays.ids q) ∙ there
+
+pub returns-in-Err-after_zeros-clause-below : goal.returns-in-Err-after_zeros-clause-below
+returns-in-Err-after_zeros-clause-below g c = c.open_root.ensures.below
+
+pub returns-then-n-len-clause-fewer : goal.returns-then-n-len-clause-fewer
+returns-then-n-len-clause-fewer g c n s h q there = sym (c.open_root.ensures.stays.ids q) ∙ there
+
+pub returns-then-n-len-clause-below : goal.returns-then-n-len-clause-below
+returns-then-n-len-clause-below g c = c.open_root.ensures.below
+
+pub returns-then-n-len-2-clause-below : goal.returns-then-n-len-2-clause-below
+returns-then-n-len-2-clause-below g c = stays-then c.open_root.ensures.below c.cut_root.ensures.below
+
+pub returns-clause-below : goal.returns-clause-below
+returns-clause-below g c = stays-then c.open_root.ensures.below c.append.ensures.below

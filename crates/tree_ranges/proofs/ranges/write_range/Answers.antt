@@ -1,11 +1,12 @@
-use Rattle.std.proofs.Common.{◌≤◌, ◌+◌, refl, sym, ◌∙◌, subst, length, arith}
+use Rattle.std.proofs.Common.{◌≤◌, ◌+◌, refl, sym, ◌∙◌, ap, inl, subst, length, arith}
 use Rattle.std.specs.FinMap as fin
 use Rattle.block_id.specs.Contents.{pieces}
-use Rattle.outcome.specs.Outcome.{then_}
-use Rattle.data_nodes.specs.Layout.{node_of, room}
+use Rattle.outcome.specs.Outcome.{idle, then_, passed}
+use Rattle.data_nodes.specs.Layout.{node_of, room, FitsPayload}
 use Rattle.store_api.specs.Overlay.{steady_over}
+use Rattle.data_tree.specs.Trees.{span}
 use Rattle.data_tree.proofs.Loads.{store_in, changes_in, tx_holdings, tx_laws}
-use Rattle.data_tree.proofs.Counting.{not_zero}
+use Rattle.data_tree.proofs.Counting.{is_zero, not_zero}
 use Rattle.data_tree.proofs.Forests.{stays-same, stays-then}
 use Rattle.data_tree.proofs.Puts.{keeps_below, on_any, unforged_before}
 use Rattle.tree_ranges.specs.Border.{Grew}
@@ -13,7 +14,7 @@ use Rattle.tree_writing.specs.Leaves.{OnlyLeaves}
 use Rattle.tree_writing.specs.Writing.{MayWriteNode}
 use Rattle.tree_ranges.proofs.Borders.{grew_nothing, grew_since}
 use Rattle.tree_writing.proofs.Costs.{cost_few}
-use Rattle.tree_ranges.proofs.Inside.{root_depth, root_tree, root_at, new_since, wrote_root, enough, ids_same}
+use Rattle.tree_ranges.proofs.Inside.{root_depth, root_tree, root_at, new_since, root_kept, wrote_root, enough, ids_same}
 use Rattle.tree_writing.proofs.Leaves.{only_since}
 use Rattle.tree_writing.proofs.Overwriting.{tree_at}
 use Rattle.tree_ranges.proofs.ranges.write_range.Goals as goal
@@ -137,3 +138,78 @@ returns-clause-grown g c n s h =
     let same = root_depth (node_of c.in-Ok.found.0) c.in-Ok.found.1.depth n.tree p.1.0 c.in-Ok.ensures.depth in
     let grew = c.write_over.ensures.grown (record { tree = root_at stays p.0 n.tree; told = stays.told ∙ p.0; same = same; long = p.1.1 }) (c.open_root.ensures.outcome.sound s before) (omega (arith, h, loaded)) in
     grew_since {H = H} {a = a} {b = b} {c = e} n.tree.depth c.args.root.now.0 c.args.from (length n.tree.bytes) a.overlay b.overlay e.overlay stays p.0 c.open_root.ensures.overlay (subst (λ k. Grew (H.payload b) (H.content b) (H.content e) n.tree.depth c.args.root.now.0 c.args.from k b.overlay e.overlay) p.1.1 grew)
+
+pub returns-then-is_empty-clause-outcome : goal.returns-then-is_empty-clause-outcome
+returns-then-is_empty-clause-outcome g c =
+    let laws = tx_laws g.S.Blocks.meanings g.S.Blocks.holdings g.met.S.Blocks.lawful in
+    idle laws c.args.tx.now _ c.requires.intact (λ n. root_kept n c.args.from c.args.bytes.now (is_zero (length c.args.bytes.now) c.if-is_empty.ensures))
+
+pub returns-in-Err-clause-outcome : goal.returns-in-Err-clause-outcome
+returns-in-Err-clause-outcome g c = passed c.in-Err.ensures.outcome
+
+pub returns-then-is_empty-clause-shallow : goal.returns-then-is_empty-clause-shallow
+returns-then-is_empty-clause-shallow g c s h some = absurd (omega (arith, some, is_zero (length c.args.bytes.now) c.if-is_empty.ensures))
+
+pub returns-in-Err-clause-shallow : goal.returns-in-Err-clause-shallow
+returns-in-Err-clause-shallow g c s h some = tt
+
+pub returns-then-is_empty-clause-empty : goal.returns-then-is_empty-clause-empty
+returns-then-is_empty-clause-empty g c e = refl
+
+pub returns-in-Err-clause-empty : goal.returns-in-Err-clause-empty
+returns-in-Err-clause-empty g c e = absurd (omega (arith, e, not_zero (length c.args.bytes.now) c.if-is_empty.ensures))
+
+pub returns-then-from-bytes-clause-empty : goal.returns-then-from-bytes-clause-empty
+returns-then-from-bytes-clause-empty g c e = absurd (omega (arith, e, not_zero (length c.args.bytes.now) c.if-is_empty.ensures))
+
+pub returns-clause-empty : goal.returns-clause-empty
+returns-clause-empty g c e = absurd (omega (arith, e, not_zero (length c.args.bytes.now) c.if-is_empty.ensures))
+
+pub returns-then-is_empty-clause-inside : goal.returns-then-is_empty-clause-inside
+returns-then-is_empty-clause-inside g c n s h = absurd (omega (arith, n.some, is_zero (length c.args.bytes.now) c.if-is_empty.ensures))
+
+pub returns-then-is_empty-clause-few : goal.returns-then-is_empty-clause-few
+returns-then-is_empty-clause-few g c n s h = absurd (omega (arith, n.some, is_zero (length c.args.bytes.now) c.if-is_empty.ensures))
+
+pub returns-then-is_empty-clause-ids : goal.returns-then-is_empty-clause-ids
+returns-then-is_empty-clause-ids g c n s h = absurd (omega (arith, n.some, is_zero (length c.args.bytes.now) c.if-is_empty.ensures))
+
+pub returns-in-Err-clause-inside : goal.returns-in-Err-clause-inside
+returns-in-Err-clause-inside g c n s h q = inl (ap (λ m. fin.get m q) c.open_root.ensures.overlay)
+
+pub returns-in-Err-clause-few : goal.returns-in-Err-clause-few
+returns-in-Err-clause-few g c n s h = omega (arith, ap fin.len c.open_root.ensures.overlay)
+
+pub returns-in-Err-clause-ids : goal.returns-in-Err-clause-ids
+returns-in-Err-clause-ids g c n s h q = c.open_root.ensures.stays.ids q
+
+pub returns-clause-few : goal.returns-clause-few
+returns-clause-few g c n s h =
+    let laws = tx_laws g.S.Blocks.meanings g.S.Blocks.holdings g.met.S.Blocks.lawful in
+    let before = unforged_before laws c.args.tx.now c.open_root.new.tx c.write_over.new.tx c.write_over.ensures.outcome.loaded h in
+    let p = c.in-Ok.ensures.outcome.value n.tree s before in
+    absurd (omega (arith, c.if-from-bytes.false, p.1.1, n.fits))
+
+pub returns-then-is_empty-clause-below : goal.returns-then-is_empty-clause-below
+returns-then-is_empty-clause-below g c = stays-same g.S.Blocks.holdings c.args.tx.now.store
+
+pub returns-in-Err-clause-below : goal.returns-in-Err-clause-below
+returns-in-Err-clause-below g c = c.open_root.ensures.below
+
+pub returns-then-from-bytes-clause-below : goal.returns-then-from-bytes-clause-below
+returns-then-from-bytes-clause-below g c = stays-then c.open_root.ensures.below c.write_in.ensures.below
+
+pub returns-clause-below : goal.returns-clause-below
+returns-clause-below g c = stays-then c.open_root.ensures.below c.write_over.ensures.below
+
+pub write_in-requires-clause-level : goal.write_in-requires-clause-level
+write_in-requires-clause-level g c = c.in-Ok.ensures.room ∙ ap (λ p. span p c.in-Ok.found.1.depth) (sym c.open_root.ensures.stays.payload)
+
+pub write_in-requires-clause-fits : goal.write_in-requires-clause-fits
+write_in-requires-clause-fits g c = subst (λ p. FitsPayload p (node_of c.in-Ok.found.0)) (sym c.open_root.ensures.stays.payload) c.in-Ok.ensures.fits
+
+pub write_in-requires-clause-there : goal.write_in-requires-clause-there
+write_in-requires-clause-there g c = c.open_root.ensures.stays.ids c.args.root.now.0 ∙ c.in-Ok.ensures.there
+
+pub write_over-requires-clause-over : goal.write_over-requires-clause-over
+write_over-requires-clause-over g c = omega (arith, c.if-from-bytes.false)
