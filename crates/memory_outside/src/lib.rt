@@ -1,4 +1,4 @@
-//! The outside in memory, for tests and for what keeps a copy: input, output, the block directory, the local record, whose calls can be made to fail.
+//! The outside in memory, for tests: input, output, the block directory, the local record, whose calls can be made to fail.
 #![tactic(auto)]
 
 mod event;

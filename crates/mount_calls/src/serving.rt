@@ -13,7 +13,7 @@ ghost use Rattle.tree_commands.specs.Showing.{ShowsFiles};
 ghost use Rattle.tree_commands.specs.Sparing.{OnWriteInside};
 ghost use Rattle.mount_core.specs.Answers.{is_done_answer, is_structure, OnFound, OnReply, OnSpent};
 ghost use Rattle.mount_core.specs.Causes.{FoundCause, MadeRoom, OnlyLoaded, SpentCause};
-ghost use Rattle.mount_core.specs.Configuring.{ConfigAnswered, ConfigClosed, ConfigSynced, Replaced};
+ghost use Rattle.mount_core.specs.Configuring.{ConfigAnswered, ConfigClosed, Replaced};
 ghost use Rattle.tree_commands.specs.Performing.{is_sync, IsReplyTo};
 ghost use Rattle.mount_core.specs.Sparing.{FewRaised};
 ghost use Rattle.mount_core.specs.Standing.{Answered, IsKeptMarked, Synced};

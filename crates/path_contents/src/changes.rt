@@ -1,4 +1,4 @@
-// Changes of what the blobs show.
+// Changes of what a row has, as the blobs show it.
 ghost use Rattle.std.specs.Prelude.{◌≡◌, ◌≤◌, ◌+◌, ◌∷◌, length};
 ghost use Rattle.std.specs.FinMap.{insert as with_key};
 ghost use Rattle.fs_model.specs.declared.attr.Kind.TheVariants.{File};

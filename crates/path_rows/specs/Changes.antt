@@ -1,4 +1,4 @@
--- What changes of the shown tree need.
+-- What changes of the rows need.
 use Rattle.std.specs.Prelude.{◌≡◌, ◌≤◌, ◌+◌, ℕ, List, ◌∷◌}
 use Rattle.std.specs.FinMap.{get, remove}
 use Rattle.std.specs.declared.option.Option.TheVariants.{Some}

@@ -1,4 +1,4 @@
-// Changes of what the blobs show.
+// Changes of which rows the blobs show.
 ghost use Rattle.std.specs.Prelude.{◌≤◌, ◌∷◌};
 ghost use Rattle.std.specs.FinMap.{remove as without_key};
 ghost use Rattle.outcome.specs.Outcome.{Outcome};

@@ -1,4 +1,4 @@
-// Commands that make a row.
+// A new row in a directory, with its blob.
 ghost use Rattle.std.specs.Prelude.{◌≤◌, ◌∷◌, IfOk, length};
 ghost use Rattle.std.specs.FinMap.{insert as with_row};
 ghost use Rattle.outcome.specs.Outcome.{Outcome};

@@ -1,4 +1,4 @@
-// Moves.
+// A row that moves, to a free name or onto another row.
 ghost use Rattle.std.specs.Prelude.{◌≡◌, ◌≤◌, ◌∷◌, IfOk};
 ghost use Rattle.std.specs.Ordering.{eq_by_cmp};
 ghost use Rattle.outcome.specs.Outcome.{Outcome};

@@ -21,8 +21,8 @@ pub struct Inputs {
 }
 
 impl Inputs {
-    /// What the system gives, and random bytes that begin with the system's. The clock and those bytes are inputs: where
-    /// either is refused, that is an input that failed. Words that are no text are of no known form.
+    /// What the system gives, and a generator of random bytes that the system's seed. The clock and those bytes are inputs:
+    /// where either is refused, that is an input that failed. Words that are no text are of no known form.
     pub fn read(rt: &HostRuntime) -> Result<(Inputs, ChaCha20Rng), Status> {
         let mut all = match env::args(rt) {
             Ok(all) => all,
