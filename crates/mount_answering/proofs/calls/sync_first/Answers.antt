@@ -4,7 +4,6 @@ use Rattle.tree_commands.specs.Showing.{ShowsFiles}
 use Rattle.mount_core.proofs.Moving.{stays_same}
 use Rattle.mount_answering.proofs.Lines.{map_ok, true_is_false}
 use Rattle.mount_answering.proofs.Syncing.{config_roomed, roomed}
-use Rattle.mount_answering.proofs.Quiet.{ok_no_error}
 use Rattle.mount_answering.proofs.calls.sync_first.Goals as goal
 use Rattle.mount_answering.proofs.calls.sync_first.Goals.{then-is_sync-via-then-is_sync, then-is_sync-via-else-is_sync+then-buffered-ge-MOST_WAITING}
 
@@ -63,9 +62,9 @@ returns g c =
       forgeries = refl;
       lies = refl;
       vault_grows = omega arith;
-      vault_cause = λ is. absurd (ok_no_error _ is);
+      vault_cause = λ is. absurd (cc);
       vault_quiet = refl;
       keeper_grows = omega arith;
-      keeper_cause = λ is. absurd (ok_no_error _ is);
+      keeper_cause = λ is. absurd (cc);
       keeper_quiet = refl;
     }
