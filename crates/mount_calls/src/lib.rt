@@ -1,5 +1,5 @@
 //! The calls of a mount: a file system is opened over a block directory and a local record, or a new one made, answers
-//! commands, changes its password and closes, each with what is kept afterwards.
+//! commands, syncs, changes its password and closes, each with what is kept afterwards.
 #![tactic(auto)]
 
 mod making;
@@ -8,5 +8,5 @@ mod serving;
 mod starting;
 
 pub use making::create;
-pub use serving::{answer, change_password, close};
+pub use serving::{answer, change_password, close, sync};
 pub use starting::attach;

@@ -13,7 +13,7 @@ ghost use Rattle.tree_commands.specs.Showing.{ShowsFiles};
 ghost use Rattle.tree_commands.specs.Sparing.{OnWriteInside};
 ghost use Rattle.mount_core.specs.Answers.{is_done_answer, is_structure, OnFound, OnReply, OnSpent};
 ghost use Rattle.mount_core.specs.Causes.{FoundCause, MadeRoom, OnlyLoaded, SpentCause};
-ghost use Rattle.mount_core.specs.Configuring.{ConfigAnswered, ConfigClosed, Replaced};
+ghost use Rattle.mount_core.specs.Configuring.{ConfigAnswered, ConfigClosed, ConfigSynced, Replaced};
 ghost use Rattle.tree_commands.specs.Performing.{is_sync, IsReplyTo};
 ghost use Rattle.mount_core.specs.Sparing.{FewRaised};
 ghost use Rattle.mount_core.specs.Standing.{Answered, IsKeptMarked, Synced};
@@ -87,6 +87,34 @@ pub fn answer<V: Vault, K: Keeper, R: Rng>(
     ensures variant { OnReply result (IsReplyTo command.now) }
 {
     mount_answering::answer(alloc, &mut mount.core, now, command, chance)
+}
+
+/// Keeps what is present. There was no violation.
+pub fn sync<V: Vault, K: Keeper>(alloc: Global, mount: &mut Mount<V, K>) -> Result<(), SyncError>
+    requires ready { IsReady V.trace V.faults K.Keeper mount.old }
+    requires fresh { mount.old.core.violated ≡ false }
+    ensures ready { IsReady V.trace V.faults K.Keeper mount.new }
+    ensures opened { mount.new.opened ≡ mount.old.opened }
+    ensures fresh { mount.new.core.violated ≡ false }
+    ensures stands { (kept now : Tree) → TowerStands ShowsFiles V.trace V.faults K.Keeper mount.old.core kept now
+        → Synced ShowsFiles (tower_meanings V.trace V.faults) (tower_holdings V.trace) (tower_durables V.trace) records K.Keeper mount.new.core kept now result }
+    ensures configures { (may : List (List ℕ)) (now : List ℕ) → TowerConfigures V.trace K.Keeper mount.old.core may now
+        → ConfigSynced (tower_holdings V.trace) (tower_durables V.trace) records K.Keeper mount.new.core may now result }
+    ensures emptied { OnOk result (HasEmptyList (K.kept mount.new.core.saver.keeper)) }
+    ensures ok { OnOk result (mount.new.core.saver.changed ≡ false) }
+    ensures unmoved { mount.old.core.saver.changed ≡ false → IsOk result × (mount.new ≡ mount.old) }
+    ensures stays { Stays (tower_holdings V.trace) mount.old.core.blobs.tx.store mount.new.core.blobs.tx.store }
+    ensures goes_on { GoesOn (trace_in V.trace mount.old.core.blobs.tx.store) (trace_in V.trace mount.new.core.blobs.tx.store) }
+    ensures forgeries { (tower_meanings V.trace V.faults).forgeries mount.new.core.blobs.tx.store ≡ (tower_meanings V.trace V.faults).forgeries mount.old.core.blobs.tx.store }
+    ensures lies { (tower_meanings V.trace V.faults).lies mount.new.core.blobs.tx.store ≡ (tower_meanings V.trace V.faults).lies mount.old.core.blobs.tx.store }
+    ensures vault_grows { (tower_meanings V.trace V.faults).faults mount.old.core.blobs.tx.store ≤ (tower_meanings V.trace V.faults).faults mount.new.core.blobs.tx.store }
+    ensures vault_cause { IsErrOf result SyncError.FaultDirectory → RoseBy 1 ((tower_meanings V.trace V.faults).faults mount.old.core.blobs.tx.store) ((tower_meanings V.trace V.faults).faults mount.new.core.blobs.tx.store) }
+    ensures vault_quiet { UnlessDirectory result ((tower_meanings V.trace V.faults).faults mount.new.core.blobs.tx.store ≡ (tower_meanings V.trace V.faults).faults mount.old.core.blobs.tx.store) }
+    ensures keeper_grows { K.faults mount.old.core.saver.keeper ≤ K.faults mount.new.core.saver.keeper }
+    ensures keeper_cause { IsErrOf result SyncError.FaultState → RoseBy 1 (K.faults mount.old.core.saver.keeper) (K.faults mount.new.core.saver.keeper) }
+    ensures keeper_quiet { UnlessState result (K.faults mount.new.core.saver.keeper ≡ K.faults mount.old.core.saver.keeper) }
+{
+    mount_answering::sync(alloc, &mut mount.core)
 }
 
 /// Seals the configuration under a new password, with the same parameters and new random bytes, and syncs. There was no
