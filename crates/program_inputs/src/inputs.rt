@@ -1,5 +1,6 @@
 // What the system gives the program.
 use crate::record_use::uses_record;
+use crate::streams::hold_closed;
 use fs_model::Moment;
 use outside::Memory;
 use rand_chacha::ChaCha20Rng;
@@ -7,6 +8,7 @@ use rand_core::Rng;
 use real_folders::{FolderKeeper, FolderRun, FolderVault};
 use run_status::Status;
 use std::env;
+use std::fs::File;
 use std::io::ErrorKind;
 use std::time::{SystemTime, UNIX_EPOCH};
 
@@ -16,6 +18,8 @@ pub struct Inputs {
     blocks: String,
     state: String,
     folders: FolderRun,
+    /// What keeps files of the run from being taken for standard streams.
+    closed: [Option<File>; 3],
     pub words: Vec<String>,
     pub now: Moment,
 }
@@ -24,6 +28,7 @@ impl Inputs {
     /// What the system gives, and a generator of random bytes that the system's seed. The clock and those bytes are inputs:
     /// where either is refused, that is an input that failed. Words that are no text are of no known form.
     pub fn read(rt: &HostRuntime) -> Result<(Inputs, ChaCha20Rng), Status> {
+        let closed = hold_closed(rt);
         let mut all = match env::args(rt) {
             Ok(all) => all,
             Err(error) if error.kind() == ErrorKind::OutOfMemory => return Err(Status::Memory),
@@ -53,6 +58,7 @@ impl Inputs {
             blocks,
             state,
             folders,
+            closed,
             words,
             now,
         };

@@ -3,5 +3,6 @@
 
 mod inputs;
 mod record_use;
+mod streams;
 
 pub use inputs::Inputs;
