@@ -1,11 +1,14 @@
 // How many block files there are after each session, and how often they are asked for.
 
+use crate::sessions::three_sessions;
 use cryfs_shell::Status;
 use memory_outside::{Event, MemoryVault};
 use outside::FileName;
 use std::alloc::Global;
 use std::test::Fail;
-use test_systems::{CREATED, System, count_blocks, expect, new_system, nothing, plain, session};
+use test_systems::{
+    CREATED, System, block, count_blocks, expect, new_system, nothing, plain, script, session,
+};
 
 /// A new file system of blocks of 128 bytes.
 fn new_small_system(alloc: Global) -> Result<System, Fail> {
@@ -101,5 +104,39 @@ fn a_block_that_is_used_again_is_asked_for_once(rt: HostRuntime) -> Result<(), F
         Status::Done,
     )?;
     assert_eq!(rt; count_gets(&after.vault).saturating_sub(before), 1);
+    Ok(())
+}
+
+/// How many files were put, and how often that of the block of this number was.
+fn count_puts(vault: &MemoryVault, number: u8) -> (usize, usize) {
+    let mut all = 0usize;
+    let mut of_block = 0usize;
+    for event in vault.trace() {
+        if let Event::Put { name, .. } = event {
+            all = all.saturating_add(1);
+            if *name == block(number) {
+                of_block = of_block.saturating_add(1);
+            }
+        }
+    }
+    (all, of_block)
+}
+
+#[test]
+fn a_byte_inside_a_long_file_puts_its_leaf_and_its_directory(rt: HostRuntime) -> Result<(), Fail> {
+    let alloc = rt.alloc();
+    let [(lines, text), _, _] = &three_sessions(alloc)?;
+    let input = script(alloc, lines)?;
+    let mut case = plain(&["shell"], &input);
+    case.piece = 4096;
+    let system = expect(alloc, new_system(alloc)?, &case, text, Status::Done)?;
+    let (all, of_docs) = count_puts(&system.vault, 2);
+    let lines = "write /docs/report 50000 61\n";
+    let after = session(alloc, system, lines, "ok\n", Status::Done)?;
+    assert_eq!(rt;
+        count_puts(&after.vault, 2),
+        (all.saturating_add(2), of_docs.saturating_add(1))
+    );
+    assert_eq!(rt; count_blocks(&after.vault), 11);
     Ok(())
 }

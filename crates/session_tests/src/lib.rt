@@ -12,4 +12,6 @@ mod sessions;
 #[cfg(test)]
 mod setup;
 #[cfg(test)]
+mod versions;
+#[cfg(test)]
 mod violations;

@@ -72,7 +72,7 @@ fn sizes_have_limits(rt: HostRuntime) -> Result<(), Fail> {
 }
 
 /// The lines of three sessions, and their texts.
-fn three_sessions(alloc: Global) -> Result<[(String, &'static str); 3], Fail> {
+pub fn three_sessions(alloc: Global) -> Result<[(String, &'static str); 3], Fail> {
     let mut letters = String::new(alloc);
     for _ in 0..25_000 {
         letters.push_str("41")?;
