@@ -67,12 +67,13 @@ fn try_later(
 }
 
 /// A new file system under the password `pw`, or None where memory for it was refused.
-fn made(alloc: Global) -> Option<System> {
+fn made(alloc: Global) -> Result<Option<System>, Fail> {
     let words = ["create", "--scrypt-n", "16"];
     let mut zeros = ZEROS;
     match outcome(alloc, nothing(alloc), &plain(&words, "pw"), &mut zeros) {
-        Ok((_, Status::Done, system)) => Some(system),
-        _ => None,
+        Ok((_, Status::Done, system)) => Ok(Some(system)),
+        Ok((_, Status::Memory, _)) | Err(_) => Ok(None),
+        Ok((_, status, _)) => Err(Fail::new(format_args!("{} of create", status.code()))),
     }
 }
 
@@ -141,7 +142,7 @@ const WRITES: &[Row] = &[
 #[test]
 fn a_session_wants_memory_only(rt: HostRuntime) -> Result<(), Fail> {
     let alloc = rt.alloc();
-    let Some(system) = made(alloc) else {
+    let Some(system) = made(alloc)? else {
         return Ok(());
     };
     let lines = "mkfile /f\nwrite /f 5 6162\nread /f 0 100\nread /f 7 1\n";
@@ -184,7 +185,7 @@ const SYNCS: &[Row] = &[
 #[test]
 fn a_sync_that_fails_wants_memory_only(rt: HostRuntime) -> Result<(), Fail> {
     let alloc = rt.alloc();
-    let Some(mut system) = made(alloc) else {
+    let Some(mut system) = made(alloc)? else {
         return Ok(());
     };
     system.vault.fail_from(2);
@@ -212,7 +213,7 @@ const CHANGES: &[Row] = &[
 #[test]
 fn a_change_of_password_wants_memory_only(rt: HostRuntime) -> Result<(), Fail> {
     let alloc = rt.alloc();
-    let Some(system) = made(alloc) else {
+    let Some(system) = made(alloc)? else {
         return Ok(());
     };
     let later = plain(&["ls", "/"], "q");
