@@ -20,7 +20,7 @@ const ZEROS_TEXT: &str =
 const BY_HAND_TEXT: &str =
     "filesystem A0A1A2A3A4A5A6A7A8A9AAABACADAEAF\nroot F0F1F2F3F4F5F6F7F8F9FAFBFCFDFEFF\ncipher aes-256-gcm\nblocksize 1048576\nscrypt 32 2 3\n";
 
-/// How many bytes the configuration's file has.
+/// The bytes of the configuration's file, where it is there.
 fn config_in(vault: &MemoryVault) -> Option<&[u8]> {
     for file in vault.files() {
         if file.name == FileName::Config {
