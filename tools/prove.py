@@ -2,38 +2,52 @@
 """Has `rt ci` prove and build a program and all that it stands on, without the tests.
 
     tools/prove.py NAME
+    tools/prove.py sum NAME    prints one sum of what the first would copy
 
 `rt ci` proves each crate over the statements of those below it, the longest chain of crates first, as many side by side
 as there are processors and memory for. It works in a room of its own, which holds the sources less their tests and
-wrong bodies: these belong to the gate. The lines of rt come as it prints them, and the program is then moved to
-crates/NAME/out/NAME. Ends with the status of rt."""
+wrong bodies: these belong to the gate. First `copied SUM` and `crates COUNT` are printed. The lines of rt come as it
+prints them, and the program is then moved to crates/NAME/out/NAME. Ends with the status of rt."""
 
+import hashlib
 import os
 import re
 import shutil
+import stat
 import subprocess
 import sys
 
 TOP = os.path.dirname(os.path.dirname(os.path.abspath(__file__)))
 # A module of tests: its file's name, or its text up to the bracket that ends it.
 TESTS = re.compile(r"\n*^#\[cfg\(test\)\]\nmod (\w+)(?:;| \{.*?^\})$", re.MULTILINE | re.DOTALL)
+# How a file is read and written as it is, also where it isn't UTF-8.
+BYTES = {"encoding": "utf-8", "errors": "surrogateescape", "newline": ""}
+
+
+def read(path):
+    with open(path, **BYTES) as file:
+        return file.read()
 
 
 def read_lines():
     """The libraries of each crate in crates.txt."""
-    with open(f"{TOP}/crates.txt", encoding="utf-8") as file:
-        lines = [line.partition("#")[0].partition(":") for line in file]
+    lines = [line.partition("#")[0].partition(":") for line in read(f"{TOP}/crates.txt").splitlines()]
     return {name.split()[0]: libraries.split() for name, mark, libraries in lines if mark}
+
+
+def is_left(name):
+    """Whether an editor or the system left this beside the sources, by its name: copies, locks, what isn't saved yet."""
+    return name.startswith((".", "#")) or name.endswith("~")
 
 
 def sources(name):
     """The files of a crate by their paths, less wrong bodies, modules of tests and what is written on their proofs."""
     top, files = f"{TOP}/crates/{name}", {}
     for folder, below, names in os.walk(top):
-        below[:] = [it for it in below if it not in ("out", "must-fail")]
+        below[:] = [it for it in below if it not in ("out", "must-fail") and not is_left(it)]
         for it in names:
-            with open(f"{folder}/{it}", encoding="utf-8") as file:
-                files[os.path.relpath(f"{folder}/{it}", top)] = file.read()
+            if not is_left(it) and stat.S_ISREG(os.lstat(f"{folder}/{it}").st_mode):
+                files[os.path.relpath(f"{folder}/{it}", top)] = read(f"{folder}/{it}")
     tests = {it for path, text in files.items() if path.startswith("src/") for it in TESTS.findall(text)}
     is_of_tests = lambda path: path.split("/")[1:2] and re.split("[/.]", path)[1] in tests
     return {path: TESTS.sub("", text) for path, text in files.items() if not is_of_tests(path)}
@@ -52,20 +66,40 @@ def stands_on(name):
     return found
 
 
-def fill(room, name):
-    """Puts what the program stands on into the room, and tells how many crates that are."""
+def whole(name):
+    """The files of the room by their paths, and how many crates they make."""
     found = stands_on(name)
+    lines = [f"{one}: {' '.join(libraries)}\n" for one, (_, libraries) in sorted(found.items())]
+    files = {"HANDLES": read(f"{TOP}/HANDLES"), "crates.txt": "".join(lines)}
+    for one, (its, _) in found.items():
+        files.update({f"crates/{one}/{path}": text for path, text in its.items()})
+    return files, len(found)
+
+
+def sum_up(files):
+    total = hashlib.sha256()
+    for piece in (it.encode("utf-8", "surrogateescape") for pair in sorted(files.items()) for it in pair):
+        total.update(b"%d " % len(piece) + piece)
+    return total.hexdigest()
+
+
+def fill(room, name):
+    """Puts what the program stands on into the room, and tells its sum and how many crates it is."""
+    files, count = whole(name)
     # A repository of its own, whose top rt looks for.
     os.makedirs(f"{room}/.git")
-    shutil.copy(f"{TOP}/HANDLES", room)
-    with open(f"{room}/crates.txt", "w", encoding="utf-8") as file:
-        file.writelines(f"{one}: {' '.join(libraries)}\n" for one, (_, libraries) in sorted(found.items()))
-    for one, (files, _) in found.items():
-        for path, text in files.items():
-            os.makedirs(os.path.dirname(f"{room}/crates/{one}/{path}"), exist_ok=True)
-            with open(f"{room}/crates/{one}/{path}", "w", encoding="utf-8") as file:
-                file.write(text)
-    print(f"crates {len(found)}", flush=True)
+    for path, text in files.items():
+        os.makedirs(os.path.dirname(f"{room}/{path}"), exist_ok=True)
+        with open(f"{room}/{path}", "w", **BYTES) as file:
+            file.write(text)
+    print(f"copied {sum_up(files)}\ncrates {count}", flush=True)
+
+
+def flush(path):
+    """Has a file or folder kept, so that a power cut doesn't take back what it holds."""
+    number = os.open(path, os.O_RDONLY)
+    os.fsync(number)
+    os.close(number)
 
 
 def prove(name):
@@ -76,10 +110,21 @@ def prove(name):
     unbuffered = {**os.environ, "PYTHONUNBUFFERED": "1"}
     status = subprocess.run(["rt", "ci"], cwd=room, env=unbuffered, stdin=subprocess.DEVNULL).returncode
     if not status:
+        flush(f"{room}/crates/{name}/out/{name}")
         os.replace(f"{room}/crates/{name}/out/{name}", f"{out}/{name}")
+        flush(out)
     shutil.rmtree(room)
     return status
 
 
+def main(words):
+    try:
+        if words[0] != "sum":
+            return prove(words[0])
+        print(sum_up(whole(words[1])[0]))
+    except OSError as why:
+        return f"prove.py: {why}"
+
+
 if __name__ == "__main__":
-    sys.exit(prove(sys.argv[1]))
+    sys.exit(main(sys.argv[1:]))
