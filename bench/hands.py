@@ -49,7 +49,7 @@ class Tree:
     """A folder with the script, a line of source for each crate, and an `rt` of its own."""
 
     def __init__(self, folder):
-        self.top, self.started = folder, []
+        self.top, self.started, self.exported = folder, [], {}
         os.makedirs(f"{folder}/bin")
         os.makedirs(f"{folder}/tools")
         for name in ("cryfs", "HANDLES", "tools/prove.py"):
@@ -74,7 +74,7 @@ class Tree:
         return []
 
     def environment(self, with_rt=True):
-        return {**os.environ, "PATH": (f"{self.top}/bin:" if with_rt else "") + "/usr/bin:/bin"}
+        return {**os.environ, **self.exported, "PATH": (f"{self.top}/bin:" if with_rt else "") + "/usr/bin:/bin"}
 
     def start(self, *words, script=None, with_rt=True, cwd=None):
         words, streams = [script or f"{self.top}/cryfs", *words], dict.fromkeys(("stdin", "stdout", "stderr"), subprocess.PIPE)
@@ -227,6 +227,21 @@ def builds_again_after_a_change(tree):
     has(tree.run("b", "s", "trial")[2], "the sources have changed")
     os.remove(f"{tree.top}/crates/block_id/proofs/more.antt")
     has(tree.run("b", "s", "trial")[2], "the sources have changed")
+    tree.write("crates/block_id/src/lib.rt", "pub fn two() {}\n\n#[cfg(test)]\nmod tests;\n")
+    tree.write("crates/block_id/src/tests.rt", "use super::*;\n")
+    tree.write("crates/block_id/must-fail/two/src/lib.rt", "pub fn wrong() {}\n")
+    same(tree.run("b", "s", "trial")[2], "", "after a change of tests and wrong bodies")
+
+
+def builds_again_after_a_change_with_an_old_time(tree):
+    tree.built().write("crates/block_id/src/lib.rt", "pub fn two() {}\n")
+    os.utime(f"{tree.top}/crates/block_id/src/lib.rt", (10**9, 10**9))
+    has(tree.run("b", "s", "trial")[2], "the sources have changed")
+    os.utime(f"{tree.top}/crates/block_id/src/lib.rt")
+    same(tree.run("--version")[1].count("is built of them"), 1, "after a touch")
+    # Its sum is then as old as the look, and nothing is summed.
+    tree.write("bin/python3", "#!/bin/sh\nexit 1\n", 0o755)
+    same(tree.run("b", "s", "trial")[::2], (5, ""), "the next run")
 
 
 def builds_again_after_a_change_in_the_midst(tree):
@@ -237,6 +252,57 @@ def builds_again_after_a_change_in_the_midst(tree):
     tree.write("crates/block_id/src/lib.rt", "pub fn two() {}\n")
     started.communicate(timeout=LIMIT)
     has(tree.run("b", "s", "trial")[2], "the sources have changed")
+
+
+def a_change_that_is_undone_in_the_midst_is_not_kept(tree):
+    source, python = f"{tree.top}/crates/block_id/src/lib.rt", "#!/bin/sh\necho 'pub fn two() {{}}' >'{}'\nexec '{}' \"$@\"\n"
+    tree.write("slow", "")
+    tree.write("bin/python3", python.format(source, sys.executable), 0o755)
+    started = tree.start("b", "s", "trial")
+    wait_until(tree.calls, "the build never began")
+    tree.write("crates/block_id/src/lib.rt", "pub fn one() {}\n")
+    os.remove(f"{tree.top}/bin/python3")
+    started.communicate(timeout=LIMIT)
+    has(tree.run("b", "s", "trial")[2], "the sources have changed")
+
+
+def a_sum_that_goes_away_counts_for_nothing(tree):
+    find = "#!/bin/sh\nrm -f '{0}/crates/cryfs/out/cryfs.sources'\nPATH=${{PATH#'{0}/bin:'}}\nexec find \"$@\"\n"
+    tree.built().write("bin/find", find.format(tree.top), 0o755)
+    status, _, errors = tree.run("b", "s", "trial")
+    same(status, 5, "the program's status")
+    has(errors, "proving what changed")
+
+
+def an_empty_program_is_built_again(tree):
+    tree.built().write("crates/cryfs/out/cryfs", "", 0o755)
+    status, _, errors = tree.run("b", "s", "trial")
+    same(status, 5, "over an empty program")
+    has(errors, "proving and building")
+
+
+def what_editors_leave_is_passed_over(tree):
+    tree.write("bin/rt", RT.replace("\nfor", '\n(find crates; cat crates/block_id/proofs/odd) >"$top/seen"\nfor', 1), 0o755)
+    source = f"{tree.top}/crates/block_id/src"
+    os.makedirs(f"{tree.top}/crates/block_id/proofs")
+    odd = b"\xff\xfe\r\n\x00"
+    for name in (".lib.rt.swp", "lib.rt~", "#lib.rt#", "../proofs/odd"):
+        with open(f"{source}/{name}", "wb") as file:
+            file.write(odd)
+    os.symlink("somebody@somewhere.1", f"{source}/.#lib.rt")
+    os.symlink("nowhere", f"{source}/link")
+    os.mkfifo(f"{source}/pipe")
+    status, _, errors = tree.run("b", "s", "trial")
+    same(status, 5, errors)
+    with open(f"{tree.top}/seen", "rb") as file:
+        names, _, rest = file.read().rpartition(odd)
+    same(rest, b"", "after the bytes of a file that isn't text")
+    same({it for it in names.decode().split() if "block_id/" in it},
+         {"crates/block_id/" + it for it in ("src", "src/lib.rt", "proofs", "proofs/odd")}, "what is copied")
+    for name in os.listdir(source):
+        if name != "lib.rt":
+            os.remove(f"{source}/{name}")
+    same(tree.run("b", "s", "trial")[2], "", "once they are away")
 
 
 def a_refused_proof_names_its_log(tree):
@@ -280,6 +346,53 @@ def two_at_once_build_once(tree):
     has(errors.decode(), "another run is building the program; waiting for it")
     first.communicate(b"", timeout=LIMIT)
     same((first.returncode, second.returncode, len(tree.calls())), (5, 5, 1), "statuses, and calls of rt")
+
+
+def a_folder_that_is_not_to_be_written_is_told(tree):
+    for path in ("crates/cryfs/out/cryfs.lock/one", "crates/cryfs/out"):
+        tree.write(path, "")
+        status, out, errors = tree.run("b", "s", "trial")
+        same((status, out), (125, ""), path)
+        same((errors.count("\n"), tree.calls()), (1, []), errors)
+        has(errors, "cryfs: the program can't be built")
+        shutil.rmtree(f"{tree.top}/crates/cryfs/out", ignore_errors=True)
+
+
+def closed_streams_take_no_answers(tree):
+    program = "#!/bin/sh\ntrue 3<&0 || echo no input\ntrue 3>&2 && echo errors\nexit 5\n"
+    tree.built().write("crates/cryfs/out/cryfs", program, 0o755)
+    for words in ("b s trial", "b s ls /", "--help", "--version"):
+        status, _, errors = tree.run("-c", f"./cryfs {words} >&-", script="/bin/sh")
+        same((status, errors.count("\n")), (125, 1), f"{words}: {errors}")
+        has(errors, "cryfs: standard output is closed")
+    same(tree.run("-c", "./cryfs b s trial >&- 2>&-", script="/bin/sh"), (125, "", ""), "output and errors")
+    same(tree.run("-c", "./cryfs b s trial 2>&-", script="/bin/sh"), (5, "errors\n", ""), "errors")
+    same(tree.run("-c", "./cryfs b s trial <&-", script="/bin/sh")[:2], (5, "no input\nerrors\n"), "input")
+
+
+def a_terminal_that_is_not_ours_is_not_asked(tree):
+    side, terminal = pty.openpty()
+    # (opened by a shell that leads its session, the terminal would be its own)
+    words = ["-c", '(./cryfs b s info <"$0"); exit $?', os.ttyname(terminal)]
+    status, out, errors = tree.built().run(*words, script="/bin/sh")
+    same((status, out, errors.count("\n")), (125, "", 1), errors)
+    has(errors, "cryfs: there is no terminal to ask for the password")
+    os.close(terminal)
+    os.close(side)
+
+
+def passwords_stay_out_of_the_environment(tree):
+    tree.built().write("crates/cryfs/out/cryfs", "#!/bin/sh\nenv\ncat >/dev/null\nexit 5\n", 0o755)
+    for exported in (dict.fromkeys(("secrets", "typed", "new", "terminal"), "theirs"), {"SHELLOPTS": "allexport"}):
+        tree.exported = exported
+        terminal = Terminal(tree, "b", "s", "passwd")
+        terminal.answer("Password: ", "old one")
+        terminal.answer("New password: ", "new one")
+        terminal.answer("New password again: ", "new one")
+        status, seen = terminal.end()
+        same(status, 5, "the program's status")
+        has(seen, "PATH=")
+        require(not any(it in seen for it in ("old one", "new one", "theirs")), seen)
 
 
 def create_asks_twice(tree):
@@ -377,6 +490,8 @@ def signals_put_the_terminal_back(tree):
                 terminal.answer("Password: ", text)
             terminal.expect("again: " if typed else "Password: ")
             wait_until(lambda: not terminal.shows(), "echo stays on")
+            # (bash, where a signal comes just before it reads, heeds it after the line)
+            time.sleep(0.2)
             os.kill(terminal.pid, number)
             status, seen = terminal.end()
             # (bash as sh doesn't die of SIGQUIT, but goes on to the refusal)
@@ -391,8 +506,12 @@ def signals_put_the_terminal_back(tree):
 
 
 CASES = [help_is_answered_at_once, says_that_rt_is_missing, builds_once_and_tells, hands_on_what_a_pipe_gives,
-         builds_again_after_a_change, builds_again_after_a_change_in_the_midst, a_refused_proof_names_its_log,
-         a_build_that_is_cut_off_counts_for_nothing, links_work_from_any_folder, two_at_once_build_once, create_asks_twice,
+         builds_again_after_a_change, builds_again_after_a_change_with_an_old_time,
+         builds_again_after_a_change_in_the_midst, a_change_that_is_undone_in_the_midst_is_not_kept,
+         a_sum_that_goes_away_counts_for_nothing, an_empty_program_is_built_again, what_editors_leave_is_passed_over,
+         a_refused_proof_names_its_log, a_build_that_is_cut_off_counts_for_nothing, links_work_from_any_folder,
+         two_at_once_build_once, a_folder_that_is_not_to_be_written_is_told, closed_streams_take_no_answers,
+         a_terminal_that_is_not_ours_is_not_asked, passwords_stay_out_of_the_environment, create_asks_twice,
          passwd_asks_for_old_and_new, commands_ask_once, wrong_typing_is_refused, shell_answers_each_line_as_it_comes,
          shell_ends_with_the_program, shell_is_interrupted, trial_asks_nothing, signals_put_the_terminal_back]
 
