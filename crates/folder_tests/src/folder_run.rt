@@ -1,4 +1,4 @@
-// What a run flushes before it saves a record.
+// What a run flushes as it puts a block, and before it saves a record.
 use crate::counted_flushes::CountedFlushes;
 use crate::folders::{fresh_folder, holds, remove_folder, saves};
 use block_id::BlockId;
@@ -16,6 +16,14 @@ const TWO: FileName = FileName::Block(BlockId([0x10; 16]));
 
 fn puts_two<V: Vault>(alloc: Global, vault: &mut V) -> bool {
     vault.put(alloc, &ONE, b"one").is_ok() && vault.put(alloc, &TWO, b"two").is_ok()
+}
+
+/// Whether the two are put with a flush of each, and the second isn't without its own.
+fn flushes_as_it_puts<V: Vault>(alloc: Global, vault: &mut V, left: &Cell<u32>) -> bool {
+    left.set(1);
+    let failed = !puts_two(alloc, vault) && left.get() == 0;
+    left.set(2);
+    failed && puts_two(alloc, vault) && left.get() == 0
 }
 
 /// Whether a save succeeds with so many flushes, and needs each.
@@ -54,28 +62,28 @@ fn fails_in_a_run(
     Ok(fails_with(alloc, &mut vault, &mut keeper, host.left, flushes))
 }
 
-/// Whether each file and folder of blocks is flushed by the first save after its change alone.
+/// Whether each file is flushed as it is put, and each folder by the first save after its change alone.
 fn flushes_once<V: Vault, K: Keeper>(
     alloc: Global,
     vault: &mut V,
     keeper: &mut K,
     left: &Cell<u32>,
 ) -> bool {
-    puts_two(alloc, vault)
-        && needs(alloc, keeper, left, 7)
+    flushes_as_it_puts(alloc, vault, left)
+        && needs(alloc, keeper, left, 5)
         && needs(alloc, keeper, left, 2)
         && vault.remove(alloc, &ONE).is_ok()
         && needs(alloc, keeper, left, 4)
 }
 
-/// Of two files, their folders and the block folder each has to be flushed.
+/// Of the folders of two files and the block folder each has to be flushed.
 #[test]
 fn saves_only_after_blocks_are_flushed(rt: HostRuntime) -> Result<(), Fail> {
     let folder = fresh_folder(&rt, "unflushed")?;
     let path = folder.as_str();
     let left = Cell::new(0);
     let host = CountedFlushes::new(rt, &left);
-    for flushes in 0..5 {
+    for flushes in 0..3 {
         let failed = fails_in_a_run(rt.alloc(), &host, path, flushes)?;
         let kept = holds(&rt, path, "cryfs.localstate", "old");
         assert!(rt; failed && kept, "with {flushes}");

@@ -18,7 +18,7 @@ use std::marker::Model;
 
 /// The record in a file of a real folder. What is kept is what the file held as this was made, where it was read then, or what
 /// was saved last since; a load finds out whether the file still holds that. From the first load or save on no other run can load or save.
-/// A save first flushes the files of blocks that this run wrote.
+/// A save first flushes the names of the blocks' files that this run wrote or removed.
 #[derive(Drop)]
 pub struct FolderKeeper<'a, R: Files> {
     run: &'a FolderRun,

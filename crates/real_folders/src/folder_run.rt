@@ -1,18 +1,19 @@
 // What the block directory and the local record of one run share.
-use crate::files::flush_folder_above;
-use crate::stored_file::StoredFile;
+use crate::files::{flush_folder, flush_folder_above, if_there};
 use outside::Memory;
 use std::alloc::{AllocError, Global};
 use std::cell::Cell;
 use std::fs::Files;
 use std::io;
+use std::path::PathBuf;
 
-/// The ending of the names under which a run writes files beside others, and the files of blocks that aren't flushed yet.
+/// The ending of the names under which a run writes files beside others, and the folders of blocks' files whose names aren't
+/// flushed yet.
 #[derive(Drop)]
 pub struct FolderRun {
     alloc: Global,
     ending: String,
-    unflushed: Cell<Vec<StoredFile>>,
+    unflushed: Cell<Vec<PathBuf>>,
     has_failed: Cell<bool>,
 }
 
@@ -32,17 +33,17 @@ impl FolderRun {
         self.ending.as_str()
     }
 
-    /// Remembers a block's file that was written or removed.
-    pub fn remember(&self, file: StoredFile) -> Result<(), AllocError> {
+    /// Remembers the folder of a block's file that was written or removed.
+    pub fn remember(&self, folder: PathBuf) -> Result<(), AllocError> {
         let mut unflushed = self.unflushed.replace(Vec::new(self.alloc));
-        let pushed = unflushed.push(file);
+        let pushed = unflushed.push(folder);
         self.unflushed.set(unflushed);
         pushed?;
         Ok(())
     }
 
-    /// Flushes the files that are remembered, then their folders, and forgets them. Once this failed it always fails: a
-    /// system may forget what it couldn't write, and flush it a second time without a word.
+    /// Flushes the names in the folders that are remembered, and forgets these. Once this failed it always fails: a system may
+    /// forget what it couldn't write, and flush it a second time without a word.
     pub fn flush<R: Files>(&self, files: &R) -> io::Result<()> {
         if self.has_failed.get() {
             return Err(io::Error::other("an earlier flush failed"));
@@ -54,22 +55,19 @@ impl FolderRun {
     }
 }
 
-/// Flushes the files, then each folder that has one of them, then the folder of these folders. Blocks are written in the
-/// order of their names, so each folder comes once.
-fn flush_all<R: Files>(files: &R, unflushed: &[StoredFile]) -> io::Result<()> {
-    for file in unflushed {
-        file.flush(files)?;
-    }
+/// Flushes each of the folders that is there, then the folder that they lie in. Blocks are written in the order of their names,
+/// so folders that are the same stand beside each other, and are flushed once.
+fn flush_all<R: Files>(files: &R, unflushed: &[PathBuf]) -> io::Result<()> {
     let mut flushed = "";
-    for file in unflushed {
-        let folder = file.folder.as_path().as_os_str();
-        if folder != flushed {
-            file.flush_folder(files)?;
-            flushed = folder;
+    for folder in unflushed {
+        let folder = folder.as_path();
+        if folder.as_os_str() != flushed {
+            if_there(flush_folder(files, folder))?;
+            flushed = folder.as_os_str();
         }
     }
     match unflushed.last() {
-        Some(file) => flush_folder_above(files, file.folder.as_path()),
+        Some(folder) => flush_folder_above(files, folder.as_path()),
         None => Ok(()),
     }
 }

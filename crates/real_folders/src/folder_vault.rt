@@ -16,9 +16,9 @@ use std::alloc::Global;
 use std::fs::Files;
 use std::marker::Model;
 
-/// A real folder of which nothing is told. The configuration is flushed as it is put, with the names of its file and its folder. Files
-/// of blocks are written in place, and flushed before a record is saved by the keeper of the same run. From the first call
-/// on that finds the folder no other run can use it.
+/// A real folder of which nothing is told. The configuration is flushed as it is put, with the names of its file and its folder.
+/// Files of blocks are written in place: their bytes are flushed as they are put, their names before a record is saved by the
+/// keeper of the same run. From the first call on that finds the folder no other run can use it.
 #[derive(Drop)]
 pub struct FolderVault<'a, R: Files> {
     directory: &'a str,

@@ -78,7 +78,7 @@ where
         place.remove(&self.files)?;
         match name {
             FileName::Config => place.flush_folder(&self.files).map_err(FolderError::Io),
-            FileName::Block(_) => self.run.remember(place).map_err(FolderError::Memory),
+            FileName::Block(_) => self.run.remember(place.folder).map_err(FolderError::Memory),
         }
     }
 
@@ -91,7 +91,7 @@ where
 
     fn overwrite(&self, place: StoredFile, bytes: &[u8]) -> Result<(), FolderError> {
         place.overwrite(&self.files, bytes)?;
-        self.run.remember(place).map_err(FolderError::Memory)
+        self.run.remember(place.folder).map_err(FolderError::Memory)
     }
 
     /// Holds the folder, which is made where it is missing.

@@ -85,7 +85,7 @@ where
         self.read(alloc)
     }
 
-    /// Flushes the files of blocks that the run wrote, then gives the file these bytes under the lock.
+    /// Flushes the names of the blocks' files that the run wrote or removed, then gives the file these bytes under the lock.
     pub fn write(&mut self, run: &FolderRun, bytes: &[u8]) -> io::Result<()> {
         self.hold()?;
         run.flush(&self.files)?;

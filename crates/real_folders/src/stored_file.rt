@@ -71,15 +71,17 @@ impl StoredFile {
         fs::rename(files, beside, self.file.as_path())
     }
 
-    /// Writes these bytes over the file's own, which a stop can tear, and flushes nothing. The file is made where it is
-    /// missing, and its folder in one that is there. A link isn't followed.
+    /// Writes these bytes over the file's own, which a stop can tear, and flushes them, but no name. They are flushed by the
+    /// handle that wrote them: a system may tell no other that they weren't stored. The file is made where it is missing, and
+    /// its folder in one that is there. A link isn't followed.
     pub fn overwrite<R: Files>(&self, files: &R, bytes: &[u8]) -> io::Result<()> {
         let path = self.file.as_path();
         let mut file = match if_there(fs::symlink_metadata(files, path))? {
             Some(found) => open_over(files, path, &found, bytes.len() as u64)?,
             None => create_in(files, self.folder.as_path(), path)?,
         };
-        file.write_all(bytes)
+        file.write_all(bytes)?;
+        file.sync_data()
     }
 
     /// Removes the file where it is there, and flushes nothing.
@@ -92,14 +94,6 @@ impl StoredFile {
     pub fn flush_folder<R: Files>(&self, files: &R) -> io::Result<()> {
         if_there(flush_folder(files, self.folder.as_path()))?;
         Ok(())
-    }
-
-    /// Flushes the file's bytes and its length, where it is there.
-    pub fn flush<R: Files>(&self, files: &R) -> io::Result<()> {
-        match if_there(fs::open(files, self.file.as_path()))? {
-            Some(file) => file.sync_data(),
-            None => Ok(()),
-        }
     }
 }
 
