@@ -1,10 +1,12 @@
 // The record in a real folder: what its file holds, what fails, and which run has it.
+use crate::counted_flushes::CountedFlushes;
 use crate::folders::{
     fresh_folder, holds, is_absent, links, makes_folder, remove_folder, saves, two_runs, writes,
 };
 use outside::{GetFail, Keeper};
 use real_folders::{FolderKeeper, FolderRun};
 use std::alloc::Global;
+use std::cell::Cell;
 use std::test::Fail;
 
 /// What a stopped run leaves beside the record.
@@ -71,6 +73,14 @@ fn saves_the_first<K: Keeper + Drop>(rt: &HostRuntime, mut keeper: K, folder: &s
         && saves(rt.alloc(), &mut keeper, "record")
 }
 
+/// Whether a load of this record fails without a flush, and needs one.
+fn flushes_first<K: Keeper>(alloc: Global, keeper: &mut K, left: &Cell<u32>, want: &str) -> bool {
+    left.set(0);
+    let failed = fails_to_load(alloc, keeper);
+    left.set(1);
+    failed && gives(alloc, keeper, want) && left.get() == 0
+}
+
 #[test]
 fn keeps_what_was_saved_last(rt: HostRuntime) -> Result<(), Fail> {
     let folder = fresh_folder(&rt, "kept")?;
@@ -116,6 +126,24 @@ fn fails_at_a_device(rt: HostRuntime) -> Result<(), Fail> {
     let run = FolderRun::new(rt.alloc(), 1)?;
     let mut keeper = FolderKeeper::new(rt.alloc(), rt, path, &run)?;
     assert!(rt; fails_to_load(rt.alloc(), &mut keeper));
+    remove_folder(&rt, path)
+}
+
+/// The run that saved it may have been stopped before its name was flushed.
+#[test]
+fn flushes_a_record_before_it_is_loaded(rt: HostRuntime) -> Result<(), Fail> {
+    let folder = fresh_folder(&rt, "loaded")?;
+    let path = folder.as_str();
+    assert!(rt; makes_folder(&rt, path, ""));
+    let left = Cell::new(0);
+    let host = CountedFlushes::new(rt, &left);
+    let run = FolderRun::new(rt.alloc(), 1)?;
+    let mut none = FolderKeeper::new(rt.alloc(), &host, path, &run)?;
+    assert!(rt; gives_none(rt.alloc(), &mut none));
+    drop(none);
+    assert!(rt; writes(&rt, path, "cryfs.localstate", "record"));
+    let mut keeper = FolderKeeper::new(rt.alloc(), &host, path, &run)?;
+    assert!(rt; flushes_first(rt.alloc(), &mut keeper, &left, "record"));
     remove_folder(&rt, path)
 }
 

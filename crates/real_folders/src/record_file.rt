@@ -1,6 +1,6 @@
 // The file of the local record, and what lies beside it.
 use crate::error::FolderError;
-use crate::files::open_or_create;
+use crate::files::{flush_folder, open_or_create};
 use crate::folder_run::FolderRun;
 use crate::lock::Lock;
 use crate::stored_file::StoredFile;
@@ -79,10 +79,15 @@ where
         Ok(())
     }
 
-    /// The record's bytes under the lock, or None where its file isn't there.
+    /// The record's bytes under the lock, or None where its file isn't there. A record's name is flushed first: a run that was
+    /// stopped may have left it unflushed, and blocks that are written over by this one would outlive it.
     pub fn load(&mut self, alloc: Global) -> Result<Option<Vec<u8>>, FolderError> {
         self.hold()?;
-        self.read(alloc)
+        let found = self.read(alloc)?;
+        if found.is_some() {
+            flush_folder(&self.files, self.paths.record.folder.as_path())?;
+        }
+        Ok(found)
     }
 
     /// Flushes the names of the blocks' files that the run wrote or removed, then gives the file these bytes under the lock.
