@@ -14,6 +14,12 @@ const ONE: FileName = FileName::Block(BlockId([0; 16]));
 
 const TWO: FileName = FileName::Block(BlockId([0x10; 16]));
 
+/// The front of a record without the mark.
+const UNMARKED: &str = "cryfs.localstate;1\0\0";
+
+/// The same with the mark.
+const MARKED: &str = "cryfs.localstate;1\0\u{1}";
+
 fn puts_two<V: Vault>(alloc: Global, vault: &mut V) -> bool {
     vault.put(alloc, &ONE, b"one").is_ok() && vault.put(alloc, &TWO, b"two").is_ok()
 }
@@ -76,6 +82,19 @@ fn flushes_once<V: Vault, K: Keeper>(
         && needs(alloc, keeper, left, 4)
 }
 
+/// Whether a record isn't saved where names of blocks can't be flushed, and with the mark it is.
+fn saves_the_mark<V: Vault, K: Keeper>(
+    alloc: Global,
+    vault: &mut V,
+    keeper: &mut K,
+    left: &Cell<u32>,
+) -> bool {
+    left.set(4);
+    let failed = puts_two(alloc, vault) && !saves(alloc, keeper, UNMARKED);
+    left.set(2);
+    failed && saves(alloc, keeper, MARKED) && left.get() == 0
+}
+
 /// Of the folders of two files and the block folder each has to be flushed.
 #[test]
 fn saves_only_after_blocks_are_flushed(rt: HostRuntime) -> Result<(), Fail> {
@@ -103,5 +122,21 @@ fn flushes_each_file_and_folder_once(rt: HostRuntime) -> Result<(), Fail> {
     let mut vault = FolderVault::new(&host, blocks.as_str(), &run);
     let mut keeper = FolderKeeper::new(rt.alloc(), &host, folder.as_str(), &run)?;
     assert!(rt; flushes_once(rt.alloc(), &mut vault, &mut keeper, &left));
+    remove_folder(&rt, folder.as_str())
+}
+
+/// Whoever keeps the block folder can refuse its flushes, but not the mark.
+#[test]
+fn saves_a_mark_without_the_blocks(rt: HostRuntime) -> Result<(), Fail> {
+    let folder = fresh_folder(&rt, "marked")?;
+    let blocks = folder.join(rt.alloc(), "blocks")?;
+    fs::create_dir_all(&rt, blocks.as_path())?;
+    let left = Cell::new(0);
+    let host = CountedFlushes::new(rt, &left);
+    let run = FolderRun::new(rt.alloc(), 1)?;
+    let mut vault = FolderVault::new(&host, blocks.as_str(), &run);
+    let mut keeper = FolderKeeper::new(rt.alloc(), &host, folder.as_str(), &run)?;
+    assert!(rt; saves_the_mark(rt.alloc(), &mut vault, &mut keeper, &left));
+    assert!(rt; holds(&rt, folder.as_str(), "cryfs.localstate", MARKED));
     remove_folder(&rt, folder.as_str())
 }
