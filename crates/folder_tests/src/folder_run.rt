@@ -140,3 +140,20 @@ fn saves_a_mark_without_the_blocks(rt: HostRuntime) -> Result<(), Fail> {
     assert!(rt; holds(&rt, folder.as_str(), "cryfs.localstate", MARKED));
     remove_folder(&rt, folder.as_str())
 }
+
+/// The names of the blocks' files weren't flushed before their folder was taken away.
+#[test]
+fn saves_nothing_over_another_block_folder(rt: HostRuntime) -> Result<(), Fail> {
+    let folder = fresh_folder(&rt, "taken")?;
+    let blocks = folder.join(rt.alloc(), "blocks")?;
+    let away = folder.join(rt.alloc(), "away")?;
+    let run = FolderRun::new(rt.alloc(), 1)?;
+    let mut vault = FolderVault::new(rt, blocks.as_str(), &run);
+    let mut keeper = FolderKeeper::new(rt.alloc(), rt, folder.as_str(), &run)?;
+    assert!(rt; puts_two(rt.alloc(), &mut vault));
+    fs::rename(&rt, blocks.as_path(), away.as_path())?;
+    fs::create_dir(&rt, blocks.as_path())?;
+    assert!(rt; !saves(rt.alloc(), &mut keeper, UNMARKED));
+    assert!(rt; saves(rt.alloc(), &mut keeper, MARKED));
+    remove_folder(&rt, folder.as_str())
+}

@@ -8,6 +8,7 @@ use outside::{FileName, GetFail, Vault};
 use real_folders::{FolderRun, FolderVault};
 use std::alloc::Global;
 use std::cell::Cell;
+use std::fs;
 use std::process::Abort;
 use std::test::Fail;
 
@@ -231,6 +232,25 @@ fn serves_one_run_at_a_time(rt: HostRuntime) -> Result<(), Fail> {
     let mut second = FolderVault::new(rt, path, &runs[1]);
     assert!(rt; excludes(rt.alloc(), first, &mut second));
     assert!(rt; gives(rt.alloc(), &mut second, &FileName::Config, 9, "first"));
+    remove_folder(&rt, path)
+}
+
+/// A file isn't missing because its drive was taken away, and none is put where the drive was.
+#[test]
+fn uses_no_other_folder_at_its_path(rt: HostRuntime) -> Result<(), Fail> {
+    let folder = fresh_folder(&rt, "other_folder")?;
+    let away = fresh_folder(&rt, "away")?;
+    let path = folder.as_str();
+    let run = FolderRun::new(rt.alloc(), 1)?;
+    let mut vault = FolderVault::new(rt, path, &run);
+    assert!(rt; puts(rt.alloc(), &mut vault, &ONE, "block"));
+    fs::rename(&rt, path, away.as_path())?;
+    assert!(rt; fails(rt.alloc(), &mut vault, &ONE) && is_absent(&rt, path, ""));
+    assert!(rt; makes_folder(&rt, path, ""));
+    assert!(rt; fails(rt.alloc(), &mut vault, &ONE) && is_absent(&rt, path, "000"));
+    fs::remove_dir(&rt, path)?;
+    fs::rename(&rt, away.as_path(), path)?;
+    assert!(rt; gives(rt.alloc(), &mut vault, &ONE, 9, "block"));
     remove_folder(&rt, path)
 }
 

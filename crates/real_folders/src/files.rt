@@ -129,7 +129,7 @@ pub fn flush_folder<R: Files>(files: &R, folder: Path<'_>) -> io::Result<()> {
 }
 
 /// Flushes the names in the folder that this one lies in.
-pub fn flush_folder_above<R: Files>(files: &R, folder: Path<'_>) -> io::Result<()> {
+fn flush_folder_above<R: Files>(files: &R, folder: Path<'_>) -> io::Result<()> {
     flush_folder(files, folder.parent().unwrap_or(Path::new("")))
 }
 

@@ -18,7 +18,8 @@ use std::marker::Model;
 
 /// A real folder of which nothing is told. The configuration is flushed as it is put, with the names of its file and its folder.
 /// Files of blocks are written in place: their bytes are flushed as they are put, their names before a record is saved by the
-/// keeper of the same run. From the first call on that finds the folder no other run can use it.
+/// keeper of the same run. From the first call on that finds the folder no other run can use it. When another folder or none
+/// lies at its path later, calls fail: no file is answered as missing, and none is put or removed.
 #[derive(Drop)]
 pub struct FolderVault<'a, R: Files> {
     directory: &'a str,

@@ -9,10 +9,12 @@ use crate::lock::Lock;
 use crate::stored_file::StoredFile;
 use outside::FileName;
 use std::alloc::Global;
-use std::fs::{self, Files};
+use std::fs::{self, Files, OpenFile};
 use std::io::{self, ErrorKind};
+use std::path::Path;
 
-/// The folder of a run, at the same path in each call.
+/// The folder of a run, at the same path in each call. Where another folder lies there by now, no file counts as missing, and
+/// none is written or removed.
 #[derive(Drop)]
 pub struct HeldFolder<'a, R: Files> {
     files: R,
@@ -47,7 +49,11 @@ where
         ensures { IfOk result (λ answer. IfSome answer (λ bytes. length bytes.items ≤ max)) }
     {
         self.hold(directory)?;
-        place(alloc, directory, name)?.read(&self.files, alloc, max)
+        let found = place(alloc, directory, name)?.read(&self.files, alloc, max)?;
+        if found.is_none() {
+            self.check_held(directory)?;
+        }
+        Ok(found)
     }
 
     /// Gives the file these bytes. The folder is made where it is missing.
@@ -60,6 +66,7 @@ where
     ) -> Result<(), FolderError> {
         let place = place(alloc, directory, name)?;
         self.hold_or_make(directory)?;
+        self.check_held(directory)?;
         match name {
             FileName::Config => self.replace(alloc, &place, bytes),
             FileName::Block(_) => self.overwrite(place, bytes),
@@ -74,6 +81,7 @@ where
         name: &FileName,
     ) -> Result<(), FolderError> {
         self.hold(directory)?;
+        self.check_held(directory)?;
         let place = place(alloc, directory, name)?;
         place.remove(&self.files)?;
         match name {
@@ -99,7 +107,8 @@ where
         self.hold(directory)?;
         if self.held.is_none() {
             make_new_folder(&self.files, directory)?;
-            self.held = Some(lock(fs::open(&self.files, directory)?)?);
+            let folder = fs::open(&self.files, directory)?;
+            self.keep(folder)?;
         }
         Ok(())
     }
@@ -115,9 +124,21 @@ where
             Some(_) if self.was_missing => return Err(io::Error::other(
                 "another run made the folder",
             )),
-            Some(folder) => self.held = Some(lock(folder)?),
+            Some(folder) => self.keep(folder)?,
         }
         Ok(())
+    }
+
+    /// Locks the folder that was opened, and keeps it open.
+    fn keep(&mut self, folder: R::File) -> io::Result<()> {
+        let folder = lock(folder)?;
+        self.run.hold(&folder.metadata()?);
+        self.held = Some(folder);
+        Ok(())
+    }
+
+    fn check_held(&self, directory: &str) -> io::Result<()> {
+        self.run.check_held(&self.files, Path::new(directory))
     }
 }
 
