@@ -254,6 +254,26 @@ fn uses_no_other_folder_at_its_path(rt: HostRuntime) -> Result<(), Fail> {
     remove_folder(&rt, path)
 }
 
+/// Neither in place of a folder of blocks, nor of the block folder itself where something else lies.
+#[test]
+fn writes_through_no_link_of_a_folder(rt: HostRuntime) -> Result<(), Fail> {
+    let folder = fresh_folder(&rt, "linked_folder")?;
+    let path = folder.as_str();
+    assert!(rt; makes_folder(&rt, path, "blocks") && makes_folder(&rt, path, "other"));
+    assert!(rt; links(&rt, path, "blocks/000", "../other"));
+    let blocks = folder.join(rt.alloc(), "blocks")?;
+    let run = FolderRun::new(rt.alloc(), 1)?;
+    let mut vault = FolderVault::new(rt, blocks.as_str(), &run);
+    assert!(rt; vault.put(rt.alloc(), &ONE, b"block") == Err(GetFail::Failed));
+    fs::remove_dir(&rt, folder.join(rt.alloc(), "other")?.as_path())?;
+    let file = folder.join(rt.alloc(), "file")?;
+    assert!(rt; writes(&rt, path, "file", "no folder"));
+    let run = FolderRun::new(rt.alloc(), 2)?;
+    let mut vault = FolderVault::new(rt, file.as_str(), &run);
+    assert!(rt; fails(rt.alloc(), &mut vault, &ONE));
+    remove_folder(&rt, path)
+}
+
 /// Of two runs that found no folder the one that makes it has it, also when it has ended.
 #[test]
 fn makes_the_folder_in_one_run(rt: HostRuntime) -> Result<(), Fail> {

@@ -118,6 +118,27 @@ pub fn open_or_create<R: Files>(
     }
 }
 
+/// The folder, open, or None where it isn't there. A pipe in its place, whose opening would never end, isn't opened.
+pub fn open_folder<R: Files>(files: &R, folder: Path<'_>) -> io::Result<Option<R::File>> {
+    match if_there(fs::metadata(files, folder))? {
+        Some(found) if found.is_dir() => if_there(fs::open(files, folder)),
+        Some(_) => Err(no_folder()),
+        None => Ok(None),
+    }
+}
+
+/// Fails where something else than a folder lies there, be it a link to one. It may be missing.
+pub fn check_no_link<R: Files>(files: &R, folder: Path<'_>) -> io::Result<()> {
+    match if_there(fs::symlink_metadata(files, folder))? {
+        Some(found) if !found.is_dir() => Err(no_folder()),
+        _ => Ok(()),
+    }
+}
+
+fn no_folder() -> io::Error {
+    io::Error::other("something else than a folder is there")
+}
+
 /// Flushes the names in a folder.
 pub fn flush_folder<R: Files>(files: &R, folder: Path<'_>) -> io::Result<()> {
     let folder = if folder.as_os_str().is_empty() {

@@ -3,7 +3,7 @@ ghost use Rattle.std.specs.Prelude.{◌≤◌, length, IfOk, IfSome};
 
 use crate::error::FolderError;
 use crate::file_names::place;
-use crate::files::{if_there, make_new_folder};
+use crate::files::{make_new_folder, open_folder};
 use crate::folder_run::FolderRun;
 use crate::lock::Lock;
 use crate::stored_file::StoredFile;
@@ -119,7 +119,7 @@ where
         if self.held.is_some() {
             return Ok(());
         }
-        match if_there(fs::open(&self.files, directory))? {
+        match open_folder(&self.files, Path::new(directory))? {
             None => self.was_missing = true,
             Some(_) if self.was_missing => return Err(io::Error::other(
                 "another run made the folder",
