@@ -235,7 +235,7 @@ fn serves_one_run_at_a_time(rt: HostRuntime) -> Result<(), Fail> {
     remove_folder(&rt, path)
 }
 
-/// A file isn't missing because its drive was taken away, and none is put where the drive was.
+/// A file isn't missing because its drive was taken away, and none is read, put or removed where the drive was.
 #[test]
 fn uses_no_other_folder_at_its_path(rt: HostRuntime) -> Result<(), Fail> {
     let folder = fresh_folder(&rt, "other_folder")?;
@@ -248,7 +248,9 @@ fn uses_no_other_folder_at_its_path(rt: HostRuntime) -> Result<(), Fail> {
     assert!(rt; fails(rt.alloc(), &mut vault, &ONE) && is_absent(&rt, path, ""));
     assert!(rt; makes_folder(&rt, path, ""));
     assert!(rt; fails(rt.alloc(), &mut vault, &ONE) && is_absent(&rt, path, "000"));
-    fs::remove_dir(&rt, path)?;
+    assert!(rt; makes_folder(&rt, path, "000") && writes(&rt, path, ONE_PATH, "other"));
+    assert!(rt; fails(rt.alloc(), &mut vault, &ONE) && holds(&rt, path, ONE_PATH, "other"));
+    remove_folder(&rt, path)?;
     fs::rename(&rt, away.as_path(), path)?;
     assert!(rt; gives(rt.alloc(), &mut vault, &ONE, 9, "block"));
     remove_folder(&rt, path)
