@@ -1,10 +1,10 @@
 -- Bytes on their way from a source and to a sink.
-use Rattle.std.proofs.Common.{◌≡◌, ℕ, List, [], ◌∷◌, ◌++◌, refl, sym, ◌∙◌, ap, subst, append_assoc, append-nil}
+use Rattle.std.proofs.Common.{◌≡◌, ℕ, List, [], ◌∷◌, ◌++◌, refl, sym, ◌∙◌, ap, subst, inl, inr, append_assoc, append-nil}
 use Rattle.std.specs.declared.option.Option.{Option}
 use Rattle.std.specs.declared.option.Option.TheVariants.{None, Some}
 use Rattle.outside.specs.Streams.{appends, WereTaken, Ends}
 use Rattle.line_io.specs.Lines.{lines, IsUnbroken}
-use Rattle.line_io.specs.Reading.{coming, Line}
+use Rattle.line_io.specs.Reading.{coming, Line, IsInLine}
 use Rattle.line_io.proofs.Cutting.{lines-cut, lines-last}
 
 -- what was given and what is left is all that was left before
@@ -32,13 +32,24 @@ appends-nil (Some old) = ap Some (sym (append-nil old))
 -- a line that a newline ended
 pub Line-cut : (line more : List ℕ) (rest : Option (List ℕ)) → IsUnbroken line → Line (coming (line ++ 10 ∷ more) rest) line (coming more rest)
 Line-cut line more None u = refl
-Line-cut line more (Some rest) u = (more ++ rest, ap lines (append_assoc line (10 ∷ more) rest) ∙ lines-cut line (more ++ rest) u, refl)
+Line-cut line more (Some rest) u =
+    let whole = append_assoc line (10 ∷ more) rest in
+    (more ++ rest, ap lines whole ∙ lines-cut line (more ++ rest) u, refl, inl whole)
 
 -- the last line, which no newline ended
 pub Line-last : (byte : ℕ) (line : List ℕ) (rest : Option (List ℕ)) → IsUnbroken (byte ∷ line) → Ends rest → Line (coming (byte ∷ line) rest) (byte ∷ line) rest
 Line-last byte line None u e = refl
-Line-last byte line (Some rest) u e =
-    (rest, subst (λ r. lines (byte ∷ (line ++ r)) ≡ (byte ∷ line) ∷ lines r) (sym e) (ap (λ l. lines (byte ∷ l)) (append-nil line) ∙ lines-last byte line u), refl)
+Line-last byte line (Some rest) u e = (
+  rest,
+  subst (λ r. lines (byte ∷ (line ++ r)) ≡ (byte ∷ line) ∷ lines r) (sym e) (ap (λ l. lines (byte ∷ l)) (append-nil line) ∙ lines-last byte line u),
+  refl,
+  inr (ap (λ r. byte ∷ (line ++ r)) e ∙ ap (λ l. byte ∷ l) (append-nil line), e),
+)
+
+-- where no line ends in what was read ahead and in what was taken
+pub in_line : (ahead taken : List ℕ) (old new : Option (List ℕ)) → WereTaken old new taken → IsUnbroken (ahead ++ taken) → IsInLine (coming ahead old) new
+in_line ahead taken None new w u = w
+in_line ahead taken (Some old) new w u = (ahead ++ taken, w.0, u, ap (λ r. ahead ++ r) w.1 ∙ sym (append_assoc ahead taken w.0), w.2)
 
 -- nothing was taken
 pub WereTaken-nil : (old new : Option (List ℕ)) → new ≡ old → WereTaken old new []

@@ -7,7 +7,7 @@ use Rattle.fs_model.specs.Instant.{Instant}
 use Rattle.outside.specs.Causes.{RoseBy}
 use Rattle.outside.specs.Streams.{appends, Ends}
 use Rattle.line_io.specs.Lines.{lines}
-use Rattle.line_io.specs.Reading.{Line, total}
+use Rattle.line_io.specs.Reading.{Line, IsCutAt, IsInLine, total}
 use Rattle.line_io.specs.Streams.{Cut, HasFailed, TookMost}
 use Rattle.line_io.proofs.Flow.{appends-append, appends-nil}
 use Rattle.script_text.specs.Grammar.{command_of}
@@ -17,17 +17,32 @@ use Rattle.answers.specs.Sessions.{Exchange}
 use Rattle.answers.specs.Texts.{text_of_answer}
 use Rattle.session_lines.specs.declared.end.End.{End}
 use Rattle.session_lines.specs.declared.end.End.TheVariants.{Finished, InputFault, OutputFault}
-use Rattle.session_lines.specs.Asking.{asked_in, said_in, AskedFirst, AskedAll}
+use Rattle.session_lines.specs.Asking.{asked_in, said_in, ended_lines, AskedFirst, AskedAll, AskedTaken}
 use Rattle.session_lines.specs.Driven.{Took, Stopped, Served}
+
+-- a newline stands behind each of the lines and in front of what is left, or nothing is left
+abbrev AreCutAt : List ℕ → List (List ℕ) → List ℕ → Type 0
+AreCutAt bytes some rest = (bytes ≡ ended_lines some ++ rest) ⊎ (rest ≡ [])
+
+ended-append : (some : List (List ℕ)) (line more : List ℕ) → ended_lines some ++ (line ++ 10 ∷ more) ≡ ended_lines (some ++ line ∷ []) ++ more
+ended-append [] line more = sym (append_assoc line (10 ∷ []) more)
+ended-append (first ∷ some) line more =
+    append_assoc first (10 ∷ ended_lines some) (line ++ 10 ∷ more)
+    ∙ (ap (λ r. first ++ 10 ∷ r) (ended-append some line more) ∙ sym (append_assoc first (10 ∷ ended_lines (some ++ line ∷ [])) more))
+
+one_more : (bytes : List ℕ) (some : List (List ℕ)) (rest line more : List ℕ) → AreCutAt bytes some rest → lines rest ≡ line ∷ lines more → IsCutAt rest line more → AreCutAt bytes (some ++ line ∷ []) more
+one_more bytes some rest line more (inr none) next cut = absurd (cc (sym (ap lines none) ∙ next))
+one_more bytes some rest line more (inl e) next (inl f) = inl (e ∙ (ap (λ r. ended_lines some ++ r) f ∙ ended-append some line more))
+one_more bytes some rest line more (inl e) next (inr f) = inr f.1
 
 -- the bytes are the lines that were asked and what is left, where they are told
 abbrev pub After : Option (List ℕ) → List Exchange → Option (List ℕ) → Type 0
 After None es left = left ≡ None
-After (Some bytes) es left = (some : List (List ℕ)) × (rest : List ℕ) × (lines bytes ≡ some ++ lines rest) × (asked_in es ≡ map command_of some) × (left ≡ Some rest)
+After (Some bytes) es left = (some : List (List ℕ)) × (rest : List ℕ) × (lines bytes ≡ some ++ lines rest) × (asked_in es ≡ map command_of some) × (left ≡ Some rest) × AreCutAt bytes some rest
 
 pub After-none : (all : Option (List ℕ)) → After all [] all
 After-none None = refl
-After-none (Some bytes) = ([], bytes, refl, refl, refl)
+After-none (Some bytes) = ([], bytes, refl, refl, refl, inl refl)
 
 After-line : (all : Option (List ℕ)) (es : List Exchange) (left : Option (List ℕ)) (line : List ℕ) (next : Option (List ℕ)) (answer : Answer)
     → After all es left → Line left line next → After all (record { asked = command_of line; answer = answer } ∷ es) next
@@ -39,6 +54,7 @@ After-line (Some bytes) es left line next answer a l =
       a.2 ∙ (ap (λ (rest : List (List ℕ)). a.0 ++ rest) m.1 ∙ sym (append_assoc a.0 (line ∷ []) (lines m.0))),
       ap (λ r. r ++ command_of line ∷ []) a.3 ∙ sym (map-append command_of a.0 (line ∷ [])),
       m.2,
+      one_more bytes a.0 a.1 line m.0 a.5 m.1 m.3,
     )
 
 After-begins : (all : Option (List ℕ)) (es : List Exchange) (left : Option (List ℕ)) → After all es left → AskedFirst all es
@@ -51,6 +67,20 @@ After-ends (Some bytes) es left a e =
     let none : a.1 ≡ [] = subst Ends a.4 e in
     let whole : lines bytes ≡ a.0 = a.2 ∙ (ap (λ (rest : List ℕ). a.0 ++ lines rest) none ∙ append-nil a.0) in
     a.3 ∙ ap (map command_of) (sym whole)
+
+-- where no line ends in what was taken besides
+After-taken : (all : Option (List ℕ)) (es : List Exchange) (left new : Option (List ℕ)) → After all es left → IsInLine left new → AskedTaken all new es
+After-taken None es left new a i = tt
+After-taken (Some bytes) es left new a i =
+    let m : IsInLine (Some a.1) new = subst (λ (left : Option (List ℕ)). IsInLine left new) a.4 i in
+    elim a.5 as (λ _. AskedTaken (Some bytes) new es) [
+      | inl cut ↦ inr (
+        m.1,
+        m.4,
+        record { first = a.0; part = m.0; unbroken = m.2; taken = cut ∙ ap (λ r. ended_lines a.0 ++ r) m.3; begins = a.2 ∙ ap (λ r. a.0 ++ lines r) m.3; asked = a.3 },
+      )
+      | inr none ↦ inl (After-ends (Some bytes) es left a (subst Ends (sym a.4) none))
+    ]
 
 wrote_more : (old mid new : Option (List ℕ)) (before text : List ℕ) → mid ≡ appends old before → new ≡ appends mid text → new ≡ appends old (before ++ text)
 wrote_more old mid new before text e f = f ∙ (ap (λ (w : Option (List ℕ)). appends w text) e ∙ appends-append old before text)
@@ -114,7 +144,7 @@ stops M moment first now next coming left after start taken end_taken old mid ne
   es,
   subst (Ran M moment first es) (sym s.0) t.ran,
   record {
-    asked = After-begins coming es left t.after;
+    asked = After-taken coming es left new t.after s.4;
     written = s.1 ∙ t.wrote;
     cause = input_cause start old mid new taken end_taken a b c t.input e f s.2;
     output_quiet = s.3 ∙ t.output;

@@ -1,9 +1,9 @@
 -- Exchanges in order, by lines and texts. In a list of exchanges the newest stands first.
-use Rattle.std.specs.Prelude.{◌≡◌, ℕ, List, [], ◌∷◌, ◌++◌, length, map, Ok}
+use Rattle.std.specs.Prelude.{◌≡◌, ◌⊎◌, ℕ, List, [], ◌∷◌, ◌++◌, length, map, Ok}
 use Rattle.std.specs.declared.option.Option.{Option}
 use Rattle.std.specs.declared.option.Option.TheVariants.{None, Some}
 use Rattle.outside.specs.Streams.{appends}
-use Rattle.line_io.specs.Lines.{lines}
+use Rattle.line_io.specs.Lines.{lines, IsUnbroken}
 use Rattle.line_io.specs.Streams.{Cut}
 use Rattle.script_text.specs.Grammar.{command_of}
 use Rattle.workload.specs.Generated.{generated_of}
@@ -30,6 +30,25 @@ AskedFirst (Some bytes) es = (first : List (List ℕ)) × (more : List (List ℕ
 abbrev pub AskedAll : Option (List ℕ) → List Exchange → Type 0
 AskedAll None es = Unit {0}
 AskedAll (Some bytes) es = asked_in es ≡ map command_of (lines bytes)
+
+-- these lines, a newline behind each
+abbrev pub ended_lines : List (List ℕ) → List ℕ
+ended_lines [] = []
+ended_lines (line ∷ more) = line ++ 10 ∷ ended_lines more
+
+-- the lines that ended in what was taken of the bytes were asked, and no other: this is left of them, and what was taken besides is a part of a line
+pub record IsAskedUpTo (bytes rest : List ℕ) (es : List Exchange) : Type 0 where
+  pub first : List (List ℕ)
+  pub part : List ℕ
+  pub unbroken : IsUnbroken part
+  pub taken : bytes ≡ ended_lines first ++ (part ++ rest)
+  pub begins : lines bytes ≡ first ++ lines (part ++ rest)
+  pub asked : asked_in es ≡ map command_of first
+
+-- all lines of the bytes were asked, or those that ended in what was taken, where they are told
+abbrev pub AskedTaken : Option (List ℕ) → Option (List ℕ) → List Exchange → Type 0
+AskedTaken None left es = Unit {0}
+AskedTaken (Some bytes) left es = AskedAll (Some bytes) es ⊎ ((rest : List ℕ) × (left ≡ Some rest) × IsAskedUpTo bytes rest es)
 
 -- all texts were written, but of the last perhaps only a part from its front
 abbrev pub CutLast : Option (List ℕ) → Option (List ℕ) → List Exchange → Type 0

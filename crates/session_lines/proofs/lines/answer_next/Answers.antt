@@ -1,6 +1,7 @@
-use Rattle.std.proofs.Common.{◌≡◌, ◌∙◌, rules}
+use Rattle.std.proofs.Common.{◌≡◌, ◌∙◌, refl, rules}
 use Rattle.outside.specs.Streams.{appends}
 use Rattle.line_io.specs.Streams.{Cut}
+use Rattle.line_io.proofs.Flow.{in_line}
 use Rattle.session_lines.proofs.lines.answer_next.Goals as goal
 
 pub returns-in-Ok-clause-took : goal.returns-in-Ok-clause-took
@@ -16,3 +17,9 @@ returns-in-Err-write_all-clause-stopped g c =
     let took = next.line (search rules) in
     let cut : Cut (g.O.Sink.written c.args.output.now) (g.O.Sink.written c.write_all.new.output) c.tell_line.new.text = search rules in
     ((took.0, c.tell_line.ensures.told took.0 (c.line.ensures ∙ took.1), took.2), cut, c.in-Err-write_all.ensures.cause, next.quiet)
+
+pub returns-in-Err-clause-stopped : goal.returns-in-Err-clause-stopped
+returns-in-Err-clause-stopped g c =
+    let next = c.in-Err.ensures in
+    let shown = next.unended in
+    (refl, refl, next.cause, refl, in_line c.args.reader.now.ahead shown.0 (g.I.Source.rest c.args.input.now) (g.I.Source.rest c.next_line.new.input) shown.1 shown.2)
