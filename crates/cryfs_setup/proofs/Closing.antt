@@ -24,7 +24,7 @@ use Rattle.outside.specs.declared.keeper.Keeper.{Ghosts as KeeperGhosts}
 use Rattle.session_runs.specs.Answering.{calls_of}
 use Rattle.session_runs.specs.Runs.{Outside, outside_of, OutsideStandsFor, OpensTo, IsQuietRun}
 use Rattle.session_runs.specs.Turns.{Begun, Closing}
-use Rattle.session_runs.proofs.Whole.{unforged_before}
+use Rattle.session_runs.proofs.Whole.{each_before}
 use Rattle.session_saver.specs.Saving.{KeptConfigures}
 use Rattle.session_saver.specs.declared.saver.SyncError.{SyncError}
 use Rattle.tree_commands.specs.Showing.{ShowsFiles}
@@ -66,7 +66,7 @@ module _ {V : Type 0} {K : Type 0} (trace : V → Option (List Call)) (faults : 
   pub config_is : (c : Settings) (tree : Tree) → OpensTo ShowsFiles password c tree Before After → settings_of first.opened.config ≡ c
   config_is c tree f =
       b.config c (represents_told ShowsFiles Before.kept Before.calls c tree f.stands)
-      (unforged_before password Before.kept Before.calls (calls_of trace first) After.calls c calls_on f.unforged_config)
+      (each_before password Before.kept Before.calls (calls_of trace first) After.calls calls_on f.unforged_config)
 
   of_closed : (c : Settings) (tree : Tree) (result : Result Unit SyncError) → MountClosed ShowsFiles c After.kept After.calls tree tree result → Represents ShowsFiles After.kept After.calls c tree
   of_closed c tree (Ok u) s = s.0

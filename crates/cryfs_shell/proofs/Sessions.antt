@@ -23,12 +23,12 @@ use Rattle.run_status.specs.declared.ended.Ended.{Ended}
 use Rattle.run_status.specs.declared.status.Status.{Status}
 use Rattle.run_status.specs.declared.status.Status.TheVariants.{Done, Usage, LongPassword, Violation, DirectoryFault, StateFault, InputFault, OutputFault, Memory}
 use Rattle.session_lines.specs.declared.end.End.{End}
-use Rattle.session_runs.specs.Runs.{Outside, outside_of, OutsideStandsFor, OpensTo, directory_fault, state_fault}
-use Rattle.session_runs.proofs.Whole.{unviolated}
+use Rattle.session_runs.specs.Runs.{Outside, outside_of, OutsideStandsFor, OpensTo, OpensOnlyTo, directory_fault, state_fault}
+use Rattle.session_runs.proofs.Whole.{only_opens, unviolated}
 use Rattle.shell_sessions.specs.Sessions.{Session, IsServed}
 use Rattle.run_edges.specs.Statuses.{session_status}
 use Rattle.tree_commands.specs.Showing.{ShowsFiles}
-use Rattle.cryfs_shell.specs.Clauses.{IsRefusingStatus, IsRefusedRun, IsOpenedRun, NoFalseAlarm, KeepsTree, FaultsHappened, IsEmptied}
+use Rattle.cryfs_shell.specs.Clauses.{IsRefusingStatus, IsRefusedRun, IsOpenedRun, OpensOnlyRun, NoFalseAlarm, KeepsTree, FaultsHappened, IsEmptied}
 use Rattle.cryfs_shell.proofs.Statuses.{EndCause, opening_is_no, session_is_no, stops_is_refusal, session_directory, session_state, session_input, session_output, done_is_calm, done_is_closed, calm_is_no_alarm}
 
 -- the password of a told input is its first line
@@ -123,6 +123,10 @@ module _ {V : Type 0} {K : Type 0} (trace : V → Option (List Call)) (faults : 
     opens_under bytes c first f =
         subst (λ (x : List ℕ). OpensTo ShowsFiles x c first Before After) (password_is input.old bytes password script f.told next) f.opens
 
+    only_under : (bytes : List ℕ) (c : Settings) (first : Tree) → OpensOnlyRun input bytes c first Before After → OpensOnlyTo ShowsFiles password c first Before After
+    only_under bytes c first f =
+        subst (λ (x : List ℕ). OpensOnlyTo ShowsFiles x c first Before After) (password_is input.old bytes password script f.told next) f.opens
+
     module _ (error : OpenError) (u : IsUnopened trace faults G password vault keeper ended error) where
       pub unopened_faults : FaultsHappened input output Before After ended.status
       unopened_faults =
@@ -142,7 +146,7 @@ module _ {V : Type 0} {K : Type 0} (trace : V → Option (List Call)) (faults : 
           record { status = subst IsRefusingStatus (sym u.status) (stops_is_refusal error m.2); uncalled = m.0; stays = m.1; unwritten = unwritten }
 
       pub unopened_alarm : NoFalseAlarm input Before After ended.status
-      unopened_alarm bytes c first f honest e = u.no_false_alarm c first (opens_under bytes c first f) e
+      unopened_alarm bytes c first f honest e = u.no_false_alarm c first (only_under bytes c first f) e
 
       pub unopened_keeps : KeepsTree input Before After
       unopened_keeps bytes c first f = inr (first, u.quiet.stands c first (opens_under bytes c first f.opened))
@@ -165,7 +169,7 @@ module _ {V : Type 0} {K : Type 0} (trace : V → Option (List Call)) (faults : 
 
       served_alarm : IsServed trace faults G now password Came vault keeper ended → NoFalseAlarm input Before After ended.status
       served_alarm s bytes c first f honest e =
-          let o = opens_under bytes c first f in
+          let o = only_opens ShowsFiles password c first Before After (only_under bytes c first f) in
           let a = s.session.founded c first (record { opens = o; unforged = s.session.unforged c first o honest }) in
           let calm : violated s.es ≡ false = unviolated s.es (a.no_false_alarm honest) in
           calm_is_no_alarm s.end s.closing (subst (λ (b : Bool). session_status b s.end s.closing ≡ Violation) calm (sym s.status ∙ e))

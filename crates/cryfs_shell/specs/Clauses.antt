@@ -15,7 +15,7 @@ use Rattle.run_status.specs.declared.ended.Ended.{Ended}
 use Rattle.run_status.specs.declared.status.Status.{Status}
 use Rattle.run_status.specs.declared.status.Status.TheVariants.{LongPassword, Violation, DirectoryFault, StateFault, InputFault, OutputFault, Memory}
 use Rattle.session_lines.specs.Driven.{IsUnfailed}
-use Rattle.session_runs.specs.Runs.{Outside, OutsideStandsFor, OpensTo, forgeries, lies}
+use Rattle.session_runs.specs.Runs.{Outside, OutsideStandsFor, OpensTo, OpensOnlyTo, forgeries, lies}
 use Rattle.shell_words.specs.declared.form.Form.{Form}
 use Rattle.shell_words.specs.declared.form.Form.TheVariants.{Passwd}
 use Rattle.tree_commands.specs.Showing.{ShowsFiles}
@@ -36,19 +36,24 @@ pub record IsRefusedRun {V : Type 0} {K : Type 0} (kept : K → Option (List ℕ
   pub stays : kept ended.keeper ≡ kept keeper
   pub unwritten : Untouched output
 
--- what opening must find: the input is told, and under the password in its first line what is kept stands for the first tree, and no other configuration opens
+-- what opening must find: the input is told, and under the password in its first line what is kept stands for the first tree, and no other configuration of its file system and key opens
 pub record IsOpenedRun (input : Stream) (bytes : List ℕ) (c : Settings) (first : Tree) (before after : Outside) : Type 0 where
   pub told : input.old ≡ Some bytes
   pub opens : OpensTo ShowsFiles (first_line bytes) c first before after
+
+-- the same where no other configuration opens at all
+pub record OpensOnlyRun (input : Stream) (bytes : List ℕ) (c : Settings) (first : Tree) (before after : Outside) : Type 0 where
+  pub told : input.old ≡ Some bytes
+  pub opens : OpensOnlyTo ShowsFiles (first_line bytes) c first before after
 
 -- what a run must find besides: no block file that opens was forged since
 pub record IsFoundedRun (input : Stream) (bytes : List ℕ) (c : Settings) (first : Tree) (before after : Outside) : Type 0 where
   pub opened : IsOpenedRun input bytes c first before after
   pub unforged : forgeries c after ≤ forgeries c before
 
--- over a directory that gave what was last written, no run ends with a violation
+-- over a directory that gave what was last written, no run ends with a violation where no other configuration opens at all
 abbrev pub NoFalseAlarm : Stream → Outside → Outside → Status → Type 0
-NoFalseAlarm input before after status = (bytes : List ℕ) (c : Settings) (first : Tree) → IsOpenedRun input bytes c first before after → lies after ≤ lies before → status ≢ Violation
+NoFalseAlarm input before after status = (bytes : List ℕ) (c : Settings) (first : Tree) → OpensOnlyRun input bytes c first before after → lies after ≤ lies before → status ≢ Violation
 
 -- afterwards the record is marked, or what is kept stands for a tree
 abbrev pub KeepsTree : Stream → Outside → Outside → Type 0

@@ -12,7 +12,7 @@ use Rattle.config_file.specs.Format.{HasForm}
 use Rattle.config_file.specs.Settings.{Settings}
 use Rattle.integrity_store.specs.EnduringLaws.{configured_of}
 use Rattle.held_blocks.specs.Standing.{Configures, records}
-use Rattle.mount_tower.specs.Unforged.{IsUnforgedConfig}
+use Rattle.mount_tower.specs.Unforged.{IsOnlyConfig}
 use Rattle.outside.specs.Changes.{FileChanges, change_at}
 use Rattle.outside.specs.Honest.{last_change, same_answer, is_left, is_lie, count_calls, count_told}
 use Rattle.outside.specs.HonestLaws.{count_grows, uncounted}
@@ -70,8 +70,8 @@ module _ (password : List ℕ) (kept : Option (List ℕ)) (t0 t1 : Option (List 
       got_put file max before bytes (ap (last_told config) (sym eo) ∙ last) (uncounted (is_lie before call) (count_calls is_lie before) first)
 
   -- so no other configuration opens
-  pub unforged_config : IsUnforgedConfig password kept t0 t1 c
-  unforged_config = record {
+  pub only_config : IsOnlyConfig password kept t0 t1 c
+  only_config = record {
     listed = λ state list bytes found params has is at o. is_this bytes found params (waiting list bytes at (by_record state list has is)) o;
     given = λ state list before calls max bytes found params has is none eo en o.
         is_this bytes found params (same_length file bytes max (called list before calls max bytes none eo en (by_record state list has is)) (omega (arith, o.0.size, form.size))) o;

@@ -6,18 +6,26 @@ use Rattle.fs_model.specs.Tree.{Tree}
 use Rattle.held_blocks.specs.Standing.{records}
 use Rattle.tree_commands.specs.Performing.{Showing}
 use Rattle.mount_core.specs.Standing.{IsKeptMarked}
-use Rattle.mount_tower.specs.Unforged.{IsUnforgedConfig}
+use Rattle.mount_tower.specs.Unforged.{IsOnlyConfig, IsUnforgedConfig}
 use Rattle.mount.proofs.Reading.{loaded_unmarked}
+use Rattle.mount_tower.proofs.Reading.{only_unforged}
 use Rattle.session_runs.specs.Runs.{Outside, OutsideStandsFor, lies}
-use Rattle.histories.specs.Histories.{Run, session, quiet, before_of, IsRun, IsUnforgedRun, AreRuns, end_of, OpensOrLocks, IsHonestRun, AreHonestRuns}
-use Rattle.histories.proofs.Configuration.{opened_only, locked_only, unforged_config}
+use Rattle.histories.specs.Histories.{Run, session, quiet, before_of, IsRun, IsUnforgedRun, AreRuns, end_of, OpensOrLocks, OpensOnly, IsHonestRun, AreHonestRuns}
+use Rattle.histories.proofs.Configuration.{opened_only, locked_only, only_config}
 use Rattle.histories.proofs.Following.{stands_on, marked_on, compose}
 
+config_only : (password : List ℕ) (c : Settings) (before after : Outside) → OpensOrLocks password c before → lies after ≤ lies before → IsOnlyConfig password before.kept before.calls after.calls c
+config_only password c before after (inl (file, cost, holds, opens)) honest =
+    only_config password before.kept before.calls after.calls c file holds opens.0 (opened_only password file c cost opens) honest
+config_only password c before after (inr (file, holds, locks)) honest =
+    only_config password before.kept before.calls after.calls c file holds locks.0 (locked_only password file c locks) honest
+
 config_unforged : (password : List ℕ) (c : Settings) (before after : Outside) → OpensOrLocks password c before → lies after ≤ lies before → IsUnforgedConfig password before.kept before.calls after.calls c
-config_unforged password c before after (inl (file, cost, holds, opens)) honest =
-    unforged_config password before.kept before.calls after.calls c file holds opens.0 (opened_only password file c cost opens) honest
-config_unforged password c before after (inr (file, holds, locks)) honest =
-    unforged_config password before.kept before.calls after.calls c file holds locks.0 (locked_only password file c locks) honest
+config_unforged password c before after opens honest = only_unforged password before.kept before.calls after.calls c (config_only password c before after opens honest)
+
+pub one_opens_only : (c : Settings) (run : Run) → IsHonestRun c run → OpensOnly c run
+one_opens_only c (session now password before after closing es) h = config_only password c before after h.opens h.gave
+one_opens_only c (quiet password before after) h = config_only password c before after h.opens h.gave
 
 module _ (shows : Showing) (c : Settings) where
   pub one_unforged : (tree : Tree) (run : Run) → IsRun shows run → OutsideStandsFor shows c tree (before_of run) → IsHonestRun c run → IsUnforgedRun c run

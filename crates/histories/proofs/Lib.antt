@@ -1,3 +1,4 @@
 mod Following
 pub mod Configuration
 mod Honest
+mod Foreign

@@ -12,6 +12,7 @@ use Rattle.aes_gcm.specs.Gcm.{opened_of}
 use Rattle.held_blocks.specs.Forgeries.{forged}
 use Rattle.held_blocks.specs.Standing.{records}
 use Rattle.outside.specs.Going.{GoesOn}
+use Rattle.outside.specs.Trace.{Call}
 use Rattle.outside.specs.Honest.{NonePassSince}
 use Rattle.outside.specs.HonestLaws.{none_since_where_no_rise, no_rise_where_none_since}
 use Rattle.session_saver.specs.Saving.{KeptConfigures}
@@ -19,7 +20,9 @@ use Rattle.session_saver.specs.declared.saver.SyncError.{SyncError}
 use Rattle.tree_commands.specs.Performing.{Showing}
 use Rattle.mount_core.specs.Standing.{IsKeptMarked}
 use Rattle.mount.specs.Making.{Created}
-use Rattle.mount_tower.specs.Unforged.{IsUnforgedConfig}
+use Rattle.mount.specs.Opening.{AttachCause}
+use Rattle.mount_tower.specs.declared.error.OpenError.TheVariants.{Mismatch}
+use Rattle.mount_tower.specs.Unforged.{IsOnlyConfig, IsUnforgedConfig}
 use Rattle.session_runs.specs.Causes.{AreBuilt}
 use Rattle.session_runs.specs.Runs.{Outside, OutsideStandsFor, PasswordOpens, forgeries, lies, AreCalm, IsSessionRun, IsQuietRun}
 
@@ -44,7 +47,7 @@ abbrev pub IsRun : Showing → Run → Type 0
 IsRun shows (session now password before after closing es) = IsSessionRun shows now password before after (violated es) closing es
 IsRun shows (quiet password before after) = IsQuietRun shows password before after
 
--- nothing that opens was forged from one moment to the other: no configuration under the password but this one, and no block's file
+-- nothing that opens was forged from one moment to the other: under the password no configuration of this file system and key but this one, and no block's file
 abbrev pub IsUnforged : List ℕ → Settings → Outside → Outside → Type 0
 IsUnforged password c before after = IsUnforgedConfig password before.kept before.calls after.calls c × (forgeries c after ≤ forgeries c before)
 
@@ -122,6 +125,11 @@ abbrev pub RunsComposeFromCreate : Showing → Type 0
 RunsComposeFromCreate shows = (c : Settings) (file : List ℕ) (kept : Option (List ℕ)) (id : BlockId) (start : Outside) (runs : List Run) → Created shows c file kept start.kept start.calls (Ok id) → AreRuns shows c start runs
     → (trees : List Tree) × Follow shows c empty_tree runs trees × EndsWith shows c empty_tree start runs trees
 
+-- where opening refused what it found as another file system's, nothing that opens was forged, whatever the configuration
+abbrev pub ForeignIsUnforged : Type 0
+ForeignIsUnforged = (password : List ℕ) (kept : Option (List ℕ)) (old new : Option (List Call)) (v0 v1 k0 k1 : ℕ) (kept_id found_id : BlockId) (c : Settings)
+    → AttachCause password kept old new v0 v1 k0 k1 (Mismatch kept_id found_id) → IsUnforgedConfig password kept old new c
+
 -- ---- where nothing lies
 
 -- under the password the file that is kept is this configuration, or it is locked
@@ -140,6 +148,15 @@ IsHonestRun c (quiet password before after) = IsHonest password c before after
 abbrev pub AreHonestRuns : Showing → Settings → Outside → List Run → Type 0
 AreHonestRuns shows c start [] = Unit {0}
 AreHonestRuns shows c start (run ∷ runs) = IsRun shows run × IsHonestRun c run × GoesOnFrom (end_of start runs) (before_of run) × AreHonestRuns shows c start runs
+
+-- under the run's password no other configuration opens at all
+abbrev pub OpensOnly : Settings → Run → Type 0
+OpensOnly c (session now password before after closing es) = IsOnlyConfig password before.kept before.calls after.calls c
+OpensOnly c (quiet password before after) = IsOnlyConfig password before.kept before.calls after.calls c
+
+-- so it is in an honest run
+abbrev pub HonestRunOpensOnly : Type 0
+HonestRunOpensOnly = (c : Settings) (run : Run) → IsHonestRun c run → OpensOnly c run
 
 -- nothing that opens was forged in an honest run from a kept tree on
 abbrev pub HonestRunIsUnforged : Showing → Type 0

@@ -1,18 +1,22 @@
 // What one run leaves is what the next one needs.
 ghost use Rattle.tree_commands.specs.Showing.{ShowsFiles};
-ghost use Rattle.histories.specs.Histories.{RunsCompose, RunsComposeFromCreate, HonestRunIsUnforged, HonestRunsCompose};
+ghost use Rattle.histories.specs.Histories.{RunsCompose, RunsComposeFromCreate, ForeignIsUnforged, HonestRunOpensOnly, HonestRunIsUnforged, HonestRunsCompose};
 
 /// Whatever the block directory returns, loses or refuses in any list of runs: each answers as a session of the plain tree from
 /// the tree that the one before it left, which is that of a kept point of its own session; or, once there was a violation,
-/// it is refused. The premise is that nothing that opens was forged.
+/// it is refused. The premise is that nothing that opens was forged; it stays met where opening refused another file
+/// system's configuration.
 pub fn runs_compose()
     ensures all { RunsCompose ShowsFiles }
     ensures from_create { RunsComposeFromCreate ShowsFiles }
+    ensures foreign { ForeignIsUnforged }
 {}
 
 /// That premise is met over a directory that gives what was last written: nothing that opens was forged in a run from a kept tree
-/// on, nor in any list of them, where each password opens the configuration that is kept or finds it locked.
+/// on, nor in any list of them, where each password opens the configuration that is kept or finds it locked. Nor does
+/// any other configuration open in such a run.
 pub fn honest_runs_are_unforged()
+    ensures only { HonestRunOpensOnly }
     ensures one { HonestRunIsUnforged ShowsFiles }
     ensures all { HonestRunsCompose ShowsFiles }
 {}

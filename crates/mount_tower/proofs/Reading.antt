@@ -27,7 +27,7 @@ use Rattle.config_file.specs.declared.config.Opened.{Opened}
 use Rattle.session_saver.specs.Saving.{KeptConfigures}
 use Rattle.mount_tower.specs.Opening.{IsLoaded, AreKnown, OpenedConfig, ReadsConfigOnce}
 use Rattle.mount_tower.specs.Identities.{identity_for}
-use Rattle.mount_tower.specs.Unforged.{IsUnforgedConfig}
+use Rattle.mount_tower.specs.Unforged.{EachConfig, IsOnlyConfig, IsUnforgedConfig}
 
 pub true_is_false : true ≡ false → ⊥
 true_is_false e = cc
@@ -110,26 +110,32 @@ short_cut max answer bytes e short =
     let fits : length bytes ≤ max = omega (arith, length-take max bytes, ap length e, short) in
     sym (e ∙ take_all max bytes fits)
 
-module _ (password : List ℕ) (kept : Option (List ℕ)) (state : PlainState) (list : FileChanges) (t0 read t1 : Option (List Call)) (o : Opened) (c : Settings)
-    (l : IsLoaded kept state list) (on : GoesOn read t1) (unforged : IsUnforgedConfig password kept t0 t1 c) where
-  in_list : (change : Option (List ℕ)) (answer : List ℕ) → change_at config list ≡ Some change → Some answer ≡ cut 1127 change → ConfigOf password answer (opened (settings_of o.config) o.params) → settings_of o.config ≡ c
+pub only_unforged : (password : List ℕ) (kept : Option (List ℕ)) (old new : Option (List Call)) (c : Settings) → IsOnlyConfig password kept old new c → IsUnforgedConfig password kept old new c
+only_unforged password kept old new c o = record {
+  listed = λ state list bytes found cost has is at opens of. o.listed state list bytes found cost has is at opens;
+  given = λ state list before calls max bytes found cost has is none eo en opens of. o.given state list before calls max bytes found cost has is none eo en opens;
+}
+
+module _ {IsSo : PlainState → Settings → Type 0} (password : List ℕ) (kept : Option (List ℕ)) (state : PlainState) (list : FileChanges) (t0 read t1 : Option (List Call)) (o : Opened)
+    (l : IsLoaded kept state list) (on : GoesOn read t1) (each : EachConfig IsSo password kept t0 t1) where
+  in_list : (change : Option (List ℕ)) (answer : List ℕ) → change_at config list ≡ Some change → Some answer ≡ cut 1127 change → ConfigOf password answer (opened (settings_of o.config) o.params) → IsSo state (settings_of o.config)
   in_list None answer at is opens = absurd (none-some answer (sym is))
   in_list (Some bytes) answer at is opens =
-      unforged.listed state list bytes (settings_of o.config) o.params l.has_record l.kept at
+      each.listed state list bytes (settings_of o.config) o.params l.has_record l.kept at
       (subst (λ x. ConfigOf password x (opened (settings_of o.config) o.params)) (sym (short_cut 1127 answer bytes (same_Some _ _ is) (omega (arith, opens.0.size)))) opens)
 
   by_get : (answer : List ℕ) (t : Option (List Call)) → change_at config list ≡ None → t0 ≡ t → is_some t ≡ true → read ≡ adds t (got config 1127 (Some answer)) → ConfigOf password answer (opened (settings_of o.config) o.params)
-      → settings_of o.config ≡ c
+      → IsSo state (settings_of o.config)
   by_get answer None at e told is opens = absurd (true_is_false (sym told))
   by_get answer (Some before) at e told is opens =
       let after : GoesOn (Some (got config 1127 (Some answer) ∷ before)) t1 = subst (λ x. GoesOn x t1) is on in
-      unforged.given state list before after.0 1127 answer (settings_of o.config) o.params l.has_record l.kept at e after.1 opens
+      each.given state list before after.0 1127 answer (settings_of o.config) o.params l.has_record l.kept at e after.1 opens
 
   found_at : (w : Option (Option (List ℕ))) (answer : List ℕ) → change_at config list ≡ w → is_some t0 ≡ true → Gave w t0 read config 1127 (Some answer) → ConfigOf password answer (opened (settings_of o.config) o.params)
-      → settings_of o.config ≡ c
+      → IsSo state (settings_of o.config)
   found_at None answer at told gave opens = by_get answer t0 at refl told gave opens
   found_at (Some change) answer at told gave opens = in_list change answer at gave.1 opens
 
-  -- the configuration that opened is the one
-  pub found_is : is_some t0 ≡ true → OpenedConfig password list t0 read o → settings_of o.config ≡ c
+  -- so is the configuration that opened
+  pub found_is : is_some t0 ≡ true → OpenedConfig password list t0 read o → IsSo state (settings_of o.config)
   found_is told f = found_at (change_at config list) f.answer refl told f.gave f.opens

@@ -57,7 +57,7 @@ pub record IsRunOf (call : RunCall) (run : Run) : Type 0 where
   pub answered : CallAnswered call (form_of call.words) run
   -- over a marked record the status refuses, and nothing is written
   pub refused : IsKeptMarked records call.before.kept → IsRefusingStatus call.status × Untouched call.output
-  -- where the directory gave what was last written, it is no violation, and it names only faults that happened
+  -- where the directory gave what was last written and no other configuration opens at all, it is no violation; and it names only faults that happened
   pub no_false_alarm : NoFalseAlarm call.input call.before call.after call.status
   pub faults_happened : FaultsHappened call.input call.output call.before call.after call.status
 

@@ -30,12 +30,14 @@ use Rattle.mount.specs.Mounts.{IsReady, MountClosed}
 use Rattle.mount.specs.Representing.{Represents}
 use Rattle.mount.specs.Tower.{TowerStands}
 use Rattle.mount_tower.specs.Tower.{tower_holdings, tower_durables}
-use Rattle.mount_tower.specs.Unforged.{IsUnforgedConfig}
+use Rattle.local_state.specs.Record.{PlainState}
+use Rattle.mount_tower.specs.Unforged.{EachConfig}
+use Rattle.mount_tower.proofs.Reading.{only_unforged}
 use Rattle.mount.proofs.Reading.{represents_told}
 use Rattle.mount.proofs.Standing.{represents}
 use Rattle.session_runs.specs.Answering.{store_of, calls_of, forgeries_of, lies_of, version_of, kept_of, mount_hosting}
 use Rattle.session_runs.specs.Passing.{MountKeeps, LeftAt, PassedTrees, Passed}
-use Rattle.session_runs.specs.Runs.{Outside, outside_of, OutsideStandsFor, forgeries, lies, OpensTo, IsFounded, AreCalm, Answers, directory_fault, state_fault, IsSessionRun}
+use Rattle.session_runs.specs.Runs.{Outside, outside_of, OutsideStandsFor, forgeries, lies, OpensTo, OpensOnlyTo, IsFounded, AreCalm, Answers, directory_fault, state_fault, IsSessionRun}
 use Rattle.session_runs.specs.Turns.{Begun, Closing, OnMount}
 use Rattle.answers.specs.Hosts.{Ran}
 use Rattle.session_runs.proofs.Joining.{true_is_false, latest_kept}
@@ -59,14 +61,18 @@ calm (e ∷ es) r v =
 
 -- ---- what was given at first stays so
 
-pub unforged_before : (password : List ℕ) (kept : Option (List ℕ)) (old mid new : Option (List Call)) (c : Settings) → GoesOn mid new → IsUnforgedConfig password kept old new c → IsUnforgedConfig password kept old mid c
-unforged_before password kept old mid new c on u = record {
+pub each_before : {IsSo : PlainState → Settings → Type 0} (password : List ℕ) (kept : Option (List ℕ)) (old mid new : Option (List Call)) → GoesOn mid new → EachConfig IsSo password kept old new → EachConfig IsSo password kept old mid
+each_before password kept old mid new on u = record {
   listed = u.listed;
   given = λ state list before calls max bytes found cost has is none eo em opens.
       let first = got config max (Some bytes) ∷ before in
       let after : GoesOn (Some (calls ++ first)) new = subst (λ x. GoesOn x new) em on in
       u.given state list before (after.0 ++ calls) max bytes found cost has is none eo (after.1 ∙ ap Some (sym (append_assoc after.0 calls first))) opens;
 }
+
+-- where no other configuration opens at all, no other one of this file system and key does
+pub only_opens : (shows : Showing) (password : List ℕ) (c : Settings) (tree : Tree) (before after : Outside) → OpensOnlyTo shows password c tree before after → OpensTo shows password c tree before after
+only_opens shows password c tree before after o = record { stands = o.stands; unforged_config = only_unforged password before.kept before.calls after.calls c o.only }
 
 -- ---- faults
 
@@ -154,7 +160,7 @@ module _ {V : Type 0} {K : Type 0} (shows : Showing) (trace : V → Option (List
       is_opened =
           let told = represents_told shows Before.kept Before.calls c first f.stands in
           let on = goes_on_onward (calls_of trace opened_) (calls_of trace left) (trace vault) p.goes_on z.goes_on in
-          b.config c told (unforged_before password Before.kept Before.calls (calls_of trace opened_) After.calls c on f.unforged_config)
+          b.config c told (each_before password Before.kept Before.calls (calls_of trace opened_) After.calls on f.unforged_config)
 
       is_left : settings_of left.opened.config ≡ c
       is_left = ap (λ (o : Opened). settings_of o.config) p.opened ∙ is_opened

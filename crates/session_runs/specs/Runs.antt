@@ -25,7 +25,7 @@ use Rattle.mount_core.specs.Standing.{IsKeptMarked}
 use Rattle.mount.specs.Mounts.{Attached}
 use Rattle.mount.specs.Representing.{Represents}
 use Rattle.mount_tower.specs.Identities.{HasEmptyList}
-use Rattle.mount_tower.specs.Unforged.{IsUnforgedConfig}
+use Rattle.mount_tower.specs.Unforged.{IsOnlyConfig, IsUnforgedConfig}
 use Rattle.session_runs.specs.Causes.{AreAnswered, AreBuilt, SpentSince}
 use Rattle.session_runs.specs.Resting.{AreIdle, OnlyGot}
 
@@ -54,10 +54,15 @@ forgeries c o = count_told (forged (opened_of c.key) c.block_size) o.calls
 abbrev pub lies : Outside → ℕ
 lies o = count_told is_lie o.calls
 
--- what opening must find: under this configuration they stood for the tree, and no other configuration opens under the password
+-- what opening must find: under this configuration they stood for the tree, and no other one of its file system and key opens under the password
 pub record OpensTo (shows : Showing) (password : List ℕ) (c : Settings) (tree : Tree) (before after : Outside) : Type 0 where
   pub stands : OutsideStandsFor shows c tree before
   pub unforged_config : IsUnforgedConfig password before.kept before.calls after.calls c
+
+-- the same where no other configuration opens at all
+pub record OpensOnlyTo (shows : Showing) (password : List ℕ) (c : Settings) (tree : Tree) (before after : Outside) : Type 0 where
+  pub stands : OutsideStandsFor shows c tree before
+  pub only : IsOnlyConfig password before.kept before.calls after.calls c
 
 -- what a session must find besides: no block file that opens was forged since
 pub record IsFounded (shows : Showing) (password : List ℕ) (c : Settings) (first : Tree) (before after : Outside) : Type 0 where

@@ -9,7 +9,8 @@ use outside::{Change, FileName, Pending};
 use std::alloc::{AllocError, Global};
 use std::test::Fail;
 use test_systems::{
-    CREATED, Run, System, Words, ZEROS, count_blocks, expect, new_system, nothing, outcome, plain,
+    CREATED, Run, System, Words, ZEROS, count_blocks, expect, file, new_system, nothing, outcome,
+    plain, session, store,
 };
 
 const CREATE: &[&str] = &["create", "--blocksize", "128", "--scrypt-n", "16"];
@@ -159,6 +160,26 @@ fn refuses_files(rt: HostRuntime) -> Result<(), Fail> {
     let other = hex::decode(alloc, COUNTED)?;
     is_refused(alloc, Some(&other), Status::Violation)?;
     is_refused(alloc, None, Status::NoConfig)
+}
+
+#[test]
+fn goes_on_after_a_configuration_of_another_file_system(rt: HostRuntime) -> Result<(), Fail> {
+    let alloc = rt.alloc();
+    let mut system = session(
+        alloc,
+        new_system(alloc)?,
+        "mkdir /a\n",
+        "ok\n",
+        Status::Done,
+    )?;
+    let own = file(alloc, system.vault.files(), FileName::Config)?;
+    // Its password is the same.
+    let other = hex::decode(alloc, COUNTED)?;
+    store(alloc, &mut system, FileName::Config, Some(other))?;
+    let mut after = session(alloc, system, "ls /\n", "", Status::Violation)?;
+    store(alloc, &mut after, FileName::Config, Some(own))?;
+    session(alloc, after, "ls /\n", "list 1\nd a\n", Status::Done)?;
+    Ok(())
 }
 
 /// A run of these words over nothing, which writes nothing, keeps nothing and calls nothing.

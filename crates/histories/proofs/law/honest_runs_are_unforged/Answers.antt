@@ -1,6 +1,9 @@
 use Rattle.tree_commands.specs.Showing.{ShowsFiles}
-use Rattle.histories.proofs.Honest.{one_unforged, all_unforged}
+use Rattle.histories.proofs.Honest.{one_opens_only, one_unforged, all_unforged}
 use Rattle.histories.proofs.law.honest_runs_are_unforged.Goals as goal
+
+pub returns-clause-only : goal.returns-clause-only
+returns-clause-only k settings run honest = one_opens_only settings run honest
 
 pub returns-clause-one : goal.returns-clause-one
 returns-clause-one k settings tree run is stands honest = one_unforged ShowsFiles settings tree run is stands honest

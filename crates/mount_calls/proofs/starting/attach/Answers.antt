@@ -83,8 +83,8 @@ returns-in-Ok-start-clause-config g c conf told unforged =
     let o = c.in-Ok-open_store.ensures in
     let opening = c.in-Ok-open_store.opening in
     let read = trace_in g.V.Vault.trace opening.store in
-    found_is c.args.password.now (g.K.Keeper.kept c.args.keeper) (plain_state c.in-Ok.loaded.state) (list_of c.in-Ok.loaded.list.items) (g.V.Vault.trace c.args.vault) read (trace_in g.V.Vault.trace c.in-Ok-start.core.blobs.tx.store) opening.opened conf c.in-Ok.ensures.ok
-    (subst (λ t. GoesOn read t) (sym c.in-Ok-start.ensures.writes) (goes_on_writes ((tower_durables g.V.Vault.trace).list opening.store) read)) unforged told o.found
+    found_is c.args.password.now (g.K.Keeper.kept c.args.keeper) (plain_state c.in-Ok.loaded.state) (list_of c.in-Ok.loaded.list.items) (g.V.Vault.trace c.args.vault) read (trace_in g.V.Vault.trace c.in-Ok-start.core.blobs.tx.store) opening.opened c.in-Ok.ensures.ok
+    (subst (λ t. GoesOn read t) (sym c.in-Ok-start.ensures.writes) (goes_on_writes ((tower_durables g.V.Vault.trace).list opening.store) read)) unforged told o.found o.is_of
 
 pub returns-in-Ok-start-clause-stands : goal.returns-in-Ok-start-clause-stands
 returns-in-Ok-start-clause-stands g c first rep =
@@ -148,6 +148,7 @@ returns-in-Err-start-clause-halted g c =
     let stopped : Stopped ShowsFiles g.V.Vault.trace g.V.Vault.faults g.K.Keeper c.args.password.now c.args.vault c.args.keeper state list opening.opened read (g.V.Vault.faults (vault_in opening.store)) (g.K.Keeper.faults c.load_record.new.keeper) u last error = record {
       loaded = l;
       found = o.found;
+      is_of = o.is_of;
       reads = o.reads;
       on = h.goes_on;
       cause = c.in-Err-start.ensures.cause;
