@@ -410,6 +410,7 @@ pub fn close<S: Durable, K: Keeper>(
     ensures left { (core.violated ≡ true) ⊎ (core.saver.changed ≡ false) → IsOk result.0 × (result.1 ≡ core.blobs.tx.store) × (result.2 ≡ core.saver.keeper) }
     ensures emptied { core.violated ≡ false → OnOk result.0 (K.kept result.2 ≡ Some (S.durables.local_record_of result.1 false)) }
     ensures intact { S.meanings.intact result.1 }
+    ensures stays { Stays S.holdings core.blobs.tx.store result.1 }
     ensures identity { S.durables.identity result.1 ≡ S.durables.identity core.blobs.tx.store }
     ensures goes_on { GoesOn (S.durables.trace core.blobs.tx.store) (S.durables.trace result.1) }
     ensures forgeries { S.meanings.forgeries result.1 ≡ S.meanings.forgeries core.blobs.tx.store }

@@ -26,6 +26,7 @@ ghost use Rattle.mount_tower.specs.Drawing.{seal_drawn};
 ghost use Rattle.mount_tower.specs.Making.{sealed_file};
 ghost use Rattle.mount.specs.Mounts.{IsReady, MountClosed};
 ghost use Rattle.mount_tower.specs.Identities.{HasEmptyList};
+ghost use Rattle.mount_tower.specs.Opening.{KeepsVersions};
 ghost use Rattle.mount.specs.Tower.{TowerStands, TowerConfigures};
 ghost use Rattle.mount_tower.specs.Tower.{vault_in, trace_in, tower_meanings, tower_holdings, tower_durables};
 
@@ -179,6 +180,7 @@ pub fn close<V: Vault, K: Keeper>(
         → ConfigClosed records (K.kept result.2) (V.trace result.1) may now result.0 }
     ensures left { (mount.core.violated ≡ true) ⊎ (mount.core.saver.changed ≡ false) → IsOk result.0 × (result.1 ≡ vault_in mount.core.blobs.tx.store) × (result.2 ≡ mount.core.saver.keeper) }
     ensures emptied { mount.core.violated ≡ false → OnOk result.0 (HasEmptyList (K.kept result.2)) }
+    ensures versions { mount.core.violated ≡ false → OnOk result.0 (KeepsVersions (K.kept result.2) ((tower_holdings V.trace).version mount.core.blobs.tx.store)) }
     ensures goes_on { GoesOn (trace_in V.trace mount.core.blobs.tx.store) (V.trace result.1) }
     ensures forgeries { count_told (forged (opened_of mount.opened.config.key) mount.opened.config.block_size) (V.trace result.1) ≡ (tower_meanings V.trace V.faults).forgeries mount.core.blobs.tx.store }
     ensures lies { count_told is_lie (V.trace result.1) ≡ (tower_meanings V.trace V.faults).lies mount.core.blobs.tx.store }

@@ -30,6 +30,13 @@ pub record IsLoaded (was : Option (List ℕ)) (state : PlainState) (list : FileC
 abbrev pub AreKnown : Option (List ℕ) → (List ℕ → ℕ) → Type 0
 AreKnown was version = (state : PlainState) (list : FileChanges) → IsLoaded was state list → (id : List ℕ) → version id ≡ version_in (fin.get state.lives id)
 
+-- a record without a violation is kept, and these are the versions in it
+pub record KeepsVersions (was : Option (List ℕ)) (version : List ℕ → ℕ) : Type 0 where
+  pub state : PlainState
+  pub list : FileChanges
+  pub loaded : IsLoaded was state list
+  pub versions : (id : List ℕ) → version id ≡ version_in (fin.get state.lives id)
+
 -- what the list, or else one call, gave for the configuration
 abbrev pub GaveConfig : FileChanges → Option (List Call) → Option (List Call) → Option (List ℕ) → Type 0
 GaveConfig list old new answer = Gave (change_at config list) old new config MAX_CONFIG answer

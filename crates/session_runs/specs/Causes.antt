@@ -7,7 +7,7 @@ use Rattle.fs_model.specs.Laws.{OnlyLooks}
 use Rattle.answers.specs.declared.answer.Answer.{Answer}
 use Rattle.answers.specs.declared.answer.Answer.TheVariants.{Reply as Replied, Memory, Refused}
 use Rattle.answers.specs.Sessions.{Asked, Exchange}
-use Rattle.mount_tower.specs.Opening.{AreKnown}
+use Rattle.mount_tower.specs.Opening.{AreKnown, KeepsVersions}
 use Rattle.mount_core.specs.Answers.{is_structure, OnReply, OnSpent}
 use Rattle.tree_commands.specs.Performing.{IsReplyTo}
 
@@ -37,3 +37,7 @@ AreSpent version (e ∷ es) = OnSpent e.answer ((id : List ℕ) × (2 ^ 64 ≤ v
 -- the same by the versions in the record that was kept at the beginning
 abbrev pub SpentSince : Option (List ℕ) → List Exchange → Type 0
 SpentSince kept es = (version : List ℕ → ℕ) → AreKnown kept version → AreSpent version es
+
+-- a record is kept at the end, and no version in it is higher than in the one at the beginning by more than one for each exchange
+abbrev pub RoseSince : Option (List ℕ) → Option (List ℕ) → List Exchange → Type 0
+RoseSince before after es = (new : List ℕ → ℕ) × KeepsVersions after new × ((old : List ℕ → ℕ) → AreKnown before old → (id : List ℕ) → new id ≤ old id + length es)

@@ -26,7 +26,7 @@ use Rattle.mount.specs.Mounts.{Attached}
 use Rattle.mount.specs.Representing.{Represents}
 use Rattle.mount_tower.specs.Identities.{HasEmptyList}
 use Rattle.mount_tower.specs.Unforged.{IsOnlyConfig, IsUnforgedConfig}
-use Rattle.session_runs.specs.Causes.{AreAnswered, AreBuilt, SpentSince}
+use Rattle.session_runs.specs.Causes.{AreAnswered, AreBuilt, RoseSince, SpentSince}
 use Rattle.session_runs.specs.Resting.{AreIdle, OnlyGot}
 
 -- at one moment: what is kept, the calls on the directory where they are told, the newest first, and both counts of faults
@@ -126,6 +126,8 @@ pub record IsSessionRun (shows : Showing) (now : Instant) (password : List ℕ) 
   pub directory_quiet : all_directory_faults es + directory_fault closing ≡ 0 → after.vault_faults ≡ before.vault_faults
   pub state_quiet : violated es ≡ false → all_state_faults es + state_fault closing ≡ 0 → after.keeper_faults ≡ before.keeper_faults
   pub emptied : violated es ≡ false → OnOk closing (HasEmptyList after.kept)
+  -- without a violation, a session that closed raised no block's version by more than one for each line
+  pub versions : violated es ≡ false → OnOk closing (RoseSince before.kept after.kept es)
   -- the configuration's file stays
   pub configures : (file : List ℕ) → is_some before.calls ≡ true → KeptConfigures records before.kept before.calls file → KeptConfigures records after.kept after.calls file
   -- and each password that opened it still does

@@ -13,6 +13,7 @@ returns g c =
         configures = z.configures;
         left = z.left;
         emptied = z.emptied;
+        versions = z.versions;
         goes_on = z.goes_on;
         forgeries = z.forgeries;
         lies = z.lies;
