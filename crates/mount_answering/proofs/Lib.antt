@@ -1,4 +1,4 @@
-mod Syncing
+mod Synced
 mod Lines
 mod Asking
 mod Versions

@@ -22,8 +22,8 @@ use Rattle.mount_answering.proofs.Lines.{calm, configures_loaded, fail_each, fit
 use Rattle.mount_answering.proofs.Loads.{only_asked, only_loaded}
 use Rattle.mount_answering.proofs.Versions.{raised_stays, raised_on, few_stays, few_on, few_changed, always_inside, on_inside, spent_before}
 use Rattle.mount_answering.proofs.Quiet.{fail_directory, fail_directory_rose}
-use Rattle.mount_answering.proofs.calls.ask.Given.{Over}
-use Rattle.mount_answering.proofs.calls.ask.Goals as goal
+use Rattle.mount_answering.proofs.answering.ask.Given.{Over}
+use Rattle.mount_answering.proofs.answering.ask.Goals as goal
 
 abbrev CoreOf : Over → Type 0
 CoreOf g = Core g.row.S.Denot g.row.K.Denot

@@ -2,8 +2,8 @@ use Rattle.std.proofs.Common.{◌≡◌, ℕ, List, false, refl, sym, ◌∙◌,
 use Rattle.tree_commands.specs.Showing.{ShowsFiles}
 use Rattle.tree_commands.proofs.Shows.{files_same}
 use Rattle.mount_answering.proofs.Lines.{map_ok}
-use Rattle.mount_answering.proofs.Syncing.{synced, config_synced, saved_ok}
-use Rattle.mount_answering.proofs.calls.sync.Goals as goal
+use Rattle.mount_answering.proofs.Synced.{synced, config_synced, saved_ok}
+use Rattle.mount_answering.proofs.syncing.sync.Goals as goal
 
 pub returns-clause-stands : goal.returns-clause-stands
 returns-clause-stands g c kept now s =

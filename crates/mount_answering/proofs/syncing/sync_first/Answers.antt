@@ -3,9 +3,9 @@ use Rattle.outside.specs.Going.{goes_on_same}
 use Rattle.tree_commands.specs.Showing.{ShowsFiles}
 use Rattle.mount_core.proofs.Moving.{stays_same}
 use Rattle.mount_answering.proofs.Lines.{map_ok, true_is_false}
-use Rattle.mount_answering.proofs.Syncing.{config_roomed, roomed}
-use Rattle.mount_answering.proofs.calls.sync_first.Goals as goal
-use Rattle.mount_answering.proofs.calls.sync_first.Goals.{then-is_sync-via-then-is_sync, then-is_sync-via-else-is_sync+then-buffered-ge-MOST_WAITING}
+use Rattle.mount_answering.proofs.Synced.{config_roomed, roomed}
+use Rattle.mount_answering.proofs.syncing.sync_first.Goals as goal
+use Rattle.mount_answering.proofs.syncing.sync_first.Goals.{then-is_sync-via-then-is_sync, then-is_sync-via-else-is_sync+then-buffered-ge-MOST_WAITING}
 
 pub returns-then-is_sync : goal.returns-then-is_sync
 returns-then-is_sync g c =

@@ -3,8 +3,8 @@ use Rattle.std.specs.declared.result.Result.TheVariants.{Ok}
 use Rattle.tree_commands.specs.Showing.{ShowsFiles}
 use Rattle.mount_answering.proofs.Lines.{closed_along, config_closed_along}
 use Rattle.mount_answering.proofs.Quiet.{directory_along, state_along}
-use Rattle.mount_answering.proofs.calls.close.Goals as goal
-use Rattle.mount_answering.proofs.calls.close.Goals.{then-core, else-core}
+use Rattle.mount_answering.proofs.syncing.close.Goals as goal
+use Rattle.mount_answering.proofs.syncing.close.Goals.{then-core, else-core}
 
 pub returns-clause-stands : goal.returns-clause-stands
 returns-clause-stands g c kept now v s =

@@ -7,8 +7,8 @@ use Rattle.tree_commands.proofs.Shows.{files_same}
 use Rattle.mount_core.specs.declared.body.Core.{Core}
 use Rattle.mount_answering.proofs.Lines.{replaced, stands_loaded, stands_waiting, stays_on, config_waiting, configures_loaded, whole_loaded}
 use Rattle.mount_core.proofs.Quiet.{memory_directory, memory_state, unless_directory}
-use Rattle.mount_answering.proofs.calls.replace_config.Given.{Over}
-use Rattle.mount_answering.proofs.calls.replace_config.Goals as goal
+use Rattle.mount_answering.proofs.syncing.replace_config.Given.{Over}
+use Rattle.mount_answering.proofs.syncing.replace_config.Goals as goal
 
 abbrev CoreOf : Over → Type 0
 CoreOf g = Core g.row.S.Denot g.row.K.Denot

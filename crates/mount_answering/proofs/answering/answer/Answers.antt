@@ -22,8 +22,8 @@ use Rattle.mount_core.proofs.Moving.{stays_same}
 use Rattle.mount_answering.proofs.Lines.{found_calm, found_map, answered_err, answered_synced, answered_performed, answered_violation, stays_on, sync_each, sync_reads, no_violation, spent_on, config_marked, config_calm, marked_or, true_is_false}
 use Rattle.mount_answering.proofs.Versions.{Raised, raised_same, raised_stays, raised_on, few_stays, few_on, always_inside, on_inside, spent_before}
 use Rattle.mount_answering.proofs.Quiet.{sync_directory, sync_state, sync_directory_rose, sync_state_rose}
-use Rattle.mount_answering.proofs.calls.answer.Given.{Over}
-use Rattle.mount_answering.proofs.calls.answer.Goals as goal
+use Rattle.mount_answering.proofs.answering.answer.Given.{Over}
+use Rattle.mount_answering.proofs.answering.answer.Goals as goal
 
 abbrev CoreOf : Over → Type 0
 CoreOf g = Core g.row.S.Denot g.row.K.Denot
