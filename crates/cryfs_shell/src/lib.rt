@@ -2,8 +2,6 @@
 #![tactic(auto)]
 
 mod program;
-#[cfg(test)]
-mod tests;
 
 pub use program::run;
 pub use run_status::{Ended, Status};

@@ -12,6 +12,8 @@ mod sessions;
 #[cfg(test)]
 mod setup;
 #[cfg(test)]
+mod trials;
+#[cfg(test)]
 mod versions;
 #[cfg(test)]
 mod violations;
