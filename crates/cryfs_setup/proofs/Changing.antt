@@ -27,9 +27,10 @@ use Rattle.run_status.specs.declared.ended.Ended.{Ended}
 use Rattle.run_status.specs.declared.status.Status.{Status}
 use Rattle.run_status.specs.declared.status.Status.TheVariants.{DirectoryFault, StateFault}
 use Rattle.run_status.specs.Statuses.{first_of}
-use Rattle.session_runs.specs.Answering.{calls_of, kept_of, vault_faults, keeper_faults}
+use Rattle.session_runs.specs.Answering.{calls_of, kept_of, vault_faults, keeper_faults, version_of}
 use Rattle.session_runs.specs.Runs.{outside_of, directory_fault, state_fault}
 use Rattle.session_runs.specs.Turns.{Begun, Closing}
+use Rattle.session_runs.proofs.Rising.{rose_since}
 use Rattle.session_saver.specs.Saving.{KeptConfigures, UnlessDirectory, UnlessState}
 use Rattle.session_saver.specs.declared.saver.SyncError.{SyncError}
 use Rattle.session_saver.specs.declared.saver.SyncError.TheVariants as sync_error
@@ -170,9 +171,9 @@ module _ {V : Type 0} {K : Type 0} (trace : V → Option (List Call)) (faults : 
       → ((may : List (List ℕ)) (now : List ℕ) → TowerConfigures trace G first.core may now → Replaced (tower_holdings trace) (tower_durables trace) records G left.core may now file change)
       → IsOnly new file (opened (settings_of first.opened.config) first.opened.params) ⊎ (IsErrOf change sync_error.Memory × (left ≡ first))
       → (is_some (calls_of trace first) ≡ true → OnOk change (KeptConfigures records (kept_of G left) (calls_of trace left) file))
-      → OnOk change (HasEmptyList (kept_of G left))
+      → OnOk change (HasEmptyList (kept_of G left)) → ((id : List ℕ) → version_of trace left id ≡ version_of trace first id)
       → UnlessDirectory change (vault_faults trace faults left ≡ vault_faults trace faults first) → UnlessState change (keeper_faults G left ≡ keeper_faults G first) → IsChanged trace faults G old new chance left_chance output vault keeper ended
-  changed status output es r drawn synced configures opens holds empty vault_quiet keeper_quiet = record {
+  changed status output es r drawn synced configures opens holds empty versions vault_quiet keeper_quiet = record {
     o = first.opened;
     kept = kept_of G first;
     calls = calls_of trace first;
@@ -190,6 +191,7 @@ module _ {V : Type 0} {K : Type 0} (trace : V → Option (List Call)) (faults : 
     opens = λ told. opens_after change unchanged (holds (told_on (trace vault) (calls_of trace first) (attached_on old (G.kept keeper) (kept_of G first) (trace vault) (calls_of trace first) first.opened b.attached) told)) opens;
     stays = λ was told k. let before = b.configures was told k in stays was change unchanged before (configures (was ∷ []) was before) opens;
     emptied = emptied change unchanged empty;
+    versions = rose_since (G.kept keeper) (G.kept ended.keeper) b.attached.state b.attached.list b.attached.loaded (version_of trace first) (version_of trace left) [] b.versions (λ id. omega (arith, versions id)) closing (z.versions fresh);
     config = config_is trace faults G old vault keeper first left closing ended.vault ended.keeper b z fresh same on (stands synced);
     unmarked = unmarked;
     quiet = quiet trace faults G old vault keeper first left closing ended.vault ended.keeper b z fresh same on (stands synced) unmarked;

@@ -1,11 +1,17 @@
 -- Versions that rise by at most one at each answer, whatever they are versions of.
-use Rattle.std.proofs.Common.{◌≡◌, ◌≤◌, ◌+◌, ◌^◌, ℕ, List, [], ◌∷◌, length, sym, subst, inl, inr, arith}
+use Rattle.std.proofs.Common.{◌≡◌, ◌≤◌, ◌+◌, ◌^◌, ◌∙◌, ℕ, List, [], ◌∷◌, length, sym, subst, inl, inr, arith}
+use Rattle.std.specs.Prelude.{Result, OnOk}
+use Rattle.std.specs.declared.option.Option.{Option}
+use Rattle.std.specs.declared.result.Result.TheVariants.{Ok, Err}
 use Rattle.fs_model.specs.declared.error.FsError.{FsError}
+use Rattle.local_state.specs.Record.{PlainState}
+use Rattle.outside.specs.Changes.{FileChanges}
+use Rattle.mount_tower.specs.Opening.{IsLoaded, AreKnown, KeepsVersions}
 use Rattle.answers.specs.declared.answer.Answer.{Answer}
 use Rattle.answers.specs.declared.answer.Answer.TheVariants.{Reply as Replied, Memory, Spent, FaultDirectory, FaultState, Violation, Refused}
 use Rattle.answers.specs.Sessions.{Exchange}
 use Rattle.mount_core.specs.Answers.{OnSpent}
-use Rattle.session_runs.specs.Causes.{IsBadLineAnswer, AreSpent}
+use Rattle.session_runs.specs.Causes.{IsBadLineAnswer, AreSpent, RoseSince}
 
 -- of a weaker cause
 pub on_spent : (answer : Answer) (cause weaker : Type 0) → (cause → weaker) → OnSpent answer cause → OnSpent answer weaker
@@ -34,3 +40,15 @@ module _ (first : List ℕ → ℕ) (e : Exchange) (es : List Exchange) (mid : L
 pub spent_of : (a b : List ℕ → ℕ) → ((id : List ℕ) → a id ≡ b id) → (es : List Exchange) → AreSpent a es → AreSpent b es
 spent_of a b same [] s = tt
 spent_of a b same (e ∷ es) s = (on_spent e.answer _ _ (λ c. (c.0, omega (arith, same c.0, c.1))) s.0, spent_of a b same es s.1)
+
+-- from the record at the beginning to the one that closing kept
+pub rose_since : {T E : Type 0} (before after : Option (List ℕ)) (state : PlainState) (list : FileChanges) → IsLoaded before state list → (first last : List ℕ → ℕ) (es : List Exchange) → AreKnown before first
+    → ((id : List ℕ) → last id ≤ first id + length es) → (closing : Result T E) → OnOk closing (KeepsVersions after last) → OnOk closing (RoseSince before after es)
+rose_since before after state list l first last es begins rose (Ok x) keeps = (
+  last,
+  keeps,
+  λ old known id.
+      let same = begins state list l id ∙ sym (known state list l id) in
+      omega (arith, same, rose id),
+)
+rose_since before after state list l first last es begins rose (Err x) keeps = tt

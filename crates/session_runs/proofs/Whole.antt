@@ -30,8 +30,6 @@ use Rattle.mount.specs.Mounts.{IsReady, MountClosed}
 use Rattle.mount.specs.Representing.{Represents}
 use Rattle.mount.specs.Tower.{TowerStands}
 use Rattle.mount_tower.specs.Tower.{tower_holdings, tower_durables}
-use Rattle.mount_tower.specs.Opening.{KeepsVersions}
-use Rattle.session_runs.specs.Causes.{RoseSince}
 use Rattle.local_state.specs.Record.{PlainState}
 use Rattle.mount_tower.specs.Unforged.{EachConfig}
 use Rattle.mount_tower.proofs.Reading.{only_unforged}
@@ -45,7 +43,7 @@ use Rattle.answers.specs.Hosts.{Ran}
 use Rattle.session_runs.proofs.Joining.{true_is_false, latest_kept}
 use Rattle.session_runs.specs.Resting.{AreIdle, OnlyGot}
 use Rattle.session_runs.proofs.Still.{loaded_got}
-use Rattle.session_runs.proofs.Rising.{spent_of}
+use Rattle.session_runs.proofs.Rising.{spent_of, rose_since}
 use Rattle.session_runs.proofs.Passes.{passed, refusing}
 
 -- ---- without a violation no answer is refused
@@ -214,17 +212,6 @@ module _ {V : Type 0} {K : Type 0} (shows : Showing) (trace : V → Option (List
         let l = z.left (inr r.changed) in
         (l.0, ap G.kept (l.2 ∙ r.keeper), subst (λ (v : V). OnlyGot (calls_of trace opened_) (trace v)) (sym l.1) (loaded_got shows trace faults G now (store_of opened_) (store_of left) r.loaded))
 
-    versions_after : (result : Result Unit SyncError) → OnOk result (KeepsVersions After.kept (version_of trace left)) → OnOk result (RoseSince Before.kept After.kept es)
-    versions_after (Ok u) k = (
-      version_of trace left,
-      k,
-      λ old known id.
-          let a = b.attached in
-          let same = b.versions a.state a.list a.loaded id ∙ sym (known a.state a.list a.loaded id) in
-          omega (arith, same, p.rose id),
-    )
-    versions_after (Err e) k = tt
-
     pub session_run : IsSessionRun shows now password Before After left.core.violated closing es
     session_run = record {
       attached = record {
@@ -246,7 +233,7 @@ module _ {V : Type 0} {K : Type 0} (shows : Showing) (trace : V → Option (List
       directory_quiet = directory_still closing (all_directory_faults es) _ _ _ _ b.vault_quiet p.vault_quiet z.vault_quiet;
       state_quiet = λ v. state_still closing (all_state_faults es) _ _ _ _ b.keeper_quiet (p.keeper_quiet v) z.keeper_quiet;
       emptied = λ v. z.emptied (p.flag ∙ v);
-      versions = λ v. versions_after closing (z.versions (p.flag ∙ v));
+      versions = λ v. rose_since Before.kept After.kept b.attached.state b.attached.list b.attached.loaded (version_of trace opened_) (version_of trace left) es b.versions p.rose closing (z.versions (p.flag ∙ v));
       configures = kept_file;
       opens = λ other c told o. (o.0, o.1, kept_file o.0 told o.2, o.3);
       founded = founded;
