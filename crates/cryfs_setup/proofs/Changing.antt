@@ -30,7 +30,7 @@ use Rattle.run_status.specs.Statuses.{first_of}
 use Rattle.session_runs.specs.Answering.{calls_of, kept_of, vault_faults, keeper_faults, version_of}
 use Rattle.session_runs.specs.Runs.{outside_of, directory_fault, state_fault}
 use Rattle.session_runs.specs.Turns.{Begun, Closing}
-use Rattle.session_runs.proofs.Rising.{rose_since}
+use Rattle.session_runs.proofs.Rising.{versions_since}
 use Rattle.session_saver.specs.Saving.{KeptConfigures, UnlessDirectory, UnlessState}
 use Rattle.session_saver.specs.declared.saver.SyncError.{SyncError}
 use Rattle.session_saver.specs.declared.saver.SyncError.TheVariants as sync_error
@@ -191,7 +191,7 @@ module _ {V : Type 0} {K : Type 0} (trace : V → Option (List Call)) (faults : 
     opens = λ told. opens_after change unchanged (holds (told_on (trace vault) (calls_of trace first) (attached_on old (G.kept keeper) (kept_of G first) (trace vault) (calls_of trace first) first.opened b.attached) told)) opens;
     stays = λ was told k. let before = b.configures was told k in stays was change unchanged before (configures (was ∷ []) was before) opens;
     emptied = emptied change unchanged empty;
-    versions = rose_since (G.kept keeper) (G.kept ended.keeper) b.attached.state b.attached.list b.attached.loaded (version_of trace first) (version_of trace left) [] b.versions (λ id. omega (arith, versions id)) closing (z.versions fresh);
+    versions = versions_since (G.kept keeper) (G.kept ended.keeper) b.attached.state b.attached.list b.attached.loaded (version_of trace first) (version_of trace left) [] b.versions (λ id. omega (arith, versions id)) closing (z.versions fresh);
     config = config_is trace faults G old vault keeper first left closing ended.vault ended.keeper b z fresh same on (stands synced);
     unmarked = unmarked;
     quiet = quiet trace faults G old vault keeper first left closing ended.vault ended.keeper b z fresh same on (stands synced) unmarked;

@@ -1,4 +1,4 @@
 mod Following
 pub mod Configuration
 mod Honest
-mod Foreign
+mod Refused

@@ -6,6 +6,7 @@ use Rattle.block_id.specs.declared.id.BlockId.{BlockId}
 use Rattle.answers.specs.Sessions.{Exchange, IsSession, IsKeptPoint, latest, violated}
 use Rattle.config_file.specs.ConfigOf.{ConfigOf, locked}
 use Rattle.config_file.specs.Settings.{Settings}
+use Rattle.config_file.specs.declared.error.ConfigError.TheVariants as config_error
 use Rattle.fs_model.specs.Instant.{Instant}
 use Rattle.fs_model.specs.Tree.{Tree, empty_tree}
 use Rattle.aes_gcm.specs.Gcm.{opened_of}
@@ -21,7 +22,8 @@ use Rattle.tree_commands.specs.Performing.{Showing}
 use Rattle.mount_core.specs.Standing.{IsKeptMarked}
 use Rattle.mount.specs.Making.{Created}
 use Rattle.mount.specs.Opening.{AttachCause}
-use Rattle.mount_tower.specs.declared.error.OpenError.TheVariants.{Mismatch}
+use Rattle.mount_tower.specs.declared.error.OpenError.{OpenError}
+use Rattle.mount_tower.specs.declared.error.OpenError.TheVariants.{Mismatch, NoConfig, Config as OfConfig}
 use Rattle.mount_tower.specs.Unforged.{IsOnlyConfig, IsUnforgedConfig}
 use Rattle.session_runs.specs.Causes.{AreBuilt}
 use Rattle.session_runs.specs.Runs.{Outside, OutsideStandsFor, PasswordOpens, forgeries, lies, AreCalm, IsSessionRun, IsQuietRun}
@@ -125,10 +127,19 @@ abbrev pub RunsComposeFromCreate : Showing → Type 0
 RunsComposeFromCreate shows = (c : Settings) (file : List ℕ) (kept : Option (List ℕ)) (id : BlockId) (start : Outside) (runs : List Run) → Created shows c file kept start.kept start.calls (Ok id) → AreRuns shows c start runs
     → (trees : List Tree) × Follow shows c empty_tree runs trees × EndsWith shows c empty_tree start runs trees
 
--- where opening refused what it found as another file system's, nothing that opens was forged, whatever the configuration
-abbrev pub ForeignIsUnforged : Type 0
-ForeignIsUnforged = (password : List ℕ) (kept : Option (List ℕ)) (old new : Option (List Call)) (v0 v1 k0 k1 : ℕ) (kept_id found_id : BlockId) (c : Settings)
-    → AttachCause password kept old new v0 v1 k0 k1 (Mismatch kept_id found_id) → IsUnforgedConfig password kept old new c
+-- opening stopped at what it found for the configuration: nothing, a text that doesn't open, or another file system's
+abbrev pub StopsAtConfig : OpenError → Type 0
+StopsAtConfig (Mismatch kept found) = Unit {0}
+StopsAtConfig NoConfig = Unit {0}
+StopsAtConfig (OfConfig config_error.Form) = Unit {0}
+StopsAtConfig (OfConfig config_error.Locked) = Unit {0}
+StopsAtConfig (OfConfig config_error.Inner) = Unit {0}
+StopsAtConfig error = ⊥
+
+-- where it did, no configuration was forged, whatever the configuration is
+abbrev pub RefusedIsUnforged : Type 0
+RefusedIsUnforged = (password : List ℕ) (kept : Option (List ℕ)) (old new : Option (List Call)) (v0 v1 k0 k1 : ℕ) (error : OpenError) (c : Settings)
+    → StopsAtConfig error → AttachCause password kept old new v0 v1 k0 k1 error → IsUnforgedConfig password kept old new c
 
 -- ---- where nothing lies
 

@@ -1,15 +1,15 @@
 // What one run leaves is what the next one needs.
 ghost use Rattle.tree_commands.specs.Showing.{ShowsFiles};
-ghost use Rattle.histories.specs.Histories.{RunsCompose, RunsComposeFromCreate, ForeignIsUnforged, HonestRunOpensOnly, HonestRunIsUnforged, HonestRunsCompose};
+ghost use Rattle.histories.specs.Histories.{RunsCompose, RunsComposeFromCreate, RefusedIsUnforged, HonestRunOpensOnly, HonestRunIsUnforged, HonestRunsCompose};
 
 /// Whatever the block directory returns, loses or refuses in any list of runs: each answers as a session of the plain tree from
 /// the tree that the one before it left, which is that of a kept point of its own session; or, once there was a violation,
-/// it is refused. The premise is that nothing that opens was forged; it stays met where opening refused another file
-/// system's configuration.
+/// it is refused. The premise is that nothing that opens was forged. Where opening stopped at what it found for the
+/// configuration, as at another file system's, none was.
 pub fn runs_compose()
     ensures all { RunsCompose ShowsFiles }
     ensures from_create { RunsComposeFromCreate ShowsFiles }
-    ensures foreign { ForeignIsUnforged }
+    ensures refused { RefusedIsUnforged }
 {}
 
 /// That premise is met over a directory that gives what was last written: nothing that opens was forged in a run from a kept tree

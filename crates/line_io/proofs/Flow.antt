@@ -4,7 +4,7 @@ use Rattle.std.specs.declared.option.Option.{Option}
 use Rattle.std.specs.declared.option.Option.TheVariants.{None, Some}
 use Rattle.outside.specs.Streams.{appends, WereTaken, Ends}
 use Rattle.line_io.specs.Lines.{lines, IsUnbroken}
-use Rattle.line_io.specs.Reading.{coming, Line, IsInLine}
+use Rattle.line_io.specs.Reading.{coming, Line, TookNoLine}
 use Rattle.line_io.proofs.Cutting.{lines-cut, lines-last}
 
 -- what was given and what is left is all that was left before
@@ -47,7 +47,7 @@ Line-last byte line (Some rest) u e = (
 )
 
 -- where no line ends in what was read ahead and in what was taken
-pub in_line : (ahead taken : List ℕ) (old new : Option (List ℕ)) → WereTaken old new taken → IsUnbroken (ahead ++ taken) → IsInLine (coming ahead old) new
+pub in_line : (ahead taken : List ℕ) (old new : Option (List ℕ)) → WereTaken old new taken → IsUnbroken (ahead ++ taken) → TookNoLine (coming ahead old) new
 in_line ahead taken None new w u = w
 in_line ahead taken (Some old) new w u = (ahead ++ taken, w.0, u, ap (λ r. ahead ++ r) w.1 ∙ sym (append_assoc ahead taken w.0), w.2)
 

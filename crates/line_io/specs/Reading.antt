@@ -27,18 +27,18 @@ total taken None = None
 total taken (Some rest) = Some (taken + length rest)
 
 -- a newline stands behind the line and in front of what follows, or the line is all, and nothing follows
-abbrev pub IsCutAt : List ℕ → List ℕ → List ℕ → Type 0
-IsCutAt bytes line more = (bytes ≡ line ++ 10 ∷ more) ⊎ ((bytes ≡ line) × (more ≡ []))
+abbrev pub EndsLine : List ℕ → List ℕ → List ℕ → Type 0
+EndsLine bytes line more = (bytes ≡ line ++ 10 ∷ more) ⊎ ((bytes ≡ line) × (more ≡ []))
 
 -- this is the next line, and these bytes follow it
 abbrev pub Line : Option (List ℕ) → List ℕ → Option (List ℕ) → Type 0
 Line None line after = after ≡ None
-Line (Some bytes) line after = (more : List ℕ) × (lines bytes ≡ line ∷ lines more) × (after ≡ Some more) × IsCutAt bytes line more
+Line (Some bytes) line after = (more : List ℕ) × (lines bytes ≡ line ∷ lines more) × (after ≡ Some more) × EndsLine bytes line more
 
--- no line ends in what was taken of the bytes, which these are left of
-abbrev pub IsInLine : Option (List ℕ) → Option (List ℕ) → Type 0
-IsInLine None left = left ≡ None
-IsInLine (Some bytes) left = (part : List ℕ) × (rest : List ℕ) × IsUnbroken part × (bytes ≡ part ++ rest) × (left ≡ Some rest)
+-- no line ends in what was taken of the bytes; this is left of them
+abbrev pub TookNoLine : Option (List ℕ) → Option (List ℕ) → Type 0
+TookNoLine None left = left ≡ None
+TookNoLine (Some bytes) left = (part : List ℕ) × (rest : List ℕ) × IsUnbroken part × (bytes ≡ part ++ rest) × (left ≡ Some rest)
 
 -- there is a next line, of which is kept what is shown
 abbrev pub TookLine : Option (List ℕ) → Option (List ℕ) → Option (List ℕ) → Type 0

@@ -7,7 +7,7 @@ use Rattle.fs_model.specs.Instant.{Instant}
 use Rattle.outside.specs.Causes.{RoseBy}
 use Rattle.outside.specs.Streams.{appends, Ends}
 use Rattle.line_io.specs.Lines.{lines}
-use Rattle.line_io.specs.Reading.{Line, IsCutAt, IsInLine, total}
+use Rattle.line_io.specs.Reading.{Line, EndsLine, TookNoLine, total}
 use Rattle.line_io.specs.Streams.{Cut, HasFailed, TookMost}
 use Rattle.line_io.proofs.Flow.{appends-append, appends-nil}
 use Rattle.script_text.specs.Grammar.{command_of}
@@ -21,8 +21,8 @@ use Rattle.session_lines.specs.Asking.{asked_in, said_in, ended_lines, AskedFirs
 use Rattle.session_lines.specs.Driven.{Took, Stopped, Served}
 
 -- a newline stands behind each of the lines and in front of what is left, or nothing is left
-abbrev AreCutAt : List ℕ → List (List ℕ) → List ℕ → Type 0
-AreCutAt bytes some rest = (bytes ≡ ended_lines some ++ rest) ⊎ (rest ≡ [])
+abbrev EndLines : List ℕ → List (List ℕ) → List ℕ → Type 0
+EndLines bytes some rest = (bytes ≡ ended_lines some ++ rest) ⊎ (rest ≡ [])
 
 ended-append : (some : List (List ℕ)) (line more : List ℕ) → ended_lines some ++ (line ++ 10 ∷ more) ≡ ended_lines (some ++ line ∷ []) ++ more
 ended-append [] line more = sym (append_assoc line (10 ∷ []) more)
@@ -30,7 +30,7 @@ ended-append (first ∷ some) line more =
     append_assoc first (10 ∷ ended_lines some) (line ++ 10 ∷ more)
     ∙ (ap (λ r. first ++ 10 ∷ r) (ended-append some line more) ∙ sym (append_assoc first (10 ∷ ended_lines (some ++ line ∷ [])) more))
 
-one_more : (bytes : List ℕ) (some : List (List ℕ)) (rest line more : List ℕ) → AreCutAt bytes some rest → lines rest ≡ line ∷ lines more → IsCutAt rest line more → AreCutAt bytes (some ++ line ∷ []) more
+one_more : (bytes : List ℕ) (some : List (List ℕ)) (rest line more : List ℕ) → EndLines bytes some rest → lines rest ≡ line ∷ lines more → EndsLine rest line more → EndLines bytes (some ++ line ∷ []) more
 one_more bytes some rest line more (inr none) next cut = absurd (cc (sym (ap lines none) ∙ next))
 one_more bytes some rest line more (inl e) next (inl f) = inl (e ∙ (ap (λ r. ended_lines some ++ r) f ∙ ended-append some line more))
 one_more bytes some rest line more (inl e) next (inr f) = inr f.1
@@ -38,7 +38,7 @@ one_more bytes some rest line more (inl e) next (inr f) = inr f.1
 -- the bytes are the lines that were asked and what is left, where they are told
 abbrev pub After : Option (List ℕ) → List Exchange → Option (List ℕ) → Type 0
 After None es left = left ≡ None
-After (Some bytes) es left = (some : List (List ℕ)) × (rest : List ℕ) × (lines bytes ≡ some ++ lines rest) × (asked_in es ≡ map command_of some) × (left ≡ Some rest) × AreCutAt bytes some rest
+After (Some bytes) es left = (some : List (List ℕ)) × (rest : List ℕ) × (lines bytes ≡ some ++ lines rest) × (asked_in es ≡ map command_of some) × (left ≡ Some rest) × EndLines bytes some rest
 
 pub After-none : (all : Option (List ℕ)) → After all [] all
 After-none None = refl
@@ -69,10 +69,10 @@ After-ends (Some bytes) es left a e =
     a.3 ∙ ap (map command_of) (sym whole)
 
 -- where no line ends in what was taken besides
-After-taken : (all : Option (List ℕ)) (es : List Exchange) (left new : Option (List ℕ)) → After all es left → IsInLine left new → AskedTaken all new es
+After-taken : (all : Option (List ℕ)) (es : List Exchange) (left new : Option (List ℕ)) → After all es left → TookNoLine left new → AskedTaken all new es
 After-taken None es left new a i = tt
 After-taken (Some bytes) es left new a i =
-    let m : IsInLine (Some a.1) new = subst (λ (left : Option (List ℕ)). IsInLine left new) a.4 i in
+    let m : TookNoLine (Some a.1) new = subst (λ (left : Option (List ℕ)). TookNoLine left new) a.4 i in
     elim a.5 as (λ _. AskedTaken (Some bytes) new es) [
       | inl cut ↦ inr (
         m.1,

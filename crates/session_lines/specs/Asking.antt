@@ -36,7 +36,7 @@ abbrev pub ended_lines : List (List ℕ) → List ℕ
 ended_lines [] = []
 ended_lines (line ∷ more) = line ++ 10 ∷ ended_lines more
 
--- the lines that ended in what was taken of the bytes were asked, and no other: this is left of them, and what was taken besides is a part of a line
+-- the lines that ended in what was taken of the bytes were asked, and no other; the rest is left, and what was taken besides is a part of one line
 pub record IsAskedUpTo (bytes rest : List ℕ) (es : List Exchange) : Type 0 where
   pub first : List (List ℕ)
   pub part : List ℕ

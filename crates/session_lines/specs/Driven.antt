@@ -3,7 +3,7 @@ use Rattle.std.specs.Prelude.{◌≡◌, ◌⊎◌, ℕ, ◌^◌, List, length}
 use Rattle.std.specs.declared.option.Option.{Option}
 use Rattle.fs_model.specs.Instant.{Instant}
 use Rattle.outside.specs.Streams.{appends, Ends}
-use Rattle.line_io.specs.Reading.{Line, IsInLine}
+use Rattle.line_io.specs.Reading.{Line, TookNoLine}
 use Rattle.line_io.specs.Streams.{Stream, HasFailed, TookMost, Cut}
 use Rattle.script_text.specs.Grammar.{command_of}
 use Rattle.answers.specs.declared.answer.Answer.{Answer}
@@ -27,7 +27,7 @@ pub record IsWholeSession (coming : Option (List ℕ)) (input output : Stream) (
   pub input_quiet : IsUnfailed input
   pub output_quiet : IsUnfailed output
 
--- the input failed after some lines, all that came, whose answers were written
+-- the input failed; all lines that had come were answered, and their answers written
 pub record IsCutInput (taken : ℕ) (coming : Option (List ℕ)) (input output : Stream) (es : List Exchange) : Type 0 where
   pub asked : AskedTaken coming input.new es
   pub written : output.new ≡ appends output.old (said_in es)
@@ -93,5 +93,5 @@ Took M now old new before after text input output = TellsNext M now old new befo
 -- a turn in which the lines ended: none was left, the source failed in the next, or the sink failed in the answer
 abbrev pub Stopped : {H : Type 0} → Hosting H → Instant → H → H → Option (List ℕ) → Option (List ℕ) → ℕ → Stream → Stream → List ℕ → End → Type 0
 Stopped M now old new before after taken input output text Finished = (new ≡ old) × Ends before × Ends input.new × (output.new ≡ output.old) × IsUnfailed input × IsUnfailed output
-Stopped M now old new before after taken input output text InputFault = (new ≡ old) × (output.new ≡ output.old) × (HasFailed input ⊎ (taken ≡ 2 ^ 63)) × IsUnfailed output × IsInLine before input.new
+Stopped M now old new before after taken input output text InputFault = (new ≡ old) × (output.new ≡ output.old) × (HasFailed input ⊎ (taken ≡ 2 ^ 63)) × IsUnfailed output × TookNoLine before input.new
 Stopped M now old new before after taken input output text OutputFault = TellsNext M now old new before after text × Cut output.old output.new text × HasFailed output × IsUnfailed input

@@ -39,5 +39,5 @@ abbrev pub SpentSince : Option (List ℕ) → List Exchange → Type 0
 SpentSince kept es = (version : List ℕ → ℕ) → AreKnown kept version → AreSpent version es
 
 -- a record is kept at the end, and no version in it is higher than in the one at the beginning by more than one for each exchange
-abbrev pub RoseSince : Option (List ℕ) → Option (List ℕ) → List Exchange → Type 0
-RoseSince before after es = (new : List ℕ → ℕ) × KeepsVersions after new × ((old : List ℕ → ℕ) → AreKnown before old → (id : List ℕ) → new id ≤ old id + length es)
+abbrev pub VersionsSince : Option (List ℕ) → Option (List ℕ) → List Exchange → Type 0
+VersionsSince before after es = (new : List ℕ → ℕ) × KeepsVersions after new × ((old : List ℕ → ℕ) → AreKnown before old → (id : List ℕ) → new id ≤ old id + length es)
