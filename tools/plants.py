@@ -3,6 +3,7 @@
 
     tools/plants.py NAME           all of crates/NAME/plants/*.edit
     tools/plants.py NAME EDIT..    those of them that are named, with or without .edit
+    tools/plants.py                tries none, and names those of all crates that can't be laid into the source
 
 An edit has the form of those in must-fail/: `file:`, `old:` and `new:`, a line each. One that the contracts let
 through begins with a line `hole: SENTENCE`, which says what no clause says. Each is tried by `rt must-fail` in a copy
@@ -15,6 +16,7 @@ of the crate and of those that it stands on, so nothing here changes. A line is 
 
 and where that isn't what the edit expects, `NOT AS EXPECTED` with what was. Ends with 1 then, else with 0."""
 
+import glob
 import os
 import re
 import shutil
@@ -33,6 +35,33 @@ TOLD = re.compile(r"must-fail \w+/(\S+)\.edit: (refused|NOT REFUSED|BAD EDIT|NOT
 GOAL = re.compile(r"(?:\./)?(\S+?):\d+:\d+: .*?(?:error: |\()(`[^`]+`)")
 
 
+def unfit(crate, edit):
+    """Why an edit of the crate can't be laid into its source, or None."""
+    path, old, texts = "", "", {}
+    for line in read(edit).splitlines():
+        kind, _, text = line.partition(": ")
+        if kind == "file":
+            path = text
+            texts.setdefault(path, read(f"{crate}/{path}") if os.path.isfile(f"{crate}/{path}") else "")
+        elif kind == "old":
+            old = text
+        elif line.startswith("new:"):
+            count = texts[path].count(old) if path else 0
+            if count != 1:
+                return f"its old text is {count} times in {path or 'no file'}"
+            texts[path] = texts[path].replace(old, text)
+    return None if old else "it has no old text"
+
+
+def name_unfit():
+    """Names each edit of must-fail/ and plants/ that can't be laid into the source, and tells whether there is none."""
+    edits = [it for kind in ("must-fail", "plants") for it in sorted(glob.glob(f"{TOP}/crates/*/{kind}/*.edit"))]
+    found = {it: unfit(os.path.dirname(os.path.dirname(it)), it) for it in edits}
+    lines = [f"{os.path.relpath(it, TOP)}: {why}" for it, why in found.items() if why]
+    print("\n".join([*lines, f"{len(found)} edits, {len(lines)} of them bad"]))
+    return not lines
+
+
 def stands_on(name):
     """The crate and all crates that it stands on."""
     lines, found, left = read_lines(), set(), [name]
@@ -45,13 +74,14 @@ def stands_on(name):
 
 
 def lay_out(room, name, plants):
-    """Makes a repository in the room that has the crate, what it stands on, and the plants where the gate's edits stand."""
+    """Makes a repository that has the crate, what it stands on, and the plants where the edits of the gate stand."""
     os.makedirs(f"{room}/.git")
     for file in ("crates.txt", "HANDLES"):
         shutil.copyfile(f"{TOP}/{file}", f"{room}/{file}")
     crates = stands_on(name)
     with open(f"{room}/crates.txt", "w", encoding="utf-8") as file:
-        file.writelines(f"{line}\n" for line in read(f"{TOP}/crates.txt").splitlines() if re.split(r"[\s:]", line)[0] in crates)
+        lines = read(f"{TOP}/crates.txt").splitlines()
+        file.writelines(f"{line}\n" for line in lines if re.split(r"[\s:]", line)[0] in crates)
     for one in crates:
         for part in ("src", "specs", "proofs"):
             if os.path.isdir(f"{TOP}/crates/{one}/{part}"):
@@ -65,9 +95,8 @@ def try_all(name, plants):
     """What each plant came to, with what `rt` says of it, and all that `rt` told."""
     with tempfile.TemporaryDirectory(prefix="plants-") as room:
         lay_out(room, name, plants)
-        ran = subprocess.run(
-            ["rt", "must-fail", name], cwd=room, stdin=subprocess.DEVNULL, stdout=subprocess.PIPE, stderr=subprocess.STDOUT, text=True, errors="replace"
-        )
+        how = {"stdin": subprocess.DEVNULL, "stdout": subprocess.PIPE, "stderr": subprocess.STDOUT, "errors": "replace"}
+        ran = subprocess.run(["rt", "must-fail", name], cwd=room, **how)
     return {it[1]: (RESULTS[it[2]], it[3]) for it in map(TOLD.search, ran.stdout.splitlines()) if it}, ran.stdout
 
 
@@ -81,17 +110,20 @@ def line_of(plant, result, said, hole):
     """What is printed of a plant, and whether it came to what its edit expects."""
     text = said.partition(": ")[2].strip()
     goal = GOAL.search(text)
-    shown = {"refused": f" by {goal[2]} of {goal[1]}" if goal else f" by {text}", "proved": f" ({hole or 'no hole was expected'})"}.get(result, f": {text}")
+    by = f" by {goal[2]} of {goal[1]}" if goal else f" by {text}"
+    shown = {"refused": by, "proved": f" ({hole or 'no hole was expected'})"}.get(result, f": {text}")
     wanted = "refused" if hole is None else "proved"
     return f"{plant}: {result}{shown}{'' if result == wanted else f'; NOT AS EXPECTED: {wanted}'}", result == wanted
 
 
 def main(words):
-    if not words or words[0].startswith("-"):
+    if not words:
+        return 0 if name_unfit() else 1
+    if words[0].startswith("-"):
         return __doc__
     name, named = words[0], [os.path.basename(it).removesuffix(".edit") for it in words[1:]]
     folder = f"{TOP}/crates/{name}/plants"
-    there = sorted(it.removesuffix(".edit") for it in os.listdir(folder) if it.endswith(".edit")) if os.path.isdir(folder) else []
+    there = sorted(os.path.basename(it).removesuffix(".edit") for it in glob.glob(f"{folder}/*.edit"))
     lacking = [it for it in named if it not in there]
     if lacking or not there:
         return f"plants.py: {folder} has no {' '.join(lacking) or 'edits'}"
