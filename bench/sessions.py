@@ -10,15 +10,14 @@ Processor time is the program's, and that of CryFS's process (not of the system'
 
 Prints a table in markdown: medians of the rounds, the median of the rounds' ratios (below 1 we are ahead), the most memory
 that the process held. CryFS is Debian's package (apt-get install cryfs fuse); without it, a mount or python's `cryptography`
-its columns stay empty, and the line above the table says why. A quick run:
+its columns stay empty, and the line above the table says why. So do they where blocks have another size. A quick run:
 
-    bench/sessions.py --megabytes 1 --random 20 --files 50 --rounds 1 --alone
+    bench/sessions.py --megabytes 1 --random 20 --files 50 --walls 0.003 --rounds 1 --alone
 """
 import argparse
 import hashlib
 import os
 import platform
-import random
 import re
 import resource
 import shutil
@@ -34,22 +33,10 @@ try:
 except ImportError:
     derive_quickly = None
 from runs import BUILT, PASSWORD, QUICK_KEY, Folders, Program, most_memory
+from works import big_works, require, small_works, wall_works
 
-DIRECTORIES = 16
-PIECE = 4096
-OF_SMALL = b"forty bytes that stand in a small file..\n"[:40]
 # CryFS derives its key at each mount, for seconds on a machine at rest and minutes on a busy one.
 WAITS = 900
-
-
-@dataclass
-class Work:
-    """Something to do: its name, the lines that do it, what answers them well, and the same on a mounted folder."""
-
-    name: str
-    lines: list
-    is_well: object
-    on_mount: object
 
 
 @dataclass
@@ -60,101 +47,6 @@ class Took:
     used: float
     peak: int
     changed: tuple = ()
-
-
-def pieces(content, length):
-    return [(at, content[at : at + length]) for at in range(0, len(content), length)]
-
-
-def all_ok(answers):
-    return all(answer == "ok" for answer in answers)
-
-
-def big_works(arguments):
-    """One big file: written, read back, written and read at random places, one byte changed."""
-    chance = random.Random(7)
-    content = bytearray(chance.randbytes(arguments.megabytes << 20))
-    parts, first = pieces(content, arguments.line), [part.hex() for _, part in pieces(content, arguments.line)]
-    places = [chance.randrange(len(content) - PIECE) for _ in range(arguments.random)]
-    changes = [(at, chance.randbytes(PIECE)) for at in places]
-    for at, change in changes:
-        content[at : at + PIECE] = change
-
-    def write(folder, changes):
-        # (a new file is made by its first write)
-        descriptor = os.open(f"{folder}/big", os.O_WRONLY | os.O_CREAT)
-        for at, change in changes:
-            os.pwrite(descriptor, change, at)
-        os.close(descriptor)
-
-    def read(folder, wanted, places, length):
-        descriptor = os.open(f"{folder}/big", os.O_RDONLY)
-        found = [os.pread(descriptor, length, at) for at in places]
-        os.close(descriptor)
-        require(found == wanted, "CryFS read something else than was written")
-
-    size = f"{arguments.megabytes} MiB"
-    starts, last = [at for at, _ in parts], [bytes(content[at : at + PIECE]) for at in places]
-    wholes = [bytes.fromhex(part) for part in first]
-    return [
-        Work(f"{size} written by lines of {arguments.line:,} bytes",
-             ["mkfile /big"] + [f"write /big {at} {part}" for at, part in zip(starts, first)], all_ok,
-             lambda folder: write(folder, list(zip(starts, wholes)))),
-        Work(f"{size} read back", [f"read /big {at} {arguments.line}" for at in starts],
-             lambda answers: answers == [f"data {part}" for part in first],
-             lambda folder: read(folder, wholes, starts, arguments.line)),
-        Work(f"{arguments.random:,} random writes of 4 KiB", [f"write /big {at} {change.hex()}" for at, change in changes], all_ok,
-             lambda folder: write(folder, changes)),
-        Work(f"{arguments.random:,} random reads of 4 KiB", [f"read /big {at} {PIECE}" for at in places],
-             lambda answers: answers == [f"data {part.hex()}" for part in last],
-             lambda folder: read(folder, last, places, PIECE)),
-        Work(f"one byte changed in {size}", [f"write /big {len(content) // 2} 00"], all_ok,
-             lambda folder: write(folder, [(len(content) // 2, b"\0")])),
-    ]
-
-
-def small_works(count):
-    """Many small files in 16 directories: created, listed, stat-ed, read, renamed, deleted."""
-    top, number = f"/s{count}", f"{count:,} files"
-    directories = [f"{top}/d{at}" for at in range(DIRECTORIES)]
-    files = [f"{directories[at % DIRECTORIES]}/f{at}" for at in range(count)]
-    moved = [path.replace("/f", "/g") for path in files]
-
-    def create(folder):
-        for path in [top, *directories]:
-            os.mkdir(folder + path)
-        for path in files:
-            with open(folder + path, "xb") as file:
-                file.write(OF_SMALL)
-
-    def read(folder):
-        for path in files:
-            with open(folder + path, "rb") as file:
-                require(file.read() == OF_SMALL, "CryFS read something else than was written")
-
-    def is_list(answers):
-        return sum(int(answer.split()[1]) for answer in answers) == count
-
-    makes = [line for path in files for line in (f"mkfile {path}", f"write {path} 0 {OF_SMALL.hex()}")]
-    return [
-        Work(f"{number} of 40 bytes created", [f"mkdir {path}" for path in [top, *directories]] + makes, all_ok, create),
-        Work(f"{number}: 16 directories listed", [f"ls {path}" for path in directories], is_list,
-             lambda folder: [os.listdir(folder + path) for path in directories]),
-        Work(f"{number}: each stat-ed", [f"stat {path}" for path in files],
-             lambda answers: all(answer.startswith("stat f 644 0 0 40 ") for answer in answers),
-             lambda folder: [os.stat(folder + path) for path in files]),
-        Work(f"{number}: each read", [f"read {path} 0 100" for path in files],
-             lambda answers: all(answer == f"data {OF_SMALL.hex()}" for answer in answers), read),
-        Work(f"{number}: each renamed", [f"mv {one} {other}" for one, other in zip(files, moved)], all_ok,
-             lambda folder: [os.rename(folder + one, folder + other) for one, other in zip(files, moved)]),
-        Work(f"{number}: each deleted", [f"rm {path}" for path in moved], all_ok,
-             lambda folder: [os.remove(folder + path) for path in moved]),
-    ]
-
-
-def require(holds, why):
-    if not holds:
-        raise SystemExit(why)
 
 
 def sums_in(folder):
@@ -176,27 +68,38 @@ def changed_in(before, after):
 
 class Ours:
     def __init__(self, arguments):
-        self.program, self.folders = Program(arguments.program), Folders(arguments.folder)
-        self.blocks, self.sizes = self.folders.blocks, ["--blocksize", str(arguments.block_size)]
-        self.program.create(self.folders, *self.sizes, *QUICK_KEY)
+        self.program, self.within, self.block_size = Program(arguments.program), arguments.folder, arguments.block_size
+        self.folders = self.make(self.block_size, QUICK_KEY)
+        self.blocks = self.folders.blocks
 
-    def open(self, within):
+    def make(self, block_size, derivation=()):
+        folders = Folders(self.within)
+        self.program.create(folders, "--blocksize", str(block_size), *derivation)
+        return folders
+
+    def open(self):
         """Opening under the default derivation, over a file system of its own."""
-        folders = Folders(within)
-        self.program.create(folders, *self.sizes)
+        folders = self.make(self.block_size)
         before = used()
         ended = self.program.session(folders, [])
         shutil.rmtree(folders.top)
         return Took(ended.seconds, used() - before, ended.peak)
 
+    def does(self, work):
+        return True
+
     def do(self, work):
+        """The work, in a file system of its own where it has a size of blocks of its own."""
+        folders = self.folders if work.block_size is None else self.make(work.block_size, QUICK_KEY)
         before = used()
-        opening = self.program.session(self.folders, [])
+        opening = self.program.session(folders, [])
         between = used()
-        ended = self.program.session(self.folders, work.lines)
+        ended = self.program.session(folders, work.lines)
         answers = ended.answers
         require(ended.status == 0 and len(answers) == len(work.lines) and work.is_well(answers),
                 f"{work.name}: status {ended.status}, {len(answers)} answers to {len(work.lines)} lines, {ended.errors}")
+        if folders is not self.folders:
+            shutil.rmtree(folders.top)
         return Took(max(0.0, ended.seconds - opening.seconds), max(0.0, used() - between - (between - before)), ended.peak)
 
     def end(self):
@@ -259,14 +162,17 @@ class CryFs:
         process.stderr.close()
         return opening, Took(seconds, used() - before - opening.used, peak[0])
 
-    def open(self, within):
+    def open(self):
         """Opening under the default derivation, over a file system of its own."""
         mine = self.folders
-        self.use(copy_of(CryFs.made, within))
+        self.use(copy_of(CryFs.made, self.arguments.folder))
         opening, closing = self.run(lambda folder: None)
         shutil.rmtree(self.folders.top)
         self.use(mine)
         return Took(opening.seconds + closing.seconds, opening.used + closing.used, opening.peak)
+
+    def does(self, work):
+        return work.block_size is None
 
     def do(self, work):
         return self.run(work.on_mount)[1]
@@ -319,14 +225,13 @@ def flush_files(folder, since):
 def one_round(arguments, works, sides):
     """What each work took on each side, one side after the other at each work."""
     made = [side(arguments) for side in sides]
-    found = {"opening alone": [side.open(arguments.folder) for side in made]}
+    found = {"opening alone": [side.open() for side in made]}
     for work in works:
         found[work.name] = []
-        for side in made:
-            is_small = work.name.startswith("one byte")
-            before = sums_in(side.blocks) if is_small else None
+        for side in [side for side in made if side.does(work)]:
+            before = sums_in(side.blocks) if work.counts_files else None
             took = side.do(work)
-            took.changed = changed_in(before, sums_in(side.blocks)) if is_small else ()
+            took.changed = changed_in(before, sums_in(side.blocks)) if work.counts_files else ()
             found[work.name].append(took)
     for side in made:
         side.end()
@@ -383,6 +288,8 @@ def main():
     parser.add_argument("--line", type=int, default=500_000, help="bytes written or read by one line (500000)")
     parser.add_argument("--random", type=int, default=1000, help="writes and reads of 4 KiB at random places (1000)")
     parser.add_argument("--files", default="1000,10000", help="numbers of small files (1000,10000)")
+    parser.add_argument("--walls", type=float, default=0, metavar="SHARE",
+                        help="what grew faster than its size once, too, at this share of its sizes: 1 takes long (0: none)")
     parser.add_argument("--rounds", type=int, default=3)
     parser.add_argument("--flush", action="store_true", help="count the flush of CryFS's files too, as ours are flushed")
     parser.add_argument("--alone", action="store_true", help="without CryFS")
@@ -391,6 +298,7 @@ def main():
     parser.add_argument("--program", default=BUILT)
     arguments = parser.parse_args()
     works = big_works(arguments) + [work for count in arguments.files.split(",") for work in small_works(int(count))]
+    works += wall_works(arguments.walls) if arguments.walls else []
     sides, said = peers(arguments)
     before, rounds = os.getloadavg()[0], []
     for number in range(arguments.rounds):

@@ -1,8 +1,10 @@
 // Changes of which rows the blobs show.
-ghost use Rattle.std.specs.Prelude.{◌≤◌, ◌∷◌};
+ghost use Rattle.std.specs.Prelude.{◌≡◌, ◌≤◌, ◌∷◌};
 ghost use Rattle.std.specs.FinMap.{remove as without_key};
+ghost use Rattle.std.specs.Ordering.{eq_by_cmp};
 ghost use Rattle.outcome.specs.Outcome.{Outcome};
 ghost use Rattle.fs_model.specs.Step.{moved_tree};
+ghost use Rattle.blob_api.specs.BlobMap.{id_cmp};
 ghost use Rattle.dir_entries.specs.Layout.{entry_of};
 ghost use Rattle.forest.specs.Midst.{moved_ids};
 ghost use Rattle.forest.specs.Showing.{IsShownBy};
@@ -35,8 +37,15 @@ pub fn drop_at<B: Blobs, R: Rng>(
     b.remove(alloc, blob)
 }
 
-/// A row and what lies below it go to a path that is free: the entry goes from its directory to another or the
-/// same one, and the header of the blob names that.
+/// Whether two blobs are one.
+pub fn is_same(a: &BlockId, b: &BlockId) -> bool
+    ensures { result ≡ eq_by_cmp id_cmp a.now.0 b.now.0 }
+{
+    a.cmp(b).is_eq()
+}
+
+/// A row and what lies below it go to a path that is free: the entry goes from its directory to another, which the
+/// header of the blob names then, or to the same one, which it names already.
 pub fn relocate<B: Blobs, R: Rng>(
     alloc: Global,
     b: &mut B,
@@ -53,5 +62,8 @@ pub fn relocate<B: Blobs, R: Rng>(
 {
     remove(alloc, b, from, name, chance)?;
     insert(alloc, b, to, entry, chance)?;
+    if is_same(from, to) {
+        return Ok(());
+    }
     set_parent(alloc, b, &entry.blob, to, chance)
 }

@@ -1,29 +1,21 @@
 // A row that moves, to a free name or onto another row.
-ghost use Rattle.std.specs.Prelude.{◌≡◌, ◌≤◌, ◌∷◌, IfOk};
-ghost use Rattle.std.specs.Ordering.{eq_by_cmp};
+ghost use Rattle.std.specs.Prelude.{◌≤◌, ◌∷◌, IfOk};
 ghost use Rattle.outcome.specs.Outcome.{Outcome};
 ghost use Rattle.fs_model.specs.Step.{moved_tree, moved_unless_large};
-ghost use Rattle.blob_api.specs.BlobMap.{id_cmp};
 ghost use Rattle.forest.specs.Midst.{moved_ids};
 ghost use Rattle.forest.specs.Showing.{PerformedBy};
 ghost use Rattle.path_walks.specs.Replies.{IsChangeReply};
 ghost use Rattle.path_rows.specs.Moves.{Heading, Replacing, ids_then};
 
-use crate::changes::{drop_at, relocate};
+use crate::changes::{drop_at, is_same, relocate};
 use blob_api::Blobs;
-use block_id::{BlockId, Fail};
+use block_id::Fail;
 use dir_entries::Entry;
 use fs_blobs::body_len;
 use fs_model::{Attr, ENTRY_SIZE, FsError, MAX_ENTRIES, MAX_MODE, Moment, Name, Reply};
 use path_walks::Place;
 use rand_core::Rng;
 use std::alloc::Global;
-
-fn is_same(a: &BlockId, b: &BlockId) -> bool
-    ensures { result ≡ eq_by_cmp id_cmp a.now.0 b.now.0 }
-{
-    a.cmp(b).is_eq()
-}
 
 /// A row moves to a free path, where the directory there has room for its entry.
 pub fn move_free<B: Blobs, R: Rng>(

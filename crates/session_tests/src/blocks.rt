@@ -140,3 +140,28 @@ fn a_byte_inside_a_long_file_puts_its_leaf_and_its_directory(rt: HostRuntime) ->
     assert_eq!(rt; count_blocks(&after.vault), 11);
     Ok(())
 }
+
+#[test]
+fn a_move_puts_what_moves_only_where_its_directory_is_another(rt: HostRuntime) -> Result<(), Fail> {
+    let alloc = rt.alloc();
+    // The directory `/d` is block 2, what stands in it 3 and 4.
+    let lines = "mkdir /d\nmkdir /d/e\nmkfile /d/f\n";
+    let system = session(
+        alloc,
+        new_system(alloc)?,
+        lines,
+        "ok\nok\nok\n",
+        Status::Done,
+    )?;
+    let (_, of_directory) = count_puts(&system.vault, 2);
+    let (_, of_file) = count_puts(&system.vault, 4);
+    let within = session(alloc, system, "mv /d/f /d/g\n", "ok\n", Status::Done)?;
+    assert_eq!(rt;
+        count_puts(&within.vault, 2).1,
+        of_directory.saturating_add(1)
+    );
+    assert_eq!(rt; count_puts(&within.vault, 4).1, of_file);
+    let across = session(alloc, within, "mv /d/g /d/e/g\n", "ok\n", Status::Done)?;
+    assert_eq!(rt; count_puts(&across.vault, 4).1, of_file.saturating_add(1));
+    Ok(())
+}
