@@ -1,14 +1,21 @@
 -- Lists of changes that are written or set one after another.
-use Rattle.std.proofs.Common.{◌≡◌, ◌⊎◌, inl, inr, ℕ, ◌+◌, ◌-◌, ◌<◌, ◌≤◌, ◌^◌, min, true, false, List, [], ◌∷◌, ◌++◌, length, take, drop, get_or, refl, sym, ◌∙◌, ap, arith}
-use Rattle.std.specs.Prelude.{sum_by}
+use Rattle.std.proofs.Common.{◌≡◌, ◌⊎◌, inl, inr, ℕ, ◌+◌, ◌-◌, ◌<◌, ◌≤◌, ◌^◌, min, true, false, List, [], ◌∷◌, ◌++◌, length, take, drop, get_or, refl, sym, ◌∙◌, ap, subst, arith}
+use Rattle.std.specs.Prelude.{T, cond, sum_by, option_and_then}
+use Rattle.std.specs.Ordering.{is_eq}
+use Rattle.std.specs.FinMap.Entries.{by_order, below_all, is_sorted}
+use Rattle.std.specs.declared.cmp.Ordering.TheVariants.{Less, Equal, Greater}
 use Rattle.std.proofs.Math.Seq.{take-append_seam}
 use Rattle.std.proofs.lemmas.List.{take-append-drop, drop-map, take_more, get_or-map, length-map, length-drop}
-use Rattle.std.proofs.lemmas.List.Sums.{sum_by_more}
+use Rattle.std.proofs.lemmas.List.Sums.{sum_by-cons, sum_by_more}
 use Rattle.std.specs.declared.option.Option.{Option}
+use Rattle.std.specs.declared.option.Option.TheVariants.{Some}
+use Rattle.block_id.proofs.Conditions.{left, right}
 use Rattle.outside.specs.declared.change.Pending.{Pending}
 use Rattle.outside.specs.Trace.{At, Call, adds}
-use Rattle.outside.specs.Changes.{FileChanges, set_change, set_changes}
+use Rattle.outside.specs.Names.{at_cmp}
+use Rattle.outside.specs.Changes.{FileChanges, IsIncreasing, change_at, set_change, set_changes}
 use Rattle.outside.specs.View.{at_of, change_of, pending_of, list_of}
+use Rattle.pending_list.proofs.InOrder.{rises_of, none_below}
 use Rattle.pending_list.proofs.Lists.{item_here}
 use Rattle.redo_vault.specs.Redo.{bytes_len, buffered_len}
 use Rattle.outside.specs.Writes.{call_for, after_writes, StopsAt}
@@ -74,3 +81,61 @@ buffered_more ps i p old len new h is so l e =
     sum_by_more (λ c. bytes_len c.1) (list_of ps) i (pending_of p) (within ps i h) ∙ ap (λ c. sum_by (λ d. bytes_len d.1) (take i (list_of ps)) + bytes_len c.1) (entry_here ps i p h is) in
     e ∙ ap (λ x. min (old + x) (2 ^ 64 - 1)) l ∙ sum_more old (sum_by (λ c. bytes_len c.1) (take i (list_of ps))) (bytes_len (change_of p.change)) (2 ^ 64 - 1) so
     ∙ ap (λ x. min x (2 ^ 64 - 1)) (sym more)
+
+-- how many bytes a list puts for a name
+abbrev pub bytes_at : At → FileChanges → ℕ
+bytes_at n list = bytes_len (option_and_then (λ (change : Option (List ℕ)). change) (change_at n list))
+
+abbrev pub sum_of : FileChanges → ℕ
+sum_of list = sum_by (λ (change : At × Option (List ℕ)). bytes_len change.1) list
+
+sum_cons : (e : At × Option (List ℕ)) (es : FileChanges) → sum_of (e ∷ es) ≡ bytes_len e.1 + sum_of es
+sum_cons e es = sum_by-cons (λ (change : At × Option (List ℕ)). bytes_len change.1) e es
+
+-- a list puts at least what it puts for one name
+pub bytes_within : (n : At) (list : FileChanges) → bytes_at n list ≤ sum_of list
+bytes_within n [] = omega arith
+bytes_within n (e ∷ es) =
+    let later = bytes_within n es in
+    let cons = sum_cons e es in
+    let here : bytes_len e.1 ≤ sum_of (e ∷ es) = omega (arith, cons) in
+    let there : bytes_at n es ≤ sum_of (e ∷ es) = omega (arith, cons, later) in
+    elim (at_cmp n e.0) as (λ r. bytes_len (option_and_then (λ (change : Option (List ℕ)). change) (cond (is_eq r) (Some e.1) (change_at n es))) ≤ sum_of (e ∷ es)) [ Less ↦ there | Equal ↦ here | Greater ↦ there ]
+
+-- a change takes the place of the one of its name
+pub sum_set : (n : At) (change : Option (List ℕ)) (list : FileChanges) → T (is_sorted at_cmp list) → sum_of (set_change n change list) + bytes_at n list ≡ sum_of list + bytes_len change
+sum_set n change [] h = omega (arith, sum_cons (n, change) [])
+sum_set n change (e ∷ es) h =
+    elim (at_cmp n e.0) as (λ r. at_cmp n e.0 ≡ r → sum_of (by_order r ((n, change) ∷ e ∷ es) ((e.0, change) ∷ es) (e ∷ set_change n change es))
+    + bytes_len (option_and_then (λ (c : Option (List ℕ)). c) (cond (is_eq r) (Some e.1) (change_at n es))) ≡ sum_of (e ∷ es) + bytes_len change) [
+      | Less ↦ λ p.
+          let none : bytes_at n es ≡ 0 = ap (λ o. bytes_len (option_and_then (λ (c : Option (List ℕ)). c) o)) (none_below n e.0 es p (left (below_all at_cmp e.0 es) (is_sorted at_cmp es) h)) in
+          let whole : sum_of ((n, change) ∷ e ∷ es) + bytes_at n es ≡ sum_of (e ∷ es) + bytes_len change = omega (arith, none, sum_cons (n, change) (e ∷ es)) in
+          whole
+      | Equal ↦ λ p.
+          let whole : sum_of ((e.0, change) ∷ es) + bytes_len e.1 ≡ sum_of (e ∷ es) + bytes_len change = omega (arith, sum_cons (e.0, change) es, sum_cons e es) in
+          whole
+      | Greater ↦ λ p.
+          let later = sum_set n change es (right (below_all at_cmp e.0 es) (is_sorted at_cmp es) h) in
+          let whole : sum_of (e ∷ set_change n change es) + bytes_at n es ≡ sum_of (e ∷ es) + bytes_len change = omega (arith, later, sum_cons e (set_change n change es), sum_cons e es) in
+          whole
+    ] refl
+
+changed_sum : (old new before after : ℕ) (buffered : ℕ) → buffered ≡ min old (2 ^ 64 - 1) → ¬ (buffered ≡ 2 ^ 64 - 1) → before ≤ old → new + before ≡ old + after
+    → min ((buffered - before) + after) (2 ^ 64 - 1) ≡ min new (2 ^ 64 - 1)
+changed_sum old new before after buffered b not le e = omega arith
+
+pub buffered_set : (ps qs : List Pending) (p : Pending) (buffered before after result : ℕ) → IsIncreasing (list_of ps) → list_of qs ≡ set_change (at_of p.name) (change_of p.change) (list_of ps)
+    → buffered ≡ buffered_len (list_of ps) → ¬ (buffered ≡ 2 ^ 64 - 1) → before ≡ bytes_at (at_of p.name) (list_of ps) → after ≡ bytes_len (change_of p.change)
+    → result ≡ min ((buffered - before) + after) (2 ^ 64 - 1) → result ≡ buffered_len (list_of qs)
+buffered_set ps qs p buffered before after result h set sum not b a r =
+    let step : sum_of (list_of qs) + before ≡ sum_of (list_of ps) + after =
+    ap (λ x. sum_of (list_of qs) + x) b ∙ ap (λ xs. sum_of xs + bytes_at (at_of p.name) (list_of ps)) set
+    ∙ sum_set (at_of p.name) (change_of p.change) (list_of ps) (rises_of (list_of ps) h) ∙ ap (λ x. sum_of (list_of ps) + x) (sym a) in
+    let le : before ≤ sum_of (list_of ps) = subst (λ x. x ≤ sum_of (list_of ps)) (sym b) (bytes_within (at_of p.name) (list_of ps)) in
+    r ∙ changed_sum (sum_of (list_of ps)) (sum_of (list_of qs)) before after buffered sum not le step
+
+pub lowers : (ps : List Pending) (p : Pending) (buffered before : ℕ) → buffered ≡ buffered_len (list_of ps) → ¬ (buffered ≡ 2 ^ 64 - 1) → before ≡ bytes_at (at_of p.name) (list_of ps) → before ≤ buffered
+lowers ps p buffered before sum not b =
+    let le : before ≤ sum_of (list_of ps) = subst (λ x. x ≤ sum_of (list_of ps)) (sym b) (bytes_within (at_of p.name) (list_of ps)) in
+    omega (arith, le, sum, not)

@@ -1,10 +1,10 @@
 // The unwritten list over a directory.
-ghost use Rattle.std.specs.Prelude.{◌≡◌, ◌⊎◌, ◌≤◌, ◌<◌, ◌+◌, [], length, vec_len, vec_capacity, drop, true, false, IfOk, IfSome, OnOk, OnErr, IsErrOf};
+ghost use Rattle.std.specs.Prelude.{◌≡◌, ◌⊎◌, ◌≤◌, ◌<◌, ◌+◌, ℕ, List, [], length, option_and_then, vec_len, vec_capacity, drop, true, false, IfOk, IfSome, OnOk, OnErr, IsErrOf};
 ghost use Rattle.std.specs.declared.option.Option.{Option};
 ghost use Rattle.std.specs.declared.option.Option.TheVariants.{None, Some};
 ghost use Rattle.outside.specs.Causes.{GetHasCause};
 ghost use Rattle.outside.specs.Trace.{adds};
-ghost use Rattle.outside.specs.Changes.{FileChanges, IsIncreasing, change_at, set_changes};
+ghost use Rattle.outside.specs.Changes.{FileChanges, IsIncreasing, change_at, set_change, set_changes};
 ghost use Rattle.outside.specs.View.{at_of, bytes_of, change_of, list_of, pending_of};
 ghost use Rattle.redo_vault.specs.Redo.{Gave, bytes_len, buffered_len};
 ghost use Rattle.outside.specs.Writes.{call_for, after_writes, StopsAt};
@@ -13,15 +13,23 @@ use outside::{Change, FileName, GetFail, Memory, Pending, Vault};
 use std::alloc::Global;
 use std::marker::Model;
 
-/// A directory, and its unwritten list by increasing names.
+/// More changes than this that stand in order are set by one pass over the list.
+const FEW: usize = 8;
+
+/// The greatest sum of bytes that is told.
+const MOST: usize = usize::MAX;
+
+/// A directory, its unwritten list by increasing names, and how many bytes the list puts.
 #[derive(Drop)]
 pub struct RedoVault<V> {
     vault: V,
     list: Vec<Pending>,
+    buffered: usize,
 }
 
 impl<V> Model for RedoVault<V> {
-    ghost use Rattle.redo_vault.specs.Redo.{Redo};
+    ghost use Rattle.std.specs.Prelude.{◌≡◌};
+    ghost use Rattle.redo_vault.specs.Redo.{Redo, buffered_len};
     ghost use Rattle.outside.specs.Changes.{IsIncreasing};
     ghost use Rattle.outside.specs.View.{list_of};
 
@@ -29,7 +37,7 @@ impl<V> Model for RedoVault<V> {
 
     ghost view = { λ r. record { vault = r.vault; list = list_of r.list.items } };
 
-    ghost invariant = { λ r. IsIncreasing (list_of r.list.items) };
+    ghost invariant = { λ r. IsIncreasing (list_of r.list.items) × (r.buffered ≡ buffered_len (list_of r.list.items)) };
 }
 
 /// Makes the one call that writes a change.
@@ -67,16 +75,6 @@ fn write_all<V: Vault>(
     (list.len(), Ok(()))
 }
 
-/// Sets the changes, one after another, in a list that has room for them.
-fn set_all(list: &mut Vec<Pending>, changes: Vec<Pending>)
-    requires { vec_len list.old + vec_len changes ≤ vec_capacity list.old }
-    ensures { list_of list.new.items ≡ set_changes (list_of changes.items) (list_of list.old.items) }
-{
-    for change in changes {
-        pending_list::set(list, change);
-    }
-}
-
 /// Drops the first n changes.
 fn drop_front(list: &mut Vec<Pending>, n: usize)
     requires { n ≤ vec_len list.old }
@@ -87,6 +85,7 @@ fn drop_front(list: &mut Vec<Pending>, n: usize)
     list.truncate(left);
 }
 
+/// How many bytes a change puts.
 fn len_of(change: &Change) -> usize
     ensures { result ≡ bytes_len (change_of change.now) }
 {
@@ -96,6 +95,7 @@ fn len_of(change: &Change) -> usize
     }
 }
 
+/// How many bytes the changes put.
 fn sum_of_lens(list: &[Pending]) -> usize
     ensures { result ≡ buffered_len (list_of list.now) }
 {
@@ -106,20 +106,93 @@ fn sum_of_lens(list: &[Pending]) -> usize
     len
 }
 
+/// How many bytes the list puts for this name.
+fn len_at(list: &[Pending], name: &FileName) -> usize
+    requires { IsIncreasing (list_of list.now) }
+    ensures { result ≡ bytes_len (option_and_then (λ (change : Option (List ℕ)). change) (change_at (at_of name.now) (list_of list.now))) }
+{
+    match pending_list::lookup_in_order(list, name) {
+        Some(change) => len_of(change),
+        None => 0,
+    }
+}
+
+/// Sets a change in a list that has room for it and puts so many bytes, and says how many it puts then.
+fn set_one(list: &mut Vec<Pending>, buffered: usize, change: Pending) -> usize
+    requires increasing { IsIncreasing (list_of list.old.items) }
+    requires room { vec_len list.old < vec_capacity list.old }
+    requires buffered { buffered ≡ buffered_len (list_of list.old.items) }
+    ensures items { list_of list.new.items ≡ set_change (at_of change.name) (change_of change.change) (list_of list.old.items) }
+    ensures buffered { result ≡ buffered_len (list_of list.new.items) }
+    ensures len { vec_len list.new ≤ vec_len list.old + 1 }
+    ensures capacity { vec_capacity list.old ≤ vec_capacity list.new }
+{
+    let before = len_at(list, &change.name);
+    let after = len_of(&change.change);
+    pending_list::set_in_order(list, change);
+    if buffered == MOST {
+        sum_of_lens(list)
+    } else {
+        (buffered - before).saturating_add(after)
+    }
+}
+
+/// Sets the changes, one after another, in a list that has room for them and puts so many bytes, and says how many it
+/// puts then.
+fn set_all(list: &mut Vec<Pending>, buffered: usize, changes: Vec<Pending>) -> usize
+    requires increasing { IsIncreasing (list_of list.old.items) }
+    requires room { vec_len list.old + vec_len changes ≤ vec_capacity list.old }
+    requires buffered { buffered ≡ buffered_len (list_of list.old.items) }
+    ensures items { list_of list.new.items ≡ set_changes (list_of changes.items) (list_of list.old.items) }
+    ensures buffered { result ≡ buffered_len (list_of list.new.items) }
+{
+    let mut sum = buffered;
+    for change in changes {
+        sum = set_one(list, sum, change);
+    }
+    sum
+}
+
+/// Sets each of the changes in its place in a list that puts so many bytes, all or none, and says how many it puts
+/// then.
+fn put_changes(
+    list: &mut Vec<Pending>,
+    buffered: usize,
+    changes: Vec<Pending>,
+) -> Result<usize, Memory>
+    requires increasing { IsIncreasing (list_of list.old.items) }
+    requires buffered { buffered ≡ buffered_len (list_of list.old.items) }
+    ensures ok { OnOk result (list_of list.new.items ≡ set_changes (list_of changes.items) (list_of list.old.items)) }
+    ensures err { OnErr result (list_of list.new.items ≡ list_of list.old.items) }
+    ensures buffered { IfOk result (λ sum. sum ≡ buffered_len (list_of list.new.items)) }
+{
+    if changes.len() > FEW && pending_list::is_in_order(&changes) {
+        pending_list::merge(list, changes)?;
+        return Ok(sum_of_lens(list));
+    }
+    list.reserve(changes.len())?;
+    Ok(set_all(list, buffered, changes))
+}
+
 impl<V: Vault> RedoVault<V> {
     /// A directory and a list of changes that stand in order of their names.
     pub fn new(vault: V, list: Vec<Pending>) -> RedoVault<V>
         requires { IsIncreasing (list_of list.items) }
         ensures { result ≡ record { vault = vault; list = list_of list.items } }
     {
-        RedoVault { vault, list }
+        let buffered = sum_of_lens(&list);
+        RedoVault {
+            vault,
+            list,
+            buffered,
+        }
     }
 
     /// The directory, without the unwritten list.
     pub fn into_vault(self) -> V
         ensures { result ≡ self.vault }
     {
-        let RedoVault { vault, list } = self;
+        let RedoVault { vault, list, .. } = self;
         drop(list);
         vault
     }
@@ -148,7 +221,7 @@ impl<V: Vault> RedoVault<V> {
         ensures list { self.new.list ≡ self.old.list }
         ensures cause { GetHasCause (V.faults self.old.vault) (V.faults self.new.vault) result }
     {
-        match pending_list::lookup(&self.list, name) {
+        match pending_list::lookup_in_order(&self.list, name) {
             Some(change) => Ok(pending_list::cut_change(alloc, change, max)?),
             None => self.vault.get(alloc, name, max),
         }
@@ -160,8 +233,7 @@ impl<V: Vault> RedoVault<V> {
         ensures err { OnErr result (self.new.list ≡ self.old.list) }
         ensures vault { self.new.vault ≡ self.old.vault }
     {
-        self.list.reserve(changes.len())?;
-        set_all(&mut self.list, changes);
+        self.buffered = put_changes(&mut self.list, self.buffered, changes)?;
         Ok(())
     }
 
@@ -169,7 +241,7 @@ impl<V: Vault> RedoVault<V> {
     pub fn buffered(&self) -> usize
         ensures { result ≡ buffered_len self.now.list }
     {
-        sum_of_lens(&self.list)
+        self.buffered
     }
 
     /// Writes the unwritten list out, in order. Each change leaves the list as its call answers Ok; the
@@ -183,6 +255,7 @@ impl<V: Vault> RedoVault<V> {
     {
         let (written, outcome) = write_all(alloc, &mut self.vault, &self.list);
         drop_front(&mut self.list, written);
+        self.buffered = sum_of_lens(&self.list);
         outcome
     }
 }
