@@ -1,0 +1,59 @@
+"""What the wrapper tells a person: why it refuses, what a status means, and its help."""
+import os
+import textwrap
+
+HERE = os.path.dirname(os.path.abspath(__file__))
+USAGE = 1
+# What the wrapper ends with where the program wasn't run; the program's own statuses are 0 to 10.
+NOT_RUN = 125
+# What a new file system's owner has to know first.
+STATE_MATTERS = ("Without STATE nothing opens, password or not. Copy it after each run that writes, to another trusted place; "
+                 "an older copy doesn't open newer blocks.")
+
+
+class Refused(Exception):
+    """Why the program isn't run."""
+
+    def __init__(self, why, status=NOT_RUN):
+        super().__init__(why)
+        self.status = status
+
+
+def say(text):
+    """A line to standard error, which may be closed or full."""
+    try:
+        os.write(2, os.fsencode(f"cryfs: {text}\n"))
+    except OSError:
+        pass
+
+
+def read_text(name):
+    with open(f"{HERE}/{name}", encoding="utf-8") as file:
+        return file.read()
+
+
+def status_rows():
+    """The table of statuses: the number, the program's text, the cause, what to do."""
+    lines = [line for line in read_text("statuses.txt").splitlines() if line and not line.startswith("#")]
+    return [tuple(cell.strip() for cell in line.split("|")) for line in lines]
+
+
+def meaning(status, text):
+    """What the table says of a status and the text that the program printed, where it knows both."""
+    for number, known, cause, remedy in status_rows():
+        if number == str(status) and known in ("", text):
+            return f"{cause}. What to do: {remedy}"
+    return None
+
+
+def status_help():
+    """The table as help prints it."""
+    lines = ["Statuses:"]
+    for number, text, cause, remedy in status_rows():
+        row = f"{text + ': ' if text else ''}{cause}. {remedy[:1].upper()}{remedy[1:]}."
+        lines += textwrap.wrap(row, 116, initial_indent=f"    {number:<6}", subsequent_indent=" " * 10)
+    return "\n".join(lines) + "\n"
+
+
+def help_text():
+    return read_text("help.txt") + "Lines:\n" + read_text("lines.txt") + "\n" + status_help()
