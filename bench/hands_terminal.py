@@ -9,11 +9,6 @@ from hands_tree import ANSWERS, Terminal, has, require, same, wait_until
 PROMPT = "cryfs> "
 
 
-def ends(program, status, text):
-    """A program that reads its password line and ends so."""
-    return f"#!/bin/sh\n{program}\nread -r line\necho 'cryfs: {text}' >&2\nexit {status}\n"
-
-
 def create_asks_twice(tree):
     terminal = Terminal(tree.built(), "b", "new", "create")
     terminal.answer("Password: ", "top secret")
@@ -176,7 +171,7 @@ def shell_tells_of_an_output_that_fails(tree):
     terminal.send("ls /\n")
     status, seen = terminal.end()
     same(status, 9, "over a full disk")
-    has(seen, "cryfs: output fault\r\n", "its disk is full")
+    has(seen, "cryfs: output fault\r\n", "its disk is full: run again")
 
 
 def lines_that_a_terminal_cut_are_refused(tree):
@@ -280,16 +275,21 @@ def trial_asks_nothing(tree):
 
 def a_status_is_explained(tree):
     tree.built()
-    rows = [[cell.strip() for cell in line.split("|")] for line in tree.read("wrapper/statuses.txt").splitlines() if not line.startswith("#")]
-    for number, text, cause, remedy in rows:
-        if number not in ("0", "125"):
-            tree.write("crates/cryfs/out/cryfs", ends("", number, text), 0o755)
-            terminal = Terminal(tree, "b", "s", "info")
+    rows = tree.status_rows()
+    for number, text in sorted({row[:2] for row in rows if row[1]}):
+        tree.write("crates/cryfs/out/cryfs", f"#!/bin/sh\nread -r line\necho 'cryfs: {text}' >&2\nexit {number}\n", 0o755)
+        for words in ("info", "passwd"):
+            terminal = Terminal(tree, "b", "s", words)
             terminal.answer("Password: ", "pw")
+            if words == "passwd":
+                terminal.answer("New password: ", "pw")
+                terminal.answer("New password again: ", "pw")
             status, seen = terminal.end()
-            same(status, int(number), text)
-            same(seen.strip().split("\r\n"), [f"cryfs: {text}", f"cryfs: {cause}. What to do: {remedy}"], "what is seen")
-            same(tree.run("b", "s", "info", given=b"pw\n"), (int(number), "", f"cryfs: {text}\n"), "in a pipe")
+            wanted = [f"{row[2]}: {row[3]}" for row in rows if row[:2] == (number, text) and
+                      not row[2].startswith(("`create`", "`passwd`" if words == "info" else "none"))]
+            wanted = [f"cryfs: {'or ' if it else ''}{line}" for it, line in enumerate(wanted)]
+            same((status, seen.strip().split("\r\n")), (int(number), [f"cryfs: {text}", *wanted]), "what is seen")
+        same(tree.run("b", "s", "info", given=b"pw\n"), (int(number), "", f"cryfs: {text}\n"), "in a pipe")
     tree.write("crates/cryfs/out/cryfs", "#!/bin/sh\nexit 0\n", 0o755)
     terminal = Terminal(tree, "b", "s", "info")
     terminal.answer("Password: ", "pw")

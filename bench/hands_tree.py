@@ -126,6 +126,12 @@ class Tree:
         shutil.rmtree(f"{self.top}/s")
         return self
 
+    def status_rows(self):
+        """The table of statuses: the number, the text, the cause, what to do."""
+        lines = [line for line in self.read("wrapper/statuses.txt").splitlines() if not line.startswith("#")]
+        require(len(lines) > 15, "the table is short")
+        return [tuple(cell.strip() for cell in line.split("|")) for line in lines]
+
     def got(self):
         """What the program for terminals was run with, and what it got."""
         return self.read("crates/cryfs/out/got")

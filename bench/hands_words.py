@@ -1,6 +1,7 @@
 """Cases of `./cryfs` in a pipe: words, folders, passwords, streams."""
 import os
 import pty
+import re
 import shutil
 import signal
 
@@ -189,11 +190,12 @@ def a_terminal_that_is_not_ours_is_not_asked(tree):
 
 def using_has_the_table_of_statuses(tree):
     page = open(f"{TOP}/docs/USING.md", encoding="utf-8").read()
-    rows = [[cell.strip() for cell in line.split("|")] for line in tree.read("wrapper/statuses.txt").splitlines() if not line.startswith("#")]
-    same(len(rows) > 15, True, "how many rows")
-    for number, text, cause, remedy in rows:
-        has(page, f"| {number} | {f'`{text}`' if text else ''} | {cause} | {remedy} |\n".replace("|  |", "| |"))
-    same(page.count("\n") <= 200, True, "at most 200 lines")
+    rows = [f"| {number} | {f'`{text}` ' if text else ''}| {cause} | {remedy} |" for number, text, cause, remedy in tree.status_rows()]
+    same([line for line in page.splitlines() if re.match(r"\| \d+ \| (`|\|)", line)], rows, "the rows of the page")
+    require(page.count("\n") <= 200, "more than 200 lines")
+    help_text = " ".join(tree.run("--help")[1].split())
+    for _, text, cause, remedy in tree.status_rows():
+        has(help_text, text, f"{cause}: {remedy}")
 
 
 CASES = [help_is_answered_at_once, words_are_looked_at_first, hands_on_what_a_pipe_gives, new_passwords_are_handed_on_whole,

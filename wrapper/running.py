@@ -87,8 +87,7 @@ def end(status, errors, call):
         os.write(2, said)
     if os.isatty(2):
         text = os.fsdecode(said).strip().rpartition("\n")[2].removeprefix("cryfs: ")
-        why = telling.meaning(status, text) if status else None
-        if why:
+        for why in telling.meanings(status, text, call.command) if status else []:
             say(why)
         if not status and call.command == "create":
             say(telling.STATE_MATTERS)

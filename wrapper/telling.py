@@ -38,20 +38,22 @@ def status_rows():
     return [tuple(cell.strip() for cell in line.split("|")) for line in lines]
 
 
-def meaning(status, text):
-    """What the table says of a status and the text that the program printed, where it knows both."""
-    for number, known, cause, remedy in status_rows():
-        if number == str(status) and known in ("", text):
-            return f"{cause}. What to do: {remedy}"
-    return None
+def meanings(status, text, command):
+    """What the table says of a status and the text that the program printed, in a line for each cause."""
+    rows = [row for row in status_rows() if row[0] == str(status) and row[1] in ("", text)]
+    rows = [row for row in rows if not row[2].startswith("`") or row[2].split("`")[1] in (command, "cryfs.config")]
+    return [f"{'or ' if number else ''}{cause}: {remedy}" for number, (_, _, cause, remedy) in enumerate(rows)]
 
 
 def status_help():
-    """The table as help prints it."""
-    lines = ["Statuses:"]
+    """The table as help prints it: each status, then its causes."""
+    lines, last = ["Statuses, their likely causes, and what to do:"], None
     for number, text, cause, remedy in status_rows():
-        row = f"{text + ': ' if text else ''}{cause}. {remedy[:1].upper()}{remedy[1:]}."
-        lines += textwrap.wrap(row, 116, initial_indent=f"    {number:<6}", subsequent_indent=" " * 10)
+        if (number, text) != last and text:
+            lines.append(f"    {number:<6}{text}")
+        start = " " * 12 if text else f"    {number:<6}"
+        lines += textwrap.wrap(f"{cause}: {remedy}", 116, initial_indent=start, subsequent_indent=" " * 16)
+        last = number, text
     return "\n".join(lines) + "\n"
 
 
