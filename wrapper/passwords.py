@@ -75,7 +75,8 @@ def stop_asking(number, _):
 
 def die_of(number):
     """Ends this process as the signal would have."""
-    signal.signal(number, signal.SIG_DFL)
+    if number != signal.SIGKILL:
+        signal.signal(number, signal.SIG_DFL)
     os.kill(os.getpid(), number)
 
 

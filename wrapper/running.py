@@ -63,7 +63,8 @@ def start(program, words, streams, ignored=()):
 
 def wait(process):
     """The status of a process, negative for a signal."""
-    return os.waitstatus_to_exitcode(os.waitpid(process, 0)[1])
+    status = os.waitpid(process, 0)[1]
+    return -os.WTERMSIG(status) if os.WIFSIGNALED(status) else os.WEXITSTATUS(status)
 
 
 def run_explained(program, call, given):
@@ -86,7 +87,7 @@ def end(status, errors, call):
     if said:
         os.write(2, said)
     if os.isatty(2):
-        text = os.fsdecode(said).strip().rpartition("\n")[2].removeprefix("cryfs: ")
+        text = os.fsdecode(said).strip().rpartition("cryfs: ")[2]
         for why in telling.meanings(status, text, call.command) if status else []:
             say(why)
         if not status and call.command == "create":
