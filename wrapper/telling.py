@@ -1,6 +1,5 @@
 """What the wrapper tells a person: why it refuses, what a status means, and its help."""
 import os
-import textwrap
 
 HERE = os.path.dirname(os.path.abspath(__file__))
 USAGE = 1
@@ -47,6 +46,7 @@ def meanings(status, text, command):
 
 def status_help():
     """The table as help prints it: each status, then its causes."""
+    import textwrap
     lines, last = ["Statuses, their likely causes, and what to do:"], None
     for number, text, cause, remedy in status_rows():
         if (number, text) != last and text:
