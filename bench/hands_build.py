@@ -109,7 +109,8 @@ def a_change_that_is_undone_in_the_midst_is_not_kept(tree):
     source = f"{tree.top}/crates/block_id/src/lib.rt"
     tree.write("slow", "")
     prove = tree.read("tools/prove.py")
-    tree.write("tools/prove.py", prove.replace("def main(words):\n", f"def main(words):\n    open({source!r}, 'w').write('pub fn two() {{}}')\n"))
+    begins = f"def main(words):\n    open({source!r}, 'w').write('pub fn two() {{}}')\n"
+    tree.write("tools/prove.py", prove.replace("def main(words):\n", begins))
     started = tree.start(script=f"{tree.top}/build")
     wait_until(tree.calls, "the build never began")
     tree.write("crates/block_id/src/lib.rt", "pub fn one() {}\n")

@@ -130,7 +130,8 @@ def passwords_come_from_a_file(tree):
                 same((started.returncode, errors), (0, b""), words)
                 same(out, f"words b s {words}\n".encode() + wanted + rest, f"{option} {words}")
     tree.write("pw", "")
-    for option, part in (("--password-file=pw", "gave nothing"), ("--password-file=none", "can't be read"), ("--password-file=s", "can't be read"),
+    for option, part in (("--password-file=pw", "gave nothing"), ("--password-file=none", "can't be read"),
+                         ("--password-file=s", "can't be read"),
                          ("--password-command=exit 3", "ended with 3"), ("--password-command=true", "gave nothing")):
         status, out, errors = tree.run(option, "b", "s", "info")
         same((status, out, errors.count("\n")), (125, "", 1), option)

@@ -51,7 +51,8 @@ def definitions(name):
 def main(names):
     lines = read_lines()
     for name in names or lines:
-        rows = [paragraph(name)] + [f"{what}: {', '.join(its)}" for what, its in (("on", stands_on(name, lines)), ("specs", definitions(name))) if its]
+        listed = {"on": stands_on(name, lines), "specs": definitions(name)}
+        rows = [paragraph(name)] + [f"{what}: {', '.join(its)}" for what, its in listed.items() if its]
         print(name)
         for row in rows:
             print(textwrap.fill(" ".join(row.split()), 112, initial_indent="    ", subsequent_indent="    "))

@@ -34,8 +34,8 @@ def main(names):
         counts = count(text) or [0]
         mean, wide = sum(counts) / len(counts), sum(len(line) > COLUMNS for line in text.splitlines())
         wrong += mean >= MEAN or wide > 0
-        print(f"{os.path.basename(name):<16} {len(text.encode()):>7} bytes {len(counts):>5} sentences, mean {mean:4.1f}, longest {max(counts):>3}; "
-              f"{wide} lines too long")
+        size = f"{os.path.basename(name):<16} {len(text.encode()):>7} bytes {len(counts):>5} sentences"
+        print(f"{size}, mean {mean:4.1f}, longest {max(counts):>3}; {wide} lines too long")
     return 1 if wrong else 0
 
 

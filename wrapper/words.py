@@ -89,10 +89,16 @@ def check_command(words):
         check_create(more)
     if command in ("info", "passwd", "shell") and more:
         raise Refused(f"{command} takes no more words", USAGE)
-    count = more[1:] if command == "trial" and more[:1] == ["generate"] else more
-    if (command == "generate" or more) and command in ("generate", "trial"):
-        if len(count) != 1 or not is_number(count[0], 7) or (command == "trial" and len(more) != 2):
-            raise Refused(f"the words are {'trial, or trial ' if command == 'trial' else ''}generate N, with an N of 1 to 7 digits", USAGE)
+    if command == "generate":
+        check_count(more, "generate N")
+    if command == "trial" and more:
+        check_count(more[1:] if more[0] == "generate" else [], "trial, or trial generate N")
+
+
+def check_count(words, form):
+    """Refuses what isn't one number of so few digits."""
+    if len(words) != 1 or not is_number(words[0], 7):
+        raise Refused(f"the words are {form}, with an N of 1 to 7 digits", USAGE)
 
 
 def check_create(words):
