@@ -213,6 +213,33 @@ def an_interrupt_while_it_opens_ends_the_input(tree):
     has(tree.got(), "closed\n")
 
 
+def a_stop_gives_the_terminal_back(tree):
+    tree.built(ANSWERS)
+    for kind in ("dumb", "xterm"):
+        terminal = Terminal(tree, "--norc", "-i", kind=kind, script="/bin/bash")
+        terminal.send("PS1='ready '; bind 'set enable-bracketed-paste off'; ./cryfs b s shell\n")
+        terminal.answer("Password: ", "pw")
+        terminal.expect(PROMPT)
+        terminal.send("mkdir")
+        time.sleep(0.3)
+        terminal.send("\x1a")
+        terminal.expect("Stopped")
+        terminal.expect("ready ")
+        terminal.send("echo in b''etween\n")
+        terminal.expect("in between\r\n")
+        terminal.send("fg\n")
+        terminal.expect("./cryfs b s shell\r\n")
+        terminal.send((" /a" if kind == "xterm" else "mkdir /a") + "\n")
+        terminal.expect("answer 8\r\n")
+        terminal.expect(PROMPT)
+        require(terminal.shows() == (kind == "dumb"), "how the terminal is left")
+        terminal.send("exit\n")
+        terminal.expect("ready ")
+        terminal.send("exit\n")
+        terminal.end()
+        has(tree.got(), "line mkdir /a\nclosed\n")
+
+
 def a_second_interrupt_stops(tree):
     terminal = shell(tree.built(ANSWERS.replace("sleep 0.2", "sleep 30")))
     terminal.send("\3")
@@ -338,6 +365,6 @@ CASES = [create_asks_twice, create_tells_what_the_record_means, passwd_asks_for_
          nothing_is_asked_where_the_call_is_refused, wrong_typing_is_refused, passwords_stay_out_of_the_environment,
          shell_answers_each_line_as_it_comes, shell_tells_how_to_use_it, shell_edits_lines_and_has_a_history, shell_keeps_prompts_out_of_answers,
          shell_tells_of_an_output_that_fails, lines_that_a_terminal_cut_are_refused, an_interrupt_ends_the_input,
-         an_interrupt_while_it_opens_ends_the_input, a_second_interrupt_stops, other_signals_close_the_session_too,
+         an_interrupt_while_it_opens_ends_the_input, a_stop_gives_the_terminal_back, a_second_interrupt_stops, other_signals_close_the_session_too,
          shell_ends_with_the_program, shell_takes_its_password_from_elsewhere, trial_asks_nothing, a_status_is_explained,
          a_signal_that_ends_the_program_ends_all, signals_put_the_terminal_back]

@@ -146,14 +146,15 @@ class Tree:
 class Terminal:
     """A run of the script whose standard streams are a terminal of its own."""
 
-    def __init__(self, tree, *words, kind="dumb", into=None):
+    def __init__(self, tree, *words, kind="dumb", into=None, script=None):
         self.pid, self.side = pty.fork()
         if not self.pid:
             os.chdir(tree.top)
             signal.signal(signal.SIGPIPE, signal.SIG_DFL)
             if into is not None:
                 os.dup2(into, 1)
-            os.execve(f"{tree.top}/cryfs", ["./cryfs", *words], {**tree.environment(), "TERM": kind})
+            script = script or f"{tree.top}/cryfs"
+            os.execve(script, [script, *words], {**tree.environment(), "TERM": kind})
         self.seen = ""
 
     def expect(self, text):

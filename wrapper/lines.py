@@ -3,6 +3,7 @@ import os
 import select
 import signal
 import sys
+import termios
 
 import running
 import telling
@@ -148,7 +149,25 @@ def edits_lines():
     # (a paste of several lines is several lines)
     readline.parse_and_bind("set enable-bracketed-paste off")
     sys.stdin.reconfigure(encoding="utf-8", errors="surrogateescape")
+    give_back_at_stops(readline.get_line_buffer)
     return True
+
+
+def give_back_at_stops(line):
+    """Has a stop (Ctrl-Z) give the terminal back as it was, and take it again afterwards with the line so far."""
+    before = termios.tcgetattr(0)
+
+    def stop(number, _):
+        edited = termios.tcgetattr(0)
+        termios.tcsetattr(0, termios.TCSADRAIN, before)
+        signal.signal(number, signal.SIG_DFL)
+        os.kill(os.getpid(), number)
+        # Here it goes on.
+        signal.signal(number, stop)
+        termios.tcsetattr(0, termios.TCSADRAIN, edited)
+        os.write(2, os.fsencode(PROMPT + line()))
+
+    signal.signal(signal.SIGTSTP, stop)
 
 
 def read_beside(session):
