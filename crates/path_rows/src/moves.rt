@@ -24,19 +24,19 @@ pub fn move_free<B: Blobs, R: Rng>(
     alloc: Global,
     b: &mut B,
     now: Moment,
-    from: Folder,
+    from: &Folder,
     name: &Name,
     place: Place,
-    to: Folder,
+    to: &Folder,
     to_name: &Name,
     chance: &mut R,
 ) -> Result<Reply, Fail>
     requires intact { B.meanings.intact b.old }
     requires mode { place.attr.mode ≤ MAX_MODE }
-    requires from_mode { from.place.attr.mode ≤ MAX_MODE }
-    requires to_mode { to.place.attr.mode ≤ MAX_MODE }
+    requires from_mode { from.now.place.attr.mode ≤ MAX_MODE }
+    requires to_mode { to.now.place.attr.mode ≤ MAX_MODE }
     ensures variant { IfOk result IsChangeReply }
-    ensures did { Outcome B.meanings (Heading B.holdings b.old now from name.now place to to_name.now) b.old b.new result
+    ensures did { Outcome B.meanings (Heading B.holdings b.old now from.now name.now place to.now to_name.now) b.old b.new result
         (λ n r. PerformedBy B.holdings b.new n.root (moved_unless_large n.tree now (name.now ∷ n.above) (to_name.now ∷ n.below) (moved_tree n.tree now (name.now ∷ n.above) (to_name.now ∷ n.below) n.row)) r
         (ids_then r n.ids (moved_ids n.ids (name.now ∷ n.above) (to_name.now ∷ n.below)))) }
 {
@@ -61,7 +61,7 @@ pub fn move_free<B: Blobs, R: Rng>(
         blob: place.blob,
     };
     relocate(alloc, b, &from.place.blob, name, &to.place.blob, &entry, chance)?;
-    done(touch_both(alloc, b, &from, &to, now, chance))
+    done(touch_both(alloc, b, from, to, now, chance))
 }
 
 /// A row moves onto another one, which goes with its blob.
@@ -69,20 +69,20 @@ pub fn move_onto<B: Blobs, R: Rng>(
     alloc: Global,
     b: &mut B,
     now: Moment,
-    from: Folder,
+    from: &Folder,
     name: &Name,
     place: Place,
-    to: Folder,
+    to: &Folder,
     to_name: &Name,
     replaced: Place,
     chance: &mut R,
 ) -> Result<Reply, Fail>
     requires intact { B.meanings.intact b.old }
     requires mode { place.attr.mode ≤ MAX_MODE }
-    requires from_mode { from.place.attr.mode ≤ MAX_MODE }
-    requires to_mode { to.place.attr.mode ≤ MAX_MODE }
+    requires from_mode { from.now.place.attr.mode ≤ MAX_MODE }
+    requires to_mode { to.now.place.attr.mode ≤ MAX_MODE }
     ensures variant { IfOk result IsChangeReply }
-    ensures did { Outcome B.meanings (Replacing B.holdings b.old now from name.now place to to_name.now replaced) b.old b.new result
+    ensures did { Outcome B.meanings (Replacing B.holdings b.old now from.now name.now place to.now to_name.now replaced) b.old b.new result
         (λ n r. PerformedBy B.holdings b.new n.root (moved_unless_large n.tree now (name.now ∷ n.above) (to_name.now ∷ n.below) (moved_tree n.tree now (name.now ∷ n.above) (to_name.now ∷ n.below) n.row)) r
         (ids_then r n.ids (moved_ids n.ids (name.now ∷ n.above) (to_name.now ∷ n.below)))) }
 {
