@@ -38,7 +38,9 @@ pub fn set_attributes<B: Blobs, R: Rng>(
 {
     match reach(alloc, b, root, names, FsError::Busy) {
         Ok(Reached::Row(dir, name, place)) => {
-            set_found(alloc, b, root, &dir.place, name, &place, change, now, chance)
+            set_found(
+                alloc, b, root, &dir.place, name, &place, change, now, chance,
+            )
         }
         Ok(Reached::Refused(error)) => Ok(Reply::Error(error)),
         Err(fail) => Err(fail),

@@ -41,7 +41,9 @@ pub fn write<B: Blobs, R: Rng>(
 {
     match reach(alloc, b, root, names, FsError::IsDirectory) {
         Ok(Reached::Row(dir, name, place)) => {
-            write_found(alloc, b, root, &dir.place, name, &place, from, bytes, now, chance)
+            write_found(
+                alloc, b, root, &dir.place, name, &place, from, bytes, now, chance,
+            )
         }
         Ok(Reached::Refused(error)) => Ok(Reply::Error(error)),
         Err(fail) => Err(fail),

@@ -76,9 +76,9 @@ module _ {S : Type 0} {H : BlobHoldings S} {a : S} {dir : Folder} (w : Touching 
     touched_then b z e attr is h =
         let row : record { attr = attr; bytes = at_name.row.bytes } ≡ with_moments at_name.row now = ap (λ (x : Attr). record { attr = x; bytes = at_name.row.bytes }) (is ∙ ap (stamped now) (sym at_name.attr)) in
         let set : insert w.tree (z ∷ d) (record { attr = attr; bytes = at_name.row.bytes }) ≡ touched w.tree now p =
-            ap (λ x. insert w.tree (x ∷ d) (record { attr = attr; bytes = at_name.row.bytes })) (sym e)
-            ∙ (ap (insert w.tree (n ∷ d)) row
-            ∙ (sym (touched-set w.tree now (n ∷ d) at_name.row refl at_name.there) ∙ ap (touched w.tree now) (sym split))) in
+        ap (λ x. insert w.tree (x ∷ d) (record { attr = attr; bytes = at_name.row.bytes })) (sym e)
+        ∙ (ap (insert w.tree (n ∷ d)) row
+        ∙ (sym (touched-set w.tree now (n ∷ d) at_name.row refl at_name.there) ∙ ap (touched w.tree now) (sym split))) in
         subst (λ t. IsShownBy H b w.root t w.ids) set h
 
 -- ---- two directories

@@ -168,6 +168,6 @@ module _ {S : Type 0} {H : BlobHoldings S} {a : S} {now : Instant} {from : Folde
   moved_done b small h =
       let is = stepped_by false (le-ltb MAX_ENTRIES (directory_size next w.below) small) in
       let shown : IsShownBy H b w.root last ids_next =
-          subst (λ z. IsShownBy H b w.root (touched (touched next now z) now w.below) ids_next) (sym w.from_names)
-          (subst (λ z. IsShownBy H b w.root (touched (touched next now (upward from.names.now)) now z) ids_next) (sym w.to_names) h) in
+      subst (λ z. IsShownBy H b w.root (touched (touched next now z) now w.below) ids_next) (sym w.from_names)
+      (subst (λ z. IsShownBy H b w.root (touched (touched next now (upward from.names.now)) now z) ids_next) (sym w.to_names) h) in
       record { told = sym (ap (λ (s : Stepped). s.reply) is); shown = subst (λ (s : Stepped). IsShownBy H b w.root s.tree ids_next) (sym is) shown }

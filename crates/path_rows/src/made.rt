@@ -14,9 +14,7 @@ use block_id::{BlockId, Fail};
 use dir_blob::insert;
 use dir_entries::Entry;
 use fs_blobs::{Header, body_len, new_blob};
-use fs_model::{
-    Attr, ENTRY_SIZE, FsError, MAX_ENTRIES, MAX_MODE, MAX_TARGET, Moment, Name, Reply,
-};
+use fs_model::{Attr, ENTRY_SIZE, FsError, MAX_ENTRIES, MAX_MODE, MAX_TARGET, Moment, Name, Reply};
 use path_entries::touch;
 use path_walks::{Folder, done};
 use rand_core::Rng;
@@ -44,7 +42,13 @@ pub fn add_row<B: Blobs, R: Rng>(
         parent: dir.place.blob,
     };
     let blob = new_blob(alloc, b, &header, bytes, chance)?;
-    insert(alloc, b, &dir.place.blob, &Entry { name, attr, blob }, chance)?;
+    insert(
+        alloc,
+        b,
+        &dir.place.blob,
+        &Entry { name, attr, blob },
+        chance,
+    )?;
     Ok(blob)
 }
 

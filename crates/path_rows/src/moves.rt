@@ -60,7 +60,15 @@ pub fn move_free<B: Blobs, R: Rng>(
         attr,
         blob: place.blob,
     };
-    relocate(alloc, b, &from.place.blob, name, &to.place.blob, &entry, chance)?;
+    relocate(
+        alloc,
+        b,
+        &from.place.blob,
+        name,
+        &to.place.blob,
+        &entry,
+        chance,
+    )?;
     done(touch_both(alloc, b, from, to, now, chance))
 }
 

@@ -84,7 +84,9 @@ fn move_found<B: Blobs, R: Rng>(
                             names: to_dirs,
                             place: to,
                         };
-                        move_onto(alloc, b, now, dir, name, place, &folder, to_name, old, chance)
+                        move_onto(
+                            alloc, b, now, dir, name, place, &folder, to_name, old, chance,
+                        )
                     }
                 }
             }
