@@ -1,34 +1,13 @@
 -- A row put into a tree, or taken away, leaves it well formed.
-use Rattle.std.specs.Prelude.{◌≡◌, ℕ, ◌+◌, ◌≤◌, ◌==◌, max, Bool, true, false, cond, List, [], ◌∷◌, ◌++◌, length, is_some, nat_lt, reverse}
-use Rattle.std.specs.List.{All}
-use Rattle.std.proofs.Common.{◌-◌, refl, sym, ◌∙◌, ap, subst, inl, inr, arith, lit≤}
-use Rattle.std.proofs.lemmas.List.{reverse-append, reverse-reverse}
-use Rattle.std.proofs.lemmas.List.Elements.{All-head, All-tail, All-same}
-use Rattle.std.proofs.lemmas.Bool.{cond_both, ltb-false, leb-true}
-use Rattle.std.specs.FinMap.{get, insert, remove, len, empty, get-empty}
+use Rattle.std.specs.Prelude.{◌≡◌, ℕ, ◌+◌, ◌≤◌, true, false, List, [], ◌∷◌, ◌++◌, is_some}
+use Rattle.std.proofs.Common.{sym, ◌∙◌, ap, subst, inl, inr, arith}
+use Rattle.std.specs.FinMap.{get, insert, remove}
 use Rattle.std.specs.declared.option.Option.TheVariants.{None, Some}
-use Rattle.block_id.specs.Contents.{resized, overwritten}
-use Rattle.block_id.proofs.Contents.{length-resized, length-overwritten}
-use Rattle.fs_model.specs.declared.attr.Attr.{Attr}
-use Rattle.fs_model.specs.declared.attr.Kind.{Kind}
-use Rattle.fs_model.specs.declared.attr.Kind.TheVariants.{Directory, File, Link}
-use Rattle.fs_model.specs.declared.attr.TheConstants.{DIRECTORY_MODE, FILE_MODE, LINK_MODE}
-use Rattle.fs_model.specs.declared.limits.TheConstants.{MAX_ENTRIES, MAX_FILE, MAX_MODE, MAX_READ}
-use Rattle.fs_model.specs.declared.error.FsError.TheVariants.{NotEmpty, NotDirectory, TooLarge}
-use Rattle.fs_model.specs.declared.command.Command.{Command}
-use Rattle.fs_model.specs.declared.command.Command.TheVariants as command
-use Rattle.fs_model.specs.Instant.{Instant}
+use Rattle.fs_model.specs.declared.limits.TheConstants.{MAX_ENTRIES}
 use Rattle.fs_model.specs.Names.{IsName}
-use Rattle.fs_model.specs.Fitting.{IsFitting, HoldsNames}
-use Rattle.fs_model.specs.Tree.{Path, Tree, Row, upward, same_path, is_directory, is_folder, children, directory_size, entry_size, FitsKind, IsRooted, IsWithinLimits, IsWellFormed, empty_tree, root_row, path_cmp}
-use Rattle.fs_model.specs.LookUp.{LookedUp, Found, Free, Bad, look}
-use Rattle.fs_model.specs.Move.{CanMove, is_above}
-use Rattle.fs_model.specs.Step.{Stepped, refused, done, by_kind, on_file, unless_root, listed, told, made, new_row, removed_directory, removed_file, has_child, target_read, content_read, is_too_long, with_content, written, truncated, attributes_set, with_mode, with_owner, with_times, moved_tree, moved_unless_large, moved_onto, moved_to, moved_from, step}
-use Rattle.fs_model.proofs.TreeLemmas.{path_split, path_same, get-children, insert_here, insert_apart, remove_here, remove_apart, none_of}
-use Rattle.fs_model.proofs.Lengths.{short_enough}
-use Rattle.fs_model.proofs.LookUpLemmas.{get-found, get-free, IsFree}
-use Rattle.fs_model.proofs.SizeLemmas.{map_size, children-insert, children-insert_apart, children-remove, children-remove_apart, size-insert, size-set, size-remove-le, no_children, no_names, size-empty}
-use Rattle.fs_model.proofs.MovedTree.{moved_well_formed}
+use Rattle.fs_model.specs.Tree.{Path, Tree, Row, is_directory, is_folder, children, directory_size, entry_size, IsRooted, IsWithinLimits, IsWellFormed}
+use Rattle.fs_model.proofs.TreeLemmas.{path_split, get-children, insert_here, insert_apart, remove_here, remove_apart, none_of}
+use Rattle.fs_model.proofs.SizeLemmas.{map_size, children-insert, children-insert_apart, children-remove, children-remove_apart, size-insert, size-set, size-remove-le}
 
 pub rows_insert : (t : Tree) → ((r : Path) (x : Row) → get t r ≡ Some x → IsWithinLimits x) → (p : Path) (row : Row) → IsWithinLimits row
     → (r : Path) (x : Row) → get (insert t p row) r ≡ Some x → IsWithinLimits x

@@ -1,5 +1,5 @@
 -- What touching a directory leaves.
-use Rattle.std.specs.Prelude.{◌≡◌, ℕ, Bool, true, false, cond, List, [], ◌∷◌, is_some}
+use Rattle.std.specs.Prelude.{◌≡◌, ℕ, true, false, List, [], ◌∷◌, is_some}
 use Rattle.std.proofs.Common.{refl, sym, ◌∙◌, ap, inl, inr}
 use Rattle.std.specs.FinMap.{get, insert}
 use Rattle.std.specs.declared.option.Option.{Option}

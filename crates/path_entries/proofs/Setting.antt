@@ -1,5 +1,5 @@
 -- A row that gets other attributes, over blobs.
-use Rattle.std.proofs.Common.{◌≡◌, ℕ, true, List, [], ◌∷◌, length, refl, sym, ◌∙◌, ap, subst}
+use Rattle.std.proofs.Common.{◌≡◌, ℕ, true, List, ◌∷◌, refl, sym, ◌∙◌, ap, subst}
 use Rattle.std.specs.Prelude.{is_some, cond}
 use Rattle.std.specs.FinMap.{get, find, insert, put}
 use Rattle.std.specs.declared.option.Option.TheVariants.{Some}

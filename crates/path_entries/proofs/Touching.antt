@@ -7,14 +7,13 @@ use Rattle.blob_api.specs.BlobMap.{Id, BlobHoldings}
 use Rattle.fs_model.specs.declared.attr.Attr.{Attr}
 use Rattle.fs_model.specs.declared.limits.TheConstants.{MAX_MODE}
 use Rattle.fs_model.specs.Instant.{Instant}
-use Rattle.fs_model.specs.Tree.{Path, Row, upward, is_directory, FitsKind, IsWellFormed}
+use Rattle.fs_model.specs.Tree.{Path, upward, is_directory, FitsKind, IsWellFormed}
 use Rattle.fs_model.specs.Step.{with_moments, touched}
 use Rattle.fs_model.proofs.TreeLemmas.{same_name, name_same, name_split, name_apart}
 use Rattle.fs_model.proofs.PutRows.{insert_found}
 use Rattle.fs_model.proofs.Touches.{touched-apart, touched-set, touched-again}
 use Rattle.forest.specs.Showing.{IsShownBy}
 use Rattle.path_walks.specs.declared.spots.Folder.{Folder}
-use Rattle.path_walks.specs.declared.spots.Place.{Place}
 use Rattle.path_walks.specs.Sights.{IsAt}
 use Rattle.path_entries.specs.Entries.{Setting}
 use Rattle.path_entries.specs.Touching.{Touching, TouchingBoth}
