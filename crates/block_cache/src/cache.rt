@@ -42,7 +42,7 @@ impl<S: Blocks> BlockCache<S> {
         ensures err { IfErr result (λ failed. failed.1 ≡ store) }
     {
         let blocks = NonZeroUsize::new(capacity).unwrap();
-        match LruCache::new(alloc, blocks) {
+        match LruCache::sparse(alloc, blocks) {
             Ok(cached) => Ok(BlockCache { store, cached }),
             Err(_) => Err((Memory, store)),
         }

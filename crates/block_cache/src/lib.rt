@@ -1,5 +1,5 @@
 //! A cache over any store of blocks: the payloads that were loaded last stay in memory, at most a given number of them, and are
-//! answered without a call on the store below. A payload has up to a MiB, so 128 blocks may take 128 MiB.
+//! answered without a call on the store below. Memory is taken as payloads come.
 #![tactic(auto)]
 
 mod cache;

@@ -1,9 +1,11 @@
 -- Parts of a node's text: bytes, the header, the fill, and ids one after the other.
-use Rattle.std.proofs.Common.{◌≡◌, ℕ, zero, suc, ◌+◌, ◌-◌, ◌*◌, ◌/◌, ◌^◌, ◌<◌, ◌≤◌, true, false, eqb, ltb, List, [], ◌∷◌, ◌++◌, length, take, drop, replicate, All, refl, sym, ap, ◌∙◌, append_assoc, arith}
-use Rattle.std.specs.Prelude.{slice_index}
-use Rattle.std.specs.List.{concat}
+use Rattle.std.proofs.Common.{◌≡◌, ℕ, zero, suc, ◌+◌, ◌-◌, ◌*◌, ◌/◌, ◌^◌, ◌<◌, ◌≤◌, true, false, eqb, ltb, bit_or, List, [], ◌∷◌, ◌++◌, length, take, drop, replicate, All, refl, sym, ap, ◌∙◌, append_assoc, arith}
+use Rattle.std.specs.Prelude.{◌&&◌, slice_index}
+use Rattle.std.specs.List.{fold, concat}
 use Rattle.std.specs.Int.{w16, w32, to_le_bytes, from_le_bytes}
-use Rattle.std.proofs.lemmas.Bool.{eqb-true, and_parts, le-ltb}
+use Rattle.std.proofs.lemmas.Bool.{eqb-true, ne_eqb, and_parts, and_left, le-ltb}
+use Rattle.std.proofs.Math.Bool.{and_assoc, and-true}
+use Rattle.std.proofs.lemmas.Nat.{le_or_l}
 use Rattle.std.proofs.lemmas.List.{take_at, drop_at, take-append-drop, length-append, length-take, length-drop, length-replicate, nil_from_length}
 use Rattle.std.proofs.lemmas.List.Elements.{All-nil, All-cons, All-head, All-tail}
 use Rattle.byte_fields.specs.Fields.{IsBytes}
@@ -24,6 +26,16 @@ zeros_are (byte ∷ bytes) e =
 pub zeros_again : (n : ℕ) → is_zeros (replicate n 0) ≡ true
 zeros_again zero = refl
 zeros_again (suc n) = zeros_again n
+
+-- the `or` of two numbers is 0 where both are, and only there
+none_of : (any byte : ℕ) → eqb (bit_or any byte) 0 ≡ (eqb any 0 && eqb byte 0)
+none_of zero byte = refl
+none_of (suc any) byte = ne_eqb _ _ (λ e. absurd (omega (arith, le_or_l (suc any) byte))) ∙ sym (and_left _ (eqb byte 0) (ne_eqb (suc any) 0 (λ e. absurd cc)))
+
+pub none_among : (any : ℕ) (bytes : List ℕ) → eqb (fold bit_or any bytes) 0 ≡ (eqb any 0 && is_zeros bytes)
+none_among any [] = sym (and-true (eqb any 0))
+none_among any (byte ∷ bytes) =
+    none_among (bit_or any byte) bytes ∙ ap (λ none. none && is_zeros bytes) (none_of any byte) ∙ and_assoc (eqb any 0) (eqb byte 0) (is_zeros bytes)
 
 -- a text with zeros up to the end of the payload
 pub filled : (payload front contents body : List ℕ) (fill : ℕ) → payload ≡ front ++ contents → contents ≡ body ++ replicate fill 0

@@ -117,9 +117,14 @@ reads_next body listing rest e after reads found up =
           (next.0, next.1 ∙ sym (append_assoc listing (e ∷ []) next.0), next.2);
     }
 
+-- an entry stands in front of what isn't empty
+pub first_entry : (listing : Listing) (rest : List ℕ) (all back : Listing) → IsListing all → all ≡ listing ++ back → rest ≡ body_of back → 0 < length rest
+    → (e : List ℕ × EntryTarget) × (after : List ℕ) × (entry_at rest ≡ Some (e, after))
+first_entry listing rest all [] is split left some = absurd (omega (arith, ap length left))
+first_entry listing rest all (f ∷ others) is split left some = (f, body_of others, reads_first listing rest f others all is split left)
+
 pub stuck : (listing : Listing) (rest : List ℕ) (all back : Listing) → IsListing all → all ≡ listing ++ back → rest ≡ body_of back → 0 < length rest → entry_at rest ≡ None → ⊥
-stuck listing rest all [] is split left some none = absurd (omega (arith, ap length left))
-stuck listing rest all (f ∷ others) is split left some none = absurd (cc (reads_first listing rest f others all is split left, none))
+stuck listing rest all back is split left some none = absurd (cc ((first_entry listing rest all back is split left some).2, none))
 
 -- what isn't an entry is no entry's text
 pub reads_stuck : (body : List ℕ) (listing : Listing) (rest : List ℕ) → Reads body listing rest → 0 < length rest → entry_at rest ≡ None → (all : Listing) → IsBody body all → ⊥

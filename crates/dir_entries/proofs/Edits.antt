@@ -1,5 +1,5 @@
 -- The body of a directory before and after one entry changes.
-use Rattle.std.specs.Prelude.{◌≡◌, ℕ, ◌+◌, ◌-◌, ◌≤◌, ◌<◌, T, List, [], ◌∷◌, ◌++◌, length, drop, All}
+use Rattle.std.specs.Prelude.{◌≡◌, ℕ, ◌+◌, ◌-◌, ◌≤◌, ◌<◌, T, List, [], ◌∷◌, ◌++◌, length, drop, All, IsSomeAnd, MatchOption}
 use Rattle.std.proofs.Common.{sym, ◌∙◌, ap, subst, append_assoc, arith}
 use Rattle.std.specs.FinMap.{put, is_sorted}
 use Rattle.std.specs.FinMap.Entries.{is_sorted-put, is_sorted-where_key}
@@ -9,6 +9,7 @@ use Rattle.std.specs.declared.option.Option.TheVariants.{None, Some}
 use Rattle.std.specs.Ordering.{eq_by_cmp}
 use Rattle.std.specs.Prelude.{not}
 use Rattle.std.proofs.lemmas.Bool.{and_parts}
+use Rattle.std.proofs.lemmas.Option.{some_pair_parts}
 use Rattle.std.proofs.lemmas.List.{length-append, drop_all, append-nil}
 use Rattle.std.proofs.lemmas.List.Concat.{flat_map-cons}
 use Rattle.std.proofs.lemmas.Grind.{flat_map-append}
@@ -21,10 +22,11 @@ use Rattle.fs_model.specs.Tree.{name_cmp}
 use Rattle.fs_model.proofs.TreeLemmas.{name_total}
 use Rattle.byte_fields.specs.Fields.{IsBytes}
 use Rattle.dir_entries.specs.Layout.{EntryTarget, Listing, attr_text, moment_text, entry_text, body_of, IsEntry, IsInOrder, IsListing, IsBody}
-use Rattle.dir_entries.specs.Reading.{entry_at}
-use Rattle.dir_entries.proofs.EntryCodec.{entry_codec}
-use Rattle.dir_entries.proofs.Bodies.{next_of, stuck, no_more, All-at, after_shorter}
-use Rattle.dir_entries.specs.Places.{without, held, IsPlace}
+use Rattle.dir_entries.specs.Reading.{entry_at, name_at}
+use Rattle.dir_entries.proofs.EntryCodec.{entry_codec, name_takes, name_of_entry}
+use Rattle.dir_entries.proofs.Bodies.{next_of, first_entry, stuck, no_more, All-at}
+use Rattle.dir_entries.specs.declared.place.Located.{Located}
+use Rattle.dir_entries.specs.Places.{target_of, without, held, IsHeld, IsPlace}
 use Rattle.dir_entries.proofs.Past.{IsBelow, IsPast, place_before, place_at, place_end}
 
 -- ---- reading past entries
@@ -44,24 +46,49 @@ pub record Passes (name body rest : List ℕ) : Type 0 where
   pub parts : body ≡ front ++ rest
   pub cuts : (all : Listing) → IsBody body all → Cut name all rest
 
-pub passes_next : (name body rest : List ℕ) (e : List ℕ × EntryTarget) (after : List ℕ) → Passes name body rest → entry_at rest ≡ Some (e, after) → name_cmp name e.0 ≡ Greater → Passes name body after
-passes_next name body rest e after passes found above =
-    let fewer : length after < length rest = after_shorter rest e after passes.bytes found in
-    let took = (entry_codec.takes rest e after passes.bytes found).0 in
+-- what the entry in front of the rest is, where the body has entries
+first_of : (name body rest : List ℕ) → Passes name body rest → 0 < length rest → (all : Listing) → IsBody body all → (e : List ℕ × EntryTarget) × (after : List ℕ) × (entry_at rest ≡ Some (e, after))
+first_of name body rest passes some all is =
+    let cut = passes.cuts all is in
+    first_entry cut.seen rest all cut.back is.entries cut.split cut.text some
+
+-- the name in front is its name
+pub named_so : (name body rest next after : List ℕ) → Passes name body rest → name_at rest ≡ Some (next, after) → (all : Listing) → IsBody body all
+    → (e : List ℕ × EntryTarget) × (entry_at rest ≡ Some (e, after)) × (e.0 ≡ next)
+named_so name body rest next after passes found all is =
+    let took = name_takes rest next after passes.bytes found in
+    let first = first_of name body rest passes (omega (arith, ap length took.1.parts, length-append took.0 after, took.2)) all is in
+    let same = some_pair_parts first.0.0 next first.1 after (sym (name_of_entry rest first.0 first.1 passes.bytes first.2) ∙ found) in
+    (first.0, subst (λ x. entry_at rest ≡ Some (first.0, x)) same.1 first.2, same.0)
+
+pub passes_unnamed : (name body rest : List ℕ) → Passes name body rest → 0 < length rest → name_at rest ≡ None → (all : Listing) → IsBody body all → ⊥
+passes_unnamed name body rest passes some none all is =
+    let first = first_of name body rest passes some all is in
+    absurd (cc (name_of_entry rest first.0 first.1 passes.bytes first.2, none))
+
+pub name_shorter : (rest next after : List ℕ) → IsBytes rest → name_at rest ≡ Some (next, after) → length after < length rest
+name_shorter rest next after fits found =
+    let took = name_takes rest next after fits found in
+    omega (arith, ap length took.1.parts, length-append took.0 after, took.2)
+
+pub passes_next : (name body rest next after : List ℕ) → Passes name body rest → name_at rest ≡ Some (next, after) → name_cmp name next ≡ Greater → Passes name body after
+passes_next name body rest next after passes found above =
+    let took = name_takes rest next after passes.bytes found in
     record {
-      bytes = took.rest_fits;
-      shorter = omega (arith, passes.shorter);
-      front = passes.front ++ entry_text e;
-      parts = passes.parts ∙ (ap (λ x. passes.front ++ x) took.parts ∙ sym (append_assoc passes.front (entry_text e) after));
+      bytes = took.1.rest_fits;
+      shorter = omega (arith, passes.shorter, name_shorter rest next after passes.bytes found);
+      front = passes.front ++ took.0;
+      parts = passes.parts ∙ (ap (λ x. passes.front ++ x) took.1.parts ∙ sym (append_assoc passes.front took.0 after));
       cuts = λ all is.
           let cut = passes.cuts all is in
-          let next = next_of cut.seen rest e after found all cut.back is.entries cut.split cut.text in
+          let own = named_so name body rest next after passes found all is in
+          let others = next_of cut.seen rest own.0 after own.1 all cut.back is.entries cut.split cut.text in
           record {
-            seen = cut.seen ++ e ∷ [];
-            back = next.0;
-            split = next.1 ∙ sym (append_assoc cut.seen (e ∷ []) next.0);
-            text = next.2;
-            past = All-push (IsBelow name) cut.seen e cut.past above;
+            seen = cut.seen ++ own.0 ∷ [];
+            back = others.0;
+            split = others.1 ∙ sym (append_assoc cut.seen (own.0 ∷ []) others.0);
+            text = others.2;
+            past = All-push (IsBelow name) cut.seen own.0 cut.past (ap (name_cmp name) own.2 ∙ above);
           };
     }
 
@@ -114,6 +141,15 @@ found_at name body rest e after passes found eq all is =
     let sorted = part_order cut.seen (e ∷ next.0) (subst IsInOrder next.1 is.entries.order) in
     let text : rest ≡ body_of (e ∷ next.0) = (entry_codec.takes rest e after passes.bytes found).0.parts ∙ (ap (λ x. entry_text e ++ x) next.2 ∙ sym (flat_map-cons entry_text e next.0)) in
     as_place name all _ _ (Some e.1) _ _ _ (place_at name cut.seen e next.0 cut.past sorted eq) next.1 (front_of body rest all cut.seen (e ∷ next.0) is.text next.1 text) (passes_after name body rest e after passes found ∙ next.2)
+
+-- the entry in front has the name
+pub found_held : (name body rest next after : List ℕ) → Passes name body rest → 0 < length rest → name_at rest ≡ Some (next, after) → name_cmp name next ≡ Equal
+    → (result : Option Located) → MatchOption result (entry_at rest ≡ None) (λ p. IsHeld body rest p.front (target_of p.found) p.back)
+    → (all : Listing) → IsBody body all → IsSomeAnd result (λ p. IsPlace name all p.front (target_of p.found) (drop p.back body))
+found_held name body rest next after passes some found eq None none all is = absurd (passes_stuck name body rest passes some none all is)
+found_held name body rest next after passes some found eq (Some p) held all is =
+    let own : held.entry.0 ≡ next = (some_pair_parts held.entry.0 next held.after after (sym (name_of_entry rest held.entry held.after passes.bytes held.reads) ∙ found)).0 in
+    rw (held.starts, held.target, held.ends) (found_at name body rest held.entry held.after passes held.reads (ap (name_cmp name) own ∙ eq) all is)
 
 pub found_end : (name body rest : List ℕ) → Passes name body rest → length rest ≡ 0 → (all : Listing) → IsBody body all → IsPlace name all (length body) None (drop (length body) body)
 found_end name body rest passes none all is =

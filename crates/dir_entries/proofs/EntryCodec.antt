@@ -1,9 +1,10 @@
 -- An entry that is read is the entry that was written.
-use Rattle.std.proofs.Common.{◌≡◌, ℕ, suc, ◌^◌, ◌<◌, true, false, eqb, leb, ltb, List, [], ◌∷◌, ◌++◌, length, get_or, refl, ap, subst, append_assoc, arith}
+use Rattle.std.proofs.Common.{◌≡◌, ℕ, suc, ◌^◌, ◌<◌, true, eqb, leb, ltb, List, [], ◌∷◌, ◌++◌, length, get_or, refl, ap, subst, ◌∙◌, append_assoc, arith}
 use Rattle.std.specs.Prelude.{Some, not, ◌&&◌}
 use Rattle.std.specs.Option.{option_map}
 use Rattle.std.specs.List.{list_any}
 use Rattle.std.specs.Int.{w32, w64, to_le_bytes}
+use Rattle.std.proofs.lemmas.List.{length-append}
 use Rattle.std.proofs.lemmas.Bool.{and_parts, not-true, or_parts, ltb-true, leb-true, lt-ltb, le-leb}
 use Rattle.fs_model.specs.declared.attr.Attr.{Attr}
 use Rattle.fs_model.specs.declared.attr.Kind.{Kind}
@@ -14,9 +15,9 @@ use Rattle.byte_fields.specs.Fields.{IsBytes, front_at, number_at}
 use Rattle.byte_fields.proofs.Fields.{mapped, Takes}
 use Rattle.fs_model.specs.Kinds.{byte_of, kind_at}
 use Rattle.fs_model.proofs.KindBytes.{kind_takes, kind_again}
-use Rattle.dir_entries.specs.Layout.{moment_text, attr_text, entry_text, IsMoment, IsAttr, IsEntry}
-use Rattle.dir_entries.specs.Reading.{where_at, kind_of, text_at, moment_at, Parts, attr_of, access_at, owner_at, times_at, attr_at, entry_at}
-use Rattle.dir_entries.proofs.Fields.{IsCodec, then_codec, where_codec, map_codec, u32_codec, u64_codec, id_codec, text_codec, none_at}
+use Rattle.dir_entries.specs.Layout.{EntryTarget, moment_text, attr_text, entry_text, IsMoment, IsAttr, IsEntry}
+use Rattle.dir_entries.specs.Reading.{then_at, where_at, kind_of, text_at, moment_at, Parts, attr_of, access_at, owner_at, times_at, attr_at, entry_at, name_at}
+use Rattle.dir_entries.proofs.Fields.{IsCodec, then_codec, where_codec, map_codec, u32_codec, u64_codec, front_codec, HasNoZero, text_codec, none_at}
 
 kind_reads : (bytes : List ℕ) (kind : Kind) (rest : List ℕ) → IsBytes bytes → kind_of bytes ≡ Some (kind, rest) → Takes bytes (byte_of kind ∷ []) rest × Unit {0}
 unfolding kind_of
@@ -92,7 +93,7 @@ attr_codec =
     (then_codec access_at _ access_text _ IsAccess _ access_codec (then_codec owner_at times_at owner_text times_text IsOwner AreTimes owner_codec times_codec))
 
 -- a name has no zero
-without_zero : (name : List ℕ) → is_name name ≡ true → (k : ℕ) → k < length name → eqb (get_or name k 0) 0 ≡ false
+without_zero : (name : List ℕ) → is_name name ≡ true → HasNoZero name
 without_zero name is k lt =
     let long = and_parts (ltb 0 (length name)) (leb (length name) MAX_NAME && (not (list_any is_reserved name) && not (is_dots name))) is in
     let short = and_parts (leb (length name) MAX_NAME) (not (list_any is_reserved name) && not (is_dots name)) long.1 in
@@ -106,6 +107,37 @@ pub entry_codec : IsCodec entry_at entry_text IsEntry
 unfolding entry_at entry_text
 entry_codec =
     map_codec (λ p. (p.1.0, record { attr = p.0; blob = p.1.1 })) (λ e. (e.1.attr, (e.0, e.1.blob))) _ _ entry_text _ IsEntry (λ e. refl) same_entry
-    (λ p is. record { name = is.1.0; attr = is.0; blob = is.1.1 })
-    (λ e is. (is.attr, (is.name, is.blob)))
-    (then_codec attr_at _ attr_text _ IsAttr _ attr_codec (then_codec (where_at is_name text_at) (front_at 16) (λ text. text ++ 0 ∷ []) (λ id. id) _ _ (text_codec is_name without_zero) id_codec))
+    (λ p is. record { name = is.1.0.1; attr = is.0; blob = is.1.1 })
+    (λ e is. (is.attr, ((without_zero e.0 is.name, is.name), is.blob)))
+    (then_codec attr_at _ attr_text _ IsAttr _ attr_codec (then_codec (where_at is_name text_at) (front_at 16) (λ text. text ++ 0 ∷ []) (λ id. id) _ _ (where_codec is_name text_at (λ text. text ++ 0 ∷ []) HasNoZero text_codec) (front_codec 16)))
+
+-- ---- its name alone
+
+-- the bytes of attributes, the name, and the id's bytes
+abbrev passed_text : List ℕ × (List ℕ × List ℕ) → List ℕ
+passed_text p = p.0 ++ ((p.1.0 ++ 0 ∷ []) ++ p.1.1)
+
+passed_codec : IsCodec (then_at (front_at 49) (then_at text_at (front_at 16))) passed_text (λ p. (length p.0 ≡ 49) × (HasNoZero p.1.0 × (length p.1.1 ≡ 16)))
+passed_codec = then_codec (front_at 49) _ (λ front. front) _ _ _ (front_codec 49) (then_codec text_at (front_at 16) (λ text. text ++ 0 ∷ []) (λ id. id) _ _ text_codec (front_codec 16))
+
+-- something stands in front of what follows
+pub name_takes : (bytes name rest : List ℕ) → IsBytes bytes → name_at bytes ≡ Some (name, rest) → (text : List ℕ) × Takes bytes text rest × (0 < length text)
+unfolding name_at
+name_takes bytes name rest fits e =
+    let found = mapped (then_at (front_at 49) (then_at text_at (front_at 16)) bytes) (λ a. (a.0.1.0, a.1)) (name, rest) e in
+    let took = passed_codec.takes bytes found.0.0 found.0.1 fits found.1 in
+    let some : 0 < length (passed_text found.0.0) = omega (arith, length-append found.0.0.0 ((found.0.0.1.0 ++ 0 ∷ []) ++ found.0.0.1.1), took.1.0) in
+    subst (λ (y : List ℕ × List ℕ). (text : List ℕ) × Takes bytes text y.1 × (0 < length text)) found.2 (passed_text found.0.0, took.0, some)
+
+attr_length : (a : Attr) → length (attr_text a) ≡ 49
+unfolding attr_text moment_text
+attr_length a = refl
+
+-- what an entry says of its name and its length, they say alone
+pub name_of_entry : (bytes : List ℕ) (e : List ℕ × EntryTarget) (rest : List ℕ) → IsBytes bytes → entry_at bytes ≡ Some (e, rest) → name_at bytes ≡ Some (e.0, rest)
+unfolding name_at entry_text
+name_of_entry bytes e rest fits found =
+    let took = entry_codec.takes bytes e rest fits found in
+    let parts : List ℕ × (List ℕ × List ℕ) = (attr_text e.1.attr, (e.0, e.1.blob)) in
+    let whole : bytes ≡ passed_text parts ++ rest = took.0.parts ∙ ap (λ text. text ++ rest) (same_entry (e.1.attr, (e.0, e.1.blob))) in
+    ap name_at whole ∙ ap (option_map (λ a. (a.0.1.0, a.1))) (passed_codec.again parts rest (attr_length e.1.attr, (without_zero e.0 took.1.name, took.1.blob)))

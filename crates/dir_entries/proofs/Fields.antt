@@ -6,7 +6,7 @@ use Rattle.std.specs.List.{position, position_or_len, list_any}
 use Rattle.std.specs.Int.{w32, w64, to_le_bytes}
 use Rattle.std.proofs.Math.Seq.{drop-cons}
 use Rattle.std.proofs.lemmas.Bool.{lt-ltb, eqb-true, or_parts}
-use Rattle.std.proofs.lemmas.List.{take_at, drop_at, get_or_at, get_or_append_left, take-append-drop, length-append}
+use Rattle.std.proofs.lemmas.List.{take_at, drop_at, get_or_at, get_or-take, get_or_append_left, take-append-drop, length-append, length-take}
 use Rattle.std.proofs.lemmas.List.Quantifiers.{position-Some}
 use Rattle.std.proofs.lemmas.List.Sums.{position_or_len_is}
 use Rattle.std.proofs.lemmas.Option.{cond_some}
@@ -61,7 +61,7 @@ map_codec {A} {B} f g p s t P Q back same onward inward codec = record {
       ∙ ap (λ y. Some (y, rest)) (back x);
 }
 
--- ---- numbers and ids
+-- ---- numbers and so many bytes
 
 pub u32_codec : IsCodec (number_at w32) (to_le_bytes w32) (λ n. n < 2 ^ 32)
 u32_codec = record { takes = λ bytes n rest fits e. number_takes wide32 bytes (n, rest) fits e; again = number_again wide32 }
@@ -69,15 +69,18 @@ u32_codec = record { takes = λ bytes n rest fits e. number_takes wide32 bytes (
 pub u64_codec : IsCodec (number_at w64) (to_le_bytes w64) (λ n. n < 2 ^ 64)
 u64_codec = record { takes = λ bytes n rest fits e. number_takes wide64 bytes (n, rest) fits e; again = number_again wide64 }
 
-pub id_codec : IsCodec (front_at 16) (λ id. id) (λ id. length id ≡ 16)
-id_codec = record { takes = λ bytes id rest fits e. front_takes 16 bytes (id, rest) fits e; again = front_again 16 }
+pub front_codec : (n : ℕ) → IsCodec (front_at n) (λ front. front) (λ front. length front ≡ n)
+front_codec n = record { takes = λ bytes front rest fits e. front_takes n bytes (front, rest) fits e; again = front_again n }
 
 -- ---- a text before a zero
 
 abbrev is_zero : ℕ → Bool
 is_zero byte = eqb byte 0
 
-text_takes : (bytes text rest : List ℕ) → IsBytes bytes → text_at bytes ≡ Some (text, rest) → Takes bytes (text ++ 0 ∷ []) rest
+abbrev pub HasNoZero : List ℕ → Type 0
+HasNoZero text = (k : ℕ) → k < length text → is_zero (get_or text k 0) ≡ false
+
+text_takes : (bytes text rest : List ℕ) → IsBytes bytes → text_at bytes ≡ Some (text, rest) → Takes bytes (text ++ 0 ∷ []) rest × HasNoZero text
 unfolding text_at
 text_takes bytes text rest fits e =
     let found = mapped (position is_zero bytes) (λ end. (take end bytes, drop (suc end) bytes)) (text, rest) e in
@@ -85,18 +88,19 @@ text_takes bytes text rest fits e =
     let at = position-Some is_zero bytes end 0 found.1 in
     let byte : get_or bytes end 0 ≡ 0 = eqb-true _ _ at.1 in
     let behind : drop end bytes ≡ 0 ∷ drop (suc end) bytes = drop-cons bytes end 0 at.0 ∙ ap (λ x. x ∷ drop (suc end) bytes) byte in
-    subst (λ (y : List ℕ × List ℕ). Takes bytes (y.0 ++ 0 ∷ []) y.1) found.2
-    (record {
+    let takes : Takes bytes (take end bytes ++ 0 ∷ []) (drop (suc end) bytes) = record {
       parts = sym (take-append-drop end bytes) ∙ ap (λ x. take end bytes ++ x) behind ∙ sym (append_assoc (take end bytes) (0 ∷ []) (drop (suc end) bytes));
       rest_fits = IsBytes-drop (suc end) bytes fits;
-    })
+    } in
+    let none : HasNoZero (take end bytes) = λ k lt. let below : k < end = omega (arith, length-take end bytes) in ap is_zero (get_or-take end bytes k 0 below) ∙ at.2 k below in
+    subst (λ (y : List ℕ × List ℕ). Takes bytes (y.0 ++ 0 ∷ []) y.1 × HasNoZero y.0) found.2 (takes, none)
 
 pub none_at : (p : ℕ → Bool) (xs : List ℕ) (k : ℕ) → list_any p xs ≡ false → k < length xs → p (get_or xs k 0) ≡ false
 none_at p [] k e lt = absurd (omega arith)
 none_at p (x ∷ xs) zero e lt = (or_parts (p x) (list_any p xs) e).0
 none_at p (x ∷ xs) (suc k) e lt = none_at p xs k (or_parts (p x) (list_any p xs) e).1 (omega arith)
 
-pub text_again : (text rest : List ℕ) → ((k : ℕ) → k < length text → is_zero (get_or text k 0) ≡ false) → text_at ((text ++ 0 ∷ []) ++ rest) ≡ Some (text, rest)
+text_again : (text rest : List ℕ) → HasNoZero text → text_at ((text ++ 0 ∷ []) ++ rest) ≡ Some (text, rest)
 unfolding text_at
 text_again text rest none =
     let whole : List ℕ = text ++ 0 ∷ rest in
@@ -117,14 +121,5 @@ text_again text rest none =
     let parts : Some (take (length text) whole, drop (suc (length text)) whole) ≡ pair = cc (front, back) in
     subst (λ x. text_at x ≡ pair) (sym grouped) (read ∙ parts)
 
-pub text_codec : (test : List ℕ → Bool) → ((text : List ℕ) → test text ≡ true → (k : ℕ) → k < length text → is_zero (get_or text k 0) ≡ false)
-    → IsCodec (where_at test text_at) (λ text. text ++ 0 ∷ []) (λ text. test text ≡ true)
-text_codec test without = record {
-  takes = λ bytes x rest fits e.
-      let a = bound (text_at bytes) (λ a. cond (test a.0) (Some a) None) (x, rest) e in
-      let passed = cond_some (test a.0.0) a.0 (x, rest) a.2 in
-      let front = text_takes bytes a.0.0 a.0.1 fits a.1 in
-      subst (λ (y : List ℕ × List ℕ). Takes bytes (y.0 ++ 0 ∷ []) y.1 × (test y.0 ≡ true)) passed.1 (front, passed.0);
-  again = λ x rest is.
-      ap (option_and_then (λ a. cond (test a.0) (Some a) None)) (text_again x rest (without x is)) ∙ ap (λ b. cond b (Some (x, rest)) None) is;
-}
+pub text_codec : IsCodec text_at (λ text. text ++ 0 ∷ []) HasNoZero
+text_codec = record { takes = text_takes; again = text_again }

@@ -1,5 +1,5 @@
 -- Where a name stands among the entries of a directory.
-use Rattle.std.specs.Prelude.{◌≡◌, ℕ, not, List, [], ◌∷◌, ◌++◌, length}
+use Rattle.std.specs.Prelude.{◌≡◌, ℕ, ◌-◌, not, List, [], ◌∷◌, ◌++◌, length}
 use Rattle.std.specs.Ordering.{eq_by_cmp}
 use Rattle.std.specs.FinMap.{find, put}
 use Rattle.std.specs.FinMap.Entries.{where_key}
@@ -9,6 +9,7 @@ use Rattle.block_id.specs.declared.id.BlockId.{BlockId}
 use Rattle.fs_model.specs.declared.attr.Attr.{Attr}
 use Rattle.fs_model.specs.Tree.{name_cmp}
 use Rattle.dir_entries.specs.Layout.{EntryTarget, Listing, body_of}
+use Rattle.dir_entries.specs.Reading.{entry_at}
 
 abbrev pub target_of : Option (Attr × BlockId) → Option EntryTarget
 target_of None = None
@@ -33,3 +34,12 @@ pub record IsPlace (name : List ℕ) (listing : Listing) (front : ℕ) (found : 
   pub split : listing ≡ before ++ (held name found ++ after)
   pub puts : (target : EntryTarget) → put name_cmp name target listing ≡ before ++ ((name, target) ∷ after)
   pub drops : without name listing ≡ before ++ after
+
+-- an entry stands in front of the rest of a body
+pub record IsHeld (body rest : List ℕ) (front : ℕ) (found : Option EntryTarget) (back : ℕ) : Type 0 where
+  pub entry : List ℕ × EntryTarget
+  pub after : List ℕ
+  pub reads : entry_at rest ≡ Some (entry, after)
+  pub starts : front ≡ length body - length rest
+  pub target : found ≡ Some entry.1
+  pub ends : back ≡ length body - length after

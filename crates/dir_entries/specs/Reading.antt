@@ -63,6 +63,10 @@ unfoldable pub entry_at : Reader (List ℕ × EntryTarget)
 entry_at bytes =
     map_at (λ p. (p.1.0, record { attr = p.0; blob = p.1.1 })) (then_at attr_at (then_at (where_at is_name text_at) (front_at 16))) bytes
 
+-- the name of an entry and what follows the entry, by the layout's lengths: 49 bytes of attributes, the name and its zero, 16 of the id
+unfoldable pub name_at : Reader (List ℕ)
+name_at bytes = map_at (λ p. p.1.0) (then_at (front_at 49) (then_at text_at (front_at 16))) bytes
+
 -- whether a name is above that of the last entry
 abbrev pub rises : Listing → List ℕ → Bool
 rises [] name = true

@@ -4,13 +4,16 @@ ghost use Rattle.std.specs.Option.{option_map};
 ghost use Rattle.std.specs.List.{position};
 ghost use Rattle.fs_model.specs.Names.{IsName};
 ghost use Rattle.dir_entries.specs.Layout.{Listing, IsBody, named, entry_of, listing_of};
-ghost use Rattle.dir_entries.specs.Reading.{kind_of, moment_at, access_at, owner_at, times_at, attr_at, text_at, entry_at, rises};
+ghost use Rattle.dir_entries.specs.Reading.{kind_of, moment_at, access_at, owner_at, times_at, attr_at, text_at, entry_at, name_at, rises};
 
 use crate::Entry;
 use block_id::{BlockId, Memory};
-use byte_fields::{take_id, take_u32, take_u64};
+use byte_fields::{take_bytes, take_id, take_u32, take_u64};
 use fs_model::{Attr, Kind, MAX_MODE, Moment, Name, has_name_form, kind_from};
 use std::alloc::Global;
+
+/// The bytes of an entry's attributes.
+const ATTR_LEN: usize = 49;
 
 /// The entries of a directory's body, or None where it isn't such a body. It takes time linear in the body.
 pub fn decode_entries(alloc: Global, body: &[u8]) -> Result<Option<Vec<Entry>>, Memory>
@@ -103,6 +106,23 @@ pub(crate) fn first_entry(bytes: &[u8]) -> Option<Front<'_>>
         blob,
         rest,
     })
+}
+
+/// The name of the first entry, and what follows the entry. What stands between is passed by its length.
+#[tactic(auto, unfolding(crate::specs::Reading::name_at))]
+pub(crate) fn first_name(bytes: &[u8]) -> Option<(&[u8], &[u8])>
+    ensures { option_map (λ x. (x.0.now, x.1.now)) result ≡ name_at bytes.now }
+{
+    let Some((_, rest)) = take_bytes(bytes, ATTR_LEN) else {
+        return None;
+    };
+    let Some((name, rest)) = text_from(rest) else {
+        return None;
+    };
+    let Some((_, rest)) = take_id(rest) else {
+        return None;
+    };
+    Some((name, rest))
 }
 
 #[tactic(auto, unfolding(crate::specs::Reading::attr_at))]

@@ -52,7 +52,7 @@ module _ {X : Type 0} where
     | inr d ↦ name_insert_apart (remove m n) n x k d ∙ (name_remove_apart m n k d ∙ sym (name_insert_apart m n x k d))
   ])
 
-  inserted_again : (m : NameMap X) (n : List ℕ) (x : X) → get m n ≡ Some x → insert m n x ≡ m
+  pub inserted_again : (m : NameMap X) (n : List ℕ) (x : X) → get m n ≡ Some x → insert m n x ≡ m
   inserted_again m n x there = same_names _ _ (λ k. elim (name_split k n) [
     | inl e ↦ subst (λ z. get (insert m n x) z ≡ get m z) (sym e) (name_insert_here m n x ∙ sym there)
     | inr d ↦ name_insert_apart m n x k d

@@ -1,5 +1,5 @@
 // What a session runs over: a store of sealed blocks, behind a cache.
-ghost use Rattle.std.specs.Prelude.{◌≡◌, ◌-◌, ℕ, List, Bool, true, IfOk, IfErr};
+ghost use Rattle.std.specs.Prelude.{◌≡◌, ◌≤◌, ◌-◌, ◌/◌, max, ℕ, List, Bool, true, IfOk, IfErr};
 ghost use Rattle.std.specs.FinMap as fin;
 ghost use Rattle.outside.specs.Trace.{config};
 ghost use Rattle.outside.specs.Changes.{change_at};
@@ -24,8 +24,20 @@ use std::alloc::Global;
 /// A store of sealed blocks, behind a cache.
 pub type Cached<V> = BlockCache<IntegrityStore<V, Cipher>>;
 
-/// How many blocks the cache of a session holds. Blocks of 1 MiB may so take 128 MiB of memory, those of 16 KiB 2 MiB.
-const CACHED_BLOCKS: usize = 128;
+/// As many blocks as have these bytes stay in the cache of a session: 2,048 of 16 KiB. Where blocks are gone through in a
+/// circle and don't all fit, each of them is loaded anew, as with a directory that is larger than the cache.
+const CACHED_BYTES: usize = 32 * 1024 * 1024;
+
+/// And no fewer blocks than these, so that a path and what is changed at its end fit. Those of 1 MiB so take 128 MiB.
+const MIN_CACHED: usize = 128;
+
+/// How many blocks of this size the cache of a session holds.
+fn cached_blocks(block_size: usize) -> usize
+    requires { 1 ≤ block_size }
+    ensures { result ≡ max MIN_CACHED (CACHED_BYTES / block_size) }
+{
+    MIN_CACHED.max(CACHED_BYTES / block_size)
+}
 
 /// A store over these files, of which a client knows this state, behind an empty cache. Where there is no memory for the cache, the
 /// directory comes back.
@@ -50,7 +62,8 @@ pub(crate) fn cached_store<V: Vault>(
     ensures err_trace { IfErr result (λ vault. V.trace vault ≡ V.trace sealed.vault.vault) }
     ensures err_faults { IfErr result (λ vault. V.faults vault ≡ V.faults sealed.vault.vault) }
 {
-    match BlockCache::new(alloc, IntegrityStore::new(sealed, state), CACHED_BLOCKS) {
+    let capacity = cached_blocks(sealed.block_size());
+    match BlockCache::new(alloc, IntegrityStore::new(sealed, state), capacity) {
         Ok(store) => Ok(store),
         Err((_, store)) => Err(store.into_vault()),
     }

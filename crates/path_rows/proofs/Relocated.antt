@@ -11,6 +11,7 @@ use Rattle.fs_model.specs.Tree.{Path, Tree, name_cmp, entry_size}
 use Rattle.fs_model.specs.Step.{with_ctime, moved_tree}
 use Rattle.fs_model.proofs.TreeLemmas.{same_name}
 use Rattle.fs_model.proofs.MovedTree.{parent_off_p}
+use Rattle.fs_model.proofs.SizeLemmas.{inserted_again}
 use Rattle.fs_blobs.specs.declared.header.TheConstants.{HEADER_LEN}
 use Rattle.fs_blobs.specs.Headers.{blob}
 use Rattle.fs_blobs.specs.Blobs.{IsBlob}
@@ -168,3 +169,9 @@ module _ {S : Type 0} {H : BlobHoldings S} {a : S} {from : Id} {n : List ℕ} {t
           (subst (λ z. H.stands_for d (insert way.map e.1.blob (blob w.row.attr.kind z node_moved.body))) (sym w.to_id) stands);
       shows = moved_shows w.map w.root w.tree w.ids w.shows w.now n w.above e.0 w.below w.row w.can w.free way.map way.forest node_moved.body node_moved.content w.well_formed;
     }
+
+    -- in the directory where it was, the blob has its parent already
+    pub rested : from ≡ to → IsShownBy H c w.root next (moved_ids w.ids p (e.0 ∷ w.below))
+    rested same =
+        let there : get way.map e.1.blob ≡ Some (blob w.row.attr.kind to node_moved.body) = there_moved ∙ ap (λ z. Some (blob w.row.attr.kind z node_moved.body)) (w.from_id ∙ same) in
+        relocated c (subst (H.stands_for c) (sym (inserted_again way.map e.1.blob (blob w.row.attr.kind to node_moved.body) there)) way.stands)

@@ -15,6 +15,7 @@ use dir_blob::{insert, remove};
 use dir_entries::Entry;
 use fs_blobs::set_parent;
 use fs_model::{MAX_MODE, Name};
+use path_entries::is_same;
 use rand_core::Rng;
 use std::alloc::Global;
 
@@ -35,8 +36,8 @@ pub fn drop_at<B: Blobs, R: Rng>(
     b.remove(alloc, blob)
 }
 
-/// A row and what lies below it go to a path that is free: the entry goes from its directory to another or the
-/// same one, and the header of the blob names that.
+/// A row and what lies below it go to a path that is free: the entry goes from its directory to another, which the
+/// header of the blob names then, or to the same one, which it names already.
 pub fn relocate<B: Blobs, R: Rng>(
     alloc: Global,
     b: &mut B,
@@ -53,5 +54,8 @@ pub fn relocate<B: Blobs, R: Rng>(
 {
     remove(alloc, b, from, name, chance)?;
     insert(alloc, b, to, entry, chance)?;
+    if is_same(from, to) {
+        return Ok(());
+    }
     set_parent(alloc, b, &entry.blob, to, chance)
 }

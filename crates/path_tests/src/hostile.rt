@@ -16,7 +16,16 @@ fn an_entry_without_its_blob(rt: HostRuntime) -> Result<(), Fail> {
     name_in_root(alloc, &mut site, Kind::Directory, BlockId([9; 16]))?;
     assert!(rt; is_structure(asked(alloc, &mut site, now, b"ls /a")?));
     assert!(rt; is_structure(asked(alloc, &mut site, now, b"mkfile /a/b")?));
-    assert!(rt; is_structure(asked(alloc, &mut site, now, b"mv /a /b")?));
+    // A move within a directory changes nothing of what moves, so it doesn't ask for it; one to another directory does.
+    assert_eq!(rt;
+        answer(alloc, &mut site, now, b"mv /a /b")?.as_slice(),
+        b"ok\n".as_slice()
+    );
+    assert_eq!(rt;
+        answer(alloc, &mut site, now, b"mkdir /d")?.as_slice(),
+        b"ok\n".as_slice()
+    );
+    assert!(rt; is_structure(asked(alloc, &mut site, now, b"mv /b /d/b")?));
     Ok(())
 }
 
