@@ -12,7 +12,7 @@ use Rattle.answers.specs.declared.answer.Answer.TheVariants.{Reply as Replied, M
 use Rattle.answers.specs.Sessions.{directory_faults}
 use Rattle.store_api.specs.Durables.{Durables, Records}
 use Rattle.store_api.specs.Holdings.{Holdings}
-use Rattle.store_api.specs.Lists.{waiting_bytes}
+use Rattle.store_api.specs.Lists.{waiting_weight}
 use Rattle.session_saver.specs.Saving.{world, Wrote, Leaves}
 use Rattle.session_saver.specs.declared.saver.SyncError.{SyncError}
 use Rattle.tree_commands.specs.Performing.{is_sync}
@@ -58,7 +58,7 @@ module _ {S : Type 0} {K : Type 0} (M : Meanings S) (H : Holdings S) (D : Durabl
   found_after Refused a mid b k l unsynced wrote z loads h = tt
 
   -- a sync that went well, or none, and then a command
-  pub store_on : (a mid b : S) (k l : K) → is_sync command ≡ false → (changed ≡ false → mid ≡ a) → (mid ≡ a) ⊎ Wrote D a mid → (waiting_bytes (D.list a) < 8388608 → mid ≡ a) → waiting_bytes (D.list mid) < 8388608
+  pub store_on : (a mid b : S) (k l : K) → is_sync command ≡ false → (changed ≡ false → mid ≡ a) → (mid ≡ a) ⊎ Wrote D a mid → (waiting_weight (D.list a) < 8388608 → mid ≡ a) → waiting_weight (D.list mid) < 8388608
       → Leaves (world M H D R G) a k mid l (Ok tt) → StoreAsked M H D mid command answer b → StoreAnswers M H D violated changed a (Ok command) answer b
   store_on a mid b k l other unsynced wrote spared few z w = record {
     stays = λ undone. stays_on H a mid b z.stays (w.stays undone);

@@ -16,7 +16,7 @@ use session_saver::{Saver, SyncError};
 use std::alloc::Global;
 use store_api::Durable;
 
-/// Bytes that wait before a line syncs first.
+/// Bytes that wait before a line syncs first. A removal counts as 64.
 const MOST_WAITING: usize = 8_388_608;
 
 /// Keeps what is present: the record with the unwritten list, its files, the record with none. Where nothing changed
@@ -43,7 +43,7 @@ pub(crate) fn sync_first<S: Durable, K: Keeper>(
     ensures makes_room { MakesRoom ShowsFiles (world S.meanings S.holdings S.durables S.records K.Keeper)
         core.old command.now core.new result }
 {
-    if is_sync(command) || core.blobs.tx.store.buffered() >= MOST_WAITING {
+    if is_sync(command) || core.blobs.tx.store.weight() >= MOST_WAITING {
         return sync(alloc, core);
     }
     Ok(())

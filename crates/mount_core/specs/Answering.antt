@@ -15,7 +15,7 @@ use Rattle.answers.specs.declared.answer.Answer.TheVariants.{Reply as Replied, M
 use Rattle.answers.specs.Sessions.{Asked, FollowsAsked, is_violation, is_synced, directory_faults, state_faults}
 use Rattle.store_api.specs.Durables.{Durables, Records}
 use Rattle.store_api.specs.Holdings.{Holdings, Stays}
-use Rattle.store_api.specs.Lists.{waiting_bytes}
+use Rattle.store_api.specs.Lists.{waiting_weight}
 use Rattle.session_saver.specs.Saving.{World, KeptConfigures, Wrote, Leaves}
 use Rattle.session_saver.specs.declared.saver.SyncError.{SyncError}
 use Rattle.tree_commands.specs.Performing.{Showing, is_sync, IsReplyTo}
@@ -56,8 +56,8 @@ pub record MakesRoom {S : Type 0} {K : Type 0} (shows : Showing) (W : World S K)
   pub synced : is_sync command ≡ true → (kept now : Tree) → CoreStands shows W old kept now → Synced shows W new kept now result
   pub configures : (may : List (List ℕ)) (now : List ℕ) → CoreConfigures W.holdings W.durables W.records W.keeper old may now → CoreConfigures W.holdings W.durables W.records W.keeper new may now
   pub unmoved : old.saver.changed ≡ false → IsOk result × (new ≡ old)
-  pub few : OnOk result (waiting_bytes (W.durables.list (store_of new)) < 8388608)
-  pub spared : is_sync command ≡ false → waiting_bytes (W.durables.list (store_of old)) < 8388608 → IsOk result × (new ≡ old)
+  pub few : OnOk result (waiting_weight (W.durables.list (store_of new)) < 8388608)
+  pub spared : is_sync command ≡ false → waiting_weight (W.durables.list (store_of old)) < 8388608 → IsOk result × (new ≡ old)
   pub wrote : (store_of new ≡ store_of old) ⊎ Wrote W.durables (store_of old) (store_of new)
 
 -- what it makes of it where the configuration's file is to hold these bytes

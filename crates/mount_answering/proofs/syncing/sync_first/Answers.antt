@@ -5,7 +5,7 @@ use Rattle.tree_commands.specs.Showing.{ShowsFiles}
 use Rattle.mount_answering.proofs.Lines.{map_ok, true_is_false}
 use Rattle.mount_answering.proofs.Synced.{config_roomed, roomed}
 use Rattle.mount_answering.proofs.syncing.sync_first.Goals as goal
-use Rattle.mount_answering.proofs.syncing.sync_first.Goals.{then-is_sync-via-then-is_sync, then-is_sync-via-else-is_sync+then-buffered-ge-MOST_WAITING}
+use Rattle.mount_answering.proofs.syncing.sync_first.Goals.{then-is_sync-via-then-is_sync, then-is_sync-via-else-is_sync+then-weight-ge-MOST_WAITING}
 
 pub returns-then-is_sync : goal.returns-then-is_sync
 returns-then-is_sync g c =
@@ -26,7 +26,7 @@ returns-then-is_sync g c =
         few = map_ok c.sync.result _ _ (λ unchanged. let none = m.ready.whole.none unchanged in rw none (omega arith)) z.ok;
         spared = λ other small. elim c.then-is_sync.branch [
           | then-is_sync-via-then-is_sync w ↦ absurd (true_is_false (sym w.if-is_sync.true ∙ (c.is_sync.ensures ∙ other)))
-          | then-is_sync-via-else-is_sync+then-buffered-ge-MOST_WAITING w ↦ absurd (omega (arith, w.buffered.ensures, small))
+          | then-is_sync-via-else-is_sync+then-weight-ge-MOST_WAITING w ↦ absurd (omega (arith, w.weight.ensures, small))
         ];
         wrote = z.wrote;
       };
@@ -49,7 +49,7 @@ returns g c =
         synced = λ is. absurd (true_is_false (sym is ∙ (sym c.is_sync.ensures ∙ c.if-is_sync.false)));
         configures = λ may now s. s;
         unmoved = λ unchanged. (refl, refl);
-        few = omega (arith, c.buffered.ensures);
+        few = omega (arith, c.weight.ensures);
         spared = λ other small. (refl, refl);
         wrote = inl refl;
       };
