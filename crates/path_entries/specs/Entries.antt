@@ -1,4 +1,4 @@
--- What changes of what a row has need.
+-- What setting an entry needs.
 use Rattle.std.specs.Prelude.{◌≡◌, ℕ, List, ◌∷◌}
 use Rattle.std.specs.FinMap.{get, insert}
 use Rattle.std.specs.declared.option.Option.TheVariants.{Some}
