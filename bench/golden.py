@@ -88,6 +88,15 @@ def blocks_in(folder):
     return found
 
 
+def print_text(name, meaning, value):
+    print(f'\n/// {meaning}\npub const {name}: &str =\n    "{value.hex()}";')
+
+
+def print_files(name, meaning, files):
+    rows = "".join(f'    (\n        "{it}",\n        "{text.hex()}",\n    ),\n' for it, text in sorted(files.items()))
+    print(f"\n/// {meaning}\npub const {name}: &[(&str, &str)] = &[\n{rows}];")
+
+
 def main(program, folder):
     os.makedirs(folder)
     created = run(program, folder, ["create", "--blocksize", "256", "--scrypt-n", "16"], "")
@@ -99,11 +108,12 @@ def main(program, folder):
     waiting = leave_waiting(program, folder, root)
     print("// A file system that was made by `bench/golden.py` with the program as it was on", time.strftime("%Y-%m-%d."))
     print(f"// {created.decode().strip()}, root {root}")
-    for name, value in (("CONFIG", read(f"{folder}/blocks/cryfs.config")), ("RECORD", record), ("WAITING", waiting)):
-        print(f'\npub const {name}: &str =\n    "{value.hex()}";')
-    for name, files in (("BLOCKS", second), ("OLDER", {it: first[it] for it in second if it in first})):
-        rows = "".join(f'    (\n        "{it}",\n        "{text.hex()}",\n    ),\n' for it, text in sorted(files.items()))
-        print(f"\npub const {name}: &[(&str, &str)] = &[\n{rows}];")
+    print_text("CONFIG", "The configuration's file.", read(f"{folder}/blocks/cryfs.config"))
+    print_text("RECORD", "The local record after the second session.", record)
+    print_text("WAITING", "That of the third session, whose list has what couldn't be put.", waiting)
+    print_files("BLOCKS", "The block files after the second session, by their ids.", second)
+    older = {it: first[it] for it in second if it in first}
+    print_files("OLDER", "Those of the same ids as they were after the first session.", older)
 
 
 if __name__ == "__main__":

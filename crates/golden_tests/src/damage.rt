@@ -117,6 +117,9 @@ fn sealed_anew(
     if let Some(byte) = record.get_mut(place) {
         *byte = value;
     }
+    if record.len() != 256 - 48 {
+        return Err(Fail::new("a record has 48 bytes less than its file"));
+    }
     let mut crafted = prefix.to_vec(alloc)?;
     Aes256Gcm.seal(&key, &[9; 16], &record, &mut crafted)?;
     Ok(crafted)

@@ -90,7 +90,7 @@ fn opens_and_shows_what_was_written(rt: HostRuntime) -> Result<(), Fail> {
     Ok(())
 }
 
-/// The number of block files, in this record and in the one before what waits is put.
+/// A file was made, so there is one block more. The record knows 30 ids then, and its list is empty: 120 bytes and 25 each.
 #[test]
 fn puts_what_waits(rt: HostRuntime) -> Result<(), Fail> {
     let alloc = rt.alloc();
