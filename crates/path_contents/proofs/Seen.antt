@@ -15,7 +15,6 @@ use Rattle.forest.specs.Showing.{BlobsShow, Performed}
 use Rattle.path_walks.specs.declared.spots.Place.{Place}
 use Rattle.path_walks.specs.declared.spots.Spot.{Spot}
 use Rattle.path_walks.specs.declared.spots.Spot.TheVariants.{Here}
-use Rattle.path_walks.specs.declared.spots.Sight.TheVariants as sight
 use Rattle.path_walks.specs.Sights.{IsAt, IsWrong, SpotIs, Standing}
 use Rattle.path_contents.specs.Listed.{InFolder}
 use Rattle.path_contents.specs.Places.{Holding}

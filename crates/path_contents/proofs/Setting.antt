@@ -1,6 +1,6 @@
 -- A row that gets another content, over blobs.
-use Rattle.std.proofs.Common.{◌≡◌, ℕ, ◌≤◌, ◌+◌, zero, suc, true, List, [], ◌∷◌, length, refl, sym, ◌∙◌, ap, subst, arith}
-use Rattle.std.specs.Prelude.{is_some, cond}
+use Rattle.std.proofs.Common.{◌≡◌, ℕ, ◌≤◌, ◌+◌, zero, suc, List, [], ◌∷◌, length, refl, sym, ◌∙◌, ap, subst, arith}
+use Rattle.std.specs.Prelude.{is_some}
 use Rattle.std.specs.FinMap.{get, find, insert, put}
 use Rattle.std.specs.declared.option.Option.TheVariants.{Some}
 use Rattle.std.proofs.lemmas.Option.{none-some}
@@ -12,15 +12,14 @@ use Rattle.blob_api.specs.BlobMap.{Id, BlobMap, BlobHoldings, BlobsSteady, IsSpa
 use Rattle.fs_model.specs.declared.limits.TheConstants.{MAX_FILE}
 use Rattle.fs_model.specs.declared.attr.Kind.{Kind}
 use Rattle.fs_model.specs.declared.attr.Kind.TheVariants.{Directory, File}
-use Rattle.fs_model.specs.Tree.{Path, Row, name_cmp, is_folder, directory_size, FitsKind}
-use Rattle.fs_model.proofs.TreeLemmas.{same_name}
+use Rattle.fs_model.specs.Tree.{name_cmp, directory_size, FitsKind}
 use Rattle.fs_blobs.specs.declared.header.TheConstants.{HEADER_LEN}
 use Rattle.fs_blobs.specs.Headers.{blob}
 use Rattle.fs_blobs.specs.Blobs.{IsBlob}
-use Rattle.dir_entries.specs.Layout.{EntryTarget, body_of, IsListing}
+use Rattle.dir_entries.specs.Layout.{EntryTarget, body_of}
 use Rattle.dir_blob.specs.Directories.{HasName, HasEntries}
-use Rattle.forest.specs.Nodes.{Look, Lists, IsBodyOf, IsBlobOf}
-use Rattle.forest.specs.Shows.{above, target_for, entries_at}
+use Rattle.forest.specs.Nodes.{Look, IsBodyOf, IsBlobOf}
+use Rattle.forest.specs.Shows.{above, entries_at}
 use Rattle.forest.proofs.Forests.{map_apart}
 use Rattle.dir_entries.proofs.Bodies.{no_more}
 use Rattle.forest.proofs.Shown.{content_shows}
@@ -28,7 +27,7 @@ use Rattle.forest.specs.Showing.{IsShownBy}
 use Rattle.path_entries.specs.Entries.{Setting}
 use Rattle.path_entries.proofs.Setting.{q, folder, row_above, present, has_name, listed, row_with, lists_then}
 use Rattle.path_contents.specs.Sparing.{IsSparingTwice}
-use Rattle.path_walks.proofs.Nodes.{lists_at, directory_at, above_wide, size_at, lists_with}
+use Rattle.path_walks.proofs.Nodes.{above_wide, size_at}
 
 module _ {S : Type 0} {H : BlobHoldings S} {a : S} {dir : Id} {e : List ℕ × EntryTarget} (w : Setting H a dir e) where
   pub some_body : 1 ≤ length (body_of (has_name w).is.listing)
