@@ -55,6 +55,20 @@ impl<S: Blocks> BlockCache<S> {
         &self.store
     }
 
+    /// The payload of the id by a load of the store below, whatever is cached. What is cached stays.
+    pub fn load_below(&mut self, alloc: Global, id: &BlockId) -> Result<Option<Vec<u8>>, Fail>
+        requires { ⟦<BlockCache<S> as Blocks>⟧.meanings.intact self.old }
+        ensures outcome { Outcome ⟦<BlockCache<S> as Blocks>⟧.meanings Unit self.old self.new result (λ _ answer. bytes_of answer ≡ ⟦<BlockCache<S> as Blocks>⟧.holdings.content self.old id.now.0) }
+        ensures stays { Stays ⟦<BlockCache<S> as Blocks>⟧.holdings self.old self.new }
+        ensures of_blocks { IfErr result IsOfBlocks }
+        ensures none { IfOk result (λ answer. is_some answer ≡ is_some (⟦<BlockCache<S> as Blocks>⟧.holdings.content self.old id.now.0)) }
+        ensures sized { IfOk result (λ answer. IfSome answer (λ bytes. length bytes.items ≡ ⟦<BlockCache<S> as Blocks>⟧.holdings.payload self.old)) }
+        ensures loads { S.loads self.old.store self.new.store id.now.0 (answer_of result) }
+        ensures cached { self.new.cached ≡ self.old.cached }
+    {
+        self.store.load(alloc, id)
+    }
+
     /// The store below, without the cache.
     pub fn into_store(self) -> S
         ensures { result ≡ self.store }

@@ -195,3 +195,22 @@ fn digest_is_that_of_salt_and_key(rt: HostRuntime) {
     ];
     assert_eq!(rt; key_digest(&[0; 32], &[0; 32]), zeros);
 }
+
+#[test]
+fn live_ids_rise_and_lack_the_dead(rt: HostRuntime) -> Result<(), Fail> {
+    let mut known = Known::new(rt.alloc());
+    assert_eq!(rt; known.live_ids(rt.alloc())?.len(), 0);
+    for byte in [7, 0xff, 1, 0x80, 3] {
+        raise(&mut known, &BlockId([byte; 16]))?;
+    }
+    for byte in [0xff, 3] {
+        let id = BlockId([byte; 16]);
+        if known.is_live(&id) {
+            known.bury(&id);
+        }
+    }
+    let ids = known.live_ids(rt.alloc())?;
+    let expected = [BlockId([1; 16]), BlockId([7; 16]), BlockId([0x80; 16])];
+    assert!(rt; ids.as_slice() == expected.as_slice());
+    Ok(())
+}

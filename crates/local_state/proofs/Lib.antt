@@ -2,6 +2,7 @@ pub mod Ahead
 pub mod Entries
 pub mod Fields
 pub mod Fitting
+pub mod Living
 pub mod Lookups
 pub mod Loops
 pub mod Records

@@ -1,5 +1,5 @@
 -- What is known of ids: a finite map to their lives: a version, and whether the block lives. An id is a list of 16 bytes.
-use Rattle.std.specs.Prelude.{◌≡◌, ◌≢◌, ℕ, ◌+◌, ◌^◌, ◌<◌, ◌-◌, ◌==◌, Bool, true, false, not, ◌&&◌, List, length, map, is_some, is_none, IfSome, Option, None, Some, refl, if◌then◌else◌}
+use Rattle.std.specs.Prelude.{◌≡◌, ◌≢◌, ℕ, ◌+◌, ◌^◌, ◌<◌, ◌-◌, ◌==◌, Bool, true, false, not, ◌&&◌, List, length, map, filter, is_some, is_none, IfSome, Option, None, Some, refl, if◌then◌else◌}
 use Rattle.std.specs.Coded.{Coded, code_by, coded×, coded_ℕ, coded_bool, coded_list}
 use Rattle.std.specs.FinMap as fin
 use Rattle.std.specs.Option.{option_map, option_map_or}
@@ -38,6 +38,10 @@ is_live_in lives id = option_map_or (λ m. m.live) (fin.get lives id) false
 
 abbrev pub is_dead_in : Lives → List ℕ → Bool
 is_dead_in lives id = is_some (fin.get lives id) && not (is_live_in lives id)
+
+-- the live ids, in the order of ids
+abbrev pub live_ids : Lives → List (List ℕ)
+live_ids lives = map (λ e. e.0) (filter (λ e. e.1.live) (fin.entries lives))
 
 -- the version, where the id lives
 abbrev pub version_if_live : Option Life → Option ℕ

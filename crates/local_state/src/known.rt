@@ -1,10 +1,10 @@
 // The table of known versions.
 ghost use Rattle.std.specs.Prelude.{◌≡◌, ◌≢◌, ◌+◌, ◌-◌, ◌^◌, ◌<◌, ◌≤◌, ◌↔◌, true, false, IsSome, IsErr, map, IfSome, IfNone, IfOk, OnOk, OnErr};
 ghost use Rattle.std.specs.FinMap as fin;
-ghost use Rattle.local_state.specs.Known.{life_at, version_at, is_live_at, is_used_at, version_if_live, is_last, raised_version, zero_id, plain_entry, FitsLife, FitLives, IsFirstFree};
+ghost use Rattle.local_state.specs.Known.{life_at, version_at, is_live_at, is_used_at, version_if_live, is_last, raised_version, zero_id, plain_entry, live_ids, FitsLife, FitLives, IsFirstFree};
 
 use crate::life::Life;
-use crate::lives::{add_life, change_life, first_free, life_of, put_life, sorted_lives};
+use crate::lives::{add_life, change_life, first_free, life_of, live_of, put_life, sorted_lives};
 use block_id::{BlockId, Memory};
 use std::alloc::Global;
 use std::collections::HashMap;
@@ -167,6 +167,14 @@ impl Known {
         ensures fits { FitLives self.now.lives }
     {
         sorted_lives(alloc, &self.lives)
+    }
+
+    /// The live ids, by rising ids.
+    pub fn live_ids(&self, alloc: Global) -> Result<Vec<BlockId>, Memory>
+        ensures { IfOk result (λ ids. map (λ id. id.0) ids.items ≡ live_ids self.now.lives) }
+    {
+        let entries = self.sorted(alloc)?;
+        live_of(alloc, &entries)
     }
 
     /// Makes a live id dead. Its version stays.

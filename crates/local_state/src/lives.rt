@@ -1,5 +1,5 @@
 // The program's map from ids to lives, as a finite map.
-ghost use Rattle.std.specs.Prelude.{◌≡◌, ◌+◌, ◌<◌, ◌≤◌, map, IsSome, IfOk, OnOk, OnErr, None};
+ghost use Rattle.std.specs.Prelude.{◌≡◌, ◌+◌, ◌<◌, ◌≤◌, map, filter, IsSome, IfOk, OnOk, OnErr, None};
 ghost use Rattle.std.specs.HashMap.{spare};
 ghost use Rattle.std.specs.FinMap as fin;
 ghost use Rattle.local_state.specs.Known.{lives_of, plain_entry, HaveDistinctIds, is_free, IsFirstFree};
@@ -76,6 +76,19 @@ pub(crate) fn sorted_lives(
     let mut entries = entries_of(alloc, lives)?;
     entries.sort_unstable();
     Ok(entries)
+}
+
+/// The ids of the live ones among these entries, in the same order.
+pub(crate) fn live_of(alloc: Global, entries: &[(BlockId, Life)]) -> Result<Vec<BlockId>, Memory>
+    ensures { IfOk result (λ ids. ids.items ≡ map (λ e. e.0) (filter (λ e. e.1.live) entries.now)) }
+{
+    let mut ids = Vec::with_capacity(alloc, entries.len())?;
+    for entry in entries {
+        if entry.1.live {
+            ids.push(entry.0)?;
+        }
+    }
+    Ok(ids)
 }
 
 fn is_free(lives: &HashMap<BlockId, Life>, id: &BlockId) -> bool

@@ -1,0 +1,48 @@
+use Rattle.std.proofs.Common.{◌≡◌, ◌≤◌, ◌+◌, List, [], ◌++◌, length, sym, ◌∙◌, ap, subst, refl, arith}
+use Rattle.std.proofs.lemmas.List.{length-map}
+use Rattle.block_id.specs.declared.id.BlockId.{BlockId}
+use Rattle.data_nodes.specs.Layout.{node_of, ids_of, leaf, inner, FitsPayload, fan_out}
+use Rattle.data_tree.specs.Trees.{IsTree, Forest, NoDoubles, span, depth_in}
+use Rattle.data_tree.specs.Stored.{BlobTree}
+use Rattle.block_walk.specs.Fronts.{joined_front}
+use Rattle.block_walk.proofs.Walking.{walked_then, walked_as, walked_bytes, if_ok}
+use Rattle.block_walk.proofs.Filling.{leaf_blob, inner_blob}
+use Rattle.block_walk.proofs.walk.walk_root.Goals as goal
+
+pub returns-in-Ok-push-clause-walked : goal.returns-in-Ok-push-clause-walked
+returns-in-Ok-push-clause-walked g c =
+    let p = g.B.Blocks.holdings.payload c.args.store.now in
+    let w = c.in-Leaf.bytes.items in
+    let id = c.args.root.now.0 in
+    let node = node_of c.in-Ok.node in
+    let is = ap node_of c.in-Leaf.is in
+    let told : c.len.result ≡ length w = c.len.ensures ∙ (sym c.deref.ensures.len ∙ ap length c.deref.ensures.value) in
+    let fits = subst (FitsPayload p) is c.in-Ok.ensures.fits in
+    let bytes = walked_bytes {X = λ C v jds. (v ≡ w) × (jds ≡ [])} {P = λ v. c.len.result ≡ length v} w (λ C. (refl, refl)) told c.push.ensures.most (c.in-Ok-push.ensures.ok ∙ ap (joined_front c.args.front.now) c.deref.ensures.value) in
+    walked_as (walked_then {Z = λ C v ids. NoDoubles ids → BlobTree p C id v ids} {R = λ v. c.len.result ≡ length v} c.requires.owner (c.in-Ok.ensures.walked c.args.front.now) bytes
+    (λ C u v ids jds none len at rest alone. leaf_blob p id node v C u v ids jds alone (is ∙ ap leaf (sym rest.0)) rest.1 (omega (arith, fits, ap length rest.0)) at)
+    (λ u v none len. len ∙ ap (λ xs. length (xs ++ v)) (sym none)))
+    (λ C v ids alone len blob. blob alone) (λ v len. len)
+
+pub returns-clause-walked : goal.returns-clause-walked
+returns-clause-walked g c =
+    let p = g.B.Blocks.holdings.payload c.args.store.now in
+    let id = c.args.root.now.0 in
+    let node = node_of c.in-Ok.node in
+    let same = c.load_node.ensures.stays.payload in
+    let children = ids_of c.deref-in-Inner.result.now in
+    let count = length c.deref-in-Inner.result.now in
+    let is = ap node_of c.in-Inner.is ∙ ap (λ (xs : List BlockId). inner c.in-Inner.depth (ids_of xs)) (sym c.deref-in-Inner.ensures.value) in
+    let fits = subst (FitsPayload p) is c.in-Ok.ensures.fits in
+    let long = length-map c.deref-in-Inner.result.now (λ (x : BlockId). x.0) in
+    let low = c.below-below.result.depth in
+    let level : c.in-Inner.depth ≡ low + 1 = sym (ap depth_in is) ∙ (sym c.depth_of.ensures ∙ (sym c.in-Some.ensures.depth ∙ sym c.below-below.ensures.depth)) in
+    let sized : c.below-below.result.room ≡ span p low = c.below-below.ensures.room ∙ ap (λ q. span q low) (c.payload-in-Inner.ensures ∙ same) in
+    let two : 2 ≤ count = omega (arith, c.if-len-lt2.false, c.len-in-Inner.ensures, c.deref-in-Inner.ensures.len) in
+    let few : count ≤ fan_out p = omega (arith, long, fits.1) in
+    if_ok c.walk_children.result (λ len walked.
+    walked_as (walked_then {Z = λ C v ids. NoDoubles ids → BlobTree p C id v ids} {R = λ v. len ≡ length v} c.requires.owner (c.in-Ok.ensures.walked c.args.front.now) walked
+    (λ C u v ids jds none fills at forest alone. inner_blob p low c.in-Inner.depth c.below-below.result.room len count id node children C u v ids jds alone is level sized two few at fills
+    (subst (λ q. Forest (IsTree q C low) (span q low) children v jds) same forest))
+    (λ u v none fills. fills.told ∙ ap (λ xs. length (xs ++ v)) (sym none)))
+    (λ C v ids alone len blob. blob alone) (λ v told. told)) c.walk_children.ensures.walked
