@@ -8,6 +8,8 @@ mod faults;
 #[cfg(test)]
 mod files;
 #[cfg(test)]
+mod honest;
+#[cfg(test)]
 mod sessions;
 #[cfg(test)]
 mod setup;

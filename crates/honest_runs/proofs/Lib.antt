@@ -1,0 +1,4 @@
+pub mod Forms
+pub mod Outputs
+pub mod Texts
+pub mod Whole

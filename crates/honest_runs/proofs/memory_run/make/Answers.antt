@@ -1,0 +1,64 @@
+use Rattle.std.proofs.Common.{◌≡◌, ◌⊎◌, ◌∷◌, ◌++◌, ◌∙◌, ℕ, [], map, codes, refl, sym, ap, inl, inr}
+use Rattle.std.specs.Prelude.{◌≢◌}
+use Rattle.std.specs.declared.option.Option.TheVariants.{None, Some}
+use Rattle.std.specs.String.{string_bytes}
+use Rattle.completeness.specs.Premises.{IsUntroubled}
+use Rattle.completeness.specs.Setups.{IsBare}
+use Rattle.line_io.specs.Streams.{Stream}
+use Rattle.memory_outside.specs.Vaults.{VaultState}
+use Rattle.mount_tower.specs.Drawing.{drawn}
+use Rattle.mount_tower.specs.Making.{new_settings, root_of}
+use Rattle.outside.specs.Trace.{At}
+use Rattle.run_status.specs.declared.status.Status.TheVariants.{Done}
+use Rattle.session_lines.specs.Driven.{IsUnfailed}
+use Rattle.session_runs.specs.Runs.{outside_of}
+use Rattle.store_api.specs.Durables.{last_told}
+use Rattle.shell_words.specs.Forms.{form_of}
+use Rattle.honest_outside.specs.contracts.honest_keeper.HonestKeeperKeeper.TheImpl as keeper_impl
+use Rattle.honest_runs.specs.Made.{password, HoldsEmptyTree, IsWantOfMemory, outside_in}
+use Rattle.honest_runs.proofs.Forms.{usual, create_form}
+use Rattle.honest_runs.proofs.Outputs.{create_output, young_of}
+use Rattle.honest_runs.proofs.Whole.{few, untroubled, short, made_so, unmade}
+use Rattle.honest_runs.proofs.memory_run.make.Goals as goal
+
+pub returns-clause-want : goal.returns-clause-want
+returns-clause-want g c =
+    let r = c.run-ended in
+    let words : map string_bytes c.deref.result.now ≡ codes "create" ∷ [] = ap (map string_bytes) c.deref.ensures.value ∙ c.in-Ok-Ok.ensures in
+    let ran = r.ensures.created usual (ap form_of words ∙ create_form) in
+    let input : Stream = record { old = Some c.in-Ok-Ok.input.rest; new = Some r.new.input.rest; faults = c.in-Ok-Ok.input.faults; risen = r.new.input.faults } in
+    let output : Stream = record { old = Some c.new-output.result.written.items; new = Some r.new.output.written.items; faults = c.new-output.result.faults; risen = r.new.output.faults } in
+    let trace = λ (v : VaultState). Some v.trace in
+    let faults = λ (v : VaultState). v.faults in
+    let draws = (drawn (g.R.Rng.stream c.args.chance.now)).0 in
+    let told = ap Some c.in-Ok-Ok.ensures'.rest in
+    let bare : IsBare (outside_of trace faults keeper_impl.ghosts c.new.result c.new-2.result) = record { kept = c.new-2.ensures.bare; unchanged = record { told = refl; none = λ name. ap (λ t. last_told name (Some t)) c.new.ensures.empty } } in
+    let less = few input c.in-Ok-Ok.input.rest r.new.input.rest refl refl c.in-Ok-Ok.ensures'.few in
+    let quiet : IsUnfailed output → IsUntroubled input output (outside_in c.new.result c.new-2.result) (outside_in r.result.vault r.result.keeper) =
+    λ unfailed. untroubled input output c.new.result r.result.vault c.new-2.result r.result.keeper c.new.ensures.honest c.attest.ensures c.new-2.ensures.honest c.attest-2.ensures
+    c.in-Ok-Ok.ensures'.honest.faultless c.attest-3.ensures.faultless less c.new-output.ensures.faultless unfailed in
+    unmade trace faults keeper_impl.ghosts c.setups_complete.ensures.create input output c.new.result c.new-2.result r.result usual draws ran (password ++ 10 ∷ []) told short bare quiet (c.is_done.ensures.no c.if-is_done.false)
+
+pub returns-then-is_done-clause-made : goal.returns-then-is_done-clause-made
+returns-then-is_done-clause-made g c =
+    let r = c.run-ended in
+    let words : map string_bytes c.deref.result.now ≡ codes "create" ∷ [] = ap (map string_bytes) c.deref.ensures.value ∙ c.in-Ok-Ok.ensures in
+    let ran = r.ensures.created usual (ap form_of words ∙ create_form) in
+    let input : Stream = record { old = Some c.in-Ok-Ok.input.rest; new = Some r.new.input.rest; faults = c.in-Ok-Ok.input.faults; risen = r.new.input.faults } in
+    let output : Stream = record { old = Some c.new-output.result.written.items; new = Some r.new.output.written.items; faults = c.new-output.result.faults; risen = r.new.output.faults } in
+    let trace = λ (v : VaultState). Some v.trace in
+    let faults = λ (v : VaultState). v.faults in
+    let draws = (drawn (g.R.Rng.stream c.args.chance.now)).0 in
+    let told = ap Some c.in-Ok-Ok.ensures'.rest in
+    let bare : IsBare (outside_of trace faults keeper_impl.ghosts c.new.result c.new-2.result) = record { kept = c.new-2.ensures.bare; unchanged = record { told = refl; none = λ name. ap (λ t. last_told name (Some t)) c.new.ensures.empty } } in
+    let less = few input c.in-Ok-Ok.input.rest r.new.input.rest refl refl c.in-Ok-Ok.ensures'.few in
+    let quiet : IsUnfailed output → IsUntroubled input output (outside_in c.new.result c.new-2.result) (outside_in r.result.vault r.result.keeper) =
+    λ unfailed. untroubled input output c.new.result r.result.vault c.new-2.result r.result.keeper c.new.ensures.honest c.attest.ensures c.new-2.ensures.honest c.attest-2.ensures
+    c.in-Ok-Ok.ensures'.honest.faultless c.attest-3.ensures.faultless less c.new-output.ensures.faultless unfailed in
+    let done = c.is_done.ensures.yes c.if-is_done.true in
+    record {
+      c = new_settings usual.block_size draws;
+      leaves = made_so trace faults keeper_impl.ghosts c.setups_complete.ensures.create input output c.new.result c.new-2.result r.result usual draws ran (password ++ 10 ∷ []) told short bare quiet done;
+      root = root_of draws.root;
+      young = young_of trace faults keeper_impl.ghosts input output c.new.result c.new-2.result r.result usual.params usual.block_size draws ran done;
+    }

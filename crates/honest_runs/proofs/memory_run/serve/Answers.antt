@@ -1,0 +1,62 @@
+use Rattle.std.proofs.Common.{◌≡◌, ◌⊎◌, ◌≤◌, ◌∷◌, ◌++◌, ◌∙◌, ℕ, [], map, codes, refl, sym, ap, inl, inr, arith}
+use Rattle.std.specs.Prelude.{◌≢◌}
+use Rattle.std.specs.declared.option.Option.TheVariants.{None, Some}
+use Rattle.std.specs.String.{string_bytes}
+use Rattle.completeness.specs.Premises.{IsUntroubled, Finds}
+use Rattle.fs_model.specs.Tree.{empty_tree}
+use Rattle.line_io.specs.Streams.{Stream}
+use Rattle.memory_outside.specs.Vaults.{VaultState}
+use Rattle.run_status.specs.declared.status.Status.TheVariants.{Done}
+use Rattle.session_lines.specs.Driven.{IsUnfailed}
+use Rattle.session_runs.specs.Runs.{outside_of, lies}
+use Rattle.shell_words.specs.Forms.{form_of}
+use Rattle.honest_outside.specs.contracts.honest_keeper.HonestKeeperKeeper.TheImpl as keeper_impl
+use Rattle.honest_runs.specs.Made.{password, IsWantOfMemory, outside_in}
+use Rattle.honest_runs.specs.Transcript.{IsTranscript}
+use Rattle.honest_runs.proofs.Forms.{shell_form}
+use Rattle.honest_runs.proofs.Whole.{few, untroubled, short, calm_of, loaded_of, shorter, unserved, transcript}
+use Rattle.honest_runs.proofs.memory_run.serve.Goals as goal
+
+pub returns-clause-want : goal.returns-clause-want
+returns-clause-want g c =
+    let r = c.run-ended in
+    let words : map string_bytes c.deref.result.now ≡ codes "shell" ∷ [] = ap (map string_bytes) c.deref.ensures.value ∙ c.in-Ok-Ok.ensures in
+    let ran = r.ensures.session (ap form_of words ∙ shell_form) in
+    let input : Stream = record { old = Some c.in-Ok-Ok.input.rest; new = Some r.new.input.rest; faults = c.in-Ok-Ok.input.faults; risen = r.new.input.faults } in
+    let output : Stream = record { old = Some c.new-output.result.written.items; new = Some r.new.output.written.items; faults = c.new-output.result.faults; risen = r.new.output.faults } in
+    let trace = λ (v : VaultState). Some v.trace in
+    let faults = λ (v : VaultState). v.faults in
+    let bytes = password ++ 10 ∷ c.args.script.now in
+    let before = outside_in c.args.made.vault c.args.made.keeper in
+    let after = outside_in r.result.vault r.result.keeper in
+    let finds : Finds input bytes c.requires.c empty_tree before = record { told = ap Some c.in-Ok-Ok.ensures'.rest; short = short; opens = c.requires.leaves.opens; stands = c.requires.leaves.stands } in
+    let gave : lies after ≤ lies before = let a = c.attest.ensures.truthful in let b = c.attest-3.ensures.truthful in omega (arith, a, b) in
+    let calm = calm_of c.honest_runs_are_unforged.ensures.only input before after r.result.status r.ensures.no_false_alarm bytes c.requires.c empty_tree finds gave in
+    let less = few input c.in-Ok-Ok.input.rest r.new.input.rest refl refl c.in-Ok-Ok.ensures'.few in
+    let quiet : IsUnfailed output → IsUntroubled input output before after =
+    λ unfailed. untroubled input output c.args.made.vault r.result.vault c.args.made.keeper r.result.keeper c.attest.ensures c.attest-3.ensures c.attest-2.ensures c.attest-4.ensures
+    c.in-Ok-Ok.ensures'.honest.faultless c.attest-5.ensures.faultless less c.new-output.ensures.faultless unfailed in
+    unserved trace faults keeper_impl.ghosts c.sessions_complete.ensures.shell c.args.now input output c.args.made.vault c.args.made.keeper r.result ran calm bytes c.requires.c empty_tree finds quiet (c.is_done.ensures.no c.if-is_done.false)
+
+pub returns-then-is_done-clause-transcript : goal.returns-then-is_done-clause-transcript
+returns-then-is_done-clause-transcript g c =
+    let r = c.run-ended in
+    let words : map string_bytes c.deref.result.now ≡ codes "shell" ∷ [] = ap (map string_bytes) c.deref.ensures.value ∙ c.in-Ok-Ok.ensures in
+    let ran = r.ensures.session (ap form_of words ∙ shell_form) in
+    let input : Stream = record { old = Some c.in-Ok-Ok.input.rest; new = Some r.new.input.rest; faults = c.in-Ok-Ok.input.faults; risen = r.new.input.faults } in
+    let output : Stream = record { old = Some c.new-output.result.written.items; new = Some r.new.output.written.items; faults = c.new-output.result.faults; risen = r.new.output.faults } in
+    let trace = λ (v : VaultState). Some v.trace in
+    let faults = λ (v : VaultState). v.faults in
+    let bytes = password ++ 10 ∷ c.args.script.now in
+    let before = outside_in c.args.made.vault c.args.made.keeper in
+    let after = outside_in r.result.vault r.result.keeper in
+    let finds : Finds input bytes c.requires.c empty_tree before = record { told = ap Some c.in-Ok-Ok.ensures'.rest; short = short; opens = c.requires.leaves.opens; stands = c.requires.leaves.stands } in
+    let gave : lies after ≤ lies before = let a = c.attest.ensures.truthful in let b = c.attest-3.ensures.truthful in omega (arith, a, b) in
+    let calm = calm_of c.honest_runs_are_unforged.ensures.only input before after r.result.status r.ensures.no_false_alarm bytes c.requires.c empty_tree finds gave in
+    let less = few input c.in-Ok-Ok.input.rest r.new.input.rest refl refl c.in-Ok-Ok.ensures'.few in
+    let quiet : IsUnfailed output → IsUntroubled input output before after =
+    λ unfailed. untroubled input output c.args.made.vault r.result.vault c.args.made.keeper r.result.keeper c.attest.ensures c.attest-3.ensures c.attest-2.ensures c.attest-4.ensures
+    c.in-Ok-Ok.ensures'.honest.faultless c.attest-5.ensures.faultless less c.new-output.ensures.faultless unfailed in
+    let loaded = loaded_of c.args.made.keeper.kept (Some c.args.made.vault.trace) c.requires.c empty_tree c.requires.leaves.stands in
+    transcript trace faults keeper_impl.ghosts c.sessions_complete.ensures.shell c.args.now input output c.args.made.vault c.args.made.keeper r.result ran calm bytes c.requires.c empty_tree finds quiet c.args.script.now loaded.0 loaded.1 c.requires.root
+    refl (ap Some c.in-Ok-Ok.ensures'.rest) (ap Some c.new-output.ensures.empty) refl loaded.2 c.requires.young (shorter c.in-Ok-Ok.input.rest c.args.script.now c.in-Ok-Ok.ensures'.rest c.in-Ok-Ok.ensures'.few) c.into_written.result.items (ap Some (sym c.into_written.ensures)) (c.is_done.ensures.yes c.if-is_done.true)
