@@ -57,7 +57,7 @@ class Program:
     def __init__(self, path=BUILT):
         self.path = os.path.abspath(path)
         if not os.access(self.path, os.X_OK):
-            raise SystemExit(f"{self.path} isn't built: run ./cryfs once")
+            raise SystemExit(f"{self.path} isn't built: run ./build")
 
     def run(self, folders, words, lines=(), password=PASSWORD, stop_after=None, **how):
         """Runs the words over a password line, where there is one, and lines. It is killed after `stop_after` seconds. The

@@ -44,7 +44,7 @@ def sources(name):
     """The files of a crate by their paths, less wrong bodies, modules of tests and what is written on their proofs."""
     top, files = f"{TOP}/crates/{name}", {}
     for folder, below, names in os.walk(top):
-        below[:] = [it for it in below if it not in ("out", "must-fail") and not is_left(it)]
+        below[:] = [it for it in below if it not in ("out", "must-fail", "plants") and not is_left(it)]
         for it in names:
             if not is_left(it) and stat.S_ISREG(os.lstat(f"{folder}/{it}").st_mode):
                 files[os.path.relpath(f"{folder}/{it}", top)] = read(f"{folder}/{it}")

@@ -170,6 +170,10 @@ impl<S: Durable> Durable for BlockCache<S> {
         self.store.buffered()
     }
 
+    fn weight(&self) -> usize {
+        self.store.weight()
+    }
+
     fn state_bytes(&self, alloc: Global, with_list: bool) -> Result<Vec<u8>, Memory> {
         self.store.state_bytes(alloc, with_list)
     }

@@ -20,13 +20,14 @@ use Rattle.tree_commands.specs.Showing.{ShowsFiles}
 use Rattle.completeness.specs.Mounts.{MountStands, MountUntroubled, IsKeptNext, MountAnswered}
 use Rattle.completeness.specs.Sessions.{IsFaultless}
 use Rattle.completeness.proofs.Serving.{none_rose, one_unfailed}
+use Rattle.mount.specs.Tower.{tower}
 
 module _ {V : Type 0} {K : Type 0} (trace : V → Option (List Call)) (faults : V → ℕ) (G : KeeperGhosts K) (now : Instant) (before after : Mount V K) (asked : Asked) (answer : Answer) (kept present : Tree) where
   abbrev Outcome : Type 0
   Outcome = MountAnswered trace faults G now kept present asked answer before after
 
   left_so : IfOk asked (λ command. OnSpent answer (SpentCause (tower_holdings trace) (store_of before) command)) → (synced : Bool) (next : Tree) → is_synced asked answer ≡ synced → IsFaultless answer → FollowsAsked now present asked answer next → after.core.violated ≡ false
-      → Left ShowsFiles (tower_meanings trace faults) (tower_holdings trace) (tower_durables trace) records G after.core kept present next false synced → Outcome
+      → Left ShowsFiles (tower trace faults G) after.core kept present next false synced → Outcome
   left_so spent true next e unfailed follows fresh stands =
       record { unfailed = unfailed; spent = spent; next = next; follows = follows; tree = next; point = subst (λ b. IsKeptNext b kept present next next) (sym e) refl; stands = record { unviolated = fresh; stands = stands } }
   left_so spent false next e unfailed follows fresh (inl stands) =
@@ -36,11 +37,11 @@ module _ {V : Type 0} {K : Type 0} (trace : V → Option (List Call)) (faults : 
 
   pub answered : MountAnswers ShowsFiles trace faults G now before asked answer after → MountStands trace faults G kept present before → MountUntroubled trace faults G before after → Outcome
   answered a stands quiet =
-      let calm : is_violation answer ≡ false = a.alarm kept present stands.unviolated stands.stands quiet.honest in
+      let calm : is_violation answer ≡ false = a.line.trees.alarm kept present stands.unviolated stands.stands quiet.honest in
       let served = (mount_lawful (λ (m : Mount V K). m) ShowsFiles trace faults G).refusal before after now asked answer a ∙ stands.unviolated in
-      let directory = none_rose _ _ _ a.vault_cause quiet.directory_unfailed in
-      let state = none_rose _ _ _ a.keeper_cause quiet.state_unfailed in
-      let t : LineAnswered ShowsFiles trace faults G now after kept present asked answer = a.stands kept present stands.unviolated stands.stands (a.unforged stands.stands.sound quiet.honest) in
-      let fresh : after.core.violated ≡ false = a.violated ∙ (ap (λ b. b || before.core.violated) calm ∙ stands.unviolated) in
-      left_so a.spent (is_synced asked answer) t.next refl (one_unfailed answer calm served directory state) t.follows fresh
-      (subst (λ b. Left ShowsFiles (tower_meanings trace faults) (tower_holdings trace) (tower_durables trace) records G after.core kept present t.next b (is_synced asked answer)) calm t.left)
+      let directory = none_rose _ _ _ a.line.store.vault_cause quiet.directory_unfailed in
+      let state = none_rose _ _ _ a.line.saver.keeper_cause quiet.state_unfailed in
+      let t : LineAnswered ShowsFiles trace faults G now after kept present asked answer = a.line.trees.stands kept present stands.unviolated stands.stands (a.line.store.unforged stands.stands.sound quiet.honest) in
+      let fresh : after.core.violated ≡ false = a.line.form.violated ∙ (ap (λ b. b || before.core.violated) calm ∙ stands.unviolated) in
+      left_so a.line.store.spent (is_synced asked answer) t.next refl (one_unfailed answer calm served directory state) t.follows fresh
+      (subst (λ b. Left ShowsFiles (tower trace faults G) after.core kept present t.next b (is_synced asked answer)) calm t.left)

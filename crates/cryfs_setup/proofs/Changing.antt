@@ -12,7 +12,7 @@ use Rattle.line_io.specs.Streams.{Stream}
 use Rattle.mount_tower.specs.Drawing.{seal_drawn}
 use Rattle.mount_tower.specs.Making.{sealed_file}
 use Rattle.mount_tower.specs.Identities.{HasEmptyList}
-use Rattle.mount.specs.Tower.{TowerStands, TowerConfigures}
+use Rattle.mount.specs.Tower.{tower, TowerStands, TowerConfigures}
 use Rattle.mount_tower.specs.Tower.{tower_meanings, tower_holdings, tower_durables}
 use Rattle.mount.specs.declared.mount.Mount.{Mount}
 use Rattle.mount_core.specs.Configuring.{ConfigClosed, KeptOneOf, Replaced}
@@ -99,14 +99,14 @@ module _ {V : Type 0} {K : Type 0} (trace : V → Option (List Call)) (faults : 
 
   -- where the change went well, nothing is done to close
   still : (result : Result Unit SyncError) → OnOk result (left.core.saver.changed ≡ false) → IsOk result → IsOk closing × (ended.keeper ≡ left.core.saver.keeper)
-  still (Ok u) c ok = let l = z.left (inr c) in (l.0, l.2)
+  still (Ok u) c ok = let l = z.closes.left (inr c) in (l.0, l.2)
   still (Err e) c ok = absurd (cc)
 
-  stands : ((kept now : Tree) → TowerStands ShowsFiles trace faults G first.core kept now → Synced ShowsFiles (tower_meanings trace faults) (tower_holdings trace) (tower_durables trace) records G left.core kept now change)
+  stands : ((kept now : Tree) → TowerStands ShowsFiles trace faults G first.core kept now → Synced ShowsFiles (tower trace faults G) left.core kept now change)
       → (tree : Tree) → TowerStands ShowsFiles trace faults G first.core tree tree → TowerStands ShowsFiles trace faults G left.core tree tree
   stands synced tree s = either change (synced tree tree s)
     where
-      either : (result : Result Unit SyncError) → Synced ShowsFiles (tower_meanings trace faults) (tower_holdings trace) (tower_durables trace) records G left.core tree tree result → TowerStands ShowsFiles trace faults G left.core tree tree
+      either : (result : Result Unit SyncError) → Synced ShowsFiles (tower trace faults G) left.core tree tree result → TowerStands ShowsFiles trace faults G left.core tree tree
       either (Ok u) t = t
       either (Err e) (inl t) = t
       either (Err e) (inr t) = t
@@ -142,19 +142,19 @@ module _ {V : Type 0} {K : Type 0} (trace : V → Option (List Call)) (faults : 
       → IsOnly new file (opened (settings_of first.opened.config) first.opened.params) ⊎ (IsErrOf result sync_error.Memory × (left ≡ first))
       → Was was ⊎ Opens
   stays was (Ok u) c before r (inl only) = inr (record {
-    holds = config_ok (G.kept ended.keeper) (trace ended.vault) (file ∷ []) file closing (z.left (inr c)).0 (z.configures (file ∷ []) file fresh r);
+    holds = config_ok (G.kept ended.keeper) (trace ended.vault) (file ∷ []) file closing (z.closes.left (inr c)).0 (z.closes.configures (file ∷ []) file fresh r);
     opens = only;
   })
   stays was (Ok u) c before r (inr none) = absurd (ok_not_memory none.0)
-  stays was (Err e) c before (inl r) o = inl (closed_old was closing (z.configures (was ∷ []) was fresh r))
-  stays was (Err e) c before (inr r) (inl only) = only_new was only (closed_either was closing (z.configures (file ∷ was ∷ []) file fresh r))
+  stays was (Err e) c before (inl r) o = inl (closed_old was closing (z.closes.configures (was ∷ []) was fresh r))
+  stays was (Err e) c before (inr r) (inl only) = only_new was only (closed_either was closing (z.closes.configures (file ∷ was ∷ []) file fresh r))
   stays was (Err e) c before (inr r) (inr none) =
-      inl (closed_old was closing (z.configures (was ∷ []) was fresh (subst (λ (m : Mount V K). TowerConfigures trace G m.core (was ∷ []) was) (sym none.1) before)))
+      inl (closed_old was closing (z.closes.configures (was ∷ []) was fresh (subst (λ (m : Mount V K). TowerConfigures trace G m.core (was ∷ []) was) (sym none.1) before)))
 
   opens_after : (result : Result Unit SyncError) → OnOk result (left.core.saver.changed ≡ false) → OnOk result (KeptConfigures records (kept_of G left) (calls_of trace left) file)
       → IsOnly new file (opened (settings_of first.opened.config) first.opened.params) ⊎ (IsErrOf result sync_error.Memory × (left ≡ first)) → OnOk result Opens
   opens_after (Ok u) c k (inl only) =
-      let l = z.left (inr c) in
+      let l = z.closes.left (inr c) in
       record {
         holds = subst (λ (x : K). KeptConfigures records (G.kept x) (trace ended.vault) file) (sym l.2) (subst (λ (x : V). KeptConfigures records (kept_of G left) (trace x) file) (sym l.1) k);
         opens = only;
@@ -163,11 +163,11 @@ module _ {V : Type 0} {K : Type 0} (trace : V → Option (List Call)) (faults : 
   opens_after (Err e) c k o = tt
 
   emptied : (result : Result Unit SyncError) → OnOk result (left.core.saver.changed ≡ false) → OnOk result (HasEmptyList (kept_of G left)) → OnOk result (HasEmptyList (G.kept ended.keeper))
-  emptied (Ok u) c h = subst (λ (k : K). HasEmptyList (G.kept k)) (sym (z.left (inr c)).2) h
+  emptied (Ok u) c h = subst (λ (k : K). HasEmptyList (G.kept k)) (sym (z.closes.left (inr c)).2) h
   emptied (Err e) c h = tt
 
   pub changed : (status : Status) (output : Stream) → ended.status ≡ first_of status (closing_status closing) → Reports change output status → left_chance ≡ (seal_drawn chance).1
-      → ((kept now : Tree) → TowerStands ShowsFiles trace faults G first.core kept now → Synced ShowsFiles (tower_meanings trace faults) (tower_holdings trace) (tower_durables trace) records G left.core kept now change)
+      → ((kept now : Tree) → TowerStands ShowsFiles trace faults G first.core kept now → Synced ShowsFiles (tower trace faults G) left.core kept now change)
       → ((may : List (List ℕ)) (now : List ℕ) → TowerConfigures trace G first.core may now → Replaced (tower_holdings trace) (tower_durables trace) records G left.core may now file change)
       → IsOnly new file (opened (settings_of first.opened.config) first.opened.params) ⊎ (IsErrOf change sync_error.Memory × (left ≡ first))
       → (is_some (calls_of trace first) ≡ true → OnOk change (KeptConfigures records (kept_of G left) (calls_of trace left) file))
@@ -185,13 +185,13 @@ module _ {V : Type 0} {K : Type 0} (trace : V → Option (List Call)) (faults : 
     closing = closing;
     closed = λ ok. (still change unchanged ok).0;
     status = es;
-    directory_quiet = both_directory change closing _ _ _ _ b.vault_quiet vault_quiet z.vault_quiet;
-    state_quiet = both_state change closing _ _ _ _ b.keeper_quiet keeper_quiet z.keeper_quiet;
+    directory_quiet = both_directory change closing _ _ _ _ b.vault_quiet vault_quiet z.leaves.vault_quiet;
+    state_quiet = both_state change closing _ _ _ _ b.keeper_quiet keeper_quiet z.leaves.keeper_quiet;
     drawn = drawn;
     opens = λ told. opens_after change unchanged (holds (told_on (trace vault) (calls_of trace first) (attached_on old (G.kept keeper) (kept_of G first) (trace vault) (calls_of trace first) first.opened b.attached) told)) opens;
     stays = λ was told k. let before = b.configures was told k in stays was change unchanged before (configures (was ∷ []) was before) opens;
     emptied = emptied change unchanged empty;
-    versions = versions_since (G.kept keeper) (G.kept ended.keeper) b.attached.state b.attached.list b.attached.loaded (version_of trace first) (version_of trace left) [] b.versions (λ id. omega (arith, versions id)) closing (z.versions fresh);
+    versions = versions_since (G.kept keeper) (G.kept ended.keeper) b.attached.state b.attached.list b.attached.loaded (version_of trace first) (version_of trace left) [] b.versions (λ id. omega (arith, versions id)) closing (z.closes.versions fresh);
     config = config_is trace faults G old vault keeper first left closing ended.vault ended.keeper b z fresh same on (stands synced);
     unmarked = unmarked;
     quiet = quiet trace faults G old vault keeper first left closing ended.vault ended.keeper b z fresh same on (stands synced) unmarked;
@@ -203,4 +203,4 @@ module _ {V : Type 0} {K : Type 0} (trace : V → Option (List Call)) (faults : 
       → HasCauses (outside_of trace faults G vault keeper) (outside_of trace faults G ended.vault ended.keeper) ended.status
   caused status output es r grows cause keeper_grows keeper_cause =
       changed_causes change _ _ _ _ _ _ _ _ _ _ _ _ output ended.status (ends closing output status ended.status es change r (λ ok. (still change unchanged ok).0))
-      (let q = b.vault_quiet in omega (arith, q)) grows z.vault_grows (let q = b.keeper_quiet in omega (arith, q)) keeper_grows z.keeper_grows cause keeper_cause
+      (let q = b.vault_quiet in omega (arith, q)) grows z.leaves.vault_grows (let q = b.keeper_quiet in omega (arith, q)) keeper_grows z.leaves.keeper_grows cause keeper_cause

@@ -60,7 +60,7 @@ module _ {V : Type 0} {K : Type 0} (trace : V → Option (List Call)) (faults : 
   After = outside_of trace faults G last_vault last_keeper
 
   pub calls_on : GoesOn (calls_of trace first) After.calls
-  calls_on = goes_on_onward (calls_of trace first) (calls_of trace left) (trace last_vault) on z.goes_on
+  calls_on = goes_on_onward (calls_of trace first) (calls_of trace left) (trace last_vault) on z.leaves.goes_on
 
   -- the configuration that was found is that under which what was kept stood for a tree
   pub config_is : (c : Settings) (tree : Tree) → OpensTo ShowsFiles password c tree Before After → settings_of first.opened.config ≡ c
@@ -78,7 +78,7 @@ module _ {V : Type 0} {K : Type 0} (trace : V → Option (List Call)) (faults : 
       let is = config_is c tree f in
       let begun = b.stands tree (subst (λ x. Represents ShowsFiles Before.kept Before.calls x tree) (sym is) f.stands) in
       subst (λ x. Represents ShowsFiles After.kept After.calls x tree) (ap (λ (o : Opened). settings_of o.config) same ∙ is)
-      (of_closed (settings_of left.opened.config) tree closing (z.stands tree tree fresh (stands tree begun)))
+      (of_closed (settings_of left.opened.config) tree closing (z.closes.stands tree tree fresh (stands tree begun)))
 
   pub quiet : ¬ IsKeptMarked records (G.kept keeper) → IsQuietRun ShowsFiles password Before After
   quiet unmarked = record { stands = stands_after; marked = λ m. absurd (unmarked m) }

@@ -57,11 +57,11 @@ module _ {V : Type 0} {K : Type 0} (trace : V → Option (List Call)) (faults : 
     (z : Closing ShowsFiles trace faults G mount closing ended.vault ended.keeper) (output : Stream) (printed : Status) (p : Printed output (info_text (settings_of mount.opened.config) mount.opened.params) printed)
     (es : ended.status ≡ first_of printed (closing_status closing)) where
   status_is : printed ≡ ended.status
-  status_is = sym (es ∙ closed_well closing output _ printed (z.left (inr unchanged)).0 p)
+  status_is = sym (es ∙ closed_well closing output _ printed (z.closes.left (inr unchanged)).0 p)
 
   pub told : IsConfigTold trace faults G password output vault keeper ended
   told =
-      let l = z.left (inr unchanged) in
+      let l = z.closes.left (inr unchanged) in
       let on = goes_on_same (calls_of trace mount) in
       record {
         o = mount.opened;
@@ -71,13 +71,13 @@ module _ {V : Type 0} {K : Type 0} (trace : V → Option (List Call)) (faults : 
         config = config_is trace faults G password vault keeper mount mount closing ended.vault ended.keeper b z b.fresh refl on (λ tree s. s);
         quiet = quiet trace faults G password vault keeper mount mount closing ended.vault ended.keeper b z b.fresh refl on (λ tree s. s) unmarked;
         unmarked = unmarked;
-        directory_quiet = closed_directory closing _ l.0 z.vault_quiet ∙ b.vault_quiet;
-        state_quiet = closed_state closing _ l.0 z.keeper_quiet ∙ b.keeper_quiet;
-        opens = λ other c is_told o. (o.0, o.1, config_ok (G.kept ended.keeper) (trace ended.vault) (o.0 ∷ []) o.0 closing l.0 (z.configures (o.0 ∷ []) o.0 b.fresh (b.configures o.0 is_told o.2)), o.3);
+        directory_quiet = closed_directory closing _ l.0 z.leaves.vault_quiet ∙ b.vault_quiet;
+        state_quiet = closed_state closing _ l.0 z.leaves.keeper_quiet ∙ b.keeper_quiet;
+        opens = λ other c is_told o. (o.0, o.1, config_ok (G.kept ended.keeper) (trace ended.vault) (o.0 ∷ []) o.0 closing l.0 (z.closes.configures (o.0 ∷ []) o.0 b.fresh (b.configures o.0 is_told o.2)), o.3);
       }
 
   pub told_causes : HasCauses (outside_of trace faults G vault keeper) (outside_of trace faults G ended.vault ended.keeper) ended.status
   told_causes =
       subst (λ (s : Status). HasCauses (outside_of trace faults G vault keeper) (outside_of trace faults G ended.vault ended.keeper) s) status_is
       (printed_causes (faults vault) (faults ended.vault) (G.faults keeper) (G.faults ended.keeper) _ _ _ _ output _ printed p
-      (let g = b.vault_quiet in let h = z.vault_grows in omega (arith, g, h)) (let g = b.keeper_quiet in let h = z.keeper_grows in omega (arith, g, h)))
+      (let g = b.vault_quiet in let h = z.leaves.vault_grows in omega (arith, g, h)) (let g = b.keeper_quiet in let h = z.leaves.keeper_grows in omega (arith, g, h)))

@@ -45,20 +45,20 @@ module _ (t : Tree) where
   not_root : (p : Path) (s : Stepped) → StaysOnError t s → StaysOnError t (unless_root t p s)
   not_root p s h = either (is_root p) _ s (the_same _) h
 
-  made_error : (p : Path) (row : Row) (s : LookedUp) → StaysOnError t (made t p row s)
-  made_error p row (Found old) = the_same _
-  made_error p row Free = search (either, the_same, no_error)
-  made_error p row (Bad e) = the_same _
+  made_error : (now : Instant) (p : Path) (row : Row) (s : LookedUp) → StaysOnError t (made t now p row s)
+  made_error now p row (Found old) = the_same _
+  made_error now p row Free = search (either, the_same, no_error)
+  made_error now p row (Bad e) = the_same _
 
-  removed_directory_error : (p : Path) (s : LookedUp) → StaysOnError t (removed_directory t p s)
-  removed_directory_error p (Found row) = search (either, the_same, no_error)
-  removed_directory_error p Free = the_same _
-  removed_directory_error p (Bad e) = the_same _
+  removed_directory_error : (now : Instant) (p : Path) (s : LookedUp) → StaysOnError t (removed_directory t now p s)
+  removed_directory_error now p (Found row) = search (either, the_same, no_error)
+  removed_directory_error now p Free = the_same _
+  removed_directory_error now p (Bad e) = the_same _
 
-  removed_file_error : (p : Path) (s : LookedUp) → StaysOnError t (removed_file t p s)
-  removed_file_error p (Found row) = search (either, the_same, no_error)
-  removed_file_error p Free = the_same _
-  removed_file_error p (Bad e) = the_same _
+  removed_file_error : (now : Instant) (p : Path) (s : LookedUp) → StaysOnError t (removed_file t now p s)
+  removed_file_error now p (Found row) = search (either, the_same, no_error)
+  removed_file_error now p Free = the_same _
+  removed_file_error now p (Bad e) = the_same _
 
   written_error : (now : Instant) (p : Path) (from : ℕ) (bytes : List ℕ) (s : LookedUp) → StaysOnError t (written t now p from bytes s)
   written_error now p from bytes (Found row) = search (either, the_same, no_error, kinds)
@@ -84,14 +84,14 @@ module _ (t : Tree) where
   onto_error q false true s h = the_same _
   onto_error q false false s h = h
 
-  large_error : (q : Path) (next : Tree) → StaysOnError t (moved_unless_large t q next)
-  large_error q next = search (either, the_same, no_error)
+  large_error : (now : Instant) (p q : Path) (next : Tree) → StaysOnError t (moved_unless_large t now p q next)
+  large_error now p q next = search (either, the_same, no_error)
 
   moved_to_error : (now : Instant) (p q : Path) (row : Row) (s : LookedUp) → StaysOnError t (moved_to t now p q row s)
   moved_to_error now p q row (Found old) =
-      let onto = onto_error q (is_directory row.attr.kind) (is_directory old.attr.kind) (moved_unless_large t q (moved_tree t now p q row)) (large_error q (moved_tree t now p q row)) in
-      either (same_path p q) (done t) (moved_onto t q (is_directory row.attr.kind) (is_directory old.attr.kind) (moved_unless_large t q (moved_tree t now p q row))) (no_error t) onto
-  moved_to_error now p q row Free = large_error q (moved_tree t now p q row)
+      let onto = onto_error q (is_directory row.attr.kind) (is_directory old.attr.kind) (moved_unless_large t now p q (moved_tree t now p q row)) (large_error now p q (moved_tree t now p q row)) in
+      either (same_path p q) (done t) (moved_onto t q (is_directory row.attr.kind) (is_directory old.attr.kind) (moved_unless_large t now p q (moved_tree t now p q row))) (no_error t) onto
+  moved_to_error now p q row Free = large_error now p q (moved_tree t now p q row)
   moved_to_error now p q row (Bad e) = the_same _
 
   moved_from_error : (now : Instant) (p q : Path) (s : LookedUp) → StaysOnError t (moved_from t now p q s)
@@ -106,14 +106,14 @@ module _ (t : Tree) where
   pub error_stays : (now : Instant) (c : Command) → StaysOnError t (step t now c)
   error_stays now (command.List p) = looked _ (listed_stays t (upward p) (look t (upward p)))
   error_stays now (command.Stat p) = looked _ (told_stays t (look t (upward p)))
-  error_stays now (command.Mkdir p) = made_error (upward p) (new_row Directory DIRECTORY_MODE now []) (look t (upward p))
-  error_stays now (command.Rmdir p) = not_root (upward p) (removed_directory t (upward p) (look t (upward p))) (removed_directory_error (upward p) (look t (upward p)))
-  error_stays now (command.Mkfile p) = made_error (upward p) (new_row File FILE_MODE now []) (look t (upward p))
-  error_stays now (command.Rm p) = not_root (upward p) (removed_file t (upward p) (look t (upward p))) (removed_file_error (upward p) (look t (upward p)))
+  error_stays now (command.Mkdir p) = made_error now (upward p) (new_row Directory DIRECTORY_MODE now []) (look t (upward p))
+  error_stays now (command.Rmdir p) = not_root (upward p) (removed_directory t now (upward p) (look t (upward p))) (removed_directory_error now (upward p) (look t (upward p)))
+  error_stays now (command.Mkfile p) = made_error now (upward p) (new_row File FILE_MODE now []) (look t (upward p))
+  error_stays now (command.Rm p) = not_root (upward p) (removed_file t now (upward p) (look t (upward p))) (removed_file_error now (upward p) (look t (upward p)))
   error_stays now (command.Mv p q) =
       let moves = moved_from t now (upward p) (upward q) (look t (upward p)) in
       not_root (upward p) (unless_root t (upward q) moves) (not_root (upward q) moves (moved_from_error now (upward p) (upward q) (look t (upward p))))
-  error_stays now (command.Symlink target p) = made_error (upward p) (new_row Link LINK_MODE now target) (look t (upward p))
+  error_stays now (command.Symlink target p) = made_error now (upward p) (new_row Link LINK_MODE now target) (look t (upward p))
   error_stays now (command.Readlink p) = looked _ (target_stays t (look t (upward p)))
   error_stays now (command.Write p from bytes) = written_error now (upward p) from bytes (look t (upward p))
   error_stays now (command.Read p from count) = looked _ (content_stays t from count (look t (upward p)))

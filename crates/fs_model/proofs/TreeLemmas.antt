@@ -4,7 +4,7 @@ use Rattle.std.proofs.Common.{refl, sym, ◌∙◌, ap, ◌⊎◌, inl, inr}
 use Rattle.std.specs.Ordering.{eq_by_cmp, is_eq}
 use Rattle.std.specs.Cmp.{IsTotalOrder, tied_itself, Equal-is, tied_then}
 use Rattle.std.specs.Cmp.Lexicographic.{nat_list_cmp_total, lists_total}
-use Rattle.std.specs.FinMap.{get, entries, find, insert, remove, get-insert, get-remove, get-from_entries, get-entries, IsAntisymmetric, slice_cmp-IsAntisymmetric, nat_cmp-IsAntisymmetric}
+use Rattle.std.specs.FinMap.{get, same_map, entries, find, insert, remove, get-insert, get-remove, get-from_entries, get-entries, IsAntisymmetric, slice_cmp-IsAntisymmetric, nat_cmp-IsAntisymmetric}
 use Rattle.std.specs.declared.option.Option.{Option}
 use Rattle.std.specs.declared.option.Option.TheVariants.{None, Some}
 use Rattle.fs_model.specs.Tree.{Path, Tree, Row, name_cmp, path_cmp, same_path, child_entries, children}
@@ -93,6 +93,13 @@ insert_here t p row = get-insert path_total t p row p ∙ ap (λ b. cond b (Some
 
 pub insert_apart : (t : Tree) (p : Path) (row : Row) (q : Path) → (q ≡ p → ⊥) → get (insert t p row) q ≡ get t q
 insert_apart t p row q differ = get-insert path_total t p row q ∙ ap (λ b. cond b (Some row) (get t q)) (apart q p differ)
+
+-- a row set twice
+pub set_again : (t : Tree) (p : Path) (x row : Row) → insert (insert t p x) p row ≡ insert t p row
+set_again t p x row = same_map path_total path_exact _ _ (λ r. elim (path_split r p) [
+  | inl e ↦ ap (get (insert (insert t p x) p row)) e ∙ (insert_here (insert t p x) p row ∙ sym (ap (get (insert t p row)) e ∙ insert_here t p row))
+  | inr d ↦ insert_apart (insert t p x) p row r d ∙ (insert_apart t p x r d ∙ sym (insert_apart t p row r d))
+])
 
 pub remove_here : (t : Tree) (p : Path) → get (remove t p) p ≡ None
 remove_here t p = get-remove path_total t p p ∙ ap (λ b. cond b None (get t p)) (same_path_itself p)

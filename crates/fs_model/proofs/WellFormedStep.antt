@@ -1,7 +1,7 @@
 -- Each command keeps a tree well formed.
 use Rattle.std.specs.Prelude.{◌≡◌, ℕ, ◌+◌, ◌≤◌, ◌==◌, max, Bool, true, false, cond, List, [], ◌∷◌, ◌++◌, length, is_some, nat_lt, reverse}
 use Rattle.std.specs.List.{All}
-use Rattle.std.proofs.Common.{◌-◌, refl, sym, ◌∙◌, ap, subst, inl, inr, arith, lit≤}
+use Rattle.std.proofs.Common.{refl, sym, ◌∙◌, ap, subst, arith, lit≤}
 use Rattle.std.proofs.lemmas.List.{reverse-append, reverse-reverse}
 use Rattle.std.proofs.lemmas.List.Elements.{All-head, All-tail, All-same}
 use Rattle.std.proofs.lemmas.Bool.{cond_both, ltb-false, leb-true}
@@ -13,139 +13,30 @@ use Rattle.fs_model.specs.declared.attr.Attr.{Attr}
 use Rattle.fs_model.specs.declared.attr.Kind.{Kind}
 use Rattle.fs_model.specs.declared.attr.Kind.TheVariants.{Directory, File, Link}
 use Rattle.fs_model.specs.declared.attr.TheConstants.{DIRECTORY_MODE, FILE_MODE, LINK_MODE}
-use Rattle.fs_model.specs.declared.limits.TheConstants.{MAX_ENTRIES, MAX_FILE, MAX_MODE, MAX_READ}
+use Rattle.fs_model.specs.declared.limits.TheConstants.{MAX_FILE, MAX_MODE, MAX_READ}
 use Rattle.fs_model.specs.declared.error.FsError.TheVariants.{NotEmpty, NotDirectory, TooLarge}
 use Rattle.fs_model.specs.declared.command.Command.{Command}
 use Rattle.fs_model.specs.declared.command.Command.TheVariants as command
 use Rattle.fs_model.specs.Instant.{Instant}
 use Rattle.fs_model.specs.Names.{IsName}
 use Rattle.fs_model.specs.Fitting.{IsFitting, HoldsNames}
-use Rattle.fs_model.specs.Tree.{Path, Tree, Row, upward, same_path, is_directory, is_folder, children, directory_size, entry_size, FitsKind, IsRooted, IsWithinLimits, IsWellFormed, empty_tree, root_row, path_cmp}
+use Rattle.fs_model.specs.Tree.{Path, Tree, Row, upward, same_path, is_directory, is_folder, children, directory_size, FitsKind, IsRooted, IsWithinLimits, IsWellFormed, empty_tree, root_row, path_cmp}
 use Rattle.fs_model.specs.LookUp.{LookedUp, Found, Free, Bad, look}
 use Rattle.fs_model.specs.Move.{CanMove, is_above}
-use Rattle.fs_model.specs.Step.{Stepped, refused, done, by_kind, on_file, unless_root, listed, told, made, new_row, removed_directory, removed_file, has_child, target_read, content_read, is_too_long, with_content, written, truncated, attributes_set, with_mode, with_owner, with_times, moved_tree, moved_unless_large, moved_onto, moved_to, moved_from, step}
-use Rattle.fs_model.proofs.TreeLemmas.{path_split, path_same, get-children, insert_here, insert_apart, remove_here, remove_apart, none_of}
+use Rattle.fs_model.specs.Step.{Stepped, refused, done, touched, by_kind, on_file, unless_root, listed, told, made, new_row, removed_directory, removed_file, has_child, target_read, content_read, is_too_long, with_content, written, truncated, attributes_set, with_mode, with_owner, with_times, moved_tree, moved_unless_large, moved_onto, moved_to, moved_from, step}
+use Rattle.fs_model.proofs.TreeLemmas.{path_same, get-children, insert_here, insert_apart}
 use Rattle.fs_model.proofs.Lengths.{short_enough}
 use Rattle.fs_model.proofs.LookUpLemmas.{get-found, get-free, IsFree}
-use Rattle.fs_model.proofs.SizeLemmas.{map_size, children-insert, children-insert_apart, children-remove, children-remove_apart, size-insert, size-set, size-remove-le, no_children, no_names, size-empty}
+use Rattle.fs_model.proofs.SizeLemmas.{map_size, no_children, no_names, size-empty}
 use Rattle.fs_model.proofs.MovedTree.{moved_well_formed}
+use Rattle.fs_model.proofs.PutRows.{rows_insert, insert_free, insert_found, remove_bare, below_file, below_none, bare_below, root_found}
+use Rattle.fs_model.proofs.Touches.{touched_well}
 
 abbrev pub Keeps : Stepped → Type 0
 Keeps s = IsWellFormed s.tree
 
 either : (b : Bool) (x y : Stepped) → (b ≡ true → Keeps x) → (b ≡ false → Keeps y) → Keeps (cond b x y)
 either b x y f g = cond_both b x y Keeps f g
-
-rows_insert : (t : Tree) → ((r : Path) (x : Row) → get t r ≡ Some x → IsWithinLimits x) → (p : Path) (row : Row) → IsWithinLimits row
-    → (r : Path) (x : Row) → get (insert t p row) r ≡ Some x → IsWithinLimits x
-rows_insert t rows p row limits r x there = elim (path_split r p) [
-  | inl e ↦ let same : Some row ≡ Some x = sym (insert_here t p row) ∙ (ap (get (insert t p row)) (sym e) ∙ there) in let is : row ≡ x = cc in subst IsWithinLimits is limits
-  | inr d ↦ rows r x (sym (insert_apart t p row r d) ∙ there)
-]
-
-rows_remove : (t : Tree) → ((r : Path) (x : Row) → get t r ≡ Some x → IsWithinLimits x) → (p : Path) → (r : Path) (x : Row) → get (remove t p) r ≡ Some x → IsWithinLimits x
-rows_remove t rows p r x there = elim (path_split r p) [
-  | inl e ↦ let bad : None ≡ Some x = sym (remove_here t p) ∙ (ap (get (remove t p)) (sym e) ∙ there) in cc
-  | inr d ↦ rows r x (sym (remove_apart t p r d) ∙ there)
-]
-
--- a row more, below a directory
-pub insert_free : (t : Tree) (n : List ℕ) (p : Path) (row : Row) → IsWellFormed t → IsName n → is_folder (get t p) ≡ true → get t (n ∷ p) ≡ None → IsWithinLimits row
-    → directory_size t p + entry_size n ≤ MAX_ENTRIES → IsWellFormed (insert t (n ∷ p) row)
-insert_free t n p row wf named folder none limits fits = record {
-  rooted = record {
-    root = insert_apart t (n ∷ p) row [] (λ e. cc) ∙ wf.rooted.root;
-    parents = λ m q there. elim (path_split (m ∷ q) (n ∷ p)) [
-      | inl e ↦ let same : q ≡ p = cc in kept q (ap (λ z. is_folder (get t z)) same ∙ folder)
-      | inr d ↦ kept q (wf.rooted.parents m q (ap is_some (sym (insert_apart t (n ∷ p) row (m ∷ q) d)) ∙ there))
-    ];
-  };
-  names = λ m q there. elim (path_split (m ∷ q) (n ∷ p)) [
-    | inl e ↦ let same : n ≡ m = cc in subst IsName same named
-    | inr d ↦ wf.names m q (ap is_some (sym (insert_apart t (n ∷ p) row (m ∷ q) d)) ∙ there)
-  ];
-  rows = rows_insert t wf.rows (n ∷ p) row limits;
-  directories = λ d. elim (path_split d p) [
-    | inl e ↦ subst (λ z. directory_size (insert t (n ∷ p) row) z ≤ MAX_ENTRIES) (sym e)
-        (let size = ap map_size (children-insert t n p row) ∙ size-insert (children t p) n row (get-children t p n ∙ none) in omega arith)
-    | inr other ↦ let size = ap map_size (children-insert_apart t n p row d other) in let bound = wf.directories d in omega arith
-  ];
-}
-  where
-    kept : (q : Path) → is_folder (get t q) ≡ true → is_folder (get (insert t (n ∷ p) row) q) ≡ true
-    kept q h = elim (path_split q (n ∷ p)) [
-      | inl s ↦ let bad : true ≡ false = sym h ∙ (ap (λ z. is_folder (get t z)) s ∙ ap is_folder none) in cc
-      | inr s ↦ ap is_folder (insert_apart t (n ∷ p) row q s) ∙ h
-    ]
-
--- another row of the same kind at a path that isn't the root
-pub insert_found : (t : Tree) (n : List ℕ) (p : Path) (row old : Row) → IsWellFormed t → get t (n ∷ p) ≡ Some old → is_directory old.attr.kind ≡ is_directory row.attr.kind → IsWithinLimits row
-    → IsWellFormed (insert t (n ∷ p) row)
-insert_found t n p row old wf there alike limits = record {
-  rooted = record {
-    root = insert_apart t (n ∷ p) row [] (λ e. cc) ∙ wf.rooted.root;
-    parents = λ m q s. kept q (wf.rooted.parents m q (some_before (m ∷ q) s));
-  };
-  names = λ m q s. wf.names m q (some_before (m ∷ q) s);
-  rows = rows_insert t wf.rows (n ∷ p) row limits;
-  directories = λ d. elim (path_split d p) [
-    | inl e ↦ subst (λ z. directory_size (insert t (n ∷ p) row) z ≤ MAX_ENTRIES) (sym e)
-        (let size = ap map_size (children-insert t n p row) ∙ size-set (children t p) n old row (get-children t p n ∙ there) in let bound = wf.directories p in omega arith)
-    | inr other ↦ let size = ap map_size (children-insert_apart t n p row d other) in let bound = wf.directories d in omega arith
-  ];
-}
-  where
-    some_before : (r : Path) → is_some (get (insert t (n ∷ p) row) r) ≡ true → is_some (get t r) ≡ true
-    some_before r h = elim (path_split r (n ∷ p)) [
-      | inl e ↦ ap (λ z. is_some (get t z)) e ∙ ap is_some there
-      | inr d ↦ ap is_some (sym (insert_apart t (n ∷ p) row r d)) ∙ h
-    ]
-
-    kept : (q : Path) → is_folder (get t q) ≡ true → is_folder (get (insert t (n ∷ p) row) q) ≡ true
-    kept q h = elim (path_split q (n ∷ p)) [
-      | inl s ↦ ap (λ z. is_folder (get (insert t (n ∷ p) row) z)) s ∙ (ap is_folder (insert_here t (n ∷ p) row) ∙ (sym alike ∙ (ap is_folder (sym there) ∙ (ap (λ z. is_folder (get t z)) (sym s) ∙ h))))
-      | inr s ↦ ap is_folder (insert_apart t (n ∷ p) row q s) ∙ h
-    ]
-
--- a row fewer, with nothing below it
-pub remove_bare : (t : Tree) (n : List ℕ) (p : Path) → IsWellFormed t → ((m : List ℕ) → get t (m ∷ (n ∷ p)) ≡ None) → IsWellFormed (remove t (n ∷ p))
-remove_bare t n p wf bare = record {
-  rooted = record {
-    root = remove_apart t (n ∷ p) [] (λ e. cc) ∙ wf.rooted.root;
-    parents = λ m q s. let before = some_before (m ∷ q) s in ap is_folder (remove_apart t (n ∷ p) q (λ e. childless m q before e)) ∙ wf.rooted.parents m q before;
-  };
-  names = λ m q s. wf.names m q (some_before (m ∷ q) s);
-  rows = rows_remove t wf.rows (n ∷ p);
-  directories = λ d. elim (path_split d p) [
-    | inl e ↦ subst (λ z. directory_size (remove t (n ∷ p)) z ≤ MAX_ENTRIES) (sym e)
-        (let size = ap map_size (children-remove t n p) in let less = size-remove-le (children t p) n in let bound = wf.directories p in omega arith)
-    | inr other ↦ let size = ap map_size (children-remove_apart t n p d other) in let bound = wf.directories d in omega arith
-  ];
-}
-  where
-    some_before : (r : Path) → is_some (get (remove t (n ∷ p)) r) ≡ true → is_some (get t r) ≡ true
-    some_before r h = elim (path_split r (n ∷ p)) [
-      | inl e ↦ let bad : false ≡ true = ap is_some (sym (remove_here t (n ∷ p))) ∙ (ap (λ z. is_some (get (remove t (n ∷ p)) z)) (sym e) ∙ h) in cc
-      | inr d ↦ ap is_some (sym (remove_apart t (n ∷ p) r d)) ∙ h
-    ]
-
-    childless : (m : List ℕ) (q : Path) → is_some (get t (m ∷ q)) ≡ true → q ≡ n ∷ p → ⊥
-    childless m q h e = let bad : false ≡ true = ap is_some (sym (bare m)) ∙ (ap (λ z. is_some (get t (m ∷ z))) (sym e) ∙ h) in cc
-
--- nothing stands below a row that is no directory
-pub below_file : (t : Tree) (p : Path) (row : Row) → IsRooted t → get t p ≡ Some row → is_directory row.attr.kind ≡ false → (m : List ℕ) → get t (m ∷ p) ≡ None
-below_file t p row wf there file m = none_of (get t (m ∷ p)) (λ s. let bad : false ≡ true = sym file ∙ (ap is_folder (sym there) ∙ wf.parents m p s) in cc)
-
-pub below_none : (t : Tree) (p : Path) → IsRooted t → get t p ≡ None → (m : List ℕ) → get t (m ∷ p) ≡ None
-below_none t p wf none m = none_of (get t (m ∷ p)) (λ s. let bad : false ≡ true = ap is_folder (sym none) ∙ wf.parents m p s in cc)
-
--- nothing below it, however far
-pub bare_below : (t : Tree) (p : Path) → IsRooted t → ((m : List ℕ) → get t (m ∷ p) ≡ None) → (s : Path) (n : List ℕ) → get t (n ∷ (s ++ p)) ≡ None
-bare_below t p wf bare [] n = bare n
-bare_below t p wf bare (m ∷ s) n = below_none t (m ∷ (s ++ p)) wf (bare_below t p wf bare s m) n
-
-root_found : (t : Tree) (row : Row) → IsWellFormed t → get t [] ≡ Some row → is_directory row.attr.kind ≡ true
-root_found t row wf there = ap is_folder (sym there) ∙ ap is_folder wf.rooted.root
 
 -- the last of names is one
 last_named : (ns : List (List ℕ)) → All IsName ns → (n : List ℕ) (q : Path) → upward ns ≡ n ∷ q → IsName n
@@ -155,16 +46,16 @@ last_named ns named n q e = at_end (reverse q) (All-same IsName (reverse q ++ n 
     at_end [] h = All-head IsName n [] h
     at_end (m ∷ front) h = at_end front (All-tail IsName m (front ++ n ∷ []) h)
 
-made_keeps : (t : Tree) (p : Path) (row : Row) (s : LookedUp) → IsWellFormed t → ((n : List ℕ) (q : Path) → p ≡ n ∷ q → IsName n) → IsWithinLimits row → look t p ≡ s → Keeps (made t p row s)
-made_keeps t p row (Found old) wf named limits h = wf
-made_keeps t p row (Bad e) wf named limits h = wf
-made_keeps t p row Free wf named limits h = free_keeps (get-free t wf.rooted p h)
+made_keeps : (t : Tree) (now : Instant) (p : Path) (row : Row) (s : LookedUp) → IsWellFormed t → ((n : List ℕ) (q : Path) → p ≡ n ∷ q → IsName n) → IsWithinLimits row → look t p ≡ s → Keeps (made t now p row s)
+made_keeps t now p row (Found old) wf named limits h = wf
+made_keeps t now p row (Bad e) wf named limits h = wf
+made_keeps t now p row Free wf named limits h = free_keeps (get-free t wf.rooted p h)
   where
-    free_keeps : (n : List ℕ) × ((q : Path) × IsFree t p n q) → Keeps (made t p row Free)
+    free_keeps : (n : List ℕ) × ((q : Path) × IsFree t p n q) → Keeps (made t now p row Free)
     free_keeps f =
         let free = f.1.1 in
-        subst (λ z. Keeps (made t z row Free)) (sym free.path)
-        (either _ _ _ (λ _. wf) (λ small. insert_free t f.0 f.1.0 row wf (named f.0 f.1.0 free.path) free.folder (ap (get t) (sym free.path) ∙ free.absent) limits (ltb-false _ _ small)))
+        subst (λ z. Keeps (made t now z row Free)) (sym free.path)
+        (either _ _ _ (λ _. wf) (λ small. touched_well (insert t (f.0 ∷ f.1.0) row) now f.1.0 (insert_free t f.0 f.1.0 row wf (named f.0 f.1.0 free.path) free.folder (ap (get t) (sym free.path) ∙ free.absent) limits (ltb-false _ _ small))))
 
 -- on a file alone
 file_keeps : (t : Tree) (kind : Kind) (s : Stepped) → IsWellFormed t → (is_directory kind ≡ false → kind ≡ File → Keeps s) → Keeps (on_file t kind s)
@@ -216,21 +107,23 @@ attributes_keep t n q change (Found row) wf kinds modes h =
 attributes_keep t n q change Free wf kinds modes h = wf
 attributes_keep t n q change (Bad e) wf kinds modes h = wf
 
-removed_directory_keeps : (t : Tree) (n : List ℕ) (q : Path) (s : LookedUp) → IsWellFormed t → Keeps (removed_directory t (n ∷ q) s)
-removed_directory_keeps t n q (Found row) wf = either (is_directory row.attr.kind) (cond (has_child t (n ∷ q)) (refused t NotEmpty) (done (remove t (n ∷ q)))) (refused t NotDirectory) (λ _.
-    either (has_child t (n ∷ q)) (refused t NotEmpty) (done (remove t (n ∷ q))) (λ _. wf) (λ none.
-    remove_bare t n q wf (no_children t (n ∷ q) (let zero = ltb-false 0 (len (children t (n ∷ q))) none in omega arith)))) (λ _. wf)
-removed_directory_keeps t n q Free wf = wf
-removed_directory_keeps t n q (Bad e) wf = wf
+removed_directory_keeps : (t : Tree) (now : Instant) (n : List ℕ) (q : Path) (s : LookedUp) → IsWellFormed t → Keeps (removed_directory t now (n ∷ q) s)
+removed_directory_keeps t now n q (Found row) wf = either (is_directory row.attr.kind) (cond (has_child t (n ∷ q)) (refused t NotEmpty) (done (touched (remove t (n ∷ q)) now q))) (refused t NotDirectory) (λ _.
+    either (has_child t (n ∷ q)) (refused t NotEmpty) (done (touched (remove t (n ∷ q)) now q)) (λ _. wf) (λ none.
+    touched_well (remove t (n ∷ q)) now q (remove_bare t n q wf (no_children t (n ∷ q) (let zero = ltb-false 0 (len (children t (n ∷ q))) none in omega arith))))) (λ _. wf)
+removed_directory_keeps t now n q Free wf = wf
+removed_directory_keeps t now n q (Bad e) wf = wf
 
-removed_file_keeps : (t : Tree) (n : List ℕ) (q : Path) (s : LookedUp) → IsWellFormed t → look t (n ∷ q) ≡ s → Keeps (removed_file t (n ∷ q) s)
-removed_file_keeps t n q (Found row) wf h = either _ _ _ (λ _. wf) (λ file. remove_bare t n q wf (below_file t (n ∷ q) row wf.rooted (get-found t (n ∷ q) row h) file))
-removed_file_keeps t n q Free wf h = wf
-removed_file_keeps t n q (Bad e) wf h = wf
+removed_file_keeps : (t : Tree) (now : Instant) (n : List ℕ) (q : Path) (s : LookedUp) → IsWellFormed t → look t (n ∷ q) ≡ s → Keeps (removed_file t now (n ∷ q) s)
+removed_file_keeps t now n q (Found row) wf h = either _ _ _ (λ _. wf) (λ file. touched_well (remove t (n ∷ q)) now q (remove_bare t n q wf (below_file t (n ∷ q) row wf.rooted (get-found t (n ∷ q) row h) file)))
+removed_file_keeps t now n q Free wf h = wf
+removed_file_keeps t now n q (Bad e) wf h = wf
 
 unless_large_keeps : (t : Tree) (now : Instant) (pn : List ℕ) (pd : Path) (qn : List ℕ) (qd : Path) (row : Row) → IsWellFormed t → IsName qn → CanMove t pn pd qn qd row
-    → Keeps (moved_unless_large t (qn ∷ qd) (moved_tree t now (pn ∷ pd) (qn ∷ qd) row))
-unless_large_keeps t now pn pd qn qd row wf named can = either _ _ _ (λ _. wf) (λ fits. moved_well_formed t now pn pd qn qd row can wf named (ltb-false _ _ fits))
+    → Keeps (moved_unless_large t now (pn ∷ pd) (qn ∷ qd) (moved_tree t now (pn ∷ pd) (qn ∷ qd) row))
+unless_large_keeps t now pn pd qn qd row wf named can = either _ _ _ (λ _. wf) (λ fits.
+    let next = moved_tree t now (pn ∷ pd) (qn ∷ qd) row in
+    touched_well (touched next now pd) now qd (touched_well next now pd (moved_well_formed t now pn pd qn qd row can wf named (ltb-false _ _ fits))))
 
 -- a move that is let through
 pub can_move_free : (t : Tree) (pn : List ℕ) (pd : Path) (qn : List ℕ) (qd : Path) (row : Row) → IsRooted t → look t (pn ∷ pd) ≡ Found row → is_above (pn ∷ pd) (qn ∷ qd) ≡ false → look t (qn ∷ qd) ≡ Free → CanMove t pn pd qn qd row
@@ -318,15 +211,15 @@ fresh_row kind mode now bytes content limit = record { content = content; mode =
 pub well_formed-step : (t : Tree) (now : Instant) (c : Command) → IsWellFormed t → IsFitting c → HoldsNames c → IsWellFormed (step t now c).tree
 well_formed-step t now (command.List p) wf fits named = same_keeps t _ (listed_stays t (upward p) (look t (upward p))) wf
 well_formed-step t now (command.Stat p) wf fits named = same_keeps t _ (told_stays t (look t (upward p))) wf
-well_formed-step t now (command.Mkdir p) wf fits named = made_keeps t (upward p) _ _ wf (last_named p named) (fresh_row Directory DIRECTORY_MODE now [] refl (lit≤ tt)) refl
-well_formed-step t now (command.Rmdir p) wf fits named = unless_keeps t (upward p) _ wf (λ n q e. subst (λ r. Keeps (removed_directory t r (look t r))) (sym e) (removed_directory_keeps t n q (look t (n ∷ q)) wf))
-well_formed-step t now (command.Mkfile p) wf fits named = made_keeps t (upward p) _ _ wf (last_named p named) (fresh_row File FILE_MODE now [] (omega arith) (lit≤ tt)) refl
-well_formed-step t now (command.Rm p) wf fits named = unless_keeps t (upward p) _ wf (λ n q e. subst (λ r. Keeps (removed_file t r (look t r))) (sym e) (removed_file_keeps t n q (look t (n ∷ q)) wf refl))
+well_formed-step t now (command.Mkdir p) wf fits named = made_keeps t now (upward p) _ _ wf (last_named p named) (fresh_row Directory DIRECTORY_MODE now [] refl (lit≤ tt)) refl
+well_formed-step t now (command.Rmdir p) wf fits named = unless_keeps t (upward p) _ wf (λ n q e. subst (λ r. Keeps (removed_directory t now r (look t r))) (sym e) (removed_directory_keeps t now n q (look t (n ∷ q)) wf))
+well_formed-step t now (command.Mkfile p) wf fits named = made_keeps t now (upward p) _ _ wf (last_named p named) (fresh_row File FILE_MODE now [] (omega arith) (lit≤ tt)) refl
+well_formed-step t now (command.Rm p) wf fits named = unless_keeps t (upward p) _ wf (λ n q e. subst (λ r. Keeps (removed_file t now r (look t r))) (sym e) (removed_file_keeps t now n q (look t (n ∷ q)) wf refl))
 well_formed-step t now (command.Mv p q) wf fits named =
     unless_keeps t (upward p) _ wf (λ pn pd pe. unless_keeps t (upward q) _ wf (λ qn qd qe.
     subst (λ r. Keeps (moved_from t now r (upward q) (look t r))) (sym pe) (subst (λ r. Keeps (moved_from t now (pn ∷ pd) r (look t (pn ∷ pd)))) (sym qe)
     (moved_from_keeps t now pn pd qn qd (look t (pn ∷ pd)) wf (last_named q named.1 qn qd qe) refl))))
-well_formed-step t now (command.Symlink target p) wf fits named = made_keeps t (upward p) _ _ wf (last_named p named) (fresh_row Link LINK_MODE now target fits (lit≤ tt)) refl
+well_formed-step t now (command.Symlink target p) wf fits named = made_keeps t now (upward p) _ _ wf (last_named p named) (fresh_row Link LINK_MODE now target fits (lit≤ tt)) refl
 well_formed-step t now (command.Readlink p) wf fits named = same_keeps t _ (target_stays t (look t (upward p))) wf
 well_formed-step t now (command.Write p from bytes) wf fits named = written_keeps t now (upward p) from bytes _ wf refl
 well_formed-step t now (command.Read p from count) wf fits named = same_keeps t _ (content_stays t from count (look t (upward p))) wf

@@ -1,6 +1,8 @@
 -- One command on the tree: its reply and the next tree.
-use Rattle.std.specs.Prelude.{ℕ, ◌+◌, max, Bool, true, false, cond, ◌||◌, ◌==◌, nat_lt, List, [], length, take, drop, map}
-use Rattle.std.specs.FinMap.{entries, insert, remove, len}
+use Rattle.std.specs.Prelude.{ℕ, ◌+◌, max, Bool, true, false, cond, ◌||◌, ◌==◌, nat_lt, List, [], ◌∷◌, length, take, drop, map}
+use Rattle.std.specs.FinMap.{entries, get, insert, remove, len}
+use Rattle.std.specs.declared.option.Option.{Option}
+use Rattle.std.specs.declared.option.Option.TheVariants.{None, Some}
 use Rattle.block_id.specs.Contents.{resized, overwritten}
 use Rattle.fs_model.specs.declared.attr.Attr.{Attr}
 use Rattle.fs_model.specs.declared.attr.Kind.{Kind}
@@ -59,6 +61,18 @@ told t (Found row) = answered t (Info row.attr (length row.bytes))
 told t Free = refused t NoEntry
 told t (Bad e) = refused t e
 
+-- a directory whose children changed: its mtime and ctime are now, but for the root's
+abbrev pub with_moments : Row → Instant → Row
+with_moments row now = record row { attr = record row.attr { mtime = now; ctime = now } }
+
+abbrev pub touched_at : Tree → Instant → Path → Option Row → Tree
+touched_at t now d None = t
+touched_at t now d (Some row) = insert t d (with_moments row now)
+
+abbrev pub touched : Tree → Instant → Path → Tree
+touched t now [] = t
+touched t now (n ∷ d) = touched_at t now (n ∷ d) (get t (n ∷ d))
+
 -- Mkdir, Mkfile and Symlink: a new row
 abbrev pub new_row : Kind → ℕ → Instant → List ℕ → Row
 new_row kind mode now bytes = record {
@@ -66,25 +80,25 @@ new_row kind mode now bytes = record {
   bytes = bytes;
 }
 
-abbrev pub made : Tree → Path → Row → LookedUp → Stepped
-made t p row (Found old) = refused t Exists
-made t p row Free = cond (nat_lt MAX_ENTRIES (directory_size t (parent p) + entry_size (last_name p))) (refused t TooLarge) (done (insert t p row))
-made t p row (Bad e) = refused t e
+abbrev pub made : Tree → Instant → Path → Row → LookedUp → Stepped
+made t now p row (Found old) = refused t Exists
+made t now p row Free = cond (nat_lt MAX_ENTRIES (directory_size t (parent p) + entry_size (last_name p))) (refused t TooLarge) (done (touched (insert t p row) now (parent p)))
+made t now p row (Bad e) = refused t e
 
 -- Rmdir: an empty directory goes
 abbrev pub has_child : Tree → Path → Bool
 has_child t p = nat_lt 0 (len (children t p))
 
-abbrev pub removed_directory : Tree → Path → LookedUp → Stepped
-removed_directory t p (Found row) = cond (is_directory row.attr.kind) (cond (has_child t p) (refused t NotEmpty) (done (remove t p))) (refused t NotDirectory)
-removed_directory t p Free = refused t NoEntry
-removed_directory t p (Bad e) = refused t e
+abbrev pub removed_directory : Tree → Instant → Path → LookedUp → Stepped
+removed_directory t now p (Found row) = cond (is_directory row.attr.kind) (cond (has_child t p) (refused t NotEmpty) (done (touched (remove t p) now (parent p)))) (refused t NotDirectory)
+removed_directory t now p Free = refused t NoEntry
+removed_directory t now p (Bad e) = refused t e
 
 -- Rm: a file or a link goes
-abbrev pub removed_file : Tree → Path → LookedUp → Stepped
-removed_file t p (Found row) = cond (is_directory row.attr.kind) (refused t IsDirectory) (done (remove t p))
-removed_file t p Free = refused t NoEntry
-removed_file t p (Bad e) = refused t e
+abbrev pub removed_file : Tree → Instant → Path → LookedUp → Stepped
+removed_file t now p (Found row) = cond (is_directory row.attr.kind) (refused t IsDirectory) (done (touched (remove t p) now (parent p)))
+removed_file t now p Free = refused t NoEntry
+removed_file t now p (Bad e) = refused t e
 
 -- Readlink: the target
 abbrev pub target_read : Tree → LookedUp → Stepped
@@ -149,8 +163,8 @@ with_ctime row now = record row { attr = record row.attr { ctime = now } }
 abbrev pub moved_tree : Tree → Instant → Path → Path → Row → Tree
 moved_tree t now p q row = insert (renamed (remove t q) p q) q (with_ctime row now)
 
-abbrev pub moved_unless_large : Tree → Path → Tree → Stepped
-moved_unless_large t q next = cond (nat_lt MAX_ENTRIES (directory_size next (parent q))) (refused t TooLarge) (done next)
+abbrev pub moved_unless_large : Tree → Instant → Path → Path → Tree → Stepped
+moved_unless_large t now p q next = cond (nat_lt MAX_ENTRIES (directory_size next (parent q))) (refused t TooLarge) (done (touched (touched next now (parent p)) now (parent q)))
 
 -- q is found: p is a directory or not, and so is q
 abbrev pub moved_onto : Tree → Path → Bool → Bool → Stepped → Stepped
@@ -161,8 +175,8 @@ moved_onto t q false false s = s
 
 abbrev pub moved_to : Tree → Instant → Path → Path → Row → LookedUp → Stepped
 moved_to t now p q row (Found old) =
-    cond (same_path p q) (done t) (moved_onto t q (is_directory row.attr.kind) (is_directory old.attr.kind) (moved_unless_large t q (moved_tree t now p q row)))
-moved_to t now p q row Free = moved_unless_large t q (moved_tree t now p q row)
+    cond (same_path p q) (done t) (moved_onto t q (is_directory row.attr.kind) (is_directory old.attr.kind) (moved_unless_large t now p q (moved_tree t now p q row)))
+moved_to t now p q row Free = moved_unless_large t now p q (moved_tree t now p q row)
 moved_to t now p q row (Bad e) = refused t e
 
 abbrev pub moved_from : Tree → Instant → Path → Path → LookedUp → Stepped
@@ -174,12 +188,12 @@ moved_from t now p q (Bad e) = refused t e
 abbrev pub step : Tree → Instant → Command → Stepped
 step t now (command.List p) = listed t (upward p) (look t (upward p))
 step t now (command.Stat p) = told t (look t (upward p))
-step t now (command.Mkdir p) = made t (upward p) (new_row Directory DIRECTORY_MODE now []) (look t (upward p))
-step t now (command.Rmdir p) = unless_root t (upward p) (removed_directory t (upward p) (look t (upward p)))
-step t now (command.Mkfile p) = made t (upward p) (new_row File FILE_MODE now []) (look t (upward p))
-step t now (command.Rm p) = unless_root t (upward p) (removed_file t (upward p) (look t (upward p)))
+step t now (command.Mkdir p) = made t now (upward p) (new_row Directory DIRECTORY_MODE now []) (look t (upward p))
+step t now (command.Rmdir p) = unless_root t (upward p) (removed_directory t now (upward p) (look t (upward p)))
+step t now (command.Mkfile p) = made t now (upward p) (new_row File FILE_MODE now []) (look t (upward p))
+step t now (command.Rm p) = unless_root t (upward p) (removed_file t now (upward p) (look t (upward p)))
 step t now (command.Mv p q) = unless_root t (upward p) (unless_root t (upward q) (moved_from t now (upward p) (upward q) (look t (upward p))))
-step t now (command.Symlink target p) = made t (upward p) (new_row Link LINK_MODE now target) (look t (upward p))
+step t now (command.Symlink target p) = made t now (upward p) (new_row Link LINK_MODE now target) (look t (upward p))
 step t now (command.Readlink p) = target_read t (look t (upward p))
 step t now (command.Write p from bytes) = written t now (upward p) from bytes (look t (upward p))
 step t now (command.Read p from count) = content_read t from count (look t (upward p))

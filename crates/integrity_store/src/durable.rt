@@ -64,6 +64,10 @@ impl<V: Vault, C: Sealer> Durable for IntegrityStore<V, C> {
         self.sealed.vault.buffered()
     }
 
+    fn weight(&self) -> usize {
+        self.sealed.vault.weight()
+    }
+
     fn state_bytes(&self, alloc: Global, with_list: bool) -> Result<Vec<u8>, Memory> {
         encode(alloc, &self.state, self.listed(with_list))
     }

@@ -3,3 +3,5 @@ pub mod Representing
 pub mod Opening
 pub mod Making
 pub mod Mounts
+pub mod Answering
+pub mod Serving

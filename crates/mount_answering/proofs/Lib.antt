@@ -4,3 +4,5 @@ mod Asking
 mod Versions
 mod Loads
 mod Quiet
+mod Stores
+mod Closing

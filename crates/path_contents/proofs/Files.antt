@@ -2,12 +2,6 @@
 use Rattle.std.proofs.Common.{◌≡◌, ℕ, true, false, List, [], ◌∷◌, length, refl}
 use Rattle.std.specs.Prelude.{◌==◌}
 use Rattle.block_id.specs.Contents.{overwritten, written}
-use Rattle.fs_model.specs.declared.attr.Attr.{Attr}
-use Rattle.fs_model.specs.Instant.{Instant}
-
--- the attributes of a row whose content changes
-abbrev pub touched : Instant → Attr → Attr
-touched now a = record a { mtime = now; ctime = now }
 
 -- some bytes overwrite
 pub written_some : (old : List ℕ) (from : ℕ) (new : List ℕ) → (length new == 0) ≡ false → written old from new ≡ overwritten old from new

@@ -9,10 +9,10 @@ use Rattle.fs_model.specs.declared.reply.Reply.TheVariants.{Done}
 use Rattle.fs_model.specs.Instant.{Instant}
 use Rattle.fs_model.specs.Tree.{is_directory, FitsKind, IsWellFormed}
 use Rattle.fs_model.specs.Step.{done}
-use Rattle.fs_model.proofs.WellFormedStep.{insert_found}
+use Rattle.fs_model.proofs.PutRows.{insert_found}
 use Rattle.forest.specs.Showing.{IsShownBy, Performed}
 use Rattle.path_walks.specs.declared.spots.Place.{Place}
-use Rattle.path_contents.specs.Changes.{Setting}
+use Rattle.path_entries.specs.Entries.{Setting}
 use Rattle.tree_rules.specs.declared.attributes.AttrChange.{AttrChange}
 use Rattle.tree_rules.specs.declared.attributes.AttrChange.TheVariants.{Mode, Owner, Times}
 use Rattle.tree_rules.specs.Changes.{changed_by}

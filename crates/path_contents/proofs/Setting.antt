@@ -1,4 +1,4 @@
--- A row that gets other attributes or another content, over blobs.
+-- A row that gets another content, over blobs.
 use Rattle.std.proofs.Common.{◌≡◌, ℕ, ◌≤◌, ◌+◌, zero, suc, true, List, [], ◌∷◌, length, refl, sym, ◌∙◌, ap, subst, arith}
 use Rattle.std.specs.Prelude.{is_some, cond}
 use Rattle.std.specs.FinMap.{get, find, insert, put}
@@ -23,61 +23,20 @@ use Rattle.forest.specs.Nodes.{Look, Lists, IsBodyOf, IsBlobOf}
 use Rattle.forest.specs.Shows.{above, target_for, entries_at}
 use Rattle.forest.proofs.Forests.{map_apart}
 use Rattle.dir_entries.proofs.Bodies.{no_more}
-use Rattle.forest.proofs.Shown.{IsFolderRow, folder_row, attributes_show, content_shows}
+use Rattle.forest.proofs.Shown.{content_shows}
 use Rattle.forest.specs.Showing.{IsShownBy}
-use Rattle.path_contents.specs.Changes.{Setting}
+use Rattle.path_entries.specs.Entries.{Setting}
+use Rattle.path_entries.proofs.Setting.{q, folder, row_above, present, has_name, listed, row_with, lists_then}
 use Rattle.path_contents.specs.Sparing.{IsSparingTwice}
 use Rattle.path_walks.proofs.Nodes.{lists_at, directory_at, above_wide, size_at, lists_with}
 
 module _ {S : Type 0} {H : BlobHoldings S} {a : S} {dir : Id} {e : List ℕ × EntryTarget} (w : Setting H a dir e) where
-  abbrev pub q : Path
-  q = e.0 ∷ w.path
-
-  pub folder : is_folder (get w.tree w.path) ≡ true
-  folder = w.shows.well_formed.rooted.parents e.0 w.path (ap is_some w.there)
-
-  pub row_above : IsFolderRow w.tree w.path
-  row_above = folder_row w.tree w.path folder
-
-  pub present : find name_cmp e.0 (lists_at w.shows w.path row_above.row row_above.there row_above.kind).listing ≡ Some (record { attr = w.row.attr; blob = w.ids q })
-  present = (lists_at w.shows w.path row_above.row row_above.there row_above.kind).entries e.0 ∙ ap (target_for (w.ids q)) w.there
-
-  -- the directory has an entry of the name
-  abbrev pub has_name : HasName H a dir e.0
-  has_name = record {
-    is = directory_at w.shows w.stands w.path row_above.row row_above.there row_above.kind dir w.dir_id;
-    target = record { attr = w.row.attr; blob = w.ids q };
-    present = present;
-  }
-
-  pub some_body : 1 ≤ length (body_of has_name.is.listing)
-  some_body = counted (length (body_of has_name.is.listing)) refl
+  pub some_body : 1 ≤ length (body_of (has_name w).is.listing)
+  some_body = counted (length (body_of (has_name w).is.listing)) refl
     where
-      counted : (k : ℕ) → length (body_of has_name.is.listing) ≡ k → 1 ≤ length (body_of has_name.is.listing)
-      counted zero h = absurd (none-some (record { attr = w.row.attr; blob = w.ids q }) (sym (ap (find name_cmp e.0) (no_more has_name.is.listing h)) ∙ present))
+      counted : (k : ℕ) → length (body_of (has_name w).is.listing) ≡ k → 1 ≤ length (body_of (has_name w).is.listing)
+      counted zero h = absurd (none-some (record { attr = w.row.attr; blob = w.ids (q w) }) (sym (ap (find name_cmp e.0) (no_more (has_name w).is.listing h)) ∙ present w))
       counted (suc k) h = omega arith
-
-  abbrev pub listed : List ℕ
-  listed = body_of (put name_cmp e.0 e.1 has_name.is.listing)
-
-  abbrev pub row_with : List ℕ → Row
-  row_with bytes = record { attr = e.1.attr; bytes = bytes }
-
-  lists_then : IsListing (put name_cmp e.0 e.1 has_name.is.listing) → Lists (λ k. cond (same_name k e.0) (Some (record { attr = e.1.attr; blob = w.ids q })) (entries_at w.tree w.ids w.path k)) listed
-  lists_then is =
-      let target_is : e.1 ≡ record { attr = e.1.attr; blob = w.ids q } = λ i. record { attr = e.1.attr; blob = sym w.blob i } in
-      subst (λ z. Lists (λ k. cond (same_name k e.0) (Some z) (entries_at w.tree w.ids w.path k)) listed) target_is
-      (lists_with (entries_at w.tree w.ids w.path) has_name.is.listing e.0 e.1 (lists_at w.shows w.path row_above.row row_above.there row_above.kind).entries is)
-
-  pub attributes_set : (b : S) → FitsKind e.1.attr.kind w.row.bytes → HasEntries H b w.map dir (above w.ids w.path) (put name_cmp e.0 e.1 has_name.is.listing) → IsShownBy H b w.root (insert w.tree q (row_with w.row.bytes)) w.ids
-  attributes_set b fits h = record {
-    map = insert w.map (w.ids w.path) (blob Directory (above w.ids w.path) listed);
-    stands = subst (λ z. H.stands_for b (insert w.map z (blob Directory (above w.ids w.path) listed))) (sym w.dir_id) h.stands;
-    shows = attributes_show w.map w.root w.tree w.ids w.shows e.0 w.path folder w.row (row_with w.row.bytes) w.there w.kind refl listed (lists_then h.entries) (w.well_formed w.row.bytes fits);
-  }
-
-  pub fits_still : FitsKind e.1.attr.kind w.row.bytes
-  fits_still = subst (λ k. FitsKind k w.row.bytes) w.kind (w.shows.well_formed.rows q w.row w.there).content
 
   -- ---- a file's content
 
@@ -85,14 +44,14 @@ module _ {S : Type 0} {H : BlobHoldings S} {a : S} {dir : Id} {e : List ℕ × E
     file_body : (kind : Kind) (bytes : List ℕ) (look : Look) (body : List ℕ) → kind ≡ File → IsBodyOf kind bytes look body → body ≡ bytes
     file_body kind bytes look body is c = subst (λ k. IsBodyOf k bytes look body) is c
 
-    node : IsBlobOf w.map (w.ids q) w.row.attr.kind (above w.ids q) w.row.bytes (entries_at w.tree w.ids q)
-    node = w.shows.forest.nodes q w.row w.there
+    node : IsBlobOf w.map (w.ids (q w)) w.row.attr.kind (above w.ids (q w)) w.row.bytes (entries_at w.tree w.ids (q w))
+    node = w.shows.forest.nodes (q w) w.row w.there
 
     same_body : node.body ≡ w.row.bytes
-    same_body = file_body w.row.attr.kind w.row.bytes (entries_at w.tree w.ids q) node.body (w.kind ∙ file) node.content
+    same_body = file_body w.row.attr.kind w.row.bytes (entries_at w.tree w.ids (q w)) node.body (w.kind ∙ file) node.content
 
     pub short : length w.row.bytes ≤ MAX_FILE
-    short = subst (λ k. FitsKind k w.row.bytes) (w.kind ∙ file) (w.shows.well_formed.rows q w.row w.there).content
+    short = subst (λ k. FitsKind k w.row.bytes) (w.kind ∙ file) (w.shows.well_formed.rows (q w) w.row w.there).content
 
     pub there_file : get w.map e.1.blob ≡ Some (blob File (w.ids w.path) w.row.bytes)
     there_file = ap (get w.map) (sym w.blob) ∙ (node.there ∙ (ap (λ k. Some (blob k (w.ids w.path) node.body)) (w.kind ∙ file) ∙ ap (λ z. Some (blob File (w.ids w.path) z)) same_body))
@@ -108,7 +67,7 @@ module _ {S : Type 0} {H : BlobHoldings S} {a : S} {dir : Id} {e : List ℕ × E
       parent = w.ids w.path;
       body = w.row.bytes;
       there = there_file;
-      wide = above_wide w.shows q w.row w.there;
+      wide = above_wide w.shows (q w) w.row w.there;
       fits = fits_file;
     }
 
@@ -117,31 +76,31 @@ module _ {S : Type 0} {H : BlobHoldings S} {a : S} {dir : Id} {e : List ℕ × E
       abbrev pub map1 : BlobMap
       map1 = insert w.map e.1.blob (blob File (w.ids w.path) new)
 
-      pub there_dir : get map1 dir ≡ Some (blob Directory (above w.ids w.path) (body_of has_name.is.listing))
+      pub there_dir : get map1 dir ≡ Some (blob Directory (above w.ids w.path) (body_of (has_name w).is.listing))
       there_dir = map_apart w.map e.1.blob (blob File (w.ids w.path) new) dir
-          (λ z. absurd (shorter (w.shows.forest.distinct w.path q (ap is_some row_above.there) (ap is_some w.there) (w.dir_id ∙ (z ∙ sym w.blob)))))
-          ∙ has_name.is.there
+          (λ z. absurd (shorter (w.shows.forest.distinct w.path (q w) (ap is_some (row_above w).there) (ap is_some w.there) (w.dir_id ∙ (z ∙ sym w.blob)))))
+          ∙ (has_name w).is.there
         where
-          shorter : w.path ≡ q → ⊥
+          shorter : w.path ≡ q w → ⊥
           shorter z = omega (arith, ap length z)
 
       -- the directory after that
       abbrev pub has_name_then : (b : S) → H.stands_for b map1 → HasName H b dir e.0
       has_name_then b stands = record {
-        is = record { map = map1; stands = stands; parent = above w.ids w.path; listing = has_name.is.listing; there = there_dir; entries = has_name.is.entries; wide = has_name.is.wide; fits = has_name.is.fits };
-        target = record { attr = w.row.attr; blob = w.ids q };
-        present = present;
+        is = record { map = map1; stands = stands; parent = above w.ids w.path; listing = (has_name w).is.listing; there = there_dir; entries = (has_name w).is.entries; wide = (has_name w).is.wide; fits = (has_name w).is.fits };
+        target = record { attr = w.row.attr; blob = w.ids (q w) };
+        present = present w;
       }
 
-      pub content_set : (c : S) → HasEntries H c map1 dir (above w.ids w.path) (put name_cmp e.0 e.1 has_name.is.listing) → IsShownBy H c w.root (insert w.tree q (row_with new)) w.ids
+      pub content_set : (c : S) → HasEntries H c map1 dir (above w.ids w.path) (put name_cmp e.0 e.1 (has_name w).is.listing) → IsShownBy H c w.root (insert w.tree (q w) (row_with w new)) w.ids
       content_set c h =
           let fits : FitsKind e.1.attr.kind new = subst (λ k. FitsKind k new) (sym file) few in
           record {
-            map = insert (insert w.map (w.ids q) (blob e.1.attr.kind (w.ids w.path) new)) (w.ids w.path) (blob Directory (above w.ids w.path) listed);
-            stands = subst (λ k. H.stands_for c (insert (insert w.map (w.ids q) (blob k (w.ids w.path) new)) (w.ids w.path) (blob Directory (above w.ids w.path) listed))) (sym file)
-                (subst (λ z. H.stands_for c (insert (insert w.map z (blob File (w.ids w.path) new)) (w.ids w.path) (blob Directory (above w.ids w.path) listed))) (sym w.blob)
-                (subst (λ z. H.stands_for c (insert map1 z (blob Directory (above w.ids w.path) listed))) (sym w.dir_id) h.stands));
-            shows = content_shows w.map w.root w.tree w.ids w.shows e.0 w.path folder w.row (row_with new) w.there w.kind new (subst (λ k. IsBodyOf k new (entries_at w.tree w.ids q) new) (sym file) refl) listed (lists_then h.entries) (w.well_formed new fits);
+            map = insert (insert w.map (w.ids (q w)) (blob e.1.attr.kind (w.ids w.path) new)) (w.ids w.path) (blob Directory (above w.ids w.path) (listed w));
+            stands = subst (λ k. H.stands_for c (insert (insert w.map (w.ids (q w)) (blob k (w.ids w.path) new)) (w.ids w.path) (blob Directory (above w.ids w.path) (listed w)))) (sym file)
+                (subst (λ z. H.stands_for c (insert (insert w.map z (blob File (w.ids w.path) new)) (w.ids w.path) (blob Directory (above w.ids w.path) (listed w)))) (sym w.blob)
+                (subst (λ z. H.stands_for c (insert map1 z (blob Directory (above w.ids w.path) (listed w)))) (sym w.dir_id) h.stands));
+            shows = content_shows w.map w.root w.tree w.ids w.shows e.0 w.path (folder w) w.row (row_with w new) w.there w.kind new (subst (λ k. IsBodyOf k new (entries_at w.tree w.ids (q w)) new) (sym file) refl) (listed w) (lists_then w h.entries) (w.well_formed new fits);
           }
 
     pub written_few : (from : ℕ) (bytes : List ℕ) → from + length bytes ≤ MAX_FILE → length (written w.row.bytes from bytes) ≤ MAX_FILE
@@ -152,9 +111,9 @@ module _ {S : Type 0} {H : BlobHoldings S} {a : S} {dir : Id} {e : List ℕ × E
     resized_few n within = omega (arith, length-resized w.row.bytes n)
 
   pub spared : {M : Meanings S} (steady : BlobsSteady M H) (b c : S) → M.loaded a b → (from n : ℕ) → IsSparing H a b (length w.row.bytes) from n
-      → IsSparing H b c (length (body_of has_name.is.listing)) 0 (length (body_of has_name.is.listing)) → IsSparingTwice H a c (length w.row.bytes) (directory_size w.tree w.path) from n
+      → IsSparing H b c (length (body_of (has_name w).is.listing)) 0 (length (body_of (has_name w).is.listing)) → IsSparingTwice H a c (length w.row.bytes) (directory_size w.tree w.path) from n
   spared steady b c loaded from n first second = λ l told least most.
-      let size : length (body_of has_name.is.listing) ≡ directory_size w.tree w.path = size_at w.shows w.path row_above.row row_above.there row_above.kind in
+      let size : length (body_of (has_name w).is.listing) ≡ directory_size w.tree w.path = size_at w.shows w.path (row_above w).row (row_above w).there (row_above w).kind in
       let one = first l told least most in
       let two = second l (steady.piece_stays a b loaded ∙ told) some_body (omega arith) in
       omega (arith, one, two, ap (λ z. pieces z l) size)

@@ -1,4 +1,3 @@
-pub mod Changes
 pub mod Listed
 pub mod Attributes
 pub mod Places

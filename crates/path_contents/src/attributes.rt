@@ -10,11 +10,11 @@ ghost use Rattle.path_walks.specs.Replies.{IsChangeReply};
 ghost use Rattle.path_contents.specs.Attributes.{ChangeFits};
 ghost use Rattle.path_walks.specs.Sights.{Finding};
 
-use crate::changes::set_entry;
 use blob_api::Blobs;
 use block_id::{BlockId, Fail};
 use dir_entries::Entry;
 use fs_model::{FsError, MAX_MODE, Moment, Name, Reply};
+use path_entries::set_entry;
 use path_walks::{Place, Reached, done, reach};
 use rand_core::Rng;
 use std::alloc::Global;
@@ -38,7 +38,9 @@ pub fn set_attributes<B: Blobs, R: Rng>(
 {
     match reach(alloc, b, root, names, FsError::Busy) {
         Ok(Reached::Row(dir, name, place)) => {
-            set_found(alloc, b, root, &dir, name, &place, change, now, chance)
+            set_found(
+                alloc, b, root, &dir.place, name, &place, change, now, chance,
+            )
         }
         Ok(Reached::Refused(error)) => Ok(Reply::Error(error)),
         Err(fail) => Err(fail),

@@ -1,4 +1,4 @@
-// Changes of what a row has, as the blobs show it.
+// Changes of a file's content, as the blobs show it.
 ghost use Rattle.std.specs.Prelude.{◌≡◌, ◌≤◌, ◌+◌, ◌∷◌, length};
 ghost use Rattle.std.specs.FinMap.{insert as with_key};
 ghost use Rattle.fs_model.specs.declared.attr.Kind.TheVariants.{File};
@@ -7,7 +7,7 @@ ghost use Rattle.block_id.specs.Contents.{resized, written};
 ghost use Rattle.fs_model.specs.Tree.{directory_size};
 ghost use Rattle.dir_entries.specs.Layout.{entry_of};
 ghost use Rattle.forest.specs.Showing.{IsShownBy};
-ghost use Rattle.path_contents.specs.Changes.{Setting};
+ghost use Rattle.path_entries.specs.Entries.{Setting};
 ghost use Rattle.path_contents.specs.Sparing.{IsSparingTwice};
 
 use blob_api::Blobs;
@@ -18,22 +18,6 @@ use fs_blobs::{resize_body, write_body};
 use fs_model::{MAX_FILE, MAX_MODE};
 use rand_core::Rng;
 use std::alloc::Global;
-
-/// A row gets other attributes of its kind.
-pub fn set_entry<B: Blobs, R: Rng>(
-    alloc: Global,
-    b: &mut B,
-    dir: &BlockId,
-    entry: &Entry,
-    chance: &mut R,
-) -> Result<(), Fail>
-    requires intact { B.meanings.intact b.old }
-    requires mode { entry.now.attr.mode ≤ MAX_MODE }
-    ensures { Outcome B.meanings (Setting B.holdings b.old dir.now.0 (entry_of entry.now)) b.old b.new result
-        (λ n _. IsShownBy B.holdings b.new n.root (with_key n.tree (entry.now.name ∷ n.path) (record { attr = entry.now.attr; bytes = n.row.bytes })) n.ids) }
-{
-    change(alloc, b, dir, entry, chance)
-}
 
 /// A file gets these bytes at `from`, and its entry the new attributes.
 pub fn write_at<B: Blobs, R: Rng>(

@@ -12,10 +12,10 @@ ghost use Rattle.path_walks.specs.Sights.{Finding};
 use crate::changes::{resize_at, write_at};
 use crate::places::content_refusal;
 use blob_api::Blobs;
-use block_id::{BlockId, Fail, Memory};
-use dir_entries::Entry;
+use block_id::{BlockId, Fail};
 use fs_blobs::body_len;
-use fs_model::{Attr, FsError, MAX_MODE, Moment, Name, Reply};
+use fs_model::{FsError, MAX_MODE, Moment, Name, Reply};
+use path_entries::touched;
 use path_walks::{Place, Reached, done, reach};
 use rand_core::Rng;
 use std::alloc::Global;
@@ -41,7 +41,9 @@ pub fn write<B: Blobs, R: Rng>(
 {
     match reach(alloc, b, root, names, FsError::IsDirectory) {
         Ok(Reached::Row(dir, name, place)) => {
-            write_found(alloc, b, root, &dir, name, &place, from, bytes, now, chance)
+            write_found(
+                alloc, b, root, &dir.place, name, &place, from, bytes, now, chance,
+            )
         }
         Ok(Reached::Refused(error)) => Ok(Reply::Error(error)),
         Err(fail) => Err(fail),
@@ -102,7 +104,7 @@ pub fn truncate<B: Blobs, R: Rng>(
 {
     match reach(alloc, b, root, names, FsError::IsDirectory) {
         Ok(Reached::Row(dir, name, place)) => {
-            truncate_found(alloc, b, root, &dir, name, &place, len, now, chance)
+            truncate_found(alloc, b, root, &dir.place, name, &place, len, now, chance)
         }
         Ok(Reached::Refused(error)) => Ok(Reply::Error(error)),
         Err(fail) => Err(fail),
@@ -137,21 +139,4 @@ fn truncate_found<B: Blobs, R: Rng>(
     }
     let entry = touched(name, place, now)?;
     done(resize_at(alloc, b, &dir.blob, &entry, len, chance))
-}
-
-/// The entry of a row whose content changes now.
-fn touched(name: &Name, place: &Place, now: Moment) -> Result<Entry, Memory>
-    ensures name { IfOk result (λ entry. entry.name ≡ name.now) }
-    ensures attr { IfOk result (λ entry. entry.attr ≡ record place.now.attr { mtime = now; ctime = now }) }
-    ensures blob { IfOk result (λ entry. entry.blob ≡ place.now.blob) }
-{
-    Ok(Entry {
-        name: name.try_clone()?,
-        attr: Attr {
-            mtime: now,
-            ctime: now,
-            ..place.attr
-        },
-        blob: place.blob,
-    })
 }

@@ -1,5 +1,5 @@
 -- A move to a free path: too large, or done.
-use Rattle.std.proofs.Common.{◌≡◌, ℕ, ◌≤◌, ◌<◌, ◌+◌, Bool, true, false, List, ◌∷◌, length, sym, ◌∙◌, ap, subst, arith, inl, inr, cond}
+use Rattle.std.proofs.Common.{◌≡◌, ℕ, ◌≤◌, ◌<◌, ◌+◌, Bool, true, false, List, [], ◌∷◌, ◌++◌, length, sym, ◌∙◌, ap, subst, arith, inl, inr, cond}
 use Rattle.std.specs.Prelude.{is_some, nat_lt}
 use Rattle.std.specs.FinMap.{get}
 use Rattle.std.specs.declared.option.Option.TheVariants.{None, Some}
@@ -12,52 +12,62 @@ use Rattle.fs_model.specs.declared.error.FsError.TheVariants.{TooLarge}
 use Rattle.fs_model.specs.declared.reply.Reply.TheVariants.{Done, Error}
 use Rattle.fs_model.specs.Instant.{Instant}
 use Rattle.fs_model.specs.Names.{IsName}
-use Rattle.fs_model.specs.Tree.{Path, Row, Tree, entry_size, directory_size, IsWellFormed}
-use Rattle.fs_model.specs.Step.{Stepped, refused, done, with_ctime, moved_tree, moved_unless_large}
+use Rattle.fs_model.specs.Tree.{Path, Row, Tree, upward, entry_size, directory_size, IsWellFormed}
+use Rattle.fs_model.specs.Step.{Stepped, refused, done, with_ctime, touched, moved_tree, moved_unless_large}
 use Rattle.fs_model.proofs.TreeLemmas.{same_name, name_same, name_apart, path_split}
-use Rattle.fs_model.proofs.MovedTree.{moved_well_formed}
+use Rattle.fs_model.proofs.MovedTree.{strip_none, moved_well_formed}
+use Rattle.fs_model.proofs.MovedRows.{IsCarried, moved_rows}
 use Rattle.fs_model.proofs.MovedSize.{size_within_free, size_across_free}
 use Rattle.forest.specs.Shows.{ShowsBy}
+use Rattle.path_walks.specs.declared.spots.Folder.{Folder}
 use Rattle.path_walks.specs.declared.spots.Place.{Place}
+use Rattle.path_walks.specs.Sights.{IsAt}
+use Rattle.path_entries.specs.Touching.{TouchingBoth}
+use Rattle.path_entries.proofs.Places.{still_at}
+use Rattle.forest.proofs.Shown.{folder_row}
 use Rattle.forest.specs.Showing.{IsShownBy, PerformedBy}
 use Rattle.forest.specs.Midst.{moved_ids}
-use Rattle.fs_model.specs.Move.{CanMove}
+use Rattle.fs_model.specs.Move.{CanMove, strip, moved_by}
 use Rattle.path_rows.specs.Moves.{Moving, Heading}
 use Rattle.path_walks.proofs.Steps.{directory_seen, folder_is}
 use Rattle.path_walks.proofs.Nodes.{size_at}
 use Rattle.dir_blob.specs.Directories.{IsDirectory}
 use Rattle.dir_entries.specs.Layout.{EntryTarget, body_of}
 
-module _ {S : Type 0} {H : BlobHoldings S} {a : S} {now : Instant} {from : Place} {n : List ℕ} {place to : Place} {k : List ℕ} (w : Heading H a now from n place to k) where
+module _ {S : Type 0} {H : BlobHoldings S} {a : S} {now : Instant} {from : Folder} {n : List ℕ} {place : Place} {to : Folder} {k : List ℕ} (w : Heading H a now from n place to k) where
   abbrev pub next : Tree
   next = moved_tree w.tree now (n ∷ w.above) (k ∷ w.below) w.row
 
   abbrev pub stepped : Stepped
-  stepped = moved_unless_large w.tree (k ∷ w.below) next
+  stepped = moved_unless_large w.tree now (n ∷ w.above) (k ∷ w.below) next
 
-  abbrev pub directory : IsDirectory H a to.blob.0
-  directory = directory_seen w.shows w.stands w.below to w.to_at w.folder
+  -- the next tree with both directories touched
+  abbrev pub last : Tree
+  last = touched (touched next now w.above) now w.below
+
+  abbrev pub directory : IsDirectory H a to.place.blob.0
+  directory = directory_seen w.shows w.stands w.below to.place w.to_at w.folder
 
   pub size_is : length (body_of directory.listing) ≡ directory_size w.tree w.below
-  size_is = size_at w.shows w.below w.to_at.row w.to_at.there (folder_is w.tree w.ids w.below to w.to_at w.folder)
+  size_is = size_at w.shows w.below w.to_at.row w.to_at.there (folder_is w.tree w.ids w.below to.place w.to_at w.folder)
 
   -- what the entry leaves behind in the same directory
-  pub size_next : directory_size next w.below + cond (same_name from.blob.0 to.blob.0) (entry_size n) 0 ≡ directory_size w.tree w.below + entry_size k
+  pub size_next : directory_size next w.below + cond (same_name from.place.blob.0 to.place.blob.0) (entry_size n) 0 ≡ directory_size w.tree w.below + entry_size k
   size_next = elim (path_split w.above w.below) [
     | inl e ↦
-        ap (λ b. directory_size next w.below + cond b (entry_size n) 0) (ap (same_name from.blob.0) (sym w.to_at.blob ∙ (ap w.ids (sym e) ∙ w.from_at.blob)) ∙ name_same from.blob.0)
+        ap (λ b. directory_size next w.below + cond b (entry_size n) 0) (ap (same_name from.place.blob.0) (sym w.to_at.blob ∙ (ap w.ids (sym e) ∙ w.from_at.blob)) ∙ name_same from.place.blob.0)
         ∙ size_within_free w.tree now n w.above k w.below w.row w.can e w.free
     | inr d ↦
         ap (λ b. directory_size next w.below + cond b (entry_size n) 0)
-        (name_apart from.blob.0 to.blob.0 (λ e. d (w.shows.forest.distinct w.above w.below (ap is_some w.from_at.there) (ap is_some w.to_at.there) (w.from_at.blob ∙ (e ∙ sym w.to_at.blob)))))
+        (name_apart from.place.blob.0 to.place.blob.0 (λ e. d (w.shows.forest.distinct w.above w.below (ap is_some w.from_at.there) (ap is_some w.to_at.there) (w.from_at.blob ∙ (e ∙ sym w.to_at.blob)))))
         ∙ nothing (directory_size next w.below) ∙ size_across_free w.tree now n w.above k w.below w.row w.can d w.free
   ]
     where
       nothing : (x : ℕ) → x + 0 ≡ x
       nothing x = omega arith
 
-  stepped_by : (b : Bool) → nat_lt MAX_ENTRIES (directory_size next w.below) ≡ b → stepped ≡ cond b (refused w.tree TooLarge) (done next)
-  stepped_by b e = ap (λ z. cond z (refused w.tree TooLarge) (done next)) e
+  stepped_by : (b : Bool) → nat_lt MAX_ENTRIES (directory_size next w.below) ≡ b → stepped ≡ cond b (refused w.tree TooLarge) (done last)
+  stepped_by b e = ap (λ z. cond z (refused w.tree TooLarge) (done last)) e
 
   pub too_large : (b : S) → H.stands_for b w.map → MAX_ENTRIES < directory_size next w.below → PerformedBy H b w.root stepped (Error TooLarge) w.ids
   too_large b stands over =
@@ -83,7 +93,7 @@ module _ {S : Type 0} {H : BlobHoldings S} {a : S} {now : Instant} {from : Place
   formed_as z e named small = subst (λ x. IsWellFormed (moved_tree w.tree now (n ∷ w.above) (x ∷ w.below) w.row)) e (well_formed_next named small)
 
   -- the move can be made, under an equal name
-  abbrev pub moving : (b : S) → H.stands_for b w.map → IsName k → directory_size next w.below ≤ MAX_ENTRIES → (z : List ℕ) → k ≡ z → (t : EntryTarget) → t.attr ≡ record place.attr { ctime = now } → t.blob ≡ place.blob.0 → Moving H b from.blob.0 n to.blob.0 (z, t)
+  abbrev pub moving : (b : S) → H.stands_for b w.map → IsName k → directory_size next w.below ≤ MAX_ENTRIES → (z : List ℕ) → k ≡ z → (t : EntryTarget) → t.attr ≡ record place.attr { ctime = now } → t.blob ≡ place.blob.0 → Moving H b from.place.blob.0 n to.place.blob.0 (z, t)
   moving b stands named small z zk t attr blob = record {
     map = w.map;
     stands = stands;
@@ -110,7 +120,54 @@ module _ {S : Type 0} {H : BlobHoldings S} {a : S} {now : Instant} {from : Place
   pub shown_as : (b : S) (z : List ℕ) → k ≡ z → IsShownBy H b w.root (moved_tree w.tree now (n ∷ w.above) (z ∷ w.below) w.row) (moved_ids w.ids (n ∷ w.above) (z ∷ w.below)) → IsShownBy H b w.root next ids_next
   shown_as b z e h = subst (λ x. IsShownBy H b w.root (moved_tree w.tree now (n ∷ w.above) (x ∷ w.below) w.row) (moved_ids w.ids (n ∷ w.above) (x ∷ w.below))) (sym e) h
 
-  pub moved_done : (b : S) → directory_size next w.below ≤ MAX_ENTRIES → IsShownBy H b w.root next ids_next → PerformedBy H b w.root stepped Done ids_next
+  -- ---- and then the directories are touched
+
+  module _ (b : S) (h : IsShownBy H b w.root next ids_next) where
+    carried : IsCarried w.tree next now (n ∷ w.above) (k ∷ w.below)
+    carried = moved_rows w.tree now n w.above k w.below w.row w.can
+
+    -- what stands off the free path has the blob that it had
+    ids_still : (r : Path) → strip (k ∷ w.below) r ≡ None → ids_next r ≡ w.ids r
+    ids_still r none = ap (λ o. w.ids (moved_by o (n ∷ w.above) r)) none
+
+    -- of two directories neither lies below the free path
+    off_free : (r : Path) → is_some (get w.tree r) ≡ true → strip (k ∷ w.below) r ≡ None
+    off_free r there = strip_none (k ∷ w.below) r (λ s e. below s (ap (λ z. is_some (get w.tree z)) (sym e) ∙ there))
+      where
+        below : (s : Path) → is_some (get w.tree (s ++ (k ∷ w.below))) ≡ true → ⊥
+        below [] is = let bad : false ≡ true = ap is_some (sym w.free) ∙ is in cc
+        below (m ∷ s) is = let bad : false ≡ true = ap is_some (sym (w.can.bare s m)) ∙ is in cc
+
+    above_there : (r : Path) → is_some (get w.tree r) ≡ true → (m : List ℕ) (d : Path) → r ≡ m ∷ d → is_some (get w.tree d) ≡ true
+    above_there r there m d e = ap is_some (folder_row w.tree d (w.shows.well_formed.rooted.parents m d (ap (λ z. is_some (get w.tree z)) (sym e) ∙ there))).there
+
+    dir_stays : (r : Path) (x : Place) → get next r ≡ get w.tree r → IsAt w.tree w.ids r x → IsAt next ids_next r x
+    dir_stays r x same at =
+        let there = ap is_some at.there in
+        still_at w.tree next w.ids ids_next r x h.shows.well_formed.rooted same (ids_still r (off_free r there)) (λ m d e. ids_still d (off_free d (above_there r there m d e))) at
+
+    pub from_still : IsAt next ids_next (upward from.names.now) from.place
+    from_still = subst (λ z. IsAt next ids_next z from.place) w.from_names (dir_stays w.above from.place carried.from_stays w.from_at)
+
+    pub to_still : IsAt next ids_next (upward to.names.now) to.place
+    to_still = subst (λ z. IsAt next ids_next z to.place) w.to_names (dir_stays w.below to.place carried.to_stays w.to_at)
+
+    abbrev pub touching : TouchingBoth H b from to
+    touching = record {
+      map = h.map;
+      stands = h.stands;
+      root = w.root;
+      tree = next;
+      ids = ids_next;
+      shows = h.shows;
+      from_at = from_still;
+      to_at = to_still;
+    }
+
+  pub moved_done : (b : S) → directory_size next w.below ≤ MAX_ENTRIES → IsShownBy H b w.root (touched (touched next now (upward from.names.now)) now (upward to.names.now)) ids_next → PerformedBy H b w.root stepped Done ids_next
   moved_done b small h =
       let is = stepped_by false (le-ltb MAX_ENTRIES (directory_size next w.below) small) in
-      record { told = sym (ap (λ (s : Stepped). s.reply) is); shown = subst (λ (s : Stepped). IsShownBy H b w.root s.tree ids_next) (sym is) h }
+      let shown : IsShownBy H b w.root last ids_next =
+      subst (λ z. IsShownBy H b w.root (touched (touched next now z) now w.below) ids_next) (sym w.from_names)
+      (subst (λ z. IsShownBy H b w.root (touched (touched next now (upward from.names.now)) now z) ids_next) (sym w.to_names) h) in
+      record { told = sym (ap (λ (s : Stepped). s.reply) is); shown = subst (λ (s : Stepped). IsShownBy H b w.root s.tree ids_next) (sym is) shown }

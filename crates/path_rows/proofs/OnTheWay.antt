@@ -13,6 +13,7 @@ use Rattle.fs_model.proofs.WellFormedStep.{can_move_free, can_move_found}
 use Rattle.forest.specs.Shows.{ShowsBy}
 use Rattle.forest.specs.Showing.{BlobsShow, PerformedBy, Performed}
 use Rattle.tree_rules.proofs.PathLemmas.{not_root}
+use Rattle.path_walks.specs.declared.spots.Folder.{Folder}
 use Rattle.path_walks.specs.declared.spots.Place.{Place}
 use Rattle.path_walks.specs.Sights.{IsFound, IsVacant, Standing}
 use Rattle.path_rows.specs.Moves.{Heading, Replacing}
@@ -29,11 +30,11 @@ pub not_empty : (ns : List (List ℕ)) → (length ns == 0) ≡ false → is_roo
 not_empty [] e = let bad : true ≡ false = e in cc
 not_empty (n ∷ ns) e = not_root (n ∷ ns) (omega arith)
 
-abbrev pub onward : {S : Type 0} {H : BlobHoldings S} {b : S} (m : BlobMap) → H.stands_for b m → (root : Id) (t : Tree) (ids : Path → Id) → ShowsBy m root t ids → (d : Path) (n : List ℕ) (dir place : Place) → IsFound t ids d n dir place
-    → (q : Path) → is_above (n ∷ d) q ≡ false → is_root q ≡ false → (same : Bool) → same_path (n ∷ d) q ≡ same → Onward H b root dir n place q same
-onward m stands root t ids shows d n dir place is q off off_root same same_is = record { map = m; stands = stands; tree = t; ids = ids; shows = shows; path = d; is = is; off = off; off_root = off_root; same_is = same_is }
+abbrev pub onward : {S : Type 0} {H : BlobHoldings S} {b : S} (m : BlobMap) → H.stands_for b m → (root : Id) (t : Tree) (ids : Path → Id) → ShowsBy m root t ids → (n : List ℕ) (dir : Folder) (place : Place) → IsFound t ids (upward dir.names.now) n dir.place place
+    → (q : Path) → is_above (n ∷ upward dir.names.now) q ≡ false → is_root q ≡ false → (same : Bool) → same_path (n ∷ upward dir.names.now) q ≡ same → Onward H b root dir n place q same
+onward m stands root t ids shows n dir place is q off off_root same same_is = record { map = m; stands = stands; tree = t; ids = ids; shows = shows; path = upward dir.names.now; names = refl; is = is; off = off; off_root = off_root; same_is = same_is }
 
-module _ {S : Type 0} {H : BlobHoldings S} {a : S} {root : Id} {dir : Place} {n : List ℕ} {place : Place} {q : Path} {same : Bool} (w : Onward H a root dir n place q same) where
+module _ {S : Type 0} {H : BlobHoldings S} {a : S} {root : Id} {dir : Folder} {n : List ℕ} {place : Place} {q : Path} {same : Bool} (w : Onward H a root dir n place q same) where
   abbrev pub p : Path
   p = n ∷ w.path
 
@@ -60,8 +61,8 @@ module _ {S : Type 0} {H : BlobHoldings S} {a : S} {root : Id} {dir : Place} {n 
     abbrev pub standing : (b : S) → H.stands_for b w.map → (to old : Place) → IsFound w.tree w.ids d k to old → Standing H b old
     standing b stands to old is = record { map = w.map; stands = stands; root = root; tree = w.tree; ids = w.ids; shows = w.shows; path = k ∷ d; at = is.here }
 
-    abbrev pub heading : (now : Instant) (b : S) → H.stands_for b w.map → (to : Place) → IsVacant w.tree w.ids d k to → Heading H b now dir n place to k
-    heading now b stands to is = record {
+    abbrev pub heading : (now : Instant) (b : S) → H.stands_for b w.map → (to : Folder) → d ≡ upward to.names.now → IsVacant w.tree w.ids d k to.place → Heading H b now dir n place to k
+    heading now b stands to names is = record {
       map = w.map;
       stands = stands;
       root = root;
@@ -71,8 +72,10 @@ module _ {S : Type 0} {H : BlobHoldings S} {a : S} {root : Id} {dir : Place} {n 
       above = w.path;
       below = d;
       row = w.is.here.row;
-      can = can_move_free w.tree n w.path k d w.is.here.row w.shows.well_formed.rooted look_here off (look_free w.shows d k to is);
+      can = can_move_free w.tree n w.path k d w.is.here.row w.shows.well_formed.rooted look_here off (look_free w.shows d k to.place is);
       free = is.none;
+      from_names = w.names;
+      to_names = names;
       from_at = w.is.above;
       place_at = w.is.here;
       to_at = is.above;
@@ -89,30 +92,32 @@ module _ {S : Type 0} {H : BlobHoldings S} {a : S} {root : Id} {dir : Place} {n 
 
       -- onto another row
       pub going_onto : (now : Instant) → same ≡ false
-          → moved_to w.tree now p q w.is.here.row (look w.tree q) ≡ moved_onto w.tree (k ∷ d) (is_directory place.attr.kind) (is_directory old.attr.kind) (moved_unless_large w.tree (k ∷ d) (moved_tree w.tree now p (k ∷ d) w.is.here.row))
+          → moved_to w.tree now p q w.is.here.row (look w.tree q) ≡ moved_onto w.tree (k ∷ d) (is_directory place.attr.kind) (is_directory old.attr.kind) (moved_unless_large w.tree now p (k ∷ d) (moved_tree w.tree now p (k ∷ d) w.is.here.row))
       going_onto now e =
           going now (Found is.here.row) look_there
           ∙ (onto_unless w.tree now p (k ∷ d) w.is.here.row is.here.row false (same_by false e)
-          ∙ kinds now (moved_unless_large w.tree (k ∷ d) (moved_tree w.tree now p (k ∷ d) w.is.here.row)))
+          ∙ kinds now (moved_unless_large w.tree now p (k ∷ d) (moved_tree w.tree now p (k ∷ d) w.is.here.row)))
 
-      abbrev pub replacing : (now : Instant) (b : S) → H.stands_for b w.map → same ≡ false → Lets w.tree (k ∷ d) (is_directory place.attr.kind) (is_directory old.attr.kind) → Replacing H b now dir n place to k old
-      replacing now b stands e lets = record {
-        map = w.map;
-        stands = stands;
-        root = root;
-        tree = w.tree;
-        ids = w.ids;
-        shows = w.shows;
-        above = w.path;
-        below = d;
-        row = w.is.here.row;
-        can = can_move_found w.tree n w.path k d w.is.here.row is.here.row w.shows.well_formed.rooted look_here off look_there (same_by false e) lets.bare;
-        from_at = w.is.above;
-        place_at = w.is.here;
-        to_at = is.above;
-        old_at = is.here;
-        folder = is.folder;
-      }
+    abbrev pub replacing : (to : Folder) (old : Place) (is : IsFound w.tree w.ids d k to.place old) (now : Instant) (b : S) → H.stands_for b w.map → d ≡ upward to.names.now → same ≡ false → Lets w.tree (k ∷ d) (is_directory place.attr.kind) (is_directory old.attr.kind) → Replacing H b now dir n place to k old
+    replacing to old is now b stands names e lets = record {
+      map = w.map;
+      stands = stands;
+      root = root;
+      tree = w.tree;
+      ids = w.ids;
+      shows = w.shows;
+      above = w.path;
+      below = d;
+      row = w.is.here.row;
+      can = can_move_found w.tree n w.path k d w.is.here.row is.here.row w.shows.well_formed.rooted look_here off (look_there to.place old is) (same_by false e) lets.bare;
+      from_names = w.names;
+      to_names = names;
+      from_at = w.is.above;
+      place_at = w.is.here;
+      to_at = is.above;
+      old_at = is.here;
+      folder = is.folder;
+    }
 
 -- the blobs that are named may go unnamed
 pub unnamed : {S : Type 0} {H : BlobHoldings S} {b : S} {root : Id} (s : Stepped) (r : Reply) (ids : Path → Id) → PerformedBy H b root s r ids → Performed H b root s r

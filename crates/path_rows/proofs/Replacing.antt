@@ -1,5 +1,5 @@
 -- A move onto something: it goes, and then its path is free.
-use Rattle.std.proofs.Common.{◌≡◌, ℕ, ◌≤◌, List, [], ◌∷◌, length, sym, ◌∙◌, ap, subst, arith, inl, inr, cond}
+use Rattle.std.proofs.Common.{◌≡◌, ℕ, ◌≤◌, List, [], ◌∷◌, length, refl, sym, ◌∙◌, ap, subst, arith, inl, inr, cond}
 use Rattle.std.specs.FinMap.{get, remove}
 use Rattle.std.proofs.lemmas.Bool.{le-ltb}
 use Rattle.std.proofs.lemmas.Option.{none-some}
@@ -9,19 +9,20 @@ use Rattle.fs_model.specs.declared.error.FsError.TheVariants.{TooLarge}
 use Rattle.fs_model.specs.declared.reply.Reply.{Reply}
 use Rattle.fs_model.specs.Instant.{Instant}
 use Rattle.fs_model.specs.Tree.{Path, Tree, directory_size, IsWellFormed}
-use Rattle.fs_model.specs.Step.{refused, done, moved_tree, moved_unless_large}
+use Rattle.fs_model.specs.Step.{refused, done, touched, moved_tree, moved_unless_large}
 use Rattle.fs_model.proofs.TreeLemmas.{path_split, remove_here, remove_apart}
-use Rattle.fs_model.proofs.LookUpLemmas.{look-walk, look-found}
 use Rattle.fs_model.proofs.MovedSize.{size_within_found, size_across_found}
-use Rattle.fs_model.proofs.WellFormedStep.{remove_bare}
+use Rattle.fs_model.proofs.PutRows.{remove_bare}
 use Rattle.forest.proofs.Moved.{moved_after, can_move_after}
+use Rattle.path_walks.specs.declared.spots.Folder.{Folder}
 use Rattle.path_walks.specs.declared.spots.Place.{Place}
+use Rattle.path_entries.proofs.Places.{still_at}
 use Rattle.forest.specs.Showing.{IsShownBy, PerformedBy}
 use Rattle.path_walks.specs.Sights.{IsAt}
 use Rattle.path_rows.specs.Changes.{Dropping}
 use Rattle.path_rows.specs.Moves.{Heading, Replacing}
 
-module _ {S : Type 0} {H : BlobHoldings S} {a : S} {now : Instant} {from : Place} {n : List ℕ} {place to : Place} {k : List ℕ} {replaced : Place} (w : Replacing H a now from n place to k replaced) where
+module _ {S : Type 0} {H : BlobHoldings S} {a : S} {now : Instant} {from : Folder} {n : List ℕ} {place : Place} {to : Folder} {k : List ℕ} {replaced : Place} (w : Replacing H a now from n place to k replaced) where
   abbrev pub q : Path
   q = k ∷ w.below
 
@@ -32,7 +33,7 @@ module _ {S : Type 0} {H : BlobHoldings S} {a : S} {now : Instant} {from : Place
   formed = remove_bare w.tree k w.below w.shows.well_formed (λ m. w.can.bare [] m)
 
   -- the row that goes
-  abbrev pub dropping : Dropping H a to.blob.0 k replaced.blob.0
+  abbrev pub dropping : Dropping H a to.place.blob.0 k replaced.blob.0
   dropping = record {
     map = w.map;
     stands = w.stands;
@@ -51,20 +52,19 @@ module _ {S : Type 0} {H : BlobHoldings S} {a : S} {now : Instant} {from : Place
   -- what stands elsewhere stays
   pub stays : (p : Path) (x : Place) → (p ≡ q → ⊥) → IsAt w.tree w.ids p x → IsAt rest w.ids p x
   stays p x differ at =
-      let there = remove_apart w.tree q p differ ∙ at.there in
-      record { row = at.row; there = there; walked = sym (look-walk rest formed.rooted p) ∙ look-found rest p at.row there; attr = at.attr; blob = at.blob; holder = at.holder }
+      still_at w.tree rest w.ids w.ids p x formed.rooted (remove_apart w.tree q p differ) refl (λ m d e. refl) at
 
   off_above : w.above ≡ q → ⊥
   off_above e = none-some w.row (sym (w.can.bare [] n) ∙ (ap (λ z. get w.tree (n ∷ z)) (sym e) ∙ w.can.here))
 
-  pub from_stays : IsAt rest w.ids w.above from
-  from_stays = stays w.above from off_above w.from_at
+  pub from_stays : IsAt rest w.ids w.above from.place
+  from_stays = stays w.above from.place off_above w.from_at
 
   pub place_stays : IsAt rest w.ids (n ∷ w.above) place
   place_stays = stays (n ∷ w.above) place w.can.differ w.place_at
 
-  pub to_stays : IsAt rest w.ids w.below to
-  to_stays = stays w.below to (λ e. omega (arith, ap length e)) w.to_at
+  pub to_stays : IsAt rest w.ids w.below to.place
+  to_stays = stays w.below to.place (λ e. omega (arith, ap length e)) w.to_at
 
   -- and then the path is free
   abbrev pub heading : (b : S) → IsShownBy H b w.root rest w.ids → Heading H b now from n place to k
@@ -80,6 +80,8 @@ module _ {S : Type 0} {H : BlobHoldings S} {a : S} {now : Instant} {from : Place
     row = w.row;
     can = can_move_after w.tree n w.above k w.below w.row w.can;
     free = remove_here w.tree q;
+    from_names = w.from_names;
+    to_names = w.to_names;
     from_at = from_stays;
     place_at = place_stays;
     to_at = to_stays;
@@ -95,11 +97,11 @@ module _ {S : Type 0} {H : BlobHoldings S} {a : S} {now : Instant} {from : Place
     | inr d ↦ let size = size_across_found w.tree now n w.above k w.below w.row w.can w.old_at.row d w.old_at.there in omega (arith, size, w.shows.well_formed.directories w.below)
   ]
 
-  same_step : moved_unless_large rest q (moved_tree rest now (n ∷ w.above) q w.row) ≡ moved_unless_large w.tree q next
+  same_step : moved_unless_large rest now (n ∷ w.above) q (moved_tree rest now (n ∷ w.above) q w.row) ≡ moved_unless_large w.tree now (n ∷ w.above) q next
   same_step =
-      ap (moved_unless_large rest q) (moved_after w.tree now (n ∷ w.above) q w.row)
-      ∙ (ap (λ z. cond z (refused rest TooLarge) (done next)) (le-ltb MAX_ENTRIES (directory_size next w.below) small)
-      ∙ sym (ap (λ z. cond z (refused w.tree TooLarge) (done next)) (le-ltb MAX_ENTRIES (directory_size next w.below) small)))
+      ap (moved_unless_large rest now (n ∷ w.above) q) (moved_after w.tree now (n ∷ w.above) q w.row)
+      ∙ (ap (λ z. cond z (refused rest TooLarge) (done (touched (touched next now w.above) now w.below))) (le-ltb MAX_ENTRIES (directory_size next w.below) small)
+      ∙ sym (ap (λ z. cond z (refused w.tree TooLarge) (done (touched (touched next now w.above) now w.below))) (le-ltb MAX_ENTRIES (directory_size next w.below) small)))
 
-  pub replaced_then : (c : S) (r : Reply) (ids : Path → Id) → PerformedBy H c w.root (moved_unless_large rest q (moved_tree rest now (n ∷ w.above) q w.row)) r ids → PerformedBy H c w.root (moved_unless_large w.tree q next) r ids
+  pub replaced_then : (c : S) (r : Reply) (ids : Path → Id) → PerformedBy H c w.root (moved_unless_large rest now (n ∷ w.above) q (moved_tree rest now (n ∷ w.above) q w.row)) r ids → PerformedBy H c w.root (moved_unless_large w.tree now (n ∷ w.above) q next) r ids
   replaced_then c r ids h = subst (λ s. PerformedBy H c w.root s r ids) same_step h

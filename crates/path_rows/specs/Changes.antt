@@ -5,13 +5,14 @@ use Rattle.std.specs.declared.option.Option.TheVariants.{Some}
 use Rattle.blob_api.specs.BlobMap.{Id, BlobMap, BlobHoldings}
 use Rattle.fs_model.specs.declared.attr.Kind.TheVariants.{Directory}
 use Rattle.fs_model.specs.declared.limits.TheConstants.{MAX_ENTRIES}
-use Rattle.fs_model.specs.Tree.{Path, Row, Tree, IsWellFormed, IsWithinLimits, entry_size, directory_size}
+use Rattle.fs_model.specs.Tree.{Path, Row, Tree, upward, IsWellFormed, IsWithinLimits, entry_size, directory_size}
 use Rattle.forest.specs.Shows.{ShowsBy}
+use Rattle.path_walks.specs.declared.spots.Folder.{Folder}
 use Rattle.path_walks.specs.declared.spots.Place.{Place}
-use Rattle.path_walks.specs.Sights.{IsVacant, Standing}
+use Rattle.path_walks.specs.Sights.{IsVacant, Finding, Standing}
 
 -- a directory in which a name is free, where a row is to be made
-pub record Making {S : Type 0} (H : BlobHoldings S) (a : S) (dir : Id) (n : List ℕ) (row : Row) : Type 0 where
+pub record Making {S : Type 0} (H : BlobHoldings S) (a : S) (dir : Folder) (n : List ℕ) (row : Row) : Type 0 where
   pub map : BlobMap
   pub stands : H.stands_for a map
   pub root : Id
@@ -19,13 +20,12 @@ pub record Making {S : Type 0} (H : BlobHoldings S) (a : S) (dir : Id) (n : List
   pub ids : Path → Id
   pub shows : ShowsBy map root tree ids
   pub path : Path
-  pub place : Place
-  pub is : IsVacant tree ids path n place
-  pub id : place.blob.0 ≡ dir
+  pub names : path ≡ upward dir.names.now
+  pub is : IsVacant tree ids path n dir.place
   pub limits : IsWithinLimits row
 
 -- and there is room for its entry
-pub record Adding {S : Type 0} (H : BlobHoldings S) (a : S) (dir : Id) (n : List ℕ) (row : Row) : Type 0 where
+pub record Adding {S : Type 0} (H : BlobHoldings S) (a : S) (dir : Folder) (n : List ℕ) (row : Row) : Type 0 where
   pub making : Making H a dir n row
   pub room : directory_size making.tree making.path + entry_size n ≤ MAX_ENTRIES
 
@@ -43,6 +43,11 @@ pub record Dropping {S : Type 0} (H : BlobHoldings S) (a : S) (dir : Id) (n : Li
   pub dir_id : ids path ≡ dir
   pub blob_id : ids (n ∷ path) ≡ blob
   pub well_formed : IsWellFormed (remove tree (n ∷ path))
+
+-- what stands under the name of a directory is to go, if its kind and its children let it
+pub record Removing {S : Type 0} (H : BlobHoldings S) (a : S) (root : Id) (dir : Folder) (n : List ℕ) (place : Place) : Type 0 where
+  pub finding : Finding H a root dir.place n place
+  pub names : finding.path ≡ upward dir.names.now
 
 -- a directory stands there
 pub record DirectoryAt {S : Type 0} (H : BlobHoldings S) (a : S) (place : Place) : Type 0 where

@@ -7,11 +7,12 @@ use Rattle.fs_model.specs.declared.attr.Kind.TheVariants.{Directory}
 use Rattle.fs_model.specs.declared.reply.Reply.{Reply}
 use Rattle.fs_model.specs.declared.reply.Reply.TheVariants.{Done, Rows, Info, Target as LinkTarget, Content, Error}
 use Rattle.fs_model.specs.Instant.{Instant}
-use Rattle.fs_model.specs.Tree.{Path, Row, Tree, IsWellFormed}
+use Rattle.fs_model.specs.Tree.{Path, Row, Tree, upward, IsWellFormed}
 use Rattle.fs_model.specs.Move.{CanMove}
 use Rattle.fs_model.specs.Step.{with_ctime, moved_tree}
 use Rattle.dir_entries.specs.Layout.{EntryTarget}
 use Rattle.forest.specs.Shows.{ShowsBy}
+use Rattle.path_walks.specs.declared.spots.Folder.{Folder}
 use Rattle.path_walks.specs.declared.spots.Place.{Place}
 use Rattle.path_walks.specs.Sights.{IsAt}
 
@@ -36,7 +37,7 @@ pub record Moving {S : Type 0} (H : BlobHoldings S) (a : S) (from : Id) (n : Lis
   pub well_formed : IsWellFormed (moved_tree tree now (n ∷ above) (e.0 ∷ below) row)
 
 -- what stands in the directory `from` under n is to move to the free name k of the directory `to`
-pub record Heading {S : Type 0} (H : BlobHoldings S) (a : S) (now : Instant) (from : Place) (n : List ℕ) (place to : Place) (k : List ℕ) : Type 0 where
+pub record Heading {S : Type 0} (H : BlobHoldings S) (a : S) (now : Instant) (from : Folder) (n : List ℕ) (place : Place) (to : Folder) (k : List ℕ) : Type 0 where
   pub map : BlobMap
   pub stands : H.stands_for a map
   pub root : Id
@@ -48,13 +49,15 @@ pub record Heading {S : Type 0} (H : BlobHoldings S) (a : S) (now : Instant) (fr
   pub row : Row
   pub can : CanMove tree n above k below row
   pub free : get tree (k ∷ below) ≡ None
-  pub from_at : IsAt tree ids above from
+  pub from_names : above ≡ upward from.names.now
+  pub to_names : below ≡ upward to.names.now
+  pub from_at : IsAt tree ids above from.place
   pub place_at : IsAt tree ids (n ∷ above) place
-  pub to_at : IsAt tree ids below to
-  pub folder : to.attr.kind ≡ Directory
+  pub to_at : IsAt tree ids below to.place
+  pub folder : to.place.attr.kind ≡ Directory
 
 -- the same, where something that has nothing below it stands at the name k
-pub record Replacing {S : Type 0} (H : BlobHoldings S) (a : S) (now : Instant) (from : Place) (n : List ℕ) (place to : Place) (k : List ℕ) (replaced : Place) : Type 0 where
+pub record Replacing {S : Type 0} (H : BlobHoldings S) (a : S) (now : Instant) (from : Folder) (n : List ℕ) (place : Place) (to : Folder) (k : List ℕ) (replaced : Place) : Type 0 where
   pub map : BlobMap
   pub stands : H.stands_for a map
   pub root : Id
@@ -65,11 +68,13 @@ pub record Replacing {S : Type 0} (H : BlobHoldings S) (a : S) (now : Instant) (
   pub below : Path
   pub row : Row
   pub can : CanMove tree n above k below row
-  pub from_at : IsAt tree ids above from
+  pub from_names : above ≡ upward from.names.now
+  pub to_names : below ≡ upward to.names.now
+  pub from_at : IsAt tree ids above from.place
   pub place_at : IsAt tree ids (n ∷ above) place
-  pub to_at : IsAt tree ids below to
+  pub to_at : IsAt tree ids below to.place
   pub old_at : IsAt tree ids (k ∷ below) replaced
-  pub folder : to.attr.kind ≡ Directory
+  pub folder : to.place.attr.kind ≡ Directory
 
 -- the blobs of the paths after this reply: others where it is done
 abbrev pub ids_then : Reply → (Path → Id) → (Path → Id) → Path → Id

@@ -1,10 +1,8 @@
 // Changes of which rows the blobs show.
-ghost use Rattle.std.specs.Prelude.{◌≡◌, ◌≤◌, ◌∷◌};
+ghost use Rattle.std.specs.Prelude.{◌≤◌, ◌∷◌};
 ghost use Rattle.std.specs.FinMap.{remove as without_key};
-ghost use Rattle.std.specs.Ordering.{eq_by_cmp};
 ghost use Rattle.outcome.specs.Outcome.{Outcome};
 ghost use Rattle.fs_model.specs.Step.{moved_tree};
-ghost use Rattle.blob_api.specs.BlobMap.{id_cmp};
 ghost use Rattle.dir_entries.specs.Layout.{entry_of};
 ghost use Rattle.forest.specs.Midst.{moved_ids};
 ghost use Rattle.forest.specs.Showing.{IsShownBy};
@@ -17,6 +15,7 @@ use dir_blob::{insert, remove};
 use dir_entries::Entry;
 use fs_blobs::set_parent;
 use fs_model::{MAX_MODE, Name};
+use path_entries::is_same;
 use rand_core::Rng;
 use std::alloc::Global;
 
@@ -35,13 +34,6 @@ pub fn drop_at<B: Blobs, R: Rng>(
 {
     remove(alloc, b, dir, name, chance)?;
     b.remove(alloc, blob)
-}
-
-/// Whether two blobs are one.
-pub fn is_same(a: &BlockId, b: &BlockId) -> bool
-    ensures { result ≡ eq_by_cmp id_cmp a.now.0 b.now.0 }
-{
-    a.cmp(b).is_eq()
 }
 
 /// A row and what lies below it go to a path that is free: the entry goes from its directory to another, which the

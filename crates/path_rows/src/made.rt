@@ -14,7 +14,9 @@ use block_id::{BlockId, Fail};
 use dir_blob::insert;
 use dir_entries::Entry;
 use fs_blobs::{Header, body_len, new_blob};
-use fs_model::{Attr, ENTRY_SIZE, FsError, MAX_ENTRIES, MAX_MODE, MAX_TARGET, Name, Reply};
+use fs_model::{Attr, ENTRY_SIZE, FsError, MAX_ENTRIES, MAX_MODE, MAX_TARGET, Moment, Name, Reply};
+use path_entries::touch;
+use path_walks::{Folder, done};
 use rand_core::Rng;
 use std::alloc::Global;
 
@@ -22,7 +24,7 @@ use std::alloc::Global;
 pub fn add_row<B: Blobs, R: Rng>(
     alloc: Global,
     b: &mut B,
-    dir: &BlockId,
+    dir: &Folder,
     name: &Name,
     attr: Attr,
     bytes: &[u8],
@@ -31,40 +33,48 @@ pub fn add_row<B: Blobs, R: Rng>(
     requires intact { B.meanings.intact b.old }
     requires mode { attr.mode ≤ MAX_MODE }
     requires short { length bytes.now ≤ MAX_TARGET }
-    ensures { Outcome B.meanings (Adding B.holdings b.old dir.now.0 name.now (record { attr = attr; bytes = bytes.now })) b.old b.new result
+    ensures { Outcome B.meanings (Adding B.holdings b.old dir.now name.now (record { attr = attr; bytes = bytes.now })) b.old b.new result
         (λ n id. IsShownBy B.holdings b.new n.making.root (with_row n.making.tree (name.now ∷ n.making.path) (record { attr = attr; bytes = bytes.now })) (ids_with n.making.ids (name.now ∷ n.making.path) id.0)) }
 {
     let name = name.try_clone()?;
     let header = Header {
         kind: attr.kind,
-        parent: *dir,
+        parent: dir.place.blob,
     };
     let blob = new_blob(alloc, b, &header, bytes, chance)?;
-    insert(alloc, b, dir, &Entry { name, attr, blob }, chance)?;
+    insert(
+        alloc,
+        b,
+        &dir.place.blob,
+        &Entry { name, attr, blob },
+        chance,
+    )?;
     Ok(blob)
 }
 
-/// A new row of a directory in which the name is free.
+/// A new row of a directory in which the name is free, which is touched.
 pub fn make_in<B: Blobs, R: Rng>(
     alloc: Global,
     b: &mut B,
-    dir: &BlockId,
+    dir: &Folder,
     name: &Name,
     attr: Attr,
     bytes: &[u8],
+    now: Moment,
     chance: &mut R,
 ) -> Result<Reply, Fail>
     requires intact { B.meanings.intact b.old }
+    requires dir_mode { dir.now.place.attr.mode ≤ MAX_MODE }
     requires mode { attr.mode ≤ MAX_MODE }
     requires short { length bytes.now ≤ MAX_TARGET }
     ensures variant { IfOk result IsChangeReply }
-    ensures did { Outcome B.meanings (Making B.holdings b.old dir.now.0 name.now (record { attr = attr; bytes = bytes.now })) b.old b.new result
-        (λ n r. Performed B.holdings b.new n.root (made n.tree (name.now ∷ n.path) (record { attr = attr; bytes = bytes.now }) (look n.tree (name.now ∷ n.path))) r) }
+    ensures did { Outcome B.meanings (Making B.holdings b.old dir.now name.now (record { attr = attr; bytes = bytes.now })) b.old b.new result
+        (λ n r. Performed B.holdings b.new n.root (made n.tree now (name.now ∷ n.path) (record { attr = attr; bytes = bytes.now }) (look n.tree (name.now ∷ n.path))) r) }
 {
-    let size = body_len(alloc, b, dir)?;
+    let size = body_len(alloc, b, &dir.place.blob)?;
     if size > MAX_ENTRIES || size + ENTRY_SIZE + name.as_slice().len() as u64 > MAX_ENTRIES {
         return Ok(Reply::Error(FsError::TooLarge));
     }
     add_row(alloc, b, dir, name, attr, bytes, chance)?;
-    Ok(Reply::Done)
+    done(touch(alloc, b, dir, now, chance))
 }

@@ -15,7 +15,7 @@ use block_id::{BlockId, Fail};
 use fs_model::{
     Attr, DIRECTORY_MODE, FILE_MODE, FsError, Kind, LINK_MODE, MAX_TARGET, Moment, Name, Reply,
 };
-use path_walks::{Sight, look_at, split_last};
+use path_walks::{Folder, Sight, look_at, split_last};
 use rand_core::Rng;
 use std::alloc::Global;
 use tree_rules::new_attr;
@@ -31,11 +31,11 @@ pub fn make_directory<B: Blobs, R: Rng>(
 ) -> Result<Reply, Fail>
     requires { B.meanings.intact b.old }
     ensures outcome { Outcome B.meanings (BlobsShow B.holdings b.old root.now.0) b.old b.new result
-        (λ n r. Performed B.holdings b.new root.now.0 (made n.tree (upward names.now) (new_row Directory DIRECTORY_MODE now []) (look n.tree (upward names.now))) r) }
+        (λ n r. Performed B.holdings b.new root.now.0 (made n.tree now (upward names.now) (new_row Directory DIRECTORY_MODE now []) (look n.tree (upward names.now))) r) }
     ensures variant { IfOk result IsChangeReply }
 {
     let attr = new_attr(Kind::Directory, DIRECTORY_MODE, now);
-    make(alloc, b, root, names, attr, &[], chance)
+    make(alloc, b, root, names, attr, &[], now, chance)
 }
 
 /// A new file without bytes.
@@ -49,11 +49,11 @@ pub fn make_file<B: Blobs, R: Rng>(
 ) -> Result<Reply, Fail>
     requires { B.meanings.intact b.old }
     ensures outcome { Outcome B.meanings (BlobsShow B.holdings b.old root.now.0) b.old b.new result
-        (λ n r. Performed B.holdings b.new root.now.0 (made n.tree (upward names.now) (new_row File FILE_MODE now []) (look n.tree (upward names.now))) r) }
+        (λ n r. Performed B.holdings b.new root.now.0 (made n.tree now (upward names.now) (new_row File FILE_MODE now []) (look n.tree (upward names.now))) r) }
     ensures variant { IfOk result IsChangeReply }
 {
     let attr = new_attr(Kind::File, FILE_MODE, now);
-    make(alloc, b, root, names, attr, &[], chance)
+    make(alloc, b, root, names, attr, &[], now, chance)
 }
 
 /// A new link to this target.
@@ -69,11 +69,11 @@ pub fn make_link<B: Blobs, R: Rng>(
     requires intact { B.meanings.intact b.old }
     requires target { IsTrue (is_target target.now) }
     ensures outcome { Outcome B.meanings (BlobsShow B.holdings b.old root.now.0) b.old b.new result
-        (λ n r. Performed B.holdings b.new root.now.0 (made n.tree (upward names.now) (new_row Link LINK_MODE now target.now) (look n.tree (upward names.now))) r) }
+        (λ n r. Performed B.holdings b.new root.now.0 (made n.tree now (upward names.now) (new_row Link LINK_MODE now target.now) (look n.tree (upward names.now))) r) }
     ensures variant { IfOk result IsChangeReply }
 {
     let attr = new_attr(Kind::Link, LINK_MODE, now);
-    make(alloc, b, root, names, attr, target, chance)
+    make(alloc, b, root, names, attr, target, now, chance)
 }
 
 /// A new row of these attributes and bytes.
@@ -84,20 +84,27 @@ fn make<B: Blobs, R: Rng>(
     names: &[Name],
     attr: Attr,
     bytes: &[u8],
+    now: Moment,
     chance: &mut R,
 ) -> Result<Reply, Fail>
     requires intact { B.meanings.intact b.old }
     requires limits { IsWithinLimits (record { attr = attr; bytes = bytes.now }) }
     requires short { length bytes.now ≤ MAX_TARGET }
     ensures outcome { Outcome B.meanings (BlobsShow B.holdings b.old root.now.0) b.old b.new result
-        (λ n r. Performed B.holdings b.new root.now.0 (made n.tree (upward names.now) (record { attr = attr; bytes = bytes.now }) (look n.tree (upward names.now))) r) }
+        (λ n r. Performed B.holdings b.new root.now.0 (made n.tree now (upward names.now) (record { attr = attr; bytes = bytes.now }) (look n.tree (upward names.now))) r) }
     ensures variant { IfOk result IsChangeReply }
 {
     match split_last(names) {
         None => Ok(Reply::Error(FsError::Exists)),
         Some((name, dirs)) => match look_at(alloc, b, root, dirs, name) {
             Ok(Sight::Found(_, _)) => Ok(Reply::Error(FsError::Exists)),
-            Ok(Sight::Vacant(dir)) => make_in(alloc, b, &dir.blob, name, attr, bytes, chance),
+            Ok(Sight::Vacant(dir)) => {
+                let folder = Folder {
+                    names: dirs,
+                    place: dir,
+                };
+                make_in(alloc, b, &folder, name, attr, bytes, now, chance)
+            }
             Ok(Sight::Lost(error)) => Ok(Reply::Error(error)),
             Err(fail) => Err(fail),
         },

@@ -7,37 +7,41 @@ ghost use Rattle.forest.specs.Showing.{PerformedBy};
 ghost use Rattle.path_walks.specs.Replies.{IsChangeReply};
 ghost use Rattle.path_rows.specs.Moves.{Heading, Replacing, ids_then};
 
-use crate::changes::{drop_at, is_same, relocate};
+use crate::changes::{drop_at, relocate};
 use blob_api::Blobs;
 use block_id::Fail;
 use dir_entries::Entry;
 use fs_blobs::body_len;
 use fs_model::{Attr, ENTRY_SIZE, FsError, MAX_ENTRIES, MAX_MODE, Moment, Name, Reply};
-use path_walks::Place;
+use path_entries::{is_same, touch_both};
+use path_walks::{Folder, Place, done};
 use rand_core::Rng;
 use std::alloc::Global;
 
-/// A row moves to a free path, where the directory there has room for its entry.
+/// A row moves to a free path, where the directory there has room for its entry. The directories that it leaves and
+/// comes to are touched.
 pub fn move_free<B: Blobs, R: Rng>(
     alloc: Global,
     b: &mut B,
     now: Moment,
-    from: Place,
+    from: &Folder,
     name: &Name,
     place: Place,
-    to: Place,
+    to: &Folder,
     to_name: &Name,
     chance: &mut R,
 ) -> Result<Reply, Fail>
     requires intact { B.meanings.intact b.old }
     requires mode { place.attr.mode ≤ MAX_MODE }
+    requires from_mode { from.now.place.attr.mode ≤ MAX_MODE }
+    requires to_mode { to.now.place.attr.mode ≤ MAX_MODE }
     ensures variant { IfOk result IsChangeReply }
-    ensures did { Outcome B.meanings (Heading B.holdings b.old now from name.now place to to_name.now) b.old b.new result
-        (λ n r. PerformedBy B.holdings b.new n.root (moved_unless_large n.tree (to_name.now ∷ n.below) (moved_tree n.tree now (name.now ∷ n.above) (to_name.now ∷ n.below) n.row)) r
+    ensures did { Outcome B.meanings (Heading B.holdings b.old now from.now name.now place to.now to_name.now) b.old b.new result
+        (λ n r. PerformedBy B.holdings b.new n.root (moved_unless_large n.tree now (name.now ∷ n.above) (to_name.now ∷ n.below) (moved_tree n.tree now (name.now ∷ n.above) (to_name.now ∷ n.below) n.row)) r
         (ids_then r n.ids (moved_ids n.ids (name.now ∷ n.above) (to_name.now ∷ n.below)))) }
 {
-    let size = body_len(alloc, b, &to.blob)?;
-    let left = if is_same(&from.blob, &to.blob) {
+    let size = body_len(alloc, b, &to.place.blob)?;
+    let left = if is_same(&from.place.blob, &to.place.blob) {
         ENTRY_SIZE + name.as_slice().len() as u64
     } else {
         0
@@ -56,8 +60,16 @@ pub fn move_free<B: Blobs, R: Rng>(
         attr,
         blob: place.blob,
     };
-    relocate(alloc, b, &from.blob, name, &to.blob, &entry, chance)?;
-    Ok(Reply::Done)
+    relocate(
+        alloc,
+        b,
+        &from.place.blob,
+        name,
+        &to.place.blob,
+        &entry,
+        chance,
+    )?;
+    done(touch_both(alloc, b, from, to, now, chance))
 }
 
 /// A row moves onto another one, which goes with its blob.
@@ -65,21 +77,23 @@ pub fn move_onto<B: Blobs, R: Rng>(
     alloc: Global,
     b: &mut B,
     now: Moment,
-    from: Place,
+    from: &Folder,
     name: &Name,
     place: Place,
-    to: Place,
+    to: &Folder,
     to_name: &Name,
     replaced: Place,
     chance: &mut R,
 ) -> Result<Reply, Fail>
     requires intact { B.meanings.intact b.old }
     requires mode { place.attr.mode ≤ MAX_MODE }
+    requires from_mode { from.now.place.attr.mode ≤ MAX_MODE }
+    requires to_mode { to.now.place.attr.mode ≤ MAX_MODE }
     ensures variant { IfOk result IsChangeReply }
-    ensures did { Outcome B.meanings (Replacing B.holdings b.old now from name.now place to to_name.now replaced) b.old b.new result
-        (λ n r. PerformedBy B.holdings b.new n.root (moved_unless_large n.tree (to_name.now ∷ n.below) (moved_tree n.tree now (name.now ∷ n.above) (to_name.now ∷ n.below) n.row)) r
+    ensures did { Outcome B.meanings (Replacing B.holdings b.old now from.now name.now place to.now to_name.now replaced) b.old b.new result
+        (λ n r. PerformedBy B.holdings b.new n.root (moved_unless_large n.tree now (name.now ∷ n.above) (to_name.now ∷ n.below) (moved_tree n.tree now (name.now ∷ n.above) (to_name.now ∷ n.below) n.row)) r
         (ids_then r n.ids (moved_ids n.ids (name.now ∷ n.above) (to_name.now ∷ n.below)))) }
 {
-    drop_at(alloc, b, &to.blob, to_name, &replaced.blob, chance)?;
+    drop_at(alloc, b, &to.place.blob, to_name, &replaced.blob, chance)?;
     move_free(alloc, b, now, from, name, place, to, to_name, chance)
 }

@@ -14,7 +14,7 @@ use crate::moves::{move_free, move_onto};
 use blob_api::Blobs;
 use block_id::{BlockId, Fail};
 use fs_model::{FsError, MAX_MODE, Moment, Name, Reply};
-use path_walks::{Place, Reached, Sight, look_at, reach, split_last};
+use path_walks::{Folder, Place, Reached, Sight, look_at, reach, split_last};
 use rand_core::Rng;
 use std::alloc::Global;
 use tree_rules::{is_above, same_names};
@@ -43,7 +43,7 @@ pub fn move_row<B: Blobs, R: Rng>(
                 return Ok(Reply::Error(FsError::Invalid));
             }
             let same = same_names(from, to);
-            move_found(alloc, b, root, dir, name, place, to, same, now, chance)
+            move_found(alloc, b, root, &dir, name, place, to, same, now, chance)
         }
         Ok(Reached::Refused(error)) => Ok(Reply::Error(error)),
         Err(fail) => Err(fail),
@@ -55,7 +55,7 @@ fn move_found<B: Blobs, R: Rng>(
     alloc: Global,
     b: &mut B,
     root: &BlockId,
-    dir: Place,
+    dir: &Folder,
     name: &Name,
     place: Place,
     to_names: &[Name],
@@ -65,7 +65,8 @@ fn move_found<B: Blobs, R: Rng>(
 ) -> Result<Reply, Fail>
     requires intact { B.meanings.intact b.old }
     requires mode { place.attr.mode ≤ MAX_MODE }
-    ensures outcome { Outcome B.meanings (Onward B.holdings b.old root.now.0 dir name.now place (upward to_names.now) same) b.old b.new result
+    requires dir_mode { dir.now.place.attr.mode ≤ MAX_MODE }
+    ensures outcome { Outcome B.meanings (Onward B.holdings b.old root.now.0 dir.now name.now place (upward to_names.now) same) b.old b.new result
         (λ n r. Performed B.holdings b.new root.now.0 (moved_to n.tree now (name.now ∷ n.path) (upward to_names.now) n.is.here.row (look n.tree (upward to_names.now))) r) }
     ensures variant { IfOk result IsChangeReply }
 {
@@ -78,11 +79,23 @@ fn move_found<B: Blobs, R: Rng>(
                 }
                 match refusal_onto(alloc, b, &place, &old)? {
                     Some(refusal) => Ok(Reply::Error(refusal)),
-                    None => move_onto(alloc, b, now, dir, name, place, to, to_name, old, chance),
+                    None => {
+                        let folder = Folder {
+                            names: to_dirs,
+                            place: to,
+                        };
+                        move_onto(
+                            alloc, b, now, dir, name, place, &folder, to_name, old, chance,
+                        )
+                    }
                 }
             }
             Ok(Sight::Vacant(to)) => {
-                move_free(alloc, b, now, dir, name, place, to, to_name, chance)
+                let folder = Folder {
+                    names: to_dirs,
+                    place: to,
+                };
+                move_free(alloc, b, now, dir, name, place, &folder, to_name, chance)
             }
             Ok(Sight::Lost(error)) => Ok(Reply::Error(error)),
             Err(fail) => Err(fail),

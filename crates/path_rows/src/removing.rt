@@ -1,19 +1,20 @@
 // Commands that take a row away.
-ghost use Rattle.std.specs.Prelude.{◌∷◌, IfOk};
+ghost use Rattle.std.specs.Prelude.{◌≤◌, ◌∷◌, IfOk};
 ghost use Rattle.outcome.specs.Outcome.{Outcome};
 ghost use Rattle.fs_model.specs.Tree.{upward};
 ghost use Rattle.fs_model.specs.LookUp.{Found, look};
 ghost use Rattle.fs_model.specs.Step.{unless_root, removed_directory, removed_file};
 ghost use Rattle.forest.specs.Showing.{BlobsShow, Performed};
 ghost use Rattle.path_walks.specs.Replies.{IsChangeReply};
-ghost use Rattle.path_walks.specs.Sights.{Finding};
+ghost use Rattle.path_rows.specs.Changes.{Removing};
 
 use crate::changes::drop_at;
 use crate::folders::{has_child, is_directory};
 use blob_api::Blobs;
 use block_id::{BlockId, Fail};
-use fs_model::{FsError, Kind, Name, Reply};
-use path_walks::{Place, Reached, done, reach};
+use fs_model::{FsError, Kind, MAX_MODE, Moment, Name, Reply};
+use path_entries::touch;
+use path_walks::{Folder, Place, Reached, done, reach};
 use rand_core::Rng;
 use std::alloc::Global;
 
@@ -23,35 +24,38 @@ pub fn remove_directory<B: Blobs, R: Rng>(
     b: &mut B,
     root: &BlockId,
     names: &[Name],
+    now: Moment,
     chance: &mut R,
 ) -> Result<Reply, Fail>
     requires { B.meanings.intact b.old }
     ensures outcome { Outcome B.meanings (BlobsShow B.holdings b.old root.now.0) b.old b.new result
-        (λ n r. Performed B.holdings b.new root.now.0 (unless_root n.tree (upward names.now) (removed_directory n.tree (upward names.now) (look n.tree (upward names.now)))) r) }
+        (λ n r. Performed B.holdings b.new root.now.0 (unless_root n.tree (upward names.now) (removed_directory n.tree now (upward names.now) (look n.tree (upward names.now)))) r) }
     ensures variant { IfOk result IsChangeReply }
 {
     match reach(alloc, b, root, names, FsError::Busy) {
         Ok(Reached::Row(dir, name, place)) => {
-            drop_directory(alloc, b, root, &dir, name, &place, chance)
+            drop_directory(alloc, b, root, &dir, name, &place, now, chance)
         }
         Ok(Reached::Refused(error)) => Ok(Reply::Error(error)),
         Err(fail) => Err(fail),
     }
 }
 
-/// What was found goes, where it is a directory that has no entries.
+/// What was found goes, where it is a directory that has no entries, and its directory is touched.
 fn drop_directory<B: Blobs, R: Rng>(
     alloc: Global,
     b: &mut B,
     root: &BlockId,
-    dir: &Place,
+    dir: &Folder,
     name: &Name,
     place: &Place,
+    now: Moment,
     chance: &mut R,
 ) -> Result<Reply, Fail>
-    requires { B.meanings.intact b.old }
-    ensures outcome { Outcome B.meanings (Finding B.holdings b.old root.now.0 dir.now name.now place.now) b.old b.new result
-        (λ n r. Performed B.holdings b.new root.now.0 (removed_directory n.tree (name.now ∷ n.path) (Found n.is.here.row)) r) }
+    requires intact { B.meanings.intact b.old }
+    requires mode { dir.now.place.attr.mode ≤ MAX_MODE }
+    ensures outcome { Outcome B.meanings (Removing B.holdings b.old root.now.0 dir.now name.now place.now) b.old b.new result
+        (λ n r. Performed B.holdings b.new root.now.0 (removed_directory n.finding.tree now (name.now ∷ n.finding.path) (Found n.finding.is.here.row)) r) }
     ensures variant { IfOk result IsChangeReply }
 {
     match place.attr.kind {
@@ -59,7 +63,8 @@ fn drop_directory<B: Blobs, R: Rng>(
             if has_child(alloc, b, place)? {
                 return Ok(Reply::Error(FsError::NotEmpty));
             }
-            done(drop_at(alloc, b, &dir.blob, name, &place.blob, chance))
+            drop_at(alloc, b, &dir.place.blob, name, &place.blob, chance)?;
+            done(touch(alloc, b, dir, now, chance))
         }
         Kind::File => Ok(Reply::Error(FsError::NotDirectory)),
         Kind::Link => Ok(Reply::Error(FsError::NotDirectory)),
@@ -72,39 +77,43 @@ pub fn remove_file<B: Blobs, R: Rng>(
     b: &mut B,
     root: &BlockId,
     names: &[Name],
+    now: Moment,
     chance: &mut R,
 ) -> Result<Reply, Fail>
     requires { B.meanings.intact b.old }
     ensures outcome { Outcome B.meanings (BlobsShow B.holdings b.old root.now.0) b.old b.new result
-        (λ n r. Performed B.holdings b.new root.now.0 (unless_root n.tree (upward names.now) (removed_file n.tree (upward names.now) (look n.tree (upward names.now)))) r) }
+        (λ n r. Performed B.holdings b.new root.now.0 (unless_root n.tree (upward names.now) (removed_file n.tree now (upward names.now) (look n.tree (upward names.now)))) r) }
     ensures variant { IfOk result IsChangeReply }
 {
     match reach(alloc, b, root, names, FsError::Busy) {
         Ok(Reached::Row(dir, name, place)) => {
-            drop_file(alloc, b, root, &dir, name, &place, chance)
+            drop_file(alloc, b, root, &dir, name, &place, now, chance)
         }
         Ok(Reached::Refused(error)) => Ok(Reply::Error(error)),
         Err(fail) => Err(fail),
     }
 }
 
-/// What was found goes, where it is no directory.
+/// What was found goes, where it is no directory, and its directory is touched.
 fn drop_file<B: Blobs, R: Rng>(
     alloc: Global,
     b: &mut B,
     root: &BlockId,
-    dir: &Place,
+    dir: &Folder,
     name: &Name,
     place: &Place,
+    now: Moment,
     chance: &mut R,
 ) -> Result<Reply, Fail>
-    requires { B.meanings.intact b.old }
-    ensures outcome { Outcome B.meanings (Finding B.holdings b.old root.now.0 dir.now name.now place.now) b.old b.new result
-        (λ n r. Performed B.holdings b.new root.now.0 (removed_file n.tree (name.now ∷ n.path) (Found n.is.here.row)) r) }
+    requires intact { B.meanings.intact b.old }
+    requires mode { dir.now.place.attr.mode ≤ MAX_MODE }
+    ensures outcome { Outcome B.meanings (Removing B.holdings b.old root.now.0 dir.now name.now place.now) b.old b.new result
+        (λ n r. Performed B.holdings b.new root.now.0 (removed_file n.finding.tree now (name.now ∷ n.finding.path) (Found n.finding.is.here.row)) r) }
     ensures variant { IfOk result IsChangeReply }
 {
     if is_directory(place.attr.kind) {
         return Ok(Reply::Error(FsError::IsDirectory));
     }
-    done(drop_at(alloc, b, &dir.blob, name, &place.blob, chance))
+    drop_at(alloc, b, &dir.place.blob, name, &place.blob, chance)?;
+    done(touch(alloc, b, dir, now, chance))
 }

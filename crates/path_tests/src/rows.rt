@@ -112,3 +112,136 @@ fn what_may_not_go_stays(rt: HostRuntime) -> Result<(), Fail> {
     }
     Ok(())
 }
+
+#[test]
+fn directories_take_the_moment_at_which_their_children_change(rt: HostRuntime) -> Result<(), Fail> {
+    let alloc = rt.alloc();
+    let mut site = empty_site(alloc)?;
+    let mut tree = PlainTree::new(alloc);
+    for (secs, line, text) in [
+        (9, "mkdir /a", "ok\n"),
+        (9, "mkdir /b", "ok\n"),
+        (9, "mkfile /a/f", "ok\n"),
+        (9, "utime /a 1.000000000 2.000000000", "ok\n"),
+        (9, "utime /b 1.000000000 2.000000000", "ok\n"),
+        (9, "mv /a/f /b/f", "ok\n"),
+        (
+            9,
+            "stat /a",
+            "stat d 755 0 0 0 1.000000000 9.000000000 9.000000000\n",
+        ),
+        (
+            9,
+            "stat /b",
+            "stat d 755 0 0 0 1.000000000 9.000000000 9.000000000\n",
+        ),
+        (9, "utime /b 1.000000000 2.000000000", "ok\n"),
+        (9, "mv /b/f /b/f", "ok\n"),
+        (9, "write /b/f 0 61", "ok\n"),
+        (
+            9,
+            "stat /b",
+            "stat d 755 0 0 0 1.000000000 2.000000000 9.000000000\n",
+        ),
+        (10, "mkdir /b/d", "ok\n"),
+        (
+            10,
+            "stat /b",
+            "stat d 755 0 0 0 1.000000000 10.000000000 10.000000000\n",
+        ),
+        (11, "mkfile /b/d/g", "ok\n"),
+        (
+            11,
+            "stat /b/d",
+            "stat d 755 0 0 0 10.000000000 11.000000000 11.000000000\n",
+        ),
+        (
+            11,
+            "stat /b",
+            "stat d 755 0 0 0 1.000000000 10.000000000 10.000000000\n",
+        ),
+        (12, "symlink t /b/d/l", "ok\n"),
+        (
+            12,
+            "stat /b/d",
+            "stat d 755 0 0 0 10.000000000 12.000000000 12.000000000\n",
+        ),
+        (13, "rm /b/d/l", "ok\n"),
+        (
+            13,
+            "stat /b/d",
+            "stat d 755 0 0 0 10.000000000 13.000000000 13.000000000\n",
+        ),
+        (14, "mv /b/d/g /b/d/h", "ok\n"),
+        (
+            14,
+            "stat /b/d",
+            "stat d 755 0 0 0 10.000000000 14.000000000 14.000000000\n",
+        ),
+        (15, "rm /b/d/q", "error no-entry\n"),
+        (15, "mkdir /b/d/h", "error exists\n"),
+        (
+            15,
+            "stat /b/d",
+            "stat d 755 0 0 0 10.000000000 14.000000000 14.000000000\n",
+        ),
+        (16, "mkdir /b/e", "ok\n"),
+        (17, "mv /b/d /b/e/d", "ok\n"),
+        (
+            17,
+            "stat /b",
+            "stat d 755 0 0 0 1.000000000 17.000000000 17.000000000\n",
+        ),
+        (
+            17,
+            "stat /b/e",
+            "stat d 755 0 0 0 16.000000000 17.000000000 17.000000000\n",
+        ),
+        (
+            17,
+            "stat /b/e/d",
+            "stat d 755 0 0 0 10.000000000 14.000000000 17.000000000\n",
+        ),
+        (18, "rm /b/e/d/h", "ok\n"),
+        (
+            18,
+            "stat /b/e/d",
+            "stat d 755 0 0 0 10.000000000 18.000000000 18.000000000\n",
+        ),
+        (19, "rmdir /b/e/d", "ok\n"),
+        (
+            19,
+            "stat /b/e",
+            "stat d 755 0 0 0 16.000000000 19.000000000 19.000000000\n",
+        ),
+        (
+            19,
+            "stat /b",
+            "stat d 755 0 0 0 1.000000000 17.000000000 17.000000000\n",
+        ),
+        (20, "mkdir /b/e/x", "ok\n"),
+        (21, "mv /a /b/e/x", "ok\n"),
+        (
+            21,
+            "stat /b/e",
+            "stat d 755 0 0 0 16.000000000 21.000000000 21.000000000\n",
+        ),
+        (
+            21,
+            "stat /b/e/x",
+            "stat d 755 0 0 0 1.000000000 9.000000000 21.000000000\n",
+        ),
+        (
+            21,
+            "stat /",
+            "stat d 755 0 0 0 0.000000000 0.000000000 0.000000000\n",
+        ),
+    ] {
+        let now = Moment::new(secs, 0).ok_or("nanos")?;
+        let reply = answer(alloc, &mut site, now, line.as_bytes())?;
+        assert_eq!(rt; reply.as_slice(), text.as_bytes());
+        let reply = told(alloc, &mut tree, now, line.as_bytes())?;
+        assert_eq!(rt; reply.as_slice(), text.as_bytes());
+    }
+    Ok(())
+}

@@ -5,12 +5,13 @@ use Rattle.std.proofs.lemmas.Option.{same_Some, none-some}
 use Rattle.blob_api.specs.BlobMap.{Id, BlobMap, BlobHoldings}
 use Rattle.fs_model.specs.declared.error.FsError.{FsError}
 use Rattle.fs_model.specs.declared.error.FsError.TheVariants.{NoEntry}
-use Rattle.fs_model.specs.Tree.{Path, Tree, IsRooted, root_row}
+use Rattle.fs_model.specs.Tree.{Path, Tree, upward, IsRooted, root_row}
 use Rattle.fs_model.specs.LookUp.{LookedUp, Found, Free, Bad, look, walk}
 use Rattle.fs_model.specs.Step.{Stepped, refused}
 use Rattle.fs_model.proofs.LookUpLemmas.{look-walk, look-found}
 use Rattle.forest.specs.Shows.{ShowsBy}
 use Rattle.forest.specs.Showing.{BlobsShow}
+use Rattle.path_walks.specs.declared.spots.Folder.{Folder}
 use Rattle.path_walks.specs.declared.spots.Place.{Place}
 use Rattle.path_walks.specs.declared.spots.Sight.{Sight}
 use Rattle.path_walks.specs.declared.spots.Sight.TheVariants as sight
@@ -59,9 +60,11 @@ module _ (t : Tree) (f : Path → LookedUp → Stepped) (at_root e : FsError) (r
 
 -- ---- rows
 
-abbrev pub row_finding : {S : Type 0} {H : BlobHoldings S} {a : S} {root : Id} (w : BlobsShow H a root) (b : S) → H.stands_for b w.map → {p : Path} {n : List ℕ} {dir place : Place} → IsRow w.tree w.ids p n dir place → Finding H b root dir n place
-row_finding w b stands row = record { map = w.map; stands = stands; tree = w.tree; ids = w.ids; shows = w.shows; path = row.above; is = row.is }
+abbrev pub row_finding : {S : Type 0} {H : BlobHoldings S} {a : S} {root : Id} (w : BlobsShow H a root) (b : S) → H.stands_for b w.map → {p : Path} {n : List ℕ} {dir : Folder} {place : Place} → IsRow w.tree w.ids p n dir place → Finding H b root dir.place n place
+row_finding w b stands {dir = dir} row = record { map = w.map; stands = stands; tree = w.tree; ids = w.ids; shows = w.shows; path = upward dir.names.now; is = row.is }
 
 -- a step at the path of a row
-pub on_row : {t : Tree} {ids : Path → Id} (f : Path → LookedUp → Stepped) {p : Path} {n : List ℕ} {dir place : Place} (row : IsRow t ids p n dir place) → f p (look t p) ≡ f (n ∷ row.above) (Found row.is.here.row)
-on_row {t = t} f {p = p} {n = n} row = on_path t f p (n ∷ row.above) (Found row.is.here.row) row.split (look-found t (n ∷ row.above) row.is.here.row row.is.here.there)
+pub on_row : {t : Tree} {ids : Path → Id} (f : Path → LookedUp → Stepped) {p : Path} {n : List ℕ} {dir : Folder} {place : Place} (row : IsRow t ids p n dir place) → f p (look t p) ≡ f (n ∷ upward dir.names.now) (Found row.is.here.row)
+on_row {t = t} f {p = p} {n = n} {dir = dir} row =
+    let q = n ∷ upward dir.names.now in
+    on_path t f p q (Found row.is.here.row) row.split (look-found t q row.is.here.row row.is.here.there)

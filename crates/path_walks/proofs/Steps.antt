@@ -12,7 +12,7 @@ use Rattle.fs_model.specs.declared.error.FsError.TheVariants.{NoEntry, NotDirect
 use Rattle.fs_model.specs.Tree.{Path, Row, Tree, name_cmp, is_directory, upward}
 use Rattle.fs_model.specs.LookUp.{LookedUp, Found, Free, Bad, goes_on, walk}
 use Rattle.fs_model.specs.declared.error.FsError.{FsError}
-use Rattle.fs_model.proofs.WellFormedStep.{below_file, below_none}
+use Rattle.fs_model.proofs.PutRows.{below_file, below_none}
 use Rattle.dir_entries.specs.Layout.{EntryTarget}
 use Rattle.dir_entries.specs.Places.{target_of}
 use Rattle.dir_blob.specs.Directories.{IsDirectory}

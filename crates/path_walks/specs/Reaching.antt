@@ -6,18 +6,18 @@ use Rattle.blob_api.specs.BlobMap.{Id}
 use Rattle.fs_model.specs.declared.error.FsError.{FsError}
 use Rattle.fs_model.specs.declared.error.FsError.TheVariants.{NoEntry}
 use Rattle.fs_model.specs.declared.limits.TheConstants.{MAX_MODE}
-use Rattle.fs_model.specs.Tree.{Path, Tree}
+use Rattle.fs_model.specs.Tree.{Path, Tree, upward}
 use Rattle.fs_model.specs.LookUp.{LookedUp, Found, Free, Bad, look}
+use Rattle.path_walks.specs.declared.spots.Folder.{Folder}
 use Rattle.path_walks.specs.declared.spots.Place.{Place}
 use Rattle.path_walks.specs.Sights.{IsFound}
 use Rattle.path_walks.specs.declared.reaching.Reached.{Reached}
 use Rattle.path_walks.specs.declared.reaching.Reached.TheVariants.{Row, Refused}
 
 -- a row stands under the last name of the path
-pub record IsRow (t : Tree) (ids : Path → Id) (p : Path) (n : List ℕ) (dir place : Place) : Type 0 where
-  pub above : Path
-  pub split : p ≡ n ∷ above
-  pub is : IsFound t ids above n dir place
+pub record IsRow (t : Tree) (ids : Path → Id) (p : Path) (n : List ℕ) (dir : Folder) (place : Place) : Type 0 where
+  pub split : p ≡ n ∷ upward dir.names.now
+  pub is : IsFound t ids (upward dir.names.now) n dir.place place
 
 -- the error of a path that has no row to change: the root, which no directory holds, gets its own
 abbrev pub refusal : FsError → Path → LookedUp → Option FsError
@@ -30,7 +30,7 @@ abbrev pub ReachedIs : Tree → (Path → Id) → Path → FsError → Reached �
 ReachedIs t ids p at_root (Row dir name place) = IsRow t ids p name.now dir place
 ReachedIs t ids p at_root (Refused e) = refusal at_root p (look t p) ≡ Some e
 
--- the mode that was found is within its limit
-abbrev pub HasRowMode : Reached → Type 0
-HasRowMode (Row dir name place) = place.attr.mode ≤ MAX_MODE
-HasRowMode (Refused e) = Unit {0}
+-- the modes that were found are within their limit
+abbrev pub HaveRowModes : Reached → Type 0
+HaveRowModes (Row dir name place) = (dir.place.attr.mode ≤ MAX_MODE) × (place.attr.mode ≤ MAX_MODE)
+HaveRowModes (Refused e) = Unit {0}

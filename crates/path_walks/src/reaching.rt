@@ -3,10 +3,10 @@ ghost use Rattle.std.specs.Prelude.{◌≡◌, IfOk};
 ghost use Rattle.outcome.specs.Outcome.{Outcome};
 ghost use Rattle.fs_model.specs.Tree.{upward};
 ghost use Rattle.forest.specs.Showing.{BlobsShow};
-ghost use Rattle.path_walks.specs.Reaching.{ReachedIs, HasRowMode};
+ghost use Rattle.path_walks.specs.Reaching.{ReachedIs, HaveRowModes};
 
 use crate::names::split_last;
-use crate::{Place, Sight, look_at};
+use crate::{Folder, Place, Sight, look_at};
 use blob_api::Blobs;
 use block_id::{BlockId, Fail};
 use fs_model::{FsError, Name};
@@ -15,7 +15,7 @@ use std::alloc::Global;
 /// What a path comes to.
 pub enum Reached<'a> {
     /// The directory, the name in it, and what stands there.
-    Row(Place, &'a Name, Place),
+    Row(Folder<'a>, &'a Name, Place),
     Refused(FsError),
 }
 
@@ -30,13 +30,19 @@ pub fn reach<'a, B: Blobs>(
     requires { B.meanings.intact b.old }
     ensures outcome { Outcome B.meanings (BlobsShow B.holdings b.old root.now.0) b.old b.new result
         (λ n r. B.holdings.stands_for b.new n.map × ReachedIs n.tree n.ids (upward names.now) at_root r) }
-    ensures mode { IfOk result HasRowMode }
+    ensures modes { IfOk result HaveRowModes }
     ensures unchanged { B.holdings.changed b.new ≡ B.holdings.changed b.old }
 {
     match split_last(names) {
         None => Ok(Reached::Refused(at_root)),
         Some((name, dirs)) => match look_at(alloc, b, root, dirs, name) {
-            Ok(Sight::Found(dir, place)) => Ok(Reached::Row(dir, name, place)),
+            Ok(Sight::Found(dir, place)) => {
+                let folder = Folder {
+                    names: dirs,
+                    place: dir,
+                };
+                Ok(Reached::Row(folder, name, place))
+            }
             Ok(Sight::Vacant(_)) => Ok(Reached::Refused(FsError::NoEntry)),
             Ok(Sight::Lost(error)) => Ok(Reached::Refused(error)),
             Err(fail) => Err(fail),

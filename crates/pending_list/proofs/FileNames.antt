@@ -3,7 +3,6 @@ use Rattle.std.proofs.Common.{◌≡◌, refl}
 use Rattle.outside.specs.declared.change.FileName.{FileName}
 use Rattle.outside.specs.declared.change.FileName.TheVariants.{Config, Block}
 use Rattle.outside.specs.contracts.change.FileNamePartialEq.TheImpl as partial_eq
-use Rattle.outside.specs.contracts.change.FileNameOrd.TheImpl as ord
 use Rattle.outside.specs.Names.{same_at}
 use Rattle.outside.specs.View.{at_of}
 

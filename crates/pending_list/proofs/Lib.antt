@@ -1,2 +1,4 @@
 pub mod FileNames
+pub mod InOrder
 pub mod Lists
+pub mod Merges

@@ -17,7 +17,7 @@ pub fn is_same(a: &FileName, b: &FileName) -> bool
     *a == *b
 }
 
-fn order(a: &FileName, b: &FileName) -> Ordering
+pub(crate) fn order(a: &FileName, b: &FileName) -> Ordering
     ensures { result ≡ at_cmp (at_of a.now) (at_of b.now) }
 {
     a.cmp(b)

@@ -21,7 +21,8 @@ use Rattle.fs_model.proofs.LookUpLemmas.{get-found, get-free}
 use Rattle.fs_model.proofs.MoveLemmas.{strip-append, strip-is}
 use Rattle.fs_model.proofs.MovedTree.{not_above, strip_none, moved-here, moved-below, moved-off, moved-gone, strip_off}
 use Rattle.fs_model.proofs.MovedSize.{size_within_free, size_within_found, size_across_free, size_across_found}
-use Rattle.fs_model.proofs.WellFormedStep.{below_file, bare_below, can_move_free, can_move_found}
+use Rattle.fs_model.proofs.PutRows.{below_file, bare_below}
+use Rattle.fs_model.proofs.WellFormedStep.{can_move_free, can_move_found}
 use Rattle.tree_rules.proofs.PathLemmas.{parent_at, name_at}
 use Rattle.row_table.specs.Moves.{IsBelowMoved}
 use Rattle.plain_tree.specs.Moves.{IsMove, held}

@@ -16,7 +16,7 @@ use Rattle.fs_model.specs.Instant.{Instant}
 use Rattle.fs_model.specs.Tree.{Path, Row, Tree, parent, is_root, is_directory, same_path, children, directory_size}
 use Rattle.fs_model.specs.LookUp.{LookedUp, Found, Bad, look}
 use Rattle.fs_model.specs.Move.{is_above}
-use Rattle.fs_model.specs.Step.{Stepped, refused, done, unless_root, has_child, moved_tree, moved_unless_large, moved_onto, moved_to, moved_from}
+use Rattle.fs_model.specs.Step.{Stepped, refused, done, unless_root, has_child, moved_tree, touched, moved_unless_large, moved_onto, moved_to, moved_from}
 use Rattle.fs_model.proofs.SizeLemmas.{no_children}
 use Rattle.plain_tree.specs.Sights.{refusal_of}
 use Rattle.plain_tree.specs.Answers.{IsAnswer}
@@ -29,15 +29,19 @@ answer_map (Err e) P Q f h = tt
 
 module _ (t : Tree) (p q : Path) (now : Instant) where
   abbrev large : Row → Stepped
-  large row = moved_unless_large t q (moved_tree t now p q row)
+  large row = moved_unless_large t now p q (moved_tree t now p q row)
 
-  pub large_done : (new : Tree) (row : Row) → new ≡ moved_tree t now p q row → directory_size (moved_tree t now p q row) (parent q) ≤ MAX_ENTRIES → IsAnswer new Done (large row)
-  large_done new row is fits = goes_on_to new (moved_tree t now p q row) (large row) is
-      (ap (λ b. cond b (refused t TooLarge) (done (moved_tree t now p q row))) (le-ltb MAX_ENTRIES (directory_size (moved_tree t now p q row) (parent q)) fits))
+  -- with both directories touched
+  abbrev pub both : Tree → Tree
+  both next = touched (touched next now (parent p)) now (parent q)
+
+  pub large_done : (new : Tree) (row : Row) → new ≡ both (moved_tree t now p q row) → directory_size (moved_tree t now p q row) (parent q) ≤ MAX_ENTRIES → IsAnswer new Done (large row)
+  large_done new row is fits = goes_on_to new (both (moved_tree t now p q row)) (large row) is
+      (ap (λ b. cond b (refused t TooLarge) (done (both (moved_tree t now p q row)))) (le-ltb MAX_ENTRIES (directory_size (moved_tree t now p q row) (parent q)) fits))
 
   pub large_refused : (row : Row) → MAX_ENTRIES < directory_size (moved_tree t now p q row) (parent q) → IsAnswer t (Error TooLarge) (large row)
   large_refused row passes = stays t (Error TooLarge) (large row)
-      (ap (λ b. cond b (refused t TooLarge) (done (moved_tree t now p q row))) (lt-ltb MAX_ENTRIES (directory_size (moved_tree t now p q row) (parent q)) passes))
+      (ap (λ b. cond b (refused t TooLarge) (done (both (moved_tree t now p q row)))) (lt-ltb MAX_ENTRIES (directory_size (moved_tree t now p q row) (parent q)) passes))
 
   pub onto_same : (row old : Row) → look t q ≡ Found old → same_path p q ≡ true → IsAnswer t Done (moved_to t now p q row (look t q))
   onto_same row old to same = stays t Done (moved_to t now p q row (look t q))

@@ -27,21 +27,21 @@ file_refused (Found row) e h = cc
 file_refused Free e h = h
 file_refused (Bad x) e h = h
 
-directory_none : (t : Tree) (p : Path) (s : LookedUp) (e : FsError) → refusal_of s ≡ Some e → removed_directory t p s ≡ refused t e
-directory_none t p (Found row) e h = cc
-directory_none t p Free e h = ap (refused t) (error_is h)
-directory_none t p (Bad x) e h = ap (refused t) (error_is h)
+directory_none : (t : Tree) (now : Instant) (p : Path) (s : LookedUp) (e : FsError) → refusal_of s ≡ Some e → removed_directory t now p s ≡ refused t e
+directory_none t now p (Found row) e h = cc
+directory_none t now p Free e h = ap (refused t) (error_is h)
+directory_none t now p (Bad x) e h = ap (refused t) (error_is h)
 
-pub directory_refused : (t : Tree) (p : Path) (e : FsError) → is_root p ≡ false → refusal_of (look t p) ≡ Some e → IsAnswer t (Error e) (unless_root t p (removed_directory t p (look t p)))
-directory_refused t p e named h = stays t (Error e) (unless_root t p (removed_directory t p (look t p))) (named_step t p (removed_directory t p (look t p)) named ∙ directory_none t p (look t p) e h)
+pub directory_refused : (t : Tree) (now : Instant) (p : Path) (e : FsError) → is_root p ≡ false → refusal_of (look t p) ≡ Some e → IsAnswer t (Error e) (unless_root t p (removed_directory t now p (look t p)))
+directory_refused t now p e named h = stays t (Error e) (unless_root t p (removed_directory t now p (look t p))) (named_step t p (removed_directory t now p (look t p)) named ∙ directory_none t now p (look t p) e h)
 
-file_none : (t : Tree) (p : Path) (s : LookedUp) (e : FsError) → refusal_of s ≡ Some e → removed_file t p s ≡ refused t e
-file_none t p (Found row) e h = cc
-file_none t p Free e h = ap (refused t) (error_is h)
-file_none t p (Bad x) e h = ap (refused t) (error_is h)
+file_none : (t : Tree) (now : Instant) (p : Path) (s : LookedUp) (e : FsError) → refusal_of s ≡ Some e → removed_file t now p s ≡ refused t e
+file_none t now p (Found row) e h = cc
+file_none t now p Free e h = ap (refused t) (error_is h)
+file_none t now p (Bad x) e h = ap (refused t) (error_is h)
 
-pub removal_refused : (t : Tree) (p : Path) (e : FsError) → is_root p ≡ false → refusal_of (look t p) ≡ Some e → IsAnswer t (Error e) (unless_root t p (removed_file t p (look t p)))
-removal_refused t p e named h = stays t (Error e) (unless_root t p (removed_file t p (look t p))) (named_step t p (removed_file t p (look t p)) named ∙ file_none t p (look t p) e h)
+pub removal_refused : (t : Tree) (now : Instant) (p : Path) (e : FsError) → is_root p ≡ false → refusal_of (look t p) ≡ Some e → IsAnswer t (Error e) (unless_root t p (removed_file t now p (look t p)))
+removal_refused t now p e named h = stays t (Error e) (unless_root t p (removed_file t now p (look t p))) (named_step t p (removed_file t now p (look t p)) named ∙ file_none t now p (look t p) e h)
 
 attributes_none : (t : Tree) (p : Path) (change : Attr → Attr) (s : LookedUp) (e : FsError) → refusal_of s ≡ Some e → attributes_set t p change s ≡ refused t e
 attributes_none t p change (Found row) e h = cc

@@ -22,8 +22,8 @@ use Rattle.fs_model.specs.Instant.{Instant}
 use Rattle.fs_model.specs.Tree.{Path, Row, Tree, upward, parent, last_name, is_root, is_directory, entry_size, directory_size, root_row, IsWellFormed}
 use Rattle.fs_model.specs.LookUp.{LookedUp, Found, Free, look, goes_on}
 use Rattle.block_id.specs.Contents.{overwritten, resized}
-use Rattle.fs_model.specs.Step.{Stepped, answered, refused, done, step, unless_root, made, has_child, removed_directory, removed_file, attributes_set, written, truncated, on_file, is_too_long, with_content}
-use Rattle.fs_model.proofs.TreeLemmas.{path_total, path_exact, path_split, insert_here, insert_apart}
+use Rattle.fs_model.specs.Step.{Stepped, answered, refused, done, step, unless_root, made, touched, has_child, removed_directory, removed_file, attributes_set, written, truncated, on_file, is_too_long, with_content}
+use Rattle.fs_model.proofs.TreeLemmas.{path_total, path_exact, path_split, insert_here, insert_apart, set_again}
 use Rattle.fs_model.proofs.LookUpLemmas.{look-walk, get-found, get-free}
 use Rattle.tree_rules.proofs.PathLemmas.{last_at}
 use Rattle.plain_tree.specs.Answers.{IsAnswer}
@@ -71,68 +71,61 @@ seen_above t (m ∷ ms) s formed some none above =
     ∙ ap (goes_on s) (ap (get t) (sym is) ∙ none)))
 
 -- a new row
-pub made_new : (t new : Tree) (ns : List (List ℕ)) (n : List ℕ) (row : Row) → 0 < length ns → n ≡ get_or ns (length ns - 1) n → look t (upward ns) ≡ Free
-    → directory_size t (upward (take (length ns - 1) ns)) + entry_size n ≤ MAX_ENTRIES → new ≡ tree.insert t (upward ns) row → IsAnswer new Done (made t (upward ns) row (look t (upward ns)))
-made_new t new ns n row some at free fits is =
+pub made_new : (t new : Tree) (now : Instant) (ns : List (List ℕ)) (n : List ℕ) (row : Row) → 0 < length ns → n ≡ get_or ns (length ns - 1) n → look t (upward ns) ≡ Free
+    → directory_size t (upward (take (length ns - 1) ns)) + entry_size n ≤ MAX_ENTRIES → new ≡ touched (tree.insert t (upward ns) row) now (parent (upward ns)) → IsAnswer new Done (made t now (upward ns) row (look t (upward ns)))
+made_new t new now ns n row some at free fits is =
     let q = upward (take (length ns - 1) ns) in
     let p = upward ns in
-    goes_on_to new (tree.insert t p row) (made t p row (look t p)) is
-    (ap (made t p row) free
-    ∙ ap (λ b. cond b (refused t TooLarge) (done (tree.insert t p row)))
+    goes_on_to new (touched (tree.insert t p row) now (parent p)) (made t now p row (look t p)) is
+    (ap (made t now p row) free
+    ∙ ap (λ b. cond b (refused t TooLarge) (done (touched (tree.insert t p row) now (parent p))))
     (ap (λ z. nat_lt MAX_ENTRIES (directory_size t (parent z) + entry_size (last_name z))) (last_at ns n some ∙ ap (λ z. z ∷ q) (sym at)) ∙ le-ltb MAX_ENTRIES (directory_size t q + entry_size n) fits))
 
-pub made_large : (t : Tree) (ns : List (List ℕ)) (n : List ℕ) (row : Row) → 0 < length ns → n ≡ get_or ns (length ns - 1) n → look t (upward ns) ≡ Free
-    → MAX_ENTRIES < directory_size t (upward (take (length ns - 1) ns)) + entry_size n → IsAnswer t (Error TooLarge) (made t (upward ns) row (look t (upward ns)))
-made_large t ns n row some at free passes =
+pub made_large : (t : Tree) (now : Instant) (ns : List (List ℕ)) (n : List ℕ) (row : Row) → 0 < length ns → n ≡ get_or ns (length ns - 1) n → look t (upward ns) ≡ Free
+    → MAX_ENTRIES < directory_size t (upward (take (length ns - 1) ns)) + entry_size n → IsAnswer t (Error TooLarge) (made t now (upward ns) row (look t (upward ns)))
+made_large t now ns n row some at free passes =
     let q = upward (take (length ns - 1) ns) in
     let p = upward ns in
-    stays t (Error TooLarge) (made t p row (look t p))
-    (ap (made t p row) free
-    ∙ ap (λ b. cond b (refused t TooLarge) (done (tree.insert t p row)))
+    stays t (Error TooLarge) (made t now p row (look t p))
+    (ap (made t now p row) free
+    ∙ ap (λ b. cond b (refused t TooLarge) (done (touched (tree.insert t p row) now (parent p))))
     (ap (λ z. nat_lt MAX_ENTRIES (directory_size t (parent z) + entry_size (last_name z))) (last_at ns n some ∙ ap (λ z. z ∷ q) (sym at)) ∙ lt-ltb MAX_ENTRIES (directory_size t q + entry_size n) passes))
 
 -- rows that go
-module _ (t new : Tree) (p : Path) (row : Row) (named : is_root p ≡ false) (seen : look t p ≡ Found row) where
-  pub directory_gone : is_directory row.attr.kind ≡ true → has_child t p ≡ false → new ≡ tree.remove t p → IsAnswer new Done (unless_root t p (removed_directory t p (look t p)))
-  directory_gone kind bare is = goes_on_to new (tree.remove t p) (unless_root t p (removed_directory t p (look t p))) is
-      (named_step t p (removed_directory t p (look t p)) named
-      ∙ (ap (removed_directory t p) seen
-      ∙ (ap (λ b. cond b (cond (has_child t p) (refused t NotEmpty) (done (tree.remove t p))) (refused t NotDirectory)) kind
-      ∙ ap (λ b. cond b (refused t NotEmpty) (done (tree.remove t p))) bare)))
+module _ (t new : Tree) (now : Instant) (p : Path) (row : Row) (named : is_root p ≡ false) (seen : look t p ≡ Found row) where
+  pub directory_gone : is_directory row.attr.kind ≡ true → has_child t p ≡ false → new ≡ touched (tree.remove t p) now (parent p) → IsAnswer new Done (unless_root t p (removed_directory t now p (look t p)))
+  directory_gone kind bare is = goes_on_to new (touched (tree.remove t p) now (parent p)) (unless_root t p (removed_directory t now p (look t p))) is
+      (named_step t p (removed_directory t now p (look t p)) named
+      ∙ (ap (removed_directory t now p) seen
+      ∙ (ap (λ b. cond b (cond (has_child t p) (refused t NotEmpty) (done (touched (tree.remove t p) now (parent p)))) (refused t NotDirectory)) kind
+      ∙ ap (λ b. cond b (refused t NotEmpty) (done (touched (tree.remove t p) now (parent p)))) bare)))
 
-  pub directory_full : is_directory row.attr.kind ≡ true → has_child t p ≡ true → IsAnswer t (Error NotEmpty) (unless_root t p (removed_directory t p (look t p)))
-  directory_full kind more = stays t (Error NotEmpty) (unless_root t p (removed_directory t p (look t p)))
-      (named_step t p (removed_directory t p (look t p)) named
-      ∙ (ap (removed_directory t p) seen
-      ∙ (ap (λ b. cond b (cond (has_child t p) (refused t NotEmpty) (done (tree.remove t p))) (refused t NotDirectory)) kind
-      ∙ ap (λ b. cond b (refused t NotEmpty) (done (tree.remove t p))) more)))
+  pub directory_full : is_directory row.attr.kind ≡ true → has_child t p ≡ true → IsAnswer t (Error NotEmpty) (unless_root t p (removed_directory t now p (look t p)))
+  directory_full kind more = stays t (Error NotEmpty) (unless_root t p (removed_directory t now p (look t p)))
+      (named_step t p (removed_directory t now p (look t p)) named
+      ∙ (ap (removed_directory t now p) seen
+      ∙ (ap (λ b. cond b (cond (has_child t p) (refused t NotEmpty) (done (touched (tree.remove t p) now (parent p)))) (refused t NotDirectory)) kind
+      ∙ ap (λ b. cond b (refused t NotEmpty) (done (touched (tree.remove t p) now (parent p)))) more)))
 
-  pub no_directory : is_directory row.attr.kind ≡ false → IsAnswer t (Error NotDirectory) (unless_root t p (removed_directory t p (look t p)))
-  no_directory kind = stays t (Error NotDirectory) (unless_root t p (removed_directory t p (look t p)))
-      (named_step t p (removed_directory t p (look t p)) named
-      ∙ (ap (removed_directory t p) seen
-      ∙ ap (λ b. cond b (cond (has_child t p) (refused t NotEmpty) (done (tree.remove t p))) (refused t NotDirectory)) kind))
+  pub no_directory : is_directory row.attr.kind ≡ false → IsAnswer t (Error NotDirectory) (unless_root t p (removed_directory t now p (look t p)))
+  no_directory kind = stays t (Error NotDirectory) (unless_root t p (removed_directory t now p (look t p)))
+      (named_step t p (removed_directory t now p (look t p)) named
+      ∙ (ap (removed_directory t now p) seen
+      ∙ ap (λ b. cond b (cond (has_child t p) (refused t NotEmpty) (done (touched (tree.remove t p) now (parent p)))) (refused t NotDirectory)) kind))
 
-  pub file_gone : is_directory row.attr.kind ≡ false → new ≡ tree.remove t p → IsAnswer new Done (unless_root t p (removed_file t p (look t p)))
-  file_gone kind is = goes_on_to new (tree.remove t p) (unless_root t p (removed_file t p (look t p))) is
-      (named_step t p (removed_file t p (look t p)) named
-      ∙ (ap (removed_file t p) seen ∙ ap (λ b. cond b (refused t IsDirectory) (done (tree.remove t p))) kind))
+  pub file_gone : is_directory row.attr.kind ≡ false → new ≡ touched (tree.remove t p) now (parent p) → IsAnswer new Done (unless_root t p (removed_file t now p (look t p)))
+  file_gone kind is = goes_on_to new (touched (tree.remove t p) now (parent p)) (unless_root t p (removed_file t now p (look t p))) is
+      (named_step t p (removed_file t now p (look t p)) named
+      ∙ (ap (removed_file t now p) seen ∙ ap (λ b. cond b (refused t IsDirectory) (done (touched (tree.remove t p) now (parent p)))) kind))
 
-  pub no_file : is_directory row.attr.kind ≡ true → IsAnswer t (Error IsDirectory) (unless_root t p (removed_file t p (look t p)))
-  no_file kind = stays t (Error IsDirectory) (unless_root t p (removed_file t p (look t p)))
-      (named_step t p (removed_file t p (look t p)) named
-      ∙ (ap (removed_file t p) seen ∙ ap (λ b. cond b (refused t IsDirectory) (done (tree.remove t p))) kind))
+  pub no_file : is_directory row.attr.kind ≡ true → IsAnswer t (Error IsDirectory) (unless_root t p (removed_file t now p (look t p)))
+  no_file kind = stays t (Error IsDirectory) (unless_root t p (removed_file t now p (look t p)))
+      (named_step t p (removed_file t now p (look t p)) named
+      ∙ (ap (removed_file t now p) seen ∙ ap (λ b. cond b (refused t IsDirectory) (done (touched (tree.remove t p) now (parent p)))) kind))
 
   pub attributes_done : (change : Attr → Attr) → new ≡ tree.insert t p (record { attr = change row.attr; bytes = row.bytes }) → IsAnswer new Done (unless_root t p (attributes_set t p change (look t p)))
   attributes_done change is = goes_on_to new (tree.insert t p (record { attr = change row.attr; bytes = row.bytes })) (unless_root t p (attributes_set t p change (look t p))) is
       (named_step t p (attributes_set t p change (look t p)) named ∙ ap (attributes_set t p change) seen)
-
--- a row set twice
-pub set_again : (t : Tree) (p : Path) (x row : Row) → tree.insert (tree.insert t p x) p row ≡ tree.insert t p row
-set_again t p x row = same_map path_total path_exact _ _ (λ r. elim (path_split r p) [
-  | inl e ↦ ap (get (tree.insert (tree.insert t p x) p row)) e ∙ (insert_here (tree.insert t p x) p row ∙ sym (ap (get (tree.insert t p row)) e ∙ insert_here t p row))
-  | inr d ↦ insert_apart (tree.insert t p x) p row r d ∙ (insert_apart t p x r d ∙ sym (insert_apart t p row r d))
-])
 
 -- a row set and put back
 pub set_back : (t : Tree) (p : Path) (x row : Row) → get t p ≡ Some row → tree.insert (tree.insert t p x) p row ≡ t

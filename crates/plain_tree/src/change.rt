@@ -2,7 +2,7 @@
 ghost use Rattle.std.specs.Prelude.{◌≡◌, ◌+◌, ◌≤◌, ◌++◌, length, take, drop, IfOk, OnOk, OnErr};
 ghost use Rattle.block_id.specs.Contents.{overwritten, resized};
 ghost use Rattle.fs_model.specs.declared.limits.TheConstants.{MAX_FILE};
-ghost use Rattle.fs_model.specs.Tree.{upward, IsWellFormed};
+ghost use Rattle.fs_model.specs.Tree.{parent, upward, IsWellFormed};
 ghost use Rattle.fs_model.specs.LookUp.{look};
 ghost use Rattle.fs_model.specs.Step as step;
 ghost use Rattle.plain_tree.specs.Answers.{IsAnswer};
@@ -49,6 +49,33 @@ fn touched(attr: Attr, now: Moment) -> Attr
         ctime: now,
         ..attr
     }
+}
+
+/// The directory at this path has other children: its mtime and ctime are now, but for the root's.
+fn touch(table: &mut Table, names: &[Name], now: Moment)
+    ensures { table.new ≡ step.touched table.old now (upward names.now) }
+{
+    if names.is_empty() {
+        return;
+    }
+    let (attr, _) = match table.row(names) {
+        Some(row) => row,
+        None => return,
+    };
+    let none = Vec::new(table.allocator());
+    let bytes = table.set(names, same_attr(&attr), none);
+    table.set(names, touched(attr, now), bytes);
+}
+
+/// The directory that this path stands in has other children.
+pub fn touch_above(table: &mut Table, names: &[Name], now: Moment)
+    ensures { table.new ≡ step.touched table.old now (parent (upward names.now)) }
+{
+    if names.is_empty() {
+        return;
+    }
+    let last = names.len() - 1;
+    touch(table, &names[..last], now);
 }
 
 /// Writes the bytes from `from` on.

@@ -6,9 +6,10 @@ ghost use Rattle.fs_model.specs.LookUp.{look};
 ghost use Rattle.fs_model.specs.Step as step;
 ghost use Rattle.plain_tree.specs.Answers.{IsAnswer};
 
+use crate::change::touch_above;
 use crate::look::{LookUp, look_up, row_of};
 use block_id::Memory;
-use fs_model::{Attr, FsError, Kind, MAX_ENTRIES, Name, Reply};
+use fs_model::{Attr, FsError, Kind, MAX_ENTRIES, Moment, Name, Reply};
 use row_table::{Table, name_size};
 
 /// A directory, and not a file or a link.
@@ -23,9 +24,15 @@ pub fn is_directory(kind: Kind) -> bool
 }
 
 /// A new row.
-pub fn make(table: &mut Table, names: &[Name], attr: Attr, bytes: Vec<u8>) -> Result<Reply, Memory>
+pub fn make(
+    table: &mut Table,
+    names: &[Name],
+    attr: Attr,
+    bytes: Vec<u8>,
+    now: Moment,
+) -> Result<Reply, Memory>
     requires { IsWellFormed table.old }
-    ensures ok { IfOk result (λ reply. IsAnswer table.new reply (step.made table.old (upward names.now) (record { attr = attr; bytes = bytes.items }) (look table.old (upward names.now)))) }
+    ensures ok { IfOk result (λ reply. IsAnswer table.new reply (step.made table.old now (upward names.now) (record { attr = attr; bytes = bytes.items }) (look table.old (upward names.now)))) }
     ensures err { OnErr result (table.new ≡ table.old) }
 {
     match look_up(table, names) {
@@ -41,13 +48,14 @@ pub fn make(table: &mut Table, names: &[Name], attr: Attr, bytes: Vec<u8>) -> Re
         return Ok(Reply::Error(FsError::TooLarge));
     }
     table.insert(names, attr, bytes)?;
+    touch_above(table, names, now);
     Ok(Reply::Done)
 }
 
 /// An empty directory goes.
-pub fn remove_directory(table: &mut Table, names: &[Name]) -> Reply
+pub fn remove_directory(table: &mut Table, names: &[Name], now: Moment) -> Reply
     requires { IsWellFormed table.old }
-    ensures { IsAnswer table.new result (step.unless_root table.old (upward names.now) (step.removed_directory table.old (upward names.now) (look table.old (upward names.now)))) }
+    ensures { IsAnswer table.new result (step.unless_root table.old (upward names.now) (step.removed_directory table.old now (upward names.now) (look table.old (upward names.now)))) }
 {
     if names.is_empty() {
         return Reply::Error(FsError::Busy);
@@ -61,6 +69,7 @@ pub fn remove_directory(table: &mut Table, names: &[Name]) -> Reply
             return Reply::Error(FsError::NotEmpty);
         }
         table.remove(names);
+        touch_above(table, names, now);
         return Reply::Done;
     }
     Reply::Error(FsError::NotDirectory)
@@ -74,9 +83,9 @@ pub fn has_child(table: &Table, names: &[Name]) -> bool
 }
 
 /// A file or a link goes.
-pub fn remove_file(table: &mut Table, names: &[Name]) -> Reply
+pub fn remove_file(table: &mut Table, names: &[Name], now: Moment) -> Reply
     requires { IsWellFormed table.old }
-    ensures { IsAnswer table.new result (step.unless_root table.old (upward names.now) (step.removed_file table.old (upward names.now) (look table.old (upward names.now)))) }
+    ensures { IsAnswer table.new result (step.unless_root table.old (upward names.now) (step.removed_file table.old now (upward names.now) (look table.old (upward names.now)))) }
 {
     if names.is_empty() {
         return Reply::Error(FsError::Busy);
@@ -89,5 +98,6 @@ pub fn remove_file(table: &mut Table, names: &[Name]) -> Reply
         return Reply::Error(FsError::IsDirectory);
     }
     table.remove(names);
+    touch_above(table, names, now);
     Reply::Done
 }

@@ -12,7 +12,7 @@ ghost use Rattle.row_table.specs.Moves.{IsBelowMoved};
 ghost use Rattle.plain_tree.specs.Answers.{IsAnswer};
 ghost use Rattle.plain_tree.specs.Moves.{IsMove, held};
 
-use crate::change::same_attr;
+use crate::change::{same_attr, touch_above};
 use crate::edit::{has_child, is_directory};
 use crate::look::{LookUp, look_up, row_of};
 use block_id::Memory;
@@ -144,7 +144,7 @@ fn relocate(
 ) -> Result<Reply, Memory>
     requires formed { IsWellFormed table.old }
     requires moves { (row : Row) × (row.attr ≡ attr) × IsMove table.old (upward from.now) (upward to.now) row replaces }
-    ensures ok { IfOk result (λ reply. (row : Row) → IsMove table.old (upward from.now) (upward to.now) row replaces → IsAnswer table.new reply (step.moved_unless_large table.old (upward to.now) (step.moved_tree table.old now (upward from.now) (upward to.now) row))) }
+    ensures ok { IfOk result (λ reply. (row : Row) → IsMove table.old (upward from.now) (upward to.now) row replaces → IsAnswer table.new reply (step.moved_unless_large table.old now (upward from.now) (upward to.now) (step.moved_tree table.old now (upward from.now) (upward to.now) row))) }
     ensures err { OnErr result (table.new ≡ table.old) }
 {
     let size = size_with(table, to, replaces);
@@ -152,6 +152,8 @@ fn relocate(
         return Ok(Reply::Error(FsError::TooLarge));
     }
     carry(table, from, to, attr, replaces, now)?;
+    touch_above(table, from, now);
+    touch_above(table, to, now);
     Ok(Reply::Done)
 }
 

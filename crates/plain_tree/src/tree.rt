@@ -73,8 +73,8 @@ fn step_table(table: &mut Table, now: Moment, command: &Command) -> Result<Reply
         Command::Mkdir(path) => make_row(table, path.names(), Kind::Directory, DIRECTORY_MODE, now),
         Command::Mkfile(path) => make_row(table, path.names(), Kind::File, FILE_MODE, now),
         Command::Symlink(target, path) => make_link(table, target, path.names(), now),
-        Command::Rmdir(path) => Ok(remove_directory(table, path.names())),
-        Command::Rm(path) => Ok(remove_file(table, path.names())),
+        Command::Rmdir(path) => Ok(remove_directory(table, path.names(), now)),
+        Command::Rm(path) => Ok(remove_file(table, path.names(), now)),
         Command::Mv(from, to) => move_rows(table, from.names(), to.names(), now),
         Command::Write(path, from, bytes) => {
             write(table, path.names(), *from, bytes.as_slice(), now)
@@ -108,11 +108,11 @@ fn make_row(
     now: Moment,
 ) -> Result<Reply, Memory>
     requires { IsWellFormed table.old }
-    ensures ok { IfOk result (λ reply. IsAnswer table.new reply (model.made table.old (upward names.now) (model.new_row kind mode now []) (look table.old (upward names.now)))) }
+    ensures ok { IfOk result (λ reply. IsAnswer table.new reply (model.made table.old now (upward names.now) (model.new_row kind mode now []) (look table.old (upward names.now)))) }
     ensures err { OnErr result (table.new ≡ table.old) }
 {
     let bytes = Vec::new(table.allocator());
-    make(table, names, new_attr(kind, mode, now), bytes)
+    make(table, names, new_attr(kind, mode, now), bytes, now)
 }
 
 /// A new link.
@@ -123,9 +123,15 @@ fn make_link(
     now: Moment,
 ) -> Result<Reply, Memory>
     requires { IsWellFormed table.old }
-    ensures ok { IfOk result (λ reply. IsAnswer table.new reply (model.made table.old (upward names.now) (model.new_row Link LINK_MODE now target.now) (look table.old (upward names.now)))) }
+    ensures ok { IfOk result (λ reply. IsAnswer table.new reply (model.made table.old now (upward names.now) (model.new_row Link LINK_MODE now target.now) (look table.old (upward names.now)))) }
     ensures err { OnErr result (table.new ≡ table.old) }
 {
     let bytes = target.as_slice().to_vec(table.allocator())?;
-    make(table, names, new_attr(Kind::Link, LINK_MODE, now), bytes)
+    make(
+        table,
+        names,
+        new_attr(Kind::Link, LINK_MODE, now),
+        bytes,
+        now,
+    )
 }

@@ -23,3 +23,16 @@ bytes_len (Some bytes) = length bytes
 -- how many bytes are to be put, up to the end of the type
 abbrev pub buffered_len : FileChanges → ℕ
 buffered_len list = min (sum_by (λ change. bytes_len change.1) list) (2 ^ 64 - 1)
+
+-- how many bytes a change counts, where each removal counts so many
+abbrev pub len_with : ℕ → Option (List ℕ) → ℕ
+len_with removal None = removal
+len_with removal (Some bytes) = length bytes
+
+-- how many bytes a list counts, where each removal counts so many, up to the end of the type
+abbrev pub sum_with : ℕ → FileChanges → ℕ
+sum_with removal list = min (sum_by (λ change. len_with removal change.1) list) (2 ^ 64 - 1)
+
+-- what a list weighs: the bytes that it puts, and 64 for each removal, up to the end of the type
+abbrev pub weight_len : FileChanges → ℕ
+weight_len list = sum_with 64 list

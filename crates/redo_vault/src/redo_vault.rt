@@ -1,27 +1,41 @@
 // The unwritten list over a directory.
-ghost use Rattle.std.specs.Prelude.{◌≡◌, ◌⊎◌, ◌≤◌, ◌<◌, ◌+◌, [], length, vec_len, vec_capacity, drop, true, false, IfOk, IfSome, OnOk, OnErr, IsErrOf};
+ghost use Rattle.std.specs.Prelude.{◌≡◌, ◌⊎◌, ◌≤◌, ◌<◌, ◌+◌, ◌-◌, ◌^◌, min, [], length, unwrap_or, vec_len, vec_capacity, drop, true, false, IfOk, IfSome, OnOk, OnErr, IsErrOf};
+ghost use Rattle.std.specs.Option.{option_map};
 ghost use Rattle.std.specs.declared.option.Option.{Option};
 ghost use Rattle.std.specs.declared.option.Option.TheVariants.{None, Some};
 ghost use Rattle.outside.specs.Causes.{GetHasCause};
 ghost use Rattle.outside.specs.Trace.{adds};
-ghost use Rattle.outside.specs.Changes.{FileChanges, IsIncreasing, change_at, set_changes};
+ghost use Rattle.outside.specs.Changes.{FileChanges, IsIncreasing, change_at, set_change, set_changes};
 ghost use Rattle.outside.specs.View.{at_of, bytes_of, change_of, list_of, pending_of};
-ghost use Rattle.redo_vault.specs.Redo.{Gave, bytes_len, buffered_len};
+ghost use Rattle.redo_vault.specs.Redo.{Gave, buffered_len, len_with, sum_with, weight_len};
 ghost use Rattle.outside.specs.Writes.{call_for, after_writes, StopsAt};
 
 use outside::{Change, FileName, GetFail, Memory, Pending, Vault};
 use std::alloc::Global;
 use std::marker::Model;
 
-/// A directory, and its unwritten list by increasing names.
+/// More changes than this that stand in order are set by one pass over the list.
+const FEW: usize = 8;
+
+/// The greatest sum of bytes that is told.
+const MOST: usize = usize::MAX;
+
+/// How many bytes each removal weighs.
+const REMOVAL: usize = 64;
+
+/// A directory, its unwritten list by increasing names, how many bytes the list puts, and its weight: those bytes and
+/// so many for each removal.
 #[derive(Drop)]
 pub struct RedoVault<V> {
     vault: V,
     list: Vec<Pending>,
+    buffered: usize,
+    weight: usize,
 }
 
 impl<V> Model for RedoVault<V> {
-    ghost use Rattle.redo_vault.specs.Redo.{Redo};
+    ghost use Rattle.std.specs.Prelude.{◌≡◌};
+    ghost use Rattle.redo_vault.specs.Redo.{Redo, sum_with};
     ghost use Rattle.outside.specs.Changes.{IsIncreasing};
     ghost use Rattle.outside.specs.View.{list_of};
 
@@ -29,7 +43,8 @@ impl<V> Model for RedoVault<V> {
 
     ghost view = { λ r. record { vault = r.vault; list = list_of r.list.items } };
 
-    ghost invariant = { λ r. IsIncreasing (list_of r.list.items) };
+    ghost invariant = { λ r. IsIncreasing (list_of r.list.items)
+        × (r.buffered ≡ sum_with 0 (list_of r.list.items)) × (r.weight ≡ sum_with 64 (list_of r.list.items)) };
 }
 
 /// Makes the one call that writes a change.
@@ -67,16 +82,6 @@ fn write_all<V: Vault>(
     (list.len(), Ok(()))
 }
 
-/// Sets the changes, one after another, in a list that has room for them.
-fn set_all(list: &mut Vec<Pending>, changes: Vec<Pending>)
-    requires { vec_len list.old + vec_len changes ≤ vec_capacity list.old }
-    ensures { list_of list.new.items ≡ set_changes (list_of changes.items) (list_of list.old.items) }
-{
-    for change in changes {
-        pending_list::set(list, change);
-    }
-}
-
 /// Drops the first n changes.
 fn drop_front(list: &mut Vec<Pending>, n: usize)
     requires { n ≤ vec_len list.old }
@@ -87,23 +92,110 @@ fn drop_front(list: &mut Vec<Pending>, n: usize)
     list.truncate(left);
 }
 
-fn len_of(change: &Change) -> usize
-    ensures { result ≡ bytes_len (change_of change.now) }
+/// How many bytes a change counts, where each removal counts so many.
+fn len_of(change: &Change, removal: usize) -> usize
+    ensures { result ≡ len_with removal (change_of change.now) }
 {
     match change {
         Change::Bytes(bytes) => bytes.len(),
-        Change::Removal => 0,
+        Change::Removal => removal,
     }
 }
 
-fn sum_of_lens(list: &[Pending]) -> usize
-    ensures { result ≡ buffered_len (list_of list.now) }
+/// How many bytes the changes count, where each removal counts so many.
+fn sum_of_lens(list: &[Pending], removal: usize) -> usize
+    ensures { result ≡ sum_with removal (list_of list.now) }
 {
     let mut len: usize = 0;
     for pending in list {
-        len = len.saturating_add(len_of(&pending.change));
+        len = len.saturating_add(len_of(&pending.change, removal));
     }
     len
+}
+
+/// How many bytes the list counts for this name, where each removal counts so many.
+fn len_at(list: &[Pending], name: &FileName, removal: usize) -> usize
+    requires { IsIncreasing (list_of list.now) }
+    ensures { result ≡ unwrap_or (option_map (len_with removal) (change_at (at_of name.now) (list_of list.now))) 0 }
+{
+    match pending_list::lookup_in_order(list, name) {
+        Some(change) => len_of(change, removal),
+        None => 0,
+    }
+}
+
+/// How many bytes the list counts now that a change took the place of another, where it counted `sum` before.
+fn sum_after(list: &[Pending], sum: usize, old: usize, new: usize, removal: usize) -> usize
+    requires counted { (sum ≡ 2 ^ 64 - 1 → ⊥) → old ≤ sum }
+    requires changed { (sum ≡ 2 ^ 64 - 1 → ⊥) → min ((sum - old) + new) (2 ^ 64 - 1) ≡ sum_with removal (list_of list.now) }
+    ensures { result ≡ sum_with removal (list_of list.now) }
+{
+    if sum == MOST {
+        sum_of_lens(list, removal)
+    } else {
+        (sum - old).saturating_add(new)
+    }
+}
+
+/// Sets a change in a list that has room for it. The sums are the bytes that the list puts and its weight.
+fn set_one(list: &mut Vec<Pending>, sums: (usize, usize), change: Pending) -> (usize, usize)
+    requires increasing { IsIncreasing (list_of list.old.items) }
+    requires room { vec_len list.old < vec_capacity list.old }
+    requires buffered { sums.0 ≡ sum_with 0 (list_of list.old.items) }
+    requires weight { sums.1 ≡ sum_with 64 (list_of list.old.items) }
+    ensures items { list_of list.new.items ≡ set_change (at_of change.name) (change_of change.change) (list_of list.old.items) }
+    ensures buffered { result.0 ≡ sum_with 0 (list_of list.new.items) }
+    ensures weight { result.1 ≡ sum_with 64 (list_of list.new.items) }
+    ensures len { vec_len list.new ≤ vec_len list.old + 1 }
+    ensures capacity { vec_capacity list.old ≤ vec_capacity list.new }
+{
+    let old_bytes = len_at(list, &change.name, 0);
+    let old_count = len_at(list, &change.name, REMOVAL);
+    let new_bytes = len_of(&change.change, 0);
+    let new_count = len_of(&change.change, REMOVAL);
+    pending_list::set_in_order(list, change);
+    let buffered = sum_after(list, sums.0, old_bytes, new_bytes, 0);
+    let weight = sum_after(list, sums.1, old_count, new_count, REMOVAL);
+    (buffered, weight)
+}
+
+/// Sets the changes, one after another, in a list that has room for them. The sums are the bytes that the list puts and its weight.
+fn set_all(list: &mut Vec<Pending>, sums: (usize, usize), changes: Vec<Pending>) -> (usize, usize)
+    requires increasing { IsIncreasing (list_of list.old.items) }
+    requires room { vec_len list.old + vec_len changes ≤ vec_capacity list.old }
+    requires buffered { sums.0 ≡ sum_with 0 (list_of list.old.items) }
+    requires weight { sums.1 ≡ sum_with 64 (list_of list.old.items) }
+    ensures items { list_of list.new.items ≡ set_changes (list_of changes.items) (list_of list.old.items) }
+    ensures buffered { result.0 ≡ sum_with 0 (list_of list.new.items) }
+    ensures weight { result.1 ≡ sum_with 64 (list_of list.new.items) }
+{
+    let mut now = sums;
+    for change in changes {
+        now = set_one(list, now, change);
+    }
+    now
+}
+
+/// Sets each of the changes in its place, all or none. The sums are the bytes that the list puts and its weight.
+fn put_changes(
+    list: &mut Vec<Pending>,
+    sums: (usize, usize),
+    changes: Vec<Pending>,
+) -> Result<(usize, usize), Memory>
+    requires increasing { IsIncreasing (list_of list.old.items) }
+    requires buffered { sums.0 ≡ sum_with 0 (list_of list.old.items) }
+    requires weight { sums.1 ≡ sum_with 64 (list_of list.old.items) }
+    ensures ok { OnOk result (list_of list.new.items ≡ set_changes (list_of changes.items) (list_of list.old.items)) }
+    ensures err { OnErr result (list_of list.new.items ≡ list_of list.old.items) }
+    ensures buffered { IfOk result (λ now. now.0 ≡ sum_with 0 (list_of list.new.items)) }
+    ensures weight { IfOk result (λ now. now.1 ≡ sum_with 64 (list_of list.new.items)) }
+{
+    if changes.len() > FEW && pending_list::is_in_order(&changes) {
+        pending_list::merge(list, changes)?;
+        return Ok((sum_of_lens(list, 0), sum_of_lens(list, REMOVAL)));
+    }
+    list.reserve(changes.len())?;
+    Ok(set_all(list, sums, changes))
 }
 
 impl<V: Vault> RedoVault<V> {
@@ -112,14 +204,21 @@ impl<V: Vault> RedoVault<V> {
         requires { IsIncreasing (list_of list.items) }
         ensures { result ≡ record { vault = vault; list = list_of list.items } }
     {
-        RedoVault { vault, list }
+        let buffered = sum_of_lens(&list, 0);
+        let weight = sum_of_lens(&list, REMOVAL);
+        RedoVault {
+            vault,
+            list,
+            buffered,
+            weight,
+        }
     }
 
     /// The directory, without the unwritten list.
     pub fn into_vault(self) -> V
         ensures { result ≡ self.vault }
     {
-        let RedoVault { vault, list } = self;
+        let RedoVault { vault, list, .. } = self;
         drop(list);
         vault
     }
@@ -148,7 +247,7 @@ impl<V: Vault> RedoVault<V> {
         ensures list { self.new.list ≡ self.old.list }
         ensures cause { GetHasCause (V.faults self.old.vault) (V.faults self.new.vault) result }
     {
-        match pending_list::lookup(&self.list, name) {
+        match pending_list::lookup_in_order(&self.list, name) {
             Some(change) => Ok(pending_list::cut_change(alloc, change, max)?),
             None => self.vault.get(alloc, name, max),
         }
@@ -160,8 +259,9 @@ impl<V: Vault> RedoVault<V> {
         ensures err { OnErr result (self.new.list ≡ self.old.list) }
         ensures vault { self.new.vault ≡ self.old.vault }
     {
-        self.list.reserve(changes.len())?;
-        set_all(&mut self.list, changes);
+        let sums = put_changes(&mut self.list, (self.buffered, self.weight), changes)?;
+        self.buffered = sums.0;
+        self.weight = sums.1;
         Ok(())
     }
 
@@ -169,7 +269,15 @@ impl<V: Vault> RedoVault<V> {
     pub fn buffered(&self) -> usize
         ensures { result ≡ buffered_len self.now.list }
     {
-        sum_of_lens(&self.list)
+        self.buffered
+    }
+
+    /// What the list weighs, or the greatest number where it is more: the bytes that are to be put, and 64 for each
+    /// removal.
+    pub fn weight(&self) -> usize
+        ensures { result ≡ weight_len self.now.list }
+    {
+        self.weight
     }
 
     /// Writes the unwritten list out, in order. Each change leaves the list as its call answers Ok; the
@@ -183,6 +291,8 @@ impl<V: Vault> RedoVault<V> {
     {
         let (written, outcome) = write_all(alloc, &mut self.vault, &self.list);
         drop_front(&mut self.list, written);
+        self.buffered = sum_of_lens(&self.list, 0);
+        self.weight = sum_of_lens(&self.list, REMOVAL);
         outcome
     }
 }

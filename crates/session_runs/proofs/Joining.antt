@@ -18,8 +18,9 @@ use Rattle.mount_core.specs.Configuring.{ConfigAnswered}
 use Rattle.tree_commands.specs.Performing.{Showing}
 use Rattle.mount_core.specs.Standing.{IsKeptMarked, Left}
 use Rattle.mount.specs.declared.mount.Mount.{Mount}
-use Rattle.mount.specs.Tower.{TowerStands}
+use Rattle.mount.specs.Tower.{tower, TowerStands}
 use Rattle.mount_tower.specs.Tower.{tower_meanings, tower_holdings, tower_durables}
+use Rattle.mount.proofs.Same.{same_mount}
 use Rattle.session_runs.specs.Answering.{calls_of, forgeries_of, lies_of, keeper_faults, version_of, kept_of, LineAnswered, MountAnswers}
 use Rattle.session_runs.specs.Causes.{IsAnswerTo, AreBuilt}
 use Rattle.session_runs.specs.Passing.{MountKeeps, LeftAt, PassedTrees, Passed}
@@ -67,18 +68,21 @@ latest_kept now first [] (tree ∷ trees) s = absurd s
 latest_kept now first (e ∷ es) [] s = absurd s
 
 module _ {V : Type 0} {K : Type 0} (shows : Showing) (trace : V → Option (List Call)) (faults : V → ℕ) (G : KeeperGhosts K) (now : Instant) where
+  refused_of : (mid new : Mount V K) (asked : Asked) (answer : Answer) → MountAnswers shows trace faults G now mid asked answer new → mid.core.violated ≡ true → (answer ≡ Refused) × (new ≡ mid)
+  refused_of mid new asked answer a v = let r = a.line.form.refused v in (r.0, same_mount mid new a.opened r.1)
+
   is_answer : (mid new : Mount V K) (asked : Asked) (answer : Answer) → MountAnswers shows trace faults G now mid asked answer new → IsAnswerTo asked answer
-  is_answer mid new (Ok command) answer a = (a.variant, on_spent answer _ _ (λ cause. cause.changes) a.spent)
-  is_answer mid new (Err error) answer a = a.unread.0
+  is_answer mid new (Ok command) answer a = (a.line.form.variant, on_spent answer _ _ (λ cause. cause.changes) a.line.store.spent)
+  is_answer mid new (Err error) answer a = a.line.form.unread.0
 
   -- where the answer is Spent, a version stood at the last of 64 bits
   last_of : (mid new : Mount V K) (asked : Asked) (answer : Answer) → MountAnswers shows trace faults G now mid asked answer new → OnSpent answer ((id : List ℕ) × (version_of trace mid id + 1 ≡ 2 ^ 64))
-  last_of mid new (Ok command) answer a = on_spent answer _ _ (λ cause. (cause.id, cause.last)) a.spent
-  last_of mid new (Err error) answer a = unread_spent error answer _ a.unread.0
+  last_of mid new (Ok command) answer a = on_spent answer _ _ (λ cause. (cause.id, cause.last)) a.line.store.spent
+  last_of mid new (Err error) answer a = unread_spent error answer _ a.line.form.unread.0
 
   left_on : (new : Mount V K) (first : Tree) (e : Exchange) (es : List Exchange) (trees : List Tree) (kept next : Tree) (bad synced : Bool)
       → is_violation e.answer ≡ bad → is_synced e.asked e.answer ≡ synced → IsSession now first es trees → IsKeptPoint first es trees kept
-      → Left shows (tower_meanings trace faults) (tower_holdings trace) (tower_durables trace) records G new.core kept (latest first trees) next bad synced
+      → Left shows (tower trace faults G) new.core kept (latest first trees) next bad synced
       → LeftAt shows trace faults G new first (e ∷ es) (next ∷ trees) (bad || false)
   left_on new first e es trees kept next true synced eb ey s k (inl m) = inl m
   left_on new first e es trees kept next true synced eb ey s k (inr (inl r)) = inr (kept, inr (violation_not_synced e.asked e.answer eb, k), r)
@@ -97,24 +101,24 @@ module _ {V : Type 0} {K : Type 0} (shows : Showing) (trace : V → Option (List
       → (trees : List Tree) → IsSession now first es trees → LeftAt shows trace faults G mid first es trees flag → (lies_of trace faults mid ≤ lies_of trace faults old → flag ≡ false) → AreBuilt es
       → PassedTrees shows trace faults G now old new first (e ∷ es)
   trees_on old mid new e es first false ev em a few grew trees s left honest built =
-      let t : LineAnswered shows trace faults G now new left.0 (latest first trees) e.asked e.answer = a.stands left.0 (latest first trees) em left.2 few in
+      let t : LineAnswered shows trace faults G now new left.0 (latest first trees) e.asked e.answer = a.line.trees.stands left.0 (latest first trees) em left.2 few in
       record {
         trees = t.next ∷ trees;
         session = (subst (λ b. Next b now (latest first trees) e.asked e.answer t.next) (sym ev) t.follows, s);
         left = subst (λ b. LeftAt shows trace faults G new first (e ∷ es) (t.next ∷ trees) (is_violation e.answer || b)) (sym ev)
             (left_on new first e es trees left.0 t.next _ _ refl refl s left.1 t.left);
-        alarm = λ h. ap (λ (b : Bool). is_violation e.answer || b) ev ∙ ap (λ (b : Bool). b || false) (a.alarm left.0 (latest first trees) em left.2 (omega (arith, grew, h)));
-        built = (a.built left.0 (latest first trees) em left.2 few, built);
+        alarm = λ h. ap (λ (b : Bool). is_violation e.answer || b) ev ∙ ap (λ (b : Bool). b || false) (a.line.trees.alarm left.0 (latest first trees) em left.2 (omega (arith, grew, h)));
+        built = (a.line.trees.built left.0 (latest first trees) em left.2 few, built);
       }
   trees_on old mid new e es first true ev em a few grew trees s left honest built =
-      let r = a.refused em in
+      let r = refused_of mid new e.asked e.answer a em in
       let ns : is_synced e.asked e.answer ≡ false = subst (λ x. is_synced e.asked x ≡ false) (sym r.0) (refused_not_synced e.asked) in
       record {
         trees = latest first trees ∷ trees;
         session = (subst (λ b. Next b now (latest first trees) e.asked e.answer (latest first trees)) (sym ev) (r.0, refl), s);
         left = subst (λ b. LeftAt shows trace faults G new first (e ∷ es) (latest first trees ∷ trees) b) (sym (ap (λ x. is_violation x || violated es) r.0 ∙ ev))
             (left_refused mid new e es first trees ns r.1 left);
-        alarm = λ h. absurd (true_is_false (honest (omega (arith, a.lies, h))));
+        alarm = λ h. absurd (true_is_false (honest (omega (arith, a.line.store.lies, h))));
         built = (ap is_structure r.0, built);
       }
 
@@ -122,9 +126,9 @@ module _ {V : Type 0} {K : Type 0} (shows : Showing) (trace : V → Option (List
       → (bad : Bool) → is_violation e.answer ≡ bad → (bad || violated es) ≡ true
       → IsKeptMarked records (kept_of G new) ⊎ RoseBy (state_faults e.answer + all_state_faults es + 1) (keeper_faults G old) (keeper_faults G new)
   marked_on old mid new e es p a true eb h =
-      elim (a.marked eb) [ inl m ↦ inl m | inr r ↦ inr (let z = violation_no_fault e.answer eb in omega (arith, z, r, p.keeper_cause)) ]
+      elim (a.line.saver.marked eb) [ inl m ↦ inl m | inr r ↦ inr (let z = violation_no_fault e.answer eb in omega (arith, z, r, p.keeper_cause)) ]
   marked_on old mid new e es p a false eb h =
-      let r = a.refused (p.flag ∙ h) in
+      let r = refused_of mid new e.asked e.answer a (p.flag ∙ h) in
       elim (p.marked h) [
         | inl m ↦ inl (subst (λ (x : Mount V K). IsKeptMarked records (kept_of G x)) (sym r.1) m)
         | inr q ↦ inr (let z : state_faults e.answer ≡ 0 = ap state_faults r.0 in let k : keeper_faults G new ≡ keeper_faults G mid = ap (keeper_faults G) r.1 in omega (arith, z, q, k))
@@ -134,9 +138,9 @@ module _ {V : Type 0} {K : Type 0} (shows : Showing) (trace : V → Option (List
       → MountAnswers shows trace faults G now mid e.asked e.answer new → ConfigAnswered (tower_holdings trace) (tower_durables trace) records G mid.core may present flag
       → ConfigAnswered (tower_holdings trace) (tower_durables trace) records G new.core may present (is_violation e.answer || violated es)
   configures_on mid new e es may present false ev em a c =
-      subst (λ b. ConfigAnswered (tower_holdings trace) (tower_durables trace) records G new.core may present b) (sym (or_false (is_violation e.answer) (violated es) ev)) (a.configures may present c)
+      subst (λ b. ConfigAnswered (tower_holdings trace) (tower_durables trace) records G new.core may present b) (sym (or_false (is_violation e.answer) (violated es) ev)) (a.line.trees.configures may present c)
   configures_on mid new e es may present true ev em a c =
-      let r = a.refused em in
+      let r = refused_of mid new e.asked e.answer a em in
       subst (λ b. ConfigAnswered (tower_holdings trace) (tower_durables trace) records G new.core may present b) (sym (ap (λ x. is_violation x || violated es) r.0 ∙ ev))
       (subst (λ (x : Mount V K). ConfigAnswered (tower_holdings trace) (tower_durables trace) records G x.core may present true) (sym r.1) c)
 
@@ -144,12 +148,12 @@ module _ {V : Type 0} {K : Type 0} (shows : Showing) (trace : V → Option (List
   unforged_at : (mid new : Mount V K) (e : Exchange) (es : List Exchange) (first : Tree) (trees : List Tree) (flag : Bool) → flag ≡ false → mid.core.violated ≡ flag → LeftAt shows trace faults G mid first es trees flag
       → MountAnswers shows trace faults G now mid e.asked e.answer new → lies_of trace faults new ≤ lies_of trace faults mid → forgeries_of trace faults new ≤ forgeries_of trace faults mid
   unforged_at mid new e es first trees true f em left a honest = absurd (true_is_false f)
-  unforged_at mid new e es first trees false f em left a honest = a.unforged left.2.sound honest
+  unforged_at mid new e es first trees false f em left a honest = a.line.store.unforged left.2.sound honest
 
   unforged_on : (old mid new : Mount V K) (e : Exchange) (es : List Exchange) (first : Tree) → Passed shows trace faults G now old mid es → MountAnswers shows trace faults G now mid e.asked e.answer new
       → TowerStands shows trace faults G old.core first first → lies_of trace faults new ≤ lies_of trace faults old → forgeries_of trace faults new ≤ forgeries_of trace faults old
   unforged_on old mid new e es first p a stands honest =
-      let before : lies_of trace faults mid ≤ lies_of trace faults old = omega (arith, honest, a.lies) in
+      let before : lies_of trace faults mid ≤ lies_of trace faults old = omega (arith, honest, a.line.store.lies) in
       let few = p.unforged first stands before in
       let t : PassedTrees shows trace faults G now old mid first es = p.passes first stands few in
       let step = unforged_at mid new e es first t.trees (violated es) (t.alarm before) p.flag t.left a (omega (arith, honest, p.lies)) in
@@ -179,23 +183,23 @@ module _ {V : Type 0} {K : Type 0} (shows : Showing) (trace : V → Option (List
   pub passed_on : (old mid new : Mount V K) (e : Exchange) (es : List Exchange) → Passed shows trace faults G now old mid es → MountAnswers shows trace faults G now mid e.asked e.answer new
       → Passed shows trace faults G now old new (e ∷ es)
   passed_on old mid new e es p a = record {
-    flag = a.violated ∙ ap (λ (b : Bool). is_violation e.answer || b) p.flag;
+    flag = a.line.form.violated ∙ ap (λ (b : Bool). is_violation e.answer || b) p.flag;
     answered = (is_answer mid new e.asked e.answer a, p.answered);
-    rose = rose_on (version_of trace old) e es (version_of trace mid) p.rose (version_of trace new) a.raised;
+    rose = rose_on (version_of trace old) e es (version_of trace mid) p.rose (version_of trace new) a.line.store.raised;
     spent = spent_on (version_of trace old) e es (version_of trace mid) p.rose (last_of mid new e.asked e.answer a) p.spent;
     opened = a.opened ∙ p.opened;
     rests = λ none idle. rested_on shows trace faults G now old mid new e es (p.rests none idle.2) p.flag a idle;
-    goes_on = goes_on_onward (calls_of trace old) (calls_of trace mid) (calls_of trace new) p.goes_on a.goes_on;
-    forgeries = omega (arith, p.forgeries, a.forgeries);
-    lies = omega (arith, p.lies, a.lies);
-    vault_cause = omega (arith, p.vault_cause, a.vault_cause);
-    keeper_cause = omega (arith, p.keeper_cause, a.keeper_cause);
-    vault_quiet = λ n. a.vault_quiet (omega (arith, n)) ∙ p.vault_quiet (omega (arith, n));
-    keeper_quiet = λ v n. a.keeper_quiet (omega (arith, n)) (or_parts (is_violation e.answer) (violated es) v).0 ∙ p.keeper_quiet (or_parts (is_violation e.answer) (violated es) v).1 (omega (arith, n));
+    goes_on = goes_on_onward (calls_of trace old) (calls_of trace mid) (calls_of trace new) p.goes_on a.line.store.goes_on;
+    forgeries = omega (arith, p.forgeries, a.line.store.forgeries);
+    lies = omega (arith, p.lies, a.line.store.lies);
+    vault_cause = omega (arith, p.vault_cause, a.line.store.vault_cause);
+    keeper_cause = omega (arith, p.keeper_cause, a.line.saver.keeper_cause);
+    vault_quiet = λ n. a.line.store.vault_quiet (omega (arith, n)) ∙ p.vault_quiet (omega (arith, n));
+    keeper_quiet = λ v n. a.line.saver.keeper_quiet (omega (arith, n)) (or_parts (is_violation e.answer) (violated es) v).0 ∙ p.keeper_quiet (or_parts (is_violation e.answer) (violated es) v).1 (omega (arith, n));
     marked = λ h. marked_on old mid new e es p a (is_violation e.answer) refl h;
     configures = λ may present c. configures_on mid new e es may present (violated es) refl p.flag a (p.configures may present c);
     unforged = λ first stands honest. unforged_on old mid new e es first p a stands honest;
     passes = λ first stands few.
-        let t : PassedTrees shows trace faults G now old mid first es = p.passes first stands (omega (arith, few, a.forgeries)) in
+        let t : PassedTrees shows trace faults G now old mid first es = p.passes first stands (omega (arith, few, a.line.store.forgeries)) in
         trees_on old mid new e es first (violated es) refl p.flag a (omega (arith, few, p.forgeries)) p.lies t.trees t.session t.left t.alarm t.built;
   }

@@ -20,6 +20,7 @@ use Rattle.mount_core.specs.Answers.{is_done_answer, OnReply}
 use Rattle.outside.specs.Trace.{Call}
 use Rattle.outside.specs.declared.keeper.Keeper.{Ghosts as KeeperGhosts}
 use Rattle.tree_commands.specs.Performing.{Showing, is_reader, is_sync, IsReplyTo}
+use Rattle.mount.proofs.Same.{same_mount}
 use Rattle.session_runs.specs.Answering.{store_of, MountAnswers}
 use Rattle.session_runs.specs.Resting.{AsksNoChange, AreIdle, IsGet, AreGets, OnlyGot, Rested}
 
@@ -77,23 +78,23 @@ module _ {V : Type 0} {K : Type 0} (shows : Showing) (trace : V → Option (List
   undone : (mid new : Mount V K) (asked : Asked) (answer : Answer) → MountAnswers shows trace faults G now mid asked answer new → mid.core.saver.changed ≡ false → is_violation answer ≡ false
       → is_done_answer answer ≡ false → Rested trace faults mid new
   undone mid new asked answer a none calm_ e =
-      let l = a.loads in
+      let l = a.line.store.loads in
       record {
-        changed = a.unchanged none calm_ e;
-        keeper = (a.unsaved none calm_).0;
+        changed = a.line.saver.unchanged none calm_ e;
+        keeper = (a.line.saver.unsaved none calm_).0;
         loaded = subst (λ (s : Cached V). (tower_meanings trace faults).loaded (store_of mid) s) (sym (l.undone e)) (subst (λ (s : Cached V). (tower_meanings trace faults).loaded s l.last) (l.unsynced none) l.loaded);
       }
 
   looked : (mid new : Mount V K) (command : Command) (answer : Answer) → MountAnswers shows trace faults G now mid (Ok command) answer new → mid.core.saver.changed ≡ false → mid.core.violated ≡ false
       → is_violation answer ≡ false → OnlyLooks command → (sync : Bool) → is_sync command ≡ sync → Rested trace faults mid new
-  looked mid new command answer a none fresh calm_ looks true e = rested_same mid new none (a.unmoved e fresh none).1
-  looked mid new command answer a none fresh calm_ looks false e = undone mid new (Ok command) answer a none calm_ (look_undone command answer looks e a.variant)
+  looked mid new command answer a none fresh calm_ looks true e = rested_same mid new none (same_mount mid new a.opened (a.line.saver.unmoved e fresh none).1)
+  looked mid new command answer a none fresh calm_ looks false e = undone mid new (Ok command) answer a none calm_ (look_undone command answer looks e a.line.form.variant)
 
   rested_step : (mid new : Mount V K) (asked : Asked) (answer : Answer) → MountAnswers shows trace faults G now mid asked answer new → mid.core.saver.changed ≡ false → mid.core.violated ≡ false
       → is_violation answer ≡ false → AsksNoChange asked ⊎ (is_done_answer answer ≡ false) → Rested trace faults mid new
   rested_step mid new asked answer a none fresh calm_ (inr e) = undone mid new asked answer a none calm_ e
   rested_step mid new (Ok command) answer a none fresh calm_ (inl looks) = looked mid new command answer a none fresh calm_ looks (is_sync command) refl
-  rested_step mid new (Err error) answer a none fresh calm_ (inl looks) = rested_same mid new none a.unread.1
+  rested_step mid new (Err error) answer a none fresh calm_ (inl looks) = rested_same mid new none (same_mount mid new a.opened a.line.form.unread.1)
 
   pub rested_on : (old mid new : Mount V K) (e : Exchange) (es : List Exchange) → Rested trace faults old mid → mid.core.violated ≡ violated es → MountAnswers shows trace faults G now mid e.asked e.answer new
       → AreIdle (e ∷ es) → Rested trace faults old new

@@ -2,13 +2,14 @@
 use Rattle.std.proofs.Common.{◌≡◌, ◌⊎◌, ◌<◌, ◌≤◌, ℕ, Bool, true, false, List, [], length, Option, Some, refl, sym, ◌∙◌, ap, subst, inl, inr, arith}
 use Rattle.std.specs.Prelude.{Result, Ok, Err, IsErrOf}
 use Rattle.outcome.specs.Meanings.{Meanings}
-use Rattle.outside.specs.Going.{GoesOn, goes_on_writes}
+use Rattle.outside.specs.Causes.{RoseBy}
+use Rattle.outside.specs.Going.{GoesOn, goes_on_same, goes_on_writes}
 use Rattle.outside.specs.Writes.{after_writes}
 use Rattle.outside.specs.declared.keeper.Keeper.{Ghosts as KeeperGhosts}
 use Rattle.store_api.specs.Content.{Content, Changes, SameContent}
 use Rattle.store_api.specs.Durables.{Identity, Durables, Records, Enduring, mark_place, with_mark}
 use Rattle.store_api.specs.Holdings.{Holdings, Stays}
-use Rattle.session_saver.specs.Saving.{RepresentsContent, KeptConfigures, Whole, CanMark, IsRecordOf, Unmoved, Saved, SavedConfig, UnlessState}
+use Rattle.session_saver.specs.Saving.{RepresentsContent, KeptConfigures, Whole, CanMark, IsRecordOf, Unmoved, Saved, SavedConfig, LastAfterLong, UnlessDirectory, UnlessState, world, Leaves, Moves, Finishes, Syncs}
 use Rattle.session_saver.specs.declared.saver.Saver.{Saver}
 use Rattle.session_saver.specs.declared.saver.SyncError.{SyncError}
 use Rattle.session_saver.specs.declared.saver.SyncError.TheVariants.{Memory, FaultDirectory, FaultState}
@@ -35,6 +36,13 @@ state_directory is = cc
 
 pub ok_no_error : (e : SyncError) → IsErrOf {T = Unit} (Ok tt) e → ⊥
 ok_no_error e is = cc
+
+-- what follows where the directory didn't fail
+pub unless_directory : (result : Result Unit SyncError) (P Q : Type 0) → (P → Q) → UnlessDirectory result P → UnlessDirectory result Q
+unless_directory (Ok x) P Q f h = f h
+unless_directory (Err Memory) P Q f h = f h
+unless_directory (Err FaultDirectory) P Q f h = tt
+unless_directory (Err FaultState) P Q f h = f h
 
 -- what follows where the keeper didn't fail
 pub unless_state : (result : Result Unit SyncError) (P Q : Type 0) → (P → Q) → UnlessState result P → UnlessState result Q
@@ -121,3 +129,111 @@ module _ {S : Type 0} {K : Type 0} (M : Meanings S) (H : Holdings S) (D : Durabl
   pub kept_or_record : (store : S) (kept old : Option (List ℕ)) → (kept ≡ old) ⊎ (kept ≡ Some (D.local_record_of store true)) → (kept ≡ old) ⊎ IsRecordOf D store kept
   kept_or_record store kept old (inl same) = inl same
   kept_or_record store kept old (inr is) = inr (inl is)
+
+  -- ---- whole calls
+
+  -- the directory wasn't called
+  pub leaves_same : (a : S) (k l : K) (result : Result Unit SyncError) → G.faults k ≤ G.faults l → (IsErrOf result FaultDirectory → ⊥) → UnlessDirectory result (M.faults a ≡ M.faults a)
+      → (IsErrOf result FaultState → RoseBy 1 (G.faults k) (G.faults l)) → UnlessState result (G.faults l ≡ G.faults k) → Leaves (world M H D R G) a k a l result
+  leaves_same a k l result grows none still rose quiet = record {
+    identity = refl;
+    stays = stays_same H a;
+    sound = λ sound. sound;
+    goes_on = goes_on_same (D.trace a);
+    forgeries = refl;
+    lies = refl;
+    vault_grows = no_fewer (M.faults a) (M.faults a) refl;
+    vault_cause = λ is. absurd (none is);
+    vault_quiet = still;
+    keeper_grows = grows;
+    keeper_cause = rose;
+    keeper_quiet = quiet;
+  }
+
+  -- nor was the keeper
+  pub leaves_memory : (a : S) (k l : K) → G.faults l ≡ G.faults k → Leaves (world M H D R G) a k a l (Err Memory)
+  leaves_memory a k l calm = leaves_same a k l (Err Memory) (no_fewer (G.faults k) (G.faults l) calm) memory_directory refl (λ is. absurd (memory_state is)) calm
+
+  -- the keeper's count had been the same before
+  pub leaves_since : (a b : S) (k m l : K) (result : Result Unit SyncError) → G.faults m ≡ G.faults k → Leaves (world M H D R G) a m b l result → Leaves (world M H D R G) a k b l result
+  leaves_since a b k m l result calm z = record {
+    identity = z.identity;
+    stays = z.stays;
+    sound = z.sound;
+    goes_on = z.goes_on;
+    forgeries = z.forgeries;
+    lies = z.lies;
+    vault_grows = z.vault_grows;
+    vault_cause = z.vault_cause;
+    vault_quiet = z.vault_quiet;
+    keeper_grows = subst (λ n. n ≤ G.faults l) calm z.keeper_grows;
+    keeper_cause = λ is. subst (λ n. RoseBy 1 n (G.faults l)) calm (z.keeper_cause is);
+    keeper_quiet = unless_state result (G.faults l ≡ G.faults m) (G.faults l ≡ G.faults k) (λ e. e ∙ calm) z.keeper_quiet;
+  }
+
+  pub moves_since : (old mid new : Saver K) (a b : S) (result : Result Unit SyncError) → G.faults mid.keeper ≡ G.faults old.keeper → Moves (world M H D R G) mid a new b result → Moves (world M H D R G) old a new b result
+  moves_since old mid new a b result calm z = record {
+    leaves = leaves_since a b old.keeper mid.keeper new.keeper result calm z.leaves;
+    intact = z.intact;
+    room = z.room;
+    whole = z.whole;
+    ok = z.ok;
+    err = z.err;
+    writes = z.writes;
+    wrote = z.wrote;
+    waiting = z.waiting;
+    present = z.present;
+  }
+
+  -- an error before the directory was called
+  pub moves_stopped : (old new : Saver K) (a : S) (e : SyncError) → M.intact a → length new.last.items ≤ G.room new.keeper → new.changed ≡ true → Leaves (world M H D R G) a old.keeper a new.keeper (Err e) → Moves (world M H D R G) old a new a (Err e)
+  moves_stopped old new a e intact room changed leaves = record {
+    leaves = leaves;
+    intact = intact;
+    room = room;
+    whole = whole_changed new a changed;
+    ok = tt;
+    err = changed;
+    writes = tt;
+    wrote = inl refl;
+    waiting = λ bytes h. h;
+    present = λ bytes told h. h;
+  }
+
+  -- want of memory before the first call
+  pub moves_memory : (old : Saver K) (keeper : K) (a : S) → M.intact a → length old.last.items ≤ G.room old.keeper → old.changed ≡ true → G.room old.keeper ≤ G.room keeper → G.faults keeper ≡ G.faults old.keeper
+      → Moves (world M H D R G) old a (record old { keeper = keeper }) a (Err Memory)
+  moves_memory old keeper a intact fits changed room calm = moves_stopped old (record old { keeper = keeper }) a Memory intact (omega (arith, fits, room)) changed (leaves_memory a old.keeper keeper calm)
+
+  -- the long record stays
+  pub finishes_long : (applied : S → S → Changes → Type 0) → Enduring M H applied D R → (new : Saver K) (a b : S) (result : Result Unit SyncError) → M.intact a → new.last.items ≡ D.local_record_of a true
+      → G.kept new.keeper ≡ Some (D.local_record_of a true) → LastAfterLong D G a new result → D.identity b ≡ D.identity a → ((bytes : List ℕ) → R.configures (D.local_record_of a true) (D.trace a) bytes → R.configures (D.local_record_of a true) (D.trace b) bytes)
+      → (M.sound a → (D.identity a).marked ≡ false → R.stands (D.identity a) (D.local_record_of a true) (D.trace b) (H.content a)) → Finishes (world M H D R G) a new b result
+  finishes_long applied endures new a b result intact last kept after identity waiting stands = record {
+    stands = λ now sound unmarked same. (D.local_record_of a true, kept, long_stands applied endures a b now identity same (stands sound unmarked));
+    configures = λ bytes told h. (D.local_record_of a true, kept, waiting bytes h);
+    last = after;
+    keeps = inl kept;
+    can_mark = may_mark applied endures new a true intact last;
+  }
+
+  pub syncs_memory : (old : Saver K) (keeper : K) (a : S) → old.changed ≡ true → G.kept keeper ≡ G.kept old.keeper → Syncs (world M H D R G) old a (record old { keeper = keeper }) a (Err Memory)
+  syncs_memory old keeper a changed kept = record {
+    unchanged = λ e. absurd (true_is_false (sym changed ∙ e));
+    stands = λ now sound unmarked same. inl (record { kept = kept; trace = refl });
+    configures = λ bytes told h. inl (record { kept = kept; trace = refl });
+    last = inl (refl, refl, kept);
+    keeps = inl kept;
+    can_mark = λ can. record { marks = can.marks; long = can.long };
+  }
+
+  -- the later two steps after the first
+  pub syncs_on : (old new : Saver K) (a b : S) (result : Result Unit SyncError) → old.changed ≡ true → Finishes (world M H D R G) a new b result → Syncs (world M H D R G) old a new b result
+  syncs_on old new a b result changed z = record {
+    unchanged = λ e. absurd (true_is_false (sym changed ∙ e));
+    stands = λ now sound unmarked same. saved old new a b now result (z.stands now sound unmarked same);
+    configures = λ bytes told h. saved_config old new a b bytes result (z.configures bytes told h);
+    last = inr z.last;
+    keeps = inr z.keeps;
+    can_mark = λ can. z.can_mark;
+  }

@@ -1,13 +1,17 @@
 -- A store's record at a keeper: what is kept, and what a sync makes of it.
-use Rattle.std.specs.Prelude.{◌≡◌, ◌⊎◌, ◌<◌, ℕ, true, false, List, [], length, Result}
+use Rattle.std.specs.Prelude.{◌≡◌, ◌⊎◌, ◌<◌, ◌≤◌, ℕ, true, false, List, [], length, Result, IsErrOf, IsOk, OnOk, OnErr}
 use Rattle.std.specs.declared.option.Option.{Option}
 use Rattle.std.specs.declared.option.Option.TheVariants.{Some}
 use Rattle.std.specs.declared.result.Result.TheVariants.{Ok, Err}
+use Rattle.outcome.specs.Meanings.{Meanings}
+use Rattle.outside.specs.Causes.{RoseBy}
+use Rattle.outside.specs.Going.{GoesOn}
 use Rattle.outside.specs.Trace.{Call}
 use Rattle.outside.specs.Writes.{after_writes, StopsAt}
 use Rattle.outside.specs.declared.keeper.Keeper.{Ghosts as KeeperGhosts}
-use Rattle.store_api.specs.Content.{Content}
+use Rattle.store_api.specs.Content.{Content, SameContent}
 use Rattle.store_api.specs.Durables.{Identity, Durables, Records, mark_place, with_mark}
+use Rattle.store_api.specs.Holdings.{Holdings, Stays}
 use Rattle.session_saver.specs.declared.saver.Saver.{Saver}
 use Rattle.session_saver.specs.declared.saver.SyncError.{SyncError}
 use Rattle.session_saver.specs.declared.saver.SyncError.TheVariants.{Memory, FaultDirectory, FaultState}
@@ -87,3 +91,76 @@ UnlessState (Ok _) P = P
 UnlessState (Err Memory) P = P
 UnlessState (Err FaultDirectory) P = P
 UnlessState (Err FaultState) P = Unit {0}
+
+-- a store and a keeper, by all that is said of them
+pub record World (S : Type 0) (K : Type 0) : Type 1 where
+  pub meanings : Meanings S
+  pub holdings : Holdings S
+  pub durables : Durables S
+  pub records : Records
+  pub keeper : KeeperGhosts K
+
+abbrev pub world : {S : Type 0} → {K : Type 0} → Meanings S → Holdings S → Durables S → Records → KeeperGhosts K → World S K
+world M H D R G = record { meanings = M; holdings = H; durables = D; records = R; keeper = G }
+
+-- ---- what a saver's calls need and leave: old and a before, new and b after
+
+-- what a sync needs
+pub record CanSync {S : Type 0} {K : Type 0} (W : World S K) (saver : Saver K) (store : S) : Type 0 where
+  pub intact : W.meanings.intact store
+  pub room : length saver.last.items ≤ W.keeper.room saver.keeper
+  pub whole : Whole W.durables W.keeper saver store
+
+-- the record with the list is kept, and was the last that was given
+pub record IsLongKept {S : Type 0} {K : Type 0} (W : World S K) (saver : Saver K) (store : S) : Type 0 where
+  pub intact : W.meanings.intact store
+  pub room : length saver.last.items ≤ W.keeper.room saver.keeper
+  pub kept : W.keeper.kept saver.keeper ≡ Some (W.durables.local_record_of store true)
+  pub last : saver.last.items ≡ W.durables.local_record_of store true
+  pub changed : saver.changed ≡ true
+
+-- what any call that may sync leaves of its store and its keeper, however far it comes
+pub record Leaves {S : Type 0} {K : Type 0} (W : World S K) (a : S) (k : K) (b : S) (l : K) (result : Result Unit SyncError) : Type 0 where
+  pub identity : W.durables.identity b ≡ W.durables.identity a
+  pub stays : Stays W.holdings a b
+  pub sound : W.meanings.sound a → W.meanings.sound b
+  pub goes_on : GoesOn (W.durables.trace a) (W.durables.trace b)
+  pub forgeries : W.meanings.forgeries b ≡ W.meanings.forgeries a
+  pub lies : W.meanings.lies b ≡ W.meanings.lies a
+  -- each fault is told just where its count rose
+  pub vault_grows : W.meanings.faults a ≤ W.meanings.faults b
+  pub vault_cause : IsErrOf result FaultDirectory → RoseBy 1 (W.meanings.faults a) (W.meanings.faults b)
+  pub vault_quiet : UnlessDirectory result (W.meanings.faults b ≡ W.meanings.faults a)
+  pub keeper_grows : W.keeper.faults k ≤ W.keeper.faults l
+  pub keeper_cause : IsErrOf result FaultState → RoseBy 1 (W.keeper.faults k) (W.keeper.faults l)
+  pub keeper_quiet : UnlessState result (W.keeper.faults l ≡ W.keeper.faults k)
+
+-- what each of the three calls leaves
+pub record Moves {S : Type 0} {K : Type 0} (W : World S K) (old : Saver K) (a : S) (new : Saver K) (b : S) (result : Result Unit SyncError) : Type 0 where
+  pub leaves : Leaves W a old.keeper b new.keeper result
+  pub intact : W.meanings.intact b
+  pub room : length new.last.items ≤ W.keeper.room new.keeper
+  pub whole : Whole W.durables W.keeper new b
+  pub ok : OnOk result (new.changed ≡ false)
+  pub err : OnErr result (new.changed ≡ true)
+  pub writes : OnOk result (W.durables.trace b ≡ after_writes (W.durables.list a) (W.durables.trace a))
+  pub wrote : (b ≡ a) ⊎ Wrote W.durables a b
+  pub waiting : (bytes : List ℕ) → W.records.configures (W.durables.local_record_of a true) (W.durables.trace a) bytes → W.records.configures (W.durables.local_record_of a true) (W.durables.trace b) bytes
+  pub present : (bytes : List ℕ) → W.holdings.told a ≡ true → W.records.configures (W.durables.local_record_of a true) (W.durables.trace a) bytes → W.records.configures (W.durables.local_record_of b true) (W.durables.trace b) bytes
+
+-- what the later two steps keep, where the record with the list was kept
+pub record Finishes {S : Type 0} {K : Type 0} (W : World S K) (a : S) (new : Saver K) (b : S) (result : Result Unit SyncError) : Type 0 where
+  pub stands : (now : Content) → W.meanings.sound a → (W.durables.identity a).marked ≡ false → SameContent now (W.holdings.content a) → RepresentsContent W.records (W.durables.identity b) (W.keeper.kept new.keeper) (W.durables.trace b) now
+  pub configures : (bytes : List ℕ) → W.holdings.told a ≡ true → W.records.configures (W.durables.local_record_of a true) (W.durables.trace a) bytes → KeptConfigures W.records (W.keeper.kept new.keeper) (W.durables.trace b) bytes
+  pub last : LastAfterLong W.durables W.keeper a new result
+  pub keeps : IsRecordOf W.durables a (W.keeper.kept new.keeper)
+  pub can_mark : CanMark W.records new
+
+-- what a sync keeps
+pub record Syncs {S : Type 0} {K : Type 0} (W : World S K) (old : Saver K) (a : S) (new : Saver K) (b : S) (result : Result Unit SyncError) : Type 0 where
+  pub unchanged : old.changed ≡ false → IsOk result × (new ≡ old) × (b ≡ a)
+  pub stands : (now : Content) → W.meanings.sound a → (W.durables.identity a).marked ≡ false → SameContent now (W.holdings.content a) → Saved W.durables W.records W.keeper old a new b now result
+  pub configures : (bytes : List ℕ) → W.holdings.told a ≡ true → W.records.configures (W.durables.local_record_of a true) (W.durables.trace a) bytes → SavedConfig W.durables W.records W.keeper old a new b bytes result
+  pub last : LastBeforeLong W.durables W.keeper old a new b result ⊎ LastAfterLong W.durables W.keeper a new result
+  pub keeps : (W.keeper.kept new.keeper ≡ W.keeper.kept old.keeper) ⊎ IsRecordOf W.durables a (W.keeper.kept new.keeper)
+  pub can_mark : CanMark W.records old → CanMark W.records new

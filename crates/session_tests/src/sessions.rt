@@ -1,5 +1,6 @@
 // Sessions over a directory that keeps its promises.
 
+use crate::trials::{CHILDREN, TOUCHED};
 use cryfs_shell::Status;
 use memory_outside::MemoryKeeper;
 use std::alloc::Global;
@@ -42,6 +43,17 @@ const MOVED: &str =
 fn moves_follow_the_order_of_errors(rt: HostRuntime) -> Result<(), Fail> {
     let alloc = rt.alloc();
     session(alloc, new_system(alloc)?, MOVES, MOVED, Status::Done)?;
+    Ok(())
+}
+
+#[test]
+fn directories_take_the_moment_at_which_their_children_change(rt: HostRuntime) -> Result<(), Fail> {
+    let alloc = rt.alloc();
+    let input = script(alloc, CHILDREN)?;
+    let mut case = plain(&["shell"], &input);
+    case.secs = 9;
+    case.nanos = 0;
+    expect(alloc, new_system(alloc)?, &case, TOUCHED, Status::Done)?;
     Ok(())
 }
 

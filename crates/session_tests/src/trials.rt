@@ -171,6 +171,24 @@ fn keeps_attributes(rt: HostRuntime) -> Result<(), Fail> {
     )
 }
 
+/// Lines that change children of directories.
+pub const CHILDREN: &str =
+    "mkdir /a\nmkdir /b\nmkfile /a/f\nutime /a 1.000000000 2.000000000\nutime /b 1.000000000 2.000000000\nmv /a/f /b/f\nstat /a\nstat /b\nutime /b 1.000000000 2.000000000\nmv /b/f /b/f\nwrite /b/f 0 61\nstat /b\nmkdir /b/d\nmkfile /b/d/g\nutime /b/d 3.000000000 4.000000000\nutime /b 1.000000000 2.000000000\nrm /b/d/g\nstat /b/d\nstat /b\nrmdir /b/d\nstat /b\nstat /\n";
+
+/// What they are answered at the second 9.
+pub const TOUCHED: &str =
+    "ok\nok\nok\nok\nok\nok\nstat d 755 0 0 0 1.000000000 9.000000000 9.000000000\nstat d 755 0 0 0 1.000000000 9.000000000 9.000000000\nok\nok\nok\nstat d 755 0 0 0 1.000000000 2.000000000 9.000000000\nok\nok\nok\nok\nok\nstat d 755 0 0 0 3.000000000 9.000000000 9.000000000\nstat d 755 0 0 0 1.000000000 2.000000000 9.000000000\nok\nstat d 755 0 0 0 1.000000000 9.000000000 9.000000000\nstat d 755 0 0 0 0.000000000 0.000000000 0.000000000\n";
+
+#[test]
+fn directories_take_the_moment_at_which_their_children_change(rt: HostRuntime) -> Result<(), Fail> {
+    let case = Run {
+        secs: 9,
+        nanos: 0,
+        ..trial(CHILDREN)
+    };
+    is_done(rt.alloc(), &case, TOUCHED)
+}
+
 /// `mkdir`, a slash and so many letters, as a line.
 fn long_line(alloc: Global, letters: usize) -> Result<Vec<u8>, AllocError> {
     let mut line = b"mkdir /".to_vec(alloc)?;

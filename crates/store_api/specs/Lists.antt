@@ -10,6 +10,12 @@ waiting_bytes [] = 0
 waiting_bytes ((name, Some bytes) ∷ entries) = length bytes + waiting_bytes entries
 waiting_bytes ((name, None) ∷ entries) = waiting_bytes entries
 
+-- what the list weighs: the bytes it has to put, and 64 for each removal
+abbrev pub waiting_weight : List (At × Option (List ℕ)) → ℕ
+waiting_weight [] = 0
+waiting_weight ((name, Some bytes) ∷ entries) = length bytes + waiting_weight entries
+waiting_weight ((name, None) ∷ entries) = 64 + waiting_weight entries
+
 -- the list with these bytes for the configuration, which stands first
 abbrev pub with_config : List ℕ → List (At × Option (List ℕ)) → List (At × Option (List ℕ))
 with_config bytes [] = (config, Some bytes) ∷ []

@@ -5,7 +5,7 @@ ghost use Rattle.outside.specs.Writes.{after_writes, StopsAt};
 ghost use Rattle.store_api.specs.Content.{Id, SameIds, SameContent};
 ghost use Rattle.store_api.specs.Durables.{Durables, Records, Enduring};
 ghost use Rattle.store_api.specs.Holdings.{Stays};
-ghost use Rattle.store_api.specs.Lists.{waiting_bytes, with_config, MayConfigure};
+ghost use Rattle.store_api.specs.Lists.{waiting_bytes, waiting_weight, with_config, MayConfigure};
 
 use crate::BlocksMut;
 use block_id::Memory;
@@ -21,6 +21,10 @@ pub trait Durable: BlocksMut {
     /// How many bytes wait to be put, or the greatest number where they are more.
     fn buffered(&self) -> usize
         ensures { result ≡ min (waiting_bytes (durables.list self.now)) usize.MAX };
+
+    /// What the list weighs, or the greatest number where it is more: the bytes to be put, and 64 for each removal.
+    fn weight(&self) -> usize
+        ensures { result ≡ min (waiting_weight (durables.list self.now)) usize.MAX };
 
     /// The local record, with the unwritten list or with an empty one.
     fn state_bytes(&self, alloc: Global, with_list: bool) -> Result<Vec<u8>, Memory>

@@ -48,8 +48,8 @@ pub fn perform_on_blobs<B: Blobs, R: Rng>(
             let target = target.as_slice();
             make_link(alloc, b, root, path.names(), target, now, chance)
         }
-        Command::Rmdir(path) => remove_directory(alloc, b, root, path.names(), chance),
-        Command::Rm(path) => remove_file(alloc, b, root, path.names(), chance),
+        Command::Rmdir(path) => remove_directory(alloc, b, root, path.names(), now, chance),
+        Command::Rm(path) => remove_file(alloc, b, root, path.names(), now, chance),
         Command::Mv(from, to) => move_row(alloc, b, root, from.names(), to.names(), now, chance),
         Command::Write(path, from, bytes) => {
             let bytes = bytes.as_slice();

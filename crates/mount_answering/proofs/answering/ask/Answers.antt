@@ -24,6 +24,7 @@ use Rattle.mount_answering.proofs.Versions.{raised_stays, raised_on, few_stays, 
 use Rattle.mount_answering.proofs.Quiet.{fail_directory, fail_directory_rose}
 use Rattle.mount_answering.proofs.answering.ask.Given.{Over}
 use Rattle.mount_answering.proofs.answering.ask.Goals as goal
+use Rattle.session_saver.specs.Saving.{world}
 
 abbrev CoreOf : Over → Type 0
 CoreOf g = Core g.row.S.Denot g.row.K.Denot
@@ -33,6 +34,17 @@ perform-requires-clause-intact g c = (
   c.requires.ready.intact,
   record { fits = fits_empty g.S.Blocks.holdings c.args.core.now.blobs.tx.store c.args.core.now.blobs.tx.overlay c.requires.ready.empty; few = c.requires.ready.few },
 )
+
+pub settle-requires-clause-can : goal.settle-requires-clause-can
+settle-requires-clause-can g c =
+    let old = c.args.core.now in
+    let ready = c.requires.ready in
+    record {
+      room = ready.room;
+      can_mark = ready.can_mark;
+      whole = whole_loaded ShowsFiles g.S.Blocks.meanings g.S.Blocks.holdings g.S.Durable.durables g.S.Durable.records g.K.Keeper g.S.BlocksMut.applied g.met.S.Durable.enduring old.saver old.blobs.tx.store c.perform.new.blobs.tx.store
+          c.in-Ok.ensures.outcome.loaded ready.whole;
+    }
 
 pub returns-in-Ok : goal.returns-in-Ok
 returns-in-Ok g c =
@@ -53,45 +65,53 @@ returns-in-Ok g c =
     let z = c.settle.ensures in
     let stays = g.met.S.BlocksMut.settled store asked_of o.loaded in
     let each : (P : Answer → Type 0) → P (Replied c.in-Ok.reply) → P Memory → P Spent → P answer = settle_each answer c.in-Ok.reply z.answers in
-    let rose : RoseBy 0 (M.faults store) (M.faults new) = omega (arith, z.faults, lawful.faults_grow store asked_of o.loaded) in
-    let unforged : M.forgeries new ≤ M.forgeries store → M.forgeries asked_of ≤ M.forgeries store = λ few. omega (arith, z.forgeries, few) in
+    let rose : RoseBy 0 (M.faults store) (M.faults new) = omega (arith, z.store.faults, lawful.faults_grow store asked_of o.loaded) in
+    let unforged : M.forgeries new ≤ M.forgeries store → M.forgeries asked_of ≤ M.forgeries store = λ few. omega (arith, z.store.forgeries, few) in
     record {
       ready = z.ready;
-      stands = λ kept present s few.
-          let shown = shown_now ShowsFiles M H D R g.K.Keeper files_same g.met.S.Blocks.steady g.S.BlocksMut.applied g.met.S.BlocksMut.settled endures old kept present s c.requires.ready.empty in
-          z.stands c.args.now kept present
-          (asked ShowsFiles M H D R g.K.Keeper files_same g.met.S.Blocks.steady g.S.BlocksMut.applied g.met.S.BlocksMut.settled endures c.args.now old mid kept present command c.in-Ok.reply s o.loaded refl refl (o.sound s.sound (unforged few)) (o.value (record { tree = present; shown = shown }) s.sound (unforged few)));
-      configures = λ may present s. z.configures may present (configures_loaded ShowsFiles M H D R g.K.Keeper g.S.BlocksMut.applied endures old mid may present s o.loaded stays refl refl);
-      stays = λ undone. stays_on H store asked_of new stays (z.stays undone);
-      keeper = z.keeper;
-      last = z.last;
-      saver = z.saver;
-      loads = only_asked M H D (is_done_answer answer) store asked_of new o.loaded (λ undone. lawful.onward store asked_of new o.loaded (z.loaded undone)) z.uncalled;
-      goes_on = goes_on_onward _ (D.trace asked_of) _ (endures.loaded_goes_on store asked_of o.loaded) z.goes_on;
-      sound = λ sound few. z.sound (o.sound sound (unforged few));
-      violated = z.violated;
-      root = z.root;
-      payload = z.payload ∙ stays.payload;
-      identity = z.identity ∙ endures.loaded_identity store asked_of o.loaded;
-      forgeries = omega (arith, z.forgeries, lawful.forgeries_grow store asked_of o.loaded);
-      lies = omega (arith, z.lies, lawful.lies_grow store asked_of o.loaded);
-      unforged = λ sound honest. omega (arith, z.forgeries, lawful.honest_unforged store asked_of o.loaded sound (omega (arith, z.lies, honest)));
-      alarm = λ kept present s honest. each (λ a. is_violation a ≡ false) refl refl refl;
-      built = λ kept present s few. each (λ a. is_structure a ≡ false) refl refl refl;
-      found = each (λ a. OnFound a (M.met store new)) tt tt tt;
-      vault_grows = omega (arith, z.faults, lawful.faults_grow store asked_of o.loaded);
-      vault_cause = each (λ a. RoseBy (directory_faults a) (M.faults store) (M.faults new)) rose rose rose;
-      vault_quiet = λ none. z.faults ∙ o.quiet;
-      keeper_cause = each (λ a. state_faults a ≡ 0) refl refl refl;
-      spent = spent_on answer (SpentCause H asked_of command) (SpentCause H store command) (spent_before H store asked_of command stays) z.spent;
-      raised = raised_on H store asked_of new stays z.raised;
-      sparing = λ kept present s few.
-          let shown = shown_now ShowsFiles M H D R g.K.Keeper files_same g.met.S.Blocks.steady g.S.BlocksMut.applied g.met.S.BlocksMut.settled endures old kept present s c.requires.ready.empty in
-          on_inside (H.payload store) present command (λ most. fin.len mid.blobs.tx.overlay ≤ fin.len old.blobs.tx.overlay + most) (FewRaised H store new)
-          (λ most count. few_on H store asked_of new most stays (few_changed H asked_of new old.blobs.tx.overlay mid.blobs.tx.overlay most c.requires.ready.empty count z.rests))
-          (c.perform.ensures.sparing (record { tree = present; shown = shown }) s.sound (unforged few));
-      variant = each (λ a. OnReply a (IsReplyTo command)) c.in-Ok.ensures.variant tt tt;
-      served = each (λ a. a ≡ Refused → ⊥) (λ is. cc) (λ is. cc) (λ is. cc);
+      form = record {
+        unfaulted = each (λ a. state_faults a ≡ 0) refl refl refl;
+        variant = each (λ a. OnReply a (IsReplyTo command)) c.in-Ok.ensures.variant tt tt;
+        served = each (λ a. a ≡ Refused → ⊥) (λ is. cc) (λ is. cc) (λ is. cc);
+      };
+      trees = record {
+        stands = λ kept present s few.
+            let shown = shown_now ShowsFiles M H D R g.K.Keeper files_same g.met.S.Blocks.steady g.S.BlocksMut.applied g.met.S.BlocksMut.settled endures old kept present s c.requires.ready.empty in
+            z.trees.stands c.args.now kept present
+            (asked ShowsFiles M H D R g.K.Keeper files_same g.met.S.Blocks.steady g.S.BlocksMut.applied g.met.S.BlocksMut.settled endures c.args.now old mid kept present command c.in-Ok.reply s o.loaded refl refl (o.sound s.sound (unforged few)) (o.value (record { tree = present; shown = shown }) s.sound (unforged few)));
+        configures = λ may present s. z.trees.configures may present (configures_loaded ShowsFiles M H D R g.K.Keeper g.S.BlocksMut.applied endures old mid may present s o.loaded stays refl refl);
+        alarm = λ kept present s honest. each (λ a. is_violation a ≡ false) refl refl refl;
+        built = λ kept present s few. each (λ a. is_structure a ≡ false) refl refl refl;
+        sparing = λ kept present s few.
+            let shown = shown_now ShowsFiles M H D R g.K.Keeper files_same g.met.S.Blocks.steady g.S.BlocksMut.applied g.met.S.BlocksMut.settled endures old kept present s c.requires.ready.empty in
+            on_inside (H.payload store) present command (λ most. fin.len mid.blobs.tx.overlay ≤ fin.len old.blobs.tx.overlay + most) (FewRaised H store new)
+            (λ most count. few_on H store asked_of new most stays (few_changed H asked_of new old.blobs.tx.overlay mid.blobs.tx.overlay most c.requires.ready.empty count z.store.rests))
+            (c.perform.ensures.sparing (record { tree = present; shown = shown }) s.sound (unforged few));
+      };
+      store = record {
+        stays = λ undone. stays_on H store asked_of new stays (z.store.stays undone);
+        loads = only_asked M H D (is_done_answer answer) store asked_of new o.loaded (λ undone. lawful.onward store asked_of new o.loaded (z.store.loaded undone)) z.store.uncalled;
+        goes_on = goes_on_onward _ (D.trace asked_of) _ (endures.loaded_goes_on store asked_of o.loaded) z.store.goes_on;
+        sound = λ sound few. z.store.sound (o.sound sound (unforged few));
+        payload = z.store.payload ∙ stays.payload;
+        identity = z.store.identity ∙ endures.loaded_identity store asked_of o.loaded;
+        forgeries = omega (arith, z.store.forgeries, lawful.forgeries_grow store asked_of o.loaded);
+        lies = omega (arith, z.store.lies, lawful.lies_grow store asked_of o.loaded);
+        unforged = λ sound honest. omega (arith, z.store.forgeries, lawful.honest_unforged store asked_of o.loaded sound (omega (arith, z.store.lies, honest)));
+        found = each (λ a. OnFound a (M.met store new)) tt tt tt;
+        vault_grows = omega (arith, z.store.faults, lawful.faults_grow store asked_of o.loaded);
+        vault_cause = each (λ a. RoseBy (directory_faults a) (M.faults store) (M.faults new)) rose rose rose;
+        vault_quiet = λ none. z.store.faults ∙ o.quiet;
+        spent = spent_on answer (SpentCause H asked_of command) (SpentCause H store command) (spent_before H store asked_of command stays) z.store.spent;
+        raised = raised_on H store asked_of new stays z.store.raised;
+      };
+      saver = record {
+        keeper = z.saver.keeper;
+        last = z.saver.last;
+        saver = z.saver.saver;
+        violated = z.saver.violated;
+        root = z.saver.root;
+      };
     }
 
 pub returns-in-Err : goal.returns-in-Err
@@ -125,39 +145,47 @@ returns-in-Err g c =
         can_mark = c.requires.ready.can_mark;
         whole = whole_loaded ShowsFiles M H D R g.K.Keeper g.S.BlocksMut.applied endures old.saver store after loaded c.requires.ready.whole;
       };
-      stands = λ kept present s few. subst (λ a. CorePerformed ShowsFiles M H D R g.K.Keeper c.args.now new kept present command a) (sym answer)
-          (performed_failed ShowsFiles M H D R g.K.Keeper files_same g.met.S.Blocks.steady g.S.BlocksMut.applied g.met.S.BlocksMut.settled endures c.args.now old new kept present command fail s loaded refl refl (sound s.sound few));
-      configures = λ may present s. configures_loaded ShowsFiles M H D R g.K.Keeper g.S.BlocksMut.applied endures old new may present s loaded stays refl refl;
-      stays = λ undone. stays;
-      keeper = refl;
-      last = refl;
-      saver = λ undone. refl;
-      loads = only_loaded M H D (is_done_answer c.fail_answer.result) store after loaded;
-      goes_on = endures.loaded_goes_on store after loaded;
-      sound = sound;
-      violated = refl;
-      root = refl;
-      payload = stays.payload;
-      identity = endures.loaded_identity store after loaded;
-      forgeries = lawful.forgeries_grow store after loaded;
-      lies = lawful.lies_grow store after loaded;
-      unforged = lawful.honest_unforged store after loaded;
-      alarm = λ kept present s honest.
-          let shown = shown_now ShowsFiles M H D R g.K.Keeper files_same g.met.S.Blocks.steady g.S.BlocksMut.applied g.met.S.BlocksMut.settled endures old kept present s c.requires.ready.empty in
-          subst (λ a. is_violation a ≡ false) (sym answer) (calm fail
-          (no_alarm (lawful_over (λ t. t.store) (λ t. t.overlay) M H lawful) o (record { tree = present; shown = shown }) s.sound (subst (λ x. M.lies x ≤ M.lies store) e honest)));
-      built = λ kept present s few.
-          let shown = shown_now ShowsFiles M H D R g.K.Keeper files_same g.met.S.Blocks.steady g.S.BlocksMut.applied g.met.S.BlocksMut.settled endures old kept present s c.requires.ready.empty in
-          subst (λ a. is_structure a ≡ false) (sym answer) (of_blocks fail (o.structure (record { tree = present; shown = shown }) s.sound (unforged few)));
-      found = subst (λ a. OnFound a (M.met store after)) (sym answer) (found_of fail (M.met store c.perform.new.blobs.tx.store) (M.met store after) (λ why. subst (λ x. M.met store x why) (sym e)) o.met);
-      vault_grows = lawful.faults_grow store after loaded;
-      vault_cause = subst (λ a. RoseBy (directory_faults a) (M.faults store) (M.faults after)) (sym answer)
-          (fail_directory_rose fail _ _ (lawful.faults_grow store after loaded) (subst (λ x. HasCause fail (M.faults store) (M.faults x)) (sym e) o.fault));
-      vault_quiet = λ none. ap M.faults e ∙ fail_directory fail (M.faults c.perform.new.blobs.tx.store ≡ M.faults store) o.quiet (subst (λ a. directory_faults a ≡ 0) answer none);
-      keeper_cause = each (λ a. state_faults a ≡ 0) refl refl (λ why. refl);
-      spent = each (λ a. OnSpent a (SpentCause H store command)) tt tt (λ why. tt);
-      raised = raised_stays H store after stays;
-      sparing = λ kept present s few. always_inside (H.payload store) present command (FewRaised H store after) (λ most. few_stays H store after most stays);
-      variant = each (λ a. OnReply a (IsReplyTo command)) tt tt (λ why. tt);
-      served = each (λ a. a ≡ Refused → ⊥) (λ is. cc) (λ is. cc) (λ why is. cc);
+      form = record {
+        unfaulted = each (λ a. state_faults a ≡ 0) refl refl (λ why. refl);
+        variant = each (λ a. OnReply a (IsReplyTo command)) tt tt (λ why. tt);
+        served = each (λ a. a ≡ Refused → ⊥) (λ is. cc) (λ is. cc) (λ why is. cc);
+      };
+      trees = record {
+        stands = λ kept present s few. subst (λ a. CorePerformed ShowsFiles (world M H D R g.K.Keeper) c.args.now new kept present command a) (sym answer)
+            (performed_failed ShowsFiles M H D R g.K.Keeper files_same g.met.S.Blocks.steady g.S.BlocksMut.applied g.met.S.BlocksMut.settled endures c.args.now old new kept present command fail s loaded refl refl (sound s.sound few));
+        configures = λ may present s. configures_loaded ShowsFiles M H D R g.K.Keeper g.S.BlocksMut.applied endures old new may present s loaded stays refl refl;
+        alarm = λ kept present s honest.
+            let shown = shown_now ShowsFiles M H D R g.K.Keeper files_same g.met.S.Blocks.steady g.S.BlocksMut.applied g.met.S.BlocksMut.settled endures old kept present s c.requires.ready.empty in
+            subst (λ a. is_violation a ≡ false) (sym answer) (calm fail
+            (no_alarm (lawful_over (λ t. t.store) (λ t. t.overlay) M H lawful) o (record { tree = present; shown = shown }) s.sound (subst (λ x. M.lies x ≤ M.lies store) e honest)));
+        built = λ kept present s few.
+            let shown = shown_now ShowsFiles M H D R g.K.Keeper files_same g.met.S.Blocks.steady g.S.BlocksMut.applied g.met.S.BlocksMut.settled endures old kept present s c.requires.ready.empty in
+            subst (λ a. is_structure a ≡ false) (sym answer) (of_blocks fail (o.structure (record { tree = present; shown = shown }) s.sound (unforged few)));
+        sparing = λ kept present s few. always_inside (H.payload store) present command (FewRaised H store after) (λ most. few_stays H store after most stays);
+      };
+      store = record {
+        stays = λ undone. stays;
+        loads = only_loaded M H D (is_done_answer c.fail_answer.result) store after loaded;
+        goes_on = endures.loaded_goes_on store after loaded;
+        sound = sound;
+        payload = stays.payload;
+        identity = endures.loaded_identity store after loaded;
+        forgeries = lawful.forgeries_grow store after loaded;
+        lies = lawful.lies_grow store after loaded;
+        unforged = lawful.honest_unforged store after loaded;
+        found = subst (λ a. OnFound a (M.met store after)) (sym answer) (found_of fail (M.met store c.perform.new.blobs.tx.store) (M.met store after) (λ why. subst (λ x. M.met store x why) (sym e)) o.met);
+        vault_grows = lawful.faults_grow store after loaded;
+        vault_cause = subst (λ a. RoseBy (directory_faults a) (M.faults store) (M.faults after)) (sym answer)
+            (fail_directory_rose fail _ _ (lawful.faults_grow store after loaded) (subst (λ x. HasCause fail (M.faults store) (M.faults x)) (sym e) o.fault));
+        vault_quiet = λ none. ap M.faults e ∙ fail_directory fail (M.faults c.perform.new.blobs.tx.store ≡ M.faults store) o.quiet (subst (λ a. directory_faults a ≡ 0) answer none);
+        spent = each (λ a. OnSpent a (SpentCause H store command)) tt tt (λ why. tt);
+        raised = raised_stays H store after stays;
+      };
+      saver = record {
+        keeper = refl;
+        last = refl;
+        saver = λ undone. refl;
+        violated = refl;
+        root = refl;
+      };
     }

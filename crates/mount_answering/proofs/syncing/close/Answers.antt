@@ -1,49 +1,44 @@
-use Rattle.std.proofs.Common.{◌≡◌, true, false, refl, sym, ◌∙◌, ap}
+use Rattle.std.proofs.Common.{refl}
 use Rattle.std.specs.declared.result.Result.TheVariants.{Ok}
+use Rattle.session_saver.proofs.Steps.{leaves_same, no_fewer, ok_no_error}
+use Rattle.session_saver.specs.declared.saver.SyncError.TheVariants.{FaultDirectory, FaultState}
 use Rattle.tree_commands.specs.Showing.{ShowsFiles}
-use Rattle.mount_answering.proofs.Lines.{closed_along, config_closed_along}
-use Rattle.mount_answering.proofs.Quiet.{directory_along, state_along}
+use Rattle.mount_answering.proofs.Closing.{closes_violated, closes_synced, closes_along, leaves_along}
 use Rattle.mount_answering.proofs.syncing.close.Goals as goal
 use Rattle.mount_answering.proofs.syncing.close.Goals.{then-core, else-core}
 
-pub returns-clause-stands : goal.returns-clause-stands
-returns-clause-stands g c kept now v s =
+pub returns-clause-leaves : goal.returns-clause-leaves
+returns-clause-leaves g c =
+    let M = g.S.Blocks.meanings in
+    let H = g.S.Blocks.holdings in
+    let D = g.S.Durable.durables in
+    let R = g.S.Durable.records in
+    let G = g.K.Keeper in
+    let core = c.args.core in
     elim c.if-core.branch [
-      | then-core w ↦ absurd (let t : true ≡ false = sym w.if-core.true ∙ v in cc)
+      | then-core w ↦
+          let keeper = core.saver.keeper in
+          leaves_along ShowsFiles M H D R G core core c.if-core.core c.into_store.result (Ok tt) c.if-core.result w.core-is w.result-is c.into_store.ensures
+          (leaves_same M H D R G core.blobs.tx.store keeper keeper (Ok tt) (no_fewer (G.faults keeper) (G.faults keeper) refl) (ok_no_error FaultDirectory) refl (λ is. absurd (ok_no_error FaultState is)) refl)
       | else-core w ↦
           let z = w.sync-result in
-          closed_along ShowsFiles g.S.Blocks.meanings g.S.Blocks.holdings g.S.Durable.durables g.S.Durable.records g.K.Keeper z.new.core c.if-core.core c.into_store.result
-          (g.S.Blocks.holdings.payload c.args.core.blobs.tx.store) c.args.core.root.0 kept now z.result c.if-core.result w.core-is w.result-is c.into_store.ensures
-          (sym z.ensures.payload) (ap (λ x. x.0) (sym z.ensures.root)) (z.ensures.stands kept now s) z.ensures.emptied
+          leaves_along ShowsFiles M H D R G core z.new.core c.if-core.core c.into_store.result z.result c.if-core.result w.core-is w.result-is c.into_store.ensures z.ensures.moves.leaves
     ]
 
-pub returns-clause-configures : goal.returns-clause-configures
-returns-clause-configures g c may now v s =
+pub returns-clause-closes : goal.returns-clause-closes
+returns-clause-closes g c =
+    let M = g.S.Blocks.meanings in
+    let H = g.S.Blocks.holdings in
+    let D = g.S.Durable.durables in
+    let R = g.S.Durable.records in
+    let G = g.K.Keeper in
+    let core = c.args.core in
     elim c.if-core.branch [
-      | then-core w ↦ absurd (let t : true ≡ false = sym w.if-core.true ∙ v in cc)
+      | then-core w ↦
+          closes_along ShowsFiles M H D R G core core c.if-core.core c.into_store.result (Ok tt) c.if-core.result w.core-is w.result-is c.into_store.ensures
+          (closes_violated ShowsFiles M H D R G core w.if-core.true c.requires.intact)
       | else-core w ↦
           let z = w.sync-result in
-          config_closed_along ShowsFiles g.S.Blocks.meanings g.S.Blocks.holdings g.S.Durable.durables g.S.Durable.records g.K.Keeper z.new.core c.if-core.core c.into_store.result may now z.result c.if-core.result w.core-is w.result-is c.into_store.ensures (z.ensures.configures may now s)
-    ]
-
-pub returns-clause-vault_quiet : goal.returns-clause-vault_quiet
-returns-clause-vault_quiet g c =
-    let faults = g.S.Blocks.meanings.faults in
-    let failed = g.K.Keeper.faults in
-    elim c.if-core.branch [
-      | then-core w ↦ directory_along faults failed c.args.core c.if-core.core c.into_store.result c.args.core.blobs.tx.store (Ok tt) c.if-core.result w.core-is w.result-is c.into_store.ensures refl
-      | else-core w ↦
-          let z = w.sync-result in
-          directory_along faults failed z.new.core c.if-core.core c.into_store.result c.args.core.blobs.tx.store z.result c.if-core.result w.core-is w.result-is c.into_store.ensures z.ensures.vault_quiet
-    ]
-
-pub returns-clause-keeper_quiet : goal.returns-clause-keeper_quiet
-returns-clause-keeper_quiet g c =
-    let faults = g.S.Blocks.meanings.faults in
-    let failed = g.K.Keeper.faults in
-    elim c.if-core.branch [
-      | then-core w ↦ state_along faults failed c.args.core c.if-core.core c.args.core.saver.keeper (Ok tt) c.if-core.result w.core-is w.result-is refl
-      | else-core w ↦
-          let z = w.sync-result in
-          state_along faults failed z.new.core c.if-core.core c.args.core.saver.keeper z.result c.if-core.result w.core-is w.result-is z.ensures.keeper_quiet
+          closes_along ShowsFiles M H D R G core z.new.core c.if-core.core c.into_store.result z.result c.if-core.result w.core-is w.result-is c.into_store.ensures
+          (closes_synced ShowsFiles M H D R G core z.new.core z.result w.if-core.false z.ensures.moves z.ensures.syncs)
     ]

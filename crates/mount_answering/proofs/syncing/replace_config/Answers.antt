@@ -6,7 +6,7 @@ use Rattle.tree_commands.specs.Showing.{ShowsFiles}
 use Rattle.tree_commands.proofs.Shows.{files_same}
 use Rattle.mount_core.specs.declared.body.Core.{Core}
 use Rattle.mount_answering.proofs.Lines.{replaced, stands_loaded, stands_waiting, stays_on, config_waiting, configures_loaded, whole_loaded}
-use Rattle.mount_core.proofs.Quiet.{memory_directory, memory_state, unless_directory}
+use Rattle.session_saver.proofs.Steps.{memory_directory, memory_state, unless_directory}
 use Rattle.mount_answering.proofs.syncing.replace_config.Given.{Over}
 use Rattle.mount_answering.proofs.syncing.replace_config.Goals as goal
 
@@ -26,34 +26,39 @@ returns-in-Err g c =
     let after = new.blobs.tx.store in
     let p = c.in-Err.ensures in
     record {
-      ready = record {
-        intact = p.intact;
-        empty = c.requires.ready.empty;
-        few = subst IsFew (sym p.stays.used) c.requires.ready.few;
-        room = c.requires.ready.room;
-        can_mark = c.requires.ready.can_mark;
-        whole = whole_loaded ShowsFiles M H D R g.K.Keeper g.S.BlocksMut.applied endures old.saver store after p.err c.requires.ready.whole;
+      moves = record {
+        ready = record {
+          intact = p.intact;
+          empty = c.requires.ready.empty;
+          few = subst IsFew (sym p.stays.used) c.requires.ready.few;
+          room = c.requires.ready.room;
+          can_mark = c.requires.ready.can_mark;
+          whole = whole_loaded ShowsFiles M H D R g.K.Keeper g.S.BlocksMut.applied endures old.saver store after p.err c.requires.ready.whole;
+        };
+        leaves = record {
+          identity = p.identity;
+          stays = p.stays;
+          sound = p.sound;
+          goes_on = goes_on_equal (D.trace store) (D.trace after) p.trace;
+          forgeries = p.forgeries;
+          lies = p.lies;
+          vault_grows = omega (arith, p.faults);
+          vault_cause = λ is. absurd (memory_directory is);
+          vault_quiet = p.faults;
+          keeper_grows = omega arith;
+          keeper_cause = λ is. absurd (memory_state is);
+          keeper_quiet = refl;
+        };
+        violated = refl;
+        root = refl;
       };
-      stands = λ kept now s. inl (stands_loaded ShowsFiles M H D R g.K.Keeper files_same g.S.BlocksMut.applied endures old new kept now s p.err p.stays (g.met.S.Blocks.steady.sound_told store s.sound) refl refl (p.sound s.sound));
-      configures = λ may now s. inl (configures_loaded ShowsFiles M H D R g.K.Keeper g.S.BlocksMut.applied endures old new may now s p.err p.stays refl refl);
-      holds = λ told. tt;
-      emptied = tt;
-      ok = tt;
-      stays = p.stays;
-      sound = p.sound;
-      violated = refl;
-      root = refl;
-      identity = p.identity;
-      payload = p.stays.payload;
-      goes_on = goes_on_equal (D.trace store) (D.trace after) p.trace;
-      forgeries = p.forgeries;
-      lies = p.lies;
-      vault_grows = omega (arith, p.faults);
-      vault_cause = λ is. absurd (memory_directory is);
-      vault_quiet = p.faults;
-      keeper_grows = omega arith;
-      keeper_cause = λ is. absurd (memory_state is);
-      keeper_quiet = refl;
+      replaces = record {
+        stands = λ kept now s. inl (stands_loaded ShowsFiles M H D R g.K.Keeper files_same g.S.BlocksMut.applied endures old new kept now s p.err p.stays (g.met.S.Blocks.steady.sound_told store s.sound) refl refl (p.sound s.sound));
+        configures = λ may now s. inl (configures_loaded ShowsFiles M H D R g.K.Keeper g.S.BlocksMut.applied endures old new may now s p.err p.stays refl refl);
+        holds = λ told. tt;
+        emptied = tt;
+        ok = tt;
+      };
     }
 
 pub returns : goal.returns
@@ -69,28 +74,35 @@ returns g c =
     let after = new.blobs.tx.store in
     let bytes = c.args.bytes.items in
     let p = c.put_config.ensures in
-    let z = c.sync.ensures in
+    let m = c.sync.ensures.moves in
+    let l = m.leaves in
+    let z = c.sync.ensures.syncs in
     let waits = c.in-Ok.ensures.configures in
     record {
-      ready = z.ready;
-      stands = λ kept now s. z.stands kept now (stands_waiting ShowsFiles M H D R g.K.Keeper files_same old mid kept now s (g.met.S.Blocks.steady.sound_told store s.sound) refl p.identity p.stays refl p.trace (p.sound s.sound));
-      configures = λ may now s. replaced ShowsFiles M H D R g.K.Keeper new may now bytes c.sync.result (z.configures _ bytes (config_waiting ShowsFiles M H D R g.K.Keeper old mid may now bytes s p.stays.told refl refl p.trace waits));
-      holds = λ told. z.holds bytes (p.stays.told ∙ told) waits;
-      emptied = z.emptied;
-      ok = z.ok;
-      stays = stays_on H store mid.blobs.tx.store after p.stays z.stays;
-      sound = λ sound. z.sound (p.sound sound);
-      violated = z.violated;
-      root = z.root;
-      identity = z.identity ∙ p.identity;
-      payload = z.payload ∙ p.stays.payload;
-      goes_on = subst (λ t. GoesOn t (D.trace after)) p.trace z.goes_on;
-      forgeries = z.forgeries ∙ p.forgeries;
-      lies = z.lies ∙ p.lies;
-      vault_grows = omega (arith, z.vault_grows, p.faults);
-      vault_cause = λ is. subst (λ n. RoseBy 1 n (M.faults after)) p.faults (z.vault_cause is);
-      vault_quiet = unless_directory c.sync.result _ _ (λ e. e ∙ p.faults) z.vault_quiet;
-      keeper_grows = z.keeper_grows;
-      keeper_cause = z.keeper_cause;
-      keeper_quiet = z.keeper_quiet;
+      moves = record {
+        ready = m.ready;
+        leaves = record {
+          identity = l.identity ∙ p.identity;
+          stays = stays_on H store mid.blobs.tx.store after p.stays l.stays;
+          sound = λ sound. l.sound (p.sound sound);
+          goes_on = subst (λ t. GoesOn t (D.trace after)) p.trace l.goes_on;
+          forgeries = l.forgeries ∙ p.forgeries;
+          lies = l.lies ∙ p.lies;
+          vault_grows = omega (arith, l.vault_grows, p.faults);
+          vault_cause = λ is. subst (λ n. RoseBy 1 n (M.faults after)) p.faults (l.vault_cause is);
+          vault_quiet = unless_directory c.sync.result _ _ (λ e. e ∙ p.faults) l.vault_quiet;
+          keeper_grows = l.keeper_grows;
+          keeper_cause = l.keeper_cause;
+          keeper_quiet = l.keeper_quiet;
+        };
+        violated = m.violated;
+        root = m.root;
+      };
+      replaces = record {
+        stands = λ kept now s. z.stands kept now (stands_waiting ShowsFiles M H D R g.K.Keeper files_same old mid kept now s (g.met.S.Blocks.steady.sound_told store s.sound) refl p.identity p.stays refl p.trace (p.sound s.sound));
+        configures = λ may now s. replaced ShowsFiles M H D R g.K.Keeper new may now bytes c.sync.result (z.configures _ bytes (config_waiting ShowsFiles M H D R g.K.Keeper old mid may now bytes s p.stays.told refl refl p.trace waits));
+        holds = λ told. z.holds bytes (p.stays.told ∙ told) waits;
+        emptied = z.emptied;
+        ok = z.ok;
+      };
     }

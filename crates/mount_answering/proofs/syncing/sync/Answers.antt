@@ -1,26 +1,49 @@
-use Rattle.std.proofs.Common.{◌≡◌, ℕ, List, false, refl, sym, ◌∙◌, subst}
+use Rattle.std.proofs.Common.{◌≡◌, ℕ, List, false, refl, sym, ◌∙◌, subst, rules}
+use Rattle.store_api.specs.Holdings.{IsFew}
 use Rattle.tree_commands.specs.Showing.{ShowsFiles}
 use Rattle.tree_commands.proofs.Shows.{files_same}
+use Rattle.mount_core.specs.declared.body.Core.{Core}
 use Rattle.mount_answering.proofs.Lines.{map_ok}
 use Rattle.mount_answering.proofs.Synced.{synced, config_synced, saved_ok}
+use Rattle.mount_answering.proofs.syncing.sync.Given.{Over}
 use Rattle.mount_answering.proofs.syncing.sync.Goals as goal
 
-pub returns-clause-stands : goal.returns-clause-stands
-returns-clause-stands g c kept now s =
-    let e = c.sync.ensures in
-    synced ShowsFiles g.S.Blocks.meanings g.S.Blocks.holdings g.S.Durable.durables g.S.Durable.records g.K.Keeper files_same c.args.core.now _ kept now c.sync.result s
-    refl e.identity e.stays.payload (e.stays.content (g.met.S.Blocks.steady.sound_told c.args.core.now.blobs.tx.store s.sound)) (e.sound s.sound)
-    (e.stands (g.S.Blocks.holdings.content c.args.core.now.blobs.tx.store) s.sound s.unmarked (λ id. refl))
+abbrev CoreOf : Over → Type 0
+CoreOf g = Core g.row.S.Denot g.row.K.Denot
 
-pub returns-clause-configures : goal.returns-clause-configures
-returns-clause-configures g c may now s =
-    let e = c.sync.ensures in
-    let store = c.sync.new.store in
-    let present = e.present now s.told s.present in
-    config_synced ShowsFiles g.S.Blocks.meanings g.S.Blocks.holdings g.S.Durable.durables g.S.Durable.records g.K.Keeper c.args.core.now _ may now c.sync.result s e.stays.told present (e.waiting now s.present) (e.configures now s.told s.present)
-    (map_ok c.sync.result _ _ (λ (u : c.sync.new.self.changed ≡ false). subst (λ r. g.S.Durable.records.configures r (g.S.Durable.durables.trace store) now)
-    (g.met.S.Durable.enduring.nothing_waits store (e.whole.none u) ∙ sym {A = List ℕ} (e.whole.last u)) present) e.ok) e.last
-
-pub returns-clause-holds : goal.returns-clause-holds
-returns-clause-holds g c bytes told k =
-    saved_ok g.S.Durable.durables g.S.Durable.records g.K.Keeper c.args.core.now.saver c.sync.new.self c.args.core.now.blobs.tx.store c.sync.new.store bytes c.sync.result (c.sync.ensures.configures bytes told k)
+pub returns : goal.returns
+returns g c =
+    let M = g.S.Blocks.meanings in
+    let H = g.S.Blocks.holdings in
+    let D = g.S.Durable.durables in
+    let R = g.S.Durable.records in
+    let G = g.K.Keeper in
+    let old = c.args.core.now in
+    let a = old.blobs.tx.store in
+    let b = c.sync.new.store in
+    let new : CoreOf g = record old { blobs = record { tx = record old.blobs.tx { store = b } }; saver = c.sync.new.self } in
+    let result = c.sync.result in
+    let m = c.sync.ensures.moves in
+    let e = c.sync.ensures.syncs in
+    let l = m.leaves in
+    record {
+      moves = record {
+        ready = record { intact = m.intact; empty = c.requires.ready.empty; few = subst IsFew (sym l.stays.used) c.requires.ready.few; room = m.room; can_mark = e.can_mark c.requires.ready.can_mark; whole = m.whole };
+        leaves = l;
+        violated = refl;
+        root = refl;
+      };
+      syncs = record {
+        stands = λ kept now s. synced ShowsFiles M H D R G files_same old new kept now result s refl l.identity l.stays.payload (l.stays.content (g.met.S.Blocks.steady.sound_told a s.sound)) (l.sound s.sound)
+            (e.stands (H.content a) s.sound s.unmarked (λ id. refl));
+        configures = λ may now s.
+            let present = m.present now s.told s.present in
+            config_synced ShowsFiles M H D R G old new may now result s l.stays.told present (m.waiting now s.present) (e.configures now s.told s.present)
+            (map_ok result _ _ (λ (u : new.saver.changed ≡ false). subst (λ r. R.configures r (D.trace b) now) (g.met.S.Durable.enduring.nothing_waits b (m.whole.none u) ∙ sym {A = List ℕ} (m.whole.last u)) present) m.ok) e.last;
+        holds = λ bytes told k. saved_ok D R G old.saver new.saver a b bytes result (e.configures bytes told k);
+        emptied = map_ok result _ _ m.whole.kept m.ok;
+        ok = m.ok;
+        unmoved = λ same. let u = e.unchanged same in search rules;
+        wrote = m.wrote;
+      };
+    }

@@ -1,7 +1,27 @@
+use Rattle.std.proofs.Common.{refl, ◌∙◌}
+use Rattle.mount.proofs.Same.{same_mount}
 use Rattle.mount_tower.proofs.Emptied.{emptied_on}
 use Rattle.mount_calls.proofs.serving.sync.Goals as goal
 
-pub returns-clause-emptied : goal.returns-clause-emptied
-returns-clause-emptied g c =
+pub returns : goal.returns
+returns g c =
+    let mount = c.args.mount.now in
     let core = c.sync.new.core in
-    emptied_on g.V.Vault.trace g.V.Vault.faults core.blobs.tx.store (g.K.Keeper.kept core.saver.keeper) c.sync.result c.sync.ensures.ready.intact c.sync.ensures.emptied
+    let r = c.requires.ready in
+    let m = c.sync.ensures.moves in
+    let z = c.sync.ensures.syncs in
+    record {
+      moves = record {
+        ready = record { core = m.ready; salt = r.salt; identity = m.leaves.identity ∙ r.identity; root = m.root ∙ r.root };
+        opened = refl;
+        fresh = m.violated ∙ c.requires.fresh;
+        leaves = m.leaves;
+      };
+      syncs = record {
+        stands = z.stands;
+        configures = z.configures;
+        emptied = emptied_on g.V.Vault.trace g.V.Vault.faults core.blobs.tx.store (g.K.Keeper.kept core.saver.keeper) c.sync.result m.ready.intact z.emptied;
+        ok = z.ok;
+        unmoved = λ unchanged. let u = z.unmoved unchanged in (u.0, same_mount mount (record mount { core = core }) refl u.1);
+      };
+    }

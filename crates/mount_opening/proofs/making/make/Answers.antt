@@ -5,7 +5,7 @@ use Rattle.outside.specs.Causes.{RoseBy}
 use Rattle.outside.specs.Going.{GoesOn, goes_on_equal}
 use Rattle.store_api.specs.Durables.{Identity, last_told}
 use Rattle.tree_commands.specs.Showing.{ShowsFiles}
-use Rattle.mount_core.proofs.Quiet.{unless_directory, memory_directory, memory_state}
+use Rattle.session_saver.proofs.Steps.{unless_directory, memory_directory, memory_state}
 use Rattle.mount_opening.proofs.NewBlock.{fits_one, root_raised, always_ok, on_ok, only_one, made, made_config, fine_ok}
 use Rattle.mount_opening.proofs.making.make.Goals as goal
 
@@ -25,19 +25,23 @@ returns-in-Err g c =
     let p = c.put_config.ensures in
     let trace = g.S.Durable.durables.trace in
     record {
-      stands = λ sound unmarked. inl (refl, λ name. ap (last_told name) p.trace);
-      configures = λ told. inl (refl, λ name. ap (last_told name) p.trace);
-      emptied = tt;
-      versions = tt;
-      intact = p.intact;
-      identity = p.identity;
-      goes_on = goes_on_equal (trace c.args.store) (trace c.put_config.new.self) p.trace;
-      vault_grows = omega (arith, p.faults);
-      vault_cause = λ is. absurd (memory_directory is);
-      vault_quiet = p.faults;
-      keeper_grows = omega arith;
-      keeper_cause = λ is. absurd (memory_state is);
-      keeper_quiet = refl;
+      makes = record {
+        stands = λ sound unmarked. inl (refl, λ name. ap (last_told name) p.trace);
+        configures = λ told. inl (refl, λ name. ap (last_told name) p.trace);
+        emptied = tt;
+        versions = tt;
+        intact = p.intact;
+      };
+      leaves = record {
+        identity = p.identity;
+        goes_on = goes_on_equal (trace c.args.store) (trace c.put_config.new.self) p.trace;
+        vault_grows = omega (arith, p.faults);
+        vault_cause = λ is. absurd (memory_directory is);
+        vault_quiet = p.faults;
+        keeper_grows = omega arith;
+        keeper_cause = λ is. absurd (memory_state is);
+        keeper_quiet = refl;
+      };
     }
 
 pub returns-in-Err-root_batch : goal.returns-in-Err-root_batch
@@ -45,19 +49,23 @@ returns-in-Err-root_batch g c =
     let p = c.put_config.ensures in
     let trace = g.S.Durable.durables.trace in
     record {
-      stands = λ sound unmarked. inl (refl, λ name. ap (last_told name) p.trace);
-      configures = λ told. inl (refl, λ name. ap (last_told name) p.trace);
-      emptied = tt;
-      versions = tt;
-      intact = p.intact;
-      identity = p.identity;
-      goes_on = goes_on_equal (trace c.args.store) (trace c.put_config.new.self) p.trace;
-      vault_grows = omega (arith, p.faults);
-      vault_cause = λ is. absurd (memory_directory is);
-      vault_quiet = p.faults;
-      keeper_grows = omega arith;
-      keeper_cause = λ is. absurd (memory_state is);
-      keeper_quiet = refl;
+      makes = record {
+        stands = λ sound unmarked. inl (refl, λ name. ap (last_told name) p.trace);
+        configures = λ told. inl (refl, λ name. ap (last_told name) p.trace);
+        emptied = tt;
+        versions = tt;
+        intact = p.intact;
+      };
+      leaves = record {
+        identity = p.identity;
+        goes_on = goes_on_equal (trace c.args.store) (trace c.put_config.new.self) p.trace;
+        vault_grows = omega (arith, p.faults);
+        vault_cause = λ is. absurd (memory_directory is);
+        vault_quiet = p.faults;
+        keeper_grows = omega arith;
+        keeper_cause = λ is. absurd (memory_state is);
+        keeper_quiet = refl;
+      };
     }
 
 pub returns-in-Err-apply : goal.returns-in-Err-apply
@@ -71,19 +79,23 @@ returns-in-Err-apply g c =
     let loaded = c.in-Err-apply.ensures.loaded in
     let faults = z.faults ∙ p.faults in
     record {
-      stands = λ sound unmarked. inl (refl, λ name. endures.loaded_last b d name loaded ∙ ap (last_told name) p.trace);
-      configures = λ told. inl (refl, λ name. endures.loaded_last b d name loaded ∙ ap (last_told name) p.trace);
-      emptied = tt;
-      versions = tt;
-      intact = z.intact;
-      identity = endures.loaded_identity b d loaded ∙ p.identity;
-      goes_on = subst (λ t. GoesOn t (trace d)) p.trace (endures.loaded_goes_on b d loaded);
-      vault_grows = omega (arith, faults);
-      vault_cause = λ is. absurd (memory_directory is);
-      vault_quiet = faults;
-      keeper_grows = omega arith;
-      keeper_cause = λ is. absurd (memory_state is);
-      keeper_quiet = refl;
+      makes = record {
+        stands = λ sound unmarked. inl (refl, λ name. endures.loaded_last b d name loaded ∙ ap (last_told name) p.trace);
+        configures = λ told. inl (refl, λ name. endures.loaded_last b d name loaded ∙ ap (last_told name) p.trace);
+        emptied = tt;
+        versions = tt;
+        intact = z.intact;
+      };
+      leaves = record {
+        identity = endures.loaded_identity b d loaded ∙ p.identity;
+        goes_on = subst (λ t. GoesOn t (trace d)) p.trace (endures.loaded_goes_on b d loaded);
+        vault_grows = omega (arith, faults);
+        vault_cause = λ is. absurd (memory_directory is);
+        vault_quiet = faults;
+        keeper_grows = omega arith;
+        keeper_cause = λ is. absurd (memory_state is);
+        keeper_quiet = refl;
+      };
     }
 
 pub returns : goal.returns
@@ -102,32 +114,38 @@ returns g c =
     let puts = c.in-Ok-root_batch.ensures in
     let p = c.put_config.ensures in
     let z = c.apply.ensures in
-    let y = c.sync-result.ensures in
+    let y = c.sync-result.ensures.syncs in
+    let m = c.sync-result.ensures.moves in
+    let l = m.leaves in
     let changed = c.in-Ok-apply.ensures.changed in
     let applied = c.in-Ok-apply.ensures.applied in
     let identity = endures.applied_identity b d batch applied ∙ p.identity in
     let trace = endures.applied_trace b d batch applied ∙ p.trace in
     let faults = z.faults ∙ p.faults in
     record {
-      stands = λ sound unmarked.
-          let told = g.met.S.Blocks.steady.sound_told a sound in
-          let only = only_one (H.content a) (H.content b) (H.content d) batch root puts.bytes puts.one c.requires.none (p.stays.content told) (changed.content (p.stays.told ∙ told)) in
-          let wide : length root ≡ 16 = search rules in
-          let shown = subst (λ n. ShowsFiles n root (H.content d) empty_tree) (c.payload.ensures ∙ p.stays.payload) (puts.shows (H.content d) wide only) in
-          made (ShowsFiles (H.payload a) root) D g.S.Durable.records g.K.Keeper a last _ c.sync-result.new.self d (H.content d) result trace shown (λ f. y.whole.kept (fine_ok result _ f y.ok))
-          (y.stands (H.content d) (changed.sound (p.sound sound)) (ap (λ (i : Identity). i.marked) identity ∙ unmarked) (λ id. refl));
-      configures = λ told.
-          made_config (ShowsFiles (H.payload a) root) D g.S.Durable.records g.K.Keeper a last _ c.sync-result.new.self d c.args.config.items result trace
-          (y.configures c.args.config.items (changed.told ∙ (p.stays.told ∙ told)) (endures.applied_configures b d batch c.args.config.items applied p.intact z.intact c.in-Ok.ensures.configures));
-      emptied = on_ok result _ _ y.whole.kept y.ok;
-      versions = always_ok result _ (root_raised M H a b d last batch root puts.bytes puts.one p.stays changed y.stays);
-      intact = y.intact;
-      identity = y.identity ∙ identity;
-      goes_on = subst (λ t. GoesOn t (D.trace last)) trace y.goes_on;
-      vault_grows = omega (arith, y.vault_grows, faults);
-      vault_cause = λ is. subst (λ n. RoseBy 1 n (M.faults last)) faults (y.vault_cause is);
-      vault_quiet = unless_directory result _ _ (λ e. e ∙ faults) y.vault_quiet;
-      keeper_grows = y.keeper_grows;
-      keeper_cause = y.keeper_cause;
-      keeper_quiet = y.keeper_quiet;
+      makes = record {
+        stands = λ sound unmarked.
+            let told = g.met.S.Blocks.steady.sound_told a sound in
+            let only = only_one (H.content a) (H.content b) (H.content d) batch root puts.bytes puts.one c.requires.none (p.stays.content told) (changed.content (p.stays.told ∙ told)) in
+            let wide : length root ≡ 16 = search rules in
+            let shown = subst (λ n. ShowsFiles n root (H.content d) empty_tree) (c.payload.ensures ∙ p.stays.payload) (puts.shows (H.content d) wide only) in
+            made (ShowsFiles (H.payload a) root) D g.S.Durable.records g.K.Keeper a last _ c.sync-result.new.self d (H.content d) result trace shown (λ f. m.whole.kept (fine_ok result _ f m.ok))
+            (y.stands (H.content d) (changed.sound (p.sound sound)) (ap (λ (i : Identity). i.marked) identity ∙ unmarked) (λ id. refl));
+        configures = λ told.
+            made_config (ShowsFiles (H.payload a) root) D g.S.Durable.records g.K.Keeper a last _ c.sync-result.new.self d c.args.config.items result trace
+            (y.configures c.args.config.items (changed.told ∙ (p.stays.told ∙ told)) (endures.applied_configures b d batch c.args.config.items applied p.intact z.intact c.in-Ok.ensures.configures));
+        emptied = on_ok result _ _ m.whole.kept m.ok;
+        versions = always_ok result _ (root_raised M H a b d last batch root puts.bytes puts.one p.stays changed l.stays);
+        intact = m.intact;
+      };
+      leaves = record {
+        identity = l.identity ∙ identity;
+        goes_on = subst (λ t. GoesOn t (D.trace last)) trace l.goes_on;
+        vault_grows = omega (arith, l.vault_grows, faults);
+        vault_cause = λ is. subst (λ n. RoseBy 1 n (M.faults last)) faults (l.vault_cause is);
+        vault_quiet = unless_directory result _ _ (λ e. e ∙ faults) l.vault_quiet;
+        keeper_grows = l.keeper_grows;
+        keeper_cause = l.keeper_cause;
+        keeper_quiet = l.keeper_quiet;
+      };
     }

@@ -1,6 +1,7 @@
 use Rattle.std.proofs.Common.{◌<◌, true, false, length, inl, refl, sym, ◌∙◌, ap, subst, arith}
 use Rattle.std.specs.declared.option.Option.TheVariants.{Some}
 use Rattle.std.specs.declared.result.Result.TheVariants.{Err}
+use Rattle.outside.specs.Causes.{RoseBy}
 use Rattle.outside.specs.Going.{goes_on_same}
 use Rattle.outside.specs.Writes.{after_writes}
 use Rattle.session_saver.specs.Saving.{RepresentsContent}
@@ -9,8 +10,8 @@ use Rattle.tree_commands.specs.Showing.{ShowsFiles}
 use Rattle.tree_commands.proofs.Shows.{files_same}
 use Rattle.mount_core.specs.declared.body.Core.{Core}
 use Rattle.mount_core.proofs.Moving.{stays_same}
-use Rattle.mount_core.proofs.Quiet.{unless_state}
-use Rattle.mount_opening.proofs.Beginning.{Written, written_at, begun, configured}
+use Rattle.session_saver.proofs.Steps.{unless_state}
+use Rattle.mount_opening.proofs.Beginning.{Written, written_at, begun, cause_of, configured}
 use Rattle.mount_opening.proofs.starting.start.Given.{Over}
 use Rattle.mount_opening.proofs.starting.start.Goals as goal
 use Rattle.mount_opening.proofs.starting.start.Goals.{then-waits+in-Ok-write_waiting, else-waits}
@@ -39,26 +40,29 @@ returns-in-Err-clause-halted g c =
       keeper_grows = omega (arith, c.prepare.ensures.faults);
       vault_quiet = refl;
       keeper_quiet = c.prepare.ensures.faults;
+      cause = tt;
     }
 
 pub returns-in-Err-write_waiting-clause-halted : goal.returns-in-Err-write_waiting-clause-halted
 returns-in-Err-write_waiting-clause-halted g c =
     let D = g.S.Durable.durables in
-    let z = c.write_waiting.ensures in
-    let f = c.in-Err-write_waiting.ensures in
+    let m = c.in-Err-write_waiting.ensures.moves in
+    let z = c.in-Err-write_waiting.ensures.finishes in
+    let l = m.leaves in
     record {
-      identity = z.identity;
-      stands = λ now sound unmarked same. subst (λ i. RepresentsContent g.S.Durable.records i (g.K.Keeper.kept c.write_waiting.new.self.keeper) (D.trace c.write_waiting.new.store) now) z.identity (z.stands now sound unmarked same);
+      identity = l.identity;
+      stands = λ now sound unmarked same. subst (λ i. RepresentsContent g.S.Durable.records i (g.K.Keeper.kept c.write_waiting.new.self.keeper) (D.trace c.write_waiting.new.store) now) l.identity (z.stands now sound unmarked same);
       configures = z.configures;
       keeps = z.keeps;
-      stops = f.stops;
-      goes_on = z.goes_on;
-      forgeries = z.forgeries;
-      lies = z.lies;
-      vault_grows = z.vault_grows;
-      keeper_grows = omega (arith, z.keeper_grows, c.prepare.ensures.faults);
-      vault_quiet = f.vault_quiet;
-      keeper_quiet = unless_state (Err c.in-Err-write_waiting.error) _ _ (λ e. e ∙ c.prepare.ensures.faults) f.keeper_quiet;
+      stops = m.wrote;
+      goes_on = l.goes_on;
+      forgeries = l.forgeries;
+      lies = l.lies;
+      vault_grows = l.vault_grows;
+      keeper_grows = omega (arith, l.keeper_grows, c.prepare.ensures.faults);
+      vault_quiet = l.vault_quiet;
+      keeper_quiet = unless_state (Err c.in-Err-write_waiting.error) _ _ (λ e. e ∙ c.prepare.ensures.faults) l.keeper_quiet;
+      cause = cause_of _ _ _ _ c.in-Err-write_waiting.error l.vault_cause (λ is. subst (λ n. RoseBy 1 n (g.K.Keeper.faults c.write_waiting.new.self.keeper)) c.prepare.ensures.faults (l.keeper_cause is));
     }
 
 written : (g : Over) (c : goal.After-new g) → Written g.S.Blocks.meanings g.S.Blocks.holdings g.S.Durable.durables g.S.Durable.records g.K.Keeper c.args.store c.args.keeper c.if-waits.store c.if-waits.saver
@@ -71,25 +75,26 @@ written g c =
     let old = c.args.store in
     elim c.if-waits.branch [
       | then-waits+in-Ok-write_waiting w ↦
-          let z = w.write_waiting.ensures in
-          let f = w.in-Ok-write_waiting.ensures in
+          let z = w.in-Ok-write_waiting.ensures.finishes in
+          let m = w.in-Ok-write_waiting.ensures.moves in
+          let l = m.leaves in
           written_at M H D R g.K.Keeper old c.args.keeper _ _ _ _ w.store-is w.saver-is
           (record {
-            room = z.room;
+            room = m.room;
             can_mark = z.can_mark;
-            whole = z.whole;
-            unchanged = f.ok;
-            kept = z.whole.kept f.ok ∙ ap Some (sym (z.whole.last f.ok) ∙ f.last);
-            stays = z.stays;
-            sound = z.sound;
-            identity = z.identity;
+            whole = m.whole;
+            unchanged = m.ok;
+            kept = m.whole.kept m.ok ∙ ap Some (sym (m.whole.last m.ok) ∙ z.last);
+            stays = l.stays;
+            sound = l.sound;
+            identity = l.identity;
             represents = λ sound unmarked. z.stands (H.content old) sound unmarked (λ id. refl);
-            present = z.present;
-            writes = f.writes;
-            forgeries = z.forgeries;
-            lies = z.lies;
-            vault_quiet = f.vault_quiet;
-            keeper_quiet = f.keeper_quiet ∙ c.prepare.ensures.faults;
+            present = m.present;
+            writes = m.writes;
+            forgeries = l.forgeries;
+            lies = l.lies;
+            vault_quiet = l.vault_quiet;
+            keeper_quiet = l.keeper_quiet ∙ c.prepare.ensures.faults;
           })
       | else-waits w ↦
           let none = c.requires.waits w.if-waits.false in
@@ -129,27 +134,30 @@ returns g c =
     let core : CoreOf g = record { blobs = record { tx = c.new.result }; saver = c.if-waits.saver; root = c.args.root; violated = false } in
     let w = written_at M H D R g.K.Keeper old c.args.keeper c.if-waits.store core.blobs.tx.store core.saver core.saver c.new.ensures.store refl (written g c) in
     record {
-      ready = record {
-        intact = c.new.ensures.intact.0;
-        empty = c.new.ensures.overlay;
-        few = c.new.ensures.intact.1.few;
-        room = w.room;
-        can_mark = w.can_mark;
-        whole = w.whole;
+      begins = record {
+        ready = record {
+          intact = c.new.ensures.intact.0;
+          empty = c.new.ensures.overlay;
+          few = c.new.ensures.intact.1.few;
+          room = w.room;
+          can_mark = w.can_mark;
+          whole = w.whole;
+        };
+        fresh = refl;
+        unchanged = w.unchanged;
+        root = refl;
+        stands = λ first sound unmarked shown. begun M H D R g.K.Keeper ShowsFiles files_same old c.args.keeper core first (g.met.S.Blocks.steady.sound_told old sound) sound unmarked shown w;
+        configures = λ bytes told h. configured M H D R g.K.Keeper old c.args.keeper core bytes (endures.nothing_waits core.blobs.tx.store) told h w;
+        kept = w.kept;
       };
-      fresh = refl;
-      unchanged = w.unchanged;
-      root = refl;
-      identity = w.identity;
-      stands = λ first sound unmarked shown. begun M H D R g.K.Keeper ShowsFiles files_same old c.args.keeper core first (g.met.S.Blocks.steady.sound_told old sound) sound unmarked shown w;
-      configures = λ bytes told h. configured M H D R g.K.Keeper old c.args.keeper core bytes (endures.nothing_waits core.blobs.tx.store) told h w;
-      kept = w.kept;
-      stays = w.stays;
-      writes = w.writes;
-      forgeries = w.forgeries;
-      lies = w.lies;
-      vault_quiet = w.vault_quiet;
-      keeper_quiet = w.keeper_quiet;
+      leaves = record {
+        identity = w.identity;
+        stays = w.stays;
+        writes = w.writes;
+        forgeries = w.forgeries;
+        lies = w.lies;
+        vault_quiet = w.vault_quiet;
+        keeper_quiet = w.keeper_quiet;
+      };
       halted = tt;
-      cause = tt;
     }

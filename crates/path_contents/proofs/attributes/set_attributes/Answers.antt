@@ -5,7 +5,7 @@ use Rattle.fs_model.specs.Tree.{upward}
 use Rattle.fs_model.specs.Step as model
 use Rattle.tree_rules.specs.Changes.{changed_by}
 use Rattle.path_walks.proofs.Commands.{reached_none, reached_row}
-use Rattle.path_walks.specs.Reaching.{ReachedIs, HasRowMode}
+use Rattle.path_walks.specs.Reaching.{ReachedIs, HaveRowModes}
 use Rattle.path_contents.proofs.attributes.set_attributes.Goals as goal
 
 pub returns-in-Ok-Refused-clause-outcome : goal.returns-in-Ok-Refused-clause-outcome
@@ -16,7 +16,7 @@ returns-in-Ok-Row-clause-outcome g c =
     reached_row Busy c.in-Ok-Row.ensures.outcome (λ t p s. model.unless_root t p (model.attributes_set t p (changed_by c.args.change c.args.now) s)) g.met.B.Blobs.lawful (λ n. subst (ReachedIs n.tree n.ids (upward c.args.names.now) Busy) c.in-Ok-Row.field-0-is) c.set_found.ensures.outcome
 
 pub set_found-requires-clause-mode : goal.set_found-requires-clause-mode
-set_found-requires-clause-mode g c = subst HasRowMode c.in-Ok-Row.field-0-is c.in-Ok-Row.ensures.mode
+set_found-requires-clause-mode g c = (subst HaveRowModes c.in-Ok-Row.field-0-is c.in-Ok-Row.ensures.modes).1
 
 pub returns-in-Err-clause-outcome : goal.returns-in-Err-clause-outcome
 returns-in-Err-clause-outcome g c = passed c.in-Err.ensures.outcome

@@ -14,7 +14,7 @@ use Rattle.path_walks.proofs.Told.{stays, told_as, made}
 use Rattle.path_contents.proofs.Blobs.{blob_at, plain_body}
 use Rattle.path_walks.proofs.Found.{q, is_kind, is_folder_by}
 use Rattle.path_contents.proofs.Found.{setting_by, set_done}
-use Rattle.path_contents.proofs.Files.{touched}
+use Rattle.path_entries.proofs.Touching.{stamped}
 use Rattle.fs_model.proofs.Lengths.{short_enough}
 use Rattle.path_contents.proofs.Steps.{cut_by, unless_long}
 use Rattle.path_contents.proofs.content.truncate_found.Goals as goal
@@ -66,5 +66,5 @@ returns-clause-outcome g c =
     let row = w.is.here.row in
     told_as _ _ Done
     (cut_by w.tree (q w) row now len File (is_kind w File c.in-None.ensures) ∙ unless_long w.tree (q w) row (length row.bytes) len _ false h.1)
-    (set_done w c.in_ok-entry.entry.name (sym c.in_ok-entry.ensures.name) c.in_ok-entry.entry.attr (touched now row.attr) (c.in_ok-entry.ensures.attr ∙ ap (touched now) (sym w.is.here.attr)) (bytes.resized row.bytes len) c.resize_at.new.b r)))
+    (set_done w c.in_ok-entry.entry.name (sym c.in_ok-entry.ensures.name) c.in_ok-entry.entry.attr (stamped now row.attr) (c.in_ok-entry.ensures.attr ∙ ap (stamped now) (sym w.is.here.attr)) (bytes.resized row.bytes len) c.resize_at.new.b r)))
     (λ w y h. h)

@@ -6,7 +6,7 @@ use Rattle.fs_model.specs.declared.error.FsError.TheVariants.{IsDirectory}
 use Rattle.fs_model.specs.Tree.{Row, upward, parent, directory_size}
 use Rattle.fs_model.specs.Step as model
 use Rattle.path_walks.proofs.Commands.{reached_none, reached_row}
-use Rattle.path_walks.specs.Reaching.{ReachedIs, HasRowMode}
+use Rattle.path_walks.specs.Reaching.{ReachedIs, HaveRowModes}
 use Rattle.path_contents.proofs.Spared.{unspent, onward}
 use Rattle.path_walks.proofs.Seeing.{row_finding}
 use Rattle.path_contents.proofs.content.write.Goals as goal
@@ -19,7 +19,7 @@ returns-in-Ok-Row-clause-outcome g c =
     reached_row IsDirectory c.in-Ok-Row.ensures.outcome (λ t p s. model.written t c.args.now p c.args.from c.args.bytes.now s) g.met.B.Blobs.lawful (λ n. subst (ReachedIs n.tree n.ids (upward c.args.names.now) IsDirectory) c.in-Ok-Row.field-0-is) c.write_found.ensures.outcome
 
 pub write_found-requires-clause-mode : goal.write_found-requires-clause-mode
-write_found-requires-clause-mode g c = subst HasRowMode c.in-Ok-Row.field-0-is c.in-Ok-Row.ensures.mode
+write_found-requires-clause-mode g c = (subst HaveRowModes c.in-Ok-Row.field-0-is c.in-Ok-Row.ensures.modes).1
 
 pub returns-in-Err-clause-sparing : goal.returns-in-Err-clause-sparing
 returns-in-Err-clause-sparing g c = λ n s f row there file. unspent g.B.Blobs.holdings c.args.b.now c.reach.new.b _ _ _ _ c.reach.ensures.unchanged

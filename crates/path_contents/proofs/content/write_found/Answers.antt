@@ -16,7 +16,8 @@ use Rattle.path_contents.proofs.Blobs.{blob_at, plain_body}
 use Rattle.path_walks.proofs.Found.{q, is_kind, is_folder_by}
 use Rattle.path_contents.proofs.Found.{setting_by, set_done}
 use Rattle.fs_model.proofs.Lengths.{end_tests, end_fits}
-use Rattle.path_contents.proofs.Files.{touched, written_some}
+use Rattle.path_contents.proofs.Files.{written_some}
+use Rattle.path_entries.proofs.Touching.{stamped}
 use Rattle.path_contents.proofs.Steps.{write_by, write_empty, unless_long}
 use Rattle.path_contents.proofs.Spared.{unspent, onward}
 use Rattle.path_contents.proofs.content.write_found.Goals as goal
@@ -105,7 +106,7 @@ returns-clause-outcome g c =
     ∙ (write_empty w.tree (q w) row now from new false (sym c.is_empty.ensures ∙ c.if-is_empty.false)
     ∙ (unless_long w.tree (q w) row (length row.bytes) (max (length row.bytes) (from + length new)) _ false h.1
     ∙ ap (λ z. model.done (insert w.tree (q w) (model.with_content row now z))) (sym (written_some row.bytes from new (sym c.is_empty.ensures ∙ c.if-is_empty.false))))))
-    (set_done w c.in_ok-entry.entry.name (sym c.in_ok-entry.ensures.name) c.in_ok-entry.entry.attr (touched now row.attr) (c.in_ok-entry.ensures.attr ∙ ap (touched now) (sym w.is.here.attr)) (bytes.written row.bytes from new) c.write_at.new.b r)))
+    (set_done w c.in_ok-entry.entry.name (sym c.in_ok-entry.ensures.name) c.in_ok-entry.entry.attr (stamped now row.attr) (c.in_ok-entry.ensures.attr ∙ ap (stamped now) (sym w.is.here.attr)) (bytes.written row.bytes from new) c.write_at.new.b r)))
     (λ w y h. h)
 
 pub returns-clause-sparing : goal.returns-clause-sparing

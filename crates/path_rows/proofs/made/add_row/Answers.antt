@@ -22,8 +22,8 @@ returns-in_err-insert g c =
     let H = g.B.Blobs.holdings in
     let row : Row = record { attr = c.args.attr; bytes = c.args.bytes.now } in
     let p = err_from_is_err_and c.from_residual-in_err-insert.result c.from_residual-in_err-insert.ensures.1 in
-    let o : Outcome M (Adding H c.args.b.now c.args.dir.now.0 c.args.name.now row) c.args.b.now c.new_blob.new.b (Ok c.in_ok-blob.blob)
-    (λ w id. IsNew H c.new_blob.new.b w.making.map id.0 (blob row.attr.kind c.args.dir.now.0 row.bytes)) =
+    let o : Outcome M (Adding H c.args.b.now c.args.dir.now c.args.name.now row) c.args.b.now c.new_blob.new.b (Ok c.in_ok-blob.blob)
+    (λ w id. IsNew H c.new_blob.new.b w.making.map id.0 (blob row.attr.kind c.args.dir.now.place.blob.0 row.bytes)) =
     first_ (λ w. record { map = w.making.map; stands = w.making.stands }) c.in_ok-blob.ensures (λ w y h. h) in
     rw (p.1, p.2) (failed_ g.met.B.Blobs.lawful o (λ w h. has_room_as w.making w.room h c.in_ok-name.name (sym c.in_ok-name.ensures)) c.in_err-insert.ensures.outcome)
 
@@ -32,10 +32,10 @@ returns g c =
     let M = g.B.Blobs.meanings in
     let H = g.B.Blobs.holdings in
     let row : Row = record { attr = c.args.attr; bytes = c.args.bytes.now } in
-    let o : Outcome M (Adding H c.args.b.now c.args.dir.now.0 c.args.name.now row) c.args.b.now c.new_blob.new.b (Ok c.in_ok-blob.blob)
-    (λ w id. IsNew H c.new_blob.new.b w.making.map id.0 (blob row.attr.kind c.args.dir.now.0 row.bytes)) =
+    let o : Outcome M (Adding H c.args.b.now c.args.dir.now c.args.name.now row) c.args.b.now c.new_blob.new.b (Ok c.in_ok-blob.blob)
+    (λ w id. IsNew H c.new_blob.new.b w.making.map id.0 (blob row.attr.kind c.args.dir.now.place.blob.0 row.bytes)) =
     first_ (λ w. record { map = w.making.map; stands = w.making.stands }) c.in_ok-blob.ensures (λ w y h. h) in
     answered (then_ g.met.B.Blobs.lawful o (λ w h. has_room_as w.making w.room h c.in_ok-name.name (sym c.in_ok-name.ensures)) c.in_ok-insert.ensures.outcome
     (λ w h y k. added w.making w.room h c.insert.new.b
-    (subst (λ z. HasEntries H c.insert.new.b (map1 w.making w.room h) c.args.dir.now.0 (above w.making.ids w.making.path) (put name_cmp z (record { attr = c.args.attr; blob = c.in_ok-blob.blob.0 }) (directory w.making).listing)) c.in_ok-name.ensures k)))
+    (subst (λ z. HasEntries H c.insert.new.b (map1 w.making w.room h) c.args.dir.now.place.blob.0 (above w.making.ids w.making.path) (put name_cmp z (record { attr = c.args.attr; blob = c.in_ok-blob.blob.0 }) (directory w.making).listing)) c.in_ok-name.ensures k)))
     (λ w h. h)

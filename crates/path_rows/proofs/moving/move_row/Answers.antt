@@ -7,7 +7,7 @@ use Rattle.fs_model.specs.Tree.{upward, same_path}
 use Rattle.fs_model.specs.Move.{is_above}
 use Rattle.fs_model.specs.Step as model
 use Rattle.path_walks.proofs.Commands.{reached_none}
-use Rattle.path_walks.specs.Reaching.{ReachedIs, HasRowMode}
+use Rattle.path_walks.specs.Reaching.{ReachedIs, HaveRowModes}
 use Rattle.path_walks.proofs.Told.{stays, told_as}
 use Rattle.path_walks.proofs.Seeing.{on_row}
 use Rattle.path_rows.proofs.OnTheWay.{no_names, not_empty, onward}
@@ -34,7 +34,7 @@ returns-then-is_above-clause-outcome g c =
     let row = subst (ReachedIs n.tree n.ids p Busy) c.in-Ok-Row.field-0-is h.1 in
     stays n.map n.tree n.ids n.shows c.reach.new.b h.0 _ _
     (on_row (λ p s. model.unless_root n.tree p (model.unless_root n.tree q (model.moved_from n.tree c.args.now p q s))) row
-    ∙ from_by n.tree c.args.now (c.in-Ok-Row.name.now ∷ row.above) q row.is.here.row off_root true (ap (λ z. is_above z q) (sym row.split) ∙ (sym c.is_above.ensures ∙ c.if-is_above.true))))
+    ∙ from_by n.tree c.args.now (c.in-Ok-Row.name.now ∷ upward c.in-Ok-Row.dir.names.now) q row.is.here.row off_root true (ap (λ z. is_above z q) (sym row.split) ∙ (sym c.is_above.ensures ∙ c.if-is_above.true))))
 
 pub returns-else-is_above-clause-outcome : goal.returns-else-is_above-clause-outcome
 returns-else-is_above-clause-outcome g c =
@@ -45,17 +45,20 @@ returns-else-is_above-clause-outcome g c =
     then_ g.met.B.Blobs.lawful c.in-Ok-Row.ensures.outcome
     (λ n h.
     let row = subst (ReachedIs n.tree n.ids p Busy) c.in-Ok-Row.field-0-is h.1 in
-    onward n.map h.0 c.args.root.now.0 n.tree n.ids n.shows row.above c.in-Ok-Row.name.now c.in-Ok-Row.dir c.in-Ok-Row.place row.is q (ap (λ z. is_above z q) (sym row.split) ∙ off) off_root
+    onward n.map h.0 c.args.root.now.0 n.tree n.ids n.shows c.in-Ok-Row.name.now c.in-Ok-Row.dir c.in-Ok-Row.place row.is q (ap (λ z. is_above z q) (sym row.split) ∙ off) off_root
     c.same_names-same.result (ap (λ z. same_path z q) (sym row.split) ∙ sym c.same_names-same.ensures))
     c.move_found.ensures.outcome
     (λ n h y r.
     let row = subst (ReachedIs n.tree n.ids p Busy) c.in-Ok-Row.field-0-is h.1 in
     told_as _ _ y
     (on_row (λ p s. model.unless_root n.tree p (model.unless_root n.tree q (model.moved_from n.tree c.args.now p q s))) row
-    ∙ from_by n.tree c.args.now (c.in-Ok-Row.name.now ∷ row.above) q row.is.here.row off_root false (ap (λ z. is_above z q) (sym row.split) ∙ off)) r)
+    ∙ from_by n.tree c.args.now (c.in-Ok-Row.name.now ∷ upward c.in-Ok-Row.dir.names.now) q row.is.here.row off_root false (ap (λ z. is_above z q) (sym row.split) ∙ off)) r)
 
 pub move_found-requires-clause-mode : goal.move_found-requires-clause-mode
-move_found-requires-clause-mode g c = subst HasRowMode c.in-Ok-Row.field-0-is c.in-Ok-Row.ensures.mode
+move_found-requires-clause-mode g c = (subst HaveRowModes c.in-Ok-Row.field-0-is c.in-Ok-Row.ensures.modes).1
+
+pub move_found-requires-clause-dir_mode : goal.move_found-requires-clause-dir_mode
+move_found-requires-clause-dir_mode g c = (subst HaveRowModes c.in-Ok-Row.field-0-is c.in-Ok-Row.ensures.modes).0
 
 pub returns-in-Err-clause-outcome : goal.returns-in-Err-clause-outcome
 returns-in-Err-clause-outcome g c = passed c.in-Err.ensures.outcome

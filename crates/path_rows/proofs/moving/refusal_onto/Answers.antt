@@ -6,7 +6,7 @@ use Rattle.fs_model.specs.declared.attr.Attr.{Attr}
 use Rattle.fs_model.specs.declared.error.FsError.TheVariants.{NotDirectory, IsDirectory, NotEmpty}
 use Rattle.fs_model.specs.Tree.{is_directory}
 use Rattle.fs_model.specs.Step.{refused}
-use Rattle.fs_model.proofs.WellFormedStep.{below_file}
+use Rattle.fs_model.proofs.PutRows.{below_file}
 use Rattle.forest.proofs.Shown.{directory_is}
 use Rattle.path_rows.proofs.Found.{childless}
 use Rattle.path_rows.proofs.Steps.{onto_by}

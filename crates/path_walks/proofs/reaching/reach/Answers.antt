@@ -19,7 +19,7 @@ returns-in-Ok-Found-clause-outcome g c =
     let d = upward c.in-Some.dirs.now in
     answered c.in-Ok-Found.ensures.outcome (λ n h. (
       h.0,
-      record { above = d; split = c.in-Some.ensures; is = found n.tree n.ids d c.in-Some.name.now c.in-Ok-Found.field-0 h.1 c.in-Ok-Found.dir c.in-Ok-Found.place c.in-Ok-Found.field-0-is },
+      record { split = c.in-Some.ensures; is = found n.tree n.ids d c.in-Some.name.now c.in-Ok-Found.field-0 h.1 c.in-Ok-Found.dir c.in-Ok-Found.place c.in-Ok-Found.field-0-is },
     ))
 
 pub returns-in-Ok-Vacant-clause-outcome : goal.returns-in-Ok-Vacant-clause-outcome

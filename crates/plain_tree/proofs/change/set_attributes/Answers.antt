@@ -44,5 +44,5 @@ returns c =
     let row : Row = record { attr = c.in-Ok.row.0; bytes = c.in-Ok.row.1.now } in
     let content = bytes_are (tree.get t p) row c.set-bytes.result.items (get-found t p row c.in-Ok.ensures.found) c.set-bytes.ensures.bytes in
     let twice = set_after t c.set-bytes.new.self c.set.new.self p (record { attr = c.same_attr.result; bytes = c.new-none.result.items }) (record { attr = c.changed-attr.result; bytes = c.set-bytes.result.items }) c.set-bytes.ensures.tree c.set.ensures.tree in
-    attributes_done t c.set.new.self p row (not_root c.args.names.now some) c.in-Ok.ensures.found (changed_by c.args.change c.args.now)
+    attributes_done t c.set.new.self c.args.now p row (not_root c.args.names.now some) c.in-Ok.ensures.found (changed_by c.args.change c.args.now)
     (twice ∙ ap (tree.insert t p) (same_row (record { attr = changed_by c.args.change c.args.now row.attr; bytes = row.bytes }) c.changed-attr.result c.set-bytes.result.items c.changed-attr.ensures content))

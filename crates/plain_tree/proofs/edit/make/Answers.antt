@@ -3,6 +3,7 @@ use Rattle.std.specs.FinMap.{get}
 use Rattle.fs_model.specs.declared.limits.TheConstants.{MAX_ENTRIES}
 use Rattle.fs_model.specs.Tree.{upward, parent, directory_size, entry_size, root_row}
 use Rattle.fs_model.specs.LookUp.{Found, Free}
+use Rattle.fs_model.specs.Step.{touched}
 use Rattle.fs_model.proofs.LookUpLemmas.{look-found}
 use Rattle.tree_rules.proofs.PathLemmas.{not_root}
 use Rattle.row_table.proofs.EditLemmas.{no_names}
@@ -33,7 +34,7 @@ returns-then-size-name_size-gt-MAX_ENTRIES-clause-ok c =
     let n = c.index-names-last.result in
     let some = any_names c.args.names.now c.is_empty.ensures c.if-is_empty.false in
     let passes : MAX_ENTRIES < directory_size t (upward (take (length ns - 1) ns)) + entry_size n = omega (arith, c.size.ensures, c.name_size.ensures.value, c.if-size-name_size-gt-MAX_ENTRIES.true) in
-    made_large t ns n _ some c.index-names-last.is c.in-Free.ensures passes
+    made_large t c.args.now ns n _ some c.index-names-last.is c.in-Free.ensures passes
 
 pub returns-clause-ok : goal.returns-clause-ok
 returns-clause-ok c =
@@ -42,4 +43,4 @@ returns-clause-ok c =
     let n = c.index-names-last.result in
     let some = any_names c.args.names.now c.is_empty.ensures c.if-is_empty.false in
     let fits : directory_size t (upward (take (length ns - 1) ns)) + entry_size n ≤ MAX_ENTRIES = omega (arith, c.size.ensures, c.name_size.ensures.value, c.if-size-name_size-gt-MAX_ENTRIES.false) in
-    made_new t c.insert.new.self ns n _ some c.index-names-last.is c.in-Free.ensures fits c.in_ok-insert.ensures.ok
+    made_new t c.touch_above.new.table c.args.now ns n _ some c.index-names-last.is c.in-Free.ensures fits (c.touch_above.ensures ∙ ap (λ z. touched z c.args.now (parent (upward c.args.names.now))) c.in_ok-insert.ensures.ok)

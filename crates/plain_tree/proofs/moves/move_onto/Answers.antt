@@ -1,7 +1,7 @@
 use Rattle.std.proofs.Common.{sym, ◌∙◌, ap, subst, true, false}
 use Rattle.fs_model.specs.Tree.{upward, is_directory}
 use Rattle.fs_model.proofs.LookUpLemmas.{get-found}
-use Rattle.fs_model.proofs.WellFormedStep.{below_file}
+use Rattle.fs_model.proofs.PutRows.{below_file}
 use Rattle.plain_tree.specs.Answers.{IsAnswer}
 use Rattle.plain_tree.proofs.CarryLemmas.{is_move_found}
 use Rattle.plain_tree.proofs.MoveSteps.{answer_map, kind_of, onto_same, onto_step, onto_directory, onto_full, onto_other, other_onto, childless}

@@ -1,7 +1,7 @@
-use Rattle.std.proofs.Common.{◌<◌, ◌≤◌, arith}
+use Rattle.std.proofs.Common.{◌<◌, ◌≤◌, ◌∙◌, ap, arith}
 use Rattle.fs_model.specs.declared.limits.TheConstants.{MAX_ENTRIES}
 use Rattle.fs_model.specs.Tree.{upward, parent, directory_size}
-use Rattle.fs_model.specs.Step.{moved_tree}
+use Rattle.fs_model.specs.Step.{moved_tree, touched}
 use Rattle.plain_tree.proofs.CarryLemmas.{moved_size}
 use Rattle.plain_tree.proofs.MoveSteps.{large_done, large_refused}
 use Rattle.plain_tree.proofs.moves.relocate.Goals as goal
@@ -36,4 +36,5 @@ returns-clause-ok c = λ row m.
     let q = upward c.args.to.now in
     let size = moved_size t c.args.now p q row c.args.replaces m in
     let fits : directory_size (moved_tree t c.args.now p q row) (parent q) ≤ MAX_ENTRIES = let within = c.if-size-size_left-gt-MAX_ENTRIES.false in omega (arith, c.size_with-size.ensures.value, c.size_left.ensures, size) in
-    large_done t p q c.args.now c.carry.new.table row (c.in_ok-carry.ensures.ok row m) fits
+    large_done t p q c.args.now c.touch_above-2.new.table row
+    (c.touch_above-2.ensures ∙ (ap (λ z. touched z c.args.now (parent q)) c.touch_above.ensures ∙ ap (λ z. touched (touched z c.args.now (parent p)) c.args.now (parent q)) (c.in_ok-carry.ensures.ok row m))) fits

@@ -1,0 +1,94 @@
+-- What a command makes of its session, less the sync before it.
+use Rattle.std.specs.Prelude.{◌≡◌, ◌≢◌, ◌≤◌, ◌+◌, ℕ, true, false, List, length}
+use Rattle.std.specs.FinMap as fin
+use Rattle.fs_model.specs.declared.command.Command.{Command}
+use Rattle.fs_model.specs.declared.reply.Reply.{Reply}
+use Rattle.fs_model.specs.Instant.{Instant}
+use Rattle.fs_model.specs.Tree.{Tree}
+use Rattle.outcome.specs.Meanings.{Meanings}
+use Rattle.outside.specs.Causes.{RoseBy}
+use Rattle.outside.specs.Going.{GoesOn}
+use Rattle.answers.specs.declared.answer.Answer.{Answer}
+use Rattle.answers.specs.declared.answer.Answer.TheVariants.{Refused}
+use Rattle.answers.specs.Sessions.{is_violation, directory_faults, state_faults}
+use Rattle.session_saver.specs.Saving.{World, CanMark, Whole}
+use Rattle.store_api.specs.Content.{Changes}
+use Rattle.store_api.specs.Durables.{Durables}
+use Rattle.store_api.specs.Holdings.{Holdings, Stays, gives_payload}
+use Rattle.tree_commands.specs.Performing.{Showing, IsReplyTo}
+use Rattle.tree_commands.specs.Sparing.{OnWriteInside}
+use Rattle.mount_core.specs.declared.body.Core.{Core}
+use Rattle.mount_core.specs.Answering.{store_of}
+use Rattle.mount_core.specs.Answers.{is_done_answer, is_structure, OnFound, OnReply, OnSpent}
+use Rattle.mount_core.specs.Causes.{OnlyLoaded, SpentCause}
+use Rattle.mount_core.specs.Configuring.{CoreConfigures}
+use Rattle.mount_core.specs.Sparing.{FewRaised}
+use Rattle.mount_core.specs.Standing.{CoreStands, CorePerformed, Unapplied}
+
+-- the keeper is left alone, and the session as it was
+pub record KeepsSaver {S : Type 0} {K : Type 0} (old : Core S K) (answer : Answer) (new : Core S K) : Type 0 where
+  pub keeper : new.saver.keeper ≡ old.saver.keeper
+  pub last : new.saver.last ≡ old.saver.last
+  pub saver : is_done_answer answer ≡ false → new.saver ≡ old.saver
+  pub violated : new.violated ≡ old.violated
+  pub root : new.root ≡ old.root
+
+-- ---- a command
+
+-- the answer names no fault of the keeper, has the form of the command, and is no refusal
+pub record FormAsked (command : Command) (answer : Answer) : Type 0 where
+  pub unfaulted : state_faults answer ≡ 0
+  pub variant : OnReply answer (IsReplyTo command)
+  pub served : answer ≢ Refused
+
+pub record TreesAsked {S : Type 0} {K : Type 0} (shows : Showing) (W : World S K) (moment : Instant) (old : Core S K) (command : Command) (answer : Answer) (new : Core S K) : Type 0 where
+  pub stands : (kept present : Tree) → CoreStands shows W old kept present → W.meanings.forgeries (store_of new) ≤ W.meanings.forgeries (store_of old) → CorePerformed shows W moment new kept present command answer
+  pub configures : (may : List (List ℕ)) (now : List ℕ) → CoreConfigures W.holdings W.durables W.records W.keeper old may now → CoreConfigures W.holdings W.durables W.records W.keeper new may now
+  pub alarm : (kept present : Tree) → CoreStands shows W old kept present → W.meanings.lies (store_of new) ≤ W.meanings.lies (store_of old) → is_violation answer ≡ false
+  pub built : (kept present : Tree) → CoreStands shows W old kept present → W.meanings.forgeries (store_of new) ≤ W.meanings.forgeries (store_of old) → is_structure answer ≡ false
+  pub sparing : (kept present : Tree) → CoreStands shows W old kept present → W.meanings.forgeries (store_of new) ≤ W.meanings.forgeries (store_of old)
+      → OnWriteInside (W.holdings.payload (store_of old)) present command (FewRaised W.holdings (store_of old) (store_of new))
+
+pub record StoreAsked {S : Type 0} (M : Meanings S) (H : Holdings S) (D : Durables S) (a : S) (command : Command) (answer : Answer) (b : S) : Type 0 where
+  pub stays : is_done_answer answer ≡ false → Stays H a b
+  pub identity : D.identity b ≡ D.identity a
+  pub payload : H.payload b ≡ H.payload a
+  pub goes_on : GoesOn (D.trace a) (D.trace b)
+  pub sound : M.sound a → M.forgeries b ≤ M.forgeries a → M.sound b
+  pub forgeries : M.forgeries a ≤ M.forgeries b
+  pub lies : M.lies a ≤ M.lies b
+  pub unforged : M.sound a → M.lies b ≤ M.lies a → M.forgeries b ≤ M.forgeries a
+  pub loads : OnlyLoaded M H D false (is_done_answer answer) a b
+  pub found : OnFound answer (M.met a b)
+  pub vault_grows : M.faults a ≤ M.faults b
+  pub vault_cause : RoseBy (directory_faults answer) (M.faults a) (M.faults b)
+  pub vault_quiet : directory_faults answer ≡ 0 → M.faults b ≡ M.faults a
+  pub spent : OnSpent answer (SpentCause H a command)
+  pub raised : (id : List ℕ) → H.version b id ≤ H.version a id + 1
+
+-- ---- its reply, once its changes are applied
+
+-- of what is kept: the record can be marked, and has room
+pub record CanSettle {S : Type 0} {K : Type 0} (W : World S K) (core : Core S K) : Type 0 where
+  pub room : length core.saver.last.items ≤ W.keeper.room core.saver.keeper
+  pub can_mark : CanMark W.records core.saver
+  pub whole : Whole W.durables W.keeper core.saver (store_of core)
+
+pub record TreesSettled {S : Type 0} {K : Type 0} (shows : Showing) (W : World S K) (old : Core S K) (command : Command) (reply : Reply) (answer : Answer) (new : Core S K) : Type 0 where
+  pub stands : (moment : Instant) (kept now : Tree) → Unapplied shows W moment old kept now command reply → CorePerformed shows W moment new kept now command answer
+  pub configures : (may : List (List ℕ)) (now : List ℕ) → CoreConfigures W.holdings W.durables W.records W.keeper old may now → CoreConfigures W.holdings W.durables W.records W.keeper new may now
+
+pub record StoreSettled {S : Type 0} (M : Meanings S) (H : Holdings S) (D : Durables S) (a : S) (overlay : Changes) (command : Command) (answer : Answer) (b : S) : Type 0 where
+  pub stays : is_done_answer answer ≡ false → Stays H a b
+  pub loaded : is_done_answer answer ≡ false → M.loaded a b
+  pub uncalled : is_done_answer answer ≡ true → D.trace b ≡ D.trace a
+  pub goes_on : GoesOn (D.trace a) (D.trace b)
+  pub sound : M.sound a → M.sound b
+  pub payload : H.payload b ≡ H.payload a
+  pub identity : D.identity b ≡ D.identity a
+  pub forgeries : M.forgeries b ≡ M.forgeries a
+  pub lies : M.lies b ≡ M.lies a
+  pub faults : M.faults b ≡ M.faults a
+  pub spent : OnSpent answer (SpentCause H a command)
+  pub raised : (id : List ℕ) → H.version b id ≤ H.version a id + 1
+  pub rests : (id : List ℕ) → gives_payload (fin.get overlay id) ≡ false → H.version b id ≡ H.version a id

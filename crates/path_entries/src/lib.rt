@@ -1,0 +1,8 @@
+//! A row's entry set in its directory, and directories whose children changed, on the tree that blobs show.
+#![tactic(auto)]
+
+mod entries;
+mod touches;
+
+pub use entries::{set_entry, touched};
+pub use touches::{is_same, touch, touch_both};

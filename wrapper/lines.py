@@ -1,0 +1,231 @@
+"""Lines for a session: typed at a terminal with a prompt, or handed on behind a password from elsewhere."""
+import os
+import select
+import signal
+import sys
+import termios
+
+import running
+import telling
+from passwords import TERMINAL_LINE
+from telling import say
+
+PROMPT = "cryfs> "
+# The program's status where an answer couldn't be written.
+OUTPUT_FAULT = 9
+ENDING = (signal.SIGINT, signal.SIGTERM, signal.SIGHUP)
+BANNER = "type lines: help shows them, exit or Ctrl-D ends. "
+KEPT = "What was answered ok is kept by sync and at the end, also after one Ctrl-C; a second Ctrl-C stops at once"
+NOT_KEPT = "All of it is in memory, and nothing is kept"
+CUT = (f"not taken: a terminal cuts lines of {TERMINAL_LINE} bytes and more without a word. Give long lines by a file or a pipe, "
+       "as docs/USING.md shows")
+
+
+class Interrupted(Exception):
+    """A signal came at the prompt."""
+
+
+class Session:
+    """The program, which answers what is typed line by line. A first signal ends its input, a second one stops it."""
+
+    def __init__(self, program, call, first):
+        self.errors = running.in_memory()
+        given, self.input = running.pipe()
+        self.answers, taken = running.pipe()
+        self.process = running.start(program, call.words(), {0: given, 1: taken, 2: self.errors},
+                                     (signal.SIGINT, signal.SIGHUP))
+        os.close(given)
+        os.close(taken)
+        self.call, self.signals, self.at_prompt = call, [], False
+        self.ended = self.lost = False
+        # What is edited is shown by the file 1; answers go where that was.
+        self.output = os.dup(1)
+        os.dup2(2, 1)
+        for it in ENDING:
+            signal.signal(it, self.heed)
+        if first is not None:
+            # The answer to an empty line, which isn't shown, tells that the file system is open.
+            self.answer(first + b"\n", shown=False)
+
+    def heed(self, number, _):
+        self.signals.append(number)
+        if len(self.signals) > 1:
+            os.kill(self.process, signal.SIGTERM)
+        elif self.at_prompt:
+            raise Interrupted
+
+    def answer(self, lines, shown=True):
+        """Gives lines on whose last one is answered, and passes its answer on to its end."""
+        try:
+            os.write(self.input, lines)
+        except OSError:
+            return self.drain()
+        left, first, piece = 1, True, b""
+        while left > 0:
+            came = self.take()
+            if not came:
+                return None
+            *whole, piece = (piece + came).split(b"\n")
+            if shown:
+                self.show(came)
+            for line in whole:
+                left -= 1
+                if first and line.startswith(b"list ") and line[5:].isdigit():
+                    left += int(line[5:])
+                first = False
+        return None
+
+    def take(self):
+        """What the program answers next; nothing where it ended."""
+        came = b"" if self.ended else os.read(self.answers, 65536)
+        self.ended = not came
+        return came
+
+    def show(self, came):
+        """Passes an answer on. Where nobody takes it the program is told so at its next one."""
+        try:
+            while came:
+                came = came[os.write(self.output, came):]
+        except OSError:
+            os.close(self.answers)
+            self.ended = self.lost = True
+
+    def drain(self):
+        """Passes on what still comes."""
+        while came := self.take():
+            self.show(came)
+
+    def close(self):
+        """Ends the input, passes on what still comes, and ends as the program does."""
+        if self.signals:
+            say("closing; a second interrupt stops it at once")
+        os.close(self.input)
+        self.drain()
+        status = running.wait(self.process)
+        if len(self.signals) > 1 and status == -signal.SIGTERM:
+            status = -self.signals[0]
+        if self.lost and status in (0, -signal.SIGPIPE):
+            status = OUTPUT_FAULT
+            os.write(self.errors, b"cryfs: output fault\n")
+        running.end(status, self.errors, self.call)
+
+
+def typed_line(read):
+    """The next line that is typed, without its newline; None at the end."""
+    typed = b""
+    while not typed.endswith(b"\n"):
+        piece = read()
+        if not piece:
+            return typed or None
+        typed += piece
+    return typed[:-1]
+
+
+def next_line(session, edits):
+    """The next line at the prompt; None where the input or the program ended."""
+    session.at_prompt = True
+    try:
+        if session.signals:
+            return None
+        if edits:
+            return input(PROMPT).encode("utf-8", "surrogateescape")
+        if os.isatty(2):
+            os.write(2, PROMPT.encode())
+        return typed_line(lambda: read_beside(session))
+    except (Interrupted, EOFError, OSError):
+        return None
+    finally:
+        session.at_prompt = False
+
+
+def edits_lines():
+    """Whether lines can be edited, with those before them at hand. These are in memory alone: nothing that was typed is kept."""
+    if os.environ.get("TERM", "dumb") == "dumb" or not os.isatty(2):
+        return False
+    try:
+        import readline
+    except ImportError:
+        return False
+    # (a paste of several lines is several lines)
+    readline.parse_and_bind("set enable-bracketed-paste off")
+    sys.stdin.reconfigure(encoding="utf-8", errors="surrogateescape")
+    give_back_at_stops(readline.get_line_buffer)
+    return True
+
+
+def give_back_at_stops(line):
+    """Has a stop (Ctrl-Z) give the terminal back as it was, and take it again afterwards with the line so far."""
+    before = termios.tcgetattr(0)
+
+    def stop(number, _):
+        edited = termios.tcgetattr(0)
+        termios.tcsetattr(0, termios.TCSADRAIN, before)
+        signal.signal(number, signal.SIG_DFL)
+        os.kill(os.getpid(), number)
+        # Here it goes on.
+        signal.signal(number, stop)
+        termios.tcsetattr(0, termios.TCSADRAIN, edited)
+        os.write(2, os.fsencode(PROMPT + line()))
+
+    signal.signal(signal.SIGTSTP, stop)
+
+
+def read_beside(session):
+    """What is typed; nothing where the program ended meanwhile."""
+    ready = select.select([0, session.answers], [], [])[0]
+    if session.answers in ready:
+        came = session.take()
+        session.show(came)
+        return b"" if session.ended else read_beside(session)
+    return os.read(0, 65536)
+
+
+def run_typed(program, call, first):
+    """A session at a terminal."""
+    session = Session(program, call, first)
+    if not session.ended:
+        say(BANNER + (KEPT if call.takes_password() else NOT_KEPT))
+    edits = edits_lines()
+    while not session.ended and not session.signals:
+        line = next_line(session, edits)
+        if line is None or line.strip() in (b"exit", b"quit"):
+            break
+        if line.strip() == b"help":
+            os.write(2, telling.read_text("lines.txt").encode())
+        elif len(line) >= TERMINAL_LINE:
+            say(CUT)
+        elif line:
+            session.answer(line + b"\n")
+    session.close()
+
+
+def run_behind(program, call, first):
+    """A session whose password comes from elsewhere, and whose lines are the input."""
+    given, into = running.pipe()
+    # Its other end is the program's alone, so that it ends with the program.
+    lives, held = running.pipe()
+    os.set_inheritable(held, True)
+    errors = running.in_memory()
+    process = running.start(program, call.words(), {0: given, 2: errors} if os.isatty(2) else {0: given})
+    os.close(given)
+    os.close(held)
+    for it in (signal.SIGTERM, signal.SIGHUP):
+        signal.signal(it, lambda number, _: os.kill(process, number))
+    signal.signal(signal.SIGINT, signal.SIG_IGN)
+    hand_on(first, into, lives)
+    running.end(running.wait(process), errors, call)
+
+
+def hand_on(first, into, lives):
+    """Puts these bytes and then the input into the pipe, until the input or the program ends."""
+    try:
+        piece = first
+        while piece:
+            while piece:
+                piece = piece[os.write(into, piece):]
+            if lives in select.select([0, lives], [], [])[0]:
+                break
+            piece = os.read(0, 65536)
+    except OSError:
+        pass
+    os.close(into)

@@ -1,0 +1,97 @@
+"""The program as it is run: in this process's place, or below it with its status explained."""
+import os
+import signal
+import sys
+
+import telling
+from passwords import die_of
+from telling import Refused, say
+
+
+def kept_apart(file):
+    """The same file under a number above those of the standard streams."""
+    if file > 2:
+        return file
+    import fcntl
+    higher = fcntl.fcntl(file, fcntl.F_DUPFD_CLOEXEC, 3)
+    os.close(file)
+    return higher
+
+
+def in_memory(given=b""):
+    """A file without a name that holds these bytes, at its start."""
+    file = kept_apart(os.memfd_create("cryfs"))
+    left = memoryview(given)
+    while left:
+        left = left[os.write(file, left):]
+    os.lseek(file, 0, os.SEEK_SET)
+    return file
+
+
+def pipe():
+    ends = os.pipe()
+    return kept_apart(ends[0]), kept_apart(ends[1])
+
+
+def become(program, words, streams, ignored=()):
+    """Puts the program in this process's place, over these files as its streams, and with these signals ignored."""
+    for number, file in streams.items():
+        os.dup2(file, number)
+    # (python ignores these two, and the program would go on ignoring them)
+    for it in (signal.SIGPIPE, signal.SIGXFSZ):
+        signal.signal(it, signal.SIG_DFL)
+    for it in ignored:
+        signal.signal(it, signal.SIG_IGN)
+    try:
+        os.execv(program, [program, *words])
+    except OSError as why:
+        raise Refused(f"the program can't be run: {why}") from None
+
+
+def start(program, words, streams, ignored=()):
+    """The process of the program, begun below this one."""
+    process = os.fork()
+    if process:
+        return process
+    try:
+        become(program, words, streams, ignored)
+    except Refused as why:
+        say(why)
+    finally:
+        os._exit(telling.NOT_RUN)
+
+
+def wait(process):
+    """The status of a process, negative for a signal."""
+    status = os.waitpid(process, 0)[1]
+    return -os.WTERMSIG(status) if os.WIFSIGNALED(status) else os.WEXITSTATUS(status)
+
+
+def run_explained(program, call, given):
+    """Runs the program below this process, where a person sees its errors, and says what its status means."""
+    errors = in_memory()
+    streams = {2: errors} if given is None else {0: in_memory(given), 2: errors}
+    process = start(program, call.words(), streams)
+    # An interrupt reaches both by the terminal; what is sent to this process alone is handed on.
+    for it in (signal.SIGINT, signal.SIGQUIT):
+        signal.signal(it, signal.SIG_IGN)
+    for it in (signal.SIGTERM, signal.SIGHUP):
+        signal.signal(it, lambda number, _: os.kill(process, number))
+    end(wait(process), errors, call)
+
+
+def end(status, errors, call):
+    """Prints what the program said, what its status means, and ends as it did."""
+    os.lseek(errors, 0, os.SEEK_SET)
+    said = os.read(errors, 65536)
+    if said:
+        os.write(2, said)
+    if os.isatty(2):
+        text = os.fsdecode(said).strip().rpartition("cryfs: ")[2]
+        for why in telling.meanings(status, text, call.command) if status else []:
+            say(why)
+        if not status and call.command == "create":
+            say(telling.STATE_MATTERS)
+    if status < 0:
+        die_of(-status)
+    sys.exit(status if status >= 0 else 128 - status)

@@ -1,0 +1,61 @@
+"""What the wrapper tells a person: why it refuses, what a status means, and its help."""
+import os
+
+HERE = os.path.dirname(os.path.abspath(__file__))
+USAGE = 1
+# What the wrapper ends with where the program wasn't run; the program's own statuses are 0 to 10.
+NOT_RUN = 125
+# What a new file system's owner has to know first.
+STATE_MATTERS = ("Without STATE nothing opens, password or not. Copy it after each run that writes, to another trusted place; "
+                 "an older copy doesn't open newer blocks.")
+
+
+class Refused(Exception):
+    """Why the program isn't run."""
+
+    def __init__(self, why, status=NOT_RUN):
+        super().__init__(why)
+        self.status = status
+
+
+def say(text):
+    """A line to standard error, which may be closed or full."""
+    try:
+        os.write(2, os.fsencode(f"cryfs: {text}\n"))
+    except OSError:
+        pass
+
+
+def read_text(name):
+    with open(f"{HERE}/{name}", encoding="utf-8") as file:
+        return file.read()
+
+
+def status_rows():
+    """The table of statuses: the number, the program's text, the cause, what to do."""
+    lines = [line for line in read_text("statuses.txt").splitlines() if line and not line.startswith("#")]
+    return [tuple(cell.strip() for cell in line.split("|")) for line in lines]
+
+
+def meanings(status, text, command):
+    """What the table says of a status and the text that the program printed, in a line for each cause."""
+    rows = [row for row in status_rows() if row[0] == str(status) and row[1] in ("", text)]
+    rows = [row for row in rows if not row[2].startswith("`") or row[2].split("`")[1] in (command, "cryfs.config")]
+    return [f"{'or ' if number else ''}{cause}: {remedy}" for number, (_, _, cause, remedy) in enumerate(rows)]
+
+
+def status_help():
+    """The table as help prints it: each status, then its causes."""
+    import textwrap
+    lines, last = ["Statuses, their likely causes, and what to do:"], None
+    for number, text, cause, remedy in status_rows():
+        if (number, text) != last and text:
+            lines.append(f"    {number:<6}{text}")
+        start = " " * 12 if text else f"    {number:<6}"
+        lines += textwrap.wrap(f"{cause}: {remedy}", 116, initial_indent=start, subsequent_indent=" " * 16)
+        last = number, text
+    return "\n".join(lines) + "\n"
+
+
+def help_text():
+    return read_text("help.txt") + "Lines:\n" + read_text("lines.txt") + "\n" + status_help()

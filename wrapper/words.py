@@ -1,0 +1,135 @@
+"""What the words of a call ask for, and why some are refused before anything is run."""
+import os
+
+from telling import USAGE, Refused
+
+LINES = ("ls", "stat", "mkdir", "rmdir", "mkfile", "rm", "mv", "symlink", "readlink", "write", "read", "truncate", "chmod", "chown",
+         "utime", "sync")
+COMMANDS = ("create", "info", "passwd", "shell", "generate", "trial", *LINES)
+CREATE_OPTIONS = ("--blocksize", "--scrypt-n", "--scrypt-r", "--scrypt-p")
+PASSWORD_OPTIONS = ("--password-file", "--password-command")
+RECORD = "cryfs.localstate"
+
+
+class Call:
+    """A call: the two folders, the command and its words, and where the password comes from."""
+
+    def __init__(self, words, environment):
+        self.source = None
+        left = self.take_options(list(words))
+        self.blocks, self.state, self.rest = split_folders(left, environment)
+        self.command = self.rest[0]
+        check_command(self.rest)
+        if self.source and not self.takes_password():
+            raise Refused(f"{self.command} takes no password", USAGE)
+
+    def take_options(self, words):
+        """The words after those that say where the password comes from."""
+        while words and words[0].startswith("--"):
+            name, mark, value = words.pop(0).partition("=")
+            if name not in PASSWORD_OPTIONS:
+                raise Refused(f"no option {name}: see cryfs --help", USAGE)
+            if not mark and not words:
+                raise Refused(f"{name} needs a word after it", USAGE)
+            if self.source:
+                raise Refused("the password comes from one place: one of --password-file and --password-command, once", USAGE)
+            self.source = name, value if mark else words.pop(0)
+        return words
+
+    def takes_password(self):
+        return self.command != "trial"
+
+    def takes_lines(self):
+        """Whether it answers lines of its input."""
+        return self.command == "shell" or self.rest == ["trial"]
+
+    def words(self):
+        return [self.blocks, self.state, *self.rest]
+
+    def check_folders(self):
+        """Refuses folders that would give the record to whoever holds the blocks, and a record that isn't there."""
+        if not self.takes_password():
+            return
+        for inner, outer, what in ((self.state, self.blocks, "STATE lies in BLOCKS"), (self.blocks, self.state, "BLOCKS lies in STATE")):
+            if same_folder(inner, outer):
+                raise Refused(f"STATE and BLOCKS are one folder, {real(outer)}: who holds the blocks could change the record. "
+                              "Name another STATE, which stays on this machine")
+            if lies_within(inner, outer):
+                raise Refused(f"{what}: {real(inner)} is below {real(outer)}. Name two folders of which none holds the other; "
+                              "STATE stays on this machine")
+        if self.command != "create" and not os.path.lexists(os.path.join(self.state, RECORD)):
+            raise Refused(f"no record of a file system in STATE, {real(self.state)}: name the right folder, or bring back its last copy; "
+                          "only create makes one")
+
+
+def split_folders(words, environment):
+    """The folders and what follows them. Both stand in the environment where the first word is a command."""
+    blocks, state = environment.get("CRYFS_BLOCKS"), environment.get("CRYFS_STATE")
+    if words and words[0] in COMMANDS and (blocks or state):
+        if not (blocks and state):
+            raise Refused("CRYFS_BLOCKS and CRYFS_STATE are set both or none", USAGE)
+        return blocks, state, words
+    if len(words) < 3:
+        raise Refused("the words are BLOCKS STATE COMMAND: see cryfs --help", USAGE)
+    if not words[0] or not words[1]:
+        raise Refused("a folder's name is empty: the words are BLOCKS STATE COMMAND", USAGE)
+    return words[0], words[1], words[2:]
+
+
+def is_number(text, digits):
+    return text.isascii() and text.isdigit() and len(text) <= digits
+
+
+def check_command(words):
+    """Refuses words that the program would call `usage`, but for numbers out of their range."""
+    command, more = words[0], words[1:]
+    if command not in COMMANDS:
+        raise Refused(f"no command {command!r}: see cryfs --help", USAGE)
+    if command == "create":
+        check_create(more)
+    if command in ("info", "passwd", "shell") and more:
+        raise Refused(f"{command} takes no more words", USAGE)
+    if command == "generate":
+        check_count(more, "generate N")
+    if command == "trial" and more:
+        check_count(more[1:] if more[0] == "generate" else [], "trial, or trial generate N")
+
+
+def check_count(words, form):
+    """Refuses what isn't one number of so few digits."""
+    if len(words) != 1 or not is_number(words[0], 7):
+        raise Refused(f"the words are {form}, with an N of 1 to 7 digits", USAGE)
+
+
+def check_create(words):
+    """Refuses options of `create` that it doesn't have."""
+    left = list(words)
+    while left:
+        name, mark, value = left.pop(0).partition("=")
+        if name not in CREATE_OPTIONS:
+            raise Refused(f"create has no option {name!r}: see cryfs --help", USAGE)
+        if not mark and left:
+            value = left.pop(0)
+        if not is_number(value, 20):
+            raise Refused(f"{name} needs a number after it", USAGE)
+
+
+def real(path):
+    return os.path.realpath(path)
+
+
+def same_folder(one, other):
+    try:
+        return os.path.samefile(one, other)
+    except OSError:
+        return real(one) == real(other)
+
+
+def lies_within(inner, outer):
+    """Whether a folder is below another, by real paths and by what the system takes for one folder."""
+    above = os.path.dirname(real(inner))
+    while not same_folder(above, outer):
+        if above == os.path.dirname(above):
+            return False
+        above = os.path.dirname(above)
+    return True
