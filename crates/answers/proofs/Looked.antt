@@ -50,20 +50,20 @@ fair_told t (Found row) = stays t (Info row.attr (length row.bytes))
 fair_told t Free = fair_refused t _
 fair_told t (Bad e) = fair_refused t _
 
-fair_made : (t : Tree) (p : Path) (row : Row) (s : LookedUp) → IsFair t (made t p row s)
-fair_made t p row (Found old) = fair_refused t _
-fair_made t p row Free = fair_cond t _ _ _ (fair_refused t _) (changes t _)
-fair_made t p row (Bad e) = fair_refused t _
+fair_made : (t : Tree) (now : Instant) (p : Path) (row : Row) (s : LookedUp) → IsFair t (made t now p row s)
+fair_made t now p row (Found old) = fair_refused t _
+fair_made t now p row Free = fair_cond t _ _ _ (fair_refused t _) (changes t _)
+fair_made t now p row (Bad e) = fair_refused t _
 
-fair_removed_directory : (t : Tree) (p : Path) (s : LookedUp) → IsFair t (removed_directory t p s)
-fair_removed_directory t p (Found row) = fair_cond t _ _ _ (fair_cond t _ _ _ (fair_refused t _) (changes t _)) (fair_refused t _)
-fair_removed_directory t p Free = fair_refused t _
-fair_removed_directory t p (Bad e) = fair_refused t _
+fair_removed_directory : (t : Tree) (now : Instant) (p : Path) (s : LookedUp) → IsFair t (removed_directory t now p s)
+fair_removed_directory t now p (Found row) = fair_cond t _ _ _ (fair_cond t _ _ _ (fair_refused t _) (changes t _)) (fair_refused t _)
+fair_removed_directory t now p Free = fair_refused t _
+fair_removed_directory t now p (Bad e) = fair_refused t _
 
-fair_removed_file : (t : Tree) (p : Path) (s : LookedUp) → IsFair t (removed_file t p s)
-fair_removed_file t p (Found row) = fair_cond t _ _ _ (fair_refused t _) (changes t _)
-fair_removed_file t p Free = fair_refused t _
-fair_removed_file t p (Bad e) = fair_refused t _
+fair_removed_file : (t : Tree) (now : Instant) (p : Path) (s : LookedUp) → IsFair t (removed_file t now p s)
+fair_removed_file t now p (Found row) = fair_cond t _ _ _ (fair_refused t _) (changes t _)
+fair_removed_file t now p Free = fair_refused t _
+fair_removed_file t now p (Bad e) = fair_refused t _
 
 fair_target_read : (t : Tree) (s : LookedUp) → IsFair t (target_read t s)
 fair_target_read t (Found row) = fair_kind t row.attr.kind _ _ _ (fair_refused t NotLink) (fair_refused t NotLink) (stays t (Target row.bytes))
@@ -96,8 +96,8 @@ fair_attributes t p change (Bad e) = fair_refused t _
 fair_unless_root : (t : Tree) (p : Path) (s : Stepped) → IsFair t s → IsFair t (unless_root t p s)
 fair_unless_root t p s h = fair_cond t (is_root p) _ _ (fair_refused t _) h
 
-fair_large : (t : Tree) (q : Path) (next : Tree) → IsFair t (moved_unless_large t q next)
-fair_large t q next = fair_cond t (nat_lt MAX_ENTRIES (directory_size next (parent q))) _ _ (fair_refused t _) (changes t _)
+fair_large : (t : Tree) (now : Instant) (p q : Path) (next : Tree) → IsFair t (moved_unless_large t now p q next)
+fair_large t now p q next = fair_cond t (nat_lt MAX_ENTRIES (directory_size next (parent q))) _ _ (fair_refused t _) (changes t _)
 
 fair_onto : (t : Tree) (q : Path) (a b : Bool) (s : Stepped) → IsFair t s → IsFair t (moved_onto t q a b s)
 fair_onto t q true true s h = fair_cond t _ _ _ (fair_refused t _) h
@@ -106,8 +106,8 @@ fair_onto t q false true s h = fair_refused t _
 fair_onto t q false false s h = h
 
 fair_to : (t : Tree) (now : Instant) (p q : Path) (row : Row) (s : LookedUp) → IsFair t (moved_to t now p q row s)
-fair_to t now p q row (Found old) = fair_cond t _ _ _ (changes t _) (fair_onto t q (is_directory row.attr.kind) (is_directory old.attr.kind) _ (fair_large t q (moved_tree t now p q row)))
-fair_to t now p q row Free = fair_large t q (moved_tree t now p q row)
+fair_to t now p q row (Found old) = fair_cond t _ _ _ (changes t _) (fair_onto t q (is_directory row.attr.kind) (is_directory old.attr.kind) _ (fair_large t now p q (moved_tree t now p q row)))
+fair_to t now p q row Free = fair_large t now p q (moved_tree t now p q row)
 fair_to t now p q row (Bad e) = fair_refused t _
 
 fair_from : (t : Tree) (now : Instant) (p q : Path) (s : LookedUp) → IsFair t (moved_from t now p q s)
@@ -118,13 +118,13 @@ fair_from t now p q (Bad e) = fair_refused t _
 fair_step : (t : Tree) (now : Instant) (c : Command) → IsFair t (step t now c)
 fair_step t now (command.List p) = fair_listed t (upward p) (look t (upward p))
 fair_step t now (command.Stat p) = fair_told t (look t (upward p))
-fair_step t now (command.Mkdir p) = fair_made t (upward p) (new_row Directory DIRECTORY_MODE now []) (look t (upward p))
-fair_step t now (command.Rmdir p) = fair_unless_root t (upward p) _ (fair_removed_directory t (upward p) (look t (upward p)))
-fair_step t now (command.Mkfile p) = fair_made t (upward p) (new_row File FILE_MODE now []) (look t (upward p))
-fair_step t now (command.Rm p) = fair_unless_root t (upward p) _ (fair_removed_file t (upward p) (look t (upward p)))
+fair_step t now (command.Mkdir p) = fair_made t now (upward p) (new_row Directory DIRECTORY_MODE now []) (look t (upward p))
+fair_step t now (command.Rmdir p) = fair_unless_root t (upward p) _ (fair_removed_directory t now (upward p) (look t (upward p)))
+fair_step t now (command.Mkfile p) = fair_made t now (upward p) (new_row File FILE_MODE now []) (look t (upward p))
+fair_step t now (command.Rm p) = fair_unless_root t (upward p) _ (fair_removed_file t now (upward p) (look t (upward p)))
 fair_step t now (command.Mv p q) =
     fair_unless_root t (upward p) _ (fair_unless_root t (upward q) _ (fair_from t now (upward p) (upward q) (look t (upward p))))
-fair_step t now (command.Symlink target p) = fair_made t (upward p) (new_row Link LINK_MODE now target) (look t (upward p))
+fair_step t now (command.Symlink target p) = fair_made t now (upward p) (new_row Link LINK_MODE now target) (look t (upward p))
 fair_step t now (command.Readlink p) = fair_target_read t (look t (upward p))
 fair_step t now (command.Write p from bytes) = fair_written t now (upward p) from bytes (look t (upward p))
 fair_step t now (command.Read p from count) = fair_content_read t from count (look t (upward p))
