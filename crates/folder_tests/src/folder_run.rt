@@ -2,6 +2,7 @@
 use crate::counted_flushes::CountedFlushes;
 use crate::folders::{fresh_folder, holds, remove_folder, saves};
 use block_id::BlockId;
+use call_log::CallLog;
 use outside::{FileName, Keeper, Vault};
 use real_folders::{FolderKeeper, FolderRun, FolderVault};
 use std::alloc::Global;
@@ -63,7 +64,7 @@ fn fails_in_a_run(
 ) -> Result<bool, Fail> {
     let blocks = Path::new(folder).join(alloc, "blocks")?;
     let run = FolderRun::new(alloc, 1)?;
-    let mut vault = FolderVault::new(host, blocks.as_str(), &run);
+    let mut vault = FolderVault::new(host, blocks.as_str(), &run, CallLog::new());
     let mut keeper = FolderKeeper::new(alloc, host, folder, &run)?;
     Ok(fails_with(alloc, &mut vault, &mut keeper, host.left, flushes))
 }
@@ -119,7 +120,7 @@ fn flushes_each_file_and_folder_once(rt: HostRuntime) -> Result<(), Fail> {
     let left = Cell::new(0);
     let host = CountedFlushes::new(rt, &left);
     let run = FolderRun::new(rt.alloc(), 1)?;
-    let mut vault = FolderVault::new(&host, blocks.as_str(), &run);
+    let mut vault = FolderVault::new(&host, blocks.as_str(), &run, CallLog::new());
     let mut keeper = FolderKeeper::new(rt.alloc(), &host, folder.as_str(), &run)?;
     assert!(rt; flushes_once(rt.alloc(), &mut vault, &mut keeper, &left));
     remove_folder(&rt, folder.as_str())
@@ -134,7 +135,7 @@ fn saves_a_mark_without_the_blocks(rt: HostRuntime) -> Result<(), Fail> {
     let left = Cell::new(0);
     let host = CountedFlushes::new(rt, &left);
     let run = FolderRun::new(rt.alloc(), 1)?;
-    let mut vault = FolderVault::new(&host, blocks.as_str(), &run);
+    let mut vault = FolderVault::new(&host, blocks.as_str(), &run, CallLog::new());
     let mut keeper = FolderKeeper::new(rt.alloc(), &host, folder.as_str(), &run)?;
     assert!(rt; saves_the_mark(rt.alloc(), &mut vault, &mut keeper, &left));
     assert!(rt; holds(&rt, folder.as_str(), "cryfs.localstate", MARKED));
@@ -148,7 +149,7 @@ fn saves_nothing_over_another_block_folder(rt: HostRuntime) -> Result<(), Fail> 
     let blocks = folder.join(rt.alloc(), "blocks")?;
     let away = folder.join(rt.alloc(), "away")?;
     let run = FolderRun::new(rt.alloc(), 1)?;
-    let mut vault = FolderVault::new(rt, blocks.as_str(), &run);
+    let mut vault = FolderVault::new(rt, blocks.as_str(), &run, CallLog::new());
     let mut keeper = FolderKeeper::new(rt.alloc(), rt, folder.as_str(), &run)?;
     assert!(rt; puts_two(rt.alloc(), &mut vault));
     fs::rename(&rt, blocks.as_path(), away.as_path())?;

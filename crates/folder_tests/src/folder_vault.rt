@@ -4,6 +4,7 @@ use crate::folders::{
     fresh_folder, holds, is_absent, links, makes_folder, remove_folder, two_runs, writes,
 };
 use block_id::BlockId;
+use call_log::CallLog;
 use outside::{FileName, GetFail, Vault};
 use real_folders::{FolderRun, FolderVault};
 use std::alloc::Global;
@@ -168,7 +169,7 @@ fn keeps_files_under_their_names(rt: HostRuntime) -> Result<(), Fail> {
     let folder = fresh_folder(&rt, "names")?;
     let path = folder.as_str();
     let run = FolderRun::new(rt.alloc(), 1)?;
-    let mut vault = FolderVault::new(rt, path, &run);
+    let mut vault = FolderVault::new(rt, path, &run, CallLog::new());
     assert!(rt; places_config(&rt, &mut vault, path));
     assert!(rt; places_block(&rt, &mut vault, path));
     expect_cuts(&rt, rt.alloc(), &mut vault);
@@ -180,7 +181,7 @@ fn removes_a_file_once_or_more(rt: HostRuntime) -> Result<(), Fail> {
     let folder = fresh_folder(&rt, "removed")?;
     let path = folder.as_str();
     let run = FolderRun::new(rt.alloc(), 1)?;
-    let mut vault = FolderVault::new(rt, path, &run);
+    let mut vault = FolderVault::new(rt, path, &run, CallLog::new());
     assert!(rt; removes(rt.alloc(), &mut vault));
     assert!(rt; is_absent(&rt, path, ONE_PATH));
     remove_folder(&rt, path)
@@ -191,7 +192,7 @@ fn fails_where_something_else_lies(rt: HostRuntime) -> Result<(), Fail> {
     let folder = fresh_folder(&rt, "others")?;
     let path = folder.as_str();
     let run = FolderRun::new(rt.alloc(), 1)?;
-    let mut vault = FolderVault::new(rt, path, &run);
+    let mut vault = FolderVault::new(rt, path, &run, CallLog::new());
     assert!(rt; fails_at_a_folder(&rt, &mut vault, path));
     assert!(rt; fails_at_a_file(&rt, &mut vault, path));
     remove_folder(&rt, path)
@@ -202,7 +203,7 @@ fn replaces_only_its_own_file_beside(rt: HostRuntime) -> Result<(), Fail> {
     let folder = fresh_folder(&rt, "stopped")?;
     let path = folder.as_str();
     let run = FolderRun::new(rt.alloc(), 1)?;
-    let mut vault = FolderVault::new(rt, path, &run);
+    let mut vault = FolderVault::new(rt, path, &run, CallLog::new());
     assert!(rt; keeps_the_first(&rt, &mut vault, path));
     assert!(rt; keeps_the_second(&rt, &mut vault, path));
     remove_folder(&rt, path)
@@ -215,7 +216,7 @@ fn follows_no_link(rt: HostRuntime) -> Result<(), Fail> {
     assert!(rt; makes_folder(&rt, path, "000"));
     assert!(rt; writes(&rt, path, "other", "other"));
     let run = FolderRun::new(rt.alloc(), 1)?;
-    let mut vault = FolderVault::new(rt, path, &run);
+    let mut vault = FolderVault::new(rt, path, &run, CallLog::new());
     assert!(rt; replaces_a_link(&rt, &mut vault, path));
     assert!(rt; fails_at_a_link(&rt, &mut vault, path));
     assert!(rt; holds(&rt, path, "other", "other"));
@@ -228,8 +229,8 @@ fn serves_one_run_at_a_time(rt: HostRuntime) -> Result<(), Fail> {
     let path = folder.as_str();
     assert!(rt; makes_folder(&rt, path, ""));
     let runs = two_runs(rt.alloc())?;
-    let first = FolderVault::new(rt, path, &runs[0]);
-    let mut second = FolderVault::new(rt, path, &runs[1]);
+    let first = FolderVault::new(rt, path, &runs[0], CallLog::new());
+    let mut second = FolderVault::new(rt, path, &runs[1], CallLog::new());
     assert!(rt; excludes(rt.alloc(), first, &mut second));
     assert!(rt; gives(rt.alloc(), &mut second, &FileName::Config, 9, "first"));
     remove_folder(&rt, path)
@@ -242,7 +243,7 @@ fn uses_no_other_folder_at_its_path(rt: HostRuntime) -> Result<(), Fail> {
     let away = fresh_folder(&rt, "away")?;
     let path = folder.as_str();
     let run = FolderRun::new(rt.alloc(), 1)?;
-    let mut vault = FolderVault::new(rt, path, &run);
+    let mut vault = FolderVault::new(rt, path, &run, CallLog::new());
     assert!(rt; puts(rt.alloc(), &mut vault, &ONE, "block"));
     fs::rename(&rt, path, away.as_path())?;
     assert!(rt; fails(rt.alloc(), &mut vault, &ONE) && is_absent(&rt, path, ""));
@@ -265,13 +266,13 @@ fn writes_through_no_link_of_a_folder(rt: HostRuntime) -> Result<(), Fail> {
     assert!(rt; links(&rt, path, "blocks/000", "../other"));
     let blocks = folder.join(rt.alloc(), "blocks")?;
     let run = FolderRun::new(rt.alloc(), 1)?;
-    let mut vault = FolderVault::new(rt, blocks.as_str(), &run);
+    let mut vault = FolderVault::new(rt, blocks.as_str(), &run, CallLog::new());
     assert!(rt; vault.put(rt.alloc(), &ONE, b"block") == Err(GetFail::Failed));
     fs::remove_dir(&rt, folder.join(rt.alloc(), "other")?.as_path())?;
     let file = folder.join(rt.alloc(), "file")?;
     assert!(rt; writes(&rt, path, "file", "no folder"));
     let run = FolderRun::new(rt.alloc(), 2)?;
-    let mut vault = FolderVault::new(rt, file.as_str(), &run);
+    let mut vault = FolderVault::new(rt, file.as_str(), &run, CallLog::new());
     assert!(rt; fails(rt.alloc(), &mut vault, &ONE));
     remove_folder(&rt, path)
 }
@@ -282,8 +283,8 @@ fn makes_the_folder_in_one_run(rt: HostRuntime) -> Result<(), Fail> {
     let folder = fresh_folder(&rt, "made")?;
     let path = folder.as_str();
     let runs = two_runs(rt.alloc())?;
-    let first = FolderVault::new(rt, path, &runs[0]);
-    let mut second = FolderVault::new(rt, path, &runs[1]);
+    let first = FolderVault::new(rt, path, &runs[0], CallLog::new());
+    let mut second = FolderVault::new(rt, path, &runs[1], CallLog::new());
     assert!(rt; makes_it_alone(rt.alloc(), first, &mut second));
     assert!(rt; fails(rt.alloc(), &mut second, &FileName::Config));
     assert!(rt; holds(&rt, path, "cryfs.config", "first"));
@@ -297,7 +298,7 @@ fn flushes_the_configuration(rt: HostRuntime) -> Result<(), Fail> {
     let path = folder.as_str();
     let left = Cell::new(0);
     let run = FolderRun::new(rt.alloc(), 1)?;
-    let mut vault = FolderVault::new(CountedFlushes::new(rt, &left), path, &run);
+    let mut vault = FolderVault::new(CountedFlushes::new(rt, &left), path, &run, CallLog::new());
     assert_eq!(rt; broken(&rt, &mut vault, &left, path), None);
     assert!(rt; needs(rt.alloc(), &mut vault, &left, 2));
     remove_folder(&rt, path)

@@ -1,6 +1,10 @@
 // What the system gives the program.
+ghost use Rattle.std.specs.Prelude.{◌≡◌, IfOk};
+ghost use Rattle.real_folders.specs.FolderLog.{calls_of};
+
 use crate::record_use::uses_record;
 use crate::streams::hold_closed;
+use call_log::CallLog;
 use fs_model::Moment;
 use outside::Memory;
 use rand_chacha::ChaCha20Rng;
@@ -65,13 +69,18 @@ impl Inputs {
         Ok((inputs, chance))
     }
 
-    /// The block folder.
-    pub fn vault(&self, rt: &HostRuntime) -> FolderVault<'_, HostRuntime> {
-        FolderVault::new(*rt, &self.blocks, &self.folders)
+    /// The block folder, after the calls of this log.
+    pub fn vault(&self, rt: &HostRuntime, log: CallLog) -> FolderVault<'_, HostRuntime>
+        ensures calls { result.calls ≡ calls_of log.events }
+        ensures none { result.faults ≡ 0 }
+    {
+        FolderVault::new(*rt, &self.blocks, &self.folders, log)
     }
 
     /// The record in the state folder, whose file is read only where the words need it.
-    pub fn make_keeper(&self, rt: &HostRuntime) -> Result<FolderKeeper<'_, HostRuntime>, Memory> {
+    pub fn make_keeper(&self, rt: &HostRuntime) -> Result<FolderKeeper<'_, HostRuntime>, Memory>
+        ensures { IfOk result (λ keeper. keeper.faults ≡ 0) }
+    {
         if uses_record(rt.alloc(), &self.words)? {
             FolderKeeper::new(rt.alloc(), *rt, &self.state, &self.folders)
         } else {
