@@ -1,6 +1,6 @@
 // What a run flushes as it puts a block, and before it saves a record.
 use crate::counted_flushes::CountedFlushes;
-use crate::folders::{fresh_folder, holds, remove_folder, saves};
+use crate::folders::{fresh_folder, holds, is_absent, remove_folder, saves, two_runs};
 use block_id::BlockId;
 use call_log::CallLog;
 use outside::{FileName, Keeper, Vault};
@@ -157,4 +157,64 @@ fn saves_nothing_over_another_block_folder(rt: HostRuntime) -> Result<(), Fail> 
     assert!(rt; !saves(rt.alloc(), &mut keeper, UNMARKED));
     assert!(rt; saves(rt.alloc(), &mut keeper, MARKED));
     remove_folder(&rt, folder.as_str())
+}
+
+/// A run that finds no block folder, whose record lies in this folder beside it.
+#[derive(Drop)]
+struct NewRun<'a> {
+    vault: FolderVault<'a, HostRuntime>,
+    keeper: FolderKeeper<'a, HostRuntime>,
+}
+
+impl<'a> NewRun<'a> {
+    fn new(
+        rt: &HostRuntime,
+        blocks: &'a str,
+        state: &str,
+        run: &'a FolderRun,
+    ) -> Result<NewRun<'a>, Fail> {
+        Ok(NewRun {
+            vault: FolderVault::new(*rt, blocks, run, CallLog::new()),
+            keeper: FolderKeeper::new(rt.alloc(), *rt, state, run)?,
+        })
+    }
+
+    /// Whether there is no configuration, and no record.
+    fn finds_none(&mut self, alloc: Global) -> bool {
+        matches!(self.vault.get(alloc, &FileName::Config, 9), Ok(None))
+            && matches!(self.keeper.load(alloc), Ok(None))
+    }
+
+    fn saves_and_puts(&mut self, alloc: Global, text: &str) -> bool {
+        saves(alloc, &mut self.keeper, UNMARKED) && self.puts(alloc, text)
+    }
+
+    fn puts(&mut self, alloc: Global, text: &str) -> bool {
+        self.vault
+            .put(alloc, &FileName::Config, text.as_bytes())
+            .is_ok()
+    }
+}
+
+/// Of two runs that found no block folder the one that saves first makes it, and the other keeps nothing of what it would put there.
+#[test]
+fn claims_the_block_folder_before_a_record_is_saved(rt: HostRuntime) -> Result<(), Fail> {
+    let folder = fresh_folder(&rt, "claimed")?;
+    let path = folder.as_str();
+    let blocks = folder.join(rt.alloc(), "blocks")?;
+    let states = [
+        folder.join(rt.alloc(), "one")?,
+        folder.join(rt.alloc(), "two")?,
+    ];
+    let runs = two_runs(rt.alloc())?;
+    fs::create_dir(&rt, path)?;
+    let mut first = NewRun::new(&rt, blocks.as_str(), states[0].as_str(), &runs[0])?;
+    let mut second = NewRun::new(&rt, blocks.as_str(), states[1].as_str(), &runs[1])?;
+    assert!(rt; first.finds_none(rt.alloc()) && second.finds_none(rt.alloc()));
+    assert!(rt; first.saves_and_puts(rt.alloc(), "first"));
+    assert!(rt; !saves(rt.alloc(), &mut second.keeper, UNMARKED));
+    assert!(rt; is_absent(&rt, states[1].as_str(), "cryfs.localstate"));
+    assert!(rt; !second.puts(rt.alloc(), "second"));
+    assert!(rt; holds(&rt, blocks.as_str(), "cryfs.config", "first"));
+    remove_folder(&rt, path)
 }
