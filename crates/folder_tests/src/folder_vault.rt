@@ -108,10 +108,11 @@ fn replaces_a_link<V: Vault>(rt: &HostRuntime, vault: &mut V, folder: &str) -> b
         && holds(rt, folder, "cryfs.config", "config")
 }
 
-/// Whether a put fails where a link lies in place of the block's file.
+/// Whether a put and a get fail where a link lies in place of the block's file.
 fn fails_at_a_link<V: Vault>(rt: &HostRuntime, vault: &mut V, folder: &str) -> bool {
     links(rt, folder, ONE_PATH, "../other")
         && vault.put(rt.alloc(), &ONE, b"block") == Err(GetFail::Failed)
+        && vault.get(rt.alloc(), &ONE, 9).err() == Some(GetFail::Failed)
 }
 
 /// Whether the second run fails while the first, which ends here, has the folder.
@@ -267,7 +268,7 @@ fn writes_through_no_link_of_a_folder(rt: HostRuntime) -> Result<(), Fail> {
     let blocks = folder.join(rt.alloc(), "blocks")?;
     let run = FolderRun::new(rt.alloc(), 1)?;
     let mut vault = FolderVault::new(rt, blocks.as_str(), &run, CallLog::new());
-    assert!(rt; vault.put(rt.alloc(), &ONE, b"block") == Err(GetFail::Failed));
+    assert!(rt; fails(rt.alloc(), &mut vault, &ONE));
     fs::remove_dir(&rt, folder.join(rt.alloc(), "other")?.as_path())?;
     let file = folder.join(rt.alloc(), "file")?;
     assert!(rt; writes(&rt, path, "file", "no folder"));
@@ -301,5 +302,25 @@ fn flushes_the_configuration(rt: HostRuntime) -> Result<(), Fail> {
     let mut vault = FolderVault::new(CountedFlushes::new(rt, &left), path, &run, CallLog::new());
     assert_eq!(rt; broken(&rt, &mut vault, &left, path), None);
     assert!(rt; needs(rt.alloc(), &mut vault, &left, 2));
+    remove_folder(&rt, path)
+}
+
+/// A file of somebody else that was linked under a block's name keeps its bytes.
+#[test]
+fn writes_through_no_second_name(rt: HostRuntime) -> Result<(), Fail> {
+    let folder = fresh_folder(&rt, "second_name")?;
+    let path = folder.as_str();
+    assert!(rt; makes_folder(&rt, path, "000") && writes(&rt, path, "other", "other"));
+    let other = folder.join(rt.alloc(), "other")?;
+    fs::hard_link(
+        &rt,
+        other.as_path(),
+        folder.join(rt.alloc(), ONE_PATH)?.as_path(),
+    )?;
+    let run = FolderRun::new(rt.alloc(), 1)?;
+    let mut vault = FolderVault::new(rt, path, &run, CallLog::new());
+    assert!(rt; vault.put(rt.alloc(), &ONE, b"bk") == Err(GetFail::Failed));
+    assert!(rt; holds(&rt, path, "other", "other"));
+    assert!(rt; gives(rt.alloc(), &mut vault, &ONE, 9, "other"));
     remove_folder(&rt, path)
 }
