@@ -69,7 +69,8 @@ fn fails_in_a_run(
     Ok(fails_with(alloc, &mut vault, &mut keeper, host.left, flushes))
 }
 
-/// Whether each file is flushed as it is put, and each folder by the first save after its change alone.
+/// Whether each file is flushed as it is put, each folder by the first save after its change alone, and the names of the two folders
+/// that the run was given by its first.
 fn flushes_once<V: Vault, K: Keeper>(
     alloc: Global,
     vault: &mut V,
@@ -77,7 +78,7 @@ fn flushes_once<V: Vault, K: Keeper>(
     left: &Cell<u32>,
 ) -> bool {
     flushes_as_it_puts(alloc, vault, left)
-        && needs(alloc, keeper, left, 5)
+        && needs(alloc, keeper, left, 7)
         && needs(alloc, keeper, left, 2)
         && vault.remove(alloc, &ONE).is_ok()
         && needs(alloc, keeper, left, 4)
@@ -96,14 +97,14 @@ fn saves_the_mark<V: Vault, K: Keeper>(
     failed && saves(alloc, keeper, MARKED) && left.get() == 0
 }
 
-/// Of the folders of two files and the block folder each has to be flushed.
+/// Of the folders of two files, the block folder and the one that it lies in each has to be flushed.
 #[test]
 fn saves_only_after_blocks_are_flushed(rt: HostRuntime) -> Result<(), Fail> {
     let folder = fresh_folder(&rt, "unflushed")?;
     let path = folder.as_str();
     let left = Cell::new(0);
     let host = CountedFlushes::new(rt, &left);
-    for flushes in 0..3 {
+    for flushes in 0..4 {
         let failed = fails_in_a_run(rt.alloc(), &host, path, flushes)?;
         let kept = holds(&rt, path, "cryfs.localstate", "old");
         assert!(rt; failed && kept, "with {flushes}");

@@ -1,5 +1,5 @@
 // The folder of the local record as a run holds it.
-use crate::files::{if_there, make_new_folder, numbers, open_or_create};
+use crate::files::{flush_name, if_there, make_new_folder, numbers, open_or_create};
 use crate::lock::Lock;
 use std::fs::{self, Files, OpenFile};
 use std::io;
@@ -13,6 +13,8 @@ pub struct StateFolder<R: Files> {
     /// The numbers of the folder that is held.
     held: Option<(u64, u64)>,
     was_missing: bool,
+    /// Whether the folder's own name is flushed.
+    is_named: bool,
 }
 
 impl<R: Files + Drop> StateFolder<R>
@@ -26,6 +28,7 @@ where
             folder: None,
             held: None,
             was_missing: false,
+            is_named: false,
         }
     }
 
@@ -74,5 +77,14 @@ where
         } else {
             Err(io::Error::other("the folder is another one now"))
         }
+    }
+
+    /// Flushes the folder's own name, once in a run: the run that made it may have been stopped before it did.
+    pub fn flush_name(&mut self, files: &R, folder: Path<'_>) -> io::Result<()> {
+        if !self.is_named {
+            flush_name(files, folder)?;
+            self.is_named = true;
+        }
+        Ok(())
     }
 }
