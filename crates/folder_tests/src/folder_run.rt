@@ -55,22 +55,35 @@ fn fails_with<V: Vault, K: Keeper>(
     began && failed && !saves(alloc, keeper, "new")
 }
 
-/// The same in a run of its own, with blocks in a folder of this one.
+/// The same in a run of its own, with blocks in a new folder of this one.
 fn fails_in_a_run(
     alloc: Global,
     host: &CountedFlushes<'_>,
     folder: &str,
     flushes: u32,
 ) -> Result<bool, Fail> {
-    let blocks = Path::new(folder).join(alloc, "blocks")?;
+    let name = format!(in alloc; "blocks{flushes}")?;
+    let blocks = Path::new(folder).join(alloc, name.as_str())?;
     let run = FolderRun::new(alloc, 1)?;
     let mut vault = FolderVault::new(host, blocks.as_str(), &run, CallLog::new());
     let mut keeper = FolderKeeper::new(alloc, host, folder, &run)?;
     Ok(fails_with(alloc, &mut vault, &mut keeper, host.left, flushes))
 }
 
+/// Whether a save flushes the record alone, also after files that were there are put anew.
+fn flushes_no_name_again<V: Vault, K: Keeper>(
+    alloc: Global,
+    vault: &mut V,
+    keeper: &mut K,
+    left: &Cell<u32>,
+) -> bool {
+    let alone = needs(alloc, keeper, left, 2);
+    left.set(2);
+    alone && puts_two(alloc, vault) && needs(alloc, keeper, left, 2)
+}
+
 /// Whether each file is flushed as it is put, each folder by the first save after its change alone, and the names of the two folders
-/// that the run was given by its first.
+/// that the run was given by its first. A put that failed may have made its file, so the two folders are flushed for it and the next.
 fn flushes_once<V: Vault, K: Keeper>(
     alloc: Global,
     vault: &mut V,
@@ -78,8 +91,8 @@ fn flushes_once<V: Vault, K: Keeper>(
     left: &Cell<u32>,
 ) -> bool {
     flushes_as_it_puts(alloc, vault, left)
-        && needs(alloc, keeper, left, 7)
-        && needs(alloc, keeper, left, 2)
+        && needs(alloc, keeper, left, 9)
+        && flushes_no_name_again(alloc, vault, keeper, left)
         && vault.remove(alloc, &ONE).is_ok()
         && needs(alloc, keeper, left, 4)
 }
