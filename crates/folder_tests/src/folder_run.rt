@@ -94,7 +94,7 @@ fn flushes_once<V: Vault, K: Keeper>(
         && needs(alloc, keeper, left, 9)
         && flushes_no_name_again(alloc, vault, keeper, left)
         && vault.remove(alloc, &ONE).is_ok()
-        && needs(alloc, keeper, left, 4)
+        && needs(alloc, keeper, left, 3)
 }
 
 /// Whether a record isn't saved where names of blocks can't be flushed, and with the mark it is.

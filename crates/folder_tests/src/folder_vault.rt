@@ -184,7 +184,7 @@ fn removes_a_file_once_or_more(rt: HostRuntime) -> Result<(), Fail> {
     let run = FolderRun::new(rt.alloc(), 1)?;
     let mut vault = FolderVault::new(rt, path, &run, CallLog::new());
     assert!(rt; removes(rt.alloc(), &mut vault));
-    assert!(rt; is_absent(&rt, path, ONE_PATH));
+    assert!(rt; is_absent(&rt, path, "000"));
     remove_folder(&rt, path)
 }
 
