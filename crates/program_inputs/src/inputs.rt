@@ -11,6 +11,7 @@ use rand_chacha::ChaCha20Rng;
 use rand_core::Rng;
 use real_folders::{FolderKeeper, FolderRun, FolderVault};
 use run_status::Status;
+use std::alloc::Global;
 use std::env;
 use std::fs::File;
 use std::io::ErrorKind;
@@ -55,18 +56,37 @@ impl Inputs {
         let Ok(mut chance) = rand::make_rng::<ChaCha20Rng, HostRuntime>(rt) else {
             return Err(Status::InputFault);
         };
-        let Ok(folders) = FolderRun::new(rt.alloc(), chance.next_u64()) else {
-            return Err(Status::Memory);
-        };
-        let inputs = Inputs {
+        let number = chance.next_u64();
+        match Inputs::new(rt.alloc(), blocks, state, words, now, number) {
+            Ok(inputs) => Ok((inputs.holding(closed), chance)),
+            Err(Memory) => Err(Status::Memory),
+        }
+    }
+
+    /// These folders, words and moment, of a run that no other run shares this number with.
+    pub fn new(
+        alloc: Global,
+        blocks: String,
+        state: String,
+        words: Vec<String>,
+        now: Moment,
+        number: u64,
+    ) -> Result<Inputs, Memory>
+        ensures words { IfOk result (λ inputs. inputs.words ≡ words) }
+        ensures now { IfOk result (λ inputs. inputs.now ≡ now) }
+    {
+        Ok(Inputs {
             blocks,
             state,
-            folders,
-            closed,
+            folders: FolderRun::new(alloc, number)?,
+            closed: [None, None, None],
             words,
             now,
-        };
-        Ok((inputs, chance))
+        })
+    }
+
+    fn holding(self, closed: [Option<File>; 3]) -> Inputs {
+        Inputs { closed, ..self }
     }
 
     /// The block folder, after the calls of this log.
