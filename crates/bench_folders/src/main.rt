@@ -3,6 +3,7 @@
 #![tactic(auto)]
 
 use block_id::BlockId;
+use call_log::CallLog;
 use outside::{FileName, GetFail, Keeper, Vault};
 use real_folders::{FolderKeeper, FolderRun, FolderVault};
 use std::alloc::Global;
@@ -38,7 +39,7 @@ fn save<K: Keeper>(alloc: Global, keeper: &mut K) -> Result<(), GetFail> {
 fn work(rt: HostRuntime, blocks: &str, state: &str, count: u64) -> Result<(), GetFail> {
     let alloc = rt.alloc();
     let run = FolderRun::new(alloc, 1).map_err(|_| GetFail::Memory)?;
-    let mut vault = FolderVault::new(rt, blocks, &run);
+    let mut vault = FolderVault::new(rt, blocks, &run, CallLog::new());
     let mut keeper = FolderKeeper::new(alloc, rt, state, &run).map_err(|_| GetFail::Memory)?;
     put_blocks(alloc, &mut vault, count)?;
     save(alloc, &mut keeper)

@@ -1,6 +1,7 @@
 //! The program: what the system gives it, and the real streams.
 #![tactic(auto)]
 
+use call_log::{ByteLog, CallLog};
 use cryfs_shell::{Status, run};
 use program_inputs::Inputs;
 use real_streams::{ReaderSource, WriterSink};
@@ -21,8 +22,8 @@ fn run_words(rt: &HostRuntime) -> Status {
         inputs.words.as_slice(),
         inputs.now,
         &mut ReaderSource::new(rt.reader()),
-        &mut WriterSink::new(io::writer(rt)),
-        inputs.vault(rt),
+        &mut WriterSink::new(io::writer(rt), ByteLog::new()),
+        inputs.vault(rt, CallLog::new()),
         keeper,
         &mut chance,
     );

@@ -7,6 +7,7 @@ use outside::{GetFail, Keeper};
 use real_folders::{FolderKeeper, FolderRun};
 use std::alloc::Global;
 use std::cell::Cell;
+use std::fs;
 use std::test::Fail;
 
 /// What a stopped run leaves beside the record.
@@ -157,5 +158,37 @@ fn looks_at_no_record_where_none_is_used(rt: HostRuntime) -> Result<(), Fail> {
     assert!(rt; saves_the_first(&rt, first, path));
     let mut second = FolderKeeper::unread(rt.alloc(), rt, path, &run)?;
     assert!(rt; fails_to_load(rt.alloc(), &mut second));
+    remove_folder(&rt, path)
+}
+
+/// Its drive was taken away in mid-session, and the record stays as it was there.
+#[test]
+fn saves_into_no_other_folder_at_its_path(rt: HostRuntime) -> Result<(), Fail> {
+    let folder = fresh_folder(&rt, "other_state")?;
+    let away = fresh_folder(&rt, "state_away")?;
+    let path = folder.as_str();
+    let run = FolderRun::new(rt.alloc(), 1)?;
+    let mut keeper = FolderKeeper::new(rt.alloc(), rt, path, &run)?;
+    assert!(rt; saves(rt.alloc(), &mut keeper, "record"));
+    fs::rename(&rt, path, away.as_path())?;
+    assert!(rt; fails(rt.alloc(), &mut keeper) && is_absent(&rt, path, ""));
+    assert!(rt; makes_folder(&rt, path, "") && fails(rt.alloc(), &mut keeper));
+    assert!(rt; is_absent(&rt, path, "cryfs.localstate") && is_absent(&rt, path, "cryfs.lock"));
+    remove_folder(&rt, path)?;
+    fs::rename(&rt, away.as_path(), path)?;
+    assert!(rt; gives(rt.alloc(), &mut keeper, "record"));
+    remove_folder(&rt, path)
+}
+
+/// A load makes nothing, and what another run made since isn't used.
+#[test]
+fn makes_its_folder_by_a_save_alone(rt: HostRuntime) -> Result<(), Fail> {
+    let folder = fresh_folder(&rt, "made_state")?;
+    let path = folder.as_str();
+    let run = FolderRun::new(rt.alloc(), 1)?;
+    let mut keeper = FolderKeeper::new(rt.alloc(), rt, path, &run)?;
+    assert!(rt; gives_none(rt.alloc(), &mut keeper) && is_absent(&rt, path, ""));
+    assert!(rt; makes_folder(&rt, path, "") && fails(rt.alloc(), &mut keeper));
+    assert!(rt; is_absent(&rt, path, "cryfs.localstate") && is_absent(&rt, path, "cryfs.lock"));
     remove_folder(&rt, path)
 }

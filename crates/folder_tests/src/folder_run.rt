@@ -1,7 +1,8 @@
 // What a run flushes as it puts a block, and before it saves a record.
 use crate::counted_flushes::CountedFlushes;
-use crate::folders::{fresh_folder, holds, remove_folder, saves};
+use crate::folders::{fresh_folder, holds, is_absent, remove_folder, saves, two_runs};
 use block_id::BlockId;
+use call_log::CallLog;
 use outside::{FileName, Keeper, Vault};
 use real_folders::{FolderKeeper, FolderRun, FolderVault};
 use std::alloc::Global;
@@ -54,21 +55,35 @@ fn fails_with<V: Vault, K: Keeper>(
     began && failed && !saves(alloc, keeper, "new")
 }
 
-/// The same in a run of its own, with blocks in a folder of this one.
+/// The same in a run of its own, with blocks in a new folder of this one.
 fn fails_in_a_run(
     alloc: Global,
     host: &CountedFlushes<'_>,
     folder: &str,
     flushes: u32,
 ) -> Result<bool, Fail> {
-    let blocks = Path::new(folder).join(alloc, "blocks")?;
+    let name = format!(in alloc; "blocks{flushes}")?;
+    let blocks = Path::new(folder).join(alloc, name.as_str())?;
     let run = FolderRun::new(alloc, 1)?;
-    let mut vault = FolderVault::new(host, blocks.as_str(), &run);
+    let mut vault = FolderVault::new(host, blocks.as_str(), &run, CallLog::new());
     let mut keeper = FolderKeeper::new(alloc, host, folder, &run)?;
     Ok(fails_with(alloc, &mut vault, &mut keeper, host.left, flushes))
 }
 
-/// Whether each file is flushed as it is put, and each folder by the first save after its change alone.
+/// Whether a save flushes the record alone, also after files that were there are put anew.
+fn flushes_no_name_again<V: Vault, K: Keeper>(
+    alloc: Global,
+    vault: &mut V,
+    keeper: &mut K,
+    left: &Cell<u32>,
+) -> bool {
+    let alone = needs(alloc, keeper, left, 2);
+    left.set(2);
+    alone && puts_two(alloc, vault) && needs(alloc, keeper, left, 2)
+}
+
+/// Whether each file is flushed as it is put, each folder by the first save after its change alone, and the names of the two folders
+/// that the run was given by its first. A put that failed may have made its file, so the two folders are flushed for it and the next.
 fn flushes_once<V: Vault, K: Keeper>(
     alloc: Global,
     vault: &mut V,
@@ -76,10 +91,10 @@ fn flushes_once<V: Vault, K: Keeper>(
     left: &Cell<u32>,
 ) -> bool {
     flushes_as_it_puts(alloc, vault, left)
-        && needs(alloc, keeper, left, 5)
-        && needs(alloc, keeper, left, 2)
+        && needs(alloc, keeper, left, 9)
+        && flushes_no_name_again(alloc, vault, keeper, left)
         && vault.remove(alloc, &ONE).is_ok()
-        && needs(alloc, keeper, left, 4)
+        && needs(alloc, keeper, left, 3)
 }
 
 /// Whether a record isn't saved where names of blocks can't be flushed, and with the mark it is.
@@ -95,14 +110,14 @@ fn saves_the_mark<V: Vault, K: Keeper>(
     failed && saves(alloc, keeper, MARKED) && left.get() == 0
 }
 
-/// Of the folders of two files and the block folder each has to be flushed.
+/// Of the folders of two files, the block folder and the one that it lies in each has to be flushed.
 #[test]
 fn saves_only_after_blocks_are_flushed(rt: HostRuntime) -> Result<(), Fail> {
     let folder = fresh_folder(&rt, "unflushed")?;
     let path = folder.as_str();
     let left = Cell::new(0);
     let host = CountedFlushes::new(rt, &left);
-    for flushes in 0..3 {
+    for flushes in 0..4 {
         let failed = fails_in_a_run(rt.alloc(), &host, path, flushes)?;
         let kept = holds(&rt, path, "cryfs.localstate", "old");
         assert!(rt; failed && kept, "with {flushes}");
@@ -119,7 +134,7 @@ fn flushes_each_file_and_folder_once(rt: HostRuntime) -> Result<(), Fail> {
     let left = Cell::new(0);
     let host = CountedFlushes::new(rt, &left);
     let run = FolderRun::new(rt.alloc(), 1)?;
-    let mut vault = FolderVault::new(&host, blocks.as_str(), &run);
+    let mut vault = FolderVault::new(&host, blocks.as_str(), &run, CallLog::new());
     let mut keeper = FolderKeeper::new(rt.alloc(), &host, folder.as_str(), &run)?;
     assert!(rt; flushes_once(rt.alloc(), &mut vault, &mut keeper, &left));
     remove_folder(&rt, folder.as_str())
@@ -134,7 +149,7 @@ fn saves_a_mark_without_the_blocks(rt: HostRuntime) -> Result<(), Fail> {
     let left = Cell::new(0);
     let host = CountedFlushes::new(rt, &left);
     let run = FolderRun::new(rt.alloc(), 1)?;
-    let mut vault = FolderVault::new(&host, blocks.as_str(), &run);
+    let mut vault = FolderVault::new(&host, blocks.as_str(), &run, CallLog::new());
     let mut keeper = FolderKeeper::new(rt.alloc(), &host, folder.as_str(), &run)?;
     assert!(rt; saves_the_mark(rt.alloc(), &mut vault, &mut keeper, &left));
     assert!(rt; holds(&rt, folder.as_str(), "cryfs.localstate", MARKED));
@@ -148,7 +163,7 @@ fn saves_nothing_over_another_block_folder(rt: HostRuntime) -> Result<(), Fail> 
     let blocks = folder.join(rt.alloc(), "blocks")?;
     let away = folder.join(rt.alloc(), "away")?;
     let run = FolderRun::new(rt.alloc(), 1)?;
-    let mut vault = FolderVault::new(rt, blocks.as_str(), &run);
+    let mut vault = FolderVault::new(rt, blocks.as_str(), &run, CallLog::new());
     let mut keeper = FolderKeeper::new(rt.alloc(), rt, folder.as_str(), &run)?;
     assert!(rt; puts_two(rt.alloc(), &mut vault));
     fs::rename(&rt, blocks.as_path(), away.as_path())?;
@@ -156,4 +171,64 @@ fn saves_nothing_over_another_block_folder(rt: HostRuntime) -> Result<(), Fail> 
     assert!(rt; !saves(rt.alloc(), &mut keeper, UNMARKED));
     assert!(rt; saves(rt.alloc(), &mut keeper, MARKED));
     remove_folder(&rt, folder.as_str())
+}
+
+/// A run that finds no block folder, whose record lies in this folder beside it.
+#[derive(Drop)]
+struct NewRun<'a> {
+    vault: FolderVault<'a, HostRuntime>,
+    keeper: FolderKeeper<'a, HostRuntime>,
+}
+
+impl<'a> NewRun<'a> {
+    fn new(
+        rt: &HostRuntime,
+        blocks: &'a str,
+        state: &str,
+        run: &'a FolderRun,
+    ) -> Result<NewRun<'a>, Fail> {
+        Ok(NewRun {
+            vault: FolderVault::new(*rt, blocks, run, CallLog::new()),
+            keeper: FolderKeeper::new(rt.alloc(), *rt, state, run)?,
+        })
+    }
+
+    /// Whether there is no configuration, and no record.
+    fn finds_none(&mut self, alloc: Global) -> bool {
+        matches!(self.vault.get(alloc, &FileName::Config, 9), Ok(None))
+            && matches!(self.keeper.load(alloc), Ok(None))
+    }
+
+    fn saves_and_puts(&mut self, alloc: Global, text: &str) -> bool {
+        saves(alloc, &mut self.keeper, UNMARKED) && self.puts(alloc, text)
+    }
+
+    fn puts(&mut self, alloc: Global, text: &str) -> bool {
+        self.vault
+            .put(alloc, &FileName::Config, text.as_bytes())
+            .is_ok()
+    }
+}
+
+/// Of two runs that found no block folder the one that saves first makes it, and the other keeps nothing of what it would put there.
+#[test]
+fn claims_the_block_folder_before_a_record_is_saved(rt: HostRuntime) -> Result<(), Fail> {
+    let folder = fresh_folder(&rt, "claimed")?;
+    let path = folder.as_str();
+    let blocks = folder.join(rt.alloc(), "blocks")?;
+    let states = [
+        folder.join(rt.alloc(), "one")?,
+        folder.join(rt.alloc(), "two")?,
+    ];
+    let runs = two_runs(rt.alloc())?;
+    fs::create_dir(&rt, path)?;
+    let mut first = NewRun::new(&rt, blocks.as_str(), states[0].as_str(), &runs[0])?;
+    let mut second = NewRun::new(&rt, blocks.as_str(), states[1].as_str(), &runs[1])?;
+    assert!(rt; first.finds_none(rt.alloc()) && second.finds_none(rt.alloc()));
+    assert!(rt; first.saves_and_puts(rt.alloc(), "first"));
+    assert!(rt; !saves(rt.alloc(), &mut second.keeper, UNMARKED));
+    assert!(rt; is_absent(&rt, states[1].as_str(), "cryfs.localstate"));
+    assert!(rt; !second.puts(rt.alloc(), "second"));
+    assert!(rt; holds(&rt, blocks.as_str(), "cryfs.config", "first"));
+    remove_folder(&rt, path)
 }

@@ -4,6 +4,7 @@ use crate::folders::{
     fresh_folder, holds, is_absent, links, makes_folder, remove_folder, two_runs, writes,
 };
 use block_id::BlockId;
+use call_log::CallLog;
 use outside::{FileName, GetFail, Vault};
 use real_folders::{FolderRun, FolderVault};
 use std::alloc::Global;
@@ -107,10 +108,11 @@ fn replaces_a_link<V: Vault>(rt: &HostRuntime, vault: &mut V, folder: &str) -> b
         && holds(rt, folder, "cryfs.config", "config")
 }
 
-/// Whether a put fails where a link lies in place of the block's file.
+/// Whether a put and a get fail where a link lies in place of the block's file.
 fn fails_at_a_link<V: Vault>(rt: &HostRuntime, vault: &mut V, folder: &str) -> bool {
     links(rt, folder, ONE_PATH, "../other")
         && vault.put(rt.alloc(), &ONE, b"block") == Err(GetFail::Failed)
+        && vault.get(rt.alloc(), &ONE, 9).err() == Some(GetFail::Failed)
 }
 
 /// Whether the second run fails while the first, which ends here, has the folder.
@@ -168,7 +170,7 @@ fn keeps_files_under_their_names(rt: HostRuntime) -> Result<(), Fail> {
     let folder = fresh_folder(&rt, "names")?;
     let path = folder.as_str();
     let run = FolderRun::new(rt.alloc(), 1)?;
-    let mut vault = FolderVault::new(rt, path, &run);
+    let mut vault = FolderVault::new(rt, path, &run, CallLog::new());
     assert!(rt; places_config(&rt, &mut vault, path));
     assert!(rt; places_block(&rt, &mut vault, path));
     expect_cuts(&rt, rt.alloc(), &mut vault);
@@ -180,9 +182,9 @@ fn removes_a_file_once_or_more(rt: HostRuntime) -> Result<(), Fail> {
     let folder = fresh_folder(&rt, "removed")?;
     let path = folder.as_str();
     let run = FolderRun::new(rt.alloc(), 1)?;
-    let mut vault = FolderVault::new(rt, path, &run);
+    let mut vault = FolderVault::new(rt, path, &run, CallLog::new());
     assert!(rt; removes(rt.alloc(), &mut vault));
-    assert!(rt; is_absent(&rt, path, ONE_PATH));
+    assert!(rt; is_absent(&rt, path, "000"));
     remove_folder(&rt, path)
 }
 
@@ -191,7 +193,7 @@ fn fails_where_something_else_lies(rt: HostRuntime) -> Result<(), Fail> {
     let folder = fresh_folder(&rt, "others")?;
     let path = folder.as_str();
     let run = FolderRun::new(rt.alloc(), 1)?;
-    let mut vault = FolderVault::new(rt, path, &run);
+    let mut vault = FolderVault::new(rt, path, &run, CallLog::new());
     assert!(rt; fails_at_a_folder(&rt, &mut vault, path));
     assert!(rt; fails_at_a_file(&rt, &mut vault, path));
     remove_folder(&rt, path)
@@ -202,7 +204,7 @@ fn replaces_only_its_own_file_beside(rt: HostRuntime) -> Result<(), Fail> {
     let folder = fresh_folder(&rt, "stopped")?;
     let path = folder.as_str();
     let run = FolderRun::new(rt.alloc(), 1)?;
-    let mut vault = FolderVault::new(rt, path, &run);
+    let mut vault = FolderVault::new(rt, path, &run, CallLog::new());
     assert!(rt; keeps_the_first(&rt, &mut vault, path));
     assert!(rt; keeps_the_second(&rt, &mut vault, path));
     remove_folder(&rt, path)
@@ -215,7 +217,7 @@ fn follows_no_link(rt: HostRuntime) -> Result<(), Fail> {
     assert!(rt; makes_folder(&rt, path, "000"));
     assert!(rt; writes(&rt, path, "other", "other"));
     let run = FolderRun::new(rt.alloc(), 1)?;
-    let mut vault = FolderVault::new(rt, path, &run);
+    let mut vault = FolderVault::new(rt, path, &run, CallLog::new());
     assert!(rt; replaces_a_link(&rt, &mut vault, path));
     assert!(rt; fails_at_a_link(&rt, &mut vault, path));
     assert!(rt; holds(&rt, path, "other", "other"));
@@ -228,8 +230,8 @@ fn serves_one_run_at_a_time(rt: HostRuntime) -> Result<(), Fail> {
     let path = folder.as_str();
     assert!(rt; makes_folder(&rt, path, ""));
     let runs = two_runs(rt.alloc())?;
-    let first = FolderVault::new(rt, path, &runs[0]);
-    let mut second = FolderVault::new(rt, path, &runs[1]);
+    let first = FolderVault::new(rt, path, &runs[0], CallLog::new());
+    let mut second = FolderVault::new(rt, path, &runs[1], CallLog::new());
     assert!(rt; excludes(rt.alloc(), first, &mut second));
     assert!(rt; gives(rt.alloc(), &mut second, &FileName::Config, 9, "first"));
     remove_folder(&rt, path)
@@ -242,7 +244,7 @@ fn uses_no_other_folder_at_its_path(rt: HostRuntime) -> Result<(), Fail> {
     let away = fresh_folder(&rt, "away")?;
     let path = folder.as_str();
     let run = FolderRun::new(rt.alloc(), 1)?;
-    let mut vault = FolderVault::new(rt, path, &run);
+    let mut vault = FolderVault::new(rt, path, &run, CallLog::new());
     assert!(rt; puts(rt.alloc(), &mut vault, &ONE, "block"));
     fs::rename(&rt, path, away.as_path())?;
     assert!(rt; fails(rt.alloc(), &mut vault, &ONE) && is_absent(&rt, path, ""));
@@ -265,13 +267,13 @@ fn writes_through_no_link_of_a_folder(rt: HostRuntime) -> Result<(), Fail> {
     assert!(rt; links(&rt, path, "blocks/000", "../other"));
     let blocks = folder.join(rt.alloc(), "blocks")?;
     let run = FolderRun::new(rt.alloc(), 1)?;
-    let mut vault = FolderVault::new(rt, blocks.as_str(), &run);
-    assert!(rt; vault.put(rt.alloc(), &ONE, b"block") == Err(GetFail::Failed));
+    let mut vault = FolderVault::new(rt, blocks.as_str(), &run, CallLog::new());
+    assert!(rt; fails(rt.alloc(), &mut vault, &ONE));
     fs::remove_dir(&rt, folder.join(rt.alloc(), "other")?.as_path())?;
     let file = folder.join(rt.alloc(), "file")?;
     assert!(rt; writes(&rt, path, "file", "no folder"));
     let run = FolderRun::new(rt.alloc(), 2)?;
-    let mut vault = FolderVault::new(rt, file.as_str(), &run);
+    let mut vault = FolderVault::new(rt, file.as_str(), &run, CallLog::new());
     assert!(rt; fails(rt.alloc(), &mut vault, &ONE));
     remove_folder(&rt, path)
 }
@@ -282,8 +284,8 @@ fn makes_the_folder_in_one_run(rt: HostRuntime) -> Result<(), Fail> {
     let folder = fresh_folder(&rt, "made")?;
     let path = folder.as_str();
     let runs = two_runs(rt.alloc())?;
-    let first = FolderVault::new(rt, path, &runs[0]);
-    let mut second = FolderVault::new(rt, path, &runs[1]);
+    let first = FolderVault::new(rt, path, &runs[0], CallLog::new());
+    let mut second = FolderVault::new(rt, path, &runs[1], CallLog::new());
     assert!(rt; makes_it_alone(rt.alloc(), first, &mut second));
     assert!(rt; fails(rt.alloc(), &mut second, &FileName::Config));
     assert!(rt; holds(&rt, path, "cryfs.config", "first"));
@@ -297,8 +299,28 @@ fn flushes_the_configuration(rt: HostRuntime) -> Result<(), Fail> {
     let path = folder.as_str();
     let left = Cell::new(0);
     let run = FolderRun::new(rt.alloc(), 1)?;
-    let mut vault = FolderVault::new(CountedFlushes::new(rt, &left), path, &run);
+    let mut vault = FolderVault::new(CountedFlushes::new(rt, &left), path, &run, CallLog::new());
     assert_eq!(rt; broken(&rt, &mut vault, &left, path), None);
     assert!(rt; needs(rt.alloc(), &mut vault, &left, 2));
+    remove_folder(&rt, path)
+}
+
+/// A file of somebody else that was linked under a block's name keeps its bytes.
+#[test]
+fn writes_through_no_second_name(rt: HostRuntime) -> Result<(), Fail> {
+    let folder = fresh_folder(&rt, "second_name")?;
+    let path = folder.as_str();
+    assert!(rt; makes_folder(&rt, path, "000") && writes(&rt, path, "other", "other"));
+    let other = folder.join(rt.alloc(), "other")?;
+    fs::hard_link(
+        &rt,
+        other.as_path(),
+        folder.join(rt.alloc(), ONE_PATH)?.as_path(),
+    )?;
+    let run = FolderRun::new(rt.alloc(), 1)?;
+    let mut vault = FolderVault::new(rt, path, &run, CallLog::new());
+    assert!(rt; vault.put(rt.alloc(), &ONE, b"bk") == Err(GetFail::Failed));
+    assert!(rt; holds(&rt, path, "other", "other"));
+    assert!(rt; gives(rt.alloc(), &mut vault, &ONE, 9, "other"));
     remove_folder(&rt, path)
 }

@@ -10,6 +10,7 @@ use crate::vault_promises::{
     gives_none_for_a_missing_name, keeps_names_apart, removes_a_name_once_or_more,
     replaces_by_a_second_put,
 };
+use call_log::CallLog;
 use memory_outside::{MemoryKeeper, MemoryVault};
 use outside::{Keeper, Vault};
 use real_folders::{FolderKeeper, FolderRun, FolderVault};
@@ -47,7 +48,7 @@ fn a_directory_in_memory_keeps_all_promises(rt: HostRuntime) -> Result<(), Fail>
 fn a_directory_in_a_folder_keeps_all_promises(rt: HostRuntime) -> Result<(), Fail> {
     let folder = fresh_folder(&rt, "directory")?;
     let run = FolderRun::new(rt.alloc(), 1)?;
-    let mut vault = FolderVault::new(rt, folder.as_str(), &run);
+    let mut vault = FolderVault::new(rt, folder.as_str(), &run, CallLog::new());
     directory_keeps_all(rt.alloc(), &mut vault)?;
     fs::remove_dir_all(&rt, folder.as_str())?;
     Ok(())

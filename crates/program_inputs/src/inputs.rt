@@ -1,12 +1,17 @@
 // What the system gives the program.
+ghost use Rattle.std.specs.Prelude.{◌≡◌, IfOk};
+ghost use Rattle.real_folders.specs.FolderLog.{calls_of};
+
 use crate::record_use::uses_record;
 use crate::streams::hold_closed;
+use call_log::CallLog;
 use fs_model::Moment;
 use outside::Memory;
 use rand_chacha::ChaCha20Rng;
 use rand_core::Rng;
 use real_folders::{FolderKeeper, FolderRun, FolderVault};
 use run_status::Status;
+use std::alloc::Global;
 use std::env;
 use std::fs::File;
 use std::io::ErrorKind;
@@ -51,27 +56,51 @@ impl Inputs {
         let Ok(mut chance) = rand::make_rng::<ChaCha20Rng, HostRuntime>(rt) else {
             return Err(Status::InputFault);
         };
-        let Ok(folders) = FolderRun::new(rt.alloc(), chance.next_u64()) else {
-            return Err(Status::Memory);
-        };
-        let inputs = Inputs {
-            blocks,
-            state,
-            folders,
-            closed,
-            words,
-            now,
-        };
-        Ok((inputs, chance))
+        let number = chance.next_u64();
+        match Inputs::new(rt.alloc(), blocks, state, words, now, number) {
+            Ok(inputs) => Ok((inputs.holding(closed), chance)),
+            Err(Memory) => Err(Status::Memory),
+        }
     }
 
-    /// The block folder.
-    pub fn vault(&self, rt: &HostRuntime) -> FolderVault<'_, HostRuntime> {
-        FolderVault::new(*rt, &self.blocks, &self.folders)
+    /// These folders, words and moment, of a run that no other run shares this number with.
+    pub fn new(
+        alloc: Global,
+        blocks: String,
+        state: String,
+        words: Vec<String>,
+        now: Moment,
+        number: u64,
+    ) -> Result<Inputs, Memory>
+        ensures words { IfOk result (λ inputs. inputs.words ≡ words) }
+        ensures now { IfOk result (λ inputs. inputs.now ≡ now) }
+    {
+        Ok(Inputs {
+            blocks,
+            state,
+            folders: FolderRun::new(alloc, number)?,
+            closed: [None, None, None],
+            words,
+            now,
+        })
+    }
+
+    fn holding(self, closed: [Option<File>; 3]) -> Inputs {
+        Inputs { closed, ..self }
+    }
+
+    /// The block folder, after the calls of this log.
+    pub fn vault(&self, rt: &HostRuntime, log: CallLog) -> FolderVault<'_, HostRuntime>
+        ensures calls { result.calls ≡ calls_of log.events }
+        ensures none { result.faults ≡ 0 }
+    {
+        FolderVault::new(*rt, &self.blocks, &self.folders, log)
     }
 
     /// The record in the state folder, whose file is read only where the words need it.
-    pub fn make_keeper(&self, rt: &HostRuntime) -> Result<FolderKeeper<'_, HostRuntime>, Memory> {
+    pub fn make_keeper(&self, rt: &HostRuntime) -> Result<FolderKeeper<'_, HostRuntime>, Memory>
+        ensures { IfOk result (λ keeper. keeper.faults ≡ 0) }
+    {
         if uses_record(rt.alloc(), &self.words)? {
             FolderKeeper::new(rt.alloc(), *rt, &self.state, &self.folders)
         } else {
