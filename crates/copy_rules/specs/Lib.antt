@@ -1,0 +1,4 @@
+pub mod Importing
+pub mod Questions
+pub mod Ends
+pub mod Walks
