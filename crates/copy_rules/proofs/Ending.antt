@@ -193,6 +193,6 @@ walk_next (Some t) es p k ds row w plain at =
     let split = told_split t es ((p, k) ∷ ds) w.rising w.ahead w.covers in
     let sorted : T (is_sorted path_cmp (rest_of t es)) = is_sorted-where_key path_cmp (is_new es) (entries t) (entries_sorted t) in
     let found : find path_cmp p (rest_of t es) ≡ Some row =
-        sym (find_right p es (rest_of t es) (find_less p es w.ahead.0)) ∙ (ap (find path_cmp p) (sym split.0) ∙ (sym (get-entries t p) ∙ at)) in
+    sym (find_right p es (rest_of t es) (find_less p es w.ahead.0)) ∙ (ap (find path_cmp p) (sym split.0) ∙ (sym (get-entries t p) ∙ at)) in
     let first = first_left p k ds row (rest_of t es) sorted w.order.0 split.1 found in
     (t, (record { same = refl; plain = λ r row e. w.covers.tree.plain r row e }, (first.0, split.0 ∙ ap (λ z. es ++ z) first.1)))

@@ -4,3 +4,6 @@ pub mod Merging
 pub mod Orders
 pub mod Walking
 pub mod Ending
+pub mod Asking
+pub mod Cutting
+pub mod Copying

@@ -25,7 +25,7 @@ done_parts : (now : Instant) (cs ds : List Command) (t last : Tree) → AllDone 
 done_parts now [] ds t last h = (t, (refl, h))
 done_parts now (c ∷ cs) ds t last (mid, (h, rest)) = let parts = done_parts now cs ds mid last rest in (parts.0, ((mid, (h, parts.1.0)), parts.1.1))
 
-upward_is : (q a b : HostPath) → upward (q ++ a) ≡ upward (q ++ b) → a ≡ b
+pub upward_is : (q a b : HostPath) → upward (q ++ a) ≡ upward (q ++ b) → a ≡ b
 upward_is q a b e = append_cancel_left q a b (sym (reverse-reverse (q ++ a)) ∙ (ap reverse e ∙ reverse-reverse (q ++ b)))
 
 -- a directory's row has no bytes

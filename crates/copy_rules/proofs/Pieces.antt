@@ -3,16 +3,12 @@ use Rattle.std.proofs.Common.{◌≡◌, ℕ, zero, suc, ◌+◌, ◌-◌, ◌<�
 use Rattle.std.specs.List.{concat}
 use Rattle.std.specs.Prelude.{min}
 use Rattle.std.proofs.lemmas.List.{length-drop, length-take, take-append-drop}
-use Rattle.copy_rules.specs.Importing.{cut}
+use Rattle.copy_rules.specs.Importing.{cut, joined}
 
 -- no piece is empty
 abbrev pub AreSome : List (List ℕ) → Type 0
 AreSome [] = Unit {0}
 AreSome (piece ∷ more) = (0 < length piece) × AreSome more
-
-abbrev pub joined : List (List ℕ) → List ℕ
-joined [] = []
-joined (piece ∷ more) = piece ++ joined more
 
 pub joined-cut : (size n : ℕ) (w : List ℕ) → 0 < size → length w ≤ n → joined (cut size n w) ≡ w
 joined-cut size zero [] some le = refl

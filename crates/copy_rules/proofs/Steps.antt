@@ -23,8 +23,8 @@ use Rattle.fs_model.specs.Tree.{Path, Row, Tree, upward, parent, last_name, dire
 use Rattle.fs_model.proofs.LookUpLemmas.{look-found}
 use Rattle.fs_model.proofs.TreeLemmas.{insert_here, insert_apart}
 use Rattle.host_folder.specs.Folders.{HostPath, HostRow}
-use Rattle.copy_rules.specs.Importing.{plain_of, AllDone, writes, commands_for, pieces_of}
-use Rattle.copy_rules.proofs.Pieces.{AreSome, joined, joined-cut, some-cut}
+use Rattle.copy_rules.specs.Importing.{plain_of, AllDone, writes, commands_for, pieces_of, joined}
+use Rattle.copy_rules.proofs.Pieces.{AreSome, joined-cut, some-cut}
 
 -- this path has such a row now, and every other what it had
 pub record Sets (old new : Tree) (p : Path) (kind : Kind) (bytes : List ℕ) : Type 0 where

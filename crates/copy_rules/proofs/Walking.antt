@@ -133,15 +133,17 @@ before_rest p n (d ∷ ds) h = (subst (λ z. Before (p ++ n ∷ []) z) (append-n
 
 before_kids : (p : HostPath) (n : List ℕ) (kids : List (List ℕ × Kind)) → T (below_all name_cmp n kids) → BeforeAll (p ++ n ∷ []) (todo_in p kids)
 before_kids p n [] h = tt
-before_kids p n (kid ∷ kids) h =
-    (before_name p n kid.0 (less_is (name_cmp n kid.0) (left (is_lt (name_cmp n kid.0)) (below_all name_cmp n kids) h)),
-    before_kids p n kids (right (is_lt (name_cmp n kid.0)) (below_all name_cmp n kids) h))
+before_kids p n (kid ∷ kids) h = (
+  before_name p n kid.0 (less_is (name_cmp n kid.0) (left (is_lt (name_cmp n kid.0)) (below_all name_cmp n kids) h)),
+  before_kids p n kids (right (is_lt (name_cmp n kid.0)) (below_all name_cmp n kids) h),
+)
 
 order_kids : (p : HostPath) (kids : List (List ℕ × Kind)) (ds : Todo) → T (is_sorted name_cmp kids) → BeforeAll p ds → AreOrdered ds → AreOrdered (todo_in p kids ++ ds)
 order_kids p [] ds s b o = o
-order_kids p (kid ∷ kids) ds s b o =
-    (before_append (p ++ kid.0 ∷ []) (todo_in p kids) ds (before_kids p kid.0 kids (left (below_all name_cmp kid.0 kids) (is_sorted name_cmp kids) s)) (before_rest p kid.0 ds b),
-    order_kids p kids ds (right (below_all name_cmp kid.0 kids) (is_sorted name_cmp kids) s) b o)
+order_kids p (kid ∷ kids) ds s b o = (
+  before_append (p ++ kid.0 ∷ []) (todo_in p kids) ds (before_kids p kid.0 kids (left (below_all name_cmp kid.0 kids) (is_sorted name_cmp kids) s)) (before_rest p kid.0 ds b),
+  order_kids p kids ds (right (below_all name_cmp kid.0 kids) (is_sorted name_cmp kids) s) b o,
+)
 
 pub plain_push : (es : Met) (p : HostPath) (row : HostRow) → ArePlainRows es → IsPlain row → ArePlainRows (es ++ (p, row) ∷ [])
 plain_push [] p row h f = (f, tt)
@@ -159,9 +161,10 @@ kinds_append t (d ∷ front) bs h g = (h.0, kinds_append t front bs h.1 g)
 kinds_kids : (t : HostTree) (p : HostPath) (kids : List (List ℕ × Kind)) → T (is_sorted name_cmp kids) → ((n : List ℕ) (k : Kind) → find name_cmp n kids ≡ Some k → kind_in (get t (p ++ n ∷ [])) ≡ Some k)
     → HasKinds t (todo_in p kids)
 kinds_kids t p [] s f = tt
-kinds_kids t p (kid ∷ kids) s f =
-    (f kid.0 kid.1 (ap (λ o. cond (is_eq o) (Some kid.1) (find name_cmp kid.0 kids)) (tied_itself name_total kid.0)),
-    kinds_kids t p kids (right (below_all name_cmp kid.0 kids) (is_sorted name_cmp kids) s) (λ n k e. f n k (later n k (name_cmp n kid.0) refl e)))
+kinds_kids t p (kid ∷ kids) s f = (
+  f kid.0 kid.1 (ap (λ o. cond (is_eq o) (Some kid.1) (find name_cmp kid.0 kids)) (tied_itself name_total kid.0)),
+  kinds_kids t p kids (right (below_all name_cmp kid.0 kids) (is_sorted name_cmp kids) s) (λ n k e. f n k (later n k (name_cmp n kid.0) refl e)),
+)
   where
     below : T (below_all name_cmp kid.0 kids)
     below = left (below_all name_cmp kid.0 kids) (is_sorted name_cmp kids) s

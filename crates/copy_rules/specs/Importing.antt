@@ -20,6 +20,16 @@ cut size (suc n) (b ∷ w) = take size (b ∷ w) ∷ cut size n (drop size (b �
 abbrev pub pieces_of : List ℕ → List (List ℕ)
 pieces_of w = cut 1048576 (length w) w
 
+-- pieces one after the other
+abbrev pub joined : List (List ℕ) → List ℕ
+joined [] = []
+joined (piece ∷ more) = piece ++ joined more
+
+-- each piece has this size
+abbrev pub AreFull : ℕ → List (List ℕ) → Type 0
+AreFull size [] = Unit {0}
+AreFull size (piece ∷ more) = (length piece ≡ size) × AreFull size more
+
 abbrev pub writes : HostPath → ℕ → List (List ℕ) → List Command
 writes p from [] = []
 writes p from (piece ∷ more) = command.Write p from piece ∷ writes p (from + length piece) more

@@ -2,3 +2,4 @@ pub mod Importing
 pub mod Questions
 pub mod Ends
 pub mod Walks
+pub mod Laws
