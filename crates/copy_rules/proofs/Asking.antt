@@ -11,7 +11,7 @@ use Rattle.fs_model.specs.Tree.{Tree}
 use Rattle.host_folder.specs.Folders.{HostPath}
 use Rattle.copy_rules.specs.declared.asker.Stopped.{Stopped}
 use Rattle.copy_rules.specs.declared.copied.Totals.{Totals}
-use Rattle.copy_rules.specs.Ends.{LastWas, total, counted, totals_of, up_to, dirs_by, files_by, links_by, bytes_by}
+use Rattle.copy_rules.specs.Ends.{LastWas, total, counted, one_counted, totals_of, up_to, dirs_by, files_by, links_by, bytes_by}
 use Rattle.copy_rules.specs.Questions.{Question, Asking, LawfulAsker, Asked, AreDone, AreAnswered, IsAnswered, Followed, Answered, commands_of}
 
 pub answered_append : (qs rs : List Question) → AreAnswered (qs ++ rs) → AreAnswered qs × AreAnswered rs
@@ -76,23 +76,12 @@ module _ {A : Type 0} (M : Asking A) (lawful : LawfulAsker M) where
           let second = y.stands first.0 (first.1.1 all) (omega (arith, f, up)) in
           (second.0, (followed_append (M.moment a) qs rs t first.0 second.0 first.1.0 (subst (λ now. Followed first.0 now rs second.0) x.moment second.1.0), λ both. second.1.1 (answered_append qs rs both).1))
 
-pub total_append : (f : Command → ℕ) (cs ds : List Command) → total f (cs ++ ds) ≡ total f cs + total f ds
-total_append f [] ds = omega arith
-total_append f (c ∷ cs) ds = let more = total_append f cs ds in omega (arith, more)
-
 up_to_then : (a b c : ℕ) → up_to (up_to (a + b) + c) ≡ up_to (a + (b + c))
 up_to_then a b c = omega arith
 
-then_by : (f : Command → ℕ) (n : ℕ) (cs ds : List Command) → up_to (up_to (n + total f cs) + total f ds) ≡ up_to (n + total f (cs ++ ds))
-then_by f n cs ds = up_to_then n (total f cs) (total f ds) ∙ ap (λ k. up_to (n + k)) (sym (total_append f cs ds))
-
 pub counted_then : (t : Totals) (cs ds : List Command) → counted (counted t cs) ds ≡ counted t (cs ++ ds)
-counted_then t cs ds =
-    let dirs : up_to (up_to (t.dirs + total dirs_by cs) + total dirs_by ds) ≡ up_to (t.dirs + total dirs_by (cs ++ ds)) = then_by dirs_by t.dirs cs ds in
-    let files : up_to (up_to (t.files + total files_by cs) + total files_by ds) ≡ up_to (t.files + total files_by (cs ++ ds)) = then_by files_by t.files cs ds in
-    let links : up_to (up_to (t.links + total links_by cs) + total links_by ds) ≡ up_to (t.links + total links_by (cs ++ ds)) = then_by links_by t.links cs ds in
-    let bytes : up_to (up_to (t.bytes + total bytes_by cs) + total bytes_by ds) ≡ up_to (t.bytes + total bytes_by (cs ++ ds)) = then_by bytes_by t.bytes cs ds in
-    λ i. record { dirs = dirs i; files = files i; links = links i; bytes = bytes i }
+counted_then t [] ds = refl
+counted_then t (c ∷ cs) ds = counted_then (one_counted t c) cs ds
 
 -- totals within their type
 pub record AreCounts (t : Totals) : Type 0 where
@@ -104,24 +93,50 @@ pub record AreCounts (t : Totals) : Type 0 where
 still : (n : ℕ) → n ≤ 18446744073709551615 → up_to (n + 0) ≡ n
 still n h = omega arith
 
-pub counted_none : (t : Totals) → AreCounts t → counted t [] ≡ t
-counted_none t c =
-    let dirs : up_to (t.dirs + 0) ≡ t.dirs = still t.dirs c.dirs in
-    let files : up_to (t.files + 0) ≡ t.files = still t.files c.files in
-    let links : up_to (t.links + 0) ≡ t.links = still t.links c.links in
-    let bytes : up_to (t.bytes + 0) ≡ t.bytes = still t.bytes c.bytes in
-    λ i. record { dirs = dirs i; files = files i; links = links i; bytes = bytes i }
-
 from_none : (n : ℕ) → up_to (0 + n) ≡ up_to n
 from_none n = omega arith
 
 abbrev pub no_totals : Totals
 no_totals = record { dirs = 0; files = 0; links = 0; bytes = 0 }
 
+counts_one : (t : Totals) (c : Command) → AreCounts (one_counted t c)
+counts_one t c = record { dirs = omega arith; files = omega arith; links = omega arith; bytes = omega arith }
+
+one_then : (a b c : ℕ) → up_to (up_to (a + b) + c) ≡ up_to (a + (b + c))
+one_then a b c = omega arith
+
+-- what each command adds is added together
+summed : Totals → List Command → Totals
+summed t cs = record {
+  dirs = up_to (t.dirs + total dirs_by cs);
+  files = up_to (t.files + total files_by cs);
+  links = up_to (t.links + total links_by cs);
+  bytes = up_to (t.bytes + total bytes_by cs);
+}
+
+counted_sum : (t : Totals) (cs : List Command) → AreCounts t → counted t cs ≡ summed t cs
+unfolding summed
+counted_sum t [] c =
+    let dirs : t.dirs ≡ up_to (t.dirs + 0) = sym (still t.dirs c.dirs) in
+    let files : t.files ≡ up_to (t.files + 0) = sym (still t.files c.files) in
+    let links : t.links ≡ up_to (t.links + 0) = sym (still t.links c.links) in
+    let bytes : t.bytes ≡ up_to (t.bytes + 0) = sym (still t.bytes c.bytes) in
+    λ i. record { dirs = dirs i; files = files i; links = links i; bytes = bytes i }
+counted_sum t (d ∷ cs) c =
+    let dirs : up_to (up_to (t.dirs + dirs_by d) + total dirs_by cs) ≡ up_to (t.dirs + (dirs_by d + total dirs_by cs)) = one_then t.dirs (dirs_by d) (total dirs_by cs) in
+    let files : up_to (up_to (t.files + files_by d) + total files_by cs) ≡ up_to (t.files + (files_by d + total files_by cs)) = one_then t.files (files_by d) (total files_by cs) in
+    let links : up_to (up_to (t.links + links_by d) + total links_by cs) ≡ up_to (t.links + (links_by d + total links_by cs)) = one_then t.links (links_by d) (total links_by cs) in
+    let bytes : up_to (up_to (t.bytes + bytes_by d) + total bytes_by cs) ≡ up_to (t.bytes + (bytes_by d + total bytes_by cs)) = one_then t.bytes (bytes_by d) (total bytes_by cs) in
+    let rest : counted (one_counted t d) cs ≡ summed (one_counted t d) cs = counted_sum (one_counted t d) cs (counts_one t d) in
+    let same : summed (one_counted t d) cs ≡ summed t (d ∷ cs) = λ i. record { dirs = dirs i; files = files i; links = links i; bytes = bytes i } in
+    rest ∙ same
+
 pub counted_all : (cs : List Command) → counted no_totals cs ≡ totals_of cs
+unfolding summed
 counted_all cs =
     let dirs : up_to (0 + total dirs_by cs) ≡ up_to (total dirs_by cs) = from_none (total dirs_by cs) in
     let files : up_to (0 + total files_by cs) ≡ up_to (total files_by cs) = from_none (total files_by cs) in
     let links : up_to (0 + total links_by cs) ≡ up_to (total links_by cs) = from_none (total links_by cs) in
     let bytes : up_to (0 + total bytes_by cs) ≡ up_to (total bytes_by cs) = from_none (total bytes_by cs) in
-    λ i. record { dirs = dirs i; files = files i; links = links i; bytes = bytes i }
+    let same : summed no_totals cs ≡ totals_of cs = λ i. record { dirs = dirs i; files = files i; links = links i; bytes = bytes i } in
+    counted_sum no_totals cs (record { dirs = omega arith; files = omega arith; links = omega arith; bytes = omega arith }) ∙ same

@@ -42,14 +42,18 @@ bytes_by c = 0
 abbrev pub up_to : ℕ → ℕ
 up_to n = min n 18446744073709551615
 
--- the totals with these commands more
-abbrev pub counted : Totals → List Command → Totals
-counted t cs = record {
-  dirs = up_to (t.dirs + total dirs_by cs);
-  files = up_to (t.files + total files_by cs);
-  links = up_to (t.links + total links_by cs);
-  bytes = up_to (t.bytes + total bytes_by cs);
+-- the totals with this command more
+abbrev pub one_counted : Totals → Command → Totals
+one_counted t c = record {
+  dirs = up_to (t.dirs + dirs_by c);
+  files = up_to (t.files + files_by c);
+  links = up_to (t.links + links_by c);
+  bytes = up_to (t.bytes + bytes_by c);
 }
+
+abbrev pub counted : Totals → List Command → Totals
+counted t [] = t
+counted t (c ∷ cs) = counted (one_counted t c) cs
 
 -- the Mkdir, Mkfile and Symlink commands, and the bytes of the Write commands
 abbrev pub totals_of : List Command → Totals
