@@ -1,18 +1,16 @@
 -- Questions that are asked one after the other, and what their commands count.
-use Rattle.std.proofs.Common.{◌≡◌, ℕ, ◌+◌, ◌≤◌, List, [], ◌∷◌, ◌++◌, map, refl, sym, ◌∙◌, ap, subst, arith, append_assoc}
+use Rattle.std.proofs.Common.{◌≡◌, ℕ, ◌+◌, ◌≤◌, List, [], ◌∷◌, ◌++◌, refl, sym, ◌∙◌, ap, subst, arith, append_assoc}
 use Rattle.std.proofs.lemmas.List.{map-append}
 use Rattle.std.specs.declared.result.Result.{Result}
-use Rattle.std.specs.declared.result.Result.TheVariants.{Ok, Err}
 use Rattle.fs_model.specs.declared.command.Command.{Command}
 use Rattle.fs_model.specs.declared.reply.Reply.{Reply}
-use Rattle.fs_model.specs.declared.reply.Reply.TheVariants.{Done}
 use Rattle.fs_model.specs.Instant.{Instant}
 use Rattle.fs_model.specs.Tree.{Tree}
 use Rattle.host_folder.specs.Folders.{HostPath}
 use Rattle.copy_rules.specs.declared.asker.Stopped.{Stopped}
 use Rattle.copy_rules.specs.declared.copied.Totals.{Totals}
 use Rattle.copy_rules.specs.Ends.{LastWas, total, counted, one_counted, totals_of, up_to, dirs_by, files_by, links_by, bytes_by}
-use Rattle.copy_rules.specs.Questions.{Question, Asking, LawfulAsker, Asked, AreDone, AreAnswered, IsAnswered, Followed, Answered, commands_of}
+use Rattle.copy_rules.specs.Questions.{Question, Asking, LawfulAsker, Asked, AreDone, AreAnswered, IsAnswered, Followed, commands_of}
 
 pub answered_append : (qs rs : List Question) → AreAnswered (qs ++ rs) → AreAnswered qs × AreAnswered rs
 answered_append [] rs h = (tt, h)

@@ -1,12 +1,9 @@
 -- What a copy leaves.
-use Rattle.std.proofs.Common.{◌≡◌, ℕ, List, [], ◌∷◌, ◌++◌, refl, sym, ◌∙◌, ap, subst}
+use Rattle.std.proofs.Common.{◌≡◌, List, [], ◌∷◌, ◌++◌, refl, sym, ◌∙◌, ap, subst}
 use Rattle.std.specs.Prelude.{Option, Some, None, is_some, true}
 use Rattle.std.specs.FinMap.{get}
-use Rattle.std.specs.declared.result.Result.TheVariants.{Ok}
-use Rattle.fs_model.specs.declared.reply.Reply.TheVariants.{Done}
 use Rattle.fs_model.specs.Instant.{Instant}
-use Rattle.fs_model.specs.Step.{step}
-use Rattle.fs_model.specs.Tree.{Path, Tree, upward}
+use Rattle.fs_model.specs.Tree.{Tree, upward}
 use Rattle.host_folder.specs.Folders.{HostPath, HostRow, HostTree}
 use Rattle.copy_rules.specs.Importing.{plain_of, Merged, AllDone}
 use Rattle.copy_rules.specs.Laws.{SameBelow, IsFree, DoneImportMerges, ImportIsSame, CopyIsSame}

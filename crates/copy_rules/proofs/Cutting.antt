@@ -1,7 +1,6 @@
 -- A file's pieces, one after the other.
-use Rattle.std.proofs.Common.{◌≡◌, ℕ, zero, suc, ◌+◌, ◌-◌, ◌<◌, ◌≤◌, List, [], ◌∷◌, ◌++◌, length, take, drop, refl, sym, ◌∙◌, ap, subst, arith, append_assoc}
+use Rattle.std.proofs.Common.{◌≡◌, ℕ, zero, suc, ◌+◌, ◌<◌, ◌≤◌, List, [], ◌∷◌, ◌++◌, length, take, drop, refl, sym, ◌∙◌, ap, arith, append_assoc}
 use Rattle.std.proofs.lemmas.List.{length-drop, length-append, take_at, drop_at, take_all, drop_all}
-use Rattle.fs_model.specs.declared.command.Command.{Command}
 use Rattle.fs_model.specs.declared.command.Command.TheVariants as command
 use Rattle.host_folder.specs.Folders.{HostPath, HostRow}
 use Rattle.copy_rules.specs.Importing.{cut, writes, commands_in, commands_for, joined, AreFull}

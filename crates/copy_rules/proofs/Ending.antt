@@ -1,5 +1,5 @@
 -- The tree that a walk is of, and how far it got.
-use Rattle.std.proofs.Common.{◌≡◌, ◌⊎◌, inl, inr, ℕ, Bool, true, false, cond, List, [], ◌∷◌, ◌++◌, refl, sym, ◌∙◌, ap, subst, append-nil}
+use Rattle.std.proofs.Common.{◌≡◌, ◌⊎◌, inl, inr, Bool, true, false, cond, [], ◌∷◌, ◌++◌, refl, sym, ◌∙◌, ap, subst, append-nil}
 use Rattle.std.specs.Prelude.{T, is_some, Some, None, not, IfSome}
 use Rattle.std.specs.FinMap.{get, find, entries, is_sorted, from_sorted, get-entries, entries_sorted, entries-from_sorted, get-from_sorted}
 use Rattle.std.specs.FinMap.Entries.{below_all, where_key, is_sorted-where_key, find-where_key, same_entries}

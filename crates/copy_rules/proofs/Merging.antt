@@ -14,7 +14,7 @@ use Rattle.fs_model.specs.declared.attr.Kind.{Kind}
 use Rattle.fs_model.specs.declared.attr.Kind.TheVariants.{Directory, File, Link}
 use Rattle.fs_model.specs.declared.command.Command.{Command}
 use Rattle.fs_model.specs.Instant.{Instant}
-use Rattle.fs_model.specs.Tree.{Path, Row, Tree, path_cmp, upward}
+use Rattle.fs_model.specs.Tree.{Path, Tree, path_cmp, upward}
 use Rattle.fs_model.proofs.TreeLemmas.{path_total, path_exact}
 use Rattle.store_api.proofs.Rising.{not_below}
 use Rattle.host_folder.specs.Folders.{HostPath, HostRow, HostTree}

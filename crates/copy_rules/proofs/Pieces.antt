@@ -1,7 +1,5 @@
 -- A list cut into pieces.
-use Rattle.std.proofs.Common.{◌≡◌, ℕ, zero, suc, ◌+◌, ◌-◌, ◌<◌, ◌≤◌, List, [], ◌∷◌, ◌++◌, length, take, drop, refl, sym, ◌∙◌, ap, arith}
-use Rattle.std.specs.List.{concat}
-use Rattle.std.specs.Prelude.{min}
+use Rattle.std.proofs.Common.{◌≡◌, ℕ, zero, suc, ◌<◌, ◌≤◌, List, [], ◌∷◌, ◌++◌, length, take, drop, refl, ◌∙◌, ap, arith}
 use Rattle.std.proofs.lemmas.List.{length-drop, length-take, take-append-drop}
 use Rattle.copy_rules.specs.Importing.{cut, joined}
 

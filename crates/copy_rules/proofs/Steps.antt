@@ -1,6 +1,6 @@
 -- What one command that is done leaves.
-use Rattle.std.proofs.Common.{◌≡◌, ◌≢◌, ℕ, ◌+◌, ◌<◌, Bool, true, false, cond, List, [], ◌∷◌, ◌++◌, length, take, drop, refl, sym, ◌∙◌, ap, subst, arith, append-nil, append_assoc, eqb-true}
-use Rattle.std.specs.Prelude.{Option, Some, None, nat_lt, ◌==◌, max}
+use Rattle.std.proofs.Common.{◌≡◌, ◌≢◌, ℕ, ◌+◌, ◌<◌, Bool, true, false, cond, List, [], ◌∷◌, ◌++◌, length, drop, refl, sym, ◌∙◌, ap, subst, arith, append-nil, append_assoc, eqb-true}
+use Rattle.std.specs.Prelude.{Some, nat_lt, ◌==◌, max}
 use Rattle.std.specs.FinMap.{get, insert}
 use Rattle.std.proofs.lemmas.List.{drop_all, length-append}
 use Rattle.std.proofs.Math.Seq.{take-length}
@@ -9,21 +9,18 @@ use Rattle.block_id.proofs.Contents.{overwritten_within}
 use Rattle.fs_model.specs.declared.attr.Kind.{Kind}
 use Rattle.fs_model.specs.declared.attr.Kind.TheVariants.{Directory, File, Link}
 use Rattle.fs_model.specs.declared.attr.TheConstants.{DIRECTORY_MODE, FILE_MODE, LINK_MODE}
-use Rattle.fs_model.specs.declared.command.Command.{Command}
-use Rattle.fs_model.specs.declared.command.Command.TheVariants as command
 use Rattle.fs_model.specs.declared.error.FsError.{FsError}
 use Rattle.fs_model.specs.declared.error.FsError.TheVariants.{Exists, TooLarge}
 use Rattle.fs_model.specs.declared.limits.TheConstants.{MAX_ENTRIES}
-use Rattle.fs_model.specs.declared.reply.Reply.{Reply}
 use Rattle.fs_model.specs.declared.reply.Reply.TheVariants.{Done, Error}
 use Rattle.fs_model.specs.Instant.{Instant}
 use Rattle.fs_model.specs.LookUp.{LookedUp, Found, Free, Bad, look}
-use Rattle.fs_model.specs.Step.{Stepped, step, made, written, on_file, new_row, with_content, refused, done, is_too_long}
+use Rattle.fs_model.specs.Step.{Stepped, made, written, on_file, new_row, with_content, refused, done, is_too_long}
 use Rattle.fs_model.specs.Tree.{Path, Row, Tree, upward, parent, last_name, directory_size, entry_size}
 use Rattle.fs_model.proofs.LookUpLemmas.{look-found}
 use Rattle.fs_model.proofs.TreeLemmas.{insert_here, insert_apart}
-use Rattle.host_folder.specs.Folders.{HostPath, HostRow}
-use Rattle.copy_rules.specs.Importing.{plain_of, AllDone, writes, commands_for, pieces_of, joined}
+use Rattle.host_folder.specs.Folders.{HostPath}
+use Rattle.copy_rules.specs.Importing.{AllDone, writes, commands_for, pieces_of, joined}
 use Rattle.copy_rules.proofs.Pieces.{AreSome, joined-cut, some-cut}
 
 -- this path has such a row now, and every other what it had

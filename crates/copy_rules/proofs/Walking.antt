@@ -1,24 +1,21 @@
 -- One row more of a walk, and what a walk has met.
 use Rattle.std.proofs.Common.{◌≡◌, ◌⊎◌, inl, inr, ℕ, Bool, true, false, cond, List, [], ◌∷◌, ◌++◌, refl, sym, ◌∙◌, ap, subst, append-nil, append_assoc}
-use Rattle.std.specs.Prelude.{T, is_some, Some, None, not, IfSome, ◌&&◌}
-use Rattle.std.specs.FinMap.{get, find, entries, is_sorted, from_sorted, get-entries, entries_sorted, entries-from_sorted, get-from_sorted}
-use Rattle.std.specs.FinMap.Entries.{below_all, where_key, is_sorted-where_key, find-where_key, same_entries}
+use Rattle.std.specs.Prelude.{T, is_some, Some, None, IfSome, ◌&&◌}
+use Rattle.std.specs.FinMap.{get, find, is_sorted}
+use Rattle.std.specs.FinMap.Entries.{below_all}
 use Rattle.std.specs.Cmp.{tied_itself}
 use Rattle.std.specs.Ordering.{is_eq, is_lt}
 use Rattle.std.specs.declared.cmp.Ordering.{Ordering}
 use Rattle.std.specs.declared.cmp.Ordering.TheVariants.{Less, Equal, Greater}
 use Rattle.std.specs.declared.option.Option.{Option}
-use Rattle.std.proofs.lemmas.Option.{same_Some}
 use Rattle.block_id.proofs.Conditions.{left, right}
 use Rattle.fs_model.specs.declared.attr.Kind.{Kind}
-use Rattle.fs_model.specs.declared.attr.Kind.TheVariants.{Directory, File, Link}
 use Rattle.fs_model.specs.Tree.{path_cmp, name_cmp}
 use Rattle.fs_model.proofs.TreeLemmas.{name_total, name_exact, path_total, path_exact}
 use Rattle.store_api.proofs.Rising.{not_below}
-use Rattle.host_folder.specs.Folders.{HostRow, HostPath, HostTree, IsHostTree, directory_row, kind_in}
-use Rattle.copy_rules.specs.Importing.{ArePlain}
+use Rattle.host_folder.specs.Folders.{HostRow, HostPath, HostTree, IsHostTree, kind_in}
 use Rattle.copy_rules.specs.Walks.{Met, Todo, todo_in, Before, BeforeAll, AreOrdered, AreLess, AreAhead, IsPlain, ArePlainRows, AreOf, HasKinds, IsUnder, Covers, IsWalk, IsRowAt}
-use Rattle.copy_rules.proofs.Orders.{before_less, before_below, before_name, less_below, never_less, not_back}
+use Rattle.copy_rules.proofs.Orders.{before_less, before_below, before_name, less_below, never_less}
 
 pub both : (a b : Bool) → T a → T b → T (a && b)
 both true b h g = g

@@ -1,5 +1,5 @@
 -- What a copy leaves: the laws.
-use Rattle.std.specs.Prelude.{◌≡◌, ℕ, List, [], ◌∷◌, ◌++◌, IfSome, Option, Some, None}
+use Rattle.std.specs.Prelude.{◌≡◌, ℕ, List, ◌∷◌, ◌++◌, Option, None}
 use Rattle.std.specs.FinMap.{get}
 use Rattle.std.specs.declared.result.Result.TheVariants.{Ok}
 use Rattle.fs_model.specs.Instant.{Instant}

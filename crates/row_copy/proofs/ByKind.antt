@@ -1,5 +1,5 @@
 -- A row that is copied, by its kind.
-use Rattle.std.proofs.Common.{◌≡◌, ℕ, ◌≤◌, List, [], ◌∷◌, ◌++◌, refl, sym, ◌∙◌, ap, subst}
+use Rattle.std.proofs.Common.{◌≡◌, ℕ, List, [], ◌∷◌, ◌++◌, refl, sym, ◌∙◌, ap, subst}
 use Rattle.std.specs.Prelude.{IfSome, OnOk, Some, None}
 use Rattle.std.specs.FinMap.{get}
 use Rattle.std.specs.declared.option.Option.{Option}
@@ -16,8 +16,6 @@ use Rattle.copy_rules.specs.Importing.{writes, pieces_of}
 use Rattle.copy_rules.specs.Questions.{Asking, LawfulAsker}
 use Rattle.copy_rules.proofs.Asking.{counted_then}
 use Rattle.row_copy.specs.declared.stop.Stop.{Stop}
-use Rattle.row_copy.specs.declared.stop.Stop.TheVariants as stop
-use Rattle.row_copy.specs.Reading.{ReadFaults}
 use Rattle.row_copy.specs.Rows.{Asks, StopsBy, FaultsBy, HasFile, HasLink, FileCopied, LinkCopied, IsPlaced, RowCopied}
 use Rattle.row_copy.proofs.Chains.{asks_then, asks_front}
 

@@ -1,11 +1,11 @@
 -- Commands of a row, one after the other.
-use Rattle.std.proofs.Common.{◌≡◌, ℕ, ◌≤◌, List, [], ◌∷◌, ◌++◌, refl, sym, ◌∙◌, ap, subst, append-nil, append_assoc}
+use Rattle.std.proofs.Common.{◌≡◌, ℕ, List, [], ◌++◌, refl, sym, ◌∙◌, ap, subst, append_assoc}
 use Rattle.std.specs.declared.result.Result.{Result}
 use Rattle.std.specs.declared.result.Result.TheVariants.{Ok, Err}
 use Rattle.fs_model.specs.declared.command.Command.{Command}
 use Rattle.fs_model.specs.declared.reply.Reply.TheVariants.{Error}
 use Rattle.host_folder.specs.Folders.{HostPath}
-use Rattle.copy_rules.specs.Questions.{Question, Asking, LawfulAsker, Asked, AreDone, commands_of}
+use Rattle.copy_rules.specs.Questions.{Question, Asking, LawfulAsker, AreDone, commands_of}
 use Rattle.copy_rules.proofs.Asking.{asked_none, asked_then, answered_done, done_append, commands_append, last_append}
 use Rattle.row_copy.specs.declared.stop.Stop.{Stop}
 use Rattle.row_copy.specs.declared.stop.Stop.TheVariants as stop

@@ -1,9 +1,9 @@
 -- Bytes that are read behind others.
-use Rattle.std.proofs.Common.{◌≡◌, ℕ, zero, suc, ◌+◌, ◌-◌, ◌<◌, ◌≤◌, min, List, [], ◌∷◌, ◌++◌, length, take, drop, refl, sym, ◌∙◌, ap, subst, arith, append_assoc}
+use Rattle.std.proofs.Common.{◌≡◌, ℕ, zero, suc, ◌+◌, ◌-◌, ◌<◌, ◌≤◌, List, [], ◌∷◌, ◌++◌, length, take, drop, refl, sym, ◌∙◌, ap, subst, arith}
 use Rattle.std.specs.Prelude.{IfSome, Some, None}
 use Rattle.std.specs.FinMap.{get}
 use Rattle.std.specs.declared.option.Option.{Option}
-use Rattle.std.proofs.lemmas.List.{length-take, length-drop, length-append, take_all, take-append-drop, drop-drop, take-append-le, take_at, take-take}
+use Rattle.std.proofs.lemmas.List.{length-take, length-drop, length-append, take_all, drop-drop, take-append-le, take_at, take-take}
 use Rattle.std.proofs.lemmas.Option.{same_Some}
 use Rattle.fs_model.specs.declared.attr.Kind.TheVariants.{File}
 use Rattle.host_folder.specs.Folders.{HostRow, HostPath, HostTree, IsFileAt}

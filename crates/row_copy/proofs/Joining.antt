@@ -1,6 +1,6 @@
 -- What one command asks, and commands one after the other.
-use Rattle.std.proofs.Common.{◌≡◌, ℕ, ◌≤◌, List, [], ◌∷◌, ◌++◌, refl, sym, ◌∙◌, ap, subst, append-nil, append_assoc}
-use Rattle.std.specs.Prelude.{IfOk, OnOk, Option, Some, None}
+use Rattle.std.proofs.Common.{◌≡◌, ◌≤◌, List, [], ◌∷◌, refl, ap}
+use Rattle.std.specs.Prelude.{IfOk, OnOk, Some, None}
 use Rattle.std.specs.declared.result.Result.{Result}
 use Rattle.std.specs.declared.result.Result.TheVariants.{Ok, Err}
 use Rattle.fs_model.specs.declared.command.Command.{Command}
@@ -10,14 +10,11 @@ use Rattle.fs_model.specs.declared.reply.Reply.{Reply}
 use Rattle.fs_model.specs.declared.reply.Reply.TheVariants.{Done, Rows, Info, Target, Content, Error}
 use Rattle.fs_model.specs.Step.{step}
 use Rattle.fs_model.specs.Tree.{Tree}
-use Rattle.host_folder.specs.Folders.{HostPath}
 use Rattle.copy_rules.specs.declared.asker.Stopped.{Stopped}
-use Rattle.copy_rules.specs.Ends.{path_of, LastWas, IsFront}
-use Rattle.copy_rules.specs.Questions.{Question, Asking, LawfulAsker, Asked, AreDone, AreAnswered, IsAnswered, Followed, commands_of, IsReplyTo}
-use Rattle.copy_rules.proofs.Asking.{asked_none, asked_then, answered_done, done_append, commands_append, last_append}
-use Rattle.row_copy.specs.declared.stop.Stop.{Stop}
+use Rattle.copy_rules.specs.Ends.{path_of}
+use Rattle.copy_rules.specs.Questions.{Question, Asking, Asked, IsReplyTo}
 use Rattle.row_copy.specs.declared.stop.Stop.TheVariants as stop
-use Rattle.row_copy.specs.Rows.{Asks, RowEnds, AsksFor, IsChange, refusal}
+use Rattle.row_copy.specs.Rows.{Asks, IsChange, refusal}
 
 abbrev pub one : Command → Result Reply Stopped → List Question
 one c r = record { command = c; outcome = r } ∷ []

@@ -3,7 +3,7 @@ use Rattle.std.proofs.Common.{◌≡◌, ℕ, List, [], ◌∷◌}
 use Rattle.std.specs.Prelude.{IfSome, Some, None}
 use Rattle.std.specs.FinMap.{get}
 use Rattle.std.specs.declared.option.Option.{Option}
-use Rattle.std.specs.declared.result.Result.TheVariants.{Ok, Err}
+use Rattle.std.specs.declared.result.Result.TheVariants.{Err}
 use Rattle.fs_model.specs.declared.attr.Kind.TheVariants.{Link}
 use Rattle.fs_model.specs.declared.command.Command.TheVariants as command
 use Rattle.host_folder.specs.Folders.{HostPath, HostTree}

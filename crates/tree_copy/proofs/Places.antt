@@ -1,9 +1,8 @@
 -- The row that is the next: it is too long, fails, or is copied.
-use Rattle.std.proofs.Common.{◌≡◌, inl, inr, ℕ, ◌<◌, ◌≤◌, Bool, true, false, List, [], ◌∷◌, ◌++◌, refl, sym, ◌∙◌, ap, subst, append-nil, append_assoc}
+use Rattle.std.proofs.Common.{◌≡◌, inl, inr, ℕ, ◌<◌, ◌≤◌, true, false, List, [], ◌∷◌, ◌++◌, refl, sym, ◌∙◌, ap, subst, append-nil, append_assoc}
 use Rattle.std.specs.Prelude.{T, is_some, Some, None, IfSome}
 use Rattle.std.specs.FinMap.{get, find, entries, is_sorted}
 use Rattle.std.specs.declared.option.Option.{Option}
-use Rattle.std.specs.declared.result.Result.{Result}
 use Rattle.std.specs.declared.result.Result.TheVariants.{Ok, Err}
 use Rattle.fs_model.specs.declared.attr.Kind.{Kind}
 use Rattle.fs_model.specs.declared.attr.Kind.TheVariants.{Directory}
@@ -15,13 +14,13 @@ use Rattle.host_folder.specs.Folders.{HostRow, HostPath, HostTree, IsHostTree, d
 use Rattle.copy_rules.specs.declared.copied.Totals.{Totals}
 use Rattle.copy_rules.specs.declared.copied.CopyFail.{CopyFail}
 use Rattle.copy_rules.specs.declared.copied.CopyFail.TheVariants as fail
-use Rattle.copy_rules.specs.Ends.{AreShort, FailsBy, IsFront, IsLong, text_size, counted, totals_of, IsWhole}
-use Rattle.copy_rules.specs.Importing.{commands_in, commands_for, import_commands, ArePlain}
+use Rattle.copy_rules.specs.Ends.{AreShort, FailsBy, IsFront, IsLong, text_size, counted}
+use Rattle.copy_rules.specs.Importing.{commands_in, commands_for, import_commands}
 use Rattle.copy_rules.specs.Questions.{Question, Asking, LawfulAsker, Asked, AreDone, commands_of}
-use Rattle.copy_rules.specs.Walks.{Met, Todo, todo_in, AreLess, IsPlain, IsWalk, IsRowAt, Covers, HasKinds, AreAhead, IsUnder}
+use Rattle.copy_rules.specs.Walks.{Met, Todo, todo_in, AreLess, IsPlain, IsWalk, IsRowAt, Covers}
 use Rattle.copy_rules.proofs.Asking.{asked_none, asked_then, answered_done, done_append, last_append, counted_then, counted_all, commands_append}
 use Rattle.copy_rules.proofs.Cutting.{rows_append}
-use Rattle.copy_rules.proofs.Ending.{walk_of, walk_done, walk_next, IsOf}
+use Rattle.copy_rules.proofs.Ending.{walk_of, walk_done, walk_next}
 use Rattle.copy_rules.proofs.Walking.{walk_more, found_left, find_less}
 use Rattle.row_copy.specs.declared.stop.Stop.{Stop}
 use Rattle.row_copy.specs.declared.stop.Stop.TheVariants as stop

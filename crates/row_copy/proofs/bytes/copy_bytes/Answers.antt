@@ -1,6 +1,6 @@
-use Rattle.std.proofs.Common.{◌≡◌, ◌<◌, ◌≤◌, ℕ, ◌+◌, length, ◌∙◌, subst, arith, refl}
+use Rattle.std.proofs.Common.{◌≡◌, ◌<◌, ◌≤◌, ◌+◌, length, ◌∙◌, subst, arith, refl}
 use Rattle.std.specs.Prelude.{IfSome}
-use Rattle.std.specs.declared.result.Result.TheVariants.{Ok, Err}
+use Rattle.std.specs.declared.result.Result.TheVariants.{Err}
 use Rattle.outside.specs.Causes.{RoseBy}
 use Rattle.row_copy.specs.Rows.{IsPiece}
 use Rattle.row_copy.proofs.ByKind.{stops_from}

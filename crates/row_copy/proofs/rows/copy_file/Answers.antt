@@ -1,5 +1,5 @@
-use Rattle.std.proofs.Common.{refl, ◌∙◌}
-use Rattle.std.specs.declared.result.Result.TheVariants.{Ok, Err}
+use Rattle.std.proofs.Common.{refl}
+use Rattle.std.specs.declared.result.Result.TheVariants.{Err}
 use Rattle.row_copy.proofs.ByKind.{stops_from, file_stops, file_row}
 use Rattle.row_copy.proofs.Chains.{still_faults}
 use Rattle.row_copy.proofs.rows.copy_file.Goals as goal

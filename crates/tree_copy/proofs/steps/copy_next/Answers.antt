@@ -1,4 +1,4 @@
-use Rattle.std.proofs.Common.{◌≡◌, ◌++◌, ◌∷◌, [], length, ◌∙◌, refl, sym, ap, subst, append-nil, arith}
+use Rattle.std.proofs.Common.{◌≡◌, ◌∷◌, length, ◌∙◌, refl, sym, ap, subst, append-nil, arith}
 use Rattle.tree_copy.specs.Copies.{IsAt}
 use Rattle.tree_copy.specs.Levels.{todo_of, HasTargets, NextIs}
 use Rattle.tree_copy.proofs.Places.{at_memory}
