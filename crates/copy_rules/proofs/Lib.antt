@@ -1,0 +1,9 @@
+pub mod Pieces
+pub mod Steps
+pub mod Merging
+pub mod Orders
+pub mod Walking
+pub mod Ending
+pub mod Asking
+pub mod Cutting
+pub mod Copying

@@ -1,0 +1,5 @@
+pub mod Importing
+pub mod Questions
+pub mod Ends
+pub mod Walks
+pub mod Laws

@@ -1,0 +1,42 @@
+// What answers the commands of a copy.
+ghost use Rattle.std.specs.Prelude.{◌≡◌, ◌≤◌, [], ◌∷◌, IfOk, OnOk, OnErr};
+ghost use Rattle.outside.specs.Causes.{RoseBy};
+ghost use Rattle.fs_model.specs.Fitting.{IsFitting};
+ghost use Rattle.fs_model.specs.Step.{step};
+ghost use Rattle.fs_model.specs.Tree.{Tree};
+ghost use Rattle.copy_rules.specs.Questions.{Asking, LawfulAsker, IsReplyTo};
+
+use fs_model::{Command, Reply};
+use rand_core::Rng;
+use std::alloc::Global;
+
+/// The command wasn't answered.
+#[derive(Clone, Copy)]
+pub struct Stopped;
+
+/// Answers commands, one after another. What it has, counts and was asked is told by `asking`.
+pub trait Asker {
+    ghost asking: { Asking Self };
+
+    /// Asks a command.
+    fn ask<R: Rng>(
+        &mut self,
+        alloc: Global,
+        command: &Command,
+        chance: &mut R,
+    ) -> Result<Reply, Stopped>
+        requires ready { asking.ready self.old }
+        requires fits { IsFitting command.now }
+        ensures ready { asking.ready self.new }
+        ensures moment { asking.moment self.new ≡ asking.moment self.old }
+        ensures went { asking.went self.old (record { command = command.now; outcome = result } ∷ []) self.new }
+        ensures variant { IfOk result (IsReplyTo command.now) }
+        ensures stands { (t : Tree) → asking.stands_for self.old t → asking.forgeries self.new ≤ asking.forgeries self.old
+            → IfOk result (λ reply. (next : Tree) × ((step t (asking.moment self.old) command.now ≡ record { reply = reply; tree = next }) × asking.stands_for self.new next)) }
+        ensures forgeries { asking.forgeries self.old ≤ asking.forgeries self.new }
+        ensures stops { asking.stops self.old ≤ asking.stops self.new }
+        ensures cause { OnErr result (RoseBy 1 (asking.stops self.old) (asking.stops self.new)) }
+        ensures quiet { OnOk result (asking.stops self.new ≡ asking.stops self.old) };
+
+    ghost lawful: { LawfulAsker asking };
+}

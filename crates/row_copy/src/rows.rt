@@ -1,0 +1,145 @@
+// One row of a folder, without what is below it.
+ghost use Rattle.std.specs.Prelude.{◌≡◌, ◌∷◌, [], IfSome, OnOk};
+ghost use Rattle.fs_model.specs.declared.command.Command.TheVariants.{Mkdir, Mkfile};
+ghost use Rattle.copy_rules.specs.Ends.{counted};
+ghost use Rattle.fs_model.specs.declared.attr.Kind.TheVariants.{File};
+ghost use Rattle.row_copy.specs.Rows.{Asks, StopsBy, FaultsBy, NeverHost, HasFile, HasLink, LinkCopied, IsPlaced, RowCopied};
+
+use crate::asking::ask_done;
+use crate::bytes::copy_bytes;
+use crate::paths::copy_path;
+use crate::place::RowPlace;
+use crate::stop::Stop;
+use block_id::Memory;
+use copy_rules::{Asker, Totals};
+use fs_model::{Command, Kind, Path};
+use host_folder::Folder;
+use outside::GetFail;
+use rand_core::Rng;
+use std::alloc::Global;
+
+/// Makes a directory at this path.
+fn make_directory<A: Asker, R: Rng>(
+    alloc: Global,
+    asker: &mut A,
+    to: &Path,
+    totals: &mut Totals,
+    chance: &mut R,
+) -> Result<(), Stop>
+    requires ready { A.asking.ready asker.old }
+    ensures ready { A.asking.ready asker.new }
+    ensures asks { Asks A.asking asker.old asker.new to.now (Mkdir to.now ∷ []) result }
+    ensures stops { StopsBy (A.asking.stops asker.old) (A.asking.stops asker.new) result }
+    ensures counts { OnOk result (totals.new ≡ counted totals.old (Mkdir to.now ∷ [])) }
+    ensures host { NeverHost result }
+{
+    let path = match copy_path(alloc, to) {
+        Ok(path) => path,
+        Err(Memory) => return Err(Stop::Memory),
+    };
+    ask_done(alloc, asker, &Command::Mkdir(path), totals, chance)
+}
+
+/// Makes a file without bytes at this path.
+fn make_file<A: Asker, R: Rng>(
+    alloc: Global,
+    asker: &mut A,
+    to: &Path,
+    totals: &mut Totals,
+    chance: &mut R,
+) -> Result<(), Stop>
+    requires ready { A.asking.ready asker.old }
+    ensures ready { A.asking.ready asker.new }
+    ensures asks { Asks A.asking asker.old asker.new to.now (Mkfile to.now ∷ []) result }
+    ensures stops { StopsBy (A.asking.stops asker.old) (A.asking.stops asker.new) result }
+    ensures counts { OnOk result (totals.new ≡ counted totals.old (Mkfile to.now ∷ [])) }
+    ensures host { NeverHost result }
+{
+    let path = match copy_path(alloc, to) {
+        Ok(path) => path,
+        Err(Memory) => return Err(Stop::Memory),
+    };
+    ask_done(alloc, asker, &Command::Mkfile(path), totals, chance)
+}
+
+/// Copies a link.
+fn copy_link<F: Folder, A: Asker, R: Rng>(
+    alloc: Global,
+    host: &mut F,
+    asker: &mut A,
+    at: &RowPlace,
+    totals: &mut Totals,
+    chance: &mut R,
+) -> Result<(), Stop>
+    requires ready { A.asking.ready asker.old }
+    requires told { IfSome (F.tree host.old) (λ t. HasLink t at.now.from) }
+    ensures ready { A.asking.ready asker.new }
+    ensures same { F.tree host.new ≡ F.tree host.old }
+    ensures faults { FaultsBy (F.faults host.old) (F.faults host.new) result }
+    ensures stops { StopsBy (A.asking.stops asker.old) (A.asking.stops asker.new) result }
+    ensures copied { LinkCopied A.asking asker.old asker.new (F.tree host.old) at.now.from at.now.to totals.old totals.new result }
+{
+    let target = match host.link(alloc, &at.from) {
+        Ok(target) => target,
+        Err(GetFail::Memory) => return Err(Stop::Memory),
+        Err(GetFail::Failed) => return Err(Stop::Host),
+    };
+    let path = match copy_path(alloc, &at.to) {
+        Ok(path) => path,
+        Err(Memory) => return Err(Stop::Memory),
+    };
+    ask_done(
+        alloc,
+        asker,
+        &Command::Symlink(target, path),
+        totals,
+        chance,
+    )
+}
+
+/// Copies a file.
+fn copy_file<F: Folder, A: Asker, R: Rng>(
+    alloc: Global,
+    host: &mut F,
+    asker: &mut A,
+    at: &RowPlace,
+    totals: &mut Totals,
+    chance: &mut R,
+) -> Result<(), Stop>
+    requires ready { A.asking.ready asker.old }
+    requires told { IfSome (F.tree host.old) (λ t. HasFile t at.now.from) }
+    ensures ready { A.asking.ready asker.new }
+    ensures same { F.tree host.new ≡ F.tree host.old }
+    ensures faults { FaultsBy (F.faults host.old) (F.faults host.new) result }
+    ensures stops { StopsBy (A.asking.stops asker.old) (A.asking.stops asker.new) result }
+    ensures copied { RowCopied A.asking asker.old asker.new (F.tree host.old) File at.now.from at.now.to totals.old totals.new result }
+{
+    match make_file(alloc, asker, &at.to, totals, chance) {
+        Ok(()) => copy_bytes(alloc, host, asker, at, totals, chance),
+        Err(stop) => Err(stop),
+    }
+}
+
+/// Copies one row without what is below it.
+pub fn copy_row<F: Folder, A: Asker, R: Rng>(
+    alloc: Global,
+    host: &mut F,
+    asker: &mut A,
+    at: &RowPlace,
+    totals: &mut Totals,
+    chance: &mut R,
+) -> Result<(), Stop>
+    requires ready { A.asking.ready asker.old }
+    requires told { IfSome (F.tree host.old) (λ t. IsPlaced t at.now.from at.now.kind) }
+    ensures ready { A.asking.ready asker.new }
+    ensures same { F.tree host.new ≡ F.tree host.old }
+    ensures faults { FaultsBy (F.faults host.old) (F.faults host.new) result }
+    ensures stops { StopsBy (A.asking.stops asker.old) (A.asking.stops asker.new) result }
+    ensures copied { RowCopied A.asking asker.old asker.new (F.tree host.old) at.now.kind at.now.from at.now.to totals.old totals.new result }
+{
+    match at.kind {
+        Kind::Directory => make_directory(alloc, asker, &at.to, totals, chance),
+        Kind::File => copy_file(alloc, host, asker, at, totals, chance),
+        Kind::Link => copy_link(alloc, host, asker, at, totals, chance),
+    }
+}

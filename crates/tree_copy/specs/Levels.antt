@@ -1,0 +1,52 @@
+-- The directories that a copy is in: the outermost first.
+use Rattle.std.specs.Prelude.{◌≡◌, ℕ, List, [], ◌∷◌, ◌++◌, map, drop, T, IfSome}
+use Rattle.std.specs.FinMap.{get, find, is_sorted}
+use Rattle.std.specs.declared.option.Option.{Option}
+use Rattle.std.specs.declared.option.Option.TheVariants.{None, Some}
+use Rattle.fs_model.specs.declared.attr.Kind.{Kind}
+use Rattle.fs_model.specs.Tree.{name_cmp}
+use Rattle.host_folder.specs.Folders.{HostPath, HostTree, IsHostTree, kind_in, row_pair}
+use Rattle.copy_rules.specs.Walks.{Todo, todo_in, HasKinds}
+use Rattle.row_copy.specs.declared.place.RowPlace.{RowPlace}
+use Rattle.tree_copy.specs.declared.levels.Level.{Level}
+
+-- the rows that are left
+abbrev pub left_of : Level → List (List ℕ × Kind)
+left_of l = drop l.next (map row_pair l.rows)
+
+-- the innermost directory's rows are copied first
+abbrev pub todo_of : List Level → Todo
+todo_of [] = []
+todo_of (l ∷ ls) = todo_of ls ++ todo_in l.host (left_of l)
+
+-- each directory of the folder has its path below q in the tree
+abbrev pub HasTargets : HostPath → List Level → Type 0
+HasTargets q [] = Unit {0}
+HasTargets q (l ∷ ls) = (l.target ≡ q ++ l.host) × HasTargets q ls
+
+-- the told tree has the rows that are left
+pub record AreKnown (t : HostTree) (levels : List Level) : Type 0 where
+  pub tree : IsHostTree t
+  pub kinds : HasKinds t (todo_of levels)
+
+-- the first of the rows that were left is taken
+pub record IsTaken (old new : Level) (at : RowPlace) : Type 0 where
+  pub name : List ℕ
+  pub host : new.host ≡ old.host
+  pub target : new.target ≡ old.target
+  pub left : left_of old ≡ (name, at.kind) ∷ left_of new
+  pub from : at.from ≡ old.host ++ name ∷ []
+  pub to : at.to ≡ old.target ++ name ∷ []
+
+abbrev pub NextIs : Level → Level → Option RowPlace → Type 0
+NextIs old new None = left_of old ≡ []
+NextIs old new (Some at) = IsTaken old new at
+
+-- a directory more, with all its rows left
+pub record IsEntered (told : Option HostTree) (from to : HostPath) (old new : List Level) : Type 0 where
+  pub level : Level
+  pub is : new ≡ old ++ level ∷ []
+  pub host : level.host ≡ from
+  pub target : level.target ≡ to
+  pub rise : T (is_sorted name_cmp (left_of level))
+  pub rows : IfSome told (λ t. (n : List ℕ) → find name_cmp n (left_of level) ≡ kind_in (get t (from ++ n ∷ [])))

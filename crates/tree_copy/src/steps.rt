@@ -1,0 +1,102 @@
+// One row more of a copy.
+ghost use Rattle.std.specs.Prelude.{◌≡◌, IfSome};
+ghost use Rattle.copy_rules.specs.Ends.{HostCause, StopCause};
+ghost use Rattle.row_copy.specs.Rows.{IsPlaced};
+ghost use Rattle.tree_copy.specs.Levels.{AreKnown};
+ghost use Rattle.tree_copy.specs.Copies.{Steps, StepsAt, fail_of};
+
+use crate::levels::{Level, enter, next_row};
+use block_id::Memory;
+use copy_rules::{Asker, CopyFail, Totals};
+use fs_model::{Kind, Path};
+use host_folder::Folder;
+use outside::GetFail;
+use rand_core::Rng;
+use row_copy::{RowPlace, Stop, copy_row, is_short};
+use std::alloc::Global;
+
+fn fail_at(stop: Stop, path: Path) -> CopyFail
+    ensures { result ≡ fail_of stop path }
+{
+    match stop {
+        Stop::Memory => CopyFail::Memory,
+        Stop::Host => CopyFail::Host,
+        Stop::Stopped => CopyFail::Stopped,
+        Stop::Refused(error) => CopyFail::Refused(path, error),
+    }
+}
+
+/// Copies the row, and begins the directory that it is.
+fn copy_at<F: Folder, A: Asker, R: Rng>(
+    alloc: Global,
+    host: &mut F,
+    asker: &mut A,
+    at: RowPlace,
+    levels: &mut Vec<Level>,
+    totals: &mut Totals,
+    chance: &mut R,
+) -> Result<(), CopyFail>
+    requires ready { A.asking.ready asker.old }
+    requires told { IfSome (F.tree host.old) (λ t. IsPlaced t at.from at.kind) }
+    ensures ready { A.asking.ready asker.new }
+    ensures same { F.tree host.new ≡ F.tree host.old }
+    ensures host { HostCause (F.faults host.old) (F.faults host.new) result }
+    ensures stops { StopCause (A.asking.stops asker.old) (A.asking.stops asker.new) result }
+    ensures steps { StepsAt A.asking asker.old asker.new (F.tree host.old) at levels.old.items levels.new.items totals.old totals.new result }
+{
+    if !is_short(&at.to) {
+        return Err(CopyFail::LongPath(at.to));
+    }
+    match copy_row(alloc, host, asker, &at, totals, chance) {
+        Ok(()) => {}
+        Err(stop) => return Err(fail_at(stop, at.to)),
+    }
+    match at.kind {
+        Kind::Directory => {}
+        Kind::File => return Ok(()),
+        Kind::Link => return Ok(()),
+    }
+    match enter(alloc, host, at.from, &at.to, levels) {
+        Ok(()) => {}
+        Err(GetFail::Memory) => return Err(CopyFail::Memory),
+        Err(GetFail::Failed) => return Err(CopyFail::Host),
+    }
+    Ok(())
+}
+
+/// Copies the next row of the directory that was begun last, and begins the directory that it is. Whether that isn't all.
+pub fn copy_next<F: Folder, A: Asker, R: Rng>(
+    alloc: Global,
+    host: &mut F,
+    asker: &mut A,
+    levels: &mut Vec<Level>,
+    totals: &mut Totals,
+    chance: &mut R,
+) -> Result<bool, CopyFail>
+    requires ready { A.asking.ready asker.old }
+    requires told { IfSome (F.tree host.old) (λ t. AreKnown t levels.old.items) }
+    ensures ready { A.asking.ready asker.new }
+    ensures same { F.tree host.new ≡ F.tree host.old }
+    ensures host { HostCause (F.faults host.old) (F.faults host.new) result }
+    ensures stops { StopCause (A.asking.stops asker.old) (A.asking.stops asker.new) result }
+    ensures steps { Steps A.asking asker.old asker.new (F.tree host.old) levels.old.items levels.new.items totals.old totals.new result }
+{
+    let mut level = match levels.pop() {
+        Some(level) => level,
+        None => return Ok(false),
+    };
+    let at = match next_row(alloc, &mut level) {
+        Ok(Some(at)) => at,
+        Ok(None) => return Ok(true),
+        Err(Memory) => return Err(CopyFail::Memory),
+    };
+    match levels.push(level) {
+        Ok(()) => {}
+        Err(_) => return Err(CopyFail::Memory),
+    }
+    match copy_at(alloc, host, asker, at, levels, totals, chance) {
+        Ok(()) => {}
+        Err(fail) => return Err(fail),
+    }
+    Ok(true)
+}
