@@ -1,9 +1,9 @@
 // A walk over the blocks of one tree.
-ghost use Rattle.std.specs.Prelude.{◌≡◌, ◌≤◌, ◌<◌, ◌*◌, ◌^◌, [], length, IfOk};
+ghost use Rattle.std.specs.Prelude.{◌≡◌, ◌<◌, ◌*◌, ◌^◌, [], length, IfOk};
 ghost use Rattle.outcome.specs.Outcome.{Outcome};
 ghost use Rattle.store_api.specs.Holdings.{Stays};
-ghost use Rattle.data_nodes.specs.Layout.{node_of, ids_of, FitsPayload, fan_out};
-ghost use Rattle.data_tree.specs.Trees.{IsTree, Holds, Forest, IsDepth, span, depth_in};
+ghost use Rattle.data_nodes.specs.Layout.{node_of, ids_of, FitsPayload};
+ghost use Rattle.data_tree.specs.Trees.{IsTree, Holds, Forest, span, depth_in};
 ghost use Rattle.data_tree.specs.Stored.{BlobTree};
 ghost use Rattle.block_walk.specs.Fronts.{FrontState};
 ghost use Rattle.block_walk.specs.Given.{fail_of};

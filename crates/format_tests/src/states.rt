@@ -201,7 +201,7 @@ fn live_ids_rise_and_lack_the_dead(rt: HostRuntime) -> Result<(), Fail> {
     let mut known = Known::new(rt.alloc());
     assert_eq!(rt; known.live_ids(rt.alloc())?.len(), 0);
     for byte in [7, 0xff, 1, 0x80, 3] {
-        raise(&mut known, &BlockId([byte; 16]))?;
+        assert_eq!(rt; raise(&mut known, &BlockId([byte; 16]))?, Ok(1));
     }
     for byte in [0xff, 3] {
         let id = BlockId([byte; 16]);
