@@ -26,5 +26,5 @@ returns-in-Ok-clause-kept g c =
     let unmarked = put_unmarked M H A D R laws steady a begun b s changes first last done c.requires.unmarked in
     let content = put_content M H A D R laws steady a begun b s changes first last done changed c.requires.sound in
     let same = put_identity M H A D R laws steady a begun b s changes first last done in
-    let (bytes, is, stands) = c.in-Ok.ensures.stands (over changes (H.content a)) sound unmarked content in
-    (bytes, is, subst (λ d. R.stands d bytes (D.trace c.sync-synced.new.store) (over changes (H.content a))) (c.in-Ok.ensures.identity ∙ same) stands)
+    let (bytes, is, stands) = c.in-Ok.ensures.syncs.stands (over changes (H.content a)) sound unmarked content in
+    (bytes, is, subst (λ d. R.stands d bytes (D.trace c.sync-synced.new.store) (over changes (H.content a))) (c.in-Ok.ensures.moves.leaves.identity ∙ same) stands)
