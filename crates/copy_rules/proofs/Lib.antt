@@ -1,4 +1,5 @@
 pub mod Pieces
+pub mod Touching
 pub mod Steps
 pub mod Merging
 pub mod Orders

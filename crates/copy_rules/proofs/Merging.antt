@@ -61,7 +61,7 @@ merged_in now q ((k ∷ s, x) ∷ es) old new sorted h =
       each = λ n r row e fits. each_of n r row (path_cmp (n ∷ r) (k ∷ s)) refl e fits stays set (λ n r row e fits. m.each n r row e fits);
       rest = λ p none.
           m.rest p (λ n r some. none n r (some_either (is_eq (path_cmp (n ∷ r) (k ∷ s))) x (find path_cmp (n ∷ r) es) some))
-          ∙ ap plain_of (set.others p (none k s (some_here (path_cmp (k ∷ s) (k ∷ s)) x (find path_cmp (k ∷ s) es) (tied_itself path_total (k ∷ s)))));
+          ∙ set.others p (none k s (some_here (path_cmp (k ∷ s) (k ∷ s)) x (find path_cmp (k ∷ s) es) (tied_itself path_total (k ∷ s))));
     }
   where
     by_none : (a b : HostPath) (es : List (HostPath × HostRow)) → find path_cmp b es ≡ None → is_some (find path_cmp a es) ≡ true → a ≡ b → ⊥

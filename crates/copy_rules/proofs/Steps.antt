@@ -15,21 +15,23 @@ use Rattle.fs_model.specs.declared.limits.TheConstants.{MAX_ENTRIES}
 use Rattle.fs_model.specs.declared.reply.Reply.TheVariants.{Done, Error}
 use Rattle.fs_model.specs.Instant.{Instant}
 use Rattle.fs_model.specs.LookUp.{LookedUp, Found, Free, Bad, look}
-use Rattle.fs_model.specs.Step.{Stepped, made, written, on_file, new_row, with_content, refused, done, is_too_long}
+use Rattle.fs_model.specs.Step.{Stepped, made, touched, written, on_file, new_row, with_content, refused, done, is_too_long}
 use Rattle.fs_model.specs.Tree.{Path, Row, Tree, upward, parent, last_name, directory_size, entry_size}
 use Rattle.fs_model.proofs.LookUpLemmas.{look-found}
+use Rattle.fs_model.proofs.Touches.{touched-apart}
 use Rattle.fs_model.proofs.TreeLemmas.{insert_here, insert_apart}
 use Rattle.host_folder.specs.Folders.{HostPath}
-use Rattle.copy_rules.specs.Importing.{AllDone, writes, commands_for, pieces_of, joined}
+use Rattle.copy_rules.specs.Importing.{AllDone, writes, commands_for, pieces_of, joined, plain_of}
 use Rattle.copy_rules.proofs.Pieces.{AreSome, joined-cut, some-cut}
+use Rattle.copy_rules.proofs.Touching.{longer_not, touched_plain}
 
--- this path has such a row now, and every other what it had
+-- this path has such a row now, and every other path has the kind and the bytes that it had
 pub record Sets (old new : Tree) (p : Path) (kind : Kind) (bytes : List ℕ) : Type 0 where
   pub row : Row
   pub here : get new p ≡ Some row
   pub of_kind : row.attr.kind ≡ kind
   pub holds : row.bytes ≡ bytes
-  pub others : (q : Path) → q ≢ p → get new q ≡ get old q
+  pub others : (q : Path) → q ≢ p → plain_of (get new q) ≡ plain_of (get old q)
 
 abbrev IsDone : Stepped → Tree → Type 0
 IsDone s next = s ≡ record { reply = Done; tree = next }
@@ -44,18 +46,26 @@ unless : (b : Bool) (t : Tree) (e : FsError) (after next : Tree) → IsDone (con
 unless true t e after next h = absurd (refused_not t e next h)
 unless false t e after next h = done_is after next h
 
-made_is : (t : Tree) (p : Path) (row : Row) (s : LookedUp) (next : Tree) → IsDone (made t p row s) next → insert t p row ≡ next
-made_is t p row (Found old) next h = absurd (refused_not t Exists next h)
-made_is t p row Free next h = unless (nat_lt MAX_ENTRIES (directory_size t (parent p) + entry_size (last_name p))) t TooLarge (insert t p row) next h
-made_is t p row (Bad e) next h = absurd (refused_not t e next h)
+-- the new row, and its directory touched
+abbrev with_new : Tree → Instant → Path → Row → Tree
+with_new t now p row = touched (insert t p row) now (parent p)
 
-made_sets : (t next : Tree) (p : Path) (row : Row) → insert t p row ≡ next → Sets t next p row.attr.kind row.bytes
-made_sets t next p row is = subst (λ n. Sets t n p row.attr.kind row.bytes) is (record {
+made_is : (t : Tree) (now : Instant) (p : Path) (row : Row) (s : LookedUp) (next : Tree) → IsDone (made t now p row s) next → with_new t now p row ≡ next
+made_is t now p row (Found old) next h = absurd (refused_not t Exists next h)
+made_is t now p row Free next h = unless (nat_lt MAX_ENTRIES (directory_size t (parent p) + entry_size (last_name p))) t TooLarge (with_new t now p row) next h
+made_is t now p row (Bad e) next h = absurd (refused_not t e next h)
+
+new_here : (t : Tree) (now : Instant) (p : Path) (row : Row) → get (with_new t now p row) p ≡ Some row
+new_here t now [] row = insert_here t [] row
+new_here t now (n ∷ d) row = touched-apart (insert t (n ∷ d) row) now d (n ∷ d) (longer_not n d) ∙ insert_here t (n ∷ d) row
+
+made_sets : (t next : Tree) (now : Instant) (p : Path) (row : Row) → with_new t now p row ≡ next → Sets t next p row.attr.kind row.bytes
+made_sets t next now p row is = subst (λ n. Sets t n p row.attr.kind row.bytes) is (record {
   row = row;
-  here = insert_here t p row;
+  here = new_here t now p row;
   of_kind = refl;
   holds = refl;
-  others = λ q differ. insert_apart t p row q differ;
+  others = λ q differ. touched_plain (insert t p row) now (parent p) q ∙ ap plain_of (insert_apart t p row q differ);
 })
 
 appended : (w v : List ℕ) → overwritten w (length w) v ≡ w ++ v
@@ -92,7 +102,7 @@ writes_set now q [] t last row w here kind bytes some h = record {
   here = ap (λ x. get x (upward q)) h ∙ here;
   of_kind = kind;
   holds = bytes ∙ sym (append-nil w);
-  others = λ r differ. ap (λ x. get x r) h;
+  others = λ r differ. ap (λ x. plain_of (get x r)) h;
 }
 writes_set now q (v ∷ more) t last row w here kind bytes some (mid, (h, rest)) =
     let p : Path = upward q in
@@ -109,7 +119,7 @@ writes_set now q (v ∷ more) t last row w here kind bytes some (mid, (h, rest))
       here = all.here;
       of_kind = all.of_kind;
       holds = all.holds ∙ append_assoc w v (joined more);
-      others = λ r differ. all.others r differ ∙ (ap (λ x. get x r) (sym is) ∙ insert_apart t (upward q) next r differ);
+      others = λ r differ. all.others r differ ∙ ap plain_of (ap (λ x. get x r) (sym is) ∙ insert_apart t (upward q) next r differ);
     }
 
 abbrev pub bytes_by : Kind → List ℕ → List ℕ
@@ -120,11 +130,11 @@ bytes_by Link w = w
 -- the commands of one row
 pub row_sets : (now : Instant) (q : HostPath) (kind : Kind) (w : List ℕ) (t last : Tree) → AllDone t now (commands_for q kind w) last → Sets t last (upward q) kind (bytes_by kind w)
 row_sets now q Directory w t last (mid, (h, e)) =
-    subst (λ x. Sets t x (upward q) Directory []) (sym e) (made_sets t mid (upward q) (new_row Directory DIRECTORY_MODE now []) (made_is t (upward q) (new_row Directory DIRECTORY_MODE now []) (look t (upward q)) mid h))
+    subst (λ x. Sets t x (upward q) Directory []) (sym e) (made_sets t mid now (upward q) (new_row Directory DIRECTORY_MODE now []) (made_is t now (upward q) (new_row Directory DIRECTORY_MODE now []) (look t (upward q)) mid h))
 row_sets now q Link w t last (mid, (h, e)) =
-    subst (λ x. Sets t x (upward q) Link w) (sym e) (made_sets t mid (upward q) (new_row Link LINK_MODE now w) (made_is t (upward q) (new_row Link LINK_MODE now w) (look t (upward q)) mid h))
+    subst (λ x. Sets t x (upward q) Link w) (sym e) (made_sets t mid now (upward q) (new_row Link LINK_MODE now w) (made_is t now (upward q) (new_row Link LINK_MODE now w) (look t (upward q)) mid h))
 row_sets now q File w t last (mid, (h, rest)) =
-    let first = made_sets t mid (upward q) (new_row File FILE_MODE now []) (made_is t (upward q) (new_row File FILE_MODE now []) (look t (upward q)) mid h) in
+    let first = made_sets t mid now (upward q) (new_row File FILE_MODE now []) (made_is t now (upward q) (new_row File FILE_MODE now []) (look t (upward q)) mid h) in
     let all = writes_set now q (pieces_of w) mid last first.row [] first.here first.of_kind first.holds (some-cut 1048576 (length w) w (omega arith)) rest in
     record {
       row = all.row;
