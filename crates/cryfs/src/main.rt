@@ -2,9 +2,10 @@
 #![tactic(auto)]
 
 use call_log::{ByteLog, CallLog};
-use cryfs_shell::{Status, run};
 use program_inputs::Inputs;
+use program_run::run_program;
 use real_streams::{ReaderSource, WriterSink};
+use run_status::Status;
 use std::io;
 use std::process::ExitCode;
 
@@ -17,15 +18,14 @@ fn run_words(rt: &HostRuntime) -> Status {
     let Ok(keeper) = inputs.make_keeper(rt) else {
         return Status::Memory;
     };
-    let ended = run(
-        rt.alloc(),
-        inputs.words.as_slice(),
-        inputs.now,
+    let ended = run_program(
+        rt,
+        &inputs,
+        keeper,
         &mut ReaderSource::new(rt.reader()),
         &mut WriterSink::new(io::writer(rt), ByteLog::new()),
-        inputs.vault(rt, CallLog::new()),
-        keeper,
         &mut chance,
+        CallLog::new(),
     );
     ended.status
 }

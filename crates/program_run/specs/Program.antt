@@ -1,0 +1,54 @@
+-- A run of the program as a call of `run`: what is told of its two folders and of its streams.
+use Rattle.std.specs.Prelude.{ℕ, List}
+use Rattle.std.specs.declared.option.Option.{Option}
+use Rattle.std.specs.declared.option.Option.TheVariants.{None, Some}
+use Rattle.rand_core.specs.Stream.{Stream as Chance}
+use Rattle.fs_model.specs.Instant.{Instant}
+use Rattle.line_io.specs.Streams.{Stream}
+use Rattle.outside.specs.Trace.{Call}
+use Rattle.outside.specs.declared.keeper.Keeper.{Ghosts as KeeperGhosts}
+use Rattle.real_folders.specs.Adapters.{FolderVaultState, FolderKeeperState}
+use Rattle.run_status.specs.declared.ended.Ended.{Ended}
+use Rattle.run_status.specs.declared.status.Status.{Status}
+use Rattle.run_histories.specs.Calls.{RunCall}
+use Rattle.session_runs.specs.Runs.{Outside}
+
+-- the calls that a block directory tells, its faults, and what is seen of a local record
+abbrev pub folder_calls : FolderVaultState → Option (List Call)
+folder_calls v = Some v.calls
+
+abbrev pub folder_faults : FolderVaultState → ℕ
+folder_faults v = v.faults
+
+abbrev pub folder_record : KeeperGhosts FolderKeeperState
+folder_record = record { kept = λ k. k.kept; room = λ k. k.room; faults = λ k. k.faults }
+
+-- an input of which nothing is told but how often it failed
+abbrev pub untold : ℕ → ℕ → Stream
+untold faults risen = record { old = None; new = None; faults = faults; risen = risen }
+
+-- an output of which all is told that it took
+abbrev pub told : List ℕ → List ℕ → ℕ → ℕ → Stream
+told old new faults risen = record { old = Some old; new = Some new; faults = faults; risen = risen }
+
+-- as the run begins, after these calls on the block folder
+abbrev pub at_first : List Call → FolderKeeperState → Outside
+at_first calls keeper = record { kept = keeper.kept; calls = Some calls; vault_faults = 0; keeper_faults = keeper.faults }
+
+-- as it ended
+abbrev pub at_last : Ended FolderVaultState FolderKeeperState → Outside
+at_last ended = record { kept = ended.keeper.kept; calls = Some ended.vault.calls; vault_faults = ended.vault.faults; keeper_faults = ended.keeper.faults }
+
+-- its words and moment, the random bytes before and after, its streams, what was outside before and after, and its status
+abbrev pub program_call : List (List ℕ) → Instant → Chance → Chance → Stream → Stream → Outside → Outside → Status → RunCall
+program_call words now chance left input output before after status = record {
+  words = words;
+  now = now;
+  chance = chance;
+  left = left;
+  input = input;
+  output = output;
+  before = before;
+  after = after;
+  status = status;
+}
