@@ -8,8 +8,7 @@ use test_systems::ZEROS;
 const SCRIPT: &[u8] =
     b"mkdir /a\nmkfile /a/f\nwrite /a/f 0 6162\nread /a/f 0 10\nls /\nrm /a\nread /b 0 1\n";
 
-const ANSWERS: &[u8] =
-    b"ok\nok\nok\ndata 6162\nlist 1\nd a\nerror is-directory\nerror no-entry\n";
+const ANSWERS: &[u8] = b"ok\nok\nok\ndata 6162\nlist 1\nd a\nerror is-directory\nerror no-entry\n";
 
 #[test]
 fn a_file_system_in_memory_answers_as_the_plain_tree(rt: HostRuntime) -> Result<(), Fail> {
