@@ -1,6 +1,7 @@
 """Runs of the built program on real folders, for the scripts beside this file."""
 import os
 import re
+import shutil
 import subprocess
 import tempfile
 import threading
@@ -22,6 +23,9 @@ class Folders:
         self.blocks, self.state = os.path.join(self.top, "blocks"), os.path.join(self.top, "state")
         os.mkdir(self.blocks)
         os.mkdir(self.state)
+
+    def remove(self):
+        shutil.rmtree(self.top, ignore_errors=True)
 
 
 @dataclass
