@@ -57,9 +57,19 @@ class Call:
             if lies_within(inner, outer):
                 raise Refused(f"{what}: {real(inner)} is below {real(outer)}. Name two folders of which none holds the other; "
                               "STATE stays on this machine")
-        if self.command != "create" and not os.path.lexists(os.path.join(self.state, RECORD)):
-            raise Refused(f"no record of a file system in STATE, {real(self.state)}: name the right folder, or bring back its last copy; "
-                          "only create makes one")
+        if self.command != "create":
+            check_record(self.state)
+
+
+def check_record(state):
+    """Refuses a folder whose record isn't there, and one that can't be read."""
+    try:
+        os.lstat(os.path.join(state, RECORD))
+    except (FileNotFoundError, NotADirectoryError):
+        raise Refused(f"no record of a file system in STATE, {real(state)}: name the right folder, or bring back its last copy; "
+                      "only create makes one")
+    except OSError as problem:
+        raise Refused(f"STATE, {real(state)}, can't be read: {problem.strerror}")
 
 
 def split_folders(words, environment):
