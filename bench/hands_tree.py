@@ -55,6 +55,8 @@ echo closed >>"$got"
 """
 # The most seconds that a run may take, so that a busy machine fails nothing.
 LIMIT = 60
+# What an installation takes of the documents, README.md aside.
+INSTALLED_PAGES = ("docs/USING.md", "docs/FORMATS.md", "docs/PERFORMANCE.md")
 
 
 class Tree:
@@ -63,7 +65,7 @@ class Tree:
     def __init__(self, folder):
         self.top, self.started, self.exported = folder, [], {}
         os.makedirs(f"{folder}/bin")
-        for name in ("cryfs", "build", "HANDLES", "README.md", "tools/prove.py", "docs/USING.md", "docs/FORMATS.md"):
+        for name in ("cryfs", "build", "HANDLES", "README.md", "tools/prove.py", *INSTALLED_PAGES):
             os.makedirs(os.path.dirname(f"{folder}/{name}"), exist_ok=True)
             shutil.copy2(f"{TOP}/{name}", f"{folder}/{name}")
         shutil.copytree(f"{TOP}/wrapper", f"{folder}/wrapper", ignore=shutil.ignore_patterns("__pycache__"))
