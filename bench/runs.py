@@ -58,8 +58,9 @@ def most_memory(pid, told):
 
 
 class Program:
-    def __init__(self, path=BUILT):
-        self.path = os.path.abspath(path)
+    def __init__(self, path=BUILT, before=()):
+        """The program, called by the words before it, where there are some."""
+        self.path, self.before = os.path.abspath(path), list(before)
         if not os.access(self.path, os.X_OK):
             raise SystemExit(f"{self.path} isn't built: run ./build")
 
@@ -70,7 +71,7 @@ class Program:
             given.writelines(line.encode() + b"\n" for line in [*([] if password is None else [password]), *lines])
             given.seek(0)
             peak, start = [0], time.monotonic()
-            process = subprocess.Popen([self.path, folders.blocks, folders.state, *words], stdin=given, stdout=output,
+            process = subprocess.Popen([*self.before, self.path, folders.blocks, folders.state, *words], stdin=given, stdout=output,
                                        stderr=errors, **how)
             watch = threading.Thread(target=most_memory, args=(process.pid, peak))
             watch.start()
