@@ -9,6 +9,8 @@ between. A status has to be one of the page's, and never an alarm. Afterwards an
     passwd        the same under the old password or the new one; under the new one, where the run ended with 0
     create        the empty tree, where the run ended with 0; else that, or no file system
     shell         the tree of a kept point: that of the last sync that was answered ok, or of one that was tried after it
+                  Where the input or the output failed the run was closed, so then also that after the last line that was asked,
+                  though its answer may not have been written
 
 A line that was answered a fault must have left the tree. The tree is compared with `trial`. Ends with 1 where anything else was seen.
 """
