@@ -1,5 +1,5 @@
 #!/usr/bin/env python3
-"""Runs the gate and prints what each crate cost, in seconds of processor, as the table of docs/WORKING.md.
+"""Runs the gate and prints what each crate cost, in seconds of processor, as a table.
 
     tools/costs.py rt ci --anew
 
