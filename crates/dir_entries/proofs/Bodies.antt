@@ -28,7 +28,7 @@ use Rattle.dir_entries.proofs.EntryCodec.{entry_codec}
 rises_on : (a b c : List ℕ) → is_lt (name_cmp a b) ≡ true → is_lt (name_cmp b c) ≡ true → is_lt (name_cmp a c) ≡ true
 rises_on a b c first second = ap is_lt (nat_list_cmp_total.trans a b c (less_is _ first) (less_is _ second))
 
-below_at : (name : List ℕ) (front : Listing) (e : List ℕ × EntryTarget) (back : Listing) → below_all name_cmp name (front ++ e ∷ back) ≡ true → is_lt (name_cmp name e.0) ≡ true
+pub below_at : (name : List ℕ) (front : Listing) (e : List ℕ × EntryTarget) (back : Listing) → below_all name_cmp name (front ++ e ∷ back) ≡ true → is_lt (name_cmp name e.0) ≡ true
 below_at name [] e back below = (and_parts (is_lt (name_cmp name e.0)) (below_all name_cmp name back) below).0
 below_at name (f ∷ front) e back below = below_at name front e back (and_parts (is_lt (name_cmp name f.0)) (below_all name_cmp name (front ++ e ∷ back)) below).1
 

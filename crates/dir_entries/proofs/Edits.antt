@@ -116,7 +116,7 @@ front_of body rest all seen back text split left =
     let whole : length body ≡ length (body_of seen) + length (body_of back) = ap length (text ∙ (ap body_of split ∙ flat_map-append entry_text seen back)) ∙ length-append (body_of seen) (body_of back) in
     omega (arith, whole, ap length left)
 
-part_order : (seen back : Listing) → IsInOrder (seen ++ back) → IsInOrder back
+pub part_order : (seen back : Listing) → IsInOrder (seen ++ back) → IsInOrder back
 part_order [] back sorted = sorted
 part_order (e ∷ seen) back sorted = part_order seen back (and_parts _ (is_sorted name_cmp (seen ++ back)) sorted).1
 
@@ -170,7 +170,7 @@ parts_of seen own after = flat_map-append entry_text seen (own ++ after) ∙ ap 
 one_of : (e : List ℕ × EntryTarget) → body_of (e ∷ []) ≡ entry_text e
 one_of e = flat_map-cons entry_text e [] ∙ append-nil (entry_text e)
 
-put_text : (name : List ℕ) (target : EntryTarget) (before after : Listing) → body_of (before ++ ((name, target) ∷ after)) ≡ body_of before ++ (entry_text (name, target) ++ body_of after)
+pub put_text : (name : List ℕ) (target : EntryTarget) (before after : Listing) → body_of (before ++ ((name, target) ∷ after)) ≡ body_of before ++ (entry_text (name, target) ++ body_of after)
 put_text name target before after = flat_map-append entry_text before ((name, target) ∷ after) ∙ ap (λ x. body_of before ++ x) (flat_map-cons entry_text (name, target) after)
 
 -- the entry and what follows it, written at its place

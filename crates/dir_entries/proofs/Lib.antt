@@ -3,3 +3,5 @@ pub mod EntryCodec
 pub mod Bodies
 pub mod Past
 pub mod Edits
+pub mod Renames
+pub mod Found

@@ -35,7 +35,7 @@ put_past name target (e ∷ seen) back past =
     ap (λ o. by_order o ((name, target) ∷ e ∷ (seen ++ back)) ((e.0, target) ∷ (seen ++ back)) (e ∷ put name_cmp name target (seen ++ back))) head
     ∙ ap (λ xs. e ∷ xs) (put_past name target seen back (All-tail (IsBelow name) e seen past))
 
-without_past : (name : List ℕ) (seen back : Listing) → IsPast name seen → without name (seen ++ back) ≡ seen ++ without name back
+pub without_past : (name : List ℕ) (seen back : Listing) → IsPast name seen → without name (seen ++ back) ≡ seen ++ without name back
 without_past name [] back past = refl
 without_past name (e ∷ seen) back past =
     let head : name_cmp name e.0 ≡ Greater = All-head (IsBelow name) e seen past in
@@ -54,7 +54,7 @@ find_below name (e ∷ es) below =
     let parts = and_parts (is_lt (name_cmp name e.0)) (below_all name_cmp name es) below in
     ap (λ o. cond (is_eq o) (Some e.1) (find name_cmp name es)) (less_is _ parts.0) ∙ find_below name es parts.1
 
-without_below : (name : List ℕ) (es : Listing) → below_all name_cmp name es ≡ true → without name es ≡ es
+pub without_below : (name : List ℕ) (es : Listing) → below_all name_cmp name es ≡ true → without name es ≡ es
 without_below name [] below = refl
 without_below name (e ∷ es) below =
     let parts = and_parts (is_lt (name_cmp name e.0)) (below_all name_cmp name es) below in
