@@ -1,5 +1,5 @@
 -- A directory as a blob.
-use Rattle.std.specs.Prelude.{◌≡◌, ◌≤◌, ◌+◌, ◌-◌, ℕ, true, false, List, ◌++◌, length, take, drop, is_some, Option, Some, None, Result, Ok, Err, IfOk}
+use Rattle.std.specs.Prelude.{◌≡◌, ◌≤◌, ◌+◌, ◌-◌, ℕ, true, false, List, ◌++◌, length, take, drop, Option, Some, None, Result, Ok, Err, IfOk}
 use Rattle.std.proofs.Common.{refl, sym, ◌∙◌, ap, subst, arith}
 use Rattle.std.specs.FinMap.{get, find, put, insert, get-insert, same_map}
 use Rattle.std.specs.Ordering.{eq_by_cmp}
@@ -37,6 +37,10 @@ blob_of n = record { map = n.map; stands = n.stands; kind = Directory; parent = 
 abbrev pub blob_still : {S : Type 0} {H : BlobHoldings S} {a b : S} {id : Id} (n : IsDirectory H a id) → H.stands_for b n.map → IsBlob H b id
 blob_still n stands = record { map = n.map; stands = stands; kind = Directory; parent = n.parent; body = body_of n.listing; there = n.there; wide = n.wide; fits = n.fits }
 
+-- a directory that was only read
+abbrev pub directory_still : {S : Type 0} {H : BlobHoldings S} {a b : S} {id : Id} (n : IsDirectory H a id) → H.stands_for b n.map → IsDirectory H b id
+directory_still n stands = record { map = n.map; stands = stands; parent = n.parent; listing = n.listing; there = n.there; entries = n.entries; wide = n.wide; fits = n.fits }
+
 pub whole : (body : List ℕ) → HEADER_LEN + length body ≤ MAX_BLOB → take MAX_BLOB (drop 0 body) ≡ body
 whole body fits = take_all MAX_BLOB body (omega (arith, fits))
 
@@ -61,23 +65,7 @@ blob_written {id = id} n from bytes le stands = record {
 pub slice_rest : (bytes : List ℕ) (k : ℕ) → take (length bytes - k) (drop k bytes) ≡ drop k bytes
 slice_rest bytes k = take_all (length bytes - k) (drop k bytes) (omega (arith, length-drop k bytes))
 
-pub present_is : (found : Option (Attr × BlockId)) (target : EntryTarget) → target_of found ≡ Some target → is_some found ≡ true
-present_is None target e = absurd cc
-present_is (Some x) target e = refl
-
-pub absent_is : (found : Option (Attr × BlockId)) → target_of found ≡ None → is_some found ≡ false
-absent_is None e = refl
-absent_is (Some x) e = absurd cc
-
-pub not_found : (found : Option (Attr × BlockId)) → is_some found ≡ false → target_of found ≡ None
-not_found None e = refl
-not_found (Some x) e = absurd cc
-
-pub found_there : (found : Option (Attr × BlockId)) → is_some found ≡ true → is_some (target_of found) ≡ true
-found_there None e = e
-found_there (Some x) e = refl
-
-insert_again : (m : BlobMap) (id : Id) (v w : List ℕ) → insert (insert m id v) id w ≡ insert m id w
+pub insert_again : (m : BlobMap) (id : Id) (v w : List ℕ) → insert (insert m id v) id w ≡ insert m id w
 insert_again m id v w = same_map name_total name_exact (insert (insert m id v) id w) (insert m id w) (λ q.
     get-insert name_total (insert m id v) id w q ∙ (ap (cond (eq_by_cmp name_cmp q id) (Some w)) (get-insert name_total m id v q)
     ∙ (twice (eq_by_cmp name_cmp q id) (Some w) (Some v) (get m q) ∙ sym (get-insert name_total m id w q))))
@@ -85,6 +73,12 @@ insert_again m id v w = same_map name_total name_exact (insert (insert m id v) i
     twice : {X : Type 0} (b : Bool) (x y z : X) → cond b x (cond b y z) ≡ cond b x z
     twice true x y z = refl
     twice false x y z = refl
+
+-- a write and a cut leave the body that they make
+pub cut_stands : {S : Type 0} (H : BlobHoldings S) (b : S) (m : BlobMap) (id parent : Id) (old : List ℕ) (from : ℕ) (bytes : List ℕ) (end_ : ℕ) (after : List ℕ) → resized (written old from bytes) end_ ≡ after
+    → H.stands_for b (insert (insert m id (blob Directory parent (written old from bytes))) id (blob Directory parent (resized (written old from bytes) end_))) → H.stands_for b (insert m id (blob Directory parent after))
+cut_stands H b m id parent old from bytes end_ after same stands =
+    subst (H.stands_for b) (insert_again m id (blob Directory parent (written old from bytes)) (blob Directory parent (resized (written old from bytes) end_)) ∙ ap (λ z. insert m id (blob Directory parent z)) same) stands
 
 -- the place of a name that is there
 module _ (name : List ℕ) (listing : Listing) (old : EntryTarget) (front : ℕ) (found : Option (Attr × BlockId)) (back : List ℕ)

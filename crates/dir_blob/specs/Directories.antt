@@ -1,5 +1,5 @@
 -- What a call on a directory needs, and what it leaves.
-use Rattle.std.specs.Prelude.{◌≡◌, ◌≤◌, ◌+◌, ℕ, List, length}
+use Rattle.std.specs.Prelude.{◌≡◌, ◌≤◌, ◌+◌, ℕ, List, ◌++◌, length, take, drop}
 use Rattle.std.specs.FinMap.{get, insert, find}
 use Rattle.outcome.specs.Meanings.{Meanings}
 use Rattle.std.specs.declared.option.Option.TheVariants.{None, Some}
@@ -11,6 +11,8 @@ use Rattle.fs_blobs.specs.Headers.{blob}
 use Rattle.fs_model.specs.declared.limits.TheConstants.{MAX_ENTRIES}
 use Rattle.fs_model.specs.Tree.{name_cmp, entry_size}
 use Rattle.dir_entries.specs.Layout.{EntryTarget, Listing, IsListing, body_of}
+use Rattle.dir_entries.specs.Renaming.{renamed}
+use Rattle.dir_entries.specs.declared.edit.Edit.{Edit}
 
 -- the store stands for a map in which the id is a directory of these entries
 pub record IsDirectory {S : Type 0} (H : BlobHoldings S) (a : S) (id : Id) : Type 0 where
@@ -43,3 +45,17 @@ pub record HasName {S : Type 0} (H : BlobHoldings S) (a : S) (id : Id) (name : L
 -- where the id is a directory and nothing came back that was never put, this holds of its entries
 abbrev pub OfEntries : {S : Type 0} → Meanings S → BlobHoldings S → S → S → Id → (Listing → Type 0) → Type 0
 OfEntries M H a b id P = (n : IsDirectory H a id) → M.sound a → M.forgeries b ≤ M.forgeries a → P n.listing
+
+-- the name is there, that of the entry e is absent, and the entries with e in its place are within the limit
+pub record HasBoth {S : Type 0} (H : BlobHoldings S) (a : S) (id : Id) (name : List ℕ) (e : List ℕ × EntryTarget) : Type 0 where
+  pub is : IsDirectory H a id
+  pub target : EntryTarget
+  pub present : find name_cmp name is.listing ≡ Some target
+  pub absent : find name_cmp e.0 is.listing ≡ None
+  pub room : IsListing (renamed name e is.listing) → length (body_of (renamed name e is.listing)) ≤ MAX_ENTRIES
+
+-- the body was read from the directory, and has room for the edit
+pub record Reading {S : Type 0} (H : BlobHoldings S) (a : S) (id : Id) (body : List ℕ) (edit : Edit) : Type 0 where
+  pub is : IsDirectory H a id
+  pub text : body ≡ body_of is.listing
+  pub room : length (take edit.front body ++ (edit.bytes.items ++ drop edit.back body)) ≤ MAX_ENTRIES

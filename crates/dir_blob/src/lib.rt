@@ -3,6 +3,8 @@
 
 mod changes;
 mod reads;
+mod renames;
 
 pub use changes::{change, insert, remove};
 pub use reads::{entries, find_target, whole_body};
+pub use renames::rename;

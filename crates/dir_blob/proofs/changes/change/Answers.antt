@@ -5,7 +5,8 @@ use Rattle.std.proofs.lemmas.Result.{err_from_is_err_and}
 use Rattle.outcome.specs.Outcome.{first_, then_, passed, unbuilt}
 use Rattle.dir_entries.specs.Layout.{EntryTarget, body_of, entry_of, entry_text}
 use Rattle.dir_entries.proofs.Edits.{entry_length}
-use Rattle.dir_blob.proofs.Needs.{blob_still, present_is, found_there, change_fits, changed_entries, when_ok, sparing_over}
+use Rattle.dir_blob.proofs.Needs.{blob_still, change_fits, changed_entries, when_ok, sparing_over}
+use Rattle.dir_entries.proofs.Found.{present_is, found_there}
 use Rattle.dir_blob.proofs.changes.change.Goals as goal
 use Rattle.dir_blob.proofs.changes.change.Goals.{then-is_none-via-then-is_none, then-is_none-via-else-is_none+then-place-len}
 

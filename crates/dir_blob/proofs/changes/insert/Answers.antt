@@ -5,7 +5,8 @@ use Rattle.std.proofs.lemmas.Result.{err_from_is_err_and}
 use Rattle.outcome.specs.Outcome.{first_, then_, passed, no_memory, unbuilt}
 use Rattle.dir_entries.specs.Layout.{EntryTarget, entry_of, entry_text}
 use Rattle.dir_entries.proofs.Edits.{entry_length}
-use Rattle.dir_blob.proofs.Needs.{blob_still, slice_rest, absent_is, not_found, inserted_entries, when_ok}
+use Rattle.dir_blob.proofs.Needs.{blob_still, slice_rest, inserted_entries, when_ok}
+use Rattle.dir_entries.proofs.Found.{absent_is, not_found}
 use Rattle.dir_blob.proofs.changes.insert.Goals as goal
 use Rattle.dir_blob.proofs.changes.insert.Goals.{then-is_some-via-then-is_some, then-is_some-via-else-is_some+then-len-gt-MAX_ENTRIES}
 

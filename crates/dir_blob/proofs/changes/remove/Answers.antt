@@ -11,7 +11,8 @@ use Rattle.std.proofs.lemmas.List.{length-drop}
 use Rattle.block_id.specs.Contents.{written}
 use Rattle.outcome.specs.Outcome.{Outcome}
 use Rattle.dir_blob.specs.Directories.{HasName}
-use Rattle.dir_blob.proofs.Needs.{blob_still, slice_rest, present_is, found_there, blob_written, removed_entries, when_ok}
+use Rattle.dir_blob.proofs.Needs.{blob_still, slice_rest, blob_written, removed_entries, when_ok}
+use Rattle.dir_entries.proofs.Found.{present_is, found_there}
 use Rattle.dir_blob.proofs.changes.remove.Goals as goal
 use Rattle.dir_blob.proofs.changes.remove.Goals.{in_default-2, in_default}
 

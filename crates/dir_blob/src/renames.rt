@@ -1,0 +1,80 @@
+// Another name for what stands in a directory.
+ghost use Rattle.std.specs.Prelude.{◌≡◌, ◌≤◌, ◌+◌, ◌++◌, IfOk, drop, is_some, length, take, true, None};
+ghost use Rattle.std.specs.FinMap.{find as found_in, insert as with_key};
+ghost use Rattle.fs_model.specs.declared.attr.Kind.TheVariants.{Directory};
+ghost use Rattle.outcome.specs.Outcome.{Outcome};
+ghost use Rattle.fs_blobs.specs.Headers.{blob};
+ghost use Rattle.fs_model.specs.Tree.{name_cmp};
+ghost use Rattle.dir_entries.specs.Layout.{entry_of, body_of};
+ghost use Rattle.dir_entries.specs.Renaming.{renamed};
+ghost use Rattle.dir_blob.specs.Directories.{HasBoth, HasEntries, OfEntries, Reading};
+
+use crate::whole_body;
+use blob_api::{Blobs, MAX_BLOB};
+use block_id::{BlockId, Fail, Why};
+use dir_entries::{Edit, Entry, renaming};
+use fs_blobs::{HEADER_LEN, resize_body, write_body};
+use fs_model::{MAX_ENTRIES, MAX_MODE, Name};
+use rand_core::Rng;
+use std::alloc::Global;
+
+/// The entry of a name goes and another one comes. The directory is read once, and what lies outside of the two is
+/// written only where it moves.
+pub fn rename<B: Blobs, R: Rng>(
+    alloc: Global,
+    b: &mut B,
+    dir: &BlockId,
+    name: &Name,
+    entry: &Entry,
+    chance: &mut R,
+) -> Result<(), Fail>
+    requires intact { B.meanings.intact b.old }
+    requires mode { entry.now.attr.mode ≤ MAX_MODE }
+    ensures outcome { Outcome B.meanings (HasBoth B.holdings b.old dir.now.0 name.now (entry_of entry.now)) b.old b.new result
+        (λ n _. HasEntries B.holdings b.new n.is.map dir.now.0 n.is.parent (renamed name.now (entry_of entry.now) n.is.listing)) }
+    ensures present { OfEntries B.meanings B.holdings b.old b.new dir.now.0 (λ listing. IfOk result (λ _. is_some (found_in name_cmp name.now listing) ≡ true)) }
+    ensures absent { OfEntries B.meanings B.holdings b.old b.new dir.now.0 (λ listing. IfOk result (λ _. found_in name_cmp entry.now.name listing ≡ None)) }
+{
+    let body = whole_body(alloc, b, dir)?;
+    match renaming(alloc, &body, name, entry)? {
+        Some(edit) => splice(alloc, b, dir, &body, edit, chance),
+        None => Err(Fail::Violation(Why::Structure)),
+    }
+}
+
+/// The bytes between two places of a directory's body become others, within the limit of entries. Where the body gets
+/// another length what follows is written too.
+fn splice<B: Blobs, R: Rng>(
+    alloc: Global,
+    b: &mut B,
+    dir: &BlockId,
+    body: &[u8],
+    edit: Edit,
+    chance: &mut R,
+) -> Result<(), Fail>
+    requires intact { B.meanings.intact b.old }
+    requires order { edit.front ≤ edit.back }
+    requires within { edit.back ≤ length body.now }
+    ensures { Outcome B.meanings (Reading B.holdings b.old dir.now.0 body.now edit) b.old b.new result
+        (λ n _. B.holdings.stands_for b.new (with_key n.is.map dir.now.0 (blob Directory n.is.parent (take edit.front body.now ++ (edit.bytes.items ++ drop edit.back body.now))))) }
+{
+    let Edit {
+        front,
+        back,
+        mut bytes,
+    } = edit;
+    if (body.len() - (back - front)) as u64 + bytes.len() as u64 > MAX_ENTRIES {
+        return Err(Fail::Violation(Why::Structure));
+    }
+    let from = front as u64;
+    if bytes.len() == back - front {
+        return write_body(alloc, b, dir, from, &bytes, chance);
+    }
+    bytes.extend_from_slice(&body[back..])?;
+    write_body(alloc, b, dir, from, &bytes, chance)?;
+    let end = from + bytes.len() as u64;
+    if end >= body.len() as u64 {
+        return Ok(());
+    }
+    resize_body(alloc, b, dir, end, chance)
+}
