@@ -1,13 +1,13 @@
 -- Entries of a directory after one comes or goes, and the limits of what a path's blob holds.
-use Rattle.std.proofs.Common.{◌≡◌, ℕ, ◌+◌, true, cond, List, [], ◌∷◌, refl, sym, ◌∙◌, ap, subst, arith, inl, inr}
+use Rattle.std.proofs.Common.{◌≡◌, ℕ, ◌+◌, true, false, cond, List, [], ◌∷◌, refl, sym, ◌∙◌, ap, subst, arith, inl, inr}
 use Rattle.std.specs.Prelude.{not, T}
 use Rattle.std.specs.FinMap.{find, put, is_sorted}
-use Rattle.std.specs.FinMap.Entries.{find-where_key, by_order, is_sorted-put}
+use Rattle.std.specs.FinMap.Entries.{find-where_key, by_order, is_sorted-put, is_sorted-where_key}
 use Rattle.std.specs.Ordering.{eq_by_cmp, is_eq}
 use Rattle.std.specs.declared.cmp.Ordering.TheVariants.{Less, Equal, Greater}
 use Rattle.std.specs.declared.option.Option.TheVariants.{None, Some}
 use Rattle.std.specs.List.{All}
-use Rattle.std.proofs.lemmas.List.Elements.{All-head, All-tail}
+use Rattle.std.proofs.lemmas.List.Elements.{All-head, All-tail, All-cons}
 use Rattle.block_id.proofs.Conditions.{true_of}
 use Rattle.fs_model.specs.Names.{IsName}
 use Rattle.fs_model.specs.Tree.{name_cmp, entry_size, entries_size}
@@ -27,6 +27,19 @@ entries_without listing n k =
           ap (λ b. cond (not b) (find name_cmp k listing) None) (name_apart n k (λ e. d (sym e)))
           ∙ sym (ap (λ b. cond b None (find name_cmp k listing)) (name_apart k n d))
     ]
+
+without_each : (n : List ℕ) (listing : Listing) → All IsEntry listing → All IsEntry (without n listing)
+without_each n [] all = all
+without_each n (e ∷ es) all = elim (eq_by_cmp name_cmp n e.0) as (λ b. All IsEntry (cond (not b) (e ∷ without n es) (without n es))) [
+  | true ↦ without_each n es (All-tail IsEntry e es all)
+  | false ↦ All-cons IsEntry e (without n es) (All-head IsEntry e es all) (without_each n es (All-tail IsEntry e es all))
+]
+
+pub without_is : (n : List ℕ) (listing : Listing) → IsListing listing → IsListing (without n listing)
+without_is n listing is = record {
+  entries = without_each n listing is.entries;
+  order = true_of (is_sorted name_cmp (without n listing)) (is_sorted-where_key name_cmp (λ x. not (eq_by_cmp name_cmp n x)) listing (subst T (sym is.order) tt));
+}
 
 pub lists_without : (look : Look) (listing : Listing) (n : List ℕ) → ((k : List ℕ) → find name_cmp k listing ≡ look k) → IsListing (without n listing) → Lists (λ k. cond (same_name k n) None (look k)) (body_of (without n listing))
 lists_without look listing n found is = record { listing = without n listing; is = record { entries = is; text = refl }; entries = λ k. entries_without listing n k ∙ ap (cond (same_name k n) None) (found k) }

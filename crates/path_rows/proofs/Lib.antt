@@ -1,6 +1,7 @@
 pub mod Edits
 pub mod Dropped
 pub mod Relocated
+pub mod InPlace
 pub mod NewRow
 pub mod Heading
 pub mod Replacing

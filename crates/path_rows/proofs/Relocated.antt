@@ -45,7 +45,7 @@ module _ {S : Type 0} {H : BlobHoldings S} {a : S} {from : Id} {n : List ℕ} {t
   abbrev pub target : EntryTarget
   target = record { attr = (with_ctime w.row w.now).attr; blob = w.ids p }
 
-  target_is : target ≡ e.1
+  pub target_is : target ≡ e.1
   target_is = λ i. record { attr = w.attr i; blob = w.blob i }
 
   abbrev pub looks1 : Path → Look

@@ -11,7 +11,7 @@ ghost use Rattle.path_rows.specs.Moves.{Moving};
 
 use blob_api::Blobs;
 use block_id::{BlockId, Fail};
-use dir_blob::{insert, remove};
+use dir_blob::{insert, remove, rename};
 use dir_entries::Entry;
 use fs_blobs::set_parent;
 use fs_model::{MAX_MODE, Name};
@@ -37,7 +37,7 @@ pub fn drop_at<B: Blobs, R: Rng>(
 }
 
 /// A row and what lies below it go to a path that is free: the entry goes from its directory to another, which the
-/// header of the blob names then, or to the same one, which it names already.
+/// header of the blob names then, or gets another name in the same one, which it names already.
 pub fn relocate<B: Blobs, R: Rng>(
     alloc: Global,
     b: &mut B,
@@ -52,10 +52,10 @@ pub fn relocate<B: Blobs, R: Rng>(
     ensures { Outcome B.meanings (Moving B.holdings b.old from.now.0 name.now to.now.0 (entry_of entry.now)) b.old b.new result
         (λ n _. IsShownBy B.holdings b.new n.root (moved_tree n.tree n.now (name.now ∷ n.above) (entry.now.name ∷ n.below) n.row) (moved_ids n.ids (name.now ∷ n.above) (entry.now.name ∷ n.below))) }
 {
+    if is_same(from, to) {
+        return rename(alloc, b, from, name, entry, chance);
+    }
     remove(alloc, b, from, name, chance)?;
     insert(alloc, b, to, entry, chance)?;
-    if is_same(from, to) {
-        return Ok(());
-    }
     set_parent(alloc, b, &entry.blob, to, chance)
 }
