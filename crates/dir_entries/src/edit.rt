@@ -6,9 +6,9 @@ ghost use Rattle.dir_entries.specs.Layout.{EntryTarget, Listing, IsBody, IsEntry
 ghost use Rattle.dir_entries.specs.Renaming.{IsEdit, renamed};
 ghost use Rattle.dir_entries.specs.Places.{IsPlace};
 
+use crate::Entry;
 use crate::encode::put_entry;
 use crate::place::{Located, locate};
-use crate::Entry;
 use block_id::Memory;
 use fs_model::{MAX_MODE, Name};
 use std::alloc::Global;

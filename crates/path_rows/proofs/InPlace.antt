@@ -90,7 +90,7 @@ module _ {S : Type 0} {H : BlobHoldings S} {a : S} {from : Id} {n : List ℕ} {t
   stays c h =
       let listed : List ℕ = body_of (renamed n e listing) in
       let first = from_without w.map w.root w.tree w.ids w.shows w.now n w.above e.0 w.below w.row w.can w.free (body_of (without n listing))
-          (lists_without (entries_at w.tree w.ids w.above) listing n looks_here (without_is n listing (has_name w).is.entries)) in
+      (lists_without (entries_at w.tree w.ids w.above) listing n looks_here (without_is n listing (has_name w).is.entries)) in
       let lists : Lists (λ k. cond (same_name k e.0) (Some (target w)) (looks1 w w.below k)) listed =
       record { listing = renamed n e listing; is = record { entries = h.entries; text = refl }; entries = found_renamed } in
       let here : H.stands_for c (insert w.map (w.ids w.above) (blob Directory (above w.ids w.above) listed)) = subst (λ z. H.stands_for c (insert w.map z (blob Directory (above w.ids w.above) listed))) (sym w.from_id) h.stands in

@@ -14,7 +14,7 @@ returns-in-Some-clause-outcome g c =
     let body = c.deref.result.now in
     let again : c.deref-in-Some.result.now ≡ body = c.deref-in-Some.ensures.value ∙ sym c.deref.ensures.value in
     let edit_of : (n : HasBoth g.B.Blobs.holdings c.args.b.now c.args.dir.now.0 c.args.name.now (entry_of c.args.entry.now)) → c.in_ok-body.body.items ≡ body_of n.is.listing
-        → IsEdit body edit (renamed c.args.name.now (entry_of c.args.entry.now) n.is.listing) =
+    → IsEdit body edit (renamed c.args.name.now (entry_of c.args.entry.now) n.is.listing) =
     λ n text.
     let is : IsBody body n.is.listing = record { entries = n.is.entries; text = c.deref.ensures.value ∙ text } in
     rw c.in-Some.is at (c.in_ok-edit.ensures.edits n.is.listing n.target is n.present n.absent) in
