@@ -13,6 +13,7 @@ use Rattle.outside.specs.Trace.{Call}
 use Rattle.outside.specs.declared.keeper.Keeper.{Ghosts as KeeperGhosts}
 use Rattle.session_runs.specs.Openings.{AreUncalled}
 use Rattle.run_status.specs.declared.ended.Ended.{Ended}
+use Rattle.run_status.specs.declared.status.Status.{Status}
 use Rattle.run_status.specs.declared.status.Status.TheVariants.{Done, Usage, LongPassword, Violation}
 use Rattle.session_lines.specs.declared.end.End.{End}
 use Rattle.session_runs.specs.Runs.{outside_of}
@@ -52,14 +53,14 @@ create_opens_none (Some (Generate count)) h = absurd (h (Generate count) refl tt
 create_opens_none (Some Command) h = absurd (h Command refl tt)
 
 module _ {V : Type 0} {K : Type 0} (trace : V → Option (List Call)) (faults : V → ℕ) (G : KeeperGhosts K) (words : List (List ℕ)) (now : Instant) (chance left : Chance) (input output : Stream) (vault : V) (keeper : K) (ended : Ended V K) where
-  shell_causes : (script : Option (List ℕ)) (end : End) (es : List Exchange) → ComesShell input output script end es → EndCause end input output
-  shell_causes script end es came = ends_cause script input output es end came
+  shell_causes : (script : Option (List ℕ)) (end : End) (own : Status) (es : List Exchange) → ComesShell input output script end own es → EndCause end input output
+  shell_causes script end own es came = ends_cause script input output es end came.0
 
-  generated_causes : (count : ℕ) (script : Option (List ℕ)) (end : End) (es : List Exchange) → ComesGenerated count input output script end es → EndCause end input output
-  generated_causes count script end es came = reported_cause input output _ end came.0.3
+  generated_causes : (count : ℕ) (script : Option (List ℕ)) (end : End) (own : Status) (es : List Exchange) → ComesGenerated count input output script end own es → EndCause end input output
+  generated_causes count script end own es came = reported_cause input output _ end came.0.0.3
 
-  command_causes : (script : Option (List ℕ)) (end : End) (es : List Exchange) → ComesCommand (joined words) input output script end es → EndCause end input output
-  command_causes script end es came = reported_cause input output _ end came.0.2
+  command_causes : (script : Option (List ℕ)) (end : End) (own : Status) (es : List Exchange) → ComesCommand (joined words) input output script end own es → EndCause end input output
+  command_causes script end own es came = reported_cause input output _ end came.0.0.2
 
   abbrev Doing : Form → Type 0
   Doing form = Does trace faults G words now chance left input output vault keeper ended form

@@ -13,6 +13,7 @@ use Rattle.outside.specs.Trace.{Call}
 use Rattle.outside.specs.declared.keeper.Keeper.{Ghosts as KeeperGhosts}
 use Rattle.session_runs.specs.Openings.{AreUncalled}
 use Rattle.run_status.specs.declared.ended.Ended.{Ended}
+use Rattle.run_status.specs.declared.status.Status.{Status}
 use Rattle.session_lines.specs.declared.end.End.{End}
 use Rattle.session_runs.specs.Runs.{Outside, outside_of, IsQuietRun}
 use Rattle.shell_sessions.specs.Sessions.{Session}
@@ -28,7 +29,7 @@ use Rattle.cryfs_shell.specs.History.{Comes, IsRunOf}
 still : (password : List ℕ) (o : Outside) → IsQuietRun ShowsFiles password o o
 still password o = record { stands = λ c tree f. f.stands; marked = λ m. (refl, refl) }
 
-module _ {V : Type 0} {K : Type 0} (trace : V → Option (List Call)) (faults : V → ℕ) (G : KeeperGhosts K) (Came : Option (List ℕ) → End → List Exchange → Type 0) (vault : V) (keeper : K) (ended : Ended V K) where
+module _ {V : Type 0} {K : Type 0} (trace : V → Option (List Call)) (faults : V → ℕ) (G : KeeperGhosts K) (Came : Option (List ℕ) → End → Status → List Exchange → Type 0) (vault : V) (keeper : K) (ended : Ended V K) where
   abbrev Before : Outside
   Before = outside_of trace faults G vault keeper
 
@@ -50,7 +51,7 @@ module _ {V : Type 0} {K : Type 0} (trace : V → Option (List Call)) (faults : 
   session_history now input output (inl u) = idly u.uncalled
   session_history now input output (inr (password, script, has, inl ((error, u), unfailed, unwritten))) = quietly password u.quiet
   session_history now input output (inr (password, script, has, inr s)) =
-      (session now password Before After s.closing s.es, record { is_run = s.session; came = (script, s.end, s.came); begins = refl; ends = refl })
+      (session now password Before After s.closing s.es, record { is_run = s.session; came = (script, s.end, s.own, s.came); begins = refl; ends = refl })
 
   told_history : (input output : Stream) → Told trace faults G input output vault keeper ended → History
   told_history input output (inl u) = idly u.uncalled

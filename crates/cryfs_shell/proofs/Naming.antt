@@ -24,6 +24,7 @@ use Rattle.outside.specs.Trace.{Call}
 use Rattle.outside.specs.declared.keeper.Keeper.{Ghosts as KeeperGhosts}
 use Rattle.passwords.specs.Passwords.{PasswordUnread, PasswordsUnread}
 use Rattle.session_runs.specs.Openings.{AreUncalled, IsUnread, IsUnopened}
+use Rattle.run_status.specs.Statuses.{first_of}
 use Rattle.run_edges.specs.Statuses.{opening_status, closing_status, session_status}
 use Rattle.run_status.specs.declared.ended.Ended.{Ended}
 use Rattle.run_status.specs.declared.status.Status.{Status}
@@ -188,11 +189,11 @@ module _ (input output : Stream) where
   ended_named line_end.InputFault status e q = record { input_quiet = λ i l v. absurd (i e); output_quiet = λ o v. q }
   ended_named line_end.OutputFault status e q = record { input_quiet = λ i l v. q; output_quiet = λ o v. absurd (o e) }
 
-  served_named : (b : Bool) (end : End) (closing : Result Unit SyncError) (status : Status) → status ≡ session_status b end closing → EndQuiet end input output → StreamFaultsNamed input output status
-  served_named true end closing status e q = record { input_quiet = λ i l v. absurd (v e); output_quiet = λ o v. absurd (v e) }
-  served_named false line_end.Finished closing status e q = neither status q.0 q.1
-  served_named false line_end.InputFault closing status e q = record { input_quiet = λ i l v. absurd (i e); output_quiet = λ o v. q }
-  served_named false line_end.OutputFault closing status e q = record { input_quiet = λ i l v. q; output_quiet = λ o v. absurd (o e) }
+  served_named : (b : Bool) (end : End) (closing : Result Unit SyncError) (own status : Status) → status ≡ first_of (session_status b end closing) own → EndQuiet end input output → StreamFaultsNamed input output status
+  served_named true end closing own status e q = record { input_quiet = λ i l v. absurd (v e); output_quiet = λ o v. absurd (v e) }
+  served_named false line_end.Finished closing own status e q = neither status q.0 q.1
+  served_named false line_end.InputFault closing own status e q = record { input_quiet = λ i l v. absurd (i e); output_quiet = λ o v. q }
+  served_named false line_end.OutputFault closing own status e q = record { input_quiet = λ i l v. q; output_quiet = λ o v. absurd (o e) }
 
   tried_named : (now : Instant) (status : Status) → Tried now input output status → StreamFaultsNamed input output status
   tried_named now status (inl none) = neither status none.1.1 none.2.1
@@ -226,11 +227,11 @@ module _ (input output : Stream) where
       output_quiet = λ o v. change_quiet output c.change ended.status (ends c.closing output c.told ended.status c.status c.change c.reports c.closed) o;
     }
 
-    session_streams : (now : Instant) (Came : Option (List ℕ) → End → List Exchange → Type 0) → ((script : Option (List ℕ)) (end : End) (es : List Exchange) → Came script end es → EndQuiet end input output)
+    session_streams : (now : Instant) (Came : Option (List ℕ) → End → Status → List Exchange → Type 0) → ((script : Option (List ℕ)) (end : End) (own : Status) (es : List Exchange) → Came script end own es → EndQuiet end input output)
         → Session trace faults G now Came input output vault keeper ended → StreamsNamed
     session_streams now Came quiet (inl u) = unread_one u
     session_streams now Came quiet (inr (password, script, has, inl ((error, u), unfailed, unwritten))) = neither ended.status unfailed unwritten.1
-    session_streams now Came quiet (inr (password, script, has, inr s)) = served_named (violated s.es) s.end s.closing ended.status s.status (quiet script s.end s.es s.came)
+    session_streams now Came quiet (inr (password, script, has, inr s)) = served_named (violated s.es) s.end s.closing s.own ended.status s.status (quiet script s.end s.own s.es s.came)
 
 -- ---- by its form
 
@@ -254,7 +255,7 @@ module _ {V : Type 0} {K : Type 0} (trace : V → Option (List Call)) (faults : 
   doing_streams (Create options) d = created_streams input output trace faults G vault keeper ended options.params options.block_size (drawn chance).0 d.0
   doing_streams Info d = told_streams input output trace faults G vault keeper ended d.0
   doing_streams Passwd d = changed_streams input output trace faults G vault keeper ended chance left d.0
-  doing_streams Shell d = session_streams input output trace faults G vault keeper ended now (ComesShell input output) (λ script end es came. ends_quiet script input output es end came) d
-  doing_streams (Generate count) d = session_streams input output trace faults G vault keeper ended now (ComesGenerated count input output) (λ script end es came. reported_quiet input output _ end came.1 came.0.3) d
+  doing_streams Shell d = session_streams input output trace faults G vault keeper ended now (ComesShell input output) (λ script end own es came. ends_quiet script input output es end came.0) d
+  doing_streams (Generate count) d = session_streams input output trace faults G vault keeper ended now (ComesGenerated count input output) (λ script end own es came. reported_quiet input output _ end came.0.1 came.0.0.3) d
   doing_streams Command d =
-      session_streams input output trace faults G vault keeper ended now (ComesCommand (joined words) input output) (λ script end es came. reported_quiet input output _ end came.1 came.0.2) d
+      session_streams input output trace faults G vault keeper ended now (ComesCommand (joined words) input output) (λ script end own es came. reported_quiet input output _ end came.0.1 came.0.0.2) d

@@ -26,7 +26,8 @@ use Rattle.session_lines.specs.declared.end.End.{End}
 use Rattle.session_runs.specs.Runs.{Outside, outside_of, OutsideStandsFor, OpensTo, OpensOnlyTo, directory_fault, state_fault}
 use Rattle.session_runs.proofs.Whole.{only_opens, unviolated}
 use Rattle.shell_sessions.specs.Sessions.{Session, IsServed}
-use Rattle.run_edges.specs.Statuses.{session_status}
+use Rattle.run_edges.specs.Statuses.{session_status, IsOwn}
+use Rattle.run_edges.proofs.Owns.{not_own, none_before}
 use Rattle.tree_commands.specs.Showing.{ShowsFiles}
 use Rattle.cryfs_shell.specs.Clauses.{IsRefusingStatus, IsRefusedRun, IsOpenedRun, OpensOnlyRun, NoFalseAlarm, KeepsTree, FaultsHappened, IsEmptied}
 use Rattle.cryfs_shell.proofs.Statuses.{EndCause, opening_is_no, session_is_no, stops_is_refusal, session_directory, session_state, session_input, session_output, done_is_calm, done_is_closed, calm_is_no_alarm}
@@ -153,15 +154,19 @@ module _ {V : Type 0} {K : Type 0} (trace : V → Option (List Call)) (faults : 
 
     -- ---- where there are exchanges
 
-    module _ (now : Instant) (Came : End → List Exchange → Type 0) (causes : (end : End) (es : List Exchange) → Came end es → EndCause end input output) where
+    module _ (now : Instant) (Came : End → Status → List Exchange → Type 0) (causes : (end : End) (own : Status) (es : List Exchange) → Came end own es → EndCause end input output) where
+      -- a status that isn't its own comes from the exchanges, the end of the lines or closing
+      earlier : (s : IsServed trace faults G now password Came vault keeper ended) (other : Status) → (IsOwn other → ⊥) → ended.status ≡ other → session_status (violated s.es) s.end s.closing ≡ other
+      earlier s other not e = not_own (session_status (violated s.es) s.end s.closing) s.own other s.mild not (sym s.status ∙ e)
+
       served_faults : IsServed trace faults G now password Came vault keeper ended → FaultsHappened input output Before After ended.status
       served_faults s = record {
         vault_grows = rose_grown (all_directory_faults s.es + directory_fault s.closing) (faults vault) (faults ended.vault) s.session.directory_faults_happened;
         keeper_grows = rose_grown (all_state_faults s.es + state_fault s.closing) (G.faults keeper) (G.faults ended.keeper) s.session.state_faults_happened;
-        directory_fault = λ e. session_directory (violated s.es) s.end s.closing (all_directory_faults s.es) (faults vault) (faults ended.vault) (sym s.status ∙ e) s.session.directory_faults_happened;
-        state_fault = λ e. session_state (violated s.es) s.end s.closing (all_state_faults s.es) (G.faults keeper) (G.faults ended.keeper) (sym s.status ∙ e) s.session.state_faults_happened;
-        input_fault = λ e. session_input (violated s.es) s.end s.closing input output (sym s.status ∙ e) (causes s.end s.es s.came);
-        output_fault = λ e. session_output (violated s.es) s.end s.closing input output (sym s.status ∙ e) (causes s.end s.es s.came);
+        directory_fault = λ e. session_directory (violated s.es) s.end s.closing (all_directory_faults s.es) (faults vault) (faults ended.vault) (earlier s DirectoryFault (λ h. h) e) s.session.directory_faults_happened;
+        state_fault = λ e. session_state (violated s.es) s.end s.closing (all_state_faults s.es) (G.faults keeper) (G.faults ended.keeper) (earlier s StateFault (λ h. h) e) s.session.state_faults_happened;
+        input_fault = λ e. session_input (violated s.es) s.end s.closing input output (earlier s InputFault (λ h. h) e) (causes s.end s.own s.es s.came);
+        output_fault = λ e. session_output (violated s.es) s.end s.closing input output (earlier s OutputFault (λ h. h) e) (causes s.end s.own s.es s.came);
       }
 
       served_unmarked : IsServed trace faults G now password Came vault keeper ended → IsKeptMarked records (G.kept keeper) → ⊥
@@ -172,7 +177,7 @@ module _ {V : Type 0} {K : Type 0} (trace : V → Option (List Call)) (faults : 
           let o = only_opens ShowsFiles password c first Before After (only_under bytes c first f) in
           let a = s.session.founded c first (record { opens = o; unforged = s.session.unforged c first o honest }) in
           let calm : violated s.es ≡ false = unviolated s.es (a.no_false_alarm honest) in
-          calm_is_no_alarm s.end s.closing (subst (λ (b : Bool). session_status b s.end s.closing ≡ Violation) calm (sym s.status ∙ e))
+          calm_is_no_alarm s.end s.closing (subst (λ (b : Bool). session_status b s.end s.closing ≡ Violation) calm (earlier s Violation (λ h. h) e))
 
       served_keeps : IsServed trace faults G now password Came vault keeper ended → KeepsTree input Before After
       served_keeps s bytes c first f =
@@ -183,12 +188,12 @@ module _ {V : Type 0} {K : Type 0} (trace : V → Option (List Call)) (faults : 
 
       served_emptied : IsServed trace faults G now password Came vault keeper ended → ended.status ≡ Done → IsEmptied After
       served_emptied s e =
-          let done : session_status (violated s.es) s.end s.closing ≡ Done = sym s.status ∙ e in
+          let done : session_status (violated s.es) s.end s.closing ≡ Done = none_before (session_status (violated s.es) s.end s.closing) s.own (sym s.status ∙ e) in
           done_is_closed (violated s.es) s.end s.closing (HasEmptyList (G.kept ended.keeper)) done (s.session.emptied (done_is_calm (violated s.es) s.end s.closing done))
 
   -- ---- together
 
-  module _ (now : Instant) (Came : Option (List ℕ) → End → List Exchange → Type 0) (causes : (script : Option (List ℕ)) (end : End) (es : List Exchange) → Came script end es → EndCause end input output) where
+  module _ (now : Instant) (Came : Option (List ℕ) → End → Status → List Exchange → Type 0) (causes : (script : Option (List ℕ)) (end : End) (own : Status) (es : List Exchange) → Came script end own es → EndCause end input output) where
     pub session_faults : Session trace faults G now Came input output vault keeper ended → FaultsHappened input output Before After ended.status
     session_faults (inl u) = unread_faults (PasswordUnread input) (one_unread input) u
     session_faults (inr (password, script, has, inl ((error, u), unfailed, unwritten))) = unopened_faults password script has.is_next error u
@@ -218,9 +223,9 @@ module _ {V : Type 0} {K : Type 0} (trace : V → Option (List Call)) (faults : 
     pub session_uncalled : Session trace faults G now Came input output vault keeper ended → ended.status ≡ LongPassword → AreUncalled vault keeper ended
     session_uncalled (inl u) e = u.uncalled
     session_uncalled (inr (password, script, has, inl ((error, u), unfailed, unwritten))) e = absurd (opening_is_no error ended.status LongPassword u.status e (λ h. h))
-    session_uncalled (inr (password, script, has, inr s)) e = absurd (session_is_no (violated s.es) s.end s.closing ended.status LongPassword s.status e (λ h. h))
+    session_uncalled (inr (password, script, has, inr s)) e = absurd (session_is_no (violated s.es) s.end s.closing s.own ended.status LongPassword s.mild s.status e (λ h. h) (λ h. h))
 
     pub session_usage : Session trace faults G now Came input output vault keeper ended → ended.status ≢ Usage
     session_usage (inl u) e = unread_is_no ended.status Usage (one_unread input ended.status u.cause).unread e (λ h. h)
     session_usage (inr (password, script, has, inl ((error, u), unfailed, unwritten))) e = opening_is_no error ended.status Usage u.status e (λ h. h)
-    session_usage (inr (password, script, has, inr s)) e = session_is_no (violated s.es) s.end s.closing ended.status Usage s.status e (λ h. h)
+    session_usage (inr (password, script, has, inr s)) e = session_is_no (violated s.es) s.end s.closing s.own ended.status Usage s.mild s.status e (λ h. h) (λ h. h)

@@ -9,6 +9,7 @@ use Rattle.mount.specs.Mounts.{StopsMarked}
 use Rattle.mount_tower.specs.declared.error.OpenError.{OpenError}
 use Rattle.mount_tower.specs.declared.error.OpenError.TheVariants.{Memory as NoMemory, NoState, BadState, Exists, Marked, Mismatch, NoConfig, Config as OfConfig, FaultDirectory, FaultState}
 use Rattle.outside.specs.Causes.{RoseBy}
+use Rattle.run_status.specs.Statuses.{first_of}
 use Rattle.run_status.specs.declared.status.Status.{Status}
 use Rattle.run_status.specs.declared.status.Status.TheVariants.{Done, Usage, LongPassword, Violation, DirectoryFault, StateFault, InputFault, OutputFault}
 use Rattle.session_lines.specs.declared.end.End.{End}
@@ -16,7 +17,8 @@ use Rattle.session_lines.specs.declared.end.End.TheVariants as line_end
 use Rattle.session_runs.specs.Runs.{directory_fault, state_fault}
 use Rattle.session_saver.specs.declared.saver.SyncError.{SyncError}
 use Rattle.session_saver.specs.declared.saver.SyncError.TheVariants as sync_error
-use Rattle.run_edges.specs.Statuses.{opening_status, session_status}
+use Rattle.run_edges.specs.Statuses.{opening_status, session_status, IsOwn}
+use Rattle.run_edges.proofs.Owns.{not_own}
 use Rattle.cryfs_shell.specs.Clauses.{IsRefusingStatus}
 
 -- ---- a file system that wasn't opened
@@ -113,8 +115,9 @@ of_session false line_end.Finished (Err sync_error.Memory) = tt
 of_session false line_end.Finished (Err sync_error.FaultDirectory) = tt
 of_session false line_end.Finished (Err sync_error.FaultState) = tt
 
-pub session_is_no : (b : Bool) (end : End) (closing : Result Unit SyncError) (status other : Status) → status ≡ session_status b end closing → status ≡ other → (IsOfSession other → ⊥) → ⊥
-session_is_no b end closing status other e f h = h (subst IsOfSession (sym e ∙ f) (of_session b end closing))
+pub session_is_no : (b : Bool) (end : End) (closing : Result Unit SyncError) (own status other : Status) → IsOwn own → status ≡ first_of (session_status b end closing) own → status ≡ other
+    → (IsOwn other → ⊥) → (IsOfSession other → ⊥) → ⊥
+session_is_no b end closing own status other mild e f not h = h (subst IsOfSession (not_own (session_status b end closing) own other mild not (sym e ∙ f)) (of_session b end closing))
 
 -- a session that is done was closed, and there was no violation
 pub done_is_calm : (b : Bool) (end : End) (closing : Result Unit SyncError) → session_status b end closing ≡ Done → b ≡ false

@@ -4,6 +4,7 @@ use Rattle.std.specs.declared.option.Option.{Option}
 use Rattle.answers.specs.Sessions.{Exchange}
 use Rattle.histories.specs.Histories.{Run, session, quiet, before_of, after_of, IsRun}
 use Rattle.line_io.specs.Streams.{Stream}
+use Rattle.run_status.specs.declared.status.Status.{Status}
 use Rattle.session_lines.specs.declared.end.End.{End}
 use Rattle.session_runs.specs.Runs.{Outside}
 use Rattle.shell_sessions.specs.Sessions.{ComesShell, ComesGenerated, ComesCommand}
@@ -13,19 +14,19 @@ use Rattle.shell_words.specs.Forms.{joined}
 use Rattle.tree_commands.specs.Showing.{ShowsFiles}
 
 -- how the exchanges of a form come from what follows the password line; only sessions have some
-abbrev pub Comes : List (List ℕ) → Stream → Stream → Form → Option (List ℕ) → End → List Exchange → Type 0
-Comes words input output Shell script end es = ComesShell input output script end es
-Comes words input output (Generate count) script end es = ComesGenerated count input output script end es
-Comes words input output Command script end es = ComesCommand (joined words) input output script end es
-Comes words input output form script end es = ⊥
+abbrev pub Comes : List (List ℕ) → Stream → Stream → Form → Option (List ℕ) → End → Status → List Exchange → Type 0
+Comes words input output Shell = ComesShell input output
+Comes words input output (Generate count) = ComesGenerated count input output
+Comes words input output Command = ComesCommand (joined words) input output
+Comes words input output form = λ script end own es. ⊥
 
 -- the exchanges of a run came so
-abbrev pub HasCome : (Option (List ℕ) → End → List Exchange → Type 0) → Run → Type 0
-HasCome Came (session now password before after closing es) = (script : Option (List ℕ)) × (end : End) × Came script end es
+abbrev pub HasCome : (Option (List ℕ) → End → Status → List Exchange → Type 0) → Run → Type 0
+HasCome Came (session now password before after closing es) = (script : Option (List ℕ)) × (end : End) × (own : Status) × Came script end own es
 HasCome Came (quiet password before after) = Unit {0}
 
 -- the call led from the one moment outside to the other as this run, which is one of those that compose
-pub record IsRunOf (Came : Option (List ℕ) → End → List Exchange → Type 0) (before after : Outside) (run : Run) : Type 0 where
+pub record IsRunOf (Came : Option (List ℕ) → End → Status → List Exchange → Type 0) (before after : Outside) (run : Run) : Type 0 where
   pub is_run : IsRun ShowsFiles run
   pub came : HasCome Came run
   pub begins : before_of run ≡ before

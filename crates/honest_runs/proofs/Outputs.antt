@@ -19,6 +19,7 @@ use Rattle.outside.specs.Trace.{Call}
 use Rattle.outside.specs.declared.keeper.Keeper.{Ghosts as KeeperGhosts}
 use Rattle.passwords.specs.Passwords.{PasswordUnread}
 use Rattle.run_edges.specs.Statuses.{opening_status, session_status}
+use Rattle.run_status.specs.Statuses.{first_of}
 use Rattle.run_status.specs.declared.ended.Ended.{Ended}
 use Rattle.run_status.specs.declared.status.Status.{Status}
 use Rattle.run_status.specs.declared.status.Status.TheVariants as status
@@ -48,15 +49,15 @@ module _ {V : Type 0} {K : Type 0} (trace : V → Option (List Call)) (faults : 
 
   -- ---- a session
 
-  not_violated : (b : Bool) (end : End) (closing : Result Unit SyncError) → ended.status ≡ session_status b end closing → ended.status ≢ status.Violation → end ≡ OutputFault → ended.status ≡ status.OutputFault
-  not_violated true end closing is calm e = absurd (calm is)
-  not_violated false end closing is calm e = is ∙ ap (λ x. session_status false x closing) e
+  not_violated : (b : Bool) (end : End) (closing : Result Unit SyncError) (own : Status) → ended.status ≡ first_of (session_status b end closing) own → ended.status ≢ status.Violation → end ≡ OutputFault → ended.status ≡ status.OutputFault
+  not_violated true end closing own is calm e = absurd (calm is)
+  not_violated false end closing own is calm e = is ∙ ap (λ x. first_of (session_status false x closing) own) e
 
   module _ (now : Instant) (calm : ended.status ≢ status.Violation) where
     by_end : (password : List ℕ) (script : Option (List ℕ)) (s : IsServed trace faults G now password (ComesShell input output script) vault keeper ended) (end : End) → s.end ≡ end → IsUnfailed output ⊎ (ended.status ≡ status.OutputFault)
-    by_end password script s Finished is = inl (subst (λ e. ComesShell input output script e s.es) is s.came).output_quiet
-    by_end password script s InputFault is = inl (subst (λ e. ComesShell input output script e s.es) is s.came).output_quiet
-    by_end password script s OutputFault is = inr (not_violated (violated s.es) s.end s.closing s.status calm is)
+    by_end password script s Finished is = inl (subst (λ e. ComesShell input output script e s.own s.es) is s.came).0.output_quiet
+    by_end password script s InputFault is = inl (subst (λ e. ComesShell input output script e s.own s.es) is s.came).0.output_quiet
+    by_end password script s OutputFault is = inr (not_violated (violated s.es) s.end s.closing s.own s.status calm is)
 
     pub session_output : Session trace faults G now (ComesShell input output) input output vault keeper ended → IsUnfailed output ⊎ (ended.status ≡ status.OutputFault)
     session_output (inl u) = inl u.unwritten.1

@@ -139,7 +139,7 @@ module _ {V : Type 0} {K : Type 0} (trace : V → Option (List Call)) (faults : 
   pub unserved : ended.status ≢ Done → IsWantOfMemory ended.status
   unserved other = elim served_so as (λ _. IsWantOfMemory ended.status) [
     | inl (inl none) ↦ inl none.ends
-    | inl (inr (script, next, served)) ↦ elim served.ends as (λ _. IsWantOfMemory ended.status) [ inl done ↦ absurd (other done) | inr memory ↦ inl memory ]
+    | inl (inr (script, next, served)) ↦ elim served.ends as (λ _. IsWantOfMemory ended.status) [ inl own ↦ absurd (other (own ∙ served.came.1)) | inr memory ↦ inl memory ]
     | inr failed ↦ inr failed
   ]
 
@@ -148,14 +148,14 @@ module _ {V : Type 0} {K : Type 0} (trace : V → Option (List Call)) (faults : 
   transcript script state list root is told empty begins loaded knows less text written done = elim served_so as (λ _. IsTranscript now script text) [
     | inl (inl none) ↦ absurd (memory_done (sym none.ends ∙ done))
     | inl (inr (rest, next, served)) ↦
-        let asked = asked_lines script (first_line bytes) rest served.es (subst (λ x. IsNextPassword x (first_line bytes) rest) (told ∙ ap Some is) next) served.came.asked in
+        let asked = asked_lines script (first_line bytes) rest served.es (subst (λ x. IsNextPassword x (first_line bytes) rest) (told ∙ ap Some is) next) served.came.0.asked in
         record {
           es = served.es;
           trees = served.trees;
           asked = asked;
           replies = subst (λ t. IsSession now t served.es served.trees) begins served.replies;
           answered = answered script served.es (G.kept keeper) state list root loaded knows less asked served.unfailed served.spent;
-          said = same_Some _ _ (sym written ∙ (served.came.written ∙ ap (λ o. appends o (said_in served.es)) empty));
+          said = same_Some _ _ (sym written ∙ (served.came.0.written ∙ ap (λ o. appends o (said_in served.es)) empty));
         }
     | inr failed ↦ absurd (fault_done (sym failed ∙ done))
   ]

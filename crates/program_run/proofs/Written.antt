@@ -55,27 +55,27 @@ module _ {V : Type 0} {K : Type 0} (trace : V → Option (List Call)) (faults : 
   abbrev Ran : RunCall
   Ran = program_call words now chance left input Output before after status
 
-  shell_told : (script : Option (List ℕ)) (end : End) (es : List Exchange) → ComesShell input Output script end es → Told old new es
-  shell_told script Finished es w = whole old new es w.written
-  shell_told script InputFault es w = whole old new es w.written
-  shell_told script OutputFault es w = cut_last old new es w.written
+  shell_told : (script : Option (List ℕ)) (end : End) (own : Status) (es : List Exchange) → ComesShell input Output script end own es → Told old new es
+  shell_told script Finished own es (w, done) = whole old new es w.written
+  shell_told script InputFault own es (w, done) = whole old new es w.written
+  shell_told script OutputFault own es (w, done) = cut_last old new es w.written
 
-  command_told : (line : List ℕ) (script : Option (List ℕ)) (end : End) (es : List Exchange) → ComesCommand line input Output script end es → Told old new es
-  command_told line script Finished es ((answer, same, written), unfailed) = subst (Told old new) (sym same) (whole old new (single line answer) written.0)
-  command_told line script InputFault es ((answer, same, written), unfailed) = absurd written
-  command_told line script OutputFault es ((answer, same, written), unfailed) = subst (Told old new) (sym same) (part_of old new (text_of_answer answer) written.0)
+  command_told : (line : List ℕ) (script : Option (List ℕ)) (end : End) (own : Status) (es : List Exchange) → ComesCommand line input Output script end own es → Told old new es
+  command_told line script Finished own es (((answer, same, written), unfailed), done) = subst (Told old new) (sym same) (whole old new (single line answer) written.0)
+  command_told line script InputFault own es (((answer, same, written), unfailed), done) = absurd written
+  command_told line script OutputFault own es (((answer, same, written), unfailed), done) = subst (Told old new) (sym same) (part_of old new (text_of_answer answer) written.0)
 
   module _ (vault : V) (keeper : K) (ended : Ended V K) (c : Settings) (first : Tree) (founded : (password : List ℕ) → IsFounded ShowsFiles password c first (outside_of trace faults G vault keeper) (outside_of trace faults G ended.vault ended.keeper)) where
     nothing : Untouched Output → WroteSession now first old new
     nothing untouched = record { es = []; trees = []; replies = tt; cut = []; texts = ap (λ (xs : List ℕ). xs ++ []) (sym (ap bytes_in untouched.0)) }
 
-    served : (Came : End → List Exchange → Type 0) → ((end : End) (es : List Exchange) → Came end es → Told old new es) → (password : List ℕ) → IsServed trace faults G now password Came vault keeper ended → WroteSession now first old new
+    served : (Came : End → Status → List Exchange → Type 0) → ((end : End) (own : Status) (es : List Exchange) → Came end own es → Told old new es) → (password : List ℕ) → IsServed trace faults G now password Came vault keeper ended → WroteSession now first old new
     served Came tells password s =
         let answers = s.session.founded c first (founded password) in
-        let texts = tells s.end s.es s.came in
+        let texts = tells s.end s.own s.es s.came in
         record { es = s.es; trees = answers.trees; replies = answers.replies; cut = texts.0; texts = texts.1 }
 
-    session : (Came : Option (List ℕ) → End → List Exchange → Type 0) → ((script : Option (List ℕ)) (end : End) (es : List Exchange) → Came script end es → Told old new es) → Session trace faults G now Came input Output vault keeper ended → WroteSession now first old new
+    session : (Came : Option (List ℕ) → End → Status → List Exchange → Type 0) → ((script : Option (List ℕ)) (end : End) (own : Status) (es : List Exchange) → Came script end own es → Told old new es) → Session trace faults G now Came input Output vault keeper ended → WroteSession now first old new
     session Came tells (inl u) = nothing u.unwritten
     session Came tells (inr (password, script, has, inl ((error, u), unfailed, unwritten))) = nothing unwritten
     session Came tells (inr (password, script, has, inr s)) = served (Came script) (tells script) password s

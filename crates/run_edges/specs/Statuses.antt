@@ -46,3 +46,12 @@ ended_status line_end.Finished closing = closing_status closing
 abbrev pub session_status : Bool → End → Result Unit SyncError → Status
 session_status true end closing = status.Violation
 session_status false end closing = ended_status end closing
+
+-- what a session may end with by itself, where nothing else is the matter: it is done, or a copy isn't
+abbrev pub IsOwn : Status → Type 0
+IsOwn status.Done = Unit {0}
+IsOwn status.HostFault = Unit {0}
+IsOwn status.CopyRefused = Unit {0}
+IsOwn status.CopyStopped = Unit {0}
+IsOwn status.Memory = Unit {0}
+IsOwn other = ⊥

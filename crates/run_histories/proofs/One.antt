@@ -92,7 +92,7 @@ module _ {V : Type 0} {K : Type 0} (trace : V → Option (List Call)) (faults : 
     begins = refl;
     ends = refl;
     password = next_first password script has.is_next;
-    answered = (refl, script, has, s.end, s.came, h.status ∙ s.status);
+    answered = (refl, script, has, s.end, s.own, s.came, h.status ∙ s.status);
   }
 
   did_run : (asked : Option Form) → opens asked ≡ true → Did trace faults G call h.vault h.keeper h.ended asked → Ran asked

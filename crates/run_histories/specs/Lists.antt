@@ -15,6 +15,8 @@ use Rattle.mount_core.specs.Standing.{IsKeptMarked}
 use Rattle.outside.specs.Trace.{Call}
 use Rattle.outside.specs.declared.keeper.Keeper.{Ghosts as KeeperGhosts}
 use Rattle.session_runs.specs.Openings.{HasPassword}
+use Rattle.run_status.specs.Statuses.{first_of}
+use Rattle.run_status.specs.declared.status.Status.{Status}
 use Rattle.run_status.specs.declared.status.Status.TheVariants.{Done}
 use Rattle.session_lines.specs.declared.end.End.{End}
 use Rattle.session_runs.specs.Runs.{Outside, OutsideStandsFor}
@@ -34,17 +36,17 @@ password_of (session now password before after closing es) = password
 password_of (quiet password before after) = password
 
 -- how the exchanges of a session come from the input after the password line, and are written
-abbrev pub CallComes : RunCall → Option Form → Option (List ℕ) → End → List Exchange → Type 0
+abbrev pub CallComes : RunCall → Option Form → Option (List ℕ) → End → Status → List Exchange → Type 0
 CallComes call (Some Shell) = ComesShell call.input call.output
 CallComes call (Some (Generate count)) = ComesGenerated count call.input call.output
 CallComes call (Some Command) = ComesCommand (joined call.words) call.input call.output
-CallComes call _ = λ script end es. ⊥
+CallComes call _ = λ script end own es. ⊥
 
--- in a session the exchanges came so, and the status is theirs; in a run of no lines the words ask for none, or nothing was written and the status isn't Done
+-- in a session the exchanges came so, and the status is theirs, or its own where nothing else is the matter; in a run of no lines the words ask for none, or nothing was written and the status isn't Done
 abbrev pub CallAnswered : RunCall → Option Form → Run → Type 0
 CallAnswered call asked (session now password before after closing es) =
     (now ≡ call.now) × (script : Option (List ℕ)) × HasPassword call.input password script
-    × (end : End) × CallComes call asked script end es × (call.status ≡ session_status (violated es) end closing)
+    × (end : End) × (own : Status) × CallComes call asked script end own es × (call.status ≡ first_of (session_status (violated es) end closing) own)
 CallAnswered call asked (quiet password before after) = is_session asked ≡ true → Untouched call.output × (call.status ≢ Done)
 
 -- the call is this run

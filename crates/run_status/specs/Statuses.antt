@@ -1,7 +1,7 @@
 -- The numbers and texts of statuses.
 use Rattle.std.specs.Prelude.{ℕ, List, [], codes}
 use Rattle.run_status.specs.declared.status.Status.{Status}
-use Rattle.run_status.specs.declared.status.Status.TheVariants.{Done, Usage, LongPassword, NoConfig, ConfigForm, ConfigLocked, ConfigInner, NoState, BadState, Exists, Violation, DirectoryFault, StateFault, InputFault, OutputFault, Memory}
+use Rattle.run_status.specs.declared.status.Status.TheVariants.{Done, Usage, LongPassword, NoConfig, ConfigForm, ConfigLocked, ConfigInner, NoState, BadState, Exists, Violation, DirectoryFault, StateFault, InputFault, OutputFault, Memory, HostFault, CopyRefused, CopyStopped}
 
 abbrev pub code_of : Status → ℕ
 code_of Done = 0
@@ -20,6 +20,9 @@ code_of StateFault = 7
 code_of InputFault = 8
 code_of OutputFault = 9
 code_of Memory = 10
+code_of HostFault = 12
+code_of CopyRefused = 13
+code_of CopyStopped = 14
 
 abbrev pub sentence_of : Status → List ℕ
 sentence_of Done = []
@@ -38,6 +41,9 @@ sentence_of StateFault = codes "local state fault"
 sentence_of InputFault = codes "input fault"
 sentence_of OutputFault = codes "output fault"
 sentence_of Memory = codes "out of memory"
+sentence_of HostFault = codes "host folder fault"
+sentence_of CopyRefused = codes "copy refused"
+sentence_of CopyStopped = codes "copy stopped"
 
 -- the first of two statuses that isn't Done
 abbrev pub first_of : Status → Status → Status

@@ -37,6 +37,12 @@ pub enum Status {
     OutputFault,
     /// Memory was refused.
     Memory,
+    /// A call on the host folder failed.
+    HostFault,
+    /// A command of a copy was answered by an error, or a path would be too long.
+    CopyRefused,
+    /// A command of a copy was not answered.
+    CopyStopped,
 }
 
 impl Status {
@@ -65,6 +71,9 @@ impl Status {
             Status::InputFault => 8,
             Status::OutputFault => 9,
             Status::Memory => 10,
+            Status::HostFault => 12,
+            Status::CopyRefused => 13,
+            Status::CopyStopped => 14,
         }
     }
 
@@ -89,6 +98,9 @@ impl Status {
             Status::InputFault => "input fault",
             Status::OutputFault => "output fault",
             Status::Memory => "out of memory",
+            Status::HostFault => "host folder fault",
+            Status::CopyRefused => "copy refused",
+            Status::CopyStopped => "copy stopped",
         }
     }
 }
