@@ -10,6 +10,11 @@ pub not_own : (first own other : Status) → IsOwn own → (IsOwn other → ⊥)
 not_own Done own other mild not e = absurd (not (subst IsOwn e mild))
 not_own first own other mild not e = e
 
+-- one that nothing before it can be is its own
+pub is_own : (first own other : Status) → first_of first own ≡ other → (first ≡ other → ⊥) → own ≡ other
+is_own Done own other e not = e
+is_own first own other e not = absurd (not e)
+
 -- nothing is the matter where it is done
 pub none_before : (first own : Status) → first_of first own ≡ Done → first ≡ Done
 none_before Done own e = refl
