@@ -3,3 +3,5 @@ pub mod Questions
 pub mod Ends
 pub mod Walks
 pub mod Laws
+pub mod Exporting
+pub mod ExportLaws

@@ -1,4 +1,5 @@
 // What the commands of a copy leave.
+ghost use Rattle.copy_rules.specs.ExportLaws.{ExportIsSame, ExportIsPart};
 ghost use Rattle.copy_rules.specs.Importing.{ImportMerges};
 ghost use Rattle.copy_rules.specs.Laws.{DoneImportMerges, ImportIsSame, CopyIsSame};
 
@@ -21,4 +22,14 @@ pub fn import_is_same()
 /// A tree below a path, copied out to a folder and from it to where nothing stood, is the same below both paths.
 pub fn copy_is_same()
     ensures { CopyIsSame }
+{}
+
+/// After an export that is Ok the folder has the rows of the tree below the source, and the tree is as before.
+pub fn export_is_same()
+    ensures { ExportIsSame }
+{}
+
+/// After one that fails the folder has a part of them.
+pub fn export_is_part()
+    ensures { ExportIsPart }
 {}

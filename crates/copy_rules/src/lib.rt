@@ -7,4 +7,6 @@ mod law;
 
 pub use asker::{Asker, Stopped};
 pub use copied::{CopyFail, Totals};
-pub use law::{copy_is_same, done_import_merges, import_is_same, import_merges};
+pub use law::{
+    copy_is_same, done_import_merges, export_is_part, export_is_same, import_is_same, import_merges,
+};

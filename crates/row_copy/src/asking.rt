@@ -41,7 +41,7 @@ pub fn ask_done<A: Asker, R: Rng>(
 }
 
 /// The error that a reply is.
-fn refusal_of(reply: &Reply) -> Option<FsError>
+pub fn refusal_of(reply: &Reply) -> Option<FsError>
     ensures { result ≡ refusal reply.now }
 {
     match reply {

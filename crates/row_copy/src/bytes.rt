@@ -105,16 +105,16 @@ pub fn copy_bytes<F: Folder, A: Asker, R: Rng>(
     chance: &mut R,
 ) -> Result<(), Stop>
     requires ready { A.asking.ready asker.old }
-    requires told { IfSome (F.tree host.old) (λ t. HasFile t at.now.from) }
+    requires told { IfSome (F.tree host.old) (λ t. HasFile t at.now.host) }
     ensures ready { A.asking.ready asker.new }
     ensures same { F.tree host.new ≡ F.tree host.old }
     ensures faults { FaultsBy (F.faults host.old) (F.faults host.new) result }
     ensures stops { StopsBy (A.asking.stops asker.old) (A.asking.stops asker.new) result }
-    ensures copied { FileCopied A.asking asker.old asker.new (F.tree host.old) at.now.from at.now.to totals.old totals.new result }
+    ensures copied { FileCopied A.asking asker.old asker.new (F.tree host.old) at.now.host at.now.tree totals.old totals.new result }
 {
     let mut place = 0;
     loop {
-        let piece = match next_piece(alloc, host, &at.from, place) {
+        let piece = match next_piece(alloc, host, &at.host, place) {
             Ok(piece) => piece,
             Err(GetFail::Memory) => return Err(Stop::Memory),
             Err(GetFail::Failed) => return Err(Stop::Host),
@@ -123,7 +123,7 @@ pub fn copy_bytes<F: Folder, A: Asker, R: Rng>(
         if len == 0 {
             return Ok(());
         }
-        match write_piece(alloc, asker, &at.to, place, piece, totals, chance) {
+        match write_piece(alloc, asker, &at.tree, place, piece, totals, chance) {
             Ok(()) => {}
             Err(stop) => return Err(stop),
         }

@@ -1,17 +1,23 @@
-//! One row of a folder, copied into a tree: the commands that make it, a file's bytes in pieces.
+//! One row of a folder, copied into a tree, or of a tree, copied into a folder: its commands, a file's bytes in pieces.
 #![tactic(auto)]
 
 mod asking;
 mod bytes;
+mod bytes_out;
+mod making;
 mod paths;
 mod place;
+mod replies;
 mod rows;
+mod rows_out;
 mod stop;
 mod totals;
 
 pub use asking::ask_done;
 pub use paths::{child_of, copy_path, is_short};
 pub use place::RowPlace;
+pub use replies::ask_rows;
 pub use rows::copy_row;
+pub use rows_out::row_out;
 pub use stop::Stop;
 pub use totals::{count, no_totals};

@@ -1,10 +1,10 @@
-// Where a row is copied from and to.
+// Where a row is in the folder and in the tree.
 use fs_model::{Kind, Path};
 
-/// A row of the folder, and its path in the tree.
+/// A row's path in the folder, and in the tree.
 #[derive(Drop)]
 pub struct RowPlace {
     pub kind: Kind,
-    pub from: Path,
-    pub to: Path,
+    pub host: Path,
+    pub tree: Path,
 }

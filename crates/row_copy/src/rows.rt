@@ -72,19 +72,19 @@ fn copy_link<F: Folder, A: Asker, R: Rng>(
     chance: &mut R,
 ) -> Result<(), Stop>
     requires ready { A.asking.ready asker.old }
-    requires told { IfSome (F.tree host.old) (λ t. HasLink t at.now.from) }
+    requires told { IfSome (F.tree host.old) (λ t. HasLink t at.now.host) }
     ensures ready { A.asking.ready asker.new }
     ensures same { F.tree host.new ≡ F.tree host.old }
     ensures faults { FaultsBy (F.faults host.old) (F.faults host.new) result }
     ensures stops { StopsBy (A.asking.stops asker.old) (A.asking.stops asker.new) result }
-    ensures copied { LinkCopied A.asking asker.old asker.new (F.tree host.old) at.now.from at.now.to totals.old totals.new result }
+    ensures copied { LinkCopied A.asking asker.old asker.new (F.tree host.old) at.now.host at.now.tree totals.old totals.new result }
 {
-    let target = match host.link(alloc, &at.from) {
+    let target = match host.link(alloc, &at.host) {
         Ok(target) => target,
         Err(GetFail::Memory) => return Err(Stop::Memory),
         Err(GetFail::Failed) => return Err(Stop::Host),
     };
-    let path = match copy_path(alloc, &at.to) {
+    let path = match copy_path(alloc, &at.tree) {
         Ok(path) => path,
         Err(Memory) => return Err(Stop::Memory),
     };
@@ -107,14 +107,14 @@ fn copy_file<F: Folder, A: Asker, R: Rng>(
     chance: &mut R,
 ) -> Result<(), Stop>
     requires ready { A.asking.ready asker.old }
-    requires told { IfSome (F.tree host.old) (λ t. HasFile t at.now.from) }
+    requires told { IfSome (F.tree host.old) (λ t. HasFile t at.now.host) }
     ensures ready { A.asking.ready asker.new }
     ensures same { F.tree host.new ≡ F.tree host.old }
     ensures faults { FaultsBy (F.faults host.old) (F.faults host.new) result }
     ensures stops { StopsBy (A.asking.stops asker.old) (A.asking.stops asker.new) result }
-    ensures copied { RowCopied A.asking asker.old asker.new (F.tree host.old) File at.now.from at.now.to totals.old totals.new result }
+    ensures copied { RowCopied A.asking asker.old asker.new (F.tree host.old) File at.now.host at.now.tree totals.old totals.new result }
 {
-    match make_file(alloc, asker, &at.to, totals, chance) {
+    match make_file(alloc, asker, &at.tree, totals, chance) {
         Ok(()) => copy_bytes(alloc, host, asker, at, totals, chance),
         Err(stop) => Err(stop),
     }
@@ -130,15 +130,15 @@ pub fn copy_row<F: Folder, A: Asker, R: Rng>(
     chance: &mut R,
 ) -> Result<(), Stop>
     requires ready { A.asking.ready asker.old }
-    requires told { IfSome (F.tree host.old) (λ t. IsPlaced t at.now.from at.now.kind) }
+    requires told { IfSome (F.tree host.old) (λ t. IsPlaced t at.now.host at.now.kind) }
     ensures ready { A.asking.ready asker.new }
     ensures same { F.tree host.new ≡ F.tree host.old }
     ensures faults { FaultsBy (F.faults host.old) (F.faults host.new) result }
     ensures stops { StopsBy (A.asking.stops asker.old) (A.asking.stops asker.new) result }
-    ensures copied { RowCopied A.asking asker.old asker.new (F.tree host.old) at.now.kind at.now.from at.now.to totals.old totals.new result }
+    ensures copied { RowCopied A.asking asker.old asker.new (F.tree host.old) at.now.kind at.now.host at.now.tree totals.old totals.new result }
 {
     match at.kind {
-        Kind::Directory => make_directory(alloc, asker, &at.to, totals, chance),
+        Kind::Directory => make_directory(alloc, asker, &at.tree, totals, chance),
         Kind::File => copy_file(alloc, host, asker, at, totals, chance),
         Kind::Link => copy_link(alloc, host, asker, at, totals, chance),
     }

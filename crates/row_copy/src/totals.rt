@@ -1,10 +1,11 @@
 // What was copied so far.
 ghost use Rattle.std.specs.Prelude.{◌≡◌, [], ◌∷◌};
 ghost use Rattle.copy_rules.specs.Ends.{counted};
+ghost use Rattle.row_copy.specs.Reads.{with_row};
 ghost use Rattle.row_copy.specs.Rows.{none_copied};
 
 use copy_rules::Totals;
-use fs_model::Command;
+use fs_model::{Command, Kind};
 
 /// Nothing yet.
 pub fn no_totals() -> Totals
@@ -36,4 +37,18 @@ pub fn count(totals: &mut Totals, command: &Command)
         links: before.links.saturating_add(links),
         bytes: before.bytes.saturating_add(bytes),
     };
+}
+
+/// The totals with this row more; a file has so many bytes.
+pub fn count_row(totals: &mut Totals, kind: Kind, bytes: u64)
+    ensures { totals.new ≡ with_row totals.old kind bytes }
+{
+    match kind {
+        Kind::Directory => totals.dirs = totals.dirs.saturating_add(1),
+        Kind::File => {
+            totals.files = totals.files.saturating_add(1);
+            totals.bytes = totals.bytes.saturating_add(bytes);
+        }
+        Kind::Link => totals.links = totals.links.saturating_add(1),
+    }
 }

@@ -16,7 +16,7 @@ todo_push [] l = sym (append-nil (todo_in l.host (left_of l)))
 todo_push (m ∷ ls) l =
     ap (λ z. z ++ todo_in m.host (left_of m)) (todo_push ls l) ∙ append_assoc (todo_in l.host (left_of l)) (todo_of ls) (todo_in m.host (left_of m))
 
-pub targets_push : (q : HostPath) (ls : List Level) (l : Level) → HasTargets q ls → l.target ≡ q ++ l.host → HasTargets q (ls ++ l ∷ [])
+pub targets_push : (q : HostPath) (ls : List Level) (l : Level) → HasTargets q ls → l.tree ≡ q ++ l.host → HasTargets q (ls ++ l ∷ [])
 targets_push q [] l h e = (e, tt)
 targets_push q (m ∷ ls) l h e = (h.0, targets_push q ls l h.1 e)
 
@@ -24,7 +24,7 @@ pub targets_front : (q : HostPath) (ls : List Level) (l : Level) → HasTargets 
 targets_front q [] l h = tt
 targets_front q (m ∷ ls) l h = (h.0, targets_front q ls l h.1)
 
-pub targets_last : (q : HostPath) (ls : List Level) (l : Level) → HasTargets q (ls ++ l ∷ []) → l.target ≡ q ++ l.host
+pub targets_last : (q : HostPath) (ls : List Level) (l : Level) → HasTargets q (ls ++ l ∷ []) → l.tree ≡ q ++ l.host
 targets_last q [] l h = h.0
 targets_last q (m ∷ ls) l h = targets_last q ls l h.1
 
@@ -32,20 +32,20 @@ targets_last q (m ∷ ls) l h = targets_last q ls l h.1
 pub todo_spent : (ls : List Level) (l : Level) → left_of l ≡ [] → todo_of (ls ++ l ∷ []) ≡ todo_of ls
 todo_spent ls l e = todo_push ls l ∙ ap (λ z. todo_in l.host z ++ todo_of ls) e
 
-pub todo_taken : (ls : List Level) (old new : Level) (at : RowPlace) → IsTaken old new at → todo_of (ls ++ old ∷ []) ≡ (at.from, at.kind) ∷ todo_of (ls ++ new ∷ [])
+pub todo_taken : (ls : List Level) (old new : Level) (at : RowPlace) → IsTaken old new at → todo_of (ls ++ old ∷ []) ≡ (at.host, at.kind) ∷ todo_of (ls ++ new ∷ [])
 todo_taken ls old new at k =
     todo_push ls old
     ∙ (ap (λ z. todo_in old.host z ++ todo_of ls) k.left
-    ∙ (ap (λ p. (p, at.kind) ∷ (todo_in old.host (left_of new) ++ todo_of ls)) (sym k.from)
-    ∙ (ap (λ h. (at.from, at.kind) ∷ (todo_in h (left_of new) ++ todo_of ls)) (sym k.host)
-    ∙ ap (λ z. (at.from, at.kind) ∷ z) (sym (todo_push ls new)))))
+    ∙ (ap (λ p. (p, at.kind) ∷ (todo_in old.host (left_of new) ++ todo_of ls)) (sym k.at_host)
+    ∙ (ap (λ h. (at.host, at.kind) ∷ (todo_in h (left_of new) ++ todo_of ls)) (sym k.host)
+    ∙ ap (λ z. (at.host, at.kind) ∷ z) (sym (todo_push ls new)))))
 
 -- the row that is taken is below the target where its directory is
-pub taken_to : (q : HostPath) (old new : Level) (at : RowPlace) → IsTaken old new at → old.target ≡ q ++ old.host → at.to ≡ q ++ at.from
-taken_to q old new at k e = k.to ∙ (ap (λ z. z ++ k.name ∷ []) e ∙ (append_assoc q old.host (k.name ∷ []) ∙ ap (λ z. q ++ z) (sym k.from)))
+pub taken_to : (q : HostPath) (old new : Level) (at : RowPlace) → IsTaken old new at → old.tree ≡ q ++ old.host → at.tree ≡ q ++ at.host
+taken_to q old new at k e = k.at_tree ∙ (ap (λ z. z ++ k.name ∷ []) e ∙ (append_assoc q old.host (k.name ∷ []) ∙ ap (λ z. q ++ z) (sym k.at_host)))
 
-pub taken_target : (q : HostPath) (old new : Level) (at : RowPlace) → IsTaken old new at → old.target ≡ q ++ old.host → new.target ≡ q ++ new.host
-taken_target q old new at k e = k.target ∙ (e ∙ ap (λ z. q ++ z) (sym k.host))
+pub taken_target : (q : HostPath) (old new : Level) (at : RowPlace) → IsTaken old new at → old.tree ≡ q ++ old.host → new.tree ≡ q ++ new.host
+taken_target q old new at k e = k.tree ∙ (e ∙ ap (λ z. q ++ z) (sym k.host))
 
 -- the row at this place is the first that is left
 pub left_some : (rows : List ListRow) (i : ℕ) (row : ListRow) → i < length rows → row ≡ get_or rows i row → drop i (map row_pair rows) ≡ row_pair row ∷ drop (i + 1) (map row_pair rows)

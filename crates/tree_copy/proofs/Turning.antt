@@ -73,7 +73,7 @@ module _ {A : Type 0} (M : Asking A) (lawful : LawfulAsker M) where
       let rows = subst (λ z. IfSome z (λ t. (n : List ℕ) → find name_cmp n (left_of e.level) ≡ kind_in (get t (p ++ n ∷ [])))) same e.rows in
       let met = row_met M lawful a b c told q p k (todo_of levels) before after (left_of e.level) x (subst (λ z. text_size z ≤ 4096) at short) (subst (λ z. RowCopied M b c told k p z before after {X = Unit {0}} (Ok tt)) at r) e.rise rows in
       let todo : todo_of new ≡ todo_in p (left_of e.level) ++ todo_of levels = ap todo_of e.is ∙ (todo_push levels e.level ∙ ap (λ h. todo_in h (left_of e.level) ++ todo_of levels) e.host) in
-      (subst (λ z. IsAt M a c told q z after) (sym todo) met, subst (HasTargets q) (sym e.is) (targets_push q levels e.level targets (e.target ∙ (at ∙ ap (λ h. q ++ h) (sym e.host)))))
+      (subst (λ z. IsAt M a c told q z after) (sym todo) met, subst (HasTargets q) (sym e.is) (targets_push q levels e.level targets (e.tree ∙ (at ∙ ap (λ h. q ++ h) (sym e.host)))))
 
   -- a file or a link is copied
   pub leaf : (a b c : A) (told : Option HostTree) (q : HostPath) (p : HostPath) (k : Kind) (to : HostPath) (levels : List Level) (before after : Totals) → (k ≡ Directory → ⊥) → to ≡ q ++ p → HasTargets q levels → IsAt M a b told q ((p, k) ∷ todo_of levels) before
@@ -115,7 +115,7 @@ module _ {A : Type 0} (M : Asking A) (lawful : LawfulAsker M) where
       let rows = subst (λ z. IfSome z (λ t. (n : List ℕ) → find name_cmp n (left_of e.level) ≡ kind_in (get t ([] ++ n ∷ [])))) same e.rows in
       let at = begun M lawful a told q (left_of e.level) tree e.rise rows in
       let todo : todo_of new ≡ todo_in [] (left_of e.level) ++ [] = ap todo_of e.is ∙ (todo_push [] e.level ∙ ap (λ h. todo_in h (left_of e.level) ++ []) e.host) in
-      (subst (λ z. IsAt M a a told q z none_copied) (sym todo) at, subst (HasTargets q) (sym e.is) ((e.target ∙ (sym (append-nil q) ∙ ap (λ h. q ++ h) (sym e.host)), tt)))
+      (subst (λ z. IsAt M a a told q z none_copied) (sym todo) at, subst (HasTargets q) (sym e.is) ((e.tree ∙ (sym (append-nil q) ∙ ap (λ h. q ++ h) (sym e.host)), tt)))
 
 -- what the walk knows of the told tree
 pub known : {A : Type 0} (M : Asking A) (a b : A) (told : Option HostTree) (q : HostPath) (levels : List Level) (totals : Totals) → IsAt M a b told q (todo_of levels) totals → IfSome told (λ t. AreKnown t levels)

@@ -1,5 +1,5 @@
 -- How far a copy into a tree got.
-use Rattle.std.specs.Prelude.{◌≡◌, Bool, true, false, List, [], ◌∷◌, ◌++◌, is_some, IfSome}
+use Rattle.std.specs.Prelude.{◌≡◌, Bool, true, List, [], ◌∷◌, ◌++◌, is_some, IfSome}
 use Rattle.std.specs.FinMap.{find}
 use Rattle.std.specs.declared.option.Option.{Option}
 use Rattle.std.specs.declared.result.Result.{Result}
@@ -18,7 +18,7 @@ use Rattle.row_copy.specs.declared.stop.Stop.{Stop}
 use Rattle.row_copy.specs.declared.stop.Stop.TheVariants as stop
 use Rattle.row_copy.specs.Rows.{none_copied}
 use Rattle.tree_copy.specs.declared.levels.Level.{Level}
-use Rattle.tree_copy.specs.Levels.{todo_of, HasTargets}
+use Rattle.tree_copy.specs.Levels.{todo_of, Goes, HasTargets}
 
 abbrev pub fail_of : Stop → HostPath → CopyFail
 fail_of stop.Memory p = fail.Memory
@@ -51,20 +51,14 @@ abbrev pub StepEnds : {A : Type 0} → Asking A → {X : Type 0} → A → A →
 StepEnds M old new told q levels totals (Ok x) = IsAt M old new told q (todo_of levels) totals × HasTargets q levels
 StepEnds M old new told q levels totals (Err e) = Failed M old new told q e
 
--- nothing is left where it says so
-abbrev pub IsLast : Result Bool CopyFail → List Level → Type 0
-IsLast (Ok true) levels = Unit {0}
-IsLast (Ok false) levels = levels ≡ []
-IsLast (Err e) levels = Unit {0}
-
 -- from wherever the copy began: the row at this place is the next, and then those of the levels
 abbrev pub StepsAt : {A : Type 0} → Asking A → A → A → Option HostTree → RowPlace → List Level → List Level → Totals → Totals → Result (Unit {0}) CopyFail → Type 0
 StepsAt {A} M old new told at levels now before after result =
-    (first : A) (q : HostPath) → at.to ≡ q ++ at.from → HasTargets q levels → IsAt M first old told q ((at.from, at.kind) ∷ todo_of levels) before → StepEnds M first new told q now after result
+    (first : A) (q : HostPath) → at.tree ≡ q ++ at.host → HasTargets q levels → IsAt M first old told q ((at.host, at.kind) ∷ todo_of levels) before → StepEnds M first new told q now after result
 
 abbrev pub Steps : {A : Type 0} → Asking A → A → A → Option HostTree → List Level → List Level → Totals → Totals → Result Bool CopyFail → Type 0
 Steps {A} M old new told levels now before after result =
-    ((first : A) (q : HostPath) → HasTargets q levels → IsAt M first old told q (todo_of levels) before → StepEnds M first new told q now after result) × IsLast result now
+    ((first : A) (q : HostPath) → HasTargets q levels → IsAt M first old told q (todo_of levels) before → StepEnds M first new told q now after result) × Goes result levels now
 
 -- what an import asked, for which tree, and how it ends
 pub record ImportRun {A : Type 0} (M : Asking A) (old new : A) (told : Option HostTree) (q : HostPath) (result : Result Totals CopyFail) : Type 0 where

@@ -2,20 +2,24 @@
 ghost use Rattle.std.specs.Prelude.{◌≡◌, IfOk, IfSome, OnOk};
 ghost use Rattle.outside.specs.Causes.{GetHasCause};
 ghost use Rattle.host_folder.specs.Folders.{IsHostTree};
+ghost use Rattle.row_copy.specs.Rows.{StopsBy, NeverHost};
+ghost use Rattle.tree_copy.specs.Exports.{TreeEntered};
 ghost use Rattle.tree_copy.specs.Levels.{IsEntered, NextIs};
 
 use block_id::Memory;
+use copy_rules::Asker;
 use fs_model::{Path, RowList};
 use host_folder::Folder;
 use outside::GetFail;
-use row_copy::{RowPlace, child_of, copy_path};
+use rand_core::Rng;
+use row_copy::{RowPlace, Stop, ask_rows, child_of, copy_path};
 use std::alloc::Global;
 
 /// A directory whose rows are copied: from this one on.
 #[derive(Drop)]
 pub struct Level {
     pub host: Path,
-    pub target: Path,
+    pub tree: Path,
     pub rows: RowList,
     pub next: usize,
 }
@@ -37,19 +41,55 @@ pub fn enter<F: Folder>(
         Ok(rows) => rows,
         Err(fail) => return Err(fail),
     };
-    let target = match copy_path(alloc, to) {
-        Ok(target) => target,
+    let tree = match copy_path(alloc, to) {
+        Ok(tree) => tree,
         Err(Memory) => return Err(GetFail::Memory),
     };
     let level = Level {
         host: from,
-        target,
+        tree,
         rows,
         next: 0,
     };
     match levels.push(level) {
         Ok(()) => {}
         Err(_) => return Err(GetFail::Memory),
+    }
+    Ok(())
+}
+
+/// Begins the directory of the tree: its rows are to be copied.
+pub fn enter_tree<A: Asker, R: Rng>(
+    alloc: Global,
+    asker: &mut A,
+    host: Path,
+    tree: &Path,
+    levels: &mut Vec<Level>,
+    chance: &mut R,
+) -> Result<(), Stop>
+    requires ready { A.asking.ready asker.old }
+    ensures ready { A.asking.ready asker.new }
+    ensures stops { StopsBy (A.asking.stops asker.old) (A.asking.stops asker.new) result }
+    ensures never { NeverHost result }
+    ensures entered { TreeEntered A.asking asker.old asker.new host tree.now levels.old.items levels.new.items result }
+{
+    let path = match copy_path(alloc, tree) {
+        Ok(path) => path,
+        Err(Memory) => return Err(Stop::Memory),
+    };
+    let rows = match ask_rows(alloc, asker, tree, chance) {
+        Ok(rows) => rows,
+        Err(stop) => return Err(stop),
+    };
+    let level = Level {
+        host,
+        tree: path,
+        rows,
+        next: 0,
+    };
+    match levels.push(level) {
+        Ok(()) => {}
+        Err(_) => return Err(Stop::Memory),
     }
     Ok(())
 }
@@ -63,9 +103,9 @@ pub fn next_row(alloc: Global, level: &mut Level) -> Result<Option<RowPlace>, Me
         return Ok(None);
     }
     let row = &rows[level.next];
-    let from = child_of(alloc, &level.host, &row.name)?;
-    let to = child_of(alloc, &level.target, &row.name)?;
+    let host = child_of(alloc, &level.host, &row.name)?;
+    let tree = child_of(alloc, &level.tree, &row.name)?;
     let kind = row.kind;
     level.next += 1;
-    Ok(Some(RowPlace { kind, from, to }))
+    Ok(Some(RowPlace { kind, host, tree }))
 }

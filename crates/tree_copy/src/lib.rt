@@ -1,8 +1,11 @@
-//! A folder of the host, copied into a tree.
+//! A folder of the host, copied into a tree, and a tree, copied into a folder.
 #![tactic(auto)]
 
+mod exporting;
 mod importing;
 mod levels;
+mod out_steps;
 mod steps;
 
+pub use exporting::export;
 pub use importing::import;

@@ -1,8 +1,8 @@
 // One row more of a copy.
-ghost use Rattle.std.specs.Prelude.{◌≡◌, IfSome};
+ghost use Rattle.std.specs.Prelude.{◌≡◌, IfSome, OnOk};
 ghost use Rattle.copy_rules.specs.Ends.{HostCause, StopCause};
 ghost use Rattle.row_copy.specs.Rows.{IsPlaced};
-ghost use Rattle.tree_copy.specs.Levels.{AreKnown};
+ghost use Rattle.tree_copy.specs.Levels.{AreKnown, IsDeeper};
 ghost use Rattle.tree_copy.specs.Copies.{Steps, StepsAt, fail_of};
 
 use crate::levels::{Level, enter, next_row};
@@ -15,7 +15,7 @@ use rand_core::Rng;
 use row_copy::{RowPlace, Stop, copy_row, is_short};
 use std::alloc::Global;
 
-fn fail_at(stop: Stop, path: Path) -> CopyFail
+pub fn fail_at(stop: Stop, path: Path) -> CopyFail
     ensures { result ≡ fail_of stop path }
 {
     match stop {
@@ -37,26 +37,27 @@ fn copy_at<F: Folder, A: Asker, R: Rng>(
     chance: &mut R,
 ) -> Result<(), CopyFail>
     requires ready { A.asking.ready asker.old }
-    requires told { IfSome (F.tree host.old) (λ t. IsPlaced t at.from at.kind) }
+    requires told { IfSome (F.tree host.old) (λ t. IsPlaced t at.host at.kind) }
     ensures ready { A.asking.ready asker.new }
     ensures same { F.tree host.new ≡ F.tree host.old }
     ensures host { HostCause (F.faults host.old) (F.faults host.new) result }
     ensures stops { StopCause (A.asking.stops asker.old) (A.asking.stops asker.new) result }
+    ensures levels { OnOk result (IsDeeper at.host levels.old.items levels.new.items) }
     ensures steps { StepsAt A.asking asker.old asker.new (F.tree host.old) at levels.old.items levels.new.items totals.old totals.new result }
 {
-    if !is_short(&at.to) {
-        return Err(CopyFail::LongPath(at.to));
+    if !is_short(&at.tree) {
+        return Err(CopyFail::LongPath(at.tree));
     }
     match copy_row(alloc, host, asker, &at, totals, chance) {
         Ok(()) => {}
-        Err(stop) => return Err(fail_at(stop, at.to)),
+        Err(stop) => return Err(fail_at(stop, at.tree)),
     }
     match at.kind {
         Kind::Directory => {}
         Kind::File => return Ok(()),
         Kind::Link => return Ok(()),
     }
-    match enter(alloc, host, at.from, &at.to, levels) {
+    match enter(alloc, host, at.host, &at.tree, levels) {
         Ok(()) => {}
         Err(GetFail::Memory) => return Err(CopyFail::Memory),
         Err(GetFail::Failed) => return Err(CopyFail::Host),

@@ -15,7 +15,7 @@ loop-piece-init g c = record {
   faults = refl;
   stops = refl;
   far = omega arith;
-  written = written_none g.A.Asker.asking g.met.A.Asker.lawful c.args.asker.now (g.F.Folder.tree c.args.host.now) c.args.at.now.from c.args.at.now.to c.args.totals.now c.requires.told;
+  written = written_none g.A.Asker.asking g.met.A.Asker.lawful c.args.asker.now (g.F.Folder.tree c.args.host.now) c.args.at.now.host c.args.at.now.tree c.args.totals.now c.requires.told;
 }
 
 pub returns-in-Err-Memory-clause-same : goal.returns-in-Err-Memory-clause-same
@@ -52,12 +52,12 @@ returns-in-Err-Failed-clause-faults g c =
 pub returns-in-Err-Memory-clause-copied : goal.returns-in-Err-Memory-clause-copied
 returns-in-Err-Memory-clause-copied g c =
     let i = c.loop-piece.invariant in
-    read_memory g.A.Asker.asking g.met.A.Asker.lawful c.args.asker.now c.loop-piece.asker (g.F.Folder.tree c.args.host.now) c.args.at.now.from c.args.at.now.to c.loop-piece.place c.args.totals.now c.loop-piece.totals i.written
+    read_memory g.A.Asker.asking g.met.A.Asker.lawful c.args.asker.now c.loop-piece.asker (g.F.Folder.tree c.args.host.now) c.args.at.now.host c.args.at.now.tree c.loop-piece.place c.args.totals.now c.loop-piece.totals i.written
 
 pub returns-in-Err-Failed-clause-copied : goal.returns-in-Err-Failed-clause-copied
 returns-in-Err-Failed-clause-copied g c =
     let i = c.loop-piece.invariant in
-    read_host g.A.Asker.asking g.met.A.Asker.lawful c.args.asker.now c.loop-piece.asker (g.F.Folder.tree c.args.host.now) c.args.at.now.from c.args.at.now.to c.loop-piece.place c.args.totals.now c.loop-piece.totals i.written
+    read_host g.A.Asker.asking g.met.A.Asker.lawful c.args.asker.now c.loop-piece.asker (g.F.Folder.tree c.args.host.now) c.args.at.now.host c.args.at.now.tree c.loop-piece.place c.args.totals.now c.loop-piece.totals i.written
 
 pub returns-then-len-eq0-clause-same : goal.returns-then-len-eq0-clause-same
 returns-then-len-eq0-clause-same g c =
@@ -98,7 +98,7 @@ pub returns-then-len-eq0-clause-copied : goal.returns-then-len-eq0-clause-copied
 returns-then-len-eq0-clause-copied g c =
     let i = c.loop-piece.invariant in
     let none : length c.in-Ok.piece.items ≡ 0 = omega (arith, c.if-len-eq0.true, c.len-len.ensures, c.in-Ok.piece.ok) in
-    read_all g.A.Asker.asking g.met.A.Asker.lawful c.args.asker.now c.loop-piece.asker (g.F.Folder.tree c.args.host.now) c.args.at.now.from c.args.at.now.to c.loop-piece.place c.args.totals.now c.loop-piece.totals c.in-Ok.piece.items i.written none (subst (λ z. IfSome z (λ t. IsPiece t c.args.at.now.from c.loop-piece.place c.in-Ok.piece.items)) i.same c.in-Ok.ensures.told)
+    read_all g.A.Asker.asking g.met.A.Asker.lawful c.args.asker.now c.loop-piece.asker (g.F.Folder.tree c.args.host.now) c.args.at.now.host c.args.at.now.tree c.loop-piece.place c.args.totals.now c.loop-piece.totals c.in-Ok.piece.items i.written none (subst (λ z. IfSome z (λ t. IsPiece t c.args.at.now.host c.loop-piece.place c.in-Ok.piece.items)) i.same c.in-Ok.ensures.told)
 
 pub returns-in-Err-clause-faults : goal.returns-in-Err-clause-faults
 returns-in-Err-clause-faults g c =
@@ -114,14 +114,14 @@ pub returns-in-Err-clause-copied : goal.returns-in-Err-clause-copied
 returns-in-Err-clause-copied g c =
     let i = c.loop-piece.invariant in
     let some : 0 < length c.in-Ok.piece.items = omega (arith, c.if-len-eq0.false, c.len-len.ensures, c.in-Ok.piece.ok) in
-    write_fails g.A.Asker.asking g.met.A.Asker.lawful c.args.asker.now c.loop-piece.asker c.write_piece.new.asker (g.F.Folder.tree c.args.host.now) c.args.at.now.from c.args.at.now.to c.loop-piece.place c.args.totals.now c.loop-piece.totals c.write_piece.new.totals c.in-Ok.piece.items c.in-Err.stop i.written some c.in-Ok.ensures.len (subst (λ z. IfSome z (λ t. IsPiece t c.args.at.now.from c.loop-piece.place c.in-Ok.piece.items)) i.same c.in-Ok.ensures.told) c.in-Err.ensures.asks
+    write_fails g.A.Asker.asking g.met.A.Asker.lawful c.args.asker.now c.loop-piece.asker c.write_piece.new.asker (g.F.Folder.tree c.args.host.now) c.args.at.now.host c.args.at.now.tree c.loop-piece.place c.args.totals.now c.loop-piece.totals c.write_piece.new.totals c.in-Ok.piece.items c.in-Err.stop i.written some c.in-Ok.ensures.len (subst (λ z. IfSome z (λ t. IsPiece t c.args.at.now.host c.loop-piece.place c.in-Ok.piece.items)) i.same c.in-Ok.ensures.told) c.in-Err.ensures.asks
 
 pub returns-then-len-lt-PIECE-clause-copied : goal.returns-then-len-lt-PIECE-clause-copied
 returns-then-len-lt-PIECE-clause-copied g c =
     let i = c.loop-piece.invariant in
     let some : 0 < length c.in-Ok.piece.items = omega (arith, c.if-len-eq0.false, c.len-len.ensures, c.in-Ok.piece.ok) in
     let few : length c.in-Ok.piece.items < 1048576 = omega (arith, c.if-len-lt-PIECE.true, c.len-len.ensures, c.in-Ok.piece.ok) in
-    write_last g.A.Asker.asking g.met.A.Asker.lawful c.args.asker.now c.loop-piece.asker c.write_piece.new.asker (g.F.Folder.tree c.args.host.now) c.args.at.now.from c.args.at.now.to c.loop-piece.place c.args.totals.now c.loop-piece.totals c.write_piece.new.totals c.in-Ok.piece.items i.written some few (subst (λ z. IfSome z (λ t. IsPiece t c.args.at.now.from c.loop-piece.place c.in-Ok.piece.items)) i.same c.in-Ok.ensures.told) c.in-Ok-write_piece.ensures.asks c.in-Ok-write_piece.ensures.counts
+    write_last g.A.Asker.asking g.met.A.Asker.lawful c.args.asker.now c.loop-piece.asker c.write_piece.new.asker (g.F.Folder.tree c.args.host.now) c.args.at.now.host c.args.at.now.tree c.loop-piece.place c.args.totals.now c.loop-piece.totals c.write_piece.new.totals c.in-Ok.piece.items i.written some few (subst (λ z. IfSome z (λ t. IsPiece t c.args.at.now.host c.loop-piece.place c.in-Ok.piece.items)) i.same c.in-Ok.ensures.told) c.in-Ok-write_piece.ensures.asks c.in-Ok-write_piece.ensures.counts
 
 pub overflow_add-place : goal.overflow_add-place
 overflow_add-place g c =
@@ -144,6 +144,6 @@ loop-piece-preserved g c =
       faults = c.in-Ok.ensures.faults ∙ i.faults;
       stops = c.in-Ok-write_piece.ensures.stops ∙ i.stops;
       far = omega (arith, far, same);
-      written = write_more g.A.Asker.asking g.met.A.Asker.lawful c.args.asker.now c.loop-piece.asker c.write_piece.new.asker (g.F.Folder.tree c.args.host.now) c.args.at.now.from c.args.at.now.to c.loop-piece.place (c.loop-piece.place + c.len-len.result) c.args.totals.now c.loop-piece.totals c.write_piece.new.totals c.in-Ok.piece.items i.written whole next (subst (λ z. IfSome z (λ t. IsPiece t c.args.at.now.from c.loop-piece.place c.in-Ok.piece.items)) i.same c.in-Ok.ensures.told)
+      written = write_more g.A.Asker.asking g.met.A.Asker.lawful c.args.asker.now c.loop-piece.asker c.write_piece.new.asker (g.F.Folder.tree c.args.host.now) c.args.at.now.host c.args.at.now.tree c.loop-piece.place (c.loop-piece.place + c.len-len.result) c.args.totals.now c.loop-piece.totals c.write_piece.new.totals c.in-Ok.piece.items i.written whole next (subst (λ z. IfSome z (λ t. IsPiece t c.args.at.now.host c.loop-piece.place c.in-Ok.piece.items)) i.same c.in-Ok.ensures.told)
           c.in-Ok-write_piece.ensures.asks c.in-Ok-write_piece.ensures.counts;
     }

@@ -9,7 +9,7 @@ invariant-loop-piece g l = record {
   faults : g.F.Folder.faults l.host ≡ g.F.Folder.faults l.initial.host;
   stops : g.A.Asker.asking.stops l.asker ≡ g.A.Asker.asking.stops l.initial.asker;
   far : l.place ≤ 2 ^ 63;
-  written : IsWritten g.A.Asker.asking l.initial.asker l.asker (g.F.Folder.tree l.initial.host) l.at.from l.at.to l.place l.initial.totals l.totals;
+  written : IsWritten g.A.Asker.asking l.initial.asker l.asker (g.F.Folder.tree l.initial.host) l.at.host l.at.tree l.place l.initial.totals l.totals;
 }
 
 abbrev pub decreases-loop-piece : goal.decreases-loop-piece

@@ -26,7 +26,7 @@ pub returns-in-Ok-clause-stops : goal.returns-in-Ok-clause-stops
 returns-in-Ok-clause-stops g c = stops_from _ _ _ c.copy_bytes.result c.in-Ok.ensures.stops c.copy_bytes.ensures.stops
 
 pub returns-in-Ok-clause-copied : goal.returns-in-Ok-clause-copied
-returns-in-Ok-clause-copied g c = file_row g.A.Asker.asking g.met.A.Asker.lawful c.args.asker.now c.make_file.new.asker c.copy_bytes.new.asker (g.F.Folder.tree c.args.host.now) c.args.at.now.from c.args.at.now.to c.args.totals.now c.make_file.new.totals c.copy_bytes.new.totals c.copy_bytes.result c.in-Ok.ensures.asks c.in-Ok.ensures.counts c.copy_bytes.ensures.copied
+returns-in-Ok-clause-copied g c = file_row g.A.Asker.asking g.met.A.Asker.lawful c.args.asker.now c.make_file.new.asker c.copy_bytes.new.asker (g.F.Folder.tree c.args.host.now) c.args.at.now.host c.args.at.now.tree c.args.totals.now c.make_file.new.totals c.copy_bytes.new.totals c.copy_bytes.result c.in-Ok.ensures.asks c.in-Ok.ensures.counts c.copy_bytes.ensures.copied
 
 pub returns-in-Err-clause-ready : goal.returns-in-Err-clause-ready
 returns-in-Err-clause-ready g c = c.in-Err.ensures.ready
@@ -41,4 +41,4 @@ pub returns-in-Err-clause-stops : goal.returns-in-Err-clause-stops
 returns-in-Err-clause-stops g c = c.in-Err.ensures.stops
 
 pub returns-in-Err-clause-copied : goal.returns-in-Err-clause-copied
-returns-in-Err-clause-copied g c = file_stops g.A.Asker.asking c.args.asker.now c.make_file.new.asker (g.F.Folder.tree c.args.host.now) c.args.at.now.from c.args.at.now.to c.args.totals.now c.make_file.new.totals c.in-Err.stop c.requires.told c.in-Err.ensures.asks
+returns-in-Err-clause-copied g c = file_stops g.A.Asker.asking c.args.asker.now c.make_file.new.asker (g.F.Folder.tree c.args.host.now) c.args.at.now.host c.args.at.now.tree c.args.totals.now c.make_file.new.totals c.in-Err.stop c.requires.told c.in-Err.ensures.asks

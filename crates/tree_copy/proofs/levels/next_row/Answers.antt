@@ -10,8 +10,8 @@ returns c =
     record {
       name = c.index-rows-level.result.name;
       host = refl;
-      target = refl;
+      tree = refl;
       left = left_some c.args.level.now.rows c.args.level.now.next c.index-rows-level.result less (subst (λ z. c.index-rows-level.result ≡ get_or z c.args.level.now.next c.index-rows-level.result) c.as_slice-rows.ensures c.index-rows-level.is);
-      from = c.in_ok-from.ensures;
-      to = c.in_ok-to.ensures;
+      at_host = c.in_ok-host.ensures;
+      at_tree = c.in_ok-tree.ensures;
     }

@@ -29,7 +29,7 @@ returns-then-not-is_short-clause-stops g c = refl
 pub returns-then-not-is_short-clause-steps : goal.returns-then-not-is_short-clause-steps
 returns-then-not-is_short-clause-steps g c = λ first q to targets at.
     subst (λ z. Failed g.A.Asker.asking first c.args.asker.now (g.F.Folder.tree c.args.host.now) q (fail.LongPath z)) (sym to)
-    (at_long g.A.Asker.asking first c.args.asker.now (g.F.Folder.tree c.args.host.now) q c.args.at.from c.args.at.kind (todo_of c.args.levels.now.items) c.args.totals.now at (subst (λ z. 4096 < text_size z) to (long_of c.is_short.result (text_size c.args.at.to) c.is_short.ensures c.if-not-is_short.true)))
+    (at_long g.A.Asker.asking first c.args.asker.now (g.F.Folder.tree c.args.host.now) q c.args.at.host c.args.at.kind (todo_of c.args.levels.now.items) c.args.totals.now at (subst (λ z. 4096 < text_size z) to (long_of c.is_short.result (text_size c.args.at.tree) c.is_short.ensures c.if-not-is_short.true)))
 
 pub copy_row-requires-clause-ready : goal.copy_row-requires-clause-ready
 copy_row-requires-clause-ready g c = c.requires.ready
@@ -44,13 +44,13 @@ pub returns-in-Err-clause-same : goal.returns-in-Err-clause-same
 returns-in-Err-clause-same g c = c.in-Err.ensures.same
 
 pub returns-in-Err-clause-host : goal.returns-in-Err-clause-host
-returns-in-Err-clause-host g c = host_fails _ _ c.in-Err.stop c.args.at.to c.fail_at.result c.fail_at.ensures c.in-Err.ensures.faults
+returns-in-Err-clause-host g c = host_fails _ _ c.in-Err.stop c.args.at.tree c.fail_at.result c.fail_at.ensures c.in-Err.ensures.faults
 
 pub returns-in-Err-clause-stops : goal.returns-in-Err-clause-stops
-returns-in-Err-clause-stops g c = stop_fails _ _ c.in-Err.stop c.args.at.to c.fail_at.result c.fail_at.ensures c.in-Err.ensures.stops
+returns-in-Err-clause-stops g c = stop_fails _ _ c.in-Err.stop c.args.at.tree c.fail_at.result c.fail_at.ensures c.in-Err.ensures.stops
 
 pub returns-in-Err-clause-steps : goal.returns-in-Err-clause-steps
-returns-in-Err-clause-steps g c = λ first q to targets at. row_stops g.A.Asker.asking g.met.A.Asker.lawful first c.args.asker.now c.copy_row.new.asker (g.F.Folder.tree c.args.host.now) q c.args.at.from c.args.at.kind c.args.at.to c.args.levels.now.items c.args.totals.now c.copy_row.new.totals c.in-Err.stop c.fail_at.result c.fail_at.ensures to at c.in-Err.ensures.copied
+returns-in-Err-clause-steps g c = λ first q to targets at. row_stops g.A.Asker.asking g.met.A.Asker.lawful first c.args.asker.now c.copy_row.new.asker (g.F.Folder.tree c.args.host.now) q c.args.at.host c.args.at.kind c.args.at.tree c.args.levels.now.items c.args.totals.now c.copy_row.new.totals c.in-Err.stop c.fail_at.result c.fail_at.ensures to at c.in-Err.ensures.copied
 
 pub returns-in-File-clause-ready : goal.returns-in-File-clause-ready
 returns-in-File-clause-ready g c = c.in-Ok.ensures.ready
@@ -65,7 +65,7 @@ pub returns-in-File-clause-stops : goal.returns-in-File-clause-stops
 returns-in-File-clause-stops g c = c.in-Ok.ensures.stops
 
 pub returns-in-File-clause-steps : goal.returns-in-File-clause-steps
-returns-in-File-clause-steps g c = λ first q to targets at. leaf g.A.Asker.asking g.met.A.Asker.lawful first c.args.asker.now c.copy_row.new.asker (g.F.Folder.tree c.args.host.now) q c.args.at.from c.args.at.kind c.args.at.to c.args.levels.now.items c.args.totals.now c.copy_row.new.totals (λ e. not_directory (sym c.in-File.is ∙ e)) to targets at (short_of c.is_short.result (text_size c.args.at.to) c.is_short.ensures c.if-not-is_short.false) c.in-Ok.ensures.copied
+returns-in-File-clause-steps g c = λ first q to targets at. leaf g.A.Asker.asking g.met.A.Asker.lawful first c.args.asker.now c.copy_row.new.asker (g.F.Folder.tree c.args.host.now) q c.args.at.host c.args.at.kind c.args.at.tree c.args.levels.now.items c.args.totals.now c.copy_row.new.totals (λ e. not_directory (sym c.in-File.is ∙ e)) to targets at (short_of c.is_short.result (text_size c.args.at.tree) c.is_short.ensures c.if-not-is_short.false) c.in-Ok.ensures.copied
 
 pub returns-in-Link-clause-ready : goal.returns-in-Link-clause-ready
 returns-in-Link-clause-ready g c = c.in-Ok.ensures.ready
@@ -80,7 +80,7 @@ pub returns-in-Link-clause-stops : goal.returns-in-Link-clause-stops
 returns-in-Link-clause-stops g c = c.in-Ok.ensures.stops
 
 pub returns-in-Link-clause-steps : goal.returns-in-Link-clause-steps
-returns-in-Link-clause-steps g c = λ first q to targets at. leaf g.A.Asker.asking g.met.A.Asker.lawful first c.args.asker.now c.copy_row.new.asker (g.F.Folder.tree c.args.host.now) q c.args.at.from c.args.at.kind c.args.at.to c.args.levels.now.items c.args.totals.now c.copy_row.new.totals (λ e. never_directory (sym c.in-Link.is ∙ e)) to targets at (short_of c.is_short.result (text_size c.args.at.to) c.is_short.ensures c.if-not-is_short.false) c.in-Ok.ensures.copied
+returns-in-Link-clause-steps g c = λ first q to targets at. leaf g.A.Asker.asking g.met.A.Asker.lawful first c.args.asker.now c.copy_row.new.asker (g.F.Folder.tree c.args.host.now) q c.args.at.host c.args.at.kind c.args.at.tree c.args.levels.now.items c.args.totals.now c.copy_row.new.totals (λ e. never_directory (sym c.in-Link.is ∙ e)) to targets at (short_of c.is_short.result (text_size c.args.at.tree) c.is_short.ensures c.if-not-is_short.false) c.in-Ok.ensures.copied
 
 pub returns-in-Err-Memory-clause-ready : goal.returns-in-Err-Memory-clause-ready
 returns-in-Err-Memory-clause-ready g c = c.in-Ok.ensures.ready
@@ -95,7 +95,7 @@ pub returns-in-Err-Memory-clause-stops : goal.returns-in-Err-Memory-clause-stops
 returns-in-Err-Memory-clause-stops g c = c.in-Ok.ensures.stops
 
 pub returns-in-Err-Memory-clause-steps : goal.returns-in-Err-Memory-clause-steps
-returns-in-Err-Memory-clause-steps g c = λ first q to targets at. (list_stops g.A.Asker.asking g.met.A.Asker.lawful first c.args.asker.now c.copy_row.new.asker (g.F.Folder.tree c.args.host.now) q c.args.at.from c.args.at.kind c.args.at.to c.args.levels.now.items c.args.totals.now c.copy_row.new.totals to at c.in-Ok.ensures.copied).0
+returns-in-Err-Memory-clause-steps g c = λ first q to targets at. (list_stops g.A.Asker.asking g.met.A.Asker.lawful first c.args.asker.now c.copy_row.new.asker (g.F.Folder.tree c.args.host.now) q c.args.at.host c.args.at.kind c.args.at.tree c.args.levels.now.items c.args.totals.now c.copy_row.new.totals to at c.in-Ok.ensures.copied).0
 
 pub returns-in-Err-Failed-clause-ready : goal.returns-in-Err-Failed-clause-ready
 returns-in-Err-Failed-clause-ready g c = c.in-Ok.ensures.ready
@@ -110,7 +110,7 @@ pub returns-in-Err-Failed-clause-stops : goal.returns-in-Err-Failed-clause-stops
 returns-in-Err-Failed-clause-stops g c = c.in-Ok.ensures.stops
 
 pub returns-in-Err-Failed-clause-steps : goal.returns-in-Err-Failed-clause-steps
-returns-in-Err-Failed-clause-steps g c = λ first q to targets at. (list_stops g.A.Asker.asking g.met.A.Asker.lawful first c.args.asker.now c.copy_row.new.asker (g.F.Folder.tree c.args.host.now) q c.args.at.from c.args.at.kind c.args.at.to c.args.levels.now.items c.args.totals.now c.copy_row.new.totals to at c.in-Ok.ensures.copied).1
+returns-in-Err-Failed-clause-steps g c = λ first q to targets at. (list_stops g.A.Asker.asking g.met.A.Asker.lawful first c.args.asker.now c.copy_row.new.asker (g.F.Folder.tree c.args.host.now) q c.args.at.host c.args.at.kind c.args.at.tree c.args.levels.now.items c.args.totals.now c.copy_row.new.totals to at c.in-Ok.ensures.copied).1
 
 pub returns-clause-ready : goal.returns-clause-ready
 returns-clause-ready g c = c.in-Ok.ensures.ready
@@ -125,4 +125,4 @@ pub returns-clause-stops : goal.returns-clause-stops
 returns-clause-stops g c = c.in-Ok.ensures.stops
 
 pub returns-clause-steps : goal.returns-clause-steps
-returns-clause-steps g c = λ first q to targets at. entered g.A.Asker.asking g.met.A.Asker.lawful first c.args.asker.now c.copy_row.new.asker (g.F.Folder.tree c.args.host.now) (g.F.Folder.tree c.copy_row.new.host) q c.args.at.from c.args.at.kind c.args.at.to c.args.levels.now.items c.enter.new.levels.items c.args.totals.now c.copy_row.new.totals c.in-Ok.ensures.same to targets at (short_of c.is_short.result (text_size c.args.at.to) c.is_short.ensures c.if-not-is_short.false) c.in-Ok.ensures.copied c.in-Ok-enter.ensures.entered
+returns-clause-steps g c = λ first q to targets at. entered g.A.Asker.asking g.met.A.Asker.lawful first c.args.asker.now c.copy_row.new.asker (g.F.Folder.tree c.args.host.now) (g.F.Folder.tree c.copy_row.new.host) q c.args.at.host c.args.at.kind c.args.at.tree c.args.levels.now.items c.enter.new.levels.items c.args.totals.now c.copy_row.new.totals c.in-Ok.ensures.same to targets at (short_of c.is_short.result (text_size c.args.at.tree) c.is_short.ensures c.if-not-is_short.false) c.in-Ok.ensures.copied c.in-Ok-enter.ensures.entered

@@ -80,7 +80,7 @@ pub copy_at-requires-clause-ready : goal.copy_at-requires-clause-ready
 copy_at-requires-clause-ready g c = c.requires.ready
 
 pub copy_at-requires-clause-told : goal.copy_at-requires-clause-told
-copy_at-requires-clause-told g c = placed (g.F.Folder.tree c.args.host.now) c.args.levels.now.items c.in-Ok-Some.at.from c.in-Ok-Some.at.kind (todo_of c.push.new.self.items) (ap todo_of c.in-Some.ensures.items ∙ (todo_taken c.pop.new.self.items c.in-Some.level c.next_row.new.level c.in-Ok-Some.at (subst (NextIs c.in-Some.level c.next_row.new.level) c.in-Ok-Some.field-0-is c.in-Ok-Some.ensures) ∙ ap (λ z. (c.in-Ok-Some.at.from, c.in-Ok-Some.at.kind) ∷ todo_of z) (sym c.in-Ok.ensures.items))) c.requires.told
+copy_at-requires-clause-told g c = placed (g.F.Folder.tree c.args.host.now) c.args.levels.now.items c.in-Ok-Some.at.host c.in-Ok-Some.at.kind (todo_of c.push.new.self.items) (ap todo_of c.in-Some.ensures.items ∙ (todo_taken c.pop.new.self.items c.in-Some.level c.next_row.new.level c.in-Ok-Some.at (subst (NextIs c.in-Some.level c.next_row.new.level) c.in-Ok-Some.field-0-is c.in-Ok-Some.ensures) ∙ ap (λ z. (c.in-Ok-Some.at.host, c.in-Ok-Some.at.kind) ∷ todo_of z) (sym c.in-Ok.ensures.items))) c.requires.told
 
 pub returns-clause-ready : goal.returns-clause-ready
 returns-clause-ready g c = c.in-Ok-copy_at.ensures.ready
@@ -100,7 +100,7 @@ returns-clause-steps g c = (
       let old = subst (HasTargets q) c.in-Some.ensures.items targets in
       let own = targets_last q c.pop.new.self.items c.in-Some.level old in
       let levels = subst (HasTargets q) (sym c.in-Ok.ensures.items) (targets_push q c.pop.new.self.items c.next_row.new.level (targets_front q c.pop.new.self.items c.in-Some.level old) (taken_target q c.in-Some.level c.next_row.new.level c.in-Ok-Some.at (subst (NextIs c.in-Some.level c.next_row.new.level) c.in-Ok-Some.field-0-is c.in-Ok-Some.ensures) own)) in
-      c.in-Ok-copy_at.ensures.steps first q (taken_to q c.in-Some.level c.next_row.new.level c.in-Ok-Some.at (subst (NextIs c.in-Some.level c.next_row.new.level) c.in-Ok-Some.field-0-is c.in-Ok-Some.ensures) own) levels (subst (λ z. IsAt g.A.Asker.asking first c.args.asker.now (g.F.Folder.tree c.args.host.now) q z c.args.totals.now) (ap todo_of c.in-Some.ensures.items ∙ (todo_taken c.pop.new.self.items c.in-Some.level c.next_row.new.level c.in-Ok-Some.at (subst (NextIs c.in-Some.level c.next_row.new.level) c.in-Ok-Some.field-0-is c.in-Ok-Some.ensures) ∙ ap (λ z. (c.in-Ok-Some.at.from, c.in-Ok-Some.at.kind) ∷ todo_of z) (sym c.in-Ok.ensures.items))) at)),
+      c.in-Ok-copy_at.ensures.steps first q (taken_to q c.in-Some.level c.next_row.new.level c.in-Ok-Some.at (subst (NextIs c.in-Some.level c.next_row.new.level) c.in-Ok-Some.field-0-is c.in-Ok-Some.ensures) own) levels (subst (λ z. IsAt g.A.Asker.asking first c.args.asker.now (g.F.Folder.tree c.args.host.now) q z c.args.totals.now) (ap todo_of c.in-Some.ensures.items ∙ (todo_taken c.pop.new.self.items c.in-Some.level c.next_row.new.level c.in-Ok-Some.at (subst (NextIs c.in-Some.level c.next_row.new.level) c.in-Ok-Some.field-0-is c.in-Ok-Some.ensures) ∙ ap (λ z. (c.in-Ok-Some.at.host, c.in-Ok-Some.at.kind) ∷ todo_of z) (sym c.in-Ok.ensures.items))) at)),
   tt,
 )
 
@@ -122,6 +122,6 @@ returns-in-Err-copy_at-clause-steps g c = (
       let old = subst (HasTargets q) c.in-Some.ensures.items targets in
       let own = targets_last q c.pop.new.self.items c.in-Some.level old in
       let levels = subst (HasTargets q) (sym c.in-Ok.ensures.items) (targets_push q c.pop.new.self.items c.next_row.new.level (targets_front q c.pop.new.self.items c.in-Some.level old) (taken_target q c.in-Some.level c.next_row.new.level c.in-Ok-Some.at (subst (NextIs c.in-Some.level c.next_row.new.level) c.in-Ok-Some.field-0-is c.in-Ok-Some.ensures) own)) in
-      c.in-Err-copy_at.ensures.steps first q (taken_to q c.in-Some.level c.next_row.new.level c.in-Ok-Some.at (subst (NextIs c.in-Some.level c.next_row.new.level) c.in-Ok-Some.field-0-is c.in-Ok-Some.ensures) own) levels (subst (λ z. IsAt g.A.Asker.asking first c.args.asker.now (g.F.Folder.tree c.args.host.now) q z c.args.totals.now) (ap todo_of c.in-Some.ensures.items ∙ (todo_taken c.pop.new.self.items c.in-Some.level c.next_row.new.level c.in-Ok-Some.at (subst (NextIs c.in-Some.level c.next_row.new.level) c.in-Ok-Some.field-0-is c.in-Ok-Some.ensures) ∙ ap (λ z. (c.in-Ok-Some.at.from, c.in-Ok-Some.at.kind) ∷ todo_of z) (sym c.in-Ok.ensures.items))) at)),
+      c.in-Err-copy_at.ensures.steps first q (taken_to q c.in-Some.level c.next_row.new.level c.in-Ok-Some.at (subst (NextIs c.in-Some.level c.next_row.new.level) c.in-Ok-Some.field-0-is c.in-Ok-Some.ensures) own) levels (subst (λ z. IsAt g.A.Asker.asking first c.args.asker.now (g.F.Folder.tree c.args.host.now) q z c.args.totals.now) (ap todo_of c.in-Some.ensures.items ∙ (todo_taken c.pop.new.self.items c.in-Some.level c.next_row.new.level c.in-Ok-Some.at (subst (NextIs c.in-Some.level c.next_row.new.level) c.in-Ok-Some.field-0-is c.in-Ok-Some.ensures) ∙ ap (λ z. (c.in-Ok-Some.at.host, c.in-Ok-Some.at.kind) ∷ todo_of z) (sym c.in-Ok.ensures.items))) at)),
   tt,
 )

@@ -1,0 +1,93 @@
+// A tree, copied into a folder of the host.
+ghost use Rattle.std.specs.Prelude.{◌≡◌, IfOk, IfSome};
+ghost use Rattle.outside.specs.Causes.{GetHasCause};
+ghost use Rattle.host_folder.specs.Folders.{IsHostTree};
+ghost use Rattle.copy_rules.specs.Ends.{HostCause, StopCause};
+ghost use Rattle.copy_rules.specs.Exporting.{IsBare};
+ghost use Rattle.tree_copy.specs.Exports.{BareIs, ExportRun, OutRun};
+
+use crate::levels::enter_tree;
+use crate::out_steps::export_next;
+use crate::steps::fail_at;
+use block_id::Memory;
+use copy_rules::{Asker, CopyFail, Totals};
+use fs_model::{FsError, Path};
+use host_folder::Folder;
+use outside::GetFail;
+use rand_core::Rng;
+use row_copy::{copy_path, no_totals};
+use std::alloc::Global;
+
+/// Whether the folder has no rows.
+fn is_bare<F: Folder>(alloc: Global, host: &mut F) -> Result<bool, GetFail>
+    ensures same { F.tree host.new ≡ F.tree host.old }
+    ensures tree { IfSome (F.tree host.old) IsHostTree }
+    ensures cause { GetHasCause (F.faults host.old) (F.faults host.new) result }
+    ensures bare { IfOk result (λ bare. IfSome (F.tree host.old) (BareIs bare)) }
+{
+    match host.list(alloc, &Path::root(alloc)) {
+        Ok(rows) => Ok(rows.as_slice().is_empty()),
+        Err(fail) => Err(fail),
+    }
+}
+
+/// Copies what is below this path into a folder without rows.
+fn copy_out<F: Folder, A: Asker, R: Rng>(
+    alloc: Global,
+    host: &mut F,
+    asker: &mut A,
+    source: &Path,
+    chance: &mut R,
+) -> Result<Totals, CopyFail>
+    requires ready { A.asking.ready asker.old }
+    requires tree { IfSome (F.tree host.old) IsHostTree }
+    requires bare { IfSome (F.tree host.old) IsBare }
+    ensures ready { A.asking.ready asker.new }
+    ensures host { HostCause (F.faults host.old) (F.faults host.new) result }
+    ensures stops { StopCause (A.asking.stops asker.old) (A.asking.stops asker.new) result }
+    ensures copied { OutRun A.asking asker.old asker.new (F.tree host.old) (F.tree host.new) source.now result }
+{
+    let path = match copy_path(alloc, source) {
+        Ok(path) => path,
+        Err(Memory) => return Err(CopyFail::Memory),
+    };
+    let mut levels = Vec::new(alloc);
+    match enter_tree(alloc, asker, Path::root(alloc), &path, &mut levels, chance) {
+        Ok(()) => {}
+        Err(stop) => return Err(fail_at(stop, path)),
+    }
+    let mut totals = no_totals();
+    for _ in 0..u64::MAX {
+        match export_next(alloc, host, asker, &mut levels, &mut totals, chance) {
+            Ok(true) => {}
+            Ok(false) => return Ok(totals),
+            Err(fail) => return Err(fail),
+        }
+    }
+    Err(CopyFail::Memory)
+}
+
+/// Copies what is below this path into the folder. A folder with rows is refused before anything is asked.
+pub fn export<F: Folder, A: Asker, R: Rng>(
+    alloc: Global,
+    host: &mut F,
+    asker: &mut A,
+    source: &Path,
+    chance: &mut R,
+) -> Result<Totals, CopyFail>
+    requires ready { A.asking.ready asker.old }
+    ensures ready { A.asking.ready asker.new }
+    ensures host { HostCause (F.faults host.old) (F.faults host.new) result }
+    ensures stops { StopCause (A.asking.stops asker.old) (A.asking.stops asker.new) result }
+    ensures copied { ExportRun A.asking asker.old asker.new (F.tree host.old) (F.tree host.new) source.now result }
+{
+    match is_bare(alloc, host) {
+        Ok(true) => {}
+        Ok(false) => {
+            return Err(CopyFail::Refused(Path::root(alloc), FsError::NotEmpty));
+        }
+        Err(GetFail::Memory) => return Err(CopyFail::Memory),
+        Err(GetFail::Failed) => return Err(CopyFail::Host),
+    }
+    copy_out(alloc, host, asker, source, chance)
+}

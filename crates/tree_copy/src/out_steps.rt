@@ -1,0 +1,84 @@
+// One row more of an export.
+ghost use Rattle.std.specs.Prelude.{◌≡◌, OnOk};
+ghost use Rattle.copy_rules.specs.Ends.{HostCause, StopCause};
+ghost use Rattle.tree_copy.specs.Exports.{StepsOut, StepsOutAt};
+ghost use Rattle.tree_copy.specs.Levels.{IsDeeper};
+
+use crate::levels::{Level, enter_tree, next_row};
+use crate::steps::fail_at;
+use block_id::Memory;
+use copy_rules::{Asker, CopyFail, Totals};
+use fs_model::Kind;
+use host_folder::Folder;
+use rand_core::Rng;
+use row_copy::{RowPlace, is_short, row_out};
+use std::alloc::Global;
+
+/// Copies the row into the folder, and begins the directory that it is.
+fn export_at<F: Folder, A: Asker, R: Rng>(
+    alloc: Global,
+    host: &mut F,
+    asker: &mut A,
+    at: RowPlace,
+    levels: &mut Vec<Level>,
+    totals: &mut Totals,
+    chance: &mut R,
+) -> Result<(), CopyFail>
+    requires ready { A.asking.ready asker.old }
+    ensures ready { A.asking.ready asker.new }
+    ensures host { HostCause (F.faults host.old) (F.faults host.new) result }
+    ensures stops { StopCause (A.asking.stops asker.old) (A.asking.stops asker.new) result }
+    ensures levels { OnOk result (IsDeeper at.host levels.old.items levels.new.items) }
+    ensures steps { StepsOutAt A.asking asker.old asker.new (F.tree host.old) (F.tree host.new) at levels.old.items levels.new.items totals.old totals.new result }
+{
+    if !is_short(&at.host) {
+        return Err(CopyFail::LongPath(at.host));
+    }
+    match row_out(alloc, host, asker, &at, totals, chance) {
+        Ok(()) => {}
+        Err(stop) => return Err(fail_at(stop, at.tree)),
+    }
+    match at.kind {
+        Kind::Directory => {}
+        Kind::File => return Ok(()),
+        Kind::Link => return Ok(()),
+    }
+    match enter_tree(alloc, asker, at.host, &at.tree, levels, chance) {
+        Ok(()) => Ok(()),
+        Err(stop) => Err(fail_at(stop, at.tree)),
+    }
+}
+
+/// Copies the next row of the directory that was begun last, and begins the directory that it is. Whether that isn't all.
+pub fn export_next<F: Folder, A: Asker, R: Rng>(
+    alloc: Global,
+    host: &mut F,
+    asker: &mut A,
+    levels: &mut Vec<Level>,
+    totals: &mut Totals,
+    chance: &mut R,
+) -> Result<bool, CopyFail>
+    requires ready { A.asking.ready asker.old }
+    ensures ready { A.asking.ready asker.new }
+    ensures host { HostCause (F.faults host.old) (F.faults host.new) result }
+    ensures stops { StopCause (A.asking.stops asker.old) (A.asking.stops asker.new) result }
+    ensures steps { StepsOut A.asking asker.old asker.new (F.tree host.old) (F.tree host.new) levels.old.items levels.new.items totals.old totals.new result }
+{
+    let mut level = match levels.pop() {
+        Some(level) => level,
+        None => return Ok(false),
+    };
+    let at = match next_row(alloc, &mut level) {
+        Ok(Some(at)) => at,
+        Ok(None) => return Ok(true),
+        Err(Memory) => return Err(CopyFail::Memory),
+    };
+    match levels.push(level) {
+        Ok(()) => {}
+        Err(_) => return Err(CopyFail::Memory),
+    }
+    match export_at(alloc, host, asker, at, levels, totals, chance) {
+        Ok(()) => Ok(true),
+        Err(fail) => Err(fail),
+    }
+}
