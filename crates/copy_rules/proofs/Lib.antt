@@ -8,3 +8,5 @@ pub mod Ending
 pub mod Asking
 pub mod Cutting
 pub mod Copying
+pub mod Below
+pub mod Exported

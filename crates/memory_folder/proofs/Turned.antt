@@ -13,6 +13,7 @@ use Rattle.fs_model.specs.Step.{list_row}
 use Rattle.fs_model.specs.Tree.{Path, Row, Tree, name_cmp, path_cmp, same_path, upward, children}
 use Rattle.fs_model.proofs.TreeLemmas.{path_total, path_exact, path_split, path_same, apart, get-children}
 use Rattle.host_folder.specs.Folders.{HostRow, HostPath, row_pair, kind_in}
+use Rattle.host_folder.proofs.Listings.{row_kind, rows_each as listed_each}
 use Rattle.memory_folder.specs.Told.{host_row, turned, told_by}
 
 abbrev pub host_in : Option Row → Option HostRow
@@ -69,44 +70,14 @@ pub told_next : (t next : Tree) (p : HostPath) (row : Row) (k : Kind) → next �
 told_next t next p row k e is = ap told_by e ∙ (told_insert t p row ∙ ap (λ z. insert (told_by t) p (record { kind = z; bytes = row.bytes })) is)
 
 -- the rows of a listing
-pair_of : List ℕ × Row → List ℕ × Kind
-pair_of e = (e.0, e.1.attr.kind)
-
-abbrev pairs : List (List ℕ × Row) → List (List ℕ × Kind)
-pairs es = map row_pair (map list_row es)
-
-below_pairs : (n : List ℕ) (es : List (List ℕ × Row)) → T (below_all name_cmp n es) → T (below_all name_cmp n (pairs es))
-below_pairs n [] h = tt
-below_pairs n (e ∷ es) h = by (is_lt (name_cmp n e.0)) (below_all name_cmp n es) (below_all name_cmp n (pairs es)) (below_pairs n es) h
-  where
-    by : (a b c : Bool) → (T b → T c) → T (a && b) → T (a && c)
-    by true b c f h = f h
-    by false b c f h = h
-
-sorted_pairs : (es : List (List ℕ × Row)) → T (is_sorted name_cmp es) → T (is_sorted name_cmp (pairs es))
-sorted_pairs [] h = tt
-sorted_pairs (e ∷ es) h = by (below_all name_cmp e.0 es) (is_sorted name_cmp es) (below_all name_cmp e.0 (pairs es)) (is_sorted name_cmp (pairs es)) (below_pairs e.0 es) (sorted_pairs es) h
-  where
-    by : (a b c d : Bool) → (T a → T c) → (T b → T d) → T (a && b) → T (c && d)
-    by true b true d f g h = g h
-    by true b false d f g h = absurd (f tt)
-    by false b c d f g h = absurd h
-
-find_pairs : (n : List ℕ) (es : List (List ℕ × Row)) → find name_cmp n (pairs es) ≡ kind_in (host_in (find name_cmp n es))
-find_pairs n [] = refl
-find_pairs n (e ∷ es) = by (eq_by_cmp name_cmp n e.0) (find name_cmp n (pairs es)) (find name_cmp n es) (find_pairs n es)
-  where
-    by : (b : Bool) (o : Option Kind) (r : Option Row) → o ≡ kind_in (host_in r) → cond b (Some e.1.attr.kind) o ≡ kind_in (host_in (cond b (Some e.1) r))
-    by true o r h = refl
-    by false o r h = h
-
-pub rows_rise : (t : Tree) (p : HostPath) (rows : List ListRow) → rows ≡ map list_row (entries (children t (upward p))) → T (is_sorted name_cmp (map row_pair rows))
-rows_rise t p rows is = subst (λ rs. T (is_sorted name_cmp (map row_pair rs))) (sym is) (sorted_pairs (entries (children t (upward p))) (entries_sorted (children t (upward p))))
+kind_told : (o : Option Row) → row_kind o ≡ kind_in (host_in o)
+kind_told None = refl
+kind_told (Some row) = refl
 
 pub rows_each : (t : Tree) (p : HostPath) (rows : List ListRow) → rows ≡ map list_row (entries (children t (upward p)))
     → (n : List ℕ) → find name_cmp n (map row_pair rows) ≡ kind_in (get (told_by t) (p ++ n ∷ []))
 rows_each t p rows is n =
-    ap (λ rs. find name_cmp n (map row_pair rs)) is
-    ∙ (find_pairs n (entries (children t (upward p)))
-    ∙ (ap (λ o. kind_in (host_in o)) (sym (get-entries (children t (upward p)) n) ∙ (get-children t (upward p) n ∙ ap (get t) (sym (reverse-append p (n ∷ [])))))
+    listed_each t (upward p) rows is n
+    ∙ (kind_told (get t (n ∷ upward p))
+    ∙ (ap (λ z. kind_in (host_in (get t z))) (sym (reverse-append p (n ∷ [])))
     ∙ sym (ap kind_in (get_told t (p ++ n ∷ [])))))
