@@ -1,0 +1,14 @@
+// What the session of a copy leaves.
+ghost use Rattle.copy_sessions.specs.Laws.{CopyFollows, ImportLeaves};
+
+/// The trees of a copy's session are those that its questions lead to by the steps of what was answered: so after a
+/// failure too the last tree is that after the commands that were done.
+pub fn copy_follows()
+    ensures { CopyFollows }
+{}
+
+/// After an import that is Ok the folder's tree stands below the target in the last tree of the session, and nothing
+/// else has changed.
+pub fn import_leaves()
+    ensures { ImportLeaves }
+{}

@@ -1,0 +1,17 @@
+//! A copy as a session: what it asks of what answers commands, what is told of it at its end, and what it leaves.
+#![tactic(auto)]
+
+mod asking;
+mod escapes;
+mod law;
+mod print;
+mod status;
+mod telling;
+mod text;
+mod way;
+
+pub use asking::{ask_host, reply_of};
+pub use law::{copy_follows, import_leaves};
+pub use telling::tell_copy;
+pub use text::{CopyText, LONG_TEXT};
+pub use way::Way;
