@@ -51,7 +51,7 @@ below_rest : (es : Met) (ds : Todo) (fs : Met) → AreAhead es ds → AreUnder f
 below_rest es ds [] h u = tt
 below_rest es ds (f ∷ fs) h u = (later es f.0 ds h u.0, below_rest es ds fs h u.1)
 
-of_find : (t : HostTree) (es : Met) (q : HostPath) (row : HostRow) → AreOf t es → find path_cmp q es ≡ Some row → get t q ≡ Some row
+pub of_find : (t : HostTree) (es : Met) (q : HostPath) (row : HostRow) → AreOf t es → find path_cmp q es ≡ Some row → get t q ≡ Some row
 of_find t [] q row h e = let bad : None ≡ Some row = e in cc
 of_find t (x ∷ es) q row h e = by (path_cmp q x.0) refl (λ g. of_find t es q row h.1 g)
   where

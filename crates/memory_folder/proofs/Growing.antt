@@ -13,15 +13,10 @@ use Rattle.fs_model.specs.Tree.{path_cmp, empty_tree, is_root, root_row, upward}
 use Rattle.fs_model.proofs.TreeLemmas.{path_total, path_exact, path_split, path_same, apart}
 use Rattle.tree_rules.proofs.PathLemmas.{not_root}
 use Rattle.host_folder.specs.Folders.{HostRow, HostPath, HostTree, IsHostTree, HasTarget, directory_row}
+use Rattle.host_folder.proofs.Inserts.{here, other}
 use Rattle.memory_folder.specs.States.{is_file, is_folder, make_fails}
 use Rattle.memory_folder.specs.Told.{told_by}
 use Rattle.memory_folder.proofs.Turned.{get_told, told_insert, host_in}
-
-pub here : (t : HostTree) (p : HostPath) (row : HostRow) → get (insert t p row) p ≡ Some row
-here t p row = get-insert path_total t p row p ∙ ap (λ b. cond b (Some row) (get t p)) (path_same p)
-
-other : (t : HostTree) (p : HostPath) (row : HostRow) (q : HostPath) → (q ≡ p → ⊥) → get (insert t p row) q ≡ get t q
-other t p row q differ = get-insert path_total t p row q ∙ ap (λ b. cond b (Some row) (get t q)) (apart q p differ)
 
 abbrev row_or : HostRow → Option HostRow → HostRow
 row_or x None = x

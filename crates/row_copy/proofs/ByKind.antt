@@ -20,7 +20,7 @@ use Rattle.row_copy.specs.Rows.{Asks, StopsBy, FaultsBy, HasFile, HasLink, FileC
 use Rattle.row_copy.proofs.Chains.{asks_then, asks_front}
 
 -- what the told tree has where a row of this kind is
-row_of : (t : HostTree) (p : HostPath) (k : Kind) (o : Option HostRow) → get t p ≡ o → kind_in (get t p) ≡ Some k → (w : List ℕ) × (get t p ≡ Some (record { kind = k; bytes = w }))
+pub row_of : (t : HostTree) (p : HostPath) (k : Kind) (o : Option HostRow) → get t p ≡ o → kind_in (get t p) ≡ Some k → (w : List ℕ) × (get t p ≡ Some (record { kind = k; bytes = w }))
 row_of t p k None e h = let bad : None ≡ Some k = sym (ap kind_in e) ∙ h in absurd cc
 row_of t p k (Some row) e h =
     let is : Some row.kind ≡ Some k = sym (ap kind_in e) ∙ h in

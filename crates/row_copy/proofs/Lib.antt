@@ -4,3 +4,6 @@ pub mod Files
 pub mod Links
 pub mod Filling
 pub mod ByKind
+pub mod Replies
+pub mod Pouring
+pub mod Exports

@@ -1,3 +1,5 @@
 pub mod Stack
 pub mod Places
 pub mod Turning
+pub mod Outward
+pub mod Stepping

@@ -40,7 +40,7 @@ next_row (Some t) met p k todo w =
     (found.0, ((λ e. w.covers.tree.plain p found.0 found.1.1 e), found.1.1))
 
 -- the path that is the next isn't the root
-never_root : (met : Met) (p : HostPath) → AreLess met p → is_some (find path_cmp [] met) ≡ true → p ≡ [] → ⊥
+pub never_root : (met : Met) (p : HostPath) → AreLess met p → is_some (find path_cmp [] met) ≡ true → p ≡ [] → ⊥
 never_root met p less root e =
     let none : find path_cmp [] met ≡ None = ap (λ z. find path_cmp z met) (sym e) ∙ find_less p met less in
     let bad : false ≡ true = sym (ap is_some none) ∙ root in cc
@@ -80,7 +80,7 @@ long_at q t met after (n ∷ r) row qs some e long short done c = record {
   asked = c;
 }
 
-short_push : (q : HostPath) (met : Met) (p : HostPath) (row : HostRow) → AreShort q met → text_size (q ++ p) ≤ MAX_PATH_TEXT → AreShort q (met ++ (p, row) ∷ [])
+pub short_push : (q : HostPath) (met : Met) (p : HostPath) (row : HostRow) → AreShort q met → text_size (q ++ p) ≤ MAX_PATH_TEXT → AreShort q (met ++ (p, row) ∷ [])
 short_push q [] [] row h le = tt
 short_push q [] (n ∷ r) row h le = (le, tt)
 short_push q (([], x) ∷ met) p row h le = short_push q met p row h le
@@ -208,20 +208,10 @@ no_kids (Some t) met p k todo row w of leaf there = λ n. by n (get t (p ++ n �
         let same : row.kind ≡ Directory = cc in
         absurd (leaf (sym of ∙ same))
 
--- the root's rows are to be met
-pub begun : {A : Type 0} (M : Asking A) (lawful : LawfulAsker M) (a : A) (told : Option HostTree) (q : HostPath) (kids : List (List ℕ × Kind)) → IfSome told IsHostTree → T (is_sorted name_cmp kids)
-    → IfSome told (λ t. (n : List ℕ) → find name_cmp n kids ≡ kind_in (get t ([] ++ n ∷ []))) → IsAt M a a told q (todo_in [] kids ++ []) none_copied
-begun M lawful a told q kids tree rise each = record {
-  met = ([], directory_row) ∷ [];
-  qs = [];
-  asked = asked_none M lawful a;
-  done = tt;
-  commands = refl;
-  walk = walk_more told [] [] Directory [] directory_row kids (first told tree) (λ e. refl) rise (top told tree each);
-  root = refl;
-  short = tt;
-  counts = refl;
-}
+-- the root is met, and its rows are to be met
+pub first_walk : (told : Option HostTree) (kids : List (List ℕ × Kind)) → IfSome told IsHostTree → T (is_sorted name_cmp kids) → IfSome told (λ t. (n : List ℕ) → find name_cmp n kids ≡ kind_in (get t ([] ++ n ∷ [])))
+    → IsWalk told (([], directory_row) ∷ []) (todo_in [] kids ++ [])
+first_walk told kids tree rise each = walk_more told [] [] Directory [] directory_row kids (first told tree) (λ e. refl) rise (top told tree each)
   where
     cover : (t : HostTree) → IsHostTree t → Covers t [] (([], Directory) ∷ [])
     cover t tree = record { tree = tree; rows = tt; kinds = (ap kind_in tree.root, tt); whole = λ p h. inr (inl (p, refl)) }
@@ -233,3 +223,17 @@ begun M lawful a told q kids tree rise each = record {
     top : (told : Option HostTree) → IfSome told IsHostTree → IfSome told (λ t. (n : List ℕ) → find name_cmp n kids ≡ kind_in (get t ([] ++ n ∷ []))) → IfSome told (λ t. IsRowAt t [] directory_row kids)
     top None tree each = tt
     top (Some t) tree each = record { here = tree.root; each = each }
+
+pub begun : {A : Type 0} (M : Asking A) (lawful : LawfulAsker M) (a : A) (told : Option HostTree) (q : HostPath) (kids : List (List ℕ × Kind)) → IfSome told IsHostTree → T (is_sorted name_cmp kids)
+    → IfSome told (λ t. (n : List ℕ) → find name_cmp n kids ≡ kind_in (get t ([] ++ n ∷ []))) → IsAt M a a told q (todo_in [] kids ++ []) none_copied
+begun M lawful a told q kids tree rise each = record {
+  met = ([], directory_row) ∷ [];
+  qs = [];
+  asked = asked_none M lawful a;
+  done = tt;
+  commands = refl;
+  walk = first_walk told kids tree rise each;
+  root = refl;
+  short = tt;
+  counts = refl;
+}
