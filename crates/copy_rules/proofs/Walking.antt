@@ -172,7 +172,7 @@ kinds_kids t p (kid ∷ kids) s f = (
     later n k Equal c e = let none = not_below name_total n kid.0 kids c below in let bad : None ≡ Some k = sym none ∙ e in cc
 
 -- a path above one of the tree is a directory of it
-above : (t : HostTree) (tree : IsHostTree t) (s : HostPath) (p : HostPath) (n : List ℕ) → is_some (get t (p ++ n ∷ s)) ≡ true → is_some (get t (p ++ n ∷ [])) ≡ true
+pub above : (t : HostTree) (tree : IsHostTree t) (s : HostPath) (p : HostPath) (n : List ℕ) → is_some (get t (p ++ n ∷ s)) ≡ true → is_some (get t (p ++ n ∷ [])) ≡ true
 above t tree [] p n h = h
 above t tree (m ∷ s) p n h =
     let deep : is_some (get t ((p ++ n ∷ []) ++ m ∷ [])) ≡ true = above t tree s (p ++ n ∷ []) m (subst (λ q. is_some (get t q) ≡ true) (sym (append_assoc p (n ∷ []) (m ∷ s))) h) in

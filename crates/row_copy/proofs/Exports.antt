@@ -14,7 +14,7 @@ use Rattle.copy_rules.proofs.Asking.{asked_none}
 use Rattle.row_copy.specs.declared.stop.Stop.{Stop}
 use Rattle.row_copy.specs.Reads.{Reads, ReadEnds, NeverAsked, SaysTarget, IsAllOut, IsSoFar, BytesOut, DirectoryOut, IsRowOut, IsRowPart, RowEndsOut, RowOut, with_row}
 use Rattle.row_copy.proofs.ByKind.{row_of}
-use Rattle.row_copy.proofs.Replies.{ends_error, ends_never, asked_more}
+use Rattle.row_copy.proofs.Served.{ends_error, ends_never, asked_more}
 
 -- nothing, or an empty row of this kind
 empty_part : (u : HostTree) (before after : Option HostTree) (host : HostPath) (k : Kind) → kind_in (get u host) ≡ Some k → (after ≡ before) ⊎ IsMade before after host k [] → IsRowPart u before after host
@@ -32,7 +32,7 @@ module _ {A : Type 0} (M : Asking A) (lawful : LawfulAsker M) where
   row_unmade a before after k tree host first totals e never h = record {
     qs = [];
     asked = asked_none M lawful a;
-    ends = ends_never {X = Unit {0}} {Y = Unit {0}} tree [] e tt never;
+    ends = ends_never (Unit {0}) (Unit {0}) tree [] e tt never;
     of = λ u q at some rooted tells kind. empty_part u before after host k kind h;
   }
 
@@ -51,7 +51,7 @@ module _ {A : Type 0} (M : Asking A) where
   file_row_part a b before mid after tree host first totals e made w = record {
     qs = w.qs;
     asked = w.asked;
-    ends = ends_error {X = ℕ} {Y = Unit {0}} tree w.qs e w.ends;
+    ends = ends_error ℕ (Unit {0}) tree w.qs e w.ends;
     of = λ u q at some rooted tells kind. part u (w.of u q before at some tells kind made);
   }
     where
@@ -75,7 +75,7 @@ module _ {A : Type 0} (M : Asking A) where
   link_row_unread a b before tree host first totals e r = record {
     qs = r.qs;
     asked = r.asked;
-    ends = ends_error {X = List ℕ} {Y = Unit {0}} tree r.qs e r.ends;
+    ends = ends_error (List ℕ) (Unit {0}) tree r.qs e r.ends;
     of = λ u q at some rooted tells kind. inl refl;
   }
 
@@ -84,7 +84,7 @@ module _ {A : Type 0} (M : Asking A) where
   link_row_part a b before after tree host first totals target e r never h = record {
     qs = r.qs;
     asked = r.asked;
-    ends = ends_never {X = Unit {0}} {Y = Unit {0}} tree r.qs e r.ends never;
+    ends = ends_never (Unit {0}) (Unit {0}) tree r.qs e r.ends never;
     of = λ u q at some rooted tells kind. part u (r.says u q host at tells some) h;
   }
     where

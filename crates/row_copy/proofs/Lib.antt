@@ -4,6 +4,6 @@ pub mod Files
 pub mod Links
 pub mod Filling
 pub mod ByKind
-pub mod Replies
+pub mod Served
 pub mod Pouring
 pub mod Exports

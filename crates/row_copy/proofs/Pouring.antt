@@ -16,7 +16,7 @@ use Rattle.row_copy.specs.declared.stop.Stop.{Stop}
 use Rattle.row_copy.specs.declared.stop.Stop.TheVariants as stop
 use Rattle.row_copy.specs.Reads.{Reads, NeverAsked, SaysPiece, IsSoFar, IsAllOut, BytesOut, IsOutTo}
 use Rattle.row_copy.proofs.ByKind.{row_of}
-use Rattle.row_copy.proofs.Replies.{ends_then, ends_error, ends_never, served_append, tells_front, tells_rest, asked_more}
+use Rattle.row_copy.proofs.Served.{ends_then, ends_error, ends_never, served_append, tells_front, tells_rest, asked_more}
 
 abbrev file_row : List ℕ → HostRow
 file_row w = record { kind = File; bytes = w }
@@ -99,7 +99,7 @@ module _ {A : Type 0} (M : Asking A) (lawful : LawfulAsker M) where
   out_unread a b c before mid tree host place e w r = record {
     qs = w.qs ++ r.qs;
     asked = asked_more M lawful a b c w.qs r.qs w.asked w.served r.asked;
-    ends = ends_error {X = List ℕ} {Y = ℕ} tree (w.qs ++ r.qs) e (ends_then {X = List ℕ} tree w.qs r.qs (Err e) w.served r.ends);
+    ends = ends_error (List ℕ) ℕ tree (w.qs ++ r.qs) e (ends_then {X = List ℕ} tree w.qs r.qs (Err e) w.served r.ends);
     of = λ u q first at some tells kind made. (w.of u q first at some (tells_front u q w.qs r.qs tells) kind made).0;
   }
 
@@ -109,7 +109,7 @@ module _ {A : Type 0} (M : Asking A) (lawful : LawfulAsker M) where
   out_unput a b c before mid now tree host place piece e w r never h = record {
     qs = w.qs ++ r.qs;
     asked = asked_more M lawful a b c w.qs r.qs w.asked w.served r.asked;
-    ends = ends_never {X = Unit {0}} {Y = ℕ} tree (w.qs ++ r.qs) e (served_append w.qs r.qs w.served r.ends) never;
+    ends = ends_never (Unit {0}) ℕ tree (w.qs ++ r.qs) e (served_append w.qs r.qs w.served r.ends) never;
     of = λ u q first at some tells kind made.
         let x = w.of u q first at some (tells_front u q w.qs r.qs tells) kind made in
         so_far_part u first mid now host piece x.0 (piece_left u first mid host place piece x.0 x.1 (r.says u q host at (tells_rest u q w.qs r.qs tells) some)) h;

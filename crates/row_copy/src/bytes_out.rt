@@ -41,8 +41,9 @@ pub fn bytes_out<F: Folder, A: Asker, R: Rng>(
             Ok(()) => {}
             Err(stop) => return Err(stop),
         }
-        if bytes.len() < PIECE {
-            return Ok(place + bytes.len() as u64);
+        let len = bytes.len();
+        if len < PIECE {
+            return Ok(place + len as u64);
         }
         place += PIECE as u64;
     }

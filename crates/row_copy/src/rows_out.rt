@@ -56,13 +56,12 @@ fn file_out<F: Folder, A: Asker, R: Rng>(
         Ok(()) => {}
         Err(stop) => return Err(stop),
     }
-    match bytes_out(alloc, host, asker, at, chance) {
-        Ok(count) => {
-            count_row(totals, Kind::File, count);
-            Ok(())
-        }
-        Err(stop) => Err(stop),
-    }
+    let count = match bytes_out(alloc, host, asker, at, chance) {
+        Ok(count) => count,
+        Err(stop) => return Err(stop),
+    };
+    count_row(totals, Kind::File, count);
+    Ok(())
 }
 
 /// Makes a link of the folder.

@@ -43,12 +43,16 @@ pub fn count(totals: &mut Totals, command: &Command)
 pub fn count_row(totals: &mut Totals, kind: Kind, bytes: u64)
     ensures { totals.new ≡ with_row totals.old kind bytes }
 {
-    match kind {
-        Kind::Directory => totals.dirs = totals.dirs.saturating_add(1),
-        Kind::File => {
-            totals.files = totals.files.saturating_add(1);
-            totals.bytes = totals.bytes.saturating_add(bytes);
-        }
-        Kind::Link => totals.links = totals.links.saturating_add(1),
-    }
+    let before = *totals;
+    let (dirs, files, links, bytes) = match kind {
+        Kind::Directory => (1, 0, 0, 0),
+        Kind::File => (0, 1, 0, bytes),
+        Kind::Link => (0, 0, 1, 0),
+    };
+    *totals = Totals {
+        dirs: before.dirs.saturating_add(dirs),
+        files: before.files.saturating_add(files),
+        links: before.links.saturating_add(links),
+        bytes: before.bytes.saturating_add(bytes),
+    };
 }

@@ -1,5 +1,5 @@
 -- The directories that a copy is in, one more and one less.
-use Rattle.std.proofs.Common.{◌≡◌, ℕ, zero, suc, ◌+◌, ◌<◌, ◌≤◌, List, [], ◌∷◌, ◌++◌, length, map, drop, get_or, refl, sym, ◌∙◌, ap, arith, append-nil, append_assoc}
+use Rattle.std.proofs.Common.{◌≡◌, inl, inr, ℕ, zero, suc, ◌+◌, ◌<◌, ◌≤◌, List, [], ◌∷◌, ◌++◌, length, map, drop, get_or, refl, sym, ◌∙◌, ap, arith, append-nil, append_assoc}
 use Rattle.std.specs.Prelude.{IfSome, Some, None}
 use Rattle.std.specs.FinMap.{get, find}
 use Rattle.std.specs.declared.option.Option.{Option}
@@ -9,7 +9,7 @@ use Rattle.host_folder.specs.Folders.{HostPath, HostTree, AreRowsOf, row_pair, k
 use Rattle.copy_rules.specs.Walks.{todo_in}
 use Rattle.row_copy.specs.declared.place.RowPlace.{RowPlace}
 use Rattle.tree_copy.specs.declared.levels.Level.{Level}
-use Rattle.tree_copy.specs.Levels.{left_of, todo_of, HasTargets, IsTaken}
+use Rattle.tree_copy.specs.Levels.{left_of, todo_of, HasTargets, IsDeeper, IsStep, IsTaken}
 
 pub todo_push : (ls : List Level) (l : Level) → todo_of (ls ++ l ∷ []) ≡ todo_in l.host (left_of l) ++ todo_of ls
 todo_push [] l = sym (append-nil (todo_in l.host (left_of l)))
@@ -66,3 +66,21 @@ left_none (x ∷ rows) (suc i) h = let less : length rows ≤ i = omega arith in
 pub rows_told : (told : Option HostTree) (p : HostPath) (rows : List ListRow) → IfSome told (λ t. AreRowsOf t p rows) → IfSome told (λ t. (n : List ℕ) → find name_cmp n (map row_pair rows) ≡ kind_in (get t (p ++ n ∷ [])))
 rows_told None p rows h = tt
 rows_told (Some t) p rows h = λ n. h.each n
+
+-- a row was taken, and the levels are as before or one more
+pub step_on : (ls was pushed now : List Level) (old new : Level) (at : RowPlace) → was ≡ ls ++ old ∷ [] → pushed ≡ ls ++ new ∷ [] → IsTaken old new at → IsDeeper at.host pushed now → IsStep was now
+step_on ls was pushed now old new at from to k deeper = by deeper
+  where
+    taken : todo_of was ≡ (at.host, at.kind) ∷ todo_of pushed
+    taken = ap todo_of from ∙ (todo_taken ls old new at k ∙ ap (λ z. (at.host, at.kind) ∷ todo_of z) (sym to))
+
+    by : IsDeeper at.host pushed now → IsStep was now
+    by (inl same) = record { path = at.host; kind = at.kind; kids = []; rest = todo_of pushed; was = taken; is = ap todo_of same }
+    by (inr (l, (is, of))) = record {
+      path = at.host;
+      kind = at.kind;
+      kids = left_of l;
+      rest = todo_of pushed;
+      was = taken;
+      is = ap todo_of is ∙ (todo_push pushed l ∙ ap (λ h. todo_in h (left_of l) ++ todo_of pushed) of);
+    }

@@ -1,30 +1,36 @@
 -- One step of a copy into a folder.
-use Rattle.std.proofs.Common.{◌≡◌, ℕ, ◌<◌, ◌≤◌, true, List, [], ◌∷◌, ◌++◌, refl, sym, ◌∙◌, ap, subst, append-nil}
+use Rattle.std.proofs.Common.{◌≡◌, inl, inr, ℕ, ◌<◌, ◌≤◌, true, false, cond, List, [], ◌∷◌, ◌++◌, length, map, refl, sym, ◌∙◌, ap, subst, arith, append-nil}
 use Rattle.std.specs.Prelude.{is_some, Some, None, IfSome, OnOk}
-use Rattle.std.specs.FinMap.{get, entries}
+use Rattle.std.specs.FinMap.{get, find, entries}
+use Rattle.std.specs.Cmp.{tied_itself}
+use Rattle.std.specs.Ordering.{is_eq}
 use Rattle.std.specs.declared.option.Option.{Option}
 use Rattle.std.specs.declared.result.Result.{Result}
 use Rattle.std.specs.declared.result.Result.TheVariants.{Ok, Err}
 use Rattle.fs_model.specs.declared.attr.Kind.{Kind}
 use Rattle.fs_model.specs.declared.attr.Kind.TheVariants.{Directory}
 use Rattle.fs_model.specs.declared.limits.TheConstants.{MAX_PATH_TEXT}
-use Rattle.host_folder.specs.Folders.{HostRow, HostPath, HostTree, IsHostTree, kind_in}
+use Rattle.fs_model.specs.declared.reply.ListRow.{ListRow}
+use Rattle.fs_model.specs.Tree.{name_cmp}
+use Rattle.fs_model.proofs.TreeLemmas.{name_total}
+use Rattle.host_folder.specs.Folders.{HostRow, HostPath, HostTree, IsHostTree, AreRowsOf, kind_in, row_pair}
 use Rattle.copy_rules.specs.declared.copied.Totals.{Totals}
 use Rattle.copy_rules.specs.declared.copied.CopyFail.{CopyFail}
 use Rattle.copy_rules.specs.declared.copied.CopyFail.TheVariants as fail
-use Rattle.copy_rules.specs.Ends.{AreShort, text_size}
-use Rattle.copy_rules.specs.Exporting.{AreServed, EndsOut, FailsOut, IsBare, IsPartOf, OfEach, OnTold, Tells, totals_in}
+use Rattle.copy_rules.specs.Ends.{AreShort, HostCause, text_size}
+use Rattle.copy_rules.specs.Exporting.{AreServed, EndsOut, FailsOut, HasRows, IsBare, IsIdleBy, IsPartOf, OfEach, OnTold, Tells, totals_in}
 use Rattle.copy_rules.specs.Questions.{Question, Asking, LawfulAsker, Asked}
 use Rattle.copy_rules.proofs.Asking.{asked_none}
+use Rattle.copy_rules.proofs.Walking.{above}
 use Rattle.copy_rules.specs.Walks.{todo_in}
 use Rattle.row_copy.specs.declared.stop.Stop.{Stop}
 use Rattle.row_copy.specs.declared.stop.Stop.TheVariants as stop
-use Rattle.row_copy.specs.Reads.{ReadEnds, IsRowOut, RowOut}
-use Rattle.row_copy.specs.Rows.{none_copied}
-use Rattle.row_copy.proofs.Replies.{ends_then, served_append, tells_front, tells_rest, asked_more}
+use Rattle.row_copy.specs.Reads.{ReadEnds, Reads, IsRowOut, RowOut, SaysRows}
+use Rattle.row_copy.specs.Rows.{NeverHost, none_copied}
+use Rattle.row_copy.proofs.Served.{ends_error, ends_then, served_append, tells_front, tells_rest, asked_more}
 use Rattle.tree_copy.specs.declared.levels.Level.{Level}
 use Rattle.tree_copy.specs.Copies.{fail_of}
-use Rattle.tree_copy.specs.Exports.{FailedOut, IsFar, IsOpened, IsOutAt, OutRun, StepEndsOut, TreeEntered}
+use Rattle.tree_copy.specs.Exports.{ExportRun, FailedOut, IsFar, IsOpened, IsOutAt, OutRun, SaysKids, StepEndsOut, TreeEntered}
 use Rattle.tree_copy.specs.Levels.{left_of, todo_of, HasTargets}
 use Rattle.tree_copy.proofs.Outward.{far_some, far_kind, far_next, far_leaf, far_part, far_none, far_same, far_entries, row_part, part_row, bare_part}
 use Rattle.tree_copy.proofs.Stack.{todo_push, targets_push}
@@ -181,3 +187,86 @@ module _ {A : Type 0} (M : Asking A) (lawful : LawfulAsker M) where
     fails = tt;
     part = λ u rooted tells. bare_part u before bare;
   }
+
+-- the rows of a listing, as the children of what is entered
+kids_said : (u : HostTree) (r : HostPath) (rows : List ListRow) → SaysRows u r rows → SaysKids u r (map row_pair rows)
+kids_said u r rows h = record { rise = h.1; each = λ n. h.0.each n }
+
+module _ {A : Type 0} (M : Asking A) (lawful : LawfulAsker M) where
+  pub tree_unasked : (a : A) (host tree : HostPath) (levels now : List Level) → TreeEntered M a a host tree levels now (Err stop.Memory)
+  tree_unasked a host tree levels now = record { qs = []; asked = asked_none M lawful a; ends = tt; opened = tt }
+
+module _ {A : Type 0} (M : Asking A) where
+  pub tree_unread : (a b : A) (host tree : HostPath) (levels now : List Level) (e : Stop) → Reads M a b tree {X = List ListRow} SaysRows (Err e) → TreeEntered M a b host tree levels now (Err e)
+  tree_unread a b host tree levels now e r = record { qs = r.qs; asked = r.asked; ends = ends_error (List ListRow) (Unit {0}) tree r.qs e r.ends; opened = tt }
+
+  pub tree_unpushed : (a b : A) (host tree : HostPath) (levels now : List Level) (rows : List ListRow) → Reads M a b tree SaysRows (Ok rows) → TreeEntered M a b host tree levels now (Err stop.Memory)
+  tree_unpushed a b host tree levels now rows r = record { qs = r.qs; asked = r.asked; ends = r.ends; opened = tt }
+
+  pub tree_entered : (a b : A) (host tree : HostPath) (levels now : List Level) (path : HostPath) (rows : List ListRow) → Reads M a b tree SaysRows (Ok rows) → path ≡ tree → now ≡ levels ++ record { host = host; tree = path; rows = rows; next = 0 } ∷ []
+      → TreeEntered M a b host tree levels now (Ok tt)
+  tree_entered a b host tree levels now path rows r at is = record {
+    qs = r.qs;
+    asked = r.asked;
+    ends = r.ends;
+    opened = record {
+      level = record { host = host; tree = path; rows = rows; next = 0 };
+      is = is;
+      of_host = refl;
+      of_tree = at;
+      rows = λ u q s is tells. kids_said u s rows (r.says u q s is tells);
+    };
+  }
+
+-- the folder has no part in it
+pub never_host : (n : ℕ) (e : Stop) (p : HostPath) (r : CopyFail) → r ≡ fail_of e p → NeverHost {X = Unit {0}} (Err e) → HostCause {X = Unit {0}} n n (Err r)
+never_host n e p r is never = subst (λ z. HostCause {X = Unit {0}} n n (Err z)) (sym is) (by e never)
+  where
+    by : (e : Stop) → NeverHost {X = Unit {0}} (Err e) → HostCause {X = Unit {0}} n n (Err (fail_of e p))
+    by stop.Memory never = refl
+    by stop.Host never = absurd never
+    by stop.Stopped never = refl
+    by (stop.Refused error) never = refl
+
+-- a folder whose root has no rows, and one whose root has some
+bare_root : (t : HostTree) (rows : List ListRow) → IsHostTree t → AreRowsOf t [] rows → length rows ≡ 0 → IsBare t
+bare_root t [] tree are none n r = by (get t (n ∷ r)) refl
+  where
+    never : is_some (get t ([] ++ n ∷ [])) ≡ true → ⊥
+    never some = kind_none (get t ([] ++ n ∷ [])) (are.each n) some
+      where
+        kind_none : (o : Option HostRow) → None ≡ kind_in o → is_some o ≡ true → ⊥
+        kind_none None e h = let bad : false ≡ true = h in cc
+        kind_none (Some row) e h = let bad : None ≡ Some row.kind = e in cc
+
+    by : (o : Option HostRow) → get t (n ∷ r) ≡ o → get t (n ∷ r) ≡ None
+    by None e = e
+    by (Some row) e = absurd (never (above t tree r [] n (ap is_some e)))
+bare_root t (x ∷ rows) tree are none = absurd (omega arith)
+
+rows_root : (t : HostTree) (rows : List ListRow) → AreRowsOf t [] rows → 0 < length rows → HasRows t
+rows_root t [] are some = absurd (omega arith)
+rows_root t (x ∷ rows) are some = (x.name, kind_some (get t ([] ++ x.name ∷ [])) (sym (ap (λ b. cond (is_eq b) (Some x.kind) (find name_cmp x.name (map row_pair rows))) (tied_itself name_total x.name)) ∙ are.each x.name))
+  where
+    kind_some : (o : Option HostRow) → Some x.kind ≡ kind_in o → is_some o ≡ true
+    kind_some None e = let bad : Some x.kind ≡ None = e in absurd cc
+    kind_some (Some row) e = refl
+
+pub bare_told : (told : Option HostTree) (rows : List ListRow) → IfSome told IsHostTree → IfSome told (λ t. AreRowsOf t [] rows) → length rows ≡ 0 → IfSome told IsBare
+bare_told None rows tree are none = tt
+bare_told (Some t) rows tree are none = bare_root t rows tree are none
+
+pub rows_told : (told : Option HostTree) (rows : List ListRow) → IfSome told (λ t. AreRowsOf t [] rows) → 0 < length rows → IfSome told HasRows
+rows_told None rows are some = tt
+rows_told (Some t) rows are some = rows_root t rows are some
+
+module _ {A : Type 0} (M : Asking A) where
+  pub run_begun : (a b : A) (before mid after : Option HostTree) (q : HostPath) (r : Result Totals CopyFail) → mid ≡ before → IfSome before IsBare → OutRun M a b mid after q r → ExportRun M a b before after q r
+  run_begun a b before mid after q r same bare x = by (subst (λ z. OutRun M a b z after q r) same x)
+    where
+      by : OutRun M a b before after q r → ExportRun M a b before after q r
+      by y = record { qs = y.qs; asked = y.asked; is = inr (record { bare = bare; ends = y.ends }) }
+
+module _ {A : Type 0} (M : Asking A) (lawful : LawfulAsker M) where
+  pub run_idle : (a : A) (before after : Option HostTree) (q : HostPath) (r : Result Totals CopyFail) → after ≡ before → IsIdleBy before r → ExportRun M a a before after q r
+  run_idle a before after q r same ends = record { qs = []; asked = asked_none M lawful a; is = inl (record { none = refl; same = same; ends = ends }) }

@@ -18,6 +18,7 @@ use Rattle.row_copy.specs.declared.place.RowPlace.{RowPlace}
 use Rattle.row_copy.specs.declared.stop.Stop.{Stop}
 use Rattle.row_copy.specs.Reads.{ReadEnds}
 use Rattle.tree_copy.specs.declared.levels.Level.{Level}
+use Rattle.tree_copy.specs.Copies.{fail_of}
 use Rattle.tree_copy.specs.Levels.{left_of, todo_of, Goes, HasTargets}
 
 -- the rows of a directory, by increasing names
@@ -38,6 +39,11 @@ pub record TreeEntered {A : Type 0} (M : Asking A) (old new : A) (host tree : Ho
   pub asked : Asked M old new qs
   pub ends : ReadEnds tree qs result
   pub opened : OnOk result (IsOpened qs host tree levels now)
+
+-- the same, as the copy fails
+abbrev pub TreeBegun : {A : Type 0} → Asking A → A → A → HostPath → HostPath → List Level → List Level → Result (Unit {0}) CopyFail → Type 0
+TreeBegun M old new host tree levels now (Ok x) = TreeEntered M old new host tree levels now (Ok x)
+TreeBegun M old new host tree levels now (Err e) = (stop : Stop) × ((e ≡ fail_of stop tree) × TreeEntered M old new host tree levels now (Err stop))
 
 -- of this tree the rows that were met are in the folder, and these are still to be met
 pub record IsFar (u : HostTree) (before after : Option HostTree) (todo : Todo) (totals : Totals) : Type 0 where

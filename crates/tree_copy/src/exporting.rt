@@ -6,9 +6,7 @@ ghost use Rattle.copy_rules.specs.Ends.{HostCause, StopCause};
 ghost use Rattle.copy_rules.specs.Exporting.{IsBare};
 ghost use Rattle.tree_copy.specs.Exports.{BareIs, ExportRun, OutRun};
 
-use crate::levels::enter_tree;
-use crate::out_steps::export_next;
-use crate::steps::fail_at;
+use crate::out_steps::{begin_tree, export_next};
 use block_id::Memory;
 use copy_rules::{Asker, CopyFail, Totals};
 use fs_model::{FsError, Path};
@@ -25,10 +23,15 @@ fn is_bare<F: Folder>(alloc: Global, host: &mut F) -> Result<bool, GetFail>
     ensures cause { GetHasCause (F.faults host.old) (F.faults host.new) result }
     ensures bare { IfOk result (λ bare. IfSome (F.tree host.old) (BareIs bare)) }
 {
-    match host.list(alloc, &Path::root(alloc)) {
-        Ok(rows) => Ok(rows.as_slice().is_empty()),
-        Err(fail) => Err(fail),
+    let rows = match host.list(alloc, &Path::root(alloc)) {
+        Ok(rows) => rows,
+        Err(fail) => return Err(fail),
+    };
+    let count = rows.as_slice().len();
+    if count == 0 {
+        return Ok(true);
     }
+    Ok(false)
 }
 
 /// Copies what is below this path into a folder without rows.
@@ -52,9 +55,9 @@ fn copy_out<F: Folder, A: Asker, R: Rng>(
         Err(Memory) => return Err(CopyFail::Memory),
     };
     let mut levels = Vec::new(alloc);
-    match enter_tree(alloc, asker, Path::root(alloc), &path, &mut levels, chance) {
+    match begin_tree(alloc, asker, Path::root(alloc), path, &mut levels, chance) {
         Ok(()) => {}
-        Err(stop) => return Err(fail_at(stop, path)),
+        Err(fail) => return Err(fail),
     }
     let mut totals = no_totals();
     for _ in 0..u64::MAX {

@@ -1,18 +1,40 @@
 // One row more of an export.
-ghost use Rattle.std.specs.Prelude.{◌≡◌, OnOk};
+ghost use Rattle.std.specs.Prelude.{◌≡◌, ℕ, OnOk};
 ghost use Rattle.copy_rules.specs.Ends.{HostCause, StopCause};
-ghost use Rattle.tree_copy.specs.Exports.{StepsOut, StepsOutAt};
+ghost use Rattle.tree_copy.specs.Exports.{StepsOut, StepsOutAt, TreeBegun};
 ghost use Rattle.tree_copy.specs.Levels.{IsDeeper};
 
 use crate::levels::{Level, enter_tree, next_row};
 use crate::steps::fail_at;
 use block_id::Memory;
 use copy_rules::{Asker, CopyFail, Totals};
-use fs_model::Kind;
+use fs_model::{Kind, Path};
 use host_folder::Folder;
 use rand_core::Rng;
 use row_copy::{RowPlace, is_short, row_out};
 use std::alloc::Global;
+
+/// Begins the directory of the tree: its rows are to be copied.
+pub fn begin_tree<A: Asker, R: Rng>(
+    alloc: Global,
+    asker: &mut A,
+    host: Path,
+    tree: Path,
+    levels: &mut Vec<Level>,
+    chance: &mut R,
+) -> Result<(), CopyFail>
+    requires ready { A.asking.ready asker.old }
+    ensures ready { A.asking.ready asker.new }
+    ensures stops { StopCause (A.asking.stops asker.old) (A.asking.stops asker.new) result }
+    ensures host { (faults : ℕ) → HostCause faults faults result }
+    ensures begun { TreeBegun A.asking asker.old asker.new host tree levels.old.items levels.new.items result }
+{
+    match enter_tree(alloc, asker, host, &tree, levels, chance) {
+        Ok(()) => {}
+        Err(stop) => return Err(fail_at(stop, tree)),
+    }
+    Ok(())
+}
 
 /// Copies the row into the folder, and begins the directory that it is.
 fn export_at<F: Folder, A: Asker, R: Rng>(
@@ -43,10 +65,11 @@ fn export_at<F: Folder, A: Asker, R: Rng>(
         Kind::File => return Ok(()),
         Kind::Link => return Ok(()),
     }
-    match enter_tree(alloc, asker, at.host, &at.tree, levels, chance) {
-        Ok(()) => Ok(()),
-        Err(stop) => Err(fail_at(stop, at.tree)),
+    match begin_tree(alloc, asker, at.host, at.tree, levels, chance) {
+        Ok(()) => {}
+        Err(fail) => return Err(fail),
     }
+    Ok(())
 }
 
 /// Copies the next row of the directory that was begun last, and begins the directory that it is. Whether that isn't all.
@@ -78,7 +101,8 @@ pub fn export_next<F: Folder, A: Asker, R: Rng>(
         Err(_) => return Err(CopyFail::Memory),
     }
     match export_at(alloc, host, asker, at, levels, totals, chance) {
-        Ok(()) => Ok(true),
-        Err(fail) => Err(fail),
+        Ok(()) => {}
+        Err(fail) => return Err(fail),
     }
+    Ok(true)
 }

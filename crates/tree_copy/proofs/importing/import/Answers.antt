@@ -2,8 +2,8 @@ use Rattle.std.proofs.Common.{Bool, [], ◌∙◌, refl, sym, ap, subst}
 use Rattle.std.specs.Prelude.{IfSome}
 use Rattle.std.specs.declared.result.Result.TheVariants.{Ok, Err}
 use Rattle.copy_rules.specs.declared.copied.CopyFail.TheVariants as fail
-use Rattle.tree_copy.specs.Copies.{IsAt, IsLast}
-use Rattle.tree_copy.specs.Levels.{todo_of, AreKnown, IsEntered}
+use Rattle.tree_copy.specs.Copies.{IsAt}
+use Rattle.tree_copy.specs.Levels.{todo_of, AreKnown, Goes, IsEntered}
 use Rattle.tree_copy.proofs.Places.{at_end, at_memory, failed_run}
 use Rattle.tree_copy.proofs.Turning.{memory_quiet, failed_rose, none_fails, first_at, known, told_step, host_from, stop_from}
 use Rattle.tree_copy.proofs.importing.import.Goals as goal
@@ -74,7 +74,7 @@ returns-in-Ok-false-clause-ready g c = c.in-Ok-false.ensures.ready
 pub returns-in-Ok-false-clause-copied : goal.returns-in-Ok-false-clause-copied
 returns-in-Ok-false-clause-copied g c =
     let step = told_step g.A.Asker.asking {X = Bool} c.args.asker.now c.loop.asker c.copy_next.new.asker (g.F.Folder.tree c.loop.host) (g.F.Folder.tree c.args.host.now) c.args.target.now c.loop.levels.items c.copy_next.new.levels.items c.loop.totals c.copy_next.new.totals (Ok c.in-Ok-false.field-0) c.loop.invariant.same c.in-Ok-false.ensures.steps.0 c.loop.invariant.targets c.loop.invariant.at in
-    let last = subst (λ z. IsLast (Ok z) c.copy_next.new.levels.items) c.in-Ok-false.field-0-test c.in-Ok-false.ensures.steps.1 in
+    let last = subst (λ z. Goes (Ok z) c.loop.levels.items c.copy_next.new.levels.items) c.in-Ok-false.field-0-test c.in-Ok-false.ensures.steps.1 in
     at_end g.A.Asker.asking c.args.asker.now c.copy_next.new.asker (g.F.Folder.tree c.args.host.now) c.args.target.now c.copy_next.new.totals (subst (λ z. IsAt g.A.Asker.asking c.args.asker.now c.copy_next.new.asker (g.F.Folder.tree c.args.host.now) c.args.target.now z c.copy_next.new.totals) (ap todo_of last) step.0)
 
 pub returns-in-Err-clause-ready : goal.returns-in-Err-clause-ready

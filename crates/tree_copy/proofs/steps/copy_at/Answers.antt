@@ -1,4 +1,4 @@
-use Rattle.std.proofs.Common.{◌≡◌, ◌<◌, ◌∙◌, refl, sym, subst}
+use Rattle.std.proofs.Common.{◌≡◌, inl, inr, ◌<◌, ◌∙◌, refl, sym, subst}
 use Rattle.fs_model.specs.declared.attr.Kind.TheVariants.{Directory, File, Link}
 use Rattle.copy_rules.specs.declared.copied.CopyFail.TheVariants as fail
 use Rattle.copy_rules.specs.Ends.{text_size}
@@ -126,3 +126,12 @@ returns-clause-stops g c = c.in-Ok.ensures.stops
 
 pub returns-clause-steps : goal.returns-clause-steps
 returns-clause-steps g c = λ first q to targets at. entered g.A.Asker.asking g.met.A.Asker.lawful first c.args.asker.now c.copy_row.new.asker (g.F.Folder.tree c.args.host.now) (g.F.Folder.tree c.copy_row.new.host) q c.args.at.host c.args.at.kind c.args.at.tree c.args.levels.now.items c.enter.new.levels.items c.args.totals.now c.copy_row.new.totals c.in-Ok.ensures.same to targets at (short_of c.is_short.result (text_size c.args.at.tree) c.is_short.ensures c.if-not-is_short.false) c.in-Ok.ensures.copied c.in-Ok-enter.ensures.entered
+
+pub returns-in-File-clause-levels : goal.returns-in-File-clause-levels
+returns-in-File-clause-levels g c = inl refl
+
+pub returns-in-Link-clause-levels : goal.returns-in-Link-clause-levels
+returns-in-Link-clause-levels g c = inl refl
+
+pub returns-clause-levels : goal.returns-clause-levels
+returns-clause-levels g c = let e = c.in-Ok-enter.ensures.entered in inr (e.level, (e.is, e.host))

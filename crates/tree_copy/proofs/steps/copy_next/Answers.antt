@@ -1,8 +1,8 @@
-use Rattle.std.proofs.Common.{◌≡◌, ◌∷◌, length, ◌∙◌, refl, sym, ap, subst, append-nil, arith}
+use Rattle.std.proofs.Common.{◌≡◌, inl, inr, ◌∷◌, length, ◌∙◌, refl, sym, ap, subst, append-nil, arith}
 use Rattle.tree_copy.specs.Copies.{IsAt}
 use Rattle.tree_copy.specs.Levels.{todo_of, HasTargets, NextIs}
 use Rattle.tree_copy.proofs.Places.{at_memory}
-use Rattle.tree_copy.proofs.Stack.{todo_spent, todo_taken, taken_to, taken_target, targets_front, targets_last, targets_push}
+use Rattle.tree_copy.proofs.Stack.{step_on, todo_spent, todo_taken, taken_to, taken_target, targets_front, targets_last, targets_push}
 use Rattle.tree_copy.proofs.Turning.{placed, nothing}
 use Rattle.tree_copy.proofs.steps.copy_next.Goals as goal
 
@@ -43,7 +43,7 @@ returns-in-Ok-None-clause-steps g c =
         subst (λ z. IsAt g.A.Asker.asking first c.args.asker.now (g.F.Folder.tree c.args.host.now) q z c.args.totals.now) (ap todo_of same ∙ todo_spent c.pop.new.self.items c.in-Some.level (subst (NextIs c.in-Some.level c.next_row.new.level) c.in-Ok-None.field-0-is c.in-Ok-None.ensures)) at,
         targets_front q c.pop.new.self.items c.in-Some.level (subst (HasTargets q) same targets),
       )),
-      tt,
+      inl (record { level = c.in-Some.level; are = same; spent = subst (NextIs c.in-Some.level c.next_row.new.level) c.in-Ok-None.field-0-is c.in-Ok-None.ensures }),
     )
 
 pub returns-in-Err-clause-ready : goal.returns-in-Err-clause-ready
@@ -101,7 +101,7 @@ returns-clause-steps g c = (
       let own = targets_last q c.pop.new.self.items c.in-Some.level old in
       let levels = subst (HasTargets q) (sym c.in-Ok.ensures.items) (targets_push q c.pop.new.self.items c.next_row.new.level (targets_front q c.pop.new.self.items c.in-Some.level old) (taken_target q c.in-Some.level c.next_row.new.level c.in-Ok-Some.at (subst (NextIs c.in-Some.level c.next_row.new.level) c.in-Ok-Some.field-0-is c.in-Ok-Some.ensures) own)) in
       c.in-Ok-copy_at.ensures.steps first q (taken_to q c.in-Some.level c.next_row.new.level c.in-Ok-Some.at (subst (NextIs c.in-Some.level c.next_row.new.level) c.in-Ok-Some.field-0-is c.in-Ok-Some.ensures) own) levels (subst (λ z. IsAt g.A.Asker.asking first c.args.asker.now (g.F.Folder.tree c.args.host.now) q z c.args.totals.now) (ap todo_of c.in-Some.ensures.items ∙ (todo_taken c.pop.new.self.items c.in-Some.level c.next_row.new.level c.in-Ok-Some.at (subst (NextIs c.in-Some.level c.next_row.new.level) c.in-Ok-Some.field-0-is c.in-Ok-Some.ensures) ∙ ap (λ z. (c.in-Ok-Some.at.host, c.in-Ok-Some.at.kind) ∷ todo_of z) (sym c.in-Ok.ensures.items))) at)),
-  tt,
+  inr (step_on c.pop.new.self.items c.args.levels.now.items c.push.new.self.items c.copy_at.new.levels.items c.in-Some.level c.next_row.new.level c.in-Ok-Some.at c.in-Some.ensures.items c.in-Ok.ensures.items (subst (NextIs c.in-Some.level c.next_row.new.level) c.in-Ok-Some.field-0-is c.in-Ok-Some.ensures) c.in-Ok-copy_at.ensures.levels),
 )
 
 pub returns-in-Err-copy_at-clause-ready : goal.returns-in-Err-copy_at-clause-ready

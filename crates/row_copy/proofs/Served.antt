@@ -62,24 +62,24 @@ ends_then p qs rs (Err stop.Stopped) served ends = (ends.0, last_read qs rs p (E
 ends_then p qs rs (Err (stop.Refused e)) served ends = (ends.0, (ends.1.0, last_read qs rs p (Ok ends.0) served ends.1.1))
 
 -- what a result is of doesn't matter where it is an error
-pub ends_error : {X Y : Type 0} (p : HostPath) (qs : List Question) (e : Stop) → ReadEnds {X = X} p qs (Err e) → ReadEnds {X = Y} p qs (Err e)
-ends_error p qs stop.Memory h = h
-ends_error p qs stop.Host h = h
-ends_error p qs stop.Stopped h = h
-ends_error p qs (stop.Refused e) h = h
+pub ends_error : (X Y : Type 0) (p : HostPath) (qs : List Question) (e : Stop) → ReadEnds {X = X} p qs (Err e) → ReadEnds {X = Y} p qs (Err e)
+ends_error X Y p qs stop.Memory h = h
+ends_error X Y p qs stop.Host h = h
+ends_error X Y p qs stop.Stopped h = h
+ends_error X Y p qs (stop.Refused e) h = h
 
 -- a call on the folder fails after these
-pub ends_never : {X Y : Type 0} (p : HostPath) (qs : List Question) (e : Stop) → AreServed qs → NeverAsked {X = X} (Err e) → ReadEnds {X = Y} p qs (Err e)
-ends_never p qs stop.Memory served never = served
-ends_never p qs stop.Host served never = served
-ends_never p qs stop.Stopped served never = absurd never
-ends_never p qs (stop.Refused e) served never = absurd never
+pub ends_never : (X Y : Type 0) (p : HostPath) (qs : List Question) (e : Stop) → AreServed qs → NeverAsked {X = X} (Err e) → ReadEnds {X = Y} p qs (Err e)
+ends_never X Y p qs stop.Memory served never = served
+ends_never X Y p qs stop.Host served never = served
+ends_never X Y p qs stop.Stopped served never = absurd never
+ends_never X Y p qs (stop.Refused e) served never = absurd never
 
-pub still_stops : {X Y : Type 0} (before now : ℕ) (e : Stop) → NeverAsked {X = X} (Err e) → now ≡ before → StopsBy {X = Y} before now (Err e)
-still_stops before now stop.Memory never same = same
-still_stops before now stop.Host never same = same
-still_stops before now stop.Stopped never same = absurd never
-still_stops before now (stop.Refused e) never same = absurd never
+pub still_stops : (X Y : Type 0) (before now : ℕ) (e : Stop) → NeverAsked {X = X} (Err e) → now ≡ before → StopsBy {X = Y} before now (Err e)
+still_stops X Y before now stop.Memory never same = same
+still_stops X Y before now stop.Host never same = same
+still_stops X Y before now stop.Stopped never same = absurd never
+still_stops X Y before now (stop.Refused e) never same = absurd never
 
 none_refused : (reply : Reply) → refusal reply ≡ None → IsServed (Ok reply)
 none_refused (Error e) h = let bad : Some e ≡ None = h in cc
@@ -117,7 +117,7 @@ module _ {A : Type 0} (M : Asking A) where
   reads_error {X = X} a b c p Says e at h = record {
     qs = h.qs;
     asked = h.asked;
-    ends = ends_error {X = Reply} {Y = X} p h.qs e (subst (λ z. ReadEnds {X = Reply} z h.qs (Err e)) at h.ends);
+    ends = ends_error Reply X p h.qs e (subst (λ z. ReadEnds {X = Reply} z h.qs (Err e)) at h.ends);
     says = λ u q r is tells. tt;
   }
 
