@@ -57,12 +57,12 @@ stop_fails before now e p r is h = subst (λ z. StopCause {X = Unit {0}} before 
     by stop.Stopped h = h
     by (stop.Refused error) h = h
 
-pub memory_quiet : (before now : ℕ) (e : GetFail) → e ≡ Memory → GetHasCause {T = Unit {0}} before now (Err e) → now ≡ before
-memory_quiet before now e is h = (subst (λ z. GetHasCause {T = Unit {0}} before now (Err z)) is h).quiet
+pub memory_quiet : {X : Type 0} (before now : ℕ) (e : GetFail) → e ≡ Memory → GetHasCause {T = X} before now (Err e) → now ≡ before
+memory_quiet {X = X} before now e is h = (subst (λ z. GetHasCause {T = X} before now (Err z)) is h).quiet
 
-pub failed_rose : (before mid now : ℕ) (e : GetFail) → e ≡ Failed → mid ≡ before → GetHasCause {T = Unit {0}} mid now (Err e) → (before ≤ now) × RoseBy 1 before now
-failed_rose before mid now e is same h =
-    let k = subst (λ z. GetHasCause {T = Unit {0}} mid now (Err z)) is h in
+pub failed_rose : {X : Type 0} (before mid now : ℕ) (e : GetFail) → e ≡ Failed → mid ≡ before → GetHasCause {T = X} mid now (Err e) → (before ≤ now) × RoseBy 1 before now
+failed_rose {X = X} before mid now e is same h =
+    let k = subst (λ z. GetHasCause {T = X} mid now (Err z)) is h in
     subst (λ z. (z ≤ now) × RoseBy 1 z now) same (k.grows, k.failed refl)
 
 module _ {A : Type 0} (M : Asking A) (lawful : LawfulAsker M) where

@@ -45,16 +45,15 @@ returns-then-len-lt-PIECE-clause-stops g c = c.in-Ok.ensures.stops ∙ c.loop-pl
 
 pub returns-then-len-lt-PIECE-clause-out : goal.returns-then-len-lt-PIECE-clause-out
 returns-then-len-lt-PIECE-clause-out g c =
-    let size : c.len-len.result ≡ length c.in-Ok.piece = c.len-len.ensures ∙ ap length c.as_slice-bytes.ensures in
+    let size : length c.as_slice-bytes.result.now ≡ length c.in-Ok.piece = ap length c.as_slice-bytes.ensures in
     let few : length c.in-Ok.piece < 1048576 = omega (arith, size, c.if-len-lt-PIECE.true) in
-    let sum : c.loop-place.place + c.len-len.result ≡ c.loop-place.place + length c.in-Ok.piece = omega (arith, size) in
-    out_last g.A.Asker.asking g.met.A.Asker.lawful c.args.asker.now c.loop-place.asker c.ask_piece.new.asker (g.F.Folder.tree c.args.host.now) (g.F.Folder.tree c.loop-place.host) (g.F.Folder.tree c.append_bytes.new.host) c.args.at.now.tree c.args.at.now.host c.loop-place.place (c.loop-place.place + c.len-len.result) c.in-Ok.piece
-    c.loop-place.invariant.out c.in-Ok.ensures.reads few sum
+    out_last g.A.Asker.asking g.met.A.Asker.lawful c.args.asker.now c.loop-place.asker c.ask_piece.new.asker (g.F.Folder.tree c.args.host.now) (g.F.Folder.tree c.loop-place.host) (g.F.Folder.tree c.append_bytes.new.host) c.args.at.now.tree c.args.at.now.host c.loop-place.place (c.loop-place.place + length c.as_slice-bytes.result.now) c.in-Ok.piece
+    c.loop-place.invariant.out c.in-Ok.ensures.reads few (ap (λ k. c.loop-place.place + k) size)
     (subst (IsAppended (g.F.Folder.tree c.loop-place.host) (g.F.Folder.tree c.append_bytes.new.host) c.args.at.now.host) c.as_slice-bytes.ensures c.in-Ok-append_bytes.ensures.ok)
 
 pub loop-place-preserved : goal.loop-place-preserved
 loop-place-preserved g c =
-    let size : c.len-len.result ≡ length c.in-Ok.piece = c.len-len.ensures ∙ ap length c.as_slice-bytes.ensures in
+    let size : length c.as_slice-bytes.result.now ≡ length c.in-Ok.piece = ap length c.as_slice-bytes.ensures in
     let whole : 1048576 ≤ length c.in-Ok.piece = omega (arith, size, c.if-len-lt-PIECE.false) in
     record {
       ready = c.in-Ok.ensures.ready;

@@ -4,10 +4,10 @@ use Rattle.row_copy.proofs.Exports.{directory_row_out, of_kind}
 use Rattle.row_copy.proofs.rows_out.row_out.Goals as goal
 
 pub file_out-requires : goal.file_out-requires
-file_out-requires g c = c.requires.ready
+file_out-requires g c = record { ready = c.requires.ready }
 
 pub link_out-requires : goal.link_out-requires
-link_out-requires g c = c.requires.ready
+link_out-requires g c = record { ready = c.requires.ready }
 
 pub returns-in-Directory-clause-out : goal.returns-in-Directory-clause-out
 returns-in-Directory-clause-out g c =

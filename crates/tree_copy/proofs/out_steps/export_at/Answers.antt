@@ -28,7 +28,7 @@ returns-then-not-is_short-clause-steps g c = λ a before q at targets x.
     out_long g.A.Asker.asking a c.args.asker.now before (g.F.Folder.tree c.args.host.now) q c.args.at.host c.args.at.kind (todo_of c.args.levels.now.items) c.args.totals.now x (long_of c.is_short.result (text_size c.args.at.host) c.is_short.ensures c.if-not-is_short.true)
 
 pub row_out-requires : goal.row_out-requires
-row_out-requires g c = c.requires.ready
+row_out-requires g c = record { ready = c.requires.ready }
 
 pub returns-in-Err-clause-ready : goal.returns-in-Err-clause-ready
 returns-in-Err-clause-ready g c = c.in-Err.ensures.ready
@@ -78,7 +78,7 @@ returns-in-Link-clause-steps g c = λ a before q at targets x.
     (short_of c.is_short.result (text_size c.args.at.host) c.is_short.ensures c.if-not-is_short.false) x c.in-Ok.ensures.out
 
 pub begin_tree-requires : goal.begin_tree-requires
-begin_tree-requires g c = c.in-Ok.ensures.ready
+begin_tree-requires g c = record { ready = c.in-Ok.ensures.ready }
 
 pub returns-in-Err-begin_tree-clause-ready : goal.returns-in-Err-begin_tree-clause-ready
 returns-in-Err-begin_tree-clause-ready g c = c.in-Err-begin_tree.ensures.ready

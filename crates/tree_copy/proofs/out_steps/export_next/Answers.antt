@@ -66,7 +66,7 @@ pub returns-in-Err-push-clause-steps : goal.returns-in-Err-push-clause-steps
 returns-in-Err-push-clause-steps g c = ((λ a before q targets x. out_memory g.A.Asker.asking a c.args.asker.now before (g.F.Folder.tree c.args.host.now) q (todo_of c.args.levels.now.items) c.args.totals.now x), tt)
 
 pub export_at-requires : goal.export_at-requires
-export_at-requires g c = c.requires.ready
+export_at-requires g c = record { ready = c.requires.ready }
 
 pub returns-clause-ready : goal.returns-clause-ready
 returns-clause-ready g c = c.in-Ok-export_at.ensures.ready
