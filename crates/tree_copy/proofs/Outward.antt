@@ -63,13 +63,20 @@ part_push u v p row part front n r x is = elim (path_split (n ∷ r) p) [
 ]
 
 -- a row more, or a part of it
-pub part_row : (u : HostTree) (before mid after : Option HostTree) (p : HostPath) → OnTold before mid (λ v. IsPartOf v u) → IsRowPart u mid after p → OnTold before after (λ v. IsPartOf v u)
-part_row u before mid after p h (inl same) = subst (λ z. OnTold before z (λ v. IsPartOf v u)) (sym same) h
-part_row u None mid after p none (inr (row, (made, front))) = subst (λ z. IsMade z after p row.kind row.bytes) none made
-part_row u (Some first) mid after p (v, (is, part)) (inr (row, (made, front))) = by (subst (λ z. IsMade z after p row.kind row.bytes) is made)
+none_part : (u : HostTree) (mid after : Option HostTree) (p : HostPath) → mid ≡ None → IsRowPart u mid after p → after ≡ None
+none_part u mid after p none (inl same) = same ∙ none
+none_part u mid after p none (inr (row, (made, front))) = subst (λ z. IsMade z after p row.kind row.bytes) none made
+
+some_part : (u v : HostTree) (mid after : Option HostTree) (p : HostPath) → mid ≡ Some v → IsPartOf v u → IsRowPart u mid after p → (x : HostTree) × ((after ≡ Some x) × IsPartOf x u)
+some_part u v mid after p is part (inl same) = (v, (same ∙ is, part))
+some_part u v mid after p is part (inr (row, (made, front))) = by (subst (λ z. IsMade z after p row.kind row.bytes) is made)
   where
     by : IsMade (Some v) after p row.kind row.bytes → (x : HostTree) × ((after ≡ Some x) × IsPartOf x u)
     by h = (insert v p row, (h.1, part_push u v p row part front))
+
+pub part_row : (u : HostTree) (before mid after : Option HostTree) (p : HostPath) → OnTold before mid (λ v. IsPartOf v u) → IsRowPart u mid after p → OnTold before after (λ v. IsPartOf v u)
+part_row u None mid after p h row = none_part u mid after p h row
+part_row u (Some first) mid after p h row = some_part u h.0 mid after p h.1.0 h.1.1 row
 
 -- the counts of rows, one by one
 sum_push : (f : HostRow → ℕ) (es : Met) (p : HostPath) (row : HostRow) → (p ≡ [] → ⊥) → sum_in f (es ++ (p, row) ∷ []) ≡ sum_in f es + f row

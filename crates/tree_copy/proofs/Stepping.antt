@@ -36,11 +36,11 @@ use Rattle.tree_copy.proofs.Outward.{far_some, far_kind, far_next, far_leaf, far
 use Rattle.tree_copy.proofs.Stack.{todo_push, targets_push}
 
 -- the end of a row's questions is that of the copy
-fails_by : {X : Type 0} (q p : HostPath) (qs : List Question) (e : Stop) → ReadEnds {X = X} p qs (Err e) → FailsOut q qs (fail_of e p)
-fails_by q p qs stop.Memory h = h
-fails_by q p qs stop.Host h = h
-fails_by q p qs stop.Stopped h = (p, h)
-fails_by q p qs (stop.Refused e) h = h
+fails_by : (X : Type 0) (q p : HostPath) (qs : List Question) (e : Stop) → ReadEnds {X = X} p qs (Err e) → FailsOut q qs (fail_of e p)
+fails_by X q p qs stop.Memory h = h
+fails_by X q p qs stop.Host h = h
+fails_by X q p qs stop.Stopped h = (p, h)
+fails_by X q p qs (stop.Refused e) h = h
 
 module _ {A : Type 0} (M : Asking A) where
   -- memory is wanting before the next row
@@ -91,7 +91,7 @@ module _ {A : Type 0} (M : Asking A) (lawful : LawfulAsker M) where
   out_row_fails a b c before mid after q p tree k todo first totals e r is at x row = subst (FailedOut M a c before after q) (sym is) (record {
     qs = x.qs ++ row.qs;
     asked = asked_more M lawful a b c x.qs row.qs x.asked x.served row.asked;
-    fails = fails_by {X = Unit {0}} q tree (x.qs ++ row.qs) e (ends_then {X = Unit {0}} tree x.qs row.qs (Err e) x.served row.ends);
+    fails = fails_by (Unit {0}) q tree (x.qs ++ row.qs) e (ends_then {X = Unit {0}} tree x.qs row.qs (Err e) x.served row.ends);
     part = λ u rooted tells.
         let far = x.of u rooted (tells_front u q x.qs row.qs tells) in
         part_row u before mid after p (far_part u before mid ((p, k) ∷ todo) first far)
@@ -124,7 +124,7 @@ module _ {A : Type 0} (M : Asking A) (lawful : LawfulAsker M) where
       subst (FailedOut M a d before after q) (sym is) (record {
         qs = qs ++ list.qs;
         asked = asked_more M lawful a c d qs list.qs asked served list.asked;
-        fails = fails_by {X = Unit {0}} q tree (qs ++ list.qs) e (ends_then {X = Unit {0}} tree qs list.qs (Err e) served list.ends);
+        fails = fails_by (Unit {0}) q tree (qs ++ list.qs) e (ends_then {X = Unit {0}} tree qs list.qs (Err e) served list.ends);
         part = λ u rooted tells.
             let told = tells_front u q qs list.qs tells in
             let far = x.of u rooted (tells_front u q x.qs row.qs told) in
@@ -175,7 +175,7 @@ module _ {A : Type 0} (M : Asking A) (lawful : LawfulAsker M) where
   out_never a b before q levels now e r is bare list = subst (FailedOut M a b before before q) (sym is) (record {
     qs = list.qs;
     asked = list.asked;
-    fails = fails_by {X = Unit {0}} q q list.qs e list.ends;
+    fails = fails_by (Unit {0}) q q list.qs e list.ends;
     part = λ u rooted tells. bare_part u before bare;
   })
 
@@ -242,7 +242,7 @@ bare_root t [] tree are none n r = by (get t (n ∷ r)) refl
     by : (o : Option HostRow) → get t (n ∷ r) ≡ o → get t (n ∷ r) ≡ None
     by None e = e
     by (Some row) e = absurd (never (above t tree r [] n (ap is_some e)))
-bare_root t (x ∷ rows) tree are none = absurd (omega arith)
+bare_root t (x ∷ rows) tree are none n r = absurd (omega arith)
 
 rows_root : (t : HostTree) (rows : List ListRow) → AreRowsOf t [] rows → 0 < length rows → HasRows t
 rows_root t [] are some = absurd (omega arith)

@@ -81,11 +81,12 @@ pub fn enter_tree<A: Asker, R: Rng>(
         Ok(rows) => rows,
         Err(stop) => return Err(stop),
     };
+    let next = 0;
     let level = Level {
         host,
         tree: path,
         rows,
-        next: 0,
+        next,
     };
     match levels.push(level) {
         Ok(()) => {}
