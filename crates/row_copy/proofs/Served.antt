@@ -121,14 +121,6 @@ module _ {A : Type 0} (M : Asking A) where
     says = λ u q r is tells. tt;
   }
 
-  pub rows_read : (a b : A) (path p : HostPath) (rows : List ListRow) → path ≡ p → OneRead M a b (command.List path) (Ok (Rows rows)) → Reads M a b p SaysRows (Ok rows)
-  rows_read a b path p rows at h = record {
-    qs = one (command.List path) (Ok (Rows rows));
-    asked = h.0.0;
-    ends = ((tt, tt), tt);
-    says = λ u q r is tells. tells.0 r (at ∙ is);
-  }
-
   pub piece_read : (a b : A) (path p : HostPath) (from : ℕ) (bytes : List ℕ) → path ≡ p → OneRead M a b (command.Read path from 1048576) (Ok (Content bytes)) → Reads M a b p (SaysPiece from) (Ok bytes)
   piece_read a b path p from bytes at h = record {
     qs = one (command.Read path from 1048576) (Ok (Content bytes));
@@ -169,28 +161,3 @@ module _ {A : Type 0} (M : Asking A) (lawful : LawfulAsker M) where
 
   pub asked_more : (a b c : A) (qs rs : List Question) → Asked M a b qs → AreServed qs → Asked M b c rs → Asked M a c (qs ++ rs)
   asked_more a b c qs rs x served y = asked_then M lawful a b c qs rs x (served_answered qs served) y
-
--- a reply of another form never comes
-pub never_rows : (p : HostPath) (reply : Reply) → IsServed (Ok reply) → IsReplyTo (command.List p) reply → ((rows : List ListRow) → reply ≡ Rows rows → ⊥) → ⊥
-never_rows p (Error e) served form other = served
-never_rows p (Rows rows) served form other = other rows refl
-never_rows p Done served form other = form
-never_rows p (Info a s) served form other = form
-never_rows p (Target w) served form other = form
-never_rows p (Content w) served form other = form
-
-pub never_content : (p : HostPath) (from count : ℕ) (reply : Reply) → IsServed (Ok reply) → IsReplyTo (command.Read p from count) reply → ((w : List ℕ) → reply ≡ Content w → ⊥) → ⊥
-never_content p from count (Error e) served form other = served
-never_content p from count (Content w) served form other = other w refl
-never_content p from count Done served form other = form
-never_content p from count (Info a s) served form other = form
-never_content p from count (Target w) served form other = form
-never_content p from count (Rows w) served form other = form
-
-pub never_target : (p : HostPath) (reply : Reply) → IsServed (Ok reply) → IsReplyTo (command.Readlink p) reply → ((w : List ℕ) → reply ≡ Target w → ⊥) → ⊥
-never_target p (Error e) served form other = served
-never_target p (Target w) served form other = other w refl
-never_target p Done served form other = form
-never_target p (Info a s) served form other = form
-never_target p (Content w) served form other = form
-never_target p (Rows w) served form other = form
