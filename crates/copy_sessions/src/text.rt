@@ -11,7 +11,8 @@ use copy_rules::{CopyFail, Totals};
 use std::alloc::Global;
 use std::marker::Model;
 
-/// Bytes of a text that needs no memory: a path's text has 4,096 at most with a name more of 255, and an escape has 4 for one.
+/// Bytes of a text that needs no memory: an escape has 4 for one, and a path that is copied to has a text of 4,096 at
+/// most with a name more of 255.
 pub const LONG_TEXT: usize = 20_480;
 
 /// The text of a copy's end, with the memory for 20,480 bytes taken beforehand.
