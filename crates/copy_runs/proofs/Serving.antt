@@ -1,0 +1,82 @@
+-- What the run of a copy did that opened a file system.
+use Rattle.std.proofs.Common.{◌≡◌, ℕ, Bool, List, inr, refl, sym, subst}
+use Rattle.std.specs.Prelude.{Result}
+use Rattle.std.specs.declared.option.Option.{Option}
+use Rattle.std.specs.declared.option.Option.TheVariants.{Some}
+use Rattle.std.specs.declared.result.Result.TheVariants.{Ok, Err}
+use Rattle.answers.specs.declared.answer.Answer.{Answer}
+use Rattle.answers.specs.declared.answer.Answer.TheVariants as answer
+use Rattle.answers.specs.Sessions.{Exchange}
+use Rattle.answers.specs.Hosts.{Ran}
+use Rattle.fs_model.specs.Instant.{Instant}
+use Rattle.line_io.specs.Streams.{Stream}
+use Rattle.outside.specs.Trace.{Call}
+use Rattle.outside.specs.declared.keeper.Keeper.{Ghosts as KeeperGhosts}
+use Rattle.mount.specs.Mounts.{IsReady}
+use Rattle.run_edges.specs.Statuses.{session_status, IsOwn}
+use Rattle.run_status.specs.Statuses.{first_of}
+use Rattle.run_status.specs.declared.ended.Ended.{Ended}
+use Rattle.run_status.specs.declared.status.Status.{Status}
+use Rattle.session_lines.specs.declared.end.End.{End}
+use Rattle.session_runs.specs.Openings.{HasPassword}
+use Rattle.session_runs.specs.Runs.{outside_of, IsSessionRun}
+use Rattle.session_runs.specs.Turns.{Begun, Closing}
+use Rattle.session_runs.proofs.Whole.{whole}
+use Rattle.session_saver.specs.declared.saver.SyncError.{SyncError}
+use Rattle.shell_sessions.specs.declared.mounted.Mounted.{Mounted}
+use Rattle.shell_sessions.specs.Sessions.{Session, WasServed}
+use Rattle.tree_commands.specs.Showing.{ShowsFiles}
+use Rattle.copy_rules.specs.declared.copied.Totals.{Totals}
+use Rattle.copy_rules.specs.declared.copied.CopyFail.{CopyFail}
+use Rattle.copy_rules.specs.declared.copied.CopyFail.TheVariants as fail
+use Rattle.copy_sessions.specs.declared.way.Way.{Way}
+use Rattle.copy_sessions.specs.Coming.{IsCopyTold}
+use Rattle.copy_sessions.specs.Statuses.{copy_status, stopped_status}
+use Rattle.copy_runs.specs.Asking.{mounted_hosting}
+
+mild_stop : (kept : Option Answer) → IsOwn (stopped_status kept)
+mild_stop (Some answer.Memory) = tt
+mild_stop other = tt
+
+mild : (told : Result Totals CopyFail) (kept : Option Answer) → IsOwn (copy_status told kept)
+mild (Ok totals) kept = tt
+mild (Err fail.Memory) kept = tt
+mild (Err fail.Host) kept = tt
+mild (Err fail.Stopped) kept = mild_stop kept
+mild (Err (fail.LongPath p)) kept = tt
+mild (Err (fail.Refused p e)) kept = tt
+
+-- a copy's status is a run's own
+pub is_own : (way : Way) (result : Result Totals CopyFail) (kept : Option Answer) (output : Stream) (end : End) (own : Status) → IsCopyTold way result kept output end own → IsOwn own
+is_own way result kept output end own told = subst IsOwn (sym told.status) (mild told.told kept)
+
+module _ {V : Type 0} {K : Type 0} (trace : V → Option (List Call)) (faults : V → ℕ) (G : KeeperGhosts K) (now : Instant) (Came : Option (List ℕ) → End → Status → List Exchange → Type 0)
+    (input : Stream) (password : List ℕ) (script : Option (List ℕ)) (has : HasPassword input password script) (vault : V) (keeper : K) (ended : Ended V K) where
+  pub was_served : (opened old new : Mounted V K) (moment : Instant) (es : List Exchange) (end : End) (own : Status) → old ≡ opened → moment ≡ now → IsOwn own → Begun ShowsFiles trace faults G password vault keeper opened.mount → IsReady trace faults G new.mount
+      → Ran (mounted_hosting trace faults G) moment old es new → Came script end own es
+      → (closing : Result Unit SyncError) × (ended.status ≡ first_of (session_status new.mount.core.violated end closing) own) × Closing ShowsFiles trace faults G new.mount closing ended.vault ended.keeper
+      → WasServed trace faults G now Came input vault keeper ended
+  was_served opened old new moment es end own same at mild begun ready ran came (closing, status, closed) =
+      let M = mounted_hosting trace faults G in
+      let went = subst (λ z. Ran M now z es new) same (subst (λ z. Ran M z old es new) at ran) in
+      let w = whole (λ (m : Mounted V K). m.mount) ShowsFiles trace faults G now password vault ended.vault keeper ended.keeper opened new es closing new.mount.core.violated begun ready went closed refl in (
+        password,
+        script,
+        has,
+        record {
+          es = es;
+          end = end;
+          own = own;
+          closing = closing;
+          mild = mild;
+          came = came;
+          session = subst (λ (b : Bool). IsSessionRun ShowsFiles now password (outside_of trace faults G vault keeper) (outside_of trace faults G ended.vault ended.keeper) b closing es) w.0.violation w.0;
+          mounted = w.1;
+          status = subst (λ (b : Bool). ended.status ≡ first_of (session_status b end closing) own) w.0.violation status;
+        },
+      )
+
+-- and so it was a session
+pub served : {V : Type 0} {K : Type 0} (trace : V → Option (List Call)) (faults : V → ℕ) (G : KeeperGhosts K) (now : Instant) (Came : Option (List ℕ) → End → Status → List Exchange → Type 0)
+    (input output : Stream) (vault : V) (keeper : K) (ended : Ended V K) → WasServed trace faults G now Came input vault keeper ended → Session trace faults G now Came input output vault keeper ended
+served trace faults G now Came input output vault keeper ended w = inr (w.0, w.1, w.2, inr w.3)
