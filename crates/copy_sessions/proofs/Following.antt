@@ -13,8 +13,9 @@ use Rattle.answers.specs.Summaries.{is_other}
 use Rattle.copy_rules.specs.declared.asker.Stopped.{Stopped}
 use Rattle.copy_rules.specs.Questions.{Question, Answered, Followed}
 use Rattle.copy_rules.proofs.Copying.{done_merges, import_same}
+use Rattle.copy_rules.proofs.Exported.{export_same, export_part}
 use Rattle.copy_sessions.specs.Fitting.{WentAs}
-use Rattle.copy_sessions.specs.Laws.{CopyFollows, ImportLeaves}
+use Rattle.copy_sessions.specs.Laws.{CopyFollows, ExportLeaves, ExportLeavesPart, ImportLeaves}
 
 followed_last : (now : Instant) (t mid last : Tree) (qs : List Question) (q : Question) → Followed t now qs mid → Answered mid now q.command q.outcome last → Followed t now (qs ++ q ∷ []) last
 followed_last now t mid last [] q h a = (last, (subst (λ z. Answered z now q.command q.outcome last) h a, refl))
@@ -58,3 +59,9 @@ leaves folder q t totals now first qs es trees is f s =
       merged = done_merges folder q t qs totals now first (latest first trees) is h;
       same = import_same folder q t qs totals now first (latest first trees) is h;
     }
+
+pub exported : ExportLeaves
+exported before after q totals now first qs es trees is well f s = export_same before after q qs totals now first (latest first trees) is well (follows now first qs es trees f s)
+
+pub part_exported : ExportLeavesPart
+part_exported before after q e now first qs es trees is well f s = export_part before after q qs e now first (latest first trees) is well (follows now first qs es trees f s)

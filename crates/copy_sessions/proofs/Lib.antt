@@ -1,3 +1,4 @@
 pub mod Following
 pub mod Asked
 pub mod Imported
+pub mod Exported

@@ -15,9 +15,10 @@ use Rattle.copy_rules.specs.declared.copied.Totals.{Totals}
 use Rattle.copy_rules.specs.declared.copied.CopyFail.{CopyFail}
 use Rattle.copy_rules.specs.declared.copied.CopyFail.TheVariants as fail
 use Rattle.copy_rules.specs.Ends.{IsImport, HostCause}
+use Rattle.copy_rules.specs.Exporting.{IsExport}
 use Rattle.copy_rules.specs.Questions.{Question}
 use Rattle.copy_sessions.specs.declared.way.Way.{Way}
-use Rattle.copy_sessions.specs.declared.way.Way.TheVariants.{In}
+use Rattle.copy_sessions.specs.declared.way.Way.TheVariants.{In, Out}
 use Rattle.copy_sessions.specs.declared.text.TheConstants.{LONG_TEXT}
 use Rattle.copy_sessions.specs.Fitting.{Fits, kept_after}
 use Rattle.copy_sessions.specs.Statuses.{copy_status}
@@ -48,3 +49,18 @@ pub record IsImportSession (folder : Option HostTree) (faults risen : ℕ) (targ
 -- whatever follows the password line
 abbrev pub ComesImport : Option HostTree → ℕ → ℕ → HostPath → Stream → Stream → Option (List ℕ) → End → Status → List Exchange → Type 0
 ComesImport folder faults risen target input output script end own es = IsImportSession folder faults risen target input output end own es
+
+-- The exchanges are the questions of an export of what stands below this path into a folder that was so before and is so after; what it ended with was told, and of the
+-- input no more than the password line was used.
+pub record IsExportSession (before after : Option HostTree) (faults risen : ℕ) (source : HostPath) (input output : Stream) (end : End) (own : Status) (es : List Exchange) : Type 0 where
+  pub qs : List Question
+  pub result : Result Totals CopyFail
+  pub fits : Fits qs es
+  pub is : IsExport before after source qs result
+  pub host : HostCause faults risen result
+  pub told : IsCopyTold Out result (kept_after None es) output end own
+  pub unfailed : IsUnfailed input
+
+-- whatever follows the password line
+abbrev pub ComesExport : Option HostTree → Option HostTree → ℕ → ℕ → HostPath → Stream → Stream → Option (List ℕ) → End → Status → List Exchange → Type 0
+ComesExport before after faults risen source input output script end own es = IsExportSession before after faults risen source input output end own es

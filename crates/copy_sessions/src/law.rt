@@ -1,5 +1,5 @@
 // What the session of a copy leaves.
-ghost use Rattle.copy_sessions.specs.Laws.{CopyFollows, ImportLeaves};
+ghost use Rattle.copy_sessions.specs.Laws.{CopyFollows, ExportLeaves, ExportLeavesPart, ImportLeaves};
 
 /// The trees of a copy's session are those that its questions lead to by the steps of what was answered: so after a
 /// failure too the last tree is that after the commands that were done.
@@ -11,4 +11,15 @@ pub fn copy_follows()
 /// else has changed.
 pub fn import_leaves()
     ensures { ImportLeaves }
+{}
+
+/// After an export that is Ok the folder has what stands below the source, and the last tree of the session is the first.
+pub fn export_leaves()
+    ensures { ExportLeaves }
+{}
+
+/// After an export that fails the folder has a part of what stands below the source, and the last tree of the session is
+/// the first.
+pub fn export_leaves_part()
+    ensures { ExportLeavesPart }
 {}
