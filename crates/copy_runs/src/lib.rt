@@ -3,7 +3,9 @@
 #![tactic(auto)]
 
 mod asker;
+mod export;
 mod import;
 
 pub use asker::MountAsker;
+pub use export::run_export;
 pub use import::run_import;
