@@ -1,5 +1,5 @@
 -- Which words are of which form.
-use Rattle.std.proofs.Common.{◌≡◌, ℕ, Bool, true, false, cond, codes, ◌&&◌, List, [], ◌∷◌, sym, ap, ◌∙◌, subst}
+use Rattle.std.proofs.Common.{◌≡◌, ℕ, Bool, true, false, cond, codes, ◌&&◌, List, [], ◌∷◌, refl, sym, ap, ◌∙◌, subst}
 use Rattle.std.specs.Prelude.{option_map, is_some}
 use Rattle.std.specs.Str.{bytes_eq}
 use Rattle.std.specs.declared.option.Option.{Option}
@@ -8,61 +8,115 @@ use Rattle.shell_words.specs.declared.create_options.CreateOptions.{CreateOption
 use Rattle.shell_words.specs.CreateOptions.{options_of}
 use Rattle.script_text.specs.Grammar.{verb_of}
 use Rattle.shell_words.specs.declared.form.Form.{Form}
-use Rattle.shell_words.specs.declared.form.Form.TheVariants.{Trial, TrialGenerate, Create, Info, Passwd, Shell, Generate, Command}
-use Rattle.shell_words.specs.Forms.{count_of, single_form, plain_form, other_form, form_of, is_create}
+use Rattle.shell_words.specs.declared.form.Form.TheVariants.{Trial, TrialGenerate, Create, Info, Passwd, Shell, Generate, Command, Import, Export}
+use Rattle.shell_words.specs.Forms.{count_of, single_form, plain_form, other_form, copy_word, copy_path, copied, copy_or_other, form_of, is_create}
 
 -- a form other than that of `create`
 abbrev pub IsPlain : Form → Type 0
 IsPlain (Create options) = ⊥
 IsPlain _ = Unit {0}
 
--- what is found is of another form
-abbrev ArePlain : Option Form → Type 0
-ArePlain None = Unit {0}
-ArePlain (Some form) = IsPlain form
+-- a copy
+abbrev pub IsCopy : Form → Type 0
+IsCopy Import = Unit {0}
+IsCopy Export = Unit {0}
+IsCopy _ = ⊥
 
-either : (b : Bool) (one other : Option Form) → ArePlain one → ArePlain other → ArePlain (cond b one other)
-either true one other p q = p
-either false one other p q = q
+-- neither
+abbrev IsOther : Form → Type 0
+IsOther (Create options) = ⊥
+IsOther Import = ⊥
+IsOther Export = ⊥
+IsOther _ = Unit {0}
 
-counted : (make : ℕ → Form) (count : Option ℕ) → ((n : ℕ) → IsPlain (make n)) → ArePlain (option_map make count)
+other_plain : (form : Form) → IsOther form → IsPlain form
+other_plain (Create options) o = o
+other_plain form o = tt
+
+copy_plain : (form : Form) → IsCopy form → IsPlain form
+copy_plain (Create options) c = c
+copy_plain form c = tt
+
+not_both : (form : Form) → IsOther form → IsCopy form → ⊥
+not_both Import o c = o
+not_both Export o c = o
+not_both form o c = c
+
+-- what is found is so
+abbrev IsIn : (Form → Type 0) → Option Form → Type 0
+IsIn P None = Unit {0}
+IsIn P (Some form) = P form
+
+either : (P : Form → Type 0) (b : Bool) (one other : Option Form) → IsIn P one → IsIn P other → IsIn P (cond b one other)
+either P true one other p q = p
+either P false one other p q = q
+
+counted : (make : ℕ → Form) (count : Option ℕ) → ((n : ℕ) → IsOther (make n)) → IsIn IsOther (option_map make count)
 counted make None p = tt
 counted make (Some n) p = p n
 
-single_plain : (word : List ℕ) → ArePlain (single_form word)
+single_other : (word : List ℕ) → IsIn IsOther (single_form word)
 unfolding single_form
-single_plain word =
-    either (bytes_eq word (codes "trial")) (Some Trial) _ tt
-    (either (bytes_eq word (codes "info")) (Some Info) _ tt
-    (either (bytes_eq word (codes "passwd")) (Some Passwd) _ tt
-    (either (bytes_eq word (codes "shell")) (Some Shell) None tt tt)))
+single_other word =
+    either IsOther (bytes_eq word (codes "trial")) (Some Trial) _ tt
+    (either IsOther (bytes_eq word (codes "info")) (Some Info) _ tt
+    (either IsOther (bytes_eq word (codes "passwd")) (Some Passwd) _ tt
+    (either IsOther (bytes_eq word (codes "shell")) (Some Shell) None tt tt)))
 
-plain_plain : (words : List (List ℕ)) → ArePlain (plain_form words)
+plain_other : (words : List (List ℕ)) → IsIn IsOther (plain_form words)
 unfolding plain_form
-plain_plain [] = tt
-plain_plain (first ∷ []) = single_plain first
-plain_plain (first ∷ second ∷ []) = either (bytes_eq first (codes "generate")) (option_map Generate (count_of second)) None (counted Generate (count_of second) (λ n. tt)) tt
-plain_plain (first ∷ second ∷ third ∷ []) =
-    either (bytes_eq first (codes "trial") && bytes_eq second (codes "generate")) (option_map TrialGenerate (count_of third)) None (counted TrialGenerate (count_of third) (λ n. tt)) tt
-plain_plain (first ∷ second ∷ third ∷ fourth ∷ more) = tt
+plain_other [] = tt
+plain_other (first ∷ []) = single_other first
+plain_other (first ∷ second ∷ []) = either IsOther (bytes_eq first (codes "generate")) (option_map Generate (count_of second)) None (counted Generate (count_of second) (λ n. tt)) tt
+plain_other (first ∷ second ∷ third ∷ []) =
+    either IsOther (bytes_eq first (codes "trial") && bytes_eq second (codes "generate")) (option_map TrialGenerate (count_of third)) None (counted TrialGenerate (count_of third) (λ n. tt)) tt
+plain_other (first ∷ second ∷ third ∷ fourth ∷ more) = tt
 
-other_plain : (first : List ℕ) (words : List (List ℕ)) → ArePlain (other_form first words)
-other_plain first words = either (is_some (verb_of first)) (Some Command) (plain_form words) tt (plain_plain words)
+others : (first : List ℕ) (words : List (List ℕ)) → IsIn IsOther (other_form first words)
+others first words = either IsOther (is_some (verb_of first)) (Some Command) (plain_form words) tt (plain_other words)
 
-by_first : (b : Bool) (options : Option CreateOptions) (other : Option Form) (form : Form) → b ≡ true → cond b (option_map Create options) other ≡ Some form → IsPlain form → ⊥
-by_first true None other form t e p = absurd (cc)
-by_first true (Some options) other form t e p = subst ArePlain (sym e) p
-by_first false options other form t e p = absurd (cc)
+copies : (b c : Bool) → IsIn IsCopy (cond b (Some Import) (cond c (Some Export) None))
+copies true c = tt
+copies false true = tt
+copies false false = tt
 
--- words that begin with `create` are of no other form
-pub create_is_create : (words : List (List ℕ)) (form : Form) → is_create words ≡ true → form_of words ≡ Some form → IsPlain form → ⊥
-unfolding form_of
-create_is_create [] form t e p = absurd (cc)
-create_is_create (first ∷ words) form t e p = by_first (bytes_eq first (codes "create")) (options_of words) (other_form first (first ∷ words)) form t e p
+in_plain : (asked : Option Form) → IsIn IsOther asked → IsIn IsPlain asked
+in_plain None o = tt
+in_plain (Some form) o = other_plain form o
+
+by_copy : (copy : Option Form) (first : List ℕ) (words : List (List ℕ)) → IsIn IsCopy copy → IsIn IsPlain (copy_or_other copy first words)
+by_copy None first words c = in_plain (other_form first words) (others first words)
+by_copy (Some copy) first words c = either IsPlain (is_some (copy_path words)) (Some copy) None (copy_plain copy c) tt
+
+-- words that don't begin with `create`
+rest_plain : (first : List ℕ) (words : List (List ℕ)) → IsIn IsPlain (copy_or_other (copy_word first) first words)
+rest_plain first words = by_copy (copy_word first) first words (copies (bytes_eq first (codes "import")) (bytes_eq first (codes "export")))
 
 -- other words aren't of the form of `create`
 pub other_is_other : (words : List (List ℕ)) (options : CreateOptions) → is_create words ≡ false → form_of words ≡ Some (Create options) → ⊥
 unfolding form_of
 other_is_other [] options t e = absurd (cc)
 other_is_other (first ∷ words) options t e =
-    subst ArePlain (ap (λ (b : Bool). cond b (option_map Create (options_of words)) (other_form first (first ∷ words))) (sym t) ∙ e) (other_plain first (first ∷ words))
+    subst (IsIn IsPlain) (ap (λ (b : Bool). cond b (option_map Create (options_of words)) (copy_or_other (copy_word first) first (first ∷ words))) (sym t) ∙ e) (rest_plain first (first ∷ words))
+
+-- ---- copies
+
+with_path : (copy form : Form) (path : Option (List (List ℕ))) → cond (is_some path) (Some copy) None ≡ Some form → (p : List (List ℕ)) × (path ≡ Some p)
+with_path copy form None e = absurd (cc)
+with_path copy form (Some p) e = (p, refl)
+
+of_copy : (copy : Option Form) (first : List ℕ) (words : List (List ℕ)) (form : Form) → copy_or_other copy first words ≡ Some form → IsCopy form → (p : List (List ℕ)) × (copy_path words ≡ Some p)
+of_copy None first words form e c = absurd (not_both form (subst (IsIn IsOther) e (others first words)) c)
+of_copy (Some copy) first words form e c = with_path copy form (copy_path words) e
+
+past_create : (b : Bool) (options : Option CreateOptions) (copy : Option Form) (first : List ℕ) (words : List (List ℕ)) (form : Form)
+    → cond b (option_map Create options) (copy_or_other copy first words) ≡ Some form → IsCopy form → (p : List (List ℕ)) × (copy_path words ≡ Some p)
+past_create true None copy first words form e c = absurd (cc)
+past_create true (Some options) copy first words form e c = absurd (subst (IsIn IsCopy) (sym e) c)
+past_create false options copy first words form e c = of_copy copy first words form e c
+
+-- a copy has its path
+pub copy_has_path : (words : List (List ℕ)) (form : Form) → form_of words ≡ Some form → IsCopy form → (p : List (List ℕ)) × (copy_path words ≡ Some p)
+unfolding form_of
+copy_has_path [] form e c = absurd (cc)
+copy_has_path (first ∷ words) form e c = past_create (bytes_eq first (codes "create")) (options_of words) (copy_word first) first (first ∷ words) form e c

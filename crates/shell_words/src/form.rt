@@ -21,4 +21,8 @@ pub enum Form {
     Generate(u64),
     /// A session of the one line that the words are.
     Command,
+    /// A folder of the host, copied into the file system.
+    Import,
+    /// A directory, copied into a folder of the host.
+    Export,
 }

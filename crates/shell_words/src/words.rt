@@ -2,8 +2,9 @@
 ghost use Rattle.std.specs.Prelude.{◌≡◌, ◌≤◌, true, is_some, map, IfSome, IfOk, OnErr};
 ghost use Rattle.std.specs.String.{string_bytes};
 ghost use Rattle.script_text.specs.Grammar.{verb_of};
-ghost use Rattle.shell_words.specs.Forms.{count_of, single_form, plain_form, other_form, form_of, is_create, IsModest};
+ghost use Rattle.shell_words.specs.Forms.{count_of, single_form, plain_form, copied, other_form, form_of, takes_memory, IsModest};
 
+use crate::copies::{copy_path, copy_word};
 use crate::create_options::parse_create_options;
 use crate::form::Form;
 use block_id::Memory;
@@ -87,17 +88,21 @@ fn read_single_word(word: &str) -> Option<Form>
 }
 
 #[tactic(auto, unfolding(crate::specs::Forms::form_of))]
-/// What the words ask for, or None where they are of no known form. Memory comes only where the first is `create`.
+/// What the words ask for, or None where they are of no known form. Memory comes only where the first is `create` or
+/// asks for a copy.
 pub fn read_form(alloc: Global, words: &[String]) -> Result<Option<Form>, Memory>
     ensures value { IfOk result (λ form. form ≡ form_of (map string_bytes words.now)) }
     ensures most { IfOk result (λ form. IfSome form (λ form. IsModest form)) }
-    ensures memory { OnErr result (is_create (map string_bytes words.now) ≡ true) }
+    ensures memory { OnErr result (takes_memory (map string_bytes words.now) ≡ true) }
 {
     let [first, options @ ..] = words else {
         return Ok(None);
     };
     if first.as_str() != "create" {
-        return Ok(read_other_form(first.as_str(), words));
+        return match copy_word(first.as_str()) {
+            Some(copy) => read_copy(alloc, copy, words),
+            None => Ok(read_other_form(first.as_str(), words)),
+        };
     }
     match parse_create_options(alloc, options)? {
         Some(options) => Ok(Some(Form::Create(options))),
@@ -105,7 +110,17 @@ pub fn read_form(alloc: Global, words: &[String]) -> Result<Option<Form>, Memory
     }
 }
 
-/// What the words ask for, of which the first isn't `create`.
+/// A copy, where the words say its path.
+fn read_copy(alloc: Global, copy: Form, words: &[String]) -> Result<Option<Form>, Memory>
+    ensures { IfOk result (λ form. form ≡ copied copy (map string_bytes words.now)) }
+{
+    match copy_path(alloc, words)? {
+        Some(_) => Ok(Some(copy)),
+        None => Ok(None),
+    }
+}
+
+/// What the words ask for, of which the first is neither `create` nor asks for a copy.
 fn read_other_form(first: &str, words: &[String]) -> Option<Form>
     ensures value { result ≡ other_form first.now (map string_bytes words.now) }
     ensures most { IfSome result (λ form. IsModest form) }
