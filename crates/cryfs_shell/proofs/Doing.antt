@@ -9,25 +9,29 @@ use Rattle.held_blocks.specs.Standing.{records}
 use Rattle.line_io.specs.Streams.{Stream}
 use Rattle.mount_tower.specs.Drawing.{drawn}
 use Rattle.mount_core.specs.Standing.{IsKeptMarked}
+use Rattle.outside.specs.Causes.{RoseBy}
 use Rattle.outside.specs.Trace.{Call}
 use Rattle.outside.specs.declared.keeper.Keeper.{Ghosts as KeeperGhosts}
 use Rattle.session_runs.specs.Openings.{AreUncalled}
 use Rattle.run_status.specs.declared.ended.Ended.{Ended}
 use Rattle.run_status.specs.declared.status.Status.{Status}
-use Rattle.run_status.specs.declared.status.Status.TheVariants.{Done, Usage, LongPassword, Violation}
+use Rattle.run_status.specs.declared.status.Status.TheVariants.{Done, Usage, LongPassword, Violation, HostFault}
 use Rattle.session_lines.specs.declared.end.End.{End}
 use Rattle.session_runs.specs.Runs.{outside_of}
 use Rattle.shell_sessions.specs.Sessions.{ComesShell, ComesGenerated, ComesCommand}
 use Rattle.shell_words.specs.declared.form.Form.{Form}
-use Rattle.shell_words.specs.declared.form.Form.TheVariants.{Trial, TrialGenerate, Create, Info, Passwd, Shell, Generate, Command}
+use Rattle.shell_words.specs.declared.form.Form.TheVariants.{Trial, TrialGenerate, Create, Info, Passwd, Shell, Generate, Command, Import, Export}
 use Rattle.shell_words.specs.Forms.{joined}
 use Rattle.shell_words.proofs.FormsOf.{IsPlain}
+use Rattle.copy_sessions.proofs.Imported.{told_host as copy_host}
 use Rattle.cryfs_shell.specs.Clauses.{IsRefusedRun, NoFalseAlarm, KeepsTree, FaultsHappened, IsEmptied}
+use Rattle.cryfs_shell.specs.Copies.{Imports, Exports}
 use Rattle.cryfs_shell.specs.Doing.{Does}
+use Rattle.cryfs_shell.specs.Hosts.{HostSeen}
 use Rattle.cryfs_shell.specs.Kinds.{is_session, opens}
 use Rattle.cryfs_shell.proofs.Statuses.{EndCause}
-use Rattle.cryfs_shell.proofs.Sessions.{session_faults, session_refusal, session_alarm, session_keeps, session_emptied, session_uncalled, session_usage}
-use Rattle.cryfs_shell.proofs.Setups.{created_faults, created_uncalled, created_usage, created_alarm, told_faults, told_refusal, told_alarm, told_keeps, told_uncalled, told_usage, changed_faults, changed_refusal, changed_alarm, changed_keeps, changed_uncalled, changed_usage}
+use Rattle.cryfs_shell.proofs.Sessions.{session_faults, session_refusal, session_alarm, session_keeps, session_emptied, session_uncalled, session_usage, session_host}
+use Rattle.cryfs_shell.proofs.Setups.{created_faults, created_uncalled, created_usage, created_alarm, created_host, told_faults, told_refusal, told_alarm, told_keeps, told_uncalled, told_usage, told_host, changed_faults, changed_refusal, changed_alarm, changed_keeps, changed_uncalled, changed_usage, changed_host}
 use Rattle.cryfs_shell.proofs.TrialEnds.{ends_cause, reported_cause, tried_end, generated_end, trial_is_no, trial_faults}
 
 -- the form that was asked for is one
@@ -37,22 +41,10 @@ the_form asked form other e f = some_is form other (sym e ∙ f)
     some_is : (form other : Form) → ◌≡◌ {A = Option Form} (Some form) (Some other) → form ≡ other
     some_is form other h = cc
 
-pub true_is_false : true ≡ false → ⊥
-true_is_false e = absurd (cc)
+host_undone : HostFault ≡ Done → ⊥
+host_undone e = cc
 
--- words that begin with `create` open no file system
-pub create_opens_none : (asked : Option Form) → ((form : Form) → asked ≡ Some form → IsPlain form → ⊥) → opens asked ≡ false
-create_opens_none None h = refl
-create_opens_none (Some Trial) h = refl
-create_opens_none (Some (TrialGenerate count)) h = refl
-create_opens_none (Some (Create options)) h = refl
-create_opens_none (Some Info) h = absurd (h Info refl tt)
-create_opens_none (Some Passwd) h = absurd (h Passwd refl tt)
-create_opens_none (Some Shell) h = absurd (h Shell refl tt)
-create_opens_none (Some (Generate count)) h = absurd (h (Generate count) refl tt)
-create_opens_none (Some Command) h = absurd (h Command refl tt)
-
-module _ {V : Type 0} {K : Type 0} (trace : V → Option (List Call)) (faults : V → ℕ) (G : KeeperGhosts K) (words : List (List ℕ)) (now : Instant) (chance left : Chance) (input output : Stream) (vault : V) (keeper : K) (ended : Ended V K) where
+module _ {V : Type 0} {K : Type 0} (trace : V → Option (List Call)) (faults : V → ℕ) (G : KeeperGhosts K) (words : List (List ℕ)) (now : Instant) (chance left : Chance) (input output : Stream) (host : HostSeen) (vault : V) (keeper : K) (ended : Ended V K) where
   shell_causes : (script : Option (List ℕ)) (end : End) (own : Status) (es : List Exchange) → ComesShell input output script end own es → EndCause end input output
   shell_causes script end own es came = ends_cause script input output es end came.0
 
@@ -62,8 +54,14 @@ module _ {V : Type 0} {K : Type 0} (trace : V → Option (List Call)) (faults : 
   command_causes : (script : Option (List ℕ)) (end : End) (own : Status) (es : List Exchange) → ComesCommand (joined words) input output script end own es → EndCause end input output
   command_causes script end own es came = reported_cause input output _ end came.0.0.2
 
+  import_causes : (script : Option (List ℕ)) (end : End) (own : Status) (es : List Exchange) → Imports words input output host script end own es → EndCause end input output
+  import_causes script end own es (path, is, same, came) = reported_cause input output _ end came.told.written
+
+  export_causes : (script : Option (List ℕ)) (end : End) (own : Status) (es : List Exchange) → Exports words input output host script end own es → EndCause end input output
+  export_causes script end own es (path, is, came) = reported_cause input output _ end came.told.written
+
   abbrev Doing : Form → Type 0
-  Doing form = Does trace faults G words now chance left input output vault keeper ended form
+  Doing form = Does trace faults G words now chance left input output host vault keeper ended form
 
   pub doing_faults : (form : Form) → Doing form → FaultsHappened input output (outside_of trace faults G vault keeper) (outside_of trace faults G ended.vault ended.keeper) ended.status
   doing_faults Trial d = trial_faults trace faults G input output vault keeper ended d.1 (tried_end now input output ended.status d.0)
@@ -74,6 +72,8 @@ module _ {V : Type 0} {K : Type 0} (trace : V → Option (List Call)) (faults : 
   doing_faults Shell d = session_faults trace faults G input output vault keeper ended now (ComesShell input output) shell_causes d
   doing_faults (Generate count) d = session_faults trace faults G input output vault keeper ended now (ComesGenerated count input output) (generated_causes count) d
   doing_faults Command d = session_faults trace faults G input output vault keeper ended now (ComesCommand (joined words) input output) command_causes d
+  doing_faults Import d = session_faults trace faults G input output vault keeper ended now (Imports words input output host) import_causes d.0
+  doing_faults Export d = session_faults trace faults G input output vault keeper ended now (Exports words input output host) export_causes d.0
 
   pub doing_refusal : (form : Form) → opens (Some form) ≡ true → Doing form → IsKeptMarked records (G.kept keeper) → IsRefusedRun G.kept output vault keeper ended
   doing_refusal Trial e d marked = absurd (cc)
@@ -84,6 +84,8 @@ module _ {V : Type 0} {K : Type 0} (trace : V → Option (List Call)) (faults : 
   doing_refusal Shell e d marked = session_refusal trace faults G input output vault keeper ended now (ComesShell input output) shell_causes d marked
   doing_refusal (Generate count) e d marked = session_refusal trace faults G input output vault keeper ended now (ComesGenerated count input output) (generated_causes count) d marked
   doing_refusal Command e d marked = session_refusal trace faults G input output vault keeper ended now (ComesCommand (joined words) input output) command_causes d marked
+  doing_refusal Import e d marked = session_refusal trace faults G input output vault keeper ended now (Imports words input output host) import_causes d.0 marked
+  doing_refusal Export e d marked = session_refusal trace faults G input output vault keeper ended now (Exports words input output host) export_causes d.0 marked
 
   pub doing_alarm : (form : Form) → Doing form → NoFalseAlarm input (outside_of trace faults G vault keeper) (outside_of trace faults G ended.vault ended.keeper) ended.status
   doing_alarm Trial d bytes c first f honest e = trial_is_no input output ended.status Violation (tried_end now input output ended.status d.0) e (λ h. h)
@@ -94,6 +96,8 @@ module _ {V : Type 0} {K : Type 0} (trace : V → Option (List Call)) (faults : 
   doing_alarm Shell d bytes c first f honest e = session_alarm trace faults G input output vault keeper ended now (ComesShell input output) shell_causes d bytes c first f honest e
   doing_alarm (Generate count) d bytes c first f honest e = session_alarm trace faults G input output vault keeper ended now (ComesGenerated count input output) (generated_causes count) d bytes c first f honest e
   doing_alarm Command d bytes c first f honest e = session_alarm trace faults G input output vault keeper ended now (ComesCommand (joined words) input output) command_causes d bytes c first f honest e
+  doing_alarm Import d bytes c first f honest e = session_alarm trace faults G input output vault keeper ended now (Imports words input output host) import_causes d.0 bytes c first f honest e
+  doing_alarm Export d bytes c first f honest e = session_alarm trace faults G input output vault keeper ended now (Exports words input output host) export_causes d.0 bytes c first f honest e
 
   pub doing_keeps : (form : Form) → opens (Some form) ≡ true → Doing form → KeepsTree input (outside_of trace faults G vault keeper) (outside_of trace faults G ended.vault ended.keeper)
   doing_keeps Trial e d bytes c first f = absurd (cc)
@@ -104,6 +108,8 @@ module _ {V : Type 0} {K : Type 0} (trace : V → Option (List Call)) (faults : 
   doing_keeps Shell e d bytes c first f = session_keeps trace faults G input output vault keeper ended now (ComesShell input output) shell_causes d bytes c first f
   doing_keeps (Generate count) e d bytes c first f = session_keeps trace faults G input output vault keeper ended now (ComesGenerated count input output) (generated_causes count) d bytes c first f
   doing_keeps Command e d bytes c first f = session_keeps trace faults G input output vault keeper ended now (ComesCommand (joined words) input output) command_causes d bytes c first f
+  doing_keeps Import e d bytes c first f = session_keeps trace faults G input output vault keeper ended now (Imports words input output host) import_causes d.0 bytes c first f
+  doing_keeps Export e d bytes c first f = session_keeps trace faults G input output vault keeper ended now (Exports words input output host) export_causes d.0 bytes c first f
 
   pub doing_emptied : (form : Form) → is_session (Some form) ≡ true → Doing form → ended.status ≡ Done → IsEmptied (outside_of trace faults G ended.vault ended.keeper)
   doing_emptied Trial s d e = absurd (cc)
@@ -114,6 +120,8 @@ module _ {V : Type 0} {K : Type 0} (trace : V → Option (List Call)) (faults : 
   doing_emptied Shell s d e = session_emptied trace faults G input output vault keeper ended now (ComesShell input output) shell_causes d e
   doing_emptied (Generate count) s d e = session_emptied trace faults G input output vault keeper ended now (ComesGenerated count input output) (generated_causes count) d e
   doing_emptied Command s d e = session_emptied trace faults G input output vault keeper ended now (ComesCommand (joined words) input output) command_causes d e
+  doing_emptied Import s d e = session_emptied trace faults G input output vault keeper ended now (Imports words input output host) import_causes d.0 e
+  doing_emptied Export s d e = session_emptied trace faults G input output vault keeper ended now (Exports words input output host) export_causes d.0 e
 
   pub doing_uncalled : (form : Form) → Doing form → ended.status ≡ LongPassword → AreUncalled vault keeper ended
   doing_uncalled Trial d e = d.1
@@ -124,6 +132,8 @@ module _ {V : Type 0} {K : Type 0} (trace : V → Option (List Call)) (faults : 
   doing_uncalled Shell d e = session_uncalled trace faults G input output vault keeper ended now (ComesShell input output) shell_causes d e
   doing_uncalled (Generate count) d e = session_uncalled trace faults G input output vault keeper ended now (ComesGenerated count input output) (generated_causes count) d e
   doing_uncalled Command d e = session_uncalled trace faults G input output vault keeper ended now (ComesCommand (joined words) input output) command_causes d e
+  doing_uncalled Import d e = session_uncalled trace faults G input output vault keeper ended now (Imports words input output host) import_causes d.0 e
+  doing_uncalled Export d e = session_uncalled trace faults G input output vault keeper ended now (Exports words input output host) export_causes d.0 e
 
   pub doing_usage : (form : Form) → Doing form → ended.status ≢ Usage
   doing_usage Trial d e = trial_is_no input output ended.status Usage (tried_end now input output ended.status d.0) e (λ h. h)
@@ -134,3 +144,21 @@ module _ {V : Type 0} {K : Type 0} (trace : V → Option (List Call)) (faults : 
   doing_usage Shell d e = session_usage trace faults G input output vault keeper ended now (ComesShell input output) shell_causes d e
   doing_usage (Generate count) d e = session_usage trace faults G input output vault keeper ended now (ComesGenerated count input output) (generated_causes count) d e
   doing_usage Command d e = session_usage trace faults G input output vault keeper ended now (ComesCommand (joined words) input output) command_causes d e
+  doing_usage Import d e = session_usage trace faults G input output vault keeper ended now (Imports words input output host) import_causes d.0 e
+  doing_usage Export d e = session_usage trace faults G input output vault keeper ended now (Exports words input output host) export_causes d.0 e
+
+  abbrev Rose : Type 0
+  Rose = RoseBy 1 host.faults host.risen
+
+  -- a fault of the host folder is told only by a copy, and only where there was one
+  pub doing_host : (form : Form) → Doing form → ended.status ≡ HostFault → Rose
+  doing_host Trial d e = absurd (trial_is_no input output ended.status HostFault (tried_end now input output ended.status d.0) e (λ h. h))
+  doing_host (TrialGenerate count) d e = absurd (trial_is_no input output ended.status HostFault (generated_end now count input output ended.status d.0) e (λ h. h))
+  doing_host (Create options) d e = absurd (created_host trace faults G input output vault keeper ended d.1 options.params options.block_size (drawn chance).0 d.0 e)
+  doing_host Info d e = absurd (told_host trace faults G input output vault keeper ended d.1 d.0 e)
+  doing_host Passwd d e = absurd (changed_host trace faults G input output vault keeper ended d.1 chance left d.0 e)
+  doing_host Shell d e = session_host trace faults G input output vault keeper ended now (ComesShell input output) shell_causes Rose (λ script end own es came h. absurd (host_undone (sym h ∙ came.1))) d e
+  doing_host (Generate count) d e = session_host trace faults G input output vault keeper ended now (ComesGenerated count input output) (generated_causes count) Rose (λ script end own es came h. absurd (host_undone (sym h ∙ came.1))) d e
+  doing_host Command d e = session_host trace faults G input output vault keeper ended now (ComesCommand (joined words) input output) command_causes Rose (λ script end own es came h. absurd (host_undone (sym h ∙ came.1))) d e
+  doing_host Import d e = session_host trace faults G input output vault keeper ended now (Imports words input output host) import_causes Rose (λ script end own es came h. copy_host _ came.3.result _ output end own host.faults host.risen came.3.told h came.3.host) d.0 e
+  doing_host Export d e = session_host trace faults G input output vault keeper ended now (Exports words input output host) export_causes Rose (λ script end own es came h. copy_host _ came.2.result _ output end own host.faults host.risen came.2.told h came.2.host) d.0 e

@@ -18,11 +18,12 @@ use Rattle.session_lines.specs.declared.end.End.{End}
 use Rattle.session_runs.specs.Runs.{Outside, outside_of, IsQuietRun}
 use Rattle.shell_sessions.specs.Sessions.{Session}
 use Rattle.shell_words.specs.declared.form.Form.{Form}
-use Rattle.shell_words.specs.declared.form.Form.TheVariants.{Trial, TrialGenerate, Create, Info, Passwd, Shell, Generate, Command}
+use Rattle.shell_words.specs.declared.form.Form.TheVariants.{Trial, TrialGenerate, Create, Info, Passwd, Shell, Generate, Command, Import, Export}
 use Rattle.shell_words.specs.Forms.{form_of, is_create}
 use Rattle.shell_words.proofs.FormsOf.{IsPlain, other_is_other}
 use Rattle.tree_commands.specs.Showing.{ShowsFiles}
 use Rattle.cryfs_shell.specs.Doing.{Does}
+use Rattle.cryfs_shell.specs.Hosts.{HostSeen}
 use Rattle.cryfs_shell.specs.History.{Comes, IsRunOf}
 
 -- nothing happened outside
@@ -42,7 +43,7 @@ module _ {V : Type 0} {K : Type 0} (trace : V → Option (List Call)) (faults : 
   quietly : (password : List ℕ) → IsQuietRun ShowsFiles password Before After → History
   quietly password q = (quiet password Before After, record { is_run = q; came = tt; begins = refl; ends = refl })
 
-  idly : AreUncalled vault keeper ended → History
+  pub idly : AreUncalled vault keeper ended → History
   idly u =
       quietly [] (subst (λ (v : V). IsQuietRun ShowsFiles [] Before (outside_of trace faults G v ended.keeper)) (sym u.same_vault)
       (subst (λ (k : K). IsQuietRun ShowsFiles [] Before (outside_of trace faults G vault k)) (sym u.same_keeper) (still [] Before)))
@@ -73,15 +74,19 @@ other_form words Passwd e other = tt
 other_form words Shell e other = tt
 other_form words (Generate count) e other = tt
 other_form words Command e other = tt
+other_form words Import e other = tt
+other_form words Export e other = tt
 
-pub doing_history : {V : Type 0} {K : Type 0} (trace : V → Option (List Call)) (faults : V → ℕ) (G : KeeperGhosts K) (words : List (List ℕ)) (now : Instant) (chance left : Chance) (input output : Stream) (vault : V) (keeper : K) (ended : Ended V K) (form : Form)
-    → IsPlain form → Does trace faults G words now chance left input output vault keeper ended form
-    → (run : Run) × IsRunOf (Comes words input output form) (outside_of trace faults G vault keeper) (outside_of trace faults G ended.vault ended.keeper) run
-doing_history trace faults G words now chance left input output vault keeper ended Trial p d = idly trace faults G (Comes words input output Trial) vault keeper ended d.1
-doing_history trace faults G words now chance left input output vault keeper ended (TrialGenerate count) p d = idly trace faults G (Comes words input output (TrialGenerate count)) vault keeper ended d.2
-doing_history trace faults G words now chance left input output vault keeper ended (Create options) p d = absurd p
-doing_history trace faults G words now chance left input output vault keeper ended Info p d = told_history trace faults G (Comes words input output Info) vault keeper ended input output d.0
-doing_history trace faults G words now chance left input output vault keeper ended Passwd p d = changed_history trace faults G (Comes words input output Passwd) vault keeper ended chance left input output d.0
-doing_history trace faults G words now chance left input output vault keeper ended Shell p d = session_history trace faults G (Comes words input output Shell) vault keeper ended now input output d
-doing_history trace faults G words now chance left input output vault keeper ended (Generate count) p d = session_history trace faults G (Comes words input output (Generate count)) vault keeper ended now input output d
-doing_history trace faults G words now chance left input output vault keeper ended Command p d = session_history trace faults G (Comes words input output Command) vault keeper ended now input output d
+pub doing_history : {V : Type 0} {K : Type 0} (trace : V → Option (List Call)) (faults : V → ℕ) (G : KeeperGhosts K) (words : List (List ℕ)) (now : Instant) (chance left : Chance) (input output : Stream) (host : HostSeen) (vault : V) (keeper : K) (ended : Ended V K) (form : Form)
+    → IsPlain form → Does trace faults G words now chance left input output host vault keeper ended form
+    → (run : Run) × IsRunOf (Comes words input output host form) (outside_of trace faults G vault keeper) (outside_of trace faults G ended.vault ended.keeper) run
+doing_history trace faults G words now chance left input output host vault keeper ended Trial p d = idly trace faults G (Comes words input output host Trial) vault keeper ended d.1
+doing_history trace faults G words now chance left input output host vault keeper ended (TrialGenerate count) p d = idly trace faults G (Comes words input output host (TrialGenerate count)) vault keeper ended d.2
+doing_history trace faults G words now chance left input output host vault keeper ended (Create options) p d = absurd p
+doing_history trace faults G words now chance left input output host vault keeper ended Info p d = told_history trace faults G (Comes words input output host Info) vault keeper ended input output d.0
+doing_history trace faults G words now chance left input output host vault keeper ended Passwd p d = changed_history trace faults G (Comes words input output host Passwd) vault keeper ended chance left input output d.0
+doing_history trace faults G words now chance left input output host vault keeper ended Shell p d = session_history trace faults G (Comes words input output host Shell) vault keeper ended now input output d
+doing_history trace faults G words now chance left input output host vault keeper ended (Generate count) p d = session_history trace faults G (Comes words input output host (Generate count)) vault keeper ended now input output d
+doing_history trace faults G words now chance left input output host vault keeper ended Command p d = session_history trace faults G (Comes words input output host Command) vault keeper ended now input output d
+doing_history trace faults G words now chance left input output host vault keeper ended Import p d = session_history trace faults G (Comes words input output host Import) vault keeper ended now input output d.0
+doing_history trace faults G words now chance left input output host vault keeper ended Export p d = session_history trace faults G (Comes words input output host Export) vault keeper ended now input output d.0

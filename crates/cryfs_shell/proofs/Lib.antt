@@ -1,4 +1,5 @@
 pub mod Statuses
+pub mod Copies
 pub mod Sessions
 pub mod Setups
 pub mod TrialEnds

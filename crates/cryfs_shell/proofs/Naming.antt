@@ -38,10 +38,12 @@ use Rattle.session_saver.specs.declared.saver.SyncError.{SyncError}
 use Rattle.session_saver.specs.declared.saver.SyncError.TheVariants as sync_error
 use Rattle.shell_sessions.specs.Sessions.{Session, ComesShell, ComesGenerated, ComesCommand}
 use Rattle.shell_words.specs.declared.form.Form.{Form}
-use Rattle.shell_words.specs.declared.form.Form.TheVariants.{Trial, TrialGenerate, Create, Info, Passwd, Shell, Generate, Command}
+use Rattle.shell_words.specs.declared.form.Form.TheVariants.{Trial, TrialGenerate, Create, Info, Passwd, Shell, Generate, Command, Import, Export}
 use Rattle.shell_words.specs.Forms.{joined}
 use Rattle.cryfs_shell.specs.Clauses.{FaultsNamed, MayHide, StreamFaultsNamed}
+use Rattle.cryfs_shell.specs.Copies.{Imports, Exports}
 use Rattle.cryfs_shell.specs.Doing.{Does}
+use Rattle.cryfs_shell.specs.Hosts.{HostSeen}
 use Rattle.cryfs_shell.specs.Kinds.{is_session}
 use Rattle.plain_trials.specs.Runs.{Tried, GeneratedOnPlain, status_of}
 
@@ -235,9 +237,9 @@ module _ (input output : Stream) where
 
 -- ---- by its form
 
-module _ {V : Type 0} {K : Type 0} (trace : V → Option (List Call)) (faults : V → ℕ) (G : KeeperGhosts K) (words : List (List ℕ)) (now : Instant) (chance left : Chance) (input output : Stream) (vault : V) (keeper : K) (ended : Ended V K) where
+module _ {V : Type 0} {K : Type 0} (trace : V → Option (List Call)) (faults : V → ℕ) (G : KeeperGhosts K) (words : List (List ℕ)) (now : Instant) (chance left : Chance) (input output : Stream) (host : HostSeen) (vault : V) (keeper : K) (ended : Ended V K) where
   abbrev Doing : Form → Type 0
-  Doing form = Does trace faults G words now chance left input output vault keeper ended form
+  Doing form = Does trace faults G words now chance left input output host vault keeper ended form
 
   pub doing_named : (form : Form) → is_session (Some form) ≡ false → Doing form → FaultsNamed (Some form) (outside_of trace faults G vault keeper) (outside_of trace faults G ended.vault ended.keeper) ended.status
   doing_named Trial e d = idle_named trace faults G input output vault keeper ended Trial d.1
@@ -248,6 +250,8 @@ module _ {V : Type 0} {K : Type 0} (trace : V → Option (List Call)) (faults : 
   doing_named Shell e d = absurd (cc)
   doing_named (Generate count) e d = absurd (cc)
   doing_named Command e d = absurd (cc)
+  doing_named Import e d = absurd (cc)
+  doing_named Export e d = absurd (cc)
 
   pub doing_streams : (form : Form) → Doing form → StreamFaultsNamed input output ended.status
   doing_streams Trial d = tried_named input output now ended.status d.0
@@ -259,3 +263,7 @@ module _ {V : Type 0} {K : Type 0} (trace : V → Option (List Call)) (faults : 
   doing_streams (Generate count) d = session_streams input output trace faults G vault keeper ended now (ComesGenerated count input output) (λ script end own es came. reported_quiet input output _ end came.0.1 came.0.0.3) d
   doing_streams Command d =
       session_streams input output trace faults G vault keeper ended now (ComesCommand (joined words) input output) (λ script end own es came. reported_quiet input output _ end came.0.1 came.0.0.2) d
+  doing_streams Import d =
+      session_streams input output trace faults G vault keeper ended now (Imports words input output host) (λ script end own es came. reported_quiet input output _ end came.3.unfailed came.3.told.written) d.0
+  doing_streams Export d =
+      session_streams input output trace faults G vault keeper ended now (Exports words input output host) (λ script end own es came. reported_quiet input output _ end came.2.unfailed came.2.told.written) d.0

@@ -21,7 +21,7 @@ use Rattle.session_runs.specs.Openings.{AreUncalled, IsUnread, IsUnopened}
 use Rattle.session_runs.proofs.Unopened.{caused}
 use Rattle.run_status.specs.declared.ended.Ended.{Ended}
 use Rattle.run_status.specs.declared.status.Status.{Status}
-use Rattle.run_status.specs.declared.status.Status.TheVariants.{Done, Usage, LongPassword, Violation, DirectoryFault, StateFault, InputFault, OutputFault, Memory}
+use Rattle.run_status.specs.declared.status.Status.TheVariants.{Done, Usage, LongPassword, Violation, DirectoryFault, StateFault, InputFault, OutputFault, Memory, HostFault}
 use Rattle.session_lines.specs.declared.end.End.{End}
 use Rattle.session_runs.specs.Runs.{Outside, outside_of, OutsideStandsFor, OpensTo, OpensOnlyTo, directory_fault, state_fault}
 use Rattle.session_runs.proofs.Whole.{only_opens, unviolated}
@@ -30,7 +30,7 @@ use Rattle.run_edges.specs.Statuses.{session_status, IsOwn}
 use Rattle.run_edges.proofs.Owns.{not_own, none_before}
 use Rattle.tree_commands.specs.Showing.{ShowsFiles}
 use Rattle.cryfs_shell.specs.Clauses.{IsRefusingStatus, IsRefusedRun, IsOpenedRun, OpensOnlyRun, NoFalseAlarm, KeepsTree, FaultsHappened, IsEmptied}
-use Rattle.cryfs_shell.proofs.Statuses.{EndCause, opening_is_no, session_is_no, stops_is_refusal, session_directory, session_state, session_input, session_output, done_is_calm, done_is_closed, calm_is_no_alarm}
+use Rattle.cryfs_shell.proofs.Statuses.{EndCause, opening_is_no, session_is_no, stops_is_refusal, session_directory, session_state, session_input, session_output, done_is_calm, done_is_closed, calm_is_no_alarm, host_is_own}
 
 -- the password of a told input is its first line
 next_is_first : (bytes password : List ℕ) (script : Option (List ℕ)) → IsNextPassword (Some bytes) password script → first_line bytes ≡ password
@@ -229,3 +229,10 @@ module _ {V : Type 0} {K : Type 0} (trace : V → Option (List Call)) (faults : 
     session_usage (inl u) e = unread_is_no ended.status Usage (one_unread input ended.status u.cause).unread e (λ h. h)
     session_usage (inr (password, script, has, inl ((error, u), unfailed, unwritten))) e = opening_is_no error ended.status Usage u.status e (λ h. h)
     session_usage (inr (password, script, has, inr s)) e = session_is_no (violated s.es) s.end s.closing s.own ended.status Usage s.mild s.status e (λ h. h) (λ h. h)
+
+    -- where its own status tells a fault of the host folder for a cause only, so does its status
+    pub session_host : (Cause : Type 0) → ((script : Option (List ℕ)) (end : End) (own : Status) (es : List Exchange) → Came script end own es → own ≡ HostFault → Cause)
+        → Session trace faults G now Came input output vault keeper ended → ended.status ≡ HostFault → Cause
+    session_host Cause hosts (inl u) e = absurd (unread_is_no ended.status HostFault (one_unread input ended.status u.cause).unread e (λ h. h))
+    session_host Cause hosts (inr (password, script, has, inl ((error, u), unfailed, unwritten))) e = absurd (opening_is_no error ended.status HostFault u.status e (λ h. h))
+    session_host Cause hosts (inr (password, script, has, inr s)) e = hosts script s.end s.own s.es s.came (host_is_own (violated s.es) s.end s.closing s.own (sym s.status ∙ e))

@@ -27,14 +27,14 @@ use Rattle.session_runs.specs.Openings.{AreUncalled, HasCauses}
 use Rattle.run_edges.specs.Statuses.{opening_status, closing_status}
 use Rattle.run_status.specs.declared.ended.Ended.{Ended}
 use Rattle.run_status.specs.declared.status.Status.{Status}
-use Rattle.run_status.specs.declared.status.Status.TheVariants.{Done, Usage, LongPassword, Violation, InputFault, OutputFault}
+use Rattle.run_status.specs.declared.status.Status.TheVariants.{Done, Usage, LongPassword, Violation, InputFault, OutputFault, HostFault}
 use Rattle.scrypt_kdf.specs.Cost.{Cost}
 use Rattle.session_runs.specs.Runs.{outside_of}
 use Rattle.session_saver.specs.declared.saver.SyncError.{SyncError}
 use Rattle.session_saver.specs.declared.saver.SyncError.TheVariants as sync_error
 use Rattle.cryfs_shell.specs.Clauses.{IsRefusedRun, NoFalseAlarm, KeepsTree, FaultsHappened}
-use Rattle.cryfs_shell.proofs.Statuses.{opening_is_no}
-use Rattle.cryfs_shell.proofs.Sessions.{one_unread, two_unread, unread_is_no, unread_faults, unread_refusal, unread_keeps, opens_under, unopened_faults, unopened_refusal, unopened_alarm, unopened_keeps, grown}
+use Rattle.cryfs_shell.proofs.Statuses.{IsOfOpening, opening_is_no}
+use Rattle.cryfs_shell.proofs.Sessions.{IsUnreadStatus, one_unread, two_unread, unread_is_no, unread_faults, unread_refusal, unread_keeps, opens_under, unopened_faults, unopened_refusal, unopened_alarm, unopened_keeps, grown}
 
 -- of a run that knew its password, and opened or made a file system, or failed to make one
 abbrev IsLate : Status → Type 0
@@ -42,6 +42,7 @@ IsLate Usage = ⊥
 IsLate LongPassword = ⊥
 IsLate InputFault = ⊥
 IsLate Violation = ⊥
+IsLate HostFault = ⊥
 IsLate status = Unit {0}
 
 -- it names the output's fault only where that failed
@@ -105,15 +106,20 @@ module _ {V : Type 0} {K : Type 0} (trace : V → Option (List Call)) (faults : 
     pub created_uncalled : RanCreate trace faults G cost block_size draws input output vault keeper ended → ended.status ≡ LongPassword → AreUncalled vault keeper ended
     created_uncalled c e = created_status LongPassword (λ h. h) c e
 
+    -- neither where no password was read nor afterwards the status is this
+    created_is_no : (other : Status) → (IsUnreadStatus other → ⊥) → (IsLate other → ⊥) → RanCreate trace faults G cost block_size draws input output vault keeper ended → ended.status ≢ other
+    created_is_no other unread late (inl u) e = unread_is_no ended.status other (one_unread input ended.status u.cause).unread e unread
+    created_is_no other unread late (inr (password, after, has, unfailed, c)) e =
+        late_is_no output ended.status other (made_late (G.kept keeper) (trace vault) (trace ended.vault) (faults vault) (faults ended.vault) (G.faults keeper) (G.faults ended.keeper) output c.made ended.status c.reports c.cause) e late
+
     pub created_usage : RanCreate trace faults G cost block_size draws input output vault keeper ended → ended.status ≢ Usage
-    created_usage (inl u) e = unread_is_no ended.status Usage (one_unread input ended.status u.cause).unread e (λ h. h)
-    created_usage (inr (password, after, has, unfailed, c)) e =
-        late_is_no output ended.status Usage (made_late (G.kept keeper) (trace vault) (trace ended.vault) (faults vault) (faults ended.vault) (G.faults keeper) (G.faults ended.keeper) output c.made ended.status c.reports c.cause) e (λ h. h)
+    created_usage = created_is_no Usage (λ h. h) (λ h. h)
 
     pub created_alarm : RanCreate trace faults G cost block_size draws input output vault keeper ended → ended.status ≢ Violation
-    created_alarm (inl u) e = unread_is_no ended.status Violation (one_unread input ended.status u.cause).unread e (λ h. h)
-    created_alarm (inr (password, after, has, unfailed, c)) e =
-        late_is_no output ended.status Violation (made_late (G.kept keeper) (trace vault) (trace ended.vault) (faults vault) (faults ended.vault) (G.faults keeper) (G.faults ended.keeper) output c.made ended.status c.reports c.cause) e (λ h. h)
+    created_alarm = created_is_no Violation (λ h. h) (λ h. h)
+
+    pub created_host : RanCreate trace faults G cost block_size draws input output vault keeper ended → ended.status ≢ HostFault
+    created_host = created_is_no HostFault (λ h. h) (λ h. h)
 
   -- ---- info
 
@@ -142,10 +148,16 @@ module _ {V : Type 0} {K : Type 0} (trace : V → Option (List Call)) (faults : 
   told_uncalled (inr (password, after, has, unfailed, inl ((error, u), unwritten))) e = absurd (opening_is_no error ended.status LongPassword u.status e (λ h. h))
   told_uncalled (inr (password, after, has, unfailed, inr t)) e = absurd (late_is_no output ended.status LongPassword (printed_late output _ ended.status t.printed) e (λ h. h))
 
+  told_is_no : (other : Status) → (IsUnreadStatus other → ⊥) → (IsOfOpening other → ⊥) → (IsLate other → ⊥) → Told trace faults G input output vault keeper ended → ended.status ≢ other
+  told_is_no other unread opening late (inl u) e = unread_is_no ended.status other (one_unread input ended.status u.cause).unread e unread
+  told_is_no other unread opening late (inr (password, after, has, unfailed, inl ((error, u), unwritten))) e = opening_is_no error ended.status other u.status e opening
+  told_is_no other unread opening late (inr (password, after, has, unfailed, inr t)) e = late_is_no output ended.status other (printed_late output _ ended.status t.printed) e late
+
   pub told_usage : Told trace faults G input output vault keeper ended → ended.status ≢ Usage
-  told_usage (inl u) e = unread_is_no ended.status Usage (one_unread input ended.status u.cause).unread e (λ h. h)
-  told_usage (inr (password, after, has, unfailed, inl ((error, u), unwritten))) e = opening_is_no error ended.status Usage u.status e (λ h. h)
-  told_usage (inr (password, after, has, unfailed, inr t)) e = late_is_no output ended.status Usage (printed_late output _ ended.status t.printed) e (λ h. h)
+  told_usage = told_is_no Usage (λ h. h) (λ h. h) (λ h. h)
+
+  pub told_host : Told trace faults G input output vault keeper ended → ended.status ≢ HostFault
+  told_host = told_is_no HostFault (λ h. h) (λ h. h) (λ h. h)
 
   -- ---- passwd
 
@@ -178,7 +190,13 @@ module _ {V : Type 0} {K : Type 0} (trace : V → Option (List Call)) (faults : 
     changed_uncalled (inr (old, new, has, unfailed, inl ((error, u), unwritten, same))) e = absurd (opening_is_no error ended.status LongPassword u.status e (λ h. h))
     changed_uncalled (inr (old, new, has, unfailed, inr c)) e = absurd (late_is_no output ended.status LongPassword (changed_late old new c) e (λ h. h))
 
+    changed_is_no : (other : Status) → (IsUnreadStatus other → ⊥) → (IsOfOpening other → ⊥) → (IsLate other → ⊥) → RanPasswd trace faults G chance left input output vault keeper ended → ended.status ≢ other
+    changed_is_no other unread opening late (inl (u, same)) e = unread_is_no ended.status other (two_unread input ended.status u.cause).unread e unread
+    changed_is_no other unread opening late (inr (old, new, has, unfailed, inl ((error, u), unwritten, same))) e = opening_is_no error ended.status other u.status e opening
+    changed_is_no other unread opening late (inr (old, new, has, unfailed, inr c)) e = late_is_no output ended.status other (changed_late old new c) e late
+
     pub changed_usage : RanPasswd trace faults G chance left input output vault keeper ended → ended.status ≢ Usage
-    changed_usage (inl (u, same)) e = unread_is_no ended.status Usage (two_unread input ended.status u.cause).unread e (λ h. h)
-    changed_usage (inr (old, new, has, unfailed, inl ((error, u), unwritten, same))) e = opening_is_no error ended.status Usage u.status e (λ h. h)
-    changed_usage (inr (old, new, has, unfailed, inr c)) e = late_is_no output ended.status Usage (changed_late old new c) e (λ h. h)
+    changed_usage = changed_is_no Usage (λ h. h) (λ h. h) (λ h. h)
+
+    pub changed_host : RanPasswd trace faults G chance left input output vault keeper ended → ended.status ≢ HostFault
+    changed_host = changed_is_no HostFault (λ h. h) (λ h. h) (λ h. h)

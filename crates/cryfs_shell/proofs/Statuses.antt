@@ -11,25 +11,26 @@ use Rattle.mount_tower.specs.declared.error.OpenError.TheVariants.{Memory as NoM
 use Rattle.outside.specs.Causes.{RoseBy}
 use Rattle.run_status.specs.Statuses.{first_of}
 use Rattle.run_status.specs.declared.status.Status.{Status}
-use Rattle.run_status.specs.declared.status.Status.TheVariants.{Done, Usage, LongPassword, Violation, DirectoryFault, StateFault, InputFault, OutputFault}
+use Rattle.run_status.specs.declared.status.Status.TheVariants.{Done, Usage, LongPassword, Violation, DirectoryFault, StateFault, InputFault, OutputFault, HostFault}
 use Rattle.session_lines.specs.declared.end.End.{End}
 use Rattle.session_lines.specs.declared.end.End.TheVariants as line_end
 use Rattle.session_runs.specs.Runs.{directory_fault, state_fault}
 use Rattle.session_saver.specs.declared.saver.SyncError.{SyncError}
 use Rattle.session_saver.specs.declared.saver.SyncError.TheVariants as sync_error
 use Rattle.run_edges.specs.Statuses.{opening_status, session_status, IsOwn}
-use Rattle.run_edges.proofs.Owns.{not_own}
+use Rattle.run_edges.proofs.Owns.{not_own, is_own}
 use Rattle.cryfs_shell.specs.Clauses.{IsRefusingStatus}
 
 -- ---- a file system that wasn't opened
 
 -- of the statuses of streams it has none, and it isn't done
-abbrev IsOfOpening : Status → Type 0
+abbrev pub IsOfOpening : Status → Type 0
 IsOfOpening Done = ⊥
 IsOfOpening Usage = ⊥
 IsOfOpening LongPassword = ⊥
 IsOfOpening InputFault = ⊥
 IsOfOpening OutputFault = ⊥
+IsOfOpening HostFault = ⊥
 IsOfOpening status = Unit {0}
 
 of_opening : (error : OpenError) → IsOfOpening (opening_status error)
@@ -104,6 +105,7 @@ session_output true end closing input output e cause = absurd (cc)
 abbrev IsOfSession : Status → Type 0
 IsOfSession Usage = ⊥
 IsOfSession LongPassword = ⊥
+IsOfSession HostFault = ⊥
 IsOfSession status = Unit {0}
 
 of_session : (b : Bool) (end : End) (closing : Result Unit SyncError) → IsOfSession (session_status b end closing)
@@ -118,6 +120,10 @@ of_session false line_end.Finished (Err sync_error.FaultState) = tt
 pub session_is_no : (b : Bool) (end : End) (closing : Result Unit SyncError) (own status other : Status) → IsOwn own → status ≡ first_of (session_status b end closing) own → status ≡ other
     → (IsOwn other → ⊥) → (IsOfSession other → ⊥) → ⊥
 session_is_no b end closing own status other mild e f not h = h (subst IsOfSession (not_own (session_status b end closing) own other mild not (sym e ∙ f)) (of_session b end closing))
+
+-- a fault of the host folder is its own status
+pub host_is_own : (b : Bool) (end : End) (closing : Result Unit SyncError) (own : Status) → first_of (session_status b end closing) own ≡ HostFault → own ≡ HostFault
+host_is_own b end closing own e = is_own (session_status b end closing) own HostFault e (λ f. subst IsOfSession f (of_session b end closing))
 
 -- a session that is done was closed, and there was no violation
 pub done_is_calm : (b : Bool) (end : End) (closing : Result Unit SyncError) → session_status b end closing ≡ Done → b ≡ false

@@ -13,11 +13,12 @@ use Rattle.outside.specs.Causes.{RoseBy}
 use Rattle.passwords.specs.Passwords.{InputFailed}
 use Rattle.run_status.specs.declared.ended.Ended.{Ended}
 use Rattle.run_status.specs.declared.status.Status.{Status}
-use Rattle.run_status.specs.declared.status.Status.TheVariants.{LongPassword, Violation, DirectoryFault, StateFault, InputFault, OutputFault, Memory}
+use Rattle.run_status.specs.declared.status.Status.TheVariants.{LongPassword, Violation, DirectoryFault, StateFault, InputFault, OutputFault, Memory, HostFault}
 use Rattle.session_lines.specs.Driven.{IsUnfailed}
 use Rattle.session_runs.specs.Runs.{Outside, OutsideStandsFor, OpensTo, OpensOnlyTo, forgeries, lies}
 use Rattle.shell_words.specs.declared.form.Form.{Form}
 use Rattle.shell_words.specs.declared.form.Form.TheVariants.{Passwd}
+use Rattle.cryfs_shell.specs.Hosts.{HostSeen}
 use Rattle.tree_commands.specs.Showing.{ShowsFiles}
 
 -- what a run may say over a marked record: that it is marked, or why it wasn't read: no password was, memory was refused, or its keeper failed
@@ -77,7 +78,7 @@ MayHide (Some Passwd) DirectoryFault = Unit {0}
 MayHide (Some Passwd) StateFault = Unit {0}
 MayHide form status = ⊥
 
--- Of a run that answers no lines no fault of the directory or the record is passed over: where the status doesn't name it, that count is as it was; but the error of the change in
+-- Of a run that is no session no fault of the directory or the record is passed over: where the status doesn't name it, that count is as it was; but the error of the change in
 -- `passwd` may hide one that closing met. Behind want of memory at most one of the two counts rose.
 pub record FaultsNamed (form : Option Form) (before after : Outside) (status : Status) : Type 0 where
   pub directory_quiet : ¬ MayHide form status → status ≢ DirectoryFault → after.vault_faults ≡ before.vault_faults
@@ -93,3 +94,8 @@ pub record StreamFaultsNamed (input output : Stream) (status : Status) : Type 0 
 -- nothing waits to be written
 abbrev pub IsEmptied : Outside → Type 0
 IsEmptied after = HasEmptyList after.kept
+
+-- of the host folder no count falls, and a status that names a fault of it comes only where that count rose
+pub record HostFaultsHappened (host : HostSeen) (status : Status) : Type 0 where
+  pub grows : host.faults ≤ host.risen
+  pub host_fault : status ≡ HostFault → RoseBy 1 host.faults host.risen

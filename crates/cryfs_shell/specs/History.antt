@@ -2,6 +2,8 @@
 use Rattle.std.specs.Prelude.{◌≡◌, ℕ, List}
 use Rattle.std.specs.declared.option.Option.{Option}
 use Rattle.answers.specs.Sessions.{Exchange}
+use Rattle.cryfs_shell.specs.Copies.{Imports, Exports}
+use Rattle.cryfs_shell.specs.Hosts.{HostSeen}
 use Rattle.histories.specs.Histories.{Run, session, quiet, before_of, after_of, IsRun}
 use Rattle.line_io.specs.Streams.{Stream}
 use Rattle.run_status.specs.declared.status.Status.{Status}
@@ -9,16 +11,18 @@ use Rattle.session_lines.specs.declared.end.End.{End}
 use Rattle.session_runs.specs.Runs.{Outside}
 use Rattle.shell_sessions.specs.Sessions.{ComesShell, ComesGenerated, ComesCommand}
 use Rattle.shell_words.specs.declared.form.Form.{Form}
-use Rattle.shell_words.specs.declared.form.Form.TheVariants.{Shell, Generate, Command}
+use Rattle.shell_words.specs.declared.form.Form.TheVariants.{Shell, Generate, Command, Import, Export}
 use Rattle.shell_words.specs.Forms.{joined}
 use Rattle.tree_commands.specs.Showing.{ShowsFiles}
 
 -- how the exchanges of a form come from what follows the password line; only sessions have some
-abbrev pub Comes : List (List ℕ) → Stream → Stream → Form → Option (List ℕ) → End → Status → List Exchange → Type 0
-Comes words input output Shell = ComesShell input output
-Comes words input output (Generate count) = ComesGenerated count input output
-Comes words input output Command = ComesCommand (joined words) input output
-Comes words input output form = λ script end own es. ⊥
+abbrev pub Comes : List (List ℕ) → Stream → Stream → HostSeen → Form → Option (List ℕ) → End → Status → List Exchange → Type 0
+Comes words input output host Shell = ComesShell input output
+Comes words input output host (Generate count) = ComesGenerated count input output
+Comes words input output host Command = ComesCommand (joined words) input output
+Comes words input output host Import = Imports words input output host
+Comes words input output host Export = Exports words input output host
+Comes words input output host form = λ script end own es. ⊥
 
 -- the exchanges of a run came so
 abbrev pub HasCome : (Option (List ℕ) → End → Status → List Exchange → Type 0) → Run → Type 0

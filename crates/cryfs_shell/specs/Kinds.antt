@@ -5,18 +5,20 @@ use Rattle.std.specs.declared.option.Option.TheVariants.{None, Some}
 use Rattle.run_status.specs.declared.status.Status.{Status}
 use Rattle.run_status.specs.declared.status.Status.TheVariants.{Usage, Memory}
 use Rattle.shell_words.specs.declared.form.Form.{Form}
-use Rattle.shell_words.specs.declared.form.Form.TheVariants.{Trial, TrialGenerate, Info, Passwd, Shell, Generate, Command}
-use Rattle.shell_words.specs.Forms.{is_create}
+use Rattle.shell_words.specs.declared.form.Form.TheVariants.{Trial, TrialGenerate, Info, Passwd, Shell, Generate, Command, Import, Export}
+use Rattle.shell_words.specs.Forms.{takes_memory}
 
--- words of no form are refused; where they begin with `create`, memory may be refused while they are read
+-- words of no form are refused; where they begin with `create` or ask for a copy, memory may be refused while they are read
 abbrev pub IsRefused : List (List ℕ) → Status → Type 0
-IsRefused words status = (status ≡ Usage) ⊎ ((is_create words ≡ true) × (status ≡ Memory))
+IsRefused words status = (status ≡ Usage) ⊎ ((takes_memory words ≡ true) × (status ≡ Memory))
 
 -- a session is asked
 abbrev pub is_session : Option Form → Bool
 is_session (Some Shell) = true
 is_session (Some (Generate count)) = true
 is_session (Some Command) = true
+is_session (Some Import) = true
+is_session (Some Export) = true
 is_session _ = false
 
 -- a file system is opened under a password
@@ -26,6 +28,8 @@ opens (Some Passwd) = true
 opens (Some Shell) = true
 opens (Some (Generate count)) = true
 opens (Some Command) = true
+opens (Some Import) = true
+opens (Some Export) = true
 opens _ = false
 
 -- random bytes may be taken
@@ -35,3 +39,9 @@ draws (Some Trial) = false
 draws (Some (TrialGenerate count)) = false
 draws (Some Info) = false
 draws _ = true
+
+-- the host folder may be called
+abbrev pub copies : Option Form → Bool
+copies (Some Import) = true
+copies (Some Export) = true
+copies _ = false

@@ -1,4 +1,6 @@
 pub mod Kinds
+pub mod Hosts
+pub mod Copies
 pub mod Clauses
 pub mod Doing
 pub mod History

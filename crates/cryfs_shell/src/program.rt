@@ -17,25 +17,30 @@ ghost use Rattle.shell_sessions.specs.Sessions.{Session, ComesShell, ComesGenera
 ghost use Rattle.shell_words.specs.Forms.{form_of, is_create, joined, IsModest};
 ghost use Rattle.shell_words.specs.declared.form.Form.{Form};
 ghost use Rattle.cryfs_shell.specs.Clauses.{IsRefusedRun, NoFalseAlarm, KeepsTree, FaultsHappened, FaultsNamed, StreamFaultsNamed, IsEmptied};
+ghost use Rattle.cryfs_shell.specs.Copies.{HostSession, Imports, Exports};
 ghost use Rattle.cryfs_shell.specs.Doing.{Does};
 ghost use Rattle.cryfs_shell.specs.History.{Comes, IsRunOf};
-ghost use Rattle.cryfs_shell.specs.Kinds.{IsRefused, is_session, opens, draws};
+ghost use Rattle.cryfs_shell.specs.Hosts.{host_of};
+ghost use Rattle.cryfs_shell.specs.Kinds.{IsRefused, is_session, opens, draws, copies};
+ghost use Rattle.outside.specs.Causes.{RoseBy};
 ghost use Rattle.plain_trials.specs.Runs.{Tried, GeneratedOnPlain};
 
 use block_id::Memory;
+use copy_runs::{run_export, run_import};
 use cryfs_setup::{run_create, run_info, run_passwd};
 use fs_model::Moment;
+use host_folder::Folder;
 use outside::{Keeper, Sink, Source, Vault};
 use plain_trials::{try_generated, try_lines};
 use rand_core::Rng;
 use run_status::{Ended, Status};
 use shell_sessions::{run_command, run_generate, run_shell};
-use shell_words::{Form, joined, read_form};
+use shell_words::{Form, copy_path, joined, read_form};
 use std::alloc::Global;
 
 /// Runs the program with these words, at this moment, from this input to this output, over this block directory and
-/// this local record, and with these random bytes.
-pub fn run<I: Source, O: Sink, V: Vault, K: Keeper, R: Rng>(
+/// this local record, with these random bytes, and beside this folder of the host for copies.
+pub fn run<I: Source, O: Sink, V: Vault, K: Keeper, R: Rng, F: Folder>(
     alloc: Global,
     words: &[String],
     now: Moment,
@@ -44,6 +49,7 @@ pub fn run<I: Source, O: Sink, V: Vault, K: Keeper, R: Rng>(
     vault: V,
     keeper: K,
     chance: &mut R,
+    host: &mut F,
 ) -> Ended<V, K>
     ensures usage { result.status ≡ Status.Usage → form_of (map string_bytes words.now) ≡ None }
     ensures refused { form_of (map string_bytes words.now) ≡ None → IsRefused (map string_bytes words.now) result.status }
@@ -64,6 +70,10 @@ pub fn run<I: Source, O: Sink, V: Vault, K: Keeper, R: Rng>(
         → Session V.trace V.faults K.Keeper now (ComesGenerated count (stream_of I.rest I.faults input.old input.new) (stream_of O.written O.faults output.old output.new)) (stream_of I.rest I.faults input.old input.new) (stream_of O.written O.faults output.old output.new) vault keeper result }
     ensures command { form_of (map string_bytes words.now) ≡ Some Form.Command
         → Session V.trace V.faults K.Keeper now (ComesCommand (joined (map string_bytes words.now)) (stream_of I.rest I.faults input.old input.new) (stream_of O.written O.faults output.old output.new)) (stream_of I.rest I.faults input.old input.new) (stream_of O.written O.faults output.old output.new) vault keeper result }
+    ensures imported { form_of (map string_bytes words.now) ≡ Some Form.Import
+        → HostSession V.trace V.faults K.Keeper now (Imports (map string_bytes words.now) (stream_of I.rest I.faults input.old input.new) (stream_of O.written O.faults output.old output.new) (host_of F.tree F.faults host.old host.new)) (stream_of I.rest I.faults input.old input.new) (stream_of O.written O.faults output.old output.new) (host_of F.tree F.faults host.old host.new) vault keeper result }
+    ensures exported { form_of (map string_bytes words.now) ≡ Some Form.Export
+        → HostSession V.trace V.faults K.Keeper now (Exports (map string_bytes words.now) (stream_of I.rest I.faults input.old input.new) (stream_of O.written O.faults output.old output.new) (host_of F.tree F.faults host.old host.new)) (stream_of I.rest I.faults input.old input.new) (stream_of O.written O.faults output.old output.new) (host_of F.tree F.faults host.old host.new) vault keeper result }
     ensures refusal { opens (form_of (map string_bytes words.now)) ≡ true → IsKeptMarked records (K.kept keeper) → IsRefusedRun K.kept (stream_of O.written O.faults output.old output.new) vault keeper result }
     ensures no_false_alarm { NoFalseAlarm (stream_of I.rest I.faults input.old input.new) (outside_of V.trace V.faults K.Keeper vault keeper) (outside_of V.trace V.faults K.Keeper result.vault result.keeper) result.status }
     ensures kept { opens (form_of (map string_bytes words.now)) ≡ true → KeepsTree (stream_of I.rest I.faults input.old input.new) (outside_of V.trace V.faults K.Keeper vault keeper) (outside_of V.trace V.faults K.Keeper result.vault result.keeper) }
@@ -71,12 +81,15 @@ pub fn run<I: Source, O: Sink, V: Vault, K: Keeper, R: Rng>(
     ensures faults_named { is_session (form_of (map string_bytes words.now)) ≡ false → FaultsNamed (form_of (map string_bytes words.now)) (outside_of V.trace V.faults K.Keeper vault keeper) (outside_of V.trace V.faults K.Keeper result.vault result.keeper) result.status }
     ensures stream_faults_named { StreamFaultsNamed (stream_of I.rest I.faults input.old input.new) (stream_of O.written O.faults output.old output.new) result.status }
     ensures history { (form : Form) → form_of (map string_bytes words.now) ≡ Some form → is_create (map string_bytes words.now) ≡ false
-        → (run : Run) × IsRunOf (Comes (map string_bytes words.now) (stream_of I.rest I.faults input.old input.new) (stream_of O.written O.faults output.old output.new) form) (outside_of V.trace V.faults K.Keeper vault keeper) (outside_of V.trace V.faults K.Keeper result.vault result.keeper) run }
+        → (run : Run) × IsRunOf (Comes (map string_bytes words.now) (stream_of I.rest I.faults input.old input.new) (stream_of O.written O.faults output.old output.new) (host_of F.tree F.faults host.old host.new) form) (outside_of V.trace V.faults K.Keeper vault keeper) (outside_of V.trace V.faults K.Keeper result.vault result.keeper) run }
+    ensures unhosted { copies (form_of (map string_bytes words.now)) ≡ false → host.new ≡ host.old }
+    ensures host_fault { result.status ≡ Status.HostFault → RoseBy 1 (F.faults host.old) (F.faults host.new) }
     ensures done { is_session (form_of (map string_bytes words.now)) ≡ true → result.status ≡ Status.Done → IsEmptied (outside_of V.trace V.faults K.Keeper result.vault result.keeper) }
     ensures uncalled { result.status ≡ Status.LongPassword → AreUncalled vault keeper result }
     ensures undrawn { draws (form_of (map string_bytes words.now)) ≡ false → R.stream chance.new ≡ R.stream chance.old }
     ensures input_grows { I.faults input.old ≤ I.faults input.new }
     ensures output_grows { O.faults output.old ≤ O.faults output.new }
+    ensures host_grows { F.faults host.old ≤ F.faults host.new }
 {
     match read_form(alloc, words) {
         Err(Memory) => Ended {
@@ -90,13 +103,13 @@ pub fn run<I: Source, O: Sink, V: Vault, K: Keeper, R: Rng>(
             keeper,
         },
         Ok(Some(form)) => run_form(
-            alloc, form, words, now, input, output, vault, keeper, chance,
+            alloc, form, words, now, input, output, vault, keeper, chance, host,
         ),
     }
 }
 
 /// Runs what the words ask for.
-fn run_form<I: Source, O: Sink, V: Vault, K: Keeper, R: Rng>(
+fn run_form<I: Source, O: Sink, V: Vault, K: Keeper, R: Rng, F: Folder>(
     alloc: Global,
     form: Form,
     words: &[String],
@@ -106,12 +119,15 @@ fn run_form<I: Source, O: Sink, V: Vault, K: Keeper, R: Rng>(
     vault: V,
     keeper: K,
     chance: &mut R,
+    host: &mut F,
 ) -> Ended<V, K>
     requires { IsModest form }
-    ensures does { Does V.trace V.faults K.Keeper (map string_bytes words.now) now (R.stream chance.old) (R.stream chance.new) (stream_of I.rest I.faults input.old input.new) (stream_of O.written O.faults output.old output.new) vault keeper result form }
+    ensures does { Does V.trace V.faults K.Keeper (map string_bytes words.now) now (R.stream chance.old) (R.stream chance.new) (stream_of I.rest I.faults input.old input.new) (stream_of O.written O.faults output.old output.new) (host_of F.tree F.faults host.old host.new) vault keeper result form }
     ensures undrawn { draws (Some form) ≡ false → R.stream chance.new ≡ R.stream chance.old }
     ensures input_grows { I.faults input.old ≤ I.faults input.new }
+    ensures unhosted { copies (Some form) ≡ false → host.new ≡ host.old }
     ensures output_grows { O.faults output.old ≤ O.faults output.new }
+    ensures host_grows { F.faults host.old ≤ F.faults host.new }
 {
     match form {
         Form::Trial => Ended {
@@ -141,6 +157,12 @@ fn run_form<I: Source, O: Sink, V: Vault, K: Keeper, R: Rng>(
             run_generate(alloc, now, count, input, output, vault, keeper, chance)
         }
         Form::Command => run_line(alloc, words, now, input, output, vault, keeper, chance),
+        Form::Import => import_words(
+            alloc, words, now, input, output, vault, keeper, chance, host,
+        ),
+        Form::Export => export_words(
+            alloc, words, now, input, output, vault, keeper, chance, host,
+        ),
     }
 }
 
@@ -162,6 +184,64 @@ fn run_line<I: Source, O: Sink, V: Vault, K: Keeper, R: Rng>(
     match joined(alloc, words) {
         Ok(line) => run_command(alloc, now, &line, input, output, vault, keeper, chance),
         Err(Memory) => Ended {
+            status: Status::Memory,
+            vault,
+            keeper,
+        },
+    }
+}
+
+/// An import to the path that the words say.
+fn import_words<I: Source, O: Sink, V: Vault, K: Keeper, R: Rng, F: Folder>(
+    alloc: Global,
+    words: &[String],
+    now: Moment,
+    input: &mut I,
+    output: &mut O,
+    vault: V,
+    keeper: K,
+    chance: &mut R,
+    host: &mut F,
+) -> Ended<V, K>
+    ensures session { HostSession V.trace V.faults K.Keeper now (Imports (map string_bytes words.now) (stream_of I.rest I.faults input.old input.new) (stream_of O.written O.faults output.old output.new) (host_of F.tree F.faults host.old host.new)) (stream_of I.rest I.faults input.old input.new) (stream_of O.written O.faults output.old output.new) (host_of F.tree F.faults host.old host.new) vault keeper result }
+    ensures input_grows { I.faults input.old ≤ I.faults input.new }
+    ensures output_grows { O.faults output.old ≤ O.faults output.new }
+    ensures host_grows { F.faults host.old ≤ F.faults host.new }
+{
+    match copy_path(alloc, words) {
+        Ok(Some(path)) => run_import(
+            alloc, now, &path, host, input, output, vault, keeper, chance,
+        ),
+        Ok(None) | Err(Memory) => Ended {
+            status: Status::Memory,
+            vault,
+            keeper,
+        },
+    }
+}
+
+/// An export of the path that the words say.
+fn export_words<I: Source, O: Sink, V: Vault, K: Keeper, R: Rng, F: Folder>(
+    alloc: Global,
+    words: &[String],
+    now: Moment,
+    input: &mut I,
+    output: &mut O,
+    vault: V,
+    keeper: K,
+    chance: &mut R,
+    host: &mut F,
+) -> Ended<V, K>
+    ensures session { HostSession V.trace V.faults K.Keeper now (Exports (map string_bytes words.now) (stream_of I.rest I.faults input.old input.new) (stream_of O.written O.faults output.old output.new) (host_of F.tree F.faults host.old host.new)) (stream_of I.rest I.faults input.old input.new) (stream_of O.written O.faults output.old output.new) (host_of F.tree F.faults host.old host.new) vault keeper result }
+    ensures input_grows { I.faults input.old ≤ I.faults input.new }
+    ensures output_grows { O.faults output.old ≤ O.faults output.new }
+    ensures host_grows { F.faults host.old ≤ F.faults host.new }
+{
+    match copy_path(alloc, words) {
+        Ok(Some(path)) => run_export(
+            alloc, now, &path, host, input, output, vault, keeper, chance,
+        ),
+        Ok(None) | Err(Memory) => Ended {
             status: Status::Memory,
             vault,
             keeper,

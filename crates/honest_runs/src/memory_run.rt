@@ -10,6 +10,7 @@ use cryfs_shell::{Ended, Status, run};
 use fs_model::Moment;
 use histories::honest_runs_are_unforged;
 use honest_outside::{HonestKeeper, HonestSink, HonestSource, HonestVault};
+use memory_folder::MemoryFolder;
 use rand_core::Rng;
 use std::alloc::{AllocError, Global};
 
@@ -65,6 +66,7 @@ fn make<R: Rng>(
         HonestVault::new(alloc),
         HonestKeeper::new(alloc),
         chance,
+        &mut MemoryFolder::new(alloc),
     );
     setups_complete::<HonestVault, HonestKeeper>();
     ended.vault.attest();
@@ -104,6 +106,7 @@ fn serve<R: Rng>(
         made.vault,
         made.keeper,
         chance,
+        &mut MemoryFolder::new(alloc),
     );
     sessions_complete::<HonestVault, HonestKeeper>();
     honest_runs_are_unforged();

@@ -1,7 +1,7 @@
 // Whether words need the local record.
 ghost use Rattle.std.specs.Prelude.{◌≡◌, true, map, IfOk, OnErr};
 ghost use Rattle.std.specs.String.{string_bytes};
-ghost use Rattle.shell_words.specs.Forms.{form_of, is_create};
+ghost use Rattle.shell_words.specs.Forms.{form_of, takes_memory};
 ghost use Rattle.program_inputs.specs.RecordUse.{uses_record};
 
 use outside::Memory;
@@ -9,10 +9,11 @@ use shell_words::{Form, read_form};
 use std::alloc::Global;
 
 /// Whether the program's run with these words may call the local record. Where it doesn't, it gives it back as it got it (the clauses
-/// `untouched`, `trial` and `trial_generate` of `run`). Memory comes only where the first word is `create`.
+/// `untouched`, `trial` and `trial_generate` of `run`). Memory comes only where the first word is
+/// `create`, or asks for a copy and one word follows.
 pub(crate) fn uses_record(alloc: Global, words: &[String]) -> Result<bool, Memory>
     ensures uses { IfOk result (λ uses. uses ≡ uses_record (form_of (map string_bytes words.now))) }
-    ensures memory { OnErr result (is_create (map string_bytes words.now) ≡ true) }
+    ensures memory { OnErr result (takes_memory (map string_bytes words.now) ≡ true) }
 {
     match read_form(alloc, words)? {
         None | Some(Form::Trial | Form::TrialGenerate(_)) => Ok(false),

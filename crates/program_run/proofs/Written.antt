@@ -5,6 +5,7 @@ use Rattle.std.specs.declared.option.Option.TheVariants.{None, Some}
 use Rattle.answers.specs.Sessions.{Exchange}
 use Rattle.answers.specs.Texts.{text_of_answer}
 use Rattle.config_file.specs.Settings.{Settings}
+use Rattle.cryfs_shell.specs.Hosts.{HostSeen}
 use Rattle.fs_model.specs.Instant.{Instant}
 use Rattle.fs_model.specs.Tree.{Tree}
 use Rattle.line_io.specs.Streams.{Stream, Untouched, Cut}
@@ -21,7 +22,7 @@ use Rattle.session_lines.specs.declared.end.End.TheVariants.{Finished, InputFaul
 use Rattle.session_runs.specs.Runs.{Outside, outside_of, IsFounded}
 use Rattle.shell_sessions.specs.Sessions.{Session, IsServed, ComesShell, ComesCommand}
 use Rattle.shell_words.specs.declared.form.Form.{Form}
-use Rattle.shell_words.specs.declared.form.Form.TheVariants.{Trial, TrialGenerate, Create, Info, Passwd, Shell, Generate, Command}
+use Rattle.shell_words.specs.declared.form.Form.TheVariants.{Trial, TrialGenerate, Create, Info, Passwd, Shell, Generate, Command, Import, Export}
 use Rattle.shell_words.specs.Forms.{form_of, joined}
 use Rattle.tree_commands.specs.Showing.{ShowsFiles}
 use Rattle.program_run.specs.Program.{told, program_call}
@@ -48,12 +49,12 @@ cut_last old new (e ∷ es) cut =
     let part = part_of (old ++ said_in es) new (text_of_answer e.answer) cut in
     (part.0, sym (append_assoc old (said_in es) (text_of_answer e.answer)) ∙ part.1)
 
-module _ {V : Type 0} {K : Type 0} (trace : V → Option (List Call)) (faults : V → ℕ) (G : KeeperGhosts K) (words : List (List ℕ)) (now : Instant) (chance left : Chance) (input : Stream) (old new : List ℕ) (f r : ℕ) (before after : Outside) (status : Status) where
+module _ {V : Type 0} {K : Type 0} (trace : V → Option (List Call)) (faults : V → ℕ) (G : KeeperGhosts K) (words : List (List ℕ)) (now : Instant) (chance left : Chance) (input : Stream) (old new : List ℕ) (f r : ℕ) (host : HostSeen) (before after : Outside) (status : Status) where
   abbrev Output : Stream
   Output = told old new f r
 
   abbrev Ran : RunCall
-  Ran = program_call words now chance left input Output before after status
+  Ran = program_call words now chance left input Output host before after status
 
   shell_told : (script : Option (List ℕ)) (end : End) (own : Status) (es : List Exchange) → ComesShell input Output script end own es → Told old new es
   shell_told script Finished own es (w, done) = whole old new es w.written
@@ -90,6 +91,8 @@ module _ {V : Type 0} {K : Type 0} (trace : V → Option (List Call)) (faults : 
     did (Some Shell) e d = session (ComesShell input Output) shell_told d
     did (Some (Generate count)) e d = absurd (cc)
     did (Some Command) e d = session (ComesCommand (joined words) input Output) (command_told (joined words)) d
+    did (Some Import) e d = absurd (cc)
+    did (Some Export) e d = absurd (cc)
 
   pub wrote : IsRunCall trace faults G Ran → WritesSession words now before after old new
   wrote h asked c first founded =

@@ -3,6 +3,7 @@ use Rattle.std.specs.Prelude.{ℕ, List}
 use Rattle.std.specs.declared.option.Option.{Option}
 use Rattle.std.specs.declared.option.Option.TheVariants.{None, Some}
 use Rattle.rand_core.specs.Stream.{Stream as Chance}
+use Rattle.cryfs_shell.specs.Hosts.{HostSeen}
 use Rattle.fs_model.specs.Instant.{Instant}
 use Rattle.line_io.specs.Streams.{Stream}
 use Rattle.outside.specs.Trace.{Call}
@@ -39,15 +40,16 @@ at_first calls keeper = record { kept = keeper.kept; calls = Some calls; vault_f
 abbrev pub at_last : Ended FolderVaultState FolderKeeperState → Outside
 at_last ended = record { kept = ended.keeper.kept; calls = Some ended.vault.calls; vault_faults = ended.vault.faults; keeper_faults = ended.keeper.faults }
 
--- its words and moment, the random bytes before and after, its streams, what was outside before and after, and its status
-abbrev pub program_call : List (List ℕ) → Instant → Chance → Chance → Stream → Stream → Outside → Outside → Status → RunCall
-program_call words now chance left input output before after status = record {
+-- its words and moment, the random bytes before and after, its streams, its folder for copies, what was outside before and after, and its status
+abbrev pub program_call : List (List ℕ) → Instant → Chance → Chance → Stream → Stream → HostSeen → Outside → Outside → Status → RunCall
+program_call words now chance left input output host before after status = record {
   words = words;
   now = now;
   chance = chance;
   left = left;
   input = input;
   output = output;
+  host = host;
   before = before;
   after = after;
   status = status;

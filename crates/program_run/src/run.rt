@@ -1,6 +1,7 @@
 // The program's one call, over real folders.
 ghost use Rattle.std.specs.Prelude.{◌≡◌, [], ◌∷◌, map};
 ghost use Rattle.std.specs.String.{string_bytes};
+ghost use Rattle.cryfs_shell.specs.Hosts.{host_of};
 ghost use Rattle.real_folders.specs.FolderLog.{calls_of};
 ghost use Rattle.real_streams.specs.Adapters.{source_faults, sink_faults, written_by};
 ghost use Rattle.run_histories.specs.Calls.{IsRunCall};
@@ -9,6 +10,7 @@ ghost use Rattle.program_run.specs.Written.{WritesSession};
 ghost use Rattle.program_run.specs.Program.{folder_calls, folder_faults, folder_record, at_first, at_last, untold, told, program_call};
 
 use call_log::CallLog;
+use host_folder::Folder;
 use program_inputs::Inputs;
 use rand_core::Rng;
 use real_folders::{FolderKeeper, FolderVault};
@@ -17,10 +19,10 @@ use run_histories::run_call;
 use run_status::Ended;
 use std::io::{Read, Write};
 
-/// Runs the program with these inputs over its block folder, after the calls of this log, and over the record of this keeper.
+/// Runs the program with these inputs over its block folder, after the calls of this log, over the record of this keeper, and beside this folder for copies.
 /// It is a call of `run`, for each log: so all that is said of such a call holds of the calls on the folder that this run adds to the log,
 /// and of the bytes that it adds to those that the output took.
-pub fn run_program<'a, I: Read, O: Write, R: Rng>(
+pub fn run_program<'a, I: Read, O: Write, R: Rng, F: Folder>(
     rt: &HostRuntime,
     inputs: &'a Inputs,
     keeper: FolderKeeper<'a, HostRuntime>,
@@ -28,14 +30,15 @@ pub fn run_program<'a, I: Read, O: Write, R: Rng>(
     output: &mut WriterSink<O>,
     chance: &mut R,
     log: CallLog,
+    host: &mut F,
 ) -> Ended<FolderVault<'a, HostRuntime>, FolderKeeper<'a, HostRuntime>>
     ensures call { IsRunCall folder_calls folder_faults folder_record (program_call (map string_bytes inputs.entry.now.words.items) inputs.entry.now.now
         (R.stream chance.old) (R.stream chance.new) (untold (source_faults input.old) (source_faults input.new))
-        (told (written_by output.old) (written_by output.new) (sink_faults output.old) (sink_faults output.new))
+        (told (written_by output.old) (written_by output.new) (sink_faults output.old) (sink_faults output.new)) (host_of F.tree F.faults host.old host.new)
         (at_first (calls_of log.events) keeper.entry) (at_last result) result.status) }
     ensures listed { AreRunCalls folder_calls folder_faults folder_record (at_first (calls_of log.events) keeper.entry) (program_call (map string_bytes inputs.entry.now.words.items) inputs.entry.now.now
         (R.stream chance.old) (R.stream chance.new) (untold (source_faults input.old) (source_faults input.new))
-        (told (written_by output.old) (written_by output.new) (sink_faults output.old) (sink_faults output.new))
+        (told (written_by output.old) (written_by output.new) (sink_faults output.old) (sink_faults output.new)) (host_of F.tree F.faults host.old host.new)
         (at_first (calls_of log.events) keeper.entry) (at_last result) result.status ∷ []) }
     ensures written { WritesSession (map string_bytes inputs.entry.now.words.items) inputs.entry.now.now (at_first (calls_of log.events) keeper.entry) (at_last result) (written_by output.old) (written_by output.new) }
 {
@@ -48,5 +51,6 @@ pub fn run_program<'a, I: Read, O: Write, R: Rng>(
         inputs.vault(rt, log),
         keeper,
         chance,
+        host,
     )
 }

@@ -1,6 +1,7 @@
 // Runs of the program, one after another, over two real folders.
 use call_log::{ByteLog, CallLog};
 use fs_model::Moment;
+use memory_folder::MemoryFolder;
 use program_inputs::Inputs;
 use program_run::run_program;
 use rand_pcg::Pcg32;
@@ -66,6 +67,7 @@ fn run_words(
         &mut sink,
         &mut Pcg32::new(1, 2),
         CallLog::new(),
+        &mut MemoryFolder::new(alloc),
     );
     let status = ended.status;
     Ok((status, fs::read_to_string(rt, output.as_path())?))

@@ -20,11 +20,11 @@ use Rattle.run_status.specs.declared.status.Status.TheVariants.{Done}
 use Rattle.session_runs.specs.Runs.{Outside, outside_of, OutsideStandsFor, IsQuietRun}
 use Rattle.shell_sessions.specs.Sessions.{Session}
 use Rattle.shell_words.specs.declared.form.Form.{Form}
-use Rattle.shell_words.specs.declared.form.Form.TheVariants.{Trial, TrialGenerate, Create, Info, Passwd, Shell, Generate, Command}
+use Rattle.shell_words.specs.declared.form.Form.TheVariants.{Trial, TrialGenerate, Create, Info, Passwd, Shell, Generate, Command, Import, Export}
 use Rattle.shell_words.specs.Forms.{form_of}
 use Rattle.tree_commands.specs.Showing.{ShowsFiles}
 use Rattle.histories.specs.Histories.{Run, session, quiet, before_of, after_of, IsRun, GoesOnFrom}
-use Rattle.cryfs_shell.specs.Clauses.{IsRefusingStatus, NoFalseAlarm, FaultsHappened}
+use Rattle.cryfs_shell.specs.Clauses.{IsRefusingStatus, NoFalseAlarm, FaultsHappened, HostFaultsHappened}
 use Rattle.cryfs_shell.specs.Kinds.{opens, is_session}
 use Rattle.cryfs_shell.proofs.Statuses.{opening_is_no}
 use Rattle.cryfs_shell.proofs.Sessions.{UnreadCause, one_unread, two_unread, unread_is_no, password_is}
@@ -109,6 +109,8 @@ module _ {V : Type 0} {K : Type 0} (trace : V → Option (List Call)) (faults : 
   did_run (Some Shell) e d = session_ran (Some Shell) d
   did_run (Some (Generate count)) e d = session_ran (Some (Generate count)) d
   did_run (Some Command) e d = session_ran (Some Command) d
+  did_run (Some Import) e d = session_ran (Some Import) d.0
+  did_run (Some Export) e d = session_ran (Some Export) d.0
 
   -- what is said of what was outside and of the status, of the call's
   stated : (P : Outside → Outside → Status → Type 0) → P Before After h.ended.status → P call.before call.after call.status
@@ -132,6 +134,7 @@ module _ {V : Type 0} {K : Type 0} (trace : V → Option (List Call)) (faults : 
           refused = refusing e;
           no_false_alarm = stated (NoFalseAlarm call.input) h.no_false_alarm;
           faults_happened = stated (FaultsHappened call.input call.output) h.faults_happened;
+          host_faults_happened = subst (HostFaultsHappened call.host) (sym h.status) h.host_faults_happened;
         },
       )
 
@@ -155,6 +158,8 @@ module _ {V : Type 0} {K : Type 0} (trace : V → Option (List Call)) (faults : 
   did_stay (Some Shell) e there d = absurd (cc)
   did_stay (Some (Generate count)) e there d = absurd (cc)
   did_stay (Some Command) e there d = absurd (cc)
+  did_stay (Some Import) e there d = absurd (cc)
+  did_stay (Some Export) e there d = absurd (cc)
 
   pub other : opens (form_of call.words) ≡ false → (creates (form_of call.words) ≡ true → is_some call.before.kept ≡ true) → GoesOnFrom call.before call.after
   other e there =

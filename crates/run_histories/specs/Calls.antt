@@ -1,5 +1,5 @@
 -- One call of the program's `run`.
-use Rattle.std.specs.Prelude.{◌≡◌, ℕ, true, List}
+use Rattle.std.specs.Prelude.{◌≡◌, ℕ, true, false, List}
 use Rattle.std.specs.declared.option.Option.{Option}
 use Rattle.std.specs.declared.option.Option.TheVariants.{None, Some}
 use Rattle.rand_core.specs.Stream.{Stream as Chance}
@@ -20,11 +20,12 @@ use Rattle.session_runs.specs.Runs.{Outside, outside_of}
 use Rattle.shell_words.specs.declared.form.Form.{Form}
 use Rattle.shell_words.specs.declared.form.Form.TheVariants.{Create, Info, Passwd}
 use Rattle.shell_words.specs.Forms.{form_of}
-use Rattle.cryfs_shell.specs.Clauses.{IsRefusedRun, NoFalseAlarm, FaultsHappened}
+use Rattle.cryfs_shell.specs.Clauses.{IsRefusedRun, NoFalseAlarm, FaultsHappened, HostFaultsHappened}
 use Rattle.cryfs_shell.specs.Doing.{Does}
-use Rattle.cryfs_shell.specs.Kinds.{IsRefused, opens}
+use Rattle.cryfs_shell.specs.Hosts.{HostSeen, IsStill}
+use Rattle.cryfs_shell.specs.Kinds.{IsRefused, copies, opens}
 
--- its words and moment, the random bytes, input and output before and after, what was outside before and after, and the status
+-- its words and moment, the random bytes, input, output and host folder before and after, what was outside before and after, and the status
 pub record RunCall : Type 0 where
   pub words : List (List ℕ)
   pub now : Instant
@@ -32,19 +33,21 @@ pub record RunCall : Type 0 where
   pub left : Chance
   pub input : Stream
   pub output : Stream
+  pub host : HostSeen
   pub before : Outside
   pub after : Outside
   pub status : Status
 
 -- the call with these values
-abbrev pub call_of : {V : Type 0} → {K : Type 0} → (V → Option (List Call)) → (V → ℕ) → KeeperGhosts K → List (List ℕ) → Instant → Chance → Chance → Stream → Stream → V → K → Ended V K → RunCall
-call_of trace faults G words now chance left input output vault keeper ended = record {
+abbrev pub call_of : {V : Type 0} → {K : Type 0} → (V → Option (List Call)) → (V → ℕ) → KeeperGhosts K → List (List ℕ) → Instant → Chance → Chance → Stream → Stream → HostSeen → V → K → Ended V K → RunCall
+call_of trace faults G words now chance left input output host vault keeper ended = record {
   words = words;
   now = now;
   chance = chance;
   left = left;
   input = input;
   output = output;
+  host = host;
   before = outside_of trace faults G vault keeper;
   after = outside_of trace faults G ended.vault ended.keeper;
   status = ended.status;
@@ -56,7 +59,7 @@ Did trace faults G call vault keeper ended None = IsRefused call.words ended.sta
 Did trace faults G call vault keeper ended (Some (Create options)) = RanCreate trace faults G options.params options.block_size (drawn call.chance).0 call.input call.output vault keeper ended
 Did trace faults G call vault keeper ended (Some Info) = Told trace faults G call.input call.output vault keeper ended
 Did trace faults G call vault keeper ended (Some Passwd) = RanPasswd trace faults G call.chance call.left call.input call.output vault keeper ended
-Did trace faults G call vault keeper ended (Some form) = Does trace faults G call.words call.now call.chance call.left call.input call.output vault keeper ended form
+Did trace faults G call vault keeper ended (Some form) = Does trace faults G call.words call.now call.chance call.left call.input call.output call.host vault keeper ended form
 
 -- there was a call of `run` with these values, over a directory and a local record whose meanings are given
 pub record IsRunCall {V : Type 0} {K : Type 0} (trace : V → Option (List Call)) (faults : V → ℕ) (G : KeeperGhosts K) (call : RunCall) : Type 0 where
@@ -70,3 +73,5 @@ pub record IsRunCall {V : Type 0} {K : Type 0} (trace : V → Option (List Call)
   pub refusal : opens (form_of call.words) ≡ true → IsKeptMarked records (G.kept keeper) → IsRefusedRun G.kept call.output vault keeper ended
   pub no_false_alarm : NoFalseAlarm call.input (outside_of trace faults G vault keeper) (outside_of trace faults G ended.vault ended.keeper) ended.status
   pub faults_happened : FaultsHappened call.input call.output (outside_of trace faults G vault keeper) (outside_of trace faults G ended.vault ended.keeper) ended.status
+  pub unhosted : copies (form_of call.words) ≡ false → IsStill call.host
+  pub host_faults_happened : HostFaultsHappened call.host ended.status

@@ -23,11 +23,12 @@ use Rattle.session_runs.specs.Runs.{Outside, OutsideStandsFor}
 use Rattle.shell_sessions.specs.Sessions.{ComesShell, ComesGenerated, ComesCommand}
 use Rattle.run_edges.specs.Statuses.{session_status}
 use Rattle.shell_words.specs.declared.form.Form.{Form}
-use Rattle.shell_words.specs.declared.form.Form.TheVariants.{Create, Shell, Generate, Command}
+use Rattle.shell_words.specs.declared.form.Form.TheVariants.{Create, Shell, Generate, Command, Import, Export}
 use Rattle.shell_words.specs.Forms.{form_of, joined}
 use Rattle.tree_commands.specs.Showing.{ShowsFiles}
 use Rattle.histories.specs.Histories.{Run, session, quiet, before_of, after_of, IsRun, IsUnforgedRun, GoesOnFrom, end_of, Follow, EndsWith}
-use Rattle.cryfs_shell.specs.Clauses.{IsRefusingStatus, NoFalseAlarm, FaultsHappened}
+use Rattle.cryfs_shell.specs.Clauses.{IsRefusingStatus, NoFalseAlarm, FaultsHappened, HostFaultsHappened}
+use Rattle.cryfs_shell.specs.Copies.{Imports, Exports}
 use Rattle.cryfs_shell.specs.Kinds.{opens, is_session}
 use Rattle.run_histories.specs.Calls.{RunCall, IsRunCall}
 
@@ -40,6 +41,8 @@ abbrev pub CallComes : RunCall → Option Form → Option (List ℕ) → End →
 CallComes call (Some Shell) = ComesShell call.input call.output
 CallComes call (Some (Generate count)) = ComesGenerated count call.input call.output
 CallComes call (Some Command) = ComesCommand (joined call.words) call.input call.output
+CallComes call (Some Import) = Imports call.words call.input call.output call.host
+CallComes call (Some Export) = Exports call.words call.input call.output call.host
 CallComes call _ = λ script end own es. ⊥
 
 -- in a session the exchanges came so, and the status is theirs, or its own where nothing else is the matter; in a run of no lines the words ask for none, or nothing was written and the status isn't Done
@@ -62,6 +65,7 @@ pub record IsRunOf (call : RunCall) (run : Run) : Type 0 where
   -- where the directory gave what was last written and no other configuration opens at all, it is no violation; and it names only faults that happened
   pub no_false_alarm : NoFalseAlarm call.input call.before call.after call.status
   pub faults_happened : FaultsHappened call.input call.output call.before call.after call.status
+  pub host_faults_happened : HostFaultsHappened call.host call.status
 
 -- the words are those of `create`
 abbrev pub creates : Option Form → Bool

@@ -1,6 +1,7 @@
 // The program's call as plain values.
 ghost use Rattle.std.specs.Prelude.{map, [], ◌∷◌};
 ghost use Rattle.std.specs.String.{string_bytes};
+ghost use Rattle.cryfs_shell.specs.Hosts.{host_of};
 ghost use Rattle.line_io.specs.Streams.{stream_of};
 ghost use Rattle.session_runs.specs.Runs.{outside_of};
 ghost use Rattle.run_histories.specs.Calls.{IsRunCall, call_of};
@@ -8,12 +9,13 @@ ghost use Rattle.run_histories.specs.Lists.{AreRunCalls};
 
 use cryfs_shell::{Ended, run};
 use fs_model::Moment;
+use host_folder::Folder;
 use outside::{Keeper, Sink, Source, Vault};
 use rand_core::Rng;
 use std::alloc::Global;
 
 /// Calls `run`: so each call of it is one of those that the laws speak of, and so is the list of it alone.
-pub fn run_call<I: Source, O: Sink, V: Vault, K: Keeper, R: Rng>(
+pub fn run_call<I: Source, O: Sink, V: Vault, K: Keeper, R: Rng, F: Folder>(
     alloc: Global,
     words: &[String],
     now: Moment,
@@ -22,13 +24,16 @@ pub fn run_call<I: Source, O: Sink, V: Vault, K: Keeper, R: Rng>(
     vault: V,
     keeper: K,
     chance: &mut R,
+    host: &mut F,
 ) -> Ended<V, K>
     ensures call { IsRunCall V.trace V.faults K.Keeper (call_of V.trace V.faults K.Keeper
         (map string_bytes words.now) now (R.stream chance.old) (R.stream chance.new)
-        (stream_of I.rest I.faults input.old input.new) (stream_of O.written O.faults output.old output.new) vault keeper result) }
+        (stream_of I.rest I.faults input.old input.new) (stream_of O.written O.faults output.old output.new) (host_of F.tree F.faults host.old host.new) vault keeper result) }
     ensures listed { AreRunCalls V.trace V.faults K.Keeper (outside_of V.trace V.faults K.Keeper vault keeper) (call_of V.trace V.faults K.Keeper
         (map string_bytes words.now) now (R.stream chance.old) (R.stream chance.new)
-        (stream_of I.rest I.faults input.old input.new) (stream_of O.written O.faults output.old output.new) vault keeper result ∷ []) }
+        (stream_of I.rest I.faults input.old input.new) (stream_of O.written O.faults output.old output.new) (host_of F.tree F.faults host.old host.new) vault keeper result ∷ []) }
 {
-    run(alloc, words, now, input, output, vault, keeper, chance)
+    run(
+        alloc, words, now, input, output, vault, keeper, chance, host,
+    )
 }

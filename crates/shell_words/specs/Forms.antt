@@ -1,5 +1,5 @@
 -- The words that the program is called with.
-use Rattle.std.specs.Prelude.{ℕ, ◌+◌, ◌≤◌, ◌&&◌, ◌||◌, Bool, false, cond, codes, is_some, nat_le, List, [], ◌∷◌, ◌++◌, length, option_and_then, Result, Ok}
+use Rattle.std.specs.Prelude.{ℕ, ◌+◌, ◌≤◌, ◌&&◌, ◌||◌, Bool, true, false, cond, codes, is_some, nat_le, List, [], ◌∷◌, ◌++◌, length, option_and_then, Result, Ok}
 use Rattle.std.specs.List.{flat_map}
 use Rattle.std.specs.declared.option.Option.{Option}
 use Rattle.std.specs.declared.option.Option.TheVariants.{None, Some}
@@ -72,10 +72,14 @@ abbrev pub is_create : List (List ℕ) → Bool
 is_create [] = false
 is_create (first ∷ words) = bytes_eq first (codes "create")
 
--- the first word asks for a copy
+abbrev pub is_pair : List (List ℕ) → Bool
+is_pair (first ∷ word ∷ []) = true
+is_pair _ = false
+
+-- the first of two words asks for a copy
 abbrev pub is_copy : List (List ℕ) → Bool
 is_copy [] = false
-is_copy (first ∷ words) = is_some (copy_word first)
+is_copy (first ∷ words) = is_some (copy_word first) && is_pair (first ∷ words)
 
 -- memory may be refused while the words are read
 abbrev pub takes_memory : List (List ℕ) → Bool

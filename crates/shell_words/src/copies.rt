@@ -1,7 +1,7 @@
 // The words of copies.
-ghost use Rattle.std.specs.Prelude.{◌≡◌, map, IfOk};
+ghost use Rattle.std.specs.Prelude.{◌≡◌, true, map, IfOk, OnErr};
 ghost use Rattle.std.specs.String.{string_bytes};
-ghost use Rattle.shell_words.specs.Forms.{copy_word, copy_path, path_in};
+ghost use Rattle.shell_words.specs.Forms.{copy_word, copy_path, is_pair, path_in};
 
 use crate::form::Form;
 use block_id::Memory;
@@ -22,9 +22,11 @@ pub(crate) fn copy_word(word: &str) -> Option<Form>
     }
 }
 
-/// The path that a copy goes to or comes from: it is the one word after the first. None where that isn't so.
+/// The path that a copy goes to or comes from: it is the one word after the first. None where that isn't so. Memory
+/// comes only where there are two words.
 pub fn copy_path(alloc: Global, words: &[String]) -> Result<Option<Path>, Memory>
-    ensures { IfOk result (λ path. path ≡ copy_path (map string_bytes words.now)) }
+    ensures value { IfOk result (λ path. path ≡ copy_path (map string_bytes words.now)) }
+    ensures memory { OnErr result (is_pair (map string_bytes words.now) ≡ true) }
 {
     match words {
         [_, word] => path_in(alloc, word.as_bytes()),

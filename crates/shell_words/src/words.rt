@@ -2,7 +2,7 @@
 ghost use Rattle.std.specs.Prelude.{◌≡◌, ◌≤◌, true, is_some, map, IfSome, IfOk, OnErr};
 ghost use Rattle.std.specs.String.{string_bytes};
 ghost use Rattle.script_text.specs.Grammar.{verb_of};
-ghost use Rattle.shell_words.specs.Forms.{count_of, single_form, plain_form, copied, other_form, form_of, takes_memory, IsModest};
+ghost use Rattle.shell_words.specs.Forms.{count_of, single_form, plain_form, copied, is_pair, other_form, form_of, takes_memory, IsModest};
 
 use crate::copies::{copy_path, copy_word};
 use crate::create_options::parse_create_options;
@@ -88,8 +88,8 @@ fn read_single_word(word: &str) -> Option<Form>
 }
 
 #[tactic(auto, unfolding(crate::specs::Forms::form_of))]
-/// What the words ask for, or None where they are of no known form. Memory comes only where the first is `create` or
-/// asks for a copy.
+/// What the words ask for, or None where they are of no known form. Memory comes only where the first is `create`, or
+/// asks for a copy and one word follows.
 pub fn read_form(alloc: Global, words: &[String]) -> Result<Option<Form>, Memory>
     ensures value { IfOk result (λ form. form ≡ form_of (map string_bytes words.now)) }
     ensures most { IfOk result (λ form. IfSome form (λ form. IsModest form)) }
@@ -112,7 +112,8 @@ pub fn read_form(alloc: Global, words: &[String]) -> Result<Option<Form>, Memory
 
 /// A copy, where the words say its path.
 fn read_copy(alloc: Global, copy: Form, words: &[String]) -> Result<Option<Form>, Memory>
-    ensures { IfOk result (λ form. form ≡ copied copy (map string_bytes words.now)) }
+    ensures value { IfOk result (λ form. form ≡ copied copy (map string_bytes words.now)) }
+    ensures memory { OnErr result (is_pair (map string_bytes words.now) ≡ true) }
 {
     match copy_path(alloc, words)? {
         Some(_) => Ok(Some(copy)),

@@ -9,6 +9,6 @@ mod system;
 pub use random::{Words, ZEROS};
 pub use stored::{block, copy_files, count_blocks, file, store};
 pub use system::{
-    CREATED, Run, System, expect, failing_saves, mended, new_system, nothing, outcome, plain,
-    script, session,
+    CREATED, Run, System, expect, expect_beside, failing_saves, mended, new_system, nothing,
+    outcome, outcome_beside, plain, script, session,
 };

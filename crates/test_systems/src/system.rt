@@ -9,6 +9,8 @@ ghost use Rattle.test_systems.specs.Runs.{same_status};
 use crate::random::ZEROS;
 use cryfs_shell::{Ended, Status, run};
 use fs_model::Moment;
+use host_folder::Folder;
+use memory_folder::MemoryFolder;
 use memory_outside::{MemoryKeeper, MemorySink, MemorySource, MemoryVault};
 use rand_core::Rng;
 use std::alloc::{AllocError, Global};
@@ -82,11 +84,22 @@ fn sink(alloc: Global, case: &Run<'_>) -> Result<MemorySink, AllocError>
     }
 }
 
-/// What a run writes, its status, and what it gives back.
+/// What a run writes, its status, and what it gives back. There is nothing in the host folder.
 pub fn outcome<R: Rng>(
     alloc: Global,
     system: System,
     case: &Run<'_>,
+    chance: &mut R,
+) -> Result<(Vec<u8>, Status, System), AllocError> {
+    outcome_beside(alloc, system, case, &mut MemoryFolder::new(alloc), chance)
+}
+
+/// The same beside this folder.
+pub fn outcome_beside<F: Folder, R: Rng>(
+    alloc: Global,
+    system: System,
+    case: &Run<'_>,
+    host: &mut F,
     chance: &mut R,
 ) -> Result<(Vec<u8>, Status, System), AllocError> {
     let mut words = Vec::new(alloc);
@@ -112,6 +125,7 @@ pub fn outcome<R: Rng>(
         vault,
         keeper,
         chance,
+        host,
     );
     Ok((
         output.written().to_vec(alloc)?,
@@ -135,8 +149,27 @@ pub fn expect(
     text: &str,
     status: Status,
 ) -> Result<System, Fail> {
+    expect_beside(
+        alloc,
+        system,
+        case,
+        &mut MemoryFolder::new(alloc),
+        text,
+        status,
+    )
+}
+
+/// The same beside this folder.
+pub fn expect_beside<F: Folder>(
+    alloc: Global,
+    system: System,
+    case: &Run<'_>,
+    host: &mut F,
+    text: &str,
+    status: Status,
+) -> Result<System, Fail> {
     let mut zeros = ZEROS;
-    let (written, ended, after) = outcome(alloc, system, case, &mut zeros)?;
+    let (written, ended, after) = outcome_beside(alloc, system, case, host, &mut zeros)?;
     if !is_as_wanted(&written, ended, text, status) {
         let shown = str::from_utf8(written.as_slice()).unwrap_or("bytes");
         return Err(Fail::new(format_args!(

@@ -19,4 +19,4 @@ pub returns-clause-listed : goal.returns-clause-listed
 returns-clause-listed g c = (returns-clause-call g c, record { kept = refl; calls = refl }, tt)
 
 pub returns-clause-written : goal.returns-clause-written
-returns-clause-written g c = wrote folder_calls folder_faults folder_record _ _ _ _ _ _ _ _ _ _ _ _ (returns-clause-call g c)
+returns-clause-written g c = wrote folder_calls folder_faults folder_record _ _ _ _ _ _ _ _ _ _ _ _ _ (returns-clause-call g c)

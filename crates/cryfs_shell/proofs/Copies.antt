@@ -1,0 +1,47 @@
+-- A session whose exchanges came in one way, as one whose exchanges came in another.
+use Rattle.std.proofs.Common.{◌≡◌, ◌⊎◌, ℕ, List, ap, inl, inr}
+use Rattle.std.specs.declared.option.Option.{Option}
+use Rattle.answers.specs.Sessions.{Exchange}
+use Rattle.fs_model.specs.Instant.{Instant}
+use Rattle.host_folder.specs.Folders.{HostTree}
+use Rattle.line_io.specs.Streams.{Stream}
+use Rattle.outside.specs.Trace.{Call}
+use Rattle.outside.specs.declared.keeper.Keeper.{Ghosts as KeeperGhosts}
+use Rattle.run_status.specs.declared.ended.Ended.{Ended}
+use Rattle.run_status.specs.declared.status.Status.{Status}
+use Rattle.session_lines.specs.declared.end.End.{End}
+use Rattle.shell_sessions.specs.Sessions.{Session, IsServed, WasServed}
+use Rattle.cryfs_shell.specs.Copies.{HostSession}
+use Rattle.cryfs_shell.specs.Hosts.{HostSeen, IsStill, host_of}
+
+module _ {V : Type 0} {K : Type 0} (trace : V → Option (List Call)) (faults : V → ℕ) (G : KeeperGhosts K) (now : Instant) (input output : Stream) (vault : V) (keeper : K) (ended : Ended V K)
+    (Came Other : Option (List ℕ) → End → Status → List Exchange → Type 0) (turn : (script : Option (List ℕ)) (end : End) (own : Status) (es : List Exchange) → Came script end own es → Other script end own es) where
+  served_as : (password : List ℕ) (script : Option (List ℕ)) → IsServed trace faults G now password (Came script) vault keeper ended → IsServed trace faults G now password (Other script) vault keeper ended
+  served_as password script s = record {
+    es = s.es;
+    end = s.end;
+    own = s.own;
+    closing = s.closing;
+    mild = s.mild;
+    came = turn script s.end s.own s.es s.came;
+    session = s.session;
+    mounted = s.mounted;
+    status = s.status;
+  }
+
+  was_as : WasServed trace faults G now Came input vault keeper ended → WasServed trace faults G now Other input vault keeper ended
+  was_as (password, script, has, s) = (password, script, has, served_as password script s)
+
+  session_as : Session trace faults G now Came input output vault keeper ended → Session trace faults G now Other input output vault keeper ended
+  session_as (inl u) = inl u
+  session_as (inr (password, script, has, inl unopened)) = inr (password, script, has, inl unopened)
+  session_as (inr (password, script, has, inr s)) = inr (password, script, has, inr (served_as password script s))
+
+  still_as : {F : Type 0} (tree : F → Option HostTree) (count : F → ℕ) (old new : F) → (new ≡ old) ⊎ WasServed trace faults G now Came input vault keeper ended
+      → IsStill (host_of tree count old new) ⊎ WasServed trace faults G now Other input vault keeper ended
+  still_as tree count old new (inl same) = inl (ap tree same, ap count same)
+  still_as tree count old new (inr s) = inr (was_as s)
+
+  pub host_session : {F : Type 0} (tree : F → Option HostTree) (count : F → ℕ) (old new : F) → Session trace faults G now Came input output vault keeper ended
+      → (new ≡ old) ⊎ WasServed trace faults G now Came input vault keeper ended → HostSession trace faults G now Other input output (host_of tree count old new) vault keeper ended
+  host_session tree count old new session called = (session_as session, still_as tree count old new called)

@@ -1,0 +1,22 @@
+use Rattle.std.proofs.Common.{map, sym, ◌∙◌, ap}
+use Rattle.std.specs.String.{string_bytes}
+use Rattle.copy_sessions.specs.Coming.{ComesExport}
+use Rattle.line_io.specs.Streams.{stream_of}
+use Rattle.cryfs_shell.specs.Copies.{Exports}
+use Rattle.cryfs_shell.specs.Hosts.{host_of}
+use Rattle.cryfs_shell.proofs.Copies.{host_session}
+use Rattle.cryfs_shell.proofs.program.export_words.Goals as goal
+
+pub returns-in-Ok-Some-clause-session : goal.returns-in-Ok-Some-clause-session
+returns-in-Ok-Some-clause-session g c =
+    let r = c.run_export in
+    let some = c.in-Ok-Some in
+    let input = stream_of g.I.Source.rest g.I.Source.faults c.args.input.now r.new.input in
+    let output = stream_of g.O.Sink.written g.O.Sink.faults c.args.output.now r.new.output in
+    let old = c.args.host.now in
+    let new = r.new.host in
+    let tree = g.F.Folder.tree in
+    let faults = g.F.Folder.faults in
+    host_session g.V.Vault.trace g.V.Vault.faults g.K.Keeper c.args.now input output c.args.vault c.args.keeper r.result
+    (ComesExport (tree old) (tree new) (faults old) (faults new) some.path input output) (Exports (map string_bytes c.args.words.now) input output (host_of tree faults old new))
+    (λ script end own es came. (some.path, sym some.ensures.value ∙ some.field-0-is, came)) tree faults old new r.ensures.session r.ensures.unhosted

@@ -1,0 +1,33 @@
+-- Copies as sessions.
+use Rattle.std.specs.Prelude.{◌≡◌, ◌⊎◌, ℕ, List}
+use Rattle.std.specs.declared.option.Option.{Option}
+use Rattle.std.specs.declared.option.Option.TheVariants.{Some}
+use Rattle.answers.specs.Sessions.{Exchange}
+use Rattle.copy_sessions.specs.Coming.{ComesImport, ComesExport}
+use Rattle.fs_model.specs.Instant.{Instant}
+use Rattle.host_folder.specs.Folders.{HostPath}
+use Rattle.line_io.specs.Streams.{Stream}
+use Rattle.outside.specs.Trace.{Call}
+use Rattle.outside.specs.declared.keeper.Keeper.{Ghosts as KeeperGhosts}
+use Rattle.run_status.specs.declared.ended.Ended.{Ended}
+use Rattle.run_status.specs.declared.status.Status.{Status}
+use Rattle.session_lines.specs.declared.end.End.{End}
+use Rattle.shell_sessions.specs.Sessions.{Session, WasServed}
+use Rattle.shell_words.specs.Forms.{copy_path}
+use Rattle.cryfs_shell.specs.Hosts.{HostSeen, IsStill}
+
+-- an import to the path that the words say; the folder stays
+abbrev pub Imports : List (List ℕ) → Stream → Stream → HostSeen → Option (List ℕ) → End → Status → List Exchange → Type 0
+Imports words input output host script end own es =
+    (path : HostPath) × (copy_path words ≡ Some path) × (host.new ≡ host.old) × ComesImport host.old host.faults host.risen path input output script end own es
+
+-- an export of the path that the words say
+abbrev pub Exports : List (List ℕ) → Stream → Stream → HostSeen → Option (List ℕ) → End → Status → List Exchange → Type 0
+Exports words input output host script end own es =
+    (path : HostPath) × (copy_path words ≡ Some path) × ComesExport host.old host.new host.faults host.risen path input output script end own es
+
+-- a session that calls the host folder only where it opened a file system
+abbrev pub HostSession : {V : Type 0} → {K : Type 0} → (V → Option (List Call)) → (V → ℕ) → KeeperGhosts K → Instant → (Option (List ℕ) → End → Status → List Exchange → Type 0)
+    → Stream → Stream → HostSeen → V → K → Ended V K → Type 0
+HostSession trace faults G now Came input output host vault keeper ended =
+    Session trace faults G now Came input output vault keeper ended × (IsStill host ⊎ WasServed trace faults G now Came input vault keeper ended)
