@@ -1,0 +1,13 @@
+//! A folder of this machine for a copy: read from, or filled and flushed.
+#![tactic(auto)]
+
+mod error;
+mod host;
+mod listing;
+mod place;
+mod progress;
+mod telling;
+mod text;
+mod way;
+
+pub use host::RealHost;
