@@ -3,7 +3,7 @@
 
 Nothing is proved here: each case gets a tree of its own, in which the sources are a line each, `rt` is a script that
 writes down how it was called and puts the program where the real one puts it, and the program is a script that prints
-its words and each line of its input. The cases of `hands_real.py` take the program that was built in this checkout.
+its words and each line of its input. The cases of `hands_real.py` and `hands_copies.py` take the program that was built in this checkout.
 Words of this script name the cases to run; without any, all are run."""
 import os
 import subprocess
@@ -11,12 +11,14 @@ import sys
 import tempfile
 
 import hands_build
+import hands_copies
 import hands_real
 import hands_terminal
 import hands_words
 from hands_tree import BUILT, Tree
 
 CASES = hands_build.CASES + hands_words.CASES + hands_terminal.CASES
+REAL = hands_real.CASES + hands_copies.CASES
 
 
 def passes(case):
@@ -34,11 +36,11 @@ def passes(case):
 
 
 def main():
-    cases = CASES + (hands_real.CASES if os.path.exists(BUILT) else [])
+    cases = CASES + (REAL if os.path.exists(BUILT) else [])
     chosen = [case for case in cases if len(sys.argv) == 1 or case.__name__ in sys.argv[1:]]
     passed = sum(map(passes, chosen))
     if not os.path.exists(BUILT):
-        print(f"{len(hands_real.CASES)} weren't run: the program isn't built")
+        print(f"{len(REAL)} weren't run: the program isn't built")
     print(f"{passed} passed, {len(chosen) - passed} failed")
     return 0 if passed == len(chosen) else 1
 

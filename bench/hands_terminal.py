@@ -323,6 +323,22 @@ def a_status_is_explained(tree):
     same((terminal.end()), (0, "\r\n"), "status 0")
 
 
+def a_copy_is_seen_as_it_goes_on(tree):
+    tree.built("#!/bin/sh\nread -r line\n[ -t 2 ] && printf '\\rcryfs: 1 files\\033[K' >&2\nread -r line <wait\necho >&2\n"
+               "echo 'cryfs: copy refused' >&2\nexit 13\n")
+    os.mkfifo(f"{tree.top}/wait")
+    terminal = Terminal(tree, "b", "s", "export", "f", "/")
+    terminal.answer("Password: ", "pw")
+    terminal.expect("\rcryfs: 1 files\x1b[K")
+    tree.write("wait", "on\n")
+    status, seen = terminal.end()
+    wanted = [f"{row[2]}: {row[3]}" for row in tree.status_rows() if row[0] == "13"]
+    wanted = ["cryfs: copy refused", *(f"cryfs: {'or ' if it else ''}{line}" for it, line in enumerate(wanted))]
+    same((status, seen.strip().split("\r\n")), (13, wanted), "what is seen")
+    status, _, errors = tree.run("-c", "echo on >wait & echo pw | ./cryfs b s export f /", script="/bin/sh")
+    same((status, errors), (13, "\ncryfs: copy refused\n"), "in a pipe")
+
+
 def a_signal_that_ends_the_program_ends_all(tree):
     tree.built("#!/bin/sh\nread -r line\nkill -s XFSZ $$\n")
     terminal = Terminal(tree, "b", "s", "info")
@@ -366,5 +382,5 @@ CASES = [create_asks_twice, create_tells_what_the_record_means, passwd_asks_for_
          shell_answers_each_line_as_it_comes, shell_tells_how_to_use_it, shell_edits_lines_and_has_a_history, shell_keeps_prompts_out_of_answers,
          shell_tells_of_an_output_that_fails, lines_that_a_terminal_cut_are_refused, an_interrupt_ends_the_input,
          an_interrupt_while_it_opens_ends_the_input, a_stop_gives_the_terminal_back, a_second_interrupt_stops, other_signals_close_the_session_too,
-         shell_ends_with_the_program, shell_takes_its_password_from_elsewhere, trial_asks_nothing, a_status_is_explained,
+         shell_ends_with_the_program, shell_takes_its_password_from_elsewhere, trial_asks_nothing, a_status_is_explained, a_copy_is_seen_as_it_goes_on,
          a_signal_that_ends_the_program_ends_all, signals_put_the_terminal_back]

@@ -2,6 +2,7 @@
 import os
 import signal
 import sys
+import tty
 
 import telling
 from passwords import die_of
@@ -67,9 +68,8 @@ def wait(process):
     return -os.WTERMSIG(status) if os.WIFSIGNALED(status) else os.WEXITSTATUS(status)
 
 
-def run_explained(program, call, given):
-    """Runs the program below this process, where a person sees its errors, and says what its status means."""
-    errors = in_memory()
+def start_below(program, call, given, errors):
+    """The process of the program, with signals handed on to it."""
     streams = {2: errors} if given is None else {0: in_memory(given), 2: errors}
     process = start(program, call.words(), streams)
     # An interrupt reaches both by the terminal; what is sent to this process alone is handed on.
@@ -77,15 +77,66 @@ def run_explained(program, call, given):
         signal.signal(it, signal.SIG_IGN)
     for it in (signal.SIGTERM, signal.SIGHUP):
         signal.signal(it, lambda number, _: os.kill(process, number))
-    end(wait(process), errors, call)
+    return process
+
+
+def run_explained(program, call, given):
+    """Runs the program below this process, where a person sees its errors, and says what its status means."""
+    errors = in_memory()
+    end(wait(start_below(program, call, given, errors)), errors, call)
+
+
+def run_watched(program, call, given):
+    """The same, where a person sees what it says as it comes: how far it is."""
+    side, errors = terminal()
+    process = start_below(program, call, given, errors)
+    os.close(errors)
+    last = handed_on(side)
+    explain(wait(process), last, call)
+
+
+def terminal():
+    """A terminal of the program's own, for what it says as it goes on, and the side where that comes out as it is."""
+    side, errors = map(kept_apart, os.openpty())
+    tty.setraw(errors)
+    return side, errors
+
+
+def handed_on(side):
+    """Passes on to standard error what comes out until the program has ended, and gives the last of it."""
+    last = b""
+    while True:
+        try:
+            piece = os.read(side, 65536)
+        except InterruptedError:
+            continue
+        except OSError:
+            return last
+        if not piece:
+            return last
+        last = (last + piece)[-4096:]
+        shown(piece)
+
+
+def shown(said):
+    """To standard error, which may be closed by now."""
+    try:
+        while said:
+            said = said[os.write(2, said):]
+    except OSError:
+        pass
 
 
 def end(status, errors, call):
     """Prints what the program said, what its status means, and ends as it did."""
     os.lseek(errors, 0, os.SEEK_SET)
     said = os.read(errors, 65536)
-    if said:
-        os.write(2, said)
+    shown(said)
+    explain(status, said, call)
+
+
+def explain(status, said, call):
+    """Says what the status means, behind what the program said last, and ends as it did."""
     if os.isatty(2):
         text = os.fsdecode(said).strip().rpartition("cryfs: ")[2]
         for why in telling.meanings(status, text, call.command) if status else []:

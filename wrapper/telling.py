@@ -3,7 +3,7 @@ import os
 
 HERE = os.path.dirname(os.path.abspath(__file__))
 USAGE = 1
-# What the wrapper ends with where the program wasn't run; the program's own statuses are 0 to 10.
+# What the wrapper ends with where the program wasn't run; the program's own statuses are 0 to 14.
 NOT_RUN = 125
 # What a new file system's owner has to know first.
 STATE_MATTERS = ("Without STATE nothing opens, password or not. Copy it after each run that writes, to another trusted place; "

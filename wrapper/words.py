@@ -5,7 +5,8 @@ from telling import USAGE, Refused
 
 LINES = ("ls", "stat", "mkdir", "rmdir", "mkfile", "rm", "mv", "symlink", "readlink", "write", "read", "truncate", "chmod", "chown",
          "utime", "sync")
-COMMANDS = ("create", "info", "passwd", "shell", "generate", "trial", *LINES)
+COPIES = ("import", "export")
+COMMANDS = ("create", "info", "passwd", "shell", *COPIES, "generate", "trial", *LINES)
 CREATE_OPTIONS = ("--blocksize", "--scrypt-n", "--scrypt-r", "--scrypt-p")
 PASSWORD_OPTIONS = ("--password-file", "--password-command")
 RECORD = "cryfs.localstate"
@@ -38,6 +39,10 @@ class Call:
 
     def takes_password(self):
         return self.command != "trial"
+
+    def copies(self):
+        """Whether it copies a folder, and says so as it goes on."""
+        return self.command in COPIES
 
     def takes_lines(self):
         """Whether it answers lines of its input."""
@@ -99,6 +104,8 @@ def check_command(words):
         check_create(more)
     if command in ("info", "passwd", "shell") and more:
         raise Refused(f"{command} takes no more words", USAGE)
+    if command in COPIES:
+        check_copy(command, more)
     if command == "generate":
         check_count(more, "generate N")
     if command == "trial" and more:
@@ -109,6 +116,14 @@ def check_count(words, form):
     """Refuses what isn't one number of so few digits."""
     if len(words) != 1 or not is_number(words[0], 7):
         raise Refused(f"the words are {form}, with an N of 1 to 7 digits", USAGE)
+
+
+def check_copy(command, words):
+    """Refuses what isn't a folder of this machine and a path of the file system."""
+    if len(words) != 2 or not words[0]:
+        raise Refused(f"the words are {command} FOLDER PATH: a folder of this machine, and a directory of the file system", USAGE)
+    if not words[1].startswith("/"):
+        raise Refused(f"{words[1]!r} is no path of the file system: it begins with /, which alone is its root", USAGE)
 
 
 def check_create(words):
