@@ -9,7 +9,8 @@ use run_status::Status;
 use std::io;
 use std::process::ExitCode;
 
-/// Runs the words after the block folder and the state folder, from standard input to standard output.
+/// Runs the words after the block folder and the state folder, from standard input to standard output. A copy out that ends well is
+/// on the disk.
 fn run_words(rt: &HostRuntime) -> Status {
     let (inputs, mut chance) = match Inputs::read(rt) {
         Ok(read) => read,
@@ -18,6 +19,7 @@ fn run_words(rt: &HostRuntime) -> Status {
     let Ok(keeper) = inputs.make_keeper(rt) else {
         return Status::Memory;
     };
+    let mut host = inputs.host(rt);
     let ended = run_program(
         rt,
         &inputs,
@@ -26,7 +28,11 @@ fn run_words(rt: &HostRuntime) -> Status {
         &mut WriterSink::new(io::writer(rt), ByteLog::new()),
         &mut chance,
         CallLog::new(),
+        &mut host,
     );
+    if host.end().is_err() {
+        return ended.status.or(Status::HostFault);
+    }
     ended.status
 }
 

@@ -1,1 +1,2 @@
+pub mod HostWord
 pub mod RecordUse

@@ -1,7 +1,9 @@
 // What the system gives the program.
 ghost use Rattle.std.specs.Prelude.{◌≡◌, IfOk};
 ghost use Rattle.real_folders.specs.FolderLog.{calls_of};
+ghost use Rattle.real_host.specs.Adapters.{host_faults};
 
+use crate::host_word::take_folder;
 use crate::record_use::uses_record;
 use crate::streams::hold_closed;
 use call_log::CallLog;
@@ -10,6 +12,7 @@ use outside::Memory;
 use rand_chacha::ChaCha20Rng;
 use rand_core::Rng;
 use real_folders::{FolderKeeper, FolderRun, FolderVault};
+use real_host::RealHost;
 use run_status::Status;
 use std::alloc::Global;
 use std::env;
@@ -17,11 +20,14 @@ use std::fs::File;
 use std::io::ErrorKind;
 use std::time::{SystemTime, UNIX_EPOCH};
 
-/// What the program is run with: the folders that its first two words name, the words after them, and this moment.
+/// What the program is run with: the folders that its first two words name, the words after them, and this moment. The words of a copy have one
+/// more folder, which isn't among those that are run.
 #[derive(Drop)]
 pub struct Inputs {
     blocks: String,
     state: String,
+    /// The folder that a copy reads or fills. Without a copy there is none of this name.
+    folder: String,
     folders: FolderRun,
     /// What keeps files of the run from being taken for standard streams.
     closed: [Option<File>; 3],
@@ -52,18 +58,23 @@ impl Inputs {
                 return Err(Status::Memory);
             }
         }
+        let folder = match take_folder(&mut words) {
+            Some(folder) if folder.is_empty() => return Err(Status::Usage),
+            Some(folder) => folder,
+            None => String::new(rt.alloc()),
+        };
         let now = read_clock(rt).ok_or(Status::InputFault)?;
         let Ok(mut chance) = rand::make_rng::<ChaCha20Rng, HostRuntime>(rt) else {
             return Err(Status::InputFault);
         };
         let number = chance.next_u64();
         match Inputs::new(rt.alloc(), blocks, state, words, now, number) {
-            Ok(inputs) => Ok((inputs.holding(closed), chance)),
+            Ok(inputs) => Ok((inputs.holding(folder, closed), chance)),
             Err(Memory) => Err(Status::Memory),
         }
     }
 
-    /// These folders, words and moment, of a run that no other run shares this number with.
+    /// These folders, words and moment, of a run that no other run shares this number with, and that copies nothing.
     pub fn new(
         alloc: Global,
         blocks: String,
@@ -78,6 +89,7 @@ impl Inputs {
         Ok(Inputs {
             blocks,
             state,
+            folder: String::new(alloc),
             folders: FolderRun::new(alloc, number)?,
             closed: [None, None, None],
             words,
@@ -85,8 +97,19 @@ impl Inputs {
         })
     }
 
-    fn holding(self, closed: [Option<File>; 3]) -> Inputs {
-        Inputs { closed, ..self }
+    fn holding(self, folder: String, closed: [Option<File>; 3]) -> Inputs {
+        Inputs {
+            folder,
+            closed,
+            ..self
+        }
+    }
+
+    /// The folder of a copy. Without a copy each call on it fails.
+    pub fn host(&self, rt: &HostRuntime) -> RealHost<'_>
+        ensures { host_faults result ≡ 0 }
+    {
+        RealHost::new(rt, &self.folder, &self.blocks, &self.state)
     }
 
     /// The block folder, after the calls of this log.

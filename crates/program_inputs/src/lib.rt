@@ -1,6 +1,7 @@
-//! What the program takes from the system before it runs: its words, the clock, random bytes, and its two folders.
+//! What the program takes from the system before it runs: its words, the clock, random bytes, its two folders, and that of a copy.
 #![tactic(auto)]
 
+mod host_word;
 mod inputs;
 mod record_use;
 mod streams;

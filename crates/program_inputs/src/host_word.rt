@@ -1,0 +1,22 @@
+// The folder among the words of a copy.
+ghost use Rattle.std.specs.Prelude.{◌≡◌, map, option_map};
+ghost use Rattle.std.specs.String.{string_bytes};
+ghost use Rattle.program_inputs.specs.HostWord.{folder_in, words_left, is_copy};
+
+/// Takes the word behind the first one out, where that begins a copy.
+pub(crate) fn take_folder(words: &mut Vec<String>) -> Option<String>
+    ensures folder { option_map string_bytes result ≡ folder_in (map string_bytes words.old.items) }
+    ensures words { map string_bytes words.new.items ≡ words_left (map string_bytes words.old.items) }
+{
+    if words.len() < 2 || !is_copy(words[0].as_str()) {
+        return None;
+    }
+    Some(words.remove(1))
+}
+
+/// Whether the word begins a copy.
+fn is_copy(word: &str) -> bool
+    ensures { result ≡ is_copy word.now }
+{
+    word == "import" || word == "export"
+}
