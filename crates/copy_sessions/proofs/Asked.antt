@@ -14,7 +14,7 @@ use Rattle.copy_rules.specs.declared.asker.Stopped.{Stopped}
 use Rattle.copy_sessions.specs.Fitting.{kept_by, WentBy}
 use Rattle.copy_sessions.proofs.Following.{true_is_false}
 
-kept_other : (answer : Answer) (before : Option Answer) → is_other answer ≡ true → Some answer ≡ kept_by answer before
+pub kept_other : (answer : Answer) (before : Option Answer) → is_other answer ≡ true → Some answer ≡ kept_by answer before
 kept_other (Replied reply) before w = absurd (true_is_false (sym w))
 kept_other Memory before w = refl
 kept_other Spent before w = refl

@@ -2,3 +2,4 @@ pub mod Following
 pub mod Asked
 pub mod Imported
 pub mod Exported
+pub mod Faultless

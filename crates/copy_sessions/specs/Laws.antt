@@ -1,12 +1,22 @@
 -- What a copy leaves, by its session: the laws.
-use Rattle.std.specs.Prelude.{◌≡◌, List}
+use Rattle.std.specs.Prelude.{◌≡◌, ◌⊎◌, ℕ, List, [], ◌∷◌}
 use Rattle.std.specs.declared.option.Option.{Option}
+use Rattle.std.specs.declared.option.Option.TheVariants.{None, Some}
+use Rattle.std.specs.declared.result.Result.{Result}
 use Rattle.std.specs.declared.result.Result.TheVariants.{Ok, Err}
 use Rattle.fs_model.specs.Instant.{Instant}
 use Rattle.fs_model.specs.Tree.{Tree, IsWellFormed}
 use Rattle.answers.specs.Sessions.{Exchange, IsSession, latest}
+use Rattle.answers.specs.declared.answer.Answer.{Answer}
+use Rattle.answers.specs.declared.answer.Answer.TheVariants as answer
+use Rattle.line_io.specs.Streams.{Stream}
+use Rattle.outside.specs.Causes.{RoseBy}
+use Rattle.run_status.specs.declared.status.Status.{Status}
+use Rattle.run_status.specs.declared.status.Status.TheVariants as status
+use Rattle.session_lines.specs.declared.end.End.{End}
 use Rattle.host_folder.specs.Folders.{HostPath, HostTree}
 use Rattle.copy_rules.specs.declared.copied.CopyFail.{CopyFail}
+use Rattle.copy_rules.specs.declared.copied.CopyFail.TheVariants as fail
 use Rattle.copy_rules.specs.declared.copied.Totals.{Totals}
 use Rattle.copy_rules.specs.Ends.{IsImport}
 use Rattle.copy_rules.specs.ExportLaws.{IsCopyOf, IsPartBelow}
@@ -14,7 +24,8 @@ use Rattle.copy_rules.specs.Exporting.{IsBegun, IsExport, OnTold}
 use Rattle.copy_rules.specs.Importing.{Merged}
 use Rattle.copy_rules.specs.Laws.{SameBelow, IsFree}
 use Rattle.copy_rules.specs.Questions.{Question, Followed}
-use Rattle.copy_sessions.specs.Fitting.{Fits}
+use Rattle.copy_sessions.specs.Coming.{IsImportSession, IsExportSession}
+use Rattle.copy_sessions.specs.Fitting.{Fits, kept_after}
 
 -- the trees of a session are those of its questions, one after the other
 abbrev pub CopyFollows : Type 0
@@ -38,3 +49,32 @@ ExportLeaves = (before after : Option HostTree) (q : HostPath) (totals : Totals)
 abbrev pub ExportLeavesPart : Type 0
 ExportLeavesPart = (before after : Option HostTree) (q : HostPath) (e : CopyFail) (now : Instant) (first : Tree) (qs : List Question) (es : List Exchange) (trees : List Tree)
     → IsBegun before after q qs (Err e) → IsWellFormed first → Fits qs es → IsSession now first es trees → (latest first trees ≡ first) × OnTold before after (λ v. IsPartBelow v first q)
+
+-- a reply, or memory was refused, or a block that the command would change has its last version
+abbrev pub IsFaultless : Answer → Type 0
+IsFaultless (answer.Reply reply) = Unit {0}
+IsFaultless answer.Memory = Unit {0}
+IsFaultless answer.Spent = Unit {0}
+IsFaultless other = ⊥
+
+abbrev pub AreFaultless : List Exchange → Type 0
+AreFaultless [] = Unit {0}
+AreFaultless (e ∷ es) = IsFaultless e.answer × AreFaultless es
+
+-- the status of a copy that ended so where nothing failed: it stopped by want of memory, or by a block with its last version
+abbrev pub IsEndOf : Result Totals CopyFail → Option Answer → Status → Type 0
+IsEndOf (Ok totals) kept own = own ≡ status.Done
+IsEndOf (Err fail.Memory) kept own = own ≡ status.Memory
+IsEndOf (Err fail.Host) kept own = ⊥
+IsEndOf (Err fail.Stopped) kept own = ((kept ≡ Some answer.Memory) × (own ≡ status.Memory)) ⊎ ((kept ≡ Some answer.Spent) × (own ≡ status.CopyStopped))
+IsEndOf (Err (fail.LongPath p)) kept own = own ≡ status.CopyRefused
+IsEndOf (Err (fail.Refused p e)) kept own = own ≡ status.CopyRefused
+
+-- where no answer of the session and no call on the folder failed, its status is that of its end, or memory was refused
+abbrev pub ImportEnds : Type 0
+ImportEnds = (folder : Option HostTree) (faults risen : ℕ) (target : HostPath) (input output : Stream) (end : End) (own : Status) (es : List Exchange) (s : IsImportSession folder faults risen target input output end own es)
+    → AreFaultless es → ¬ RoseBy 1 faults risen → (own ≡ status.Memory) ⊎ IsEndOf s.result (kept_after None es) own
+
+abbrev pub ExportEnds : Type 0
+ExportEnds = (before after : Option HostTree) (faults risen : ℕ) (source : HostPath) (input output : Stream) (end : End) (own : Status) (es : List Exchange) (s : IsExportSession before after faults risen source input output end own es)
+    → AreFaultless es → ¬ RoseBy 1 faults risen → (own ≡ status.Memory) ⊎ IsEndOf s.result (kept_after None es) own

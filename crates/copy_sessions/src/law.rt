@@ -1,5 +1,5 @@
 // What the session of a copy leaves.
-ghost use Rattle.copy_sessions.specs.Laws.{CopyFollows, ExportLeaves, ExportLeavesPart, ImportLeaves};
+ghost use Rattle.copy_sessions.specs.Laws.{CopyFollows, ExportEnds, ExportLeaves, ExportLeavesPart, ImportEnds, ImportLeaves};
 
 /// The trees of a copy's session are those that its questions lead to by the steps of what was answered: so after a
 /// failure too the last tree is that after the commands that were done.
@@ -22,4 +22,15 @@ pub fn export_leaves()
 /// the first.
 pub fn export_leaves_part()
     ensures { ExportLeavesPart }
+{}
+
+/// Where neither an answer nor the folder failed, an import's status is that of its end: done, refused for its cause, or
+/// stopped by want of memory or a block with its last version; or memory was refused.
+pub fn import_ends()
+    ensures { ImportEnds }
+{}
+
+/// So is an export's.
+pub fn export_ends()
+    ensures { ExportEnds }
 {}
