@@ -1,0 +1,6 @@
+//! What a check of a file system may find: who owns each block, or what is wrong with one; and that a flaw is one in each content that has what was given.
+#![tactic(auto)]
+
+mod law;
+
+pub use law::{flaw_refutes, unowned_is_flaw};
