@@ -1,9 +1,9 @@
 -- Why a walk stopped, and what it did before.
 use Rattle.std.specs.Prelude.{◌≡◌, ◌<◌, ◌⊎◌, ℕ, suc, false, List, map, reverse, Some, None, is_some}
-use Rattle.block_id.specs.declared.fail.Fail.{Fail}
 use Rattle.data_nodes.specs.Layout.{NodeText, inner}
 use Rattle.data_tree.specs.Trees.{NoDoubles}
 use Rattle.store_api.specs.Content.{Id, Content}
+use Rattle.store_api.specs.Holdings.{Holdings}
 use Rattle.store_api.specs.Loads.{LoadAnswer}
 use Rattle.block_walk.specs.declared.flaw.Flaw.{Flaw}
 use Rattle.block_walk.specs.declared.flaw.Flaw.TheVariants.{BadNode, Twice, NotLive}
@@ -78,3 +78,7 @@ pub record Halted {S : Type 0} (loads : S → S → Id → LoadAnswer → Type 0
   pub alone : NoDoubles ids
   pub marked : MarkedAll old new ids owner
   pub why : (C : Content) → AgreesWith C (given_of asked) → OnFound halt (Why C)
+
+-- the same of a walk over a store of blocks, where these ways lead to nodes
+abbrev pub HaltedAt : {S : Type 0} → Holdings S → (S → S → Id → LoadAnswer → Type 0) → ℕ → S → S → MarkList → MarkList → (Content → Leading) → Halt → Type 0
+HaltedAt H loads owner a b old new leads halt = Halted loads owner a b old new halt (λ C flaw. FlawAt (H.payload a) C old (H.content a) (leads C) flaw)

@@ -1,0 +1,6 @@
+pub mod OneTree
+pub mod Pieces
+pub mod Nodes
+pub mod Ways
+pub mod Standing
+pub mod Refuting

@@ -1,11 +1,14 @@
 -- What is wrong with blocks, in what was given of them.
 use Rattle.std.specs.Prelude.{◌≡◌, ◌≤◌, ℕ, true, false, List, length, IsTrue, Some, is_some}
+use Rattle.std.specs.FinMap.{get}
+use Rattle.blob_api.specs.BlobMap.{BlobMap}
 use Rattle.block_walk.specs.declared.flaw.Flaw.{Flaw}
 use Rattle.block_walk.specs.declared.flaw.Flaw.TheVariants.{BadNode, BadBlob, Parent, Twice, NotLive, Unowned}
 use Rattle.block_walk.specs.Given.{Given, AgreesWith}
 use Rattle.block_walk.specs.Needs.{NodeNeed, Serves}
-use Rattle.data_tree.specs.Stored.{BlobTree}
+use Rattle.data_tree.specs.Stored.{BlobTree, StoresBlobs}
 use Rattle.dir_entries.specs.Layout.{Listing, IsBody}
+use Rattle.forest.specs.Shows.{ShowsTree}
 use Rattle.fs_blobs.specs.Headers.{blob}
 use Rattle.fs_model.specs.declared.attr.Kind.{Kind}
 use Rattle.fs_model.specs.declared.attr.Kind.TheVariants.{Directory, File, Link}
@@ -14,7 +17,6 @@ use Rattle.fs_model.specs.Fitting.{is_target}
 use Rattle.fs_model.specs.Tree.{Path, Tree}
 use Rattle.store_api.specs.Content.{Id, Content}
 use Rattle.store_api.specs.Holdings.{has_id}
-use Rattle.tree_commands.specs.Showing.{ShowsFiles}
 use Rattle.check_rules.specs.Reached.{IsReached, Place, NeedsNode}
 
 -- entries, a file's bytes or a link's target, within their limits
@@ -92,7 +94,7 @@ HasFlaw payload root live G (Unowned id) = HasUnowned payload root live G id.0
 
 -- ---- what every flaw says
 
--- no content that has what was given, and has exactly the live ids, shows a tree from this root on
+-- no content that has what was given, and has exactly the live ids, stores blobs that show a tree from this root on
 abbrev pub Refutes : ℕ → Id → List Id → Given → Type 0
 Refutes payload root live given =
-    (B : Content) → AgreesWith B given → ((id : Id) → is_some (B id) ≡ has_id live id) → (tree : Tree) → ShowsFiles payload root B tree → ⊥
+    (B : Content) → AgreesWith B given → ((id : Id) → is_some (B id) ≡ has_id live id) → (blobs : BlobMap) → StoresBlobs payload B (get blobs) → (tree : Tree) → ShowsTree blobs root tree → ⊥

@@ -1,11 +1,14 @@
 // A flaw leaves no tree to show.
 ghost use Rattle.std.specs.Prelude.{◌≡◌, ℕ, List, map, true, false};
+ghost use Rattle.std.specs.FinMap.{get};
+ghost use Rattle.blob_api.specs.BlobMap.{BlobMap};
 ghost use Rattle.block_walk.specs.declared.flaw.Flaw.{Flaw};
 ghost use Rattle.block_walk.specs.Given.{Given, content_of};
+ghost use Rattle.data_tree.specs.Stored.{StoresBlobs};
+ghost use Rattle.forest.specs.Shows.{ShowsTree};
 ghost use Rattle.fs_model.specs.Tree.{Tree};
 ghost use Rattle.store_api.specs.Content.{Id};
 ghost use Rattle.store_api.specs.Holdings.{has_id};
-ghost use Rattle.tree_commands.specs.Showing.{ShowsFiles};
 ghost use Rattle.check_rules.specs.Flaws.{HasFlaw, HasUnowned, Refutes};
 
 /// Where what was given, each id once, has a flaw, no content with it shows a tree.
@@ -19,7 +22,7 @@ pub fn flaw_refutes()
 /// A live block that wasn't given, where what was given shows a tree, has no owner.
 pub fn unowned_is_flaw()
     ensures {
-        (payload : ℕ) (root : Id) (live : List Id) (given : Given) (tree : Tree) (id : Id) → ShowsFiles payload root (content_of given) tree
+        (payload : ℕ) (root : Id) (live : List Id) (given : Given) (blobs : BlobMap) (tree : Tree) (id : Id) → StoresBlobs payload (content_of given) (get blobs) → ShowsTree blobs root tree
             → has_id live id ≡ true → has_id (map (λ g. g.0) given) id ≡ false → HasUnowned payload root live (content_of given) id
     }
 {}

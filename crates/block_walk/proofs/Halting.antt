@@ -1,0 +1,160 @@
+-- Walks that stop.
+use Rattle.std.proofs.Common.{◌≡◌, ◌⊎◌, ℕ, ◌<◌, Bool, true, false, List, [], ◌∷◌, ◌++◌, refl, sym, ◌∙◌, ap, subst, inl, inr, append_assoc}
+use Rattle.std.specs.Prelude.{map, reverse, Some, None, Ok, Err, Result, IfErr, is_some}
+use Rattle.std.proofs.lemmas.List.{map-append, reverse-append}
+use Rattle.data_nodes.specs.Layout.{NodeText, IsNode}
+use Rattle.data_nodes.proofs.Laws.{one_node}
+use Rattle.data_tree.specs.Trees.{NoDoubles}
+use Rattle.data_tree.proofs.Making.{alone-join}
+use Rattle.store_api.specs.Content.{Id, Content}
+use Rattle.store_api.specs.Holdings.{has_id}
+use Rattle.store_api.specs.Loads.{LoadAnswer}
+use Rattle.block_walk.specs.declared.flaw.Flaw.{Flaw}
+use Rattle.block_walk.specs.declared.flaw.Flaw.TheVariants.{BadNode, BadBlob, Parent, Twice, NotLive, Unowned}
+use Rattle.block_walk.specs.declared.flaw.Halt.{Halt}
+use Rattle.block_walk.specs.declared.flaw.Halt.TheVariants.{Found, Failing}
+use Rattle.block_walk.specs.Fronts.{FrontState}
+use Rattle.block_walk.specs.Given.{Given, GaveBy, Asked, AskedBy, AgreesWith, given_by, given_of}
+use Rattle.block_walk.specs.Marks.{MarkList, MarkedOne, MarkedAll, owner_of}
+use Rattle.block_walk.specs.Needs.{NodeNeed, ServesAs, Serves}
+use Rattle.block_walk.specs.Walks.{Walked}
+use Rattle.block_walk.specs.Halts.{Leading, FlawAt, OnFound, Halted}
+use Rattle.block_walk.proofs.Chains.{agrees-parts, marked-apart, marked-then, marked-one, marked-none}
+
+pub if_err : {T E : Type 0} (r : Result T E) {P Q : E → Type 0} → ((e : E) → P e → Q e) → IfErr r P → IfErr r Q
+if_err (Ok x) f h = tt
+if_err (Err e) f h = f e h
+
+-- ---- what was asked
+
+-- what was given was asked for
+pub asked_of : Given → Asked
+asked_of given = map (λ g. (g.0, Ok (Some g.1))) given
+
+gave-asked : {S : Type 0} (loads : S → S → Id → LoadAnswer → Type 0) (a b : S) (given : Given) → GaveBy loads a given b → AskedBy loads a (asked_of given) b
+unfolding asked_of
+gave-asked loads a b [] g = g
+gave-asked loads a b (x ∷ xs) (mid, (g, l)) = (mid, (gave-asked loads a mid xs g, l))
+
+asked-then : {S : Type 0} (loads : S → S → Id → LoadAnswer → Type 0) (a b c : S) (xs ys : Asked) → AskedBy loads a xs b → AskedBy loads b ys c → AskedBy loads a (ys ++ xs) c
+asked-then loads a b c xs [] f g = subst (λ s. AskedBy loads a xs s) (sym g) f
+asked-then loads a b c xs (y ∷ ys) f (mid, (g, l)) = (mid, (asked-then loads a b mid xs ys f g, l))
+
+asked-ids : (given : Given) → map (λ q. q.0) (asked_of given) ≡ map (λ g. g.0) given
+unfolding asked_of
+asked-ids [] = refl
+asked-ids (x ∷ xs) = ap (λ ids. x.0 ∷ ids) (asked-ids xs)
+
+asked-again : (given : Given) → given_of (asked_of given) ≡ given
+unfolding asked_of
+asked-again [] = refl
+asked-again (x ∷ xs) = ap (λ gs. x ∷ gs) (asked-again xs)
+
+given-then : (xs ys : Asked) → given_of (ys ++ xs) ≡ given_of ys ++ given_of xs
+given-then xs [] = refl
+given-then xs (y ∷ ys) = ap (λ gs. given_by y.0 y.1 ++ gs) (given-then xs ys) ∙ sym (append_assoc (given_by y.0 y.1) (given_of ys) (given_of xs))
+
+on_found : (halt : Halt) {P Q : Flaw → Type 0} → ((flaw : Flaw) → P flaw → Q flaw) → OnFound halt P → OnFound halt Q
+on_found (Found flaw) f h = f flaw h
+on_found (Failing fail) f h = tt
+
+module _ {S : Type 0} {loads : S → S → Id → LoadAnswer → Type 0} {owner : ℕ} where
+  -- a walk, and one that stops
+  pub halted_then : {a b c : S} {old mid new : MarkList} {f g : FrontState} {X : Content → List ℕ → List Id → Type 0} {P : List ℕ → Type 0} {halt : Halt} {Why Then : Content → Flaw → Type 0} → 0 < owner
+      → Walked loads owner a b old mid f g X P → Halted loads owner b c mid new halt Why
+      → ((C : Content) (w : List ℕ) (ids : List Id) (flaw : Flaw) → P w → X C w ids → MarkedAll old mid ids owner → Why C flaw → Then C flaw)
+      → Halted loads owner a c old new halt Then
+  halted_then {a = a} {b = b} {c = c} {halt = halt} some one two why = record {
+    asked = two.asked ++ asked_of one.given;
+    by = asked-then loads a b c (asked_of one.given) two.asked (gave-asked loads a b one.given one.gave) two.by;
+    ids = one.ids ++ two.ids;
+    once = map-append (λ (q : Id × LoadAnswer). q.0) two.asked (asked_of one.given)
+        ∙ (ap (λ z. z ++ map (λ q. q.0) (asked_of one.given)) two.once
+        ∙ (ap (λ z. reverse two.ids ++ z) (asked-ids one.given ∙ one.once) ∙ sym (reverse-append one.ids two.ids)));
+    alone = alone-join one.ids two.ids one.alone two.alone (marked-apart some one.marked two.marked);
+    marked = marked-then some one.marked two.marked;
+    why = λ C agrees.
+        let both = subst (AgreesWith C) (given-then (asked_of one.given) two.asked ∙ ap (λ gs. given_of two.asked ++ gs) (asked-again one.given)) agrees in
+        let parts = agrees-parts C one.given (given_of two.asked) both in
+        on_found halt (λ flaw h. why C one.bytes one.ids flaw one.fact (one.hold C parts.1) one.marked h) (two.why C parts.0);
+  }
+
+  -- the same, said in other words
+  pub halted_as : {a b : S} {old new : MarkList} {halt : Halt} {Why Then : Content → Flaw → Type 0} → Halted loads owner a b old new halt Why → ((C : Content) (flaw : Flaw) → Why C flaw → Then C flaw) → Halted loads owner a b old new halt Then
+  halted_as {halt = halt} one why = record {
+    asked = one.asked;
+    by = one.by;
+    ids = one.ids;
+    once = one.once;
+    alone = one.alone;
+    marked = one.marked;
+    why = λ C agrees. on_found halt (why C) (one.why C agrees);
+  }
+
+  -- nothing was asked for
+  pub halted_none : {a : S} {old : MarkList} {halt : Halt} {Why : Content → Flaw → Type 0} → ((C : Content) → OnFound halt (Why C)) → Halted loads owner a a old old halt Why
+  halted_none {old = old} why = record {
+    asked = [];
+    by = refl;
+    ids = [];
+    once = refl;
+    alone = tt;
+    marked = marked-none old owner;
+    why = λ C agrees. why C;
+  }
+
+  -- one block was asked for
+  pub halted_one : {a b : S} {old new : MarkList} {halt : Halt} {Why : Content → Flaw → Type 0} (id : Id) (answer : LoadAnswer) → MarkedOne old new id owner → loads a b id answer
+      → ((C : Content) → AgreesWith C (given_by id answer ++ []) → OnFound halt (Why C)) → Halted loads owner a b old new halt Why
+  halted_one {a = a} id answer one load why = record {
+    asked = (id, answer) ∷ [];
+    by = (a, (refl, load));
+    ids = id ∷ [];
+    once = refl;
+    alone = (refl, tt);
+    marked = marked-one one;
+    why = why;
+  }
+
+-- ---- what is wrong
+
+pub unfit_as : (payload : ℕ) (need : NodeNeed) (text : List ℕ) (node : NodeText) → IsNode text node → (ServesAs payload need node → ⊥) → Serves payload need text → ⊥
+unfit_as payload need text node is bad s = bad (subst (ServesAs payload need) (one_node text s.node node s.is is) s.serves)
+
+-- how ways of one kind go on from ways of another, behind blocks that were walked before
+pub record Onward (ids : List Id) (leads onward : Leading) : Type 0 where
+  pub from : List ℕ → List ℕ
+  pub apart : (a b : List ℕ) → from a ≡ from b → a ≡ b
+  pub step : (way : List ℕ) (x : Id) (need : NodeNeed) → leads way x need → onward (from way) x need
+  pub seen : (x : Id) (way : List ℕ) (need : NodeNeed) → has_id ids x ≡ true → leads way x need → (other : List ℕ) × ((wanted : NodeNeed) × (onward other x wanted × (other ≡ from way → ⊥)))
+
+module _ {payload : ℕ} {C : Content} {old mid : MarkList} {held here : Content} {owner : ℕ} {ids : List Id} {leads onward : Leading} where
+  pub flaw_then : MarkedAll old mid ids owner → ((x : Id) → is_some (here x) ≡ is_some (held x)) → Onward ids leads onward → (flaw : Flaw) → FlawAt payload C mid here leads flaw → FlawAt payload C old held onward flaw
+  flaw_then marked same on (BadNode id) h = record { way = on.from h.way; need = h.need; reached = on.step h.way id.0 h.need h.reached; text = h.text; there = h.there; unfit = h.unfit }
+  flaw_then marked same on (Twice id) h = record {
+    way = on.from h.way;
+    need = h.need;
+    reached = on.step h.way id.0 h.need h.reached;
+    again = elim h.again [
+      | inl owned ↦ by owned (has_id ids id.0) refl
+      | inr other ↦ inr (on.from other.0, (other.1.0, (on.step other.0 id.0 other.1.0 other.1.1.0, λ e. other.1.1.1 (on.apart other.0 h.way e))))
+    ];
+  }
+    where
+      by : ((n : ℕ) × ((0 < n) × (owner_of mid id.0 ≡ Some n))) → (r : Bool) → has_id ids id.0 ≡ r
+          → ((n : ℕ) × ((0 < n) × (owner_of old id.0 ≡ Some n))) ⊎ ((other : List ℕ) × ((wanted : NodeNeed) × (onward other id.0 wanted × (other ≡ on.from h.way → ⊥))))
+      by owned true e = inr (on.seen id.0 h.way h.need e h.reached)
+      by owned false e = inl (owned.0, (owned.1.0, sym (marked.kept id.0 e) ∙ owned.1.1))
+  flaw_then marked same on (NotLive id) h = record {
+    way = on.from h.way;
+    need = h.need;
+    reached = on.step h.way id.0 h.need h.reached;
+    absent = elim h.absent [ inl none ↦ inl (by none (has_id ids id.0) refl) | inr gone ↦ inr (sym (same id.0) ∙ gone) ];
+  }
+    where
+      by : owner_of mid id.0 ≡ None → (r : Bool) → has_id ids id.0 ≡ r → owner_of old id.0 ≡ None
+      by none true e = let bad : Some owner ≡ None = sym (marked.now id.0 e) ∙ none in absurd (cc)
+      by none false e = sym (marked.kept id.0 e) ∙ none
+  flaw_then marked same on (BadBlob id) h = absurd h
+  flaw_then marked same on (Parent id) h = absurd h
+  flaw_then marked same on (Unowned id) h = absurd h
