@@ -2,8 +2,6 @@
 use Rattle.std.proofs.Common.{◌≡◌, ◌⊎◌, ℕ, ◌<◌, Bool, true, false, List, [], ◌∷◌, ◌++◌, refl, sym, ◌∙◌, ap, subst, inl, inr, append_assoc}
 use Rattle.std.specs.Prelude.{map, reverse, Some, None, Ok, Err, Result, IfErr, is_some}
 use Rattle.std.proofs.lemmas.List.{map-append, reverse-append}
-use Rattle.data_nodes.specs.Layout.{NodeText, IsNode}
-use Rattle.data_nodes.proofs.Laws.{one_node}
 use Rattle.data_tree.specs.Trees.{NoDoubles}
 use Rattle.data_tree.proofs.Making.{alone-join}
 use Rattle.store_api.specs.Content.{Id, Content}
@@ -75,8 +73,21 @@ module _ {S : Type 0} {loads : S → S → Id → LoadAnswer → Type 0} {owner 
     marked = marked-then some one.marked two.marked;
     why = λ C agrees.
         let both = subst (AgreesWith C) (given-then (asked_of one.given) two.asked ∙ ap (λ gs. given_of two.asked ++ gs) (asked-again one.given)) agrees in
-        let parts = agrees-parts C one.given (given_of two.asked) both in
+        let parts = agrees-parts C (given_of two.asked) one.given both in
         on_found halt (λ flaw h. why C one.bytes one.ids flaw one.fact (one.hold C parts.1) one.marked h) (two.why C parts.0);
+  }
+
+  -- a walk that found a flaw at its end
+  pub halted_here : {a b : S} {old new : MarkList} {f g : FrontState} {X : Content → List ℕ → List Id → Type 0} {P : List ℕ → Type 0} {halt : Halt} {Why : Content → Flaw → Type 0} → Walked loads owner a b old new f g X P
+      → ((C : Content) (w : List ℕ) (ids : List Id) → P w → X C w ids → OnFound halt (Why C)) → Halted loads owner a b old new halt Why
+  halted_here {a = a} {b = b} one why = record {
+    asked = asked_of one.given;
+    by = gave-asked loads a b one.given one.gave;
+    ids = one.ids;
+    once = asked-ids one.given ∙ one.once;
+    alone = one.alone;
+    marked = one.marked;
+    why = λ C agrees. why C one.bytes one.ids one.fact (one.hold C (subst (AgreesWith C) (asked-again one.given) agrees));
   }
 
   -- the same, said in other words
@@ -92,14 +103,14 @@ module _ {S : Type 0} {loads : S → S → Id → LoadAnswer → Type 0} {owner 
   }
 
   -- nothing was asked for
-  pub halted_none : {a : S} {old : MarkList} {halt : Halt} {Why : Content → Flaw → Type 0} → ((C : Content) → OnFound halt (Why C)) → Halted loads owner a a old old halt Why
-  halted_none {old = old} why = record {
+  pub halted_none : {a : S} {old new : MarkList} {halt : Halt} {Why : Content → Flaw → Type 0} → new ≡ old → ((C : Content) → OnFound halt (Why C)) → Halted loads owner a a old new halt Why
+  halted_none {old = old} same why = record {
     asked = [];
     by = refl;
     ids = [];
     once = refl;
     alone = tt;
-    marked = marked-none old owner;
+    marked = subst (λ z. MarkedAll old z [] owner) (sym same) (marked-none old owner);
     why = λ C agrees. why C;
   }
 
@@ -115,46 +126,3 @@ module _ {S : Type 0} {loads : S → S → Id → LoadAnswer → Type 0} {owner 
     marked = marked-one one;
     why = why;
   }
-
--- ---- what is wrong
-
-pub unfit_as : (payload : ℕ) (need : NodeNeed) (text : List ℕ) (node : NodeText) → IsNode text node → (ServesAs payload need node → ⊥) → Serves payload need text → ⊥
-unfit_as payload need text node is bad s = bad (subst (ServesAs payload need) (one_node text s.node node s.is is) s.serves)
-
--- how ways of one kind go on from ways of another, behind blocks that were walked before
-pub record Onward (ids : List Id) (leads onward : Leading) : Type 0 where
-  pub from : List ℕ → List ℕ
-  pub apart : (a b : List ℕ) → from a ≡ from b → a ≡ b
-  pub step : (way : List ℕ) (x : Id) (need : NodeNeed) → leads way x need → onward (from way) x need
-  pub seen : (x : Id) (way : List ℕ) (need : NodeNeed) → has_id ids x ≡ true → leads way x need → (other : List ℕ) × ((wanted : NodeNeed) × (onward other x wanted × (other ≡ from way → ⊥)))
-
-module _ {payload : ℕ} {C : Content} {old mid : MarkList} {held here : Content} {owner : ℕ} {ids : List Id} {leads onward : Leading} where
-  pub flaw_then : MarkedAll old mid ids owner → ((x : Id) → is_some (here x) ≡ is_some (held x)) → Onward ids leads onward → (flaw : Flaw) → FlawAt payload C mid here leads flaw → FlawAt payload C old held onward flaw
-  flaw_then marked same on (BadNode id) h = record { way = on.from h.way; need = h.need; reached = on.step h.way id.0 h.need h.reached; text = h.text; there = h.there; unfit = h.unfit }
-  flaw_then marked same on (Twice id) h = record {
-    way = on.from h.way;
-    need = h.need;
-    reached = on.step h.way id.0 h.need h.reached;
-    again = elim h.again [
-      | inl owned ↦ by owned (has_id ids id.0) refl
-      | inr other ↦ inr (on.from other.0, (other.1.0, (on.step other.0 id.0 other.1.0 other.1.1.0, λ e. other.1.1.1 (on.apart other.0 h.way e))))
-    ];
-  }
-    where
-      by : ((n : ℕ) × ((0 < n) × (owner_of mid id.0 ≡ Some n))) → (r : Bool) → has_id ids id.0 ≡ r
-          → ((n : ℕ) × ((0 < n) × (owner_of old id.0 ≡ Some n))) ⊎ ((other : List ℕ) × ((wanted : NodeNeed) × (onward other id.0 wanted × (other ≡ on.from h.way → ⊥))))
-      by owned true e = inr (on.seen id.0 h.way h.need e h.reached)
-      by owned false e = inl (owned.0, (owned.1.0, sym (marked.kept id.0 e) ∙ owned.1.1))
-  flaw_then marked same on (NotLive id) h = record {
-    way = on.from h.way;
-    need = h.need;
-    reached = on.step h.way id.0 h.need h.reached;
-    absent = elim h.absent [ inl none ↦ inl (by none (has_id ids id.0) refl) | inr gone ↦ inr (sym (same id.0) ∙ gone) ];
-  }
-    where
-      by : owner_of mid id.0 ≡ None → (r : Bool) → has_id ids id.0 ≡ r → owner_of old id.0 ≡ None
-      by none true e = let bad : Some owner ≡ None = sym (marked.now id.0 e) ∙ none in absurd (cc)
-      by none false e = sym (marked.kept id.0 e) ∙ none
-  flaw_then marked same on (BadBlob id) h = absurd h
-  flaw_then marked same on (Parent id) h = absurd h
-  flaw_then marked same on (Unowned id) h = absurd h

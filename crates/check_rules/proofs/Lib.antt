@@ -4,3 +4,4 @@ pub mod Nodes
 pub mod Ways
 pub mod Standing
 pub mod Refuting
+pub mod Walking

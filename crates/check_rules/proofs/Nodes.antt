@@ -123,7 +123,7 @@ module _ (payload : ℕ) (B : Content) where
           tree = p.tree;
           fits = (refl, (p.some wide, λ e. elim (or_cases (nat_lt (suc i) (length children)) (fills need) e) [
             | inl before ↦ p.whole (ltb-true (suc i) (length children) before)
-            | inr last ↦ p.last (child_full need d children t.bytes last.1 fits n.few)
+            | inr last ↦ p.last (child_full need d children t.bytes last fits n.few)
           ]));
         };
         inside = p.inside;

@@ -17,8 +17,8 @@ same_depth {d = d} {e = e} h = let up : suc d ≡ suc e = cc in omega (arith, up
 module _ (payload : ℕ) (G B : Content) (sub : (x : Id) (text : List ℕ) → G x ≡ Some text → B x ≡ Some text) where
   -- where a way leads, a tree stands
   pub below_at : (way : List ℕ) (need : NodeNeed) (id : Id) (t : TreeAt payload B need id) (x : Id) (wanted : NodeNeed) → Leads G id need way x wanted → Below payload B wanted x t.own
-  below_at [] need id t x wanted (same, as) =
-      subst (λ n. Below payload B n x t.own) (sym as) (subst (λ y. Below payload B need y t.own) (sym same) (record { at = t; inside = λ y h. h }))
+  below_at [] need id t x wanted (same, alike) =
+      subst (λ n. Below payload B n x t.own) (sym alike) (subst (λ y. Below payload B need y t.own) (sym same) (record { at = t; inside = λ y h. h }))
   below_at (i ∷ way) need id t x wanted (text, (d, (children, (there, (is, (child, (at, rest))))))) =
       let b = child_at payload B need id t text d children i child (sub id text there) is at in
       let on = below_at way (under d (nat_lt (suc i) (length children) || fills need)) child b.at x wanted rest in
@@ -67,15 +67,15 @@ module _ (payload : ℕ) (G B : Content) (sub : (x : Id) (text : List ℕ) → G
   -- one step more
   pub leads_more : (way : List ℕ) (id : Id) (need : NodeNeed) (x : Id) (wanted : NodeNeed) (i : ℕ) (text : List ℕ) (d : ℕ) (children : List Id) (child : Id) → Leads G id need way x wanted → G x ≡ Some text → IsNode text (inner (suc d) children) → slice_get children i ≡ Some child
       → Leads G id need (way ++ i ∷ []) child (under d (nat_lt (suc i) (length children) || fills wanted))
-  leads_more [] id need x wanted i text d children child (same, as) there is at =
-      (text, (d, (children, (subst (λ y. G y ≡ Some text) same there, (is, (child, (at, (refl, ap (λ n. under d (nat_lt (suc i) (length children) || fills n)) as))))))))
+  leads_more [] id need x wanted i text d children child (same, alike) there is at =
+      (text, (d, (children, (subst (λ y. G y ≡ Some text) same there, (is, (child, (at, (refl, ap (λ n. under d (nat_lt (suc i) (length children) || fills n)) alike))))))))
   leads_more (j ∷ way) id need x wanted i text d children child (text2, (d2, (children2, (there2, (is2, (child2, (at2, rest))))))) there is at =
       (text2, (d2, (children2, (there2, (is2, (child2, (at2, leads_more way child2 (under d2 (nat_lt (suc j) (length children2) || fills need)) x wanted i text d children child rest there is at)))))))
 
   -- from the root to a node, and from there on in the content
   pub leads_on : (root : Id) (first : NodeNeed) → ((way : List ℕ) (x : Id) (need : NodeNeed) → Leads G root first way x need → is_some (G x) ≡ true) → (way front : List ℕ) (id : Id) (need : NodeNeed) (x : Id) (wanted : NodeNeed) → Leads G root first front id need → Leads B id need way x wanted
       → (whole : List ℕ) × Leads G root first whole x wanted
-  leads_on root first given [] front id need x wanted h (same, as) = (front, subst (λ n. Leads G root first front x n) (sym as) (subst (λ y. Leads G root first front y need) (sym same) h))
+  leads_on root first given [] front id need x wanted h (same, alike) = (front, subst (λ n. Leads G root first front x n) (sym alike) (subst (λ y. Leads G root first front y need) (sym same) h))
   leads_on root first given (i ∷ way) front id need x wanted h (text, (d, (children, (there, (is, (child, (at, rest))))))) =
       let got = some_of (G id) (given front id need h) in
       let both : Some got.0 ≡ Some text = sym (sub id got.0 got.1) ∙ there in

@@ -1,3 +1,4 @@
 pub mod Reached
 pub mod Flaws
 pub mod Certificates
+pub mod Marked

@@ -3,20 +3,41 @@ ghost use Rattle.std.specs.Prelude.{◌≡◌, ℕ, List, map, true, false};
 ghost use Rattle.std.specs.FinMap.{get};
 ghost use Rattle.blob_api.specs.BlobMap.{BlobMap};
 ghost use Rattle.block_walk.specs.declared.flaw.Flaw.{Flaw};
-ghost use Rattle.block_walk.specs.Given.{Given, content_of};
+ghost use Rattle.block_walk.specs.Given.{Given, AgreesWith, content_of};
+ghost use Rattle.block_walk.specs.Halts.{FlawAt};
+ghost use Rattle.block_walk.specs.Marks.{MarkList};
+ghost use Rattle.block_walk.specs.Needs.{top, Leads};
+ghost use Rattle.data_tree.specs.Trees.{NoDoubles};
+ghost use Rattle.fs_model.specs.declared.attr.Kind.{Kind};
 ghost use Rattle.data_tree.specs.Stored.{StoresBlobs};
 ghost use Rattle.forest.specs.Shows.{ShowsTree};
-ghost use Rattle.fs_model.specs.Tree.{Tree};
-ghost use Rattle.store_api.specs.Content.{Id};
+ghost use Rattle.fs_model.specs.Tree.{Path, Tree};
+ghost use Rattle.store_api.specs.Content.{Id, Content};
 ghost use Rattle.store_api.specs.Holdings.{has_id};
 ghost use Rattle.check_rules.specs.Flaws.{HasFlaw, HasUnowned, Refutes};
+ghost use Rattle.check_rules.specs.Marked.{MarksOthers};
+ghost use Rattle.check_rules.specs.Reached.{IsReached};
 
-/// Where what was given, each id once, has a flaw, no content with it shows a tree.
+/// Where what was given has a flaw, no content with it shows a tree.
 pub fn flaw_refutes()
     ensures {
         (payload : ℕ) (root : Id) (live : List Id) (given : Given) (flaw : Flaw)
             → HasFlaw payload root live (content_of given) flaw → Refutes payload root live given
     }
+{}
+
+/// A flaw that the walk over a reached blob found is one of what was given.
+pub fn walk_flaw_is_flaw()
+    ensures {
+        (payload : ℕ) (root : Id) (live : List Id) (G : Content) (path : Path) (kind : Kind) (id parent : Id) (marks : MarkList) (held : Content) (flaw : Flaw)
+            → IsReached payload G root path kind id parent → MarksOthers payload root live G path marks held
+            → FlawAt payload G marks held (Leads G id top) flaw → HasFlaw payload root live G flaw
+    }
+{}
+
+/// What was given, each id once, agrees with itself.
+pub fn given_agrees()
+    ensures { (given : Given) → NoDoubles (map (λ g. g.0) given) → AgreesWith (content_of given) given }
 {}
 
 /// A live block that wasn't given, where what was given shows a tree, has no owner.

@@ -1,5 +1,6 @@
-use Rattle.std.proofs.Common.{◌≡◌, ◌<◌, ◌≤◌, ◌+◌, ◌-◌, ◌*◌, List, [], ◌∷◌, ◌++◌, length, get_or, true, sym, ◌∙◌, ap, subst, refl, arith, take}
-use Rattle.std.specs.Prelude.{min}
+use Rattle.std.proofs.Common.{◌≡◌, ◌<◌, ◌≤◌, ◌+◌, ◌-◌, ◌*◌, List, [], ◌∷◌, ◌++◌, length, get_or, true, sym, ◌∙◌, ap, subst, refl, arith, take, suc, ◌/◌, inl}
+use Rattle.std.specs.Prelude.{min, Some}
+use Rattle.std.specs.List.{slice_get}
 use Rattle.std.proofs.lemmas.List.{length-take, length-map, get_or-take}
 use Rattle.block_id.specs.declared.id.BlockId.{BlockId}
 use Rattle.outcome.specs.Outcome.{idle, then_}
@@ -10,10 +11,13 @@ use Rattle.data_tree.proofs.Gathering.{more_children, all_children}
 use Rattle.block_walk.specs.Fronts.{joined_front}
 use Rattle.block_walk.proofs.Marking.{not_zero}
 use Rattle.block_walk.specs.Walks.{FillsTrees}
+use Rattle.block_walk.specs.Needs.{under, IsFilled, IsFull, Leads, LeadsAmong}
+use Rattle.block_walk.proofs.Halting.{halted_then, halted_here, halted_as, halted_none, if_err}
+use Rattle.block_walk.proofs.Onward.{unfit_as, flaw_then, flaw_in, flaw_among, among_onward, flag_before, flag_last, child_is}
 use Rattle.block_walk.proofs.Walking.{walked_then, walked_as, walked_none, walked_bytes, if_ok}
 use Rattle.block_walk.proofs.Filling.{tree_of, fills_behind, leaf_holds, inner_holds, fills_more, fills_last, fills_node, forest_next, never, whole_leaf, full_count}
 use Rattle.block_walk.proofs.walk.+walk.Goals as goal
-use Rattle.block_walk.proofs.walk.+walk.Goals.{walk_in-else-full-2-via-then-full-2+else-len-payload, walk_in-else-full-2-via-else-full-2}
+use Rattle.block_walk.proofs.walk.+walk.Goals.{walk_in-else-full-2-via-then-full-2+else-len-payload, walk_in-else-full-2-via-else-full-2, walk_in-then-len-eq0-via-then-len-eq0, walk_in-then-len-eq0-via-else-len-eq0+then-len-level, walk_in-then-full, walk_in-else-full}
 
 pub walk_below-returns-clause-walked : goal.walk_below-returns-clause-walked
 walk_below-returns-clause-walked g t c =
@@ -107,3 +111,110 @@ walk_in-returns-else-full-2-clause-walked g t c =
     if_ok c.walk_children.result (λ len walked. walked_as walked
     (λ C w ids alone f forest. inner_holds p C c.args.need.level.depth c.below-below.result.depth c.in-Inner.depth (node_of c.args.node.now) w children ids is c.requires.depth c.below-below.ensures.depth forest)
     (λ w f. fills_node len count (fan_out p) c.below-below.result.room c.args.need.level.room c.args.need.full w all few whole f)) c.walk_children.ensures.walked
+
+-- ---- why a walk stops
+
+pub walk_below-returns-in-Err-clause-halted : goal.walk_below-returns-in-Err-clause-halted
+walk_below-returns-in-Err-clause-halted g t c = c.in-Err.ensures.halted (under c.args.need.level.depth c.args.need.full)
+
+pub walk_below-returns-then-depth_of-need-clause-halted : goal.walk_below-returns-then-depth_of-need-clause-halted
+walk_below-returns-then-depth_of-need-clause-halted g t c =
+    let p = g.B.Blocks.holdings.payload c.args.store.now in
+    let node = node_of c.in-Ok.node in
+    let need = under c.args.need.level.depth c.args.need.full in
+    halted_here (c.in-Ok.ensures.walked c.args.front.now) (λ C w ids none at. record {
+      way = [];
+      need = need;
+      reached = (refl, refl);
+      text = at.text;
+      there = at.there;
+      unfit = unfit_as p need at.text node at.is (λ s. c.if-depth_of-need.true (c.depth_of.ensures ∙ s.deep));
+    })
+
+pub walk_below-returns-clause-halted : goal.walk_below-returns-clause-halted
+walk_below-returns-clause-halted g t c =
+    let H = g.B.Blocks.holdings in
+    let id = c.args.id.now.0 in
+    let node = node_of c.in-Ok.node in
+    let stays = c.load_node.ensures.stays in
+    if_err c.walk_in.result (λ halt h. halted_then c.requires.owner (c.in-Ok.ensures.walked c.args.front.now) h
+    (λ C w ids flaw none at marked f. flaw_in (H.payload c.args.store.now) (H.payload c.load_node.new.store) C c.args.marks.now c.load_node.new.marks (H.content c.args.store.now) (H.content c.load_node.new.store) c.args.need.owner id node
+    (under c.args.need.level.depth c.args.need.full) w ids stays.payload marked stays.ids at flaw f)) c.walk_in.ensures.halted
+
+pub walk_children-returns-in-Err-clause-halted : goal.walk_children-returns-in-Err-clause-halted
+walk_children-returns-in-Err-clause-halted g t c =
+    let H = g.B.Blocks.holdings in
+    let p = H.payload c.args.store.now in
+    let inv = c.loop-child.invariant in
+    let i = c.loop-child.child-index in
+    let n = length c.args.children.now in
+    let depth = c.args.need.level.depth in
+    let cs = ids_of c.args.children.now in
+    let long : length cs ≡ n = length-map c.args.children.now (λ (x : BlockId). x.0) in
+    let lt : i < n - 1 = omega (arith, length-take (n - 1) c.args.children.now, c.loop-child-test.true) in
+    let child : BlockId = get_or (take (n - 1) c.args.children.now) i (record { 0 = [] }) in
+    let same : get_or c.args.children.now i (record { 0 = [] }) ≡ child = sym (get_or-take (n - 1) c.args.children.now i (record { 0 = [] }) lt) in
+    let at : slice_get cs i ≡ Some child.0 = child_is c.args.children.now i (record { 0 = [] }) (omega (arith, lt)) ∙ ap (λ (x : BlockId). Some x.0) same in
+    let flag = flag_before i (length cs) c.args.need.full (omega (arith, long, lt)) in
+    halted_then c.requires.owner inv.walked c.in-Err.ensures.halted
+    (λ C w ids flaw all f marked h. flaw_then p (H.payload c.loop-child.store) C c.args.marks.now c.loop-child.marks (H.content c.args.store.now) (H.content c.loop-child.store) c.args.need.owner ids (Leads C child.0 (under depth true)) (LeadsAmong C depth c.args.need.full cs)
+    inv.stays.payload marked inv.stays.ids (among_onward p C depth (span p depth) c.args.need.full true cs i child.0 w ids at flag f) flaw h)
+
+pub walk_children-returns-in-Err-walk_below-clause-halted : goal.walk_children-returns-in-Err-walk_below-clause-halted
+walk_children-returns-in-Err-walk_below-clause-halted g t c =
+    let H = g.B.Blocks.holdings in
+    let p = H.payload c.args.store.now in
+    let inv = c.loop-child.invariant in
+    let i = c.loop-child.child-index in
+    let n = length c.args.children.now in
+    let depth = c.args.need.level.depth in
+    let cs = ids_of c.args.children.now in
+    let long : length cs ≡ n = length-map c.args.children.now (λ (x : BlockId). x.0) in
+    let cut : length (take (n - 1) c.args.children.now) ≡ min (n - 1) n = length-take (n - 1) c.args.children.now in
+    let last : i ≡ n - 1 = omega (arith, cut, c.loop-child-test.false, c.loop-child.auto.child-index-end) in
+    let child : BlockId = get_or c.args.children.now (n - 1) (record { 0 = [] }) in
+    let at : slice_get cs i ≡ Some child.0 = ap (slice_get cs) last ∙ child_is c.args.children.now (n - 1) (record { 0 = [] }) (omega (arith, c.requires.some)) in
+    let flag = flag_last i (length cs) c.args.need.full (omega (arith, long, last)) in
+    halted_then c.requires.owner inv.walked c.in-Err-walk_below.ensures.halted
+    (λ C w ids flaw all f marked h. flaw_then p (H.payload c.loop-child.store) C c.args.marks.now c.loop-child.marks (H.content c.args.store.now) (H.content c.loop-child.store) c.args.need.owner ids (Leads C child.0 (under depth c.args.need.full)) (LeadsAmong C depth c.args.need.full cs)
+    inv.stays.payload marked inv.stays.ids (among_onward p C depth (span p depth) c.args.need.full c.args.need.full cs i child.0 w ids at flag f) flaw h)
+
+pub walk_in-returns-then-len-eq0-clause-halted : goal.walk_in-returns-then-len-eq0-clause-halted
+walk_in-returns-then-len-eq0-clause-halted g t c =
+    let p = g.B.Blocks.holdings.payload c.args.store.now in
+    let w = c.in-Leaf.bytes.items in
+    let is = ap node_of c.in-Leaf.is in
+    let told : c.len-len.result ≡ length w = omega (arith, c.len-len.ensures, c.in-Leaf.bytes.ok) in
+    let zero : 0 ≡ c.args.need.level.depth = sym (ap depth_in is) ∙ c.requires.depth in
+    let room : c.args.need.level.room ≡ span p 0 = c.requires.level ∙ ap (span p) (sym zero) in
+    halted_none refl (λ C. inl (refl, λ s. elim c.then-len-eq0.branch [
+      | walk_in-then-len-eq0-via-then-len-eq0 v ↦ let some : 0 < length w = subst IsFilled is s.some in absurd (omega (arith, some, told, v.if-len-eq0.true))
+      | walk_in-then-len-eq0-via-else-len-eq0+then-len-level v ↦ elim v.if-full.branch [
+        | walk_in-then-full u ↦ let whole : length w ≡ span p 0 = subst (IsFull p) is (s.whole u.if-full.true) in absurd (omega (arith, whole, told, room, v.if-len-level.true))
+        | walk_in-else-full u ↦ absurd (cc)
+      ]
+    ]))
+
+pub walk_in-returns-then-len-payload-clause-halted : goal.walk_in-returns-then-len-payload-clause-halted
+walk_in-returns-then-len-payload-clause-halted g t c =
+    let p = g.B.Blocks.holdings.payload c.args.store.now in
+    let is = ap node_of c.in-Inner.is in
+    let long = length-map c.in-Inner.children.items (λ (x : BlockId). x.0) in
+    let told : c.len.result ≡ length c.in-Inner.children.items = omega (arith, c.len.ensures, c.in-Inner.children.ok) in
+    let fan : (c.payload.result - 8) / 16 ≡ fan_out p = ap fan_out c.payload.ensures in
+    halted_none refl (λ C. inl (refl, λ s.
+    let whole : length (ids_of c.in-Inner.children.items) ≡ fan_out p = subst (IsFull p) is (s.whole c.if-full-2.true) in
+    omega (arith, whole, long, told, fan, c.if-len-payload.true)))
+
+pub walk_in-returns-in-Err-clause-halted : goal.walk_in-returns-in-Err-clause-halted
+walk_in-returns-in-Err-clause-halted g t c = halted_none refl (λ C. tt)
+
+pub walk_in-returns-else-full-2-clause-halted : goal.walk_in-returns-else-full-2-clause-halted
+walk_in-returns-else-full-2-clause-halted g t c =
+    let H = g.B.Blocks.holdings in
+    let children = ids_of c.deref-in-Inner.result.now in
+    let is = ap node_of c.in-Inner.is ∙ ap (λ (xs : List BlockId). inner c.in-Inner.depth (ids_of xs)) (sym c.deref-in-Inner.ensures.value) in
+    let level : c.in-Inner.depth ≡ suc c.below-below.result.depth = omega (arith, ap depth_in is, c.requires.depth, c.below-below.ensures.depth) in
+    if_err c.walk_children.result (λ halt h. halted_as h
+    (λ C flaw f. flaw_among (H.payload c.args.store.now) C c.args.marks.now (H.content c.args.store.now) c.args.id.now.0 (node_of c.args.node.now) (under c.args.need.level.depth c.args.need.full) c.below-below.result.depth c.in-Inner.depth children is level flaw f))
+    c.walk_children.ensures.halted

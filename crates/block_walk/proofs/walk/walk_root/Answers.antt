@@ -1,10 +1,13 @@
-use Rattle.std.proofs.Common.{◌≡◌, ◌≤◌, ◌+◌, List, [], ◌++◌, length, sym, ◌∙◌, ap, subst, refl, arith}
+use Rattle.std.proofs.Common.{◌≡◌, ◌≤◌, ◌+◌, suc, List, [], ◌++◌, length, sym, ◌∙◌, ap, subst, refl, arith}
 use Rattle.std.proofs.lemmas.List.{length-map}
 use Rattle.block_id.specs.declared.id.BlockId.{BlockId}
 use Rattle.data_nodes.specs.Layout.{node_of, ids_of, leaf, inner, FitsPayload, fan_out}
 use Rattle.data_tree.specs.Trees.{IsTree, Forest, NoDoubles, span, depth_in}
 use Rattle.data_tree.specs.Stored.{BlobTree}
 use Rattle.block_walk.specs.Fronts.{joined_front}
+use Rattle.block_walk.specs.Needs.{top, IsTop}
+use Rattle.block_walk.proofs.Halting.{halted_then, halted_here, if_err}
+use Rattle.block_walk.proofs.Onward.{unfit_as, flaw_in, flaw_among, no_level}
 use Rattle.block_walk.proofs.Walking.{walked_then, walked_as, walked_bytes, if_ok}
 use Rattle.block_walk.proofs.Filling.{leaf_blob, inner_blob}
 use Rattle.block_walk.proofs.walk.walk_root.Goals as goal
@@ -46,3 +49,56 @@ returns-clause-walked g c =
     (subst (λ q. Forest (IsTree q C low) (span q low) children v jds) same forest))
     (λ u v none fills. fills.told ∙ ap (λ xs. length (xs ++ v)) (sym none)))
     (λ C v ids alone len blob. blob alone) (λ v told. told)) c.walk_children.ensures.walked
+
+-- ---- why it stops
+
+pub returns-in-Err-clause-halted : goal.returns-in-Err-clause-halted
+returns-in-Err-clause-halted g c = c.in-Err.ensures.halted top
+
+pub returns-in-None-clause-halted : goal.returns-in-None-clause-halted
+returns-in-None-clause-halted g c =
+    let p = g.B.Blocks.holdings.payload c.args.store.now in
+    let node = node_of c.in-Ok.node in
+    halted_here (c.in-Ok.ensures.walked c.args.front.now) (λ C w ids none at. record {
+      way = [];
+      need = top;
+      reached = (refl, refl);
+      text = at.text;
+      there = at.there;
+      unfit = unfit_as p top at.text node at.is (no_level p c.payload.result c.depth_of.result node (c.payload.ensures ∙ c.load_node.ensures.stays.payload) c.depth_of.ensures c.in-None.ensures.none);
+    })
+
+pub returns-in-Leaf-clause-halted : goal.returns-in-Leaf-clause-halted
+returns-in-Leaf-clause-halted g c = halted_here (c.in-Ok.ensures.walked c.args.front.now) (λ C w ids none at. tt)
+
+pub returns-then-len-lt2-clause-halted : goal.returns-then-len-lt2-clause-halted
+returns-then-len-lt2-clause-halted g c =
+    let p = g.B.Blocks.holdings.payload c.args.store.now in
+    let node = node_of c.in-Ok.node in
+    let is = ap node_of c.in-Inner.is in
+    let long = length-map c.in-Inner.children.items (λ (x : BlockId). x.0) in
+    halted_here (c.in-Ok.ensures.walked c.args.front.now) (λ C w ids none at. record {
+      way = [];
+      need = top;
+      reached = (refl, refl);
+      text = at.text;
+      there = at.there;
+      unfit = unfit_as p top at.text node at.is (λ s.
+      let two = (subst (IsTop p) is s).0 in
+      omega (arith, two, long, c.if-len-lt2.true, c.len-in-Inner.ensures, c.in-Inner.children.ok));
+    })
+
+pub returns-clause-halted : goal.returns-clause-halted
+returns-clause-halted g c =
+    let H = g.B.Blocks.holdings in
+    let p = H.payload c.args.store.now in
+    let id = c.args.root.now.0 in
+    let node = node_of c.in-Ok.node in
+    let stays = c.load_node.ensures.stays in
+    let children = ids_of c.deref-in-Inner.result.now in
+    let is = ap node_of c.in-Inner.is ∙ ap (λ (xs : List BlockId). inner c.in-Inner.depth (ids_of xs)) (sym c.deref-in-Inner.ensures.value) in
+    let low = c.below-below.result.depth in
+    let level : c.in-Inner.depth ≡ suc low = omega (arith, ap depth_in is, c.depth_of.ensures, c.in-Some.ensures.depth, c.below-below.ensures.depth) in
+    if_err c.walk_children.result (λ halt h. halted_then c.requires.owner (c.in-Ok.ensures.walked c.args.front.now) h
+    (λ C w ids flaw none at marked f. flaw_in p (H.payload c.load_node.new.store) C c.args.marks.now c.load_node.new.marks (H.content c.args.store.now) (H.content c.load_node.new.store) c.args.owner id node top w ids stays.payload marked stays.ids at flaw
+    (flaw_among (H.payload c.load_node.new.store) C c.load_node.new.marks (H.content c.load_node.new.store) id node top low c.in-Inner.depth children is level flaw f))) c.walk_children.ensures.halted

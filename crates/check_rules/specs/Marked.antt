@@ -1,0 +1,22 @@
+-- What marks say of the paths whose blobs were walked before.
+use Rattle.std.specs.Prelude.{◌≡◌, ℕ, false, List, None, is_some}
+use Rattle.block_walk.specs.Halts.{IsOwned}
+use Rattle.block_walk.specs.Marks.{MarkList, owner_of}
+use Rattle.block_walk.specs.Needs.{NodeNeed}
+use Rattle.fs_model.specs.Tree.{Path}
+use Rattle.store_api.specs.Content.{Id, Content}
+use Rattle.store_api.specs.Holdings.{has_id}
+use Rattle.check_rules.specs.Reached.{Place, NeedsNode}
+
+-- a place of another path needs this node
+pub record IsElsewhere (payload : ℕ) (root : Id) (G : Content) (path : Path) (id : Id) : Type 0 where
+  pub place : Place
+  pub need : NodeNeed
+  pub needs : NeedsNode payload G root place id need
+  pub apart : place.path ≡ path → ⊥
+
+-- each block with an owner is needed by another path; what has no mark doesn't live, and what lives is held
+pub record MarksOthers (payload : ℕ) (root : Id) (live : List Id) (G : Content) (path : Path) (marks : MarkList) (held : Content) : Type 0 where
+  pub owned : (id : Id) → IsOwned marks id → IsElsewhere payload root G path id
+  pub dead : (id : Id) → owner_of marks id ≡ None → has_id live id ≡ false
+  pub holds : (id : Id) → is_some (held id) ≡ has_id live id
