@@ -59,7 +59,7 @@ module _ (payload : ℕ) (B : Content) where
       }
 
   -- the node is what is needed
-  serves_at : (need : NodeNeed) (id : Id) (t : TreeAt payload B need id) (text : List ℕ) → B id ≡ Some text → Serves payload need text
+  pub serves_at : (need : NodeNeed) (id : Id) (t : TreeAt payload B need id) (text : List ℕ) → B id ≡ Some text → Serves payload need text
   serves_at need id t text there =
       let both : Some t.tree.text ≡ Some text = sym t.tree.there ∙ there in
       let same : t.tree.text ≡ text = cc in

@@ -28,11 +28,11 @@ use Rattle.check_rules.proofs.Ways.{below_at, has_at, one_way, leads_on}
 -- what was given for an id is in each content that agrees
 pub agreed : (B : Content) (given : Given) → AgreesWith B given → (x : Id) (text : List ℕ) → content_of given x ≡ Some text → B x ≡ Some text
 agreed B [] agrees x text e = absurd (cc)
-agreed B (g ∷ gs) agrees x text e = by (same_id x g.0) refl e
+agreed B (g ∷ gs) agrees x text e = by (agreed B gs agrees.1 x text) (same_id x g.0) refl e
   where
-    by : (b : Bool) → same_id x g.0 ≡ b → cond b (Some g.1) (find id_cmp x gs) ≡ Some text → B x ≡ Some text
-    by true same h = ap B (same_id_is x g.0 same) ∙ (agrees.0 ∙ h)
-    by false same h = agreed B gs agrees.1 x text h
+    by : (content_of gs x ≡ Some text → B x ≡ Some text) → (b : Bool) → same_id x g.0 ≡ b → cond b (Some g.1) (find id_cmp x gs) ≡ Some text → B x ≡ Some text
+    by rest true same h = ap B (same_id_is x g.0 same) ∙ (agrees.0 ∙ h)
+    by rest false same h = rest h
 
 module _ (payload : ℕ) (root : Id) (G B : Content) (sub : (x : Id) (text : List ℕ) → G x ≡ Some text → B x ≡ Some text) {m : BlobMap} {t : Tree} {ids : Path → Id} (stores : StoresBlobs payload B (get m)) (shows : ShowsBy m root t ids) where
   -- a needed node's tree
@@ -88,11 +88,11 @@ module _ (payload : ℕ) (root : Id) (G B : Content) (sub : (x : Id) (text : Lis
   unowned live same id f =
       let start = stores.all id (same id ∙ f.lives) in
       let path = shows.forest.all start.0 start.1.0 in
-      let row = some_of (get t path.0) path.1.0 in
-      let bytes = some_of (get m (ids path.0)) (ap (λ i. is_some (get m i)) path.1.1 ∙ start.1.0) in
+      let row = some_of (get t path.0) path.1 in
+      let bytes = some_of (get m (ids path.0)) (ap (λ i. is_some (get m i)) path.2 ∙ start.1.0) in
       let stored = stores.blob (ids path.0) bytes.0 bytes.1 in
       let reached = shown_reached payload root G B sub stores shows f.whole path.0 row.0 row.1 in
-      let inside : has_id (stores.ids (ids path.0)) id ≡ true = subst (λ i. has_id (stores.ids i) id ≡ true) (sym path.1.1) start.1.1 in
+      let inside : has_id (stores.ids (ids path.0)) id ≡ true = subst (λ i. has_id (stores.ids i) id ≡ true) (sym path.2) start.1.1 in
       let to = leads_to payload B stored.depth (ids path.0) bytes.0 (stores.ids (ids path.0)) stored.tree top id inside in
       let on = leads_on payload G B sub (ids path.0) top
       (λ way x need leads. f.whole (record { path = path.0; way = way }) x need (record { kind = row.0.attr.kind; start = ids path.0; parent = above ids path.0; reached = reached; leads = leads }))
