@@ -1,11 +1,11 @@
 -- What stands at the nodes of a blob's tree.
-use Rattle.std.proofs.Common.{◌≡◌, ◌⊎◌, ℕ, zero, suc, ◌+◌, ◌*◌, ◌<◌, ◌≤◌, ◌^◌, Bool, true, false, List, [], ◌∷◌, length, refl, sym, ◌∙◌, ap, subst, inl, inr, arith}
-use Rattle.std.specs.Prelude.{Some, nat_lt, ◌||◌, ◌/◌, ◌-◌}
+use Rattle.std.proofs.Common.{◌≡◌, ℕ, zero, suc, ◌*◌, ◌<◌, ◌≤◌, ◌^◌, true, false, List, ◌∷◌, length, refl, sym, ◌∙◌, ap, subst, inl, inr, arith}
+use Rattle.std.specs.Prelude.{Some, nat_lt, ◌||◌}
 use Rattle.std.specs.List.{slice_get}
 use Rattle.std.proofs.lemmas.Bool.{or_cases, or_left, or_right, ltb-true}
 use Rattle.std.proofs.Math.Nat.{mul-le-mul_right}
-use Rattle.block_walk.specs.Needs.{NodeNeed, top, under, fills, IsTop, IsFilled, IsFull, Serves, AtChild, Leads}
-use Rattle.data_nodes.specs.Layout.{NodeText, leaf, inner, IsNode, FitsPayload, room, fan_out}
+use Rattle.block_walk.specs.Needs.{NodeNeed, top, under, fills, Serves}
+use Rattle.data_nodes.specs.Layout.{NodeText, leaf, inner, IsNode, FitsPayload, fan_out}
 use Rattle.data_tree.specs.Trees.{IsTree, Holds, Forest, IsDepth, NoDoubles, span, depth_in}
 use Rattle.data_tree.proofs.Counting.{count_few}
 use Rattle.data_tree.proofs.Forests.{forest-length, inner_is}
@@ -14,7 +14,7 @@ use Rattle.data_tree.proofs.Loads.{holds-depth}
 use Rattle.store_api.specs.Content.{Id, Content, same_id}
 use Rattle.store_api.specs.Holdings.{has_id}
 use Rattle.check_rules.proofs.OneTree.{node_is}
-use Rattle.check_rules.proofs.Pieces.{Piece, piece_at, one_piece}
+use Rattle.check_rules.proofs.Pieces.{piece_at, one_piece}
 
 -- ---- numbers
 
@@ -121,10 +121,16 @@ module _ (payload : ℕ) (B : Content) where
           bytes = p.bytes;
           own = p.own;
           tree = p.tree;
-          fits = (refl, (p.some wide, λ e. elim (or_cases (nat_lt (suc i) (length children)) (fills need) e) [
-            | inl before ↦ p.whole (ltb-true (suc i) (length children) before)
-            | inr last ↦ p.last (child_full need d children t.bytes last fits n.few)
-          ]));
+          fits = (
+            refl,
+            (
+              p.some wide,
+              λ e. elim (or_cases (nat_lt (suc i) (length children)) (fills need) e) [
+                | inl before ↦ p.whole (ltb-true (suc i) (length children) before)
+                | inr last ↦ p.last (child_full need d children t.bytes last fits n.few)
+              ],
+            ),
+          );
         };
         inside = p.inside;
       }

@@ -1,8 +1,7 @@
 -- A flaw leaves no tree to show.
-use Rattle.std.proofs.Common.{◌≡◌, ℕ, Bool, true, false, cond, List, [], ◌∷◌, length, map, refl, sym, ◌∙◌, ap, subst}
-use Rattle.std.specs.Prelude.{is_some, ◌||◌}
+use Rattle.std.proofs.Common.{◌≡◌, ℕ, Bool, true, false, cond, List, [], ◌∷◌, map, refl, sym, ◌∙◌, ap, subst}
+use Rattle.std.specs.Prelude.{is_some}
 use Rattle.std.specs.FinMap.{get, find}
-use Rattle.std.specs.declared.option.Option.{Option}
 use Rattle.std.specs.declared.option.Option.TheVariants.{None, Some}
 use Rattle.std.proofs.lemmas.Bool.{or_parts}
 use Rattle.blob_api.specs.BlobMap.{BlobMap}
@@ -15,14 +14,14 @@ use Rattle.block_walk.proofs.Leading.{leads_to}
 use Rattle.data_tree.specs.Stored.{StoresBlobs}
 use Rattle.forest.specs.Shows.{above, ShowsBy, ShowsTree}
 use Rattle.fs_blobs.specs.Headers.{blob}
-use Rattle.fs_model.specs.Tree.{Path, Row, Tree}
+use Rattle.fs_model.specs.Tree.{Path, Tree}
 use Rattle.store_api.specs.Content.{Id, Content, id_cmp, same_id}
 use Rattle.store_api.specs.Holdings.{has_id}
 use Rattle.store_api.proofs.Rising.{same_id_is}
 use Rattle.check_rules.specs.Flaws.{HasBadNode, HasBadBlob, HasParent, HasTwice, HasNotLive, HasUnowned, HasFlaw, Refutes}
-use Rattle.check_rules.specs.Reached.{IsReached, Place, NeedsNode}
+use Rattle.check_rules.specs.Reached.{Place, NeedsNode}
 use Rattle.check_rules.proofs.Nodes.{TreeAt, serves_at}
-use Rattle.check_rules.proofs.Standing.{At, reached_at, one_text, parent_wide, body_fits, blob_parts, top_at, shown_reached}
+use Rattle.check_rules.proofs.Standing.{reached_at, one_text, parent_wide, body_fits, blob_parts, top_at, shown_reached}
 use Rattle.check_rules.proofs.Ways.{below_at, has_at, one_way, leads_on}
 
 -- what was given for an id is in each content that agrees

@@ -1,5 +1,5 @@
 -- What the blobs of a content that shows a tree have at each path that is reached.
-use Rattle.std.proofs.Common.{◌≡◌, ◌+◌, ◌≤◌, ◌^◌, ℕ, true, List, [], ◌∷◌, ◌++◌, length, refl, sym, ◌∙◌, ap, subst, append_assoc, arith}
+use Rattle.std.proofs.Common.{◌≡◌, ℕ, true, List, [], ◌∷◌, ◌++◌, length, refl, sym, ◌∙◌, ap, subst, append_assoc, arith}
 use Rattle.std.specs.Prelude.{is_some, take}
 use Rattle.std.specs.Int.{w16, to_le_bytes}
 use Rattle.std.specs.FinMap.{get, find}
@@ -16,7 +16,7 @@ use Rattle.data_tree.specs.Trees.{IsTree, NoDoubles}
 use Rattle.data_tree.specs.Stored.{BlobTree, StoresBlobs}
 use Rattle.data_tree.proofs.Changes.{tree_frame}
 use Rattle.data_tree.proofs.Making.{tree_there}
-use Rattle.dir_entries.specs.Layout.{EntryTarget, Listing, IsBody}
+use Rattle.dir_entries.specs.Layout.{EntryTarget, IsBody}
 use Rattle.dir_entries.proofs.Bodies.{one_listing}
 use Rattle.forest.specs.Nodes.{Lists, IsBodyOf}
 use Rattle.forest.specs.Shows.{above, target_for, entries_at, ShowsBy}
@@ -25,10 +25,9 @@ use Rattle.fs_blobs.specs.Headers.{blob, header_text}
 use Rattle.fs_blobs.proofs.Parts.{length-blob}
 use Rattle.fs_model.specs.declared.attr.Kind.{Kind}
 use Rattle.fs_model.specs.declared.attr.Kind.TheVariants.{Directory, File, Link}
-use Rattle.fs_model.specs.declared.limits.TheConstants.{MAX_ENTRIES}
 use Rattle.fs_model.specs.Kinds.{byte_of}
 use Rattle.fs_model.specs.Tree.{Path, Row, Tree, root_row, name_cmp, directory_size, FitsKind}
-use Rattle.path_walks.proofs.Nodes.{lists_at, wide_at, above_wide, content_fits}
+use Rattle.path_walks.proofs.Nodes.{lists_at, above_wide, content_fits}
 use Rattle.path_walks.proofs.Sizes.{sizes_shown, body_size}
 use Rattle.store_api.specs.Content.{Id, Content}
 use Rattle.store_api.specs.Holdings.{has_id}
@@ -137,14 +136,16 @@ module _ (payload : ℕ) (root : Id) (G B : Content) (sub : (x : Id) (text : Lis
       let text = blob at.row.attr.kind (above ids path) node.body in
       let stored = stores.blob (ids path) text node.there in
       let small = content_fits t ids path at.row.attr.kind at.row.bytes (entries_at t ids path) node.body (shows.well_formed.directories path) (shows.well_formed.rows path at.row at.there).content (λ n. refl) node.content in
-      let long = length-blob at.row.attr.kind (above ids path) node.body (above_wide shows path at.row at.there) in
-      (record {
-        depth = stored.depth;
-        bytes = text;
-        own = stores.ids (ids path);
-        tree = subst (λ i. IsTree payload B stored.depth i text (stores.ids (ids path))) at.id_is stored.tree;
-        fits = (stored.deep, omega (arith, small, long));
-      }, (refl, stored.alone))
+      let long = length-blob at.row.attr.kind (above ids path) node.body (above_wide shows path at.row at.there) in (
+        record {
+          depth = stored.depth;
+          bytes = text;
+          own = stores.ids (ids path);
+          tree = subst (λ i. IsTree payload B stored.depth i text (stores.ids (ids path))) at.id_is stored.tree;
+          fits = (stored.deep, omega (arith, small, long));
+        },
+        (refl, stored.alone),
+      )
 
   -- ---- where all that is needed was given
 

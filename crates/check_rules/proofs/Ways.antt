@@ -1,9 +1,9 @@
 -- From node to node of a blob's tree.
-use Rattle.std.proofs.Common.{◌≡◌, ℕ, suc, Bool, true, false, List, [], ◌∷◌, ◌++◌, length, refl, sym, ◌∙◌, ap, subst, arith}
+use Rattle.std.proofs.Common.{◌≡◌, ℕ, suc, true, false, List, [], ◌∷◌, ◌++◌, length, refl, sym, ◌∙◌, ap, subst, arith}
 use Rattle.std.specs.Prelude.{Some, is_some, nat_lt, ◌||◌}
 use Rattle.std.specs.List.{slice_get}
 use Rattle.block_id.proofs.Options.{some_of}
-use Rattle.block_walk.specs.Needs.{NodeNeed, under, fills, AtChild, Leads}
+use Rattle.block_walk.specs.Needs.{NodeNeed, under, fills, Leads}
 use Rattle.data_nodes.specs.Layout.{inner, IsNode}
 use Rattle.data_nodes.proofs.Laws.{one_node}
 use Rattle.data_tree.specs.Trees.{NoDoubles}

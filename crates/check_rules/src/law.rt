@@ -20,19 +20,15 @@ ghost use Rattle.check_rules.specs.Reached.{IsReached};
 
 /// Where what was given has a flaw, no content with it shows a tree.
 pub fn flaw_refutes()
-    ensures {
-        (payload : ℕ) (root : Id) (live : List Id) (given : Given) (flaw : Flaw)
-            → HasFlaw payload root live (content_of given) flaw → Refutes payload root live given
-    }
+    ensures { (payload : ℕ) (root : Id) (live : List Id) (given : Given) (flaw : Flaw)
+        → HasFlaw payload root live (content_of given) flaw → Refutes payload root live given }
 {}
 
 /// A flaw that the walk over a reached blob found is one of what was given.
 pub fn walk_flaw_is_flaw()
-    ensures {
-        (payload : ℕ) (root : Id) (live : List Id) (G : Content) (path : Path) (kind : Kind) (id parent : Id) (marks : MarkList) (held : Content) (flaw : Flaw)
-            → IsReached payload G root path kind id parent → MarksOthers payload root live G path marks held
-            → FlawAt payload G marks held (Leads G id top) flaw → HasFlaw payload root live G flaw
-    }
+    ensures { (payload : ℕ) (root : Id) (live : List Id) (G : Content) (path : Path) (kind : Kind) (id parent : Id) (marks : MarkList) (held : Content) (flaw : Flaw)
+        → IsReached payload G root path kind id parent → MarksOthers payload root live G path marks held
+        → FlawAt payload G marks held (Leads G id top) flaw → HasFlaw payload root live G flaw }
 {}
 
 /// What was given, each id once, agrees with itself.
@@ -42,8 +38,6 @@ pub fn given_agrees()
 
 /// A live block that wasn't given, where what was given shows a tree, has no owner.
 pub fn unowned_is_flaw()
-    ensures {
-        (payload : ℕ) (root : Id) (live : List Id) (given : Given) (blobs : BlobMap) (tree : Tree) (id : Id) → StoresBlobs payload (content_of given) (get blobs) → ShowsTree blobs root tree
-            → has_id live id ≡ true → has_id (map (λ g. g.0) given) id ≡ false → HasUnowned payload root live (content_of given) id
-    }
+    ensures { (payload : ℕ) (root : Id) (live : List Id) (given : Given) (blobs : BlobMap) (tree : Tree) (id : Id) → StoresBlobs payload (content_of given) (get blobs) → ShowsTree blobs root tree
+        → has_id live id ≡ true → has_id (map (λ g. g.0) given) id ≡ false → HasUnowned payload root live (content_of given) id }
 {}
