@@ -1,22 +1,18 @@
 -- Walks that stop.
-use Rattle.std.proofs.Common.{◌≡◌, ◌⊎◌, ℕ, ◌<◌, Bool, true, false, List, [], ◌∷◌, ◌++◌, refl, sym, ◌∙◌, ap, subst, inl, inr, append_assoc}
-use Rattle.std.specs.Prelude.{map, reverse, Some, None, Ok, Err, Result, IfErr, is_some}
+use Rattle.std.proofs.Common.{◌≡◌, ℕ, ◌<◌, List, [], ◌∷◌, ◌++◌, refl, sym, ◌∙◌, ap, subst, append_assoc}
+use Rattle.std.specs.Prelude.{map, reverse, Some, Ok, Err, Result, IfErr}
 use Rattle.std.proofs.lemmas.List.{map-append, reverse-append}
-use Rattle.data_tree.specs.Trees.{NoDoubles}
 use Rattle.data_tree.proofs.Making.{alone-join}
 use Rattle.store_api.specs.Content.{Id, Content}
-use Rattle.store_api.specs.Holdings.{has_id}
 use Rattle.store_api.specs.Loads.{LoadAnswer}
 use Rattle.block_walk.specs.declared.flaw.Flaw.{Flaw}
-use Rattle.block_walk.specs.declared.flaw.Flaw.TheVariants.{BadNode, BadBlob, Parent, Twice, NotLive, Unowned}
 use Rattle.block_walk.specs.declared.flaw.Halt.{Halt}
 use Rattle.block_walk.specs.declared.flaw.Halt.TheVariants.{Found, Failing}
 use Rattle.block_walk.specs.Fronts.{FrontState}
 use Rattle.block_walk.specs.Given.{Given, GaveBy, Asked, AskedBy, AgreesWith, given_by, given_of}
-use Rattle.block_walk.specs.Marks.{MarkList, MarkedOne, MarkedAll, owner_of}
-use Rattle.block_walk.specs.Needs.{NodeNeed, ServesAs, Serves}
+use Rattle.block_walk.specs.Marks.{MarkList, MarkedOne, MarkedAll}
 use Rattle.block_walk.specs.Walks.{Walked}
-use Rattle.block_walk.specs.Halts.{Leading, FlawAt, OnFound, Halted}
+use Rattle.block_walk.specs.Halts.{OnFound, Halted}
 use Rattle.block_walk.proofs.Chains.{agrees-parts, marked-apart, marked-then, marked-one, marked-none}
 
 pub if_err : {T E : Type 0} (r : Result T E) {P Q : E → Type 0} → ((e : E) → P e → Q e) → IfErr r P → IfErr r Q

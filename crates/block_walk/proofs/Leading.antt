@@ -1,9 +1,9 @@
 -- The ways that lead to the nodes of a tree.
-use Rattle.std.proofs.Common.{◌≡◌, ℕ, zero, suc, ◌<◌, Bool, true, List, [], ◌∷◌, ◌++◌, take, refl, sym, subst, inl, inr, arith}
+use Rattle.std.proofs.Common.{◌≡◌, ℕ, zero, suc, ◌<◌, Bool, true, List, [], ◌∷◌, take, refl, subst, inl, inr, arith}
 use Rattle.std.specs.Prelude.{Some, nat_lt, length, ◌||◌}
 use Rattle.std.specs.List.{slice_get}
 use Rattle.std.proofs.lemmas.Bool.{or_cases}
-use Rattle.data_nodes.specs.Layout.{inner, IsNode}
+use Rattle.data_nodes.specs.Layout.{IsNode}
 use Rattle.data_tree.specs.Trees.{IsTree, Forest, span}
 use Rattle.data_tree.proofs.Ids.{in_one}
 use Rattle.store_api.specs.Content.{Id, Content, same_id}

@@ -1,5 +1,5 @@
 -- What a blob's tree needs of each of its nodes.
-use Rattle.std.specs.Prelude.{◌≡◌, ◌≤◌, ◌<◌, ◌^◌, ◌||◌, ℕ, zero, suc, Bool, true, false, nat_lt, List, [], ◌∷◌, length, Some}
+use Rattle.std.specs.Prelude.{◌≡◌, ◌≤◌, ◌<◌, ◌^◌, ◌||◌, ℕ, suc, Bool, true, false, nat_lt, List, [], ◌∷◌, length, Some}
 use Rattle.std.specs.List.{slice_get}
 use Rattle.data_nodes.specs.Layout.{NodeText, leaf, inner, IsNode, room, fan_out}
 use Rattle.data_tree.specs.Trees.{IsDepth, depth_in}

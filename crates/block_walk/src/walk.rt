@@ -44,7 +44,8 @@ fn load_node<B: Blocks>(
     ensures stays { Stays B.holdings store.old store.new }
     ensures fits { IfOk result (λ node. FitsPayload (B.holdings.payload store.old) (node_of node)) }
     ensures walked { IfOk result (λ node. (f : FrontState) → Walked B.loads owner store.old store.new marks.old marks.new f f
-        (IsNodeAt (B.holdings.payload store.old) id.now.0 (node_of node)) (λ w. w ≡ [])) }    ensures halted { (need : NodeNeed) → IfErr result (HaltedAt B.holdings B.loads owner store.old store.new marks.old marks.new (λ C. Leads C id.now.0 need)) }
+        (IsNodeAt (B.holdings.payload store.old) id.now.0 (node_of node)) (λ w. w ≡ [])) }
+    ensures halted { (need : NodeNeed) → IfErr result (HaltedAt B.holdings B.loads owner store.old store.new marks.old marks.new (λ C. Leads C id.now.0 need)) }
 {
     match marks.reach(id, owner) {
         Reaching::First => {}
@@ -80,7 +81,8 @@ fn walk_below<B: Blocks>(
     ensures outcome { Outcome B.meanings Unit store.old store.new (fail_of result) (λ _ _. Unit {0}) }
     ensures stays { Stays B.holdings store.old store.new }
     ensures walked { IfOk result (λ len. Walked B.loads need.owner store.old store.new marks.old marks.new front.old front.new
-        (λ C w ids. IsTree (B.holdings.payload store.old) C need.level.depth id.now.0 w ids) (FillsTree len need.level.room need.full)) }    ensures halted { IfErr result (HaltedAt B.holdings B.loads need.owner store.old store.new marks.old marks.new (λ C. Leads C id.now.0 (under need.level.depth need.full))) }
+        (λ C w ids. IsTree (B.holdings.payload store.old) C need.level.depth id.now.0 w ids) (FillsTree len need.level.room need.full)) }
+    ensures halted { IfErr result (HaltedAt B.holdings B.loads need.owner store.old store.new marks.old marks.new (λ C. Leads C id.now.0 (under need.level.depth need.full))) }
 {
     let node = match load_node(alloc, store, marks, need.owner, id) {
         Ok(node) => node,
@@ -112,7 +114,8 @@ fn walk_in<B: Blocks>(
     ensures outcome { Outcome B.meanings Unit store.old store.new (fail_of result) (λ _ _. Unit {0}) }
     ensures stays { Stays B.holdings store.old store.new }
     ensures walked { IfOk result (λ len. Walked B.loads need.owner store.old store.new marks.old marks.new front.old front.new
-        (λ C w ids. Holds (B.holdings.payload store.old) C need.level.depth (node_of node.now) w ids) (FillsTree len need.level.room need.full)) }    ensures halted { IfErr result (λ halt. Halted B.loads need.owner store.old store.new marks.old marks.new halt
+        (λ C w ids. Holds (B.holdings.payload store.old) C need.level.depth (node_of node.now) w ids) (FillsTree len need.level.room need.full)) }
+    ensures halted { IfErr result (λ halt. Halted B.loads need.owner store.old store.new marks.old marks.new halt
         (λ C flaw. FlawIn (B.holdings.payload store.old) C marks.old (B.holdings.content store.old) id.now.0 (node_of node.now) (under need.level.depth need.full) flaw)) }
 {
     let level = need.level;
@@ -161,7 +164,8 @@ fn walk_children<B: Blocks>(
     ensures stays { Stays B.holdings store.old store.new }
     ensures walked { IfOk result (λ len. Walked B.loads need.owner store.old store.new marks.old marks.new front.old front.new
         (λ C w ids. Forest (IsTree (B.holdings.payload store.old) C need.level.depth) (span (B.holdings.payload store.old) need.level.depth) (ids_of children.now) w ids)
-        (FillsTrees len (length children.now) need.level.room need.full)) }    ensures halted { IfErr result (HaltedAt B.holdings B.loads need.owner store.old store.new marks.old marks.new (λ C. LeadsAmong C need.level.depth need.full (ids_of children.now))) }
+        (FillsTrees len (length children.now) need.level.room need.full)) }
+    ensures halted { IfErr result (HaltedAt B.holdings B.loads need.owner store.old store.new marks.old marks.new (λ C. LeadsAmong C need.level.depth need.full (ids_of children.now))) }
 {
     let last = children.len() - 1;
     let whole = Need { full: true, ..need };
@@ -192,7 +196,8 @@ pub fn walk_root<B: Blocks>(
     ensures outcome { Outcome B.meanings Unit store.old store.new (fail_of result) (λ _ _. Unit {0}) }
     ensures stays { Stays B.holdings store.old store.new }
     ensures walked { IfOk result (λ len. Walked B.loads owner store.old store.new marks.old marks.new front.old front.new
-        (λ C w ids. BlobTree (B.holdings.payload store.old) C root.now.0 w ids) (λ w. len ≡ length w)) }    ensures halted { IfErr result (HaltedAt B.holdings B.loads owner store.old store.new marks.old marks.new (λ C. Leads C root.now.0 top)) }
+        (λ C w ids. BlobTree (B.holdings.payload store.old) C root.now.0 w ids) (λ w. len ≡ length w)) }
+    ensures halted { IfErr result (HaltedAt B.holdings B.loads owner store.old store.new marks.old marks.new (λ C. Leads C root.now.0 top)) }
 {
     let node = match load_node(alloc, store, marks, owner, root) {
         Ok(node) => node,

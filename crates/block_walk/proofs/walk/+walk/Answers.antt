@@ -187,13 +187,16 @@ walk_in-returns-then-len-eq0-clause-halted g t c =
     let told : c.len-len.result ≡ length w = omega (arith, c.len-len.ensures, c.in-Leaf.bytes.ok) in
     let zero : 0 ≡ c.args.need.level.depth = sym (ap depth_in is) ∙ c.requires.depth in
     let room : c.args.need.level.room ≡ span p 0 = c.requires.level ∙ ap (span p) (sym zero) in
-    halted_none refl (λ C. inl (refl, λ s. elim c.then-len-eq0.branch [
-      | walk_in-then-len-eq0-via-then-len-eq0 v ↦ let some : 0 < length w = subst IsFilled is s.some in absurd (omega (arith, some, told, v.if-len-eq0.true))
-      | walk_in-then-len-eq0-via-else-len-eq0+then-len-level v ↦ elim v.if-full.branch [
-        | walk_in-then-full u ↦ let whole : length w ≡ span p 0 = subst (IsFull p) is (s.whole u.if-full.true) in absurd (omega (arith, whole, told, room, v.if-len-level.true))
-        | walk_in-else-full u ↦ absurd (cc)
-      ]
-    ]))
+    halted_none refl (λ C. inl (
+      refl,
+      λ s. elim c.then-len-eq0.branch [
+        | walk_in-then-len-eq0-via-then-len-eq0 v ↦ let some : 0 < length w = subst IsFilled is s.some in absurd (omega (arith, some, told, v.if-len-eq0.true))
+        | walk_in-then-len-eq0-via-else-len-eq0+then-len-level v ↦ elim v.if-full.branch [
+          | walk_in-then-full u ↦ let whole : length w ≡ span p 0 = subst (IsFull p) is (s.whole u.if-full.true) in absurd (omega (arith, whole, told, room, v.if-len-level.true))
+          | walk_in-else-full u ↦ absurd (cc)
+        ]
+      ],
+    ))
 
 pub walk_in-returns-then-len-payload-clause-halted : goal.walk_in-returns-then-len-payload-clause-halted
 walk_in-returns-then-len-payload-clause-halted g t c =
@@ -202,9 +205,12 @@ walk_in-returns-then-len-payload-clause-halted g t c =
     let long = length-map c.in-Inner.children.items (λ (x : BlockId). x.0) in
     let told : c.len.result ≡ length c.in-Inner.children.items = omega (arith, c.len.ensures, c.in-Inner.children.ok) in
     let fan : (c.payload.result - 8) / 16 ≡ fan_out p = ap fan_out c.payload.ensures in
-    halted_none refl (λ C. inl (refl, λ s.
-    let whole : length (ids_of c.in-Inner.children.items) ≡ fan_out p = subst (IsFull p) is (s.whole c.if-full-2.true) in
-    omega (arith, whole, long, told, fan, c.if-len-payload.true)))
+    halted_none refl (λ C. inl (
+      refl,
+      λ s.
+          let whole : length (ids_of c.in-Inner.children.items) ≡ fan_out p = subst (IsFull p) is (s.whole c.if-full-2.true) in
+          omega (arith, whole, long, told, fan, c.if-len-payload.true),
+    ))
 
 pub walk_in-returns-in-Err-clause-halted : goal.walk_in-returns-in-Err-clause-halted
 walk_in-returns-in-Err-clause-halted g t c = halted_none refl (λ C. tt)

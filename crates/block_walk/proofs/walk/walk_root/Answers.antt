@@ -84,8 +84,8 @@ returns-then-len-lt2-clause-halted g c =
       text = at.text;
       there = at.there;
       unfit = unfit_as p top at.text node at.is (λ s.
-      let two = (subst (IsTop p) is s).0 in
-      omega (arith, two, long, c.if-len-lt2.true, c.len-in-Inner.ensures, c.in-Inner.children.ok));
+          let two = (subst (IsTop p) is s).0 in
+          omega (arith, two, long, c.if-len-lt2.true, c.len-in-Inner.ensures, c.in-Inner.children.ok));
     })
 
 pub returns-clause-halted : goal.returns-clause-halted
