@@ -1,0 +1,9 @@
+pub mod Lists
+pub mod Rows
+pub mod Tables
+pub mod Finding
+pub mod Owning
+pub mod Turns
+pub mod Showing
+pub mod Settling
+pub mod Certifying

@@ -1,0 +1,122 @@
+// The check of a whole file system.
+ghost use Rattle.std.specs.Prelude.{◌≡◌, ◌<◌, ℕ, [], T, map, OnOk, IfOk, Some, is_some, length};
+ghost use Rattle.std.specs.FinMap.{is_sorted};
+ghost use Rattle.outcome.specs.Outcome.{Outcome};
+ghost use Rattle.store_api.specs.Content.{Id, id_cmp};
+ghost use Rattle.store_api.specs.Holdings.{Stays, has_id};
+ghost use Rattle.data_nodes.specs.Layout.{ids_of};
+ghost use Rattle.block_walk.specs.Given.{fail_of};
+ghost use Rattle.block_walk.specs.Marks.{unmarked, owner_of};
+ghost use Rattle.cryfs_check.specs.Checks.{check_fail, OnYes, IsCertified};
+ghost use Rattle.cryfs_check.specs.Places.{places_text};
+ghost use Rattle.cryfs_check.specs.Visits.{IsVisited, VisitedAll};
+
+use crate::owners::Owners;
+use crate::place::{Place, Visit, place_entries, visit_at};
+use crate::visiting::visit;
+use block_id::{BlockId, Fail, Memory};
+use block_walk::{Flaw, Halt, Marks};
+use std::alloc::Global;
+use store_api::Blocks;
+
+/// What a check found.
+#[derive(Drop)]
+pub enum Checked {
+    /// Each live block has its owner.
+    Yes(Owners),
+    /// The blocks are no file system.
+    No(Flaw),
+}
+
+/// The same id, of 16 bytes.
+fn copied(id: &BlockId) -> BlockId
+    ensures same { result ≡ id.now }
+    ensures wide { length result.0 ≡ 16 }
+{
+    BlockId(id.0)
+}
+
+/// Visits the place of this number, and puts its entries behind the others.
+fn visit_place<B: Blocks>(
+    alloc: Global,
+    store: &mut B,
+    marks: &mut Marks,
+    places: &mut Vec<Place>,
+    number: u32,
+    what: &Visit,
+) -> Result<(), Halt>
+    requires intact { B.meanings.intact store.old }
+    requires small { number < 4294967295 }
+    ensures outcome { Outcome B.meanings Unit store.old store.new (fail_of result) (λ _ _. Unit {0}) }
+    ensures stays { Stays B.holdings store.old store.new }
+    ensures visited { OnOk result (IsVisited B.loads (B.holdings.payload store.old) number what.now.id.0 what.now.kind what.now.parent.0 store.old store.new marks.old marks.new
+        (places_text places.old.items) (places_text places.new.items)) }
+{
+    let entries = match visit(alloc, store, marks, number + 1, what) {
+        Ok(entries) => entries,
+        Err(halt) => return Err(halt),
+    };
+    match place_entries(places, number, entries) {
+        Ok(()) => Ok(()),
+        Err(Memory) => Err(Halt::Failing(Fail::Memory)),
+    }
+}
+
+/// Visits the root and each place in turn, also those that are put behind the others meanwhile.
+fn visit_all<B: Blocks>(
+    alloc: Global,
+    store: &mut B,
+    marks: &mut Marks,
+    places: &mut Vec<Place>,
+    root: &BlockId,
+) -> Result<(), Halt>
+    requires intact { B.meanings.intact store.old }
+    requires none { places.old.items ≡ [] }
+    requires unowned { (q : Id) (n : ℕ) → owner_of marks.old q ≡ Some n → n ≡ 0 }
+    ensures outcome { Outcome B.meanings Unit store.old store.new (fail_of result) (λ _ _. Unit {0}) }
+    ensures stays { Stays B.holdings store.old store.new }
+    ensures visited { OnOk result (VisitedAll B.loads (B.holdings.payload store.old) root.now.0 store.old store.new marks.old marks.new (places_text places.new.items)) }
+{
+    for number in 0..4294967295 {
+        let what = match visit_at(places, root, number) {
+            Some(what) => what,
+            None => return Ok(()),
+        };
+        match visit_place(alloc, store, marks, places, number, &what) {
+            Ok(()) => {}
+            Err(halt) => return Err(halt),
+        }
+    }
+    Err(Halt::Failing(Fail::Memory))
+}
+
+/// Checks the file system whose live blocks these are, by increasing ids, from its root on. Each block is loaded at
+/// most once.
+pub fn check<B: Blocks>(
+    alloc: Global,
+    store: &mut B,
+    live: &[BlockId],
+    root: &BlockId,
+) -> Result<Checked, Fail>
+    requires intact { B.meanings.intact store.old }
+    requires order { T (is_sorted id_cmp (map unmarked live.now)) }
+    requires live { (id : Id) → has_id (ids_of live.now) id ≡ is_some (B.holdings.content store.old id) }
+    ensures outcome { Outcome B.meanings Unit store.old store.new (check_fail result) (λ _ _. Unit {0}) }
+    ensures stays { Stays B.holdings store.old store.new }
+    ensures yes { IfOk result (λ checked. OnYes checked (IsCertified B.loads (B.holdings.payload store.old) root.now.0 (ids_of live.now) store.old store.new)) }
+{
+    let mut marks = match Marks::new(alloc, live) {
+        Ok(marks) => marks,
+        Err(Memory) => return Err(Fail::Memory),
+    };
+    let mut places = Vec::new(alloc);
+    let top = copied(root);
+    match visit_all(alloc, store, &mut marks, &mut places, &top) {
+        Ok(()) => match marks.unowned() {
+            Some(id) => Ok(Checked::No(Flaw::Unowned(id))),
+            None => Ok(Checked::Yes(Owners::new(marks, places))),
+        },
+        Err(Halt::Found(flaw)) => Ok(Checked::No(flaw)),
+        Err(Halt::Failing(fail)) => Err(fail),
+    }
+}

@@ -1,0 +1,10 @@
+//! A check of a whole file system: each live block is loaded once, and either each has its owner or something is wrong.
+#![tactic(auto)]
+
+mod checking;
+mod owners;
+mod place;
+mod visiting;
+
+pub use checking::{Checked, check};
+pub use owners::Owners;

@@ -1,0 +1,118 @@
+// One path of the tree: its blob is walked and judged.
+ghost use Rattle.std.specs.Prelude.{◌≡◌, ◌<◌, [], true, IfOk, IfSome};
+ghost use Rattle.outcome.specs.Outcome.{Outcome};
+ghost use Rattle.store_api.specs.Holdings.{Stays};
+ghost use Rattle.data_tree.specs.Stored.{BlobTree};
+ghost use Rattle.dir_entries.specs.Layout.{listing_of};
+ghost use Rattle.block_walk.specs.Fronts.{FrontState};
+ghost use Rattle.block_walk.specs.Given.{fail_of};
+ghost use Rattle.block_walk.specs.Walks.{Walked};
+ghost use Rattle.cryfs_check.specs.Rows.{IsRowBlob, FitsKept, most_kept};
+
+use crate::place::Visit;
+use block_id::{Fail, Memory};
+use block_walk::{Flaw, Front, Halt, Marks, walk_root};
+use dir_entries::{Entry, decode_entries};
+use fs_blobs::{HEADER_LEN, read_header};
+use fs_model::{Kind, MAX_ENTRIES, MAX_FILE, MAX_TARGET, has_zero};
+use std::alloc::Global;
+use store_api::Blocks;
+
+/// How many bytes of a blob are kept while it is walked: the header, and for a directory and a link one byte more than the body may have.
+fn kept_of(kind: Kind) -> usize
+    ensures { result ≡ most_kept kind }
+{
+    match kind {
+        Kind::Directory => HEADER_LEN + MAX_ENTRIES as usize + 1,
+        Kind::File => HEADER_LEN,
+        Kind::Link => HEADER_LEN + MAX_TARGET + 1,
+    }
+}
+
+fn is_same_kind(a: Kind, b: Kind) -> bool
+    ensures { result ≡ true → a ≡ b }
+{
+    match a {
+        Kind::Directory => match b {
+            Kind::Directory => true,
+            Kind::File | Kind::Link => false,
+        },
+        Kind::File => match b {
+            Kind::File => true,
+            Kind::Directory | Kind::Link => false,
+        },
+        Kind::Link => match b {
+            Kind::Link => true,
+            Kind::Directory | Kind::File => false,
+        },
+    }
+}
+
+/// The entries of a directory's body, or none for a file of so many bytes and a link with this target, or None where it isn't within its limits.
+fn judge(alloc: Global, kind: Kind, len: u64, body: &[u8]) -> Result<Option<Vec<Entry>>, Memory>
+    ensures { IfOk result (λ answer. IfSome answer (λ entries. FitsKept kind len body.now (listing_of entries.items))) }
+{
+    match kind {
+        Kind::Directory => {
+            if body.len() as u64 > MAX_ENTRIES {
+                return Ok(None);
+            }
+            decode_entries(alloc, body)
+        }
+        Kind::File => {
+            if len > MAX_FILE {
+                return Ok(None);
+            }
+            Ok(Some(Vec::new(alloc)))
+        }
+        Kind::Link => {
+            if body.is_empty() || body.len() > MAX_TARGET || has_zero(body) {
+                return Ok(None);
+            }
+            Ok(Some(Vec::new(alloc)))
+        }
+    }
+}
+
+/// Walks the blob that is to be visited. The entries of a directory, or none.
+pub(crate) fn visit<B: Blocks>(
+    alloc: Global,
+    store: &mut B,
+    marks: &mut Marks,
+    owner: u32,
+    what: &Visit,
+) -> Result<Vec<Entry>, Halt>
+    requires intact { B.meanings.intact store.old }
+    requires owner { 0 < owner }
+    ensures outcome { Outcome B.meanings Unit store.old store.new (fail_of result) (λ _ _. Unit {0}) }
+    ensures stays { Stays B.holdings store.old store.new }
+    ensures walked { IfOk result (λ entries. (back : FrontState) × Walked B.loads owner store.old store.new marks.old marks.new (record { bytes = []; most = most_kept what.now.kind }) back
+        (λ C w ids. BlobTree (B.holdings.payload store.old) C what.now.id.0 w ids) (IsRowBlob what.now.kind what.now.parent.0 (listing_of entries.items))) }
+{
+    let mut front = Front::new(alloc, kept_of(what.kind));
+    let len = match walk_root(alloc, store, marks, &mut front, owner, &what.id) {
+        Ok(len) => len,
+        Err(halt) => return Err(halt),
+    };
+    let bytes = front.bytes();
+    let header = match read_header(bytes) {
+        Some(header) => header,
+        None => return Err(Halt::Found(Flaw::BadBlob(what.id))),
+    };
+    if !is_same_kind(header.kind, what.kind) {
+        return Err(Halt::Found(Flaw::BadBlob(what.id)));
+    }
+    if header.parent != what.parent {
+        return Err(Halt::Found(Flaw::Parent(what.id)));
+    }
+    match judge(
+        alloc,
+        what.kind,
+        len.saturating_sub(HEADER_LEN as u64),
+        &bytes[HEADER_LEN..],
+    ) {
+        Ok(Some(entries)) => Ok(entries),
+        Ok(None) => Err(Halt::Found(Flaw::BadBlob(what.id))),
+        Err(Memory) => Err(Halt::Failing(Fail::Memory)),
+    }
+}
