@@ -25,26 +25,26 @@ if_err (Err e) f h = f e h
 pub asked_of : Given → Asked
 asked_of given = map (λ g. (g.0, Ok (Some g.1))) given
 
-gave-asked : {S : Type 0} (loads : S → S → Id → LoadAnswer → Type 0) (a b : S) (given : Given) → GaveBy loads a given b → AskedBy loads a (asked_of given) b
+pub gave-asked : {S : Type 0} (loads : S → S → Id → LoadAnswer → Type 0) (a b : S) (given : Given) → GaveBy loads a given b → AskedBy loads a (asked_of given) b
 unfolding asked_of
 gave-asked loads a b [] g = g
 gave-asked loads a b (x ∷ xs) (mid, (g, l)) = (mid, (gave-asked loads a mid xs g, l))
 
-asked-then : {S : Type 0} (loads : S → S → Id → LoadAnswer → Type 0) (a b c : S) (xs ys : Asked) → AskedBy loads a xs b → AskedBy loads b ys c → AskedBy loads a (ys ++ xs) c
+pub asked-then : {S : Type 0} (loads : S → S → Id → LoadAnswer → Type 0) (a b c : S) (xs ys : Asked) → AskedBy loads a xs b → AskedBy loads b ys c → AskedBy loads a (ys ++ xs) c
 asked-then loads a b c xs [] f g = subst (λ s. AskedBy loads a xs s) (sym g) f
 asked-then loads a b c xs (y ∷ ys) f (mid, (g, l)) = (mid, (asked-then loads a b mid xs ys f g, l))
 
-asked-ids : (given : Given) → map (λ q. q.0) (asked_of given) ≡ map (λ g. g.0) given
+pub asked-ids : (given : Given) → map (λ q. q.0) (asked_of given) ≡ map (λ g. g.0) given
 unfolding asked_of
 asked-ids [] = refl
 asked-ids (x ∷ xs) = ap (λ ids. x.0 ∷ ids) (asked-ids xs)
 
-asked-again : (given : Given) → given_of (asked_of given) ≡ given
+pub asked-again : (given : Given) → given_of (asked_of given) ≡ given
 unfolding asked_of
 asked-again [] = refl
 asked-again (x ∷ xs) = ap (λ gs. x ∷ gs) (asked-again xs)
 
-given-then : (xs ys : Asked) → given_of (ys ++ xs) ≡ given_of ys ++ given_of xs
+pub given-then : (xs ys : Asked) → given_of (ys ++ xs) ≡ given_of ys ++ given_of xs
 given-then xs [] = refl
 given-then xs (y ∷ ys) = ap (λ gs. given_by y.0 y.1 ++ gs) (given-then xs ys) ∙ sym (append_assoc (given_by y.0 y.1) (given_of ys) (given_of xs))
 

@@ -1,12 +1,13 @@
 // A walk over the blocks of one tree.
 ghost use Rattle.std.specs.Prelude.{◌≡◌, ◌<◌, ◌*◌, ◌^◌, [], length, IfOk, IfErr};
+ghost use Rattle.outcome.specs.Meanings.{IsOfBlocks};
 ghost use Rattle.outcome.specs.Outcome.{Outcome};
 ghost use Rattle.store_api.specs.Holdings.{Stays};
 ghost use Rattle.data_nodes.specs.Layout.{node_of, ids_of, FitsPayload};
 ghost use Rattle.data_tree.specs.Trees.{IsTree, Holds, Forest, span, depth_in};
 ghost use Rattle.data_tree.specs.Stored.{BlobTree};
 ghost use Rattle.block_walk.specs.Fronts.{FrontState};
-ghost use Rattle.block_walk.specs.Given.{fail_of};
+ghost use Rattle.block_walk.specs.Given.{fail_of, IsLoad};
 ghost use Rattle.block_walk.specs.Needs.{NodeNeed, top, under, Leads, LeadsAmong};
 ghost use Rattle.block_walk.specs.Halts.{Halted, HaltedAt, FlawIn};
 ghost use Rattle.block_walk.specs.Walks.{Walked, IsNodeAt, FillsTree, FillsTrees};
@@ -42,10 +43,11 @@ fn load_node<B: Blocks>(
     requires owner { 0 < owner }
     ensures outcome { Outcome B.meanings Unit store.old store.new (fail_of result) (λ _ _. Unit {0}) }
     ensures stays { Stays B.holdings store.old store.new }
+    ensures of_blocks { IfErr (fail_of result) IsOfBlocks }
     ensures fits { IfOk result (λ node. FitsPayload (B.holdings.payload store.old) (node_of node)) }
-    ensures walked { IfOk result (λ node. (f : FrontState) → Walked B.loads owner store.old store.new marks.old marks.new f f
+    ensures walked { IfOk result (λ node. (f : FrontState) → Walked (IsLoad B.meanings B.holdings B.loads) owner store.old store.new marks.old marks.new f f
         (IsNodeAt (B.holdings.payload store.old) id.now.0 (node_of node)) (λ w. w ≡ [])) }
-    ensures halted { (need : NodeNeed) → IfErr result (HaltedAt B.holdings B.loads owner store.old store.new marks.old marks.new (λ C. Leads C id.now.0 need)) }
+    ensures halted { (need : NodeNeed) → IfErr result (HaltedAt B.holdings (IsLoad B.meanings B.holdings B.loads) owner store.old store.new marks.old marks.new (λ C. Leads C id.now.0 need)) }
 {
     match marks.reach(id, owner) {
         Reaching::First => {}
@@ -80,9 +82,10 @@ fn walk_below<B: Blocks>(
     requires small { need.level.room < 2 ^ 63 }
     ensures outcome { Outcome B.meanings Unit store.old store.new (fail_of result) (λ _ _. Unit {0}) }
     ensures stays { Stays B.holdings store.old store.new }
-    ensures walked { IfOk result (λ len. Walked B.loads need.owner store.old store.new marks.old marks.new front.old front.new
+    ensures of_blocks { IfErr (fail_of result) IsOfBlocks }
+    ensures walked { IfOk result (λ len. Walked (IsLoad B.meanings B.holdings B.loads) need.owner store.old store.new marks.old marks.new front.old front.new
         (λ C w ids. IsTree (B.holdings.payload store.old) C need.level.depth id.now.0 w ids) (FillsTree len need.level.room need.full)) }
-    ensures halted { IfErr result (HaltedAt B.holdings B.loads need.owner store.old store.new marks.old marks.new (λ C. Leads C id.now.0 (under need.level.depth need.full))) }
+    ensures halted { IfErr result (HaltedAt B.holdings (IsLoad B.meanings B.holdings B.loads) need.owner store.old store.new marks.old marks.new (λ C. Leads C id.now.0 (under need.level.depth need.full))) }
 {
     let node = match load_node(alloc, store, marks, need.owner, id) {
         Ok(node) => node,
@@ -113,9 +116,10 @@ fn walk_in<B: Blocks>(
     requires depth { depth_in (node_of node.now) ≡ need.level.depth }
     ensures outcome { Outcome B.meanings Unit store.old store.new (fail_of result) (λ _ _. Unit {0}) }
     ensures stays { Stays B.holdings store.old store.new }
-    ensures walked { IfOk result (λ len. Walked B.loads need.owner store.old store.new marks.old marks.new front.old front.new
+    ensures of_blocks { IfErr (fail_of result) IsOfBlocks }
+    ensures walked { IfOk result (λ len. Walked (IsLoad B.meanings B.holdings B.loads) need.owner store.old store.new marks.old marks.new front.old front.new
         (λ C w ids. Holds (B.holdings.payload store.old) C need.level.depth (node_of node.now) w ids) (FillsTree len need.level.room need.full)) }
-    ensures halted { IfErr result (λ halt. Halted B.loads need.owner store.old store.new marks.old marks.new halt
+    ensures halted { IfErr result (λ halt. Halted (IsLoad B.meanings B.holdings B.loads) need.owner store.old store.new marks.old marks.new halt
         (λ C flaw. FlawIn (B.holdings.payload store.old) C marks.old (B.holdings.content store.old) id.now.0 (node_of node.now) (under need.level.depth need.full) flaw)) }
 {
     let level = need.level;
@@ -162,10 +166,11 @@ fn walk_children<B: Blocks>(
     requires small { length children.now * need.level.room < 2 ^ 63 }
     ensures outcome { Outcome B.meanings Unit store.old store.new (fail_of result) (λ _ _. Unit {0}) }
     ensures stays { Stays B.holdings store.old store.new }
-    ensures walked { IfOk result (λ len. Walked B.loads need.owner store.old store.new marks.old marks.new front.old front.new
+    ensures of_blocks { IfErr (fail_of result) IsOfBlocks }
+    ensures walked { IfOk result (λ len. Walked (IsLoad B.meanings B.holdings B.loads) need.owner store.old store.new marks.old marks.new front.old front.new
         (λ C w ids. Forest (IsTree (B.holdings.payload store.old) C need.level.depth) (span (B.holdings.payload store.old) need.level.depth) (ids_of children.now) w ids)
         (FillsTrees len (length children.now) need.level.room need.full)) }
-    ensures halted { IfErr result (HaltedAt B.holdings B.loads need.owner store.old store.new marks.old marks.new (λ C. LeadsAmong C need.level.depth need.full (ids_of children.now))) }
+    ensures halted { IfErr result (HaltedAt B.holdings (IsLoad B.meanings B.holdings B.loads) need.owner store.old store.new marks.old marks.new (λ C. LeadsAmong C need.level.depth need.full (ids_of children.now))) }
 {
     let last = children.len() - 1;
     let whole = Need { full: true, ..need };
@@ -195,9 +200,10 @@ pub fn walk_root<B: Blocks>(
     requires owner { 0 < owner }
     ensures outcome { Outcome B.meanings Unit store.old store.new (fail_of result) (λ _ _. Unit {0}) }
     ensures stays { Stays B.holdings store.old store.new }
-    ensures walked { IfOk result (λ len. Walked B.loads owner store.old store.new marks.old marks.new front.old front.new
+    ensures of_blocks { IfErr (fail_of result) IsOfBlocks }
+    ensures walked { IfOk result (λ len. Walked (IsLoad B.meanings B.holdings B.loads) owner store.old store.new marks.old marks.new front.old front.new
         (λ C w ids. BlobTree (B.holdings.payload store.old) C root.now.0 w ids) (λ w. len ≡ length w)) }
-    ensures halted { IfErr result (HaltedAt B.holdings B.loads owner store.old store.new marks.old marks.new (λ C. Leads C root.now.0 top)) }
+    ensures halted { IfErr result (HaltedAt B.holdings (IsLoad B.meanings B.holdings B.loads) owner store.old store.new marks.old marks.new (λ C. Leads C root.now.0 top)) }
 {
     let node = match load_node(alloc, store, marks, owner, root) {
         Ok(node) => node,

@@ -4,6 +4,7 @@ use Rattle.outcome.specs.Outcome.{Outcome}
 use Rattle.store_api.specs.Holdings.{Stays}
 use Rattle.data_nodes.specs.Layout.{ids_of}
 use Rattle.data_tree.specs.Trees.{IsTree, Forest, span}
+use Rattle.block_walk.specs.Given.{IsLoad}
 use Rattle.block_walk.specs.Walks.{Walked, FillsAll}
 use Rattle.block_walk.proofs.walk.+walk.Given as goal
 
@@ -20,7 +21,7 @@ abbrev pub invariant-walk_children-loop-child : goal.invariant-walk_children-loo
 invariant-walk_children-loop-child g l = record {
   outcome : Outcome g.B.Blocks.meanings {T = Unit {0}} Unit l.initial.store l.store (Ok tt) (λ n y. Unit {0});
   stays : Stays g.B.Blocks.holdings l.initial.store l.store;
-  walked : Walked g.B.Blocks.loads l.need.owner l.initial.store l.store l.initial.marks l.marks l.initial.front l.front
+  walked : Walked (IsLoad g.B.Blocks.meanings g.B.Blocks.holdings g.B.Blocks.loads) l.need.owner l.initial.store l.store l.initial.marks l.marks l.initial.front l.front
       (λ C w ids. Forest (IsTree (g.B.Blocks.holdings.payload l.initial.store) C l.need.level.depth) (span (g.B.Blocks.holdings.payload l.initial.store) l.need.level.depth) (take l.child-index (ids_of l.children)) w ids)
       (FillsAll l.len l.child-index l.need.level.room);
 }
