@@ -5,3 +5,4 @@ pub mod Ways
 pub mod Standing
 pub mod Refuting
 pub mod Walking
+pub mod Owning

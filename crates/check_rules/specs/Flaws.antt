@@ -47,7 +47,7 @@ pub record HasBadBlob (payload : ℕ) (root : Id) (G : Content) (id : Id) : Type
   pub tree : BlobTree payload G id bytes ids
   pub unfit : (other : Id) (body : List ℕ) → length other ≡ 16 → bytes ≡ blob kind other body → FitsBody kind body → ⊥
 
--- an entry's blob, of its kind, names another directory than the one that the entry is in
+-- an entry's blob, of its kind, names another directory than the one that the entry is in, whatever its body holds
 pub record HasParent (payload : ℕ) (root : Id) (G : Content) (id : Id) : Type 0 where
   pub path : Path
   pub kind : Kind

@@ -14,6 +14,7 @@ ghost use Rattle.forest.specs.Shows.{ShowsTree};
 ghost use Rattle.fs_model.specs.Tree.{Path, Tree};
 ghost use Rattle.store_api.specs.Content.{Id, Content};
 ghost use Rattle.store_api.specs.Holdings.{has_id};
+ghost use Rattle.check_rules.specs.Certificates.{Owners, Certifies};
 ghost use Rattle.check_rules.specs.Flaws.{HasFlaw, HasUnowned, Refutes};
 ghost use Rattle.check_rules.specs.Marked.{MarksOthers};
 ghost use Rattle.check_rules.specs.Reached.{IsReached};
@@ -40,4 +41,9 @@ pub fn given_agrees()
 pub fn unowned_is_flaw()
     ensures { (payload : ℕ) (root : Id) (live : List Id) (given : Given) (blobs : BlobMap) (tree : Tree) (id : Id) → StoresBlobs payload (content_of given) (get blobs) → ShowsTree blobs root tree
         → has_id live id ≡ true → has_id (map (λ g. g.0) given) id ≡ false → HasUnowned payload root live (content_of given) id }
+{}
+
+/// A certificate's owners are fixed by what was given.
+pub fn owners_own()
+    ensures { (payload : ℕ) (root : Id) (live : List Id) (given : Given) (one other : Owners) → Certifies payload root live given one → Certifies payload root live given other → one ≡ other }
 {}

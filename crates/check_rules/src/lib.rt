@@ -3,4 +3,4 @@
 
 mod law;
 
-pub use law::{flaw_refutes, given_agrees, unowned_is_flaw, walk_flaw_is_flaw};
+pub use law::{flaw_refutes, given_agrees, owners_own, unowned_is_flaw, walk_flaw_is_flaw};
