@@ -1,6 +1,7 @@
 // Which place owns each live block.
-ghost use Rattle.std.specs.Prelude.{◌≡◌, ◌<◌, T, map, IfOk, IfErr};
+ghost use Rattle.std.specs.Prelude.{◌≡◌, ◌<◌, T, map, length, IfOk, IfErr};
 ghost use Rattle.std.specs.FinMap.{is_sorted};
+ghost use Rattle.std.specs.List.{slice_get};
 ghost use Rattle.std.specs.Option.{option_map};
 ghost use Rattle.store_api.specs.Content.{id_cmp};
 ghost use Rattle.row_table.specs.Sorted.{IsElementAt, IsGap};
@@ -104,6 +105,20 @@ impl Marks {
             }
             Err(_) => Reaching::NotLive,
         }
+    }
+
+    /// How many live blocks there are.
+    pub fn len(&self) -> usize
+        ensures { result ≡ length self.now }
+    {
+        self.marks.len()
+    }
+
+    /// The mark of this number.
+    pub fn get(&self, i: usize) -> Option<Mark>
+        ensures { option_map mark_entry result ≡ slice_get self.now i }
+    {
+        self.marks.get(i).copied()
     }
 
     /// The first block without an owner.

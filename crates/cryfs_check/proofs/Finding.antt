@@ -25,7 +25,7 @@ one_path_join (x ∷ xs) ys one two apart = (
 )
 
 -- those before one have other paths
-before_differs : (xs ys : List Site) (y a : Site) → HaveOnePath (xs ++ y ∷ ys) → Among xs a → a.path ≡ y.path → ⊥
+pub before_differs : (xs ys : List Site) (y a : Site) → HaveOnePath (xs ++ y ∷ ys) → Among xs a → a.path ≡ y.path → ⊥
 before_differs [] ys y a one m e = absurd m
 before_differs (x ∷ xs) ys y a one (inl same) e = one.0 y (among_right xs (y ∷ ys) y (inl refl)) (sym (ap (λ (s : Site). s.path) same ∙ e))
 before_differs (x ∷ xs) ys y a one (inr m) e = before_differs xs ys y a one.1 m e

@@ -7,3 +7,6 @@ pub mod Turns
 pub mod Showing
 pub mod Settling
 pub mod Certifying
+pub mod Blobs
+pub mod Stopping
+pub mod Answering

@@ -27,7 +27,7 @@ or_swapped true false = refl
 or_swapped false true = refl
 or_swapped false false = refl
 
-has-reverse : (xs : List Id) (q : Id) → has_id (reverse xs) q ≡ has_id xs q
+pub has-reverse : (xs : List Id) (q : Id) → has_id (reverse xs) q ≡ has_id xs q
 has-reverse [] q = refl
 has-reverse (x ∷ xs) q =
     ap (λ ys. has_id ys q) (turned x xs) ∙ (has-append (reverse xs) (x ∷ []) q ∙ (ap (λ b. b || (same_id q x || false)) (has-reverse xs q) ∙ or_swapped (has_id xs q) (same_id q x)))
@@ -39,7 +39,7 @@ only_one x q h = same_id_is q x (by (same_id q x) h)
     by true e = refl
     by false e = absurd (cc)
 
-alone-reverse : (xs : List Id) → NoDoubles xs → NoDoubles (reverse xs)
+pub alone-reverse : (xs : List Id) → NoDoubles xs → NoDoubles (reverse xs)
 alone-reverse [] h = tt
 alone-reverse (x ∷ xs) h =
     subst NoDoubles (sym (turned x xs))
@@ -52,7 +52,7 @@ alone-reverse (x ∷ xs) h =
         absurd (cc)
     by q false here there = refl
 
-more_than_none : (i : ℕ) → Some (i + 1) ≡ Some 0 → ⊥
+pub more_than_none : (i : ℕ) → Some (i + 1) ≡ Some 0 → ⊥
 more_than_none i e = let same : i + 1 ≡ 0 = cc in omega (arith, same)
 
 same_number : (i j : ℕ) → Some (i + 1) ≡ Some (j + 1) → i ≡ j

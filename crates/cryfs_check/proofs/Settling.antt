@@ -19,9 +19,8 @@ use Rattle.fs_model.specs.Tree.{Path, path_cmp, name_cmp, root_row, FitsKind, Is
 use Rattle.fs_model.proofs.TreeLemmas.{name_total, name_exact, path_total, path_exact}
 use Rattle.store_api.specs.Content.{Id, Content, id_cmp, same_id}
 use Rattle.store_api.specs.Holdings.{has_id}
-use Rattle.block_walk.specs.Given.{Given, AgreesWith}
+use Rattle.block_walk.specs.Given.{Given, AgreesWith, content_of}
 use Rattle.block_walk.specs.Marks.{MarkList, owner_of}
-use Rattle.cryfs_check.specs.Certificates.{content_of}
 use Rattle.cryfs_check.specs.Rows.{FitsRow}
 use Rattle.cryfs_check.specs.Seats.{Site, Seat, site_of, row_of, root_site, child_of, sites, text_of, bytes_in, Among, seat_at, look_in, target_in, IsRowSeat, IsEntered, IsBelow, IsRootSeat, HaveOnePath, AreFound, AreSeats}
 use Rattle.cryfs_check.specs.Visits.{AreOwned}
@@ -37,7 +36,7 @@ each_of P (y ∷ xs) x all (inl same) = subst P same (All-head P y xs all)
 each_of P (y ∷ xs) x all (inr m) = each_of P xs x (All-tail P y xs all) m
 
 -- what has an entry is a directory
-entry_in : (kind : Kind) (body : List ℕ) (listing : Listing) (e : List ℕ × EntryTarget) → FitsRow kind body listing → Among listing e → (kind ≡ Directory) × IsEntry e
+pub entry_in : (kind : Kind) (body : List ℕ) (listing : Listing) (e : List ℕ × EntryTarget) → FitsRow kind body listing → Among listing e → (kind ≡ Directory) × IsEntry e
 entry_in Directory body listing e fits m = (refl, each_of IsEntry listing e fits.0.entries.entries m)
 entry_in File body listing e fits m = absurd (subst (λ l. Among l e) fits.0 m)
 entry_in Link body listing e fits m = absurd (subst (λ l. Among l e) fits.0 m)

@@ -70,7 +70,7 @@ module _ {K X : Type 0} {R : K → K → Ordering} (o : IsTotalOrder R) (exact :
         | Greater ↦ λ c. rest (behind x xs s Greater c refl h)
       ] refl
 
-id_exact : (a b : Id) → id_cmp a b ≡ Equal → a ≡ b
+pub id_exact : (a b : Id) → id_cmp a b ≡ Equal → a ≡ b
 id_exact = slice_cmp-IsAntisymmetric nat_cmp-IsAntisymmetric
 
 abbrev ids_listed : Option (List Id) → List Id

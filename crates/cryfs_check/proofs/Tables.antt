@@ -145,3 +145,22 @@ pub blob_past : (root : Id) (places : List PlaceText) (number i : ℕ) → numbe
 blob_past root places number i is past =
     let at : number ≡ suc i = omega arith in
     site-id root places number ∙ (ap (λ n. get_or (root ∷ blobs places) n root) at ∙ get_or_past (blobs places) i root (omega (arith, length-map places (λ (q : PlaceText). q.1.1.blob))))
+
+-- ---- paths by number
+
+abbrev nowhere : Site
+nowhere = root_site []
+
+pub path_first : (places : List PlaceText) → get_or (paths_of places) 0 [] ≡ []
+path_first places = site-path [] places 0 ∙ ap (λ (s : Site). s.path) (get_or_from_slice_get (sites_of [] places) 0 nowhere nowhere (site_first [] places))
+
+pub path_next : (places : List PlaceText) (number i : ℕ) (p : PlaceText) → number ≡ i + 1 → AreBehind places → slice_get places i ≡ Some p → get_or (paths_of places) number [] ≡ p.1.0 ∷ get_or (paths_of places) p.0 []
+path_next places number i p is behind e =
+    let child = child_of (get_or (sites_of [] places) p.0 nowhere) p.1 in
+    site-path [] places number ∙ (ap (λ (s : Site). s.path) (get_or_from_slice_get (sites_of [] places) number child nowhere (site_at [] places number i p is behind e))
+    ∙ ap (λ q. p.1.0 ∷ q) (sym (site-path [] places p.0)))
+
+pub path_past : (places : List PlaceText) (number i : ℕ) → number ≡ i + 1 → length places ≤ i → get_or (paths_of places) number [] ≡ []
+path_past places number i is past =
+    let long : length (sites_of [] places) ≡ 1 + length places = sites-length nowhere (nowhere ∷ []) places in
+    site-path [] places number ∙ ap (λ (s : Site). s.path) (get_or_past (sites_of [] places) number nowhere (omega arith))

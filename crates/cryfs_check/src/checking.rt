@@ -1,13 +1,15 @@
 // The check of a whole file system.
-ghost use Rattle.std.specs.Prelude.{◌≡◌, ◌<◌, ℕ, [], T, map, OnOk, IfOk, Some, is_some, length};
+ghost use Rattle.std.specs.Prelude.{◌≡◌, ◌<◌, ◌+◌, ℕ, [], T, map, OnOk, IfOk, IfErr, Some, is_some, length};
 ghost use Rattle.std.specs.FinMap.{is_sorted};
+ghost use Rattle.outcome.specs.Meanings.{IsOfBlocks};
 ghost use Rattle.outcome.specs.Outcome.{Outcome};
 ghost use Rattle.store_api.specs.Content.{Id, id_cmp};
 ghost use Rattle.store_api.specs.Holdings.{Stays, has_id};
 ghost use Rattle.data_nodes.specs.Layout.{ids_of};
-ghost use Rattle.block_walk.specs.Given.{fail_of};
+ghost use Rattle.block_walk.specs.Given.{fail_of, IsLoad};
 ghost use Rattle.block_walk.specs.Marks.{unmarked, owner_of};
-ghost use Rattle.cryfs_check.specs.Checks.{check_fail, OnYes, IsCertified};
+ghost use Rattle.cryfs_check.specs.Checks.{answer_to, ShowsSome, IsYes, OnYes, OnNo, AsksOnce, IsCertified, IsRefuted};
+ghost use Rattle.cryfs_check.specs.Halts.{IsHalted, IsStopped};
 ghost use Rattle.cryfs_check.specs.Places.{places_text};
 ghost use Rattle.cryfs_check.specs.Visits.{IsVisited, VisitedAll};
 
@@ -26,6 +28,16 @@ pub enum Checked {
     Yes(Owners),
     /// The blocks are no file system.
     No(Flaw),
+}
+
+/// What a check answers where a visit stopped.
+fn answer(halt: Halt) -> Result<Checked, Fail>
+    ensures { result ≡ answer_to halt }
+{
+    match halt {
+        Halt::Found(flaw) => Ok(Checked::No(flaw)),
+        Halt::Failing(fail) => Err(fail),
+    }
 }
 
 /// The same id, of 16 bytes.
@@ -49,7 +61,9 @@ fn visit_place<B: Blocks>(
     requires small { number < 4294967295 }
     ensures outcome { Outcome B.meanings Unit store.old store.new (fail_of result) (λ _ _. Unit {0}) }
     ensures stays { Stays B.holdings store.old store.new }
-    ensures visited { OnOk result (IsVisited B.loads (B.holdings.payload store.old) number what.now.id.0 what.now.kind what.now.parent.0 store.old store.new marks.old marks.new
+    ensures of_blocks { IfErr (fail_of result) IsOfBlocks }
+    ensures halted { IfErr result (IsHalted B.meanings B.holdings B.loads (number + 1) what.now store.old store.new marks.old marks.new) }
+    ensures visited { OnOk result (IsVisited (IsLoad B.meanings B.holdings B.loads) (B.holdings.payload store.old) number what.now.id.0 what.now.kind what.now.parent.0 store.old store.new marks.old marks.new
         (places_text places.old.items) (places_text places.new.items)) }
 {
     let entries = match visit(alloc, store, marks, number + 1, what) {
@@ -75,7 +89,9 @@ fn visit_all<B: Blocks>(
     requires unowned { (q : Id) (n : ℕ) → owner_of marks.old q ≡ Some n → n ≡ 0 }
     ensures outcome { Outcome B.meanings Unit store.old store.new (fail_of result) (λ _ _. Unit {0}) }
     ensures stays { Stays B.holdings store.old store.new }
-    ensures visited { OnOk result (VisitedAll B.loads (B.holdings.payload store.old) root.now.0 store.old store.new marks.old marks.new (places_text places.new.items)) }
+    ensures of_blocks { IfErr (fail_of result) IsOfBlocks }
+    ensures stopped { IfErr result (IsStopped (IsLoad B.meanings B.holdings B.loads) (B.holdings.payload store.old) root.now.0 (B.holdings.content store.old) store.old store.new marks.old) }
+    ensures visited { OnOk result (VisitedAll (IsLoad B.meanings B.holdings B.loads) (B.holdings.payload store.old) root.now.0 store.old store.new marks.old marks.new (places_text places.new.items)) }
 {
     for number in 0..4294967295 {
         let what = match visit_at(places, root, number) {
@@ -101,9 +117,12 @@ pub fn check<B: Blocks>(
     requires intact { B.meanings.intact store.old }
     requires order { T (is_sorted id_cmp (map unmarked live.now)) }
     requires live { (id : Id) → has_id (ids_of live.now) id ≡ is_some (B.holdings.content store.old id) }
-    ensures outcome { Outcome B.meanings Unit store.old store.new (check_fail result) (λ _ _. Unit {0}) }
+    ensures outcome { Outcome B.meanings (ShowsSome (B.holdings.payload store.old) root.now.0 (B.holdings.content store.old)) store.old store.new result (λ n checked. IsYes checked) }
     ensures stays { Stays B.holdings store.old store.new }
+    ensures of_blocks { IfErr result IsOfBlocks }
+    ensures asked { AsksOnce B.loads (ids_of live.now) store.old store.new }
     ensures yes { IfOk result (λ checked. OnYes checked (IsCertified B.loads (B.holdings.payload store.old) root.now.0 (ids_of live.now) store.old store.new)) }
+    ensures no { IfOk result (λ checked. OnNo checked (IsRefuted B.loads (B.holdings.payload store.old) root.now.0 (ids_of live.now) store.old store.new)) }
 {
     let mut marks = match Marks::new(alloc, live) {
         Ok(marks) => marks,
@@ -116,7 +135,6 @@ pub fn check<B: Blocks>(
             Some(id) => Ok(Checked::No(Flaw::Unowned(id))),
             None => Ok(Checked::Yes(Owners::new(marks, places))),
         },
-        Err(Halt::Found(flaw)) => Ok(Checked::No(flaw)),
-        Err(Halt::Failing(fail)) => Err(fail),
+        Err(halt) => answer(halt),
     }
 }

@@ -1,13 +1,15 @@
 // One path of the tree: its blob is walked and judged.
-ghost use Rattle.std.specs.Prelude.{◌≡◌, ◌<◌, [], true, IfOk, IfSome};
+ghost use Rattle.std.specs.Prelude.{◌≡◌, ◌≢◌, ◌<◌, [], true, false, IfOk, IfErr, IfSome, IfNone};
+ghost use Rattle.outcome.specs.Meanings.{IsOfBlocks};
 ghost use Rattle.outcome.specs.Outcome.{Outcome};
 ghost use Rattle.store_api.specs.Holdings.{Stays};
 ghost use Rattle.data_tree.specs.Stored.{BlobTree};
-ghost use Rattle.dir_entries.specs.Layout.{listing_of};
+ghost use Rattle.dir_entries.specs.Layout.{Listing, listing_of};
 ghost use Rattle.block_walk.specs.Fronts.{FrontState};
-ghost use Rattle.block_walk.specs.Given.{fail_of};
+ghost use Rattle.block_walk.specs.Given.{fail_of, IsLoad};
 ghost use Rattle.block_walk.specs.Walks.{Walked};
 ghost use Rattle.cryfs_check.specs.Rows.{IsRowBlob, FitsKept, most_kept};
+ghost use Rattle.cryfs_check.specs.Halts.{IsHalted};
 
 use crate::place::Visit;
 use block_id::{Fail, Memory};
@@ -30,7 +32,8 @@ fn kept_of(kind: Kind) -> usize
 }
 
 fn is_same_kind(a: Kind, b: Kind) -> bool
-    ensures { result ≡ true → a ≡ b }
+    ensures same { result ≡ true → a ≡ b }
+    ensures differ { result ≡ false → a ≢ b }
 {
     match a {
         Kind::Directory => match b {
@@ -50,7 +53,8 @@ fn is_same_kind(a: Kind, b: Kind) -> bool
 
 /// The entries of a directory's body, or none for a file of so many bytes and a link with this target, or None where it isn't within its limits.
 fn judge(alloc: Global, kind: Kind, len: u64, body: &[u8]) -> Result<Option<Vec<Entry>>, Memory>
-    ensures { IfOk result (λ answer. IfSome answer (λ entries. FitsKept kind len body.now (listing_of entries.items))) }
+    ensures fits { IfOk result (λ answer. IfSome answer (λ entries. FitsKept kind len body.now (listing_of entries.items))) }
+    ensures only { IfOk result (λ answer. IfNone answer ((listing : Listing) → FitsKept kind len body.now listing → ⊥)) }
 {
     match kind {
         Kind::Directory => {
@@ -86,8 +90,10 @@ pub(crate) fn visit<B: Blocks>(
     requires owner { 0 < owner }
     ensures outcome { Outcome B.meanings Unit store.old store.new (fail_of result) (λ _ _. Unit {0}) }
     ensures stays { Stays B.holdings store.old store.new }
-    ensures walked { IfOk result (λ entries. (back : FrontState) × Walked B.loads owner store.old store.new marks.old marks.new (record { bytes = []; most = most_kept what.now.kind }) back
+    ensures of_blocks { IfErr (fail_of result) IsOfBlocks }
+    ensures walked { IfOk result (λ entries. (back : FrontState) × Walked (IsLoad B.meanings B.holdings B.loads) owner store.old store.new marks.old marks.new (record { bytes = []; most = most_kept what.now.kind }) back
         (λ C w ids. BlobTree (B.holdings.payload store.old) C what.now.id.0 w ids) (IsRowBlob what.now.kind what.now.parent.0 (listing_of entries.items))) }
+    ensures halted { IfErr result (IsHalted B.meanings B.holdings B.loads owner what.now store.old store.new marks.old marks.new) }
 {
     let mut front = Front::new(alloc, kept_of(what.kind));
     let len = match walk_root(alloc, store, marks, &mut front, owner, &what.id) {

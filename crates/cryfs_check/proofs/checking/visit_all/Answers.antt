@@ -4,9 +4,11 @@ use Rattle.std.specs.List.{slice_get}
 use Rattle.std.specs.Option.{option_map}
 use Rattle.outcome.specs.Outcome.{idle, then_}
 use Rattle.data_tree.proofs.Forests.{stays-same, stays-then}
+use Rattle.block_walk.specs.Given.{IsLoad}
 use Rattle.cryfs_check.specs.declared.place.Place.{Place}
 use Rattle.cryfs_check.specs.Places.{PlaceText, places_text, sites_of, site_needs, visit_needs}
 use Rattle.cryfs_check.specs.Visits.{IsVisited, Visited}
+use Rattle.cryfs_check.proofs.Stopping.{stopped_read, stopped_end}
 use Rattle.cryfs_check.proofs.Turns.{visited_none, visited_read, visited_end}
 use Rattle.cryfs_check.proofs.checking.visit_all.Goals as goal
 
@@ -14,7 +16,7 @@ pub loop-number-init : goal.loop-number-init
 loop-number-init g c = record {
   outcome = idle g.met.B.Blocks.lawful c.args.store.now tt c.requires.intact (λ n. tt);
   stays = stays-same g.B.Blocks.holdings c.args.store.now;
-  visited = subst (λ (xs : List Place). Visited g.B.Blocks.loads (g.B.Blocks.holdings.payload c.args.store.now) c.args.root.now.0 c.args.store.now c.args.store.now c.args.marks.now c.args.marks.now (places_text xs) 0) (sym c.requires.none)
+  visited = subst (λ (xs : List Place). Visited (IsLoad g.B.Blocks.meanings g.B.Blocks.holdings g.B.Blocks.loads) (g.B.Blocks.holdings.payload c.args.store.now) c.args.root.now.0 c.args.store.now c.args.store.now c.args.marks.now c.args.marks.now (places_text xs) 0) (sym c.requires.none)
       (visited_none c.requires.unowned);
 }
 
@@ -32,10 +34,21 @@ loop-number-preserved g c =
     let root = c.args.root.now.0 in
     let what = c.in-Some.what in
     let read = subst (λ (xs : List Place). Some (visit_needs what) ≡ option_map site_needs (slice_get (sites_of root (places_text xs)) c.loop-number.number)) c.deref.ensures.value c.in-Some.ensures in
-    let visited = subst (λ q. IsVisited g.B.Blocks.loads q c.loop-number.number what.id.0 what.kind what.parent.0 c.loop-number.store c.visit_place.new.store c.loop-number.marks c.visit_place.new.marks places (places_text c.visit_place.new.places.items))
+    let visited = subst (λ q. IsVisited (IsLoad g.B.Blocks.meanings g.B.Blocks.holdings g.B.Blocks.loads) q c.loop-number.number what.id.0 what.kind what.parent.0 c.loop-number.store c.visit_place.new.store c.loop-number.marks c.visit_place.new.marks places (places_text c.visit_place.new.places.items))
     inv.stays.payload c.in-Ok.ensures.visited in
     record {
       outcome = then_ g.met.B.Blocks.lawful inv.outcome (λ m h. tt) c.in-Ok.ensures.outcome (λ m h y k. tt);
       stays = stays-then inv.stays c.visit_place.ensures.stays;
       visited = visited_read inv.visited what read visited;
     }
+
+pub returns-in-Err-clause-stopped : goal.returns-in-Err-clause-stopped
+returns-in-Err-clause-stopped g c =
+    let H = g.B.Blocks.holdings in
+    let inv = c.loop-number.invariant in
+    let root = c.args.root.now.0 in
+    let read = subst (λ (xs : List Place). Some (visit_needs c.in-Some.what) ≡ option_map site_needs (slice_get (sites_of root (places_text xs)) c.loop-number.number)) c.deref.ensures.value c.in-Some.ensures in
+    stopped_read (H.content c.args.store.now) (H.content c.loop-number.store) inv.visited c.in-Some.what read inv.stays.ids inv.stays.payload c.in-Err.ensures.halted
+
+pub returns-clause-stopped : goal.returns-clause-stopped
+returns-clause-stopped g c = stopped_end (g.B.Blocks.holdings.content c.args.store.now) c.loop-number.invariant.visited
