@@ -12,7 +12,7 @@ use Rattle.run_status.specs.declared.status.Status.{Status}
 use Rattle.session_lines.specs.declared.end.End.{End}
 use Rattle.shell_sessions.specs.Sessions.{Session, IsServed, WasServed}
 use Rattle.cryfs_shell.specs.Copies.{HostSession}
-use Rattle.cryfs_shell.specs.Hosts.{HostSeen, IsStill, host_of}
+use Rattle.cryfs_shell.specs.Hosts.{IsStill, host_of}
 
 module _ {V : Type 0} {K : Type 0} (trace : V → Option (List Call)) (faults : V → ℕ) (G : KeeperGhosts K) (now : Instant) (input output : Stream) (vault : V) (keeper : K) (ended : Ended V K)
     (Came Other : Option (List ℕ) → End → Status → List Exchange → Type 0) (turn : (script : Option (List ℕ)) (end : End) (own : Status) (es : List Exchange) → Came script end own es → Other script end own es) where

@@ -1,7 +1,7 @@
 -- What holds of each run, by its form.
-use Rattle.std.proofs.Common.{◌≡◌, ◌≢◌, ℕ, true, false, List, refl, sym, ◌∙◌}
+use Rattle.std.proofs.Common.{◌≡◌, ◌≢◌, ℕ, true, List, sym, ◌∙◌}
 use Rattle.std.specs.declared.option.Option.{Option}
-use Rattle.std.specs.declared.option.Option.TheVariants.{None, Some}
+use Rattle.std.specs.declared.option.Option.TheVariants.{Some}
 use Rattle.rand_core.specs.Stream.{Stream as Chance}
 use Rattle.answers.specs.Sessions.{Exchange}
 use Rattle.fs_model.specs.Instant.{Instant}
@@ -22,7 +22,6 @@ use Rattle.shell_sessions.specs.Sessions.{ComesShell, ComesGenerated, ComesComma
 use Rattle.shell_words.specs.declared.form.Form.{Form}
 use Rattle.shell_words.specs.declared.form.Form.TheVariants.{Trial, TrialGenerate, Create, Info, Passwd, Shell, Generate, Command, Import, Export}
 use Rattle.shell_words.specs.Forms.{joined}
-use Rattle.shell_words.proofs.FormsOf.{IsPlain}
 use Rattle.copy_sessions.proofs.Imported.{told_host as copy_host}
 use Rattle.cryfs_shell.specs.Clauses.{IsRefusedRun, NoFalseAlarm, KeepsTree, FaultsHappened, IsEmptied}
 use Rattle.cryfs_shell.specs.Copies.{Imports, Exports}

@@ -9,7 +9,7 @@ use Rattle.shell_words.specs.CreateOptions.{options_of}
 use Rattle.script_text.specs.Grammar.{verb_of}
 use Rattle.shell_words.specs.declared.form.Form.{Form}
 use Rattle.shell_words.specs.declared.form.Form.TheVariants.{Trial, TrialGenerate, Create, Info, Passwd, Shell, Generate, Command, Import, Export}
-use Rattle.shell_words.specs.Forms.{count_of, single_form, plain_form, other_form, copy_word, copy_path, copied, copy_or_other, form_of, is_create}
+use Rattle.shell_words.specs.Forms.{count_of, single_form, plain_form, other_form, copy_word, copy_path, copy_or_other, form_of, is_create}
 
 -- a form other than that of `create`
 abbrev pub IsPlain : Form → Type 0

@@ -1,4 +1,4 @@
-use Rattle.std.proofs.Common.{map, sym, ◌∙◌, ap}
+use Rattle.std.proofs.Common.{map, sym, ◌∙◌}
 use Rattle.std.specs.String.{string_bytes}
 use Rattle.copy_sessions.specs.Coming.{ComesImport}
 use Rattle.line_io.specs.Streams.{stream_of}
