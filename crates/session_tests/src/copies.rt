@@ -17,22 +17,40 @@ fn path(alloc: Global, names: &[&str]) -> Result<Path, Fail> {
     Ok(path)
 }
 
+/// A row without a target.
+fn make(
+    alloc: Global,
+    folder: &mut MemoryFolder,
+    names: &[&str],
+    directory: bool,
+) -> Result<(), Fail> {
+    let none = ByteText::new(Vec::new(alloc));
+    let at = path(alloc, names)?;
+    let kind = if directory {
+        Kind::Directory
+    } else {
+        Kind::File
+    };
+    match folder.make(alloc, &at, kind, &none) {
+        Ok(()) => Ok(()),
+        Err(_) => Err(Fail::from("a row")),
+    }
+}
+
 /// The directory `d` with the file `f` of `ab`, and the link `l` to it.
 fn small_folder(alloc: Global) -> Result<MemoryFolder, Fail> {
     let mut folder = MemoryFolder::new(alloc);
-    let none = ByteText::new(Vec::new(alloc));
+    make(alloc, &mut folder, &["d"], true)?;
+    make(alloc, &mut folder, &["d", "f"], false)?;
     let file = path(alloc, &["d", "f"])?;
+    if folder.append(alloc, &file, b"ab").is_err() {
+        return Err(Fail::from("bytes"));
+    }
+    let link = path(alloc, &["l"])?;
     let target = ByteText::new(b"d/f".to_vec(alloc)?);
-    let made = [
-        folder.make(alloc, &path(alloc, &["d"])?, Kind::Directory, &none),
-        folder.make(alloc, &file, Kind::File, &none),
-        folder.append(alloc, &file, b"ab"),
-        folder.make(alloc, &path(alloc, &["l"])?, Kind::Link, &target),
-    ];
-    if made.iter().all(|one| one.is_ok()) {
-        Ok(folder)
-    } else {
-        Err(Fail::from("a row"))
+    match folder.make(alloc, &link, Kind::Link, &target) {
+        Ok(()) => Ok(folder),
+        Err(_) => Err(Fail::from("a link")),
     }
 }
 
