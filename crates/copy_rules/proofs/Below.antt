@@ -73,11 +73,11 @@ find_below q n r (e ∷ es) = by (place q (reverse e.0)) (find_below q n r es)
     by (Other never) rest = rest ∙ sym (ap (λ b. plain_of (cond b (Some e.1) (find path_cmp (reverse (q ++ n ∷ r)) es))) (other (never n r)))
     by (Below m s at) rest = elim (path_split (n ∷ r) (m ∷ s)) [
       | inl is ↦
-        ap (λ b. cond b (Some (plain e.1)) (find path_cmp (n ∷ r) (rows_below q es))) (ap (same_path (n ∷ r)) (sym is) ∙ path_same (n ∷ r))
-        ∙ sym (ap (λ b. plain_of (cond b (Some e.1) (find path_cmp (reverse (q ++ n ∷ r)) es))) (same (at ∙ ap (λ z. q ++ z) (sym is))))
+          ap (λ b. cond b (Some (plain e.1)) (find path_cmp (n ∷ r) (rows_below q es))) (ap (same_path (n ∷ r)) (sym is) ∙ path_same (n ∷ r))
+          ∙ sym (ap (λ b. plain_of (cond b (Some e.1) (find path_cmp (reverse (q ++ n ∷ r)) es))) (same (at ∙ ap (λ z. q ++ z) (sym is))))
       | inr differ ↦
-        ap (λ b. cond b (Some (plain e.1)) (find path_cmp (n ∷ r) (rows_below q es))) (apart (n ∷ r) (m ∷ s) differ)
-        ∙ (rest ∙ sym (ap (λ b. plain_of (cond b (Some e.1) (find path_cmp (reverse (q ++ n ∷ r)) es))) (other (λ here. differ (append_cancel_left q (n ∷ r) (m ∷ s) (sym here ∙ at))))))
+          ap (λ b. cond b (Some (plain e.1)) (find path_cmp (n ∷ r) (rows_below q es))) (apart (n ∷ r) (m ∷ s) differ)
+          ∙ (rest ∙ sym (ap (λ b. plain_of (cond b (Some e.1) (find path_cmp (reverse (q ++ n ∷ r)) es))) (other (λ here. differ (append_cancel_left q (n ∷ r) (m ∷ s) (sym here ∙ at))))))
     ]
 
 pub get_below : (t : Tree) (q : HostPath) (n : List ℕ) (r : HostPath) → get (below t q) (n ∷ r) ≡ plain_of (get t (upward (q ++ n ∷ r)))

@@ -235,14 +235,16 @@ pub export_same : ExportIsSame
 export_same before after q qs totals now old new (inl idle) wf h = absurd idle.ends
 export_same before after q qs totals now old new (inr begun) wf h =
     let told = all_told old q now qs new (served_readers qs begun.ends.served) h in
-    let folder = below_is old q wf in
-    (told.1, record {
-      u = below old q;
-      folder = folder;
-      same = λ n r. sym (get_below old q n r);
-      made = begun.ends.same (below old q) folder told.0;
-      counts = begun.ends.counts (below old q) folder told.0;
-    })
+    let folder = below_is old q wf in (
+      told.1,
+      record {
+        u = below old q;
+        folder = folder;
+        same = λ n r. sym (get_below old q n r);
+        made = begun.ends.same (below old q) folder told.0;
+        counts = begun.ends.counts (below old q) folder told.0;
+      },
+    )
 
 part_below : (before after : Option HostTree) (t : Tree) (q : HostPath) → OnTold before after (λ v. IsPartOf v (below t q)) → OnTold before after (λ v. IsPartBelow v t q)
 part_below None after t q h = h

@@ -41,7 +41,12 @@ pub fn make(
 }
 
 /// More bytes of a file.
-pub fn append(alloc: Global, folder: &mut MemoryFolder, file: &Path, bytes: &[u8]) -> Result<(), Fail> {
+pub fn append(
+    alloc: Global,
+    folder: &mut MemoryFolder,
+    file: &Path,
+    bytes: &[u8],
+) -> Result<(), Fail> {
     match folder.append(alloc, file, bytes) {
         Ok(()) => Ok(()),
         Err(_) => Err(Fail::from("bytes")),

@@ -56,9 +56,9 @@ part_told u (Some first) mid met todo w (v, (is, e)) = (v, (is, part_met u v met
 part_push : (u v : HostTree) (p : HostPath) (row : HostRow) → IsPartOf v u → IsFrontRow row (get u p) → IsPartOf (insert v p row) u
 part_push u v p row part front n r x is = elim (path_split (n ∷ r) p) [
   | inl e ↦
-    let same : Some row ≡ Some x = sym (here v p row) ∙ (ap (get (insert v p row)) (sym e) ∙ is) in
-    let one : row ≡ x = cc in
-    subst (λ z. IsFrontRow z (get u (n ∷ r))) one (subst (λ z. IsFrontRow row (get u z)) (sym e) front)
+      let same : Some row ≡ Some x = sym (here v p row) ∙ (ap (get (insert v p row)) (sym e) ∙ is) in
+      let one : row ≡ x = cc in
+      subst (λ z. IsFrontRow z (get u (n ∷ r))) one (subst (λ z. IsFrontRow row (get u z)) (sym e) front)
   | inr differ ↦ part n r x (sym (other v p row (n ∷ r) differ) ∙ is)
 ]
 

@@ -28,9 +28,9 @@ returns-in-Err-begin_tree-clause-copied g c =
 pub loop-init : goal.loop-init
 loop-init g c =
     let first = out_first g.A.Asker.asking g.met.A.Asker.lawful c.args.asker.now c.begin_tree.new.asker (g.F.Folder.tree c.args.host.now) c.args.source.now c.begin_tree.new.levels.items c.requires.tree c.requires.bare
-        (subst (λ z. TreeEntered g.A.Asker.asking c.args.asker.now c.begin_tree.new.asker [] c.args.source.now z c.begin_tree.new.levels.items (Ok tt)) c.new-levels.ensures.items
-        (subst (λ z. TreeEntered g.A.Asker.asking c.args.asker.now c.begin_tree.new.asker [] z c.new-levels.result.items c.begin_tree.new.levels.items (Ok tt)) c.in-Ok.ensures
-        (subst (λ z. TreeEntered g.A.Asker.asking c.args.asker.now c.begin_tree.new.asker z c.in-Ok.path c.new-levels.result.items c.begin_tree.new.levels.items (Ok tt)) c.root.ensures c.in-Ok-begin_tree.ensures.begun))) in
+    (subst (λ z. TreeEntered g.A.Asker.asking c.args.asker.now c.begin_tree.new.asker [] c.args.source.now z c.begin_tree.new.levels.items (Ok tt)) c.new-levels.ensures.items
+    (subst (λ z. TreeEntered g.A.Asker.asking c.args.asker.now c.begin_tree.new.asker [] z c.new-levels.result.items c.begin_tree.new.levels.items (Ok tt)) c.in-Ok.ensures
+    (subst (λ z. TreeEntered g.A.Asker.asking c.args.asker.now c.begin_tree.new.asker z c.in-Ok.path c.new-levels.result.items c.begin_tree.new.levels.items (Ok tt)) c.root.ensures c.in-Ok-begin_tree.ensures.begun))) in
     record {
       ready = c.in-Ok-begin_tree.ensures.ready;
       faults = refl;
