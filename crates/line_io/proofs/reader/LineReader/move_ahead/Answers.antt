@@ -1,4 +1,4 @@
-use Rattle.std.proofs.Common.{◌≡◌, ◌+◌, ◌-◌, take, drop, ◌∙◌, ap, sym, arith}
+use Rattle.std.proofs.Common.{◌+◌, ◌-◌, take, drop, ◌∙◌, ap, sym, arith}
 use Rattle.line_io.specs.Reading.{Reading}
 use Rattle.line_io.proofs.Bytes.{moved_front}
 use Rattle.line_io.proofs.reader.LineReader.move_ahead.Goals as goal
