@@ -22,7 +22,7 @@ def checked(tree):
 
 def block_files(tree):
     """The files of blocks, below their folders of three digits."""
-    return sorted(glob.glob(f"{tree.top}/b/[0-9a-f][0-9a-f][0-9a-f]/*"))
+    return sorted(glob.glob(f"{tree.top}/b/[0-9A-F][0-9A-F][0-9A-F]/*"))
 
 
 def contents(*folders):
