@@ -6,7 +6,7 @@ from telling import USAGE, Refused
 LINES = ("ls", "stat", "mkdir", "rmdir", "mkfile", "rm", "mv", "symlink", "readlink", "write", "read", "truncate", "chmod", "chown",
          "utime", "sync")
 COPIES = ("import", "export")
-COMMANDS = ("create", "info", "passwd", "shell", *COPIES, "generate", "trial", *LINES)
+COMMANDS = ("create", "info", "passwd", "check", "shell", *COPIES, "generate", "trial", *LINES)
 CREATE_OPTIONS = ("--blocksize", "--scrypt-n", "--scrypt-r", "--scrypt-p")
 PASSWORD_OPTIONS = ("--password-file", "--password-command")
 RECORD = "cryfs.localstate"
@@ -40,9 +40,9 @@ class Call:
     def takes_password(self):
         return self.command != "trial"
 
-    def copies(self):
-        """Whether it copies a folder, and says so as it goes on."""
-        return self.command in COPIES
+    def tells_how_far(self):
+        """Whether it may take long, and says how far it is as it goes on."""
+        return self.command in (*COPIES, "check")
 
     def takes_lines(self):
         """Whether it answers lines of its input."""
@@ -102,7 +102,7 @@ def check_command(words):
         raise Refused(f"no command {command!r}: see cryfs --help", USAGE)
     if command == "create":
         check_create(more)
-    if command in ("info", "passwd", "shell") and more:
+    if command in ("info", "passwd", "check", "shell") and more:
         raise Refused(f"{command} takes no more words", USAGE)
     if command in COPIES:
         check_copy(command, more)

@@ -25,4 +25,6 @@ pub enum Form {
     Import,
     /// A directory, copied into a folder of the host.
     Export,
+    /// Whether the whole file system is sound, and which path owns each block.
+    Check,
 }
