@@ -8,4 +8,6 @@ mod folders;
 #[cfg(test)]
 mod imports;
 #[cfg(test)]
+mod stops;
+#[cfg(test)]
 mod systems;

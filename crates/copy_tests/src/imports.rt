@@ -4,7 +4,23 @@ use copy_rules::CopyFail;
 use fs_model::{ByteText, Command, FsError, Kind, Name, Path, Reply};
 use host_folder::Folder;
 use memory_folder::MemoryFolder;
+use std::alloc::Global;
 use std::test::Fail;
+
+/// So many folders in one another, whose names have 255 bytes.
+fn deep_folder(alloc: Global, depth: usize) -> Result<MemoryFolder, Fail> {
+    let mut folder = MemoryFolder::new(alloc);
+    let mut at = Path::root(alloc);
+    let none = ByteText::new(Vec::new(alloc));
+    for _ in 0..depth {
+        let name = Vec::from_elem(alloc, b'n', 255)?;
+        at.push(Name::new(name).ok_or("a name")?)?;
+        if folder.make(alloc, &at, Kind::Directory, &none).is_err() {
+            return Err(Fail::from("a folder"));
+        }
+    }
+    Ok(folder)
+}
 
 #[test]
 fn a_folder_is_imported_once(rt: HostRuntime) -> Result<(), Fail> {
@@ -88,5 +104,22 @@ fn a_listing_that_fails_first_is_a_fault(rt: HostRuntime) -> Result<(), Fail> {
     let mut asker = empty_tree(alloc)?;
     let result = imported(alloc, &mut folder, &mut asker);
     assert!(rt; matches!(&result, Err(CopyFail::Host)));
+    Ok(())
+}
+
+/// Sixteen such names have a text of 4,096 bytes.
+#[test]
+fn a_path_of_4096_bytes_is_made_and_none_longer(rt: HostRuntime) -> Result<(), Fail> {
+    let alloc = rt.alloc();
+    let mut asker = empty_tree(alloc)?;
+    match imported(alloc, &mut deep_folder(alloc, 16)?, &mut asker) {
+        Ok(totals) => assert_eq!(rt; totals.dirs, 16),
+        Err(_) => return Err(Fail::from("imported")),
+    }
+    let mut asker = empty_tree(alloc)?;
+    match imported(alloc, &mut deep_folder(alloc, 17)?, &mut asker) {
+        Err(CopyFail::LongPath(at)) => assert_eq!(rt; at.names().len(), 17),
+        _ => return Err(Fail::from("too long a path")),
+    }
     Ok(())
 }

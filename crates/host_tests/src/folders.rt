@@ -1,5 +1,8 @@
 // Fresh folders, what is done in them past a copy, and calls of one by names.
-use fs_model::{ByteText, Kind, Name, Path};
+ghost use Rattle.std.specs.Prelude.{IfSome, IsTrue};
+ghost use Rattle.fs_model.specs.Fitting.{is_target};
+
+use fs_model::{ByteText, Command, Kind, Name, Path};
 use host_folder::Folder;
 use real_host::RealHost;
 use std::alloc::Global;
@@ -161,17 +164,40 @@ pub fn leads<F: Folder>(alloc: Global, host: &mut F, names: &[&str], wanted: &st
     }
 }
 
-/// Whether a row of this kind is made, a link with this target.
-pub fn makes<F: Folder>(
-    alloc: Global,
-    host: &mut F,
-    names: &[&str],
-    kind: Kind,
-    target: &str,
-) -> bool {
-    match (path(alloc, names), target.as_bytes().to_vec(alloc)) {
-        (Some(at), Ok(target)) => host.make(alloc, &at, kind, &ByteText::new(target)).is_ok(),
-        _ => false,
+/// A row that is new: a folder, a file, or a link with this target.
+#[derive(Clone, Copy)]
+pub enum New<'a> {
+    Folder,
+    File,
+    Link(&'a str),
+}
+
+/// Whether the row is made.
+pub fn makes<F: Folder>(alloc: Global, host: &mut F, names: &[&str], row: New<'_>) -> bool {
+    let Some(at) = path(alloc, names) else {
+        return false;
+    };
+    let none = ByteText::new(Vec::new(alloc));
+    match row {
+        New::Folder => host.make(alloc, &at, Kind::Directory, &none).is_ok(),
+        New::File => host.make(alloc, &at, Kind::File, &none).is_ok(),
+        New::Link(text) => match target(alloc, text) {
+            Some(target) => host.make(alloc, &at, Kind::Link, &target).is_ok(),
+            None => false,
+        },
+    }
+}
+
+/// The text as a link's target.
+fn target(alloc: Global, text: &str) -> Option<ByteText>
+    ensures { IfSome result (λ target. IsTrue (is_target target)) }
+{
+    let copy = ByteText::new(text.as_bytes().to_vec(alloc).ok()?);
+    let bytes = copy.as_slice().to_vec(alloc).ok()?;
+    if Command::Symlink(copy, Path::root(alloc)).fits() {
+        Some(ByteText::new(bytes))
+    } else {
+        None
     }
 }
 
