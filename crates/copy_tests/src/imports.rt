@@ -1,84 +1,25 @@
 // Imports of small folders, and what stands in the tree after them.
-use crate::PlainAsker;
-use copy_rules::{CopyFail, Totals};
-use fs_model::{ByteText, Command, FsError, Kind, Moment, Name, Path, Reply};
+use crate::samples::{append, empty_tree, imported, path, small_folder};
+use copy_rules::CopyFail;
+use fs_model::{ByteText, Command, FsError, Kind, Name, Path, Reply};
 use host_folder::Folder;
 use memory_folder::MemoryFolder;
-use plain_tree::PlainTree;
-use rand_pcg::Pcg32;
 use std::alloc::Global;
 use std::test::Fail;
-use tree_copy::import;
 
-/// The path of these names.
-fn path(alloc: Global, names: &[&str]) -> Result<Path, Fail> {
-    let mut path = Path::root(alloc);
-    for name in names {
-        let bytes = name.as_bytes().to_vec(alloc)?;
-        path.push(Name::new(bytes).ok_or("a name")?)?;
-    }
-    Ok(path)
-}
-
-/// A row without a target.
-fn make(
-    alloc: Global,
-    folder: &mut MemoryFolder,
-    names: &[&str],
-    directory: bool,
-) -> Result<(), Fail> {
-    let none = ByteText::new(Vec::new(alloc));
-    let at = path(alloc, names)?;
-    let kind = if directory {
-        Kind::Directory
-    } else {
-        Kind::File
-    };
-    match folder.make(alloc, &at, kind, &none) {
-        Ok(()) => Ok(()),
-        Err(_) => Err(Fail::from("a row")),
-    }
-}
-
-/// More bytes of a file.
-fn append(alloc: Global, folder: &mut MemoryFolder, file: &Path, bytes: &[u8]) -> Result<(), Fail> {
-    match folder.append(alloc, file, bytes) {
-        Ok(()) => Ok(()),
-        Err(_) => Err(Fail::from("bytes")),
-    }
-}
-
-/// The directory `d` with the file `f` of `ab`, and the link `l` to it.
-fn small_folder(alloc: Global) -> Result<MemoryFolder, Fail> {
+/// So many folders in one another, whose names have 255 bytes.
+fn deep_folder(alloc: Global, depth: usize) -> Result<MemoryFolder, Fail> {
     let mut folder = MemoryFolder::new(alloc);
-    make(alloc, &mut folder, &["d"], true)?;
-    make(alloc, &mut folder, &["d", "f"], false)?;
-    let file = path(alloc, &["d", "f"])?;
-    append(alloc, &mut folder, &file, b"ab")?;
-    let link = path(alloc, &["l"])?;
-    let target = ByteText::new(b"d/f".to_vec(alloc)?);
-    match folder.make(alloc, &link, Kind::Link, &target) {
-        Ok(()) => Ok(folder),
-        Err(_) => Err(Fail::from("a link")),
+    let mut at = Path::root(alloc);
+    let none = ByteText::new(Vec::new(alloc));
+    for _ in 0..depth {
+        let name = Vec::from_elem(alloc, b'n', 255)?;
+        at.push(Name::new(name).ok_or("a name")?)?;
+        if folder.make(alloc, &at, Kind::Directory, &none).is_err() {
+            return Err(Fail::from("a folder"));
+        }
     }
-}
-
-fn empty_tree(alloc: Global) -> Result<PlainAsker, Fail> {
-    Ok(PlainAsker {
-        tree: PlainTree::new(alloc),
-        now: Moment::new(100, 5).ok_or("nanos")?,
-        stops: 0,
-    })
-}
-
-/// Imports to the root.
-fn imported(
-    alloc: Global,
-    folder: &mut MemoryFolder,
-    asker: &mut PlainAsker,
-) -> Result<Totals, CopyFail> {
-    let mut chance = Pcg32::new(1, 2);
-    import(alloc, folder, asker, &Path::root(alloc), &mut chance)
+    Ok(folder)
 }
 
 #[test]
@@ -163,5 +104,22 @@ fn a_listing_that_fails_first_is_a_fault(rt: HostRuntime) -> Result<(), Fail> {
     let mut asker = empty_tree(alloc)?;
     let result = imported(alloc, &mut folder, &mut asker);
     assert!(rt; matches!(&result, Err(CopyFail::Host)));
+    Ok(())
+}
+
+/// Sixteen such names have a text of 4,096 bytes.
+#[test]
+fn a_path_of_4096_bytes_is_made_and_none_longer(rt: HostRuntime) -> Result<(), Fail> {
+    let alloc = rt.alloc();
+    let mut asker = empty_tree(alloc)?;
+    match imported(alloc, &mut deep_folder(alloc, 16)?, &mut asker) {
+        Ok(totals) => assert_eq!(rt; totals.dirs, 16),
+        Err(_) => return Err(Fail::from("imported")),
+    }
+    let mut asker = empty_tree(alloc)?;
+    match imported(alloc, &mut deep_folder(alloc, 17)?, &mut asker) {
+        Err(CopyFail::LongPath(at)) => assert_eq!(rt; at.names().len(), 17),
+        _ => return Err(Fail::from("too long a path")),
+    }
     Ok(())
 }
