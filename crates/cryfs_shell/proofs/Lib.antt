@@ -2,6 +2,7 @@ pub mod Statuses
 pub mod Copies
 pub mod Sessions
 pub mod Setups
+pub mod Checks
 pub mod TrialEnds
 pub mod Doing
 pub mod Naming

@@ -3,6 +3,7 @@ ghost use Rattle.std.specs.Prelude.{◌≡◌, ◌≤◌, ℕ, true, false, map}
 ghost use Rattle.std.specs.declared.option.Option.TheVariants.{None, Some};
 ghost use Rattle.std.specs.String.{string_bytes};
 ghost use Rattle.shell_words.specs.declared.create_options.CreateOptions.{CreateOptions};
+ghost use Rattle.check_runs.specs.Running.{RanCheck};
 ghost use Rattle.cryfs_setup.specs.Create.{RanCreate};
 ghost use Rattle.cryfs_setup.specs.Info.{Told};
 ghost use Rattle.cryfs_setup.specs.Passwd.{RanPasswd};
@@ -19,17 +20,19 @@ ghost use Rattle.shell_words.specs.declared.form.Form.{Form};
 ghost use Rattle.cryfs_shell.specs.Clauses.{IsRefusedRun, NoFalseAlarm, KeepsTree, FaultsHappened, FaultsNamed, StreamFaultsNamed, IsEmptied};
 ghost use Rattle.cryfs_shell.specs.Copies.{HostSession, Imports, Exports};
 ghost use Rattle.cryfs_shell.specs.Doing.{Does};
-ghost use Rattle.cryfs_shell.specs.History.{Comes, IsRunOf};
+ghost use Rattle.cryfs_shell.specs.History.{Comes, Judges, IsRunOf};
 ghost use Rattle.cryfs_shell.specs.Hosts.{host_of};
 ghost use Rattle.cryfs_shell.specs.Kinds.{IsRefused, is_session, opens, draws, copies};
 ghost use Rattle.outside.specs.Causes.{RoseBy};
 ghost use Rattle.plain_trials.specs.Runs.{Tried, GeneratedOnPlain};
 
 use block_id::Memory;
+use check_runs::run_check;
 use copy_runs::{run_export, run_import};
 use cryfs_setup::{run_create, run_info, run_passwd};
 use fs_model::Moment;
 use host_folder::Folder;
+use listing::Listing;
 use outside::{Keeper, Sink, Source, Vault};
 use plain_trials::{try_generated, try_lines};
 use rand_core::Rng;
@@ -40,7 +43,7 @@ use std::alloc::Global;
 
 /// Runs the program with these words, at this moment, from this input to this output, over this block directory and
 /// this local record, with these random bytes, and beside this folder of the host for copies.
-pub fn run<I: Source, O: Sink, V: Vault, K: Keeper, R: Rng, F: Folder>(
+pub fn run<I: Source, O: Sink, V: Vault + Listing, K: Keeper, R: Rng, F: Folder>(
     alloc: Global,
     words: &[String],
     now: Moment,
@@ -74,6 +77,8 @@ pub fn run<I: Source, O: Sink, V: Vault, K: Keeper, R: Rng, F: Folder>(
         → HostSession V.trace V.faults K.Keeper now (Imports (map string_bytes words.now) (stream_of I.rest I.faults input.old input.new) (stream_of O.written O.faults output.old output.new) (host_of F.tree F.faults host.old host.new)) (stream_of I.rest I.faults input.old input.new) (stream_of O.written O.faults output.old output.new) (host_of F.tree F.faults host.old host.new) vault keeper result }
     ensures exported { form_of (map string_bytes words.now) ≡ Some Form.Export
         → HostSession V.trace V.faults K.Keeper now (Exports (map string_bytes words.now) (stream_of I.rest I.faults input.old input.new) (stream_of O.written O.faults output.old output.new) (host_of F.tree F.faults host.old host.new)) (stream_of I.rest I.faults input.old input.new) (stream_of O.written O.faults output.old output.new) (host_of F.tree F.faults host.old host.new) vault keeper result }
+    ensures checked { form_of (map string_bytes words.now) ≡ Some Form.Check
+        → RanCheck V.trace V.faults V.names K.Keeper (stream_of I.rest I.faults input.old input.new) (stream_of O.written O.faults output.old output.new) vault keeper result }
     ensures refusal { opens (form_of (map string_bytes words.now)) ≡ true → IsKeptMarked records (K.kept keeper) → IsRefusedRun K.kept (stream_of O.written O.faults output.old output.new) vault keeper result }
     ensures no_false_alarm { NoFalseAlarm (stream_of I.rest I.faults input.old input.new) (outside_of V.trace V.faults K.Keeper vault keeper) (outside_of V.trace V.faults K.Keeper result.vault result.keeper) result.status }
     ensures kept { opens (form_of (map string_bytes words.now)) ≡ true → KeepsTree (stream_of I.rest I.faults input.old input.new) (outside_of V.trace V.faults K.Keeper vault keeper) (outside_of V.trace V.faults K.Keeper result.vault result.keeper) }
@@ -81,7 +86,7 @@ pub fn run<I: Source, O: Sink, V: Vault, K: Keeper, R: Rng, F: Folder>(
     ensures faults_named { is_session (form_of (map string_bytes words.now)) ≡ false → FaultsNamed (form_of (map string_bytes words.now)) (outside_of V.trace V.faults K.Keeper vault keeper) (outside_of V.trace V.faults K.Keeper result.vault result.keeper) result.status }
     ensures stream_faults_named { StreamFaultsNamed (stream_of I.rest I.faults input.old input.new) (stream_of O.written O.faults output.old output.new) result.status }
     ensures history { (form : Form) → form_of (map string_bytes words.now) ≡ Some form → is_create (map string_bytes words.now) ≡ false
-        → (run : Run) × IsRunOf (Comes (map string_bytes words.now) (stream_of I.rest I.faults input.old input.new) (stream_of O.written O.faults output.old output.new) (host_of F.tree F.faults host.old host.new) form) (outside_of V.trace V.faults K.Keeper vault keeper) (outside_of V.trace V.faults K.Keeper result.vault result.keeper) run }
+        → (run : Run) × IsRunOf (Comes (map string_bytes words.now) (stream_of I.rest I.faults input.old input.new) (stream_of O.written O.faults output.old output.new) (host_of F.tree F.faults host.old host.new) form) (Judges (Some form) result.status) (outside_of V.trace V.faults K.Keeper vault keeper) (outside_of V.trace V.faults K.Keeper result.vault result.keeper) run }
     ensures unhosted { copies (form_of (map string_bytes words.now)) ≡ false → host.new ≡ host.old }
     ensures host_fault { result.status ≡ Status.HostFault → RoseBy 1 (F.faults host.old) (F.faults host.new) }
     ensures done { is_session (form_of (map string_bytes words.now)) ≡ true → result.status ≡ Status.Done → IsEmptied (outside_of V.trace V.faults K.Keeper result.vault result.keeper) }
@@ -109,7 +114,7 @@ pub fn run<I: Source, O: Sink, V: Vault, K: Keeper, R: Rng, F: Folder>(
 }
 
 /// Runs what the words ask for.
-fn run_form<I: Source, O: Sink, V: Vault, K: Keeper, R: Rng, F: Folder>(
+fn run_form<I: Source, O: Sink, V: Vault + Listing, K: Keeper, R: Rng, F: Folder>(
     alloc: Global,
     form: Form,
     words: &[String],
@@ -122,7 +127,7 @@ fn run_form<I: Source, O: Sink, V: Vault, K: Keeper, R: Rng, F: Folder>(
     host: &mut F,
 ) -> Ended<V, K>
     requires { IsModest form }
-    ensures does { Does V.trace V.faults K.Keeper (map string_bytes words.now) now (R.stream chance.old) (R.stream chance.new) (stream_of I.rest I.faults input.old input.new) (stream_of O.written O.faults output.old output.new) (host_of F.tree F.faults host.old host.new) vault keeper result form }
+    ensures does { Does V.trace V.faults V.names K.Keeper (map string_bytes words.now) now (R.stream chance.old) (R.stream chance.new) (stream_of I.rest I.faults input.old input.new) (stream_of O.written O.faults output.old output.new) (host_of F.tree F.faults host.old host.new) vault keeper result form }
     ensures undrawn { draws (Some form) ≡ false → R.stream chance.new ≡ R.stream chance.old }
     ensures input_grows { I.faults input.old ≤ I.faults input.new }
     ensures unhosted { copies (Some form) ≡ false → host.new ≡ host.old }
@@ -163,6 +168,7 @@ fn run_form<I: Source, O: Sink, V: Vault, K: Keeper, R: Rng, F: Folder>(
         Form::Export => export_words(
             alloc, words, now, input, output, vault, keeper, chance, host,
         ),
+        Form::Check => run_check(alloc, input, output, vault, keeper),
     }
 }
 
