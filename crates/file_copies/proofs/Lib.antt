@@ -4,3 +4,4 @@ pub mod Getting
 pub mod Leaving
 pub mod Telling
 pub mod Sessions
+pub mod Faultless

@@ -1,5 +1,5 @@
 -- The sessions of a put and of a get.
-use Rattle.std.proofs.Common.{◌≡◌, ℕ, List, inl, inr, ◌∙◌, subst}
+use Rattle.std.proofs.Common.{◌≡◌, ℕ, List, inl, inr, refl, sym, ◌∙◌, subst, arith}
 use Rattle.std.specs.Prelude.{IfSome}
 use Rattle.std.specs.declared.option.Option.{Option}
 use Rattle.std.specs.declared.option.Option.TheVariants.{None}
@@ -15,10 +15,14 @@ use Rattle.outside.specs.Causes.{RoseBy}
 use Rattle.session_lines.specs.Driven.{IsUnfailed}
 use Rattle.session_lines.specs.declared.end.End.{End}
 use Rattle.run_status.specs.declared.status.Status.{Status}
+use Rattle.run_status.specs.declared.status.Status.TheVariants.{Done, Memory, HostFault, CopyRefused}
 use Rattle.host_folder.specs.Folders.{HostPath}
 use Rattle.copy_rules.specs.declared.copied.Totals.{Totals}
+use Rattle.copy_rules.specs.declared.copied.CopyFail.TheVariants as fail
 use Rattle.copy_rules.specs.Questions.{Question}
-use Rattle.copy_sessions.specs.Fitting.{WentBy}
+use Rattle.copy_sessions.specs.declared.way.Way.TheVariants.{In}
+use Rattle.copy_sessions.specs.Fitting.{WentBy, kept_after}
+use Rattle.copy_sessions.proofs.Imported.{told_host, stop_is_not}
 use Rattle.row_copy.specs.declared.stop.Stop.{Stop}
 use Rattle.row_copy.specs.declared.stop.Stop.TheVariants as stop
 use Rattle.file_copies.specs.Coming.{IsPutTold, IsPutSession, IsGetEnd, IsGetSession}
@@ -71,3 +75,28 @@ get_session M now old new kept qs path result input output end own w is ends unf
   ends = subst (λ z. IsGetEnd result z end own) w.kept ends;
   unfailed = unfailed;
 }
+
+-- ---- no folder of the host has a part in them
+
+none_rose : RoseBy 1 0 0 → ⊥
+none_rose rose = omega (arith, rose)
+
+put_by : (put : Result Totals Stop) (path : HostPath) (kept : Option Answer) (output : Stream) (end : End) (own : Status) → IsPutTold put path kept output end own → own ≡ HostFault → ⊥
+put_by (Ok totals) path kept output end own told e = none_rose (told_host In (Ok totals) kept output end own 0 0 told e refl)
+put_by (Err stop.Memory) path kept output end own told e = none_rose (told_host In (Err fail.Memory) kept output end own 0 0 told e refl)
+put_by (Err stop.Host) path kept output end own told e = let bad : Done ≡ HostFault = sym told.0.1 ∙ e in cc
+put_by (Err stop.Stopped) path kept output end own told e = none_rose (told_host In (Err fail.Stopped) kept output end own 0 0 told e refl)
+put_by (Err (stop.Refused x)) path kept output end own told e = none_rose (told_host In (Err (fail.Refused path x)) kept output end own 0 0 told e refl)
+
+pub put_unhosted : (path : HostPath) (taken : ℕ) (script : Option (List ℕ)) (input output : Stream) (end : End) (own : Status) (es : List Exchange) → IsPutSession path taken script input output end own es → own ≡ HostFault → ⊥
+put_unhosted path taken script input output end own es s e = put_by s.result path (kept_after None es) output end own s.told e
+
+get_by : {X : Type 0} (got : Result X Stop) (kept : Option Answer) (end : End) (own : Status) → IsGetEnd got kept end own → own ≡ HostFault → ⊥
+get_by (Ok x) kept end own ends e = let bad : Done ≡ HostFault = sym ends.1 ∙ e in cc
+get_by (Err stop.Memory) kept end own ends e = let bad : Memory ≡ HostFault = sym ends.1 ∙ e in cc
+get_by (Err stop.Host) kept end own ends e = let bad : Done ≡ HostFault = sym ends.1 ∙ e in cc
+get_by (Err stop.Stopped) kept end own ends e = stop_is_not kept (sym ends.1 ∙ e)
+get_by (Err (stop.Refused x)) kept end own ends e = let bad : CopyRefused ≡ HostFault = sym ends.1 ∙ e in cc
+
+pub get_unhosted : (path : HostPath) (input output : Stream) (end : End) (own : Status) (es : List Exchange) → IsGetSession path input output end own es → own ≡ HostFault → ⊥
+get_unhosted path input output end own es s e = get_by s.result (kept_after None es) end own s.ends e

@@ -1,5 +1,5 @@
 // What the session of a put leaves, and what that of a get wrote.
-ghost use Rattle.file_copies.specs.Laws.{GetTells, GetTellsPart, PutLeaves, PutLeavesPart};
+ghost use Rattle.file_copies.specs.Laws.{GetEnds, GetTells, GetTellsPart, PutEnds, PutLeaves, PutLeavesPart};
 
 /// After a put that is Ok a new file with exactly the bytes that came stands at its path in the last tree of the session,
 /// and nothing else has changed.
@@ -22,4 +22,15 @@ pub fn get_tells()
 /// By one that fails a front part of them was written, and of a path that is refused nothing; the last tree is the first.
 pub fn get_tells_part()
     ensures { GetTellsPart }
+{}
+
+/// Where neither an answer nor the input failed, a put's status is that of its end: done, refused for its cause, or stopped
+/// by want of memory or a block with its last version; or memory was refused.
+pub fn put_ends()
+    ensures { PutEnds }
+{}
+
+/// Where neither an answer nor the output failed, so is a get's.
+pub fn get_ends()
+    ensures { GetEnds }
 {}

@@ -9,5 +9,5 @@ mod put;
 
 pub use ending::{get_end, tell_put};
 pub use get::get_file;
-pub use law::{get_tells, get_tells_part, put_leaves, put_leaves_part};
+pub use law::{get_ends, get_tells, get_tells_part, put_ends, put_leaves, put_leaves_part};
 pub use put::put_file;
