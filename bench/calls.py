@@ -131,8 +131,8 @@ def tells_well(ended, whole):
 
 
 def after_import(system, ended):
-    lines = asked(GIVEN)
-    system.look(lines, [], [len(lines)] if ended.status == 0 else range(len(lines) + 1))
+    lines, done = asked(GIVEN)
+    system.look(lines, [], done[-1:] if ended.status == 0 else done)
     return tells_well(ended, told("imported", GIVEN)) and rows_of(host_of(system.folders, {})) == GIVEN
 
 

@@ -31,7 +31,7 @@ def random_rows(chance, block_size):
         above = os.path.dirname(path)
         if chance.randrange(4) == 0 or (above and rows.get(above, "") is not None):
             continue
-        size = chance.choice([0, 1, block_size, 9 * block_size, 9 * block_size, 9 * block_size, 300_000, (1 << 20) + 5])
+        size = chance.choice([0, 1, block_size, 9 * block_size, 300_000, (1 << 20) + 5, (3 << 20) + 5])
         rows[path] = chance.choice([None if not above else b"x", f"to{size}", chance.randbytes(min(size, 2000 * block_size))])
     return rows
 
@@ -62,11 +62,11 @@ class Copying:
     def import_some(self, rows, host, counts):
         """How far an import came that was killed is counted; a whole one follows where it was."""
         self.session(EMPTYING)
-        lines = asked(rows)
+        lines, done = asked(rows)
         ended = self.copy("import", host)
         if ended.output not in ("", told("imported", rows)):
             raise Lost(f"an import printed {ended.output!r}")
-        kept = self.system.look(lines, [], [len(lines)] if ended.status == 0 else range(len(lines) + 1))
+        kept = self.system.look(lines, [], done[-1:] if ended.status == 0 else done)
         how = "whole" if kept == len(lines) else "in part" if kept else "not at all"
         if ended.status:
             counts["kills"] += 1

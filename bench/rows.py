@@ -2,8 +2,8 @@
 stopped may have left of them."""
 import os
 
-# Bytes of a file that one write of an import has.
-PIECE = 1 << 20
+# Bytes of a file that one write of an import has, and no more than those of a line that writes.
+PIECE, OF_LINE = 1 << 20, 1 << 18
 
 
 def rows_of(folder):
@@ -45,18 +45,23 @@ def in_order(rows):
 
 
 def asked(rows):
-    """The lines that an import of them to the root asks."""
-    lines = []
+    """The lines that do what an import of them to the root asks, and after how many of them each of its commands is done."""
+    lines, done = [], [0]
     for path in in_order(rows):
-        row = rows[path]
-        if row is None:
-            lines.append(f"mkdir /{path}")
-        elif isinstance(row, str):
-            lines.append(f"symlink {row} /{path}")
-        else:
-            lines.append(f"mkfile /{path}")
-            lines += [f"write /{path} {at} {row[at : at + PIECE].hex()}" for at in range(0, len(row), PIECE)]
-    return lines
+        for command in commands(f"/{path}", rows[path]):
+            lines += command
+            done.append(len(lines))
+    return lines, done
+
+
+def commands(path, row):
+    """Each as the lines that do it: a piece of a file is too long for one line."""
+    if row is None:
+        return [[f"mkdir {path}"]]
+    if isinstance(row, str):
+        return [[f"symlink {row} {path}"]]
+    pieces = [range(at, min(at + PIECE, len(row)), OF_LINE) for at in range(0, len(row), PIECE)]
+    return [[f"mkfile {path}"]] + [[f"write {path} {at} {row[at : at + OF_LINE].hex()}" for at in piece] for piece in pieces]
 
 
 def told(word, rows):

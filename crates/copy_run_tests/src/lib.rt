@@ -4,8 +4,6 @@
 #[cfg(test)]
 mod exports;
 #[cfg(test)]
-mod folders;
-#[cfg(test)]
 mod imports;
 #[cfg(test)]
 mod stops;

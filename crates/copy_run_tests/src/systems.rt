@@ -1,6 +1,7 @@
 // File systems in memory, and runs over them.
 use copy_runs::{run_export, run_import};
 use cryfs_setup::run_create;
+use folder_samples::fills_small;
 use fs_model::{Moment, Path};
 use memory_folder::MemoryFolder;
 use memory_outside::{MemoryKeeper, MemorySink, MemorySource, MemoryVault};
@@ -139,4 +140,27 @@ pub fn expect(
         return Err(Fail::from("another status"));
     }
     Ok(System { vault, keeper })
+}
+
+/// One line, which has to be answered so.
+pub fn line(alloc: Global, system: System, line: &str, text: &str) -> Result<System, Fail> {
+    let mut folder = MemoryFolder::new(alloc);
+    expect(alloc, system, &mut folder, Run::Line(line), text, Status::Done)
+}
+
+/// The directory `d` with the file `f` of `ab`, and the link `l` to it.
+pub fn small_folder(alloc: Global) -> Result<MemoryFolder, Fail> {
+    let mut folder = MemoryFolder::new(alloc);
+    if fills_small(alloc, &mut folder) {
+        Ok(folder)
+    } else {
+        Err(Fail::from("rows"))
+    }
+}
+
+/// A file system into which the small folder was imported.
+pub fn imported(alloc: Global) -> Result<System, Fail> {
+    let mut folder = small_folder(alloc)?;
+    let told = "imported 1 1 1 2\n";
+    expect(alloc, new_system(alloc)?, &mut folder, Run::Import, told, Status::Done)
 }

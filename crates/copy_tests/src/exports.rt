@@ -1,122 +1,64 @@
-// Exports of small trees, and what stands in the folder after them.
+// Exports into folders in memory, and what stands in them afterwards.
 use crate::PlainAsker;
-use crate::samples::{append, empty_tree, imported, make, path, small_folder};
-use copy_rules::{CopyFail, Totals};
-use fs_model::{FsError, Path};
+use crate::samples::{counts, empty_tree, exported, imported, is_refused};
+use copy_rules::CopyFail;
+use folder_samples::{Row, appends, fills_small, has_rows, holds, leads, makes};
+use fs_model::FsError;
 use host_folder::Folder;
 use memory_folder::MemoryFolder;
-use rand_pcg::Pcg32;
 use std::alloc::Global;
 use std::test::Fail;
-use tree_copy::export;
 
-/// Exports what is below this path.
-fn exported(
-    alloc: Global,
-    folder: &mut MemoryFolder,
-    asker: &mut PlainAsker,
-    source: &Path,
-) -> Result<Totals, CopyFail> {
-    let mut chance = Pcg32::new(1, 2);
-    export(alloc, folder, asker, source, &mut chance)
+/// A tree that was imported from this folder.
+fn tree_of<F: Folder>(alloc: Global, folder: &mut F) -> Result<PlainAsker, Fail> {
+    let mut asker = empty_tree(alloc)?;
+    if imported(alloc, folder, &mut asker).is_err() {
+        return Err(Fail::from("imported"));
+    }
+    Ok(asker)
 }
 
-/// How many rows a directory of the folder has.
-fn rows(alloc: Global, folder: &mut MemoryFolder, names: &[&str]) -> Result<usize, Fail> {
-    let at = path(alloc, names)?;
-    match folder.list(alloc, &at) {
-        Ok(rows) => Ok(rows.as_slice().len()),
-        Err(_) => Err(Fail::from("a listing")),
+/// The small tree, with an empty directory `e`.
+fn small_tree(alloc: Global) -> Result<PlainAsker, Fail> {
+    let mut folder = MemoryFolder::new(alloc);
+    if !fills_small(alloc, &mut folder) || !makes(alloc, &mut folder, &["e"], Row::Folder) {
+        return Err(Fail::from("rows"));
     }
-}
-
-/// How many bytes from this place on are those of `byte`, up to the file's end.
-fn run_of(
-    alloc: Global,
-    folder: &mut MemoryFolder,
-    names: &[&str],
-    from: u64,
-    byte: u8,
-) -> Result<usize, Fail> {
-    let at = path(alloc, names)?;
-    let mut piece = Vec::from_elem(alloc, 0, 2_097_152)?;
-    match folder.read(&at, from, &mut piece) {
-        Ok(count) => {
-            for read in &piece[..count] {
-                if *read != byte {
-                    return Err(Fail::from("a byte"));
-                }
-            }
-            Ok(count)
-        }
-        Err(_) => Err(Fail::from("bytes")),
-    }
+    tree_of(alloc, &mut folder)
 }
 
 /// A tree with the file `f` of so many bytes.
-fn one_file(alloc: Global, count: usize) -> Result<PlainAsker, Fail> {
+fn one_file(alloc: Global, bytes: &[u8]) -> Result<PlainAsker, Fail> {
     let mut folder = MemoryFolder::new(alloc);
-    make(alloc, &mut folder, &["f"], false)?;
-    let bytes = Vec::from_elem(alloc, 7, count)?;
-    append(alloc, &mut folder, &path(alloc, &["f"])?, &bytes)?;
-    let mut asker = empty_tree(alloc)?;
-    match imported(alloc, &mut folder, &mut asker) {
-        Ok(_) => Ok(asker),
-        Err(_) => Err(Fail::from("imported")),
+    if !makes(alloc, &mut folder, &["f"], Row::File) || !appends(alloc, &mut folder, &["f"], bytes)
+    {
+        return Err(Fail::from("a file"));
     }
+    tree_of(alloc, &mut folder)
 }
 
 #[test]
 fn what_was_imported_is_exported(rt: HostRuntime) -> Result<(), Fail> {
     let alloc = rt.alloc();
-    let mut first = small_folder(alloc)?;
-    make(alloc, &mut first, &["e"], true)?;
-    let mut asker = empty_tree(alloc)?;
-    match imported(alloc, &mut first, &mut asker) {
-        Ok(_) => {}
-        Err(_) => return Err(Fail::from("imported")),
-    }
+    let mut asker = small_tree(alloc)?;
     let mut folder = MemoryFolder::new(alloc);
-    match exported(alloc, &mut folder, &mut asker, &Path::root(alloc)) {
-        Ok(totals) => {
-            assert_eq!(rt; totals.dirs, 2);
-            assert_eq!(rt; totals.files, 1);
-            assert_eq!(rt; totals.links, 1);
-            assert_eq!(rt; totals.bytes, 2);
-        }
-        Err(_) => return Err(Fail::from("exported")),
-    }
-    assert_eq!(rt; rows(alloc, &mut folder, &[])?, 3);
-    assert_eq!(rt; rows(alloc, &mut folder, &["d"])?, 1);
-    assert_eq!(rt; rows(alloc, &mut folder, &["e"])?, 0);
-    let mut piece = Vec::from_elem(alloc, 0, 9)?;
-    match folder.read(&path(alloc, &["d", "f"])?, 0, &mut piece) {
-        Ok(count) => assert!(rt; &piece[..count] == b"ab".as_slice()),
-        Err(_) => return Err(Fail::from("bytes")),
-    }
-    match folder.link(alloc, &path(alloc, &["l"])?) {
-        Ok(target) => assert!(rt; target.as_slice() == b"d/f".as_slice()),
-        Err(_) => return Err(Fail::from("a link")),
-    }
+    assert!(rt; counts(exported(alloc, &mut folder, &mut asker, &[]), [2, 1, 1, 2]));
+    assert!(rt; has_rows(alloc, &mut folder, &[], &["dd", "de", "ll"]));
+    assert!(rt; has_rows(alloc, &mut folder, &["d"], &["ff"]));
+    assert!(rt; has_rows(alloc, &mut folder, &["e"], &[]));
+    assert!(rt; holds(alloc, &mut folder, &["d", "f"], 0, b"ab"));
+    assert!(rt; leads(alloc, &mut folder, &["l"], "d/f"));
     Ok(())
 }
 
 #[test]
 fn a_directory_below_the_root_is_exported_alone(rt: HostRuntime) -> Result<(), Fail> {
     let alloc = rt.alloc();
-    let mut first = small_folder(alloc)?;
-    let mut asker = empty_tree(alloc)?;
-    match imported(alloc, &mut first, &mut asker) {
-        Ok(_) => {}
-        Err(_) => return Err(Fail::from("imported")),
-    }
+    let mut asker = small_tree(alloc)?;
     let mut folder = MemoryFolder::new(alloc);
-    match exported(alloc, &mut folder, &mut asker, &path(alloc, &["d"])?) {
-        Ok(totals) => assert_eq!(rt; totals.files, 1),
-        Err(_) => return Err(Fail::from("exported")),
-    }
-    assert_eq!(rt; rows(alloc, &mut folder, &[])?, 1);
-    assert_eq!(rt; run_of(alloc, &mut folder, &["f"], 1, b'b')?, 1);
+    assert!(rt; counts(exported(alloc, &mut folder, &mut asker, &["d"]), [0, 1, 0, 2]));
+    assert!(rt; has_rows(alloc, &mut folder, &[], &["ff"]));
+    assert!(rt; holds(alloc, &mut folder, &["f"], 1, b"b"));
     Ok(())
 }
 
@@ -124,13 +66,12 @@ fn a_directory_below_the_root_is_exported_alone(rt: HostRuntime) -> Result<(), F
 fn a_file_of_one_whole_piece_and_one_of_two(rt: HostRuntime) -> Result<(), Fail> {
     let alloc = rt.alloc();
     for count in [1_048_576, 1_048_579] {
-        let mut asker = one_file(alloc, count)?;
+        let bytes = Vec::from_elem(alloc, 7, count)?;
+        let mut asker = one_file(alloc, &bytes)?;
         let mut folder = MemoryFolder::new(alloc);
-        match exported(alloc, &mut folder, &mut asker, &Path::root(alloc)) {
-            Ok(totals) => assert_eq!(rt; totals.bytes, count as u64),
-            Err(_) => return Err(Fail::from("exported")),
-        }
-        assert_eq!(rt; run_of(alloc, &mut folder, &["f"], 0, 7)?, count);
+        let ended = exported(alloc, &mut folder, &mut asker, &[]);
+        assert!(rt; counts(ended, [0, 1, 0, count as u64]));
+        assert!(rt; holds(alloc, &mut folder, &["f"], 0, &bytes));
     }
     Ok(())
 }
@@ -138,49 +79,38 @@ fn a_file_of_one_whole_piece_and_one_of_two(rt: HostRuntime) -> Result<(), Fail>
 #[test]
 fn a_folder_with_rows_is_refused(rt: HostRuntime) -> Result<(), Fail> {
     let alloc = rt.alloc();
-    let mut asker = one_file(alloc, 3)?;
-    let mut folder = small_folder(alloc)?;
-    match exported(alloc, &mut folder, &mut asker, &Path::root(alloc)) {
-        Err(CopyFail::Refused(at, error)) => {
-            assert!(rt; matches!(error, FsError::NotEmpty));
-            assert_eq!(rt; at.names().len(), 0);
-        }
-        _ => return Err(Fail::from("refused")),
-    }
-    assert_eq!(rt; rows(alloc, &mut folder, &[])?, 2);
+    let mut asker = one_file(alloc, b"abc")?;
+    let mut folder = MemoryFolder::new(alloc);
+    assert!(rt; fills_small(alloc, &mut folder));
+    let ended = exported(alloc, &mut folder, &mut asker, &[]);
+    assert!(rt; is_refused(ended, 0, FsError::NotEmpty));
+    assert!(rt; has_rows(alloc, &mut folder, &[], &["dd", "ll"]));
     Ok(())
 }
 
+/// The calls are a list, a make and two appends.
 #[test]
 fn an_append_that_fails_leaves_what_was_put_before(rt: HostRuntime) -> Result<(), Fail> {
     let alloc = rt.alloc();
-    let mut asker = one_file(alloc, 1_048_579)?;
+    let bytes = Vec::from_elem(alloc, 7, 1_048_579)?;
+    let mut asker = one_file(alloc, &bytes)?;
     let mut folder = MemoryFolder::new(alloc);
-    let mut fourth = Vec::new(alloc);
-    fourth.push(4)?;
-    folder.fail_calls(fourth);
-    let result = exported(alloc, &mut folder, &mut asker, &Path::root(alloc));
-    assert!(rt; matches!(&result, Err(CopyFail::Host)));
-    assert_eq!(rt; run_of(alloc, &mut folder, &["f"], 0, 7)?, 1_048_576);
+    folder.fail_calls(Vec::from_elem(alloc, 4, 1)?);
+    let ended = exported(alloc, &mut folder, &mut asker, &[]);
+    assert!(rt; matches!(&ended, Err(CopyFail::Host)));
+    assert!(rt; holds(alloc, &mut folder, &["f"], 0, &bytes[..1_048_576]));
     Ok(())
 }
 
 #[test]
 fn a_source_that_is_a_file_or_missing_is_refused(rt: HostRuntime) -> Result<(), Fail> {
     let alloc = rt.alloc();
-    let mut asker = one_file(alloc, 3)?;
+    let mut asker = one_file(alloc, b"abc")?;
     let mut folder = MemoryFolder::new(alloc);
-    match exported(alloc, &mut folder, &mut asker, &path(alloc, &["f"])?) {
-        Err(CopyFail::Refused(at, error)) => {
-            assert!(rt; matches!(error, FsError::NotDirectory));
-            assert_eq!(rt; at.names().len(), 1);
-        }
-        _ => return Err(Fail::from("refused")),
-    }
-    match exported(alloc, &mut folder, &mut asker, &path(alloc, &["g"])?) {
-        Err(CopyFail::Refused(_, error)) => assert!(rt; matches!(error, FsError::NoEntry)),
-        _ => return Err(Fail::from("refused")),
-    }
-    assert_eq!(rt; rows(alloc, &mut folder, &[])?, 0);
+    let ended = exported(alloc, &mut folder, &mut asker, &["f"]);
+    assert!(rt; is_refused(ended, 1, FsError::NotDirectory));
+    let ended = exported(alloc, &mut folder, &mut asker, &["g"]);
+    assert!(rt; is_refused(ended, 1, FsError::NoEntry));
+    assert!(rt; has_rows(alloc, &mut folder, &[], &[]));
     Ok(())
 }

@@ -1,125 +1,123 @@
 // Imports of small folders, and what stands in the tree after them.
-use crate::samples::{append, empty_tree, imported, path, small_folder};
-use copy_rules::CopyFail;
+use crate::PlainAsker;
+use crate::samples::{counts, empty_tree, imported, is_refused};
+use copy_rules::{CopyFail, Totals};
+use folder_samples::{fills_small, path};
 use fs_model::{ByteText, Command, FsError, Kind, Name, Path, Reply};
 use host_folder::Folder;
 use memory_folder::MemoryFolder;
 use std::alloc::Global;
 use std::test::Fail;
 
-/// So many folders in one another, whose names have 255 bytes.
-fn deep_folder(alloc: Global, depth: usize) -> Result<MemoryFolder, Fail> {
-    let mut folder = MemoryFolder::new(alloc);
-    let mut at = Path::root(alloc);
-    let none = ByteText::new(Vec::new(alloc));
-    for _ in 0..depth {
-        let name = Vec::from_elem(alloc, b'n', 255)?;
-        at.push(Name::new(name).ok_or("a name")?)?;
-        if folder.make(alloc, &at, Kind::Directory, &none).is_err() {
-            return Err(Fail::from("a folder"));
-        }
+/// Whether the file at the path has these bytes from this place on.
+fn holds(asker: &mut PlainAsker, file: Path, from: u64, wanted: &[u8]) -> bool {
+    match asker.tree.step(asker.now, &Command::Read(file, from, 100)) {
+        Ok(Reply::Content(bytes)) => bytes.as_slice() == wanted,
+        _ => false,
     }
-    Ok(folder)
 }
 
 #[test]
 fn a_folder_is_imported_once(rt: HostRuntime) -> Result<(), Fail> {
     let alloc = rt.alloc();
-    let mut folder = small_folder(alloc)?;
+    let mut folder = MemoryFolder::new(alloc);
     let mut asker = empty_tree(alloc)?;
-    match imported(alloc, &mut folder, &mut asker) {
-        Ok(totals) => {
-            assert_eq!(rt; totals.dirs, 1);
-            assert_eq!(rt; totals.files, 1);
-            assert_eq!(rt; totals.links, 1);
-            assert_eq!(rt; totals.bytes, 2);
-        }
-        Err(_) => return Err(Fail::from("imported")),
-    }
-    let file = path(alloc, &["d", "f"])?;
-    let reply = asker.tree.step(asker.now, &Command::Read(file, 0, 100))?;
-    assert!(rt; matches!(&reply, Reply::Content(bytes) if bytes.as_slice() == b"ab".as_slice()));
-    match imported(alloc, &mut folder, &mut asker) {
-        Err(CopyFail::Refused(at, error)) => {
-            assert!(rt; matches!(error, FsError::Exists));
-            assert_eq!(rt; at.names().len(), 1);
-        }
-        _ => return Err(Fail::from("refused")),
-    }
+    assert!(rt; fills_small(alloc, &mut folder));
+    assert!(rt; counts(imported(alloc, &mut folder, &mut asker), [1, 1, 1, 2]));
+    let file = path(alloc, &["d", "f"]).ok_or("a path")?;
+    assert!(rt; holds(&mut asker, file, 0, b"ab"));
+    assert!(rt; is_refused(imported(alloc, &mut folder, &mut asker), 1, FsError::Exists));
     Ok(())
+}
+
+/// The path of one name of 255 bytes.
+fn long_name(alloc: Global) -> Option<Path> {
+    let mut path = Path::root(alloc);
+    add_long(alloc, &mut path)?;
+    Some(path)
+}
+
+/// The path with such a name more.
+fn add_long(alloc: Global, path: &mut Path) -> Option<()> {
+    let name = Name::new(Vec::from_elem(alloc, b'n', 255).ok()?)?;
+    path.push(name).ok()
+}
+
+/// Whether a file of so many bytes is made at the path.
+fn makes_file<F: Folder>(alloc: Global, folder: &mut F, file: &Path, count: usize) -> bool {
+    let none = ByteText::new(Vec::new(alloc));
+    match Vec::from_elem(alloc, 7, count) {
+        Ok(bytes) => {
+            folder.make(alloc, file, Kind::File, &none).is_ok()
+                && folder.append(alloc, file, &bytes).is_ok()
+        }
+        Err(_) => false,
+    }
 }
 
 #[test]
 fn a_long_name_and_a_file_of_two_pieces(rt: HostRuntime) -> Result<(), Fail> {
     let alloc = rt.alloc();
     let mut folder = MemoryFolder::new(alloc);
-    let mut name = Vec::new(alloc);
-    name.resize(255, b'n')?;
-    let mut file = Path::root(alloc);
-    file.push(Name::new(name).ok_or("a name")?)?;
+    let file = long_name(alloc).ok_or("a path")?;
+    let mut asker = empty_tree(alloc)?;
+    assert!(rt; makes_file(alloc, &mut folder, &file, 1_048_579));
+    assert!(rt; counts(imported(alloc, &mut folder, &mut asker), [0, 1, 0, 1_048_579]));
+    assert!(rt; holds(&mut asker, file, 1_048_576, &[7, 7, 7]));
+    Ok(())
+}
+
+/// Whether so many folders in one another are made, whose names have 255 bytes.
+fn makes_deep<F: Folder>(alloc: Global, folder: &mut F, depth: usize) -> bool {
+    let mut path = Path::root(alloc);
     let none = ByteText::new(Vec::new(alloc));
-    match folder.make(alloc, &file, Kind::File, &none) {
-        Ok(()) => {}
-        Err(_) => return Err(Fail::from("a file")),
+    let mut made = true;
+    for _ in 0..depth {
+        made = made
+            && add_long(alloc, &mut path).is_some()
+            && folder.make(alloc, &path, Kind::Directory, &none).is_ok();
     }
-    let mut bytes = Vec::new(alloc);
-    bytes.resize(1_048_579, 7)?;
-    append(alloc, &mut folder, &file, &bytes)?;
-    let mut asker = empty_tree(alloc)?;
-    match imported(alloc, &mut folder, &mut asker) {
-        Ok(totals) => assert_eq!(rt; totals.bytes, 1_048_579),
-        Err(_) => return Err(Fail::from("imported")),
-    }
-    let reply = asker
-        .tree
-        .step(asker.now, &Command::Read(file, 1_048_576, 100))?;
-    assert!(rt;
-        matches!(&reply, Reply::Content(bytes) if bytes.as_slice() == [7, 7, 7].as_slice())
-    );
-    Ok(())
+    made
 }
 
-#[test]
-fn an_empty_folder_asks_nothing(rt: HostRuntime) -> Result<(), Fail> {
-    let alloc = rt.alloc();
-    let mut folder = MemoryFolder::new(alloc);
-    let mut asker = empty_tree(alloc)?;
-    match imported(alloc, &mut folder, &mut asker) {
-        Ok(totals) => {
-            assert_eq!(rt; totals.dirs, 0);
-            assert_eq!(rt; totals.files, 0);
-        }
-        Err(_) => return Err(Fail::from("imported")),
+/// Whether a copy ended at too long a path of so many names.
+fn is_long(ended: Result<Totals, CopyFail>, depth: usize) -> bool {
+    match ended {
+        Err(CopyFail::LongPath(at)) => at.names().len() == depth,
+        _ => false,
     }
-    Ok(())
-}
-
-#[test]
-fn a_listing_that_fails_first_is_a_fault(rt: HostRuntime) -> Result<(), Fail> {
-    let alloc = rt.alloc();
-    let mut folder = small_folder(alloc)?;
-    let mut first = Vec::new(alloc);
-    first.push(1)?;
-    folder.fail_calls(first);
-    let mut asker = empty_tree(alloc)?;
-    let result = imported(alloc, &mut folder, &mut asker);
-    assert!(rt; matches!(&result, Err(CopyFail::Host)));
-    Ok(())
 }
 
 /// Sixteen such names have a text of 4,096 bytes.
 #[test]
 fn a_path_of_4096_bytes_is_made_and_none_longer(rt: HostRuntime) -> Result<(), Fail> {
     let alloc = rt.alloc();
+    let mut folder = MemoryFolder::new(alloc);
+    assert!(rt; makes_deep(alloc, &mut folder, 16));
+    assert!(rt; counts(imported(alloc, &mut folder, &mut empty_tree(alloc)?), [16, 0, 0, 0]));
+    let mut deeper = MemoryFolder::new(alloc);
+    assert!(rt; makes_deep(alloc, &mut deeper, 17));
+    assert!(rt; is_long(imported(alloc, &mut deeper, &mut empty_tree(alloc)?), 17));
+    Ok(())
+}
+
+#[test]
+fn an_empty_folder_asks_nothing(rt: HostRuntime) -> Result<(), Fail> {
+    let alloc = rt.alloc();
     let mut asker = empty_tree(alloc)?;
-    match imported(alloc, &mut deep_folder(alloc, 16)?, &mut asker) {
-        Ok(totals) => assert_eq!(rt; totals.dirs, 16),
-        Err(_) => return Err(Fail::from("imported")),
-    }
+    let ended = imported(alloc, &mut MemoryFolder::new(alloc), &mut asker);
+    assert!(rt; counts(ended, [0, 0, 0, 0]));
+    Ok(())
+}
+
+#[test]
+fn a_listing_that_fails_first_is_a_fault(rt: HostRuntime) -> Result<(), Fail> {
+    let alloc = rt.alloc();
+    let mut folder = MemoryFolder::new(alloc);
     let mut asker = empty_tree(alloc)?;
-    match imported(alloc, &mut deep_folder(alloc, 17)?, &mut asker) {
-        Err(CopyFail::LongPath(at)) => assert_eq!(rt; at.names().len(), 17),
-        _ => return Err(Fail::from("too long a path")),
-    }
+    assert!(rt; fills_small(alloc, &mut folder));
+    folder.fail_calls(Vec::from_elem(alloc, 1, 1)?);
+    let ended = imported(alloc, &mut folder, &mut asker);
+    assert!(rt; matches!(&ended, Err(CopyFail::Host)));
     Ok(())
 }

@@ -1,72 +1,14 @@
-// Folders and trees that are copied.
+// Trees that folders are copied into and out of, and how copies end.
 use crate::PlainAsker;
 use copy_rules::{CopyFail, Totals};
-use fs_model::{ByteText, Kind, Moment, Name, Path};
+use folder_samples::path;
+use fs_model::{FsError, Moment};
 use host_folder::Folder;
-use memory_folder::MemoryFolder;
 use plain_tree::PlainTree;
 use rand_pcg::Pcg32;
 use std::alloc::Global;
 use std::test::Fail;
-use tree_copy::import;
-
-/// The path of these names.
-pub fn path(alloc: Global, names: &[&str]) -> Result<Path, Fail> {
-    let mut path = Path::root(alloc);
-    for name in names {
-        let bytes = name.as_bytes().to_vec(alloc)?;
-        path.push(Name::new(bytes).ok_or("a name")?)?;
-    }
-    Ok(path)
-}
-
-/// A row without a target.
-pub fn make(
-    alloc: Global,
-    folder: &mut MemoryFolder,
-    names: &[&str],
-    directory: bool,
-) -> Result<(), Fail> {
-    let none = ByteText::new(Vec::new(alloc));
-    let at = path(alloc, names)?;
-    let kind = if directory {
-        Kind::Directory
-    } else {
-        Kind::File
-    };
-    match folder.make(alloc, &at, kind, &none) {
-        Ok(()) => Ok(()),
-        Err(_) => Err(Fail::from("a row")),
-    }
-}
-
-/// More bytes of a file.
-pub fn append(
-    alloc: Global,
-    folder: &mut MemoryFolder,
-    file: &Path,
-    bytes: &[u8],
-) -> Result<(), Fail> {
-    match folder.append(alloc, file, bytes) {
-        Ok(()) => Ok(()),
-        Err(_) => Err(Fail::from("bytes")),
-    }
-}
-
-/// The directory `d` with the file `f` of `ab`, and the link `l` to it.
-pub fn small_folder(alloc: Global) -> Result<MemoryFolder, Fail> {
-    let mut folder = MemoryFolder::new(alloc);
-    make(alloc, &mut folder, &["d"], true)?;
-    make(alloc, &mut folder, &["d", "f"], false)?;
-    let file = path(alloc, &["d", "f"])?;
-    append(alloc, &mut folder, &file, b"ab")?;
-    let link = path(alloc, &["l"])?;
-    let target = ByteText::new(b"d/f".to_vec(alloc)?);
-    match folder.make(alloc, &link, Kind::Link, &target) {
-        Ok(()) => Ok(folder),
-        Err(_) => Err(Fail::from("a link")),
-    }
-}
+use tree_copy::{export, import};
 
 pub fn empty_tree(alloc: Global) -> Result<PlainAsker, Fail> {
     Ok(PlainAsker {
@@ -77,11 +19,42 @@ pub fn empty_tree(alloc: Global) -> Result<PlainAsker, Fail> {
 }
 
 /// Imports to the root.
-pub fn imported(
+pub fn imported<F: Folder>(
     alloc: Global,
-    folder: &mut MemoryFolder,
+    folder: &mut F,
     asker: &mut PlainAsker,
 ) -> Result<Totals, CopyFail> {
-    let mut chance = Pcg32::new(1, 2);
-    import(alloc, folder, asker, &Path::root(alloc), &mut chance)
+    let Some(root) = path(alloc, &[]) else {
+        return Err(CopyFail::Memory);
+    };
+    import(alloc, folder, asker, &root, &mut Pcg32::new(1, 2))
+}
+
+/// Exports what stands below these names.
+pub fn exported<F: Folder>(
+    alloc: Global,
+    folder: &mut F,
+    asker: &mut PlainAsker,
+    names: &[&str],
+) -> Result<Totals, CopyFail> {
+    let Some(source) = path(alloc, names) else {
+        return Err(CopyFail::Memory);
+    };
+    export(alloc, folder, asker, &source, &mut Pcg32::new(1, 2))
+}
+
+/// Whether so many directories, files, links and bytes were copied.
+pub fn counts(ended: Result<Totals, CopyFail>, wanted: [u64; 4]) -> bool {
+    match ended {
+        Ok(found) => [found.dirs, found.files, found.links, found.bytes] == wanted,
+        Err(_) => false,
+    }
+}
+
+/// Whether the copy was refused at a path of so many names.
+pub fn is_refused(ended: Result<Totals, CopyFail>, depth: usize, error: FsError) -> bool {
+    match ended {
+        Err(CopyFail::Refused(at, found)) => at.names().len() == depth && found == error,
+        _ => false,
+    }
 }

@@ -1,5 +1,6 @@
 // The block folder and the state folder aren't copied, and nothing is put into them.
-use crate::folders::{fails_to_list, fresh_folder, has_rows, is_removed, links, makes_folder};
+use crate::folders::{fails_to_list, fresh_folder, is_removed, links, makes_folder};
+use folder_samples::has_rows;
 use real_host::RealHost;
 use std::alloc::Global;
 use std::test::Fail;

@@ -1,8 +1,5 @@
-// Fresh folders, what is done in them past a copy, and calls of one by names.
-ghost use Rattle.std.specs.Prelude.{IfSome, IsTrue};
-ghost use Rattle.fs_model.specs.Fitting.{is_target};
-
-use fs_model::{ByteText, Command, Kind, Name, Path};
+// Fresh folders, what is done in them past a copy, and calls that fail.
+use folder_samples::path;
 use host_folder::Folder;
 use real_host::RealHost;
 use std::alloc::Global;
@@ -80,44 +77,6 @@ pub fn host_of<'a>(rt: &HostRuntime, folder: &'a str) -> RealHost<'a> {
     RealHost::new(rt, folder, "/nowhere/blocks", "/nowhere/state")
 }
 
-/// The path of these names.
-pub fn path(alloc: Global, names: &[&str]) -> Option<Path> {
-    let mut path = Path::root(alloc);
-    for name in names {
-        let bytes = name.as_bytes().to_vec(alloc).ok()?;
-        path.push(Name::new(bytes)?).ok()?;
-    }
-    Some(path)
-}
-
-/// Whether the rows of the folder are these, in this order, each with `d`, `f` or `l` before its name.
-pub fn has_rows<F: Folder>(alloc: Global, host: &mut F, names: &[&str], rows: &[&str]) -> bool {
-    let Some(at) = path(alloc, names) else {
-        return false;
-    };
-    let Ok(found) = host.list(alloc, &at) else {
-        return false;
-    };
-    let found = found.as_slice();
-    let mut same = found.len() == rows.len();
-    for (row, wanted) in found.iter().zip(rows.iter()) {
-        same = same && is_row(row.kind, row.name.as_slice(), wanted.as_bytes());
-    }
-    same
-}
-
-fn is_row(kind: Kind, name: &[u8], wanted: &[u8]) -> bool {
-    let first = match kind {
-        Kind::Directory => b'd',
-        Kind::File => b'f',
-        Kind::Link => b'l',
-    };
-    match wanted.split_first() {
-        Some((kind, rest)) => *kind == first && rest == name,
-        None => false,
-    }
-}
-
 /// Whether a listing fails.
 pub fn fails_to_list<F: Folder>(alloc: Global, host: &mut F, names: &[&str]) -> bool {
     match path(alloc, names) {
@@ -149,62 +108,6 @@ pub fn fails_to_read<F: Folder>(alloc: Global, host: &mut F, names: &[&str]) -> 
     let mut piece = [0u8; 3];
     match path(alloc, names) {
         Some(at) => host.read(&at, 0, &mut piece).is_err(),
-        None => false,
-    }
-}
-
-/// Whether a link has this target.
-pub fn leads<F: Folder>(alloc: Global, host: &mut F, names: &[&str], wanted: &str) -> bool {
-    let Some(at) = path(alloc, names) else {
-        return false;
-    };
-    match host.link(alloc, &at) {
-        Ok(target) => target.as_slice() == wanted.as_bytes(),
-        Err(_) => false,
-    }
-}
-
-/// A row that is new: a folder, a file, or a link with this target.
-#[derive(Clone, Copy)]
-pub enum New<'a> {
-    Folder,
-    File,
-    Link(&'a str),
-}
-
-/// Whether the row is made.
-pub fn makes<F: Folder>(alloc: Global, host: &mut F, names: &[&str], row: New<'_>) -> bool {
-    let Some(at) = path(alloc, names) else {
-        return false;
-    };
-    let none = ByteText::new(Vec::new(alloc));
-    match row {
-        New::Folder => host.make(alloc, &at, Kind::Directory, &none).is_ok(),
-        New::File => host.make(alloc, &at, Kind::File, &none).is_ok(),
-        New::Link(text) => match target(alloc, text) {
-            Some(target) => host.make(alloc, &at, Kind::Link, &target).is_ok(),
-            None => false,
-        },
-    }
-}
-
-/// The text as a link's target.
-fn target(alloc: Global, text: &str) -> Option<ByteText>
-    ensures { IfSome result (λ target. IsTrue (is_target target)) }
-{
-    let copy = ByteText::new(text.as_bytes().to_vec(alloc).ok()?);
-    let bytes = copy.as_slice().to_vec(alloc).ok()?;
-    if Command::Symlink(copy, Path::root(alloc)).fits() {
-        Some(ByteText::new(bytes))
-    } else {
-        None
-    }
-}
-
-/// Whether these bytes are put behind a file's.
-pub fn appends<F: Folder>(alloc: Global, host: &mut F, names: &[&str], bytes: &str) -> bool {
-    match path(alloc, names) {
-        Some(at) => host.append(alloc, &at, bytes.as_bytes()).is_ok(),
         None => false,
     }
 }

@@ -1,8 +1,8 @@
 // Folders that are moved, with something else in their place, while they are copied.
 use crate::folders::{
-    New, fails_to_list, fails_to_read, fresh_folder, has_rows, host_of, is_removed, links, makes,
-    makes_folder, moves, reads, writes,
+    fails_to_list, fails_to_read, fresh_folder, host_of, is_removed, links, makes_folder, moves, reads, writes,
 };
+use folder_samples::{Row, has_rows, makes};
 use std::test::Fail;
 
 #[test]
@@ -17,7 +17,7 @@ fn a_link_in_the_place_of_a_folder(rt: HostRuntime) -> Result<(), Fail> {
     assert!(rt; moves(&rt, top, "d", "moved") && links(&rt, top, "d", "other"));
     // The folder that is open is read and filled on, wherever it lies.
     assert!(rt; reads(alloc, host, &["d", "f"], 0, "own"));
-    assert!(rt; makes(alloc, host, &["d", "g"], New::File));
+    assert!(rt; makes(alloc, host, &["d", "g"], Row::File));
     assert!(rt; has_rows(alloc, host, &["other"], &["ff"]));
     assert!(rt; has_rows(alloc, host, &["moved"], &["ff", "fg"]));
     // What stands in its place now is none.
@@ -35,7 +35,7 @@ fn another_folder_in_the_place_of_one(rt: HostRuntime) -> Result<(), Fail> {
     let host = &mut host_of(&rt, top);
     let names = ["n"; 70];
     for depth in 1..=names.len() {
-        assert!(rt; makes(alloc, host, &names[..depth], New::Folder));
+        assert!(rt; makes(alloc, host, &names[..depth], Row::Folder));
     }
     assert!(rt; has_rows(alloc, host, &names, &[]));
     // The first folders are closed by now, and others stand in their place.

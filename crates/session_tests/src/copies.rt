@@ -1,56 +1,18 @@
 // Copies between a folder of the host and a file system.
 use cryfs_shell::Status;
-use fs_model::{ByteText, Kind, Name, Path};
-use host_folder::Folder;
+use folder_samples::fills_small;
 use memory_folder::MemoryFolder;
 use std::alloc::Global;
 use std::test::Fail;
 use test_systems::{expect, expect_beside, new_system, plain};
 
-/// The path of these names.
-fn path(alloc: Global, names: &[&str]) -> Result<Path, Fail> {
-    let mut path = Path::root(alloc);
-    for name in names {
-        let bytes = name.as_bytes().to_vec(alloc)?;
-        path.push(Name::new(bytes).ok_or("a name")?)?;
-    }
-    Ok(path)
-}
-
-/// A row without a target.
-fn make(
-    alloc: Global,
-    folder: &mut MemoryFolder,
-    names: &[&str],
-    directory: bool,
-) -> Result<(), Fail> {
-    let none = ByteText::new(Vec::new(alloc));
-    let at = path(alloc, names)?;
-    let kind = if directory {
-        Kind::Directory
-    } else {
-        Kind::File
-    };
-    match folder.make(alloc, &at, kind, &none) {
-        Ok(()) => Ok(()),
-        Err(_) => Err(Fail::from("a row")),
-    }
-}
-
 /// The directory `d` with the file `f` of `ab`, and the link `l` to it.
 fn small_folder(alloc: Global) -> Result<MemoryFolder, Fail> {
     let mut folder = MemoryFolder::new(alloc);
-    make(alloc, &mut folder, &["d"], true)?;
-    make(alloc, &mut folder, &["d", "f"], false)?;
-    let file = path(alloc, &["d", "f"])?;
-    if folder.append(alloc, &file, b"ab").is_err() {
-        return Err(Fail::from("bytes"));
-    }
-    let link = path(alloc, &["l"])?;
-    let target = ByteText::new(b"d/f".to_vec(alloc)?);
-    match folder.make(alloc, &link, Kind::Link, &target) {
-        Ok(()) => Ok(folder),
-        Err(_) => Err(Fail::from("a link")),
+    if fills_small(alloc, &mut folder) {
+        Ok(folder)
+    } else {
+        Err(Fail::from("rows"))
     }
 }
 
