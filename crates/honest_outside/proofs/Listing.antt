@@ -1,11 +1,8 @@
 -- A listing of no more files than it may give doesn't fail, and leaves the directory honest.
-use Rattle.std.proofs.Common.{◌≡◌, ◌∙◌, ◌⊎◌, inl, inr, ℕ, zero, suc, ◌+◌, ◌<◌, ◌≤◌, Bool, true, false, cond, List, [], ◌∷◌, length, refl, sym, ap, subst, arith, Result, Ok, Err, IsErrOf, OnOk}
+use Rattle.std.proofs.Common.{◌≡◌, ◌⊎◌, inl, inr, ℕ, suc, ◌+◌, ◌<◌, ◌≤◌, Bool, true, false, cond, List, [], ◌∷◌, length, refl, sym, ap, subst, arith, Result, Ok, Err, IsErrOf, OnOk}
 use Rattle.std.specs.Ordering.{match_ordering, nat_cmp}
 use Rattle.std.specs.Cmp.Lexicographic.{slice_cmp}
 use Rattle.std.specs.BTreeMap.{is_at}
-use Rattle.std.specs.BTreeSet.{insert_key}
-use Rattle.std.specs.Set.{remove_key}
-use Rattle.std.specs.Global.{Vec}
 use Rattle.std.specs.declared.cmp.Ordering.{Ordering}
 use Rattle.std.specs.declared.cmp.Ordering.TheVariants.{Less, Equal, Greater}
 use Rattle.std.specs.declared.option.Option.{Option}
@@ -16,7 +13,7 @@ use Rattle.outside.specs.Causes.{one_more}
 use Rattle.outside.specs.Changes.{FileChanges}
 use Rattle.listing.specs.FileTexts.{text_of_file}
 use Rattle.memory_outside.specs.FileNames.{after_first, file_names, all_names, with_name, without_name}
-use Rattle.memory_outside.specs.Vaults.{VaultState, is_listed, get_fails, names_in, after_list, IsUntampered}
+use Rattle.memory_outside.specs.Vaults.{VaultState, is_listed, get_fails, names_in, after_list}
 use Rattle.honest_outside.specs.Honest.{IsHonestVault}
 
 no_less : (a b : ℕ) → a ≤ b → b < a → ⊥

@@ -1,7 +1,7 @@
 -- The ids of entries that have a payload rise where those of the entries do, and are those in the content.
 use Rattle.std.proofs.Common.{◌≡◌, ◌∙◌, ℕ, Bool, true, false, cond, ◌&&◌, ◌||◌, List, [], ◌∷◌, map, T, refl, sym, ap, subst, is_some, Result, Ok, Err}
 use Rattle.std.specs.Prelude.{filter, IfOk}
-use Rattle.std.specs.Ordering.{is_lt, is_eq, nat_cmp}
+use Rattle.std.specs.Ordering.{is_lt, is_eq}
 use Rattle.std.specs.Cmp.Lexicographic.{nat_list_cmp_total}
 use Rattle.std.specs.FinMap as fin
 use Rattle.std.specs.FinMap.{find, is_sorted}
@@ -17,7 +17,7 @@ use Rattle.block_batch.specs.declared.batch.BatchChange.{BatchChange}
 use Rattle.block_batch.specs.Entries.{change_view, entries_of}
 use Rattle.store_api.specs.Content.{Id, Changes, id_cmp, same_id, or_else}
 use Rattle.store_api.specs.Holdings.{has_id}
-use Rattle.map_store.specs.Rows.{content_of, living_in, AreRising, AreLiving}
+use Rattle.map_store.specs.Rows.{living_in, AreRising, AreLiving}
 
 abbrev Entry : Type 0
 Entry = BlockId × BatchChange

@@ -7,7 +7,6 @@ use Rattle.std.specs.BTreeSet.{insert_key}
 use Rattle.std.specs.Set.{remove_key}
 use Rattle.std.specs.declared.option.Option.{Option}
 use Rattle.std.specs.declared.option.Option.TheVariants.{None, Some}
-use Rattle.outside.specs.Trace.{At}
 use Rattle.outside.specs.Changes.{FileChanges}
 use Rattle.listing.specs.FileTexts.{text_of_file}
 
