@@ -30,7 +30,8 @@ fn small_tree(alloc: Global) -> Result<PlainAsker, Fail> {
 /// A tree with the file `f` of so many bytes.
 fn one_file(alloc: Global, bytes: &[u8]) -> Result<PlainAsker, Fail> {
     let mut folder = MemoryFolder::new(alloc);
-    if !makes(alloc, &mut folder, &["f"], Row::File) || !appends(alloc, &mut folder, &["f"], bytes)
+    if !makes(alloc, &mut folder, &["f"], Row::File)
+        || !appends(alloc, &mut folder, &["f"], bytes)
     {
         return Err(Fail::from("a file"));
     }
@@ -56,7 +57,12 @@ fn a_directory_below_the_root_is_exported_alone(rt: HostRuntime) -> Result<(), F
     let alloc = rt.alloc();
     let mut asker = small_tree(alloc)?;
     let mut folder = MemoryFolder::new(alloc);
-    assert!(rt; counts(exported(alloc, &mut folder, &mut asker, &["d"]), [0, 1, 0, 2]));
+    assert!(rt;
+        counts(
+            exported(alloc, &mut folder, &mut asker, &["d"]),
+            [0, 1, 0, 2]
+        )
+    );
     assert!(rt; has_rows(alloc, &mut folder, &[], &["ff"]));
     assert!(rt; holds(alloc, &mut folder, &["f"], 1, b"b"));
     Ok(())

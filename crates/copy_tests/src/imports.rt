@@ -62,7 +62,12 @@ fn a_long_name_and_a_file_of_two_pieces(rt: HostRuntime) -> Result<(), Fail> {
     let file = long_name(alloc).ok_or("a path")?;
     let mut asker = empty_tree(alloc)?;
     assert!(rt; makes_file(alloc, &mut folder, &file, 1_048_579));
-    assert!(rt; counts(imported(alloc, &mut folder, &mut asker), [0, 1, 0, 1_048_579]));
+    assert!(rt;
+        counts(
+            imported(alloc, &mut folder, &mut asker),
+            [0, 1, 0, 1_048_579]
+        )
+    );
     assert!(rt; holds(&mut asker, file, 1_048_576, &[7, 7, 7]));
     Ok(())
 }
@@ -94,7 +99,12 @@ fn a_path_of_4096_bytes_is_made_and_none_longer(rt: HostRuntime) -> Result<(), F
     let alloc = rt.alloc();
     let mut folder = MemoryFolder::new(alloc);
     assert!(rt; makes_deep(alloc, &mut folder, 16));
-    assert!(rt; counts(imported(alloc, &mut folder, &mut empty_tree(alloc)?), [16, 0, 0, 0]));
+    assert!(rt;
+        counts(
+            imported(alloc, &mut folder, &mut empty_tree(alloc)?),
+            [16, 0, 0, 0]
+        )
+    );
     let mut deeper = MemoryFolder::new(alloc);
     assert!(rt; makes_deep(alloc, &mut deeper, 17));
     assert!(rt; is_long(imported(alloc, &mut deeper, &mut empty_tree(alloc)?), 17));

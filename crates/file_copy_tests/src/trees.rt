@@ -53,14 +53,7 @@ pub fn put(
     }
     let path = named(alloc, name)?;
     let mut chance = Pcg32::new(1, 2);
-    Ok(put_file(
-        alloc,
-        &mut reader,
-        &mut input,
-        asker,
-        &path,
-        &mut chance,
-    ))
+    Ok(put_file(alloc, &mut reader, &mut input, asker, &path, &mut chance))
 }
 
 /// How many bytes the file has.

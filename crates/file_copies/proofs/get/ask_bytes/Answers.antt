@@ -27,5 +27,5 @@ returns-clause-asked g c =
     let e = c.in-Err-ask.ensures in (
       c.in-Err-ask.field-0,
       at_path M c.args.asker.now c.ask.new.self c.in-Ok.path c.args.from.now c.args.place (Err c.in-Err-ask.field-0) c.in-Ok.ensures
-      (asked_one M c.args.asker.now c.ask.new.self (command.Read c.in-Ok.path c.args.place 1048576) (Err c.in-Err-ask.field-0) e.moment e.went e.forgeries e.stops e.quiet e.stands),
+          (asked_one M c.args.asker.now c.ask.new.self (command.Read c.in-Ok.path c.args.place 1048576) (Err c.in-Err-ask.field-0) e.moment e.went e.forgeries e.stops e.quiet e.stands),
     )
