@@ -21,7 +21,7 @@ use Rattle.session_lines.specs.declared.end.End.{End}
 use Rattle.session_runs.specs.Runs.{Outside, outside_of, IsQuietRun}
 use Rattle.shell_sessions.specs.Sessions.{Session}
 use Rattle.shell_words.specs.declared.form.Form.{Form}
-use Rattle.shell_words.specs.declared.form.Form.TheVariants.{Trial, TrialGenerate, Create, Info, Passwd, Shell, Generate, Command, Import, Export, Check}
+use Rattle.shell_words.specs.declared.form.Form.TheVariants.{Trial, TrialGenerate, Create, Info, Passwd, Shell, Generate, Command, Import, Export, Put, Get, Check}
 use Rattle.shell_words.specs.Forms.{form_of, is_create}
 use Rattle.shell_words.proofs.FormsOf.{IsPlain, other_is_other}
 use Rattle.tree_commands.specs.Showing.{ShowsFiles}
@@ -89,6 +89,8 @@ other_form words (Generate count) e other = tt
 other_form words Command e other = tt
 other_form words Import e other = tt
 other_form words Export e other = tt
+other_form words Put e other = tt
+other_form words Get e other = tt
 other_form words Check e other = tt
 
 pub doing_history : {V : Type 0} {K : Type 0} (trace : V → Option (List Call)) (faults : V → ℕ) (names : V → Option (List (List ℕ))) (G : KeeperGhosts K) (words : List (List ℕ)) (now : Instant) (chance left : Chance) (input output : Stream) (host : HostSeen) (vault : V) (keeper : K) (ended : Ended V K) (form : Form)
@@ -104,4 +106,6 @@ doing_history trace faults names G words now chance left input output host vault
 doing_history trace faults names G words now chance left input output host vault keeper ended Command p d = session_history trace faults G (Comes words input output host Command) (Judges (Some Command) ended.status) vault keeper ended now input output d
 doing_history trace faults names G words now chance left input output host vault keeper ended Import p d = session_history trace faults G (Comes words input output host Import) (Judges (Some Import) ended.status) vault keeper ended now input output d.0
 doing_history trace faults names G words now chance left input output host vault keeper ended Export p d = session_history trace faults G (Comes words input output host Export) (Judges (Some Export) ended.status) vault keeper ended now input output d.0
+doing_history trace faults names G words now chance left input output host vault keeper ended Put p d = session_history trace faults G (Comes words input output host Put) (Judges (Some Put) ended.status) vault keeper ended now input output d
+doing_history trace faults names G words now chance left input output host vault keeper ended Get p d = session_history trace faults G (Comes words input output host Get) (Judges (Some Get) ended.status) vault keeper ended now input output d
 doing_history trace faults names G words now chance left input output host vault keeper ended Check p d = checked_history trace faults G (Comes words input output host Check) (Judges (Some Check) ended.status) vault keeper ended names input output (λ bad j. j) d.0

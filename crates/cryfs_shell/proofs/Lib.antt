@@ -7,3 +7,4 @@ pub mod TrialEnds
 pub mod Doing
 pub mod Naming
 pub mod Histories
+pub mod Files

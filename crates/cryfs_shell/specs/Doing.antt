@@ -16,9 +16,9 @@ use Rattle.run_status.specs.declared.ended.Ended.{Ended}
 use Rattle.session_runs.specs.Runs.{outside_of}
 use Rattle.shell_sessions.specs.Sessions.{Session, ComesShell, ComesGenerated, ComesCommand}
 use Rattle.shell_words.specs.declared.form.Form.{Form}
-use Rattle.shell_words.specs.declared.form.Form.TheVariants.{Trial, TrialGenerate, Create, Info, Passwd, Shell, Generate, Command, Import, Export, Check}
+use Rattle.shell_words.specs.declared.form.Form.TheVariants.{Trial, TrialGenerate, Create, Info, Passwd, Shell, Generate, Command, Import, Export, Put, Get, Check}
 use Rattle.shell_words.specs.Forms.{joined}
-use Rattle.cryfs_shell.specs.Copies.{HostSession, Imports, Exports}
+use Rattle.cryfs_shell.specs.Copies.{HostSession, Imports, Exports, Puts, Gets}
 use Rattle.cryfs_shell.specs.Hosts.{HostSeen}
 use Rattle.plain_trials.specs.Runs.{Tried, GeneratedOnPlain}
 
@@ -38,4 +38,6 @@ Does trace faults names G words now chance left input output host vault keeper e
 Does trace faults names G words now chance left input output host vault keeper ended Command = Session trace faults G now (ComesCommand (joined words) input output) input output vault keeper ended
 Does trace faults names G words now chance left input output host vault keeper ended Import = HostSession trace faults G now (Imports words input output host) input output host vault keeper ended
 Does trace faults names G words now chance left input output host vault keeper ended Export = HostSession trace faults G now (Exports words input output host) input output host vault keeper ended
+Does trace faults names G words now chance left input output host vault keeper ended Put = Session trace faults G now (Puts words input output) input output vault keeper ended
+Does trace faults names G words now chance left input output host vault keeper ended Get = Session trace faults G now (Gets words input output) input output vault keeper ended
 Does trace faults names G words now chance left input output host vault keeper ended Check = RanCheck trace faults names G input output vault keeper ended × Caused trace faults G vault keeper ended

@@ -3,7 +3,7 @@ use Rattle.std.specs.Prelude.{◌≡◌, ℕ, Bool, true, List}
 use Rattle.std.specs.declared.option.Option.{Option}
 use Rattle.std.specs.declared.option.Option.TheVariants.{Some}
 use Rattle.answers.specs.Sessions.{Exchange}
-use Rattle.cryfs_shell.specs.Copies.{Imports, Exports}
+use Rattle.cryfs_shell.specs.Copies.{Imports, Exports, Puts, Gets}
 use Rattle.cryfs_shell.specs.Hosts.{HostSeen}
 use Rattle.histories.specs.Histories.{Run, session, quiet, examined, before_of, after_of, IsRun}
 use Rattle.line_io.specs.Streams.{Stream}
@@ -13,7 +13,7 @@ use Rattle.session_lines.specs.declared.end.End.{End}
 use Rattle.session_runs.specs.Runs.{Outside}
 use Rattle.shell_sessions.specs.Sessions.{ComesShell, ComesGenerated, ComesCommand}
 use Rattle.shell_words.specs.declared.form.Form.{Form}
-use Rattle.shell_words.specs.declared.form.Form.TheVariants.{Shell, Generate, Command, Import, Export, Check}
+use Rattle.shell_words.specs.declared.form.Form.TheVariants.{Shell, Generate, Command, Import, Export, Put, Get, Check}
 use Rattle.shell_words.specs.Forms.{joined}
 use Rattle.tree_commands.specs.Showing.{ShowsFiles}
 
@@ -24,6 +24,8 @@ Comes words input output host (Generate count) = ComesGenerated count input outp
 Comes words input output host Command = ComesCommand (joined words) input output
 Comes words input output host Import = Imports words input output host
 Comes words input output host Export = Exports words input output host
+Comes words input output host Put = Puts words input output
+Comes words input output host Get = Gets words input output
 Comes words input output host form = λ script end own es. ⊥
 
 -- a check is bad exactly where the status is a violation; no other form is a check

@@ -5,7 +5,7 @@ use Rattle.std.specs.declared.option.Option.TheVariants.{None, Some}
 use Rattle.run_status.specs.declared.status.Status.{Status}
 use Rattle.run_status.specs.declared.status.Status.TheVariants.{Usage, Memory}
 use Rattle.shell_words.specs.declared.form.Form.{Form}
-use Rattle.shell_words.specs.declared.form.Form.TheVariants.{Trial, TrialGenerate, Info, Passwd, Shell, Generate, Command, Import, Export, Check}
+use Rattle.shell_words.specs.declared.form.Form.TheVariants.{Trial, TrialGenerate, Info, Passwd, Shell, Generate, Command, Import, Export, Put, Get, Check}
 use Rattle.shell_words.specs.Forms.{takes_memory}
 
 -- words of no form are refused; where they begin with `create` or ask for a copy, memory may be refused while they are read
@@ -19,6 +19,8 @@ is_session (Some (Generate count)) = true
 is_session (Some Command) = true
 is_session (Some Import) = true
 is_session (Some Export) = true
+is_session (Some Put) = true
+is_session (Some Get) = true
 is_session _ = false
 
 -- a check is asked
@@ -35,6 +37,8 @@ opens (Some (Generate count)) = true
 opens (Some Command) = true
 opens (Some Import) = true
 opens (Some Export) = true
+opens (Some Put) = true
+opens (Some Get) = true
 opens (Some Check) = true
 opens _ = false
 

@@ -18,7 +18,7 @@ ghost use Rattle.shell_sessions.specs.Sessions.{Session, ComesShell, ComesGenera
 ghost use Rattle.shell_words.specs.Forms.{form_of, is_create, joined, IsModest};
 ghost use Rattle.shell_words.specs.declared.form.Form.{Form};
 ghost use Rattle.cryfs_shell.specs.Clauses.{IsRefusedRun, NoFalseAlarm, KeepsTree, FaultsHappened, FaultsNamed, StreamFaultsNamed, IsEmptied};
-ghost use Rattle.cryfs_shell.specs.Copies.{HostSession, Imports, Exports};
+ghost use Rattle.cryfs_shell.specs.Copies.{HostSession, Imports, Exports, Puts, Gets};
 ghost use Rattle.cryfs_shell.specs.Doing.{Does};
 ghost use Rattle.cryfs_shell.specs.History.{Comes, Judges, IsRunOf};
 ghost use Rattle.cryfs_shell.specs.Hosts.{host_of};
@@ -28,7 +28,7 @@ ghost use Rattle.plain_trials.specs.Runs.{Tried, GeneratedOnPlain};
 
 use block_id::Memory;
 use check_runs::run_check;
-use copy_runs::{run_export, run_import};
+use copy_runs::{run_export, run_get, run_import, run_put};
 use cryfs_setup::{run_create, run_info, run_passwd};
 use fs_model::Moment;
 use host_folder::Folder;
@@ -77,6 +77,10 @@ pub fn run<I: Source, O: Sink, V: Vault + Listing, K: Keeper, R: Rng, F: Folder>
         → HostSession V.trace V.faults K.Keeper now (Imports (map string_bytes words.now) (stream_of I.rest I.faults input.old input.new) (stream_of O.written O.faults output.old output.new) (host_of F.tree F.faults host.old host.new)) (stream_of I.rest I.faults input.old input.new) (stream_of O.written O.faults output.old output.new) (host_of F.tree F.faults host.old host.new) vault keeper result }
     ensures exported { form_of (map string_bytes words.now) ≡ Some Form.Export
         → HostSession V.trace V.faults K.Keeper now (Exports (map string_bytes words.now) (stream_of I.rest I.faults input.old input.new) (stream_of O.written O.faults output.old output.new) (host_of F.tree F.faults host.old host.new)) (stream_of I.rest I.faults input.old input.new) (stream_of O.written O.faults output.old output.new) (host_of F.tree F.faults host.old host.new) vault keeper result }
+    ensures put { form_of (map string_bytes words.now) ≡ Some Form.Put
+        → Session V.trace V.faults K.Keeper now (Puts (map string_bytes words.now) (stream_of I.rest I.faults input.old input.new) (stream_of O.written O.faults output.old output.new)) (stream_of I.rest I.faults input.old input.new) (stream_of O.written O.faults output.old output.new) vault keeper result }
+    ensures got { form_of (map string_bytes words.now) ≡ Some Form.Get
+        → Session V.trace V.faults K.Keeper now (Gets (map string_bytes words.now) (stream_of I.rest I.faults input.old input.new) (stream_of O.written O.faults output.old output.new)) (stream_of I.rest I.faults input.old input.new) (stream_of O.written O.faults output.old output.new) vault keeper result }
     ensures checked { form_of (map string_bytes words.now) ≡ Some Form.Check
         → RanCheck V.trace V.faults V.names K.Keeper (stream_of I.rest I.faults input.old input.new) (stream_of O.written O.faults output.old output.new) vault keeper result }
     ensures refusal { opens (form_of (map string_bytes words.now)) ≡ true → IsKeptMarked records (K.kept keeper) → IsRefusedRun K.kept (stream_of O.written O.faults output.old output.new) vault keeper result }
@@ -168,6 +172,8 @@ fn run_form<I: Source, O: Sink, V: Vault + Listing, K: Keeper, R: Rng, F: Folder
         Form::Export => export_words(
             alloc, words, now, input, output, vault, keeper, chance, host,
         ),
+        Form::Put => put_words(alloc, words, now, input, output, vault, keeper, chance),
+        Form::Get => get_words(alloc, words, now, input, output, vault, keeper, chance),
         Form::Check => run_check(alloc, input, output, vault, keeper),
     }
 }
@@ -247,6 +253,56 @@ fn export_words<I: Source, O: Sink, V: Vault, K: Keeper, R: Rng, F: Folder>(
         Ok(Some(path)) => run_export(
             alloc, now, &path, host, input, output, vault, keeper, chance,
         ),
+        Ok(None) | Err(Memory) => Ended {
+            status: Status::Memory,
+            vault,
+            keeper,
+        },
+    }
+}
+
+/// A new file at the path that the words say.
+fn put_words<I: Source, O: Sink, V: Vault, K: Keeper, R: Rng>(
+    alloc: Global,
+    words: &[String],
+    now: Moment,
+    input: &mut I,
+    output: &mut O,
+    vault: V,
+    keeper: K,
+    chance: &mut R,
+) -> Ended<V, K>
+    ensures session { Session V.trace V.faults K.Keeper now (Puts (map string_bytes words.now) (stream_of I.rest I.faults input.old input.new) (stream_of O.written O.faults output.old output.new)) (stream_of I.rest I.faults input.old input.new) (stream_of O.written O.faults output.old output.new) vault keeper result }
+    ensures input_grows { I.faults input.old ≤ I.faults input.new }
+    ensures output_grows { O.faults output.old ≤ O.faults output.new }
+{
+    match copy_path(alloc, words) {
+        Ok(Some(path)) => run_put(alloc, now, path, input, output, vault, keeper, chance),
+        Ok(None) | Err(Memory) => Ended {
+            status: Status::Memory,
+            vault,
+            keeper,
+        },
+    }
+}
+
+/// The file at the path that the words say.
+fn get_words<I: Source, O: Sink, V: Vault, K: Keeper, R: Rng>(
+    alloc: Global,
+    words: &[String],
+    now: Moment,
+    input: &mut I,
+    output: &mut O,
+    vault: V,
+    keeper: K,
+    chance: &mut R,
+) -> Ended<V, K>
+    ensures session { Session V.trace V.faults K.Keeper now (Gets (map string_bytes words.now) (stream_of I.rest I.faults input.old input.new) (stream_of O.written O.faults output.old output.new)) (stream_of I.rest I.faults input.old input.new) (stream_of O.written O.faults output.old output.new) vault keeper result }
+    ensures input_grows { I.faults input.old ≤ I.faults input.new }
+    ensures output_grows { O.faults output.old ≤ O.faults output.new }
+{
+    match copy_path(alloc, words) {
+        Ok(Some(path)) => run_get(alloc, now, &path, input, output, vault, keeper, chance),
         Ok(None) | Err(Memory) => Ended {
             status: Status::Memory,
             vault,

@@ -23,7 +23,7 @@ use Rattle.run_status.specs.declared.status.Status.TheVariants.{Done}
 use Rattle.session_runs.specs.Runs.{Outside, outside_of, OutsideStandsFor, IsQuietRun}
 use Rattle.shell_sessions.specs.Sessions.{Session}
 use Rattle.shell_words.specs.declared.form.Form.{Form}
-use Rattle.shell_words.specs.declared.form.Form.TheVariants.{Trial, TrialGenerate, Create, Info, Passwd, Shell, Generate, Command, Import, Export, Check}
+use Rattle.shell_words.specs.declared.form.Form.TheVariants.{Trial, TrialGenerate, Create, Info, Passwd, Shell, Generate, Command, Import, Export, Put, Get, Check}
 use Rattle.shell_words.specs.Forms.{form_of}
 use Rattle.tree_commands.specs.Showing.{ShowsFiles}
 use Rattle.histories.specs.Histories.{Run, session, quiet, examined, before_of, after_of, IsRun, GoesOnFrom}
@@ -134,6 +134,8 @@ module _ {V : Type 0} {K : Type 0} (trace : V → Option (List Call)) (faults : 
   did_run (Some Command) e d = session_ran (Some Command) d
   did_run (Some Import) e d = session_ran (Some Import) d.0
   did_run (Some Export) e d = session_ran (Some Export) d.0
+  did_run (Some Put) e d = session_ran (Some Put) d
+  did_run (Some Get) e d = session_ran (Some Get) d
   did_run (Some Check) e d = checked_ran d
 
   -- what is said of what was outside and of the status, of the call's
@@ -184,6 +186,8 @@ module _ {V : Type 0} {K : Type 0} (trace : V → Option (List Call)) (faults : 
   did_stay (Some Command) e there d = absurd (cc)
   did_stay (Some Import) e there d = absurd (cc)
   did_stay (Some Export) e there d = absurd (cc)
+  did_stay (Some Put) e there d = absurd (cc)
+  did_stay (Some Get) e there d = absurd (cc)
   did_stay (Some Check) e there d = absurd (cc)
 
   pub other : opens (form_of call.words) ≡ false → (creates (form_of call.words) ≡ true → is_some call.before.kept ≡ true) → GoesOnFrom call.before call.after

@@ -23,12 +23,12 @@ use Rattle.session_runs.specs.Runs.{Outside, OutsideStandsFor}
 use Rattle.shell_sessions.specs.Sessions.{ComesShell, ComesGenerated, ComesCommand}
 use Rattle.run_edges.specs.Statuses.{session_status}
 use Rattle.shell_words.specs.declared.form.Form.{Form}
-use Rattle.shell_words.specs.declared.form.Form.TheVariants.{Create, Shell, Generate, Command, Import, Export}
+use Rattle.shell_words.specs.declared.form.Form.TheVariants.{Create, Shell, Generate, Command, Import, Export, Put, Get}
 use Rattle.shell_words.specs.Forms.{form_of, joined}
 use Rattle.tree_commands.specs.Showing.{ShowsFiles}
 use Rattle.histories.specs.Histories.{Run, session, quiet, examined, before_of, after_of, IsRun, IsUnforgedRun, GoesOnFrom, end_of, Follow, EndsWith}
 use Rattle.cryfs_shell.specs.Clauses.{IsRefusingStatus, NoFalseAlarm, FaultsHappened, HostFaultsHappened}
-use Rattle.cryfs_shell.specs.Copies.{Imports, Exports}
+use Rattle.cryfs_shell.specs.Copies.{Imports, Exports, Puts, Gets}
 use Rattle.cryfs_shell.specs.History.{Judges}
 use Rattle.cryfs_shell.specs.Kinds.{opens, is_session, is_check}
 use Rattle.run_histories.specs.Calls.{RunCall, IsRunCall}
@@ -45,6 +45,8 @@ CallComes call (Some (Generate count)) = ComesGenerated count call.input call.ou
 CallComes call (Some Command) = ComesCommand (joined call.words) call.input call.output
 CallComes call (Some Import) = Imports call.words call.input call.output call.host
 CallComes call (Some Export) = Exports call.words call.input call.output call.host
+CallComes call (Some Put) = Puts call.words call.input call.output
+CallComes call (Some Get) = Gets call.words call.input call.output
 CallComes call _ = λ script end own es. ⊥
 
 -- In a session the exchanges came so, and the status is theirs, or its own where nothing else is the matter. A check was judged so. In a run of no lines the words ask for none and for no check, or nothing was
