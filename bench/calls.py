@@ -11,6 +11,8 @@ between. A status has to be one of the page's, and never an alarm. Afterwards an
     shell         the tree of a kept point: that of the last sync that was answered ok, or of one that was tried after it
                   Where the input or the output failed the run was closed, so then also that after the last line that was asked,
                   though its answer may not have been written
+    import        the tree after some of its commands, from the first on; after all of them, where the run ended with 0
+    export        the tree as it was; and in the folder a part of it, or all where the run ended with 0 or told that
 
 A line that was answered a fault must have left the tree. The tree is compared with `trial`. Ends with 1 where anything else was seen.
 """
@@ -24,18 +26,25 @@ import sys
 import tempfile
 
 from kill import LOOK, Lost, System, without_times
+from rows import asked, is_part, make_rows, rows_of, told
 from runs import BUILT, PASSWORD, QUICK_KEY, Folders, Program
 
 CALLS = ["openat", "read", "pread64", "write", "pwrite64", "lseek", "close", "fsync", "fdatasync", "rename", "renameat", "renameat2", "unlink",
-         "unlinkat", "mkdir", "mkdirat", "rmdir", "linkat", "fstat", "newfstatat", "statx", "getdents64", "flock", "fcntl", "ftruncate", "getrandom"]
+         "unlinkat", "mkdir", "mkdirat", "rmdir", "linkat", "fstat", "newfstatat", "statx", "getdents64", "flock", "fcntl", "ftruncate", "getrandom",
+         "readlink", "readlinkat", "symlink", "symlinkat"]
 FAULTS = {"EIO": "error=EIO", "ENOSPC": "error=ENOSPC", "a kill": "signal=KILL"}
 STATUSES = [0, 1, 3, 4, 6, 7, 8, 9, 10]
+# Those of a copy besides: the folder failed, or a command wasn't answered.
+OF_COPIES = [12, 14]
 # What a shell or a loader answers where the program could not be started at all.
 NOT_STARTED = 127
 NEW_PASSWORD = "another password for trials"
 BASE = ["mkdir /a", "mkfile /a/a", "write /a/a 0 " + "61" * 3000, "symlink to /l", "mkdir /b"]
 LINES = ["write /a/a 100 6263", "mkfile /a/b", "write /a/b 0 " + "62" * 1500, "sync", "mv /a/a /b/c", "rm /l", "chmod /b 700", "sync",
          "truncate /b/c 100", "read /b/c 0 10", "mkdir /c", "ls /"]
+# What is imported beside the rows of BASE, which are those that are exported.
+GIVEN = {"c": None, "c/a": b"63" * 1500, "c/b": b"", "c/c": "/nowhere", "c/d": None, "d": b"d"}
+HELD = {"a": None, "a/a": b"a" * 3000, "b": None, "l": "to"}
 
 
 def strace(trace, what):
@@ -110,12 +119,37 @@ def after_shell(system, ended):
     return True
 
 
+def host_of(folders, rows):
+    """The folder of the host with these rows, beside those of the run."""
+    host = os.path.join(folders.top, "host")
+    return host if os.path.isdir(host) else make_rows(host, rows)
+
+
+def tells_well(ended, whole):
+    """Whether what a copy printed fits its status."""
+    return ended.output == whole if ended.status == 0 else ended.output in ("", whole, "fault directory\n", "fault state\n")
+
+
+def after_import(system, ended):
+    lines, done = asked(GIVEN)
+    system.look(lines, [], done[-1:] if ended.status == 0 else done)
+    return tells_well(ended, told("imported", GIVEN)) and rows_of(host_of(system.folders, {})) == GIVEN
+
+
+def after_export(system, ended):
+    found, whole = rows_of(host_of(system.folders, {})), told("exported", HELD)
+    is_well = found == HELD if ended.output == whole else is_part(found, HELD)
+    return is_well and tells_well(ended, whole) and holds_history(system, seen_by(system))
+
+
 KINDS = {
     "info": (lambda folders: lambda program: program.run(folders, ["info"]), after_info),
     "trial": (lambda folders: lambda program: program.run(folders, ["trial"], LINES, password=None), after_info),
     "passwd": (lambda folders: lambda program: program.run(folders, ["passwd"], [NEW_PASSWORD]), after_passwd),
     "create": (lambda folders: lambda program: program.run(folders, ["create", *QUICK_KEY]), after_create),
     "shell": (lambda folders: lambda program: program.session(folders, LINES), after_shell),
+    "import": (lambda folders: lambda program: program.run(folders, ["import", host_of(folders, GIVEN), "/"]), after_import),
+    "export": (lambda folders: lambda program: program.run(folders, ["export", host_of(folders, {}), "/"]), after_export),
 }
 
 
@@ -141,7 +175,8 @@ def try_one(kind, base, call, number, fault):
     try:
         ended = run(system.folders)(failing(base.program, call, number, fault))
         where = f"{kind}: {call} number {number}, {fault}: status {ended.status}, {ended.errors.strip()!r}"
-        if ended.status not in STATUSES + [NOT_STARTED] + ([-9] if fault == "a kill" else []):
+        others = OF_COPIES if kind in ("import", "export") else []
+        if ended.status not in STATUSES + others + [NOT_STARTED] + ([-9] if fault == "a kill" else []):
             raise Lost(f"{where}: no status of the page")
         if not holds(system, ended):
             raise Lost(f"{where}: the next session finds something else")

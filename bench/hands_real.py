@@ -191,7 +191,7 @@ def examples_of_the_page_work(tree):
     same(tree.run("-ec", examples[0], script="/bin/sh"), (0, wanted, ""), examples[0])
     shutil.copy2(f"{tree.top}/photos/photo.jpg", f"{tree.top}/photo.jpg")
     status, out, errors = tree.run("-ec", examples[1], script="/bin/sh")
-    same((status, errors, set(out.split())), (0, "", {"ok"}), examples[1])
+    same((status, out, errors), (0, "imported 0 1 0 300000\n", ""), examples[1])
     same(line(tree, "stat", "/film").split()[5], "1200001", "the length of the larger file")
     scripts = [it.replace("blocks state", "b s") for it in shell_blocks(page, "Scripts")]
     for it, name in ((scripts[0], "there"), (scripts[0].replace("/film", "/none"), "no: error no-entry")):

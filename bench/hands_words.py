@@ -26,8 +26,8 @@ def help_is_answered_at_once(tree):
 
 
 def words_are_looked_at_first(tree):
-    wrong = ("b", "b s", "b s lss", "b s ls\\ /", "b s info more", "b s shell x", "b s passwd x", "b s generate", "b s generate x",
-             "b s generate 12345678", "b s generate 1 2", "b s trial x", "b s trial generate", "b s create --size 1", "b s create 128",
+    wrong = ("b", "b s", "b s lss", "b s ls\\ /", "b s info more", "b s check /", "b s shell x", "b s passwd x", "b s generate",
+             "b s generate x", "b s generate 12345678", "b s generate 1 2", "b s trial x", "b s trial generate", "b s create --size 1", "b s create 128",
              "b s import", "b s import f", "b s import f x", "b s import '' /", "b s export f / more", "b s export / f",
              "b s create --blocksize", "b s create --blocksize=x", "b s create --", "--wrong b s ls /", "--password-file",
              "--password-file f --password-command c b s info", "--password-file f b s trial", "'' s info", "b '' info")
@@ -38,15 +38,15 @@ def words_are_looked_at_first(tree):
             status, out, errors = tree.run("-c", f"./cryfs {words}", script="/bin/sh")
             same((status, out, errors.count("\n")), (1, "", 1), f"{words}: {errors}")
             require(errors.startswith("cryfs: ") and "built" not in errors, f"{words}: {errors}")
-    for words in ("generate 8", "trial generate 8", "ls", "ls / x", "read", "sync", "create --blocksize 128 --scrypt-n=16", "import f /",
-                  "export / /"):
+    for words in ("generate 8", "trial generate 8", "check", "ls", "ls / x", "read", "sync", "create --blocksize 128 --scrypt-n=16",
+                  "import f /", "export / /"):
         status, _, errors = tree.run("b", "s", *words.split(), given=b"pw\n")
         same((status, errors), (5, ""), words)
 
 
 def hands_on_what_a_pipe_gives(tree):
     tree.built()
-    for words in (["shell"], ["trial"], ["info"], ["ls", "/"]):
+    for words in (["shell"], ["trial"], ["info"], ["check"], ["ls", "/"]):
         started = tree.start("b", f"{tree.top}/s", *words, cwd="/")
         out, errors = started.communicate(b"p\xff w\n\nrest", timeout=LIMIT)
         wanted = f"process {started.pid} in /\nwords b {tree.top}/s {' '.join(words)}\n".encode()
@@ -101,7 +101,7 @@ def only_create_makes_a_record(tree):
     tree.built()
     os.makedirs(f"{tree.top}/other")
     for state in ("ss", "other"):
-        for words in ("info", "passwd", "shell", "ls /", "generate 8"):
+        for words in ("info", "passwd", "check", "shell", "ls /", "generate 8"):
             status, out, errors = tree.run("b", state, *words.split(), given=b"pw\nnew\n")
             same((status, out, errors.count("\n")), (125, "", 1), f"{state} {words}")
             has(errors, "no record", f"{tree.top}/{state}", "only create makes one")

@@ -11,7 +11,8 @@ from passwords import TERMINAL_LINE
 from telling import say
 
 PROMPT = "cryfs> "
-# The program's status where an answer couldn't be written.
+# The program's statuses where its input couldn't be read, and where an answer couldn't be written.
+INPUT_FAULT = 8
 OUTPUT_FAULT = 9
 ENDING = (signal.SIGINT, signal.SIGTERM, signal.SIGHUP)
 BANNER = "type lines: help shows them, exit or Ctrl-D ends. "
@@ -200,7 +201,7 @@ def run_typed(program, call, first):
 
 
 def run_behind(program, call, first):
-    """A session whose password comes from elsewhere, and whose lines are the input."""
+    """A session whose password comes from elsewhere, and whose lines, or whose file's bytes, are the input."""
     given, into = running.pipe()
     # Its other end is the program's alone, so that it ends with the program.
     lives, held = running.pipe()
@@ -212,20 +213,29 @@ def run_behind(program, call, first):
     for it in (signal.SIGTERM, signal.SIGHUP):
         signal.signal(it, lambda number, _: os.kill(process, number))
     signal.signal(signal.SIGINT, signal.SIG_IGN)
-    hand_on(first, into, lives)
-    running.end(running.wait(process), errors, call)
+    is_whole = hand_on(first, into, lives)
+    if not is_whole and call.takes_bytes():
+        # What came isn't the file: the program mustn't take its end for the file's.
+        os.kill(process, signal.SIGKILL)
+        os.write(errors, b"cryfs: input fault\n")
+    os.close(into)
+    status = running.wait(process)
+    running.end(status if is_whole or not call.takes_bytes() else INPUT_FAULT, errors, call)
 
 
 def hand_on(first, into, lives):
-    """Puts these bytes and then the input into the pipe, until the input or the program ends."""
-    try:
-        piece = first
-        while piece:
+    """Puts these bytes and then the input into the pipe, until the input or the program ends. Whether the input could be read."""
+    piece = first
+    while piece:
+        try:
             while piece:
                 piece = piece[os.write(into, piece):]
             if lives in select.select([0, lives], [], [])[0]:
-                break
+                return True
+        except OSError:
+            return True
+        try:
             piece = os.read(0, 65536)
-    except OSError:
-        pass
-    os.close(into)
+        except OSError:
+            return False
+    return True

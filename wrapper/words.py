@@ -6,7 +6,8 @@ from telling import USAGE, Refused
 LINES = ("ls", "stat", "mkdir", "rmdir", "mkfile", "rm", "mv", "symlink", "readlink", "write", "read", "truncate", "chmod", "chown",
          "utime", "sync")
 COPIES = ("import", "export")
-COMMANDS = ("create", "info", "passwd", "shell", *COPIES, "generate", "trial", *LINES)
+FILES = ("put", "get")
+COMMANDS = ("create", "info", "passwd", "check", "shell", *COPIES, *FILES, "generate", "trial", *LINES)
 CREATE_OPTIONS = ("--blocksize", "--scrypt-n", "--scrypt-r", "--scrypt-p")
 PASSWORD_OPTIONS = ("--password-file", "--password-command")
 RECORD = "cryfs.localstate"
@@ -40,13 +41,17 @@ class Call:
     def takes_password(self):
         return self.command != "trial"
 
-    def copies(self):
-        """Whether it copies a folder, and says so as it goes on."""
-        return self.command in COPIES
+    def tells_how_far(self):
+        """Whether it may take long, and says how far it is as it goes on."""
+        return self.command in (*COPIES, "check")
 
     def takes_lines(self):
         """Whether it answers lines of its input."""
         return self.command == "shell" or self.rest == ["trial"]
+
+    def takes_bytes(self):
+        """Whether its input is the bytes of a file."""
+        return self.command == "put"
 
     def words(self):
         return [self.blocks, self.state, *self.rest]
@@ -102,10 +107,12 @@ def check_command(words):
         raise Refused(f"no command {command!r}: see cryfs --help", USAGE)
     if command == "create":
         check_create(more)
-    if command in ("info", "passwd", "shell") and more:
+    if command in ("info", "passwd", "check", "shell") and more:
         raise Refused(f"{command} takes no more words", USAGE)
     if command in COPIES:
         check_copy(command, more)
+    if command in FILES:
+        check_file(command, more)
     if command == "generate":
         check_count(more, "generate N")
     if command == "trial" and more:
@@ -122,8 +129,20 @@ def check_copy(command, words):
     """Refuses what isn't a folder of this machine and a path of the file system."""
     if len(words) != 2 or not words[0]:
         raise Refused(f"the words are {command} FOLDER PATH: a folder of this machine, and a directory of the file system", USAGE)
-    if not words[1].startswith("/"):
-        raise Refused(f"{words[1]!r} is no path of the file system: it begins with /, which alone is its root", USAGE)
+    check_path(words[1])
+
+
+def check_file(command, words):
+    """Refuses what isn't one path of the file system."""
+    if len(words) != 1:
+        raise Refused(f"the words are {command} PATH: a file of the file system", USAGE)
+    check_path(words[0])
+
+
+def check_path(word):
+    """Refuses what begins otherwise than a path of the file system."""
+    if not word.startswith("/"):
+        raise Refused(f"{word!r} is no path of the file system: it begins with /, which alone is its root", USAGE)
 
 
 def check_create(words):

@@ -10,7 +10,7 @@ use Rattle.copy_rules.specs.Laws.{SameBelow, IsFree, DoneImportMerges, ImportIsS
 use Rattle.copy_rules.specs.Questions.{Question, Followed, Answered, AreDone, commands_of}
 use Rattle.copy_rules.proofs.Merging.{merges, upward_is}
 
-done_follows : (now : Instant) (qs : List Question) (t last : Tree) → AreDone qs → Followed t now qs last → AllDone t now (commands_of qs) last
+pub done_follows : (now : Instant) (qs : List Question) (t last : Tree) → AreDone qs → Followed t now qs last → AllDone t now (commands_of qs) last
 done_follows now [] t last done h = h
 done_follows now (q ∷ qs) t last done (mid, (a, h)) = (mid, (subst (λ z. Answered t now q.command z mid) done.0 a, done_follows now qs mid last done.1 h))
 

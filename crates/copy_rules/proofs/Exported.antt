@@ -65,13 +65,13 @@ list_says t p rows mid h = by (look t p) refl h
     by (Bad e) s h = let bad = reply_is _ _ h in absurd cc
 
 -- what bytes of a file say
-record IsContent (t : Tree) (p : Path) (from count : ℕ) (bytes : List ℕ) : Type 0 where
-  row : Row
-  there : get t p ≡ Some row
-  of_kind : row.attr.kind ≡ File
-  is : bytes ≡ take count (drop from row.bytes)
+pub record IsContent (t : Tree) (p : Path) (from count : ℕ) (bytes : List ℕ) : Type 0 where
+  pub row : Row
+  pub there : get t p ≡ Some row
+  pub of_kind : row.attr.kind ≡ File
+  pub is : bytes ≡ take count (drop from row.bytes)
 
-read_says : (t : Tree) (p : Path) (from count : ℕ) (bytes : List ℕ) (mid : Tree) → content_read t from count (look t p) ≡ record { reply = Content bytes; tree = mid } → IsContent t p from count bytes
+pub read_says : (t : Tree) (p : Path) (from count : ℕ) (bytes : List ℕ) (mid : Tree) → content_read t from count (look t p) ≡ record { reply = Content bytes; tree = mid } → IsContent t p from count bytes
 read_says t p from count bytes mid h = by (look t p) refl h
   where
     the_bytes : Reply → List ℕ

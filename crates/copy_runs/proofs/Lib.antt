@@ -1,2 +1,3 @@
 pub mod Formed
 pub mod Serving
+pub mod Files

@@ -34,7 +34,7 @@ use Rattle.copy_sessions.specs.Coming.{IsCopyTold}
 use Rattle.copy_sessions.specs.Statuses.{copy_status, stopped_status}
 use Rattle.copy_runs.specs.Asking.{mounted_hosting}
 
-mild_stop : (kept : Option Answer) → IsOwn (stopped_status kept)
+pub mild_stop : (kept : Option Answer) → IsOwn (stopped_status kept)
 mild_stop (Some answer.Memory) = tt
 mild_stop other = tt
 

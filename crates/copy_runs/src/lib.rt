@@ -1,11 +1,15 @@
-//! Copies as runs of the program: the password line of the input, opening under it, the copy, its line, closing, and the
-//! status.
+//! Copies of folders and of single files as runs of the program: the password line of the input, opening under it, the
+//! copy, its line, closing, and the status.
 #![tactic(auto)]
 
 mod asker;
 mod export;
+mod get;
 mod import;
+mod put;
 
 pub use asker::MountAsker;
 pub use export::run_export;
+pub use get::run_get;
 pub use import::run_import;
+pub use put::run_put;

@@ -49,11 +49,11 @@ never_empty [] a e = cc
 never_empty (x ∷ xs) a e = cc
 
 -- the last question of these wasn't answered
-record HasStopped (qs : List Question) : Type 0 where
-  front : List Question
-  last : Command
-  stopped : Stopped
-  are : qs ≡ front ++ record { command = last; outcome = Err stopped } ∷ []
+pub record HasStopped (qs : List Question) : Type 0 where
+  pub front : List Question
+  pub last : Command
+  pub stopped : Stopped
+  pub are : qs ≡ front ++ record { command = last; outcome = Err stopped } ∷ []
 
 some_kept : (qs : List Question) (es : List Exchange) → Fits qs es → HasStopped qs → (before : Option Answer) → (answer : Answer) × ((kept_after before es ≡ Some answer) × (is_other answer ≡ true))
 some_kept qs [] f h before = absurd (never_empty h.front _ (sym h.are ∙ f))
@@ -86,11 +86,11 @@ one_of_two kept own FaultState e f other s = absurd f
 one_of_two kept own (Violation why) e f other s = absurd f
 one_of_two kept own Refused e f other s = absurd f
 
-abbrev OnStopped : Result Totals CopyFail → Type 0 → Type 0
+abbrev pub OnStopped : Result Totals CopyFail → Type 0 → Type 0
 OnStopped (Err fail.Stopped) P = P
 OnStopped result P = Unit {0}
 
-by_result : (qs : List Question) (es : List Exchange) (result : Result Totals CopyFail) (own : Status) (faults risen : ℕ) → Fits qs es → OnStopped result (HasStopped qs) → HostCause faults risen result → AreFaultless es → ¬ RoseBy 1 faults risen
+pub by_result : (qs : List Question) (es : List Exchange) (result : Result Totals CopyFail) (own : Status) (faults risen : ℕ) → Fits qs es → OnStopped result (HasStopped qs) → HostCause faults risen result → AreFaultless es → ¬ RoseBy 1 faults risen
     → own ≡ copy_status result (kept_after None es) → IsEndOf result (kept_after None es) own
 by_result qs es (Ok totals) own faults risen f stopped h fair calm s = s
 by_result qs es (Err fail.Memory) own faults risen f stopped h fair calm s = s
@@ -101,7 +101,7 @@ by_result qs es (Err fail.Stopped) own faults risen f stopped h fair calm s =
 by_result qs es (Err (fail.LongPath p)) own faults risen f stopped h fair calm s = s
 by_result qs es (Err (fail.Refused p e)) own faults risen f stopped h fair calm s = s
 
-ends : (way : Way) (qs : List Question) (es : List Exchange) (result : Result Totals CopyFail) (output : Stream) (end : End) (own : Status) (faults risen : ℕ) → Fits qs es → OnStopped result (HasStopped qs) → HostCause faults risen result
+pub ends : (way : Way) (qs : List Question) (es : List Exchange) (result : Result Totals CopyFail) (output : Stream) (end : End) (own : Status) (faults risen : ℕ) → Fits qs es → OnStopped result (HasStopped qs) → HostCause faults risen result
     → IsCopyTold way result (kept_after None es) output end own → AreFaultless es → ¬ RoseBy 1 faults risen → (own ≡ status.Memory) ⊎ IsEndOf result (kept_after None es) own
 ends way qs es result output end own faults risen f stopped h t fair calm = by t.is
   where

@@ -44,7 +44,7 @@ import_session M now old new kept qs folder faults risen target tree result inpu
 memory_is_not : Memory ≡ HostFault → ⊥
 memory_is_not e = cc
 
-stop_is_not : (kept : Option Answer) → stopped_status kept ≡ HostFault → ⊥
+pub stop_is_not : (kept : Option Answer) → stopped_status kept ≡ HostFault → ⊥
 stop_is_not (Some answer.Memory) e = memory_is_not e
 stop_is_not other e = cc
 

@@ -11,9 +11,12 @@ mod text;
 mod way;
 
 pub use asking::{ask_host, reply_of};
+pub use escapes::push_escaped;
 pub use law::{
     copy_follows, export_ends, export_leaves, export_leaves_part, import_ends, import_leaves,
 };
+pub use print::push_path;
+pub use status::stopped_status;
 pub use telling::tell_copy;
 pub use text::{CopyText, LONG_TEXT};
 pub use way::Way;

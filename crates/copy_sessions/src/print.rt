@@ -105,8 +105,8 @@ fn push_last_path(out: &mut Vec<u8>, path: &Path) -> Result<(), Memory>
     push_bytes(out, b"\n")
 }
 
-/// The root is a slash alone.
-fn push_path(out: &mut Vec<u8>, names: &[Name]) -> Result<(), Memory>
+/// Appends the text of a path whose names these are, from the root on. The root is a slash alone.
+pub fn push_path(out: &mut Vec<u8>, names: &[Name]) -> Result<(), Memory>
     ensures { Appends out.old out.new result (path_text names.now) }
 {
     if names.is_empty() {

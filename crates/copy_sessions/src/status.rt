@@ -21,7 +21,7 @@ pub fn copy_status(copied: &Result<Totals, CopyFail>, kept: &Option<Answer>) -> 
 }
 
 /// The status of a copy of which a command wasn't answered.
-fn stopped_status(kept: &Option<Answer>) -> Status
+pub fn stopped_status(kept: &Option<Answer>) -> Status
     ensures { result ≡ stopped_status kept.now }
 {
     match kept {

@@ -1,167 +1,133 @@
 // Imports of small folders, and what stands in the tree after them.
 use crate::PlainAsker;
+use crate::samples::{counts, empty_tree, imported, is_refused};
 use copy_rules::{CopyFail, Totals};
-use fs_model::{ByteText, Command, FsError, Kind, Moment, Name, Path, Reply};
+use folder_samples::{fills_small, path};
+use fs_model::{ByteText, Command, FsError, Kind, Name, Path, Reply};
 use host_folder::Folder;
 use memory_folder::MemoryFolder;
-use plain_tree::PlainTree;
-use rand_pcg::Pcg32;
 use std::alloc::Global;
 use std::test::Fail;
-use tree_copy::import;
 
-/// The path of these names.
-fn path(alloc: Global, names: &[&str]) -> Result<Path, Fail> {
-    let mut path = Path::root(alloc);
-    for name in names {
-        let bytes = name.as_bytes().to_vec(alloc)?;
-        path.push(Name::new(bytes).ok_or("a name")?)?;
+/// Whether the file at the path has these bytes from this place on.
+fn holds(asker: &mut PlainAsker, file: Path, from: u64, wanted: &[u8]) -> bool {
+    match asker.tree.step(asker.now, &Command::Read(file, from, 100)) {
+        Ok(Reply::Content(bytes)) => bytes.as_slice() == wanted,
+        _ => false,
     }
-    Ok(path)
-}
-
-/// A row without a target.
-fn make(
-    alloc: Global,
-    folder: &mut MemoryFolder,
-    names: &[&str],
-    directory: bool,
-) -> Result<(), Fail> {
-    let none = ByteText::new(Vec::new(alloc));
-    let at = path(alloc, names)?;
-    let kind = if directory {
-        Kind::Directory
-    } else {
-        Kind::File
-    };
-    match folder.make(alloc, &at, kind, &none) {
-        Ok(()) => Ok(()),
-        Err(_) => Err(Fail::from("a row")),
-    }
-}
-
-/// More bytes of a file.
-fn append(alloc: Global, folder: &mut MemoryFolder, file: &Path, bytes: &[u8]) -> Result<(), Fail> {
-    match folder.append(alloc, file, bytes) {
-        Ok(()) => Ok(()),
-        Err(_) => Err(Fail::from("bytes")),
-    }
-}
-
-/// The directory `d` with the file `f` of `ab`, and the link `l` to it.
-fn small_folder(alloc: Global) -> Result<MemoryFolder, Fail> {
-    let mut folder = MemoryFolder::new(alloc);
-    make(alloc, &mut folder, &["d"], true)?;
-    make(alloc, &mut folder, &["d", "f"], false)?;
-    let file = path(alloc, &["d", "f"])?;
-    append(alloc, &mut folder, &file, b"ab")?;
-    let link = path(alloc, &["l"])?;
-    let target = ByteText::new(b"d/f".to_vec(alloc)?);
-    match folder.make(alloc, &link, Kind::Link, &target) {
-        Ok(()) => Ok(folder),
-        Err(_) => Err(Fail::from("a link")),
-    }
-}
-
-fn empty_tree(alloc: Global) -> Result<PlainAsker, Fail> {
-    Ok(PlainAsker {
-        tree: PlainTree::new(alloc),
-        now: Moment::new(100, 5).ok_or("nanos")?,
-        stops: 0,
-    })
-}
-
-/// Imports to the root.
-fn imported(
-    alloc: Global,
-    folder: &mut MemoryFolder,
-    asker: &mut PlainAsker,
-) -> Result<Totals, CopyFail> {
-    let mut chance = Pcg32::new(1, 2);
-    import(alloc, folder, asker, &Path::root(alloc), &mut chance)
 }
 
 #[test]
 fn a_folder_is_imported_once(rt: HostRuntime) -> Result<(), Fail> {
     let alloc = rt.alloc();
-    let mut folder = small_folder(alloc)?;
+    let mut folder = MemoryFolder::new(alloc);
     let mut asker = empty_tree(alloc)?;
-    match imported(alloc, &mut folder, &mut asker) {
-        Ok(totals) => {
-            assert_eq!(rt; totals.dirs, 1);
-            assert_eq!(rt; totals.files, 1);
-            assert_eq!(rt; totals.links, 1);
-            assert_eq!(rt; totals.bytes, 2);
-        }
-        Err(_) => return Err(Fail::from("imported")),
-    }
-    let file = path(alloc, &["d", "f"])?;
-    let reply = asker.tree.step(asker.now, &Command::Read(file, 0, 100))?;
-    assert!(rt; matches!(&reply, Reply::Content(bytes) if bytes.as_slice() == b"ab".as_slice()));
-    match imported(alloc, &mut folder, &mut asker) {
-        Err(CopyFail::Refused(at, error)) => {
-            assert!(rt; matches!(error, FsError::Exists));
-            assert_eq!(rt; at.names().len(), 1);
-        }
-        _ => return Err(Fail::from("refused")),
-    }
+    assert!(rt; fills_small(alloc, &mut folder));
+    assert!(rt; counts(imported(alloc, &mut folder, &mut asker), [1, 1, 1, 2]));
+    let file = path(alloc, &["d", "f"]).ok_or("a path")?;
+    assert!(rt; holds(&mut asker, file, 0, b"ab"));
+    assert!(rt; is_refused(imported(alloc, &mut folder, &mut asker), 1, FsError::Exists));
     Ok(())
+}
+
+/// The path of one name of 255 bytes.
+fn long_name(alloc: Global) -> Option<Path> {
+    let mut path = Path::root(alloc);
+    add_long(alloc, &mut path)?;
+    Some(path)
+}
+
+/// The path with such a name more.
+fn add_long(alloc: Global, path: &mut Path) -> Option<()> {
+    let name = Name::new(Vec::from_elem(alloc, b'n', 255).ok()?)?;
+    path.push(name).ok()
+}
+
+/// Whether a file of so many bytes is made at the path.
+fn makes_file<F: Folder>(alloc: Global, folder: &mut F, file: &Path, count: usize) -> bool {
+    let none = ByteText::new(Vec::new(alloc));
+    match Vec::from_elem(alloc, 7, count) {
+        Ok(bytes) => {
+            folder.make(alloc, file, Kind::File, &none).is_ok()
+                && folder.append(alloc, file, &bytes).is_ok()
+        }
+        Err(_) => false,
+    }
 }
 
 #[test]
 fn a_long_name_and_a_file_of_two_pieces(rt: HostRuntime) -> Result<(), Fail> {
     let alloc = rt.alloc();
     let mut folder = MemoryFolder::new(alloc);
-    let mut name = Vec::new(alloc);
-    name.resize(255, b'n')?;
-    let mut file = Path::root(alloc);
-    file.push(Name::new(name).ok_or("a name")?)?;
-    let none = ByteText::new(Vec::new(alloc));
-    match folder.make(alloc, &file, Kind::File, &none) {
-        Ok(()) => {}
-        Err(_) => return Err(Fail::from("a file")),
-    }
-    let mut bytes = Vec::new(alloc);
-    bytes.resize(1_048_579, 7)?;
-    append(alloc, &mut folder, &file, &bytes)?;
+    let file = long_name(alloc).ok_or("a path")?;
     let mut asker = empty_tree(alloc)?;
-    match imported(alloc, &mut folder, &mut asker) {
-        Ok(totals) => assert_eq!(rt; totals.bytes, 1_048_579),
-        Err(_) => return Err(Fail::from("imported")),
-    }
-    let reply = asker
-        .tree
-        .step(asker.now, &Command::Read(file, 1_048_576, 100))?;
+    assert!(rt; makes_file(alloc, &mut folder, &file, 1_048_579));
     assert!(rt;
-        matches!(&reply, Reply::Content(bytes) if bytes.as_slice() == [7, 7, 7].as_slice())
+        counts(
+            imported(alloc, &mut folder, &mut asker),
+            [0, 1, 0, 1_048_579]
+        )
     );
+    assert!(rt; holds(&mut asker, file, 1_048_576, &[7, 7, 7]));
+    Ok(())
+}
+
+/// Whether so many folders in one another are made, whose names have 255 bytes.
+fn makes_deep<F: Folder>(alloc: Global, folder: &mut F, depth: usize) -> bool {
+    let mut path = Path::root(alloc);
+    let none = ByteText::new(Vec::new(alloc));
+    let mut made = true;
+    for _ in 0..depth {
+        made = made
+            && add_long(alloc, &mut path).is_some()
+            && folder.make(alloc, &path, Kind::Directory, &none).is_ok();
+    }
+    made
+}
+
+/// Whether a copy ended at too long a path of so many names.
+fn is_long(ended: Result<Totals, CopyFail>, depth: usize) -> bool {
+    match ended {
+        Err(CopyFail::LongPath(at)) => at.names().len() == depth,
+        _ => false,
+    }
+}
+
+/// Sixteen such names have a text of 4,096 bytes.
+#[test]
+fn a_path_of_4096_bytes_is_made_and_none_longer(rt: HostRuntime) -> Result<(), Fail> {
+    let alloc = rt.alloc();
+    let mut folder = MemoryFolder::new(alloc);
+    assert!(rt; makes_deep(alloc, &mut folder, 16));
+    assert!(rt;
+        counts(
+            imported(alloc, &mut folder, &mut empty_tree(alloc)?),
+            [16, 0, 0, 0]
+        )
+    );
+    let mut deeper = MemoryFolder::new(alloc);
+    assert!(rt; makes_deep(alloc, &mut deeper, 17));
+    assert!(rt; is_long(imported(alloc, &mut deeper, &mut empty_tree(alloc)?), 17));
     Ok(())
 }
 
 #[test]
 fn an_empty_folder_asks_nothing(rt: HostRuntime) -> Result<(), Fail> {
     let alloc = rt.alloc();
-    let mut folder = MemoryFolder::new(alloc);
     let mut asker = empty_tree(alloc)?;
-    match imported(alloc, &mut folder, &mut asker) {
-        Ok(totals) => {
-            assert_eq!(rt; totals.dirs, 0);
-            assert_eq!(rt; totals.files, 0);
-        }
-        Err(_) => return Err(Fail::from("imported")),
-    }
+    let ended = imported(alloc, &mut MemoryFolder::new(alloc), &mut asker);
+    assert!(rt; counts(ended, [0, 0, 0, 0]));
     Ok(())
 }
 
 #[test]
 fn a_listing_that_fails_first_is_a_fault(rt: HostRuntime) -> Result<(), Fail> {
     let alloc = rt.alloc();
-    let mut folder = small_folder(alloc)?;
-    let mut first = Vec::new(alloc);
-    first.push(1)?;
-    folder.fail_calls(first);
+    let mut folder = MemoryFolder::new(alloc);
     let mut asker = empty_tree(alloc)?;
-    let result = imported(alloc, &mut folder, &mut asker);
-    assert!(rt; matches!(&result, Err(CopyFail::Host)));
+    assert!(rt; fills_small(alloc, &mut folder));
+    folder.fail_calls(Vec::from_elem(alloc, 1, 1)?);
+    let ended = imported(alloc, &mut folder, &mut asker);
+    assert!(rt; matches!(&ended, Err(CopyFail::Host)));
     Ok(())
 }

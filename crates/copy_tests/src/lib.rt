@@ -1,8 +1,12 @@
-//! Folders in memory that are imported into the tree in memory. There is nothing here but tests, and what answers them.
+//! Folders in memory that are imported into the tree in memory, and exported from it. There is nothing here but tests, and what answers them.
 #![tactic(auto)]
 
 #[cfg(test)]
+mod exports;
+#[cfg(test)]
 mod imports;
 mod plain_asker;
+#[cfg(test)]
+mod samples;
 
 pub use plain_asker::PlainAsker;

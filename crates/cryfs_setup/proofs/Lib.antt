@@ -1,4 +1,4 @@
-mod Beginning
+pub mod Beginning
 mod Closing
 mod Telling
 mod Changing

@@ -9,4 +9,5 @@ mod passwd;
 
 pub use create::run_create;
 pub use info::run_info;
+pub use opening::open;
 pub use passwd::run_passwd;

@@ -20,7 +20,7 @@ use run_status::{Ended, Status};
 use std::alloc::Global;
 
 /// Opens the file system under the password, or ends the run.
-pub(crate) fn open<V: Vault, K: Keeper>(
+pub fn open<V: Vault, K: Keeper>(
     alloc: Global,
     vault: V,
     keeper: K,

@@ -32,7 +32,7 @@ module _ {V : Type 0} {K : Type 0} (trace : V → Option (List Call)) (faults : 
   was_as : WasServed trace faults G now Came input vault keeper ended → WasServed trace faults G now Other input vault keeper ended
   was_as (password, script, has, s) = (password, script, has, served_as password script s)
 
-  session_as : Session trace faults G now Came input output vault keeper ended → Session trace faults G now Other input output vault keeper ended
+  pub session_as : Session trace faults G now Came input output vault keeper ended → Session trace faults G now Other input output vault keeper ended
   session_as (inl u) = inl u
   session_as (inr (password, script, has, inl unopened)) = inr (password, script, has, inl unopened)
   session_as (inr (password, script, has, inr s)) = inr (password, script, has, inr (served_as password script s))

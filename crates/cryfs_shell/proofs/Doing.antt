@@ -20,17 +20,20 @@ use Rattle.session_lines.specs.declared.end.End.{End}
 use Rattle.session_runs.specs.Runs.{outside_of}
 use Rattle.shell_sessions.specs.Sessions.{ComesShell, ComesGenerated, ComesCommand}
 use Rattle.shell_words.specs.declared.form.Form.{Form}
-use Rattle.shell_words.specs.declared.form.Form.TheVariants.{Trial, TrialGenerate, Create, Info, Passwd, Shell, Generate, Command, Import, Export}
+use Rattle.shell_words.specs.declared.form.Form.TheVariants.{Trial, TrialGenerate, Create, Info, Passwd, Shell, Generate, Command, Import, Export, Put, Get, Check}
 use Rattle.shell_words.specs.Forms.{joined}
 use Rattle.copy_sessions.proofs.Imported.{told_host as copy_host}
 use Rattle.cryfs_shell.specs.Clauses.{IsRefusedRun, NoFalseAlarm, KeepsTree, FaultsHappened, IsEmptied}
-use Rattle.cryfs_shell.specs.Copies.{Imports, Exports}
+use Rattle.cryfs_shell.specs.Copies.{Imports, Exports, Puts, Gets}
 use Rattle.cryfs_shell.specs.Doing.{Does}
 use Rattle.cryfs_shell.specs.Hosts.{HostSeen}
 use Rattle.cryfs_shell.specs.Kinds.{is_session, opens}
+use Rattle.file_copies.proofs.Sessions.{put_unhosted, get_unhosted}
+use Rattle.cryfs_shell.proofs.Files.{put_cause, get_cause}
 use Rattle.cryfs_shell.proofs.Statuses.{EndCause}
 use Rattle.cryfs_shell.proofs.Sessions.{session_faults, session_refusal, session_alarm, session_keeps, session_emptied, session_uncalled, session_usage, session_host}
 use Rattle.cryfs_shell.proofs.Setups.{created_faults, created_uncalled, created_usage, created_alarm, created_host, told_faults, told_refusal, told_alarm, told_keeps, told_uncalled, told_usage, told_host, changed_faults, changed_refusal, changed_alarm, changed_keeps, changed_uncalled, changed_usage, changed_host}
+use Rattle.cryfs_shell.proofs.Checks.{checked_faults, checked_refusal, checked_alarm, checked_keeps, checked_uncalled, checked_usage, checked_host}
 use Rattle.cryfs_shell.proofs.TrialEnds.{ends_cause, reported_cause, tried_end, generated_end, trial_is_no, trial_faults}
 
 -- the form that was asked for is one
@@ -43,7 +46,7 @@ the_form asked form other e f = some_is form other (sym e ∙ f)
 host_undone : HostFault ≡ Done → ⊥
 host_undone e = cc
 
-module _ {V : Type 0} {K : Type 0} (trace : V → Option (List Call)) (faults : V → ℕ) (G : KeeperGhosts K) (words : List (List ℕ)) (now : Instant) (chance left : Chance) (input output : Stream) (host : HostSeen) (vault : V) (keeper : K) (ended : Ended V K) where
+module _ {V : Type 0} {K : Type 0} (trace : V → Option (List Call)) (faults : V → ℕ) (names : V → Option (List (List ℕ))) (G : KeeperGhosts K) (words : List (List ℕ)) (now : Instant) (chance left : Chance) (input output : Stream) (host : HostSeen) (vault : V) (keeper : K) (ended : Ended V K) where
   shell_causes : (script : Option (List ℕ)) (end : End) (own : Status) (es : List Exchange) → ComesShell input output script end own es → EndCause end input output
   shell_causes script end own es came = ends_cause script input output es end came.0
 
@@ -59,8 +62,20 @@ module _ {V : Type 0} {K : Type 0} (trace : V → Option (List Call)) (faults : 
   export_causes : (script : Option (List ℕ)) (end : End) (own : Status) (es : List Exchange) → Exports words input output host script end own es → EndCause end input output
   export_causes script end own es (path, is, came) = reported_cause input output _ end came.told.written
 
+  put_causes : (script : Option (List ℕ)) (end : End) (own : Status) (es : List Exchange) → Puts words input output script end own es → EndCause end input output
+  put_causes script end own es (path, is, came) = put_cause path script input output end own es came
+
+  get_causes : (script : Option (List ℕ)) (end : End) (own : Status) (es : List Exchange) → Gets words input output script end own es → EndCause end input output
+  get_causes script end own es (path, is, came) = get_cause path input output end own es came
+
+  put_hostless : (script : Option (List ℕ)) (end : End) (own : Status) (es : List Exchange) → Puts words input output script end own es → own ≡ HostFault → ⊥
+  put_hostless script end own es (path, is, came) e = put_unhosted path 0 script input output end own es came e
+
+  get_hostless : (script : Option (List ℕ)) (end : End) (own : Status) (es : List Exchange) → Gets words input output script end own es → own ≡ HostFault → ⊥
+  get_hostless script end own es (path, is, came) e = get_unhosted path input output end own es came e
+
   abbrev Doing : Form → Type 0
-  Doing form = Does trace faults G words now chance left input output host vault keeper ended form
+  Doing form = Does trace faults names G words now chance left input output host vault keeper ended form
 
   pub doing_faults : (form : Form) → Doing form → FaultsHappened input output (outside_of trace faults G vault keeper) (outside_of trace faults G ended.vault ended.keeper) ended.status
   doing_faults Trial d = trial_faults trace faults G input output vault keeper ended d.1 (tried_end now input output ended.status d.0)
@@ -73,6 +88,9 @@ module _ {V : Type 0} {K : Type 0} (trace : V → Option (List Call)) (faults : 
   doing_faults Command d = session_faults trace faults G input output vault keeper ended now (ComesCommand (joined words) input output) command_causes d
   doing_faults Import d = session_faults trace faults G input output vault keeper ended now (Imports words input output host) import_causes d.0
   doing_faults Export d = session_faults trace faults G input output vault keeper ended now (Exports words input output host) export_causes d.0
+  doing_faults Put d = session_faults trace faults G input output vault keeper ended now (Puts words input output) put_causes d
+  doing_faults Get d = session_faults trace faults G input output vault keeper ended now (Gets words input output) get_causes d
+  doing_faults Check d = checked_faults trace faults names G input output vault keeper ended d.1 d.0
 
   pub doing_refusal : (form : Form) → opens (Some form) ≡ true → Doing form → IsKeptMarked records (G.kept keeper) → IsRefusedRun G.kept output vault keeper ended
   doing_refusal Trial e d marked = absurd (cc)
@@ -85,6 +103,9 @@ module _ {V : Type 0} {K : Type 0} (trace : V → Option (List Call)) (faults : 
   doing_refusal Command e d marked = session_refusal trace faults G input output vault keeper ended now (ComesCommand (joined words) input output) command_causes d marked
   doing_refusal Import e d marked = session_refusal trace faults G input output vault keeper ended now (Imports words input output host) import_causes d.0 marked
   doing_refusal Export e d marked = session_refusal trace faults G input output vault keeper ended now (Exports words input output host) export_causes d.0 marked
+  doing_refusal Put e d marked = session_refusal trace faults G input output vault keeper ended now (Puts words input output) put_causes d marked
+  doing_refusal Get e d marked = session_refusal trace faults G input output vault keeper ended now (Gets words input output) get_causes d marked
+  doing_refusal Check e d marked = checked_refusal trace faults names G input output vault keeper ended d.1 d.0 marked
 
   pub doing_alarm : (form : Form) → Doing form → NoFalseAlarm input (outside_of trace faults G vault keeper) (outside_of trace faults G ended.vault ended.keeper) ended.status
   doing_alarm Trial d bytes c first f honest e = trial_is_no input output ended.status Violation (tried_end now input output ended.status d.0) e (λ h. h)
@@ -97,6 +118,9 @@ module _ {V : Type 0} {K : Type 0} (trace : V → Option (List Call)) (faults : 
   doing_alarm Command d bytes c first f honest e = session_alarm trace faults G input output vault keeper ended now (ComesCommand (joined words) input output) command_causes d bytes c first f honest e
   doing_alarm Import d bytes c first f honest e = session_alarm trace faults G input output vault keeper ended now (Imports words input output host) import_causes d.0 bytes c first f honest e
   doing_alarm Export d bytes c first f honest e = session_alarm trace faults G input output vault keeper ended now (Exports words input output host) export_causes d.0 bytes c first f honest e
+  doing_alarm Put d bytes c first f honest e = session_alarm trace faults G input output vault keeper ended now (Puts words input output) put_causes d bytes c first f honest e
+  doing_alarm Get d bytes c first f honest e = session_alarm trace faults G input output vault keeper ended now (Gets words input output) get_causes d bytes c first f honest e
+  doing_alarm Check d bytes c first f honest e = checked_alarm trace faults names G input output vault keeper ended d.1 d.0 bytes c first f honest e
 
   pub doing_keeps : (form : Form) → opens (Some form) ≡ true → Doing form → KeepsTree input (outside_of trace faults G vault keeper) (outside_of trace faults G ended.vault ended.keeper)
   doing_keeps Trial e d bytes c first f = absurd (cc)
@@ -109,6 +133,9 @@ module _ {V : Type 0} {K : Type 0} (trace : V → Option (List Call)) (faults : 
   doing_keeps Command e d bytes c first f = session_keeps trace faults G input output vault keeper ended now (ComesCommand (joined words) input output) command_causes d bytes c first f
   doing_keeps Import e d bytes c first f = session_keeps trace faults G input output vault keeper ended now (Imports words input output host) import_causes d.0 bytes c first f
   doing_keeps Export e d bytes c first f = session_keeps trace faults G input output vault keeper ended now (Exports words input output host) export_causes d.0 bytes c first f
+  doing_keeps Put e d bytes c first f = session_keeps trace faults G input output vault keeper ended now (Puts words input output) put_causes d bytes c first f
+  doing_keeps Get e d bytes c first f = session_keeps trace faults G input output vault keeper ended now (Gets words input output) get_causes d bytes c first f
+  doing_keeps Check e d bytes c first f = checked_keeps trace faults names G input output vault keeper ended d.1 d.0 bytes c first f
 
   pub doing_emptied : (form : Form) → is_session (Some form) ≡ true → Doing form → ended.status ≡ Done → IsEmptied (outside_of trace faults G ended.vault ended.keeper)
   doing_emptied Trial s d e = absurd (cc)
@@ -121,6 +148,9 @@ module _ {V : Type 0} {K : Type 0} (trace : V → Option (List Call)) (faults : 
   doing_emptied Command s d e = session_emptied trace faults G input output vault keeper ended now (ComesCommand (joined words) input output) command_causes d e
   doing_emptied Import s d e = session_emptied trace faults G input output vault keeper ended now (Imports words input output host) import_causes d.0 e
   doing_emptied Export s d e = session_emptied trace faults G input output vault keeper ended now (Exports words input output host) export_causes d.0 e
+  doing_emptied Put s d e = session_emptied trace faults G input output vault keeper ended now (Puts words input output) put_causes d e
+  doing_emptied Get s d e = session_emptied trace faults G input output vault keeper ended now (Gets words input output) get_causes d e
+  doing_emptied Check s d e = absurd (cc)
 
   pub doing_uncalled : (form : Form) → Doing form → ended.status ≡ LongPassword → AreUncalled vault keeper ended
   doing_uncalled Trial d e = d.1
@@ -133,6 +163,9 @@ module _ {V : Type 0} {K : Type 0} (trace : V → Option (List Call)) (faults : 
   doing_uncalled Command d e = session_uncalled trace faults G input output vault keeper ended now (ComesCommand (joined words) input output) command_causes d e
   doing_uncalled Import d e = session_uncalled trace faults G input output vault keeper ended now (Imports words input output host) import_causes d.0 e
   doing_uncalled Export d e = session_uncalled trace faults G input output vault keeper ended now (Exports words input output host) export_causes d.0 e
+  doing_uncalled Put d e = session_uncalled trace faults G input output vault keeper ended now (Puts words input output) put_causes d e
+  doing_uncalled Get d e = session_uncalled trace faults G input output vault keeper ended now (Gets words input output) get_causes d e
+  doing_uncalled Check d e = checked_uncalled trace faults names G input output vault keeper ended d.1 d.0 e
 
   pub doing_usage : (form : Form) → Doing form → ended.status ≢ Usage
   doing_usage Trial d e = trial_is_no input output ended.status Usage (tried_end now input output ended.status d.0) e (λ h. h)
@@ -145,6 +178,9 @@ module _ {V : Type 0} {K : Type 0} (trace : V → Option (List Call)) (faults : 
   doing_usage Command d e = session_usage trace faults G input output vault keeper ended now (ComesCommand (joined words) input output) command_causes d e
   doing_usage Import d e = session_usage trace faults G input output vault keeper ended now (Imports words input output host) import_causes d.0 e
   doing_usage Export d e = session_usage trace faults G input output vault keeper ended now (Exports words input output host) export_causes d.0 e
+  doing_usage Put d e = session_usage trace faults G input output vault keeper ended now (Puts words input output) put_causes d e
+  doing_usage Get d e = session_usage trace faults G input output vault keeper ended now (Gets words input output) get_causes d e
+  doing_usage Check d e = checked_usage trace faults names G input output vault keeper ended d.1 d.0 e
 
   abbrev Rose : Type 0
   Rose = RoseBy 1 host.faults host.risen
@@ -161,3 +197,6 @@ module _ {V : Type 0} {K : Type 0} (trace : V → Option (List Call)) (faults : 
   doing_host Command d e = session_host trace faults G input output vault keeper ended now (ComesCommand (joined words) input output) command_causes Rose (λ script end own es came h. absurd (host_undone (sym h ∙ came.1))) d e
   doing_host Import d e = session_host trace faults G input output vault keeper ended now (Imports words input output host) import_causes Rose (λ script end own es came h. copy_host _ came.3.result _ output end own host.faults host.risen came.3.told h came.3.host) d.0 e
   doing_host Export d e = session_host trace faults G input output vault keeper ended now (Exports words input output host) export_causes Rose (λ script end own es came h. copy_host _ came.2.result _ output end own host.faults host.risen came.2.told h came.2.host) d.0 e
+  doing_host Put d e = session_host trace faults G input output vault keeper ended now (Puts words input output) put_causes Rose (λ script end own es came h. absurd (put_hostless script end own es came h)) d e
+  doing_host Get d e = session_host trace faults G input output vault keeper ended now (Gets words input output) get_causes Rose (λ script end own es came h. absurd (get_hostless script end own es came h)) d e
+  doing_host Check d e = absurd (checked_host trace faults names G input output vault keeper ended d.1 d.0 e)

@@ -1,13 +1,16 @@
 -- Each call is a run of one file system.
-use Rattle.std.proofs.Common.{◌≡◌, ℕ, false, List, [], refl, sym, subst, inl, inr}
+use Rattle.std.proofs.Common.{◌≡◌, ℕ, Bool, false, List, [], refl, sym, subst, inl, inr}
 use Rattle.std.specs.declared.option.Option.{Option}
 use Rattle.std.specs.declared.option.Option.TheVariants.{Some}
 use Rattle.rand_core.specs.Stream.{Stream as Chance}
 use Rattle.answers.specs.Sessions.{Exchange}
+use Rattle.check_runs.specs.Judging.{is_bad}
+use Rattle.check_runs.specs.Running.{RanCheck}
+use Rattle.check_runs.proofs.Leaving.{examined_run}
 use Rattle.cryfs_setup.specs.Info.{Told}
 use Rattle.cryfs_setup.specs.Passwd.{RanPasswd}
 use Rattle.fs_model.specs.Instant.{Instant}
-use Rattle.histories.specs.Histories.{Run, session, quiet}
+use Rattle.histories.specs.Histories.{Run, session, quiet, examined}
 use Rattle.line_io.specs.Streams.{Stream}
 use Rattle.outside.specs.Trace.{Call}
 use Rattle.outside.specs.declared.keeper.Keeper.{Ghosts as KeeperGhosts}
@@ -18,19 +21,20 @@ use Rattle.session_lines.specs.declared.end.End.{End}
 use Rattle.session_runs.specs.Runs.{Outside, outside_of, IsQuietRun}
 use Rattle.shell_sessions.specs.Sessions.{Session}
 use Rattle.shell_words.specs.declared.form.Form.{Form}
-use Rattle.shell_words.specs.declared.form.Form.TheVariants.{Trial, TrialGenerate, Create, Info, Passwd, Shell, Generate, Command, Import, Export}
+use Rattle.shell_words.specs.declared.form.Form.TheVariants.{Trial, TrialGenerate, Create, Info, Passwd, Shell, Generate, Command, Import, Export, Put, Get, Check}
 use Rattle.shell_words.specs.Forms.{form_of, is_create}
 use Rattle.shell_words.proofs.FormsOf.{IsPlain, other_is_other}
 use Rattle.tree_commands.specs.Showing.{ShowsFiles}
+use Rattle.cryfs_shell.proofs.Checks.{ends_by, bad_by}
 use Rattle.cryfs_shell.specs.Doing.{Does}
 use Rattle.cryfs_shell.specs.Hosts.{HostSeen}
-use Rattle.cryfs_shell.specs.History.{Comes, IsRunOf}
+use Rattle.cryfs_shell.specs.History.{Comes, Judges, IsRunOf}
 
 -- nothing happened outside
 still : (password : List ℕ) (o : Outside) → IsQuietRun ShowsFiles password o o
 still password o = record { stands = λ c tree f. f.stands; marked = λ m. (refl, refl) }
 
-module _ {V : Type 0} {K : Type 0} (trace : V → Option (List Call)) (faults : V → ℕ) (G : KeeperGhosts K) (Came : Option (List ℕ) → End → Status → List Exchange → Type 0) (vault : V) (keeper : K) (ended : Ended V K) where
+module _ {V : Type 0} {K : Type 0} (trace : V → Option (List Call)) (faults : V → ℕ) (G : KeeperGhosts K) (Came : Option (List ℕ) → End → Status → List Exchange → Type 0) (Judged : Bool → Type 0) (vault : V) (keeper : K) (ended : Ended V K) where
   abbrev Before : Outside
   Before = outside_of trace faults G vault keeper
 
@@ -38,7 +42,7 @@ module _ {V : Type 0} {K : Type 0} (trace : V → Option (List Call)) (faults : 
   After = outside_of trace faults G ended.vault ended.keeper
 
   abbrev History : Type 0
-  History = (run : Run) × IsRunOf Came Before After run
+  History = (run : Run) × IsRunOf Came Judged Before After run
 
   quietly : (password : List ℕ) → IsQuietRun ShowsFiles password Before After → History
   quietly password q = (quiet password Before After, record { is_run = q; came = tt; begins = refl; ends = refl })
@@ -64,6 +68,15 @@ module _ {V : Type 0} {K : Type 0} (trace : V → Option (List Call)) (faults : 
   changed_history chance left input output (inr (old, new, has, unfailed, inl ((error, u), unwritten, same))) = quietly old u.quiet
   changed_history chance left input output (inr (old, new, has, unfailed, inr c)) = quietly old c.quiet
 
+  checked_history : (names : V → Option (List (List ℕ))) (input output : Stream) → ((bad : Bool) → Judges (Some Check) ended.status bad → Judged bad) → RanCheck trace faults names G input output vault keeper ended → History
+  checked_history names input output judged (inl u) = idly u.uncalled
+  checked_history names input output judged (inr (password, after, has, unfailed, inl ((error, u), unwritten))) = quietly password u.quiet
+  checked_history names input output judged (inr (password, after, has, unfailed, inr t)) =
+      let verdict : Judges (Some Check) ended.status (is_bad t.x.verdict) = (ends_by trace faults names G password output vault keeper ended t, bad_by trace faults names G password output vault keeper ended t) in (
+        examined password Before After (is_bad t.x.verdict),
+        record { is_run = examined_run trace faults names G password output vault keeper ended t; came = judged (is_bad t.x.verdict) verdict; begins = refl; ends = refl },
+      )
+
 -- words that don't begin with `create` are of another form
 pub other_form : (words : List (List ℕ)) (form : Form) → form_of words ≡ Some form → is_create words ≡ false → IsPlain form
 other_form words (Create options) e other = absurd (other_is_other words options other e)
@@ -76,17 +89,23 @@ other_form words (Generate count) e other = tt
 other_form words Command e other = tt
 other_form words Import e other = tt
 other_form words Export e other = tt
+other_form words Put e other = tt
+other_form words Get e other = tt
+other_form words Check e other = tt
 
-pub doing_history : {V : Type 0} {K : Type 0} (trace : V → Option (List Call)) (faults : V → ℕ) (G : KeeperGhosts K) (words : List (List ℕ)) (now : Instant) (chance left : Chance) (input output : Stream) (host : HostSeen) (vault : V) (keeper : K) (ended : Ended V K) (form : Form)
-    → IsPlain form → Does trace faults G words now chance left input output host vault keeper ended form
-    → (run : Run) × IsRunOf (Comes words input output host form) (outside_of trace faults G vault keeper) (outside_of trace faults G ended.vault ended.keeper) run
-doing_history trace faults G words now chance left input output host vault keeper ended Trial p d = idly trace faults G (Comes words input output host Trial) vault keeper ended d.1
-doing_history trace faults G words now chance left input output host vault keeper ended (TrialGenerate count) p d = idly trace faults G (Comes words input output host (TrialGenerate count)) vault keeper ended d.2
-doing_history trace faults G words now chance left input output host vault keeper ended (Create options) p d = absurd p
-doing_history trace faults G words now chance left input output host vault keeper ended Info p d = told_history trace faults G (Comes words input output host Info) vault keeper ended input output d.0
-doing_history trace faults G words now chance left input output host vault keeper ended Passwd p d = changed_history trace faults G (Comes words input output host Passwd) vault keeper ended chance left input output d.0
-doing_history trace faults G words now chance left input output host vault keeper ended Shell p d = session_history trace faults G (Comes words input output host Shell) vault keeper ended now input output d
-doing_history trace faults G words now chance left input output host vault keeper ended (Generate count) p d = session_history trace faults G (Comes words input output host (Generate count)) vault keeper ended now input output d
-doing_history trace faults G words now chance left input output host vault keeper ended Command p d = session_history trace faults G (Comes words input output host Command) vault keeper ended now input output d
-doing_history trace faults G words now chance left input output host vault keeper ended Import p d = session_history trace faults G (Comes words input output host Import) vault keeper ended now input output d.0
-doing_history trace faults G words now chance left input output host vault keeper ended Export p d = session_history trace faults G (Comes words input output host Export) vault keeper ended now input output d.0
+pub doing_history : {V : Type 0} {K : Type 0} (trace : V → Option (List Call)) (faults : V → ℕ) (names : V → Option (List (List ℕ))) (G : KeeperGhosts K) (words : List (List ℕ)) (now : Instant) (chance left : Chance) (input output : Stream) (host : HostSeen) (vault : V) (keeper : K) (ended : Ended V K) (form : Form)
+    → IsPlain form → Does trace faults names G words now chance left input output host vault keeper ended form
+    → (run : Run) × IsRunOf (Comes words input output host form) (Judges (Some form) ended.status) (outside_of trace faults G vault keeper) (outside_of trace faults G ended.vault ended.keeper) run
+doing_history trace faults names G words now chance left input output host vault keeper ended Trial p d = idly trace faults G (Comes words input output host Trial) (Judges (Some Trial) ended.status) vault keeper ended d.1
+doing_history trace faults names G words now chance left input output host vault keeper ended (TrialGenerate count) p d = idly trace faults G (Comes words input output host (TrialGenerate count)) (Judges (Some (TrialGenerate count)) ended.status) vault keeper ended d.2
+doing_history trace faults names G words now chance left input output host vault keeper ended (Create options) p d = absurd p
+doing_history trace faults names G words now chance left input output host vault keeper ended Info p d = told_history trace faults G (Comes words input output host Info) (Judges (Some Info) ended.status) vault keeper ended input output d.0
+doing_history trace faults names G words now chance left input output host vault keeper ended Passwd p d = changed_history trace faults G (Comes words input output host Passwd) (Judges (Some Passwd) ended.status) vault keeper ended chance left input output d.0
+doing_history trace faults names G words now chance left input output host vault keeper ended Shell p d = session_history trace faults G (Comes words input output host Shell) (Judges (Some Shell) ended.status) vault keeper ended now input output d
+doing_history trace faults names G words now chance left input output host vault keeper ended (Generate count) p d = session_history trace faults G (Comes words input output host (Generate count)) (Judges (Some (Generate count)) ended.status) vault keeper ended now input output d
+doing_history trace faults names G words now chance left input output host vault keeper ended Command p d = session_history trace faults G (Comes words input output host Command) (Judges (Some Command) ended.status) vault keeper ended now input output d
+doing_history trace faults names G words now chance left input output host vault keeper ended Import p d = session_history trace faults G (Comes words input output host Import) (Judges (Some Import) ended.status) vault keeper ended now input output d.0
+doing_history trace faults names G words now chance left input output host vault keeper ended Export p d = session_history trace faults G (Comes words input output host Export) (Judges (Some Export) ended.status) vault keeper ended now input output d.0
+doing_history trace faults names G words now chance left input output host vault keeper ended Put p d = session_history trace faults G (Comes words input output host Put) (Judges (Some Put) ended.status) vault keeper ended now input output d
+doing_history trace faults names G words now chance left input output host vault keeper ended Get p d = session_history trace faults G (Comes words input output host Get) (Judges (Some Get) ended.status) vault keeper ended now input output d
+doing_history trace faults names G words now chance left input output host vault keeper ended Check p d = checked_history trace faults G (Comes words input output host Check) (Judges (Some Check) ended.status) vault keeper ended names input output (λ bad j. j) d.0

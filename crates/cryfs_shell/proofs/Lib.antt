@@ -2,7 +2,9 @@ pub mod Statuses
 pub mod Copies
 pub mod Sessions
 pub mod Setups
+pub mod Checks
 pub mod TrialEnds
 pub mod Doing
 pub mod Naming
 pub mod Histories
+pub mod Files

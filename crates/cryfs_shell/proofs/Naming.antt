@@ -2,11 +2,23 @@
 use Rattle.std.proofs.Common.{◌≡◌, ◌≢◌, ◌⊎◌, ℕ, ◌+◌, Bool, true, false, List, refl, sym, ◌∙◌, ap, subst, inl, inr}
 use Rattle.std.specs.Prelude.{Result, IsOk}
 use Rattle.std.specs.declared.option.Option.{Option}
-use Rattle.std.specs.declared.option.Option.TheVariants.{Some}
+use Rattle.std.specs.declared.option.Option.TheVariants.{None, Some}
 use Rattle.std.specs.declared.result.Result.TheVariants.{Ok, Err}
 use Rattle.rand_core.specs.Stream.{Stream as Chance}
+use Rattle.answers.specs.declared.answer.Answer.{Answer}
+use Rattle.copy_rules.specs.declared.copied.Totals.{Totals}
+use Rattle.copy_rules.specs.Questions.{Question}
+use Rattle.copy_sessions.specs.Fitting.{kept_after}
+use Rattle.file_copies.specs.Coming.{IsPutTold, IsPutSession, IsGetEnd, IsGetSession}
+use Rattle.file_copies.specs.Getting.{IsGet}
+use Rattle.file_copies.specs.Putting.{InputBy}
+use Rattle.host_folder.specs.Folders.{HostPath}
+use Rattle.row_copy.specs.declared.stop.Stop.{Stop}
+use Rattle.row_copy.specs.declared.stop.Stop.TheVariants as stop
 use Rattle.answers.specs.Sessions.{Exchange, violated}
 use Rattle.block_id.specs.declared.id.BlockId.{BlockId}
+use Rattle.check_runs.specs.Running.{RanCheck}
+use Rattle.check_runs.proofs.Leaving.{directory_quiet}
 use Rattle.cryfs_setup.specs.Create.{RanCreate}
 use Rattle.setup_texts.specs.CreateText.{Reports as CreateReports}
 use Rattle.cryfs_setup.specs.Info.{Told}
@@ -38,10 +50,11 @@ use Rattle.session_saver.specs.declared.saver.SyncError.{SyncError}
 use Rattle.session_saver.specs.declared.saver.SyncError.TheVariants as sync_error
 use Rattle.shell_sessions.specs.Sessions.{Session, ComesShell, ComesGenerated, ComesCommand}
 use Rattle.shell_words.specs.declared.form.Form.{Form}
-use Rattle.shell_words.specs.declared.form.Form.TheVariants.{Trial, TrialGenerate, Create, Info, Passwd, Shell, Generate, Command, Import, Export}
+use Rattle.shell_words.specs.declared.form.Form.TheVariants.{Trial, TrialGenerate, Create, Info, Passwd, Shell, Generate, Command, Import, Export, Put, Get, Check}
 use Rattle.shell_words.specs.Forms.{joined}
-use Rattle.cryfs_shell.specs.Clauses.{FaultsNamed, MayHide, StreamFaultsNamed}
-use Rattle.cryfs_shell.specs.Copies.{Imports, Exports}
+use Rattle.cryfs_shell.proofs.Checks.{state_named, output_named}
+use Rattle.cryfs_shell.specs.Clauses.{FaultsNamed, MayHide, MayHideState, StreamFaultsNamed}
+use Rattle.cryfs_shell.specs.Copies.{Imports, Exports, Puts, Gets}
 use Rattle.cryfs_shell.specs.Doing.{Does}
 use Rattle.cryfs_shell.specs.Hosts.{HostSeen}
 use Rattle.cryfs_shell.specs.Kinds.{is_session}
@@ -122,6 +135,17 @@ module _ {V : Type 0} {K : Type 0} (trace : V → Option (List Call)) (faults : 
   told_named (inr (password, after, has, unfailed, inl ((error, u), unwritten))) = unopened_named Info password error u
   told_named (inr (password, after, has, unfailed, inr t)) = each_named Info (λ d. t.directory_quiet) (λ s. t.state_quiet)
 
+  checked_named : (names : V → Option (List (List ℕ))) → RanCheck trace faults names G input output vault keeper ended → Named Check
+  checked_named names (inl u) = idle_named Check u.uncalled
+  checked_named names (inr (password, after, has, unfailed, inl ((error, u), unwritten))) = unopened_named Check password error u
+  checked_named names (inr (password, after, has, unfailed, inr t)) =
+      let directory = directory_quiet trace faults names G password output vault keeper ended t in
+      record {
+        directory_quiet = λ shown. directory;
+        state_quiet = λ shown s. state_named trace faults names G password output vault keeper ended t (λ v. shown (subst (MayHideState (Some Check)) (sym v) tt));
+        memory = λ m. inl (directory (λ d. directory_is_no (sym d ∙ m)));
+      }
+
   one_of : (change closing : Result Unit SyncError) → (NamesNoDirectory change closing → faults ended.vault ≡ faults vault) → (NamesNoState change closing → G.faults ended.keeper ≡ G.faults keeper)
       → NamesNoDirectory change closing ⊎ NamesNoState change closing → (faults ended.vault ≡ faults vault) ⊎ (G.faults ended.keeper ≡ G.faults keeper)
   one_of change closing directory state (inl none) = inl (directory none)
@@ -155,6 +179,26 @@ reported_quiet : (input output : Stream) (text : List ℕ) (end : End) → IsUnf
 reported_quiet input output text line_end.Finished unfailed r = (unfailed, r.1)
 reported_quiet input output text line_end.InputFault unfailed r = absurd r
 reported_quiet input output text line_end.OutputFault unfailed r = unfailed
+
+put_by : (path : HostPath) (put : Result Totals Stop) (kept : Option Answer) (input output : Stream) (end : End) (own : Status) → InputBy 0 input put → IsPutTold put path kept output end own → EndQuiet end input output
+put_by path (Ok totals) kept input output end own used told = reported_quiet input output _ end used.1 told.written
+put_by path (Err stop.Memory) kept input output end own used told = reported_quiet input output _ end used told.written
+put_by path (Err stop.Host) kept input output end own used told = subst (λ z. EndQuiet z input output) (sym told.0.0) told.1.1
+put_by path (Err stop.Stopped) kept input output end own used told = reported_quiet input output _ end used told.written
+put_by path (Err (stop.Refused e)) kept input output end own used told = reported_quiet input output _ end used told.written
+
+put_quiet : (path : HostPath) (script : Option (List ℕ)) (input output : Stream) (end : End) (own : Status) (es : List Exchange) → IsPutSession path 0 script input output end own es → EndQuiet end input output
+put_quiet path script input output end own es s = put_by path s.result (kept_after None es) input output end own s.used s.told
+
+get_by : (path : HostPath) (qs : List Question) (got : Result (Unit {0}) Stop) (kept : Option Answer) (input output : Stream) (end : End) (own : Status) → IsUnfailed input → IsGet path qs output got → IsGetEnd got kept end own → EndQuiet end input output
+get_by path qs (Ok x) kept input output end own unfailed is ends = subst (λ z. EndQuiet z input output) (sym ends.0) (unfailed, is.ends.1.1.1)
+get_by path qs (Err stop.Memory) kept input output end own unfailed is ends = subst (λ z. EndQuiet z input output) (sym ends.0) (unfailed, is.ends.1.1)
+get_by path qs (Err stop.Host) kept input output end own unfailed is ends = subst (λ z. EndQuiet z input output) (sym ends.0) unfailed
+get_by path qs (Err stop.Stopped) kept input output end own unfailed is ends = subst (λ z. EndQuiet z input output) (sym ends.0) (unfailed, is.ends.1.1.1)
+get_by path qs (Err (stop.Refused e)) kept input output end own unfailed is ends = subst (λ z. EndQuiet z input output) (sym ends.0) (unfailed, is.ends.1.1)
+
+get_quiet : (path : HostPath) (input output : Stream) (end : End) (own : Status) (es : List Exchange) → IsGetSession path input output end own es → EndQuiet end input output
+get_quiet path input output end own es s = get_by path s.qs s.result (kept_after None es) input output end own s.unfailed s.is s.ends
 
 printed_quiet : (output : Stream) (text : List ℕ) (status : Status) → Printed output text status → status ≢ OutputFault → IsUnfailed output
 printed_quiet output text Done p o = p.1
@@ -229,6 +273,11 @@ module _ (input output : Stream) where
       output_quiet = λ o v. change_quiet output c.change ended.status (ends c.closing output c.told ended.status c.status c.change c.reports c.closed) o;
     }
 
+    checked_streams : (names : V → Option (List (List ℕ))) → RanCheck trace faults names G input output vault keeper ended → StreamsNamed
+    checked_streams names (inl u) = unread_one u
+    checked_streams names (inr (password, after, has, unfailed, inl ((error, u), unwritten))) = neither ended.status unfailed unwritten.1
+    checked_streams names (inr (password, after, has, unfailed, inr t)) = record { input_quiet = λ i l v. unfailed; output_quiet = output_named trace faults names G password output vault keeper ended t }
+
     session_streams : (now : Instant) (Came : Option (List ℕ) → End → Status → List Exchange → Type 0) → ((script : Option (List ℕ)) (end : End) (own : Status) (es : List Exchange) → Came script end own es → EndQuiet end input output)
         → Session trace faults G now Came input output vault keeper ended → StreamsNamed
     session_streams now Came quiet (inl u) = unread_one u
@@ -237,9 +286,9 @@ module _ (input output : Stream) where
 
 -- ---- by its form
 
-module _ {V : Type 0} {K : Type 0} (trace : V → Option (List Call)) (faults : V → ℕ) (G : KeeperGhosts K) (words : List (List ℕ)) (now : Instant) (chance left : Chance) (input output : Stream) (host : HostSeen) (vault : V) (keeper : K) (ended : Ended V K) where
+module _ {V : Type 0} {K : Type 0} (trace : V → Option (List Call)) (faults : V → ℕ) (names : V → Option (List (List ℕ))) (G : KeeperGhosts K) (words : List (List ℕ)) (now : Instant) (chance left : Chance) (input output : Stream) (host : HostSeen) (vault : V) (keeper : K) (ended : Ended V K) where
   abbrev Doing : Form → Type 0
-  Doing form = Does trace faults G words now chance left input output host vault keeper ended form
+  Doing form = Does trace faults names G words now chance left input output host vault keeper ended form
 
   pub doing_named : (form : Form) → is_session (Some form) ≡ false → Doing form → FaultsNamed (Some form) (outside_of trace faults G vault keeper) (outside_of trace faults G ended.vault ended.keeper) ended.status
   doing_named Trial e d = idle_named trace faults G input output vault keeper ended Trial d.1
@@ -252,6 +301,9 @@ module _ {V : Type 0} {K : Type 0} (trace : V → Option (List Call)) (faults : 
   doing_named Command e d = absurd (cc)
   doing_named Import e d = absurd (cc)
   doing_named Export e d = absurd (cc)
+  doing_named Put e d = absurd (cc)
+  doing_named Get e d = absurd (cc)
+  doing_named Check e d = checked_named trace faults G input output vault keeper ended names d.0
 
   pub doing_streams : (form : Form) → Doing form → StreamFaultsNamed input output ended.status
   doing_streams Trial d = tried_named input output now ended.status d.0
@@ -267,3 +319,8 @@ module _ {V : Type 0} {K : Type 0} (trace : V → Option (List Call)) (faults : 
       session_streams input output trace faults G vault keeper ended now (Imports words input output host) (λ script end own es came. reported_quiet input output _ end came.3.unfailed came.3.told.written) d.0
   doing_streams Export d =
       session_streams input output trace faults G vault keeper ended now (Exports words input output host) (λ script end own es came. reported_quiet input output _ end came.2.unfailed came.2.told.written) d.0
+  doing_streams Put d =
+      session_streams input output trace faults G vault keeper ended now (Puts words input output) (λ script end own es came. put_quiet came.0 script input output end own es came.2) d
+  doing_streams Get d =
+      session_streams input output trace faults G vault keeper ended now (Gets words input output) (λ script end own es came. get_quiet came.0 input output end own es came.2) d
+  doing_streams Check d = checked_streams input output trace faults G vault keeper ended names d.0

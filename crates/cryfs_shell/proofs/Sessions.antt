@@ -124,7 +124,7 @@ module _ {V : Type 0} {K : Type 0} (trace : V → Option (List Call)) (faults : 
     opens_under bytes c first f =
         subst (λ (x : List ℕ). OpensTo ShowsFiles x c first Before After) (password_is input.old bytes password script f.told next) f.opens
 
-    only_under : (bytes : List ℕ) (c : Settings) (first : Tree) → OpensOnlyRun input bytes c first Before After → OpensOnlyTo ShowsFiles password c first Before After
+    pub only_under : (bytes : List ℕ) (c : Settings) (first : Tree) → OpensOnlyRun input bytes c first Before After → OpensOnlyTo ShowsFiles password c first Before After
     only_under bytes c first f =
         subst (λ (x : List ℕ). OpensOnlyTo ShowsFiles x c first Before After) (password_is input.old bytes password script f.told next) f.opens
 

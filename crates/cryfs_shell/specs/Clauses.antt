@@ -17,7 +17,7 @@ use Rattle.run_status.specs.declared.status.Status.TheVariants.{LongPassword, Vi
 use Rattle.session_lines.specs.Driven.{IsUnfailed}
 use Rattle.session_runs.specs.Runs.{Outside, OutsideStandsFor, OpensTo, OpensOnlyTo, forgeries, lies}
 use Rattle.shell_words.specs.declared.form.Form.{Form}
-use Rattle.shell_words.specs.declared.form.Form.TheVariants.{Passwd}
+use Rattle.shell_words.specs.declared.form.Form.TheVariants.{Passwd, Check}
 use Rattle.cryfs_shell.specs.Hosts.{HostSeen}
 use Rattle.tree_commands.specs.Showing.{ShowsFiles}
 
@@ -78,11 +78,16 @@ MayHide (Some Passwd) DirectoryFault = Unit {0}
 MayHide (Some Passwd) StateFault = Unit {0}
 MayHide form status = ⊥
 
+-- the same of a fault of the record: behind the violation of a check a mark that wasn't saved is hidden besides
+abbrev pub MayHideState : Option Form → Status → Type 0
+MayHideState (Some Check) Violation = Unit {0}
+MayHideState form status = MayHide form status
+
 -- Of a run that is no session no fault of the directory or the record is passed over: where the status doesn't name it, that count is as it was; but the error of the change in
--- `passwd` may hide one that closing met. Behind want of memory at most one of the two counts rose.
+-- `passwd` may hide one that closing met, and the violation of a check one of its mark. Behind want of memory at most one of the two counts rose.
 pub record FaultsNamed (form : Option Form) (before after : Outside) (status : Status) : Type 0 where
   pub directory_quiet : ¬ MayHide form status → status ≢ DirectoryFault → after.vault_faults ≡ before.vault_faults
-  pub state_quiet : ¬ MayHide form status → status ≢ StateFault → after.keeper_faults ≡ before.keeper_faults
+  pub state_quiet : ¬ MayHideState form status → status ≢ StateFault → after.keeper_faults ≡ before.keeper_faults
   pub memory : status ≡ Memory → (after.vault_faults ≡ before.vault_faults) ⊎ (after.keeper_faults ≡ before.keeper_faults)
 
 -- Of no run a fault of the input or the output is passed over: where the status doesn't name it, that count is as it was. A violation may hide both, and a password line that is

@@ -4,6 +4,7 @@ use Rattle.std.specs.declared.option.Option.{Option}
 use Rattle.std.specs.declared.option.Option.TheVariants.{Some}
 use Rattle.answers.specs.Sessions.{Exchange}
 use Rattle.copy_sessions.specs.Coming.{ComesImport, ComesExport}
+use Rattle.file_copies.specs.Coming.{ComesPut, ComesGet}
 use Rattle.fs_model.specs.Instant.{Instant}
 use Rattle.host_folder.specs.Folders.{HostPath}
 use Rattle.line_io.specs.Streams.{Stream}
@@ -25,6 +26,14 @@ Imports words input output host script end own es =
 abbrev pub Exports : List (List ℕ) → Stream → Stream → HostSeen → Option (List ℕ) → End → Status → List Exchange → Type 0
 Exports words input output host script end own es =
     (path : HostPath) × (copy_path words ≡ Some path) × ComesExport host.old host.new host.faults host.risen path input output script end own es
+
+-- a new file, at the path that the words say, of the bytes that follow the password line
+abbrev pub Puts : List (List ℕ) → Stream → Stream → Option (List ℕ) → End → Status → List Exchange → Type 0
+Puts words input output script end own es = (path : HostPath) × (copy_path words ≡ Some path) × ComesPut path input output script end own es
+
+-- the bytes of the file at the path that the words say
+abbrev pub Gets : List (List ℕ) → Stream → Stream → Option (List ℕ) → End → Status → List Exchange → Type 0
+Gets words input output script end own es = (path : HostPath) × (copy_path words ≡ Some path) × ComesGet path input output script end own es
 
 -- a session that calls the host folder only where it opened a file system
 abbrev pub HostSession : {V : Type 0} → {K : Type 0} → (V → Option (List Call)) → (V → ℕ) → KeeperGhosts K → Instant → (Option (List ℕ) → End → Status → List Exchange → Type 0)

@@ -1,17 +1,19 @@
 -- A call of the program as a run of one file system.
-use Rattle.std.specs.Prelude.{◌≡◌, ℕ, List}
+use Rattle.std.specs.Prelude.{◌≡◌, ℕ, Bool, true, List}
 use Rattle.std.specs.declared.option.Option.{Option}
+use Rattle.std.specs.declared.option.Option.TheVariants.{Some}
 use Rattle.answers.specs.Sessions.{Exchange}
-use Rattle.cryfs_shell.specs.Copies.{Imports, Exports}
+use Rattle.cryfs_shell.specs.Copies.{Imports, Exports, Puts, Gets}
 use Rattle.cryfs_shell.specs.Hosts.{HostSeen}
-use Rattle.histories.specs.Histories.{Run, session, quiet, before_of, after_of, IsRun}
+use Rattle.histories.specs.Histories.{Run, session, quiet, examined, before_of, after_of, IsRun}
 use Rattle.line_io.specs.Streams.{Stream}
 use Rattle.run_status.specs.declared.status.Status.{Status}
+use Rattle.run_status.specs.declared.status.Status.TheVariants.{Violation}
 use Rattle.session_lines.specs.declared.end.End.{End}
 use Rattle.session_runs.specs.Runs.{Outside}
 use Rattle.shell_sessions.specs.Sessions.{ComesShell, ComesGenerated, ComesCommand}
 use Rattle.shell_words.specs.declared.form.Form.{Form}
-use Rattle.shell_words.specs.declared.form.Form.TheVariants.{Shell, Generate, Command, Import, Export}
+use Rattle.shell_words.specs.declared.form.Form.TheVariants.{Shell, Generate, Command, Import, Export, Put, Get, Check}
 use Rattle.shell_words.specs.Forms.{joined}
 use Rattle.tree_commands.specs.Showing.{ShowsFiles}
 
@@ -22,16 +24,24 @@ Comes words input output host (Generate count) = ComesGenerated count input outp
 Comes words input output host Command = ComesCommand (joined words) input output
 Comes words input output host Import = Imports words input output host
 Comes words input output host Export = Exports words input output host
+Comes words input output host Put = Puts words input output
+Comes words input output host Get = Gets words input output
 Comes words input output host form = λ script end own es. ⊥
 
--- the exchanges of a run came so
-abbrev pub HasCome : (Option (List ℕ) → End → Status → List Exchange → Type 0) → Run → Type 0
-HasCome Came (session now password before after closing es) = (script : Option (List ℕ)) × (end : End) × (own : Status) × Came script end own es
-HasCome Came (quiet password before after) = Unit {0}
+-- a check is bad exactly where the status is a violation; no other form is a check
+abbrev pub Judges : Option Form → Status → Bool → Type 0
+Judges (Some Check) status bad = (bad ≡ true → status ≡ Violation) × (status ≡ Violation → bad ≡ true)
+Judges asked status bad = ⊥
+
+-- the exchanges of a run came so, or its check was judged so
+abbrev pub HasCome : (Option (List ℕ) → End → Status → List Exchange → Type 0) → (Bool → Type 0) → Run → Type 0
+HasCome Came Judged (session now password before after closing es) = (script : Option (List ℕ)) × (end : End) × (own : Status) × Came script end own es
+HasCome Came Judged (quiet password before after) = Unit {0}
+HasCome Came Judged (examined password before after bad) = Judged bad
 
 -- the call led from the one moment outside to the other as this run, which is one of those that compose
-pub record IsRunOf (Came : Option (List ℕ) → End → Status → List Exchange → Type 0) (before after : Outside) (run : Run) : Type 0 where
+pub record IsRunOf (Came : Option (List ℕ) → End → Status → List Exchange → Type 0) (Judged : Bool → Type 0) (before after : Outside) (run : Run) : Type 0 where
   pub is_run : IsRun ShowsFiles run
-  pub came : HasCome Came run
+  pub came : HasCome Came Judged run
   pub begins : before_of run ≡ before
   pub ends : after_of run ≡ after

@@ -5,7 +5,7 @@ use Rattle.std.specs.declared.option.Option.TheVariants.{None, Some}
 use Rattle.run_status.specs.declared.status.Status.{Status}
 use Rattle.run_status.specs.declared.status.Status.TheVariants.{Usage, Memory}
 use Rattle.shell_words.specs.declared.form.Form.{Form}
-use Rattle.shell_words.specs.declared.form.Form.TheVariants.{Trial, TrialGenerate, Info, Passwd, Shell, Generate, Command, Import, Export}
+use Rattle.shell_words.specs.declared.form.Form.TheVariants.{Trial, TrialGenerate, Info, Passwd, Shell, Generate, Command, Import, Export, Put, Get, Check}
 use Rattle.shell_words.specs.Forms.{takes_memory}
 
 -- words of no form are refused; where they begin with `create` or ask for a copy, memory may be refused while they are read
@@ -19,7 +19,14 @@ is_session (Some (Generate count)) = true
 is_session (Some Command) = true
 is_session (Some Import) = true
 is_session (Some Export) = true
+is_session (Some Put) = true
+is_session (Some Get) = true
 is_session _ = false
+
+-- a check is asked
+abbrev pub is_check : Option Form → Bool
+is_check (Some Check) = true
+is_check _ = false
 
 -- a file system is opened under a password
 abbrev pub opens : Option Form → Bool
@@ -30,6 +37,9 @@ opens (Some (Generate count)) = true
 opens (Some Command) = true
 opens (Some Import) = true
 opens (Some Export) = true
+opens (Some Put) = true
+opens (Some Get) = true
+opens (Some Check) = true
 opens _ = false
 
 -- random bytes may be taken
@@ -38,6 +48,7 @@ draws None = false
 draws (Some Trial) = false
 draws (Some (TrialGenerate count)) = false
 draws (Some Info) = false
+draws (Some Check) = false
 draws _ = true
 
 -- the host folder may be called

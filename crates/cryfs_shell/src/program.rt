@@ -3,6 +3,7 @@ ghost use Rattle.std.specs.Prelude.{◌≡◌, ◌≤◌, ℕ, true, false, map}
 ghost use Rattle.std.specs.declared.option.Option.TheVariants.{None, Some};
 ghost use Rattle.std.specs.String.{string_bytes};
 ghost use Rattle.shell_words.specs.declared.create_options.CreateOptions.{CreateOptions};
+ghost use Rattle.check_runs.specs.Running.{RanCheck};
 ghost use Rattle.cryfs_setup.specs.Create.{RanCreate};
 ghost use Rattle.cryfs_setup.specs.Info.{Told};
 ghost use Rattle.cryfs_setup.specs.Passwd.{RanPasswd};
@@ -17,19 +18,21 @@ ghost use Rattle.shell_sessions.specs.Sessions.{Session, ComesShell, ComesGenera
 ghost use Rattle.shell_words.specs.Forms.{form_of, is_create, joined, IsModest};
 ghost use Rattle.shell_words.specs.declared.form.Form.{Form};
 ghost use Rattle.cryfs_shell.specs.Clauses.{IsRefusedRun, NoFalseAlarm, KeepsTree, FaultsHappened, FaultsNamed, StreamFaultsNamed, IsEmptied};
-ghost use Rattle.cryfs_shell.specs.Copies.{HostSession, Imports, Exports};
+ghost use Rattle.cryfs_shell.specs.Copies.{HostSession, Imports, Exports, Puts, Gets};
 ghost use Rattle.cryfs_shell.specs.Doing.{Does};
-ghost use Rattle.cryfs_shell.specs.History.{Comes, IsRunOf};
+ghost use Rattle.cryfs_shell.specs.History.{Comes, Judges, IsRunOf};
 ghost use Rattle.cryfs_shell.specs.Hosts.{host_of};
 ghost use Rattle.cryfs_shell.specs.Kinds.{IsRefused, is_session, opens, draws, copies};
 ghost use Rattle.outside.specs.Causes.{RoseBy};
 ghost use Rattle.plain_trials.specs.Runs.{Tried, GeneratedOnPlain};
 
 use block_id::Memory;
-use copy_runs::{run_export, run_import};
+use check_runs::run_check;
+use copy_runs::{run_export, run_get, run_import, run_put};
 use cryfs_setup::{run_create, run_info, run_passwd};
 use fs_model::Moment;
 use host_folder::Folder;
+use listing::Listing;
 use outside::{Keeper, Sink, Source, Vault};
 use plain_trials::{try_generated, try_lines};
 use rand_core::Rng;
@@ -40,7 +43,7 @@ use std::alloc::Global;
 
 /// Runs the program with these words, at this moment, from this input to this output, over this block directory and
 /// this local record, with these random bytes, and beside this folder of the host for copies.
-pub fn run<I: Source, O: Sink, V: Vault, K: Keeper, R: Rng, F: Folder>(
+pub fn run<I: Source, O: Sink, V: Vault + Listing, K: Keeper, R: Rng, F: Folder>(
     alloc: Global,
     words: &[String],
     now: Moment,
@@ -74,6 +77,12 @@ pub fn run<I: Source, O: Sink, V: Vault, K: Keeper, R: Rng, F: Folder>(
         → HostSession V.trace V.faults K.Keeper now (Imports (map string_bytes words.now) (stream_of I.rest I.faults input.old input.new) (stream_of O.written O.faults output.old output.new) (host_of F.tree F.faults host.old host.new)) (stream_of I.rest I.faults input.old input.new) (stream_of O.written O.faults output.old output.new) (host_of F.tree F.faults host.old host.new) vault keeper result }
     ensures exported { form_of (map string_bytes words.now) ≡ Some Form.Export
         → HostSession V.trace V.faults K.Keeper now (Exports (map string_bytes words.now) (stream_of I.rest I.faults input.old input.new) (stream_of O.written O.faults output.old output.new) (host_of F.tree F.faults host.old host.new)) (stream_of I.rest I.faults input.old input.new) (stream_of O.written O.faults output.old output.new) (host_of F.tree F.faults host.old host.new) vault keeper result }
+    ensures put { form_of (map string_bytes words.now) ≡ Some Form.Put
+        → Session V.trace V.faults K.Keeper now (Puts (map string_bytes words.now) (stream_of I.rest I.faults input.old input.new) (stream_of O.written O.faults output.old output.new)) (stream_of I.rest I.faults input.old input.new) (stream_of O.written O.faults output.old output.new) vault keeper result }
+    ensures got { form_of (map string_bytes words.now) ≡ Some Form.Get
+        → Session V.trace V.faults K.Keeper now (Gets (map string_bytes words.now) (stream_of I.rest I.faults input.old input.new) (stream_of O.written O.faults output.old output.new)) (stream_of I.rest I.faults input.old input.new) (stream_of O.written O.faults output.old output.new) vault keeper result }
+    ensures checked { form_of (map string_bytes words.now) ≡ Some Form.Check
+        → RanCheck V.trace V.faults V.names K.Keeper (stream_of I.rest I.faults input.old input.new) (stream_of O.written O.faults output.old output.new) vault keeper result }
     ensures refusal { opens (form_of (map string_bytes words.now)) ≡ true → IsKeptMarked records (K.kept keeper) → IsRefusedRun K.kept (stream_of O.written O.faults output.old output.new) vault keeper result }
     ensures no_false_alarm { NoFalseAlarm (stream_of I.rest I.faults input.old input.new) (outside_of V.trace V.faults K.Keeper vault keeper) (outside_of V.trace V.faults K.Keeper result.vault result.keeper) result.status }
     ensures kept { opens (form_of (map string_bytes words.now)) ≡ true → KeepsTree (stream_of I.rest I.faults input.old input.new) (outside_of V.trace V.faults K.Keeper vault keeper) (outside_of V.trace V.faults K.Keeper result.vault result.keeper) }
@@ -81,7 +90,7 @@ pub fn run<I: Source, O: Sink, V: Vault, K: Keeper, R: Rng, F: Folder>(
     ensures faults_named { is_session (form_of (map string_bytes words.now)) ≡ false → FaultsNamed (form_of (map string_bytes words.now)) (outside_of V.trace V.faults K.Keeper vault keeper) (outside_of V.trace V.faults K.Keeper result.vault result.keeper) result.status }
     ensures stream_faults_named { StreamFaultsNamed (stream_of I.rest I.faults input.old input.new) (stream_of O.written O.faults output.old output.new) result.status }
     ensures history { (form : Form) → form_of (map string_bytes words.now) ≡ Some form → is_create (map string_bytes words.now) ≡ false
-        → (run : Run) × IsRunOf (Comes (map string_bytes words.now) (stream_of I.rest I.faults input.old input.new) (stream_of O.written O.faults output.old output.new) (host_of F.tree F.faults host.old host.new) form) (outside_of V.trace V.faults K.Keeper vault keeper) (outside_of V.trace V.faults K.Keeper result.vault result.keeper) run }
+        → (run : Run) × IsRunOf (Comes (map string_bytes words.now) (stream_of I.rest I.faults input.old input.new) (stream_of O.written O.faults output.old output.new) (host_of F.tree F.faults host.old host.new) form) (Judges (Some form) result.status) (outside_of V.trace V.faults K.Keeper vault keeper) (outside_of V.trace V.faults K.Keeper result.vault result.keeper) run }
     ensures unhosted { copies (form_of (map string_bytes words.now)) ≡ false → host.new ≡ host.old }
     ensures host_fault { result.status ≡ Status.HostFault → RoseBy 1 (F.faults host.old) (F.faults host.new) }
     ensures done { is_session (form_of (map string_bytes words.now)) ≡ true → result.status ≡ Status.Done → IsEmptied (outside_of V.trace V.faults K.Keeper result.vault result.keeper) }
@@ -109,7 +118,7 @@ pub fn run<I: Source, O: Sink, V: Vault, K: Keeper, R: Rng, F: Folder>(
 }
 
 /// Runs what the words ask for.
-fn run_form<I: Source, O: Sink, V: Vault, K: Keeper, R: Rng, F: Folder>(
+fn run_form<I: Source, O: Sink, V: Vault + Listing, K: Keeper, R: Rng, F: Folder>(
     alloc: Global,
     form: Form,
     words: &[String],
@@ -122,7 +131,7 @@ fn run_form<I: Source, O: Sink, V: Vault, K: Keeper, R: Rng, F: Folder>(
     host: &mut F,
 ) -> Ended<V, K>
     requires { IsModest form }
-    ensures does { Does V.trace V.faults K.Keeper (map string_bytes words.now) now (R.stream chance.old) (R.stream chance.new) (stream_of I.rest I.faults input.old input.new) (stream_of O.written O.faults output.old output.new) (host_of F.tree F.faults host.old host.new) vault keeper result form }
+    ensures does { Does V.trace V.faults V.names K.Keeper (map string_bytes words.now) now (R.stream chance.old) (R.stream chance.new) (stream_of I.rest I.faults input.old input.new) (stream_of O.written O.faults output.old output.new) (host_of F.tree F.faults host.old host.new) vault keeper result form }
     ensures undrawn { draws (Some form) ≡ false → R.stream chance.new ≡ R.stream chance.old }
     ensures input_grows { I.faults input.old ≤ I.faults input.new }
     ensures unhosted { copies (Some form) ≡ false → host.new ≡ host.old }
@@ -163,6 +172,9 @@ fn run_form<I: Source, O: Sink, V: Vault, K: Keeper, R: Rng, F: Folder>(
         Form::Export => export_words(
             alloc, words, now, input, output, vault, keeper, chance, host,
         ),
+        Form::Put => put_words(alloc, words, now, input, output, vault, keeper, chance),
+        Form::Get => get_words(alloc, words, now, input, output, vault, keeper, chance),
+        Form::Check => run_check(alloc, input, output, vault, keeper),
     }
 }
 
@@ -241,6 +253,56 @@ fn export_words<I: Source, O: Sink, V: Vault, K: Keeper, R: Rng, F: Folder>(
         Ok(Some(path)) => run_export(
             alloc, now, &path, host, input, output, vault, keeper, chance,
         ),
+        Ok(None) | Err(Memory) => Ended {
+            status: Status::Memory,
+            vault,
+            keeper,
+        },
+    }
+}
+
+/// A new file at the path that the words say.
+fn put_words<I: Source, O: Sink, V: Vault, K: Keeper, R: Rng>(
+    alloc: Global,
+    words: &[String],
+    now: Moment,
+    input: &mut I,
+    output: &mut O,
+    vault: V,
+    keeper: K,
+    chance: &mut R,
+) -> Ended<V, K>
+    ensures session { Session V.trace V.faults K.Keeper now (Puts (map string_bytes words.now) (stream_of I.rest I.faults input.old input.new) (stream_of O.written O.faults output.old output.new)) (stream_of I.rest I.faults input.old input.new) (stream_of O.written O.faults output.old output.new) vault keeper result }
+    ensures input_grows { I.faults input.old ≤ I.faults input.new }
+    ensures output_grows { O.faults output.old ≤ O.faults output.new }
+{
+    match copy_path(alloc, words) {
+        Ok(Some(path)) => run_put(alloc, now, path, input, output, vault, keeper, chance),
+        Ok(None) | Err(Memory) => Ended {
+            status: Status::Memory,
+            vault,
+            keeper,
+        },
+    }
+}
+
+/// The file at the path that the words say.
+fn get_words<I: Source, O: Sink, V: Vault, K: Keeper, R: Rng>(
+    alloc: Global,
+    words: &[String],
+    now: Moment,
+    input: &mut I,
+    output: &mut O,
+    vault: V,
+    keeper: K,
+    chance: &mut R,
+) -> Ended<V, K>
+    ensures session { Session V.trace V.faults K.Keeper now (Gets (map string_bytes words.now) (stream_of I.rest I.faults input.old input.new) (stream_of O.written O.faults output.old output.new)) (stream_of I.rest I.faults input.old input.new) (stream_of O.written O.faults output.old output.new) vault keeper result }
+    ensures input_grows { I.faults input.old ≤ I.faults input.new }
+    ensures output_grows { O.faults output.old ≤ O.faults output.new }
+{
+    match copy_path(alloc, words) {
+        Ok(Some(path)) => run_get(alloc, now, &path, input, output, vault, keeper, chance),
         Ok(None) | Err(Memory) => Ended {
             status: Status::Memory,
             vault,

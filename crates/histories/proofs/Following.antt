@@ -1,6 +1,6 @@
 -- Runs compose.
-use Rattle.std.proofs.Common.{◌≡◌, ◌⊎◌, ◌||◌, Bool, true, List, [], ◌∷◌, refl, sym, subst, inl, inr}
-use Rattle.std.proofs.lemmas.Bool.{or_left}
+use Rattle.std.proofs.Common.{◌≡◌, ◌⊎◌, ◌||◌, ℕ, Bool, true, false, List, [], ◌∷◌, refl, sym, subst, inl, inr}
+use Rattle.std.proofs.lemmas.Bool.{or_left, or_right}
 use Rattle.answers.specs.Sessions.{latest, violated}
 use Rattle.config_file.specs.Settings.{Settings}
 use Rattle.fs_model.specs.Tree.{Tree}
@@ -9,8 +9,8 @@ use Rattle.tree_commands.specs.Performing.{Showing}
 use Rattle.mount_core.specs.Standing.{IsKeptMarked}
 use Rattle.mount.specs.Representing.{Represents}
 use Rattle.mount.proofs.Reading.{loaded_unmarked}
-use Rattle.session_runs.specs.Runs.{Outside, OutsideStandsFor}
-use Rattle.histories.specs.Histories.{Run, session, quiet, before_of, after_of, exchanges_of, IsRun, IsUnforgedRun, GoesOnFrom, AreRuns, end_of, was_violated, IsRefusedRun, RunsFrom, Follow, EndsWith}
+use Rattle.session_runs.specs.Runs.{Outside, OutsideStandsFor, OpensTo, IsExaminedRun}
+use Rattle.histories.specs.Histories.{Run, session, quiet, examined, before_of, after_of, exchanges_of, condemns, IsRun, IsUnforgedRun, GoesOnFrom, AreRuns, end_of, was_violated, IsRefusedRun, RunsFrom, Follow, EndsWith}
 
 module _ (shows : Showing) (c : Settings) where
   pub stands_on : (last next : Outside) (tree : Tree) → GoesOnFrom last next → OutsideStandsFor shows c tree last → OutsideStandsFor shows c tree next
@@ -22,7 +22,18 @@ module _ (shows : Showing) (c : Settings) where
   -- what one more run does, and where it leaves all
   abbrev Turned : Tree → Bool → Run → Type 0
   Turned from was run = (tree : Tree) × (RunsFrom shows c from run tree ⊎ ((was ≡ true) × IsRefusedRun run))
-      × (OutsideStandsFor shows c tree (after_of run) ⊎ (((violated (exchanges_of run) || was) ≡ true) × IsKeptMarked records (after_of run).kept))
+      × (OutsideStandsFor shows c tree (after_of run) ⊎ (((condemns run || was) ≡ true) × IsKeptMarked records (after_of run).kept))
+
+  -- a check
+  examining : (password : List ℕ) (before after : Outside) (bad : Bool) (from : Tree) (was : Bool) → IsExaminedRun shows password before after bad → OpensTo shows password c from before after
+      → Turned from was (examined password before after bad)
+  examining password before after false from was run opens =
+      let kept = run.stands c from opens refl in
+      (from, inl (record { same = refl; kept = inr kept; no_false_alarm = run.calm c from opens }), inl kept)
+  examining password before after true from was run opens = elim (run.condemned c from opens refl) as (λ _. Turned from was (examined password before after true)) [
+    | inl m ↦ (from, inl (record { same = refl; kept = inl (refl, m); no_false_alarm = run.calm c from opens }), inr (refl, m))
+    | inr kept ↦ (from, inl (record { same = refl; kept = inr kept; no_false_alarm = run.calm c from opens }), inl kept)
+  ]
 
   serving : (run : Run) (from : Tree) (was : Bool) → IsRun shows run → IsUnforgedRun c run → OutsideStandsFor shows c from (before_of run) → Turned from was run
   serving (session now password before after closing es) from was run u s =
@@ -34,13 +45,25 @@ module _ (shows : Showing) (c : Settings) where
   serving (quiet password before after) from was run u s =
       let kept = run.stands c from (record { stands = s; unforged_config = u }) in
       (from, inl (refl, kept), inl kept)
+  serving (examined password before after bad) from was run u s = examining password before after bad from was run (record { stands = s; unforged_config = u })
+
+  refused : (run : Run) (from : Tree) (was : Bool) → was ≡ true → IsKeptMarked records (before_of run).kept → exchanges_of run ≡ [] → condemns run ≡ false
+      → (after_of run).kept ≡ (before_of run).kept → (after_of run).calls ≡ (before_of run).calls → Turned from was run
+  refused run from was w m unanswered uncondemned kept calls = (
+    from,
+    inr (w, record { marked = m; unanswered = unanswered; uncondemned = uncondemned; kept = kept; calls = calls }),
+    inr (or_right (condemns run) was w, subst (IsKeptMarked records) (sym kept) m),
+  )
 
   refusing : (run : Run) (from : Tree) (was : Bool) → was ≡ true → IsRun shows run → IsKeptMarked records (before_of run).kept → Turned from was run
   refusing (session now password before after closing es) from was w run m =
       absurd (loaded_unmarked before.kept run.attached.attached.state run.attached.attached.list run.attached.attached.loaded m)
   refusing (quiet password before after) from was w run m =
       let same = run.marked m in
-      (from, inr (w, record { marked = m; unanswered = refl; kept = same.0; calls = same.1 }), inr (w, subst (IsKeptMarked records) (sym same.0) m))
+      refused (quiet password before after) from was w m refl refl same.0 same.1
+  refusing (examined password before after bad) from was w run m =
+      let same = run.marked m in
+      refused (examined password before after bad) from was w m refl same.0 same.1 same.2
 
   abbrev Composed : Tree → Outside → List Run → Type 0
   Composed first start runs = (trees : List Tree) × Follow shows c first runs trees × EndsWith shows c first start runs trees

@@ -1,5 +1,5 @@
 -- Where a directory gave what was last written, nothing that opens was forged.
-use Rattle.std.proofs.Common.{◌≤◌, ℕ, List, [], ◌∷◌, inl, inr}
+use Rattle.std.proofs.Common.{◌≡◌, ◌≤◌, ◌||◌, ℕ, Bool, false, List, [], ◌∷◌, refl, sym, ap, ◌∙◌, inl, inr}
 use Rattle.answers.specs.Sessions.{latest}
 use Rattle.config_file.specs.Settings.{Settings}
 use Rattle.fs_model.specs.Tree.{Tree}
@@ -10,7 +10,8 @@ use Rattle.mount_tower.specs.Unforged.{IsOnlyConfig, IsUnforgedConfig}
 use Rattle.mount.proofs.Reading.{loaded_unmarked}
 use Rattle.mount_tower.proofs.Reading.{only_unforged}
 use Rattle.session_runs.specs.Runs.{Outside, OutsideStandsFor, lies}
-use Rattle.histories.specs.Histories.{Run, session, quiet, before_of, IsRun, IsUnforgedRun, AreRuns, end_of, OpensOrLocks, OpensOnly, IsHonestRun, AreHonestRuns}
+use Rattle.session_runs.proofs.Whole.{unviolated}
+use Rattle.histories.specs.Histories.{Run, session, quiet, examined, before_of, condemns, was_violated, IsRun, IsUnforgedRun, AreRuns, end_of, OpensOrLocks, OpensOnly, IsHonestRun, AreHonestRuns}
 use Rattle.histories.proofs.Configuration.{opened_only, locked_only, only_config}
 use Rattle.histories.proofs.Following.{stands_on, marked_on, compose}
 
@@ -26,6 +27,7 @@ config_unforged password c before after opens honest = only_unforged password be
 pub one_opens_only : (c : Settings) (run : Run) → IsHonestRun c run → OpensOnly c run
 one_opens_only c (session now password before after closing es) h = config_only password c before after h.opens h.gave
 one_opens_only c (quiet password before after) h = config_only password c before after h.opens h.gave
+one_opens_only c (examined password before after bad) h = config_only password c before after h.opens h.gave
 
 module _ (shows : Showing) (c : Settings) where
   pub one_unforged : (tree : Tree) (run : Run) → IsRun shows run → OutsideStandsFor shows c tree (before_of run) → IsHonestRun c run → IsUnforgedRun c run
@@ -33,12 +35,14 @@ module _ (shows : Showing) (c : Settings) where
       let config = config_unforged password c before after h.opens h.gave in
       (config, run.unforged c tree (record { stands = stands; unforged_config = config }) h.gave)
   one_unforged tree (quiet password before after) run stands h = config_unforged password c before after h.opens h.gave
+  one_unforged tree (examined password before after bad) run stands h = config_unforged password c before after h.opens h.gave
 
   -- no session is opened over a marked record
   marked_unforged : (run : Run) → IsRun shows run → IsKeptMarked records (before_of run).kept → IsHonestRun c run → IsUnforgedRun c run
   marked_unforged (session now password before after closing es) run m h =
       absurd (loaded_unmarked before.kept run.attached.attached.state run.attached.attached.list run.attached.attached.loaded m)
   marked_unforged (quiet password before after) run m h = config_unforged password c before after h.opens h.gave
+  marked_unforged (examined password before after bad) run m h = config_unforged password c before after h.opens h.gave
 
   pub all_unforged : (first : Tree) (start : Outside) (runs : List Run) → OutsideStandsFor shows c first start → AreHonestRuns shows c start runs → AreRuns shows c start runs
   all_unforged first start [] s all = tt
@@ -50,3 +54,32 @@ module _ (shows : Showing) (c : Settings) where
         | inr marked ↦ marked_unforged run all.0 (marked_on shows c (end_of start runs) (before_of run) all.2 marked.1) all.1
       ] in
       (all.0, unforged, all.2, before)
+
+  pub one_calm : (tree : Tree) (run : Run) → IsRun shows run → OutsideStandsFor shows c tree (before_of run) → IsHonestRun c run → condemns run ≡ false
+  one_calm tree (session now password before after closing es) run stands h =
+      let unforged = one_unforged tree (session now password before after closing es) run stands h in
+      let answers = run.founded c tree (record { opens = record { stands = stands; unforged_config = unforged.0 }; unforged = unforged.1 }) in
+      unviolated es (answers.no_false_alarm h.gave)
+  one_calm tree (quiet password before after) run stands h = refl
+  one_calm tree (examined password before after bad) run stands h =
+      run.calm c tree (record { stands = stands; unforged_config = config_unforged password c before after h.opens h.gave }) h.gave
+
+  neither : (one other : Bool) → one ≡ false → other ≡ false → (one || other) ≡ false
+  neither one other e f = ap (λ (b : Bool). b || other) e ∙ f
+
+  -- without a violation before it, what the runs left is a tree
+  left_tree : (first : Tree) (start : Outside) (run : Run) (runs : List Run) → OutsideStandsFor shows c first start → AreHonestRuns shows c start (run ∷ runs) → was_violated runs ≡ false
+      → (tree : Tree) × OutsideStandsFor shows c tree (before_of run)
+  left_tree first start run runs s all none =
+      let left = compose shows c first start runs s (all_unforged first start runs s all.3) in
+      elim left.2 as (λ _. (tree : Tree) × OutsideStandsFor shows c tree (before_of run)) [
+        | inl stands ↦ (latest first left.0, stands_on shows c (end_of start runs) (before_of run) (latest first left.0) all.2 stands)
+        | inr marked ↦ absurd (cc (sym marked.0 ∙ none))
+      ]
+
+  pub all_calm : (first : Tree) (start : Outside) (runs : List Run) → OutsideStandsFor shows c first start → AreHonestRuns shows c start runs → was_violated runs ≡ false
+  all_calm first start [] s all = refl
+  all_calm first start (run ∷ runs) s all =
+      let before = all_calm first start runs s all.3 in
+      let left = left_tree first start run runs s all before in
+      neither (condemns run) (was_violated runs) (one_calm left.0 run all.0 left.1 all.1) before

@@ -26,28 +26,39 @@ use Rattle.mount_tower.specs.declared.error.OpenError.{OpenError}
 use Rattle.mount_tower.specs.declared.error.OpenError.TheVariants.{Mismatch, NoConfig, Config as OfConfig}
 use Rattle.mount_tower.specs.Unforged.{IsOnlyConfig, IsUnforgedConfig}
 use Rattle.session_runs.specs.Causes.{AreBuilt}
-use Rattle.session_runs.specs.Runs.{Outside, OutsideStandsFor, PasswordOpens, forgeries, lies, AreCalm, IsSessionRun, IsQuietRun}
+use Rattle.session_runs.specs.Runs.{Outside, OutsideStandsFor, PasswordOpens, forgeries, lies, AreCalm, IsSessionRun, IsQuietRun, IsExaminedRun}
 
--- a run: the session of some exchanges at a moment, closed so, or one of no lines; each under a password, from the one moment outside to the other
+-- a run: the session of some exchanges at a moment, closed so, one of no lines, or a check that was bad or not; each under a password, from the one moment outside to the other
 pub data Run : Type 0 where
   session : Instant → List ℕ → Outside → Outside → Result Unit SyncError → List Exchange → Run
   quiet : List ℕ → Outside → Outside → Run
+  examined : List ℕ → Outside → Outside → Bool → Run
 
 abbrev pub before_of : Run → Outside
 before_of (session now password before after closing es) = before
 before_of (quiet password before after) = before
+before_of (examined password before after bad) = before
 
 abbrev pub after_of : Run → Outside
 after_of (session now password before after closing es) = after
 after_of (quiet password before after) = after
+after_of (examined password before after bad) = after
 
 abbrev pub exchanges_of : Run → List Exchange
 exchanges_of (session now password before after closing es) = es
 exchanges_of (quiet password before after) = []
+exchanges_of (examined password before after bad) = []
+
+-- there was a violation in it, or its check was bad
+abbrev pub condemns : Run → Bool
+condemns (session now password before after closing es) = violated es
+condemns (quiet password before after) = false
+condemns (examined password before after bad) = bad
 
 abbrev pub IsRun : Showing → Run → Type 0
 IsRun shows (session now password before after closing es) = IsSessionRun shows now password before after (violated es) closing es
 IsRun shows (quiet password before after) = IsQuietRun shows password before after
+IsRun shows (examined password before after bad) = IsExaminedRun shows password before after bad
 
 -- nothing that opens was forged from one moment to the other: under the password no configuration of this file system and key but this one, and no block's file
 abbrev pub IsUnforged : List ℕ → Settings → Outside → Outside → Type 0
@@ -62,10 +73,11 @@ pub none_forged_back : (c : Settings) (before after : Outside) → GoesOn before
     → forgeries c after ≡ forgeries c before
 none_forged_back c before after = no_rise_where_none_since (forged (opened_of c.key) c.block_size) before.calls after.calls
 
--- nothing that opens was forged in the run; one of no lines asks for no block
+-- nothing that opens was forged in the run; one of no lines asks for no block, and a check takes none of what it loads
 abbrev pub IsUnforgedRun : Settings → Run → Type 0
 IsUnforgedRun c (session now password before after closing es) = IsUnforged password c before after
 IsUnforgedRun c (quiet password before after) = IsUnforgedConfig password before.kept before.calls after.calls c
+IsUnforgedRun c (examined password before after bad) = IsUnforgedConfig password before.kept before.calls after.calls c
 
 -- where the runs left all
 abbrev pub end_of : Outside → List Run → Outside
@@ -81,10 +93,10 @@ abbrev pub AreRuns : Showing → Settings → Outside → List Run → Type 0
 AreRuns shows c start [] = Unit {0}
 AreRuns shows c start (run ∷ runs) = IsRun shows run × IsUnforgedRun c run × GoesOnFrom (end_of start runs) (before_of run) × AreRuns shows c start runs
 
--- there was a violation in one of them
+-- there was a violation in one of them, or one was a bad check
 abbrev pub was_violated : List Run → Bool
 was_violated [] = false
-was_violated (run ∷ runs) = violated (exchanges_of run) || was_violated runs
+was_violated (run ∷ runs) = condemns run || was_violated runs
 
 -- The answers are a session of the plain tree from the kept tree on. It leaves the tree of a kept point, or after a violation perhaps a marked record.
 pub record Serves (shows : Showing) (c : Settings) (from : Tree) (now : Instant) (before after : Outside) (es : List Exchange) (tree : Tree) : Type 0 where
@@ -94,15 +106,23 @@ pub record Serves (shows : Showing) (c : Settings) (from : Tree) (now : Instant)
   pub no_false_alarm : lies after ≤ lies before → AreCalm es
   pub built : AreBuilt es
 
+-- The check leaves the tree, or after a bad one perhaps a marked record.
+pub record Examines (shows : Showing) (c : Settings) (from : Tree) (before after : Outside) (bad : Bool) (tree : Tree) : Type 0 where
+  pub same : tree ≡ from
+  pub kept : ((bad ≡ true) × IsKeptMarked records after.kept) ⊎ OutsideStandsFor shows c tree after
+  pub no_false_alarm : lies after ≤ lies before → bad ≡ false
+
 -- what a run does from a kept tree on, and the tree that it leaves
 abbrev pub RunsFrom : Showing → Settings → Tree → Run → Tree → Type 0
 RunsFrom shows c from (session now password before after closing es) tree = Serves shows c from now before after es tree
 RunsFrom shows c from (quiet password before after) tree = (tree ≡ from) × OutsideStandsFor shows c tree after
+RunsFrom shows c from (examined password before after bad) tree = Examines shows c from before after bad tree
 
--- a marked record was kept: nothing is answered, kept or called
+-- a marked record was kept: nothing is answered, kept or called, and no check is bad
 pub record IsRefusedRun (run : Run) : Type 0 where
   pub marked : IsKeptMarked records (before_of run).kept
   pub unanswered : exchanges_of run ≡ []
+  pub uncondemned : condemns run ≡ false
   pub kept : (after_of run).kept ≡ (before_of run).kept
   pub calls : (after_of run).calls ≡ (before_of run).calls
 
@@ -155,6 +175,7 @@ pub record IsHonest (password : List ℕ) (c : Settings) (before after : Outside
 abbrev pub IsHonestRun : Settings → Run → Type 0
 IsHonestRun c (session now password before after closing es) = IsHonest password c before after
 IsHonestRun c (quiet password before after) = IsHonest password c before after
+IsHonestRun c (examined password before after bad) = IsHonest password c before after
 
 abbrev pub AreHonestRuns : Showing → Settings → Outside → List Run → Type 0
 AreHonestRuns shows c start [] = Unit {0}
@@ -164,6 +185,7 @@ AreHonestRuns shows c start (run ∷ runs) = IsRun shows run × IsHonestRun c ru
 abbrev pub OpensOnly : Settings → Run → Type 0
 OpensOnly c (session now password before after closing es) = IsOnlyConfig password before.kept before.calls after.calls c
 OpensOnly c (quiet password before after) = IsOnlyConfig password before.kept before.calls after.calls c
+OpensOnly c (examined password before after bad) = IsOnlyConfig password before.kept before.calls after.calls c
 
 -- so it is in an honest run
 abbrev pub HonestRunOpensOnly : Type 0
@@ -176,3 +198,11 @@ HonestRunIsUnforged shows = (c : Settings) (tree : Tree) (run : Run) → IsRun s
 -- nor in any list of them, so they are runs that compose
 abbrev pub HonestRunsCompose : Showing → Type 0
 HonestRunsCompose shows = (c : Settings) (first : Tree) (start : Outside) (runs : List Run) → OutsideStandsFor shows c first start → AreHonestRuns shows c start runs → AreRuns shows c start runs
+
+-- in an honest run from a kept tree on there is no violation, and no check is bad
+abbrev pub HonestRunIsCalm : Showing → Type 0
+HonestRunIsCalm shows = (c : Settings) (tree : Tree) (run : Run) → IsRun shows run → OutsideStandsFor shows c tree (before_of run) → IsHonestRun c run → condemns run ≡ false
+
+-- nor is there in any list of them
+abbrev pub HonestRunsAreCalm : Showing → Type 0
+HonestRunsAreCalm shows = (c : Settings) (first : Tree) (start : Outside) (runs : List Run) → OutsideStandsFor shows c first start → AreHonestRuns shows c start runs → was_violated runs ≡ false

@@ -13,6 +13,7 @@ pub record IsHonestVault (v : VaultState) : Type 0 where
   pub untampered : IsUntampered v
   pub none_listed : v.failing ≡ []
   pub none_from : v.failing_from ≡ None
+  pub none_strange : v.strange ≡ []
 
 -- no call failed, and none is made to
 pub record IsHonestKeeper (k : KeeperState) : Type 0 where

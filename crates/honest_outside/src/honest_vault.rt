@@ -5,8 +5,10 @@ ghost use Rattle.std.specs.declared.option.Option.TheVariants.{None, Some};
 ghost use Rattle.outside.specs.Causes.{GetHasCause};
 ghost use Rattle.outside.specs.Trace.{got, put as put_call, removed, adds};
 ghost use Rattle.outside.specs.View.{at_of, bytes_of};
+ghost use Rattle.memory_outside.specs.Vaults.{names_in};
 ghost use Rattle.honest_outside.specs.Honest.{IsHonestVault};
 
+use listing::{ByteLine, Listing, MAX_NAMES};
 use memory_outside::MemoryVault;
 use outside::{FileName, GetFail, Vault};
 use std::alloc::Global;
@@ -68,5 +70,17 @@ impl Vault for HonestVault {
 
     fn remove(&mut self, alloc: Global, name: &FileName) -> Result<(), GetFail> {
         self.vault.remove(alloc, name)
+    }
+}
+
+impl Listing for HonestVault {
+    ghost names = { λ v. Some (names_in v) };
+
+    /// More files than a listing gives are want of memory, since no call fails otherwise.
+    fn list(&mut self, alloc: Global) -> Result<Vec<ByteLine>, GetFail> {
+        if self.vault.files().len() > MAX_NAMES {
+            return Err(GetFail::Memory);
+        }
+        self.vault.list(alloc)
     }
 }

@@ -4,3 +4,4 @@ pub mod Flow
 pub mod Newlines
 pub mod Pieces
 pub mod Progress
+pub mod Bytes

@@ -201,4 +201,49 @@ impl LineReader {
         }
         Ok(!is_empty)
     }
+
+    /// Moves bytes that were read ahead to the front of the piece, as many as it has room for. How many.
+    fn move_ahead(&mut self, piece: &mut [u8]) -> usize
+        ensures bound { result ≤ length piece.new }
+        ensures moved { self.old.ahead ≡ take result piece.new ++ self.new.ahead }
+        ensures some { 0 < length self.old.ahead → 0 < length piece.new → 0 < result }
+        ensures line { self.new.line ≡ self.old.line }
+        ensures taken { self.new.taken ≡ self.old.taken }
+        ensures ended { self.new.ended ≡ self.old.ended }
+    {
+        let n = (self.end - self.start).min(piece.len());
+        piece[..n].copy_from_slice(&self.block[self.start..self.start + n]);
+        self.start += n;
+        n
+    }
+
+    /// Reads the bytes behind the lines that were taken into the piece, as far as it has room and the input goes. How
+    /// many. The input is that of the calls before, and isn't read after its end. After an Err a part of them is gone.
+    pub fn read_bytes<I: Source>(
+        &mut self,
+        input: &mut I,
+        piece: &mut [u8],
+    ) -> Result<usize, Failed>
+        requires { self.old.ended ≡ true → Ends (coming self.old.ahead (I.rest input.old)) }
+        ensures line { self.new.line ≡ self.old.line }
+        ensures bound { IfOk result (λ n. n ≤ length piece.new) }
+        ensures read { IfOk result (λ n. WereTaken (coming self.old.ahead (I.rest input.old)) (coming self.new.ahead (I.rest input.new)) (take n piece.new)) }
+        ensures short { IfOk result (λ n. n < length piece.new → Ends (coming self.new.ahead (I.rest input.new))) }
+        ensures gone { OnErr result ((part : List ℕ) × WereTaken (coming self.old.ahead (I.rest input.old)) (coming self.new.ahead (I.rest input.new)) part) }
+        ensures ended { IfOk result (λ n. self.new.ended ≡ true → Ends (coming self.new.ahead (I.rest input.new))) }
+        ensures after_end { self.old.ended ≡ true → input.new ≡ input.old }
+        ensures counted { total self.new.taken (I.rest input.new) ≡ total self.old.taken (I.rest input.old) }
+        ensures grows { I.faults input.old ≤ I.faults input.new }
+        ensures cause { OnErr result (RoseBy 1 (I.faults input.old) (I.faults input.new) ⊎ (self.new.taken ≡ 2 ^ 63)) }
+        ensures quiet { OnOk result (I.faults input.new ≡ I.faults input.old) }
+    {
+        let mut len = 0;
+        while len < piece.len() {
+            if !self.look_ahead(input)? {
+                return Ok(len);
+            }
+            len += self.move_ahead(&mut piece[len..]);
+        }
+        Ok(len)
+    }
 }

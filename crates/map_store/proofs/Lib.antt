@@ -1,3 +1,4 @@
 mod Put
 mod Crowds
 mod Changing
+mod Living

@@ -1,13 +1,16 @@
 -- A store of rows: an id with its payload, or with none once it was removed. So the used ids are those of the rows.
-use Rattle.std.specs.Prelude.{◌≡◌, ◌≤◌, ◌+◌, ◌^◌, ℕ, true, false, List, length, is_some, Option, Some, None, refl}
+use Rattle.std.specs.Prelude.{◌≡◌, ◌≤◌, ◌+◌, ◌^◌, ℕ, true, false, List, T, length, map, filter, is_some, Option, Some, None, refl}
 use Rattle.std.proofs.Common.{sym, ◌∙◌, ap, arith}
 use Rattle.std.specs.FinMap as fin
-use Rattle.std.specs.FinMap.{contains_key-keys}
+use Rattle.std.specs.FinMap.{contains_key-keys, is_sorted}
 use Rattle.block_id.specs.Fresh.{zero_id}
+use Rattle.block_id.specs.declared.id.BlockId.{BlockId}
+use Rattle.block_batch.specs.declared.batch.BatchChange.{BatchChange}
+use Rattle.block_batch.specs.Entries.{change_view}
 use Rattle.block_id.specs.declared.sizes.TheConstants.{MIN_PAYLOAD, MAX_BLOCK}
 use Rattle.outcome.specs.Meanings.{Meanings, Lawful}
 use Rattle.outcome.specs.InMemory.{in_memory, in_memory_lawful}
-use Rattle.store_api.specs.Content.{Id, Content, Changes, or_else}
+use Rattle.store_api.specs.Content.{Id, Content, Changes, id_cmp, or_else}
 use Rattle.store_api.specs.Loads.{LoadAnswer, GivesPayload}
 use Rattle.store_api.specs.Holdings.{Holdings, Steady, Stays, has_id}
 
@@ -29,6 +32,18 @@ newer (Some change) row = Some change
 -- these rows are the old ones with the changes
 abbrev pub AreWith : Changes → Changes → Changes → Type 0
 AreWith changes old new = (id : Id) → fin.get new id ≡ newer (fin.get changes id) (fin.get old id)
+
+-- the ids of the entries that have a payload
+abbrev pub living_in : List (BlockId × BatchChange) → List BlockId
+living_in entries = map (λ e. e.0) (filter (λ e. is_some (change_view e.1)) entries)
+
+-- the ids strictly rise
+abbrev pub AreRising : List BlockId → Type 0
+AreRising ids = T (is_sorted {X = ℕ} id_cmp (map (λ id. (id.0, 0)) ids))
+
+-- the ids are those in the content
+abbrev pub AreLiving : Changes → List BlockId → Type 0
+AreLiving rows ids = (id : Id) → has_id (map (λ x. x.0) ids) id ≡ is_some (content_of rows id)
 
 -- p is the length of each payload, and r are the rows
 abbrev pub meanings_of : {S : Type 0} → (S → ℕ) → (S → Changes) → Meanings S

@@ -1,10 +1,10 @@
 // Rows of a store: an id with its payload, or with none once it was removed.
-ghost use Rattle.std.specs.Prelude.{◌≡◌, OnOk, IfOk};
+ghost use Rattle.std.specs.Prelude.{◌≡◌, OnOk, IfOk, is_some};
 ghost use Rattle.std.specs.FinMap as fin;
 ghost use Rattle.block_id.specs.Fresh.{IsFirstFree};
 ghost use Rattle.block_batch.specs.Entries.{change_view, entries_of};
 ghost use Rattle.store_api.specs.Holdings.{IsFew, is_free};
-ghost use Rattle.map_store.specs.Rows.{AreWith};
+ghost use Rattle.map_store.specs.Rows.{AreWith, living_in};
 ghost use Rattle.map_store.specs.Setting.{put_all};
 
 use block_id::{BlockId, Memory};
@@ -72,5 +72,30 @@ pub(crate) fn first_free(rows: &Batch, drawn: BlockId) -> BlockId
             return id;
         }
         id = id.next();
+    }
+}
+
+/// The ids of these entries that have a payload.
+pub(crate) fn living(
+    alloc: Global,
+    entries: &[(BlockId, BatchChange)],
+) -> Result<Vec<BlockId>, Memory>
+    ensures { IfOk result (λ ids. ids.items ≡ living_in entries.now) }
+{
+    let mut ids = Vec::new(alloc);
+    for entry in entries {
+        if is_payload(&entry.1) {
+            ids.push(entry.0)?;
+        }
+    }
+    Ok(ids)
+}
+
+fn is_payload(change: &BatchChange) -> bool
+    ensures { result ≡ is_some (change_view change.now) }
+{
+    match change {
+        BatchChange::Payload(_) => true,
+        BatchChange::Removal => false,
     }
 }

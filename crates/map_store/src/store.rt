@@ -1,11 +1,11 @@
 // A store of blocks in memory.
-ghost use Rattle.std.specs.Prelude.{◌≡◌, ◌≤◌};
+ghost use Rattle.std.specs.Prelude.{◌≡◌, ◌≤◌, IfOk};
 ghost use Rattle.std.specs.FinMap as fin;
 ghost use Rattle.block_id.specs.declared.sizes.TheConstants.{MIN_PAYLOAD, MAX_BLOCK};
-ghost use Rattle.map_store.specs.Rows.{meanings_of, holdings_of, loads_of, applied_of, lawful_of, steady_of, settled_of};
+ghost use Rattle.map_store.specs.Rows.{meanings_of, holdings_of, loads_of, applied_of, lawful_of, steady_of, settled_of, AreRising, AreLiving};
 
-use crate::rows::{changed, first_free};
-use block_id::{BlockId, Fail};
+use crate::rows::{changed, first_free, living};
+use block_id::{BlockId, Fail, Memory};
 use rand_core::Rng;
 use std::alloc::Global;
 use store_api::{ApplyError, Batch, BatchChange, Blocks, BlocksMut};
@@ -30,6 +30,14 @@ impl MapStore {
             payload,
             rows: Batch::new(alloc),
         }
+    }
+
+    /// The ids in the content, by increasing bytes.
+    pub fn live_ids(&self, alloc: Global) -> Result<Vec<BlockId>, Memory>
+        ensures order { IfOk result (λ ids. AreRising ids.items) }
+        ensures all { IfOk result (λ ids. AreLiving self.now.rows ids.items) }
+    {
+        living(alloc, self.rows.entries())
     }
 }
 

@@ -1,5 +1,5 @@
 -- A directory in memory whose answers and files nobody replaced stays so, and is honest.
-use Rattle.std.proofs.Common.{◌≡◌, inl, inr, ℕ, ◌+◌, Bool, true, false, not, ◌||◌, cond, List, [], ◌∷◌, ◌++◌, map, reverse, refl, sym, ◌∙◌, ap, subst, arith}
+use Rattle.std.proofs.Common.{◌≡◌, inl, inr, ℕ, ◌+◌, Bool, true, false, not, ◌||◌, cond, List, [], ◌∷◌, ◌++◌, map, reverse, ◌≤◌, Err, refl, sym, ◌∙◌, ap, subst, arith}
 use Rattle.std.specs.Prelude.{unwrap_or, option_and_then}
 use Rattle.std.specs.Ordering.{is_eq, eq_by_cmp}
 use Rattle.std.proofs.lemmas.Slice.Eq.{bytes_eq-Decides}
@@ -12,6 +12,7 @@ use Rattle.std.specs.Prelude.{filter}
 use Rattle.block_id.proofs.Orders.{eq_reverse}
 use Rattle.outside.specs.declared.vault.GetFail.{GetFail}
 use Rattle.outside.specs.declared.vault.GetFail.TheVariants.{Memory, Failed}
+use Rattle.outside.specs.Causes.{GetHasCause, one_more}
 use Rattle.outside.specs.declared.change.FileName.{FileName}
 use Rattle.outside.specs.declared.change.Pending.{Pending}
 use Rattle.outside.specs.View.{at_of, pending_of, list_of}
@@ -21,7 +22,7 @@ use Rattle.outside.specs.Names.{same_at, at_cmp}
 use Rattle.outside.specs.NameLaws.{same_ties, at_total, at_exact}
 use Rattle.outside.specs.Changes.{FileChanges, change_at, set_change, cut}
 use Rattle.outside.specs.Honest.{LastChange, last_change, same_answer, is_left, lies}
-use Rattle.memory_outside.specs.Vaults.{VaultState, answer_at, file_at, given, without, after_get, after_change, after_failed_change, IsLeftBy, IsUntampered}
+use Rattle.memory_outside.specs.Vaults.{VaultState, answer_at, file_at, given, without, after_get, after_change, after_failed_change, after_failed_list, IsLeftBy, IsUntampered}
 
 flips : (a b : At) → same_at a b ≡ eq_by_cmp at_cmp b a
 flips a b = same_ties a b ∙ ap is_eq (at_total.antisymm a b) ∙ eq_reverse (at_cmp b a)
@@ -66,6 +67,9 @@ plain_same v w e p = record {
   files_left = λ name. subst (λ t. IsLeftBy (last_change name t) (file_at name w.files)) (sym e.trace)
       (subst (λ f. IsLeftBy (last_change name v.trace) (file_at name f)) (sym e.files) (p.files_left name));
 }
+
+memory_isnt_failed : Memory ≡ Failed → ⊥
+memory_isnt_failed h = cc
 
 pub plain_got : (v : VaultState) (n : At) (max : ℕ) (answer : Option (List ℕ)) → IsUntampered v → IsUntampered (after_get v (got n max answer))
 plain_got v n max answer p = record { none_replaced = p.none_replaced; files_left = p.files_left }
@@ -139,3 +143,12 @@ list_without name (p ∷ ps) =
       | true ↦ list_without name ps
       | false ↦ ap (λ t. pending_of p ∷ t) (list_without name ps)
     ]
+
+-- a listing that fails counts a fault
+pub failed_has_cause : {T : Type 0} (v w : VaultState) (fail : GetFail) → fail ≡ Failed → w ≡ after_failed_list v → v.faults ≤ w.faults → GetHasCause {T = T} v.faults w.faults (Err fail)
+failed_has_cause v w Failed is after grows = record {
+  grows = grows;
+  failed = λ _. subst (λ (n : ℕ). one_more v.faults ≤ n) (sym (ap (λ x. x.faults) after)) (omega arith);
+  quiet = tt;
+}
+failed_has_cause v w Memory is after grows = absurd (memory_isnt_failed is)

@@ -7,6 +7,7 @@ use Rattle.outside.specs.Trace.{At, Call}
 use Rattle.outside.specs.Causes.{one_more}
 use Rattle.outside.specs.Names.{same_at}
 use Rattle.outside.specs.Changes.{FileChanges, change_at}
+use Rattle.memory_outside.specs.FileNames.{all_names}
 use Rattle.outside.specs.Honest.{LastChange, last_change}
 
 pub record VaultState : Type 0 where
@@ -22,6 +23,8 @@ pub record VaultState : Type 0 where
   pub failing : List ℕ
   pub failing_from : Option ℕ
   pub answers : List (ℕ × Option (List ℕ))
+  -- the names of strange files
+  pub strange : List (List ℕ)
 
 -- the number is one of these
 abbrev pub is_listed : List ℕ → ℕ → Bool
@@ -40,7 +43,11 @@ answer_at (answer ∷ answers) number = if answer.0 == number then Some answer.1
 abbrev pub file_at : At → FileChanges → Option (List ℕ)
 file_at name files = option_and_then (λ change. change) (change_at name files)
 
--- whether the next call is made to fail, as a get, or as a put or removal
+-- the names of its files and the strange ones, by increasing bytes and each once
+abbrev pub names_in : VaultState → List (List ℕ)
+names_in v = all_names v.files v.strange
+
+-- whether the next call is made to fail, as a get or a listing, or as a put or removal
 abbrev pub get_fails : VaultState → Bool
 get_fails v = is_listed v.failing (one_more v.calls)
 
@@ -66,6 +73,13 @@ after_change v call files = record v { trace = call ∷ v.trace; files = files; 
 
 abbrev pub after_failed_change : VaultState → Call → VaultState
 after_failed_change v call = record v { trace = call ∷ v.trace; faults = one_more v.faults; calls = one_more v.calls; changes = one_more v.changes }
+
+-- after a listing, which is neither a get nor a change
+abbrev pub after_list : VaultState → VaultState
+after_list v = record v { calls = one_more v.calls }
+
+abbrev pub after_failed_list : VaultState → VaultState
+after_failed_list v = record v { faults = one_more v.faults; calls = one_more v.calls }
 
 -- after a setting
 abbrev pub restarted : VaultState → VaultState

@@ -2,6 +2,7 @@
 #![tactic(auto)]
 
 mod event;
+mod file_names;
 mod memory_keeper;
 mod memory_sink;
 mod memory_source;

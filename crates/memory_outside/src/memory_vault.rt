@@ -1,16 +1,18 @@
 // A directory in memory, which tells its trace.
-ghost use Rattle.std.specs.Prelude.{◌≡◌, ◌⊎◌, ◌≤◌, ◌<◌, ℕ, List, [], map, reverse, length, true, false, IfOk, IfSome, IfNone, OnOk, OnErr, IsErrOf};
+ghost use Rattle.std.specs.Prelude.{◌≡◌, ◌⊎◌, ◌≤◌, ◌<◌, ℕ, List, [], map, reverse, length, vec_len, true, false, IfOk, IfSome, IfNone, OnOk, OnErr, IsErrOf};
 ghost use Rattle.std.specs.declared.option.Option.{Option};
 ghost use Rattle.std.specs.declared.option.Option.TheVariants.{None, Some};
 ghost use Rattle.outside.specs.Causes.{GetHasCause, one_more};
 ghost use Rattle.outside.specs.Trace.{got, put as put_call, removed, adds};
 ghost use Rattle.outside.specs.Changes.{change_at, set_change, cut};
 ghost use Rattle.outside.specs.Honest.{lies};
-ghost use Rattle.memory_outside.specs.Vaults.{is_listed, is_from, answer_at, get_fails, change_fails, given, without, after_get, after_failed_get, after_change, after_failed_change, restarted, IsUntampered};
+ghost use Rattle.memory_outside.specs.Vaults.{is_listed, is_from, answer_at, get_fails, change_fails, given, without, after_get, after_failed_get, after_change, after_failed_change, restarted, names_in, after_list, after_failed_list, IsUntampered};
 ghost use Rattle.outside.specs.View.{at_of, bytes_of, list_of};
 ghost use Rattle.memory_outside.specs.View.{call_of, answers_of};
 
 use crate::Event;
+use crate::file_names::names;
+use listing::{ByteLine, Listing, MAX_NAMES};
 use outside::{Change, FileName, GetFail, Memory, Pending, Vault};
 use std::alloc::{AllocError, Global};
 use std::marker::Model;
@@ -27,6 +29,7 @@ pub struct MemoryVault {
     failing: Vec<u64>,
     failing_from: Option<u64>,
     answers: Vec<(u64, Option<Vec<u8>>)>,
+    strange: Vec<ByteLine>,
 }
 
 impl Model for MemoryVault {
@@ -47,6 +50,7 @@ impl Model for MemoryVault {
       failing = v.failing.items;
       failing_from = v.failing_from;
       answers = answers_of v.answers.items;
+      strange = v.strange.items;
     } };
 }
 
@@ -103,6 +107,7 @@ impl MemoryVault {
         ensures faults { result.faults ≡ 0 }
         ensures counts { (result.calls ≡ 0) × (result.gets ≡ 0) × (result.changes ≡ 0) }
         ensures settings { (result.failing ≡ []) × (result.failing_from ≡ None) × (result.answers ≡ []) }
+        ensures strange { result.strange ≡ [] }
         ensures plain { IsUntampered result }
     {
         MemoryVault {
@@ -115,6 +120,7 @@ impl MemoryVault {
             failing: Vec::new(alloc),
             failing_from: None,
             answers: Vec::new(alloc),
+            strange: Vec::new(alloc),
         }
     }
 
@@ -157,6 +163,15 @@ impl MemoryVault {
         ensures { self.new ≡ record (restarted self.old) { files = list_of files.items } }
     {
         self.files = files;
+        self.restart();
+    }
+
+    /// Puts names of strange files beside those of its own, in place of the strange ones that it had.
+    pub fn set_strangers(&mut self, names: Vec<ByteLine>)
+        ensures set { self.new ≡ record (restarted self.old) { strange = names.items } }
+        ensures plain { IsUntampered self.old → IsUntampered self.new }
+    {
+        self.strange = names;
         self.restart();
     }
 
@@ -231,6 +246,17 @@ impl MemoryVault {
         self.calls = self.calls.saturating_add(1);
         self.changes = self.changes.saturating_add(1);
         Ok(())
+    }
+
+    /// A listing that fails.
+    fn fail_list(&mut self) -> GetFail
+        ensures failed { result ≡ GetFail.Failed }
+        ensures after { self.new ≡ after_failed_list self.old }
+        ensures grows { self.old.faults ≤ self.new.faults }
+    {
+        self.faults = self.faults.saturating_add(1);
+        self.calls = self.calls.saturating_add(1);
+        GetFail::Failed
     }
 
     /// Tells a put or a removal that is made to fail, and says how it fails.
@@ -357,5 +383,34 @@ impl Vault for MemoryVault {
             }
             Err(_) => Err(GetFail::Memory),
         }
+    }
+}
+
+impl Listing for MemoryVault {
+    ghost names = { λ v. Some (names_in v) };
+
+    fn list(&mut self, alloc: Global) -> Result<Vec<ByteLine>, GetFail>
+        ensures ok { IfOk result (λ lines. lines.items ≡ names_in self.old) }
+        ensures few { IfOk result (λ lines. vec_len lines ≤ MAX_NAMES) }
+        ensures names { Some (names_in self.new) ≡ Some (names_in self.old) }
+        ensures trace { Some self.new.trace ≡ Some self.old.trace }
+        ensures cause { GetHasCause self.old.faults self.new.faults result }
+
+        ensures after { OnOk result (self.new ≡ after_list self.old) }
+        ensures ok_where_not_listed { OnOk result (get_fails self.old ≡ false) }
+        ensures failed { IsErrOf result GetFail.Failed → self.new ≡ after_failed_list self.old }
+        ensures failed_where_listed_or_many { IsErrOf result GetFail.Failed → (get_fails self.old ≡ true) ⊎ (MAX_NAMES < length (names_in self.old)) }
+        ensures memory { IsErrOf result GetFail.Memory → (get_fails self.old ≡ false) × (self.new ≡ self.old) }
+        ensures plain { IsUntampered self.old → IsUntampered self.new }
+    {
+        if contains(&self.failing, self.calls.saturating_add(1)) {
+            return Err(self.fail_list());
+        }
+        let lines = names(alloc, &self.files, &self.strange)?;
+        if lines.len() > MAX_NAMES {
+            return Err(self.fail_list());
+        }
+        self.calls = self.calls.saturating_add(1);
+        Ok(lines)
     }
 }

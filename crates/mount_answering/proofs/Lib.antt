@@ -1,5 +1,5 @@
 mod Synced
-mod Lines
+pub mod Lines
 mod Asking
 mod Versions
 mod Loads

@@ -26,8 +26,8 @@ use tree_commands::perform;
 /// The place of a record's mark.
 const MARK_PLACE: usize = 19;
 
-/// Marks the last record, and has it kept.
-fn mark<S: Durable, K: Keeper>(core: &mut Core<S, K>)
+/// Marks the last record, and has it kept. Later commands are refused, and closing leaves all as it is.
+pub fn mark<S: Durable, K: Keeper>(core: &mut Core<S, K>)
     requires ready { Ready (world S.meanings S.holdings S.durables S.records K.Keeper) core.old }
     ensures ready { Ready (world S.meanings S.holdings S.durables S.records K.Keeper) core.new }
     ensures store { core.new.blobs.tx ≡ core.old.blobs.tx }

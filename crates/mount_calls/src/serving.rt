@@ -10,11 +10,12 @@ ghost use Rattle.mount_tower.specs.Making.{sealed_file};
 ghost use Rattle.mount.specs.Answering.{MountAnswers};
 ghost use Rattle.mount.specs.Mounts.{IsReady};
 ghost use Rattle.mount.specs.Serving.{MountMoves, MountSyncs, ChangesPassword, MountLeaves, MountCloses};
+ghost use Rattle.mount_calls.specs.Condemning.{Condemns};
 
 use answers::Answer;
 use fs_model::{Command, Moment};
 use mount::Mount;
-use mount_answering::replace_config;
+use mount_answering::{mark, replace_config};
 use mount_tower::{SealDraws, into_vault, seal_file};
 use outside::{Keeper, Vault};
 use rand_core::Rng;
@@ -76,6 +77,14 @@ pub fn change_password<V: Vault, K: Keeper, R: Rng>(
         return Err(SyncError::Memory);
     };
     replace_config(alloc, &mut mount.core, file)
+}
+
+/// Marks the last record and has it kept, as after a violation: later commands are refused, and closing leaves all as it is.
+pub fn condemn<V: Vault, K: Keeper>(mount: &mut Mount<V, K>)
+    requires { IsReady V.trace V.faults K.Keeper mount.old }
+    ensures { Condemns V.trace V.faults K.Keeper mount.old mount.new }
+{
+    mark(&mut mount.core)
 }
 
 /// Ends the session: syncs, or leaves all as it is where there was a violation.

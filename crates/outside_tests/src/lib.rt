@@ -7,6 +7,7 @@ mod expected;
 #[cfg(test)]
 mod folders;
 pub mod keeper_promises;
+pub mod listing_promises;
 #[cfg(test)]
 mod memory_keeper;
 #[cfg(test)]

@@ -5,6 +5,7 @@ use crate::keeper_promises::{
     keeps_room_for_its_longest_record, loads_nothing_at_first, loads_what_was_saved,
     replaces_by_a_second_save,
 };
+use crate::listing_promises::lists_what_is_there;
 use crate::vault_promises::{
     follows_a_map, gets_what_was_put, gives_at_most_what_is_asked_for,
     gives_none_for_a_missing_name, keeps_names_apart, removes_a_name_once_or_more,
@@ -50,6 +51,21 @@ fn a_directory_in_a_folder_keeps_all_promises(rt: HostRuntime) -> Result<(), Fai
     let run = FolderRun::new(rt.alloc(), 1)?;
     let mut vault = FolderVault::new(rt, folder.as_str(), &run, CallLog::new());
     directory_keeps_all(rt.alloc(), &mut vault)?;
+    fs::remove_dir_all(&rt, folder.as_str())?;
+    Ok(())
+}
+
+#[test]
+fn a_directory_in_memory_lists_what_is_there(rt: HostRuntime) -> Result<(), Fail> {
+    lists_what_is_there(rt.alloc(), &mut MemoryVault::new(rt.alloc()))
+}
+
+#[test]
+fn a_directory_in_a_folder_lists_what_is_there(rt: HostRuntime) -> Result<(), Fail> {
+    let folder = fresh_folder(&rt, "listed")?;
+    let run = FolderRun::new(rt.alloc(), 1)?;
+    let mut vault = FolderVault::new(rt, folder.as_str(), &run, CallLog::new());
+    lists_what_is_there(rt.alloc(), &mut vault)?;
     fs::remove_dir_all(&rt, folder.as_str())?;
     Ok(())
 }

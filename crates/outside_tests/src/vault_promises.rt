@@ -35,7 +35,7 @@ fn block(front: [u8; 2], last: u8) -> FileName
 }
 
 /// The configuration, a block, and blocks of which each differs from that one in one place of its name.
-fn names() -> [FileName; 6]
+pub(crate) fn names() -> [FileName; 6]
     ensures { result ≡ six_names }
 {
     [

@@ -112,12 +112,16 @@ impl Inputs {
         RealHost::new(rt, &self.folder, &self.blocks, &self.state)
     }
 
-    /// The block folder, after the calls of this log.
+    /// The block folder, after the calls of this log. For a check it tells how many blocks were read, where standard error is a terminal.
     pub fn vault(&self, rt: &HostRuntime, log: CallLog) -> FolderVault<'_, HostRuntime>
         ensures calls { result.calls ≡ calls_of log.events }
         ensures none { result.faults ≡ 0 }
     {
-        FolderVault::new(*rt, &self.blocks, &self.folders, log)
+        let mut vault = FolderVault::new(*rt, &self.blocks, &self.folders, log);
+        if is_check(&self.words) {
+            vault.watch(*rt);
+        }
+        vault
     }
 
     /// The record in the state folder, whose file is read only where the words need it.
@@ -129,6 +133,14 @@ impl Inputs {
         } else {
             FolderKeeper::unread(rt.alloc(), *rt, &self.state, &self.folders)
         }
+    }
+}
+
+/// Whether the words ask for a check.
+fn is_check(words: &[String]) -> bool {
+    match words {
+        [word] => word.as_str() == "check",
+        _ => false,
     }
 }
 

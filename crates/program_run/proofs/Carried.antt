@@ -6,8 +6,8 @@ use Rattle.outside.specs.declared.keeper.Keeper.{Ghosts as KeeperGhosts}
 use Rattle.run_histories.specs.Calls.{RunCall, IsRunCall}
 use Rattle.session_runs.specs.Runs.{Outside}
 
-pub carried : {V : Type 0} {K : Type 0} (trace : V → Option (List Call)) (faults : V → ℕ) (G : KeeperGhosts K) (call : RunCall) (words : List (List ℕ)) (before : Outside) → call.words ≡ words → call.before ≡ before
-    → IsRunCall trace faults G call → IsRunCall trace faults G (record call { words = words; before = before })
-carried trace faults G call words before is begins h =
-    subst (λ (ws : List (List ℕ)). IsRunCall trace faults G (record call { words = ws; before = before })) is
-    (subst (λ (o : Outside). IsRunCall trace faults G (record call { before = o })) begins h)
+pub carried : {V : Type 0} {K : Type 0} (trace : V → Option (List Call)) (faults : V → ℕ) (names : V → Option (List (List ℕ))) (G : KeeperGhosts K) (call : RunCall) (words : List (List ℕ)) (before : Outside) → call.words ≡ words → call.before ≡ before
+    → IsRunCall trace faults names G call → IsRunCall trace faults names G (record call { words = words; before = before })
+carried trace faults names G call words before is begins h =
+    subst (λ (ws : List (List ℕ)). IsRunCall trace faults names G (record call { words = ws; before = before })) is
+    (subst (λ (o : Outside). IsRunCall trace faults names G (record call { before = o })) begins h)

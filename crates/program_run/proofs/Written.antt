@@ -22,7 +22,7 @@ use Rattle.session_lines.specs.declared.end.End.TheVariants.{Finished, InputFaul
 use Rattle.session_runs.specs.Runs.{Outside, outside_of, IsFounded}
 use Rattle.shell_sessions.specs.Sessions.{Session, IsServed, ComesShell, ComesCommand}
 use Rattle.shell_words.specs.declared.form.Form.{Form}
-use Rattle.shell_words.specs.declared.form.Form.TheVariants.{Trial, TrialGenerate, Create, Info, Passwd, Shell, Generate, Command, Import, Export}
+use Rattle.shell_words.specs.declared.form.Form.TheVariants.{Trial, TrialGenerate, Create, Info, Passwd, Shell, Generate, Command, Import, Export, Put, Get, Check}
 use Rattle.shell_words.specs.Forms.{form_of, joined}
 use Rattle.tree_commands.specs.Showing.{ShowsFiles}
 use Rattle.program_run.specs.Program.{told, program_call}
@@ -49,7 +49,7 @@ cut_last old new (e ∷ es) cut =
     let part = part_of (old ++ said_in es) new (text_of_answer e.answer) cut in
     (part.0, sym (append_assoc old (said_in es) (text_of_answer e.answer)) ∙ part.1)
 
-module _ {V : Type 0} {K : Type 0} (trace : V → Option (List Call)) (faults : V → ℕ) (G : KeeperGhosts K) (words : List (List ℕ)) (now : Instant) (chance left : Chance) (input : Stream) (old new : List ℕ) (f r : ℕ) (host : HostSeen) (before after : Outside) (status : Status) where
+module _ {V : Type 0} {K : Type 0} (trace : V → Option (List Call)) (faults : V → ℕ) (names : V → Option (List (List ℕ))) (G : KeeperGhosts K) (words : List (List ℕ)) (now : Instant) (chance left : Chance) (input : Stream) (old new : List ℕ) (f r : ℕ) (host : HostSeen) (before after : Outside) (status : Status) where
   abbrev Output : Stream
   Output = told old new f r
 
@@ -81,7 +81,7 @@ module _ {V : Type 0} {K : Type 0} (trace : V → Option (List Call)) (faults : 
     session Came tells (inr (password, script, has, inl ((error, u), unfailed, unwritten))) = nothing unwritten
     session Came tells (inr (password, script, has, inr s)) = served (Came script) (tells script) password s
 
-    did : (asked : Option Form) → answers_lines asked ≡ true → Did trace faults G Ran vault keeper ended asked → WroteSession now first old new
+    did : (asked : Option Form) → answers_lines asked ≡ true → Did trace faults names G Ran vault keeper ended asked → WroteSession now first old new
     did None e d = absurd (cc)
     did (Some Trial) e d = absurd (cc)
     did (Some (TrialGenerate count)) e d = absurd (cc)
@@ -93,8 +93,11 @@ module _ {V : Type 0} {K : Type 0} (trace : V → Option (List Call)) (faults : 
     did (Some Command) e d = session (ComesCommand (joined words) input Output) (command_told (joined words)) d
     did (Some Import) e d = absurd (cc)
     did (Some Export) e d = absurd (cc)
+    did (Some Put) e d = absurd (cc)
+    did (Some Get) e d = absurd (cc)
+    did (Some Check) e d = absurd (cc)
 
-  pub wrote : IsRunCall trace faults G Ran → WritesSession words now before after old new
+  pub wrote : IsRunCall trace faults names G Ran → WritesSession words now before after old new
   wrote h asked c first founded =
       let within = λ (password : List ℕ). subst (λ (o : Outside). IsFounded ShowsFiles password c first o (outside_of trace faults G h.ended.vault h.ended.keeper)) h.begins
       (subst (λ (o : Outside). IsFounded ShowsFiles password c first before o) h.ends (founded password)) in

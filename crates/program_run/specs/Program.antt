@@ -14,12 +14,15 @@ use Rattle.run_status.specs.declared.status.Status.{Status}
 use Rattle.run_histories.specs.Calls.{RunCall}
 use Rattle.session_runs.specs.Runs.{Outside}
 
--- the calls that a block directory tells, its faults, and what is seen of a local record
+-- the calls that a block directory tells, its faults, its names, of which it tells none, and what is seen of a local record
 abbrev pub folder_calls : FolderVaultState → Option (List Call)
 folder_calls v = Some v.calls
 
 abbrev pub folder_faults : FolderVaultState → ℕ
 folder_faults v = v.faults
+
+abbrev pub folder_names : FolderVaultState → Option (List (List ℕ))
+folder_names v = None
 
 abbrev pub folder_record : KeeperGhosts FolderKeeperState
 folder_record = record { kept = λ k. k.kept; room = λ k. k.room; faults = λ k. k.faults }

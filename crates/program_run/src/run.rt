@@ -7,7 +7,7 @@ ghost use Rattle.real_streams.specs.Adapters.{source_faults, sink_faults, writte
 ghost use Rattle.run_histories.specs.Calls.{IsRunCall};
 ghost use Rattle.run_histories.specs.Lists.{AreRunCalls};
 ghost use Rattle.program_run.specs.Written.{WritesSession};
-ghost use Rattle.program_run.specs.Program.{folder_calls, folder_faults, folder_record, at_first, at_last, untold, told, program_call};
+ghost use Rattle.program_run.specs.Program.{folder_calls, folder_faults, folder_names, folder_record, at_first, at_last, untold, told, program_call};
 
 use call_log::CallLog;
 use host_folder::Folder;
@@ -32,11 +32,11 @@ pub fn run_program<'a, I: Read, O: Write, R: Rng, F: Folder>(
     log: CallLog,
     host: &mut F,
 ) -> Ended<FolderVault<'a, HostRuntime>, FolderKeeper<'a, HostRuntime>>
-    ensures call { IsRunCall folder_calls folder_faults folder_record (program_call (map string_bytes inputs.entry.now.words.items) inputs.entry.now.now
+    ensures call { IsRunCall folder_calls folder_faults folder_names folder_record (program_call (map string_bytes inputs.entry.now.words.items) inputs.entry.now.now
         (R.stream chance.old) (R.stream chance.new) (untold (source_faults input.old) (source_faults input.new))
         (told (written_by output.old) (written_by output.new) (sink_faults output.old) (sink_faults output.new)) (host_of F.tree F.faults host.old host.new)
         (at_first (calls_of log.events) keeper.entry) (at_last result) result.status) }
-    ensures listed { AreRunCalls folder_calls folder_faults folder_record (at_first (calls_of log.events) keeper.entry) (program_call (map string_bytes inputs.entry.now.words.items) inputs.entry.now.now
+    ensures listed { AreRunCalls folder_calls folder_faults folder_names folder_record (at_first (calls_of log.events) keeper.entry) (program_call (map string_bytes inputs.entry.now.words.items) inputs.entry.now.now
         (R.stream chance.old) (R.stream chance.new) (untold (source_faults input.old) (source_faults input.new))
         (told (written_by output.old) (written_by output.new) (sink_faults output.old) (sink_faults output.new)) (host_of F.tree F.faults host.old host.new)
         (at_first (calls_of log.events) keeper.entry) (at_last result) result.status ∷ []) }

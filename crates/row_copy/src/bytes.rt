@@ -71,7 +71,7 @@ fn next_piece<F: Folder>(
 }
 
 /// Writes a piece of the file at this path.
-fn write_piece<A: Asker, R: Rng>(
+pub fn write_piece<A: Asker, R: Rng>(
     alloc: Global,
     asker: &mut A,
     to: &Path,

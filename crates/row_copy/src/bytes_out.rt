@@ -14,7 +14,7 @@ use rand_core::Rng;
 use std::alloc::Global;
 
 /// No file goes on beyond this place.
-const FILE_END: u64 = 1 << 63;
+pub const FILE_END: u64 = 1 << 63;
 
 /// Copies a file's bytes into an empty file of the folder. How many.
 pub fn bytes_out<F: Folder, A: Asker, R: Rng>(

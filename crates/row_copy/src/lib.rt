@@ -14,10 +14,12 @@ mod stop;
 mod totals;
 
 pub use asking::ask_done;
+pub use bytes::{PIECE, write_piece};
+pub use bytes_out::FILE_END;
 pub use paths::{child_of, copy_path, is_short};
 pub use place::RowPlace;
 pub use replies::ask_rows;
-pub use rows::copy_row;
+pub use rows::{copy_row, make_file};
 pub use rows_out::row_out;
 pub use stop::Stop;
 pub use totals::{count, no_totals};

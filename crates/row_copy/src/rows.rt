@@ -41,7 +41,7 @@ fn make_directory<A: Asker, R: Rng>(
 }
 
 /// Makes a file without bytes at this path.
-fn make_file<A: Asker, R: Rng>(
+pub fn make_file<A: Asker, R: Rng>(
     alloc: Global,
     asker: &mut A,
     to: &Path,

@@ -45,18 +45,18 @@ end_is_some : (c : Settings) (tree : Tree) (was : Bool) (end : Outside) → Outs
 end_is_some c tree was end (inl s) = ap is_some s.keeps.represents.1
 end_is_some c tree was end (inr m) = marked_is_some end.kept m.1
 
-module _ {V : Type 0} {K : Type 0} (trace : V → Option (List Call)) (faults : V → ℕ) (G : KeeperGhosts K) where
+module _ {V : Type 0} {K : Type 0} (trace : V → Option (List Call)) (faults : V → ℕ) (names : V → Option (List (List ℕ))) (G : KeeperGhosts K) where
   -- ---- the runs of some calls
 
-  add : (call : RunCall) (calls : List RunCall) (runs : List Run) → IsRunCall trace faults G call → AreRunsOf calls runs → (b : Bool) → opens (form_of call.words) ≡ b
+  add : (call : RunCall) (calls : List RunCall) (runs : List Run) → IsRunCall trace faults names G call → AreRunsOf calls runs → (b : Bool) → opens (form_of call.words) ≡ b
       → (all : List Run) × AreRunsOf (call ∷ calls) all
   add call calls runs h r true e =
-      let run = one trace faults G call h e in
+      let run = one trace faults names G call h e in
       (run.0 ∷ runs, inl (e, run.1, r))
   add call calls [] h r false e = ([], (e, r))
   add call calls (run ∷ runs) h r false e = (run ∷ runs, inr (e, r))
 
-  pub runs_of : (start : Outside) (calls : List RunCall) → AreRunCalls trace faults G start calls → (runs : List Run) × AreRunsOf calls runs
+  pub runs_of : (start : Outside) (calls : List RunCall) → AreRunCalls trace faults names G start calls → (runs : List Run) × AreRunsOf calls runs
   runs_of start [] all = ([], tt)
   runs_of start (call ∷ calls) all =
       let r = runs_of start calls all.2 in
@@ -71,15 +71,15 @@ module _ {V : Type 0} {K : Type 0} (trace : V → Option (List Call)) (faults : 
       goes : GoesOnFrom (end_of start runs) (left_by start calls)
 
     -- a call that opens no file system leaves it so
-    idle : (call : RunCall) (calls : List RunCall) (runs : List Run) → IsRunCall trace faults G call → GoesOnFrom (left_by start calls) call.before → opens (form_of call.words) ≡ false
+    idle : (call : RunCall) (calls : List RunCall) (runs : List Run) → IsRunCall trace faults names G call → GoesOnFrom (left_by start calls) call.before → opens (form_of call.words) ≡ false
         → AreLinked calls runs → AreLinked (call ∷ calls) runs
     idle call calls runs h on e l =
         let served = composes c first start runs stands l.are_runs in
         let before = goes_on (end_of start runs) (left_by start calls) call.before l.goes on in
         let there : is_some call.before.kept ≡ true = ap is_some before.kept ∙ end_is_some c _ (was_violated runs) (end_of start runs) served.2 in
-        record { are_runs = l.are_runs; goes = goes_on (end_of start runs) call.before call.after before (other trace faults G call h e (λ _. there)) }
+        record { are_runs = l.are_runs; goes = goes_on (end_of start runs) call.before call.after before (other trace faults names G call h e (λ _. there)) }
 
-    linked : (calls : List RunCall) (runs : List Run) → AreRunCalls trace faults G start calls → AreRunsOf calls runs → AreUnforged c runs → AreLinked calls runs
+    linked : (calls : List RunCall) (runs : List Run) → AreRunCalls trace faults names G start calls → AreRunsOf calls runs → AreUnforged c runs → AreLinked calls runs
     linked [] [] all of u = record { are_runs = tt; goes = record { kept = refl; calls = refl } }
     linked [] (run ∷ runs) all of u = absurd of
     linked (call ∷ calls) [] all of u = idle call calls [] all.0 all.1 of.0 (linked calls [] all.2 of.1 u)
@@ -92,7 +92,7 @@ module _ {V : Type 0} {K : Type 0} (trace : V → Option (List Call)) (faults : 
         }
     linked (call ∷ calls) (run ∷ runs) all (inr (e, of)) u = idle call calls (run ∷ runs) all.0 all.1 e (linked calls (run ∷ runs) all.2 of u)
 
-    pub serve : (calls : List RunCall) (runs : List Run) → AreRunCalls trace faults G start calls → AreRunsOf calls runs → CallsCompose c first start calls runs
+    pub serve : (calls : List RunCall) (runs : List Run) → AreRunCalls trace faults names G start calls → AreRunsOf calls runs → CallsCompose c first start calls runs
     serve calls runs all of u =
         let l = linked calls runs all of u in
         let served = composes c first start runs stands l.are_runs in
@@ -100,7 +100,7 @@ module _ {V : Type 0} {K : Type 0} (trace : V → Option (List Call)) (faults : 
 
   -- ---- what `create` left
 
-  module _ (made : RunCall) (options : CreateOptions) (h : IsRunCall trace faults G made) (done : made.status ≡ Done) (unchanged : IsUnchanged made.before.calls) where
+  module _ (made : RunCall) (options : CreateOptions) (h : IsRunCall trace faults names G made) (done : made.status ≡ Done) (unchanged : IsUnchanged made.before.calls) where
     abbrev NewSettings : Settings
     NewSettings = new_settings options.block_size (drawn made.chance).0
 
@@ -113,7 +113,7 @@ module _ {V : Type 0} {K : Type 0} (trace : V → Option (List Call)) (faults : 
     on_ok (Ok id) P Q both = both.0
     on_ok (Err error) P Q both = tt
 
-    created : Did trace faults G made h.vault h.keeper h.ended (Some (Create options)) → OutsideStandsFor ShowsFiles NewSettings empty_tree (outside_of trace faults G h.ended.vault h.ended.keeper)
+    created : Did trace faults names G made h.vault h.keeper h.ended (Some (Create options)) → OutsideStandsFor ShowsFiles NewSettings empty_tree (outside_of trace faults G h.ended.vault h.ended.keeper)
     created (inl u) = absurd (unread_is_no h.ended.status Done (one_unread made.input h.ended.status u.cause).unread (sym h.status ∙ done) (λ x. x))
     created (inr (password, script, has, unfailed, c)) =
         reported _ c.made c.reports (on_ok c.made (G.kept h.keeper ≡ None) _ c.absent) (λ none. c.stands (subst (λ (o : Outside). IsUnchanged o.calls) h.begins unchanged) none)
@@ -121,4 +121,4 @@ module _ {V : Type 0} {K : Type 0} (trace : V → Option (List Call)) (faults : 
     pub made_stands : form_of made.words ≡ Some (Create options) → OutsideStandsFor ShowsFiles NewSettings empty_tree made.after
     made_stands asked =
         subst (λ (o : Outside). OutsideStandsFor ShowsFiles NewSettings empty_tree o) (sym h.ends)
-        (created (subst (λ (form : Option Form). Did trace faults G made h.vault h.keeper h.ended form) asked h.did))
+        (created (subst (λ (form : Option Form). Did trace faults names G made h.vault h.keeper h.ended form) asked h.did))

@@ -1,10 +1,13 @@
 -- What one call of `run` is.
-use Rattle.std.proofs.Common.{◌≡◌, ◌≢◌, ◌∙◌, ℕ, true, false, List, [], refl, sym, ap, subst, inl, inr}
+use Rattle.std.proofs.Common.{◌≡◌, ◌≢◌, ◌∙◌, ◌||◌, ℕ, true, false, List, [], refl, sym, ap, subst, inl, inr}
 use Rattle.std.specs.Prelude.{Result, is_some}
 use Rattle.std.specs.declared.option.Option.{Option}
 use Rattle.std.specs.declared.option.Option.TheVariants.{None, Some}
 use Rattle.std.specs.declared.result.Result.TheVariants.{Ok, Err}
 use Rattle.block_id.specs.declared.id.BlockId.{BlockId}
+use Rattle.check_runs.specs.Judging.{is_bad}
+use Rattle.check_runs.specs.Running.{RanCheck}
+use Rattle.check_runs.proofs.Leaving.{examined_run}
 use Rattle.held_blocks.specs.Standing.{records}
 use Rattle.line_io.specs.Lines.{first_line}
 use Rattle.line_io.specs.Streams.{Untouched}
@@ -20,12 +23,13 @@ use Rattle.run_status.specs.declared.status.Status.TheVariants.{Done}
 use Rattle.session_runs.specs.Runs.{Outside, outside_of, OutsideStandsFor, IsQuietRun}
 use Rattle.shell_sessions.specs.Sessions.{Session}
 use Rattle.shell_words.specs.declared.form.Form.{Form}
-use Rattle.shell_words.specs.declared.form.Form.TheVariants.{Trial, TrialGenerate, Create, Info, Passwd, Shell, Generate, Command, Import, Export}
+use Rattle.shell_words.specs.declared.form.Form.TheVariants.{Trial, TrialGenerate, Create, Info, Passwd, Shell, Generate, Command, Import, Export, Put, Get, Check}
 use Rattle.shell_words.specs.Forms.{form_of}
 use Rattle.tree_commands.specs.Showing.{ShowsFiles}
-use Rattle.histories.specs.Histories.{Run, session, quiet, before_of, after_of, IsRun, GoesOnFrom}
+use Rattle.histories.specs.Histories.{Run, session, quiet, examined, before_of, after_of, IsRun, GoesOnFrom}
 use Rattle.cryfs_shell.specs.Clauses.{IsRefusingStatus, NoFalseAlarm, FaultsHappened, HostFaultsHappened}
-use Rattle.cryfs_shell.specs.Kinds.{opens, is_session}
+use Rattle.cryfs_shell.specs.Kinds.{opens, is_session, is_check}
+use Rattle.cryfs_shell.proofs.Checks.{ends_by, bad_by}
 use Rattle.cryfs_shell.proofs.Statuses.{opening_is_no}
 use Rattle.cryfs_shell.proofs.Sessions.{UnreadCause, one_unread, two_unread, unread_is_no, password_is}
 use Rattle.run_histories.specs.Calls.{RunCall, Did, IsRunCall}
@@ -36,7 +40,7 @@ abbrev password_in : Option (List ℕ) → List ℕ
 password_in None = []
 password_in (Some bytes) = first_line bytes
 
-module _ {V : Type 0} {K : Type 0} (trace : V → Option (List Call)) (faults : V → ℕ) (G : KeeperGhosts K) (call : RunCall) (h : IsRunCall trace faults G call) where
+module _ {V : Type 0} {K : Type 0} (trace : V → Option (List Call)) (faults : V → ℕ) (names : V → Option (List (List ℕ))) (G : KeeperGhosts K) (call : RunCall) (h : IsRunCall trace faults names G call) where
   abbrev Before : Outside
   Before = outside_of trace faults G h.vault h.keeper
 
@@ -53,7 +57,7 @@ module _ {V : Type 0} {K : Type 0} (trace : V → Option (List Call)) (faults : 
     answered : CallAnswered call asked run
 
   quiet_ran : (asked : Option Form) (password : List ℕ) → ((bytes : List ℕ) → call.input.old ≡ Some bytes → password ≡ first_line bytes) → IsQuietRun ShowsFiles password Before After
-      → (is_session asked ≡ true → Untouched call.output × (h.ended.status ≢ Done)) → Ran asked
+      → ((is_session asked || is_check asked) ≡ true → Untouched call.output × (h.ended.status ≢ Done)) → Ran asked
   quiet_ran asked password first q silent = record {
     run = quiet password Before After;
     is_run = q;
@@ -95,7 +99,26 @@ module _ {V : Type 0} {K : Type 0} (trace : V → Option (List Call)) (faults : 
     answered = (refl, script, has, s.end, s.own, s.came, h.status ∙ s.status);
   }
 
-  did_run : (asked : Option Form) → opens asked ≡ true → Did trace faults G call h.vault h.keeper h.ended asked → Ran asked
+  checked_ran : RanCheck trace faults names G call.input call.output h.vault h.keeper h.ended → Ran (Some Check)
+  checked_ran (inl u) = unread_ran (Some Check) (PasswordUnread call.input) (one_unread call.input) u
+  checked_ran (inr (password, after, has, unfailed, inl ((error, u), unwritten))) = unopened_ran (Some Check) password after has.is_next error u unwritten
+  checked_ran (inr (password, after, has, unfailed, inr t)) = record {
+    run = examined password Before After (is_bad t.x.verdict);
+    is_run = examined_run trace faults names G password call.output h.vault h.keeper h.ended t;
+    begins = refl;
+    ends = refl;
+    password = next_first password after has.is_next;
+    answered = (
+      after,
+      has,
+      (
+        λ bad. h.status ∙ ends_by trace faults names G password call.output h.vault h.keeper h.ended t bad,
+        λ e. bad_by trace faults names G password call.output h.vault h.keeper h.ended t (sym h.status ∙ e),
+      ),
+    );
+  }
+
+  did_run : (asked : Option Form) → opens asked ≡ true → Did trace faults names G call h.vault h.keeper h.ended asked → Ran asked
   did_run None e d = absurd (cc)
   did_run (Some Trial) e d = absurd (cc)
   did_run (Some (TrialGenerate count)) e d = absurd (cc)
@@ -111,6 +134,9 @@ module _ {V : Type 0} {K : Type 0} (trace : V → Option (List Call)) (faults : 
   did_run (Some Command) e d = session_ran (Some Command) d
   did_run (Some Import) e d = session_ran (Some Import) d.0
   did_run (Some Export) e d = session_ran (Some Export) d.0
+  did_run (Some Put) e d = session_ran (Some Put) d
+  did_run (Some Get) e d = session_ran (Some Get) d
+  did_run (Some Check) e d = checked_ran d
 
   -- what is said of what was outside and of the status, of the call's
   stated : (P : Outside → Outside → Status → Type 0) → P Before After h.ended.status → P call.before call.after call.status
@@ -147,7 +173,7 @@ module _ {V : Type 0} {K : Type 0} (trace : V → Option (List Call)) (faults : 
   there_stays (Ok id) s = absurd s
   there_stays (Err error) s = record { kept = s.1; calls = ap trace s.0 }
 
-  did_stay : (asked : Option Form) → opens asked ≡ false → (creates asked ≡ true → is_some Before.kept ≡ true) → Did trace faults G call h.vault h.keeper h.ended asked → GoesOnFrom Before After
+  did_stay : (asked : Option Form) → opens asked ≡ false → (creates asked ≡ true → is_some Before.kept ≡ true) → Did trace faults names G call h.vault h.keeper h.ended asked → GoesOnFrom Before After
   did_stay None e there d = uncalled_stays d.3
   did_stay (Some Trial) e there d = uncalled_stays d.1
   did_stay (Some (TrialGenerate count)) e there d = uncalled_stays d.2
@@ -160,6 +186,9 @@ module _ {V : Type 0} {K : Type 0} (trace : V → Option (List Call)) (faults : 
   did_stay (Some Command) e there d = absurd (cc)
   did_stay (Some Import) e there d = absurd (cc)
   did_stay (Some Export) e there d = absurd (cc)
+  did_stay (Some Put) e there d = absurd (cc)
+  did_stay (Some Get) e there d = absurd (cc)
+  did_stay (Some Check) e there d = absurd (cc)
 
   pub other : opens (form_of call.words) ≡ false → (creates (form_of call.words) ≡ true → is_some call.before.kept ≡ true) → GoesOnFrom call.before call.after
   other e there =

@@ -1,5 +1,5 @@
 -- Any list of calls of `run`, one after another. The newest stands first.
-use Rattle.std.specs.Prelude.{◌≡◌, ◌≢◌, ◌⊎◌, ℕ, true, false, Bool, List, [], ◌∷◌, is_some}
+use Rattle.std.specs.Prelude.{◌≡◌, ◌≢◌, ◌⊎◌, ◌||◌, ℕ, true, false, Bool, List, [], ◌∷◌, is_some}
 use Rattle.std.specs.declared.option.Option.{Option}
 use Rattle.std.specs.declared.option.Option.TheVariants.{Some}
 use Rattle.answers.specs.Sessions.{Exchange, violated}
@@ -23,18 +23,20 @@ use Rattle.session_runs.specs.Runs.{Outside, OutsideStandsFor}
 use Rattle.shell_sessions.specs.Sessions.{ComesShell, ComesGenerated, ComesCommand}
 use Rattle.run_edges.specs.Statuses.{session_status}
 use Rattle.shell_words.specs.declared.form.Form.{Form}
-use Rattle.shell_words.specs.declared.form.Form.TheVariants.{Create, Shell, Generate, Command, Import, Export}
+use Rattle.shell_words.specs.declared.form.Form.TheVariants.{Create, Shell, Generate, Command, Import, Export, Put, Get}
 use Rattle.shell_words.specs.Forms.{form_of, joined}
 use Rattle.tree_commands.specs.Showing.{ShowsFiles}
-use Rattle.histories.specs.Histories.{Run, session, quiet, before_of, after_of, IsRun, IsUnforgedRun, GoesOnFrom, end_of, Follow, EndsWith}
+use Rattle.histories.specs.Histories.{Run, session, quiet, examined, before_of, after_of, IsRun, IsUnforgedRun, GoesOnFrom, end_of, Follow, EndsWith}
 use Rattle.cryfs_shell.specs.Clauses.{IsRefusingStatus, NoFalseAlarm, FaultsHappened, HostFaultsHappened}
-use Rattle.cryfs_shell.specs.Copies.{Imports, Exports}
-use Rattle.cryfs_shell.specs.Kinds.{opens, is_session}
+use Rattle.cryfs_shell.specs.Copies.{Imports, Exports, Puts, Gets}
+use Rattle.cryfs_shell.specs.History.{Judges}
+use Rattle.cryfs_shell.specs.Kinds.{opens, is_session, is_check}
 use Rattle.run_histories.specs.Calls.{RunCall, IsRunCall}
 
 abbrev pub password_of : Run → List ℕ
 password_of (session now password before after closing es) = password
 password_of (quiet password before after) = password
+password_of (examined password before after bad) = password
 
 -- how the exchanges of a session come from the input after the password line, and are written
 abbrev pub CallComes : RunCall → Option Form → Option (List ℕ) → End → Status → List Exchange → Type 0
@@ -43,14 +45,18 @@ CallComes call (Some (Generate count)) = ComesGenerated count call.input call.ou
 CallComes call (Some Command) = ComesCommand (joined call.words) call.input call.output
 CallComes call (Some Import) = Imports call.words call.input call.output call.host
 CallComes call (Some Export) = Exports call.words call.input call.output call.host
+CallComes call (Some Put) = Puts call.words call.input call.output
+CallComes call (Some Get) = Gets call.words call.input call.output
 CallComes call _ = λ script end own es. ⊥
 
--- in a session the exchanges came so, and the status is theirs, or its own where nothing else is the matter; in a run of no lines the words ask for none, or nothing was written and the status isn't Done
+-- In a session the exchanges came so, and the status is theirs, or its own where nothing else is the matter. A check was judged so. In a run of no lines the words ask for none and for no check, or nothing was
+-- written and the status isn't Done.
 abbrev pub CallAnswered : RunCall → Option Form → Run → Type 0
 CallAnswered call asked (session now password before after closing es) =
     (now ≡ call.now) × (script : Option (List ℕ)) × HasPassword call.input password script
     × (end : End) × (own : Status) × CallComes call asked script end own es × (call.status ≡ first_of (session_status (violated es) end closing) own)
-CallAnswered call asked (quiet password before after) = is_session asked ≡ true → Untouched call.output × (call.status ≢ Done)
+CallAnswered call asked (quiet password before after) = (is_session asked || is_check asked) ≡ true → Untouched call.output × (call.status ≢ Done)
+CallAnswered call asked (examined password before after bad) = (after : Option (List ℕ)) × HasPassword call.input password after × Judges asked call.status bad
 
 -- the call is this run
 pub record IsRunOf (call : RunCall) (run : Run) : Type 0 where
@@ -73,8 +79,8 @@ creates (Some (Create options)) = true
 creates asked = false
 
 -- A call that opens a file system is a run. Any other leaves what is kept and the calls on the directory, `create` where something is kept.
-abbrev pub OneRun : {V : Type 0} → {K : Type 0} → (V → Option (List Call)) → (V → ℕ) → KeeperGhosts K → Type 0
-OneRun trace faults G = (call : RunCall) → IsRunCall trace faults G call
+abbrev pub OneRun : {V : Type 0} → {K : Type 0} → (V → Option (List Call)) → (V → ℕ) → (V → Option (List (List ℕ))) → KeeperGhosts K → Type 0
+OneRun trace faults names G = (call : RunCall) → IsRunCall trace faults names G call
     → (opens (form_of call.words) ≡ true → (run : Run) × IsRunOf call run)
     × (opens (form_of call.words) ≡ false → (creates (form_of call.words) ≡ true → is_some call.before.kept ≡ true) → GoesOnFrom call.before call.after)
 
@@ -84,9 +90,9 @@ left_by start [] = start
 left_by start (call ∷ calls) = call.after
 
 -- each goes on from what the one before it left
-abbrev pub AreRunCalls : {V : Type 0} → {K : Type 0} → (V → Option (List Call)) → (V → ℕ) → KeeperGhosts K → Outside → List RunCall → Type 0
-AreRunCalls trace faults G start [] = Unit {0}
-AreRunCalls trace faults G start (call ∷ calls) = IsRunCall trace faults G call × GoesOnFrom (left_by start calls) call.before × AreRunCalls trace faults G start calls
+abbrev pub AreRunCalls : {V : Type 0} → {K : Type 0} → (V → Option (List Call)) → (V → ℕ) → (V → Option (List (List ℕ))) → KeeperGhosts K → Outside → List RunCall → Type 0
+AreRunCalls trace faults names G start [] = Unit {0}
+AreRunCalls trace faults names G start (call ∷ calls) = IsRunCall trace faults names G call × GoesOnFrom (left_by start calls) call.before × AreRunCalls trace faults names G start calls
 
 -- the runs are those calls that open a file system, in their order
 abbrev pub AreRunsOf : List RunCall → List Run → Type 0
@@ -109,12 +115,12 @@ CallsCompose c first start calls runs = AreUnforged c runs
     → (trees : List Tree) × Follow ShowsFiles c first runs trees × EndsWith ShowsFiles c first start runs trees × GoesOnFrom (end_of start runs) (left_by start calls)
 
 -- whatever the directory returns, loses or refuses in any list of calls, from any tree on that is kept
-abbrev pub EveryListOfRuns : {V : Type 0} → {K : Type 0} → (V → Option (List Call)) → (V → ℕ) → KeeperGhosts K → Type 0
-EveryListOfRuns trace faults G = (start : Outside) (calls : List RunCall) → AreRunCalls trace faults G start calls
+abbrev pub EveryListOfRuns : {V : Type 0} → {K : Type 0} → (V → Option (List Call)) → (V → ℕ) → (V → Option (List (List ℕ))) → KeeperGhosts K → Type 0
+EveryListOfRuns trace faults names G = (start : Outside) (calls : List RunCall) → AreRunCalls trace faults names G start calls
     → (runs : List Run) × AreRunsOf calls runs × ((c : Settings) (first : Tree) → OutsideStandsFor ShowsFiles c first start → CallsCompose c first start calls runs)
 
 -- and from a `create` on that ended with Done over a directory that nothing was put in
-abbrev pub EveryListFromCreate : {V : Type 0} → {K : Type 0} → (V → Option (List Call)) → (V → ℕ) → KeeperGhosts K → Type 0
-EveryListFromCreate trace faults G = (made : RunCall) (options : CreateOptions) (calls : List RunCall) → IsRunCall trace faults G made → form_of made.words ≡ Some (Create options)
-    → made.status ≡ Done → IsUnchanged made.before.calls → AreRunCalls trace faults G made.after calls
+abbrev pub EveryListFromCreate : {V : Type 0} → {K : Type 0} → (V → Option (List Call)) → (V → ℕ) → (V → Option (List (List ℕ))) → KeeperGhosts K → Type 0
+EveryListFromCreate trace faults names G = (made : RunCall) (options : CreateOptions) (calls : List RunCall) → IsRunCall trace faults names G made → form_of made.words ≡ Some (Create options)
+    → made.status ≡ Done → IsUnchanged made.before.calls → AreRunCalls trace faults names G made.after calls
     → (runs : List Run) × AreRunsOf calls runs × CallsCompose (new_settings options.block_size (drawn made.chance).0) empty_tree made.after calls runs

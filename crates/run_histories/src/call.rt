@@ -10,12 +10,13 @@ ghost use Rattle.run_histories.specs.Lists.{AreRunCalls};
 use cryfs_shell::{Ended, run};
 use fs_model::Moment;
 use host_folder::Folder;
+use listing::Listing;
 use outside::{Keeper, Sink, Source, Vault};
 use rand_core::Rng;
 use std::alloc::Global;
 
 /// Calls `run`: so each call of it is one of those that the laws speak of, and so is the list of it alone.
-pub fn run_call<I: Source, O: Sink, V: Vault, K: Keeper, R: Rng, F: Folder>(
+pub fn run_call<I: Source, O: Sink, V: Vault + Listing, K: Keeper, R: Rng, F: Folder>(
     alloc: Global,
     words: &[String],
     now: Moment,
@@ -26,10 +27,10 @@ pub fn run_call<I: Source, O: Sink, V: Vault, K: Keeper, R: Rng, F: Folder>(
     chance: &mut R,
     host: &mut F,
 ) -> Ended<V, K>
-    ensures call { IsRunCall V.trace V.faults K.Keeper (call_of V.trace V.faults K.Keeper
+    ensures call { IsRunCall V.trace V.faults V.names K.Keeper (call_of V.trace V.faults K.Keeper
         (map string_bytes words.now) now (R.stream chance.old) (R.stream chance.new)
         (stream_of I.rest I.faults input.old input.new) (stream_of O.written O.faults output.old output.new) (host_of F.tree F.faults host.old host.new) vault keeper result) }
-    ensures listed { AreRunCalls V.trace V.faults K.Keeper (outside_of V.trace V.faults K.Keeper vault keeper) (call_of V.trace V.faults K.Keeper
+    ensures listed { AreRunCalls V.trace V.faults V.names K.Keeper (outside_of V.trace V.faults K.Keeper vault keeper) (call_of V.trace V.faults K.Keeper
         (map string_bytes words.now) now (R.stream chance.old) (R.stream chance.new)
         (stream_of I.rest I.faults input.old input.new) (stream_of O.written O.faults output.old output.new) (host_of F.tree F.faults host.old host.new) vault keeper result ∷ []) }
 {

@@ -2,20 +2,21 @@
 ghost use Rattle.run_histories.specs.Lists.{OneRun, EveryListOfRuns, EveryListFromCreate};
 
 use histories::runs_compose;
+use listing::Listing;
 use outside::{Keeper, Vault};
 
 /// Each call of `run` whose words open a file system is a run under the password in its input's first line: a session with its
 /// exchanges, or one of no lines. Any other call leaves what is kept and the calls on the directory, `create` where something is kept.
-pub fn one_run<V: Vault, K: Keeper>()
-    ensures { OneRun V.trace V.faults K.Keeper }
+pub fn one_run<V: Vault + Listing, K: Keeper>()
+    ensures { OneRun V.trace V.faults V.names K.Keeper }
 {}
 
 /// Whatever the block directory returns, loses or refuses in any list of calls of `run`: there are trees so that each run that opens
 /// the file system answers as a session of the plain tree from the tree that the one before it left, which is that of a kept
 /// point of its own session; or, once there was a violation, it is refused. The premise is that nothing that opens was forged.
-pub fn every_list_of_runs<V: Vault, K: Keeper>()
-    ensures all { EveryListOfRuns V.trace V.faults K.Keeper }
-    ensures from_create { EveryListFromCreate V.trace V.faults K.Keeper }
+pub fn every_list_of_runs<V: Vault + Listing, K: Keeper>()
+    ensures all { EveryListOfRuns V.trace V.faults V.names K.Keeper }
+    ensures from_create { EveryListFromCreate V.trace V.faults V.names K.Keeper }
 {
     runs_compose()
 }

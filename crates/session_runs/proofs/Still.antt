@@ -61,7 +61,7 @@ all_gets : (h : Held) (calls : List Call) → AllReads h calls → AreGets calls
 all_gets h [] all = tt
 all_gets h (call ∷ calls) all = (subst IsGet (sym all.0.is) tt, all_gets h calls all.1)
 
-went_got : (h : Held) (old new : Option (List Call)) → WentOnByReads h old new → OnlyGot old new
+pub went_got : (h : Held) (old new : Option (List Call)) → WentOnByReads h old new → OnlyGot old new
 went_got h None new w = w
 went_got h (Some old) new w = (w.0, w.1, all_gets h w.0 w.2)
 

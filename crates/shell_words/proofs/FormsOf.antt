@@ -8,7 +8,7 @@ use Rattle.shell_words.specs.declared.create_options.CreateOptions.{CreateOption
 use Rattle.shell_words.specs.CreateOptions.{options_of}
 use Rattle.script_text.specs.Grammar.{verb_of}
 use Rattle.shell_words.specs.declared.form.Form.{Form}
-use Rattle.shell_words.specs.declared.form.Form.TheVariants.{Trial, TrialGenerate, Create, Info, Passwd, Shell, Generate, Command, Import, Export}
+use Rattle.shell_words.specs.declared.form.Form.TheVariants.{Trial, TrialGenerate, Create, Info, Passwd, Shell, Generate, Command, Import, Export, Put, Get, Check}
 use Rattle.shell_words.specs.Forms.{count_of, single_form, plain_form, other_form, copy_word, copy_path, copy_or_other, form_of, is_create}
 
 -- a form other than that of `create`
@@ -20,6 +20,8 @@ IsPlain _ = Unit {0}
 abbrev pub IsCopy : Form → Type 0
 IsCopy Import = Unit {0}
 IsCopy Export = Unit {0}
+IsCopy Put = Unit {0}
+IsCopy Get = Unit {0}
 IsCopy _ = ⊥
 
 -- neither
@@ -27,6 +29,8 @@ abbrev IsOther : Form → Type 0
 IsOther (Create options) = ⊥
 IsOther Import = ⊥
 IsOther Export = ⊥
+IsOther Put = ⊥
+IsOther Get = ⊥
 IsOther _ = Unit {0}
 
 other_plain : (form : Form) → IsOther form → IsPlain form
@@ -40,6 +44,8 @@ copy_plain form c = tt
 not_both : (form : Form) → IsOther form → IsCopy form → ⊥
 not_both Import o c = o
 not_both Export o c = o
+not_both Put o c = o
+not_both Get o c = o
 not_both form o c = c
 
 -- what is found is so
@@ -61,7 +67,8 @@ single_other word =
     either IsOther (bytes_eq word (codes "trial")) (Some Trial) _ tt
     (either IsOther (bytes_eq word (codes "info")) (Some Info) _ tt
     (either IsOther (bytes_eq word (codes "passwd")) (Some Passwd) _ tt
-    (either IsOther (bytes_eq word (codes "shell")) (Some Shell) None tt tt)))
+    (either IsOther (bytes_eq word (codes "shell")) (Some Shell) _ tt
+    (either IsOther (bytes_eq word (codes "check")) (Some Check) None tt tt))))
 
 plain_other : (words : List (List ℕ)) → IsIn IsOther (plain_form words)
 unfolding plain_form
@@ -75,10 +82,12 @@ plain_other (first ∷ second ∷ third ∷ fourth ∷ more) = tt
 others : (first : List ℕ) (words : List (List ℕ)) → IsIn IsOther (other_form first words)
 others first words = either IsOther (is_some (verb_of first)) (Some Command) (plain_form words) tt (plain_other words)
 
-copies : (b c : Bool) → IsIn IsCopy (cond b (Some Import) (cond c (Some Export) None))
-copies true c = tt
-copies false true = tt
-copies false false = tt
+copies : (first : List ℕ) → IsIn IsCopy (copy_word first)
+copies first =
+    either IsCopy (bytes_eq first (codes "import")) (Some Import) _ tt
+    (either IsCopy (bytes_eq first (codes "export")) (Some Export) _ tt
+    (either IsCopy (bytes_eq first (codes "put")) (Some Put) _ tt
+    (either IsCopy (bytes_eq first (codes "get")) (Some Get) None tt tt)))
 
 in_plain : (asked : Option Form) → IsIn IsOther asked → IsIn IsPlain asked
 in_plain None o = tt
@@ -90,7 +99,7 @@ by_copy (Some copy) first words c = either IsPlain (is_some (copy_path words)) (
 
 -- words that don't begin with `create`
 rest_plain : (first : List ℕ) (words : List (List ℕ)) → IsIn IsPlain (copy_or_other (copy_word first) first words)
-rest_plain first words = by_copy (copy_word first) first words (copies (bytes_eq first (codes "import")) (bytes_eq first (codes "export")))
+rest_plain first words = by_copy (copy_word first) first words (copies first)
 
 -- other words aren't of the form of `create`
 pub other_is_other : (words : List (List ℕ)) (options : CreateOptions) → is_create words ≡ false → form_of words ≡ Some (Create options) → ⊥

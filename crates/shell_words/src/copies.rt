@@ -9,7 +9,7 @@ use fs_model::{Command, Path};
 use script_text::{LineError, parse_line};
 use std::alloc::Global;
 
-/// The copy that a word asks for: `import` or `export`.
+/// The copy that a word asks for: `import`, `export`, `put` or `get`.
 pub(crate) fn copy_word(word: &str) -> Option<Form>
     ensures { result ≡ copy_word word.now }
 {
@@ -17,6 +17,10 @@ pub(crate) fn copy_word(word: &str) -> Option<Form>
         Some(Form::Import)
     } else if word == "export" {
         Some(Form::Export)
+    } else if word == "put" {
+        Some(Form::Put)
+    } else if word == "get" {
+        Some(Form::Get)
     } else {
         None
     }

@@ -25,4 +25,10 @@ pub enum Form {
     Import,
     /// A directory, copied into a folder of the host.
     Export,
+    /// A new file of the bytes of the input.
+    Put,
+    /// The bytes of a file, as the output.
+    Get,
+    /// Whether the whole file system is sound, and which path owns each block.
+    Check,
 }

@@ -68,7 +68,7 @@ fn read_plain_form(words: &[String]) -> Option<Form>
     }
 }
 
-/// `trial`, `info`, `passwd` or `shell`.
+/// `trial`, `info`, `passwd`, `shell` or `check`.
 #[tactic(auto, unfolding(crate::specs::Forms::single_form))]
 fn read_single_word(word: &str) -> Option<Form>
     ensures value { result ≡ single_form word.now }
@@ -82,6 +82,8 @@ fn read_single_word(word: &str) -> Option<Form>
         Some(Form::Passwd)
     } else if word == "shell" {
         Some(Form::Shell)
+    } else if word == "check" {
+        Some(Form::Check)
     } else {
         None
     }

@@ -7,4 +7,6 @@ mod loads;
 #[cfg(test)]
 mod moves;
 #[cfg(test)]
+mod renames;
+#[cfg(test)]
 mod tower;

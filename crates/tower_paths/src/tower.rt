@@ -103,22 +103,37 @@ fn answer<S: BlocksMut>(
 }
 
 /// The texts of the replies to these lines, one after another.
-fn answer_all<S: BlocksMut>(
+pub fn answer_each<S: BlocksMut>(
+    alloc: Global,
+    blobs: &mut BlobStore<S>,
+    root: &BlockId,
+    lines: &[&str],
+    chance: &mut Pcg32,
+) -> Result<Vec<u8>, Fail>
+    requires { ⟦<Tx<S> as Blocks>⟧.meanings.intact blobs.old.tx }
+    ensures { ⟦<Tx<S> as Blocks>⟧.meanings.intact blobs.new.tx }
+{
+    let mut texts = Vec::new(alloc);
+    for line in lines {
+        let text = answer(alloc, blobs, root, line.as_bytes(), chance)?;
+        texts.extend_from_slice(&text)?;
+    }
+    Ok(texts)
+}
+
+/// The same over a new root.
+pub fn answer_all<S: BlocksMut>(
     alloc: Global,
     blobs: &mut BlobStore<S>,
     root: &BlockId,
     lines: &[&str],
 ) -> Result<Vec<u8>, Fail>
     requires { ⟦<Tx<S> as Blocks>⟧.meanings.intact blobs.old.tx }
+    ensures { ⟦<Tx<S> as Blocks>⟧.meanings.intact blobs.new.tx }
 {
     let mut chance = Pcg32::new(1, 2);
     make_root(alloc, &mut blobs.tx, root)?;
-    let mut texts = Vec::new(alloc);
-    for line in lines {
-        let text = answer(alloc, blobs, root, line.as_bytes(), &mut chance)?;
-        texts.extend_from_slice(&text)?;
-    }
-    Ok(texts)
+    answer_each(alloc, blobs, root, lines, &mut chance)
 }
 
 /// The texts of the replies to these lines on a new file system over the store, one after another.

@@ -1,5 +1,5 @@
 use Rattle.tree_commands.specs.Showing.{ShowsFiles}
-use Rattle.histories.proofs.Honest.{one_opens_only, one_unforged, all_unforged}
+use Rattle.histories.proofs.Honest.{one_opens_only, one_unforged, all_unforged, one_calm, all_calm}
 use Rattle.histories.proofs.law.honest_runs_are_unforged.Goals as goal
 
 pub returns-clause-only : goal.returns-clause-only
@@ -10,3 +10,9 @@ returns-clause-one k settings tree run is stands honest = one_unforged ShowsFile
 
 pub returns-clause-all : goal.returns-clause-all
 returns-clause-all k settings first start runs s all = all_unforged ShowsFiles settings first start runs s all
+
+pub returns-clause-calm : goal.returns-clause-calm
+returns-clause-calm k settings tree run is stands honest = one_calm ShowsFiles settings tree run is stands honest
+
+pub returns-clause-all_calm : goal.returns-clause-all_calm
+returns-clause-all_calm k settings first start runs s all = all_calm ShowsFiles settings first start runs s all

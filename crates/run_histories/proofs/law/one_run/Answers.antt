@@ -5,4 +5,5 @@ pub returns : goal.returns
 returns g c =
     let trace = g.V.Vault.trace in
     let faults = g.V.Vault.faults in
-    λ call h. (one trace faults g.K.Keeper call h, other trace faults g.K.Keeper call h)
+    let names = g.V.Listing.names in
+    λ call h. (one trace faults names g.K.Keeper call h, other trace faults names g.K.Keeper call h)

@@ -1,0 +1,126 @@
+#!/usr/bin/env python3
+"""Stops `import` and `export` of the built program at random times on real folders, and looks at what is there afterwards.
+
+Over and over on one file system: a session makes its tree empty, or leaves some of it, and syncs. Then a folder of random rows is imported, by a run
+that is killed at any time within what a whole one takes. An honest session must find the tree after some of the import's commands,
+from the first on; after all of them, where the run ended with 0. So what was synced before is there. Then, over a whole import, an export into an empty folder is killed likewise:
+the tree must be as it was, and the folder a part of it, or all of it where the run ended with 0.
+
+What is compared is what `trial`, the plain tree in memory, answers to the same lines. Every run prints its seed; the folders of a run that failed are
+kept.
+"""
+import argparse
+import os
+import random
+import shutil
+import signal
+import sys
+
+from kill import PATHS, Lost, repeat
+from rows import asked, is_part, make_rows, rows_of, told
+from runs import BUILT
+
+KILLS_OF_ONE = 20
+EMPTYING = [f"{word} {path}" for path in reversed(PATHS) for word in ("rm", "rmdir")] + ["sync"]
+
+
+def random_rows(chance, block_size):
+    """Rows of two levels with the names that the look knows, one file in eight of more than a piece."""
+    rows = {}
+    for path in [it[1:] for it in PATHS]:
+        above = os.path.dirname(path)
+        if chance.randrange(4) == 0 or (above and rows.get(above, "") is not None):
+            continue
+        size = chance.choice([0, 1, block_size, 9 * block_size, 300_000, (1 << 20) + 5, (3 << 20) + 5])
+        rows[path] = chance.choice([None if not above else b"x", f"to{size}", chance.randbytes(min(size, 2000 * block_size))])
+    return rows
+
+
+class Copying:
+    """The runs over one file system, and the seconds that a whole copy of each kind takes."""
+
+    def __init__(self, system, chance):
+        self.system, self.chance, self.usual = system, chance, {}
+
+    def copy(self, word, host, is_whole=False):
+        """A copy that is killed at any time; one that nothing is known of is left alone."""
+        usual = self.usual.get(word)
+        after = None if is_whole or usual is None else self.chance.uniform(0, 1.1 * usual)
+        ended = self.system.program.run(self.system.folders, [word, host, "/"], stop_after=after)
+        if ended.status == 0:
+            self.usual[word] = ended.seconds if usual is None else 0.5 * usual + 0.5 * ended.seconds
+        elif ended.status != -signal.SIGKILL:
+            raise Lost(f"{word} ended with status {ended.status}: {ended.errors}{ended.output}")
+        return ended
+
+    def session(self, lines):
+        ended = self.system.program.session(self.system.folders, lines)
+        if ended.status:
+            raise Lost(f"a whole session ended with status {ended.status}: {ended.errors}")
+        self.system.look(lines, ended.answers, [len(lines)])
+
+    def import_some(self, rows, host, counts):
+        """How far an import came that was killed is counted; a whole one follows where it was."""
+        self.session(EMPTYING)
+        lines, done = asked(rows)
+        ended = self.copy("import", host)
+        if ended.output not in ("", told("imported", rows)):
+            raise Lost(f"an import printed {ended.output!r}")
+        kept = self.system.look(lines, [], done[-1:] if ended.status == 0 else done)
+        how = "whole" if kept == len(lines) else "in part" if kept else "not at all"
+        if ended.status:
+            counts["kills"] += 1
+            counts[f"imports kept {how}"] = counts.get(f"imports kept {how}", 0) + 1
+        if kept < len(lines):
+            self.session(EMPTYING)
+            self.copy("import", host, True)
+            self.system.look(lines, [], [len(lines)])
+
+    def export_some(self, rows, host, counts):
+        os.mkdir(host)
+        ended = self.copy("export", host)
+        found = rows_of(host)
+        if found != rows if ended.status == 0 or ended.output else not is_part(found, rows):
+            raise Lost(f"an export that ended with {ended.status} left {sorted(found)} of {sorted(rows)}")
+        self.system.look([], [], [0])
+        if ended.status:
+            counts["kills"] += 1
+            how = "whole" if found == rows else "in part" if found else "empty"
+            counts[f"exports left {how}"] = counts.get(f"exports left {how}", 0) + 1
+
+
+def kill_copies(system, chance, block_size, counts):
+    if not hasattr(system, "copying"):
+        system.copying = Copying(system, chance)
+    rows = random_rows(chance, block_size)
+    given, filled = (os.path.join(system.folders.top, name) for name in ("given", "filled"))
+    make_rows(given, rows)
+    system.copying.import_some(rows, given, counts)
+    if rows_of(given) != rows:
+        raise Lost("an import changed its folder")
+    system.copying.export_some(rows, filled, counts)
+    shutil.rmtree(given)
+    shutil.rmtree(filled)
+
+
+def main():
+    parser = argparse.ArgumentParser(description=__doc__, formatter_class=argparse.RawDescriptionHelpFormatter)
+    parser.add_argument("--count", type=int, default=100, help="kills (100)")
+    parser.add_argument("--minutes", type=float, default=30, help="the most time it may take (30)")
+    parser.add_argument("--block-size", type=int, default=16384)
+    parser.add_argument("--seed", type=int, default=random.randrange(1 << 32))
+    parser.add_argument("--folder", help="where the folders are made (the system's folder for temporary files)")
+    parser.add_argument("--program", default=BUILT)
+    arguments = parser.parse_args()
+    arguments.mode = "copies"
+    print(f"seed {arguments.seed}", flush=True)
+    try:
+        repeat(arguments, kill_copies, KILLS_OF_ONE)
+    except Lost as why:
+        print(f"FAILED: {why}")
+        return 1
+    return 0
+
+
+if __name__ == "__main__":
+    sys.exit(main())

@@ -1,0 +1,36 @@
+-- A check that was told, by what was found and how it was printed.
+use Rattle.std.proofs.Common.{◌≡◌, ℕ, List, refl, sym, ◌∙◌, ap, subst}
+use Rattle.std.specs.Prelude.{Result, IsOk}
+use Rattle.std.specs.declared.option.Option.{Option}
+use Rattle.std.specs.declared.result.Result.TheVariants.{Ok, Err}
+use Rattle.line_io.specs.Streams.{Stream}
+use Rattle.outside.specs.Trace.{Call}
+use Rattle.outside.specs.declared.keeper.Keeper.{Ghosts as KeeperGhosts}
+use Rattle.run_edges.specs.Statuses.{closing_status}
+use Rattle.run_status.specs.Statuses.{first_of}
+use Rattle.run_status.specs.declared.status.Status.{Status}
+use Rattle.run_status.specs.declared.status.Status.TheVariants.{Done}
+use Rattle.session_saver.specs.declared.saver.SyncError.{SyncError}
+use Rattle.check_texts.specs.Telling.{IsTold, ListsAfter}
+use Rattle.check_runs.proofs.Leaving.{check_status, first_done}
+use Rattle.check_runs.specs.Examining.{IsExamined}
+use Rattle.check_runs.specs.Running.{IsCheckTold}
+use Rattle.check_runs.specs.declared.examining.Examination.{Examination}
+
+closed_well : (closing : Result Unit SyncError) → IsOk closing → closing_status closing ≡ Done
+closed_well (Ok u) ok = refl
+closed_well (Err e) ok = absurd (cc)
+
+pub told : {V : Type 0} {K : Type 0} (trace : V → Option (List Call)) (faults : V → ℕ) (names : V → Option (List (List ℕ))) (G : KeeperGhosts K) (password : List ℕ) (output : Stream) (vault : V) (keeper : K) (x : Examination V K) (last : V)
+    (status printed closing : Status) → IsExamined trace faults G password vault keeper x → IsTold (names x.vault) x.verdict output printed → ListsAfter trace faults names x.verdict x.vault last printed
+    → status ≡ first_of printed closing → closing ≡ closing_status x.closing → IsCheckTold trace faults names G password output vault keeper (record { status = status; vault = last; keeper = x.keeper })
+told trace faults names G password output vault keeper x last status printed closing examined t lists first closes =
+    let is : status ≡ printed =
+    first ∙ (ap (first_of printed) (closes ∙ closed_well x.closing examined.leaves.closed) ∙ first_done printed (check_status (names x.vault) x.verdict output printed t)) in
+    record {
+      x = x;
+      examined = examined;
+      told = subst (λ (s : Status). IsTold (names x.vault) x.verdict output s) (sym is) t;
+      lists = subst (λ (s : Status). ListsAfter trace faults names x.verdict x.vault last s) (sym is) lists;
+      same_keeper = refl;
+    }

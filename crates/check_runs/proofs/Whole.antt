@@ -1,0 +1,245 @@
+-- A run of a check, from how it began, what was judged and how it was closed.
+use Rattle.std.proofs.Common.{◌≡◌, ◌⊎◌, ◌≤◌, ◌-◌, ◌∙◌, ℕ, Bool, true, false, List, [], ◌∷◌, sym, ap, subst, inl, inr, arith}
+use Rattle.std.specs.Prelude.{is_some, IfErr, IsOk}
+use Rattle.std.specs.declared.option.Option.{Option}
+use Rattle.std.proofs.lemmas.Option.{same_Some}
+use Rattle.config_file.specs.Settings.{Settings, settings_of}
+use Rattle.fs_model.specs.Tree.{Tree}
+use Rattle.held_blocks.specs.Held.{Held}
+use Rattle.held_blocks.specs.Standing.{records}
+use Rattle.integrity_store.specs.EnduringLaws.{listed_has}
+use Rattle.local_state.proofs.Records.{one_reading}
+use Rattle.mount.proofs.Reading.{represents_told}
+use Rattle.mount.proofs.Standing.{represents}
+use Rattle.mount.specs.Answering.{store_of, calls_of, vault_faults, keeper_faults, kept_of}
+use Rattle.mount.specs.declared.mount.Mount.{Mount}
+use Rattle.mount.specs.Mounts.{IsReady}
+use Rattle.mount.specs.Representing.{Represents}
+use Rattle.mount.specs.Tower.{TowerStands, TowerConfigures}
+use Rattle.mount_answering.proofs.Lines.{configures_loaded, marked_or}
+use Rattle.mount_blocks.proofs.Enduring.{tower_applied, tower_enduring}
+use Rattle.mount_blocks.specs.Examined.{OnlyExamined}
+use Rattle.mount_core.specs.Standing.{IsKeptMarked}
+use Rattle.mount_tower.specs.Identities.{identity_for}
+use Rattle.mount_tower.specs.Tower.{Cached, held_in, vault_in, trace_in, tower_meanings, tower_holdings, tower_durables}
+use Rattle.outcome.specs.Meanings.{HasCause, IsQuiet}
+use Rattle.outside.specs.Causes.{RoseBy}
+use Rattle.outside.specs.Going.{GoesOn}
+use Rattle.outside.specs.Honest.{is_lie, count_told}
+use Rattle.outside.specs.Trace.{Call}
+use Rattle.outside.specs.declared.keeper.Keeper.{Ghosts as KeeperGhosts}
+use Rattle.session_runs.proofs.Still.{went_got}
+use Rattle.session_runs.proofs.Whole.{each_before, only_one}
+use Rattle.session_runs.specs.Openings.{StayOpen}
+use Rattle.session_runs.specs.Resting.{OnlyGot}
+use Rattle.session_runs.specs.Runs.{Outside, outside_of, OutsideStandsFor, lies, OpensTo, IsExaminedRun}
+use Rattle.session_runs.specs.Turns.{Begun}
+use Rattle.session_saver.specs.Saving.{KeptConfigures}
+use Rattle.session_saver.specs.declared.saver.Saver.{Saver}
+use Rattle.store_api.specs.Durables.{Identity}
+use Rattle.store_api.specs.declared.tx.Tx.{Tx}
+use Rattle.tree_commands.specs.Showing.{ShowsFiles}
+use Rattle.check_runs.specs.declared.examining.Examination.{Examination}
+use Rattle.check_runs.specs.Judging.{is_bad, held_for, IsJudged, Settles}
+use Rattle.check_runs.specs.Examining.{Examines, LeavesExamined, IsExamined}
+
+true_is_false : true ≡ false → ⊥
+true_is_false e = cc
+
+-- ---- a mount that was condemned, or left
+
+module _ {V : Type 0} {K : Type 0} (trace : V → Option (List Call)) (faults : V → ℕ) (G : KeeperGhosts K) (mid set : Mount V K) where
+  same_store : (bad : Bool) → Settles trace faults G bad mid set → store_of set ≡ store_of mid
+  same_store true s = ap (λ (t : Tx (Cached V)). t.store) s.blobs
+  same_store false s = ap (λ (m : Mount V K). store_of m) s
+
+  idle : (bad : Bool) → Settles trace faults G bad mid set → mid.core.saver.changed ≡ false → (set.core.violated ≡ true) ⊎ (set.core.saver.changed ≡ false)
+  idle true s unchanged = inl s.violated
+  idle false s unchanged = inr (ap (λ (m : Mount V K). m.core.saver.changed) s ∙ unchanged)
+
+  unsaved : (bad : Bool) → Settles trace faults G bad mid set → bad ≡ false → (kept_of G set ≡ kept_of G mid) × (keeper_faults G set ≡ keeper_faults G mid)
+  unsaved true s fine = absurd (true_is_false fine)
+  unsaved false s fine = (ap (λ (m : Mount V K). kept_of G m) s, ap (λ (m : Mount V K). keeper_faults G m) s)
+
+  condemned : (bad : Bool) → Settles trace faults G bad mid set → bad ≡ true → IsKeptMarked records (kept_of G set) ⊎ RoseBy 1 (keeper_faults G mid) (keeper_faults G set)
+  condemned true s bad = s.marked
+  condemned false s bad = absurd (true_is_false (sym bad))
+
+  grows : (bad : Bool) → Settles trace faults G bad mid set → keeper_faults G mid ≤ keeper_faults G set
+  grows true s = s.keeper_grows
+  grows false s = let e = ap (λ (m : Mount V K). keeper_faults G m) s in omega (arith, e)
+
+  -- what is kept is marked, or what it was
+  marked : (bad : Bool) → Settles trace faults G bad mid set → IsReady trace faults G mid → IsKeptMarked records (kept_of G set) ⊎ (kept_of G set ≡ kept_of G mid)
+  marked true s ready = marked_or records mid.core.saver (kept_of G set) ready.core.can_mark s.kept
+  marked false s ready = inr (ap (λ (m : Mount V K). kept_of G m) s)
+
+  configures : (bad : Bool) → Settles trace faults G bad mid set → (file : List ℕ) → TowerConfigures trace G mid.core (file ∷ []) file → KeptConfigures records (kept_of G set) (calls_of trace set) file
+  configures true s file c = only_one (kept_of G set) (calls_of trace set) file (s.configures (file ∷ []) file c)
+  configures false s file c = subst (λ (m : Mount V K). KeptConfigures records (kept_of G m) (calls_of trace m) file) (sym s) (only_one (kept_of G mid) (calls_of trace mid) file c.kept)
+
+-- ---- a run
+
+module _ {V : Type 0} {K : Type 0} (trace : V → Option (List Call)) (faults : V → ℕ) (G : KeeperGhosts K) (password : List ℕ) (vault : V) (keeper : K) (first : Mount V K) (x : Examination V K)
+    (b : Begun ShowsFiles trace faults G password vault keeper first) (unmarked : ¬ IsKeptMarked records (G.kept keeper)) (e : Examines trace faults G first x) where
+  abbrev Before : Outside
+  Before = outside_of trace faults G vault keeper
+
+  abbrev After : Outside
+  After = outside_of trace faults G x.vault x.keeper
+
+  abbrev mid : Mount V K
+  mid = e.judged.mount
+
+  abbrev set : Mount V K
+  set = e.settled
+
+  abbrev bad : Bool
+  bad = is_bad x.verdict
+
+  only : OnlyExamined trace faults first mid
+  only = e.judges.only
+
+  closed : IsOk x.closing × (x.vault ≡ vault_in (store_of set)) × (x.keeper ≡ set.core.saver.keeper)
+  closed = e.closed.closes.left (idle trace faults G mid set bad e.settles (ap (λ (s : Saver K). s.changed) only.beside.saver ∙ b.unchanged))
+
+  last_vault : x.vault ≡ vault_in (store_of mid)
+  last_vault = closed.1 ∙ ap (λ (s : Cached V). vault_in s) (same_store trace faults G mid set bad e.settles)
+
+  last_calls : trace x.vault ≡ calls_of trace mid
+  last_calls = ap trace last_vault
+
+  last_kept : G.kept x.keeper ≡ kept_of G set
+  last_kept = ap G.kept closed.2
+
+  last_failed : G.faults x.keeper ≡ keeper_faults G set
+  last_failed = ap G.faults closed.2
+
+  mid_kept : kept_of G mid ≡ kept_of G first
+  mid_kept = ap (λ (s : Saver K). G.kept s.keeper) only.beside.saver
+
+  mid_failed : keeper_faults G mid ≡ G.faults keeper
+  mid_failed = ap (λ (s : Saver K). G.faults s.keeper) only.beside.saver ∙ b.keeper_quiet
+
+  got : OnlyGot (calls_of trace first) (trace x.vault)
+  got = subst (λ (t : Option (List Call)). OnlyGot (calls_of trace first) t) (sym last_calls)
+      (went_got (held_in (store_of first)) (calls_of trace first) (calls_of trace mid) only.loaded.trace)
+
+  unsaved_after : bad ≡ false → (G.kept x.keeper ≡ kept_of G first) × (G.faults x.keeper ≡ G.faults keeper)
+  unsaved_after fine =
+      let u = unsaved trace faults G mid set bad e.settles fine in
+      (last_kept ∙ (u.0 ∙ mid_kept), last_failed ∙ (u.1 ∙ mid_failed))
+
+  condemned_after : bad ≡ true → IsKeptMarked records (G.kept x.keeper) ⊎ RoseBy 1 (G.faults keeper) (G.faults x.keeper)
+  condemned_after is = elim (condemned trace faults G mid set bad e.settles is) [
+    | inl m ↦ inl (subst (λ (k : Option (List ℕ)). IsKeptMarked records k) (sym last_kept) m)
+    | inr r ↦ inr (omega (arith, r, mid_failed, last_failed))
+  ]
+
+  leaves : LeavesExamined trace faults G vault keeper (kept_of G first) (calls_of trace first) x
+  leaves = record {
+    closed = closed.0;
+    only_got = got;
+    vault_grows = let g = only.loaded.faults in let l = ap faults last_vault in let q = b.vault_quiet in omega (arith, g, l, q);
+    vault_cause = subst (λ (n : ℕ). IfErr x.verdict (λ fail. HasCause fail n (faults x.vault))) b.vault_quiet
+        (subst (λ (v : V). IfErr x.verdict (λ fail. HasCause fail (vault_faults trace faults first) (faults v))) (sym last_vault) e.judges.fault);
+    vault_quiet = subst (λ (n : ℕ). IsQuiet x.verdict n (faults x.vault)) b.vault_quiet
+        (subst (λ (v : V). IsQuiet x.verdict (vault_faults trace faults first) (faults v)) (sym last_vault) e.judges.quiet);
+    condemned = condemned_after;
+    unsaved = unsaved_after;
+    keeper_grows = let g = grows trace faults G mid set bad e.settles in omega (arith, g, mid_failed, last_failed);
+  }
+
+  -- ---- what was judged is what the record calls for
+
+  held_is : held_in (store_of first) ≡ held_for (settings_of first.opened.config) b.attached.state
+  held_is =
+      let h = held_in (store_of first) in
+      let whole = b.ready.core.whole in
+      let kept = same_Some _ _ (sym (whole.kept b.unchanged) ∙ b.attached.kept) in
+      let has = listed_has h.state h.list false b.ready.core.intact.0.0.has_record in
+      let state : h.state ≡ b.attached.state = (one_reading h.state b.attached.state [] [] has (listed_has b.attached.state b.attached.list false b.attached.loaded.has_record) kept).0 in
+      let size : h.size ≡ first.opened.config.block_size = ap (λ (i : Identity). i.size) b.ready.identity in
+      let opens = ap (λ (i : Identity). i.opens) b.ready.identity in
+      let none = whole.none b.unchanged in
+      λ i. record { size = size i; opens = opens i; state = state i; list = none i }
+
+  judged_is : IsJudged (held_for (settings_of first.opened.config) b.attached.state) (settings_of first.opened.config).root (calls_of trace first) (trace x.vault) x.verdict
+  judged_is =
+      let c = settings_of first.opened.config in
+      let root : first.core.root.0 ≡ c.root = ap (λ r. r.0) b.ready.root in
+      let j = e.judges.judged (b.ready.core.whole.none b.unchanged) in
+      subst (λ (t : Option (List Call)). IsJudged (held_for c b.attached.state) c.root (calls_of trace first) t x.verdict) (sym last_calls)
+      (subst (λ (r : List ℕ). IsJudged (held_for c b.attached.state) r (calls_of trace first) (calls_of trace mid) x.verdict) root
+      (subst (λ (h : Held). IsJudged h first.core.root.0 (calls_of trace first) (calls_of trace mid) x.verdict) held_is j))
+
+  -- ---- the configuration that opened is the one
+
+  module _ (c : Settings) (tree : Tree) (f : OpensTo ShowsFiles password c tree Before After) where
+    is_opened : settings_of first.opened.config ≡ c
+    is_opened =
+        let on = subst (λ (t : Option (List Call)). GoesOn (calls_of trace first) t) (sym last_calls) ((tower_enduring trace faults).loaded_goes_on (store_of first) (store_of mid) only.loaded) in
+        b.config c (represents_told ShowsFiles Before.kept Before.calls c tree f.stands)
+        (each_before password Before.kept Before.calls (calls_of trace first) After.calls on f.unforged_config)
+
+    stood : TowerStands ShowsFiles trace faults G first.core tree tree
+    stood = b.stands tree (subst (λ (s : Settings). Represents ShowsFiles Before.kept Before.calls s tree) (sym is_opened) f.stands)
+
+    -- loading leaves what is kept
+    represents_mid : Represents ShowsFiles (kept_of G first) (calls_of trace mid) c tree
+    represents_mid =
+        let r = represents ShowsFiles (settings_of first.opened.config) b.ready.salt _ _ _ (kept_of G first) (calls_of trace first) tree (ap (λ (i : Identity). i.size - 78) b.ready.identity) (ap (λ r. r.0) b.ready.root) b.ready.identity stood.keeps in
+        let k = r.keeps.represents in
+        let on = (tower_enduring trace faults).loaded_stands (store_of first) (store_of mid) (identity_for (settings_of first.opened.config) r.salt) k.0 r.keeps.content only.loaded k.2 in
+        subst (λ (s : Settings). Represents ShowsFiles (kept_of G first) (calls_of trace mid) s tree) is_opened
+        (record { salt = r.salt; keeps = record { content = r.keeps.content; represents = (k.0, k.1, on); shown = r.keeps.shown } })
+
+    represents_last : G.kept x.keeper ≡ kept_of G first → OutsideStandsFor ShowsFiles c tree After
+    represents_last same =
+        subst (λ (k : Option (List ℕ)). Represents ShowsFiles k (trace x.vault) c tree) (sym same)
+        (subst (λ (t : Option (List Call)). Represents ShowsFiles (kept_of G first) t c tree) (sym last_calls) represents_mid)
+
+    marked_last : IsKeptMarked records After.kept ⊎ OutsideStandsFor ShowsFiles c tree After
+    marked_last = elim (marked trace faults G mid set bad e.settles e.judges.ready) [
+      | inl m ↦ inl (subst (λ (k : Option (List ℕ)). IsKeptMarked records k) (sym last_kept) m)
+      | inr same ↦ inr (represents_last (last_kept ∙ (same ∙ mid_kept)))
+    ]
+
+    calm_last : lies After ≤ lies Before → bad ≡ false
+    calm_last honest = e.judges.calm tree tree stood (let l = ap (count_told is_lie) last_calls in let g = b.lies in omega (arith, l, g, honest))
+
+  run : IsExaminedRun ShowsFiles password Before After bad
+  run = record {
+    stands = λ c tree f fine. represents_last c tree f (unsaved_after fine).0;
+    condemned = λ c tree f is. marked_last c tree f;
+    calm = calm_last;
+    marked = λ m. absurd (unmarked m);
+  }
+
+  -- ---- the configuration's file
+
+  kept_file : (file : List ℕ) → is_some Before.calls ≡ true → KeptConfigures records Before.kept Before.calls file → KeptConfigures records After.kept After.calls file
+  kept_file file told k =
+      let c = configures_loaded ShowsFiles (tower_meanings trace faults) (tower_holdings trace) (tower_durables trace) records G (tower_applied trace) (tower_enduring trace faults) first.core mid.core (file ∷ []) file
+      (b.configures file told k) only.loaded e.judges.stays mid_kept (ap (λ (s : Saver K). s.last.items) only.beside.saver) in
+      let done = configures trace faults G mid set bad e.settles file c in
+      let calls = last_calls ∙ sym (ap (λ (s : Cached V). trace_in trace s) (same_store trace faults G mid set bad e.settles)) in
+      subst (λ (k : Option (List ℕ)). KeptConfigures records k (trace x.vault) file) (sym last_kept)
+      (subst (λ (t : Option (List Call)). KeptConfigures records (kept_of G set) t file) (sym calls) done)
+
+  opens : StayOpen Before After
+  opens = λ other c told o. (o.0, o.1, kept_file o.0 told o.2, o.3)
+
+  pub examined : IsExamined trace faults G password vault keeper x
+  examined = record {
+    o = first.opened;
+    kept = kept_of G first;
+    calls = calls_of trace first;
+    attached = b.attached;
+    judged = judged_is;
+    leaves = leaves;
+    config = is_opened;
+    unmarked = unmarked;
+    run = run;
+    opens = opens;
+  }

@@ -1,0 +1,9 @@
+//! The run of a check: a file system is opened, each of its blocks is loaded from the directory and judged, what is kept is
+//! marked after a flaw or a violation, it is closed, and what was found is told.
+#![tactic(auto)]
+
+mod examining;
+mod running;
+
+pub use examining::{Examination, examine};
+pub use running::run_check;

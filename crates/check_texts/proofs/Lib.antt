@@ -1,0 +1,5 @@
+mod Passing
+mod Owned
+mod Searching
+mod Beside
+mod Told

@@ -1,0 +1,4 @@
+pub mod Printing
+pub mod Texts
+pub mod Strangers
+pub mod Telling

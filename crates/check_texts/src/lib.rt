@@ -1,0 +1,13 @@
+//! What a check prints: the live blocks with their owners, the names that are no file of theirs, or what is wrong. Long texts
+//! are written in pieces.
+#![tactic(auto)]
+
+mod error;
+mod flaws;
+mod owners;
+mod page;
+mod strangers;
+mod telling;
+
+pub use page::{FULL_PAGE, Page};
+pub use telling::tell_verdict;

@@ -1,0 +1,35 @@
+use Rattle.std.proofs.Common.{refl}
+use Rattle.line_io.specs.Reading.{coming}
+use Rattle.line_io.specs.Streams.{stream_of}
+use Rattle.shell_sessions.proofs.Ending.{has_password, halted}
+use Rattle.file_copies.specs.Coming.{ComesPut}
+use Rattle.file_copies.proofs.Sessions.{put_from_start}
+use Rattle.copy_runs.proofs.Serving.{was_served, served}
+use Rattle.copy_runs.proofs.put.run_put.Goals as goal
+
+pub returns-in-Err-open-clause-session : goal.returns-in-Err-open-clause-session
+returns-in-Err-open-clause-session g c =
+    let b = c.in-Ok-begin in
+    let r = b.ensures.read in
+    let whole = stream_of g.I.Source.rest g.I.Source.faults c.args.input.now c.begin.new.input in
+    let output = stream_of g.O.Sink.written g.O.Sink.faults c.args.output.now c.args.output.now in
+    let has = has_password whole whole b.beginning.reader r.0 b.beginning.password.items c.deref.result.now refl r.1 c.deref.ensures.value in
+    halted g.V.Vault.trace g.V.Vault.faults g.K.Keeper c.args.now (ComesPut c.args.to whole output) whole output c.deref.result.now (coming b.beginning.reader.ahead whole.new) has c.args.vault c.args.keeper c.in-Err-open.ended
+    c.in-Err-open.ensures.unopened r.1.stands.quiet (refl, refl)
+
+pub returns-clause-session : goal.returns-clause-session
+returns-clause-session g c =
+    let b = c.in-Ok-begin in
+    let r = b.ensures.read in
+    let a = c.new-asker in
+    let told = c.put_told-mounted in
+    let begun = stream_of g.I.Source.rest g.I.Source.faults c.args.input.now c.begin.new.input in
+    let whole = stream_of g.I.Source.rest g.I.Source.faults c.args.input.now told.new.input in
+    let output = stream_of g.O.Sink.written g.O.Sink.faults c.args.output.now told.new.output in
+    let has = has_password begun whole b.beginning.reader r.0 b.beginning.password.items c.deref.result.now refl r.1 c.deref.ensures.value in
+    let s = told.ensures.put in
+    let script = coming b.beginning.reader.ahead begun.new in
+    let came = put_from_start c.args.to b.beginning.reader.taken script begun.old begun.new whole.new begun.faults begun.risen whole.risen output told.result.1 told.result.2 s.0 r.1.stands.counted r.1.stands.quiet s.2 in
+    served g.V.Vault.trace g.V.Vault.faults g.K.Keeper c.args.now (ComesPut c.args.to whole output) whole output c.args.vault c.args.keeper c.close.result
+    (was_served g.V.Vault.trace g.V.Vault.faults g.K.Keeper c.args.now (ComesPut c.args.to whole output) whole c.deref.result.now script has c.args.vault c.args.keeper c.close.result c.in-Ok-open.mounted a.result.mounted told.result.0 a.result.now s.0 told.result.1 told.result.2
+    a.ensures.mounted a.ensures.now told.ensures.own c.in-Ok-open.ensures.begun told.ensures.ready s.1 came c.close.ensures)

@@ -1,0 +1,92 @@
+// A file that is got under the password line of the input.
+ghost use Rattle.std.specs.Prelude.{◌≡◌, ◌≤◌, List};
+ghost use Rattle.std.specs.declared.option.Option.TheVariants.{None};
+ghost use Rattle.line_io.specs.Streams.{stream_of, Stream};
+ghost use Rattle.answers.specs.Hosts.{Ran};
+ghost use Rattle.answers.specs.Sessions.{Exchange};
+ghost use Rattle.session_lines.specs.Driven.{IsUnfailed};
+ghost use Rattle.mount.specs.Mounts.{IsReady};
+ghost use Rattle.run_edges.specs.Statuses.{IsOwn};
+ghost use Rattle.shell_sessions.specs.Sessions.{Session};
+ghost use Rattle.file_copies.specs.Coming.{ComesGet, IsGetSession};
+ghost use Rattle.copy_runs.specs.Asking.{mounted_hosting};
+
+use crate::asker::MountAsker;
+use file_copies::{get_end, get_file};
+use fs_model::{Moment, Path};
+use outside::{Keeper, Sink, Source, Vault};
+use rand_core::Rng;
+use run_edges::{Beginning, begin};
+use run_status::{Ended, Status};
+use session_lines::End;
+use shell_sessions::{Mounted, close, open};
+use std::alloc::Global;
+
+/// Writes the bytes of the file at this path, and says how that ended.
+fn get_told<O: Sink, V: Vault, K: Keeper, R: Rng>(
+    alloc: Global,
+    asker: MountAsker<V, K>,
+    from: &Path,
+    output: &mut O,
+    chance: &mut R,
+) -> (Mounted<V, K>, End, Status)
+    requires ready { IsReady V.trace V.faults K.Keeper asker.mounted.mount }
+    requires kept { asker.kept ≡ None }
+    ensures ready { IsReady V.trace V.faults K.Keeper result.0.mount }
+    ensures got { (es : List Exchange) × Ran (mounted_hosting V.trace V.faults K.Keeper) asker.now asker.mounted es result.0
+        × ((input : Stream) → IsUnfailed input → IsGetSession from.now input (stream_of O.written O.faults output.old output.new) result.1 result.2 es) }
+    ensures own { IsOwn result.2 }
+    ensures output_grows { O.faults output.old ≤ O.faults output.new }
+{
+    let mut asker = asker;
+    let got = get_file(alloc, &mut asker, from, output, chance);
+    let MountAsker {
+        mounted,
+        now: _,
+        kept,
+        stopped: _,
+    } = asker;
+    let (end, own) = get_end(got, &kept);
+    (mounted, end, own)
+}
+
+/// Opens the file system under the password line of the input, writes the bytes of the file at this path and nothing else,
+/// and closes it.
+pub fn run_get<I: Source, O: Sink, V: Vault, K: Keeper, R: Rng>(
+    alloc: Global,
+    now: Moment,
+    from: &Path,
+    input: &mut I,
+    output: &mut O,
+    vault: V,
+    keeper: K,
+    chance: &mut R,
+) -> Ended<V, K>
+    ensures session { Session V.trace V.faults K.Keeper now
+        (ComesGet from.now (stream_of I.rest I.faults input.old input.new) (stream_of O.written O.faults output.old output.new))
+        (stream_of I.rest I.faults input.old input.new) (stream_of O.written O.faults output.old output.new) vault keeper result }
+    ensures input_grows { I.faults input.old ≤ I.faults input.new }
+    ensures output_grows { O.faults output.old ≤ O.faults output.new }
+{
+    let Beginning {
+        password,
+        reader: _,
+        text: _,
+    } = match begin(alloc, input) {
+        Ok(beginning) => beginning,
+        Err(status) => {
+            return Ended {
+                status,
+                vault,
+                keeper,
+            };
+        }
+    };
+    let mounted = match open(alloc, vault, keeper, &password) {
+        Ok(mounted) => mounted,
+        Err(ended) => return ended,
+    };
+    let asker = MountAsker::new(mounted, now);
+    let (mounted, end, own) = get_told(alloc, asker, from, output, chance);
+    close(alloc, mounted, end, own)
+}

@@ -1,0 +1,120 @@
+// A file that is put under the password line of the input.
+ghost use Rattle.std.specs.Prelude.{◌≡◌, ◌≤◌, true, List};
+ghost use Rattle.std.specs.declared.option.Option.TheVariants.{None};
+ghost use Rattle.outside.specs.Streams.{Ends};
+ghost use Rattle.line_io.specs.Reading.{coming};
+ghost use Rattle.line_io.specs.Streams.{stream_of};
+ghost use Rattle.answers.specs.Hosts.{Ran};
+ghost use Rattle.answers.specs.Sessions.{Exchange};
+ghost use Rattle.mount.specs.Mounts.{IsReady};
+ghost use Rattle.run_edges.specs.Statuses.{IsOwn};
+ghost use Rattle.shell_sessions.specs.Sessions.{Session};
+ghost use Rattle.file_copies.specs.Coming.{ComesPut, IsPutSession};
+ghost use Rattle.copy_runs.specs.Asking.{mounted_hosting};
+
+use crate::asker::MountAsker;
+use block_id::Memory;
+use copy_sessions::CopyText;
+use file_copies::{put_file, tell_put};
+use fs_model::{Moment, Path};
+use line_io::LineReader;
+use outside::{Keeper, Sink, Source, Vault};
+use rand_core::Rng;
+use run_edges::{Beginning, begin};
+use run_status::{Ended, Status};
+use session_lines::End;
+use shell_sessions::{Mounted, close, open};
+use std::alloc::Global;
+
+/// Puts the bytes of the input into a new file at this path, and prints how that ended.
+fn put_told<I: Source, O: Sink, V: Vault, K: Keeper, R: Rng>(
+    alloc: Global,
+    asker: MountAsker<V, K>,
+    reader: &mut LineReader,
+    input: &mut I,
+    to: Path,
+    text: &mut CopyText,
+    output: &mut O,
+    chance: &mut R,
+) -> (Mounted<V, K>, End, Status)
+    requires ready { IsReady V.trace V.faults K.Keeper asker.mounted.mount }
+    requires kept { asker.kept ≡ None }
+    requires ended { reader.old.ended ≡ true → Ends (coming reader.old.ahead (I.rest input.old)) }
+    ensures ready { IsReady V.trace V.faults K.Keeper result.0.mount }
+    ensures put { (es : List Exchange) × Ran (mounted_hosting V.trace V.faults K.Keeper) asker.now asker.mounted es result.0
+        × IsPutSession to reader.old.taken (coming reader.old.ahead (I.rest input.old)) (stream_of I.rest I.faults input.old input.new) (stream_of O.written O.faults output.old output.new) result.1 result.2 es }
+    ensures own { IsOwn result.2 }
+    ensures input_grows { I.faults input.old ≤ I.faults input.new }
+    ensures output_grows { O.faults output.old ≤ O.faults output.new }
+{
+    let mut asker = asker;
+    let put = put_file(alloc, reader, input, &mut asker, &to, chance);
+    let MountAsker {
+        mounted,
+        now: _,
+        kept,
+        stopped: _,
+    } = asker;
+    let (end, own) = tell_put(text, put, to, &kept, output);
+    (mounted, end, own)
+}
+
+/// Opens the file system under the password line of the input, puts the bytes that follow it into a new file at this path,
+/// prints how that ended, and closes it.
+pub fn run_put<I: Source, O: Sink, V: Vault, K: Keeper, R: Rng>(
+    alloc: Global,
+    now: Moment,
+    to: Path,
+    input: &mut I,
+    output: &mut O,
+    vault: V,
+    keeper: K,
+    chance: &mut R,
+) -> Ended<V, K>
+    ensures session { Session V.trace V.faults K.Keeper now
+        (ComesPut to (stream_of I.rest I.faults input.old input.new) (stream_of O.written O.faults output.old output.new))
+        (stream_of I.rest I.faults input.old input.new) (stream_of O.written O.faults output.old output.new) vault keeper result }
+    ensures input_grows { I.faults input.old ≤ I.faults input.new }
+    ensures output_grows { O.faults output.old ≤ O.faults output.new }
+{
+    let mut text = match CopyText::new(alloc) {
+        Ok(text) => text,
+        Err(Memory) => {
+            return Ended {
+                status: Status::Memory,
+                vault,
+                keeper,
+            };
+        }
+    };
+    let Beginning {
+        password,
+        mut reader,
+        text: _,
+    } = match begin(alloc, input) {
+        Ok(beginning) => beginning,
+        Err(status) => {
+            return Ended {
+                status,
+                vault,
+                keeper,
+            };
+        }
+    };
+    let mounted = match open(alloc, vault, keeper, &password) {
+        Ok(mounted) => mounted,
+        Err(ended) => return ended,
+    };
+    let asker = MountAsker::new(mounted, now);
+    let (mounted, end, own) = put_told(
+        alloc,
+        asker,
+        &mut reader,
+        input,
+        to,
+        &mut text,
+        output,
+        chance,
+    );
+    close(alloc, mounted, end, own)
+}

@@ -1,0 +1,42 @@
+-- Why a put and a get end as they do.
+use Rattle.std.proofs.Common.{ℕ, List, sym, subst}
+use Rattle.std.specs.declared.option.Option.{Option}
+use Rattle.std.specs.declared.option.Option.TheVariants.{None}
+use Rattle.std.specs.declared.result.Result.{Result}
+use Rattle.std.specs.declared.result.Result.TheVariants.{Ok, Err}
+use Rattle.answers.specs.declared.answer.Answer.{Answer}
+use Rattle.answers.specs.Sessions.{Exchange}
+use Rattle.copy_rules.specs.declared.copied.Totals.{Totals}
+use Rattle.copy_rules.specs.Questions.{Question}
+use Rattle.copy_sessions.specs.Fitting.{kept_after}
+use Rattle.file_copies.specs.Coming.{IsPutTold, IsPutSession, IsGetEnd, IsGetSession}
+use Rattle.file_copies.specs.Getting.{IsGet}
+use Rattle.file_copies.specs.Putting.{InputBy}
+use Rattle.host_folder.specs.Folders.{HostPath}
+use Rattle.line_io.specs.Streams.{Stream}
+use Rattle.row_copy.specs.declared.stop.Stop.{Stop}
+use Rattle.row_copy.specs.declared.stop.Stop.TheVariants as stop
+use Rattle.run_status.specs.declared.status.Status.{Status}
+use Rattle.session_lines.specs.declared.end.End.{End}
+use Rattle.cryfs_shell.proofs.Statuses.{EndCause}
+use Rattle.cryfs_shell.proofs.TrialEnds.{reported_cause}
+
+put_by : (path : HostPath) (put : Result Totals Stop) (kept : Option Answer) (input output : Stream) (end : End) (own : Status) → InputBy 0 input put → IsPutTold put path kept output end own → EndCause end input output
+put_by path (Ok totals) kept input output end own used told = reported_cause input output _ end told.written
+put_by path (Err stop.Memory) kept input output end own used told = reported_cause input output _ end told.written
+put_by path (Err stop.Host) kept input output end own used told = subst (λ z. EndCause z input output) (sym told.0.0) used
+put_by path (Err stop.Stopped) kept input output end own used told = reported_cause input output _ end told.written
+put_by path (Err (stop.Refused e)) kept input output end own used told = reported_cause input output _ end told.written
+
+pub put_cause : (path : HostPath) (script : Option (List ℕ)) (input output : Stream) (end : End) (own : Status) (es : List Exchange) → IsPutSession path 0 script input output end own es → EndCause end input output
+put_cause path script input output end own es s = put_by path s.result (kept_after None es) input output end own s.used s.told
+
+get_by : (path : HostPath) (qs : List Question) (got : Result (Unit {0}) Stop) (kept : Option Answer) (input output : Stream) (end : End) (own : Status) → IsGet path qs output got → IsGetEnd got kept end own → EndCause end input output
+get_by path qs (Ok x) kept input output end own is ends = subst (λ z. EndCause z input output) (sym ends.0) tt
+get_by path qs (Err stop.Memory) kept input output end own is ends = subst (λ z. EndCause z input output) (sym ends.0) tt
+get_by path qs (Err stop.Host) kept input output end own is ends = subst (λ z. EndCause z input output) (sym ends.0) is.ends.1.1.1
+get_by path qs (Err stop.Stopped) kept input output end own is ends = subst (λ z. EndCause z input output) (sym ends.0) tt
+get_by path qs (Err (stop.Refused e)) kept input output end own is ends = subst (λ z. EndCause z input output) (sym ends.0) tt
+
+pub get_cause : (path : HostPath) (input output : Stream) (end : End) (own : Status) (es : List Exchange) → IsGetSession path input output end own es → EndCause end input output
+get_cause path input output end own es s = get_by path s.qs s.result (kept_after None es) input output end own s.is s.ends

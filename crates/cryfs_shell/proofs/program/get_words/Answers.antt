@@ -1,0 +1,17 @@
+use Rattle.std.proofs.Common.{map, sym, ◌∙◌}
+use Rattle.std.specs.String.{string_bytes}
+use Rattle.file_copies.specs.Coming.{ComesGet}
+use Rattle.line_io.specs.Streams.{stream_of}
+use Rattle.cryfs_shell.specs.Copies.{Gets}
+use Rattle.cryfs_shell.proofs.Copies.{session_as}
+use Rattle.cryfs_shell.proofs.program.get_words.Goals as goal
+
+pub returns-in-Ok-Some-clause-session : goal.returns-in-Ok-Some-clause-session
+returns-in-Ok-Some-clause-session g c =
+    let r = c.run_get in
+    let some = c.in-Ok-Some in
+    let input = stream_of g.I.Source.rest g.I.Source.faults c.args.input.now r.new.input in
+    let output = stream_of g.O.Sink.written g.O.Sink.faults c.args.output.now r.new.output in
+    session_as g.V.Vault.trace g.V.Vault.faults g.K.Keeper c.args.now input output c.args.vault c.args.keeper r.result
+    (ComesGet some.path input output) (Gets (map string_bytes c.args.words.now) input output)
+    (λ script end own es came. (some.path, sym some.ensures.value ∙ some.field-0-is, came)) r.ensures.session

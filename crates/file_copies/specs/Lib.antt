@@ -1,0 +1,4 @@
+pub mod Putting
+pub mod Getting
+pub mod Coming
+pub mod Laws

@@ -1,0 +1,3 @@
+pub mod Enduring
+pub mod Living
+pub mod Readying
