@@ -72,8 +72,7 @@ module _ {V : Type 0} {K : Type 0} (trace : V → Option (List Call)) (faults : 
   checked_history names input output judged (inl u) = idly u.uncalled
   checked_history names input output judged (inr (password, after, has, unfailed, inl ((error, u), unwritten))) = quietly password u.quiet
   checked_history names input output judged (inr (password, after, has, unfailed, inr t)) =
-      let verdict : Judges (Some Check) ended.status (is_bad t.x.verdict) = (ends_by trace faults names G password output vault keeper ended t, bad_by trace faults names G password output vault keeper ended t) in
-      (
+      let verdict : Judges (Some Check) ended.status (is_bad t.x.verdict) = (ends_by trace faults names G password output vault keeper ended t, bad_by trace faults names G password output vault keeper ended t) in (
         examined password Before After (is_bad t.x.verdict),
         record { is_run = examined_run trace faults names G password output vault keeper ended t; came = judged (is_bad t.x.verdict) verdict; begins = refl; ends = refl },
       )
