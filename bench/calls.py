@@ -6,6 +6,7 @@ which one of these calls answers EIO or ENOSPC, or in which the program is kille
 between. A status has to be one of the page's, and never an alarm. Afterwards an honest session has to find
 
     info, trial   the tree as it was
+    check         the tree as it was; a run that ended with 0 named every block, and no run anything wrong
     passwd        the same under the old password or the new one; under the new one, where the run ended with 0
     create        the empty tree, where the run ended with 0; else that, or no file system
     shell         the tree of a kept point: that of the last sync that was answered ok, or of one that was tried after it
@@ -91,6 +92,12 @@ def after_info(system, ended):
     return holds_history(system, seen_by(system))
 
 
+def after_check(system, ended):
+    named = [line for line in ended.answers if line.startswith("block ")]
+    told = f"check yes {len(named)}" if ended.status == 0 else "check yes"
+    return holds_history(system, seen_by(system)) and all(line.startswith(told) for line in ended.answers if line not in named)
+
+
 def after_passwd(system, ended):
     new = holds_history(system, seen_by(system, NEW_PASSWORD))
     return new if ended.status == 0 else new or holds_history(system, seen_by(system))
@@ -144,6 +151,7 @@ def after_export(system, ended):
 
 KINDS = {
     "info": (lambda folders: lambda program: program.run(folders, ["info"]), after_info),
+    "check": (lambda folders: lambda program: program.run(folders, ["check"]), after_check),
     "trial": (lambda folders: lambda program: program.run(folders, ["trial"], LINES, password=None), after_info),
     "passwd": (lambda folders: lambda program: program.run(folders, ["passwd"], [NEW_PASSWORD]), after_passwd),
     "create": (lambda folders: lambda program: program.run(folders, ["create", *QUICK_KEY]), after_create),
