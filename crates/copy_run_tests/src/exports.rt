@@ -10,7 +10,14 @@ fn what_was_imported_is_exported(rt: HostRuntime) -> Result<(), Fail> {
     let alloc = rt.alloc();
     let mut folder = MemoryFolder::new(alloc);
     let told = "exported 1 1 1 2\n";
-    let system = expect(alloc, imported(alloc)?, &mut folder, Run::Export, told, Status::Done)?;
+    let system = expect(
+        alloc,
+        imported(alloc)?,
+        &mut folder,
+        Run::Export,
+        told,
+        Status::Done,
+    )?;
     assert!(rt; has_rows(alloc, &mut folder, &[], &["dd", "ll"]));
     assert!(rt; holds(alloc, &mut folder, &["d", "f"], 0, b"ab"));
     assert!(rt; leads(alloc, &mut folder, &["l"], "d/f"));

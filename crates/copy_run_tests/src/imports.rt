@@ -35,7 +35,14 @@ fn a_name_prints_with_escapes(rt: HostRuntime) -> Result<(), Fail> {
     let mut folder = MemoryFolder::new(alloc);
     assert!(rt; makes(alloc, &mut folder, &["a b"], Row::Folder));
     let told = "imported 1 0 0 0\n";
-    let system = expect(alloc, new_system(alloc)?, &mut folder, Run::Import, told, Status::Done)?;
+    let system = expect(
+        alloc,
+        new_system(alloc)?,
+        &mut folder,
+        Run::Import,
+        told,
+        Status::Done,
+    )?;
     let refused = "error exists /a\\x20b\n";
     let end = Status::CopyRefused;
     expect(alloc, system, &mut folder, Run::Import, refused, end)?;

@@ -26,7 +26,14 @@ fn so_is_one_in_an_export(rt: HostRuntime) -> Result<(), Fail> {
     let mut folder = MemoryFolder::new(alloc);
     let told = "fault directory\n";
     system.vault.fail_calls(Vec::from_elem(alloc, 2, 1)?);
-    expect(alloc, system, &mut folder, Run::Export, told, Status::CopyStopped)?;
+    expect(
+        alloc,
+        system,
+        &mut folder,
+        Run::Export,
+        told,
+        Status::CopyStopped,
+    )?;
     Ok(())
 }
 

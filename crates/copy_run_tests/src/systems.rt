@@ -145,7 +145,14 @@ pub fn expect(
 /// One line, which has to be answered so.
 pub fn line(alloc: Global, system: System, line: &str, text: &str) -> Result<System, Fail> {
     let mut folder = MemoryFolder::new(alloc);
-    expect(alloc, system, &mut folder, Run::Line(line), text, Status::Done)
+    expect(
+        alloc,
+        system,
+        &mut folder,
+        Run::Line(line),
+        text,
+        Status::Done,
+    )
 }
 
 /// The directory `d` with the file `f` of `ab`, and the link `l` to it.
@@ -162,5 +169,12 @@ pub fn small_folder(alloc: Global) -> Result<MemoryFolder, Fail> {
 pub fn imported(alloc: Global) -> Result<System, Fail> {
     let mut folder = small_folder(alloc)?;
     let told = "imported 1 1 1 2\n";
-    expect(alloc, new_system(alloc)?, &mut folder, Run::Import, told, Status::Done)
+    expect(
+        alloc,
+        new_system(alloc)?,
+        &mut folder,
+        Run::Import,
+        told,
+        Status::Done,
+    )
 }

@@ -1,6 +1,7 @@
 // What a folder that is read gives.
 use crate::folders::{
-    fails_to_list, fails_to_read, fresh_folder, host_of, is_removed, links, makes_folder, reads, writes,
+    fails_to_list, fails_to_read, fresh_folder, host_of, is_removed, links, makes_folder, reads,
+    writes,
 };
 use folder_samples::{has_rows, leads};
 use std::test::Fail;

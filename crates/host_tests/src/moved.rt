@@ -1,6 +1,7 @@
 // Folders that are moved, with something else in their place, while they are copied.
 use crate::folders::{
-    fails_to_list, fails_to_read, fresh_folder, host_of, is_removed, links, makes_folder, moves, reads, writes,
+    fails_to_list, fails_to_read, fresh_folder, host_of, is_removed, links, makes_folder, moves,
+    reads, writes,
 };
 use folder_samples::{Row, has_rows, makes};
 use std::test::Fail;

@@ -66,11 +66,7 @@ fn files_of(alloc: Global, lines: &[&str]) -> Result<(usize, usize), Fail> {
 }
 
 /// How many files each line reads and writes.
-fn check_all(
-    rt: &impl Abort,
-    alloc: Global,
-    lines: &[(&str, usize, usize)],
-) -> Result<(), Fail> {
+fn check_all(rt: &impl Abort, alloc: Global, lines: &[(&str, usize, usize)]) -> Result<(), Fail> {
     let (_, made) = files_of(alloc, &[])?;
     for (line, reads, writes) in lines {
         let (got, put) = files_of(alloc, &[*line])?;
