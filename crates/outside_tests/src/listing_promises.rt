@@ -23,13 +23,23 @@ pub fn lists_what_is_there<V: Listing>(alloc: Global, vault: &mut V) -> Result<(
     let files = names();
     for (count, name) in files.iter().enumerate() {
         let (there, _) = files.split_at(count);
-        expect(alloc, lists(alloc, vault, there)?, "lists what was put", count)?;
+        expect(
+            alloc,
+            lists(alloc, vault, there)?,
+            "lists what was put",
+            count,
+        )?;
         vault.put(alloc, name, &[1])?;
         vault.put(alloc, name, &[2, 3])?;
     }
     for (count, name) in files.iter().enumerate() {
         let (_, there) = files.split_at(count);
-        expect(alloc, lists(alloc, vault, there)?, "lists what wasn't removed", count)?;
+        expect(
+            alloc,
+            lists(alloc, vault, there)?,
+            "lists what wasn't removed",
+            count,
+        )?;
         vault.remove(alloc, name)?;
     }
     expect(alloc, lists(alloc, vault, &[])?, "lists nothing at last", 0)

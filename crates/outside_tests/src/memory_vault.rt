@@ -80,7 +80,14 @@ fn lists_strange_names(rt: HostRuntime) -> Result<(), Fail> {
     vault.set_strangers(strange);
     vault.fail_calls([2].to_vec(rt.alloc())?);
     let names = vault.list(rt.alloc())?;
-    let want = ["", "07/x", "070/70707070707070707070707070707", "cryfs.config", "x y", "\u{e9}"];
+    let want = [
+        "",
+        "07/x",
+        "070/70707070707070707070707070707",
+        "cryfs.config",
+        "x y",
+        "\u{e9}",
+    ];
     assert_eq!(rt; names.len(), want.len());
     for (name, want) in names.iter().zip(want.iter()) {
         assert_eq!(rt; name.as_slice(), want.as_bytes());

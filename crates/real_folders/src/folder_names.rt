@@ -138,7 +138,5 @@ fn read_error(error: io::Error) -> FolderError {
 }
 
 fn too_many() -> FolderError {
-    FolderError::Io(io::Error::other(
-        "more files or folders lie in it than can be listed",
-    ))
+    FolderError::Io(io::Error::other("more files or folders lie in it than can be listed"))
 }

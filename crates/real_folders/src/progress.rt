@@ -52,7 +52,9 @@ impl Progress {
         let rate = u128::from(blocks) * 1000 / passed.max(1);
         let left = Left(u128::from(known.saturating_sub(blocks)) / rate.max(1));
         let over = if self.written.is_some() { "\x1b[A" } else { "" };
-        let _ = eprintln!(self.rt; "{over}\rcryfs: checked {blocks} of about {known} blocks, {rate}/s, {left} left\x1b[K");
+        let _ = eprintln!(self.rt;
+            "{over}\rcryfs: checked {blocks} of about {known} blocks, {rate}/s, {left} left\x1b[K"
+        );
     }
 }
 
