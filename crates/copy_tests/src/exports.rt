@@ -104,7 +104,8 @@ fn an_append_that_fails_leaves_what_was_put_before(rt: HostRuntime) -> Result<()
     folder.fail_calls(Vec::from_elem(alloc, 4, 1)?);
     let ended = exported(alloc, &mut folder, &mut asker, &[]);
     assert!(rt; matches!(&ended, Err(CopyFail::Host)));
-    assert!(rt; holds(alloc, &mut folder, &["f"], 0, &bytes[..1_048_576]));
+    let first = Vec::from_elem(alloc, 7, 1_048_576)?;
+    assert!(rt; holds(alloc, &mut folder, &["f"], 0, &first));
     Ok(())
 }
 
