@@ -230,11 +230,11 @@ def hand_on(first, into, lives):
         try:
             while piece:
                 piece = piece[os.write(into, piece):]
-            if lives in select.select([0, lives], [], [])[0]:
-                return True
         except OSError:
             return True
         try:
+            if lives in select.select([0, lives], [], [])[0]:
+                return True
             piece = os.read(0, 65536)
         except OSError:
             return False
