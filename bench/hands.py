@@ -3,8 +3,9 @@
 
 Nothing is proved here: each case gets a tree of its own, in which the sources are a line each, `rt` is a script that
 writes down how it was called and puts the program where the real one puts it, and the program is a script that prints
-its words and each line of its input. The cases of `hands_real.py`, `hands_copies.py` and `hands_checks.py` take the program
-that was built in this checkout. Words of this script name the cases to run; without any, all are run."""
+its words and each line of its input. The cases of `hands_real.py`, `hands_copies.py` and `hands_checks.py`, and some of
+`hands_files.py`, take the program that was built in this checkout. Words of this script name the cases to run; without
+any, all are run."""
 import os
 import subprocess
 import sys
@@ -13,13 +14,14 @@ import tempfile
 import hands_build
 import hands_checks
 import hands_copies
+import hands_files
 import hands_real
 import hands_terminal
 import hands_words
 from hands_tree import BUILT, Tree
 
-CASES = hands_build.CASES + hands_words.CASES + hands_terminal.CASES
-REAL = hands_real.CASES + hands_copies.CASES + hands_checks.CASES
+CASES = hands_build.CASES + hands_words.CASES + hands_terminal.CASES + hands_files.CASES
+REAL = hands_real.CASES + hands_copies.CASES + hands_files.REAL + hands_checks.CASES
 
 
 def passes(case):

@@ -207,7 +207,8 @@ def run_behind(program, call, first):
     lives, held = running.pipe()
     os.set_inheritable(held, True)
     errors = running.in_memory()
-    process = running.start(program, call.words(), {0: given, 2: errors} if os.isatty(2) else {0: given})
+    # (were this process stopped, the pipe's end would look like the input's)
+    process = running.start(program, call.words(), {0: given, 2: errors} if os.isatty(2) else {0: given}, ends_with_this=True)
     os.close(given)
     os.close(held)
     for it in (signal.SIGTERM, signal.SIGHUP):
@@ -230,11 +231,11 @@ def hand_on(first, into, lives):
         try:
             while piece:
                 piece = piece[os.write(into, piece):]
-            if lives in select.select([0, lives], [], [])[0]:
-                return True
         except OSError:
             return True
         try:
+            if lives in select.select([0, lives], [], [])[0]:
+                return True
             piece = os.read(0, 65536)
         except OSError:
             return False

@@ -3,7 +3,7 @@ import os
 import signal
 import termios
 
-from telling import Refused
+from telling import USAGE, Refused
 
 # The most bytes of a password's line that the program takes.
 LIMIT = 1048576
@@ -99,6 +99,17 @@ def source_line(source):
     if not text:
         raise Refused(f"{option} gave nothing: an empty password on purpose is an empty line")
     return line + b"\n"
+
+
+def check_apart(source):
+    """Refuses a password's file that is the input too: of its bytes some would be lost, or come twice."""
+    option, value = source
+    try:
+        is_input = option == "--password-file" and os.path.samestat(os.stat(value), os.fstat(0))
+    except OSError:
+        return
+    if is_input:
+        raise Refused(f"{value} is the input too: without {option} the input's first line is the password; else name another file", USAGE)
 
 
 def read_file(path):

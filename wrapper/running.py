@@ -8,6 +8,9 @@ import telling
 from passwords import die_of
 from telling import Refused, say
 
+# PR_SET_PDEATHSIG of prctl(2), which stays over exec.
+SIGNAL_AT_PARENTS_END = 1
+
 
 def kept_apart(file):
     """The same file under a number above those of the standard streams."""
@@ -49,16 +52,31 @@ def become(program, words, streams, ignored=()):
         raise Refused(f"the program can't be run: {why}") from None
 
 
-def start(program, words, streams, ignored=()):
-    """The process of the program, begun below this one."""
+def start(program, words, streams, ignored=(), ends_with_this=False):
+    """The process of the program, begun below this one, and stopped where this one ends before it if that is asked."""
+    this = os.getpid()
     process = os.fork()
     if process:
         return process
     try:
+        if ends_with_this:
+            end_with(this)
         become(program, words, streams, ignored)
     except Refused as why:
         say(why)
     finally:
+        os._exit(telling.NOT_RUN)
+
+
+def end_with(parent):
+    """Has the system stop this process when its parent ends, however that ends, where python can ask for it."""
+    try:
+        import ctypes
+        ctypes.CDLL(None).prctl(SIGNAL_AT_PARENTS_END, ctypes.c_ulong(signal.SIGKILL))
+    except (ImportError, OSError, AttributeError):
+        return
+    # (it may have ended before)
+    if os.getppid() != parent:
         os._exit(telling.NOT_RUN)
 
 

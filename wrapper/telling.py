@@ -1,5 +1,6 @@
 """What the wrapper tells a person: why it refuses, what a status means, and its help."""
 import os
+import re
 
 HERE = os.path.dirname(os.path.abspath(__file__))
 USAGE = 1
@@ -40,8 +41,13 @@ def status_rows():
 def meanings(status, text, command):
     """What the table says of a status and the text that the program printed, in a line for each cause."""
     rows = [row for row in status_rows() if row[0] == str(status) and row[1] in ("", text)]
-    rows = [row for row in rows if not row[2].startswith("`") or row[2].split("`")[1] in (command, "cryfs.config")]
+    rows = [row for row in rows if command in (commands_of(row[2]) or [command])]
     return [f"{'or ' if number else ''}{cause}: {remedy}" for number, (_, _, cause, remedy) in enumerate(rows)]
+
+
+def commands_of(cause):
+    """The commands that a cause begins with: `one`, `two` or `three`."""
+    return re.findall("`([a-z]+)`", re.match("(?:`[a-z]+`(?:, | or )?)*", cause)[0])
 
 
 def status_help():

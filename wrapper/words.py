@@ -53,6 +53,10 @@ class Call:
         """Whether its input is the bytes of a file."""
         return self.command == "put"
 
+    def reads_beside(self):
+        """Whether its input holds more than the password by which it opens."""
+        return self.takes_lines() or self.takes_bytes() or self.command == "passwd"
+
     def words(self):
         return [self.blocks, self.state, *self.rest]
 
