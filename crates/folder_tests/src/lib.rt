@@ -7,8 +7,6 @@ mod counted_flushes;
 #[cfg(test)]
 mod folder_keeper;
 #[cfg(test)]
-mod folder_names;
-#[cfg(test)]
 mod folder_run;
 #[cfg(test)]
 mod folder_vault;
