@@ -47,7 +47,7 @@ salt_in bytes = slice_range bytes 38 70
 
 -- the inner part, where it opens
 abbrev pub inner_in : List ℕ → List ℕ → Option (List ℕ)
-inner_in password bytes = opened_of (outer_key password (salt_in bytes) (cost_in bytes)) (drop 70 bytes)
+inner_in password bytes = opened_of (outer_key password (salt_in bytes) (cost_in bytes)) [] (drop 70 bytes)
 
 -- ---- the inner part: 21 bytes, the cipher's name and a zero, the innermost part, sealed, and fill
 

@@ -69,10 +69,10 @@ module _ {S : Type 0} (held : S → Held) (trace : S → Option (List Call)) (fa
   }
 
   pub not_wanted : live_version (held a) id ≡ None → wanted (held a) (trace a) id ≡ None
-  not_wanted dead = ap (λ v. where_live v (payload_in (held a).opens (held a).size (file_of (held a) (told_or_none (trace a)) id))) dead
+  not_wanted dead = ap (λ v. where_live v (payload_in (held a).opens (held a).size id (file_of (held a) (told_or_none (trace a)) id))) dead
 
   pub is_wanted : (version : ℕ) → live_version (held a) id ≡ Some version → is_some (wanted (held a) (trace a) id) ≡ true
-  is_wanted version live = ap (λ v. is_some (where_live v (payload_in (held a).opens (held a).size (file_of (held a) (told_or_none (trace a)) id)))) live
+  is_wanted version live = ap (λ v. is_some (where_live v (payload_in (held a).opens (held a).size id (file_of (held a) (told_or_none (trace a)) id)))) live
 
   pub not_loaded : (meanings_by held trace faults own).intact a → live_version (held a) id ≡ None
       → Outcome (meanings_by held trace faults own) {T = Option (Vec ℕ Global)} Unit a a (Ok None) (λ _ answer. bytes_of answer ≡ wanted (held a) (trace a) id)

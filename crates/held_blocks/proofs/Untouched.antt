@@ -46,8 +46,7 @@ untouched_sound h (Some trace) empty none = record {
   waits = λ id version change live w. absurd (never_live h id version empty live);
   stands = λ id version live w. absurd (never_live h id version empty live);
   buried = λ id dead w. absurd (true_is_false (sym dead ∙ dead_none id));
-  used = λ id changed. absurd (true_is_false (sym changed ∙ ap is_some (none (block id))));
-  past = λ bytes plain was is. absurd (no_put trace bytes none was);
+  past = λ id bytes r was is own. absurd (no_put trace bytes none was);
 }
   where
     dead_none : (id : List ℕ) → is_dead_in h.state.lives id ≡ false

@@ -12,6 +12,7 @@ use Rattle.local_state.specs.declared.life.Life.{Life}
 use Rattle.local_state.specs.Known.{is_last}
 use Rattle.local_state.specs.Record.{HasRecord}
 use Rattle.store_api.specs.Holdings.{Holdings}
+use Rattle.sealed_store.specs.BlockFiles.{OpensAlike}
 use Rattle.store_api.specs.Lists.{block_magic}
 use Rattle.held_blocks.specs.Forgeries.{forged}
 use Rattle.held_blocks.specs.Held.{Held, wanted}
@@ -30,6 +31,8 @@ pub record IsWhole (h : Held) : Type 0 where
   pub most : h.size ≤ MAX_BLOCK
   pub has_record : HasRecord h.state h.list
   pub config : IsNoBlock (change_at config h.list)
+  -- whatever extra bytes a sealed text opens with, it opens to one plaintext
+  pub alike : OpensAlike h.opens
 
 -- only reads of live blocks were made, and all else is the same
 pub record OnlyRead (a b : Held) (old new : Option (List Call)) (was now : ℕ) : Type 0 where

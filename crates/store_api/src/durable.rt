@@ -3,7 +3,7 @@ ghost use Rattle.std.specs.Prelude.{◌≡◌, ◌≤◌, ◌<◌, ◌^◌, ◌-
 ghost use Rattle.outside.specs.Causes.{GetHasCause};
 ghost use Rattle.outside.specs.Writes.{after_writes, StopsAt};
 ghost use Rattle.store_api.specs.Content.{Id, SameIds, SameContent};
-ghost use Rattle.store_api.specs.Durables.{Durables, Records, Enduring};
+ghost use Rattle.store_api.specs.Durables.{Durables, Records, Enduring, MayBeLeast};
 ghost use Rattle.store_api.specs.Holdings.{Stays};
 ghost use Rattle.store_api.specs.Lists.{waiting_bytes, waiting_weight, with_config, MayConfigure};
 
@@ -64,16 +64,34 @@ pub trait Durable: BlocksMut {
         ensures writes { OnOk result (durables.trace self.new ≡ after_writes (durables.list self.old) (durables.trace self.old)) }
         ensures stops { OnErr result (StopsAt (durables.list self.old) (durables.trace self.old) (durables.trace self.new) (durables.list self.new)) }
         ensures empty { durables.local_record_of self.new false ≡ durables.local_record_of self.old false }
-        ensures stands { Self.meanings.sound self.old → (durables.identity self.old).marked ≡ false
-            → records.stands (durables.identity self.old) (durables.local_record_of self.old true) (durables.trace self.new) (Self.holdings.content self.old) }
-        ensures kept_configures { (bytes : List ℕ) → records.configures (durables.local_record_of self.old true) (durables.trace self.old) bytes
-            → records.configures (durables.local_record_of self.old true) (durables.trace self.new) bytes }
-        ensures configures { Self.holdings.told self.old ≡ true → (bytes : List ℕ) → records.configures (durables.local_record_of self.old true) (durables.trace self.old) bytes
+        ensures empty_record { (kept : List ℕ) → durables.is_record self.old false kept → durables.is_record self.new false kept }
+        ensures stands { (kept : List ℕ) → Self.meanings.sound self.old → (durables.identity self.old).marked ≡ false → durables.is_record self.old true kept
+            → records.stands (durables.identity self.old) kept (durables.trace self.new) (Self.holdings.content self.old) }
+        ensures kept_configures { (kept bytes : List ℕ) → durables.is_record self.old true kept → records.configures kept (durables.trace self.old) bytes
+            → records.configures kept (durables.trace self.new) bytes }
+        ensures configures { Self.holdings.told self.old ≡ true → (kept bytes : List ℕ) → durables.is_record self.old true kept → records.configures kept (durables.trace self.old) bytes
             → records.configures (durables.local_record_of self.new true) (durables.trace self.new) bytes }
         ensures sound { Self.meanings.sound self.old → Self.meanings.sound self.new }
         ensures forgeries { Self.meanings.forgeries self.new ≡ Self.meanings.forgeries self.old }
         ensures lies { Self.meanings.lies self.new ≡ Self.meanings.lies self.old }
         ensures cause { GetHasCause (Self.meanings.faults self.old) (Self.meanings.faults self.new) result };
+
+    /// Files of formats below `least` aren't taken any more.
+    fn set_least(&mut self, least: u8)
+        requires intact { Self.meanings.intact self.old }
+        requires may { MayBeLeast durables Self.holdings self.old least }
+        ensures least { durables.least self.new ≡ least }
+        ensures intact { Self.meanings.intact self.new }
+        ensures identity { durables.identity self.new ≡ durables.identity self.old }
+        ensures list { durables.list self.new ≡ durables.list self.old }
+        ensures trace { durables.trace self.new ≡ durables.trace self.old }
+        ensures stays { Stays Self.holdings self.old self.new }
+        ensures configures { (kept bytes : List ℕ) → durables.is_record self.old true kept → records.configures kept (durables.trace self.old) bytes
+            → records.configures (durables.local_record_of self.new true) (durables.trace self.new) bytes }
+        ensures sound { Self.meanings.sound self.old → Self.meanings.sound self.new }
+        ensures forgeries { Self.meanings.forgeries self.new ≡ Self.meanings.forgeries self.old }
+        ensures lies { Self.meanings.lies self.new ≡ Self.meanings.lies self.old }
+        ensures faults { Self.meanings.faults self.new ≡ Self.meanings.faults self.old };
 
     ghost enduring: { Enduring Self.meanings Self.holdings Self.applied durables records };
 }
