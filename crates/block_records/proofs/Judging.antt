@@ -7,8 +7,9 @@ use Rattle.std.proofs.Common.{refl, sym, ap}
 use Rattle.std.proofs.lemmas.Bool.Decides.{Decides-eqb}
 use Rattle.std.proofs.lemmas.Slice.Eq.{bytes_eq-Decides}
 use Rattle.block_id.specs.declared.fail.Why.TheVariants.{WrongId, ForeignClient, OldVersion, AheadVersion, Structure}
-use Rattle.sealed_store.specs.declared.format.Format.{Format}
-use Rattle.sealed_store.specs.BlockFiles.{SeenFile, absent, bad_length, bad_prefix, extra_of, format_in, number_of, old_format, not_opened, opened_as, plain, seen_as, seen_file_of_plain}
+use Rattle.block_id.specs.declared.format.Format.{Format}
+use Rattle.block_id.specs.Formats.{extra_of, format_in, number_of}
+use Rattle.sealed_store.specs.BlockFiles.{SeenFile, absent, bad_length, bad_prefix, old_format, not_opened, opened_as, plain, seen_as, seen_file_of_plain}
 use Rattle.block_records.specs.BlockRecords.{Record, opened, record_in, record_of}
 use Rattle.block_records.specs.RecordLaws.{opened-plain, record-length}
 use Rattle.block_records.specs.VerdictLaws.{bad_is_good}

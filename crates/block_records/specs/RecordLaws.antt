@@ -9,8 +9,9 @@ use Rattle.std.proofs.lemmas.Option.{same_Some}
 use Rattle.byte_fields.specs.Fields.{front_at, number_at}
 use Rattle.byte_fields.proofs.Fields.{bound, some_behind}
 use Rattle.sealed_store.specs.declared.sealed_store.TheConstants.{SEAL_LEN}
-use Rattle.sealed_store.specs.declared.format.Format.{Format}
-use Rattle.sealed_store.specs.BlockFiles.{OpensAlike, opened_as, opens_file, extra_of, format_in}
+use Rattle.block_id.specs.declared.format.Format.{Format}
+use Rattle.block_id.specs.Formats.{extra_of, format_in}
+use Rattle.sealed_store.specs.BlockFiles.{OpensAlike, opened_as, opens_file}
 use Rattle.block_records.specs.declared.block_record.TheConstants.{HEAD_LEN, OVERHEAD}
 use Rattle.block_records.specs.BlockRecords.{Record, opened, payload_of, record_in, record_of}
 

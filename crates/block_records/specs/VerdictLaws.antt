@@ -6,8 +6,9 @@ use Rattle.std.proofs.lemmas.Slice.Eq.{bytes_eq-Decides}
 use Rattle.std.specs.declared.option.Option.{Option}
 use Rattle.std.specs.declared.option.Option.TheVariants.{None, Some}
 use Rattle.block_id.specs.declared.fail.Why.{Why}
-use Rattle.sealed_store.specs.declared.format.Format.{Format}
-use Rattle.sealed_store.specs.BlockFiles.{IsTaken, bad_length, extra_of, format_in, number_of, old_format, opened_as, seen_as, seen_file_of_plain}
+use Rattle.block_id.specs.declared.format.Format.{Format}
+use Rattle.block_id.specs.Formats.{IsTaken, extra_of, format_in, number_of}
+use Rattle.sealed_store.specs.BlockFiles.{bad_length, old_format, opened_as, seen_as, seen_file_of_plain}
 use Rattle.block_records.specs.BlockRecords.{Record, opened, record_in}
 use Rattle.block_records.specs.Verdicts.{bad, good, judged, judged_record, verdict}
 

@@ -1,35 +1,9 @@
--- Block files: 14 bytes that are the same in each, the number of its format, then a sealed record.
-use Rattle.std.specs.Prelude.{◌≡◌, ℕ, ◌==◌, false, List, [], ◌∷◌, ◌++◌, nat_eq, nat_lt, length, drop, if◌then◌else◌}
-use Rattle.std.specs.List.{starts_with}
+-- Block files: the 16 bytes of a format, then a sealed record.
+use Rattle.std.specs.Prelude.{◌≡◌, ℕ, ◌==◌, List, nat_lt, length, drop, if◌then◌else◌}
 use Rattle.std.specs.declared.option.Option.{Option}
 use Rattle.std.specs.declared.option.Option.TheVariants.{None, Some}
-use Rattle.sealed_store.specs.declared.format.Format.{Format}
-use Rattle.sealed_store.specs.declared.format.Format.TheVariants.{Alone, WithId}
-
--- ---- formats
-
-abbrev pub number_of : Format → ℕ
-number_of Alone = 1
-number_of WithId = 2
-
--- the extra bytes that the seal of a block's file protects
-abbrev pub extra_of : Format → List ℕ → List ℕ
-extra_of Alone id = []
-extra_of WithId id = id
-
--- `cryfs;block;0` and a zero byte
-abbrev pub magic : List ℕ
-magic = 99 ∷ 114 ∷ 121 ∷ 102 ∷ 115 ∷ 59 ∷ 98 ∷ 108 ∷ 111 ∷ 99 ∷ 107 ∷ 59 ∷ 48 ∷ 0 ∷ []
-
--- then the format's number as two bytes
-abbrev pub prefix_of : Format → List ℕ
-prefix_of f = magic ++ (number_of f ∷ 0 ∷ [])
-
--- the format that a file begins with, if it begins with one
-abbrev pub format_in : List ℕ → Option Format
-format_in bytes = if starts_with nat_eq bytes (prefix_of Alone) then Some Alone else (if starts_with nat_eq bytes (prefix_of WithId) then Some WithId else None)
-
--- ---- files
+use Rattle.block_id.specs.Formats.{extra_of, format_in, number_of}
+use Rattle.block_id.specs.declared.format.Format.{Format}
 
 -- what the rest of a file of this block opens to, by its format
 abbrev pub opened_as : (List ℕ → List ℕ → Option (List ℕ)) → List ℕ → List ℕ → Option Format → Option (List ℕ)
@@ -62,12 +36,6 @@ seen_as opens least id rest (Some f) = if nat_lt (number_of f) least then old_fo
 abbrev pub seen_file_in : (List ℕ → List ℕ → Option (List ℕ)) → ℕ → ℕ → List ℕ → Option (List ℕ) → SeenFile
 seen_file_in opens size least id None = absent
 seen_file_in opens size least id (Some bytes) = if length bytes == size then seen_as opens least id (drop 16 bytes) (format_in bytes) else bad_length
-
--- the file is of a format that is taken, by the least number of one
-pub record IsTaken (least : ℕ) (bytes : List ℕ) : Type 0 where
-  pub format : Format
-  pub is : format_in bytes ≡ Some format
-  pub taken : nat_lt (number_of format) least ≡ false
 
 -- whatever extra bytes a sealed text opens with, it opens to one plaintext
 abbrev pub OpensAlike : (List ℕ → List ℕ → Option (List ℕ)) → Type 0

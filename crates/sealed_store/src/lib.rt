@@ -1,10 +1,8 @@
 //! Sealed block files over a directory with changes that aren't written yet.
 #![tactic(auto)]
 
-mod format;
 mod sealed_store;
 mod seen;
 
-pub use format::Format;
 pub use sealed_store::{SEAL_LEN, SealedStore};
 pub use seen::Seen;

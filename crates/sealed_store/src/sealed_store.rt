@@ -2,6 +2,7 @@
 ghost use Rattle.std.specs.Prelude.{◌≡◌, ◌⊎◌, ◌≤◌, ◌+◌, ℕ, List, nat_lt, length, take, drop, IfOk, IfSome, OnErr, IsErrOf};
 ghost use Rattle.std.specs.declared.option.Option.{Option};
 ghost use Rattle.std.specs.declared.option.Option.TheVariants.{None, Some};
+ghost use Rattle.block_id.specs.Formats.{prefix_of, format_in, extra_of, number_of};
 ghost use Rattle.block_id.specs.declared.sizes.TheConstants.{MIN_BLOCK, MAX_BLOCK};
 ghost use Rattle.outside.specs.Causes.{GetHasCause};
 ghost use Rattle.outside.specs.Trace.{block};
@@ -9,11 +10,11 @@ ghost use Rattle.outside.specs.Changes.{change_at};
 ghost use Rattle.outside.specs.View.{bytes_of};
 ghost use Rattle.redo_vault.specs.Redo.{Gave};
 ghost use Rattle.sealed_store.specs.declared.sealed_store.TheConstants.{SEAL_LEN};
-ghost use Rattle.sealed_store.specs.BlockFiles.{prefix_of, format_in, opens_file, seen_file_in, seen_as, seen_file_of_plain, extra_of, number_of};
+ghost use Rattle.sealed_store.specs.BlockFiles.{opens_file, seen_file_in, seen_file_of_plain};
 ghost use Rattle.sealed_store.specs.Stores.{seen_file_of, IsIntact, Sees, block_size_of, key_of, cipher_of};
 
-use crate::{Format, Seen};
-use block_id::BlockId;
+use crate::Seen;
+use block_id::{BlockId, Format};
 use outside::{FileName, GetFail, Memory, Vault};
 use redo_vault::RedoVault;
 use seal_api::Sealer;
