@@ -198,6 +198,7 @@ impl<S: Durable> Durable for BlockCache<S> {
         requires bytes { MayConfigure bytes.items }
         ensures intact { ⟦<BlockCache<S> as Blocks>⟧.meanings.intact self.new }
         ensures identity { S.durables.identity self.new.store ≡ S.durables.identity self.old.store }
+        ensures least { S.durables.least self.new.store ≡ S.durables.least self.old.store }
         ensures ok { OnOk result (S.durables.list self.new.store ≡ with_config bytes.items (S.durables.list self.old.store)) }
         ensures err { OnErr result (⟦<BlockCache<S> as Blocks>⟧.meanings.loaded self.old self.new) }
         ensures stays { Stays ⟦<BlockCache<S> as Blocks>⟧.holdings self.old self.new }
@@ -218,6 +219,7 @@ impl<S: Durable> Durable for BlockCache<S> {
         requires { ⟦<BlockCache<S> as Blocks>⟧.meanings.intact self.old }
         ensures intact { ⟦<BlockCache<S> as Blocks>⟧.meanings.intact self.new }
         ensures identity { S.durables.identity self.new.store ≡ S.durables.identity self.old.store }
+        ensures least { S.durables.least self.new.store ≡ S.durables.least self.old.store }
         ensures ids { SameIds (⟦<BlockCache<S> as Blocks>⟧.holdings.content self.old) (⟦<BlockCache<S> as Blocks>⟧.holdings.content self.new) }
         ensures content { ⟦<BlockCache<S> as Blocks>⟧.holdings.told self.old ≡ true → SameContent (⟦<BlockCache<S> as Blocks>⟧.holdings.content self.old) (⟦<BlockCache<S> as Blocks>⟧.holdings.content self.new) }
         ensures payload { ⟦<BlockCache<S> as Blocks>⟧.holdings.payload self.new ≡ ⟦<BlockCache<S> as Blocks>⟧.holdings.payload self.old }

@@ -37,6 +37,7 @@ pub trait Durable: BlocksMut {
         requires bytes { MayConfigure bytes.items }
         ensures intact { Self.meanings.intact self.new }
         ensures identity { durables.identity self.new ≡ durables.identity self.old }
+        ensures least { durables.least self.new ≡ durables.least self.old }
         ensures ok { OnOk result (durables.list self.new ≡ with_config bytes.items (durables.list self.old)) }
         ensures err { OnErr result (Self.meanings.loaded self.old self.new) }
         ensures stays { Stays Self.holdings self.old self.new }
@@ -53,6 +54,7 @@ pub trait Durable: BlocksMut {
         requires { Self.meanings.intact self.old }
         ensures intact { Self.meanings.intact self.new }
         ensures identity { durables.identity self.new ≡ durables.identity self.old }
+        ensures least { durables.least self.new ≡ durables.least self.old }
         ensures ids { SameIds (Self.holdings.content self.old) (Self.holdings.content self.new) }
         ensures content { Self.holdings.told self.old ≡ true → SameContent (Self.holdings.content self.old) (Self.holdings.content self.new) }
         ensures payload { Self.holdings.payload self.new ≡ Self.holdings.payload self.old }
