@@ -8,8 +8,8 @@ use Rattle.outside.specs.Trace.{Call, block}
 use Rattle.outside.specs.Honest.{LastChange, last_change}
 use Rattle.local_state.specs.declared.life.Life.{Life}
 use Rattle.local_state.specs.Known.{raised_version, is_dead_in, version_if_live, is_last}
-use Rattle.sealed_store.specs.declared.format.Format.TheVariants.{WithId}
-use Rattle.sealed_store.specs.BlockFiles.{IsTaken, format_in}
+use Rattle.block_id.specs.declared.format.Format.TheVariants.{WithId}
+use Rattle.block_id.specs.Formats.{IsTaken, format_in}
 use Rattle.store_api.specs.Content.{Id, Changes, or_else, over}
 use Rattle.store_api.specs.Holdings.{Changed, gives_payload, has_id}
 use Rattle.block_records.specs.BlockRecords.{Record, opened, payload_of, payload_in}

@@ -9,8 +9,8 @@ use Rattle.outside.specs.Changes.{change_at}
 use Rattle.local_state.specs.declared.life.Life.{Life}
 use Rattle.local_state.specs.Known.{raised_version}
 use Rattle.store_api.specs.Content.{Changes}
-use Rattle.sealed_store.specs.declared.format.Format.TheVariants.{WithId}
-use Rattle.sealed_store.specs.BlockFiles.{format_in}
+use Rattle.block_id.specs.declared.format.Format.TheVariants.{WithId}
+use Rattle.block_id.specs.Formats.{format_in}
 use Rattle.block_records.specs.BlockRecords.{opened}
 use Rattle.held_blocks.specs.Held.{Held, waiting, own}
 

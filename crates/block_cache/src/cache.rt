@@ -203,6 +203,7 @@ impl<S: Durable> Durable for BlockCache<S> {
         ensures err { OnErr result (⟦<BlockCache<S> as Blocks>⟧.meanings.loaded self.old self.new) }
         ensures stays { Stays ⟦<BlockCache<S> as Blocks>⟧.holdings self.old self.new }
         ensures empty { S.durables.local_record_of self.new.store false ≡ S.durables.local_record_of self.old.store false }
+        ensures empty_record { (kept : List ℕ) → S.durables.is_record self.old.store false kept → S.durables.is_record self.new.store false kept }
         ensures trace { S.durables.trace self.new.store ≡ S.durables.trace self.old.store }
         ensures configures { OnOk result (S.records.configures (S.durables.local_record_of self.new.store true) (S.durables.trace self.new.store) bytes.items) }
         ensures sound { ⟦<BlockCache<S> as Blocks>⟧.meanings.sound self.old → ⟦<BlockCache<S> as Blocks>⟧.meanings.sound self.new }

@@ -7,7 +7,7 @@ use Rattle.outside.specs.Trace.{block, Call, At}
 use Rattle.outside.specs.Honest.{LastChange, last_change}
 use Rattle.local_state.specs.declared.life.Life.{Life}
 use Rattle.local_state.specs.Known.{is_dead_in}
-use Rattle.sealed_store.specs.BlockFiles.{IsTaken}
+use Rattle.block_id.specs.Formats.{IsTaken}
 use Rattle.block_records.specs.BlockRecords.{Record, opened}
 use Rattle.held_blocks.specs.Forgeries.{was_put}
 use Rattle.held_blocks.specs.Held.{Held, live_version, own, waiting, wanted}

@@ -9,8 +9,8 @@ use Rattle.store_api.specs.Content.{Content, SameContent}
 use Rattle.store_api.specs.Durables.{Identity, Durables, Records, IsConfigured}
 use Rattle.held_blocks.specs.Held.{Held, wanted}
 use Rattle.held_blocks.specs.Soundness.{SoundBy}
-use Rattle.sealed_store.specs.declared.format.Format.TheVariants.{WithId}
-use Rattle.sealed_store.specs.BlockFiles.{format_in}
+use Rattle.block_id.specs.declared.format.Format.TheVariants.{WithId}
+use Rattle.block_id.specs.Formats.{format_in}
 
 -- what a store that holds this was opened as
 abbrev pub identity_of : Held → Identity

@@ -13,7 +13,7 @@ use Rattle.local_state.specs.Known.{is_last}
 use Rattle.local_state.specs.Record.{HasRecord}
 use Rattle.store_api.specs.Holdings.{Holdings}
 use Rattle.sealed_store.specs.BlockFiles.{OpensAlike}
-use Rattle.store_api.specs.Lists.{block_magic}
+use Rattle.block_id.specs.Formats.{magic}
 use Rattle.held_blocks.specs.Forgeries.{forged}
 use Rattle.held_blocks.specs.Held.{Held, wanted}
 use Rattle.held_blocks.specs.Reads.{FoundSince, WentOnByReads}
@@ -23,7 +23,7 @@ use Rattle.held_blocks.specs.Soundness.{SoundBy}
 abbrev pub IsNoBlock : Option (Option (List ℕ)) → Type 0
 IsNoBlock None = Unit {0}
 IsNoBlock (Some None) = Unit {0}
-IsNoBlock (Some (Some bytes)) = take 14 bytes ≡ block_magic → ⊥
+IsNoBlock (Some (Some bytes)) = take 14 bytes ≡ magic → ⊥
 
 -- a block size within its limits, a state and a list that have a record, and no block's file that waits as the configuration
 pub record IsWhole (h : Held) : Type 0 where

@@ -9,9 +9,9 @@ use Rattle.local_state.specs.Record.{PlainState, IsLeast, HasRecord}
 use Rattle.store_api.specs.Durables.{IsLastNew, WasLastNew, IsNewFile, MayBeLeast}
 use Rattle.block_records.specs.BlockRecords.{Record, payload_in}
 use Rattle.store_api.specs.Holdings.{Stays}
-use Rattle.sealed_store.specs.declared.format.Format.{Format}
-use Rattle.sealed_store.specs.declared.format.Format.TheVariants.{Alone, WithId}
-use Rattle.sealed_store.specs.BlockFiles.{IsTaken, format_in, number_of}
+use Rattle.block_id.specs.declared.format.Format.{Format}
+use Rattle.block_id.specs.declared.format.Format.TheVariants.{Alone, WithId}
+use Rattle.block_id.specs.Formats.{IsTaken, format_in, number_of}
 use Rattle.held_blocks.specs.Held.{Held, file_of, live_version, told_or_none, waiting, wanted, where_live}
 use Rattle.held_blocks.specs.Soundness.{IsFresh, IsPast, SoundAt, SoundBy}
 use Rattle.held_blocks.specs.Stores.{IsWhole, holdings_by}

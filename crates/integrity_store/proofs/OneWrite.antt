@@ -21,11 +21,11 @@ use Rattle.local_state.specs.declared.life.Life.{Life}
 use Rattle.local_state.specs.Known.{Lives, is_live_in, is_dead_in, version_if_live}
 use Rattle.local_state.specs.Record.{ListEntry, FitsEntry, may_change, has_bytes}
 use Rattle.outside.specs.Writes.{call_for}
-use Rattle.sealed_store.specs.declared.format.Format.{Format}
-use Rattle.sealed_store.specs.declared.format.Format.TheVariants.{Alone, WithId}
-use Rattle.sealed_store.specs.BlockFiles.{opened_as, opens_file, prefix_of}
+use Rattle.block_id.specs.declared.format.Format.{Format}
+use Rattle.block_id.specs.declared.format.Format.TheVariants.{Alone, WithId}
+use Rattle.block_id.specs.Formats.{magic, prefix_of}
+use Rattle.sealed_store.specs.BlockFiles.{opened_as, opens_file}
 use Rattle.store_api.specs.Durables.{IsConfigured}
-use Rattle.store_api.specs.Lists.{block_magic}
 use Rattle.block_records.specs.BlockRecords.{Record, opened, payload_in}
 use Rattle.block_records.specs.RecordLaws.{if_true, opened-alike, opened-plain}
 use Rattle.held_blocks.specs.Held.{Held, live_version, waiting, waiting_or, bytes_in, file_of, where_live, wanted, own}
@@ -68,7 +68,7 @@ used_at lives id (Some bytes) may = let m = life_of_live (fin.get lives id) may 
 
 -- ---- files
 
-begins_as : (f : Format) (bytes : List ℕ) → starts_with nat_eq bytes (prefix_of f) ≡ true → take 14 bytes ≡ block_magic
+begins_as : (f : Format) (bytes : List ℕ) → starts_with nat_eq bytes (prefix_of f) ≡ true → take 14 bytes ≡ magic
 begins_as f bytes test =
     let same : prefix_of f ≡ take 16 bytes = by_format f bytes test in
     sym (take-take 14 16 bytes (omega arith)) ∙ ap (take 14) (sym same) ∙ magic_is f
@@ -77,18 +77,18 @@ begins_as f bytes test =
     by_format Alone bytes test = (bytes_decides (prefix_of Alone) (take 16 bytes)).0 test
     by_format WithId bytes test = (bytes_decides (prefix_of WithId) (take 16 bytes)).0 test
 
-    magic_is : (f : Format) → take 14 (prefix_of f) ≡ block_magic
+    magic_is : (f : Format) → take 14 (prefix_of f) ≡ magic
     magic_is Alone = refl
     magic_is WithId = refl
 
-found_begins : (a b : Bool) (bytes : List ℕ) → (a ≡ true → take 14 bytes ≡ block_magic) → (b ≡ true → take 14 bytes ≡ block_magic) → (opens : List ℕ → List ℕ → Option (List ℕ)) (id rest plain : List ℕ)
-    → opened_as opens id rest (if a then Some Alone else (if b then Some WithId else None)) ≡ Some plain → take 14 bytes ≡ block_magic
+found_begins : (a b : Bool) (bytes : List ℕ) → (a ≡ true → take 14 bytes ≡ magic) → (b ≡ true → take 14 bytes ≡ magic) → (opens : List ℕ → List ℕ → Option (List ℕ)) (id rest plain : List ℕ)
+    → opened_as opens id rest (if a then Some Alone else (if b then Some WithId else None)) ≡ Some plain → take 14 bytes ≡ magic
 found_begins true b bytes f g opens id rest plain e = f refl
 found_begins false true bytes f g opens id rest plain e = g refl
 found_begins false false bytes f g opens id rest plain e = absurd (true_is_false (ap is_some (sym e)))
 
 -- a file that opens begins as a block's file does
-begins : (opens : List ℕ → List ℕ → Option (List ℕ)) (size : ℕ) (id bytes plain : List ℕ) → opens_file opens size id bytes ≡ Some plain → take 14 bytes ≡ block_magic
+begins : (opens : List ℕ → List ℕ → Option (List ℕ)) (size : ℕ) (id bytes plain : List ℕ) → opens_file opens size id bytes ≡ Some plain → take 14 bytes ≡ magic
 begins opens size id bytes plain is =
     found_begins (starts_with nat_eq bytes (prefix_of Alone)) (starts_with nat_eq bytes (prefix_of WithId)) bytes (begins_as Alone bytes) (begins_as WithId bytes) opens id (drop 16 bytes) plain (if_true (length bytes == size) _ plain is).1
 

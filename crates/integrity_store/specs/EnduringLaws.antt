@@ -11,8 +11,8 @@ use Rattle.local_state.specs.Record as records_of
 use Rattle.store_api.specs.Content.{Content, SameContent, Changes as BlockChanges}
 use Rattle.store_api.specs.Durables.{Identity, Enduring, IsConfigured, last_told, with_mark}
 use Rattle.std.specs.FinMap as fin
-use Rattle.sealed_store.specs.declared.format.Format.TheVariants.{WithId}
-use Rattle.sealed_store.specs.BlockFiles.{format_in}
+use Rattle.block_id.specs.declared.format.Format.TheVariants.{WithId}
+use Rattle.block_id.specs.Formats.{format_in}
 use Rattle.batch_sealing.specs.Applied.{Applied, WaitsAfter, applied_by}
 use Rattle.held_blocks.specs.Held.{Held}
 use Rattle.held_blocks.specs.ReadLaws.{goes_on, last_went, sound-got, went_sound, went_wanted}

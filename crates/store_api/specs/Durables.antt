@@ -31,9 +31,9 @@ pub record Durables (S : Type 0) : Type 1 where
   pub trace : S → Option (List Call)
   -- the unwritten list, by increasing names
   pub list : S → List (At × Option (List ℕ))
-  -- these bytes are a record of what it holds, with this list or with an empty one, in any form
+  -- these bytes are a record of what it holds, with this list or with an empty one, in any form that a record may have
   pub is_record : S → Bool → List ℕ → Type 0
-  -- the record that is written
+  -- the one that is written, with this list or with an empty one
   pub local_record_of : S → Bool → List ℕ
   -- the least format of files that is taken
   pub least : S → ℕ
@@ -50,11 +50,11 @@ abbrev pub IsConfigured : List (At × Option (List ℕ)) → Option (List Call) 
 IsConfigured list trace bytes =
     (change_at config list ≡ Some (Some bytes)) ⊎ ((change_at config list ≡ None) × (last_told config trace ≡ Some (record { bytes = Some bytes; ok = true })))
 
--- such a last change
+-- the last change put a file of the newest format, with either answer
 abbrev pub IsLastNew : (List ℕ → Type 0) → Option LastChange → Type 0
 IsLastNew is_new last = (bytes : List ℕ) × (ok : Bool) × (last ≡ Some (record { bytes = Some bytes; ok = ok })) × is_new bytes
 
--- the same, by calls that are told
+-- the same, where the calls are told
 abbrev pub WasLastNew : (List ℕ → Type 0) → At → Option (List Call) → Type 0
 WasLastNew is_new name None = Unit {0}
 WasLastNew is_new name (Some calls) = IsLastNew is_new (last_change name calls)
@@ -88,7 +88,7 @@ with_mark bytes = slice_set bytes mark_place 1
 pub record Enduring {S : Type 0} (M : Meanings S) (H : Holdings S) (applied : S → S → Changes → Type 0) (D : Durables S) (R : Records) : Type 0 where
   -- what a sound store keeps now stands for its content, unless a violation is marked in it
   pub stands_now : (s : S) (kept : List ℕ) → M.intact s → M.sound s → (D.identity s).marked ≡ false → D.is_record s true kept → R.stands (D.identity s) kept (D.trace s) (H.content s)
-  -- what is written is a record, and where nothing waits both are
+  -- what is written is a record
   pub written : (s : S) (with_list : Bool) → M.intact s → D.is_record s with_list (D.local_record_of s with_list)
   -- a get of any file leaves what a kept record stands for and says of the configuration's file, and so does a mark of the latter
   pub got_stands : (identity : Identity) (kept : List ℕ) (trace : Option (List Call)) (content : Content) (name : At) (max : ℕ) (answer : Option (List ℕ)) → R.stands identity kept trace content → R.stands identity kept (adds trace (got name max answer)) content
@@ -120,11 +120,12 @@ pub record Enduring {S : Type 0} (M : Meanings S) (H : Holdings S) (applied : S 
       → R.configures (D.local_record_of a true) (D.trace a) bytes → R.configures (D.local_record_of b true) (D.trace b) bytes
   -- the unwritten list stands in order of its names
   pub in_order : (s : S) → M.intact s → IsIncreasing (D.list s)
-  -- a batch leaves the least format; each payload of it waits as a file of the newest format, and what it doesn't name waits as before
+  -- loading and a batch leave the least format; each payload of a batch waits as a file of the newest format, and what it doesn't name waits as before
   pub loaded_least : (a b : S) → M.loaded a b → D.least b ≡ D.least a
   pub applied_least : (a b : S) (changes : Changes) → applied a b changes → D.least b ≡ D.least a
   pub applied_new : (a b : S) (changes : Changes) (id payload : List ℕ) → applied a b changes → get changes id ≡ Some (Some payload)
       → (bytes : List ℕ) × (change_at (block id) (D.list b) ≡ Some (Some bytes)) × D.is_new bytes
   pub applied_rest : (a b : S) (changes : Changes) (id : List ℕ) → applied a b changes → get changes id ≡ None → change_at (block id) (D.list b) ≡ change_at (block id) (D.list a)
+  -- where nothing waits a record with an empty list is one with the list, and what is written is the same
   pub nothing_waits : (s : S) → D.list s ≡ [] → D.local_record_of s true ≡ D.local_record_of s false
   pub same_record : (s : S) (kept : List ℕ) → D.list s ≡ [] → D.is_record s false kept → D.is_record s true kept

@@ -42,6 +42,7 @@ pub trait Durable: BlocksMut {
         ensures err { OnErr result (Self.meanings.loaded self.old self.new) }
         ensures stays { Stays Self.holdings self.old self.new }
         ensures empty { durables.local_record_of self.new false ≡ durables.local_record_of self.old false }
+        ensures empty_record { (kept : List ℕ) → durables.is_record self.old false kept → durables.is_record self.new false kept }
         ensures trace { durables.trace self.new ≡ durables.trace self.old }
         ensures configures { OnOk result (records.configures (durables.local_record_of self.new true) (durables.trace self.new) bytes.items) }
         ensures sound { Self.meanings.sound self.old → Self.meanings.sound self.new }
@@ -78,7 +79,8 @@ pub trait Durable: BlocksMut {
         ensures lies { Self.meanings.lies self.new ≡ Self.meanings.lies self.old }
         ensures cause { GetHasCause (Self.meanings.faults self.old) (Self.meanings.faults self.new) result };
 
-    /// Files of formats below `least` aren't taken any more.
+    /// Sets the least format of block files, 1 or 2: files of an older one aren't taken from here on. It takes no memory and
+    /// makes no call.
     fn set_least(&mut self, least: u8)
         requires intact { Self.meanings.intact self.old }
         requires may { MayBeLeast durables Self.holdings self.old least }

@@ -4,8 +4,9 @@ use Rattle.std.specs.declared.alloc.Global.{Global}
 use Rattle.std.specs.FinMap as fin
 use Rattle.local_state.specs.declared.life.Life.{Life}
 use Rattle.local_state.specs.Known.{raised_version}
-use Rattle.sealed_store.specs.declared.format.Format.TheVariants.{WithId}
-use Rattle.sealed_store.specs.BlockFiles.{format_in, opens_file}
+use Rattle.block_id.specs.declared.format.Format.TheVariants.{WithId}
+use Rattle.block_id.specs.Formats.{format_in}
+use Rattle.sealed_store.specs.BlockFiles.{opens_file}
 use Rattle.block_records.specs.BlockRecords.{Record, record_of, record_in}
 use Rattle.held_blocks.specs.Held.{Held, own}
 use Rattle.batch_sealing.specs.Applied.{IsRaised}
