@@ -20,6 +20,10 @@ use Rattle.session_saver.specs.declared.saver.SyncError.TheVariants.{Memory, Fau
 abbrev pub RepresentsContent : Records → Identity → Option (List ℕ) → Option (List Call) → Content → Type 0
 RepresentsContent R identity kept trace content = (bytes : List ℕ) × (kept ≡ Some bytes) × R.stands identity bytes trace content
 
+-- a record of this store with an empty list is kept
+abbrev pub KeepsEmpty : {S : Type 0} → Durables S → S → Option (List ℕ) → Type 0
+KeepsEmpty D store kept = (bytes : List ℕ) × (kept ≡ Some bytes) × D.is_record store false bytes
+
 -- by what is kept and the trace, the configuration's file holds these bytes
 abbrev pub KeptConfigures : Records → Option (List ℕ) → Option (List Call) → List ℕ → Type 0
 KeptConfigures R kept trace bytes = (record_ : List ℕ) × (kept ≡ Some record_) × R.configures record_ trace bytes
@@ -122,6 +126,7 @@ pub record IsLongKept {S : Type 0} {K : Type 0} (W : World S K) (saver : Saver K
 -- what any call that may sync leaves of its store and its keeper, however far it comes
 pub record Leaves {S : Type 0} {K : Type 0} (W : World S K) (a : S) (k : K) (b : S) (l : K) (result : Result Unit SyncError) : Type 0 where
   pub identity : W.durables.identity b ≡ W.durables.identity a
+  pub least : W.durables.least b ≡ W.durables.least a
   pub stays : Stays W.holdings a b
   pub sound : W.meanings.sound a → W.meanings.sound b
   pub goes_on : GoesOn (W.durables.trace a) (W.durables.trace b)
