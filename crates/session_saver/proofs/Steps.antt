@@ -137,6 +137,7 @@ module _ {S : Type 0} {K : Type 0} (M : Meanings S) (H : Holdings S) (D : Durabl
       → (IsErrOf result FaultState → RoseBy 1 (G.faults k) (G.faults l)) → UnlessState result (G.faults l ≡ G.faults k) → Leaves (world M H D R G) a k a l result
   leaves_same a k l result grows none still rose quiet = record {
     identity = refl;
+    least = refl;
     stays = stays_same H a;
     sound = λ sound. sound;
     goes_on = goes_on_same (D.trace a);
@@ -158,6 +159,7 @@ module _ {S : Type 0} {K : Type 0} (M : Meanings S) (H : Holdings S) (D : Durabl
   pub leaves_since : (a b : S) (k m l : K) (result : Result Unit SyncError) → G.faults m ≡ G.faults k → Leaves (world M H D R G) a m b l result → Leaves (world M H D R G) a k b l result
   leaves_since a b k m l result calm z = record {
     identity = z.identity;
+    least = z.least;
     stays = z.stays;
     sound = z.sound;
     goes_on = z.goes_on;

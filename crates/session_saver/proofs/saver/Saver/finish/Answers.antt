@@ -22,6 +22,7 @@ returns-in-Err-Failed g c =
       moves = record {
         leaves = record {
           identity = w.identity;
+          least = w.least;
           stays = record { ids = w.ids; content = w.content; told = w.told; used = w.used; spent = w.spent; version = w.version; payload = w.payload };
           sound = w.sound;
           goes_on = goes_on_stops (D.list a) (D.list b) (D.trace a) (D.trace b) c.in-Err-Failed.ensures.stops;
@@ -63,6 +64,7 @@ returns-in-Err-Memory g c =
       moves = record {
         leaves = record {
           identity = w.identity;
+          least = w.least;
           stays = record { ids = w.ids; content = w.content; told = w.told; used = w.used; spent = w.spent; version = w.version; payload = w.payload };
           sound = w.sound;
           goes_on = goes_on_stops (D.list a) (D.list b) (D.trace a) (D.trace b) c.in-Err-Memory.ensures.stops;
@@ -109,6 +111,7 @@ returns-in-Err g c =
       moves = record {
         leaves = record {
           identity = w.identity;
+          least = w.least;
           stays = record { ids = w.ids; content = w.content; told = w.told; used = w.used; spent = w.spent; version = w.version; payload = w.payload };
           sound = w.sound;
           goes_on = goes_on_written M H D R G a b c.in-Ok.ensures.writes;
@@ -162,6 +165,7 @@ returns g c =
       moves = record {
         leaves = record {
           identity = w.identity;
+          least = w.least;
           stays = record { ids = w.ids; content = w.content; told = w.told; used = w.used; spent = w.spent; version = w.version; payload = w.payload };
           sound = w.sound;
           goes_on = goes_on_written M H D R G a b c.in-Ok.ensures.writes;
