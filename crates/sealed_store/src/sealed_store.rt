@@ -198,4 +198,28 @@ impl<V: Vault, C: Sealer> SealedStore<V, C> {
             .seal_with(&self.key, iv, &id.0, plain, &mut file)?;
         Ok(file)
     }
+
+    /// The same in format 1, whose seal protects no id: the file opens to this plaintext as whichever block's. For tests
+    /// and for file systems of the older form.
+    pub fn seal_form1(
+        &self,
+        alloc: Global,
+        _id: &BlockId,
+        plain: &[u8],
+        iv: &[u8],
+    ) -> Result<Vec<u8>, Memory>
+        requires intact { IsIntact (block_size_of self.now) (C.iv_size (cipher_of self.now)) }
+        requires plain { length plain.now + SEAL_LEN ≡ block_size_of self.now }
+        requires iv { length iv.now ≡ C.iv_size (cipher_of self.now) }
+        ensures len { IfOk result (λ file. length file.items ≡ block_size_of self.now) }
+        ensures prefix { IfOk result (λ file. take 16 file.items ≡ prefix_of Format.Alone) }
+        ensures format { IfOk result (λ file. format_in file.items ≡ Some Format.Alone) }
+        ensures iv { IfOk result (λ file. take 16 (drop 16 file.items) ≡ iv.now) }
+        ensures opens { IfOk result (λ file. (id : List ℕ) → opens_file (C.opens (cipher_of self.now) (key_of self.now)) (block_size_of self.now) id file.items ≡ Some plain.now) }
+    {
+        let mut file = Vec::with_capacity(alloc, self.block_size)?;
+        file.extend_from_slice(&PREFIX_ALONE)?;
+        self.cipher.seal(&self.key, iv, plain, &mut file)?;
+        Ok(file)
+    }
 }
