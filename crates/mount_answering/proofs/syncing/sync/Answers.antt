@@ -1,6 +1,6 @@
 use Rattle.std.proofs.Common.{◌≡◌, false, refl, sym, subst, rules}
 use Rattle.session_saver.proofs.Steps.{short_configures}
-use Rattle.session_saver.specs.Saving.{IsShortKept}
+use Rattle.session_saver.specs.Saving.{KeepsEmpty}
 use Rattle.store_api.specs.Holdings.{IsFew}
 use Rattle.tree_commands.specs.Showing.{ShowsFiles}
 use Rattle.tree_commands.proofs.Shows.{files_same}
@@ -29,7 +29,7 @@ returns g c =
     let m = c.sync.ensures.moves in
     let e = c.sync.ensures.syncs in
     let l = m.leaves in
-    let short : new.saver.changed ≡ false → IsShortKept D b (G.kept new.saver.keeper) = λ u. (new.saver.last.items, m.whole.kept u, m.whole.last u) in
+    let short : new.saver.changed ≡ false → KeepsEmpty D b (G.kept new.saver.keeper) = λ u. (new.saver.last.items, m.whole.kept u, m.whole.last u) in
     record {
       moves = record {
         ready = record { intact = m.intact; empty = c.requires.ready.empty; few = subst IsFew (sym l.stays.used) c.requires.ready.few; room = m.room; can_mark = e.can_mark c.requires.ready.can_mark; whole = m.whole };
