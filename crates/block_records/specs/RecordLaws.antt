@@ -1,5 +1,5 @@
 -- A file that opens to a record: how long it is, and how long its payload.
-use Rattle.std.specs.Prelude.{◌≡◌, ◌≤◌, ℕ, ◌+◌, Bool, true, false, ◌&&◌, List, Option, Some, None, is_some, if◌then◌else◌, ◌-◌, take, drop, length, nat_lt}
+use Rattle.std.specs.Prelude.{◌≡◌, ◌≤◌, ℕ, ◌+◌, Bool, true, false, List, Option, Some, None, is_some, if◌then◌else◌, ◌-◌, take, drop, length, nat_lt}
 use Rattle.std.specs.Int.{Width, w16, w32, w64, byte_len, from_le_bytes}
 use Rattle.std.proofs.Common.{refl, ◌∙◌, sym, ap, subst, arith, length-drop}
 use Rattle.std.proofs.lemmas.Bool.{and_parts, ltb-false}

@@ -8,7 +8,7 @@ use Rattle.std.specs.Cmp.{Equal-is}
 use Rattle.std.specs.FinMap.Entries.{is_sorted, below_all}
 use Rattle.outside.specs.Trace.{At, Call}
 use Rattle.outside.specs.Names.{same_at, at_cmp}
-use Rattle.outside.specs.NameLaws.{at_total, at_exact, same_ties}
+use Rattle.outside.specs.NameLaws.{at_exact, same_ties}
 use Rattle.outside.specs.Changes.{FileChanges, IsIncreasing, change_at}
 use Rattle.outside.specs.ChangeLaws.{front, rest, not_in}
 use Rattle.outside.specs.Honest.{LastChange, last_change}
