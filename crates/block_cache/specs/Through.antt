@@ -109,4 +109,5 @@ enduring_past f p M H applied D R e = record {
   in_order = λ a i. e.in_order (f a) i.0;
   nothing_waits = λ a. e.nothing_waits (f a);
   same_record = λ a. e.same_record (f a);
+  short_record = λ a. e.short_record (f a);
 }

@@ -159,4 +159,5 @@ enduring_by held trace faults own = record {
   applied_rest = λ a b changes id x none. subst (WaitsAfter (held a) (held b) id) none (x.waits id);
   nothing_waits = λ s none. ap (λ list. record_bytes (held s).state list) none;
   same_record = λ s kept none is. subst (λ (list : FileChanges). IsRecord (held s).state list kept) (sym none) is;
+  short_record = λ s kept none is. subst (λ (list : FileChanges). IsRecord (held s).state list kept) none is;
 }

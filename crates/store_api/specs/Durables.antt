@@ -126,6 +126,7 @@ pub record Enduring {S : Type 0} (M : Meanings S) (H : Holdings S) (applied : S 
   pub applied_new : (a b : S) (changes : Changes) (id payload : List ℕ) → applied a b changes → get changes id ≡ Some (Some payload)
       → (bytes : List ℕ) × (change_at (block id) (D.list b) ≡ Some (Some bytes)) × D.is_new bytes
   pub applied_rest : (a b : S) (changes : Changes) (id : List ℕ) → applied a b changes → get changes id ≡ None → change_at (block id) (D.list b) ≡ change_at (block id) (D.list a)
-  -- where nothing waits a record with an empty list is one with the list, and what is written is the same
+  -- where nothing waits the records with an empty list are those with the list, and what is written is the same
   pub nothing_waits : (s : S) → D.list s ≡ [] → D.local_record_of s true ≡ D.local_record_of s false
   pub same_record : (s : S) (kept : List ℕ) → D.list s ≡ [] → D.is_record s false kept → D.is_record s true kept
+  pub short_record : (s : S) (kept : List ℕ) → D.list s ≡ [] → D.is_record s true kept → D.is_record s false kept
