@@ -7,8 +7,8 @@ use Rattle.config_file.specs.Settings.{Settings, settings_of}
 use Rattle.fs_model.specs.Tree.{Tree}
 use Rattle.held_blocks.specs.Held.{Held}
 use Rattle.held_blocks.specs.Standing.{records}
-use Rattle.integrity_store.specs.EnduringLaws.{listed_has}
 use Rattle.local_state.proofs.Records.{one_reading}
+use Rattle.local_state.specs.Record.{IsRecord}
 use Rattle.mount.proofs.Reading.{represents_told}
 use Rattle.mount.proofs.Standing.{represents}
 use Rattle.mount.specs.Answering.{store_of, calls_of, vault_faults, keeper_faults, kept_of}
@@ -156,9 +156,9 @@ module _ {V : Type 0} {K : Type 0} (trace : V → Option (List Call)) (faults : 
   held_is =
       let h = held_in (store_of first) in
       let whole = b.ready.core.whole in
-      let kept = same_Some _ _ (sym (whole.kept b.unchanged) ∙ b.attached.kept) in
-      let has = listed_has h.state h.list false b.ready.core.intact.0.0.has_record in
-      let state : h.state ≡ b.attached.state = (one_reading h.state b.attached.state [] [] has (listed_has b.attached.state b.attached.list false b.attached.loaded.has_record) kept).0 in
+      let last = first.core.saver.last.items in
+      let kept : b.attached.bytes ≡ last = same_Some _ _ (sym b.attached.kept ∙ whole.kept b.unchanged) in
+      let state : h.state ≡ b.attached.state = (one_reading h.state b.attached.state [] [] last (whole.last b.unchanged) (subst (IsRecord b.attached.state []) kept b.attached.is_record)).0 in
       let size : h.size ≡ first.opened.config.block_size = ap (λ (i : Identity). i.size) b.ready.identity in
       let opens = ap (λ (i : Identity). i.opens) b.ready.identity in
       let none = whole.none b.unchanged in

@@ -16,10 +16,9 @@ use Rattle.cryfs_check.specs.Checks.{OnYes}
 use Rattle.cryfs_check.specs.declared.checking.Checked.{Checked}
 use Rattle.cryfs_check.specs.declared.checking.Checked.TheVariants.{Yes, No}
 use Rattle.fs_model.specs.Tree.{Tree}
-use Rattle.integrity_store.specs.EnduringLaws.{listed_has}
 use Rattle.line_io.specs.Lines.{first_line}
 use Rattle.line_io.specs.Streams.{Stream}
-use Rattle.local_state.specs.Record.{PlainState, record_bytes}
+use Rattle.local_state.specs.Record.{PlainState}
 use Rattle.mount.proofs.Reading.{represents_told}
 use Rattle.mount_tower.specs.Identities.{HasEmptyList}
 use Rattle.outside.specs.Causes.{RoseBy}
@@ -71,8 +70,9 @@ module _ {V : Type 0} {K : Type 0} (trace : V → Option (List Call)) (faults : 
         let a = t.examined.attached in
         record {
           state = a.state;
-          has_record = listed_has a.state a.list false a.loaded.has_record;
+          bytes = a.bytes;
           kept = ap G.kept t.same_keeper ∙ (t.examined.leaves.unsaved calm).0 ∙ a.kept;
+          is_record = a.is_record;
         }
 
     -- the configuration is the one that was found
