@@ -43,10 +43,6 @@ pub record CanMark {K : Type 0} (R : Records) (saver : Saver K) : Type 0 where
 abbrev pub IsRecordOf : {S : Type 0} → Durables S → S → Option (List ℕ) → Type 0
 IsRecordOf D store kept = (bytes : List ℕ) × (with_list : Bool) × (kept ≡ Some bytes) × D.is_record store with_list bytes
 
--- a record of this store with an empty list is kept
-abbrev pub KeepsEmpty : {S : Type 0} → Durables S → S → Option (List ℕ) → Type 0
-KeepsEmpty D store kept = (bytes : List ℕ) × (kept ≡ Some bytes) × D.is_record store false bytes
-
 -- nothing is kept anew, and the directory wasn't changed
 pub record Unmoved {S : Type 0} {K : Type 0} (D : Durables S) (G : KeeperGhosts K) (old : Saver K) (before : S) (new : Saver K) (after : S) : Type 0 where
   pub kept : G.kept new.keeper ≡ G.kept old.keeper
