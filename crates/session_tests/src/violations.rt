@@ -69,12 +69,7 @@ fn swapped_blocks_are_a_violation(rt: HostRuntime) -> Result<(), Fail> {
     let child = file(alloc, &honest, block(2))?;
     store(alloc, &mut system, block(1), Some(child))?;
     store(alloc, &mut system, block(2), Some(root))?;
-    is_refused_then(
-        alloc,
-        system,
-        honest,
-        "wrong-id 00000000000000000000000000000002",
-    )
+    is_refused_then(alloc, system, honest, "not-opened")
 }
 
 /// What becomes of the root's file.
