@@ -146,12 +146,9 @@ impl<K: Keeper> Saver<K> {
             Ok(bytes) => bytes,
             Err(Memory) => return Err(SyncError::Memory),
         };
-        match self.keeper.save(&short) {
-            Ok(()) => {}
-            Err(Failed) => {
-                self.changed = true;
-                return Err(SyncError::FaultState);
-            }
+        if self.keeper.save(&short).is_err() {
+            self.changed = true;
+            return Err(SyncError::FaultState);
         }
         self.last = short;
         Ok(())
