@@ -9,27 +9,23 @@ use Rattle.local_state.specs.Record.{PlainState, IsRecord}
 use Rattle.held_blocks.specs.Standing.{listed}
 use Rattle.integrity_store.specs.declared.store.IntegrityStore.{IntegrityStore}
 use Rattle.config_file.specs.declared.config.Cipher.{Cipher}
-use Rattle.session_saver.specs.Saving.{KeepsEmpty, IsRecordOf}
+use Rattle.session_saver.specs.Saving.{KeepsEmpty}
 use Rattle.mount_tower.specs.Identities.{HasEmptyList, KeepsRecord}
 use Rattle.mount_tower.specs.Opening.{KeepsVersions}
 use Rattle.mount_tower.specs.Tower.{Cached, held_in, sealed_held, sealed_durables, tower_holdings, tower_durables}
 
 module _ {V : Type 0} (trace : V → Option (List Call)) (store : Cached V) (state : PlainState) (same : (held_in store).state ≡ state) where
-  -- a record of the state and the list that a store holds is one of the store, and the other way round
+  -- a record of the state and the list that a store holds is one of the store, and one with an empty list that is kept is of the state
   pub record_of : (list : FileChanges) (with_list : Bool) (bytes : List ℕ) → (tower_durables trace).list store ≡ list → IsRecord state (listed with_list list) bytes → (tower_durables trace).is_record store with_list bytes
   record_of list with_list bytes waits is =
       subst (λ s. IsRecord s (listed with_list (held_in store).list) bytes) (sym same) (subst (λ l. IsRecord state (listed with_list l) bytes) (sym waits) is)
 
-  pub keeps_listed : (list : FileChanges) (kept : Option (List ℕ)) → (tower_durables trace).list store ≡ list → IsRecordOf (tower_durables trace) store kept → (with_list : Bool) × KeepsRecord kept state (listed with_list list)
-  keeps_listed list kept waits (bytes, (with_list, (is, record_))) =
-      (with_list, record { bytes = bytes; kept = is; is_record = subst (λ l. IsRecord state (listed with_list l) bytes) waits (subst (λ s. IsRecord s (listed with_list (held_in store).list) bytes) same record_) })
-
   pub keeps_emptied : (kept : Option (List ℕ)) → KeepsEmpty (tower_durables trace) store kept → KeepsRecord kept state []
-  keeps_emptied kept (bytes, (is, record_)) = record { bytes = bytes; kept = is; is_record = subst (λ s. IsRecord s [] bytes) same record_ }
+  keeps_emptied kept (bytes, (is, record_)) = (bytes, is, subst (λ s. IsRecord s [] bytes) same record_)
 
 -- a record with an empty list is kept
 pub emptied : {V : Type 0} (trace : V → Option (List Call)) (store : IntegrityStore V Cipher) (kept : Option (List ℕ)) → KeepsEmpty (sealed_durables trace) store kept → HasEmptyList kept
-emptied trace store kept (bytes, (is, record_)) = record { state = (sealed_held store).state; keeps = record { bytes = bytes; kept = is; is_record = record_ } }
+emptied trace store kept (bytes, (is, record_)) = record { state = (sealed_held store).state; bytes = bytes; kept = is; is_record = record_ }
 
 pub emptied_on : {V : Type 0} {T E : Type 0} (trace : V → Option (List Call)) (store : Cached V) (kept : Option (List ℕ)) (result : Result T E) → OnOk result (KeepsEmpty (tower_durables trace) store kept) → OnOk result (HasEmptyList kept)
 emptied_on trace store kept (Ok x) e = emptied trace store.store kept e
@@ -39,5 +35,5 @@ emptied_on trace store kept (Err x) e = tt
 pub keeps_versions : {V : Type 0} {T E : Type 0} (trace : V → Option (List Call)) (store : Cached V) (kept : Option (List ℕ)) (version : List ℕ → ℕ) (result : Result T E) → ((tower_durables trace).identity store).marked ≡ false
     → OnOk result (KeepsEmpty (tower_durables trace) store kept) → ((id : List ℕ) → version id ≡ (tower_holdings trace).version store id) → OnOk result (KeepsVersions kept version)
 keeps_versions trace store kept version (Ok x) unmarked (bytes, (is, record_)) same =
-    record { state = (held_in store).state; list = []; loaded = record { keeps = record { bytes = bytes; kept = is; is_record = record_ }; unmarked = unmarked }; versions = same }
+    record { state = (held_in store).state; list = []; loaded = record { bytes = bytes; kept = is; is_record = record_; unmarked = unmarked }; versions = same }
 keeps_versions trace store kept version (Err x) unmarked e same = tt

@@ -220,15 +220,25 @@ module _ {S : Type 0} {K : Type 0} (M : Meanings S) (H : Holdings S) (D : Durabl
   moves_memory applied endures old keeper a intact fits changed room calm = moves_stopped applied endures old (record old { keeper = keeper }) a Memory intact (omega (arith, fits, room)) changed (leaves_memory a old.keeper keeper calm)
 
   -- a long record stays
-  pub finishes_long : (applied : S → S → Changes → Type 0) → Enduring M H applied D R → (new : Saver K) (a b : S) (result : Result Unit SyncError) → D.is_record a true new.last.items → G.kept new.keeper ≡ Some new.last.items → LastAfterLong D G a new result
+  pub finishes_long : (applied : S → S → Changes → Type 0) → Enduring M H applied D R → (old new : Saver K) (a b : S) (result : Result Unit SyncError) → G.kept new.keeper ≡ G.kept old.keeper → D.is_record a true new.last.items → G.kept new.keeper ≡ Some new.last.items → LastAfterLong D G a new result
       → D.identity b ≡ D.identity a → ((kept bytes : List ℕ) → D.is_record a true kept → R.configures kept (D.trace a) bytes → R.configures kept (D.trace b) bytes)
-      → ((kept : List ℕ) → M.sound a → (D.identity a).marked ≡ false → D.is_record a true kept → R.stands (D.identity a) kept (D.trace b) (H.content a)) → Finishes (world M H D R G) a new b result
-  finishes_long applied endures new a b result last kept after identity waiting stands = record {
-    stands = λ now sound unmarked same. (new.last.items, kept, long_stands applied endures a b new.last.items now identity same (stands new.last.items sound unmarked last));
+      → ((kept : List ℕ) → M.sound a → (D.identity a).marked ≡ false → D.is_record a true kept → R.stands (D.identity a) kept (D.trace b) (H.content a)) → Finishes (world M H D R G) old a new b result
+  finishes_long applied endures old new a b result same last kept after identity waiting stands = record {
+    stands = λ now sound unmarked is. (new.last.items, kept, long_stands applied endures a b new.last.items now identity is (stands new.last.items sound unmarked last));
     configures = λ k bytes told is h. (new.last.items, kept, waiting new.last.items bytes last (any_configures applied endures a k new.last.items bytes is last h));
     last = after;
-    keeps = (new.last.items, true, kept, last);
+    keeps = inl same;
     can_mark = may_mark applied endures new a true last;
+  }
+
+  -- what is kept had been the same before
+  pub finishes_since : (old mid new : Saver K) (a b : S) (result : Result Unit SyncError) → G.kept mid.keeper ≡ G.kept old.keeper → Finishes (world M H D R G) mid a new b result → Finishes (world M H D R G) old a new b result
+  finishes_since old mid new a b result same z = record {
+    stands = z.stands;
+    configures = z.configures;
+    last = z.last;
+    keeps = elim z.keeps [ inl stays ↦ inl (stays ∙ same) | inr short ↦ inr short ];
+    can_mark = z.can_mark;
   }
 
   pub syncs_memory : (old : Saver K) (keeper : K) (a : S) → old.changed ≡ true → G.kept keeper ≡ G.kept old.keeper → Syncs (world M H D R G) old a (record old { keeper = keeper }) a (Err Memory)
@@ -242,12 +252,13 @@ module _ {S : Type 0} {K : Type 0} (M : Meanings S) (H : Holdings S) (D : Durabl
   }
 
   -- the later two steps after the first
-  pub syncs_on : (old new : Saver K) (a b : S) (result : Result Unit SyncError) → old.changed ≡ true → Finishes (world M H D R G) a new b result → Syncs (world M H D R G) old a new b result
-  syncs_on old new a b result changed z = record {
+  pub syncs_on : (old mid new : Saver K) (a b : S) (long : List ℕ) (result : Result Unit SyncError) → old.changed ≡ true → G.kept mid.keeper ≡ Some long → D.is_record a true long → Finishes (world M H D R G) mid a new b result
+      → Syncs (world M H D R G) old a new b result
+  syncs_on old mid new a b long result changed kept is z = record {
     unchanged = λ e. absurd (true_is_false (sym changed ∙ e));
     stands = λ now sound unmarked same. saved old new a b now result (z.stands now sound unmarked same);
-    configures = λ k bytes told is h. saved_config old new a b bytes result (z.configures k bytes told is h);
+    configures = λ k bytes told also h. saved_config old new a b bytes result (z.configures k bytes told also h);
     last = inr z.last;
-    keeps = inr z.keeps;
+    keeps = inr (elim z.keeps [ inl stays ↦ (long, true, stays ∙ kept, is) | inr short ↦ (short.0, false, short.1, short.2) ]);
     can_mark = λ can. z.can_mark;
   }

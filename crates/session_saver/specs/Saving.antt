@@ -155,11 +155,11 @@ pub record Moves {S : Type 0} {K : Type 0} (W : World S K) (old : Saver K) (a : 
   pub present : (kept bytes : List ℕ) → W.holdings.told a ≡ true → W.durables.is_record a true kept → W.records.configures kept (W.durables.trace a) bytes → W.records.configures (W.durables.local_record_of b true) (W.durables.trace b) bytes
 
 -- what the later two steps keep, where a record with the list was kept
-pub record Finishes {S : Type 0} {K : Type 0} (W : World S K) (a : S) (new : Saver K) (b : S) (result : Result Unit SyncError) : Type 0 where
+pub record Finishes {S : Type 0} {K : Type 0} (W : World S K) (old : Saver K) (a : S) (new : Saver K) (b : S) (result : Result Unit SyncError) : Type 0 where
   pub stands : (now : Content) → W.meanings.sound a → (W.durables.identity a).marked ≡ false → SameContent now (W.holdings.content a) → RepresentsContent W.records (W.durables.identity b) (W.keeper.kept new.keeper) (W.durables.trace b) now
   pub configures : (kept bytes : List ℕ) → W.holdings.told a ≡ true → W.durables.is_record a true kept → W.records.configures kept (W.durables.trace a) bytes → KeptConfigures W.records (W.keeper.kept new.keeper) (W.durables.trace b) bytes
   pub last : LastAfterLong W.durables W.keeper a new result
-  pub keeps : IsRecordOf W.durables a (W.keeper.kept new.keeper)
+  pub keeps : (W.keeper.kept new.keeper ≡ W.keeper.kept old.keeper) ⊎ KeepsEmpty W.durables a (W.keeper.kept new.keeper)
   pub can_mark : CanMark W.records new
 
 -- what a sync keeps

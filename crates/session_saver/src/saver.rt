@@ -59,7 +59,7 @@ impl<K: Keeper> Saver<K> {
         ensures moves { Moves (world S.meanings S.holdings S.durables S.records K.Keeper)
             self.old store.old self.new store.new result }
         ensures finishes { Finishes (world S.meanings S.holdings S.durables S.records K.Keeper)
-            store.old self.new store.new result }
+            self.old store.old self.new store.new result }
     {
         // While files are put and removed the record that lists them all is kept: a later start does the rest.
         match store.write_out(alloc) {
@@ -87,7 +87,7 @@ impl<K: Keeper> Saver<K> {
         ensures moves { Moves (world S.meanings S.holdings S.durables S.records K.Keeper)
             self.old store.old self.new store.new result }
         ensures finishes { Finishes (world S.meanings S.holdings S.durables S.records K.Keeper)
-            store.old self.new store.new result }
+            self.old store.old self.new store.new result }
     {
         // Memory is taken before the first call on the outside, so that its want leaves all as it was.
         let short = match record_to_save(alloc, &mut self.keeper, store, false) {

@@ -1,4 +1,4 @@
-use Rattle.std.proofs.Common.{◌≡◌, true, false, inl, refl, sym, ◌∙◌, ap, subst, arith}
+use Rattle.std.proofs.Common.{◌≡◌, true, false, inl, inr, refl, sym, ◌∙◌, ap, subst, arith}
 use Rattle.std.specs.declared.result.Result.TheVariants.{Err}
 use Rattle.outside.specs.Causes.{RoseBy}
 use Rattle.outside.specs.Going.{goes_on_same}
@@ -33,7 +33,7 @@ returns-in-Err-clause-halted g c =
       identity = refl;
       stands = λ now sound unmarked same. (c.args.last.items, kept, endures.stands_same _ _ _ (H.content old) now (λ id. sym (same id)) (endures.stands_now old c.args.last.items c.requires.intact sound unmarked c.requires.last));
       configures = λ bytes told h. (c.args.last.items, kept, h);
-      keeps = (c.args.last.items, true, kept, c.requires.last);
+      keeps = inl c.prepare.ensures.kept;
       stops = inl refl;
       goes_on = goes_on_same _;
       forgeries = refl;
@@ -55,7 +55,7 @@ returns-in-Err-write_waiting-clause-halted g c =
       identity = l.identity;
       stands = λ now sound unmarked same. subst (λ i. RepresentsContent g.S.Durable.records i (g.K.Keeper.kept c.write_waiting.new.self.keeper) (D.trace c.write_waiting.new.store) now) l.identity (z.stands now sound unmarked same);
       configures = λ bytes told h. z.configures c.args.last.items bytes told c.requires.last h;
-      keeps = z.keeps;
+      keeps = elim z.keeps [ inl same ↦ inl (same ∙ c.prepare.ensures.kept) | inr short ↦ inr short ];
       stops = m.wrote;
       goes_on = l.goes_on;
       forgeries = l.forgeries;

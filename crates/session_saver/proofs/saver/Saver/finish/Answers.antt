@@ -44,7 +44,7 @@ returns-in-Err-Failed g c =
         waiting = w.kept_configures;
         present = λ kept bytes told. w.configures told kept bytes;
       };
-      finishes = finishes_long M H D R G g.S.BlocksMut.applied g.met.S.Durable.enduring old a b _ long.last long.kept (long.last, long.kept) w.identity w.kept_configures w.stands;
+      finishes = finishes_long M H D R G g.S.BlocksMut.applied g.met.S.Durable.enduring old old a b _ refl long.last long.kept (long.last, long.kept) w.identity w.kept_configures w.stands;
     }
 
 pub returns-in-Err-Memory : goal.returns-in-Err-Memory
@@ -86,7 +86,7 @@ returns-in-Err-Memory g c =
         waiting = w.kept_configures;
         present = λ kept bytes told. w.configures told kept bytes;
       };
-      finishes = finishes_long M H D R G g.S.BlocksMut.applied g.met.S.Durable.enduring old a b _ long.last long.kept (long.last, long.kept) w.identity w.kept_configures w.stands;
+      finishes = finishes_long M H D R G g.S.BlocksMut.applied g.met.S.Durable.enduring old old a b _ refl long.last long.kept (long.last, long.kept) w.identity w.kept_configures w.stands;
     }
 
 pub returns-in-Err : goal.returns-in-Err
@@ -145,7 +145,7 @@ returns-in-Err g c =
             (w.kept_configures last bytes long.last (any_configures M H D R G g.S.BlocksMut.applied endures a k last bytes is long.last h))
             (short_configures M H D R G g.S.BlocksMut.applied endures b short bytes w.intact none short_after (w.configures told k bytes is h));
         last = (long.last, of_store);
-        keeps = of_store;
+        keeps = elim c.in-Err.ensures.err [ inl same ↦ inl same | inr is ↦ inr (short, is ∙ ap Some c.deref.ensures.value, c.requires.short) ];
         can_mark = may_mark M H D R G g.S.BlocksMut.applied endures new a true long.last;
       };
     }
@@ -198,7 +198,7 @@ returns g c =
             (short, kept, short_stands M H D R G g.S.BlocksMut.applied endures a b short now w.intact (w.sound sound) unmarked w.identity none short_after (w.content (g.met.S.Blocks.steady.sound_told a sound)) same);
         configures = λ k bytes told is h. (short, kept, short_configures M H D R G g.S.BlocksMut.applied endures b short bytes w.intact none short_after (w.configures told k bytes is h));
         last = c.requires.short;
-        keeps = (short, false, kept, c.requires.short);
+        keeps = inr (short, kept, c.requires.short);
         can_mark = may_mark M H D R G g.S.BlocksMut.applied endures (record { keeper = keeper; last = c.args.short; changed = false }) a false c.requires.short;
       };
     }

@@ -108,7 +108,9 @@ returns g c =
     let calm = c.in-Ok-save.ensures.quiet ∙ c.record_to_save-2.ensures.faults ∙ c.record_to_save.ensures.faults in
     record {
       moves = moves_since g.S.Blocks.meanings g.S.Blocks.holdings g.S.Durable.durables g.S.Durable.records g.K.Keeper old (record { keeper = c.save.new.self; last = c.in-Ok.bytes; changed = old.changed }) new a b c.finish.result calm c.finish.ensures.moves;
-      syncs = syncs_on g.S.Blocks.meanings g.S.Blocks.holdings g.S.Durable.durables g.S.Durable.records g.K.Keeper old new a b c.finish.result c.if-not-self.false c.finish.ensures.finishes;
+      syncs = syncs_on g.S.Blocks.meanings g.S.Blocks.holdings g.S.Durable.durables g.S.Durable.records g.K.Keeper old (record { keeper = c.save.new.self; last = c.in-Ok.bytes; changed = old.changed }) new a b c.in-Ok.bytes.items c.finish.result c.if-not-self.false
+          (c.in-Ok-save.ensures.ok ∙ ap Some c.deref.ensures.value)
+          (written_is g.S.Blocks.meanings g.S.Blocks.holdings g.S.Durable.durables g.S.Durable.records g.K.Keeper g.S.BlocksMut.applied g.met.S.Durable.enduring a true _ c.requires.intact c.in-Ok.ensures.record_) c.finish.ensures.finishes;
     }
 
 pub finish-requires-clause-long : goal.finish-requires-clause-long
