@@ -94,12 +94,12 @@ reads_kept kept a b bytes reads k = (k.0, k.1, reads_configures k.0 bytes a b re
 -- the versions of one record that is kept are those of any
 -- one state and one list have the record that is kept
 pub same_kept : (kept : Option (List ℕ)) (state other : PlainState) (list more : FileChanges) → KeepsRecord kept state list → KeepsRecord kept other more → (state ≡ other) × (list ≡ more)
-same_kept kept state other list more (bytes, (is, one)) (again, (also, two)) =
-    one_reading state other list more bytes one (subst (λ b. IsRecord other more b) (same_Some _ _ (sym also ∙ is)) two)
+same_kept kept state other list more k l =
+    one_reading state other list more k.bytes k.is_record (subst (λ bytes. IsRecord other more bytes) (same_Some _ _ (sym l.kept ∙ k.kept)) l.is_record)
 
 pub are_known : (kept : Option (List ℕ)) (state : PlainState) (list : FileChanges) (version : List ℕ → ℕ) → IsLoaded kept state list → ((id : List ℕ) → version id ≡ version_in (fin.get state.lives id)) → AreKnown kept version
 are_known kept state list version l known = λ other more m id.
-    known id ∙ ap (λ (s : PlainState). version_in (fin.get s.lives id)) (same_kept kept state other list more (l.bytes, l.kept, l.is_record) (m.bytes, m.kept, m.is_record)).0
+    known id ∙ ap (λ (s : PlainState). version_in (fin.get s.lives id)) (same_kept kept state other list more l.keeps m.keeps).0
 
 -- what stands under a configuration was opened by its record's salt
 pub stands_salt : (c : Settings) (salt : List ℕ) (state : PlainState) (list : FileChanges) (kept : List ℕ) (trace : Option (List Call)) (content : Content) → IsRecord state list kept
@@ -125,7 +125,7 @@ module _ {IsSo : PlainState → Settings → Type 0} (password : List ℕ) (kept
   in_list : (change : Option (List ℕ)) (answer : List ℕ) → change_at config list ≡ Some change → Some answer ≡ cut 1127 change → ConfigOf password answer (opened (settings_of o.config) o.params) → IsSo state (settings_of o.config)
   in_list None answer at is opens = absurd (none-some answer (sym is))
   in_list (Some bytes) answer at is opens =
-      each.listed state list bytes (settings_of o.config) o.params (l.bytes, l.kept, l.is_record) at
+      each.listed state list bytes (settings_of o.config) o.params l.keeps at
       (subst (λ x. ConfigOf password x (opened (settings_of o.config) o.params)) (sym (short_cut 1127 answer bytes (same_Some _ _ is) (omega (arith, opens.0.size)))) opens)
 
   by_get : (answer : List ℕ) (t : Option (List Call)) → change_at config list ≡ None → t0 ≡ t → is_some t ≡ true → read ≡ adds t (got config 1127 (Some answer)) → ConfigOf password answer (opened (settings_of o.config) o.params)
@@ -133,7 +133,7 @@ module _ {IsSo : PlainState → Settings → Type 0} (password : List ℕ) (kept
   by_get answer None at e told is opens = absurd (true_is_false (sym told))
   by_get answer (Some before) at e told is opens =
       let after : GoesOn (Some (got config 1127 (Some answer) ∷ before)) t1 = subst (λ x. GoesOn x t1) is on in
-      each.given state list before after.0 1127 answer (settings_of o.config) o.params (l.bytes, l.kept, l.is_record) at e after.1 opens
+      each.given state list before after.0 1127 answer (settings_of o.config) o.params l.keeps at e after.1 opens
 
   found_at : (w : Option (Option (List ℕ))) (answer : List ℕ) → change_at config list ≡ w → is_some t0 ≡ true → Gave w t0 read config 1127 (Some answer) → ConfigOf password answer (opened (settings_of o.config) o.params)
       → IsSo state (settings_of o.config)

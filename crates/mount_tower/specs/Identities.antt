@@ -14,12 +14,12 @@ abbrev pub identity_for : Settings → List ℕ → Identity
 identity_for c salt = record { marked = false; fs_id = c.fs_id; key_salt = salt; key_digest = sha256 (salt ++ c.key); size = c.block_size; opens = opened_of c.key }
 
 -- a record of this state with this list is kept, in any form that it may have
-abbrev pub KeepsRecord : Option (List ℕ) → PlainState → FileChanges → Type 0
-KeepsRecord kept state list = (bytes : List ℕ) × (kept ≡ Some bytes) × IsRecord state list bytes
+pub record KeepsRecord (was : Option (List ℕ)) (state : PlainState) (list : FileChanges) : Type 0 where
+  pub bytes : List ℕ
+  pub kept : was ≡ Some bytes
+  pub is_record : IsRecord state list bytes
 
 -- a record with an empty list is kept
 pub record HasEmptyList (was : Option (List ℕ)) : Type 0 where
   pub state : PlainState
-  pub bytes : List ℕ
-  pub kept : was ≡ Some bytes
-  pub is_record : IsRecord state [] bytes
+  pub keeps : KeepsRecord was state []

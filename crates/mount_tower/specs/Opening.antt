@@ -7,7 +7,7 @@ use Rattle.sha2.specs.Sha256.{sha256}
 use Rattle.outside.specs.Causes.{RoseBy}
 use Rattle.outside.specs.Changes.{FileChanges, change_at}
 use Rattle.outside.specs.Trace.{Call, config, got, adds}
-use Rattle.local_state.specs.Record.{PlainState, IsRecord}
+use Rattle.local_state.specs.Record.{PlainState}
 use Rattle.redo_vault.specs.Redo.{Gave}
 use Rattle.held_blocks.specs.Stores.{version_in}
 use Rattle.config_file.specs.ConfigOf.{ConfigOf, opened, form, locked, inner}
@@ -16,15 +16,14 @@ use Rattle.config_file.specs.declared.config.Opened.{Opened}
 use Rattle.config_file.specs.declared.error.ConfigError.TheVariants as config_error
 use Rattle.session_saver.specs.declared.saver.SyncError.{SyncError}
 use Rattle.session_saver.specs.declared.saver.SyncError.TheVariants.{Memory as SyncMemory, FaultDirectory as SyncDirectory, FaultState as SyncState}
+use Rattle.mount_tower.specs.Identities.{KeepsRecord}
 use Rattle.mount_tower.specs.declared.error.OpenError.{OpenError}
 use Rattle.mount_tower.specs.declared.opening.TheConstants.{MAX_CONFIG}
 use Rattle.mount_tower.specs.declared.error.OpenError.TheVariants.{Memory, Mismatch, NoConfig, Config as OfConfig, FaultDirectory, FaultState}
 
 -- a record of this state and list is kept, and no violation is marked in it
 pub record IsLoaded (was : Option (List ℕ)) (state : PlainState) (list : FileChanges) : Type 0 where
-  pub bytes : List ℕ
-  pub kept : was ≡ Some bytes
-  pub is_record : IsRecord state list bytes
+  pub keeps : KeepsRecord was state list
   pub unmarked : state.marked ≡ false
 
 -- where a record without a violation is kept, these are the versions in it, and 0 for an id that it doesn't know
