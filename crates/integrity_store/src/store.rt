@@ -47,6 +47,7 @@ impl<V: Vault, C: Sealer> IntegrityStore<V, C> {
         ensures identity { ⟦<IntegrityStore<V, C> as Durable>⟧.durables.identity result ≡ identity_of (held_of C.opens sealed state) }
         ensures list { ⟦<IntegrityStore<V, C> as Durable>⟧.durables.list result ≡ sealed.vault.list }
         ensures trace { ⟦<IntegrityStore<V, C> as Durable>⟧.durables.trace result ≡ V.trace sealed.vault.vault }
+        ensures least { ⟦<IntegrityStore<V, C> as Durable>⟧.durables.least result ≡ (plain_state state).least }
         ensures records { (with_list : Bool) → ⟦<IntegrityStore<V, C> as Durable>⟧.durables.local_record_of result with_list ≡ record_bytes (plain_state state) (listed with_list sealed.vault.list) }
         ensures used { ⟦<IntegrityStore<V, C> as Blocks>⟧.holdings.used result ≡ fin.keys (plain_state state).lives }
         ensures version { (id : Id) → ⟦<IntegrityStore<V, C> as Blocks>⟧.holdings.version result id ≡ version_in (fin.get (plain_state state).lives id) }
