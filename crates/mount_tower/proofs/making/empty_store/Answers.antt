@@ -1,4 +1,4 @@
-use Rattle.std.proofs.Common.{◌≡◌, List, ℕ, [], ◌++◌, true, false, refl, sym, ◌∙◌, ap, subst}
+use Rattle.std.proofs.Common.{◌≡◌, List, ℕ, [], ◌++◌, false, refl, sym, ◌∙◌, ap, subst}
 use Rattle.aes_gcm.specs.Gcm.{opened_of}
 use Rattle.local_state.specs.Record.{PlainState, plain_state, HasRecord}
 use Rattle.outside.specs.View.{list_of}
@@ -13,7 +13,7 @@ use Rattle.store_api.specs.Holdings.{has_id}
 use Rattle.mount_tower.specs.Making.{IsUnchanged}
 use Rattle.mount_tower.specs.Identities.{identity_for}
 use Rattle.mount_tower.specs.Tower.{sealed_held, sealed_trace, sealed_holdings}
-use Rattle.mount_tower.proofs.Found.{identity_is, state_is}
+use Rattle.mount_tower.proofs.Found.{identity_is}
 use Rattle.mount_tower.proofs.Fresh.{none_used, unused_none, untouched}
 use Rattle.mount_tower.proofs.making.empty_store.Given.{Over}
 use Rattle.mount_tower.proofs.making.empty_store.Goals as goal
@@ -49,6 +49,6 @@ returns g c =
             fs_id = ap (λ (s : PlainState). s.fs_id) state;
             digest = ap (λ (s : PlainState). s.key_digest) state ∙ (c.key_digest-digest.ensures ∙ ap (λ x. sha256 (x ++ c.args.config.key)) (sym (ap (λ (s : PlainState). s.key_salt) state)));
           }) ∙ ap (identity_for (settings_of c.args.config)) (ap (λ (s : PlainState). s.key_salt) state));
-      least = ap (λ (s : PlainState). s.least) (state_is (sealed_held store) (plain_state c.new_state-state.result) c.new-sealed.result.vault.list n.intact.0.has_record (new-requires-2-clause-state g c) (n.records true) ∙ state);
+      least = n.least ∙ ap (λ (s : PlainState). s.least) state;
       sound = λ unchanged. n.fresh lives (untouched _ (subst IsUnchanged (sym (ap g.V.Vault.trace vault)) unchanged));
     }
