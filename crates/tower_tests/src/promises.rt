@@ -200,7 +200,7 @@ pub(crate) fn a_configuration_waits_first<S: Tower>(alloc: Global) -> Result<boo
     let (sizes, syncs) = configure::<S>(alloc, &mut site, &[(A, Some(5))], b"settings")?;
     let first = put_config(site.vault.trace().first(), b"settings");
     let kept = site.record(alloc)?.len() == 146;
-    let well = sizes == (137, 310, 146) && syncs == WELL;
+    let well = sizes == (136, 310, 146) && syncs == WELL;
     Ok(first && kept && well && has::<S>(alloc, &mut site, [Some(5), None, None])?)
 }
 
