@@ -18,12 +18,9 @@ fn add(disk: &mut Disk, text: Vec<u8>) -> Result<BlockId, Fail> {
 /// The leaves of these bytes.
 fn add_leaves(alloc: Global, disk: &mut Disk, bytes: &[u8]) -> Result<Vec<BlockId>, Fail> {
     let mut ids = Vec::new(alloc);
-    let mut rest = bytes;
-    while !rest.is_empty() {
-        let (piece, after) = rest.split_at(room(disk.payload).max(1).min(rest.len()));
+    for piece in bytes.chunks(room(disk.payload).max(1)) {
         let text = leaf_text(alloc, disk.payload, piece)?;
         ids.push(add(disk, text)?)?;
-        rest = after;
     }
     Ok(ids)
 }
@@ -36,12 +33,9 @@ fn add_level(
     children: &[BlockId],
 ) -> Result<Vec<BlockId>, Fail> {
     let mut ids = Vec::new(alloc);
-    let mut rest = children;
-    while !rest.is_empty() {
-        let (group, after) = rest.split_at(fan_out(disk.payload).max(1).min(rest.len()));
+    for group in children.chunks(fan_out(disk.payload).max(1)) {
         let text = inner_text(alloc, disk.payload, depth, group)?;
         ids.push(add(disk, text)?)?;
-        rest = after;
     }
     Ok(ids)
 }

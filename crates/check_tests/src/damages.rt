@@ -118,6 +118,13 @@ fn set(disk: &mut Disk, at: usize, text: Vec<u8>) {
     }
 }
 
+/// Takes a block away.
+fn take_out(disk: &mut Disk, at: usize) {
+    if at < disk.blocks.len() {
+        drop(disk.blocks.remove(at));
+    }
+}
+
 /// A block's id, and its text apart.
 fn block_at(alloc: Global, disk: &Disk, at: usize) -> Result<(BlockId, Vec<u8>), Fail> {
     match disk.blocks.get(at) {
@@ -136,8 +143,9 @@ fn put_twin(alloc: Global, disk: &mut Disk, at: usize) -> Result<BlockId, Fail> 
 
 /// The block gets the text of the other one, and that one this block's where they are exchanged.
 fn move_text(alloc: Global, disk: &mut Disk, at: usize, exchanged: bool) -> Result<(), Fail> {
-    let next = if at + 1 < disk.blocks.len() {
-        at + 1
+    let behind = at.saturating_add(1);
+    let next = if behind < disk.blocks.len() {
+        behind
     } else {
         0
     };
@@ -165,7 +173,7 @@ pub fn damage_block(alloc: Global, disk: &mut Disk, damage: Damage, at: usize) -
         return Ok(());
     };
     match damage {
-        Damage::Gone => drop(disk.blocks.remove(at)),
+        Damage::Gone => take_out(disk, at),
         Damage::Twin => drop(put_twin(alloc, disk, at)?),
         Damage::Wrapped => wrap(alloc, disk, at, parts.depth)?,
         Damage::Exchanged => move_text(alloc, disk, at, true)?,

@@ -108,11 +108,11 @@ impl Judge {
         wanted: Wanted,
         parts: Parts<'_>,
     ) -> Result<(), Fail> {
-        let mut children = ids_in(alloc, parts.contents)?;
+        let children = ids_in(alloc, parts.contents)?;
         let mut full = wanted.full;
-        while let Some(id) = children.pop() {
+        for id in children.iter().rev() {
             reading.wants.push(Wanted {
-                id,
+                id: *id,
                 level: Some(parts.depth.saturating_sub(1)),
                 full,
             })?;

@@ -109,10 +109,10 @@ pub fn parts_of(text: &[u8]) -> Option<Parts<'_>> {
 /// The ids that stand one after the other.
 pub fn ids_in(alloc: Global, bytes: &[u8]) -> Result<Vec<BlockId>, Fail> {
     let mut ids = Vec::new(alloc);
-    let mut rest = bytes;
-    while let Some((id, after)) = rest.split_first_chunk::<16>() {
-        ids.push(BlockId(*id))?;
-        rest = after;
+    for piece in bytes.chunks(16) {
+        if let Some((id, _)) = piece.split_first_chunk::<16>() {
+            ids.push(BlockId(*id))?;
+        }
     }
     Ok(ids)
 }
