@@ -1,5 +1,5 @@
 -- What opens: texts of the right length, and what was sealed.
-use Rattle.std.proofs.Common.{◌≡◌, ℕ, ◌+◌, ◌-◌, Bool, true, false, not, cond, List, [], ◌++◌, length, take, drop, Some, None, refl, sym, ap, ◌∙◌, arith, append_assoc, length-append}
+use Rattle.std.proofs.Common.{◌≡◌, ℕ, ◌+◌, ◌-◌, Bool, true, false, not, cond, List, ◌++◌, length, take, drop, Some, None, refl, sym, ap, ◌∙◌, arith, append_assoc, length-append}
 use Rattle.std.proofs.lemmas.List.{drop_at, take_at}
 use Rattle.std.proofs.lemmas.Slice.Eq.{bytes_eq-Decides}
 use Rattle.std.specs.List.{slice_range}
@@ -55,9 +55,9 @@ differ_not_same expected tag differ same = let e = (bytes_eq-Decides expected ta
 -- ---- a sealed text
 
 -- a sealed text in its parts
-opened_of_parts : (key iv text tag : List ℕ) → length iv ≡ 16 → length tag ≡ 16
-    → opened_of key (iv ++ text ++ tag) ≡ opened (aes256 key) iv [] text tag
-opened_of_parts key iv text tag len_iv len_tag =
+opened_of_parts : (key extra iv text tag : List ℕ) → length iv ≡ 16 → length tag ≡ 16
+    → opened_of key extra (iv ++ text ++ tag) ≡ opened (aes256 key) iv extra text tag
+opened_of_parts key extra iv text tag len_iv len_tag =
     let sealed : List ℕ = iv ++ text ++ tag in
     let n : ℕ = length sealed in
     let front : length (iv ++ text) ≡ 16 + length text = omega (arith, length-append iv text, len_iv) in
@@ -67,24 +67,24 @@ opened_of_parts key iv text tag len_iv len_tag =
     ap (λ (l : List ℕ). take (n - 16 - 16) (drop 16 l)) (append_assoc iv text tag)
     ∙ ap (take (n - 16 - 16)) (drop_at iv (text ++ tag) 16 len_iv) ∙ take_at text tag (n - 16 - 16) (omega (arith, whole)) in
     let is_tag : drop (n - 16) sealed ≡ tag = drop_at (iv ++ text) tag (n - 16) (omega (arith, whole, front)) in
-    opened_of_long key sealed (omega (arith, whole)) ∙ (λ i. opened (aes256 key) (is_iv i) [] (is_text i) (is_tag i))
+    opened_of_long key extra sealed (omega (arith, whole)) ∙ (λ i. opened (aes256 key) (is_iv i) extra (is_text i) (is_tag i))
 
 -- what is sealed opens to its plaintext
-pub opened_of-sealed_of : (key iv plain : List ℕ) → length iv ≡ 16 → opened_of key (sealed_of key iv plain) ≡ Some plain
-opened_of-sealed_of key iv plain len =
+pub opened_of-sealed_of : (key iv extra plain : List ℕ) → length iv ≡ 16 → opened_of key extra (sealed_of key iv extra plain) ≡ Some plain
+opened_of-sealed_of key iv extra plain len =
     let text : List ℕ = crypt (aes256 key) iv plain in
-    let tag : List ℕ = tag_of (aes256 key) iv [] text in
-    opened_of_parts key iv text tag len (length-tag_of (aes256 key) iv [] text)
-    ∙ opened_right (aes256 key) iv [] text tag refl ∙ ap Some (crypt-crypt (aes256 key) iv plain)
+    let tag : List ℕ = tag_of (aes256 key) iv extra text in
+    opened_of_parts key extra iv text tag len (length-tag_of (aes256 key) iv extra text)
+    ∙ opened_right (aes256 key) iv extra text tag refl ∙ ap Some (crypt-crypt (aes256 key) iv plain)
 
-pub length-sealed_of : (key iv plain : List ℕ) → length (sealed_of key iv plain) ≡ length iv + length plain + 16
-length-sealed_of key iv plain =
+pub length-sealed_of : (key iv extra plain : List ℕ) → length (sealed_of key iv extra plain) ≡ length iv + length plain + 16
+length-sealed_of key iv extra plain =
     let text : List ℕ = crypt (aes256 key) iv plain in
-    omega (arith, length-append (iv ++ text) (tag_of (aes256 key) iv [] text), length-append iv text, length-crypt (aes256 key) iv plain, length-tag_of (aes256 key) iv [] text)
+    omega (arith, length-append (iv ++ text) (tag_of (aes256 key) iv extra text), length-append iv text, length-crypt (aes256 key) iv plain, length-tag_of (aes256 key) iv extra text)
 
 -- a sealed text begins with its IV
-pub take-sealed_of : (key iv plain : List ℕ) → take (length iv) (sealed_of key iv plain) ≡ iv
-take-sealed_of key iv plain =
+pub take-sealed_of : (key iv extra plain : List ℕ) → take (length iv) (sealed_of key iv extra plain) ≡ iv
+take-sealed_of key iv extra plain =
     let text : List ℕ = crypt (aes256 key) iv plain in
-    let tag : List ℕ = tag_of (aes256 key) iv [] text in
+    let tag : List ℕ = tag_of (aes256 key) iv extra text in
     ap (take (length iv)) (append_assoc iv text tag) ∙ take_at iv (text ++ tag) (length iv) refl

@@ -13,41 +13,43 @@ const IV_LEN: usize = 16;
 /// The length of a tag.
 const TAG_LEN: usize = 16;
 
-/// Sealed texts are an IV of 16 bytes, the ciphertext and a tag of 16 bytes, with no extra bytes.
+/// Sealed texts are an IV of 16 bytes, the ciphertext and a tag of 16 bytes.
 #[derive(Clone, Copy)]
 pub struct Aes256Gcm;
 
 impl Sealer for Aes256Gcm {
     ghost use Rattle.aes_gcm.specs.Gcm.{opened_of};
-    ghost use Rattle.aes_gcm.specs.Lengths.{length-opened_of};
+    ghost use Rattle.aes_gcm.specs.Lengths.{length-opened_of, opened_of-agrees};
 
     ghost iv_size = { λ _. 16 };
 
-    ghost opens = { λ _ key text. opened_of key text };
+    ghost opens = { λ _ key extra text. opened_of key extra text };
 
     fn iv_len(&self) -> usize {
         IV_LEN
     }
 
-    fn seal(
+    fn seal_with(
         &self,
         key: &[u8; 32],
         iv: &[u8],
+        extra: &[u8],
         plain: &[u8],
         out: &mut Vec<u8>,
     ) -> Result<(), Memory> {
         let start = out.len();
-        let sealed = append_sealed(key, iv, plain, out);
+        let sealed = append_sealed(key, iv, extra, plain, out);
         if sealed.is_err() {
             out.truncate(start);
         }
         sealed
     }
 
-    fn unseal(
+    fn unseal_with(
         &self,
         alloc: Global,
         key: &[u8; 32],
+        extra: &[u8],
         sealed: &[u8],
     ) -> Result<Option<Vec<u8>>, Memory> {
         if sealed.len() < IV_LEN + TAG_LEN {
@@ -57,25 +59,28 @@ impl Sealer for Aes256Gcm {
         let mut tag = [0u8; TAG_LEN];
         tag.copy_from_slice(&sealed[end..]);
         let ready = GcmKey::from_key(key);
-        ready.unseal(alloc, &sealed[..IV_LEN], &[], &sealed[IV_LEN..end], &tag)
+        ready.unseal(alloc, &sealed[..IV_LEN], extra, &sealed[IV_LEN..end], &tag)
     }
 
-    ghost lengths = { λ _ key text plain opens. length-opened_of key text plain opens };
+    ghost lengths = { λ _ key extra text plain opens. length-opened_of key extra text plain opens };
+
+    ghost agrees = { λ _ key extra other text plain again opens also. opened_of-agrees key extra other text plain again opens also };
 }
 
 /// Appends a sealed text, or a part of it where memory is refused.
 pub fn append_sealed(
     key: &[u8; 32],
     iv: &[u8],
+    extra: &[u8],
     plain: &[u8],
     out: &mut Vec<u8>,
 ) -> Result<(), Memory>
     requires { length iv.now ≡ 16 }
-    ensures ok { OnOk result (out.new.items ≡ out.old.items ++ sealed_of key.now iv.now plain.now) }
+    ensures ok { OnOk result (out.new.items ≡ out.old.items ++ sealed_of key.now iv.now extra.now plain.now) }
     ensures err { OnErr result (take (vec_len out.old) out.new.items ≡ out.old.items) }
 {
     out.extend_from_slice(iv)?;
-    let tag = GcmKey::from_key(key).seal(iv, &[], plain, out)?;
+    let tag = GcmKey::from_key(key).seal(iv, extra, plain, out)?;
     out.extend_from_slice(&tag)?;
     Ok(())
 }

@@ -8,7 +8,7 @@ use Rattle.std.proofs.Common.{take}
 use Rattle.block_id.specs.Name.{name_of, id_in}
 use Rattle.block_id.proofs.Names.{id_in-name_of, length-name_of}
 use Rattle.block_id.specs.declared.fail.Why.{Why}
-use Rattle.block_id.specs.declared.fail.Why.TheVariants.{Missing, BadLength, BadPrefix, NotOpened, BadRecord, WrongId, ForeignClient, OldVersion, AheadVersion, Structure}
+use Rattle.block_id.specs.declared.fail.Why.TheVariants.{Missing, BadLength, BadPrefix, NotOpened, BadRecord, WrongId, ForeignClient, OldVersion, AheadVersion, Structure, OldFormat}
 use Rattle.fs_model.specs.declared.reply.Reply.{Reply}
 use Rattle.fs_model.specs.declared.reply.Reply.TheVariants.{Done, Rows, Info, Target, Content, Error}
 use Rattle.script_text.specs.Shown.{AreBytes}
@@ -76,6 +76,7 @@ mark_of (ForeignClient client) = 256 * 102 + 105
 mark_of (OldVersion known found) = 256 * 111 + 118
 mark_of (AheadVersion known found) = 256 * 97 + 100
 mark_of Structure = 256 * 115 + 99
+mark_of OldFormat = 256 * 111 + 102
 
 mark_is : (x : Why) (r : List ℕ) → mark (why_text x ++ r) ≡ mark_of x
 mark_is Missing r = refl
@@ -88,6 +89,7 @@ mark_is (ForeignClient client) r = refl
 mark_is (OldVersion known found) r = refl
 mark_is (AheadVersion known found) r = refl
 mark_is Structure r = refl
+mark_is OldFormat r = refl
 
 mark_same : (x y : Why) (r s : List ℕ) → why_text x ++ r ≡ why_text y ++ s → mark_of x ≡ mark_of y
 mark_same x y r s e = sym (mark_is x r) ∙ (ap mark e ∙ mark_is y s)
@@ -111,6 +113,7 @@ why_same (AheadVersion k m) (AheadVersion l n) r s fx fy e =
     let p = pair_same k m l n r s fx.0 fx.1 fy.0 fy.1 (ap (drop 14) e) in
     ((λ i. AheadVersion (p.0 i) (p.1 i)), p.2)
 why_same Structure Structure r s fx fy e = (refl, ap (drop 10) e)
+why_same OldFormat OldFormat r s fx fy e = (refl, ap (drop 11) e)
 why_same x y r s fx fy e = absurd (let t : mark_of x ≡ mark_of y = mark_same x y (10 ∷ r) (10 ∷ s) e in omega arith)
 
 -- one answer, and then more

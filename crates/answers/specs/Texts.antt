@@ -4,7 +4,7 @@ use Rattle.std.specs.List.{flat_map}
 use Rattle.std.specs.Fmt.{decimal}
 use Rattle.block_id.specs.Name.{name_of}
 use Rattle.block_id.specs.declared.fail.Why.{Why}
-use Rattle.block_id.specs.declared.fail.Why.TheVariants.{Missing, BadLength, BadPrefix, NotOpened, BadRecord, WrongId, ForeignClient, OldVersion, AheadVersion, Structure}
+use Rattle.block_id.specs.declared.fail.Why.TheVariants.{Missing, BadLength, BadPrefix, NotOpened, BadRecord, WrongId, ForeignClient, OldVersion, AheadVersion, Structure, OldFormat}
 use Rattle.script_text.specs.Texts.{line, word, text_of}
 use Rattle.answers.specs.declared.answer.Answer.{Answer}
 use Rattle.answers.specs.declared.answer.Answer.TheVariants.{Reply as Replied, Memory, Spent, FaultDirectory, FaultState, Violation, Refused}
@@ -21,6 +21,7 @@ why_text (ForeignClient client) = codes "foreign-client" ++ word (decimal client
 why_text (OldVersion known found) = codes "old-version" ++ word (decimal known) ++ word (decimal found)
 why_text (AheadVersion known found) = codes "ahead-version" ++ word (decimal known) ++ word (decimal found)
 why_text Structure = codes "structure"
+why_text OldFormat = codes "old-format"
 
 -- the lines of an answer, each with its newline
 unfoldable pub text_of_answer : Answer → List ℕ

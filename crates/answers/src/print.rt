@@ -70,6 +70,7 @@ fn push_why(out: &mut Vec<u8>, why: &Why) -> Result<(), Memory>
         Why::OldVersion { known, found } => push_versions(out, b"old-version", *known, *found),
         Why::AheadVersion { known, found } => push_versions(out, b"ahead-version", *known, *found),
         Why::Structure => push_bytes(out, b"structure"),
+        Why::OldFormat => push_bytes(out, b"old-format"),
     }
 }
 

@@ -38,7 +38,7 @@ life_of_live (Some life) payload e =
 
 -- an id of the content lives
 content_lives : (a : Held) (trace : Option (List Call)) (id : Id) → is_some (wanted a trace id) ≡ true → is_live_in a.state.lives id ≡ true
-content_lives a trace id there = life_of_live (fin.get a.state.lives id) (payload_in a.opens a.size (file_of a (told_or_none trace) id)) there
+content_lives a trace id there = life_of_live (fin.get a.state.lives id) (payload_in a.opens a.size id (file_of a (told_or_none trace) id)) there
 
 raise_live : (id : Id) (life : Option Life) → IfSome life (FitsLife id) → option_map_or (λ m. m.live) life false ≡ true → is_last life ≡ false → MayRaise id life
 raise_live id None fits live below = absurd (cc)
@@ -115,7 +115,7 @@ waits_after : (a : Held) (known : Lives) (list : List (At × Option (List ℕ)))
     → MadeAt a id said made → WaitsAfter a (record a { list = list; state = record a.state { lives = known } }) id said
 waits_after a known list id None made is at = is ∙ ap (λ o. option_or o (change_at (block id) a.list)) at
 waits_after a known list id (Some None) made is at = is ∙ ap (λ o. option_or o (change_at (block id) a.list)) at
-waits_after a known list id (Some (Some payload)) made is at = (at.0, is ∙ ap (λ o. option_or o (change_at (block id) a.list)) at.1, at.2)
+waits_after a known list id (Some (Some payload)) made is at = (at.0, is ∙ ap (λ o. option_or o (change_at (block id) a.list)) at.1, record { opens = at.2.opens; format = at.2.format })
 
 module _ (a b : Held) (trace : Option (List Call)) (changes : Changes) (es : List BatchEntry) (stream left : Stream) (are : es ≡ fin.entries changes) (made : Made a b es stream left) where
   in_order : T (is_sorted id_cmp es)

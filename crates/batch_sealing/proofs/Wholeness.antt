@@ -13,9 +13,10 @@ use Rattle.outside.specs.NameLaws.{at_total, at_exact}
 use Rattle.outside.specs.Changes.{change_at}
 use Rattle.local_state.specs.declared.life.Life.{Life}
 use Rattle.local_state.specs.Known.{Lives, FitsLife, FitLives}
-use Rattle.local_state.specs.Record.{FitsEntry, FitsHead, Rise, comes_after, may_change, has_bytes}
+use Rattle.local_state.specs.Record.{FitsEntry, FitsHead, IsLeast, Rise, comes_after, may_change, has_bytes}
 use Rattle.store_api.specs.Content.{Id, Changes}
 use Rattle.block_id.proofs.Conditions.{left, right}
+use Rattle.sealed_store.specs.BlockFiles.{OpensAlike}
 use Rattle.block_records.specs.BlockRecords.{Record, opened}
 use Rattle.block_records.specs.RecordLaws.{opens-length, opened-plain}
 use Rattle.batch_sealing.specs.Applied.{life_after, WaitsAfter, Applied}
@@ -63,8 +64,8 @@ long id None used fits = absurd (cc)
 long id (Some life) used fits = fits.length
 
 -- a file that opens to a record is short enough for a list
-short : (opens : List ℕ → Option (List ℕ)) (size : ℕ) (file : List ℕ) (r : Record) → size ≤ 1048576 → opened opens size file ≡ Some r → length file < 2 ^ 32
-short opens size file r most is = let plain = opened-plain opens size file r is in omega (arith, opens-length opens size file plain.0 plain.1)
+short : (opens : List ℕ → List ℕ → Option (List ℕ)) (size : ℕ) (id file : List ℕ) (r : Record) → size ≤ 1048576 → opened opens size id file ≡ Some r → length file < 2 ^ 32
+short opens size id file r most is = let plain = opened-plain opens size id file r is in omega (arith, opens-length opens size id file plain.0 plain.1)
 
 module _ (a b : Held) (old new : Option (List Call)) (changes : Changes) (x : Applied a b old new changes) (whole : IsWhole a)
     (may : (id : Id) (change : Option (List ℕ)) → fin.get changes id ≡ Some change → MayCome id change (fin.get a.state.lives id)) (fit : FitLives b.state.lives) where
@@ -74,11 +75,11 @@ module _ (a b : Held) (old new : Option (List Call)) (changes : Changes) (x : Ap
       let before : FitsEntry a.state.lives (block id, change) = of_found at_total (FitsEntry a.state.lives) at_exact a.list (block id) change whole.has_record.entries.each waits in
       record { name = before.name; bytes = before.bytes; change = may_same a.state.lives b.state.lives id (has_bytes change) same ∙ before.change }
 
-  fits_file : (id : Id) (payload file : List ℕ) (r : Record) (life : Life) → fin.get b.state.lives id ≡ Some life → life.live ≡ true → opened b.opens b.size file ≡ Some r
+  fits_file : (id : Id) (payload file : List ℕ) (r : Record) (life : Life) → fin.get b.state.lives id ≡ Some life → life.live ≡ true → opened b.opens b.size id file ≡ Some r
       → FitsEntry b.state.lives (block id, Some file)
   fits_file id payload file r life is live opens = record {
     name = long id (fin.get b.state.lives id) (ap is_some is) (fit id);
-    bytes = short b.opens b.size file r (omega (arith, x.size, whole.most)) opens;
+    bytes = short b.opens b.size id file r (omega (arith, x.size, whole.most)) opens;
     change = ap (λ o. option_map_or (λ m. m.live) o false) is ∙ live;
   }
 
@@ -97,7 +98,7 @@ module _ (a b : Held) (old new : Option (List Call)) (changes : Changes) (x : Ap
       let none : None ≡ change = cc in subst (λ c. FitsEntry b.state.lives (block id, c)) none (fits_removal id marked (may id None is))
   fits_block id change (Some (Some payload)) is waits marked there =
       let file : Some waits.0 ≡ change = cc (waits.1, there) in
-      subst (λ c. FitsEntry b.state.lives (block id, c)) file (fits_file id payload waits.0 _ _ marked refl waits.2)
+      subst (λ c. FitsEntry b.state.lives (block id, c)) file (fits_file id payload waits.0 _ _ marked refl waits.2.opens)
 
   fits_name : (name : At) (change : Option (List ℕ)) → change_at name b.list ≡ Some change → FitsEntry b.state.lives (name, change)
   fits_name config change there =
@@ -118,7 +119,7 @@ module _ (a b : Held) (old new : Option (List Call)) (changes : Changes) (x : Ap
     least = omega (arith, x.size, whole.least);
     most = omega (arith, x.size, whole.most);
     has_record = record {
-      state = record { head = fits_head; client = subst (λ s. 0 < s.client) (sym x.state) whole.has_record.state.client; lives = fit; count = few };
+      state = record { head = fits_head; least = subst (λ s. IsLeast s.least) (sym x.state) whole.has_record.state.least; client = subst (λ s. 0 < s.client) (sym x.state) whole.has_record.state.client; lives = fit; count = few };
       entries = record {
         each = all_by (λ e. change_at e.0 b.list ≡ Some e.1) (FitsEntry b.state.lives) b.list (λ e there. fits_name e.0 e.1 there) (each_found at_total b.list rises);
         order = rise b.list rises;
@@ -126,4 +127,5 @@ module _ (a b : Held) (old new : Option (List Call)) (changes : Changes) (x : Ap
       };
     };
     config = subst IsNoBlock (sym x.config) whole.config;
+    alike = subst OpensAlike (sym x.opens) whole.alike;
   }

@@ -9,6 +9,8 @@ use Rattle.outside.specs.Changes.{change_at}
 use Rattle.local_state.specs.declared.life.Life.{Life}
 use Rattle.local_state.specs.Known.{raised_version}
 use Rattle.store_api.specs.Content.{Changes}
+use Rattle.block_id.specs.declared.format.Format.TheVariants.{WithId}
+use Rattle.block_id.specs.Formats.{format_in}
 use Rattle.block_records.specs.BlockRecords.{opened}
 use Rattle.held_blocks.specs.Held.{Held, waiting, own}
 
@@ -18,9 +20,10 @@ life_after None life = life
 life_after (Some (Some payload)) life = Some (record { version = raised_version life; live = true })
 life_after (Some None) life = option_map (λ m. record { version = m.version; live = false }) life
 
--- a file of this id's record, at the version that follows the one in a
-abbrev pub IsRaised : Held → Held → List ℕ → List ℕ → List ℕ → Type 0
-IsRaised a b id payload file = opened b.opens b.size file ≡ Some (own b id (raised_version (fin.get a.state.lives id)) payload)
+-- a file of this id's record, at the version that follows the one in a, in the newest format
+pub record IsRaised (a b : Held) (id payload file : List ℕ) : Type 0 where
+  pub opens : opened b.opens b.size id file ≡ Some (own b id (raised_version (fin.get a.state.lives id)) payload)
+  pub format : format_in file ≡ Some WithId
 
 -- what waits for an id after a batch that says nothing of it, gives it a payload, or removes it
 abbrev pub WaitsAfter : Held → Held → List ℕ → Option (Option (List ℕ)) → Type 0

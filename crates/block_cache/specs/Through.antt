@@ -48,7 +48,10 @@ durables_past f D = record {
   identity = λ a. D.identity (f a);
   trace = λ a. D.trace (f a);
   list = λ a. D.list (f a);
+  is_record = λ a. D.is_record (f a);
   local_record_of = λ a. D.local_record_of (f a);
+  least = λ a. D.least (f a);
+  is_new = D.is_new;
 }
 
 pub steady_with : {A B : Type 0} (f : A → B) (own agrees : A → Type 0) (M : Meanings B) (H : Holdings B) → Steady M H → Steady (lift_with f own agrees M) (holdings_past f H)
@@ -76,22 +79,28 @@ stays_past f H a b stays = record { ids = stays.ids; content = stays.content; to
 pub enduring_past : {A B : Type 0} (f : A → B) (p : A → Payloads) (M : Meanings B) (H : Holdings B) (applied : B → B → Changes → Type 0) (D : Durables B) (R : Records) → Enduring M H applied D R
     → Enduring (meanings_past f p M H) (holdings_past f H) (λ a b changes. applied (f a) (f b) changes) (durables_past f D) R
 enduring_past f p M H applied D R e = record {
-  stands_now = λ a i s. e.stands_now (f a) i.0 s.0;
+  stands_now = λ a kept i s. e.stands_now (f a) kept i.0 s.0;
+  written = λ a with_list i. e.written (f a) with_list i.0;
   got_stands = e.got_stands;
   got_configures = e.got_configures;
   marked_configures = e.marked_configures;
   applied_config = λ a b. e.applied_config (f a) (f b);
   stands_same = e.stands_same;
   stands_unmarked = e.stands_unmarked;
-  marked = λ a with_list i. e.marked (f a) with_list i.0;
-  long = λ a with_list i. e.long (f a) with_list i.0;
-  configures_now = λ a bytes i. e.configures_now (f a) bytes i.0;
-  configured_now = λ a bytes i. e.configured_now (f a) bytes i.0;
+  marked = λ a. e.marked (f a);
+  long = λ a. e.long (f a);
+  configures_now = λ a. e.configures_now (f a);
+  configured_now = λ a. e.configured_now (f a);
   loaded_identity = λ a b. e.loaded_identity (f a) (f b);
   loaded_list = λ a b. e.loaded_list (f a) (f b);
   loaded_goes_on = λ a b. e.loaded_goes_on (f a) (f b);
   loaded_last = λ a b. e.loaded_last (f a) (f b);
   loaded_records = λ a b. e.loaded_records (f a) (f b);
+  loaded_record = λ a b. e.loaded_record (f a) (f b);
+  loaded_least = λ a b. e.loaded_least (f a) (f b);
+  applied_least = λ a b. e.applied_least (f a) (f b);
+  applied_new = λ a b. e.applied_new (f a) (f b);
+  applied_rest = λ a b. e.applied_rest (f a) (f b);
   loaded_stands = λ a b. e.loaded_stands (f a) (f b);
   loaded_configures = λ a b. e.loaded_configures (f a) (f b);
   applied_identity = λ a b. e.applied_identity (f a) (f b);
@@ -99,4 +108,6 @@ enduring_past f p M H applied D R e = record {
   applied_configures = λ a b changes bytes h i j. e.applied_configures (f a) (f b) changes bytes h i.0 j.0;
   in_order = λ a i. e.in_order (f a) i.0;
   nothing_waits = λ a. e.nothing_waits (f a);
+  same_record = λ a. e.same_record (f a);
+  short_record = λ a. e.short_record (f a);
 }

@@ -10,6 +10,7 @@ ghost use Rattle.outcome.specs.Outcome.{Outcome};
 ghost use Rattle.lru.specs.LruCache.{lru_cache};
 ghost use Rattle.store_api.specs.Content.{Id, SameIds, SameContent};
 ghost use Rattle.store_api.specs.Lists.{MayConfigure, with_config};
+ghost use Rattle.store_api.specs.Durables.{MayBeLeast};
 ghost use Rattle.store_api.specs.Holdings.{FitsStore, Changed, IsSpent, Stays};
 ghost use Rattle.store_api.specs.Loads.{answer_of};
 ghost use Rattle.block_cache.specs.Payloads.{AfterLoad, Renewed, cached_for};
@@ -197,10 +198,12 @@ impl<S: Durable> Durable for BlockCache<S> {
         requires bytes { MayConfigure bytes.items }
         ensures intact { ⟦<BlockCache<S> as Blocks>⟧.meanings.intact self.new }
         ensures identity { S.durables.identity self.new.store ≡ S.durables.identity self.old.store }
+        ensures least { S.durables.least self.new.store ≡ S.durables.least self.old.store }
         ensures ok { OnOk result (S.durables.list self.new.store ≡ with_config bytes.items (S.durables.list self.old.store)) }
         ensures err { OnErr result (⟦<BlockCache<S> as Blocks>⟧.meanings.loaded self.old self.new) }
         ensures stays { Stays ⟦<BlockCache<S> as Blocks>⟧.holdings self.old self.new }
         ensures empty { S.durables.local_record_of self.new.store false ≡ S.durables.local_record_of self.old.store false }
+        ensures empty_record { (kept : List ℕ) → S.durables.is_record self.old.store false kept → S.durables.is_record self.new.store false kept }
         ensures trace { S.durables.trace self.new.store ≡ S.durables.trace self.old.store }
         ensures configures { OnOk result (S.records.configures (S.durables.local_record_of self.new.store true) (S.durables.trace self.new.store) bytes.items) }
         ensures sound { ⟦<BlockCache<S> as Blocks>⟧.meanings.sound self.old → ⟦<BlockCache<S> as Blocks>⟧.meanings.sound self.new }
@@ -217,6 +220,7 @@ impl<S: Durable> Durable for BlockCache<S> {
         requires { ⟦<BlockCache<S> as Blocks>⟧.meanings.intact self.old }
         ensures intact { ⟦<BlockCache<S> as Blocks>⟧.meanings.intact self.new }
         ensures identity { S.durables.identity self.new.store ≡ S.durables.identity self.old.store }
+        ensures least { S.durables.least self.new.store ≡ S.durables.least self.old.store }
         ensures ids { SameIds (⟦<BlockCache<S> as Blocks>⟧.holdings.content self.old) (⟦<BlockCache<S> as Blocks>⟧.holdings.content self.new) }
         ensures content { ⟦<BlockCache<S> as Blocks>⟧.holdings.told self.old ≡ true → SameContent (⟦<BlockCache<S> as Blocks>⟧.holdings.content self.old) (⟦<BlockCache<S> as Blocks>⟧.holdings.content self.new) }
         ensures payload { ⟦<BlockCache<S> as Blocks>⟧.holdings.payload self.new ≡ ⟦<BlockCache<S> as Blocks>⟧.holdings.payload self.old }
@@ -228,11 +232,12 @@ impl<S: Durable> Durable for BlockCache<S> {
         ensures writes { OnOk result (S.durables.trace self.new.store ≡ after_writes (S.durables.list self.old.store) (S.durables.trace self.old.store)) }
         ensures stops { OnErr result (StopsAt (S.durables.list self.old.store) (S.durables.trace self.old.store) (S.durables.trace self.new.store) (S.durables.list self.new.store)) }
         ensures empty { S.durables.local_record_of self.new.store false ≡ S.durables.local_record_of self.old.store false }
-        ensures stands { ⟦<BlockCache<S> as Blocks>⟧.meanings.sound self.old → (S.durables.identity self.old.store).marked ≡ false
-            → S.records.stands (S.durables.identity self.old.store) (S.durables.local_record_of self.old.store true) (S.durables.trace self.new.store) (⟦<BlockCache<S> as Blocks>⟧.holdings.content self.old) }
-        ensures kept_configures { (bytes : List ℕ) → S.records.configures (S.durables.local_record_of self.old.store true) (S.durables.trace self.old.store) bytes
-            → S.records.configures (S.durables.local_record_of self.old.store true) (S.durables.trace self.new.store) bytes }
-        ensures configures { ⟦<BlockCache<S> as Blocks>⟧.holdings.told self.old ≡ true → (bytes : List ℕ) → S.records.configures (S.durables.local_record_of self.old.store true) (S.durables.trace self.old.store) bytes
+        ensures empty_record { (kept : List ℕ) → S.durables.is_record self.old.store false kept → S.durables.is_record self.new.store false kept }
+        ensures stands { (kept : List ℕ) → ⟦<BlockCache<S> as Blocks>⟧.meanings.sound self.old → (S.durables.identity self.old.store).marked ≡ false → S.durables.is_record self.old.store true kept
+            → S.records.stands (S.durables.identity self.old.store) kept (S.durables.trace self.new.store) (⟦<BlockCache<S> as Blocks>⟧.holdings.content self.old) }
+        ensures kept_configures { (kept bytes : List ℕ) → S.durables.is_record self.old.store true kept → S.records.configures kept (S.durables.trace self.old.store) bytes
+            → S.records.configures kept (S.durables.trace self.new.store) bytes }
+        ensures configures { ⟦<BlockCache<S> as Blocks>⟧.holdings.told self.old ≡ true → (kept bytes : List ℕ) → S.durables.is_record self.old.store true kept → S.records.configures kept (S.durables.trace self.old.store) bytes
             → S.records.configures (S.durables.local_record_of self.new.store true) (S.durables.trace self.new.store) bytes }
         ensures sound { ⟦<BlockCache<S> as Blocks>⟧.meanings.sound self.old → ⟦<BlockCache<S> as Blocks>⟧.meanings.sound self.new }
         ensures forgeries { ⟦<BlockCache<S> as Blocks>⟧.meanings.forgeries self.new ≡ ⟦<BlockCache<S> as Blocks>⟧.meanings.forgeries self.old }
@@ -242,6 +247,27 @@ impl<S: Durable> Durable for BlockCache<S> {
         ensures cached { self.new.cached ≡ self.old.cached }
     {
         self.store.write_out(alloc)
+    }
+
+    fn set_least(&mut self, least: u8)
+        requires intact { ⟦<BlockCache<S> as Blocks>⟧.meanings.intact self.old }
+        requires may { MayBeLeast S.durables S.Blocks.holdings self.old.store least }
+        ensures least { S.durables.least self.new.store ≡ least }
+        ensures intact { ⟦<BlockCache<S> as Blocks>⟧.meanings.intact self.new }
+        ensures identity { S.durables.identity self.new.store ≡ S.durables.identity self.old.store }
+        ensures list { S.durables.list self.new.store ≡ S.durables.list self.old.store }
+        ensures trace { S.durables.trace self.new.store ≡ S.durables.trace self.old.store }
+        ensures stays { Stays ⟦<BlockCache<S> as Blocks>⟧.holdings self.old self.new }
+        ensures configures { (kept bytes : List ℕ) → S.durables.is_record self.old.store true kept → S.records.configures kept (S.durables.trace self.old.store) bytes
+            → S.records.configures (S.durables.local_record_of self.new.store true) (S.durables.trace self.new.store) bytes }
+        ensures sound { ⟦<BlockCache<S> as Blocks>⟧.meanings.sound self.old → ⟦<BlockCache<S> as Blocks>⟧.meanings.sound self.new }
+        ensures forgeries { ⟦<BlockCache<S> as Blocks>⟧.meanings.forgeries self.new ≡ ⟦<BlockCache<S> as Blocks>⟧.meanings.forgeries self.old }
+        ensures lies { ⟦<BlockCache<S> as Blocks>⟧.meanings.lies self.new ≡ ⟦<BlockCache<S> as Blocks>⟧.meanings.lies self.old }
+        ensures faults { ⟦<BlockCache<S> as Blocks>⟧.meanings.faults self.new ≡ ⟦<BlockCache<S> as Blocks>⟧.meanings.faults self.old }
+
+        ensures cached { self.new.cached ≡ self.old.cached }
+    {
+        self.store.set_least(least);
     }
 
     ghost enduring = { enduring_past (λ c. c.store) (λ c. c.cached) S.Blocks.meanings S.Blocks.holdings S.applied S.durables S.records S.enduring };

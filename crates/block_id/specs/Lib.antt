@@ -1,3 +1,4 @@
 pub mod Name
 pub mod Fresh
 pub mod Contents
+pub mod Formats

@@ -13,7 +13,7 @@ pub struct Memory;
 #[derive(Clone, Copy, Debug, PartialEq, Eq)]
 pub struct Failed;
 
-/// What is wrong with a block: the reasons 1 to 10, in this order.
+/// What is wrong with a block: the reasons 1 to 11, in this order.
 #[derive(Clone, Copy, PartialEq, Eq)]
 pub enum Why {
     /// The file isn't there.
@@ -36,6 +36,8 @@ pub enum Why {
     AheadVersion { known: u64, found: u64 },
     /// The payload isn't the node, blob or directory that the tree needs.
     Structure,
+    /// The file has a format that isn't taken any more.
+    OldFormat,
 }
 
 /// How a call on stored blocks fails.

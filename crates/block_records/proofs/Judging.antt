@@ -1,14 +1,15 @@
 -- What a verdict says: a good file opens to the record, and none speaks of a structure.
-use Rattle.std.specs.Prelude.{◌≡◌, ℕ, Bool, true, false, ◌&&◌, List, [], if◌then◌else◌, ◌-◌, ◌==◌, length, drop, nat_lt, nat_eq}
+use Rattle.std.specs.Prelude.{◌≡◌, ℕ, Bool, true, false, List, [], if◌then◌else◌, ◌-◌, ◌==◌, length, drop, nat_lt}
 use Rattle.std.specs.Str.{bytes_eq}
 use Rattle.std.specs.declared.option.Option.{Option}
 use Rattle.std.specs.declared.option.Option.TheVariants.{None, Some}
 use Rattle.std.proofs.Common.{refl, sym, ap}
 use Rattle.std.proofs.lemmas.Bool.Decides.{Decides-eqb}
 use Rattle.std.proofs.lemmas.Slice.Eq.{bytes_eq-Decides}
-use Rattle.std.specs.List.{starts_with}
 use Rattle.block_id.specs.declared.fail.Why.TheVariants.{WrongId, ForeignClient, OldVersion, AheadVersion, Structure}
-use Rattle.sealed_store.specs.BlockFiles.{SeenFile, absent, bad_length, bad_prefix, not_opened, plain, seen_file_of_plain, prefix}
+use Rattle.block_id.specs.declared.format.Format.{Format}
+use Rattle.block_id.specs.Formats.{extra_of, format_in, number_of}
+use Rattle.sealed_store.specs.BlockFiles.{SeenFile, absent, bad_length, bad_prefix, old_format, not_opened, opened_as, plain, seen_as, seen_file_of_plain}
 use Rattle.block_records.specs.BlockRecords.{Record, opened, record_in, record_of}
 use Rattle.block_records.specs.RecordLaws.{opened-plain, record-length}
 use Rattle.block_records.specs.VerdictLaws.{bad_is_good}
@@ -58,30 +59,43 @@ judged_good id client version (Some r) payload is =
       | false ↦ λ same e. absurd (bad_is_good e)
     ] refl is
 
-seen_judged : (size : ℕ) (id : List ℕ) (client known : ℕ) (a b : Bool) (o : Option (List ℕ)) (payload : List ℕ)
-    → judged size id client known (if a then (if b then seen_file_of_plain o else bad_prefix) else bad_length) ≡ good payload
-    → judged_record id client known (record_in size (if a && b then o else None)) ≡ good payload
-seen_judged size id client known true true (Some p) payload e = e
-seen_judged size id client known true true None payload e = absurd (bad_is_good e)
-seen_judged size id client known true false o payload e = absurd (bad_is_good e)
-seen_judged size id client known false b o payload e = absurd (bad_is_good e)
+plain_judged : (size : ℕ) (id : List ℕ) (client known : ℕ) (o : Option (List ℕ)) (payload : List ℕ) → judged size id client known (seen_file_of_plain o) ≡ good payload
+    → judged_record id client known (record_in size o) ≡ good payload
+plain_judged size id client known (Some p) payload e = e
+plain_judged size id client known None payload e = absurd (bad_is_good e)
+
+old_judged : (size : ℕ) (id : List ℕ) (client known : ℕ) (b : Bool) (o : Option (List ℕ)) (payload : List ℕ) → judged size id client known (if b then old_format else seen_file_of_plain o) ≡ good payload
+    → judged_record id client known (record_in size o) ≡ good payload
+old_judged size id client known true o payload e = absurd (bad_is_good e)
+old_judged size id client known false o payload e = plain_judged size id client known o payload e
+
+as_judged : (opens : List ℕ → List ℕ → Option (List ℕ)) (size least : ℕ) (id rest : List ℕ) (client known : ℕ) (f : Option Format) (payload : List ℕ)
+    → judged size id client known (seen_as opens least id rest f) ≡ good payload → judged_record id client known (record_in size (opened_as opens id rest f)) ≡ good payload
+as_judged opens size least id rest client known None payload e = absurd (bad_is_good e)
+as_judged opens size least id rest client known (Some f) payload e = old_judged size id client known (nat_lt (number_of f) least) (opens (extra_of f id) rest) payload e
+
+seen_judged : (opens : List ℕ → List ℕ → Option (List ℕ)) (size least : ℕ) (id rest : List ℕ) (client known : ℕ) (a : Bool) (f : Option Format) (payload : List ℕ)
+    → judged size id client known (if a then seen_as opens least id rest f else bad_length) ≡ good payload
+    → judged_record id client known (record_in size (if a then opened_as opens id rest f else None)) ≡ good payload
+seen_judged opens size least id rest client known true f payload e = as_judged opens size least id rest client known f payload e
+seen_judged opens size least id rest client known false f payload e = absurd (bad_is_good e)
 
 -- a good file opens to the id, the client, the version and the payload
-pub good_opens : (opens : List ℕ → Option (List ℕ)) (size : ℕ) (id : List ℕ) (client version : ℕ) (file : Option (List ℕ)) (payload : List ℕ) → verdict opens size id client version file ≡ good payload
-    → (bytes : List ℕ) × (file ≡ Some bytes) × (opened opens size bytes ≡ Some (record { id = id; client = client; version = version; payload = payload }))
-good_opens opens size id client version None payload is = absurd (bad_is_good is)
-good_opens opens size id client version (Some bytes) payload is = (
+pub good_opens : (opens : List ℕ → List ℕ → Option (List ℕ)) (size : ℕ) (id : List ℕ) (client version least : ℕ) (file : Option (List ℕ)) (payload : List ℕ) → verdict opens size id client version least file ≡ good payload
+    → (bytes : List ℕ) × (file ≡ Some bytes) × (opened opens size id bytes ≡ Some (record { id = id; client = client; version = version; payload = payload }))
+good_opens opens size id client version least None payload is = absurd (bad_is_good is)
+good_opens opens size id client version least (Some bytes) payload is = (
   bytes,
   refl,
-  judged_good id client version (opened opens size bytes) payload
-      (seen_judged size id client version (length bytes == size) (starts_with nat_eq bytes prefix) (opens (drop 16 bytes)) payload is),
+  judged_good id client version (opened opens size id bytes) payload
+      (seen_judged opens size least id (drop 16 bytes) client version (length bytes == size) (format_in bytes) payload is),
 )
 
-pub came_len : (opens : List ℕ → Option (List ℕ)) (size : ℕ) (id : List ℕ) (client version : ℕ) (file : Option (List ℕ)) (payload : List ℕ)
-    → verdict opens size id client version file ≡ good payload → length payload ≡ size - 78
-came_len opens size id client version file payload is =
-    let (bytes, same, o) = good_opens opens size id client version file payload is in
-    let p = opened-plain opens size bytes _ o in
+pub came_len : (opens : List ℕ → List ℕ → Option (List ℕ)) (size : ℕ) (id : List ℕ) (client version least : ℕ) (file : Option (List ℕ)) (payload : List ℕ)
+    → verdict opens size id client version least file ≡ good payload → length payload ≡ size - 78
+came_len opens size id client version least file payload is =
+    let (bytes, same, o) = good_opens opens size id client version least file payload is in
+    let p = opened-plain opens size id bytes _ o in
     record-length size p.0 _ p.2
 
 -- ---- no verdict speaks of a structure
@@ -115,5 +129,6 @@ pub judged_structure : (size : ℕ) (id : List ℕ) (client version : ℕ) (s : 
 judged_structure size id client version absent e = cc
 judged_structure size id client version bad_length e = cc
 judged_structure size id client version bad_prefix e = cc
+judged_structure size id client version old_format e = cc
 judged_structure size id client version not_opened e = cc
 judged_structure size id client version (plain bytes) e = record_structure id client version (record_of size bytes) e

@@ -54,16 +54,16 @@ abbrev pub record_in : ℕ → Option (List ℕ) → Option Record
 record_in size None = None
 record_in size (Some bytes) = record_of size bytes
 
--- the record that a file opens to
-abbrev pub opened : (List ℕ → Option (List ℕ)) → ℕ → List ℕ → Option Record
-opened opens size bytes = record_in size (opens_file opens size bytes)
+-- the record that a file of this block opens to
+abbrev pub opened : (List ℕ → List ℕ → Option (List ℕ)) → ℕ → List ℕ → List ℕ → Option Record
+opened opens size id bytes = record_in size (opens_file opens size id bytes)
 
 -- the payload of a record, or as many zeros where there is none
 abbrev pub payload_of : ℕ → Option Record → List ℕ
 payload_of size None = replicate (size - OVERHEAD) 0
 payload_of size (Some r) = r.payload
 
--- the payload of a file, or zeros where there is none or it doesn't open to a record
-abbrev pub payload_in : (List ℕ → Option (List ℕ)) → ℕ → Option (List ℕ) → List ℕ
-payload_in opens size None = payload_of size None
-payload_in opens size (Some bytes) = payload_of size (opened opens size bytes)
+-- the payload of a file of this block, or zeros where there is none or it doesn't open to a record
+abbrev pub payload_in : (List ℕ → List ℕ → Option (List ℕ)) → ℕ → List ℕ → Option (List ℕ) → List ℕ
+payload_in opens size id None = payload_of size None
+payload_in opens size id (Some bytes) = payload_of size (opened opens size id bytes)

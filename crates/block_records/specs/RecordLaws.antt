@@ -1,5 +1,5 @@
 -- A file that opens to a record: how long it is, and how long its payload.
-use Rattle.std.specs.Prelude.{◌≡◌, ◌≤◌, ℕ, ◌+◌, Bool, true, false, ◌&&◌, List, Option, Some, None, is_some, if◌then◌else◌, ◌-◌, take, drop, length, nat_lt}
+use Rattle.std.specs.Prelude.{◌≡◌, ◌≤◌, ℕ, ◌+◌, Bool, true, false, List, Option, Some, None, is_some, if◌then◌else◌, ◌-◌, take, drop, length, nat_lt}
 use Rattle.std.specs.Int.{Width, w16, w32, w64, byte_len, from_le_bytes}
 use Rattle.std.proofs.Common.{refl, ◌∙◌, sym, ap, subst, arith, length-drop}
 use Rattle.std.proofs.lemmas.Bool.{and_parts, ltb-false}
@@ -9,7 +9,9 @@ use Rattle.std.proofs.lemmas.Option.{same_Some}
 use Rattle.byte_fields.specs.Fields.{front_at, number_at}
 use Rattle.byte_fields.proofs.Fields.{bound, some_behind}
 use Rattle.sealed_store.specs.declared.sealed_store.TheConstants.{SEAL_LEN}
-use Rattle.sealed_store.specs.BlockFiles.{opens_file}
+use Rattle.block_id.specs.declared.format.Format.{Format}
+use Rattle.block_id.specs.Formats.{extra_of, format_in}
+use Rattle.sealed_store.specs.BlockFiles.{OpensAlike, opened_as, opens_file}
 use Rattle.block_records.specs.declared.block_record.TheConstants.{HEAD_LEN, OVERHEAD}
 use Rattle.block_records.specs.BlockRecords.{Record, opened, payload_of, record_in, record_of}
 
@@ -20,25 +22,44 @@ true_is_false e = cc
 pub none_is_some : {A B : Type 0} {x : A} → None ≡ Some x → B
 none_is_some {B = B} e = absurd (true_is_false (ap is_some (sym e)))
 
-length_if : (b c : Bool) (o : Option (List ℕ)) (p : List ℕ) → (if b && c then o else None) ≡ Some p → b ≡ true
-length_if true c o p e = refl
-length_if false c o p e = none_is_some e
+pub if_true : (b : Bool) (o : Option (List ℕ)) (p : List ℕ) → (if b then o else None) ≡ Some p → (b ≡ true) × (o ≡ Some p)
+if_true true o p e = (refl, e)
+if_true false o p e = none_is_some e
 
 -- a file that opens is as long as a block
-pub opens-length : (opens : List ℕ → Option (List ℕ)) (size : ℕ) (bytes plain : List ℕ) → opens_file opens size bytes ≡ Some plain → length bytes ≡ size
-opens-length opens size bytes plain is = (Decides-eqb (length bytes) size).0 (length_if _ _ _ _ is)
+pub opens-length : (opens : List ℕ → List ℕ → Option (List ℕ)) (size : ℕ) (id bytes plain : List ℕ) → opens_file opens size id bytes ≡ Some plain → length bytes ≡ size
+opens-length opens size id bytes plain is = (Decides-eqb (length bytes) size).0 (if_true _ _ _ is).0
+
+as_alike : (opens : List ℕ → List ℕ → Option (List ℕ)) (id other rest plain again : List ℕ) (f : Option Format) → OpensAlike opens
+    → opened_as opens id rest f ≡ Some plain → opened_as opens other rest f ≡ Some again → plain ≡ again
+as_alike opens id other rest plain again None alike e k = none_is_some e
+as_alike opens id other rest plain again (Some f) alike e k = alike (extra_of f id) (extra_of f other) rest plain again e k
+
+-- whatever block's file it is opened as, it opens to one plaintext
+pub opens-alike : (opens : List ℕ → List ℕ → Option (List ℕ)) (size : ℕ) (id other bytes plain again : List ℕ) → OpensAlike opens
+    → opens_file opens size id bytes ≡ Some plain → opens_file opens size other bytes ≡ Some again → plain ≡ again
+opens-alike opens size id other bytes plain again alike e k =
+    as_alike opens id other (drop 16 bytes) plain again (format_in bytes) alike (if_true _ _ _ e).1 (if_true _ _ _ k).1
 
 plain_of : (size : ℕ) (o : Option (List ℕ)) (r : Record) → record_in size o ≡ Some r → (plain : List ℕ) × (o ≡ Some plain) × (record_of size plain ≡ Some r)
 plain_of size None r e = none_is_some e
 plain_of size (Some plain) r e = (plain, refl, e)
 
 -- a file that opens to a record opens
-pub opened-plain : (opens : List ℕ → Option (List ℕ)) (size : ℕ) (bytes : List ℕ) (r : Record) → opened opens size bytes ≡ Some r
-    → (plain : List ℕ) × (opens_file opens size bytes ≡ Some plain) × (record_of size plain ≡ Some r)
-opened-plain opens size bytes r e = plain_of size (opens_file opens size bytes) r e
+pub opened-plain : (opens : List ℕ → List ℕ → Option (List ℕ)) (size : ℕ) (id bytes : List ℕ) (r : Record) → opened opens size id bytes ≡ Some r
+    → (plain : List ℕ) × (opens_file opens size id bytes ≡ Some plain) × (record_of size plain ≡ Some r)
+opened-plain opens size id bytes r e = plain_of size (opens_file opens size id bytes) r e
 
 pub record_same : {a b : Record} → Some a ≡ Some b → a ≡ b
 record_same e = cc
+
+-- whatever block's file it is opened as, it opens to one record
+pub opened-alike : (opens : List ℕ → List ℕ → Option (List ℕ)) (size : ℕ) (id other bytes : List ℕ) (r s : Record) → OpensAlike opens
+    → opened opens size id bytes ≡ Some r → opened opens size other bytes ≡ Some s → r ≡ s
+opened-alike opens size id other bytes r s alike e k =
+    let p = opened-plain opens size id bytes r e in
+    let q = opened-plain opens size other bytes s k in
+    record_same (sym p.2 ∙ ap (record_of size) (opens-alike opens size id other bytes p.0 q.0 alike p.1 q.1) ∙ q.2)
 
 -- ---- the parts of a record
 
@@ -85,12 +106,12 @@ record-length size bytes r e =
     let (len, behind) = record-payload size bytes r e in
     omega (arith, len, behind.0, ap length behind.1, length-drop 30 bytes)
 
-pub opened_len : (size : ℕ) (opens : List ℕ → Option (List ℕ)) (bytes : List ℕ) (o : Option Record) → opened opens size bytes ≡ o → length (payload_of size o) ≡ size - OVERHEAD
-opened_len size opens bytes None e = length-replicate (size - OVERHEAD) 0
-opened_len size opens bytes (Some r) e = let p = opened-plain opens size bytes r e in record-length size p.0 r p.2
+pub opened_len : (size : ℕ) (opens : List ℕ → List ℕ → Option (List ℕ)) (id bytes : List ℕ) (o : Option Record) → opened opens size id bytes ≡ o → length (payload_of size o) ≡ size - OVERHEAD
+opened_len size opens id bytes None e = length-replicate (size - OVERHEAD) 0
+opened_len size opens id bytes (Some r) e = let p = opened-plain opens size id bytes r e in record-length size p.0 r p.2
 
 -- asked for with one byte more than a block has, it comes whole
-pub cut_whole : (opens : List ℕ → Option (List ℕ)) (size : ℕ) (bytes : List ℕ) (r : Record) → opened opens size bytes ≡ Some r → take (size + 1) bytes ≡ bytes
-cut_whole opens size bytes r o =
-    let p = opened-plain opens size bytes r o in
-    take_all (size + 1) bytes (omega (arith, opens-length opens size bytes p.0 p.1))
+pub cut_whole : (opens : List ℕ → List ℕ → Option (List ℕ)) (size : ℕ) (id bytes : List ℕ) (r : Record) → opened opens size id bytes ≡ Some r → take (size + 1) bytes ≡ bytes
+cut_whole opens size id bytes r o =
+    let p = opened-plain opens size id bytes r o in
+    take_all (size + 1) bytes (omega (arith, opens-length opens size id bytes p.0 p.1))

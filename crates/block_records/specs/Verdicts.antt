@@ -6,8 +6,8 @@ use Rattle.std.specs.declared.option.Option.TheVariants.{None, Some}
 use Rattle.std.specs.declared.alloc.Global.{Global}
 use Rattle.std.specs.declared.result.Result.TheVariants.{Ok, Err}
 use Rattle.block_id.specs.declared.fail.Why.{Why}
-use Rattle.block_id.specs.declared.fail.Why.TheVariants.{Missing, BadLength, BadPrefix, NotOpened, BadRecord, WrongId, ForeignClient, OldVersion, AheadVersion}
-use Rattle.sealed_store.specs.BlockFiles.{SeenFile, absent, bad_length, bad_prefix, not_opened, plain, seen_file_in}
+use Rattle.block_id.specs.declared.fail.Why.TheVariants.{Missing, BadLength, BadPrefix, OldFormat, NotOpened, BadRecord, WrongId, ForeignClient, OldVersion, AheadVersion}
+use Rattle.sealed_store.specs.BlockFiles.{SeenFile, absent, bad_length, bad_prefix, old_format, not_opened, plain, seen_file_in}
 use Rattle.block_records.specs.BlockRecords.{Record, record_of}
 
 -- a payload, or what is wrong
@@ -25,17 +25,18 @@ judged_record id client known (Some r) =
     else bad (ForeignClient r.client))
     else bad (WrongId (record { 0 = r.id }))
 
--- what comes before that: no file, another length, another prefix, a seal that doesn't open
+-- what comes before that: no file, another length, another prefix, an older format, a seal that doesn't open
 abbrev pub judged : ℕ → List ℕ → ℕ → ℕ → SeenFile → Verdict
 judged size id client known absent = bad Missing
 judged size id client known bad_length = bad BadLength
 judged size id client known bad_prefix = bad BadPrefix
+judged size id client known old_format = bad OldFormat
 judged size id client known not_opened = bad NotOpened
 judged size id client known (plain bytes) = judged_record id client known (record_of size bytes)
 
--- the verdict on an answer for this id, by the state's client and the id's known version
-abbrev pub verdict : (List ℕ → Option (List ℕ)) → ℕ → List ℕ → ℕ → ℕ → Option (List ℕ) → Verdict
-verdict opens size id client known answer = judged size id client known (seen_file_in opens size answer)
+-- the verdict on an answer for this id, by the state's client, the id's known version and the least format that is taken
+abbrev pub verdict : (List ℕ → List ℕ → Option (List ℕ)) → ℕ → List ℕ → ℕ → ℕ → ℕ → Option (List ℕ) → Verdict
+verdict opens size id client known least answer = judged size id client known (seen_file_in opens size least id answer)
 
 -- an answer as a verdict
 abbrev pub verdict_of : Result (Vec ℕ Global) Why → Verdict

@@ -69,6 +69,7 @@ pub fn judge(size: usize, id: &BlockId, client: u32, known: u64, seen: Seen) -> 
         Seen::Absent => Err(Why::Missing),
         Seen::BadLength => Err(Why::BadLength),
         Seen::BadPrefix => Err(Why::BadPrefix),
+        Seen::OldFormat => Err(Why::OldFormat),
         Seen::NotOpened => Err(Why::NotOpened),
         Seen::Plain(plain) => judge_plain(size, id, client, known, plain),
     }

@@ -2,13 +2,10 @@
 use Rattle.std.proofs.Common.{◌≡◌, ◌⊎◌, ◌≤◌, ◌-◌, ◌∙◌, ℕ, Bool, true, false, List, [], ◌∷◌, sym, ap, subst, inl, inr, arith}
 use Rattle.std.specs.Prelude.{is_some, IfErr, IsOk}
 use Rattle.std.specs.declared.option.Option.{Option}
-use Rattle.std.proofs.lemmas.Option.{same_Some}
 use Rattle.config_file.specs.Settings.{Settings, settings_of}
 use Rattle.fs_model.specs.Tree.{Tree}
 use Rattle.held_blocks.specs.Held.{Held}
 use Rattle.held_blocks.specs.Standing.{records}
-use Rattle.integrity_store.specs.EnduringLaws.{listed_has}
-use Rattle.local_state.proofs.Records.{one_reading}
 use Rattle.mount.proofs.Reading.{represents_told}
 use Rattle.mount.proofs.Standing.{represents}
 use Rattle.mount.specs.Answering.{store_of, calls_of, vault_faults, keeper_faults, kept_of}
@@ -20,7 +17,8 @@ use Rattle.mount_answering.proofs.Lines.{configures_loaded, marked_or}
 use Rattle.mount_blocks.proofs.Enduring.{tower_applied, tower_enduring}
 use Rattle.mount_blocks.specs.Examined.{OnlyExamined}
 use Rattle.mount_core.specs.Standing.{IsKeptMarked}
-use Rattle.mount_tower.specs.Identities.{identity_for}
+use Rattle.mount_tower.proofs.Reading.{same_kept}
+use Rattle.mount_tower.specs.Identities.{identity_for, KeepsRecord}
 use Rattle.mount_tower.specs.Tower.{Cached, held_in, vault_in, trace_in, tower_meanings, tower_holdings, tower_durables}
 use Rattle.outcome.specs.Meanings.{HasCause, IsQuiet}
 use Rattle.outside.specs.Causes.{RoseBy}
@@ -156,9 +154,8 @@ module _ {V : Type 0} {K : Type 0} (trace : V → Option (List Call)) (faults : 
   held_is =
       let h = held_in (store_of first) in
       let whole = b.ready.core.whole in
-      let kept = same_Some _ _ (sym (whole.kept b.unchanged) ∙ b.attached.kept) in
-      let has = listed_has h.state h.list false b.ready.core.intact.0.0.has_record in
-      let state : h.state ≡ b.attached.state = (one_reading h.state b.attached.state [] [] has (listed_has b.attached.state b.attached.list false b.attached.loaded.has_record) kept).0 in
+      let last : KeepsRecord (kept_of G first) h.state [] = record { bytes = first.core.saver.last.items; kept = whole.kept b.unchanged; is_record = whole.last b.unchanged } in
+      let state : h.state ≡ b.attached.state = (same_kept (kept_of G first) h.state b.attached.state [] [] last b.attached.kept).0 in
       let size : h.size ≡ first.opened.config.block_size = ap (λ (i : Identity). i.size) b.ready.identity in
       let opens = ap (λ (i : Identity). i.opens) b.ready.identity in
       let none = whole.none b.unchanged in

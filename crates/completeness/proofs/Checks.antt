@@ -2,7 +2,6 @@
 use Rattle.std.proofs.Common.{◌≡◌, ◌⊎◌, ◌∙◌, ℕ, true, false, List, [], refl, sym, ap, subst, inl, inr}
 use Rattle.std.specs.Prelude.{Result, is_some, IfOk}
 use Rattle.std.specs.declared.option.Option.{Option}
-use Rattle.std.specs.declared.option.Option.TheVariants.{Some}
 use Rattle.std.specs.declared.result.Result.TheVariants.{Ok, Err}
 use Rattle.block_id.specs.declared.fail.Fail.{Fail}
 use Rattle.block_id.specs.declared.fail.Fail.TheVariants as fail
@@ -16,10 +15,8 @@ use Rattle.cryfs_check.specs.Checks.{OnYes}
 use Rattle.cryfs_check.specs.declared.checking.Checked.{Checked}
 use Rattle.cryfs_check.specs.declared.checking.Checked.TheVariants.{Yes, No}
 use Rattle.fs_model.specs.Tree.{Tree}
-use Rattle.integrity_store.specs.EnduringLaws.{listed_has}
 use Rattle.line_io.specs.Lines.{first_line}
 use Rattle.line_io.specs.Streams.{Stream}
-use Rattle.local_state.specs.Record.{PlainState, record_bytes}
 use Rattle.mount.proofs.Reading.{represents_told}
 use Rattle.mount_tower.specs.Identities.{HasEmptyList}
 use Rattle.outside.specs.Causes.{RoseBy}
@@ -71,8 +68,7 @@ module _ {V : Type 0} {K : Type 0} (trace : V → Option (List Call)) (faults : 
         let a = t.examined.attached in
         record {
           state = a.state;
-          has_record = listed_has a.state a.list false a.loaded.has_record;
-          kept = ap G.kept t.same_keeper ∙ (t.examined.leaves.unsaved calm).0 ∙ a.kept;
+          keeps = record { bytes = a.kept.bytes; kept = ap G.kept t.same_keeper ∙ (t.examined.leaves.unsaved calm).0 ∙ a.kept.kept; is_record = a.kept.is_record };
         }
 
     -- the configuration is the one that was found

@@ -1,5 +1,5 @@
 -- What is sealed opens again, to what was sealed and to nothing else.
-use Rattle.std.proofs.Common.{◌≡◌, ℕ, ◌≤◌, List, ◌++◌, length, drop, Option, Some, option_and_then, refl, sym, ap, ◌∙◌, subst, arith, length-drop}
+use Rattle.std.proofs.Common.{[], ◌≡◌, ℕ, ◌≤◌, List, ◌++◌, length, drop, Option, Some, option_and_then, refl, sym, ap, ◌∙◌, subst, arith, length-drop}
 use Rattle.std.proofs.lemmas.List.{length-take-le}
 use Rattle.std.specs.List.{slice_range}
 use Rattle.aes_gcm.proofs.Opening.{length-sealed_of, opened_of-sealed_of}
@@ -70,9 +70,9 @@ module _ (i : Inputs) (s : Settings) (fit : AreFit i) (limits : AreInLimits s) w
   short : length (json_text s) ≤ 896
   short = length_json_text s limits
 
-  sealed_size : length (sealed_of inner_key_of i.inner_iv innermost) ≡ 932
+  sealed_size : length (sealed_of inner_key_of i.inner_iv [] innermost) ≡ 932
   sealed_size =
-      omega (arith, length-sealed_of inner_key_of i.inner_iv innermost, fit.inner_iv, place.length-innermost_text (json_text s) i.fill short fit.fill)
+      omega (arith, length-sealed_of inner_key_of i.inner_iv [] innermost, fit.inner_iv, place.length-innermost_text (json_text s) i.fill short fit.fill)
 
   fill_size : length (slice_range i.fill 900 959) ≡ 59
   fill_size = length-take-le 59 (drop 900 i.fill) (omega (arith, length-drop 900 i.fill, fit.fill))
@@ -80,20 +80,20 @@ module _ (i : Inputs) (s : Settings) (fit : AreFit i) (limits : AreInLimits s) w
   part_size : length part ≡ 1024
   unfolding inner_text
   part_size =
-      omega (arith, place.length-four_parts inner_front cipher_field (sealed_of inner_key_of i.inner_iv innermost) (slice_range i.fill 900 959), sealed_size, fill_size)
+      omega (arith, place.length-four_parts inner_front cipher_field (sealed_of inner_key_of i.inner_iv [] innermost) (slice_range i.fill 900 959), sealed_size, fill_size)
 
   part_holds : HoldsSettings inner_key_of part s
   unfolding inner_text
   part_holds =
-      let sealed : List ℕ = sealed_of inner_key_of i.inner_iv innermost in
+      let sealed : List ℕ = sealed_of inner_key_of i.inner_iv [] innermost in
       let is : sealed_in part ≡ Some sealed = place.sealed_in-parts sealed (slice_range i.fill 900 959) sealed_size in
-      let opens : opened_of inner_key_of sealed ≡ Some innermost = opened_of-sealed_of inner_key_of i.inner_iv innermost fit.inner_iv in
+      let opens : opened_of inner_key_of [] sealed ≡ Some innermost = opened_of-sealed_of inner_key_of i.inner_iv [] innermost fit.inner_iv in
       (json_text s, is_opened inner_key_of part sealed innermost is opens ∙ place.text_in-innermost_text (json_text s) i.fill short, text_reads s limits)
 
   -- ---- the file
 
   abbrev sealed_part : List ℕ
-  sealed_part = sealed_of (outer_key i.password i.salt i.cost) i.outer_iv part
+  sealed_part = sealed_of (outer_key i.password i.salt i.cost) i.outer_iv [] part
 
   abbrev file : List ℕ
   file = outer_text i.cost i.salt ++ sealed_part
@@ -106,15 +106,15 @@ module _ (i : Inputs) (s : Settings) (fit : AreFit i) (limits : AreInLimits s) w
 
   has_form : HasForm file
   has_form = record {
-    size = omega (arith, place.length-file i.cost i.salt sealed_part fit.cost fit.salt, length-sealed_of (outer_key i.password i.salt i.cost) i.outer_iv part, part_size, fit.outer_iv);
+    size = omega (arith, place.length-file i.cost i.salt sealed_part fit.cost fit.salt, length-sealed_of (outer_key i.password i.salt i.cost) i.outer_iv [] part, part_size, fit.outer_iv);
     front = place.begins_outer_text i.cost i.salt sealed_part fit.cost fit.salt;
     cost = subst IsAllowed (sym cost_is) fit.cost;
   }
 
   inner_is : inner_in i.password file ≡ Some part
   inner_is =
-      (λ k. opened_of (outer_key i.password (salt_is k) (cost_is k)) (place.after_outer_text i.cost i.salt sealed_part fit.cost fit.salt k))
-      ∙ opened_of-sealed_of (outer_key i.password i.salt i.cost) i.outer_iv part fit.outer_iv
+      (λ k. opened_of (outer_key i.password (salt_is k) (cost_is k)) [] (place.after_outer_text i.cost i.salt sealed_part fit.cost fit.salt k))
+      ∙ opened_of-sealed_of (outer_key i.password i.salt i.cost) i.outer_iv [] part fit.outer_iv
 
   file_opens : ConfigOf i.password file (opened s i.cost)
   file_opens =

@@ -1,5 +1,5 @@
 -- What a file is under a password.
-use Rattle.std.specs.Prelude.{ℕ, ◌≡◌, ◌↔◌, List, Option, Some, None, option_and_then}
+use Rattle.std.specs.Prelude.{[], ℕ, ◌≡◌, ◌↔◌, List, Option, Some, None, option_and_then}
 use Rattle.aes_gcm.specs.Gcm.{opened_of}
 use Rattle.scrypt_kdf.specs.Cost.{Cost}
 use Rattle.config_file.specs.Format.{HasForm, cost_in, inner_in, inner_key, salt_in, sealed_in, text_in}
@@ -8,7 +8,7 @@ use Rattle.config_file.specs.Settings.{Settings}
 
 -- the JSON of an inner part, where it has the format and its innermost part opens under the key
 unfoldable pub json_in : List ℕ → List ℕ → Option (List ℕ)
-json_in key inner = option_and_then text_in (option_and_then (opened_of key) (sealed_in inner))
+json_in key inner = option_and_then text_in (option_and_then (opened_of key []) (sealed_in inner))
 
 -- an inner part holds these settings under the key
 abbrev pub HoldsSettings : List ℕ → List ℕ → Settings → Type 0

@@ -2,6 +2,7 @@
 use Rattle.std.specs.Prelude.{ℕ, ◌≡◌, ◌<◌, ◌^◌, ◌+◌, List, [], ◌∷◌, ◌++◌, Bool, length, take, drop, codes, nat_lt, nat_eq, if◌then◌else◌, IsTrue, Option, Some, None}
 use Rattle.std.specs.Int.{w32, w64, from_le_bytes}
 use Rattle.std.specs.List.{slice_range, starts_with}
+use Rattle.block_id.specs.Formats.{magic}
 use Rattle.aes_gcm.specs.Gcm.{opened_of}
 use Rattle.scrypt_kdf.specs.Cost.{Cost, IsAllowed}
 use Rattle.scrypt_kdf.specs.Scrypt.{scrypt}
@@ -30,7 +31,7 @@ pub record HasForm (bytes : List ℕ) : Type 0 where
 
 -- bytes that may wait to be the configuration's file: short enough for a record, and not begun as a block's file is
 abbrev pub MayWait : List ℕ → Type 0
-MayWait bytes = (length bytes < 2 ^ 32) × (take 14 bytes ≡ codes "cryfs;block;0" ++ 0 ∷ [] → ⊥)
+MayWait bytes = (length bytes < 2 ^ 32) × (take 14 bytes ≡ magic → ⊥)
 
 -- the 64 bytes that are the keys of the outer and of the inner seal
 abbrev pub derived : List ℕ → List ℕ → Cost → List ℕ
@@ -47,7 +48,7 @@ salt_in bytes = slice_range bytes 38 70
 
 -- the inner part, where it opens
 abbrev pub inner_in : List ℕ → List ℕ → Option (List ℕ)
-inner_in password bytes = opened_of (outer_key password (salt_in bytes) (cost_in bytes)) (drop 70 bytes)
+inner_in password bytes = opened_of (outer_key password (salt_in bytes) (cost_in bytes)) [] (drop 70 bytes)
 
 -- ---- the inner part: 21 bytes, the cipher's name and a zero, the innermost part, sealed, and fill
 

@@ -1,5 +1,5 @@
 -- The text of a configuration's file.
-use Rattle.std.specs.Prelude.{ℕ, ◌≡◌, ◌+◌, List, ◌++◌, length}
+use Rattle.std.specs.Prelude.{[], ℕ, ◌≡◌, ◌+◌, List, ◌++◌, length}
 use Rattle.std.specs.Int.{w32, w64, to_le_bytes}
 use Rattle.std.specs.List.{slice_range}
 use Rattle.aes_gcm.specs.Gcm.{sealed_of}
@@ -14,7 +14,7 @@ innermost_text json fill = to_le_bytes w32 (length json) ++ json ++ slice_range 
 
 -- 1,024 bytes; its fill is bytes 900 to 958 of `fill`
 unfoldable pub inner_text : List ℕ → List ℕ → List ℕ → List ℕ → List ℕ
-inner_text key iv innermost fill = inner_front ++ cipher_field ++ sealed_of key iv innermost ++ slice_range fill 900 959
+inner_text key iv innermost fill = inner_front ++ cipher_field ++ sealed_of key iv [] innermost ++ slice_range fill 900 959
 
 -- what stands before the sealed inner part
 unfoldable pub outer_text : Cost → List ℕ → List ℕ
@@ -41,5 +41,5 @@ pub record AreFit (i : Inputs) : Type 0 where
 unfoldable pub config_text : Inputs → Settings → List ℕ
 config_text i s =
     outer_text i.cost i.salt
-    ++ sealed_of (outer_key i.password i.salt i.cost) i.outer_iv
+    ++ sealed_of (outer_key i.password i.salt i.cost) i.outer_iv []
     (inner_text (inner_key i.password i.salt i.cost) i.inner_iv (innermost_text (json_text s) i.fill) i.fill)

@@ -36,34 +36,38 @@ pub struct Opened {
 
 impl Sealer for Cipher {
     ghost use Rattle.aes_gcm.specs.Gcm.{opened_of};
-    ghost use Rattle.aes_gcm.specs.Lengths.{length-opened_of};
+    ghost use Rattle.aes_gcm.specs.Lengths.{length-opened_of, opened_of-agrees};
 
     ghost iv_size = { λ _. 16 };
 
-    ghost opens = { λ _ key text. opened_of key text };
+    ghost opens = { λ _ key extra text. opened_of key extra text };
 
     fn iv_len(&self) -> usize {
         Aes256Gcm.iv_len()
     }
 
-    fn seal(
+    fn seal_with(
         &self,
         key: &[u8; 32],
         iv: &[u8],
+        extra: &[u8],
         plain: &[u8],
         out: &mut Vec<u8>,
     ) -> Result<(), Memory> {
-        Aes256Gcm.seal(key, iv, plain, out)
+        Aes256Gcm.seal_with(key, iv, extra, plain, out)
     }
 
-    fn unseal(
+    fn unseal_with(
         &self,
         alloc: Global,
         key: &[u8; 32],
+        extra: &[u8],
         sealed: &[u8],
     ) -> Result<Option<Vec<u8>>, Memory> {
-        Aes256Gcm.unseal(alloc, key, sealed)
+        Aes256Gcm.unseal_with(alloc, key, extra, sealed)
     }
 
-    ghost lengths = { λ _ key text plain opens. length-opened_of key text plain opens };
+    ghost lengths = { λ _ key extra text plain opens. length-opened_of key extra text plain opens };
+
+    ghost agrees = { λ _ key extra other text plain again opens also. opened_of-agrees key extra other text plain again opens also };
 }

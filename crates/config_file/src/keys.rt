@@ -1,5 +1,5 @@
 // The keys that are derived from a password, and what opens under them.
-ghost use Rattle.std.specs.Prelude.{◌≡◌, ◌+◌, length, take, drop, IfOk, IfSome};
+ghost use Rattle.std.specs.Prelude.{[], ◌≡◌, ◌+◌, length, take, drop, IfOk, IfSome};
 ghost use Rattle.std.specs.Option.{option_map};
 ghost use Rattle.aes_gcm.specs.Gcm.{opened_of};
 ghost use Rattle.config_file.specs.Format.{inner_key, outer_key};
@@ -57,7 +57,7 @@ pub(crate) fn unseal(
     key: &[u8; 32],
     sealed: &[u8],
 ) -> Result<Option<Vec<u8>>, Memory>
-    ensures plain { IfOk result (λ answer. option_map (λ plain. plain.items) answer ≡ opened_of key.now sealed.now) }
+    ensures plain { IfOk result (λ answer. option_map (λ plain. plain.items) answer ≡ opened_of key.now [] sealed.now) }
     ensures len { IfOk result (λ answer. IfSome answer (λ plain. length plain.items + 32 ≡ length sealed.now)) }
 {
     Aes256Gcm.unseal(alloc, key, sealed)

@@ -43,7 +43,7 @@ pub fn seal_config(
     let innermost = innermost_part(alloc, &json, fill)?;
     let inner = inner_part(alloc, &keys, inner_iv, &innermost, fill)?;
     let mut out = outer_part(alloc, params, salt)?;
-    append_sealed(&keys.outer, outer_iv, &inner, &mut out)?;
+    append_sealed(&keys.outer, outer_iv, &[], &inner, &mut out)?;
     Ok(out)
 }
 
@@ -72,7 +72,7 @@ fn inner_part(
     let mut part = Vec::with_capacity(alloc, 1024)?;
     part.extend_from_slice(&INNER_FRONT)?;
     part.extend_from_slice(&CIPHER_FIELD)?;
-    append_sealed(&keys.inner, iv, innermost, &mut part)?;
+    append_sealed(&keys.inner, iv, &[], innermost, &mut part)?;
     part.extend_from_slice(&fill[900..959])?;
     Ok(part)
 }

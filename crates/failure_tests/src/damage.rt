@@ -65,7 +65,7 @@ const ROWS: &[Row] = &[
         before_text: "",
         damage: Some(Damage::SecondAsThird),
         lines: "ls /a\n",
-        text: "violation wrong-id 00000000000000000000000000000003\n",
+        text: "violation not-opened\n",
         status: Status::Violation,
         later: "",
         later_status: Status::Violation,

@@ -14,7 +14,7 @@ pub record IsGivenBy (h : Held) (old new : Option (List Call)) (id : Id) (payloa
   pub live : live_version h id ≡ Some version
   pub file : Option (List ℕ)
   pub read : new ≡ adds old (got (block id) (h.size + 1) file)
-  pub judged : verdict h.opens h.size id h.state.client version file ≡ good payload
+  pub judged : verdict h.opens h.size id h.state.client version h.state.least file ≡ good payload
 
 -- the same of each pair in order, and of nothing else
 abbrev pub GivesReads : Held → Option (List Call) → Given → Option (List Call) → Type 0

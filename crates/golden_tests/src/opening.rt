@@ -82,6 +82,9 @@ fn opens_and_shows_what_was_written(rt: HostRuntime) -> Result<(), Fail> {
     let text = report(alloc)?;
     let read = "read /docs/report 0 2000\n";
     system = session(alloc, system, read, &text, Status::Done)?;
+    // Sessions that only look save nothing: the record stays as it was, in the older form.
+    let record = hex::decode(alloc, RECORD)?;
+    assert!(rt; system.keeper.kept() == Some(record.as_slice()));
     let change = "mkdir /docs/deep/new\nrm /docs/report\n";
     system = session(alloc, system, change, "ok\nok\n", Status::Done)?;
     let look = "ls /docs/deep\nls /docs\n";
@@ -90,7 +93,8 @@ fn opens_and_shows_what_was_written(rt: HostRuntime) -> Result<(), Fail> {
     Ok(())
 }
 
-/// A file was made, so there is one block more. The record knows 30 ids then, and its list is empty: 120 bytes and 25 each.
+/// A file was made, so there is one block more. The record knows 30 ids then, its list is empty, and its form is the newer: 121
+/// bytes and 25 each.
 #[test]
 fn puts_what_waits(rt: HostRuntime) -> Result<(), Fail> {
     let alloc = rt.alloc();
@@ -102,6 +106,6 @@ fn puts_what_waits(rt: HostRuntime) -> Result<(), Fail> {
         "list 1\nd docs\nlist 4\nd deep\nf late\nf note\nf report\nlist 2\nd er\nl link\ndata 6c617465\nlink ../docs/note\nstat l 777 0 0 12 1795917643.330841469 1795917643.330841469 1795917643.718478323\n";
     let after = session(alloc, system, lines, text, Status::Done)?;
     assert_eq!(rt; count_blocks(&after.vault), before.saturating_add(1));
-    assert_eq!(rt; after.keeper.kept().unwrap_or(&[]).len(), 870);
+    assert_eq!(rt; after.keeper.kept().unwrap_or(&[]).len(), 871);
     Ok(())
 }

@@ -20,6 +20,6 @@ pub read_content : (h : Held) (trace : Option (List Call)) (max : ℕ) (answer :
 read_content h None max answer id = refl
 read_content h (Some t) max answer id = refl
 
-pub read_forgeries : (opens : List ℕ → Option (List ℕ)) (size : ℕ) (trace : Option (List Call)) (max : ℕ) (answer : Option (List ℕ)) → count_told (forged opens size) (after_read trace max answer) ≡ count_told (forged opens size) trace
+pub read_forgeries : (opens : List ℕ → List ℕ → Option (List ℕ)) (size : ℕ) (trace : Option (List Call)) (max : ℕ) (answer : Option (List ℕ)) → count_told (forged opens size) (after_read trace max answer) ≡ count_told (forged opens size) trace
 read_forgeries opens size None max answer = refl
 read_forgeries opens size (Some t) max answer = omega arith

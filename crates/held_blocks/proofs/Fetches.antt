@@ -6,7 +6,7 @@ use Rattle.std.specs.declared.result.Result.TheVariants.{Ok, Err}
 use Rattle.std.proofs.Common.{refl, sym, ◌∙◌, ap, subst, inl, inr}
 use Rattle.std.proofs.lemmas.Option.{same_Some}
 use Rattle.block_id.specs.declared.fail.Why.{Why}
-use Rattle.block_id.specs.declared.fail.Why.TheVariants.{Missing, BadLength, BadPrefix, NotOpened, BadRecord, WrongId, ForeignClient, OldVersion, AheadVersion, Structure}
+use Rattle.block_id.specs.declared.fail.Why.TheVariants.{Missing, BadLength, BadPrefix, NotOpened, BadRecord, WrongId, ForeignClient, OldVersion, AheadVersion, Structure, OldFormat}
 use Rattle.block_id.specs.declared.fail.Fail.{Fail}
 use Rattle.block_id.specs.declared.fail.Fail.TheVariants.{Memory, Fault, Violation}
 use Rattle.outside.specs.HonestLaws.{uncounted}
@@ -17,15 +17,15 @@ use Rattle.outcome.specs.Meanings.{OnVerdict, IsOfBlocks}
 use Rattle.redo_vault.specs.Redo.{Gave}
 use Rattle.sealed_store.specs.BlockFiles.{opens_file, seen_file_in}
 use Rattle.block_records.proofs.Judging.{came_len, good_opens, judged_structure}
-use Rattle.block_records.specs.BlockRecords.{Record, opened}
-use Rattle.block_records.specs.RecordLaws.{cut_whole, opened-plain, record_same}
+use Rattle.block_records.specs.BlockRecords.{opened}
+use Rattle.block_records.specs.RecordLaws.{cut_whole, opened-plain}
 use Rattle.block_records.specs.Verdicts.{bad, good, verdict}
 use Rattle.held_blocks.specs.Forgeries.{forged, was_put}
 use Rattle.held_blocks.specs.Held.{Held, live_version, own, waiting, wanted}
 use Rattle.held_blocks.specs.Loads.{LoadAnswers, Came, Fetched, Loads}
 use Rattle.held_blocks.specs.ReadLaws.{went_same}
 use Rattle.held_blocks.specs.Reads.{FoundSince, WentOnByReads}
-use Rattle.held_blocks.specs.Soundness.{IsPast, SoundAt, SoundBy}
+use Rattle.held_blocks.specs.Soundness.{SoundAt, SoundBy}
 
 -- ---- the trace
 
@@ -60,7 +60,7 @@ false_is_true : false ≡ true → ⊥
 false_is_true e = cc
 
 pub wanted_of : (h : Held) (t : List Call) (id : List ℕ) (version : ℕ) (bytes payload : List ℕ) → live_version h id ≡ Some version → waiting h id ≡ Some (Some bytes)
-    → opened h.opens h.size bytes ≡ Some (own h id version payload) → wanted h (Some t) id ≡ Some payload
+    → opened h.opens h.size id bytes ≡ Some (own h id version payload) → wanted h (Some t) id ≡ Some payload
 wanted_of h t id version bytes payload live waits o = rw (live, waits, o) refl
 
 not_false : (a b : Bool) → a ≡ true → (a && not b) ≡ false → b ≡ true
@@ -68,43 +68,35 @@ not_false true true is e = refl
 not_false true false is e = absurd (false_is_true (sym e))
 not_false false b is e = absurd (false_is_true is)
 
-past_wanted : (h : Held) (t : List Call) (id payload : List ℕ) (version : ℕ) (r : Record) → live_version h id ≡ Some version → IsPast h t r → r ≡ own h id version payload
-    → wanted h (Some t) id ≡ Some payload
-past_wanted h t id payload version r live p is =
-    let q = subst (λ r. live_version h r.id ≡ Some r.version → wanted h (Some t) r.id ≡ Some r.payload) is p.payload in q live
-
 put_wanted : (h : Held) (t : List Call) (id bytes payload : List ℕ) (version : ℕ) → live_version h id ≡ Some version → SoundAt h t
-    → opened h.opens h.size bytes ≡ Some (own h id version payload) → was_put bytes t ≡ true → wanted h (Some t) id ≡ Some payload
-put_wanted h t id bytes payload version live sound o was =
-    let p = opened-plain h.opens h.size bytes _ o in
-    let q = sound.past bytes p.0 was p.1 in
-    past_wanted h t id payload version q.0 live q.2 (record_same (sym q.1 ∙ p.2))
+    → opened h.opens h.size id bytes ≡ Some (own h id version payload) → was_put bytes t ≡ true → wanted h (Some t) id ≡ Some payload
+put_wanted h t id bytes payload version live sound o was = (sound.past id bytes (own h id version payload) was o refl).payload live
 
 -- Where no forged file came, the payload of a good one is the content's.
 came_value : (h : Held) (old new : Option (List Call)) (id : List ℕ) (version : ℕ) (file : Option (List ℕ)) (payload : List ℕ) → live_version h id ≡ Some version
-    → Came h old new id file → verdict h.opens h.size id h.state.client version file ≡ good payload
+    → Came h old new id file → verdict h.opens h.size id h.state.client version h.state.least file ≡ good payload
     → SoundBy h old → count_told (forged h.opens h.size) new ≤ count_told (forged h.opens h.size) old → wanted h old id ≡ Some payload
 came_value h None new id version file payload live came is sound few = absurd sound
 came_value h (Some t) new id version file payload live came is sound few =
-    let (bytes, same, o) = good_opens h.opens h.size id h.state.client version file payload is in
+    let (bytes, same, o) = good_opens h.opens h.size id h.state.client version h.state.least file payload is in
     elim (waiting h id) as (λ w. waiting h id ≡ w → Gave w (Some t) new (block id) (h.size + 1) file → wanted h (Some t) id ≡ Some payload) [
       | Some change ↦ λ e f.
           let (b, p, sameb, ob) = sound.waits id version change live e in
-          let whole : take (h.size + 1) b ≡ b = cut_whole h.opens h.size b _ ob in
+          let whole : take (h.size + 1) b ≡ b = cut_whole h.opens h.size id b _ ob.opens in
           let eq : b ≡ bytes = sym whole ∙ same_Some _ _ (sym (f.1 ∙ ap (cut (h.size + 1)) sameb) ∙ same) in
           wanted_of h t id version bytes payload live (e ∙ ap Some (sameb ∙ ap Some eq)) o
       | None ↦ λ e f.
           let few' : count_calls (forged h.opens h.size) (got (block id) (h.size + 1) file ∷ t) ≤ count_calls (forged h.opens h.size) t = rw f at few in
           let unforged : forged h.opens h.size t (got (block id) (h.size + 1) (Some bytes)) ≡ false = rw same at (uncounted (forged h.opens h.size t (got (block id) (h.size + 1) file)) _ few') in
-          let p = opened-plain h.opens h.size bytes _ o in
-          put_wanted h t id bytes payload version live sound o (not_false (is_some (opens_file h.opens h.size bytes)) (was_put bytes t) (ap is_some p.1) unforged)
+          let p = opened-plain h.opens h.size id bytes _ o in
+          put_wanted h t id bytes payload version live sound o (not_false (is_some (opens_file h.opens h.size id bytes)) (was_put bytes t) (ap is_some p.1) unforged)
     ] refl came
 
 -- ---- the answers
 
 -- what is wrong was found
 came_met : (h : Held) (old new : Option (List Call)) (id : List ℕ) (version : ℕ) (file : Option (List ℕ)) (why : Why) → live_version h id ≡ Some version
-    → Came h old new id file → verdict h.opens h.size id h.state.client version file ≡ bad why → FoundSince h old new why
+    → Came h old new id file → verdict h.opens h.size id h.state.client version h.state.least file ≡ bad why → FoundSince h old new why
 came_met h None new id version file why live came wrong = tt
 came_met h (Some t) new id version file why live came wrong =
     elim (waiting h id) as (λ w. waiting h id ≡ w → Gave w (Some t) new (block id) (h.size + 1) file → FoundSince h (Some t) new why) [
@@ -131,6 +123,7 @@ on_verdict met (ForeignClient c) m = m
 on_verdict met (OldVersion known found) m = m
 on_verdict met (AheadVersion known found) m = m
 on_verdict met Structure m = tt
+on_verdict met OldFormat m = m
 
 of_blocks : (why : Why) → (why ≡ Structure → ⊥) → IsOfBlocks (Violation why)
 of_blocks Missing f = tt
@@ -143,6 +136,7 @@ of_blocks (ForeignClient c) f = tt
 of_blocks (OldVersion known found) f = tt
 of_blocks (AheadVersion known found) f = tt
 of_blocks Structure f = absurd (f refl)
+of_blocks OldFormat f = tt
 
 pub fetched_met : (h : Held) (old new : Option (List Call)) (id : List ℕ) (version : ℕ) (e : Fail) → live_version h id ≡ Some version
     → Fetched h old new id version (Err e) → OnVerdict e (FoundSince h old new)
@@ -155,7 +149,7 @@ pub fetched_of_blocks : (h : Held) (old new : Option (List Call)) (id : List ℕ
 fetched_of_blocks h old new id version Memory f = tt
 fetched_of_blocks h old new id version Fault f = tt
 fetched_of_blocks h old new id version (Violation why) f =
-    of_blocks why (λ e. judged_structure h.size id h.state.client version (seen_file_in h.opens h.size f.0) (f.2 ∙ ap bad e))
+    of_blocks why (λ e. judged_structure h.size id h.state.client version (seen_file_in h.opens h.size h.state.least id f.0) (f.2 ∙ ap bad e))
 
 pub fetched_value : (h : Held) (old new : Option (List Call)) (id : List ℕ) (version : ℕ) (payload : List ℕ) → live_version h id ≡ Some version
     → Fetched h old new id version (Ok payload) → SoundBy h old → count_told (forged h.opens h.size) new ≤ count_told (forged h.opens h.size) old
@@ -164,7 +158,7 @@ fetched_value h old new id version payload live f sound few = sym (came_value h 
 
 pub fetched_len : (h : Held) (old new : Option (List Call)) (id : List ℕ) (version : ℕ) (payload : List ℕ)
     → Fetched h old new id version (Ok payload) → length payload ≡ h.size - 78
-fetched_len h old new id version payload f = came_len h.opens h.size id h.state.client version f.0 payload f.2
+fetched_len h old new id version payload f = came_len h.opens h.size id h.state.client version h.state.least f.0 payload f.2
 
 -- ---- loads
 

@@ -33,22 +33,22 @@ same_file bytes (Some b) e = ap Some ((bytes_eq-Decides b bytes).0 (not-false (b
 
 -- Where the directory gave what was last written, nothing is wrong.
 came_alarm : (h : Held) (old new : Option (List Call)) (id : List ℕ) (version : ℕ) (file : Option (List ℕ)) (why : Why) → live_version h id ≡ Some version
-    → Came h old new id file → verdict h.opens h.size id h.state.client version file ≡ bad why
+    → Came h old new id file → verdict h.opens h.size id h.state.client version h.state.least file ≡ bad why
     → SoundBy h old → count_told is_lie new ≤ count_told is_lie old → ⊥
 came_alarm h None new id version file why live came is sound few = sound
 came_alarm h (Some t) new id version file why live came is sound few =
     elim (waiting h id) as (λ w. waiting h id ≡ w → Gave w (Some t) new (block id) (h.size + 1) file → ⊥) [
       | Some change ↦ λ e f.
           let (bytes, payload, same, o) = sound.waits id version change live e in
-          let whole : file ≡ Some bytes = f.1 ∙ ap (cut (h.size + 1)) same ∙ ap Some (cut_whole h.opens h.size bytes _ o) in
-          bad_is_good (sym is ∙ ap (verdict h.opens h.size id h.state.client version) whole ∙ opened_good h.opens h.size id h.state.client version bytes payload o)
+          let whole : file ≡ Some bytes = f.1 ∙ ap (cut (h.size + 1)) same ∙ ap Some (cut_whole h.opens h.size id bytes _ o.opens) in
+          bad_is_good (sym is ∙ ap (verdict h.opens h.size id h.state.client version h.state.least) whole ∙ opened_good h.opens h.size id h.state.client version h.state.least bytes payload o.taken o.opens)
       | None ↦ λ e f.
           let few' : count_calls is_lie (got (block id) (h.size + 1) file ∷ t) ≤ count_calls is_lie t = rw f at few in
           let (bytes, payload, last, o) = sound.stands id version live e in
           let honest : not (same_answer file (Some (take (h.size + 1) bytes))) ≡ false
           = sym (ap (λ change. not (is_left change (h.size + 1) file)) last) ∙ uncounted (is_lie t (got (block id) (h.size + 1) file)) _ few' in
-          let whole : file ≡ Some bytes = same_file (take (h.size + 1) bytes) file honest ∙ ap Some (cut_whole h.opens h.size bytes _ o) in
-          bad_is_good (sym is ∙ ap (verdict h.opens h.size id h.state.client version) whole ∙ opened_good h.opens h.size id h.state.client version bytes payload o)
+          let whole : file ≡ Some bytes = same_file (take (h.size + 1) bytes) file honest ∙ ap Some (cut_whole h.opens h.size id bytes _ o.opens) in
+          bad_is_good (sym is ∙ ap (verdict h.opens h.size id h.state.client version h.state.least) whole ∙ opened_good h.opens h.size id h.state.client version h.state.least bytes payload o.taken o.opens)
     ] refl came
 
 -- ---- all reads
@@ -71,7 +71,7 @@ read_waits h call id max file r is =
 
 -- no read of a sound store over an honest directory gave a file that is wrong
 among_good : (h : Held) (t reads : List Call) (id : List ℕ) (version : ℕ) (file : Option (List ℕ)) (why : Why) → live_version h id ≡ Some version → AllReads h reads → SoundAt h t
-    → count_calls is_lie (reads ++ t) ≤ count_calls is_lie t → verdict h.opens h.size id h.state.client version file ≡ bad why → Among reads (got (block id) (h.size + 1) file) → ⊥
+    → count_calls is_lie (reads ++ t) ≤ count_calls is_lie t → verdict h.opens h.size id h.state.client version h.state.least file ≡ bad why → Among reads (got (block id) (h.size + 1) file) → ⊥
 among_good h t [] id version file why live all sound few wrong among = among
 among_good h t (call ∷ reads) id version file why live all sound few wrong (inl is) =
     let few' : count_calls is_lie (call ∷ reads ++ t) ≤ count_calls is_lie (reads ++ t) = omega (arith, few, count_grows is_lie t reads) in

@@ -17,14 +17,14 @@ abbrev pub was_put : List ℕ → List Call → Bool
 was_put bytes [] = false
 was_put bytes (call ∷ calls) = puts bytes call || was_put bytes calls
 
--- an answer that opens, of bytes that no call before put
-abbrev pub opens_unput : (List ℕ → Option (List ℕ)) → ℕ → List Call → Option (List ℕ) → Bool
-opens_unput opens size before None = false
-opens_unput opens size before (Some bytes) = is_some (opens_file opens size bytes) && not (was_put bytes before)
+-- an answer for a block that opens, of bytes that no call before put
+abbrev pub opens_unput : (List ℕ → List ℕ → Option (List ℕ)) → ℕ → List ℕ → List Call → Option (List ℕ) → Bool
+opens_unput opens size id before None = false
+opens_unput opens size id before (Some bytes) = is_some (opens_file opens size id bytes) && not (was_put bytes before)
 
 -- whether the call gave a block's file that opens and was never put
-abbrev pub forged : (List ℕ → Option (List ℕ)) → ℕ → List Call → Call → Bool
+abbrev pub forged : (List ℕ → List ℕ → Option (List ℕ)) → ℕ → List Call → Call → Bool
 forged opens size before (got config max answer) = false
-forged opens size before (got (block id) max answer) = opens_unput opens size before answer
+forged opens size before (got (block id) max answer) = opens_unput opens size id before answer
 forged opens size before (put name bytes ok) = false
 forged opens size before (removed name ok) = false

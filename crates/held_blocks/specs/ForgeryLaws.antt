@@ -25,8 +25,8 @@ pub went_count : (test : List Call → Call → Bool) (h : Held) (a b : Option (
 went_count test h None b went = omega arith
 went_count test h (Some t) b (reads, is, all) = subst (λ b. count_calls test t ≤ count_told test b) (sym is) (count_grows test t reads)
 
-put_unforged : (opens : List ℕ → Option (List ℕ)) (size : ℕ) (trace : List Call) (b : List ℕ) → was_put b trace ≡ true → opens_unput opens size trace (Some b) ≡ false
-put_unforged opens size trace b was = rw was (and-false (is_some (opens_file opens size b)))
+put_unforged : (opens : List ℕ → List ℕ → Option (List ℕ)) (size : ℕ) (id : List ℕ) (trace : List Call) (b : List ℕ) → was_put b trace ≡ true → opens_unput opens size id trace (Some b) ≡ false
+put_unforged opens size id trace b was = rw was (and-false (is_some (opens_file opens size id b)))
 
 -- ---- what was put last was put
 
@@ -58,27 +58,27 @@ le_one : (b : Bool) → (if b then 1 else 0) ≤ 1
 le_one true = omega arith
 le_one false = omega arith
 
-read_as : (opens : List ℕ → Option (List ℕ)) (size max : ℕ) (trace : List Call) (bytes : List ℕ) (answer : Option (List ℕ)) → length bytes ≤ max → was_put bytes trace ≡ true
-    → (if opens_unput opens size trace answer then 1 else 0) ≤ (if not (same_answer answer (Some (take max bytes))) then 1 else 0)
-read_as opens size max trace bytes None fits was = omega arith
-read_as opens size max trace bytes (Some b) fits was =
-    elim (bytes_eq b (take max bytes)) as (λ v. bytes_eq b (take max bytes) ≡ v → (if opens_unput opens size trace (Some b) then 1 else 0) ≤ (if not v then 1 else 0)) [
+read_as : (opens : List ℕ → List ℕ → Option (List ℕ)) (size max : ℕ) (id : List ℕ) (trace : List Call) (bytes : List ℕ) (answer : Option (List ℕ)) → length bytes ≤ max → was_put bytes trace ≡ true
+    → (if opens_unput opens size id trace answer then 1 else 0) ≤ (if not (same_answer answer (Some (take max bytes))) then 1 else 0)
+read_as opens size max id trace bytes None fits was = omega arith
+read_as opens size max id trace bytes (Some b) fits was =
+    elim (bytes_eq b (take max bytes)) as (λ v. bytes_eq b (take max bytes) ≡ v → (if opens_unput opens size id trace (Some b) then 1 else 0) ≤ (if not v then 1 else 0)) [
       | true ↦ λ e.
           let is : bytes ≡ b = sym ((bytes_eq-Decides b (take max bytes)).0 e ∙ take_all max bytes fits) in
-          rw (put_unforged opens size trace b (subst (λ x. was_put x trace ≡ true) is was)) (omega arith)
-      | false ↦ λ e. le_one (opens_unput opens size trace (Some b))
+          rw (put_unforged opens size id trace b (subst (λ x. was_put x trace ≡ true) is was)) (omega arith)
+      | false ↦ λ e. le_one (opens_unput opens size id trace (Some b))
     ] refl
 
 one_read : (h : Held) (trace : List Call) (call : Call) → IsRead h call → SoundAt h trace
     → (if forged h.opens h.size trace call then 1 else 0) ≤ (if is_lie trace call then 1 else 0)
 one_read h trace call r sound =
     let s = sound.stands r.id r.version r.live r.written in
-    let o = opened-plain h.opens h.size s.0 _ s.3 in
-    let fits : length s.0 ≤ h.size + 1 = omega (arith, opens-length h.opens h.size s.0 o.0 o.1) in
+    let o = opened-plain h.opens h.size r.id s.0 _ s.3.opens in
+    let fits : length s.0 ≤ h.size + 1 = omega (arith, opens-length h.opens h.size r.id s.0 o.0 o.1) in
     let was = last-was_put (block r.id) s.0 true trace s.2 in
     let last : is_lie trace (got (block r.id) (h.size + 1) r.answer) ≡ not (same_answer r.answer (Some (take (h.size + 1) s.0)))
     = ap (λ change. not (is_left change (h.size + 1) r.answer)) s.2 in
-    rw (r.is, last) (read_as h.opens h.size (h.size + 1) trace s.0 r.answer fits was)
+    rw (r.is, last) (read_as h.opens h.size (h.size + 1) r.id trace s.0 r.answer fits was)
 
 -- of the reads of a sound store no more are forged than are lies
 pub fewer_forged : (h : Held) (trace reads : List Call) → AllReads h reads → SoundAt h trace

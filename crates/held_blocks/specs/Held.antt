@@ -11,10 +11,10 @@ use Rattle.local_state.specs.Record.{PlainState}
 use Rattle.store_api.specs.Content.{Content}
 use Rattle.block_records.specs.BlockRecords.{Record, payload_in}
 
--- the size of a block, what a sealed text opens to, the state, and the unwritten list
+-- the size of a block, what a sealed text opens to with some extra bytes, the state, and the unwritten list
 pub record Held : Type 0 where
   pub size : ℕ
-  pub opens : List ℕ → Option (List ℕ)
+  pub opens : List ℕ → List ℕ → Option (List ℕ)
   pub state : PlainState
   pub list : FileChanges
 
@@ -56,4 +56,4 @@ told_or_none (Some trace) = trace
 
 -- each live id with the payload of its file
 abbrev pub wanted : Held → Option (List Call) → Content
-wanted h trace id = where_live (live_version h id) (payload_in h.opens h.size (file_of h (told_or_none trace) id))
+wanted h trace id = where_live (live_version h id) (payload_in h.opens h.size id (file_of h (told_or_none trace) id))

@@ -24,11 +24,11 @@ fetched_of (Err fail) = Err fail
 -- of a live id at this version: a payload or a reason by the verdict on what came; a fault without an answer; want of memory before or after one
 abbrev pub Fetched : Held → Option (List Call) → Option (List Call) → List ℕ → ℕ → Result (List ℕ) Fail → Type 0
 Fetched h old new id version (Ok payload) =
-    (file : Option (List ℕ)) × Came h old new id file × (verdict h.opens h.size id h.state.client version file ≡ good payload)
+    (file : Option (List ℕ)) × Came h old new id file × (verdict h.opens h.size id h.state.client version h.state.least file ≡ good payload)
 Fetched h old new id version (Err Memory) = (new ≡ old) ⊎ ((file : Option (List ℕ)) × Came h old new id file)
 Fetched h old new id version (Err Fault) = new ≡ old
 Fetched h old new id version (Err (Violation why)) =
-    (file : Option (List ℕ)) × Came h old new id file × (verdict h.opens h.size id h.state.client version file ≡ bad why)
+    (file : Option (List ℕ)) × Came h old new id file × (verdict h.opens h.size id h.state.client version h.state.least file ≡ bad why)
 
 -- what a load of an id answers: none where it doesn't live, without a call; else by the verdict on what came
 abbrev pub LoadAnswers : Held → Option (List Call) → Option (List Call) → List ℕ → Option ℕ → LoadAnswer → Type 0

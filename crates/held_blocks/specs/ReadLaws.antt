@@ -64,15 +64,14 @@ found_after h (Some t) b c why (xs, is, all) second found =
 -- ---- soundness
 
 past-got : (h : Held) (trace : List Call) (name : At) (max : ℕ) (answer : Option (List ℕ)) (r : Record) → IsPast h trace r → IsPast h (got name max answer ∷ trace) r
-past-got h trace name max answer r p = record { life = p.life; used = p.used; client = p.client; version = p.version; payload = p.payload }
+past-got h trace name max answer r p = record { life = p.life; used = p.used; version = p.version; payload = p.payload }
 
 pub sound-got : (h : Held) (trace : List Call) (name : At) (max : ℕ) (answer : Option (List ℕ)) → SoundAt h trace → SoundAt h (got name max answer ∷ trace)
 sound-got h trace name max answer s = record {
   waits = s.waits;
   stands = s.stands;
   buried = s.buried;
-  used = s.used;
-  past = λ bytes plain was opens. let p = s.past bytes plain was opens in (p.0, p.1, past-got h trace name max answer p.0 p.2);
+  past = λ id bytes r was opens own. past-got h trace name max answer r (s.past id bytes r was opens own);
 }
 
 -- reads by a store that holds k leave what is sound of h
@@ -101,7 +100,7 @@ ids_of (Some version) a b = refl
 
 pub wanted_ids : (h : Held) (old new : Option (List Call)) → SameIds (wanted h old) (wanted h new)
 wanted_ids h old new id =
-    ids_of (live_version h id) (payload_in h.opens h.size (file_of h (told_or_none old) id)) (payload_in h.opens h.size (file_of h (told_or_none new) id))
+    ids_of (live_version h id) (payload_in h.opens h.size id (file_of h (told_or_none old) id)) (payload_in h.opens h.size id (file_of h (told_or_none new) id))
 
 pub went_wanted : (h k : Held) (old new : Option (List Call)) → WentOnByReads k old new → is_some old ≡ true → SameContent (wanted h old) (wanted h new)
 went_wanted h k None new went told id = absurd (false_is_true told)

@@ -38,7 +38,7 @@ pub record FoundWrong (h : Held) (calls : List Call) (why : Why) : Type 0 where
   pub version : ℕ
   pub file : Option (List ℕ)
   pub live : live_version h id ≡ Some version
-  pub wrong : verdict h.opens h.size id h.state.client version file ≡ bad why
+  pub wrong : verdict h.opens h.size id h.state.client version h.state.least file ≡ bad why
   pub came : ((change : Option (List ℕ)) × (waiting h id ≡ Some change) × (file ≡ cut (h.size + 1) change)) ⊎ Among calls (got (block id) (h.size + 1) file)
 
 -- since then something was found wrong in this way, of a directory that tells its calls

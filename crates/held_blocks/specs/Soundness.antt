@@ -1,42 +1,51 @@
 -- When what a store holds is sound over the calls on its directory.
-use Rattle.std.specs.Prelude.{◌≡◌, ◌≤◌, ℕ, true, List, is_some}
+use Rattle.std.specs.Prelude.{◌≡◌, ◌⊎◌, ◌≤◌, ℕ, Bool, true, List}
 use Rattle.std.specs.declared.option.Option.{Option}
 use Rattle.std.specs.declared.option.Option.TheVariants.{None, Some}
 use Rattle.std.specs.FinMap as fin
 use Rattle.outside.specs.Trace.{block, Call, At}
-use Rattle.outside.specs.Honest.{last_change}
+use Rattle.outside.specs.Honest.{LastChange, last_change}
 use Rattle.local_state.specs.declared.life.Life.{Life}
 use Rattle.local_state.specs.Known.{is_dead_in}
-use Rattle.sealed_store.specs.BlockFiles.{opens_file}
-use Rattle.block_records.specs.BlockRecords.{Record, opened, record_of}
+use Rattle.block_id.specs.Formats.{IsTaken}
+use Rattle.block_records.specs.BlockRecords.{Record, opened}
 use Rattle.held_blocks.specs.Forgeries.{was_put}
 use Rattle.held_blocks.specs.Held.{Held, live_version, own, waiting, wanted}
 
--- a record of a used id by the own client, no version above the known one; at the known version of a live id it is what is wanted
+-- a record of a used id, no version above the known one; at the known version of a live id it is what is wanted
 pub record IsPast (h : Held) (trace : List Call) (r : Record) : Type 0 where
   pub life : Life
   pub used : fin.get h.state.lives r.id ≡ Some life
-  pub client : r.client ≡ h.state.client
   pub version : r.version ≤ life.version
   pub payload : live_version h r.id ≡ Some r.version → wanted h (Some trace) r.id ≡ Some r.payload
 
--- what waits or was put last is the record of the known version, and whatever else was put is of the past
+-- a block's file that opens to its record at this version, in a format that is taken
+pub record IsFresh (h : Held) (id : List ℕ) (version : ℕ) (bytes payload : List ℕ) : Type 0 where
+  pub opens : opened h.opens h.size id bytes ≡ Some (own h id version payload)
+  pub taken : IsTaken h.state.least bytes
+
+-- the last change put the record of another client
+pub record IsForeign (h : Held) (id : List ℕ) (last : Option LastChange) : Type 0 where
+  pub bytes : List ℕ
+  pub ok : Bool
+  pub found : Record
+  pub put : last ≡ Some (record { bytes = Some bytes; ok = ok })
+  pub opens : opened h.opens h.size id bytes ≡ Some found
+  pub other : found.client ≡ h.state.client → ⊥
+
+-- what waits or was put last is the record of the known version, and whatever else the own client put is of the past
 pub record SoundAt (h : Held) (trace : List Call) : Type 0 where
   -- what waits for a live block is its record at its version
   pub waits : (id : List ℕ) (version : ℕ) (change : Option (List ℕ)) → live_version h id ≡ Some version → waiting h id ≡ Some change
-      → (bytes payload : List ℕ) × (change ≡ Some bytes) × (opened h.opens h.size bytes ≡ Some (own h id version payload))
+      → (bytes payload : List ℕ) × (change ≡ Some bytes) × IsFresh h id version bytes payload
   -- a live block that doesn't wait was put last, as its record at its version
   pub stands : (id : List ℕ) (version : ℕ) → live_version h id ≡ Some version → waiting h id ≡ None
-      → (bytes payload : List ℕ) × (last_change (block id) trace ≡ Some (record { bytes = Some bytes; ok = true }))
-      × (opened h.opens h.size bytes ≡ Some (own h id version payload))
-  -- a dead block whose removal doesn't wait was removed last
+      → (bytes payload : List ℕ) × (last_change (block id) trace ≡ Some (record { bytes = Some bytes; ok = true })) × IsFresh h id version bytes payload
+  -- a dead block whose removal doesn't wait was removed last, or another client put it
   pub buried : (id : List ℕ) → is_dead_in h.state.lives id ≡ true → waiting h id ≡ None
-      → last_change (block id) trace ≡ Some (record { bytes = None; ok = true })
-  -- only used blocks were changed
-  pub used : (id : List ℕ) → is_some (last_change (block id) trace) ≡ true → is_some (fin.get h.state.lives id) ≡ true
-  -- each file that was put and opens is a record of the past
-  pub past : (bytes plain : List ℕ) → was_put bytes trace ≡ true → opens_file h.opens h.size bytes ≡ Some plain
-      → (r : Record) × (record_of h.size plain ≡ Some r) × IsPast h trace r
+      → (last_change (block id) trace ≡ Some (record { bytes = None; ok = true })) ⊎ IsForeign h id (last_change (block id) trace)
+  -- each file that was put and opens as some block's to a record of the own client is of the past
+  pub past : (id bytes : List ℕ) (r : Record) → was_put bytes trace ≡ true → opened h.opens h.size id bytes ≡ Some r → r.client ≡ h.state.client → IsPast h trace r
 
 -- the same, of a directory that tells its calls
 abbrev pub SoundBy : Held → Option (List Call) → Type 0

@@ -1,13 +1,16 @@
 -- What a kept record and the calls on the directory stand for.
 use Rattle.std.specs.Prelude.{◌≡◌, ℕ, Bool, true, false, List, []}
 use Rattle.std.specs.declared.option.Option.{Option}
+use Rattle.std.specs.declared.option.Option.TheVariants.{Some}
 use Rattle.outside.specs.Trace.{Call}
 use Rattle.outside.specs.Changes.{FileChanges}
-use Rattle.local_state.specs.Record.{PlainState, ListEntry, record_bytes, HasRecord}
+use Rattle.local_state.specs.Record.{PlainState, ListEntry, record_bytes, IsRecord}
 use Rattle.store_api.specs.Content.{Content, SameContent}
 use Rattle.store_api.specs.Durables.{Identity, Durables, Records, IsConfigured}
 use Rattle.held_blocks.specs.Held.{Held, wanted}
 use Rattle.held_blocks.specs.Soundness.{SoundBy}
+use Rattle.block_id.specs.declared.format.Format.TheVariants.{WithId}
+use Rattle.block_id.specs.Formats.{format_in}
 
 -- what a store that holds this was opened as
 abbrev pub identity_of : Held → Identity
@@ -26,8 +29,7 @@ pub record Stands (identity : Identity) (kept : List ℕ) (trace : Option (List 
   pub held : Held
   pub same : identity_of held ≡ identity
   pub unmarked : held.state.marked ≡ false
-  pub has_record : HasRecord held.state held.list
-  pub bytes : kept ≡ record_bytes held.state held.list
+  pub is_record : IsRecord held.state held.list kept
   pub sound : SoundBy held trace
   pub wants : SameContent content (wanted held trace)
 
@@ -36,15 +38,13 @@ pub record IsMarked (kept : List ℕ) : Type 0 where
   pub state : PlainState
   pub list : List ListEntry
   pub is_marked : state.marked ≡ true
-  pub has_record : HasRecord state list
-  pub bytes : kept ≡ record_bytes state list
+  pub is_record : IsRecord state list kept
 
 -- The kept bytes are a record, by whose list and the trace the configuration's file holds these bytes.
 pub record Configures (kept : List ℕ) (trace : Option (List Call)) (bytes : List ℕ) : Type 0 where
   pub state : PlainState
   pub list : List ListEntry
-  pub has_record : HasRecord state list
-  pub is_record : kept ≡ record_bytes state list
+  pub is_record : IsRecord state list kept
   pub configured : IsConfigured list trace bytes
 
 -- the list, or an empty one
@@ -57,7 +57,10 @@ durables_by held trace = record {
   identity = λ s. identity_of (held s);
   trace = trace;
   list = λ s. (held s).list;
+  is_record = λ s with_list bytes. IsRecord (held s).state (listed with_list (held s).list) bytes;
   local_record_of = λ s with_list. record_bytes (held s).state (listed with_list (held s).list);
+  least = λ s. (held s).state.least;
+  is_new = λ bytes. format_in bytes ≡ Some WithId;
 }
 
 abbrev pub records : Records

@@ -86,7 +86,7 @@ live_known None payload e = e
 live_known (Some life) payload e = refl
 
 wanted_used : (h : Held) (t : Option (List Call)) (id : Id) → is_some (wanted h t id) ≡ true → has_id (fin.keys h.state.lives) id ≡ true
-wanted_used h t id e = has-keys h id ∙ live_known (fin.get h.state.lives id) (payload_in h.opens h.size (file_of h (told_or_none t) id)) e
+wanted_used h t id e = has-keys h id ∙ live_known (fin.get h.state.lives id) (payload_in h.opens h.size id (file_of h (told_or_none t) id)) e
 
 last_version : (life : Option Life) → is_last life ≡ true → version_in life + 1 ≡ 2 ^ 64
 last_version None e = absurd (cc)
@@ -110,9 +110,9 @@ zero_free h fits = has-keys h zero_id ∙ elim (fin.get h.state.lives zero_id) a
   | Some life ↦ λ e. let f = rw e at (fits zero_id) in absurd (f.not_zero refl)
 ] refl
 
-file_len : (h : Held) (file : Option (List ℕ)) → length (payload_in h.opens h.size file) ≡ h.size - 78
-file_len h None = length-replicate (h.size - 78) 0
-file_len h (Some bytes) = opened_len h.size h.opens bytes (opened h.opens h.size bytes) refl
+file_len : (h : Held) (id : List ℕ) (file : Option (List ℕ)) → length (payload_in h.opens h.size id file) ≡ h.size - 78
+file_len h id None = length-replicate (h.size - 78) 0
+file_len h id (Some bytes) = opened_len h.size h.opens id bytes (opened h.opens h.size id bytes) refl
 
 live_payload : (live : Option ℕ) (payload bytes : List ℕ) → where_live live payload ≡ Some bytes → payload ≡ bytes
 live_payload None payload bytes e = absurd (true_is_false (ap is_some (sym e)))
@@ -120,7 +120,7 @@ live_payload (Some version) payload bytes e = same_Some payload bytes e
 
 wanted_len : (h : Held) (t : Option (List Call)) (id bytes : List ℕ) → wanted h t id ≡ Some bytes → length bytes ≡ h.size - 78
 wanted_len h t id bytes e =
-    subst (λ p. length p ≡ h.size - 78) (live_payload (live_version h id) _ bytes e) (file_len h (file_of h (told_or_none t) id))
+    subst (λ p. length p ≡ h.size - 78) (live_payload (live_version h id) _ bytes e) (file_len h id (file_of h (told_or_none t) id))
 
 pub steady_by : {S : Type 0} (held : S → Held) (trace : S → Option (List Call)) (faults : S → ℕ) (own : S → Type 0) → Steady (meanings_by held trace faults own) (holdings_by held trace)
 steady_by held trace faults own = record {

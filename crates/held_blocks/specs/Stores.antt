@@ -12,7 +12,8 @@ use Rattle.local_state.specs.declared.life.Life.{Life}
 use Rattle.local_state.specs.Known.{is_last}
 use Rattle.local_state.specs.Record.{HasRecord}
 use Rattle.store_api.specs.Holdings.{Holdings}
-use Rattle.store_api.specs.Lists.{block_magic}
+use Rattle.sealed_store.specs.BlockFiles.{OpensAlike}
+use Rattle.block_id.specs.Formats.{magic}
 use Rattle.held_blocks.specs.Forgeries.{forged}
 use Rattle.held_blocks.specs.Held.{Held, wanted}
 use Rattle.held_blocks.specs.Reads.{FoundSince, WentOnByReads}
@@ -22,7 +23,7 @@ use Rattle.held_blocks.specs.Soundness.{SoundBy}
 abbrev pub IsNoBlock : Option (Option (List ℕ)) → Type 0
 IsNoBlock None = Unit {0}
 IsNoBlock (Some None) = Unit {0}
-IsNoBlock (Some (Some bytes)) = take 14 bytes ≡ block_magic → ⊥
+IsNoBlock (Some (Some bytes)) = take 14 bytes ≡ magic → ⊥
 
 -- a block size within its limits, a state and a list that have a record, and no block's file that waits as the configuration
 pub record IsWhole (h : Held) : Type 0 where
@@ -30,6 +31,8 @@ pub record IsWhole (h : Held) : Type 0 where
   pub most : h.size ≤ MAX_BLOCK
   pub has_record : HasRecord h.state h.list
   pub config : IsNoBlock (change_at config h.list)
+  -- whatever extra bytes a sealed text opens with, it opens to one plaintext
+  pub alike : OpensAlike h.opens
 
 -- only reads of live blocks were made, and all else is the same
 pub record OnlyRead (a b : Held) (old new : Option (List Call)) (was now : ℕ) : Type 0 where

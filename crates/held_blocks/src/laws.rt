@@ -13,6 +13,6 @@ ghost use Rattle.held_blocks.specs.Forgeries.{forged};
 pub fn config_is_no_block()
     ensures sound { (h : Held) (trace : Option (List Call)) (max : ℕ) (answer : Option (List ℕ)) → SoundBy h trace → SoundBy h (after_read trace max answer) }
     ensures content { (h : Held) (trace : Option (List Call)) (max : ℕ) (answer : Option (List ℕ)) → SameContent (wanted h trace) (wanted h (after_read trace max answer)) }
-    ensures forgeries { (opens : List ℕ → Option (List ℕ)) (size : ℕ) (trace : Option (List Call)) (max : ℕ) (answer : Option (List ℕ))
+    ensures forgeries { (opens : List ℕ → List ℕ → Option (List ℕ)) (size : ℕ) (trace : Option (List Call)) (max : ℕ) (answer : Option (List ℕ))
         → count_told (forged opens size) (after_read trace max answer) ≡ count_told (forged opens size) trace }
 {}

@@ -12,12 +12,13 @@ use Rattle.config_file.specs.Format.{HasForm}
 use Rattle.config_file.specs.Settings.{Settings}
 use Rattle.integrity_store.specs.EnduringLaws.{configured_of}
 use Rattle.held_blocks.specs.Standing.{Configures, records}
+use Rattle.mount_tower.specs.Identities.{KeepsRecord}
 use Rattle.mount_tower.specs.Unforged.{IsOnlyConfig}
 use Rattle.outside.specs.Changes.{FileChanges, change_at}
 use Rattle.outside.specs.Honest.{last_change, same_answer, is_left, is_lie, count_calls, count_told}
 use Rattle.outside.specs.HonestLaws.{count_grows, uncounted}
 use Rattle.outside.specs.Trace.{Call, config, got}
-use Rattle.local_state.specs.Record.{PlainState, record_bytes, HasRecord}
+use Rattle.local_state.specs.Record.{PlainState}
 use Rattle.scrypt_kdf.specs.Cost.{Cost}
 use Rattle.session_saver.specs.Saving.{KeptConfigures}
 use Rattle.store_api.specs.Durables.{last_told, IsConfigured}
@@ -50,8 +51,8 @@ same_length file bytes max e same =
 
 module _ (password : List ℕ) (kept : Option (List ℕ)) (t0 t1 : Option (List Call)) (c : Settings) (file : List ℕ)
     (holds : KeptConfigures records kept t0 file) (form : HasForm file) (only_this : OpensOnly password file c) (honest : count_told is_lie t1 ≤ count_told is_lie t0) where
-  by_record : (state : PlainState) (list : FileChanges) → HasRecord state list → kept ≡ Some (record_bytes state list) → IsConfigured list t0 file
-  by_record state list has is = configured_of state list t0 file has (subst (λ x. Configures x t0 file) (same_Some _ _ (sym holds.1 ∙ is)) holds.2)
+  by_record : (state : PlainState) (list : FileChanges) → KeepsRecord kept state list → IsConfigured list t0 file
+  by_record state list k = configured_of state list k.bytes t0 file k.is_record (subst (λ x. Configures x t0 file) (same_Some _ _ (sym holds.1 ∙ k.kept)) holds.2)
 
   is_this : (bytes : List ℕ) (found : Settings) (params : Cost) → bytes ≡ file → ConfigOf password bytes (opened found params) → found ≡ c
   is_this bytes found params e o = only_this found params (subst (λ x. ConfigOf password x (opened found params)) e o)
@@ -72,7 +73,7 @@ module _ (password : List ℕ) (kept : Option (List ℕ)) (t0 t1 : Option (List 
   -- so no other configuration opens
   pub only_config : IsOnlyConfig password kept t0 t1 c
   only_config = record {
-    listed = λ state list bytes found params has is at o. is_this bytes found params (waiting list bytes at (by_record state list has is)) o;
-    given = λ state list before calls max bytes found params has is none eo en o.
-        is_this bytes found params (same_length file bytes max (called list before calls max bytes none eo en (by_record state list has is)) (omega (arith, o.0.size, form.size))) o;
+    listed = λ state list bytes found params keeps at o. is_this bytes found params (waiting list bytes at (by_record state list keeps)) o;
+    given = λ state list before calls max bytes found params keeps none eo en o.
+        is_this bytes found params (same_length file bytes max (called list before calls max bytes none eo en (by_record state list keeps)) (omega (arith, o.0.size, form.size))) o;
   }

@@ -8,10 +8,11 @@ use Rattle.config_file.proofs.Opening.{only}
 use Rattle.config_file.specs.ConfigOf.{ConfigOf, ConfigFound, opened, form, locked, inner}
 use Rattle.config_file.specs.Settings.{Settings, settings_of}
 use Rattle.config_file.specs.declared.error.ConfigError.TheVariants as config_error
-use Rattle.local_state.specs.Record.{PlainState, record_bytes, HasRecord}
-use Rattle.local_state.proofs.Records.{one_reading}
+use Rattle.local_state.specs.Record.{PlainState}
 use Rattle.mount.specs.Opening.{AttachCause}
 use Rattle.mount_tower.specs.Opening.{IsLoaded, GaveConfig, IsMismatch, IsOf}
+use Rattle.mount_tower.proofs.Reading.{same_kept}
+use Rattle.mount_tower.specs.Identities.{KeepsRecord}
 use Rattle.mount_tower.specs.Unforged.{IsUnforgedConfig}
 use Rattle.mount_tower.specs.declared.error.OpenError.{OpenError}
 use Rattle.mount_tower.specs.declared.error.OpenError.TheVariants as open_error
@@ -38,8 +39,8 @@ module _ (password : List ℕ) (kept : Option (List ℕ)) (state : PlainState) (
     gave_by : (at : Option (Option (List ℕ))) → change_at config list ≡ at → Gave at t0 t1 config 1127 answer
     gave_by at e = subst (λ x. Gave x t0 t1 config 1127 answer) e gave
 
-    one_state : (other : PlainState) (more : FileChanges) → HasRecord other more → kept ≡ Some (record_bytes other more) → (other ≡ state) × (more ≡ list)
-    one_state other more has is = one_reading other state more list has l.has_record (same_Some _ _ (sym is ∙ l.kept))
+    one_state : (other : PlainState) (more : FileChanges) → KeepsRecord kept other more → (other ≡ state) × (more ≡ list)
+    one_state other more keeps = same_kept kept other state more list keeps l.keeps
 
     in_list : (bytes : List ℕ) → change_at config list ≡ Some (Some bytes) → length bytes ≤ 1127 → answer ≡ Some bytes
     in_list bytes at short = (gave_by (Some (Some bytes)) at).1 ∙ ap Some (take_all 1127 bytes short)
@@ -51,11 +52,11 @@ module _ (password : List ℕ) (kept : Option (List ℕ)) (state : PlainState) (
 
     given_unforged : IsUnforgedConfig password kept t0 t1 c
     given_unforged = record {
-      listed = λ other more bytes found cost has is at opens of.
-          let same = one_state other more has is in
+      listed = λ other more bytes found cost keeps at opens of.
+          let same = one_state other more keeps in
           refuses bytes found cost (in_list bytes (ap (change_at config) (sym same.1) ∙ at) (omega (arith, opens.0.size))) opens (subst (λ (s : PlainState). IsOf s found) same.0 of);
-      given = λ other more before calls max bytes found cost has is none e0 e1 opens of.
-          let same = one_state other more has is in
+      given = λ other more before calls max bytes found cost keeps none e0 e1 opens of.
+          let same = one_state other more keeps in
           refuses bytes found cost (by_get before calls max bytes (ap (change_at config) (sym same.1) ∙ none) e0 e1) opens (subst (λ (s : PlainState). IsOf s found) same.0 of);
     }
 

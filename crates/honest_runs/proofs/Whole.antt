@@ -173,7 +173,7 @@ calm_of only input before after ended alarm bytes c first finds gave =
 pub loaded_of : (kept : Option (List ℕ)) (trace : Option (List Call)) (c : Settings) (tree : Tree) → Represents ShowsFiles kept trace c tree → (state : PlainState) × (list : FileChanges) × IsLoaded kept state list
 loaded_of kept trace c tree rep =
     let s = rep.keeps.represents.2 in
-    (s.held.state, s.held.list, record { kept = rep.keeps.represents.1 ∙ ap Some s.bytes; has_record = s.has_record; unmarked = s.unmarked })
+    (s.held.state, s.held.list, record { keeps = record { bytes = rep.keeps.represents.0; kept = rep.keeps.represents.1; is_record = s.is_record }; unmarked = s.unmarked })
 
 -- the script is shorter than the input, which has the password's line before it
 pub shorter : (rest script : List ℕ) → rest ≡ password ++ 10 ∷ script → length rest < 2 ^ 63 → length script < 2 ^ 63

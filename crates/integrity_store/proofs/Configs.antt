@@ -19,6 +19,7 @@ use Rattle.block_records.specs.BlockRecords.{Record, payload_in}
 use Rattle.held_blocks.specs.Held.{Held, live_version, waiting_or, bytes_in, told_or_none, where_live, wanted}
 use Rattle.held_blocks.specs.Soundness.{IsPast, SoundBy}
 use Rattle.outside.specs.Honest.{last_change}
+use Rattle.local_state.proofs.Records.{written_record}
 use Rattle.integrity_store.specs.EnduringLaws.{configures_of}
 use Rattle.held_blocks.specs.Standing.{Configures}
 use Rattle.held_blocks.specs.Stores.{IsWhole, version_in, holdings_by, IsNoBlock}
@@ -33,19 +34,21 @@ SameBlocks old new = (id : List ℕ) → change_at (block id) new ≡ change_at 
 module _ (h : Held) (list : FileChanges) (same : SameBlocks h.list list) where
   pub wanted_same : (trace : Option (List Call)) → SameContent (wanted h trace) (wanted (with_list h list) trace)
   wanted_same trace id =
-      ap (λ w. where_live (live_version h id) (payload_in h.opens h.size (waiting_or w (bytes_in (last_change (block id) (told_or_none trace)))))) (same id)
+      ap (λ w. where_live (live_version h id) (payload_in h.opens h.size id (waiting_or w (bytes_in (last_change (block id) (told_or_none trace)))))) (same id)
 
   past_same : (trace : List Call) (r : Record) → IsPast h trace r → IsPast (with_list h list) trace r
-  past_same trace r p = record { life = p.life; used = p.used; client = p.client; version = p.version; payload = λ live. wanted_same (Some trace) r.id ∙ p.payload live }
+  past_same trace r p = record { life = p.life; used = p.used; version = p.version; payload = λ live. wanted_same (Some trace) r.id ∙ p.payload live }
 
   pub sound_same : (trace : Option (List Call)) → SoundBy h trace → SoundBy (with_list h list) trace
   sound_same None s = s
   sound_same (Some trace) s = record {
-    waits = λ id version change live waits. s.waits id version change live (sym (same id) ∙ waits);
-    stands = λ id version live none. s.stands id version live (sym (same id) ∙ none);
-    buried = λ id dead none. s.buried id dead (sym (same id) ∙ none);
-    used = s.used;
-    past = λ bytes plain was opens. let (r, is, p) = s.past bytes plain was opens in (r, is, past_same trace r p);
+    waits = λ id version change live waits. let (bytes, payload, is, f) = s.waits id version change live (sym (same id) ∙ waits) in (bytes, payload, is, record { opens = f.opens; taken = f.taken });
+    stands = λ id version live none. let (bytes, payload, is, f) = s.stands id version live (sym (same id) ∙ none) in (bytes, payload, is, record { opens = f.opens; taken = f.taken });
+    buried = λ id dead none. elim (s.buried id dead (sym (same id) ∙ none)) [
+      | inl gone ↦ inl gone
+      | inr f ↦ inr (record { bytes = f.bytes; ok = f.ok; found = f.found; put = f.put; opens = f.opens; other = f.other })
+    ];
+    past = λ x bytes r was opens mine. past_same trace r (s.past x bytes r was opens mine);
   }
 
 -- ---- a list that has a record
@@ -93,6 +96,7 @@ module _ (h : Held) (bytes : List ℕ) (new : FileChanges) (c : Configured bytes
       most = whole.most;
       has_record = subst (HasRecord h.state) (sym is) (set_has h.state bytes h.list may.0 (subst (λ list. length list < 2 ^ 64) is c.few) whole.has_record);
       config = subst IsNoBlock (sym (ap (change_at config) is ∙ change_at-set_change config config (Some bytes) h.list)) may.1;
+      alike = whole.alike;
     }
     | inr is ↦ subst (λ list. IsWhole (with_list h list)) (sym is) whole
   ]
@@ -120,5 +124,5 @@ pub set_configures : (r : Result Unit Memory) (h : Held) (trace : Option (List C
     → changes ≡ (config, Some bytes) ∷ [] → IsWhole (with_list h new) → OnOk r (Configures (record_bytes h.state new) trace bytes)
 set_configures (Ok _) h trace bytes changes new set are whole =
     let is : new ≡ set_change config (Some bytes) h.list = set ∙ ap (λ c. set_changes c h.list) are in
-    configures_of h.state new trace bytes whole.has_record (inl (ap (change_at config) is ∙ change_at-set_change config config (Some bytes) h.list))
+    configures_of h.state new (record_bytes h.state new) trace bytes (written_record h.state new whole.has_record) (inl (ap (change_at config) is ∙ change_at-set_change config config (Some bytes) h.list))
 set_configures (Err _) h trace bytes changes new set are whole = tt

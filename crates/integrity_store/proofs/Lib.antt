@@ -1,3 +1,4 @@
 pub mod Configs
+pub mod Leasts
 pub mod OneWrite
 pub mod WriteOuts

@@ -1,5 +1,5 @@
 -- One call that writes what waits: it leaves what the list and the trace stand for, and so does the entry as it leaves the list.
-use Rattle.std.proofs.Common.{◌≡◌, ◌⊎◌, inl, inr, ℕ, Bool, true, false, List, ◌∷◌, length, take, refl, sym, ◌∙◌, ap, subst, arith}
+use Rattle.std.proofs.Common.{◌≡◌, ◌⊎◌, inl, inr, ℕ, Bool, true, false, List, ◌∷◌, length, take, drop, refl, sym, ◌∙◌, ap, subst, arith}
 use Rattle.std.specs.Prelude.{◌&&◌, ◌||◌, ◌==◌, not, is_some, nat_eq, if◌then◌else◌}
 use Rattle.std.specs.List.{starts_with}
 use Rattle.std.specs.Str.{bytes_eq}
@@ -16,18 +16,21 @@ use Rattle.outside.specs.Trace.{At, config, block, Call}
 use Rattle.outside.specs.Names.{same_at}
 use Rattle.outside.specs.NameLaws.{at_total, at_exact}
 use Rattle.outside.specs.Changes.{FileChanges, change_at}
-use Rattle.outside.specs.Honest.{last_change}
+use Rattle.outside.specs.Honest.{LastChange, last_change}
 use Rattle.local_state.specs.declared.life.Life.{Life}
-use Rattle.local_state.specs.Known.{Lives, is_live_in, is_dead_in, version_if_live}
+use Rattle.local_state.specs.Known.{is_dead_in, version_if_live}
 use Rattle.local_state.specs.Record.{ListEntry, FitsEntry, may_change, has_bytes}
 use Rattle.outside.specs.Writes.{call_for}
-use Rattle.sealed_store.specs.BlockFiles.{prefix, opens_file}
+use Rattle.block_id.specs.declared.format.Format.{Format}
+use Rattle.block_id.specs.declared.format.Format.TheVariants.{Alone, WithId}
+use Rattle.block_id.specs.Formats.{magic, prefix_of}
+use Rattle.sealed_store.specs.BlockFiles.{opened_as, opens_file}
 use Rattle.store_api.specs.Durables.{IsConfigured}
-use Rattle.store_api.specs.Lists.{block_magic}
-use Rattle.block_records.specs.BlockRecords.{Record, record_of, record_in, opened, payload_in}
+use Rattle.block_records.specs.BlockRecords.{Record, opened, payload_in}
+use Rattle.block_records.specs.RecordLaws.{if_true, opened-alike, opened-plain}
 use Rattle.held_blocks.specs.Held.{Held, live_version, waiting, waiting_or, bytes_in, file_of, where_live, wanted, own}
 use Rattle.held_blocks.specs.Forgeries.{was_put}
-use Rattle.held_blocks.specs.Soundness.{IsPast, SoundAt}
+use Rattle.held_blocks.specs.Soundness.{IsForeign, IsFresh, IsPast, SoundAt}
 use Rattle.held_blocks.proofs.Fetches.{wanted_of}
 use Rattle.held_blocks.specs.Stores.{IsWhole, IsNoBlock}
 use Rattle.batch_sealing.proofs.Sorted.{of_found}
@@ -54,28 +57,31 @@ life_of_live : (o : Option Life) → option_map_or (λ m. m.live) o false ≡ tr
 life_of_live None live = absurd (true_is_false (sym live))
 life_of_live (Some life) live = (life, refl, ap (λ b. if b then Some life.version else None) live)
 
-dead_used : (b : Bool) (o : Option Life) → (is_some o && b) ≡ true → is_some o ≡ true
-dead_used b None e = absurd (true_is_false (sym e))
-dead_used b (Some life) e = refl
-
--- a block that waits is used
-used_at : (lives : Lives) (id : List ℕ) (change : Option (List ℕ)) → may_change lives (block id) (has_bytes change) ≡ true → is_some (fin.get lives id) ≡ true
-used_at lives id None may = dead_used (not (is_live_in lives id)) (fin.get lives id) may
-used_at lives id (Some bytes) may = let m = life_of_live (fin.get lives id) may in ap is_some m.1
-
 -- ---- files
 
-guard : (a b : Bool) (o : Option (List ℕ)) (plain : List ℕ) → (if a && b then o else None) ≡ Some plain → b ≡ true
-guard true true o plain e = refl
-guard true false o plain e = absurd (true_is_false (ap is_some (sym e)))
-guard false b o plain e = absurd (true_is_false (ap is_some (sym e)))
+begins_as : (f : Format) (bytes : List ℕ) → starts_with nat_eq bytes (prefix_of f) ≡ true → take 14 bytes ≡ magic
+begins_as f bytes test =
+    let same : prefix_of f ≡ take 16 bytes = by_format f bytes test in
+    sym (take-take 14 16 bytes (omega arith)) ∙ ap (take 14) (sym same) ∙ magic_is f
+  where
+    by_format : (f : Format) (bytes : List ℕ) → starts_with nat_eq bytes (prefix_of f) ≡ true → prefix_of f ≡ take 16 bytes
+    by_format Alone bytes test = (bytes_decides (prefix_of Alone) (take 16 bytes)).0 test
+    by_format WithId bytes test = (bytes_decides (prefix_of WithId) (take 16 bytes)).0 test
+
+    magic_is : (f : Format) → take 14 (prefix_of f) ≡ magic
+    magic_is Alone = refl
+    magic_is WithId = refl
+
+found_begins : (a b : Bool) (bytes : List ℕ) → (a ≡ true → take 14 bytes ≡ magic) → (b ≡ true → take 14 bytes ≡ magic) → (opens : List ℕ → List ℕ → Option (List ℕ)) (id rest plain : List ℕ)
+    → opened_as opens id rest (if a then Some Alone else (if b then Some WithId else None)) ≡ Some plain → take 14 bytes ≡ magic
+found_begins true b bytes f g opens id rest plain e = f refl
+found_begins false true bytes f g opens id rest plain e = g refl
+found_begins false false bytes f g opens id rest plain e = absurd (true_is_false (ap is_some (sym e)))
 
 -- a file that opens begins as a block's file does
-begins : (opens : List ℕ → Option (List ℕ)) (size : ℕ) (bytes plain : List ℕ) → opens_file opens size bytes ≡ Some plain → take 14 bytes ≡ block_magic
-begins opens size bytes plain is =
-    let test = guard (length bytes == size) (starts_with nat_eq bytes prefix) _ plain is in
-    let same : prefix ≡ take 16 bytes = (bytes_decides prefix (take 16 bytes)).0 test in
-    sym (take-take 14 16 bytes (omega arith)) ∙ ap (take 14) (sym same)
+begins : (opens : List ℕ → List ℕ → Option (List ℕ)) (size : ℕ) (id bytes plain : List ℕ) → opens_file opens size id bytes ≡ Some plain → take 14 bytes ≡ magic
+begins opens size id bytes plain is =
+    found_begins (starts_with nat_eq bytes (prefix_of Alone)) (starts_with nat_eq bytes (prefix_of WithId)) bytes (begins_as Alone bytes) (begins_as WithId bytes) opens id (drop 16 bytes) plain (if_true (length bytes == size) _ plain is).1
 
 -- ---- what one call changes
 
@@ -122,33 +128,25 @@ module _ (h : Held) (trace : List Call) (e : ListEntry) (ok : Bool) (whole : IsW
       ] refl
 
   pub wanted_call : (id : List ℕ) → wanted h (Some (call_for e ok ∷ trace)) id ≡ wanted h (Some trace) id
-  wanted_call id = ap (λ file. where_live (live_version h id) (payload_in h.opens h.size file)) (file_call id)
+  wanted_call id = ap (λ file. where_live (live_version h id) (payload_in h.opens h.size id file)) (file_call id)
 
   past_call : (r : Record) → IsPast h trace r → IsPast h (call_for e ok ∷ trace) r
-  past_call r p = record { life = p.life; used = p.used; client = p.client; version = p.version; payload = λ live. wanted_call r.id ∙ p.payload live }
+  past_call r p = record { life = p.life; used = p.used; version = p.version; payload = λ live. wanted_call r.id ∙ p.payload live }
 
-  used_call : (id : List ℕ) → SoundAt h trace → is_some (last_change (block id) (call_for e ok ∷ trace)) ≡ true → is_some (fin.get h.state.lives id) ≡ true
-  used_call id s changed =
-      elim (same_at e.0 (block id)) as (λ b. same_at e.0 (block id) ≡ b → is_some (fin.get h.state.lives id) ≡ true) [
-        | true ↦ λ is. used_at h.state.lives id e.1 (subst (λ name. may_change h.state.lives name (has_bytes e.1) ≡ true) (same_is e.0 (block id) is) (fits_at h e whole waits).change)
-        | false ↦ λ is. s.used id (ap is_some (sym (last_other (block id) e ok trace is)) ∙ changed)
-      ] refl
-
-  -- a file that is written and opens is the record of a live block
-  past_new : (bytes plain : List ℕ) (name : At) → e.0 ≡ name → SoundAt h trace → e.1 ≡ Some bytes → opens_file h.opens h.size bytes ≡ Some plain
-      → (r : Record) × (record_of h.size plain ≡ Some r) × IsPast h (call_for e ok ∷ trace) r
-  past_new bytes plain config is s put opens =
+  -- a file that is written and opens as some block's is the record of a live block
+  past_new : (x bytes : List ℕ) (r : Record) (name : At) → e.0 ≡ name → SoundAt h trace → e.1 ≡ Some bytes → opened h.opens h.size x bytes ≡ Some r → IsPast h (call_for e ok ∷ trace) r
+  past_new x bytes r config is s put opens =
       let there : change_at config h.list ≡ Some (Some bytes) = subst (λ name. change_at name h.list ≡ Some e.1) is waits ∙ ap Some put in
-      absurd (subst IsNoBlock there whole.config (begins h.opens h.size bytes plain opens))
-  past_new bytes plain (block id) is s put opens =
+      let p = opened-plain h.opens h.size x bytes r opens in
+      absurd (subst IsNoBlock there whole.config (begins h.opens h.size x bytes p.0 p.1))
+  past_new x bytes r (block id) is s put opens =
       let there : waiting h id ≡ Some (Some bytes) = subst (λ name. change_at name h.list ≡ Some e.1) is waits ∙ ap Some put in
       let (life, known, live) = life_of_live (fin.get h.state.lives id) (fits_at h (block id, Some bytes) whole there).change in
-      let (b, payload, same, o) = s.waits id life.version (Some bytes) live there in
-      let opened_so : opened h.opens h.size bytes ≡ Some (own h id life.version payload) = ap (opened h.opens h.size) (same_Some _ _ same) ∙ o in (
-        own h id life.version payload,
-        ap (record_in h.size) (sym opens) ∙ opened_so,
-        record { life = life; used = known; client = refl; version = omega arith; payload = λ live'. wanted_of h (call_for e ok ∷ trace) id life.version bytes payload live there opened_so },
-      )
+      let (b, payload, same, fresh) = s.waits id life.version (Some bytes) live there in
+      let opened_so : opened h.opens h.size id bytes ≡ Some (own h id life.version payload) = ap (opened h.opens h.size id) (same_Some _ _ same) ∙ fresh.opens in
+      let own_is : own h id life.version payload ≡ r = opened-alike h.opens h.size id x bytes _ r whole.alike opened_so opens in
+      subst (IsPast h (call_for e ok ∷ trace)) own_is
+      (record { life = life; used = known; version = omega arith; payload = λ live'. wanted_of h (call_for e ok ∷ trace) id life.version bytes payload live there opened_so })
 
   pub sound_call : SoundAt h trace → SoundAt h (call_for e ok ∷ trace)
   sound_call s = record {
@@ -156,11 +154,11 @@ module _ (h : Held) (trace : List Call) (e : ListEntry) (ok : Bool) (whole : IsW
     stands = λ id version live none.
         let (bytes, payload, last, o) = s.stands id version live none in
         (bytes, payload, last_other (block id) e ok trace (apart h.list e (block id) waits none) ∙ last, o);
-    buried = λ id dead none. last_other (block id) e ok trace (apart h.list e (block id) waits none) ∙ s.buried id dead none;
-    used = λ id. used_call id s;
-    past = λ bytes plain was opens. elim (put_call bytes e ok trace was) [
-      | inl new ↦ past_new bytes plain e.0 refl s new opens
-      | inr old ↦ let (r, is, p) = s.past bytes plain old opens in (r, is, past_call r p)
+    buried = λ id dead none.
+        subst (λ last. (last ≡ Some (record { bytes = None; ok = true })) ⊎ IsForeign h id last) (sym (last_other (block id) e ok trace (apart h.list e (block id) waits none))) (s.buried id dead none);
+    past = λ x bytes r was opens mine. elim (put_call bytes e ok trace was) [
+      | inl new ↦ past_new x bytes r e.0 refl s new opens
+      | inr old ↦ past_call r (s.past x bytes r old opens mine)
     ];
   }
 
@@ -196,7 +194,7 @@ module _ (h : Held) (trace : List Call) (e : ListEntry) (rest : FileChanges) (wh
       ] refl
 
   pub wanted_left : (id : List ℕ) → wanted (with_list h rest) (Some after) id ≡ wanted h (Some after) id
-  wanted_left id = ap (λ file. where_live (live_version h id) (payload_in h.opens h.size file)) (file_left id)
+  wanted_left id = ap (λ file. where_live (live_version h id) (payload_in h.opens h.size id file)) (file_left id)
 
   waits_left : (id : List ℕ) (change : Option (List ℕ)) → waiting (with_list h rest) id ≡ Some change → waiting h id ≡ Some change
   waits_left id change waits =
@@ -206,10 +204,10 @@ module _ (h : Held) (trace : List Call) (e : ListEntry) (rest : FileChanges) (wh
       ] refl
 
   stands_left : SoundAt h after → (id : List ℕ) (version : ℕ) → live_version h id ≡ Some version → waiting (with_list h rest) id ≡ None
-      → (bytes payload : List ℕ) × (last_change (block id) after ≡ Some (record { bytes = Some bytes; ok = true })) × (opened h.opens h.size bytes ≡ Some (own h id version payload))
+      → (bytes payload : List ℕ) × (last_change (block id) after ≡ Some (record { bytes = Some bytes; ok = true })) × IsFresh h id version bytes payload
   stands_left s id version live none =
       elim (same_at e.0 (block id)) as (λ b. same_at e.0 (block id) ≡ b
-      → (bytes payload : List ℕ) × (last_change (block id) after ≡ Some (record { bytes = Some bytes; ok = true })) × (opened h.opens h.size bytes ≡ Some (own h id version payload))) [
+      → (bytes payload : List ℕ) × (last_change (block id) after ≡ Some (record { bytes = Some bytes; ok = true })) × IsFresh h id version bytes payload) [
         | true ↦ λ is.
             let (bytes, payload, same, o) = s.waits id version e.1 live (said id is) in
             (bytes, payload, last_own (block id) e true trace is ∙ ap (λ b. Some (record { bytes = b; ok = true })) same, o)
@@ -222,25 +220,30 @@ module _ (h : Held) (trace : List Call) (e : ListEntry) (rest : FileChanges) (wh
       absurd (true_is_false (sym dead ∙ ap (λ b. is_some (fin.get h.state.lives id) && not b) may ∙ and-false (is_some (fin.get h.state.lives id))))
 
   buried_left : SoundAt h after → (id : List ℕ) → is_dead_in h.state.lives id ≡ true → waiting (with_list h rest) id ≡ None
-      → last_change (block id) after ≡ Some (record { bytes = None; ok = true })
+      → (last_change (block id) after ≡ Some (record { bytes = None; ok = true })) ⊎ IsForeign h id (last_change (block id) after)
   buried_left s id dead none =
-      elim (same_at e.0 (block id)) as (λ b. same_at e.0 (block id) ≡ b → last_change (block id) after ≡ Some (record { bytes = None; ok = true })) [
+      elim (same_at e.0 (block id)) as (λ b. same_at e.0 (block id) ≡ b → (last_change (block id) after ≡ Some (record { bytes = None; ok = true })) ⊎ IsForeign h id (last_change (block id) after)) [
         | true ↦ λ is.
             let gone = removal id e.1 dead (subst (λ name. may_change h.state.lives name (has_bytes e.1) ≡ true) (same_is e.0 (block id) is) (fits_at h e whole leaves.was).change) in
-            last_own (block id) e true trace is ∙ ap (λ b. Some (record { bytes = b; ok = true })) gone
+            inl (last_own (block id) e true trace is ∙ ap (λ b. Some (record { bytes = b; ok = true })) gone)
         | false ↦ λ is. s.buried id dead (sym (leaves.others (block id) is) ∙ none)
       ] refl
 
   past_left : (r : Record) → IsPast h after r → IsPast (with_list h rest) after r
-  past_left r p = record { life = p.life; used = p.used; client = p.client; version = p.version; payload = λ live. wanted_left r.id ∙ p.payload live }
+  past_left r p = record { life = p.life; used = p.used; version = p.version; payload = λ live. wanted_left r.id ∙ p.payload live }
+
+  fresh_left : (id : List ℕ) (version : ℕ) (bytes payload : List ℕ) → IsFresh h id version bytes payload → IsFresh (with_list h rest) id version bytes payload
+  fresh_left id version bytes payload f = record { opens = f.opens; taken = f.taken }
+
+  foreign_left : (id : List ℕ) (last : Option LastChange) → IsForeign h id last → IsForeign (with_list h rest) id last
+  foreign_left id last f = record { bytes = f.bytes; ok = f.ok; found = f.found; put = f.put; opens = f.opens; other = f.other }
 
   pub sound_left : SoundAt h after → SoundAt (with_list h rest) after
   sound_left s = record {
-    waits = λ id version change live waits. s.waits id version change live (waits_left id change waits);
-    stands = stands_left s;
-    buried = buried_left s;
-    used = s.used;
-    past = λ bytes plain was opens. let (r, is, p) = s.past bytes plain was opens in (r, is, past_left r p);
+    waits = λ id version change live waits. let (bytes, payload, is, f) = s.waits id version change live (waits_left id change waits) in (bytes, payload, is, fresh_left id version bytes payload f);
+    stands = λ id version live none. let (bytes, payload, is, f) = stands_left s id version live none in (bytes, payload, is, fresh_left id version bytes payload f);
+    buried = λ id dead none. elim (buried_left s id dead none) [ inl gone ↦ inl gone | inr other ↦ inr (foreign_left id (last_change (block id) after) other) ];
+    past = λ x bytes r was opens mine. past_left r (s.past x bytes r was opens mine);
   }
 
 -- ---- the configuration's file

@@ -15,7 +15,8 @@ use Rattle.outside.specs.Names.{same_at, at_cmp}
 use Rattle.outside.specs.NameLaws.{same_ties, at_total}
 use Rattle.outside.specs.Changes.{FileChanges, change_at}
 use Rattle.outside.specs.Honest.{is_lie, count_told}
-use Rattle.local_state.specs.Record.{ListEntry, Rise, record_bytes, HasRecord}
+use Rattle.local_state.specs.Record.{ListEntry, Rise, record_bytes, HasRecord, IsRecord}
+use Rattle.local_state.proofs.Records.{written_record}
 use Rattle.outside.specs.Writes.{call_for, after_writes, StopsAt}
 use Rattle.store_api.specs.Content.{SameContent}
 use Rattle.store_api.specs.Durables.{IsConfigured}
@@ -83,6 +84,7 @@ rest_whole h e rest whole = record {
   most = whole.most;
   has_record = rest_has h e rest whole;
   config = no_block e rest (rest_leaves h e rest whole) whole.config;
+  alike = whole.alike;
 }
 
 -- ---- each entry of a list waits in it
@@ -294,7 +296,7 @@ pub lies_spare : Spares is_lie
 lies_spare before (name, None) ok = refl
 lies_spare before (name, Some bytes) ok = refl
 
-pub forgeries_spare : (opens : List ℕ → Option (List ℕ)) (size : ℕ) → Spares (forged opens size)
+pub forgeries_spare : (opens : List ℕ → List ℕ → Option (List ℕ)) (size : ℕ) → Spares (forged opens size)
 forgeries_spare opens size before (name, None) ok = refl
 forgeries_spare opens size before (name, Some bytes) ok = refl
 
@@ -319,9 +321,9 @@ pub record Written (h : Held) (old new : Option (List Call)) (left : FileChanges
   pub told : is_some new ≡ is_some old
   pub sound : SoundBy h old → SoundBy (with_list h left) new
   pub content : is_some old ≡ true → SameContent (wanted h old) (wanted (with_list h left) new)
-  pub stands : SoundBy h old → h.state.marked ≡ false → Stands (identity_of h) (record_bytes h.state h.list) new (wanted h old)
-  pub kept_configures : (bytes : List ℕ) → Configures (record_bytes h.state h.list) old bytes → Configures (record_bytes h.state h.list) new bytes
-  pub configures : is_some old ≡ true → (bytes : List ℕ) → Configures (record_bytes h.state h.list) old bytes → Configures (record_bytes h.state left) new bytes
+  pub stands : (kept : List ℕ) → SoundBy h old → h.state.marked ≡ false → IsRecord h.state h.list kept → Stands (identity_of h) kept new (wanted h old)
+  pub kept_configures : (kept bytes : List ℕ) → IsRecord h.state h.list kept → Configures kept old bytes → Configures kept new bytes
+  pub configures : is_some old ≡ true → (kept bytes : List ℕ) → IsRecord h.state h.list kept → Configures kept old bytes → Configures (record_bytes h.state left) new bytes
   pub lies : count_told is_lie new ≡ count_told is_lie old
   pub forgeries : count_told (forged h.opens h.size) new ≡ count_told (forged h.opens h.size) old
 
@@ -334,19 +336,18 @@ written h left old new r whole all none stops =
       told = still_told h.list old new left w;
       sound = sound_of_rest h old new left whole w;
       content = content_of_rest h old new left whole w;
-      stands = λ sound unmarked. record {
+      stands = λ kept sound unmarked is. record {
         held = h;
         same = refl;
         unmarked = unmarked;
-        has_record = whole.has_record;
-        bytes = refl;
+        is_record = is;
         sound = full_sound h old new left whole w sound;
         wants = full_content h old new left whole w (sound_is_told h old sound);
       };
-      kept_configures = λ bytes c. configures_of h.state h.list new bytes whole.has_record
-          (full_configured h old new left whole w bytes (configured_of h.state h.list old bytes whole.has_record c));
-      configures = λ told bytes c. configures_of h.state left new bytes (still_whole h old new left whole w).has_record
-          (configured_of_rest h old new left whole w bytes told (configured_of h.state h.list old bytes whole.has_record c));
+      kept_configures = λ kept bytes is c. configures_of h.state h.list kept new bytes is
+          (full_configured h old new left whole w bytes (configured_of h.state h.list kept old bytes is c));
+      configures = λ told kept bytes is c. configures_of h.state left (record_bytes h.state left) new bytes (written_record h.state left (still_whole h old new left whole w).has_record)
+          (configured_of_rest h old new left whole w bytes told (configured_of h.state h.list kept old bytes is c));
       lies = same_count is_lie h.list old new left lies_spare w;
       forgeries = same_count (forged h.opens h.size) h.list old new left (forgeries_spare h.opens h.size) w;
     }

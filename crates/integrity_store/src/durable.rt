@@ -81,6 +81,10 @@ impl<V: Vault, C: Sealer> Durable for IntegrityStore<V, C> {
         self.sealed.vault.write_out(alloc)
     }
 
+    fn set_least(&mut self, least: u8) {
+        self.state.least = least;
+    }
+
     ghost enduring = { enduring_by (held_by C.opens) (λ s. V.trace s.sealed.vault.vault)
         (λ s. V.faults s.sealed.vault.vault) (λ s. IsIntact (block_size_of s.sealed) (C.iv_size (cipher_of s.sealed))) };
 }

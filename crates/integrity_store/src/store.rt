@@ -1,11 +1,11 @@
 // The store of blocks.
-ghost use Rattle.std.specs.Prelude.{◌≡◌, ◌≤◌, ◌-◌, Bool, true, IfOk, IfErr, IfSome, length, is_some};
+ghost use Rattle.std.specs.Prelude.{◌≡◌, ◌≤◌, ◌-◌, Bool, true, ℕ, List, IfOk, IfErr, IfSome, length, is_some};
 ghost use Rattle.outside.specs.View.{bytes_of};
 ghost use Rattle.outcome.specs.Outcome.{Outcome};
 ghost use Rattle.outcome.specs.Meanings.{HasCause, IsOfBlocks, IsQuiet};
 ghost use Rattle.outside.specs.Trace.{config};
 ghost use Rattle.outside.specs.Changes.{change_at};
-ghost use Rattle.local_state.specs.Record.{plain_state, record_bytes, HasRecord};
+ghost use Rattle.local_state.specs.Record.{plain_state, record_bytes, HasRecord, IsRecord};
 ghost use Rattle.store_api.specs.Content.{Id, Content, SameContent};
 ghost use Rattle.store_api.specs.Holdings.{IsFew, Stays};
 ghost use Rattle.store_api.specs.Loads.{answer_of};
@@ -47,14 +47,16 @@ impl<V: Vault, C: Sealer> IntegrityStore<V, C> {
         ensures identity { ⟦<IntegrityStore<V, C> as Durable>⟧.durables.identity result ≡ identity_of (held_of C.opens sealed state) }
         ensures list { ⟦<IntegrityStore<V, C> as Durable>⟧.durables.list result ≡ sealed.vault.list }
         ensures trace { ⟦<IntegrityStore<V, C> as Durable>⟧.durables.trace result ≡ V.trace sealed.vault.vault }
+        ensures least { ⟦<IntegrityStore<V, C> as Durable>⟧.durables.least result ≡ (plain_state state).least }
         ensures records { (with_list : Bool) → ⟦<IntegrityStore<V, C> as Durable>⟧.durables.local_record_of result with_list ≡ record_bytes (plain_state state) (listed with_list sealed.vault.list) }
         ensures used { ⟦<IntegrityStore<V, C> as Blocks>⟧.holdings.used result ≡ fin.keys (plain_state state).lives }
         ensures version { (id : Id) → ⟦<IntegrityStore<V, C> as Blocks>⟧.holdings.version result id ≡ version_in (fin.get (plain_state state).lives id) }
         ensures payload { ⟦<IntegrityStore<V, C> as Blocks>⟧.holdings.payload result ≡ block_size_of sealed - 78 }
         ensures faults { ⟦<IntegrityStore<V, C> as Blocks>⟧.meanings.faults result ≡ V.faults sealed.vault.vault }
         ensures fresh { (plain_state state).lives ≡ fin.empty → IsUntouched (V.trace sealed.vault.vault) → ⟦<IntegrityStore<V, C> as Blocks>⟧.meanings.sound result }
-        ensures opened { (content : Content) → ⟦<IntegrityStore<V, C> as Durable>⟧.records.stands (⟦<IntegrityStore<V, C> as Durable>⟧.durables.identity result)
-            (⟦<IntegrityStore<V, C> as Durable>⟧.durables.local_record_of result true) (⟦<IntegrityStore<V, C> as Durable>⟧.durables.trace result) content
+        ensures is_record { (with_list : Bool) (kept : List ℕ) → IsRecord (plain_state state) (listed with_list sealed.vault.list) kept → ⟦<IntegrityStore<V, C> as Durable>⟧.durables.is_record result with_list kept }
+        ensures opened { (content : Content) (kept : List ℕ) → IsRecord (plain_state state) sealed.vault.list kept → ⟦<IntegrityStore<V, C> as Durable>⟧.records.stands (⟦<IntegrityStore<V, C> as Durable>⟧.durables.identity result)
+            kept (⟦<IntegrityStore<V, C> as Durable>⟧.durables.trace result) content
             → ⟦<IntegrityStore<V, C> as Blocks>⟧.meanings.sound result × SameContent content (⟦<IntegrityStore<V, C> as Blocks>⟧.holdings.content result) }
     {
         IntegrityStore { sealed, state }
@@ -91,7 +93,7 @@ impl<V: Vault, C: Sealer> IntegrityStore<V, C> {
         ensures cause { IfErr result (λ e. HasCause e (V.faults self.old.sealed.vault.vault) (V.faults self.new.sealed.vault.vault)) }
     {
         let size = self.sealed.block_size();
-        match self.sealed.get_plain(alloc, id) {
+        match self.sealed.get_plain(alloc, id, self.state.least) {
             Ok(seen) => judge(size, id, self.state.client, known, seen).map_err(Fail::Violation),
             Err(GetFail::Memory) => Err(Fail::Memory),
             Err(GetFail::Failed) => Err(Fail::Fault),

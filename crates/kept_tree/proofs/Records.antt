@@ -10,6 +10,7 @@ use Rattle.fs_model.specs.Tree.{Tree}
 use Rattle.held_blocks.specs.Held.{Held, wanted}
 use Rattle.held_blocks.specs.Standing.{Stands}
 use Rattle.local_state.proofs.Records.{one_reading}
+use Rattle.local_state.specs.Record.{IsRecord}
 use Rattle.mount.specs.Representing.{Represents}
 use Rattle.mount_tower.specs.Identities.{identity_for}
 use Rattle.outside.specs.Trace.{Call}
@@ -24,7 +25,7 @@ same_held a b sizes opens states lists = λ i. record { size = sizes i; opens = 
 
 one_held : (c : Settings) (salt salt2 : List ℕ) (kept kept2 : List ℕ) (trace : Option (List Call)) (x y : Content) → kept ≡ kept2 → (s : Stands (identity_for c salt) kept trace x) → (r : Stands (identity_for c salt2) kept2 trace y) → s.held ≡ r.held
 one_held c salt salt2 kept kept2 trace x y same s r =
-    let reading = one_reading s.held.state r.held.state s.held.list r.held.list s.has_record r.has_record (sym s.bytes ∙ (same ∙ r.bytes)) in
+    let reading = one_reading s.held.state r.held.state s.held.list r.held.list kept2 (subst (IsRecord s.held.state s.held.list) same s.is_record) r.is_record in
     same_held s.held r.held
     (ap (λ (i : Identity). i.size) s.same ∙ sym (ap (λ (i : Identity). i.size) r.same))
     (ap (λ (i : Identity). i.opens) s.same ∙ sym (ap (λ (i : Identity). i.opens) r.same))

@@ -35,6 +35,7 @@ fn prints_each_violation(rt: HostRuntime) -> Result<(), Fail> {
         (Why::Missing, "violation missing\n"),
         (Why::BadLength, "violation bad-length\n"),
         (Why::BadPrefix, "violation bad-prefix\n"),
+        (Why::OldFormat, "violation old-format\n"),
         (Why::NotOpened, "violation not-opened\n"),
         (Why::BadRecord, "violation bad-record\n"),
         (

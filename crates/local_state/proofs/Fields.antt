@@ -6,7 +6,7 @@ use Rattle.byte_fields.proofs.Fields.{Takes}
 use Rattle.local_state.specs.Record.{flag}
 use Rattle.local_state.specs.Reading.{◌>>=◌, flag_at}
 
-IsBytes-rest : (b : ℕ) (bytes : List ℕ) → IsBytes (b ∷ bytes) → IsBytes bytes
+pub IsBytes-rest : (b : ℕ) (bytes : List ℕ) → IsBytes (b ∷ bytes) → IsBytes bytes
 IsBytes-rest b bytes h i = h (suc i)
 
 -- the value of a step that found one

@@ -9,9 +9,11 @@ use Rattle.byte_fields.specs.Fields.{front_at, number_at}
 use Rattle.outside.specs.Trace.{At, config, block}
 use Rattle.local_state.specs.declared.life.Life.{Life}
 use Rattle.local_state.specs.declared.state.StateError.{StateError}
+use Rattle.local_state.specs.declared.state.Form.{Form}
+use Rattle.local_state.specs.declared.state.Form.TheVariants.{Older, Newer}
 use Rattle.local_state.specs.declared.state.StateError.TheVariants as errors
 use Rattle.local_state.specs.Known.{Lives, zero_id}
-use Rattle.local_state.specs.Record.{PlainState, ListEntry, magic, comes_after, may_change, has_bytes}
+use Rattle.local_state.specs.Record.{PlainState, ListEntry, magic_of, comes_after, may_change, has_bytes}
 
 infixl 10 ◌>>=◌
 abbrev pub ◌>>=◌ : {A B : Type 0} → Option A → (A → Option B) → Option B
@@ -82,20 +84,31 @@ list_at lives bytes = do
   n ← number_at w64 bytes
   entries_at lives n.0 None [] n.1
 
--- the bytes after the magic ones
-abbrev pub magic_at : List ℕ → Option (List ℕ)
-magic_at bytes = if starts_with nat_eq bytes magic then Some (drop 19 bytes) else None
+-- the form, by the magic bytes, and the bytes after these
+abbrev pub form_at : List ℕ → Option (Form × List ℕ)
+form_at bytes = if starts_with nat_eq bytes (magic_of Older) then Some (Older, drop 19 bytes) else (if starts_with nat_eq bytes (magic_of Newer) then Some (Newer, drop 19 bytes) else None)
+
+-- the least format as one byte
+abbrev pub least_in : List ℕ → Option (ℕ × List ℕ)
+least_in [] = None
+least_in (n ∷ rest) = if nat_lt 0 n && nat_lt n 3 then Some (n, rest) else None
+
+-- in the older form it is 1, and stands nowhere
+abbrev pub least_at : Form → List ℕ → Option (ℕ × List ℕ)
+least_at Older bytes = Some (1, bytes)
+least_at Newer bytes = least_in bytes
 
 -- what stands before the known blocks: a state that knows none
 unfoldable pub head_at : List ℕ → Option (PlainState × List ℕ)
 head_at bytes = do
-  start ← magic_at bytes
-  marked ← flag_at start
-  fs_id ← front_at 16 marked.1
+  start ← form_at bytes
+  marked ← flag_at start.1
+  least ← least_at start.0 marked.1
+  fs_id ← front_at 16 least.1
   key_salt ← front_at 32 fs_id.1
   key_digest ← front_at 32 key_salt.1
   client ← number_at w32 key_digest.1
-  if nat_lt 0 client.0 then Some (record { marked = marked.0; fs_id = fs_id.0; key_salt = key_salt.0; key_digest = key_digest.0; client = client.0; lives = fin.empty }, client.1) else None
+  if nat_lt 0 client.0 then Some (record { marked = marked.0; least = least.0; fs_id = fs_id.0; key_salt = key_salt.0; key_digest = key_digest.0; client = client.0; lives = fin.empty }, client.1) else None
 
 -- a state, a list, and no more bytes
 unfoldable pub record_at : List ℕ → Option (PlainState × List ListEntry)

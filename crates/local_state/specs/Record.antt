@@ -1,5 +1,5 @@
 -- The local record: a state and the unwritten list, as bytes. Numbers stand low byte first.
-use Rattle.std.specs.Prelude.{◌≡◌, ℕ, ◌^◌, ◌<◌, Bool, true, false, List, [], ◌∷◌, ◌++◌, length, codes, Option, Some, None}
+use Rattle.std.specs.Prelude.{◌≡◌, ℕ, ◌^◌, ◌<◌, ◌≤◌, Bool, true, false, List, [], ◌∷◌, ◌++◌, length, codes, Option, Some, None}
 use Rattle.std.specs.Int.{w32, w64, to_le_bytes}
 use Rattle.std.specs.List.{flat_map, AllByRecursion}
 use Rattle.std.specs.Ordering.{nat_cmp, is_lt}
@@ -11,6 +11,8 @@ use Rattle.outside.specs.View.{list_of}
 use Rattle.outside.specs.Trace.{At, config, block}
 use Rattle.local_state.specs.declared.life.Life.{Life}
 use Rattle.local_state.specs.declared.state.State.{State}
+use Rattle.local_state.specs.declared.state.Form.{Form}
+use Rattle.local_state.specs.declared.state.Form.TheVariants.{Older, Newer}
 use Rattle.local_state.specs.Known.{Lives, FitLives, is_live_in, is_dead_in}
 
 -- ---- what a record holds
@@ -18,6 +20,8 @@ use Rattle.local_state.specs.Known.{Lives, FitLives, is_live_in, is_dead_in}
 -- a state without where it lies in memory
 pub record PlainState : Type 0 where
   pub marked : Bool
+  -- the least format of blocks' files that are taken
+  pub least : ℕ
   pub fs_id : List ℕ
   pub key_salt : List ℕ
   pub key_digest : List ℕ
@@ -25,7 +29,7 @@ pub record PlainState : Type 0 where
   pub lives : Lives
 
 abbrev pub plain_state : State → PlainState
-plain_state s = record { marked = s.marked; fs_id = s.fs_id.0; key_salt = s.key_salt; key_digest = s.key_digest; client = s.client; lives = s.known.lives }
+plain_state s = record { marked = s.marked; least = s.least; fs_id = s.fs_id.0; key_salt = s.key_salt; key_digest = s.key_digest; client = s.client; lives = s.known.lives }
 
 -- the same state with its mark set
 abbrev pub with_mark : PlainState → PlainState
@@ -40,9 +44,25 @@ plain_record x = (plain_state x.0, list_of x.1.items)
 
 -- ---- its bytes
 
--- `cryfs.localstate;1` and a zero byte
-abbrev pub magic : List ℕ
-magic = codes "cryfs.localstate;1" ++ 0 ∷ []
+-- `cryfs.localstate;1` or `cryfs.localstate;2`, and a zero byte
+abbrev pub magic_of : Form → List ℕ
+magic_of Older = codes "cryfs.localstate;1" ++ 0 ∷ []
+magic_of Newer = codes "cryfs.localstate;2" ++ 0 ∷ []
+
+-- the least format, where the form says it
+abbrev pub least_bytes : Form → ℕ → List ℕ
+least_bytes Older least = []
+least_bytes Newer least = least ∷ []
+
+-- a least format: 1 or 2
+pub record IsLeast (n : ℕ) : Type 0 where
+  pub from_one : 1 ≤ n
+  pub to_two : n ≤ 2
+
+-- what a record of this form may be of
+abbrev pub Allows : Form → ℕ → Type 0
+Allows Older least = least ≡ 1
+Allows Newer least = Unit {0}
 
 abbrev pub flag : Bool → ℕ
 flag false = 0
@@ -76,11 +96,15 @@ abbrev pub list_bytes : List ListEntry → List ℕ
 list_bytes list = to_le_bytes w64 (length list) ++ flat_map entry_bytes list
 
 -- what stands before the known blocks
-unfoldable pub head_bytes : PlainState → List ℕ
-head_bytes s = magic ++ (flag s.marked ∷ (s.fs_id ++ (s.key_salt ++ (s.key_digest ++ to_le_bytes w32 s.client))))
+unfoldable pub head_bytes : Form → PlainState → List ℕ
+head_bytes f s = magic_of f ++ (flag s.marked ∷ (least_bytes f s.least ++ (s.fs_id ++ (s.key_salt ++ (s.key_digest ++ to_le_bytes w32 s.client)))))
 
-unfoldable pub record_bytes : PlainState → List ListEntry → List ℕ
-record_bytes s list = head_bytes s ++ (lives_bytes s.lives ++ list_bytes list)
+unfoldable pub bytes_by : Form → PlainState → List ListEntry → List ℕ
+bytes_by f s list = head_bytes f s ++ (lives_bytes s.lives ++ list_bytes list)
+
+-- the record that is written
+abbrev pub record_bytes : PlainState → List ListEntry → List ℕ
+record_bytes = bytes_by Newer
 
 -- ---- which states and lists have a record
 
@@ -133,6 +157,7 @@ pub record FitsHead (s : PlainState) : Type 0 where
 
 pub record FitsState (s : PlainState) : Type 0 where
   pub head : FitsHead s
+  pub least : IsLeast s.least
   pub client : 0 < s.client
   pub lives : FitLives s.lives
   pub count : fin.len s.lives < 2 ^ 64
@@ -141,3 +166,10 @@ pub record FitsState (s : PlainState) : Type 0 where
 pub record HasRecord (s : PlainState) (list : List ListEntry) : Type 0 where
   pub state : FitsState s
   pub entries : FitsList s.lives list
+
+-- these bytes are a record of the state and the list, in either form
+pub record IsRecord (s : PlainState) (list : List ListEntry) (bytes : List ℕ) : Type 0 where
+  pub has : HasRecord s list
+  pub form : Form
+  pub allows : Allows form s.least
+  pub is : bytes ≡ bytes_by form s list

@@ -13,5 +13,5 @@ pub use known::{Known, Spent};
 pub use laws::{mark_stands_at_19, one_reading};
 pub use life::Life;
 pub use reading::decode;
-pub use state::{State, StateError, key_digest};
-pub use writing::encode;
+pub use state::{Form, State, StateError, key_digest};
+pub use writing::{encode, encode_form1};

@@ -1,16 +1,16 @@
 // The state and the list of a record, read.
-ghost use Rattle.std.specs.Prelude.{◌≡◌, ◌≢◌, ◌<◌, List, [], None, Some, IfOk, IfSome, IsErrOf};
+ghost use Rattle.std.specs.Prelude.{◌≡◌, ◌<◌, List, [], None, Some, IfOk, IfSome, IsErrOf};
 ghost use Rattle.std.specs.Option.{option_map};
 ghost use Rattle.std.specs.FinMap as fin;
 ghost use Rattle.outside.specs.View.{list_of, pending_of, at_of, change_of};
 ghost use Rattle.local_state.specs.Known.{plain_entry, zero_id, IsNext};
-ghost use Rattle.local_state.specs.Record.{PlainState, ListEntry, plain_state, plain_record, record_bytes, comes_after, may_change, has_bytes, HasRecord};
-ghost use Rattle.local_state.specs.Reading.{Gives, flag_at, magic_at, known_at, lives_at, table_at, name_at, change_at, entry_at, entries_at, list_at, head_at, record_at};
+ghost use Rattle.local_state.specs.Record.{PlainState, ListEntry, plain_state, plain_record, comes_after, may_change, has_bytes, IsRecord};
+ghost use Rattle.local_state.specs.Reading.{Gives, flag_at, form_at, least_at, known_at, lives_at, table_at, name_at, change_at, entry_at, entries_at, list_at, head_at, record_at};
 
 use crate::known::Known;
 use crate::life::Life;
-use crate::state::{State, StateError};
-use crate::writing::{LIFE_LEN, MAGIC, MAGIC_LEN};
+use crate::state::{Form, State, StateError};
+use crate::writing::{LIFE_LEN, MAGIC_LEN, MAGIC_NEWER, MAGIC_OLDER};
 use block_id::BlockId;
 use byte_fields::{take_array, take_bytes, take_id, take_u32, take_u64};
 use outside::{Change, FileName, Pending};
@@ -26,13 +26,28 @@ fn flag_of(bytes: &[u8]) -> Option<(bool, &[u8])>
     }
 }
 
-fn magic_of(bytes: &[u8]) -> Option<&[u8]>
-    ensures { option_map (λ rest. rest.now) result ≡ magic_at bytes.now }
+fn form_of(bytes: &[u8]) -> Option<(Form, &[u8])>
+    ensures { option_map (λ x. (x.0, x.1.now)) result ≡ form_at bytes.now }
 {
-    if !bytes.starts_with(&MAGIC) {
-        return None;
+    if bytes.starts_with(&MAGIC_OLDER) {
+        return Some((Form::Older, &bytes[MAGIC_LEN..]));
     }
-    Some(&bytes[MAGIC_LEN..])
+    if bytes.starts_with(&MAGIC_NEWER) {
+        return Some((Form::Newer, &bytes[MAGIC_LEN..]));
+    }
+    None
+}
+
+fn least_of(form: Form, bytes: &[u8]) -> Option<(u8, &[u8])>
+    ensures { option_map (λ x. (x.0, x.1.now)) result ≡ least_at form bytes.now }
+{
+    match form {
+        Form::Older => Some((1, bytes)),
+        Form::Newer => match bytes {
+            [least, rest @ ..] if *least > 0 && *least < 3 => Some((*least, rest)),
+            _ => None,
+        },
+    }
 }
 
 #[tactic(auto, unfolding(crate::specs::Reading::known_at))]
@@ -192,8 +207,9 @@ fn head_of(alloc: Global, bytes: &[u8]) -> Option<(State, &[u8])>
     ensures reads { option_map (λ x. (plain_state x.0, x.1.now)) result ≡ head_at bytes.now }
     ensures nothing_known { IfSome result (λ x. x.0.known.lives ≡ fin.empty) }
 {
-    let rest = magic_of(bytes)?;
+    let (form, rest) = form_of(bytes)?;
     let (marked, rest) = flag_of(rest)?;
+    let (least, rest) = least_of(form, rest)?;
     let (fs_id, rest) = take_id(rest)?;
     let (key_salt, rest) = take_array::<32>(rest)?;
     let (key_digest, rest) = take_array::<32>(rest)?;
@@ -203,6 +219,7 @@ fn head_of(alloc: Global, bytes: &[u8]) -> Option<(State, &[u8])>
     }
     let state = State {
         marked,
+        least,
         fs_id,
         key_salt,
         key_digest,
@@ -229,15 +246,12 @@ fn record_of(alloc: Global, bytes: &[u8]) -> Result<(State, Vec<Pending>), State
 
 /// The state and the list of a record.
 pub fn decode(alloc: Global, bytes: &[u8]) -> Result<(State, Vec<Pending>), StateError>
-    // What is read has these bytes.
-    ensures has_record { IfOk result (λ x. HasRecord (plain_state x.0) (list_of x.1.items)) }
-    ensures bytes { IfOk result (λ x. bytes.now ≡ record_bytes (plain_state x.0) (list_of x.1.items)) }
+    // What is read has these bytes, in one of the forms.
+    ensures is_record { IfOk result (λ x. IsRecord (plain_state x.0) (list_of x.1.items) bytes.now) }
     // No other state and list have them.
-    ensures only { IfOk result (λ x. (state : PlainState) (list : List ListEntry) → HasRecord state list
-        → bytes.now ≡ record_bytes state list → plain_record x ≡ (state, list)) }
+    ensures only { IfOk result (λ x. (state : PlainState) (list : List ListEntry) → IsRecord state list bytes.now → plain_record x ≡ (state, list)) }
     // Where no state and list have these bytes.
-    ensures bad_state { IsErrOf result StateError.BadState → (state : PlainState) (list : List ListEntry) → HasRecord state list
-        → bytes.now ≢ record_bytes state list }
+    ensures bad_state { IsErrOf result StateError.BadState → (state : PlainState) (list : List ListEntry) → ¬ IsRecord state list bytes.now }
 {
     record_of(alloc, bytes)
 }

@@ -12,12 +12,23 @@ use std::alloc::{AllocError, AllocFailed};
 pub struct State {
     /// Whether a violation was seen.
     pub marked: bool,
+    /// The least format of blocks' files that are taken, 1 or 2.
+    pub least: u8,
     pub fs_id: BlockId,
     pub key_salt: [u8; 32],
     pub key_digest: [u8; 32],
     /// The own client, from 1.
     pub client: u32,
     pub known: Known,
+}
+
+/// The forms of a record. Both are read, and the newer one is written.
+#[derive(Clone, Copy, PartialEq, Eq)]
+pub enum Form {
+    /// Form 1, which doesn't say the least format of blocks' files.
+    Older,
+    /// Form 2.
+    Newer,
 }
 
 /// Why a record wasn't read.

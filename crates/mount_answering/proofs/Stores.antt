@@ -33,6 +33,7 @@ module _ {S : Type 0} {K : Type 0} (M : Meanings S) (H : Holdings S) (D : Durabl
     stays = λ undone. z.stays;
     stays_synced = λ is. z.stays;
     identity = z.identity;
+    least = z.least;
     payload = z.stays.payload;
     goes_on = z.goes_on;
     forgeries = omega (arith, z.forgeries);
@@ -64,6 +65,7 @@ module _ {S : Type 0} {K : Type 0} (M : Meanings S) (H : Holdings S) (D : Durabl
     stays = λ undone. stays_on H a mid b z.stays (w.stays undone);
     stays_synced = λ is. absurd (true_is_false (sym is ∙ other));
     identity = w.identity ∙ z.identity;
+    least = w.least ∙ z.least;
     payload = w.payload ∙ z.stays.payload;
     goes_on = goes_on_onward (D.trace a) (D.trace mid) (D.trace b) z.goes_on w.goes_on;
     forgeries = omega (arith, w.forgeries, z.forgeries);

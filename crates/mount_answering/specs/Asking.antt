@@ -52,6 +52,7 @@ pub record TreesAsked {S : Type 0} {K : Type 0} (shows : Showing) (W : World S K
 pub record StoreAsked {S : Type 0} (M : Meanings S) (H : Holdings S) (D : Durables S) (a : S) (command : Command) (answer : Answer) (b : S) : Type 0 where
   pub stays : is_done_answer answer ≡ false → Stays H a b
   pub identity : D.identity b ≡ D.identity a
+  pub least : D.least b ≡ D.least a
   pub payload : H.payload b ≡ H.payload a
   pub goes_on : GoesOn (D.trace a) (D.trace b)
   pub sound : M.sound a → M.forgeries b ≤ M.forgeries a → M.sound b
@@ -86,6 +87,7 @@ pub record StoreSettled {S : Type 0} (M : Meanings S) (H : Holdings S) (D : Dura
   pub sound : M.sound a → M.sound b
   pub payload : H.payload b ≡ H.payload a
   pub identity : D.identity b ≡ D.identity a
+  pub least : D.least b ≡ D.least a
   pub forgeries : M.forgeries b ≡ M.forgeries a
   pub lies : M.lies b ≡ M.lies a
   pub faults : M.faults b ≡ M.faults a

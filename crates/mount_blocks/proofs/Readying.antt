@@ -2,7 +2,6 @@
 use Rattle.std.proofs.Common.{◌≤◌, ℕ, List, false, length, sym, ◌∙◌, ap, subst}
 use Rattle.std.specs.Prelude.{Result}
 use Rattle.std.specs.declared.option.Option.{Option}
-use Rattle.std.specs.declared.option.Option.TheVariants.{Some}
 use Rattle.config_file.specs.Settings.{settings_of}
 use Rattle.config_file.specs.declared.config.Opened.{Opened}
 use Rattle.held_blocks.specs.Standing.{records}
@@ -26,8 +25,11 @@ module _ {V : Type 0} {K : Type 0} (trace : V → Option (List Call)) (faults : 
   whole_on : Whole (tower_durables trace) G old.core.saver (store_of old) → Whole (tower_durables trace) G old.core.saver (store_of new)
   whole_on w =
       let laws = tower_enduring trace faults in
-      let same = laws.loaded_records (store_of old) (store_of new) false only.loaded in
-      record { kept = λ u. w.kept u ∙ ap Some (sym same); last = λ u. w.last u ∙ sym same; none = λ u. laws.loaded_list (store_of old) (store_of new) only.loaded ∙ w.none u }
+      record {
+        kept = w.kept;
+        last = λ u. laws.loaded_record (store_of old) (store_of new) false old.core.saver.last.items only.loaded (w.last u);
+        none = λ u. laws.loaded_list (store_of old) (store_of new) only.loaded ∙ w.none u;
+      }
 
   pub ready_on : IsReady trace faults G old → (tower_meanings trace faults).intact (store_of new) → Stays (tower_holdings trace) (store_of old) (store_of new) → IsReady trace faults G new
   ready_on r intact stays =

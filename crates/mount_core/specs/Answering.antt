@@ -1,6 +1,5 @@
 -- What a session's calls leave of its core, said once for each store and keeper: old before the call, new after it.
 use Rattle.std.specs.Prelude.{◌≡◌, ◌≢◌, ◌⊎◌, ◌≤◌, ◌<◌, ◌+◌, ℕ, Bool, true, false, ◌||◌, List, IfOk, IfErr, Result, IsOk, OnOk}
-use Rattle.std.specs.declared.option.Option.TheVariants.{Some}
 use Rattle.fs_model.specs.declared.command.Command.{Command}
 use Rattle.fs_model.specs.declared.error.FsError.{FsError}
 use Rattle.fs_model.specs.declared.reply.Reply.TheVariants.{Done, Error}
@@ -16,7 +15,7 @@ use Rattle.answers.specs.Sessions.{Asked, FollowsAsked, is_violation, is_synced,
 use Rattle.store_api.specs.Durables.{Durables, Records}
 use Rattle.store_api.specs.Holdings.{Holdings, Stays}
 use Rattle.store_api.specs.Lists.{waiting_weight}
-use Rattle.session_saver.specs.Saving.{World, KeptConfigures, Wrote, Leaves}
+use Rattle.session_saver.specs.Saving.{World, KeepsEmpty, KeptConfigures, Wrote, Leaves}
 use Rattle.session_saver.specs.declared.saver.SyncError.{SyncError}
 use Rattle.tree_commands.specs.Performing.{Showing, is_sync, IsReplyTo}
 use Rattle.tree_commands.specs.Sparing.{OnWriteInside}
@@ -45,7 +44,7 @@ pub record CoreSyncs {S : Type 0} {K : Type 0} (shows : Showing) (W : World S K)
   pub configures : (may : List (List ℕ)) (now : List ℕ) → CoreConfigures W.holdings W.durables W.records W.keeper old may now → ConfigSynced W.holdings W.durables W.records W.keeper new may now result
   pub holds : (bytes : List ℕ) → W.holdings.told (store_of old) ≡ true → W.records.configures (W.durables.local_record_of (store_of old) true) (W.durables.trace (store_of old)) bytes
       → OnOk result (KeptConfigures W.records (W.keeper.kept new.saver.keeper) (W.durables.trace (store_of new)) bytes)
-  pub emptied : OnOk result (W.keeper.kept new.saver.keeper ≡ Some (W.durables.local_record_of (store_of new) false))
+  pub emptied : OnOk result (KeepsEmpty W.durables (store_of new) (W.keeper.kept new.saver.keeper))
   pub ok : OnOk result (new.saver.changed ≡ false)
   pub unmoved : old.saver.changed ≡ false → IsOk result × (new ≡ old)
   pub wrote : (store_of new ≡ store_of old) ⊎ Wrote W.durables (store_of old) (store_of new)
@@ -65,7 +64,7 @@ pub record CoreReplaces {S : Type 0} {K : Type 0} (shows : Showing) (W : World S
   pub stands : (kept now : Tree) → CoreStands shows W old kept now → Synced shows W new kept now result
   pub configures : (may : List (List ℕ)) (now : List ℕ) → CoreConfigures W.holdings W.durables W.records W.keeper old may now → Replaced W.holdings W.durables W.records W.keeper new may now bytes result
   pub holds : W.holdings.told (store_of old) ≡ true → OnOk result (KeptConfigures W.records (W.keeper.kept new.saver.keeper) (W.durables.trace (store_of new)) bytes)
-  pub emptied : OnOk result (W.keeper.kept new.saver.keeper ≡ Some (W.durables.local_record_of (store_of new) false))
+  pub emptied : OnOk result (KeepsEmpty W.durables (store_of new) (W.keeper.kept new.saver.keeper))
   pub ok : OnOk result (new.saver.changed ≡ false)
 
 -- and the last one, which gives the store and the keeper back
@@ -73,7 +72,7 @@ pub record CoreCloses {S : Type 0} {K : Type 0} (shows : Showing) (W : World S K
   pub stands : (kept now : Tree) → core.violated ≡ false → CoreStands shows W core kept now → Closed (shows (W.holdings.payload (store_of core)) core.root.0) W.durables W.records W.keeper store keeper kept now result
   pub configures : (may : List (List ℕ)) (now : List ℕ) → core.violated ≡ false → CoreConfigures W.holdings W.durables W.records W.keeper core may now → ConfigClosed W.records (W.keeper.kept keeper) (W.durables.trace store) may now result
   pub left : (core.violated ≡ true) ⊎ (core.saver.changed ≡ false) → IsOk result × (store ≡ store_of core) × (keeper ≡ core.saver.keeper)
-  pub emptied : core.violated ≡ false → OnOk result (W.keeper.kept keeper ≡ Some (W.durables.local_record_of store false))
+  pub emptied : core.violated ≡ false → OnOk result (KeepsEmpty W.durables store (W.keeper.kept keeper))
   pub intact : W.meanings.intact store
 
 -- ---- an answer
@@ -93,6 +92,7 @@ pub record StoreAnswers {S : Type 0} (M : Meanings S) (H : Holdings S) (D : Dura
   pub stays : is_done_answer answer ≡ false → Stays H a b
   pub stays_synced : IfOk asked (λ command. is_sync command ≡ true → Stays H a b)
   pub identity : D.identity b ≡ D.identity a
+  pub least : D.least b ≡ D.least a
   pub payload : H.payload b ≡ H.payload a
   pub goes_on : GoesOn (D.trace a) (D.trace b)
   pub forgeries : M.forgeries a ≤ M.forgeries b

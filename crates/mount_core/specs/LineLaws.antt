@@ -209,6 +209,7 @@ module _ {S : Type 0} {K : Type 0} (shows : Showing) (M : Meanings S) (H : Holdi
           stays = λ e. stays_same H (store_of core);
           stays_synced = if_ok asked _ (λ command is. stays_same H (store_of core));
           identity = refl;
+          least = refl;
           payload = refl;
           goes_on = goes_on_same (D.trace (store_of core));
           forgeries = omega arith;
@@ -325,6 +326,7 @@ module _ {S : Type 0} {K : Type 0} (shows : Showing) (M : Meanings S) (H : Holdi
           stays = λ e. l.stays (long_not_done reply long);
           stays_synced = l.stays_synced;
           identity = l.identity;
+          least = l.least;
           payload = l.payload;
           goes_on = l.goes_on;
           forgeries = l.forgeries;

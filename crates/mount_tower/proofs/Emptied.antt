@@ -1,33 +1,39 @@
--- What is kept with an empty list, and the versions in it.
-use Rattle.std.proofs.Common.{◌≡◌, ℕ, List, [], false}
+-- The records of a tower, and what is kept with an empty list.
+use Rattle.std.proofs.Common.{◌≡◌, ℕ, List, [], Bool, false, sym, subst}
 use Rattle.std.specs.Prelude.{Result, OnOk}
 use Rattle.std.specs.declared.option.Option.{Option}
-use Rattle.std.specs.declared.option.Option.TheVariants.{Some}
 use Rattle.std.specs.declared.result.Result.TheVariants.{Ok, Err}
+use Rattle.outside.specs.Changes.{FileChanges}
 use Rattle.outside.specs.Trace.{Call}
-use Rattle.integrity_store.specs.EnduringLaws.{listed_has}
+use Rattle.local_state.specs.Record.{PlainState, IsRecord}
+use Rattle.held_blocks.specs.Standing.{listed}
 use Rattle.integrity_store.specs.declared.store.IntegrityStore.{IntegrityStore}
 use Rattle.config_file.specs.declared.config.Cipher.{Cipher}
-use Rattle.mount_tower.specs.Identities.{HasEmptyList}
+use Rattle.session_saver.specs.Saving.{KeepsEmpty}
+use Rattle.mount_tower.specs.Identities.{HasEmptyList, KeepsRecord}
 use Rattle.mount_tower.specs.Opening.{KeepsVersions}
-use Rattle.mount_tower.specs.Tower.{Cached, sealed_held, sealed_meanings, sealed_durables, tower_meanings, tower_holdings, tower_durables}
+use Rattle.mount_tower.specs.Tower.{Cached, held_in, sealed_held, sealed_durables, tower_holdings, tower_durables}
 
--- the record with an empty list is kept
-pub emptied : {V : Type 0} (trace : V → Option (List Call)) (faults : V → ℕ) (store : IntegrityStore V Cipher) (kept : Option (List ℕ)) → (sealed_meanings trace faults).intact store
-    → kept ≡ Some ((sealed_durables trace).local_record_of store false) → HasEmptyList kept
-emptied trace faults store kept intact e =
-    record { state = (sealed_held store).state; has_record = listed_has (sealed_held store).state (sealed_held store).list false intact.0.has_record; kept = e }
+module _ {V : Type 0} (trace : V → Option (List Call)) (store : Cached V) (state : PlainState) (same : (held_in store).state ≡ state) where
+  -- a record of the state and the list that a store holds is one of the store, and one with an empty list that is kept is of the state
+  pub record_of : (list : FileChanges) (with_list : Bool) (bytes : List ℕ) → (tower_durables trace).list store ≡ list → IsRecord state (listed with_list list) bytes → (tower_durables trace).is_record store with_list bytes
+  record_of list with_list bytes waits is =
+      subst (λ s. IsRecord s (listed with_list (held_in store).list) bytes) (sym same) (subst (λ l. IsRecord state (listed with_list l) bytes) (sym waits) is)
 
-pub emptied_on : {V : Type 0} {T E : Type 0} (trace : V → Option (List Call)) (faults : V → ℕ) (store : Cached V) (kept : Option (List ℕ)) (result : Result T E) → (tower_meanings trace faults).intact store
-    → OnOk result (kept ≡ Some ((tower_durables trace).local_record_of store false)) → OnOk result (HasEmptyList kept)
-emptied_on trace faults store kept (Ok x) intact e = emptied trace faults store.store kept intact.0 e
-emptied_on trace faults store kept (Err x) intact e = tt
+  pub keeps_emptied : (kept : Option (List ℕ)) → KeepsEmpty (tower_durables trace) store kept → KeepsRecord kept state []
+  keeps_emptied kept (bytes, is, record_) = record { bytes = bytes; kept = is; is_record = subst (λ s. IsRecord s [] bytes) same record_ }
+
+-- a record with an empty list is kept
+pub emptied : {V : Type 0} (trace : V → Option (List Call)) (store : IntegrityStore V Cipher) (kept : Option (List ℕ)) → KeepsEmpty (sealed_durables trace) store kept → HasEmptyList kept
+emptied trace store kept (bytes, is, record_) = record { state = (sealed_held store).state; keeps = record { bytes = bytes; kept = is; is_record = record_ } }
+
+pub emptied_on : {V : Type 0} {T E : Type 0} (trace : V → Option (List Call)) (store : Cached V) (kept : Option (List ℕ)) (result : Result T E) → OnOk result (KeepsEmpty (tower_durables trace) store kept) → OnOk result (HasEmptyList kept)
+emptied_on trace store kept (Ok x) e = emptied trace store.store kept e
+emptied_on trace store kept (Err x) e = tt
 
 -- it has the versions of the store
-pub keeps_versions : {V : Type 0} {T E : Type 0} (trace : V → Option (List Call)) (faults : V → ℕ) (store : Cached V) (kept : Option (List ℕ)) (version : List ℕ → ℕ) (result : Result T E) → (tower_meanings trace faults).intact store
-    → ((tower_durables trace).identity store).marked ≡ false → OnOk result (kept ≡ Some ((tower_durables trace).local_record_of store false)) → ((id : List ℕ) → version id ≡ (tower_holdings trace).version store id)
-    → OnOk result (KeepsVersions kept version)
-keeps_versions trace faults store kept version (Ok x) intact unmarked e same =
-    let held = sealed_held store.store in
-    record { state = held.state; list = []; loaded = record { kept = e; has_record = listed_has held.state held.list false intact.0.0.has_record; unmarked = unmarked }; versions = same }
-keeps_versions trace faults store kept version (Err x) intact unmarked e same = tt
+pub keeps_versions : {V : Type 0} {T E : Type 0} (trace : V → Option (List Call)) (store : Cached V) (kept : Option (List ℕ)) (version : List ℕ → ℕ) (result : Result T E) → ((tower_durables trace).identity store).marked ≡ false
+    → OnOk result (KeepsEmpty (tower_durables trace) store kept) → ((id : List ℕ) → version id ≡ (tower_holdings trace).version store id) → OnOk result (KeepsVersions kept version)
+keeps_versions trace store kept version (Ok x) unmarked (bytes, is, record_) same =
+    record { state = (held_in store).state; list = []; loaded = record { keeps = record { bytes = bytes; kept = is; is_record = record_ }; unmarked = unmarked }; versions = same }
+keeps_versions trace store kept version (Err x) unmarked e same = tt

@@ -5,7 +5,8 @@ use Rattle.std.specs.declared.option.Option.TheVariants.{None, Some}
 use Rattle.std.proofs.lemmas.Option.{same_Some, none-some}
 use Rattle.outside.specs.Changes.{FileChanges}
 use Rattle.outside.specs.Trace.{Call, config}
-use Rattle.local_state.specs.Record.{PlainState, record_bytes}
+use Rattle.local_state.specs.Record.{PlainState, record_bytes, HasRecord, IsRecord}
+use Rattle.local_state.proofs.Records.{one_reading, written_record}
 use Rattle.held_blocks.specs.Held.{Held}
 use Rattle.aes_gcm.specs.Gcm.{opened_of}
 use Rattle.redo_vault.specs.Redo.{Gave}
@@ -17,7 +18,7 @@ use Rattle.config_file.specs.Settings.{Settings}
 use Rattle.session_saver.specs.Saving.{KeptConfigures}
 use Rattle.mount_tower.specs.declared.error.OpenError.{OpenError}
 use Rattle.mount_tower.specs.declared.error.OpenError.TheVariants.{Memory, NoState, BadState, Exists, Marked, Mismatch, NoConfig, Config as OfConfig, FaultDirectory, FaultState}
-use Rattle.mount_tower.specs.Opening.{IsLoaded, ConfigCause, OpenCause, IsOf, ReadsConfigOnce}
+use Rattle.mount_tower.specs.Opening.{ConfigCause, OpenCause, IsOf, ReadsConfigOnce}
 use Rattle.mount_tower.specs.Identities.{identity_for}
 use Rattle.mount_tower.proofs.Reading.{reads_configures, short_cut}
 
@@ -33,11 +34,14 @@ config_open password state list old new v0 v1 (OfConfig x) h = h
 config_open password state list old new v0 v1 FaultDirectory h = h
 config_open password state list old new v0 v1 FaultState h = h
 
--- the configuration's file, by what the store's record says
-pub config_start : (kept : Option (List ℕ)) (record_ : List ℕ) (state : PlainState) (list : FileChanges) (t0 t : Option (List Call)) (bytes : List ℕ) → IsLoaded kept state list → ReadsConfigOnce t0 t → record_ ≡ record_bytes state list
-    → KeptConfigures records kept t0 bytes → Configures record_ t bytes
-config_start kept record_ state list t0 t bytes l reads e k =
-    subst (λ r. Configures r t bytes) (sym e) (reads_configures (record_bytes state list) bytes t0 t reads (subst (λ r. Configures r t0 bytes) (same_Some _ _ (sym k.1 ∙ l.kept)) k.2))
+-- the configuration's file, by what the record that is kept says
+pub config_start : (kept : Option (List ℕ)) (last : List ℕ) (t0 t : Option (List Call)) (bytes : List ℕ) → kept ≡ Some last → ReadsConfigOnce t0 t → KeptConfigures records kept t0 bytes → Configures last t bytes
+config_start kept last t0 t bytes is reads k = reads_configures last bytes t0 t reads (subst (λ r. Configures r t0 bytes) (same_Some _ _ (sym k.1 ∙ is)) k.2)
+
+-- what a store holds whose record is that of a state and a list
+pub state_is : (h : Held) (state : PlainState) (list : FileChanges) → HasRecord h.state h.list → HasRecord state list → record_bytes h.state h.list ≡ record_bytes state list → h.state ≡ state
+state_is h state list had has same =
+    (one_reading h.state state h.list list (record_bytes h.state h.list) (written_record h.state h.list had) (subst (λ bytes. IsRecord state list bytes) (sym same) (written_record state list has))).0
 
 -- a configuration may wait where it was found
 pub no_block : (w : Option (Option (List ℕ))) (t0 t : Option (List Call)) (answer : List ℕ) → Gave w t0 t config 1127 (Some answer) → HasForm answer → IsNoBlock w

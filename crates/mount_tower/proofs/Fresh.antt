@@ -37,10 +37,11 @@ reads_unchanged a b reads u = record { told = reads_told a b reads ∙ u.told; n
 no_lives : (lives : Lives) → lives ≡ fin.empty → FitLives lives
 no_lives lives e id = subst (λ o. IfSome o (FitsLife id)) (sym (lives_get lives id e)) tt
 
-pub fresh_record : (state : PlainState) → length state.fs_id ≡ 16 → length state.key_salt ≡ 32 → length state.key_digest ≡ 32 → state.client ≡ 1 → state.lives ≡ fin.empty → HasRecord state []
-fresh_record state f s d c m = record {
+pub fresh_record : (state : PlainState) → state.least ≡ 2 → length state.fs_id ≡ 16 → length state.key_salt ≡ 32 → length state.key_digest ≡ 32 → state.client ≡ 1 → state.lives ≡ fin.empty → HasRecord state []
+fresh_record state l f s d c m = record {
   state = record {
     head = record { fs_id = f; key_salt = s; key_digest = d; client = omega (arith, c) };
+    least = record { from_one = omega (arith, l); to_two = omega (arith, l) };
     client = omega (arith, c);
     lives = no_lives state.lives m;
     count = let z : fin.len state.lives ≡ 0 = ap fin.len m ∙ len-empty (slice_cmp nat_cmp) Life in omega (arith, z);

@@ -36,7 +36,7 @@ start_state SyncState P h n = absurd (n refl)
 
 -- ---- writing gives no block
 
-pub stopped_forgeries : {V : Type 0} (trace : V → Option (List Call)) (opens : List ℕ → Option (List ℕ)) (size : ℕ) (before after : Cached V) → (after ≡ before) ⊎ Wrote (tower_durables trace) before after
+pub stopped_forgeries : {V : Type 0} (trace : V → Option (List Call)) (opens : List ℕ → List ℕ → Option (List ℕ)) (size : ℕ) (before after : Cached V) → (after ≡ before) ⊎ Wrote (tower_durables trace) before after
     → count_told (forged opens size) (trace_in trace after) ≡ count_told (forged opens size) (trace_in trace before)
 stopped_forgeries trace opens size before after (inl same) = ap (λ s. count_told (forged opens size) (trace_in trace s)) same
 stopped_forgeries trace opens size before after (inr (inl stops)) =

@@ -10,7 +10,7 @@ use Rattle.outside.specs.Going.{GoesOn, goes_on_call, goes_on_equal}
 use Rattle.outside.specs.Trace.{At, Call, config, got, adds}
 use Rattle.outside.specs.Honest.{is_lie, count_calls, count_told}
 use Rattle.outside.specs.Changes.{FileChanges, change_at, cut}
-use Rattle.local_state.specs.Record.{PlainState, record_bytes, HasRecord}
+use Rattle.local_state.specs.Record.{PlainState, IsRecord}
 use Rattle.local_state.proofs.Records.{one_reading}
 use Rattle.redo_vault.specs.Redo.{Gave}
 use Rattle.store_api.specs.Content.{Content}
@@ -26,7 +26,7 @@ use Rattle.config_file.specs.Settings.{Settings, settings_of}
 use Rattle.config_file.specs.declared.config.Opened.{Opened}
 use Rattle.session_saver.specs.Saving.{KeptConfigures}
 use Rattle.mount_tower.specs.Opening.{IsLoaded, AreKnown, OpenedConfig, ReadsConfigOnce}
-use Rattle.mount_tower.specs.Identities.{identity_for}
+use Rattle.mount_tower.specs.Identities.{identity_for, KeepsRecord}
 use Rattle.mount_tower.specs.Unforged.{EachConfig, IsOnlyConfig, IsUnforgedConfig}
 
 pub true_is_false : true ≡ false → ⊥
@@ -54,7 +54,7 @@ reads_configures kept bytes a b (inr (answer, e)) s =
     let laws = enduring_by {S = Held} (λ h. h) (λ h. None) (λ h. 0) (λ h. Unit {0}) in
     subst (λ x. Configures kept x bytes) (sym e) (laws.got_configures kept a bytes config 1127 answer s)
 
-pub reads_forgeries : (opens : List ℕ → Option (List ℕ)) (size : ℕ) (a b : Option (List Call)) → ReadsConfigOnce a b → count_told (forged opens size) b ≡ count_told (forged opens size) a
+pub reads_forgeries : (opens : List ℕ → List ℕ → Option (List ℕ)) (size : ℕ) (a b : Option (List Call)) → ReadsConfigOnce a b → count_told (forged opens size) b ≡ count_told (forged opens size) a
 reads_forgeries opens size a b (inl e) = ap (count_told (forged opens size)) e
 reads_forgeries opens size a b (inr (answer, e)) = ap (count_told (forged opens size)) e ∙ read_forgeries opens size a 1127 answer
 
@@ -92,16 +92,20 @@ reads_kept kept a b bytes reads k = (k.0, k.1, reads_configures k.0 bytes a b re
 -- ---- the record that is kept
 
 -- the versions of one record that is kept are those of any
+-- one state and one list have the record that is kept
+pub same_kept : (kept : Option (List ℕ)) (state other : PlainState) (list more : FileChanges) → KeepsRecord kept state list → KeepsRecord kept other more → (state ≡ other) × (list ≡ more)
+same_kept kept state other list more k l =
+    one_reading state other list more k.bytes k.is_record (subst (λ bytes. IsRecord other more bytes) (same_Some _ _ (sym l.kept ∙ k.kept)) l.is_record)
+
 pub are_known : (kept : Option (List ℕ)) (state : PlainState) (list : FileChanges) (version : List ℕ → ℕ) → IsLoaded kept state list → ((id : List ℕ) → version id ≡ version_in (fin.get state.lives id)) → AreKnown kept version
 are_known kept state list version l known = λ other more m id.
-    let same = one_reading state other list more l.has_record m.has_record (same_Some _ _ (sym l.kept ∙ m.kept)) in
-    known id ∙ ap (λ (s : PlainState). version_in (fin.get s.lives id)) same.0
+    known id ∙ ap (λ (s : PlainState). version_in (fin.get s.lives id)) (same_kept kept state other list more l.keeps m.keeps).0
 
 -- what stands under a configuration was opened by its record's salt
-pub stands_salt : (c : Settings) (salt : List ℕ) (state : PlainState) (list : FileChanges) (trace : Option (List Call)) (content : Content) → HasRecord state list
-    → Stands (identity_for c salt) (record_bytes state list) trace content → state.key_salt ≡ salt
-stands_salt c salt state list trace content has s =
-    ap (λ (p : PlainState). p.key_salt) (one_reading state s.held.state list s.held.list has s.has_record s.bytes).0 ∙ ap (λ (i : Identity). i.key_salt) s.same
+pub stands_salt : (c : Settings) (salt : List ℕ) (state : PlainState) (list : FileChanges) (kept : List ℕ) (trace : Option (List Call)) (content : Content) → IsRecord state list kept
+    → Stands (identity_for c salt) kept trace content → state.key_salt ≡ salt
+stands_salt c salt state list kept trace content is s =
+    ap (λ (p : PlainState). p.key_salt) (one_reading state s.held.state list s.held.list kept is s.is_record).0 ∙ ap (λ (i : Identity). i.key_salt) s.same
 
 -- ---- the configuration that was found
 
@@ -112,8 +116,8 @@ short_cut max answer bytes e short =
 
 pub only_unforged : (password : List ℕ) (kept : Option (List ℕ)) (old new : Option (List Call)) (c : Settings) → IsOnlyConfig password kept old new c → IsUnforgedConfig password kept old new c
 only_unforged password kept old new c o = record {
-  listed = λ state list bytes found cost has is at opens of. o.listed state list bytes found cost has is at opens;
-  given = λ state list before calls max bytes found cost has is none eo en opens of. o.given state list before calls max bytes found cost has is none eo en opens;
+  listed = λ state list bytes found cost keeps at opens of. o.listed state list bytes found cost keeps at opens;
+  given = λ state list before calls max bytes found cost keeps none eo en opens of. o.given state list before calls max bytes found cost keeps none eo en opens;
 }
 
 module _ {IsSo : PlainState → Settings → Type 0} (password : List ℕ) (kept : Option (List ℕ)) (state : PlainState) (list : FileChanges) (t0 read t1 : Option (List Call)) (o : Opened)
@@ -121,7 +125,7 @@ module _ {IsSo : PlainState → Settings → Type 0} (password : List ℕ) (kept
   in_list : (change : Option (List ℕ)) (answer : List ℕ) → change_at config list ≡ Some change → Some answer ≡ cut 1127 change → ConfigOf password answer (opened (settings_of o.config) o.params) → IsSo state (settings_of o.config)
   in_list None answer at is opens = absurd (none-some answer (sym is))
   in_list (Some bytes) answer at is opens =
-      each.listed state list bytes (settings_of o.config) o.params l.has_record l.kept at
+      each.listed state list bytes (settings_of o.config) o.params l.keeps at
       (subst (λ x. ConfigOf password x (opened (settings_of o.config) o.params)) (sym (short_cut 1127 answer bytes (same_Some _ _ is) (omega (arith, opens.0.size)))) opens)
 
   by_get : (answer : List ℕ) (t : Option (List Call)) → change_at config list ≡ None → t0 ≡ t → is_some t ≡ true → read ≡ adds t (got config 1127 (Some answer)) → ConfigOf password answer (opened (settings_of o.config) o.params)
@@ -129,7 +133,7 @@ module _ {IsSo : PlainState → Settings → Type 0} (password : List ℕ) (kept
   by_get answer None at e told is opens = absurd (true_is_false (sym told))
   by_get answer (Some before) at e told is opens =
       let after : GoesOn (Some (got config 1127 (Some answer) ∷ before)) t1 = subst (λ x. GoesOn x t1) is on in
-      each.given state list before after.0 1127 answer (settings_of o.config) o.params l.has_record l.kept at e after.1 opens
+      each.given state list before after.0 1127 answer (settings_of o.config) o.params l.keeps at e after.1 opens
 
   found_at : (w : Option (Option (List ℕ))) (answer : List ℕ) → change_at config list ≡ w → is_some t0 ≡ true → Gave w t0 read config 1127 (Some answer) → ConfigOf password answer (opened (settings_of o.config) o.params)
       → IsSo state (settings_of o.config)

@@ -3,8 +3,9 @@ use Rattle.std.specs.Prelude.{◌≡◌, ℕ, false, List, [], ◌++◌}
 use Rattle.std.specs.declared.option.Option.{Option}
 use Rattle.std.specs.declared.option.Option.TheVariants.{Some}
 use Rattle.sha2.specs.Sha256.{sha256}
+use Rattle.outside.specs.Changes.{FileChanges}
 use Rattle.aes_gcm.specs.Gcm.{opened_of}
-use Rattle.local_state.specs.Record.{PlainState, HasRecord, record_bytes}
+use Rattle.local_state.specs.Record.{PlainState, IsRecord}
 use Rattle.store_api.specs.Durables.{Identity}
 use Rattle.config_file.specs.Settings.{Settings}
 
@@ -12,8 +13,13 @@ use Rattle.config_file.specs.Settings.{Settings}
 abbrev pub identity_for : Settings → List ℕ → Identity
 identity_for c salt = record { marked = false; fs_id = c.fs_id; key_salt = salt; key_digest = sha256 (salt ++ c.key); size = c.block_size; opens = opened_of c.key }
 
+-- a record of this state with this list is kept, in any form that it may have
+pub record KeepsRecord (was : Option (List ℕ)) (state : PlainState) (list : FileChanges) : Type 0 where
+  pub bytes : List ℕ
+  pub kept : was ≡ Some bytes
+  pub is_record : IsRecord state list bytes
+
 -- a record with an empty list is kept
 pub record HasEmptyList (was : Option (List ℕ)) : Type 0 where
   pub state : PlainState
-  pub has_record : HasRecord state []
-  pub kept : was ≡ Some (record_bytes state [])
+  pub keeps : KeepsRecord was state []

@@ -57,7 +57,7 @@ CreateCause kept t0 t1 v0 v1 k0 k1 FaultDirectory = RoseBy 1 v0 v1
 CreateCause kept t0 t1 v0 v1 k0 k1 FaultState = RoseBy 1 k0 k1
 CreateCause kept t0 t1 v0 v1 k0 k1 error = ⊥
 
--- a store that holds nothing, of this configuration and salt; it is sound where no file was changed
+-- a store that holds nothing, of this configuration and salt, and takes the newest format alone; it is sound where no file was changed
 pub record IsNewStore {V : Type 0} (was : Option (List Call)) (failed : ℕ) (trace : V → Option (List Call)) (faults : V → ℕ) (c : Settings) (salt : List ℕ) (store : IntegrityStore V Cipher) : Type 0 where
   pub intact : (sealed_meanings trace faults).intact store
   pub same : sealed_trace trace store ≡ was
@@ -65,6 +65,7 @@ pub record IsNewStore {V : Type 0} (was : Option (List Call)) (failed : ℕ) (tr
   pub unused : (id : Id) → has_id ((sealed_holdings trace).used store) id ≡ false
   pub none : (id : Id) → (sealed_holdings trace).content store id ≡ None
   pub identity : (sealed_durables trace).identity store ≡ identity_for c salt
+  pub least : (sealed_durables trace).least store ≡ 2
   pub sound : IsUnchanged was → (sealed_meanings trace faults).sound store
 
 -- what may be answered where something is kept

@@ -7,7 +7,7 @@ use Rattle.sha2.specs.Sha256.{sha256}
 use Rattle.outside.specs.Causes.{RoseBy}
 use Rattle.outside.specs.Changes.{FileChanges, change_at}
 use Rattle.outside.specs.Trace.{Call, config, got, adds}
-use Rattle.local_state.specs.Record.{PlainState, record_bytes, HasRecord}
+use Rattle.local_state.specs.Record.{PlainState}
 use Rattle.redo_vault.specs.Redo.{Gave}
 use Rattle.held_blocks.specs.Stores.{version_in}
 use Rattle.config_file.specs.ConfigOf.{ConfigOf, opened, form, locked, inner}
@@ -16,14 +16,14 @@ use Rattle.config_file.specs.declared.config.Opened.{Opened}
 use Rattle.config_file.specs.declared.error.ConfigError.TheVariants as config_error
 use Rattle.session_saver.specs.declared.saver.SyncError.{SyncError}
 use Rattle.session_saver.specs.declared.saver.SyncError.TheVariants.{Memory as SyncMemory, FaultDirectory as SyncDirectory, FaultState as SyncState}
+use Rattle.mount_tower.specs.Identities.{KeepsRecord}
 use Rattle.mount_tower.specs.declared.error.OpenError.{OpenError}
 use Rattle.mount_tower.specs.declared.opening.TheConstants.{MAX_CONFIG}
 use Rattle.mount_tower.specs.declared.error.OpenError.TheVariants.{Memory, Mismatch, NoConfig, Config as OfConfig, FaultDirectory, FaultState}
 
--- the record of this state and list is kept, and no violation is marked in it
+-- a record of this state and list is kept, and no violation is marked in it
 pub record IsLoaded (was : Option (List ℕ)) (state : PlainState) (list : FileChanges) : Type 0 where
-  pub kept : was ≡ Some (record_bytes state list)
-  pub has_record : HasRecord state list
+  pub keeps : KeepsRecord was state list
   pub unmarked : state.marked ≡ false
 
 -- where a record without a violation is kept, these are the versions in it, and 0 for an id that it doesn't know
@@ -74,7 +74,7 @@ pub record IsMismatch (password : List ℕ) (state : PlainState) (list : FileCha
   pub kept_id : kept ≡ state.fs_id
   pub found_id : found ≡ o.config.fs_id.0
 
--- why a directory isn't opened by the record of this state and list
+-- why a directory isn't opened by a record of this state and list
 abbrev pub OpenCause : List ℕ → PlainState → FileChanges → Option (List Call) → Option (List Call) → ℕ → ℕ → OpenError → Type 0
 OpenCause password state list old new v0 v1 (Mismatch kept found) = IsMismatch password state list old new kept.0 found.0
 OpenCause password state list old new v0 v1 error = ConfigCause password list old new v0 v1 error

@@ -19,7 +19,7 @@ use Rattle.aes_gcm.specs.Gcm.{opened_of}
 -- ---- sealed blocks
 
 abbrev pub sealed_held : {V : Type 0} → IntegrityStore V Cipher → Held
-sealed_held s = held_by (λ cipher key text. opened_of key text) s
+sealed_held s = held_by (λ cipher key extra text. opened_of key extra text) s
 
 abbrev pub sealed_trace : {V : Type 0} → (V → Option (List Call)) → IntegrityStore V Cipher → Option (List Call)
 sealed_trace trace s = trace s.sealed.vault.vault

@@ -80,13 +80,14 @@ fn config_from(block_size: u32, draws: &Draws) -> Config
     }
 }
 
-/// A state that knows no block.
+/// A state that knows no block, and takes no file of the older format.
 fn new_state(alloc: Global, fs_id: [u8; 16], key_salt: [u8; 32], key_digest: [u8; 32]) -> State
     ensures record_ { HasRecord (plain_state result) [] }
-    ensures is { plain_state result ≡ record { marked = false; fs_id = fs_id; key_salt = key_salt; key_digest = key_digest; client = 1; lives = fin.empty } }
+    ensures is { plain_state result ≡ record { marked = false; least = 2; fs_id = fs_id; key_salt = key_salt; key_digest = key_digest; client = 1; lives = fin.empty } }
 {
     State {
         marked: false,
+        least: 2,
         fs_id: BlockId(fs_id),
         key_salt,
         key_digest,

@@ -1,8 +1,8 @@
 // Opening the store of a record.
-ghost use Rattle.std.specs.Prelude.{◌≡◌, ◌≢◌, ◌≤◌, ℕ, List, [], true, false, IfOk, IfErr, OnOk, OnErr};
+ghost use Rattle.std.specs.Prelude.{◌≡◌, ◌≢◌, ◌≤◌, ℕ, List, false, IfOk, IfErr, OnOk, OnErr};
 ghost use Rattle.std.specs.FinMap as fin;
 ghost use Rattle.outside.specs.View.{list_of};
-ghost use Rattle.local_state.specs.Record.{plain_state, record_bytes, HasRecord};
+ghost use Rattle.local_state.specs.Record.{plain_state, HasRecord, IsRecord};
 ghost use Rattle.store_api.specs.Content.{Content, SameContent};
 ghost use Rattle.store_api.specs.Holdings.{IsFew};
 ghost use Rattle.held_blocks.specs.Stores.{version_in};
@@ -10,7 +10,7 @@ ghost use Rattle.held_blocks.specs.Standing.{Stands as StandsFor};
 ghost use Rattle.config_file.specs.Settings.{settings_of, IsBlockSize};
 ghost use Rattle.mount_tower.specs.Opening.{OpenedConfig, IsOf, OpenCause, ReadsConfigOnce, ConfigCause};
 ghost use Rattle.mount_tower.specs.Identities.{identity_for};
-ghost use Rattle.mount_tower.specs.Tower.{trace_in, tower_meanings, tower_holdings, tower_durables};
+ghost use Rattle.mount_tower.specs.Tower.{held_in, trace_in, tower_meanings, tower_holdings, tower_durables};
 ghost use Rattle.std.specs.declared.result.Result.TheVariants.{Err};
 
 use crate::error::OpenError;
@@ -97,11 +97,10 @@ pub fn open_store<V: Vault>(
     ensures found { IfOk result (λ o. OpenedConfig password.now (list_of list.items) (V.trace vault) (trace_in V.trace o.store) o.opened) }
     ensures is_of { IfOk result (λ o. IsOf (plain_state state) (settings_of o.opened.config)) }
     ensures list { IfOk result (λ o. (tower_durables V.trace).list o.store ≡ list_of list.items) }
-    ensures record_of { IfOk result (λ o. (tower_durables V.trace).local_record_of o.store true ≡ record_bytes (plain_state state) (list_of list.items)) }
-    ensures short { IfOk result (λ o. (tower_durables V.trace).local_record_of o.store false ≡ record_bytes (plain_state state) []) }
+    ensures state { IfOk result (λ o. (held_in o.store).state ≡ plain_state state) }
     ensures identity { IfOk result (λ o. (tower_durables V.trace).identity o.store ≡ identity_for (settings_of o.opened.config) state.key_salt) }
-    ensures stands { IfOk result (λ o. (salt : List ℕ) (content : Content)
-        → StandsFor (identity_for (settings_of o.opened.config) salt) (record_bytes (plain_state state) (list_of list.items)) (V.trace vault) content
+    ensures stands { IfOk result (λ o. (salt : List ℕ) (content : Content) (kept : List ℕ) → IsRecord (plain_state state) (list_of list.items) kept
+        → StandsFor (identity_for (settings_of o.opened.config) salt) kept (V.trace vault) content
         → (tower_meanings V.trace V.faults).sound o.store × SameContent content ((tower_holdings V.trace).content o.store)) }
     ensures version { IfOk result (λ o. (id : List ℕ) → (tower_holdings V.trace).version o.store id ≡ version_in (fin.get (plain_state state).lives id)) }
     ensures reads { IfOk result (λ o. ReadsConfigOnce (V.trace vault) (trace_in V.trace o.store)) }

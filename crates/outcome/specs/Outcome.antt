@@ -5,7 +5,7 @@ use Rattle.std.proofs.Common.{arith, ◌∙◌}
 use Rattle.block_id.specs.declared.fail.Fail.{Fail}
 use Rattle.block_id.specs.declared.fail.Fail.TheVariants.{Memory, Fault, Violation}
 use Rattle.block_id.specs.declared.fail.Why.{Why}
-use Rattle.block_id.specs.declared.fail.Why.TheVariants.{Missing, BadLength, BadPrefix, NotOpened, BadRecord, WrongId, ForeignClient, OldVersion, AheadVersion, Structure}
+use Rattle.block_id.specs.declared.fail.Why.TheVariants.{Missing, BadLength, BadPrefix, OldFormat, NotOpened, BadRecord, WrongId, ForeignClient, OldVersion, AheadVersion, Structure}
 use Rattle.outside.specs.Causes.{RoseBy}
 use Rattle.outcome.specs.Meanings.{Meanings, Lawful, OnVerdict, IsCalm, IsOfBlocks, HasCause, UnlessFault, IsQuiet}
 
@@ -27,6 +27,7 @@ on_verdict Fault P Q f h = tt
 on_verdict (Violation Missing) P Q f h = f _ h
 on_verdict (Violation BadLength) P Q f h = f _ h
 on_verdict (Violation BadPrefix) P Q f h = f _ h
+on_verdict (Violation OldFormat) P Q f h = f _ h
 on_verdict (Violation NotOpened) P Q f h = f _ h
 on_verdict (Violation BadRecord) P Q f h = f _ h
 on_verdict (Violation (WrongId i)) P Q f h = f _ h
@@ -136,6 +137,7 @@ calm laws a b Fault l s h met f = tt
 calm laws a b (Violation Missing) l s h met f = laws.honest_unmet a b _ l s h met
 calm laws a b (Violation BadLength) l s h met f = laws.honest_unmet a b _ l s h met
 calm laws a b (Violation BadPrefix) l s h met f = laws.honest_unmet a b _ l s h met
+calm laws a b (Violation OldFormat) l s h met f = laws.honest_unmet a b _ l s h met
 calm laws a b (Violation NotOpened) l s h met f = laws.honest_unmet a b _ l s h met
 calm laws a b (Violation BadRecord) l s h met f = laws.honest_unmet a b _ l s h met
 calm laws a b (Violation (WrongId i)) l s h met f = laws.honest_unmet a b _ l s h met

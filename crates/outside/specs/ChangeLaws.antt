@@ -40,16 +40,16 @@ is_before Less h = refl
 is_before Equal h = absurd (cc)
 is_before Greater h = absurd (cc)
 
-front : (a b : Bool) → IsTrue (a && b) → IsTrue a
+pub front : (a b : Bool) → IsTrue (a && b) → IsTrue a
 front true b h = refl
 front false b h = absurd (cc)
 
-rest : (a b : Bool) → IsTrue (a && b) → IsTrue b
+pub rest : (a b : Bool) → IsTrue (a && b) → IsTrue b
 rest true b h = h
 rest false b h = absurd (cc)
 
 -- a name below all of a list isn't in it
-not_in : (name : At) (list : FileChanges) → IsTrue (below_all at_cmp name list) → change_at name list ≡ None
+pub not_in : (name : At) (list : FileChanges) → IsTrue (below_all at_cmp name list) → change_at name list ≡ None
 not_in name [] h = refl
 not_in name (e ∷ list) h =
     ap (λ b. cond b (Some e.1) (change_at name list)) (is_before (at_cmp name e.0) (front (is_lt (at_cmp name e.0)) (below_all at_cmp name list) h))

@@ -10,4 +10,5 @@ pub mod Names
 pub mod Streams
 pub mod Trace
 pub mod View
+pub mod WriteLaws
 pub mod Writes

@@ -1,5 +1,5 @@
 // What a sealer does.
-ghost use Rattle.std.specs.Prelude.{◌≡◌, ◌≤◌, ◌+◌, List, ℕ, length, IfOk, OnOk, OnErr};
+ghost use Rattle.std.specs.Prelude.{◌≡◌, ◌≤◌, ◌+◌, List, [], ℕ, length, IfOk, OnOk, OnErr};
 ghost use Rattle.std.specs.declared.option.Option.{Option};
 ghost use Rattle.std.specs.declared.option.Option.TheVariants.{Some};
 ghost use Rattle.std.specs.Option.{option_map};
@@ -13,30 +13,65 @@ pub trait Sealer {
     /// How many bytes an IV has.
     ghost iv_size: { Self → ℕ };
 
-    /// The plaintext that a text opens to under a key, if it opens.
-    ghost opens: { Self → List ℕ → List ℕ → Option (List ℕ) };
+    /// The plaintext that a text opens to under a key with some extra bytes, if it opens.
+    ghost opens: { Self → List ℕ → List ℕ → List ℕ → Option (List ℕ) };
 
     /// How many bytes an IV has.
     fn iv_len(&self) -> usize
         ensures value { result ≡ iv_size self.now }
         ensures bound { result ≤ max_len };
 
-    /// Appends the sealed plaintext to `out`: the IV, then what hides and protects the plaintext.
+    /// Appends the sealed plaintext to `out`: the IV, then what hides and protects the plaintext, and protects the extra bytes,
+    /// which aren't in it.
+    fn seal_with(
+        &self,
+        key: &[u8; 32],
+        iv: &[u8],
+        extra: &[u8],
+        plain: &[u8],
+        out: &mut Vec<u8>,
+    ) -> Result<(), Memory>
+        requires iv { length iv.now ≡ iv_size self.now }
+        requires extra { length extra.now ≤ max_len }
+        requires plain { length plain.now ≤ max_len }
+        ensures ok { OnOk result (AppendsSealed (opens self.now key.now extra.now) iv.now plain.now out.old.items out.new.items) }
+        ensures err { OnErr result (out.new.items ≡ out.old.items) };
+
+    /// The plaintext of a sealed text, or None where it doesn't open under this key with these extra bytes.
+    fn unseal_with(
+        &self,
+        alloc: Global,
+        key: &[u8; 32],
+        extra: &[u8],
+        sealed: &[u8],
+    ) -> Result<Option<Vec<u8>>, Memory>
+        ensures { IfOk result (λ answer. option_map (λ plain. plain.items) answer ≡ opens self.now key.now extra.now sealed.now) };
+
+    /// The same with no extra bytes.
     fn seal(&self, key: &[u8; 32], iv: &[u8], plain: &[u8], out: &mut Vec<u8>) -> Result<(), Memory>
         requires iv { length iv.now ≡ iv_size self.now }
         requires plain { length plain.now ≤ max_len }
-        ensures ok { OnOk result (AppendsSealed (opens self.now key.now) iv.now plain.now out.old.items out.new.items) }
-        ensures err { OnErr result (out.new.items ≡ out.old.items) };
+        ensures ok { OnOk result (AppendsSealed (opens self.now key.now []) iv.now plain.now out.old.items out.new.items) }
+        ensures err { OnErr result (out.new.items ≡ out.old.items) }
+    {
+        self.seal_with(key, iv, &[], plain, out)
+    }
 
-    /// The plaintext of a sealed text, or None where it doesn't open under this key.
+    /// The same with no extra bytes.
     fn unseal(
         &self,
         alloc: Global,
         key: &[u8; 32],
         sealed: &[u8],
     ) -> Result<Option<Vec<u8>>, Memory>
-        ensures { IfOk result (λ answer. option_map (λ plain. plain.items) answer ≡ opens self.now key.now sealed.now) };
+        ensures { IfOk result (λ answer. option_map (λ plain. plain.items) answer ≡ opens self.now key.now [] sealed.now) }
+    {
+        self.unseal_with(alloc, key, &[], sealed)
+    }
 
     /// A text that opens has 16 bytes more than its IV and its plaintext.
-    ghost lengths: { (s : Self) (key text plain : List ℕ) → opens s key text ≡ Some plain → length text ≡ iv_size s + length plain + 16 };
+    ghost lengths: { (s : Self) (key extra text plain : List ℕ) → opens s key extra text ≡ Some plain → length text ≡ iv_size s + length plain + 16 };
+
+    /// A text that opens with two extras gives one plaintext.
+    ghost agrees: { (s : Self) (key extra other text plain again : List ℕ) → opens s key extra text ≡ Some plain → opens s key other text ≡ Some again → plain ≡ again };
 }

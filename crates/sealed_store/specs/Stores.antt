@@ -5,14 +5,15 @@ use Rattle.block_id.specs.declared.sizes.TheConstants.{MIN_BLOCK, MAX_BLOCK}
 use Rattle.outside.specs.Trace.{Call, block}
 use Rattle.redo_vault.specs.Redo.{Gave}
 use Rattle.sealed_store.specs.declared.seen.Seen.{Seen}
-use Rattle.sealed_store.specs.declared.seen.Seen.TheVariants.{Absent, BadLength, BadPrefix, NotOpened, Plain}
+use Rattle.sealed_store.specs.declared.seen.Seen.TheVariants.{Absent, BadLength, BadPrefix, OldFormat, NotOpened, Plain}
 use Rattle.sealed_store.specs.declared.sealed_store.SealedStore.{SealedStore}
-use Rattle.sealed_store.specs.BlockFiles.{SeenFile, absent, bad_length, bad_prefix, not_opened, plain, seen_file_in}
+use Rattle.sealed_store.specs.BlockFiles.{SeenFile, absent, bad_length, bad_prefix, old_format, not_opened, plain, seen_file_in}
 
 abbrev pub seen_file_of : Seen → SeenFile
 seen_file_of Absent = absent
 seen_file_of BadLength = bad_length
 seen_file_of BadPrefix = bad_prefix
+seen_file_of OldFormat = old_format
 seen_file_of NotOpened = not_opened
 seen_file_of (Plain bytes) = plain bytes.items
 
@@ -33,7 +34,7 @@ abbrev pub cipher_of : {V C : Type 0} → SealedStore V C → C
 cipher_of s = s.cipher
 
 -- The file of a block, by what the list says of it or else by one call, was asked for with one byte more than a file has; it is seen so.
-pub record Sees (opens : List ℕ → Option (List ℕ)) (block_size : ℕ) (change : Option (Option (List ℕ))) (old new : Option (List Call)) (id : List ℕ) (sight : SeenFile) : Type 0 where
+pub record Sees (opens : List ℕ → List ℕ → Option (List ℕ)) (block_size least : ℕ) (change : Option (Option (List ℕ))) (old new : Option (List Call)) (id : List ℕ) (sight : SeenFile) : Type 0 where
   pub answer : Option (List ℕ)
   pub gave : Gave change old new (block id) (block_size + 1) answer
-  pub shows : sight ≡ seen_file_in opens block_size answer
+  pub shows : sight ≡ seen_file_in opens block_size least id answer

@@ -1,5 +1,5 @@
 -- What is kept, and what it stands for, after the steps of a sync.
-use Rattle.std.proofs.Common.{◌≡◌, ◌⊎◌, ◌<◌, ◌≤◌, ℕ, Bool, true, false, List, [], length, Option, Some, refl, sym, ◌∙◌, ap, subst, inl, inr, arith}
+use Rattle.std.proofs.Common.{◌≡◌, ◌⊎◌, ◌≤◌, ℕ, Bool, true, false, List, [], length, Option, Some, refl, sym, ◌∙◌, ap, subst, inl, inr, arith}
 use Rattle.std.specs.Prelude.{Result, Ok, Err, IsErrOf}
 use Rattle.outcome.specs.Meanings.{Meanings}
 use Rattle.outside.specs.Causes.{RoseBy}
@@ -7,7 +7,7 @@ use Rattle.outside.specs.Going.{GoesOn, goes_on_same, goes_on_writes}
 use Rattle.outside.specs.Writes.{after_writes}
 use Rattle.outside.specs.declared.keeper.Keeper.{Ghosts as KeeperGhosts}
 use Rattle.store_api.specs.Content.{Content, Changes, SameContent}
-use Rattle.store_api.specs.Durables.{Identity, Durables, Records, Enduring, mark_place, with_mark}
+use Rattle.store_api.specs.Durables.{Identity, Durables, Records, Enduring}
 use Rattle.store_api.specs.Holdings.{Holdings, Stays}
 use Rattle.session_saver.specs.Saving.{RepresentsContent, KeptConfigures, Whole, CanMark, IsRecordOf, Unmoved, Saved, SavedConfig, LastAfterLong, UnlessDirectory, UnlessState, world, Leaves, Moves, Finishes, Syncs}
 use Rattle.session_saver.specs.declared.saver.Saver.{Saver}
@@ -62,9 +62,13 @@ kept_or_new kept mid old bytes new (inl same) e n = inl (same ∙ e)
 kept_or_new kept mid old bytes new (inr is) e n = inr (is ∙ ap Some n)
 
 -- what was kept is the long record, and stays kept or the short one is
-pub kept_record : {S : Type 0} (D : Durables S) (store : S) (kept old : Option (List ℕ)) (bytes : List ℕ) → (kept ≡ old) ⊎ (kept ≡ Some bytes) → old ≡ Some (D.local_record_of store true) → bytes ≡ D.local_record_of store false → IsRecordOf D store kept
-kept_record D store kept old bytes (inl same) long short = inl (same ∙ long)
-kept_record D store kept old bytes (inr new) long short = inr (new ∙ ap Some short)
+pub kept_either : (kept old : Option (List ℕ)) (last bytes short : List ℕ) → (kept ≡ old) ⊎ (kept ≡ Some bytes) → old ≡ Some last → bytes ≡ short → (kept ≡ Some last) ⊎ (kept ≡ Some short)
+kept_either kept old last bytes short (inl same) long is = inl (same ∙ long)
+kept_either kept old last bytes short (inr new) long is = inr (new ∙ ap Some is)
+
+pub kept_record : {S : Type 0} (D : Durables S) (store : S) (kept : Option (List ℕ)) (last short : List ℕ) → (kept ≡ Some last) ⊎ (kept ≡ Some short) → D.is_record store true last → D.is_record store false short → IsRecordOf D store kept
+kept_record D store kept last short (inl is) long also = (last, true, is, long)
+kept_record D store kept last short (inr is) long also = (short, false, is, also)
 
 -- one of two records is kept, which both have this
 pub of_either : (P : List ℕ → Type 0) (kept : Option (List ℕ)) (long short : List ℕ) → (kept ≡ Some long) ⊎ (kept ≡ Some short) → P long → P short → (bytes : List ℕ) × (kept ≡ Some bytes) × P bytes
@@ -72,11 +76,20 @@ of_either P kept long short (inl is) l s = (long, is, l)
 of_either P kept long short (inr is) l s = (short, is, s)
 
 module _ {S : Type 0} {K : Type 0} (M : Meanings S) (H : Holdings S) (D : Durables S) (R : Records) (G : KeeperGhosts K) where
-  pub may_mark : (applied : S → S → Changes → Type 0) → Enduring M H applied D R → (saver : Saver K) (store : S) (with_list : Bool) → M.intact store → saver.last.items ≡ D.local_record_of store with_list → CanMark R saver
-  may_mark applied endures saver store with_list intact last = record {
-    marks = subst (λ bytes. R.marked (with_mark bytes)) (sym last) (endures.marked store with_list intact);
-    long = subst (λ bytes. mark_place < length bytes) (sym last) (endures.long store with_list intact);
+  pub may_mark : (applied : S → S → Changes → Type 0) → Enduring M H applied D R → (saver : Saver K) (store : S) (with_list : Bool) → D.is_record store with_list saver.last.items → CanMark R saver
+  may_mark applied endures saver store with_list is = record {
+    marks = endures.marked store with_list saver.last.items is;
+    long = endures.long store with_list saver.last.items is;
   }
+
+  -- what is written now is a record, where what was handed in is what is written
+  pub written_is : (applied : S → S → Changes → Type 0) → Enduring M H applied D R → (store : S) (with_list : Bool) (bytes : List ℕ) → M.intact store → bytes ≡ D.local_record_of store with_list → D.is_record store with_list bytes
+  written_is applied endures store with_list bytes intact is = subst (D.is_record store with_list) (sym is) (endures.written store with_list intact)
+
+  -- all records with the list say the same of the configuration's file
+  pub any_configures : (applied : S → S → Changes → Type 0) → Enduring M H applied D R → (store : S) (kept other bytes : List ℕ) → D.is_record store true kept → D.is_record store true other
+      → R.configures kept (D.trace store) bytes → R.configures other (D.trace store) bytes
+  any_configures applied endures store kept other bytes is also said = endures.configures_now store other bytes also (endures.configured_now store kept bytes is said)
 
   -- something changed
   pub whole_changed : (saver : Saver K) (store : S) → saver.changed ≡ true → Whole D G saver store
@@ -86,29 +99,27 @@ module _ {S : Type 0} {K : Type 0} (M : Meanings S) (H : Holdings S) (D : Durabl
   goes_on_written before after writes = subst (λ t. GoesOn (D.trace before) t) (sym writes) (goes_on_writes (D.list before) (D.trace before))
 
   -- before anything is written
-  pub unwritten_stands : (applied : S → S → Changes → Type 0) → Enduring M H applied D R → (store : S) (now : Content) → M.intact store → M.sound store → (D.identity store).marked ≡ false → SameContent now (H.content store)
-      → R.stands (D.identity store) (D.local_record_of store true) (D.trace store) now
-  unwritten_stands applied endures store now intact sound unmarked same =
-      endures.stands_same (D.identity store) (D.local_record_of store true) (D.trace store) (H.content store) now (λ id. sym (same id)) (endures.stands_now store intact sound unmarked)
+  pub unwritten_stands : (applied : S → S → Changes → Type 0) → Enduring M H applied D R → (store : S) (kept : List ℕ) (now : Content) → M.intact store → M.sound store → (D.identity store).marked ≡ false → D.is_record store true kept
+      → SameContent now (H.content store) → R.stands (D.identity store) kept (D.trace store) now
+  unwritten_stands applied endures store kept now intact sound unmarked is same =
+      endures.stands_same (D.identity store) kept (D.trace store) (H.content store) now (λ id. sym (same id)) (endures.stands_now store kept intact sound unmarked is)
 
-  -- the long record, while the list is written
-  pub long_stands : (applied : S → S → Changes → Type 0) → Enduring M H applied D R → (before after : S) (now : Content) → D.identity after ≡ D.identity before → SameContent now (H.content before)
-      → R.stands (D.identity before) (D.local_record_of before true) (D.trace after) (H.content before) → R.stands (D.identity after) (D.local_record_of before true) (D.trace after) now
-  long_stands applied endures before after now identity same stands =
-      subst (λ i. R.stands i (D.local_record_of before true) (D.trace after) now) (sym identity)
-      (endures.stands_same (D.identity before) (D.local_record_of before true) (D.trace after) (H.content before) now (λ id. sym (same id)) stands)
+  -- a long record, while the list is written
+  pub long_stands : (applied : S → S → Changes → Type 0) → Enduring M H applied D R → (before after : S) (kept : List ℕ) (now : Content) → D.identity after ≡ D.identity before → SameContent now (H.content before)
+      → R.stands (D.identity before) kept (D.trace after) (H.content before) → R.stands (D.identity after) kept (D.trace after) now
+  long_stands applied endures before after kept now identity same stands =
+      subst (λ i. R.stands i kept (D.trace after) now) (sym identity) (endures.stands_same (D.identity before) kept (D.trace after) (H.content before) now (λ id. sym (same id)) stands)
 
-  -- the short record, once nothing waits
-  pub short_stands : (applied : S → S → Changes → Type 0) → Enduring M H applied D R → (before after : S) (now : Content) → M.intact after → M.sound after → (D.identity before).marked ≡ false → D.identity after ≡ D.identity before
-      → D.list after ≡ [] → D.local_record_of after false ≡ D.local_record_of before false → SameContent (H.content before) (H.content after) → SameContent now (H.content before)
-      → R.stands (D.identity after) (D.local_record_of before false) (D.trace after) now
-  short_stands applied endures before after now intact sound unmarked identity none empty content same =
-      subst (λ bytes. R.stands (D.identity after) bytes (D.trace after) now) (endures.nothing_waits after none ∙ empty)
-      (unwritten_stands applied endures after now intact sound (ap (λ (i : Identity). i.marked) identity ∙ unmarked) (λ id. content id ∙ same id))
+  -- a short record, once nothing waits
+  pub short_stands : (applied : S → S → Changes → Type 0) → Enduring M H applied D R → (before after : S) (short : List ℕ) (now : Content) → M.intact after → M.sound after → (D.identity before).marked ≡ false → D.identity after ≡ D.identity before
+      → D.list after ≡ [] → D.is_record after false short → SameContent (H.content before) (H.content after) → SameContent now (H.content before) → R.stands (D.identity after) short (D.trace after) now
+  short_stands applied endures before after short now intact sound unmarked identity none is content same =
+      unwritten_stands applied endures after short now intact sound (ap (λ (i : Identity). i.marked) identity ∙ unmarked) (endures.same_record after short none is) (λ id. content id ∙ same id)
 
-  pub short_configures : (applied : S → S → Changes → Type 0) → Enduring M H applied D R → (before after : S) (bytes : List ℕ) → D.list after ≡ [] → D.local_record_of after false ≡ D.local_record_of before false
-      → R.configures (D.local_record_of after true) (D.trace after) bytes → R.configures (D.local_record_of before false) (D.trace after) bytes
-  short_configures applied endures before after bytes none empty = subst (λ kept. R.configures kept (D.trace after) bytes) (endures.nothing_waits after none ∙ empty)
+  pub short_configures : (applied : S → S → Changes → Type 0) → Enduring M H applied D R → (store : S) (short bytes : List ℕ) → M.intact store → D.list store ≡ [] → D.is_record store false short
+      → R.configures (D.local_record_of store true) (D.trace store) bytes → R.configures short (D.trace store) bytes
+  short_configures applied endures store short bytes intact none is =
+      any_configures applied endures store (D.local_record_of store true) short bytes (endures.written store true intact) (endures.same_record store short none is)
 
   -- ---- what a sync kept
 
@@ -126,9 +137,9 @@ module _ {S : Type 0} {K : Type 0} (M : Meanings S) (H : Holdings S) (D : Durabl
   failed_save P old new store (inl same) h = inl (record { kept = same; trace = refl })
   failed_save P old new store (inr is) h = inr (D.local_record_of store true, is, h)
 
-  pub kept_or_record : (store : S) (kept old : Option (List ℕ)) → (kept ≡ old) ⊎ (kept ≡ Some (D.local_record_of store true)) → (kept ≡ old) ⊎ IsRecordOf D store kept
-  kept_or_record store kept old (inl same) = inl same
-  kept_or_record store kept old (inr is) = inr (inl is)
+  pub kept_or_record : (store : S) (kept old : Option (List ℕ)) → D.is_record store true (D.local_record_of store true) → (kept ≡ old) ⊎ (kept ≡ Some (D.local_record_of store true)) → (kept ≡ old) ⊎ IsRecordOf D store kept
+  kept_or_record store kept old long (inl same) = inl same
+  kept_or_record store kept old long (inr is) = inr (D.local_record_of store true, true, is, long)
 
   -- ---- whole calls
 
@@ -137,6 +148,7 @@ module _ {S : Type 0} {K : Type 0} (M : Meanings S) (H : Holdings S) (D : Durabl
       → (IsErrOf result FaultState → RoseBy 1 (G.faults k) (G.faults l)) → UnlessState result (G.faults l ≡ G.faults k) → Leaves (world M H D R G) a k a l result
   leaves_same a k l result grows none still rose quiet = record {
     identity = refl;
+    least = refl;
     stays = stays_same H a;
     sound = λ sound. sound;
     goes_on = goes_on_same (D.trace a);
@@ -158,6 +170,7 @@ module _ {S : Type 0} {K : Type 0} (M : Meanings S) (H : Holdings S) (D : Durabl
   pub leaves_since : (a b : S) (k m l : K) (result : Result Unit SyncError) → G.faults m ≡ G.faults k → Leaves (world M H D R G) a m b l result → Leaves (world M H D R G) a k b l result
   leaves_since a b k m l result calm z = record {
     identity = z.identity;
+    least = z.least;
     stays = z.stays;
     sound = z.sound;
     goes_on = z.goes_on;
@@ -186,8 +199,9 @@ module _ {S : Type 0} {K : Type 0} (M : Meanings S) (H : Holdings S) (D : Durabl
   }
 
   -- an error before the directory was called
-  pub moves_stopped : (old new : Saver K) (a : S) (e : SyncError) → M.intact a → length new.last.items ≤ G.room new.keeper → new.changed ≡ true → Leaves (world M H D R G) a old.keeper a new.keeper (Err e) → Moves (world M H D R G) old a new a (Err e)
-  moves_stopped old new a e intact room changed leaves = record {
+  pub moves_stopped : (applied : S → S → Changes → Type 0) → Enduring M H applied D R → (old new : Saver K) (a : S) (e : SyncError) → M.intact a → length new.last.items ≤ G.room new.keeper → new.changed ≡ true → Leaves (world M H D R G) a old.keeper a new.keeper (Err e)
+      → Moves (world M H D R G) old a new a (Err e)
+  moves_stopped applied endures old new a e intact room changed leaves = record {
     leaves = leaves;
     intact = intact;
     room = room;
@@ -196,44 +210,55 @@ module _ {S : Type 0} {K : Type 0} (M : Meanings S) (H : Holdings S) (D : Durabl
     err = changed;
     writes = tt;
     wrote = inl refl;
-    waiting = λ bytes h. h;
-    present = λ bytes told h. h;
+    waiting = λ kept bytes is h. h;
+    present = λ kept bytes told is h. any_configures applied endures a kept (D.local_record_of a true) bytes is (endures.written a true intact) h;
   }
 
   -- want of memory before the first call
-  pub moves_memory : (old : Saver K) (keeper : K) (a : S) → M.intact a → length old.last.items ≤ G.room old.keeper → old.changed ≡ true → G.room old.keeper ≤ G.room keeper → G.faults keeper ≡ G.faults old.keeper
+  pub moves_memory : (applied : S → S → Changes → Type 0) → Enduring M H applied D R → (old : Saver K) (keeper : K) (a : S) → M.intact a → length old.last.items ≤ G.room old.keeper → old.changed ≡ true → G.room old.keeper ≤ G.room keeper → G.faults keeper ≡ G.faults old.keeper
       → Moves (world M H D R G) old a (record old { keeper = keeper }) a (Err Memory)
-  moves_memory old keeper a intact fits changed room calm = moves_stopped old (record old { keeper = keeper }) a Memory intact (omega (arith, fits, room)) changed (leaves_memory a old.keeper keeper calm)
+  moves_memory applied endures old keeper a intact fits changed room calm = moves_stopped applied endures old (record old { keeper = keeper }) a Memory intact (omega (arith, fits, room)) changed (leaves_memory a old.keeper keeper calm)
 
-  -- the long record stays
-  pub finishes_long : (applied : S → S → Changes → Type 0) → Enduring M H applied D R → (new : Saver K) (a b : S) (result : Result Unit SyncError) → M.intact a → new.last.items ≡ D.local_record_of a true
-      → G.kept new.keeper ≡ Some (D.local_record_of a true) → LastAfterLong D G a new result → D.identity b ≡ D.identity a → ((bytes : List ℕ) → R.configures (D.local_record_of a true) (D.trace a) bytes → R.configures (D.local_record_of a true) (D.trace b) bytes)
-      → (M.sound a → (D.identity a).marked ≡ false → R.stands (D.identity a) (D.local_record_of a true) (D.trace b) (H.content a)) → Finishes (world M H D R G) a new b result
-  finishes_long applied endures new a b result intact last kept after identity waiting stands = record {
-    stands = λ now sound unmarked same. (D.local_record_of a true, kept, long_stands applied endures a b now identity same (stands sound unmarked));
-    configures = λ bytes told h. (D.local_record_of a true, kept, waiting bytes h);
+  -- a long record stays
+  pub finishes_long : (applied : S → S → Changes → Type 0) → Enduring M H applied D R → (old new : Saver K) (a b : S) (result : Result Unit SyncError) → G.kept new.keeper ≡ G.kept old.keeper → D.is_record a true new.last.items → G.kept new.keeper ≡ Some new.last.items → LastAfterLong D G a new result
+      → D.identity b ≡ D.identity a → ((kept bytes : List ℕ) → D.is_record a true kept → R.configures kept (D.trace a) bytes → R.configures kept (D.trace b) bytes)
+      → ((kept : List ℕ) → M.sound a → (D.identity a).marked ≡ false → D.is_record a true kept → R.stands (D.identity a) kept (D.trace b) (H.content a)) → Finishes (world M H D R G) old a new b result
+  finishes_long applied endures old new a b result same last kept after identity waiting stands = record {
+    stands = λ now sound unmarked is. (new.last.items, kept, long_stands applied endures a b new.last.items now identity is (stands new.last.items sound unmarked last));
+    configures = λ k bytes told is h. (new.last.items, kept, waiting new.last.items bytes last (any_configures applied endures a k new.last.items bytes is last h));
     last = after;
-    keeps = inl kept;
-    can_mark = may_mark applied endures new a true intact last;
+    keeps = inl same;
+    can_mark = may_mark applied endures new a true last;
+  }
+
+  -- what is kept had been the same before
+  pub finishes_since : (old mid new : Saver K) (a b : S) (result : Result Unit SyncError) → G.kept mid.keeper ≡ G.kept old.keeper → Finishes (world M H D R G) mid a new b result → Finishes (world M H D R G) old a new b result
+  finishes_since old mid new a b result same z = record {
+    stands = z.stands;
+    configures = z.configures;
+    last = z.last;
+    keeps = elim z.keeps [ inl stays ↦ inl (stays ∙ same) | inr short ↦ inr short ];
+    can_mark = z.can_mark;
   }
 
   pub syncs_memory : (old : Saver K) (keeper : K) (a : S) → old.changed ≡ true → G.kept keeper ≡ G.kept old.keeper → Syncs (world M H D R G) old a (record old { keeper = keeper }) a (Err Memory)
   syncs_memory old keeper a changed kept = record {
     unchanged = λ e. absurd (true_is_false (sym changed ∙ e));
     stands = λ now sound unmarked same. inl (record { kept = kept; trace = refl });
-    configures = λ bytes told h. inl (record { kept = kept; trace = refl });
+    configures = λ k bytes told is h. inl (record { kept = kept; trace = refl });
     last = inl (refl, refl, kept);
     keeps = inl kept;
     can_mark = λ can. record { marks = can.marks; long = can.long };
   }
 
   -- the later two steps after the first
-  pub syncs_on : (old new : Saver K) (a b : S) (result : Result Unit SyncError) → old.changed ≡ true → Finishes (world M H D R G) a new b result → Syncs (world M H D R G) old a new b result
-  syncs_on old new a b result changed z = record {
+  pub syncs_on : (old mid new : Saver K) (a b : S) (long : List ℕ) (result : Result Unit SyncError) → old.changed ≡ true → G.kept mid.keeper ≡ Some long → D.is_record a true long → Finishes (world M H D R G) mid a new b result
+      → Syncs (world M H D R G) old a new b result
+  syncs_on old mid new a b long result changed kept is z = record {
     unchanged = λ e. absurd (true_is_false (sym changed ∙ e));
     stands = λ now sound unmarked same. saved old new a b now result (z.stands now sound unmarked same);
-    configures = λ bytes told h. saved_config old new a b bytes result (z.configures bytes told h);
+    configures = λ k bytes told also h. saved_config old new a b bytes result (z.configures k bytes told also h);
     last = inr z.last;
-    keeps = inr z.keeps;
+    keeps = inr (elim z.keeps [ inl stays ↦ (long, true, stays ∙ kept, is) | inr short ↦ (short.0, false, short.1, short.2) ]);
     can_mark = λ can. z.can_mark;
   }

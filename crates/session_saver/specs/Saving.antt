@@ -1,5 +1,5 @@
 -- A store's record at a keeper: what is kept, and what a sync makes of it.
-use Rattle.std.specs.Prelude.{◌≡◌, ◌⊎◌, ◌<◌, ◌≤◌, ℕ, true, false, List, [], length, Result, IsErrOf, IsOk, OnOk, OnErr}
+use Rattle.std.specs.Prelude.{◌≡◌, ◌⊎◌, ◌<◌, ◌≤◌, ℕ, Bool, true, false, List, [], length, Result, IsErrOf, IsOk, OnOk, OnErr}
 use Rattle.std.specs.declared.option.Option.{Option}
 use Rattle.std.specs.declared.option.Option.TheVariants.{Some}
 use Rattle.std.specs.declared.result.Result.TheVariants.{Ok, Err}
@@ -20,14 +20,18 @@ use Rattle.session_saver.specs.declared.saver.SyncError.TheVariants.{Memory, Fau
 abbrev pub RepresentsContent : Records → Identity → Option (List ℕ) → Option (List Call) → Content → Type 0
 RepresentsContent R identity kept trace content = (bytes : List ℕ) × (kept ≡ Some bytes) × R.stands identity bytes trace content
 
+-- a record of this store with an empty list is kept
+abbrev pub KeepsEmpty : {S : Type 0} → Durables S → S → Option (List ℕ) → Type 0
+KeepsEmpty D store kept = (bytes : List ℕ) × (kept ≡ Some bytes) × D.is_record store false bytes
+
 -- by what is kept and the trace, the configuration's file holds these bytes
 abbrev pub KeptConfigures : Records → Option (List ℕ) → Option (List Call) → List ℕ → Type 0
 KeptConfigures R kept trace bytes = (record_ : List ℕ) × (kept ≡ Some record_) × R.configures record_ trace bytes
 
--- where nothing changed since, the record with an empty list is kept, it was the last that was given, and nothing waits
+-- where nothing changed since, the last record that was given is kept, it is one with an empty list, and nothing waits
 pub record Whole {S : Type 0} {K : Type 0} (D : Durables S) (G : KeeperGhosts K) (saver : Saver K) (store : S) : Type 0 where
-  pub kept : saver.changed ≡ false → G.kept saver.keeper ≡ Some (D.local_record_of store false)
-  pub last : saver.changed ≡ false → saver.last.items ≡ D.local_record_of store false
+  pub kept : saver.changed ≡ false → G.kept saver.keeper ≡ Some saver.last.items
+  pub last : saver.changed ≡ false → D.is_record store false saver.last.items
   pub none : saver.changed ≡ false → D.list store ≡ []
 
 -- the last record can have its mark set
@@ -35,9 +39,9 @@ pub record CanMark {K : Type 0} (R : Records) (saver : Saver K) : Type 0 where
   pub marks : R.marked (with_mark saver.last.items)
   pub long : mark_place < length saver.last.items
 
--- what is kept is one of the two records of this store
+-- what is kept is a record of this store, with its list or with an empty one
 abbrev pub IsRecordOf : {S : Type 0} → Durables S → S → Option (List ℕ) → Type 0
-IsRecordOf D store kept = (kept ≡ Some (D.local_record_of store true)) ⊎ (kept ≡ Some (D.local_record_of store false))
+IsRecordOf D store kept = (bytes : List ℕ) × (with_list : Bool) × (kept ≡ Some bytes) × D.is_record store with_list bytes
 
 -- nothing is kept anew, and the directory wasn't changed
 pub record Unmoved {S : Type 0} {K : Type 0} (D : Durables S) (G : KeeperGhosts K) (old : Saver K) (before : S) (new : Saver K) (after : S) : Type 0 where
@@ -54,16 +58,16 @@ abbrev pub SavedConfig : {S : Type 0} {K : Type 0} → Durables S → Records �
 SavedConfig D R G old before new after bytes (Ok _) = KeptConfigures R (G.kept new.keeper) (D.trace after) bytes
 SavedConfig D R G old before new after bytes (Err _) = Unmoved D G old before new after ⊎ KeptConfigures R (G.kept new.keeper) (D.trace after) bytes
 
--- the long record was saved: it is the last one, and it is kept
+-- a long record was saved: it is the last one, and it is kept
 abbrev pub IsLongSaved : {S : Type 0} {K : Type 0} → Durables S → KeeperGhosts K → S → Saver K → Type 0
-IsLongSaved D G before new = (new.last.items ≡ D.local_record_of before true) × (G.kept new.keeper ≡ Some (D.local_record_of before true))
+IsLongSaved D G before new = D.is_record before true new.last.items × (G.kept new.keeper ≡ Some new.last.items)
 
--- The last record is the one whose save last answered Ok: the short one after all three steps, and after an error in the later two the long one, which is kept unless a failed save of the short one kept that.
+-- The last record is the one whose save last answered Ok: a short one after all three steps, and after an error in the later two a long one, which is kept unless a failed save of a short one kept that.
 abbrev pub LastAfterLong : {S : Type 0} {K : Type 0} → Durables S → KeeperGhosts K → S → Saver K → Result Unit SyncError → Type 0
-LastAfterLong D G before new (Ok _) = new.last.items ≡ D.local_record_of before false
+LastAfterLong D G before new (Ok _) = D.is_record before false new.last.items
 LastAfterLong D G before new (Err Memory) = IsLongSaved D G before new
 LastAfterLong D G before new (Err FaultDirectory) = IsLongSaved D G before new
-LastAfterLong D G before new (Err FaultState) = (new.last.items ≡ D.local_record_of before true) × IsRecordOf D before (G.kept new.keeper)
+LastAfterLong D G before new (Err FaultState) = D.is_record before true new.last.items × IsRecordOf D before (G.kept new.keeper)
 
 -- Before the long record was saved the last one is that from before, and the store is as it was: for want of memory with the kept record, or by the failed save of the long one, which may have kept it.
 abbrev pub LastBeforeLong : {S : Type 0} {K : Type 0} → Durables S → KeeperGhosts K → Saver K → S → Saver K → S → Result Unit SyncError → Type 0
@@ -111,17 +115,18 @@ pub record CanSync {S : Type 0} {K : Type 0} (W : World S K) (saver : Saver K) (
   pub room : length saver.last.items ≤ W.keeper.room saver.keeper
   pub whole : Whole W.durables W.keeper saver store
 
--- the record with the list is kept, and was the last that was given
+-- a record with the list is kept, and was the last that was given
 pub record IsLongKept {S : Type 0} {K : Type 0} (W : World S K) (saver : Saver K) (store : S) : Type 0 where
   pub intact : W.meanings.intact store
   pub room : length saver.last.items ≤ W.keeper.room saver.keeper
-  pub kept : W.keeper.kept saver.keeper ≡ Some (W.durables.local_record_of store true)
-  pub last : saver.last.items ≡ W.durables.local_record_of store true
+  pub kept : W.keeper.kept saver.keeper ≡ Some saver.last.items
+  pub last : W.durables.is_record store true saver.last.items
   pub changed : saver.changed ≡ true
 
 -- what any call that may sync leaves of its store and its keeper, however far it comes
 pub record Leaves {S : Type 0} {K : Type 0} (W : World S K) (a : S) (k : K) (b : S) (l : K) (result : Result Unit SyncError) : Type 0 where
   pub identity : W.durables.identity b ≡ W.durables.identity a
+  pub least : W.durables.least b ≡ W.durables.least a
   pub stays : Stays W.holdings a b
   pub sound : W.meanings.sound a → W.meanings.sound b
   pub goes_on : GoesOn (W.durables.trace a) (W.durables.trace b)
@@ -145,22 +150,32 @@ pub record Moves {S : Type 0} {K : Type 0} (W : World S K) (old : Saver K) (a : 
   pub err : OnErr result (new.changed ≡ true)
   pub writes : OnOk result (W.durables.trace b ≡ after_writes (W.durables.list a) (W.durables.trace a))
   pub wrote : (b ≡ a) ⊎ Wrote W.durables a b
-  pub waiting : (bytes : List ℕ) → W.records.configures (W.durables.local_record_of a true) (W.durables.trace a) bytes → W.records.configures (W.durables.local_record_of a true) (W.durables.trace b) bytes
-  pub present : (bytes : List ℕ) → W.holdings.told a ≡ true → W.records.configures (W.durables.local_record_of a true) (W.durables.trace a) bytes → W.records.configures (W.durables.local_record_of b true) (W.durables.trace b) bytes
+  -- what a record with the list says of the configuration's file it goes on to say, and what is written from here on says it
+  pub waiting : (kept bytes : List ℕ) → W.durables.is_record a true kept → W.records.configures kept (W.durables.trace a) bytes → W.records.configures kept (W.durables.trace b) bytes
+  pub present : (kept bytes : List ℕ) → W.holdings.told a ≡ true → W.durables.is_record a true kept → W.records.configures kept (W.durables.trace a) bytes → W.records.configures (W.durables.local_record_of b true) (W.durables.trace b) bytes
 
--- what the later two steps keep, where the record with the list was kept
-pub record Finishes {S : Type 0} {K : Type 0} (W : World S K) (a : S) (new : Saver K) (b : S) (result : Result Unit SyncError) : Type 0 where
+-- what the later two steps keep, where a record with the list was kept
+pub record Finishes {S : Type 0} {K : Type 0} (W : World S K) (old : Saver K) (a : S) (new : Saver K) (b : S) (result : Result Unit SyncError) : Type 0 where
   pub stands : (now : Content) → W.meanings.sound a → (W.durables.identity a).marked ≡ false → SameContent now (W.holdings.content a) → RepresentsContent W.records (W.durables.identity b) (W.keeper.kept new.keeper) (W.durables.trace b) now
-  pub configures : (bytes : List ℕ) → W.holdings.told a ≡ true → W.records.configures (W.durables.local_record_of a true) (W.durables.trace a) bytes → KeptConfigures W.records (W.keeper.kept new.keeper) (W.durables.trace b) bytes
+  pub configures : (kept bytes : List ℕ) → W.holdings.told a ≡ true → W.durables.is_record a true kept → W.records.configures kept (W.durables.trace a) bytes → KeptConfigures W.records (W.keeper.kept new.keeper) (W.durables.trace b) bytes
   pub last : LastAfterLong W.durables W.keeper a new result
-  pub keeps : IsRecordOf W.durables a (W.keeper.kept new.keeper)
+  pub keeps : (W.keeper.kept new.keeper ≡ W.keeper.kept old.keeper) ⊎ KeepsEmpty W.durables a (W.keeper.kept new.keeper)
   pub can_mark : CanMark W.records new
 
 -- what a sync keeps
 pub record Syncs {S : Type 0} {K : Type 0} (W : World S K) (old : Saver K) (a : S) (new : Saver K) (b : S) (result : Result Unit SyncError) : Type 0 where
   pub unchanged : old.changed ≡ false → IsOk result × (new ≡ old) × (b ≡ a)
   pub stands : (now : Content) → W.meanings.sound a → (W.durables.identity a).marked ≡ false → SameContent now (W.holdings.content a) → Saved W.durables W.records W.keeper old a new b now result
-  pub configures : (bytes : List ℕ) → W.holdings.told a ≡ true → W.records.configures (W.durables.local_record_of a true) (W.durables.trace a) bytes → SavedConfig W.durables W.records W.keeper old a new b bytes result
+  pub configures : (kept bytes : List ℕ) → W.holdings.told a ≡ true → W.durables.is_record a true kept → W.records.configures kept (W.durables.trace a) bytes → SavedConfig W.durables W.records W.keeper old a new b bytes result
   pub last : LastBeforeLong W.durables W.keeper old a new b result ⊎ LastAfterLong W.durables W.keeper a new result
   pub keeps : (W.keeper.kept new.keeper ≡ W.keeper.kept old.keeper) ⊎ IsRecordOf W.durables a (W.keeper.kept new.keeper)
   pub can_mark : CanMark W.records old → CanMark W.records new
+
+-- What became of a save of the record with an empty list: it is kept, and the last; or for want of memory all is as it was;
+-- or its save failed, so that either record may be kept, and the next sync saves again.
+abbrev pub ShortSaved : {S : Type 0} {K : Type 0} → Durables S → KeeperGhosts K → S → Saver K → Saver K → Result Unit SyncError → Type 0
+ShortSaved D G store old new (Ok _) = (new.last.items ≡ D.local_record_of store false) × (G.kept new.keeper ≡ Some new.last.items) × (new.changed ≡ false)
+ShortSaved D G store old new (Err Memory) = (new.last.items ≡ old.last.items) × (G.kept new.keeper ≡ G.kept old.keeper) × (new.changed ≡ false)
+ShortSaved D G store old new (Err FaultDirectory) = ⊥
+ShortSaved D G store old new (Err FaultState) =
+    (new.last.items ≡ old.last.items) × ((G.kept new.keeper ≡ G.kept old.keeper) ⊎ (G.kept new.keeper ≡ Some (D.local_record_of store false))) × (new.changed ≡ true)

@@ -1,6 +1,7 @@
 // The three steps of a sync.
-ghost use Rattle.std.specs.Prelude.{◌≡◌, ◌≤◌, false, length, IfOk};
-ghost use Rattle.session_saver.specs.Saving.{world, CanSync, IsLongKept, Moves, Finishes, Syncs};
+ghost use Rattle.std.specs.Prelude.{◌≡◌, ◌≤◌, [], false, length, IfOk, IsErrOf};
+ghost use Rattle.outside.specs.Causes.{RoseBy};
+ghost use Rattle.session_saver.specs.Saving.{world, CanSync, IsLongKept, Moves, Finishes, ShortSaved, Syncs, UnlessState};
 
 use block_id::{Failed, Memory};
 use outside::{GetFail, Keeper};
@@ -45,7 +46,7 @@ fn record_to_save<K: Keeper, S: Durable>(
 }
 
 impl<K: Keeper> Saver<K> {
-    /// Puts the unwritten list, and keeps the record with an empty one, which is handed in. The record with the list is kept.
+    /// Puts the unwritten list, and keeps a record with an empty one, which is handed in. A record with the list is kept.
     pub fn finish<S: Durable>(
         &mut self,
         alloc: Global,
@@ -54,11 +55,11 @@ impl<K: Keeper> Saver<K> {
     ) -> Result<(), SyncError>
         requires long { IsLongKept (world S.meanings S.holdings S.durables S.records K.Keeper) self.old store.old }
         requires room { length short.items ≤ K.room self.old.keeper }
-        requires short { short.items ≡ S.durables.local_record_of store.old false }
+        requires short { S.durables.is_record store.old false short.items }
         ensures moves { Moves (world S.meanings S.holdings S.durables S.records K.Keeper)
             self.old store.old self.new store.new result }
         ensures finishes { Finishes (world S.meanings S.holdings S.durables S.records K.Keeper)
-            store.old self.new store.new result }
+            self.old store.old self.new store.new result }
     {
         // While files are put and removed the record that lists them all is kept: a later start does the rest.
         match store.write_out(alloc) {
@@ -76,7 +77,7 @@ impl<K: Keeper> Saver<K> {
         Ok(())
     }
 
-    /// Puts the unwritten list, where the record with the list is kept, and keeps the record with an empty list.
+    /// Puts the unwritten list, where a record with the list is kept, and keeps the record with an empty list.
     pub fn write_waiting<S: Durable>(
         &mut self,
         alloc: Global,
@@ -86,7 +87,7 @@ impl<K: Keeper> Saver<K> {
         ensures moves { Moves (world S.meanings S.holdings S.durables S.records K.Keeper)
             self.old store.old self.new store.new result }
         ensures finishes { Finishes (world S.meanings S.holdings S.durables S.records K.Keeper)
-            store.old self.new store.new result }
+            self.old store.old self.new store.new result }
     {
         // Memory is taken before the first call on the outside, so that its want leaves all as it was.
         let short = match record_to_save(alloc, &mut self.keeper, store, false) {
@@ -126,5 +127,30 @@ impl<K: Keeper> Saver<K> {
         }
         self.last = full;
         self.finish(alloc, store, short)
+    }
+
+    /// Keeps the record with an empty list, where nothing waits and nothing changed since the last whole sync. After a failed
+    /// save either record may be kept, so that the next sync saves again.
+    pub fn keep_short<S: Durable>(&mut self, alloc: Global, store: &S) -> Result<(), SyncError>
+        requires intact { S.meanings.intact store.now }
+        requires room { length self.old.last.items ≤ K.room self.old.keeper }
+        requires none { S.durables.list store.now ≡ [] }
+        requires unchanged { self.old.changed ≡ false }
+        ensures saves { ShortSaved S.durables K.Keeper store.now self.old self.new result }
+        ensures room { length self.new.last.items ≤ K.room self.new.keeper }
+        ensures keeper_grows { K.faults self.old.keeper ≤ K.faults self.new.keeper }
+        ensures keeper_cause { IsErrOf result SyncError.FaultState → RoseBy 1 (K.faults self.old.keeper) (K.faults self.new.keeper) }
+        ensures keeper_quiet { UnlessState result (K.faults self.new.keeper ≡ K.faults self.old.keeper) }
+    {
+        let short = match record_to_save(alloc, &mut self.keeper, store, false) {
+            Ok(bytes) => bytes,
+            Err(Memory) => return Err(SyncError::Memory),
+        };
+        if self.keeper.save(&short).is_err() {
+            self.changed = true;
+            return Err(SyncError::FaultState);
+        }
+        self.last = short;
+        Ok(())
     }
 }

@@ -45,7 +45,7 @@ fn makes_a_file_system_and_tells_of_it(rt: HostRuntime) -> Result<(), Fail> {
     )?;
     assert_eq!(rt; config_in(&made.vault).unwrap_or(&[]).len(), 1126);
     assert_eq!(rt; count_blocks(&made.vault), 1);
-    assert_eq!(rt; made.keeper.kept().unwrap_or(&[]).len(), 145);
+    assert_eq!(rt; made.keeper.kept().unwrap_or(&[]).len(), 146);
     let told = expect(
         alloc,
         made,
@@ -75,7 +75,7 @@ fn draws_in_order(rt: HostRuntime) -> Result<(), Fail> {
     Ok(())
 }
 
-/// A record that knows no block, of this file system and key.
+/// A record of the older form that knows no block, of this file system and key.
 fn empty_record(alloc: Global, fs_id: &[u8; 16], key: &[u8; 32]) -> Result<Vec<u8>, AllocError> {
     let salt = [7; 32];
     let mut record = b"cryfs.localstate;1\0\0".to_vec(alloc)?;

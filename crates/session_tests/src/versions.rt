@@ -14,7 +14,10 @@ use test_systems::{System, block, file, new_system, session, store};
 const IN_BLOCK: usize = 22;
 
 /// The place of the version of the only block that a local record knows.
-const IN_STATE: usize = 128;
+const IN_STATE: usize = 129;
+
+/// The id of the root's block.
+const ROOT: [u8; 16] = [0, 0, 0, 0, 0, 0, 0, 0, 0, 0, 0, 0, 0, 0, 0, 1];
 
 /// Makes the version at this place the last one, 18446744073709551615.
 fn set_last_version(bytes: &mut Vec<u8>, place: usize) {
@@ -32,7 +35,7 @@ fn system_with_a_spent_root(alloc: Global) -> Result<System, Fail> {
     let Some((prefix, sealed)) = found.split_at_checked(16) else {
         return Err(Fail::new("a block's file has a prefix"));
     };
-    let Some(mut record) = Aes256Gcm.unseal(alloc, &key, sealed)? else {
+    let Some(mut record) = Aes256Gcm.unseal_with(alloc, &key, &ROOT, sealed)? else {
         return Err(Fail::new("the root's file opens"));
     };
     set_last_version(&mut record, IN_BLOCK);
@@ -40,7 +43,7 @@ fn system_with_a_spent_root(alloc: Global) -> Result<System, Fail> {
         return Err(Fail::new("a record has 48 bytes less than its file"));
     }
     let mut crafted = prefix.to_vec(alloc)?;
-    Aes256Gcm.seal(&key, &[9; 16], &record, &mut crafted)?;
+    Aes256Gcm.seal_with(&key, &[9; 16], &ROOT, &record, &mut crafted)?;
     store(alloc, &mut system, block(1), Some(crafted))?;
     let mut state = system.keeper.kept().unwrap_or(&[]).to_vec(alloc)?;
     set_last_version(&mut state, IN_STATE);

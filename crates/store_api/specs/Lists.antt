@@ -1,7 +1,8 @@
 -- The unwritten list.
-use Rattle.std.specs.Prelude.{◌≡◌, ◌<◌, ◌+◌, ◌^◌, ℕ, List, [], ◌∷◌, length, take, codes, ◌++◌}
+use Rattle.std.specs.Prelude.{◌≡◌, ◌<◌, ◌+◌, ◌^◌, ℕ, List, [], ◌∷◌, length, take}
 use Rattle.std.specs.declared.option.Option.{Option}
 use Rattle.std.specs.declared.option.Option.TheVariants.{None, Some}
+use Rattle.block_id.specs.Formats.{magic}
 use Rattle.outside.specs.Trace.{At, config, block}
 
 -- how many bytes the list has to put
@@ -22,10 +23,6 @@ with_config bytes [] = (config, Some bytes) ∷ []
 with_config bytes ((config, change) ∷ entries) = (config, Some bytes) ∷ entries
 with_config bytes ((block id, change) ∷ entries) = (config, Some bytes) ∷ (block id, change) ∷ entries
 
--- the first bytes of a block's file
-abbrev pub block_magic : List ℕ
-block_magic = codes "cryfs;block;0" ++ 0 ∷ []
-
 -- bytes that may wait as the configuration: short enough for the record, and no block's file
 abbrev pub MayConfigure : List ℕ → Type 0
-MayConfigure bytes = (length bytes < 2 ^ 32) × (take 14 bytes ≡ block_magic → ⊥)
+MayConfigure bytes = (length bytes < 2 ^ 32) × (take 14 bytes ≡ magic → ⊥)

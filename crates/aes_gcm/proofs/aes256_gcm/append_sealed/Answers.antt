@@ -1,4 +1,4 @@
-use Rattle.std.proofs.Common.{◌≡◌, ℕ, List, [], ◌++◌, length, take, Result, Ok, Err, ap, ◌∙◌, append_assoc, arith}
+use Rattle.std.proofs.Common.{◌≡◌, ℕ, List, ◌++◌, length, take, Result, Ok, Err, ap, ◌∙◌, append_assoc, arith}
 use Rattle.std.specs.Result.{OnErr}
 use Rattle.std.proofs.lemmas.List.{take_at}
 use Rattle.aes_block.specs.KeyExpansion.{aes256}
@@ -34,6 +34,6 @@ returns-clause-ok c =
     let iv : List ℕ = c.args.iv.now in
     let plain : List ℕ = c.args.plain.now in
     let text = c.in_ok-tag.ensures.text ∙ (λ i. c.in_ok-extend_from_slice.ensures.items i ++ crypt (aes256 (c.from_key.ensures i)) iv plain) in
-    let tag = c.in_ok-tag.ensures.tag ∙ (λ i. tag_of (aes256 (c.from_key.ensures i)) iv [] (crypt (aes256 (c.from_key.ensures i)) iv plain)) in
+    let tag = c.in_ok-tag.ensures.tag ∙ (λ i. tag_of (aes256 (c.from_key.ensures i)) iv c.args.extra.now (crypt (aes256 (c.from_key.ensures i)) iv plain)) in
     c.in_ok-extend_from_slice-2.ensures.items ∙ (λ i. text i ++ tag i)
-    ∙ regrouped c.args.out.now.items iv (crypt (aes256 c.args.key.now) iv plain) (tag_of (aes256 c.args.key.now) iv [] (crypt (aes256 c.args.key.now) iv plain))
+    ∙ regrouped c.args.out.now.items iv (crypt (aes256 c.args.key.now) iv plain) (tag_of (aes256 c.args.key.now) iv c.args.extra.now (crypt (aes256 c.args.key.now) iv plain))

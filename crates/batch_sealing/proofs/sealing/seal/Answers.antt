@@ -4,6 +4,8 @@ use Rattle.std.specs.declared.alloc.Global.{Global}
 use Rattle.std.specs.FinMap as fin
 use Rattle.local_state.specs.declared.life.Life.{Life}
 use Rattle.local_state.specs.Known.{raised_version}
+use Rattle.block_id.specs.declared.format.Format.TheVariants.{WithId}
+use Rattle.block_id.specs.Formats.{format_in}
 use Rattle.sealed_store.specs.BlockFiles.{opens_file}
 use Rattle.block_records.specs.BlockRecords.{Record, record_of, record_in}
 use Rattle.held_blocks.specs.Held.{Held, own}
@@ -27,13 +29,14 @@ reads_as size plain items r copy len is = ap (record_of size) copy ∙ (ap (λ n
 
 -- a file that opens to this record, where one was made
 opens_to : {E : Type 0} (h : Held) (id payload plain : List ℕ) (version : ℕ) (r : Result (Vec ℕ Global) E) → version ≡ raised_version (fin.get h.state.lives id)
-    → record_of h.size plain ≡ Some (own h id version payload) → IfOk r (λ file. opens_file h.opens h.size file.items ≡ Some plain) → IfOk r (λ file. IsRaised h h id payload file.items)
-opens_to h id payload plain version (Ok file) raised reads opens = ap (record_in h.size) opens ∙ (reads ∙ ap (λ v. Some (own h id v payload)) raised)
-opens_to h id payload plain version (Err e) raised reads opens = tt
+    → record_of h.size plain ≡ Some (own h id version payload) → IfOk r (λ file. opens_file h.opens h.size id file.items ≡ Some plain) → IfOk r (λ file. format_in file.items ≡ Some WithId)
+    → IfOk r (λ file. IsRaised h h id payload file.items)
+opens_to h id payload plain version (Ok file) raised reads opens format = record { opens = ap (record_in h.size) opens ∙ (reads ∙ ap (λ v. Some (own h id v payload)) raised); format = format }
+opens_to h id payload plain version (Err e) raised reads opens format = tt
 
 pub returns-clause-opens : goal.returns-clause-opens
 returns-clause-opens g c =
     let held = held_of g.C.Sealer.opens c.args.sealed.now c.args.state.now in
     let size : length c.in_ok-plain.plain.items + 48 ≡ held.size = omega (arith, c.in_ok-plain.ensures.len, c.requires.may.sized) in
     let reads = reads_as held.size c.deref.result.now c.in_ok-plain.plain.items (own held c.args.id.now.0 c.next_version-version.result c.args.payload.now) c.deref.ensures.value size c.in_ok-plain.ensures.record_of in
-    opens_to held c.args.id.now.0 c.args.payload.now c.deref.result.now c.next_version-version.result c.seal_plain.result c.next_version-version.ensures reads c.seal_plain.ensures.opens
+    opens_to held c.args.id.now.0 c.args.payload.now c.deref.result.now c.next_version-version.result c.seal_plain.result c.next_version-version.ensures reads c.seal_plain.ensures.opens c.seal_plain.ensures.format

@@ -1,4 +1,4 @@
-use Rattle.std.proofs.Common.{◌≡◌, ℕ, List, ◌++◌, ap, ◌∙◌, rules, sym, subst}
+use Rattle.std.proofs.Common.{[], ◌≡◌, ℕ, List, ◌++◌, ap, ◌∙◌, rules, sym, subst}
 use Rattle.aes_gcm.specs.Gcm.{sealed_of}
 use Rattle.config_file.proofs.Opening.{config_text-opens}
 use Rattle.config_file.specs.ConfigOf.{IsOnly, opened}
@@ -15,7 +15,7 @@ returns-clause-text c =
     let innermost : c.deref-2.result.now ≡ innermost_text (json_text (settings_of c.args.config.now)) fill =
     c.deref-2.ensures.value ∙ c.in_ok-innermost.ensures ∙ ap (λ (t : List ℕ). innermost_text t fill) json in
     let inner = c.deref-3.ensures.value ∙ c.in_ok-inner.ensures ∙ (λ i. inner_text (c.in_ok-keys.ensures.inner i) c.args.inner_iv.now (innermost i) fill) in
-    c.in_ok-append_sealed.ensures.ok ∙ (λ i. c.in_ok-out.ensures.text i ++ sealed_of (c.in_ok-keys.ensures.outer i) c.args.outer_iv.now (inner i))
+    c.in_ok-append_sealed.ensures.ok ∙ (λ i. c.in_ok-out.ensures.text i ++ sealed_of (c.in_ok-keys.ensures.outer i) c.args.outer_iv.now [] (inner i))
 
 pub returns-clause-opens : goal.returns-clause-opens
 returns-clause-opens c =

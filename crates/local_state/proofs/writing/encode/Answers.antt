@@ -7,6 +7,6 @@ put_list-requires c = each_fits c.args.state.now.known.lives c.args.list.now c.r
 
 pub returns-clause-has_record : goal.returns-clause-has_record
 returns-clause-has_record c = record {
-  state = record { head = c.in_ok-put_head.ensures.fits; client = c.requires.client; lives = c.in_ok-put_known.ensures.fits; count = omega (arith, c.len.ensures) };
+  state = record { head = c.in_ok-put_head.ensures.fits; least = c.requires.least; client = c.requires.client; lives = c.in_ok-put_known.ensures.fits; count = omega (arith, c.front_len.ensures) };
   entries = c.requires.list;
 }

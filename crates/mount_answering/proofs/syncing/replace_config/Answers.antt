@@ -37,6 +37,7 @@ returns-in-Err g c =
         };
         leaves = record {
           identity = p.identity;
+          least = p.least;
           stays = p.stays;
           sound = p.sound;
           goes_on = goes_on_equal (D.trace store) (D.trace after) p.trace;
@@ -83,6 +84,7 @@ returns g c =
         ready = m.ready;
         leaves = record {
           identity = l.identity ∙ p.identity;
+          least = l.least ∙ p.least;
           stays = stays_on H store mid.blobs.tx.store after p.stays l.stays;
           sound = λ sound. l.sound (p.sound sound);
           goes_on = subst (λ t. GoesOn t (D.trace after)) p.trace l.goes_on;

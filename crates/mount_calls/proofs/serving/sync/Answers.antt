@@ -20,7 +20,7 @@ returns g c =
       syncs = record {
         stands = z.stands;
         configures = z.configures;
-        emptied = emptied_on g.V.Vault.trace g.V.Vault.faults core.blobs.tx.store (g.K.Keeper.kept core.saver.keeper) c.sync.result m.ready.intact z.emptied;
+        emptied = emptied_on g.V.Vault.trace core.blobs.tx.store (g.K.Keeper.kept core.saver.keeper) c.sync.result z.emptied;
         ok = z.ok;
         unmoved = λ unchanged. let u = z.unmoved unchanged in (u.0, same_mount mount (record mount { core = core }) refl u.1);
       };

@@ -34,6 +34,7 @@ returns-in-Err g c =
       };
       leaves = record {
         identity = p.identity;
+        least = p.least;
         goes_on = goes_on_equal (trace c.args.store) (trace c.put_config.new.self) p.trace;
         vault_grows = omega (arith, p.faults);
         vault_cause = λ is. absurd (memory_directory is);
@@ -58,6 +59,7 @@ returns-in-Err-root_batch g c =
       };
       leaves = record {
         identity = p.identity;
+        least = p.least;
         goes_on = goes_on_equal (trace c.args.store) (trace c.put_config.new.self) p.trace;
         vault_grows = omega (arith, p.faults);
         vault_cause = λ is. absurd (memory_directory is);
@@ -88,6 +90,7 @@ returns-in-Err-apply g c =
       };
       leaves = record {
         identity = endures.loaded_identity b d loaded ∙ p.identity;
+        least = endures.loaded_least b d loaded ∙ p.least;
         goes_on = subst (λ t. GoesOn t (trace d)) p.trace (endures.loaded_goes_on b d loaded);
         vault_grows = omega (arith, faults);
         vault_cause = λ is. absurd (memory_directory is);
@@ -129,17 +132,18 @@ returns g c =
             let only = only_one (H.content a) (H.content b) (H.content d) batch root puts.bytes puts.one c.requires.none (p.stays.content told) (changed.content (p.stays.told ∙ told)) in
             let wide : length root ≡ 16 = search rules in
             let shown = subst (λ n. ShowsFiles n root (H.content d) empty_tree) (c.payload.ensures ∙ p.stays.payload) (puts.shows (H.content d) wide only) in
-            made (ShowsFiles (H.payload a) root) D g.S.Durable.records g.K.Keeper a last _ c.sync-result.new.self d (H.content d) result trace shown (λ f. m.whole.kept (fine_ok result _ f m.ok))
+            made (ShowsFiles (H.payload a) root) D g.S.Durable.records g.K.Keeper a last _ c.sync-result.new.self d (H.content d) result trace shown (λ f. let unchanged = fine_ok result _ f m.ok in (c.sync-result.new.self.last.items, m.whole.kept unchanged, m.whole.last unchanged))
             (y.stands (H.content d) (changed.sound (p.sound sound)) (ap (λ (i : Identity). i.marked) identity ∙ unmarked) (λ id. refl));
         configures = λ told.
             made_config (ShowsFiles (H.payload a) root) D g.S.Durable.records g.K.Keeper a last _ c.sync-result.new.self d c.args.config.items result trace
-            (y.configures c.args.config.items (changed.told ∙ (p.stays.told ∙ told)) (endures.applied_configures b d batch c.args.config.items applied p.intact z.intact c.in-Ok.ensures.configures));
-        emptied = on_ok result _ _ m.whole.kept m.ok;
+            (y.configures (D.local_record_of d true) c.args.config.items (changed.told ∙ (p.stays.told ∙ told)) (endures.written d true z.intact) (endures.applied_configures b d batch c.args.config.items applied p.intact z.intact c.in-Ok.ensures.configures));
+        emptied = on_ok result _ _ (λ unchanged. (c.sync-result.new.self.last.items, m.whole.kept unchanged, m.whole.last unchanged)) m.ok;
         versions = always_ok result _ (root_raised M H a b d last batch root puts.bytes puts.one p.stays changed l.stays);
         intact = m.intact;
       };
       leaves = record {
         identity = l.identity ∙ identity;
+        least = l.least ∙ (endures.applied_least b d batch applied ∙ p.least);
         goes_on = subst (λ t. GoesOn t (D.trace last)) trace l.goes_on;
         vault_grows = omega (arith, l.vault_grows, faults);
         vault_cause = λ is. subst (λ n. RoseBy 1 n (M.faults last)) faults (l.vault_cause is);

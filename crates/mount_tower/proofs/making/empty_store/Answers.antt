@@ -43,11 +43,12 @@ returns g c =
       unused = unused;
       none = λ id. unused_none ((sealed_holdings g.V.Vault.trace).content store id) (has_id ((sealed_holdings g.V.Vault.trace).used store) id) (unused id) (steady.content_used store id n.intact);
       identity = n.identity
-          ∙ (identity_is (held_of (λ (cipher : Cipher) key text. opened_of key text) c.new-sealed.result c.new_state-state.result) (settings_of c.args.config) (plain_state c.new_state-state.result) s1.size (ap opened_of s1.key) refl
+          ∙ (identity_is (held_of (λ (cipher : Cipher) key extra text. opened_of key extra text) c.new-sealed.result c.new_state-state.result) (settings_of c.args.config) (plain_state c.new_state-state.result) s1.size (ap opened_of s1.key) refl
           (ap (λ (s : PlainState). s.marked) state)
           (record {
             fs_id = ap (λ (s : PlainState). s.fs_id) state;
             digest = ap (λ (s : PlainState). s.key_digest) state ∙ (c.key_digest-digest.ensures ∙ ap (λ x. sha256 (x ++ c.args.config.key)) (sym (ap (λ (s : PlainState). s.key_salt) state)));
           }) ∙ ap (identity_for (settings_of c.args.config)) (ap (λ (s : PlainState). s.key_salt) state));
+      least = n.least ∙ ap (λ (s : PlainState). s.least) state;
       sound = λ unchanged. n.fresh lives (untouched _ (subst IsUnchanged (sym (ap g.V.Vault.trace vault)) unchanged));
     }

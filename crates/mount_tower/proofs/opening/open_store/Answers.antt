@@ -1,9 +1,9 @@
-use Rattle.std.proofs.Common.{◌≡◌, refl, sym, ◌∙◌, ap, subst, true, false}
+use Rattle.std.proofs.Common.{◌≡◌, refl, sym, ◌∙◌, ap, subst}
 use Rattle.aes_gcm.specs.Gcm.{opened_of}
 use Rattle.outside.specs.Changes.{change_at}
 use Rattle.outside.specs.Trace.{config}
 use Rattle.outside.specs.View.{list_of}
-use Rattle.local_state.specs.Record.{plain_state, record_bytes}
+use Rattle.local_state.specs.Record.{plain_state, IsRecord}
 use Rattle.redo_vault.specs.Redo.{Redo}
 use Rattle.held_blocks.specs.Standing.{Stands}
 use Rattle.held_blocks.specs.Views.{held_of}
@@ -13,7 +13,7 @@ use Rattle.config_file.specs.Settings.{settings_of}
 use Rattle.config_file.specs.declared.config.Cipher.{Cipher}
 use Rattle.mount_tower.specs.Opening.{OpenCause, ReadsConfigOnce}
 use Rattle.mount_tower.specs.Identities.{identity_for}
-use Rattle.mount_tower.specs.Tower.{vault_in, tower_durables}
+use Rattle.mount_tower.specs.Tower.{vault_in}
 use Rattle.mount_tower.proofs.Found.{config_open, identity_is, no_block}
 use Rattle.mount_tower.proofs.Quiet.{err_same, ok_err}
 use Rattle.mount_tower.proofs.Reading.{reads_stands, stands_salt}
@@ -44,35 +44,28 @@ cached_store-requires-clause-config g c =
     let e = ap (λ (x : RedoOf g). x.list) c.new-sealed.ensures.vault ∙ c.read_config.ensures.list in
     subst (λ l. IsNoBlock (change_at config l)) (sym e) (no_block (change_at config c.new-redo.result.list) _ _ f.answer f.gave f.opens.0)
 
-pub returns-in-Ok-cached_store-clause-record_of : goal.returns-in-Ok-cached_store-clause-record_of
-returns-in-Ok-cached_store-clause-record_of g c =
-    let e = ap (λ (x : RedoOf g). x.list) c.new-sealed.ensures.vault ∙ (c.read_config.ensures.list ∙ ap (λ (x : RedoOf g). x.list) c.new-redo.ensures) in
-    c.in-Ok-cached_store.ensures.records true ∙ ap (λ l. record_bytes (plain_state c.args.state) l) e
-
-pub returns-in-Ok-cached_store-clause-short : goal.returns-in-Ok-cached_store-clause-short
-returns-in-Ok-cached_store-clause-short g c = c.in-Ok-cached_store.ensures.records false
-
 pub returns-in-Ok-cached_store-clause-identity : goal.returns-in-Ok-cached_store-clause-identity
 returns-in-Ok-cached_store-clause-identity g c =
     c.in-Ok-cached_store.ensures.identity
-    ∙ identity_is (held_of (λ (cipher : Cipher) key text. opened_of key text) c.new-sealed.result c.args.state) (settings_of c.in-Ok.opened.config) (plain_state c.args.state) c.new-sealed.ensures.size
+    ∙ identity_is (held_of (λ (cipher : Cipher) key extra text. opened_of key extra text) c.new-sealed.result c.args.state) (settings_of c.in-Ok.opened.config) (plain_state c.args.state) c.new-sealed.ensures.size
     (ap opened_of c.new-sealed.ensures.key) refl c.requires.unmarked c.in-Ok-check_identity.ensures.ok
 
 pub returns-in-Ok-cached_store-clause-stands : goal.returns-in-Ok-cached_store-clause-stands
-returns-in-Ok-cached_store-clause-stands g c salt content s =
+returns-in-Ok-cached_store-clause-stands g c salt content kept is s =
     let V = g.V.Vault in
     let state = plain_state c.args.state in
     let list = list_of c.args.list.items in
     let cfg = settings_of c.in-Ok.opened.config in
     let t0 = V.trace c.args.vault in
     let t = V.trace (vault_in c.in-Ok-cached_store.store) in
-    let e : state.key_salt ≡ salt = stands_salt cfg salt state list t0 content c.requires.record_ s in
+    let e : state.key_salt ≡ salt = stands_salt cfg salt state list kept t0 content is s in
     let et : t ≡ V.trace c.read_config.new.vault.vault = c.in-Ok-cached_store.ensures.trace ∙ ap (λ (x : RedoOf g). V.trace x.vault) c.new-sealed.ensures.vault in
     let reads : ReadsConfigOnce t0 t = subst (λ x. ReadsConfigOnce t0 x) (sym et) (subst (λ (x : RedoOf g). ReadsConfigOnce (V.trace x.vault) (V.trace c.read_config.new.vault.vault)) c.new-redo.ensures c.read_config.ensures.reads) in
-    let s1 : Stands (identity_for cfg state.key_salt) (record_bytes state list) t0 content = subst (λ x. Stands (identity_for cfg x) (record_bytes state list) t0 content) (sym e) s in
-    let s2 : Stands (identity_for cfg state.key_salt) (record_bytes state list) t content = reads_stands (identity_for cfg state.key_salt) (record_bytes state list) content t0 t reads s1 in
-    c.in-Ok-cached_store.ensures.opened content
-    (subst (λ i. Stands i ((tower_durables V.trace).local_record_of c.in-Ok-cached_store.store true) t content) (sym (returns-in-Ok-cached_store-clause-identity g c)) (subst (λ r. Stands (identity_for cfg state.key_salt) r t content) (sym (returns-in-Ok-cached_store-clause-record_of g c)) s2))
+    let s1 : Stands (identity_for cfg state.key_salt) kept t0 content = subst (λ x. Stands (identity_for cfg x) kept t0 content) (sym e) s in
+    let s2 : Stands (identity_for cfg state.key_salt) kept t content = reads_stands (identity_for cfg state.key_salt) kept content t0 t reads s1 in
+    let waits : c.new-sealed.result.vault.list ≡ list = ap (λ (x : RedoOf g). x.list) c.new-sealed.ensures.vault ∙ (c.read_config.ensures.list ∙ ap (λ (x : RedoOf g). x.list) c.new-redo.ensures) in
+    c.in-Ok-cached_store.ensures.opened content kept (subst (λ l. IsRecord state l kept) (sym waits) is)
+    (subst (λ i. Stands i kept t content) (sym (returns-in-Ok-cached_store-clause-identity g c)) s2)
 
 pub returns-in-Err-clause-err_quiet : goal.returns-in-Err-clause-err_quiet
 returns-in-Err-clause-err_quiet g c n =

@@ -64,3 +64,6 @@ returns-clause-configures g c =
     let h = held_by g.C.Sealer.opens s in
     let w = written h c.write_out.new.self.list (g.V.Vault.trace s.sealed.vault.vault) (g.V.Vault.trace c.write_out.new.self.vault) c.write_out.result c.requires.0 c.write_out.ensures.ok c.write_out.ensures.all_left c.write_out.ensures.err in
     w.configures
+
+pub returns-clause-empty_record : goal.returns-clause-empty_record
+returns-clause-empty_record g c = λ kept is. is

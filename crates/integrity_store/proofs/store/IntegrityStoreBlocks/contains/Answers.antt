@@ -10,4 +10,4 @@ pub returns : goal.returns
 returns g c =
     let s = c.args.self.now in
     let h = held_by g.C.Sealer.opens s in
-    c.is_live.ensures ∙ live_wanted (fin.get h.state.lives c.args.id.now.0) (payload_in h.opens h.size (file_of h (told_or_none (g.V.Vault.trace s.sealed.vault.vault)) c.args.id.now.0))
+    c.is_live.ensures ∙ live_wanted (fin.get h.state.lives c.args.id.now.0) (payload_in h.opens h.size c.args.id.now.0 (file_of h (told_or_none (g.V.Vault.trace s.sealed.vault.vault)) c.args.id.now.0))

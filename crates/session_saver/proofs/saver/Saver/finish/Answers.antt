@@ -1,9 +1,8 @@
-use Rattle.std.proofs.Common.{◌≡◌, true, false, Some, Err, inl, inr, refl, sym, ◌∙◌, ap, subst, arith}
+use Rattle.std.proofs.Common.{◌≡◌, true, false, Some, Err, inl, inr, refl, ◌∙◌, ap, subst, arith}
 use Rattle.outside.specs.Causes.{UnlessFault}
 use Rattle.outside.specs.Going.{goes_on_stops}
-use Rattle.session_saver.specs.Saving.{IsRecordOf}
 use Rattle.session_saver.specs.declared.saver.SyncError.TheVariants.{FaultDirectory, FaultState}
-use Rattle.session_saver.proofs.Steps.{no_fewer, memory_directory, memory_state, directory_state, state_directory, ok_no_error, kept_record, of_either, may_mark, whole_changed, goes_on_written, long_stands, short_stands, short_configures, finishes_long}
+use Rattle.session_saver.proofs.Steps.{no_fewer, memory_directory, memory_state, directory_state, state_directory, ok_no_error, kept_either, kept_record, of_either, any_configures, may_mark, whole_changed, goes_on_written, long_stands, short_stands, short_configures, finishes_long}
 use Rattle.session_saver.proofs.saver.Saver.finish.Goals as goal
 
 pub returns-in-Err-Failed : goal.returns-in-Err-Failed
@@ -22,6 +21,7 @@ returns-in-Err-Failed g c =
       moves = record {
         leaves = record {
           identity = w.identity;
+          least = w.least;
           stays = record { ids = w.ids; content = w.content; told = w.told; used = w.used; spent = w.spent; version = w.version; payload = w.payload };
           sound = w.sound;
           goes_on = goes_on_stops (D.list a) (D.list b) (D.trace a) (D.trace b) c.in-Err-Failed.ensures.stops;
@@ -42,9 +42,9 @@ returns-in-Err-Failed g c =
         writes = tt;
         wrote = inr (inl c.in-Err-Failed.ensures.stops);
         waiting = w.kept_configures;
-        present = λ bytes told. w.configures told bytes;
+        present = λ kept bytes told. w.configures told kept bytes;
       };
-      finishes = finishes_long M H D R G g.S.BlocksMut.applied g.met.S.Durable.enduring old a b _ long.intact long.last long.kept (long.last, long.kept) w.identity w.kept_configures w.stands;
+      finishes = finishes_long M H D R G g.S.BlocksMut.applied g.met.S.Durable.enduring old old a b _ refl long.last long.kept (long.last, long.kept) w.identity w.kept_configures w.stands;
     }
 
 pub returns-in-Err-Memory : goal.returns-in-Err-Memory
@@ -63,6 +63,7 @@ returns-in-Err-Memory g c =
       moves = record {
         leaves = record {
           identity = w.identity;
+          least = w.least;
           stays = record { ids = w.ids; content = w.content; told = w.told; used = w.used; spent = w.spent; version = w.version; payload = w.payload };
           sound = w.sound;
           goes_on = goes_on_stops (D.list a) (D.list b) (D.trace a) (D.trace b) c.in-Err-Memory.ensures.stops;
@@ -83,9 +84,9 @@ returns-in-Err-Memory g c =
         writes = tt;
         wrote = inr (inl c.in-Err-Memory.ensures.stops);
         waiting = w.kept_configures;
-        present = λ bytes told. w.configures told bytes;
+        present = λ kept bytes told. w.configures told kept bytes;
       };
-      finishes = finishes_long M H D R G g.S.BlocksMut.applied g.met.S.Durable.enduring old a b _ long.intact long.last long.kept (long.last, long.kept) w.identity w.kept_configures w.stands;
+      finishes = finishes_long M H D R G g.S.BlocksMut.applied g.met.S.Durable.enduring old old a b _ refl long.last long.kept (long.last, long.kept) w.identity w.kept_configures w.stands;
     }
 
 pub returns-in-Err : goal.returns-in-Err
@@ -104,11 +105,16 @@ returns-in-Err g c =
     let long = c.requires.long in
     let w = c.write_out.ensures in
     let none = c.in-Ok.ensures.ok in
-    let kept : IsRecordOf D a (G.kept keeper) = kept_record D a (G.kept keeper) (G.kept old.keeper) c.deref.result.now c.in-Err.ensures.err long.kept (c.deref.ensures.value ∙ c.requires.short) in
+    let last = old.last.items in
+    let short = c.args.short.items in
+    let short_after = w.empty_record short c.requires.short in
+    let kept = kept_either (G.kept keeper) (G.kept old.keeper) last c.deref.result.now short c.in-Err.ensures.err long.kept c.deref.ensures.value in
+    let of_store = kept_record D a (G.kept keeper) last short kept long.last c.requires.short in
     record {
       moves = record {
         leaves = record {
           identity = w.identity;
+          least = w.least;
           stays = record { ids = w.ids; content = w.content; told = w.told; used = w.used; spent = w.spent; version = w.version; payload = w.payload };
           sound = w.sound;
           goes_on = goes_on_written M H D R G a b c.in-Ok.ensures.writes;
@@ -129,17 +135,18 @@ returns-in-Err g c =
         writes = tt;
         wrote = inr (inr (c.in-Ok.ensures.writes, none));
         waiting = w.kept_configures;
-        present = λ bytes told. w.configures told bytes;
+        present = λ kept bytes told. w.configures told kept bytes;
       };
       finishes = record {
-        stands = λ now sound unmarked same. of_either (λ bytes. R.stands (D.identity b) bytes (D.trace b) now) (G.kept keeper) (D.local_record_of a true) (D.local_record_of a false) kept
-            (long_stands M H D R G g.S.BlocksMut.applied endures a b now w.identity same (w.stands sound unmarked))
-            (short_stands M H D R G g.S.BlocksMut.applied endures a b now w.intact (w.sound sound) unmarked w.identity none w.empty (w.content (g.met.S.Blocks.steady.sound_told a sound)) same);
-        configures = λ bytes told h. of_either (λ kept. R.configures kept (D.trace b) bytes) (G.kept keeper) (D.local_record_of a true) (D.local_record_of a false) kept
-            (w.kept_configures bytes h) (short_configures M H D R G g.S.BlocksMut.applied endures a b bytes none w.empty (w.configures told bytes h));
-        last = (long.last, kept);
-        keeps = kept;
-        can_mark = may_mark M H D R G g.S.BlocksMut.applied endures new a true long.intact long.last;
+        stands = λ now sound unmarked same. of_either (λ bytes. R.stands (D.identity b) bytes (D.trace b) now) (G.kept keeper) last short kept
+            (long_stands M H D R G g.S.BlocksMut.applied endures a b last now w.identity same (w.stands last sound unmarked long.last))
+            (short_stands M H D R G g.S.BlocksMut.applied endures a b short now w.intact (w.sound sound) unmarked w.identity none short_after (w.content (g.met.S.Blocks.steady.sound_told a sound)) same);
+        configures = λ k bytes told is h. of_either (λ kept. R.configures kept (D.trace b) bytes) (G.kept keeper) last short kept
+            (w.kept_configures last bytes long.last (any_configures M H D R G g.S.BlocksMut.applied endures a k last bytes is long.last h))
+            (short_configures M H D R G g.S.BlocksMut.applied endures b short bytes w.intact none short_after (w.configures told k bytes is h));
+        last = (long.last, of_store);
+        keeps = elim c.in-Err.ensures.err [ inl same ↦ inl same | inr is ↦ inr (short, is ∙ ap Some c.deref.ensures.value, c.requires.short) ];
+        can_mark = may_mark M H D R G g.S.BlocksMut.applied endures new a true long.last;
       };
     }
 
@@ -154,14 +161,16 @@ returns g c =
     let a = c.args.store.now in
     let b = c.write_out.new.self in
     let keeper = c.save.new.self in
-    let short = D.local_record_of a false in
+    let short = c.args.short.items in
     let w = c.write_out.ensures in
     let none = c.in-Ok.ensures.ok in
-    let kept : G.kept keeper ≡ Some short = c.in-Ok-save.ensures.ok ∙ ap Some (c.deref.ensures.value ∙ c.requires.short) in
+    let short_after = w.empty_record short c.requires.short in
+    let kept : G.kept keeper ≡ Some short = c.in-Ok-save.ensures.ok ∙ ap Some c.deref.ensures.value in
     record {
       moves = record {
         leaves = record {
           identity = w.identity;
+          least = w.least;
           stays = record { ids = w.ids; content = w.content; told = w.told; used = w.used; spent = w.spent; version = w.version; payload = w.payload };
           sound = w.sound;
           goes_on = goes_on_written M H D R G a b c.in-Ok.ensures.writes;
@@ -176,20 +185,20 @@ returns g c =
         };
         intact = w.intact;
         room = omega (arith, c.requires.room, c.save.ensures.room);
-        whole = record { kept = λ u. kept ∙ ap Some (sym w.empty); last = λ u. c.requires.short ∙ sym w.empty; none = λ u. none };
+        whole = record { kept = λ u. kept; last = λ u. short_after; none = λ u. none };
         ok = refl {a = false};
         err = tt;
         writes = c.in-Ok.ensures.writes;
         wrote = inr (inr (c.in-Ok.ensures.writes, none));
         waiting = w.kept_configures;
-        present = λ bytes told. w.configures told bytes;
+        present = λ kept bytes told. w.configures told kept bytes;
       };
       finishes = record {
         stands = λ now sound unmarked same.
-            (short, kept, short_stands M H D R G g.S.BlocksMut.applied endures a b now w.intact (w.sound sound) unmarked w.identity none w.empty (w.content (g.met.S.Blocks.steady.sound_told a sound)) same);
-        configures = λ bytes told h. (short, kept, short_configures M H D R G g.S.BlocksMut.applied endures a b bytes none w.empty (w.configures told bytes h));
+            (short, kept, short_stands M H D R G g.S.BlocksMut.applied endures a b short now w.intact (w.sound sound) unmarked w.identity none short_after (w.content (g.met.S.Blocks.steady.sound_told a sound)) same);
+        configures = λ k bytes told is h. (short, kept, short_configures M H D R G g.S.BlocksMut.applied endures b short bytes w.intact none short_after (w.configures told k bytes is h));
         last = c.requires.short;
-        keeps = inr kept;
-        can_mark = may_mark M H D R G g.S.BlocksMut.applied endures (record { keeper = keeper; last = c.args.short; changed = false }) a false c.requires.long.intact c.requires.short;
+        keeps = inr (short, kept, c.requires.short);
+        can_mark = may_mark M H D R G g.S.BlocksMut.applied endures (record { keeper = keeper; last = c.args.short; changed = false }) a false c.requires.short;
       };
     }

@@ -2,7 +2,7 @@ use Rattle.std.proofs.Common.{◌≡◌, ◌⊎◌, ◌≤◌, true, false, Some
 use Rattle.outside.specs.Causes.{RoseBy}
 use Rattle.outside.specs.Writes.{after_writes}
 use Rattle.session_saver.specs.declared.saver.SyncError.TheVariants.{FaultDirectory, FaultState}
-use Rattle.session_saver.proofs.Steps.{true_is_false, no_fewer, ok_no_error, state_directory, kept_or_new, unwritten_stands, failed_save, kept_or_record, leaves_same, moves_memory, moves_since, moves_stopped, syncs_memory, syncs_on}
+use Rattle.session_saver.proofs.Steps.{true_is_false, no_fewer, ok_no_error, state_directory, kept_or_new, unwritten_stands, written_is, any_configures, failed_save, kept_or_record, leaves_same, moves_memory, moves_since, moves_stopped, syncs_memory, syncs_on}
 use Rattle.session_saver.proofs.saver.Saver.sync.Goals as goal
 
 pub returns-then-not-self : goal.returns-then-not-self
@@ -18,8 +18,8 @@ returns-then-not-self g c =
     let same = c.if-not-self.true in
     let none = c.requires.whole.none same in
     let kept = c.requires.whole.kept same in
-    let short = D.local_record_of a false in
-    let alike = endures.nothing_waits a none in
+    let short = old.last.items in
+    let is = endures.same_record a short none (c.requires.whole.last same) in
     record {
       moves = record {
         leaves = leaves_same M H D R G a old.keeper old.keeper _ (no_fewer (G.faults old.keeper) (G.faults old.keeper) refl) (ok_no_error FaultDirectory) refl (λ is. absurd (ok_no_error FaultState is)) refl;
@@ -30,13 +30,13 @@ returns-then-not-self g c =
         err = tt;
         writes = ap (λ list. after_writes list (D.trace a)) (sym none);
         wrote = inl refl;
-        waiting = λ bytes h. h;
-        present = λ bytes told h. h;
+        waiting = λ k bytes is h. h;
+        present = λ k bytes told is h. any_configures M H D R G g.S.BlocksMut.applied endures a k _ bytes is (endures.written a true c.requires.intact) h;
       };
       syncs = record {
         unchanged = λ e. (refl, refl, refl);
-        stands = λ now sound unmarked as_now. (short, kept, subst (λ bytes. R.stands (D.identity a) bytes (D.trace a) now) alike (unwritten_stands M H D R G g.S.BlocksMut.applied endures a now c.requires.intact sound unmarked as_now));
-        configures = λ bytes told h. (short, kept, subst (λ kept. R.configures kept (D.trace a) bytes) alike h);
+        stands = λ now sound unmarked as_now. (short, kept, unwritten_stands M H D R G g.S.BlocksMut.applied endures a short now c.requires.intact sound unmarked is as_now);
+        configures = λ k bytes told also h. (short, kept, any_configures M H D R G g.S.BlocksMut.applied endures a k short bytes also is h);
         last = inr (c.requires.whole.last same);
         keeps = inl refl;
         can_mark = λ can. can;
@@ -50,7 +50,7 @@ returns-in-Err g c =
     let keeper = c.record_to_save.new.keeper in
     let p = c.record_to_save.ensures in
     record {
-      moves = moves_memory g.S.Blocks.meanings g.S.Blocks.holdings g.S.Durable.durables g.S.Durable.records g.K.Keeper old keeper a c.requires.intact c.requires.room c.if-not-self.false p.room p.faults;
+      moves = moves_memory g.S.Blocks.meanings g.S.Blocks.holdings g.S.Durable.durables g.S.Durable.records g.K.Keeper g.S.BlocksMut.applied g.met.S.Durable.enduring old keeper a c.requires.intact c.requires.room c.if-not-self.false p.room p.faults;
       syncs = syncs_memory g.S.Blocks.meanings g.S.Blocks.holdings g.S.Durable.durables g.S.Durable.records g.K.Keeper old keeper a c.if-not-self.false p.kept;
     }
 
@@ -62,7 +62,7 @@ returns-in-Err-record_to_save g c =
     let p = c.record_to_save.ensures in
     let q = c.record_to_save-2.ensures in
     record {
-      moves = moves_memory g.S.Blocks.meanings g.S.Blocks.holdings g.S.Durable.durables g.S.Durable.records g.K.Keeper old keeper a c.requires.intact c.requires.room c.if-not-self.false (omega (arith, p.room, q.room)) (q.faults ∙ p.faults);
+      moves = moves_memory g.S.Blocks.meanings g.S.Blocks.holdings g.S.Durable.durables g.S.Durable.records g.K.Keeper g.S.BlocksMut.applied g.met.S.Durable.enduring old keeper a c.requires.intact c.requires.room c.if-not-self.false (omega (arith, p.room, q.room)) (q.faults ∙ p.faults);
       syncs = syncs_memory g.S.Blocks.meanings g.S.Blocks.holdings g.S.Durable.durables g.S.Durable.records g.K.Keeper old keeper a c.if-not-self.false (q.kept ∙ p.kept);
     }
 
@@ -79,20 +79,22 @@ returns-in-Err-save g c =
     let new = record old { keeper = keeper } in
     let p = c.record_to_save.ensures in
     let q = c.record_to_save-2.ensures in
+    let endures = g.met.S.Durable.enduring in
     let long = D.local_record_of a true in
+    let is = endures.written a true c.requires.intact in
     let kept : (G.kept keeper ≡ G.kept old.keeper) ⊎ (G.kept keeper ≡ Some long) =
     kept_or_new (G.kept keeper) (G.kept c.record_to_save-2.new.keeper) (G.kept old.keeper) c.deref.result.now long c.in-Err-save.ensures.err (q.kept ∙ p.kept) (c.deref.ensures.value ∙ c.in-Ok.ensures.record_) in
     let calm = q.faults ∙ p.faults in
     record {
-      moves = moves_stopped M H D R G old new a _ c.requires.intact (omega (arith, c.requires.room, p.room, q.room, c.save.ensures.room)) c.if-not-self.false
+      moves = moves_stopped M H D R G g.S.BlocksMut.applied endures old new a _ c.requires.intact (omega (arith, c.requires.room, p.room, q.room, c.save.ensures.room)) c.if-not-self.false
           (leaves_same M H D R G a old.keeper keeper _ (subst (λ n. n ≤ G.faults keeper) calm c.save.ensures.grows) state_directory refl (λ is. subst (λ n. RoseBy 1 n (G.faults keeper)) calm c.in-Err-save.ensures.cause) tt);
       syncs = record {
         unchanged = λ e. absurd (true_is_false (sym c.if-not-self.false ∙ e));
         stands = λ now sound unmarked same. failed_save M H D R G (λ bytes. R.stands (D.identity a) bytes (D.trace a) now) old new a kept
-            (unwritten_stands M H D R G g.S.BlocksMut.applied g.met.S.Durable.enduring a now c.requires.intact sound unmarked same);
-        configures = λ bytes told h. failed_save M H D R G (λ kept. R.configures kept (D.trace a) bytes) old new a kept h;
+            (unwritten_stands M H D R G g.S.BlocksMut.applied endures a long now c.requires.intact sound unmarked is same);
+        configures = λ k bytes told also h. failed_save M H D R G (λ kept. R.configures kept (D.trace a) bytes) old new a kept (any_configures M H D R G g.S.BlocksMut.applied endures a k long bytes also is h);
         last = inl (refl, refl, kept);
-        keeps = kept_or_record M H D R G a (G.kept keeper) (G.kept old.keeper) kept;
+        keeps = kept_or_record M H D R G a (G.kept keeper) (G.kept old.keeper) is kept;
         can_mark = λ can. record { marks = can.marks; long = can.long };
       };
     }
@@ -106,5 +108,20 @@ returns g c =
     let calm = c.in-Ok-save.ensures.quiet ∙ c.record_to_save-2.ensures.faults ∙ c.record_to_save.ensures.faults in
     record {
       moves = moves_since g.S.Blocks.meanings g.S.Blocks.holdings g.S.Durable.durables g.S.Durable.records g.K.Keeper old (record { keeper = c.save.new.self; last = c.in-Ok.bytes; changed = old.changed }) new a b c.finish.result calm c.finish.ensures.moves;
-      syncs = syncs_on g.S.Blocks.meanings g.S.Blocks.holdings g.S.Durable.durables g.S.Durable.records g.K.Keeper old new a b c.finish.result c.if-not-self.false c.finish.ensures.finishes;
+      syncs = syncs_on g.S.Blocks.meanings g.S.Blocks.holdings g.S.Durable.durables g.S.Durable.records g.K.Keeper old (record { keeper = c.save.new.self; last = c.in-Ok.bytes; changed = old.changed }) new a b c.in-Ok.bytes.items c.finish.result c.if-not-self.false
+          (c.in-Ok-save.ensures.ok ∙ ap Some c.deref.ensures.value)
+          (written_is g.S.Blocks.meanings g.S.Blocks.holdings g.S.Durable.durables g.S.Durable.records g.K.Keeper g.S.BlocksMut.applied g.met.S.Durable.enduring a true _ c.requires.intact c.in-Ok.ensures.record_) c.finish.ensures.finishes;
     }
+
+pub finish-requires-clause-long : goal.finish-requires-clause-long
+finish-requires-clause-long g c = record {
+  intact = c.requires.intact;
+  room = omega (arith, c.in-Ok.ensures.fits, c.in-Ok.ensures.room, c.record_to_save-2.ensures.room, c.save.ensures.room);
+  kept = c.in-Ok-save.ensures.ok ∙ ap Some c.deref.ensures.value;
+  last = written_is g.S.Blocks.meanings g.S.Blocks.holdings g.S.Durable.durables g.S.Durable.records g.K.Keeper g.S.BlocksMut.applied g.met.S.Durable.enduring c.args.store.now true _ c.requires.intact c.in-Ok.ensures.record_;
+  changed = c.if-not-self.false;
+}
+
+pub finish-requires-clause-short : goal.finish-requires-clause-short
+finish-requires-clause-short g c =
+    written_is g.S.Blocks.meanings g.S.Blocks.holdings g.S.Durable.durables g.S.Durable.records g.K.Keeper g.S.BlocksMut.applied g.met.S.Durable.enduring c.args.store.now false _ c.requires.intact c.in-Ok-record_to_save.ensures.record_
