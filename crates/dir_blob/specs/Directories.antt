@@ -36,6 +36,11 @@ pub record HasRoom {S : Type 0} (H : BlobHoldings S) (a : S) (id : Id) (name : L
   pub absent : find name_cmp name is.listing ≡ None
   pub room : length (body_of is.listing) + entry_size name ≤ MAX_ENTRIES
 
+-- the same, and these bytes are the directory's body
+pub record HasRoomIn {S : Type 0} (H : BlobHoldings S) (a : S) (id : Id) (body name : List ℕ) : Type 0 where
+  pub room : HasRoom H a id name
+  pub text : body ≡ body_of room.is.listing
+
 -- the name is there
 pub record HasName {S : Type 0} (H : BlobHoldings S) (a : S) (id : Id) (name : List ℕ) : Type 0 where
   pub is : IsDirectory H a id

@@ -90,7 +90,8 @@ fn move_found<B: Blobs, R: Rng>(
                     }
                 }
             }
-            Ok(Sight::Vacant(to)) => {
+            Ok(Sight::Vacant(to, body)) => {
+                drop(body);
                 let folder = Folder {
                     names: to_dirs,
                     place: to,
