@@ -59,6 +59,11 @@ pub record HasBoth {S : Type 0} (H : BlobHoldings S) (a : S) (id : Id) (name : L
   pub absent : find name_cmp e.0 is.listing ≡ None
   pub room : IsListing (renamed name e is.listing) → length (body_of (renamed name e is.listing)) ≤ MAX_ENTRIES
 
+-- the same, and these bytes are the directory's body
+pub record HasBothIn {S : Type 0} (H : BlobHoldings S) (a : S) (id : Id) (body name : List ℕ) (e : List ℕ × EntryTarget) : Type 0 where
+  pub both : HasBoth H a id name e
+  pub text : body ≡ body_of both.is.listing
+
 -- the body was read from the directory, and has room for the edit
 pub record Reading {S : Type 0} (H : BlobHoldings S) (a : S) (id : Id) (body : List ℕ) (edit : Edit) : Type 0 where
   pub is : IsDirectory H a id
