@@ -36,6 +36,11 @@ pub record HasRoom {S : Type 0} (H : BlobHoldings S) (a : S) (id : Id) (name : L
   pub absent : find name_cmp name is.listing ≡ None
   pub room : length (body_of is.listing) + entry_size name ≤ MAX_ENTRIES
 
+-- the same, and these bytes are the directory's body
+pub record HasRoomIn {S : Type 0} (H : BlobHoldings S) (a : S) (id : Id) (body name : List ℕ) : Type 0 where
+  pub room : HasRoom H a id name
+  pub text : body ≡ body_of room.is.listing
+
 -- the name is there
 pub record HasName {S : Type 0} (H : BlobHoldings S) (a : S) (id : Id) (name : List ℕ) : Type 0 where
   pub is : IsDirectory H a id
@@ -53,6 +58,11 @@ pub record HasBoth {S : Type 0} (H : BlobHoldings S) (a : S) (id : Id) (name : L
   pub present : find name_cmp name is.listing ≡ Some target
   pub absent : find name_cmp e.0 is.listing ≡ None
   pub room : IsListing (renamed name e is.listing) → length (body_of (renamed name e is.listing)) ≤ MAX_ENTRIES
+
+-- the same, and these bytes are the directory's body
+pub record HasBothIn {S : Type 0} (H : BlobHoldings S) (a : S) (id : Id) (body name : List ℕ) (e : List ℕ × EntryTarget) : Type 0 where
+  pub both : HasBoth H a id name e
+  pub text : body ≡ body_of both.is.listing
 
 -- the body was read from the directory, and has room for the edit
 pub record Reading {S : Type 0} (H : BlobHoldings S) (a : S) (id : Id) (body : List ℕ) (edit : Edit) : Type 0 where

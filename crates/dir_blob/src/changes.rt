@@ -4,9 +4,9 @@ ghost use Rattle.std.specs.FinMap.{find as found_in, put};
 ghost use Rattle.outcome.specs.Outcome.{Outcome};
 ghost use Rattle.blob_api.specs.BlobMap.{IsSparing};
 ghost use Rattle.fs_model.specs.Tree.{name_cmp, entry_size};
-ghost use Rattle.dir_entries.specs.Layout.{entry_of, entry_text, IsEntry, body_of};
+ghost use Rattle.dir_entries.specs.Layout.{Listing, entry_of, entry_text, IsBody, IsEntry, body_of};
 ghost use Rattle.dir_entries.specs.Places.{IsPlace, target_of, without};
-ghost use Rattle.dir_blob.specs.Directories.{IsDirectory, HasEntries, HasRoom, HasName, OfEntries};
+ghost use Rattle.dir_blob.specs.Directories.{IsDirectory, HasEntries, HasRoom, HasRoomIn, HasName, OfEntries};
 
 use crate::whole_body;
 use blob_api::{Blobs, MAX_BLOB};
@@ -32,7 +32,31 @@ pub fn insert<B: Blobs, R: Rng>(
     ensures absent { OfEntries B.meanings B.holdings b.old b.new dir.now.0 (λ listing. IfOk result (λ _. found_in name_cmp entry.now.name listing ≡ None)) }
     ensures room { OfEntries B.meanings B.holdings b.old b.new dir.now.0 (λ listing. IfOk result (λ _. length (body_of listing) + entry_size entry.now.name ≤ MAX_ENTRIES)) }
 {
-    let (body, mut bytes, place) = read_for(alloc, b, dir, entry)?;
+    let body = whole_body(alloc, b, dir)?;
+    insert_in(alloc, b, dir, &body, entry, chance)
+}
+
+/// One more entry of a directory whose body was read.
+pub fn insert_in<B: Blobs, R: Rng>(
+    alloc: Global,
+    b: &mut B,
+    dir: &BlockId,
+    body: &[u8],
+    entry: &Entry,
+    chance: &mut R,
+) -> Result<(), Fail>
+    requires intact { B.meanings.intact b.old }
+    requires mode { entry.now.attr.mode ≤ MAX_MODE }
+    ensures outcome { Outcome B.meanings (HasRoomIn B.holdings b.old dir.now.0 body.now entry.now.name) b.old b.new result
+        (λ n _. HasEntries B.holdings b.new n.room.is.map dir.now.0 n.room.is.parent (put name_cmp entry.now.name (entry_of entry.now).1 n.room.is.listing)) }
+    ensures absent { (listing : Listing) → IsBody body.now listing → IfOk result (λ _. found_in name_cmp entry.now.name listing ≡ None) }
+    ensures room { IfOk result (λ _. length body.now + entry_size entry.now.name ≤ MAX_ENTRIES) }
+{
+    let mut bytes = Vec::new(alloc);
+    put_entry(&mut bytes, entry)?;
+    let Some(place) = locate(body, &entry.name) else {
+        return Err(Fail::Violation(Why::Structure));
+    };
     if place.found.is_some() || body.len() as u64 + bytes.len() as u64 > MAX_ENTRIES {
         return Err(Fail::Violation(Why::Structure));
     }

@@ -5,6 +5,6 @@ mod changes;
 mod reads;
 mod renames;
 
-pub use changes::{change, insert, remove};
-pub use reads::{entries, find_target, whole_body};
+pub use changes::{change, insert, insert_in, remove};
+pub use reads::{entries, find_in, find_target, whole_body};
 pub use renames::rename;

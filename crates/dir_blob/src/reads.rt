@@ -60,9 +60,25 @@ pub fn find_target<B: Blobs>(
     ensures mode { IfOk result (λ answer. IfSome answer (λ found. found.0.mode ≤ MAX_MODE)) }
     ensures unchanged { B.holdings.changed b.new ≡ B.holdings.changed b.old }
 {
+    Ok(find_in(alloc, b, dir, name)?.0)
+}
+
+/// What stands under a name, and the body of the directory.
+pub fn find_in<B: Blobs>(
+    alloc: Global,
+    b: &mut B,
+    dir: &BlockId,
+    name: &Name,
+) -> Result<(Option<(Attr, BlockId)>, Vec<u8>), Fail>
+    requires { B.meanings.intact b.old }
+    ensures outcome { Outcome B.meanings (IsDirectory B.holdings b.old dir.now.0) b.old b.new result
+        (λ n x. B.holdings.stands_for b.new n.map × (found_in name_cmp name.now n.listing ≡ target_of x.0) × (x.1.items ≡ body_of n.listing)) }
+    ensures mode { IfOk result (λ x. IfSome x.0 (λ found. found.0.mode ≤ MAX_MODE)) }
+    ensures unchanged { B.holdings.changed b.new ≡ B.holdings.changed b.old }
+{
     let body = whole_body(alloc, b, dir)?;
     match locate(&body, name) {
-        Some(place) => Ok(place.found),
+        Some(place) => Ok((place.found, body)),
         None => Err(Fail::Violation(Why::Structure)),
     }
 }

@@ -5,11 +5,10 @@ ghost use Rattle.fs_model.specs.declared.attr.Kind.TheVariants.{Directory};
 ghost use Rattle.outcome.specs.Outcome.{Outcome};
 ghost use Rattle.fs_blobs.specs.Headers.{blob};
 ghost use Rattle.fs_model.specs.Tree.{name_cmp};
-ghost use Rattle.dir_entries.specs.Layout.{entry_of, body_of};
+ghost use Rattle.dir_entries.specs.Layout.{Listing, IsBody, entry_of};
 ghost use Rattle.dir_entries.specs.Renaming.{renamed};
-ghost use Rattle.dir_blob.specs.Directories.{HasBoth, HasEntries, OfEntries, Reading};
+ghost use Rattle.dir_blob.specs.Directories.{HasBothIn, HasEntries, Reading};
 
-use crate::whole_body;
 use blob_api::{Blobs, MAX_BLOB};
 use block_id::{BlockId, Fail, Why};
 use dir_entries::{Edit, Entry, renaming};
@@ -18,26 +17,26 @@ use fs_model::{MAX_ENTRIES, MAX_MODE, Name};
 use rand_core::Rng;
 use std::alloc::Global;
 
-/// The entry of a name goes and another one comes. The directory is read once, and what lies outside of the two is
+/// The entry of a name goes and another one comes, in a directory whose body was read. What lies outside of the two is
 /// written only where it moves.
 pub fn rename<B: Blobs, R: Rng>(
     alloc: Global,
     b: &mut B,
     dir: &BlockId,
+    body: &[u8],
     name: &Name,
     entry: &Entry,
     chance: &mut R,
 ) -> Result<(), Fail>
     requires intact { B.meanings.intact b.old }
     requires mode { entry.now.attr.mode ≤ MAX_MODE }
-    ensures outcome { Outcome B.meanings (HasBoth B.holdings b.old dir.now.0 name.now (entry_of entry.now)) b.old b.new result
-        (λ n _. HasEntries B.holdings b.new n.is.map dir.now.0 n.is.parent (renamed name.now (entry_of entry.now) n.is.listing)) }
-    ensures present { OfEntries B.meanings B.holdings b.old b.new dir.now.0 (λ listing. IfOk result (λ _. is_some (found_in name_cmp name.now listing) ≡ true)) }
-    ensures absent { OfEntries B.meanings B.holdings b.old b.new dir.now.0 (λ listing. IfOk result (λ _. found_in name_cmp entry.now.name listing ≡ None)) }
+    ensures outcome { Outcome B.meanings (HasBothIn B.holdings b.old dir.now.0 body.now name.now (entry_of entry.now)) b.old b.new result
+        (λ n _. HasEntries B.holdings b.new n.both.is.map dir.now.0 n.both.is.parent (renamed name.now (entry_of entry.now) n.both.is.listing)) }
+    ensures present { (listing : Listing) → IsBody body.now listing → IfOk result (λ _. is_some (found_in name_cmp name.now listing) ≡ true) }
+    ensures absent { (listing : Listing) → IsBody body.now listing → IfOk result (λ _. found_in name_cmp entry.now.name listing ≡ None) }
 {
-    let body = whole_body(alloc, b, dir)?;
-    match renaming(alloc, &body, name, entry)? {
-        Some(edit) => splice(alloc, b, dir, &body, edit, chance),
+    match renaming(alloc, body, name, entry)? {
+        Some(edit) => splice(alloc, b, dir, body, edit, chance),
         None => Err(Fail::Violation(Why::Structure)),
     }
 }

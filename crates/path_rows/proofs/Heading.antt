@@ -18,7 +18,7 @@ use Rattle.fs_model.proofs.TreeLemmas.{same_name, name_same, name_apart, path_sp
 use Rattle.fs_model.proofs.MovedTree.{strip_none, moved_well_formed}
 use Rattle.fs_model.proofs.MovedRows.{IsCarried, moved_rows}
 use Rattle.fs_model.proofs.MovedSize.{size_within_free, size_across_free}
-use Rattle.forest.specs.Shows.{ShowsBy}
+use Rattle.forest.specs.Shows.{ShowsBy, entries_at}
 use Rattle.path_walks.specs.declared.spots.Folder.{Folder}
 use Rattle.path_walks.specs.declared.spots.Place.{Place}
 use Rattle.path_walks.specs.Sights.{IsAt}
@@ -30,11 +30,11 @@ use Rattle.forest.specs.Midst.{moved_ids}
 use Rattle.fs_model.specs.Move.{CanMove, strip, moved_by}
 use Rattle.path_rows.specs.Moves.{Moving, Heading}
 use Rattle.path_walks.proofs.Steps.{directory_seen, folder_is}
-use Rattle.path_walks.proofs.Nodes.{size_at}
+use Rattle.path_walks.proofs.Nodes.{lists_at, same_lists, size_at}
 use Rattle.dir_blob.specs.Directories.{IsDirectory}
 use Rattle.dir_entries.specs.Layout.{EntryTarget, body_of}
 
-module _ {S : Type 0} {H : BlobHoldings S} {a : S} {now : Instant} {from : Folder} {n : List ℕ} {place : Place} {to : Folder} {k : List ℕ} (w : Heading H a now from n place to k) where
+module _ {S : Type 0} {H : BlobHoldings S} {a : S} {now : Instant} {from : Folder} {n : List ℕ} {place : Place} {to : Folder} {k body : List ℕ} (w : Heading H a now from n place to k body) where
   abbrev pub next : Tree
   next = moved_tree w.tree now (n ∷ w.above) (k ∷ w.below) w.row
 
@@ -50,6 +50,12 @@ module _ {S : Type 0} {H : BlobHoldings S} {a : S} {now : Instant} {from : Folde
 
   pub size_is : length (body_of directory.listing) ≡ directory_size w.tree w.below
   size_is = size_at w.shows w.below w.to_at.row w.to_at.there (folder_is w.tree w.ids w.below to.place w.to_at w.folder)
+
+  pub body_size : length body ≡ directory_size w.tree w.below
+  body_size =
+      let kind = folder_is w.tree w.ids w.below to.place w.to_at w.folder in
+      let same = same_lists (entries_at w.tree w.ids w.below) body (w.shows.forest.nodes w.below w.to_at.row w.to_at.there).body w.lists (lists_at w.shows w.below w.to_at.row w.to_at.there kind) in
+      ap length (w.lists.is.text ∙ ap body_of same) ∙ size_is
 
   -- what the entry leaves behind in the same directory
   pub size_next : directory_size next w.below + cond (same_name from.place.blob.0 to.place.blob.0) (entry_size n) 0 ≡ directory_size w.tree w.below + entry_size k
@@ -93,7 +99,7 @@ module _ {S : Type 0} {H : BlobHoldings S} {a : S} {now : Instant} {from : Folde
   formed_as z e named small = subst (λ x. IsWellFormed (moved_tree w.tree now (n ∷ w.above) (x ∷ w.below) w.row)) e (well_formed_next named small)
 
   -- the move can be made, under an equal name
-  abbrev pub moving : (b : S) → H.stands_for b w.map → IsName k → directory_size next w.below ≤ MAX_ENTRIES → (z : List ℕ) → k ≡ z → (t : EntryTarget) → t.attr ≡ record place.attr { ctime = now } → t.blob ≡ place.blob.0 → Moving H b from.place.blob.0 n to.place.blob.0 (z, t)
+  abbrev pub moving : (b : S) → H.stands_for b w.map → IsName k → directory_size next w.below ≤ MAX_ENTRIES → (z : List ℕ) → k ≡ z → (t : EntryTarget) → t.attr ≡ record place.attr { ctime = now } → t.blob ≡ place.blob.0 → Moving H b from.place.blob.0 n to.place.blob.0 body (z, t)
   moving b stands named small z zk t attr blob = record {
     map = w.map;
     stands = stands;
@@ -109,6 +115,7 @@ module _ {S : Type 0} {H : BlobHoldings S} {a : S} {now : Instant} {from : Folde
     free = free_as z zk;
     from_id = w.from_at.blob;
     to_id = w.to_at.blob;
+    lists = w.lists;
     attr = attr_is t attr;
     blob = w.place_at.blob ∙ sym blob;
     well_formed = formed_as z zk named small;

@@ -14,14 +14,14 @@ use Rattle.fs_blobs.specs.Headers.{blob}
 use Rattle.dir_entries.specs.Layout.{EntryTarget, Listing, body_of, IsListing}
 use Rattle.dir_entries.specs.Places.{without}
 use Rattle.dir_entries.specs.Renaming.{renamed}
-use Rattle.dir_blob.specs.Directories.{HasBoth, HasEntries}
+use Rattle.dir_blob.specs.Directories.{HasBoth, HasBothIn, HasEntries}
 use Rattle.dir_blob.proofs.Needs.{insert_again}
 use Rattle.forest.specs.Nodes.{Lists}
 use Rattle.forest.specs.Shows.{above, target_for, entries_at}
 use Rattle.forest.proofs.Shown.{same_last}
 use Rattle.forest.proofs.Moved.{from_without, onto_with, ids_moved, look_off, qd_off_q}
 use Rattle.path_rows.specs.Moves.{Moving}
-use Rattle.path_walks.proofs.Nodes.{lists_at, entries_with}
+use Rattle.path_walks.proofs.Nodes.{lists_at, entries_with, same_lists}
 use Rattle.path_walks.proofs.Sizes.{sizes_shown, body_size}
 use Rattle.path_rows.proofs.Edits.{entries_without, lists_without, without_is}
 use Rattle.path_rows.proofs.Relocated.{IsOnTheWay, looks1, looks2, next, target, target_is, row_from, row_to, has_name}
@@ -41,7 +41,7 @@ swapped n q k x o differ = elim (name_split k q) as (λ _. cond (same_name k n) 
       ∙ sym (ap (λ b. cond b (Some x) (cond (same_name k n) None o)) no)
 ]
 
-module _ {S : Type 0} {H : BlobHoldings S} {a : S} {from : Id} {n : List ℕ} {to : Id} {e : List ℕ × EntryTarget} (w : Moving H a from n to e) (same : from ≡ to) where
+module _ {S : Type 0} {H : BlobHoldings S} {a : S} {from : Id} {n : List ℕ} {to : Id} {body : List ℕ} {e : List ℕ × EntryTarget} (w : Moving H a from n to body e) (same : from ≡ to) where
   one_path : w.above ≡ w.below
   one_path = w.shows.forest.distinct w.above w.below (ap is_some (row_from w).there) (ap is_some (row_to w).there) (w.from_id ∙ (same ∙ sym w.to_id))
 
@@ -82,6 +82,15 @@ module _ {S : Type 0} {H : BlobHoldings S} {a : S} {from : Id} {n : List ℕ} {t
   -- the directory has the name, and room for the other one
   abbrev pub has_both : HasBoth H a from n e
   has_both = record { is = (has_name w).is; target = (has_name w).target; present = (has_name w).present; absent = none_here; room = room_here }
+
+  -- the body that was read is the directory's
+  pub body_here : body ≡ body_of listing
+  body_here =
+      let read : Lists (entries_at w.tree w.ids w.above) body = subst (λ d. Lists (entries_at w.tree w.ids d) body) (sym one_path) w.lists in
+      read.is.text ∙ ap body_of (same_lists (entries_at w.tree w.ids w.above) body (w.shows.forest.nodes w.above (row_from w).row (row_from w).there).body read (lists_at w.shows w.above (row_from w).row (row_from w).there (row_from w).kind))
+
+  abbrev pub has_both_in : (read : List ℕ) → read ≡ body → HasBothIn H a from read n e
+  has_both_in read e2 = record { both = has_both; text = e2 ∙ body_here }
 
   abbrev pub map1 : BlobMap
   map1 = insert w.map (w.ids w.above) (blob Directory (above w.ids w.above) (body_of (without n listing)))

@@ -20,16 +20,16 @@ use Rattle.fs_model.proofs.LookUpLemmas.{look-walk}
 use Rattle.fs_model.proofs.PutRows.{insert_free}
 use Rattle.fs_blobs.specs.Headers.{blob}
 use Rattle.dir_entries.specs.Layout.{EntryTarget, body_of, IsEntry}
-use Rattle.dir_blob.specs.Directories.{IsDirectory, HasRoom, HasEntries}
+use Rattle.dir_blob.specs.Directories.{IsDirectory, HasRoom, HasRoomIn, HasEntries}
 use Rattle.forest.specs.Nodes.{IsBodyOf}
 use Rattle.forest.specs.Shows.{above, target_for, entries_at, ShowsBy}
 use Rattle.forest.proofs.Forests.{map_apart}
 use Rattle.forest.specs.Midst.{ids_with}
 use Rattle.forest.proofs.Shown.{made_shows}
 use Rattle.forest.specs.Showing.{Performed, IsShownBy}
-use Rattle.path_walks.specs.Sights.{IsAt, IsVacant}
+use Rattle.path_walks.specs.Sights.{IsAt, IsOpen}
 use Rattle.path_rows.specs.Changes.{Making, Adding}
-use Rattle.path_walks.proofs.Nodes.{lists_at, directory_at, size_at, lists_with}
+use Rattle.path_walks.proofs.Nodes.{lists_at, directory_at, same_lists, size_at, lists_with}
 use Rattle.path_rows.proofs.Edits.{put_named}
 use Rattle.path_walks.proofs.Steps.{folder_is, walk_free}
 use Rattle.path_walks.specs.declared.spots.Folder.{Folder}
@@ -43,7 +43,7 @@ new_content Directory bytes fits = record { listing = []; is = record { entries 
 new_content File bytes fits = refl
 new_content Link bytes fits = refl
 
-module _ {S : Type 0} {H : BlobHoldings S} {a : S} {dir : Folder} {n : List ℕ} {row : Row} (w : Making H a dir n row) where
+module _ {S : Type 0} {H : BlobHoldings S} {a : S} {dir : Folder} {n body : List ℕ} {row : Row} (w : Making H a dir n body row) where
   abbrev pub home : Id
   home = dir.place.blob.0
 
@@ -61,6 +61,13 @@ module _ {S : Type 0} {H : BlobHoldings S} {a : S} {dir : Folder} {n : List ℕ}
 
   pub size_is : length (body_of directory.listing) ≡ directory_size w.tree w.path
   size_is = size_at w.shows w.path at.row at.there kind
+
+  -- the body that was read is the directory's
+  pub body_is : body ≡ body_of directory.listing
+  body_is = w.lists.is.text ∙ ap body_of (same_lists (entries_at w.tree w.ids w.path) body (w.shows.forest.nodes w.path at.row at.there).body w.lists (lists_at w.shows w.path at.row at.there kind))
+
+  pub body_size : length body ≡ directory_size w.tree w.path
+  body_size = ap length body_is ∙ size_is
 
   -- the tree with the row, and with its directory touched
   abbrev pub more : Tree
@@ -115,6 +122,9 @@ module _ {S : Type 0} {H : BlobHoldings S} {a : S} {dir : Folder} {n : List ℕ}
       room = room_as z e;
     }
 
+    abbrev pub has_room_in : (read : List ℕ) → read ≡ body → (z : List ℕ) → n ≡ z → HasRoomIn H b home read z
+    has_room_in read same z e = record { room = has_room_as z e; text = same ∙ body_is }
+
     -- and then the blobs show it
     pub added : (c : S) → HasEntries H c map1 home (above w.ids w.path) (put name_cmp n (record { attr = row.attr; blob = id }) directory.listing) → IsShownBy H c w.root (insert w.tree (n ∷ w.path) row) (ids_with w.ids (n ∷ w.path) id)
     added c h =
@@ -163,12 +173,12 @@ module _ {S : Type 0} {H : BlobHoldings S} {a : S} {dir : Folder} {n : List ℕ}
       told_as (done (touched more now w.path)) (stepped now) Done is (shown_done (touched more now w.path) ids (subst (λ z. IsShownBy H c w.root (touched more now z) ids) (sym w.names) h))
 
   -- the same over the store as it is after a call that only looked
-  abbrev pub adding : (b : S) → H.stands_for b w.map → directory_size w.tree w.path + entry_size n ≤ MAX_ENTRIES → Adding H b dir n row
+  abbrev pub adding : (b : S) → H.stands_for b w.map → directory_size w.tree w.path + entry_size n ≤ MAX_ENTRIES → Adding H b dir n body row
   adding b stands small = record {
-    making = record { map = w.map; stands = stands; root = w.root; tree = w.tree; ids = w.ids; shows = w.shows; path = w.path; names = w.names; is = w.is; limits = w.limits };
+    making = record { map = w.map; stands = stands; root = w.root; tree = w.tree; ids = w.ids; shows = w.shows; path = w.path; names = w.names; is = w.is; lists = w.lists; limits = w.limits };
     room = small;
   }
 
-abbrev pub making : {S : Type 0} {H : BlobHoldings S} {b : S} {row : Row} (m : BlobMap) → H.stands_for b m → (root : Id) (t : Tree) (ids : Path → Id) → ShowsBy m root t ids → {n : List ℕ} (dir : Folder) → IsVacant t ids (upward dir.names.now) n dir.place → IsWithinLimits row
-    → Making H b dir n row
-making m stands root t ids shows dir is limits = record { map = m; stands = stands; root = root; tree = t; ids = ids; shows = shows; path = upward dir.names.now; names = refl; is = is; limits = limits }
+abbrev pub making : {S : Type 0} {H : BlobHoldings S} {b : S} {row : Row} (m : BlobMap) → H.stands_for b m → (root : Id) (t : Tree) (ids : Path → Id) → ShowsBy m root t ids → {n body : List ℕ} (dir : Folder) → IsOpen t ids (upward dir.names.now) n dir.place body → IsWithinLimits row
+    → Making H b dir n body row
+making m stands root t ids shows dir is limits = record { map = m; stands = stands; root = root; tree = t; ids = ids; shows = shows; path = upward dir.names.now; names = refl; is = is.vacant; lists = is.lists; limits = limits }

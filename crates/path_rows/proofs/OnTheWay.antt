@@ -15,7 +15,7 @@ use Rattle.forest.specs.Showing.{BlobsShow, PerformedBy, Performed}
 use Rattle.tree_rules.proofs.PathLemmas.{not_root}
 use Rattle.path_walks.specs.declared.spots.Folder.{Folder}
 use Rattle.path_walks.specs.declared.spots.Place.{Place}
-use Rattle.path_walks.specs.Sights.{IsFound, IsVacant, Standing}
+use Rattle.path_walks.specs.Sights.{IsFound, IsOpen, Standing}
 use Rattle.path_rows.specs.Moves.{Heading, Replacing}
 use Rattle.path_rows.specs.Onward.{Onward, Lets}
 use Rattle.path_walks.proofs.Seeing.{look_found, look_free, on_path}
@@ -61,7 +61,7 @@ module _ {S : Type 0} {H : BlobHoldings S} {a : S} {root : Id} {dir : Folder} {n
     abbrev pub standing : (b : S) → H.stands_for b w.map → (to old : Place) → IsFound w.tree w.ids d k to old → Standing H b old
     standing b stands to old is = record { map = w.map; stands = stands; root = root; tree = w.tree; ids = w.ids; shows = w.shows; path = k ∷ d; at = is.here }
 
-    abbrev pub heading : (now : Instant) (b : S) → H.stands_for b w.map → (to : Folder) → d ≡ upward to.names.now → IsVacant w.tree w.ids d k to.place → Heading H b now dir n place to k
+    abbrev pub heading : (now : Instant) (b : S) → H.stands_for b w.map → (to : Folder) → d ≡ upward to.names.now → {body : List ℕ} → IsOpen w.tree w.ids d k to.place body → Heading H b now dir n place to k body
     heading now b stands to names is = record {
       map = w.map;
       stands = stands;
@@ -72,14 +72,15 @@ module _ {S : Type 0} {H : BlobHoldings S} {a : S} {root : Id} {dir : Folder} {n
       above = w.path;
       below = d;
       row = w.is.here.row;
-      can = can_move_free w.tree n w.path k d w.is.here.row w.shows.well_formed.rooted look_here off (look_free w.shows d k to.place is);
-      free = is.none;
+      can = can_move_free w.tree n w.path k d w.is.here.row w.shows.well_formed.rooted look_here off (look_free w.shows d k to.place is.vacant);
+      free = is.vacant.none;
       from_names = w.names;
       to_names = names;
       from_at = w.is.above;
       place_at = w.is.here;
-      to_at = is.above;
-      folder = is.folder;
+      to_at = is.vacant.above;
+      folder = is.vacant.folder;
+      lists = is.lists;
     }
 
     module _ (to old : Place) (is : IsFound w.tree w.ids d k to old) where

@@ -17,7 +17,7 @@ use Rattle.fs_blobs.specs.Headers.{blob}
 use Rattle.fs_blobs.specs.Blobs.{IsBlob}
 use Rattle.dir_entries.specs.Layout.{EntryTarget, body_of}
 use Rattle.dir_entries.specs.Places.{without}
-use Rattle.dir_blob.specs.Directories.{HasName, HasRoom, HasEntries}
+use Rattle.dir_blob.specs.Directories.{HasName, HasRoom, HasRoomIn, HasEntries}
 use Rattle.forest.specs.Nodes.{Look, Lists, IsBlobOf, IsForest}
 use Rattle.forest.specs.Shows.{above, target_for, entries_at}
 use Rattle.forest.proofs.Shown.{IsFolderRow, folder_row, entry_apart, same_last}
@@ -25,7 +25,7 @@ use Rattle.forest.proofs.Moved.{looks_without, looks_with, from_without, onto_wi
 use Rattle.forest.specs.Showing.{IsShownBy}
 use Rattle.forest.specs.Midst.{moved_ids}
 use Rattle.path_rows.specs.Moves.{Moving}
-use Rattle.path_walks.proofs.Nodes.{lists_at, lists_of, directory_at, above_wide, lists_with, entries_with, content_fits}
+use Rattle.path_walks.proofs.Nodes.{lists_at, lists_of, same_lists, directory_at, above_wide, lists_with, entries_with, content_fits}
 use Rattle.path_walks.proofs.Sizes.{sizes_shown, body_size}
 use Rattle.path_rows.proofs.Edits.{lists_without, sorted_put, size_put}
 
@@ -35,7 +35,10 @@ pub record IsOnTheWay {S : Type 0} (H : BlobHoldings S) (b : S) (t : Tree) (ids 
   pub stands : H.stands_for b map
   pub forest : IsForest map t ids (above ids) looks
 
-module _ {S : Type 0} {H : BlobHoldings S} {a : S} {from : Id} {n : List ℕ} {to : Id} {e : List ℕ × EntryTarget} (w : Moving H a from n to e) where
+tails : (k n : List ℕ) (p q : Path) → k ∷ p ≡ n ∷ q → p ≡ q
+tails k n p q e = cc
+
+module _ {S : Type 0} {H : BlobHoldings S} {a : S} {from : Id} {n : List ℕ} {to : Id} {body : List ℕ} {e : List ℕ × EntryTarget} (w : Moving H a from n to body e) where
   abbrev pub p : Path
   p = n ∷ w.above
 
@@ -122,6 +125,16 @@ module _ {S : Type 0} {H : BlobHoldings S} {a : S} {from : Id} {n : List ℕ} {t
       absent = none_to;
       room = size_to;
     }
+
+    -- the body that was read is still that of the directory, which isn't the one that the entry left
+    pub body_to : (from ≡ to → ⊥) → body ≡ body_of lists_to.listing
+    body_to apart =
+        let read : Lists (looks1 w.below) body =
+        record { listing = w.lists.listing; is = w.lists.is; entries = λ k. w.lists.entries k ∙ sym (entry_apart (entries_at w.tree w.ids) p None w.below k (λ z. apart (sym w.from_id ∙ (ap w.ids (sym (tails k n w.below w.above z)) ∙ w.to_id)))) } in
+        w.lists.is.text ∙ ap body_of (same_lists (looks1 w.below) body node_to.body read lists_to)
+
+    abbrev pub has_room_in : (from ≡ to → ⊥) → (read : List ℕ) → read ≡ body → HasRoomIn H b to read e.0
+    has_room_in apart read same = record { room = has_room; text = same ∙ body_to apart }
 
     pub came : (c : S) → HasEntries H c way.map to (above w.ids w.below) (put name_cmp e.0 e.1 lists_to.listing) → IsOnTheWay H c w.tree w.ids looks2
     came c h =

@@ -19,6 +19,12 @@ use Rattle.path_walks.specs.declared.spots.Place.{Place}
 use Rattle.path_entries.proofs.Places.{still_at}
 use Rattle.forest.specs.Showing.{IsShownBy, PerformedBy}
 use Rattle.path_walks.specs.Sights.{IsAt}
+use Rattle.path_walks.proofs.Nodes.{lists_at}
+use Rattle.path_walks.proofs.Steps.{directory_seen, folder_is}
+use Rattle.dir_entries.specs.Layout.{body_of}
+use Rattle.dir_blob.specs.Directories.{IsDirectory}
+use Rattle.forest.specs.Nodes.{Lists}
+use Rattle.forest.specs.Shows.{entries_at}
 use Rattle.path_rows.specs.Changes.{Dropping}
 use Rattle.path_rows.specs.Moves.{Heading, Replacing}
 
@@ -66,11 +72,20 @@ module _ {S : Type 0} {H : BlobHoldings S} {a : S} {now : Instant} {from : Folde
   pub to_stays : IsAt rest w.ids w.below to.place
   to_stays = stays w.below to.place (λ e. omega (arith, ap length e)) w.to_at
 
-  -- and then the path is free
-  abbrev pub heading : (b : S) → IsShownBy H b w.root rest w.ids → Heading H b now from n place to k
-  heading b h = record {
+  -- then its directory is read
+  abbrev pub seen : (b : S) → IsShownBy H b w.root rest w.ids → IsDirectory H b to.place.blob.0
+  seen b h = directory_seen h.shows h.stands w.below to.place to_stays w.folder
+
+  pub lists_seen : (b : S) (h : IsShownBy H b w.root rest w.ids) (body : List ℕ) → body ≡ body_of (seen b h).listing → Lists (entries_at rest w.ids w.below) body
+  lists_seen b h body text =
+      let lists = lists_at h.shows w.below to_stays.row to_stays.there (folder_is rest w.ids w.below to.place to_stays w.folder) in
+      record { listing = lists.listing; is = record { entries = lists.is.entries; text = text }; entries = lists.entries }
+
+  -- and the path is free
+  abbrev pub heading : (b : S) (h : IsShownBy H b w.root rest w.ids) (c : S) → H.stands_for c h.map → (body : List ℕ) → body ≡ body_of (seen b h).listing → Heading H c now from n place to k body
+  heading b h c stands body text = record {
     map = h.map;
-    stands = h.stands;
+    stands = stands;
     root = w.root;
     tree = rest;
     ids = w.ids;
@@ -86,6 +101,7 @@ module _ {S : Type 0} {H : BlobHoldings S} {a : S} {now : Instant} {from : Folde
     place_at = place_stays;
     to_at = to_stays;
     folder = w.folder;
+    lists = lists_seen b h body text;
   }
 
   abbrev next : Tree

@@ -6,13 +6,14 @@ use Rattle.blob_api.specs.BlobMap.{Id, BlobMap, BlobHoldings}
 use Rattle.fs_model.specs.declared.attr.Kind.TheVariants.{Directory}
 use Rattle.fs_model.specs.declared.limits.TheConstants.{MAX_ENTRIES}
 use Rattle.fs_model.specs.Tree.{Path, Row, Tree, upward, IsWellFormed, IsWithinLimits, entry_size, directory_size}
-use Rattle.forest.specs.Shows.{ShowsBy}
+use Rattle.forest.specs.Nodes.{Lists}
+use Rattle.forest.specs.Shows.{ShowsBy, entries_at}
 use Rattle.path_walks.specs.declared.spots.Folder.{Folder}
 use Rattle.path_walks.specs.declared.spots.Place.{Place}
 use Rattle.path_walks.specs.Sights.{IsVacant, Finding, Standing}
 
--- a directory in which a name is free, where a row is to be made
-pub record Making {S : Type 0} (H : BlobHoldings S) (a : S) (dir : Folder) (n : List ℕ) (row : Row) : Type 0 where
+-- a directory in which a name is free, where a row is to be made, and its body
+pub record Making {S : Type 0} (H : BlobHoldings S) (a : S) (dir : Folder) (n body : List ℕ) (row : Row) : Type 0 where
   pub map : BlobMap
   pub stands : H.stands_for a map
   pub root : Id
@@ -22,11 +23,12 @@ pub record Making {S : Type 0} (H : BlobHoldings S) (a : S) (dir : Folder) (n : 
   pub path : Path
   pub names : path ≡ upward dir.names.now
   pub is : IsVacant tree ids path n dir.place
+  pub lists : Lists (entries_at tree ids path) body
   pub limits : IsWithinLimits row
 
 -- and there is room for its entry
-pub record Adding {S : Type 0} (H : BlobHoldings S) (a : S) (dir : Folder) (n : List ℕ) (row : Row) : Type 0 where
-  pub making : Making H a dir n row
+pub record Adding {S : Type 0} (H : BlobHoldings S) (a : S) (dir : Folder) (n body : List ℕ) (row : Row) : Type 0 where
+  pub making : Making H a dir n body row
   pub room : directory_size making.tree making.path + entry_size n ≤ MAX_ENTRIES
 
 -- a row that may go, with its directory's blob and its own

@@ -11,13 +11,15 @@ use Rattle.fs_model.specs.Tree.{Path, Row, Tree, upward, IsWellFormed}
 use Rattle.fs_model.specs.Move.{CanMove}
 use Rattle.fs_model.specs.Step.{with_ctime, moved_tree}
 use Rattle.dir_entries.specs.Layout.{EntryTarget}
-use Rattle.forest.specs.Shows.{ShowsBy}
+use Rattle.forest.specs.Nodes.{Lists}
+use Rattle.forest.specs.Shows.{ShowsBy, entries_at}
 use Rattle.path_walks.specs.declared.spots.Folder.{Folder}
 use Rattle.path_walks.specs.declared.spots.Place.{Place}
 use Rattle.path_walks.specs.Sights.{IsAt}
 
--- a row that may move to a free path: from the directory `above` to the directory `below`, under the entry e
-pub record Moving {S : Type 0} (H : BlobHoldings S) (a : S) (from : Id) (n : List ℕ) (to : Id) (e : List ℕ × EntryTarget) : Type 0 where
+-- a row that may move to a free path: from the directory `above` to the directory `below`, which has this body, under
+-- the entry e
+pub record Moving {S : Type 0} (H : BlobHoldings S) (a : S) (from : Id) (n : List ℕ) (to : Id) (body : List ℕ) (e : List ℕ × EntryTarget) : Type 0 where
   pub map : BlobMap
   pub stands : H.stands_for a map
   pub root : Id
@@ -32,12 +34,13 @@ pub record Moving {S : Type 0} (H : BlobHoldings S) (a : S) (from : Id) (n : Lis
   pub free : get tree (e.0 ∷ below) ≡ None
   pub from_id : ids above ≡ from
   pub to_id : ids below ≡ to
+  pub lists : Lists (entries_at tree ids below) body
   pub attr : (with_ctime row now).attr ≡ e.1.attr
   pub blob : ids (n ∷ above) ≡ e.1.blob
   pub well_formed : IsWellFormed (moved_tree tree now (n ∷ above) (e.0 ∷ below) row)
 
--- what stands in the directory `from` under n is to move to the free name k of the directory `to`
-pub record Heading {S : Type 0} (H : BlobHoldings S) (a : S) (now : Instant) (from : Folder) (n : List ℕ) (place : Place) (to : Folder) (k : List ℕ) : Type 0 where
+-- what stands in the directory `from` under n is to move to the free name k of the directory `to`, which has this body
+pub record Heading {S : Type 0} (H : BlobHoldings S) (a : S) (now : Instant) (from : Folder) (n : List ℕ) (place : Place) (to : Folder) (k body : List ℕ) : Type 0 where
   pub map : BlobMap
   pub stands : H.stands_for a map
   pub root : Id
@@ -55,8 +58,9 @@ pub record Heading {S : Type 0} (H : BlobHoldings S) (a : S) (now : Instant) (fr
   pub place_at : IsAt tree ids (n ∷ above) place
   pub to_at : IsAt tree ids below to.place
   pub folder : to.place.attr.kind ≡ Directory
+  pub lists : Lists (entries_at tree ids below) body
 
--- the same, where something that has nothing below it stands at the name k
+-- something that has nothing below it stands at the name k
 pub record Replacing {S : Type 0} (H : BlobHoldings S) (a : S) (now : Instant) (from : Folder) (n : List ℕ) (place : Place) (to : Folder) (k : List ℕ) (replaced : Place) : Type 0 where
   pub map : BlobMap
   pub stands : H.stands_for a map

@@ -9,9 +9,10 @@ ghost use Rattle.forest.specs.Showing.{IsShownBy};
 ghost use Rattle.path_rows.specs.Changes.{Dropping};
 ghost use Rattle.path_rows.specs.Moves.{Moving};
 
+use crate::made::Vacancy;
 use blob_api::Blobs;
 use block_id::{BlockId, Fail};
-use dir_blob::{insert, remove, rename};
+use dir_blob::{insert_in, remove, rename};
 use dir_entries::Entry;
 use fs_blobs::set_parent;
 use fs_model::{MAX_MODE, Name};
@@ -43,19 +44,20 @@ pub fn relocate<B: Blobs, R: Rng>(
     b: &mut B,
     from: &BlockId,
     name: &Name,
-    to: &BlockId,
+    to: &Vacancy,
     entry: &Entry,
     chance: &mut R,
 ) -> Result<(), Fail>
     requires intact { B.meanings.intact b.old }
     requires mode { entry.now.attr.mode ≤ MAX_MODE }
-    ensures { Outcome B.meanings (Moving B.holdings b.old from.now.0 name.now to.now.0 (entry_of entry.now)) b.old b.new result
+    ensures { Outcome B.meanings (Moving B.holdings b.old from.now.0 name.now to.now.dir.place.blob.0 to.now.body.items (entry_of entry.now)) b.old b.new result
         (λ n _. IsShownBy B.holdings b.new n.root (moved_tree n.tree n.now (name.now ∷ n.above) (entry.now.name ∷ n.below) n.row) (moved_ids n.ids (name.now ∷ n.above) (entry.now.name ∷ n.below))) }
 {
-    if is_same(from, to) {
-        return rename(alloc, b, from, name, entry, chance);
+    let dir = to.dir.place.blob;
+    if is_same(from, &dir) {
+        return rename(alloc, b, from, &to.body, name, entry, chance);
     }
     remove(alloc, b, from, name, chance)?;
-    insert(alloc, b, to, entry, chance)?;
-    set_parent(alloc, b, &entry.blob, to, chance)
+    insert_in(alloc, b, &dir, &to.body, entry, chance)?;
+    set_parent(alloc, b, &entry.blob, &dir, chance)
 }

@@ -11,21 +11,28 @@ ghost use Rattle.path_walks.specs.Replies.{IsChangeReply};
 
 use blob_api::Blobs;
 use block_id::{BlockId, Fail};
-use dir_blob::insert;
+use dir_blob::insert_in;
 use dir_entries::Entry;
-use fs_blobs::{Header, body_len, new_blob};
+use fs_blobs::{Header, new_blob};
 use fs_model::{Attr, ENTRY_SIZE, FsError, MAX_ENTRIES, MAX_MODE, MAX_TARGET, Moment, Name, Reply};
 use path_entries::touch;
 use path_walks::{Folder, done};
 use rand_core::Rng;
 use std::alloc::Global;
 
+/// A free name in a directory, whose body was read.
+#[derive(Drop)]
+pub struct Vacancy<'a> {
+    pub dir: Folder<'a>,
+    pub name: &'a Name,
+    pub body: Vec<u8>,
+}
+
 /// A new row where its directory has room for its entry: its blob, and then its entry.
 pub fn add_row<B: Blobs, R: Rng>(
     alloc: Global,
     b: &mut B,
-    dir: &Folder,
-    name: &Name,
+    at: &Vacancy,
     attr: Attr,
     bytes: &[u8],
     chance: &mut R,
@@ -33,19 +40,21 @@ pub fn add_row<B: Blobs, R: Rng>(
     requires intact { B.meanings.intact b.old }
     requires mode { attr.mode ≤ MAX_MODE }
     requires short { length bytes.now ≤ MAX_TARGET }
-    ensures { Outcome B.meanings (Adding B.holdings b.old dir.now name.now (record { attr = attr; bytes = bytes.now })) b.old b.new result
-        (λ n id. IsShownBy B.holdings b.new n.making.root (with_row n.making.tree (name.now ∷ n.making.path) (record { attr = attr; bytes = bytes.now })) (ids_with n.making.ids (name.now ∷ n.making.path) id.0)) }
+    ensures { Outcome B.meanings (Adding B.holdings b.old at.now.dir at.now.name.now at.now.body.items (record { attr = attr; bytes = bytes.now })) b.old b.new result
+        (λ n id. IsShownBy B.holdings b.new n.making.root (with_row n.making.tree (at.now.name.now ∷ n.making.path) (record { attr = attr; bytes = bytes.now })) (ids_with n.making.ids (at.now.name.now ∷ n.making.path) id.0)) }
 {
-    let name = name.try_clone()?;
+    let name = at.name.try_clone()?;
+    let dir = at.dir.place.blob;
     let header = Header {
         kind: attr.kind,
-        parent: dir.place.blob,
+        parent: dir,
     };
     let blob = new_blob(alloc, b, &header, bytes, chance)?;
-    insert(
+    insert_in(
         alloc,
         b,
-        &dir.place.blob,
+        &dir,
+        &at.body,
         &Entry { name, attr, blob },
         chance,
     )?;
@@ -56,25 +65,24 @@ pub fn add_row<B: Blobs, R: Rng>(
 pub fn make_in<B: Blobs, R: Rng>(
     alloc: Global,
     b: &mut B,
-    dir: &Folder,
-    name: &Name,
+    at: &Vacancy,
     attr: Attr,
     bytes: &[u8],
     now: Moment,
     chance: &mut R,
 ) -> Result<Reply, Fail>
     requires intact { B.meanings.intact b.old }
-    requires dir_mode { dir.now.place.attr.mode ≤ MAX_MODE }
+    requires dir_mode { at.now.dir.place.attr.mode ≤ MAX_MODE }
     requires mode { attr.mode ≤ MAX_MODE }
     requires short { length bytes.now ≤ MAX_TARGET }
     ensures variant { IfOk result IsChangeReply }
-    ensures did { Outcome B.meanings (Making B.holdings b.old dir.now name.now (record { attr = attr; bytes = bytes.now })) b.old b.new result
-        (λ n r. Performed B.holdings b.new n.root (made n.tree now (name.now ∷ n.path) (record { attr = attr; bytes = bytes.now }) (look n.tree (name.now ∷ n.path))) r) }
+    ensures did { Outcome B.meanings (Making B.holdings b.old at.now.dir at.now.name.now at.now.body.items (record { attr = attr; bytes = bytes.now })) b.old b.new result
+        (λ n r. Performed B.holdings b.new n.root (made n.tree now (at.now.name.now ∷ n.path) (record { attr = attr; bytes = bytes.now }) (look n.tree (at.now.name.now ∷ n.path))) r) }
 {
-    let size = body_len(alloc, b, &dir.place.blob)?;
-    if size > MAX_ENTRIES || size + ENTRY_SIZE + name.as_slice().len() as u64 > MAX_ENTRIES {
+    let size = at.body.len() as u64;
+    if size > MAX_ENTRIES || size + ENTRY_SIZE + at.name.as_slice().len() as u64 > MAX_ENTRIES {
         return Ok(Reply::Error(FsError::TooLarge));
     }
-    add_row(alloc, b, dir, name, attr, bytes, chance)?;
-    done(touch(alloc, b, dir, now, chance))
+    add_row(alloc, b, at, attr, bytes, chance)?;
+    done(touch(alloc, b, &at.dir, now, chance))
 }

@@ -9,7 +9,7 @@ ghost use Rattle.fs_model.specs.Step.{made, new_row};
 ghost use Rattle.forest.specs.Showing.{BlobsShow, Performed};
 ghost use Rattle.path_walks.specs.Replies.{IsChangeReply};
 
-use crate::made::make_in;
+use crate::made::{Vacancy, make_in};
 use blob_api::Blobs;
 use block_id::{BlockId, Fail};
 use fs_model::{
@@ -98,12 +98,16 @@ fn make<B: Blobs, R: Rng>(
         None => Ok(Reply::Error(FsError::Exists)),
         Some((name, dirs)) => match look_at(alloc, b, root, dirs, name) {
             Ok(Sight::Found(_, _)) => Ok(Reply::Error(FsError::Exists)),
-            Ok(Sight::Vacant(dir)) => {
-                let folder = Folder {
-                    names: dirs,
-                    place: dir,
+            Ok(Sight::Vacant(dir, body)) => {
+                let vacancy = Vacancy {
+                    dir: Folder {
+                        names: dirs,
+                        place: dir,
+                    },
+                    name,
+                    body,
                 };
-                make_in(alloc, b, &folder, name, attr, bytes, now, chance)
+                make_in(alloc, b, &vacancy, attr, bytes, now, chance)
             }
             Ok(Sight::Lost(error)) => Ok(Reply::Error(error)),
             Err(fail) => Err(fail),

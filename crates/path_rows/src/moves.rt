@@ -8,10 +8,11 @@ ghost use Rattle.path_walks.specs.Replies.{IsChangeReply};
 ghost use Rattle.path_rows.specs.Moves.{Heading, Replacing, ids_then};
 
 use crate::changes::{drop_at, relocate};
+use crate::made::Vacancy;
 use blob_api::Blobs;
 use block_id::Fail;
+use dir_blob::whole_body;
 use dir_entries::Entry;
-use fs_blobs::body_len;
 use fs_model::{Attr, ENTRY_SIZE, FsError, MAX_ENTRIES, MAX_MODE, Moment, Name, Reply};
 use path_entries::{is_same, touch_both};
 use path_walks::{Folder, Place, done};
@@ -27,27 +28,26 @@ pub fn move_free<B: Blobs, R: Rng>(
     from: &Folder,
     name: &Name,
     place: Place,
-    to: &Folder,
-    to_name: &Name,
+    to: &Vacancy,
     chance: &mut R,
 ) -> Result<Reply, Fail>
     requires intact { B.meanings.intact b.old }
     requires mode { place.attr.mode ≤ MAX_MODE }
     requires from_mode { from.now.place.attr.mode ≤ MAX_MODE }
-    requires to_mode { to.now.place.attr.mode ≤ MAX_MODE }
+    requires to_mode { to.now.dir.place.attr.mode ≤ MAX_MODE }
     ensures variant { IfOk result IsChangeReply }
-    ensures did { Outcome B.meanings (Heading B.holdings b.old now from.now name.now place to.now to_name.now) b.old b.new result
-        (λ n r. PerformedBy B.holdings b.new n.root (moved_unless_large n.tree now (name.now ∷ n.above) (to_name.now ∷ n.below) (moved_tree n.tree now (name.now ∷ n.above) (to_name.now ∷ n.below) n.row)) r
-        (ids_then r n.ids (moved_ids n.ids (name.now ∷ n.above) (to_name.now ∷ n.below)))) }
+    ensures did { Outcome B.meanings (Heading B.holdings b.old now from.now name.now place to.now.dir to.now.name.now to.now.body.items) b.old b.new result
+        (λ n r. PerformedBy B.holdings b.new n.root (moved_unless_large n.tree now (name.now ∷ n.above) (to.now.name.now ∷ n.below) (moved_tree n.tree now (name.now ∷ n.above) (to.now.name.now ∷ n.below) n.row)) r
+        (ids_then r n.ids (moved_ids n.ids (name.now ∷ n.above) (to.now.name.now ∷ n.below)))) }
 {
-    let size = body_len(alloc, b, &to.place.blob)?;
-    let left = if is_same(&from.place.blob, &to.place.blob) {
+    let size = to.body.len() as u64;
+    let left = if is_same(&from.place.blob, &to.dir.place.blob) {
         ENTRY_SIZE + name.as_slice().len() as u64
     } else {
         0
     };
     if size > MAX_ENTRIES
-        || size + ENTRY_SIZE + to_name.as_slice().len() as u64 > MAX_ENTRIES + left
+        || size + ENTRY_SIZE + to.name.as_slice().len() as u64 > MAX_ENTRIES + left
     {
         return Ok(Reply::Error(FsError::TooLarge));
     }
@@ -56,32 +56,24 @@ pub fn move_free<B: Blobs, R: Rng>(
         ..place.attr
     };
     let entry = Entry {
-        name: to_name.try_clone()?,
+        name: to.name.try_clone()?,
         attr,
         blob: place.blob,
     };
-    relocate(
-        alloc,
-        b,
-        &from.place.blob,
-        name,
-        &to.place.blob,
-        &entry,
-        chance,
-    )?;
-    done(touch_both(alloc, b, from, to, now, chance))
+    relocate(alloc, b, &from.place.blob, name, to, &entry, chance)?;
+    done(touch_both(alloc, b, from, &to.dir, now, chance))
 }
 
 /// A row moves onto another one, which goes with its blob.
-pub fn move_onto<B: Blobs, R: Rng>(
+pub fn move_onto<'x, B: Blobs, R: Rng>(
     alloc: Global,
     b: &mut B,
     now: Moment,
     from: &Folder,
     name: &Name,
     place: Place,
-    to: &Folder,
-    to_name: &Name,
+    to: &Folder<'x>,
+    to_name: &'x Name,
     replaced: Place,
     chance: &mut R,
 ) -> Result<Reply, Fail>
@@ -95,5 +87,13 @@ pub fn move_onto<B: Blobs, R: Rng>(
         (ids_then r n.ids (moved_ids n.ids (name.now ∷ n.above) (to_name.now ∷ n.below)))) }
 {
     drop_at(alloc, b, &to.place.blob, to_name, &replaced.blob, chance)?;
-    move_free(alloc, b, now, from, name, place, to, to_name, chance)
+    let vacancy = Vacancy {
+        dir: Folder {
+            names: to.names,
+            place: to.place,
+        },
+        name: to_name,
+        body: whole_body(alloc, b, &to.place.blob)?,
+    };
+    move_free(alloc, b, now, from, name, place, &vacancy, chance)
 }

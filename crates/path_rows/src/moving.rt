@@ -10,6 +10,7 @@ ghost use Rattle.path_walks.specs.Sights.{Standing};
 ghost use Rattle.path_rows.specs.Onward.{Onward, RefusesOnto};
 
 use crate::folders::{has_child, is_directory};
+use crate::made::Vacancy;
 use crate::moves::{move_free, move_onto};
 use blob_api::Blobs;
 use block_id::{BlockId, Fail};
@@ -90,12 +91,16 @@ fn move_found<B: Blobs, R: Rng>(
                     }
                 }
             }
-            Ok(Sight::Vacant(to)) => {
-                let folder = Folder {
-                    names: to_dirs,
-                    place: to,
+            Ok(Sight::Vacant(to, body)) => {
+                let vacancy = Vacancy {
+                    dir: Folder {
+                        names: to_dirs,
+                        place: to,
+                    },
+                    name: to_name,
+                    body,
                 };
-                move_free(alloc, b, now, dir, name, place, &folder, to_name, chance)
+                move_free(alloc, b, now, dir, name, place, &vacancy, chance)
             }
             Ok(Sight::Lost(error)) => Ok(Reply::Error(error)),
             Err(fail) => Err(fail),

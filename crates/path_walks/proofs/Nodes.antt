@@ -1,7 +1,7 @@
 -- The blob of a path, as the calls on directories and bodies need it.
 use Rattle.std.proofs.Common.{◌≡◌, ℕ, ◌+◌, ◌≤◌, List, [], ◌∷◌, length, refl, sym, ◌∙◌, ap, subst, arith, cond}
-use Rattle.std.specs.Prelude.{All, is_some, not, ◌&&◌, nat_lt, nat_le}
-use Rattle.std.specs.FinMap.{get, find, put}
+use Rattle.std.specs.Prelude.{T, All, is_some, not, ◌&&◌, nat_lt, nat_le}
+use Rattle.std.specs.FinMap.{get, find, put, entries, from_sorted, is_sorted, entries-from_sorted, get-from_sorted, same_map}
 use Rattle.std.specs.declared.option.Option.TheVariants.{Some}
 use Rattle.std.proofs.lemmas.List.Elements.{All-nil, All-cons, All-head, All-tail}
 use Rattle.blob_api.specs.declared.blobs.TheConstants.{MAX_BLOB}
@@ -22,7 +22,7 @@ use Rattle.std.proofs.lemmas.Bool.{and_parts, leb-true}
 use Rattle.std.specs.List.{list_any}
 use Rattle.fs_model.specs.declared.limits.TheConstants.{MAX_ENTRIES, MAX_TARGET}
 use Rattle.fs_model.specs.Names.{is_zero}
-use Rattle.fs_model.proofs.TreeLemmas.{same_name, name_total}
+use Rattle.fs_model.proofs.TreeLemmas.{same_name, name_total, name_exact}
 
 pub lists_of : (kind : Kind) (bytes : List ℕ) (look : Look) (body : List ℕ) → kind ≡ Directory → IsBodyOf kind bytes look body → Lists look body
 lists_of kind bytes look body e c = subst (λ k. IsBodyOf k bytes look body) e c
@@ -76,6 +76,16 @@ module _ {m : BlobMap} {root : Id} {t : Tree} {ids : Path → Id} (shows : Shows
     wide = above_wide p row there;
     fits = fits_at p row there kind;
   }
+
+-- what two bodies with the same entries list
+pub same_lists : (look : Look) (one other : List ℕ) (a : Lists look one) (b : Lists look other) → a.listing ≡ b.listing
+same_lists look one other a b =
+    let first : T (is_sorted name_cmp a.listing) = subst T (sym a.is.entries.order) tt in
+    let second : T (is_sorted name_cmp b.listing) = subst T (sym b.is.entries.order) tt in
+    sym (entries-from_sorted name_cmp a.listing first)
+    ∙ (ap entries (same_map name_total name_exact (from_sorted a.listing) (from_sorted b.listing) (λ n.
+    get-from_sorted name_cmp a.listing n first ∙ (a.entries n ∙ (sym (b.entries n) ∙ sym (get-from_sorted name_cmp b.listing n second)))))
+    ∙ entries-from_sorted name_cmp b.listing second)
 
 -- entries of a directory after one comes
 pub entries_with : (listing : Listing) (n : List ℕ) (target : EntryTarget) (k : List ℕ) → find name_cmp k (put name_cmp n target listing) ≡ cond (same_name k n) (Some target) (find name_cmp k listing)

@@ -1,5 +1,7 @@
 -- What a walk and a look came to, as the model's look-up says it.
 use Rattle.std.proofs.Common.{◌≡◌, ℕ, List, [], ◌∷◌, refl, ◌∙◌, ap, subst}
+use Rattle.std.specs.Prelude.{Vec}
+use Rattle.std.specs.declared.alloc.Global.{Global}
 use Rattle.std.specs.declared.option.Option.TheVariants.{Some}
 use Rattle.std.proofs.lemmas.Option.{same_Some, none-some}
 use Rattle.blob_api.specs.BlobMap.{Id, BlobMap, BlobHoldings}
@@ -15,7 +17,7 @@ use Rattle.path_walks.specs.declared.spots.Folder.{Folder}
 use Rattle.path_walks.specs.declared.spots.Place.{Place}
 use Rattle.path_walks.specs.declared.spots.Sight.{Sight}
 use Rattle.path_walks.specs.declared.spots.Sight.TheVariants as sight
-use Rattle.path_walks.specs.Sights.{SightIs, IsFound, IsVacant, Finding}
+use Rattle.path_walks.specs.Sights.{SightIs, IsFound, IsOpen, IsVacant, Finding}
 use Rattle.path_walks.proofs.Steps.{walk_free}
 use Rattle.path_walks.specs.Reaching.{IsRow, refusal}
 
@@ -24,8 +26,8 @@ use Rattle.path_walks.specs.Reaching.{IsRow, refusal}
 abbrev pub found : (t : Tree) (ids : Path → Id) (p : Path) (n : List ℕ) (seen : Sight) → SightIs t ids p n seen → (dir place : Place) → seen ≡ sight.Found dir place → IsFound t ids p n dir place
 found t ids p n seen h dir place is = subst (SightIs t ids p n) is h
 
-abbrev pub vacant : (t : Tree) (ids : Path → Id) (p : Path) (n : List ℕ) (seen : Sight) → SightIs t ids p n seen → (dir : Place) → seen ≡ sight.Vacant dir → IsVacant t ids p n dir
-vacant t ids p n seen h dir is = subst (SightIs t ids p n) is h
+abbrev pub vacant : (t : Tree) (ids : Path → Id) (p : Path) (n : List ℕ) (seen : Sight) → SightIs t ids p n seen → (dir : Place) (body : Vec ℕ Global) → seen ≡ sight.Vacant dir body → IsOpen t ids p n dir body.items
+vacant t ids p n seen h dir body is = subst (SightIs t ids p n) is h
 
 abbrev pub lost : (t : Tree) (ids : Path → Id) (p : Path) (n : List ℕ) (seen : Sight) → SightIs t ids p n seen → (e : FsError) → seen ≡ sight.Lost e → walk t (n ∷ p) ≡ Bad e
 lost t ids p n seen h e is = subst (SightIs t ids p n) is h

@@ -1,6 +1,8 @@
 -- One step of a walk.
 use Rattle.std.proofs.Common.{◌≡◌, ℕ, ◌+◌, ◌<◌, false, cond, List, ◌∷◌, take, get_or, length, refl, sym, ◌∙◌, ap, subst}
+use Rattle.std.specs.Prelude.{Vec}
 use Rattle.std.specs.FinMap.{get, find}
+use Rattle.std.specs.declared.alloc.Global.{Global}
 use Rattle.std.specs.declared.option.Option.{Option}
 use Rattle.std.specs.declared.option.Option.TheVariants.{None, Some}
 use Rattle.std.proofs.lemmas.Option.{same_Some, none-some}
@@ -13,7 +15,7 @@ use Rattle.fs_model.specs.Tree.{Path, Row, Tree, name_cmp, is_directory, upward}
 use Rattle.fs_model.specs.LookUp.{LookedUp, Found, Free, Bad, goes_on, walk}
 use Rattle.fs_model.specs.declared.error.FsError.{FsError}
 use Rattle.fs_model.proofs.PutRows.{below_file, below_none}
-use Rattle.dir_entries.specs.Layout.{EntryTarget}
+use Rattle.dir_entries.specs.Layout.{EntryTarget, body_of}
 use Rattle.dir_entries.specs.Places.{target_of}
 use Rattle.dir_blob.specs.Directories.{IsDirectory}
 use Rattle.tree_rules.proofs.PathLemmas.{names_more}
@@ -75,10 +77,16 @@ module _ {m : BlobMap} {root : Id} {t : Tree} {ids : Path → Id} (shows : Shows
   pub free_wrong : get t (n ∷ p) ≡ None → IsWrong t (n ∷ p) NoEntry
   free_wrong e = record { none = e; below = λ k. ap (λ s. goes_on s (get t (k ∷ (n ∷ p)))) (walk_free e) }
 
-pub seen_under : {m : BlobMap} {root : Id} {t : Tree} {ids : Path → Id} (shows : ShowsBy m root t ids) (p : Path) (dir : Place) (at : IsAt t ids p dir) (kind : dir.attr.kind ≡ Directory) (n : List ℕ) (o : Option (Attr × BlockId))
-    → find name_cmp n (lists_at shows p at.row at.there (row_kind shows p dir at kind n)).listing ≡ target_of o → SightIs t ids p n (sight_of dir o)
-seen_under shows p dir at kind n None found = record { above = at; folder = kind; none = stepped_out shows p dir at kind n found }
-seen_under shows p dir at kind n (Some x) found = record { above = at; folder = kind; here = stepped_to shows p dir at kind n x.0 x.1 found }
+pub seen_under : {m : BlobMap} {root : Id} {t : Tree} {ids : Path → Id} (shows : ShowsBy m root t ids) (p : Path) (dir : Place) (at : IsAt t ids p dir) (kind : dir.attr.kind ≡ Directory) (n : List ℕ) (body : Vec ℕ Global) (o : Option (Attr × BlockId))
+    → find name_cmp n (lists_at shows p at.row at.there (row_kind shows p dir at kind n)).listing ≡ target_of o → body.items ≡ body_of (lists_at shows p at.row at.there (row_kind shows p dir at kind n)).listing
+    → SightIs t ids p n (sight_of dir body o)
+seen_under shows p dir at kind n body None found text =
+    let lists = lists_at shows p at.row at.there (row_kind shows p dir at kind n) in
+    record {
+      vacant = record { above = at; folder = kind; none = stepped_out shows p dir at kind n found };
+      lists = record { listing = lists.listing; is = record { entries = lists.is.entries; text = text }; entries = lists.entries };
+    }
+seen_under shows p dir at kind n body (Some x) found text = record { above = at; folder = kind; here = stepped_to shows p dir at kind n x.0 x.1 found }
 
 pub names_on : (ns : List (List ℕ)) (i : ℕ) (n : List ℕ) → i < length ns → n ≡ get_or ns i n → n ∷ upward (take i ns) ≡ upward (take (i + 1) ns)
 names_on ns i n lt e = ap (λ x. x ∷ upward (take i ns)) e ∙ sym (names_more ns i n lt)

@@ -1,5 +1,6 @@
 -- What a walk sees of the tree that the blobs show.
-use Rattle.std.specs.Prelude.{◌≡◌, ◌≤◌, List, ℕ, [], ◌∷◌}
+use Rattle.std.specs.Prelude.{◌≡◌, ◌≤◌, List, Vec, ℕ, [], ◌∷◌}
+use Rattle.std.specs.declared.alloc.Global.{Global}
 use Rattle.std.specs.FinMap.{get}
 use Rattle.std.specs.declared.option.Option.{Option}
 use Rattle.std.specs.declared.option.Option.TheVariants.{None, Some}
@@ -11,7 +12,8 @@ use Rattle.fs_model.specs.declared.error.FsError.{FsError}
 use Rattle.fs_model.specs.declared.limits.TheConstants.{MAX_MODE}
 use Rattle.fs_model.specs.Tree.{Path, Row, Tree}
 use Rattle.fs_model.specs.LookUp.{Found, Bad, walk}
-use Rattle.forest.specs.Shows.{ShowsBy}
+use Rattle.forest.specs.Nodes.{Lists}
+use Rattle.forest.specs.Shows.{ShowsBy, entries_at}
 use Rattle.path_walks.specs.declared.spots.Place.{Place}
 use Rattle.path_walks.specs.declared.spots.Spot.{Spot}
 use Rattle.path_walks.specs.declared.spots.Spot.TheVariants.{Here, Wrong}
@@ -53,14 +55,19 @@ pub record IsVacant (t : Tree) (ids : Path → Id) (p : Path) (n : List ℕ) (di
   pub folder : dir.attr.kind ≡ Directory
   pub none : get t (n ∷ p) ≡ None
 
+-- the same, and these bytes list what stands in it
+pub record IsOpen (t : Tree) (ids : Path → Id) (p : Path) (n : List ℕ) (dir : Place) (body : List ℕ) : Type 0 where
+  pub vacant : IsVacant t ids p n dir
+  pub lists : Lists (entries_at t ids p) body
+
 -- what a look in a directory comes to
-abbrev pub sight_of : Place → Option (Attr × BlockId) → Sight
-sight_of dir None = sight.Vacant dir
-sight_of dir (Some x) = sight.Found dir (record { attr = x.0; blob = x.1; holder = dir.blob })
+abbrev pub sight_of : Place → Vec ℕ Global → Option (Attr × BlockId) → Sight
+sight_of dir body None = sight.Vacant dir body
+sight_of dir body (Some x) = sight.Found dir (record { attr = x.0; blob = x.1; holder = dir.blob })
 
 abbrev pub SightIs : Tree → (Path → Id) → Path → List ℕ → Sight → Type 0
 SightIs t ids p n (sight.Found dir place) = IsFound t ids p n dir place
-SightIs t ids p n (sight.Vacant dir) = IsVacant t ids p n dir
+SightIs t ids p n (sight.Vacant dir body) = IsOpen t ids p n dir body.items
 SightIs t ids p n (sight.Lost e) = walk t (n ∷ p) ≡ Bad e
 
 -- the modes that were found are within their limit
@@ -70,7 +77,7 @@ HasMode (Wrong e) = Unit {0}
 
 abbrev pub HaveModes : Sight → Type 0
 HaveModes (sight.Found dir place) = (dir.attr.mode ≤ MAX_MODE) × (place.attr.mode ≤ MAX_MODE)
-HaveModes (sight.Vacant dir) = dir.attr.mode ≤ MAX_MODE
+HaveModes (sight.Vacant dir body) = dir.attr.mode ≤ MAX_MODE
 HaveModes (sight.Lost e) = Unit {0}
 
 -- a walk along a path has come to this spot

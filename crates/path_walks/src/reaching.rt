@@ -43,7 +43,10 @@ pub fn reach<'a, B: Blobs>(
                 };
                 Ok(Reached::Row(folder, name, place))
             }
-            Ok(Sight::Vacant(_)) => Ok(Reached::Refused(FsError::NoEntry)),
+            Ok(Sight::Vacant(_, body)) => {
+                drop(body);
+                Ok(Reached::Refused(FsError::NoEntry))
+            }
             Ok(Sight::Lost(error)) => Ok(Reached::Refused(error)),
             Err(fail) => Err(fail),
         },

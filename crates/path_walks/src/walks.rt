@@ -8,7 +8,7 @@ ghost use Rattle.path_walks.specs.Sights.{SpotIs, SightIs, HasMode, HaveModes, W
 use crate::{Place, Sight, Spot};
 use blob_api::Blobs;
 use block_id::{BlockId, Fail};
-use dir_blob::find_target;
+use dir_blob::{find_in, find_target};
 use fs_model::{FsError, Kind, Name};
 use std::alloc::Global;
 use tree_rules::root_attr;
@@ -78,17 +78,20 @@ pub fn look_at<B: Blobs>(
 {
     match walk(alloc, b, root, names)? {
         Spot::Here(dir) => match dir.attr.kind {
-            Kind::Directory => match find_target(alloc, b, &dir.blob, name)? {
-                Some((attr, blob)) => Ok(Sight::Found(
-                    dir,
-                    Place {
-                        attr,
-                        blob,
-                        holder: dir.blob,
-                    },
-                )),
-                None => Ok(Sight::Vacant(dir)),
-            },
+            Kind::Directory => {
+                let (found, body) = find_in(alloc, b, &dir.blob, name)?;
+                match found {
+                    Some((attr, blob)) => Ok(Sight::Found(
+                        dir,
+                        Place {
+                            attr,
+                            blob,
+                            holder: dir.blob,
+                        },
+                    )),
+                    None => Ok(Sight::Vacant(dir, body)),
+                }
+            }
             Kind::File => Ok(Sight::Lost(FsError::NotDirectory)),
             Kind::Link => Ok(Sight::Lost(FsError::NotDirectory)),
         },

@@ -38,7 +38,7 @@ returns-in-Ok-Vacant-clause-outcome g c =
     let d = upward c.in-Some.dirs.now in
     let k = c.in-Some.name.now in
     then_ g.met.B.Blobs.lawful c.in-Ok-Vacant.ensures.outcome
-    (λ n h. making n.map h.0 c.args.root.now.0 n.tree n.ids n.shows (record { names = c.in-Some.dirs; place = c.in-Ok-Vacant.dir }) (vacant n.tree n.ids d k c.in-Ok-Vacant.field-0 h.1 c.in-Ok-Vacant.dir c.in-Ok-Vacant.field-0-is) c.requires.limits)
+    (λ n h. making n.map h.0 c.args.root.now.0 n.tree n.ids n.shows (record { names = c.in-Some.dirs; place = c.in-Ok-Vacant.dir }) (vacant n.tree n.ids d k c.in-Ok-Vacant.field-0 h.1 c.in-Ok-Vacant.dir c.in-Ok-Vacant.body c.in-Ok-Vacant.field-0-is) c.requires.limits)
     c.make_in.ensures.did
     (λ n h y r. told_as _ _ y (ap (λ z. model.made n.tree c.args.now z (record { attr = c.args.attr; bytes = c.args.bytes.now }) (look n.tree z)) c.in-Some.ensures) r)
 

@@ -36,9 +36,9 @@ returns-in-Ok-Vacant-clause-outcome g c =
     let k = c.in-Some.to_name.now in
     let o : Outcome g.B.Blobs.meanings (Onward H c.args.b.now c.args.root.now.0 c.args.dir.now c.args.name.now c.args.place (upward c.args.to_names.now) c.args.same) c.args.b.now c.look_at.new.b (Ok c.in-Ok-Vacant.field-0)
     (λ w y. H.stands_for c.look_at.new.b w.map × SightIs w.tree w.ids d k y) = first_ (λ w. showing w) c.in-Ok-Vacant.ensures.outcome (λ w y h. h) in
-    then_ g.met.B.Blobs.lawful o (λ w h. heading w k d c.in-Some.ensures c.args.now c.look_at.new.b h.0 (record { names = c.in-Some.to_dirs; place = c.in-Ok-Vacant.to }) refl (vacant w.tree w.ids d k c.in-Ok-Vacant.field-0 h.1 c.in-Ok-Vacant.to c.in-Ok-Vacant.field-0-is)) c.move_free.ensures.did
+    then_ g.met.B.Blobs.lawful o (λ w h. heading w k d c.in-Some.ensures c.args.now c.look_at.new.b h.0 (record { names = c.in-Some.to_dirs; place = c.in-Ok-Vacant.to }) refl (vacant w.tree w.ids d k c.in-Ok-Vacant.field-0 h.1 c.in-Ok-Vacant.to c.in-Ok-Vacant.body c.in-Ok-Vacant.field-0-is)) c.move_free.ensures.did
     (λ w h y r. told_as _ _ y
-    (going w k d c.in-Some.ensures c.args.now Free (look_free w.shows d k c.in-Ok-Vacant.to (vacant w.tree w.ids d k c.in-Ok-Vacant.field-0 h.1 c.in-Ok-Vacant.to c.in-Ok-Vacant.field-0-is)))
+    (going w k d c.in-Some.ensures c.args.now Free (look_free w.shows d k c.in-Ok-Vacant.to (vacant w.tree w.ids d k c.in-Ok-Vacant.field-0 h.1 c.in-Ok-Vacant.to c.in-Ok-Vacant.body c.in-Ok-Vacant.field-0-is).vacant))
     (unnamed _ y _ r))
 
 pub returns-then-same-clause-outcome : goal.returns-then-same-clause-outcome

@@ -28,7 +28,7 @@ returns-in-Ok-Vacant-clause-outcome g c =
     let k = c.in-Some.name.now in
     answered c.in-Ok-Vacant.ensures.outcome (λ n h. (
       h.0,
-      on_path n.tree (refusal c.args.at_root) (upward c.args.names.now) (k ∷ d) Free c.in-Some.ensures (look_free n.shows d k _ (vacant n.tree n.ids d k c.in-Ok-Vacant.field-0 h.1 _ c.in-Ok-Vacant.field-0-is)),
+      on_path n.tree (refusal c.args.at_root) (upward c.args.names.now) (k ∷ d) Free c.in-Some.ensures (look_free n.shows d k _ (vacant n.tree n.ids d k c.in-Ok-Vacant.field-0 h.1 _ _ c.in-Ok-Vacant.field-0-is).vacant),
     ))
 
 pub returns-in-Ok-Lost-clause-outcome : goal.returns-in-Ok-Lost-clause-outcome
