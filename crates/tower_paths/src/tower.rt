@@ -27,6 +27,7 @@ pub type Store = IntegrityStore<MemoryVault, Aes256Gcm>;
 fn empty_record(alloc: Global) -> Result<Vec<u8>, Fail> {
     let state = State {
         marked: false,
+        least: 2,
         fs_id: BlockId([0x11; 16]),
         key_salt: [0x11; 32],
         key_digest: [0x11; 32],
