@@ -29,7 +29,7 @@ ghost use Rattle.plain_trials.specs.Runs.{Tried, GeneratedOnPlain};
 use block_id::Memory;
 use check_runs::run_check;
 use copy_runs::{run_export, run_get, run_import, run_put};
-use cryfs_setup::{run_create, run_info, run_passwd};
+use cryfs_setup::{run_create, run_info, run_migrate, run_passwd};
 use fs_model::Moment;
 use host_folder::Folder;
 use listing::Listing;
@@ -161,6 +161,7 @@ fn run_form<I: Source, O: Sink, V: Vault + Listing, K: Keeper, R: Rng, F: Folder
         ),
         Form::Info => run_info(alloc, input, output, vault, keeper),
         Form::Passwd => run_passwd(alloc, input, output, vault, keeper, chance),
+        Form::Migrate => run_migrate(alloc, input, output, vault, keeper, chance),
         Form::Shell => run_shell(alloc, now, input, output, vault, keeper, chance),
         Form::Generate(count) => {
             run_generate(alloc, now, count, input, output, vault, keeper, chance)
