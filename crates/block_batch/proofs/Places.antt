@@ -127,7 +127,7 @@ kept-changes (Ok u) m old new id change is rises ok = changes-put old new id cha
 kept-changes (Err e) m old new id change is rises ok = tt
 
 -- ids above the first of a list that rises are other ids
-others_above : (id x : Id) (es : Plain) → id_cmp id x ≡ Equal → T (below_all id_cmp x es) → others id es ≡ es
+pub others_above : (id x : Id) (es : Plain) → id_cmp id x ≡ Equal → T (below_all id_cmp x es) → others id es ≡ es
 others_above id x [] same h = refl
 others_above id x (e ∷ es) same h =
     let first : id_cmp x e.0 ≡ Less = less_so (id_cmp x e.0) (left (is_lt (id_cmp x e.0)) (below_all id_cmp x es) h) in

@@ -24,6 +24,11 @@ entries_of entries = map entry_view entries
 abbrev pub changes_of : List (BlockId × BatchChange) → Changes
 changes_of entries = from_sorted (entries_of entries)
 
+-- the changes of a draft: those of the batch that was given back, or else these entries
+abbrev pub drafted : List (BlockId × BatchChange) → Option Changes → Changes
+drafted entries None = changes_of entries
+drafted entries (Some changes) = changes
+
 abbrev pub changes_code : Coded Changes
 changes_code = fin.code (coded_list coded_ℕ) (coded_option (coded_list coded_ℕ))
 

@@ -4,7 +4,7 @@ ghost use Rattle.std.specs.FinMap as fin;
 ghost use Rattle.std.specs.FinMap.{is_sorted};
 ghost use Rattle.std.specs.FinMap.Entries.{put, find as found};
 ghost use Rattle.block_batch.specs.Changes.{id_cmp};
-ghost use Rattle.block_batch.specs.Entries.{entries_of, change_view, place, is_entry_of, others};
+ghost use Rattle.block_batch.specs.Entries.{entries_of, change_view, changes_of, place, is_entry_of, others};
 
 use block_id::{BlockId, Memory};
 use std::alloc::Global;
@@ -132,6 +132,14 @@ impl Batch {
         Batch {
             entries: Vec::new(alloc),
         }
+    }
+
+    /// A batch of entries whose ids rise.
+    pub(crate) fn of_entries(entries: Vec<(BlockId, BatchChange)>) -> Batch
+        requires { T (is_sorted id_cmp (entries_of entries.items)) }
+        ensures { result ≡ changes_of entries.items }
+    {
+        Batch { entries }
     }
 
     /// The changes, by increasing ids.

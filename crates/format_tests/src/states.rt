@@ -1,26 +1,37 @@
-// Records byte by byte, each refusal, and the table of versions.
-ghost use Rattle.std.specs.Prelude.{◌<◌};
+// Records of both forms byte by byte, each refusal, and the table of versions.
+ghost use Rattle.std.specs.Prelude.{◌≡◌, ◌<◌};
 
 use block_id::BlockId;
-use local_state::{Known, Spent, State, StateError, decode, encode, key_digest};
+use local_state::{Known, Spent, State, StateError, decode, encode, encode_form1, key_digest};
 use std::alloc::{AllocError, Global};
 use std::test::Fail;
 
 const ONE: [u8; 16] = [1; 16];
 
-fn push_head(out: &mut Vec<u8>) -> Result<(), AllocError> {
-    out.extend_from_slice(b"cryfs.localstate;1\0")?;
-    out.push(0)?;
+/// What stands behind the mark, or behind the least format.
+fn push_rest(out: &mut Vec<u8>) -> Result<(), AllocError> {
     out.extend_from_slice(&[0x11; 16])?;
     out.extend_from_slice(&[0x22; 32])?;
     out.extend_from_slice(&[0x33; 32])?;
     out.extend_from_slice(&[7, 0, 0, 0])
 }
 
+/// The front of a record of form 2 with the least format 1.
+fn push_head(out: &mut Vec<u8>) -> Result<(), AllocError> {
+    out.extend_from_slice(b"cryfs.localstate;2\0")?;
+    out.extend_from_slice(&[0, 1])?;
+    push_rest(out)
+}
+
+/// The front of a record of form 1.
+fn push_older_head(out: &mut Vec<u8>) -> Result<(), AllocError> {
+    out.extend_from_slice(b"cryfs.localstate;1\0")?;
+    out.push(0)?;
+    push_rest(out)
+}
+
 /// Two known blocks, a live and a dead one, and a list of the configuration and both.
-fn full_record(alloc: Global) -> Result<Vec<u8>, AllocError> {
-    let mut out = Vec::new(alloc);
-    push_head(&mut out)?;
+fn push_blocks_and_list(out: &mut Vec<u8>) -> Result<(), AllocError> {
     out.extend_from_slice(&[2, 0, 0, 0, 0, 0, 0, 0])?;
     out.extend_from_slice(&[1; 16])?;
     out.extend_from_slice(&[3, 1, 0, 0, 0, 0, 0, 0, 1])?;
@@ -34,14 +45,32 @@ fn full_record(alloc: Global) -> Result<Vec<u8>, AllocError> {
     out.push(1)?;
     out.extend_from_slice(&[2; 16])?;
     out.push(0)?;
+    Ok(())
+}
+
+/// A record of form 2.
+fn full_record(alloc: Global) -> Result<Vec<u8>, AllocError> {
+    let mut out = Vec::new(alloc);
+    push_head(&mut out)?;
+    push_blocks_and_list(&mut out)?;
+    Ok(out)
+}
+
+/// The same state and list in form 1.
+fn full_older_record(alloc: Global) -> Result<Vec<u8>, AllocError> {
+    let mut out = Vec::new(alloc);
+    push_older_head(&mut out)?;
+    push_blocks_and_list(&mut out)?;
     Ok(out)
 }
 
 fn state_of(known: Known) -> State
-    ensures { 0 < result.client }
+    ensures client { 0 < result.client }
+    ensures least { result.least ≡ 1 }
 {
     State {
         marked: false,
+        least: 1,
         fs_id: BlockId([0x11; 16]),
         key_salt: [0x22; 32],
         key_digest: [0x33; 32],
@@ -62,12 +91,12 @@ fn raise(known: &mut Known, id: &BlockId) -> Result<Result<u64, Spent>, Fail> {
 }
 
 #[test]
-fn empty_record_has_120_bytes(rt: HostRuntime) -> Result<(), Fail> {
+fn empty_record_has_121_bytes(rt: HostRuntime) -> Result<(), Fail> {
     let mut expected = Vec::new(rt.alloc());
     push_head(&mut expected)?;
     expected.extend_from_slice(&[0; 16])?;
     let bytes = encode(rt.alloc(), &state_of(Known::new(rt.alloc())), &[])?;
-    assert_eq!(rt; bytes.len(), 120);
+    assert_eq!(rt; bytes.len(), 121);
     assert_eq!(rt; bytes.as_slice(), expected.as_slice());
     let (state, list) = decode(rt.alloc(), &bytes)?;
     assert_eq!(rt; state.client, 7);
@@ -77,7 +106,7 @@ fn empty_record_has_120_bytes(rt: HostRuntime) -> Result<(), Fail> {
 }
 
 #[test]
-fn record_of_one_block_has_145_bytes(rt: HostRuntime) -> Result<(), Fail> {
+fn record_of_one_block_has_146_bytes(rt: HostRuntime) -> Result<(), Fail> {
     let mut known = Known::new(rt.alloc());
     assert_eq!(rt; raise(&mut known, &BlockId(ONE))?, Ok(1));
     let bytes = encode(rt.alloc(), &state_of(known), &[])?;
@@ -87,7 +116,7 @@ fn record_of_one_block_has_145_bytes(rt: HostRuntime) -> Result<(), Fail> {
     expected.extend_from_slice(&ONE)?;
     expected.extend_from_slice(&[1, 0, 0, 0, 0, 0, 0, 0, 1])?;
     expected.extend_from_slice(&[0; 8])?;
-    assert_eq!(rt; bytes.len(), 145);
+    assert_eq!(rt; bytes.len(), 146);
     assert_eq!(rt; bytes.as_slice(), expected.as_slice());
     Ok(())
 }
@@ -104,10 +133,36 @@ fn record_with_a_list_is_read_and_written_again(rt: HostRuntime) -> Result<(), F
     Ok(())
 }
 
-/// From where to where a byte is set, and what is then wrong.
+#[test]
+fn record_of_form_1_is_read_with_least_format_1(rt: HostRuntime) -> Result<(), Fail> {
+    let bytes = full_older_record(rt.alloc())?;
+    let (state, list) = decode(rt.alloc(), &bytes)?;
+    assert_eq!(rt; state.least, 1);
+    assert_eq!(rt; state.known.version(&BlockId(ONE)), Some(259));
+    assert_eq!(rt; list.len(), 3);
+    let newer = encode(rt.alloc(), &state, &list)?;
+    assert_eq!(rt; newer.as_slice(), full_record(rt.alloc())?.as_slice());
+    if state.least == 1 {
+        let again = encode_form1(rt.alloc(), &state, &list)?;
+        assert_eq!(rt; again.as_slice(), bytes.as_slice());
+    }
+    Ok(())
+}
+
+#[test]
+fn least_format_2_is_read_from_its_byte(rt: HostRuntime) -> Result<(), Fail> {
+    let bytes = changed(full_record(rt.alloc())?, 20, 21, 2);
+    let (state, list) = decode(rt.alloc(), &bytes)?;
+    assert_eq!(rt; state.least, 2);
+    let again = encode(rt.alloc(), &state, &list)?;
+    assert_eq!(rt; again.as_slice(), bytes.as_slice());
+    Ok(())
+}
+
+/// From where to where a byte of form 1 is set, and what is then wrong.
 const WRONG: [(usize, usize, u8, &str); 18] = [
     (0, 1, b'C', "other magic bytes"),
-    (19, 20, 2, "a life of 2"),
+    (19, 20, 2, "a mark of 2"),
     (100, 101, 0, "client 0"),
     (104, 105, 3, "more blocks than there are"),
     (104, 112, 0xff, "2^64 - 1 blocks"),
@@ -126,32 +181,70 @@ const WRONG: [(usize, usize, u8, &str); 18] = [
     (202, 218, 1, "an entry twice"),
 ];
 
-#[test]
-fn every_other_text_is_refused(rt: HostRuntime) -> Result<(), Fail> {
-    for (from, to, byte, what) in WRONG {
-        let mut bytes = full_record(rt.alloc())?;
-        for (i, old) in bytes.iter_mut().enumerate() {
-            if from <= i && i < to {
-                *old = byte;
-            }
+fn changed(mut bytes: Vec<u8>, from: usize, to: usize, byte: u8) -> Vec<u8> {
+    for (i, old) in bytes.iter_mut().enumerate() {
+        if from <= i && i < to {
+            *old = byte;
         }
-        assert!(rt;
-            matches!(decode(rt.alloc(), &bytes), Err(StateError::BadState)),
-            "{what}"
-        );
     }
-    let mut bytes = full_record(rt.alloc())?;
+    bytes
+}
+
+fn is_refused(alloc: Global, bytes: &[u8]) -> bool {
+    matches!(decode(alloc, bytes), Err(StateError::BadState))
+}
+
+/// In form 2 everything behind the mark stands a byte later.
+fn place_in_newer(place: usize) -> usize {
+    if place < 20 {
+        place
+    } else {
+        place.saturating_add(1)
+    }
+}
+
+#[test]
+fn every_other_text_of_form_1_is_refused(rt: HostRuntime) -> Result<(), Fail> {
+    for (from, to, byte, what) in WRONG {
+        let bytes = changed(full_older_record(rt.alloc())?, from, to, byte);
+        assert!(rt; is_refused(rt.alloc(), &bytes), "{what}");
+    }
+    Ok(())
+}
+
+#[test]
+fn every_other_text_of_form_2_is_refused(rt: HostRuntime) -> Result<(), Fail> {
+    for (from, to, byte, what) in WRONG {
+        let bytes = full_record(rt.alloc())?;
+        let last = place_in_newer(to.saturating_sub(1)).saturating_add(1);
+        let bytes = changed(bytes, place_in_newer(from), last, byte);
+        assert!(rt; is_refused(rt.alloc(), &bytes), "{what}");
+    }
+    for least in [0, 3, 0xff] {
+        let bytes = changed(full_record(rt.alloc())?, 20, 21, least);
+        assert!(rt; is_refused(rt.alloc(), &bytes), "a least format of {least}");
+    }
+    Ok(())
+}
+
+/// How many front bytes, or one more than all, are a record.
+fn other_end(alloc: Global, mut bytes: Vec<u8>) -> Result<Option<usize>, AllocError> {
     for len in 0..bytes.len() {
-        assert!(rt;
-            matches!(decode(rt.alloc(), &bytes[..len]), Err(StateError::BadState)),
-            "{len} bytes"
-        );
+        if !is_refused(alloc, &bytes[..len]) {
+            return Ok(Some(len));
+        }
     }
     bytes.push(0)?;
-    assert!(rt;
-        matches!(decode(rt.alloc(), &bytes), Err(StateError::BadState)),
-        "a byte more"
+    Ok((!is_refused(alloc, &bytes)).then_some(bytes.len()))
+}
+
+#[test]
+fn every_other_end_is_refused(rt: HostRuntime) -> Result<(), Fail> {
+    assert_eq!(rt;
+        other_end(rt.alloc(), full_older_record(rt.alloc())?)?,
+        None
     );
+    assert_eq!(rt; other_end(rt.alloc(), full_record(rt.alloc())?)?, None);
     Ok(())
 }
 
@@ -174,12 +267,7 @@ fn versions_rise_and_dead_ids_stay_used(rt: HostRuntime) -> Result<(), Fail> {
 
 #[test]
 fn last_version_is_spent(rt: HostRuntime) -> Result<(), Fail> {
-    let mut bytes = full_record(rt.alloc())?;
-    for (i, old) in bytes.iter_mut().enumerate() {
-        if 128 <= i && i < 136 {
-            *old = 0xff;
-        }
-    }
+    let bytes = changed(full_record(rt.alloc())?, 129, 137, 0xff);
     let (mut state, _list) = decode(rt.alloc(), &bytes)?;
     assert_eq!(rt; raise(&mut state.known, &BlockId(ONE))?, Err(Spent));
     assert_eq!(rt; state.known.version(&BlockId(ONE)), Some(u64::MAX));

@@ -67,7 +67,7 @@ fn settle<S: Durable, K: Keeper, R: Rng>(
     ensures saver { KeepsSaver core.old result core.new }
     ensures answers { (result ≡ Answer.Reply reply) ⊎ ((result ≡ Answer.Memory) ⊎ (result ≡ Answer.Spent)) }
 {
-    if only_looks(command) || is_error(&reply) || core.blobs.tx.batch().entries().is_empty() {
+    if only_looks(command) || is_error(&reply) || core.blobs.tx.batch().is_empty() {
         core.blobs.tx.abandon();
         return Answer::Reply(reply);
     }

@@ -6,7 +6,7 @@ mod durable;
 mod fresh;
 mod tx;
 
-pub use block_batch::{Batch, BatchChange};
+pub use block_batch::{Batch, BatchChange, Draft};
 pub use blocks::{ApplyError, Blocks, BlocksMut};
 pub use durable::Durable;
 pub use tx::Tx;

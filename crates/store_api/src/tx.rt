@@ -12,7 +12,7 @@ ghost use Rattle.store_api.specs.Loads.{LoadsOver, loads_over, answer_of};
 ghost use Rattle.store_api.specs.Overlay.{without, meanings_over, holdings_over, lawful_over, steady_over};
 
 use crate::fresh::first_free;
-use crate::{ApplyError, Batch, BatchChange, Blocks, BlocksMut};
+use crate::{ApplyError, BatchChange, Blocks, BlocksMut, Draft};
 use block_id::{BlockId, Fail, Memory};
 use rand_core::Rng;
 use std::alloc::Global;
@@ -20,7 +20,7 @@ use std::alloc::Global;
 /// Changes over a store that it owns.
 pub struct Tx<S> {
     pub store: S,
-    overlay: Batch,
+    overlay: Draft,
 }
 
 impl<S: Blocks> Tx<S> {
@@ -34,12 +34,12 @@ impl<S: Blocks> Tx<S> {
     {
         Tx {
             store,
-            overlay: Batch::new(alloc),
+            overlay: Draft::new(alloc),
         }
     }
 
     /// The changes over the store. An id that was new in them and was removed again has none.
-    pub fn batch(&self) -> &Batch
+    pub fn batch(&self) -> &Draft
         ensures { result.now ≡ self.now.overlay }
     {
         &self.overlay
@@ -109,9 +109,14 @@ impl<S: Blocks> Tx<S> {
         ensures loaded { OnErr result (S.Blocks.meanings.loaded self.old.store self.new.store) }
         ensures sound { S.Blocks.meanings.sound self.old.store → S.Blocks.meanings.sound self.new.store }
     {
-        self.store.apply(alloc, &self.overlay, chance)?;
-        self.overlay.clear();
-        Ok(())
+        let batch = self.overlay.take(alloc);
+        match self.store.apply(alloc, &batch, chance) {
+            Ok(()) => Ok(()),
+            Err(error) => {
+                self.overlay.give_back(batch);
+                Err(error)
+            }
+        }
     }
 
     /// Forgets the changes.
