@@ -96,6 +96,8 @@ fn says_why_there_is_no_record(rt: HostRuntime) {
     assert!(rt; matches!(bad_length, Err(Why::BadLength)));
     let bad_prefix = judge(SIZE, &ID, CLIENT, KNOWN, Seen::BadPrefix);
     assert!(rt; matches!(bad_prefix, Err(Why::BadPrefix)));
+    let old_format = judge(SIZE, &ID, CLIENT, KNOWN, Seen::OldFormat);
+    assert!(rt; matches!(old_format, Err(Why::OldFormat)));
     let not_opened = judge(SIZE, &ID, CLIENT, KNOWN, Seen::NotOpened);
     assert!(rt; matches!(not_opened, Err(Why::NotOpened)));
 }

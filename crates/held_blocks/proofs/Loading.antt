@@ -11,7 +11,7 @@ use Rattle.outside.specs.Trace.{Call}
 use Rattle.outside.specs.Honest.{count_told}
 use Rattle.outside.specs.View.{bytes_of}
 use Rattle.outcome.specs.Meanings.{HasCause, UnlessFault}
-use Rattle.outcome.specs.Outcome.{Outcome, idle}
+use Rattle.outcome.specs.Outcome.{Outcome}
 use Rattle.local_state.specs.declared.life.Life.{Life}
 use Rattle.store_api.specs.Holdings.{Stays}
 use Rattle.local_state.specs.Known.{version_if_live}
@@ -23,7 +23,7 @@ use Rattle.held_blocks.specs.ReadLaws.{went_sound}
 use Rattle.held_blocks.specs.Loads.{Fetched}
 use Rattle.held_blocks.proofs.Fetches.{fetched_went, fetched_met, fetched_of_blocks, fetched_value}
 use Rattle.held_blocks.specs.Stores.{OnlyRead, meanings_by, holdings_by}
-use Rattle.held_blocks.specs.StoreLaws.{lawful_by, settled_by}
+use Rattle.held_blocks.specs.StoreLaws.{settled_by}
 
 module _ {S : Type 0} (held : S → Held) (trace : S → Option (List Call)) (faults : S → ℕ) (own : S → Type 0) (a b : S) (id : List ℕ) where
   only_read : (version : ℕ) (r : Result (List ℕ) Fail) → held b ≡ held a → faults a ≤ faults b → live_version (held a) id ≡ Some version
@@ -68,15 +68,8 @@ module _ {S : Type 0} (held : S → Held) (trace : S → Option (List Call)) (fa
     structure = λ n s few. fetched_of_blocks (held a) (trace a) (trace b) id version e f;
   }
 
-  pub not_wanted : live_version (held a) id ≡ None → wanted (held a) (trace a) id ≡ None
-  not_wanted dead = ap (λ v. where_live v (payload_in (held a).opens (held a).size id (file_of (held a) (told_or_none (trace a)) id))) dead
-
   pub is_wanted : (version : ℕ) → live_version (held a) id ≡ Some version → is_some (wanted (held a) (trace a) id) ≡ true
   is_wanted version live = ap (λ v. is_some (where_live v (payload_in (held a).opens (held a).size id (file_of (held a) (told_or_none (trace a)) id)))) live
-
-  pub not_loaded : (meanings_by held trace faults own).intact a → live_version (held a) id ≡ None
-      → Outcome (meanings_by held trace faults own) {T = Option (Vec ℕ Global)} Unit a a (Ok None) (λ _ answer. bytes_of answer ≡ wanted (held a) (trace a) id)
-  not_loaded intact dead = idle (lawful_by held trace faults own) a None intact (λ n. sym (not_wanted dead))
 
 live_if : (live : Bool) (version : ℕ) (payload : List ℕ) → live ≡ is_some (where_live (if live then Some version else None) payload)
 live_if true version payload = refl

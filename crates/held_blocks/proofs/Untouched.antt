@@ -1,19 +1,23 @@
--- A store that knows no block, over a directory in which nothing was changed, is sound.
-use Rattle.std.specs.Prelude.{◌≡◌, ℕ, Bool, true, false, not, ◌&&◌, List, [], ◌∷◌, is_some, if◌then◌else◌}
+-- A store that knows no block, or one whose own file waits, over a directory in which nothing was changed, is sound.
+use Rattle.std.specs.Prelude.{◌≡◌, ℕ, Bool, true, false, not, ◌&&◌, cond, List, [], ◌∷◌, is_some, if◌then◌else◌}
 use Rattle.std.specs.declared.option.Option.{Option}
 use Rattle.std.specs.declared.option.Option.TheVariants.{None, Some}
-use Rattle.std.proofs.Common.{refl, sym, ◌∙◌, ap}
+use Rattle.std.proofs.Common.{refl, sym, ◌∙◌, ap, subst}
+use Rattle.std.proofs.lemmas.Option.{same_Some}
 use Rattle.std.proofs.lemmas.Slice.Eq.{bytes_eq-Decides}
-use Rattle.std.specs.FinMap.{get-empty}
+use Rattle.std.specs.FinMap.{get-empty, get-insert}
 use Rattle.std.specs.FinMap as fin
+use Rattle.std.specs.Option.{option_map_or}
 use Rattle.outside.specs.Trace.{config, block, Call, got, put, removed, At}
 use Rattle.outside.specs.Honest.{LastChange, last_change}
 use Rattle.outside.specs.Names.{same_at}
+use Rattle.local_state.specs.declared.life.Life.{Life}
 use Rattle.local_state.specs.Known.{is_dead_in, is_live_in, version_if_live}
-use Rattle.store_api.specs.Content.{id_cmp}
+use Rattle.store_api.proofs.Rising.{ids_total, same_id_is}
+use Rattle.store_api.specs.Content.{id_cmp, same_id}
 use Rattle.held_blocks.specs.Forgeries.{was_put}
-use Rattle.held_blocks.specs.Held.{Held, live_version}
-use Rattle.held_blocks.specs.Soundness.{IsUntouched, SoundBy}
+use Rattle.held_blocks.specs.Held.{Held, live_version, waiting}
+use Rattle.held_blocks.specs.Soundness.{IsFresh, IsUntouched, SoundAt, SoundBy}
 
 true_is_false : true ≡ false → ⊥
 true_is_false e = cc
@@ -51,3 +55,45 @@ untouched_sound h (Some trace) empty none = record {
   where
     dead_none : (id : List ℕ) → is_dead_in h.state.lives id ≡ false
     dead_none id = ap (λ b. b && not (is_live_in h.state.lives id)) (never_used h id empty)
+
+-- ---- one known block
+
+abbrev living : ℕ → Life
+living version = record { version = version; live = true }
+
+only_live : (b : Bool) (version other : ℕ) (life : Option Life) → life ≡ cond b (Some (living version)) None → version_if_live life ≡ Some other → (b ≡ true) × (other ≡ version)
+only_live true version other life e live = (refl, same_Some _ _ (sym live ∙ ap version_if_live e))
+only_live false version other life e live = absurd (true_is_false (ap is_some (sym live ∙ ap version_if_live e)))
+
+none_dead : (b : Bool) (version : ℕ) (life : Option Life) → life ≡ cond b (Some (living version)) None → (is_some life && not (option_map_or (λ m. m.live) life false)) ≡ false
+none_dead true version life e = ap (λ (o : Option Life). is_some o && not (option_map_or (λ m. m.live) o false)) e
+none_dead false version life e = ap (λ (o : Option Life). is_some o && not (option_map_or (λ m. m.live) o false)) e
+
+module _ (h : Held) (id bytes payload : List ℕ) (version : ℕ) (one : h.state.lives ≡ fin.insert fin.empty id (living version)) (waits : waiting h id ≡ Some (Some bytes)) (fresh : IsFresh h id version bytes payload) where
+  life_at : (other : List ℕ) → fin.get h.state.lives other ≡ cond (same_id other id) (Some (living version)) None
+  life_at other = ap (λ lives. fin.get lives other) one ∙ get-insert ids_total fin.empty id (living version) other ∙ ap (cond (same_id other id) (Some (living version))) (get-empty id_cmp other)
+
+  file_at : (other : List ℕ) (v : ℕ) (change : Option (List ℕ)) → live_version h other ≡ Some v → waiting h other ≡ Some change → (change ≡ Some bytes) × IsFresh h other v bytes payload
+  file_at other v change live waited =
+      let l = only_live (same_id other id) version v (fin.get h.state.lives other) (life_at other) live in
+      let is : other ≡ id = same_id_is other id l.0 in (
+        same_Some _ _ (sym waited ∙ ap (waiting h) is ∙ waits),
+        subst (λ x. IsFresh h x v bytes payload) (sym is) (subst (λ n. IsFresh h id n bytes payload) (sym l.1) fresh),
+      )
+
+  never_written : (other : List ℕ) (v : ℕ) → live_version h other ≡ Some v → waiting h other ≡ None → ⊥
+  never_written other v live none =
+      let l = only_live (same_id other id) version v (fin.get h.state.lives other) (life_at other) live in
+      true_is_false (ap is_some (sym waits ∙ ap (waiting h) (sym (same_id_is other id l.0)) ∙ none))
+
+  one_sound : (trace : List Call) → ((name : At) → last_change name trace ≡ None) → SoundAt h trace
+  one_sound trace none = record {
+    waits = λ other v change live waited. let f = file_at other v change live waited in (bytes, payload, f.0, f.1);
+    stands = λ other v live gone. absurd (never_written other v live gone);
+    buried = λ other dead gone. absurd (true_is_false (sym dead ∙ none_dead (same_id other id) version (fin.get h.state.lives other) (life_at other)));
+    past = λ other put r was is own. absurd (no_put trace put none was);
+  }
+
+  pub one_waits_sound : (trace : Option (List Call)) → IsUntouched trace → SoundBy h trace
+  one_waits_sound None none = none
+  one_waits_sound (Some trace) none = one_sound trace none

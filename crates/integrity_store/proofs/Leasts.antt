@@ -1,22 +1,20 @@
 -- A store with another least format.
-use Rattle.std.specs.Prelude.{◌≡◌, ◌⊎◌, ℕ, true, false, List, [], is_some, nat_lt}
+use Rattle.std.specs.Prelude.{◌≡◌, ◌⊎◌, ℕ, true, List, [], is_some}
 use Rattle.std.proofs.Common.{refl, sym, ◌∙◌, ap, subst, inl, inr, arith}
 use Rattle.std.specs.declared.option.Option.{Option}
 use Rattle.std.specs.declared.option.Option.TheVariants.{None, Some}
-use Rattle.outside.specs.Trace.{At, block, Call}
+use Rattle.outside.specs.Trace.{block, Call}
 use Rattle.outside.specs.Honest.{LastChange, last_change}
-use Rattle.local_state.specs.Record.{PlainState, IsLeast, HasRecord}
+use Rattle.local_state.specs.Record.{PlainState, IsLeast, IsRecord, FitsState, record_bytes}
 use Rattle.store_api.specs.Durables.{IsLastNew, WasLastNew, IsNewFile, MayBeLeast}
 use Rattle.block_records.specs.BlockRecords.{Record, payload_in}
-use Rattle.store_api.specs.Holdings.{Stays}
 use Rattle.block_id.specs.declared.format.Format.{Format}
 use Rattle.block_id.specs.declared.format.Format.TheVariants.{Alone, WithId}
-use Rattle.block_id.specs.Formats.{IsTaken, format_in, number_of}
+use Rattle.block_id.specs.Formats.{IsTaken, format_in}
 use Rattle.held_blocks.specs.Held.{Held, file_of, live_version, told_or_none, waiting, wanted, where_live}
-use Rattle.held_blocks.specs.Soundness.{IsFresh, IsPast, SoundAt, SoundBy}
+use Rattle.held_blocks.specs.Soundness.{IsPast, SoundAt, SoundBy}
 use Rattle.held_blocks.specs.Stores.{IsWhole, holdings_by}
 use Rattle.held_blocks.specs.Standing.{Configures, durables_by}
-use Rattle.local_state.specs.Record.{IsRecord, FitsState, record_bytes}
 use Rattle.local_state.proofs.Records.{written_record}
 use Rattle.integrity_store.specs.EnduringLaws.{configures_of, configured_of}
 

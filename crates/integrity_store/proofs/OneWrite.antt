@@ -57,15 +57,6 @@ life_of_live : (o : Option Life) → option_map_or (λ m. m.live) o false ≡ tr
 life_of_live None live = absurd (true_is_false (sym live))
 life_of_live (Some life) live = (life, refl, ap (λ b. if b then Some life.version else None) live)
 
-dead_used : (b : Bool) (o : Option Life) → (is_some o && b) ≡ true → is_some o ≡ true
-dead_used b None e = absurd (true_is_false (sym e))
-dead_used b (Some life) e = refl
-
--- a block that waits is used
-used_at : (lives : Lives) (id : List ℕ) (change : Option (List ℕ)) → may_change lives (block id) (has_bytes change) ≡ true → is_some (fin.get lives id) ≡ true
-used_at lives id None may = dead_used (not (is_live_in lives id)) (fin.get lives id) may
-used_at lives id (Some bytes) may = let m = life_of_live (fin.get lives id) may in ap is_some m.1
-
 -- ---- files
 
 begins_as : (f : Format) (bytes : List ℕ) → starts_with nat_eq bytes (prefix_of f) ≡ true → take 14 bytes ≡ magic

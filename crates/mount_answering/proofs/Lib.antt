@@ -1,8 +1,8 @@
-mod Synced
+pub mod Synced
 pub mod Lines
 mod Asking
 mod Versions
 mod Loads
-mod Quiet
+pub mod Quiet
 mod Stores
 mod Closing

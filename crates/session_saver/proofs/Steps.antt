@@ -1,5 +1,5 @@
 -- What is kept, and what it stands for, after the steps of a sync.
-use Rattle.std.proofs.Common.{◌≡◌, ◌⊎◌, ◌<◌, ◌≤◌, ℕ, Bool, true, false, List, [], length, Option, Some, refl, sym, ◌∙◌, ap, subst, inl, inr, arith}
+use Rattle.std.proofs.Common.{◌≡◌, ◌⊎◌, ◌≤◌, ℕ, Bool, true, false, List, [], length, Option, Some, refl, sym, ◌∙◌, ap, subst, inl, inr, arith}
 use Rattle.std.specs.Prelude.{Result, Ok, Err, IsErrOf}
 use Rattle.outcome.specs.Meanings.{Meanings}
 use Rattle.outside.specs.Causes.{RoseBy}
@@ -7,7 +7,7 @@ use Rattle.outside.specs.Going.{GoesOn, goes_on_same, goes_on_writes}
 use Rattle.outside.specs.Writes.{after_writes}
 use Rattle.outside.specs.declared.keeper.Keeper.{Ghosts as KeeperGhosts}
 use Rattle.store_api.specs.Content.{Content, Changes, SameContent}
-use Rattle.store_api.specs.Durables.{Identity, Durables, Records, Enduring, mark_place, with_mark}
+use Rattle.store_api.specs.Durables.{Identity, Durables, Records, Enduring}
 use Rattle.store_api.specs.Holdings.{Holdings, Stays}
 use Rattle.session_saver.specs.Saving.{RepresentsContent, KeptConfigures, Whole, CanMark, IsRecordOf, Unmoved, Saved, SavedConfig, LastAfterLong, UnlessDirectory, UnlessState, world, Leaves, Moves, Finishes, Syncs}
 use Rattle.session_saver.specs.declared.saver.Saver.{Saver}

@@ -1,7 +1,10 @@
 // Sessions over a directory that breaks its promise.
 
+use aes_gcm::Aes256Gcm;
+use config_file::open_config;
 use cryfs_shell::Status;
-use outside::Pending;
+use outside::{FileName, Pending};
+use seal_api::Sealer;
 use std::alloc::Global;
 use std::test::Fail;
 use test_systems::{System, block, copy_files, file, new_system, session, store};
@@ -70,6 +73,36 @@ fn swapped_blocks_are_a_violation(rt: HostRuntime) -> Result<(), Fail> {
     store(alloc, &mut system, block(1), Some(child))?;
     store(alloc, &mut system, block(2), Some(root))?;
     is_refused_then(alloc, system, honest, "not-opened")
+}
+
+/// The root's file sealed in the older format, which doesn't protect the id.
+fn root_in_the_older_format(alloc: Global, system: &System) -> Result<Vec<u8>, Fail> {
+    let config = file(alloc, system.vault.files(), FileName::Config)?;
+    let key = open_config(alloc, b"pw", &config)?.config.key;
+    let found = file(alloc, system.vault.files(), block(1))?;
+    let Some((_, sealed)) = found.split_at_checked(16) else {
+        return Err(Fail::new("a block's file has a prefix"));
+    };
+    let root = [0, 0, 0, 0, 0, 0, 0, 0, 0, 0, 0, 0, 0, 0, 0, 1];
+    let Some(record) = Aes256Gcm.unseal_with(alloc, &key, &root, sealed)? else {
+        return Err(Fail::new("the root's file opens"));
+    };
+    if record.len() != 16384 - 48 {
+        return Err(Fail::new("a record has 48 bytes less than its file"));
+    }
+    let mut older = b"cryfs;block;0\0\x01\0".to_vec(alloc)?;
+    Aes256Gcm.seal(&key, &[9; 16], &record, &mut older)?;
+    Ok(older)
+}
+
+#[test]
+fn a_block_in_the_older_format_is_a_violation(rt: HostRuntime) -> Result<(), Fail> {
+    let alloc = rt.alloc();
+    let mut system = new_system(alloc)?;
+    let honest = copy_files(alloc, &system.vault)?;
+    let older = root_in_the_older_format(alloc, &system)?;
+    store(alloc, &mut system, block(1), Some(older))?;
+    is_refused_then(alloc, system, honest, "old-format")
 }
 
 /// What becomes of the root's file.

@@ -212,7 +212,7 @@ fn written_record(
     requires { IsIntact (block_size_of sealed.old) (⟦<Aes256Gcm as Sealer>⟧.iv_size (cipher_of sealed.old)) }
     ensures { IsIntact (block_size_of sealed.new) (⟦<Aes256Gcm as Sealer>⟧.iv_size (cipher_of sealed.new)) }
 {
-    match sealed.get_plain(alloc, id)? {
+    match sealed.get_plain(alloc, id, 2)? {
         Seen::Plain(plain) => Ok(plain),
         _ => Err("no record".into()),
     }

@@ -1,5 +1,5 @@
 use Rattle.std.proofs.Common.{◌≡◌, false, refl, sym, subst, rules}
-use Rattle.session_saver.proofs.Steps.{short_configures}
+use Rattle.session_saver.proofs.Steps.{any_configures, short_configures}
 use Rattle.session_saver.specs.Saving.{KeepsEmpty}
 use Rattle.store_api.specs.Holdings.{IsFew}
 use Rattle.tree_commands.specs.Showing.{ShowsFiles}
@@ -29,6 +29,8 @@ returns g c =
     let m = c.sync.ensures.moves in
     let e = c.sync.ensures.syncs in
     let l = m.leaves in
+    let long = D.local_record_of a true in
+    let written = endures.written a true c.requires.ready.intact in
     let short : new.saver.changed ≡ false → KeepsEmpty D b (G.kept new.saver.keeper) = λ u. (new.saver.last.items, m.whole.kept u, m.whole.last u) in
     record {
       moves = record {
@@ -41,11 +43,11 @@ returns g c =
         stands = λ kept now s. synced ShowsFiles M H D R G files_same old new kept now result s refl l.identity l.stays.payload (l.stays.content (g.met.S.Blocks.steady.sound_told a s.sound)) (l.sound s.sound)
             (e.stands (H.content a) s.sound s.unmarked (λ id. refl));
         configures = λ may now s.
-            let present = m.present now s.told s.present in
-            let configured = endures.configured_now a (D.local_record_of a true) now (endures.written a true c.requires.ready.intact) s.present in
-            config_synced ShowsFiles M H D R G old new may now result s l.stays.told present (λ kept is. m.waiting kept now is (endures.configures_now a kept now is configured)) (e.configures now s.told s.present)
+            let present = m.present long now s.told written s.present in
+            config_synced ShowsFiles M H D R G old new may now result s l.stays.told present (λ kept is. m.waiting kept now is (any_configures M H D R G g.S.BlocksMut.applied endures a long kept now written is s.present))
+            (e.configures long now s.told written s.present)
             (map_ok result _ _ (λ (u : new.saver.changed ≡ false). short_configures M H D R G g.S.BlocksMut.applied endures b new.saver.last.items now m.intact (m.whole.none u) (m.whole.last u) present) m.ok) e.last;
-        holds = λ bytes told k. saved_ok D R G old.saver new.saver a b bytes result (e.configures bytes told k);
+        holds = λ bytes told k. saved_ok D R G old.saver new.saver a b bytes result (e.configures long bytes told written k);
         emptied = map_ok result _ _ short m.ok;
         ok = m.ok;
         unmoved = λ same. let u = e.unchanged same in search rules;
