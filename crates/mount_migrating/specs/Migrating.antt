@@ -1,7 +1,5 @@
 -- What writing blocks anew makes of a session: old before, new after it.
-use Rattle.std.specs.Prelude.{◌≡◌, ◌≢◌, ◌⊎◌, ◌≤◌, ◌<◌, ◌+◌, ◌^◌, ℕ, Bool, true, false, List, [], ◌∷◌, Result, Ok, Err, OnOk, take, is_some}
-use Rattle.std.specs.List.{slice_get}
-use Rattle.std.specs.Option.{option_map}
+use Rattle.std.specs.Prelude.{◌≡◌, ◌≢◌, ◌⊎◌, ◌≤◌, ◌<◌, ◌+◌, ◌^◌, ℕ, Bool, true, false, List, [], ◌∷◌, Result, Ok, Err, OnOk, is_some}
 use Rattle.std.specs.declared.option.Option.TheVariants.{Some}
 use Rattle.answers.specs.declared.answer.Answer.{Answer}
 use Rattle.answers.specs.declared.answer.Answer.TheVariants.{Reply as Replied, Memory, Spent, FaultDirectory, FaultState, Violation}
@@ -69,10 +67,6 @@ is_done (Err e) = false
 -- they are the ids of the content
 abbrev pub AreLive : {S : Type 0} → Holdings S → S → List Id → Type 0
 AreLive H s ids = (id : Id) → has_id ids id ≡ is_some (H.content s id)
-
--- each of them stands once
-abbrev pub AreOnce : List Id → Type 0
-AreOnce ids = (n : ℕ) (id : Id) → slice_get ids n ≡ Some id → has_id (take n ids) id ≡ false
 
 -- one of them can get no further payload: its version is the last of 64 bits
 abbrev pub IsSpentAmong : {S : Type 0} → Holdings S → S → List Id → Type 0

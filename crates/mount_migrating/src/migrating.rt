@@ -1,9 +1,10 @@
 // All blocks, and the record.
 ghost use Rattle.std.specs.Prelude.{◌≡◌, false, map, OnOk};
+ghost use Rattle.data_tree.specs.Trees.{NoDoubles};
 ghost use Rattle.session_saver.specs.Saving.{world};
 ghost use Rattle.tree_commands.specs.Showing.{ShowsFiles};
 ghost use Rattle.mount_core.specs.Standing.{Ready};
-ghost use Rattle.mount_migrating.specs.Migrating.{AreLive, AreOnce, IsMigratedRecord, Migrates, Moves};
+ghost use Rattle.mount_migrating.specs.Migrating.{AreLive, IsMigratedRecord, Migrates, Moves};
 
 use crate::error::MigrateError;
 use crate::raising::raise_least;
@@ -26,7 +27,7 @@ fn migrate_blocks<S: Durable, K: Keeper, R: Rng>(
     requires ready { Ready (world S.meanings S.holdings S.durables S.records K.Keeper) core.old }
     requires fresh { core.old.violated ≡ false }
     requires live { AreLive S.holdings core.old.blobs.tx.store (map (λ id. id.0) ids.now) }
-    requires once { AreOnce (map (λ id. id.0) ids.now) }
+    requires once { NoDoubles (map (λ id. id.0) ids.now) }
     ensures ready { Ready (world S.meanings S.holdings S.durables S.records K.Keeper) core.new }
     ensures moves { Moves ShowsFiles (world S.meanings S.holdings S.durables S.records K.Keeper)
         core.old (map (λ id. id.0) ids.now) result core.new }
@@ -54,7 +55,7 @@ pub fn migrate_ids<S: Durable, K: Keeper, R: Rng>(
     requires ready { Ready (world S.meanings S.holdings S.durables S.records K.Keeper) core.old }
     requires fresh { core.old.violated ≡ false }
     requires live { AreLive S.holdings core.old.blobs.tx.store (map (λ id. id.0) ids.now) }
-    requires once { AreOnce (map (λ id. id.0) ids.now) }
+    requires once { NoDoubles (map (λ id. id.0) ids.now) }
     ensures ready { Ready (world S.meanings S.holdings S.durables S.records K.Keeper) core.new }
     ensures migrates { Migrates ShowsFiles (world S.meanings S.holdings S.durables S.records K.Keeper)
         core.old (map (λ id. id.0) ids.now) result core.new }

@@ -1,11 +1,12 @@
 // Blocks that are written anew.
 ghost use Rattle.std.specs.Prelude.{◌≡◌, ◌<◌, true, false, is_some, [], ◌∷◌, map, OnOk};
 ghost use Rattle.fs_model.specs.Tree.{Tree};
+ghost use Rattle.data_tree.specs.Trees.{NoDoubles};
 ghost use Rattle.session_saver.specs.Saving.{world};
 ghost use Rattle.store_api.specs.Lists.{waiting_bytes};
 ghost use Rattle.tree_commands.specs.Showing.{ShowsFiles};
 ghost use Rattle.mount_core.specs.Standing.{CoreStands, Ready};
-ghost use Rattle.mount_migrating.specs.Migrating.{AreLive, AreOnce, Renews, Rests};
+ghost use Rattle.mount_migrating.specs.Migrating.{AreLive, Renews, Rests};
 
 use crate::error::{MigrateError, apply_error, load_error, sync_error};
 use block_id::{BlockId, Memory};
@@ -117,7 +118,7 @@ pub(crate) fn renew_all<S: Durable, K: Keeper, R: Rng>(
     requires ready { Ready (world S.meanings S.holdings S.durables S.records K.Keeper) core.old }
     requires fresh { core.old.violated ≡ false }
     requires live { AreLive S.holdings core.old.blobs.tx.store (map (λ id. id.0) ids.now) }
-    requires once { AreOnce (map (λ id. id.0) ids.now) }
+    requires once { NoDoubles (map (λ id. id.0) ids.now) }
     ensures ready { Ready (world S.meanings S.holdings S.durables S.records K.Keeper) core.new }
     ensures renews { Renews ShowsFiles (world S.meanings S.holdings S.durables S.records K.Keeper)
         core.old (map (λ id. id.0) ids.now) result core.new }
