@@ -6,6 +6,7 @@ use Rattle.std.specs.FinMap.{get-empty, get-insert}
 use Rattle.std.specs.declared.option.Option.{Option}
 use Rattle.std.specs.declared.option.Option.TheVariants.{None, Some}
 use Rattle.std.proofs.lemmas.Option.{same_Some, none-some}
+use Rattle.data_tree.proofs.Ids.{same_self}
 use Rattle.store_api.proofs.Rising.{ids_total, same_id_is}
 use Rattle.store_api.specs.Content.{Id, Content, SameContent, Changes, id_cmp, same_id, or_else, over}
 use Rattle.store_api.specs.Holdings.{Holdings, FitsStore, MayGet, has_id, gives_payload}
@@ -67,3 +68,6 @@ one_has id other = or_none (same_id other id)
 
 pub one_rests : (id other : Id) (payload : List ℕ) → has_id (id ∷ []) other ≡ false → gives_payload (fin.get (one id payload) other) ≡ false
 one_rests id other payload none = ap gives_payload (one_other id other payload (sym (one_has id other) ∙ none))
+
+pub one_self : (id : Id) (payload : List ℕ) → fin.get (one id payload) id ≡ Some (Some payload)
+one_self id payload = one_get id id payload ∙ ap (λ b. cond b (Some (Some payload)) None) (same_self id)

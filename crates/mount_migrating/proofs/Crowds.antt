@@ -1,5 +1,5 @@
 -- Lists of ids, one after another.
-use Rattle.std.proofs.Common.{◌≡◌, ◌≢◌, ◌⊎◌, ◌<◌, ◌≤◌, ◌+◌, ◌^◌, ◌||◌, ◌++◌, ℕ, suc, Bool, true, false, List, [], ◌∷◌, map, length, take, drop, drop-cons, get_or, refl, sym, ◌∙◌, ap, subst, inl, inr, arith}
+use Rattle.std.proofs.Common.{◌≡◌, ◌≢◌, ◌⊎◌, ◌<◌, ◌≤◌, ◌+◌, ◌^◌, ◌||◌, ◌++◌, ℕ, zero, suc, Bool, true, false, List, [], ◌∷◌, map, length, take, drop, drop-cons, get_or, refl, sym, ◌∙◌, ap, subst, inl, inr, arith}
 use Rattle.std.proofs.lemmas.List.{drop-map, take-append-drop}
 use Rattle.block_id.specs.declared.id.BlockId.{BlockId}
 use Rattle.data_tree.proofs.Ids.{apart_right, in_left, in_one, in_right, not_both, same_self}
@@ -22,7 +22,7 @@ turned ids i e h is =
 
 pub next_taken : (xs : List Id) (i : ℕ) (x : Id) (ys : List Id) → drop i xs ≡ x ∷ ys → take (suc i) xs ≡ take i xs ++ x ∷ []
 next_taken [] i x ys e = absurd (cc e)
-next_taken (z ∷ zs) 0 x ys e = cc e
+next_taken (z ∷ zs) zero x ys e = cc e
 next_taken (z ∷ zs) (suc i) x ys e = ap (λ l. z ∷ l) (next_taken zs i x ys e)
 
 module _ (xs : List Id) (i : ℕ) (x : Id) (ys : List Id) (at : drop i xs ≡ x ∷ ys) where

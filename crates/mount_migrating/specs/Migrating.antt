@@ -163,7 +163,7 @@ pub record Migrates {S : Type 0} {K : Type 0} (shows : Showing) (W : World S K) 
   pub root : new.root ≡ old.root
   pub identity : W.durables.identity (store_of new) ≡ W.durables.identity (store_of old)
   pub payload : W.holdings.payload (store_of new) ≡ W.holdings.payload (store_of old)
-  pub ids : SameIds (W.holdings.content (store_of old)) (W.holdings.content (store_of new))
+  pub same_ids : SameIds (W.holdings.content (store_of old)) (W.holdings.content (store_of new))
   pub goes_on : GoesOn (W.durables.trace (store_of old)) (W.durables.trace (store_of new))
   pub forgeries : W.meanings.forgeries (store_of old) ≤ W.meanings.forgeries (store_of new)
   pub lies : W.meanings.lies (store_of old) ≤ W.meanings.lies (store_of new)

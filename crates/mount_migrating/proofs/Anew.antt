@@ -17,6 +17,7 @@ use Rattle.outside.specs.declared.keeper.Keeper.{Ghosts as KeeperGhosts}
 use Rattle.session_saver.specs.Saving.{world}
 use Rattle.session_saver.specs.declared.saver.Saver.{Saver}
 use Rattle.store_api.specs.Content.{Content, Id, Changes, SameContent, over}
+use Rattle.store_api.proofs.Rising.{same_id_is}
 use Rattle.store_api.specs.Durables.{Durables, Records, Enduring}
 use Rattle.store_api.specs.Holdings.{Holdings, Steady, Stays, Changed, IsSpent, has_id}
 use Rattle.store_api.specs.declared.blocks.ApplyError.{ApplyError}
@@ -30,8 +31,8 @@ use Rattle.mount_core.proofs.Moving.{SameShown}
 use Rattle.mount_answering.proofs.Lines.{calm, configures_loaded, configures_on, found_of, of_blocks, stands_loaded, stands_on}
 use Rattle.mount_answering.proofs.Quiet.{fail_directory, fail_directory_rose}
 use Rattle.data_tree.proofs.Ids.{same_self}
-use Rattle.mount_migrating.specs.Migrating.{answer_of, error_of_apply, error_of_fail, told, HasReason, IsFoundSince, IsSpentAmong, Proceeds, Raises, Renews}
-use Rattle.mount_migrating.proofs.Batches.{one, one_says, one_leaves, one_ids, one_has, one_rests}
+use Rattle.mount_migrating.specs.Migrating.{answer_of, error_of_apply, error_of_fail, told, AreUnspent, HasReason, IsFoundSince, IsSpentAmong, Proceeds, Raises}
+use Rattle.mount_migrating.proofs.Batches.{one, one_says, one_self, one_leaves, one_ids, one_has, one_rests}
 
 -- ---- errors as answers
 
@@ -201,3 +202,10 @@ module _ {S : Type 0} {K : Type 0} (shows : Showing) (M : Meanings S) (H : Holdi
           raised = λ other. let r = changed.raised other in let v = stays.version other in omega (arith, r, v);
           rests = λ other none. changed.rests other (one_rests id other payload none) ∙ stays.version other;
         }
+
+  -- no id of a batch that was applied was at its last version
+  pub unspent_by : (old mid : S) (id : Id) (payload : List ℕ) → Stays H old mid → M.intact mid → (IsSpent H mid (one id payload) → ⊥) → AreUnspent H old (id ∷ [])
+  unspent_by old mid id payload stays intact none other has last =
+      let is = same_id_is other id (sym (one_has id other) ∙ has) in
+      let at = subst (λ x. H.version old x + 1 ≡ 2 ^ 64) is last in
+      none (id, payload, one_self id payload, steady.last_spent mid id intact (ap (λ n. n + 1) (stays.version id) ∙ at))
