@@ -1,12 +1,10 @@
 -- A block that was loaded and written anew.
-use Rattle.std.proofs.Common.{◌≡◌, ◌≢◌, ◌⊎◌, ◌≤◌, ◌+◌, ◌^◌, ℕ, Bool, true, false, List, [], ◌∷◌, refl, sym, ◌∙◌, ap, subst, inl, inr, arith}
-use Rattle.std.specs.Prelude.{Result, is_some}
-use Rattle.std.specs.declared.option.Option.{Option}
-use Rattle.std.specs.declared.option.Option.TheVariants.{None, Some}
-use Rattle.std.specs.declared.result.Result.TheVariants.{Ok, Err}
-use Rattle.answers.specs.declared.answer.Answer.{Answer}
+use Rattle.std.proofs.Common.{◌≡◌, ◌≤◌, ◌+◌, ◌^◌, ℕ, true, List, [], ◌∷◌, refl, sym, ◌∙◌, ap, subst, inl, arith}
+use Rattle.std.specs.Prelude.{is_some}
+use Rattle.std.specs.declared.option.Option.TheVariants.{Some}
+use Rattle.std.specs.declared.result.Result.TheVariants.{Err}
 use Rattle.answers.specs.declared.answer.Answer.TheVariants.{Memory, Spent}
-use Rattle.answers.specs.Sessions.{is_violation, directory_faults, state_faults}
+use Rattle.answers.specs.Sessions.{state_faults}
 use Rattle.block_id.specs.declared.fail.Fail.{Fail}
 use Rattle.block_id.specs.declared.fail.Fail.TheVariants as fail
 use Rattle.fs_model.specs.Tree.{Tree}
@@ -16,16 +14,16 @@ use Rattle.outside.specs.Going.{goes_on_onward, goes_on_equal, goes_on_same}
 use Rattle.outside.specs.declared.keeper.Keeper.{Ghosts as KeeperGhosts}
 use Rattle.session_saver.specs.Saving.{world}
 use Rattle.session_saver.specs.declared.saver.Saver.{Saver}
-use Rattle.store_api.specs.Content.{Content, Id, Changes, SameContent, over}
+use Rattle.store_api.specs.Content.{Id, Changes, SameContent}
 use Rattle.store_api.proofs.Rising.{same_id_is}
 use Rattle.store_api.specs.Durables.{Durables, Records, Enduring}
-use Rattle.store_api.specs.Holdings.{Holdings, Steady, Stays, Changed, IsSpent, has_id}
+use Rattle.store_api.specs.Holdings.{Holdings, Steady, Stays, Changed, IsSpent}
 use Rattle.store_api.specs.declared.blocks.ApplyError.{ApplyError}
 use Rattle.store_api.specs.declared.blocks.ApplyError.TheVariants as apply_error
 use Rattle.tree_commands.specs.Performing.{Showing}
 use Rattle.mount_core.specs.declared.body.Core.{Core}
 use Rattle.mount_core.specs.Answering.{store_of}
-use Rattle.mount_core.specs.Answers.{is_structure, answer_of_fail, OnSpent}
+use Rattle.mount_core.specs.Answers.{answer_of_fail, OnSpent}
 use Rattle.mount_core.specs.Standing.{CoreStands}
 use Rattle.mount_core.proofs.Moving.{SameShown}
 use Rattle.mount_answering.proofs.Lines.{calm, configures_loaded, configures_on, found_of, of_blocks, stands_loaded, stands_on}

@@ -1,6 +1,6 @@
 -- Blocks written anew, before and after a sync, and all steps of a migration.
-use Rattle.std.proofs.Common.{◌≡◌, ◌≢◌, ◌≤◌, ◌+◌, ◌^◌, ℕ, Bool, true, false, List, [], ◌∷◌, refl, sym, ◌∙◌, ap, subst, arith}
-use Rattle.std.specs.Prelude.{Result, OnOk}
+use Rattle.std.proofs.Common.{◌≡◌, ◌≤◌, ◌+◌, List, [], refl, sym, ◌∙◌, ap, arith}
+use Rattle.std.specs.Prelude.{Result, OnOk, OnErr}
 use Rattle.std.specs.declared.result.Result.TheVariants.{Ok, Err}
 use Rattle.fs_model.specs.Tree.{Tree}
 use Rattle.outcome.specs.Meanings.{Meanings}
@@ -40,19 +40,20 @@ module _ {S : Type 0} {K : Type 0} (shows : Showing) (M : Meanings S) (H : Holdi
   spent_none a b ids (id, has, last) = absurd (cc has)
 
   -- first a sync
-  pub renews_after : (old mid new : Core S K) (ids : List Id) (result : Ended) → Rests shows (world M H D R G) old (Ok tt) mid → Renews shows (world M H D R G) mid ids result new → Renews shows (world M H D R G) old ids result new
-  renews_after old mid new ids result r w = record {
+  pub renews_after : (old mid new : Core S K) (ids : List Id) (result : Ended) → D.least (store_of mid) ≡ D.least (store_of old) → Rests shows (world M H D R G) old (Ok tt) mid → Renews shows (world M H D R G) mid ids result new → Renews shows (world M H D R G) old ids result new
+  renews_after old mid new ids result level r w = record {
     proceeds = proceeds_then shows M H D R G old mid new r.proceeds w.proceeds;
     reason = reason_after shows M H D R G old mid new ids ids (told result) r.proceeds w.proceeds (r.reason.vault_quiet refl) (r.reason.keeper_quiet refl) (spent_same (store_of old) (store_of mid) ids r.versions) w.reason;
     raises = raises_same (store_of old) (store_of mid) (store_of new) ids r.versions w.raises;
     unspent = on_ok result (λ u id has last. u id has (ap (λ n. n + 1) (r.versions id) ∙ last)) w.unspent;
     are_new = w.are_new;
     stays_new = on_ok result (λ stays id n. stays id (r.stays_new id n)) w.stays_new;
+    least = w.least ∙ level;
   }
 
   -- the sync failed
-  pub renews_stopped : (old new : Core S K) (ids : List Id) (e : MigrateError) → Rests shows (world M H D R G) old (Err e) new → Renews shows (world M H D R G) old ids (Err e) new
-  renews_stopped old new ids e r =
+  pub renews_stopped : (old new : Core S K) (ids : List Id) (e : MigrateError) → D.least (store_of new) ≡ D.least (store_of old) → Rests shows (world M H D R G) old (Err e) new → Renews shows (world M H D R G) old ids (Err e) new
+  renews_stopped old new ids e level r =
       let w = r.reason in
       record {
         proceeds = r.proceeds;
@@ -70,24 +71,27 @@ module _ {S : Type 0} {K : Type 0} (shows : Showing) (M : Meanings S) (H : Holdi
         unspent = tt;
         are_new = tt;
         stays_new = tt;
+        least = level;
       }
 
   -- ---- all steps
 
   pub moves_unrenewed : (old new : Core S K) (ids : List Id) (e : MigrateError) → Renews shows (world M H D R G) old ids (Err e) new → Moves shows (world M H D R G) old ids (Err e) new
-  moves_unrenewed old new ids e w = record { proceeds = w.proceeds; reason = w.reason; raises = w.raises; unspent = tt; done = tt; kept = tt }
+  moves_unrenewed old new ids e w = record { proceeds = w.proceeds; reason = w.reason; raises = w.raises; unspent = tt; done = tt; least = λ one. w.least ∙ one; kept = tt }
 
   module _ (old mid : Core S K) (ids : List Id) (w : Renews shows (world M H D R G) old ids (Ok tt) mid) where
     -- what follows is no more than a rest
     followed : (new : Core S K) (result : Ended) → Rests shows (world M H D R G) mid result new → OnOk result (IsMigratedRecord (world M H D R G) new)
+        → OnErr result (D.least (store_of old) ≡ 1 → D.least (store_of new) ≡ 1)
         → OnOk result ((kept now : Tree) → CoreStands shows (world M H D R G) old kept now → M.forgeries (store_of new) ≤ M.forgeries (store_of old) → CoreStands shows (world M H D R G) new now now)
         → Moves shows (world M H D R G) old ids result new
-    followed new result r done kept = record {
+    followed new result r done least kept = record {
       proceeds = proceeds_then shows M H D R G old mid new w.proceeds r.proceeds;
       reason = reason_after shows M H D R G old mid new [] ids (told result) w.proceeds r.proceeds (w.reason.vault_quiet refl) (w.reason.keeper_quiet refl) (spent_none (store_of old) (store_of mid) ids) r.reason;
       raises = raises_on (store_of old) (store_of mid) (store_of new) ids w.raises r.versions;
       unspent = on_ok result (λ u. w.unspent) (every result);
       done = done;
+      least = least;
       kept = kept;
     }
       where
@@ -95,12 +99,12 @@ module _ {S : Type 0} {K : Type 0} (shows : Showing) (M : Meanings S) (H : Holdi
         every (Ok u) = tt
         every (Err e) = tt
 
-    pub moves_unsynced : (new : Core S K) (e : MigrateError) → Rests shows (world M H D R G) mid (Err e) new → Moves shows (world M H D R G) old ids (Err e) new
-    moves_unsynced new e r = followed new (Err e) r tt tt
+    pub moves_unsynced : (new : Core S K) (e : MigrateError) → D.least (store_of new) ≡ D.least (store_of mid) → Rests shows (world M H D R G) mid (Err e) new → Moves shows (world M H D R G) old ids (Err e) new
+    moves_unsynced new e level r = followed new (Err e) r tt (λ one. level ∙ (w.least ∙ one)) tt
 
     module _ (kept_core new : Core S K) (result : Ended) (r : Rests shows (world M H D R G) mid (Ok tt) kept_core)
         (whole : (k now : Tree) → CoreStands shows (world M H D R G) mid k now → CoreStands shows (world M H D R G) kept_core now now) (s : Rests shows (world M H D R G) kept_core result new)
-        (done : OnOk result (IsMigratedRecord (world M H D R G) new)) where
+        (done : OnOk result (IsMigratedRecord (world M H D R G) new)) (least : OnErr result (D.least (store_of new) ≡ 1)) where
       both : Rests shows (world M H D R G) mid result new
       both = record {
         proceeds = proceeds_then shows M H D R G mid kept_core new r.proceeds s.proceeds;
@@ -118,8 +122,12 @@ module _ {S : Type 0} {K : Type 0} (shows : Showing) (M : Meanings S) (H : Holdi
           (λ j u. now_alone shows M H D R G new now (s.proceeds.stands now now (whole j now u) (omega (arith, wf, rf, few))))
 
       pub moves_all : Moves shows (world M H D R G) old ids result new
-      moves_all = followed new result both done (on_ok result (λ u. last_kept) (every result))
+      moves_all = followed new result both done (lowered result least) (on_ok result (λ u. last_kept) (every result))
         where
           every : (result : Ended) → OnOk result (Unit {0})
           every (Ok u) = tt
           every (Err e) = tt
+
+          lowered : (result : Ended) → OnErr result (D.least (store_of new) ≡ 1) → OnErr result (D.least (store_of old) ≡ 1 → D.least (store_of new) ≡ 1)
+          lowered (Ok u) h = tt
+          lowered (Err e) h = λ one. h

@@ -1,8 +1,8 @@
 -- Lists of ids, one after another.
-use Rattle.std.proofs.Common.{◌≡◌, ◌≢◌, ◌⊎◌, ◌<◌, ◌≤◌, ◌+◌, ◌^◌, ◌||◌, ◌++◌, ℕ, zero, suc, Bool, true, false, List, [], ◌∷◌, map, length, take, drop, drop-cons, get_or, refl, sym, ◌∙◌, ap, subst, inl, inr, arith}
+use Rattle.std.proofs.Common.{◌≡◌, ◌≢◌, ◌<◌, ◌≤◌, ◌+◌, ◌^◌, ◌||◌, ◌++◌, ℕ, zero, suc, Bool, true, false, List, [], ◌∷◌, map, length, take, drop, drop-cons, get_or, refl, sym, ◌∙◌, ap, subst, inl, inr, arith}
 use Rattle.std.proofs.lemmas.List.{drop-map, take-append-drop}
 use Rattle.block_id.specs.declared.id.BlockId.{BlockId}
-use Rattle.data_tree.proofs.Ids.{apart_right, in_left, in_one, in_right, not_both, same_self}
+use Rattle.data_tree.proofs.Ids.{apart_right, in_one, in_right, not_both, same_self}
 use Rattle.data_tree.specs.Trees.{NoDoubles}
 use Rattle.store_api.proofs.Rising.{same_id_is}
 use Rattle.store_api.specs.Content.{Id, same_id}
@@ -15,13 +15,17 @@ abbrev pub listed : List BlockId → List Id
 listed ids = map (λ id. id.0) ids
 
 -- one more turn of a loop over them
-pub turned : (ids : List BlockId) (i : ℕ) (e : BlockId) → i < length ids → e ≡ get_or ids i e → drop i (listed ids) ≡ e.0 ∷ drop (suc i) (listed ids)
-turned ids i e h is =
-    drop-map (λ id. id.0) i ids ∙ ap (map (λ id. id.0)) (drop-cons ids i e h) ∙ ap (λ x. x.0 ∷ map (λ id. id.0) (drop (suc i) ids)) (sym is)
-    ∙ ap (λ xs. e.0 ∷ xs) (sym (drop-map (λ id. id.0) (suc i) ids))
+pub turned : (ids : List BlockId) (i : ℕ) (d : BlockId) → i < length ids → drop i (listed ids) ≡ (get_or ids i d).0 ∷ drop (suc i) (listed ids)
+turned ids i d h =
+    drop-map (λ id. id.0) i ids ∙ ap (map (λ id. id.0)) (drop-cons ids i d h)
+    ∙ ap (λ xs. (get_or ids i d).0 ∷ xs) (sym (drop-map (λ id. id.0) (suc i) ids))
 
 pub next_taken : (xs : List Id) (i : ℕ) (x : Id) (ys : List Id) → drop i xs ≡ x ∷ ys → take (suc i) xs ≡ take i xs ++ x ∷ []
-next_taken [] i x ys e = absurd (cc e)
+next_taken [] i x ys e = absurd (nothing i e)
+  where
+    nothing : (i : ℕ) → drop i [] ≡ x ∷ ys → ⊥
+    nothing zero e = cc e
+    nothing (suc i) e = cc e
 next_taken (z ∷ zs) zero x ys e = cc e
 next_taken (z ∷ zs) (suc i) x ys e = ap (λ l. z ∷ l) (next_taken zs i x ys e)
 

@@ -1,6 +1,6 @@
 -- The least format that is taken, set and perhaps set back.
-use Rattle.std.proofs.Common.{◌≡◌, ◌⊎◌, ◌≤◌, ◌+◌, ℕ, Bool, true, false, List, [], refl, sym, ◌∙◌, ap, subst, inl, inr, arith}
-use Rattle.std.specs.Prelude.{Result, IsErrOf}
+use Rattle.std.proofs.Common.{◌≡◌, ◌⊎◌, ◌≤◌, ℕ, true, false, List, [], refl, sym, ◌∙◌, ap, subst, inl, inr, arith}
+use Rattle.std.specs.Prelude.{IsErrOf}
 use Rattle.std.specs.declared.option.Option.{Option}
 use Rattle.std.specs.declared.option.Option.TheVariants.{Some}
 use Rattle.std.specs.declared.result.Result.TheVariants.{Ok, Err}
@@ -8,13 +8,12 @@ use Rattle.fs_model.specs.Tree.{Tree}
 use Rattle.outcome.specs.Meanings.{Meanings}
 use Rattle.outside.specs.Causes.{RoseBy}
 use Rattle.outside.specs.Going.{goes_on_equal}
-use Rattle.outside.specs.Trace.{Call}
 use Rattle.outside.specs.declared.keeper.Keeper.{Ghosts as KeeperGhosts}
 use Rattle.session_saver.specs.Saving.{world, ShortSaved, UnlessState}
 use Rattle.session_saver.specs.declared.saver.Saver.{Saver}
 use Rattle.session_saver.specs.declared.saver.SyncError.{SyncError}
 use Rattle.session_saver.specs.declared.saver.SyncError.TheVariants as sync_error
-use Rattle.store_api.specs.Content.{Changes, Id}
+use Rattle.store_api.specs.Content.{Changes}
 use Rattle.store_api.specs.Durables.{Identity, Durables, Records, Enduring}
 use Rattle.store_api.specs.Holdings.{Holdings, Steady, Stays}
 use Rattle.tree_commands.specs.Performing.{Showing}

@@ -1,7 +1,6 @@
 -- A violation, marked; and any other end.
-use Rattle.std.proofs.Common.{◌≡◌, ◌⊎◌, ◌≤◌, ℕ, Bool, true, false, List, refl, sym, ◌∙◌, ap, subst, inl, inr, arith}
+use Rattle.std.proofs.Common.{◌≡◌, ◌⊎◌, ◌≤◌, Bool, true, false, List, refl, sym, ◌∙◌, ap, subst, inl, inr, arith}
 use Rattle.std.specs.Prelude.{Result, OnOk}
-use Rattle.std.specs.declared.option.Option.{Option}
 use Rattle.std.specs.declared.option.Option.TheVariants.{Some}
 use Rattle.std.specs.declared.result.Result.TheVariants.{Ok, Err}
 use Rattle.answers.specs.Sessions.{is_violation}
@@ -20,7 +19,6 @@ use Rattle.tree_commands.specs.Performing.{Showing}
 use Rattle.mount_core.specs.declared.body.Core.{Core}
 use Rattle.mount_core.specs.Answering.{store_of}
 use Rattle.mount_core.specs.Answers.{OnFound}
-use Rattle.mount_core.specs.Configuring.{ConfigAnswered, CoreConfigures}
 use Rattle.mount_core.specs.Standing.{CoreStands, IsKeptMarked, Keeps, Left, Roomed}
 use Rattle.mount_core.proofs.Moving.{keeps_along}
 use Rattle.mount_answering.proofs.Lines.{config_calm, config_marked, marked_or, true_is_false}
@@ -60,6 +58,7 @@ module _ {S : Type 0} {K : Type 0} (shows : Showing) (M : Meanings S) (H : Holdi
         unspent = m.unspent;
         raises = m.raises;
         done = m.done;
+        least = m.least;
         vault_cause = r.vault_cause;
         vault_quiet = r.vault_quiet;
         keeper_cause = r.keeper_cause;
@@ -124,6 +123,7 @@ module _ {S : Type 0} {K : Type 0} (shows : Showing) (M : Meanings S) (H : Holdi
         unspent = tt;
         raises = subst (λ s. Raises H (store_of old) s ids) (sym e) m.raises;
         done = tt;
+        least = λ one. ap D.least e ∙ m.least one;
         vault_cause = subst (λ s. RoseBy 0 (M.faults (store_of old)) (M.faults s)) (sym e) rv;
         vault_quiet = λ none. ev ∙ r.vault_quiet none;
         keeper_cause = omega (arith, quiet, grows);

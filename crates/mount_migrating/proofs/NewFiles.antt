@@ -1,5 +1,5 @@
 -- What a file of the newest format stays through loads, batches and syncs.
-use Rattle.std.proofs.Common.{◌≡◌, ◌⊎◌, ℕ, Bool, true, false, List, [], ◌∷◌, ◌++◌, refl, sym, ◌∙◌, ap, subst, inl, inr}
+use Rattle.std.proofs.Common.{◌≡◌, ◌⊎◌, ℕ, true, List, [], refl, sym, ◌∙◌, ap, subst, inl, inr}
 use Rattle.std.specs.FinMap as fin
 use Rattle.std.specs.declared.option.Option.{Option}
 use Rattle.std.specs.declared.option.Option.TheVariants.{None, Some}
@@ -15,7 +15,7 @@ use Rattle.session_saver.specs.Saving.{Wrote}
 use Rattle.store_api.specs.Content.{Id, Changes}
 use Rattle.store_api.specs.Durables.{Durables, Records, Enduring, IsLastNew, IsNewFile, WasLastNew, last_told}
 use Rattle.store_api.specs.Holdings.{Holdings}
-use Rattle.mount_migrating.proofs.Batches.{one, one_get, one_says}
+use Rattle.mount_migrating.proofs.Batches.{one, one_says}
 
 -- calls that don't change the file
 was_on : (is_new : List ℕ → Type 0) (name : At) (a b : Option (List Call)) → GoesOn a b → last_told name b ≡ last_told name a → WasLastNew is_new name a → WasLastNew is_new name b

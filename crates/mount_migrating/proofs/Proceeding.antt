@@ -1,8 +1,7 @@
 -- Steps after one another.
-use Rattle.std.proofs.Common.{◌≡◌, ◌⊎◌, ◌≤◌, ◌+◌, ℕ, Bool, true, false, List, refl, sym, ◌∙◌, ap, subst, inl, inr, arith}
-use Rattle.std.specs.Prelude.{Result, Ok, Err}
+use Rattle.std.proofs.Common.{◌≡◌, List, refl, ◌∙◌, subst, inl, inr, arith}
 use Rattle.answers.specs.declared.answer.Answer.{Answer}
-use Rattle.answers.specs.Sessions.{is_violation, directory_faults, state_faults}
+use Rattle.answers.specs.Sessions.{directory_faults, state_faults}
 use Rattle.fs_model.specs.Tree.{Tree}
 use Rattle.outcome.specs.Meanings.{Meanings}
 use Rattle.outside.specs.Causes.{RoseBy}
@@ -15,10 +14,9 @@ use Rattle.store_api.specs.Holdings.{Holdings}
 use Rattle.tree_commands.specs.Performing.{Showing}
 use Rattle.mount_core.specs.declared.body.Core.{Core}
 use Rattle.mount_core.specs.Answering.{store_of}
-use Rattle.mount_core.specs.Answers.{OnFound, OnSpent}
 use Rattle.mount_core.specs.Standing.{CoreStands, Roomed}
 use Rattle.mount_answering.proofs.Lines.{found_map, spent_on}
-use Rattle.mount_migrating.specs.Migrating.{Proceeds, HasReason, IsFoundSince, IsSpentAmong}
+use Rattle.mount_migrating.specs.Migrating.{Proceeds, HasReason, IsSpentAmong}
 
 module _ {S : Type 0} {K : Type 0} (shows : Showing) (M : Meanings S) (H : Holdings S) (D : Durables S) (R : Records) (G : KeeperGhosts K) where
   abbrev Going : Core S K → Core S K → Type 0

@@ -1,9 +1,8 @@
 -- What a sync keeps, and why one fails.
-use Rattle.std.proofs.Common.{◌≡◌, ℕ, Bool, false, List, [], refl, sym, ◌∙◌, ap, subst, arith}
+use Rattle.std.proofs.Common.{◌≡◌, List, [], refl, arith}
 use Rattle.std.specs.Prelude.{Result}
 use Rattle.std.specs.declared.result.Result.TheVariants.{Ok, Err}
 use Rattle.answers.specs.declared.answer.Answer.TheVariants.{Reply as Replied}
-use Rattle.answers.specs.Sessions.{directory_faults, state_faults}
 use Rattle.fs_model.specs.declared.reply.Reply.TheVariants.{Done}
 use Rattle.outcome.specs.Meanings.{Meanings}
 use Rattle.outside.specs.declared.keeper.Keeper.{Ghosts as KeeperGhosts}

@@ -1,5 +1,5 @@
 -- What writing blocks anew makes of a session: old before, new after it.
-use Rattle.std.specs.Prelude.{◌≡◌, ◌≢◌, ◌⊎◌, ◌≤◌, ◌<◌, ◌+◌, ◌^◌, ℕ, Bool, true, false, List, [], ◌∷◌, Result, Ok, Err, OnOk, is_some}
+use Rattle.std.specs.Prelude.{◌≡◌, ◌≢◌, ◌⊎◌, ◌≤◌, ◌+◌, ◌^◌, ℕ, Bool, true, false, List, [], Result, Ok, Err, OnOk, OnErr, is_some}
 use Rattle.std.specs.declared.option.Option.TheVariants.{Some}
 use Rattle.answers.specs.declared.answer.Answer.{Answer}
 use Rattle.answers.specs.declared.answer.Answer.TheVariants.{Reply as Replied, Memory, Spent, FaultDirectory, FaultState, Violation}
@@ -15,7 +15,7 @@ use Rattle.outside.specs.Going.{GoesOn}
 use Rattle.session_saver.specs.Saving.{World}
 use Rattle.session_saver.specs.declared.saver.SyncError.{SyncError}
 use Rattle.session_saver.specs.declared.saver.SyncError.TheVariants as sync_error
-use Rattle.store_api.specs.Content.{Id, SameIds, same_id}
+use Rattle.store_api.specs.Content.{Id, SameIds}
 use Rattle.store_api.specs.Durables.{Durables, IsNewFile}
 use Rattle.store_api.specs.Holdings.{Holdings, has_id}
 use Rattle.store_api.specs.declared.blocks.ApplyError.{ApplyError}
@@ -136,6 +136,7 @@ pub record Renews {S : Type 0} {K : Type 0} (shows : Showing) (W : World S K) (o
   pub unspent : OnOk result (AreUnspent W.holdings (store_of old) ids)
   pub are_new : OnOk result (AreNew W.holdings W.durables (store_of new) ids)
   pub stays_new : OnOk result ((id : Id) → IsNewFile W.durables (store_of old) id → IsNewFile W.durables (store_of new) id)
+  pub least : W.durables.least (store_of new) ≡ W.durables.least (store_of old)
 
 -- the record with an empty list is kept, and says that no older format is taken
 pub record IsMigratedRecord {S : Type 0} {K : Type 0} (W : World S K) (new : Core S K) : Type 0 where
@@ -154,7 +155,9 @@ pub record Moves {S : Type 0} {K : Type 0} (shows : Showing) (W : World S K) (ol
   pub raises : Raises W.holdings (store_of old) (store_of new) ids
   pub unspent : OnOk result (AreUnspent W.holdings (store_of old) ids)
   pub done : OnOk result (IsMigratedRecord W new)
-  -- then the tree that is present is the one that is kept
+  -- after an error the older format is taken as before
+  pub least : OnErr result (W.durables.least (store_of old) ≡ 1 → W.durables.least (store_of new) ≡ 1)
+  -- after Ok the tree that is present is the one that is kept
   pub kept : OnOk result ((kept now : Tree) → CoreStands shows W old kept now → W.meanings.forgeries (store_of new) ≤ W.meanings.forgeries (store_of old) → CoreStands shows W new now now)
 
 -- blocks of these ids were written anew and the record says so, or an error was met; after a violation the last record is marked
@@ -179,6 +182,8 @@ pub record Migrates {S : Type 0} {K : Type 0} (shows : Showing) (W : World S K) 
   pub unspent : OnOk result (AreUnspent W.holdings (store_of old) ids)
   pub raises : Raises W.holdings (store_of old) (store_of new) ids
   pub done : OnOk result (IsMigratedRecord W new)
+  -- after an error the older format is taken as before
+  pub least : OnErr result (W.durables.least (store_of old) ≡ 1 → W.durables.least (store_of new) ≡ 1)
   pub vault_cause : RoseBy (directory_faults (told result)) (W.meanings.faults (store_of old)) (W.meanings.faults (store_of new))
   pub vault_quiet : directory_faults (told result) ≡ 0 → W.meanings.faults (store_of new) ≡ W.meanings.faults (store_of old)
   pub keeper_cause : RoseBy (state_faults (told result)) (W.keeper.faults old.saver.keeper) (W.keeper.faults new.saver.keeper)

@@ -60,10 +60,14 @@ pub fn migrate_ids<S: Durable, K: Keeper, R: Rng>(
     ensures migrates { Migrates ShowsFiles (world S.meanings S.holdings S.durables S.records K.Keeper)
         core.old (map (λ id. id.0) ids.now) result core.new }
 {
-    let result = migrate_blocks(alloc, core, ids, chance);
-    match result {
-        Err(MigrateError::Violation(_)) => mark(core),
-        _ => {}
+    match migrate_blocks(alloc, core, ids, chance) {
+        Ok(()) => Ok(()),
+        Err(error) => {
+            match error {
+                MigrateError::Violation(_) => mark(core),
+                _ => {}
+            }
+            Err(error)
+        }
     }
-    result
 }

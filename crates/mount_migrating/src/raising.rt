@@ -1,5 +1,5 @@
 // The record that says that no older format is taken.
-ghost use Rattle.std.specs.Prelude.{◌≡◌, ◌≢◌, false, OnOk, Err};
+ghost use Rattle.std.specs.Prelude.{◌≡◌, false, OnOk, OnErr};
 ghost use Rattle.session_saver.specs.Saving.{world};
 ghost use Rattle.store_api.specs.Durables.{MayBeLeast};
 ghost use Rattle.tree_commands.specs.Showing.{ShowsFiles};
@@ -23,6 +23,7 @@ pub(crate) fn raise_least<S: Durable, K: Keeper>(
     requires whole { core.old.saver.changed ≡ false }
     ensures ready { Ready (world S.meanings S.holdings S.durables S.records K.Keeper) core.new }
     ensures rests { Rests ShowsFiles (world S.meanings S.holdings S.durables S.records K.Keeper) core.old result core.new }
+    ensures least { OnErr result (S.durables.least core.new.blobs.tx.store ≡ 1) }
     ensures done { OnOk result (IsMigratedRecord (world S.meanings S.holdings S.durables S.records K.Keeper) core.new) }
 {
     core.blobs.tx.store.set_least(2);

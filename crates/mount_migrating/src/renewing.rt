@@ -29,6 +29,7 @@ pub(crate) fn keep_present<S: Durable, K: Keeper>(
     requires fresh { core.old.violated ≡ false }
     ensures ready { Ready (world S.meanings S.holdings S.durables S.records K.Keeper) core.new }
     ensures rests { Rests ShowsFiles (world S.meanings S.holdings S.durables S.records K.Keeper) core.old result core.new }
+    ensures least { S.durables.least core.new.blobs.tx.store ≡ S.durables.least core.old.blobs.tx.store }
     ensures whole { OnOk result (core.new.saver.changed ≡ false) }
     ensures kept { OnOk result ((kept now : Tree) → CoreStands ShowsFiles (world S.meanings S.holdings S.durables S.records K.Keeper) core.old kept now
         → CoreStands ShowsFiles (world S.meanings S.holdings S.durables S.records K.Keeper) core.new now now) }
@@ -48,6 +49,7 @@ fn make_room<S: Durable, K: Keeper>(
     requires fresh { core.old.violated ≡ false }
     ensures ready { Ready (world S.meanings S.holdings S.durables S.records K.Keeper) core.new }
     ensures rests { Rests ShowsFiles (world S.meanings S.holdings S.durables S.records K.Keeper) core.old result core.new }
+    ensures least { S.durables.least core.new.blobs.tx.store ≡ S.durables.least core.old.blobs.tx.store }
     ensures few { OnOk result (waiting_bytes (S.durables.list core.new.blobs.tx.store) < 8388608) }
 {
     if core.blobs.tx.store.buffered() >= MOST_WAITING {

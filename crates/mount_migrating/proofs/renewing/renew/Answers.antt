@@ -1,11 +1,11 @@
-use Rattle.std.proofs.Common.{◌≡◌, ◌≤◌, ◌∙◌, ℕ, true, List, [], ◌∷◌, length, refl, sym, ap, subst}
+use Rattle.std.proofs.Common.{◌≡◌, ◌≤◌, ◌∙◌, ℕ, true, [], ◌∷◌, length, refl, sym, ap, subst}
 use Rattle.std.specs.Prelude.{Vec, IfSome}
 use Rattle.std.specs.declared.alloc.Global.{Global}
 use Rattle.std.specs.declared.option.Option.{Option}
 use Rattle.outside.specs.View.{bytes_of}
 use Rattle.std.specs.FinMap as fin
 use Rattle.std.specs.declared.option.Option.TheVariants.{Some}
-use Rattle.std.specs.declared.result.Result.TheVariants.{Ok, Err}
+use Rattle.std.specs.declared.result.Result.TheVariants.{Err}
 use Rattle.outcome.specs.Outcome.{alarm as no_alarm}
 use Rattle.session_saver.specs.Saving.{world}
 use Rattle.store_api.specs.Content.{Changes}
@@ -43,6 +43,7 @@ returns-in-Err-clause-renews g c =
       reason = failed_reason ShowsFiles M H D R G files_same g.met.S.Blocks.lawful g.met.S.Blocks.steady g.S.BlocksMut.applied g.met.S.BlocksMut.settled g.met.S.Durable.enduring old new ids c.in-Err.fail o.loaded refl o.fault o.quiet o.met
           (λ kept now s honest. no_alarm g.met.S.Blocks.lawful o tt s.sound honest) c.in-Err.ensures.of_blocks;
       raises = raises_stays ShowsFiles M H D R G files_same g.met.S.Blocks.lawful g.met.S.Blocks.steady g.S.BlocksMut.applied g.met.S.BlocksMut.settled g.met.S.Durable.enduring old.blobs.tx.store c.load.new.self ids c.in-Err.ensures.stays;
+      least = g.met.S.Durable.enduring.loaded_least old.blobs.tx.store c.load.new.self o.loaded;
       unspent = tt;
       are_new = tt;
       stays_new = tt;
@@ -63,6 +64,7 @@ returns-in-Err-put-clause-renews g c =
       proceeds = loaded_proceeds ShowsFiles M H D R G files_same g.met.S.Blocks.lawful g.met.S.Blocks.steady g.S.BlocksMut.applied g.met.S.BlocksMut.settled g.met.S.Durable.enduring old new o.loaded o.sound refl refl refl;
       reason = memory_reason ShowsFiles M H D R G files_same g.met.S.Blocks.lawful g.met.S.Blocks.steady g.S.BlocksMut.applied g.met.S.BlocksMut.settled g.met.S.Durable.enduring old new ids o.quiet refl;
       raises = raises_stays ShowsFiles M H D R G files_same g.met.S.Blocks.lawful g.met.S.Blocks.steady g.S.BlocksMut.applied g.met.S.BlocksMut.settled g.met.S.Durable.enduring old.blobs.tx.store c.load.new.self ids c.load.ensures.stays;
+      least = g.met.S.Durable.enduring.loaded_least old.blobs.tx.store c.load.new.self o.loaded;
       unspent = tt;
       are_new = tt;
       stays_new = tt;
@@ -110,6 +112,7 @@ returns-in-Ok-apply-clause-renews g c =
       unspent = unspent_by ShowsFiles M H D R G files_same g.met.S.Blocks.lawful g.met.S.Blocks.steady applied g.met.S.BlocksMut.settled endures old.blobs.tx.store c.load.new.self id payload stays o.intact
           (λ spent. absurd (cc (c.in-Ok-apply.ensures.spent.1 (subst (IsSpent H c.load.new.self) (sym is) spent))));
       are_new = λ other has. subst (λ x. IsNewFile D c.apply.new.self x) (sym (same_id_is other id (sym (one_has id other) ∙ has))) (new_given M H applied D R endures c.load.new.self c.apply.new.self id payload batch (one_self id payload));
+      least = endures.applied_least c.load.new.self c.apply.new.self (one id payload) batch ∙ endures.loaded_least old.blobs.tx.store c.load.new.self o.loaded;
       stays_new = λ other n. new_applied M H applied D R endures c.load.new.self c.apply.new.self id other payload batch (new_loaded M H applied D R endures old.blobs.tx.store c.load.new.self other o.loaded n);
     }
 
@@ -156,6 +159,7 @@ returns-clause-renews g c =
           (λ last. batch_spent ShowsFiles M H D R G files_same g.met.S.Blocks.lawful g.met.S.Blocks.steady applied g.met.S.BlocksMut.settled endures store c.load.new.self id payload c.load.ensures.stays o.intact
           (subst (IsSpent H c.load.new.self) is (a.spent.0 (ap Err last))));
       raises = raises_stays ShowsFiles M H D R G files_same g.met.S.Blocks.lawful g.met.S.Blocks.steady applied g.met.S.BlocksMut.settled endures store c.apply.new.self (id ∷ []) stays;
+      least = endures.loaded_least store c.apply.new.self loaded;
       unspent = tt;
       are_new = tt;
       stays_new = tt;

@@ -1,4 +1,4 @@
-use Rattle.std.proofs.Common.{◌≡◌, List, map, take}
+use Rattle.std.proofs.Common.{◌≡◌, take}
 use Rattle.session_saver.specs.Saving.{world}
 use Rattle.store_api.specs.Content.{Id}
 use Rattle.store_api.specs.Durables.{IsNewFile}
@@ -12,6 +12,7 @@ abbrev pub invariant-loop-id : goal.invariant-loop-id
 invariant-loop-id g l = record {
   ready : Ready (world g.S.Blocks.meanings g.S.Blocks.holdings g.S.Durable.durables g.S.Durable.records g.K.Keeper) l.core;
   proceeds : Proceeds ShowsFiles (world g.S.Blocks.meanings g.S.Blocks.holdings g.S.Durable.durables g.S.Durable.records g.K.Keeper) l.initial.core l.core;
+  least : g.S.Durable.durables.least l.core.blobs.tx.store ≡ g.S.Durable.durables.least l.initial.core.blobs.tx.store;
   vault : g.S.Blocks.meanings.faults l.core.blobs.tx.store ≡ g.S.Blocks.meanings.faults l.initial.core.blobs.tx.store;
   keeper : g.K.Keeper.faults l.core.saver.keeper ≡ g.K.Keeper.faults l.initial.core.saver.keeper;
   raises : Raises g.S.Blocks.holdings l.initial.core.blobs.tx.store l.core.blobs.tx.store (take l.id-index (listed l.ids));
