@@ -18,7 +18,7 @@ use Rattle.outside.specs.NameLaws.{at_total, at_exact}
 use Rattle.outside.specs.Changes.{FileChanges, change_at}
 use Rattle.outside.specs.Honest.{LastChange, last_change}
 use Rattle.local_state.specs.declared.life.Life.{Life}
-use Rattle.local_state.specs.Known.{Lives, is_live_in, is_dead_in, version_if_live}
+use Rattle.local_state.specs.Known.{is_dead_in, version_if_live}
 use Rattle.local_state.specs.Record.{ListEntry, FitsEntry, may_change, has_bytes}
 use Rattle.outside.specs.Writes.{call_for}
 use Rattle.block_id.specs.declared.format.Format.{Format}

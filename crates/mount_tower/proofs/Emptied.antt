@@ -21,11 +21,11 @@ module _ {V : Type 0} (trace : V → Option (List Call)) (store : Cached V) (sta
       subst (λ s. IsRecord s (listed with_list (held_in store).list) bytes) (sym same) (subst (λ l. IsRecord state (listed with_list l) bytes) (sym waits) is)
 
   pub keeps_emptied : (kept : Option (List ℕ)) → KeepsEmpty (tower_durables trace) store kept → KeepsRecord kept state []
-  keeps_emptied kept (bytes, (is, record_)) = record { bytes = bytes; kept = is; is_record = subst (λ s. IsRecord s [] bytes) same record_ }
+  keeps_emptied kept (bytes, is, record_) = record { bytes = bytes; kept = is; is_record = subst (λ s. IsRecord s [] bytes) same record_ }
 
 -- a record with an empty list is kept
 pub emptied : {V : Type 0} (trace : V → Option (List Call)) (store : IntegrityStore V Cipher) (kept : Option (List ℕ)) → KeepsEmpty (sealed_durables trace) store kept → HasEmptyList kept
-emptied trace store kept (bytes, (is, record_)) = record { state = (sealed_held store).state; keeps = record { bytes = bytes; kept = is; is_record = record_ } }
+emptied trace store kept (bytes, is, record_) = record { state = (sealed_held store).state; keeps = record { bytes = bytes; kept = is; is_record = record_ } }
 
 pub emptied_on : {V : Type 0} {T E : Type 0} (trace : V → Option (List Call)) (store : Cached V) (kept : Option (List ℕ)) (result : Result T E) → OnOk result (KeepsEmpty (tower_durables trace) store kept) → OnOk result (HasEmptyList kept)
 emptied_on trace store kept (Ok x) e = emptied trace store.store kept e
@@ -34,6 +34,6 @@ emptied_on trace store kept (Err x) e = tt
 -- it has the versions of the store
 pub keeps_versions : {V : Type 0} {T E : Type 0} (trace : V → Option (List Call)) (store : Cached V) (kept : Option (List ℕ)) (version : List ℕ → ℕ) (result : Result T E) → ((tower_durables trace).identity store).marked ≡ false
     → OnOk result (KeepsEmpty (tower_durables trace) store kept) → ((id : List ℕ) → version id ≡ (tower_holdings trace).version store id) → OnOk result (KeepsVersions kept version)
-keeps_versions trace store kept version (Ok x) unmarked (bytes, (is, record_)) same =
+keeps_versions trace store kept version (Ok x) unmarked (bytes, is, record_) same =
     record { state = (held_in store).state; list = []; loaded = record { keeps = record { bytes = bytes; kept = is; is_record = record_ }; unmarked = unmarked }; versions = same }
 keeps_versions trace store kept version (Err x) unmarked e same = tt

@@ -110,7 +110,7 @@ pub(crate) fn reads_again_what_was_synced<S: Tower>(alloc: Global) -> Result<boo
     let mut site = Site::new(alloc)?;
     let nothing = has::<S>(alloc, &mut site, [None, None, None])?;
     let well = run::<S>(alloc, &mut site, &[(A, Some(5)), (B, Some(6))])? == WELL;
-    let long = site.record(alloc)?.len() == 170 && site.file(alloc, &A)?.len() == 128;
+    let long = site.record(alloc)?.len() == 171 && site.file(alloc, &A)?.len() == 128;
     Ok(nothing && well && long && has::<S>(alloc, &mut site, [Some(5), Some(6), None])?)
 }
 
@@ -199,8 +199,8 @@ pub(crate) fn a_configuration_waits_first<S: Tower>(alloc: Global) -> Result<boo
     let mut site = Site::new(alloc)?;
     let (sizes, syncs) = configure::<S>(alloc, &mut site, &[(A, Some(5))], b"settings")?;
     let first = put_config(site.vault.trace().first(), b"settings");
-    let kept = site.record(alloc)?.len() == 145;
-    let well = sizes == (136, 309, 145) && syncs == WELL;
+    let kept = site.record(alloc)?.len() == 146;
+    let well = sizes == (136, 310, 146) && syncs == WELL;
     Ok(first && kept && well && has::<S>(alloc, &mut site, [Some(5), None, None])?)
 }
 
@@ -219,7 +219,7 @@ pub(crate) fn finds_in_the_list_what_was_not_put<S: Tower>(alloc: Global) -> Res
     site.vault.fail_from(2);
     let syncs = run::<S>(alloc, &mut site, &[(A, Some(5)), (B, Some(6))])?;
     let fault = Err(SyncError::FaultDirectory);
-    let long = site.record(alloc)?.len() == 320;
+    let long = site.record(alloc)?.len() == 321;
     let failed = syncs == (fault, fault) && long && site.vault.files().len() == 1;
     site.vault.fail_from(u64::MAX);
     let listed = has::<S>(alloc, &mut site, [Some(5), Some(6), None])?;

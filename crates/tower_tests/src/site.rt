@@ -8,10 +8,11 @@ ghost use Rattle.store_api.specs.Holdings.{IsFew};
 use crate::reopening::is_no_block;
 use aes_gcm::Aes256Gcm;
 use block_id::BlockId;
+use block_records::write_record;
 use integrity_store::IntegrityStore;
 use local_state::decode;
 use memory_outside::{MemoryKeeper, MemoryVault};
-use outside::{Change, FileName, Pending};
+use outside::{Change, FileName, Pending, Vault};
 use redo_vault::RedoVault;
 use seal_api::Sealer;
 use sealed_store::SealedStore;
@@ -31,10 +32,9 @@ pub(crate) struct Site {
     pub(crate) keeper: MemoryKeeper,
 }
 
-/// The record of client 1 that knows no block.
-fn empty_record(alloc: Global) -> Result<Vec<u8>, Fail> {
-    let mut out = Vec::new(alloc);
-    out.extend_from_slice(b"cryfs.localstate;1\0\0")?;
+/// The record of client 1 that knows no block, with these bytes at its front.
+fn empty_record(alloc: Global, front: &[u8]) -> Result<Vec<u8>, Fail> {
+    let mut out = front.to_vec(alloc)?;
     out.extend_from_slice(&[0x11; 80])?;
     out.extend_from_slice(&[1, 0, 0, 0])?;
     out.extend_from_slice(&[0; 16])?;
@@ -79,9 +79,18 @@ pub(crate) fn open(alloc: Global, vault: MemoryVault, record: &[u8]) -> Result<S
 }
 
 impl Site {
-    /// An empty directory and a record that knows no block.
+    /// An empty directory and a record that knows no block and takes files of format 2 alone.
     pub(crate) fn new(alloc: Global) -> Result<Site, Fail> {
-        let record = empty_record(alloc)?;
+        Site::over(alloc, b"cryfs.localstate;2\0\0\x02")
+    }
+
+    /// The same with a record of the older form, which takes files of both formats.
+    pub(crate) fn older(alloc: Global) -> Result<Site, Fail> {
+        Site::over(alloc, b"cryfs.localstate;1\0\0")
+    }
+
+    fn over(alloc: Global, front: &[u8]) -> Result<Site, Fail> {
+        let record = empty_record(alloc, front)?;
         Ok(Site {
             vault: MemoryVault::new(alloc),
             keeper: MemoryKeeper::new(alloc, Some(record), Vec::new(alloc)),
@@ -113,6 +122,24 @@ impl Site {
         let loaded = store.load(alloc, id);
         self.vault = store.into_vault();
         Ok(first_byte(loaded))
+    }
+
+    /// Puts a file of format 1 in a block's place: one of 50 times this byte at version 1, whose record is of this id.
+    pub(crate) fn set_older_file(
+        &mut self,
+        alloc: Global,
+        at: &BlockId,
+        of: &BlockId,
+        byte: u8,
+    ) -> Result<(), Fail> {
+        let record = write_record(alloc, of, 1, 1, &[byte; 50])?;
+        if record.len() != 80 {
+            return Err("no record of 80 bytes".into());
+        }
+        let store = sealed_over(alloc, MemoryVault::new(alloc), Vec::new(alloc));
+        let file = store.seal_form1(alloc, of, &record, &[9; 16])?;
+        self.vault.put(alloc, &FileName::Block(*at), &file)?;
+        Ok(())
     }
 
     /// A copy of a block's file.

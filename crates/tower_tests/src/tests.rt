@@ -119,8 +119,28 @@ fn refuses_files_that_were_swapped(rt: HostRuntime) -> Result<(), Fail> {
         (B, site.file(rt.alloc(), &A)?),
     ];
     site.vault.set_files(files_of(rt.alloc(), swapped)?);
+    assert!(rt; site.load(rt.alloc(), &A)? == violation(Why::NotOpened));
+    assert!(rt; site.load(rt.alloc(), &B)? == violation(Why::NotOpened));
+    Ok(())
+}
+
+#[test]
+fn takes_files_of_format_1_over_an_older_record(rt: HostRuntime) -> Result<(), Fail> {
+    let mut site = Site::older(rt.alloc())?;
+    assert!(rt; run::<Store>(rt.alloc(), &mut site, &[(A, Some(5)), (B, Some(6))])? == WELL);
+    site.set_older_file(rt.alloc(), &A, &A, 5)?;
+    assert!(rt; site.load(rt.alloc(), &A)? == Ok(Some(5)));
+    site.set_older_file(rt.alloc(), &A, &B, 6)?;
     assert!(rt; site.load(rt.alloc(), &A)? == violation(Why::WrongId(B)));
-    assert!(rt; site.load(rt.alloc(), &B)? == violation(Why::WrongId(A)));
+    Ok(())
+}
+
+#[test]
+fn refuses_files_of_format_1_else(rt: HostRuntime) -> Result<(), Fail> {
+    let mut site = Site::new(rt.alloc())?;
+    assert!(rt; run::<Store>(rt.alloc(), &mut site, &[(A, Some(5))])? == WELL);
+    site.set_older_file(rt.alloc(), &A, &A, 5)?;
+    assert!(rt; site.load(rt.alloc(), &A)? == violation(Why::OldFormat));
     Ok(())
 }
 

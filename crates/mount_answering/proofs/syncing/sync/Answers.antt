@@ -1,4 +1,4 @@
-use Rattle.std.proofs.Common.{◌≡◌, false, refl, sym, subst, rules}
+use Rattle.std.proofs.Common.{◌≡◌, true, false, refl, sym, subst, rules}
 use Rattle.session_saver.proofs.Steps.{any_configures, short_configures}
 use Rattle.session_saver.specs.Saving.{KeepsEmpty}
 use Rattle.store_api.specs.Holdings.{IsFew}

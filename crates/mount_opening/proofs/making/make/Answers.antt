@@ -1,4 +1,4 @@
-use Rattle.std.proofs.Common.{◌≡◌, length, inl, refl, sym, ◌∙◌, ap, subst, arith, rules}
+use Rattle.std.proofs.Common.{◌≡◌, true, length, inl, refl, sym, ◌∙◌, ap, subst, arith, rules}
 use Rattle.data_nodes.specs.Layout.{IsPayloadLen}
 use Rattle.fs_model.specs.Tree.{empty_tree}
 use Rattle.outside.specs.Causes.{RoseBy}

@@ -1,4 +1,4 @@
-use Rattle.std.proofs.Common.{◌≡◌, refl, sym, ◌∙◌, ap, subst, false}
+use Rattle.std.proofs.Common.{◌≡◌, refl, sym, ◌∙◌, ap, subst}
 use Rattle.aes_gcm.specs.Gcm.{opened_of}
 use Rattle.outside.specs.Changes.{change_at}
 use Rattle.outside.specs.Trace.{config}

@@ -1,4 +1,4 @@
-use Rattle.std.proofs.Common.{◌≡◌, true, false, Some, Err, inl, inr, refl, sym, ◌∙◌, ap, subst, arith}
+use Rattle.std.proofs.Common.{◌≡◌, true, false, Some, Err, inl, inr, refl, ◌∙◌, ap, subst, arith}
 use Rattle.outside.specs.Causes.{UnlessFault}
 use Rattle.outside.specs.Going.{goes_on_stops}
 use Rattle.session_saver.specs.declared.saver.SyncError.TheVariants.{FaultDirectory, FaultState}
