@@ -117,6 +117,30 @@ def a_folder_that_cannot_be_copied_is_told(tree):
     same(copies(tree, "export", "link", "/")[0], 12, "a link to a file")
 
 
+def what_is_no_row_is_left_out_where_that_is_asked(tree):
+    made(tree)
+    tree.write("f/a/file", "ab")
+    os.mkfifo(f"{tree.top}/f/a/pi\npe")
+    os.symlink("a", f"{tree.top}/f/link")
+    kept = socket.socket(socket.AF_UNIX)
+    kept.bind(os.path.relpath(f"{tree.top}/f/socket"))
+    told = ["cryfs: f/a/pi\\x0ape is no file, folder or link: left out", "cryfs: f/socket is no file, folder or link: left out"]
+    for words in (("--leave-out",), ("--quiet", "--leave-out"), ("--leave-out", "--quiet")):
+        line(tree, "mkdir", f"/{''.join(words)}")
+        status, out, errors = copies(tree, "import", "f", f"/{''.join(words)}", *words)
+        same((status, out), (0, "imported 1 1 1 2\n"), f"an import {words}")
+        same(sorted(errors.splitlines()), told, "what is told")
+        same(line(tree, "ls", f"/{''.join(words)}"), "list 2\nd a\nl link\n", "what stands there")
+    kept.close()
+    # What can't be copied for another cause is a fault as ever.
+    with open(f"{tree.top}/f".encode() + b"/na\xffme", "wb"):
+        pass
+    same(copies(tree, "import", "f", "/", "--leave-out")[:2], (12, ""), "a name that is no text")
+    same(copies(tree, "import", ".", "/", "--leave-out")[:2], (12, ""), "a folder with those of the run in it")
+    for words in (("export", "g", "/", "--leave-out"), ("import", "f", "/", "--leave-out", "--leave-out"), ("check", "--leave-out")):
+        same(tree.run("b", "s", *words, given=b"pw\n", script="./crates/cryfs/out/cryfs"), (1, "", "cryfs: usage\n"), f"the program's {words}")
+
+
 def the_folders_of_the_run_are_left(tree):
     made(tree)
     os.makedirs(f"{tree.top}/b/below")
@@ -168,6 +192,12 @@ def how_far_it_is_is_seen_at_a_terminal(tree):
     same(status, 0, seen)
     has(seen, "\r\nimported 0 1 0 100663296\r\n")
     require("MiB" not in seen.partition("imported")[2], seen)
+    line(tree, "mkdir", "/quiet")
+    terminal = asks(tree, "import", "f", "/quiet", "--quiet")
+    status, seen = terminal.end()
+    same(status, 0, seen)
+    has(seen, "\r\nimported 0 1 0 100663296\r\n")
+    require("MiB" not in seen and "files" not in seen, seen)
     terminal = asks(tree, "import", "none", "/")
     status, seen = terminal.end()
     same(status, 12, seen)
@@ -190,5 +220,6 @@ def a_copy_that_is_stopped_leaves_a_part(tree):
     wait_until(lambda: copies(tree, "ls", "/")[0] == 0, "it opens again")
 
 
-CASES = [a_folder_comes_back_equal, what_stands_in_the_way_is_told, a_folder_that_cannot_be_copied_is_told, the_folders_of_the_run_are_left,
+CASES = [a_folder_comes_back_equal, what_stands_in_the_way_is_told, a_folder_that_cannot_be_copied_is_told,
+         what_is_no_row_is_left_out_where_that_is_asked, the_folders_of_the_run_are_left,
          a_copy_that_fails_in_the_middle_is_told, how_far_it_is_is_seen_at_a_terminal, a_copy_that_is_stopped_leaves_a_part]

@@ -29,6 +29,8 @@ def words_are_looked_at_first(tree):
     wrong = ("b", "b s", "b s lss", "b s ls\\ /", "b s info more", "b s check /", "b s shell x", "b s passwd x", "b s generate",
              "b s generate x", "b s generate 12345678", "b s generate 1 2", "b s trial x", "b s trial generate", "b s create --size 1", "b s create 128",
              "b s import", "b s import f", "b s import f x", "b s import '' /", "b s export f / more", "b s export / f",
+             "b s import f / --quiet --quiet", "b s import f / --quick", "b s import f --quiet /", "b s export f / --leave-out",
+             "b s check --leave-out", "b s check --quiet --quiet", "b s put /f --quiet",
              "b s create --blocksize", "b s create --blocksize=x", "b s create --", "--wrong b s ls /", "--password-file",
              "--password-file f --password-command c b s info", "--password-file f b s trial", "'' s info", "b '' info")
     for built in (False, True):
@@ -39,7 +41,7 @@ def words_are_looked_at_first(tree):
             same((status, out, errors.count("\n")), (1, "", 1), f"{words}: {errors}")
             require(errors.startswith("cryfs: ") and "built" not in errors, f"{words}: {errors}")
     for words in ("generate 8", "trial generate 8", "check", "ls", "ls / x", "read", "sync", "create --blocksize 128 --scrypt-n=16",
-                  "import f /", "export / /"):
+                  "import f /", "export / /", "import f / --quiet --leave-out", "import f / --leave-out", "export / / --quiet", "check --quiet"):
         status, _, errors = tree.run("b", "s", *words.split(), given=b"pw\n")
         same((status, errors), (5, ""), words)
 

@@ -9,6 +9,8 @@ COPIES = ("import", "export")
 FILES = ("put", "get")
 COMMANDS = ("create", "info", "passwd", "check", "shell", *COPIES, *FILES, "generate", "trial", *LINES)
 CREATE_OPTIONS = ("--blocksize", "--scrypt-n", "--scrypt-r", "--scrypt-p")
+# Words that may stand behind those of a command.
+LATE_OPTIONS = {"import": ("--quiet", "--leave-out"), "export": ("--quiet",), "check": ("--quiet",)}
 PASSWORD_OPTIONS = ("--password-file", "--password-command")
 RECORD = "cryfs.localstate"
 
@@ -111,8 +113,10 @@ def check_command(words):
         raise Refused(f"no command {command!r}: see cryfs --help", USAGE)
     if command == "create":
         check_create(more)
-    if command in ("info", "passwd", "check", "shell") and more:
+    if command in ("info", "passwd", "shell") and more:
         raise Refused(f"{command} takes no more words", USAGE)
+    if command == "check":
+        check_late(command, more)
     if command in COPIES:
         check_copy(command, more)
     if command in FILES:
@@ -131,9 +135,19 @@ def check_count(words, form):
 
 def check_copy(command, words):
     """Refuses what isn't a folder of this machine and a path of the file system."""
-    if len(words) != 2 or not words[0]:
+    if len(words) < 2 or not words[0]:
         raise Refused(f"the words are {command} FOLDER PATH: a folder of this machine, and a directory of the file system", USAGE)
     check_path(words[1])
+    check_late(command, words[2:])
+
+
+def check_late(command, words):
+    """Refuses words behind those of the command that it doesn't have there, or not twice."""
+    for number, word in enumerate(words):
+        if word not in LATE_OPTIONS[command]:
+            raise Refused(f"{command} takes no word {word!r} there: see cryfs --help", USAGE)
+        if word in words[:number]:
+            raise Refused(f"{word} stands twice", USAGE)
 
 
 def check_file(command, words):

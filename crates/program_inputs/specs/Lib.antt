@@ -1,2 +1,3 @@
 pub mod HostWord
 pub mod RecordUse
+pub mod OptionWords

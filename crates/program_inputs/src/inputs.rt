@@ -4,6 +4,7 @@ ghost use Rattle.real_folders.specs.FolderLog.{calls_of};
 ghost use Rattle.real_host.specs.Adapters.{host_faults};
 
 use crate::host_word::take_folder;
+use crate::options::{Options, no_options, take_options};
 use crate::record_use::uses_record;
 use crate::streams::hold_closed;
 use call_log::CallLog;
@@ -21,13 +22,14 @@ use std::io::ErrorKind;
 use std::time::{SystemTime, UNIX_EPOCH};
 
 /// What the program is run with: the folders that its first two words name, the words after them, and this moment. The words of a copy have one
-/// more folder, which isn't among those that are run.
+/// more folder, and perhaps options behind them, as those of a check have. These aren't among the words that are run.
 #[derive(Drop)]
 pub struct Inputs {
     blocks: String,
     state: String,
     /// The folder that a copy reads or fills. Without a copy there is none of this name.
     folder: String,
+    options: Options,
     folders: FolderRun,
     /// What keeps files of the run from being taken for standard streams.
     closed: [Option<File>; 3],
@@ -63,13 +65,14 @@ impl Inputs {
             Some(folder) => folder,
             None => String::new(rt.alloc()),
         };
+        let options = take_options(&mut words);
         let now = read_clock(rt).ok_or(Status::InputFault)?;
         let Ok(mut chance) = rand::make_rng::<ChaCha20Rng, HostRuntime>(rt) else {
             return Err(Status::InputFault);
         };
         let number = chance.next_u64();
         match Inputs::new(rt.alloc(), blocks, state, words, now, number) {
-            Ok(inputs) => Ok((inputs.holding(folder, closed), chance)),
+            Ok(inputs) => Ok((inputs.holding(folder, options, closed), chance)),
             Err(Memory) => Err(Status::Memory),
         }
     }
@@ -90,6 +93,7 @@ impl Inputs {
             blocks,
             state,
             folder: String::new(alloc),
+            options: no_options(),
             folders: FolderRun::new(alloc, number)?,
             closed: [None, None, None],
             words,
@@ -97,9 +101,10 @@ impl Inputs {
         })
     }
 
-    fn holding(self, folder: String, closed: [Option<File>; 3]) -> Inputs {
+    fn holding(self, folder: String, options: Options, closed: [Option<File>; 3]) -> Inputs {
         Inputs {
             folder,
+            options,
             closed,
             ..self
         }
@@ -109,16 +114,24 @@ impl Inputs {
     pub fn host(&self, rt: &HostRuntime) -> RealHost<'_>
         ensures { host_faults result ≡ 0 }
     {
-        RealHost::new(rt, &self.folder, &self.blocks, &self.state)
+        let mut host = RealHost::new(rt, &self.folder, &self.blocks, &self.state);
+        if self.options.is_quiet {
+            host.be_quiet();
+        }
+        if self.options.leaves_out {
+            host.leave_out();
+        }
+        host
     }
 
-    /// The block folder, after the calls of this log. For a check it tells how many blocks were read, where standard error is a terminal.
+    /// The block folder, after the calls of this log. For a check that isn't quiet it tells how many blocks were read, where standard error is a
+    /// terminal.
     pub fn vault(&self, rt: &HostRuntime, log: CallLog) -> FolderVault<'_, HostRuntime>
         ensures calls { result.calls ≡ calls_of log.events }
         ensures none { result.faults ≡ 0 }
     {
         let mut vault = FolderVault::new(*rt, &self.blocks, &self.folders, log);
-        if is_check(&self.words) {
+        if is_check(&self.words) && !self.options.is_quiet {
             vault.watch(*rt);
         }
         vault

@@ -1,8 +1,9 @@
-//! What the program takes from the system before it runs: its words, the clock, random bytes, its two folders, and that of a copy.
+//! What the program takes from the system before it runs: its words, the clock, random bytes, its two folders, and that of a copy with its options.
 #![tactic(auto)]
 
 mod host_word;
 mod inputs;
+mod options;
 mod record_use;
 mod streams;
 

@@ -10,6 +10,8 @@ pub enum HostError {
     Io(io::Error),
     /// What is wrong, to stand after the path.
     Wrong(&'static str),
+    /// What is neither file, folder nor link.
+    NoRow,
     /// Something wrong that was told already.
     Told,
 }

@@ -32,6 +32,8 @@ pub struct RealHost<'a> {
     place: Place<'a>,
     telling: Telling<'a>,
     way: Way,
+    /// Whether what is no row is left out of listings.
+    leaves_out: bool,
     faults: u64,
 }
 
@@ -52,8 +54,23 @@ impl<'a> RealHost<'a> {
             place,
             telling: Telling::new(place),
             way: Way::new(rt.alloc()),
+            leaves_out: false,
             faults: 0,
         }
+    }
+
+    /// From here on it doesn't say how far it is.
+    pub fn be_quiet(&mut self)
+        ensures { host_faults self.new ≡ host_faults self.old }
+    {
+        self.telling.progress.hide();
+    }
+
+    /// From here on what is neither file, folder nor link is told and left out of listings. Else a listing fails by it.
+    pub fn leave_out(&mut self)
+        ensures { host_faults self.new ≡ host_faults self.old }
+    {
+        self.leaves_out = true;
     }
 }
 
@@ -115,7 +132,13 @@ impl<'a> RealHost<'a> {
     {
         self.way.reach(self.place, path.names())?;
         let folder = self.way.path(self.place.rt.alloc(), ".")?;
-        listing::rows(self.place, &mut self.telling, path.names(), folder.as_str())
+        listing::rows(
+            self.place,
+            &mut self.telling,
+            path.names(),
+            folder.as_str(),
+            self.leaves_out,
+        )
     }
 
     /// Comes to the folder that the row lies in. The row's name.

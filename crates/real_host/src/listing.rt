@@ -14,12 +14,14 @@ use std::cmp::Ordering;
 use std::fs::{self, DirEntry, Metadata};
 use std::io::{self, ErrorKind};
 
-/// The rows of the folder that is open at this path of the system, by increasing names. Each that is none is told.
+/// The rows of the folder that is open at this path of the system, by increasing names. Each entry that is no row is told; where one is
+/// none since it is neither file, folder nor link, that may be left out.
 pub fn rows(
     place: Place<'_>,
     telling: &mut Telling<'_>,
     names: &[Name],
     path: &str,
+    leaves_out: bool,
 ) -> Result<Vec<ListRow>, HostError>
     ensures { IfOk result (λ rows. RowsRise rows.items) }
 {
@@ -32,6 +34,9 @@ pub fn rows(
             Ok(Some(row)) => rows.push(row)?,
             Ok(None) => {}
             Err(HostError::Memory) => return Err(HostError::Memory),
+            Err(HostError::NoRow) if leaves_out => {
+                telling.tell_left_out(names, entry.file_name());
+            }
             Err(error) => {
                 telling.tell(names, Some(entry.file_name()), &error);
                 is_well = false;
@@ -82,7 +87,7 @@ fn kind_of(barred: &Barred, found: &Metadata) -> Result<Kind, HostError> {
     } else if found.is_symlink() {
         Ok(Kind::Link)
     } else {
-        Err(HostError::Wrong("is no file, folder or link"))
+        Err(HostError::NoRow)
     }
 }
 

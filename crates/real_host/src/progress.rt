@@ -10,7 +10,7 @@ const PAUSE: u128 = 250;
 #[derive(Drop)]
 pub struct Progress {
     rt: HostRuntime,
-    is_terminal: bool,
+    is_shown: bool,
     files: u64,
     bytes: u64,
     begun: Option<Instant>,
@@ -22,7 +22,7 @@ impl Progress {
     pub fn new(rt: HostRuntime) -> Progress {
         Progress {
             rt,
-            is_terminal: rt.stderr().is_terminal(),
+            is_shown: rt.stderr().is_terminal(),
             files: 0,
             bytes: 0,
             begun: None,
@@ -30,11 +30,16 @@ impl Progress {
         }
     }
 
+    /// From here on no line is written.
+    pub fn hide(&mut self) {
+        self.is_shown = false;
+    }
+
     /// Counts more, and writes the line where its time has come.
     pub fn add(&mut self, files: u64, bytes: u64) {
         self.files = self.files.saturating_add(files);
         self.bytes = self.bytes.saturating_add(bytes);
-        if !self.is_terminal {
+        if !self.is_shown {
             return;
         }
         let Ok(now) = Instant::now(&self.rt) else {

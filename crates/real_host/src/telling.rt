@@ -5,6 +5,8 @@ use crate::progress::Progress;
 use crate::text::ShownPath;
 use fs_model::Name;
 
+const NO_ROW: &str = "is no file, folder or link";
+
 /// Says what is wrong with a row of the folder, and how far the copy is.
 #[derive(Drop)]
 pub struct Telling<'a> {
@@ -35,9 +37,23 @@ impl<'a> Telling<'a> {
             HostError::Wrong(wrong) => {
                 let _ = eprintln!(self.rt; "cryfs: {path} {wrong}");
             }
+            HostError::NoRow => {
+                let _ = eprintln!(self.rt; "cryfs: {path} {NO_ROW}");
+            }
             HostError::Io(error) => {
                 let _ = eprintln!(self.rt; "cryfs: {path}: {error}");
             }
         }
+    }
+
+    /// Says that a child is left out, since it is neither file, folder nor link.
+    pub fn tell_left_out(&mut self, names: &[Name], child: &str) {
+        let path = ShownPath {
+            folder: self.folder,
+            names,
+            child: Some(child),
+        };
+        self.progress.clear();
+        let _ = eprintln!(self.rt; "cryfs: {path} {NO_ROW}: left out");
     }
 }

@@ -7,7 +7,7 @@ use Rattle.std.specs.Cmp.{eq_by_cmp_equiv}
 use Rattle.std.specs.Cmp.Lexicographic.{nat_list_cmp_total}
 use Rattle.outside.specs.Trace.{Call}
 use Rattle.outcome.specs.Meanings.{Meanings}
-use Rattle.local_state.specs.Record.{record_bytes, HasRecord}
+use Rattle.local_state.specs.Record.{IsRecord}
 use Rattle.local_state.proofs.Records.{one_reading}
 use Rattle.store_api.specs.Content.{Content, SameContent, same_id, Changes, or_else, over}
 use Rattle.store_api.specs.Durables.{Identity, Durables, Records, Enduring}
@@ -51,10 +51,10 @@ module _ {S : Type 0} (M : Meanings S) (H : Holdings S) (applied : S → S → C
 -- ---- a record that is opened anew
 
 -- under the cipher, the key and the size that it was kept with, a record is opened as what it was kept by
-same_identity : (identity : Identity) (kept : List ℕ) (trace : Option (List Call)) (content : Content) (h : Held) → HasRecord h.state h.list → kept ≡ record_bytes h.state h.list
+same_identity : (identity : Identity) (kept : List ℕ) (trace : Option (List Call)) (content : Content) (h : Held) → IsRecord h.state h.list kept
     → identity.opens ≡ h.opens → identity.size ≡ h.size → Stands identity kept trace content → identity ≡ identity_of h
-same_identity identity kept trace content h has is opens size s =
-    let reading = one_reading s.held.state h.state s.held.list h.list s.has_record has (sym s.bytes ∙ is) in
+same_identity identity kept trace content h is opens size s =
+    let reading = one_reading s.held.state h.state s.held.list h.list kept s.is_record is in
     λ i. record {
       marked = (sym (ap (λ (d : Identity). d.marked) s.same) ∙ ap (λ st. st.marked) reading.0) i;
       fs_id = (sym (ap (λ (d : Identity). d.fs_id) s.same) ∙ ap (λ st. st.fs_id) reading.0) i;
@@ -65,9 +65,7 @@ same_identity identity kept trace content h has is opens size s =
     }
 
 -- it stands for the same, by the store that holds k
-pub reopened : (identity : Identity) (kept : List ℕ) (old new : Option (List Call)) (content : Content) (h k : Held) → HasRecord h.state h.list → kept ≡ record_bytes h.state h.list
-    → identity.opens ≡ h.opens → identity.size ≡ h.size → identity_of k ≡ identity_of h → record_bytes k.state k.list ≡ record_bytes h.state h.list → new ≡ old
-    → Stands identity kept old content → Stands (identity_of k) (record_bytes k.state k.list) new content
-reopened identity kept old new content h k has is opens size known bytes trace s =
-    subst (λ d. Stands d (record_bytes k.state k.list) new content) (same_identity identity kept old content h has is opens size s ∙ sym known)
-    (subst (λ b. Stands identity b new content) (is ∙ sym bytes) (subst (λ t. Stands identity kept t content) (sym trace) s))
+pub reopened : (identity : Identity) (kept : List ℕ) (old new : Option (List Call)) (content : Content) (h k : Held) → IsRecord h.state h.list kept
+    → identity.opens ≡ h.opens → identity.size ≡ h.size → identity_of k ≡ identity_of h → new ≡ old → Stands identity kept old content → Stands (identity_of k) kept new content
+reopened identity kept old new content h k is opens size known trace s =
+    subst (λ d. Stands d kept new content) (same_identity identity kept old content h is opens size s ∙ sym known) (subst (λ t. Stands identity kept t content) (sym trace) s)

@@ -1,6 +1,7 @@
-use Rattle.std.proofs.Common.{◌≡◌, ◌∙◌, ap, true}
+use Rattle.std.proofs.Common.{◌≡◌, ◌∙◌, sym, ap, subst}
 use Rattle.outside.specs.View.{list_of}
-use Rattle.local_state.specs.Record.{plain_state, record_bytes}
+use Rattle.local_state.specs.Record.{plain_state, IsRecord}
+use Rattle.outside.specs.Changes.{FileChanges}
 use Rattle.held_blocks.specs.Held.{Held}
 use Rattle.held_blocks.specs.Standing.{identity_of}
 use Rattle.held_blocks.specs.Views.{held_of}
@@ -10,7 +11,7 @@ use Rattle.tower_tests.proofs.Anew.{reopened}
 use Rattle.tower_tests.proofs.reopening.reopen.Goals as goal
 
 pub new-requires : goal.new-requires
-new-requires g c = in_order (plain_state c.in-Ok.state) (list_of c.in-Ok.list.items) c.in-Ok.ensures.has_record
+new-requires g c = in_order (plain_state c.in-Ok.state) (list_of c.in-Ok.list.items) c.in-Ok.ensures.is_record.has
 
 pub returns-clause-opened : goal.returns-clause-opened
 returns-clause-opened g c = λ identity content opens size stands.
@@ -25,6 +26,8 @@ returns-clause-opened g c = λ identity content opens size stands.
       size = c.new-sealed.ensures.size i;
       opens = g.C.Sealer.opens (c.new-sealed.ensures.cipher i) (c.new-sealed.ensures.key i);
     } in
-    c.new-2.ensures.opened content (reopened identity c.args.kept.now (g.V.Vault.trace c.args.vault) _ content h (held_by g.C.Sealer.opens c.new-2.result) c.in-Ok.ensures.has_record c.in-Ok.ensures.bytes opens size
-    (c.new-2.ensures.identity ∙ sealed) (c.new-2.ensures.records true ∙ ap (λ v. record_bytes state v.list) vault)
+    let is = c.in-Ok.ensures.is_record in
+    let list = ap (λ v. v.list) vault in
+    c.new-2.ensures.opened content c.args.kept.now (subst (λ (l : FileChanges). IsRecord state l c.args.kept.now) (sym list) is)
+    (reopened identity c.args.kept.now (g.V.Vault.trace c.args.vault) _ content h (held_by g.C.Sealer.opens c.new-2.result) is opens size (c.new-2.ensures.identity ∙ sealed)
     (c.new-2.ensures.trace ∙ ap (λ v. g.V.Vault.trace v.vault) vault) stands)

@@ -4,4 +4,4 @@ use Rattle.integrity_store.specs.WaitingLaws.{in_order}
 use Rattle.tower_tests.proofs.site.open.Goals as goal
 
 pub sealed_over-requires : goal.sealed_over-requires
-sealed_over-requires c = in_order (plain_state c.in-Ok.state) (list_of c.in-Ok.list.items) c.in-Ok.ensures.has_record
+sealed_over-requires c = in_order (plain_state c.in-Ok.state) (list_of c.in-Ok.list.items) c.in-Ok.ensures.is_record.has

@@ -1,0 +1,13 @@
+use Rattle.std.proofs.Common.{◌≡◌, ℕ, List, length, sym, ◌∙◌, ap, arith}
+use Rattle.std.proofs.lemmas.List.{length-map}
+use Rattle.std.specs.Prelude.{Option}
+use Rattle.std.specs.FinMap as fin
+use Rattle.std.specs.FinMap.{len-entries, len-empty}
+use Rattle.store_api.specs.Content.{Changes, id_cmp}
+use Rattle.check_tests.proofs.stores.check_disk.Goals as goal
+
+pub new-tx-requires-clause-few : goal.new-tx-requires-clause-few
+new-tx-requires-clause-few c =
+    let rows : Changes = c.new.result.rows in
+    let none : length (fin.keys rows) ≡ 0 = length-map (fin.entries rows) (λ e. e.0) ∙ (sym (len-entries rows) ∙ (ap (λ (m : Changes). fin.len m) c.new.ensures.rows ∙ len-empty id_cmp (Option (List ℕ)))) in
+    omega (arith, none)
