@@ -1,43 +1,38 @@
 -- Blocks of a mount that were written anew.
-use Rattle.std.proofs.Common.{◌≡◌, ◌⊎◌, ◌≤◌, ◌||◌, ℕ, Bool, true, false, List, [], ◌∷◌, map, length, refl, sym, ◌∙◌, ap, subst, inl, inr, arith}
-use Rattle.std.specs.Prelude.{Result, OnOk, OnErr, T, is_some}
+use Rattle.std.proofs.Common.{◌≡◌, ◌≤◌, ◌||◌, ℕ, Bool, true, false, List, [], ◌∷◌, map, length, refl, sym, ◌∙◌, ap, subst, inl, inr, arith}
+use Rattle.std.specs.Prelude.{T}
 use Rattle.std.specs.FinMap.{is_sorted}
 use Rattle.std.specs.FinMap.Entries.{below_all}
 use Rattle.std.specs.Ordering.{is_eq, is_lt}
 use Rattle.std.specs.declared.option.Option.{Option}
-use Rattle.std.specs.declared.option.Option.TheVariants.{None, Some}
 use Rattle.std.specs.declared.result.Result.TheVariants.{Ok, Err}
-use Rattle.answers.specs.Sessions.{is_violation}
 use Rattle.block_id.proofs.Conditions.{left, right}
 use Rattle.block_id.proofs.Orders.{less_so}
 use Rattle.block_id.specs.declared.id.BlockId.{BlockId}
 use Rattle.data_nodes.specs.Layout.{ids_of}
 use Rattle.data_tree.specs.Trees.{NoDoubles}
 use Rattle.fs_model.specs.Tree.{Tree}
-use Rattle.held_blocks.specs.Standing.{records}
 use Rattle.local_state.specs.Known.{Lives, live_ids}
 use Rattle.local_state.specs.Record.{IsLeast}
 use Rattle.mount.specs.declared.mount.Mount.{Mount}
 use Rattle.mount.specs.Answering.{store_of, calls_of}
 use Rattle.mount.specs.Mounts.{IsReady}
-use Rattle.mount.specs.Tower.{tower, TowerStands}
+use Rattle.mount.specs.Tower.{tower}
 use Rattle.mount_blocks.proofs.Living.{ids_rise}
 use Rattle.mount_core.specs.Answers.{OnSpent}
 use Rattle.mount_core.specs.Standing.{Left}
 use Rattle.std.proofs.lemmas.List.{length-map}
-use Rattle.mount_migrating.specs.Migrating.{told, is_done, AreUnspent, IsMigratedRecord, IsSpentAmong, Migrates, Raises}
+use Rattle.mount_migrating.specs.Migrating.{told, AreUnspent, IsSpentAmong, Migrates, Raises}
 use Rattle.mount_migrating.specs.declared.error.MigrateError.{MigrateError}
 use Rattle.mount_migrating.specs.declared.error.MigrateError.TheVariants as error
 use Rattle.mount_tower.specs.Tower.{held_in, tower_holdings}
-use Rattle.mount_core.proofs.Moving.{stays_same}
 use Rattle.outside.specs.Going.{goes_on_same}
 use Rattle.outside.specs.Trace.{Call}
 use Rattle.outside.specs.declared.keeper.Keeper.{Ghosts as KeeperGhosts}
 use Rattle.store_api.specs.Content.{Id, id_cmp, same_id}
 use Rattle.store_api.specs.Holdings.{has_id}
-use Rattle.tree_commands.specs.Performing.{Showing}
 use Rattle.tree_commands.specs.Showing.{ShowsFiles}
-use Rattle.mount_calls.specs.Migrating.{ids_in, least_in, Counts, KeepsNewest, MigratesMount}
+use Rattle.mount_calls.specs.Migrating.{ids_in, least_in, MigratesMount}
 
 -- ---- ids that increase
 

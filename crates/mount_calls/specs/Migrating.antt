@@ -1,5 +1,5 @@
 -- What writing blocks anew leaves of a mount.
-use Rattle.std.specs.Prelude.{◌≡◌, ◌⊎◌, ◌≤◌, ℕ, true, false, List, [], Result, Ok, Err, OnOk, OnErr, IfOk, length}
+use Rattle.std.specs.Prelude.{◌≡◌, ◌⊎◌, ◌≤◌, ℕ, true, false, List, [], Result, OnOk, OnErr, IfOk, length}
 use Rattle.std.specs.declared.option.Option.{Option}
 use Rattle.answers.specs.Sessions.{is_violation, directory_faults, state_faults}
 use Rattle.fs_model.specs.Tree.{Tree}
@@ -7,7 +7,7 @@ use Rattle.held_blocks.specs.Standing.{records}
 use Rattle.local_state.specs.Known.{live_ids}
 use Rattle.local_state.specs.Record.{PlainState}
 use Rattle.mount.specs.declared.mount.Mount.{Mount}
-use Rattle.mount.specs.Answering.{store_of, calls_of, forgeries_of, lies_of, vault_faults, keeper_faults, version_of, kept_of}
+use Rattle.mount.specs.Answering.{store_of, calls_of, forgeries_of, lies_of, vault_faults, keeper_faults, kept_of}
 use Rattle.mount.specs.Tower.{tower, TowerStands, TowerConfigures}
 use Rattle.mount_core.specs.Answers.{is_structure, OnFound, OnSpent}
 use Rattle.mount_core.specs.Configuring.{ConfigAnswered}

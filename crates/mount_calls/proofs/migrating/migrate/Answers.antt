@@ -1,13 +1,12 @@
-use Rattle.std.proofs.Common.{◌≡◌, ◌≤◌, ◌<◌, ◌∙◌, List, length, refl, sym, ap, subst, arith}
+use Rattle.std.proofs.Common.{◌≤◌, ◌<◌, ◌∙◌, refl, sym, ap, subst, arith}
 use Rattle.config_file.specs.declared.config.Cipher.{Cipher}
 use Rattle.data_nodes.specs.Layout.{ids_of}
-use Rattle.data_tree.specs.Trees.{NoDoubles}
 use Rattle.integrity_store.specs.declared.store.IntegrityStore.{IntegrityStore}
 use Rattle.local_state.specs.Known.{live_ids}
 use Rattle.local_state.specs.declared.state.State.{State}
 use Rattle.mount.specs.declared.mount.Mount.{Mount}
 use Rattle.mount_blocks.proofs.Living.{has_payload, ids_live}
-use Rattle.mount_calls.specs.Migrating.{ids_in, least_in}
+use Rattle.mount_calls.specs.Migrating.{least_in}
 use Rattle.mount_calls.proofs.Migrated.{is_one, is_two, listed_once, migrates_all, migrates_failed, migrates_none, migrates_unlisted}
 use Rattle.mount_calls.proofs.migrating.migrate.Goals as goal
 
