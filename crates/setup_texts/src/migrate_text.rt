@@ -1,5 +1,5 @@
 // What `migrate` prints.
-ghost use Rattle.std.specs.Prelude.{◌≡◌, ◌≤◌, [], length, vec_capacity};
+ghost use Rattle.std.specs.Prelude.{◌≡◌, ◌≤◌, ◌<◌, ◌+◌, [], OnErr, vec_capacity, vec_len};
 ghost use Rattle.line_io.specs.Streams.{stream_of};
 ghost use Rattle.script_text.specs.Appending.{Appends};
 ghost use Rattle.mount_migrating.specs.Migrating.{answer_of};
@@ -37,7 +37,8 @@ pub fn print_migrated<O: Sink>(
 
 /// Appends the line.
 fn push_migrated(text: &mut Vec<u8>, migration: Result<u64, MigrateError>) -> Result<(), Memory>
-    ensures { Appends text.old text.new result (migrated_text migration) }
+    ensures text { Appends text.old text.new result (migrated_text migration) }
+    ensures wants { OnErr result (vec_capacity text.old < vec_len text.old + 256) }
 {
     match migration {
         Ok(count) => push_count(text, count),
