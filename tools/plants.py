@@ -83,8 +83,7 @@ def lay_out(room, name, plants):
         lines = read(f"{TOP}/crates.txt").splitlines()
         file.writelines(f"{line}\n" for line in lines if re.split(r"[\s:]", line)[0] in crates)
     for one in crates:
-        # (what was proved below isn't proved again)
-        for part in ("src", "specs", "proofs", "out/rlib")[: 3 if one == name else 4]:
+        for part in ("src", "specs", "proofs"):
             if os.path.isdir(f"{TOP}/crates/{one}/{part}"):
                 shutil.copytree(f"{TOP}/crates/{one}/{part}", f"{room}/crates/{one}/{part}")
     os.makedirs(f"{room}/crates/{name}/must-fail")
