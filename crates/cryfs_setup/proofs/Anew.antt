@@ -1,7 +1,6 @@
 -- A file system that was opened, whose blocks were written anew or met an error, and that was closed.
-use Rattle.std.proofs.Common.{◌≡◌, ◌⊎◌, ◌≤◌, ◌+◌, ◌-◌, ℕ, Bool, true, false, List, [], ◌∷◌, length, refl, sym, ◌∙◌, ap, subst, inl, inr, arith}
-use Rattle.std.specs.Prelude.{Result, is_some, IfOk, IsErrOf, IsOk, OnOk}
-use Rattle.std.specs.FinMap as fin
+use Rattle.std.proofs.Common.{◌≡◌, ◌⊎◌, ◌≤◌, ◌-◌, ℕ, Bool, true, false, List, [], ◌∷◌, length, refl, sym, ◌∙◌, ap, subst, inl, inr, arith}
+use Rattle.std.specs.Prelude.{Result, is_some, is_ok, IfOk, IsOk, OnOk}
 use Rattle.std.specs.declared.option.Option.{Option}
 use Rattle.std.specs.declared.result.Result.TheVariants.{Ok, Err}
 use Rattle.aes_gcm.specs.Gcm.{opened_of}
@@ -12,21 +11,19 @@ use Rattle.config_file.specs.Settings.{Settings, settings_of}
 use Rattle.config_file.specs.declared.config.Opened.{Opened}
 use Rattle.fs_model.specs.Tree.{Tree}
 use Rattle.held_blocks.specs.Forgeries.{forged}
-use Rattle.held_blocks.specs.Held.{Held}
 use Rattle.held_blocks.specs.Standing.{records}
-use Rattle.held_blocks.specs.Stores.{version_in}
 use Rattle.local_state.specs.Known.{live_ids}
 use Rattle.local_state.specs.Record.{PlainState}
 use Rattle.mount.proofs.Reading.{represents_told}
 use Rattle.mount.proofs.Standing.{represents}
-use Rattle.mount.specs.Answering.{store_of, calls_of, forgeries_of, lies_of, vault_faults, keeper_faults, kept_of}
+use Rattle.mount.specs.Answering.{store_of, calls_of, forgeries_of, lies_of, kept_of}
 use Rattle.mount.specs.declared.mount.Mount.{Mount}
 use Rattle.mount.specs.Mounts.{IsReady, MountClosed}
 use Rattle.mount.specs.Representing.{Represents}
 use Rattle.mount.specs.Tower.{tower, TowerStands}
-use Rattle.mount_calls.specs.Migrating.{ids_in, least_in, KeepsNewest, Counts, MigratesMount}
+use Rattle.mount_calls.specs.Migrating.{ids_in, KeepsNewest, Counts, MigratesMount}
 use Rattle.mount_core.specs.Answers.{OnSpent}
-use Rattle.mount_core.specs.Configuring.{KeptOneOf, ConfigAnswered, ConfigClosed}
+use Rattle.mount_core.specs.Configuring.{ConfigAnswered, ConfigClosed}
 use Rattle.mount_core.specs.Standing.{Left, IsKeptMarked}
 use Rattle.mount_migrating.specs.Migrating.{told, IsSpentAmong}
 use Rattle.mount_migrating.specs.declared.error.MigrateError.{MigrateError}
@@ -34,26 +31,20 @@ use Rattle.mount_tower.proofs.Reading.{same_kept}
 use Rattle.mount_tower.specs.Identities.{KeepsRecord}
 use Rattle.mount_tower.specs.Tower.{held_in, tower_holdings, tower_durables}
 use Rattle.outside.specs.Causes.{RoseBy}
-use Rattle.outside.specs.Going.{GoesOn, goes_on_onward}
+use Rattle.outside.specs.Going.{goes_on_onward}
 use Rattle.outside.specs.Honest.{count_told}
 use Rattle.outside.specs.Trace.{Call}
 use Rattle.outside.specs.declared.keeper.Keeper.{Ghosts as KeeperGhosts}
 use Rattle.run_edges.specs.Statuses.{session_status}
 use Rattle.run_status.specs.declared.ended.Ended.{Ended}
-use Rattle.run_status.specs.declared.status.Status.{Status}
-use Rattle.run_status.specs.declared.status.Status.TheVariants as status
 use Rattle.session_lines.specs.declared.end.End.{End}
-use Rattle.session_lines.specs.declared.end.End.TheVariants.{Finished, InputFault, OutputFault}
 use Rattle.session_runs.proofs.Whole.{each_before, only_one, directory_rose, state_rose, directory_still, state_still}
-use Rattle.session_runs.specs.Openings.{HasCauses, StayOpen}
 use Rattle.session_runs.specs.Passing.{MountKeeps}
 use Rattle.session_runs.specs.Runs.{Outside, outside_of, OutsideStandsFor, OpensTo, IsFounded, IsMigrationRun, forgeries, lies}
 use Rattle.session_runs.specs.Turns.{Begun, Closing}
 use Rattle.session_saver.specs.Saving.{KeptConfigures}
 use Rattle.session_saver.specs.declared.saver.SyncError.{SyncError}
-use Rattle.session_saver.specs.declared.saver.SyncError.TheVariants as sync_error
 use Rattle.store_api.specs.Durables.{Identity}
-use Rattle.store_api.specs.Holdings.{has_id}
 use Rattle.tree_commands.specs.Showing.{ShowsFiles}
 use Rattle.cryfs_setup.specs.Migrate.{IsCount, IsSpentIn, LeavesMigrated}
 
@@ -72,25 +63,6 @@ on_spent answer.Refused f p = tt
 config_closed : (kept : Option (List ℕ)) (calls : Option (List Call)) (file : List ℕ) (closing : Result Unit SyncError) → ConfigClosed records kept calls (file ∷ []) file closing → KeptConfigures records kept calls file
 config_closed kept calls file (Ok u) k = k
 config_closed kept calls file (Err e) k = only_one kept calls file k
-
--- the status names a fault of closing alone
-directory_named : (P : Type 0) (bad : Bool) (end : End) (closing : Result Unit SyncError) → (IsErrOf closing sync_error.FaultDirectory → P) → session_status bad end closing ≡ status.DirectoryFault → P
-directory_named P true end closing cause e = absurd (cc)
-directory_named P false OutputFault closing cause e = absurd (cc)
-directory_named P false InputFault closing cause e = absurd (cc)
-directory_named P false Finished (Ok u) cause e = absurd (cc)
-directory_named P false Finished (Err sync_error.Memory) cause e = absurd (cc)
-directory_named P false Finished (Err sync_error.FaultDirectory) cause e = cause refl
-directory_named P false Finished (Err sync_error.FaultState) cause e = absurd (cc)
-
-state_named : (P : Type 0) (bad : Bool) (end : End) (closing : Result Unit SyncError) → (IsErrOf closing sync_error.FaultState → P) → session_status bad end closing ≡ status.StateFault → P
-state_named P true end closing cause e = absurd (cc)
-state_named P false OutputFault closing cause e = absurd (cc)
-state_named P false InputFault closing cause e = absurd (cc)
-state_named P false Finished (Ok u) cause e = absurd (cc)
-state_named P false Finished (Err sync_error.Memory) cause e = absurd (cc)
-state_named P false Finished (Err sync_error.FaultDirectory) cause e = absurd (cc)
-state_named P false Finished (Err sync_error.FaultState) cause e = cause refl
 
 module _ {V : Type 0} {K : Type 0} (trace : V → Option (List Call)) (faults : V → ℕ) (G : KeeperGhosts K) (password : List ℕ) (vault : V) (keeper : K) (first left : Mount V K) (migration : Result ℕ MigrateError) (closing : Result Unit SyncError) (ended : Ended V K)
     (b : Begun ShowsFiles trace faults G password vault keeper first) (unmarked : ¬ IsKeptMarked records (G.kept keeper)) (m : MigratesMount ShowsFiles trace faults G first migration left) (ready : IsReady trace faults G left)
@@ -116,7 +88,7 @@ module _ {V : Type 0} {K : Type 0} (trace : V → Option (List Call)) (faults : 
 
   newest : (r : Result ℕ MigrateError) → migration ≡ r → OnOk r (first.core.saver.changed ≡ false → KeepsNewest (kept_of G left)) → OnOk r (KeepsNewest (G.kept ended.keeper))
   newest (Ok n) is k =
-      let l = z.closes.left (idle (inl (subst (λ (r : Result ℕ MigrateError). IsOk r) (sym is) tt))) in
+      let l = z.closes.left (idle (inl (ap (λ (r : Result ℕ MigrateError). is_ok r) is))) in
       subst (λ (k : K). KeepsNewest (G.kept k)) (sym l.2) (k b.unchanged)
   newest (Err e) is k = tt
 
@@ -251,17 +223,3 @@ module _ {V : Type 0} {K : Type 0} (trace : V → Option (List Call)) (faults : 
   -- the status is that of a session, with the violation that stands in the mount
   pub status_so : (end : End) → ended.status ≡ session_status left.core.violated end closing → ended.status ≡ session_status bad end closing
   status_so end e = e ∙ ap (λ (v : Bool). session_status v end closing) m.violated
-
-  pub causes : (end : End) → ended.status ≡ session_status left.core.violated end closing → HasCauses Before After ended.status
-  causes end e =
-      let vault_on : Before.vault_faults ≤ vault_faults trace faults left = let r = m.vault_cause in let g = b.vault_quiet in omega (arith, r, g) in
-      let keeper_on : Before.keeper_faults ≤ keeper_faults G left = let r = m.keeper_cause in let g = b.keeper_quiet in omega (arith, r, g) in
-      let vault_grows : Before.vault_faults ≤ After.vault_faults = let g = z.leaves.vault_grows in omega (arith, g, vault_on) in
-      let keeper_grows : Before.keeper_faults ≤ After.keeper_faults = let g = z.leaves.keeper_grows in omega (arith, g, keeper_on) in
-      let left_status = sym (status_so end e) in
-      record {
-        vault_grows = vault_grows;
-        keeper_grows = keeper_grows;
-        directory_fault = λ is. directory_named (RoseBy 1 Before.vault_faults After.vault_faults) bad end closing (λ c. let r = z.leaves.vault_cause c in omega (arith, r, vault_on)) (left_status ∙ is);
-        state_fault = λ is. state_named (RoseBy 1 Before.keeper_faults After.keeper_faults) bad end closing (λ c. let r = z.leaves.keeper_cause c in omega (arith, r, keeper_on)) (left_status ∙ is);
-      }

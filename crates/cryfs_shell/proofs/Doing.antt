@@ -84,7 +84,7 @@ module _ {V : Type 0} {K : Type 0} (trace : V → Option (List Call)) (faults : 
   doing_faults (Create options) d = created_faults trace faults G input output vault keeper ended d.1 options.params options.block_size (drawn chance).0 d.0
   doing_faults Info d = told_faults trace faults G input output vault keeper ended d.1 d.0
   doing_faults Passwd d = changed_faults trace faults G input output vault keeper ended d.1 chance left d.0
-  doing_faults Migrate d = migrated_faults trace faults G input output vault keeper ended d.0
+  doing_faults Migrate d = migrated_faults trace faults G input output vault keeper ended d
   doing_faults Shell d = session_faults trace faults G input output vault keeper ended now (ComesShell input output) shell_causes d
   doing_faults (Generate count) d = session_faults trace faults G input output vault keeper ended now (ComesGenerated count input output) (generated_causes count) d
   doing_faults Command d = session_faults trace faults G input output vault keeper ended now (ComesCommand (joined words) input output) command_causes d
@@ -100,7 +100,7 @@ module _ {V : Type 0} {K : Type 0} (trace : V → Option (List Call)) (faults : 
   doing_refusal (Create options) e d marked = absurd (cc)
   doing_refusal Info e d marked = told_refusal trace faults G input output vault keeper ended d.1 d.0 marked
   doing_refusal Passwd e d marked = changed_refusal trace faults G input output vault keeper ended d.1 chance left d.0 marked
-  doing_refusal Migrate e d marked = migrated_refusal trace faults G input output vault keeper ended d.0 marked
+  doing_refusal Migrate e d marked = migrated_refusal trace faults G input output vault keeper ended d marked
   doing_refusal Shell e d marked = session_refusal trace faults G input output vault keeper ended now (ComesShell input output) shell_causes d marked
   doing_refusal (Generate count) e d marked = session_refusal trace faults G input output vault keeper ended now (ComesGenerated count input output) (generated_causes count) d marked
   doing_refusal Command e d marked = session_refusal trace faults G input output vault keeper ended now (ComesCommand (joined words) input output) command_causes d marked
@@ -116,7 +116,7 @@ module _ {V : Type 0} {K : Type 0} (trace : V → Option (List Call)) (faults : 
   doing_alarm (Create options) d bytes c first f honest e = created_alarm trace faults G input output vault keeper ended d.1 options.params options.block_size (drawn chance).0 d.0 e
   doing_alarm Info d bytes c first f honest e = told_alarm trace faults G input output vault keeper ended d.1 d.0 bytes c first f honest e
   doing_alarm Passwd d bytes c first f honest e = changed_alarm trace faults G input output vault keeper ended d.1 chance left d.0 bytes c first f honest e
-  doing_alarm Migrate d bytes c first f honest e = migrated_alarm trace faults G input output vault keeper ended d.0 bytes c first f honest e
+  doing_alarm Migrate d bytes c first f honest e = migrated_alarm trace faults G input output vault keeper ended d bytes c first f honest e
   doing_alarm Shell d bytes c first f honest e = session_alarm trace faults G input output vault keeper ended now (ComesShell input output) shell_causes d bytes c first f honest e
   doing_alarm (Generate count) d bytes c first f honest e = session_alarm trace faults G input output vault keeper ended now (ComesGenerated count input output) (generated_causes count) d bytes c first f honest e
   doing_alarm Command d bytes c first f honest e = session_alarm trace faults G input output vault keeper ended now (ComesCommand (joined words) input output) command_causes d bytes c first f honest e
@@ -132,7 +132,7 @@ module _ {V : Type 0} {K : Type 0} (trace : V → Option (List Call)) (faults : 
   doing_keeps (Create options) e d bytes c first f = absurd (cc)
   doing_keeps Info e d bytes c first f = told_keeps trace faults G input output vault keeper ended d.1 d.0 bytes c first f
   doing_keeps Passwd e d bytes c first f = changed_keeps trace faults G input output vault keeper ended d.1 chance left d.0 bytes c first f
-  doing_keeps Migrate e d bytes c first f = migrated_keeps trace faults G input output vault keeper ended d.0 bytes c first f
+  doing_keeps Migrate e d bytes c first f = migrated_keeps trace faults G input output vault keeper ended d bytes c first f
   doing_keeps Shell e d bytes c first f = session_keeps trace faults G input output vault keeper ended now (ComesShell input output) shell_causes d bytes c first f
   doing_keeps (Generate count) e d bytes c first f = session_keeps trace faults G input output vault keeper ended now (ComesGenerated count input output) (generated_causes count) d bytes c first f
   doing_keeps Command e d bytes c first f = session_keeps trace faults G input output vault keeper ended now (ComesCommand (joined words) input output) command_causes d bytes c first f
@@ -164,7 +164,7 @@ module _ {V : Type 0} {K : Type 0} (trace : V → Option (List Call)) (faults : 
   doing_uncalled (Create options) d e = created_uncalled trace faults G input output vault keeper ended d.1 options.params options.block_size (drawn chance).0 d.0 e
   doing_uncalled Info d e = told_uncalled trace faults G input output vault keeper ended d.1 d.0 e
   doing_uncalled Passwd d e = changed_uncalled trace faults G input output vault keeper ended d.1 chance left d.0 e
-  doing_uncalled Migrate d e = migrated_uncalled trace faults G input output vault keeper ended d.0 e
+  doing_uncalled Migrate d e = migrated_uncalled trace faults G input output vault keeper ended d e
   doing_uncalled Shell d e = session_uncalled trace faults G input output vault keeper ended now (ComesShell input output) shell_causes d e
   doing_uncalled (Generate count) d e = session_uncalled trace faults G input output vault keeper ended now (ComesGenerated count input output) (generated_causes count) d e
   doing_uncalled Command d e = session_uncalled trace faults G input output vault keeper ended now (ComesCommand (joined words) input output) command_causes d e
@@ -180,7 +180,7 @@ module _ {V : Type 0} {K : Type 0} (trace : V → Option (List Call)) (faults : 
   doing_usage (Create options) d e = created_usage trace faults G input output vault keeper ended d.1 options.params options.block_size (drawn chance).0 d.0 e
   doing_usage Info d e = told_usage trace faults G input output vault keeper ended d.1 d.0 e
   doing_usage Passwd d e = changed_usage trace faults G input output vault keeper ended d.1 chance left d.0 e
-  doing_usage Migrate d e = migrated_usage trace faults G input output vault keeper ended d.0 e
+  doing_usage Migrate d e = migrated_usage trace faults G input output vault keeper ended d e
   doing_usage Shell d e = session_usage trace faults G input output vault keeper ended now (ComesShell input output) shell_causes d e
   doing_usage (Generate count) d e = session_usage trace faults G input output vault keeper ended now (ComesGenerated count input output) (generated_causes count) d e
   doing_usage Command d e = session_usage trace faults G input output vault keeper ended now (ComesCommand (joined words) input output) command_causes d e
@@ -200,7 +200,7 @@ module _ {V : Type 0} {K : Type 0} (trace : V → Option (List Call)) (faults : 
   doing_host (Create options) d e = absurd (created_host trace faults G input output vault keeper ended d.1 options.params options.block_size (drawn chance).0 d.0 e)
   doing_host Info d e = absurd (told_host trace faults G input output vault keeper ended d.1 d.0 e)
   doing_host Passwd d e = absurd (changed_host trace faults G input output vault keeper ended d.1 chance left d.0 e)
-  doing_host Migrate d e = absurd (migrated_host trace faults G input output vault keeper ended d.0 e)
+  doing_host Migrate d e = absurd (migrated_host trace faults G input output vault keeper ended d e)
   doing_host Shell d e = session_host trace faults G input output vault keeper ended now (ComesShell input output) shell_causes Rose (λ script end own es came h. absurd (host_undone (sym h ∙ came.1))) d e
   doing_host (Generate count) d e = session_host trace faults G input output vault keeper ended now (ComesGenerated count input output) (generated_causes count) Rose (λ script end own es came h. absurd (host_undone (sym h ∙ came.1))) d e
   doing_host Command d e = session_host trace faults G input output vault keeper ended now (ComesCommand (joined words) input output) command_causes Rose (λ script end own es came h. absurd (host_undone (sym h ∙ came.1))) d e

@@ -114,7 +114,7 @@ doing_history trace faults names G words now chance left input output host vault
 doing_history trace faults names G words now chance left input output host vault keeper ended (Create options) p d = absurd p
 doing_history trace faults names G words now chance left input output host vault keeper ended Info p d = told_history trace faults G (Comes words input output host Info) (Judges (Some Info) ended.status) (Meets (Some Info) ended.status) vault keeper ended input output d.0
 doing_history trace faults names G words now chance left input output host vault keeper ended Passwd p d = changed_history trace faults G (Comes words input output host Passwd) (Judges (Some Passwd) ended.status) (Meets (Some Passwd) ended.status) vault keeper ended chance left input output d.0
-doing_history trace faults names G words now chance left input output host vault keeper ended Migrate p d = migrated_history trace faults G (Comes words input output host Migrate) (Judges (Some Migrate) ended.status) (Meets (Some Migrate) ended.status) vault keeper ended input output (λ bad j. j) d.0
+doing_history trace faults names G words now chance left input output host vault keeper ended Migrate p d = migrated_history trace faults G (Comes words input output host Migrate) (Judges (Some Migrate) ended.status) (Meets (Some Migrate) ended.status) vault keeper ended input output (λ bad j. j) d
 doing_history trace faults names G words now chance left input output host vault keeper ended Shell p d = session_history trace faults G (Comes words input output host Shell) (Judges (Some Shell) ended.status) (Meets (Some Shell) ended.status) vault keeper ended now input output d
 doing_history trace faults names G words now chance left input output host vault keeper ended (Generate count) p d = session_history trace faults G (Comes words input output host (Generate count)) (Judges (Some (Generate count)) ended.status) (Meets (Some (Generate count)) ended.status) vault keeper ended now input output d
 doing_history trace faults names G words now chance left input output host vault keeper ended Command p d = session_history trace faults G (Comes words input output host Command) (Judges (Some Command) ended.status) (Meets (Some Command) ended.status) vault keeper ended now input output d

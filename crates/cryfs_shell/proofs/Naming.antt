@@ -311,7 +311,7 @@ module _ {V : Type 0} {K : Type 0} (trace : V → Option (List Call)) (faults : 
   doing_named (TrialGenerate count) e d = idle_named trace faults G input output vault keeper ended (TrialGenerate count) d.2
   doing_named (Create options) e d = created_named trace faults G input output vault keeper ended (Create options) options.params options.block_size (drawn chance).0 d.0
   doing_named Info e d = told_named trace faults G input output vault keeper ended d.0
-  doing_named Migrate e d = migrated_named trace faults G input output vault keeper ended d.0
+  doing_named Migrate e d = migrated_named trace faults G input output vault keeper ended d
   doing_named Passwd e d = changed_named trace faults G input output vault keeper ended chance left d.0
   doing_named Shell e d = absurd (cc)
   doing_named (Generate count) e d = absurd (cc)
@@ -327,7 +327,7 @@ module _ {V : Type 0} {K : Type 0} (trace : V → Option (List Call)) (faults : 
   doing_streams (TrialGenerate count) d = generated_named input output now count ended.status d.1 d.0
   doing_streams (Create options) d = created_streams input output trace faults G vault keeper ended options.params options.block_size (drawn chance).0 d.0
   doing_streams Info d = told_streams input output trace faults G vault keeper ended d.0
-  doing_streams Migrate d = migrated_streams input output trace faults G vault keeper ended d.0
+  doing_streams Migrate d = migrated_streams input output trace faults G vault keeper ended d
   doing_streams Passwd d = changed_streams input output trace faults G vault keeper ended chance left d.0
   doing_streams Shell d = session_streams input output trace faults G vault keeper ended now (ComesShell input output) (λ script end own es came. ends_quiet script input output es end came.0) d
   doing_streams (Generate count) d = session_streams input output trace faults G vault keeper ended now (ComesGenerated count input output) (λ script end own es came. reported_quiet input output _ end came.0.1 came.0.0.3) d

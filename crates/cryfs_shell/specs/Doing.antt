@@ -34,7 +34,7 @@ Does trace faults names G words now chance left input output host vault keeper e
     RanCreate trace faults G options.params options.block_size (drawn chance).0 input output vault keeper ended × Caused trace faults G vault keeper ended
 Does trace faults names G words now chance left input output host vault keeper ended Info = Told trace faults G input output vault keeper ended × Caused trace faults G vault keeper ended
 Does trace faults names G words now chance left input output host vault keeper ended Passwd = RanPasswd trace faults G chance left input output vault keeper ended × Caused trace faults G vault keeper ended
-Does trace faults names G words now chance left input output host vault keeper ended Migrate = RanMigrate trace faults G input output vault keeper ended × Caused trace faults G vault keeper ended
+Does trace faults names G words now chance left input output host vault keeper ended Migrate = RanMigrate trace faults G input output vault keeper ended
 Does trace faults names G words now chance left input output host vault keeper ended Shell = Session trace faults G now (ComesShell input output) input output vault keeper ended
 Does trace faults names G words now chance left input output host vault keeper ended (Generate count) = Session trace faults G now (ComesGenerated count input output) input output vault keeper ended
 Does trace faults names G words now chance left input output host vault keeper ended Command = Session trace faults G now (ComesCommand (joined words) input output) input output vault keeper ended

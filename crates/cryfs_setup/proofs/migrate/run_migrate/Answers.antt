@@ -2,14 +2,11 @@ use Rattle.std.proofs.Common.{refl, inl, inr, sym, subst}
 use Rattle.line_io.specs.Reading.{coming}
 use Rattle.line_io.specs.Streams.{stream_of}
 use Rattle.cryfs_setup.specs.Migrate.{MigratedUnder}
-use Rattle.cryfs_setup.proofs.Beginning.{held, has_password, unread_causes}
+use Rattle.cryfs_setup.proofs.Beginning.{held, has_password}
 use Rattle.cryfs_setup.proofs.migrate.run_migrate.Goals as goal
 
 pub returns-in-Err-clause-migrated : goal.returns-in-Err-clause-migrated
 returns-in-Err-clause-migrated g c = inl (record { cause = c.in-Err.ensures.unread; uncalled = record { same_vault = refl; same_keeper = refl }; unwritten = (refl, refl) })
-
-pub returns-in-Err-clause-causes : goal.returns-in-Err-clause-causes
-returns-in-Err-clause-causes g c = unread_causes _ _ c.in-Err.status c.in-Err.ensures.unread
 
 pub returns-clause-migrated : goal.returns-clause-migrated
 returns-clause-migrated g c =
