@@ -35,7 +35,7 @@ use Rattle.completeness.proofs.Configuration.{opens_to}
 use Rattle.completeness.proofs.Opening.{unread, unopened}
 use Rattle.completeness.proofs.Passwords.{password_is}
 
-untold : (output : Stream) (password : List ℕ) (c : Settings) (tree : Tree) (after : Outside) (status : Status) → FindsNoMemory output password c tree after status → StaysUntold password c tree after status
+pub untold : (output : Stream) (password : List ℕ) (c : Settings) (tree : Tree) (after : Outside) (status : Status) → FindsNoMemory output password c tree after status → StaysUntold password c tree after status
 untold output password c tree after status f = record { ends = f.ends; leaves = f.leaves }
 
 module _ {V : Type 0} {K : Type 0} (trace : V → Option (List Call)) (faults : V → ℕ) (names : V → Option (List (List ℕ))) (G : KeeperGhosts K) (input output : Stream) (vault : V) (keeper : K) (ended : Ended V K) (bytes : List ℕ)
