@@ -1,10 +1,9 @@
 -- Where nothing lies and nothing fails, `migrate` writes all blocks anew, or finds no memory or no further version.
-use Rattle.std.proofs.Common.{◌≡◌, ◌⊎◌, ◌∙◌, ◌+◌, ℕ, Bool, false, true, List, refl, sym, subst, inl, inr, arith}
+use Rattle.std.proofs.Common.{◌≡◌, ◌∙◌, ◌+◌, ℕ, false, List, refl, subst, inl, inr, arith}
 use Rattle.std.specs.Prelude.{Result, IfOk, IsOk, OnOk}
 use Rattle.std.specs.declared.option.Option.{Option}
 use Rattle.std.specs.declared.result.Result.TheVariants.{Ok, Err}
 use Rattle.answers.specs.Sessions.{is_violation, directory_faults, state_faults}
-use Rattle.answers.specs.Texts.{text_of_answer}
 use Rattle.config_file.specs.Settings.{Settings}
 use Rattle.cryfs_setup.specs.Migrate.{RanMigrate, IsMigrated, IsCount, IsSpentIn}
 use Rattle.fs_model.specs.Tree.{Tree}
@@ -18,12 +17,10 @@ use Rattle.mount_migrating.specs.declared.error.MigrateError.{MigrateError}
 use Rattle.mount_migrating.specs.declared.error.MigrateError.TheVariants as error
 use Rattle.mount_tower.specs.Identities.{HasEmptyList}
 use Rattle.outside.specs.Causes.{RoseBy}
-use Rattle.outside.specs.Streams.{appends}
 use Rattle.outside.specs.Trace.{Call}
 use Rattle.outside.specs.declared.keeper.Keeper.{Ghosts as KeeperGhosts}
 use Rattle.run_edges.specs.Statuses.{session_status}
 use Rattle.run_status.specs.declared.ended.Ended.{Ended}
-use Rattle.run_status.specs.declared.status.Status.TheVariants.{Done, Memory}
 use Rattle.session_lines.specs.Driven.{Reported}
 use Rattle.session_lines.specs.declared.end.End.{End}
 use Rattle.session_lines.specs.declared.end.End.TheVariants.{Finished, InputFault, OutputFault}

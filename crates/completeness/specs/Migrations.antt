@@ -1,5 +1,5 @@
 -- What `migrate` does where nothing lies and nothing fails.
-use Rattle.std.specs.Prelude.{◌≡◌, ◌⊎◌, ℕ, List}
+use Rattle.std.specs.Prelude.{◌⊎◌, ℕ, List}
 use Rattle.std.specs.declared.option.Option.{Option}
 use Rattle.answers.specs.Texts.{text_of_answer}
 use Rattle.answers.specs.declared.answer.Answer.TheVariants as answer

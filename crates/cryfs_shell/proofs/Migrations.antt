@@ -1,5 +1,5 @@
 -- What holds of each run of `migrate`.
-use Rattle.std.proofs.Common.{◌≡◌, ◌≢◌, ◌⊎◌, ◌+◌, ℕ, Bool, true, false, List, refl, sym, ◌∙◌, subst, inl, inr, arith}
+use Rattle.std.proofs.Common.{◌≡◌, ◌≢◌, ◌⊎◌, ◌+◌, ℕ, Bool, true, false, List, refl, sym, ◌∙◌, inl, inr, arith}
 use Rattle.std.specs.Prelude.{Result}
 use Rattle.std.specs.declared.option.Option.{Option}
 use Rattle.std.specs.declared.result.Result.TheVariants.{Ok, Err}
@@ -7,8 +7,8 @@ use Rattle.answers.specs.Sessions.{is_violation, directory_faults, state_faults}
 use Rattle.config_file.specs.Settings.{Settings}
 use Rattle.cryfs_setup.specs.Migrate.{RanMigrate, IsMigrated}
 use Rattle.cryfs_shell.specs.Clauses.{IsRefusedRun, NoFalseAlarm, KeepsTree, FaultsHappened}
-use Rattle.cryfs_shell.proofs.Statuses.{IsOfOpening, EndCause, opening_is_no, session_directory, session_state, session_input, session_output, session_is_no, calm_is_no_alarm}
-use Rattle.cryfs_shell.proofs.Sessions.{IsUnreadStatus, one_unread, unread_is_no, unread_faults, unread_refusal, unread_keeps, opens_under, only_under, unopened_faults, unopened_refusal, unopened_alarm, unopened_keeps, rose_grown}
+use Rattle.cryfs_shell.proofs.Statuses.{IsOfOpening, opening_is_no, session_directory, session_state, session_input, session_output, session_is_no, calm_is_no_alarm}
+use Rattle.cryfs_shell.proofs.Sessions.{one_unread, unread_is_no, unread_faults, unread_refusal, unread_keeps, opens_under, only_under, unopened_faults, unopened_refusal, unopened_alarm, unopened_keeps, rose_grown}
 use Rattle.cryfs_shell.proofs.TrialEnds.{reported_cause}
 use Rattle.fs_model.specs.Tree.{Tree}
 use Rattle.held_blocks.specs.Standing.{records}
@@ -29,7 +29,7 @@ use Rattle.session_lines.specs.declared.end.End.{End}
 use Rattle.session_lines.specs.declared.end.End.TheVariants as line_end
 use Rattle.session_runs.proofs.Whole.{only_opens}
 use Rattle.session_runs.specs.Openings.{AreUncalled}
-use Rattle.session_runs.specs.Runs.{OutsideStandsFor, outside_of, directory_fault, state_fault}
+use Rattle.session_runs.specs.Runs.{OutsideStandsFor, outside_of, IsFounded, directory_fault, state_fault}
 use Rattle.session_saver.specs.declared.saver.SyncError.{SyncError}
 use Rattle.session_saver.specs.declared.saver.SyncError.TheVariants as sync_error
 use Rattle.tree_commands.specs.Showing.{ShowsFiles}
@@ -58,6 +58,15 @@ memory_closing false line_end.Finished (Ok u) e = absurd (cc)
 memory_closing false line_end.Finished (Err sync_error.Memory) e = (refl, refl, refl)
 memory_closing false line_end.Finished (Err sync_error.FaultDirectory) e = absurd (cc)
 memory_closing false line_end.Finished (Err sync_error.FaultState) e = absurd (cc)
+
+session_host : (bad : Bool) (end : End) (closing : Result Unit SyncError) → session_status bad end closing ≡ HostFault → ⊥
+session_host true end closing e = cc
+session_host false line_end.OutputFault closing e = cc
+session_host false line_end.InputFault closing e = cc
+session_host false line_end.Finished (Ok u) e = cc
+session_host false line_end.Finished (Err sync_error.Memory) e = cc
+session_host false line_end.Finished (Err sync_error.FaultDirectory) e = cc
+session_host false line_end.Finished (Err sync_error.FaultState) e = cc
 
 -- of one line at most one of the two is named
 one_named : (migration : Result ℕ MigrateError) → (directory_faults (told migration) ≡ 0) ⊎ (state_faults (told migration) ≡ 0)
@@ -88,7 +97,7 @@ module _ {V : Type 0} {K : Type 0} (trace : V → Option (List Call)) (faults : 
   pub migrated_is_no : (other : Status) → (IsOfOpening other → ⊥) → ended.status ≡ other → (other ≡ Usage) ⊎ ((other ≡ LongPassword) ⊎ (other ≡ HostFault)) → ⊥
   migrated_is_no other opening e (inl u) = session_is_no bad m.end m.closing Done ended.status Usage tt (m.status ∙ or_done (session_status bad m.end m.closing)) (e ∙ u) (λ h. h) (λ h. h)
   migrated_is_no other opening e (inr (inl l)) = session_is_no bad m.end m.closing Done ended.status LongPassword tt (m.status ∙ or_done (session_status bad m.end m.closing)) (e ∙ l) (λ h. h) (λ h. h)
-  migrated_is_no other opening e (inr (inr o)) = session_is_no bad m.end m.closing Done ended.status HostFault tt (m.status ∙ or_done (session_status bad m.end m.closing)) (e ∙ o) (λ h. h) (λ h. h)
+  migrated_is_no other opening e (inr (inr o)) = session_host bad m.end m.closing (sym m.status ∙ (e ∙ o))
 
   -- behind want of memory at most one of the two counts rose
   pub memory_named : ended.status ≡ Memory → (faults ended.vault ≡ faults vault) ⊎ (G.faults ended.keeper ≡ G.faults keeper)
@@ -142,7 +151,7 @@ module _ {V : Type 0} {K : Type 0} (trace : V → Option (List Call)) (faults : 
   migrated_keeps (inl u) bytes c first f = unread_keeps trace faults G input output vault keeper ended (PasswordUnread input) (one_unread input) u bytes c first f
   migrated_keeps (inr (password, after, has, unfailed, inl ((error, u), unwritten))) bytes c first f = unopened_keeps trace faults G input output vault keeper ended password after has.is_next error u bytes c first f
   migrated_keeps (inr (password, after, has, unfailed, inr m)) bytes c first f =
-      let founded = record { opens = opens_under trace faults G input output vault keeper ended password after has.is_next bytes c first f.opened; unforged = f.unforged } in
+      let founded : IsFounded ShowsFiles password c first (outside_of trace faults G vault keeper) (outside_of trace faults G ended.vault ended.keeper) = record { opens = opens_under trace faults G input output vault keeper ended password after has.is_next bytes c first f.opened; unforged = f.unforged } in
       either_way (is_violation (told m.migration)) (λ calm. inr (first, m.leaves.run.stands c first founded calm))
       (λ bad. elim (m.leaves.run.condemned c first founded bad) as (λ _. Kept c) [ inl marked ↦ inl marked | inr stands ↦ inr (first, stands) ])
 
