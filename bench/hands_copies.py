@@ -205,7 +205,7 @@ def how_far_it_is_is_seen_at_a_terminal(tree):
     terminal = asks(tree, "import", "f", "/")
     status, seen = terminal.end()
     same(status, 13, seen)
-    has(seen, "error exists /big\r\n", "cryfs: copy refused\r\ncryfs: something is there already: ")
+    has(seen, "error exists /big\r\n", "cryfs: copy refused\r\ncryfs: `import`, `export` or `put` met what is there already: ")
 
 
 def a_copy_that_is_stopped_leaves_a_part(tree):

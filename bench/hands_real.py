@@ -197,6 +197,35 @@ def examples_of_the_page_work(tree):
     scripts = [it.replace("blocks state", "b s") for it in shell_blocks(page, "Scripts")]
     for it, name in ((scripts[0], "there"), (scripts[0].replace("/film", "/none"), "no: error no-entry")):
         same(tree.run("-c", it, script="/bin/sh"), (0, f"{name}\n", ""), it)
+    for path in ("/2026", "/2026/empty", "/2026/empty/a\\x20b", "/20261"):
+        line(tree, "mkdir", path)
+    same(tree.run("--password-file=pw", "b", "s", "import", "photos", "/2026")[0], 0, "a tree to remove")
+    status, out, errors = tree.run("-c", scripts[1], script="/bin/sh")
+    same((status, set(out.splitlines()), errors), (0, {"ok", "error is-directory", "error no-entry"}, ""), scripts[1])
+    same(line(tree, "ls", "/"), "list 4\nd 20261\nf film\nf photo\nf photo.jpg\n", "what is left")
+
+
+def what_needs_no_lost_block_comes_out(tree):
+    made(tree)
+    for folder in ("f/one", "f/two"):
+        os.makedirs(f"{tree.top}/{folder}")
+        with open(f"{tree.top}/{folder}/file", "wb") as file:
+            file.write(os.urandom(100000))
+    same(tree.run("--password-file=pw", "b", "s", "import", "f", "/")[0], 0, "an import")
+    found = tree.run("--password-file=pw", "b", "s", "check")[1].split("\n")
+    lost = next(it.split()[1] for it in found if it.endswith(" /one/file"))
+    os.remove(f"{tree.top}/b/{lost[:3]}/{lost[3:]}")
+    shutil.copytree(f"{tree.top}/s", f"{tree.top}/state.copy")
+    for path, wanted in (("/", 5), ("/two", 5), (None, 0), ("/two", 0), ("/one", 5)):
+        if path is None:
+            same(tree.run("-c", "mv s state.marked; cp -a state.copy s", script="/bin/sh")[0], 0, "the copy is put back")
+            continue
+        shutil.rmtree(f"{tree.top}/g", ignore_errors=True)
+        os.mkdir(f"{tree.top}/g")
+        same(tree.run("--password-file=pw", "b", "s", "export", "g", path)[0], wanted, path)
+        if wanted == 0:
+            with open(f"{tree.top}/g/file", "rb") as file, open(f"{tree.top}/f/two/file", "rb") as first:
+                same(file.read() == first.read(), True, "the bytes of what needs no lost block")
 
 
 def a_run_that_waits_for_its_input_can_be_stopped(tree):
@@ -214,4 +243,4 @@ def a_run_that_waits_for_its_input_can_be_stopped(tree):
 CASES = [a_first_session_is_that_of_the_readme, a_wrong_password_is_explained, a_second_run_is_explained,
          a_rollback_is_noticed_and_the_way_back_works, an_interrupt_keeps_what_was_answered, a_long_line_is_whole_or_refused,
          passwords_change, an_output_that_fails_is_told, a_mistyped_folder_is_left, examples_of_the_page_work,
-         a_run_that_waits_for_its_input_can_be_stopped]
+         what_needs_no_lost_block_comes_out, a_run_that_waits_for_its_input_can_be_stopped]

@@ -30,7 +30,8 @@ def words_are_looked_at_first(tree):
              "b s generate x", "b s generate 12345678", "b s generate 1 2", "b s trial x", "b s trial generate", "b s create --size 1", "b s create 128",
              "b s import", "b s import f", "b s import f x", "b s import '' /", "b s export f / more", "b s export / f",
              "b s import f / --quiet --quiet", "b s import f / --quick", "b s import f --quiet /", "b s export f / --leave-out",
-             "b s check --leave-out", "b s check --quiet --quiet", "b s put /f --quiet",
+             "b s check --leave-out", "b s check --quiet --quiet", "b s put /f --quiet", "b s import --leave-out f /",
+             "b s put '/a f'", "b s get '/a f'", "b s import f '/a f'",
              "b s create --blocksize", "b s create --blocksize=x", "b s create --", "--wrong b s ls /", "--password-file",
              "--password-file f --password-command c b s info", "--password-file f b s trial", "'' s info", "b '' info")
     for built in (False, True):
@@ -40,8 +41,11 @@ def words_are_looked_at_first(tree):
             status, out, errors = tree.run("-c", f"./cryfs {words}", script="/bin/sh")
             same((status, out, errors.count("\n")), (1, "", 1), f"{words}: {errors}")
             require(errors.startswith("cryfs: ") and "built" not in errors, f"{words}: {errors}")
+    for words, hint in (("b s import --leave-out f /", "--leave-out stands behind PATH"), ("b s get '/a f'", "'/my\\x20film'")):
+        has(tree.run("-c", f"./cryfs {words}", script="/bin/sh")[2], hint)
     for words in ("generate 8", "trial generate 8", "check", "migrate", "ls", "ls / x", "read", "sync", "create --blocksize 128 --scrypt-n=16",
-                  "import f /", "export / /", "import f / --quiet --leave-out", "import f / --leave-out", "export / / --quiet", "check --quiet"):
+                  "import f /", "export / /", "import --quiet /", "import f /\\x20", "import f / --quiet --leave-out",
+                  "import f / --leave-out", "export / / --quiet", "check --quiet"):
         status, _, errors = tree.run("b", "s", *words.split(), given=b"pw\n")
         same((status, errors), (5, ""), words)
 

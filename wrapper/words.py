@@ -137,6 +137,8 @@ def check_copy(command, words):
     """Refuses what isn't a folder of this machine and a path of the file system."""
     if len(words) < 2 or not words[0]:
         raise Refused(f"the words are {command} FOLDER PATH: a folder of this machine, and a directory of the file system", USAGE)
+    if words[0] in LATE_OPTIONS[command] and not words[1].startswith("/"):
+        raise Refused(f"{words[0]} stands behind PATH: {command} FOLDER PATH {words[0]}", USAGE)
     check_path(words[1])
     check_late(command, words[2:])
 
@@ -158,9 +160,11 @@ def check_file(command, words):
 
 
 def check_path(word):
-    """Refuses what begins otherwise than a path of the file system."""
+    """Refuses what begins otherwise than a path of the file system, and a space in one."""
     if not word.startswith("/"):
         raise Refused(f"{word!r} is no path of the file system: it begins with /, which alone is its root", USAGE)
+    if " " in word:
+        raise Refused(f"{word!r} has a space, which a path of the file system has as \\x20, quoted: '/my\\x20film'", USAGE)
 
 
 def check_create(words):
