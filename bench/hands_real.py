@@ -145,6 +145,7 @@ def passwords_change(tree):
     terminal.answer("New password again: ", "third")
     same(terminal.end()[0], 0, "at a terminal")
     same(tree.run("b", "s", "info", given=b"third\n")[0], 0, "the third one")
+    same(tree.run("b", "s", "migrate", given=b"third\n"), (0, "migrated 0\n", ""), "its blocks are new")
     same(tree.run("b2", "s2", "create", *CHEAP, given=b"\n")[0], 0, "an empty one on purpose")
     same(tree.run("b2", "s2", "info", given=b"\n")[0], 0, "an empty one on purpose")
 

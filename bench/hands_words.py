@@ -26,7 +26,7 @@ def help_is_answered_at_once(tree):
 
 
 def words_are_looked_at_first(tree):
-    wrong = ("b", "b s", "b s lss", "b s ls\\ /", "b s info more", "b s check /", "b s shell x", "b s passwd x", "b s generate",
+    wrong = ("b", "b s", "b s lss", "b s ls\\ /", "b s info more", "b s check /", "b s shell x", "b s passwd x", "b s migrate x", "b s generate",
              "b s generate x", "b s generate 12345678", "b s generate 1 2", "b s trial x", "b s trial generate", "b s create --size 1", "b s create 128",
              "b s import", "b s import f", "b s import f x", "b s import '' /", "b s export f / more", "b s export / f",
              "b s import f / --quiet --quiet", "b s import f / --quick", "b s import f --quiet /", "b s export f / --leave-out",
@@ -40,7 +40,7 @@ def words_are_looked_at_first(tree):
             status, out, errors = tree.run("-c", f"./cryfs {words}", script="/bin/sh")
             same((status, out, errors.count("\n")), (1, "", 1), f"{words}: {errors}")
             require(errors.startswith("cryfs: ") and "built" not in errors, f"{words}: {errors}")
-    for words in ("generate 8", "trial generate 8", "check", "ls", "ls / x", "read", "sync", "create --blocksize 128 --scrypt-n=16",
+    for words in ("generate 8", "trial generate 8", "check", "migrate", "ls", "ls / x", "read", "sync", "create --blocksize 128 --scrypt-n=16",
                   "import f /", "export / /", "import f / --quiet --leave-out", "import f / --leave-out", "export / / --quiet", "check --quiet"):
         status, _, errors = tree.run("b", "s", *words.split(), given=b"pw\n")
         same((status, errors), (5, ""), words)
@@ -103,7 +103,7 @@ def only_create_makes_a_record(tree):
     tree.built()
     os.makedirs(f"{tree.top}/other")
     for state in ("ss", "other"):
-        for words in ("info", "passwd", "check", "shell", "ls /", "generate 8"):
+        for words in ("info", "passwd", "migrate", "check", "shell", "ls /", "generate 8"):
             status, out, errors = tree.run("b", state, *words.split(), given=b"pw\nnew\n")
             same((status, out, errors.count("\n")), (125, "", 1), f"{state} {words}")
             has(errors, "no record", f"{tree.top}/{state}", "only create makes one")

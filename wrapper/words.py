@@ -7,7 +7,7 @@ LINES = ("ls", "stat", "mkdir", "rmdir", "mkfile", "rm", "mv", "symlink", "readl
          "utime", "sync")
 COPIES = ("import", "export")
 FILES = ("put", "get")
-COMMANDS = ("create", "info", "passwd", "check", "shell", *COPIES, *FILES, "generate", "trial", *LINES)
+COMMANDS = ("create", "info", "passwd", "migrate", "check", "shell", *COPIES, *FILES, "generate", "trial", *LINES)
 CREATE_OPTIONS = ("--blocksize", "--scrypt-n", "--scrypt-r", "--scrypt-p")
 # Words that may stand behind those of a command.
 LATE_OPTIONS = {"import": ("--quiet", "--leave-out"), "export": ("--quiet",), "check": ("--quiet",)}
@@ -45,7 +45,7 @@ class Call:
 
     def tells_how_far(self):
         """Whether it may take long, and says how far it is as it goes on."""
-        return self.command in (*COPIES, "check")
+        return self.command in (*COPIES, "check", "migrate")
 
     def takes_lines(self):
         """Whether it answers lines of its input."""
@@ -113,7 +113,7 @@ def check_command(words):
         raise Refused(f"no command {command!r}: see cryfs --help", USAGE)
     if command == "create":
         check_create(more)
-    if command in ("info", "passwd", "shell") and more:
+    if command in ("info", "passwd", "migrate", "shell") and more:
         raise Refused(f"{command} takes no more words", USAGE)
     if command == "check":
         check_late(command, more)

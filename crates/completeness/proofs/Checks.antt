@@ -1,6 +1,6 @@
 -- Where nothing lies and nothing fails, a check tells the owners or finds no memory.
-use Rattle.std.proofs.Common.{◌≡◌, ◌⊎◌, ◌∙◌, ℕ, true, false, List, [], refl, sym, ap, subst, inl, inr}
-use Rattle.std.specs.Prelude.{Result, is_some, IfOk}
+use Rattle.std.proofs.Common.{◌≡◌, ◌⊎◌, ◌∙◌, ℕ, false, List, refl, sym, ap, subst, inl, inr}
+use Rattle.std.specs.Prelude.{Result, IfOk}
 use Rattle.std.specs.declared.option.Option.{Option}
 use Rattle.std.specs.declared.result.Result.TheVariants.{Ok, Err}
 use Rattle.block_id.specs.declared.fail.Fail.{Fail}
@@ -9,7 +9,7 @@ use Rattle.check_rules.specs.Certificates.{Owners}
 use Rattle.check_runs.proofs.Leaving.{examined_run, stay_open, same_calls}
 use Rattle.check_runs.specs.Judging.{is_bad, held_for, IsProven}
 use Rattle.check_runs.specs.Running.{RanCheck, IsCheckTold}
-use Rattle.check_texts.specs.Telling.{AreOwnersTold, IsTold, IsListed, ListsAfter}
+use Rattle.check_texts.specs.Telling.{AreOwnersTold, IsTold, ListsAfter}
 use Rattle.config_file.specs.Settings.{Settings, settings_of}
 use Rattle.cryfs_check.specs.Checks.{OnYes}
 use Rattle.cryfs_check.specs.declared.checking.Checked.{Checked}
@@ -35,7 +35,7 @@ use Rattle.completeness.proofs.Configuration.{opens_to}
 use Rattle.completeness.proofs.Opening.{unread, unopened}
 use Rattle.completeness.proofs.Passwords.{password_is}
 
-untold : (output : Stream) (password : List ℕ) (c : Settings) (tree : Tree) (after : Outside) (status : Status) → FindsNoMemory output password c tree after status → StaysUntold password c tree after status
+pub untold : (output : Stream) (password : List ℕ) (c : Settings) (tree : Tree) (after : Outside) (status : Status) → FindsNoMemory output password c tree after status → StaysUntold password c tree after status
 untold output password c tree after status f = record { ends = f.ends; leaves = f.leaves }
 
 module _ {V : Type 0} {K : Type 0} (trace : V → Option (List Call)) (faults : V → ℕ) (names : V → Option (List (List ℕ))) (G : KeeperGhosts K) (input output : Stream) (vault : V) (keeper : K) (ended : Ended V K) (bytes : List ℕ)

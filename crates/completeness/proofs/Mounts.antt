@@ -6,8 +6,7 @@ use Rattle.answers.specs.Sessions.{Asked, FollowsAsked, is_violation, is_synced}
 use Rattle.answers.specs.declared.answer.Answer.{Answer}
 use Rattle.fs_model.specs.Instant.{Instant}
 use Rattle.fs_model.specs.Tree.{Tree}
-use Rattle.held_blocks.specs.Standing.{records}
-use Rattle.mount_tower.specs.Tower.{tower_meanings, tower_holdings, tower_durables}
+use Rattle.mount_tower.specs.Tower.{tower_holdings}
 use Rattle.mount.specs.declared.mount.Mount.{Mount}
 use Rattle.mount_core.specs.Answers.{OnSpent}
 use Rattle.mount_core.specs.Causes.{SpentCause}

@@ -13,7 +13,7 @@ use Rattle.mount_tower.specs.Drawing.{seal_drawn}
 use Rattle.mount_tower.specs.Making.{sealed_file}
 use Rattle.mount_tower.specs.Identities.{HasEmptyList}
 use Rattle.mount.specs.Tower.{tower, TowerStands, TowerConfigures}
-use Rattle.mount_tower.specs.Tower.{tower_meanings, tower_holdings, tower_durables}
+use Rattle.mount_tower.specs.Tower.{tower_holdings, tower_durables}
 use Rattle.mount.specs.declared.mount.Mount.{Mount}
 use Rattle.mount_core.specs.Configuring.{ConfigClosed, KeptOneOf, Replaced}
 use Rattle.mount_core.specs.Standing.{IsKeptMarked, Synced}

@@ -4,3 +4,4 @@ mod Telling
 mod Changing
 mod Creating
 pub mod Ending
+mod Anew

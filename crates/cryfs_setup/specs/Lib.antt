@@ -1,3 +1,4 @@
 pub mod Create
 pub mod Info
 pub mod Passwd
+pub mod Migrate

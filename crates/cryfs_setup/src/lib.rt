@@ -1,13 +1,15 @@
-//! The runs beside sessions: making a file system, telling of one and changing its password, each under the password
-//! lines of the input.
+//! The runs beside sessions: making a file system, telling of one, changing its password and writing its blocks anew, each
+//! under the password lines of the input.
 #![tactic(auto)]
 
 mod create;
 mod info;
+mod migrate;
 mod opening;
 mod passwd;
 
 pub use create::run_create;
 pub use info::run_info;
+pub use migrate::run_migrate;
 pub use opening::open;
 pub use passwd::run_passwd;

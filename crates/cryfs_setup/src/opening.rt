@@ -10,13 +10,14 @@ ghost use Rattle.session_runs.specs.Turns.{Begun, Closing};
 ghost use Rattle.session_saver.specs.declared.saver.SyncError.{SyncError};
 ghost use Rattle.tree_commands.specs.Showing.{ShowsFiles};
 ghost use Rattle.session_runs.specs.Openings.{HasCauses, IsUnopened};
-ghost use Rattle.run_edges.specs.Statuses.{closing_status};
+ghost use Rattle.run_edges.specs.Statuses.{closing_status, session_status};
 
 use mount::{Halted, Mount};
 use mount_calls::{attach, close};
 use outside::{Keeper, Vault};
-use run_edges::{closing_status, opening_status};
+use run_edges::{closing_status, opening_status, session_status};
 use run_status::{Ended, Status};
+use session_lines::End;
 use std::alloc::Global;
 
 /// Opens the file system under the password, or ends the run.
@@ -62,6 +63,25 @@ pub(crate) fn end_run<V: Vault, K: Keeper>(
     let (closing, vault, keeper) = close(alloc, mount);
     Ended {
         status: status.or(closing_status(closing)),
+        vault,
+        keeper,
+    }
+}
+
+/// Closes the file system, and ends the run as a session whose lines ended so.
+pub(crate) fn end_session<V: Vault, K: Keeper>(
+    alloc: Global,
+    mount: Mount<V, K>,
+    end: End,
+) -> Ended<V, K>
+    requires ready { IsReady V.trace V.faults K.Keeper mount }
+    ensures { (closing : Result Unit SyncError) × (result.status ≡ session_status mount.core.violated end closing)
+        × Closing ShowsFiles V.trace V.faults K.Keeper mount closing result.vault result.keeper }
+{
+    let violated = mount.core.violated;
+    let (closing, vault, keeper) = close(alloc, mount);
+    Ended {
+        status: session_status(violated, end, closing),
         vault,
         keeper,
     }

@@ -17,7 +17,7 @@ use Rattle.outside.specs.declared.keeper.Keeper.{Ghosts as KeeperGhosts}
 use Rattle.passwords.specs.Passwords.{PasswordUnread}
 use Rattle.run_status.specs.declared.ended.Ended.{Ended}
 use Rattle.run_status.specs.declared.status.Status.{Status}
-use Rattle.run_status.specs.declared.status.Status.TheVariants.{Usage, LongPassword, Violation, InputFault, OutputFault, HostFault}
+use Rattle.run_status.specs.declared.status.Status.TheVariants.{Usage, LongPassword, Violation, OutputFault, HostFault}
 use Rattle.session_lines.specs.Driven.{IsUnfailed}
 use Rattle.session_runs.proofs.Whole.{only_opens}
 use Rattle.session_runs.specs.Openings.{AreUncalled, HasCauses}

@@ -20,7 +20,7 @@ use Rattle.session_lines.specs.declared.end.End.{End}
 use Rattle.session_runs.specs.Runs.{outside_of}
 use Rattle.shell_sessions.specs.Sessions.{ComesShell, ComesGenerated, ComesCommand}
 use Rattle.shell_words.specs.declared.form.Form.{Form}
-use Rattle.shell_words.specs.declared.form.Form.TheVariants.{Trial, TrialGenerate, Create, Info, Passwd, Shell, Generate, Command, Import, Export, Put, Get, Check}
+use Rattle.shell_words.specs.declared.form.Form.TheVariants.{Trial, TrialGenerate, Create, Info, Passwd, Migrate, Shell, Generate, Command, Import, Export, Put, Get, Check}
 use Rattle.shell_words.specs.Forms.{joined}
 use Rattle.copy_sessions.proofs.Imported.{told_host as copy_host}
 use Rattle.cryfs_shell.specs.Clauses.{IsRefusedRun, NoFalseAlarm, KeepsTree, FaultsHappened, IsEmptied}
@@ -34,6 +34,7 @@ use Rattle.cryfs_shell.proofs.Statuses.{EndCause}
 use Rattle.cryfs_shell.proofs.Sessions.{session_faults, session_refusal, session_alarm, session_keeps, session_emptied, session_uncalled, session_usage, session_host}
 use Rattle.cryfs_shell.proofs.Setups.{created_faults, created_uncalled, created_usage, created_alarm, created_host, told_faults, told_refusal, told_alarm, told_keeps, told_uncalled, told_usage, told_host, changed_faults, changed_refusal, changed_alarm, changed_keeps, changed_uncalled, changed_usage, changed_host}
 use Rattle.cryfs_shell.proofs.Checks.{checked_faults, checked_refusal, checked_alarm, checked_keeps, checked_uncalled, checked_usage, checked_host}
+use Rattle.cryfs_shell.proofs.Migrations.{migrated_faults, migrated_refusal, migrated_alarm, migrated_keeps, migrated_uncalled, migrated_usage, migrated_host}
 use Rattle.cryfs_shell.proofs.TrialEnds.{ends_cause, reported_cause, tried_end, generated_end, trial_is_no, trial_faults}
 
 -- the form that was asked for is one
@@ -83,6 +84,7 @@ module _ {V : Type 0} {K : Type 0} (trace : V → Option (List Call)) (faults : 
   doing_faults (Create options) d = created_faults trace faults G input output vault keeper ended d.1 options.params options.block_size (drawn chance).0 d.0
   doing_faults Info d = told_faults trace faults G input output vault keeper ended d.1 d.0
   doing_faults Passwd d = changed_faults trace faults G input output vault keeper ended d.1 chance left d.0
+  doing_faults Migrate d = migrated_faults trace faults G input output vault keeper ended d
   doing_faults Shell d = session_faults trace faults G input output vault keeper ended now (ComesShell input output) shell_causes d
   doing_faults (Generate count) d = session_faults trace faults G input output vault keeper ended now (ComesGenerated count input output) (generated_causes count) d
   doing_faults Command d = session_faults trace faults G input output vault keeper ended now (ComesCommand (joined words) input output) command_causes d
@@ -98,6 +100,7 @@ module _ {V : Type 0} {K : Type 0} (trace : V → Option (List Call)) (faults : 
   doing_refusal (Create options) e d marked = absurd (cc)
   doing_refusal Info e d marked = told_refusal trace faults G input output vault keeper ended d.1 d.0 marked
   doing_refusal Passwd e d marked = changed_refusal trace faults G input output vault keeper ended d.1 chance left d.0 marked
+  doing_refusal Migrate e d marked = migrated_refusal trace faults G input output vault keeper ended d marked
   doing_refusal Shell e d marked = session_refusal trace faults G input output vault keeper ended now (ComesShell input output) shell_causes d marked
   doing_refusal (Generate count) e d marked = session_refusal trace faults G input output vault keeper ended now (ComesGenerated count input output) (generated_causes count) d marked
   doing_refusal Command e d marked = session_refusal trace faults G input output vault keeper ended now (ComesCommand (joined words) input output) command_causes d marked
@@ -113,6 +116,7 @@ module _ {V : Type 0} {K : Type 0} (trace : V → Option (List Call)) (faults : 
   doing_alarm (Create options) d bytes c first f honest e = created_alarm trace faults G input output vault keeper ended d.1 options.params options.block_size (drawn chance).0 d.0 e
   doing_alarm Info d bytes c first f honest e = told_alarm trace faults G input output vault keeper ended d.1 d.0 bytes c first f honest e
   doing_alarm Passwd d bytes c first f honest e = changed_alarm trace faults G input output vault keeper ended d.1 chance left d.0 bytes c first f honest e
+  doing_alarm Migrate d bytes c first f honest e = migrated_alarm trace faults G input output vault keeper ended d bytes c first f honest e
   doing_alarm Shell d bytes c first f honest e = session_alarm trace faults G input output vault keeper ended now (ComesShell input output) shell_causes d bytes c first f honest e
   doing_alarm (Generate count) d bytes c first f honest e = session_alarm trace faults G input output vault keeper ended now (ComesGenerated count input output) (generated_causes count) d bytes c first f honest e
   doing_alarm Command d bytes c first f honest e = session_alarm trace faults G input output vault keeper ended now (ComesCommand (joined words) input output) command_causes d bytes c first f honest e
@@ -128,6 +132,7 @@ module _ {V : Type 0} {K : Type 0} (trace : V → Option (List Call)) (faults : 
   doing_keeps (Create options) e d bytes c first f = absurd (cc)
   doing_keeps Info e d bytes c first f = told_keeps trace faults G input output vault keeper ended d.1 d.0 bytes c first f
   doing_keeps Passwd e d bytes c first f = changed_keeps trace faults G input output vault keeper ended d.1 chance left d.0 bytes c first f
+  doing_keeps Migrate e d bytes c first f = migrated_keeps trace faults G input output vault keeper ended d bytes c first f
   doing_keeps Shell e d bytes c first f = session_keeps trace faults G input output vault keeper ended now (ComesShell input output) shell_causes d bytes c first f
   doing_keeps (Generate count) e d bytes c first f = session_keeps trace faults G input output vault keeper ended now (ComesGenerated count input output) (generated_causes count) d bytes c first f
   doing_keeps Command e d bytes c first f = session_keeps trace faults G input output vault keeper ended now (ComesCommand (joined words) input output) command_causes d bytes c first f
@@ -143,6 +148,7 @@ module _ {V : Type 0} {K : Type 0} (trace : V → Option (List Call)) (faults : 
   doing_emptied (Create options) s d e = absurd (cc)
   doing_emptied Info s d e = absurd (cc)
   doing_emptied Passwd s d e = absurd (cc)
+  doing_emptied Migrate s d e = absurd (cc)
   doing_emptied Shell s d e = session_emptied trace faults G input output vault keeper ended now (ComesShell input output) shell_causes d e
   doing_emptied (Generate count) s d e = session_emptied trace faults G input output vault keeper ended now (ComesGenerated count input output) (generated_causes count) d e
   doing_emptied Command s d e = session_emptied trace faults G input output vault keeper ended now (ComesCommand (joined words) input output) command_causes d e
@@ -158,6 +164,7 @@ module _ {V : Type 0} {K : Type 0} (trace : V → Option (List Call)) (faults : 
   doing_uncalled (Create options) d e = created_uncalled trace faults G input output vault keeper ended d.1 options.params options.block_size (drawn chance).0 d.0 e
   doing_uncalled Info d e = told_uncalled trace faults G input output vault keeper ended d.1 d.0 e
   doing_uncalled Passwd d e = changed_uncalled trace faults G input output vault keeper ended d.1 chance left d.0 e
+  doing_uncalled Migrate d e = migrated_uncalled trace faults G input output vault keeper ended d e
   doing_uncalled Shell d e = session_uncalled trace faults G input output vault keeper ended now (ComesShell input output) shell_causes d e
   doing_uncalled (Generate count) d e = session_uncalled trace faults G input output vault keeper ended now (ComesGenerated count input output) (generated_causes count) d e
   doing_uncalled Command d e = session_uncalled trace faults G input output vault keeper ended now (ComesCommand (joined words) input output) command_causes d e
@@ -173,6 +180,7 @@ module _ {V : Type 0} {K : Type 0} (trace : V → Option (List Call)) (faults : 
   doing_usage (Create options) d e = created_usage trace faults G input output vault keeper ended d.1 options.params options.block_size (drawn chance).0 d.0 e
   doing_usage Info d e = told_usage trace faults G input output vault keeper ended d.1 d.0 e
   doing_usage Passwd d e = changed_usage trace faults G input output vault keeper ended d.1 chance left d.0 e
+  doing_usage Migrate d e = migrated_usage trace faults G input output vault keeper ended d e
   doing_usage Shell d e = session_usage trace faults G input output vault keeper ended now (ComesShell input output) shell_causes d e
   doing_usage (Generate count) d e = session_usage trace faults G input output vault keeper ended now (ComesGenerated count input output) (generated_causes count) d e
   doing_usage Command d e = session_usage trace faults G input output vault keeper ended now (ComesCommand (joined words) input output) command_causes d e
@@ -192,6 +200,7 @@ module _ {V : Type 0} {K : Type 0} (trace : V → Option (List Call)) (faults : 
   doing_host (Create options) d e = absurd (created_host trace faults G input output vault keeper ended d.1 options.params options.block_size (drawn chance).0 d.0 e)
   doing_host Info d e = absurd (told_host trace faults G input output vault keeper ended d.1 d.0 e)
   doing_host Passwd d e = absurd (changed_host trace faults G input output vault keeper ended d.1 chance left d.0 e)
+  doing_host Migrate d e = absurd (migrated_host trace faults G input output vault keeper ended d e)
   doing_host Shell d e = session_host trace faults G input output vault keeper ended now (ComesShell input output) shell_causes Rose (λ script end own es came h. absurd (host_undone (sym h ∙ came.1))) d e
   doing_host (Generate count) d e = session_host trace faults G input output vault keeper ended now (ComesGenerated count input output) (generated_causes count) Rose (λ script end own es came h. absurd (host_undone (sym h ∙ came.1))) d e
   doing_host Command d e = session_host trace faults G input output vault keeper ended now (ComesCommand (joined words) input output) command_causes Rose (λ script end own es came h. absurd (host_undone (sym h ∙ came.1))) d e

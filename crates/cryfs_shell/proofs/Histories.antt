@@ -7,10 +7,12 @@ use Rattle.answers.specs.Sessions.{Exchange}
 use Rattle.check_runs.specs.Judging.{is_bad}
 use Rattle.check_runs.specs.Running.{RanCheck}
 use Rattle.check_runs.proofs.Leaving.{examined_run}
+use Rattle.answers.specs.Sessions.{is_violation}
 use Rattle.cryfs_setup.specs.Info.{Told}
+use Rattle.cryfs_setup.specs.Migrate.{RanMigrate}
 use Rattle.cryfs_setup.specs.Passwd.{RanPasswd}
 use Rattle.fs_model.specs.Instant.{Instant}
-use Rattle.histories.specs.Histories.{Run, session, quiet, examined}
+use Rattle.histories.specs.Histories.{Run, session, quiet, examined, migrated}
 use Rattle.line_io.specs.Streams.{Stream}
 use Rattle.outside.specs.Trace.{Call}
 use Rattle.outside.specs.declared.keeper.Keeper.{Ghosts as KeeperGhosts}
@@ -21,20 +23,22 @@ use Rattle.session_lines.specs.declared.end.End.{End}
 use Rattle.session_runs.specs.Runs.{Outside, outside_of, IsQuietRun}
 use Rattle.shell_sessions.specs.Sessions.{Session}
 use Rattle.shell_words.specs.declared.form.Form.{Form}
-use Rattle.shell_words.specs.declared.form.Form.TheVariants.{Trial, TrialGenerate, Create, Info, Passwd, Shell, Generate, Command, Import, Export, Put, Get, Check}
+use Rattle.shell_words.specs.declared.form.Form.TheVariants.{Trial, TrialGenerate, Create, Info, Passwd, Migrate, Shell, Generate, Command, Import, Export, Put, Get, Check}
 use Rattle.shell_words.specs.Forms.{form_of, is_create}
 use Rattle.shell_words.proofs.FormsOf.{IsPlain, other_is_other}
 use Rattle.tree_commands.specs.Showing.{ShowsFiles}
 use Rattle.cryfs_shell.proofs.Checks.{ends_by, bad_by}
+use Rattle.cryfs_shell.proofs.Migrations as migrations
+use Rattle.mount_migrating.specs.Migrating.{told}
 use Rattle.cryfs_shell.specs.Doing.{Does}
 use Rattle.cryfs_shell.specs.Hosts.{HostSeen}
-use Rattle.cryfs_shell.specs.History.{Comes, Judges, IsRunOf}
+use Rattle.cryfs_shell.specs.History.{Comes, Judges, Meets, IsRunOf}
 
 -- nothing happened outside
 still : (password : List ℕ) (o : Outside) → IsQuietRun ShowsFiles password o o
 still password o = record { stands = λ c tree f. f.stands; marked = λ m. (refl, refl) }
 
-module _ {V : Type 0} {K : Type 0} (trace : V → Option (List Call)) (faults : V → ℕ) (G : KeeperGhosts K) (Came : Option (List ℕ) → End → Status → List Exchange → Type 0) (Judged : Bool → Type 0) (vault : V) (keeper : K) (ended : Ended V K) where
+module _ {V : Type 0} {K : Type 0} (trace : V → Option (List Call)) (faults : V → ℕ) (G : KeeperGhosts K) (Came : Option (List ℕ) → End → Status → List Exchange → Type 0) (Judged Met : Bool → Type 0) (vault : V) (keeper : K) (ended : Ended V K) where
   abbrev Before : Outside
   Before = outside_of trace faults G vault keeper
 
@@ -42,7 +46,7 @@ module _ {V : Type 0} {K : Type 0} (trace : V → Option (List Call)) (faults : 
   After = outside_of trace faults G ended.vault ended.keeper
 
   abbrev History : Type 0
-  History = (run : Run) × IsRunOf Came Judged Before After run
+  History = (run : Run) × IsRunOf Came Judged Met Before After run
 
   quietly : (password : List ℕ) → IsQuietRun ShowsFiles password Before After → History
   quietly password q = (quiet password Before After, record { is_run = q; came = tt; begins = refl; ends = refl })
@@ -77,6 +81,14 @@ module _ {V : Type 0} {K : Type 0} (trace : V → Option (List Call)) (faults : 
         record { is_run = examined_run trace faults names G password output vault keeper ended t; came = judged (is_bad t.x.verdict) verdict; begins = refl; ends = refl },
       )
 
+  migrated_history : (input output : Stream) → ((bad : Bool) → Meets (Some Migrate) ended.status bad → Met bad) → RanMigrate trace faults G input output vault keeper ended → History
+  migrated_history input output met (inl u) = idly u.uncalled
+  migrated_history input output met (inr (password, after, has, unfailed, inl ((error, u), unwritten))) = quietly password u.quiet
+  migrated_history input output met (inr (password, after, has, unfailed, inr m)) =
+      let bad = is_violation (told m.migration) in
+      let verdict : Meets (Some Migrate) ended.status bad = (migrations.met_by trace faults G password output vault keeper ended m, migrations.bad_by trace faults G password output vault keeper ended m) in
+      (migrated password Before After bad, record { is_run = m.leaves.run; came = met bad verdict; begins = refl; ends = refl })
+
 -- words that don't begin with `create` are of another form
 pub other_form : (words : List (List ℕ)) (form : Form) → form_of words ≡ Some form → is_create words ≡ false → IsPlain form
 other_form words (Create options) e other = absurd (other_is_other words options other e)
@@ -84,6 +96,7 @@ other_form words Trial e other = tt
 other_form words (TrialGenerate count) e other = tt
 other_form words Info e other = tt
 other_form words Passwd e other = tt
+other_form words Migrate e other = tt
 other_form words Shell e other = tt
 other_form words (Generate count) e other = tt
 other_form words Command e other = tt
@@ -95,17 +108,18 @@ other_form words Check e other = tt
 
 pub doing_history : {V : Type 0} {K : Type 0} (trace : V → Option (List Call)) (faults : V → ℕ) (names : V → Option (List (List ℕ))) (G : KeeperGhosts K) (words : List (List ℕ)) (now : Instant) (chance left : Chance) (input output : Stream) (host : HostSeen) (vault : V) (keeper : K) (ended : Ended V K) (form : Form)
     → IsPlain form → Does trace faults names G words now chance left input output host vault keeper ended form
-    → (run : Run) × IsRunOf (Comes words input output host form) (Judges (Some form) ended.status) (outside_of trace faults G vault keeper) (outside_of trace faults G ended.vault ended.keeper) run
-doing_history trace faults names G words now chance left input output host vault keeper ended Trial p d = idly trace faults G (Comes words input output host Trial) (Judges (Some Trial) ended.status) vault keeper ended d.1
-doing_history trace faults names G words now chance left input output host vault keeper ended (TrialGenerate count) p d = idly trace faults G (Comes words input output host (TrialGenerate count)) (Judges (Some (TrialGenerate count)) ended.status) vault keeper ended d.2
+    → (run : Run) × IsRunOf (Comes words input output host form) (Judges (Some form) ended.status) (Meets (Some form) ended.status) (outside_of trace faults G vault keeper) (outside_of trace faults G ended.vault ended.keeper) run
+doing_history trace faults names G words now chance left input output host vault keeper ended Trial p d = idly trace faults G (Comes words input output host Trial) (Judges (Some Trial) ended.status) (Meets (Some Trial) ended.status) vault keeper ended d.1
+doing_history trace faults names G words now chance left input output host vault keeper ended (TrialGenerate count) p d = idly trace faults G (Comes words input output host (TrialGenerate count)) (Judges (Some (TrialGenerate count)) ended.status) (Meets (Some (TrialGenerate count)) ended.status) vault keeper ended d.2
 doing_history trace faults names G words now chance left input output host vault keeper ended (Create options) p d = absurd p
-doing_history trace faults names G words now chance left input output host vault keeper ended Info p d = told_history trace faults G (Comes words input output host Info) (Judges (Some Info) ended.status) vault keeper ended input output d.0
-doing_history trace faults names G words now chance left input output host vault keeper ended Passwd p d = changed_history trace faults G (Comes words input output host Passwd) (Judges (Some Passwd) ended.status) vault keeper ended chance left input output d.0
-doing_history trace faults names G words now chance left input output host vault keeper ended Shell p d = session_history trace faults G (Comes words input output host Shell) (Judges (Some Shell) ended.status) vault keeper ended now input output d
-doing_history trace faults names G words now chance left input output host vault keeper ended (Generate count) p d = session_history trace faults G (Comes words input output host (Generate count)) (Judges (Some (Generate count)) ended.status) vault keeper ended now input output d
-doing_history trace faults names G words now chance left input output host vault keeper ended Command p d = session_history trace faults G (Comes words input output host Command) (Judges (Some Command) ended.status) vault keeper ended now input output d
-doing_history trace faults names G words now chance left input output host vault keeper ended Import p d = session_history trace faults G (Comes words input output host Import) (Judges (Some Import) ended.status) vault keeper ended now input output d.0
-doing_history trace faults names G words now chance left input output host vault keeper ended Export p d = session_history trace faults G (Comes words input output host Export) (Judges (Some Export) ended.status) vault keeper ended now input output d.0
-doing_history trace faults names G words now chance left input output host vault keeper ended Put p d = session_history trace faults G (Comes words input output host Put) (Judges (Some Put) ended.status) vault keeper ended now input output d
-doing_history trace faults names G words now chance left input output host vault keeper ended Get p d = session_history trace faults G (Comes words input output host Get) (Judges (Some Get) ended.status) vault keeper ended now input output d
-doing_history trace faults names G words now chance left input output host vault keeper ended Check p d = checked_history trace faults G (Comes words input output host Check) (Judges (Some Check) ended.status) vault keeper ended names input output (λ bad j. j) d.0
+doing_history trace faults names G words now chance left input output host vault keeper ended Info p d = told_history trace faults G (Comes words input output host Info) (Judges (Some Info) ended.status) (Meets (Some Info) ended.status) vault keeper ended input output d.0
+doing_history trace faults names G words now chance left input output host vault keeper ended Passwd p d = changed_history trace faults G (Comes words input output host Passwd) (Judges (Some Passwd) ended.status) (Meets (Some Passwd) ended.status) vault keeper ended chance left input output d.0
+doing_history trace faults names G words now chance left input output host vault keeper ended Migrate p d = migrated_history trace faults G (Comes words input output host Migrate) (Judges (Some Migrate) ended.status) (Meets (Some Migrate) ended.status) vault keeper ended input output (λ bad j. j) d
+doing_history trace faults names G words now chance left input output host vault keeper ended Shell p d = session_history trace faults G (Comes words input output host Shell) (Judges (Some Shell) ended.status) (Meets (Some Shell) ended.status) vault keeper ended now input output d
+doing_history trace faults names G words now chance left input output host vault keeper ended (Generate count) p d = session_history trace faults G (Comes words input output host (Generate count)) (Judges (Some (Generate count)) ended.status) (Meets (Some (Generate count)) ended.status) vault keeper ended now input output d
+doing_history trace faults names G words now chance left input output host vault keeper ended Command p d = session_history trace faults G (Comes words input output host Command) (Judges (Some Command) ended.status) (Meets (Some Command) ended.status) vault keeper ended now input output d
+doing_history trace faults names G words now chance left input output host vault keeper ended Import p d = session_history trace faults G (Comes words input output host Import) (Judges (Some Import) ended.status) (Meets (Some Import) ended.status) vault keeper ended now input output d.0
+doing_history trace faults names G words now chance left input output host vault keeper ended Export p d = session_history trace faults G (Comes words input output host Export) (Judges (Some Export) ended.status) (Meets (Some Export) ended.status) vault keeper ended now input output d.0
+doing_history trace faults names G words now chance left input output host vault keeper ended Put p d = session_history trace faults G (Comes words input output host Put) (Judges (Some Put) ended.status) (Meets (Some Put) ended.status) vault keeper ended now input output d
+doing_history trace faults names G words now chance left input output host vault keeper ended Get p d = session_history trace faults G (Comes words input output host Get) (Judges (Some Get) ended.status) (Meets (Some Get) ended.status) vault keeper ended now input output d
+doing_history trace faults names G words now chance left input output host vault keeper ended Check p d = checked_history trace faults G (Comes words input output host Check) (Judges (Some Check) ended.status) (Meets (Some Check) ended.status) vault keeper ended names input output (λ bad j. j) d.0

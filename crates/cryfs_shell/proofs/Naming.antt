@@ -15,13 +15,15 @@ use Rattle.file_copies.specs.Putting.{InputBy}
 use Rattle.host_folder.specs.Folders.{HostPath}
 use Rattle.row_copy.specs.declared.stop.Stop.{Stop}
 use Rattle.row_copy.specs.declared.stop.Stop.TheVariants as stop
-use Rattle.answers.specs.Sessions.{Exchange, violated}
+use Rattle.answers.specs.Sessions.{Exchange, is_violation, violated}
+use Rattle.mount_migrating.specs.Migrating.{told}
 use Rattle.block_id.specs.declared.id.BlockId.{BlockId}
 use Rattle.check_runs.specs.Running.{RanCheck}
 use Rattle.check_runs.proofs.Leaving.{directory_quiet}
 use Rattle.cryfs_setup.specs.Create.{RanCreate}
 use Rattle.setup_texts.specs.CreateText.{Reports as CreateReports}
 use Rattle.cryfs_setup.specs.Info.{Told}
+use Rattle.cryfs_setup.specs.Migrate.{RanMigrate}
 use Rattle.cryfs_setup.specs.Passwd.{RanPasswd}
 use Rattle.setup_texts.specs.PasswdText.{Reports as ChangeReports}
 use Rattle.setup_texts.specs.Printing.{Printed}
@@ -50,9 +52,10 @@ use Rattle.session_saver.specs.declared.saver.SyncError.{SyncError}
 use Rattle.session_saver.specs.declared.saver.SyncError.TheVariants as sync_error
 use Rattle.shell_sessions.specs.Sessions.{Session, ComesShell, ComesGenerated, ComesCommand}
 use Rattle.shell_words.specs.declared.form.Form.{Form}
-use Rattle.shell_words.specs.declared.form.Form.TheVariants.{Trial, TrialGenerate, Create, Info, Passwd, Shell, Generate, Command, Import, Export, Put, Get, Check}
+use Rattle.shell_words.specs.declared.form.Form.TheVariants.{Trial, TrialGenerate, Create, Info, Passwd, Migrate, Shell, Generate, Command, Import, Export, Put, Get, Check}
 use Rattle.shell_words.specs.Forms.{joined}
 use Rattle.cryfs_shell.proofs.Checks.{state_named, output_named}
+use Rattle.cryfs_shell.proofs.Migrations.{memory_named, or_done}
 use Rattle.cryfs_shell.specs.Clauses.{FaultsNamed, MayHide, MayHideState, StreamFaultsNamed}
 use Rattle.cryfs_shell.specs.Copies.{Imports, Exports, Puts, Gets}
 use Rattle.cryfs_shell.specs.Doing.{Does}
@@ -145,6 +148,12 @@ module _ {V : Type 0} {K : Type 0} (trace : V → Option (List Call)) (faults : 
         state_quiet = λ shown s. state_named trace faults names G password output vault keeper ended t (λ v. shown (subst (MayHideState (Some Check)) (sym v) tt));
         memory = λ m. inl (directory (λ d. directory_is_no (sym d ∙ m)));
       }
+
+  migrated_named : RanMigrate trace faults G input output vault keeper ended → Named Migrate
+  migrated_named (inl u) = idle_named Migrate u.uncalled
+  migrated_named (inr (password, after, has, unfailed, inl ((error, u), unwritten))) = unopened_named Migrate password error u
+  migrated_named (inr (password, after, has, unfailed, inr m)) =
+      record { directory_quiet = λ shown. absurd (shown tt); state_quiet = λ shown. absurd (shown tt); memory = memory_named trace faults G password output vault keeper ended m }
 
   one_of : (change closing : Result Unit SyncError) → (NamesNoDirectory change closing → faults ended.vault ≡ faults vault) → (NamesNoState change closing → G.faults ended.keeper ≡ G.faults keeper)
       → NamesNoDirectory change closing ⊎ NamesNoState change closing → (faults ended.vault ≡ faults vault) ⊎ (G.faults ended.keeper ≡ G.faults keeper)
@@ -278,6 +287,13 @@ module _ (input output : Stream) where
     checked_streams names (inr (password, after, has, unfailed, inl ((error, u), unwritten))) = neither ended.status unfailed unwritten.1
     checked_streams names (inr (password, after, has, unfailed, inr t)) = record { input_quiet = λ i l v. unfailed; output_quiet = output_named trace faults names G password output vault keeper ended t }
 
+    migrated_streams : RanMigrate trace faults G input output vault keeper ended → StreamsNamed
+    migrated_streams (inl u) = unread_one u
+    migrated_streams (inr (password, after, has, unfailed, inl ((error, u), unwritten))) = neither ended.status unfailed unwritten.1
+    migrated_streams (inr (password, after, has, unfailed, inr m)) =
+        let status = session_status (is_violation (told m.migration)) m.end m.closing in
+        served_named (is_violation (told m.migration)) m.end m.closing Done ended.status (m.status ∙ or_done status) (reported_quiet input output _ m.end unfailed m.reported)
+
     session_streams : (now : Instant) (Came : Option (List ℕ) → End → Status → List Exchange → Type 0) → ((script : Option (List ℕ)) (end : End) (own : Status) (es : List Exchange) → Came script end own es → EndQuiet end input output)
         → Session trace faults G now Came input output vault keeper ended → StreamsNamed
     session_streams now Came quiet (inl u) = unread_one u
@@ -295,6 +311,7 @@ module _ {V : Type 0} {K : Type 0} (trace : V → Option (List Call)) (faults : 
   doing_named (TrialGenerate count) e d = idle_named trace faults G input output vault keeper ended (TrialGenerate count) d.2
   doing_named (Create options) e d = created_named trace faults G input output vault keeper ended (Create options) options.params options.block_size (drawn chance).0 d.0
   doing_named Info e d = told_named trace faults G input output vault keeper ended d.0
+  doing_named Migrate e d = migrated_named trace faults G input output vault keeper ended d
   doing_named Passwd e d = changed_named trace faults G input output vault keeper ended chance left d.0
   doing_named Shell e d = absurd (cc)
   doing_named (Generate count) e d = absurd (cc)
@@ -310,6 +327,7 @@ module _ {V : Type 0} {K : Type 0} (trace : V → Option (List Call)) (faults : 
   doing_streams (TrialGenerate count) d = generated_named input output now count ended.status d.1 d.0
   doing_streams (Create options) d = created_streams input output trace faults G vault keeper ended options.params options.block_size (drawn chance).0 d.0
   doing_streams Info d = told_streams input output trace faults G vault keeper ended d.0
+  doing_streams Migrate d = migrated_streams input output trace faults G vault keeper ended d
   doing_streams Passwd d = changed_streams input output trace faults G vault keeper ended chance left d.0
   doing_streams Shell d = session_streams input output trace faults G vault keeper ended now (ComesShell input output) (λ script end own es came. ends_quiet script input output es end came.0) d
   doing_streams (Generate count) d = session_streams input output trace faults G vault keeper ended now (ComesGenerated count input output) (λ script end own es came. reported_quiet input output _ end came.0.1 came.0.0.3) d

@@ -80,7 +80,7 @@ grown a b h = omega arith
 pub stays_grown : (a b : ℕ) → b ≡ a → RoseBy 0 a b
 stays_grown a b e = omega arith
 
-rose_grown : (n a b : ℕ) → RoseBy n a b → RoseBy 0 a b
+pub rose_grown : (n a b : ℕ) → RoseBy n a b → RoseBy 0 a b
 rose_grown n a b r = omega arith
 
 module _ {V : Type 0} {K : Type 0} (trace : V → Option (List Call)) (faults : V → ℕ) (G : KeeperGhosts K) (input output : Stream) (vault : V) (keeper : K) (ended : Ended V K) where

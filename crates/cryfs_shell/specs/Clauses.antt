@@ -17,7 +17,7 @@ use Rattle.run_status.specs.declared.status.Status.TheVariants.{LongPassword, Vi
 use Rattle.session_lines.specs.Driven.{IsUnfailed}
 use Rattle.session_runs.specs.Runs.{Outside, OutsideStandsFor, OpensTo, OpensOnlyTo, forgeries, lies}
 use Rattle.shell_words.specs.declared.form.Form.{Form}
-use Rattle.shell_words.specs.declared.form.Form.TheVariants.{Passwd, Check}
+use Rattle.shell_words.specs.declared.form.Form.TheVariants.{Passwd, Migrate, Check}
 use Rattle.cryfs_shell.specs.Hosts.{HostSeen}
 use Rattle.tree_commands.specs.Showing.{ShowsFiles}
 
@@ -71,8 +71,9 @@ pub record FaultsHappened (input output : Stream) (before after : Outside) (stat
   pub input_fault : status ≡ InputFault → InputFailed input
   pub output_fault : status ≡ OutputFault → HasFailed output
 
--- a status that may be the error of the change of a password, behind which a fault that closing met is hidden
+-- a status that may be the error of the change of a password, behind which a fault that closing met is hidden; and each status of `migrate`, whose line names its fault as that of a session
 abbrev pub MayHide : Option Form → Status → Type 0
+MayHide (Some Migrate) status = Unit {0}
 MayHide (Some Passwd) Memory = Unit {0}
 MayHide (Some Passwd) DirectoryFault = Unit {0}
 MayHide (Some Passwd) StateFault = Unit {0}
@@ -84,7 +85,7 @@ MayHideState (Some Check) Violation = Unit {0}
 MayHideState form status = MayHide form status
 
 -- Of a run that is no session no fault of the directory or the record is passed over: where the status doesn't name it, that count is as it was; but the error of the change in
--- `passwd` may hide one that closing met, and the violation of a check one of its mark. Behind want of memory at most one of the two counts rose.
+-- `passwd` may hide one that closing met, the violation of a check one of its mark, and that of `migrate` is named by its line. Behind want of memory at most one of the two counts rose.
 pub record FaultsNamed (form : Option Form) (before after : Outside) (status : Status) : Type 0 where
   pub directory_quiet : ¬ MayHide form status → status ≢ DirectoryFault → after.vault_faults ≡ before.vault_faults
   pub state_quiet : ¬ MayHideState form status → status ≢ StateFault → after.keeper_faults ≡ before.keeper_faults

@@ -5,6 +5,7 @@ use Rattle.check_runs.specs.Running.{RanCheck}
 use Rattle.rand_core.specs.Stream.{Stream as Chance}
 use Rattle.cryfs_setup.specs.Create.{RanCreate}
 use Rattle.cryfs_setup.specs.Info.{Told}
+use Rattle.cryfs_setup.specs.Migrate.{RanMigrate}
 use Rattle.cryfs_setup.specs.Passwd.{RanPasswd}
 use Rattle.fs_model.specs.Instant.{Instant}
 use Rattle.line_io.specs.Streams.{Stream, Untouched}
@@ -16,7 +17,7 @@ use Rattle.run_status.specs.declared.ended.Ended.{Ended}
 use Rattle.session_runs.specs.Runs.{outside_of}
 use Rattle.shell_sessions.specs.Sessions.{Session, ComesShell, ComesGenerated, ComesCommand}
 use Rattle.shell_words.specs.declared.form.Form.{Form}
-use Rattle.shell_words.specs.declared.form.Form.TheVariants.{Trial, TrialGenerate, Create, Info, Passwd, Shell, Generate, Command, Import, Export, Put, Get, Check}
+use Rattle.shell_words.specs.declared.form.Form.TheVariants.{Trial, TrialGenerate, Create, Info, Passwd, Migrate, Shell, Generate, Command, Import, Export, Put, Get, Check}
 use Rattle.shell_words.specs.Forms.{joined}
 use Rattle.cryfs_shell.specs.Copies.{HostSession, Imports, Exports, Puts, Gets}
 use Rattle.cryfs_shell.specs.Hosts.{HostSeen}
@@ -33,6 +34,7 @@ Does trace faults names G words now chance left input output host vault keeper e
     RanCreate trace faults G options.params options.block_size (drawn chance).0 input output vault keeper ended × Caused trace faults G vault keeper ended
 Does trace faults names G words now chance left input output host vault keeper ended Info = Told trace faults G input output vault keeper ended × Caused trace faults G vault keeper ended
 Does trace faults names G words now chance left input output host vault keeper ended Passwd = RanPasswd trace faults G chance left input output vault keeper ended × Caused trace faults G vault keeper ended
+Does trace faults names G words now chance left input output host vault keeper ended Migrate = RanMigrate trace faults G input output vault keeper ended
 Does trace faults names G words now chance left input output host vault keeper ended Shell = Session trace faults G now (ComesShell input output) input output vault keeper ended
 Does trace faults names G words now chance left input output host vault keeper ended (Generate count) = Session trace faults G now (ComesGenerated count input output) input output vault keeper ended
 Does trace faults names G words now chance left input output host vault keeper ended Command = Session trace faults G now (ComesCommand (joined words) input output) input output vault keeper ended

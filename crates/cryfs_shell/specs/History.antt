@@ -5,7 +5,7 @@ use Rattle.std.specs.declared.option.Option.TheVariants.{Some}
 use Rattle.answers.specs.Sessions.{Exchange}
 use Rattle.cryfs_shell.specs.Copies.{Imports, Exports, Puts, Gets}
 use Rattle.cryfs_shell.specs.Hosts.{HostSeen}
-use Rattle.histories.specs.Histories.{Run, session, quiet, examined, before_of, after_of, IsRun}
+use Rattle.histories.specs.Histories.{Run, session, quiet, examined, migrated, before_of, after_of, IsRun}
 use Rattle.line_io.specs.Streams.{Stream}
 use Rattle.run_status.specs.declared.status.Status.{Status}
 use Rattle.run_status.specs.declared.status.Status.TheVariants.{Violation}
@@ -13,7 +13,7 @@ use Rattle.session_lines.specs.declared.end.End.{End}
 use Rattle.session_runs.specs.Runs.{Outside}
 use Rattle.shell_sessions.specs.Sessions.{ComesShell, ComesGenerated, ComesCommand}
 use Rattle.shell_words.specs.declared.form.Form.{Form}
-use Rattle.shell_words.specs.declared.form.Form.TheVariants.{Shell, Generate, Command, Import, Export, Put, Get, Check}
+use Rattle.shell_words.specs.declared.form.Form.TheVariants.{Migrate, Shell, Generate, Command, Import, Export, Put, Get, Check}
 use Rattle.shell_words.specs.Forms.{joined}
 use Rattle.tree_commands.specs.Showing.{ShowsFiles}
 
@@ -33,15 +33,21 @@ abbrev pub Judges : Option Form → Status → Bool → Type 0
 Judges (Some Check) status bad = (bad ≡ true → status ≡ Violation) × (status ≡ Violation → bad ≡ true)
 Judges asked status bad = ⊥
 
--- the exchanges of a run came so, or its check was judged so
-abbrev pub HasCome : (Option (List ℕ) → End → Status → List Exchange → Type 0) → (Bool → Type 0) → Run → Type 0
-HasCome Came Judged (session now password before after closing es) = (script : Option (List ℕ)) × (end : End) × (own : Status) × Came script end own es
-HasCome Came Judged (quiet password before after) = Unit {0}
-HasCome Came Judged (examined password before after bad) = Judged bad
+-- blocks that are written anew meet a violation exactly where the status is one; no other form writes them
+abbrev pub Meets : Option Form → Status → Bool → Type 0
+Meets (Some Migrate) status bad = (bad ≡ true → status ≡ Violation) × (status ≡ Violation → bad ≡ true)
+Meets asked status bad = ⊥
+
+-- the exchanges of a run came so, its check was judged so, or it met so a violation or none
+abbrev pub HasCome : (Option (List ℕ) → End → Status → List Exchange → Type 0) → (Bool → Type 0) → (Bool → Type 0) → Run → Type 0
+HasCome Came Judged Met (session now password before after closing es) = (script : Option (List ℕ)) × (end : End) × (own : Status) × Came script end own es
+HasCome Came Judged Met (quiet password before after) = Unit {0}
+HasCome Came Judged Met (examined password before after bad) = Judged bad
+HasCome Came Judged Met (migrated password before after bad) = Met bad
 
 -- the call led from the one moment outside to the other as this run, which is one of those that compose
-pub record IsRunOf (Came : Option (List ℕ) → End → Status → List Exchange → Type 0) (Judged : Bool → Type 0) (before after : Outside) (run : Run) : Type 0 where
+pub record IsRunOf (Came : Option (List ℕ) → End → Status → List Exchange → Type 0) (Judged Met : Bool → Type 0) (before after : Outside) (run : Run) : Type 0 where
   pub is_run : IsRun ShowsFiles run
-  pub came : HasCome Came Judged run
+  pub came : HasCome Came Judged Met run
   pub begins : before_of run ≡ before
   pub ends : after_of run ≡ after

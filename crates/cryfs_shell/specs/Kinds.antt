@@ -5,7 +5,7 @@ use Rattle.std.specs.declared.option.Option.TheVariants.{None, Some}
 use Rattle.run_status.specs.declared.status.Status.{Status}
 use Rattle.run_status.specs.declared.status.Status.TheVariants.{Usage, Memory}
 use Rattle.shell_words.specs.declared.form.Form.{Form}
-use Rattle.shell_words.specs.declared.form.Form.TheVariants.{Trial, TrialGenerate, Info, Passwd, Shell, Generate, Command, Import, Export, Put, Get, Check}
+use Rattle.shell_words.specs.declared.form.Form.TheVariants.{Trial, TrialGenerate, Info, Passwd, Migrate, Shell, Generate, Command, Import, Export, Put, Get, Check}
 use Rattle.shell_words.specs.Forms.{takes_memory}
 
 -- words of no form are refused; where they begin with `create` or ask for a copy, memory may be refused while they are read
@@ -28,10 +28,16 @@ abbrev pub is_check : Option Form → Bool
 is_check (Some Check) = true
 is_check _ = false
 
+-- the blocks are to be written anew
+abbrev pub is_migration : Option Form → Bool
+is_migration (Some Migrate) = true
+is_migration _ = false
+
 -- a file system is opened under a password
 abbrev pub opens : Option Form → Bool
 opens (Some Info) = true
 opens (Some Passwd) = true
+opens (Some Migrate) = true
 opens (Some Shell) = true
 opens (Some (Generate count)) = true
 opens (Some Command) = true

@@ -6,6 +6,7 @@ ghost use Rattle.shell_words.specs.declared.create_options.CreateOptions.{Create
 ghost use Rattle.check_runs.specs.Running.{RanCheck};
 ghost use Rattle.cryfs_setup.specs.Create.{RanCreate};
 ghost use Rattle.cryfs_setup.specs.Info.{Told};
+ghost use Rattle.cryfs_setup.specs.Migrate.{RanMigrate};
 ghost use Rattle.cryfs_setup.specs.Passwd.{RanPasswd};
 ghost use Rattle.histories.specs.Histories.{Run};
 ghost use Rattle.held_blocks.specs.Standing.{records};
@@ -20,7 +21,7 @@ ghost use Rattle.shell_words.specs.declared.form.Form.{Form};
 ghost use Rattle.cryfs_shell.specs.Clauses.{IsRefusedRun, NoFalseAlarm, KeepsTree, FaultsHappened, FaultsNamed, StreamFaultsNamed, IsEmptied};
 ghost use Rattle.cryfs_shell.specs.Copies.{HostSession, Imports, Exports, Puts, Gets};
 ghost use Rattle.cryfs_shell.specs.Doing.{Does};
-ghost use Rattle.cryfs_shell.specs.History.{Comes, Judges, IsRunOf};
+ghost use Rattle.cryfs_shell.specs.History.{Comes, Judges, Meets, IsRunOf};
 ghost use Rattle.cryfs_shell.specs.Hosts.{host_of};
 ghost use Rattle.cryfs_shell.specs.Kinds.{IsRefused, is_session, opens, draws, copies};
 ghost use Rattle.outside.specs.Causes.{RoseBy};
@@ -29,7 +30,7 @@ ghost use Rattle.plain_trials.specs.Runs.{Tried, GeneratedOnPlain};
 use block_id::Memory;
 use check_runs::run_check;
 use copy_runs::{run_export, run_get, run_import, run_put};
-use cryfs_setup::{run_create, run_info, run_passwd};
+use cryfs_setup::{run_create, run_info, run_migrate, run_passwd};
 use fs_model::Moment;
 use host_folder::Folder;
 use listing::Listing;
@@ -67,6 +68,8 @@ pub fn run<I: Source, O: Sink, V: Vault + Listing, K: Keeper, R: Rng, F: Folder>
         → Told V.trace V.faults K.Keeper (stream_of I.rest I.faults input.old input.new) (stream_of O.written O.faults output.old output.new) vault keeper result }
     ensures changed { form_of (map string_bytes words.now) ≡ Some Form.Passwd
         → RanPasswd V.trace V.faults K.Keeper (R.stream chance.old) (R.stream chance.new) (stream_of I.rest I.faults input.old input.new) (stream_of O.written O.faults output.old output.new) vault keeper result }
+    ensures migrated { form_of (map string_bytes words.now) ≡ Some Form.Migrate
+        → RanMigrate V.trace V.faults K.Keeper (stream_of I.rest I.faults input.old input.new) (stream_of O.written O.faults output.old output.new) vault keeper result }
     ensures session { form_of (map string_bytes words.now) ≡ Some Form.Shell
         → Session V.trace V.faults K.Keeper now (ComesShell (stream_of I.rest I.faults input.old input.new) (stream_of O.written O.faults output.old output.new)) (stream_of I.rest I.faults input.old input.new) (stream_of O.written O.faults output.old output.new) vault keeper result }
     ensures generate { (count : ℕ) → form_of (map string_bytes words.now) ≡ Some (Form.Generate count)
@@ -90,7 +93,7 @@ pub fn run<I: Source, O: Sink, V: Vault + Listing, K: Keeper, R: Rng, F: Folder>
     ensures faults_named { is_session (form_of (map string_bytes words.now)) ≡ false → FaultsNamed (form_of (map string_bytes words.now)) (outside_of V.trace V.faults K.Keeper vault keeper) (outside_of V.trace V.faults K.Keeper result.vault result.keeper) result.status }
     ensures stream_faults_named { StreamFaultsNamed (stream_of I.rest I.faults input.old input.new) (stream_of O.written O.faults output.old output.new) result.status }
     ensures history { (form : Form) → form_of (map string_bytes words.now) ≡ Some form → is_create (map string_bytes words.now) ≡ false
-        → (run : Run) × IsRunOf (Comes (map string_bytes words.now) (stream_of I.rest I.faults input.old input.new) (stream_of O.written O.faults output.old output.new) (host_of F.tree F.faults host.old host.new) form) (Judges (Some form) result.status) (outside_of V.trace V.faults K.Keeper vault keeper) (outside_of V.trace V.faults K.Keeper result.vault result.keeper) run }
+        → (run : Run) × IsRunOf (Comes (map string_bytes words.now) (stream_of I.rest I.faults input.old input.new) (stream_of O.written O.faults output.old output.new) (host_of F.tree F.faults host.old host.new) form) (Judges (Some form) result.status) (Meets (Some form) result.status) (outside_of V.trace V.faults K.Keeper vault keeper) (outside_of V.trace V.faults K.Keeper result.vault result.keeper) run }
     ensures unhosted { copies (form_of (map string_bytes words.now)) ≡ false → host.new ≡ host.old }
     ensures host_fault { result.status ≡ Status.HostFault → RoseBy 1 (F.faults host.old) (F.faults host.new) }
     ensures done { is_session (form_of (map string_bytes words.now)) ≡ true → result.status ≡ Status.Done → IsEmptied (outside_of V.trace V.faults K.Keeper result.vault result.keeper) }
@@ -161,6 +164,7 @@ fn run_form<I: Source, O: Sink, V: Vault + Listing, K: Keeper, R: Rng, F: Folder
         ),
         Form::Info => run_info(alloc, input, output, vault, keeper),
         Form::Passwd => run_passwd(alloc, input, output, vault, keeper, chance),
+        Form::Migrate => run_migrate(alloc, input, output, vault, keeper, chance),
         Form::Shell => run_shell(alloc, now, input, output, vault, keeper, chance),
         Form::Generate(count) => {
             run_generate(alloc, now, count, input, output, vault, keeper, chance)

@@ -5,6 +5,8 @@
 #[cfg(test)]
 mod damage;
 #[cfg(test)]
+mod migrating;
+#[cfg(test)]
 mod opening;
 #[cfg(test)]
 mod stored;

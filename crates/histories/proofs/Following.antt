@@ -9,8 +9,8 @@ use Rattle.tree_commands.specs.Performing.{Showing}
 use Rattle.mount_core.specs.Standing.{IsKeptMarked}
 use Rattle.mount.specs.Representing.{Represents}
 use Rattle.mount.proofs.Reading.{loaded_unmarked}
-use Rattle.session_runs.specs.Runs.{Outside, OutsideStandsFor, OpensTo, IsExaminedRun}
-use Rattle.histories.specs.Histories.{Run, session, quiet, examined, before_of, after_of, exchanges_of, condemns, IsRun, IsUnforgedRun, GoesOnFrom, AreRuns, end_of, was_violated, IsRefusedRun, RunsFrom, Follow, EndsWith}
+use Rattle.session_runs.specs.Runs.{Outside, OutsideStandsFor, OpensTo, IsFounded, IsExaminedRun, IsMigrationRun}
+use Rattle.histories.specs.Histories.{Run, session, quiet, examined, migrated, before_of, after_of, exchanges_of, condemns, IsRun, IsUnforgedRun, GoesOnFrom, AreRuns, end_of, was_violated, IsRefusedRun, RunsFrom, Follow, EndsWith}
 
 module _ (shows : Showing) (c : Settings) where
   pub stands_on : (last next : Outside) (tree : Tree) → GoesOnFrom last next → OutsideStandsFor shows c tree last → OutsideStandsFor shows c tree next
@@ -35,6 +35,17 @@ module _ (shows : Showing) (c : Settings) where
     | inr kept ↦ (from, inl (record { same = refl; kept = inr kept; no_false_alarm = run.calm c from opens }), inl kept)
   ]
 
+  -- blocks that are written anew
+  migrating : (password : List ℕ) (before after : Outside) (bad : Bool) (from : Tree) (was : Bool) → IsMigrationRun shows password before after bad → IsFounded shows password c from before after
+      → Turned from was (migrated password before after bad)
+  migrating password before after false from was run founded =
+      let kept = run.stands c from founded refl in
+      (from, inl (record { same = refl; kept = inr kept; no_false_alarm = run.calm c from founded.opens }), inl kept)
+  migrating password before after true from was run founded = elim (run.condemned c from founded refl) as (λ _. Turned from was (migrated password before after true)) [
+    | inl m ↦ (from, inl (record { same = refl; kept = inl (refl, m); no_false_alarm = run.calm c from founded.opens }), inr (refl, m))
+    | inr kept ↦ (from, inl (record { same = refl; kept = inr kept; no_false_alarm = run.calm c from founded.opens }), inl kept)
+  ]
+
   serving : (run : Run) (from : Tree) (was : Bool) → IsRun shows run → IsUnforgedRun c run → OutsideStandsFor shows c from (before_of run) → Turned from was run
   serving (session now password before after closing es) from was run u s =
       let a = run.founded c from (record { opens = record { stands = s; unforged_config = u.0 }; unforged = u.1 }) in
@@ -46,6 +57,8 @@ module _ (shows : Showing) (c : Settings) where
       let kept = run.stands c from (record { stands = s; unforged_config = u }) in
       (from, inl (refl, kept), inl kept)
   serving (examined password before after bad) from was run u s = examining password before after bad from was run (record { stands = s; unforged_config = u })
+  serving (migrated password before after bad) from was run u s =
+      migrating password before after bad from was run (record { opens = record { stands = s; unforged_config = u.0 }; unforged = u.1 })
 
   refused : (run : Run) (from : Tree) (was : Bool) → was ≡ true → IsKeptMarked records (before_of run).kept → exchanges_of run ≡ [] → condemns run ≡ false
       → (after_of run).kept ≡ (before_of run).kept → (after_of run).calls ≡ (before_of run).calls → Turned from was run
@@ -64,6 +77,9 @@ module _ (shows : Showing) (c : Settings) where
   refusing (examined password before after bad) from was w run m =
       let same = run.marked m in
       refused (examined password before after bad) from was w m refl same.0 same.1 same.2
+  refusing (migrated password before after bad) from was w run m =
+      let same = run.marked m in
+      refused (migrated password before after bad) from was w m refl same.0 same.1 same.2
 
   abbrev Composed : Tree → Outside → List Run → Type 0
   Composed first start runs = (trees : List Tree) × Follow shows c first runs trees × EndsWith shows c first start runs trees

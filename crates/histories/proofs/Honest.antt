@@ -1,5 +1,10 @@
 -- Where a directory gave what was last written, nothing that opens was forged.
-use Rattle.std.proofs.Common.{◌≡◌, ◌≤◌, ◌||◌, ℕ, Bool, false, List, [], ◌∷◌, refl, sym, ap, ◌∙◌, inl, inr}
+use Rattle.std.proofs.Common.{◌≡◌, ◌≤◌, ◌||◌, ℕ, Bool, false, List, [], ◌∷◌, refl, sym, ap, ◌∙◌, inl, inr, arith}
+use Rattle.std.specs.declared.option.Option.{Option}
+use Rattle.aes_gcm.specs.Gcm.{opened_of}
+use Rattle.held_blocks.specs.Forgeries.{forged}
+use Rattle.outside.specs.Honest.{count_told}
+use Rattle.outside.specs.Trace.{Call}
 use Rattle.answers.specs.Sessions.{latest}
 use Rattle.config_file.specs.Settings.{Settings}
 use Rattle.fs_model.specs.Tree.{Tree}
@@ -11,7 +16,7 @@ use Rattle.mount.proofs.Reading.{loaded_unmarked}
 use Rattle.mount_tower.proofs.Reading.{only_unforged}
 use Rattle.session_runs.specs.Runs.{Outside, OutsideStandsFor, lies}
 use Rattle.session_runs.proofs.Whole.{unviolated}
-use Rattle.histories.specs.Histories.{Run, session, quiet, examined, before_of, condemns, was_violated, IsRun, IsUnforgedRun, AreRuns, end_of, OpensOrLocks, OpensOnly, IsHonestRun, AreHonestRuns}
+use Rattle.histories.specs.Histories.{Run, session, quiet, examined, migrated, before_of, condemns, was_violated, IsRun, IsUnforgedRun, AreRuns, end_of, OpensOrLocks, OpensOnly, IsHonestRun, AreHonestRuns}
 use Rattle.histories.proofs.Configuration.{opened_only, locked_only, only_config}
 use Rattle.histories.proofs.Following.{stands_on, marked_on, compose}
 
@@ -28,6 +33,7 @@ pub one_opens_only : (c : Settings) (run : Run) → IsHonestRun c run → OpensO
 one_opens_only c (session now password before after closing es) h = config_only password c before after h.opens h.gave
 one_opens_only c (quiet password before after) h = config_only password c before after h.opens h.gave
 one_opens_only c (examined password before after bad) h = config_only password c before after h.opens h.gave
+one_opens_only c (migrated password before after bad) h = config_only password c before after h.opens h.gave
 
 module _ (shows : Showing) (c : Settings) where
   pub one_unforged : (tree : Tree) (run : Run) → IsRun shows run → OutsideStandsFor shows c tree (before_of run) → IsHonestRun c run → IsUnforgedRun c run
@@ -36,13 +42,19 @@ module _ (shows : Showing) (c : Settings) where
       (config, run.unforged c tree (record { stands = stands; unforged_config = config }) h.gave)
   one_unforged tree (quiet password before after) run stands h = config_unforged password c before after h.opens h.gave
   one_unforged tree (examined password before after bad) run stands h = config_unforged password c before after h.opens h.gave
+  one_unforged tree (migrated password before after bad) run stands h =
+      let config = config_unforged password c before after h.opens h.gave in
+      (config, run.unforged c tree (record { stands = stands; unforged_config = config }) h.gave)
 
-  -- no session is opened over a marked record
+  -- over a marked record no session is opened, and no call made
   marked_unforged : (run : Run) → IsRun shows run → IsKeptMarked records (before_of run).kept → IsHonestRun c run → IsUnforgedRun c run
   marked_unforged (session now password before after closing es) run m h =
       absurd (loaded_unmarked before.kept run.attached.attached.state run.attached.attached.list run.attached.attached.loaded m)
   marked_unforged (quiet password before after) run m h = config_unforged password c before after h.opens h.gave
   marked_unforged (examined password before after bad) run m h = config_unforged password c before after h.opens h.gave
+  marked_unforged (migrated password before after bad) run m h =
+      let same = ap (λ (t : Option (List Call)). count_told (forged (opened_of c.key) c.block_size) t) (run.marked m).2 in
+      (config_unforged password c before after h.opens h.gave, omega (arith, same))
 
   pub all_unforged : (first : Tree) (start : Outside) (runs : List Run) → OutsideStandsFor shows c first start → AreHonestRuns shows c start runs → AreRuns shows c start runs
   all_unforged first start [] s all = tt
@@ -62,6 +74,8 @@ module _ (shows : Showing) (c : Settings) where
       unviolated es (answers.no_false_alarm h.gave)
   one_calm tree (quiet password before after) run stands h = refl
   one_calm tree (examined password before after bad) run stands h =
+      run.calm c tree (record { stands = stands; unforged_config = config_unforged password c before after h.opens h.gave }) h.gave
+  one_calm tree (migrated password before after bad) run stands h =
       run.calm c tree (record { stands = stands; unforged_config = config_unforged password c before after h.opens h.gave }) h.gave
 
   neither : (one other : Bool) → one ≡ false → other ≡ false → (one || other) ≡ false

@@ -26,39 +26,45 @@ use Rattle.mount_tower.specs.declared.error.OpenError.{OpenError}
 use Rattle.mount_tower.specs.declared.error.OpenError.TheVariants.{Mismatch, NoConfig, Config as OfConfig}
 use Rattle.mount_tower.specs.Unforged.{IsOnlyConfig, IsUnforgedConfig}
 use Rattle.session_runs.specs.Causes.{AreBuilt}
-use Rattle.session_runs.specs.Runs.{Outside, OutsideStandsFor, PasswordOpens, forgeries, lies, AreCalm, IsSessionRun, IsQuietRun, IsExaminedRun}
+use Rattle.session_runs.specs.Runs.{Outside, OutsideStandsFor, PasswordOpens, forgeries, lies, AreCalm, IsSessionRun, IsQuietRun, IsExaminedRun, IsMigrationRun}
 
--- a run: the session of some exchanges at a moment, closed so, one of no lines, or a check that was bad or not; each under a password, from the one moment outside to the other
+-- a run: the session of some exchanges at a moment, closed so, one of no lines, a check that was bad or not, or one that wrote the blocks anew and met a violation or didn't; each under a password, from the one moment outside to the other
 pub data Run : Type 0 where
   session : Instant → List ℕ → Outside → Outside → Result Unit SyncError → List Exchange → Run
   quiet : List ℕ → Outside → Outside → Run
   examined : List ℕ → Outside → Outside → Bool → Run
+  migrated : List ℕ → Outside → Outside → Bool → Run
 
 abbrev pub before_of : Run → Outside
 before_of (session now password before after closing es) = before
 before_of (quiet password before after) = before
 before_of (examined password before after bad) = before
+before_of (migrated password before after bad) = before
 
 abbrev pub after_of : Run → Outside
 after_of (session now password before after closing es) = after
 after_of (quiet password before after) = after
 after_of (examined password before after bad) = after
+after_of (migrated password before after bad) = after
 
 abbrev pub exchanges_of : Run → List Exchange
 exchanges_of (session now password before after closing es) = es
 exchanges_of (quiet password before after) = []
 exchanges_of (examined password before after bad) = []
+exchanges_of (migrated password before after bad) = []
 
 -- there was a violation in it, or its check was bad
 abbrev pub condemns : Run → Bool
 condemns (session now password before after closing es) = violated es
 condemns (quiet password before after) = false
 condemns (examined password before after bad) = bad
+condemns (migrated password before after bad) = bad
 
 abbrev pub IsRun : Showing → Run → Type 0
 IsRun shows (session now password before after closing es) = IsSessionRun shows now password before after (violated es) closing es
 IsRun shows (quiet password before after) = IsQuietRun shows password before after
 IsRun shows (examined password before after bad) = IsExaminedRun shows password before after bad
+IsRun shows (migrated password before after bad) = IsMigrationRun shows password before after bad
 
 -- nothing that opens was forged from one moment to the other: under the password no configuration of this file system and key but this one, and no block's file
 abbrev pub IsUnforged : List ℕ → Settings → Outside → Outside → Type 0
@@ -78,6 +84,7 @@ abbrev pub IsUnforgedRun : Settings → Run → Type 0
 IsUnforgedRun c (session now password before after closing es) = IsUnforged password c before after
 IsUnforgedRun c (quiet password before after) = IsUnforgedConfig password before.kept before.calls after.calls c
 IsUnforgedRun c (examined password before after bad) = IsUnforgedConfig password before.kept before.calls after.calls c
+IsUnforgedRun c (migrated password before after bad) = IsUnforged password c before after
 
 -- where the runs left all
 abbrev pub end_of : Outside → List Run → Outside
@@ -106,7 +113,7 @@ pub record Serves (shows : Showing) (c : Settings) (from : Tree) (now : Instant)
   pub no_false_alarm : lies after ≤ lies before → AreCalm es
   pub built : AreBuilt es
 
--- The check leaves the tree, or after a bad one perhaps a marked record.
+-- The check leaves the tree, or after a bad one perhaps a marked record; and so do blocks that are written anew, after a violation.
 pub record Examines (shows : Showing) (c : Settings) (from : Tree) (before after : Outside) (bad : Bool) (tree : Tree) : Type 0 where
   pub same : tree ≡ from
   pub kept : ((bad ≡ true) × IsKeptMarked records after.kept) ⊎ OutsideStandsFor shows c tree after
@@ -117,6 +124,7 @@ abbrev pub RunsFrom : Showing → Settings → Tree → Run → Tree → Type 0
 RunsFrom shows c from (session now password before after closing es) tree = Serves shows c from now before after es tree
 RunsFrom shows c from (quiet password before after) tree = (tree ≡ from) × OutsideStandsFor shows c tree after
 RunsFrom shows c from (examined password before after bad) tree = Examines shows c from before after bad tree
+RunsFrom shows c from (migrated password before after bad) tree = Examines shows c from before after bad tree
 
 -- a marked record was kept: nothing is answered, kept or called, and no check is bad
 pub record IsRefusedRun (run : Run) : Type 0 where
@@ -176,6 +184,7 @@ abbrev pub IsHonestRun : Settings → Run → Type 0
 IsHonestRun c (session now password before after closing es) = IsHonest password c before after
 IsHonestRun c (quiet password before after) = IsHonest password c before after
 IsHonestRun c (examined password before after bad) = IsHonest password c before after
+IsHonestRun c (migrated password before after bad) = IsHonest password c before after
 
 abbrev pub AreHonestRuns : Showing → Settings → Outside → List Run → Type 0
 AreHonestRuns shows c start [] = Unit {0}
@@ -186,6 +195,7 @@ abbrev pub OpensOnly : Settings → Run → Type 0
 OpensOnly c (session now password before after closing es) = IsOnlyConfig password before.kept before.calls after.calls c
 OpensOnly c (quiet password before after) = IsOnlyConfig password before.kept before.calls after.calls c
 OpensOnly c (examined password before after bad) = IsOnlyConfig password before.kept before.calls after.calls c
+OpensOnly c (migrated password before after bad) = IsOnlyConfig password before.kept before.calls after.calls c
 
 -- so it is in an honest run
 abbrev pub HonestRunOpensOnly : Type 0

@@ -3,9 +3,9 @@ ghost use Rattle.tree_commands.specs.Showing.{ShowsFiles};
 ghost use Rattle.histories.specs.Histories.{RunsCompose, RunsComposeFromCreate, RefusedIsUnforged, HonestRunOpensOnly, HonestRunIsUnforged, HonestRunsCompose, HonestRunIsCalm, HonestRunsAreCalm};
 
 /// Whatever the block directory returns, loses or refuses in any list of runs: each answers as a session of the plain tree from
-/// the tree that the one before it left, which is that of a kept point of its own session; a check leaves that tree. Or, once
-/// there was a violation or a bad check, it is refused. The premise is that nothing that opens was forged. Where opening stopped at what it found for the
-/// configuration, as at another file system's, none was.
+/// the tree that the one before it left, which is that of a kept point of its own session; a check leaves that tree, and so do
+/// blocks that are written anew. Or, once there was a violation or a bad check, it is refused. The premise is that nothing
+/// that opens was forged. Where opening stopped at what it found for the configuration, as at another file system's, none was.
 pub fn runs_compose()
     ensures all { RunsCompose ShowsFiles }
     ensures from_create { RunsComposeFromCreate ShowsFiles }

@@ -1,1 +1,2 @@
 pub mod Condemning
+pub mod Migrating

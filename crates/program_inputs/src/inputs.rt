@@ -124,14 +124,14 @@ impl Inputs {
         host
     }
 
-    /// The block folder, after the calls of this log. For a check that isn't quiet it tells how many blocks were read, where standard error is a
-    /// terminal.
+    /// The block folder, after the calls of this log. For a check that isn't quiet, and for `migrate`, it tells how many blocks were read, where
+    /// standard error is a terminal.
     pub fn vault(&self, rt: &HostRuntime, log: CallLog) -> FolderVault<'_, HostRuntime>
         ensures calls { result.calls ≡ calls_of log.events }
         ensures none { result.faults ≡ 0 }
     {
         let mut vault = FolderVault::new(*rt, &self.blocks, &self.folders, log);
-        if is_check(&self.words) && !self.options.is_quiet {
+        if reads_each_block(&self.words) && !self.options.is_quiet {
             vault.watch(*rt);
         }
         vault
@@ -149,10 +149,10 @@ impl Inputs {
     }
 }
 
-/// Whether the words ask for a check.
-fn is_check(words: &[String]) -> bool {
+/// Whether the words ask for a check, or for `migrate`.
+fn reads_each_block(words: &[String]) -> bool {
     match words {
-        [word] => word.as_str() == "check",
+        [word] => word.as_str() == "check" || word.as_str() == "migrate",
         _ => false,
     }
 }

@@ -1,4 +1,4 @@
-// How far a check is, on a terminal.
+// How far a run is that reads each block, on a terminal.
 use std::fmt::{self, Display, Formatter, Write};
 use std::io::IsTerminal;
 use std::time::Instant;
@@ -53,7 +53,7 @@ impl Progress {
         let left = Left(u128::from(known.saturating_sub(blocks)) / rate.max(1));
         let over = if self.written.is_some() { "\x1b[A" } else { "" };
         let _ = eprintln!(self.rt;
-            "{over}\rcryfs: checked {blocks} of about {known} blocks, {rate}/s, {left} left\x1b[K"
+            "{over}\rcryfs: read {blocks} of about {known} blocks, {rate}/s, {left} left\x1b[K"
         );
     }
 }

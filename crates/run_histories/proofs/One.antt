@@ -23,13 +23,17 @@ use Rattle.run_status.specs.declared.status.Status.TheVariants.{Done}
 use Rattle.session_runs.specs.Runs.{Outside, outside_of, OutsideStandsFor, IsQuietRun}
 use Rattle.shell_sessions.specs.Sessions.{Session}
 use Rattle.shell_words.specs.declared.form.Form.{Form}
-use Rattle.shell_words.specs.declared.form.Form.TheVariants.{Trial, TrialGenerate, Create, Info, Passwd, Shell, Generate, Command, Import, Export, Put, Get, Check}
+use Rattle.shell_words.specs.declared.form.Form.TheVariants.{Trial, TrialGenerate, Create, Info, Passwd, Migrate, Shell, Generate, Command, Import, Export, Put, Get, Check}
 use Rattle.shell_words.specs.Forms.{form_of}
 use Rattle.tree_commands.specs.Showing.{ShowsFiles}
-use Rattle.histories.specs.Histories.{Run, session, quiet, examined, before_of, after_of, IsRun, GoesOnFrom}
+use Rattle.histories.specs.Histories.{Run, session, quiet, examined, migrated, before_of, after_of, IsRun, GoesOnFrom}
+use Rattle.answers.specs.Sessions.{is_violation}
+use Rattle.cryfs_setup.specs.Migrate.{RanMigrate}
+use Rattle.mount_migrating.specs.Migrating.{told}
 use Rattle.cryfs_shell.specs.Clauses.{IsRefusingStatus, NoFalseAlarm, FaultsHappened, HostFaultsHappened}
-use Rattle.cryfs_shell.specs.Kinds.{opens, is_session, is_check}
+use Rattle.cryfs_shell.specs.Kinds.{opens, is_session, is_check, is_migration}
 use Rattle.cryfs_shell.proofs.Checks.{ends_by, bad_by}
+use Rattle.cryfs_shell.proofs.Migrations as migrations
 use Rattle.cryfs_shell.proofs.Statuses.{opening_is_no}
 use Rattle.cryfs_shell.proofs.Sessions.{UnreadCause, one_unread, two_unread, unread_is_no, password_is}
 use Rattle.run_histories.specs.Calls.{RunCall, Did, IsRunCall}
@@ -57,7 +61,7 @@ module _ {V : Type 0} {K : Type 0} (trace : V → Option (List Call)) (faults : 
     answered : CallAnswered call asked run
 
   quiet_ran : (asked : Option Form) (password : List ℕ) → ((bytes : List ℕ) → call.input.old ≡ Some bytes → password ≡ first_line bytes) → IsQuietRun ShowsFiles password Before After
-      → ((is_session asked || is_check asked) ≡ true → Untouched call.output × (h.ended.status ≢ Done)) → Ran asked
+      → ((is_session asked || is_check asked || is_migration asked) ≡ true → Untouched call.output × (h.ended.status ≢ Done)) → Ran asked
   quiet_ran asked password first q silent = record {
     run = quiet password Before After;
     is_run = q;
@@ -118,6 +122,25 @@ module _ {V : Type 0} {K : Type 0} (trace : V → Option (List Call)) (faults : 
     );
   }
 
+  migrated_ran : RanMigrate trace faults G call.input call.output h.vault h.keeper h.ended → Ran (Some Migrate)
+  migrated_ran (inl u) = unread_ran (Some Migrate) (PasswordUnread call.input) (one_unread call.input) u
+  migrated_ran (inr (password, after, has, unfailed, inl ((error, u), unwritten))) = unopened_ran (Some Migrate) password after has.is_next error u unwritten
+  migrated_ran (inr (password, after, has, unfailed, inr m)) = record {
+    run = migrated password Before After (is_violation (told m.migration));
+    is_run = m.leaves.run;
+    begins = refl;
+    ends = refl;
+    password = next_first password after has.is_next;
+    answered = (
+      after,
+      has,
+      (
+        λ bad. h.status ∙ migrations.met_by trace faults G password call.output h.vault h.keeper h.ended m bad,
+        λ e. migrations.bad_by trace faults G password call.output h.vault h.keeper h.ended m (sym h.status ∙ e),
+      ),
+    );
+  }
+
   did_run : (asked : Option Form) → opens asked ≡ true → Did trace faults names G call h.vault h.keeper h.ended asked → Ran asked
   did_run None e d = absurd (cc)
   did_run (Some Trial) e d = absurd (cc)
@@ -129,6 +152,7 @@ module _ {V : Type 0} {K : Type 0} (trace : V → Option (List Call)) (faults : 
   did_run (Some Passwd) e (inl (u, same)) = unread_ran (Some Passwd) (PasswordsUnread call.input) (two_unread call.input) u
   did_run (Some Passwd) e (inr (old, new, has, unfailed, inl ((error, u), unwritten, same))) = unopened_ran (Some Passwd) old has.between has.old_is_next error u unwritten
   did_run (Some Passwd) e (inr (old, new, has, unfailed, inr p)) = quiet_ran (Some Passwd) old (next_first old has.between has.old_is_next) p.quiet (λ f. absurd (cc))
+  did_run (Some Migrate) e d = migrated_ran d
   did_run (Some Shell) e d = session_ran (Some Shell) d
   did_run (Some (Generate count)) e d = session_ran (Some (Generate count)) d
   did_run (Some Command) e d = session_ran (Some Command) d
@@ -181,6 +205,7 @@ module _ {V : Type 0} {K : Type 0} (trace : V → Option (List Call)) (faults : 
   did_stay (Some (Create options)) e there (inr (password, script, has, unfailed, c)) = there_stays c.made (c.there (there refl))
   did_stay (Some Info) e there d = absurd (cc)
   did_stay (Some Passwd) e there d = absurd (cc)
+  did_stay (Some Migrate) e there d = absurd (cc)
   did_stay (Some Shell) e there d = absurd (cc)
   did_stay (Some (Generate count)) e there d = absurd (cc)
   did_stay (Some Command) e there d = absurd (cc)

@@ -26,17 +26,18 @@ use Rattle.shell_words.specs.declared.form.Form.{Form}
 use Rattle.shell_words.specs.declared.form.Form.TheVariants.{Create, Shell, Generate, Command, Import, Export, Put, Get}
 use Rattle.shell_words.specs.Forms.{form_of, joined}
 use Rattle.tree_commands.specs.Showing.{ShowsFiles}
-use Rattle.histories.specs.Histories.{Run, session, quiet, examined, before_of, after_of, IsRun, IsUnforgedRun, GoesOnFrom, end_of, Follow, EndsWith}
+use Rattle.histories.specs.Histories.{Run, session, quiet, examined, migrated, before_of, after_of, IsRun, IsUnforgedRun, GoesOnFrom, end_of, Follow, EndsWith}
 use Rattle.cryfs_shell.specs.Clauses.{IsRefusingStatus, NoFalseAlarm, FaultsHappened, HostFaultsHappened}
 use Rattle.cryfs_shell.specs.Copies.{Imports, Exports, Puts, Gets}
-use Rattle.cryfs_shell.specs.History.{Judges}
-use Rattle.cryfs_shell.specs.Kinds.{opens, is_session, is_check}
+use Rattle.cryfs_shell.specs.History.{Judges, Meets}
+use Rattle.cryfs_shell.specs.Kinds.{opens, is_session, is_check, is_migration}
 use Rattle.run_histories.specs.Calls.{RunCall, IsRunCall}
 
 abbrev pub password_of : Run → List ℕ
 password_of (session now password before after closing es) = password
 password_of (quiet password before after) = password
 password_of (examined password before after bad) = password
+password_of (migrated password before after bad) = password
 
 -- how the exchanges of a session come from the input after the password line, and are written
 abbrev pub CallComes : RunCall → Option Form → Option (List ℕ) → End → Status → List Exchange → Type 0
@@ -49,14 +50,15 @@ CallComes call (Some Put) = Puts call.words call.input call.output
 CallComes call (Some Get) = Gets call.words call.input call.output
 CallComes call _ = λ script end own es. ⊥
 
--- In a session the exchanges came so, and the status is theirs, or its own where nothing else is the matter. A check was judged so. In a run of no lines the words ask for none and for no check, or nothing was
+-- In a session the exchanges came so, and the status is theirs, or its own where nothing else is the matter. A check was judged so, and blocks that were written anew met so a violation or none. In a run of no lines the words ask for none of these, or nothing was
 -- written and the status isn't Done.
 abbrev pub CallAnswered : RunCall → Option Form → Run → Type 0
 CallAnswered call asked (session now password before after closing es) =
     (now ≡ call.now) × (script : Option (List ℕ)) × HasPassword call.input password script
     × (end : End) × (own : Status) × CallComes call asked script end own es × (call.status ≡ first_of (session_status (violated es) end closing) own)
-CallAnswered call asked (quiet password before after) = (is_session asked || is_check asked) ≡ true → Untouched call.output × (call.status ≢ Done)
+CallAnswered call asked (quiet password before after) = (is_session asked || is_check asked || is_migration asked) ≡ true → Untouched call.output × (call.status ≢ Done)
 CallAnswered call asked (examined password before after bad) = (after : Option (List ℕ)) × HasPassword call.input password after × Judges asked call.status bad
+CallAnswered call asked (migrated password before after bad) = (after : Option (List ℕ)) × HasPassword call.input password after × Meets asked call.status bad
 
 -- the call is this run
 pub record IsRunOf (call : RunCall) (run : Run) : Type 0 where

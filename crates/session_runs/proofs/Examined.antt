@@ -1,5 +1,5 @@
 -- A run of a check that opened no file system.
-use Rattle.std.proofs.Common.{◌≡◌, List, ℕ, true, false, refl}
+use Rattle.std.proofs.Common.{List, ℕ, false, refl}
 use Rattle.tree_commands.specs.Performing.{Showing}
 use Rattle.session_runs.specs.Runs.{Outside, IsExaminedRun, IsQuietRun}
 

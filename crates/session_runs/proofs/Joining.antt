@@ -19,7 +19,7 @@ use Rattle.tree_commands.specs.Performing.{Showing}
 use Rattle.mount_core.specs.Standing.{IsKeptMarked, Left}
 use Rattle.mount.specs.declared.mount.Mount.{Mount}
 use Rattle.mount.specs.Tower.{tower, TowerStands}
-use Rattle.mount_tower.specs.Tower.{tower_meanings, tower_holdings, tower_durables}
+use Rattle.mount_tower.specs.Tower.{tower_holdings, tower_durables}
 use Rattle.mount.proofs.Same.{same_mount}
 use Rattle.session_runs.specs.Answering.{calls_of, forgeries_of, lies_of, keeper_faults, version_of, kept_of, LineAnswered, MountAnswers}
 use Rattle.session_runs.specs.Causes.{IsAnswerTo, AreBuilt}

@@ -1,6 +1,8 @@
 -- The five lines need no memory beyond 256 bytes.
-use Rattle.std.proofs.Common.{◌≡◌, ◌≤◌, ◌<◌, ℕ, ◌^◌, List, ◌++◌, length, arith, length-append, codes}
+use Rattle.std.proofs.Common.{◌≡◌, ◌≤◌, ◌+◌, ◌<◌, ℕ, ◌^◌, List, ◌++◌, length, arith, length-append, codes}
 use Rattle.std.specs.Fmt.{decimal}
+use Rattle.std.specs.Prelude.{Result, OnErr}
+use Rattle.std.specs.declared.result.Result.TheVariants.{Ok, Err}
 use Rattle.block_id.specs.Name.{name_of}
 use Rattle.block_id.proofs.Names.{length-name_of}
 use Rattle.script_text.specs.Texts.{line, word}
@@ -10,6 +12,7 @@ use Rattle.config_file.specs.Settings.{Settings, cipher_name}
 use Rattle.config_file.specs.declared.config.Cipher.{Cipher}
 use Rattle.config_file.specs.declared.config.Cipher.TheVariants.{Aes256Gcm}
 use Rattle.setup_texts.specs.InfoText.{info_text}
+use Rattle.setup_texts.specs.MigrateText.{count_text}
 
 cipher_short : (c : Cipher) → length (codes "cipher " ++ cipher_name c) ≤ 18
 cipher_short Aes256Gcm = omega arith
@@ -22,3 +25,15 @@ info_short s cost fs_id root size n r p =
     sums : (a b d e f g h : List ℕ) → length a ≡ 32 → length b ≡ 32 → length d ≤ 18 → length e ≤ 20 → length f ≤ 20 → length g ≤ 20 → length h ≤ 20
         → length ((line (codes "filesystem " ++ a) ++ line (codes "root " ++ b)) ++ (line d ++ line (codes "blocksize" ++ word e) ++ line (codes "scrypt" ++ word f ++ word g ++ word h))) ≤ 256
     sums a b d e f g h la lb ld le lf lg lh = simp length-append (omega arith)
+
+-- nor does the line of a number of blocks
+count_short : (n : ℕ) → n < 2 ^ 64 → length (count_text n) ≤ 256
+count_short n fits = sums (decimal n) (decimal_short n fits)
+  where
+    sums : (d : List ℕ) → length d ≤ 20 → length (line (codes "migrated" ++ word d)) ≤ 256
+    sums d l = simp length-append (omega (arith, l))
+
+-- and where there was no room for it there wasn't for 256 bytes
+pub count_wants : {E : Type 0} (result : Result Unit E) (room len items n : ℕ) → items ≡ len → n < 2 ^ 64 → OnErr result (room < items + length (count_text n)) → OnErr result (room < len + 256)
+count_wants (Ok u) room len items n same fits full = tt
+count_wants (Err e) room len items n same fits full = let short = count_short n fits in omega (arith, same, short, full)

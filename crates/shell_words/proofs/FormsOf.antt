@@ -8,7 +8,7 @@ use Rattle.shell_words.specs.declared.create_options.CreateOptions.{CreateOption
 use Rattle.shell_words.specs.CreateOptions.{options_of}
 use Rattle.script_text.specs.Grammar.{verb_of}
 use Rattle.shell_words.specs.declared.form.Form.{Form}
-use Rattle.shell_words.specs.declared.form.Form.TheVariants.{Trial, TrialGenerate, Create, Info, Passwd, Shell, Generate, Command, Import, Export, Put, Get, Check}
+use Rattle.shell_words.specs.declared.form.Form.TheVariants.{Trial, TrialGenerate, Create, Info, Passwd, Migrate, Shell, Generate, Command, Import, Export, Put, Get, Check}
 use Rattle.shell_words.specs.Forms.{count_of, single_form, plain_form, other_form, copy_word, copy_path, copy_or_other, form_of, is_create}
 
 -- a form other than that of `create`
@@ -67,8 +67,9 @@ single_other word =
     either IsOther (bytes_eq word (codes "trial")) (Some Trial) _ tt
     (either IsOther (bytes_eq word (codes "info")) (Some Info) _ tt
     (either IsOther (bytes_eq word (codes "passwd")) (Some Passwd) _ tt
+    (either IsOther (bytes_eq word (codes "migrate")) (Some Migrate) _ tt
     (either IsOther (bytes_eq word (codes "shell")) (Some Shell) _ tt
-    (either IsOther (bytes_eq word (codes "check")) (Some Check) None tt tt))))
+    (either IsOther (bytes_eq word (codes "check")) (Some Check) None tt tt)))))
 
 plain_other : (words : List (List ℕ)) → IsIn IsOther (plain_form words)
 unfolding plain_form

@@ -13,7 +13,7 @@ use Rattle.script_text.specs.Grammar.{verb_of, command_of}
 use Rattle.script_text.specs.Numbers.{number_of, below}
 use Rattle.shell_words.specs.CreateOptions.{options_of}
 use Rattle.shell_words.specs.declared.form.Form.{Form}
-use Rattle.shell_words.specs.declared.form.Form.TheVariants.{Trial, TrialGenerate, Create, Info, Passwd, Shell, Generate, Command, Import, Export, Put, Get, Check}
+use Rattle.shell_words.specs.declared.form.Form.TheVariants.{Trial, TrialGenerate, Create, Info, Passwd, Migrate, Shell, Generate, Command, Import, Export, Put, Get, Check}
 use Rattle.shell_words.specs.declared.words.TheConstants.{MAX_GENERATE}
 
 -- 1 to 7 decimal digits, a number of at most 1,000,000
@@ -26,8 +26,9 @@ single_form word =
     cond (bytes_eq word (codes "trial")) (Some Trial)
     (cond (bytes_eq word (codes "info")) (Some Info)
     (cond (bytes_eq word (codes "passwd")) (Some Passwd)
+    (cond (bytes_eq word (codes "migrate")) (Some Migrate)
     (cond (bytes_eq word (codes "shell")) (Some Shell)
-    (cond (bytes_eq word (codes "check")) (Some Check) None))))
+    (cond (bytes_eq word (codes "check")) (Some Check) None)))))
 
 -- a word that stands alone, `generate N` or `trial generate N`
 unfoldable pub plain_form : List (List ℕ) → Option Form

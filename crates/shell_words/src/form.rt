@@ -15,6 +15,8 @@ pub enum Form {
     Info,
     /// Another password.
     Passwd,
+    /// Each block, written anew in the newest format.
+    Migrate,
     /// A session of the lines of the input.
     Shell,
     /// A session of so many generated commands.

@@ -68,7 +68,7 @@ fn read_plain_form(words: &[String]) -> Option<Form>
     }
 }
 
-/// `trial`, `info`, `passwd`, `shell` or `check`.
+/// `trial`, `info`, `passwd`, `migrate`, `shell` or `check`.
 #[tactic(auto, unfolding(crate::specs::Forms::single_form))]
 fn read_single_word(word: &str) -> Option<Form>
     ensures value { result ≡ single_form word.now }
@@ -80,6 +80,8 @@ fn read_single_word(word: &str) -> Option<Form>
         Some(Form::Info)
     } else if word == "passwd" {
         Some(Form::Passwd)
+    } else if word == "migrate" {
+        Some(Form::Migrate)
     } else if word == "shell" {
         Some(Form::Shell)
     } else if word == "check" {

@@ -83,9 +83,9 @@ fn a_name_of_the_same_length_writes_what_lies_between(rt: HostRuntime) -> Result
         &rt,
         rt.alloc(),
         &[
-            ("mv /c0 /c1", 90, 3),
-            ("mv /b0 /d1", 93, 5),
-            ("mv /f0 /c1", 96, 6),
+            ("mv /c0 /c1", 61, 3),
+            ("mv /b0 /d1", 64, 5),
+            ("mv /f0 /c1", 67, 6),
         ],
     )
 }
@@ -97,9 +97,9 @@ fn what_follows_is_written_where_it_moves(rt: HostRuntime) -> Result<(), Fail> {
         &rt,
         rt.alloc(),
         &[
-            ("mv /c0 /c", 108, 13),
-            ("mv /c0 /c00", 106, 13),
-            ("mv /a0 /z0", 105, 12),
+            ("mv /c0 /c", 79, 13),
+            ("mv /c0 /c00", 77, 13),
+            ("mv /a0 /z0", 76, 12),
         ],
     )
 }

@@ -62,7 +62,7 @@ pub returns-in-Ok-Some-clause-uncalled : goal.returns-in-Ok-Some-clause-uncalled
 returns-in-Ok-Some-clause-uncalled g c e = doing_uncalled g.V.Vault.trace g.V.Vault.faults g.V.Listing.names g.K.Keeper (map string_bytes c.args.words.now) c.args.now (g.R.Rng.stream c.args.chance.now) (g.R.Rng.stream c.run_form.new.chance) (stream_of g.I.Source.rest g.I.Source.faults c.args.input.now c.run_form.new.input) (stream_of g.O.Sink.written g.O.Sink.faults c.args.output.now c.run_form.new.output) (host_of g.F.Folder.tree g.F.Folder.faults c.args.host.now c.run_form.new.host) c.args.vault c.args.keeper c.run_form.result c.in-Ok-Some.form c.run_form.ensures.does e
 
 pub returns-in-Err-clause-history : goal.returns-in-Err-clause-history
-returns-in-Err-clause-history g c form e other = idly g.V.Vault.trace g.V.Vault.faults g.K.Keeper _ _ c.args.vault c.args.keeper (record { status = Memory; vault = c.args.vault; keeper = c.args.keeper }) (record { same_vault = refl; same_keeper = refl })
+returns-in-Err-clause-history g c form e other = idly g.V.Vault.trace g.V.Vault.faults g.K.Keeper _ _ _ c.args.vault c.args.keeper (record { status = Memory; vault = c.args.vault; keeper = c.args.keeper }) (record { same_vault = refl; same_keeper = refl })
 
 pub returns-in-Ok-Some-clause-history : goal.returns-in-Ok-Some-clause-history
 returns-in-Ok-Some-clause-history g c form e other =

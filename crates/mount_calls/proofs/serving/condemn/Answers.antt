@@ -1,4 +1,4 @@
-use Rattle.std.proofs.Common.{◌≡◌, ◌∙◌, ap, refl}
+use Rattle.std.proofs.Common.{◌∙◌, ap, refl}
 use Rattle.std.specs.declared.option.Option.TheVariants.{None}
 use Rattle.held_blocks.specs.Held.{Held}
 use Rattle.held_blocks.specs.Standing.{records}

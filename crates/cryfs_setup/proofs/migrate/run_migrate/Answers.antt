@@ -1,0 +1,21 @@
+use Rattle.std.proofs.Common.{refl, inl, inr, sym, subst}
+use Rattle.line_io.specs.Reading.{coming}
+use Rattle.line_io.specs.Streams.{stream_of}
+use Rattle.cryfs_setup.specs.Migrate.{MigratedUnder}
+use Rattle.cryfs_setup.proofs.Beginning.{held, has_password}
+use Rattle.cryfs_setup.proofs.migrate.run_migrate.Goals as goal
+
+pub returns-in-Err-clause-migrated : goal.returns-in-Err-clause-migrated
+returns-in-Err-clause-migrated g c = inl (record { cause = c.in-Err.ensures.unread; uncalled = record { same_vault = refl; same_keeper = refl }; unwritten = (refl, refl) })
+
+pub returns-clause-migrated : goal.returns-clause-migrated
+returns-clause-migrated g c =
+    let r = c.in-Ok-read_password.ensures.read in
+    let h = held c.line.result _ c.unwrap_or-password.result c.in-Ok-read_password.reader.line r.1 c.line.ensures r.2.held c.unwrap_or-password.ensures in
+    inr (
+      r.1,
+      coming c.in-Ok-read_password.reader.ahead (g.I.Source.rest c.read_password.new.input),
+      has_password _ _ r.0 r.1 r.2,
+      r.2.stands.quiet,
+      subst (λ p. MigratedUnder g.V.Vault.trace g.V.Vault.faults g.K.Keeper p (stream_of g.O.Sink.written g.O.Sink.faults c.args.output.now c.migrate_under.new.output) c.args.vault c.args.keeper c.migrate_under.result) (sym h) c.migrate_under.ensures.migrated,
+    )

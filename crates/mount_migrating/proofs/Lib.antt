@@ -1,0 +1,9 @@
+pub mod Batches
+pub mod NewFiles
+pub mod Proceeding
+pub mod Anew
+pub mod Syncing
+pub mod Least
+pub mod Chains
+pub mod Marking
+pub mod Crowds

@@ -1,0 +1,28 @@
+use Rattle.std.proofs.Common.{◌∙◌, refl, sym, inr}
+use Rattle.tree_commands.specs.Showing.{ShowsFiles}
+use Rattle.mount_migrating.proofs.Chains.{moves_all, moves_unrenewed, moves_unsynced}
+use Rattle.mount_migrating.proofs.Crowds.{listed}
+use Rattle.mount_migrating.proofs.migrating.migrate_blocks.Goals as goal
+
+pub returns-in-Err-clause-moves : goal.returns-in-Err-clause-moves
+returns-in-Err-clause-moves g c =
+    moves_unrenewed ShowsFiles g.S.Blocks.meanings g.S.Blocks.holdings g.S.Durable.durables g.S.Durable.records g.K.Keeper c.args.core.now c.renew_all.new.core (listed c.args.ids.now) c.in-Err.error c.in-Err.ensures.renews
+
+pub keep_present-requires-clause-fresh : goal.keep_present-requires-clause-fresh
+keep_present-requires-clause-fresh g c = c.in-Ok.ensures.renews.proceeds.violated ∙ c.requires.fresh
+
+pub raise_least-requires-clause-may : goal.raise_least-requires-clause-may
+raise_least-requires-clause-may g c =
+    let w = c.in-Ok.ensures.renews in
+    let r = c.in-Ok-keep_present.ensures.rests in
+    inr (refl, λ id live. r.stays_new id (w.are_new id (c.requires.live id ∙ (sym (w.proceeds.ids id) ∙ (sym (r.proceeds.ids id) ∙ live)))))
+
+pub returns-in-Err-keep_present-clause-moves : goal.returns-in-Err-keep_present-clause-moves
+returns-in-Err-keep_present-clause-moves g c =
+    moves_unsynced ShowsFiles g.S.Blocks.meanings g.S.Blocks.holdings g.S.Durable.durables g.S.Durable.records g.K.Keeper c.args.core.now c.renew_all.new.core (listed c.args.ids.now) c.in-Ok.ensures.renews
+    c.keep_present.new.core c.in-Err-keep_present.error c.in-Err-keep_present.ensures.least c.in-Err-keep_present.ensures.rests
+
+pub returns-in-Ok-keep_present-clause-moves : goal.returns-in-Ok-keep_present-clause-moves
+returns-in-Ok-keep_present-clause-moves g c =
+    moves_all ShowsFiles g.S.Blocks.meanings g.S.Blocks.holdings g.S.Durable.durables g.S.Durable.records g.K.Keeper c.args.core.now c.renew_all.new.core (listed c.args.ids.now) c.in-Ok.ensures.renews
+    c.keep_present.new.core c.raise_least.new.core c.raise_least.result c.in-Ok-keep_present.ensures.rests c.in-Ok-keep_present.ensures.kept c.raise_least.ensures.rests c.raise_least.ensures.done c.raise_least.ensures.least

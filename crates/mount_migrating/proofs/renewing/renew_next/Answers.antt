@@ -1,0 +1,15 @@
+use Rattle.std.proofs.Common.{◌∙◌, [], ◌∷◌}
+use Rattle.tree_commands.specs.Showing.{ShowsFiles}
+use Rattle.mount_migrating.proofs.Chains.{renews_after, renews_stopped}
+use Rattle.mount_migrating.proofs.renewing.renew_next.Goals as goal
+
+pub returns-in-Ok-clause-renews : goal.returns-in-Ok-clause-renews
+returns-in-Ok-clause-renews g c =
+    renews_after ShowsFiles g.S.Blocks.meanings g.S.Blocks.holdings g.S.Durable.durables g.S.Durable.records g.K.Keeper c.args.core.now c.make_room.new.core c.renew.new.core (c.args.id.now.0 ∷ []) c.renew.result c.in-Ok.ensures.least c.in-Ok.ensures.rests c.renew.ensures.renews
+
+pub returns-in-Err-clause-renews : goal.returns-in-Err-clause-renews
+returns-in-Err-clause-renews g c =
+    renews_stopped ShowsFiles g.S.Blocks.meanings g.S.Blocks.holdings g.S.Durable.durables g.S.Durable.records g.K.Keeper c.args.core.now c.make_room.new.core (c.args.id.now.0 ∷ []) c.in-Err.error c.in-Err.ensures.least c.in-Err.ensures.rests
+
+pub renew-requires-clause-live : goal.renew-requires-clause-live
+renew-requires-clause-live g c = c.in-Ok.ensures.rests.proceeds.ids c.args.id.now.0 ∙ c.requires.live

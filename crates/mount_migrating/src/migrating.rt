@@ -1,0 +1,73 @@
+// All blocks, and the record.
+ghost use Rattle.std.specs.Prelude.{◌≡◌, false, map, OnOk};
+ghost use Rattle.data_tree.specs.Trees.{NoDoubles};
+ghost use Rattle.session_saver.specs.Saving.{world};
+ghost use Rattle.tree_commands.specs.Showing.{ShowsFiles};
+ghost use Rattle.mount_core.specs.Standing.{Ready};
+ghost use Rattle.mount_migrating.specs.Migrating.{AreLive, IsMigratedRecord, Migrates, Moves};
+
+use crate::error::MigrateError;
+use crate::raising::raise_least;
+use crate::renewing::{keep_present, renew_all};
+use block_id::BlockId;
+use mount_answering::mark;
+use mount_core::Core;
+use outside::Keeper;
+use rand_core::Rng;
+use std::alloc::Global;
+use store_api::Durable;
+
+/// Writes the blocks anew, keeps them, and then has the record say so.
+fn migrate_blocks<S: Durable, K: Keeper, R: Rng>(
+    alloc: Global,
+    core: &mut Core<S, K>,
+    ids: &[BlockId],
+    chance: &mut R,
+) -> Result<(), MigrateError>
+    requires ready { Ready (world S.meanings S.holdings S.durables S.records K.Keeper) core.old }
+    requires fresh { core.old.violated ≡ false }
+    requires live { AreLive S.holdings core.old.blobs.tx.store (map (λ id. id.0) ids.now) }
+    requires once { NoDoubles (map (λ id. id.0) ids.now) }
+    ensures ready { Ready (world S.meanings S.holdings S.durables S.records K.Keeper) core.new }
+    ensures moves { Moves ShowsFiles (world S.meanings S.holdings S.durables S.records K.Keeper)
+        core.old (map (λ id. id.0) ids.now) result core.new }
+{
+    match renew_all(alloc, core, ids, chance) {
+        Ok(()) => {}
+        Err(error) => return Err(error),
+    }
+    match keep_present(alloc, core) {
+        Ok(()) => raise_least(alloc, core),
+        Err(error) => Err(error),
+    }
+}
+
+/// Writes each block of the content anew as a file of the newest format, in this order, each in a batch of its own, with a
+/// sync where 8 MiB wait and one at the end. Then no older format is taken, and the record that says so is kept, with an
+/// empty list. After an error older formats are taken as before, and a later call goes on. A violation marks the last
+/// record, and has it kept. There was no violation.
+pub fn migrate_ids<S: Durable, K: Keeper, R: Rng>(
+    alloc: Global,
+    core: &mut Core<S, K>,
+    ids: &[BlockId],
+    chance: &mut R,
+) -> Result<(), MigrateError>
+    requires ready { Ready (world S.meanings S.holdings S.durables S.records K.Keeper) core.old }
+    requires fresh { core.old.violated ≡ false }
+    requires live { AreLive S.holdings core.old.blobs.tx.store (map (λ id. id.0) ids.now) }
+    requires once { NoDoubles (map (λ id. id.0) ids.now) }
+    ensures ready { Ready (world S.meanings S.holdings S.durables S.records K.Keeper) core.new }
+    ensures migrates { Migrates ShowsFiles (world S.meanings S.holdings S.durables S.records K.Keeper)
+        core.old (map (λ id. id.0) ids.now) result core.new }
+{
+    match migrate_blocks(alloc, core, ids, chance) {
+        Ok(()) => Ok(()),
+        Err(error) => {
+            match error {
+                MigrateError::Violation(_) => mark(core),
+                _ => {}
+            }
+            Err(error)
+        }
+    }
+}

@@ -1,0 +1,135 @@
+// Blocks that are written anew.
+ghost use Rattle.std.specs.Prelude.{◌≡◌, ◌<◌, true, false, is_some, [], ◌∷◌, map, OnOk};
+ghost use Rattle.fs_model.specs.Tree.{Tree};
+ghost use Rattle.data_tree.specs.Trees.{NoDoubles};
+ghost use Rattle.session_saver.specs.Saving.{world};
+ghost use Rattle.store_api.specs.Lists.{waiting_bytes};
+ghost use Rattle.tree_commands.specs.Showing.{ShowsFiles};
+ghost use Rattle.mount_core.specs.Standing.{CoreStands, Ready};
+ghost use Rattle.mount_migrating.specs.Migrating.{AreLive, Renews, Rests};
+
+use crate::error::{MigrateError, apply_error, load_error, sync_error};
+use block_id::{BlockId, Memory};
+use mount_answering::sync;
+use mount_core::Core;
+use outside::Keeper;
+use rand_core::Rng;
+use std::alloc::Global;
+use store_api::{Batch, Blocks, BlocksMut, Durable};
+
+/// Bytes that wait before the next block comes after a sync.
+const MOST_WAITING: usize = 8_388_608;
+
+/// Keeps what is present.
+pub(crate) fn keep_present<S: Durable, K: Keeper>(
+    alloc: Global,
+    core: &mut Core<S, K>,
+) -> Result<(), MigrateError>
+    requires ready { Ready (world S.meanings S.holdings S.durables S.records K.Keeper) core.old }
+    requires fresh { core.old.violated ≡ false }
+    ensures ready { Ready (world S.meanings S.holdings S.durables S.records K.Keeper) core.new }
+    ensures rests { Rests ShowsFiles (world S.meanings S.holdings S.durables S.records K.Keeper) core.old result core.new }
+    ensures least { S.durables.least core.new.blobs.tx.store ≡ S.durables.least core.old.blobs.tx.store }
+    ensures whole { OnOk result (core.new.saver.changed ≡ false) }
+    ensures kept { OnOk result ((kept now : Tree) → CoreStands ShowsFiles (world S.meanings S.holdings S.durables S.records K.Keeper) core.old kept now
+        → CoreStands ShowsFiles (world S.meanings S.holdings S.durables S.records K.Keeper) core.new now now) }
+{
+    match sync(alloc, core) {
+        Ok(()) => Ok(()),
+        Err(error) => Err(sync_error(error)),
+    }
+}
+
+/// Keeps what is present where 8 MiB wait.
+fn make_room<S: Durable, K: Keeper>(
+    alloc: Global,
+    core: &mut Core<S, K>,
+) -> Result<(), MigrateError>
+    requires ready { Ready (world S.meanings S.holdings S.durables S.records K.Keeper) core.old }
+    requires fresh { core.old.violated ≡ false }
+    ensures ready { Ready (world S.meanings S.holdings S.durables S.records K.Keeper) core.new }
+    ensures rests { Rests ShowsFiles (world S.meanings S.holdings S.durables S.records K.Keeper) core.old result core.new }
+    ensures least { S.durables.least core.new.blobs.tx.store ≡ S.durables.least core.old.blobs.tx.store }
+    ensures few { OnOk result (waiting_bytes (S.durables.list core.new.blobs.tx.store) < 8388608) }
+{
+    if core.blobs.tx.store.buffered() >= MOST_WAITING {
+        return keep_present(alloc, core);
+    }
+    Ok(())
+}
+
+/// Loads a block of the content, and has its payload wait as a file of the newest format.
+fn renew<S: Durable, K: Keeper, R: Rng>(
+    alloc: Global,
+    core: &mut Core<S, K>,
+    id: &BlockId,
+    chance: &mut R,
+) -> Result<(), MigrateError>
+    requires ready { Ready (world S.meanings S.holdings S.durables S.records K.Keeper) core.old }
+    requires live { is_some (S.holdings.content core.old.blobs.tx.store id.now.0) ≡ true }
+    ensures ready { Ready (world S.meanings S.holdings S.durables S.records K.Keeper) core.new }
+    ensures renews { Renews ShowsFiles (world S.meanings S.holdings S.durables S.records K.Keeper)
+        core.old (id.now.0 ∷ []) result core.new }
+{
+    let payload = match core.blobs.tx.store.load(alloc, id) {
+        Ok(Some(payload)) => payload,
+        Ok(None) => unreachable!(),
+        Err(fail) => return Err(load_error(fail)),
+    };
+    let mut batch = Batch::new(alloc);
+    match batch.put(id, payload) {
+        Ok(()) => {}
+        Err(Memory) => return Err(MigrateError::Memory),
+    }
+    match core.blobs.tx.store.apply(alloc, &batch, chance) {
+        Ok(()) => {
+            core.saver.changed = true;
+            Ok(())
+        }
+        Err(error) => Err(apply_error(error)),
+    }
+}
+
+/// The same, after a sync where 8 MiB wait.
+fn renew_next<S: Durable, K: Keeper, R: Rng>(
+    alloc: Global,
+    core: &mut Core<S, K>,
+    id: &BlockId,
+    chance: &mut R,
+) -> Result<(), MigrateError>
+    requires ready { Ready (world S.meanings S.holdings S.durables S.records K.Keeper) core.old }
+    requires fresh { core.old.violated ≡ false }
+    requires live { is_some (S.holdings.content core.old.blobs.tx.store id.now.0) ≡ true }
+    ensures ready { Ready (world S.meanings S.holdings S.durables S.records K.Keeper) core.new }
+    ensures renews { Renews ShowsFiles (world S.meanings S.holdings S.durables S.records K.Keeper)
+        core.old (id.now.0 ∷ []) result core.new }
+{
+    match make_room(alloc, core) {
+        Ok(()) => renew(alloc, core, id, chance),
+        Err(error) => Err(error),
+    }
+}
+
+/// Writes each block of the content anew, in this order.
+pub(crate) fn renew_all<S: Durable, K: Keeper, R: Rng>(
+    alloc: Global,
+    core: &mut Core<S, K>,
+    ids: &[BlockId],
+    chance: &mut R,
+) -> Result<(), MigrateError>
+    requires ready { Ready (world S.meanings S.holdings S.durables S.records K.Keeper) core.old }
+    requires fresh { core.old.violated ≡ false }
+    requires live { AreLive S.holdings core.old.blobs.tx.store (map (λ id. id.0) ids.now) }
+    requires once { NoDoubles (map (λ id. id.0) ids.now) }
+    ensures ready { Ready (world S.meanings S.holdings S.durables S.records K.Keeper) core.new }
+    ensures renews { Renews ShowsFiles (world S.meanings S.holdings S.durables S.records K.Keeper)
+        core.old (map (λ id. id.0) ids.now) result core.new }
+{
+    for id in ids {
+        match renew_next(alloc, core, id, chance) {
+            Ok(()) => {}
+            Err(error) => return Err(error),
+        }
+    }
+    Ok(())
+}
