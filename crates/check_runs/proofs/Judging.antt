@@ -64,6 +64,7 @@ module _ {V : Type 0} {K : Type 0} (trace : V → Option (List Call)) (faults : 
       no = tt;
       violation = tt;
       of_blocks = tt;
+      noticed = λ why needs. (tower_lawful trace faults).gave_same (store_of e.mount) why;
     };
     calm = λ kept now s honest. refl;
   }
@@ -87,6 +88,7 @@ module _ {V : Type 0} {K : Type 0} (trace : V → Option (List Call)) (faults : 
           (refuted held_of (trace_of trace) ((held_of a).size - 78) root live a b flaw r)) no;
       violation = o.met;
       of_blocks = blocks;
+      noticed = o.noticed;
     }
 
     calm : (kept now : Tree) → TowerStands ShowsFiles trace faults G a.mount.core kept now → lies_of trace faults b.mount ≤ lies_of trace faults a.mount → is_bad verdict ≡ false

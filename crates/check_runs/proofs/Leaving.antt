@@ -118,7 +118,7 @@ module _ {V : Type 0} (trace : V → Option (List Call)) (faults : V → ℕ) (n
   listed_calls (Ok (No flaw)) l = ap trace l
   listed_calls (Err fail) l = ap trace l
 
-  listed_grows : (verdict : Result Checked Fail) → ListsAfter trace faults names verdict old new status → faults old ≤ faults new
+  pub listed_grows : (verdict : Result Checked Fail) → ListsAfter trace faults names verdict old new status → faults old ≤ faults new
   listed_grows (Ok (Yes owners)) l = l.grows
   listed_grows (Ok (No flaw)) l = let e = ap faults l in omega (arith, e)
   listed_grows (Err fail) l = let e = ap faults l in omega (arith, e)
@@ -129,7 +129,7 @@ module _ {V : Type 0} (trace : V → Option (List Call)) (faults : V → ℕ) (n
   listed_quiet (Err fail) l unless = ap faults l
 
   -- no fault is passed over
-  directory_rests : (told : Option (List (List ℕ))) (output : Stream) (before : ℕ) (verdict : Result Checked Fail) → IsTold told verdict output status → IsQuiet verdict before (faults old)
+  pub directory_rests : (told : Option (List (List ℕ))) (output : Stream) (before : ℕ) (verdict : Result Checked Fail) → IsTold told verdict output status → IsQuiet verdict before (faults old)
       → ListsAfter trace faults names verdict old new status → status ≢ DirectoryFault → faults new ≡ before
   directory_rests told output before (Ok (Yes owners)) t quiet l unless = listed_quiet (Ok (Yes owners)) l unless ∙ quiet
   directory_rests told output before (Ok (No flaw)) t quiet l unless = ap faults l ∙ quiet
@@ -138,7 +138,7 @@ module _ {V : Type 0} (trace : V → Option (List Call)) (faults : V → ℕ) (n
   directory_rests told output before (Err fail.Memory) t quiet l unless = ap faults l ∙ quiet
 
   -- and none is made up
-  directory_cause : (told : Option (List (List ℕ))) (output : Stream) (before : ℕ) (verdict : Result Checked Fail) → IsTold told verdict output status → IsQuiet verdict before (faults old)
+  pub directory_cause : (told : Option (List (List ℕ))) (output : Stream) (before : ℕ) (verdict : Result Checked Fail) → IsTold told verdict output status → IsQuiet verdict before (faults old)
       → IfErr verdict (λ fail. HasCause fail before (faults old)) → ListsAfter trace faults names verdict old new status → status ≡ DirectoryFault → RoseBy 1 before (faults new)
   directory_cause told output before (Ok (Yes owners)) t quiet cause l e = subst (λ n. RoseBy 1 n (faults new)) quiet (l.failed e)
   directory_cause told output before (Ok (No flaw)) t quiet cause l e = let h : Violation ≡ DirectoryFault = sym t.0 ∙ e in absurd (cc)
@@ -148,7 +148,7 @@ module _ {V : Type 0} (trace : V → Option (List Call)) (faults : V → ℕ) (n
 
 -- ---- a run of a check says nothing of counts
 
-abbrev at : Option (List ℕ) → Option (List Call) → ℕ → ℕ → Outside
+abbrev pub at : Option (List ℕ) → Option (List Call) → ℕ → ℕ → Outside
 at kept calls v k = record { kept = kept; calls = calls; vault_faults = v; keeper_faults = k }
 
 other_counts : (password : List ℕ) (before : Outside) (kept : Option (List ℕ)) (calls : Option (List Call)) (v w k l : ℕ) (bad : Bool)
@@ -158,6 +158,7 @@ other_counts password before kept calls v w k l bad r = record {
   condemned = λ c tree o is_so. r.condemned c tree (record { stands = o.stands; unforged_config = o.unforged_config }) is_so;
   calm = λ c tree o honest. r.calm c tree (record { stands = o.stands; unforged_config = o.unforged_config }) honest;
   marked = λ m. r.marked m;
+  least = r.least;
 }
 
 -- ---- of a check that was told

@@ -18,7 +18,7 @@ module _ {T : Type 0} (held : T → Held) (trace : T → Option (List Call)) whe
   one_read : (h : Held) (a b : T) (id : Id) (answer : LoadAnswer) → held a ≡ h → loads_by held trace a b id answer → read_by h (trace a) (trace b) id answer
   one_read h a b id answer e load = record { held = refl; judged = subst (λ (k : Held). LoadAnswers k (trace a) (trace b) id (live_version k id) answer) e load.judged }
 
-  chained : (a b : T) (asked : Asked) → AskedBy (loads_by held trace) a asked b → (held b ≡ held a) × AskedBy (read_by (held a)) (trace a) asked (trace b)
+  pub chained : (a b : T) (asked : Asked) → AskedBy (loads_by held trace) a asked b → (held b ≡ held a) × AskedBy (read_by (held a)) (trace a) asked (trace b)
   chained a b [] same = (ap held same, ap trace same)
   chained a b (q ∷ qs) (mid, (before, load)) =
       let one = chained a mid qs before in

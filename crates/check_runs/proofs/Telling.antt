@@ -1,4 +1,4 @@
--- A check that was told, by what was found and how it was printed.
+-- A check or a survey that was told, by what was found and how it was printed.
 use Rattle.std.proofs.Common.{◌≡◌, ℕ, List, refl, sym, ◌∙◌, ap, subst}
 use Rattle.std.specs.Prelude.{Result, IsOk}
 use Rattle.std.specs.declared.option.Option.{Option}
@@ -11,11 +11,16 @@ use Rattle.run_status.specs.Statuses.{first_of}
 use Rattle.run_status.specs.declared.status.Status.{Status}
 use Rattle.run_status.specs.declared.status.Status.TheVariants.{Done}
 use Rattle.session_saver.specs.declared.saver.SyncError.{SyncError}
+use Rattle.check_texts.specs.Surveys.{IsSurveyTold}
 use Rattle.check_texts.specs.Telling.{IsTold, ListsAfter}
 use Rattle.check_runs.proofs.Leaving.{check_status, first_done}
+use Rattle.check_runs.proofs.SurveyLeaving.{survey_status}
 use Rattle.check_runs.specs.Examining.{IsExamined}
 use Rattle.check_runs.specs.Running.{IsCheckTold}
+use Rattle.check_runs.specs.SurveyRuns.{IsRefusalTold}
+use Rattle.check_runs.specs.Surveying.{IsSurveyedRun}
 use Rattle.check_runs.specs.declared.examining.Examination.{Examination}
+use Rattle.check_runs.specs.declared.surveying.Survey.{Survey}
 
 closed_well : (closing : Result Unit SyncError) → IsOk closing → closing_status closing ≡ Done
 closed_well (Ok u) ok = refl
@@ -31,6 +36,20 @@ told trace faults names G password output vault keeper x last status printed clo
       x = x;
       examined = examined;
       told = subst (λ (s : Status). IsTold (names x.vault) x.verdict output s) (sym is) t;
+      lists = subst (λ (s : Status). ListsAfter trace faults names x.verdict x.vault last s) (sym is) lists;
+      same_keeper = refl;
+    }
+
+pub survey_told : {V : Type 0} {K : Type 0} (trace : V → Option (List Call)) (faults : V → ℕ) (names : V → Option (List (List ℕ))) (G : KeeperGhosts K) (password : List ℕ) (output : Stream) (vault : V) (keeper : K) (x : Survey V K) (last : V)
+    (status printed closing : Status) → IsSurveyedRun trace faults G password vault keeper x → IsSurveyTold (names x.vault) x.verdict x.refused output printed → ListsAfter trace faults names x.verdict x.vault last printed
+    → status ≡ first_of printed closing → closing ≡ closing_status x.closing → IsRefusalTold trace faults names G password output vault keeper (record { status = status; vault = last; keeper = x.keeper })
+survey_told trace faults names G password output vault keeper x last status printed closing surveyed t lists first closes =
+    let is : status ≡ printed =
+    first ∙ (ap (first_of printed) (closes ∙ closed_well x.closing surveyed.leaves.closed) ∙ first_done printed (survey_status (names x.vault) x.verdict x.refused output printed t)) in
+    record {
+      x = x;
+      surveyed = surveyed;
+      told = subst (λ (s : Status). IsSurveyTold (names x.vault) x.verdict x.refused output s) (sym is) t;
       lists = subst (λ (s : Status). ListsAfter trace faults names x.verdict x.vault last s) (sym is) lists;
       same_keeper = refl;
     }

@@ -6,10 +6,12 @@ use Rattle.config_file.specs.Settings.{Settings, settings_of}
 use Rattle.fs_model.specs.Tree.{Tree}
 use Rattle.held_blocks.specs.Held.{Held}
 use Rattle.held_blocks.specs.Standing.{records}
+use Rattle.mount.proofs.Formats.{equal_same, loaded_same}
 use Rattle.mount.proofs.Reading.{represents_told}
 use Rattle.mount.proofs.Standing.{represents}
 use Rattle.mount.specs.Answering.{store_of, calls_of, vault_faults, keeper_faults, kept_of}
 use Rattle.mount.specs.declared.mount.Mount.{Mount}
+use Rattle.mount.specs.Formats.{TakesSame}
 use Rattle.mount.specs.Mounts.{IsReady}
 use Rattle.mount.specs.Representing.{Represents}
 use Rattle.mount.specs.Tower.{TowerStands, TowerConfigures}
@@ -40,6 +42,7 @@ use Rattle.tree_commands.specs.Showing.{ShowsFiles}
 use Rattle.check_runs.specs.declared.examining.Examination.{Examination}
 use Rattle.check_runs.specs.Judging.{is_bad, held_for, IsJudged, Settles}
 use Rattle.check_runs.specs.Examining.{Examines, LeavesExamined, IsExamined}
+use Rattle.check_runs.proofs.Opened.{called_for, is_opened, stood, represents_last, fewer_lies, config_left}
 
 true_is_false : true ≡ false → ⊥
 true_is_false e = cc
@@ -150,75 +153,50 @@ module _ {V : Type 0} {K : Type 0} (trace : V → Option (List Call)) (faults : 
 
   -- ---- what was judged is what the record calls for
 
-  held_is : held_in (store_of first) ≡ held_for (settings_of first.opened.config) b.attached.state
-  held_is =
-      let h = held_in (store_of first) in
-      let whole = b.ready.core.whole in
-      let last : KeepsRecord (kept_of G first) h.state [] = record { bytes = first.core.saver.last.items; kept = whole.kept b.unchanged; is_record = whole.last b.unchanged } in
-      let state : h.state ≡ b.attached.state = (same_kept (kept_of G first) h.state b.attached.state [] [] last b.attached.kept).0 in
-      let size : h.size ≡ first.opened.config.block_size = ap (λ (i : Identity). i.size) b.ready.identity in
-      let opens = ap (λ (i : Identity). i.opens) b.ready.identity in
-      let none = whole.none b.unchanged in
-      λ i. record { size = size i; opens = opens i; state = state i; list = none i }
-
   judged_is : IsJudged (held_for (settings_of first.opened.config) b.attached.state) (settings_of first.opened.config).root (calls_of trace first) (trace x.vault) x.verdict
   judged_is =
-      let c = settings_of first.opened.config in
-      let root : first.core.root.0 ≡ c.root = ap (λ r. r.0) b.ready.root in
-      let j = e.judges.judged (b.ready.core.whole.none b.unchanged) in
-      subst (λ (t : Option (List Call)). IsJudged (held_for c b.attached.state) c.root (calls_of trace first) t x.verdict) (sym last_calls)
-      (subst (λ (r : List ℕ). IsJudged (held_for c b.attached.state) r (calls_of trace first) (calls_of trace mid) x.verdict) root
-      (subst (λ (h : Held). IsJudged h first.core.root.0 (calls_of trace first) (calls_of trace mid) x.verdict) held_is j))
+      subst (λ (t : Option (List Call)). IsJudged (held_for (settings_of first.opened.config) b.attached.state) (settings_of first.opened.config).root (calls_of trace first) t x.verdict) (sym last_calls)
+      (called_for trace faults G password vault keeper first b (λ h r. IsJudged h r (calls_of trace first) (calls_of trace mid) x.verdict) (e.judges.judged (b.ready.core.whole.none b.unchanged)))
 
   -- ---- the configuration that opened is the one
 
   module _ (c : Settings) (tree : Tree) (f : OpensTo ShowsFiles password c tree Before After) where
-    is_opened : settings_of first.opened.config ≡ c
-    is_opened =
-        let on = subst (λ (t : Option (List Call)). GoesOn (calls_of trace first) t) (sym last_calls) ((tower_enduring trace faults).loaded_goes_on (store_of first) (store_of mid) only.loaded) in
-        b.config c (represents_told ShowsFiles Before.kept Before.calls c tree f.stands)
-        (each_before password Before.kept Before.calls (calls_of trace first) After.calls on f.unforged_config)
+    pub configured : settings_of first.opened.config ≡ c
+    configured = is_opened trace faults G password vault keeper first b mid After only last_calls c tree f
 
-    stood : TowerStands ShowsFiles trace faults G first.core tree tree
-    stood = b.stands tree (subst (λ (s : Settings). Represents ShowsFiles Before.kept Before.calls s tree) (sym is_opened) f.stands)
-
-    -- loading leaves what is kept
-    represents_mid : Represents ShowsFiles (kept_of G first) (calls_of trace mid) c tree
-    represents_mid =
-        let r = represents ShowsFiles (settings_of first.opened.config) b.ready.salt _ _ _ (kept_of G first) (calls_of trace first) tree (ap (λ (i : Identity). i.size - 78) b.ready.identity) (ap (λ r. r.0) b.ready.root) b.ready.identity stood.keeps in
-        let k = r.keeps.represents in
-        let on = (tower_enduring trace faults).loaded_stands (store_of first) (store_of mid) (identity_for (settings_of first.opened.config) r.salt) k.0 r.keeps.content only.loaded k.2 in
-        subst (λ (s : Settings). Represents ShowsFiles (kept_of G first) (calls_of trace mid) s tree) is_opened
-        (record { salt = r.salt; keeps = record { content = r.keeps.content; represents = (k.0, k.1, on); shown = r.keeps.shown } })
-
-    represents_last : G.kept x.keeper ≡ kept_of G first → OutsideStandsFor ShowsFiles c tree After
-    represents_last same =
-        subst (λ (k : Option (List ℕ)). Represents ShowsFiles k (trace x.vault) c tree) (sym same)
-        (subst (λ (t : Option (List Call)). Represents ShowsFiles (kept_of G first) t c tree) (sym last_calls) represents_mid)
+    stands_last : G.kept x.keeper ≡ kept_of G first → OutsideStandsFor ShowsFiles c tree After
+    stands_last = represents_last trace faults G password vault keeper first b mid After only last_calls c tree f
 
     marked_last : IsKeptMarked records After.kept ⊎ OutsideStandsFor ShowsFiles c tree After
     marked_last = elim (marked trace faults G mid set bad e.settles e.judges.ready) [
       | inl m ↦ inl (subst (λ (k : Option (List ℕ)). IsKeptMarked records k) (sym last_kept) m)
-      | inr same ↦ inr (represents_last (last_kept ∙ (same ∙ mid_kept)))
+      | inr same ↦ inr (stands_last (last_kept ∙ (same ∙ mid_kept)))
     ]
 
     calm_last : lies After ≤ lies Before → bad ≡ false
-    calm_last honest = e.judges.calm tree tree stood (let l = ap (count_told is_lie) last_calls in let g = b.lies in omega (arith, l, g, honest))
+    calm_last honest = e.judges.calm tree tree (stood trace faults G password vault keeper first b mid After only last_calls c tree f) (fewer_lies trace faults G password vault keeper first b mid After only last_calls honest)
+
+  -- what is kept is marked, or what opening left
+  taken : TakesSame Before.kept After.kept
+  taken = λ least takes. elim (marked trace faults G mid set bad e.settles e.judges.ready) [
+    | inl m ↦ inl (subst (λ (k : Option (List ℕ)). IsKeptMarked records k) (sym last_kept) m)
+    | inr same ↦ equal_same (kept_of G first) After.kept (last_kept ∙ (same ∙ mid_kept)) least (loaded_same Before.kept (kept_of G first) b.attached.state b.attached.list [] b.attached.loaded b.attached.kept least takes)
+  ]
 
   run : IsExaminedRun ShowsFiles password Before After bad
   run = record {
-    stands = λ c tree f fine. represents_last c tree f (unsaved_after fine).0;
+    stands = λ c tree f fine. stands_last c tree f (unsaved_after fine).0;
     condemned = λ c tree f is. marked_last c tree f;
     calm = calm_last;
     marked = λ m. absurd (unmarked m);
+    least = taken;
   }
 
   -- ---- the configuration's file
 
   kept_file : (file : List ℕ) → is_some Before.calls ≡ true → KeptConfigures records Before.kept Before.calls file → KeptConfigures records After.kept After.calls file
   kept_file file told k =
-      let c = configures_loaded ShowsFiles (tower_meanings trace faults) (tower_holdings trace) (tower_durables trace) records G (tower_applied trace) (tower_enduring trace faults) first.core mid.core (file ∷ []) file
-      (b.configures file told k) only.loaded e.judges.stays mid_kept (ap (λ (s : Saver K). s.last.items) only.beside.saver) in
+      let c = config_left trace faults G password vault keeper first b mid After only last_calls e.judges.stays file told k in
       let done = configures trace faults G mid set bad e.settles file c in
       let calls = last_calls ∙ sym (ap (λ (s : Cached V). trace_in trace s) (same_store trace faults G mid set bad e.settles)) in
       subst (λ (k : Option (List ℕ)). KeptConfigures records k (trace x.vault) file) (sym last_kept)
@@ -235,7 +213,7 @@ module _ {V : Type 0} {K : Type 0} (trace : V → Option (List Call)) (faults : 
     attached = b.attached;
     judged = judged_is;
     leaves = leaves;
-    config = is_opened;
+    config = configured;
     unmarked = unmarked;
     run = run;
     opens = opens;

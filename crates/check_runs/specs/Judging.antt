@@ -14,7 +14,7 @@ use Rattle.fs_model.specs.Tree.{Tree}
 use Rattle.given_reads.specs.Reads.{GivesReads}
 use Rattle.held_blocks.specs.Held.{Held}
 use Rattle.held_blocks.specs.Loads.{loads_by}
-use Rattle.held_blocks.specs.Reads.{FoundSince}
+use Rattle.held_blocks.specs.Reads.{FoundSince, GaveWrong}
 use Rattle.local_state.specs.Known.{live_ids}
 use Rattle.local_state.specs.Record.{PlainState}
 use Rattle.mount.specs.Answering.{store_of, lies_of, vault_faults}
@@ -25,7 +25,7 @@ use Rattle.mount_blocks.specs.Examined.{OnlyExamined, held_of, trace_of}
 use Rattle.mount_blocks.specs.declared.examined.Examined.{Examined}
 use Rattle.mount_calls.specs.Condemning.{Condemns}
 use Rattle.mount_tower.specs.Tower.{tower_holdings}
-use Rattle.outcome.specs.Meanings.{IsOfBlocks, HasCause, IsQuiet, OnVerdict}
+use Rattle.outcome.specs.Meanings.{IsNoticed, IsOfBlocks, HasCause, IsQuiet, OnVerdict}
 use Rattle.outside.specs.Trace.{Call}
 use Rattle.outside.specs.declared.keeper.Keeper.{Ghosts as KeeperGhosts}
 use Rattle.store_api.specs.Content.{Id}
@@ -63,6 +63,8 @@ pub record IsJudged (h : Held) (root : Id) (old new : Option (List Call)) (verdi
   -- what is said of one block is so, and the structure is never named
   pub violation : IfErr verdict (λ fail. OnVerdict fail (FoundSince h old new))
   pub of_blocks : IfErr verdict IsOfBlocks
+  -- and no wrong file that came is passed over
+  pub noticed : IsNoticed verdict (GaveWrong h old new)
 
 -- ---- of a mount
 

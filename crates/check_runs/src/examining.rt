@@ -37,7 +37,10 @@ pub fn is_bad(verdict: &Result<Checked, Fail>) -> bool
 }
 
 /// Loads each live block from the directory, and judges what they hold.
-fn judge<V: Vault, K: Keeper>(alloc: Global, examined: &mut Examined<V, K>) -> Result<Checked, Fail>
+pub(crate) fn judge<V: Vault, K: Keeper>(
+    alloc: Global,
+    examined: &mut Examined<V, K>,
+) -> Result<Checked, Fail>
     requires { IsReady V.trace V.faults K.Keeper examined.old.mount }
     ensures { Judges V.trace V.faults K.Keeper examined.old examined.new result }
 {

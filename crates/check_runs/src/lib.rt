@@ -4,6 +4,10 @@
 
 mod examining;
 mod running;
+mod survey_run;
+mod surveying;
 
 pub use examining::{Examination, examine};
 pub use running::run_check;
+pub use survey_run::run_survey;
+pub use surveying::{Survey, survey_under};

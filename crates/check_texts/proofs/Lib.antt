@@ -3,3 +3,4 @@ mod Owned
 mod Searching
 mod Beside
 mod Told
+mod Violating

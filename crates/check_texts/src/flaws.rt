@@ -52,7 +52,7 @@ fn print<O: Sink>(text: &[u8], output: &mut O) -> End
 }
 
 /// Appends the line of a flaw.
-fn push_flaw(out: &mut Vec<u8>, flaw: &Flaw) -> Result<(), Memory>
+pub(crate) fn push_flaw(out: &mut Vec<u8>, flaw: &Flaw) -> Result<(), Memory>
     ensures text { Appends out.old out.new result (flaw_text flaw.now) }
     ensures short { length (flaw_text flaw.now) ≤ 256 }
 {

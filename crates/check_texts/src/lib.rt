@@ -6,8 +6,11 @@ mod error;
 mod flaws;
 mod owners;
 mod page;
+mod refused;
 mod strangers;
+mod surveys;
 mod telling;
 
 pub use page::{FULL_PAGE, Page};
+pub use surveys::tell_survey;
 pub use telling::tell_verdict;

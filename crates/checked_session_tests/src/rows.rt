@@ -90,3 +90,43 @@ fn a_check_takes_no_more_words_and_needs_the_password(rt: HostRuntime) -> Result
     check(alloc, system, FOUND, Status::Done)?;
     Ok(())
 }
+
+/// A survey that has to print this and end with this status.
+fn survey(alloc: Global, system: System, text: &str, status: Status) -> Result<System, Fail> {
+    expect(
+        alloc,
+        system,
+        &plain(&["check", "--all"], "pw"),
+        text,
+        status,
+    )
+}
+
+#[test]
+fn a_survey_names_each_refused_block_and_marks_nothing(rt: HostRuntime) -> Result<(), Fail> {
+    let alloc = rt.alloc();
+    let mut sound = survey(alloc, with_stranger(alloc)?, FOUND, Status::Done)?;
+    let honest = copy_files(alloc, &sound.vault)?;
+    store(alloc, &mut sound, block(2), None)?;
+    let text =
+        "violation missing\nblock 00000000000000000000000000000002 /a violation missing\nrefused 1\n";
+    let first = survey(alloc, sound, text, Status::Violation)?;
+    let mut second = survey(alloc, first, text, Status::Violation)?;
+    second.vault.set_files(honest);
+    check(alloc, second, FOUND, Status::Done)?;
+    Ok(())
+}
+
+#[test]
+fn what_is_below_a_refused_directory_has_no_path(rt: HostRuntime) -> Result<(), Fail> {
+    let alloc = rt.alloc();
+    let system = with_stranger(alloc)?;
+    let old = file(alloc, system.vault.files(), block(1))?;
+    let mut later = session(alloc, system, "mkdir /b\n", "ok\n", Status::Done)?;
+    store(alloc, &mut later, block(1), Some(old))?;
+    store(alloc, &mut later, block(2), None)?;
+    let text =
+        "violation old-version 3 2\nblock 00000000000000000000000000000001 / violation old-version 3 2\nblock 00000000000000000000000000000002 ? violation missing\nrefused 2\n";
+    survey(alloc, later, text, Status::Violation)?;
+    Ok(())
+}

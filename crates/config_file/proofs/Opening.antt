@@ -2,7 +2,7 @@
 use Rattle.std.proofs.Common.{[], ◌≡◌, ℕ, ◌≤◌, List, ◌++◌, length, drop, Option, Some, option_and_then, refl, sym, ap, ◌∙◌, subst, arith, length-drop}
 use Rattle.std.proofs.lemmas.List.{length-take-le}
 use Rattle.std.specs.List.{slice_range}
-use Rattle.aes_gcm.proofs.Opening.{length-sealed_of, opened_of-sealed_of}
+use Rattle.aes_gcm.specs.Opening.{length-sealed_of, opened_of-sealed_of}
 use Rattle.aes_gcm.specs.Gcm.{opened_of, sealed_of}
 use Rattle.scrypt_kdf.specs.Cost.{IsAllowed}
 use Rattle.serde_json.specs.Read.{read}

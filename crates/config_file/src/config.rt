@@ -35,12 +35,15 @@ pub struct Opened {
 }
 
 impl Sealer for Cipher {
-    ghost use Rattle.aes_gcm.specs.Gcm.{opened_of};
+    ghost use Rattle.aes_gcm.specs.Gcm.{opened_of, sealed_of};
     ghost use Rattle.aes_gcm.specs.Lengths.{length-opened_of, opened_of-agrees};
+    ghost use Rattle.aes_gcm.specs.Opening.{seals-sealed_of};
 
     ghost iv_size = { λ _. 16 };
 
     ghost opens = { λ _ key extra text. opened_of key extra text };
+
+    ghost sealed = { λ _ key iv extra plain. sealed_of key iv extra plain };
 
     fn iv_len(&self) -> usize {
         Aes256Gcm.iv_len()
@@ -66,6 +69,8 @@ impl Sealer for Cipher {
     ) -> Result<Option<Vec<u8>>, Memory> {
         Aes256Gcm.unseal_with(alloc, key, extra, sealed)
     }
+
+    ghost seals = { λ _ key iv extra plain len. seals-sealed_of key iv extra plain len };
 
     ghost lengths = { λ _ key extra text plain opens. length-opened_of key extra text plain opens };
 

@@ -75,6 +75,7 @@ module _ {S : Type 0} (M : Meanings S) (H : Holdings S) (loads : S → S → Id 
       met = tt;
       fault = tt;
       quiet = o.quiet;
+      noticed = o.noticed;
       value = λ n s few.
           let agrees = ((asked_true M H laws steady loads a b f.asked f.by).true_ s few).1 in
           refutes payload root (ids live) (given_of f.asked) flaw f.has (H.content a) agrees (λ id. sym (alive id)) n.map n.stores n.tree n.shows;

@@ -7,4 +7,6 @@ mod place;
 mod visiting;
 
 pub use checking::{Checked, check};
-pub use owners::Owners;
+pub use owners::{Owners, path_at};
+pub use place::{Place, Visit, place_entries, visit_at};
+pub use visiting::visit;

@@ -50,6 +50,19 @@ fn names_up(alloc: Global, places: &[Place], number: u32) -> Result<Vec<Name>, M
     Ok(names)
 }
 
+/// The path of this number, with its names from the root on.
+pub fn path_at(alloc: Global, places: &[Place], number: u32) -> Result<Path, Memory>
+    requires { AreBehind (places_text places.now) }
+    ensures { IfOk result (λ path. path ≡ reverse (get_or (paths_of (places_text places.now)) number [])) }
+{
+    let mut names = names_up(alloc, places, number)?;
+    let mut path = Path::root(alloc);
+    while let Some(name) = names.pop() {
+        path.push(name)?;
+    }
+    Ok(path)
+}
+
 impl Owners {
     /// The owners that these marks name among these places.
     pub(crate) fn new(marks: Marks, places: Vec<Place>) -> Owners
@@ -84,11 +97,7 @@ impl Owners {
             Some(mark) => mark,
             None => return Ok(None),
         };
-        let mut names = names_up(alloc, &self.places, mark.owner.saturating_sub(1))?;
-        let mut path = Path::root(alloc);
-        while let Some(name) = names.pop() {
-            path.push(name)?;
-        }
+        let path = path_at(alloc, &self.places, mark.owner.saturating_sub(1))?;
         Ok(Some(path))
     }
 }

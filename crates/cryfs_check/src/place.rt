@@ -12,21 +12,21 @@ use fs_model::Kind;
 
 /// A path below the root: the number of its directory (0 is the root, n the n-th place), and its entry there.
 #[derive(Drop)]
-pub(crate) struct Place {
+pub struct Place {
     pub parent: u32,
     pub entry: Entry,
 }
 
 /// What is to be visited: a blob, the kind that its entry names, and the blob of its directory.
 #[derive(Clone, Copy)]
-pub(crate) struct Visit {
+pub struct Visit {
     pub id: BlockId,
     pub kind: Kind,
     pub parent: BlockId,
 }
 
 /// Puts the entries of the directory of this number behind the places.
-pub(crate) fn place_entries(
+pub fn place_entries(
     places: &mut Vec<Place>,
     number: u32,
     entries: Vec<Entry>,
@@ -56,7 +56,7 @@ fn blob_at(places: &[Place], root: &BlockId, number: u32) -> BlockId
 }
 
 /// What is to be visited at this number, or None where the table ends.
-pub(crate) fn visit_at(places: &[Place], root: &BlockId, number: u32) -> Option<Visit>
+pub fn visit_at(places: &[Place], root: &BlockId, number: u32) -> Option<Visit>
     requires { AreBehind (places_text places.now) }
     ensures { option_map visit_needs result ≡ option_map site_needs (slice_get (sites_of root.now.0 (places_text places.now)) number) }
 {

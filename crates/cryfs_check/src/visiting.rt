@@ -79,7 +79,7 @@ fn judge(alloc: Global, kind: Kind, len: u64, body: &[u8]) -> Result<Option<Vec<
 }
 
 /// Walks the blob that is to be visited. The entries of a directory, or none.
-pub(crate) fn visit<B: Blocks>(
+pub fn visit<B: Blocks>(
     alloc: Global,
     store: &mut B,
     marks: &mut Marks,

@@ -61,6 +61,7 @@ examined_call trace faults G a b beside ready o stays =
       met = o.met;
       fault = o.fault;
       quiet = o.quiet;
+      noticed = o.noticed;
       value = o.value;
       structure = o.structure;
     }

@@ -44,6 +44,7 @@ examined_meanings trace faults G = record {
   faults = λ e. vault_faults trace faults e.mount;
   loaded = λ a b. OnlyExamined trace faults a.mount b.mount;
   met = λ a b. (tower_meanings trace faults).met (store_of a.mount) (store_of b.mount);
+  gave = λ a b. (tower_meanings trace faults).gave (store_of a.mount) (store_of b.mount);
 }
 
 abbrev pub examined_holdings : {V : Type 0} → {K : Type 0} → (V → Option (List Call)) → Holdings (Examined V K)

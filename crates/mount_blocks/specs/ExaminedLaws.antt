@@ -46,6 +46,8 @@ examined_lawful trace faults G =
       faults_grow = λ a b h. l.faults_grow (store_of a.mount) (store_of b.mount) h.loaded;
       honest_unforged = λ a b h. l.honest_unforged (store_of a.mount) (store_of b.mount) h.loaded;
       honest_unmet = λ a b why h. l.honest_unmet (store_of a.mount) (store_of b.mount) why h.loaded;
+      gave_same = λ a. l.gave_same (store_of a.mount);
+      gave_split = λ a b c why h k. l.gave_split (store_of a.mount) (store_of b.mount) (store_of c.mount) why h.loaded k.loaded;
     }
 
 pub examined_steady : {V : Type 0} {K : Type 0} (trace : V → Option (List Call)) (faults : V → ℕ) (G : KeeperGhosts K) → Steady (examined_meanings {V = V} {K = K} trace faults G) (examined_holdings trace)

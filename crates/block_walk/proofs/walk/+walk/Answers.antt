@@ -224,3 +224,17 @@ walk_in-returns-else-full-2-clause-halted g t c =
     if_err c.walk_children.result (λ halt h. halted_as h
     (λ C flaw f. flaw_among (H.payload c.args.store.now) C c.args.marks.now (H.content c.args.store.now) c.args.id.now.0 (node_of c.args.node.now) (under c.args.need.level.depth c.args.need.full) c.below-below.result.depth c.in-Inner.depth children is level flaw f))
     c.walk_children.ensures.halted
+
+-- ---- what was loaded on the way
+
+pub walk_below-returns-clause-outcome : goal.walk_below-returns-clause-outcome
+walk_below-returns-clause-outcome g t c = then_ g.met.B.Blocks.lawful c.in-Ok.ensures.outcome (λ m h. tt) c.walk_in.ensures.outcome (λ m h y k. tt)
+
+pub walk_children-returns-in-Err-clause-outcome : goal.walk_children-returns-in-Err-clause-outcome
+walk_children-returns-in-Err-clause-outcome g t c = then_ g.met.B.Blocks.lawful c.loop-child.invariant.outcome (λ m h. tt) c.in-Err.ensures.outcome (λ m h y k. tt)
+
+pub walk_children-returns-in-Ok-walk_below-clause-outcome : goal.walk_children-returns-in-Ok-walk_below-clause-outcome
+walk_children-returns-in-Ok-walk_below-clause-outcome g t c = then_ g.met.B.Blocks.lawful c.loop-child.invariant.outcome (λ m h. tt) c.in-Ok-walk_below.ensures.outcome (λ m h y k. tt)
+
+pub walk_children-returns-in-Err-walk_below-clause-outcome : goal.walk_children-returns-in-Err-walk_below-clause-outcome
+walk_children-returns-in-Err-walk_below-clause-outcome g t c = then_ g.met.B.Blocks.lawful c.loop-child.invariant.outcome (λ m h. tt) c.in-Err-walk_below.ensures.outcome (λ m h y k. tt)

@@ -10,6 +10,7 @@ use Rattle.block_walk.proofs.Halting.{halted_then, halted_here, if_err}
 use Rattle.block_walk.proofs.Onward.{unfit_as, flaw_in, flaw_among, no_level}
 use Rattle.block_walk.proofs.Walking.{walked_then, walked_as, walked_bytes, if_ok}
 use Rattle.block_walk.proofs.Filling.{leaf_blob, inner_blob}
+use Rattle.outcome.specs.Outcome.{then_}
 use Rattle.block_walk.proofs.walk.walk_root.Goals as goal
 
 pub returns-in-Ok-push-clause-walked : goal.returns-in-Ok-push-clause-walked
@@ -102,3 +103,6 @@ returns-clause-halted g c =
     if_err c.walk_children.result (λ halt h. halted_then c.requires.owner (c.in-Ok.ensures.walked c.args.front.now) h
     (λ C w ids flaw none at marked f. flaw_in p (H.payload c.load_node.new.store) C c.args.marks.now c.load_node.new.marks (H.content c.args.store.now) (H.content c.load_node.new.store) c.args.owner id node top w ids stays.payload marked stays.ids at flaw
     (flaw_among (H.payload c.load_node.new.store) C c.load_node.new.marks (H.content c.load_node.new.store) id node top low c.in-Inner.depth children is level flaw f))) c.walk_children.ensures.halted
+
+pub returns-clause-outcome : goal.returns-clause-outcome
+returns-clause-outcome g c = then_ g.met.B.Blocks.lawful c.in-Ok.ensures.outcome (λ m h. tt) c.walk_children.ensures.outcome (λ m h y k. tt)

@@ -52,3 +52,6 @@ returns-in-Err-clause-stopped g c =
 
 pub returns-clause-stopped : goal.returns-clause-stopped
 returns-clause-stopped g c = stopped_end (g.B.Blocks.holdings.content c.args.store.now) c.loop-number.invariant.visited
+
+pub returns-in-Err-clause-outcome : goal.returns-in-Err-clause-outcome
+returns-in-Err-clause-outcome g c = then_ g.met.B.Blocks.lawful c.loop-number.invariant.outcome (λ m h. tt) c.in-Err.ensures.outcome (λ m h y k. tt)

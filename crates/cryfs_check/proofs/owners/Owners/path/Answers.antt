@@ -1,5 +1,5 @@
-use Rattle.std.proofs.Common.{◌≡◌, ℕ, ◌-◌, List, [], ◌++◌, take, get_or, sym, ◌∙◌, ap, append-nil}
-use Rattle.std.specs.Prelude.{Some, reverse, vec_len}
+use Rattle.std.proofs.Common.{◌≡◌, ℕ, ◌-◌, List, [], get_or, sym, ◌∙◌, ap}
+use Rattle.std.specs.Prelude.{Some, reverse}
 use Rattle.std.specs.List.{slice_get}
 use Rattle.std.specs.Option.{option_map}
 use Rattle.std.proofs.lemmas.Option.{slice_get-map}
@@ -7,7 +7,7 @@ use Rattle.fs_model.specs.Tree.{Path}
 use Rattle.store_api.specs.Content.{Id}
 use Rattle.block_walk.specs.Marks.{mark_entry}
 use Rattle.cryfs_check.specs.declared.place.Place.{Place}
-use Rattle.cryfs_check.specs.Places.{places_text, paths_of, owners_of}
+use Rattle.cryfs_check.specs.Places.{places_text, paths_of}
 use Rattle.cryfs_check.proofs.owners.Owners.path.Goals as goal
 
 pub returns : goal.returns
@@ -20,11 +20,6 @@ returns c =
     let owner : slice_get c.args.self.now i ≡ Some (mark.0, path) =
     ap (λ (list : List (Id × Path)). slice_get list i) (sym c.self.view_is)
     ∙ (slice_get-map (λ (m : Id × ℕ). (m.0, get_or (paths_of places) (m.1 - 1) [])) marks i ∙ ap (option_map (λ (m : Id × ℕ). (m.0, get_or (paths_of places) (m.1 - 1) []))) (sym c.in-Some.ensures)) in
-    let names : c.in_ok-names.names.items ≡ path =
-    c.in_ok-names.ensures ∙ (ap (λ (xs : List Place). get_or (paths_of (places_text xs)) c.saturating_sub.result []) c.deref.ensures.value ∙ ap (λ n. get_or (paths_of places) n []) c.saturating_sub.ensures) in
-    let none : vec_len c.loop-name.names ≡ 0 = c.in_default.ensures.cases.0 in
-    let empty : c.loop-name.names.items ≡ [] =
-    c.in_default.ensures.items ∙ (append-nil c.pop.new.self.items ∙ (c.in_default.ensures.rest ∙ ap (λ n. take (n - 1) c.loop-name.names.items) none)) in
-    let whole : c.loop-name.path ≡ reverse path =
-    sym (append-nil c.loop-name.path) ∙ (ap (λ (xs : List (List ℕ)). c.loop-name.path ++ reverse xs) (sym empty) ∙ (c.loop-name.invariant ∙ ap reverse names)) in
-    ap Some whole ∙ ap (option_map (λ (o : Id × Path). reverse o.1)) (sym owner)
+    let told : c.in_ok-path.path ≡ reverse path =
+    c.in_ok-path.ensures ∙ (ap (λ (xs : List Place). reverse (get_or (paths_of (places_text xs)) c.saturating_sub.result [])) c.deref.ensures.value ∙ ap (λ n. reverse (get_or (paths_of places) n [])) c.saturating_sub.ensures) in
+    ap Some told ∙ ap (option_map (λ (o : Id × Path). reverse o.1)) (sym owner)

@@ -1,6 +1,6 @@
 use Rattle.std.proofs.Common.{◌≡◌, ◌++◌}
 use Rattle.std.specs.Prelude.{reverse, vec_len}
-use Rattle.cryfs_check.proofs.owners.Owners.path.Given as goal
+use Rattle.cryfs_check.proofs.owners.path_at.Given as goal
 
 abbrev pub invariant-loop-name : goal.invariant-loop-name
 invariant-loop-name l = l.path ++ reverse l.names.items ≡ reverse l.initial.names.items

@@ -1,0 +1,8 @@
+//! A survey of a store's blocks: each is asked for once, and those that are refused are told.
+#![tactic(auto)]
+
+mod exploring;
+mod survey;
+
+pub use exploring::explore_blob;
+pub use survey::{Refused, survey_blocks};
