@@ -1,7 +1,7 @@
 -- A directory as a blob.
 use Rattle.std.specs.Prelude.{◌≡◌, ◌≤◌, ◌+◌, ◌-◌, ℕ, true, false, List, ◌++◌, length, take, drop, Option, Some, None, Result, Ok, Err, IfOk}
 use Rattle.std.proofs.Common.{refl, sym, ◌∙◌, ap, subst, arith}
-use Rattle.std.specs.FinMap.{get, find, put, insert, get-insert, same_map}
+use Rattle.std.specs.FinMap.{get, put, insert, get-insert, same_map}
 use Rattle.std.specs.Ordering.{eq_by_cmp}
 use Rattle.std.specs.Prelude.{Bool, cond}
 use Rattle.fs_model.proofs.TreeLemmas.{name_total, name_exact}
@@ -16,7 +16,7 @@ use Rattle.fs_model.specs.Tree.{name_cmp}
 use Rattle.fs_blobs.specs.Headers.{blob}
 use Rattle.dir_entries.specs.Layout.{EntryTarget, entry_text, IsEntry}
 use Rattle.dir_entries.specs.Places.{target_of, without, IsPlace}
-use Rattle.dir_blob.specs.Directories.{HasEntries, HasName, HasRoom}
+use Rattle.dir_blob.specs.Directories.{HasEntries, HasName, HasNameIn, HasRoom}
 use Rattle.dir_entries.proofs.Edits.{inserted, changed, removed, put_listing, without_listing, held_entry, place_within}
 use Rattle.std.proofs.lemmas.List.{take_all, length-drop}
 use Rattle.std.proofs.lemmas.Nat.{le-div}
@@ -27,7 +27,7 @@ use Rattle.fs_model.specs.declared.attr.Kind.TheVariants.{Directory}
 use Rattle.fs_blobs.specs.declared.header.TheConstants.{HEADER_LEN}
 use Rattle.fs_blobs.specs.Blobs.{IsBlob}
 use Rattle.fs_blobs.proofs.Parts.{map_here}
-use Rattle.dir_entries.specs.Layout.{Listing, IsListing, body_of}
+use Rattle.dir_entries.specs.Layout.{IsBody, body_of}
 use Rattle.dir_blob.specs.Directories.{IsDirectory}
 
 abbrev pub blob_of : {S : Type 0} {H : BlobHoldings S} {a : S} {id : Id} → IsDirectory H a id → IsBlob H a id
@@ -80,28 +80,29 @@ pub cut_stands : {S : Type 0} (H : BlobHoldings S) (b : S) (m : BlobMap) (id par
 cut_stands H b m id parent old from bytes end_ after same stands =
     subst (H.stands_for b) (insert_again m id (blob Directory parent (written old from bytes)) (blob Directory parent (resized (written old from bytes) end_)) ∙ ap (λ z. insert m id (blob Directory parent z)) same) stands
 
+-- the body that was read is the directory's, and fits its blob
+module _ {S : Type 0} {H : BlobHoldings S} {a : S} {id : Id} {body name : List ℕ} (n : HasNameIn H a id body name) where
+  pub read_body : IsBody body n.named.is.listing
+  read_body = record { entries = n.named.is.entries; text = n.text }
+
+  pub read_fits : HEADER_LEN + length body ≤ MAX_BLOB
+  read_fits = omega (arith, n.named.is.fits, ap length n.text)
+
 -- the place of a name that is there
-module _ (name : List ℕ) (listing : Listing) (old : EntryTarget) (front : ℕ) (found : Option (Attr × BlockId)) (back : List ℕ)
-    (place : IsPlace name listing front (target_of found) back) (present : find name_cmp name listing ≡ Some old) where
-  pub place_old : IsPlace name listing front (Some old) back
-  place_old = subst (λ o. IsPlace name listing front o back) (sym place.finds ∙ present) place
+module _ {S : Type 0} {H : BlobHoldings S} {a : S} {id : Id} (name : List ℕ) (n : HasName H a id name) (front : ℕ) (back : List ℕ) (place : IsPlace name n.is.listing front (Some n.target) back) where
+  was : IsEntry (name, n.target)
+  was = held_entry name n.target n.is.listing front back place n.is.entries
 
-  pub change_fits : (target : EntryTarget) → IsListing listing → IsEntry (name, target) → front + length (entry_text (name, target)) ≤ length (body_of listing)
-  change_fits target entries own = place_within name old target listing front back place_old (held_entry name old listing front back place_old entries) own
-
-module _ {S : Type 0} {H : BlobHoldings S} {a : S} {id : Id} (name : List ℕ) (n : HasName H a id name) (front : ℕ) (found : Option (Attr × BlockId)) (back : List ℕ)
-    (place : IsPlace name n.is.listing front (target_of found) back) where
-  old_place : IsPlace name n.is.listing front (Some n.target) back
-  old_place = place_old name n.is.listing n.target front found back place n.present
+  pub change_fits : (target : EntryTarget) → IsEntry (name, target) → front + length (entry_text (name, target)) ≤ length (body_of n.is.listing)
+  change_fits target own = place_within name n.target target n.is.listing front back place was own
 
   pub changed_entries : (b : S) (target : EntryTarget) (bytes : List ℕ) → IsEntry (name, target) → bytes ≡ entry_text (name, target)
       → H.stands_for b (insert n.is.map id (blob Directory n.is.parent (written (body_of n.is.listing) front bytes))) → HasEntries H b n.is.map id n.is.parent (put name_cmp name target n.is.listing)
   changed_entries b target bytes own text stands =
-      let was = held_entry name n.target n.is.listing front back old_place n.is.entries in
       record {
         stands = subst (λ z. H.stands_for b (insert n.is.map id (blob Directory n.is.parent z)))
-            (ap (written (body_of n.is.listing) front) text ∙ changed name n.target target n.is.listing front back old_place was own) stands;
-        entries = put_listing name target n.is.listing front (Some n.target) back old_place n.is.entries own;
+            (ap (written (body_of n.is.listing) front) text ∙ changed name n.target target n.is.listing front back place was own) stands;
+        entries = put_listing name target n.is.listing front (Some n.target) back place n.is.entries own;
       }
 
   pub removed_entries : (b : S) (bytes : List ℕ) (end_ : ℕ) → bytes ≡ back → end_ ≡ front + length bytes
@@ -110,10 +111,10 @@ module _ {S : Type 0} {H : BlobHoldings S} {a : S} {id : Id} (name : List ℕ) (
   removed_entries b bytes end_ text place_end stands =
       let e : end_ ≡ front + length back = place_end ∙ ap (λ z. front + length z) text in
       let same : resized (written (body_of n.is.listing) front bytes) end_ ≡ body_of (without name n.is.listing) =
-      ap (λ z. resized (written (body_of n.is.listing) front z) end_) text ∙ (ap (resized (written (body_of n.is.listing) front back)) e ∙ removed name n.target n.is.listing front back old_place) in
+      ap (λ z. resized (written (body_of n.is.listing) front z) end_) text ∙ (ap (resized (written (body_of n.is.listing) front back)) e ∙ removed name n.target n.is.listing front back place) in
       record {
         stands = subst (H.stands_for b) (insert_again n.is.map id _ _ ∙ ap (λ z. insert n.is.map id (blob Directory n.is.parent z)) same) stands;
-        entries = without_listing name n.is.listing front (Some n.target) back old_place n.is.entries;
+        entries = without_listing name n.is.listing front (Some n.target) back place n.is.entries;
       }
 
 pub inserted_entries : {S : Type 0} {H : BlobHoldings S} {a b : S} {id : Id} (name : List ℕ) (n : HasRoom H a id name) (front : ℕ) (found : Option (Attr × BlockId)) (back : List ℕ)
@@ -135,10 +136,15 @@ when_ok (Err e) h = tt
 more_pieces : (m n l : ℕ) → 1 ≤ l → m ≤ n → pieces m l ≤ pieces n l
 more_pieces m n l some le = le-div (pieces m l) (n + (l - 1)) l (omega arith) (omega (arith, div-mul-le_self (m + (l - 1)) l, le))
 
--- the bound of a write within a body, from before the body was read
-pub sparing_over : {S : Type 0} {M : Meanings S} {H : BlobHoldings S} (steady : BlobsSteady M H) (a b c : S) (body front count : ℕ) → M.intact a → M.loaded a b → H.changed b ≡ H.changed a
-    → 1 ≤ count → front + count ≤ body → IsSparing H b c body front count → IsSparing H a c body 0 body
-sparing_over {H = H} steady a b c body front count intact loaded unchanged some within bound = λ l told least most.
-    let piece : H.piece b ≡ Some l = steady.piece_stays a b loaded ∙ told in
+-- the bound of a write within a body
+pub sparing_within : {S : Type 0} {M : Meanings S} {H : BlobHoldings S} (steady : BlobsSteady M H) (a b : S) (body front count : ℕ) → M.intact a → 1 ≤ count → front + count ≤ body → IsSparing H a b body front count → IsSparing H a b body 0 body
+sparing_within {H = H} steady a b body front count intact some within bound = λ l told least most.
     let more = more_pieces count body l (steady.piece_some a l intact told) (omega arith) in
-    omega (arith, bound l piece some within, unchanged, more)
+    omega (arith, bound l told some within, more)
+
+-- the same, from before the body was read
+pub sparing_after : {S : Type 0} {M : Meanings S} {H : BlobHoldings S} (steady : BlobsSteady M H) (a b c : S) (body body2 : ℕ) → body ≡ body2 → M.loaded a b → H.changed b ≡ H.changed a
+    → IsSparing H b c body 0 body → IsSparing H a c body2 0 body2
+sparing_after {H = H} steady a b c body body2 same loaded unchanged bound = λ l told least most.
+    let one = bound l (steady.piece_stays a b loaded ∙ told) (omega (arith, least, same)) (omega (arith, most, same)) in
+    omega (arith, one, unchanged, ap (λ z. pieces z l) same)

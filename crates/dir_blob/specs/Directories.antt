@@ -47,6 +47,16 @@ pub record HasName {S : Type 0} (H : BlobHoldings S) (a : S) (id : Id) (name : L
   pub target : EntryTarget
   pub present : find name_cmp name is.listing ≡ Some target
 
+-- the same, and these bytes are the directory's body
+pub record HasNameIn {S : Type 0} (H : BlobHoldings S) (a : S) (id : Id) (body name : List ℕ) : Type 0 where
+  pub named : HasName H a id name
+  pub text : body ≡ body_of named.is.listing
+
+-- a directory, and these bytes are its body
+pub record HasBody {S : Type 0} (H : BlobHoldings S) (a : S) (id : Id) (body : List ℕ) : Type 0 where
+  pub is : IsDirectory H a id
+  pub text : body ≡ body_of is.listing
+
 -- where the id is a directory and nothing came back that was never put, this holds of its entries
 abbrev pub OfEntries : {S : Type 0} → Meanings S → BlobHoldings S → S → S → Id → (Listing → Type 0) → Type 0
 OfEntries M H a b id P = (n : IsDirectory H a id) → M.sound a → M.forgeries b ≤ M.forgeries a → P n.listing

@@ -1,10 +1,12 @@
 //! Directories as blobs: calls that read and change the entries in a blob's body.
 #![tactic(auto)]
 
+mod bodies;
 mod changes;
 mod reads;
 mod renames;
 
-pub use changes::{change, insert, insert_in, remove};
+pub use bodies::body_without;
+pub use changes::{change, change_in, insert, insert_in, remove, remove_in};
 pub use reads::{entries, find_in, find_target, whole_body};
 pub use renames::rename;

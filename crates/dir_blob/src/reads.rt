@@ -15,7 +15,7 @@ use fs_model::{Attr, MAX_MODE, Name};
 use std::alloc::Global;
 
 /// Bytes of a body at most: those of a blob but for its header.
-const MAX_BODY: u64 = MAX_BLOB - HEADER_LEN as u64;
+pub(crate) const MAX_BODY: u64 = MAX_BLOB - HEADER_LEN as u64;
 
 /// The body of a directory.
 pub fn whole_body<B: Blobs>(alloc: Global, b: &mut B, dir: &BlockId) -> Result<Vec<u8>, Fail>

@@ -17,15 +17,15 @@ use Rattle.fs_blobs.specs.declared.header.TheConstants.{HEADER_LEN}
 use Rattle.fs_blobs.specs.Headers.{blob}
 use Rattle.fs_blobs.specs.Blobs.{IsBlob}
 use Rattle.dir_entries.specs.Layout.{EntryTarget, body_of}
-use Rattle.dir_blob.specs.Directories.{HasName, HasEntries}
+use Rattle.dir_blob.specs.Directories.{HasName, HasNameIn, HasEntries}
 use Rattle.forest.specs.Nodes.{Look, IsBodyOf, IsBlobOf}
 use Rattle.forest.specs.Shows.{above, entries_at}
 use Rattle.forest.proofs.Forests.{map_apart}
 use Rattle.dir_entries.proofs.Bodies.{no_more}
 use Rattle.forest.proofs.Shown.{content_shows}
 use Rattle.forest.specs.Showing.{IsShownBy}
-use Rattle.path_entries.specs.Entries.{Setting}
-use Rattle.path_entries.proofs.Setting.{q, folder, row_above, present, has_name, listed, row_with, lists_then}
+use Rattle.path_entries.specs.Entries.{Setting, SettingIn}
+use Rattle.path_entries.proofs.Setting.{q, folder, row_above, present, has_name, listed, row_with, lists_then, body_here}
 use Rattle.path_contents.specs.Sparing.{IsSparingTwice}
 use Rattle.path_walks.proofs.Nodes.{above_wide, size_at}
 
@@ -120,3 +120,8 @@ module _ {S : Type 0} {H : BlobHoldings S} {a : S} {dir : Id} {e : List ℕ × E
   -- the entry wasn't reached
   pub spared_once : (b : S) (from n : ℕ) → IsSparing H a b (length w.row.bytes) from n → IsSparingTwice H a b (length w.row.bytes) (directory_size w.tree w.path) from n
   spared_once b from n first = λ l told least most. let one = first l told least most in omega (arith, one)
+
+-- the body that was read is still that of the directory
+abbrev pub has_name_in_then : {S : Type 0} {H : BlobHoldings S} {a : S} {dir : Id} {body : List ℕ} {e : List ℕ × EntryTarget} (w : SettingIn H a dir body e) (file : e.1.attr.kind ≡ File) (new : List ℕ) (few : length new ≤ MAX_FILE)
+    (b : S) → H.stands_for b (map1 w.setting file new few) → (read : List ℕ) → read ≡ body → HasNameIn H b dir read e.0
+has_name_in_then w file new few b stands read same = record { named = has_name_then w.setting file new few b stands; text = same ∙ body_here w }

@@ -14,8 +14,8 @@ use blob_api::Blobs;
 use block_id::{BlockId, Fail};
 use dir_entries::Entry;
 use fs_model::{FsError, MAX_MODE, Moment, Name, Reply};
-use path_entries::set_entry;
-use path_walks::{Place, Reached, done, reach};
+use path_entries::set_entry_in;
+use path_walks::{Occupancy, Reached, done, reach};
 use rand_core::Rng;
 use std::alloc::Global;
 use tree_rules::{AttrChange, changed};
@@ -37,11 +37,7 @@ pub fn set_attributes<B: Blobs, R: Rng>(
     ensures variant { IfOk result IsChangeReply }
 {
     match reach(alloc, b, root, names, FsError::Busy) {
-        Ok(Reached::Row(dir, name, place)) => {
-            set_found(
-                alloc, b, root, &dir.place, name, &place, change, now, chance,
-            )
-        }
+        Ok(Reached::Row(at)) => set_found(alloc, b, &at, change, now, chance),
         Ok(Reached::Refused(error)) => Ok(Reply::Error(error)),
         Err(fail) => Err(fail),
     }
@@ -51,25 +47,23 @@ pub fn set_attributes<B: Blobs, R: Rng>(
 fn set_found<B: Blobs, R: Rng>(
     alloc: Global,
     b: &mut B,
-    root: &BlockId,
-    dir: &Place,
-    name: &Name,
-    place: &Place,
+    at: &Occupancy,
     change: AttrChange,
     now: Moment,
     chance: &mut R,
 ) -> Result<Reply, Fail>
     requires intact { B.meanings.intact b.old }
     requires fits { ChangeFits change }
-    requires mode { place.now.attr.mode ≤ MAX_MODE }
-    ensures outcome { Outcome B.meanings (Finding B.holdings b.old root.now.0 dir.now name.now place.now) b.old b.new result
-        (λ n r. Performed B.holdings b.new root.now.0 (attributes_set n.tree (name.now ∷ n.path) (changed_by change now) (Found n.is.here.row)) r) }
+    requires mode { at.now.place.attr.mode ≤ MAX_MODE }
+    ensures outcome { Outcome B.meanings (Finding B.holdings b.old at.now) b.old b.new result
+        (λ n r. Performed B.holdings b.new n.root (attributes_set n.tree (at.now.name.now ∷ n.path) (changed_by change now) (Found n.is.here.row)) r) }
     ensures variant { IfOk result IsChangeReply }
 {
     let entry = Entry {
-        name: name.try_clone()?,
-        attr: changed(place.attr, change, now),
-        blob: place.blob,
+        name: at.name.try_clone()?,
+        attr: changed(at.place.attr, change, now),
+        blob: at.place.blob,
     };
-    done(set_entry(alloc, b, &dir.blob, &entry, chance))
+    let dir = at.dir.place.blob;
+    done(set_entry_in(alloc, b, &dir, &at.body, &entry, chance))
 }

@@ -7,23 +7,24 @@ ghost use Rattle.block_id.specs.Contents.{resized, written};
 ghost use Rattle.fs_model.specs.Tree.{directory_size};
 ghost use Rattle.dir_entries.specs.Layout.{entry_of};
 ghost use Rattle.forest.specs.Showing.{IsShownBy};
-ghost use Rattle.path_entries.specs.Entries.{Setting};
+ghost use Rattle.path_entries.specs.Entries.{SettingIn};
 ghost use Rattle.path_contents.specs.Sparing.{IsSparingTwice};
 
 use blob_api::Blobs;
-use block_id::{BlockId, Fail};
-use dir_blob::change;
+use block_id::Fail;
+use dir_blob::change_in;
 use dir_entries::Entry;
 use fs_blobs::{resize_body, write_body};
 use fs_model::{MAX_FILE, MAX_MODE};
+use path_walks::Occupancy;
 use rand_core::Rng;
 use std::alloc::Global;
 
-/// A file gets these bytes at `from`, and its entry the new attributes.
+/// A file that was found gets these bytes at `from`, and its entry the new attributes.
 pub fn write_at<B: Blobs, R: Rng>(
     alloc: Global,
     b: &mut B,
-    dir: &BlockId,
+    at: &Occupancy,
     entry: &Entry,
     from: u64,
     bytes: &[u8],
@@ -33,21 +34,21 @@ pub fn write_at<B: Blobs, R: Rng>(
     requires mode { entry.now.attr.mode ≤ MAX_MODE }
     requires file { entry.now.attr.kind ≡ File }
     requires fits { from + length bytes.now ≤ MAX_FILE }
-    ensures outcome { Outcome B.meanings (Setting B.holdings b.old dir.now.0 (entry_of entry.now)) b.old b.new result
-        (λ n _. IsShownBy B.holdings b.new n.root (with_key n.tree (entry.now.name ∷ n.path) (record { attr = entry.now.attr; bytes = written n.row.bytes from bytes.now })) n.ids) }
+    ensures outcome { Outcome B.meanings (SettingIn B.holdings b.old at.now.dir.place.blob.0 at.now.body.items (entry_of entry.now)) b.old b.new result
+        (λ n _. IsShownBy B.holdings b.new n.setting.root (with_key n.setting.tree (entry.now.name ∷ n.setting.path) (record { attr = entry.now.attr; bytes = written n.setting.row.bytes from bytes.now })) n.setting.ids) }
     // Whatever it answers.
-    ensures sparing { (n : Setting B.holdings b.old dir.now.0 (entry_of entry.now)) → B.meanings.sound b.old → B.meanings.forgeries b.new ≤ B.meanings.forgeries b.old
-        → IsSparingTwice B.holdings b.old b.new (length n.row.bytes) (directory_size n.tree n.path) from (length bytes.now) }
+    ensures sparing { (n : SettingIn B.holdings b.old at.now.dir.place.blob.0 at.now.body.items (entry_of entry.now)) → B.meanings.sound b.old → B.meanings.forgeries b.new ≤ B.meanings.forgeries b.old
+        → IsSparingTwice B.holdings b.old b.new (length n.setting.row.bytes) (directory_size n.setting.tree n.setting.path) from (length bytes.now) }
 {
     write_body(alloc, b, &entry.blob, from, bytes, chance)?;
-    change(alloc, b, dir, entry, chance)
+    change_in(alloc, b, &at.dir.place.blob, &at.body, entry, chance)
 }
 
-/// A file gets this length, by a cut or by zeros, and its entry the new attributes.
+/// A file that was found gets this length, by a cut or by zeros, and its entry the new attributes.
 pub fn resize_at<B: Blobs, R: Rng>(
     alloc: Global,
     b: &mut B,
-    dir: &BlockId,
+    at: &Occupancy,
     entry: &Entry,
     len: u64,
     chance: &mut R,
@@ -56,9 +57,9 @@ pub fn resize_at<B: Blobs, R: Rng>(
     requires mode { entry.now.attr.mode ≤ MAX_MODE }
     requires file { entry.now.attr.kind ≡ File }
     requires fits { len ≤ MAX_FILE }
-    ensures { Outcome B.meanings (Setting B.holdings b.old dir.now.0 (entry_of entry.now)) b.old b.new result
-        (λ n _. IsShownBy B.holdings b.new n.root (with_key n.tree (entry.now.name ∷ n.path) (record { attr = entry.now.attr; bytes = resized n.row.bytes len })) n.ids) }
+    ensures { Outcome B.meanings (SettingIn B.holdings b.old at.now.dir.place.blob.0 at.now.body.items (entry_of entry.now)) b.old b.new result
+        (λ n _. IsShownBy B.holdings b.new n.setting.root (with_key n.setting.tree (entry.now.name ∷ n.setting.path) (record { attr = entry.now.attr; bytes = resized n.setting.row.bytes len })) n.setting.ids) }
 {
     resize_body(alloc, b, &entry.blob, len, chance)?;
-    change(alloc, b, dir, entry, chance)
+    change_in(alloc, b, &at.dir.place.blob, &at.body, entry, chance)
 }

@@ -16,7 +16,7 @@ use block_id::{BlockId, Fail};
 use fs_blobs::body_len;
 use fs_model::{FsError, MAX_MODE, Moment, Name, Reply};
 use path_entries::touched;
-use path_walks::{Place, Reached, done, reach};
+use path_walks::{Occupancy, Reached, done, reach};
 use rand_core::Rng;
 use std::alloc::Global;
 use tree_rules::is_too_long;
@@ -40,11 +40,7 @@ pub fn write<B: Blobs, R: Rng>(
     ensures variant { IfOk result IsChangeReply }
 {
     match reach(alloc, b, root, names, FsError::IsDirectory) {
-        Ok(Reached::Row(dir, name, place)) => {
-            write_found(
-                alloc, b, root, &dir.place, name, &place, from, bytes, now, chance,
-            )
-        }
+        Ok(Reached::Row(at)) => write_found(alloc, b, &at, from, bytes, now, chance),
         Ok(Reached::Refused(error)) => Ok(Reply::Error(error)),
         Err(fail) => Err(fail),
     }
@@ -54,37 +50,34 @@ pub fn write<B: Blobs, R: Rng>(
 fn write_found<B: Blobs, R: Rng>(
     alloc: Global,
     b: &mut B,
-    root: &BlockId,
-    dir: &Place,
-    name: &Name,
-    place: &Place,
+    at: &Occupancy,
     from: u64,
     bytes: &[u8],
     now: Moment,
     chance: &mut R,
 ) -> Result<Reply, Fail>
     requires intact { B.meanings.intact b.old }
-    requires mode { place.now.attr.mode ≤ MAX_MODE }
-    ensures outcome { Outcome B.meanings (Finding B.holdings b.old root.now.0 dir.now name.now place.now) b.old b.new result
-        (λ n r. Performed B.holdings b.new root.now.0 (written n.tree now (name.now ∷ n.path) from bytes.now (Found n.is.here.row)) r) }
-    ensures sparing { (n : Finding B.holdings b.old root.now.0 dir.now name.now place.now) → B.meanings.sound b.old → B.meanings.forgeries b.new ≤ B.meanings.forgeries b.old
+    requires mode { at.now.place.attr.mode ≤ MAX_MODE }
+    ensures outcome { Outcome B.meanings (Finding B.holdings b.old at.now) b.old b.new result
+        (λ n r. Performed B.holdings b.new n.root (written n.tree now (at.now.name.now ∷ n.path) from bytes.now (Found n.is.here.row)) r) }
+    ensures sparing { (n : Finding B.holdings b.old at.now) → B.meanings.sound b.old → B.meanings.forgeries b.new ≤ B.meanings.forgeries b.old
         → IsSparingTwice B.holdings b.old b.new (length n.is.here.row.bytes) (directory_size n.tree n.path) from (length bytes.now) }
     ensures variant { IfOk result IsChangeReply }
 {
-    match content_refusal(place.attr.kind) {
+    match content_refusal(at.place.attr.kind) {
         Some(refusal) => return Ok(Reply::Error(refusal)),
         None => {}
     }
     if bytes.is_empty() {
         return Ok(Reply::Done);
     }
-    let size = body_len(alloc, b, &place.blob)?;
+    let size = body_len(alloc, b, &at.place.blob)?;
     let end = from.saturating_add(bytes.len() as u64);
     if is_too_long(size, end.max(size)) {
         return Ok(Reply::Error(FsError::TooLarge));
     }
-    let entry = touched(name, place, now)?;
-    done(write_at(alloc, b, &dir.blob, &entry, from, bytes, chance))
+    let entry = touched(at.name, &at.place, now)?;
+    done(write_at(alloc, b, at, &entry, from, bytes, chance))
 }
 
 /// A file is cut to a length, or filled up with zeros.
@@ -103,9 +96,7 @@ pub fn truncate<B: Blobs, R: Rng>(
     ensures variant { IfOk result IsChangeReply }
 {
     match reach(alloc, b, root, names, FsError::IsDirectory) {
-        Ok(Reached::Row(dir, name, place)) => {
-            truncate_found(alloc, b, root, &dir.place, name, &place, len, now, chance)
-        }
+        Ok(Reached::Row(at)) => truncate_found(alloc, b, &at, len, now, chance),
         Ok(Reached::Refused(error)) => Ok(Reply::Error(error)),
         Err(fail) => Err(fail),
     }
@@ -115,28 +106,25 @@ pub fn truncate<B: Blobs, R: Rng>(
 fn truncate_found<B: Blobs, R: Rng>(
     alloc: Global,
     b: &mut B,
-    root: &BlockId,
-    dir: &Place,
-    name: &Name,
-    place: &Place,
+    at: &Occupancy,
     len: u64,
     now: Moment,
     chance: &mut R,
 ) -> Result<Reply, Fail>
     requires intact { B.meanings.intact b.old }
-    requires mode { place.now.attr.mode ≤ MAX_MODE }
-    ensures outcome { Outcome B.meanings (Finding B.holdings b.old root.now.0 dir.now name.now place.now) b.old b.new result
-        (λ n r. Performed B.holdings b.new root.now.0 (truncated n.tree now (name.now ∷ n.path) len (Found n.is.here.row)) r) }
+    requires mode { at.now.place.attr.mode ≤ MAX_MODE }
+    ensures outcome { Outcome B.meanings (Finding B.holdings b.old at.now) b.old b.new result
+        (λ n r. Performed B.holdings b.new n.root (truncated n.tree now (at.now.name.now ∷ n.path) len (Found n.is.here.row)) r) }
     ensures variant { IfOk result IsChangeReply }
 {
-    match content_refusal(place.attr.kind) {
+    match content_refusal(at.place.attr.kind) {
         Some(refusal) => return Ok(Reply::Error(refusal)),
         None => {}
     }
-    let size = body_len(alloc, b, &place.blob)?;
+    let size = body_len(alloc, b, &at.place.blob)?;
     if is_too_long(size, len) {
         return Ok(Reply::Error(FsError::TooLarge));
     }
-    let entry = touched(name, place, now)?;
-    done(resize_at(alloc, b, &dir.blob, &entry, len, chance))
+    let entry = touched(at.name, &at.place, now)?;
+    done(resize_at(alloc, b, at, &entry, len, chance))
 }

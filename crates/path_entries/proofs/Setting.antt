@@ -9,13 +9,13 @@ use Rattle.fs_model.specs.Tree.{Path, Row, name_cmp, is_folder, FitsKind}
 use Rattle.fs_model.proofs.TreeLemmas.{same_name}
 use Rattle.fs_blobs.specs.Headers.{blob}
 use Rattle.dir_entries.specs.Layout.{EntryTarget, body_of, IsListing}
-use Rattle.dir_blob.specs.Directories.{HasName, HasEntries}
+use Rattle.dir_blob.specs.Directories.{HasName, HasNameIn, HasEntries}
 use Rattle.forest.specs.Nodes.{Lists}
 use Rattle.forest.specs.Shows.{above, target_for, entries_at}
 use Rattle.forest.proofs.Shown.{IsFolderRow, folder_row, attributes_show}
 use Rattle.forest.specs.Showing.{IsShownBy}
-use Rattle.path_entries.specs.Entries.{Setting}
-use Rattle.path_walks.proofs.Nodes.{lists_at, directory_at, lists_with}
+use Rattle.path_entries.specs.Entries.{Setting, SettingIn}
+use Rattle.path_walks.proofs.Nodes.{lists_at, directory_at, lists_with, read_is}
 
 module _ {S : Type 0} {H : BlobHoldings S} {a : S} {dir : Id} {e : List ℕ × EntryTarget} (w : Setting H a dir e) where
   abbrev pub q : Path
@@ -59,3 +59,11 @@ module _ {S : Type 0} {H : BlobHoldings S} {a : S} {dir : Id} {e : List ℕ × E
 
   pub fits_still : FitsKind e.1.attr.kind w.row.bytes
   fits_still = subst (λ k. FitsKind k w.row.bytes) w.kind (w.shows.well_formed.rows q w.row w.there).content
+
+-- and the body that was read is the directory's
+module _ {S : Type 0} {H : BlobHoldings S} {a : S} {dir : Id} {body : List ℕ} {e : List ℕ × EntryTarget} (w : SettingIn H a dir body e) where
+  pub body_here : body ≡ body_of (has_name w.setting).is.listing
+  body_here = read_is w.setting.shows w.setting.path (row_above w.setting).row (row_above w.setting).there (row_above w.setting).kind body w.lists
+
+  abbrev pub has_name_in : HasNameIn H a dir body e.0
+  has_name_in = record { named = has_name w.setting; text = body_here }

@@ -5,7 +5,8 @@ use Rattle.std.specs.declared.option.Option.TheVariants.{Some}
 use Rattle.blob_api.specs.BlobMap.{Id, BlobMap, BlobHoldings}
 use Rattle.fs_model.specs.Tree.{Path, Row, Tree, IsWellFormed, FitsKind}
 use Rattle.dir_entries.specs.Layout.{EntryTarget}
-use Rattle.forest.specs.Shows.{ShowsBy}
+use Rattle.forest.specs.Nodes.{Lists}
+use Rattle.forest.specs.Shows.{ShowsBy, entries_at}
 
 -- a row that gets other attributes of its kind: the entry e says them
 pub record Setting {S : Type 0} (H : BlobHoldings S) (a : S) (dir : Id) (e : List ℕ × EntryTarget) : Type 0 where
@@ -22,3 +23,8 @@ pub record Setting {S : Type 0} (H : BlobHoldings S) (a : S) (dir : Id) (e : Lis
   pub blob : ids (e.0 ∷ path) ≡ e.1.blob
   pub kind : row.attr.kind ≡ e.1.attr.kind
   pub well_formed : (bytes : List ℕ) → FitsKind e.1.attr.kind bytes → IsWellFormed (insert tree (e.0 ∷ path) (record { attr = e.1.attr; bytes = bytes }))
+
+-- the same, and these bytes list what stands in the directory
+pub record SettingIn {S : Type 0} (H : BlobHoldings S) (a : S) (dir : Id) (body : List ℕ) (e : List ℕ × EntryTarget) : Type 0 where
+  pub setting : Setting H a dir e
+  pub lists : Lists (entries_at setting.tree setting.ids setting.path) body

@@ -4,11 +4,11 @@ ghost use Rattle.std.specs.FinMap.{insert as with_key};
 ghost use Rattle.outcome.specs.Outcome.{Outcome};
 ghost use Rattle.dir_entries.specs.Layout.{entry_of};
 ghost use Rattle.forest.specs.Showing.{IsShownBy};
-ghost use Rattle.path_entries.specs.Entries.{Setting};
+ghost use Rattle.path_entries.specs.Entries.{Setting, SettingIn};
 
 use blob_api::Blobs;
 use block_id::{BlockId, Fail, Memory};
-use dir_blob::change;
+use dir_blob::{change, change_in};
 use dir_entries::Entry;
 use fs_model::{Attr, MAX_MODE, Moment, Name};
 use path_walks::Place;
@@ -29,6 +29,23 @@ pub fn set_entry<B: Blobs, R: Rng>(
         (λ n _. IsShownBy B.holdings b.new n.root (with_key n.tree (entry.now.name ∷ n.path) (record { attr = entry.now.attr; bytes = n.row.bytes })) n.ids) }
 {
     change(alloc, b, dir, entry, chance)
+}
+
+/// The same, in a directory whose body was read.
+pub fn set_entry_in<B: Blobs, R: Rng>(
+    alloc: Global,
+    b: &mut B,
+    dir: &BlockId,
+    body: &[u8],
+    entry: &Entry,
+    chance: &mut R,
+) -> Result<(), Fail>
+    requires intact { B.meanings.intact b.old }
+    requires mode { entry.now.attr.mode ≤ MAX_MODE }
+    ensures { Outcome B.meanings (SettingIn B.holdings b.old dir.now.0 body.now (entry_of entry.now)) b.old b.new result
+        (λ n _. IsShownBy B.holdings b.new n.setting.root (with_key n.setting.tree (entry.now.name ∷ n.setting.path) (record { attr = entry.now.attr; bytes = n.setting.row.bytes })) n.setting.ids) }
+{
+    change_in(alloc, b, dir, body, entry, chance)
 }
 
 /// The entry of a row whose content or whose children change now.

@@ -4,5 +4,5 @@
 mod entries;
 mod touches;
 
-pub use entries::{set_entry, touched};
+pub use entries::{set_entry, set_entry_in, touched};
 pub use touches::{is_same, touch, touch_both};

@@ -12,17 +12,17 @@ use Rattle.fs_blobs.proofs.Parts.{blob_fits}
 use Rattle.fs_model.proofs.TreeLemmas.{same_name}
 use Rattle.dir_entries.specs.Layout.{body_of, IsListing}
 use Rattle.dir_entries.specs.Places.{without}
-use Rattle.dir_blob.specs.Directories.{HasName, HasEntries}
+use Rattle.dir_blob.specs.Directories.{HasName, HasNameIn, HasEntries}
 use Rattle.forest.specs.Nodes.{Lists, IsBlobOf, IsForest}
 use Rattle.forest.specs.Shows.{above, target_for, entries_at, ShowsBy}
 use Rattle.forest.specs.Midst.{with_entry}
 use Rattle.forest.proofs.Shown.{IsFolderRow, folder_row, entry_set, entry_apart, gone_shows}
 use Rattle.forest.specs.Showing.{IsShownBy}
 use Rattle.path_rows.specs.Changes.{Dropping}
-use Rattle.path_walks.proofs.Nodes.{lists_at, directory_at, above_wide, content_fits}
+use Rattle.path_walks.proofs.Nodes.{lists_at, directory_at, above_wide, content_fits, read_is}
 use Rattle.path_rows.proofs.Edits.{lists_without}
 
-module _ {S : Type 0} {H : BlobHoldings S} {a : S} {dir : Id} {n : List ℕ} {id : Id} (w : Dropping H a dir n id) where
+module _ {S : Type 0} {H : BlobHoldings S} {a : S} {dir : Id} {body n : List ℕ} {id : Id} (w : Dropping H a dir body n id) where
   pub folder : is_folder (get w.tree w.path) ≡ true
   folder = w.shows.well_formed.rooted.parents n w.path (ap is_some w.there)
 
@@ -36,6 +36,9 @@ module _ {S : Type 0} {H : BlobHoldings S} {a : S} {dir : Id} {n : List ℕ} {id
     target = record { attr = w.row.attr; blob = w.ids (n ∷ w.path) };
     present = (lists_at w.shows w.path row_above.row row_above.there row_above.kind).entries n ∙ ap (target_for (w.ids (n ∷ w.path))) w.there;
   }
+
+  abbrev pub has_name_in : (read : List ℕ) → read ≡ body → HasNameIn H a dir read n
+  has_name_in read same = record { named = has_name; text = same ∙ read_is w.shows w.path row_above.row row_above.there row_above.kind body w.lists }
 
   abbrev pub listed : List ℕ
   listed = body_of (without n has_name.is.listing)

@@ -1,7 +1,7 @@
 -- Entries of a directory after one comes or goes, and the limits of what a path's blob holds.
 use Rattle.std.proofs.Common.{◌≡◌, ℕ, ◌+◌, true, false, cond, List, [], ◌∷◌, refl, sym, ◌∙◌, ap, subst, arith, inl, inr}
 use Rattle.std.specs.Prelude.{not, T}
-use Rattle.std.specs.FinMap.{find, put, is_sorted}
+use Rattle.std.specs.FinMap.{find, get, put, remove, is_sorted}
 use Rattle.std.specs.FinMap.Entries.{find-where_key, by_order, is_sorted-put, is_sorted-where_key}
 use Rattle.std.specs.Ordering.{eq_by_cmp, is_eq}
 use Rattle.std.specs.declared.cmp.Ordering.TheVariants.{Less, Equal, Greater}
@@ -10,11 +10,13 @@ use Rattle.std.specs.List.{All}
 use Rattle.std.proofs.lemmas.List.Elements.{All-head, All-tail, All-cons}
 use Rattle.block_id.proofs.Conditions.{true_of}
 use Rattle.fs_model.specs.Names.{IsName}
-use Rattle.fs_model.specs.Tree.{name_cmp, entry_size, entries_size}
-use Rattle.fs_model.proofs.TreeLemmas.{same_name, name_total, name_exact, name_same, name_apart, name_split}
+use Rattle.blob_api.specs.BlobMap.{Id}
+use Rattle.fs_model.specs.Tree.{Path, Tree, name_cmp, entry_size, entries_size}
+use Rattle.fs_model.proofs.TreeLemmas.{same_name, name_total, name_exact, name_same, name_apart, name_split, remove_here, remove_apart}
 use Rattle.dir_entries.specs.Layout.{EntryTarget, Listing, body_of, IsEntry, IsListing}
 use Rattle.dir_entries.specs.Places.{without}
 use Rattle.forest.specs.Nodes.{Look, Lists}
+use Rattle.forest.specs.Shows.{entries_at, target_for}
 
 pub entries_without : (listing : Listing) (n k : List ℕ) → find name_cmp k (without n listing) ≡ cond (same_name k n) None (find name_cmp k listing)
 entries_without listing n k =
@@ -64,3 +66,20 @@ size_put n target (e ∷ es) none = elim (name_cmp n e.0) as (λ o. cond (is_eq 
   | Equal ↦ λ h. let bad : Some e.1 ≡ None = h in cc
   | Greater ↦ λ h. let rest = size_put n target es h in omega (arith, rest)
 ] none
+
+pub tails : (k n : List ℕ) (p q : Path) → k ∷ p ≡ n ∷ q → p ≡ q
+tails k n p q e = cc
+
+heads : (k n : List ℕ) (p q : Path) → k ∷ p ≡ n ∷ q → k ≡ n
+heads k n p q e = cc
+
+-- the entries of a directory whose row went
+pub look_gone : (t : Tree) (ids : Path → Id) (n : List ℕ) (p : Path) (k : List ℕ) → cond (same_name k n) None (entries_at t ids p k) ≡ entries_at (remove t (n ∷ p)) ids p k
+look_gone t ids n p k = elim (name_split k n) as (λ _. cond (same_name k n) None (entries_at t ids p k) ≡ entries_at (remove t (n ∷ p)) ids p k) [
+  | inl e ↦
+      ap (λ b. cond b None (entries_at t ids p k)) (ap (λ z. same_name z n) e ∙ name_same n)
+      ∙ sym (ap (target_for (ids (k ∷ p))) (ap (λ z. get (remove t (n ∷ p)) (z ∷ p)) e ∙ remove_here t (n ∷ p)))
+  | inr d ↦
+      ap (λ b. cond b None (entries_at t ids p k)) (name_apart k n d)
+      ∙ sym (ap (target_for (ids (k ∷ p))) (remove_apart t (n ∷ p) (k ∷ p) (λ e. d (heads k n p p e))))
+]

@@ -18,8 +18,9 @@ use Rattle.fs_model.proofs.TreeLemmas.{same_name, name_same, name_apart, path_sp
 use Rattle.fs_model.proofs.MovedTree.{strip_none, moved_well_formed}
 use Rattle.fs_model.proofs.MovedRows.{IsCarried, moved_rows}
 use Rattle.fs_model.proofs.MovedSize.{size_within_free, size_across_free}
-use Rattle.forest.specs.Shows.{ShowsBy, entries_at}
+use Rattle.forest.specs.Shows.{ShowsBy}
 use Rattle.path_walks.specs.declared.spots.Folder.{Folder}
+use Rattle.path_walks.specs.declared.spots.Occupancy.{Occupancy}
 use Rattle.path_walks.specs.declared.spots.Place.{Place}
 use Rattle.path_walks.specs.Sights.{IsAt}
 use Rattle.path_entries.specs.Touching.{TouchingBoth}
@@ -30,11 +31,14 @@ use Rattle.forest.specs.Midst.{moved_ids}
 use Rattle.fs_model.specs.Move.{CanMove, strip, moved_by}
 use Rattle.path_rows.specs.Moves.{Moving, Heading}
 use Rattle.path_walks.proofs.Steps.{directory_seen, folder_is}
-use Rattle.path_walks.proofs.Nodes.{lists_at, same_lists, size_at}
+use Rattle.path_walks.proofs.Nodes.{size_at, read_is}
 use Rattle.dir_blob.specs.Directories.{IsDirectory}
 use Rattle.dir_entries.specs.Layout.{EntryTarget, body_of}
 
-module _ {S : Type 0} {H : BlobHoldings S} {a : S} {now : Instant} {from : Folder} {n : List ℕ} {place : Place} {to : Folder} {k body : List ℕ} (w : Heading H a now from n place to k body) where
+module _ {S : Type 0} {H : BlobHoldings S} {a : S} {now : Instant} {from : Occupancy} {to : Folder} {k body : List ℕ} (w : Heading H a now from to k body) where
+  abbrev n : List ℕ
+  n = from.name.now
+
   abbrev pub next : Tree
   next = moved_tree w.tree now (n ∷ w.above) (k ∷ w.below) w.row
 
@@ -53,19 +57,17 @@ module _ {S : Type 0} {H : BlobHoldings S} {a : S} {now : Instant} {from : Folde
 
   pub body_size : length body ≡ directory_size w.tree w.below
   body_size =
-      let kind = folder_is w.tree w.ids w.below to.place w.to_at w.folder in
-      let same = same_lists (entries_at w.tree w.ids w.below) body (w.shows.forest.nodes w.below w.to_at.row w.to_at.there).body w.lists (lists_at w.shows w.below w.to_at.row w.to_at.there kind) in
-      ap length (w.lists.is.text ∙ ap body_of same) ∙ size_is
+      ap length (read_is w.shows w.below w.to_at.row w.to_at.there (folder_is w.tree w.ids w.below to.place w.to_at w.folder) body w.lists) ∙ size_is
 
   -- what the entry leaves behind in the same directory
-  pub size_next : directory_size next w.below + cond (same_name from.place.blob.0 to.place.blob.0) (entry_size n) 0 ≡ directory_size w.tree w.below + entry_size k
+  pub size_next : directory_size next w.below + cond (same_name from.dir.place.blob.0 to.place.blob.0) (entry_size n) 0 ≡ directory_size w.tree w.below + entry_size k
   size_next = elim (path_split w.above w.below) [
     | inl e ↦
-        ap (λ b. directory_size next w.below + cond b (entry_size n) 0) (ap (same_name from.place.blob.0) (sym w.to_at.blob ∙ (ap w.ids (sym e) ∙ w.from_at.blob)) ∙ name_same from.place.blob.0)
+        ap (λ b. directory_size next w.below + cond b (entry_size n) 0) (ap (same_name from.dir.place.blob.0) (sym w.to_at.blob ∙ (ap w.ids (sym e) ∙ w.from_at.blob)) ∙ name_same from.dir.place.blob.0)
         ∙ size_within_free w.tree now n w.above k w.below w.row w.can e w.free
     | inr d ↦
         ap (λ b. directory_size next w.below + cond b (entry_size n) 0)
-        (name_apart from.place.blob.0 to.place.blob.0 (λ e. d (w.shows.forest.distinct w.above w.below (ap is_some w.from_at.there) (ap is_some w.to_at.there) (w.from_at.blob ∙ (e ∙ sym w.to_at.blob)))))
+        (name_apart from.dir.place.blob.0 to.place.blob.0 (λ e. d (w.shows.forest.distinct w.above w.below (ap is_some w.from_at.there) (ap is_some w.to_at.there) (w.from_at.blob ∙ (e ∙ sym w.to_at.blob)))))
         ∙ nothing (directory_size next w.below) ∙ size_across_free w.tree now n w.above k w.below w.row w.can d w.free
   ]
     where
@@ -80,7 +82,7 @@ module _ {S : Type 0} {H : BlobHoldings S} {a : S} {now : Instant} {from : Folde
       let is = stepped_by true (lt-ltb _ _ over) in
       record { told = sym (ap (λ (s : Stepped). s.reply) is); shown = record { map = w.map; stands = stands; shows = subst (λ (s : Stepped). ShowsBy w.map w.root s.tree w.ids) (sym is) w.shows } }
 
-  pub attr_is : (t : EntryTarget) → t.attr ≡ record place.attr { ctime = now } → (with_ctime w.row now).attr ≡ t.attr
+  pub attr_is : (t : EntryTarget) → t.attr ≡ record from.place.attr { ctime = now } → (with_ctime w.row now).attr ≡ t.attr
   attr_is t attr = ap (λ (x : Attr). record x { ctime = now }) (same_row ∙ w.place_at.attr) ∙ sym attr
     where
       same_row : w.row.attr ≡ w.place_at.row.attr
@@ -99,7 +101,7 @@ module _ {S : Type 0} {H : BlobHoldings S} {a : S} {now : Instant} {from : Folde
   formed_as z e named small = subst (λ x. IsWellFormed (moved_tree w.tree now (n ∷ w.above) (x ∷ w.below) w.row)) e (well_formed_next named small)
 
   -- the move can be made, under an equal name
-  abbrev pub moving : (b : S) → H.stands_for b w.map → IsName k → directory_size next w.below ≤ MAX_ENTRIES → (z : List ℕ) → k ≡ z → (t : EntryTarget) → t.attr ≡ record place.attr { ctime = now } → t.blob ≡ place.blob.0 → Moving H b from.place.blob.0 n to.place.blob.0 body (z, t)
+  abbrev pub moving : (b : S) → H.stands_for b w.map → IsName k → directory_size next w.below ≤ MAX_ENTRIES → (z : List ℕ) → k ≡ z → (t : EntryTarget) → t.attr ≡ record from.place.attr { ctime = now } → t.blob ≡ from.place.blob.0 → Moving H b from to.place.blob.0 body (z, t)
   moving b stands named small z zk t attr blob = record {
     map = w.map;
     stands = stands;
@@ -115,6 +117,7 @@ module _ {S : Type 0} {H : BlobHoldings S} {a : S} {now : Instant} {from : Folde
     free = free_as z zk;
     from_id = w.from_at.blob;
     to_id = w.to_at.blob;
+    left = w.left;
     lists = w.lists;
     attr = attr_is t attr;
     blob = w.place_at.blob ∙ sym blob;
@@ -153,13 +156,13 @@ module _ {S : Type 0} {H : BlobHoldings S} {a : S} {now : Instant} {from : Folde
         let there = ap is_some at.there in
         still_at w.tree next w.ids ids_next r x h.shows.well_formed.rooted same (ids_still r (off_free r there)) (λ m d e. ids_still d (off_free d (above_there r there m d e))) at
 
-    pub from_still : IsAt next ids_next (upward from.names.now) from.place
-    from_still = subst (λ z. IsAt next ids_next z from.place) w.from_names (dir_stays w.above from.place carried.from_stays w.from_at)
+    pub from_still : IsAt next ids_next (upward from.dir.names.now) from.dir.place
+    from_still = subst (λ z. IsAt next ids_next z from.dir.place) w.from_names (dir_stays w.above from.dir.place carried.from_stays w.from_at)
 
     pub to_still : IsAt next ids_next (upward to.names.now) to.place
     to_still = subst (λ z. IsAt next ids_next z to.place) w.to_names (dir_stays w.below to.place carried.to_stays w.to_at)
 
-    abbrev pub touching : TouchingBoth H b from to
+    abbrev pub touching : TouchingBoth H b from.dir to
     touching = record {
       map = h.map;
       stands = h.stands;
@@ -171,10 +174,10 @@ module _ {S : Type 0} {H : BlobHoldings S} {a : S} {now : Instant} {from : Folde
       to_at = to_still;
     }
 
-  pub moved_done : (b : S) → directory_size next w.below ≤ MAX_ENTRIES → IsShownBy H b w.root (touched (touched next now (upward from.names.now)) now (upward to.names.now)) ids_next → PerformedBy H b w.root stepped Done ids_next
+  pub moved_done : (b : S) → directory_size next w.below ≤ MAX_ENTRIES → IsShownBy H b w.root (touched (touched next now (upward from.dir.names.now)) now (upward to.names.now)) ids_next → PerformedBy H b w.root stepped Done ids_next
   moved_done b small h =
       let is = stepped_by false (le-ltb MAX_ENTRIES (directory_size next w.below) small) in
       let shown : IsShownBy H b w.root last ids_next =
       subst (λ z. IsShownBy H b w.root (touched (touched next now z) now w.below) ids_next) (sym w.from_names)
-      (subst (λ z. IsShownBy H b w.root (touched (touched next now (upward from.names.now)) now z) ids_next) (sym w.to_names) h) in
+      (subst (λ z. IsShownBy H b w.root (touched (touched next now (upward from.dir.names.now)) now z) ids_next) (sym w.to_names) h) in
       record { told = sym (ap (λ (s : Stepped). s.reply) is); shown = subst (λ (s : Stepped). IsShownBy H b w.root s.tree ids_next) (sym is) shown }

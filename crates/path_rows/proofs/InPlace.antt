@@ -20,11 +20,12 @@ use Rattle.forest.specs.Nodes.{Lists}
 use Rattle.forest.specs.Shows.{above, target_for, entries_at}
 use Rattle.forest.proofs.Shown.{same_last}
 use Rattle.forest.proofs.Moved.{from_without, onto_with, ids_moved, look_off, qd_off_q}
+use Rattle.path_walks.specs.declared.spots.Occupancy.{Occupancy}
 use Rattle.path_rows.specs.Moves.{Moving}
-use Rattle.path_walks.proofs.Nodes.{lists_at, entries_with, same_lists}
+use Rattle.path_walks.proofs.Nodes.{lists_at, entries_with, read_is}
 use Rattle.path_walks.proofs.Sizes.{sizes_shown, body_size}
 use Rattle.path_rows.proofs.Edits.{entries_without, lists_without, without_is}
-use Rattle.path_rows.proofs.Relocated.{IsOnTheWay, looks1, looks2, next, target, target_is, row_from, row_to, has_name}
+use Rattle.path_rows.proofs.Relocated.{IsOnTheWay, home, looks1, looks2, next, target, target_is, row_from, row_to, has_name}
 
 -- one name goes and another comes, in either order
 swapped : (n q k : List ℕ) (x : EntryTarget) (o : Option EntryTarget) → (n ≡ q → ⊥) → cond (same_name k n) None (cond (same_name k q) (Some x) o) ≡ cond (same_name k q) (Some x) (cond (same_name k n) None o)
@@ -41,7 +42,10 @@ swapped n q k x o differ = elim (name_split k q) as (λ _. cond (same_name k n) 
       ∙ sym (ap (λ b. cond b (Some x) (cond (same_name k n) None o)) no)
 ]
 
-module _ {S : Type 0} {H : BlobHoldings S} {a : S} {from : Id} {n : List ℕ} {to : Id} {body : List ℕ} {e : List ℕ × EntryTarget} (w : Moving H a from n to body e) (same : from ≡ to) where
+module _ {S : Type 0} {H : BlobHoldings S} {a : S} {from : Occupancy} {to : Id} {body : List ℕ} {e : List ℕ × EntryTarget} (w : Moving H a from to body e) (same : from.dir.place.blob.0 ≡ to) where
+  abbrev n : List ℕ
+  n = from.name.now
+
   one_path : w.above ≡ w.below
   one_path = w.shows.forest.distinct w.above w.below (ap is_some (row_from w).there) (ap is_some (row_to w).there) (w.from_id ∙ (same ∙ sym w.to_id))
 
@@ -80,22 +84,21 @@ module _ {S : Type 0} {H : BlobHoldings S} {a : S} {from : Id} {n : List ℕ} {t
       omega (arith, body_size (renamed n e listing) is.entries, size, w.well_formed.directories w.below)
 
   -- the directory has the name, and room for the other one
-  abbrev pub has_both : HasBoth H a from n e
+  abbrev pub has_both : HasBoth H a (home w) n e
   has_both = record { is = (has_name w).is; target = (has_name w).target; present = (has_name w).present; absent = none_here; room = room_here }
 
   -- the body that was read is the directory's
   pub body_here : body ≡ body_of listing
   body_here =
-      let read : Lists (entries_at w.tree w.ids w.above) body = subst (λ d. Lists (entries_at w.tree w.ids d) body) (sym one_path) w.lists in
-      read.is.text ∙ ap body_of (same_lists (entries_at w.tree w.ids w.above) body (w.shows.forest.nodes w.above (row_from w).row (row_from w).there).body read (lists_at w.shows w.above (row_from w).row (row_from w).there (row_from w).kind))
+      read_is w.shows w.above (row_from w).row (row_from w).there (row_from w).kind body (subst (λ d. Lists (entries_at w.tree w.ids d) body) (sym one_path) w.lists)
 
-  abbrev pub has_both_in : (read : List ℕ) → read ≡ body → HasBothIn H a from read n e
+  abbrev pub has_both_in : (read : List ℕ) → read ≡ body → HasBothIn H a (home w) read n e
   has_both_in read e2 = record { both = has_both; text = e2 ∙ body_here }
 
   abbrev pub map1 : BlobMap
   map1 = insert w.map (w.ids w.above) (blob Directory (above w.ids w.above) (body_of (without n listing)))
 
-  pub stays : (c : S) → HasEntries H c w.map from (above w.ids w.above) (renamed n e listing) → IsOnTheWay H c w.tree w.ids (looks2 w)
+  pub stays : (c : S) → HasEntries H c w.map (home w) (above w.ids w.above) (renamed n e listing) → IsOnTheWay H c w.tree w.ids (looks2 w)
   stays c h =
       let listed : List ℕ = body_of (renamed n e listing) in
       let first = from_without w.map w.root w.tree w.ids w.shows w.now n w.above e.0 w.below w.row w.can w.free (body_of (without n listing))

@@ -1,3 +1,4 @@
+pub mod Looks
 pub mod Edits
 pub mod Dropped
 pub mod Relocated

@@ -29,7 +29,7 @@ use Rattle.forest.proofs.Shown.{made_shows}
 use Rattle.forest.specs.Showing.{Performed, IsShownBy}
 use Rattle.path_walks.specs.Sights.{IsAt, IsOpen}
 use Rattle.path_rows.specs.Changes.{Making, Adding}
-use Rattle.path_walks.proofs.Nodes.{lists_at, directory_at, same_lists, size_at, lists_with}
+use Rattle.path_walks.proofs.Nodes.{lists_at, directory_at, size_at, lists_with, read_is}
 use Rattle.path_rows.proofs.Edits.{put_named}
 use Rattle.path_walks.proofs.Steps.{folder_is, walk_free}
 use Rattle.path_walks.specs.declared.spots.Folder.{Folder}
@@ -64,7 +64,7 @@ module _ {S : Type 0} {H : BlobHoldings S} {a : S} {dir : Folder} {n body : List
 
   -- the body that was read is the directory's
   pub body_is : body ≡ body_of directory.listing
-  body_is = w.lists.is.text ∙ ap body_of (same_lists (entries_at w.tree w.ids w.path) body (w.shows.forest.nodes w.path at.row at.there).body w.lists (lists_at w.shows w.path at.row at.there kind))
+  body_is = read_is w.shows w.path at.row at.there kind body w.lists
 
   pub body_size : length body ≡ directory_size w.tree w.path
   body_size = ap length body_is ∙ size_is

@@ -17,17 +17,18 @@ use Rattle.fs_blobs.specs.Headers.{blob}
 use Rattle.fs_blobs.specs.Blobs.{IsBlob}
 use Rattle.dir_entries.specs.Layout.{EntryTarget, body_of}
 use Rattle.dir_entries.specs.Places.{without}
-use Rattle.dir_blob.specs.Directories.{HasName, HasRoom, HasRoomIn, HasEntries}
+use Rattle.dir_blob.specs.Directories.{HasName, HasNameIn, HasRoom, HasRoomIn, HasEntries}
 use Rattle.forest.specs.Nodes.{Look, Lists, IsBlobOf, IsForest}
 use Rattle.forest.specs.Shows.{above, target_for, entries_at}
 use Rattle.forest.proofs.Shown.{IsFolderRow, folder_row, entry_apart, same_last}
 use Rattle.forest.proofs.Moved.{looks_without, looks_with, from_without, onto_with, ids_moved, moved_shows, look_off, qd_off_q, below_p, below_q}
 use Rattle.forest.specs.Showing.{IsShownBy}
 use Rattle.forest.specs.Midst.{moved_ids}
+use Rattle.path_walks.specs.declared.spots.Occupancy.{Occupancy}
 use Rattle.path_rows.specs.Moves.{Moving}
-use Rattle.path_walks.proofs.Nodes.{lists_at, lists_of, same_lists, directory_at, above_wide, lists_with, entries_with, content_fits}
+use Rattle.path_walks.proofs.Nodes.{lists_at, lists_of, same_lists, directory_at, above_wide, lists_with, entries_with, content_fits, read_is}
 use Rattle.path_walks.proofs.Sizes.{sizes_shown, body_size}
-use Rattle.path_rows.proofs.Edits.{lists_without, sorted_put, size_put}
+use Rattle.path_rows.proofs.Edits.{lists_without, sorted_put, size_put, tails}
 
 -- the blobs are those of the tree, but for entries
 pub record IsOnTheWay {S : Type 0} (H : BlobHoldings S) (b : S) (t : Tree) (ids : Path → Id) (looks : Path → Look) : Type 0 where
@@ -35,10 +36,13 @@ pub record IsOnTheWay {S : Type 0} (H : BlobHoldings S) (b : S) (t : Tree) (ids 
   pub stands : H.stands_for b map
   pub forest : IsForest map t ids (above ids) looks
 
-tails : (k n : List ℕ) (p q : Path) → k ∷ p ≡ n ∷ q → p ≡ q
-tails k n p q e = cc
+module _ {S : Type 0} {H : BlobHoldings S} {a : S} {from : Occupancy} {to : Id} {body : List ℕ} {e : List ℕ × EntryTarget} (w : Moving H a from to body e) where
+  abbrev n : List ℕ
+  n = from.name.now
 
-module _ {S : Type 0} {H : BlobHoldings S} {a : S} {from : Id} {n : List ℕ} {to : Id} {body : List ℕ} {e : List ℕ × EntryTarget} (w : Moving H a from n to body e) where
+  abbrev pub home : Id
+  home = from.dir.place.blob.0
+
   abbrev pub p : Path
   p = n ∷ w.above
 
@@ -65,14 +69,17 @@ module _ {S : Type 0} {H : BlobHoldings S} {a : S} {from : Id} {n : List ℕ} {t
 
   -- ---- the entry goes
 
-  abbrev pub has_name : HasName H a from n
+  abbrev pub has_name : HasName H a home n
   has_name = record {
-    is = directory_at w.shows w.stands w.above row_from.row row_from.there row_from.kind from w.from_id;
+    is = directory_at w.shows w.stands w.above row_from.row row_from.there row_from.kind home w.from_id;
     target = record { attr = w.row.attr; blob = w.ids p };
     present = (lists_at w.shows w.above row_from.row row_from.there row_from.kind).entries n ∙ ap (target_for (w.ids p)) w.can.here;
   }
 
-  pub gone : (b : S) → HasEntries H b w.map from (above w.ids w.above) (without n has_name.is.listing) → IsOnTheWay H b w.tree w.ids looks1
+  abbrev pub has_name_in : (home ≡ to → ⊥) → (read : List ℕ) → read ≡ from.body.items → HasNameIn H a home read n
+  has_name_in apart read same = record { named = has_name; text = same ∙ read_is w.shows w.above row_from.row row_from.there row_from.kind from.body.items (w.left apart) }
+
+  pub gone : (b : S) → HasEntries H b w.map home (above w.ids w.above) (without n has_name.is.listing) → IsOnTheWay H b w.tree w.ids looks1
   gone b h = record {
     map = insert w.map (w.ids w.above) (blob Directory (above w.ids w.above) (body_of (without n has_name.is.listing)));
     stands = subst (λ z. H.stands_for b (insert w.map z (blob Directory (above w.ids w.above) (body_of (without n has_name.is.listing))))) (sym w.from_id) h.stands;
@@ -127,13 +134,13 @@ module _ {S : Type 0} {H : BlobHoldings S} {a : S} {from : Id} {n : List ℕ} {t
     }
 
     -- the body that was read is still that of the directory, which isn't the one that the entry left
-    pub body_to : (from ≡ to → ⊥) → body ≡ body_of lists_to.listing
+    pub body_to : (home ≡ to → ⊥) → body ≡ body_of lists_to.listing
     body_to apart =
         let read : Lists (looks1 w.below) body =
         record { listing = w.lists.listing; is = w.lists.is; entries = λ k. w.lists.entries k ∙ sym (entry_apart (entries_at w.tree w.ids) p None w.below k (λ z. apart (sym w.from_id ∙ (ap w.ids (sym (tails k n w.below w.above z)) ∙ w.to_id)))) } in
         w.lists.is.text ∙ ap body_of (same_lists (looks1 w.below) body node_to.body read lists_to)
 
-    abbrev pub has_room_in : (from ≡ to → ⊥) → (read : List ℕ) → read ≡ body → HasRoomIn H b to read e.0
+    abbrev pub has_room_in : (home ≡ to → ⊥) → (read : List ℕ) → read ≡ body → HasRoomIn H b to read e.0
     has_room_in apart read same = record { room = has_room; text = same ∙ body_to apart }
 
     pub came : (c : S) → HasEntries H c way.map to (above w.ids w.below) (put name_cmp e.0 e.1 lists_to.listing) → IsOnTheWay H c w.tree w.ids looks2
@@ -184,7 +191,7 @@ module _ {S : Type 0} {H : BlobHoldings S} {a : S} {from : Id} {n : List ℕ} {t
     }
 
     -- in the directory where it was, the blob has its parent already
-    pub rested : from ≡ to → IsShownBy H c w.root next (moved_ids w.ids p (e.0 ∷ w.below))
+    pub rested : home ≡ to → IsShownBy H c w.root next (moved_ids w.ids p (e.0 ∷ w.below))
     rested same =
         let there : get way.map e.1.blob ≡ Some (blob w.row.attr.kind to node_moved.body) = there_moved ∙ ap (λ z. Some (blob w.row.attr.kind z node_moved.body)) (w.from_id ∙ same) in
         relocated c (subst (H.stands_for c) (sym (inserted_again way.map e.1.blob (blob w.row.attr.kind to node_moved.body) there)) way.stands)

@@ -1,6 +1,7 @@
 -- A move onto something: it goes, and then its path is free.
 use Rattle.std.proofs.Common.{◌≡◌, ℕ, ◌≤◌, List, [], ◌∷◌, length, refl, sym, ◌∙◌, ap, subst, arith, inl, inr, cond}
-use Rattle.std.specs.FinMap.{get, remove}
+use Rattle.std.specs.FinMap.{find, get, remove}
+use Rattle.std.specs.declared.option.Option.TheVariants.{None, Some}
 use Rattle.std.proofs.lemmas.Bool.{le-ltb}
 use Rattle.std.proofs.lemmas.Option.{none-some}
 use Rattle.blob_api.specs.BlobMap.{Id, BlobHoldings}
@@ -8,27 +9,32 @@ use Rattle.fs_model.specs.declared.limits.TheConstants.{MAX_ENTRIES}
 use Rattle.fs_model.specs.declared.error.FsError.TheVariants.{TooLarge}
 use Rattle.fs_model.specs.declared.reply.Reply.{Reply}
 use Rattle.fs_model.specs.Instant.{Instant}
-use Rattle.fs_model.specs.Tree.{Path, Tree, directory_size, IsWellFormed}
+use Rattle.fs_model.specs.Tree.{Path, Tree, name_cmp, directory_size, IsWellFormed}
 use Rattle.fs_model.specs.Step.{refused, done, touched, moved_tree, moved_unless_large}
-use Rattle.fs_model.proofs.TreeLemmas.{path_split, remove_here, remove_apart}
+use Rattle.fs_model.proofs.TreeLemmas.{same_name, path_split, remove_here, remove_apart}
 use Rattle.fs_model.proofs.MovedSize.{size_within_found, size_across_found}
 use Rattle.fs_model.proofs.PutRows.{remove_bare}
 use Rattle.forest.proofs.Moved.{moved_after, can_move_after}
-use Rattle.path_walks.specs.declared.spots.Folder.{Folder}
+use Rattle.path_walks.specs.declared.spots.Occupancy.{Occupancy}
 use Rattle.path_walks.specs.declared.spots.Place.{Place}
 use Rattle.path_entries.proofs.Places.{still_at}
 use Rattle.forest.specs.Showing.{IsShownBy, PerformedBy}
 use Rattle.path_walks.specs.Sights.{IsAt}
-use Rattle.path_walks.proofs.Nodes.{lists_at}
-use Rattle.path_walks.proofs.Steps.{directory_seen, folder_is}
-use Rattle.dir_entries.specs.Layout.{body_of}
-use Rattle.dir_blob.specs.Directories.{IsDirectory}
+use Rattle.dir_entries.specs.Layout.{EntryTarget, body_of}
+use Rattle.dir_entries.specs.Places.{without}
 use Rattle.forest.specs.Nodes.{Lists}
-use Rattle.forest.specs.Shows.{entries_at}
+use Rattle.forest.specs.Shows.{entries_at, target_for}
 use Rattle.path_rows.specs.Changes.{Dropping}
 use Rattle.path_rows.specs.Moves.{Heading, Replacing}
+use Rattle.path_rows.proofs.Edits.{entries_without, without_is, look_gone, tails}
 
-module _ {S : Type 0} {H : BlobHoldings S} {a : S} {now : Instant} {from : Folder} {n : List ℕ} {place : Place} {to : Folder} {k : List ℕ} {replaced : Place} (w : Replacing H a now from n place to k replaced) where
+module _ {S : Type 0} {H : BlobHoldings S} {a : S} {now : Instant} {from to : Occupancy} (w : Replacing H a now from to) where
+  abbrev n : List ℕ
+  n = from.name.now
+
+  abbrev k : List ℕ
+  k = to.name.now
+
   abbrev pub q : Path
   q = k ∷ w.below
 
@@ -39,7 +45,7 @@ module _ {S : Type 0} {H : BlobHoldings S} {a : S} {now : Instant} {from : Folde
   formed = remove_bare w.tree k w.below w.shows.well_formed (λ m. w.can.bare [] m)
 
   -- the row that goes
-  abbrev pub dropping : Dropping H a to.place.blob.0 k replaced.blob.0
+  abbrev pub dropping : Dropping H a to.dir.place.blob.0 to.body.items k to.place.blob.0
   dropping = record {
     map = w.map;
     stands = w.stands;
@@ -52,6 +58,7 @@ module _ {S : Type 0} {H : BlobHoldings S} {a : S} {now : Instant} {from : Folde
     there = w.old_at.there;
     dir_id = w.to_at.blob;
     blob_id = w.old_at.blob;
+    lists = w.lists;
     well_formed = formed;
   }
 
@@ -63,29 +70,43 @@ module _ {S : Type 0} {H : BlobHoldings S} {a : S} {now : Instant} {from : Folde
   off_above : w.above ≡ q → ⊥
   off_above e = none-some w.row (sym (w.can.bare [] n) ∙ (ap (λ z. get w.tree (n ∷ z)) (sym e) ∙ w.can.here))
 
-  pub from_stays : IsAt rest w.ids w.above from.place
-  from_stays = stays w.above from.place off_above w.from_at
+  pub from_stays : IsAt rest w.ids w.above from.dir.place
+  from_stays = stays w.above from.dir.place off_above w.from_at
 
-  pub place_stays : IsAt rest w.ids (n ∷ w.above) place
-  place_stays = stays (n ∷ w.above) place w.can.differ w.place_at
+  pub place_stays : IsAt rest w.ids (n ∷ w.above) from.place
+  place_stays = stays (n ∷ w.above) from.place w.can.differ w.place_at
 
-  pub to_stays : IsAt rest w.ids w.below to.place
-  to_stays = stays w.below to.place (λ e. omega (arith, ap length e)) w.to_at
+  pub to_stays : IsAt rest w.ids w.below to.dir.place
+  to_stays = stays w.below to.dir.place (λ e. omega (arith, ap length e)) w.to_at
 
-  -- then its directory is read
-  abbrev pub seen : (b : S) → IsShownBy H b w.root rest w.ids → IsDirectory H b to.place.blob.0
-  seen b h = directory_seen h.shows h.stands w.below to.place to_stays w.folder
+  -- the body of its directory without it
+  abbrev pub target : EntryTarget
+  target = record { attr = w.old_at.row.attr; blob = w.ids q }
 
-  pub lists_seen : (b : S) (h : IsShownBy H b w.root rest w.ids) (body : List ℕ) → body ≡ body_of (seen b h).listing → Lists (entries_at rest w.ids w.below) body
-  lists_seen b h body text =
-      let lists = lists_at h.shows w.below to_stays.row to_stays.there (folder_is rest w.ids w.below to.place to_stays w.folder) in
-      record { listing = lists.listing; is = record { entries = lists.is.entries; text = text }; entries = lists.entries }
+  pub present : find name_cmp k w.lists.listing ≡ Some target
+  present = w.lists.entries k ∙ ap (target_for (w.ids q)) w.old_at.there
+
+  pub lists_left : (left : List ℕ) → left ≡ body_of (without k w.lists.listing) → Lists (entries_at rest w.ids w.below) left
+  lists_left left text = record {
+    listing = without k w.lists.listing;
+    is = record { entries = without_is k w.lists.listing w.lists.is.entries; text = text };
+    entries = λ m. entries_without w.lists.listing k m ∙ (ap (cond (same_name m k) None) (w.lists.entries m) ∙ look_gone w.tree w.ids k w.below m);
+  }
+
+  -- that of another one stays
+  pub from_lists : (from.dir.place.blob.0 ≡ to.dir.place.blob.0 → ⊥) → Lists (entries_at rest w.ids w.above) from.body.items
+  from_lists apart = record {
+    listing = w.left.listing;
+    is = w.left.is;
+    entries = λ m. w.left.entries m
+        ∙ ap (target_for (w.ids (m ∷ w.above))) (sym (remove_apart w.tree q (m ∷ w.above) (λ e. apart (sym w.from_at.blob ∙ (ap w.ids (tails m k w.above w.below e) ∙ w.to_at.blob)))));
+  }
 
   -- and the path is free
-  abbrev pub heading : (b : S) (h : IsShownBy H b w.root rest w.ids) (c : S) → H.stands_for c h.map → (body : List ℕ) → body ≡ body_of (seen b h).listing → Heading H c now from n place to k body
-  heading b h c stands body text = record {
+  abbrev pub heading : (b : S) → IsShownBy H b w.root rest w.ids → (left : List ℕ) → left ≡ body_of (without k w.lists.listing) → Heading H b now from to.dir k left
+  heading b h left text = record {
     map = h.map;
-    stands = stands;
+    stands = h.stands;
     root = w.root;
     tree = rest;
     ids = w.ids;
@@ -101,7 +122,8 @@ module _ {S : Type 0} {H : BlobHoldings S} {a : S} {now : Instant} {from : Folde
     place_at = place_stays;
     to_at = to_stays;
     folder = w.folder;
-    lists = lists_seen b h body text;
+    left = from_lists;
+    lists = lists_left left text;
   }
 
   abbrev next : Tree

@@ -10,7 +10,7 @@ use Rattle.forest.specs.Nodes.{Lists}
 use Rattle.forest.specs.Shows.{ShowsBy, entries_at}
 use Rattle.path_walks.specs.declared.spots.Folder.{Folder}
 use Rattle.path_walks.specs.declared.spots.Place.{Place}
-use Rattle.path_walks.specs.Sights.{IsVacant, Finding, Standing}
+use Rattle.path_walks.specs.Sights.{IsVacant, Standing}
 
 -- a directory in which a name is free, where a row is to be made, and its body
 pub record Making {S : Type 0} (H : BlobHoldings S) (a : S) (dir : Folder) (n body : List ℕ) (row : Row) : Type 0 where
@@ -31,8 +31,8 @@ pub record Adding {S : Type 0} (H : BlobHoldings S) (a : S) (dir : Folder) (n bo
   pub making : Making H a dir n body row
   pub room : directory_size making.tree making.path + entry_size n ≤ MAX_ENTRIES
 
--- a row that may go, with its directory's blob and its own
-pub record Dropping {S : Type 0} (H : BlobHoldings S) (a : S) (dir : Id) (n : List ℕ) (blob : Id) : Type 0 where
+-- a row that may go, with its directory's blob and body and its own blob
+pub record Dropping {S : Type 0} (H : BlobHoldings S) (a : S) (dir : Id) (body n : List ℕ) (blob : Id) : Type 0 where
   pub map : BlobMap
   pub stands : H.stands_for a map
   pub root : Id
@@ -44,12 +44,8 @@ pub record Dropping {S : Type 0} (H : BlobHoldings S) (a : S) (dir : Id) (n : Li
   pub there : get tree (n ∷ path) ≡ Some row
   pub dir_id : ids path ≡ dir
   pub blob_id : ids (n ∷ path) ≡ blob
+  pub lists : Lists (entries_at tree ids path) body
   pub well_formed : IsWellFormed (remove tree (n ∷ path))
-
--- what stands under the name of a directory is to go, if its kind and its children let it
-pub record Removing {S : Type 0} (H : BlobHoldings S) (a : S) (root : Id) (dir : Folder) (n : List ℕ) (place : Place) : Type 0 where
-  pub finding : Finding H a root dir.place n place
-  pub names : finding.path ≡ upward dir.names.now
 
 -- a directory stands there
 pub record DirectoryAt {S : Type 0} (H : BlobHoldings S) (a : S) (place : Place) : Type 0 where

@@ -3,29 +3,25 @@ use Rattle.std.specs.Prelude.{◌≡◌, ℕ, Bool, false, List, ◌∷◌}
 use Rattle.std.specs.FinMap.{get}
 use Rattle.std.specs.declared.option.Option.{Option}
 use Rattle.std.specs.declared.option.Option.TheVariants.{None, Some}
-use Rattle.blob_api.specs.BlobMap.{Id, BlobMap, BlobHoldings}
+use Rattle.blob_api.specs.BlobMap.{Id, BlobHoldings}
 use Rattle.fs_model.specs.declared.error.FsError.{FsError}
-use Rattle.fs_model.specs.Tree.{Path, Tree, upward, same_path, is_root}
+use Rattle.fs_model.specs.Tree.{Path, Tree, same_path, is_root}
 use Rattle.fs_model.specs.Move.{is_above}
 use Rattle.fs_model.specs.Step.{Stepped, refused, moved_onto}
-use Rattle.forest.specs.Shows.{ShowsBy}
-use Rattle.path_walks.specs.declared.spots.Folder.{Folder}
-use Rattle.path_walks.specs.declared.spots.Place.{Place}
-use Rattle.path_walks.specs.Sights.{IsFound}
+use Rattle.path_walks.specs.declared.spots.Occupancy.{Occupancy}
+use Rattle.path_walks.specs.Sights.{Finding}
 
--- a row stands under the name of a directory, and isn't above the path q, not the root, to which it is to move
-pub record Onward {S : Type 0} (H : BlobHoldings S) (a : S) (root : Id) (dir : Folder) (n : List ℕ) (place : Place) (q : Path) (same : Bool) : Type 0 where
-  pub map : BlobMap
-  pub stands : H.stands_for a map
-  pub tree : Tree
-  pub ids : Path → Id
-  pub shows : ShowsBy map root tree ids
-  pub path : Path
-  pub names : path ≡ upward dir.names.now
-  pub is : IsFound tree ids path n dir.place place
-  pub off : is_above (n ∷ path) q ≡ false
+-- a row was found, in the tree from this root on
+pub record Leaving {S : Type 0} (H : BlobHoldings S) (a : S) (root : Id) (at : Occupancy) : Type 0 where
+  pub finding : Finding H a at
+  pub from : finding.root ≡ root
+
+-- and it isn't at or above the path q, not the root, to which it is to move
+pub record Onward {S : Type 0} (H : BlobHoldings S) (a : S) (root : Id) (at : Occupancy) (q : Path) : Type 0 where
+  pub leaving : Leaving H a root at
+  pub off : is_above (at.name.now ∷ leaving.finding.path) q ≡ false
   pub off_root : is_root q ≡ false
-  pub same_is : same_path (n ∷ path) q ≡ same
+  pub differ : same_path (at.name.now ∷ leaving.finding.path) q ≡ false
 
 -- nothing stands below q, and no kind is against the move
 pub record Lets (t : Tree) (q : Path) (from onto : Bool) : Type 0 where

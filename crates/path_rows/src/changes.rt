@@ -11,12 +11,13 @@ ghost use Rattle.path_rows.specs.Moves.{Moving};
 
 use crate::made::Vacancy;
 use blob_api::Blobs;
-use block_id::{BlockId, Fail};
-use dir_blob::{insert_in, remove, rename};
+use block_id::Fail;
+use dir_blob::{insert_in, remove_in, rename};
 use dir_entries::Entry;
 use fs_blobs::set_parent;
-use fs_model::{MAX_MODE, Name};
+use fs_model::MAX_MODE;
 use path_entries::is_same;
+use path_walks::Occupancy;
 use rand_core::Rng;
 use std::alloc::Global;
 
@@ -24,17 +25,16 @@ use std::alloc::Global;
 pub fn drop_at<B: Blobs, R: Rng>(
     alloc: Global,
     b: &mut B,
-    dir: &BlockId,
-    name: &Name,
-    blob: &BlockId,
+    at: &Occupancy,
     chance: &mut R,
 ) -> Result<(), Fail>
     requires { B.meanings.intact b.old }
-    ensures { Outcome B.meanings (Dropping B.holdings b.old dir.now.0 name.now blob.now.0) b.old b.new result
-        (λ n _. IsShownBy B.holdings b.new n.root (without_key n.tree (name.now ∷ n.path)) n.ids) }
+    ensures { Outcome B.meanings (Dropping B.holdings b.old at.now.dir.place.blob.0 at.now.body.items at.now.name.now at.now.place.blob.0) b.old b.new result
+        (λ n _. IsShownBy B.holdings b.new n.root (without_key n.tree (at.now.name.now ∷ n.path)) n.ids) }
 {
-    remove(alloc, b, dir, name, chance)?;
-    b.remove(alloc, blob)
+    let dir = at.dir.place.blob;
+    remove_in(alloc, b, &dir, &at.body, at.name, chance)?;
+    b.remove(alloc, &at.place.blob)
 }
 
 /// A row and what lies below it go to a path that is free: the entry goes from its directory to another, which the
@@ -42,22 +42,22 @@ pub fn drop_at<B: Blobs, R: Rng>(
 pub fn relocate<B: Blobs, R: Rng>(
     alloc: Global,
     b: &mut B,
-    from: &BlockId,
-    name: &Name,
+    from: &Occupancy,
     to: &Vacancy,
     entry: &Entry,
     chance: &mut R,
 ) -> Result<(), Fail>
     requires intact { B.meanings.intact b.old }
     requires mode { entry.now.attr.mode ≤ MAX_MODE }
-    ensures { Outcome B.meanings (Moving B.holdings b.old from.now.0 name.now to.now.dir.place.blob.0 to.now.body.items (entry_of entry.now)) b.old b.new result
-        (λ n _. IsShownBy B.holdings b.new n.root (moved_tree n.tree n.now (name.now ∷ n.above) (entry.now.name ∷ n.below) n.row) (moved_ids n.ids (name.now ∷ n.above) (entry.now.name ∷ n.below))) }
+    ensures { Outcome B.meanings (Moving B.holdings b.old from.now to.now.dir.place.blob.0 to.now.body.items (entry_of entry.now)) b.old b.new result
+        (λ n _. IsShownBy B.holdings b.new n.root (moved_tree n.tree n.now (from.now.name.now ∷ n.above) (entry.now.name ∷ n.below) n.row) (moved_ids n.ids (from.now.name.now ∷ n.above) (entry.now.name ∷ n.below))) }
 {
+    let left = from.dir.place.blob;
     let dir = to.dir.place.blob;
-    if is_same(from, &dir) {
-        return rename(alloc, b, from, &to.body, name, entry, chance);
+    if is_same(&left, &dir) {
+        return rename(alloc, b, &left, &to.body, from.name, entry, chance);
     }
-    remove(alloc, b, from, name, chance)?;
+    remove_in(alloc, b, &left, &from.body, from.name, chance)?;
     insert_in(alloc, b, &dir, &to.body, entry, chance)?;
     set_parent(alloc, b, &entry.blob, &dir, chance)
 }

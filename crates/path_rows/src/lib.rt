@@ -1,6 +1,7 @@
 //! Commands that change which rows the tree has, on the tree that blobs show.
 #![tactic(auto)]
 
+mod beside;
 mod changes;
 mod empty;
 mod folders;

@@ -97,7 +97,10 @@ fn make<B: Blobs, R: Rng>(
     match split_last(names) {
         None => Ok(Reply::Error(FsError::Exists)),
         Some((name, dirs)) => match look_at(alloc, b, root, dirs, name) {
-            Ok(Sight::Found(_, _)) => Ok(Reply::Error(FsError::Exists)),
+            Ok(Sight::Found(_, _, body)) => {
+                drop(body);
+                Ok(Reply::Error(FsError::Exists))
+            }
             Ok(Sight::Vacant(dir, body)) => {
                 let vacancy = Vacancy {
                     dir: Folder {

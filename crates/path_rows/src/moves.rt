@@ -11,11 +11,11 @@ use crate::changes::{drop_at, relocate};
 use crate::made::Vacancy;
 use blob_api::Blobs;
 use block_id::Fail;
-use dir_blob::whole_body;
+use dir_blob::body_without;
 use dir_entries::Entry;
-use fs_model::{Attr, ENTRY_SIZE, FsError, MAX_ENTRIES, MAX_MODE, Moment, Name, Reply};
+use fs_model::{Attr, ENTRY_SIZE, FsError, MAX_ENTRIES, MAX_MODE, Moment, Reply};
 use path_entries::{is_same, touch_both};
-use path_walks::{Folder, Place, done};
+use path_walks::{Folder, Occupancy, done};
 use rand_core::Rng;
 use std::alloc::Global;
 
@@ -25,24 +25,22 @@ pub fn move_free<B: Blobs, R: Rng>(
     alloc: Global,
     b: &mut B,
     now: Moment,
-    from: &Folder,
-    name: &Name,
-    place: Place,
+    from: &Occupancy,
     to: &Vacancy,
     chance: &mut R,
 ) -> Result<Reply, Fail>
     requires intact { B.meanings.intact b.old }
-    requires mode { place.attr.mode ≤ MAX_MODE }
-    requires from_mode { from.now.place.attr.mode ≤ MAX_MODE }
+    requires mode { from.now.place.attr.mode ≤ MAX_MODE }
+    requires from_mode { from.now.dir.place.attr.mode ≤ MAX_MODE }
     requires to_mode { to.now.dir.place.attr.mode ≤ MAX_MODE }
     ensures variant { IfOk result IsChangeReply }
-    ensures did { Outcome B.meanings (Heading B.holdings b.old now from.now name.now place to.now.dir to.now.name.now to.now.body.items) b.old b.new result
-        (λ n r. PerformedBy B.holdings b.new n.root (moved_unless_large n.tree now (name.now ∷ n.above) (to.now.name.now ∷ n.below) (moved_tree n.tree now (name.now ∷ n.above) (to.now.name.now ∷ n.below) n.row)) r
-        (ids_then r n.ids (moved_ids n.ids (name.now ∷ n.above) (to.now.name.now ∷ n.below)))) }
+    ensures did { Outcome B.meanings (Heading B.holdings b.old now from.now to.now.dir to.now.name.now to.now.body.items) b.old b.new result
+        (λ n r. PerformedBy B.holdings b.new n.root (moved_unless_large n.tree now (from.now.name.now ∷ n.above) (to.now.name.now ∷ n.below) (moved_tree n.tree now (from.now.name.now ∷ n.above) (to.now.name.now ∷ n.below) n.row)) r
+        (ids_then r n.ids (moved_ids n.ids (from.now.name.now ∷ n.above) (to.now.name.now ∷ n.below)))) }
 {
     let size = to.body.len() as u64;
-    let left = if is_same(&from.place.blob, &to.dir.place.blob) {
-        ENTRY_SIZE + name.as_slice().len() as u64
+    let left = if is_same(&from.dir.place.blob, &to.dir.place.blob) {
+        ENTRY_SIZE + from.name.as_slice().len() as u64
     } else {
         0
     };
@@ -53,47 +51,44 @@ pub fn move_free<B: Blobs, R: Rng>(
     }
     let attr = Attr {
         ctime: now,
-        ..place.attr
+        ..from.place.attr
     };
     let entry = Entry {
         name: to.name.try_clone()?,
         attr,
-        blob: place.blob,
+        blob: from.place.blob,
     };
-    relocate(alloc, b, &from.place.blob, name, to, &entry, chance)?;
-    done(touch_both(alloc, b, from, &to.dir, now, chance))
+    relocate(alloc, b, from, to, &entry, chance)?;
+    done(touch_both(alloc, b, &from.dir, &to.dir, now, chance))
 }
 
 /// A row moves onto another one, which goes with its blob.
-pub fn move_onto<'x, B: Blobs, R: Rng>(
+pub fn move_onto<B: Blobs, R: Rng>(
     alloc: Global,
     b: &mut B,
     now: Moment,
-    from: &Folder,
-    name: &Name,
-    place: Place,
-    to: &Folder<'x>,
-    to_name: &'x Name,
-    replaced: Place,
+    from: &Occupancy,
+    to: &Occupancy,
     chance: &mut R,
 ) -> Result<Reply, Fail>
     requires intact { B.meanings.intact b.old }
-    requires mode { place.attr.mode ≤ MAX_MODE }
-    requires from_mode { from.now.place.attr.mode ≤ MAX_MODE }
-    requires to_mode { to.now.place.attr.mode ≤ MAX_MODE }
+    requires mode { from.now.place.attr.mode ≤ MAX_MODE }
+    requires from_mode { from.now.dir.place.attr.mode ≤ MAX_MODE }
+    requires to_mode { to.now.dir.place.attr.mode ≤ MAX_MODE }
     ensures variant { IfOk result IsChangeReply }
-    ensures did { Outcome B.meanings (Replacing B.holdings b.old now from.now name.now place to.now to_name.now replaced) b.old b.new result
-        (λ n r. PerformedBy B.holdings b.new n.root (moved_unless_large n.tree now (name.now ∷ n.above) (to_name.now ∷ n.below) (moved_tree n.tree now (name.now ∷ n.above) (to_name.now ∷ n.below) n.row)) r
-        (ids_then r n.ids (moved_ids n.ids (name.now ∷ n.above) (to_name.now ∷ n.below)))) }
+    ensures did { Outcome B.meanings (Replacing B.holdings b.old now from.now to.now) b.old b.new result
+        (λ n r. PerformedBy B.holdings b.new n.root (moved_unless_large n.tree now (from.now.name.now ∷ n.above) (to.now.name.now ∷ n.below) (moved_tree n.tree now (from.now.name.now ∷ n.above) (to.now.name.now ∷ n.below) n.row)) r
+        (ids_then r n.ids (moved_ids n.ids (from.now.name.now ∷ n.above) (to.now.name.now ∷ n.below)))) }
 {
-    drop_at(alloc, b, &to.place.blob, to_name, &replaced.blob, chance)?;
+    let left = body_without(alloc, &to.body, to.name)?;
+    drop_at(alloc, b, to, chance)?;
     let vacancy = Vacancy {
         dir: Folder {
-            names: to.names,
-            place: to.place,
+            names: to.dir.names,
+            place: to.dir.place,
         },
-        name: to_name,
-        body: whole_body(alloc, b, &to.place.blob)?,
+        name: to.name,
+        body: left,
     };
-    move_free(alloc, b, now, from, name, place, &vacancy, chance)
+    move_free(alloc, b, now, from, &vacancy, chance)
 }

@@ -9,13 +9,14 @@ ghost use Rattle.path_walks.specs.Replies.{IsChangeReply};
 ghost use Rattle.path_walks.specs.Sights.{Standing};
 ghost use Rattle.path_rows.specs.Onward.{Onward, RefusesOnto};
 
+use crate::beside::look_beside;
 use crate::folders::{has_child, is_directory};
 use crate::made::Vacancy;
 use crate::moves::{move_free, move_onto};
 use blob_api::Blobs;
 use block_id::{BlockId, Fail};
 use fs_model::{FsError, MAX_MODE, Moment, Name, Reply};
-use path_walks::{Folder, Place, Reached, Sight, look_at, reach, split_last};
+use path_walks::{Folder, Occupancy, Place, Reached, Sight, reach, split_last};
 use rand_core::Rng;
 use std::alloc::Global;
 use tree_rules::{is_above, same_names};
@@ -39,12 +40,14 @@ pub fn move_row<B: Blobs, R: Rng>(
         return Ok(Reply::Error(FsError::Busy));
     }
     match reach(alloc, b, root, from, FsError::Busy) {
-        Ok(Reached::Row(dir, name, place)) => {
+        Ok(Reached::Row(at)) => {
             if is_above(from, to) {
                 return Ok(Reply::Error(FsError::Invalid));
             }
-            let same = same_names(from, to);
-            move_found(alloc, b, root, &dir, name, place, to, same, now, chance)
+            if same_names(from, to) {
+                return Ok(Reply::Done);
+            }
+            move_found(alloc, b, root, &at, to, now, chance)
         }
         Ok(Reached::Refused(error)) => Ok(Reply::Error(error)),
         Err(fail) => Err(fail),
@@ -56,51 +59,51 @@ fn move_found<B: Blobs, R: Rng>(
     alloc: Global,
     b: &mut B,
     root: &BlockId,
-    dir: &Folder,
-    name: &Name,
-    place: Place,
+    from: &Occupancy,
     to_names: &[Name],
-    same: bool,
     now: Moment,
     chance: &mut R,
 ) -> Result<Reply, Fail>
     requires intact { B.meanings.intact b.old }
-    requires mode { place.attr.mode ≤ MAX_MODE }
-    requires dir_mode { dir.now.place.attr.mode ≤ MAX_MODE }
-    ensures outcome { Outcome B.meanings (Onward B.holdings b.old root.now.0 dir.now name.now place (upward to_names.now) same) b.old b.new result
-        (λ n r. Performed B.holdings b.new root.now.0 (moved_to n.tree now (name.now ∷ n.path) (upward to_names.now) n.is.here.row (look n.tree (upward to_names.now))) r) }
+    requires mode { from.now.place.attr.mode ≤ MAX_MODE }
+    requires dir_mode { from.now.dir.place.attr.mode ≤ MAX_MODE }
+    ensures outcome { Outcome B.meanings (Onward B.holdings b.old root.now.0 from.now (upward to_names.now)) b.old b.new result
+        (λ n r. Performed B.holdings b.new n.leaving.finding.root (moved_to n.leaving.finding.tree now (from.now.name.now ∷ n.leaving.finding.path) (upward to_names.now) n.leaving.finding.is.here.row (look n.leaving.finding.tree (upward to_names.now))) r) }
     ensures variant { IfOk result IsChangeReply }
 {
     match split_last(to_names) {
         None => Ok(Reply::Error(FsError::Busy)),
-        Some((to_name, to_dirs)) => match look_at(alloc, b, root, to_dirs, to_name) {
-            Ok(Sight::Found(to, old)) => {
-                if same {
-                    return Ok(Reply::Done);
-                }
-                match refusal_onto(alloc, b, &place, &old)? {
-                    Some(refusal) => Ok(Reply::Error(refusal)),
+        Some((name, dirs)) => match look_beside(alloc, b, root, from, dirs, name) {
+            Ok(Sight::Found(dir, place, body)) => {
+                match refusal_onto(alloc, b, &from.place, &place)? {
+                    Some(refusal) => {
+                        drop(body);
+                        Ok(Reply::Error(refusal))
+                    }
                     None => {
-                        let folder = Folder {
-                            names: to_dirs,
-                            place: to,
+                        let to = Occupancy {
+                            dir: Folder {
+                                names: dirs,
+                                place: dir,
+                            },
+                            name,
+                            place,
+                            body,
                         };
-                        move_onto(
-                            alloc, b, now, dir, name, place, &folder, to_name, old, chance,
-                        )
+                        move_onto(alloc, b, now, from, &to, chance)
                     }
                 }
             }
-            Ok(Sight::Vacant(to, body)) => {
-                let vacancy = Vacancy {
+            Ok(Sight::Vacant(dir, body)) => {
+                let to = Vacancy {
                     dir: Folder {
-                        names: to_dirs,
-                        place: to,
+                        names: dirs,
+                        place: dir,
                     },
-                    name: to_name,
+                    name,
                     body,
                 };
-                move_free(alloc, b, now, dir, name, place, &vacancy, chance)
+                move_free(alloc, b, now, from, &to, chance)
             }
             Ok(Sight::Lost(error)) => Ok(Reply::Error(error)),
             Err(fail) => Err(fail),

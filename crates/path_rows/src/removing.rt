@@ -6,7 +6,7 @@ ghost use Rattle.fs_model.specs.LookUp.{Found, look};
 ghost use Rattle.fs_model.specs.Step.{unless_root, removed_directory, removed_file};
 ghost use Rattle.forest.specs.Showing.{BlobsShow, Performed};
 ghost use Rattle.path_walks.specs.Replies.{IsChangeReply};
-ghost use Rattle.path_rows.specs.Changes.{Removing};
+ghost use Rattle.path_walks.specs.Sights.{Finding};
 
 use crate::changes::drop_at;
 use crate::folders::{has_child, is_directory};
@@ -14,7 +14,7 @@ use blob_api::Blobs;
 use block_id::{BlockId, Fail};
 use fs_model::{FsError, Kind, MAX_MODE, Moment, Name, Reply};
 use path_entries::touch;
-use path_walks::{Folder, Place, Reached, done, reach};
+use path_walks::{Occupancy, Reached, done, reach};
 use rand_core::Rng;
 use std::alloc::Global;
 
@@ -33,9 +33,7 @@ pub fn remove_directory<B: Blobs, R: Rng>(
     ensures variant { IfOk result IsChangeReply }
 {
     match reach(alloc, b, root, names, FsError::Busy) {
-        Ok(Reached::Row(dir, name, place)) => {
-            drop_directory(alloc, b, root, &dir, name, &place, now, chance)
-        }
+        Ok(Reached::Row(at)) => drop_directory(alloc, b, &at, now, chance),
         Ok(Reached::Refused(error)) => Ok(Reply::Error(error)),
         Err(fail) => Err(fail),
     }
@@ -45,26 +43,23 @@ pub fn remove_directory<B: Blobs, R: Rng>(
 fn drop_directory<B: Blobs, R: Rng>(
     alloc: Global,
     b: &mut B,
-    root: &BlockId,
-    dir: &Folder,
-    name: &Name,
-    place: &Place,
+    at: &Occupancy,
     now: Moment,
     chance: &mut R,
 ) -> Result<Reply, Fail>
     requires intact { B.meanings.intact b.old }
-    requires mode { dir.now.place.attr.mode ≤ MAX_MODE }
-    ensures outcome { Outcome B.meanings (Removing B.holdings b.old root.now.0 dir.now name.now place.now) b.old b.new result
-        (λ n r. Performed B.holdings b.new root.now.0 (removed_directory n.finding.tree now (name.now ∷ n.finding.path) (Found n.finding.is.here.row)) r) }
+    requires mode { at.now.dir.place.attr.mode ≤ MAX_MODE }
+    ensures outcome { Outcome B.meanings (Finding B.holdings b.old at.now) b.old b.new result
+        (λ n r. Performed B.holdings b.new n.root (removed_directory n.tree now (at.now.name.now ∷ n.path) (Found n.is.here.row)) r) }
     ensures variant { IfOk result IsChangeReply }
 {
-    match place.attr.kind {
+    match at.place.attr.kind {
         Kind::Directory => {
-            if has_child(alloc, b, place)? {
+            if has_child(alloc, b, &at.place)? {
                 return Ok(Reply::Error(FsError::NotEmpty));
             }
-            drop_at(alloc, b, &dir.place.blob, name, &place.blob, chance)?;
-            done(touch(alloc, b, dir, now, chance))
+            drop_at(alloc, b, at, chance)?;
+            done(touch(alloc, b, &at.dir, now, chance))
         }
         Kind::File => Ok(Reply::Error(FsError::NotDirectory)),
         Kind::Link => Ok(Reply::Error(FsError::NotDirectory)),
@@ -86,9 +81,7 @@ pub fn remove_file<B: Blobs, R: Rng>(
     ensures variant { IfOk result IsChangeReply }
 {
     match reach(alloc, b, root, names, FsError::Busy) {
-        Ok(Reached::Row(dir, name, place)) => {
-            drop_file(alloc, b, root, &dir, name, &place, now, chance)
-        }
+        Ok(Reached::Row(at)) => drop_file(alloc, b, &at, now, chance),
         Ok(Reached::Refused(error)) => Ok(Reply::Error(error)),
         Err(fail) => Err(fail),
     }
@@ -98,22 +91,19 @@ pub fn remove_file<B: Blobs, R: Rng>(
 fn drop_file<B: Blobs, R: Rng>(
     alloc: Global,
     b: &mut B,
-    root: &BlockId,
-    dir: &Folder,
-    name: &Name,
-    place: &Place,
+    at: &Occupancy,
     now: Moment,
     chance: &mut R,
 ) -> Result<Reply, Fail>
     requires intact { B.meanings.intact b.old }
-    requires mode { dir.now.place.attr.mode ≤ MAX_MODE }
-    ensures outcome { Outcome B.meanings (Removing B.holdings b.old root.now.0 dir.now name.now place.now) b.old b.new result
-        (λ n r. Performed B.holdings b.new root.now.0 (removed_file n.finding.tree now (name.now ∷ n.finding.path) (Found n.finding.is.here.row)) r) }
+    requires mode { at.now.dir.place.attr.mode ≤ MAX_MODE }
+    ensures outcome { Outcome B.meanings (Finding B.holdings b.old at.now) b.old b.new result
+        (λ n r. Performed B.holdings b.new n.root (removed_file n.tree now (at.now.name.now ∷ n.path) (Found n.is.here.row)) r) }
     ensures variant { IfOk result IsChangeReply }
 {
-    if is_directory(place.attr.kind) {
+    if is_directory(at.place.attr.kind) {
         return Ok(Reply::Error(FsError::IsDirectory));
     }
-    drop_at(alloc, b, &dir.place.blob, name, &place.blob, chance)?;
-    done(touch(alloc, b, dir, now, chance))
+    drop_at(alloc, b, at, chance)?;
+    done(touch(alloc, b, &at.dir, now, chance))
 }

@@ -15,8 +15,7 @@ use Rattle.fs_model.specs.Step.{Stepped, refused}
 use Rattle.forest.specs.Showing.{BlobsShow, Performed}
 use Rattle.path_walks.specs.declared.reaching.Reached.{Reached}
 use Rattle.path_walks.specs.declared.reaching.Reached.TheVariants.{Refused}
-use Rattle.path_walks.specs.declared.spots.Folder.{Folder}
-use Rattle.path_walks.specs.declared.spots.Place.{Place}
+use Rattle.path_walks.specs.declared.spots.Occupancy.{Occupancy}
 use Rattle.path_walks.specs.Reaching.{IsRow, ReachedIs}
 use Rattle.path_walks.specs.Sights.{Finding}
 use Rattle.path_walks.proofs.Seeing.{on_refused, on_row, row_finding}
@@ -32,9 +31,9 @@ module _ {S : Type 0} {M : Meanings S} {H : BlobHoldings S} {a b : S} {root : Id
       (on_refused n.tree (f n.tree) at_root e (root_is n.tree) (free n.tree) (bad n.tree) n.shows.well_formed.rooted p (subst (ReachedIs n.tree n.ids p at_root) is h.1)))
 
   -- where there is one, what is answered of the row that was found
-  pub reached_row : Lawful M → {dir : Folder} {place : Place} {name : List ℕ} → ((n : BlobsShow H a root) → ReachedIs n.tree n.ids p at_root reached → IsRow n.tree n.ids p name dir place) → {c : S} {r : Result Reply Fail}
-      → Outcome M (Finding H b root dir.place name place) b c r (λ w y. Performed H c root (f w.tree (name ∷ w.path) (Found w.is.here.row)) y)
+  pub reached_row : Lawful M → {at : Occupancy} → ((n : BlobsShow H a root) → ReachedIs n.tree n.ids p at_root reached → IsRow n.tree n.ids p at) → {c : S} {r : Result Reply Fail}
+      → Outcome M (Finding H b at) b c r (λ w y. Performed H c w.root (f w.tree (at.name.now ∷ w.path) (Found w.is.here.row)) y)
       → Outcome M (BlobsShow H a root) a c r (λ n y. Performed H c root (f n.tree p (look n.tree p)) y)
-  reached_row laws {dir = dir} {name = name} row {c = c} done =
+  reached_row laws {at = at} row {c = c} done =
       then_ laws o (λ n h. row_finding n b h.0 (row n h.1)) done
-      (λ n h y r. told_as (f n.tree (name ∷ upward dir.names.now) (Found (row n h.1).is.here.row)) (f n.tree p (look n.tree p)) y (on_row (f n.tree) (row n h.1)) r)
+      (λ n h y r. told_as (f n.tree (at.name.now ∷ upward at.dir.names.now) (Found (row n h.1).is.here.row)) (f n.tree p (look n.tree p)) y (on_row (f n.tree) (row n h.1)) r)

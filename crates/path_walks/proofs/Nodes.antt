@@ -87,6 +87,12 @@ same_lists look one other a b =
     get-from_sorted name_cmp a.listing n first ∙ (a.entries n ∙ (sym (b.entries n) ∙ sym (get-from_sorted name_cmp b.listing n second)))))
     ∙ entries-from_sorted name_cmp b.listing second)
 
+-- bytes that list what stands in a directory are its body
+pub read_is : {m : BlobMap} {root : Id} {t : Tree} {ids : Path → Id} (shows : ShowsBy m root t ids) (p : Path) (row : Row) (there : get t p ≡ Some row) (kind : row.attr.kind ≡ Directory) (body : List ℕ)
+    → Lists (entries_at t ids p) body → body ≡ body_of (lists_at shows p row there kind).listing
+read_is {t = t} {ids = ids} shows p row there kind body read =
+    read.is.text ∙ ap body_of (same_lists (entries_at t ids p) body (shows.forest.nodes p row there).body read (lists_at shows p row there kind))
+
 -- entries of a directory after one comes
 pub entries_with : (listing : Listing) (n : List ℕ) (target : EntryTarget) (k : List ℕ) → find name_cmp k (put name_cmp n target listing) ≡ cond (same_name k n) (Some target) (find name_cmp k listing)
 entries_with listing n target k = find-put name_cmp name_total k n target listing

@@ -13,18 +13,18 @@ use Rattle.fs_model.specs.Step.{Stepped, refused}
 use Rattle.fs_model.proofs.LookUpLemmas.{look-walk, look-found}
 use Rattle.forest.specs.Shows.{ShowsBy}
 use Rattle.forest.specs.Showing.{BlobsShow}
-use Rattle.path_walks.specs.declared.spots.Folder.{Folder}
+use Rattle.path_walks.specs.declared.spots.Occupancy.{Occupancy}
 use Rattle.path_walks.specs.declared.spots.Place.{Place}
 use Rattle.path_walks.specs.declared.spots.Sight.{Sight}
 use Rattle.path_walks.specs.declared.spots.Sight.TheVariants as sight
-use Rattle.path_walks.specs.Sights.{SightIs, IsFound, IsOpen, IsVacant, Finding}
+use Rattle.path_walks.specs.Sights.{SightIs, IsFound, IsFoundIn, IsOpen, IsVacant, Finding}
 use Rattle.path_walks.proofs.Steps.{walk_free}
 use Rattle.path_walks.specs.Reaching.{IsRow, refusal}
 
 -- ---- sights
 
-abbrev pub found : (t : Tree) (ids : Path → Id) (p : Path) (n : List ℕ) (seen : Sight) → SightIs t ids p n seen → (dir place : Place) → seen ≡ sight.Found dir place → IsFound t ids p n dir place
-found t ids p n seen h dir place is = subst (SightIs t ids p n) is h
+abbrev pub found : (t : Tree) (ids : Path → Id) (p : Path) (n : List ℕ) (seen : Sight) → SightIs t ids p n seen → (dir place : Place) (body : Vec ℕ Global) → seen ≡ sight.Found dir place body → IsFoundIn t ids p n dir place body.items
+found t ids p n seen h dir place body is = subst (SightIs t ids p n) is h
 
 abbrev pub vacant : (t : Tree) (ids : Path → Id) (p : Path) (n : List ℕ) (seen : Sight) → SightIs t ids p n seen → (dir : Place) (body : Vec ℕ Global) → seen ≡ sight.Vacant dir body → IsOpen t ids p n dir body.items
 vacant t ids p n seen h dir body is = subst (SightIs t ids p n) is h
@@ -62,11 +62,22 @@ module _ (t : Tree) (f : Path → LookedUp → Stepped) (at_root e : FsError) (r
 
 -- ---- rows
 
-abbrev pub row_finding : {S : Type 0} {H : BlobHoldings S} {a : S} {root : Id} (w : BlobsShow H a root) (b : S) → H.stands_for b w.map → {p : Path} {n : List ℕ} {dir : Folder} {place : Place} → IsRow w.tree w.ids p n dir place → Finding H b root dir.place n place
-row_finding w b stands {dir = dir} row = record { map = w.map; stands = stands; tree = w.tree; ids = w.ids; shows = w.shows; path = upward dir.names.now; is = row.is }
+abbrev pub row_finding : {S : Type 0} {H : BlobHoldings S} {a : S} {root : Id} (w : BlobsShow H a root) (b : S) → H.stands_for b w.map → {p : Path} {at : Occupancy} → IsRow w.tree w.ids p at → Finding H b at
+row_finding {root = root} w b stands {at = at} row = record {
+  map = w.map;
+  stands = stands;
+  root = root;
+  tree = w.tree;
+  ids = w.ids;
+  shows = w.shows;
+  path = upward at.dir.names.now;
+  names = refl;
+  is = row.is;
+  lists = row.lists;
+}
 
 -- a step at the path of a row
-pub on_row : {t : Tree} {ids : Path → Id} (f : Path → LookedUp → Stepped) {p : Path} {n : List ℕ} {dir : Folder} {place : Place} (row : IsRow t ids p n dir place) → f p (look t p) ≡ f (n ∷ upward dir.names.now) (Found row.is.here.row)
-on_row {t = t} f {p = p} {n = n} {dir = dir} row =
-    let q = n ∷ upward dir.names.now in
+pub on_row : {t : Tree} {ids : Path → Id} (f : Path → LookedUp → Stepped) {p : Path} {at : Occupancy} (row : IsRow t ids p at) → f p (look t p) ≡ f (at.name.now ∷ upward at.dir.names.now) (Found row.is.here.row)
+on_row {t = t} f {p = p} {at = at} row =
+    let q = at.name.now ∷ upward at.dir.names.now in
     on_path t f p q (Found row.is.here.row) row.split (look-found t q row.is.here.row row.is.here.there)

@@ -86,7 +86,12 @@ seen_under shows p dir at kind n body None found text =
       vacant = record { above = at; folder = kind; none = stepped_out shows p dir at kind n found };
       lists = record { listing = lists.listing; is = record { entries = lists.is.entries; text = text }; entries = lists.entries };
     }
-seen_under shows p dir at kind n body (Some x) found text = record { above = at; folder = kind; here = stepped_to shows p dir at kind n x.0 x.1 found }
+seen_under shows p dir at kind n body (Some x) found text =
+    let lists = lists_at shows p at.row at.there (row_kind shows p dir at kind n) in
+    record {
+      found = record { above = at; folder = kind; here = stepped_to shows p dir at kind n x.0 x.1 found };
+      lists = record { listing = lists.listing; is = record { entries = lists.is.entries; text = text }; entries = lists.entries };
+    }
 
 pub names_on : (ns : List (List ℕ)) (i : ℕ) (n : List ℕ) → i < length ns → n ≡ get_or ns i n → n ∷ upward (take i ns) ≡ upward (take (i + 1) ns)
 names_on ns i n lt e = ap (λ x. x ∷ upward (take i ns)) e ∙ sym (names_more ns i n lt)

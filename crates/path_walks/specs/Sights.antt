@@ -10,10 +10,11 @@ use Rattle.fs_model.specs.declared.attr.Attr.{Attr}
 use Rattle.fs_model.specs.declared.attr.Kind.TheVariants.{Directory}
 use Rattle.fs_model.specs.declared.error.FsError.{FsError}
 use Rattle.fs_model.specs.declared.limits.TheConstants.{MAX_MODE}
-use Rattle.fs_model.specs.Tree.{Path, Row, Tree}
+use Rattle.fs_model.specs.Tree.{Path, Row, Tree, upward}
 use Rattle.fs_model.specs.LookUp.{Found, Bad, walk}
 use Rattle.forest.specs.Nodes.{Lists}
 use Rattle.forest.specs.Shows.{ShowsBy, entries_at}
+use Rattle.path_walks.specs.declared.spots.Occupancy.{Occupancy}
 use Rattle.path_walks.specs.declared.spots.Place.{Place}
 use Rattle.path_walks.specs.declared.spots.Spot.{Spot}
 use Rattle.path_walks.specs.declared.spots.Spot.TheVariants.{Here, Wrong}
@@ -49,6 +50,11 @@ pub record IsFound (t : Tree) (ids : Path → Id) (p : Path) (n : List ℕ) (dir
   pub folder : dir.attr.kind ≡ Directory
   pub here : IsAt t ids (n ∷ p) place
 
+-- the same, and these bytes list what stands in the directory
+pub record IsFoundIn (t : Tree) (ids : Path → Id) (p : Path) (n : List ℕ) (dir place : Place) (body : List ℕ) : Type 0 where
+  pub found : IsFound t ids p n dir place
+  pub lists : Lists (entries_at t ids p) body
+
 -- a directory in which a name is free
 pub record IsVacant (t : Tree) (ids : Path → Id) (p : Path) (n : List ℕ) (dir : Place) : Type 0 where
   pub above : IsAt t ids p dir
@@ -63,10 +69,10 @@ pub record IsOpen (t : Tree) (ids : Path → Id) (p : Path) (n : List ℕ) (dir 
 -- what a look in a directory comes to
 abbrev pub sight_of : Place → Vec ℕ Global → Option (Attr × BlockId) → Sight
 sight_of dir body None = sight.Vacant dir body
-sight_of dir body (Some x) = sight.Found dir (record { attr = x.0; blob = x.1; holder = dir.blob })
+sight_of dir body (Some x) = sight.Found dir (record { attr = x.0; blob = x.1; holder = dir.blob }) body
 
 abbrev pub SightIs : Tree → (Path → Id) → Path → List ℕ → Sight → Type 0
-SightIs t ids p n (sight.Found dir place) = IsFound t ids p n dir place
+SightIs t ids p n (sight.Found dir place body) = IsFoundIn t ids p n dir place body.items
 SightIs t ids p n (sight.Vacant dir body) = IsOpen t ids p n dir body.items
 SightIs t ids p n (sight.Lost e) = walk t (n ∷ p) ≡ Bad e
 
@@ -76,7 +82,7 @@ HasMode (Here place) = place.attr.mode ≤ MAX_MODE
 HasMode (Wrong e) = Unit {0}
 
 abbrev pub HaveModes : Sight → Type 0
-HaveModes (sight.Found dir place) = (dir.attr.mode ≤ MAX_MODE) × (place.attr.mode ≤ MAX_MODE)
+HaveModes (sight.Found dir place body) = (dir.attr.mode ≤ MAX_MODE) × (place.attr.mode ≤ MAX_MODE)
 HaveModes (sight.Vacant dir body) = dir.attr.mode ≤ MAX_MODE
 HaveModes (sight.Lost e) = Unit {0}
 
@@ -102,12 +108,15 @@ pub record Standing {S : Type 0} (H : BlobHoldings S) (a : S) (place : Place) : 
   pub path : Path
   pub at : IsAt tree ids path place
 
--- a row stands under the name of a directory, from this root on
-pub record Finding {S : Type 0} (H : BlobHoldings S) (a : S) (root : Id) (dir : Place) (n : List ℕ) (place : Place) : Type 0 where
+-- a row stands under the name of a directory, and its body was read
+pub record Finding {S : Type 0} (H : BlobHoldings S) (a : S) (at : Occupancy) : Type 0 where
   pub map : BlobMap
   pub stands : H.stands_for a map
+  pub root : Id
   pub tree : Tree
   pub ids : Path → Id
   pub shows : ShowsBy map root tree ids
   pub path : Path
-  pub is : IsFound tree ids path n dir place
+  pub names : path ≡ upward at.dir.names.now
+  pub is : IsFound tree ids path at.name.now at.dir.place at.place
+  pub lists : Lists (entries_at tree ids path) at.body.items

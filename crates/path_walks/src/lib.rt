@@ -10,5 +10,5 @@ mod walks;
 pub use names::split_last;
 pub use reaching::{Reached, reach};
 pub use replies::done;
-pub use spots::{Folder, Place, Sight, Spot};
+pub use spots::{Folder, Occupancy, Place, Sight, Spot};
 pub use walks::{advance, look_at, walk};

@@ -6,16 +6,16 @@ ghost use Rattle.forest.specs.Showing.{BlobsShow};
 ghost use Rattle.path_walks.specs.Reaching.{ReachedIs, HaveRowModes};
 
 use crate::names::split_last;
-use crate::{Folder, Place, Sight, look_at};
+use crate::{Folder, Occupancy, Sight, look_at};
 use blob_api::Blobs;
 use block_id::{BlockId, Fail};
 use fs_model::{FsError, Name};
 use std::alloc::Global;
 
 /// What a path comes to.
+#[derive(Drop)]
 pub enum Reached<'a> {
-    /// The directory, the name in it, and what stands there.
-    Row(Folder<'a>, &'a Name, Place),
+    Row(Occupancy<'a>),
     Refused(FsError),
 }
 
@@ -36,13 +36,15 @@ pub fn reach<'a, B: Blobs>(
     match split_last(names) {
         None => Ok(Reached::Refused(at_root)),
         Some((name, dirs)) => match look_at(alloc, b, root, dirs, name) {
-            Ok(Sight::Found(dir, place)) => {
-                let folder = Folder {
+            Ok(Sight::Found(dir, place, body)) => Ok(Reached::Row(Occupancy {
+                dir: Folder {
                     names: dirs,
                     place: dir,
-                };
-                Ok(Reached::Row(folder, name, place))
-            }
+                },
+                name,
+                place,
+                body,
+            })),
             Ok(Sight::Vacant(_, body)) => {
                 drop(body);
                 Ok(Reached::Refused(FsError::NoEntry))

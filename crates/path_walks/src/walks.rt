@@ -88,6 +88,7 @@ pub fn look_at<B: Blobs>(
                             blob,
                             holder: dir.blob,
                         },
+                        body,
                     )),
                     None => Ok(Sight::Vacant(dir, body)),
                 }

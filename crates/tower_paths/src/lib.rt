@@ -3,6 +3,10 @@
 #![tactic(auto)]
 
 #[cfg(test)]
+mod counts;
+#[cfg(test)]
+mod entries;
+#[cfg(test)]
 mod loads;
 #[cfg(test)]
 mod moves;

@@ -26,7 +26,7 @@ use Rattle.tree_commands.specs.Showing.{ShowsFiles}
 
 -- a call over a store that holds another one, as a call over that
 pub unlifted : {A B : Type 0} (f : A → B) {M : Meanings B} {T N : Type 0} {P : N → T → Type 0} {r : Result T Fail} (a b : A) → Outcome (meanings_by f M) N a b r P → Outcome M N (f a) (f b) r P
-unlifted f a b o = record { intact = o.intact.0; loaded = o.loaded; sound = o.sound; met = o.met; fault = o.fault; quiet = o.quiet; value = o.value; structure = o.structure }
+unlifted f a b o = record { intact = o.intact.0; loaded = o.loaded; sound = o.sound; met = o.met; fault = o.fault; quiet = o.quiet; noticed = o.noticed; value = o.value; structure = o.structure }
 
 module _ {S : Type 0} (M : Meanings S) (H : Holdings S) (steady : Steady M H) {A : Type 0} (f : A → S) (g : S → Changes) (a b : A) (root : List ℕ) where
   abbrev needs : M.sound (f a) → Shown (ShowsFiles (H.payload (f a)) root) (H.content (f a)) → NeedsTree (holdings_by f g H) a root

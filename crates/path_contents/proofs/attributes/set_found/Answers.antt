@@ -9,8 +9,8 @@ use Rattle.path_contents.proofs.attributes.set_found.Goals as goal
 
 pub returns-clause-outcome : goal.returns-clause-outcome
 returns-clause-outcome g c =
-    let old = c.args.place.now.attr in
+    let old = c.args.at.now.place.attr in
     made c.done.ensures.is (first_ (λ w. setting w c.args.b.now w.stands c.in_ok-try_clone.field-0 (sym c.in_ok-try_clone.ensures) c.changed.result
-    (kind_kept c.args.change c.args.now old ∙ ap (λ (a : Attr). a.kind) (sym c.changed.ensures)) (subst (λ (a : Attr). a.mode ≤ MAX_MODE) (sym c.changed.ensures) (mode_fits c.args.change c.args.now old c.requires.fits c.requires.mode))) c.set_entry.ensures (λ w y h. h))
+    (kind_kept c.args.change c.args.now old ∙ ap (λ (a : Attr). a.kind) (sym c.changed.ensures)) (subst (λ (a : Attr). a.mode ≤ MAX_MODE) (sym c.changed.ensures) (mode_fits c.args.change c.args.now old c.requires.fits c.requires.mode)) c.deref.result.now c.deref.ensures.value) c.set_entry_in.ensures (λ w y h. h))
     (λ w y h. set_done w c.in_ok-try_clone.field-0 (sym c.in_ok-try_clone.ensures) c.changed.result (changed_by c.args.change c.args.now w.is.here.row.attr)
-    (c.changed.ensures ∙ ap (changed_by c.args.change c.args.now) (sym w.is.here.attr)) w.is.here.row.bytes c.set_entry.new.b h)
+    (c.changed.ensures ∙ ap (changed_by c.args.change c.args.now) (sym w.is.here.attr)) w.is.here.row.bytes c.set_entry_in.new.b h)

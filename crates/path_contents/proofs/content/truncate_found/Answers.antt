@@ -31,17 +31,17 @@ resize_at-requires-clause-fits g c = short_enough c.in_ok-size.size c.args.len (
 pub returns-in-Some-clause-outcome : goal.returns-in-Some-clause-outcome
 returns-in-Some-clause-outcome g c =
     idle g.met.B.Blobs.lawful c.args.b.now (Error c.in-Some.refusal) c.requires.intact (λ w.
-    stays w.map w.tree w.ids w.shows c.args.b.now w.stands _ _ (cut_by w.tree (q w) w.is.here.row c.args.now c.args.len c.args.place.now.attr.kind (is_kind w _ refl) ∙ c.in-Some.ensures w.tree _))
+    stays w.map w.tree w.ids w.shows c.args.b.now w.stands _ _ (cut_by w.tree (q w) w.is.here.row c.args.now c.args.len c.args.at.now.place.attr.kind (is_kind w _ refl) ∙ c.in-Some.ensures w.tree _))
 
 pub returns-in_err-size-clause-outcome : goal.returns-in_err-size-clause-outcome
 returns-in_err-size-clause-outcome g c =
     let e = err_from_is_err_and c.from_residual.result c.from_residual.ensures.1 in
-    rw (e.1, e.2) (passed (first_ (λ w. blob_at w.shows (q w) w.is.here.row w.is.here.there w.stands c.args.place.now.blob.0 w.is.here.blob) c.in_err-size.ensures.outcome (λ w y h. h)))
+    rw (e.1, e.2) (passed (first_ (λ w. blob_at w.shows (q w) w.is.here.row w.is.here.there w.stands c.args.at.now.place.blob.0 w.is.here.blob) c.in_err-size.ensures.outcome (λ w y h. h)))
 
 pub returns-then-is_too_long-clause-outcome : goal.returns-then-is_too_long-clause-outcome
 returns-then-is_too_long-clause-outcome g c =
     let len = c.args.len in
-    answered (first_ (λ w. blob_at w.shows (q w) w.is.here.row w.is.here.there w.stands c.args.place.now.blob.0 w.is.here.blob) c.in_ok-size.ensures.outcome (λ w y h. h))
+    answered (first_ (λ w. blob_at w.shows (q w) w.is.here.row w.is.here.there w.stands c.args.at.now.place.blob.0 w.is.here.blob) c.in_ok-size.ensures.outcome (λ w y h. h))
     (λ w h.
     let old = w.is.here.row.bytes in
     let size : c.in_ok-size.size ≡ length old = h.1 ∙ ap length (plain_body w.shows (q w) w.is.here.row w.is.here.there (is_folder_by w false (ap is_directory c.in-None.ensures))) in
@@ -54,9 +54,9 @@ returns-clause-outcome g c =
     let H = g.B.Blobs.holdings in
     let now = c.args.now in
     let len = c.args.len in
-    let o : Outcome g.B.Blobs.meanings (Finding H c.args.b.now c.args.root.now.0 c.args.dir.now c.args.name.now c.args.place.now) c.args.b.now c.body_len.new.b (Ok c.in_ok-size.size)
+    let o : Outcome g.B.Blobs.meanings (Finding H c.args.b.now c.args.at.now) c.args.b.now c.body_len.new.b (Ok c.in_ok-size.size)
     (λ w y. H.stands_for c.body_len.new.b w.map × (model.is_too_long (length w.is.here.row.bytes) len ≡ false)) =
-    answered (first_ (λ w. blob_at w.shows (q w) w.is.here.row w.is.here.there w.stands c.args.place.now.blob.0 w.is.here.blob) c.in_ok-size.ensures.outcome (λ w y h. h))
+    answered (first_ (λ w. blob_at w.shows (q w) w.is.here.row w.is.here.there w.stands c.args.at.now.place.blob.0 w.is.here.blob) c.in_ok-size.ensures.outcome (λ w y h. h))
     (λ w h.
     let size : c.in_ok-size.size ≡ length w.is.here.row.bytes = h.1 ∙ ap length (plain_body w.shows (q w) w.is.here.row w.is.here.there (is_folder_by w false (ap is_directory c.in-None.ensures))) in
     (h.0, ap (λ z. model.is_too_long z len) (sym size) ∙ (sym c.is_too_long.ensures ∙ c.if-is_too_long.false))) in

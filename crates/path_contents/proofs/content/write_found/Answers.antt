@@ -36,7 +36,7 @@ pub returns-in-Some-clause-outcome : goal.returns-in-Some-clause-outcome
 returns-in-Some-clause-outcome g c =
     idle g.met.B.Blobs.lawful c.args.b.now (Error c.in-Some.refusal) c.requires.intact (λ w.
     stays w.map w.tree w.ids w.shows c.args.b.now w.stands _ _
-    (write_by w.tree (q w) w.is.here.row c.args.now c.args.from c.args.bytes.now c.args.place.now.attr.kind (is_kind w _ refl) ∙ c.in-Some.ensures w.tree _))
+    (write_by w.tree (q w) w.is.here.row c.args.now c.args.from c.args.bytes.now c.args.at.now.place.attr.kind (is_kind w _ refl) ∙ c.in-Some.ensures w.tree _))
 
 pub returns-in-Some-clause-sparing : goal.returns-in-Some-clause-sparing
 returns-in-Some-clause-sparing g c = λ w s f. unspent g.B.Blobs.holdings c.args.b.now c.args.b.now _ _ _ _ refl
@@ -54,7 +54,7 @@ returns-then-is_empty-clause-sparing g c = λ w s f. unspent g.B.Blobs.holdings 
 pub returns-in_err-size-clause-outcome : goal.returns-in_err-size-clause-outcome
 returns-in_err-size-clause-outcome g c =
     let e = err_from_is_err_and c.from_residual.result c.from_residual.ensures.1 in
-    rw (e.1, e.2) (passed (first_ (λ w. blob_at w.shows (q w) w.is.here.row w.is.here.there w.stands c.args.place.now.blob.0 w.is.here.blob) c.in_err-size.ensures.outcome (λ w y h. h)))
+    rw (e.1, e.2) (passed (first_ (λ w. blob_at w.shows (q w) w.is.here.row w.is.here.there w.stands c.args.at.now.place.blob.0 w.is.here.blob) c.in_err-size.ensures.outcome (λ w y h. h)))
 
 pub returns-in_err-size-clause-sparing : goal.returns-in_err-size-clause-sparing
 returns-in_err-size-clause-sparing g c = λ w s f. unspent g.B.Blobs.holdings c.args.b.now c.body_len.new.b _ _ _ _ c.body_len.ensures.unchanged
@@ -64,7 +64,7 @@ returns-then-is_too_long-clause-outcome g c =
     let now = c.args.now in
     let from = c.args.from in
     let new = c.args.bytes.now in
-    answered (first_ (λ w. blob_at w.shows (q w) w.is.here.row w.is.here.there w.stands c.args.place.now.blob.0 w.is.here.blob) c.in_ok-size.ensures.outcome (λ w y h. h))
+    answered (first_ (λ w. blob_at w.shows (q w) w.is.here.row w.is.here.there w.stands c.args.at.now.place.blob.0 w.is.here.blob) c.in_ok-size.ensures.outcome (λ w y h. h))
     (λ w h.
     let old = w.is.here.row.bytes in
     let size : c.in_ok-size.size ≡ length old = h.1 ∙ ap length (plain_body w.shows (q w) w.is.here.row w.is.here.there (is_folder_by w false (ap is_directory c.in-None.ensures))) in
@@ -87,9 +87,9 @@ returns-clause-outcome g c =
     let now = c.args.now in
     let from = c.args.from in
     let new = c.args.bytes.now in
-    let o : Outcome g.B.Blobs.meanings (Finding H c.args.b.now c.args.root.now.0 c.args.dir.now c.args.name.now c.args.place.now) c.args.b.now c.body_len.new.b (Ok c.in_ok-size.size)
+    let o : Outcome g.B.Blobs.meanings (Finding H c.args.b.now c.args.at.now) c.args.b.now c.body_len.new.b (Ok c.in_ok-size.size)
     (λ w y. H.stands_for c.body_len.new.b w.map × (model.is_too_long (length w.is.here.row.bytes) (max (length w.is.here.row.bytes) (from + length new)) ≡ false)) =
-    answered (first_ (λ w. blob_at w.shows (q w) w.is.here.row w.is.here.there w.stands c.args.place.now.blob.0 w.is.here.blob) c.in_ok-size.ensures.outcome (λ w y h. h))
+    answered (first_ (λ w. blob_at w.shows (q w) w.is.here.row w.is.here.there w.stands c.args.at.now.place.blob.0 w.is.here.blob) c.in_ok-size.ensures.outcome (λ w y h. h))
     (λ w h.
     let old = w.is.here.row.bytes in
     let size : c.in_ok-size.size ≡ length old = h.1 ∙ ap length (plain_body w.shows (q w) w.is.here.row w.is.here.there (is_folder_by w false (ap is_directory c.in-None.ensures))) in (
@@ -118,7 +118,7 @@ returns-clause-sparing g c = λ w s f.
     let late = laws.forgeries_grow c.body_len.new.b c.write_at.new.b c.write_at.ensures.outcome.loaded in
     let one : M.forgeries c.body_len.new.b ≤ M.forgeries c.args.b.now = omega (arith, early, late, f) in
     let two : M.forgeries c.write_at.new.b ≤ M.forgeries c.body_len.new.b = omega (arith, early, late, f) in
-    let h = look.outcome.value (blob_at w.shows (q w) w.is.here.row w.is.here.there w.stands c.args.place.now.blob.0 w.is.here.blob) s one in
+    let h = look.outcome.value (blob_at w.shows (q w) w.is.here.row w.is.here.there w.stands c.args.at.now.place.blob.0 w.is.here.blob) s one in
     onward g.met.B.Blobs.steady c.args.b.now c.body_len.new.b c.write_at.new.b look.outcome.loaded look.unchanged _ _ _ _ _ _ refl refl
     (c.write_at.ensures.sparing (setting_by w c.body_len.new.b h.0 c.in_ok-entry.entry.name (sym c.in_ok-entry.ensures.name) c.in_ok-entry.entry.attr (ap (λ (a : Attr). a.kind) (sym c.in_ok-entry.ensures.attr)) (subst (λ (a : Attr). a.mode ≤ MAX_MODE) (sym c.in_ok-entry.ensures.attr) c.requires.mode)
     c.in_ok-entry.entry.blob.0 (ap (λ (z : BlockId). z.0) (sym c.in_ok-entry.ensures.blob))) (look.outcome.sound s one) two)

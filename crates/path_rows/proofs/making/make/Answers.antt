@@ -31,7 +31,7 @@ returns-in-Ok-Found-clause-outcome g c =
     let k = c.in-Some.name.now in
     answered c.in-Ok-Found.ensures.outcome (λ n h.
     stays n.map n.tree n.ids n.shows c.look_at.new.b h.0 _ _ (on_path n.tree (λ p s. model.made n.tree c.args.now p (record { attr = c.args.attr; bytes = c.args.bytes.now }) s) (upward c.args.names.now) (k ∷ d) _ c.in-Some.ensures
-    (look_found n.shows d k _ _ (found n.tree n.ids d k c.in-Ok-Found.field-0 h.1 _ _ c.in-Ok-Found.field-0-is))))
+    (look_found n.shows d k _ _ (found n.tree n.ids d k c.in-Ok-Found.field-0 h.1 _ _ c.in-Ok-Found.body c.in-Ok-Found.field-0-is).found)))
 
 pub returns-in-Ok-Vacant-clause-outcome : goal.returns-in-Ok-Vacant-clause-outcome
 returns-in-Ok-Vacant-clause-outcome g c =

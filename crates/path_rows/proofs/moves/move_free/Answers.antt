@@ -16,8 +16,8 @@ use Rattle.path_rows.proofs.moves.move_free.Goals.{then-is_same, else-is_same, t
 
 pub returns-then-size-gt-MAX_ENTRIES-clause-did : goal.returns-then-size-gt-MAX_ENTRIES-clause-did
 returns-then-size-gt-MAX_ENTRIES-clause-did g c =
-    let name = c.args.name.now in
-    let left : c.if-is_same.left ≡ cond (same_name c.args.from.now.place.blob.0 c.args.to.now.dir.place.blob.0) (entry_size name) 0 = elim c.if-is_same.branch [
+    let name = c.args.from.now.name.now in
+    let left : c.if-is_same.left ≡ cond (same_name c.args.from.now.dir.place.blob.0 c.args.to.now.dir.place.blob.0) (entry_size name) 0 = elim c.if-is_same.branch [
       | then-is_same v ↦ let same = ap (λ b. cond b (entry_size name) 0) (sym c.is_same.ensures ∙ v.if-is_same.true) in omega (arith, v.left-is, ap length v.as_slice.ensures.value, same)
       | else-is_same v ↦ let same = ap (λ b. cond b (entry_size name) 0) (sym c.is_same.ensures ∙ v.if-is_same.false) in omega (arith, v.left-is, same)
     ] in
@@ -30,28 +30,28 @@ returns-then-size-gt-MAX_ENTRIES-clause-did g c =
 pub returns-in_err-relocate-clause-did : goal.returns-in_err-relocate-clause-did
 returns-in_err-relocate-clause-did g c =
     let named : IsName c.args.to.now.name.now = subst IsName c.as_slice-else-size-gt-MAX_ENTRIES.ensures.value c.as_slice-else-size-gt-MAX_ENTRIES.ensures.name in
-    let name = c.args.name.now in
-    let left : c.if-is_same.left ≡ cond (same_name c.args.from.now.place.blob.0 c.args.to.now.dir.place.blob.0) (entry_size name) 0 = elim c.if-is_same.branch [
+    let name = c.args.from.now.name.now in
+    let left : c.if-is_same.left ≡ cond (same_name c.args.from.now.dir.place.blob.0 c.args.to.now.dir.place.blob.0) (entry_size name) 0 = elim c.if-is_same.branch [
       | then-is_same v ↦ let same = ap (λ b. cond b (entry_size name) 0) (sym c.is_same.ensures ∙ v.if-is_same.true) in omega (arith, v.left-is, ap length v.as_slice.ensures.value, same)
       | else-is_same v ↦ let same = ap (λ b. cond b (entry_size name) 0) (sym c.is_same.ensures ∙ v.if-is_same.false) in omega (arith, v.left-is, same)
     ] in
-    let small : (w : Heading g.B.Blobs.holdings c.args.b.now c.args.now c.args.from.now name c.args.place c.args.to.now.dir c.args.to.now.name.now c.args.to.now.body.items) → directory_size (next w) w.below ≤ MAX_ENTRIES =
+    let small : (w : Heading g.B.Blobs.holdings c.args.b.now c.args.now c.args.from.now c.args.to.now.dir c.args.to.now.name.now c.args.to.now.body.items) → directory_size (next w) w.below ≤ MAX_ENTRIES =
     λ w. omega (arith, body_size w, size_next w, left, ap length c.as_slice-else-size-gt-MAX_ENTRIES.ensures.value, c.if-size-as_slice.false) in
     let p = err_from_is_err_and c.from_residual-in_err-relocate.result c.from_residual-in_err-relocate.ensures.1 in
-    rw (p.1, p.2) (passed (first_ {R = λ _ _. Unit {0}} (λ (w : Heading g.B.Blobs.holdings c.args.b.now c.args.now c.args.from.now name c.args.place c.args.to.now.dir c.args.to.now.name.now c.args.to.now.body.items).
+    rw (p.1, p.2) (passed (first_ {R = λ _ _. Unit {0}} (λ (w : Heading g.B.Blobs.holdings c.args.b.now c.args.now c.args.from.now c.args.to.now.dir c.args.to.now.name.now c.args.to.now.body.items).
     moving w c.args.b.now w.stands named (small w) c.in_ok-try_clone.field-0 (sym c.in_ok-try_clone.ensures) _ refl refl) c.in_err-relocate.ensures (λ _ _ _. tt)))
 
 pub returns-clause-did : goal.returns-clause-did
 returns-clause-did g c =
     let named : IsName c.args.to.now.name.now = subst IsName c.as_slice-else-size-gt-MAX_ENTRIES.ensures.value c.as_slice-else-size-gt-MAX_ENTRIES.ensures.name in
-    let name = c.args.name.now in
-    let left : c.if-is_same.left ≡ cond (same_name c.args.from.now.place.blob.0 c.args.to.now.dir.place.blob.0) (entry_size name) 0 = elim c.if-is_same.branch [
+    let name = c.args.from.now.name.now in
+    let left : c.if-is_same.left ≡ cond (same_name c.args.from.now.dir.place.blob.0 c.args.to.now.dir.place.blob.0) (entry_size name) 0 = elim c.if-is_same.branch [
       | then-is_same v ↦ let same = ap (λ b. cond b (entry_size name) 0) (sym c.is_same.ensures ∙ v.if-is_same.true) in omega (arith, v.left-is, ap length v.as_slice.ensures.value, same)
       | else-is_same v ↦ let same = ap (λ b. cond b (entry_size name) 0) (sym c.is_same.ensures ∙ v.if-is_same.false) in omega (arith, v.left-is, same)
     ] in
-    let small : (w : Heading g.B.Blobs.holdings c.args.b.now c.args.now c.args.from.now name c.args.place c.args.to.now.dir c.args.to.now.name.now c.args.to.now.body.items) → directory_size (next w) w.below ≤ MAX_ENTRIES =
+    let small : (w : Heading g.B.Blobs.holdings c.args.b.now c.args.now c.args.from.now c.args.to.now.dir c.args.to.now.name.now c.args.to.now.body.items) → directory_size (next w) w.below ≤ MAX_ENTRIES =
     λ w. omega (arith, body_size w, size_next w, left, ap length c.as_slice-else-size-gt-MAX_ENTRIES.ensures.value, c.if-size-as_slice.false) in
-    let o : Outcome g.B.Blobs.meanings (Heading g.B.Blobs.holdings c.args.b.now c.args.now c.args.from.now name c.args.place c.args.to.now.dir c.args.to.now.name.now c.args.to.now.body.items) c.args.b.now c.relocate.new.b (Ok c.in_ok-relocate.field-0)
+    let o : Outcome g.B.Blobs.meanings (Heading g.B.Blobs.holdings c.args.b.now c.args.now c.args.from.now c.args.to.now.dir c.args.to.now.name.now c.args.to.now.body.items) c.args.b.now c.relocate.new.b (Ok c.in_ok-relocate.field-0)
     (λ w _. IsShownBy g.B.Blobs.holdings c.relocate.new.b w.root (next w) (ids_next w)) =
     first_ (λ w. moving w c.args.b.now w.stands named (small w) c.in_ok-try_clone.field-0 (sym c.in_ok-try_clone.ensures) _ refl refl) c.in_ok-relocate.ensures
     (λ w y k. shown_as w c.relocate.new.b c.in_ok-try_clone.field-0 (sym c.in_ok-try_clone.ensures) k) in

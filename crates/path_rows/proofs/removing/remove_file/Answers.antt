@@ -3,9 +3,8 @@ use Rattle.outcome.specs.Outcome.{passed}
 use Rattle.fs_model.specs.declared.error.FsError.TheVariants.{Busy}
 use Rattle.fs_model.specs.Tree.{upward}
 use Rattle.fs_model.specs.Step as model
-use Rattle.path_walks.proofs.Commands.{reached_none}
+use Rattle.path_walks.proofs.Commands.{reached_none, reached_row}
 use Rattle.path_walks.specs.Reaching.{ReachedIs, HaveRowModes}
-use Rattle.path_rows.proofs.Found.{removed_row}
 use Rattle.path_rows.proofs.removing.remove_file.Goals as goal
 
 pub returns-in-Ok-Refused-clause-outcome : goal.returns-in-Ok-Refused-clause-outcome
@@ -13,7 +12,7 @@ returns-in-Ok-Refused-clause-outcome g c = reached_none Busy c.in-Ok-Refused.ens
 
 pub returns-in-Ok-Row-clause-outcome : goal.returns-in-Ok-Row-clause-outcome
 returns-in-Ok-Row-clause-outcome g c =
-    removed_row c.in-Ok-Row.ensures.outcome (λ t p s. model.unless_root t p (model.removed_file t c.args.now p s)) g.met.B.Blobs.lawful (λ n. subst (ReachedIs n.tree n.ids (upward c.args.names.now) Busy) c.in-Ok-Row.field-0-is) c.drop_file.ensures.outcome
+    reached_row Busy c.in-Ok-Row.ensures.outcome (λ t p s. model.unless_root t p (model.removed_file t c.args.now p s)) g.met.B.Blobs.lawful (λ n. subst (ReachedIs n.tree n.ids (upward c.args.names.now) Busy) c.in-Ok-Row.field-0-is) c.drop_file.ensures.outcome
 
 pub drop_file-requires-clause-mode : goal.drop_file-requires-clause-mode
 drop_file-requires-clause-mode g c = (subst HaveRowModes c.in-Ok-Row.field-0-is c.in-Ok-Row.ensures.modes).0

@@ -17,10 +17,9 @@ returns-in-None-clause-outcome g c =
 pub returns-in-Ok-Found-clause-outcome : goal.returns-in-Ok-Found-clause-outcome
 returns-in-Ok-Found-clause-outcome g c =
     let d = upward c.in-Some.dirs.now in
-    answered c.in-Ok-Found.ensures.outcome (λ n h. (
-      h.0,
-      record { split = c.in-Some.ensures; is = found n.tree n.ids d c.in-Some.name.now c.in-Ok-Found.field-0 h.1 c.in-Ok-Found.dir c.in-Ok-Found.place c.in-Ok-Found.field-0-is },
-    ))
+    answered c.in-Ok-Found.ensures.outcome (λ n h.
+    let seen = found n.tree n.ids d c.in-Some.name.now c.in-Ok-Found.field-0 h.1 c.in-Ok-Found.dir c.in-Ok-Found.place c.in-Ok-Found.body c.in-Ok-Found.field-0-is in
+    (h.0, record { split = c.in-Some.ensures; is = seen.found; lists = seen.lists }))
 
 pub returns-in-Ok-Vacant-clause-outcome : goal.returns-in-Ok-Vacant-clause-outcome
 returns-in-Ok-Vacant-clause-outcome g c =
