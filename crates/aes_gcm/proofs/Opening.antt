@@ -1,34 +1,8 @@
--- What opens: texts of the right length, and what was sealed.
-use Rattle.std.proofs.Common.{◌≡◌, ℕ, ◌+◌, ◌-◌, Bool, true, false, not, cond, List, ◌++◌, length, take, drop, Some, None, refl, sym, ap, ◌∙◌, arith, append_assoc, length-append}
-use Rattle.std.proofs.lemmas.List.{drop_at, take_at}
+-- Tags that are compared, and what opens by them.
+use Rattle.std.proofs.Common.{◌≡◌, ℕ, Bool, true, false, not, cond, List, Some, None, refl, sym, ap}
 use Rattle.std.proofs.lemmas.Slice.Eq.{bytes_eq-Decides}
-use Rattle.std.specs.List.{slice_range}
 use Rattle.std.specs.Str.{bytes_eq}
-use Rattle.aes_block.specs.KeyExpansion.{aes256}
-use Rattle.aes_gcm.specs.Gcm.{crypt, first_counter, opened, opened_of, sealed_of, tag_of}
-use Rattle.aes_gcm.specs.Gctr.{inc32}
-use Rattle.aes_gcm.specs.Ghash.{ghash}
-use Rattle.aes_gcm.specs.Lengths.{length-crypt, length-gctr, opened_of_long}
-use Rattle.aes_gcm.proofs.Streams.{gctr-gctr}
-
-length-ghash : (h : ℕ) (bytes : List ℕ) → length (ghash h bytes) ≡ 16
-unfolding ghash
-length-ghash h bytes = refl
-
-pub length-tag_of : (cipher : List ℕ → List ℕ) (iv extra text : List ℕ) → length (tag_of cipher iv extra text) ≡ 16
-unfolding tag_of
-length-tag_of cipher iv extra text = length-gctr cipher (first_counter cipher iv) _ ∙ length-ghash _ _
-
-pub crypt-crypt : (cipher : List ℕ → List ℕ) (iv text : List ℕ) → crypt cipher iv (crypt cipher iv text) ≡ text
-unfolding crypt
-crypt-crypt cipher iv text = gctr-gctr cipher (inc32 (first_counter cipher iv)) text
-
--- ---- a ciphertext and its tag
-
-pub opened_right : (cipher : List ℕ → List ℕ) (iv extra text tag : List ℕ) → tag_of cipher iv extra text ≡ tag
-    → opened cipher iv extra text tag ≡ Some (crypt cipher iv text)
-opened_right cipher iv extra text tag same =
-    ap (λ (b : Bool). cond b (Some (crypt cipher iv text)) None) ((bytes_eq-Decides (tag_of cipher iv extra text) tag).1 same)
+use Rattle.aes_gcm.specs.Gcm.{crypt, opened, tag_of}
 
 pub opened_wrong : (cipher : List ℕ → List ℕ) (iv extra text tag : List ℕ) → bytes_eq (tag_of cipher iv extra text) tag ≡ false
     → opened cipher iv extra text tag ≡ None
@@ -51,40 +25,3 @@ tags_agree expected tag agree = (bytes_eq-Decides expected tag).0 (not_fails (by
 
 pub differ_not_same : (expected tag : List ℕ) → bytes_eq expected tag ≡ false → tag ≡ expected → ⊥
 differ_not_same expected tag differ same = let e = (bytes_eq-Decides expected tag).1 (sym same) in cc
-
--- ---- a sealed text
-
--- a sealed text in its parts
-opened_of_parts : (key extra iv text tag : List ℕ) → length iv ≡ 16 → length tag ≡ 16
-    → opened_of key extra (iv ++ text ++ tag) ≡ opened (aes256 key) iv extra text tag
-opened_of_parts key extra iv text tag len_iv len_tag =
-    let sealed : List ℕ = iv ++ text ++ tag in
-    let n : ℕ = length sealed in
-    let front : length (iv ++ text) ≡ 16 + length text = omega (arith, length-append iv text, len_iv) in
-    let whole : n ≡ 32 + length text = omega (arith, length-append (iv ++ text) tag, front, len_tag) in
-    let is_iv : take 16 sealed ≡ iv = ap (take 16) (append_assoc iv text tag) ∙ take_at iv (text ++ tag) 16 len_iv in
-    let is_text : slice_range sealed 16 (n - 16) ≡ text =
-    ap (λ (l : List ℕ). take (n - 16 - 16) (drop 16 l)) (append_assoc iv text tag)
-    ∙ ap (take (n - 16 - 16)) (drop_at iv (text ++ tag) 16 len_iv) ∙ take_at text tag (n - 16 - 16) (omega (arith, whole)) in
-    let is_tag : drop (n - 16) sealed ≡ tag = drop_at (iv ++ text) tag (n - 16) (omega (arith, whole, front)) in
-    opened_of_long key extra sealed (omega (arith, whole)) ∙ (λ i. opened (aes256 key) (is_iv i) extra (is_text i) (is_tag i))
-
--- what is sealed opens to its plaintext
-pub opened_of-sealed_of : (key iv extra plain : List ℕ) → length iv ≡ 16 → opened_of key extra (sealed_of key iv extra plain) ≡ Some plain
-opened_of-sealed_of key iv extra plain len =
-    let text : List ℕ = crypt (aes256 key) iv plain in
-    let tag : List ℕ = tag_of (aes256 key) iv extra text in
-    opened_of_parts key extra iv text tag len (length-tag_of (aes256 key) iv extra text)
-    ∙ opened_right (aes256 key) iv extra text tag refl ∙ ap Some (crypt-crypt (aes256 key) iv plain)
-
-pub length-sealed_of : (key iv extra plain : List ℕ) → length (sealed_of key iv extra plain) ≡ length iv + length plain + 16
-length-sealed_of key iv extra plain =
-    let text : List ℕ = crypt (aes256 key) iv plain in
-    omega (arith, length-append (iv ++ text) (tag_of (aes256 key) iv extra text), length-append iv text, length-crypt (aes256 key) iv plain, length-tag_of (aes256 key) iv extra text)
-
--- a sealed text begins with its IV
-pub take-sealed_of : (key iv extra plain : List ℕ) → take (length iv) (sealed_of key iv extra plain) ≡ iv
-take-sealed_of key iv extra plain =
-    let text : List ℕ = crypt (aes256 key) iv plain in
-    let tag : List ℕ = tag_of (aes256 key) iv extra text in
-    ap (take (length iv)) (append_assoc iv text tag) ∙ take_at iv (text ++ tag) (length iv) refl

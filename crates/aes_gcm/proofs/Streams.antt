@@ -1,13 +1,13 @@
--- Counter mode, piece by piece, and twice.
+-- Counter mode, piece by piece.
 use Rattle.std.proofs.Common.{◌≡◌, ℕ, ◌+◌, ◌-◌, ◌*◌, ◌/◌, ◌%◌, ◌<◌, ◌≤◌, List, [], ◌++◌, length, take, drop, min, slice_index, slice_index_or, bit_xor, sym, ap, ◌∙◌, subst, inl, inr, arith, append-nil, length-append, length-drop, length-take, length-take-le}
 use Rattle.std.proofs.lemmas.Bool.{cases_lt}
 use Rattle.std.proofs.lemmas.Grind.{get_or_after_one}
 use Rattle.std.proofs.lemmas.List.{drop_all, get_or-append_right, get_or-drop, get_or-take, get_or_append_left, take_all}
-use Rattle.std.proofs.lemmas.List.FromFn.{fill_by_all, get_or-map-range_with_len}
-use Rattle.std.proofs.lemmas.Nat.Bits.{bit_at_xor, same_from_bits}
+use Rattle.std.proofs.lemmas.List.FromFn.{get_or-map-range_with_len}
 use borrow.Rule.Slice.PartMut.{put_mid}
 use Rattle.aes_gcm.specs.Gctr.{HasStream, counter_block, gctr, inc32, key_byte}
 use Rattle.aes_gcm.specs.Lengths.{length-gctr}
+use Rattle.aes_gcm.specs.Opening.{gctr_all}
 use Rattle.aes_gcm.proofs.Counters.{counter_block_from}
 
 -- some bytes were added from byte n on, where those from `low` up to n were
@@ -51,14 +51,6 @@ later_stream cipher first blocks eight stream = λ j lt.
     let next : 1 + j ≡ j + 1 = omega arith in
     get_or-take 7 (drop 1 blocks) j [] small ∙ get_or_after_one blocks j []
     ∙ stream (1 + j) (omega arith) ∙ ap cipher (sym (counter_block_from first 1 j))
-
--- all bytes are done
-pub gctr_all : (cipher : List ℕ → List ℕ) (initial old text : List ℕ) → length text ≡ length old
-    → ((k : ℕ) → k < length old → slice_index text k ≡ bit_xor (slice_index old k) (key_byte cipher initial k))
-    → text ≡ gctr cipher initial old
-unfolding gctr
-gctr_all cipher initial old text long done =
-    fill_by_all (λ k. bit_xor (slice_index old k) (key_byte cipher initial k)) text (length old) 0 long done
 
 -- a text of one block
 pub gctr_block : (cipher : List ℕ → List ℕ) (initial block old new : List ℕ) → block ≡ cipher initial → length old ≡ 16 → length new ≡ length old
@@ -112,17 +104,3 @@ gctr_joined cipher first counter old text new f same is_f is_counter begun rest 
     ] in
     (λ i. take f text ++ (new ++ none i)) ∙ ap (λ (l : List ℕ). take f text ++ l) (append-nil new)
     ∙ gctr_all cipher (inc32 first) old joined (omega (arith, length-append (take f text) new, front, len, size)) byte
-
-xor_twice : (a b : ℕ) → bit_xor (bit_xor a b) b ≡ a
-xor_twice a b = same_from_bits _ _ (λ i. simp bit_at_xor (omega arith))
-
--- counter mode undoes itself
-pub gctr-gctr : (cipher : List ℕ → List ℕ) (initial text : List ℕ) → gctr cipher initial (gctr cipher initial text) ≡ text
-unfolding gctr
-gctr-gctr cipher initial text =
-    let once : List ℕ = gctr cipher initial text in
-    let byte : (k : ℕ) → k < length text → slice_index text k ≡ bit_xor (slice_index once k) (key_byte cipher initial k) =
-    λ k lt. sym (
-    ap (λ (b : ℕ). bit_xor b (key_byte cipher initial k)) (get_or-map-range_with_len (λ n. bit_xor (slice_index text n) (key_byte cipher initial n)) 0 (length text) k k 0 lt (omega arith))
-    ∙ xor_twice (slice_index text k) (key_byte cipher initial k)) in
-    sym (gctr_all cipher initial once text (sym (length-gctr cipher initial text)) (λ k lt. byte k (omega (arith, length-gctr cipher initial text))))

@@ -3,3 +3,4 @@ pub mod Gctr
 pub mod Gcm
 pub mod Tables
 pub mod Lengths
+pub mod Opening

@@ -18,12 +18,15 @@ const TAG_LEN: usize = 16;
 pub struct Aes256Gcm;
 
 impl Sealer for Aes256Gcm {
-    ghost use Rattle.aes_gcm.specs.Gcm.{opened_of};
+    ghost use Rattle.aes_gcm.specs.Gcm.{opened_of, sealed_of};
     ghost use Rattle.aes_gcm.specs.Lengths.{length-opened_of, opened_of-agrees};
+    ghost use Rattle.aes_gcm.specs.Opening.{seals-sealed_of};
 
     ghost iv_size = { λ _. 16 };
 
     ghost opens = { λ _ key extra text. opened_of key extra text };
+
+    ghost sealed = { λ _ key iv extra plain. sealed_of key iv extra plain };
 
     fn iv_len(&self) -> usize {
         IV_LEN
@@ -61,6 +64,8 @@ impl Sealer for Aes256Gcm {
         let ready = GcmKey::from_key(key);
         ready.unseal(alloc, &sealed[..IV_LEN], extra, &sealed[IV_LEN..end], &tag)
     }
+
+    ghost seals = { λ _ key iv extra plain len. seals-sealed_of key iv extra plain len };
 
     ghost lengths = { λ _ key extra text plain opens. length-opened_of key extra text plain opens };
 

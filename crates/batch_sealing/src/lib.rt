@@ -1,4 +1,4 @@
-//! A batch of changes as what waits for the directory: the sealed file of each payload under its next version, and each
+//! A batch of changes as what waits for the directory: the draft of each payload's file under its next version, and each
 //! removal; and what the batch makes of the known versions.
 #![tactic(auto)]
 
@@ -6,4 +6,4 @@ mod raising;
 mod sealing;
 
 pub use raising::{count_new, raise_or_bury_all, some_spent};
-pub use sealing::seal_all;
+pub use sealing::draft_all;

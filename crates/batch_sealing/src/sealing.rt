@@ -1,13 +1,14 @@
-// The files of a batch, each sealed with an IV that is drawn for it.
-ghost use Rattle.std.specs.Prelude.{◌≡◌, ◌<◌, false, IfOk};
+// The drafts of a batch, each with an IV that is drawn for it.
+ghost use Rattle.std.specs.Prelude.{◌≡◌, ◌<◌, false, IfOk, map};
+ghost use Rattle.std.specs.declared.option.Option.TheVariants.{Some};
 ghost use Rattle.std.specs.FinMap as fin;
 ghost use Rattle.std.specs.List.{AllByRecursion};
 ghost use Rattle.outside.specs.View.{change_of, list_of};
+ghost use Rattle.outside.specs.Trace.{block};
+ghost use Rattle.sealed_store.specs.Drafts.{sealed_as, sealed_change, sealed_entry, MayBeDraft, AreDrafts};
 ghost use Rattle.sealed_store.specs.Stores.{IsIntact, block_size_of, key_of, cipher_of};
 ghost use Rattle.block_batch.specs.Entries.{entry_view, entries_of};
-ghost use Rattle.batch_sealing.specs.Applied.{IsRaised};
-ghost use Rattle.batch_sealing.specs.Draws.{iv_in};
-ghost use Rattle.batch_sealing.specs.Sealing.{MaySealAt, MaySeal, drawn_iv, IsMadeOf, stream_after, AreMadeOf};
+ghost use Rattle.batch_sealing.specs.Sealing.{MaySealAt, MaySeal, IsFileFor, IsMadeOf, stream_after, AreMadeOf};
 ghost use Rattle.held_blocks.specs.Views.{held_of};
 
 use block_id::{BlockId, Memory};
@@ -20,8 +21,8 @@ use sealed_store::SealedStore;
 use std::alloc::Global;
 use store_api::BatchChange;
 
-/// The file of a payload's record.
-fn seal<V: Vault, C: Sealer, R: Rng>(
+/// The draft of the file of a payload's record.
+fn draft<V: Vault, C: Sealer, R: Rng>(
     alloc: Global,
     sealed: &SealedStore<V, C>,
     state: &State,
@@ -32,20 +33,20 @@ fn seal<V: Vault, C: Sealer, R: Rng>(
     requires intact { IsIntact (block_size_of sealed.now) (C.iv_size (cipher_of sealed.now)) }
     requires client { 0 < state.now.client }
     requires may { MaySealAt (held_of C.opens sealed.now state.now) payload.now (fin.get state.now.known.lives id.now.0) }
-    ensures opens { IfOk result (λ file. IsRaised (held_of C.opens sealed.now state.now)
-        (held_of C.opens sealed.now state.now) id.now.0 payload.now file.items) }
-    ensures iv { IfOk result (λ file. iv_in file.items ≡ drawn_iv (R.stream chance.old)) }
+    ensures draft { IfOk result (λ draft. MayBeDraft (block_size_of sealed.now) (block id.now.0) (Some draft.items)) }
+    ensures file { IfOk result (λ draft. IsFileFor (held_of C.opens sealed.now state.now) id.now.0 payload.now (R.stream chance.old)
+        (sealed_as (C.sealed (cipher_of sealed.now) (key_of sealed.now)) (block_size_of sealed.now) id.now.0 draft.items)) }
     ensures stream { IfOk result (λ _. R.stream chance.new ≡ stream_after (Some payload.now) (R.stream chance.old)) }
 {
     let mut iv = [0; 16];
     chance.fill_bytes(&mut iv);
     let version = state.known.next_version(id);
     let plain = write_record(alloc, id, state.client, version, payload)?;
-    sealed.seal_plain(alloc, id, &plain, &iv)
+    sealed.draft(plain, &iv)
 }
 
-/// What waits for an entry: the file of its payload's record, or its removal.
-fn seal_entry<V: Vault, C: Sealer, R: Rng>(
+/// What waits for an entry: the draft of the file of its payload's record, or its removal.
+fn draft_entry<V: Vault, C: Sealer, R: Rng>(
     alloc: Global,
     sealed: &SealedStore<V, C>,
     state: &State,
@@ -55,22 +56,24 @@ fn seal_entry<V: Vault, C: Sealer, R: Rng>(
     requires intact { IsIntact (block_size_of sealed.now) (C.iv_size (cipher_of sealed.now)) }
     requires client { 0 < state.now.client }
     requires may { MaySeal (held_of C.opens sealed.now state.now) (entry_view entry.now) }
+    ensures draft { IfOk result (λ change. MayBeDraft (block_size_of sealed.now) (block (entry_view entry.now).0) (change_of change)) }
     ensures change { IfOk result (λ change. IsMadeOf (held_of C.opens sealed.now state.now)
-        (entry_view entry.now).0 (entry_view entry.now).1 (R.stream chance.old) (change_of change)) }
+        (entry_view entry.now).0 (entry_view entry.now).1 (R.stream chance.old)
+        (sealed_change (C.sealed (cipher_of sealed.now) (key_of sealed.now)) (block_size_of sealed.now) (block (entry_view entry.now).0) (change_of change))) }
     ensures stream { IfOk result (λ _. R.stream chance.new ≡ stream_after (entry_view entry.now).1 (R.stream chance.old)) }
 {
     match &entry.1 {
         BatchChange::Payload(payload) => {
-            let file = seal(alloc, sealed, state, &entry.0, payload, chance)?;
+            let file = draft(alloc, sealed, state, &entry.0, payload, chance)?;
             Ok(Change::Bytes(file))
         }
         BatchChange::Removal => Ok(Change::Removal),
     }
 }
 
-/// What waits for each of the entries, in their order: the sealed file of a payload at the next version of its id, for which
-/// an IV of 16 bytes is drawn, or a removal. Fails only for want of memory.
-pub fn seal_all<V: Vault, C: Sealer, R: Rng>(
+/// What waits for each of the entries, in their order: the draft of the file of a payload at the next version of its id, for
+/// which an IV of 16 bytes is drawn, or a removal. Fails only for want of memory.
+pub fn draft_all<V: Vault, C: Sealer, R: Rng>(
     alloc: Global,
     sealed: &SealedStore<V, C>,
     state: &State,
@@ -80,12 +83,13 @@ pub fn seal_all<V: Vault, C: Sealer, R: Rng>(
     requires intact { IsIntact (block_size_of sealed.now) (C.iv_size (cipher_of sealed.now)) }
     requires client { 0 < state.now.client }
     requires may { AllByRecursion (MaySeal (held_of C.opens sealed.now state.now)) (entries_of entries.now) }
-    ensures { IfOk result (λ changes. AreMadeOf (held_of C.opens sealed.now state.now)
-        (entries_of entries.now) (R.stream chance.old) (list_of changes.items) (R.stream chance.new)) }
+    ensures drafts { IfOk result (λ changes. AreDrafts (block_size_of sealed.now) (list_of changes.items)) }
+    ensures made { IfOk result (λ changes. AreMadeOf (held_of C.opens sealed.now state.now) (entries_of entries.now) (R.stream chance.old)
+        (map (sealed_entry (C.sealed (cipher_of sealed.now) (key_of sealed.now)) (block_size_of sealed.now)) (list_of changes.items)) (R.stream chance.new)) }
 {
     let mut changes = Vec::new(alloc);
     for entry in entries {
-        let change = seal_entry(alloc, sealed, state, entry, chance)?;
+        let change = draft_entry(alloc, sealed, state, entry, chance)?;
         changes.push(Pending {
             name: FileName::Block(entry.0),
             change,

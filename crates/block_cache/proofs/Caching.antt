@@ -55,6 +55,7 @@ module _ {S : Type 0} (M : Meanings S) (H : Holdings S) where
     met = tt;
     fault = tt;
     quiet = refl;
+    noticed = laws.gave_same s;
     value = λ n sound h. sym (sound.1 id.0 bytes.items cached);
     structure = λ n sound h. tt;
   }

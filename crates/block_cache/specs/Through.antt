@@ -94,6 +94,7 @@ enduring_past f p M H applied D R e = record {
   loaded_identity = λ a b. e.loaded_identity (f a) (f b);
   loaded_list = λ a b. e.loaded_list (f a) (f b);
   loaded_goes_on = λ a b. e.loaded_goes_on (f a) (f b);
+  gave_along = λ a b c. e.gave_along (f a) (f b) (f c);
   loaded_last = λ a b. e.loaded_last (f a) (f b);
   loaded_records = λ a b. e.loaded_records (f a) (f b);
   loaded_record = λ a b. e.loaded_record (f a) (f b);

@@ -189,7 +189,7 @@ impl<S: Durable> Durable for BlockCache<S> {
         self.store.weight()
     }
 
-    fn state_bytes(&self, alloc: Global, with_list: bool) -> Result<Vec<u8>, Memory> {
+    fn state_bytes(&mut self, alloc: Global, with_list: bool) -> Result<Vec<u8>, Memory> {
         self.store.state_bytes(alloc, with_list)
     }
 

@@ -4,6 +4,7 @@ use Rattle.std.specs.declared.option.Option.{Option}
 use Rattle.std.specs.declared.option.Option.TheVariants.{None, Some}
 use Rattle.std.specs.declared.result.Result.TheVariants.{Ok, Err}
 use Rattle.std.proofs.Common.{refl, sym, ◌∙◌, ap, subst, inl, inr}
+use Rattle.std.proofs.lemmas.List.{append_cancel_right}
 use Rattle.std.proofs.lemmas.Option.{same_Some}
 use Rattle.block_id.specs.declared.fail.Why.{Why}
 use Rattle.block_id.specs.declared.fail.Why.TheVariants.{Missing, BadLength, BadPrefix, NotOpened, BadRecord, WrongId, ForeignClient, OldVersion, AheadVersion, Structure, OldFormat}
@@ -13,18 +14,20 @@ use Rattle.outside.specs.HonestLaws.{uncounted}
 use Rattle.outside.specs.Trace.{block, Call, got, adds}
 use Rattle.outside.specs.Changes.{cut}
 use Rattle.outside.specs.Honest.{count_calls, count_told}
-use Rattle.outcome.specs.Meanings.{OnVerdict, IsOfBlocks}
+use Rattle.outcome.specs.Meanings.{IsNoticed, IsOfBlocks, OnVerdict, Tells}
 use Rattle.redo_vault.specs.Redo.{Gave}
 use Rattle.sealed_store.specs.BlockFiles.{opens_file, seen_file_in}
 use Rattle.block_records.proofs.Judging.{came_len, good_opens, judged_structure}
+use Rattle.block_records.specs.VerdictLaws.{bad_is_good}
 use Rattle.block_records.specs.BlockRecords.{opened}
 use Rattle.block_records.specs.RecordLaws.{cut_whole, opened-plain}
 use Rattle.block_records.specs.Verdicts.{bad, good, verdict}
 use Rattle.held_blocks.specs.Forgeries.{forged, was_put}
+use Rattle.held_blocks.proofs.ToOpen.{opened_needs}
 use Rattle.held_blocks.specs.Held.{Held, live_version, own, waiting, wanted}
 use Rattle.held_blocks.specs.Loads.{LoadAnswers, Came, Fetched, Loads}
-use Rattle.held_blocks.specs.ReadLaws.{went_same}
-use Rattle.held_blocks.specs.Reads.{FoundSince, WentOnByReads}
+use Rattle.held_blocks.specs.ReadLaws.{gave_same, went_same}
+use Rattle.held_blocks.specs.Reads.{FoundSince, GaveBad, GaveWrong, WentOnByReads}
 use Rattle.held_blocks.specs.Soundness.{SoundAt, SoundBy}
 
 -- ---- the trace
@@ -159,6 +162,57 @@ fetched_value h old new id version payload live f sound few = sym (came_value h 
 pub fetched_len : (h : Held) (old new : Option (List Call)) (id : List ℕ) (version : ℕ) (payload : List ℕ)
     → Fetched h old new id version (Ok payload) → length payload ≡ h.size - 78
 fetched_len h old new id version payload f = came_len h.opens h.size id h.state.client version h.state.least f.0 payload f.2
+
+-- ---- what a call gave
+
+some_trace : {a b : List Call} → Some a ≡ Some b → a ≡ b
+some_trace e = cc
+
+some_version : {m n : ℕ} → Some m ≡ Some n → m ≡ n
+some_version e = cc
+
+same_why : {a b : Why} → bad a ≡ bad b → a ≡ b
+same_why e = cc
+
+same_read : (id other : List ℕ) (max : ℕ) (file answer : Option (List ℕ)) → got (block id) max file ≡ got (block other) max answer → (other ≡ id) × (answer ≡ file)
+same_read id other max file answer e = (cc, cc)
+
+one_gave : (h : Held) (id : List ℕ) (version : ℕ) (file : Option (List ℕ)) (why : Why) → live_version h id ≡ Some version
+    → GaveBad h (got (block id) (h.size + 1) file ∷ []) why → verdict h.opens h.size id h.state.client version h.state.least file ≡ bad why
+one_gave h id version file why live gave = elim gave.came [
+  | inl is ↦
+      let (same, answer) = same_read id gave.id (h.size + 1) file gave.file is in
+      let known : gave.version ≡ version = some_version (sym gave.live ∙ ap (live_version h) same ∙ live) in
+      subst (λ f. verdict h.opens h.size id h.state.client version h.state.least f ≡ bad why) answer
+      (subst (λ n. verdict h.opens h.size id h.state.client n h.state.least gave.file ≡ bad why) known
+      (subst (λ x. verdict h.opens h.size x h.state.client gave.version h.state.least gave.file ≡ bad why) same gave.wrong))
+  | inr none ↦ absurd none
+]
+
+-- of the one call that was made, the verdict tells what it gave
+came_gave : (h : Held) (old new : Option (List Call)) (id : List ℕ) (version : ℕ) (file : Option (List ℕ)) (why : Why) → live_version h id ≡ Some version
+    → Came h old new id file → GaveWrong h old new why → verdict h.opens h.size id h.state.client version h.state.least file ≡ bad why
+came_gave h None new id version file why live came gave = absurd gave
+came_gave h (Some t) new id version file why live came (calls, is, gave) =
+    elim (waiting h id) as (λ w. Gave w (Some t) new (block id) (h.size + 1) file → verdict h.opens h.size id h.state.client version h.state.least file ≡ bad why) [
+      | Some change ↦ λ f. absurd (gave_same h (Some t) why (calls, sym f.0 ∙ is, gave))
+      | None ↦ λ f. one_gave h id version file why live (subst (λ calls. GaveBad h calls why) (append_cancel_right calls (got (block id) (h.size + 1) file ∷ []) t (some_trace (sym is ∙ f))) gave)
+    ] came
+
+pub fetched_none_wrong : (h : Held) (old new : Option (List Call)) (id : List ℕ) (version : ℕ) (payload : List ℕ) → live_version h id ≡ Some version
+    → Fetched h old new id version (Ok payload) → IsNoticed (Ok payload) (GaveWrong h old new)
+fetched_none_wrong h old new id version payload live f why gave = bad_is_good (sym (came_gave h old new id version f.0 why live f.1 gave) ∙ f.2)
+
+uncalled : (h : Held) (old new : Option (List Call)) (why : Why) → new ≡ old → GaveWrong h old new why → ⊥
+uncalled h old new why same gave = gave_same h old why (subst (λ t. GaveWrong h old t why) same gave)
+
+pub fetched_tells : (h : Held) (old new : Option (List Call)) (id : List ℕ) (version : ℕ) (e : Fail) → live_version h id ≡ Some version
+    → Fetched h old new id version (Err e) → Tells e (GaveWrong h old new)
+fetched_tells h old new id version Memory live (inl same) = λ why plain gave. uncalled h old new why same gave
+fetched_tells h old new id version Memory live (inr f) = λ why plain gave.
+    opened_needs h.opens h.size id h.state.client version h.state.least f.0 why f.2 (came_gave h old new id version f.0 why live f.1 gave) plain
+fetched_tells h old new id version Fault live f = λ why gave. uncalled h old new why f gave
+fetched_tells h old new id version (Violation told) live f = λ why gave. same_why (sym (came_gave h old new id version f.0 why live f.1 gave) ∙ f.2)
 
 -- ---- loads
 

@@ -3,4 +3,5 @@ pub mod Fetches
 pub mod Freshness
 pub mod Loading
 pub mod Reopening
+pub mod ToOpen
 pub mod Untouched

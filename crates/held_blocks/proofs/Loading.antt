@@ -21,7 +21,7 @@ use Rattle.held_blocks.specs.Soundness.{SoundBy}
 use Rattle.held_blocks.specs.Forgeries.{forged}
 use Rattle.held_blocks.specs.ReadLaws.{went_sound}
 use Rattle.held_blocks.specs.Loads.{Fetched}
-use Rattle.held_blocks.proofs.Fetches.{fetched_went, fetched_met, fetched_of_blocks, fetched_value}
+use Rattle.held_blocks.proofs.Fetches.{fetched_went, fetched_met, fetched_none_wrong, fetched_tells, fetched_of_blocks, fetched_value}
 use Rattle.held_blocks.specs.Stores.{OnlyRead, meanings_by, holdings_by}
 use Rattle.held_blocks.specs.StoreLaws.{settled_by}
 
@@ -49,6 +49,7 @@ module _ {S : Type 0} (held : S → Held) (trace : S → Option (List Call)) (fa
     met = tt;
     fault = tt;
     quiet = quiet;
+    noticed = fetched_none_wrong (held a) (trace a) (trace b) id version payload.items live f;
     value = λ n s few. fetched_value (held a) (trace a) (trace b) id version payload.items live f s
         (subst (λ h. count_told (forged h.opens h.size) (trace b) ≤ count_told (forged (held a).opens (held a).size) (trace a)) same few);
     structure = λ n s few. tt;
@@ -64,6 +65,7 @@ module _ {S : Type 0} (held : S → Held) (trace : S → Option (List Call)) (fa
     met = fetched_met (held a) (trace a) (trace b) id version e live f;
     fault = cause;
     quiet = quiet;
+    noticed = fetched_tells (held a) (trace a) (trace b) id version e live f;
     value = λ n s few. tt;
     structure = λ n s few. fetched_of_blocks (held a) (trace a) (trace b) id version e f;
   }

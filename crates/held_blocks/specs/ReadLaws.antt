@@ -1,8 +1,9 @@
 -- Reads leave what is wanted, what is sound, and what was found before.
-use Rattle.std.specs.Prelude.{◌≡◌, ℕ, ◌+◌, true, false, List, [], ◌∷◌, ◌++◌, is_some}
+use Rattle.std.specs.Prelude.{◌≡◌, ◌⊎◌, ℕ, ◌+◌, true, false, List, [], ◌∷◌, ◌++◌, is_some}
 use Rattle.std.specs.declared.option.Option.{Option}
 use Rattle.std.specs.declared.option.Option.TheVariants.{None, Some}
 use Rattle.std.proofs.Common.{refl, sym, ◌∙◌, ap, subst, inl, inr, append_assoc}
+use Rattle.std.proofs.lemmas.List.{append_cancel_right}
 use Rattle.block_id.specs.declared.fail.Why.{Why}
 use Rattle.outside.specs.Trace.{block, Call, got, At}
 use Rattle.outside.specs.Honest.{last_change}
@@ -11,7 +12,7 @@ use Rattle.store_api.specs.Content.{SameIds, SameContent}
 use Rattle.store_api.specs.Durables.{last_told}
 use Rattle.block_records.specs.BlockRecords.{Record, payload_in}
 use Rattle.held_blocks.specs.Held.{Held, file_of, live_version, told_or_none, wanted, where_live}
-use Rattle.held_blocks.specs.Reads.{AllReads, Among, FoundWrong, FoundSince, WentOnByReads}
+use Rattle.held_blocks.specs.Reads.{AllReads, Among, FoundWrong, FoundSince, GaveBad, GaveWrong, WentOnByReads}
 use Rattle.held_blocks.specs.Soundness.{IsPast, SoundAt, SoundBy}
 
 -- ---- lists of reads
@@ -60,6 +61,44 @@ found_after h None b c why first second found = tt
 found_after h (Some t) b c why (xs, is, all) second found =
     let (ys, is', found') = subst (λ b. FoundSince h b c why) is found in
     (ys ++ xs, is' ∙ ap Some (sym (append_assoc ys xs t)), found_more h ys (ys ++ xs) why (among-left ys xs) found')
+
+-- ---- what calls gave
+
+some_trace : {a b : List Call} → Some a ≡ Some b → a ≡ b
+some_trace e = cc
+
+gave_none : (h : Held) (why : Why) → GaveBad h [] why → ⊥
+gave_none h why g = g.came
+
+-- where no call was made, none gave a file
+pub gave_same : (h : Held) (t : Option (List Call)) (why : Why) → GaveWrong h t t why → ⊥
+gave_same h None why g = g
+gave_same h (Some t) why (calls, is, gave) = gave_none h why (subst (λ calls. GaveBad h calls why) (sym (append_cancel_right [] calls t (some_trace is))) gave)
+
+among_either : (xs ys : List Call) (call : Call) → Among (xs ++ ys) call → Among xs call ⊎ Among ys call
+among_either [] ys call among = inr among
+among_either (x ∷ xs) ys call (inl is) = inl (inl is)
+among_either (x ∷ xs) ys call (inr among) = elim (among_either xs ys call among) [ inl a ↦ inl (inr a) | inr a ↦ inr a ]
+
+gave_as : (h : Held) (calls others : List Call) (why : Why) (g : GaveBad h calls why) → Among others (got (block g.id) (h.size + 1) g.file) → GaveBad h others why
+gave_as h calls others why g came = record { id = g.id; version = g.version; file = g.file; live = g.live; wrong = g.wrong; came = came }
+
+gave_either : (h : Held) (xs ys : List Call) (why : Why) → GaveBad h (xs ++ ys) why → GaveBad h xs why ⊎ GaveBad h ys why
+gave_either h xs ys why g = elim (among_either xs ys (got (block g.id) (h.size + 1) g.file) g.came) [
+  | inl a ↦ inl (gave_as h (xs ++ ys) xs why g a)
+  | inr a ↦ inr (gave_as h (xs ++ ys) ys why g a)
+]
+
+-- what was given on two ways was given on one of them
+pub gave_split : (h : Held) (a b c : Option (List Call)) (why : Why) → WentOnByReads h a b → WentOnByReads h b c → GaveWrong h a c why → GaveWrong h a b why ⊎ GaveWrong h b c why
+gave_split h None b c why first second g = absurd g
+gave_split h (Some t) b c why (xs, is, all) second (calls, is', gave) =
+    let (ys, more, all') = subst (λ b. WentOnByReads h b c) is second in
+    let same : calls ≡ ys ++ xs = append_cancel_right calls (ys ++ xs) t (some_trace (sym is' ∙ more) ∙ sym (append_assoc ys xs t)) in
+    elim (gave_either h ys xs why (subst (λ calls. GaveBad h calls why) same gave)) [
+      | inl later ↦ inr (subst (λ b. GaveWrong h b c why) (sym is) (ys, more, later))
+      | inr earlier ↦ inl (xs, is, earlier)
+    ]
 
 -- ---- soundness
 

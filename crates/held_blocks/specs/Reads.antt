@@ -46,6 +46,20 @@ abbrev pub FoundSince : Held → Option (List Call) → Option (List Call) → W
 FoundSince h None new why = Unit {0}
 FoundSince h (Some old) new why = (reads : List Call) × (new ≡ Some (reads ++ old)) × FoundWrong h reads why
 
+-- of a live block, one of these calls gave a file that is wrong in this way
+pub record GaveBad (h : Held) (calls : List Call) (why : Why) : Type 0 where
+  pub id : List ℕ
+  pub version : ℕ
+  pub file : Option (List ℕ)
+  pub live : live_version h id ≡ Some version
+  pub wrong : verdict h.opens h.size id h.state.client version h.state.least file ≡ bad why
+  pub came : Among calls (got (block id) (h.size + 1) file)
+
+-- since then a call gave such a file; of a directory that tells no calls none did
+abbrev pub GaveWrong : Held → Option (List Call) → Option (List Call) → Why → Type 0
+GaveWrong h None new why = ⊥
+GaveWrong h (Some old) new why = (reads : List Call) × (new ≡ Some (reads ++ old)) × GaveBad h reads why
+
 -- the trace after the configuration's file was asked for, and this came
 abbrev pub after_read : Option (List Call) → ℕ → Option (List ℕ) → Option (List Call)
 after_read trace max answer = adds trace (got config max answer)

@@ -1,8 +1,8 @@
 -- The laws of a store: of its meanings, and of what it holds.
-use Rattle.std.specs.Prelude.{◌≡◌, ◌≤◌, ℕ, ◌+◌, true, false, List, is_some, ◌-◌, length, ◌^◌}
+use Rattle.std.specs.Prelude.{◌≡◌, ◌⊎◌, ◌≤◌, ℕ, ◌+◌, true, false, List, is_some, ◌-◌, length, ◌^◌}
 use Rattle.std.specs.declared.option.Option.{Option}
 use Rattle.std.specs.declared.option.Option.TheVariants.{None, Some}
-use Rattle.std.proofs.Common.{refl, sym, ◌∙◌, ap, subst, arith, eqb-true, eq-eqb}
+use Rattle.std.proofs.Common.{refl, sym, ◌∙◌, ap, subst, inl, inr, arith, eqb-true, eq-eqb}
 use Rattle.std.proofs.lemmas.List.{length-replicate}
 use Rattle.std.specs.FinMap.{contains_key-keys}
 use Rattle.std.specs.FinMap as fin
@@ -22,8 +22,8 @@ use Rattle.held_blocks.specs.AlarmLaws.{found_unmet}
 use Rattle.held_blocks.specs.Forgeries.{forged}
 use Rattle.held_blocks.specs.ForgeryLaws.{went_count, went_honest}
 use Rattle.held_blocks.specs.Held.{Held, file_of, live_version, told_or_none, wanted, where_live}
-use Rattle.held_blocks.specs.ReadLaws.{found_after, found_before, wanted_ids, went_on, went_same, went_told, went_wanted}
-use Rattle.held_blocks.specs.Reads.{FoundSince, WentOnByReads}
+use Rattle.held_blocks.specs.ReadLaws.{found_after, found_before, gave_same, gave_split, wanted_ids, went_on, went_same, went_told, went_wanted}
+use Rattle.held_blocks.specs.Reads.{FoundSince, GaveWrong, WentOnByReads}
 use Rattle.held_blocks.specs.Soundness.{SoundBy}
 use Rattle.held_blocks.specs.Stores.{OnlyRead, holdings_by, meanings_by, version_in}
 
@@ -55,6 +55,12 @@ only_honest a b t u f g x sound few =
 only_unmet : (a b : Held) (t u : Option (List Call)) (f g : ℕ) (why : Why) → OnlyRead a b t u f g → SoundBy a t → count_told is_lie u ≤ count_told is_lie t → FoundSince a t u why → ⊥
 only_unmet a b t u f g why x sound few found = found_unmet a t u why x.trace sound few found
 
+only_split : (a b c : Held) (t u v : Option (List Call)) (f g k : ℕ) (why : Why) → OnlyRead a b t u f g → OnlyRead b c u v g k → GaveWrong a t v why → GaveWrong a t u why ⊎ GaveWrong b u v why
+only_split a b c t u v f g k why x y gave = elim (gave_split a t u v why x.trace (subst (λ s. WentOnByReads s u v) x.held y.trace) gave) [
+  | inl first ↦ inl first
+  | inr second ↦ inr (subst (λ s. GaveWrong s u v why) (sym x.held) second)
+]
+
 pub lawful_by : {S : Type 0} (held : S → Held) (trace : S → Option (List Call)) (faults : S → ℕ) (own : S → Type 0) → Lawful (meanings_by held trace faults own)
 lawful_by held trace faults own = record {
   same = λ a. record { held = refl; trace = went_same (held a) (trace a); faults = omega arith };
@@ -66,6 +72,8 @@ lawful_by held trace faults own = record {
   faults_grow = λ a b x. x.faults;
   honest_unforged = λ a b x s l. only_honest _ _ _ _ _ _ x s l;
   honest_unmet = λ a b why x s l m. only_unmet _ _ _ _ _ _ why x s l m;
+  gave_same = λ a. gave_same (held a) (trace a);
+  gave_split = λ a b c why x y g. only_split _ _ _ _ _ _ _ _ _ why x y g;
 }
 
 -- ---- what is steady

@@ -16,7 +16,7 @@ use Rattle.sealed_store.specs.BlockFiles.{OpensAlike}
 use Rattle.block_id.specs.Formats.{magic}
 use Rattle.held_blocks.specs.Forgeries.{forged}
 use Rattle.held_blocks.specs.Held.{Held, wanted}
-use Rattle.held_blocks.specs.Reads.{FoundSince, WentOnByReads}
+use Rattle.held_blocks.specs.Reads.{FoundSince, GaveWrong, WentOnByReads}
 use Rattle.held_blocks.specs.Soundness.{SoundBy}
 
 -- bytes that wait as the configuration don't begin as a block's file does
@@ -55,6 +55,7 @@ meanings_by held trace faults own = record {
   faults = faults;
   loaded = λ a b. OnlyRead (held a) (held b) (trace a) (trace b) (faults a) (faults b);
   met = λ a b. FoundSince (held a) (trace a) (trace b);
+  gave = λ a b. GaveWrong (held a) (trace a) (trace b);
 }
 
 -- what a store of blocks holds, by the same views

@@ -8,7 +8,7 @@ use Rattle.std.specs.declared.option.Option.{Option}
 use Rattle.std.specs.declared.option.Option.TheVariants.{None, Some}
 use Rattle.block_id.specs.declared.fail.Memory.{Memory}
 use Rattle.outside.specs.Trace.{config, block, Call}
-use Rattle.outside.specs.Changes.{FileChanges, change_at, set_change, set_changes}
+use Rattle.outside.specs.Changes.{FileChanges, change_at, set_change}
 use Rattle.outside.specs.ChangeLaws.{change_at-set_change}
 use Rattle.local_state.specs.Known.{Lives, is_last}
 use Rattle.local_state.specs.Record.{PlainState, FitsEntry, Rise, record_bytes, HasRecord}
@@ -77,10 +77,10 @@ pub record Configured (bytes : List ℕ) (old new : FileChanges) : Type 0 where
   pub list : (new ≡ set_change config (Some bytes) old) ⊎ (new ≡ old)
   pub few : length new < 2 ^ 64
 
-pub configured : (r : Result Unit Memory) (bytes : List ℕ) (changes old new : FileChanges) → OnOk r (new ≡ set_changes changes old) → OnErr r (new ≡ old) → changes ≡ (config, Some bytes) ∷ [] → length new < 2 ^ 64
-    → Configured bytes old new
-configured (Ok _) bytes changes old new set same are few = record { list = inl (set ∙ ap (λ c. set_changes c old) are); few = few }
-configured (Err _) bytes changes old new set same are few = record { list = inr same; few = few }
+pub configured : {S : Type 0} (list : S → FileChanges) (r : Result Unit Memory) (bytes : List ℕ) (old new : S) → OnOk r (list new ≡ set_change config (Some bytes) (list old)) → OnErr r (new ≡ old) → length (list new) < 2 ^ 64
+    → Configured bytes (list old) (list new)
+configured list (Ok _) bytes old new set same few = record { list = inl set; few = few }
+configured list (Err _) bytes old new set same few = record { list = inr (ap list same); few = few }
 
 module _ (h : Held) (bytes : List ℕ) (new : FileChanges) (c : Configured bytes h.list new) where
   blocks_same : SameBlocks h.list new
@@ -120,9 +120,8 @@ configured_stays held trace a b bytes new c is same =
     }
 
 -- what is kept after an ok says that these are the configuration's bytes
-pub set_configures : (r : Result Unit Memory) (h : Held) (trace : Option (List Call)) (bytes : List ℕ) (changes new : FileChanges) → OnOk r (new ≡ set_changes changes h.list)
-    → changes ≡ (config, Some bytes) ∷ [] → IsWhole (with_list h new) → OnOk r (Configures (record_bytes h.state new) trace bytes)
-set_configures (Ok _) h trace bytes changes new set are whole =
-    let is : new ≡ set_change config (Some bytes) h.list = set ∙ ap (λ c. set_changes c h.list) are in
-    configures_of h.state new (record_bytes h.state new) trace bytes (written_record h.state new whole.has_record) (inl (ap (change_at config) is ∙ change_at-set_change config config (Some bytes) h.list))
-set_configures (Err _) h trace bytes changes new set are whole = tt
+pub set_configures : (r : Result Unit Memory) (h : Held) (trace : Option (List Call)) (bytes : List ℕ) (new : FileChanges) → OnOk r (new ≡ set_change config (Some bytes) h.list) → IsWhole (with_list h new)
+    → OnOk r (Configures (record_bytes h.state new) trace bytes)
+set_configures (Ok _) h trace bytes new set whole =
+    configures_of h.state new (record_bytes h.state new) trace bytes (written_record h.state new whole.has_record) (inl (ap (change_at config) set ∙ change_at-set_change config config (Some bytes) h.list))
+set_configures (Err _) h trace bytes new set whole = tt

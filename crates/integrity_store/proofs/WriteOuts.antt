@@ -316,38 +316,40 @@ same_count test list old new left spares w = elim w.trace [
 
 -- ---- all of it
 
-pub record Written (h : Held) (old new : Option (List Call)) (left : FileChanges) : Type 0 where
-  pub whole : IsWhole (with_list h left)
+-- the first was written out, and the second is held afterwards
+pub record Written (h k : Held) (old new : Option (List Call)) : Type 0 where
+  pub whole : IsWhole k
   pub told : is_some new ≡ is_some old
-  pub sound : SoundBy h old → SoundBy (with_list h left) new
-  pub content : is_some old ≡ true → SameContent (wanted h old) (wanted (with_list h left) new)
+  pub sound : SoundBy h old → SoundBy k new
+  pub content : is_some old ≡ true → SameContent (wanted h old) (wanted k new)
   pub stands : (kept : List ℕ) → SoundBy h old → h.state.marked ≡ false → IsRecord h.state h.list kept → Stands (identity_of h) kept new (wanted h old)
   pub kept_configures : (kept bytes : List ℕ) → IsRecord h.state h.list kept → Configures kept old bytes → Configures kept new bytes
-  pub configures : is_some old ≡ true → (kept bytes : List ℕ) → IsRecord h.state h.list kept → Configures kept old bytes → Configures (record_bytes h.state left) new bytes
+  pub configures : is_some old ≡ true → (kept bytes : List ℕ) → IsRecord h.state h.list kept → Configures kept old bytes → Configures (record_bytes k.state k.list) new bytes
   pub lies : count_told is_lie new ≡ count_told is_lie old
-  pub forgeries : count_told (forged h.opens h.size) new ≡ count_told (forged h.opens h.size) old
+  pub forgeries : count_told (forged k.opens k.size) new ≡ count_told (forged h.opens h.size) old
 
-pub written : (h : Held) (left : FileChanges) (old new : Option (List Call)) (r : Result Unit GetFail) → IsWhole h → OnOk r (new ≡ after_writes h.list old) → OnOk r (left ≡ []) → OnErr r (StopsAt h.list old new left)
-    → Written h old new left
-written h left old new r whole all none stops =
-    let w = wrote r h.list left old new all none stops in
-    record {
-      whole = still_whole h old new left whole w;
-      told = still_told h.list old new left w;
-      sound = sound_of_rest h old new left whole w;
-      content = content_of_rest h old new left whole w;
-      stands = λ kept sound unmarked is. record {
-        held = h;
-        same = refl;
-        unmarked = unmarked;
-        is_record = is;
-        sound = full_sound h old new left whole w sound;
-        wants = full_content h old new left whole w (sound_is_told h old sound);
-      };
-      kept_configures = λ kept bytes is c. configures_of h.state h.list kept new bytes is
-          (full_configured h old new left whole w bytes (configured_of h.state h.list kept old bytes is c));
-      configures = λ told kept bytes is c. configures_of h.state left (record_bytes h.state left) new bytes (written_record h.state left (still_whole h old new left whole w).has_record)
-          (configured_of_rest h old new left whole w bytes told (configured_of h.state h.list kept old bytes is c));
-      lies = same_count is_lie h.list old new left lies_spare w;
-      forgeries = same_count (forged h.opens h.size) h.list old new left (forgeries_spare h.opens h.size) w;
-    }
+written_left : (h : Held) (left : FileChanges) (old new : Option (List Call)) → IsWhole h → Wrote h.list old new left → Written h (with_list h left) old new
+written_left h left old new whole w = record {
+  whole = still_whole h old new left whole w;
+  told = still_told h.list old new left w;
+  sound = sound_of_rest h old new left whole w;
+  content = content_of_rest h old new left whole w;
+  stands = λ kept sound unmarked is. record {
+    held = h;
+    same = refl;
+    unmarked = unmarked;
+    is_record = is;
+    sound = full_sound h old new left whole w sound;
+    wants = full_content h old new left whole w (sound_is_told h old sound);
+  };
+  kept_configures = λ kept bytes is c. configures_of h.state h.list kept new bytes is
+      (full_configured h old new left whole w bytes (configured_of h.state h.list kept old bytes is c));
+  configures = λ told kept bytes is c. configures_of h.state left (record_bytes h.state left) new bytes (written_record h.state left (still_whole h old new left whole w).has_record)
+      (configured_of_rest h old new left whole w bytes told (configured_of h.state h.list kept old bytes is c));
+  lies = same_count is_lie h.list old new left lies_spare w;
+  forgeries = same_count (forged h.opens h.size) h.list old new left (forgeries_spare h.opens h.size) w;
+}
+
+pub written : (h k : Held) (old new : Option (List Call)) (r : Result Unit GetFail) → IsWhole h → k ≡ with_list h k.list → OnOk r (new ≡ after_writes h.list old) → OnOk r (k.list ≡ []) → OnErr r (StopsAt h.list old new k.list)
+    → Written h k old new
+written h k old new r whole is all none stops = subst (λ k. Written h k old new) (sym is) (written_left h k.list old new whole (wrote r h.list k.list old new all none stops))

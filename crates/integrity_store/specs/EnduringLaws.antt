@@ -16,7 +16,7 @@ use Rattle.block_id.specs.Formats.{format_in}
 use Rattle.batch_sealing.specs.Applied.{Applied, WaitsAfter, applied_by}
 use Rattle.held_blocks.specs.Held.{Held}
 use Rattle.held_blocks.specs.ReadLaws.{goes_on, last_went, sound-got, went_sound, went_wanted}
-use Rattle.held_blocks.specs.Reads.{WentOnByReads}
+use Rattle.held_blocks.specs.Reads.{GaveWrong, WentOnByReads}
 use Rattle.held_blocks.specs.Standing.{Configures, IsMarked, Stands, durables_by, identity_of, listed, records}
 use Rattle.held_blocks.specs.StoreLaws.{sound_is_told}
 use Rattle.held_blocks.specs.Stores.{holdings_by, meanings_by}
@@ -144,6 +144,7 @@ enduring_by held trace faults own = record {
   loaded_identity = λ a b x. ap identity_of x.held;
   loaded_list = λ a b x. ap (λ h. h.list) x.held;
   loaded_goes_on = λ a b x. goes_on (held a) (trace a) (trace b) x.trace;
+  gave_along = λ a b c why same gave. subst (λ t. GaveWrong (held a) (trace a) t why) same gave;
   loaded_last = λ a b name x. last_went (held a) name (trace a) (trace b) x.trace;
   loaded_records = λ a b with_list x. ap (λ h. record_bytes h.state (listed with_list h.list)) x.held;
   loaded_record = λ a b with_list kept x is. subst (λ h. IsRecord h.state (listed with_list h.list) kept) (sym x.held) is;

@@ -1,5 +1,5 @@
 // A batch of changes, made in memory.
-ghost use Rattle.std.specs.Prelude.{◌≡◌, ◌≤◌, ◌↔◌, OnOk, OnErr};
+ghost use Rattle.std.specs.Prelude.{◌≡◌, ◌≤◌, ◌<◌, ◌^◌, ◌↔◌, length, OnOk, OnErr};
 ghost use Rattle.std.specs.declared.result.Result.TheVariants.{Err};
 ghost use Rattle.std.specs.List.{AllByRecursion};
 ghost use Rattle.std.specs.FinMap as fin;
@@ -14,7 +14,7 @@ ghost use Rattle.held_blocks.specs.StoreLaws.{settled_by};
 ghost use Rattle.integrity_store.specs.Views.{held_by};
 
 use crate::IntegrityStore;
-use batch_sealing::{count_new, raise_or_bury_all, seal_all, some_spent};
+use batch_sealing::{count_new, draft_all, raise_or_bury_all, some_spent};
 use block_id::{BlockId, Memory};
 use outside::Vault;
 use rand_core::Rng;
@@ -23,8 +23,8 @@ use std::alloc::Global;
 use store_api::{ApplyError, Batch, BatchChange, Blocks, BlocksMut};
 
 impl<V: Vault, C: Sealer> IntegrityStore<V, C> {
-    /// Has the files and removals of the entries wait, and takes the memory for their new ids.
-    fn put_sealed<R: Rng>(
+    /// Has the files and removals of the entries wait, and takes the memory for their new ids. A file is sealed later.
+    fn put_drafts<R: Rng>(
         &mut self,
         alloc: Global,
         entries: &[(BlockId, BatchChange)],
@@ -37,13 +37,14 @@ impl<V: Vault, C: Sealer> IntegrityStore<V, C> {
         ensures room { OnOk result (count_new_in self.new.state.known.lives (entries_of entries.now) ≤ self.new.state.known.spare) }
         ensures listed { OnOk result (IsListed (held_by C.opens self.old)
             (held_by C.opens self.new) (entries_of entries.now) (R.stream chance.old) (R.stream chance.new)) }
+        ensures few { OnOk result (length self.new.sealed.vault.list < 2 ^ 64) }
         ensures held { OnErr result (held_by C.opens self.new
             ≡ held_by C.opens self.old) }
     {
         let new_ids = count_new(&self.state.known, entries);
         self.state.known.reserve(new_ids)?;
-        let changes = seal_all(alloc, &self.sealed, &self.state, entries, chance)?;
-        self.sealed.vault.put_all(changes)
+        let changes = draft_all(alloc, &self.sealed, &self.state, entries, chance)?;
+        self.sealed.put_drafts(alloc, changes)
     }
 }
 
@@ -77,12 +78,11 @@ impl<V: Vault, C: Sealer> BlocksMut for IntegrityStore<V, C> {
         if some_spent(&self.state.known, entries) {
             return Err(ApplyError::Spent);
         }
-        match self.put_sealed(alloc, entries, chance) {
+        match self.put_drafts(alloc, entries, chance) {
             Ok(()) => {
                 raise_or_bury_all(&mut self.state.known, entries);
-                // With their numbers read, the used ids and what waits are known to be few enough for a record.
+                // With their number read, the used ids are known to be few enough for a record.
                 let _used = self.state.known.len();
-                let _waiting = self.sealed.vault.entries().len();
                 Ok(())
             }
             Err(Memory) => Err(ApplyError::Memory),

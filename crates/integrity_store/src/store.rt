@@ -31,7 +31,7 @@ use store_api::{Blocks, Durable};
 /// Payloads under ids in a directory of sealed files, with what the client knows of them. Each live block has a
 /// version, by which an older or newer file is noticed.
 #[derive(Drop)]
-pub struct IntegrityStore<V, C> {
+pub struct IntegrityStore<V, C: Sealer> {
     pub(crate) sealed: SealedStore<V, C>,
     pub(crate) state: State,
 }
@@ -79,7 +79,7 @@ impl<V: Vault, C: Sealer> IntegrityStore<V, C> {
     {
         let IntegrityStore { sealed, state } = self;
         drop(state);
-        sealed.vault.into_vault()
+        sealed.into_vault()
     }
 
     /// The payload of a live id at its version.

@@ -11,6 +11,7 @@ in_memory kept loaded = record {
   faults = λ s. 0;
   loaded = loaded;
   met = λ a b why. ⊥;
+  gave = λ a b why. ⊥;
 }
 
 pub in_memory_lawful : {S : Type 0} (kept : S → Type 0) (loaded : S → S → Type 0) → ((a : S) → loaded a a) → ((a b c : S) → loaded a b → loaded b c → loaded a c) → Lawful (in_memory kept loaded)
@@ -24,4 +25,6 @@ in_memory_lawful kept loaded same onward = record {
   faults_grow = λ a b h. omega arith;
   honest_unforged = λ a b h s l. omega arith;
   honest_unmet = λ a b why h s l m. m;
+  gave_same = λ a why g. g;
+  gave_split = λ a b c why h k g. absurd g;
 }

@@ -14,6 +14,7 @@ lift f own M = record {
   faults = λ a. M.faults (f a);
   loaded = λ a b. M.loaded (f a) (f b);
   met = λ a b why. M.met (f a) (f b) why;
+  gave = λ a b why. M.gave (f a) (f b) why;
 }
 
 pub lawful : {A B : Type 0} (f : A → B) (own : A → Type 0) (M : Meanings B) → Lawful M → Lawful (lift f own M)
@@ -27,11 +28,13 @@ lawful f own M l = record {
   faults_grow = λ a b. l.faults_grow (f a) (f b);
   honest_unforged = λ a b. l.honest_unforged (f a) (f b);
   honest_unmet = λ a b why. l.honest_unmet (f a) (f b) why;
+  gave_same = λ a. l.gave_same (f a);
+  gave_split = λ a b c. l.gave_split (f a) (f b) (f c);
 }
 
 -- a call of the store below is one of this
 pub lifted : {A B : Type 0} (f : A → B) (own : A → Type 0) {M : Meanings B} {T : Type 0} {N : Type 0} {P : N → T → Type 0} {r : Result T Fail} (a b : A) → own b → Outcome M N (f a) (f b) r P → Outcome (lift f own M) N a b r P
-lifted f own a b kept o = record { intact = (o.intact, kept); loaded = o.loaded; sound = o.sound; met = o.met; fault = o.fault; quiet = o.quiet; value = o.value; structure = o.structure }
+lifted f own a b kept o = record { intact = (o.intact, kept); loaded = o.loaded; sound = o.sound; met = o.met; fault = o.fault; quiet = o.quiet; noticed = o.noticed; value = o.value; structure = o.structure }
 
 -- ---- a store that keeps data of the one below, which agree with it where both are sound
 
@@ -45,6 +48,7 @@ lift_with f own agrees M = record {
   faults = λ a. M.faults (f a);
   loaded = λ a b. M.loaded (f a) (f b);
   met = λ a b why. M.met (f a) (f b) why;
+  gave = λ a b why. M.gave (f a) (f b) why;
 }
 
 pub lawful_with : {A B : Type 0} (f : A → B) (own agrees : A → Type 0) (M : Meanings B) → Lawful M → Lawful (lift_with f own agrees M)
@@ -58,6 +62,8 @@ lawful_with f own agrees M l = record {
   faults_grow = λ a b. l.faults_grow (f a) (f b);
   honest_unforged = λ a b x s. l.honest_unforged (f a) (f b) x s.0;
   honest_unmet = λ a b why x s. l.honest_unmet (f a) (f b) why x s.0;
+  gave_same = λ a. l.gave_same (f a);
+  gave_split = λ a b c. l.gave_split (f a) (f b) (f c);
 }
 
 -- a call of the store below is one of this, where what is kept agrees afterwards
@@ -70,6 +76,7 @@ lifted_with f own agrees a b kept agree o = record {
   met = o.met;
   fault = o.fault;
   quiet = o.quiet;
+  noticed = o.noticed;
   value = λ n s. o.value n s.0;
   structure = λ n s. o.structure n s.0;
 }

@@ -1,10 +1,10 @@
 -- What a store over an outside that may lie means, whatever it stores.
-use Rattle.std.specs.Prelude.{◌≡◌, ℕ, ◌≤◌, Result}
+use Rattle.std.specs.Prelude.{◌≡◌, ◌⊎◌, ℕ, ◌≤◌, Result}
 use Rattle.std.specs.declared.result.Result.TheVariants.{Ok, Err}
 use Rattle.block_id.specs.declared.fail.Fail.{Fail}
 use Rattle.block_id.specs.declared.fail.Fail.TheVariants.{Memory, Fault, Violation}
 use Rattle.block_id.specs.declared.fail.Why.{Why}
-use Rattle.block_id.specs.declared.fail.Why.TheVariants.{Structure}
+use Rattle.block_id.specs.declared.fail.Why.TheVariants.{Missing, BadLength, BadPrefix, NotOpened, BadRecord, WrongId, ForeignClient, OldVersion, AheadVersion, Structure, OldFormat}
 use Rattle.outside.specs.Causes.{RoseBy}
 
 pub record Meanings (S : Type 0) : Type 1 where
@@ -22,6 +22,8 @@ pub record Meanings (S : Type 0) : Type 1 where
   pub loaded : S → S → Type 0
   -- on the way from the first to the second, a block was found wrong in this way
   pub met : S → S → Why → Type 0
+  -- on the way from the first to the second, a call gave of a live block a file that is wrong in this way
+  pub gave : S → S → Why → Type 0
 
 pub record Lawful {S : Type 0} (M : Meanings S) : Type 0 where
   pub same : (a : S) → M.loaded a a
@@ -35,6 +37,9 @@ pub record Lawful {S : Type 0} (M : Meanings S) : Type 0 where
   pub honest_unforged : (a b : S) → M.loaded a b → M.sound a → M.lies b ≤ M.lies a → M.forgeries b ≤ M.forgeries a
   -- where nothing but what was last written came back, no block was found wrong
   pub honest_unmet : (a b : S) (why : Why) → M.loaded a b → M.sound a → M.lies b ≤ M.lies a → M.met a b why → ⊥
+  -- where no call was made nothing was given, and what the calls of two ways gave, those of one of them gave
+  pub gave_same : (a : S) (why : Why) → M.gave a a why → ⊥
+  pub gave_split : (a b c : S) (why : Why) → M.loaded a b → M.loaded b c → M.gave a c why → M.gave a b why ⊎ M.gave b c why
 
 -- of a failure that names a verdict on one block, this holds
 abbrev pub OnVerdict : Fail → (Why → Type 0) → Type 0
@@ -72,3 +77,28 @@ UnlessFault (Violation why) P = P
 abbrev pub IsQuiet : {T : Type 0} → Result T Fail → ℕ → ℕ → Type 0
 IsQuiet (Ok answer) before now = now ≡ before
 IsQuiet (Err fail) before now = UnlessFault fail (now ≡ before)
+
+-- what is wrong shows before the seal is opened, for which alone memory is needed
+abbrev pub NeedsNoMemory : Why → Type 0
+NeedsNoMemory Missing = Unit {0}
+NeedsNoMemory BadLength = Unit {0}
+NeedsNoMemory BadPrefix = Unit {0}
+NeedsNoMemory OldFormat = Unit {0}
+NeedsNoMemory NotOpened = ⊥
+NeedsNoMemory BadRecord = ⊥
+NeedsNoMemory (WrongId id) = ⊥
+NeedsNoMemory (ForeignClient client) = ⊥
+NeedsNoMemory (OldVersion known found) = ⊥
+NeedsNoMemory (AheadVersion known found) = ⊥
+NeedsNoMemory Structure = ⊥
+
+-- a violation names whatever wrong file came; a fault is told where none came, and want of memory where none came that shows without memory
+abbrev pub Tells : Fail → (Why → Type 0) → Type 0
+Tells Memory gave = (why : Why) → NeedsNoMemory why → gave why → ⊥
+Tells Fault gave = (why : Why) → gave why → ⊥
+Tells (Violation told) gave = (why : Why) → gave why → why ≡ told
+
+-- no wrong file that came is passed over
+abbrev pub IsNoticed : {T : Type 0} → Result T Fail → (Why → Type 0) → Type 0
+IsNoticed (Ok answer) gave = (why : Why) → gave why → ⊥
+IsNoticed (Err fail) gave = Tells fail gave

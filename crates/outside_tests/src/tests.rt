@@ -80,7 +80,7 @@ fn a_record_in_memory_keeps_all_promises(rt: HostRuntime) -> Result<(), Fail> {
 fn a_record_in_a_folder_keeps_all_promises(rt: HostRuntime) -> Result<(), Fail> {
     let folder = fresh_folder(&rt, "record")?;
     let run = FolderRun::new(rt.alloc(), 1)?;
-    let mut keeper = FolderKeeper::new(rt.alloc(), rt, folder.as_str(), &run)?;
+    let mut keeper = FolderKeeper::new(rt.alloc(), rt, folder.as_str(), &run, CallLog::new())?;
     record_keeps_all(rt.alloc(), &mut keeper)?;
     fs::remove_dir_all(&rt, folder.as_str())?;
     Ok(())

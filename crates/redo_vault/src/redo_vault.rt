@@ -1,5 +1,5 @@
 // The unwritten list over a directory.
-ghost use Rattle.std.specs.Prelude.{◌≡◌, ◌⊎◌, ◌≤◌, ◌<◌, ◌+◌, ◌-◌, ◌^◌, min, [], length, unwrap_or, vec_len, vec_capacity, drop, true, false, IfOk, IfSome, OnOk, OnErr, IsErrOf};
+ghost use Rattle.std.specs.Prelude.{◌≡◌, ◌⊎◌, ◌≤◌, ◌<◌, ◌+◌, ◌-◌, ◌^◌, min, [], length, unwrap_or, vec_len, vec_capacity, drop, true, false, IfOk, IfSome, IfNone, OnOk, OnErr, IsErrOf};
 ghost use Rattle.std.specs.Option.{option_map};
 ghost use Rattle.std.specs.declared.option.Option.{Option};
 ghost use Rattle.std.specs.declared.option.Option.TheVariants.{None, Some};
@@ -13,6 +13,7 @@ ghost use Rattle.outside.specs.Writes.{call_for, after_writes, StopsAt};
 use outside::{Change, FileName, GetFail, Memory, Pending, Vault};
 use std::alloc::Global;
 use std::marker::Model;
+use std::mem;
 
 /// More changes than this that stand in order are set by one pass over the list.
 const FEW: usize = 8;
@@ -231,6 +232,14 @@ impl<V: Vault> RedoVault<V> {
         &self.list
     }
 
+    /// What the list says of a file.
+    pub fn change_of(&self, name: &FileName) -> Option<&Change>
+        ensures some { IfSome result (λ change. change_at (at_of name.now) self.now.list ≡ Some (change_of change.now)) }
+        ensures none { IfNone result (change_at (at_of name.now) self.now.list ≡ None) }
+    {
+        pending_list::lookup_in_order(&self.list, name)
+    }
+
     /// The file's bytes, at most `max` of them, or None where it isn't there: as the list says, else by one call.
     pub fn get(
         &mut self,
@@ -263,6 +272,18 @@ impl<V: Vault> RedoVault<V> {
         self.buffered = sums.0;
         self.weight = sums.1;
         Ok(())
+    }
+
+    /// Has this list of changes, which stand in order of their names, in place of the one that waits, and gives that one back.
+    pub fn replace_list(&mut self, list: Vec<Pending>) -> Vec<Pending>
+        requires { IsIncreasing (list_of list.items) }
+        ensures old { list_of result.items ≡ self.old.list }
+        ensures new { self.new ≡ record { vault = self.old.vault; list = list_of list.items } }
+        ensures increasing { IsIncreasing self.old.list }
+    {
+        self.buffered = sum_of_lens(&list, 0);
+        self.weight = sum_of_lens(&list, REMOVAL);
+        mem::replace(&mut self.list, list)
     }
 
     /// How many bytes are to be put, or the greatest number where they are more.

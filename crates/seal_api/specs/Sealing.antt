@@ -1,5 +1,5 @@
--- What a sealer appends.
-use Rattle.std.specs.Prelude.{◌≡◌, ℕ, ◌+◌, ◌^◌, List, ◌++◌, length, take, Option, Some}
+-- What a sealed text is.
+use Rattle.std.specs.Prelude.{◌≡◌, ℕ, ◌+◌, ◌^◌, List, length, take, Option, Some}
 
 -- the most bytes of a plaintext, of a ciphertext and of an IV: 2 ^ 30
 abbrev pub max_len : ℕ
@@ -10,9 +10,3 @@ pub record IsSealed (opens : List ℕ → Option (List ℕ)) (iv plain sealed : 
   pub begins : take (length iv) sealed ≡ iv
   pub size : length sealed ≡ length iv + length plain + 16
   pub opened : opens sealed ≡ Some plain
-
--- a sealed text was appended
-pub record AppendsSealed (opens : List ℕ → Option (List ℕ)) (iv plain old new : List ℕ) : Type 0 where
-  pub sealed : List ℕ
-  pub appended : new ≡ old ++ sealed
-  pub is_sealed : IsSealed opens iv plain sealed

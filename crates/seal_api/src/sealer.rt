@@ -1,9 +1,9 @@
 // What a sealer does.
-ghost use Rattle.std.specs.Prelude.{◌≡◌, ◌≤◌, ◌+◌, List, [], ℕ, length, IfOk, OnOk, OnErr};
+ghost use Rattle.std.specs.Prelude.{◌≡◌, ◌≤◌, ◌+◌, ◌++◌, List, [], ℕ, length, IfOk, OnOk, OnErr};
 ghost use Rattle.std.specs.declared.option.Option.{Option};
 ghost use Rattle.std.specs.declared.option.Option.TheVariants.{Some};
 ghost use Rattle.std.specs.Option.{option_map};
-ghost use Rattle.seal_api.specs.Sealing.{AppendsSealed, max_len};
+ghost use Rattle.seal_api.specs.Sealing.{IsSealed, max_len};
 
 use block_id::Memory;
 use std::alloc::Global;
@@ -15,6 +15,9 @@ pub trait Sealer {
 
     /// The plaintext that a text opens to under a key with some extra bytes, if it opens.
     ghost opens: { Self → List ℕ → List ℕ → List ℕ → Option (List ℕ) };
+
+    /// The sealed text of a key, an IV, extra bytes and a plaintext.
+    ghost sealed: { Self → List ℕ → List ℕ → List ℕ → List ℕ → List ℕ };
 
     /// How many bytes an IV has.
     fn iv_len(&self) -> usize
@@ -34,7 +37,7 @@ pub trait Sealer {
         requires iv { length iv.now ≡ iv_size self.now }
         requires extra { length extra.now ≤ max_len }
         requires plain { length plain.now ≤ max_len }
-        ensures ok { OnOk result (AppendsSealed (opens self.now key.now extra.now) iv.now plain.now out.old.items out.new.items) }
+        ensures ok { OnOk result (out.new.items ≡ out.old.items ++ sealed self.now key.now iv.now extra.now plain.now) }
         ensures err { OnErr result (out.new.items ≡ out.old.items) };
 
     /// The plaintext of a sealed text, or None where it doesn't open under this key with these extra bytes.
@@ -43,31 +46,30 @@ pub trait Sealer {
         alloc: Global,
         key: &[u8; 32],
         extra: &[u8],
-        sealed: &[u8],
+        text: &[u8],
     ) -> Result<Option<Vec<u8>>, Memory>
-        ensures { IfOk result (λ answer. option_map (λ plain. plain.items) answer ≡ opens self.now key.now extra.now sealed.now) };
+        ensures { IfOk result (λ answer. option_map (λ plain. plain.items) answer ≡ opens self.now key.now extra.now text.now) };
 
     /// The same with no extra bytes.
     fn seal(&self, key: &[u8; 32], iv: &[u8], plain: &[u8], out: &mut Vec<u8>) -> Result<(), Memory>
         requires iv { length iv.now ≡ iv_size self.now }
         requires plain { length plain.now ≤ max_len }
-        ensures ok { OnOk result (AppendsSealed (opens self.now key.now []) iv.now plain.now out.old.items out.new.items) }
+        ensures ok { OnOk result (out.new.items ≡ out.old.items ++ sealed self.now key.now iv.now [] plain.now) }
         ensures err { OnErr result (out.new.items ≡ out.old.items) }
     {
         self.seal_with(key, iv, &[], plain, out)
     }
 
     /// The same with no extra bytes.
-    fn unseal(
-        &self,
-        alloc: Global,
-        key: &[u8; 32],
-        sealed: &[u8],
-    ) -> Result<Option<Vec<u8>>, Memory>
-        ensures { IfOk result (λ answer. option_map (λ plain. plain.items) answer ≡ opens self.now key.now [] sealed.now) }
+    fn unseal(&self, alloc: Global, key: &[u8; 32], text: &[u8]) -> Result<Option<Vec<u8>>, Memory>
+        ensures { IfOk result (λ answer. option_map (λ plain. plain.items) answer ≡ opens self.now key.now [] text.now) }
     {
-        self.unseal_with(alloc, key, &[], sealed)
+        self.unseal_with(alloc, key, &[], text)
     }
+
+    /// What is sealed with an IV of the right length begins with it, and opens to the plaintext under the same key with the
+    /// same extra bytes.
+    ghost seals: { (s : Self) (key iv extra plain : List ℕ) → length iv ≡ iv_size s → IsSealed (opens s key extra) iv plain (sealed s key iv extra plain) };
 
     /// A text that opens has 16 bytes more than its IV and its plaintext.
     ghost lengths: { (s : Self) (key extra text plain : List ℕ) → opens s key extra text ≡ Some plain → length text ≡ iv_size s + length plain + 16 };

@@ -1,2 +1,3 @@
 pub mod BlockFiles
+pub mod Drafts
 pub mod Stores

@@ -3,10 +3,9 @@ use Rattle.std.specs.Prelude.{◌≡◌, ℕ, ◌+◌, ◌≤◌, List}
 use Rattle.std.specs.declared.option.Option.{Option}
 use Rattle.block_id.specs.declared.sizes.TheConstants.{MIN_BLOCK, MAX_BLOCK}
 use Rattle.outside.specs.Trace.{Call, block}
-use Rattle.redo_vault.specs.Redo.{Gave}
+use Rattle.redo_vault.specs.Redo.{Redo, Gave}
 use Rattle.sealed_store.specs.declared.seen.Seen.{Seen}
 use Rattle.sealed_store.specs.declared.seen.Seen.TheVariants.{Absent, BadLength, BadPrefix, OldFormat, NotOpened, Plain}
-use Rattle.sealed_store.specs.declared.sealed_store.SealedStore.{SealedStore}
 use Rattle.sealed_store.specs.BlockFiles.{SeenFile, absent, bad_length, bad_prefix, old_format, not_opened, plain, seen_file_in}
 
 abbrev pub seen_file_of : Seen → SeenFile
@@ -23,14 +22,20 @@ pub record IsIntact (block_size iv_size : ℕ) : Type 0 where
   pub most : block_size ≤ MAX_BLOCK
   pub iv : iv_size ≡ 16
 
--- the parts that a store was made of
-abbrev pub block_size_of : {V C : Type 0} → SealedStore V C → ℕ
+-- a directory of sealed files with its unwritten list, and the parts that its store was made of
+pub record Sealed (V C : Type 0) : Type 0 where
+  pub vault : Redo V
+  pub cipher : C
+  pub key : List ℕ
+  pub block_size : ℕ
+
+abbrev pub block_size_of : {V C : Type 0} → Sealed V C → ℕ
 block_size_of s = s.block_size
 
-abbrev pub key_of : {V C : Type 0} → SealedStore V C → List ℕ
+abbrev pub key_of : {V C : Type 0} → Sealed V C → List ℕ
 key_of s = s.key
 
-abbrev pub cipher_of : {V C : Type 0} → SealedStore V C → C
+abbrev pub cipher_of : {V C : Type 0} → Sealed V C → C
 cipher_of s = s.cipher
 
 -- The file of a block, by what the list says of it or else by one call, was asked for with one byte more than a file has; it is seen so.

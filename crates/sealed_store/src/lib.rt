@@ -1,7 +1,9 @@
 //! Sealed block files over a directory with changes that aren't written yet.
 #![tactic(auto)]
 
+mod drafts;
 mod sealed_store;
+mod seeing;
 mod seen;
 
 pub use sealed_store::{SEAL_LEN, SealedStore};

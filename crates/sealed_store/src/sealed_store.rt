@@ -1,112 +1,83 @@
 // Block files, opened and sealed.
-ghost use Rattle.std.specs.Prelude.{◌≡◌, ◌⊎◌, ◌≤◌, ◌+◌, ℕ, List, nat_lt, length, take, drop, IfOk, IfSome, OnErr, IsErrOf};
+ghost use Rattle.std.specs.Prelude.{◌≡◌, ◌⊎◌, ◌≤◌, ◌<◌, ◌+◌, ◌^◌, ℕ, List, [], ◌∷◌, length, map, take, drop, vec_len, IfOk, IfSome, OnOk, OnErr, IsErrOf};
 ghost use Rattle.std.specs.declared.option.Option.{Option};
 ghost use Rattle.std.specs.declared.option.Option.TheVariants.{None, Some};
-ghost use Rattle.block_id.specs.Formats.{prefix_of, format_in, extra_of, number_of};
+ghost use Rattle.block_id.specs.Formats.{prefix_of, format_in};
 ghost use Rattle.block_id.specs.declared.sizes.TheConstants.{MIN_BLOCK, MAX_BLOCK};
 ghost use Rattle.outside.specs.Causes.{GetHasCause};
-ghost use Rattle.outside.specs.Trace.{block};
-ghost use Rattle.outside.specs.Changes.{change_at};
-ghost use Rattle.outside.specs.View.{bytes_of};
-ghost use Rattle.redo_vault.specs.Redo.{Gave};
+ghost use Rattle.outside.specs.Trace.{block, config};
+ghost use Rattle.outside.specs.Changes.{IsIncreasing, change_at, set_changes};
+ghost use Rattle.outside.specs.View.{list_of};
+ghost use Rattle.outside.specs.Writes.{after_writes, StopsAt};
+ghost use Rattle.redo_vault.specs.Redo.{Gave, buffered_len, weight_len};
 ghost use Rattle.sealed_store.specs.declared.sealed_store.TheConstants.{SEAL_LEN};
-ghost use Rattle.sealed_store.specs.BlockFiles.{opens_file, seen_file_in, seen_file_of_plain};
+ghost use Rattle.sealed_store.specs.BlockFiles.{IsToOpen, opens_file};
+ghost use Rattle.sealed_store.specs.Drafts.{sealed_entry, AreDrafts, IsDraftOf};
 ghost use Rattle.sealed_store.specs.Stores.{seen_file_of, IsIntact, Sees, block_size_of, key_of, cipher_of};
 
 use crate::Seen;
-use block_id::{BlockId, Format};
-use outside::{FileName, GetFail, Memory, Vault};
+use crate::drafts::{seal_list, seal_waiting, see_draft, takes_drafts, waiting_draft};
+use crate::seeing::{PREFIX_ALONE, see};
+use block_id::{BlockId, Format, Memory};
+use outside::{Change, FileName, GetFail, Pending, Vault};
 use redo_vault::RedoVault;
 use seal_api::Sealer;
 use std::alloc::Global;
+use std::marker::Model;
 
 /// Bytes of a block's file beside the record that it seals: the prefix, the IV and the tag.
 pub const SEAL_LEN: usize = 48;
 
-/// What a file of each format begins with.
-const PREFIX_ALONE: [u8; 16] = *b"cryfs;block;0\0\x01\0";
-
-const PREFIX_WITH_ID: [u8; 16] = *b"cryfs;block;0\0\x02\0";
-
-/// A directory of block files under one key.
+/// A directory of block files under one key. The blocks' files that wait to be written may be drafts, which are sealed when
+/// the list of them is taken or written out. What is told of the list are the sealed files.
 #[derive(Drop)]
-pub struct SealedStore<V, C> {
-    pub vault: RedoVault<V>,
+pub struct SealedStore<V, C: Sealer> {
+    vault: RedoVault<V>,
+    drafts: bool,
     cipher: C,
     key: [u8; 32],
     block_size: usize,
 }
 
-/// The format that a file begins with.
-fn format_in(bytes: &[u8]) -> Option<Format>
-    ensures { result ≡ format_in bytes.now }
-{
-    if bytes.starts_with(&PREFIX_ALONE) {
-        return Some(Format::Alone);
-    }
-    if bytes.starts_with(&PREFIX_WITH_ID) {
-        return Some(Format::WithId);
-    }
-    None
+impl<V, C: Sealer> Model for SealedStore<V, C> {
+    ghost use Rattle.std.specs.Prelude.{◌≡◌, true};
+    ghost use Rattle.sealed_store.specs.Drafts.{told_list, AreDrafts};
+    ghost use Rattle.sealed_store.specs.Stores.{Sealed, IsIntact};
+
+    ghost Value = { Sealed V C };
+
+    ghost view = { λ s. record {
+      vault = record { vault = s.vault.vault; list = told_list s.drafts (C.sealed s.cipher s.key) s.block_size s.vault.list };
+      cipher = s.cipher;
+      key = s.key;
+      block_size = s.block_size;
+    } };
+
+    ghost invariant = { λ s. IsIntact s.block_size (C.iv_size s.cipher) × (s.drafts ≡ true → AreDrafts s.block_size s.vault.list) };
 }
 
-/// Whether files of this format aren't taken any more.
-fn is_old(format: Format, least: u8) -> bool
-    ensures { result ≡ nat_lt (number_of format) least }
+/// The configuration's file, as the one change.
+fn config_change(alloc: Global, bytes: Vec<u8>) -> Result<Vec<Pending>, Memory>
+    ensures { IfOk result (λ changes. list_of changes.items ≡ (config, Some bytes.items) ∷ []) }
 {
-    match format {
-        Format::Alone => least > 1,
-        Format::WithId => least > 2,
-    }
+    let mut changes = Vec::new(alloc);
+    changes.push(Pending {
+        name: FileName::Config,
+        change: Change::Bytes(bytes),
+    })?;
+    Ok(changes)
 }
 
-/// What the rest of a block's file of this format shows.
-fn see_rest<C: Sealer>(
-    alloc: Global,
-    cipher: &C,
-    key: &[u8; 32],
-    id: &BlockId,
-    format: Format,
-    rest: &[u8],
-) -> Result<Seen, Memory>
-    ensures { IfOk result (λ seen. seen_file_of seen ≡ seen_file_of_plain (C.opens cipher.now key.now (extra_of format id.now.0) rest.now)) }
+/// Has these changes wait. The list is then known to be no longer than a record has room for.
+fn put_waiting<V: Vault>(vault: &mut RedoVault<V>, changes: Vec<Pending>) -> Result<(), Memory>
+    ensures ok { OnOk result (vault.new.list ≡ set_changes (list_of changes.items) vault.old.list) }
+    ensures err { OnErr result (vault.new ≡ vault.old) }
+    ensures few { length vault.new.list < 2 ^ 64 }
+    ensures vault { vault.new.vault ≡ vault.old.vault }
 {
-    let opened = match format {
-        Format::Alone => cipher.unseal(alloc, key, rest)?,
-        Format::WithId => cipher.unseal_with(alloc, key, &id.0, rest)?,
-    };
-    match opened {
-        Some(plain) => Ok(Seen::Plain(plain)),
-        None => Ok(Seen::NotOpened),
-    }
-}
-
-/// What an answer shows.
-fn see<C: Sealer>(
-    alloc: Global,
-    cipher: &C,
-    key: &[u8; 32],
-    block_size: usize,
-    least: u8,
-    id: &BlockId,
-    answer: &Option<Vec<u8>>,
-) -> Result<Seen, Memory>
-    requires { 16 ≤ block_size }
-    ensures { IfOk result (λ seen. seen_file_of seen ≡ seen_file_in (C.opens cipher.now key.now) block_size least id.now.0 (bytes_of answer.now)) }
-{
-    let Some(bytes) = answer else {
-        return Ok(Seen::Absent);
-    };
-    if bytes.len() != block_size {
-        return Ok(Seen::BadLength);
-    }
-    let Some(format) = format_in(bytes) else {
-        return Ok(Seen::BadPrefix);
-    };
-    if is_old(format, least) {
-        return Ok(Seen::OldFormat);
-    }
-    see_rest(alloc, cipher, key, id, format, &bytes[16..])
+    let outcome = vault.put_all(changes);
+    let _count = vault.entries().len();
+    outcome
 }
 
 impl<V: Vault, C: Sealer> SealedStore<V, C> {
@@ -122,10 +93,21 @@ impl<V: Vault, C: Sealer> SealedStore<V, C> {
     {
         SealedStore {
             vault,
+            drafts: false,
             cipher,
             key,
             block_size,
         }
+    }
+
+    /// The directory, without the unwritten list.
+    pub fn into_vault(self) -> V
+    where
+        C: Drop,
+        ensures { result ≡ self.vault.vault }
+    {
+        let SealedStore { vault, .. } = self;
+        vault.into_vault()
     }
 
     /// How many bytes an IV has.
@@ -150,7 +132,8 @@ impl<V: Vault, C: Sealer> SealedStore<V, C> {
             (change_at (block id.now.0) self.old.vault.list) (V.trace self.old.vault.vault) (V.trace self.new.vault.vault) id.now.0 (seen_file_of seen)) }
         ensures asked_once { OnErr result ((V.trace self.new.vault.vault ≡ V.trace self.old.vault.vault)
             ⊎ ((answer : Option (List ℕ)) × Gave (change_at (block id.now.0) self.old.vault.list) (V.trace self.old.vault.vault)
-            (V.trace self.new.vault.vault) (block id.now.0) (block_size_of self.old + 1) answer)) }
+            (V.trace self.new.vault.vault) (block id.now.0) (block_size_of self.old + 1) answer
+            × IsToOpen (block_size_of self.old) least answer)) }
         ensures failed { IsErrOf result GetFail.Failed → V.trace self.new.vault.vault ≡ V.trace self.old.vault.vault }
         ensures failed_by_a_call { IsErrOf result GetFail.Failed → change_at (block id.now.0) self.old.vault.list ≡ None }
         ensures without_a_call { IfSome (change_at (block id.now.0) self.old.vault.list) (λ _. self.new.vault ≡ self.old.vault) }
@@ -160,6 +143,12 @@ impl<V: Vault, C: Sealer> SealedStore<V, C> {
         ensures cause { GetHasCause (V.faults self.old.vault.vault) (V.faults self.new.vault.vault) result }
     {
         let name = FileName::Block(*id);
+        if let Some(change) = waiting_draft(self.drafts, &self.vault, &name) {
+            return match see_draft(alloc, self.block_size, least, change) {
+                Ok(seen) => Ok(seen),
+                Err(Memory) => Err(GetFail::Memory),
+            };
+        }
         let answer = self.vault.get(alloc, &name, self.block_size + 1)?;
         match see(
             alloc,
@@ -175,31 +164,132 @@ impl<V: Vault, C: Sealer> SealedStore<V, C> {
         }
     }
 
-    /// The file of this block with this IV that opens to this plaintext, in format 2.
-    pub fn seal_plain(
-        &self,
-        alloc: Global,
-        id: &BlockId,
-        plain: &[u8],
-        iv: &[u8],
-    ) -> Result<Vec<u8>, Memory>
+    /// The draft of the file of whichever block with this IV that opens to this plaintext, in format 2.
+    pub fn draft(&self, plain: Vec<u8>, iv: &[u8]) -> Result<Vec<u8>, Memory>
         requires intact { IsIntact (block_size_of self.now) (C.iv_size (cipher_of self.now)) }
-        requires plain { length plain.now + SEAL_LEN ≡ block_size_of self.now }
+        requires plain { vec_len plain + SEAL_LEN ≡ block_size_of self.now }
         requires iv { length iv.now ≡ C.iv_size (cipher_of self.now) }
-        ensures len { IfOk result (λ file. length file.items ≡ block_size_of self.now) }
-        ensures prefix { IfOk result (λ file. take 16 file.items ≡ prefix_of Format.WithId) }
-        ensures format { IfOk result (λ file. format_in file.items ≡ Some Format.WithId) }
-        ensures iv { IfOk result (λ file. take 16 (drop 16 file.items) ≡ iv.now) }
-        ensures opens { IfOk result (λ file. opens_file (C.opens (cipher_of self.now) (key_of self.now)) (block_size_of self.now) id.now.0 file.items ≡ Some plain.now) }
+        ensures { IfOk result (λ draft. IsDraftOf (C.opens (cipher_of self.now) (key_of self.now)) (C.sealed (cipher_of self.now) (key_of self.now))
+            (block_size_of self.now) plain.items iv.now draft.items) }
     {
-        let mut file = Vec::with_capacity(alloc, self.block_size)?;
-        file.extend_from_slice(&PREFIX_WITH_ID)?;
-        self.cipher
-            .seal_with(&self.key, iv, &id.0, plain, &mut file)?;
-        Ok(file)
+        let mut draft = plain;
+        draft.reserve(SEAL_LEN)?;
+        draft.extend_from_slice(iv)?;
+        draft.extend_from_slice(&[0; SEAL_LEN - 16])?;
+        Ok(draft)
     }
 
-    /// The same in format 1, whose seal protects no id: the file opens to this plaintext as whichever block's. For tests
+    /// Has each of these drafts and removals wait, all or none. Where sealed files wait, these are sealed at once.
+    pub fn put_drafts(&mut self, alloc: Global, drafts: Vec<Pending>) -> Result<(), Memory>
+        requires intact { IsIntact (block_size_of self.old) (C.iv_size (cipher_of self.old)) }
+        requires drafts { AreDrafts (block_size_of self.old) (list_of drafts.items) }
+        ensures ok { OnOk result (self.new.vault.list ≡ set_changes (map (sealed_entry (C.sealed (cipher_of self.old) (key_of self.old))
+            (block_size_of self.old)) (list_of drafts.items)) self.old.vault.list) }
+        ensures err { OnErr result (self.new ≡ self.old) }
+        ensures vault { self.new.vault.vault ≡ self.old.vault.vault }
+        ensures same { self.new ≡ record self.old { vault = self.new.vault } }
+        ensures few { length self.new.vault.list < 2 ^ 64 }
+    {
+        if takes_drafts(self.drafts, &self.vault) {
+            self.drafts = true;
+            return put_waiting(&mut self.vault, drafts);
+        }
+        let sealed = seal_list(alloc, &self.cipher, &self.key, self.block_size, &drafts)?;
+        put_waiting(&mut self.vault, sealed)
+    }
+
+    /// Has these bytes wait for the configuration's file.
+    pub fn put_config(&mut self, alloc: Global, bytes: Vec<u8>) -> Result<(), Memory>
+        ensures ok { OnOk result (self.new.vault.list ≡ set_changes ((config, Some bytes.items) ∷ []) self.old.vault.list) }
+        ensures err { OnErr result (self.new ≡ self.old) }
+        ensures vault { self.new.vault.vault ≡ self.old.vault.vault }
+        ensures same { self.new ≡ record self.old { vault = self.new.vault } }
+        ensures few { length self.new.vault.list < 2 ^ 64 }
+    {
+        // With its number read, what waits is known to be few enough for a record.
+        let _before = self.vault.entries().len();
+        let changes = config_change(alloc, bytes)?;
+        put_waiting(&mut self.vault, changes)
+    }
+
+    /// Takes the unwritten list, in which each draft is sealed. It is to be put back.
+    pub fn take_list(&mut self, alloc: Global) -> Result<Vec<Pending>, Memory>
+        ensures list { IfOk result (λ list. list_of list.items ≡ self.old.vault.list) }
+        ensures increasing { IfOk result (λ list. IsIncreasing (list_of list.items)) }
+        ensures ok { OnOk result (self.new ≡ record self.old { vault = record self.old.vault { list = [] } }) }
+        ensures err { OnErr result (self.new ≡ self.old) }
+    {
+        if self.drafts {
+            seal_waiting(
+                alloc,
+                &self.cipher,
+                &self.key,
+                self.block_size,
+                &mut self.vault,
+            )?;
+            self.drafts = false;
+        }
+        Ok(self.vault.replace_list(Vec::new(alloc)))
+    }
+
+    /// Has a list wait that was taken.
+    pub fn put_list(&mut self, list: Vec<Pending>)
+        requires increasing { IsIncreasing (list_of list.items) }
+        requires taken { self.old.vault.list ≡ [] }
+        ensures { self.new ≡ record self.old { vault = record self.old.vault { list = list_of list.items } } }
+    {
+        self.drafts = false;
+        drop(self.vault.replace_list(list));
+    }
+
+    /// How many changes wait.
+    pub fn waiting(&self) -> usize
+        ensures { result ≡ length self.now.vault.list }
+    {
+        self.vault.entries().len()
+    }
+
+    /// How many bytes are to be put, or the greatest number where they are more.
+    pub fn buffered(&self) -> usize
+        ensures { result ≡ buffered_len self.now.vault.list }
+    {
+        self.vault.buffered()
+    }
+
+    /// What the list weighs, or the greatest number where it is more: the bytes that are to be put, and 64 for each
+    /// removal.
+    pub fn weight(&self) -> usize
+        ensures { result ≡ weight_len self.now.vault.list }
+    {
+        self.vault.weight()
+    }
+
+    /// Writes the unwritten list out, in order, each draft sealed. Each change leaves the list as its call answers Ok; the
+    /// rest stays at the first error, which is answered.
+    pub fn write_out(&mut self, alloc: Global) -> Result<(), GetFail>
+        ensures ok { OnOk result (V.trace self.new.vault.vault ≡ after_writes self.old.vault.list (V.trace self.old.vault.vault)) }
+        ensures all_left { OnOk result (self.new.vault.list ≡ []) }
+        ensures err { OnErr result (StopsAt self.old.vault.list (V.trace self.old.vault.vault) (V.trace self.new.vault.vault) self.new.vault.list) }
+        ensures idle { length self.old.vault.list ≡ 0 → self.new.vault.vault ≡ self.old.vault.vault }
+        ensures same { self.new ≡ record self.old { vault = self.new.vault } }
+        ensures cause { GetHasCause (V.faults self.old.vault.vault) (V.faults self.new.vault.vault) result }
+    {
+        if self.drafts {
+            match seal_waiting(
+                alloc,
+                &self.cipher,
+                &self.key,
+                self.block_size,
+                &mut self.vault,
+            ) {
+                Ok(()) => self.drafts = false,
+                Err(Memory) => return Err(GetFail::Memory),
+            }
+        }
+        self.vault.write_out(alloc)
+    }
+
+    /// The file of a block with this IV in format 1, whose seal protects no id: the file opens to this plaintext as whichever block's. For tests
     /// and for file systems of the older form.
     pub fn seal_form1(
         &self,

@@ -2,6 +2,7 @@
 use Rattle.std.specs.Prelude.{◌≡◌, ◌⊎◌, ◌<◌, ℕ, Bool, true, false, List, [], length, slice_set, is_some}
 use Rattle.std.specs.declared.option.Option.{Option}
 use Rattle.std.specs.declared.option.Option.TheVariants.{None, Some}
+use Rattle.block_id.specs.declared.fail.Why.{Why}
 use Rattle.outside.specs.Trace.{At, Call, config, block, got, adds}
 use Rattle.outside.specs.Changes.{change_at, IsIncreasing}
 pub use Rattle.outside.specs.Going.{GoesOn}
@@ -108,6 +109,8 @@ pub record Enduring {S : Type 0} (M : Meanings S) (H : Holdings S) (applied : S 
   pub loaded_list : (a b : S) → M.loaded a b → D.list b ≡ D.list a
   -- loading only adds calls, none of which changes a file
   pub loaded_goes_on : (a b : S) → M.loaded a b → GoesOn (D.trace a) (D.trace b)
+  -- what calls gave is in the trace alone
+  pub gave_along : (a b c : S) (why : Why) → D.trace c ≡ D.trace b → M.gave a c why → M.gave a b why
   pub loaded_last : (a b : S) (name : At) → M.loaded a b → last_told name (D.trace b) ≡ last_told name (D.trace a)
   pub loaded_records : (a b : S) (with_list : Bool) → M.loaded a b → D.local_record_of b with_list ≡ D.local_record_of a with_list
   pub loaded_record : (a b : S) (with_list : Bool) (kept : List ℕ) → M.loaded a b → D.is_record a with_list kept → D.is_record b with_list kept

@@ -88,6 +88,7 @@ changed_over f g M H a c d same intact o into = record {
   met = tt;
   fault = tt;
   quiet = ap (λ b. M.faults b) same ∙ o.quiet;
+  noticed = λ why g. o.noticed why (subst (λ b. M.gave (f a) b why) same g);
   value = λ n s h. into n (o.value n s (subst (λ b. M.forgeries b ≤ M.forgeries (f a)) same h));
   structure = λ n s h. tt;
 }

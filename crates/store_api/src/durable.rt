@@ -26,10 +26,11 @@ pub trait Durable: BlocksMut {
     fn weight(&self) -> usize
         ensures { result ≡ min (waiting_weight (durables.list self.now)) usize.MAX };
 
-    /// The local record, with the unwritten list or with an empty one.
-    fn state_bytes(&self, alloc: Global, with_list: bool) -> Result<Vec<u8>, Memory>
-        requires { Self.meanings.intact self.now }
-        ensures { IfOk result (λ bytes. bytes.items ≡ durables.local_record_of self.now with_list) };
+    /// The local record, with the unwritten list or with an empty one. A store may ready what waits for it.
+    fn state_bytes(&mut self, alloc: Global, with_list: bool) -> Result<Vec<u8>, Memory>
+        requires { Self.meanings.intact self.old }
+        ensures bytes { IfOk result (λ bytes. bytes.items ≡ durables.local_record_of self.old with_list) }
+        ensures same { self.new ≡ self.old };
 
     /// Has the configuration's file wait with these bytes.
     fn put_config(&mut self, alloc: Global, bytes: Vec<u8>) -> Result<(), Memory>

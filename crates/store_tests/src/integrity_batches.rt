@@ -72,7 +72,12 @@ fn tx_over(alloc: Global, store: Store) -> Tx<Store>
 }
 
 /// Has a block get another payload, of this byte.
-fn renew<S: Blocks>(alloc: Global, tx: &mut Tx<S>, id: &BlockId, byte: u8) -> Result<(), Fail>
+pub(crate) fn renew<S: Blocks>(
+    alloc: Global,
+    tx: &mut Tx<S>,
+    id: &BlockId,
+    byte: u8,
+) -> Result<(), Fail>
     requires { ⟦<Tx<S> as Blocks>⟧.meanings.intact tx.old }
     ensures { ⟦<Tx<S> as Blocks>⟧.meanings.intact tx.new }
 {
@@ -90,7 +95,12 @@ fn renew<S: Blocks>(alloc: Global, tx: &mut Tx<S>, id: &BlockId, byte: u8) -> Re
 }
 
 /// Has a free id get a payload of this byte.
-fn give<S: Blocks>(alloc: Global, tx: &mut Tx<S>, id: &BlockId, byte: u8) -> Result<(), Fail>
+pub(crate) fn give<S: Blocks>(
+    alloc: Global,
+    tx: &mut Tx<S>,
+    id: &BlockId,
+    byte: u8,
+) -> Result<(), Fail>
     requires { ⟦<Tx<S> as Blocks>⟧.meanings.intact tx.old }
     ensures { ⟦<Tx<S> as Blocks>⟧.meanings.intact tx.new }
 {
@@ -195,8 +205,9 @@ fn waiting(pending: &Pending) -> (&FileName, Option<&[u8]>) {
 }
 
 /// What waits, as the local record lists it.
-fn waiting_list(alloc: Global, store: &Store) -> Result<Vec<Pending>, Fail>
-    requires { ⟦<Store as Blocks>⟧.meanings.intact store.now }
+fn waiting_list(alloc: Global, store: &mut Store) -> Result<Vec<Pending>, Fail>
+    requires { ⟦<Store as Blocks>⟧.meanings.intact store.old }
+    ensures { store.new ≡ store.old }
 {
     let record = store.state_bytes(alloc, true)?;
     let (_, list) = decode(alloc, &record)?;
@@ -243,7 +254,7 @@ fn seals_with_what_is_drawn_by_rising_ids(rt: HostRuntime) -> Result<(), Fail> {
     let mut same = chance();
     let (first, second) = (draw(&mut same), draw(&mut same));
     assert!(rt; draw(&mut source) == draw(&mut same));
-    let list = waiting_list(rt.alloc(), &store)?;
+    let list = waiting_list(rt.alloc(), &mut store)?;
     match list.as_slice() {
         [live, dying, new] => {
             assert!(rt; waiting(live) == (&FileName::Block(LIVE), Some(&first[..])));
@@ -265,13 +276,13 @@ fn seals_with_what_is_drawn_by_rising_ids(rt: HostRuntime) -> Result<(), Fail> {
 fn changes_nothing_where_an_id_is_spent(rt: HostRuntime) -> Result<(), Fail> {
     let mut source = chance();
     let store = store_at(rt.alloc(), u64::MAX)?;
-    let (store, outcome) = change_store(rt.alloc(), store, &mut source);
+    let (mut store, outcome) = change_store(rt.alloc(), store, &mut source);
     assert!(rt; outcome? == (Err(ApplyError::Spent), [false, false, false]));
     assert!(rt; draw(&mut source) == draw(&mut chance()));
     assert_eq!(rt; store.state().known.version(&LIVE), Some(u64::MAX));
     assert!(rt; store.state().known.is_live(&DYING));
     assert!(rt; !store.state().known.is_used(&NEW));
-    assert_eq!(rt; waiting_list(rt.alloc(), &store)?.len(), 0);
+    assert_eq!(rt; waiting_list(rt.alloc(), &mut store)?.len(), 0);
     Ok(())
 }
 

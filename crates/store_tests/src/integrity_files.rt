@@ -5,7 +5,7 @@ ghost use Rattle.sealed_store.specs.Stores.{IsIntact, block_size_of, cipher_of};
 use aes_gcm::Aes256Gcm;
 use block_id::BlockId;
 use memory_outside::MemoryVault;
-use outside::{FileName, Vault};
+use outside::{Change, FileName, Pending, Vault};
 use redo_vault::RedoVault;
 use seal_api::Sealer;
 use sealed_store::SealedStore;
@@ -55,6 +55,43 @@ pub(crate) fn sealed_over(alloc: Global, below: MemoryVault) -> SealedStore<Memo
     SealedStore::new(vault, Aes256Gcm, [3; 32], 128)
 }
 
+/// The file of a block, sealed under the key.
+pub(crate) fn sealed_file(alloc: Global, id: &BlockId, plain: &[u8; 80]) -> Result<Vec<u8>, Fail> {
+    let mut sealed = sealed_over(alloc, MemoryVault::new(alloc));
+    put_draft(alloc, &mut sealed, id, plain)?;
+    match sealed.take_list(alloc)?.pop() {
+        Some(
+            Pending {
+                name: _,
+                change: Change::Bytes(file),
+            },
+        ) => Ok(file),
+        _ => Err("no file waits".into()),
+    }
+}
+
+/// Has the file of a block wait.
+pub(crate) fn put_draft(
+    alloc: Global,
+    sealed: &mut SealedStore<MemoryVault, Aes256Gcm>,
+    id: &BlockId,
+    plain: &[u8; 80],
+) -> Result<(), Fail>
+    requires intact { IsIntact (block_size_of sealed.old) (⟦<Aes256Gcm as Sealer>⟧.iv_size (cipher_of sealed.old)) }
+    requires size { block_size_of sealed.old ≡ 128 }
+    ensures intact { IsIntact (block_size_of sealed.new) (⟦<Aes256Gcm as Sealer>⟧.iv_size (cipher_of sealed.new)) }
+    ensures size { block_size_of sealed.new ≡ 128 }
+{
+    let draft = sealed.draft(plain.to_vec(alloc)?, &[9; 16])?;
+    let mut drafts = Vec::new(alloc);
+    drafts.push(Pending {
+        name: FileName::Block(*id),
+        change: Change::Bytes(draft),
+    })?;
+    sealed.put_drafts(alloc, drafts)?;
+    Ok(())
+}
+
 /// Puts the file of a block, sealed under the key.
 pub(crate) fn put_file(
     alloc: Global,
@@ -62,8 +99,7 @@ pub(crate) fn put_file(
     id: &BlockId,
     plain: &[u8; 80],
 ) -> Result<(), Fail> {
-    let sealed = sealed_over(alloc, MemoryVault::new(alloc));
-    let file = sealed.seal_plain(alloc, id, plain, &[9; 16])?;
+    let file = sealed_file(alloc, id, plain)?;
     below.put(alloc, &FileName::Block(*id), &file)?;
     Ok(())
 }

@@ -17,4 +17,6 @@ mod map_stores;
 #[cfg(test)]
 mod redo_vaults;
 #[cfg(test)]
+mod seal_counts;
+#[cfg(test)]
 mod sealed_stores;

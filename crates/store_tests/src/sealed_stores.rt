@@ -1,36 +1,21 @@
 // Files of both formats that are sealed, changed and opened.
-ghost use Rattle.std.specs.Prelude.{◌≡◌};
-ghost use Rattle.sealed_store.specs.Stores.{IsIntact, block_size_of, cipher_of};
-
-use aes_gcm::Aes256Gcm;
+use crate::integrity_files::{put_draft, sealed_file, sealed_over};
 use block_id::BlockId;
 use memory_outside::MemoryVault;
-use outside::{FileName, Vault};
-use redo_vault::RedoVault;
-use seal_api::Sealer;
-use sealed_store::{SealedStore, Seen};
+use outside::{Change, FileName, Pending, Vault};
+use sealed_store::Seen;
 use std::alloc::Global;
 use std::test::Fail;
 
 const ID: BlockId = BlockId([7; 16]);
 
-/// A store of blocks of 128 bytes.
-fn store_over(alloc: Global, below: MemoryVault) -> SealedStore<MemoryVault, Aes256Gcm>
-    ensures intact { IsIntact (block_size_of result) (⟦<Aes256Gcm as Sealer>⟧.iv_size (cipher_of result)) }
-    ensures size { block_size_of result ≡ 128 }
-{
-    let vault = RedoVault::new(below, Vec::new(alloc));
-    SealedStore::new(vault, Aes256Gcm, [3; 32], 128)
-}
-
 fn sealed(alloc: Global) -> Result<Vec<u8>, Fail> {
-    let store = store_over(alloc, MemoryVault::new(alloc));
-    Ok(store.seal_plain(alloc, &ID, &[5; 80], &[9; 16])?)
+    sealed_file(alloc, &ID, &[5; 80])
 }
 
 /// The same in format 1.
 fn sealed_alone(alloc: Global) -> Result<Vec<u8>, Fail> {
-    let store = store_over(alloc, MemoryVault::new(alloc));
+    let store = sealed_over(alloc, MemoryVault::new(alloc));
     Ok(store.seal_form1(alloc, &ID, &[5; 80], &[9; 16])?)
 }
 
@@ -38,7 +23,7 @@ fn sealed_alone(alloc: Global) -> Result<Vec<u8>, Fail> {
 fn seen_at(alloc: Global, id: &BlockId, file: &[u8], least: u8) -> Result<Seen, Fail> {
     let mut below = MemoryVault::new(alloc);
     below.put(alloc, &FileName::Block(*id), file)?;
-    Ok(store_over(alloc, below).get_plain(alloc, id, least)?)
+    Ok(sealed_over(alloc, below).get_plain(alloc, id, least)?)
 }
 
 fn seen_of(alloc: Global, file: &[u8]) -> Result<Seen, Fail> {
@@ -129,7 +114,7 @@ fn tells_other_prefixes_from_seals_that_do_not_open(rt: HostRuntime) -> Result<(
 
 #[test]
 fn sees_files_that_are_absent_too_long_or_too_short(rt: HostRuntime) -> Result<(), Fail> {
-    let mut store = store_over(rt.alloc(), MemoryVault::new(rt.alloc()));
+    let mut store = sealed_over(rt.alloc(), MemoryVault::new(rt.alloc()));
     assert_eq!(rt; store.iv_len(), 16);
     assert_eq!(rt; store.block_size(), 128);
     assert!(rt; matches!(store.get_plain(rt.alloc(), &ID, 2)?, Seen::Absent));
@@ -138,5 +123,31 @@ fn sees_files_that_are_absent_too_long_or_too_short(rt: HostRuntime) -> Result<(
     assert!(rt; matches!(seen_of(rt.alloc(), &file)?, Seen::BadLength));
     file.truncate(127);
     assert!(rt; matches!(seen_of(rt.alloc(), &file)?, Seen::BadLength));
+    Ok(())
+}
+
+#[test]
+fn sees_a_draft_as_the_file_that_it_is_sealed_to(rt: HostRuntime) -> Result<(), Fail> {
+    let mut store = sealed_over(rt.alloc(), MemoryVault::new(rt.alloc()));
+    put_draft(rt.alloc(), &mut store, &ID, &[4; 80])?;
+    put_draft(rt.alloc(), &mut store, &ID, &[5; 80])?;
+    assert_eq!(rt; store.waiting(), 1);
+    assert_eq!(rt; store.buffered(), 128);
+    assert!(rt; is_plain(store.get_plain(rt.alloc(), &ID, 2)?));
+    assert!(rt; matches!(store.get_plain(rt.alloc(), &ID, 3)?, Seen::OldFormat));
+    store.write_out(rt.alloc())?;
+    assert_eq!(rt; store.waiting(), 0);
+    assert!(rt; is_plain(store.get_plain(rt.alloc(), &ID, 2)?));
+    let below = store.into_vault();
+    let file = sealed(rt.alloc())?;
+    match below.files().first() {
+        Some(
+            Pending {
+                name: _,
+                change: Change::Bytes(written),
+            },
+        ) => assert!(rt; written.as_slice() == file.as_slice()),
+        _ => assert!(rt; false),
+    }
     Ok(())
 }

@@ -2,7 +2,8 @@ use Rattle.std.proofs.Common.{◌≡◌, ℕ, ◌+◌, ◌*◌, ◌/◌, ◌%◌
 use Rattle.aes_block.specs.KeyExpansion.{aes256}
 use Rattle.aes_gcm.specs.Gctr.{counter_block, inc32, key_byte}
 use Rattle.aes_gcm.proofs.Counters.{counter_block_next}
-use Rattle.aes_gcm.proofs.Streams.{added_more, gctr_all}
+use Rattle.aes_gcm.specs.Opening.{gctr_all}
+use Rattle.aes_gcm.proofs.Streams.{added_more}
 use Rattle.cipher_tests.proofs.plain.gctr.Goals as goal
 
 pub turns-init : goal.turns-init

@@ -3,7 +3,8 @@ use Rattle.std.specs.Str.{bytes_eq}
 use Rattle.aes_block.specs.KeyExpansion.{aes256}
 use Rattle.aes_gcm.specs.Gcm.{crypt}
 use Rattle.aes_gcm.specs.Gctr.{HasStream, counter_block, gctr, inc32}
-use Rattle.aes_gcm.proofs.Opening.{differ_not_same, opened_right, opened_wrong, tags_agree, tags_differ}
+use Rattle.aes_gcm.specs.Opening.{opened_right}
+use Rattle.aes_gcm.proofs.Opening.{differ_not_same, opened_wrong, tags_agree, tags_differ}
 use Rattle.aes_gcm.proofs.Tags.{crypt_from, tag_from}
 use Rattle.aes_gcm.proofs.gcm_key.GcmKey.unseal.Goals as goal
 

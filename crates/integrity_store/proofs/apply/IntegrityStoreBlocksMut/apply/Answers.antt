@@ -1,13 +1,14 @@
-use Rattle.std.proofs.Common.{List, length, refl, sym, ◌∙◌, ap, arith}
+use Rattle.std.proofs.Common.{List, refl, sym, ◌∙◌, ap, subst, arith}
 use Rattle.std.specs.Prelude.{Option}
-use Rattle.std.proofs.lemmas.List.{length-map}
 use Rattle.outside.specs.Trace.{Call}
-use Rattle.outside.specs.View.{pending_of}
+use Rattle.outside.specs.Changes.{IsIncreasing}
+use Rattle.outside.specs.ChangeLaws.{IsIncreasing-set_changes}
 use Rattle.sealed_store.specs.Stores.{IsIntact, block_size_of, cipher_of}
 use Rattle.block_batch.specs.Entries.{entries_of}
 use Rattle.integrity_store.specs.declared.store.IntegrityStore.{IntegrityStore}
 use Rattle.held_blocks.specs.Held.{Held}
 use Rattle.integrity_store.specs.Views.{held_by}
+use Rattle.integrity_store.specs.WaitingLaws.{in_order}
 use Rattle.batch_sealing.proofs.Applying.{may_seal_batch, applied_nothing}
 use Rattle.batch_sealing.proofs.Batches.{is_spent, isnt_spent, Listed, may_come_listed, room, Marked, applied_batch, drawn_in, whole_batch, changed_batch}
 use Rattle.integrity_store.proofs.apply.IntegrityStoreBlocksMut.apply.Given.{Over}
@@ -38,13 +39,13 @@ returns-in-Err-clause-spent g c =
 
 -- ---- what is called
 
-pub put_sealed-requires-clause-may : goal.put_sealed-requires-clause-may
-put_sealed-requires-clause-may g c =
+pub put_drafts-requires-clause-may : goal.put_drafts-requires-clause-may
+put_drafts-requires-clause-may g c =
     may_seal_batch (held g) (trace g) c.args.self.now c.args.batch.now (entries_of c.entries-entries.result.now) c.entries-entries.ensures c.requires.intact.0 c.requires.fits
     (sym c.some_spent.ensures ∙ c.if-some_spent.false)
 
 listed : (g : Over) (c : goal.After-raise_or_bury_all-arg-1 g)
-    → Listed (held g) (trace g) c.args.self.now (held g c.put_sealed.new.self) c.args.batch.now (entries_of c.entries-entries.result.now) (g.R.Rng.stream c.args.chance.now) (g.R.Rng.stream c.put_sealed.new.chance)
+    → Listed (held g) (trace g) c.args.self.now (held g c.put_drafts.new.self) c.args.batch.now (entries_of c.entries-entries.result.now) (g.R.Rng.stream c.args.chance.now) (g.R.Rng.stream c.put_drafts.new.chance)
 listed g c = record {
   are = c.entries-entries.ensures;
   whole = c.requires.intact.0;
@@ -57,15 +58,15 @@ pub raise_or_bury_all-requires-clause-may : goal.raise_or_bury_all-requires-clau
 raise_or_bury_all-requires-clause-may g c = may_come_listed (listed g c)
 
 pub raise_or_bury_all-requires-clause-room : goal.raise_or_bury_all-requires-clause-room
-raise_or_bury_all-requires-clause-room g c = room (listed g c) c.put_sealed.new.self.state.known.spare c.in-Ok.ensures.room
+raise_or_bury_all-requires-clause-room g c = room (listed g c) c.put_drafts.new.self.state.known.spare c.in-Ok.ensures.room
 
 -- ---- what is returned after Ok
 
-abbrev new : (g : Over) → goal.After-entries-waiting g → Store g
-new g c = let put = c.put_sealed.new.self in record put { state = record put.state { known = c.raise_or_bury_all.new.known } }
+abbrev new : (g : Over) → goal.After-len-used g → Store g
+new g c = let put = c.put_drafts.new.self in record put { state = record put.state { known = c.raise_or_bury_all.new.known } }
 
-marked : (g : Over) (c : goal.After-entries-waiting g)
-    → Marked (held g) (trace g) c.args.self.now (new g c) (held g c.put_sealed.new.self) c.args.batch.now (entries_of c.entries-entries.result.now) (g.R.Rng.stream c.args.chance.now) (g.R.Rng.stream c.put_sealed.new.chance)
+marked : (g : Over) (c : goal.After-len-used g)
+    → Marked (held g) (trace g) c.args.self.now (new g c) (held g c.put_drafts.new.self) c.args.batch.now (entries_of c.entries-entries.result.now) (g.R.Rng.stream c.args.chance.now) (g.R.Rng.stream c.put_drafts.new.chance)
 marked g c = record {
   listed = record {
     are = c.entries-entries.ensures;
@@ -80,8 +81,9 @@ marked g c = record {
   trace_is = ap g.V.Vault.trace c.in-Ok.ensures.vault;
   fit = c.len-used.ensures.fits;
   few = omega (arith, c.len-used.ensures.len, c.len-used.ensures.bound);
-  rises = c.entries-waiting.ensures.increasing;
-  count = omega (arith, c.entries-waiting.type_inv, length-map c.entries-waiting.result.now pending_of, ap length c.entries-waiting.ensures.entries);
+  rises = subst IsIncreasing (sym (ap (λ h. h.list) c.in-Ok.ensures.listed.held))
+      (IsIncreasing-set_changes c.in-Ok.ensures.listed.changes (held g c.args.self.now).list (in_order (held g c.args.self.now).state (held g c.args.self.now).list c.requires.intact.0.has_record));
+  count = c.in-Ok.ensures.few;
 }
 
 pub returns-in-Ok-clause-intact : goal.returns-in-Ok-clause-intact
@@ -103,4 +105,4 @@ pub returns-then-some_spent-clause-nothing : goal.returns-then-some_spent-clause
 returns-then-some_spent-clause-nothing g c = applied_nothing (held g c.args.self.now) (held g c.args.self.now) (trace g c.args.self.now) (trace g c.args.self.now) refl refl
 
 pub returns-in-Err-clause-nothing : goal.returns-in-Err-clause-nothing
-returns-in-Err-clause-nothing g c = applied_nothing (held g c.args.self.now) (held g c.put_sealed.new.self) (trace g c.args.self.now) (trace g c.put_sealed.new.self) c.in-Err.ensures.held (ap g.V.Vault.trace c.in-Err.ensures.vault)
+returns-in-Err-clause-nothing g c = applied_nothing (held g c.args.self.now) (held g c.put_drafts.new.self) (trace g c.args.self.now) (trace g c.put_drafts.new.self) c.in-Err.ensures.held (ap g.V.Vault.trace c.in-Err.ensures.vault)

@@ -1,13 +1,27 @@
-use Rattle.std.proofs.Common.{◌≡◌, sym}
-use Rattle.std.specs.declared.option.Option.TheVariants.{Some}
+use Rattle.std.proofs.Common.{◌≡◌, ap, sym}
+use Rattle.std.specs.declared.option.Option.TheVariants.{None, Some}
 use Rattle.std.specs.declared.result.Result.TheVariants.{Ok}
 use Rattle.sealed_store.specs.Stores.{IsIntact, block_size_of, cipher_of}
 use Rattle.integrity_store.specs.declared.store.IntegrityStore.{IntegrityStore}
-use Rattle.held_blocks.specs.Held.{live_version}
+use Rattle.block_records.specs.BlockRecords.{payload_in}
+use Rattle.held_blocks.specs.Held.{file_of, live_version, told_or_none, where_live}
+use Rattle.held_blocks.specs.StoreLaws.{lawful_by}
+use Rattle.outcome.specs.Outcome.{idle}
 use Rattle.held_blocks.proofs.Fetches.{fetched_len, loads_none, loads_ok, loads_err}
 use Rattle.integrity_store.specs.Views.{held_by}
 use Rattle.held_blocks.proofs.Loading.{stays, loaded_ok, loaded_err}
 use Rattle.integrity_store.proofs.store.IntegrityStoreBlocks.load.Goals as goal
+
+pub returns-in-None-clause-outcome : goal.returns-in-None-clause-outcome
+returns-in-None-clause-outcome g c =
+    let held = λ (s : IntegrityStore g.row.V.Denot g.row.C.Denot). held_by g.C.Sealer.opens s in
+    let trace = λ (s : IntegrityStore g.row.V.Denot g.row.C.Denot). g.V.Vault.trace s.sealed.vault.vault in
+    let faults = λ (s : IntegrityStore g.row.V.Denot g.row.C.Denot). g.V.Vault.faults s.sealed.vault.vault in
+    let own = λ (s : IntegrityStore g.row.V.Denot g.row.C.Denot). IsIntact (block_size_of s.sealed) (g.C.Sealer.iv_size (cipher_of s.sealed)) in
+    let a = c.args.self.now in
+    let id = c.args.id.now.0 in
+    idle (lawful_by held trace faults own) a None c.requires
+    (λ n. ap (λ live. where_live live (payload_in (held a).opens (held a).size id (file_of (held a) (told_or_none (trace a)) id))) c.in-None.ensures)
 
 pub returns-in-Ok-clause-outcome : goal.returns-in-Ok-clause-outcome
 returns-in-Ok-clause-outcome g c =

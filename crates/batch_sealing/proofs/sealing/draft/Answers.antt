@@ -1,0 +1,47 @@
+use Rattle.std.proofs.Common.{◌≡◌, ℕ, ◌+◌, ◌<◌, List, length, Result, Ok, Err, Vec, Some, None, sym, ◌∙◌, ap, arith}
+use Rattle.std.specs.Prelude.{IfOk, Option}
+use Rattle.std.specs.declared.alloc.Global.{Global}
+use Rattle.std.specs.FinMap as fin
+use Rattle.rand_core.specs.Stream.{Stream}
+use Rattle.local_state.specs.declared.life.Life.{Life}
+use Rattle.local_state.specs.Known.{raised_version}
+use Rattle.sealed_store.specs.Drafts.{Seal, sealed_as, IsDraftOf}
+use Rattle.sealed_store.specs.Stores.{key_of, cipher_of}
+use Rattle.block_records.specs.BlockRecords.{Record, record_of, record_in}
+use Rattle.held_blocks.specs.Held.{Held, own}
+use Rattle.batch_sealing.specs.Sealing.{drawn_iv, IsFileFor}
+use Rattle.held_blocks.specs.Views.{held_of}
+use Rattle.batch_sealing.proofs.sealing.draft.Goals as goal
+
+from_one : (life : Option Life) → 0 < raised_version life
+from_one None = omega arith
+from_one (Some life) = omega arith
+
+pub write_record-requires-clause-version : goal.write_record-requires-clause-version
+write_record-requires-clause-version g c = omega (arith, c.next_version-version.ensures, from_one (fin.get c.args.state.now.known.lives c.args.id.now.0))
+
+pub draft-requires-clause-plain : goal.draft-requires-clause-plain
+draft-requires-clause-plain g c = omega (arith, c.in_ok-plain.ensures.len, c.requires.may.sized)
+
+-- a record's bytes read as it
+reads_as : (size : ℕ) (plain : List ℕ) (r : Record) → length plain + 48 ≡ size → record_of (length plain + 48) plain ≡ Some r → record_of size plain ≡ Some r
+reads_as size plain r len is = ap (λ n. record_of n plain) (sym len) ∙ is
+
+-- a draft whose file opens to this record, where one was made
+file_for : {E : Type 0} (h : Held) (seal : Seal) (id payload plain iv : List ℕ) (version : ℕ) (stream : Stream) (r : Result (Vec ℕ Global) E) → version ≡ raised_version (fin.get h.state.lives id)
+    → iv ≡ drawn_iv stream → record_of h.size plain ≡ Some (own h id version payload) → IfOk r (λ draft. IsDraftOf h.opens seal h.size plain iv draft.items)
+    → IfOk r (λ draft. IsFileFor h id payload stream (sealed_as seal h.size id draft.items))
+file_for h seal id payload plain iv version stream (Ok draft) raised drawn reads is =
+    let file = is.file id in
+    record { opens = record { opens = ap (record_in h.size) file.opened ∙ (reads ∙ ap (λ v. Some (own h id v payload)) raised); format = file.format }; iv = file.has_iv ∙ drawn }
+file_for h seal id payload plain iv version stream (Err e) raised drawn reads is = tt
+
+pub returns-clause-file : goal.returns-clause-file
+returns-clause-file g c =
+    let sealed = c.args.sealed.now in
+    let held = held_of g.C.Sealer.opens sealed c.args.state.now in
+    let plain = c.in_ok-plain.plain.items in
+    let size : length plain + 48 ≡ held.size = omega (arith, c.in_ok-plain.ensures.len, c.requires.may.sized) in
+    let reads = reads_as held.size plain (own held c.args.id.now.0 c.next_version-version.result c.args.payload.now) size c.in_ok-plain.ensures.record_of in
+    file_for held (g.C.Sealer.sealed (cipher_of sealed) (key_of sealed)) c.args.id.now.0 c.args.payload.now plain _ c.next_version-version.result (g.R.Rng.stream c.args.chance.now) c.draft.result c.next_version-version.ensures
+    (ap (λ (x : List ℕ × Stream). x.0) c.fill_bytes.ensures) reads c.draft.ensures

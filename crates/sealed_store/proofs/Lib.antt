@@ -1,0 +1,3 @@
+mod Files
+mod Sealing
+mod Told

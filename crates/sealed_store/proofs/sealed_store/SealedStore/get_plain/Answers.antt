@@ -1,0 +1,101 @@
+use Rattle.std.proofs.Common.{rules, ◌≡◌, ℕ, ◌+◌, inr, List, refl, sym, ◌∙◌, ap, subst, arith}
+use Rattle.std.specs.declared.option.Option.{Option}
+use Rattle.outside.specs.Trace.{block}
+use Rattle.outside.specs.Changes.{change_at, cut}
+use Rattle.outside.specs.View.{bytes_of, change_of}
+use Rattle.redo_vault.specs.Redo.{Redo, Gave}
+use Rattle.sealed_store.specs.BlockFiles.{IsToOpen}
+use Rattle.sealed_store.specs.Drafts.{told_list, sealed_change}
+use Rattle.sealed_store.specs.Stores.{Sealed, Sees, seen_file_of, block_size_of, key_of, cipher_of}
+use Rattle.sealed_store.proofs.Files.{sealing_of, draft_seen}
+use Rattle.sealed_store.proofs.Told.{draft_at, if_same, is_long, told_draft, undrafted}
+use Rattle.sealed_store.proofs.sealed_store.SealedStore.get_plain.Goals as goal
+use Rattle.sealed_store.proofs.sealed_store.SealedStore.get_plain.Goals.{in-Ok, in-Err}
+
+pub see_draft-requires-clause-draft : goal.see_draft-requires-clause-draft
+see_draft-requires-clause-draft g c =
+    let s = c.self.inside in
+    let change = change_of c.in-Some.change.now in
+    is_long s.block_size c.args.id.now.0 change (draft_at s.block_size (block c.args.id.now.0) s.vault.list change (c.self.invariant.1 c.in-Some.ensures.drafts) c.in-Some.ensures.some)
+
+pub returns-in-Some-clause-sees : goal.returns-in-Some-clause-sees
+returns-in-Some-clause-sees g c =
+    let s = c.self.inside in
+    let n = block c.args.id.now.0 in
+    let change = change_of c.in-Some.change.now in
+    let opens = g.C.Sealer.opens s.cipher s.key in
+    let seal = g.C.Sealer.sealed s.cipher s.key in
+    let right = sealing_of g.C.Sealer.iv_size g.C.Sealer.opens g.C.Sealer.sealed g.met.C.Sealer.seals s.cipher s.key c.self.invariant.0.iv in
+    let may = draft_at s.block_size n s.vault.list change (c.self.invariant.1 c.in-Some.ensures.drafts) c.in-Some.ensures.some in
+    let told = told_draft seal s.block_size s.drafts n s.vault.list change c.in-Some.ensures.drafts c.in-Some.ensures.some in
+    elim c.match-see_draft.branch [
+      | in-Ok w ↦ rw w.result-is
+          (subst (λ (t : Sealed g.row.V.Denot g.row.C.Denot). Sees (g.C.Sealer.opens (cipher_of t) (key_of t)) (block_size_of t) c.args.least (change_at n t.vault.list)
+          (g.V.Vault.trace t.vault.vault) (g.V.Vault.trace t.vault.vault) c.args.id.now.0 (seen_file_of w.in-Ok.seen)) c.self.view_is
+          (record {
+            answer = cut (s.block_size + 1) (sealed_change seal s.block_size n change);
+            gave = subst (λ (x : Option (Option (List ℕ))). Gave x (g.V.Vault.trace s.vault.vault) (g.V.Vault.trace s.vault.vault) n (s.block_size + 1) (cut (s.block_size + 1) (sealed_change seal s.block_size n change)))
+                (sym told) (refl, refl);
+            shows = w.in-Ok.ensures ∙ draft_seen opens seal s.block_size c.args.least c.args.id.now.0 change right (omega (arith, c.self.invariant.0.least)) may;
+          }))
+      | in-Err w ↦ rw w.result-is tt
+    ]
+
+pub returns-in_err-answer-clause-failed_by_a_call : goal.returns-in_err-answer-clause-failed_by_a_call
+returns-in_err-answer-clause-failed_by_a_call g c =
+    let s = c.self.inside in
+    let n = block c.args.id.now.0 in
+    let e : change_at n c.args.self.now.vault.list ≡ change_at n s.vault.list =
+    ap (λ (t : Sealed g.row.V.Denot g.row.C.Denot). change_at n t.vault.list) (sym c.self.view_is) ∙ undrafted (g.C.Sealer.sealed s.cipher s.key) s.block_size s.drafts n s.vault.list c.in_default.ensures.none in
+    λ h. e ∙ search rules
+
+pub returns-in_err-answer-clause-without_a_call : goal.returns-in_err-answer-clause-without_a_call
+returns-in_err-answer-clause-without_a_call g c =
+    let s = c.self.inside in
+    let n = block c.args.id.now.0 in
+    let e : change_at n s.vault.list ≡ change_at n c.args.self.now.vault.list =
+    sym (undrafted (g.C.Sealer.sealed s.cipher s.key) s.block_size s.drafts n s.vault.list c.in_default.ensures.none) ∙ ap (λ (t : Sealed g.row.V.Denot g.row.C.Denot). change_at n t.vault.list) c.self.view_is in
+    if_same _ _ _ _ e (λ v. ap (λ (w : Redo g.row.V.Denot). record w { list = told_list s.drafts (g.C.Sealer.sealed s.cipher s.key) s.block_size w.list }) v ∙ ap (λ (t : Sealed g.row.V.Denot g.row.C.Denot). t.vault) c.self.view_is) c.get.ensures.without_a_call
+
+pub returns-in-Ok-see-clause-sees : goal.returns-in-Ok-see-clause-sees
+returns-in-Ok-see-clause-sees g c =
+    let s = c.self.inside in
+    let n = block c.args.id.now.0 in
+    subst (λ (t : Sealed g.row.V.Denot g.row.C.Denot). Sees (g.C.Sealer.opens (cipher_of t) (key_of t)) (block_size_of t) c.args.least (change_at n t.vault.list)
+    (g.V.Vault.trace t.vault.vault) (g.V.Vault.trace c.get.new.self.vault) c.args.id.now.0 (seen_file_of c.in-Ok-see.seen)) c.self.view_is
+    (record {
+      answer = bytes_of c.in_ok-answer.answer;
+      gave = subst (λ (x : Option (Option (List ℕ))). Gave x (g.V.Vault.trace s.vault.vault) (g.V.Vault.trace c.get.new.self.vault) n (s.block_size + 1) (bytes_of c.in_ok-answer.answer))
+          (sym (undrafted (g.C.Sealer.sealed s.cipher s.key) s.block_size s.drafts n s.vault.list c.in_default.ensures.none)) c.in_ok-answer.ensures.gave;
+      shows = c.in-Ok-see.ensures.seen;
+    })
+
+pub returns-in-Ok-see-clause-without_a_call : goal.returns-in-Ok-see-clause-without_a_call
+returns-in-Ok-see-clause-without_a_call g c =
+    let s = c.self.inside in
+    let n = block c.args.id.now.0 in
+    let e : change_at n s.vault.list ≡ change_at n c.args.self.now.vault.list =
+    sym (undrafted (g.C.Sealer.sealed s.cipher s.key) s.block_size s.drafts n s.vault.list c.in_default.ensures.none) ∙ ap (λ (t : Sealed g.row.V.Denot g.row.C.Denot). change_at n t.vault.list) c.self.view_is in
+    if_same _ _ _ _ e (λ v. ap (λ (w : Redo g.row.V.Denot). record w { list = told_list s.drafts (g.C.Sealer.sealed s.cipher s.key) s.block_size w.list }) v ∙ ap (λ (t : Sealed g.row.V.Denot g.row.C.Denot). t.vault) c.self.view_is) c.get.ensures.without_a_call
+
+pub returns-clause-asked_once : goal.returns-clause-asked_once
+returns-clause-asked_once g c =
+    let s = c.self.inside in
+    let n = block c.args.id.now.0 in
+    let gave : Gave (change_at n s.vault.list) (g.V.Vault.trace s.vault.vault) (g.V.Vault.trace c.get.new.self.vault) n (s.block_size + 1) (bytes_of c.in_ok-answer.answer) = c.in_ok-answer.ensures.gave in
+    let all = subst (λ (x : Option (Option (List ℕ))). Gave x (g.V.Vault.trace s.vault.vault) (g.V.Vault.trace c.get.new.self.vault) n (s.block_size + 1) (bytes_of c.in_ok-answer.answer))
+    (sym (undrafted (g.C.Sealer.sealed s.cipher s.key) s.block_size s.drafts n s.vault.list c.in_default.ensures.none)) gave in
+    inr (
+      bytes_of c.in_ok-answer.answer,
+      subst (λ (t : Sealed g.row.V.Denot g.row.C.Denot). Gave (change_at n t.vault.list)
+          (g.V.Vault.trace t.vault.vault) (g.V.Vault.trace c.get.new.self.vault) n (block_size_of t + 1) (bytes_of c.in_ok-answer.answer)) c.self.view_is all,
+      subst (λ (t : Sealed g.row.V.Denot g.row.C.Denot). IsToOpen (block_size_of t) c.args.least (bytes_of c.in_ok-answer.answer)) c.self.view_is c.in-Err-see.ensures.err,
+    )
+
+pub returns-clause-without_a_call : goal.returns-clause-without_a_call
+returns-clause-without_a_call g c =
+    let s = c.self.inside in
+    let n = block c.args.id.now.0 in
+    let e : change_at n s.vault.list ≡ change_at n c.args.self.now.vault.list =
+    sym (undrafted (g.C.Sealer.sealed s.cipher s.key) s.block_size s.drafts n s.vault.list c.in_default.ensures.none) ∙ ap (λ (t : Sealed g.row.V.Denot g.row.C.Denot). change_at n t.vault.list) c.self.view_is in
+    if_same _ _ _ _ e (λ v. ap (λ (w : Redo g.row.V.Denot). record w { list = told_list s.drafts (g.C.Sealer.sealed s.cipher s.key) s.block_size w.list }) v ∙ ap (λ (t : Sealed g.row.V.Denot g.row.C.Denot). t.vault) c.self.view_is) c.get.ensures.without_a_call

@@ -1,0 +1,172 @@
+// How often the files of blocks are sealed.
+ghost use Rattle.std.specs.Prelude.{◌≡◌, IfOk};
+
+use crate::integrity_batches::{give, renew};
+use crate::integrity_files::push_record_head;
+use aes_gcm::Aes256Gcm;
+use block_id::{BlockId, Memory};
+use integrity_store::IntegrityStore;
+use local_state::decode;
+use memory_outside::MemoryVault;
+use rand_pcg::Pcg32;
+use redo_vault::RedoVault;
+use seal_api::Sealer;
+use sealed_store::SealedStore;
+use std::alloc::Global;
+use std::cell::Cell;
+use std::test::Fail;
+use store_api::{Blocks, BlocksMut, Durable, Tx};
+
+/// A sealer that counts what it seals.
+#[derive(Drop)]
+pub(crate) struct CountedSeals<'a> {
+    seals: &'a Cell<u64>,
+}
+
+impl Sealer for CountedSeals<'_> {
+    ghost use Rattle.aes_gcm.specs.Gcm.{opened_of, sealed_of};
+    ghost use Rattle.aes_gcm.specs.Lengths.{length-opened_of, opened_of-agrees};
+    ghost use Rattle.aes_gcm.specs.Opening.{seals-sealed_of};
+
+    ghost iv_size = { λ _. 16 };
+
+    ghost opens = { λ _ key extra text. opened_of key extra text };
+
+    ghost sealed = { λ _ key iv extra plain. sealed_of key iv extra plain };
+
+    fn iv_len(&self) -> usize {
+        Aes256Gcm.iv_len()
+    }
+
+    fn seal_with(
+        &self,
+        key: &[u8; 32],
+        iv: &[u8],
+        extra: &[u8],
+        plain: &[u8],
+        out: &mut Vec<u8>,
+    ) -> Result<(), Memory> {
+        self.seals.set(self.seals.get().saturating_add(1));
+        Aes256Gcm.seal_with(key, iv, extra, plain, out)
+    }
+
+    fn unseal_with(
+        &self,
+        alloc: Global,
+        key: &[u8; 32],
+        extra: &[u8],
+        text: &[u8],
+    ) -> Result<Option<Vec<u8>>, Memory> {
+        Aes256Gcm.unseal_with(alloc, key, extra, text)
+    }
+
+    ghost seals = { λ _ key iv extra plain len. seals-sealed_of key iv extra plain len };
+
+    ghost lengths = { λ _ key extra text plain opens. length-opened_of key extra text plain opens };
+
+    ghost agrees = { λ _ key extra other text plain again opens also. opened_of-agrees key extra other text plain again opens also };
+}
+
+type Counted<'a> = IntegrityStore<MemoryVault, CountedSeals<'a>>;
+
+const ID: BlockId = BlockId([3; 16]);
+
+/// A store over an empty directory that knows no block.
+fn counted_store<'a>(alloc: Global, seals: &'a Cell<u64>) -> Result<Counted<'a>, Fail>
+    ensures { IfOk result (λ store. ⟦<Counted<'a> as Blocks>⟧.meanings.intact store) }
+{
+    let mut record = Vec::new(alloc);
+    push_record_head(&mut record)?;
+    record.extend_from_slice(&[0; 16])?;
+    let (state, list) = decode(alloc, &record)?;
+    if !list.is_empty() {
+        return Err("a list".into());
+    }
+    let vault = RedoVault::new(MemoryVault::new(alloc), Vec::new(alloc));
+    let sealed = SealedStore::new(vault, CountedSeals { seals }, [3; 32], 128);
+    Ok(IntegrityStore::new(sealed, state))
+}
+
+fn tx_over<'a>(alloc: Global, store: Counted<'a>) -> Tx<Counted<'a>>
+    requires { ⟦<Counted<'a> as Blocks>⟧.meanings.intact store }
+    ensures { ⟦<Tx<Counted<'a>> as Blocks>⟧.meanings.intact result }
+{
+    Tx::new(alloc, store)
+}
+
+fn commit<S: BlocksMut>(alloc: Global, tx: &mut Tx<S>) -> Result<(), Fail>
+    requires { ⟦<Tx<S> as Blocks>⟧.meanings.intact tx.old }
+    ensures { ⟦<Tx<S> as Blocks>⟧.meanings.intact tx.new }
+{
+    tx.commit(alloc, &mut Pcg32::new(1, 2))?;
+    Ok(())
+}
+
+/// Has the block get a payload of this byte, in a batch of its own.
+fn set<S: BlocksMut>(alloc: Global, tx: &mut Tx<S>, byte: u8) -> Result<(), Fail>
+    requires { ⟦<Tx<S> as Blocks>⟧.meanings.intact tx.old }
+    ensures { ⟦<Tx<S> as Blocks>⟧.meanings.intact tx.new }
+{
+    if tx.is_used(&ID) {
+        renew(alloc, tx, &ID, byte)?;
+    } else {
+        give(alloc, tx, &ID, byte)?;
+    }
+    commit(alloc, tx)
+}
+
+/// Has the block get a payload of each of these bytes.
+fn set_each<S: BlocksMut>(alloc: Global, tx: &mut Tx<S>, bytes: &[u8]) -> Result<(), Fail>
+    requires { ⟦<Tx<S> as Blocks>⟧.meanings.intact tx.old }
+    ensures { ⟦<Tx<S> as Blocks>⟧.meanings.intact tx.new }
+{
+    for byte in bytes {
+        set(alloc, tx, *byte)?;
+    }
+    Ok(())
+}
+
+/// The store whose block got a payload of each of these bytes.
+fn changed<'a>(alloc: Global, store: Counted<'a>, bytes: &[u8]) -> Result<Counted<'a>, Fail>
+    requires { ⟦<Counted<'a> as Blocks>⟧.meanings.intact store }
+    ensures { IfOk result (λ store. ⟦<Counted<'a> as Blocks>⟧.meanings.intact store) }
+{
+    let mut tx = tx_over(alloc, store);
+    let done = set_each(alloc, &mut tx, bytes);
+    let store = tx.into_store();
+    done?;
+    Ok(store)
+}
+
+/// How many times something was sealed when the block had changed ten times, when the record with the list was asked for,
+/// when it was asked for again, when the block had changed once more, with the record after that, and when all was written.
+fn seals_of_a_block(alloc: Global) -> Result<[u64; 6], Fail> {
+    let seals = Cell::new(0);
+    let mut counts = [0; 6];
+    let store = counted_store(alloc, &seals)?;
+    let mut store = changed(alloc, store, &[1, 2, 3, 4, 5, 6, 7, 8, 9, 10])?;
+    counts[0] = seals.get();
+    counts[1] = seals_at_record(alloc, &mut store, &seals)?;
+    counts[2] = seals_at_record(alloc, &mut store, &seals)?;
+    let mut store = changed(alloc, store, &[11])?;
+    counts[3] = seals.get();
+    counts[4] = seals_at_record(alloc, &mut store, &seals)?;
+    store.write_out(alloc)?;
+    counts[5] = seals.get();
+    Ok(counts)
+}
+
+/// How many times something was sealed when the record with the list was made.
+fn seals_at_record<S: Durable>(alloc: Global, store: &mut S, seals: &Cell<u64>) -> Result<u64, Fail>
+    requires { S.Durable.meanings.intact store.old }
+    ensures { store.new ≡ store.old }
+{
+    drop(store.state_bytes(alloc, true)?);
+    Ok(seals.get())
+}
+
+#[test]
+fn seals_a_block_once_that_changed_ten_times(rt: HostRuntime) -> Result<(), Fail> {
+    assert_eq!(rt; seals_of_a_block(rt.alloc())?, [0, 1, 1, 2, 2, 2]);
+    Ok(())
+}
