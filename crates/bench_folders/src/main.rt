@@ -40,7 +40,9 @@ fn work(rt: HostRuntime, blocks: &str, state: &str, count: u64) -> Result<(), Ge
     let alloc = rt.alloc();
     let run = FolderRun::new(alloc, 1).map_err(|_| GetFail::Memory)?;
     let mut vault = FolderVault::new(rt, blocks, &run, CallLog::new());
-    let mut keeper = FolderKeeper::new(alloc, rt, state, &run).map_err(|_| GetFail::Memory)?;
+    let mut keeper = FolderKeeper::new(alloc, rt, state, &run, CallLog::new()).map_err(
+        |_| GetFail::Memory,
+    )?;
     put_blocks(alloc, &mut vault, count)?;
     save(alloc, &mut keeper)
 }

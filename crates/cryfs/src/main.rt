@@ -16,7 +16,7 @@ fn run_words(rt: &HostRuntime) -> Status {
         Ok(read) => read,
         Err(status) => return status,
     };
-    let Ok(keeper) = inputs.make_keeper(rt) else {
+    let Ok(keeper) = inputs.make_keeper(rt, CallLog::new()) else {
         return Status::Memory;
     };
     let mut host = inputs.host(rt);

@@ -1,6 +1,6 @@
 -- A file system that was opened, whose blocks were written anew or met an error, and that was closed.
 use Rattle.std.proofs.Common.{◌≡◌, ◌⊎◌, ◌≤◌, ◌-◌, ℕ, Bool, true, false, List, [], ◌∷◌, length, refl, sym, ◌∙◌, ap, subst, inl, inr, arith}
-use Rattle.std.specs.Prelude.{Result, is_some, is_ok, IfOk, IsOk, OnOk}
+use Rattle.std.specs.Prelude.{Result, is_some, is_ok, IfOk, IsOk, OnOk, OnErr}
 use Rattle.std.specs.declared.option.Option.{Option}
 use Rattle.std.specs.declared.result.Result.TheVariants.{Ok, Err}
 use Rattle.aes_gcm.specs.Gcm.{opened_of}
@@ -21,7 +21,9 @@ use Rattle.mount.specs.declared.mount.Mount.{Mount}
 use Rattle.mount.specs.Mounts.{IsReady, MountClosed}
 use Rattle.mount.specs.Representing.{Represents}
 use Rattle.mount.specs.Tower.{tower, TowerStands}
-use Rattle.mount_calls.specs.Migrating.{ids_in, KeepsNewest, Counts, MigratesMount}
+use Rattle.mount.specs.Formats.{TakesFrom}
+use Rattle.mount_calls.proofs.Newest.{newest_takes}
+use Rattle.mount_calls.specs.Migrating.{ids_in, least_in, KeepsNewest, Counts, MigratesMount}
 use Rattle.mount_core.specs.Answers.{OnSpent}
 use Rattle.mount_core.specs.Configuring.{ConfigAnswered, ConfigClosed}
 use Rattle.mount_core.specs.Standing.{Left, IsKeptMarked}
@@ -173,6 +175,14 @@ module _ {V : Type 0} {K : Type 0} (trace : V → Option (List Call)) (faults : 
     left_so : Left ShowsFiles (tower trace faults G) left.core tree tree tree bad false
     left_so = m.stands tree tree (stood_first c tree f.opens) few
 
+  -- an error was met only where the older format was taken, and otherwise the newest is
+  stays_newest : (r : Result ℕ MigrateError) → migration ≡ r → OnErr r (least_in first ≡ 1) → TakesFrom 2 Before.kept → TakesFrom 2 After.kept
+  stays_newest (Ok n) is older takes =
+      let k : KeepsNewest After.kept = subst (λ (r : Result ℕ MigrateError). OnOk r (KeepsNewest After.kept)) is (newest migration refl m.kept) in
+      newest_takes After.kept k
+  stays_newest (Err e) is older takes =
+      absurd (cc (sym older ∙ b.level 2 takes))
+
   run : IsMigrationRun ShowsFiles password Before After bad
   run = record {
     stands = λ c tree f fine. stands_so c tree f.opens bad refl (left_so c tree f) fine;
@@ -180,6 +190,7 @@ module _ {V : Type 0} {K : Type 0} (trace : V → Option (List Call)) (faults : 
     calm = calm_last;
     unforged = unforged_last;
     marked = λ k. absurd (unmarked k);
+    least = stays_newest migration refl m.older;
   }
 
   -- ---- the configuration's file

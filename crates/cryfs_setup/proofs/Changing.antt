@@ -16,6 +16,7 @@ use Rattle.mount.specs.Tower.{tower, TowerStands, TowerConfigures}
 use Rattle.mount_tower.specs.Tower.{tower_holdings, tower_durables}
 use Rattle.mount.specs.declared.mount.Mount.{Mount}
 use Rattle.mount_core.specs.Configuring.{ConfigClosed, KeptOneOf, Replaced}
+use Rattle.mount_core.specs.Formats.{StaysLeast}
 use Rattle.mount_core.specs.Standing.{IsKeptMarked, Synced}
 use Rattle.outside.specs.Causes.{RoseBy}
 use Rattle.outside.specs.Going.{GoesOn}
@@ -27,7 +28,7 @@ use Rattle.run_status.specs.declared.ended.Ended.{Ended}
 use Rattle.run_status.specs.declared.status.Status.{Status}
 use Rattle.run_status.specs.declared.status.Status.TheVariants.{DirectoryFault, StateFault}
 use Rattle.run_status.specs.Statuses.{first_of}
-use Rattle.session_runs.specs.Answering.{calls_of, kept_of, vault_faults, keeper_faults, version_of}
+use Rattle.session_runs.specs.Answering.{store_of, calls_of, kept_of, vault_faults, keeper_faults, version_of}
 use Rattle.session_runs.specs.Runs.{outside_of, directory_fault, state_fault}
 use Rattle.session_runs.specs.Turns.{Begun, Closing}
 use Rattle.session_runs.proofs.Rising.{versions_since}
@@ -172,8 +173,9 @@ module _ {V : Type 0} {K : Type 0} (trace : V → Option (List Call)) (faults : 
       → IsOnly new file (opened (settings_of first.opened.config) first.opened.params) ⊎ (IsErrOf change sync_error.Memory × (left ≡ first))
       → (is_some (calls_of trace first) ≡ true → OnOk change (KeptConfigures records (kept_of G left) (calls_of trace left) file))
       → OnOk change (HasEmptyList (kept_of G left)) → ((id : List ℕ) → version_of trace left id ≡ version_of trace first id)
+      → (tower_durables trace).least (store_of left) ≡ (tower_durables trace).least (store_of first) → StaysLeast (tower trace faults G) (store_of first) (kept_of G first) (kept_of G left)
       → UnlessDirectory change (vault_faults trace faults left ≡ vault_faults trace faults first) → UnlessState change (keeper_faults G left ≡ keeper_faults G first) → IsChanged trace faults G old new chance left_chance output vault keeper ended
-  changed status output es r drawn synced configures opens holds empty versions vault_quiet keeper_quiet = record {
+  changed status output es r drawn synced configures opens holds empty versions level least vault_quiet keeper_quiet = record {
     o = first.opened;
     kept = kept_of G first;
     calls = calls_of trace first;
@@ -194,7 +196,7 @@ module _ {V : Type 0} {K : Type 0} (trace : V → Option (List Call)) (faults : 
     versions = versions_since (G.kept keeper) (G.kept ended.keeper) b.attached.state b.attached.list b.attached.loaded (version_of trace first) (version_of trace left) [] b.versions (λ id. omega (arith, versions id)) closing (z.closes.versions fresh);
     config = config_is trace faults G old vault keeper first left closing ended.vault ended.keeper b z fresh same on (stands synced);
     unmarked = unmarked;
-    quiet = quiet trace faults G old vault keeper first left closing ended.vault ended.keeper b z fresh same on (stands synced) unmarked;
+    quiet = quiet trace faults G old vault keeper first left closing ended.vault ended.keeper b z fresh same on (stands synced) unmarked level least;
   }
 
   pub caused : (status : Status) (output : Stream) → ended.status ≡ first_of status (closing_status closing) → Reports change output status

@@ -9,12 +9,15 @@ use Rattle.config_file.specs.declared.config.Opened.{Opened}
 use Rattle.fs_model.specs.Tree.{Tree}
 use Rattle.held_blocks.specs.Standing.{records}
 use Rattle.mount.specs.declared.mount.Mount.{Mount}
+use Rattle.mount.specs.Answering.{store_of, kept_of}
 use Rattle.mount.specs.Mounts.{MountClosed, Attached}
 use Rattle.mount.specs.Representing.{Represents}
-use Rattle.mount.specs.Tower.{TowerStands}
+use Rattle.mount.specs.Tower.{tower, TowerStands}
 use Rattle.mount.proofs.Reading.{represents_told}
 use Rattle.mount_core.specs.Configuring.{ConfigClosed}
+use Rattle.mount_core.specs.Formats.{StaysLeast}
 use Rattle.mount_core.specs.Standing.{IsKeptMarked}
+use Rattle.mount_tower.specs.Tower.{tower_durables}
 use Rattle.outside.specs.Changes.{change_at}
 use Rattle.outside.specs.Going.{GoesOn, goes_on_onward, goes_on_call, goes_on_equal, goes_on_writes}
 use Rattle.outside.specs.Trace.{Call, config, got}
@@ -24,6 +27,7 @@ use Rattle.outside.specs.declared.keeper.Keeper.{Ghosts as KeeperGhosts}
 use Rattle.session_runs.specs.Answering.{calls_of}
 use Rattle.session_runs.specs.Runs.{Outside, outside_of, OutsideStandsFor, OpensTo, IsQuietRun}
 use Rattle.session_runs.specs.Turns.{Begun, Closing}
+use Rattle.session_runs.proofs.Formats.{taken}
 use Rattle.session_runs.proofs.Whole.{each_before}
 use Rattle.session_saver.specs.Saving.{KeptConfigures}
 use Rattle.session_saver.specs.declared.saver.SyncError.{SyncError}
@@ -80,5 +84,10 @@ module _ {V : Type 0} {K : Type 0} (trace : V → Option (List Call)) (faults : 
       subst (λ x. Represents ShowsFiles After.kept After.calls x tree) (ap (λ (o : Opened). settings_of o.config) same ∙ is)
       (of_closed (settings_of left.opened.config) tree closing (z.closes.stands tree tree fresh (stands tree begun)))
 
-  pub quiet : ¬ IsKeptMarked records (G.kept keeper) → IsQuietRun ShowsFiles password Before After
-  quiet unmarked = record { stands = stands_after; marked = λ m. absurd (unmarked m) }
+  pub quiet : ¬ IsKeptMarked records (G.kept keeper) → (tower_durables trace).least (store_of left) ≡ (tower_durables trace).least (store_of first)
+      → StaysLeast (tower trace faults G) (store_of first) (kept_of G first) (kept_of G left) → IsQuietRun ShowsFiles password Before After
+  quiet unmarked level stays = record {
+    stands = stands_after;
+    marked = λ m. absurd (unmarked m);
+    least = taken ShowsFiles trace faults G password vault last_vault keeper last_keeper first left closing b level stays z;
+  }

@@ -69,7 +69,7 @@ module _ {V : Type 0} {K : Type 0} (trace : V → Option (List Call)) (faults : 
             (subst (λ (v : V). Attached password (G.kept keeper) (kept_of G mount) (trace vault) (trace v) mount.opened) (sym l.1) b.attached);
         printed = subst (λ (s : Status). Printed output (info_text (settings_of mount.opened.config) mount.opened.params) s) status_is p;
         config = config_is trace faults G password vault keeper mount mount closing ended.vault ended.keeper b z b.fresh refl on (λ tree s. s);
-        quiet = quiet trace faults G password vault keeper mount mount closing ended.vault ended.keeper b z b.fresh refl on (λ tree s. s) unmarked;
+        quiet = quiet trace faults G password vault keeper mount mount closing ended.vault ended.keeper b z b.fresh refl on (λ tree s. s) unmarked refl (λ k. k);
         unmarked = unmarked;
         directory_quiet = closed_directory closing _ l.0 z.leaves.vault_quiet ∙ b.vault_quiet;
         state_quiet = closed_state closing _ l.0 z.leaves.keeper_quiet ∙ b.keeper_quiet;

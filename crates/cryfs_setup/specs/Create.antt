@@ -10,7 +10,8 @@ use Rattle.mount_tower.specs.declared.draws.Draws.{Draws}
 use Rattle.mount_tower.specs.declared.error.OpenError.{OpenError}
 use Rattle.mount_tower.specs.declared.opening.TheConstants.{MAX_CONFIG}
 use Rattle.mount_tower.specs.declared.error.OpenError.TheVariants as open_error
-use Rattle.mount.specs.Making.{Created as Made, KnowsOnly, StaysThere}
+use Rattle.mount_calls.specs.Migrating.{KeepsNewest}
+use Rattle.mount.specs.Making.{Created as Made, HasSalt, KnowsOnly, StaysThere}
 use Rattle.mount_tower.specs.Making.{CreateCause, IsUnchanged, new_settings, root_of, sealed_file}
 use Rattle.outside.specs.Going.{GoesOn}
 use Rattle.outside.specs.Trace.{Call, adds, got, config}
@@ -45,6 +46,10 @@ pub record IsCreated {V : Type 0} {K : Type 0} (trace : V → Option (List Call)
   pub state_quiet : made ≢ Err open_error.FaultState → G.faults ended.keeper ≡ G.faults keeper
   -- the new record knows the root's block at its first version at most, and no other
   pub versions : OnOk made (KnowsOnly (G.kept ended.keeper) (root_of draws.root))
+  -- and it takes block files of the newest format alone
+  pub newest : OnOk made (KeepsNewest (G.kept ended.keeper))
+  -- and the digest of the key in it has the drawn salt
+  pub salt : OnOk made (HasSalt (G.kept ended.keeper) draws.key_salt)
 
 -- the password line wasn't read and nothing was done, or its password is the one
 abbrev pub RanCreate : {V : Type 0} → {K : Type 0} → (V → Option (List Call)) → (V → ℕ) → KeeperGhosts K → Cost → ℕ → Draws → Stream → Stream → V → K → Ended V K → Type 0

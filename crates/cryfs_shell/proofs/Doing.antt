@@ -20,7 +20,7 @@ use Rattle.session_lines.specs.declared.end.End.{End}
 use Rattle.session_runs.specs.Runs.{outside_of}
 use Rattle.shell_sessions.specs.Sessions.{ComesShell, ComesGenerated, ComesCommand}
 use Rattle.shell_words.specs.declared.form.Form.{Form}
-use Rattle.shell_words.specs.declared.form.Form.TheVariants.{Trial, TrialGenerate, Create, Info, Passwd, Migrate, Shell, Generate, Command, Import, Export, Put, Get, Check}
+use Rattle.shell_words.specs.declared.form.Form.TheVariants.{Trial, TrialGenerate, Create, Info, Passwd, Migrate, Shell, Generate, Command, Import, Export, Put, Get, Check, Survey}
 use Rattle.shell_words.specs.Forms.{joined}
 use Rattle.copy_sessions.proofs.Imported.{told_host as copy_host}
 use Rattle.cryfs_shell.specs.Clauses.{IsRefusedRun, NoFalseAlarm, KeepsTree, FaultsHappened, IsEmptied}
@@ -34,6 +34,7 @@ use Rattle.cryfs_shell.proofs.Statuses.{EndCause}
 use Rattle.cryfs_shell.proofs.Sessions.{session_faults, session_refusal, session_alarm, session_keeps, session_emptied, session_uncalled, session_usage, session_host}
 use Rattle.cryfs_shell.proofs.Setups.{created_faults, created_uncalled, created_usage, created_alarm, created_host, told_faults, told_refusal, told_alarm, told_keeps, told_uncalled, told_usage, told_host, changed_faults, changed_refusal, changed_alarm, changed_keeps, changed_uncalled, changed_usage, changed_host}
 use Rattle.cryfs_shell.proofs.Checks.{checked_faults, checked_refusal, checked_alarm, checked_keeps, checked_uncalled, checked_usage, checked_host}
+use Rattle.cryfs_shell.proofs.Surveys.{surveyed_faults, surveyed_refusal, surveyed_alarm, surveyed_keeps, surveyed_uncalled, surveyed_usage, surveyed_host}
 use Rattle.cryfs_shell.proofs.Migrations.{migrated_faults, migrated_refusal, migrated_alarm, migrated_keeps, migrated_uncalled, migrated_usage, migrated_host}
 use Rattle.cryfs_shell.proofs.TrialEnds.{ends_cause, reported_cause, tried_end, generated_end, trial_is_no, trial_faults}
 
@@ -93,6 +94,7 @@ module _ {V : Type 0} {K : Type 0} (trace : V → Option (List Call)) (faults : 
   doing_faults Put d = session_faults trace faults G input output vault keeper ended now (Puts words input output) put_causes d
   doing_faults Get d = session_faults trace faults G input output vault keeper ended now (Gets words input output) get_causes d
   doing_faults Check d = checked_faults trace faults names G input output vault keeper ended d.1 d.0
+  doing_faults Survey d = surveyed_faults trace faults names G input output vault keeper ended d.1 d.0
 
   pub doing_refusal : (form : Form) → opens (Some form) ≡ true → Doing form → IsKeptMarked records (G.kept keeper) → IsRefusedRun G.kept output vault keeper ended
   doing_refusal Trial e d marked = absurd (cc)
@@ -109,6 +111,7 @@ module _ {V : Type 0} {K : Type 0} (trace : V → Option (List Call)) (faults : 
   doing_refusal Put e d marked = session_refusal trace faults G input output vault keeper ended now (Puts words input output) put_causes d marked
   doing_refusal Get e d marked = session_refusal trace faults G input output vault keeper ended now (Gets words input output) get_causes d marked
   doing_refusal Check e d marked = checked_refusal trace faults names G input output vault keeper ended d.1 d.0 marked
+  doing_refusal Survey e d marked = surveyed_refusal trace faults names G input output vault keeper ended d.1 d.0 marked
 
   pub doing_alarm : (form : Form) → Doing form → NoFalseAlarm input (outside_of trace faults G vault keeper) (outside_of trace faults G ended.vault ended.keeper) ended.status
   doing_alarm Trial d bytes c first f honest e = trial_is_no input output ended.status Violation (tried_end now input output ended.status d.0) e (λ h. h)
@@ -125,6 +128,7 @@ module _ {V : Type 0} {K : Type 0} (trace : V → Option (List Call)) (faults : 
   doing_alarm Put d bytes c first f honest e = session_alarm trace faults G input output vault keeper ended now (Puts words input output) put_causes d bytes c first f honest e
   doing_alarm Get d bytes c first f honest e = session_alarm trace faults G input output vault keeper ended now (Gets words input output) get_causes d bytes c first f honest e
   doing_alarm Check d bytes c first f honest e = checked_alarm trace faults names G input output vault keeper ended d.1 d.0 bytes c first f honest e
+  doing_alarm Survey d bytes c first f honest e = surveyed_alarm trace faults names G input output vault keeper ended d.1 d.0 bytes c first f honest e
 
   pub doing_keeps : (form : Form) → opens (Some form) ≡ true → Doing form → KeepsTree input (outside_of trace faults G vault keeper) (outside_of trace faults G ended.vault ended.keeper)
   doing_keeps Trial e d bytes c first f = absurd (cc)
@@ -141,6 +145,7 @@ module _ {V : Type 0} {K : Type 0} (trace : V → Option (List Call)) (faults : 
   doing_keeps Put e d bytes c first f = session_keeps trace faults G input output vault keeper ended now (Puts words input output) put_causes d bytes c first f
   doing_keeps Get e d bytes c first f = session_keeps trace faults G input output vault keeper ended now (Gets words input output) get_causes d bytes c first f
   doing_keeps Check e d bytes c first f = checked_keeps trace faults names G input output vault keeper ended d.1 d.0 bytes c first f
+  doing_keeps Survey e d bytes c first f = surveyed_keeps trace faults names G input output vault keeper ended d.1 d.0 bytes c first f
 
   pub doing_emptied : (form : Form) → is_session (Some form) ≡ true → Doing form → ended.status ≡ Done → IsEmptied (outside_of trace faults G ended.vault ended.keeper)
   doing_emptied Trial s d e = absurd (cc)
@@ -157,6 +162,7 @@ module _ {V : Type 0} {K : Type 0} (trace : V → Option (List Call)) (faults : 
   doing_emptied Put s d e = session_emptied trace faults G input output vault keeper ended now (Puts words input output) put_causes d e
   doing_emptied Get s d e = session_emptied trace faults G input output vault keeper ended now (Gets words input output) get_causes d e
   doing_emptied Check s d e = absurd (cc)
+  doing_emptied Survey s d e = absurd (cc)
 
   pub doing_uncalled : (form : Form) → Doing form → ended.status ≡ LongPassword → AreUncalled vault keeper ended
   doing_uncalled Trial d e = d.1
@@ -173,6 +179,7 @@ module _ {V : Type 0} {K : Type 0} (trace : V → Option (List Call)) (faults : 
   doing_uncalled Put d e = session_uncalled trace faults G input output vault keeper ended now (Puts words input output) put_causes d e
   doing_uncalled Get d e = session_uncalled trace faults G input output vault keeper ended now (Gets words input output) get_causes d e
   doing_uncalled Check d e = checked_uncalled trace faults names G input output vault keeper ended d.1 d.0 e
+  doing_uncalled Survey d e = surveyed_uncalled trace faults names G input output vault keeper ended d.1 d.0 e
 
   pub doing_usage : (form : Form) → Doing form → ended.status ≢ Usage
   doing_usage Trial d e = trial_is_no input output ended.status Usage (tried_end now input output ended.status d.0) e (λ h. h)
@@ -189,6 +196,7 @@ module _ {V : Type 0} {K : Type 0} (trace : V → Option (List Call)) (faults : 
   doing_usage Put d e = session_usage trace faults G input output vault keeper ended now (Puts words input output) put_causes d e
   doing_usage Get d e = session_usage trace faults G input output vault keeper ended now (Gets words input output) get_causes d e
   doing_usage Check d e = checked_usage trace faults names G input output vault keeper ended d.1 d.0 e
+  doing_usage Survey d e = surveyed_usage trace faults names G input output vault keeper ended d.1 d.0 e
 
   abbrev Rose : Type 0
   Rose = RoseBy 1 host.faults host.risen
@@ -209,3 +217,4 @@ module _ {V : Type 0} {K : Type 0} (trace : V → Option (List Call)) (faults : 
   doing_host Put d e = session_host trace faults G input output vault keeper ended now (Puts words input output) put_causes Rose (λ script end own es came h. absurd (put_hostless script end own es came h)) d e
   doing_host Get d e = session_host trace faults G input output vault keeper ended now (Gets words input output) get_causes Rose (λ script end own es came h. absurd (get_hostless script end own es came h)) d e
   doing_host Check d e = absurd (checked_host trace faults names G input output vault keeper ended d.1 d.0 e)
+  doing_host Survey d e = absurd (surveyed_host trace faults names G input output vault keeper ended d.1 d.0 e)

@@ -6,7 +6,9 @@ use Rattle.rand_core.specs.Stream.{Stream as Chance}
 use Rattle.answers.specs.Sessions.{Exchange}
 use Rattle.check_runs.specs.Judging.{is_bad}
 use Rattle.check_runs.specs.Running.{RanCheck}
+use Rattle.check_runs.specs.SurveyRuns.{RanSurvey}
 use Rattle.check_runs.proofs.Leaving.{examined_run}
+use Rattle.check_runs.proofs.SurveyLeaving.{quiet_run}
 use Rattle.answers.specs.Sessions.{is_violation}
 use Rattle.cryfs_setup.specs.Info.{Told}
 use Rattle.cryfs_setup.specs.Migrate.{RanMigrate}
@@ -23,7 +25,7 @@ use Rattle.session_lines.specs.declared.end.End.{End}
 use Rattle.session_runs.specs.Runs.{Outside, outside_of, IsQuietRun}
 use Rattle.shell_sessions.specs.Sessions.{Session}
 use Rattle.shell_words.specs.declared.form.Form.{Form}
-use Rattle.shell_words.specs.declared.form.Form.TheVariants.{Trial, TrialGenerate, Create, Info, Passwd, Migrate, Shell, Generate, Command, Import, Export, Put, Get, Check}
+use Rattle.shell_words.specs.declared.form.Form.TheVariants.{Trial, TrialGenerate, Create, Info, Passwd, Migrate, Shell, Generate, Command, Import, Export, Put, Get, Check, Survey}
 use Rattle.shell_words.specs.Forms.{form_of, is_create}
 use Rattle.shell_words.proofs.FormsOf.{IsPlain, other_is_other}
 use Rattle.tree_commands.specs.Showing.{ShowsFiles}
@@ -36,7 +38,7 @@ use Rattle.cryfs_shell.specs.History.{Comes, Judges, Meets, IsRunOf}
 
 -- nothing happened outside
 still : (password : List ℕ) (o : Outside) → IsQuietRun ShowsFiles password o o
-still password o = record { stands = λ c tree f. f.stands; marked = λ m. (refl, refl) }
+still password o = record { stands = λ c tree f. f.stands; marked = λ m. (refl, refl); least = λ least takes. takes }
 
 module _ {V : Type 0} {K : Type 0} (trace : V → Option (List Call)) (faults : V → ℕ) (G : KeeperGhosts K) (Came : Option (List ℕ) → End → Status → List Exchange → Type 0) (Judged Met : Bool → Type 0) (vault : V) (keeper : K) (ended : Ended V K) where
   abbrev Before : Outside
@@ -81,6 +83,11 @@ module _ {V : Type 0} {K : Type 0} (trace : V → Option (List Call)) (faults : 
         record { is_run = examined_run trace faults names G password output vault keeper ended t; came = judged (is_bad t.x.verdict) verdict; begins = refl; ends = refl },
       )
 
+  surveyed_history : (names : V → Option (List (List ℕ))) (input output : Stream) → RanSurvey trace faults names G input output vault keeper ended → History
+  surveyed_history names input output (inl u) = idly u.uncalled
+  surveyed_history names input output (inr (password, after, has, unfailed, inl ((error, u), unwritten))) = quietly password u.quiet
+  surveyed_history names input output (inr (password, after, has, unfailed, inr t)) = quietly password (quiet_run trace faults names G password output vault keeper ended t)
+
   migrated_history : (input output : Stream) → ((bad : Bool) → Meets (Some Migrate) ended.status bad → Met bad) → RanMigrate trace faults G input output vault keeper ended → History
   migrated_history input output met (inl u) = idly u.uncalled
   migrated_history input output met (inr (password, after, has, unfailed, inl ((error, u), unwritten))) = quietly password u.quiet
@@ -105,6 +112,7 @@ other_form words Export e other = tt
 other_form words Put e other = tt
 other_form words Get e other = tt
 other_form words Check e other = tt
+other_form words Survey e other = tt
 
 pub doing_history : {V : Type 0} {K : Type 0} (trace : V → Option (List Call)) (faults : V → ℕ) (names : V → Option (List (List ℕ))) (G : KeeperGhosts K) (words : List (List ℕ)) (now : Instant) (chance left : Chance) (input output : Stream) (host : HostSeen) (vault : V) (keeper : K) (ended : Ended V K) (form : Form)
     → IsPlain form → Does trace faults names G words now chance left input output host vault keeper ended form
@@ -123,3 +131,4 @@ doing_history trace faults names G words now chance left input output host vault
 doing_history trace faults names G words now chance left input output host vault keeper ended Put p d = session_history trace faults G (Comes words input output host Put) (Judges (Some Put) ended.status) (Meets (Some Put) ended.status) vault keeper ended now input output d
 doing_history trace faults names G words now chance left input output host vault keeper ended Get p d = session_history trace faults G (Comes words input output host Get) (Judges (Some Get) ended.status) (Meets (Some Get) ended.status) vault keeper ended now input output d
 doing_history trace faults names G words now chance left input output host vault keeper ended Check p d = checked_history trace faults G (Comes words input output host Check) (Judges (Some Check) ended.status) (Meets (Some Check) ended.status) vault keeper ended names input output (λ bad j. j) d.0
+doing_history trace faults names G words now chance left input output host vault keeper ended Survey p d = surveyed_history trace faults G (Comes words input output host Survey) (Judges (Some Survey) ended.status) (Meets (Some Survey) ended.status) vault keeper ended names input output d.0

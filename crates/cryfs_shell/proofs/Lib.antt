@@ -3,6 +3,7 @@ pub mod Copies
 pub mod Sessions
 pub mod Setups
 pub mod Checks
+pub mod Surveys
 pub mod Migrations
 pub mod TrialEnds
 pub mod Doing

@@ -19,7 +19,9 @@ use Rattle.answers.specs.Sessions.{Exchange, is_violation, violated}
 use Rattle.mount_migrating.specs.Migrating.{told}
 use Rattle.block_id.specs.declared.id.BlockId.{BlockId}
 use Rattle.check_runs.specs.Running.{RanCheck}
+use Rattle.check_runs.specs.SurveyRuns.{RanSurvey}
 use Rattle.check_runs.proofs.Leaving.{directory_quiet}
+use Rattle.check_runs.proofs.SurveyLeaving as surveys
 use Rattle.cryfs_setup.specs.Create.{RanCreate}
 use Rattle.setup_texts.specs.CreateText.{Reports as CreateReports}
 use Rattle.cryfs_setup.specs.Info.{Told}
@@ -52,7 +54,7 @@ use Rattle.session_saver.specs.declared.saver.SyncError.{SyncError}
 use Rattle.session_saver.specs.declared.saver.SyncError.TheVariants as sync_error
 use Rattle.shell_sessions.specs.Sessions.{Session, ComesShell, ComesGenerated, ComesCommand}
 use Rattle.shell_words.specs.declared.form.Form.{Form}
-use Rattle.shell_words.specs.declared.form.Form.TheVariants.{Trial, TrialGenerate, Create, Info, Passwd, Migrate, Shell, Generate, Command, Import, Export, Put, Get, Check}
+use Rattle.shell_words.specs.declared.form.Form.TheVariants.{Trial, TrialGenerate, Create, Info, Passwd, Migrate, Shell, Generate, Command, Import, Export, Put, Get, Check, Survey}
 use Rattle.shell_words.specs.Forms.{joined}
 use Rattle.cryfs_shell.proofs.Checks.{state_named, output_named}
 use Rattle.cryfs_shell.proofs.Migrations.{memory_named, or_done}
@@ -148,6 +150,12 @@ module _ {V : Type 0} {K : Type 0} (trace : V → Option (List Call)) (faults : 
         state_quiet = λ shown s. state_named trace faults names G password output vault keeper ended t (λ v. shown (subst (MayHideState (Some Check)) (sym v) tt));
         memory = λ m. inl (directory (λ d. directory_is_no (sym d ∙ m)));
       }
+
+  surveyed_named : (names : V → Option (List (List ℕ))) → RanSurvey trace faults names G input output vault keeper ended → Named Survey
+  surveyed_named names (inl u) = idle_named Survey u.uncalled
+  surveyed_named names (inr (password, after, has, unfailed, inl ((error, u), unwritten))) = unopened_named Survey password error u
+  surveyed_named names (inr (password, after, has, unfailed, inr t)) =
+      each_named Survey (surveys.directory_quiet trace faults names G password output vault keeper ended t) (λ s. surveys.state_quiet trace faults names G password output vault keeper ended t)
 
   migrated_named : RanMigrate trace faults G input output vault keeper ended → Named Migrate
   migrated_named (inl u) = idle_named Migrate u.uncalled
@@ -287,6 +295,12 @@ module _ (input output : Stream) where
     checked_streams names (inr (password, after, has, unfailed, inl ((error, u), unwritten))) = neither ended.status unfailed unwritten.1
     checked_streams names (inr (password, after, has, unfailed, inr t)) = record { input_quiet = λ i l v. unfailed; output_quiet = output_named trace faults names G password output vault keeper ended t }
 
+    surveyed_streams : (names : V → Option (List (List ℕ))) → RanSurvey trace faults names G input output vault keeper ended → StreamsNamed
+    surveyed_streams names (inl u) = unread_one u
+    surveyed_streams names (inr (password, after, has, unfailed, inl ((error, u), unwritten))) = neither ended.status unfailed unwritten.1
+    surveyed_streams names (inr (password, after, has, unfailed, inr t)) =
+        record { input_quiet = λ i l v. unfailed; output_quiet = surveys.survey_output (names t.x.vault) t.x.verdict t.x.refused output ended.status t.told }
+
     migrated_streams : RanMigrate trace faults G input output vault keeper ended → StreamsNamed
     migrated_streams (inl u) = unread_one u
     migrated_streams (inr (password, after, has, unfailed, inl ((error, u), unwritten))) = neither ended.status unfailed unwritten.1
@@ -321,6 +335,7 @@ module _ {V : Type 0} {K : Type 0} (trace : V → Option (List Call)) (faults : 
   doing_named Put e d = absurd (cc)
   doing_named Get e d = absurd (cc)
   doing_named Check e d = checked_named trace faults G input output vault keeper ended names d.0
+  doing_named Survey e d = surveyed_named trace faults G input output vault keeper ended names d.0
 
   pub doing_streams : (form : Form) → Doing form → StreamFaultsNamed input output ended.status
   doing_streams Trial d = tried_named input output now ended.status d.0
@@ -342,3 +357,4 @@ module _ {V : Type 0} {K : Type 0} (trace : V → Option (List Call)) (faults : 
   doing_streams Get d =
       session_streams input output trace faults G vault keeper ended now (Gets words input output) (λ script end own es came. get_quiet came.0 input output end own es came.2) d
   doing_streams Check d = checked_streams input output trace faults G vault keeper ended names d.0
+  doing_streams Survey d = surveyed_streams input output trace faults G vault keeper ended names d.0

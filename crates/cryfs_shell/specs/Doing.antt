@@ -2,6 +2,7 @@
 use Rattle.std.specs.Prelude.{ℕ, List}
 use Rattle.std.specs.declared.option.Option.{Option}
 use Rattle.check_runs.specs.Running.{RanCheck}
+use Rattle.check_runs.specs.SurveyRuns.{RanSurvey}
 use Rattle.rand_core.specs.Stream.{Stream as Chance}
 use Rattle.cryfs_setup.specs.Create.{RanCreate}
 use Rattle.cryfs_setup.specs.Info.{Told}
@@ -17,7 +18,7 @@ use Rattle.run_status.specs.declared.ended.Ended.{Ended}
 use Rattle.session_runs.specs.Runs.{outside_of}
 use Rattle.shell_sessions.specs.Sessions.{Session, ComesShell, ComesGenerated, ComesCommand}
 use Rattle.shell_words.specs.declared.form.Form.{Form}
-use Rattle.shell_words.specs.declared.form.Form.TheVariants.{Trial, TrialGenerate, Create, Info, Passwd, Migrate, Shell, Generate, Command, Import, Export, Put, Get, Check}
+use Rattle.shell_words.specs.declared.form.Form.TheVariants.{Trial, TrialGenerate, Create, Info, Passwd, Migrate, Shell, Generate, Command, Import, Export, Put, Get, Check, Survey}
 use Rattle.shell_words.specs.Forms.{joined}
 use Rattle.cryfs_shell.specs.Copies.{HostSession, Imports, Exports, Puts, Gets}
 use Rattle.cryfs_shell.specs.Hosts.{HostSeen}
@@ -43,3 +44,4 @@ Does trace faults names G words now chance left input output host vault keeper e
 Does trace faults names G words now chance left input output host vault keeper ended Put = Session trace faults G now (Puts words input output) input output vault keeper ended
 Does trace faults names G words now chance left input output host vault keeper ended Get = Session trace faults G now (Gets words input output) input output vault keeper ended
 Does trace faults names G words now chance left input output host vault keeper ended Check = RanCheck trace faults names G input output vault keeper ended × Caused trace faults G vault keeper ended
+Does trace faults names G words now chance left input output host vault keeper ended Survey = RanSurvey trace faults names G input output vault keeper ended × Caused trace faults G vault keeper ended

@@ -5,7 +5,7 @@ use Rattle.std.specs.declared.option.Option.TheVariants.{None, Some}
 use Rattle.run_status.specs.declared.status.Status.{Status}
 use Rattle.run_status.specs.declared.status.Status.TheVariants.{Usage, Memory}
 use Rattle.shell_words.specs.declared.form.Form.{Form}
-use Rattle.shell_words.specs.declared.form.Form.TheVariants.{Trial, TrialGenerate, Info, Passwd, Migrate, Shell, Generate, Command, Import, Export, Put, Get, Check}
+use Rattle.shell_words.specs.declared.form.Form.TheVariants.{Trial, TrialGenerate, Info, Passwd, Migrate, Shell, Generate, Command, Import, Export, Put, Get, Check, Survey}
 use Rattle.shell_words.specs.Forms.{takes_memory}
 
 -- words of no form are refused; where they begin with `create` or ask for a copy, memory may be refused while they are read
@@ -46,6 +46,7 @@ opens (Some Export) = true
 opens (Some Put) = true
 opens (Some Get) = true
 opens (Some Check) = true
+opens (Some Survey) = true
 opens _ = false
 
 -- random bytes may be taken
@@ -55,6 +56,7 @@ draws (Some Trial) = false
 draws (Some (TrialGenerate count)) = false
 draws (Some Info) = false
 draws (Some Check) = false
+draws (Some Survey) = false
 draws _ = true
 
 -- the host folder may be called

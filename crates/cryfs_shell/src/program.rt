@@ -4,6 +4,7 @@ ghost use Rattle.std.specs.declared.option.Option.TheVariants.{None, Some};
 ghost use Rattle.std.specs.String.{string_bytes};
 ghost use Rattle.shell_words.specs.declared.create_options.CreateOptions.{CreateOptions};
 ghost use Rattle.check_runs.specs.Running.{RanCheck};
+ghost use Rattle.check_runs.specs.SurveyRuns.{RanSurvey};
 ghost use Rattle.cryfs_setup.specs.Create.{RanCreate};
 ghost use Rattle.cryfs_setup.specs.Info.{Told};
 ghost use Rattle.cryfs_setup.specs.Migrate.{RanMigrate};
@@ -28,7 +29,7 @@ ghost use Rattle.outside.specs.Causes.{RoseBy};
 ghost use Rattle.plain_trials.specs.Runs.{Tried, GeneratedOnPlain};
 
 use block_id::Memory;
-use check_runs::run_check;
+use check_runs::{run_check, run_survey};
 use copy_runs::{run_export, run_get, run_import, run_put};
 use cryfs_setup::{run_create, run_info, run_migrate, run_passwd};
 use fs_model::Moment;
@@ -86,6 +87,8 @@ pub fn run<I: Source, O: Sink, V: Vault + Listing, K: Keeper, R: Rng, F: Folder>
         → Session V.trace V.faults K.Keeper now (Gets (map string_bytes words.now) (stream_of I.rest I.faults input.old input.new) (stream_of O.written O.faults output.old output.new)) (stream_of I.rest I.faults input.old input.new) (stream_of O.written O.faults output.old output.new) vault keeper result }
     ensures checked { form_of (map string_bytes words.now) ≡ Some Form.Check
         → RanCheck V.trace V.faults V.names K.Keeper (stream_of I.rest I.faults input.old input.new) (stream_of O.written O.faults output.old output.new) vault keeper result }
+    ensures surveyed { form_of (map string_bytes words.now) ≡ Some Form.Survey
+        → RanSurvey V.trace V.faults V.names K.Keeper (stream_of I.rest I.faults input.old input.new) (stream_of O.written O.faults output.old output.new) vault keeper result }
     ensures refusal { opens (form_of (map string_bytes words.now)) ≡ true → IsKeptMarked records (K.kept keeper) → IsRefusedRun K.kept (stream_of O.written O.faults output.old output.new) vault keeper result }
     ensures no_false_alarm { NoFalseAlarm (stream_of I.rest I.faults input.old input.new) (outside_of V.trace V.faults K.Keeper vault keeper) (outside_of V.trace V.faults K.Keeper result.vault result.keeper) result.status }
     ensures kept { opens (form_of (map string_bytes words.now)) ≡ true → KeepsTree (stream_of I.rest I.faults input.old input.new) (outside_of V.trace V.faults K.Keeper vault keeper) (outside_of V.trace V.faults K.Keeper result.vault result.keeper) }
@@ -179,6 +182,7 @@ fn run_form<I: Source, O: Sink, V: Vault + Listing, K: Keeper, R: Rng, F: Folder
         Form::Put => put_words(alloc, words, now, input, output, vault, keeper, chance),
         Form::Get => get_words(alloc, words, now, input, output, vault, keeper, chance),
         Form::Check => run_check(alloc, input, output, vault, keeper),
+        Form::Survey => run_survey(alloc, input, output, vault, keeper),
     }
 }
 

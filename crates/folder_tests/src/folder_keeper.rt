@@ -3,6 +3,7 @@ use crate::counted_flushes::CountedFlushes;
 use crate::folders::{
     fresh_folder, holds, is_absent, links, makes_folder, remove_folder, saves, two_runs, writes,
 };
+use call_log::CallLog;
 use outside::{GetFail, Keeper};
 use real_folders::{FolderKeeper, FolderRun};
 use std::alloc::Global;
@@ -87,7 +88,7 @@ fn keeps_what_was_saved_last(rt: HostRuntime) -> Result<(), Fail> {
     let folder = fresh_folder(&rt, "kept")?;
     let path = folder.as_str();
     let run = FolderRun::new(rt.alloc(), 1)?;
-    let mut keeper = FolderKeeper::new(rt.alloc(), rt, path, &run)?;
+    let mut keeper = FolderKeeper::new(rt.alloc(), rt, path, &run, CallLog::new())?;
     assert!(rt; keeps_the_first(&rt, &mut keeper, path));
     assert!(rt; keeps_the_second(&rt, &mut keeper, path));
     remove_folder(&rt, path)
@@ -98,10 +99,10 @@ fn serves_one_run_at_a_time(rt: HostRuntime) -> Result<(), Fail> {
     let folder = fresh_folder(&rt, "lock")?;
     let path = folder.as_str();
     let runs = two_runs(rt.alloc())?;
-    let first = FolderKeeper::new(rt.alloc(), rt, path, &runs[0])?;
-    let second = FolderKeeper::new(rt.alloc(), rt, path, &runs[1])?;
+    let first = FolderKeeper::new(rt.alloc(), rt, path, &runs[0], CallLog::new())?;
+    let second = FolderKeeper::new(rt.alloc(), rt, path, &runs[1], CallLog::new())?;
     assert!(rt; excludes(rt.alloc(), first, second));
-    let mut third = FolderKeeper::new(rt.alloc(), rt, path, &runs[0])?;
+    let mut third = FolderKeeper::new(rt.alloc(), rt, path, &runs[0], CallLog::new())?;
     assert!(rt; gives(rt.alloc(), &mut third, "first"));
     remove_folder(&rt, path)
 }
@@ -113,7 +114,7 @@ fn fails_where_something_else_lies(rt: HostRuntime) -> Result<(), Fail> {
     assert!(rt; makes_folder(&rt, path, "cryfs.localstate"));
     assert!(rt; writes(&rt, path, "cryfs.localstate/inner", ""));
     let run = FolderRun::new(rt.alloc(), 1)?;
-    let mut keeper = FolderKeeper::new(rt.alloc(), rt, path, &run)?;
+    let mut keeper = FolderKeeper::new(rt.alloc(), rt, path, &run, CallLog::new())?;
     assert!(rt; fails(rt.alloc(), &mut keeper));
     remove_folder(&rt, path)
 }
@@ -125,7 +126,7 @@ fn fails_at_a_device(rt: HostRuntime) -> Result<(), Fail> {
     assert!(rt; makes_folder(&rt, path, ""));
     assert!(rt; links(&rt, path, "cryfs.localstate", "/dev/null"));
     let run = FolderRun::new(rt.alloc(), 1)?;
-    let mut keeper = FolderKeeper::new(rt.alloc(), rt, path, &run)?;
+    let mut keeper = FolderKeeper::new(rt.alloc(), rt, path, &run, CallLog::new())?;
     assert!(rt; fails_to_load(rt.alloc(), &mut keeper));
     remove_folder(&rt, path)
 }
@@ -139,11 +140,11 @@ fn flushes_a_record_before_it_is_loaded(rt: HostRuntime) -> Result<(), Fail> {
     let left = Cell::new(0);
     let host = CountedFlushes::new(rt, &left);
     let run = FolderRun::new(rt.alloc(), 1)?;
-    let mut none = FolderKeeper::new(rt.alloc(), &host, path, &run)?;
+    let mut none = FolderKeeper::new(rt.alloc(), &host, path, &run, CallLog::new())?;
     assert!(rt; gives_none(rt.alloc(), &mut none));
     drop(none);
     assert!(rt; writes(&rt, path, "cryfs.localstate", "record"));
-    let mut keeper = FolderKeeper::new(rt.alloc(), &host, path, &run)?;
+    let mut keeper = FolderKeeper::new(rt.alloc(), &host, path, &run, CallLog::new())?;
     assert!(rt; flushes_first(rt.alloc(), &mut keeper, &left, "record"));
     remove_folder(&rt, path)
 }
@@ -154,21 +155,22 @@ fn looks_at_no_record_where_none_is_used(rt: HostRuntime) -> Result<(), Fail> {
     let folder = fresh_folder(&rt, "unread")?;
     let path = folder.as_str();
     let run = FolderRun::new(rt.alloc(), 1)?;
-    let first = FolderKeeper::unread(rt.alloc(), rt, path, &run)?;
+    let first = FolderKeeper::unread(rt.alloc(), rt, path, &run, CallLog::new())?;
     assert!(rt; saves_the_first(&rt, first, path));
-    let mut second = FolderKeeper::unread(rt.alloc(), rt, path, &run)?;
+    let mut second = FolderKeeper::unread(rt.alloc(), rt, path, &run, CallLog::new())?;
     assert!(rt; fails_to_load(rt.alloc(), &mut second));
     remove_folder(&rt, path)
 }
 
-/// Its drive was taken away in mid-session, and the record stays as it was there.
+/// Its drive was taken away in mid-session, and the record stays as it was there. After a save that failed no load knows what is kept,
+/// till one is ok.
 #[test]
 fn saves_into_no_other_folder_at_its_path(rt: HostRuntime) -> Result<(), Fail> {
     let folder = fresh_folder(&rt, "other_state")?;
     let away = fresh_folder(&rt, "state_away")?;
     let path = folder.as_str();
     let run = FolderRun::new(rt.alloc(), 1)?;
-    let mut keeper = FolderKeeper::new(rt.alloc(), rt, path, &run)?;
+    let mut keeper = FolderKeeper::new(rt.alloc(), rt, path, &run, CallLog::new())?;
     assert!(rt; saves(rt.alloc(), &mut keeper, "record"));
     fs::rename(&rt, path, away.as_path())?;
     assert!(rt; fails(rt.alloc(), &mut keeper) && is_absent(&rt, path, ""));
@@ -176,7 +178,10 @@ fn saves_into_no_other_folder_at_its_path(rt: HostRuntime) -> Result<(), Fail> {
     assert!(rt; is_absent(&rt, path, "cryfs.localstate") && is_absent(&rt, path, "cryfs.lock"));
     remove_folder(&rt, path)?;
     fs::rename(&rt, away.as_path(), path)?;
-    assert!(rt; gives(rt.alloc(), &mut keeper, "record"));
+    assert!(rt;
+        holds(&rt, path, "cryfs.localstate", "record") && fails_to_load(rt.alloc(), &mut keeper)
+    );
+    assert!(rt; saves(rt.alloc(), &mut keeper, "later") && gives(rt.alloc(), &mut keeper, "later"));
     remove_folder(&rt, path)
 }
 
@@ -186,7 +191,7 @@ fn makes_its_folder_by_a_save_alone(rt: HostRuntime) -> Result<(), Fail> {
     let folder = fresh_folder(&rt, "made_state")?;
     let path = folder.as_str();
     let run = FolderRun::new(rt.alloc(), 1)?;
-    let mut keeper = FolderKeeper::new(rt.alloc(), rt, path, &run)?;
+    let mut keeper = FolderKeeper::new(rt.alloc(), rt, path, &run, CallLog::new())?;
     assert!(rt; gives_none(rt.alloc(), &mut keeper) && is_absent(&rt, path, ""));
     assert!(rt; makes_folder(&rt, path, "") && fails(rt.alloc(), &mut keeper));
     assert!(rt; is_absent(&rt, path, "cryfs.localstate") && is_absent(&rt, path, "cryfs.lock"));

@@ -66,7 +66,7 @@ fn fails_in_a_run(
     let blocks = Path::new(folder).join(alloc, name.as_str())?;
     let run = FolderRun::new(alloc, 1)?;
     let mut vault = FolderVault::new(host, blocks.as_str(), &run, CallLog::new());
-    let mut keeper = FolderKeeper::new(alloc, host, folder, &run)?;
+    let mut keeper = FolderKeeper::new(alloc, host, folder, &run, CallLog::new())?;
     Ok(fails_with(alloc, &mut vault, &mut keeper, host.left, flushes))
 }
 
@@ -135,7 +135,7 @@ fn flushes_each_file_and_folder_once(rt: HostRuntime) -> Result<(), Fail> {
     let host = CountedFlushes::new(rt, &left);
     let run = FolderRun::new(rt.alloc(), 1)?;
     let mut vault = FolderVault::new(&host, blocks.as_str(), &run, CallLog::new());
-    let mut keeper = FolderKeeper::new(rt.alloc(), &host, folder.as_str(), &run)?;
+    let mut keeper = FolderKeeper::new(rt.alloc(), &host, folder.as_str(), &run, CallLog::new())?;
     assert!(rt; flushes_once(rt.alloc(), &mut vault, &mut keeper, &left));
     remove_folder(&rt, folder.as_str())
 }
@@ -150,7 +150,7 @@ fn saves_a_mark_without_the_blocks(rt: HostRuntime) -> Result<(), Fail> {
     let host = CountedFlushes::new(rt, &left);
     let run = FolderRun::new(rt.alloc(), 1)?;
     let mut vault = FolderVault::new(&host, blocks.as_str(), &run, CallLog::new());
-    let mut keeper = FolderKeeper::new(rt.alloc(), &host, folder.as_str(), &run)?;
+    let mut keeper = FolderKeeper::new(rt.alloc(), &host, folder.as_str(), &run, CallLog::new())?;
     assert!(rt; saves_the_mark(rt.alloc(), &mut vault, &mut keeper, &left));
     assert!(rt; holds(&rt, folder.as_str(), "cryfs.localstate", MARKED));
     remove_folder(&rt, folder.as_str())
@@ -164,7 +164,7 @@ fn saves_nothing_over_another_block_folder(rt: HostRuntime) -> Result<(), Fail> 
     let away = folder.join(rt.alloc(), "away")?;
     let run = FolderRun::new(rt.alloc(), 1)?;
     let mut vault = FolderVault::new(rt, blocks.as_str(), &run, CallLog::new());
-    let mut keeper = FolderKeeper::new(rt.alloc(), rt, folder.as_str(), &run)?;
+    let mut keeper = FolderKeeper::new(rt.alloc(), rt, folder.as_str(), &run, CallLog::new())?;
     assert!(rt; puts_two(rt.alloc(), &mut vault));
     fs::rename(&rt, blocks.as_path(), away.as_path())?;
     fs::create_dir(&rt, blocks.as_path())?;
@@ -189,7 +189,7 @@ impl<'a> NewRun<'a> {
     ) -> Result<NewRun<'a>, Fail> {
         Ok(NewRun {
             vault: FolderVault::new(*rt, blocks, run, CallLog::new()),
-            keeper: FolderKeeper::new(rt.alloc(), *rt, state, run)?,
+            keeper: FolderKeeper::new(rt.alloc(), *rt, state, run, CallLog::new())?,
         })
     }
 

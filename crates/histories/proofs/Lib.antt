@@ -2,3 +2,4 @@ mod Following
 pub mod Configuration
 mod Honest
 mod Refused
+mod Forged

@@ -16,6 +16,8 @@ use Rattle.session_saver.specs.Saving.{KeptConfigures, Leaves, UnlessDirectory, 
 use Rattle.session_saver.specs.declared.saver.SyncError.{SyncError}
 use Rattle.session_saver.specs.declared.saver.SyncError.TheVariants.{Memory, FaultDirectory, FaultState}
 use Rattle.mount_core.specs.Configuring.{ConfigClosed, ConfigSynced, Replaced}
+use Rattle.mount_core.specs.Keeping.{IsSameOrRecord, SyncKeeps}
+use Rattle.mount_core.specs.Formats.{StaysLeast}
 use Rattle.mount_core.specs.Standing.{Synced}
 use Rattle.tree_commands.specs.Performing.{Showing}
 use Rattle.mount_tower.specs.Identities.{HasEmptyList}
@@ -32,6 +34,7 @@ pub record MountMoves {V : Type 0} {K : Type 0} (trace : V → Option (List Call
   pub opened : new.opened ≡ old.opened
   pub fresh : new.core.violated ≡ false
   pub leaves : Leaves (tower trace faults G) (store_of old) old.core.saver.keeper (store_of new) new.core.saver.keeper result
+  pub least : StaysLeast (tower trace faults G) (store_of old) (kept_of G old) (kept_of G new)
 
 -- what a sync makes of what is kept
 pub record MountSyncs {V : Type 0} {K : Type 0} (shows : Showing) (trace : V → Option (List Call)) (faults : V → ℕ) (G : KeeperGhosts K) (old new : Mount V K) (result : Result Unit SyncError) : Type 0 where
@@ -39,6 +42,8 @@ pub record MountSyncs {V : Type 0} {K : Type 0} (shows : Showing) (trace : V →
   pub configures : (may : List (List ℕ)) (now : List ℕ) → TowerConfigures trace G old.core may now → ConfigSynced (tower_holdings trace) (tower_durables trace) records G new.core may now result
   pub emptied : OnOk result (HasEmptyList (kept_of G new))
   pub ok : OnOk result (new.core.saver.changed ≡ false)
+  -- also after an error, what was kept before or one of this mount's two records
+  pub keeps : SyncKeeps (tower_durables trace) G (store_of old) old.core.saver new.core.saver
   pub unmoved : old.core.saver.changed ≡ false → IsOk result × (new ≡ old)
 
 -- what a change of the password to this one makes of it, by the file that was sealed
@@ -71,3 +76,6 @@ pub record MountCloses {V : Type 0} {K : Type 0} (shows : Showing) (trace : V �
   pub left : (mount.core.violated ≡ true) ⊎ (mount.core.saver.changed ≡ false) → IsOk closing × (vault ≡ vault_in (store_of mount)) × (keeper ≡ mount.core.saver.keeper)
   pub emptied : mount.core.violated ≡ false → OnOk closing (HasEmptyList (G.kept keeper))
   pub versions : mount.core.violated ≡ false → OnOk closing (KeepsVersions (G.kept keeper) (version_of trace mount))
+  -- also after an error, what was kept before or one of this mount's two records
+  pub kept : mount.core.violated ≡ false → IsSameOrRecord (tower_durables trace) (store_of mount) (kept_of G mount) (G.kept keeper)
+  pub least : StaysLeast (tower trace faults G) (store_of mount) (kept_of G mount) (G.kept keeper)

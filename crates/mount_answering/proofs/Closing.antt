@@ -21,6 +21,8 @@ module _ {S : Type 0} {K : Type 0} (shows : Showing) (M : Meanings S) (H : Holdi
     configures = λ may now fresh s. absurd (true_is_false (sym violated ∙ fresh));
     left = λ none. (refl, refl, refl);
     emptied = λ fresh. absurd (true_is_false (sym violated ∙ fresh));
+    kept = λ fresh. absurd (true_is_false (sym violated ∙ fresh));
+    least = λ k. k;
     intact = intact;
   }
 
@@ -39,6 +41,8 @@ module _ {S : Type 0} {K : Type 0} (shows : Showing) (M : Meanings S) (H : Holdi
     configures = λ may now f s. config_closed shows M H D R G new may now result (z.configures may now s);
     left = left_synced old new result fresh z.unmoved;
     emptied = λ f. z.emptied;
+    kept = λ f. z.keeps.kept;
+    least = m.least;
     intact = m.ready.intact;
   }
 

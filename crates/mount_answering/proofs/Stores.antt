@@ -18,7 +18,9 @@ use Rattle.session_saver.specs.declared.saver.SyncError.{SyncError}
 use Rattle.tree_commands.specs.Performing.{is_sync}
 use Rattle.mount_core.specs.Answering.{StoreAnswers}
 use Rattle.mount_core.specs.Answers.{is_done_answer, OnFound, OnSpent}
+use Rattle.block_id.specs.declared.fail.Why.{Why}
 use Rattle.mount_core.specs.Causes.{FoundCause, MadeRoom, OnlyLoaded, SpentCause}
+use Rattle.mount_core.specs.NoticeLaws.{none_came}
 use Rattle.mount_answering.specs.Asking.{StoreAsked}
 use Rattle.mount_answering.proofs.Lines.{found_of, spent_on, stays_on, true_is_false}
 use Rattle.mount_answering.proofs.Loads.{found_on, only_on, only_synced, room_on}
@@ -26,10 +28,10 @@ use Rattle.mount_answering.proofs.Versions.{raised_on, raised_stays, spent_befor
 
 module _ {S : Type 0} {K : Type 0} (M : Meanings S) (H : Holdings S) (D : Durables S) (R : Records) (G : KeeperGhosts K) (violated changed : Bool) (command : Command) (answer : Answer) where
   -- a sync, and no more
-  pub store_synced : (a b : S) (k l : K) (result : Result Unit SyncError) → M.loaded b b → (changed ≡ false → b ≡ a) → (b ≡ a) ⊎ Wrote D a b → Leaves (world M H D R G) a k b l result
+  pub store_synced : (a b : S) (k l : K) (result : Result Unit SyncError) → M.loaded b b → ((why : Why) → M.gave b b why → ⊥) → (changed ≡ false → b ≡ a) → (b ≡ a) ⊎ Wrote D a b → Leaves (world M H D R G) a k b l result
       → (violated ≡ false → is_sync command ≡ false → MadeRoom M H D changed answer a b) → OnFound answer (FoundCause M H D changed a b) → RoseBy (directory_faults answer) (M.faults a) (M.faults b)
       → (directory_faults answer ≡ 0 → M.faults b ≡ M.faults a) → OnSpent answer (SpentCause H a command) → StoreAnswers M H D violated changed a (Ok command) answer b
-  store_synced a b k l result same unsynced wrote z room found cause quiet spent = record {
+  store_synced a b k l result same none unsynced wrote z room found cause quiet spent = record {
     stays = λ undone. z.stays;
     stays_synced = λ is. z.stays;
     identity = z.identity;
@@ -42,6 +44,12 @@ module _ {S : Type 0} {K : Type 0} (M : Meanings S) (H : Holdings S) (D : Durabl
     loads = only_synced M H D changed (is_done_answer answer) a b unsynced wrote z.stays same;
     room = room;
     found = found;
+    noticed = record {
+      since = only_synced M H D changed (is_done_answer answer) a b unsynced wrote z.stays same;
+      identity = z.identity;
+      least = z.least;
+      noticed = none_came answer (M.gave b b) none;
+    };
     vault_cause = cause;
     vault_quiet = quiet;
     spent = spent;
@@ -74,6 +82,12 @@ module _ {S : Type 0} {K : Type 0} (M : Meanings S) (H : Holdings S) (D : Durabl
     loads = only_on M H D changed (is_done_answer answer) a mid b unsynced wrote z.stays w.loads;
     room = λ fresh other. room_on M H D changed answer a mid b unsynced wrote z.stays spared few w.loads;
     found = found_after answer a mid b k l unsynced wrote z w.loads w.found;
+    noticed = record {
+      since = only_on M H D changed (is_done_answer answer) a mid b unsynced wrote z.stays w.loads;
+      identity = z.identity;
+      least = z.least;
+      noticed = w.noticed;
+    };
     vault_cause = omega (arith, w.vault_cause, z.vault_quiet);
     vault_quiet = λ none. w.vault_quiet none ∙ z.vault_quiet;
     spent = spent_on answer (SpentCause H mid command) (SpentCause H a command) (spent_before H a mid command z.stays) w.spent;

@@ -19,7 +19,7 @@ use Rattle.tree_commands.specs.Performing.{Showing, IsReplyTo}
 use Rattle.tree_commands.specs.Sparing.{OnWriteInside}
 use Rattle.mount_core.specs.declared.body.Core.{Core}
 use Rattle.mount_core.specs.Answering.{store_of}
-use Rattle.mount_core.specs.Answers.{is_done_answer, is_structure, OnFound, OnReply, OnSpent}
+use Rattle.mount_core.specs.Answers.{is_done_answer, is_structure, Notices, OnFound, OnReply, OnSpent}
 use Rattle.mount_core.specs.Causes.{OnlyLoaded, SpentCause}
 use Rattle.mount_core.specs.Configuring.{CoreConfigures}
 use Rattle.mount_core.specs.Sparing.{FewRaised}
@@ -61,6 +61,7 @@ pub record StoreAsked {S : Type 0} (M : Meanings S) (H : Holdings S) (D : Durabl
   pub unforged : M.sound a → M.lies b ≤ M.lies a → M.forgeries b ≤ M.forgeries a
   pub loads : OnlyLoaded M H D false (is_done_answer answer) a b
   pub found : OnFound answer (M.met a b)
+  pub noticed : Notices answer (M.gave a b)
   pub vault_grows : M.faults a ≤ M.faults b
   pub vault_cause : RoseBy (directory_faults answer) (M.faults a) (M.faults b)
   pub vault_quiet : directory_faults answer ≡ 0 → M.faults b ≡ M.faults a
@@ -82,7 +83,7 @@ pub record TreesSettled {S : Type 0} {K : Type 0} (shows : Showing) (W : World S
 pub record StoreSettled {S : Type 0} (M : Meanings S) (H : Holdings S) (D : Durables S) (a : S) (overlay : Changes) (command : Command) (answer : Answer) (b : S) : Type 0 where
   pub stays : is_done_answer answer ≡ false → Stays H a b
   pub loaded : is_done_answer answer ≡ false → M.loaded a b
-  pub uncalled : is_done_answer answer ≡ true → D.trace b ≡ D.trace a
+  pub uncalled : D.trace b ≡ D.trace a
   pub goes_on : GoesOn (D.trace a) (D.trace b)
   pub sound : M.sound a → M.sound b
   pub payload : H.payload b ≡ H.payload a

@@ -8,6 +8,7 @@ ghost use Rattle.store_api.specs.Durables.{with_mark};
 ghost use Rattle.tree_commands.specs.Performing.{is_sync, IsReplyTo};
 ghost use Rattle.tree_commands.specs.Showing.{ShowsFiles};
 ghost use Rattle.mount_core.specs.Answering.{FormAnswers, TreesAnswer, StoreAnswers, SaverAnswers};
+ghost use Rattle.mount_core.specs.Keeping.{LineKeeps};
 ghost use Rattle.mount_core.specs.Standing.{Ready, IsKeptMarked};
 ghost use Rattle.mount_answering.specs.Asking.{CanSettle, FormAsked, KeepsSaver, StoreAsked, StoreSettled, TreesAsked, TreesSettled};
 
@@ -128,7 +129,9 @@ pub fn answer<S: Durable, K: Keeper, R: Rng>(
         now core.old (Ok command.now) result core.new }
     ensures store { StoreAnswers S.meanings S.holdings S.durables core.old.violated core.old.saver.changed
         core.old.blobs.tx.store (Ok command.now) result core.new.blobs.tx.store }
-    ensures saver { SaverAnswers S.records K.Keeper core.old (Ok command.now) result core.new }
+    ensures saver { SaverAnswers (world S.meanings S.holdings S.durables S.records K.Keeper) core.old (Ok command.now)
+        result core.new }
+    ensures keeps { LineKeeps S.durables S.records K.Keeper core.old.blobs.tx.store core.old.saver result core.new.saver }
     ensures unmoved { is_sync command.now ≡ true → core.old.violated ≡ false → core.old.saver.changed ≡ false
         → (result ≡ Answer.Reply Reply.Done) × (core.new ≡ core.old) }
 {

@@ -82,6 +82,7 @@ module _ {V : Type 0} {K : Type 0} (trace : V → Option (List Call)) (faults : 
     spent = tt;
     unspent = λ one. absurd (cc (sym two ∙ one));
     raises = raises_none mount;
+    older = tt;
     least = tt;
     kept = λ unchanged. record {
       state = (held_in (store_of mount)).state;
@@ -115,6 +116,7 @@ module _ {V : Type 0} {K : Type 0} (trace : V → Option (List Call)) (faults : 
     spent = tt;
     unspent = tt;
     raises = raises_none mount;
+    older = one;
     least = one;
     kept = tt;
     unchanged = tt;
@@ -152,6 +154,7 @@ module _ {V : Type 0} {K : Type 0} (trace : V → Option (List Call)) (faults : 
       spent = tt;
       unspent = λ level. subst (AreUnspent (tower_holdings trace) (store_of old)) all m.unspent;
       raises = subst (Raises (tower_holdings trace) (store_of old) (store_of new)) all m.raises;
+      older = tt;
       least = tt;
       kept = λ unchanged. record { state = (held_in (store_of new)).state; keeps = record { bytes = m.done.bytes; kept = m.done.kept; is_record = m.done.is_record }; least = m.done.least };
       unchanged = λ unchanged. m.done.unchanged;
@@ -180,6 +183,7 @@ module _ {V : Type 0} {K : Type 0} (trace : V → Option (List Call)) (faults : 
       spent = subst (λ xs. OnSpent (told {T = ℕ} (Err e)) (IsSpentAmong (tower_holdings trace) (store_of old) xs)) all m.spent;
       unspent = tt;
       raises = subst (Raises (tower_holdings trace) (store_of old) (store_of new)) all m.raises;
+      older = one;
       least = m.least one;
       kept = tt;
       unchanged = tt;

@@ -57,7 +57,8 @@ pub record MigratesMount {V : Type 0} {K : Type 0} (shows : Showing) (trace : V 
   pub spent : OnSpent (told result) (IsSpentAmong (tower_holdings trace) (store_of old) (ids_in old))
   pub unspent : OnOk result (least_in old ≡ 1 → AreUnspent (tower_holdings trace) (store_of old) (ids_in old))
   pub raises : Raises (tower_holdings trace) (store_of old) (store_of new) (ids_in old)
-  -- after an error the older format is taken as before
+  -- an error is met only where the older format was taken, and it is taken as before
+  pub older : OnErr result (least_in old ≡ 1)
   pub least : OnErr result (least_in new ≡ 1)
   -- afterwards a record with an empty list is kept, which takes the newest format alone, and nothing is left to be saved
   pub kept : OnOk result (old.core.saver.changed ≡ false → KeepsNewest (kept_of G new))

@@ -8,11 +8,10 @@ use Rattle.fs_model.specs.Tree.{Tree}
 use Rattle.outcome.specs.Meanings.{Meanings}
 use Rattle.outside.specs.Causes.{RoseBy}
 use Rattle.outside.specs.Going.{GoesOn}
-use Rattle.outside.specs.declared.keeper.Keeper.{Ghosts as KeeperGhosts}
 use Rattle.answers.specs.declared.answer.Answer.{Answer}
 use Rattle.answers.specs.declared.answer.Answer.TheVariants.{Reply as Replied, Memory, Refused}
 use Rattle.answers.specs.Sessions.{Asked, FollowsAsked, is_violation, is_synced, directory_faults, state_faults}
-use Rattle.store_api.specs.Durables.{Durables, Records}
+use Rattle.store_api.specs.Durables.{Durables}
 use Rattle.store_api.specs.Holdings.{Holdings, Stays}
 use Rattle.store_api.specs.Lists.{waiting_weight}
 use Rattle.session_saver.specs.Saving.{World, KeepsEmpty, KeptConfigures, Wrote, Leaves}
@@ -21,8 +20,10 @@ use Rattle.tree_commands.specs.Performing.{Showing, is_sync, IsReplyTo}
 use Rattle.tree_commands.specs.Sparing.{OnWriteInside}
 use Rattle.mount_core.specs.declared.body.Core.{Core}
 use Rattle.mount_core.specs.Answers.{is_done_answer, is_structure, OnFound, OnReply, OnSpent}
-use Rattle.mount_core.specs.Causes.{FoundCause, MadeRoom, OnlyLoaded, SpentCause}
+use Rattle.mount_core.specs.Causes.{FoundCause, MadeRoom, OnlyLoaded, PassedNone, SpentCause}
 use Rattle.mount_core.specs.Configuring.{CoreConfigures, ConfigAnswered, ConfigClosed, ConfigSynced, Replaced}
+use Rattle.mount_core.specs.Keeping.{IsSameOrRecord, SyncKeeps, LineKeeps}
+use Rattle.mount_core.specs.Formats.{StaysLeast}
 use Rattle.mount_core.specs.Sparing.{FewRaised}
 use Rattle.mount_core.specs.Standing.{Ready, CoreStands, Synced, Roomed, IsKeptMarked, Left, Closed}
 
@@ -37,6 +38,7 @@ pub record CoreMoves {S : Type 0} {K : Type 0} (W : World S K) (old new : Core S
   pub leaves : Leaves W (store_of old) old.saver.keeper (store_of new) new.saver.keeper result
   pub violated : new.violated ≡ old.violated
   pub root : new.root ≡ old.root
+  pub least : StaysLeast W (store_of old) (W.keeper.kept old.saver.keeper) (W.keeper.kept new.saver.keeper)
 
 -- what a sync makes of what is kept
 pub record CoreSyncs {S : Type 0} {K : Type 0} (shows : Showing) (W : World S K) (old new : Core S K) (result : Result Unit SyncError) : Type 0 where
@@ -48,6 +50,7 @@ pub record CoreSyncs {S : Type 0} {K : Type 0} (shows : Showing) (W : World S K)
   pub ok : OnOk result (new.saver.changed ≡ false)
   pub unmoved : old.saver.changed ≡ false → IsOk result × (new ≡ old)
   pub wrote : (store_of new ≡ store_of old) ⊎ Wrote W.durables (store_of old) (store_of new)
+  pub keeps : SyncKeeps W.durables W.keeper (store_of old) old.saver new.saver
 
 -- what it makes of it where it comes first: where much waits, or the command is one
 pub record MakesRoom {S : Type 0} {K : Type 0} (shows : Showing) (W : World S K) (old : Core S K) (command : Command) (new : Core S K) (result : Result Unit SyncError) : Type 0 where
@@ -58,6 +61,7 @@ pub record MakesRoom {S : Type 0} {K : Type 0} (shows : Showing) (W : World S K)
   pub few : OnOk result (waiting_weight (W.durables.list (store_of new)) < 8388608)
   pub spared : is_sync command ≡ false → waiting_weight (W.durables.list (store_of old)) < 8388608 → IsOk result × (new ≡ old)
   pub wrote : (store_of new ≡ store_of old) ⊎ Wrote W.durables (store_of old) (store_of new)
+  pub keeps : SyncKeeps W.durables W.keeper (store_of old) old.saver new.saver
 
 -- what it makes of it where the configuration's file is to hold these bytes
 pub record CoreReplaces {S : Type 0} {K : Type 0} (shows : Showing) (W : World S K) (old : Core S K) (bytes : List ℕ) (new : Core S K) (result : Result Unit SyncError) : Type 0 where
@@ -73,6 +77,9 @@ pub record CoreCloses {S : Type 0} {K : Type 0} (shows : Showing) (W : World S K
   pub configures : (may : List (List ℕ)) (now : List ℕ) → core.violated ≡ false → CoreConfigures W.holdings W.durables W.records W.keeper core may now → ConfigClosed W.records (W.keeper.kept keeper) (W.durables.trace store) may now result
   pub left : (core.violated ≡ true) ⊎ (core.saver.changed ≡ false) → IsOk result × (store ≡ store_of core) × (keeper ≡ core.saver.keeper)
   pub emptied : core.violated ≡ false → OnOk result (KeepsEmpty W.durables store (W.keeper.kept keeper))
+  -- also after an error, what was kept before or one of this store's two records
+  pub kept : core.violated ≡ false → IsSameOrRecord W.durables (store_of core) (W.keeper.kept core.saver.keeper) (W.keeper.kept keeper)
+  pub least : StaysLeast W (store_of core) (W.keeper.kept core.saver.keeper) (W.keeper.kept keeper)
   pub intact : W.meanings.intact store
 
 -- ---- an answer
@@ -101,6 +108,7 @@ pub record StoreAnswers {S : Type 0} (M : Meanings S) (H : Holdings S) (D : Dura
   pub loads : OnlyLoaded M H D changed (is_done_answer answer) a b
   pub room : IfOk asked (λ command. violated ≡ false → is_sync command ≡ false → MadeRoom M H D changed answer a b)
   pub found : OnFound answer (FoundCause M H D changed a b)
+  pub noticed : PassedNone M H D changed answer a b
   pub vault_cause : RoseBy (directory_faults answer) (M.faults a) (M.faults b)
   pub vault_quiet : directory_faults answer ≡ 0 → M.faults b ≡ M.faults a
   pub spent : IfOk asked (λ command. OnSpent answer (SpentCause H a command))
@@ -126,17 +134,19 @@ pub record TreesAnswer {S : Type 0} {K : Type 0} (shows : Showing) (W : World S 
       → OnWriteInside (W.holdings.payload (store_of old)) present command (FewRaised W.holdings (store_of old) (store_of new)))
 
 -- and of what is kept: where nothing had changed since the last sync nothing was saved, only the reply Done came with a change, and a sync did nothing
-pub record SaverAnswers {S : Type 0} {K : Type 0} (R : Records) (G : KeeperGhosts K) (old : Core S K) (asked : Asked) (answer : Answer) (new : Core S K) : Type 0 where
+pub record SaverAnswers {S : Type 0} {K : Type 0} (W : World S K) (old : Core S K) (asked : Asked) (answer : Answer) (new : Core S K) : Type 0 where
   pub unsaved : old.saver.changed ≡ false → is_violation answer ≡ false → (new.saver.keeper ≡ old.saver.keeper) × (new.saver.last ≡ old.saver.last)
   pub unchanged : old.saver.changed ≡ false → is_violation answer ≡ false → is_done_answer answer ≡ false → new.saver.changed ≡ false
   pub unmoved : IfOk asked (λ command. is_sync command ≡ true → old.violated ≡ false → old.saver.changed ≡ false → ((answer ≡ Replied Done) ⊎ (answer ≡ Memory)) × (new ≡ old))
-  pub keeper_cause : RoseBy (state_faults answer) (G.faults old.saver.keeper) (G.faults new.saver.keeper)
-  pub keeper_quiet : state_faults answer ≡ 0 → is_violation answer ≡ false → G.faults new.saver.keeper ≡ G.faults old.saver.keeper
-  pub marked : is_violation answer ≡ true → IsKeptMarked R (G.kept new.saver.keeper) ⊎ RoseBy 1 (G.faults old.saver.keeper) (G.faults new.saver.keeper)
+  pub keeper_cause : RoseBy (state_faults answer) (W.keeper.faults old.saver.keeper) (W.keeper.faults new.saver.keeper)
+  pub keeper_quiet : state_faults answer ≡ 0 → is_violation answer ≡ false → W.keeper.faults new.saver.keeper ≡ W.keeper.faults old.saver.keeper
+  pub marked : is_violation answer ≡ true → IsKeptMarked W.records (W.keeper.kept new.saver.keeper) ⊎ RoseBy 1 (W.keeper.faults old.saver.keeper) (W.keeper.faults new.saver.keeper)
+  pub least : StaysLeast W (store_of old) (W.keeper.kept old.saver.keeper) (W.keeper.kept new.saver.keeper)
 
 -- asked this at this moment, a session gave this answer
 pub record LineAnswers {S : Type 0} {K : Type 0} (shows : Showing) (W : World S K) (moment : Instant) (old : Core S K) (asked : Asked) (answer : Answer) (new : Core S K) : Type 0 where
   pub form : FormAnswers old asked answer new
   pub trees : TreesAnswer shows W moment old asked answer new
   pub store : StoreAnswers W.meanings W.holdings W.durables old.violated old.saver.changed (store_of old) asked answer (store_of new)
-  pub saver : SaverAnswers W.records W.keeper old asked answer new
+  pub saver : SaverAnswers W old asked answer new
+  pub keeps : LineKeeps W.durables W.records W.keeper (store_of old) old.saver answer new.saver

@@ -17,14 +17,15 @@ use Rattle.answers.specs.Hosts.{IsLongReply}
 use Rattle.answers.specs.Sessions.{Asked, FollowsAsked, is_violation, is_refused, is_sync, is_synced, directory_faults, state_faults}
 use Rattle.answers.proofs.Looked.{long_stays}
 use Rattle.store_api.specs.Holdings.{Holdings}
-use Rattle.outcome.specs.Meanings.{Meanings}
+use Rattle.outcome.specs.Meanings.{Lawful, Meanings}
 use Rattle.store_api.specs.Durables.{Durables, Records}
 use Rattle.session_saver.proofs.Steps.{stays_same, true_is_false}
 use Rattle.mount_core.specs.declared.body.Core.{Core}
 use Rattle.mount_core.specs.Answering.{store_of, IsBadLineAnswer, LineAnswers}
 use Rattle.mount_core.specs.Answers.{is_done_answer, is_structure, OnFound, OnReply, OnSpent}
-use Rattle.mount_core.specs.Causes.{MadeRoom, OnlyLoaded}
+use Rattle.mount_core.specs.Causes.{MadeRoom, OnlyLoaded, PassedNone}
 use Rattle.mount_core.specs.Configuring.{ConfigAnswered}
+use Rattle.mount_core.specs.NoticeLaws.{none_came}
 use Rattle.tree_commands.specs.Performing.{Showing, IsReplyTo}
 use Rattle.tree_commands.specs.Performing as performing
 use Rattle.tree_commands.specs.Sparing.{OnWriteInside}
@@ -88,6 +89,14 @@ only_same M H D same s changed done = record { synced = s; unsynced = λ e. refl
 
 room_same : {S : Type 0} (M : Meanings S) (H : Holdings S) (D : Durables S) (same : (s : S) → M.loaded s s) (s : S) (changed : Bool) → MadeRoom M H D changed Memory s s
 room_same M H D same s changed = record { since = only_same M H D same s changed false; spared = λ few. refl; few = λ performed. absurd (true_is_false (sym performed)) }
+
+passed_same : {S : Type 0} (M : Meanings S) (H : Holdings S) (D : Durables S) (laws : Lawful M) (s : S) (changed : Bool) (answer : Answer) → PassedNone M H D changed answer s s
+passed_same M H D laws s changed answer = record {
+  since = only_same M H D laws.same s changed (is_done_answer answer);
+  identity = refl;
+  least = refl;
+  noticed = none_came answer (M.gave s s) (laws.gave_same s);
+}
 
 -- ---- nothing was done
 
@@ -174,7 +183,7 @@ no_sync (Ok command) FaultDirectory h = absurd h
 no_sync (Ok command) FaultState h = absurd h
 no_sync (Ok command) (Violation why) h = absurd h
 
-module _ {S : Type 0} {K : Type 0} (shows : Showing) (M : Meanings S) (H : Holdings S) (D : Durables S) (R : Records) (G : KeeperGhosts K) (same : (s : S) → M.loaded s s) (now : Instant) where
+module _ {S : Type 0} {K : Type 0} (shows : Showing) (M : Meanings S) (H : Holdings S) (D : Durables S) (R : Records) (G : KeeperGhosts K) (laws : Lawful M) (now : Instant) where
   pub idle : (core : Core S K) (asked : Asked) (answer : Answer) → IsNo answer → (core.violated ≡ true → answer ≡ Refused) → (core.violated ≡ false → answer ≢ Refused)
       → IfErr asked (λ error. IsBadLineAnswer error answer × (core ≡ core)) → ((tree : Tree) → core.violated ≡ false → FollowsAsked now tree asked answer tree)
       → IfOk asked (λ command. performing.is_sync command ≡ true → core.violated ≡ false → core.saver.changed ≡ false → ((answer ≡ Replied Done) ⊎ (answer ≡ Memory)) × (core ≡ core))
@@ -215,9 +224,10 @@ module _ {S : Type 0} {K : Type 0} (shows : Showing) (M : Meanings S) (H : Holdi
           forgeries = omega arith;
           lies = omega arith;
           unforged = λ sound honest. omega arith;
-          loads = only_same M H D same (store_of core) core.saver.changed (is_done_answer answer);
+          loads = only_same M H D laws.same (store_of core) core.saver.changed (is_done_answer answer);
           room = room;
           found = no_found answer _ none;
+          noticed = passed_same M H D laws (store_of core) core.saver.changed answer;
           vault_cause = omega (arith, d);
           vault_quiet = λ e. refl;
           spent = if_ok asked _ (λ command. no_spent answer _ none);
@@ -230,7 +240,9 @@ module _ {S : Type 0} {K : Type 0} (shows : Showing) (M : Meanings S) (H : Holdi
           keeper_cause = omega (arith, s);
           keeper_quiet = λ e f. refl;
           marked = λ e. absurd (true_is_false (sym e ∙ calm));
+          least = λ k. k;
         };
+        keeps = record { calm = λ f. record { kept = inl refl; last = inl refl }; marks = λ e. absurd (true_is_false (sym e ∙ calm)) };
       }
 
   refused_unread : (core : Core S K) (asked : Asked) → IfErr asked (λ error. IsBadLineAnswer error Refused × (core ≡ core))
@@ -257,7 +269,7 @@ module _ {S : Type 0} {K : Type 0} (shows : Showing) (M : Meanings S) (H : Holdi
   pub wanting : (core : Core S K) (asked : Asked) → core.violated ≡ false → LineAnswers shows (world M H D R G) now core asked Memory core
   wanting core asked v =
       idle core asked Memory tt (λ t. absurd (true_is_false (sym t ∙ v))) (λ f. memory_not_refused) (memory_unread core asked) (λ tree f. memory_follows tree asked)
-      (if_ok asked _ (λ command is f none. (inr refl, refl))) (if_ok asked _ (λ command f is. room_same M H D same (store_of core) core.saver.changed))
+      (if_ok asked _ (λ command is f none. (inr refl, refl))) (if_ok asked _ (λ command f is. room_same M H D laws.same (store_of core) core.saver.changed))
 
   -- ---- a reply whose text finds no memory
 
@@ -275,23 +287,33 @@ module _ {S : Type 0} {K : Type 0} (shows : Showing) (M : Meanings S) (H : Holdi
   unsaid_unmoved old new (Ok command) reply w = λ is fresh none. (inr refl, (w is fresh none).1)
   unsaid_unmoved old new (Err error) reply w = tt
 
+  abbrev unsaid_since : (a b : S) (changed : Bool) (reply : Reply) → IsLongReply reply → OnlyLoaded M H D changed (is_done_answer (Replied reply)) a b → OnlyLoaded M H D changed false a b
+  unsaid_since a b changed reply long l = record {
+    synced = l.synced;
+    unsynced = l.unsynced;
+    wrote = l.wrote;
+    stays = l.stays;
+    last = l.last;
+    loaded = l.loaded;
+    undone = λ e. l.undone (long_not_done reply long);
+    uncalled = l.uncalled;
+  }
+
+  unsaid_passed : (a b : S) (changed : Bool) (reply : Reply) → IsLongReply reply → PassedNone M H D changed (Replied reply) a b → PassedNone M H D changed Memory a b
+  unsaid_passed a b changed reply long n = record {
+    since = unsaid_since a b changed reply long n.since;
+    identity = n.identity;
+    least = n.least;
+    noticed = λ why needs. n.noticed why;
+  }
+
   unsaid_room : (old new : Core S K) (asked : Asked) (reply : Reply) → IsLongReply reply
       → IfOk asked (λ command. old.violated ≡ false → performing.is_sync command ≡ false → MadeRoom M H D old.saver.changed (Replied reply) (store_of old) (store_of new))
       → IfOk asked (λ command. old.violated ≡ false → performing.is_sync command ≡ false → MadeRoom M H D old.saver.changed Memory (store_of old) (store_of new))
   unsaid_room old new (Ok command) reply long w = λ f is.
       let r = w f is in
-      let l = r.since in
       record {
-        since = record {
-          synced = l.synced;
-          unsynced = l.unsynced;
-          wrote = l.wrote;
-          stays = l.stays;
-          last = l.last;
-          loaded = l.loaded;
-          undone = λ e. l.undone (long_not_done reply long);
-          uncalled = l.uncalled;
-        };
+        since = unsaid_since (store_of old) (store_of new) old.saver.changed reply long r.since;
         spared = r.spared;
         few = λ performed. absurd (true_is_false (sym performed));
       }
@@ -335,6 +357,7 @@ module _ {S : Type 0} {K : Type 0} (shows : Showing) (M : Meanings S) (H : Holdi
           loads = subst (λ d. OnlyLoaded M H D old.saver.changed d (store_of old) (store_of new)) (long_not_done reply long) l.loads;
           room = unsaid_room old new asked reply long l.room;
           found = tt;
+          noticed = unsaid_passed (store_of old) (store_of new) old.saver.changed reply long l.noticed;
           vault_cause = l.vault_cause;
           vault_quiet = l.vault_quiet;
           spent = if_ok asked _ (λ command. tt);
@@ -347,5 +370,7 @@ module _ {S : Type 0} {K : Type 0} (shows : Showing) (M : Meanings S) (H : Holdi
           keeper_cause = w.saver.keeper_cause;
           keeper_quiet = λ e f. w.saver.keeper_quiet e f;
           marked = λ e. absurd (true_is_false (sym e));
+          least = w.saver.least;
         };
+        keeps = record { calm = λ f. w.keeps.calm refl; marks = λ e. absurd (true_is_false (sym e)) };
       }

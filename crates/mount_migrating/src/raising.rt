@@ -27,7 +27,7 @@ pub(crate) fn raise_least<S: Durable, K: Keeper>(
     ensures done { OnOk result (IsMigratedRecord (world S.meanings S.holdings S.durables S.records K.Keeper) core.new) }
 {
     core.blobs.tx.store.set_least(2);
-    match core.saver.keep_short(alloc, &core.blobs.tx.store) {
+    match core.saver.keep_short(alloc, &mut core.blobs.tx.store) {
         Ok(()) => Ok(()),
         Err(error) => {
             core.blobs.tx.store.set_least(1);

@@ -9,9 +9,14 @@ use Rattle.program_inputs.specs.declared.options.Options.{Options}
 abbrev pub none_said : Options
 none_said = record { is_quiet = false; leaves_out = false }
 
--- a command and PATH, or `check` alone; no other command has such words
-abbrev pub own_words : List ℕ → ℕ
-own_words first = cond (is_copy first) 2 (cond (bytes_eq first (codes "check")) 1 0)
+-- `--all` stands first
+abbrev pub asks_all : List (List ℕ) → Bool
+asks_all [] = false
+asks_all (word ∷ words) = bytes_eq word (codes "--all")
+
+-- a command and PATH, `check --all` or `check` alone; no other command has such words
+abbrev pub own_words : List ℕ → List (List ℕ) → ℕ
+own_words first more = cond (is_copy first) 2 (cond (bytes_eq first (codes "check")) (cond (asks_all more) 2 1) 0)
 
 -- `--quiet`, and `--leave-out` of an import
 abbrev pub option_of : List ℕ → List ℕ → Option Options
@@ -43,7 +48,7 @@ behind own (Some options) = Some (own, options)
 abbrev pub options_of : List (List ℕ) → Option (ℕ × Options)
 options_of [] = None
 options_of (first ∷ more) =
-    let own = own_words first in
+    let own = own_words first more in
     cond (own == 0 || nat_lt (length (first ∷ more)) own) None (behind own (options_in first (drop own (first ∷ more))))
 
 abbrev pub how_in : Option (ℕ × Options) → Options

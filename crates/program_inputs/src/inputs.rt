@@ -137,22 +137,29 @@ impl Inputs {
         vault
     }
 
-    /// The record in the state folder, whose file is read only where the words need it.
-    pub fn make_keeper(&self, rt: &HostRuntime) -> Result<FolderKeeper<'_, HostRuntime>, Memory>
-        ensures { IfOk result (λ keeper. keeper.faults ≡ 0) }
+    /// The record in the state folder, whose file is read only where the words need it. These choices say which saves that will
+    /// fail are kept.
+    pub fn make_keeper(
+        &self,
+        rt: &HostRuntime,
+        choices: CallLog,
+    ) -> Result<FolderKeeper<'_, HostRuntime>, Memory>
+        ensures faults { IfOk result (λ keeper. keeper.faults ≡ 0) }
+        ensures choices { IfOk result (λ keeper. keeper.choices ≡ choices.events) }
     {
         if uses_record(rt.alloc(), &self.words)? {
-            FolderKeeper::new(rt.alloc(), *rt, &self.state, &self.folders)
+            FolderKeeper::new(rt.alloc(), *rt, &self.state, &self.folders, choices)
         } else {
-            FolderKeeper::unread(rt.alloc(), *rt, &self.state, &self.folders)
+            FolderKeeper::unread(rt.alloc(), *rt, &self.state, &self.folders, choices)
         }
     }
 }
 
-/// Whether the words ask for a check, or for `migrate`.
+/// Whether the words ask for a check, with `--all` or without, or for `migrate`.
 fn reads_each_block(words: &[String]) -> bool {
     match words {
         [word] => word.as_str() == "check" || word.as_str() == "migrate",
+        [word, option] => word.as_str() == "check" && option.as_str() == "--all",
         _ => false,
     }
 }

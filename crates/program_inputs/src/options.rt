@@ -1,7 +1,7 @@
 // The words behind those of a copy or a check that say how it goes.
 ghost use Rattle.std.specs.Prelude.{◌≡◌, map};
 ghost use Rattle.std.specs.String.{string_bytes};
-ghost use Rattle.program_inputs.specs.OptionWords.{both_of, how_said, none_said, option_of, options_in, options_of, own_words, words_kept};
+ghost use Rattle.program_inputs.specs.OptionWords.{asks_all, both_of, how_said, none_said, option_of, options_in, options_of, own_words, words_kept};
 
 /// How a copy or a check goes.
 #[derive(Clone, Copy)]
@@ -40,10 +40,10 @@ pub(crate) fn take_options(words: &mut Vec<String>) -> Options
 fn options_of(words: &[String]) -> Option<(usize, Options)>
     ensures { result ≡ options_of (map string_bytes words.now) }
 {
-    let [first, ..] = words else {
+    let [first, more @ ..] = words else {
         return None;
     };
-    let own = own_words(first.as_str());
+    let own = own_words(first.as_str(), more);
     if own == 0 || words.len() < own {
         return None;
     }
@@ -54,15 +54,25 @@ fn options_of(words: &[String]) -> Option<(usize, Options)>
 }
 
 /// How many own words a command has that has options behind them, itself among them; else 0.
-fn own_words(first: &str) -> usize
-    ensures { result ≡ own_words first.now }
+fn own_words(first: &str, more: &[String]) -> usize
+    ensures { result ≡ own_words first.now (map string_bytes more.now) }
 {
     if first == "import" || first == "export" {
         2
     } else if first == "check" {
-        1
+        if asks_all(more) { 2 } else { 1 }
     } else {
         0
+    }
+}
+
+/// Whether `--all` stands first.
+fn asks_all(words: &[String]) -> bool
+    ensures { result ≡ asks_all (map string_bytes words.now) }
+{
+    match words {
+        [word, ..] => word.as_str() == "--all",
+        [] => false,
     }
 }
 

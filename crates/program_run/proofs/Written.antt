@@ -22,7 +22,7 @@ use Rattle.session_lines.specs.declared.end.End.TheVariants.{Finished, InputFaul
 use Rattle.session_runs.specs.Runs.{Outside, outside_of, IsFounded}
 use Rattle.shell_sessions.specs.Sessions.{Session, IsServed, ComesShell, ComesCommand}
 use Rattle.shell_words.specs.declared.form.Form.{Form}
-use Rattle.shell_words.specs.declared.form.Form.TheVariants.{Trial, TrialGenerate, Create, Info, Passwd, Migrate, Shell, Generate, Command, Import, Export, Put, Get, Check}
+use Rattle.shell_words.specs.declared.form.Form.TheVariants.{Trial, TrialGenerate, Create, Info, Passwd, Migrate, Shell, Generate, Command, Import, Export, Put, Get, Check, Survey}
 use Rattle.shell_words.specs.Forms.{form_of, joined}
 use Rattle.tree_commands.specs.Showing.{ShowsFiles}
 use Rattle.program_run.specs.Program.{told, program_call}
@@ -96,6 +96,7 @@ module _ {V : Type 0} {K : Type 0} (trace : V → Option (List Call)) (faults : 
     did (Some Put) e d = absurd (cc)
     did (Some Get) e d = absurd (cc)
     did (Some Check) e d = absurd (cc)
+    did (Some Survey) e d = absurd (cc)
     did (Some Migrate) e d = absurd (cc)
 
   pub wrote : IsRunCall trace faults names G Ran → WritesSession words now before after old new

@@ -8,7 +8,7 @@ use Rattle.fs_model.specs.Instant.{Instant}
 use Rattle.line_io.specs.Streams.{Stream}
 use Rattle.outside.specs.Trace.{Call}
 use Rattle.outside.specs.declared.keeper.Keeper.{Ghosts as KeeperGhosts}
-use Rattle.real_folders.specs.Adapters.{FolderVaultState, FolderKeeperState}
+use Rattle.real_folders.specs.Adapters.{FolderVaultState, FolderKeeperState, kept_in}
 use Rattle.run_status.specs.declared.ended.Ended.{Ended}
 use Rattle.run_status.specs.declared.status.Status.{Status}
 use Rattle.run_histories.specs.Calls.{RunCall}
@@ -25,7 +25,7 @@ abbrev pub folder_names : FolderVaultState → Option (List (List ℕ))
 folder_names v = None
 
 abbrev pub folder_record : KeeperGhosts FolderKeeperState
-folder_record = record { kept = λ k. k.kept; room = λ k. k.room; faults = λ k. k.faults }
+folder_record = record { kept = kept_in; room = λ k. k.room; faults = λ k. k.faults }
 
 -- an input of which nothing is told but how often it failed
 abbrev pub untold : ℕ → ℕ → Stream
@@ -37,11 +37,11 @@ told old new faults risen = record { old = Some old; new = Some new; faults = fa
 
 -- as the run begins, after these calls on the block folder
 abbrev pub at_first : List Call → FolderKeeperState → Outside
-at_first calls keeper = record { kept = keeper.kept; calls = Some calls; vault_faults = 0; keeper_faults = keeper.faults }
+at_first calls keeper = record { kept = kept_in keeper; calls = Some calls; vault_faults = 0; keeper_faults = keeper.faults }
 
 -- as it ended
 abbrev pub at_last : Ended FolderVaultState FolderKeeperState → Outside
-at_last ended = record { kept = ended.keeper.kept; calls = Some ended.vault.calls; vault_faults = ended.vault.faults; keeper_faults = ended.keeper.faults }
+at_last ended = record { kept = kept_in ended.keeper; calls = Some ended.vault.calls; vault_faults = ended.vault.faults; keeper_faults = ended.keeper.faults }
 
 -- its words and moment, the random bytes before and after, its streams, its folder for copies, what was outside before and after, and its status
 abbrev pub program_call : List (List ℕ) → Instant → Chance → Chance → Stream → Stream → HostSeen → Outside → Outside → Status → RunCall

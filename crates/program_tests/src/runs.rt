@@ -57,7 +57,7 @@ fn run_words(
     let now = Moment::new(100, 5).ok_or(ErrorKind::InvalidInput)?;
     let words = owned(alloc, words)?;
     let inputs = Inputs::new(alloc, blocks, state, words, now, 1)?;
-    let keeper = inputs.make_keeper(rt)?;
+    let keeper = inputs.make_keeper(rt, CallLog::new())?;
     let mut sink = WriterSink::new(File::create(rt, output.as_path())?, ByteLog::new());
     let ended = run_program(
         rt,

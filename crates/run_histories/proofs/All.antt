@@ -38,7 +38,7 @@ goes_on : (first second third : Outside) → GoesOnFrom first second → GoesOnF
 goes_on first second third a b = record { kept = b.kept ∙ a.kept; calls = b.calls ∙ a.calls }
 
 -- something is kept where a tree is, or a marked record
-marked_is_some : (kept : Option (List ℕ)) → IsKeptMarked records kept → is_some kept ≡ true
+pub marked_is_some : (kept : Option (List ℕ)) → IsKeptMarked records kept → is_some kept ≡ true
 marked_is_some kept m = ap is_some m.1
 
 end_is_some : (c : Settings) (tree : Tree) (was : Bool) (end : Outside) → OutsideStandsFor ShowsFiles c tree end ⊎ ((was ≡ true) × IsKeptMarked records end.kept) → is_some end.kept ≡ true

@@ -1,3 +1,4 @@
 pub mod Called
 pub mod One
 pub mod All
+pub mod Formats

@@ -8,9 +8,11 @@ use Rattle.block_id.specs.declared.id.BlockId.{BlockId}
 use Rattle.check_runs.specs.Judging.{is_bad}
 use Rattle.check_runs.specs.Running.{RanCheck}
 use Rattle.check_runs.proofs.Leaving.{examined_run}
+use Rattle.check_runs.proofs.SurveyLeaving.{quiet_run}
 use Rattle.held_blocks.specs.Standing.{records}
 use Rattle.line_io.specs.Lines.{first_line}
 use Rattle.line_io.specs.Streams.{Untouched}
+use Rattle.mount.proofs.Formats.{equal_same}
 use Rattle.mount.specs.Making.{StaysThere}
 use Rattle.mount_tower.specs.declared.error.OpenError.{OpenError}
 use Rattle.mount_core.specs.Standing.{IsKeptMarked}
@@ -23,7 +25,7 @@ use Rattle.run_status.specs.declared.status.Status.TheVariants.{Done}
 use Rattle.session_runs.specs.Runs.{Outside, outside_of, OutsideStandsFor, IsQuietRun}
 use Rattle.shell_sessions.specs.Sessions.{Session}
 use Rattle.shell_words.specs.declared.form.Form.{Form}
-use Rattle.shell_words.specs.declared.form.Form.TheVariants.{Trial, TrialGenerate, Create, Info, Passwd, Migrate, Shell, Generate, Command, Import, Export, Put, Get, Check}
+use Rattle.shell_words.specs.declared.form.Form.TheVariants.{Trial, TrialGenerate, Create, Info, Passwd, Migrate, Shell, Generate, Command, Import, Export, Put, Get, Check, Survey}
 use Rattle.shell_words.specs.Forms.{form_of}
 use Rattle.tree_commands.specs.Showing.{ShowsFiles}
 use Rattle.histories.specs.Histories.{Run, session, quiet, examined, migrated, before_of, after_of, IsRun, GoesOnFrom}
@@ -76,6 +78,7 @@ module _ {V : Type 0} {K : Type 0} (trace : V → Option (List Call)) (faults : 
     stands = λ c tree f. subst (λ (v : V). OutsideStandsFor ShowsFiles c tree (outside_of trace faults G v h.ended.keeper)) (sym u.same_vault)
         (subst (λ (k : K). OutsideStandsFor ShowsFiles c tree (outside_of trace faults G h.vault k)) (sym u.same_keeper) f.stands);
     marked = λ m. (ap G.kept u.same_keeper, ap trace u.same_vault);
+    least = equal_same Before.kept After.kept (ap G.kept u.same_keeper);
   }
 
   next_first : (password : List ℕ) (script : Option (List ℕ)) → IsNextPassword call.input.old password script → (bytes : List ℕ) → call.input.old ≡ Some bytes → password ≡ first_line bytes
@@ -161,6 +164,10 @@ module _ {V : Type 0} {K : Type 0} (trace : V → Option (List Call)) (faults : 
   did_run (Some Put) e d = session_ran (Some Put) d
   did_run (Some Get) e d = session_ran (Some Get) d
   did_run (Some Check) e d = checked_ran d
+  did_run (Some Survey) e (inl u) = unread_ran (Some Survey) (PasswordUnread call.input) (one_unread call.input) u
+  did_run (Some Survey) e (inr (password, script, has, unfailed, inl ((error, u), unwritten))) = unopened_ran (Some Survey) password script has.is_next error u unwritten
+  did_run (Some Survey) e (inr (password, script, has, unfailed, inr t)) =
+      quiet_ran (Some Survey) password (next_first password script has.is_next) (quiet_run trace faults names G password call.output h.vault h.keeper h.ended t) (λ f. absurd (cc))
 
   -- what is said of what was outside and of the status, of the call's
   stated : (P : Outside → Outside → Status → Type 0) → P Before After h.ended.status → P call.before call.after call.status
@@ -214,6 +221,7 @@ module _ {V : Type 0} {K : Type 0} (trace : V → Option (List Call)) (faults : 
   did_stay (Some Put) e there d = absurd (cc)
   did_stay (Some Get) e there d = absurd (cc)
   did_stay (Some Check) e there d = absurd (cc)
+  did_stay (Some Survey) e there d = absurd (cc)
 
   pub other : opens (form_of call.words) ≡ false → (creates (form_of call.words) ≡ true → is_some call.before.kept ≡ true) → GoesOnFrom call.before call.after
   other e there =

@@ -4,6 +4,7 @@ use Rattle.std.specs.declared.option.Option.{Option}
 use Rattle.std.specs.declared.option.Option.TheVariants.{None, Some}
 use Rattle.rand_core.specs.Stream.{Stream as Chance}
 use Rattle.check_runs.specs.Running.{RanCheck}
+use Rattle.check_runs.specs.SurveyRuns.{RanSurvey}
 use Rattle.cryfs_setup.specs.Create.{RanCreate}
 use Rattle.cryfs_setup.specs.Info.{Told}
 use Rattle.cryfs_setup.specs.Migrate.{RanMigrate}
@@ -20,7 +21,7 @@ use Rattle.run_status.specs.declared.ended.Ended.{Ended}
 use Rattle.run_status.specs.declared.status.Status.{Status}
 use Rattle.session_runs.specs.Runs.{Outside, outside_of}
 use Rattle.shell_words.specs.declared.form.Form.{Form}
-use Rattle.shell_words.specs.declared.form.Form.TheVariants.{Create, Info, Passwd, Migrate, Check}
+use Rattle.shell_words.specs.declared.form.Form.TheVariants.{Create, Info, Passwd, Migrate, Check, Survey}
 use Rattle.shell_words.specs.Forms.{form_of}
 use Rattle.cryfs_shell.specs.Clauses.{IsRefusedRun, NoFalseAlarm, FaultsHappened, HostFaultsHappened}
 use Rattle.cryfs_shell.specs.Doing.{Does}
@@ -63,6 +64,7 @@ Did trace faults names G call vault keeper ended (Some Info) = Told trace faults
 Did trace faults names G call vault keeper ended (Some Passwd) = RanPasswd trace faults G call.chance call.left call.input call.output vault keeper ended
 Did trace faults names G call vault keeper ended (Some Migrate) = RanMigrate trace faults G call.input call.output vault keeper ended
 Did trace faults names G call vault keeper ended (Some Check) = RanCheck trace faults names G call.input call.output vault keeper ended
+Did trace faults names G call vault keeper ended (Some Survey) = RanSurvey trace faults names G call.input call.output vault keeper ended
 Did trace faults names G call vault keeper ended (Some form) = Does trace faults names G call.words call.now call.chance call.left call.input call.output call.host vault keeper ended form
 
 -- there was a call of `run` with these values, over a directory and a local record whose meanings are given

@@ -1,4 +1,5 @@
 // What a call of `run` is to those after it.
+ghost use Rattle.run_histories.specs.Formats.{EachLeavesNewest, EveryListKeepsNewest};
 ghost use Rattle.run_histories.specs.Lists.{OneRun, EveryListOfRuns, EveryListFromCreate};
 
 use histories::runs_compose;
@@ -20,3 +21,11 @@ pub fn every_list_of_runs<V: Vault + Listing, K: Keeper>()
 {
     runs_compose()
 }
+
+/// After a `create` that ended with Done, and a `migrate` that told how many blocks there are, the record that is kept takes
+/// block files of the newest format alone. It does so, or is marked, after any list of calls of `run` from there on, whatever
+/// they met.
+pub fn newest_stays<V: Vault + Listing, K: Keeper>()
+    ensures begins { EachLeavesNewest V.trace V.faults V.names K.Keeper }
+    ensures stays { EveryListKeepsNewest V.trace V.faults V.names K.Keeper }
+{}

@@ -5,4 +5,4 @@ mod call;
 mod law;
 
 pub use call::run_call;
-pub use law::{every_list_of_runs, one_run};
+pub use law::{every_list_of_runs, newest_stays, one_run};

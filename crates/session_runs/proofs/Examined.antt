@@ -9,4 +9,5 @@ quiet_examined shows password before after q = record {
   condemned = λ c tree f bad. absurd (cc);
   calm = λ c tree f honest. refl;
   marked = λ m. (refl, (q.marked m).0, (q.marked m).1);
+  least = q.least;
 }

@@ -1,11 +1,12 @@
 -- One more answer.
-use Rattle.std.proofs.Common.{◌≡◌, ◌⊎◌, ◌≤◌, ◌+◌, ◌^◌, ◌||◌, ◌&&◌, ℕ, Bool, true, false, List, [], ◌∷◌, refl, sym, ap, subst, ◌∙◌, inl, inr, arith}
+use Rattle.std.proofs.Common.{◌≡◌, ◌⊎◌, ◌≤◌, ◌+◌, ◌^◌, ◌||◌, ◌&&◌, ℕ, Bool, true, false, List, [], ◌∷◌, length, refl, sym, ap, subst, ◌∙◌, inl, inr, arith}
 use Rattle.std.specs.Prelude.{Ok, Err}
 use Rattle.std.specs.declared.option.Option.{Option}
 use Rattle.std.proofs.lemmas.Bool.{or_parts}
 use Rattle.fs_model.specs.Instant.{Instant}
 use Rattle.fs_model.specs.Tree.{Tree}
 use Rattle.outside.specs.Causes.{RoseBy}
+use Rattle.store_api.specs.Durables.{Identity}
 use Rattle.outside.specs.Going.{goes_on_same, goes_on_onward}
 use Rattle.outside.specs.Trace.{Call}
 use Rattle.outside.specs.declared.keeper.Keeper.{Ghosts as KeeperGhosts}
@@ -20,10 +21,12 @@ use Rattle.mount_core.specs.Standing.{IsKeptMarked, Left}
 use Rattle.mount.specs.declared.mount.Mount.{Mount}
 use Rattle.mount.specs.Tower.{tower, TowerStands}
 use Rattle.mount_tower.specs.Tower.{tower_holdings, tower_durables}
+use Rattle.mount.proofs.Formats.{stays_at}
 use Rattle.mount.proofs.Same.{same_mount}
-use Rattle.session_runs.specs.Answering.{calls_of, forgeries_of, lies_of, keeper_faults, version_of, kept_of, LineAnswered, MountAnswers}
+use Rattle.session_runs.specs.Answering.{store_of, calls_of, forgeries_of, lies_of, keeper_faults, version_of, kept_of, LineAnswered, MountAnswers}
 use Rattle.session_runs.specs.Causes.{IsAnswerTo, AreBuilt}
-use Rattle.session_runs.specs.Passing.{MountKeeps, LeftAt, PassedTrees, Passed}
+use Rattle.session_runs.specs.Passing.{MountKeeps, KeptAfter, LeftAt, PassedTrees, Passed}
+use Rattle.session_runs.proofs.Keeping.{kept_line}
 use Rattle.session_runs.proofs.Still.{rested_none, rested_on}
 use Rattle.session_runs.proofs.Rising.{on_spent, unread_spent, rose_on, spent_on}
 
@@ -42,6 +45,10 @@ violation_no_fault Refused e = refl
 and_false : (b : Bool) → (b && false) ≡ false
 and_false true = refl
 and_false false = refl
+
+or_true : (a b : Bool) → b ≡ true → (a || b) ≡ true
+or_true true b e = refl
+or_true false b e = e
 
 or_false : (a b : Bool) → b ≡ false → (a || b) ≡ a
 or_false true b e = refl
@@ -134,6 +141,13 @@ module _ {V : Type 0} {K : Type 0} (shows : Showing) (trace : V → Option (List
         | inr q ↦ inr (let z : state_faults e.answer ≡ 0 = ap state_faults r.0 in let k : keeper_faults G new ≡ keeper_faults G mid = ap (keeper_faults G) r.1 in omega (arith, z, q, k))
       ]
 
+  keeps_on : (old mid new : Mount V K) (e : Exchange) (es : List Exchange) → Passed shows trace faults G now old mid es → MountAnswers shows trace faults G now mid e.asked e.answer new
+      → ((tower_durables trace).identity (store_of old)).marked ≡ false → KeptAfter (is_violation e.answer || violated es) (λ id. version_of trace old id + length (e ∷ es)) (kept_of G old) (kept_of G new)
+  keeps_on old mid new e es p a unmarked =
+      kept_line trace G (store_of mid) (ap (λ (i : Identity). i.marked) p.identity ∙ unmarked) (kept_of G old) mid.core.saver new.core.saver (violated es) e.answer (is_violation e.answer) refl (is_violation e.answer || violated es)
+      (λ bad. ap (λ b. b || violated es) bad) (λ before. or_true (is_violation e.answer) (violated es) before) (λ id. version_of trace old id + length es) (λ id. version_of trace old id + length (e ∷ es))
+      (λ id. omega arith) (λ id. let r = p.rose id in omega (arith, r)) (p.keeps unmarked) a.line.keeps
+
   configures_on : (mid new : Mount V K) (e : Exchange) (es : List Exchange) (may : List (List ℕ)) (present : List ℕ) (flag : Bool) → violated es ≡ flag → mid.core.violated ≡ flag
       → MountAnswers shows trace faults G now mid e.asked e.answer new → ConfigAnswered (tower_holdings trace) (tower_durables trace) records G mid.core may present flag
       → ConfigAnswered (tower_holdings trace) (tower_durables trace) records G new.core may present (is_violation e.answer || violated es)
@@ -166,6 +180,9 @@ module _ {V : Type 0} {K : Type 0} (shows : Showing) (trace : V → Option (List
     rose = λ id. omega arith;
     spent = tt;
     opened = refl;
+    identity = refl;
+    level = refl;
+    least = λ k. k;
     rests = λ none idle. rested_none shows trace faults G now mount none;
     goes_on = goes_on_same (calls_of trace mount);
     forgeries = omega arith;
@@ -175,6 +192,7 @@ module _ {V : Type 0} {K : Type 0} (shows : Showing) (trace : V → Option (List
     vault_quiet = λ e. refl;
     keeper_quiet = λ v e. refl;
     marked = λ h. absurd (true_is_false (sym h));
+    keeps = λ unmarked. inr (inl refl);
     configures = λ may present c. c;
     unforged = λ first stands honest. omega arith;
     passes = λ first stands few. record { trees = []; session = tt; left = (first, refl, stands); alarm = λ h. refl; built = tt };
@@ -188,6 +206,9 @@ module _ {V : Type 0} {K : Type 0} (shows : Showing) (trace : V → Option (List
     rose = rose_on (version_of trace old) e es (version_of trace mid) p.rose (version_of trace new) a.line.store.raised;
     spent = spent_on (version_of trace old) e es (version_of trace mid) p.rose (last_of mid new e.asked e.answer a) p.spent;
     opened = a.opened ∙ p.opened;
+    identity = a.line.store.identity ∙ p.identity;
+    level = a.line.store.least ∙ p.level;
+    least = λ k. stays_at trace faults G ((tower_durables trace).least (store_of old)) (store_of mid) (kept_of G mid) (kept_of G new) p.level a.line.saver.least (p.least k);
     rests = λ none idle. rested_on shows trace faults G now old mid new e es (p.rests none idle.2) p.flag a idle;
     goes_on = goes_on_onward (calls_of trace old) (calls_of trace mid) (calls_of trace new) p.goes_on a.line.store.goes_on;
     forgeries = omega (arith, p.forgeries, a.line.store.forgeries);
@@ -197,6 +218,7 @@ module _ {V : Type 0} {K : Type 0} (shows : Showing) (trace : V → Option (List
     vault_quiet = λ n. a.line.store.vault_quiet (omega (arith, n)) ∙ p.vault_quiet (omega (arith, n));
     keeper_quiet = λ v n. a.line.saver.keeper_quiet (omega (arith, n)) (or_parts (is_violation e.answer) (violated es) v).0 ∙ p.keeper_quiet (or_parts (is_violation e.answer) (violated es) v).1 (omega (arith, n));
     marked = λ h. marked_on old mid new e es p a (is_violation e.answer) refl h;
+    keeps = λ unmarked. keeps_on old mid new e es p a unmarked;
     configures = λ may present c. configures_on mid new e es may present (violated es) refl p.flag a (p.configures may present c);
     unforged = λ first stands honest. unforged_on old mid new e es first p a stands honest;
     passes = λ first stands few.

@@ -9,7 +9,7 @@ use Rattle.outside.specs.declared.keeper.Keeper.{Ghosts as KeeperGhosts}
 use Rattle.store_api.specs.Content.{Content, Changes, SameContent}
 use Rattle.store_api.specs.Durables.{Identity, Durables, Records, Enduring}
 use Rattle.store_api.specs.Holdings.{Holdings, Stays}
-use Rattle.session_saver.specs.Saving.{RepresentsContent, KeptConfigures, Whole, CanMark, IsRecordOf, Unmoved, Saved, SavedConfig, LastAfterLong, UnlessDirectory, UnlessState, world, Leaves, Moves, Finishes, Syncs}
+use Rattle.session_saver.specs.Saving.{RepresentsContent, KeptConfigures, Whole, CanMark, IsRecordOf, Unmoved, Saved, SavedConfig, LastAfterLong, UnlessDirectory, UnlessState, world, IsLongKept, Leaves, Moves, Finishes, Syncs}
 use Rattle.session_saver.specs.declared.saver.Saver.{Saver}
 use Rattle.session_saver.specs.declared.saver.SyncError.{SyncError}
 use Rattle.session_saver.specs.declared.saver.SyncError.TheVariants.{Memory, FaultDirectory, FaultState}
@@ -262,3 +262,26 @@ module _ {S : Type 0} {K : Type 0} (M : Meanings S) (H : Holdings S) (D : Durabl
     keeps = inr (elim z.keeps [ inl stays ↦ (long, true, stays ∙ kept, is) | inr short ↦ (short.0, false, short.1, short.2) ]);
     can_mark = λ can. z.can_mark;
   }
+
+  -- ---- a store that is the same afterwards: what is said of it as it was is said of it as it is
+
+  pub record_after : (a b : S) (with_list : Bool) (bytes : List ℕ) → b ≡ a → D.is_record a with_list bytes → D.is_record b with_list bytes
+  record_after a b with_list bytes same is = subst (λ s. D.is_record s with_list bytes) (sym same) is
+
+  pub moves_to : (old new : Saver K) (a b c : S) (result : Result Unit SyncError) → c ≡ b → Moves (world M H D R G) old a new b result → Moves (world M H D R G) old a new c result
+  moves_to old new a b c result same z = subst (λ s. Moves (world M H D R G) old a new s result) (sym same) z
+
+  pub moves_from : (old new : Saver K) (a b c : S) (result : Result Unit SyncError) → b ≡ a → Moves (world M H D R G) old b new c result → Moves (world M H D R G) old a new c result
+  moves_from old new a b c result same z = subst (λ s. Moves (world M H D R G) old s new c result) same z
+
+  pub finishes_to : (old new : Saver K) (a b c : S) (result : Result Unit SyncError) → c ≡ b → Finishes (world M H D R G) old a new b result → Finishes (world M H D R G) old a new c result
+  finishes_to old new a b c result same z = subst (λ s. Finishes (world M H D R G) old a new s result) (sym same) z
+
+  pub finishes_from : (old new : Saver K) (a b c : S) (result : Result Unit SyncError) → b ≡ a → Finishes (world M H D R G) old b new c result → Finishes (world M H D R G) old a new c result
+  finishes_from old new a b c result same z = subst (λ s. Finishes (world M H D R G) old s new c result) same z
+
+  pub syncs_to : (old new : Saver K) (a b c : S) (result : Result Unit SyncError) → c ≡ b → Syncs (world M H D R G) old a new b result → Syncs (world M H D R G) old a new c result
+  syncs_to old new a b c result same z = subst (λ s. Syncs (world M H D R G) old a new s result) (sym same) z
+
+  pub long_kept_to : (saver : Saver K) (a b : S) → b ≡ a → IsLongKept (world M H D R G) saver a → IsLongKept (world M H D R G) saver b
+  long_kept_to saver a b same z = subst (λ s. IsLongKept (world M H D R G) saver s) (sym same) z

@@ -30,11 +30,12 @@ pub struct Saver<K> {
 fn record_to_save<K: Keeper, S: Durable>(
     alloc: Global,
     keeper: &mut K,
-    store: &S,
+    store: &mut S,
     with_list: bool,
 ) -> Result<Vec<u8>, Memory>
-    requires { S.meanings.intact store.now }
-    ensures record_ { IfOk result (λ bytes. bytes.items ≡ S.durables.local_record_of store.now with_list) }
+    requires { S.meanings.intact store.old }
+    ensures record_ { IfOk result (λ bytes. bytes.items ≡ S.durables.local_record_of store.old with_list) }
+    ensures same { store.new ≡ store.old }
     ensures fits { IfOk result (λ bytes. length bytes.items ≤ K.room keeper.new) }
     ensures kept { K.kept keeper.new ≡ K.kept keeper.old }
     ensures room { K.room keeper.old ≤ K.room keeper.new }
@@ -131,12 +132,13 @@ impl<K: Keeper> Saver<K> {
 
     /// Keeps the record with an empty list, where nothing waits and nothing changed since the last whole sync. After a failed
     /// save either record may be kept, so that the next sync saves again.
-    pub fn keep_short<S: Durable>(&mut self, alloc: Global, store: &S) -> Result<(), SyncError>
-        requires intact { S.meanings.intact store.now }
+    pub fn keep_short<S: Durable>(&mut self, alloc: Global, store: &mut S) -> Result<(), SyncError>
+        requires intact { S.meanings.intact store.old }
         requires room { length self.old.last.items ≤ K.room self.old.keeper }
-        requires none { S.durables.list store.now ≡ [] }
+        requires none { S.durables.list store.old ≡ [] }
         requires unchanged { self.old.changed ≡ false }
-        ensures saves { ShortSaved S.durables K.Keeper store.now self.old self.new result }
+        ensures saves { ShortSaved S.durables K.Keeper store.old self.old self.new result }
+        ensures same { store.new ≡ store.old }
         ensures room { length self.new.last.items ≤ K.room self.new.keeper }
         ensures keeper_grows { K.faults self.old.keeper ≤ K.faults self.new.keeper }
         ensures keeper_cause { IsErrOf result SyncError.FaultState → RoseBy 1 (K.faults self.old.keeper) (K.faults self.new.keeper) }

@@ -8,7 +8,7 @@ use Rattle.shell_words.specs.declared.create_options.CreateOptions.{CreateOption
 use Rattle.shell_words.specs.CreateOptions.{options_of}
 use Rattle.script_text.specs.Grammar.{verb_of}
 use Rattle.shell_words.specs.declared.form.Form.{Form}
-use Rattle.shell_words.specs.declared.form.Form.TheVariants.{Trial, TrialGenerate, Create, Info, Passwd, Migrate, Shell, Generate, Command, Import, Export, Put, Get, Check}
+use Rattle.shell_words.specs.declared.form.Form.TheVariants.{Trial, TrialGenerate, Create, Info, Passwd, Migrate, Shell, Generate, Command, Import, Export, Put, Get, Check, Survey}
 use Rattle.shell_words.specs.Forms.{count_of, single_form, plain_form, other_form, copy_word, copy_path, copy_or_other, form_of, is_create}
 
 -- a form other than that of `create`
@@ -75,7 +75,9 @@ plain_other : (words : List (List ℕ)) → IsIn IsOther (plain_form words)
 unfolding plain_form
 plain_other [] = tt
 plain_other (first ∷ []) = single_other first
-plain_other (first ∷ second ∷ []) = either IsOther (bytes_eq first (codes "generate")) (option_map Generate (count_of second)) None (counted Generate (count_of second) (λ n. tt)) tt
+plain_other (first ∷ second ∷ []) =
+    either IsOther (bytes_eq first (codes "generate")) (option_map Generate (count_of second)) _ (counted Generate (count_of second) (λ n. tt))
+    (either IsOther (bytes_eq first (codes "check") && bytes_eq second (codes "--all")) (Some Survey) None tt tt)
 plain_other (first ∷ second ∷ third ∷ []) =
     either IsOther (bytes_eq first (codes "trial") && bytes_eq second (codes "generate")) (option_map TrialGenerate (count_of third)) None (counted TrialGenerate (count_of third) (λ n. tt)) tt
 plain_other (first ∷ second ∷ third ∷ fourth ∷ more) = tt

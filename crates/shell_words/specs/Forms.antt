@@ -13,7 +13,7 @@ use Rattle.script_text.specs.Grammar.{verb_of, command_of}
 use Rattle.script_text.specs.Numbers.{number_of, below}
 use Rattle.shell_words.specs.CreateOptions.{options_of}
 use Rattle.shell_words.specs.declared.form.Form.{Form}
-use Rattle.shell_words.specs.declared.form.Form.TheVariants.{Trial, TrialGenerate, Create, Info, Passwd, Migrate, Shell, Generate, Command, Import, Export, Put, Get, Check}
+use Rattle.shell_words.specs.declared.form.Form.TheVariants.{Trial, TrialGenerate, Create, Info, Passwd, Migrate, Shell, Generate, Command, Import, Export, Put, Get, Check, Survey}
 use Rattle.shell_words.specs.declared.words.TheConstants.{MAX_GENERATE}
 
 -- 1 to 7 decimal digits, a number of at most 1,000,000
@@ -30,10 +30,12 @@ single_form word =
     (cond (bytes_eq word (codes "shell")) (Some Shell)
     (cond (bytes_eq word (codes "check")) (Some Check) None)))))
 
--- a word that stands alone, `generate N` or `trial generate N`
+-- a word that stands alone, `generate N`, `check --all` or `trial generate N`
 unfoldable pub plain_form : List (List ℕ) → Option Form
 plain_form (first ∷ []) = single_form first
-plain_form (first ∷ second ∷ []) = cond (bytes_eq first (codes "generate")) (option_map Generate (count_of second)) None
+plain_form (first ∷ second ∷ []) =
+    cond (bytes_eq first (codes "generate")) (option_map Generate (count_of second))
+    (cond (bytes_eq first (codes "check") && bytes_eq second (codes "--all")) (Some Survey) None)
 plain_form (first ∷ second ∷ third ∷ []) =
     cond (bytes_eq first (codes "trial") && bytes_eq second (codes "generate")) (option_map TrialGenerate (count_of third)) None
 plain_form _ = None

@@ -33,4 +33,6 @@ pub enum Form {
     Get,
     /// Whether the whole file system is sound, and which path owns each block.
     Check,
+    /// The same, and each block that is refused where it isn't; what is kept is never marked.
+    Survey,
 }

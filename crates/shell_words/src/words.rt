@@ -42,7 +42,7 @@ fn is_command(word: &str) -> bool
     COMMANDS.contains(&word)
 }
 
-/// A word that stands alone, `generate N` or `trial generate N`.
+/// A word that stands alone, `generate N`, `check --all` or `trial generate N`.
 #[tactic(auto, unfolding(crate::specs::Forms::plain_form))]
 fn read_plain_form(words: &[String]) -> Option<Form>
     ensures value { result ≡ plain_form (map string_bytes words.now) }
@@ -53,6 +53,8 @@ fn read_plain_form(words: &[String]) -> Option<Form>
         [first, second] => {
             if first.as_str() == "generate" {
                 Some(Form::Generate(read_count(second.as_bytes())?))
+            } else if first.as_str() == "check" && second.as_str() == "--all" {
+                Some(Form::Survey)
             } else {
                 None
             }

@@ -151,8 +151,9 @@ pub(crate) fn change_and_sync<S: Tower, K: Keeper + Drop>(
 /// How many bytes wait, and how many the record has with its list and with an empty one.
 pub(crate) type Sizes = (usize, usize, usize);
 
-fn sizes_of<S: Durable>(alloc: Global, store: &S) -> Result<Sizes, Fail>
-    requires { S.Durable.meanings.intact store.now }
+fn sizes_of<S: Durable>(alloc: Global, store: &mut S) -> Result<Sizes, Fail>
+    requires { S.Durable.meanings.intact store.old }
+    ensures { store.new ≡ store.old }
 {
     let with_list = store.state_bytes(alloc, true)?;
     let without = store.state_bytes(alloc, false)?;
@@ -192,7 +193,7 @@ pub(crate) fn configure_and_sync<S: Tower, K: Keeper + Drop>(
 {
     let mut store = changed(alloc, store, changes)?;
     let sizes = match configure(alloc, &mut store, bytes) {
-        Ok(()) => sizes_of(alloc, &store),
+        Ok(()) => sizes_of(alloc, &mut store),
         Err(fail) => Err(fail),
     };
     match sizes {

@@ -154,7 +154,7 @@ fn reopen<V: Vault + Drop, C: Sealer + Drop>(
 }
 
 /// The store that was opened anew, the keeper, and what the load answered.
-pub struct Reopened<V, C, K> {
+pub struct Reopened<V, C: Sealer, K> {
     pub store: IntegrityStore<V, C>,
     pub keeper: K,
     pub answer: Option<Vec<u8>>,

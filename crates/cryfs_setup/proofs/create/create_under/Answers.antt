@@ -18,6 +18,8 @@ returns-clause-created g c =
       directory_quiet = m.vault_quiet;
       state_quiet = m.keeper_quiet;
       versions = m.versions;
+      newest = m.newest;
+      salt = m.salt;
     }
 
 pub returns-clause-causes : goal.returns-clause-causes

@@ -1,3 +1,4 @@
+use Rattle.mount.proofs.Formats.{opened_level}
 use Rattle.session_runs.proofs.Unopened.{unopened, caused}
 use Rattle.cryfs_setup.proofs.opening.open.Goals as goal
 
@@ -17,6 +18,7 @@ returns-in-Ok-clause-begun g c =
       vault_quiet = e.vault_quiet;
       keeper_quiet = e.keeper_quiet;
       versions = e.versions;
+      level = opened_level g.V.Vault.trace g.V.Vault.faults g.K.Keeper c.in-Ok.mount e.ready e.unchanged c.args.password.now (g.K.Keeper.kept c.args.keeper) _ _ _ e.attached;
     }
 
 pub returns-in-Err-clause-unopened : goal.returns-in-Err-clause-unopened

@@ -4,9 +4,11 @@ use Rattle.mount_core.specs.Answering.{LineAnswered, StoreAnswers}
 use Rattle.mount_core.specs.LineLaws.{refused}
 use Rattle.mount_answering.proofs.Stores.{store_synced, store_on}
 use Rattle.fs_model.specs.Tree.{Tree}
+use Rattle.std.specs.declared.option.Option.TheVariants.{Some}
 use Rattle.outside.specs.Causes.{RoseBy}
 use Rattle.outside.specs.Going.{GoesOn, goes_on_onward, goes_on_same}
 use Rattle.session_saver.specs.declared.saver.Saver.{Saver}
+use Rattle.store_api.specs.Durables.{with_mark}
 use Rattle.store_api.specs.Holdings.{Stays}
 use Rattle.store_api.specs.declared.tx.Tx.{Tx}
 use Rattle.tree_commands.specs.Performing.{IsReplyTo}
@@ -21,9 +23,11 @@ use Rattle.mount_core.specs.Causes.{SpentCause, OnlyLoaded, MadeRoom, FoundCause
 use Rattle.mount_core.specs.Sparing.{FewRaised}
 use Rattle.mount_core.specs.Configuring.{ConfigAnswered}
 use Rattle.mount_core.specs.Standing.{CoreStands, IsKeptMarked, Roomed}
+use Rattle.mount_answering.proofs.Formats.{least_marked}
 use Rattle.mount_answering.proofs.Loads.{only_on, only_synced, found_on, room_on, room_stopped}
 use Rattle.mount_core.proofs.Moving.{stays_same}
 use Rattle.mount_answering.proofs.Lines.{found_calm, found_map, answered_err, answered_synced, answered_performed, answered_violation, stays_on, sync_each, sync_reads, no_violation, spent_on, config_marked, config_calm, marked_or, true_is_false}
+use Rattle.mount_answering.proofs.Keeping.{asked_keeps, marked_kept}
 use Rattle.mount_answering.proofs.Versions.{Raised, raised_same, raised_stays, raised_on, few_stays, few_on, always_inside, on_inside, spent_before}
 use Rattle.mount_answering.proofs.Quiet.{sync_directory, sync_state, sync_directory_rose, sync_state_rose}
 use Rattle.mount_answering.proofs.answering.answer.Given.{Over}
@@ -41,8 +45,8 @@ either g core kept present P (inr m) f = f present m
 
 pub returns-then-core : goal.returns-then-core
 returns-then-core g c =
-    let r = refused ShowsFiles g.S.Blocks.meanings g.S.Blocks.holdings g.S.Durable.durables g.S.Durable.records g.K.Keeper g.met.S.Blocks.lawful.same c.args.now c.args.core.now (Ok c.args.command.now) c.if-core.true in
-    record { ready = c.requires.ready; form = r.form; trees = r.trees; store = r.store; saver = r.saver; unmoved = λ is fresh unchanged. absurd (true_is_false (sym c.if-core.true ∙ fresh)) }
+    let r = refused ShowsFiles g.S.Blocks.meanings g.S.Blocks.holdings g.S.Durable.durables g.S.Durable.records g.K.Keeper g.met.S.Blocks.lawful c.args.now c.args.core.now (Ok c.args.command.now) c.if-core.true in
+    record { ready = c.requires.ready; form = r.form; trees = r.trees; store = r.store; saver = r.saver; keeps = r.keeps; unmoved = λ is fresh unchanged. absurd (true_is_false (sym c.if-core.true ∙ fresh)) }
 
 pub returns-in-Err : goal.returns-in-Err
 returns-in-Err g c =
@@ -81,7 +85,7 @@ returns-in-Err g c =
         built = λ kept present fresh s few. each (λ a. is_structure a ≡ false) refl refl refl;
         sparing = λ kept present s few. always_inside (H.payload store) present command (FewRaised H store new.blobs.tx.store) (λ most. few_stays H store new.blobs.tx.store most l.stays);
       };
-      store = store_synced M H D R g.K.Keeper old.violated old.saver.changed command c.sync_answer.result store new.blobs.tx.store old.saver.keeper new.saver.keeper _ same unsynced z.makes_room.wrote l
+      store = store_synced M H D R g.K.Keeper old.violated old.saver.changed command c.sync_answer.result store new.blobs.tx.store old.saver.keeper new.saver.keeper _ same (g.met.S.Blocks.lawful.gave_same new.blobs.tx.store) unsynced z.makes_room.wrote l
           (λ fresh other. subst (λ a. MadeRoom M H D old.saver.changed a store new.blobs.tx.store) (sym answer)
           (room_stopped M H D old.saver.changed error store new.blobs.tx.store unsynced z.makes_room.wrote l.stays (λ few. ap (λ (core : CoreOf g). core.blobs.tx.store) (z.makes_room.spared other few).1) same))
           (each (λ a. OnFound a (FoundCause M H D old.saver.changed store new.blobs.tx.store)) tt tt tt)
@@ -95,7 +99,9 @@ returns-in-Err g c =
         keeper_cause = subst (λ a. RoseBy (state_faults a) (failed old.saver.keeper) (failed new.saver.keeper)) (sym answer) (sync_state_rose error _ _ l.keeper_grows l.keeper_cause);
         keeper_quiet = λ none calm. sync_state error _ l.keeper_quiet (subst (λ a. state_faults a ≡ 0) answer none);
         marked = λ bad. absurd (true_is_false (sym bad ∙ calm));
+        least = z.moves.least;
       };
+      keeps = record { calm = λ calm. z.makes_room.keeps; marks = λ bad. absurd (true_is_false (sym bad ∙ calm)) };
       unmoved = λ is fresh unchanged. absurd (unmoved unchanged);
     }
 
@@ -130,7 +136,7 @@ returns-then-is_sync g c =
         built = λ kept present fresh s few. refl;
         sparing = λ kept present s few. always_inside (H.payload store) present command (FewRaised H store new.blobs.tx.store) (λ most. few_stays H store new.blobs.tx.store most l.stays);
       };
-      store = store_synced M H D R g.K.Keeper old.violated old.saver.changed command _ store new.blobs.tx.store old.saver.keeper new.saver.keeper _ (g.met.S.Blocks.lawful.same new.blobs.tx.store) unsynced z.makes_room.wrote l
+      store = store_synced M H D R g.K.Keeper old.violated old.saver.changed command _ store new.blobs.tx.store old.saver.keeper new.saver.keeper _ (g.met.S.Blocks.lawful.same new.blobs.tx.store) (g.met.S.Blocks.lawful.gave_same new.blobs.tx.store) unsynced z.makes_room.wrote l
           (λ fresh other. absurd (true_is_false (sym is ∙ other))) tt (omega (arith, l.vault_grows)) (λ none. l.vault_quiet) tt;
       saver = record {
         unsaved = λ unchanged calm. (ap (λ (core : CoreOf g). core.saver.keeper) (z.makes_room.unmoved unchanged).1, ap (λ (core : CoreOf g). core.saver.last) (z.makes_room.unmoved unchanged).1);
@@ -139,7 +145,9 @@ returns-then-is_sync g c =
         keeper_cause = omega (arith, l.keeper_grows);
         keeper_quiet = λ none calm. l.keeper_quiet;
         marked = λ bad. absurd (true_is_false (sym bad));
+        least = z.moves.least;
       };
+      keeps = record { calm = λ calm. z.makes_room.keeps; marks = λ bad. absurd (true_is_false (sym bad)) };
       unmoved = λ is fresh unchanged. (refl, (z.makes_room.unmoved unchanged).1);
     }
 
@@ -150,6 +158,7 @@ returns-in-Violation g c =
     let D = g.S.Durable.durables in
     let R = g.S.Durable.records in
     let failed = g.K.Keeper.faults in
+    let kept = g.K.Keeper.kept in
     let old = c.args.core.now in
     let store = old.blobs.tx.store in
     let command = c.args.command.now in
@@ -197,7 +206,10 @@ returns-in-Violation g c =
         keeper_cause = omega (arith, w.form.unfaulted, ap failed w.saver.keeper, l.keeper_quiet, c.mark.ensures.keeper_grows);
         keeper_quiet = λ none calm. absurd (true_is_false (sym bad ∙ calm));
         marked = λ bad. subst (λ n. IsKeptMarked R (g.K.Keeper.kept new.saver.keeper) ⊎ RoseBy 1 n (failed new.saver.keeper)) (ap failed w.saver.keeper ∙ l.keeper_quiet) c.mark.ensures.marked;
+        least = least_marked M H D R g.K.Keeper store (kept old.saver.keeper) (kept room.saver.keeper) (kept new.saver.keeper)
+            (marked_or R asked.saver (kept new.saver.keeper) w.ready.can_mark (subst (λ k. (kept new.saver.keeper ≡ Some (with_mark asked.saver.last.items)) ⊎ (kept new.saver.keeper ≡ k)) (ap kept w.saver.keeper) c.mark.ensures.kept)) z.moves.least;
       };
+      keeps = record { calm = λ calm. absurd (true_is_false (sym bad ∙ calm)); marks = λ bad. marked_kept D g.K.Keeper R store old.saver room.saver asked.saver new.saver z.makes_room.keeps w.saver.keeper w.saver.last w.ready.can_mark.marks c.mark.ensures.kept };
       unmoved = λ is fresh unchanged. absurd (true_is_false (sym is ∙ other));
     }
 
@@ -208,6 +220,7 @@ returns-in_default g c =
     let D = g.S.Durable.durables in
     let R = g.S.Durable.records in
     let failed = g.K.Keeper.faults in
+    let kept = g.K.Keeper.kept in
     let old = c.args.core.now in
     let store = old.blobs.tx.store in
     let command = c.args.command.now in
@@ -247,6 +260,8 @@ returns-in_default g c =
         keeper_cause = omega (arith, w.form.unfaulted, ap failed w.saver.keeper, l.keeper_quiet);
         keeper_quiet = λ none calm. ap failed w.saver.keeper ∙ l.keeper_quiet;
         marked = λ bad. absurd (true_is_false (sym bad ∙ calm));
+        least = least_marked M H D R g.K.Keeper store (kept old.saver.keeper) (kept room.saver.keeper) (kept new.saver.keeper) (inr (ap kept w.saver.keeper)) z.moves.least;
       };
+      keeps = record { calm = λ calm. asked_keeps D g.K.Keeper store old.saver room.saver new.saver z.makes_room.keeps w.saver.keeper w.saver.last; marks = λ bad. absurd (true_is_false (sym bad ∙ calm)) };
       unmoved = λ is fresh unchanged. absurd (true_is_false (sym is ∙ other));
     }

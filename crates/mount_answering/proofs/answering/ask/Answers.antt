@@ -12,8 +12,9 @@ use Rattle.store_api.specs.Overlay.{lawful_over}
 use Rattle.tree_commands.specs.Performing.{IsReplyTo}
 use Rattle.tree_commands.specs.Showing.{ShowsFiles}
 use Rattle.tree_commands.proofs.Shows.{files_same}
-use Rattle.mount_core.specs.Answers.{is_done_answer, is_structure, OnReply, OnSpent, OnFound}
+use Rattle.mount_core.specs.Answers.{is_done_answer, is_structure, Notices, OnReply, OnSpent, OnFound}
 use Rattle.mount_core.specs.Causes.{SpentCause}
+use Rattle.mount_core.specs.NoticeLaws.{none_came, notices_of}
 use Rattle.mount_core.specs.Sparing.{FewRaised}
 use Rattle.mount_core.specs.Standing.{CorePerformed}
 use Rattle.mount_core.specs.declared.body.Core.{Core}
@@ -90,7 +91,7 @@ returns-in-Ok g c =
       };
       store = record {
         stays = λ undone. stays_on H store asked_of new stays (z.store.stays undone);
-        loads = only_asked M H D (is_done_answer answer) store asked_of new o.loaded (λ undone. lawful.onward store asked_of new o.loaded (z.store.loaded undone)) z.store.uncalled;
+        loads = only_asked M H D (is_done_answer answer) store asked_of new o.loaded (λ undone. lawful.onward store asked_of new o.loaded (z.store.loaded undone)) (λ done. z.store.uncalled);
         goes_on = goes_on_onward _ (D.trace asked_of) _ (endures.loaded_goes_on store asked_of o.loaded) z.store.goes_on;
         sound = λ sound few. z.store.sound (o.sound sound (unforged few));
         payload = z.store.payload ∙ stays.payload;
@@ -100,6 +101,7 @@ returns-in-Ok g c =
         lies = omega (arith, z.store.lies, lawful.lies_grow store asked_of o.loaded);
         unforged = λ sound honest. omega (arith, z.store.forgeries, lawful.honest_unforged store asked_of o.loaded sound (omega (arith, z.store.lies, honest)));
         found = each (λ a. OnFound a (M.met store new)) tt tt tt;
+        noticed = none_came answer (M.gave store new) (λ why gave. o.noticed why (endures.gave_along store asked_of new why z.store.uncalled gave));
         vault_grows = omega (arith, z.store.faults, lawful.faults_grow store asked_of o.loaded);
         vault_cause = each (λ a. RoseBy (directory_faults a) (M.faults store) (M.faults new)) rose rose rose;
         vault_quiet = λ none. z.store.faults ∙ o.quiet;
@@ -176,6 +178,8 @@ returns-in-Err g c =
         lies = lawful.lies_grow store after loaded;
         unforged = lawful.honest_unforged store after loaded;
         found = subst (λ a. OnFound a (M.met store after)) (sym answer) (found_of fail (M.met store c.perform.new.blobs.tx.store) (M.met store after) (λ why. subst (λ x. M.met store x why) (sym e)) o.met);
+        noticed = subst (λ a. Notices a (M.gave store after)) (sym answer)
+            (notices_of fail (M.gave store c.perform.new.blobs.tx.store) (M.gave store after) (λ why. subst (λ x. M.gave store x why) e) o.noticed);
         vault_grows = lawful.faults_grow store after loaded;
         vault_cause = subst (λ a. RoseBy (directory_faults a) (M.faults store) (M.faults after)) (sym answer)
             (fail_directory_rose fail _ _ (lawful.faults_grow store after loaded) (subst (λ x. HasCause fail (M.faults store) (M.faults x)) (sym e) o.fault));

@@ -5,6 +5,7 @@ use Rattle.store_api.specs.Holdings.{IsFew}
 use Rattle.tree_commands.specs.Showing.{ShowsFiles}
 use Rattle.tree_commands.proofs.Shows.{files_same}
 use Rattle.mount_core.specs.declared.body.Core.{Core}
+use Rattle.mount_answering.proofs.Formats.{least_along}
 use Rattle.mount_answering.proofs.Lines.{replaced, stands_loaded, stands_waiting, stays_on, config_waiting, configures_loaded, whole_loaded}
 use Rattle.session_saver.proofs.Steps.{memory_directory, memory_state, unless_directory}
 use Rattle.mount_answering.proofs.syncing.replace_config.Given.{Over}
@@ -52,6 +53,7 @@ returns-in-Err g c =
         };
         violated = refl;
         root = refl;
+        least = λ k. k;
       };
       replaces = record {
         stands = λ kept now s. inl (stands_loaded ShowsFiles M H D R g.K.Keeper files_same g.S.BlocksMut.applied endures old new kept now s p.err p.stays (g.met.S.Blocks.steady.sound_told store s.sound) refl refl (p.sound s.sound));
@@ -99,6 +101,7 @@ returns g c =
         };
         violated = m.violated;
         root = m.root;
+        least = least_along M H D R g.K.Keeper store mid.blobs.tx.store (g.K.Keeper.kept old.saver.keeper) (g.K.Keeper.kept new.saver.keeper) p.least m.least;
       };
       replaces = record {
         stands = λ kept now s. z.stands kept now (stands_waiting ShowsFiles M H D R g.K.Keeper files_same old mid kept now s (g.met.S.Blocks.steady.sound_told store s.sound) refl p.identity p.stays refl p.trace (p.sound s.sound));

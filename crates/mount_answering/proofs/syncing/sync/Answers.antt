@@ -5,7 +5,9 @@ use Rattle.store_api.specs.Holdings.{IsFew}
 use Rattle.tree_commands.specs.Showing.{ShowsFiles}
 use Rattle.tree_commands.proofs.Shows.{files_same}
 use Rattle.mount_core.specs.declared.body.Core.{Core}
+use Rattle.mount_answering.proofs.Formats.{least_synced}
 use Rattle.mount_answering.proofs.Lines.{map_ok}
+use Rattle.mount_answering.proofs.Keeping.{last_kept}
 use Rattle.mount_answering.proofs.Synced.{synced, config_synced, saved_ok}
 use Rattle.mount_answering.proofs.syncing.sync.Given.{Over}
 use Rattle.mount_answering.proofs.syncing.sync.Goals as goal
@@ -38,6 +40,7 @@ returns g c =
         leaves = l;
         violated = refl;
         root = refl;
+        least = least_synced M H D R G a (G.kept old.saver.keeper) (G.kept new.saver.keeper) e.keeps;
       };
       syncs = record {
         stands = λ kept now s. synced ShowsFiles M H D R G files_same old new kept now result s refl l.identity l.stays.payload (l.stays.content (g.met.S.Blocks.steady.sound_told a s.sound)) (l.sound s.sound)
@@ -52,5 +55,6 @@ returns g c =
         ok = m.ok;
         unmoved = λ same. let u = e.unchanged same in search rules;
         wrote = m.wrote;
+        keeps = record { kept = e.keeps; last = last_kept D G old.saver new.saver a b result e.last };
       };
     }

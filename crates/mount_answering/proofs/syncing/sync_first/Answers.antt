@@ -29,6 +29,7 @@ returns-then-is_sync g c =
           | then-is_sync-via-else-is_sync+then-weight-ge-MOST_WAITING w ↦ absurd (omega (arith, w.weight.ensures, small))
         ];
         wrote = z.wrote;
+        keeps = z.keeps;
       };
     }
 
@@ -43,6 +44,7 @@ returns g c =
             (no_fewer failed failed refl) (ok_no_error FaultDirectory) refl (λ is. absurd (ok_no_error FaultState is)) refl;
         violated = refl;
         root = refl;
+        least = λ k. k;
       };
       makes_room = record {
         stands = λ kept now s. inl s;
@@ -52,5 +54,6 @@ returns g c =
         few = omega (arith, c.weight.ensures);
         spared = λ other small. (refl, refl);
         wrote = inl refl;
+        keeps = record { kept = inl refl; last = inl refl };
       };
     }

@@ -16,12 +16,14 @@ returns g c =
         opened = refl;
         fresh = m.violated ∙ c.requires.fresh;
         leaves = m.leaves;
+        least = m.least;
       };
       syncs = record {
         stands = z.stands;
         configures = z.configures;
         emptied = emptied_on g.V.Vault.trace core.blobs.tx.store (g.K.Keeper.kept core.saver.keeper) c.sync.result z.emptied;
         ok = z.ok;
+        keeps = z.keeps;
         unmoved = λ unchanged. let u = z.unmoved unchanged in (u.0, same_mount mount (record mount { core = core }) refl u.1);
       };
     }

@@ -1,10 +1,11 @@
 use Rattle.std.proofs.Common.{true, refl, sym, subst}
-use Rattle.std.specs.declared.result.Result.TheVariants.{Err}
+use Rattle.std.specs.declared.result.Result.TheVariants.{Ok, Err}
 use Rattle.session_saver.specs.Saving.{world}
+use Rattle.session_saver.specs.declared.saver.Saver.{Saver}
 use Rattle.tree_commands.specs.Showing.{ShowsFiles}
 use Rattle.tree_commands.proofs.Shows.{files_same}
 use Rattle.mount_core.specs.declared.body.Core.{Core}
-use Rattle.mount_migrating.specs.Migrating.{Rests}
+use Rattle.mount_migrating.specs.Migrating.{IsMigratedRecord, Rests}
 use Rattle.mount_migrating.proofs.Least.{Sets, kept_record, kept_rests, unsaved_rests}
 use Rattle.mount_migrating.proofs.raising.raise_least.Given.{Over}
 use Rattle.mount_migrating.proofs.raising.raise_least.Goals as goal
@@ -15,38 +16,45 @@ CoreOf g = Core g.row.S.Denot g.row.K.Denot
 abbrev SetsBy : (g : Over) → g.row.S.Denot → g.row.S.Denot → Type 0
 SetsBy g a b = Sets ShowsFiles g.S.Blocks.meanings g.S.Blocks.holdings g.S.Durable.durables g.S.Durable.records g.K.Keeper files_same g.met.S.Blocks.steady g.S.BlocksMut.applied g.met.S.Durable.enduring a b
 
+-- the body with this store and this saver
+abbrev with_store : (g : Over) → CoreOf g → g.row.S.Denot → Saver g.row.K.Denot → CoreOf g
+with_store g old store saver = record old { blobs = record { tx = record old.blobs.tx { store = store } }; saver = saver }
+
 pub returns-in-Ok-clause-rests : goal.returns-in-Ok-clause-rests
 returns-in-Ok-clause-rests g c =
     let old = c.args.core.now in
     let up = c.set_least.new.self in
-    let new : CoreOf g = record old { blobs = record { tx = record old.blobs.tx { store = up } }; saver = c.keep_short.new.self } in
+    let saver = c.keep_short.new.self in
     let u = c.set_least.ensures in
     let s : SetsBy g old.blobs.tx.store up = record { intact = u.intact; identity = u.identity; list = u.list; trace = u.trace; stays = u.stays; configures = u.configures; sound = u.sound; forgeries = u.forgeries; lies = u.lies; faults = u.faults } in
     let saved = c.in-Ok.ensures.saves in
-    kept_rests ShowsFiles g.S.Blocks.meanings g.S.Blocks.holdings g.S.Durable.durables g.S.Durable.records g.K.Keeper files_same g.met.S.Blocks.steady g.S.BlocksMut.applied g.met.S.Durable.enduring
-    old new c.requires.ready.intact (c.requires.ready.whole.none c.requires.whole) s refl refl saved.0 saved.1 c.in-Ok.ensures.keeper_quiet
+    subst (λ store. Rests ShowsFiles (world g.S.Blocks.meanings g.S.Blocks.holdings g.S.Durable.durables g.S.Durable.records g.K.Keeper) old (Ok tt) (with_store g old store saver)) (sym c.keep_short.ensures.same)
+    (kept_rests ShowsFiles g.S.Blocks.meanings g.S.Blocks.holdings g.S.Durable.durables g.S.Durable.records g.K.Keeper files_same g.met.S.Blocks.steady g.S.BlocksMut.applied g.met.S.Durable.enduring
+    old (with_store g old up saver) c.requires.ready.intact (c.requires.ready.whole.none c.requires.whole) s refl refl saved.0 saved.1 c.in-Ok.ensures.keeper_quiet)
 
 pub returns-in-Ok-clause-done : goal.returns-in-Ok-clause-done
 returns-in-Ok-clause-done g c =
     let old = c.args.core.now in
     let up = c.set_least.new.self in
-    let new : CoreOf g = record old { blobs = record { tx = record old.blobs.tx { store = up } }; saver = c.keep_short.new.self } in
+    let saver = c.keep_short.new.self in
     let u = c.set_least.ensures in
     let s : SetsBy g old.blobs.tx.store up = record { intact = u.intact; identity = u.identity; list = u.list; trace = u.trace; stays = u.stays; configures = u.configures; sound = u.sound; forgeries = u.forgeries; lies = u.lies; faults = u.faults } in
     let saved = c.in-Ok.ensures.saves in
-    kept_record ShowsFiles g.S.Blocks.meanings g.S.Blocks.holdings g.S.Durable.durables g.S.Durable.records g.K.Keeper files_same g.met.S.Blocks.steady g.S.BlocksMut.applied g.met.S.Durable.enduring
-    old new c.requires.ready.intact (c.requires.ready.whole.none c.requires.whole) s refl refl saved.0 saved.1 c.in-Ok.ensures.keeper_quiet u.least saved.2
+    subst (λ store. IsMigratedRecord (world g.S.Blocks.meanings g.S.Blocks.holdings g.S.Durable.durables g.S.Durable.records g.K.Keeper) (with_store g old store saver)) (sym c.keep_short.ensures.same)
+    (kept_record ShowsFiles g.S.Blocks.meanings g.S.Blocks.holdings g.S.Durable.durables g.S.Durable.records g.K.Keeper files_same g.met.S.Blocks.steady g.S.BlocksMut.applied g.met.S.Durable.enduring
+    old (with_store g old up saver) c.requires.ready.intact (c.requires.ready.whole.none c.requires.whole) s refl refl saved.0 saved.1 c.in-Ok.ensures.keeper_quiet u.least saved.2)
 
 pub returns-in-Err-clause-rests : goal.returns-in-Err-clause-rests
 returns-in-Err-clause-rests g c =
     let old = c.args.core.now in
     let up = c.set_least.new.self in
     let down = c.set_least-in-Err.new.self in
-    let new : CoreOf g = record old { blobs = record { tx = record old.blobs.tx { store = down } }; saver = record c.keep_short.new.self { changed = true } } in
+    let new = with_store g old down (record c.keep_short.new.self { changed = true }) in
     let u = c.set_least.ensures in
     let d = c.set_least-in-Err.ensures in
     let first : SetsBy g old.blobs.tx.store up = record { intact = u.intact; identity = u.identity; list = u.list; trace = u.trace; stays = u.stays; configures = u.configures; sound = u.sound; forgeries = u.forgeries; lies = u.lies; faults = u.faults } in
-    let second : SetsBy g up down = record { intact = d.intact; identity = d.identity; list = d.list; trace = d.trace; stays = d.stays; configures = d.configures; sound = d.sound; forgeries = d.forgeries; lies = d.lies; faults = d.faults } in
+    let after : SetsBy g c.keep_short.new.store down = record { intact = d.intact; identity = d.identity; list = d.list; trace = d.trace; stays = d.stays; configures = d.configures; sound = d.sound; forgeries = d.forgeries; lies = d.lies; faults = d.faults } in
+    let second = subst (λ store. SetsBy g store down) c.keep_short.ensures.same after in
     let k = c.in-Err.ensures in
     subst (λ e. Rests ShowsFiles (world g.S.Blocks.meanings g.S.Blocks.holdings g.S.Durable.durables g.S.Durable.records g.K.Keeper) old (Err e) new) (sym c.sync_error.ensures)
     (unsaved_rests ShowsFiles g.S.Blocks.meanings g.S.Blocks.holdings g.S.Durable.durables g.S.Durable.records g.K.Keeper files_same g.met.S.Blocks.steady g.S.BlocksMut.applied g.met.S.Durable.enduring

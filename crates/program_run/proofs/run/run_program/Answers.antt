@@ -4,6 +4,7 @@ use Rattle.std.specs.declared.option.Option.TheVariants.{Some}
 use Rattle.run_histories.specs.Calls.{IsRunCall}
 use Rattle.session_runs.specs.Runs.{Outside, outside_of}
 use Rattle.program_run.specs.Program.{folder_calls, folder_faults, folder_names, folder_record, at_first, program_call}
+use Rattle.real_folders.specs.Adapters.{kept_in}
 use Rattle.program_run.proofs.Written.{wrote}
 use Rattle.real_folders.specs.FolderLog.{calls_of}
 use Rattle.program_run.proofs.Carried.{carried}
@@ -12,7 +13,7 @@ use Rattle.program_run.proofs.run.run_program.Goals as goal
 pub returns-clause-call : goal.returns-clause-call
 returns-clause-call g c =
     let begins : outside_of folder_calls folder_faults folder_record c.vault.result c.args.keeper ≡ at_first (calls_of c.args.log.events) c.args.keeper =
-    λ i. record { kept = c.args.keeper.kept; calls = Some (c.vault.ensures.calls i); vault_faults = c.vault.ensures.none i; keeper_faults = c.args.keeper.faults } in
+    λ i. record { kept = kept_in c.args.keeper; calls = Some (c.vault.ensures.calls i); vault_faults = c.vault.ensures.none i; keeper_faults = c.args.keeper.faults } in
     carried folder_calls folder_faults folder_names folder_record _ _ _ (ap (map string_bytes) c.as_slice.ensures.value) begins c.run_call.ensures.call
 
 pub returns-clause-listed : goal.returns-clause-listed

@@ -23,7 +23,7 @@ returns-clause-call g c =
       ends = refl;
       status = refl;
       did = did g.V.Vault.trace g.V.Vault.faults g.V.Listing.names g.K.Keeper call c.args.vault c.args.keeper r.result (form_of words)
-          (λ n. (e.refused n, (e.untouched n).0, (e.untouched n).1, (e.untouched n).2, (e.untouched n).3)) e.trial e.trial_generate e.created e.told e.changed e.migrated e.session e.generate e.command e.imported e.exported e.put e.got e.checked;
+          (λ n. (e.refused n, (e.untouched n).0, (e.untouched n).1, (e.untouched n).2, (e.untouched n).3)) e.trial e.trial_generate e.created e.told e.changed e.migrated e.session e.generate e.command e.imported e.exported e.put e.got e.checked e.surveyed;
       refusal = e.refusal;
       no_false_alarm = e.no_false_alarm;
       faults_happened = e.faults_happened;

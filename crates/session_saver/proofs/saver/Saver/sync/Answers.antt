@@ -1,8 +1,8 @@
-use Rattle.std.proofs.Common.{◌≡◌, ◌⊎◌, ◌≤◌, true, false, Some, inl, inr, refl, sym, ◌∙◌, ap, subst, arith}
+use Rattle.std.proofs.Common.{◌≡◌, ◌⊎◌, ◌≤◌, true, false, Some, Err, inl, inr, refl, sym, ◌∙◌, ap, subst, arith}
 use Rattle.outside.specs.Causes.{RoseBy}
 use Rattle.outside.specs.Writes.{after_writes}
 use Rattle.session_saver.specs.declared.saver.SyncError.TheVariants.{FaultDirectory, FaultState}
-use Rattle.session_saver.proofs.Steps.{true_is_false, no_fewer, ok_no_error, state_directory, kept_or_new, unwritten_stands, written_is, any_configures, failed_save, kept_or_record, leaves_same, moves_memory, moves_since, moves_stopped, syncs_memory, syncs_on}
+use Rattle.session_saver.proofs.Steps.{true_is_false, no_fewer, ok_no_error, state_directory, kept_or_new, unwritten_stands, written_is, any_configures, failed_save, kept_or_record, leaves_same, moves_memory, moves_since, moves_stopped, record_after, moves_to, moves_from, finishes_from, syncs_to, long_kept_to, syncs_memory, syncs_on}
 use Rattle.session_saver.proofs.saver.Saver.sync.Goals as goal
 
 pub returns-then-not-self : goal.returns-then-not-self
@@ -45,25 +45,41 @@ returns-then-not-self g c =
 
 pub returns-in-Err : goal.returns-in-Err
 returns-in-Err g c =
+    let M = g.S.Blocks.meanings in
+    let H = g.S.Blocks.holdings in
+    let D = g.S.Durable.durables in
+    let R = g.S.Durable.records in
+    let G = g.K.Keeper in
     let old = c.args.self.now in
     let a = c.args.store.now in
+    let b = c.record_to_save.new.store in
     let keeper = c.record_to_save.new.keeper in
+    let new = record old { keeper = keeper } in
     let p = c.record_to_save.ensures in
     record {
-      moves = moves_memory g.S.Blocks.meanings g.S.Blocks.holdings g.S.Durable.durables g.S.Durable.records g.K.Keeper g.S.BlocksMut.applied g.met.S.Durable.enduring old keeper a c.requires.intact c.requires.room c.if-not-self.false p.room p.faults;
-      syncs = syncs_memory g.S.Blocks.meanings g.S.Blocks.holdings g.S.Durable.durables g.S.Durable.records g.K.Keeper old keeper a c.if-not-self.false p.kept;
+      moves = moves_to M H D R G old new a a b _ p.same (moves_memory M H D R G g.S.BlocksMut.applied g.met.S.Durable.enduring old keeper a c.requires.intact c.requires.room c.if-not-self.false p.room p.faults);
+      syncs = syncs_to M H D R G old new a a b _ p.same (syncs_memory M H D R G old keeper a c.if-not-self.false p.kept);
     }
 
 pub returns-in-Err-record_to_save : goal.returns-in-Err-record_to_save
 returns-in-Err-record_to_save g c =
+    let M = g.S.Blocks.meanings in
+    let H = g.S.Blocks.holdings in
+    let D = g.S.Durable.durables in
+    let R = g.S.Durable.records in
+    let G = g.K.Keeper in
     let old = c.args.self.now in
     let a = c.args.store.now in
+    let b = c.record_to_save-2.new.store in
     let keeper = c.record_to_save-2.new.keeper in
+    let new = record old { keeper = keeper } in
     let p = c.record_to_save.ensures in
     let q = c.record_to_save-2.ensures in
+    let same = q.same ∙ p.same in
     record {
-      moves = moves_memory g.S.Blocks.meanings g.S.Blocks.holdings g.S.Durable.durables g.S.Durable.records g.K.Keeper g.S.BlocksMut.applied g.met.S.Durable.enduring old keeper a c.requires.intact c.requires.room c.if-not-self.false (omega (arith, p.room, q.room)) (q.faults ∙ p.faults);
-      syncs = syncs_memory g.S.Blocks.meanings g.S.Blocks.holdings g.S.Durable.durables g.S.Durable.records g.K.Keeper old keeper a c.if-not-self.false (q.kept ∙ p.kept);
+      moves = moves_to M H D R G old new a a b _ same
+          (moves_memory M H D R G g.S.BlocksMut.applied g.met.S.Durable.enduring old keeper a c.requires.intact c.requires.room c.if-not-self.false (omega (arith, p.room, q.room)) (q.faults ∙ p.faults));
+      syncs = syncs_to M H D R G old new a a b _ same (syncs_memory M H D R G old keeper a c.if-not-self.false (q.kept ∙ p.kept));
     }
 
 pub returns-in-Err-save : goal.returns-in-Err-save
@@ -74,11 +90,13 @@ returns-in-Err-save g c =
     let R = g.S.Durable.records in
     let G = g.K.Keeper in
     let a = c.args.store.now in
+    let b = c.record_to_save-2.new.store in
     let old = c.args.self.now in
     let keeper = c.save.new.self in
     let new = record old { keeper = keeper } in
     let p = c.record_to_save.ensures in
     let q = c.record_to_save-2.ensures in
+    let same = q.same ∙ p.same in
     let endures = g.met.S.Durable.enduring in
     let long = D.local_record_of a true in
     let is = endures.written a true c.requires.intact in
@@ -86,9 +104,10 @@ returns-in-Err-save g c =
     kept_or_new (G.kept keeper) (G.kept c.record_to_save-2.new.keeper) (G.kept old.keeper) c.deref.result.now long c.in-Err-save.ensures.err (q.kept ∙ p.kept) (c.deref.ensures.value ∙ c.in-Ok.ensures.record_) in
     let calm = q.faults ∙ p.faults in
     record {
-      moves = moves_stopped M H D R G g.S.BlocksMut.applied endures old new a _ c.requires.intact (omega (arith, c.requires.room, p.room, q.room, c.save.ensures.room)) c.if-not-self.false
-          (leaves_same M H D R G a old.keeper keeper _ (subst (λ n. n ≤ G.faults keeper) calm c.save.ensures.grows) state_directory refl (λ is. subst (λ n. RoseBy 1 n (G.faults keeper)) calm c.in-Err-save.ensures.cause) tt);
-      syncs = record {
+      moves = moves_to M H D R G old new a a b (Err FaultState) same
+          (moves_stopped M H D R G g.S.BlocksMut.applied endures old new a FaultState c.requires.intact (omega (arith, c.requires.room, p.room, q.room, c.save.ensures.room)) c.if-not-self.false
+          (leaves_same M H D R G a old.keeper keeper _ (subst (λ n. n ≤ G.faults keeper) calm c.save.ensures.grows) state_directory refl (λ is. subst (λ n. RoseBy 1 n (G.faults keeper)) calm c.in-Err-save.ensures.cause) tt));
+      syncs = syncs_to M H D R G old new a a b (Err FaultState) same (record {
         unchanged = λ e. absurd (true_is_false (sym c.if-not-self.false ∙ e));
         stands = λ now sound unmarked same. failed_save M H D R G (λ bytes. R.stands (D.identity a) bytes (D.trace a) now) old new a kept
             (unwritten_stands M H D R G g.S.BlocksMut.applied endures a long now c.requires.intact sound unmarked is same);
@@ -96,32 +115,63 @@ returns-in-Err-save g c =
         last = inl (refl, refl, kept);
         keeps = kept_or_record M H D R G a (G.kept keeper) (G.kept old.keeper) is kept;
         can_mark = λ can. record { marks = can.marks; long = can.long };
-      };
+      });
     }
 
 pub returns : goal.returns
 returns g c =
+    let M = g.S.Blocks.meanings in
+    let H = g.S.Blocks.holdings in
+    let D = g.S.Durable.durables in
+    let R = g.S.Durable.records in
+    let G = g.K.Keeper in
     let old = c.args.self.now in
     let a = c.args.store.now in
+    let m = c.record_to_save-2.new.store in
+    let mid = record old { keeper = c.save.new.self; last = c.in-Ok.bytes } in
     let new = c.finish.new.self in
     let b = c.finish.new.store in
-    let calm = c.in-Ok-save.ensures.quiet ∙ c.record_to_save-2.ensures.faults ∙ c.record_to_save.ensures.faults in
+    let p = c.record_to_save.ensures in
+    let q = c.record_to_save-2.ensures in
+    let same = q.same ∙ p.same in
+    let calm = c.in-Ok-save.ensures.quiet ∙ q.faults ∙ p.faults in
     record {
-      moves = moves_since g.S.Blocks.meanings g.S.Blocks.holdings g.S.Durable.durables g.S.Durable.records g.K.Keeper old (record { keeper = c.save.new.self; last = c.in-Ok.bytes; changed = old.changed }) new a b c.finish.result calm c.finish.ensures.moves;
-      syncs = syncs_on g.S.Blocks.meanings g.S.Blocks.holdings g.S.Durable.durables g.S.Durable.records g.K.Keeper old (record { keeper = c.save.new.self; last = c.in-Ok.bytes; changed = old.changed }) new a b c.in-Ok.bytes.items c.finish.result c.if-not-self.false
+      moves = moves_from M H D R G old new a m b c.finish.result same (moves_since M H D R G old mid new m b c.finish.result calm c.finish.ensures.moves);
+      syncs = syncs_on M H D R G old mid new a b c.in-Ok.bytes.items c.finish.result c.if-not-self.false
           (c.in-Ok-save.ensures.ok ∙ ap Some c.deref.ensures.value)
-          (written_is g.S.Blocks.meanings g.S.Blocks.holdings g.S.Durable.durables g.S.Durable.records g.K.Keeper g.S.BlocksMut.applied g.met.S.Durable.enduring a true _ c.requires.intact c.in-Ok.ensures.record_) c.finish.ensures.finishes;
+          (written_is M H D R G g.S.BlocksMut.applied g.met.S.Durable.enduring a true c.in-Ok.bytes.items c.requires.intact c.in-Ok.ensures.record_)
+          (finishes_from M H D R G mid new a m b c.finish.result same c.finish.ensures.finishes);
     }
 
 pub finish-requires-clause-long : goal.finish-requires-clause-long
-finish-requires-clause-long g c = record {
-  intact = c.requires.intact;
-  room = omega (arith, c.in-Ok.ensures.fits, c.in-Ok.ensures.room, c.record_to_save-2.ensures.room, c.save.ensures.room);
-  kept = c.in-Ok-save.ensures.ok ∙ ap Some c.deref.ensures.value;
-  last = written_is g.S.Blocks.meanings g.S.Blocks.holdings g.S.Durable.durables g.S.Durable.records g.K.Keeper g.S.BlocksMut.applied g.met.S.Durable.enduring c.args.store.now true _ c.requires.intact c.in-Ok.ensures.record_;
-  changed = c.if-not-self.false;
-}
+finish-requires-clause-long g c =
+    let M = g.S.Blocks.meanings in
+    let H = g.S.Blocks.holdings in
+    let D = g.S.Durable.durables in
+    let R = g.S.Durable.records in
+    let G = g.K.Keeper in
+    let a = c.args.store.now in
+    let mid = record c.args.self.now { keeper = c.save.new.self; last = c.in-Ok.bytes } in
+    long_kept_to M H D R G mid a c.record_to_save-2.new.store (c.record_to_save-2.ensures.same ∙ c.record_to_save.ensures.same)
+    (record {
+      intact = c.requires.intact;
+      room = omega (arith, c.in-Ok.ensures.fits, c.in-Ok.ensures.room, c.record_to_save-2.ensures.room, c.save.ensures.room);
+      kept = c.in-Ok-save.ensures.ok ∙ ap Some c.deref.ensures.value;
+      last = written_is M H D R G g.S.BlocksMut.applied g.met.S.Durable.enduring a true c.in-Ok.bytes.items c.requires.intact c.in-Ok.ensures.record_;
+      changed = c.if-not-self.false;
+    })
 
 pub finish-requires-clause-short : goal.finish-requires-clause-short
 finish-requires-clause-short g c =
-    written_is g.S.Blocks.meanings g.S.Blocks.holdings g.S.Durable.durables g.S.Durable.records g.K.Keeper g.S.BlocksMut.applied g.met.S.Durable.enduring c.args.store.now false _ c.requires.intact c.in-Ok-record_to_save.ensures.record_
+    let M = g.S.Blocks.meanings in
+    let H = g.S.Blocks.holdings in
+    let D = g.S.Durable.durables in
+    let R = g.S.Durable.records in
+    let G = g.K.Keeper in
+    let a = c.args.store.now in
+    let m = c.record_to_save.new.store in
+    let b = c.record_to_save-2.new.store in
+    let p = c.record_to_save.ensures in
+    let short = c.in-Ok-record_to_save.bytes.items in
+    record_after M H D R G m b false short c.record_to_save-2.ensures.same
+    (written_is M H D R G g.S.BlocksMut.applied g.met.S.Durable.enduring m false short (subst M.intact (sym p.same) c.requires.intact) c.in-Ok-record_to_save.ensures.record_)

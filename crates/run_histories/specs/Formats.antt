@@ -1,0 +1,31 @@
+-- From which format on the record that calls of `run` leave takes block files.
+use Rattle.std.specs.Prelude.{◌≡◌, ◌⊎◌, ◌++◌, ℕ, List}
+use Rattle.std.specs.declared.option.Option.{Option}
+use Rattle.std.specs.declared.option.Option.TheVariants.{Some}
+use Rattle.mount.specs.Formats.{TakesFrom}
+use Rattle.outside.specs.Trace.{Call}
+use Rattle.outside.specs.declared.keeper.Keeper.{Ghosts as KeeperGhosts}
+use Rattle.run_status.specs.declared.status.Status.TheVariants.{Done}
+use Rattle.session_runs.specs.Runs.{Outside}
+use Rattle.setup_texts.specs.MigrateText.{count_text}
+use Rattle.shell_words.specs.declared.create_options.CreateOptions.{CreateOptions}
+use Rattle.shell_words.specs.declared.form.Form.TheVariants.{Create, Migrate}
+use Rattle.shell_words.specs.Forms.{form_of}
+use Rattle.run_histories.specs.Calls.{RunCall, IsRunCall}
+use Rattle.run_histories.specs.Lists.{AreRunCalls, left_by}
+
+-- a `create` that ended with Done
+abbrev pub HasCreated : RunCall → Type 0
+HasCreated call = (options : CreateOptions) × (form_of call.words ≡ Some (Create options)) × (call.status ≡ Done)
+
+-- a `migrate` that told how many blocks there are
+abbrev pub HasMigrated : RunCall → Type 0
+HasMigrated call = (form_of call.words ≡ Some Migrate) × (written : List ℕ) × (count : ℕ) × (call.output.old ≡ Some written) × (call.output.new ≡ Some (written ++ count_text count))
+
+-- what either leaves takes block files of the newest format alone, or is marked
+abbrev pub EachLeavesNewest : {V : Type 0} → {K : Type 0} → (V → Option (List Call)) → (V → ℕ) → (V → Option (List (List ℕ))) → KeeperGhosts K → Type 0
+EachLeavesNewest trace faults names G = (call : RunCall) → IsRunCall trace faults names G call → HasCreated call ⊎ HasMigrated call → TakesFrom 2 call.after.kept
+
+-- and so does what any list of calls leaves from there on
+abbrev pub EveryListKeepsNewest : {V : Type 0} → {K : Type 0} → (V → Option (List Call)) → (V → ℕ) → (V → Option (List (List ℕ))) → KeeperGhosts K → Type 0
+EveryListKeepsNewest trace faults names G = (start : Outside) (calls : List RunCall) → AreRunCalls trace faults names G start calls → TakesFrom 2 start.kept → TakesFrom 2 (left_by start calls).kept
