@@ -116,7 +116,7 @@ def check_command(words):
     if command in ("info", "passwd", "migrate", "shell") and more:
         raise Refused(f"{command} takes no more words", USAGE)
     if command == "check":
-        check_late(command, more)
+        check_late(command, more[1:] if more[:1] == ["--all"] else more)
     if command in COPIES:
         check_copy(command, more)
     if command in FILES:
