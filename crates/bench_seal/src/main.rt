@@ -30,6 +30,7 @@ struct Plan {
 /// Seals a block into `sealed`, and opens it again.
 fn through(
     alloc: Global,
+    key: &[u8; 32],
     iv: [u8; 16],
     plain: &[u8],
     sealed: &mut Vec<u8>,
@@ -38,8 +39,8 @@ fn through(
     ensures { IfOk result (λ opened. opened.items ≡ plain.now) }
 {
     sealed.clear();
-    Aes256Gcm.seal(&KEY, &iv, plain, sealed)?;
-    match Aes256Gcm.unseal(alloc, &KEY, sealed)? {
+    Aes256Gcm.seal(key, &iv, plain, sealed)?;
+    match Aes256Gcm.unseal(alloc, key, sealed)? {
         Some(opened) => Ok(opened),
         None => unreachable!(),
     }
@@ -58,7 +59,7 @@ fn bench(alloc: Global, plan: &Plan) -> Result<u64, Memory> {
     let mut checksum: u64 = 0;
     for number in 0..plan.count {
         let iv = u128::from(number).to_be_bytes();
-        plain = through(alloc, iv, &plain, &mut sealed)?;
+        plain = through(alloc, &KEY, iv, &plain, &mut sealed)?;
         checksum = taken_in(checksum, &sealed);
     }
     Ok(checksum)
