@@ -15,7 +15,7 @@ use Rattle.store_api.specs.Holdings.{Changed, gives_payload, has_id}
 use Rattle.block_records.specs.BlockRecords.{Record, opened, payload_of, payload_in}
 use Rattle.batch_sealing.specs.Applied.{life_after, WaitsAfter, Applied}
 use Rattle.held_blocks.specs.Held.{Held, own, waiting, waiting_or, bytes_in, file_of, live_version, where_live, told_or_none, wanted}
-use Rattle.held_blocks.specs.Soundness.{IsForeign, IsFresh, IsPast, SoundAt, SoundBy}
+use Rattle.held_blocks.specs.Soundness.{IsForeign, IsFresh, IsPast, IsSealed, SoundAt, SoundBy}
 use Rattle.held_blocks.specs.Forgeries.{was_put}
 use Rattle.held_blocks.specs.Stores.{IsWhole, version_in, meanings_by, holdings_by}
 use Rattle.held_blocks.proofs.Reopening.{few_used}
@@ -81,6 +81,9 @@ module _ (a b : Held) (old new : Option (List Call)) (changes : Changes) (x : Ap
 
   foreign_same : (id : Id) (last : Option LastChange) → IsForeign a id last → IsForeign b id last
   foreign_same id last f = record { bytes = f.bytes; ok = f.ok; found = f.found; put = f.put; opens = opened_same id f.bytes ∙ f.opens; other = λ e. f.other (e ∙ client_same) }
+
+  sealed_same : (id bytes : List ℕ) → IsSealed a id bytes → IsSealed b id bytes
+  sealed_same id bytes f = record { version = f.version; payload = f.payload; opens = opened_same id bytes ∙ (f.opens ∙ ap Some (sym (own_same id f.version f.payload))) }
 
   wanted_kept : (trace : Option (List Call)) (id : Id) → waiting b id ≡ waiting a id → fin.get b.state.lives id ≡ fin.get a.state.lives id → wanted b trace id ≡ wanted a trace id
   wanted_kept trace id waits lives =
@@ -164,6 +167,7 @@ module _ (a b : Held) (old new : Option (List Call)) (changes : Changes) (x : Ap
       stands = λ id version live none. stands_said id version (fin.get changes id) (x.waits id) (x.lives id) live none;
       buried = λ id dead none. buried_said id (fin.get changes id) (x.waits id) (x.lives id) dead none;
       past = past_put;
+      sealed = λ id bytes ok among. sealed_same id bytes (s.sealed id bytes ok among);
     }
 
   sound_by : (trace : Option (List Call)) → a.state.least ≤ 2 → SoundBy a trace → SoundBy b trace

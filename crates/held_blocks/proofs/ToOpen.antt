@@ -3,12 +3,12 @@ use Rattle.std.specs.Prelude.{◌≡◌, ℕ, Bool, true, false, ◌==◌, List,
 use Rattle.std.specs.Str.{bytes_eq}
 use Rattle.std.specs.declared.option.Option.{Option}
 use Rattle.std.specs.declared.option.Option.TheVariants.{None, Some}
-use Rattle.std.proofs.Common.{refl, sym, ◌∙◌, ap, subst, eq-eqb}
+use Rattle.std.proofs.Common.{sym, ◌∙◌, ap, subst, eq-eqb}
 use Rattle.block_id.specs.declared.fail.Why.{Why}
 use Rattle.block_id.specs.declared.fail.Why.TheVariants.{WrongId, ForeignClient, OldVersion, AheadVersion}
-use Rattle.block_id.specs.Formats.{extra_of, format_in, number_of}
+use Rattle.block_id.specs.Formats.{extra_of, format_in}
 use Rattle.outcome.specs.Meanings.{NeedsNoMemory}
-use Rattle.sealed_store.specs.BlockFiles.{IsToOpen, SeenFile, absent, bad_length, old_format, seen_as, seen_file_in, seen_file_of_plain}
+use Rattle.sealed_store.specs.BlockFiles.{IsToOpen, bad_length, old_format, seen_as, seen_file_in, seen_file_of_plain}
 use Rattle.block_records.specs.BlockRecords.{Record, record_of}
 use Rattle.block_records.specs.Verdicts.{Verdict, bad, good, judged, judged_record, verdict}
 

@@ -1,8 +1,9 @@
 -- A store that knows no block, or one whose own file waits, over a directory in which nothing was changed, is sound.
-use Rattle.std.specs.Prelude.{◌≡◌, ℕ, Bool, true, false, not, ◌&&◌, cond, List, [], ◌∷◌, is_some, if◌then◌else◌}
+use Rattle.std.specs.Prelude.{◌≡◌, ℕ, Bool, true, false, not, ◌&&◌, ◌||◌, cond, List, [], ◌∷◌, is_some, if◌then◌else◌}
 use Rattle.std.specs.declared.option.Option.{Option}
 use Rattle.std.specs.declared.option.Option.TheVariants.{None, Some}
-use Rattle.std.proofs.Common.{refl, sym, ◌∙◌, ap, subst}
+use Rattle.std.proofs.Common.{refl, sym, ◌∙◌, ap, subst, inl, inr}
+use Rattle.std.proofs.lemmas.Bool.{or_right}
 use Rattle.std.proofs.lemmas.Option.{same_Some}
 use Rattle.std.proofs.lemmas.Slice.Eq.{bytes_eq-Decides}
 use Rattle.std.specs.FinMap.{get-empty, get-insert}
@@ -15,8 +16,9 @@ use Rattle.local_state.specs.declared.life.Life.{Life}
 use Rattle.local_state.specs.Known.{is_dead_in, is_live_in, version_if_live}
 use Rattle.store_api.proofs.Rising.{ids_total, same_id_is}
 use Rattle.store_api.specs.Content.{id_cmp, same_id}
-use Rattle.held_blocks.specs.Forgeries.{was_put}
+use Rattle.held_blocks.specs.Forgeries.{puts, was_put}
 use Rattle.held_blocks.specs.Held.{Held, live_version, waiting}
+use Rattle.held_blocks.specs.Reads.{Among}
 use Rattle.held_blocks.specs.Soundness.{IsFresh, IsUntouched, SoundAt, SoundBy}
 
 true_is_false : true ≡ false → ⊥
@@ -36,6 +38,12 @@ no_put (got name max answer ∷ trace) bytes none was = no_put trace bytes none 
 no_put (put name b ok ∷ trace) bytes none was = some_change (same_at name name) _ _ (same_self name) (none name)
 no_put (removed name ok ∷ trace) bytes none was = some_change (same_at name name) _ _ (same_self name) (none name)
 
+-- what is among the calls was put
+among_put : (trace : List Call) (name : At) (bytes : List ℕ) (ok : Bool) → Among trace (put name bytes ok) → was_put bytes trace ≡ true
+among_put [] name bytes ok among = absurd among
+among_put (call ∷ trace) name bytes ok (inl is) = ap (λ c. puts bytes c || was_put bytes trace) is ∙ ap (λ b. b || was_put bytes trace) ((bytes_eq-Decides bytes bytes).1 refl)
+among_put (call ∷ trace) name bytes ok (inr among) = or_right (puts bytes call) (was_put bytes trace) (among_put trace name bytes ok among)
+
 never_live : (h : Held) (id : List ℕ) (version : ℕ) → h.state.lives ≡ fin.empty → live_version h id ≡ Some version → ⊥
 never_live h id version empty live =
     let none : live_version h id ≡ None = ap (λ lives. version_if_live (fin.get lives id)) empty ∙ ap version_if_live (get-empty id_cmp id) in
@@ -51,6 +59,7 @@ untouched_sound h (Some trace) empty none = record {
   stands = λ id version live w. absurd (never_live h id version empty live);
   buried = λ id dead w. absurd (true_is_false (sym dead ∙ dead_none id));
   past = λ id bytes r was is own. absurd (no_put trace bytes none was);
+  sealed = λ id bytes ok among. absurd (no_put trace bytes none (among_put trace (block id) bytes ok among));
 }
   where
     dead_none : (id : List ℕ) → is_dead_in h.state.lives id ≡ false
@@ -92,6 +101,7 @@ module _ (h : Held) (id bytes payload : List ℕ) (version : ℕ) (one : h.state
     stands = λ other v live gone. absurd (never_written other v live gone);
     buried = λ other dead gone. absurd (true_is_false (sym dead ∙ none_dead (same_id other id) version (fin.get h.state.lives other) (life_at other)));
     past = λ other put r was is own. absurd (no_put trace put none was);
+    sealed = λ other put ok among. absurd (no_put trace put none (among_put trace (block other) put ok among));
   }
 
   pub one_waits_sound : (trace : Option (List Call)) → IsUntouched trace → SoundBy h trace

@@ -1,11 +1,11 @@
 -- Reads leave what is wanted, what is sound, and what was found before.
-use Rattle.std.specs.Prelude.{◌≡◌, ◌⊎◌, ℕ, ◌+◌, true, false, List, [], ◌∷◌, ◌++◌, is_some}
+use Rattle.std.specs.Prelude.{◌≡◌, ◌⊎◌, ℕ, ◌+◌, Bool, true, false, List, [], ◌∷◌, ◌++◌, is_some}
 use Rattle.std.specs.declared.option.Option.{Option}
 use Rattle.std.specs.declared.option.Option.TheVariants.{None, Some}
 use Rattle.std.proofs.Common.{refl, sym, ◌∙◌, ap, subst, inl, inr, append_assoc}
 use Rattle.std.proofs.lemmas.List.{append_cancel_right}
 use Rattle.block_id.specs.declared.fail.Why.{Why}
-use Rattle.outside.specs.Trace.{block, Call, got, At}
+use Rattle.outside.specs.Trace.{block, Call, got, put, At}
 use Rattle.outside.specs.Honest.{last_change}
 use Rattle.outside.specs.Going.{GoesOn}
 use Rattle.store_api.specs.Content.{SameIds, SameContent}
@@ -105,12 +105,19 @@ gave_split h (Some t) b c why (xs, is, all) second (calls, is', gave) =
 past-got : (h : Held) (trace : List Call) (name : At) (max : ℕ) (answer : Option (List ℕ)) (r : Record) → IsPast h trace r → IsPast h (got name max answer ∷ trace) r
 past-got h trace name max answer r p = record { life = p.life; used = p.used; version = p.version; payload = p.payload }
 
+got_put : (name other : At) (max : ℕ) (answer : Option (List ℕ)) (bytes : List ℕ) (ok : Bool) → got name max answer ≡ put other bytes ok → ⊥
+got_put name other max answer bytes ok e = cc
+
 pub sound-got : (h : Held) (trace : List Call) (name : At) (max : ℕ) (answer : Option (List ℕ)) → SoundAt h trace → SoundAt h (got name max answer ∷ trace)
 sound-got h trace name max answer s = record {
   waits = s.waits;
   stands = s.stands;
   buried = s.buried;
   past = λ id bytes r was opens own. past-got h trace name max answer r (s.past id bytes r was opens own);
+  sealed = λ id bytes ok among. elim among [
+    | inl is ↦ absurd (got_put name (block id) max answer bytes ok is)
+    | inr before ↦ s.sealed id bytes ok before
+  ];
 }
 
 -- reads by a store that holds k leave what is sound of h

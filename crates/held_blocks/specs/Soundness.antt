@@ -3,7 +3,7 @@ use Rattle.std.specs.Prelude.{◌≡◌, ◌⊎◌, ◌≤◌, ℕ, Bool, true, 
 use Rattle.std.specs.declared.option.Option.{Option}
 use Rattle.std.specs.declared.option.Option.TheVariants.{None, Some}
 use Rattle.std.specs.FinMap as fin
-use Rattle.outside.specs.Trace.{block, Call, At}
+use Rattle.outside.specs.Trace.{block, Call, put, At}
 use Rattle.outside.specs.Honest.{LastChange, last_change}
 use Rattle.local_state.specs.declared.life.Life.{Life}
 use Rattle.local_state.specs.Known.{is_dead_in}
@@ -11,6 +11,7 @@ use Rattle.block_id.specs.Formats.{IsTaken}
 use Rattle.block_records.specs.BlockRecords.{Record, opened}
 use Rattle.held_blocks.specs.Forgeries.{was_put}
 use Rattle.held_blocks.specs.Held.{Held, live_version, own, waiting, wanted}
+use Rattle.held_blocks.specs.Reads.{Among}
 
 -- a record of a used id, no version above the known one; at the known version of a live id it is what is wanted
 pub record IsPast (h : Held) (trace : List Call) (r : Record) : Type 0 where
@@ -33,7 +34,14 @@ pub record IsForeign (h : Held) (id : List ℕ) (last : Option LastChange) : Typ
   pub opens : opened h.opens h.size id bytes ≡ Some found
   pub other : found.client ≡ h.state.client → ⊥
 
--- what waits or was put last is the record of the known version, and whatever else the own client put is of the past
+-- these bytes open as this block's file to a record of it by the own client
+pub record IsSealed (h : Held) (id bytes : List ℕ) : Type 0 where
+  pub version : ℕ
+  pub payload : List ℕ
+  pub opens : opened h.opens h.size id bytes ≡ Some (own h id version payload)
+
+-- what waits or was put last is the record of the known version, whatever else the own client put is of the past, and under a block's name nothing but its
+-- sealed records was put
 pub record SoundAt (h : Held) (trace : List Call) : Type 0 where
   -- what waits for a live block is its record at its version
   pub waits : (id : List ℕ) (version : ℕ) (change : Option (List ℕ)) → live_version h id ≡ Some version → waiting h id ≡ Some change
@@ -46,6 +54,8 @@ pub record SoundAt (h : Held) (trace : List Call) : Type 0 where
       → (last_change (block id) trace ≡ Some (record { bytes = None; ok = true })) ⊎ IsForeign h id (last_change (block id) trace)
   -- each file that was put and opens as some block's to a record of the own client is of the past
   pub past : (id bytes : List ℕ) (r : Record) → was_put bytes trace ≡ true → opened h.opens h.size id bytes ≡ Some r → r.client ≡ h.state.client → IsPast h trace r
+  -- each file that was put under a block's name, with either answer, is a sealed record of that block
+  pub sealed : (id bytes : List ℕ) (ok : Bool) → Among trace (put (block id) bytes ok) → IsSealed h id bytes
 
 -- the same, of a directory that tells its calls
 abbrev pub SoundBy : Held → Option (List Call) → Type 0

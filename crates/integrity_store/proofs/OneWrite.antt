@@ -12,7 +12,7 @@ use Rattle.std.proofs.lemmas.Slice.Eq.{bytes_eq-Decides}
 use Rattle.std.specs.declared.option.Option.{Option}
 use Rattle.std.specs.declared.option.Option.TheVariants.{None, Some}
 use Rattle.std.proofs.lemmas.Option.{same_Some}
-use Rattle.outside.specs.Trace.{At, config, block, Call}
+use Rattle.outside.specs.Trace.{At, config, block, Call, put, removed}
 use Rattle.outside.specs.Names.{same_at}
 use Rattle.outside.specs.NameLaws.{at_total, at_exact}
 use Rattle.outside.specs.Changes.{FileChanges, change_at}
@@ -30,7 +30,7 @@ use Rattle.block_records.specs.BlockRecords.{Record, opened, payload_in}
 use Rattle.block_records.specs.RecordLaws.{if_true, opened-alike, opened-plain}
 use Rattle.held_blocks.specs.Held.{Held, live_version, waiting, waiting_or, bytes_in, file_of, where_live, wanted, own}
 use Rattle.held_blocks.specs.Forgeries.{was_put}
-use Rattle.held_blocks.specs.Soundness.{IsForeign, IsFresh, IsPast, SoundAt}
+use Rattle.held_blocks.specs.Soundness.{IsForeign, IsFresh, IsPast, IsSealed, SoundAt}
 use Rattle.held_blocks.proofs.Fetches.{wanted_of}
 use Rattle.held_blocks.specs.Stores.{IsWhole, IsNoBlock}
 use Rattle.batch_sealing.proofs.Sorted.{of_found}
@@ -108,6 +108,14 @@ put_call : (bytes : List ℕ) (e : ListEntry) (ok : Bool) (trace : List Call) �
 put_call bytes (name, None) ok trace was = inr was
 put_call bytes (name, Some b) ok trace was = elim (equal_or b bytes (was_put bytes trace) was) [ inl is ↦ inl (ap Some is) | inr old ↦ inr old ]
 
+removed_put : (other : At) (ok : Bool) (name : At) (bytes : List ℕ) (k : Bool) → removed other ok ≡ put name bytes k → ⊥
+removed_put other ok name bytes k e = cc
+
+-- a call that puts a file writes the entry of this name with these bytes
+put_by : (e : ListEntry) (ok : Bool) (name : At) (bytes : List ℕ) (k : Bool) → call_for e ok ≡ put name bytes k → (e.0 ≡ name) × (e.1 ≡ Some bytes)
+put_by (other, None) ok name bytes k is = absurd (removed_put other ok name bytes k is)
+put_by (other, Some b) ok name bytes k is = (cc, cc)
+
 -- a name that doesn't wait isn't the one that is written
 apart : (list : FileChanges) (e : ListEntry) (name : At) → change_at e.0 list ≡ Some e.1 → change_at name list ≡ None → same_at e.0 name ≡ false
 apart list e name waits none =
@@ -135,18 +143,26 @@ module _ (h : Held) (trace : List Call) (e : ListEntry) (ok : Bool) (whole : IsW
 
   -- a file that is written and opens as some block's is the record of a live block
   past_new : (x bytes : List ℕ) (r : Record) (name : At) → e.0 ≡ name → SoundAt h trace → e.1 ≡ Some bytes → opened h.opens h.size x bytes ≡ Some r → IsPast h (call_for e ok ∷ trace) r
-  past_new x bytes r config is s put opens =
-      let there : change_at config h.list ≡ Some (Some bytes) = subst (λ name. change_at name h.list ≡ Some e.1) is waits ∙ ap Some put in
+  past_new x bytes r config is s wrote opens =
+      let there : change_at config h.list ≡ Some (Some bytes) = subst (λ name. change_at name h.list ≡ Some e.1) is waits ∙ ap Some wrote in
       let p = opened-plain h.opens h.size x bytes r opens in
       absurd (subst IsNoBlock there whole.config (begins h.opens h.size x bytes p.0 p.1))
-  past_new x bytes r (block id) is s put opens =
-      let there : waiting h id ≡ Some (Some bytes) = subst (λ name. change_at name h.list ≡ Some e.1) is waits ∙ ap Some put in
+  past_new x bytes r (block id) is s wrote opens =
+      let there : waiting h id ≡ Some (Some bytes) = subst (λ name. change_at name h.list ≡ Some e.1) is waits ∙ ap Some wrote in
       let (life, known, live) = life_of_live (fin.get h.state.lives id) (fits_at h (block id, Some bytes) whole there).change in
       let (b, payload, same, fresh) = s.waits id life.version (Some bytes) live there in
       let opened_so : opened h.opens h.size id bytes ≡ Some (own h id life.version payload) = ap (opened h.opens h.size id) (same_Some _ _ same) ∙ fresh.opens in
       let own_is : own h id life.version payload ≡ r = opened-alike h.opens h.size id x bytes _ r whole.alike opened_so opens in
       subst (IsPast h (call_for e ok ∷ trace)) own_is
       (record { life = life; used = known; version = omega arith; payload = λ live'. wanted_of h (call_for e ok ∷ trace) id life.version bytes payload live there opened_so })
+
+  -- a block's file that is written is its record at its version
+  sealed_new : (x bytes : List ℕ) → e.0 ≡ block x → e.1 ≡ Some bytes → SoundAt h trace → IsSealed h x bytes
+  sealed_new x bytes at wrote s =
+      let there : waiting h x ≡ Some (Some bytes) = subst (λ name. change_at name h.list ≡ Some e.1) at waits ∙ ap Some wrote in
+      let (life, known, live) = life_of_live (fin.get h.state.lives x) (fits_at h (block x, Some bytes) whole there).change in
+      let (b, payload, same, fresh) = s.waits x life.version (Some bytes) live there in
+      record { version = life.version; payload = payload; opens = ap (opened h.opens h.size x) (same_Some _ _ same) ∙ fresh.opens }
 
   pub sound_call : SoundAt h trace → SoundAt h (call_for e ok ∷ trace)
   sound_call s = record {
@@ -159,6 +175,10 @@ module _ (h : Held) (trace : List Call) (e : ListEntry) (ok : Bool) (whole : IsW
     past = λ x bytes r was opens mine. elim (put_call bytes e ok trace was) [
       | inl new ↦ past_new x bytes r e.0 refl s new opens
       | inr old ↦ past_call r (s.past x bytes r old opens mine)
+    ];
+    sealed = λ x bytes k among. elim among [
+      | inl is ↦ let entry = put_by e ok (block x) bytes k is in sealed_new x bytes entry.0 entry.1 s
+      | inr before ↦ s.sealed x bytes k before
     ];
   }
 
@@ -244,6 +264,7 @@ module _ (h : Held) (trace : List Call) (e : ListEntry) (rest : FileChanges) (wh
     stands = λ id version live none. let (bytes, payload, is, f) = stands_left s id version live none in (bytes, payload, is, fresh_left id version bytes payload f);
     buried = λ id dead none. elim (buried_left s id dead none) [ inl gone ↦ inl gone | inr other ↦ inr (foreign_left id (last_change (block id) after) other) ];
     past = λ x bytes r was opens mine. past_left r (s.past x bytes r was opens mine);
+    sealed = λ x bytes k among. let f = s.sealed x bytes k among in record { version = f.version; payload = f.payload; opens = f.opens };
   }
 
 -- ---- the configuration's file
