@@ -74,11 +74,11 @@ module _ {V : Type 0} {K : Type 0} (trace : V → Option (List Call)) (faults : 
       -- loading leaves what is kept
       represents_mid : Represents ShowsFiles (kept_of G first) (calls_of trace mid) c tree
       represents_mid =
-          let r = represents ShowsFiles (settings_of first.opened.config) b.ready.salt _ _ _ (kept_of G first) (calls_of trace first) tree (ap (λ (i : Identity). i.size - 78) b.ready.identity) (ap (λ r. r.0) b.ready.root) b.ready.identity stood.keeps in
+          let r = represents ShowsFiles (settings_of first.opened.config) b.ready.holder _ _ _ (kept_of G first) (calls_of trace first) tree (ap (λ (i : Identity). i.size - 78) b.ready.identity) (ap (λ r. r.0) b.ready.root) b.ready.identity stood.keeps in
           let k = r.keeps.represents in
-          let on = (tower_enduring trace faults).loaded_stands (store_of first) (store_of mid) (identity_for (settings_of first.opened.config) r.salt) k.0 r.keeps.content only.loaded k.2 in
+          let on = (tower_enduring trace faults).loaded_stands (store_of first) (store_of mid) (identity_for (settings_of first.opened.config) r.holder) k.0 r.keeps.content only.loaded k.2 in
           subst (λ (s : Settings). Represents ShowsFiles (kept_of G first) (calls_of trace mid) s tree) is_opened
-          (record { salt = r.salt; keeps = record { content = r.keeps.content; represents = (k.0, k.1, on); shown = r.keeps.shown } })
+          (record { holder = r.holder; keeps = record { content = r.keeps.content; represents = (k.0, k.1, on); shown = r.keeps.shown } })
 
       pub represents_last : after.kept ≡ kept_of G first → OutsideStandsFor ShowsFiles c tree after
       represents_last same =

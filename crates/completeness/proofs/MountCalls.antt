@@ -95,7 +95,7 @@ module _ {V : Type 0} {K : Type 0} (trace : V → Option (List Call)) (faults : 
         record { of_config = of_config; stands = stands; emptied = record { state = b.attached.state; keeps = b.attached.kept } },
         record {
           stands = subst (λ x. Represents ShowsFiles (kept_of G mount) (calls_of trace mount) x tree) of_config
-              (represents ShowsFiles (settings_of mount.opened.config) b.ready.salt _ _ _ (kept_of G mount) (calls_of trace mount) tree (ap (λ (i : Identity). i.size - 78) b.ready.identity) (ap (λ x. x.0) b.ready.root) b.ready.identity stands.stands.keeps);
+              (represents ShowsFiles (settings_of mount.opened.config) b.ready.holder _ _ _ (kept_of G mount) (calls_of trace mount) tree (ap (λ (i : Identity). i.size - 78) b.ready.identity) (ap (λ x. x.0) b.ready.root) b.ready.identity stands.stands.keeps);
           opens = (given.opens.0, given.opens.1, only_one (kept_of G mount) (calls_of trace mount) given.opens.0 (b.configures given.opens.0 file_told given.opens.2).kept, given.opens.3);
         },
       )

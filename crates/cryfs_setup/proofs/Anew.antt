@@ -142,7 +142,7 @@ module _ {V : Type 0} {K : Type 0} (trace : V → Option (List Call)) (faults : 
 
     of_keeps : MountKeeps ShowsFiles trace G left tree → Represents ShowsFiles (kept_of G left) (calls_of trace left) c tree
     of_keeps k = subst (λ (s : Settings). Represents ShowsFiles (kept_of G left) (calls_of trace left) s tree) is_left
-        (represents ShowsFiles (settings_of left.opened.config) ready.salt _ _ _ (kept_of G left) (calls_of trace left) tree (ap (λ (i : Identity). i.size - 78) ready.identity) (ap (λ x. x.0) ready.root) ready.identity k)
+        (represents ShowsFiles (settings_of left.opened.config) ready.holder _ _ _ (kept_of G left) (calls_of trace left) tree (ap (λ (i : Identity). i.size - 78) ready.identity) (ap (λ x. x.0) ready.root) ready.identity k)
 
     of_closed : (result : Result Unit SyncError) → MountClosed ShowsFiles (settings_of left.opened.config) After.kept After.calls tree tree result → OutsideStandsFor ShowsFiles c tree After
     of_closed (Ok u) s = subst (λ (x : Settings). Represents ShowsFiles After.kept After.calls x tree) is_left s.0

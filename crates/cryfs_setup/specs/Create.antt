@@ -11,7 +11,7 @@ use Rattle.mount_tower.specs.declared.error.OpenError.{OpenError}
 use Rattle.mount_tower.specs.declared.opening.TheConstants.{MAX_CONFIG}
 use Rattle.mount_tower.specs.declared.error.OpenError.TheVariants as open_error
 use Rattle.mount_calls.specs.Migrating.{KeepsNewest}
-use Rattle.mount.specs.Making.{Created as Made, HasSalt, KnowsOnly, StaysThere}
+use Rattle.mount.specs.Making.{Created as Made, HasClient, HasSalt, KnowsOnly, StaysThere}
 use Rattle.mount_tower.specs.Making.{CreateCause, IsUnchanged, new_settings, root_of, sealed_file}
 use Rattle.outside.specs.Going.{GoesOn}
 use Rattle.outside.specs.Trace.{Call, adds, got, config}
@@ -50,6 +50,8 @@ pub record IsCreated {V : Type 0} {K : Type 0} (trace : V → Option (List Call)
   pub newest : OnOk made (KeepsNewest (G.kept ended.keeper))
   -- and the digest of the key in it has the drawn salt
   pub salt : OnOk made (HasSalt (G.kept ended.keeper) draws.key_salt)
+  -- and it is the record of client 1
+  pub client : OnOk made (HasClient (G.kept ended.keeper) 1)
 
 -- the password line wasn't read and nothing was done, or its password is the one
 abbrev pub RanCreate : {V : Type 0} → {K : Type 0} → (V → Option (List Call)) → (V → ℕ) → KeeperGhosts K → Cost → ℕ → Draws → Stream → Stream → V → K → Ended V K → Type 0

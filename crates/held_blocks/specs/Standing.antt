@@ -19,6 +19,7 @@ identity_of h = record {
   fs_id = h.state.fs_id;
   key_salt = h.state.key_salt;
   key_digest = h.state.key_digest;
+  client = h.state.client;
   size = h.size;
   opens = h.opens;
 }

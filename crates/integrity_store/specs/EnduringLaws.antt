@@ -60,6 +60,7 @@ applied_same a b old new changes x = λ i. record {
   fs_id = (x.state i).fs_id;
   key_salt = (x.state i).key_salt;
   key_digest = (x.state i).key_digest;
+  client = (x.state i).client;
   size = x.size i;
   opens = x.opens i;
 }

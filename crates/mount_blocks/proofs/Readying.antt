@@ -44,8 +44,8 @@ module _ {V : Type 0} {K : Type 0} (trace : V → Option (List Call)) (faults : 
           can_mark = subst (λ (s : Saver K). CanMark records s) saver r.core.can_mark;
           whole = subst (λ (s : Saver K). Whole (tower_durables trace) G s (store_of new)) saver (whole_on r.core.whole);
         };
-        salt = r.salt;
-        identity = laws.loaded_identity (store_of old) (store_of new) only.loaded ∙ (r.identity ∙ ap (λ (o : Opened). identity_for (settings_of o.config) r.salt) (sym only.beside.opened));
+        holder = r.holder;
+        identity = laws.loaded_identity (store_of old) (store_of new) only.loaded ∙ (r.identity ∙ ap (λ (o : Opened). identity_for (settings_of o.config) r.holder) (sym only.beside.opened));
         root = only.beside.root ∙ (r.root ∙ ap (λ (o : Opened). o.config.root) (sym only.beside.opened));
       }
 

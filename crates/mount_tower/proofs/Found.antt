@@ -19,7 +19,7 @@ use Rattle.session_saver.specs.Saving.{KeptConfigures}
 use Rattle.mount_tower.specs.declared.error.OpenError.{OpenError}
 use Rattle.mount_tower.specs.declared.error.OpenError.TheVariants.{Memory, NoState, BadState, Exists, Marked, Mismatch, NoConfig, Config as OfConfig, FaultDirectory, FaultState}
 use Rattle.mount_tower.specs.Opening.{ConfigCause, OpenCause, IsOf, ReadsConfigOnce}
-use Rattle.mount_tower.specs.Identities.{identity_for}
+use Rattle.mount_tower.specs.Identities.{holder_of, identity_for}
 use Rattle.mount_tower.proofs.Reading.{reads_configures, short_cut}
 
 pub config_open : (password : List ℕ) (state : PlainState) (list : FileChanges) (old new : Option (List Call)) (v0 v1 : ℕ) (e : OpenError) → ConfigCause password list old new v0 v1 e → OpenCause password state list old new v0 v1 e
@@ -51,12 +51,13 @@ no_block (Some (Some bytes)) t0 t answer gave form =
     let is : bytes ≡ answer = short_cut 1127 answer bytes (same_Some _ _ gave.1) (omega (arith, form.size)) in
     λ magic. (form_waits answer form).1 (ap (take 14) (sym is) ∙ magic)
 
-pub identity_is : (h : Held) (c : Settings) (state : PlainState) → h.size ≡ c.block_size → h.opens ≡ opened_of c.key → h.state ≡ state → state.marked ≡ false → IsOf state c → identity_of h ≡ identity_for c state.key_salt
+pub identity_is : (h : Held) (c : Settings) (state : PlainState) → h.size ≡ c.block_size → h.opens ≡ opened_of c.key → h.state ≡ state → state.marked ≡ false → IsOf state c → identity_of h ≡ identity_for c (holder_of state)
 identity_is h c state size opens is unmarked of = λ i. record {
   marked = (ap (λ (p : PlainState). p.marked) is ∙ unmarked) i;
   fs_id = (ap (λ (p : PlainState). p.fs_id) is ∙ of.fs_id) i;
   key_salt = (is i).key_salt;
   key_digest = (ap (λ (p : PlainState). p.key_digest) is ∙ of.digest) i;
+  client = (is i).client;
   size = size i;
   opens = opens i;
 }

@@ -26,7 +26,7 @@ use Rattle.config_file.specs.Settings.{Settings, settings_of}
 use Rattle.config_file.specs.declared.config.Opened.{Opened}
 use Rattle.session_saver.specs.Saving.{KeptConfigures}
 use Rattle.mount_tower.specs.Opening.{IsLoaded, AreKnown, OpenedConfig, ReadsConfigOnce}
-use Rattle.mount_tower.specs.Identities.{identity_for, KeepsRecord}
+use Rattle.mount_tower.specs.Identities.{Holder, holder_of, identity_for, KeepsRecord}
 use Rattle.mount_tower.specs.Unforged.{EachConfig, IsOnlyConfig, IsUnforgedConfig}
 
 pub true_is_false : true ≡ false → ⊥
@@ -101,11 +101,11 @@ pub are_known : (kept : Option (List ℕ)) (state : PlainState) (list : FileChan
 are_known kept state list version l known = λ other more m id.
     known id ∙ ap (λ (s : PlainState). version_in (fin.get s.lives id)) (same_kept kept state other list more l.keeps m.keeps).0
 
--- what stands under a configuration was opened by its record's salt
-pub stands_salt : (c : Settings) (salt : List ℕ) (state : PlainState) (list : FileChanges) (kept : List ℕ) (trace : Option (List Call)) (content : Content) → IsRecord state list kept
-    → Stands (identity_for c salt) kept trace content → state.key_salt ≡ salt
-stands_salt c salt state list kept trace content is s =
-    ap (λ (p : PlainState). p.key_salt) (one_reading state s.held.state list s.held.list kept is s.is_record).0 ∙ ap (λ (i : Identity). i.key_salt) s.same
+-- what stands under a configuration was opened by its record's holder
+pub stands_holder : (c : Settings) (holder : Holder) (state : PlainState) (list : FileChanges) (kept : List ℕ) (trace : Option (List Call)) (content : Content) → IsRecord state list kept
+    → Stands (identity_for c holder) kept trace content → holder_of state ≡ holder
+stands_holder c holder state list kept trace content is s =
+    ap holder_of (one_reading state s.held.state list s.held.list kept is s.is_record).0 ∙ ap (λ (i : Identity). record { key_salt = i.key_salt; client = i.client }) s.same
 
 -- ---- the configuration that was found
 

@@ -9,9 +9,29 @@ use Rattle.local_state.specs.Record.{PlainState, IsRecord}
 use Rattle.store_api.specs.Durables.{Identity}
 use Rattle.config_file.specs.Settings.{Settings}
 
--- what a store of this configuration is opened as, where its record's salt is this
-abbrev pub identity_for : Settings → List ℕ → Identity
-identity_for c salt = record { marked = false; fs_id = c.fs_id; key_salt = salt; key_digest = sha256 (salt ++ c.key); size = c.block_size; opens = opened_of c.key }
+-- what a record alone says of who holds a file system: the salt of the key's digest, and the number of the client
+pub record Holder : Type 0 where
+  pub key_salt : List ℕ
+  pub client : ℕ
+
+abbrev pub holder_of : PlainState → Holder
+holder_of state = record { key_salt = state.key_salt; client = state.client }
+
+-- who makes a file system is its client 1
+abbrev pub first_holder : List ℕ → Holder
+first_holder salt = record { key_salt = salt; client = 1 }
+
+-- what a store of this configuration is opened as by this holder
+abbrev pub identity_for : Settings → Holder → Identity
+identity_for c holder = record {
+  marked = false;
+  fs_id = c.fs_id;
+  key_salt = holder.key_salt;
+  key_digest = sha256 (holder.key_salt ++ c.key);
+  client = holder.client;
+  size = c.block_size;
+  opens = opened_of c.key;
+}
 
 -- a record of this state with this list is kept, in any form that it may have
 pub record KeepsRecord (was : Option (List ℕ)) (state : PlainState) (list : FileChanges) : Type 0 where

@@ -21,7 +21,7 @@ use Rattle.mount_tower.specs.declared.draws.Draws.{Draws}
 use Rattle.mount_tower.specs.declared.draws.SealDraws.{SealDraws}
 use Rattle.mount_tower.specs.declared.error.OpenError.{OpenError}
 use Rattle.mount_tower.specs.declared.error.OpenError.TheVariants.{Memory, Exists, FaultDirectory, FaultState}
-use Rattle.mount_tower.specs.Identities.{identity_for}
+use Rattle.mount_tower.specs.Identities.{first_holder, identity_for}
 use Rattle.mount_tower.specs.Tower.{sealed_trace, sealed_meanings, sealed_holdings, sealed_durables}
 
 -- the id of the root: the drawn one, or the next where that is zero
@@ -57,14 +57,14 @@ CreateCause kept t0 t1 v0 v1 k0 k1 FaultDirectory = RoseBy 1 v0 v1
 CreateCause kept t0 t1 v0 v1 k0 k1 FaultState = RoseBy 1 k0 k1
 CreateCause kept t0 t1 v0 v1 k0 k1 error = ⊥
 
--- a store that holds nothing, of this configuration and salt, and takes the newest format alone; it is sound where no file was changed
+-- a store that holds nothing, of this configuration and salt and of client 1, and takes the newest format alone; it is sound where no file was changed
 pub record IsNewStore {V : Type 0} (was : Option (List Call)) (failed : ℕ) (trace : V → Option (List Call)) (faults : V → ℕ) (c : Settings) (salt : List ℕ) (store : IntegrityStore V Cipher) : Type 0 where
   pub intact : (sealed_meanings trace faults).intact store
   pub same : sealed_trace trace store ≡ was
   pub few : (sealed_meanings trace faults).faults store ≡ failed
   pub unused : (id : Id) → has_id ((sealed_holdings trace).used store) id ≡ false
   pub none : (id : Id) → (sealed_holdings trace).content store id ≡ None
-  pub identity : (sealed_durables trace).identity store ≡ identity_for c salt
+  pub identity : (sealed_durables trace).identity store ≡ identity_for c (first_holder salt)
   pub least : (sealed_durables trace).least store ≡ 2
   pub sound : IsUnchanged was → (sealed_meanings trace faults).sound store
 

@@ -9,7 +9,7 @@ ghost use Rattle.held_blocks.specs.Stores.{version_in};
 ghost use Rattle.held_blocks.specs.Standing.{Stands as StandsFor};
 ghost use Rattle.config_file.specs.Settings.{settings_of, IsBlockSize};
 ghost use Rattle.mount_tower.specs.Opening.{OpenedConfig, IsOf, OpenCause, ReadsConfigOnce, ConfigCause};
-ghost use Rattle.mount_tower.specs.Identities.{identity_for};
+ghost use Rattle.mount_tower.specs.Identities.{Holder, holder_of, identity_for};
 ghost use Rattle.mount_tower.specs.Tower.{held_in, trace_in, tower_meanings, tower_holdings, tower_durables};
 ghost use Rattle.std.specs.declared.result.Result.TheVariants.{Err};
 
@@ -98,9 +98,9 @@ pub fn open_store<V: Vault>(
     ensures is_of { IfOk result (λ o. IsOf (plain_state state) (settings_of o.opened.config)) }
     ensures list { IfOk result (λ o. (tower_durables V.trace).list o.store ≡ list_of list.items) }
     ensures state { IfOk result (λ o. (held_in o.store).state ≡ plain_state state) }
-    ensures identity { IfOk result (λ o. (tower_durables V.trace).identity o.store ≡ identity_for (settings_of o.opened.config) state.key_salt) }
-    ensures stands { IfOk result (λ o. (salt : List ℕ) (content : Content) (kept : List ℕ) → IsRecord (plain_state state) (list_of list.items) kept
-        → StandsFor (identity_for (settings_of o.opened.config) salt) kept (V.trace vault) content
+    ensures identity { IfOk result (λ o. (tower_durables V.trace).identity o.store ≡ identity_for (settings_of o.opened.config) (holder_of (plain_state state))) }
+    ensures stands { IfOk result (λ o. (holder : Holder) (content : Content) (kept : List ℕ) → IsRecord (plain_state state) (list_of list.items) kept
+        → StandsFor (identity_for (settings_of o.opened.config) holder) kept (V.trace vault) content
         → (tower_meanings V.trace V.faults).sound o.store × SameContent content ((tower_holdings V.trace).content o.store)) }
     ensures version { IfOk result (λ o. (id : List ℕ) → (tower_holdings V.trace).version o.store id ≡ version_in (fin.get (plain_state state).lives id)) }
     ensures reads { IfOk result (λ o. ReadsConfigOnce (V.trace vault) (trace_in V.trace o.store)) }

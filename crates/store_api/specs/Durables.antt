@@ -20,6 +20,8 @@ pub record Identity : Type 0 where
   pub fs_id : List ℕ
   pub key_salt : List ℕ
   pub key_digest : List ℕ
+  -- the number of the client whose record it is
+  pub client : ℕ
   -- how many bytes a block's file has
   pub size : ℕ
   -- what a sealed text opens to with some extra bytes

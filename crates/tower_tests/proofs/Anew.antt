@@ -60,6 +60,7 @@ same_identity identity kept trace content h is opens size s =
       fs_id = (sym (ap (λ (d : Identity). d.fs_id) s.same) ∙ ap (λ st. st.fs_id) reading.0) i;
       key_salt = (sym (ap (λ (d : Identity). d.key_salt) s.same) ∙ ap (λ st. st.key_salt) reading.0) i;
       key_digest = (sym (ap (λ (d : Identity). d.key_digest) s.same) ∙ ap (λ st. st.key_digest) reading.0) i;
+      client = (sym (ap (λ (d : Identity). d.client) s.same) ∙ ap (λ st. st.client) reading.0) i;
       size = size i;
       opens = opens i;
     }

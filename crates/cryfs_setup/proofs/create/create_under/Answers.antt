@@ -20,6 +20,7 @@ returns-clause-created g c =
       versions = m.versions;
       newest = m.newest;
       salt = m.salt;
+      client = m.client;
     }
 
 pub returns-clause-causes : goal.returns-clause-causes

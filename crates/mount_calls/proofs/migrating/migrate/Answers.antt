@@ -57,7 +57,7 @@ pub returns-in-Ok-migrate_ids-clause-ready : goal.returns-in-Ok-migrate_ids-clau
 returns-in-Ok-migrate_ids-clause-ready g c =
     let r = c.requires.ready in
     let m = c.in-Ok-migrate_ids.ensures.migrates in
-    record { core = c.in-Ok-migrate_ids.ensures.ready; salt = r.salt; identity = m.identity ∙ r.identity; root = m.root ∙ r.root }
+    record { core = c.in-Ok-migrate_ids.ensures.ready; holder = r.holder; identity = m.identity ∙ r.identity; root = m.root ∙ r.root }
 
 pub returns-clause-migrates : goal.returns-clause-migrates
 returns-clause-migrates g c =
@@ -74,4 +74,4 @@ pub returns-clause-ready : goal.returns-clause-ready
 returns-clause-ready g c =
     let r = c.requires.ready in
     let m = c.in-Err-migrate_ids.ensures.migrates in
-    record { core = c.in-Err-migrate_ids.ensures.ready; salt = r.salt; identity = m.identity ∙ r.identity; root = m.root ∙ r.root }
+    record { core = c.in-Err-migrate_ids.ensures.ready; holder = r.holder; identity = m.identity ∙ r.identity; root = m.root ∙ r.root }

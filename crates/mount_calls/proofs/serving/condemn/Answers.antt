@@ -20,7 +20,7 @@ returns g c =
     record {
       ready = record {
         core = m.ready;
-        salt = c.requires.salt;
+        holder = c.requires.holder;
         identity = ap (λ (t : Tx (Cached g.row.V.Denot)). (tower_durables trace).identity t.store) m.store ∙ c.requires.identity;
         root = m.root ∙ c.requires.root;
       };

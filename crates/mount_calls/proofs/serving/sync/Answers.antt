@@ -12,7 +12,7 @@ returns g c =
     let z = c.sync.ensures.syncs in
     record {
       moves = record {
-        ready = record { core = m.ready; salt = r.salt; identity = m.leaves.identity ∙ r.identity; root = m.root ∙ r.root };
+        ready = record { core = m.ready; holder = r.holder; identity = m.leaves.identity ∙ r.identity; root = m.root ∙ r.root };
         opened = refl;
         fresh = m.violated ∙ c.requires.fresh;
         leaves = m.leaves;

@@ -11,7 +11,7 @@ use Rattle.config_file.specs.declared.config.Cipher.{Cipher}
 use Rattle.sha2.specs.Sha256.{sha256}
 use Rattle.store_api.specs.Holdings.{has_id}
 use Rattle.mount_tower.specs.Making.{IsUnchanged}
-use Rattle.mount_tower.specs.Identities.{identity_for}
+use Rattle.mount_tower.specs.Identities.{holder_of, identity_for}
 use Rattle.mount_tower.specs.Tower.{sealed_held, sealed_trace, sealed_holdings}
 use Rattle.mount_tower.proofs.Found.{identity_is}
 use Rattle.mount_tower.proofs.Fresh.{none_used, unused_none, untouched}
@@ -48,7 +48,7 @@ returns g c =
           (record {
             fs_id = ap (λ (s : PlainState). s.fs_id) state;
             digest = ap (λ (s : PlainState). s.key_digest) state ∙ (c.key_digest-digest.ensures ∙ ap (λ x. sha256 (x ++ c.args.config.key)) (sym (ap (λ (s : PlainState). s.key_salt) state)));
-          }) ∙ ap (identity_for (settings_of c.args.config)) (ap (λ (s : PlainState). s.key_salt) state));
+          }) ∙ ap (λ (s : PlainState). identity_for (settings_of c.args.config) (holder_of s)) state);
       least = n.least ∙ ap (λ (s : PlainState). s.least) state;
       sound = λ unchanged. n.fresh lives (untouched _ (subst IsUnchanged (sym (ap g.V.Vault.trace vault)) unchanged));
     }

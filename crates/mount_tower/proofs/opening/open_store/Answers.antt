@@ -12,11 +12,11 @@ use Rattle.integrity_store.specs.WaitingLaws.{in_order}
 use Rattle.config_file.specs.Settings.{settings_of}
 use Rattle.config_file.specs.declared.config.Cipher.{Cipher}
 use Rattle.mount_tower.specs.Opening.{OpenCause, ReadsConfigOnce}
-use Rattle.mount_tower.specs.Identities.{identity_for}
+use Rattle.mount_tower.specs.Identities.{holder_of, identity_for}
 use Rattle.mount_tower.specs.Tower.{vault_in}
 use Rattle.mount_tower.proofs.Found.{config_open, identity_is, no_block}
 use Rattle.mount_tower.proofs.Quiet.{err_same, ok_err}
-use Rattle.mount_tower.proofs.Reading.{reads_stands, stands_salt}
+use Rattle.mount_tower.proofs.Reading.{reads_stands, stands_holder}
 use Rattle.mount_tower.proofs.opening.open_store.Given.{Over}
 use Rattle.mount_tower.proofs.opening.open_store.Goals as goal
 
@@ -51,18 +51,18 @@ returns-in-Ok-cached_store-clause-identity g c =
     (ap opened_of c.new-sealed.ensures.key) refl c.requires.unmarked c.in-Ok-check_identity.ensures.ok
 
 pub returns-in-Ok-cached_store-clause-stands : goal.returns-in-Ok-cached_store-clause-stands
-returns-in-Ok-cached_store-clause-stands g c salt content kept is s =
+returns-in-Ok-cached_store-clause-stands g c holder content kept is s =
     let V = g.V.Vault in
     let state = plain_state c.args.state in
     let list = list_of c.args.list.items in
     let cfg = settings_of c.in-Ok.opened.config in
     let t0 = V.trace c.args.vault in
     let t = V.trace (vault_in c.in-Ok-cached_store.store) in
-    let e : state.key_salt ≡ salt = stands_salt cfg salt state list kept t0 content is s in
+    let e : holder_of state ≡ holder = stands_holder cfg holder state list kept t0 content is s in
     let et : t ≡ V.trace c.read_config.new.vault.vault = c.in-Ok-cached_store.ensures.trace ∙ ap (λ (x : RedoOf g). V.trace x.vault) c.new-sealed.ensures.vault in
     let reads : ReadsConfigOnce t0 t = subst (λ x. ReadsConfigOnce t0 x) (sym et) (subst (λ (x : RedoOf g). ReadsConfigOnce (V.trace x.vault) (V.trace c.read_config.new.vault.vault)) c.new-redo.ensures c.read_config.ensures.reads) in
-    let s1 : Stands (identity_for cfg state.key_salt) kept t0 content = subst (λ x. Stands (identity_for cfg x) kept t0 content) (sym e) s in
-    let s2 : Stands (identity_for cfg state.key_salt) kept t content = reads_stands (identity_for cfg state.key_salt) kept content t0 t reads s1 in
+    let s1 : Stands (identity_for cfg (holder_of state)) kept t0 content = subst (λ x. Stands (identity_for cfg x) kept t0 content) (sym e) s in
+    let s2 : Stands (identity_for cfg (holder_of state)) kept t content = reads_stands (identity_for cfg (holder_of state)) kept content t0 t reads s1 in
     let waits : c.new-sealed.result.vault.list ≡ list = ap (λ (x : RedoOf g). x.list) c.new-sealed.ensures.vault ∙ (c.read_config.ensures.list ∙ ap (λ (x : RedoOf g). x.list) c.new-redo.ensures) in
     c.in-Ok-cached_store.ensures.opened content kept (subst (λ l. IsRecord state l kept) (sym waits) is)
     (subst (λ i. Stands i kept t content) (sym (returns-in-Ok-cached_store-clause-identity g c)) s2)

@@ -23,6 +23,7 @@ returns-clause-opened g c = λ identity content opens size stands.
       fs_id = state.fs_id;
       key_salt = state.key_salt;
       key_digest = state.key_digest;
+      client = state.client;
       size = c.new-sealed.ensures.size i;
       opens = g.C.Sealer.opens (c.new-sealed.ensures.cipher i) (c.new-sealed.ensures.key i);
     } in
