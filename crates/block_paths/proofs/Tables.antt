@@ -9,7 +9,7 @@ use Rattle.store_api.specs.Content.{Id}
 use Rattle.cryfs_check.specs.declared.place.Place.{Place}
 use Rattle.cryfs_check.specs.declared.place.Visit.{Visit}
 use Rattle.cryfs_check.specs.Places.{AreBehind, place_text, places_text, sites_of, site_needs, visit_needs}
-use Rattle.cryfs_check.specs.Seats.{Site, root_site}
+use Rattle.cryfs_check.specs.Seats.{root_site}
 use Rattle.cryfs_check.proofs.Tables.{sites-length}
 use Rattle.cryfs_check.proofs.Turns.{mapped_some}
 

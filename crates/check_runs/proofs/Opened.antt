@@ -1,5 +1,5 @@
 -- What opening found, where blocks were only loaded since.
-use Rattle.std.proofs.Common.{◌≡◌, ◌≤◌, ◌-◌, ℕ, List, [], ◌∷◌, sym, ◌∙◌, ap, subst, arith}
+use Rattle.std.proofs.Common.{◌≡◌, ◌≤◌, ◌-◌, ℕ, List, [], ◌∷◌, sym, ap, subst, arith}
 use Rattle.std.specs.Prelude.{is_some, true}
 use Rattle.std.specs.declared.option.Option.{Option}
 use Rattle.config_file.specs.Settings.{Settings, settings_of}

@@ -1,5 +1,5 @@
 -- A run of a survey, from how it began, what was found and how it was closed.
-use Rattle.std.proofs.Common.{◌≡◌, ◌≤◌, ◌∙◌, ℕ, Bool, true, false, List, [], ◌∷◌, sym, ap, subst, inr, arith}
+use Rattle.std.proofs.Common.{◌≡◌, ◌≤◌, ◌∙◌, ℕ, Bool, true, false, List, [], sym, ap, subst, inr, arith}
 use Rattle.std.specs.Prelude.{is_some, IfErr, IsOk}
 use Rattle.std.specs.declared.option.Option.{Option}
 use Rattle.config_file.specs.Settings.{Settings, settings_of}
@@ -11,7 +11,7 @@ use Rattle.mount_blocks.specs.Examined.{OnlyExamined}
 use Rattle.mount_blocks.specs.ExaminedLaws.{examined_lawful}
 use Rattle.mount_blocks.specs.declared.examined.Examined.{Examined}
 use Rattle.mount_core.specs.Standing.{IsKeptMarked}
-use Rattle.mount_tower.specs.Tower.{Cached, held_in, vault_in}
+use Rattle.mount_tower.specs.Tower.{held_in, vault_in}
 use Rattle.outcome.specs.Meanings.{HasCause, IsQuiet}
 use Rattle.outside.specs.Trace.{Call}
 use Rattle.outside.specs.declared.keeper.Keeper.{Ghosts as KeeperGhosts}

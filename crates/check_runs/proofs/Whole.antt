@@ -1,42 +1,32 @@
 -- A run of a check, from how it began, what was judged and how it was closed.
-use Rattle.std.proofs.Common.{◌≡◌, ◌⊎◌, ◌≤◌, ◌-◌, ◌∙◌, ℕ, Bool, true, false, List, [], ◌∷◌, sym, ap, subst, inl, inr, arith}
+use Rattle.std.proofs.Common.{◌≡◌, ◌⊎◌, ◌≤◌, ◌∙◌, ℕ, Bool, true, false, List, [], ◌∷◌, sym, ap, subst, inl, inr, arith}
 use Rattle.std.specs.Prelude.{is_some, IfErr, IsOk}
 use Rattle.std.specs.declared.option.Option.{Option}
 use Rattle.config_file.specs.Settings.{Settings, settings_of}
 use Rattle.fs_model.specs.Tree.{Tree}
-use Rattle.held_blocks.specs.Held.{Held}
 use Rattle.held_blocks.specs.Standing.{records}
 use Rattle.mount.proofs.Formats.{equal_same, loaded_same}
-use Rattle.mount.proofs.Reading.{represents_told}
-use Rattle.mount.proofs.Standing.{represents}
 use Rattle.mount.specs.Answering.{store_of, calls_of, vault_faults, keeper_faults, kept_of}
 use Rattle.mount.specs.declared.mount.Mount.{Mount}
 use Rattle.mount.specs.Formats.{TakesSame}
 use Rattle.mount.specs.Mounts.{IsReady}
-use Rattle.mount.specs.Representing.{Represents}
-use Rattle.mount.specs.Tower.{TowerStands, TowerConfigures}
-use Rattle.mount_answering.proofs.Lines.{configures_loaded, marked_or}
-use Rattle.mount_blocks.proofs.Enduring.{tower_applied, tower_enduring}
+use Rattle.mount.specs.Tower.{TowerConfigures}
+use Rattle.mount_answering.proofs.Lines.{marked_or}
 use Rattle.mount_blocks.specs.Examined.{OnlyExamined}
 use Rattle.mount_core.specs.Standing.{IsKeptMarked}
-use Rattle.mount_tower.proofs.Reading.{same_kept}
-use Rattle.mount_tower.specs.Identities.{identity_for, KeepsRecord}
-use Rattle.mount_tower.specs.Tower.{Cached, held_in, vault_in, trace_in, tower_meanings, tower_holdings, tower_durables}
+use Rattle.mount_tower.specs.Tower.{Cached, held_in, vault_in, trace_in}
 use Rattle.outcome.specs.Meanings.{HasCause, IsQuiet}
 use Rattle.outside.specs.Causes.{RoseBy}
-use Rattle.outside.specs.Going.{GoesOn}
-use Rattle.outside.specs.Honest.{is_lie, count_told}
 use Rattle.outside.specs.Trace.{Call}
 use Rattle.outside.specs.declared.keeper.Keeper.{Ghosts as KeeperGhosts}
 use Rattle.session_runs.proofs.Still.{went_got}
-use Rattle.session_runs.proofs.Whole.{each_before, only_one}
+use Rattle.session_runs.proofs.Whole.{only_one}
 use Rattle.session_runs.specs.Openings.{StayOpen}
 use Rattle.session_runs.specs.Resting.{OnlyGot}
 use Rattle.session_runs.specs.Runs.{Outside, outside_of, OutsideStandsFor, lies, OpensTo, IsExaminedRun}
 use Rattle.session_runs.specs.Turns.{Begun}
 use Rattle.session_saver.specs.Saving.{KeptConfigures}
 use Rattle.session_saver.specs.declared.saver.Saver.{Saver}
-use Rattle.store_api.specs.Durables.{Identity}
 use Rattle.store_api.specs.declared.tx.Tx.{Tx}
 use Rattle.tree_commands.specs.Showing.{ShowsFiles}
 use Rattle.check_runs.specs.declared.examining.Examination.{Examination}

@@ -1,8 +1,7 @@
 -- What a check answers.
-use Rattle.std.proofs.Common.{◌≡◌, ℕ, ◌≤◌, List, [], ◌∷◌, length, refl, sym, ◌∙◌, ap, subst, true}
+use Rattle.std.proofs.Common.{◌≡◌, ℕ, List, length, sym, ◌∙◌, ap, subst, true}
 use Rattle.std.specs.Prelude.{Some, Ok, Err, IfOk, map, is_some, T}
 use Rattle.std.specs.FinMap.{is_sorted}
-use Rattle.block_id.specs.declared.fail.Fail.{Fail}
 use Rattle.block_id.specs.declared.id.BlockId.{BlockId}
 use Rattle.outcome.specs.Meanings.{Meanings, Lawful}
 use Rattle.outcome.specs.Outcome.{Outcome, first_, passed}
@@ -14,13 +13,12 @@ use Rattle.block_walk.specs.declared.flaw.Flaw.{Flaw}
 use Rattle.block_walk.specs.declared.flaw.Flaw.TheVariants.{Unowned}
 use Rattle.block_walk.specs.declared.flaw.Halt.{Halt}
 use Rattle.block_walk.specs.declared.flaw.Halt.TheVariants.{Found, Failing}
-use Rattle.block_walk.specs.Given.{Given, Asked, AskedBy, IsLoad, given_of, content_of, fail_of}
+use Rattle.block_walk.specs.Given.{Asked, AskedBy, IsLoad, given_of, content_of, fail_of}
 use Rattle.block_walk.specs.Marks.{MarkList, unmarked, first_unowned}
 use Rattle.block_walk.proofs.Halting.{asked_of, gave-asked, asked-ids, asked-again}
 use Rattle.block_walk.proofs.Loading.{asked_true, asked_by}
-use Rattle.check_rules.specs.Flaws.{HasFlaw, HasUnowned, Refutes}
+use Rattle.check_rules.specs.Flaws.{HasFlaw, HasUnowned}
 use Rattle.check_rules.proofs.Refuting.{refutes}
-use Rattle.cryfs_check.specs.declared.checking.Checked.{Checked}
 use Rattle.cryfs_check.specs.declared.checking.Checked.TheVariants.{No}
 use Rattle.cryfs_check.specs.Checks.{answer_to, ShowsSome, IsYes, OnNo, AsksOnce, IsRefuted}
 use Rattle.cryfs_check.specs.Halts.{IsStopped}

@@ -1,10 +1,8 @@
 -- What the first bytes of a blob say of it.
-use Rattle.std.proofs.Common.{◌≡◌, Bool, true, false, refl, ℕ, zero, suc, ◌+◌, ◌-◌, ◌<◌, ◌≤◌, List, [], ◌∷◌, ◌++◌, length, take, drop, sym, ◌∙◌, ap, subst, arith}
-use Rattle.std.specs.Prelude.{IsTrue, nat_le, nat_lt, not, ◌&&◌}
-use Rattle.std.specs.List.{list_any}
+use Rattle.std.proofs.Common.{◌≡◌, Bool, true, false, refl, ℕ, zero, suc, ◌+◌, ◌-◌, ◌≤◌, List, [], ◌∷◌, ◌++◌, length, take, drop, sym, ◌∙◌, ap, subst, arith}
+use Rattle.std.specs.Prelude.{not}
 use Rattle.std.specs.Str.{bytes_eq}
-use Rattle.std.proofs.lemmas.Bool.{leb-true}
-use Rattle.std.proofs.lemmas.List.{length-append, length-take, take_all}
+use Rattle.std.proofs.lemmas.List.{take_all}
 use Rattle.std.proofs.lemmas.Slice.Eq.{bytes_eq-Decides}
 use Rattle.block_walk.specs.declared.flaw.Flaw.{Flaw}
 use Rattle.block_walk.specs.declared.flaw.Halt.{Halt}
@@ -16,12 +14,10 @@ use Rattle.block_walk.proofs.Halting.{halted_here}
 use Rattle.check_rules.specs.Flaws.{FitsBody}
 use Rattle.dir_entries.specs.Layout.{Listing}
 use Rattle.fs_blobs.specs.Headers.{blob, header_text, BeginsWith}
-use Rattle.fs_blobs.proofs.Laws.{one_in_front}
 use Rattle.fs_blobs.proofs.Parts.{length-header, length-blob, read_behind}
 use Rattle.fs_model.specs.declared.attr.Kind.{Kind}
 use Rattle.fs_model.specs.declared.attr.Kind.TheVariants.{Directory, File, Link}
-use Rattle.fs_model.specs.declared.limits.TheConstants.{MAX_ENTRIES, MAX_FILE, MAX_TARGET}
-use Rattle.fs_model.specs.Fitting.{is_target}
+use Rattle.fs_model.specs.declared.limits.TheConstants.{MAX_ENTRIES, MAX_TARGET}
 use Rattle.store_api.specs.Content.{Id, Content}
 use Rattle.store_api.specs.Loads.{LoadAnswer}
 use Rattle.cryfs_check.specs.Rows.{most_kept, FitsKept}

@@ -1,5 +1,5 @@
 -- A walk that visited all, and left no block without an owner, certifies its owners.
-use Rattle.std.proofs.Common.{◌≡◌, ◌⊎◌, ℕ, zero, suc, ◌+◌, ◌-◌, Bool, true, false, cond, List, [], ◌∷◌, length, get_or, refl, sym, ◌∙◌, ap, subst, inl, inr, arith, append-nil}
+use Rattle.std.proofs.Common.{◌≡◌, ℕ, zero, suc, ◌+◌, ◌-◌, Bool, true, false, cond, List, [], ◌∷◌, length, get_or, refl, sym, ◌∙◌, ap, subst, inl, inr, arith, append-nil}
 use Rattle.std.specs.Prelude.{Option, Some, None, is_some, T, map, ◌==◌, ◌&&◌}
 use Rattle.std.specs.List.{slice_get}
 use Rattle.std.specs.List as lists
@@ -7,31 +7,27 @@ use Rattle.std.specs.Option.{option_map}
 use Rattle.std.specs.FinMap.{find, get, is_sorted}
 use Rattle.std.specs.FinMap.Entries.{below_all, is_some-find}
 use Rattle.std.specs.Ordering.{is_lt, eq_by_cmp}
-use Rattle.std.specs.declared.cmp.Ordering.{Ordering}
 use Rattle.std.proofs.lemmas.Bool.{eqb-true, false_from_ne_true}
-use Rattle.std.proofs.lemmas.List.{get_or-map}
 use Rattle.std.proofs.lemmas.Option.{same_Some, get_or_from_slice_get, slice_get-map}
 use Rattle.block_id.specs.declared.id.BlockId.{BlockId}
 use Rattle.data_tree.specs.Stored.{BlobTree}
-use Rattle.data_tree.specs.Trees.{NoDoubles}
-use Rattle.data_tree.proofs.Ids.{same_self}
 use Rattle.fs_model.specs.Tree.{Path}
-use Rattle.store_api.specs.Content.{Id, Content, id_cmp, same_id}
+use Rattle.store_api.specs.Content.{Id, id_cmp}
 use Rattle.store_api.specs.Holdings.{has_id}
 use Rattle.store_api.specs.Loads.{LoadAnswer}
 use Rattle.store_api.proofs.Rising.{ids_total}
-use Rattle.block_walk.specs.Given.{Given, AgreesWith, content_of}
+use Rattle.block_walk.specs.Given.{Given, content_of}
 use Rattle.block_walk.specs.Marks.{MarkList, unmarked, owner_of, first_unowned}
 use Rattle.check_rules.specs.Certificates.{IsOwner, AreOwners, Certifies}
 use Rattle.cryfs_check.specs.Places.{PlaceText, paths_of, sites_of, owners_of}
 use Rattle.cryfs_check.specs.Seats.{Site, Seat, site_of, root_site, sites, Among, tree_in, blobs_in, ids_in, text_of, AreFound, AreSeats}
-use Rattle.cryfs_check.specs.Visits.{AreOwned, Visited, VisitedAll}
+use Rattle.cryfs_check.specs.Visits.{VisitedAll}
 use Rattle.check_rules.proofs.Walking.{agrees_self}
 use Rattle.check_rules.specs.Flaws.{HasUnowned}
 use Rattle.check_rules.proofs.Refuting.{has_unowned}
 use Rattle.cryfs_check.proofs.Lists.{at_among, among_find}
 use Rattle.cryfs_check.proofs.Owning.{more_than_none}
-use Rattle.cryfs_check.proofs.Settling.{are_seats, given_has}
+use Rattle.cryfs_check.proofs.Settling.{are_seats}
 use Rattle.cryfs_check.proofs.Showing.{id_exact, at_row, at_blob, id_at, seats_store, seats_show}
 use Rattle.cryfs_check.proofs.Tables.{site-path}
 use Rattle.cryfs_check.proofs.Turns.{mapped_some}

@@ -1,6 +1,6 @@
 -- One more visit: the entries of its directory are paths to visit.
-use Rattle.std.proofs.Common.{◌≡◌, ◌⊎◌, ℕ, Bool, true, List, [], ◌∷◌, ◌++◌, refl, sym, ◌∙◌, ap, subst, inl, inr, append_assoc, append-nil}
-use Rattle.std.specs.Prelude.{Option, Some, None, T, IsTrue, map}
+use Rattle.std.proofs.Common.{◌≡◌, ℕ, Bool, true, List, [], ◌∷◌, ◌++◌, refl, sym, ◌∙◌, ap, subst, inl, inr, append_assoc}
+use Rattle.std.specs.Prelude.{T, map}
 use Rattle.std.specs.FinMap.{is_sorted}
 use Rattle.std.specs.FinMap.Entries.{below_all}
 use Rattle.std.proofs.lemmas.List.{map-append}
@@ -9,7 +9,7 @@ use Rattle.dir_entries.specs.Layout.{EntryTarget, Listing}
 use Rattle.fs_model.specs.declared.attr.Kind.{Kind}
 use Rattle.fs_model.specs.declared.attr.Kind.TheVariants.{Directory, File, Link}
 use Rattle.fs_model.specs.Tree.{Path, name_cmp}
-use Rattle.fs_model.proofs.TreeLemmas.{name_total, name_exact}
+use Rattle.fs_model.proofs.TreeLemmas.{name_total}
 use Rattle.store_api.specs.Content.{Id}
 use Rattle.cryfs_check.specs.Rows.{FitsRow}
 use Rattle.cryfs_check.specs.Seats.{Site, Seat, site_of, root_site, child_of, sites, Among, IsRowSeat, IsEntered, HaveOnePath, AreFound}

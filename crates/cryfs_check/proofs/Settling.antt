@@ -1,28 +1,27 @@
 -- A walk that visited all is a whole file system.
-use Rattle.std.proofs.Common.{◌≡◌, ◌⊎◌, ℕ, ◌+◌, ◌≤◌, true, List, [], ◌∷◌, ◌++◌, length, refl, sym, ◌∙◌, ap, subst, inl, inr, arith, append-nil}
+use Rattle.std.proofs.Common.{◌≡◌, ℕ, ◌+◌, ◌≤◌, true, List, [], ◌∷◌, length, refl, sym, ◌∙◌, ap, subst, inl, inr, arith, append-nil}
 use Rattle.std.specs.Prelude.{Option, Some, None, is_some, map, All}
 use Rattle.std.specs.List.{slice_get}
 use Rattle.std.specs.FinMap.{find}
 use Rattle.std.specs.FinMap.Entries.{is_some-find}
 use Rattle.std.proofs.lemmas.List.Elements.{All-head, All-tail}
 use Rattle.std.proofs.lemmas.Option.{same_Some}
-use Rattle.block_id.specs.Fresh.{zero_id}
 use Rattle.data_tree.specs.Stored.{BlobTree}
 use Rattle.dir_entries.specs.Layout.{EntryTarget, Listing, IsEntry}
-use Rattle.forest.specs.Nodes.{Lists, IsBodyOf}
+use Rattle.forest.specs.Nodes.{IsBodyOf}
 use Rattle.fs_model.specs.declared.attr.Kind.{Kind}
 use Rattle.fs_model.specs.declared.attr.Kind.TheVariants.{Directory, File, Link}
 use Rattle.fs_model.specs.declared.attr.TheConstants.{DIRECTORY_MODE}
-use Rattle.fs_model.specs.declared.limits.TheConstants.{MAX_ENTRIES, MAX_FILE, MAX_MODE}
+use Rattle.fs_model.specs.declared.limits.TheConstants.{MAX_ENTRIES, MAX_MODE}
 use Rattle.fs_model.specs.Fitting.{is_target}
-use Rattle.fs_model.specs.Tree.{Path, path_cmp, name_cmp, root_row, FitsKind, IsWithinLimits}
+use Rattle.fs_model.specs.Tree.{Path, name_cmp, root_row, FitsKind, IsWithinLimits}
 use Rattle.fs_model.proofs.TreeLemmas.{name_total, name_exact, path_total, path_exact}
-use Rattle.store_api.specs.Content.{Id, Content, id_cmp, same_id}
+use Rattle.store_api.specs.Content.{Id, id_cmp}
 use Rattle.store_api.specs.Holdings.{has_id}
-use Rattle.block_walk.specs.Given.{Given, AgreesWith, content_of}
-use Rattle.block_walk.specs.Marks.{MarkList, owner_of}
+use Rattle.block_walk.specs.Given.{Given, content_of}
+use Rattle.block_walk.specs.Marks.{MarkList}
 use Rattle.cryfs_check.specs.Rows.{FitsRow}
-use Rattle.cryfs_check.specs.Seats.{Site, Seat, site_of, row_of, root_site, child_of, sites, text_of, bytes_in, Among, seat_at, look_in, target_in, IsRowSeat, IsEntered, IsBelow, IsRootSeat, HaveOnePath, AreFound, AreSeats}
+use Rattle.cryfs_check.specs.Seats.{Site, Seat, site_of, row_of, root_site, child_of, sites, text_of, bytes_in, Among, seat_at, look_in, target_in, IsEntered, IsBelow, IsRootSeat, HaveOnePath, AreFound, AreSeats}
 use Rattle.cryfs_check.specs.Visits.{AreOwned}
 use Rattle.cryfs_check.proofs.Finding.{rises}
 use Rattle.cryfs_check.proofs.Lists.{among_left, among_map, map_among, at_among, among_at, find_among, among_find}

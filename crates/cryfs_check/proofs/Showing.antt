@@ -1,7 +1,7 @@
 -- Seats that are a whole file system: their blocks store their blobs, and these show their tree.
-use Rattle.std.proofs.Common.{◌≡◌, ◌⊎◌, ℕ, ◌≤◌, true, false, cond, List, [], ◌∷◌, length, refl, sym, ◌∙◌, ap, subst, inl, inr, arith}
+use Rattle.std.proofs.Common.{◌≡◌, ℕ, ◌≤◌, true, false, cond, List, [], ◌∷◌, length, refl, sym, ◌∙◌, ap, subst, inl, inr, arith}
 use Rattle.std.specs.Prelude.{Option, Some, None, is_some, map}
-use Rattle.std.specs.FinMap.{find, get, from_entries, get-from_entries}
+use Rattle.std.specs.FinMap.{find, get, get-from_entries}
 use Rattle.std.specs.Cmp.{IsTotalOrder, tied_itself}
 use Rattle.std.specs.Cmp.Lexicographic.{nat_list_cmp_total}
 use Rattle.std.specs.FinMap.{slice_cmp-IsAntisymmetric, nat_cmp-IsAntisymmetric}
@@ -10,27 +10,23 @@ use Rattle.std.specs.declared.cmp.Ordering.{Ordering}
 use Rattle.std.specs.declared.cmp.Ordering.TheVariants.{Less, Equal, Greater}
 use Rattle.std.proofs.lemmas.Option.{same_Some}
 use Rattle.std.proofs.lemmas.Bool.{or_left}
-use Rattle.block_id.specs.Fresh.{zero_id}
-use Rattle.blob_api.specs.BlobMap.{BlobMap, id_cmp}
-use Rattle.data_tree.specs.Trees.{IsTree}
+use Rattle.blob_api.specs.BlobMap.{id_cmp}
 use Rattle.data_tree.specs.Stored.{BlobTree, StoresBlobs}
 use Rattle.data_tree.proofs.Ids.{same_self}
-use Rattle.dir_entries.specs.Layout.{EntryTarget}
-use Rattle.forest.specs.Nodes.{Look, Lists, IsBodyOf, IsBlobOf}
+use Rattle.forest.specs.Nodes.{Lists, IsBodyOf, IsBlobOf}
 use Rattle.forest.specs.Shows.{above, target_for, entries_at, ShowsBy}
 use Rattle.fs_blobs.specs.Headers.{blob}
 use Rattle.fs_model.specs.declared.attr.Kind.{Kind}
 use Rattle.fs_model.specs.declared.attr.Kind.TheVariants.{Directory, File, Link}
 use Rattle.fs_model.specs.declared.limits.TheConstants.{MAX_ENTRIES}
-use Rattle.fs_model.specs.Names.{IsName}
-use Rattle.fs_model.specs.Tree.{Path, Row, Tree, path_cmp, name_cmp, root_row, is_directory, is_folder, children, entries_size, directory_size, IsRooted, IsWellFormed, IsWithinLimits}
+use Rattle.fs_model.specs.Tree.{Path, Row, is_directory, is_folder, children, directory_size, IsRooted, IsWellFormed, IsWithinLimits}
 use Rattle.fs_model.proofs.TreeLemmas.{path_total, path_exact, get-children, some_of}
 use Rattle.fs_model.proofs.SizeLemmas.{no_names, size-empty, map_size}
 use Rattle.fs_model.proofs.PutRows.{below_file, below_none}
 use Rattle.path_walks.proofs.Sizes.{sizes_shown, body_size}
 use Rattle.store_api.specs.Content.{Id, Content, same_id}
 use Rattle.store_api.specs.Holdings.{has_id}
-use Rattle.cryfs_check.specs.Seats.{Seat, row_of, text_of, Among, seat_at, target_in, look_in, id_in, tree_in, blobs_in, ids_in, IsBelow, IsRootSeat, AreSeats}
+use Rattle.cryfs_check.specs.Seats.{Seat, row_of, text_of, Among, seat_at, target_in, look_in, id_in, tree_in, blobs_in, ids_in, IsBelow, AreSeats}
 
 -- ---- seats by a key
 

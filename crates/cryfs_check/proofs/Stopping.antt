@@ -1,21 +1,20 @@
 -- Why visits of a whole walk stopped.
-use Rattle.std.proofs.Common.{◌≡◌, ◌⊎◌, ℕ, zero, suc, ◌+◌, ◌<◌, Bool, true, false, List, [], ◌∷◌, ◌++◌, length, refl, sym, ◌∙◌, ap, subst, inl, inr, arith}
-use Rattle.std.specs.Prelude.{Some, None, Ok, Err, Option, map, reverse, is_some}
+use Rattle.std.proofs.Common.{◌≡◌, ℕ, zero, suc, ◌+◌, ◌<◌, Bool, true, false, List, [], ◌∷◌, ◌++◌, refl, sym, ◌∙◌, ap, subst, inl, inr, arith}
+use Rattle.std.specs.Prelude.{Some, None, Ok, Err, map, is_some}
 use Rattle.std.specs.List.{slice_get}
 use Rattle.std.specs.Option.{option_map}
 use Rattle.std.proofs.lemmas.Bool.{or_left, or_right, or_cases, false_from_ne_true}
 use Rattle.std.proofs.lemmas.List.{map-append}
 use Rattle.block_id.specs.declared.fail.Fail.{Fail}
-use Rattle.block_id.specs.Fresh.{zero_id}
 use Rattle.data_tree.specs.Stored.{BlobTree}
 use Rattle.data_tree.specs.Trees.{NoDoubles}
 use Rattle.data_tree.proofs.Ids.{in_one}
 use Rattle.data_tree.proofs.Making.{alone-join}
-use Rattle.dir_entries.specs.Layout.{EntryTarget, Listing, IsBody}
+use Rattle.dir_entries.specs.Layout.{EntryTarget}
 use Rattle.fs_blobs.specs.Headers.{blob}
 use Rattle.fs_model.specs.declared.attr.Kind.{Kind}
 use Rattle.fs_model.specs.declared.attr.Kind.TheVariants.{Directory}
-use Rattle.fs_model.specs.Tree.{Path, name_cmp}
+use Rattle.fs_model.specs.Tree.{Path}
 use Rattle.fs_model.proofs.TreeLemmas.{name_total, name_exact}
 use Rattle.store_api.specs.Content.{Id, Content, same_id}
 use Rattle.store_api.specs.Holdings.{has_id}
@@ -24,7 +23,7 @@ use Rattle.block_walk.specs.declared.flaw.Flaw.{Flaw}
 use Rattle.block_walk.specs.declared.flaw.Flaw.TheVariants.{BadNode, BadBlob, Parent, Twice, NotLive, Unowned}
 use Rattle.block_walk.specs.declared.flaw.Halt.{Halt}
 use Rattle.block_walk.specs.declared.flaw.Halt.TheVariants.{Found, Failing}
-use Rattle.block_walk.specs.Given.{Given, Asked, AgreesWith, given_by, given_of, content_of}
+use Rattle.block_walk.specs.Given.{Given, Asked, AgreesWith, given_of, content_of}
 use Rattle.block_walk.specs.Halts.{Halted, OnFound, IsOwned}
 use Rattle.block_walk.specs.Marks.{MarkList, owner_of}
 use Rattle.block_walk.proofs.Chains.{agrees-parts}

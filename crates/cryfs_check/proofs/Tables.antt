@@ -1,12 +1,11 @@
 -- The sites and the paths of a table of places.
-use Rattle.std.proofs.Common.{◌≡◌, ◌⊎◌, ℕ, zero, suc, ◌+◌, ◌<◌, ◌≤◌, List, [], ◌∷◌, ◌++◌, length, get_or, refl, sym, ◌∙◌, ap, subst, inl, inr, arith, append_assoc, append-nil}
-use Rattle.std.specs.Prelude.{Option, Some, None, map}
+use Rattle.std.proofs.Common.{◌≡◌, ℕ, zero, suc, ◌+◌, ◌<◌, ◌≤◌, List, [], ◌∷◌, ◌++◌, length, get_or, refl, sym, ◌∙◌, ap, inl, inr, arith, append_assoc, append-nil}
+use Rattle.std.specs.Prelude.{Some, None, map}
 use Rattle.std.specs.List.{slice_get}
 use Rattle.std.specs.Option.{option_map}
 use Rattle.std.proofs.lemmas.List.{length-append, length-map, map-append, get_or_append_left, get_or_past}
 use Rattle.std.proofs.lemmas.Option.{slice_get-map, slice_get_past, get_or_from_slice_get}
-use Rattle.dir_entries.specs.Layout.{EntryTarget, Listing}
-use Rattle.fs_model.specs.Tree.{Path}
+use Rattle.dir_entries.specs.Layout.{Listing}
 use Rattle.store_api.specs.Content.{Id}
 use Rattle.cryfs_check.specs.Places.{PlaceText, paths_on, paths_of, sites_on, sites_of, AreBehind, placed}
 use Rattle.cryfs_check.specs.Seats.{Site, root_site, child_of}

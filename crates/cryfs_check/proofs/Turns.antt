@@ -1,21 +1,19 @@
 -- One more visit of many.
-use Rattle.std.proofs.Common.{◌≡◌, ◌⊎◌, ℕ, ◌+◌, ◌<◌, ◌≤◌, List, [], ◌∷◌, ◌++◌, length, get_or, refl, sym, ◌∙◌, ap, subst, inl, inr, arith, append-nil}
+use Rattle.std.proofs.Common.{◌≡◌, ℕ, ◌+◌, ◌<◌, ◌≤◌, List, [], ◌∷◌, ◌++◌, length, get_or, refl, sym, ◌∙◌, ap, subst, inl, inr, arith, append-nil}
 use Rattle.std.specs.Prelude.{Option, Some, None, map}
 use Rattle.std.specs.List.{slice_get}
 use Rattle.std.specs.Option.{option_map}
 use Rattle.std.proofs.lemmas.List.{length-append, length-map}
 use Rattle.std.proofs.lemmas.Option.{slice_get_within, get_or_from_slice_get, same_Some}
 use Rattle.data_tree.specs.Stored.{BlobTree}
-use Rattle.store_api.specs.Content.{Id, Content}
+use Rattle.store_api.specs.Content.{Id}
 use Rattle.store_api.specs.Loads.{LoadAnswer}
-use Rattle.block_walk.specs.Given.{AgreesWith}
 use Rattle.block_walk.specs.Marks.{MarkList, MarkedAll, owner_of}
-use Rattle.block_walk.specs.Walks.{Walked}
 use Rattle.block_walk.proofs.Chains.{gave-then, agrees-parts}
 use Rattle.fs_model.specs.declared.attr.Kind.{Kind}
 use Rattle.cryfs_check.specs.declared.place.Visit.{Visit}
 use Rattle.cryfs_check.specs.Places.{PlaceText, sites_of, placed, site_needs, visit_needs}
-use Rattle.cryfs_check.specs.Seats.{Site, Seat, site_of, root_site, child_of, sites, text_of, bytes_in, Among, AreFound}
+use Rattle.cryfs_check.specs.Seats.{Site, Seat, site_of, root_site, child_of, sites, text_of, bytes_in, AreFound}
 use Rattle.cryfs_check.specs.Visits.{IsVisited, Visited, VisitedAll}
 use Rattle.cryfs_check.proofs.Finding.{found_none, found_next, sites_next}
 use Rattle.cryfs_check.proofs.Lists.{among_either, at_end, at_past}

@@ -1,5 +1,5 @@
 -- Why visits stop.
-use Rattle.std.specs.Prelude.{◌≡◌, ℕ, true, false, List, length, map, is_some}
+use Rattle.std.specs.Prelude.{◌≡◌, ℕ, true, List, length, map, is_some}
 use Rattle.outcome.specs.Meanings.{Meanings}
 use Rattle.data_tree.specs.Stored.{BlobTree}
 use Rattle.data_tree.specs.Trees.{NoDoubles}
@@ -11,7 +11,7 @@ use Rattle.store_api.specs.Loads.{LoadAnswer}
 use Rattle.block_walk.specs.declared.flaw.Flaw.{Flaw}
 use Rattle.block_walk.specs.declared.flaw.Flaw.TheVariants.{BadBlob, Parent}
 use Rattle.block_walk.specs.declared.flaw.Halt.{Halt}
-use Rattle.block_walk.specs.Given.{Asked, AskedBy, AgreesWith, IsLoad, given_of, content_of}
+use Rattle.block_walk.specs.Given.{Asked, AskedBy, IsLoad, given_of, content_of}
 use Rattle.block_walk.specs.Halts.{FlawAt, Halted, OnFound}
 use Rattle.block_walk.specs.Marks.{MarkList, owner_of}
 use Rattle.block_walk.specs.Needs.{top, Leads}

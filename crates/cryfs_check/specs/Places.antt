@@ -1,5 +1,5 @@
 -- The table of places: each path below the root by its directory's number and its entry. The root has the number 0, and the n-th place the number n.
-use Rattle.std.specs.Prelude.{◌≡◌, ◌≤◌, ℕ, ◌-◌, List, [], ◌∷◌, ◌++◌, map, get_or, Option, Some}
+use Rattle.std.specs.Prelude.{◌≡◌, ◌≤◌, ℕ, ◌-◌, List, [], ◌∷◌, ◌++◌, map, get_or, Some}
 use Rattle.std.specs.List.{slice_get}
 use Rattle.dir_entries.specs.Layout.{EntryTarget, Listing, entry_of}
 use Rattle.fs_model.specs.declared.attr.Kind.{Kind}

@@ -1,6 +1,6 @@
 -- What a whole walk finds: each path with its row, its blob and the blocks of that; and the paths that it has yet to visit.
 use Rattle.std.specs.Prelude.{◌≡◌, ◌⊎◌, ◌≤◌, ℕ, true, List, [], ◌∷◌, ◌++◌, length, map, Option, Some, None, is_some}
-use Rattle.std.specs.FinMap.{find, get, from_entries}
+use Rattle.std.specs.FinMap.{find, from_entries}
 use Rattle.block_id.specs.Fresh.{zero_id}
 use Rattle.blob_api.specs.BlobMap.{BlobMap}
 use Rattle.data_tree.specs.Stored.{BlobTree}

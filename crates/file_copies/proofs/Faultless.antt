@@ -1,6 +1,5 @@
 -- How a put and a get end where nothing failed.
 use Rattle.std.proofs.Common.{◌≡◌, ◌⊎◌, ℕ, List, inl, inr, refl, arith}
-use Rattle.std.specs.declared.option.Option.{Option}
 use Rattle.std.specs.declared.option.Option.TheVariants.{None}
 use Rattle.std.specs.declared.result.Result.{Result}
 use Rattle.std.specs.declared.result.Result.TheVariants.{Ok, Err}
@@ -20,7 +19,7 @@ use Rattle.copy_sessions.specs.Laws.{AreFaultless}
 use Rattle.copy_sessions.proofs.Faultless.{HasStopped, by_result, ends}
 use Rattle.row_copy.specs.declared.stop.Stop.{Stop}
 use Rattle.row_copy.specs.declared.stop.Stop.TheVariants as stop
-use Rattle.file_copies.specs.Coming.{IsPutTold, IsPutSession, IsGetEnd, IsGetSession}
+use Rattle.file_copies.specs.Coming.{IsPutTold, IsGetEnd}
 use Rattle.file_copies.specs.Getting.{read_at, reads, place_behind, IsGet}
 use Rattle.file_copies.specs.Laws.{IsFairEnd, PutEnds, GetEnds}
 use Rattle.file_copies.specs.Putting.{IsPut, InputBy}

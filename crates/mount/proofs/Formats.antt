@@ -1,5 +1,5 @@
 -- The least format from one record that is kept to another.
-use Rattle.std.proofs.Common.{◌≡◌, ◌⊎◌, ◌∙◌, ℕ, List, [], false, refl, sym, ap, subst, inl, inr}
+use Rattle.std.proofs.Common.{◌≡◌, ◌∙◌, ℕ, List, [], false, sym, ap, subst, inl, inr}
 use Rattle.std.specs.declared.option.Option.{Option}
 use Rattle.config_file.specs.declared.config.Opened.{Opened}
 use Rattle.outside.specs.Changes.{FileChanges}
@@ -15,7 +15,7 @@ use Rattle.mount_tower.specs.Tower.{Cached, held_in, tower_durables}
 use Rattle.mount.specs.declared.mount.Mount.{Mount}
 use Rattle.mount.specs.Answering.{store_of, kept_of}
 use Rattle.mount.specs.Formats.{TakesFrom, TakesSame}
-use Rattle.mount.specs.Mounts.{IsReady, Attached, Unopened}
+use Rattle.mount.specs.Mounts.{IsReady, Attached}
 use Rattle.mount.specs.Tower.{tower}
 use Rattle.mount.proofs.Reading.{loaded_unmarked}
 

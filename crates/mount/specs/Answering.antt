@@ -7,11 +7,10 @@ use Rattle.outside.specs.Trace.{Call}
 use Rattle.outside.specs.declared.keeper.Keeper.{Ghosts as KeeperGhosts}
 use Rattle.answers.specs.declared.answer.Answer.{Answer}
 use Rattle.answers.specs.Sessions.{Asked}
-use Rattle.held_blocks.specs.Standing.{records}
 use Rattle.tree_commands.specs.Performing.{Showing}
 use Rattle.mount_core.specs.Answering.{LineAnswers, LineAnswered as CoreAnswered}
 use Rattle.mount.specs.declared.mount.Mount.{Mount}
-use Rattle.mount_tower.specs.Tower.{Cached, trace_in, tower_meanings, tower_holdings, tower_durables}
+use Rattle.mount_tower.specs.Tower.{Cached, trace_in, tower_meanings, tower_holdings}
 use Rattle.mount.specs.Tower.{tower}
 
 -- ---- what a mount tells

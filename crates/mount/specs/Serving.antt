@@ -22,7 +22,7 @@ use Rattle.mount_core.specs.Standing.{Synced}
 use Rattle.tree_commands.specs.Performing.{Showing}
 use Rattle.mount_tower.specs.Identities.{HasEmptyList}
 use Rattle.mount_tower.specs.Opening.{KeepsVersions}
-use Rattle.mount_tower.specs.Tower.{vault_in, tower_meanings, tower_holdings, tower_durables}
+use Rattle.mount_tower.specs.Tower.{vault_in, tower_holdings, tower_durables}
 use Rattle.mount.specs.declared.mount.Mount.{Mount}
 use Rattle.mount.specs.Answering.{store_of, calls_of, forgeries_of, lies_of, vault_faults, keeper_faults, version_of, kept_of}
 use Rattle.mount.specs.Mounts.{IsReady, MountClosed}

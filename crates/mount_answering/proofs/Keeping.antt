@@ -1,7 +1,6 @@
 -- What a sync keeps, and what a line keeps after it.
 use Rattle.std.proofs.Common.{◌≡◌, ◌⊎◌, ℕ, true, false, List, Global, refl, sym, ap, subst, inl, inr}
 use Rattle.std.specs.Prelude.{Result, Vec}
-use Rattle.std.specs.declared.option.Option.{Option}
 use Rattle.std.specs.declared.option.Option.TheVariants.{Some}
 use Rattle.std.specs.declared.result.Result.TheVariants.{Ok, Err}
 use Rattle.mount_core.specs.Keeping.{IsSameOrRecord, SyncKeeps}

@@ -1,5 +1,5 @@
 -- What a line leaves of its store, by its steps.
-use Rattle.std.proofs.Common.{◌≡◌, ◌⊎◌, ◌<◌, ◌∙◌, ℕ, Bool, true, false, sym, arith}
+use Rattle.std.proofs.Common.{◌≡◌, ◌⊎◌, ◌<◌, ◌∙◌, Bool, false, sym, arith}
 use Rattle.std.specs.Prelude.{Result, Ok}
 use Rattle.fs_model.specs.declared.command.Command.{Command}
 use Rattle.outcome.specs.Meanings.{Meanings}

@@ -1,6 +1,6 @@
 -- What a run of saves leaves kept. A save that failed may have replaced the record before it failed: whether it did is chosen by
 -- whoever made the keeper, and no code can read it.
-use Rattle.std.specs.Prelude.{ℕ, zero, suc, Bool, true, false, ◌==◌, ◌||◌, List, [], ◌∷◌, length, if◌then◌else◌}
+use Rattle.std.specs.Prelude.{ℕ, zero, suc, Bool, false, ◌==◌, ◌||◌, List, [], ◌∷◌, length, if◌then◌else◌}
 use Rattle.std.specs.declared.option.Option.{Option}
 use Rattle.std.specs.declared.option.Option.TheVariants.{None, Some}
 use Rattle.call_log.specs.Events.{Event, event_of}

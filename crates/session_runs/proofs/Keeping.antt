@@ -17,7 +17,7 @@ use Rattle.session_saver.specs.Saving.{IsRecordOf}
 use Rattle.session_saver.specs.declared.saver.Saver.{Saver}
 use Rattle.store_api.specs.Durables.{with_mark}
 use Rattle.session_runs.specs.Causes.{VersionsSince}
-use Rattle.session_runs.specs.Passing.{KeepsAtMost, KeptAfter}
+use Rattle.session_runs.specs.Passing.{KeptAfter}
 
 -- what is kept stays so where more versions are allowed
 pub kept_on : (first mid new : Option (List ℕ)) (before bad : Bool) (most more : List ℕ → ℕ) → (before ≡ true → bad ≡ true) → ((id : List ℕ) → most id ≤ more id) → new ≡ mid → KeptAfter before most first mid → KeptAfter bad more first new

@@ -1,21 +1,20 @@
 -- How far a copy into a folder got, of a tree that the replies tell.
-use Rattle.std.proofs.Common.{◌≡◌, ◌⊎◌, inl, inr, ℕ, ◌+◌, ◌<◌, ◌≤◌, true, false, cond, List, [], ◌∷◌, ◌++◌, length, refl, sym, ◌∙◌, ap, subst, arith, append-nil}
-use Rattle.std.specs.Prelude.{T, is_some, Some, None, IfSome, min}
-use Rattle.std.specs.FinMap.{get, find, insert, entries, is_sorted, entries-insert, get-entries, entries_sorted, same_map}
+use Rattle.std.proofs.Common.{◌≡◌, inl, inr, ℕ, ◌+◌, ◌≤◌, List, [], ◌∷◌, ◌++◌, length, refl, sym, ◌∙◌, ap, subst, arith, append-nil}
+use Rattle.std.specs.Prelude.{Some, None, IfSome}
+use Rattle.std.specs.FinMap.{get, find, insert, entries, entries-insert, get-entries, entries_sorted, same_map}
 use Rattle.std.specs.FinMap.Entries.{by_order, put, same_entries}
 use Rattle.std.specs.Ordering.{ordering_reverse}
-use Rattle.std.specs.declared.cmp.Ordering.TheVariants.{Less, Greater}
 use Rattle.std.specs.declared.option.Option.{Option}
 use Rattle.fs_model.specs.declared.attr.Kind.{Kind}
 use Rattle.fs_model.specs.declared.attr.Kind.TheVariants.{Directory}
 use Rattle.fs_model.specs.declared.limits.TheConstants.{MAX_PATH_TEXT}
 use Rattle.fs_model.specs.Step.{by_kind}
-use Rattle.fs_model.specs.Tree.{path_cmp, name_cmp}
+use Rattle.fs_model.specs.Tree.{path_cmp}
 use Rattle.fs_model.proofs.TreeLemmas.{path_total, path_exact, path_split}
 use Rattle.host_folder.specs.Folders.{HostRow, HostPath, HostTree, IsHostTree, IsMade, directory_row, kind_in}
 use Rattle.host_folder.proofs.Inserts.{here, other}
 use Rattle.copy_rules.specs.declared.copied.Totals.{Totals}
-use Rattle.copy_rules.specs.Ends.{AreShort, text_size, up_to}
+use Rattle.copy_rules.specs.Ends.{text_size, up_to}
 use Rattle.copy_rules.specs.Exporting.{IsBare, IsFrontRow, IsPartOf, OnTold, sum_in, totals_in}
 use Rattle.copy_rules.specs.Walks.{Met, Todo, todo_in, AreLess, IsWalk}
 use Rattle.copy_rules.proofs.Ending.{of_find, walk_done}

@@ -1,7 +1,7 @@
 -- One step of a copy into a folder.
 use Rattle.std.proofs.Common.{◌≡◌, inl, inr, ℕ, ◌<◌, ◌≤◌, true, false, cond, List, [], ◌∷◌, ◌++◌, length, map, refl, sym, ◌∙◌, ap, subst, arith, append-nil}
-use Rattle.std.specs.Prelude.{is_some, Some, None, IfSome, OnOk}
-use Rattle.std.specs.FinMap.{get, find, entries}
+use Rattle.std.specs.Prelude.{is_some, Some, None, IfSome}
+use Rattle.std.specs.FinMap.{get, find}
 use Rattle.std.specs.Cmp.{tied_itself}
 use Rattle.std.specs.Ordering.{is_eq}
 use Rattle.std.specs.declared.option.Option.{Option}
@@ -18,19 +18,19 @@ use Rattle.copy_rules.specs.declared.copied.Totals.{Totals}
 use Rattle.copy_rules.specs.declared.copied.CopyFail.{CopyFail}
 use Rattle.copy_rules.specs.declared.copied.CopyFail.TheVariants as fail
 use Rattle.copy_rules.specs.Ends.{AreShort, HostCause, text_size}
-use Rattle.copy_rules.specs.Exporting.{AreServed, EndsOut, FailsOut, HasRows, IsBare, IsIdleBy, IsPartOf, OfEach, OnTold, Tells, totals_in}
+use Rattle.copy_rules.specs.Exporting.{AreServed, FailsOut, HasRows, IsBare, IsIdleBy, totals_in}
 use Rattle.copy_rules.specs.Questions.{Question, Asking, LawfulAsker, Asked}
 use Rattle.copy_rules.proofs.Asking.{asked_none}
 use Rattle.copy_rules.proofs.Walking.{above}
 use Rattle.copy_rules.specs.Walks.{todo_in}
 use Rattle.row_copy.specs.declared.stop.Stop.{Stop}
 use Rattle.row_copy.specs.declared.stop.Stop.TheVariants as stop
-use Rattle.row_copy.specs.Reads.{ReadEnds, Reads, IsRowOut, RowOut, SaysRows}
+use Rattle.row_copy.specs.Reads.{ReadEnds, Reads, RowOut, SaysRows}
 use Rattle.row_copy.specs.Rows.{NeverHost, none_copied}
 use Rattle.row_copy.proofs.Served.{ends_error, ends_then, served_append, tells_front, tells_rest, asked_more}
 use Rattle.tree_copy.specs.declared.levels.Level.{Level}
 use Rattle.tree_copy.specs.Copies.{fail_of}
-use Rattle.tree_copy.specs.Exports.{ExportRun, FailedOut, IsFar, IsOpened, IsOutAt, OutRun, SaysKids, StepEndsOut, TreeEntered}
+use Rattle.tree_copy.specs.Exports.{ExportRun, FailedOut, IsFar, IsOutAt, OutRun, SaysKids, TreeEntered}
 use Rattle.tree_copy.specs.Levels.{left_of, todo_of, HasTargets}
 use Rattle.tree_copy.proofs.Outward.{far_some, far_kind, far_next, far_leaf, far_part, far_none, far_same, far_entries, row_part, part_row, bare_part}
 use Rattle.tree_copy.proofs.Stack.{todo_push, targets_push}

@@ -1,5 +1,5 @@
-use Rattle.std.proofs.Common.{◌≡◌, List, length, [], sym, ◌∙◌, ap, subst, refl}
-use Rattle.std.specs.Prelude.{map, T, Result, IfOk}
+use Rattle.std.proofs.Common.{◌≡◌, List, length, sym, ◌∙◌, ap, subst}
+use Rattle.std.specs.Prelude.{T, Result, IfOk}
 use Rattle.std.specs.FinMap.{is_sorted}
 use Rattle.block_id.specs.declared.fail.Fail.{Fail}
 use Rattle.block_id.specs.declared.id.BlockId.{BlockId}

@@ -1,4 +1,4 @@
-use Rattle.std.proofs.Common.{◌≡◌, List, sym, subst, ap}
+use Rattle.std.proofs.Common.{◌≡◌, List, sym, subst}
 use Rattle.std.specs.Prelude.{Some, None}
 use Rattle.std.specs.List.{slice_get}
 use Rattle.std.specs.Option.{option_map}
@@ -6,7 +6,7 @@ use Rattle.outcome.specs.Outcome.{idle, then_}
 use Rattle.data_tree.proofs.Forests.{stays-same, stays-then}
 use Rattle.block_walk.specs.Given.{IsLoad}
 use Rattle.cryfs_check.specs.declared.place.Place.{Place}
-use Rattle.cryfs_check.specs.Places.{PlaceText, places_text, sites_of, site_needs, visit_needs}
+use Rattle.cryfs_check.specs.Places.{places_text, sites_of, site_needs, visit_needs}
 use Rattle.cryfs_check.specs.Visits.{IsVisited, Visited}
 use Rattle.cryfs_check.proofs.Stopping.{stopped_read, stopped_end}
 use Rattle.cryfs_check.proofs.Turns.{visited_none, visited_read, visited_end}

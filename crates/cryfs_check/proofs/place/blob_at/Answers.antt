@@ -1,12 +1,9 @@
-use Rattle.std.proofs.Common.{◌≡◌, ◌+◌, ◌-◌, ◌≤◌, length, get_or, refl, sym, ◌∙◌, ap, arith}
-use Rattle.std.specs.Prelude.{Some}
-use Rattle.std.specs.List.{slice_get}
+use Rattle.std.proofs.Common.{◌≡◌, ◌+◌, ◌-◌, length, get_or, refl, sym, ◌∙◌, ap, arith}
 use Rattle.std.specs.Option.{option_map}
 use Rattle.std.proofs.lemmas.List.{length-map}
 use Rattle.std.proofs.lemmas.Option.{slice_get-map, slice_get_read}
-use Rattle.store_api.specs.Content.{Id}
-use Rattle.cryfs_check.specs.Places.{PlaceText, place_text, places_text, sites_of}
-use Rattle.cryfs_check.specs.Seats.{Site, root_site}
+use Rattle.cryfs_check.specs.Places.{place_text, places_text, sites_of}
+use Rattle.cryfs_check.specs.Seats.{root_site}
 use Rattle.cryfs_check.proofs.Tables.{blob_first, blob_place, blob_past}
 use Rattle.cryfs_check.proofs.place.blob_at.Goals as goal
 

@@ -6,10 +6,8 @@ use Rattle.mount_answering.proofs.Stores.{store_synced, store_on}
 use Rattle.fs_model.specs.Tree.{Tree}
 use Rattle.std.specs.declared.option.Option.TheVariants.{Some}
 use Rattle.outside.specs.Causes.{RoseBy}
-use Rattle.outside.specs.Going.{GoesOn, goes_on_onward, goes_on_same}
 use Rattle.session_saver.specs.declared.saver.Saver.{Saver}
 use Rattle.store_api.specs.Durables.{with_mark}
-use Rattle.store_api.specs.Holdings.{Stays}
 use Rattle.store_api.specs.declared.tx.Tx.{Tx}
 use Rattle.tree_commands.specs.Performing.{IsReplyTo}
 use Rattle.tree_commands.specs.Showing.{ShowsFiles}
@@ -18,17 +16,16 @@ use Rattle.answers.specs.declared.answer.Answer.{Answer}
 use Rattle.answers.specs.declared.answer.Answer.TheVariants.{Memory, FaultDirectory, FaultState, Refused}
 use Rattle.answers.specs.Sessions.{is_violation, directory_faults, state_faults}
 use Rattle.mount_core.specs.declared.body.Core.{Core}
-use Rattle.mount_core.specs.Answers.{is_done_answer, is_structure, OnReply, OnSpent, OnFound}
-use Rattle.mount_core.specs.Causes.{SpentCause, OnlyLoaded, MadeRoom, FoundCause}
+use Rattle.mount_core.specs.Answers.{is_structure, OnReply, OnSpent, OnFound}
+use Rattle.mount_core.specs.Causes.{SpentCause, MadeRoom, FoundCause}
 use Rattle.mount_core.specs.Sparing.{FewRaised}
 use Rattle.mount_core.specs.Configuring.{ConfigAnswered}
 use Rattle.mount_core.specs.Standing.{CoreStands, IsKeptMarked, Roomed}
 use Rattle.mount_answering.proofs.Formats.{least_marked}
-use Rattle.mount_answering.proofs.Loads.{only_on, only_synced, found_on, room_on, room_stopped}
-use Rattle.mount_core.proofs.Moving.{stays_same}
-use Rattle.mount_answering.proofs.Lines.{found_calm, found_map, answered_err, answered_synced, answered_performed, answered_violation, stays_on, sync_each, sync_reads, no_violation, spent_on, config_marked, config_calm, marked_or, true_is_false}
+use Rattle.mount_answering.proofs.Loads.{room_stopped}
+use Rattle.mount_answering.proofs.Lines.{answered_err, answered_synced, answered_performed, answered_violation, sync_each, sync_reads, no_violation, config_marked, config_calm, marked_or, true_is_false}
 use Rattle.mount_answering.proofs.Keeping.{asked_keeps, marked_kept}
-use Rattle.mount_answering.proofs.Versions.{Raised, raised_same, raised_stays, raised_on, few_stays, few_on, always_inside, on_inside, spent_before}
+use Rattle.mount_answering.proofs.Versions.{few_stays, few_on, always_inside, on_inside}
 use Rattle.mount_answering.proofs.Quiet.{sync_directory, sync_state, sync_directory_rose, sync_state_rose}
 use Rattle.mount_answering.proofs.answering.answer.Given.{Over}
 use Rattle.mount_answering.proofs.answering.answer.Goals as goal

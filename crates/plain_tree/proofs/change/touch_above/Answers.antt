@@ -1,5 +1,5 @@
 use Rattle.std.proofs.Common.{sym, ◌∙◌, ap}
-use Rattle.fs_model.specs.Tree.{parent, upward}
+use Rattle.fs_model.specs.Tree.{parent}
 use Rattle.fs_model.specs.Step.{touched}
 use Rattle.tree_rules.proofs.PathLemmas.{parent_at}
 use Rattle.row_table.proofs.EditLemmas.{no_names}

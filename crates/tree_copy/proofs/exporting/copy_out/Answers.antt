@@ -1,4 +1,4 @@
-use Rattle.std.proofs.Common.{◌≡◌, Bool, [], ◌∙◌, refl, sym, ap, subst}
+use Rattle.std.proofs.Common.{[], ◌∙◌, refl, sym, ap, subst}
 use Rattle.std.specs.declared.result.Result.TheVariants.{Ok, Err}
 use Rattle.copy_rules.specs.declared.copied.CopyFail.TheVariants as fail
 use Rattle.tree_copy.specs.Copies.{fail_of}

@@ -1,4 +1,3 @@
-use Rattle.row_copy.proofs.Served.{reads_none}
 use Rattle.tree_copy.proofs.Stepping.{tree_unasked, tree_unread, tree_unpushed, tree_entered}
 use Rattle.tree_copy.proofs.levels.enter_tree.Goals as goal
 
