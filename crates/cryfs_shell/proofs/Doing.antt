@@ -25,9 +25,10 @@ use Rattle.shell_words.specs.Forms.{joined}
 use Rattle.copy_sessions.proofs.Imported.{told_host as copy_host}
 use Rattle.cryfs_shell.specs.Clauses.{IsRefusedRun, NoFalseAlarm, KeepsTree, FaultsHappened, IsEmptied}
 use Rattle.cryfs_shell.specs.Copies.{Imports, Exports, Puts, Gets}
-use Rattle.cryfs_shell.specs.Doing.{Does}
+use Rattle.cryfs_shell.specs.Doing.{Did, IsCaused}
 use Rattle.cryfs_shell.specs.Hosts.{HostSeen}
 use Rattle.cryfs_shell.specs.Kinds.{is_session, opens}
+use Rattle.cryfs_shell.specs.Streams.{Streams}
 use Rattle.file_copies.proofs.Sessions.{put_unhosted, get_unhosted}
 use Rattle.cryfs_shell.proofs.Files.{put_cause, get_cause}
 use Rattle.cryfs_shell.proofs.Statuses.{EndCause}
@@ -48,7 +49,22 @@ the_form asked form other e f = some_is form other (sym e ∙ f)
 host_undone : HostFault ≡ Done → ⊥
 host_undone e = cc
 
-module _ {V : Type 0} {K : Type 0} (trace : V → Option (List Call)) (faults : V → ℕ) (names : V → Option (List (List ℕ))) (G : KeeperGhosts K) (words : List (List ℕ)) (now : Instant) (chance left : Chance) (input output : Stream) (host : HostSeen) (vault : V) (keeper : K) (ended : Ended V K) where
+module _ {V : Type 0} {K : Type 0} (trace : V → Option (List Call)) (faults : V → ℕ) (names : V → Option (List (List ℕ))) (G : KeeperGhosts K) (words : List (List ℕ)) (now : Instant) (s : Streams) (vault : V) (keeper : K) (ended : Ended V K) where
+  abbrev input : Stream
+  input = s.input
+
+  abbrev output : Stream
+  output = s.output
+
+  abbrev host : HostSeen
+  host = s.host
+
+  abbrev chance : Chance
+  chance = s.chance
+
+  abbrev left : Chance
+  left = s.left
+
   shell_causes : (script : Option (List ℕ)) (end : End) (own : Status) (es : List Exchange) → ComesShell input output script end own es → EndCause end input output
   shell_causes script end own es came = ends_cause script input output es end came.0
 
@@ -77,144 +93,147 @@ module _ {V : Type 0} {K : Type 0} (trace : V → Option (List Call)) (faults : 
   get_hostless script end own es (path, is, came) e = get_unhosted path input output end own es came e
 
   abbrev Doing : Form → Type 0
-  Doing form = Does trace faults names G words now chance left input output host vault keeper ended form
+  Doing form = Did trace faults names G words now s vault keeper ended (Some form)
 
-  pub doing_faults : (form : Form) → Doing form → FaultsHappened input output (outside_of trace faults G vault keeper) (outside_of trace faults G ended.vault ended.keeper) ended.status
-  doing_faults Trial d = trial_faults trace faults G input output vault keeper ended d.1 (tried_end now input output ended.status d.0)
-  doing_faults (TrialGenerate count) d = trial_faults trace faults G input output vault keeper ended d.2 (generated_end now count input output ended.status d.0)
-  doing_faults (Create options) d = created_faults trace faults G input output vault keeper ended d.1 options.params options.block_size (drawn chance).0 d.0
-  doing_faults Info d = told_faults trace faults G input output vault keeper ended d.1 d.0
-  doing_faults Passwd d = changed_faults trace faults G input output vault keeper ended d.1 chance left d.0
-  doing_faults Migrate d = migrated_faults trace faults G input output vault keeper ended d
-  doing_faults Shell d = session_faults trace faults G input output vault keeper ended now (ComesShell input output) shell_causes d
-  doing_faults (Generate count) d = session_faults trace faults G input output vault keeper ended now (ComesGenerated count input output) (generated_causes count) d
-  doing_faults Command d = session_faults trace faults G input output vault keeper ended now (ComesCommand (joined words) input output) command_causes d
-  doing_faults Import d = session_faults trace faults G input output vault keeper ended now (Imports words input output host) import_causes d.0
-  doing_faults Export d = session_faults trace faults G input output vault keeper ended now (Exports words input output host) export_causes d.0
-  doing_faults Put d = session_faults trace faults G input output vault keeper ended now (Puts words input output) put_causes d
-  doing_faults Get d = session_faults trace faults G input output vault keeper ended now (Gets words input output) get_causes d
-  doing_faults Check d = checked_faults trace faults names G input output vault keeper ended d.1 d.0
-  doing_faults Survey d = surveyed_faults trace faults names G input output vault keeper ended d.1 d.0
+  abbrev Caused : Form → Type 0
+  Caused form = IsCaused (outside_of trace faults G vault keeper) (outside_of trace faults G ended.vault ended.keeper) ended.status form
 
-  pub doing_refusal : (form : Form) → opens (Some form) ≡ true → Doing form → IsKeptMarked records (G.kept keeper) → IsRefusedRun G.kept output vault keeper ended
-  doing_refusal Trial e d marked = absurd (cc)
-  doing_refusal (TrialGenerate count) e d marked = absurd (cc)
-  doing_refusal (Create options) e d marked = absurd (cc)
-  doing_refusal Info e d marked = told_refusal trace faults G input output vault keeper ended d.1 d.0 marked
-  doing_refusal Passwd e d marked = changed_refusal trace faults G input output vault keeper ended d.1 chance left d.0 marked
-  doing_refusal Migrate e d marked = migrated_refusal trace faults G input output vault keeper ended d marked
-  doing_refusal Shell e d marked = session_refusal trace faults G input output vault keeper ended now (ComesShell input output) shell_causes d marked
-  doing_refusal (Generate count) e d marked = session_refusal trace faults G input output vault keeper ended now (ComesGenerated count input output) (generated_causes count) d marked
-  doing_refusal Command e d marked = session_refusal trace faults G input output vault keeper ended now (ComesCommand (joined words) input output) command_causes d marked
-  doing_refusal Import e d marked = session_refusal trace faults G input output vault keeper ended now (Imports words input output host) import_causes d.0 marked
-  doing_refusal Export e d marked = session_refusal trace faults G input output vault keeper ended now (Exports words input output host) export_causes d.0 marked
-  doing_refusal Put e d marked = session_refusal trace faults G input output vault keeper ended now (Puts words input output) put_causes d marked
-  doing_refusal Get e d marked = session_refusal trace faults G input output vault keeper ended now (Gets words input output) get_causes d marked
-  doing_refusal Check e d marked = checked_refusal trace faults names G input output vault keeper ended d.1 d.0 marked
-  doing_refusal Survey e d marked = surveyed_refusal trace faults names G input output vault keeper ended d.1 d.0 marked
+  pub doing_faults : (form : Form) → Doing form → Caused form → FaultsHappened input output (outside_of trace faults G vault keeper) (outside_of trace faults G ended.vault ended.keeper) ended.status
+  doing_faults Trial d k = trial_faults trace faults G input output vault keeper ended d.1 (tried_end now input output ended.status d.0)
+  doing_faults (TrialGenerate count) d k = trial_faults trace faults G input output vault keeper ended d.2 (generated_end now count input output ended.status d.0)
+  doing_faults (Create options) d k = created_faults trace faults G input output vault keeper ended k options.params options.block_size (drawn chance).0 d
+  doing_faults Info d k = told_faults trace faults G input output vault keeper ended k d
+  doing_faults Passwd d k = changed_faults trace faults G input output vault keeper ended k chance left d
+  doing_faults Migrate d k = migrated_faults trace faults G input output vault keeper ended d
+  doing_faults Shell d k = session_faults trace faults G input output vault keeper ended now (ComesShell input output) shell_causes d
+  doing_faults (Generate count) d k = session_faults trace faults G input output vault keeper ended now (ComesGenerated count input output) (generated_causes count) d
+  doing_faults Command d k = session_faults trace faults G input output vault keeper ended now (ComesCommand (joined words) input output) command_causes d
+  doing_faults Import d k = session_faults trace faults G input output vault keeper ended now (Imports words input output host) import_causes d.0
+  doing_faults Export d k = session_faults trace faults G input output vault keeper ended now (Exports words input output host) export_causes d.0
+  doing_faults Put d k = session_faults trace faults G input output vault keeper ended now (Puts words input output) put_causes d
+  doing_faults Get d k = session_faults trace faults G input output vault keeper ended now (Gets words input output) get_causes d
+  doing_faults Check d k = checked_faults trace faults names G input output vault keeper ended k d
+  doing_faults Survey d k = surveyed_faults trace faults names G input output vault keeper ended k d
 
-  pub doing_alarm : (form : Form) → Doing form → NoFalseAlarm input (outside_of trace faults G vault keeper) (outside_of trace faults G ended.vault ended.keeper) ended.status
-  doing_alarm Trial d bytes c first f honest e = trial_is_no input output ended.status Violation (tried_end now input output ended.status d.0) e (λ h. h)
-  doing_alarm (TrialGenerate count) d bytes c first f honest e = trial_is_no input output ended.status Violation (generated_end now count input output ended.status d.0) e (λ h. h)
-  doing_alarm (Create options) d bytes c first f honest e = created_alarm trace faults G input output vault keeper ended d.1 options.params options.block_size (drawn chance).0 d.0 e
-  doing_alarm Info d bytes c first f honest e = told_alarm trace faults G input output vault keeper ended d.1 d.0 bytes c first f honest e
-  doing_alarm Passwd d bytes c first f honest e = changed_alarm trace faults G input output vault keeper ended d.1 chance left d.0 bytes c first f honest e
-  doing_alarm Migrate d bytes c first f honest e = migrated_alarm trace faults G input output vault keeper ended d bytes c first f honest e
-  doing_alarm Shell d bytes c first f honest e = session_alarm trace faults G input output vault keeper ended now (ComesShell input output) shell_causes d bytes c first f honest e
-  doing_alarm (Generate count) d bytes c first f honest e = session_alarm trace faults G input output vault keeper ended now (ComesGenerated count input output) (generated_causes count) d bytes c first f honest e
-  doing_alarm Command d bytes c first f honest e = session_alarm trace faults G input output vault keeper ended now (ComesCommand (joined words) input output) command_causes d bytes c first f honest e
-  doing_alarm Import d bytes c first f honest e = session_alarm trace faults G input output vault keeper ended now (Imports words input output host) import_causes d.0 bytes c first f honest e
-  doing_alarm Export d bytes c first f honest e = session_alarm trace faults G input output vault keeper ended now (Exports words input output host) export_causes d.0 bytes c first f honest e
-  doing_alarm Put d bytes c first f honest e = session_alarm trace faults G input output vault keeper ended now (Puts words input output) put_causes d bytes c first f honest e
-  doing_alarm Get d bytes c first f honest e = session_alarm trace faults G input output vault keeper ended now (Gets words input output) get_causes d bytes c first f honest e
-  doing_alarm Check d bytes c first f honest e = checked_alarm trace faults names G input output vault keeper ended d.1 d.0 bytes c first f honest e
-  doing_alarm Survey d bytes c first f honest e = surveyed_alarm trace faults names G input output vault keeper ended d.1 d.0 bytes c first f honest e
+  pub doing_refusal : (form : Form) → opens (Some form) ≡ true → Doing form → Caused form → IsKeptMarked records (G.kept keeper) → IsRefusedRun G.kept output vault keeper ended
+  doing_refusal Trial e d k marked = absurd (cc)
+  doing_refusal (TrialGenerate count) e d k marked = absurd (cc)
+  doing_refusal (Create options) e d k marked = absurd (cc)
+  doing_refusal Info e d k marked = told_refusal trace faults G input output vault keeper ended k d marked
+  doing_refusal Passwd e d k marked = changed_refusal trace faults G input output vault keeper ended k chance left d marked
+  doing_refusal Migrate e d k marked = migrated_refusal trace faults G input output vault keeper ended d marked
+  doing_refusal Shell e d k marked = session_refusal trace faults G input output vault keeper ended now (ComesShell input output) shell_causes d marked
+  doing_refusal (Generate count) e d k marked = session_refusal trace faults G input output vault keeper ended now (ComesGenerated count input output) (generated_causes count) d marked
+  doing_refusal Command e d k marked = session_refusal trace faults G input output vault keeper ended now (ComesCommand (joined words) input output) command_causes d marked
+  doing_refusal Import e d k marked = session_refusal trace faults G input output vault keeper ended now (Imports words input output host) import_causes d.0 marked
+  doing_refusal Export e d k marked = session_refusal trace faults G input output vault keeper ended now (Exports words input output host) export_causes d.0 marked
+  doing_refusal Put e d k marked = session_refusal trace faults G input output vault keeper ended now (Puts words input output) put_causes d marked
+  doing_refusal Get e d k marked = session_refusal trace faults G input output vault keeper ended now (Gets words input output) get_causes d marked
+  doing_refusal Check e d k marked = checked_refusal trace faults names G input output vault keeper ended k d marked
+  doing_refusal Survey e d k marked = surveyed_refusal trace faults names G input output vault keeper ended k d marked
 
-  pub doing_keeps : (form : Form) → opens (Some form) ≡ true → Doing form → KeepsTree input (outside_of trace faults G vault keeper) (outside_of trace faults G ended.vault ended.keeper)
-  doing_keeps Trial e d bytes c first f = absurd (cc)
-  doing_keeps (TrialGenerate count) e d bytes c first f = absurd (cc)
-  doing_keeps (Create options) e d bytes c first f = absurd (cc)
-  doing_keeps Info e d bytes c first f = told_keeps trace faults G input output vault keeper ended d.1 d.0 bytes c first f
-  doing_keeps Passwd e d bytes c first f = changed_keeps trace faults G input output vault keeper ended d.1 chance left d.0 bytes c first f
-  doing_keeps Migrate e d bytes c first f = migrated_keeps trace faults G input output vault keeper ended d bytes c first f
-  doing_keeps Shell e d bytes c first f = session_keeps trace faults G input output vault keeper ended now (ComesShell input output) shell_causes d bytes c first f
-  doing_keeps (Generate count) e d bytes c first f = session_keeps trace faults G input output vault keeper ended now (ComesGenerated count input output) (generated_causes count) d bytes c first f
-  doing_keeps Command e d bytes c first f = session_keeps trace faults G input output vault keeper ended now (ComesCommand (joined words) input output) command_causes d bytes c first f
-  doing_keeps Import e d bytes c first f = session_keeps trace faults G input output vault keeper ended now (Imports words input output host) import_causes d.0 bytes c first f
-  doing_keeps Export e d bytes c first f = session_keeps trace faults G input output vault keeper ended now (Exports words input output host) export_causes d.0 bytes c first f
-  doing_keeps Put e d bytes c first f = session_keeps trace faults G input output vault keeper ended now (Puts words input output) put_causes d bytes c first f
-  doing_keeps Get e d bytes c first f = session_keeps trace faults G input output vault keeper ended now (Gets words input output) get_causes d bytes c first f
-  doing_keeps Check e d bytes c first f = checked_keeps trace faults names G input output vault keeper ended d.1 d.0 bytes c first f
-  doing_keeps Survey e d bytes c first f = surveyed_keeps trace faults names G input output vault keeper ended d.1 d.0 bytes c first f
+  pub doing_alarm : (form : Form) → Doing form → Caused form → NoFalseAlarm input (outside_of trace faults G vault keeper) (outside_of trace faults G ended.vault ended.keeper) ended.status
+  doing_alarm Trial d k bytes c first f honest e = trial_is_no input output ended.status Violation (tried_end now input output ended.status d.0) e (λ h. h)
+  doing_alarm (TrialGenerate count) d k bytes c first f honest e = trial_is_no input output ended.status Violation (generated_end now count input output ended.status d.0) e (λ h. h)
+  doing_alarm (Create options) d k bytes c first f honest e = created_alarm trace faults G input output vault keeper ended k options.params options.block_size (drawn chance).0 d e
+  doing_alarm Info d k bytes c first f honest e = told_alarm trace faults G input output vault keeper ended k d bytes c first f honest e
+  doing_alarm Passwd d k bytes c first f honest e = changed_alarm trace faults G input output vault keeper ended k chance left d bytes c first f honest e
+  doing_alarm Migrate d k bytes c first f honest e = migrated_alarm trace faults G input output vault keeper ended d bytes c first f honest e
+  doing_alarm Shell d k bytes c first f honest e = session_alarm trace faults G input output vault keeper ended now (ComesShell input output) shell_causes d bytes c first f honest e
+  doing_alarm (Generate count) d k bytes c first f honest e = session_alarm trace faults G input output vault keeper ended now (ComesGenerated count input output) (generated_causes count) d bytes c first f honest e
+  doing_alarm Command d k bytes c first f honest e = session_alarm trace faults G input output vault keeper ended now (ComesCommand (joined words) input output) command_causes d bytes c first f honest e
+  doing_alarm Import d k bytes c first f honest e = session_alarm trace faults G input output vault keeper ended now (Imports words input output host) import_causes d.0 bytes c first f honest e
+  doing_alarm Export d k bytes c first f honest e = session_alarm trace faults G input output vault keeper ended now (Exports words input output host) export_causes d.0 bytes c first f honest e
+  doing_alarm Put d k bytes c first f honest e = session_alarm trace faults G input output vault keeper ended now (Puts words input output) put_causes d bytes c first f honest e
+  doing_alarm Get d k bytes c first f honest e = session_alarm trace faults G input output vault keeper ended now (Gets words input output) get_causes d bytes c first f honest e
+  doing_alarm Check d k bytes c first f honest e = checked_alarm trace faults names G input output vault keeper ended k d bytes c first f honest e
+  doing_alarm Survey d k bytes c first f honest e = surveyed_alarm trace faults names G input output vault keeper ended k d bytes c first f honest e
+
+  pub doing_keeps : (form : Form) → opens (Some form) ≡ true → Doing form → Caused form → KeepsTree input (outside_of trace faults G vault keeper) (outside_of trace faults G ended.vault ended.keeper)
+  doing_keeps Trial e d k bytes c first f = absurd (cc)
+  doing_keeps (TrialGenerate count) e d k bytes c first f = absurd (cc)
+  doing_keeps (Create options) e d k bytes c first f = absurd (cc)
+  doing_keeps Info e d k bytes c first f = told_keeps trace faults G input output vault keeper ended k d bytes c first f
+  doing_keeps Passwd e d k bytes c first f = changed_keeps trace faults G input output vault keeper ended k chance left d bytes c first f
+  doing_keeps Migrate e d k bytes c first f = migrated_keeps trace faults G input output vault keeper ended d bytes c first f
+  doing_keeps Shell e d k bytes c first f = session_keeps trace faults G input output vault keeper ended now (ComesShell input output) shell_causes d bytes c first f
+  doing_keeps (Generate count) e d k bytes c first f = session_keeps trace faults G input output vault keeper ended now (ComesGenerated count input output) (generated_causes count) d bytes c first f
+  doing_keeps Command e d k bytes c first f = session_keeps trace faults G input output vault keeper ended now (ComesCommand (joined words) input output) command_causes d bytes c first f
+  doing_keeps Import e d k bytes c first f = session_keeps trace faults G input output vault keeper ended now (Imports words input output host) import_causes d.0 bytes c first f
+  doing_keeps Export e d k bytes c first f = session_keeps trace faults G input output vault keeper ended now (Exports words input output host) export_causes d.0 bytes c first f
+  doing_keeps Put e d k bytes c first f = session_keeps trace faults G input output vault keeper ended now (Puts words input output) put_causes d bytes c first f
+  doing_keeps Get e d k bytes c first f = session_keeps trace faults G input output vault keeper ended now (Gets words input output) get_causes d bytes c first f
+  doing_keeps Check e d k bytes c first f = checked_keeps trace faults names G input output vault keeper ended k d bytes c first f
+  doing_keeps Survey e d k bytes c first f = surveyed_keeps trace faults names G input output vault keeper ended k d bytes c first f
 
   pub doing_emptied : (form : Form) → is_session (Some form) ≡ true → Doing form → ended.status ≡ Done → IsEmptied (outside_of trace faults G ended.vault ended.keeper)
-  doing_emptied Trial s d e = absurd (cc)
-  doing_emptied (TrialGenerate count) s d e = absurd (cc)
-  doing_emptied (Create options) s d e = absurd (cc)
-  doing_emptied Info s d e = absurd (cc)
-  doing_emptied Passwd s d e = absurd (cc)
-  doing_emptied Migrate s d e = absurd (cc)
-  doing_emptied Shell s d e = session_emptied trace faults G input output vault keeper ended now (ComesShell input output) shell_causes d e
-  doing_emptied (Generate count) s d e = session_emptied trace faults G input output vault keeper ended now (ComesGenerated count input output) (generated_causes count) d e
-  doing_emptied Command s d e = session_emptied trace faults G input output vault keeper ended now (ComesCommand (joined words) input output) command_causes d e
-  doing_emptied Import s d e = session_emptied trace faults G input output vault keeper ended now (Imports words input output host) import_causes d.0 e
-  doing_emptied Export s d e = session_emptied trace faults G input output vault keeper ended now (Exports words input output host) export_causes d.0 e
-  doing_emptied Put s d e = session_emptied trace faults G input output vault keeper ended now (Puts words input output) put_causes d e
-  doing_emptied Get s d e = session_emptied trace faults G input output vault keeper ended now (Gets words input output) get_causes d e
-  doing_emptied Check s d e = absurd (cc)
-  doing_emptied Survey s d e = absurd (cc)
+  doing_emptied Trial q d e = absurd (cc)
+  doing_emptied (TrialGenerate count) q d e = absurd (cc)
+  doing_emptied (Create options) q d e = absurd (cc)
+  doing_emptied Info q d e = absurd (cc)
+  doing_emptied Passwd q d e = absurd (cc)
+  doing_emptied Migrate q d e = absurd (cc)
+  doing_emptied Shell q d e = session_emptied trace faults G input output vault keeper ended now (ComesShell input output) shell_causes d e
+  doing_emptied (Generate count) q d e = session_emptied trace faults G input output vault keeper ended now (ComesGenerated count input output) (generated_causes count) d e
+  doing_emptied Command q d e = session_emptied trace faults G input output vault keeper ended now (ComesCommand (joined words) input output) command_causes d e
+  doing_emptied Import q d e = session_emptied trace faults G input output vault keeper ended now (Imports words input output host) import_causes d.0 e
+  doing_emptied Export q d e = session_emptied trace faults G input output vault keeper ended now (Exports words input output host) export_causes d.0 e
+  doing_emptied Put q d e = session_emptied trace faults G input output vault keeper ended now (Puts words input output) put_causes d e
+  doing_emptied Get q d e = session_emptied trace faults G input output vault keeper ended now (Gets words input output) get_causes d e
+  doing_emptied Check q d e = absurd (cc)
+  doing_emptied Survey q d e = absurd (cc)
 
-  pub doing_uncalled : (form : Form) → Doing form → ended.status ≡ LongPassword → AreUncalled vault keeper ended
-  doing_uncalled Trial d e = d.1
-  doing_uncalled (TrialGenerate count) d e = d.2
-  doing_uncalled (Create options) d e = created_uncalled trace faults G input output vault keeper ended d.1 options.params options.block_size (drawn chance).0 d.0 e
-  doing_uncalled Info d e = told_uncalled trace faults G input output vault keeper ended d.1 d.0 e
-  doing_uncalled Passwd d e = changed_uncalled trace faults G input output vault keeper ended d.1 chance left d.0 e
-  doing_uncalled Migrate d e = migrated_uncalled trace faults G input output vault keeper ended d e
-  doing_uncalled Shell d e = session_uncalled trace faults G input output vault keeper ended now (ComesShell input output) shell_causes d e
-  doing_uncalled (Generate count) d e = session_uncalled trace faults G input output vault keeper ended now (ComesGenerated count input output) (generated_causes count) d e
-  doing_uncalled Command d e = session_uncalled trace faults G input output vault keeper ended now (ComesCommand (joined words) input output) command_causes d e
-  doing_uncalled Import d e = session_uncalled trace faults G input output vault keeper ended now (Imports words input output host) import_causes d.0 e
-  doing_uncalled Export d e = session_uncalled trace faults G input output vault keeper ended now (Exports words input output host) export_causes d.0 e
-  doing_uncalled Put d e = session_uncalled trace faults G input output vault keeper ended now (Puts words input output) put_causes d e
-  doing_uncalled Get d e = session_uncalled trace faults G input output vault keeper ended now (Gets words input output) get_causes d e
-  doing_uncalled Check d e = checked_uncalled trace faults names G input output vault keeper ended d.1 d.0 e
-  doing_uncalled Survey d e = surveyed_uncalled trace faults names G input output vault keeper ended d.1 d.0 e
+  pub doing_uncalled : (form : Form) → Doing form → Caused form → ended.status ≡ LongPassword → AreUncalled vault keeper ended
+  doing_uncalled Trial d k e = d.1
+  doing_uncalled (TrialGenerate count) d k e = d.2
+  doing_uncalled (Create options) d k e = created_uncalled trace faults G input output vault keeper ended k options.params options.block_size (drawn chance).0 d e
+  doing_uncalled Info d k e = told_uncalled trace faults G input output vault keeper ended k d e
+  doing_uncalled Passwd d k e = changed_uncalled trace faults G input output vault keeper ended k chance left d e
+  doing_uncalled Migrate d k e = migrated_uncalled trace faults G input output vault keeper ended d e
+  doing_uncalled Shell d k e = session_uncalled trace faults G input output vault keeper ended now (ComesShell input output) shell_causes d e
+  doing_uncalled (Generate count) d k e = session_uncalled trace faults G input output vault keeper ended now (ComesGenerated count input output) (generated_causes count) d e
+  doing_uncalled Command d k e = session_uncalled trace faults G input output vault keeper ended now (ComesCommand (joined words) input output) command_causes d e
+  doing_uncalled Import d k e = session_uncalled trace faults G input output vault keeper ended now (Imports words input output host) import_causes d.0 e
+  doing_uncalled Export d k e = session_uncalled trace faults G input output vault keeper ended now (Exports words input output host) export_causes d.0 e
+  doing_uncalled Put d k e = session_uncalled trace faults G input output vault keeper ended now (Puts words input output) put_causes d e
+  doing_uncalled Get d k e = session_uncalled trace faults G input output vault keeper ended now (Gets words input output) get_causes d e
+  doing_uncalled Check d k e = checked_uncalled trace faults names G input output vault keeper ended k d e
+  doing_uncalled Survey d k e = surveyed_uncalled trace faults names G input output vault keeper ended k d e
 
-  pub doing_usage : (form : Form) → Doing form → ended.status ≢ Usage
-  doing_usage Trial d e = trial_is_no input output ended.status Usage (tried_end now input output ended.status d.0) e (λ h. h)
-  doing_usage (TrialGenerate count) d e = trial_is_no input output ended.status Usage (generated_end now count input output ended.status d.0) e (λ h. h)
-  doing_usage (Create options) d e = created_usage trace faults G input output vault keeper ended d.1 options.params options.block_size (drawn chance).0 d.0 e
-  doing_usage Info d e = told_usage trace faults G input output vault keeper ended d.1 d.0 e
-  doing_usage Passwd d e = changed_usage trace faults G input output vault keeper ended d.1 chance left d.0 e
-  doing_usage Migrate d e = migrated_usage trace faults G input output vault keeper ended d e
-  doing_usage Shell d e = session_usage trace faults G input output vault keeper ended now (ComesShell input output) shell_causes d e
-  doing_usage (Generate count) d e = session_usage trace faults G input output vault keeper ended now (ComesGenerated count input output) (generated_causes count) d e
-  doing_usage Command d e = session_usage trace faults G input output vault keeper ended now (ComesCommand (joined words) input output) command_causes d e
-  doing_usage Import d e = session_usage trace faults G input output vault keeper ended now (Imports words input output host) import_causes d.0 e
-  doing_usage Export d e = session_usage trace faults G input output vault keeper ended now (Exports words input output host) export_causes d.0 e
-  doing_usage Put d e = session_usage trace faults G input output vault keeper ended now (Puts words input output) put_causes d e
-  doing_usage Get d e = session_usage trace faults G input output vault keeper ended now (Gets words input output) get_causes d e
-  doing_usage Check d e = checked_usage trace faults names G input output vault keeper ended d.1 d.0 e
-  doing_usage Survey d e = surveyed_usage trace faults names G input output vault keeper ended d.1 d.0 e
+  pub doing_usage : (form : Form) → Doing form → Caused form → ended.status ≢ Usage
+  doing_usage Trial d k e = trial_is_no input output ended.status Usage (tried_end now input output ended.status d.0) e (λ h. h)
+  doing_usage (TrialGenerate count) d k e = trial_is_no input output ended.status Usage (generated_end now count input output ended.status d.0) e (λ h. h)
+  doing_usage (Create options) d k e = created_usage trace faults G input output vault keeper ended k options.params options.block_size (drawn chance).0 d e
+  doing_usage Info d k e = told_usage trace faults G input output vault keeper ended k d e
+  doing_usage Passwd d k e = changed_usage trace faults G input output vault keeper ended k chance left d e
+  doing_usage Migrate d k e = migrated_usage trace faults G input output vault keeper ended d e
+  doing_usage Shell d k e = session_usage trace faults G input output vault keeper ended now (ComesShell input output) shell_causes d e
+  doing_usage (Generate count) d k e = session_usage trace faults G input output vault keeper ended now (ComesGenerated count input output) (generated_causes count) d e
+  doing_usage Command d k e = session_usage trace faults G input output vault keeper ended now (ComesCommand (joined words) input output) command_causes d e
+  doing_usage Import d k e = session_usage trace faults G input output vault keeper ended now (Imports words input output host) import_causes d.0 e
+  doing_usage Export d k e = session_usage trace faults G input output vault keeper ended now (Exports words input output host) export_causes d.0 e
+  doing_usage Put d k e = session_usage trace faults G input output vault keeper ended now (Puts words input output) put_causes d e
+  doing_usage Get d k e = session_usage trace faults G input output vault keeper ended now (Gets words input output) get_causes d e
+  doing_usage Check d k e = checked_usage trace faults names G input output vault keeper ended k d e
+  doing_usage Survey d k e = surveyed_usage trace faults names G input output vault keeper ended k d e
 
   abbrev Rose : Type 0
   Rose = RoseBy 1 host.faults host.risen
 
   -- a fault of the host folder is told only by a copy, and only where there was one
-  pub doing_host : (form : Form) → Doing form → ended.status ≡ HostFault → Rose
-  doing_host Trial d e = absurd (trial_is_no input output ended.status HostFault (tried_end now input output ended.status d.0) e (λ h. h))
-  doing_host (TrialGenerate count) d e = absurd (trial_is_no input output ended.status HostFault (generated_end now count input output ended.status d.0) e (λ h. h))
-  doing_host (Create options) d e = absurd (created_host trace faults G input output vault keeper ended d.1 options.params options.block_size (drawn chance).0 d.0 e)
-  doing_host Info d e = absurd (told_host trace faults G input output vault keeper ended d.1 d.0 e)
-  doing_host Passwd d e = absurd (changed_host trace faults G input output vault keeper ended d.1 chance left d.0 e)
-  doing_host Migrate d e = absurd (migrated_host trace faults G input output vault keeper ended d e)
-  doing_host Shell d e = session_host trace faults G input output vault keeper ended now (ComesShell input output) shell_causes Rose (λ script end own es came h. absurd (host_undone (sym h ∙ came.1))) d e
-  doing_host (Generate count) d e = session_host trace faults G input output vault keeper ended now (ComesGenerated count input output) (generated_causes count) Rose (λ script end own es came h. absurd (host_undone (sym h ∙ came.1))) d e
-  doing_host Command d e = session_host trace faults G input output vault keeper ended now (ComesCommand (joined words) input output) command_causes Rose (λ script end own es came h. absurd (host_undone (sym h ∙ came.1))) d e
-  doing_host Import d e = session_host trace faults G input output vault keeper ended now (Imports words input output host) import_causes Rose (λ script end own es came h. copy_host _ came.3.result _ output end own host.faults host.risen came.3.told h came.3.host) d.0 e
-  doing_host Export d e = session_host trace faults G input output vault keeper ended now (Exports words input output host) export_causes Rose (λ script end own es came h. copy_host _ came.2.result _ output end own host.faults host.risen came.2.told h came.2.host) d.0 e
-  doing_host Put d e = session_host trace faults G input output vault keeper ended now (Puts words input output) put_causes Rose (λ script end own es came h. absurd (put_hostless script end own es came h)) d e
-  doing_host Get d e = session_host trace faults G input output vault keeper ended now (Gets words input output) get_causes Rose (λ script end own es came h. absurd (get_hostless script end own es came h)) d e
-  doing_host Check d e = absurd (checked_host trace faults names G input output vault keeper ended d.1 d.0 e)
-  doing_host Survey d e = absurd (surveyed_host trace faults names G input output vault keeper ended d.1 d.0 e)
+  pub doing_host : (form : Form) → Doing form → Caused form → ended.status ≡ HostFault → Rose
+  doing_host Trial d k e = absurd (trial_is_no input output ended.status HostFault (tried_end now input output ended.status d.0) e (λ h. h))
+  doing_host (TrialGenerate count) d k e = absurd (trial_is_no input output ended.status HostFault (generated_end now count input output ended.status d.0) e (λ h. h))
+  doing_host (Create options) d k e = absurd (created_host trace faults G input output vault keeper ended k options.params options.block_size (drawn chance).0 d e)
+  doing_host Info d k e = absurd (told_host trace faults G input output vault keeper ended k d e)
+  doing_host Passwd d k e = absurd (changed_host trace faults G input output vault keeper ended k chance left d e)
+  doing_host Migrate d k e = absurd (migrated_host trace faults G input output vault keeper ended d e)
+  doing_host Shell d k e = session_host trace faults G input output vault keeper ended now (ComesShell input output) shell_causes Rose (λ script end own es came h. absurd (host_undone (sym h ∙ came.1))) d e
+  doing_host (Generate count) d k e = session_host trace faults G input output vault keeper ended now (ComesGenerated count input output) (generated_causes count) Rose (λ script end own es came h. absurd (host_undone (sym h ∙ came.1))) d e
+  doing_host Command d k e = session_host trace faults G input output vault keeper ended now (ComesCommand (joined words) input output) command_causes Rose (λ script end own es came h. absurd (host_undone (sym h ∙ came.1))) d e
+  doing_host Import d k e = session_host trace faults G input output vault keeper ended now (Imports words input output host) import_causes Rose (λ script end own es came h. copy_host _ came.3.result _ output end own host.faults host.risen came.3.told h came.3.host) d.0 e
+  doing_host Export d k e = session_host trace faults G input output vault keeper ended now (Exports words input output host) export_causes Rose (λ script end own es came h. copy_host _ came.2.result _ output end own host.faults host.risen came.2.told h came.2.host) d.0 e
+  doing_host Put d k e = session_host trace faults G input output vault keeper ended now (Puts words input output) put_causes Rose (λ script end own es came h. absurd (put_hostless script end own es came h)) d e
+  doing_host Get d k e = session_host trace faults G input output vault keeper ended now (Gets words input output) get_causes Rose (λ script end own es came h. absurd (get_hostless script end own es came h)) d e
+  doing_host Check d k e = absurd (checked_host trace faults names G input output vault keeper ended k d e)
+  doing_host Survey d k e = absurd (surveyed_host trace faults names G input output vault keeper ended k d e)

@@ -32,8 +32,8 @@ use Rattle.tree_commands.specs.Showing.{ShowsFiles}
 use Rattle.cryfs_shell.proofs.Checks.{ends_by, bad_by}
 use Rattle.cryfs_shell.proofs.Migrations as migrations
 use Rattle.mount_migrating.specs.Migrating.{told}
-use Rattle.cryfs_shell.specs.Doing.{Does}
-use Rattle.cryfs_shell.specs.Hosts.{HostSeen}
+use Rattle.cryfs_shell.specs.Doing.{Did}
+use Rattle.cryfs_shell.specs.Streams.{Streams}
 use Rattle.cryfs_shell.specs.History.{Comes, Judges, Meets, IsRunOf}
 
 -- nothing happened outside
@@ -114,21 +114,25 @@ other_form words Get e other = tt
 other_form words Check e other = tt
 other_form words Survey e other = tt
 
-pub doing_history : {V : Type 0} {K : Type 0} (trace : V → Option (List Call)) (faults : V → ℕ) (names : V → Option (List (List ℕ))) (G : KeeperGhosts K) (words : List (List ℕ)) (now : Instant) (chance left : Chance) (input output : Stream) (host : HostSeen) (vault : V) (keeper : K) (ended : Ended V K) (form : Form)
-    → IsPlain form → Does trace faults names G words now chance left input output host vault keeper ended form
-    → (run : Run) × IsRunOf (Comes words input output host form) (Judges (Some form) ended.status) (Meets (Some form) ended.status) (outside_of trace faults G vault keeper) (outside_of trace faults G ended.vault ended.keeper) run
-doing_history trace faults names G words now chance left input output host vault keeper ended Trial p d = idly trace faults G (Comes words input output host Trial) (Judges (Some Trial) ended.status) (Meets (Some Trial) ended.status) vault keeper ended d.1
-doing_history trace faults names G words now chance left input output host vault keeper ended (TrialGenerate count) p d = idly trace faults G (Comes words input output host (TrialGenerate count)) (Judges (Some (TrialGenerate count)) ended.status) (Meets (Some (TrialGenerate count)) ended.status) vault keeper ended d.2
-doing_history trace faults names G words now chance left input output host vault keeper ended (Create options) p d = absurd p
-doing_history trace faults names G words now chance left input output host vault keeper ended Info p d = told_history trace faults G (Comes words input output host Info) (Judges (Some Info) ended.status) (Meets (Some Info) ended.status) vault keeper ended input output d.0
-doing_history trace faults names G words now chance left input output host vault keeper ended Passwd p d = changed_history trace faults G (Comes words input output host Passwd) (Judges (Some Passwd) ended.status) (Meets (Some Passwd) ended.status) vault keeper ended chance left input output d.0
-doing_history trace faults names G words now chance left input output host vault keeper ended Migrate p d = migrated_history trace faults G (Comes words input output host Migrate) (Judges (Some Migrate) ended.status) (Meets (Some Migrate) ended.status) vault keeper ended input output (λ bad j. j) d
-doing_history trace faults names G words now chance left input output host vault keeper ended Shell p d = session_history trace faults G (Comes words input output host Shell) (Judges (Some Shell) ended.status) (Meets (Some Shell) ended.status) vault keeper ended now input output d
-doing_history trace faults names G words now chance left input output host vault keeper ended (Generate count) p d = session_history trace faults G (Comes words input output host (Generate count)) (Judges (Some (Generate count)) ended.status) (Meets (Some (Generate count)) ended.status) vault keeper ended now input output d
-doing_history trace faults names G words now chance left input output host vault keeper ended Command p d = session_history trace faults G (Comes words input output host Command) (Judges (Some Command) ended.status) (Meets (Some Command) ended.status) vault keeper ended now input output d
-doing_history trace faults names G words now chance left input output host vault keeper ended Import p d = session_history trace faults G (Comes words input output host Import) (Judges (Some Import) ended.status) (Meets (Some Import) ended.status) vault keeper ended now input output d.0
-doing_history trace faults names G words now chance left input output host vault keeper ended Export p d = session_history trace faults G (Comes words input output host Export) (Judges (Some Export) ended.status) (Meets (Some Export) ended.status) vault keeper ended now input output d.0
-doing_history trace faults names G words now chance left input output host vault keeper ended Put p d = session_history trace faults G (Comes words input output host Put) (Judges (Some Put) ended.status) (Meets (Some Put) ended.status) vault keeper ended now input output d
-doing_history trace faults names G words now chance left input output host vault keeper ended Get p d = session_history trace faults G (Comes words input output host Get) (Judges (Some Get) ended.status) (Meets (Some Get) ended.status) vault keeper ended now input output d
-doing_history trace faults names G words now chance left input output host vault keeper ended Check p d = checked_history trace faults G (Comes words input output host Check) (Judges (Some Check) ended.status) (Meets (Some Check) ended.status) vault keeper ended names input output (λ bad j. j) d.0
-doing_history trace faults names G words now chance left input output host vault keeper ended Survey p d = surveyed_history trace faults G (Comes words input output host Survey) (Judges (Some Survey) ended.status) (Meets (Some Survey) ended.status) vault keeper ended names input output d.0
+-- ---- by its form
+
+module _ {V : Type 0} {K : Type 0} (trace : V → Option (List Call)) (faults : V → ℕ) (names : V → Option (List (List ℕ))) (G : KeeperGhosts K) (words : List (List ℕ)) (now : Instant) (s : Streams) (vault : V) (keeper : K) (ended : Ended V K) where
+  abbrev Done : Form → Type 0
+  Done form = History trace faults G (Comes words s (Some form)) (Judges (Some form) ended.status) (Meets (Some form) ended.status) vault keeper ended
+
+  pub doing_history : (form : Form) → IsPlain form → Did trace faults names G words now s vault keeper ended (Some form) → Done form
+  doing_history Trial p d = idly trace faults G (Comes words s (Some Trial)) (Judges (Some Trial) ended.status) (Meets (Some Trial) ended.status) vault keeper ended d.1
+  doing_history (TrialGenerate count) p d = idly trace faults G (Comes words s (Some (TrialGenerate count))) (Judges (Some (TrialGenerate count)) ended.status) (Meets (Some (TrialGenerate count)) ended.status) vault keeper ended d.2
+  doing_history (Create options) p d = absurd p
+  doing_history Info p d = told_history trace faults G (Comes words s (Some Info)) (Judges (Some Info) ended.status) (Meets (Some Info) ended.status) vault keeper ended s.input s.output d
+  doing_history Passwd p d = changed_history trace faults G (Comes words s (Some Passwd)) (Judges (Some Passwd) ended.status) (Meets (Some Passwd) ended.status) vault keeper ended s.chance s.left s.input s.output d
+  doing_history Migrate p d = migrated_history trace faults G (Comes words s (Some Migrate)) (Judges (Some Migrate) ended.status) (Meets (Some Migrate) ended.status) vault keeper ended s.input s.output (λ bad j. j) d
+  doing_history Shell p d = session_history trace faults G (Comes words s (Some Shell)) (Judges (Some Shell) ended.status) (Meets (Some Shell) ended.status) vault keeper ended now s.input s.output d
+  doing_history (Generate count) p d = session_history trace faults G (Comes words s (Some (Generate count))) (Judges (Some (Generate count)) ended.status) (Meets (Some (Generate count)) ended.status) vault keeper ended now s.input s.output d
+  doing_history Command p d = session_history trace faults G (Comes words s (Some Command)) (Judges (Some Command) ended.status) (Meets (Some Command) ended.status) vault keeper ended now s.input s.output d
+  doing_history Import p d = session_history trace faults G (Comes words s (Some Import)) (Judges (Some Import) ended.status) (Meets (Some Import) ended.status) vault keeper ended now s.input s.output d.0
+  doing_history Export p d = session_history trace faults G (Comes words s (Some Export)) (Judges (Some Export) ended.status) (Meets (Some Export) ended.status) vault keeper ended now s.input s.output d.0
+  doing_history Put p d = session_history trace faults G (Comes words s (Some Put)) (Judges (Some Put) ended.status) (Meets (Some Put) ended.status) vault keeper ended now s.input s.output d
+  doing_history Get p d = session_history trace faults G (Comes words s (Some Get)) (Judges (Some Get) ended.status) (Meets (Some Get) ended.status) vault keeper ended now s.input s.output d
+  doing_history Check p d = checked_history trace faults G (Comes words s (Some Check)) (Judges (Some Check) ended.status) (Meets (Some Check) ended.status) vault keeper ended names s.input s.output (λ bad j. j) d
+  doing_history Survey p d = surveyed_history trace faults G (Comes words s (Some Survey)) (Judges (Some Survey) ended.status) (Meets (Some Survey) ended.status) vault keeper ended names s.input s.output d

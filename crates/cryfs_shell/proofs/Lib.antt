@@ -10,3 +10,5 @@ pub mod Doing
 pub mod Naming
 pub mod Histories
 pub mod Files
+mod Idle
+mod Asked

@@ -60,9 +60,10 @@ use Rattle.cryfs_shell.proofs.Checks.{state_named, output_named}
 use Rattle.cryfs_shell.proofs.Migrations.{memory_named, or_done}
 use Rattle.cryfs_shell.specs.Clauses.{FaultsNamed, MayHide, MayHideState, StreamFaultsNamed}
 use Rattle.cryfs_shell.specs.Copies.{Imports, Exports, Puts, Gets}
-use Rattle.cryfs_shell.specs.Doing.{Does}
+use Rattle.cryfs_shell.specs.Doing.{Did}
 use Rattle.cryfs_shell.specs.Hosts.{HostSeen}
 use Rattle.cryfs_shell.specs.Kinds.{is_session}
+use Rattle.cryfs_shell.specs.Streams.{Streams}
 use Rattle.plain_trials.specs.Runs.{Tried, GeneratedOnPlain, status_of}
 
 -- ---- the change of a password
@@ -316,17 +317,32 @@ module _ (input output : Stream) where
 
 -- ---- by its form
 
-module _ {V : Type 0} {K : Type 0} (trace : V → Option (List Call)) (faults : V → ℕ) (names : V → Option (List (List ℕ))) (G : KeeperGhosts K) (words : List (List ℕ)) (now : Instant) (chance left : Chance) (input output : Stream) (host : HostSeen) (vault : V) (keeper : K) (ended : Ended V K) where
+module _ {V : Type 0} {K : Type 0} (trace : V → Option (List Call)) (faults : V → ℕ) (names : V → Option (List (List ℕ))) (G : KeeperGhosts K) (words : List (List ℕ)) (now : Instant) (s : Streams) (vault : V) (keeper : K) (ended : Ended V K) where
+  abbrev input : Stream
+  input = s.input
+
+  abbrev output : Stream
+  output = s.output
+
+  abbrev host : HostSeen
+  host = s.host
+
+  abbrev chance : Chance
+  chance = s.chance
+
+  abbrev left : Chance
+  left = s.left
+
   abbrev Doing : Form → Type 0
-  Doing form = Does trace faults names G words now chance left input output host vault keeper ended form
+  Doing form = Did trace faults names G words now s vault keeper ended (Some form)
 
   pub doing_named : (form : Form) → is_session (Some form) ≡ false → Doing form → FaultsNamed (Some form) (outside_of trace faults G vault keeper) (outside_of trace faults G ended.vault ended.keeper) ended.status
   doing_named Trial e d = idle_named trace faults G input output vault keeper ended Trial d.1
   doing_named (TrialGenerate count) e d = idle_named trace faults G input output vault keeper ended (TrialGenerate count) d.2
-  doing_named (Create options) e d = created_named trace faults G input output vault keeper ended (Create options) options.params options.block_size (drawn chance).0 d.0
-  doing_named Info e d = told_named trace faults G input output vault keeper ended d.0
+  doing_named (Create options) e d = created_named trace faults G input output vault keeper ended (Create options) options.params options.block_size (drawn chance).0 d
+  doing_named Info e d = told_named trace faults G input output vault keeper ended d
   doing_named Migrate e d = migrated_named trace faults G input output vault keeper ended d
-  doing_named Passwd e d = changed_named trace faults G input output vault keeper ended chance left d.0
+  doing_named Passwd e d = changed_named trace faults G input output vault keeper ended chance left d
   doing_named Shell e d = absurd (cc)
   doing_named (Generate count) e d = absurd (cc)
   doing_named Command e d = absurd (cc)
@@ -334,16 +350,16 @@ module _ {V : Type 0} {K : Type 0} (trace : V → Option (List Call)) (faults : 
   doing_named Export e d = absurd (cc)
   doing_named Put e d = absurd (cc)
   doing_named Get e d = absurd (cc)
-  doing_named Check e d = checked_named trace faults G input output vault keeper ended names d.0
-  doing_named Survey e d = surveyed_named trace faults G input output vault keeper ended names d.0
+  doing_named Check e d = checked_named trace faults G input output vault keeper ended names d
+  doing_named Survey e d = surveyed_named trace faults G input output vault keeper ended names d
 
   pub doing_streams : (form : Form) → Doing form → StreamFaultsNamed input output ended.status
   doing_streams Trial d = tried_named input output now ended.status d.0
   doing_streams (TrialGenerate count) d = generated_named input output now count ended.status d.1 d.0
-  doing_streams (Create options) d = created_streams input output trace faults G vault keeper ended options.params options.block_size (drawn chance).0 d.0
-  doing_streams Info d = told_streams input output trace faults G vault keeper ended d.0
+  doing_streams (Create options) d = created_streams input output trace faults G vault keeper ended options.params options.block_size (drawn chance).0 d
+  doing_streams Info d = told_streams input output trace faults G vault keeper ended d
   doing_streams Migrate d = migrated_streams input output trace faults G vault keeper ended d
-  doing_streams Passwd d = changed_streams input output trace faults G vault keeper ended chance left d.0
+  doing_streams Passwd d = changed_streams input output trace faults G vault keeper ended chance left d
   doing_streams Shell d = session_streams input output trace faults G vault keeper ended now (ComesShell input output) (λ script end own es came. ends_quiet script input output es end came.0) d
   doing_streams (Generate count) d = session_streams input output trace faults G vault keeper ended now (ComesGenerated count input output) (λ script end own es came. reported_quiet input output _ end came.0.1 came.0.0.3) d
   doing_streams Command d =
@@ -356,5 +372,5 @@ module _ {V : Type 0} {K : Type 0} (trace : V → Option (List Call)) (faults : 
       session_streams input output trace faults G vault keeper ended now (Puts words input output) (λ script end own es came. put_quiet came.0 script input output end own es came.2) d
   doing_streams Get d =
       session_streams input output trace faults G vault keeper ended now (Gets words input output) (λ script end own es came. get_quiet came.0 input output end own es came.2) d
-  doing_streams Check d = checked_streams input output trace faults G vault keeper ended names d.0
-  doing_streams Survey d = surveyed_streams input output trace faults G vault keeper ended names d.0
+  doing_streams Check d = checked_streams input output trace faults G vault keeper ended names d
+  doing_streams Survey d = surveyed_streams input output trace faults G vault keeper ended names d

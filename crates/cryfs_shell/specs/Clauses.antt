@@ -1,7 +1,7 @@
 -- What holds of every run, by what is kept, the calls on the directory, the counts of faults and the status.
-use Rattle.std.specs.Prelude.{◌≡◌, ◌≢◌, ◌⊎◌, ◌≤◌, ℕ, List}
+use Rattle.std.specs.Prelude.{◌≡◌, ◌≢◌, ◌⊎◌, ◌≤◌, ℕ, true, false, List}
 use Rattle.std.specs.declared.option.Option.{Option}
-use Rattle.std.specs.declared.option.Option.TheVariants.{Some}
+use Rattle.std.specs.declared.option.Option.TheVariants.{None, Some}
 use Rattle.config_file.specs.Settings.{Settings}
 use Rattle.fs_model.specs.Tree.{Tree}
 use Rattle.held_blocks.specs.Standing.{records}
@@ -10,15 +10,20 @@ use Rattle.line_io.specs.Streams.{Stream, HasFailed, Untouched}
 use Rattle.mount_tower.specs.Identities.{HasEmptyList}
 use Rattle.mount_core.specs.Standing.{IsKeptMarked}
 use Rattle.outside.specs.Causes.{RoseBy}
+use Rattle.outside.specs.Trace.{Call}
+use Rattle.outside.specs.declared.keeper.Keeper.{Ghosts as KeeperGhosts}
 use Rattle.passwords.specs.Passwords.{InputFailed}
 use Rattle.run_status.specs.declared.ended.Ended.{Ended}
 use Rattle.run_status.specs.declared.status.Status.{Status}
-use Rattle.run_status.specs.declared.status.Status.TheVariants.{LongPassword, Violation, DirectoryFault, StateFault, InputFault, OutputFault, Memory, HostFault}
+use Rattle.run_status.specs.declared.status.Status.TheVariants.{Done, Usage, LongPassword, Violation, DirectoryFault, StateFault, InputFault, OutputFault, Memory, HostFault}
 use Rattle.session_lines.specs.Driven.{IsUnfailed}
-use Rattle.session_runs.specs.Runs.{Outside, OutsideStandsFor, OpensTo, OpensOnlyTo, forgeries, lies}
+use Rattle.session_runs.specs.Openings.{AreUncalled}
+use Rattle.session_runs.specs.Runs.{Outside, outside_of, OutsideStandsFor, OpensTo, OpensOnlyTo, forgeries, lies}
 use Rattle.shell_words.specs.declared.form.Form.{Form}
 use Rattle.shell_words.specs.declared.form.Form.TheVariants.{Passwd, Migrate, Check}
 use Rattle.cryfs_shell.specs.Hosts.{HostSeen}
+use Rattle.cryfs_shell.specs.Kinds.{is_session, copies, draws}
+use Rattle.cryfs_shell.specs.Streams.{Streams}
 use Rattle.tree_commands.specs.Showing.{ShowsFiles}
 
 -- what a run may say over a marked record: that it is marked, or why it wasn't read: no password was, memory was refused, or its keeper failed
@@ -105,3 +110,23 @@ IsEmptied after = HasEmptyList after.kept
 pub record HostFaultsHappened (host : HostSeen) (status : Status) : Type 0 where
   pub grows : host.faults ≤ host.risen
   pub host_fault : status ≡ HostFault → RoseBy 1 host.faults host.risen
+
+-- which faults a run tells: those that happened, and of which none is passed over; no count falls
+pub record TellsFaults (asked : Option Form) (s : Streams) (before after : Outside) (status : Status) : Type 0 where
+  pub input_grows : s.input.faults ≤ s.input.risen
+  pub output_grows : s.output.faults ≤ s.output.risen
+  pub faults_happened : FaultsHappened s.input s.output before after status
+  pub host_faults_happened : HostFaultsHappened s.host status
+  pub faults_named : is_session asked ≡ false → FaultsNamed asked before after status
+  pub stream_faults_named : StreamFaultsNamed s.input s.output status
+
+-- what three statuses say: the words were of no form, nothing was called, or in a session that all is written
+pub record StatusSays {V : Type 0} {K : Type 0} (trace : V → Option (List Call)) (faults : V → ℕ) (G : KeeperGhosts K) (asked : Option Form) (vault : V) (keeper : K) (ended : Ended V K) : Type 0 where
+  pub usage : ended.status ≡ Usage → asked ≡ None
+  pub uncalled : ended.status ≡ LongPassword → AreUncalled vault keeper ended
+  pub done : is_session asked ≡ true → ended.status ≡ Done → IsEmptied (outside_of trace faults G ended.vault ended.keeper)
+
+-- what a run leaves alone that doesn't ask for it: the host folder but in copies, and the random bytes
+pub record Spares {F : Type 0} (asked : Option Form) (s : Streams) (old new : F) : Type 0 where
+  pub unhosted : copies asked ≡ false → new ≡ old
+  pub undrawn : draws asked ≡ false → s.left ≡ s.chance

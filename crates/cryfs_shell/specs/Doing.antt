@@ -1,47 +1,55 @@
 -- What a run does, by what its words ask for.
-use Rattle.std.specs.Prelude.{ℕ, List}
+use Rattle.std.specs.Prelude.{◌≡◌, ℕ, List}
 use Rattle.std.specs.declared.option.Option.{Option}
+use Rattle.std.specs.declared.option.Option.TheVariants.{None, Some}
 use Rattle.check_runs.specs.Running.{RanCheck}
 use Rattle.check_runs.specs.SurveyRuns.{RanSurvey}
-use Rattle.rand_core.specs.Stream.{Stream as Chance}
 use Rattle.cryfs_setup.specs.Create.{RanCreate}
 use Rattle.cryfs_setup.specs.Info.{Told}
 use Rattle.cryfs_setup.specs.Migrate.{RanMigrate}
 use Rattle.cryfs_setup.specs.Passwd.{RanPasswd}
 use Rattle.fs_model.specs.Instant.{Instant}
-use Rattle.line_io.specs.Streams.{Stream, Untouched}
+use Rattle.line_io.specs.Streams.{Untouched}
 use Rattle.mount_tower.specs.Drawing.{drawn}
 use Rattle.outside.specs.Trace.{Call}
 use Rattle.outside.specs.declared.keeper.Keeper.{Ghosts as KeeperGhosts}
 use Rattle.session_runs.specs.Openings.{AreUncalled, HasCauses}
 use Rattle.run_status.specs.declared.ended.Ended.{Ended}
-use Rattle.session_runs.specs.Runs.{outside_of}
+use Rattle.run_status.specs.declared.status.Status.{Status}
+use Rattle.session_runs.specs.Runs.{Outside}
 use Rattle.shell_sessions.specs.Sessions.{Session, ComesShell, ComesGenerated, ComesCommand}
 use Rattle.shell_words.specs.declared.form.Form.{Form}
 use Rattle.shell_words.specs.declared.form.Form.TheVariants.{Trial, TrialGenerate, Create, Info, Passwd, Migrate, Shell, Generate, Command, Import, Export, Put, Get, Check, Survey}
 use Rattle.shell_words.specs.Forms.{joined}
 use Rattle.cryfs_shell.specs.Copies.{HostSession, Imports, Exports, Puts, Gets}
-use Rattle.cryfs_shell.specs.Hosts.{HostSeen}
+use Rattle.cryfs_shell.specs.Kinds.{IsRefused}
+use Rattle.cryfs_shell.specs.Streams.{Streams}
 use Rattle.plain_trials.specs.Runs.{Tried, GeneratedOnPlain}
 
--- the status names only faults that happened
-abbrev pub Caused : {V : Type 0} → {K : Type 0} → (V → Option (List Call)) → (V → ℕ) → KeeperGhosts K → V → K → Ended V K → Type 0
-Caused trace faults G vault keeper ended = HasCauses (outside_of trace faults G vault keeper) (outside_of trace faults G ended.vault ended.keeper) ended.status
+-- what a run did, by what its words ask for; words of no form are refused, and nothing is done
+abbrev pub Did : {V : Type 0} → {K : Type 0} → (V → Option (List Call)) → (V → ℕ) → (V → Option (List (List ℕ))) → KeeperGhosts K → List (List ℕ) → Instant → Streams → V → K → Ended V K → Option Form → Type 0
+Did trace faults names G words now s vault keeper ended None = IsRefused words ended.status × Untouched s.input × Untouched s.output × AreUncalled vault keeper ended × (s.left ≡ s.chance)
+Did trace faults names G words now s vault keeper ended (Some Trial) = Tried now s.input s.output ended.status × AreUncalled vault keeper ended
+Did trace faults names G words now s vault keeper ended (Some (TrialGenerate count)) = GeneratedOnPlain now count s.output ended.status × Untouched s.input × AreUncalled vault keeper ended
+Did trace faults names G words now s vault keeper ended (Some (Create options)) = RanCreate trace faults G options.params options.block_size (drawn s.chance).0 s.input s.output vault keeper ended
+Did trace faults names G words now s vault keeper ended (Some Info) = Told trace faults G s.input s.output vault keeper ended
+Did trace faults names G words now s vault keeper ended (Some Passwd) = RanPasswd trace faults G s.chance s.left s.input s.output vault keeper ended
+Did trace faults names G words now s vault keeper ended (Some Migrate) = RanMigrate trace faults G s.input s.output vault keeper ended
+Did trace faults names G words now s vault keeper ended (Some Shell) = Session trace faults G now (ComesShell s.input s.output) s.input s.output vault keeper ended
+Did trace faults names G words now s vault keeper ended (Some (Generate count)) = Session trace faults G now (ComesGenerated count s.input s.output) s.input s.output vault keeper ended
+Did trace faults names G words now s vault keeper ended (Some Command) = Session trace faults G now (ComesCommand (joined words) s.input s.output) s.input s.output vault keeper ended
+Did trace faults names G words now s vault keeper ended (Some Import) = HostSession trace faults G now (Imports words s.input s.output s.host) s.input s.output s.host vault keeper ended
+Did trace faults names G words now s vault keeper ended (Some Export) = HostSession trace faults G now (Exports words s.input s.output s.host) s.input s.output s.host vault keeper ended
+Did trace faults names G words now s vault keeper ended (Some Put) = Session trace faults G now (Puts words s.input s.output) s.input s.output vault keeper ended
+Did trace faults names G words now s vault keeper ended (Some Get) = Session trace faults G now (Gets words s.input s.output) s.input s.output vault keeper ended
+Did trace faults names G words now s vault keeper ended (Some Check) = RanCheck trace faults names G s.input s.output vault keeper ended
+Did trace faults names G words now s vault keeper ended (Some Survey) = RanSurvey trace faults names G s.input s.output vault keeper ended
 
-abbrev pub Does : {V : Type 0} → {K : Type 0} → (V → Option (List Call)) → (V → ℕ) → (V → Option (List (List ℕ))) → KeeperGhosts K → List (List ℕ) → Instant → Chance → Chance → Stream → Stream → HostSeen → V → K → Ended V K → Form → Type 0
-Does trace faults names G words now chance left input output host vault keeper ended Trial = Tried now input output ended.status × AreUncalled vault keeper ended
-Does trace faults names G words now chance left input output host vault keeper ended (TrialGenerate count) = GeneratedOnPlain now count output ended.status × Untouched input × AreUncalled vault keeper ended
-Does trace faults names G words now chance left input output host vault keeper ended (Create options) =
-    RanCreate trace faults G options.params options.block_size (drawn chance).0 input output vault keeper ended × Caused trace faults G vault keeper ended
-Does trace faults names G words now chance left input output host vault keeper ended Info = Told trace faults G input output vault keeper ended × Caused trace faults G vault keeper ended
-Does trace faults names G words now chance left input output host vault keeper ended Passwd = RanPasswd trace faults G chance left input output vault keeper ended × Caused trace faults G vault keeper ended
-Does trace faults names G words now chance left input output host vault keeper ended Migrate = RanMigrate trace faults G input output vault keeper ended
-Does trace faults names G words now chance left input output host vault keeper ended Shell = Session trace faults G now (ComesShell input output) input output vault keeper ended
-Does trace faults names G words now chance left input output host vault keeper ended (Generate count) = Session trace faults G now (ComesGenerated count input output) input output vault keeper ended
-Does trace faults names G words now chance left input output host vault keeper ended Command = Session trace faults G now (ComesCommand (joined words) input output) input output vault keeper ended
-Does trace faults names G words now chance left input output host vault keeper ended Import = HostSession trace faults G now (Imports words input output host) input output host vault keeper ended
-Does trace faults names G words now chance left input output host vault keeper ended Export = HostSession trace faults G now (Exports words input output host) input output host vault keeper ended
-Does trace faults names G words now chance left input output host vault keeper ended Put = Session trace faults G now (Puts words input output) input output vault keeper ended
-Does trace faults names G words now chance left input output host vault keeper ended Get = Session trace faults G now (Gets words input output) input output vault keeper ended
-Does trace faults names G words now chance left input output host vault keeper ended Check = RanCheck trace faults names G input output vault keeper ended × Caused trace faults G vault keeper ended
-Does trace faults names G words now chance left input output host vault keeper ended Survey = RanSurvey trace faults names G input output vault keeper ended × Caused trace faults G vault keeper ended
+-- the status of a run that is no session, no trial and no migration names only faults of the directory and the record that happened
+abbrev pub IsCaused : Outside → Outside → Status → Form → Type 0
+IsCaused before after status (Create options) = HasCauses before after status
+IsCaused before after status Info = HasCauses before after status
+IsCaused before after status Passwd = HasCauses before after status
+IsCaused before after status Check = HasCauses before after status
+IsCaused before after status Survey = HasCauses before after status
+IsCaused before after status form = Unit {0}

@@ -1,12 +1,11 @@
 -- A call of the program as a run of one file system.
-use Rattle.std.specs.Prelude.{◌≡◌, ℕ, Bool, true, List}
+use Rattle.std.specs.Prelude.{◌≡◌, ℕ, Bool, true, false, List}
 use Rattle.std.specs.declared.option.Option.{Option}
 use Rattle.std.specs.declared.option.Option.TheVariants.{Some}
 use Rattle.answers.specs.Sessions.{Exchange}
 use Rattle.cryfs_shell.specs.Copies.{Imports, Exports, Puts, Gets}
-use Rattle.cryfs_shell.specs.Hosts.{HostSeen}
+use Rattle.cryfs_shell.specs.Streams.{Streams}
 use Rattle.histories.specs.Histories.{Run, session, quiet, examined, migrated, before_of, after_of, IsRun}
-use Rattle.line_io.specs.Streams.{Stream}
 use Rattle.run_status.specs.declared.status.Status.{Status}
 use Rattle.run_status.specs.declared.status.Status.TheVariants.{Violation}
 use Rattle.session_lines.specs.declared.end.End.{End}
@@ -14,19 +13,19 @@ use Rattle.session_runs.specs.Runs.{Outside}
 use Rattle.shell_sessions.specs.Sessions.{ComesShell, ComesGenerated, ComesCommand}
 use Rattle.shell_words.specs.declared.form.Form.{Form}
 use Rattle.shell_words.specs.declared.form.Form.TheVariants.{Migrate, Shell, Generate, Command, Import, Export, Put, Get, Check}
-use Rattle.shell_words.specs.Forms.{joined}
+use Rattle.shell_words.specs.Forms.{form_of, is_create, joined}
 use Rattle.tree_commands.specs.Showing.{ShowsFiles}
 
--- how the exchanges of a form come from what follows the password line; only sessions have some
-abbrev pub Comes : List (List ℕ) → Stream → Stream → HostSeen → Form → Option (List ℕ) → End → Status → List Exchange → Type 0
-Comes words input output host Shell = ComesShell input output
-Comes words input output host (Generate count) = ComesGenerated count input output
-Comes words input output host Command = ComesCommand (joined words) input output
-Comes words input output host Import = Imports words input output host
-Comes words input output host Export = Exports words input output host
-Comes words input output host Put = Puts words input output
-Comes words input output host Get = Gets words input output
-Comes words input output host form = λ script end own es. ⊥
+-- how the exchanges of what the words ask for come from what follows the password line, and are written; only sessions have some
+abbrev pub Comes : List (List ℕ) → Streams → Option Form → Option (List ℕ) → End → Status → List Exchange → Type 0
+Comes words s (Some Shell) = ComesShell s.input s.output
+Comes words s (Some (Generate count)) = ComesGenerated count s.input s.output
+Comes words s (Some Command) = ComesCommand (joined words) s.input s.output
+Comes words s (Some Import) = Imports words s.input s.output s.host
+Comes words s (Some Export) = Exports words s.input s.output s.host
+Comes words s (Some Put) = Puts words s.input s.output
+Comes words s (Some Get) = Gets words s.input s.output
+Comes words s asked = λ script end own es. ⊥
 
 -- a check is bad exactly where the status is a violation; no other form is a check
 abbrev pub Judges : Option Form → Status → Bool → Type 0
@@ -51,3 +50,8 @@ pub record IsRunOf (Came : Option (List ℕ) → End → Status → List Exchang
   pub came : HasCome Came Judged Met run
   pub begins : before_of run ≡ before
   pub ends : after_of run ≡ after
+
+-- words of a form that isn't that of `create` made the call such a run
+abbrev pub HasHistory : List (List ℕ) → Streams → Outside → Outside → Status → Type 0
+HasHistory words s before after status = (form : Form) → form_of words ≡ Some form → is_create words ≡ false
+    → (run : Run) × IsRunOf (Comes words s (Some form)) (Judges (Some form) status) (Meets (Some form) status) before after run

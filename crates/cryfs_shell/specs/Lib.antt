@@ -1,5 +1,6 @@
 pub mod Kinds
 pub mod Hosts
+pub mod Streams
 pub mod Copies
 pub mod Clauses
 pub mod Doing

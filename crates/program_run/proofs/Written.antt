@@ -5,7 +5,9 @@ use Rattle.std.specs.declared.option.Option.TheVariants.{None, Some}
 use Rattle.answers.specs.Sessions.{Exchange}
 use Rattle.answers.specs.Texts.{text_of_answer}
 use Rattle.config_file.specs.Settings.{Settings}
+use Rattle.cryfs_shell.specs.Doing.{Did}
 use Rattle.cryfs_shell.specs.Hosts.{HostSeen}
+use Rattle.cryfs_shell.specs.Streams.{streams_of}
 use Rattle.fs_model.specs.Instant.{Instant}
 use Rattle.fs_model.specs.Tree.{Tree}
 use Rattle.line_io.specs.Streams.{Stream, Untouched, Cut}
@@ -13,7 +15,7 @@ use Rattle.outside.specs.Streams.{appends}
 use Rattle.outside.specs.Trace.{Call}
 use Rattle.outside.specs.declared.keeper.Keeper.{Ghosts as KeeperGhosts}
 use Rattle.rand_core.specs.Stream.{Stream as Chance}
-use Rattle.run_histories.specs.Calls.{RunCall, Did, IsRunCall}
+use Rattle.run_histories.specs.Calls.{RunCall, IsRunCall}
 use Rattle.run_status.specs.declared.ended.Ended.{Ended}
 use Rattle.run_status.specs.declared.status.Status.{Status}
 use Rattle.session_lines.specs.Asking.{said_in, CutLast, single}
@@ -54,7 +56,7 @@ module _ {V : Type 0} {K : Type 0} (trace : V → Option (List Call)) (faults : 
   Output = told old new f r
 
   abbrev Ran : RunCall
-  Ran = program_call words now chance left input Output host before after status
+  Ran = program_call words now (streams_of input Output host chance left) before after status
 
   shell_told : (script : Option (List ℕ)) (end : End) (own : Status) (es : List Exchange) → ComesShell input Output script end own es → Told old new es
   shell_told script Finished own es (w, done) = whole old new es w.written
@@ -81,7 +83,7 @@ module _ {V : Type 0} {K : Type 0} (trace : V → Option (List Call)) (faults : 
     session Came tells (inr (password, script, has, inl ((error, u), unfailed, unwritten))) = nothing unwritten
     session Came tells (inr (password, script, has, inr s)) = served (Came script) (tells script) password s
 
-    did : (asked : Option Form) → answers_lines asked ≡ true → Did trace faults names G Ran vault keeper ended asked → WroteSession now first old new
+    did : (asked : Option Form) → answers_lines asked ≡ true → Did trace faults names G words now Ran.streams vault keeper ended asked → WroteSession now first old new
     did None e d = absurd (cc)
     did (Some Trial) e d = absurd (cc)
     did (Some (TrialGenerate count)) e d = absurd (cc)

@@ -2,8 +2,7 @@
 use Rattle.std.specs.Prelude.{ℕ, List}
 use Rattle.std.specs.declared.option.Option.{Option}
 use Rattle.std.specs.declared.option.Option.TheVariants.{None, Some}
-use Rattle.rand_core.specs.Stream.{Stream as Chance}
-use Rattle.cryfs_shell.specs.Hosts.{HostSeen}
+use Rattle.cryfs_shell.specs.Streams.{Streams}
 use Rattle.fs_model.specs.Instant.{Instant}
 use Rattle.line_io.specs.Streams.{Stream}
 use Rattle.outside.specs.Trace.{Call}
@@ -43,17 +42,6 @@ at_first calls keeper = record { kept = kept_in keeper; calls = Some calls; vaul
 abbrev pub at_last : Ended FolderVaultState FolderKeeperState → Outside
 at_last ended = record { kept = kept_in ended.keeper; calls = Some ended.vault.calls; vault_faults = ended.vault.faults; keeper_faults = ended.keeper.faults }
 
--- its words and moment, the random bytes before and after, its streams, its folder for copies, what was outside before and after, and its status
-abbrev pub program_call : List (List ℕ) → Instant → Chance → Chance → Stream → Stream → HostSeen → Outside → Outside → Status → RunCall
-program_call words now chance left input output host before after status = record {
-  words = words;
-  now = now;
-  chance = chance;
-  left = left;
-  input = input;
-  output = output;
-  host = host;
-  before = before;
-  after = after;
-  status = status;
-}
+-- its words and moment, what it read, wrote, drew and copied, what was outside before and after, and its status
+abbrev pub program_call : List (List ℕ) → Instant → Streams → Outside → Outside → Status → RunCall
+program_call words now s before after status = record { words = words; now = now; streams = s; before = before; after = after; status = status }

@@ -2,6 +2,7 @@
 ghost use Rattle.std.specs.Prelude.{◌≡◌, [], ◌∷◌, map};
 ghost use Rattle.std.specs.String.{string_bytes};
 ghost use Rattle.cryfs_shell.specs.Hosts.{host_of};
+ghost use Rattle.cryfs_shell.specs.Streams.{streams_of};
 ghost use Rattle.real_folders.specs.FolderLog.{calls_of};
 ghost use Rattle.real_streams.specs.Adapters.{source_faults, sink_faults, written_by};
 ghost use Rattle.run_histories.specs.Calls.{IsRunCall};
@@ -32,15 +33,20 @@ pub fn run_program<'a, I: Read, O: Write, R: Rng, F: Folder>(
     log: CallLog,
     host: &mut F,
 ) -> Ended<FolderVault<'a, HostRuntime>, FolderKeeper<'a, HostRuntime>>
-    ensures call { IsRunCall folder_calls folder_faults folder_names folder_record (program_call (map string_bytes inputs.entry.now.words.items) inputs.entry.now.now
-        (R.stream chance.old) (R.stream chance.new) (untold (source_faults input.old) (source_faults input.new))
-        (told (written_by output.old) (written_by output.new) (sink_faults output.old) (sink_faults output.new)) (host_of F.tree F.faults host.old host.new)
+    ensures call { IsRunCall folder_calls folder_faults folder_names folder_record
+        (program_call (map string_bytes inputs.entry.now.words.items) inputs.entry.now.now
+        (streams_of (untold (source_faults input.old) (source_faults input.new))
+        (told (written_by output.old) (written_by output.new) (sink_faults output.old) (sink_faults output.new))
+        (host_of F.tree F.faults host.old host.new) (R.stream chance.old) (R.stream chance.new))
         (at_first (calls_of log.events) keeper.entry) (at_last result) result.status) }
-    ensures listed { AreRunCalls folder_calls folder_faults folder_names folder_record (at_first (calls_of log.events) keeper.entry) (program_call (map string_bytes inputs.entry.now.words.items) inputs.entry.now.now
-        (R.stream chance.old) (R.stream chance.new) (untold (source_faults input.old) (source_faults input.new))
-        (told (written_by output.old) (written_by output.new) (sink_faults output.old) (sink_faults output.new)) (host_of F.tree F.faults host.old host.new)
+    ensures listed { AreRunCalls folder_calls folder_faults folder_names folder_record (at_first (calls_of log.events) keeper.entry)
+        (program_call (map string_bytes inputs.entry.now.words.items) inputs.entry.now.now
+        (streams_of (untold (source_faults input.old) (source_faults input.new))
+        (told (written_by output.old) (written_by output.new) (sink_faults output.old) (sink_faults output.new))
+        (host_of F.tree F.faults host.old host.new) (R.stream chance.old) (R.stream chance.new))
         (at_first (calls_of log.events) keeper.entry) (at_last result) result.status ∷ []) }
-    ensures written { WritesSession (map string_bytes inputs.entry.now.words.items) inputs.entry.now.now (at_first (calls_of log.events) keeper.entry) (at_last result) (written_by output.old) (written_by output.new) }
+    ensures written { WritesSession (map string_bytes inputs.entry.now.words.items) inputs.entry.now.now
+        (at_first (calls_of log.events) keeper.entry) (at_last result) (written_by output.old) (written_by output.new) }
 {
     run_call(
         rt.alloc(),

@@ -24,10 +24,11 @@ use Rattle.shell_words.specs.declared.form.Form.TheVariants.{Create}
 use Rattle.shell_words.specs.Forms.{form_of}
 use Rattle.tree_commands.specs.Showing.{ShowsFiles}
 use Rattle.histories.specs.Histories.{Run, before_of, after_of, GoesOnFrom, AreRuns, end_of, was_violated, RunsCompose}
+use Rattle.cryfs_shell.specs.Doing.{Did}
 use Rattle.cryfs_shell.specs.Kinds.{opens}
 use Rattle.cryfs_shell.proofs.Statuses.{opening_is_no}
 use Rattle.cryfs_shell.proofs.Sessions.{one_unread, unread_is_no}
-use Rattle.run_histories.specs.Calls.{RunCall, Did, IsRunCall}
+use Rattle.run_histories.specs.Calls.{RunCall, IsRunCall}
 use Rattle.run_histories.specs.Lists.{left_by, AreRunCalls, AreRunsOf, AreUnforged, CallsCompose}
 use Rattle.run_histories.proofs.One.{one, other}
 
@@ -102,9 +103,9 @@ module _ {V : Type 0} {K : Type 0} (trace : V → Option (List Call)) (faults : 
 
   module _ (made : RunCall) (options : CreateOptions) (h : IsRunCall trace faults names G made) (done : made.status ≡ Done) (unchanged : IsUnchanged made.before.calls) where
     abbrev NewSettings : Settings
-    NewSettings = new_settings options.block_size (drawn made.chance).0
+    NewSettings = new_settings options.block_size (drawn made.streams.chance).0
 
-    reported : (file : List ℕ) (id : Result BlockId OpenError) → Reports id made.output h.ended.status → OnOk id (G.kept h.keeper ≡ None)
+    reported : (file : List ℕ) (id : Result BlockId OpenError) → Reports id made.streams.output h.ended.status → OnOk id (G.kept h.keeper ≡ None)
         → (G.kept h.keeper ≡ None → Made ShowsFiles NewSettings file (G.kept h.keeper) (G.kept h.ended.keeper) (trace h.ended.vault) id) → OutsideStandsFor ShowsFiles NewSettings empty_tree (outside_of trace faults G h.ended.vault h.ended.keeper)
     reported file (Ok id) r none stands = (stands none).0.represents
     reported file (Err error) r none stands = absurd (opening_is_no error h.ended.status Done r.0 (sym h.status ∙ done) (λ x. x))
@@ -113,12 +114,12 @@ module _ {V : Type 0} {K : Type 0} (trace : V → Option (List Call)) (faults : 
     on_ok (Ok id) P Q both = both.0
     on_ok (Err error) P Q both = tt
 
-    created : Did trace faults names G made h.vault h.keeper h.ended (Some (Create options)) → OutsideStandsFor ShowsFiles NewSettings empty_tree (outside_of trace faults G h.ended.vault h.ended.keeper)
-    created (inl u) = absurd (unread_is_no h.ended.status Done (one_unread made.input h.ended.status u.cause).unread (sym h.status ∙ done) (λ x. x))
+    created : Did trace faults names G made.words made.now made.streams h.vault h.keeper h.ended (Some (Create options)) → OutsideStandsFor ShowsFiles NewSettings empty_tree (outside_of trace faults G h.ended.vault h.ended.keeper)
+    created (inl u) = absurd (unread_is_no h.ended.status Done (one_unread made.streams.input h.ended.status u.cause).unread (sym h.status ∙ done) (λ x. x))
     created (inr (password, script, has, unfailed, c)) =
         reported _ c.made c.reports (on_ok c.made (G.kept h.keeper ≡ None) _ c.absent) (λ none. c.stands (subst (λ (o : Outside). IsUnchanged o.calls) h.begins unchanged) none)
 
     pub made_stands : form_of made.words ≡ Some (Create options) → OutsideStandsFor ShowsFiles NewSettings empty_tree made.after
     made_stands asked =
         subst (λ (o : Outside). OutsideStandsFor ShowsFiles NewSettings empty_tree o) (sym h.ends)
-        (created (subst (λ (form : Option Form). Did trace faults names G made h.vault h.keeper h.ended form) asked h.did))
+        (created (subst (λ (form : Option Form). Did trace faults names G made.words made.now made.streams h.vault h.keeper h.ended form) asked h.did))

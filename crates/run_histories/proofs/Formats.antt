@@ -31,11 +31,12 @@ use Rattle.shell_words.specs.declared.form.Form.{Form}
 use Rattle.shell_words.specs.declared.form.Form.TheVariants.{Create, Migrate}
 use Rattle.shell_words.specs.Forms.{form_of}
 use Rattle.tree_commands.specs.Showing.{ShowsFiles}
+use Rattle.cryfs_shell.specs.Doing.{Did}
 use Rattle.cryfs_shell.specs.Kinds.{opens}
 use Rattle.cryfs_shell.proofs.Statuses.{opening_is_no}
 use Rattle.cryfs_shell.proofs.Sessions.{one_unread, unread_is_no}
 use Rattle.histories.specs.Histories.{Run, session, quiet, examined, migrated, before_of, after_of, IsRun}
-use Rattle.run_histories.specs.Calls.{RunCall, Did, IsRunCall}
+use Rattle.run_histories.specs.Calls.{RunCall, IsRunCall}
 use Rattle.run_histories.specs.Formats.{HasCreated, HasMigrated}
 use Rattle.run_histories.specs.Lists.{AreRunCalls, left_by}
 use Rattle.run_histories.proofs.All.{marked_is_some}
@@ -102,24 +103,24 @@ not_more written x rest e = let same = ap length e in let long = length-append w
 module _ {V : Type 0} {K : Type 0} (trace : V → Option (List Call)) (faults : V → ℕ) (names : V → Option (List (List ℕ))) (G : KeeperGhosts K) (call : RunCall) (h : IsRunCall trace faults names G call) where
   -- ---- what `create` left
 
-  newest_of : (done : call.status ≡ Done) (made : Result BlockId OpenError) → Reports made call.output h.ended.status → OnOk made (KeepsNewest (G.kept h.ended.keeper)) → KeepsNewest (G.kept h.ended.keeper)
+  newest_of : (done : call.status ≡ Done) (made : Result BlockId OpenError) → Reports made call.streams.output h.ended.status → OnOk made (KeepsNewest (G.kept h.ended.keeper)) → KeepsNewest (G.kept h.ended.keeper)
   newest_of done (Ok id) r newest = newest
   newest_of done (Err error) r newest = absurd (opening_is_no error h.ended.status Done r.0 (sym h.status ∙ done) (λ x. x))
 
-  created : (options : CreateOptions) → call.status ≡ Done → Did trace faults names G call h.vault h.keeper h.ended (Some (Create options)) → KeepsNewest (G.kept h.ended.keeper)
-  created options done (inl u) = absurd (unread_is_no h.ended.status Done (one_unread call.input h.ended.status u.cause).unread (sym h.status ∙ done) (λ x. x))
+  created : (options : CreateOptions) → call.status ≡ Done → Did trace faults names G call.words call.now call.streams h.vault h.keeper h.ended (Some (Create options)) → KeepsNewest (G.kept h.ended.keeper)
+  created options done (inl u) = absurd (unread_is_no h.ended.status Done (one_unread call.streams.input h.ended.status u.cause).unread (sym h.status ∙ done) (λ x. x))
   created options done (inr (password, script, has, unfailed, c)) = newest_of done c.made c.reports c.newest
 
   -- ---- what `migrate` left
 
-  module _ (written : List ℕ) (count : ℕ) (old : call.output.old ≡ Some written) (new : call.output.new ≡ Some (written ++ count_text count)) where
-    untouched : Untouched call.output → ⊥
+  module _ (written : List ℕ) (count : ℕ) (old : call.streams.output.old ≡ Some written) (new : call.streams.output.new ≡ Some (written ++ count_text count)) where
+    untouched : Untouched call.streams.output → ⊥
     untouched u = not_more written 109 _ (same_Some _ _ (sym old ∙ (sym u.0 ∙ new)))
 
-    wrote : (text : List ℕ) → call.output.new ≡ appends call.output.old text → text ≡ count_text count
+    wrote : (text : List ℕ) → call.streams.output.new ≡ appends call.streams.output.old text → text ≡ count_text count
     wrote text e = append_cancel_left written text (count_text count) (same_Some _ _ (sym (ap (λ (o : Option (List ℕ)). appends o text) old) ∙ (sym e ∙ new)))
 
-    told_so : (migration : Result ℕ MigrateError) (end : End) → Reported call.output (migrated_text migration) end → OnOk migration (KeepsNewest (G.kept h.ended.keeper)) → KeepsNewest (G.kept h.ended.keeper)
+    told_so : (migration : Result ℕ MigrateError) (end : End) → Reported call.streams.output (migrated_text migration) end → OnOk migration (KeepsNewest (G.kept h.ended.keeper)) → KeepsNewest (G.kept h.ended.keeper)
     told_so (Ok n) end r newest = newest
     told_so (Err e) line_end.Finished r newest = absurd (no_count e count [] (wrote (text_of_answer (answer_of e)) r.0 ∙ sym (append-nil (count_text count))))
     told_so (Err e) line_end.InputFault r newest = absurd r
@@ -127,7 +128,7 @@ module _ {V : Type 0} {K : Type 0} (trace : V → Option (List Call)) (faults : 
         let cut = r.0 in
         absurd (no_count e count cut.1 (cut.2 ∙ ap (λ (p : List ℕ). p ++ cut.1) (wrote cut.0 cut.3)))
 
-    migrated_newest : Did trace faults names G call h.vault h.keeper h.ended (Some Migrate) → KeepsNewest (G.kept h.ended.keeper)
+    migrated_newest : Did trace faults names G call.words call.now call.streams h.vault h.keeper h.ended (Some Migrate) → KeepsNewest (G.kept h.ended.keeper)
     migrated_newest (inl u) = absurd (untouched u.unwritten)
     migrated_newest (inr (password, after, has, unfailed, inl ((error, u), unwritten))) = absurd (untouched unwritten)
     migrated_newest (inr (password, after, has, unfailed, inr m)) = told_so m.migration m.end m.reported m.leaves.newest
@@ -135,8 +136,8 @@ module _ {V : Type 0} {K : Type 0} (trace : V → Option (List Call)) (faults : 
   takes_last : KeepsNewest (G.kept h.ended.keeper) → TakesFrom 2 call.after.kept
   takes_last k = subst (λ (o : Outside). TakesFrom 2 o.kept) (sym h.ends) (newest_takes (G.kept h.ended.keeper) k)
 
-  as_asked : (form : Form) → form_of call.words ≡ Some form → Did trace faults names G call h.vault h.keeper h.ended (Some form)
-  as_asked form asked = subst (λ (f : Option Form). Did trace faults names G call h.vault h.keeper h.ended f) asked h.did
+  as_asked : (form : Form) → form_of call.words ≡ Some form → Did trace faults names G call.words call.now call.streams h.vault h.keeper h.ended (Some form)
+  as_asked form asked = subst (λ (f : Option Form). Did trace faults names G call.words call.now call.streams h.vault h.keeper h.ended f) asked h.did
 
   pub begins_newest : HasCreated call ⊎ HasMigrated call → TakesFrom 2 call.after.kept
   begins_newest (inl (options, asked, done)) = takes_last (created options done (as_asked (Create options) asked))

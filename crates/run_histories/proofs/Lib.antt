@@ -1,4 +1,3 @@
-pub mod Called
 pub mod One
 pub mod All
 pub mod Formats

@@ -32,14 +32,16 @@ use Rattle.histories.specs.Histories.{Run, session, quiet, examined, migrated, b
 use Rattle.answers.specs.Sessions.{is_violation}
 use Rattle.cryfs_setup.specs.Migrate.{RanMigrate}
 use Rattle.mount_migrating.specs.Migrating.{told}
-use Rattle.cryfs_shell.specs.Clauses.{IsRefusingStatus, NoFalseAlarm, FaultsHappened, HostFaultsHappened}
+use Rattle.cryfs_shell.specs.Clauses.{IsRefusingStatus, NoFalseAlarm, TellsFaults}
+use Rattle.cryfs_shell.specs.Doing.{Did}
+use Rattle.cryfs_shell.specs.History.{Comes}
 use Rattle.cryfs_shell.specs.Kinds.{opens, is_session, is_check, is_migration}
 use Rattle.cryfs_shell.proofs.Checks.{ends_by, bad_by}
 use Rattle.cryfs_shell.proofs.Migrations as migrations
 use Rattle.cryfs_shell.proofs.Statuses.{opening_is_no}
 use Rattle.cryfs_shell.proofs.Sessions.{UnreadCause, one_unread, two_unread, unread_is_no, password_is}
-use Rattle.run_histories.specs.Calls.{RunCall, Did, IsRunCall}
-use Rattle.run_histories.specs.Lists.{CallAnswered, CallComes, IsRunOf, creates, password_of}
+use Rattle.run_histories.specs.Calls.{RunCall, IsRunCall}
+use Rattle.run_histories.specs.Lists.{CallAnswered, IsRunOf, creates, password_of}
 
 -- the first line of a told input
 abbrev password_in : Option (List ℕ) → List ℕ
@@ -59,11 +61,11 @@ module _ {V : Type 0} {K : Type 0} (trace : V → Option (List Call)) (faults : 
     is_run : IsRun ShowsFiles run
     begins : before_of run ≡ Before
     ends : after_of run ≡ After
-    password : (bytes : List ℕ) → call.input.old ≡ Some bytes → password_of run ≡ first_line bytes
+    password : (bytes : List ℕ) → call.streams.input.old ≡ Some bytes → password_of run ≡ first_line bytes
     answered : CallAnswered call asked run
 
-  quiet_ran : (asked : Option Form) (password : List ℕ) → ((bytes : List ℕ) → call.input.old ≡ Some bytes → password ≡ first_line bytes) → IsQuietRun ShowsFiles password Before After
-      → ((is_session asked || is_check asked || is_migration asked) ≡ true → Untouched call.output × (h.ended.status ≢ Done)) → Ran asked
+  quiet_ran : (asked : Option Form) (password : List ℕ) → ((bytes : List ℕ) → call.streams.input.old ≡ Some bytes → password ≡ first_line bytes) → IsQuietRun ShowsFiles password Before After
+      → ((is_session asked || is_check asked || is_migration asked) ≡ true → Untouched call.streams.output × (h.ended.status ≢ Done)) → Ran asked
   quiet_ran asked password first q silent = record {
     run = quiet password Before After;
     is_run = q;
@@ -81,21 +83,21 @@ module _ {V : Type 0} {K : Type 0} (trace : V → Option (List Call)) (faults : 
     least = equal_same Before.kept After.kept (ap G.kept u.same_keeper);
   }
 
-  next_first : (password : List ℕ) (script : Option (List ℕ)) → IsNextPassword call.input.old password script → (bytes : List ℕ) → call.input.old ≡ Some bytes → password ≡ first_line bytes
-  next_first password script next bytes told = sym (password_is call.input.old bytes password script told next)
+  next_first : (password : List ℕ) (script : Option (List ℕ)) → IsNextPassword call.streams.input.old password script → (bytes : List ℕ) → call.streams.input.old ≡ Some bytes → password ≡ first_line bytes
+  next_first password script next bytes told = sym (password_is call.streams.input.old bytes password script told next)
 
-  unread_ran : (asked : Option Form) (Cause : Status → Type 0) → ((status : Status) → Cause status → UnreadCause call.input status) → IsUnread Cause call.output h.vault h.keeper h.ended → Ran asked
+  unread_ran : (asked : Option Form) (Cause : Status → Type 0) → ((status : Status) → Cause status → UnreadCause call.streams.input status) → IsUnread Cause call.streams.output h.vault h.keeper h.ended → Ran asked
   unread_ran asked Cause cause u =
-      quiet_ran asked (password_in call.input.old) (λ bytes told. ap password_in told) (uncalled_quiet (password_in call.input.old) u.uncalled)
+      quiet_ran asked (password_in call.streams.input.old) (λ bytes told. ap password_in told) (uncalled_quiet (password_in call.streams.input.old) u.uncalled)
       (λ e. (u.unwritten, λ done. unread_is_no h.ended.status Done (cause h.ended.status u.cause).unread done (λ x. x)))
 
-  unopened_ran : (asked : Option Form) (password : List ℕ) (script : Option (List ℕ)) → IsNextPassword call.input.old password script
-      → (error : OpenError) → IsUnopened trace faults G password h.vault h.keeper h.ended error → Untouched call.output → Ran asked
+  unopened_ran : (asked : Option Form) (password : List ℕ) (script : Option (List ℕ)) → IsNextPassword call.streams.input.old password script
+      → (error : OpenError) → IsUnopened trace faults G password h.vault h.keeper h.ended error → Untouched call.streams.output → Ran asked
   unopened_ran asked password script next error u unwritten =
       quiet_ran asked password (next_first password script next) u.quiet (λ e. (unwritten, λ done. opening_is_no error h.ended.status Done u.status done (λ x. x)))
 
-  session_ran : (asked : Option Form) → Session trace faults G call.now (CallComes call asked) call.input call.output h.vault h.keeper h.ended → Ran asked
-  session_ran asked (inl u) = unread_ran asked (PasswordUnread call.input) (one_unread call.input) u
+  session_ran : (asked : Option Form) → Session trace faults G call.now (Comes call.words call.streams asked) call.streams.input call.streams.output h.vault h.keeper h.ended → Ran asked
+  session_ran asked (inl u) = unread_ran asked (PasswordUnread call.streams.input) (one_unread call.streams.input) u
   session_ran asked (inr (password, script, has, inl ((error, u), unfailed, unwritten))) = unopened_ran asked password script has.is_next error u unwritten
   session_ran asked (inr (password, script, has, inr s)) = record {
     run = session call.now password Before After s.closing s.es;
@@ -106,12 +108,12 @@ module _ {V : Type 0} {K : Type 0} (trace : V → Option (List Call)) (faults : 
     answered = (refl, script, has, s.end, s.own, s.came, h.status ∙ s.status);
   }
 
-  checked_ran : RanCheck trace faults names G call.input call.output h.vault h.keeper h.ended → Ran (Some Check)
-  checked_ran (inl u) = unread_ran (Some Check) (PasswordUnread call.input) (one_unread call.input) u
+  checked_ran : RanCheck trace faults names G call.streams.input call.streams.output h.vault h.keeper h.ended → Ran (Some Check)
+  checked_ran (inl u) = unread_ran (Some Check) (PasswordUnread call.streams.input) (one_unread call.streams.input) u
   checked_ran (inr (password, after, has, unfailed, inl ((error, u), unwritten))) = unopened_ran (Some Check) password after has.is_next error u unwritten
   checked_ran (inr (password, after, has, unfailed, inr t)) = record {
     run = examined password Before After (is_bad t.x.verdict);
-    is_run = examined_run trace faults names G password call.output h.vault h.keeper h.ended t;
+    is_run = examined_run trace faults names G password call.streams.output h.vault h.keeper h.ended t;
     begins = refl;
     ends = refl;
     password = next_first password after has.is_next;
@@ -119,14 +121,14 @@ module _ {V : Type 0} {K : Type 0} (trace : V → Option (List Call)) (faults : 
       after,
       has,
       (
-        λ bad. h.status ∙ ends_by trace faults names G password call.output h.vault h.keeper h.ended t bad,
-        λ e. bad_by trace faults names G password call.output h.vault h.keeper h.ended t (sym h.status ∙ e),
+        λ bad. h.status ∙ ends_by trace faults names G password call.streams.output h.vault h.keeper h.ended t bad,
+        λ e. bad_by trace faults names G password call.streams.output h.vault h.keeper h.ended t (sym h.status ∙ e),
       ),
     );
   }
 
-  migrated_ran : RanMigrate trace faults G call.input call.output h.vault h.keeper h.ended → Ran (Some Migrate)
-  migrated_ran (inl u) = unread_ran (Some Migrate) (PasswordUnread call.input) (one_unread call.input) u
+  migrated_ran : RanMigrate trace faults G call.streams.input call.streams.output h.vault h.keeper h.ended → Ran (Some Migrate)
+  migrated_ran (inl u) = unread_ran (Some Migrate) (PasswordUnread call.streams.input) (one_unread call.streams.input) u
   migrated_ran (inr (password, after, has, unfailed, inl ((error, u), unwritten))) = unopened_ran (Some Migrate) password after has.is_next error u unwritten
   migrated_ran (inr (password, after, has, unfailed, inr m)) = record {
     run = migrated password Before After (is_violation (told m.migration));
@@ -138,21 +140,21 @@ module _ {V : Type 0} {K : Type 0} (trace : V → Option (List Call)) (faults : 
       after,
       has,
       (
-        λ bad. h.status ∙ migrations.met_by trace faults G password call.output h.vault h.keeper h.ended m bad,
-        λ e. migrations.bad_by trace faults G password call.output h.vault h.keeper h.ended m (sym h.status ∙ e),
+        λ bad. h.status ∙ migrations.met_by trace faults G password call.streams.output h.vault h.keeper h.ended m bad,
+        λ e. migrations.bad_by trace faults G password call.streams.output h.vault h.keeper h.ended m (sym h.status ∙ e),
       ),
     );
   }
 
-  did_run : (asked : Option Form) → opens asked ≡ true → Did trace faults names G call h.vault h.keeper h.ended asked → Ran asked
+  did_run : (asked : Option Form) → opens asked ≡ true → Did trace faults names G call.words call.now call.streams h.vault h.keeper h.ended asked → Ran asked
   did_run None e d = absurd (cc)
   did_run (Some Trial) e d = absurd (cc)
   did_run (Some (TrialGenerate count)) e d = absurd (cc)
   did_run (Some (Create options)) e d = absurd (cc)
-  did_run (Some Info) e (inl u) = unread_ran (Some Info) (PasswordUnread call.input) (one_unread call.input) u
+  did_run (Some Info) e (inl u) = unread_ran (Some Info) (PasswordUnread call.streams.input) (one_unread call.streams.input) u
   did_run (Some Info) e (inr (password, script, has, unfailed, inl ((error, u), unwritten))) = unopened_ran (Some Info) password script has.is_next error u unwritten
   did_run (Some Info) e (inr (password, script, has, unfailed, inr t)) = quiet_ran (Some Info) password (next_first password script has.is_next) t.quiet (λ f. absurd (cc))
-  did_run (Some Passwd) e (inl (u, same)) = unread_ran (Some Passwd) (PasswordsUnread call.input) (two_unread call.input) u
+  did_run (Some Passwd) e (inl (u, same)) = unread_ran (Some Passwd) (PasswordsUnread call.streams.input) (two_unread call.streams.input) u
   did_run (Some Passwd) e (inr (old, new, has, unfailed, inl ((error, u), unwritten, same))) = unopened_ran (Some Passwd) old has.between has.old_is_next error u unwritten
   did_run (Some Passwd) e (inr (old, new, has, unfailed, inr p)) = quiet_ran (Some Passwd) old (next_first old has.between has.old_is_next) p.quiet (λ f. absurd (cc))
   did_run (Some Migrate) e d = migrated_ran d
@@ -164,16 +166,16 @@ module _ {V : Type 0} {K : Type 0} (trace : V → Option (List Call)) (faults : 
   did_run (Some Put) e d = session_ran (Some Put) d
   did_run (Some Get) e d = session_ran (Some Get) d
   did_run (Some Check) e d = checked_ran d
-  did_run (Some Survey) e (inl u) = unread_ran (Some Survey) (PasswordUnread call.input) (one_unread call.input) u
+  did_run (Some Survey) e (inl u) = unread_ran (Some Survey) (PasswordUnread call.streams.input) (one_unread call.streams.input) u
   did_run (Some Survey) e (inr (password, script, has, unfailed, inl ((error, u), unwritten))) = unopened_ran (Some Survey) password script has.is_next error u unwritten
   did_run (Some Survey) e (inr (password, script, has, unfailed, inr t)) =
-      quiet_ran (Some Survey) password (next_first password script has.is_next) (quiet_run trace faults names G password call.output h.vault h.keeper h.ended t) (λ f. absurd (cc))
+      quiet_ran (Some Survey) password (next_first password script has.is_next) (quiet_run trace faults names G password call.streams.output h.vault h.keeper h.ended t) (λ f. absurd (cc))
 
   -- what is said of what was outside and of the status, of the call's
   stated : (P : Outside → Outside → Status → Type 0) → P Before After h.ended.status → P call.before call.after call.status
   stated P p = subst (λ (o : Outside). P o call.after call.status) (sym h.begins) (subst (λ (o : Outside). P Before o call.status) (sym h.ends) (subst (P Before After) (sym h.status) p))
 
-  refusing : opens (form_of call.words) ≡ true → IsKeptMarked records call.before.kept → IsRefusingStatus call.status × Untouched call.output
+  refusing : opens (form_of call.words) ≡ true → IsKeptMarked records call.before.kept → IsRefusingStatus call.status × Untouched call.streams.output
   refusing e m =
       let r = h.refusal e (subst (λ (o : Outside). IsKeptMarked records o.kept) h.begins m) in
       (subst IsRefusingStatus (sym h.status) r.status, r.unwritten)
@@ -189,9 +191,8 @@ module _ {V : Type 0} {K : Type 0} (trace : V → Option (List Call)) (faults : 
           password = r.password;
           answered = r.answered;
           refused = refusing e;
-          no_false_alarm = stated (NoFalseAlarm call.input) h.no_false_alarm;
-          faults_happened = stated (FaultsHappened call.input call.output) h.faults_happened;
-          host_faults_happened = subst (HostFaultsHappened call.host) (sym h.status) h.host_faults_happened;
+          no_false_alarm = stated (NoFalseAlarm call.streams.input) h.no_false_alarm;
+          faults_told = stated (TellsFaults (form_of call.words) call.streams) h.faults_told;
         },
       )
 
@@ -204,7 +205,7 @@ module _ {V : Type 0} {K : Type 0} (trace : V → Option (List Call)) (faults : 
   there_stays (Ok id) s = absurd s
   there_stays (Err error) s = record { kept = s.1; calls = ap trace s.0 }
 
-  did_stay : (asked : Option Form) → opens asked ≡ false → (creates asked ≡ true → is_some Before.kept ≡ true) → Did trace faults names G call h.vault h.keeper h.ended asked → GoesOnFrom Before After
+  did_stay : (asked : Option Form) → opens asked ≡ false → (creates asked ≡ true → is_some Before.kept ≡ true) → Did trace faults names G call.words call.now call.streams h.vault h.keeper h.ended asked → GoesOnFrom Before After
   did_stay None e there d = uncalled_stays d.3
   did_stay (Some Trial) e there d = uncalled_stays d.1
   did_stay (Some (TrialGenerate count)) e there d = uncalled_stays d.2

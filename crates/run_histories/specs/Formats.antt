@@ -20,7 +20,7 @@ HasCreated call = (options : CreateOptions) × (form_of call.words ≡ Some (Cre
 
 -- a `migrate` that told how many blocks there are
 abbrev pub HasMigrated : RunCall → Type 0
-HasMigrated call = (form_of call.words ≡ Some Migrate) × (written : List ℕ) × (count : ℕ) × (call.output.old ≡ Some written) × (call.output.new ≡ Some (written ++ count_text count))
+HasMigrated call = (form_of call.words ≡ Some Migrate) × (written : List ℕ) × (count : ℕ) × (call.streams.output.old ≡ Some written) × (call.streams.output.new ≡ Some (written ++ count_text count))
 
 -- what either leaves takes block files of the newest format alone, or is marked
 abbrev pub EachLeavesNewest : {V : Type 0} → {K : Type 0} → (V → Option (List Call)) → (V → ℕ) → (V → Option (List (List ℕ))) → KeeperGhosts K → Type 0

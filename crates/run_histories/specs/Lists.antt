@@ -2,7 +2,7 @@
 use Rattle.std.specs.Prelude.{◌≡◌, ◌≢◌, ◌⊎◌, ◌||◌, ℕ, true, false, Bool, List, [], ◌∷◌, is_some}
 use Rattle.std.specs.declared.option.Option.{Option}
 use Rattle.std.specs.declared.option.Option.TheVariants.{Some}
-use Rattle.answers.specs.Sessions.{Exchange, violated}
+use Rattle.answers.specs.Sessions.{violated}
 use Rattle.config_file.specs.Settings.{Settings}
 use Rattle.shell_words.specs.declared.create_options.CreateOptions.{CreateOptions}
 use Rattle.fs_model.specs.Tree.{Tree, empty_tree}
@@ -20,16 +20,14 @@ use Rattle.run_status.specs.declared.status.Status.{Status}
 use Rattle.run_status.specs.declared.status.Status.TheVariants.{Done}
 use Rattle.session_lines.specs.declared.end.End.{End}
 use Rattle.session_runs.specs.Runs.{Outside, OutsideStandsFor}
-use Rattle.shell_sessions.specs.Sessions.{ComesShell, ComesGenerated, ComesCommand}
 use Rattle.run_edges.specs.Statuses.{session_status}
 use Rattle.shell_words.specs.declared.form.Form.{Form}
-use Rattle.shell_words.specs.declared.form.Form.TheVariants.{Create, Shell, Generate, Command, Import, Export, Put, Get}
-use Rattle.shell_words.specs.Forms.{form_of, joined}
+use Rattle.shell_words.specs.declared.form.Form.TheVariants.{Create}
+use Rattle.shell_words.specs.Forms.{form_of}
 use Rattle.tree_commands.specs.Showing.{ShowsFiles}
 use Rattle.histories.specs.Histories.{Run, session, quiet, examined, migrated, before_of, after_of, IsRun, IsUnforgedRun, GoesOnFrom, end_of, Follow, EndsWith}
-use Rattle.cryfs_shell.specs.Clauses.{IsRefusingStatus, NoFalseAlarm, FaultsHappened, HostFaultsHappened}
-use Rattle.cryfs_shell.specs.Copies.{Imports, Exports, Puts, Gets}
-use Rattle.cryfs_shell.specs.History.{Judges, Meets}
+use Rattle.cryfs_shell.specs.Clauses.{IsRefusingStatus, NoFalseAlarm, TellsFaults}
+use Rattle.cryfs_shell.specs.History.{Comes, Judges, Meets}
 use Rattle.cryfs_shell.specs.Kinds.{opens, is_session, is_check, is_migration}
 use Rattle.run_histories.specs.Calls.{RunCall, IsRunCall}
 
@@ -39,26 +37,15 @@ password_of (quiet password before after) = password
 password_of (examined password before after bad) = password
 password_of (migrated password before after bad) = password
 
--- how the exchanges of a session come from the input after the password line, and are written
-abbrev pub CallComes : RunCall → Option Form → Option (List ℕ) → End → Status → List Exchange → Type 0
-CallComes call (Some Shell) = ComesShell call.input call.output
-CallComes call (Some (Generate count)) = ComesGenerated count call.input call.output
-CallComes call (Some Command) = ComesCommand (joined call.words) call.input call.output
-CallComes call (Some Import) = Imports call.words call.input call.output call.host
-CallComes call (Some Export) = Exports call.words call.input call.output call.host
-CallComes call (Some Put) = Puts call.words call.input call.output
-CallComes call (Some Get) = Gets call.words call.input call.output
-CallComes call _ = λ script end own es. ⊥
-
 -- In a session the exchanges came so, and the status is theirs, or its own where nothing else is the matter. A check was judged so, and blocks that were written anew met so a violation or none. In a run of no lines the words ask for none of these, or nothing was
 -- written and the status isn't Done.
 abbrev pub CallAnswered : RunCall → Option Form → Run → Type 0
 CallAnswered call asked (session now password before after closing es) =
-    (now ≡ call.now) × (script : Option (List ℕ)) × HasPassword call.input password script
-    × (end : End) × (own : Status) × CallComes call asked script end own es × (call.status ≡ first_of (session_status (violated es) end closing) own)
-CallAnswered call asked (quiet password before after) = (is_session asked || is_check asked || is_migration asked) ≡ true → Untouched call.output × (call.status ≢ Done)
-CallAnswered call asked (examined password before after bad) = (after : Option (List ℕ)) × HasPassword call.input password after × Judges asked call.status bad
-CallAnswered call asked (migrated password before after bad) = (after : Option (List ℕ)) × HasPassword call.input password after × Meets asked call.status bad
+    (now ≡ call.now) × (script : Option (List ℕ)) × HasPassword call.streams.input password script
+    × (end : End) × (own : Status) × Comes call.words call.streams asked script end own es × (call.status ≡ first_of (session_status (violated es) end closing) own)
+CallAnswered call asked (quiet password before after) = (is_session asked || is_check asked || is_migration asked) ≡ true → Untouched call.streams.output × (call.status ≢ Done)
+CallAnswered call asked (examined password before after bad) = (after : Option (List ℕ)) × HasPassword call.streams.input password after × Judges asked call.status bad
+CallAnswered call asked (migrated password before after bad) = (after : Option (List ℕ)) × HasPassword call.streams.input password after × Meets asked call.status bad
 
 -- the call is this run
 pub record IsRunOf (call : RunCall) (run : Run) : Type 0 where
@@ -66,14 +53,13 @@ pub record IsRunOf (call : RunCall) (run : Run) : Type 0 where
   pub begins : before_of run ≡ call.before
   pub ends : after_of run ≡ call.after
   -- its password is the first line of the input, where that is told
-  pub password : (bytes : List ℕ) → call.input.old ≡ Some bytes → password_of run ≡ first_line bytes
+  pub password : (bytes : List ℕ) → call.streams.input.old ≡ Some bytes → password_of run ≡ first_line bytes
   pub answered : CallAnswered call (form_of call.words) run
   -- over a marked record the status refuses, and nothing is written
-  pub refused : IsKeptMarked records call.before.kept → IsRefusingStatus call.status × Untouched call.output
-  -- where the directory gave what was last written and no other configuration opens at all, it is no violation; and it names only faults that happened
-  pub no_false_alarm : NoFalseAlarm call.input call.before call.after call.status
-  pub faults_happened : FaultsHappened call.input call.output call.before call.after call.status
-  pub host_faults_happened : HostFaultsHappened call.host call.status
+  pub refused : IsKeptMarked records call.before.kept → IsRefusingStatus call.status × Untouched call.streams.output
+  -- where the directory gave what was last written and no other configuration opens at all, it is no violation; and it names the faults that happened
+  pub no_false_alarm : NoFalseAlarm call.streams.input call.before call.after call.status
+  pub faults_told : TellsFaults (form_of call.words) call.streams call.before call.after call.status
 
 -- the words are those of `create`
 abbrev pub creates : Option Form → Bool
@@ -125,4 +111,4 @@ EveryListOfRuns trace faults names G = (start : Outside) (calls : List RunCall) 
 abbrev pub EveryListFromCreate : {V : Type 0} → {K : Type 0} → (V → Option (List Call)) → (V → ℕ) → (V → Option (List (List ℕ))) → KeeperGhosts K → Type 0
 EveryListFromCreate trace faults names G = (made : RunCall) (options : CreateOptions) (calls : List RunCall) → IsRunCall trace faults names G made → form_of made.words ≡ Some (Create options)
     → made.status ≡ Done → IsUnchanged made.before.calls → AreRunCalls trace faults names G made.after calls
-    → (runs : List Run) × AreRunsOf calls runs × CallsCompose (new_settings options.block_size (drawn made.chance).0) empty_tree made.after calls runs
+    → (runs : List Run) × AreRunsOf calls runs × CallsCompose (new_settings options.block_size (drawn made.streams.chance).0) empty_tree made.after calls runs

@@ -2,6 +2,7 @@
 ghost use Rattle.std.specs.Prelude.{map, [], ◌∷◌};
 ghost use Rattle.std.specs.String.{string_bytes};
 ghost use Rattle.cryfs_shell.specs.Hosts.{host_of};
+ghost use Rattle.cryfs_shell.specs.Streams.{streams_of};
 ghost use Rattle.line_io.specs.Streams.{stream_of};
 ghost use Rattle.session_runs.specs.Runs.{outside_of};
 ghost use Rattle.run_histories.specs.Calls.{IsRunCall, call_of};
@@ -27,12 +28,13 @@ pub fn run_call<I: Source, O: Sink, V: Vault + Listing, K: Keeper, R: Rng, F: Fo
     chance: &mut R,
     host: &mut F,
 ) -> Ended<V, K>
-    ensures call { IsRunCall V.trace V.faults V.names K.Keeper (call_of V.trace V.faults K.Keeper
-        (map string_bytes words.now) now (R.stream chance.old) (R.stream chance.new)
-        (stream_of I.rest I.faults input.old input.new) (stream_of O.written O.faults output.old output.new) (host_of F.tree F.faults host.old host.new) vault keeper result) }
-    ensures listed { AreRunCalls V.trace V.faults V.names K.Keeper (outside_of V.trace V.faults K.Keeper vault keeper) (call_of V.trace V.faults K.Keeper
-        (map string_bytes words.now) now (R.stream chance.old) (R.stream chance.new)
-        (stream_of I.rest I.faults input.old input.new) (stream_of O.written O.faults output.old output.new) (host_of F.tree F.faults host.old host.new) vault keeper result ∷ []) }
+    ensures call { IsRunCall V.trace V.faults V.names K.Keeper (call_of V.trace V.faults K.Keeper (map string_bytes words.now) now
+        (streams_of (stream_of I.rest I.faults input.old input.new) (stream_of O.written O.faults output.old output.new)
+        (host_of F.tree F.faults host.old host.new) (R.stream chance.old) (R.stream chance.new)) vault keeper result) }
+    ensures listed { AreRunCalls V.trace V.faults V.names K.Keeper (outside_of V.trace V.faults K.Keeper vault keeper)
+        (call_of V.trace V.faults K.Keeper (map string_bytes words.now) now
+        (streams_of (stream_of I.rest I.faults input.old input.new) (stream_of O.written O.faults output.old output.new)
+        (host_of F.tree F.faults host.old host.new) (R.stream chance.old) (R.stream chance.new)) vault keeper result ∷ []) }
 {
     run(
         alloc, words, now, input, output, vault, keeper, chance, host,

@@ -1,9 +1,12 @@
-use Rattle.std.proofs.Common.{◌≡◌, ◌⊎◌, ◌∷◌, ◌++◌, ◌∙◌, ℕ, [], map, codes, refl, sym, ap, inl, inr}
+use Rattle.std.proofs.Common.{◌≡◌, ◌⊎◌, ◌∷◌, ◌++◌, ◌∙◌, ℕ, [], map, codes, refl, sym, ap, subst, inl, inr}
 use Rattle.std.specs.Prelude.{◌≢◌}
 use Rattle.std.specs.declared.option.Option.TheVariants.{None, Some}
 use Rattle.std.specs.String.{string_bytes}
 use Rattle.completeness.specs.Premises.{IsUntroubled}
 use Rattle.completeness.specs.Setups.{IsBare}
+use Rattle.cryfs_shell.specs.Doing.{Did}
+use Rattle.cryfs_shell.specs.Hosts.{host_of}
+use Rattle.cryfs_shell.specs.Streams.{streams_of}
 use Rattle.line_io.specs.Streams.{Stream}
 use Rattle.memory_outside.specs.Vaults.{VaultState}
 use Rattle.mount_tower.specs.Drawing.{drawn}
@@ -15,6 +18,8 @@ use Rattle.session_runs.specs.Runs.{outside_of}
 use Rattle.store_api.specs.Durables.{last_told}
 use Rattle.shell_words.specs.Forms.{form_of}
 use Rattle.honest_outside.specs.contracts.honest_keeper.HonestKeeperKeeper.TheImpl as keeper_impl
+use Rattle.honest_outside.specs.contracts.honest_vault.HonestVaultListing.TheImpl as listing_impl
+use Rattle.memory_folder.specs.contracts.memory_folder.MemoryFolderFolder.TheImpl as folder_impl
 use Rattle.honest_runs.specs.Made.{password, HoldsEmptyTree, IsWantOfMemory, outside_in}
 use Rattle.honest_runs.proofs.Forms.{usual, create_form}
 use Rattle.honest_runs.proofs.Outputs.{create_output, young_of}
@@ -25,11 +30,12 @@ pub returns-clause-want : goal.returns-clause-want
 returns-clause-want g c =
     let r = c.run-ended in
     let words : map string_bytes c.deref.result.now ≡ codes "create" ∷ [] = ap (map string_bytes) c.deref.ensures.value ∙ c.in-Ok-Ok.ensures in
-    let ran = r.ensures.created usual (ap form_of words ∙ create_form) in
     let input : Stream = record { old = Some c.in-Ok-Ok.input.rest; new = Some r.new.input.rest; faults = c.in-Ok-Ok.input.faults; risen = r.new.input.faults } in
     let output : Stream = record { old = Some c.new-output.result.written.items; new = Some r.new.output.written.items; faults = c.new-output.result.faults; risen = r.new.output.faults } in
     let trace = λ (v : VaultState). Some v.trace in
     let faults = λ (v : VaultState). v.faults in
+    let streams = streams_of input output (host_of (folder_impl.ghosts).tree (folder_impl.ghosts).faults c.new-3.result r.new.host) (g.R.Rng.stream c.args.chance.now) (g.R.Rng.stream r.new.chance) in
+    let ran = subst (Did trace faults (listing_impl.ghosts).names keeper_impl.ghosts (map string_bytes c.deref.result.now) c.args.now streams c.new.result c.new-2.result r.result) (ap form_of words ∙ create_form) r.ensures.did in
     let draws = (drawn (g.R.Rng.stream c.args.chance.now)).0 in
     let told = ap Some c.in-Ok-Ok.ensures'.rest in
     let bare : IsBare (outside_of trace faults keeper_impl.ghosts c.new.result c.new-2.result) = record { kept = c.new-2.ensures.bare; unchanged = record { told = refl; none = λ name. ap (λ t. last_told name (Some t)) c.new.ensures.empty } } in
@@ -43,11 +49,12 @@ pub returns-then-is_done-clause-made : goal.returns-then-is_done-clause-made
 returns-then-is_done-clause-made g c =
     let r = c.run-ended in
     let words : map string_bytes c.deref.result.now ≡ codes "create" ∷ [] = ap (map string_bytes) c.deref.ensures.value ∙ c.in-Ok-Ok.ensures in
-    let ran = r.ensures.created usual (ap form_of words ∙ create_form) in
     let input : Stream = record { old = Some c.in-Ok-Ok.input.rest; new = Some r.new.input.rest; faults = c.in-Ok-Ok.input.faults; risen = r.new.input.faults } in
     let output : Stream = record { old = Some c.new-output.result.written.items; new = Some r.new.output.written.items; faults = c.new-output.result.faults; risen = r.new.output.faults } in
     let trace = λ (v : VaultState). Some v.trace in
     let faults = λ (v : VaultState). v.faults in
+    let streams = streams_of input output (host_of (folder_impl.ghosts).tree (folder_impl.ghosts).faults c.new-3.result r.new.host) (g.R.Rng.stream c.args.chance.now) (g.R.Rng.stream r.new.chance) in
+    let ran = subst (Did trace faults (listing_impl.ghosts).names keeper_impl.ghosts (map string_bytes c.deref.result.now) c.args.now streams c.new.result c.new-2.result r.result) (ap form_of words ∙ create_form) r.ensures.did in
     let draws = (drawn (g.R.Rng.stream c.args.chance.now)).0 in
     let told = ap Some c.in-Ok-Ok.ensures'.rest in
     let bare : IsBare (outside_of trace faults keeper_impl.ghosts c.new.result c.new-2.result) = record { kept = c.new-2.ensures.bare; unchanged = record { told = refl; none = λ name. ap (λ t. last_told name (Some t)) c.new.ensures.empty } } in

@@ -1,8 +1,11 @@
-use Rattle.std.proofs.Common.{◌≡◌, ◌⊎◌, ◌≤◌, ◌∷◌, ◌++◌, ◌∙◌, ℕ, [], map, codes, refl, sym, ap, inl, inr, arith}
+use Rattle.std.proofs.Common.{◌≡◌, ◌⊎◌, ◌≤◌, ◌∷◌, ◌++◌, ◌∙◌, ℕ, [], map, codes, refl, sym, ap, subst, inl, inr, arith}
 use Rattle.std.specs.Prelude.{◌≢◌}
 use Rattle.std.specs.declared.option.Option.TheVariants.{None, Some}
 use Rattle.std.specs.String.{string_bytes}
 use Rattle.completeness.specs.Premises.{IsUntroubled, Finds}
+use Rattle.cryfs_shell.specs.Doing.{Did}
+use Rattle.cryfs_shell.specs.Hosts.{host_of}
+use Rattle.cryfs_shell.specs.Streams.{streams_of}
 use Rattle.fs_model.specs.Tree.{empty_tree}
 use Rattle.line_io.specs.Streams.{Stream}
 use Rattle.memory_outside.specs.Vaults.{VaultState}
@@ -11,6 +14,8 @@ use Rattle.session_lines.specs.Driven.{IsUnfailed}
 use Rattle.session_runs.specs.Runs.{outside_of, lies}
 use Rattle.shell_words.specs.Forms.{form_of}
 use Rattle.honest_outside.specs.contracts.honest_keeper.HonestKeeperKeeper.TheImpl as keeper_impl
+use Rattle.honest_outside.specs.contracts.honest_vault.HonestVaultListing.TheImpl as listing_impl
+use Rattle.memory_folder.specs.contracts.memory_folder.MemoryFolderFolder.TheImpl as folder_impl
 use Rattle.honest_runs.specs.Made.{password, IsWantOfMemory, outside_in}
 use Rattle.honest_runs.specs.Transcript.{IsTranscript}
 use Rattle.honest_runs.proofs.Forms.{shell_form}
@@ -21,11 +26,12 @@ pub returns-clause-want : goal.returns-clause-want
 returns-clause-want g c =
     let r = c.run-ended in
     let words : map string_bytes c.deref.result.now ≡ codes "shell" ∷ [] = ap (map string_bytes) c.deref.ensures.value ∙ c.in-Ok-Ok.ensures in
-    let ran = r.ensures.session (ap form_of words ∙ shell_form) in
     let input : Stream = record { old = Some c.in-Ok-Ok.input.rest; new = Some r.new.input.rest; faults = c.in-Ok-Ok.input.faults; risen = r.new.input.faults } in
     let output : Stream = record { old = Some c.new-output.result.written.items; new = Some r.new.output.written.items; faults = c.new-output.result.faults; risen = r.new.output.faults } in
     let trace = λ (v : VaultState). Some v.trace in
     let faults = λ (v : VaultState). v.faults in
+    let streams = streams_of input output (host_of (folder_impl.ghosts).tree (folder_impl.ghosts).faults c.new.result r.new.host) (g.R.Rng.stream c.args.chance.now) (g.R.Rng.stream r.new.chance) in
+    let ran = subst (Did trace faults (listing_impl.ghosts).names keeper_impl.ghosts (map string_bytes c.deref.result.now) c.args.now streams c.args.made.vault c.args.made.keeper r.result) (ap form_of words ∙ shell_form) r.ensures.did in
     let bytes = password ++ 10 ∷ c.args.script.now in
     let before = outside_in c.args.made.vault c.args.made.keeper in
     let after = outside_in r.result.vault r.result.keeper in
@@ -42,11 +48,12 @@ pub returns-then-is_done-clause-transcript : goal.returns-then-is_done-clause-tr
 returns-then-is_done-clause-transcript g c =
     let r = c.run-ended in
     let words : map string_bytes c.deref.result.now ≡ codes "shell" ∷ [] = ap (map string_bytes) c.deref.ensures.value ∙ c.in-Ok-Ok.ensures in
-    let ran = r.ensures.session (ap form_of words ∙ shell_form) in
     let input : Stream = record { old = Some c.in-Ok-Ok.input.rest; new = Some r.new.input.rest; faults = c.in-Ok-Ok.input.faults; risen = r.new.input.faults } in
     let output : Stream = record { old = Some c.new-output.result.written.items; new = Some r.new.output.written.items; faults = c.new-output.result.faults; risen = r.new.output.faults } in
     let trace = λ (v : VaultState). Some v.trace in
     let faults = λ (v : VaultState). v.faults in
+    let streams = streams_of input output (host_of (folder_impl.ghosts).tree (folder_impl.ghosts).faults c.new.result r.new.host) (g.R.Rng.stream c.args.chance.now) (g.R.Rng.stream r.new.chance) in
+    let ran = subst (Did trace faults (listing_impl.ghosts).names keeper_impl.ghosts (map string_bytes c.deref.result.now) c.args.now streams c.args.made.vault c.args.made.keeper r.result) (ap form_of words ∙ shell_form) r.ensures.did in
     let bytes = password ++ 10 ∷ c.args.script.now in
     let before = outside_in c.args.made.vault c.args.made.keeper in
     let after = outside_in r.result.vault r.result.keeper in

@@ -19,4 +19,4 @@ returns-clause-from_create g c made options calls h asked done unchanged all =
     let names = g.V.Listing.names in
     let runs = runs_of trace faults names g.K.Keeper made.after calls all in
     let stands = made_stands trace faults names g.K.Keeper made options h done unchanged asked in
-    (runs.0, runs.1, serve trace faults names g.K.Keeper c.runs_compose.ensures.all (new_settings options.block_size (drawn made.chance).0) empty_tree made.after stands calls runs.0 all runs.1)
+    (runs.0, runs.1, serve trace faults names g.K.Keeper c.runs_compose.ensures.all (new_settings options.block_size (drawn made.streams.chance).0) empty_tree made.after stands calls runs.0 all runs.1)

@@ -1,0 +1,16 @@
+use Rattle.std.proofs.Common.{ℕ, List, map, subst, ◌∙◌}
+use Rattle.std.specs.String.{string_bytes}
+use Rattle.line_io.specs.Streams.{stream_of}
+use Rattle.shell_sessions.specs.Sessions.{ComesCommand}
+use Rattle.shell_words.specs.Forms.{joined}
+use Rattle.cryfs_shell.proofs.Copies.{session_as}
+use Rattle.cryfs_shell.proofs.program.run_line.Goals as goal
+
+pub returns-in-Ok-clause-session : goal.returns-in-Ok-clause-session
+returns-in-Ok-clause-session g c =
+    let r = c.run_command in
+    let input = stream_of g.I.Source.rest g.I.Source.faults c.args.input.now r.new.input in
+    let output = stream_of g.O.Sink.written g.O.Sink.faults c.args.output.now r.new.output in
+    session_as g.V.Vault.trace g.V.Vault.faults g.K.Keeper c.args.asked.now.now input output c.args.at.vault c.args.at.keeper r.result
+    (ComesCommand c.deref.result.now input output) (ComesCommand (joined (map string_bytes c.args.asked.now.words.now)) input output)
+    (λ script end own es. subst (λ (line : List ℕ). ComesCommand line input output script end own es) (c.deref.ensures.value ∙ c.in-Ok.ensures)) r.ensures.session
