@@ -1,4 +1,5 @@
 """Cases of `./cryfs` at a terminal: prompts, lines, interrupts, and what a status means."""
+import fcntl
 import os
 import signal
 import time
@@ -323,6 +324,52 @@ def a_status_is_explained(tree):
     same((terminal.end()), (0, "\r\n"), "status 0")
 
 
+def asks_once(tree, words, status):
+    """What is seen behind the password in a run of these words, which ends so."""
+    terminal = Terminal(tree, "b", "s", words)
+    terminal.answer("Password: ", "pw")
+    found, seen = terminal.end()
+    same(found, status, seen)
+    return seen
+
+
+def a_stop_is_explained(tree):
+    tree.built()
+    for number, cause in ((signal.SIGINT, "Ctrl-C stopped it"), (signal.SIGKILL, "`kill -9` stopped it"), (signal.SIGTERM, "stopped by `kill`")):
+        tree.write("crates/cryfs/out/cryfs", f"#!/bin/sh\nread -r line\nkill -s {number.name[3:]} $$\n", 0o755)
+        has(asks_once(tree, "info", -number), cause, "run again", "a copy may have left a part")
+    same(tree.run("b", "s", "info", given=b"pw\n"), (-signal.SIGTERM, "", ""), "in a pipe")
+
+
+def a_folder_in_use_is_told_from_a_full_disk(tree):
+    tree.built().write("s/cryfs.lock", "")
+    os.mkdir(f"{tree.top}/b")
+    for number, text, name, path in ((6, "block directory fault", "BLOCKS", "b"), (7, "local state fault", "STATE", "s/cryfs.lock")):
+        tree.write("crates/cryfs/out/cryfs", f"#!/bin/sh\nread -r line\necho 'cryfs: {text}' >&2\nexit {number}\n", 0o755)
+        lock = os.open(f"{tree.top}/{path}", os.O_RDONLY)
+        fcntl.flock(lock, fcntl.LOCK_EX)
+        wanted = f"cryfs: {text}\r\ncryfs: another run uses {name}: wait until it ends"
+        same(asks_once(tree, "info", number).strip(), wanted, "where it is held")
+        same(tree.run("flock", "-sn", f"{tree.top}/{path}", "true", script="/usr/bin/env")[0], 1, "the page's way to ask")
+        os.close(lock)
+        seen = asks_once(tree, "info", number)
+        has(seen, f"cryfs: no other run uses {name} now, and its disk has ", f" bytes free\r\ncryfs: {name} refused a call: disk full")
+        require("another run" not in seen, seen)
+        same(tree.run("flock", "-sn", f"{tree.top}/{path}", "true", script="/usr/bin/env")[0], 0, "the page's way to ask")
+        same(tree.run("b", "s", "info", given=b"pw\n"), (number, "", f"cryfs: {text}\n"), "in a pipe")
+
+
+def info_tells_which_formats_are_taken(tree):
+    tree.built("#!/bin/sh\nread -r line\necho 'filesystem 00'\n")
+    for record, wanted in (("1\0\0" + "2" * 16, "format 1, of an older version, are still taken"), ("2\0\0\1", "format 1, of an older version, are still taken"),
+                           ("2\0\0\2", "migrate has nothing to do"), ("2\0\0", ""), ("2\0\0\3", ""), ("3\0\0\2", "")):
+        tree.write("s/cryfs.localstate", f"cryfs.localstate;{record}")
+        seen = asks_once(tree, "info", 0)
+        has(seen, "filesystem 00\r\n", wanted)
+        same(seen.count("cryfs: "), 1 if wanted else 0, seen)
+        same(tree.run("b", "s", "info", given=b"pw\n"), (0, "filesystem 00\n", ""), "in a pipe")
+
+
 def a_copy_is_seen_as_it_goes_on(tree):
     tree.built("#!/bin/sh\nread -r line\n[ -t 2 ] && printf '\\rcryfs: 1 files\\033[K' >&2\nread -r line <wait\necho >&2\n"
                "echo 'cryfs: copy refused' >&2\nexit 13\n")
@@ -382,5 +429,6 @@ CASES = [create_asks_twice, create_tells_what_the_record_means, passwd_asks_for_
          shell_answers_each_line_as_it_comes, shell_tells_how_to_use_it, shell_edits_lines_and_has_a_history, shell_keeps_prompts_out_of_answers,
          shell_tells_of_an_output_that_fails, lines_that_a_terminal_cut_are_refused, an_interrupt_ends_the_input,
          an_interrupt_while_it_opens_ends_the_input, a_stop_gives_the_terminal_back, a_second_interrupt_stops, other_signals_close_the_session_too,
-         shell_ends_with_the_program, shell_takes_its_password_from_elsewhere, trial_asks_nothing, a_status_is_explained, a_copy_is_seen_as_it_goes_on,
+         shell_ends_with_the_program, shell_takes_its_password_from_elsewhere, trial_asks_nothing, a_status_is_explained, a_stop_is_explained,
+         a_folder_in_use_is_told_from_a_full_disk, info_tells_which_formats_are_taken, a_copy_is_seen_as_it_goes_on,
          a_signal_that_ends_the_program_ends_all, signals_put_the_terminal_back]

@@ -4,6 +4,7 @@ import signal
 import sys
 import tty
 
+import looking
 import telling
 from passwords import die_of
 from telling import Refused, say
@@ -153,14 +154,24 @@ def end(status, errors, call):
     explain(status, said, call)
 
 
+def failure_lines(status, text, call):
+    is_used = looking.is_used(status, call)
+    seen = looking.told_room(status, call) if is_used is False else []
+    return seen + telling.meanings(status, text, call.command, is_used)
+
+
+def success_lines(call):
+    if call.command == "create":
+        return [telling.STATE_MATTERS]
+    return looking.told_formats(call.state) if call.command == "info" else []
+
+
 def explain(status, said, call):
     """Says what the status means, behind what the program said last, and ends as it did."""
     if os.isatty(2):
         text = os.fsdecode(said).strip().rpartition("cryfs: ")[2]
-        for why in telling.meanings(status, text, call.command) if status else []:
-            say(why)
-        if not status and call.command == "create":
-            say(telling.STATE_MATTERS)
+        for line in failure_lines(status, text, call) if status else success_lines(call):
+            say(line)
     if status < 0:
         die_of(-status)
     sys.exit(status if status >= 0 else 128 - status)

@@ -6,6 +6,8 @@ HERE = os.path.dirname(os.path.abspath(__file__))
 USAGE = 1
 # What the wrapper ends with where the program wasn't run; the program's own statuses are 0 to 14.
 NOT_RUN = 125
+# How a cause begins that is another run.
+ANOTHER_RUN = "another run uses "
 # What a new file system's owner has to know first.
 STATE_MATTERS = ("Without STATE nothing opens, password or not. Copy it after each run that writes, to another trusted place; "
                  "an older copy doesn't open newer blocks.")
@@ -38,10 +40,12 @@ def status_rows():
     return [tuple(cell.strip() for cell in line.split("|")) for line in lines]
 
 
-def meanings(status, text, command):
-    """What the table says of a status and the text that the program printed, in a line for each cause."""
-    rows = [row for row in status_rows() if row[0] == str(status) and row[1] in ("", text)]
+def meanings(status, text, command, is_used=None):
+    """What the table says of a status, negative for a signal, and the text that the program printed, in a line for each cause.
+    Where it is known whether another run uses the folder, that cause stands alone, or not there."""
+    rows = [row for row in status_rows() if row[0] == str(status if status >= 0 else 128 - status) and row[1] in ("", text)]
     rows = [row for row in rows if command in (commands_of(row[2]) or [command])]
+    rows = [row for row in rows if is_used in (None, row[2].startswith(ANOTHER_RUN))]
     return [f"{'or ' if number else ''}{cause}: {remedy}" for number, (_, _, cause, remedy) in enumerate(rows)]
 
 
