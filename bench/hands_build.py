@@ -221,7 +221,7 @@ def installs_and_removes(tree):
     status, out, errors = tree.run("b", "s", "trial", script=script, cwd="/usr")
     same((status, errors), (5, ""), "the installed program")
     has(out, " in /usr\nwords b s trial\n")
-    has(tree.run("--help", script=script)[1], "BLOCKS", "--blocksize")
+    has(tree.run("--help", script=script)[1], "BLOCKS", "--blocksize", f"More: {prefix}/share/doc/sergunad/USING.md")
     has(tree.run("--version", script=script)[1], "built of the sources ")
     require(os.path.exists(f"{prefix}/share/doc/sergunad/USING.md"), "no help")
     for name in ("crates", "tools", "build", "wrapper", "cryfs"):

@@ -27,7 +27,7 @@ def help_is_answered_at_once(tree):
 
 def words_are_looked_at_first(tree):
     wrong = ("b", "b s", "b s lss", "b s ls\\ /", "b s info more", "b s check /", "b s shell x", "b s passwd x", "b s migrate x", "b s generate",
-             "b s generate x", "b s generate 12345678", "b s generate 1 2", "b s trial x", "b s trial generate", "b s create --size 1", "b s create 128",
+             "b s generate x", "b s ls", "b s ls / x", "b s read", "b s mv /a", "b s sync x", "b s rm '/a f'", "b s rm ''", "b s write /a 0 61 62", "b s generate 12345678", "b s generate 1 2", "b s trial x", "b s trial generate", "b s create --size 1", "b s create 128",
              "b s import", "b s import f", "b s import f x", "b s import '' /", "b s export f / more", "b s export / f",
              "b s import f / --quiet --quiet", "b s import f / --quick", "b s import f --quiet /", "b s export f / --leave-out",
              "b s check --leave-out", "b s check --quiet --quiet", "b s put /f --quiet", "b s import --leave-out f /",
@@ -41,9 +41,10 @@ def words_are_looked_at_first(tree):
             status, out, errors = tree.run("-c", f"./cryfs {words}", script="/bin/sh")
             same((status, out, errors.count("\n")), (1, "", 1), f"{words}: {errors}")
             require(errors.startswith("cryfs: ") and "built" not in errors, f"{words}: {errors}")
-    for words, hint in (("b s import --leave-out f /", "--leave-out stands behind PATH"), ("b s get '/a f'", "'/my\\x20film'")):
+    for words, hint in (("b s import --leave-out f /", "--leave-out stands behind PATH"), ("b s get '/a f'", "'/my\\x20film'"),
+                        ("b s rm '/a f'", "the words are rm PATH, "), ("b s write /f 0", "the words are write PATH PLACE HEX, ")):
         has(tree.run("-c", f"./cryfs {words}", script="/bin/sh")[2], hint)
-    for words in ("generate 8", "trial generate 8", "check", "migrate", "ls", "ls / x", "read", "sync", "create --blocksize 128 --scrypt-n=16",
+    for words in ("generate 8", "trial generate 8", "check", "migrate", "ls /", "read /a 0 1", "sync", "create --blocksize 128 --scrypt-n=16",
                   "import f /", "export / /", "import --quiet /", "import f /\\x20", "import f / --quiet --leave-out",
                   "import f / --leave-out", "export / / --quiet", "check --quiet"):
         status, _, errors = tree.run("b", "s", *words.split(), given=b"pw\n")

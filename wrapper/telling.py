@@ -67,5 +67,17 @@ def status_help():
     return "\n".join(lines) + "\n"
 
 
+def line_forms():
+    """The words of each line by its first one, which is the command."""
+    rows = [row.strip() for row in read_text("lines.txt").splitlines() if row.startswith("    ")]
+    return {form.split()[0]: form for row in rows for form in re.split(" {2,}", row)}
+
+
+def page():
+    """Where the page for users is, in a checkout or below an installation."""
+    top = os.path.dirname(HERE)
+    return next((it for it in (f"{top}/docs/USING.md", os.path.normpath(f"{top}/../../share/doc/sergunad/USING.md")) if os.path.exists(it)), "USING.md")
+
+
 def help_text():
-    return read_text("help.txt") + "Lines:\n" + read_text("lines.txt") + "\n" + status_help()
+    return f"{read_text('help.txt')}Lines:\n{read_text('lines.txt')}\n{status_help()}\nMore: {page()}\n"

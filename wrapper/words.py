@@ -1,10 +1,10 @@
 """What the words of a call ask for, and why some are refused before anything is run."""
 import os
 
-from telling import USAGE, Refused
+from telling import USAGE, Refused, line_forms
 
-LINES = ("ls", "stat", "mkdir", "rmdir", "mkfile", "rm", "mv", "symlink", "readlink", "write", "read", "truncate", "chmod", "chown",
-         "utime", "sync")
+# The words of each line, as help shows them.
+LINES = line_forms()
 COPIES = ("import", "export")
 FILES = ("put", "get")
 COMMANDS = ("create", "info", "passwd", "migrate", "check", "shell", *COPIES, *FILES, "generate", "trial", *LINES)
@@ -117,6 +117,8 @@ def check_command(words):
         raise Refused(f"{command} takes no more words", USAGE)
     if command == "check":
         check_late(command, more[1:] if more[:1] == ["--all"] else more)
+    if command in LINES:
+        check_line(LINES[command], more)
     if command in COPIES:
         check_copy(command, more)
     if command in FILES:
@@ -125,6 +127,12 @@ def check_command(words):
         check_count(more, "generate N")
     if command == "trial" and more:
         check_count(more[1:] if more[0] == "generate" else [], "trial, or trial generate N")
+
+
+def check_line(form, words):
+    """Refuses words that the program would call a bad line by their number, an empty one, and a space in one."""
+    if len(words) != len(form.split()) - 1 or not all(words) or " " in "".join(words):
+        raise Refused(f"the words are {form}, none of them empty; a space in one is \\x20, quoted: '/my\\x20film'", USAGE)
 
 
 def check_count(words, form):
