@@ -361,8 +361,8 @@ def a_folder_in_use_is_told_from_a_full_disk(tree):
 
 def info_tells_which_formats_are_taken(tree):
     tree.built("#!/bin/sh\nread -r line\necho 'filesystem 00'\n")
-    for record, wanted in (("1\0\0" + "2" * 16, "format 1, of an older version, are still taken"), ("2\0\0\1", "format 1, of an older version, are still taken"),
-                           ("2\0\0\2", "migrate has nothing to do"), ("2\0\0", ""), ("2\0\0\3", ""), ("3\0\0\2", "")):
+    old, new = "block files of format 1, of an older version, are still taken", "migrate has nothing to do"
+    for record, wanted in (("1\0\0" + "2" * 16, old), ("2\0\0\1", old), ("2\0\0\2", new), ("2\0\0", ""), ("2\0\0\3", ""), ("3\0\0\2", "")):
         tree.write("s/cryfs.localstate", f"cryfs.localstate;{record}")
         seen = asks_once(tree, "info", 0)
         has(seen, "filesystem 00\r\n", wanted)

@@ -238,27 +238,48 @@ def repeat(arguments, one, kills_of_one):
     print(f"{arguments.mode} at {arguments.block_size} bytes a block: nothing was lost in " + ", ".join(f"{count} {what}" for what, count in counts.items()))
 
 
-def main():
-    parser = argparse.ArgumentParser(description=__doc__, formatter_class=argparse.RawDescriptionHelpFormatter)
-    parser.add_argument("mode", nargs="?", default="kill", choices=["kill", "rollback", "full"])
+def options(description):
+    """The words of such a script."""
+    parser = argparse.ArgumentParser(description=description, formatter_class=argparse.RawDescriptionHelpFormatter)
     parser.add_argument("--count", type=int, default=100, help="kills (100)")
     parser.add_argument("--minutes", type=float, default=30, help="the most time it may take (30)")
     parser.add_argument("--block-size", type=int, default=16384)
     parser.add_argument("--seed", type=int, default=random.randrange(1 << 32))
     parser.add_argument("--folder", help="where the folders are made (the system's folder for temporary files)")
     parser.add_argument("--program", default=BUILT)
-    arguments = parser.parse_args()
+    return parser
+
+
+def try_to(do, arguments, *more):
+    """The status of a script that does it: whether nothing was lost."""
     print(f"seed {arguments.seed}", flush=True)
     try:
-        if arguments.mode == "full":
-            for which in ("blocks", "state"):
-                fill(Program(arguments.program), arguments.block_size, arguments.folder, which)
-        else:
-            repeat(arguments, {"kill": kill, "rollback": roll_back}[arguments.mode], {"kill": KILLS_OF_ONE, "rollback": 1}[arguments.mode])
+        do(arguments, *more)
     except Lost as why:
         print(f"FAILED: {why}")
         return 1
     return 0
+
+
+def repeat_alone(description, mode, one, kills_of_one):
+    """All of a script that does one thing again and again."""
+    arguments = options(description).parse_args()
+    arguments.mode = mode
+    return try_to(repeat, arguments, one, kills_of_one)
+
+
+def fill_both(arguments):
+    for which in ("blocks", "state"):
+        fill(Program(arguments.program), arguments.block_size, arguments.folder, which)
+
+
+def main():
+    parser = options(__doc__)
+    parser.add_argument("mode", nargs="?", default="kill", choices=["kill", "rollback", "full"])
+    arguments = parser.parse_args()
+    if arguments.mode == "full":
+        return try_to(fill_both, arguments)
+    return try_to(repeat, arguments, *{"kill": (kill, KILLS_OF_ONE), "rollback": (roll_back, 1)}[arguments.mode])
 
 
 if __name__ == "__main__":

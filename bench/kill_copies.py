@@ -9,16 +9,13 @@ the tree must be as it was, and the folder a part of it, or all of it where the 
 What is compared is what `trial`, the plain tree in memory, answers to the same lines. Every run prints its seed; the folders of a run that failed are
 kept.
 """
-import argparse
 import os
-import random
 import shutil
 import signal
 import sys
 
-from kill import PATHS, Lost, repeat
+from kill import PATHS, Lost, repeat_alone
 from rows import asked, is_part, make_rows, rows_of, told
-from runs import BUILT
 
 KILLS_OF_ONE = 20
 EMPTYING = [f"{word} {path}" for path in reversed(PATHS) for word in ("rm", "rmdir")] + ["sync"]
@@ -103,24 +100,5 @@ def kill_copies(system, chance, block_size, counts):
     shutil.rmtree(filled)
 
 
-def main():
-    parser = argparse.ArgumentParser(description=__doc__, formatter_class=argparse.RawDescriptionHelpFormatter)
-    parser.add_argument("--count", type=int, default=100, help="kills (100)")
-    parser.add_argument("--minutes", type=float, default=30, help="the most time it may take (30)")
-    parser.add_argument("--block-size", type=int, default=16384)
-    parser.add_argument("--seed", type=int, default=random.randrange(1 << 32))
-    parser.add_argument("--folder", help="where the folders are made (the system's folder for temporary files)")
-    parser.add_argument("--program", default=BUILT)
-    arguments = parser.parse_args()
-    arguments.mode = "copies"
-    print(f"seed {arguments.seed}", flush=True)
-    try:
-        repeat(arguments, kill_copies, KILLS_OF_ONE)
-    except Lost as why:
-        print(f"FAILED: {why}")
-        return 1
-    return 0
-
-
 if __name__ == "__main__":
-    sys.exit(main())
+    sys.exit(repeat_alone(__doc__, "copies", kill_copies, KILLS_OF_ONE))
