@@ -3,7 +3,9 @@ import os
 import re
 import shutil
 import signal
+from types import SimpleNamespace
 
+import kill_migrate
 from hands_tree import LIMIT, Terminal, has, require, same, wait_until
 
 PROMPT = "cryfs> "
@@ -150,6 +152,20 @@ def passwords_change(tree):
     same(tree.run("b2", "s2", "info", given=b"\n")[0], 0, "an empty one on purpose")
 
 
+def info_tells_whether_to_migrate(tree):
+    made(tree)
+    status, seen = asks(tree, "info").end()
+    same(status, 0, seen)
+    has(seen, "blocksize 16384\r\n", "migrate has nothing to do")
+    kill_migrate.lay_out(SimpleNamespace(blocks=f"{tree.top}/b", state=f"{tree.top}/s"))
+    # (opening over what waits saves a record of the new form, which takes old files still)
+    for words, wanted in (("info", "format 1, of an older version, are still taken"), ("check", "check yes "), ("info", "are still taken"),
+                          ("migrate", "migrated "), ("info", "migrate has nothing to do"), ("migrate", "migrated 0\r\n")):
+        status, seen = asks(tree, words).end()
+        same(status, 0, seen)
+        has(seen, wanted)
+
+
 def an_output_that_fails_is_told(tree):
     made(tree)
     for words in ("shell", "ls /"):
@@ -242,5 +258,5 @@ def a_run_that_waits_for_its_input_can_be_stopped(tree):
 
 CASES = [a_first_session_is_that_of_the_readme, a_wrong_password_is_explained, a_second_run_is_explained,
          a_rollback_is_noticed_and_the_way_back_works, an_interrupt_keeps_what_was_answered, a_long_line_is_whole_or_refused,
-         passwords_change, an_output_that_fails_is_told, a_mistyped_folder_is_left, examples_of_the_page_work,
+         passwords_change, info_tells_whether_to_migrate, an_output_that_fails_is_told, a_mistyped_folder_is_left, examples_of_the_page_work,
          what_needs_no_lost_block_comes_out, a_run_that_waits_for_its_input_can_be_stopped]
