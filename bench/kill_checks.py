@@ -55,10 +55,11 @@ class Checking:
         self.system.look(lines, ended.answers, [len(lines)])
 
     def check(self, words, statuses, is_whole=False):
-        """A check that is killed at any time; one that nothing is known of is left alone."""
+        """A check that is killed at any time, in one of two cases near its end, where it prints; one that nothing is known of is left
+        alone."""
         kind = " ".join(words), statuses
         usual = self.usual.get(kind)
-        after = None if is_whole or usual is None else self.chance.uniform(0, 1.05 * usual)
+        after = None if is_whole or usual is None else self.chance.uniform(self.chance.choice([0, 0.9 * usual]), 1.05 * usual)
         ended = self.system.program.run(self.folders, words, stop_after=after)
         if ended.status in statuses:
             self.usual[kind] = ended.seconds if usual is None else 0.5 * usual + 0.5 * ended.seconds
