@@ -149,8 +149,11 @@ def after_get(system, ended):
 
 
 def after_migrate(system, ended):
-    told_well = ended.output.startswith("migrated ") if ended.status == 0 else ended.output.split(" ")[0] in ("", "migrated", "fault", "memory\n")
-    if not told_well or (ended.status == 0 and formats(system.folders) != {2}):
+    """As in a session a line may name a fault, and the status be 0."""
+    is_done = ended.output.startswith("migrated ")
+    if not is_done and ended.output not in ("", "fault directory\n", "fault state\n", "memory\n"):
+        return False
+    if ended.status == 0 and (not ended.output or (is_done and formats(system.folders) != {2})):
         return False
     for word in ("check", "migrate", "check"):
         found = system.program.run(system.folders, [word], password=OLD_PASSWORD)
