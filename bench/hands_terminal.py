@@ -337,7 +337,7 @@ def a_stop_is_explained(tree):
     tree.built()
     for number, cause in ((signal.SIGINT, "Ctrl-C stopped it"), (signal.SIGKILL, "`kill -9` stopped it"), (signal.SIGTERM, "stopped by `kill`")):
         tree.write("crates/cryfs/out/cryfs", f"#!/bin/sh\nread -r line\nkill -s {number.name[3:]} $$\n", 0o755)
-        has(asks_once(tree, "info", -number), cause, "run again", "a copy may have left a part")
+        has(asks_once(tree, "info", -number), cause, "remove what a copy left, and run again")
     same(tree.run("b", "s", "info", given=b"pw\n"), (-signal.SIGTERM, "", ""), "in a pipe")
 
 
