@@ -22,13 +22,14 @@ EMPTYING = [f"{word} {path}" for path in reversed(PATHS) for word in ("rm", "rmd
 
 
 def random_rows(chance, block_size):
-    """Rows of two levels with the names that the look knows, one file in eight of more than a piece."""
+    """Rows of two levels with the names that the look knows. Some files have more than a piece; in the midst of the largest an import
+    syncs, so that a part of it is kept."""
     rows = {}
     for path in [it[1:] for it in PATHS]:
         above = os.path.dirname(path)
         if chance.randrange(4) == 0 or (above and rows.get(above, "") is not None):
             continue
-        size = chance.choice([0, 1, block_size, 9 * block_size, 300_000, (1 << 20) + 5, (3 << 20) + 5])
+        size = chance.choice([0, 1, block_size, 9 * block_size, 300_000, (1 << 20) + 5, (3 << 20) + 5, (9 << 20) + 5])
         rows[path] = chance.choice([None if not above else b"x", f"to{size}", chance.randbytes(min(size, 2000 * block_size))])
     return rows
 
