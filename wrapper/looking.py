@@ -1,13 +1,14 @@
-"""What a status doesn't tell a person: whether another run holds a folder, what room its disk has, which block files STATE takes."""
+"""What a status doesn't tell a person: whether another run holds a folder, what room its disk has, whether STATE is marked, and which
+block files it takes."""
 import fcntl
 import os
 
-from words import RECORD
-
+RECORD = "cryfs.localstate"
 LOCK = "cryfs.lock"
 # How a record begins in its two forms; the second one has the mark behind it, and then its least format.
 OLD_RECORD, NEW_RECORD = b"cryfs.localstate;1\0", b"cryfs.localstate;2\0"
-LEAST_AT = len(NEW_RECORD) + 1
+MARK_AT = len(NEW_RECORD)
+LEAST_AT = MARK_AT + 1
 FORMATS = {
     1: "block files of format 1, of an older version, are still taken: migrate writes each block anew",
     2: "block files of format 2, the newest, are taken and no older ones: migrate has nothing to do",
@@ -52,12 +53,23 @@ def told_room(status, call):
     return [f"no other run uses {name} now, and its disk has {disk.f_bavail * disk.f_frsize:,} bytes free"]
 
 
-def told_formats(state):
-    """Which block files the record takes; nothing where it can't be read."""
+def start_of(state):
+    """How the record begins; nothing where it can't be read."""
     try:
         with open(os.path.join(state, RECORD), "rb") as file:
-            start = file.read(LEAST_AT + 1)
+            return file.read(LEAST_AT + 1)
     except OSError:
-        return []
+        return b""
+
+
+def is_marked(state):
+    """Whether the record has the mark of a violation; None where that can't be told."""
+    start = start_of(state)
+    return start[MARK_AT] == 1 if start.startswith((OLD_RECORD, NEW_RECORD)) and len(start) > MARK_AT else None
+
+
+def told_formats(state):
+    """Which block files the record takes; nothing where it can't be read."""
+    start = start_of(state)
     least = 1 if start.startswith(OLD_RECORD) else start[LEAST_AT] if start.startswith(NEW_RECORD) and len(start) > LEAST_AT else 0
     return [FORMATS[least]] if least in FORMATS else []

@@ -11,6 +11,8 @@ from telling import Refused, say
 
 # PR_SET_PDEATHSIG of prctl(2), which stays over exec.
 SIGNAL_AT_PARENTS_END = 1
+# The program's status after a violation.
+VIOLATION = 5
 
 
 def kept_apart(file):
@@ -157,7 +159,8 @@ def end(status, errors, call):
 def failure_lines(status, text, call):
     is_used = looking.is_used(status, call)
     seen = looking.told_room(status, call) if is_used is False else []
-    return seen + telling.meanings(status, text, call.command, is_used)
+    mark = telling.mark_met(call.was_marked, looking.is_marked(call.state)) if status == VIOLATION else None
+    return seen + telling.meanings(status, text, call.command, is_used, mark)
 
 
 def success_lines(call):

@@ -8,6 +8,8 @@ USAGE = 1
 NOT_RUN = 125
 # How a cause begins that is another run.
 ANOTHER_RUN = "another run uses "
+# What causes say of the record's mark: that it was there before the run, that the run made it, that there is none.
+EARLIER_MARK, MADE_MARK, NO_MARK = MARKS = "marked by an earlier run", "and STATE is marked", "isn't marked"
 # What a new file system's owner has to know first.
 STATE_MATTERS = ("Without STATE nothing opens, password or not. Copy it after each run that writes, to another trusted place; "
                  "an older copy doesn't open newer blocks.")
@@ -40,13 +42,27 @@ def status_rows():
     return [tuple(cell.strip() for cell in line.split("|")) for line in lines]
 
 
-def meanings(status, text, command, is_used=None):
+def meanings(status, text, command, is_used=None, mark=None):
     """What the table says of a status, negative for a signal, and the text that the program printed, in a line for each cause.
-    Where it is known whether another run uses the folder, that cause stands alone, or not there."""
+    Where it is known whether another run uses the folder, that cause stands alone, or not there; where the mark is, what fits it."""
     rows = [row for row in status_rows() if row[0] == str(status if status >= 0 else 128 - status) and row[1] in ("", text)]
     rows = [row for row in rows if command in (commands_of(row[2]) or [command])]
     rows = [row for row in rows if is_used in (None, row[2].startswith(ANOTHER_RUN))]
+    rows = [row for row in rows if mark is None or fits(row[2], mark)]
     return [f"{'or ' if number else ''}{cause}: {remedy}" for number, (_, _, cause, remedy) in enumerate(rows)]
+
+
+def fits(cause, mark):
+    """Whether a cause says that of the mark, or nothing of it; an earlier run's mark is a cause by itself."""
+    said = [it for it in MARKS if it in cause]
+    return mark in said if said else mark != EARLIER_MARK
+
+
+def mark_met(before, after):
+    """What is known of the mark by the record before the run and behind it."""
+    if before:
+        return EARLIER_MARK
+    return None if before is None else {True: MADE_MARK, False: NO_MARK}.get(after)
 
 
 def commands_of(cause):

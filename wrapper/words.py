@@ -1,6 +1,7 @@
 """What the words of a call ask for, and why some are refused before anything is run."""
 import os
 
+from looking import RECORD, is_marked
 from telling import USAGE, Refused, line_forms
 
 # The words of each line, as help shows them.
@@ -12,14 +13,13 @@ CREATE_OPTIONS = ("--blocksize", "--scrypt-n", "--scrypt-r", "--scrypt-p")
 # Words that may stand behind those of a command.
 LATE_OPTIONS = {"import": ("--quiet", "--leave-out"), "export": ("--quiet",), "check": ("--quiet",)}
 PASSWORD_OPTIONS = ("--password-file", "--password-command")
-RECORD = "cryfs.localstate"
 
 
 class Call:
     """A call: the two folders, the command and its words, and where the password comes from."""
 
     def __init__(self, words, environment):
-        self.source = None
+        self.source = self.was_marked = None
         left = self.take_options(list(words))
         self.blocks, self.state, self.rest = split_folders(left, environment)
         self.command = self.rest[0]
@@ -75,6 +75,7 @@ class Call:
                               "STATE stays on this machine")
         if self.command != "create":
             check_record(self.state)
+            self.was_marked = is_marked(self.state)
 
 
 def check_record(state):
