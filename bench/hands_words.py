@@ -32,7 +32,7 @@ def words_are_looked_at_first(tree):
              "b s import", "b s import f", "b s import f x", "b s import '' /", "b s export f / more", "b s export / f",
              "b s import f / --quiet --quiet", "b s import f / --quick", "b s import f --quiet /", "b s export f / --leave-out",
              "b s check --leave-out", "b s check --quiet --quiet", "b s put /f --quiet", "b s import --leave-out f /",
-             "b s put '/a f'", "b s get '/a f'", "b s import f '/a f'",
+             "b s put '/a f'", "b s get '/a f'", "b s import f '/a f'", "b s import f /a/", "b s export f //", "b s put /a/../f", "b s get /./f",
              "b s create --blocksize", "b s create --blocksize=x", "b s create --", "--wrong b s ls /", "--password-file",
              "--password-file f --password-command c b s info", "--password-file f b s trial", "'' s info", "b '' info")
     for built in (False, True):
@@ -43,6 +43,7 @@ def words_are_looked_at_first(tree):
             same((status, out, errors.count("\n")), (1, "", 1), f"{words}: {errors}")
             require(errors.startswith("cryfs: ") and "built" not in errors, f"{words}: {errors}")
     for words, hint in (("b s import --leave-out f /", "--leave-out stands behind PATH"), ("b s get '/a f'", "'/my\\x20film'"),
+                        ("b s import f /a/", "no / ends it"), ("b s put f /f", "by < FILE"), ("b s get /f f", "by > FILE"),
                         ("b s rm '/a f'", "the words are rm PATH, "), ("b s write /f 0", "the words are write PATH PLACE HEX, ")):
         has(tree.run("-c", f"./cryfs {words}", script="/bin/sh")[2], hint)
     for words in ("generate 8", "trial generate 8", "check", "migrate", "ls /", "read /a 0 1", "sync", "create --blocksize 128 --scrypt-n=16",

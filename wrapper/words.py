@@ -164,16 +164,19 @@ def check_late(command, words):
 def check_file(command, words):
     """Refuses what isn't one path of the file system."""
     if len(words) != 1:
-        raise Refused(f"the words are {command} PATH: a file of the file system", USAGE)
+        bytes_of = "its bytes are the input, as by < FILE" if command == "put" else "its bytes are the output, as by > FILE"
+        raise Refused(f"the words are {command} PATH: a file of the file system; {bytes_of}", USAGE)
     check_path(words[0])
 
 
 def check_path(word):
-    """Refuses what begins otherwise than a path of the file system, and a space in one."""
+    """Refuses what isn't a path of the file system, but for its escapes, and a space in one."""
     if not word.startswith("/"):
         raise Refused(f"{word!r} is no path of the file system: it begins with /, which alone is its root", USAGE)
     if " " in word:
         raise Refused(f"{word!r} has a space, which a path of the file system has as \\x20, quoted: '/my\\x20film'", USAGE)
+    if word != "/" and any(name in ("", ".", "..") for name in word.split("/")[1:]):
+        raise Refused(f"{word!r} is no path of the file system: names stand between single /, none of them . or .., and no / ends it", USAGE)
 
 
 def check_create(words):
