@@ -14,4 +14,4 @@ pub use laws::{mark_stands_at_19, one_reading};
 pub use life::Life;
 pub use reading::decode;
 pub use state::{Form, State, StateError, key_digest};
-pub use writing::{encode, encode_form1};
+pub use writing::{MARK_PLACE, encode, encode_form1};

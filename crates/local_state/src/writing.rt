@@ -21,6 +21,9 @@ pub(crate) const MAGIC_NEWER: [u8; MAGIC_LEN] = *b"cryfs.localstate;2\0";
 
 pub(crate) const MAGIC_LEN: usize = 19;
 
+/// Where the byte stands that marks a violation, in a record of either form.
+pub const MARK_PLACE: usize = MAGIC_LEN;
+
 const HEAD_LEN: usize = 105;
 
 pub(crate) const LIFE_LEN: usize = 25;

@@ -15,7 +15,6 @@ ghost use Rattle.mount_answering.specs.Asking.{CanSettle, FormAsked, KeepsSaver,
 use crate::kinds::{apply_answer, fail_answer, is_error, is_sync, only_looks, sync_answer};
 use crate::syncing::sync_first;
 use answers::Answer;
-use block_id::Failed;
 use fs_model::{Command, Moment, Reply};
 use mount_core::Core;
 use outside::Keeper;
@@ -23,9 +22,6 @@ use rand_core::Rng;
 use std::alloc::Global;
 use store_api::{Blocks, Durable, Tx};
 use tree_commands::perform;
-
-/// The place of a record's mark.
-const MARK_PLACE: usize = 19;
 
 /// Marks the last record, and has it kept. Later commands are refused, and closing leaves all as it is.
 pub fn mark<S: Durable, K: Keeper>(core: &mut Core<S, K>)
@@ -40,13 +36,8 @@ pub fn mark<S: Durable, K: Keeper>(core: &mut Core<S, K>)
         (K.faults core.new.saver.keeper) }
     ensures keeper_grows { K.faults core.old.saver.keeper ≤ K.faults core.new.saver.keeper }
 {
-    core.saver.last[MARK_PLACE] = 1;
+    core.saver.mark();
     core.violated = true;
-    core.saver.changed = true;
-    match core.saver.keeper.save(&core.saver.last) {
-        Ok(()) => {}
-        Err(Failed) => {}
-    }
 }
 
 /// Answers a reply to a command that was performed, once its changes are applied.

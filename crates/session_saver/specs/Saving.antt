@@ -171,6 +171,14 @@ pub record Syncs {S : Type 0} {K : Type 0} (W : World S K) (old : Saver K) (a : 
   pub keeps : (W.keeper.kept new.keeper ≡ W.keeper.kept old.keeper) ⊎ IsRecordOf W.durables a (W.keeper.kept new.keeper)
   pub can_mark : CanMark W.records old → CanMark W.records new
 
+-- the last record has its mark, and is kept unless its save failed, which may have kept it
+pub record Marks {K : Type 0} (G : KeeperGhosts K) (old new : Saver K) : Type 0 where
+  pub last : new.last.items ≡ with_mark old.last.items
+  pub changed : new.changed ≡ true
+  pub kept : (G.kept new.keeper ≡ Some (with_mark old.last.items)) ⊎ ((G.kept new.keeper ≡ G.kept old.keeper) × RoseBy 1 (G.faults old.keeper) (G.faults new.keeper))
+  pub room : G.room old.keeper ≤ G.room new.keeper
+  pub grows : G.faults old.keeper ≤ G.faults new.keeper
+
 -- What became of a save of the record with an empty list: it is kept, and the last; or for want of memory all is as it was;
 -- or its save failed, so that either record may be kept, and the next sync saves again.
 abbrev pub ShortSaved : {S : Type 0} {K : Type 0} → Durables S → KeeperGhosts K → S → Saver K → Saver K → Result Unit SyncError → Type 0

@@ -1,9 +1,11 @@
 // The three steps of a sync.
-ghost use Rattle.std.specs.Prelude.{◌≡◌, ◌≤◌, [], false, length, IfOk, IsErrOf};
+ghost use Rattle.std.specs.Prelude.{◌≡◌, ◌≤◌, ◌<◌, [], false, length, IfOk, IsErrOf};
 ghost use Rattle.outside.specs.Causes.{RoseBy};
-ghost use Rattle.session_saver.specs.Saving.{world, CanSync, IsLongKept, Moves, Finishes, ShortSaved, Syncs, UnlessState};
+ghost use Rattle.store_api.specs.Durables.{mark_place};
+ghost use Rattle.session_saver.specs.Saving.{world, CanSync, IsLongKept, Marks, Moves, Finishes, ShortSaved, Syncs, UnlessState};
 
 use block_id::{Failed, Memory};
+use local_state::MARK_PLACE;
 use outside::{GetFail, Keeper};
 use std::alloc::Global;
 use store_api::Durable;
@@ -154,5 +156,19 @@ impl<K: Keeper> Saver<K> {
         }
         self.last = short;
         Ok(())
+    }
+
+    /// Marks the last record, and has it kept.
+    pub fn mark(&mut self)
+        requires long { mark_place < length self.old.last.items }
+        requires room { length self.old.last.items ≤ K.room self.old.keeper }
+        ensures marks { Marks K.Keeper self.old self.new }
+    {
+        self.last[MARK_PLACE] = 1;
+        self.changed = true;
+        match self.keeper.save(&self.last) {
+            Ok(()) => {}
+            Err(Failed) => {}
+        }
     }
 }
