@@ -3,6 +3,7 @@ use Rattle.std.proofs.Common.{◌≡◌, ℕ, Bool, true, false, not, cond, List
 use Rattle.std.proofs.lemmas.Slice.Eq.{bytes_eq-Decides}
 use Rattle.std.specs.Str.{bytes_eq}
 use Rattle.aes_gcm.specs.Gcm.{crypt, opened, tag_of}
+use Rattle.block_id.proofs.Conditions.{not_fails}
 
 pub opened_wrong : (cipher : List ℕ → List ℕ) (iv extra text tag : List ℕ) → bytes_eq (tag_of cipher iv extra text) tag ≡ false
     → opened cipher iv extra text tag ≡ None
@@ -11,10 +12,6 @@ opened_wrong cipher iv extra text tag other = ap (λ (b : Bool). cond b (Some (c
 not_holds : (b : Bool) → true ≡ not b → b ≡ false
 not_holds true h = cc
 not_holds false h = refl
-
-not_fails : (b : Bool) → false ≡ not b → b ≡ true
-not_fails true h = refl
-not_fails false h = cc
 
 -- tags that were compared
 pub tags_differ : (expected tag : List ℕ) → true ≡ not (bytes_eq expected tag) → bytes_eq expected tag ≡ false

@@ -5,7 +5,6 @@ use Rattle.std.proofs.lemmas.List.FromFn.{fill_by_all, get_or-map-range_with_len
 use Rattle.std.proofs.lemmas.Nat.Bits.{bit_at_xor, same_from_bits}
 use Rattle.std.proofs.lemmas.Slice.Eq.{bytes_eq-Decides}
 use Rattle.std.specs.List.{slice_range}
-use Rattle.std.specs.Str.{bytes_eq}
 use Rattle.aes_block.specs.KeyExpansion.{aes256}
 use Rattle.seal_api.specs.Sealing.{IsSealed}
 use Rattle.aes_gcm.specs.Gcm.{crypt, first_counter, opened, opened_of, sealed_of, tag_of}

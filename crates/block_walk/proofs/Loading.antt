@@ -1,13 +1,13 @@
 -- Loads with what they promise, one after another.
-use Rattle.std.proofs.Common.{◌≡◌, ℕ, ◌≤◌, List, [], ◌∷◌, ◌++◌, refl, sym, ◌∙◌, ap, subst, arith}
-use Rattle.std.specs.Prelude.{Ok, Err, Some, None, Option, Result, Vec, true}
+use Rattle.std.proofs.Common.{◌≡◌, ℕ, ◌≤◌, [], ◌∷◌, sym, ◌∙◌, subst, arith}
+use Rattle.std.specs.Prelude.{Ok, Err, Some, None, Option, Vec}
 use Rattle.std.specs.declared.alloc.Global.{Global}
 use Rattle.block_id.specs.declared.fail.Fail.{Fail}
 use Rattle.outcome.specs.Meanings.{Meanings, Lawful}
 use Rattle.outcome.specs.Outcome.{Outcome, answered, passed}
 use Rattle.outside.specs.View.{bytes_of}
 use Rattle.data_tree.proofs.Forests.{stays-then, stays-same}
-use Rattle.store_api.specs.Content.{Id, Content}
+use Rattle.store_api.specs.Content.{Id}
 use Rattle.store_api.specs.Holdings.{Holdings, Stays, Steady}
 use Rattle.store_api.specs.Loads.{LoadAnswer}
 use Rattle.block_walk.specs.Given.{Given, GaveBy, Asked, AskedBy, AgreesWith, IsLoad, given_of}

@@ -1,12 +1,11 @@
 -- The tree below an id is one.
-use Rattle.std.proofs.Common.{◌≡◌, ℕ, zero, suc, List, [], ◌∷◌, ◌++◌, take, drop, sym, ◌∙◌, ap, subst}
+use Rattle.std.proofs.Common.{◌≡◌, ℕ, List, sym, ◌∙◌, subst}
 use Rattle.std.specs.Prelude.{Some}
-use Rattle.std.proofs.lemmas.List.{take-append-drop}
-use Rattle.data_nodes.specs.Layout.{NodeText, leaf, inner, IsNode}
+use Rattle.data_nodes.specs.Layout.{NodeText, IsNode}
 use Rattle.data_nodes.proofs.Laws.{one_node}
-use Rattle.data_tree.specs.Trees.{IsTree, NodeIn, Holds, Forest, span, depth_in}
+use Rattle.data_tree.specs.Trees.{NodeIn}
 use Rattle.data_tree.specs.Stored.{BlobTree}
-use Rattle.data_tree.proofs.Loads.{holds-depth}
+use Rattle.data_tree.proofs.OneTree.{same_tree}
 use Rattle.store_api.specs.Content.{Id, Content}
 
 -- one block holds one node
@@ -16,39 +15,8 @@ node_is payload B h id w ids n text node there is =
     let same : n.text ≡ text = cc in
     one_node text n.node node (subst (λ t. IsNode t n.node) same n.is) is
 
-same_forest : (T : Id → List ℕ → List Id → Type 0) → ((id : Id) (w v : List ℕ) (ids jds : List Id) → T id w ids → T id v jds → (w ≡ v) × (ids ≡ jds)) → (size : ℕ) (children : List Id) (w v : List ℕ) (ids jds : List Id)
-    → Forest T size children w ids → Forest T size children v jds → (w ≡ v) × (ids ≡ jds)
-same_forest T each size [] w v ids jds f g = (f.0 ∙ sym g.0, f.1 ∙ sym g.1)
-same_forest T each size (child ∷ children) w v ids jds (some, (own, (rest, (first, (others, all))))) (some2, (own2, (rest2, (first2, (others2, all2))))) =
-    let head = each child (take size w) (take size v) own own2 first first2 in
-    let tail = same_forest T each size children (drop size w) (drop size v) rest rest2 others others2 in (
-      sym (take-append-drop size w) ∙ ap (λ xs. xs ++ drop size w) head.0 ∙ ap (λ xs. take size v ++ xs) tail.0 ∙ take-append-drop size v,
-      all ∙ ap (λ xs. xs ++ rest) head.1 ∙ ap (λ xs. own2 ++ xs) tail.1 ∙ sym all2,
-    )
-
-same_holds : (payload : ℕ) (B : Content) (depth : ℕ) (node : NodeText) (w v : List ℕ) (below under : List Id) → Holds payload B depth node w below → Holds payload B depth node v under → (w ≡ v) × (below ≡ under)
-same_holds payload B zero node w v below under h k =
-    let both : leaf w ≡ leaf v = sym h.0 ∙ k.0 in
-    let bytes : w ≡ v = cc in
-    (bytes, h.1 ∙ sym k.1)
-same_holds payload B (suc depth) node w v below under (children, (is, f)) (others, (also, g)) =
-    let both : inner (suc depth) children ≡ inner (suc depth) others = sym is ∙ also in
-    let same : others ≡ children = cc in
-    same_forest (IsTree payload B depth)
-    (λ id piece part ids jds n m.
-    let node : m.node ≡ n.node = node_is payload B (Holds payload B depth) id part jds m n.text n.node n.there n.is in
-    let rest = same_holds payload B depth n.node piece part n.below m.below n.holds (subst (λ x. Holds payload B depth x part m.below) node m.holds) in
-    (rest.0, n.all ∙ ap (λ xs. id ∷ xs) rest.1 ∙ sym m.all))
-    (span payload depth) children w v below under f (subst (λ cs. Forest (IsTree payload B depth) (span payload depth) cs v under) same g)
-
--- of an id's trees the depth, the bytes and the ids are the same
-pub same_tree : (payload : ℕ) (B : Content) (depth height : ℕ) (id : Id) (w v : List ℕ) (ids jds : List Id) → IsTree payload B depth id w ids → IsTree payload B height id v jds → (depth ≡ height) × ((w ≡ v) × (ids ≡ jds))
-same_tree payload B depth height id w v ids jds n m =
-    let node : m.node ≡ n.node = node_is payload B (Holds payload B height) id v jds m n.text n.node n.there n.is in
-    let deep : height ≡ depth = sym (holds-depth payload B height m.node v m.below m.holds) ∙ ap depth_in node ∙ holds-depth payload B depth n.node w n.below n.holds in
-    let again : Holds payload B depth n.node v m.below = subst (λ d. Holds payload B d n.node v m.below) deep (subst (λ x. Holds payload B height x v m.below) node m.holds) in
-    let rest = same_holds payload B depth n.node w v n.below m.below n.holds again in
-    (sym deep, (rest.0, n.all ∙ ap (λ xs. id ∷ xs) rest.1 ∙ sym m.all))
-
+-- of an id's blob the bytes and the ids are the same
 pub same_blob : (payload : ℕ) (B : Content) (id : Id) (w v : List ℕ) (ids jds : List Id) → BlobTree payload B id w ids → BlobTree payload B id v jds → (w ≡ v) × (ids ≡ jds)
-same_blob payload B id w v ids jds n m = (same_tree payload B n.depth m.depth id w v ids jds n.tree m.tree).1
+same_blob payload B id w v ids jds n m =
+    let same = same_tree payload B n.depth m.depth id w v ids jds n.tree m.tree in
+    (same.bytes, same.ids)

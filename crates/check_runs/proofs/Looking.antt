@@ -20,7 +20,7 @@ use Rattle.mount_blocks.specs.Examined.{OnlyExamined, held_of, trace_of, examine
 use Rattle.mount_blocks.specs.ExaminedLaws.{examined_lawful}
 use Rattle.mount_blocks.specs.declared.examined.Examined.{Examined}
 use Rattle.mount_tower.specs.Tower.{tower_holdings}
-use Rattle.outcome.specs.Meanings.{HasCause, IsCalm, IsQuiet, UnlessFault}
+use Rattle.outcome.specs.Meanings.{HasCause, IsCalm, IsQuiet}
 use Rattle.outside.specs.Trace.{Call}
 use Rattle.outside.specs.declared.keeper.Keeper.{Ghosts as KeeperGhosts}
 use Rattle.session_runs.proofs.Still.{went_got}
@@ -31,6 +31,7 @@ use Rattle.store_api.specs.Holdings.{Stays}
 use Rattle.check_runs.specs.Judging.{is_bad, read_by}
 use Rattle.check_runs.specs.Surveying.{IsSurveyed, Places, SurveysBad, SurveysIf}
 use Rattle.check_runs.proofs.Reading.{chained}
+use Rattle.outcome.specs.Outcome.{still}
 
 -- after a flaw or a violation no fault was met
 pub bad_quiet : (verdict : Result Checked Fail) (before now : ℕ) → is_bad verdict ≡ true → IsQuiet verdict before now → now ≡ before
@@ -61,9 +62,6 @@ cut_whole ids a b refused s = record { asked = s.asked; by = s.by; count = lengt
 
 raised : (e : Fail) (a b c : ℕ) → b ≡ a → HasCause e b c → HasCause e a c
 raised e a b c same h = subst (λ n. HasCause e n c) same h
-
-rested : (e : Fail) (a b c : ℕ) → b ≡ a → UnlessFault e (c ≡ b) → UnlessFault e (c ≡ a)
-rested e a b c same h = subst (λ n. UnlessFault e (c ≡ n)) same h
 
 module _ {V : Type 0} {K : Type 0} (trace : V → Option (List Call)) (faults : V → ℕ) (G : KeeperGhosts K) where
   of_store : (a b : Examined V K) → Stays (examined_holdings trace) a b → Stays (tower_holdings trace) (store_of a.mount) (store_of b.mount)
@@ -156,7 +154,7 @@ module _ {V : Type 0} {K : Type 0} (trace : V → Option (List Call)) (faults : 
       only = (examined_lawful trace faults G).onward a b c s.only p.only;
       stays = stays-then s.stays p.stays;
       fault = raised fail (vault_faults trace faults a.mount) (vault_faults trace faults b.mount) (vault_faults trace faults c.mount) s.quiet p.fault;
-      quiet = rested fail (vault_faults trace faults a.mount) (vault_faults trace faults b.mount) (vault_faults trace faults c.mount) s.quiet p.quiet;
+      quiet = still fail (vault_faults trace faults a.mount) (vault_faults trace faults b.mount) (vault_faults trace faults c.mount) s.quiet p.quiet;
       surveyed = record {
         mid = s.surveyed.mid;
         all = tt;

@@ -1,5 +1,5 @@
 -- What stands below a path of a tree, as a folder's tree.
-use Rattle.std.proofs.Common.{◌≡◌, ◌⊎◌, inl, inr, ℕ, Bool, true, false, cond, List, [], ◌∷◌, ◌++◌, refl, sym, ◌∙◌, ap, subst}
+use Rattle.std.proofs.Common.{◌≡◌, inl, inr, ℕ, true, false, cond, List, [], ◌∷◌, ◌++◌, refl, sym, ◌∙◌, ap, subst}
 use Rattle.std.specs.Prelude.{reverse, is_some, Some, None, IsTrue}
 use Rattle.std.proofs.lemmas.List.{reverse-append, reverse-reverse, append_cancel_left}
 use Rattle.std.specs.FinMap.{get, find, entries, from_entries, get-from_entries, get-entries}
@@ -7,7 +7,6 @@ use Rattle.std.specs.declared.option.Option.{Option}
 use Rattle.fs_model.specs.declared.attr.Kind.{Kind}
 use Rattle.fs_model.specs.declared.attr.Kind.TheVariants.{Directory, File, Link}
 use Rattle.fs_model.specs.Fitting.{is_target}
-use Rattle.fs_model.specs.Names.{IsName}
 use Rattle.fs_model.specs.Tree.{Path, Row, Tree, FitsKind, IsWellFormed, is_directory, is_folder, path_cmp, same_path, upward}
 use Rattle.fs_model.proofs.TreeLemmas.{path_total, path_split, path_same, apart, name_split}
 use Rattle.host_folder.specs.Folders.{HostRow, HostPath, HostTree, IsHostTree, directory_row}

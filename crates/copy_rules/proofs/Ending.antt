@@ -18,7 +18,8 @@ use Rattle.host_folder.specs.Folders.{HostRow, HostPath, HostTree}
 use Rattle.copy_rules.specs.Importing.{ArePlain}
 use Rattle.copy_rules.specs.Walks.{Met, Todo, Before, BeforeAll, AreLess, AreAhead, IsPlain, ArePlainRows, AreOf, IsUnder, Covers, IsWalk}
 use Rattle.copy_rules.proofs.Orders.{before_less, before_below, less_below, never_less, not_back}
-use Rattle.copy_rules.proofs.Walking.{AllBelow, both, sorted_append, is_less, less_is, find_right, find_left, find_less, plain_push}
+use Rattle.copy_rules.proofs.Walking.{AllBelow, both, sorted_append, is_less, find_right, find_left, find_less, plain_push}
+use Rattle.block_id.proofs.Orders.{less_so}
 
 -- each of these rows is one that is to be met, or below one
 abbrev pub AreUnder : Met → Todo → Type 0
@@ -148,7 +149,7 @@ below_far : (p q : HostPath) (es : Met) → path_cmp p q ≡ Less → T (below_a
 below_far p q [] e h = tt
 below_far p q (x ∷ es) e h =
     both (is_lt (path_cmp p x.0)) (below_all path_cmp p es)
-    (is_less (path_cmp p x.0) (path_total.trans p q x.0 e (less_is (path_cmp q x.0) (left (is_lt (path_cmp q x.0)) (below_all path_cmp q es) h))))
+    (is_less (path_cmp p x.0) (path_total.trans p q x.0 e (less_so (path_cmp q x.0) (left (is_lt (path_cmp q x.0)) (below_all path_cmp q es) h))))
     (below_far p q es e (right (is_lt (path_cmp q x.0)) (below_all path_cmp q es) h))
 
 not_under : (x p : HostPath) (k : Kind) (ds : Todo) → BeforeAll p ds → IsUnder x ((p, k) ∷ ds) → path_cmp x p ≡ Less → ⊥

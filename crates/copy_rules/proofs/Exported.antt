@@ -1,7 +1,7 @@
 -- What an export leaves: the replies of a tree are told by what stands below its source.
 use Rattle.std.proofs.Common.{◌≡◌, inl, inr, ℕ, Bool, true, false, cond, List, [], ◌∷◌, ◌++◌, map, take, drop, refl, sym, ◌∙◌, ap, subst}
 use Rattle.std.specs.Prelude.{Some, None, nat_lt}
-use Rattle.std.specs.FinMap.{get, find, entries}
+use Rattle.std.specs.FinMap.{get, entries}
 use Rattle.std.specs.declared.option.Option.{Option}
 use Rattle.std.specs.declared.result.Result.{Result}
 use Rattle.std.specs.declared.result.Result.TheVariants.{Ok, Err}
@@ -9,7 +9,6 @@ use Rattle.fs_model.specs.declared.attr.Kind.{Kind}
 use Rattle.fs_model.specs.declared.attr.Kind.TheVariants.{Directory, File, Link}
 use Rattle.fs_model.specs.declared.command.Command.{Command}
 use Rattle.fs_model.specs.declared.command.Command.TheVariants as command
-use Rattle.fs_model.specs.declared.error.FsError.{FsError}
 use Rattle.fs_model.specs.declared.error.FsError.TheVariants.{NotDirectory, IsDirectory, NotLink, Invalid, TooLarge}
 use Rattle.fs_model.specs.declared.limits.TheConstants.{MAX_READ}
 use Rattle.fs_model.specs.declared.reply.ListRow.{ListRow}
@@ -18,22 +17,21 @@ use Rattle.fs_model.specs.declared.reply.Reply.TheVariants.{Done, Rows, Info, Ta
 use Rattle.fs_model.specs.Instant.{Instant}
 use Rattle.fs_model.specs.LookUp.{LookedUp, Found, Free, Bad, look}
 use Rattle.fs_model.specs.Step.{Stepped, step, answered, refused, listed, list_row, content_read, target_read, on_file, by_kind}
-use Rattle.fs_model.specs.Tree.{Path, Row, Tree, IsWellFormed, is_directory, children, upward}
+use Rattle.fs_model.specs.Tree.{Path, Row, Tree, is_directory, children, upward}
 use Rattle.fs_model.proofs.LawLemmas.{looking_stays}
 use Rattle.fs_model.proofs.LookUpLemmas.{get-found}
-use Rattle.host_folder.specs.Folders.{HostRow, HostPath, HostTree, AreRowsOf, RowsRise, kind_in}
+use Rattle.host_folder.specs.Folders.{HostPath, HostTree, AreRowsOf, RowsRise, kind_in}
 use Rattle.host_folder.proofs.Listings.{row_kind, rows_rise, rows_each}
 use Rattle.copy_rules.specs.declared.asker.Stopped.{Stopped}
-use Rattle.copy_rules.specs.declared.copied.Totals.{Totals}
 use Rattle.copy_rules.specs.declared.copied.CopyFail.{CopyFail}
 use Rattle.copy_rules.specs.declared.copied.CopyFail.TheVariants as fail
-use Rattle.copy_rules.specs.Exporting.{IsReader, AreServed, LastRead, IsRead, IsOutcomeOf, Tells, OnTold, IsPartOf, FailsOut, IsFrontRow}
+use Rattle.copy_rules.specs.Exporting.{IsReader, AreServed, LastRead, IsOutcomeOf, Tells, OnTold, IsPartOf, FailsOut, IsFrontRow}
 use Rattle.copy_rules.specs.ExportLaws.{IsPartBelow, ExportIsSame, ExportIsPart}
 use Rattle.copy_rules.specs.Importing.{plain_of}
 use Rattle.copy_rules.specs.Questions.{Question, Followed, Answered}
 use Rattle.copy_rules.proofs.Below.{below, get_below, get_top, get_child, below_is}
 
-reply_is : (a b : Stepped) → a ≡ b → a.reply ≡ b.reply
+pub reply_is : (a b : Stepped) → a ≡ b → a.reply ≡ b.reply
 reply_is a b e = ap (λ (s : Stepped). s.reply) e
 
 -- what a directory's rows say

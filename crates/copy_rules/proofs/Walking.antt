@@ -16,6 +16,7 @@ use Rattle.store_api.proofs.Rising.{not_below}
 use Rattle.host_folder.specs.Folders.{HostRow, HostPath, HostTree, IsHostTree, kind_in}
 use Rattle.copy_rules.specs.Walks.{Met, Todo, todo_in, Before, BeforeAll, AreOrdered, AreLess, AreAhead, IsPlain, ArePlainRows, AreOf, HasKinds, IsUnder, Covers, IsWalk, IsRowAt}
 use Rattle.copy_rules.proofs.Orders.{before_less, before_below, before_name, less_below, never_less}
+use Rattle.block_id.proofs.Orders.{less_so}
 
 pub both : (a b : Bool) → T a → T b → T (a && b)
 both true b h g = g
@@ -23,11 +24,6 @@ both false b h g = absurd h
 
 pub is_less : (o : Ordering) → o ≡ Less → T (is_lt o)
 is_less o e = subst (λ z. T (is_lt z)) (sym e) tt
-
-pub less_is : (o : Ordering) → T (is_lt o) → o ≡ Less
-less_is Less h = refl
-less_is Equal h = absurd h
-less_is Greater h = absurd h
 
 -- lists of rows that stand one behind the other
 abbrev pub AllBelow : Met → Met → Type 0
@@ -131,7 +127,7 @@ before_rest p n (d ∷ ds) h = (subst (λ z. Before (p ++ n ∷ []) z) (append-n
 before_kids : (p : HostPath) (n : List ℕ) (kids : List (List ℕ × Kind)) → T (below_all name_cmp n kids) → BeforeAll (p ++ n ∷ []) (todo_in p kids)
 before_kids p n [] h = tt
 before_kids p n (kid ∷ kids) h = (
-  before_name p n kid.0 (less_is (name_cmp n kid.0) (left (is_lt (name_cmp n kid.0)) (below_all name_cmp n kids) h)),
+  before_name p n kid.0 (less_so (name_cmp n kid.0) (left (is_lt (name_cmp n kid.0)) (below_all name_cmp n kids) h)),
   before_kids p n kids (right (is_lt (name_cmp n kid.0)) (below_all name_cmp n kids) h),
 )
 

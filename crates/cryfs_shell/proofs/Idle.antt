@@ -1,5 +1,5 @@
 -- A run that did nothing: its words are of no form, or memory was refused while they were read.
-use Rattle.std.proofs.Common.{◌≡◌, ◌≢◌, ◌≤◌, ℕ, true, List, refl, sym, ap, subst, inl, inr, arith}
+use Rattle.std.proofs.Common.{◌≡◌, ◌≢◌, ℕ, true, List, sym, ap, subst, inl, inr}
 use Rattle.std.specs.declared.option.Option.{Option}
 use Rattle.std.specs.declared.option.Option.TheVariants.{None, Some}
 use Rattle.fs_model.specs.Instant.{Instant}
@@ -9,7 +9,7 @@ use Rattle.outside.specs.declared.keeper.Keeper.{Ghosts as KeeperGhosts}
 use Rattle.passwords.specs.Passwords.{PasswordUnread, PasswordsUnread}
 use Rattle.run_status.specs.declared.ended.Ended.{Ended}
 use Rattle.run_status.specs.declared.status.Status.{Status}
-use Rattle.run_status.specs.declared.status.Status.TheVariants.{Done, Usage, LongPassword, Violation, DirectoryFault, StateFault, InputFault, OutputFault, Memory, HostFault}
+use Rattle.run_status.specs.declared.status.Status.TheVariants.{Done, Usage, Violation, DirectoryFault, StateFault, InputFault, OutputFault, Memory, HostFault}
 use Rattle.session_runs.specs.Openings.{AreUncalled, IsUnread}
 use Rattle.session_runs.specs.Runs.{outside_of}
 use Rattle.shell_words.specs.declared.form.Form.{Form}
@@ -22,6 +22,7 @@ use Rattle.cryfs_shell.specs.Hosts.{IsStill}
 use Rattle.cryfs_shell.specs.Streams.{Streams}
 use Rattle.cryfs_shell.proofs.Histories.{idly}
 use Rattle.cryfs_shell.proofs.Sessions.{one_unread, unread_keeps, stays_grown}
+use Rattle.block_id.proofs.Conditions.{no_fewer}
 
 -- a status of a run that did nothing
 abbrev pub IsIdle : Status → Type 0
@@ -32,9 +33,6 @@ IsIdle status = ⊥
 idle_is_no : (status other : Status) → IsIdle status → (IsIdle other → ⊥) → status ≢ other
 idle_is_no status other idle not e = not (subst IsIdle e idle)
 
-same_grows : (a b : ℕ) → b ≡ a → a ≤ b
-same_grows a b e = omega (arith, e)
-
 module _ {V : Type 0} {K : Type 0} (trace : V → Option (List Call)) (faults : V → ℕ) (names : V → Option (List (List ℕ))) (G : KeeperGhosts K) (words : List (List ℕ)) (now : Instant) (s : Streams) (vault : V) (keeper : K) (ended : Ended V K)
     (unread : Untouched s.input) (unwritten : Untouched s.output) (still : IsStill s.host) (undrawn : s.left ≡ s.chance) (uncalled : AreUncalled vault keeper ended) (idle : IsIdle ended.status) where
   pub idle_alarm : NoFalseAlarm s.input (outside_of trace faults G vault keeper) (outside_of trace faults G ended.vault ended.keeper) ended.status
@@ -42,8 +40,8 @@ module _ {V : Type 0} {K : Type 0} (trace : V → Option (List Call)) (faults : 
 
   pub idle_faults : (asked : Option Form) → TellsFaults asked s (outside_of trace faults G vault keeper) (outside_of trace faults G ended.vault ended.keeper) ended.status
   idle_faults asked = record {
-    input_grows = same_grows s.input.faults s.input.risen unread.1;
-    output_grows = same_grows s.output.faults s.output.risen unwritten.1;
+    input_grows = no_fewer s.input.faults s.input.risen unread.1;
+    output_grows = no_fewer s.output.faults s.output.risen unwritten.1;
     faults_happened = record {
       vault_grows = stays_grown (faults vault) (faults ended.vault) (ap faults uncalled.same_vault);
       keeper_grows = stays_grown (G.faults keeper) (G.faults ended.keeper) (ap G.faults uncalled.same_keeper);
@@ -53,7 +51,7 @@ module _ {V : Type 0} {K : Type 0} (trace : V → Option (List Call)) (faults : 
       output_fault = λ e. absurd (idle_is_no ended.status OutputFault idle (λ h. h) e);
     };
     host_faults_happened = record {
-      grows = same_grows s.host.faults s.host.risen still.1;
+      grows = no_fewer s.host.faults s.host.risen still.1;
       host_fault = λ e. absurd (idle_is_no ended.status HostFault idle (λ h. h) e);
     };
     faults_named = λ _. record {

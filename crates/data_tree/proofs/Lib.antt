@@ -10,3 +10,4 @@ pub mod Anew
 pub mod Puts
 pub mod Stored
 pub mod Borders
+pub mod OneTree

@@ -33,20 +33,18 @@ use Rattle.row_copy.specs.declared.stop.Stop.{Stop}
 use Rattle.row_copy.specs.declared.stop.Stop.TheVariants as stop
 use Rattle.file_copies.specs.Laws.{IsPutIn, IsPutPart, PutLeaves, PutLeavesPart}
 use Rattle.file_copies.specs.Putting.{put_commands, IsPut}
+use Rattle.copy_rules.proofs.Exported.{reply_is}
 
 -- ---- the file is new
-
-reply_of : (a b : Stepped) → a ≡ b → a.reply ≡ b.reply
-reply_of a b e = ap (λ (s : Stepped). s.reply) e
 
 seen_free : (t : Tree) (p : Path) (o : Option Row) → get t p ≡ o → seen t p o ≡ Free → get t p ≡ None
 seen_free t p None e h = e
 seen_free t p (Some row) e h = absurd cc
 
 made_free : (t : Tree) (now : Instant) (p : Path) (row : Row) (s : LookedUp) (next : Tree) → look t p ≡ s → made t now p row s ≡ record { reply = Done; tree = next } → get t p ≡ None
-made_free t now p row (Found old) next e h = let bad : Error Exists ≡ Done = reply_of _ _ h in absurd cc
+made_free t now p row (Found old) next e h = let bad : Error Exists ≡ Done = reply_is _ _ h in absurd cc
 made_free t now p row Free next e h = seen_free t p (get t p) refl e
-made_free t now p row (Bad x) next e h = let bad : Error x ≡ Done = reply_of _ _ h in absurd cc
+made_free t now p row (Bad x) next e h = let bad : Error x ≡ Done = reply_is _ _ h in absurd cc
 
 -- ---- pieces of it were written
 
@@ -124,7 +122,7 @@ IsNotDone (Ok reply) = ⊥
 IsNotDone (Err stopped) = Unit {0}
 
 stays : (now : Instant) (t last : Tree) (c : Command) (o : Result Reply Stopped) → IsNotDone o → Answered t now c o last → last ≡ t
-stays now t last c (Ok (Error e)) n a = sym (ap (λ (s : Stepped). s.tree) a) ∙ (error_stays t now c).stays e (reply_of _ _ a)
+stays now t last c (Ok (Error e)) n a = sym (ap (λ (s : Stepped). s.tree) a) ∙ (error_stays t now c).stays e (reply_is _ _ a)
 stays now t last c (Ok reply) n a = absurd n
 stays now t last c (Err stopped) n a = a
 

@@ -16,7 +16,7 @@ use Rattle.mount.specs.Representing.{Represents}
 use Rattle.mount.specs.Tower.{TowerStands}
 use Rattle.mount.specs.declared.mount.Mount.{Mount}
 use Rattle.mount_tower.specs.Tower.{tower_durables}
-use Rattle.outside.specs.Going.{GoesOn, goes_on_onward}
+use Rattle.outside.specs.Going.{goes_on_onward}
 use Rattle.outside.specs.Honest.{count_told}
 use Rattle.outside.specs.Trace.{Call}
 use Rattle.outside.specs.declared.keeper.Keeper.{Ghosts as KeeperGhosts}
@@ -24,7 +24,7 @@ use Rattle.session_runs.proofs.Passes.{passed}
 use Rattle.session_runs.proofs.Whole.{each_before}
 use Rattle.session_runs.specs.Answering.{mount_hosting}
 use Rattle.session_runs.specs.Passing.{Passed, PassedTrees}
-use Rattle.session_runs.specs.Runs.{Outside, OpensTo, forgeries, outside_of}
+use Rattle.session_runs.specs.Runs.{OpensTo, forgeries, outside_of}
 use Rattle.session_runs.specs.Turns.{OnMount}
 use Rattle.session_saver.specs.declared.saver.SyncError.{SyncError}
 use Rattle.store_api.specs.Durables.{Identity}

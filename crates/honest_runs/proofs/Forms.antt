@@ -1,5 +1,5 @@
 -- What the two words ask for.
-use Rattle.std.proofs.Common.{◌≡◌, List, [], ◌∷◌, Some, codes, refl}
+use Rattle.std.proofs.Common.{◌≡◌, [], ◌∷◌, Some, codes, refl}
 use Rattle.clap.specs.Faults.{walk_fault, defaults_fault}
 use Rattle.shell_words.specs.CreateOptions.{options_of, options_at, cost_at, number_at, number_within, is_power}
 use Rattle.shell_words.specs.CreateCommand.{create_app}

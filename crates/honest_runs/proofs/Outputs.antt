@@ -1,9 +1,9 @@
 -- The output of a run failed only where its status says so, over a directory that gives what was last written.
-use Rattle.std.proofs.Common.{◌≡◌, ◌⊎◌, ◌≤◌, ◌<◌, ◌+◌, ◌-◌, ◌^◌, ◌∙◌, ℕ, Bool, true, false, List, refl, sym, ap, subst, inl, inr, arith}
+use Rattle.std.proofs.Common.{◌≡◌, ◌⊎◌, ◌∙◌, ℕ, Bool, true, false, List, refl, sym, ap, subst, inl, inr}
 use Rattle.std.specs.Prelude.{◌≢◌, Result, OnOk}
 use Rattle.std.specs.declared.option.Option.{Option}
 use Rattle.std.specs.declared.result.Result.TheVariants.{Ok, Err}
-use Rattle.answers.specs.Sessions.{Exchange, violated}
+use Rattle.answers.specs.Sessions.{violated}
 use Rattle.block_id.specs.declared.id.BlockId.{BlockId}
 use Rattle.config_file.specs.declared.error.ConfigError.TheVariants as config_error
 use Rattle.cryfs_setup.specs.Create.{RanCreate}
@@ -14,7 +14,6 @@ use Rattle.mount.specs.Making.{KnowsOnly}
 use Rattle.mount_tower.specs.Making.{root_of}
 use Rattle.mount_tower.specs.declared.error.OpenError.{OpenError}
 use Rattle.mount_tower.specs.declared.error.OpenError.TheVariants as open_error
-use Rattle.outside.specs.Causes.{RoseBy}
 use Rattle.outside.specs.Trace.{Call}
 use Rattle.outside.specs.declared.keeper.Keeper.{Ghosts as KeeperGhosts}
 use Rattle.passwords.specs.Passwords.{PasswordUnread}

@@ -1,8 +1,8 @@
 -- Runs over a directory, a record and an input that are honest, from their contracts and the laws of completeness.
-use Rattle.std.proofs.Common.{◌≡◌, ◌⊎◌, ◌≤◌, ◌<◌, ◌+◌, ◌^◌, ◌++◌, ◌∙◌, ℕ, List, [], ◌∷◌, length, map, refl, sym, ap, subst, inl, inr, arith, length-append}
+use Rattle.std.proofs.Common.{◌≡◌, ◌⊎◌, ◌≤◌, ◌<◌, ◌+◌, ◌^◌, ◌++◌, ◌∙◌, ℕ, List, [], ◌∷◌, length, refl, sym, ap, subst, inl, inr, arith, length-append}
 use Rattle.std.specs.Prelude.{◌≢◌}
 use Rattle.std.specs.declared.option.Option.{Option}
-use Rattle.std.specs.declared.option.Option.TheVariants.{None, Some}
+use Rattle.std.specs.declared.option.Option.TheVariants.{Some}
 use Rattle.std.proofs.lemmas.Option.{same_Some}
 use Rattle.answers.specs.Sessions.{IsSession}
 use Rattle.completeness.specs.Premises.{IsUntroubled, Finds, Leaves}
@@ -16,7 +16,7 @@ use Rattle.fs_model.specs.Tree.{Tree, empty_tree}
 use Rattle.histories.specs.Histories.{HonestRunOpensOnly, quiet}
 use Rattle.line_io.specs.Lines.{first_line}
 use Rattle.line_io.specs.Reading.{total}
-use Rattle.line_io.specs.Streams.{Stream, HasFailed, TookMost}
+use Rattle.line_io.specs.Streams.{Stream, TookMost}
 use Rattle.local_state.specs.Record.{PlainState}
 use Rattle.memory_outside.specs.Keepers.{KeeperState}
 use Rattle.memory_outside.specs.Vaults.{VaultState}

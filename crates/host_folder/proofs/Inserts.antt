@@ -1,5 +1,5 @@
 -- A folder's tree with one row set.
-use Rattle.std.proofs.Common.{◌≡◌, inl, inr, cond, refl, sym, ◌∙◌, ap}
+use Rattle.std.proofs.Common.{◌≡◌, inl, inr, cond, sym, ◌∙◌, ap}
 use Rattle.std.specs.Prelude.{Some}
 use Rattle.std.specs.FinMap.{get, insert, get-insert, same_map}
 use Rattle.fs_model.proofs.TreeLemmas.{path_total, path_exact, path_split, path_same, apart}

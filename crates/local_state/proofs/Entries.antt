@@ -11,7 +11,8 @@ use Rattle.local_state.specs.Record.{ListEntry, flag, name_bytes, change_bytes, 
 use Rattle.byte_fields.specs.Fields.{IsBytes, front_at, number_at}
 use Rattle.byte_fields.proofs.Fields.{Takes, Takes-then, front_takes, front_again, wide32, wide64, number_takes, number_again}
 use Rattle.local_state.specs.Reading.{◌>>=◌, flag_at, name_at, change_at, entry_at, entries_at, list_at}
-use Rattle.local_state.proofs.Fields.{bind_some, guard_some, and_true, some_is, flag_takes}
+use Rattle.local_state.proofs.Fields.{bind_some, guard_some, some_is, flag_takes}
+use Rattle.block_id.proofs.Conditions.{and_true}
 
 -- ---- names
 

@@ -1,6 +1,6 @@
 -- Steps of a reader, and flags.
 use Rattle.std.proofs.Common.{◌≡◌, ℕ, zero, suc, Bool, true, false, cond, List, [], ◌∷◌, Option, Some, None, refl, ap, subst}
-use Rattle.std.specs.Prelude.{◌&&◌, unwrap_or}
+use Rattle.std.specs.Prelude.{unwrap_or}
 use Rattle.byte_fields.specs.Fields.{IsBytes}
 use Rattle.byte_fields.proofs.Fields.{Takes}
 use Rattle.local_state.specs.Record.{flag}
@@ -24,10 +24,6 @@ some_is x y e = ap (λ o. unwrap_or o x) e
 pub guard_some : {A : Type 0} (b : Bool) (x y : A) → cond b (Some x) None ≡ Some y → (b ≡ true) × (x ≡ y)
 guard_some true x y e = (refl, some_is x y e)
 guard_some false x y e = absurd cc
-
-pub and_true : (a b : Bool) → (a && b) ≡ true → (a ≡ true) × (b ≡ true)
-and_true true b e = (refl, e)
-and_true false b e = absurd cc
 
 -- ---- flags
 

@@ -19,9 +19,10 @@ use Rattle.local_state.specs.Record.{PlainState, ListEntry, plain_record, magic_
 use Rattle.byte_fields.specs.Fields.{IsBytes, front_at, number_at}
 use Rattle.byte_fields.proofs.Fields.{IsBytes-drop, Takes, Takes-then, front_takes, front_again, wide32, number_takes, number_again}
 use Rattle.local_state.specs.Reading.{◌>>=◌, Gives, flag_at, form_at, least_at, head_at, table_at, list_at, record_at}
-use Rattle.local_state.proofs.Fields.{IsBytes-rest, and_true, bind_some, guard_some, some, some_is, flag_takes, flag_again}
+use Rattle.local_state.proofs.Fields.{IsBytes-rest, bind_some, guard_some, some, some_is, flag_takes, flag_again}
 use Rattle.local_state.proofs.Tables.{table_takes, table_again, true_ltb}
 use Rattle.local_state.proofs.Entries.{list_takes, list_again}
+use Rattle.block_id.proofs.Conditions.{and_true}
 
 -- ---- what stands first
 

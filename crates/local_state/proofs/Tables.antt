@@ -26,7 +26,8 @@ use Rattle.byte_fields.proofs.Fields.{Takes, Takes-then, front_takes, front_agai
 use Rattle.local_state.specs.Reading.{◌>>=◌, flag_at, known_at, lives_at, table_at}
 use Rattle.local_state.proofs.Fitting.{fit_set, fit_empty}
 use Rattle.local_state.proofs.Loops.{below_then, AboveZero, above_zero, above_next, next_fits}
-use Rattle.local_state.proofs.Fields.{bind_some, guard_some, and_true, some_is, flag_takes, flag_again}
+use Rattle.local_state.proofs.Fields.{bind_some, guard_some, some_is, flag_takes, flag_again}
+use Rattle.block_id.proofs.Conditions.{and_true}
 
 -- ---- one known block
 

@@ -1,8 +1,8 @@
 -- A folder's tree with one row more, or another.
-use Rattle.std.proofs.Common.{◌≡◌, inl, inr, ℕ, ◌+◌, ◌-◌, ◌≤◌, Bool, true, false, cond, List, [], ◌∷◌, ◌++◌, length, take, refl, sym, ◌∙◌, ap, subst, arith, Bor}
+use Rattle.std.proofs.Common.{◌≡◌, inl, inr, ℕ, ◌+◌, ◌-◌, ◌≤◌, Bool, true, false, List, [], ◌∷◌, ◌++◌, length, take, refl, sym, ◌∙◌, ap, subst, arith, Bor}
 use Rattle.std.specs.Prelude.{is_some, Some, None, IfSome, IsTrue, All, ◌||◌, not, option_map}
 use Rattle.std.proofs.lemmas.List.{take-append-le, take_all, length-append, get_or_push}
-use Rattle.std.specs.FinMap.{get, insert, empty, get-insert, get-empty, same_map}
+use Rattle.std.specs.FinMap.{get, insert, empty, get-empty, same_map}
 use Rattle.std.specs.declared.option.Option.{Option}
 use Rattle.fs_model.specs.declared.attr.Kind.{Kind}
 use Rattle.fs_model.specs.declared.attr.Kind.TheVariants.{Directory, File, Link}
@@ -10,7 +10,7 @@ use Rattle.fs_model.specs.Fitting.{is_target}
 use Rattle.fs_model.specs.Names.{IsName}
 use Rattle.fs_model.specs.Step.{by_kind}
 use Rattle.fs_model.specs.Tree.{path_cmp, empty_tree, is_root, root_row, upward}
-use Rattle.fs_model.proofs.TreeLemmas.{path_total, path_exact, path_split, path_same, apart}
+use Rattle.fs_model.proofs.TreeLemmas.{path_total, path_exact, path_split}
 use Rattle.tree_rules.proofs.PathLemmas.{not_root}
 use Rattle.host_folder.specs.Folders.{HostRow, HostPath, HostTree, IsHostTree, HasTarget, directory_row}
 use Rattle.host_folder.proofs.Inserts.{here, other}

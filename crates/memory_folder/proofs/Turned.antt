@@ -1,17 +1,15 @@
 -- A tree's rows by paths from the root on.
-use Rattle.std.proofs.Common.{◌≡◌, inl, inr, ℕ, Bool, true, false, cond, List, [], ◌∷◌, ◌++◌, map, refl, sym, ◌∙◌, ap, subst}
-use Rattle.std.specs.Prelude.{T, reverse, ◌&&◌, Some, None}
+use Rattle.std.proofs.Common.{◌≡◌, inl, inr, ℕ, Bool, true, false, cond, List, [], ◌∷◌, ◌++◌, map, refl, sym, ◌∙◌, ap}
+use Rattle.std.specs.Prelude.{reverse, Some, None}
 use Rattle.std.proofs.lemmas.List.{reverse-append, reverse-reverse}
-use Rattle.std.specs.FinMap.{get, find, entries, insert, from_entries, is_sorted, get-from_entries, get-entries, get-insert, same_map, entries_sorted}
-use Rattle.std.specs.FinMap.Entries.{below_all}
-use Rattle.std.specs.Ordering.{eq_by_cmp, is_lt}
+use Rattle.std.specs.FinMap.{get, find, entries, insert, get-from_entries, get-entries, get-insert, same_map}
 use Rattle.std.specs.declared.option.Option.{Option}
 use Rattle.std.specs.Option.{IsSome}
 use Rattle.fs_model.specs.declared.attr.Kind.{Kind}
 use Rattle.fs_model.specs.declared.reply.ListRow.{ListRow}
 use Rattle.fs_model.specs.Step.{list_row}
 use Rattle.fs_model.specs.Tree.{Path, Row, Tree, name_cmp, path_cmp, same_path, upward, children}
-use Rattle.fs_model.proofs.TreeLemmas.{path_total, path_exact, path_split, path_same, apart, get-children}
+use Rattle.fs_model.proofs.TreeLemmas.{path_total, path_exact, path_split, path_same, apart}
 use Rattle.host_folder.specs.Folders.{HostRow, HostPath, row_pair, kind_in}
 use Rattle.host_folder.proofs.Listings.{row_kind, rows_each as listed_each}
 use Rattle.memory_folder.specs.Told.{host_row, turned, told_by}

@@ -1,5 +1,5 @@
 -- An answer where nothing was done, and one whose reply finds no memory.
-use Rattle.std.proofs.Common.{◌≡◌, ◌≢◌, ◌⊎◌, ◌||◌, ◌&&◌, ℕ, Bool, true, false, [], refl, sym, ap, subst, ◌∙◌, inl, inr, arith}
+use Rattle.std.proofs.Common.{◌≡◌, ◌≢◌, ◌⊎◌, ◌||◌, ℕ, Bool, true, false, [], refl, sym, ap, subst, ◌∙◌, inl, inr, arith}
 use Rattle.std.specs.Prelude.{Ok, Err, IfOk, IfErr}
 use Rattle.block_id.specs.declared.fail.Why.{Why}
 use Rattle.fs_model.specs.declared.command.Command.{Command}
@@ -32,6 +32,7 @@ use Rattle.tree_commands.specs.Sparing.{OnWriteInside}
 use Rattle.mount_core.specs.Sparing.{FewRaised}
 use Rattle.mount_core.specs.Standing.{Left}
 use Rattle.session_saver.specs.Saving.{world}
+use Rattle.block_id.proofs.Conditions.{and_false}
 
 -- an answer that says nothing: of what was asked only that nothing was done
 abbrev IsNo : Answer → Type 0
@@ -49,10 +50,6 @@ memory_not_refused e = subst IsNotRefused e tt
 
 reply_not_refused : (reply : Reply) → ◌≡◌ {A = Answer} (Replied reply) Refused → ⊥
 reply_not_refused reply e = subst IsNotRefused e tt
-
-and_false : (b : Bool) → (b && false) ≡ false
-and_false true = refl
-and_false false = refl
 
 memory_not_synced : (asked : Asked) → is_synced asked Memory ≡ false
 memory_not_synced (Ok command) = and_false (is_sync command)

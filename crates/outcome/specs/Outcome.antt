@@ -38,7 +38,7 @@ on_verdict (Violation (AheadVersion i j)) P Q f h = f _ h
 on_verdict (Violation Structure) P Q f h = tt
 
 -- a count that stayed, and then what a failure leaves
-still : (e : Fail) (a b c : ℕ) → b ≡ a → UnlessFault e (c ≡ b) → UnlessFault e (c ≡ a)
+pub still : (e : Fail) (a b c : ℕ) → b ≡ a → UnlessFault e (c ≡ b) → UnlessFault e (c ≡ a)
 still Memory a b c first h = h ∙ first
 still Fault a b c first h = tt
 still (Violation why) a b c first h = h ∙ first

@@ -1,20 +1,20 @@
 -- A row of a tree that is made in a folder, by its kind.
-use Rattle.std.proofs.Common.{◌≡◌, inl, inr, ◌⊎◌, ℕ, List, [], ◌++◌, length, refl, sym, ◌∙◌, ap, subst, append-nil}
-use Rattle.std.specs.Prelude.{Some, OnOk}
+use Rattle.std.proofs.Common.{◌≡◌, inl, inr, ◌⊎◌, ℕ, List, [], refl, sym, ◌∙◌, ap, subst, append-nil}
+use Rattle.std.specs.Prelude.{Some}
 use Rattle.std.specs.FinMap.{get}
 use Rattle.std.specs.declared.option.Option.{Option}
 use Rattle.std.specs.declared.result.Result.{Result}
 use Rattle.std.specs.declared.result.Result.TheVariants.{Ok, Err}
 use Rattle.fs_model.specs.declared.attr.Kind.{Kind}
 use Rattle.fs_model.specs.declared.attr.Kind.TheVariants.{Directory, File, Link}
-use Rattle.host_folder.specs.Folders.{HostRow, HostPath, HostTree, IsHostTree, IsMade, directory_row, kind_in}
+use Rattle.host_folder.specs.Folders.{HostPath, HostTree, IsHostTree, IsMade, directory_row, kind_in}
 use Rattle.copy_rules.specs.declared.copied.Totals.{Totals}
 use Rattle.copy_rules.specs.Questions.{Asking, LawfulAsker}
 use Rattle.copy_rules.proofs.Asking.{asked_none}
 use Rattle.row_copy.specs.declared.stop.Stop.{Stop}
-use Rattle.row_copy.specs.Reads.{Reads, ReadEnds, NeverAsked, SaysTarget, IsAllOut, IsSoFar, BytesOut, DirectoryOut, IsRowOut, IsRowPart, RowEndsOut, RowOut, with_row}
+use Rattle.row_copy.specs.Reads.{Reads, NeverAsked, SaysTarget, IsAllOut, IsSoFar, BytesOut, DirectoryOut, IsRowOut, IsRowPart, RowOut, with_row}
 use Rattle.row_copy.proofs.ByKind.{row_of}
-use Rattle.row_copy.proofs.Served.{ends_error, ends_never, asked_more}
+use Rattle.row_copy.proofs.Served.{ends_error, ends_never}
 
 -- nothing, or an empty row of this kind
 empty_part : (u : HostTree) (before after : Option HostTree) (host : HostPath) (k : Kind) → kind_in (get u host) ≡ Some k → (after ≡ before) ⊎ IsMade before after host k [] → IsRowPart u before after host

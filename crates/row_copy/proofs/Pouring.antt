@@ -1,16 +1,16 @@
 -- A file of a tree that is put into a folder piece by piece.
-use Rattle.std.proofs.Common.{◌≡◌, inl, inr, ◌⊎◌, ℕ, ◌+◌, ◌<◌, ◌≤◌, List, [], ◌∷◌, ◌++◌, length, take, drop, refl, sym, ◌∙◌, ap, subst, arith, append-nil, append_assoc}
+use Rattle.std.proofs.Common.{◌≡◌, inl, inr, ◌⊎◌, ℕ, ◌+◌, ◌<◌, ◌≤◌, List, [], ◌++◌, length, take, drop, refl, sym, ◌∙◌, ap, subst, arith, append_assoc}
 use Rattle.std.specs.Prelude.{Some, None}
 use Rattle.std.specs.FinMap.{get, insert}
 use Rattle.std.specs.declared.option.Option.{Option}
 use Rattle.std.specs.declared.result.Result.TheVariants.{Ok, Err}
-use Rattle.std.proofs.lemmas.List.{length-take, length-append, take_all, take-append-drop, drop_at, drop_all}
+use Rattle.std.proofs.lemmas.List.{length-take, length-append, take_all, take-append-drop, drop_at}
 use Rattle.std.proofs.lemmas.Option.{same_Some}
 use Rattle.fs_model.specs.declared.attr.Kind.TheVariants.{File}
-use Rattle.host_folder.specs.Folders.{HostRow, HostPath, HostTree, IsMade, IsAppended, kind_in}
+use Rattle.host_folder.specs.Folders.{HostRow, HostPath, HostTree, IsMade, IsAppended}
 use Rattle.host_folder.proofs.Inserts.{here, again}
-use Rattle.copy_rules.specs.Exporting.{AreServed, IsRead, Tells}
-use Rattle.copy_rules.specs.Questions.{Question, Asking, LawfulAsker}
+use Rattle.copy_rules.specs.Exporting.{IsRead}
+use Rattle.copy_rules.specs.Questions.{Asking, LawfulAsker}
 use Rattle.copy_rules.proofs.Asking.{asked_none}
 use Rattle.row_copy.specs.declared.stop.Stop.{Stop}
 use Rattle.row_copy.specs.declared.stop.Stop.TheVariants as stop

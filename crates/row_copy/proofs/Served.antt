@@ -1,14 +1,12 @@
 -- What one question of an export gives, and questions one after the other.
-use Rattle.std.proofs.Common.{◌≡◌, ℕ, ◌≤◌, List, [], ◌∷◌, ◌++◌, refl, sym, ◌∙◌, ap, subst, append_assoc}
-use Rattle.std.specs.Prelude.{IfOk, OnOk, Some, None, IsTrue, ◌↔◌, false}
-use Rattle.std.specs.declared.option.Option.{Option}
+use Rattle.std.proofs.Common.{◌≡◌, ℕ, List, [], ◌∷◌, ◌++◌, refl, sym, ◌∙◌, ap, subst, append_assoc}
+use Rattle.std.specs.Prelude.{Some, None, IsTrue}
 use Rattle.std.specs.declared.result.Result.{Result}
 use Rattle.std.specs.declared.result.Result.TheVariants.{Ok, Err}
 use Rattle.fs_model.specs.declared.command.Command.{Command}
 use Rattle.fs_model.specs.declared.command.Command.TheVariants as command
 use Rattle.fs_model.specs.declared.error.FsError.{FsError}
 use Rattle.fs_model.specs.declared.error.FsError.TheVariants.{Invalid}
-use Rattle.fs_model.specs.declared.reply.ListRow.{ListRow}
 use Rattle.fs_model.specs.declared.reply.Reply.{Reply}
 use Rattle.fs_model.specs.declared.reply.Reply.TheVariants.{Done, Rows, Info, Target, Content, Error}
 use Rattle.fs_model.specs.Fitting.{is_target}
@@ -20,8 +18,8 @@ use Rattle.copy_rules.specs.Questions.{Question, Asking, LawfulAsker, Asked, Are
 use Rattle.copy_rules.proofs.Asking.{asked_none, asked_then}
 use Rattle.row_copy.specs.declared.stop.Stop.{Stop}
 use Rattle.row_copy.specs.declared.stop.Stop.TheVariants as stop
-use Rattle.row_copy.specs.Reads.{OneRead, Reads, ReadEnds, NeverAsked, SaysRows, SaysPiece, SaysTarget}
-use Rattle.row_copy.specs.Rows.{NeverHost, StopsBy, refusal}
+use Rattle.row_copy.specs.Reads.{OneRead, Reads, ReadEnds, NeverAsked, SaysPiece, SaysTarget}
+use Rattle.row_copy.specs.Rows.{StopsBy, refusal}
 use Rattle.row_copy.proofs.Joining.{one, is_refused}
 
 pub served_append : (qs rs : List Question) → AreServed qs → AreServed rs → AreServed (qs ++ rs)

@@ -17,11 +17,7 @@ use Rattle.std.specs.FinMap.{find, is_sorted}
 use Rattle.std.specs.FinMap.Entries.{put, by_order, below_all, where_key}
 use Rattle.fs_model.proofs.TreeLemmas.{left_T, right_T}
 use Rattle.row_table.specs.Sorted.{IsElementAt, IsGap}
-
-less_is : (o : Ordering) → T (is_lt o) → o ≡ Less
-less_is Less h = refl
-less_is Equal h = absurd h
-less_is Greater h = absurd h
+use Rattle.block_id.proofs.Orders.{less_so}
 
 -- the other way round
 module _ {K : Type 0} {R : K → K → Ordering} (o : IsTotalOrder R) where
@@ -40,12 +36,12 @@ module _ {K X : Type 0} {R : K → K → Ordering} (o : IsTotalOrder R) where
   pub find_below : (p : K) (es : List (K × X)) → T (below_all R p es) → find R p es ≡ None
   find_below p [] h = refl
   find_below p (e ∷ es) h =
-      find_past p e es Less (less_is (R p e.0) (left_T (is_lt (R p e.0)) (below_all R p es) h)) refl
+      find_past p e es Less (less_so (R p e.0) (left_T (is_lt (R p e.0)) (below_all R p es) h)) refl
       ∙ find_below p es (right_T (is_lt (R p e.0)) (below_all R p es) h)
 
   pub below_at : (p : K) (es : List (K × X)) (j : ℕ) (d : K × X) → T (below_all R p es) → j < length es → R p (get_or es j d).0 ≡ Less
   below_at p [] j d h lt = absurd (omega arith)
-  below_at p (e ∷ es) zero d h lt = less_is (R p e.0) (left_T (is_lt (R p e.0)) (below_all R p es) h)
+  below_at p (e ∷ es) zero d h lt = less_so (R p e.0) (left_T (is_lt (R p e.0)) (below_all R p es) h)
   below_at p (e ∷ es) (suc j) d h lt = below_at p es j d (right_T (is_lt (R p e.0)) (below_all R p es) h) (omega arith)
 
   pub head_sorted : (e : K × X) (es : List (K × X)) → T (is_sorted R (e ∷ es)) → T (below_all R e.0 es)
@@ -73,7 +69,7 @@ module _ {K X : Type 0} {R : K → K → Ordering} (o : IsTotalOrder R) where
   where_all : (p : K) (es : List (K × X)) → T (below_all R p es) → where_key R (λ x. not (eq_by_cmp R p x)) es ≡ es
   where_all p [] h = refl
   where_all p (e ∷ es) h =
-      let less = less_is (R p e.0) (left_T (is_lt (R p e.0)) (below_all R p es) h) in
+      let less = less_so (R p e.0) (left_T (is_lt (R p e.0)) (below_all R p es) h) in
       let rest = where_all p es (right_T (is_lt (R p e.0)) (below_all R p es) h) in
       ap (λ r. cond (not (is_eq r)) (e ∷ where_key R (λ x. not (eq_by_cmp R p x)) es) (where_key R (λ x. not (eq_by_cmp R p x)) es)) less
       ∙ ap (λ ys. e ∷ ys) rest

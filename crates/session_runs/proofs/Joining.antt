@@ -1,5 +1,5 @@
 -- One more answer.
-use Rattle.std.proofs.Common.{◌≡◌, ◌⊎◌, ◌≤◌, ◌+◌, ◌^◌, ◌||◌, ◌&&◌, ℕ, Bool, true, false, List, [], ◌∷◌, length, refl, sym, ap, subst, ◌∙◌, inl, inr, arith}
+use Rattle.std.proofs.Common.{◌≡◌, ◌⊎◌, ◌≤◌, ◌+◌, ◌^◌, ◌||◌, ℕ, Bool, true, false, List, [], ◌∷◌, length, refl, sym, ap, subst, ◌∙◌, inl, inr, arith}
 use Rattle.std.specs.Prelude.{Ok, Err}
 use Rattle.std.specs.declared.option.Option.{Option}
 use Rattle.std.proofs.lemmas.Bool.{or_parts}
@@ -29,6 +29,7 @@ use Rattle.session_runs.specs.Passing.{MountKeeps, KeptAfter, LeftAt, PassedTree
 use Rattle.session_runs.proofs.Keeping.{kept_line}
 use Rattle.session_runs.proofs.Still.{rested_none, rested_on}
 use Rattle.session_runs.proofs.Rising.{on_spent, unread_spent, rose_on, spent_on}
+use Rattle.block_id.proofs.Conditions.{and_false}
 
 pub true_is_false : true ≡ false → ⊥
 true_is_false e = cc
@@ -41,10 +42,6 @@ violation_no_fault Spent e = refl
 violation_no_fault FaultDirectory e = refl
 violation_no_fault FaultState e = absurd (true_is_false (sym e))
 violation_no_fault Refused e = refl
-
-and_false : (b : Bool) → (b && false) ≡ false
-and_false true = refl
-and_false false = refl
 
 or_true : (a b : Bool) → b ≡ true → (a || b) ≡ true
 or_true true b e = refl

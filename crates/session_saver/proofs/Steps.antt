@@ -13,14 +13,12 @@ use Rattle.session_saver.specs.Saving.{RepresentsContent, KeptConfigures, Whole,
 use Rattle.session_saver.specs.declared.saver.Saver.{Saver}
 use Rattle.session_saver.specs.declared.saver.SyncError.{SyncError}
 use Rattle.session_saver.specs.declared.saver.SyncError.TheVariants.{Memory, FaultDirectory, FaultState}
+use Rattle.block_id.proofs.Conditions.{no_fewer}
 
 pub true_is_false : true ≡ false → ⊥
 true_is_false e = cc
 
 -- ---- numbers and answers
-
-pub no_fewer : (a b : ℕ) → b ≡ a → a ≤ b
-no_fewer a b e = omega arith
 
 pub memory_directory : IsErrOf {T = Unit} (Err Memory) FaultDirectory → ⊥
 memory_directory is = cc

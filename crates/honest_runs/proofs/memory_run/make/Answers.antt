@@ -1,6 +1,5 @@
-use Rattle.std.proofs.Common.{◌≡◌, ◌⊎◌, ◌∷◌, ◌++◌, ◌∙◌, ℕ, [], map, codes, refl, sym, ap, subst, inl, inr}
-use Rattle.std.specs.Prelude.{◌≢◌}
-use Rattle.std.specs.declared.option.Option.TheVariants.{None, Some}
+use Rattle.std.proofs.Common.{◌≡◌, ◌∷◌, ◌++◌, ◌∙◌, [], map, codes, refl, ap, subst}
+use Rattle.std.specs.declared.option.Option.TheVariants.{Some}
 use Rattle.std.specs.String.{string_bytes}
 use Rattle.completeness.specs.Premises.{IsUntroubled}
 use Rattle.completeness.specs.Setups.{IsBare}
@@ -11,8 +10,6 @@ use Rattle.line_io.specs.Streams.{Stream}
 use Rattle.memory_outside.specs.Vaults.{VaultState}
 use Rattle.mount_tower.specs.Drawing.{drawn}
 use Rattle.mount_tower.specs.Making.{new_settings, root_of}
-use Rattle.outside.specs.Trace.{At}
-use Rattle.run_status.specs.declared.status.Status.TheVariants.{Done}
 use Rattle.session_lines.specs.Driven.{IsUnfailed}
 use Rattle.session_runs.specs.Runs.{outside_of}
 use Rattle.store_api.specs.Durables.{last_told}
@@ -20,9 +17,9 @@ use Rattle.shell_words.specs.Forms.{form_of}
 use Rattle.honest_outside.specs.contracts.honest_keeper.HonestKeeperKeeper.TheImpl as keeper_impl
 use Rattle.honest_outside.specs.contracts.honest_vault.HonestVaultListing.TheImpl as listing_impl
 use Rattle.memory_folder.specs.contracts.memory_folder.MemoryFolderFolder.TheImpl as folder_impl
-use Rattle.honest_runs.specs.Made.{password, HoldsEmptyTree, IsWantOfMemory, outside_in}
+use Rattle.honest_runs.specs.Made.{password, outside_in}
 use Rattle.honest_runs.proofs.Forms.{usual, create_form}
-use Rattle.honest_runs.proofs.Outputs.{create_output, young_of}
+use Rattle.honest_runs.proofs.Outputs.{young_of}
 use Rattle.honest_runs.proofs.Whole.{few, untroubled, short, made_so, unmade}
 use Rattle.honest_runs.proofs.memory_run.make.Goals as goal
 

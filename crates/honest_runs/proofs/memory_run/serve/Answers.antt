@@ -1,6 +1,5 @@
-use Rattle.std.proofs.Common.{◌≡◌, ◌⊎◌, ◌≤◌, ◌∷◌, ◌++◌, ◌∙◌, ℕ, [], map, codes, refl, sym, ap, subst, inl, inr, arith}
-use Rattle.std.specs.Prelude.{◌≢◌}
-use Rattle.std.specs.declared.option.Option.TheVariants.{None, Some}
+use Rattle.std.proofs.Common.{◌≡◌, ◌≤◌, ◌∷◌, ◌++◌, ◌∙◌, [], map, codes, refl, sym, ap, subst, arith}
+use Rattle.std.specs.declared.option.Option.TheVariants.{Some}
 use Rattle.std.specs.String.{string_bytes}
 use Rattle.completeness.specs.Premises.{IsUntroubled, Finds}
 use Rattle.cryfs_shell.specs.Doing.{Did}
@@ -9,15 +8,13 @@ use Rattle.cryfs_shell.specs.Streams.{streams_of}
 use Rattle.fs_model.specs.Tree.{empty_tree}
 use Rattle.line_io.specs.Streams.{Stream}
 use Rattle.memory_outside.specs.Vaults.{VaultState}
-use Rattle.run_status.specs.declared.status.Status.TheVariants.{Done}
 use Rattle.session_lines.specs.Driven.{IsUnfailed}
-use Rattle.session_runs.specs.Runs.{outside_of, lies}
+use Rattle.session_runs.specs.Runs.{lies}
 use Rattle.shell_words.specs.Forms.{form_of}
 use Rattle.honest_outside.specs.contracts.honest_keeper.HonestKeeperKeeper.TheImpl as keeper_impl
 use Rattle.honest_outside.specs.contracts.honest_vault.HonestVaultListing.TheImpl as listing_impl
 use Rattle.memory_folder.specs.contracts.memory_folder.MemoryFolderFolder.TheImpl as folder_impl
-use Rattle.honest_runs.specs.Made.{password, IsWantOfMemory, outside_in}
-use Rattle.honest_runs.specs.Transcript.{IsTranscript}
+use Rattle.honest_runs.specs.Made.{password, outside_in}
 use Rattle.honest_runs.proofs.Forms.{shell_form}
 use Rattle.honest_runs.proofs.Whole.{few, untroubled, short, calm_of, loaded_of, shorter, unserved, transcript}
 use Rattle.honest_runs.proofs.memory_run.serve.Goals as goal

@@ -1,11 +1,12 @@
 use Rattle.std.proofs.Common.{refl}
 use Rattle.std.specs.declared.result.Result.TheVariants.{Ok}
-use Rattle.session_saver.proofs.Steps.{leaves_same, no_fewer, ok_no_error}
+use Rattle.session_saver.proofs.Steps.{leaves_same, ok_no_error}
 use Rattle.session_saver.specs.declared.saver.SyncError.TheVariants.{FaultDirectory, FaultState}
 use Rattle.tree_commands.specs.Showing.{ShowsFiles}
 use Rattle.mount_answering.proofs.Closing.{closes_violated, closes_synced, closes_along, leaves_along}
 use Rattle.mount_answering.proofs.syncing.close.Goals as goal
 use Rattle.mount_answering.proofs.syncing.close.Goals.{then-core, else-core}
+use Rattle.block_id.proofs.Conditions.{no_fewer}
 
 pub returns-clause-leaves : goal.returns-clause-leaves
 returns-clause-leaves g c =

@@ -1,11 +1,12 @@
 use Rattle.std.proofs.Common.{inl, refl, sym, ◌∙◌, arith}
-use Rattle.session_saver.proofs.Steps.{leaves_same, ok_no_error, no_fewer}
+use Rattle.session_saver.proofs.Steps.{leaves_same, ok_no_error}
 use Rattle.session_saver.specs.declared.saver.SyncError.TheVariants.{FaultDirectory, FaultState}
 use Rattle.tree_commands.specs.Showing.{ShowsFiles}
 use Rattle.mount_answering.proofs.Lines.{map_ok, true_is_false}
 use Rattle.mount_answering.proofs.Synced.{config_roomed, roomed}
 use Rattle.mount_answering.proofs.syncing.sync_first.Goals as goal
 use Rattle.mount_answering.proofs.syncing.sync_first.Goals.{then-is_sync-via-then-is_sync, then-is_sync-via-else-is_sync+then-weight-ge-MOST_WAITING}
+use Rattle.block_id.proofs.Conditions.{no_fewer}
 
 pub returns-then-is_sync : goal.returns-then-is_sync
 returns-then-is_sync g c =

@@ -1,9 +1,8 @@
-use Rattle.std.proofs.Common.{◌≡◌, ℕ, List, map, ap, subst, refl}
+use Rattle.std.proofs.Common.{◌≡◌, map, ap, refl}
 use Rattle.std.specs.String.{string_bytes}
 use Rattle.std.specs.declared.option.Option.TheVariants.{Some}
-use Rattle.run_histories.specs.Calls.{IsRunCall}
-use Rattle.session_runs.specs.Runs.{Outside, outside_of}
-use Rattle.program_run.specs.Program.{folder_calls, folder_faults, folder_names, folder_record, at_first, program_call}
+use Rattle.session_runs.specs.Runs.{outside_of}
+use Rattle.program_run.specs.Program.{folder_calls, folder_faults, folder_names, folder_record, at_first}
 use Rattle.real_folders.specs.Adapters.{kept_in}
 use Rattle.program_run.proofs.Written.{wrote}
 use Rattle.real_folders.specs.FolderLog.{calls_of}

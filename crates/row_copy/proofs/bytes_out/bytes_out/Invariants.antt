@@ -1,4 +1,4 @@
-use Rattle.std.proofs.Common.{◌≡◌, ◌≤◌, ◌-◌, ◌^◌}
+use Rattle.std.proofs.Common.{◌≡◌, ◌-◌}
 use Rattle.row_copy.specs.Reads.{IsOutTo}
 use Rattle.row_copy.proofs.bytes_out.bytes_out.Given as goal
 

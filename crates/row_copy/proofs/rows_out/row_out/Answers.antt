@@ -1,4 +1,3 @@
-use Rattle.std.proofs.Common.{refl}
 use Rattle.fs_model.specs.declared.attr.Kind.TheVariants.{Directory, File, Link}
 use Rattle.row_copy.proofs.Exports.{directory_row_out, of_kind}
 use Rattle.row_copy.proofs.rows_out.row_out.Goals as goal

@@ -2,8 +2,9 @@ use Rattle.std.proofs.Common.{◌≡◌, true, false, Some, Err, inl, inr, refl,
 use Rattle.outside.specs.Causes.{UnlessFault}
 use Rattle.outside.specs.Going.{goes_on_stops}
 use Rattle.session_saver.specs.declared.saver.SyncError.TheVariants.{FaultDirectory, FaultState}
-use Rattle.session_saver.proofs.Steps.{no_fewer, memory_directory, memory_state, directory_state, state_directory, ok_no_error, kept_either, kept_record, of_either, any_configures, may_mark, whole_changed, goes_on_written, long_stands, short_stands, short_configures, finishes_long}
+use Rattle.session_saver.proofs.Steps.{memory_directory, memory_state, directory_state, state_directory, ok_no_error, kept_either, kept_record, of_either, any_configures, may_mark, whole_changed, goes_on_written, long_stands, short_stands, short_configures, finishes_long}
 use Rattle.session_saver.proofs.saver.Saver.finish.Goals as goal
+use Rattle.block_id.proofs.Conditions.{no_fewer}
 
 pub returns-in-Err-Failed : goal.returns-in-Err-Failed
 returns-in-Err-Failed g c =

@@ -2,8 +2,9 @@ use Rattle.std.proofs.Common.{◌≡◌, ◌⊎◌, ◌≤◌, true, false, Some
 use Rattle.outside.specs.Causes.{RoseBy}
 use Rattle.outside.specs.Writes.{after_writes}
 use Rattle.session_saver.specs.declared.saver.SyncError.TheVariants.{FaultDirectory, FaultState}
-use Rattle.session_saver.proofs.Steps.{true_is_false, no_fewer, ok_no_error, state_directory, kept_or_new, unwritten_stands, written_is, any_configures, failed_save, kept_or_record, leaves_same, moves_memory, moves_since, moves_stopped, record_after, moves_to, moves_from, finishes_from, syncs_to, long_kept_to, syncs_memory, syncs_on}
+use Rattle.session_saver.proofs.Steps.{true_is_false, ok_no_error, state_directory, kept_or_new, unwritten_stands, written_is, any_configures, failed_save, kept_or_record, leaves_same, moves_memory, moves_since, moves_stopped, record_after, moves_to, moves_from, finishes_from, syncs_to, long_kept_to, syncs_memory, syncs_on}
 use Rattle.session_saver.proofs.saver.Saver.sync.Goals as goal
+use Rattle.block_id.proofs.Conditions.{no_fewer}
 
 pub returns-then-not-self : goal.returns-then-not-self
 returns-then-not-self g c =
