@@ -7,6 +7,7 @@ ghost use Rattle.outside.specs.View.{change_of, list_of};
 ghost use Rattle.outside.specs.Trace.{block};
 ghost use Rattle.sealed_store.specs.Drafts.{sealed_as, sealed_change, sealed_entry, MayBeDraft, AreDrafts};
 ghost use Rattle.sealed_store.specs.Stores.{IsIntact, block_size_of, key_of, cipher_of};
+ghost use Rattle.store_api.specs.Draws.{IsLater};
 ghost use Rattle.block_batch.specs.Entries.{entry_view, entries_of};
 ghost use Rattle.batch_sealing.specs.Sealing.{MaySealAt, MaySeal, IsFileFor, IsMadeOf, stream_after, AreMadeOf};
 ghost use Rattle.held_blocks.specs.Views.{held_of};
@@ -37,6 +38,7 @@ fn draft<V: Vault, C: Sealer, R: Rng>(
     ensures file { IfOk result (λ draft. IsFileFor (held_of C.opens sealed.now state.now) id.now.0 payload.now (R.stream chance.old)
         (sealed_as (C.sealed (cipher_of sealed.now) (key_of sealed.now)) (block_size_of sealed.now) id.now.0 draft.items)) }
     ensures stream { IfOk result (λ _. R.stream chance.new ≡ stream_after (Some payload.now) (R.stream chance.old)) }
+    ensures later { IsLater (R.stream chance.old) (R.stream chance.new) }
 {
     let mut iv = [0; 16];
     chance.fill_bytes(&mut iv);
@@ -61,6 +63,7 @@ fn draft_entry<V: Vault, C: Sealer, R: Rng>(
         (entry_view entry.now).0 (entry_view entry.now).1 (R.stream chance.old)
         (sealed_change (C.sealed (cipher_of sealed.now) (key_of sealed.now)) (block_size_of sealed.now) (block (entry_view entry.now).0) (change_of change))) }
     ensures stream { IfOk result (λ _. R.stream chance.new ≡ stream_after (entry_view entry.now).1 (R.stream chance.old)) }
+    ensures later { IsLater (R.stream chance.old) (R.stream chance.new) }
 {
     match &entry.1 {
         BatchChange::Payload(payload) => {
@@ -86,6 +89,7 @@ pub fn draft_all<V: Vault, C: Sealer, R: Rng>(
     ensures drafts { IfOk result (λ changes. AreDrafts (block_size_of sealed.now) (list_of changes.items)) }
     ensures made { IfOk result (λ changes. AreMadeOf (held_of C.opens sealed.now state.now) (entries_of entries.now) (R.stream chance.old)
         (map (sealed_entry (C.sealed (cipher_of sealed.now) (key_of sealed.now)) (block_size_of sealed.now)) (list_of changes.items)) (R.stream chance.new)) }
+    ensures later { IsLater (R.stream chance.old) (R.stream chance.new) }
 {
     let mut changes = Vec::new(alloc);
     for entry in entries {

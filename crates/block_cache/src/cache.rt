@@ -9,6 +9,7 @@ ghost use Rattle.outcome.specs.Meanings.{IsOfBlocks};
 ghost use Rattle.outcome.specs.Outcome.{Outcome};
 ghost use Rattle.lru.specs.LruCache.{lru_cache};
 ghost use Rattle.store_api.specs.Content.{Id, SameIds, SameContent};
+ghost use Rattle.store_api.specs.Draws.{IsLater};
 ghost use Rattle.store_api.specs.Lists.{MayConfigure, with_config};
 ghost use Rattle.store_api.specs.Durables.{MayBeLeast};
 ghost use Rattle.store_api.specs.Holdings.{FitsStore, Changed, IsSpent, Stays};
@@ -152,6 +153,7 @@ impl<S: BlocksMut> BlocksMut for BlockCache<S> {
         ensures changed { OnOk result (Changed ⟦<BlockCache<S> as Blocks>⟧.meanings ⟦<BlockCache<S> as Blocks>⟧.holdings self.old self.new batch.now) }
         ensures applied { OnOk result (S.applied self.old.store self.new.store batch.now) }
         ensures drawn { OnOk result (S.drawn self.old.store self.new.store batch.now (R.stream chance.old) (R.stream chance.new)) }
+        ensures later { OnErr result (IsLater (R.stream chance.old) (R.stream chance.new)) }
         ensures nothing { OnErr result (S.applied self.old.store self.new.store fin.empty) }
         ensures forgeries { ⟦<BlockCache<S> as Blocks>⟧.meanings.forgeries self.new ≡ ⟦<BlockCache<S> as Blocks>⟧.meanings.forgeries self.old }
         ensures lies { ⟦<BlockCache<S> as Blocks>⟧.meanings.lies self.new ≡ ⟦<BlockCache<S> as Blocks>⟧.meanings.lies self.old }

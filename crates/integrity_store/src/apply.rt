@@ -5,6 +5,7 @@ ghost use Rattle.std.specs.List.{AllByRecursion};
 ghost use Rattle.std.specs.FinMap as fin;
 ghost use Rattle.sealed_store.specs.Stores.{IsIntact, block_size_of, key_of, cipher_of};
 ghost use Rattle.block_batch.specs.Entries.{entries_of};
+ghost use Rattle.store_api.specs.Draws.{IsLater};
 ghost use Rattle.store_api.specs.Holdings.{FitsStore, Changed, IsSpent};
 ghost use Rattle.batch_sealing.specs.Applied.{applied_by};
 ghost use Rattle.batch_sealing.specs.Draws.{AreDrawn};
@@ -37,6 +38,7 @@ impl<V: Vault, C: Sealer> IntegrityStore<V, C> {
         ensures room { OnOk result (count_new_in self.new.state.known.lives (entries_of entries.now) ≤ self.new.state.known.spare) }
         ensures listed { OnOk result (IsListed (held_by C.opens self.old)
             (held_by C.opens self.new) (entries_of entries.now) (R.stream chance.old) (R.stream chance.new)) }
+        ensures later { IsLater (R.stream chance.old) (R.stream chance.new) }
         ensures few { OnOk result (length self.new.sealed.vault.list < 2 ^ 64) }
         ensures held { OnErr result (held_by C.opens self.new
             ≡ held_by C.opens self.old) }
@@ -66,6 +68,7 @@ impl<V: Vault, C: Sealer> BlocksMut for IntegrityStore<V, C> {
         ensures changed { OnOk result (Changed ⟦<IntegrityStore<V, C> as Blocks>⟧.meanings ⟦<IntegrityStore<V, C> as Blocks>⟧.holdings self.old self.new batch.now) }
         ensures applied { OnOk result (applied_by (held_by C.opens) (λ s. V.trace s.sealed.vault.vault) self.old self.new batch.now) }
         ensures drawn { OnOk result (AreDrawn batch.now (held_by C.opens self.new).list (R.stream chance.old) (R.stream chance.new)) }
+        ensures later { OnErr result (IsLater (R.stream chance.old) (R.stream chance.new)) }
         ensures nothing { OnErr result (applied_by (held_by C.opens) (λ s. V.trace s.sealed.vault.vault) self.old self.new fin.empty) }
         ensures forgeries { ⟦<IntegrityStore<V, C> as Blocks>⟧.meanings.forgeries self.new ≡ ⟦<IntegrityStore<V, C> as Blocks>⟧.meanings.forgeries self.old }
         ensures lies { ⟦<IntegrityStore<V, C> as Blocks>⟧.meanings.lies self.new ≡ ⟦<IntegrityStore<V, C> as Blocks>⟧.meanings.lies self.old }

@@ -1,3 +1,4 @@
 pub mod Rising
 mod Overlays
 pub mod Crowds
+pub mod Draws

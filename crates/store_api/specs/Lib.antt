@@ -1,4 +1,5 @@
 pub mod Content
+pub mod Draws
 pub mod Holdings
 pub mod Durables
 pub mod Lists

@@ -8,6 +8,7 @@ ghost use Rattle.block_id.specs.Fresh.{IsFirstFree};
 ghost use Rattle.rand_core.specs.Stream.{Stream};
 ghost use Rattle.std.specs.FinMap as fin;
 ghost use Rattle.store_api.specs.Content.{Id, Changes};
+ghost use Rattle.store_api.specs.Draws.{IsLater};
 ghost use Rattle.store_api.specs.Loads.{LoadAnswer, answer_of};
 ghost use Rattle.store_api.specs.Holdings.{Holdings, Steady, Stays, FitsStore, Changed, IsSpent, IsFew, is_free, has_id};
 
@@ -84,6 +85,7 @@ pub trait BlocksMut: Blocks {
         ensures changed { OnOk result (Changed Self.meanings Self.holdings self.old self.new batch.now) }
         ensures applied { OnOk result (applied self.old self.new batch.now) }
         ensures drawn { OnOk result (drawn self.old self.new batch.now (R.stream chance.old) (R.stream chance.new)) }
+        ensures later { OnErr result (IsLater (R.stream chance.old) (R.stream chance.new)) }
         ensures nothing { OnErr result (applied self.old self.new fin.empty) }
         ensures forgeries { Self.meanings.forgeries self.new ≡ Self.meanings.forgeries self.old }
         ensures lies { Self.meanings.lies self.new ≡ Self.meanings.lies self.old }

@@ -7,6 +7,7 @@ ghost use Rattle.std.specs.declared.result.Result.TheVariants.{Err};
 ghost use Rattle.std.specs.FinMap as fin;
 ghost use Rattle.rand_core.specs.Stream.{fill_bytes};
 ghost use Rattle.block_id.specs.Fresh.{IsFirstFree};
+ghost use Rattle.store_api.specs.Draws.{IsLater};
 ghost use Rattle.store_api.specs.Holdings.{FitsStore, Changed, MayGet, IsFew, IsSpent, Stays, is_free};
 ghost use Rattle.store_api.specs.Loads.{LoadsOver, loads_over, answer_of};
 ghost use Rattle.store_api.specs.Overlay.{without, meanings_over, holdings_over, lawful_over, steady_over};
@@ -99,6 +100,7 @@ impl<S: Blocks> Tx<S> {
         ensures changed { OnOk result (Changed S.Blocks.meanings S.Blocks.holdings self.old.store self.new.store self.old.overlay) }
         ensures applied { OnOk result (S.applied self.old.store self.new.store self.old.overlay) }
         ensures drawn { OnOk result (S.drawn self.old.store self.new.store self.old.overlay (R.stream chance.old) (R.stream chance.new)) }
+        ensures later { OnErr result (IsLater (R.stream chance.old) (R.stream chance.new)) }
         ensures nothing { OnErr result (S.applied self.old.store self.new.store fin.empty) }
         ensures emptied { OnOk result (self.new.overlay ≡ fin.empty) }
         ensures forgeries { S.Blocks.meanings.forgeries self.new.store ≡ S.Blocks.meanings.forgeries self.old.store }

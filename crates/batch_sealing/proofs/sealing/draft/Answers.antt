@@ -11,6 +11,7 @@ use Rattle.block_records.specs.BlockRecords.{Record, record_of, record_in}
 use Rattle.held_blocks.specs.Held.{Held, own}
 use Rattle.batch_sealing.specs.Sealing.{drawn_iv, IsFileFor}
 use Rattle.held_blocks.specs.Views.{held_of}
+use Rattle.store_api.proofs.Draws.{later_filled}
 use Rattle.batch_sealing.proofs.sealing.draft.Goals as goal
 
 from_one : (life : Option Life) → 0 < raised_version life
@@ -45,3 +46,10 @@ returns-clause-file g c =
     let reads = reads_as held.size plain (own held c.args.id.now.0 c.next_version-version.result c.args.payload.now) size c.in_ok-plain.ensures.record_of in
     file_for held (g.C.Sealer.sealed (cipher_of sealed) (key_of sealed)) c.args.id.now.0 c.args.payload.now plain _ c.next_version-version.result (g.R.Rng.stream c.args.chance.now) c.draft.result c.next_version-version.ensures
     (ap (λ (x : List ℕ × Stream). x.0) c.fill_bytes.ensures) reads c.draft.ensures
+
+-- the one fill, whatever comes after it
+pub returns-in_err-plain-clause-later : goal.returns-in_err-plain-clause-later
+returns-in_err-plain-clause-later g c = later_filled 16 c.fill_bytes.new.dst (g.R.Rng.stream c.args.chance.now) (g.R.Rng.stream c.fill_bytes.new.self) c.fill_bytes.ensures
+
+pub returns-clause-later : goal.returns-clause-later
+returns-clause-later g c = later_filled 16 c.fill_bytes.new.dst (g.R.Rng.stream c.args.chance.now) (g.R.Rng.stream c.fill_bytes.new.self) c.fill_bytes.ensures

@@ -2,6 +2,7 @@ use Rattle.std.proofs.Common.{map, refl}
 use Rattle.outside.specs.View.{list_of}
 use Rattle.sealed_store.specs.Drafts.{sealed_entry}
 use Rattle.sealed_store.specs.Stores.{block_size_of, key_of, cipher_of}
+use Rattle.store_api.proofs.Draws.{later_chained}
 use Rattle.held_blocks.specs.Views.{held_of}
 use Rattle.batch_sealing.proofs.Sealed.{drafts_next, may_next, made_next, made_all}
 use Rattle.batch_sealing.proofs.sealing.draft_all.Goals as goal
@@ -22,6 +23,7 @@ loop-entry-preserved g c =
       drafts = drafts_next size c.loop-entry.changes.items c.push.new.self.items _ c.in_ok-push.ensures.items c.loop-entry.invariant.drafts c.in_ok-change.ensures.draft;
       made = made_next image held c.args.entries.now c.loop-entry.entry-index c.entry-item.result (g.R.Rng.stream c.args.chance.now) (g.R.Rng.stream c.loop-entry.chance) (g.R.Rng.stream c.draft_entry.new.chance)
           c.loop-entry.changes.items c.push.new.self.items _ c.loop-entry-test.true c.entry-item.is c.in_ok-push.ensures.items refl c.in_ok-change.ensures.change c.in_ok-change.ensures.stream c.loop-entry.invariant.made;
+      later = later_chained (g.R.Rng.stream c.args.chance.now) (g.R.Rng.stream c.loop-entry.chance) (g.R.Rng.stream c.draft_entry.new.chance) c.loop-entry.invariant.later c.draft_entry.ensures.later;
     }
 
 pub returns-clause-made : goal.returns-clause-made
@@ -30,3 +32,9 @@ returns-clause-made g c =
     let held = held_of g.C.Sealer.opens sealed c.args.state.now in
     let image = sealed_entry (g.C.Sealer.sealed (cipher_of sealed) (key_of sealed)) (block_size_of sealed) in
     made_all held c.args.entries.now c.loop-entry.entry-index (g.R.Rng.stream c.args.chance.now) (g.R.Rng.stream c.loop-entry.chance) (map image (list_of c.loop-entry.changes.items)) c.loop-entry-test.false c.loop-entry.invariant.made
+
+pub returns-in_err-change-clause-later : goal.returns-in_err-change-clause-later
+returns-in_err-change-clause-later g c = later_chained (g.R.Rng.stream c.args.chance.now) (g.R.Rng.stream c.loop-entry.chance) (g.R.Rng.stream c.draft_entry.new.chance) c.loop-entry.invariant.later c.draft_entry.ensures.later
+
+pub returns-in_err-push-clause-later : goal.returns-in_err-push-clause-later
+returns-in_err-push-clause-later g c = later_chained (g.R.Rng.stream c.args.chance.now) (g.R.Rng.stream c.loop-entry.chance) (g.R.Rng.stream c.draft_entry.new.chance) c.loop-entry.invariant.later c.draft_entry.ensures.later

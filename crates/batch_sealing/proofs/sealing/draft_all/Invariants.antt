@@ -3,6 +3,7 @@ use Rattle.std.specs.List.{AllByRecursion}
 use Rattle.outside.specs.View.{list_of}
 use Rattle.sealed_store.specs.Drafts.{sealed_entry, AreDrafts}
 use Rattle.sealed_store.specs.Stores.{block_size_of, key_of, cipher_of}
+use Rattle.store_api.specs.Draws.{IsLater}
 use Rattle.block_batch.specs.Entries.{entries_of}
 use Rattle.batch_sealing.specs.Sealing.{MaySeal}
 use Rattle.held_blocks.specs.Views.{held_of}
@@ -15,4 +16,5 @@ invariant-loop-entry g l = record {
   drafts : AreDrafts (block_size_of l.sealed) (list_of l.changes.items);
   made : MadeSoFar (held_of g.C.Sealer.opens l.sealed l.state) l.entries l.entry-index (g.R.Rng.stream l.initial.chance) (g.R.Rng.stream l.chance)
       (map (sealed_entry (g.C.Sealer.sealed (cipher_of l.sealed) (key_of l.sealed)) (block_size_of l.sealed)) (list_of l.changes.items));
+  later : IsLater (g.R.Rng.stream l.initial.chance) (g.R.Rng.stream l.chance);
 }
