@@ -1,16 +1,16 @@
 // A store of blocks with a cache.
-ghost use Rattle.std.specs.Prelude.{◌≡◌, ◌≤◌, ◌↔◌, ℕ, true, false, List, [], OnOk, OnErr, IfOk, IfErr, IfSome, length, is_some};
+ghost use Rattle.std.specs.Prelude.{◌≡◌, ◌≤◌, ◌↔◌, [], OnOk, OnErr, IfOk, IfErr, IfSome, length, is_some};
 ghost use Rattle.std.specs.declared.result.Result.TheVariants.{Err};
 ghost use Rattle.std.specs.FinMap as fin;
 ghost use Rattle.outside.specs.Causes.{GetHasCause};
 ghost use Rattle.outside.specs.View.{bytes_of};
-ghost use Rattle.outside.specs.Writes.{after_writes, StopsAt};
 ghost use Rattle.outcome.specs.Meanings.{IsOfBlocks};
 ghost use Rattle.outcome.specs.Outcome.{Outcome};
 ghost use Rattle.lru.specs.LruCache.{lru_cache};
-ghost use Rattle.store_api.specs.Content.{Id, SameIds, SameContent};
+ghost use Rattle.store_api.specs.Content.{Id};
 ghost use Rattle.store_api.specs.Draws.{IsLater};
-ghost use Rattle.store_api.specs.Lists.{MayConfigure, with_config};
+ghost use Rattle.store_api.specs.Leaving.{StaysMeant, WritesList, WrittenRecords, ListsConfig, ConfigRecords, SetsLeast};
+ghost use Rattle.store_api.specs.Lists.{MayConfigure};
 ghost use Rattle.store_api.specs.Durables.{MayBeLeast};
 ghost use Rattle.store_api.specs.Holdings.{FitsStore, Changed, IsSpent, Stays};
 ghost use Rattle.store_api.specs.Loads.{answer_of};
@@ -198,19 +198,10 @@ impl<S: Durable> Durable for BlockCache<S> {
     fn put_config(&mut self, alloc: Global, bytes: Vec<u8>) -> Result<(), Memory>
         requires intact { ⟦<BlockCache<S> as Blocks>⟧.meanings.intact self.old }
         requires bytes { MayConfigure bytes.items }
-        ensures intact { ⟦<BlockCache<S> as Blocks>⟧.meanings.intact self.new }
-        ensures identity { S.durables.identity self.new.store ≡ S.durables.identity self.old.store }
-        ensures least { S.durables.least self.new.store ≡ S.durables.least self.old.store }
-        ensures ok { OnOk result (S.durables.list self.new.store ≡ with_config bytes.items (S.durables.list self.old.store)) }
-        ensures err { OnErr result (⟦<BlockCache<S> as Blocks>⟧.meanings.loaded self.old self.new) }
+        ensures lists { ListsConfig ⟦<BlockCache<S> as Blocks>⟧.meanings (durables_past (λ c. c.store) S.durables) bytes.items self.old self.new result }
+        ensures keeps { ConfigRecords (durables_past (λ c. c.store) S.durables) S.records bytes.items self.old self.new result }
         ensures stays { Stays ⟦<BlockCache<S> as Blocks>⟧.holdings self.old self.new }
-        ensures empty { S.durables.local_record_of self.new.store false ≡ S.durables.local_record_of self.old.store false }
-        ensures empty_record { (kept : List ℕ) → S.durables.is_record self.old.store false kept → S.durables.is_record self.new.store false kept }
-        ensures trace { S.durables.trace self.new.store ≡ S.durables.trace self.old.store }
-        ensures configures { OnOk result (S.records.configures (S.durables.local_record_of self.new.store true) (S.durables.trace self.new.store) bytes.items) }
-        ensures sound { ⟦<BlockCache<S> as Blocks>⟧.meanings.sound self.old → ⟦<BlockCache<S> as Blocks>⟧.meanings.sound self.new }
-        ensures forgeries { ⟦<BlockCache<S> as Blocks>⟧.meanings.forgeries self.new ≡ ⟦<BlockCache<S> as Blocks>⟧.meanings.forgeries self.old }
-        ensures lies { ⟦<BlockCache<S> as Blocks>⟧.meanings.lies self.new ≡ ⟦<BlockCache<S> as Blocks>⟧.meanings.lies self.old }
+        ensures meant { StaysMeant ⟦<BlockCache<S> as Blocks>⟧.meanings self.old self.new }
         ensures faults { ⟦<BlockCache<S> as Blocks>⟧.meanings.faults self.new ≡ ⟦<BlockCache<S> as Blocks>⟧.meanings.faults self.old }
 
         ensures cached { self.new.cached ≡ self.old.cached }
@@ -220,30 +211,10 @@ impl<S: Durable> Durable for BlockCache<S> {
 
     fn write_out(&mut self, alloc: Global) -> Result<(), GetFail>
         requires { ⟦<BlockCache<S> as Blocks>⟧.meanings.intact self.old }
-        ensures intact { ⟦<BlockCache<S> as Blocks>⟧.meanings.intact self.new }
-        ensures identity { S.durables.identity self.new.store ≡ S.durables.identity self.old.store }
-        ensures least { S.durables.least self.new.store ≡ S.durables.least self.old.store }
-        ensures ids { SameIds (⟦<BlockCache<S> as Blocks>⟧.holdings.content self.old) (⟦<BlockCache<S> as Blocks>⟧.holdings.content self.new) }
-        ensures content { ⟦<BlockCache<S> as Blocks>⟧.holdings.told self.old ≡ true → SameContent (⟦<BlockCache<S> as Blocks>⟧.holdings.content self.old) (⟦<BlockCache<S> as Blocks>⟧.holdings.content self.new) }
-        ensures payload { ⟦<BlockCache<S> as Blocks>⟧.holdings.payload self.new ≡ ⟦<BlockCache<S> as Blocks>⟧.holdings.payload self.old }
-        ensures told { ⟦<BlockCache<S> as Blocks>⟧.holdings.told self.new ≡ ⟦<BlockCache<S> as Blocks>⟧.holdings.told self.old }
-        ensures used { ⟦<BlockCache<S> as Blocks>⟧.holdings.used self.new ≡ ⟦<BlockCache<S> as Blocks>⟧.holdings.used self.old }
-        ensures spent { (id : Id) → ⟦<BlockCache<S> as Blocks>⟧.holdings.spent self.new id ≡ ⟦<BlockCache<S> as Blocks>⟧.holdings.spent self.old id }
-        ensures version { (id : Id) → ⟦<BlockCache<S> as Blocks>⟧.holdings.version self.new id ≡ ⟦<BlockCache<S> as Blocks>⟧.holdings.version self.old id }
-        ensures ok { OnOk result (S.durables.list self.new.store ≡ []) }
-        ensures writes { OnOk result (S.durables.trace self.new.store ≡ after_writes (S.durables.list self.old.store) (S.durables.trace self.old.store)) }
-        ensures stops { OnErr result (StopsAt (S.durables.list self.old.store) (S.durables.trace self.old.store) (S.durables.trace self.new.store) (S.durables.list self.new.store)) }
-        ensures empty { S.durables.local_record_of self.new.store false ≡ S.durables.local_record_of self.old.store false }
-        ensures empty_record { (kept : List ℕ) → S.durables.is_record self.old.store false kept → S.durables.is_record self.new.store false kept }
-        ensures stands { (kept : List ℕ) → ⟦<BlockCache<S> as Blocks>⟧.meanings.sound self.old → (S.durables.identity self.old.store).marked ≡ false → S.durables.is_record self.old.store true kept
-            → S.records.stands (S.durables.identity self.old.store) kept (S.durables.trace self.new.store) (⟦<BlockCache<S> as Blocks>⟧.holdings.content self.old) }
-        ensures kept_configures { (kept bytes : List ℕ) → S.durables.is_record self.old.store true kept → S.records.configures kept (S.durables.trace self.old.store) bytes
-            → S.records.configures kept (S.durables.trace self.new.store) bytes }
-        ensures configures { ⟦<BlockCache<S> as Blocks>⟧.holdings.told self.old ≡ true → (kept bytes : List ℕ) → S.durables.is_record self.old.store true kept → S.records.configures kept (S.durables.trace self.old.store) bytes
-            → S.records.configures (S.durables.local_record_of self.new.store true) (S.durables.trace self.new.store) bytes }
-        ensures sound { ⟦<BlockCache<S> as Blocks>⟧.meanings.sound self.old → ⟦<BlockCache<S> as Blocks>⟧.meanings.sound self.new }
-        ensures forgeries { ⟦<BlockCache<S> as Blocks>⟧.meanings.forgeries self.new ≡ ⟦<BlockCache<S> as Blocks>⟧.meanings.forgeries self.old }
-        ensures lies { ⟦<BlockCache<S> as Blocks>⟧.meanings.lies self.new ≡ ⟦<BlockCache<S> as Blocks>⟧.meanings.lies self.old }
+        ensures writes { WritesList (durables_past (λ c. c.store) S.durables) self.old self.new result }
+        ensures keeps { WrittenRecords ⟦<BlockCache<S> as Blocks>⟧.meanings ⟦<BlockCache<S> as Blocks>⟧.holdings (durables_past (λ c. c.store) S.durables) S.records self.old self.new }
+        ensures stays { Stays ⟦<BlockCache<S> as Blocks>⟧.holdings self.old self.new }
+        ensures meant { StaysMeant ⟦<BlockCache<S> as Blocks>⟧.meanings self.old self.new }
         ensures cause { GetHasCause (⟦<BlockCache<S> as Blocks>⟧.meanings.faults self.old) (⟦<BlockCache<S> as Blocks>⟧.meanings.faults self.new) result }
 
         ensures cached { self.new.cached ≡ self.old.cached }
@@ -254,17 +225,9 @@ impl<S: Durable> Durable for BlockCache<S> {
     fn set_least(&mut self, least: u8)
         requires intact { ⟦<BlockCache<S> as Blocks>⟧.meanings.intact self.old }
         requires may { MayBeLeast S.durables S.Blocks.holdings self.old.store least }
-        ensures least { S.durables.least self.new.store ≡ least }
-        ensures intact { ⟦<BlockCache<S> as Blocks>⟧.meanings.intact self.new }
-        ensures identity { S.durables.identity self.new.store ≡ S.durables.identity self.old.store }
-        ensures list { S.durables.list self.new.store ≡ S.durables.list self.old.store }
-        ensures trace { S.durables.trace self.new.store ≡ S.durables.trace self.old.store }
+        ensures sets { SetsLeast (durables_past (λ c. c.store) S.durables) S.records least self.old self.new }
         ensures stays { Stays ⟦<BlockCache<S> as Blocks>⟧.holdings self.old self.new }
-        ensures configures { (kept bytes : List ℕ) → S.durables.is_record self.old.store true kept → S.records.configures kept (S.durables.trace self.old.store) bytes
-            → S.records.configures (S.durables.local_record_of self.new.store true) (S.durables.trace self.new.store) bytes }
-        ensures sound { ⟦<BlockCache<S> as Blocks>⟧.meanings.sound self.old → ⟦<BlockCache<S> as Blocks>⟧.meanings.sound self.new }
-        ensures forgeries { ⟦<BlockCache<S> as Blocks>⟧.meanings.forgeries self.new ≡ ⟦<BlockCache<S> as Blocks>⟧.meanings.forgeries self.old }
-        ensures lies { ⟦<BlockCache<S> as Blocks>⟧.meanings.lies self.new ≡ ⟦<BlockCache<S> as Blocks>⟧.meanings.lies self.old }
+        ensures meant { StaysMeant ⟦<BlockCache<S> as Blocks>⟧.meanings self.old self.new }
         ensures faults { ⟦<BlockCache<S> as Blocks>⟧.meanings.faults self.new ≡ ⟦<BlockCache<S> as Blocks>⟧.meanings.faults self.old }
 
         ensures cached { self.new.cached ≡ self.old.cached }

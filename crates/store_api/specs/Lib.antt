@@ -2,6 +2,7 @@ pub mod Content
 pub mod Draws
 pub mod Holdings
 pub mod Durables
+pub mod Leaving
 pub mod Lists
 pub mod Loads
 pub mod Overlay

@@ -1,5 +1,7 @@
-use Rattle.std.proofs.Common.{true, refl, sym, subst}
+use Rattle.std.proofs.Common.{◌≡◌, ℕ, true, refl, sym, subst}
 use Rattle.std.specs.declared.result.Result.TheVariants.{Ok, Err}
+use Rattle.store_api.specs.Holdings.{Stays}
+use Rattle.store_api.specs.Leaving.{StaysMeant, SetsLeast}
 use Rattle.session_saver.specs.Saving.{world}
 use Rattle.session_saver.specs.declared.saver.Saver.{Saver}
 use Rattle.tree_commands.specs.Showing.{ShowsFiles}
@@ -16,6 +18,22 @@ CoreOf g = Core g.row.S.Denot g.row.K.Denot
 abbrev SetsBy : (g : Over) → g.row.S.Denot → g.row.S.Denot → Type 0
 SetsBy g a b = Sets ShowsFiles g.S.Blocks.meanings g.S.Blocks.holdings g.S.Durable.durables g.S.Durable.records g.K.Keeper files_same g.met.S.Blocks.steady g.S.BlocksMut.applied g.met.S.Durable.enduring a b
 
+-- what set_least says of a store
+sets_by : (g : Over) (a b : g.row.S.Denot) (to : ℕ) → SetsLeast g.S.Durable.durables g.S.Durable.records to a b → Stays g.S.Blocks.holdings a b → StaysMeant g.S.Blocks.meanings a b
+    → g.S.Blocks.meanings.faults b ≡ g.S.Blocks.meanings.faults a → SetsBy g a b
+sets_by g a b to sets stays meant faults = record {
+  intact = meant.intact;
+  identity = sets.identity;
+  list = sets.list;
+  trace = sets.trace;
+  stays = stays;
+  configures = sets.configures;
+  sound = meant.sound;
+  forgeries = meant.forgeries;
+  lies = meant.lies;
+  faults = faults;
+}
+
 -- the body with this store and this saver
 abbrev with_store : (g : Over) → CoreOf g → g.row.S.Denot → Saver g.row.K.Denot → CoreOf g
 with_store g old store saver = record old { blobs = record { tx = record old.blobs.tx { store = store } }; saver = saver }
@@ -26,7 +44,7 @@ returns-in-Ok-clause-rests g c =
     let up = c.set_least.new.self in
     let saver = c.keep_short.new.self in
     let u = c.set_least.ensures in
-    let s : SetsBy g old.blobs.tx.store up = record { intact = u.intact; identity = u.identity; list = u.list; trace = u.trace; stays = u.stays; configures = u.configures; sound = u.sound; forgeries = u.forgeries; lies = u.lies; faults = u.faults } in
+    let s : SetsBy g old.blobs.tx.store up = sets_by g _ _ _ u.sets u.stays u.meant u.faults in
     let saved = c.in-Ok.ensures.saves in
     subst (λ store. Rests ShowsFiles (world g.S.Blocks.meanings g.S.Blocks.holdings g.S.Durable.durables g.S.Durable.records g.K.Keeper) old (Ok tt) (with_store g old store saver)) (sym c.keep_short.ensures.same)
     (kept_rests ShowsFiles g.S.Blocks.meanings g.S.Blocks.holdings g.S.Durable.durables g.S.Durable.records g.K.Keeper files_same g.met.S.Blocks.steady g.S.BlocksMut.applied g.met.S.Durable.enduring
@@ -38,11 +56,11 @@ returns-in-Ok-clause-done g c =
     let up = c.set_least.new.self in
     let saver = c.keep_short.new.self in
     let u = c.set_least.ensures in
-    let s : SetsBy g old.blobs.tx.store up = record { intact = u.intact; identity = u.identity; list = u.list; trace = u.trace; stays = u.stays; configures = u.configures; sound = u.sound; forgeries = u.forgeries; lies = u.lies; faults = u.faults } in
+    let s : SetsBy g old.blobs.tx.store up = sets_by g _ _ _ u.sets u.stays u.meant u.faults in
     let saved = c.in-Ok.ensures.saves in
     subst (λ store. IsMigratedRecord (world g.S.Blocks.meanings g.S.Blocks.holdings g.S.Durable.durables g.S.Durable.records g.K.Keeper) (with_store g old store saver)) (sym c.keep_short.ensures.same)
     (kept_record ShowsFiles g.S.Blocks.meanings g.S.Blocks.holdings g.S.Durable.durables g.S.Durable.records g.K.Keeper files_same g.met.S.Blocks.steady g.S.BlocksMut.applied g.met.S.Durable.enduring
-    old (with_store g old up saver) c.requires.ready.intact (c.requires.ready.whole.none c.requires.whole) s refl refl saved.0 saved.1 c.in-Ok.ensures.keeper_quiet u.least saved.2)
+    old (with_store g old up saver) c.requires.ready.intact (c.requires.ready.whole.none c.requires.whole) s refl refl saved.0 saved.1 c.in-Ok.ensures.keeper_quiet u.sets.least saved.2)
 
 pub returns-in-Err-clause-rests : goal.returns-in-Err-clause-rests
 returns-in-Err-clause-rests g c =
@@ -52,8 +70,8 @@ returns-in-Err-clause-rests g c =
     let new = with_store g old down (record c.keep_short.new.self { changed = true }) in
     let u = c.set_least.ensures in
     let d = c.set_least-in-Err.ensures in
-    let first : SetsBy g old.blobs.tx.store up = record { intact = u.intact; identity = u.identity; list = u.list; trace = u.trace; stays = u.stays; configures = u.configures; sound = u.sound; forgeries = u.forgeries; lies = u.lies; faults = u.faults } in
-    let after : SetsBy g c.keep_short.new.store down = record { intact = d.intact; identity = d.identity; list = d.list; trace = d.trace; stays = d.stays; configures = d.configures; sound = d.sound; forgeries = d.forgeries; lies = d.lies; faults = d.faults } in
+    let first : SetsBy g old.blobs.tx.store up = sets_by g _ _ _ u.sets u.stays u.meant u.faults in
+    let after : SetsBy g c.keep_short.new.store down = sets_by g _ _ _ d.sets d.stays d.meant d.faults in
     let second = subst (λ store. SetsBy g store down) c.keep_short.ensures.same after in
     let k = c.in-Err.ensures in
     subst (λ e. Rests ShowsFiles (world g.S.Blocks.meanings g.S.Blocks.holdings g.S.Durable.durables g.S.Durable.records g.K.Keeper) old (Err e) new) (sym c.sync_error.ensures)

@@ -12,7 +12,7 @@ use Rattle.mount_opening.proofs.making.make.Goals as goal
 pub root_batch-requires : goal.root_batch-requires
 root_batch-requires g c =
     let b = c.put_config.new.self in
-    let intact = c.put_config.ensures.intact in
+    let intact = c.put_config.ensures.meant.intact in
     subst IsPayloadLen (sym c.payload.ensures) (g.met.S.Blocks.steady.at_least b intact, g.met.S.Blocks.steady.at_most b intact)
 
 pub apply-requires-clause-fits : goal.apply-requires-clause-fits
@@ -26,16 +26,16 @@ returns-in-Err g c =
     let trace = g.S.Durable.durables.trace in
     record {
       makes = record {
-        stands = λ sound unmarked. inl (refl, λ name. ap (last_told name) p.trace);
-        configures = λ told. inl (refl, λ name. ap (last_told name) p.trace);
+        stands = λ sound unmarked. inl (refl, λ name. ap (last_told name) p.lists.trace);
+        configures = λ told. inl (refl, λ name. ap (last_told name) p.lists.trace);
         emptied = tt;
         versions = tt;
-        intact = p.intact;
+        intact = p.meant.intact;
       };
       leaves = record {
-        identity = p.identity;
-        least = p.least;
-        goes_on = goes_on_equal (trace c.args.store) (trace c.put_config.new.self) p.trace;
+        identity = p.lists.identity;
+        least = p.lists.least;
+        goes_on = goes_on_equal (trace c.args.store) (trace c.put_config.new.self) p.lists.trace;
         vault_grows = omega (arith, p.faults);
         vault_cause = λ is. absurd (memory_directory is);
         vault_quiet = p.faults;
@@ -51,16 +51,16 @@ returns-in-Err-root_batch g c =
     let trace = g.S.Durable.durables.trace in
     record {
       makes = record {
-        stands = λ sound unmarked. inl (refl, λ name. ap (last_told name) p.trace);
-        configures = λ told. inl (refl, λ name. ap (last_told name) p.trace);
+        stands = λ sound unmarked. inl (refl, λ name. ap (last_told name) p.lists.trace);
+        configures = λ told. inl (refl, λ name. ap (last_told name) p.lists.trace);
         emptied = tt;
         versions = tt;
-        intact = p.intact;
+        intact = p.meant.intact;
       };
       leaves = record {
-        identity = p.identity;
-        least = p.least;
-        goes_on = goes_on_equal (trace c.args.store) (trace c.put_config.new.self) p.trace;
+        identity = p.lists.identity;
+        least = p.lists.least;
+        goes_on = goes_on_equal (trace c.args.store) (trace c.put_config.new.self) p.lists.trace;
         vault_grows = omega (arith, p.faults);
         vault_cause = λ is. absurd (memory_directory is);
         vault_quiet = p.faults;
@@ -82,16 +82,16 @@ returns-in-Err-apply g c =
     let faults = z.faults ∙ p.faults in
     record {
       makes = record {
-        stands = λ sound unmarked. inl (refl, λ name. endures.loaded_last b d name loaded ∙ ap (last_told name) p.trace);
-        configures = λ told. inl (refl, λ name. endures.loaded_last b d name loaded ∙ ap (last_told name) p.trace);
+        stands = λ sound unmarked. inl (refl, λ name. endures.loaded_last b d name loaded ∙ ap (last_told name) p.lists.trace);
+        configures = λ told. inl (refl, λ name. endures.loaded_last b d name loaded ∙ ap (last_told name) p.lists.trace);
         emptied = tt;
         versions = tt;
         intact = z.intact;
       };
       leaves = record {
-        identity = endures.loaded_identity b d loaded ∙ p.identity;
-        least = endures.loaded_least b d loaded ∙ p.least;
-        goes_on = subst (λ t. GoesOn t (trace d)) p.trace (endures.loaded_goes_on b d loaded);
+        identity = endures.loaded_identity b d loaded ∙ p.lists.identity;
+        least = endures.loaded_least b d loaded ∙ p.lists.least;
+        goes_on = subst (λ t. GoesOn t (trace d)) p.lists.trace (endures.loaded_goes_on b d loaded);
         vault_grows = omega (arith, faults);
         vault_cause = λ is. absurd (memory_directory is);
         vault_quiet = faults;
@@ -122,8 +122,8 @@ returns g c =
     let l = m.leaves in
     let changed = c.in-Ok-apply.ensures.changed in
     let applied = c.in-Ok-apply.ensures.applied in
-    let identity = endures.applied_identity b d batch applied ∙ p.identity in
-    let trace = endures.applied_trace b d batch applied ∙ p.trace in
+    let identity = endures.applied_identity b d batch applied ∙ p.lists.identity in
+    let trace = endures.applied_trace b d batch applied ∙ p.lists.trace in
     let faults = z.faults ∙ p.faults in
     record {
       makes = record {
@@ -133,17 +133,17 @@ returns g c =
             let wide : length root ≡ 16 = search rules in
             let shown = subst (λ n. ShowsFiles n root (H.content d) empty_tree) (c.payload.ensures ∙ p.stays.payload) (puts.shows (H.content d) wide only) in
             made (ShowsFiles (H.payload a) root) D g.S.Durable.records g.K.Keeper a last _ c.sync-result.new.self d (H.content d) result trace shown (λ f. let unchanged = fine_ok result _ f m.ok in (c.sync-result.new.self.last.items, m.whole.kept unchanged, m.whole.last unchanged))
-            (y.stands (H.content d) (changed.sound (p.sound sound)) (ap (λ (i : Identity). i.marked) identity ∙ unmarked) (λ id. refl));
+            (y.stands (H.content d) (changed.sound (p.meant.sound sound)) (ap (λ (i : Identity). i.marked) identity ∙ unmarked) (λ id. refl));
         configures = λ told.
             made_config (ShowsFiles (H.payload a) root) D g.S.Durable.records g.K.Keeper a last _ c.sync-result.new.self d c.args.config.items result trace
-            (y.configures (D.local_record_of d true) c.args.config.items (changed.told ∙ (p.stays.told ∙ told)) (endures.written d true z.intact) (endures.applied_configures b d batch c.args.config.items applied p.intact z.intact c.in-Ok.ensures.configures));
+            (y.configures (D.local_record_of d true) c.args.config.items (changed.told ∙ (p.stays.told ∙ told)) (endures.written d true z.intact) (endures.applied_configures b d batch c.args.config.items applied p.meant.intact z.intact c.in-Ok.ensures.keeps.configures));
         emptied = on_ok result _ _ (λ unchanged. (c.sync-result.new.self.last.items, m.whole.kept unchanged, m.whole.last unchanged)) m.ok;
         versions = always_ok result _ (root_raised M H a b d last batch root puts.bytes puts.one p.stays changed l.stays);
         intact = m.intact;
       };
       leaves = record {
         identity = l.identity ∙ identity;
-        least = l.least ∙ (endures.applied_least b d batch applied ∙ p.least);
+        least = l.least ∙ (endures.applied_least b d batch applied ∙ p.lists.least);
         goes_on = subst (λ t. GoesOn t (D.trace last)) trace l.goes_on;
         vault_grows = omega (arith, l.vault_grows, faults);
         vault_cause = λ is. subst (λ n. RoseBy 1 n (M.faults last)) faults (l.vault_cause is);

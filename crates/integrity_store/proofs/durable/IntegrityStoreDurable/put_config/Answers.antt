@@ -1,5 +1,7 @@
-use Rattle.std.proofs.Common.{◌≡◌, sym, ap, subst}
+use Rattle.std.proofs.Common.{◌≡◌, refl, sym, ◌∙◌, ap, subst}
+use Rattle.outside.specs.Honest.{is_lie, count_told}
 use Rattle.sealed_store.specs.Stores.{Sealed, IsIntact, block_size_of, cipher_of}
+use Rattle.held_blocks.specs.Forgeries.{forged}
 use Rattle.held_blocks.specs.Held.{Held}
 use Rattle.held_blocks.specs.Soundness.{SoundBy}
 use Rattle.held_blocks.specs.Stores.{IsWhole}
@@ -27,12 +29,20 @@ held_is g c = ap (λ (sealed : Sealed g.row.V.Denot g.row.C.Denot). held_of g.C.
 
 -- ---- the clauses
 
-pub returns-clause-intact : goal.returns-clause-intact
-returns-clause-intact g c =
-    let own = λ (sealed : Sealed g.row.V.Denot g.row.C.Denot). IsIntact (block_size_of sealed) (g.C.Sealer.iv_size (cipher_of sealed)) in (
-      subst IsWhole (sym (held_is g c)) (configured_whole (before g c) c.args.bytes.items (after g c).list (set g c) c.requires.bytes c.requires.intact.0),
-      subst own (sym c.put_config.ensures.same) c.requires.intact.1,
-    )
+pub returns-clause-meant : goal.returns-clause-meant
+returns-clause-meant g c =
+    let own = λ (sealed : Sealed g.row.V.Denot g.row.C.Denot). IsIntact (block_size_of sealed) (g.C.Sealer.iv_size (cipher_of sealed)) in
+    let old = g.V.Vault.trace c.args.self.now.sealed.vault.vault in
+    let new = g.V.Vault.trace c.put_config.new.self.vault.vault in
+    record {
+      intact = (
+        subst IsWhole (sym (held_is g c)) (configured_whole (before g c) c.args.bytes.items (after g c).list (set g c) c.requires.bytes c.requires.intact.0),
+        subst own (sym c.put_config.ensures.same) c.requires.intact.1,
+      );
+      sound = λ sound. subst (λ h. SoundBy h new) (sym (held_is g c)) (configured_sound (before g c) c.args.bytes.items (after g c).list (set g c) old new (ap g.V.Vault.trace c.put_config.ensures.vault) sound);
+      forgeries = ap (λ (h : Held). count_told (forged h.opens h.size) new) (held_is g c) ∙ ap (count_told (forged (before g c).opens (before g c).size)) (ap g.V.Vault.trace c.put_config.ensures.vault);
+      lies = ap (count_told is_lie) (ap g.V.Vault.trace c.put_config.ensures.vault);
+    }
 
 pub returns-clause-stays : goal.returns-clause-stays
 returns-clause-stays g c =
@@ -40,13 +50,10 @@ returns-clause-stays g c =
     let trace = λ (s : IntegrityStore g.row.V.Denot g.row.C.Denot). g.V.Vault.trace s.sealed.vault.vault in
     configured_stays held trace c.args.self.now _ c.args.bytes.items (after g c).list (set g c) (held_is g c) (ap g.V.Vault.trace c.put_config.ensures.vault)
 
-pub returns-clause-sound : goal.returns-clause-sound
-returns-clause-sound g c =
-    let old = g.V.Vault.trace c.args.self.now.sealed.vault.vault in
-    let new = g.V.Vault.trace c.put_config.new.self.vault.vault in
-    λ sound. subst (λ h. SoundBy h new) (sym (held_is g c)) (configured_sound (before g c) c.args.bytes.items (after g c).list (set g c) old new (ap g.V.Vault.trace c.put_config.ensures.vault) sound)
-
-pub returns-clause-configures : goal.returns-clause-configures
-returns-clause-configures g c =
-    set_configures c.put_config.result (before g c) (g.V.Vault.trace c.put_config.new.self.vault.vault) c.args.bytes.items (after g c).list c.put_config.ensures.ok
-    (configured_whole (before g c) c.args.bytes.items (after g c).list (set g c) c.requires.bytes c.requires.intact.0)
+pub returns-clause-keeps : goal.returns-clause-keeps
+returns-clause-keeps g c = record {
+  empty = refl;
+  empty_record = λ kept is. is;
+  configures = set_configures c.put_config.result (before g c) (g.V.Vault.trace c.put_config.new.self.vault.vault) c.args.bytes.items (after g c).list c.put_config.ensures.ok
+      (configured_whole (before g c) c.args.bytes.items (after g c).list (set g c) c.requires.bytes c.requires.intact.0);
+}
