@@ -4,11 +4,13 @@ use cryfs_shell::Status;
 use listing::ByteLine;
 use std::alloc::Global;
 use std::test::Fail;
-use test_systems::{System, block, copy_files, expect, file, new_system, plain, session, store};
+use test_systems::{
+    System, block, copy_files, expect, file, first_made, new_system, plain, session, store,
+};
 
 /// The two blocks, and one name that is neither's.
 const FOUND: &str =
-    "check yes 2\nblock 00000000000000000000000000000001 /\nblock 00000000000000000000000000000002 /a\nstranger x\\x20y\n";
+    "check yes 2\nblock 00000000000000000000000000000001 /\nblock 76b8e0ada0f13d90405d6ae55386bd28 /a\nstranger x\\x20y\n";
 
 /// A file system with one directory, and a strange file beside its own.
 fn with_stranger(alloc: Global) -> Result<System, Fail> {
@@ -39,7 +41,7 @@ fn a_missing_block_condemns_the_record(rt: HostRuntime) -> Result<(), Fail> {
     let alloc = rt.alloc();
     let mut system = with_stranger(alloc)?;
     let honest = copy_files(alloc, &system.vault)?;
-    store(alloc, &mut system, block(2), None)?;
+    store(alloc, &mut system, first_made(0), None)?;
     let mut after = check(alloc, system, "violation missing\n", Status::Violation)?;
     after.vault.set_files(honest);
     let calls = after.vault.trace().len();
@@ -107,9 +109,9 @@ fn a_survey_names_each_refused_block_and_marks_nothing(rt: HostRuntime) -> Resul
     let alloc = rt.alloc();
     let mut sound = survey(alloc, with_stranger(alloc)?, FOUND, Status::Done)?;
     let honest = copy_files(alloc, &sound.vault)?;
-    store(alloc, &mut sound, block(2), None)?;
+    store(alloc, &mut sound, first_made(0), None)?;
     let text =
-        "violation missing\nblock 00000000000000000000000000000002 /a violation missing\nrefused 1\n";
+        "violation missing\nblock 76b8e0ada0f13d90405d6ae55386bd28 /a violation missing\nrefused 1\n";
     let first = survey(alloc, sound, text, Status::Violation)?;
     let mut second = survey(alloc, first, text, Status::Violation)?;
     second.vault.set_files(honest);
@@ -124,9 +126,9 @@ fn what_is_below_a_refused_directory_has_no_path(rt: HostRuntime) -> Result<(), 
     let old = file(alloc, system.vault.files(), block(1))?;
     let mut later = session(alloc, system, "mkdir /b\n", "ok\n", Status::Done)?;
     store(alloc, &mut later, block(1), Some(old))?;
-    store(alloc, &mut later, block(2), None)?;
+    store(alloc, &mut later, first_made(0), None)?;
     let text =
-        "violation old-version 3 2\nblock 00000000000000000000000000000001 / violation old-version 3 2\nblock 00000000000000000000000000000002 ? violation missing\nrefused 2\n";
+        "violation old-version 3 2\nblock 00000000000000000000000000000001 / violation old-version 3 2\nblock 76b8e0ada0f13d90405d6ae55386bd28 ? violation missing\nrefused 2\n";
     survey(alloc, later, text, Status::Violation)?;
     Ok(())
 }

@@ -5,10 +5,10 @@ use memory_outside::MemoryKeeper;
 use outside::{FileName, Pending};
 use std::alloc::Global;
 use std::test::Fail;
-use test_systems::{System, block, copy_files, file, new_system, session, store};
+use test_systems::{System, block, copy_files, file, first_made, new_system, session, store};
 
-/// What becomes of a file. The block of the root has the number 1; those of the two directories that two sessions made
-/// have 2 and 3.
+/// What becomes of a file. The block of the root has the number 1; the second and the third are those of the two directories
+/// that two sessions made.
 #[derive(Clone, Copy)]
 enum Damage {
     RootAsCreated,
@@ -169,7 +169,7 @@ fn change_of(
     created: &[Pending],
     present: &[Pending],
 ) -> Result<(FileName, Option<Vec<u8>>), Fail> {
-    let (root, second, third) = (block(1), block(2), block(3));
+    let (root, second, third) = (block(1), first_made(0), first_made(1));
     let (name, mut bytes) = match damage {
         Damage::RootAsCreated => (root, file(alloc, created, root)?),
         Damage::RootLonger => (root, file(alloc, present, root)?),

@@ -1,11 +1,13 @@
-// New file systems in the forms of before block format 2, drawn from zeros. The root is block 1, and its child block 2.
+// New file systems in the forms of before block format 2, drawn from zeros. The root is block 1, and its child the first that a line made.
 
 use cryfs_shell::Status;
 use memory_outside::{MemoryKeeper, MemoryVault};
 use old_forms::{Stored, in_older_forms};
 use std::alloc::Global;
 use std::test::Fail;
-use test_systems::{System, block, copy_files, expect, file, new_system, plain, session, store};
+use test_systems::{
+    System, block, copy_files, expect, file, first_made, new_system, plain, session, store,
+};
 
 /// What is stored, in record form 1 and block format 1.
 fn in_forms_of_before(alloc: Global, system: System) -> Result<System, Fail> {
@@ -96,15 +98,15 @@ fn the_root_alone_is_migrated(rt: HostRuntime) -> Result<(), Fail> {
 fn a_swapped_file_opens_only_before(rt: HostRuntime) -> Result<(), Fail> {
     let alloc = rt.alloc();
     let system = older_tree(alloc)?;
-    let child = file(alloc, system.vault.files(), block(2))?;
+    let child = file(alloc, system.vault.files(), first_made(0))?;
     is_violation_with(
         alloc,
         copied(alloc, &system)?,
         &child,
-        "wrong-id 00000000000000000000000000000002",
+        "wrong-id 76b8e0ada0f13d90405d6ae55386bd28",
     )?;
     let system = migrate(alloc, system, "migrated 2\n")?;
-    let child = file(alloc, system.vault.files(), block(2))?;
+    let child = file(alloc, system.vault.files(), first_made(0))?;
     is_violation_with(alloc, system, &child, "not-opened")
 }
 
@@ -116,14 +118,14 @@ fn later_runs_keep_what_is_taken(rt: HostRuntime) -> Result<(), Fail> {
     let passwd = plain(&["passwd"], "pw\npw\n");
     let system = older_tree(alloc)?;
     let root = file(alloc, system.vault.files(), block(1))?;
-    let child = file(alloc, system.vault.files(), block(2))?;
+    let child = file(alloc, system.vault.files(), first_made(0))?;
     let system = expect(alloc, system, &passwd, "changed\n", Status::Done)?;
     assert!(rt; file(alloc, system.vault.files(), block(1))? == root);
     let lines = "mkdir /c\nls /\n";
     let text = "ok\nlist 2\nd a\nd c\n";
     let system = session(alloc, system, lines, text, Status::Done)?;
     let system = session(alloc, system, "ls /a\n", "list 0\n", Status::Done)?;
-    assert!(rt; file(alloc, system.vault.files(), block(2))? == child);
+    assert!(rt; file(alloc, system.vault.files(), first_made(0))? == child);
     let system = migrate(alloc, system, "migrated 3\n")?;
     let system = expect(alloc, system, &passwd, "changed\n", Status::Done)?;
     let system = session(alloc, system, "rmdir /c\n", "ok\n", Status::Done)?;

@@ -6,3 +6,5 @@ pub mod Formats
 pub mod Mounts
 pub mod Answering
 pub mod Serving
+pub mod Sealing
+pub mod SealingLaws

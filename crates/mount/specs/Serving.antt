@@ -1,5 +1,5 @@
 -- What the calls beside an answer leave of a mount.
-use Rattle.std.specs.Prelude.{◌≡◌, ◌⊎◌, ◌≤◌, ℕ, true, false, List, Result, is_some, IsOk, IsErrOf, OnOk}
+use Rattle.std.specs.Prelude.{◌≡◌, ◌⊎◌, ◌≤◌, ℕ, true, false, List, [], Result, is_some, IsOk, IsErrOf, OnOk}
 use Rattle.std.specs.declared.option.Option.{Option}
 use Rattle.aes_gcm.specs.Gcm.{opened_of}
 use Rattle.config_file.specs.ConfigOf.{IsOnly, opened as opened_as}
@@ -26,6 +26,7 @@ use Rattle.mount_tower.specs.Tower.{vault_in, tower_holdings, tower_durables}
 use Rattle.mount.specs.declared.mount.Mount.{Mount}
 use Rattle.mount.specs.Answering.{store_of, calls_of, forgeries_of, lies_of, vault_faults, keeper_faults, version_of, kept_of}
 use Rattle.mount.specs.Mounts.{IsReady, MountClosed}
+use Rattle.mount.specs.Sealing.{AreSealed, view_of, view_closed}
 use Rattle.mount.specs.Tower.{tower, TowerStands, TowerConfigures}
 
 -- a call that syncs, whatever it answers
@@ -45,6 +46,8 @@ pub record MountSyncs {V : Type 0} {K : Type 0} (shows : Showing) (trace : V →
   -- also after an error, what was kept before or one of this mount's two records
   pub keeps : SyncKeeps (tower_durables trace) G (store_of old) old.core.saver new.core.saver
   pub unmoved : old.core.saver.changed ≡ false → IsOk result × (new ≡ old)
+  -- no file is sealed
+  pub sealed : AreSealed [] (view_of trace old) (view_of trace new)
 
 -- what a change of the password to this one makes of it, by the file that was sealed
 pub record ChangesPassword {V : Type 0} {K : Type 0} (shows : Showing) (trace : V → Option (List Call)) (faults : V → ℕ) (G : KeeperGhosts K) (old : Mount V K) (password file : List ℕ) (new : Mount V K) (result : Result Unit SyncError) : Type 0 where
@@ -79,3 +82,5 @@ pub record MountCloses {V : Type 0} {K : Type 0} (shows : Showing) (trace : V �
   -- also after an error, what was kept before or one of this mount's two records
   pub kept : mount.core.violated ≡ false → IsSameOrRecord (tower_durables trace) (store_of mount) (kept_of G mount) (G.kept keeper)
   pub least : StaysLeast (tower trace faults G) (store_of mount) (kept_of G mount) (G.kept keeper)
+  -- no file is sealed
+  pub sealed : AreSealed [] (view_of trace mount) (view_closed (trace vault))

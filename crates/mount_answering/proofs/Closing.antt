@@ -23,6 +23,7 @@ module _ {S : Type 0} {K : Type 0} (shows : Showing) (M : Meanings S) (H : Holdi
     emptied = λ fresh. absurd (true_is_false (sym violated ∙ fresh));
     kept = λ fresh. absurd (true_is_false (sym violated ∙ fresh));
     least = λ k. k;
+    wrote = inl refl;
     intact = intact;
   }
 
@@ -43,6 +44,7 @@ module _ {S : Type 0} {K : Type 0} (shows : Showing) (M : Meanings S) (H : Holdi
     emptied = λ f. z.emptied;
     kept = λ f. z.keeps.kept;
     least = m.least;
+    wrote = z.wrote;
     intact = m.ready.intact;
   }
 

@@ -8,3 +8,4 @@ pub mod Quiet
 mod Stores
 mod Closing
 mod Keeping
+mod Draws

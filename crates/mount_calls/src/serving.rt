@@ -9,6 +9,7 @@ ghost use Rattle.mount_tower.specs.Drawing.{seal_drawn};
 ghost use Rattle.mount_tower.specs.Making.{sealed_file};
 ghost use Rattle.mount.specs.Answering.{MountAnswers};
 ghost use Rattle.mount.specs.Mounts.{IsReady};
+ghost use Rattle.mount.specs.Sealing.{SealsFresh, view_of};
 ghost use Rattle.mount.specs.Serving.{MountMoves, MountSyncs, ChangesPassword, MountLeaves, MountCloses};
 ghost use Rattle.mount_calls.specs.Condemning.{Condemns};
 
@@ -37,6 +38,8 @@ pub fn answer<V: Vault, K: Keeper, R: Rng>(
         mount.new }
     ensures unmoved { is_sync command.now ≡ true → mount.old.core.violated ≡ false
         → mount.old.core.saver.changed ≡ false → (result ≡ Answer.Reply Done) × (mount.new ≡ mount.old) }
+    ensures draws { SealsFresh (R.stream chance.old) (R.stream chance.new) (view_of V.trace mount.old)
+        (view_of V.trace mount.new) }
 {
     mount_answering::answer(alloc, &mut mount.core, now, command, chance)
 }

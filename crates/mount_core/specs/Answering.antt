@@ -80,6 +80,7 @@ pub record CoreCloses {S : Type 0} {K : Type 0} (shows : Showing) (W : World S K
   -- also after an error, what was kept before or one of this store's two records
   pub kept : core.violated ≡ false → IsSameOrRecord W.durables (store_of core) (W.keeper.kept core.saver.keeper) (W.keeper.kept keeper)
   pub least : StaysLeast W (store_of core) (W.keeper.kept core.saver.keeper) (W.keeper.kept keeper)
+  pub wrote : (store ≡ store_of core) ⊎ Wrote W.durables (store_of core) store
   pub intact : W.meanings.intact store
 
 -- ---- an answer

@@ -7,7 +7,7 @@ use outside::{FileName, Pending};
 use seal_api::Sealer;
 use std::alloc::Global;
 use std::test::Fail;
-use test_systems::{System, block, copy_files, file, new_system, session, store};
+use test_systems::{System, block, copy_files, file, first_made, new_system, session, store};
 
 /// A session that meets this violation, and one later over the honest files, which is refused.
 fn is_refused_then(
@@ -69,9 +69,9 @@ fn swapped_blocks_are_a_violation(rt: HostRuntime) -> Result<(), Fail> {
     )?;
     let honest = copy_files(alloc, &system.vault)?;
     let root = file(alloc, &honest, block(1))?;
-    let child = file(alloc, &honest, block(2))?;
+    let child = file(alloc, &honest, first_made(0))?;
     store(alloc, &mut system, block(1), Some(child))?;
-    store(alloc, &mut system, block(2), Some(root))?;
+    store(alloc, &mut system, first_made(0), Some(root))?;
     is_refused_then(alloc, system, honest, "not-opened")
 }
 

@@ -23,6 +23,20 @@ pub fn block(number: u8) -> FileName
     FileName::Block(BlockId(id))
 }
 
+/// The first id of a line whose seed is of zeros: the first bytes of ChaCha20's stream for a key and a nonce of zeros.
+const FIRST_DRAWN: [u8; 16] = [
+    0x76, 0xb8, 0xe0, 0xad, 0xa0, 0xf1, 0x3d, 0x90, 0x40, 0x5d, 0x6a, 0xe5, 0x53, 0x86, 0xbd, 0x28,
+];
+
+/// The block of the first node of a line whose seed is of zeros, where so many lines before it made one.
+pub fn first_made(lines: u8) -> FileName
+    requires { lines < 200 }
+{
+    let mut id = FIRST_DRAWN;
+    id[15] = 0x28 + lines;
+    FileName::Block(BlockId(id))
+}
+
 /// The bytes of a stored file.
 pub fn file(alloc: Global, files: &[Pending], name: FileName) -> Result<Vec<u8>, Fail> {
     for file in files {

@@ -1,5 +1,5 @@
 use Rattle.std.specs.FinMap as fin
-use Rattle.std.proofs.Common.{◌≡◌, ◌≤◌, ◌+◌, refl, sym, ◌∙◌, ap, subst, false, arith}
+use Rattle.std.proofs.Common.{◌≡◌, ◌≤◌, ◌+◌, refl, sym, ◌∙◌, ap, subst, false, arith, inl}
 use Rattle.answers.specs.declared.answer.Answer.{Answer}
 use Rattle.answers.specs.declared.answer.Answer.TheVariants.{Reply as Replied, Memory, Spent, FaultDirectory, Violation, Refused}
 use Rattle.answers.specs.Sessions.{is_violation, directory_faults, state_faults}
@@ -9,6 +9,7 @@ use Rattle.outcome.specs.Outcome.{alarm as no_alarm}
 use Rattle.outside.specs.Causes.{RoseBy}
 use Rattle.outside.specs.Going.{goes_on_onward}
 use Rattle.store_api.specs.Overlay.{lawful_over}
+use Rattle.store_api.proofs.Draws.{later_filled}
 use Rattle.tree_commands.specs.Performing.{IsReplyTo}
 use Rattle.tree_commands.specs.Showing.{ShowsFiles}
 use Rattle.tree_commands.proofs.Shows.{files_same}
@@ -18,6 +19,7 @@ use Rattle.mount_core.specs.NoticeLaws.{none_came, notices_of}
 use Rattle.mount_core.specs.Sparing.{FewRaised}
 use Rattle.mount_core.specs.Standing.{CorePerformed}
 use Rattle.mount_core.specs.declared.body.Core.{Core}
+use Rattle.mount_answering.proofs.Draws.{draws_on}
 use Rattle.mount_answering.proofs.Asking.{shown_now, asked, performed_failed}
 use Rattle.mount_answering.proofs.Lines.{calm, configures_loaded, fail_each, fits_empty, found_of, of_blocks, settle_each, spent_on, stays_on, whole_loaded}
 use Rattle.mount_answering.proofs.Loads.{only_asked, only_loaded}
@@ -115,6 +117,8 @@ returns-in-Ok g c =
         violated = z.saver.violated;
         root = z.saver.root;
       };
+      draws = draws_on M D lawful g.S.BlocksMut.applied g.S.BlocksMut.drawn store asked_of new (g.R.Rng.stream c.args.chance.now) (g.R.Rng.stream c.fill_bytes.new.self) _ o.loaded
+          (later_filled 32 c.fill_bytes.new.dst (g.R.Rng.stream c.args.chance.now) (g.R.Rng.stream c.fill_bytes.new.self) c.fill_bytes.ensures) z.draws;
     }
 
 pub returns-in-Err : goal.returns-in-Err
@@ -194,4 +198,5 @@ returns-in-Err g c =
         violated = refl;
         root = refl;
       };
+      draws = inl (loaded, later_filled 32 c.fill_bytes.new.dst (g.R.Rng.stream c.args.chance.now) (g.R.Rng.stream c.fill_bytes.new.self) c.fill_bytes.ensures);
     }

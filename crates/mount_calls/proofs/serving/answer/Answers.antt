@@ -1,0 +1,7 @@
+use Rattle.integrity_store.specs.WaitingLaws.{in_order}
+use Rattle.mount.proofs.Sealing.{line_seals}
+use Rattle.mount_calls.proofs.serving.answer.Goals as goal
+
+pub returns-clause-draws : goal.returns-clause-draws
+returns-clause-draws g c =
+    line_seals g.V.Vault.trace g.V.Vault.faults c.args.mount.now.core.blobs.tx.store c.answer.new.core.blobs.tx.store _ _ (in_order _ _ c.requires.ready.core.intact.0.0.has_record) c.answer.ensures.draws
