@@ -107,10 +107,10 @@ module _ {V : Type 0} {K : Type 0} (trace : V → Option (List Call)) (faults : 
         let after = outside_of trace faults G h.vault h.keeper in
         let one = only after honest in (
           wants_memory h.error (wants password Before.kept Before.calls after.calls Before.vault_faults after.vault_faults Before.keeper_faults after.keeper_faults c given.opens.1 given.opens.0
-              given.opens.2 given.opens.3 honest quiet.directory quiet.state h.error u.cause (u.calm c tree given.stands one)),
+              given.opens.2 given.opens.3 honest quiet.directory quiet.state h.error u.fails.cause (u.leaves.calm c tree given.stands one)),
           record {
-            stands = u.represents c tree given.stands (only_unforged password Before.kept Before.calls after.calls c one);
-            opens = (given.opens.0, given.opens.1, u.configures given.opens.0 file_told given.opens.2, given.opens.3);
+            stands = u.leaves.represents c tree given.stands (only_unforged password Before.kept Before.calls after.calls c one);
+            opens = (given.opens.0, given.opens.1, u.leaves.configures given.opens.0 file_told given.opens.2, given.opens.3);
           },
         )
 

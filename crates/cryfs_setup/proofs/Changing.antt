@@ -1,9 +1,11 @@
 -- A file system that was opened and its password changed, or not.
-use Rattle.std.proofs.Common.{◌≡◌, ◌⊎◌, ◌≤◌, ◌+◌, ℕ, true, false, List, [], ◌∷◌, refl, sym, ◌∙◌, subst, inl, inr, arith}
+use Rattle.std.proofs.Common.{◌≡◌, ◌⊎◌, ◌≤◌, ◌+◌, ℕ, true, false, List, [], ◌∷◌, length, ap, refl, sym, ◌∙◌, subst, inl, inr, arith}
 use Rattle.std.specs.Prelude.{Result, IsOk, IsErrOf, OnOk, is_some}
 use Rattle.std.specs.declared.option.Option.{Option}
 use Rattle.std.specs.declared.result.Result.TheVariants.{Ok, Err}
 use Rattle.rand_core.specs.Stream.{Stream as Chance}
+use Rattle.answers.specs.Sessions.{Exchange}
+use Rattle.store_api.specs.Durables.{Identity}
 use Rattle.config_file.specs.ConfigOf.{IsOnly, opened}
 use Rattle.config_file.specs.Settings.{settings_of}
 use Rattle.fs_model.specs.Tree.{Tree}
@@ -17,6 +19,7 @@ use Rattle.mount_tower.specs.Tower.{tower_holdings, tower_durables}
 use Rattle.mount.specs.declared.mount.Mount.{Mount}
 use Rattle.mount_core.specs.Configuring.{ConfigClosed, KeptOneOf, Replaced}
 use Rattle.mount_core.specs.Formats.{StaysLeast}
+use Rattle.mount_core.specs.Keeping.{IsSameOrWaiting, ReplaceKeeps}
 use Rattle.mount_core.specs.Standing.{IsKeptMarked, Synced}
 use Rattle.outside.specs.Causes.{RoseBy}
 use Rattle.outside.specs.Going.{GoesOn}
@@ -31,7 +34,9 @@ use Rattle.run_status.specs.Statuses.{first_of}
 use Rattle.session_runs.specs.Answering.{store_of, calls_of, kept_of, vault_faults, keeper_faults, version_of}
 use Rattle.session_runs.specs.Runs.{outside_of, directory_fault, state_fault}
 use Rattle.session_runs.specs.Turns.{Begun, Closing}
-use Rattle.session_runs.proofs.Rising.{versions_since}
+use Rattle.session_runs.proofs.Keeping.{kept_by, kept_since}
+use Rattle.session_runs.specs.Causes.{VersionsSince}
+use Rattle.session_runs.specs.Passing.{KeptAfter}
 use Rattle.session_saver.specs.Saving.{KeptConfigures, UnlessDirectory, UnlessState}
 use Rattle.session_saver.specs.declared.saver.SyncError.{SyncError}
 use Rattle.session_saver.specs.declared.saver.SyncError.TheVariants as sync_error
@@ -167,15 +172,40 @@ module _ {V : Type 0} {K : Type 0} (trace : V → Option (List Call)) (faults : 
   emptied (Ok u) c h = subst (λ (k : K). HasEmptyList (G.kept k)) (sym (z.closes.left (inr c)).2) h
   emptied (Err e) c h = tt
 
+  -- ---- the versions in what is kept
+
+  abbrev Most : List ℕ → ℕ
+  Most id = version_of trace first id + length {A = Exchange} []
+
+  unmarked_store : ((tower_durables trace).identity (store_of first)).marked ≡ false
+  unmarked_store = ap (λ (i : Identity). i.marked) b.ready.identity
+
+  replaced : IsSameOrWaiting (tower trace faults G) (store_of first) file (kept_of G first) (kept_of G left) → KeptAfter false Most (kept_of G first) (kept_of G left)
+  replaced (inl same_kept) = inr (inl same_kept)
+  replaced (inr (waiting, w, of)) =
+      kept_by trace waiting (ap (λ (i : Identity). i.marked) w.identity ∙ unmarked_store) (kept_of G first) (kept_of G first) (kept_of G left) false false Most Most (λ e. e) (λ id. omega arith)
+      (λ id. let v = w.stays.version id in omega (arith, v)) (inr (inl refl)) (inr of)
+
+  since : ReplaceKeeps (tower trace faults G) (store_of first) file first.core.saver left.core.saver → (tower_durables trace).identity (store_of left) ≡ (tower_durables trace).identity (store_of first)
+      → ((id : List ℕ) → version_of trace left id ≡ version_of trace first id) → VersionsSince (G.kept keeper) (G.kept ended.keeper) []
+  since keeps identity versions =
+      elim (kept_since (G.kept keeper) (kept_of G first) b.attached.state b.attached.list b.attached.loaded b.attached.kept (version_of trace first) b.versions [] (G.kept ended.keeper) false
+      (kept_by trace (store_of left) (ap (λ (i : Identity). i.marked) identity ∙ unmarked_store) (kept_of G first) (kept_of G left) (G.kept ended.keeper) false false Most Most (λ e. e) (λ id. omega arith)
+      (λ id. let v = versions id in omega (arith, v)) (replaced keeps.kept) (z.closes.kept fresh))) [
+        | inl marked ↦ absurd (cc marked.0)
+        | inr s ↦ s
+      ]
+
   pub changed : (status : Status) (output : Stream) → ended.status ≡ first_of status (closing_status closing) → Reports change output status → left_chance ≡ (seal_drawn chance).1
       → ((kept now : Tree) → TowerStands ShowsFiles trace faults G first.core kept now → Synced ShowsFiles (tower trace faults G) left.core kept now change)
       → ((may : List (List ℕ)) (now : List ℕ) → TowerConfigures trace G first.core may now → Replaced (tower_holdings trace) (tower_durables trace) records G left.core may now file change)
       → IsOnly new file (opened (settings_of first.opened.config) first.opened.params) ⊎ (IsErrOf change sync_error.Memory × (left ≡ first))
       → (is_some (calls_of trace first) ≡ true → OnOk change (KeptConfigures records (kept_of G left) (calls_of trace left) file))
-      → OnOk change (HasEmptyList (kept_of G left)) → ((id : List ℕ) → version_of trace left id ≡ version_of trace first id)
+      → OnOk change (HasEmptyList (kept_of G left)) → ReplaceKeeps (tower trace faults G) (store_of first) file first.core.saver left.core.saver
+      → (tower_durables trace).identity (store_of left) ≡ (tower_durables trace).identity (store_of first) → ((id : List ℕ) → version_of trace left id ≡ version_of trace first id)
       → (tower_durables trace).least (store_of left) ≡ (tower_durables trace).least (store_of first) → StaysLeast (tower trace faults G) (store_of first) (kept_of G first) (kept_of G left)
       → UnlessDirectory change (vault_faults trace faults left ≡ vault_faults trace faults first) → UnlessState change (keeper_faults G left ≡ keeper_faults G first) → IsChanged trace faults G old new chance left_chance output vault keeper ended
-  changed status output es r drawn synced configures opens holds empty versions level least vault_quiet keeper_quiet = record {
+  changed status output es r drawn synced configures opens holds empty keeps identity versions level least vault_quiet keeper_quiet = record {
     o = first.opened;
     kept = kept_of G first;
     calls = calls_of trace first;
@@ -193,7 +223,7 @@ module _ {V : Type 0} {K : Type 0} (trace : V → Option (List Call)) (faults : 
     opens = λ told. opens_after change unchanged (holds (told_on (trace vault) (calls_of trace first) (attached_on old (G.kept keeper) (kept_of G first) (trace vault) (calls_of trace first) first.opened b.attached) told)) opens;
     stays = λ was told k. let before = b.configures was told k in stays was change unchanged before (configures (was ∷ []) was before) opens;
     emptied = emptied change unchanged empty;
-    versions = versions_since (G.kept keeper) (G.kept ended.keeper) b.attached.state b.attached.list b.attached.loaded (version_of trace first) (version_of trace left) [] b.versions (λ id. omega (arith, versions id)) closing (z.closes.versions fresh);
+    versions = since keeps identity versions;
     config = config_is trace faults G old vault keeper first left closing ended.vault ended.keeper b z fresh same on (stands synced);
     unmarked = unmarked;
     quiet = quiet trace faults G old vault keeper first left closing ended.vault ended.keeper b z fresh same on (stands synced) unmarked level least;

@@ -1,5 +1,5 @@
 -- What `create` does.
-use Rattle.std.specs.Prelude.{◌≡◌, ◌≢◌, ◌⊎◌, ℕ, true, List, Result, Err, is_some, IsErr, IfOk, IfErr, OnOk}
+use Rattle.std.specs.Prelude.{◌≡◌, ◌⊎◌, ℕ, List, Result, IsErr, OnOk}
 use Rattle.std.specs.declared.option.Option.{Option}
 use Rattle.std.specs.declared.option.Option.TheVariants.{None}
 use Rattle.block_id.specs.declared.id.BlockId.{BlockId}
@@ -8,13 +8,10 @@ use Rattle.config_file.specs.ConfigOf.{IsOnly, opened}
 use Rattle.line_io.specs.Streams.{Stream}
 use Rattle.mount_tower.specs.declared.draws.Draws.{Draws}
 use Rattle.mount_tower.specs.declared.error.OpenError.{OpenError}
-use Rattle.mount_tower.specs.declared.opening.TheConstants.{MAX_CONFIG}
-use Rattle.mount_tower.specs.declared.error.OpenError.TheVariants as open_error
 use Rattle.mount_calls.specs.Migrating.{KeepsNewest}
-use Rattle.mount.specs.Making.{Created as Made, HasClient, HasSalt, KnowsOnly, StaysThere}
-use Rattle.mount_tower.specs.Making.{CreateCause, IsUnchanged, new_settings, root_of, sealed_file}
-use Rattle.outside.specs.Going.{GoesOn}
-use Rattle.outside.specs.Trace.{Call, adds, got, config}
+use Rattle.mount.specs.Making.{Created as Made, HasClient, HasSalt, KnowsOnly, MakesOnlyAnew, TellsMade}
+use Rattle.mount_tower.specs.Making.{IsUnchanged, new_settings, root_of, sealed_file}
+use Rattle.outside.specs.Trace.{Call}
 use Rattle.outside.specs.declared.keeper.Keeper.{Ghosts as KeeperGhosts}
 use Rattle.passwords.specs.Passwords.{PasswordUnread}
 use Rattle.session_runs.specs.Openings.{HasPassword, IsUnread}
@@ -27,26 +24,17 @@ use Rattle.setup_texts.specs.CreateText.{Reports}
 pub record IsCreated {V : Type 0} {K : Type 0} (trace : V → Option (List Call)) (faults : V → ℕ) (G : KeeperGhosts K) (cost : Cost) (block_size : ℕ) (draws : Draws) (password : List ℕ) (output : Stream) (vault : V) (keeper : K) (ended : Ended V K) : Type 0 where
   pub made : Result BlockId OpenError
   pub reports : Reports made output ended.status
-  pub id : IfOk made (λ id. id.0 ≡ draws.fs_id)
   -- where nothing was there, the empty tree is kept, or after an error perhaps nothing
   pub stands : IsUnchanged (trace vault) → G.kept keeper ≡ None
       → Made ShowsFiles (new_settings block_size draws) (sealed_file password cost draws.seal (new_settings block_size draws)) (G.kept keeper) (G.kept ended.keeper) (trace ended.vault) made
   -- the configuration's text opens under the password and nothing else, where it was put
   pub opens : IsOnly password (sealed_file password cost draws.seal (new_settings block_size draws)) (opened (new_settings block_size draws) cost)
       ⊎ ((G.kept ended.keeper ≡ G.kept keeper) × IsErr made)
-  -- where something is kept, neither is written
-  pub there : is_some (G.kept keeper) ≡ true → StaysThere G.kept vault keeper ended.vault ended.keeper made
-  -- nothing is kept anew unless nothing was kept and the directory gave no configuration
-  pub absent : OnOk made ((G.kept keeper ≡ None) × GoesOn (adds (trace vault) (got config MAX_CONFIG None)) (trace ended.vault))
-  pub asked : (G.kept ended.keeper ≡ G.kept keeper) ⊎ ((G.kept keeper ≡ None) × GoesOn (adds (trace vault) (got config MAX_CONFIG None)) (trace ended.vault))
-  pub exists : made ≡ Err open_error.Exists → G.kept ended.keeper ≡ G.kept keeper
-  pub cause : IfErr made (CreateCause (G.kept keeper) (trace vault) (trace ended.vault) (faults vault) (faults ended.vault) (G.faults keeper) (G.faults ended.keeper))
-  -- no call that failed was passed over
-  pub directory_quiet : made ≢ Err open_error.FaultDirectory → faults ended.vault ≡ faults vault
-  pub state_quiet : made ≢ Err open_error.FaultState → G.faults ended.keeper ≡ G.faults keeper
+  pub anew : MakesOnlyAnew trace G vault keeper ended.vault ended.keeper made
+  pub tells : TellsMade trace faults G draws.fs_id vault keeper ended.vault ended.keeper made
   -- the new record knows the root's block at its first version at most, and no other
   pub versions : OnOk made (KnowsOnly (G.kept ended.keeper) (root_of draws.root))
-  -- and it takes block files of the newest format alone
+  -- and it has no mark, and takes block files of the newest format alone
   pub newest : OnOk made (KeepsNewest (G.kept ended.keeper))
   -- and the digest of the key in it has the drawn salt
   pub salt : OnOk made (HasSalt (G.kept ended.keeper) draws.key_salt)

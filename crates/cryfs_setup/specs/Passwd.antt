@@ -62,8 +62,8 @@ pub record IsChanged {V : Type 0} {K : Type 0} (trace : V → Option (List Call)
       → KeptConfigures records (G.kept ended.keeper) (trace ended.vault) file
       ⊎ NewOpens new (sealed_file new o.params (seal_drawn chance).0 (settings_of o.config)) o (outside_of trace faults G ended.vault ended.keeper)
   pub emptied : OnOk change (HasEmptyList (G.kept ended.keeper))
-  -- where closing was ok, as after each change that was, no block's version rose
-  pub versions : OnOk closing (VersionsSince (G.kept keeper) (G.kept ended.keeper) [])
+  -- however both ended, a record is kept and no block's version in it rose
+  pub versions : VersionsSince (G.kept keeper) (G.kept ended.keeper) []
   -- it is the one under which what was kept stood for a tree
   pub config : (c : Settings) (tree : Tree) → OpensTo ShowsFiles old c tree (outside_of trace faults G vault keeper) (outside_of trace faults G ended.vault ended.keeper) → settings_of o.config ≡ c
   pub unmarked : ¬ IsKeptMarked records (G.kept keeper)

@@ -125,7 +125,7 @@ module _ {V : Type 0} {K : Type 0} (trace : V → Option (List Call)) (faults : 
 
   unopened_named : (form : Form) (password : List ℕ) (error : OpenError) → IsUnopened trace faults G password vault keeper ended error → Named form
   unopened_named form password error u =
-      each_named form (λ d. u.unopened.vault_quiet (λ e. d (u.status ∙ ap opening_status e))) (λ s. u.unopened.keeper_quiet (λ e. s (u.status ∙ ap opening_status e)))
+      each_named form (λ d. u.unopened.fails.vault_faults.quiet (λ e. d (u.status ∙ ap opening_status e))) (λ s. u.unopened.fails.keeper_faults.quiet (λ e. s (u.status ∙ ap opening_status e)))
 
   -- the status tells the error that comes
   told_error : (made : Result BlockId OpenError) (error : OpenError) → CreateReports made output ended.status → made ≡ Err error → ended.status ≡ opening_status error
@@ -134,7 +134,7 @@ module _ {V : Type 0} {K : Type 0} (trace : V → Option (List Call)) (faults : 
   created_named : (form : Form) (cost : Cost) (block_size : ℕ) (draws : Draws) → RanCreate trace faults G cost block_size draws input output vault keeper ended → Named form
   created_named form cost block_size draws (inl u) = idle_named form u.uncalled
   created_named form cost block_size draws (inr (password, after, has, unfailed, c)) =
-      each_named form (λ d. c.directory_quiet (λ e. d (told_error c.made FaultDirectory c.reports e))) (λ s. c.state_quiet (λ e. s (told_error c.made FaultState c.reports e)))
+      each_named form (λ d. c.tells.vault_faults.quiet (λ e. d (told_error c.made FaultDirectory c.reports e))) (λ s. c.tells.keeper_faults.quiet (λ e. s (told_error c.made FaultState c.reports e)))
 
   told_named : Told trace faults G input output vault keeper ended → Named Info
   told_named (inl u) = idle_named Info u.uncalled

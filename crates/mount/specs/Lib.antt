@@ -5,6 +5,7 @@ pub mod Making
 pub mod Formats
 pub mod Mounts
 pub mod Answering
+pub mod Attaching
 pub mod Serving
 pub mod Sealing
 pub mod SealingLaws

@@ -16,7 +16,7 @@ use Rattle.session_saver.specs.Saving.{KeptConfigures, Leaves, UnlessDirectory, 
 use Rattle.session_saver.specs.declared.saver.SyncError.{SyncError}
 use Rattle.session_saver.specs.declared.saver.SyncError.TheVariants.{Memory, FaultDirectory, FaultState}
 use Rattle.mount_core.specs.Configuring.{ConfigClosed, ConfigSynced, Replaced}
-use Rattle.mount_core.specs.Keeping.{IsSameOrRecord, SyncKeeps}
+use Rattle.mount_core.specs.Keeping.{IsSameOrRecord, ReplaceKeeps, SyncKeeps}
 use Rattle.mount_core.specs.Formats.{StaysLeast}
 use Rattle.mount_core.specs.Standing.{Synced}
 use Rattle.tree_commands.specs.Performing.{Showing}
@@ -57,6 +57,8 @@ pub record ChangesPassword {V : Type 0} {K : Type 0} (shows : Showing) (trace : 
   pub opens : IsOnly password file (opened_as (settings_of old.opened.config) old.opened.params) ⊎ (IsErrOf result Memory × (new ≡ old))
   pub emptied : OnOk result (HasEmptyList (kept_of G new))
   pub ok : OnOk result (new.core.saver.changed ≡ false)
+  -- also after an error, what was kept before or one of this mount's two records with that file waiting
+  pub keeps : ReplaceKeeps (tower trace faults G) (store_of old) file old.core.saver new.core.saver
 
 -- what a closing leaves of its directory and its keeper
 pub record MountLeaves {V : Type 0} {K : Type 0} (trace : V → Option (List Call)) (faults : V → ℕ) (G : KeeperGhosts K) (mount : Mount V K) (closing : Result Unit SyncError) (vault : V) (keeper : K) : Type 0 where

@@ -25,11 +25,12 @@ use Rattle.std.proofs.lemmas.List.{length-map}
 use Rattle.mount_migrating.specs.Migrating.{told, AreUnspent, IsSpentAmong, Migrates, Raises}
 use Rattle.mount_migrating.specs.declared.error.MigrateError.{MigrateError}
 use Rattle.mount_migrating.specs.declared.error.MigrateError.TheVariants as error
-use Rattle.mount_tower.specs.Tower.{held_in, tower_holdings}
+use Rattle.mount_tower.specs.Tower.{held_in, tower_durables, tower_holdings}
 use Rattle.outside.specs.Going.{goes_on_same}
 use Rattle.outside.specs.Trace.{Call}
 use Rattle.outside.specs.declared.keeper.Keeper.{Ghosts as KeeperGhosts}
 use Rattle.store_api.specs.Content.{Id, id_cmp, same_id}
+use Rattle.store_api.specs.Durables.{Identity}
 use Rattle.store_api.specs.Holdings.{has_id}
 use Rattle.tree_commands.specs.Showing.{ShowsFiles}
 use Rattle.mount_calls.specs.Migrating.{ids_in, least_in, MigratesMount}
@@ -87,6 +88,7 @@ module _ {V : Type 0} {K : Type 0} (trace : V → Option (List Call)) (faults : 
     kept = λ unchanged. record {
       state = (held_in (store_of mount)).state;
       keeps = record { bytes = mount.core.saver.last.items; kept = ready.core.whole.kept unchanged; is_record = ready.core.whole.last unchanged };
+      unmarked = ap (λ (i : Identity). i.marked) ready.identity;
       least = two;
     };
     unchanged = λ unchanged. unchanged;
@@ -140,8 +142,8 @@ module _ {V : Type 0} {K : Type 0} (trace : V → Option (List Call)) (faults : 
     left_so false true kept now l = inr l
     left_so false false kept now l = l
 
-    pub migrates_all : (count : ℕ) → count ≡ length ids → (m : Migrates ShowsFiles (tower trace faults G) old.core (ids_of ids) (Ok tt) new.core) → MigratesMount ShowsFiles trace faults G old (Ok count) new
-    migrates_all count is m = record {
+    pub migrates_all : (count : ℕ) → count ≡ length ids → ((tower_durables trace).identity (store_of old)).marked ≡ false → (m : Migrates ShowsFiles (tower trace faults G) old.core (ids_of ids) (Ok tt) new.core) → MigratesMount ShowsFiles trace faults G old (Ok count) new
+    migrates_all count is unmarked_store m = record {
       opened = same;
       violated = m.violated;
       count = inr (one, is ∙ (sym (length-map ids (λ id. id.0)) ∙ ap length all));
@@ -156,7 +158,7 @@ module _ {V : Type 0} {K : Type 0} (trace : V → Option (List Call)) (faults : 
       raises = subst (Raises (tower_holdings trace) (store_of old) (store_of new)) all m.raises;
       older = tt;
       least = tt;
-      kept = λ unchanged. record { state = (held_in (store_of new)).state; keeps = record { bytes = m.done.bytes; kept = m.done.kept; is_record = m.done.is_record }; least = m.done.least };
+      kept = λ unchanged. record { state = (held_in (store_of new)).state; keeps = record { bytes = m.done.bytes; kept = m.done.kept; is_record = m.done.is_record }; unmarked = ap (λ (i : Identity). i.marked) m.identity ∙ unmarked_store; least = m.done.least };
       unchanged = λ unchanged. m.done.unchanged;
       goes_on = m.goes_on;
       forgeries = m.forgeries;

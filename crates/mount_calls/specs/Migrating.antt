@@ -30,10 +30,11 @@ ids_in mount = live_ids (held_in (store_of mount)).state.lives
 abbrev pub least_in : {V : Type 0} → {K : Type 0} → Mount V K → ℕ
 least_in mount = (held_in (store_of mount)).state.least
 
--- a record with an empty list is kept, and says that only the newest format is taken
+-- a record with an empty list is kept, without a mark, and says that only the newest format is taken
 pub record KeepsNewest (kept : Option (List ℕ)) : Type 0 where
   pub state : PlainState
   pub keeps : KeepsRecord kept state []
+  pub unmarked : state.marked ≡ false
   pub least : state.least ≡ 2
 
 -- how many blocks were written anew: all, or none where all were new

@@ -22,7 +22,7 @@ use Rattle.mount_core.specs.declared.body.Core.{Core}
 use Rattle.mount_core.specs.Answers.{is_done_answer, is_structure, OnFound, OnReply, OnSpent}
 use Rattle.mount_core.specs.Causes.{FoundCause, MadeRoom, OnlyLoaded, PassedNone, SpentCause}
 use Rattle.mount_core.specs.Configuring.{CoreConfigures, ConfigAnswered, ConfigClosed, ConfigSynced, Replaced}
-use Rattle.mount_core.specs.Keeping.{IsSameOrRecord, SyncKeeps, LineKeeps}
+use Rattle.mount_core.specs.Keeping.{IsSameOrRecord, ReplaceKeeps, SyncKeeps, LineKeeps}
 use Rattle.mount_core.specs.Formats.{StaysLeast}
 use Rattle.mount_core.specs.Sparing.{FewRaised}
 use Rattle.mount_core.specs.Standing.{Ready, CoreStands, Synced, Roomed, IsKeptMarked, Left, Closed}
@@ -70,6 +70,8 @@ pub record CoreReplaces {S : Type 0} {K : Type 0} (shows : Showing) (W : World S
   pub holds : W.holdings.told (store_of old) ≡ true → OnOk result (KeptConfigures W.records (W.keeper.kept new.saver.keeper) (W.durables.trace (store_of new)) bytes)
   pub emptied : OnOk result (KeepsEmpty W.durables (store_of new) (W.keeper.kept new.saver.keeper))
   pub ok : OnOk result (new.saver.changed ≡ false)
+  -- also after an error, what was kept before or one of the two records of this store with these bytes waiting
+  pub keeps : ReplaceKeeps W (store_of old) bytes old.saver new.saver
 
 -- and the last one, which gives the store and the keeper back
 pub record CoreCloses {S : Type 0} {K : Type 0} (shows : Showing) (W : World S K) (core : Core S K) (result : Result Unit SyncError) (store : S) (keeper : K) : Type 0 where

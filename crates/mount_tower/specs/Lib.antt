@@ -1,7 +1,9 @@
 pub mod Tower
 pub mod TowerLaws
 pub mod Identities
+pub mod Failing
 pub mod Opening
+pub mod Stores
 pub mod Unforged
 pub mod Drawing
 pub mod Making

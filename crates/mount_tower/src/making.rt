@@ -1,5 +1,5 @@
 // What a new file system is made of.
-ghost use Rattle.std.specs.Prelude.{◌≡◌, ◌≢◌, ◌≤◌, [], true, false, is_some, IsErr, IfOk, IfErr, OnOk};
+ghost use Rattle.std.specs.Prelude.{◌≡◌, ◌≢◌, [], true, false, is_some, IsErr, IfOk, IfErr, OnOk};
 ghost use Rattle.std.specs.FinMap as fin;
 ghost use Rattle.std.specs.declared.option.Option.TheVariants.{None};
 ghost use Rattle.std.specs.declared.result.Result.TheVariants.{Err};
@@ -10,6 +10,7 @@ ghost use Rattle.config_file.specs.Settings.{IsBlockSize, settings_of};
 ghost use Rattle.local_state.specs.Record.{HasRecord, plain_state};
 ghost use Rattle.mount_tower.specs.declared.opening.TheConstants.{MAX_CONFIG};
 ghost use Rattle.mount_tower.specs.Drawing.{drawn};
+ghost use Rattle.mount_tower.specs.Failing.{TellsFault};
 ghost use Rattle.mount_tower.specs.Making.{CreateCause, IsNewStore, StopsThere, new_settings, sealed_file, root_of};
 ghost use Rattle.mount_tower.specs.Opening.{ReadsConfigOnce};
 
@@ -38,10 +39,8 @@ pub fn ask_absent<V: Vault, K: Keeper>(
     ensures there { is_some (K.kept keeper.old) ≡ true → IsErr result × (vault.new ≡ vault.old) × IfErr result StopsThere }
     ensures reads { ReadsConfigOnce (V.trace vault.old) (V.trace vault.new) }
     ensures kept { K.kept keeper.new ≡ K.kept keeper.old }
-    ensures vault_grows { V.faults vault.old ≤ V.faults vault.new }
-    ensures keeper_grows { K.faults keeper.old ≤ K.faults keeper.new }
-    ensures vault_quiet { result ≢ Err OpenError.FaultDirectory → V.faults vault.new ≡ V.faults vault.old }
-    ensures keeper_quiet { result ≢ Err OpenError.FaultState → K.faults keeper.new ≡ K.faults keeper.old }
+    ensures vault_faults { TellsFault (result ≡ Err OpenError.FaultDirectory) (V.faults vault.old) (V.faults vault.new) }
+    ensures keeper_faults { TellsFault (result ≡ Err OpenError.FaultState) (K.faults keeper.old) (K.faults keeper.new) }
 {
     match keeper.load(alloc) {
         Ok(None) => {}

@@ -4,13 +4,13 @@ ghost use Rattle.std.specs.FinMap as fin;
 ghost use Rattle.outside.specs.View.{list_of};
 ghost use Rattle.local_state.specs.Record.{plain_state, HasRecord, IsRecord};
 ghost use Rattle.store_api.specs.Content.{Content, SameContent};
-ghost use Rattle.store_api.specs.Holdings.{IsFew};
 ghost use Rattle.held_blocks.specs.Stores.{version_in};
 ghost use Rattle.held_blocks.specs.Standing.{Stands as StandsFor};
 ghost use Rattle.config_file.specs.Settings.{settings_of, IsBlockSize};
-ghost use Rattle.mount_tower.specs.Opening.{OpenedConfig, IsOf, OpenCause, ReadsConfigOnce, ConfigCause};
-ghost use Rattle.mount_tower.specs.Identities.{Holder, holder_of, identity_for};
-ghost use Rattle.mount_tower.specs.Tower.{held_in, trace_in, tower_meanings, tower_holdings, tower_durables};
+ghost use Rattle.mount_tower.specs.Opening.{OpenedConfig, IsOf, ReadsConfigOnce, ConfigCause};
+ghost use Rattle.mount_tower.specs.Identities.{Holder, identity_for};
+ghost use Rattle.mount_tower.specs.Stores.{FindsConfig, IsOpenedStore, OpensNone};
+ghost use Rattle.mount_tower.specs.Tower.{trace_in, tower_meanings, tower_holdings};
 ghost use Rattle.std.specs.declared.result.Result.TheVariants.{Err};
 
 use crate::error::OpenError;
@@ -92,23 +92,13 @@ pub fn open_store<V: Vault>(
 ) -> Result<Opening<V>, Unread<V>>
     requires record_ { HasRecord (plain_state state) (list_of list.items) }
     requires unmarked { state.marked ≡ false }
-    ensures intact { IfOk result (λ o. (tower_meanings V.trace V.faults).intact o.store) }
-    ensures few { IfOk result (λ o. IsFew ((tower_holdings V.trace).used o.store)) }
-    ensures found { IfOk result (λ o. OpenedConfig password.now (list_of list.items) (V.trace vault) (trace_in V.trace o.store) o.opened) }
-    ensures is_of { IfOk result (λ o. IsOf (plain_state state) (settings_of o.opened.config)) }
-    ensures list { IfOk result (λ o. (tower_durables V.trace).list o.store ≡ list_of list.items) }
-    ensures state { IfOk result (λ o. (held_in o.store).state ≡ plain_state state) }
-    ensures identity { IfOk result (λ o. (tower_durables V.trace).identity o.store ≡ identity_for (settings_of o.opened.config) (holder_of (plain_state state))) }
+    ensures store { IfOk result (λ o. IsOpenedStore V.trace V.faults (plain_state state) (list_of list.items) (settings_of o.opened.config) (V.faults vault) o.store) }
+    ensures found { IfOk result (λ o. FindsConfig password.now (plain_state state) (list_of list.items) (V.trace vault) (trace_in V.trace o.store) o.opened) }
     ensures stands { IfOk result (λ o. (holder : Holder) (content : Content) (kept : List ℕ) → IsRecord (plain_state state) (list_of list.items) kept
         → StandsFor (identity_for (settings_of o.opened.config) holder) kept (V.trace vault) content
         → (tower_meanings V.trace V.faults).sound o.store × SameContent content ((tower_holdings V.trace).content o.store)) }
     ensures version { IfOk result (λ o. (id : List ℕ) → (tower_holdings V.trace).version o.store id ≡ version_in (fin.get (plain_state state).lives id)) }
-    ensures reads { IfOk result (λ o. ReadsConfigOnce (V.trace vault) (trace_in V.trace o.store)) }
-    ensures faults { IfOk result (λ o. (tower_meanings V.trace V.faults).faults o.store ≡ V.faults vault) }
-    ensures err { IfErr result (λ u. OpenCause password.now (plain_state state) (list_of list.items) (V.trace vault) (V.trace u.vault) (V.faults vault) (V.faults u.vault) u.error) }
-    ensures err_reads { IfErr result (λ u. ReadsConfigOnce (V.trace vault) (V.trace u.vault)) }
-    ensures err_faults { IfErr result (λ u. V.faults vault ≤ V.faults u.vault) }
-    ensures err_quiet { IfErr result (λ u. u.error ≢ OpenError.FaultDirectory → V.faults u.vault ≡ V.faults vault) }
+    ensures unread { IfErr result (λ u. OpensNone password.now (plain_state state) (list_of list.items) (V.trace vault) (V.trace u.vault) (V.faults vault) (V.faults u.vault) u.error) }
 {
     let mut redo = RedoVault::new(vault, list);
     let opened = match read_config(alloc, &mut redo, password) {

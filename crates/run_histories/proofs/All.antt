@@ -117,7 +117,7 @@ module _ {V : Type 0} {K : Type 0} (trace : V → Option (List Call)) (faults : 
     created : Did trace faults names G made.words made.now made.streams h.vault h.keeper h.ended (Some (Create options)) → OutsideStandsFor ShowsFiles NewSettings empty_tree (outside_of trace faults G h.ended.vault h.ended.keeper)
     created (inl u) = absurd (unread_is_no h.ended.status Done (one_unread made.streams.input h.ended.status u.cause).unread (sym h.status ∙ done) (λ x. x))
     created (inr (password, script, has, unfailed, c)) =
-        reported _ c.made c.reports (on_ok c.made (G.kept h.keeper ≡ None) _ c.absent) (λ none. c.stands (subst (λ (o : Outside). IsUnchanged o.calls) h.begins unchanged) none)
+        reported _ c.made c.reports (on_ok c.made (G.kept h.keeper ≡ None) _ c.anew.absent) (λ none. c.stands (subst (λ (o : Outside). IsUnchanged o.calls) h.begins unchanged) none)
 
     pub made_stands : form_of made.words ≡ Some (Create options) → OutsideStandsFor ShowsFiles NewSettings empty_tree made.after
     made_stands asked =

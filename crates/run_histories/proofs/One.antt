@@ -210,7 +210,7 @@ module _ {V : Type 0} {K : Type 0} (trace : V → Option (List Call)) (faults : 
   did_stay (Some Trial) e there d = uncalled_stays d.1
   did_stay (Some (TrialGenerate count)) e there d = uncalled_stays d.2
   did_stay (Some (Create options)) e there (inl u) = uncalled_stays u.uncalled
-  did_stay (Some (Create options)) e there (inr (password, script, has, unfailed, c)) = there_stays c.made (c.there (there refl))
+  did_stay (Some (Create options)) e there (inr (password, script, has, unfailed, c)) = there_stays c.made (c.anew.there (there refl))
   did_stay (Some Info) e there d = absurd (cc)
   did_stay (Some Passwd) e there d = absurd (cc)
   did_stay (Some Migrate) e there d = absurd (cc)

@@ -9,7 +9,7 @@ returns-clause-changed g c =
     let n = c.change_password-change.ensures in
     inr (changed g.V.Vault.trace g.V.Vault.faults g.K.Keeper c.args.old.now c.args.new.now (g.R.Rng.stream c.args.chance.now) (g.R.Rng.stream c.change_password-change.new.chance) c.args.vault c.args.keeper
     c.in-Ok.mount c.change_password-change.new.mount c.change_password-change.result e.0 c.end_run.result m.begun m.unmarked e.2 n.moves.fresh n.moves.opened n.moves.leaves.goes_on n.changes.ok
-    c.report_changed-reported.result _ e.1 c.report_changed-reported.ensures.reports n.draws n.changes.stands n.changes.configures n.changes.opens n.changes.holds n.changes.emptied n.moves.leaves.stays.version n.moves.leaves.least n.moves.least n.moves.leaves.vault_quiet n.moves.leaves.keeper_quiet)
+    c.report_changed-reported.result _ e.1 c.report_changed-reported.ensures.reports n.draws n.changes.stands n.changes.configures n.changes.opens n.changes.holds n.changes.emptied n.changes.keeps n.moves.leaves.identity n.moves.leaves.stays.version n.moves.leaves.least n.moves.least n.moves.leaves.vault_quiet n.moves.leaves.keeper_quiet)
 
 pub returns-clause-causes : goal.returns-clause-causes
 returns-clause-causes g c =

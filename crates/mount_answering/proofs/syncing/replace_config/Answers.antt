@@ -1,12 +1,14 @@
-use Rattle.std.proofs.Common.{true, inl, refl, sym, ◌∙◌, subst, arith}
+use Rattle.std.proofs.Common.{true, inl, inr, refl, sym, ◌∙◌, subst, arith}
 use Rattle.outside.specs.Causes.{RoseBy}
 use Rattle.outside.specs.Going.{GoesOn, goes_on_equal}
 use Rattle.store_api.specs.Holdings.{IsFew}
 use Rattle.tree_commands.specs.Showing.{ShowsFiles}
 use Rattle.tree_commands.proofs.Shows.{files_same}
+use Rattle.mount_core.specs.Keeping.{HasConfigWaiting}
 use Rattle.mount_core.specs.declared.body.Core.{Core}
 use Rattle.mount_answering.proofs.Formats.{least_along}
 use Rattle.mount_answering.proofs.Lines.{replaced, stands_loaded, stands_waiting, stays_on, config_waiting, configures_loaded, whole_loaded}
+use Rattle.session_saver.specs.Saving.{world}
 use Rattle.session_saver.proofs.Steps.{memory_directory, memory_state, unless_directory}
 use Rattle.mount_answering.proofs.syncing.replace_config.Given.{Over}
 use Rattle.mount_answering.proofs.syncing.replace_config.Goals as goal
@@ -61,6 +63,7 @@ returns-in-Err g c =
         holds = λ told. tt;
         emptied = tt;
         ok = tt;
+        keeps = record { kept = inl refl; last = inl refl };
       };
     }
 
@@ -80,7 +83,8 @@ returns g c =
     let m = c.sync.ensures.moves in
     let l = m.leaves in
     let z = c.sync.ensures.syncs in
-    let waits = c.in-Ok.ensures.keeps.configures in
+    let waits = c.in-Ok.ensures.configures in
+    let waiting : HasConfigWaiting (world M H D R g.K.Keeper) store bytes mid.blobs.tx.store = record { identity = p.identity; least = p.least; stays = p.stays; list = c.in-Ok.ensures.ok; trace = p.trace } in
     record {
       moves = record {
         ready = m.ready;
@@ -109,5 +113,9 @@ returns g c =
         holds = λ told. z.holds bytes (p.stays.told ∙ told) waits;
         emptied = z.emptied;
         ok = z.ok;
+        keeps = record {
+          kept = elim z.keeps.kept [ inl same ↦ inl same | inr of ↦ inr (mid.blobs.tx.store, waiting, of) ];
+          last = elim z.keeps.last [ inl same ↦ inl same | inr of ↦ inr (mid.blobs.tx.store, waiting, of) ];
+        };
       };
     }

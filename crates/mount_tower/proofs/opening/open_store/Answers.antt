@@ -1,7 +1,8 @@
-use Rattle.std.proofs.Common.{◌≡◌, refl, sym, ◌∙◌, ap, subst}
+use Rattle.std.proofs.Common.{◌≡◌, ◌≤◌, List, refl, sym, ◌∙◌, ap, subst, arith}
 use Rattle.aes_gcm.specs.Gcm.{opened_of}
 use Rattle.outside.specs.Changes.{change_at}
-use Rattle.outside.specs.Trace.{config}
+use Rattle.outside.specs.Trace.{Call, config}
+use Rattle.std.specs.declared.option.Option.{Option}
 use Rattle.outside.specs.View.{list_of}
 use Rattle.local_state.specs.Record.{plain_state, IsRecord}
 use Rattle.redo_vault.specs.Redo.{Redo}
@@ -11,7 +12,9 @@ use Rattle.held_blocks.specs.Stores.{IsNoBlock}
 use Rattle.integrity_store.specs.WaitingLaws.{in_order}
 use Rattle.config_file.specs.Settings.{settings_of}
 use Rattle.config_file.specs.declared.config.Cipher.{Cipher}
-use Rattle.mount_tower.specs.Opening.{OpenCause, ReadsConfigOnce}
+use Rattle.mount_tower.specs.Opening.{ReadsConfigOnce}
+use Rattle.mount_tower.specs.Stores.{FindsConfig, OpensNone}
+use Rattle.mount_tower.specs.declared.error.OpenError.{OpenError}
 use Rattle.mount_tower.specs.Identities.{holder_of, identity_for}
 use Rattle.mount_tower.specs.Tower.{vault_in}
 use Rattle.mount_tower.proofs.Found.{config_open, identity_is, no_block}
@@ -26,14 +29,48 @@ RedoOf g = Redo g.row.V.Denot
 pub new-redo-requires : goal.new-redo-requires
 new-redo-requires g c = in_order (plain_state c.args.state) (list_of c.args.list.items) c.requires.record_
 
-pub returns-in-Err-clause-err : goal.returns-in-Err-clause-err
-returns-in-Err-clause-err g c =
+-- what was said of the files before and after, by the directory that came and the one that goes back
+along : (g : Over) (P : RedoOf g → g.row.V.Denot → Type 0) (r first : RedoOf g) (last back : g.row.V.Denot) → r ≡ first → back ≡ last → P r last → P first back
+along g P r first last back ef eb p = subst (λ x. P x back) ef (subst (λ v. P r v) (sym eb) p)
+
+pub returns-in-Err-clause-unread : goal.returns-in-Err-clause-unread
+returns-in-Err-clause-unread g c =
     let state = plain_state c.args.state in
-    let e = c.in-Err.error in
     let V = g.V.Vault in
-    subst (λ (x : RedoOf g). OpenCause c.args.password.now state x.list (V.trace x.vault) (V.trace c.into_vault.result) (V.faults x.vault) (V.faults c.into_vault.result) e) c.new-redo.ensures
-    (subst (λ v. OpenCause c.args.password.now state c.new-redo.result.list (V.trace c.new-redo.result.vault) (V.trace v) (V.faults c.new-redo.result.vault) (V.faults v) e) (sym c.into_vault.ensures)
-    (config_open c.args.password.now state c.new-redo.result.list _ _ _ _ e c.in-Err.ensures.err))
+    let e = c.in-Err.error in
+    along g (λ x v. OpensNone c.args.password.now state x.list (V.trace x.vault) (V.trace v) (V.faults x.vault) (V.faults v) e) _ _ _ _ c.new-redo.ensures c.into_vault.ensures
+    (record {
+      cause = config_open c.args.password.now state c.new-redo.result.list _ _ _ _ e c.in-Err.ensures.err;
+      reads = c.read_config.ensures.reads;
+      faults = record { grows = c.read_config.ensures.grows; quiet = λ n. c.in-Err.ensures.quiet (λ is. n (err_same is)) };
+    })
+
+pub returns-in-Err-check_identity-clause-unread : goal.returns-in-Err-check_identity-clause-unread
+returns-in-Err-check_identity-clause-unread g c =
+    let state = plain_state c.args.state in
+    let V = g.V.Vault in
+    let P = λ (e : OpenError) (x : RedoOf g) (v : g.row.V.Denot). OpensNone c.args.password.now state x.list (V.trace x.vault) (V.trace v) (V.faults x.vault) (V.faults v) e in
+    let same = c.in-Ok.ensures.quiet (λ is. ok_err c.in-Ok.opened _ is) in
+    along g (P c.in-Err-check_identity.error) _ _ _ _ c.new-redo.ensures c.into_vault-in-Err-check_identity.ensures
+    (subst (λ e. P e c.new-redo.result c.read_config.new.vault.vault) (sym c.in-Err-check_identity.ensures.err)
+    (record {
+      cause = record { o = c.in-Ok.opened; opened_so = c.in-Ok.ensures.ok; other = c.in-Err-check_identity.ensures.other; kept_id = refl; found_id = refl };
+      reads = c.read_config.ensures.reads;
+      faults = record { grows = c.read_config.ensures.grows; quiet = λ n. same };
+    }))
+
+pub returns-in-Err-cached_store-clause-unread : goal.returns-in-Err-cached_store-clause-unread
+returns-in-Err-cached_store-clause-unread g c =
+    let V = g.V.Vault in
+    let trace = λ (x : RedoOf g). V.trace x.vault in
+    let faults = λ (x : RedoOf g). V.faults x.vault in
+    let et = c.in-Err-cached_store.ensures.err_trace ∙ ap trace c.new-sealed.ensures.vault in
+    let ef = c.in-Err-cached_store.ensures.err_faults ∙ (ap faults c.new-sealed.ensures.vault ∙ (c.in-Ok.ensures.quiet (λ is. ok_err c.in-Ok.opened _ is) ∙ ap faults c.new-redo.ensures)) in
+    record {
+      cause = tt;
+      reads = subst (λ t. ReadsConfigOnce (V.trace c.args.vault) t) (sym et) (subst (λ (x : RedoOf g). ReadsConfigOnce (trace x) (trace c.read_config.new.vault)) c.new-redo.ensures c.read_config.ensures.reads);
+      faults = record { grows = omega (arith, ef); quiet = λ n. ef };
+    }
 
 pub new-sealed-requires-clause-size : goal.new-sealed-requires-clause-size
 new-sealed-requires-clause-size g c = (c.in-Ok.ensures.size.low, c.in-Ok.ensures.size.high)
@@ -44,11 +81,30 @@ cached_store-requires-clause-config g c =
     let e = ap (λ (x : RedoOf g). x.list) c.new-sealed.ensures.vault ∙ c.read_config.ensures.list in
     subst (λ l. IsNoBlock (change_at config l)) (sym e) (no_block (change_at config c.new-redo.result.list) _ _ f.answer f.gave f.opens.0)
 
-pub returns-in-Ok-cached_store-clause-identity : goal.returns-in-Ok-cached_store-clause-identity
-returns-in-Ok-cached_store-clause-identity g c =
-    c.in-Ok-cached_store.ensures.identity
-    ∙ identity_is (held_of (λ (cipher : Cipher) key extra text. opened_of key extra text) c.new-sealed.result c.args.state) (settings_of c.in-Ok.opened.config) (plain_state c.args.state) c.new-sealed.ensures.size
-    (ap opened_of c.new-sealed.ensures.key) refl c.requires.unmarked c.in-Ok-check_identity.ensures.ok
+pub returns-in-Ok-cached_store-clause-store : goal.returns-in-Ok-cached_store-clause-store
+returns-in-Ok-cached_store-clause-store g c =
+    let list = λ (x : RedoOf g). x.list in
+    let faults = λ (x : RedoOf g). g.V.Vault.faults x.vault in
+    let e = c.in-Ok-cached_store.ensures in
+    record {
+      intact = e.intact;
+      few = e.few;
+      waits = e.list ∙ (ap list c.new-sealed.ensures.vault ∙ (c.read_config.ensures.list ∙ ap list c.new-redo.ensures));
+      holds = e.state;
+      identity = e.identity
+          ∙ identity_is (held_of (λ (cipher : Cipher) key extra text. opened_of key extra text) c.new-sealed.result c.args.state) (settings_of c.in-Ok.opened.config) (plain_state c.args.state) c.new-sealed.ensures.size
+          (ap opened_of c.new-sealed.ensures.key) refl c.requires.unmarked c.in-Ok-check_identity.ensures.ok;
+      unfailed = e.faults ∙ (ap faults c.new-sealed.ensures.vault ∙ (c.in-Ok.ensures.quiet (λ is. ok_err c.in-Ok.opened _ is) ∙ ap faults c.new-redo.ensures));
+    }
+
+pub returns-in-Ok-cached_store-clause-found : goal.returns-in-Ok-cached_store-clause-found
+returns-in-Ok-cached_store-clause-found g c =
+    let trace = λ (x : RedoOf g). g.V.Vault.trace x.vault in
+    let o = c.in-Ok.opened in
+    let state = plain_state c.args.state in
+    let P = λ (x : RedoOf g) (t : Option (List Call)). FindsConfig c.args.password.now state x.list (trace x) t o in
+    subst (λ t. P (record { vault = c.args.vault; list = list_of c.args.list.items }) t) (sym (c.in-Ok-cached_store.ensures.trace ∙ ap trace c.new-sealed.ensures.vault))
+    (subst (λ x. P x (trace c.read_config.new.vault)) c.new-redo.ensures (record { found = c.in-Ok.ensures.ok; is_of = c.in-Ok-check_identity.ensures.ok; reads = c.read_config.ensures.reads }))
 
 pub returns-in-Ok-cached_store-clause-stands : goal.returns-in-Ok-cached_store-clause-stands
 returns-in-Ok-cached_store-clause-stands g c holder content kept is s =
@@ -59,19 +115,9 @@ returns-in-Ok-cached_store-clause-stands g c holder content kept is s =
     let t0 = V.trace c.args.vault in
     let t = V.trace (vault_in c.in-Ok-cached_store.store) in
     let e : holder_of state ≡ holder = stands_holder cfg holder state list kept t0 content is s in
-    let et : t ≡ V.trace c.read_config.new.vault.vault = c.in-Ok-cached_store.ensures.trace ∙ ap (λ (x : RedoOf g). V.trace x.vault) c.new-sealed.ensures.vault in
-    let reads : ReadsConfigOnce t0 t = subst (λ x. ReadsConfigOnce t0 x) (sym et) (subst (λ (x : RedoOf g). ReadsConfigOnce (V.trace x.vault) (V.trace c.read_config.new.vault.vault)) c.new-redo.ensures c.read_config.ensures.reads) in
+    let reads : ReadsConfigOnce t0 t = (returns-in-Ok-cached_store-clause-found g c).reads in
     let s1 : Stands (identity_for cfg (holder_of state)) kept t0 content = subst (λ x. Stands (identity_for cfg x) kept t0 content) (sym e) s in
     let s2 : Stands (identity_for cfg (holder_of state)) kept t content = reads_stands (identity_for cfg (holder_of state)) kept content t0 t reads s1 in
     let waits : c.new-sealed.result.vault.list ≡ list = ap (λ (x : RedoOf g). x.list) c.new-sealed.ensures.vault ∙ (c.read_config.ensures.list ∙ ap (λ (x : RedoOf g). x.list) c.new-redo.ensures) in
     c.in-Ok-cached_store.ensures.opened content kept (subst (λ l. IsRecord state l kept) (sym waits) is)
-    (subst (λ i. Stands i kept t content) (sym (returns-in-Ok-cached_store-clause-identity g c)) s2)
-
-pub returns-in-Err-clause-err_quiet : goal.returns-in-Err-clause-err_quiet
-returns-in-Err-clause-err_quiet g c n =
-    ap g.V.Vault.faults c.into_vault.ensures ∙ (c.in-Err.ensures.quiet (λ e. n (err_same e)) ∙ ap (λ (x : RedoOf g). g.V.Vault.faults x.vault) c.new-redo.ensures)
-
-pub returns-in-Ok-cached_store-clause-faults : goal.returns-in-Ok-cached_store-clause-faults
-returns-in-Ok-cached_store-clause-faults g c =
-    let faults = λ (x : RedoOf g). g.V.Vault.faults x.vault in
-    c.in-Ok-cached_store.ensures.faults ∙ (ap faults c.new-sealed.ensures.vault ∙ (c.in-Ok.ensures.quiet (λ e. ok_err c.in-Ok.opened _ e) ∙ ap faults c.new-redo.ensures))
+    (subst (λ i. Stands i kept t content) (sym (returns-in-Ok-cached_store-clause-store g c).identity) s2)
