@@ -6,12 +6,15 @@ use Rattle.std.specs.FinMap.Entries.{below_all}
 use Rattle.std.specs.Ordering.{is_eq, is_lt}
 use Rattle.std.specs.declared.option.Option.{Option}
 use Rattle.std.specs.declared.result.Result.TheVariants.{Ok, Err}
+use Rattle.answers.specs.declared.answer.Answer.{Answer}
+use Rattle.answers.specs.declared.answer.Answer.TheVariants.{Reply as Replied, Memory}
 use Rattle.block_id.proofs.Conditions.{left, right}
 use Rattle.block_id.proofs.Orders.{less_so}
 use Rattle.block_id.specs.declared.id.BlockId.{BlockId}
 use Rattle.data_nodes.specs.Layout.{ids_of}
 use Rattle.data_tree.specs.Trees.{NoDoubles}
 use Rattle.fs_model.specs.Tree.{Tree}
+use Rattle.fs_model.specs.declared.reply.Reply.TheVariants.{Done}
 use Rattle.local_state.specs.Known.{Lives, live_ids}
 use Rattle.local_state.specs.Record.{IsLeast}
 use Rattle.mount.specs.declared.mount.Mount.{Mount}
@@ -22,10 +25,13 @@ use Rattle.mount_blocks.proofs.Living.{ids_rise}
 use Rattle.mount_core.specs.Answers.{OnSpent}
 use Rattle.mount_core.specs.Standing.{Left}
 use Rattle.std.proofs.lemmas.List.{length-map}
-use Rattle.mount_migrating.specs.Migrating.{told, AreUnspent, IsSpentAmong, Migrates, Raises}
+use Rattle.mount_migrating.specs.Migrating.{answer_of, told, AreUnspent, IsSpentAmong, Migrates, Raises}
 use Rattle.mount_migrating.specs.declared.error.MigrateError.{MigrateError}
 use Rattle.mount_migrating.specs.declared.error.MigrateError.TheVariants as error
-use Rattle.mount_tower.specs.Tower.{held_in, tower_durables, tower_holdings}
+use Rattle.mount_migrating.specs.Noticing.{PassesNone}
+use Rattle.mount_migrating.proofs.Noticing.{along_same, passes_along}
+use Rattle.mount_tower.specs.Tower.{held_in, tower_meanings, tower_holdings, tower_durables}
+use Rattle.mount_tower.specs.TowerLaws.{tower_lawful}
 use Rattle.outside.specs.Going.{goes_on_same}
 use Rattle.outside.specs.Trace.{Call}
 use Rattle.outside.specs.declared.keeper.Keeper.{Ghosts as KeeperGhosts}
@@ -33,7 +39,7 @@ use Rattle.store_api.specs.Content.{Id, id_cmp, same_id}
 use Rattle.store_api.specs.Durables.{Identity}
 use Rattle.store_api.specs.Holdings.{has_id}
 use Rattle.tree_commands.specs.Showing.{ShowsFiles}
-use Rattle.mount_calls.specs.Migrating.{ids_in, least_in, MigratesMount}
+use Rattle.mount_calls.specs.Migrating.{ids_in, least_in, tower_applied, MigratesMount}
 
 -- ---- ids that increase
 
@@ -69,6 +75,17 @@ module _ {V : Type 0} {K : Type 0} (trace : V → Option (List Call)) (faults : 
   raises_none : (mount : Mount V K) → Raises (tower_holdings trace) (store_of mount) (store_of mount) (ids_in mount)
   raises_none mount = record { raised = λ id. omega arith; rests = λ id none. refl }
 
+  abbrev Noticed : Mount V K → Answer → Mount V K → Type 0
+  Noticed old answer new = PassesNone (tower_meanings trace faults) (tower_holdings trace) (tower_durables trace) (tower_applied trace) (store_of old) answer (store_of new)
+
+  noticed_none : (mount : Mount V K) (answer : Answer) → Noticed mount answer mount
+  noticed_none mount answer =
+      let M = tower_meanings trace faults in
+      let H = tower_holdings trace in
+      let D = tower_durables trace in
+      let a = store_of mount in
+      passes_along M H D (tower_applied trace) a a answer (along_same M H D (tower_applied trace) (tower_lawful trace faults) a answer)
+
   pub migrates_none : (mount : Mount V K) → IsReady trace faults G mount → mount.core.violated ≡ false → least_in mount ≡ 2 → MigratesMount ShowsFiles trace faults G mount (Ok 0) mount
   migrates_none mount ready fresh two = record {
     opened = refl;
@@ -80,6 +97,7 @@ module _ {V : Type 0} {K : Type 0} (trace : V → Option (List Call)) (faults : 
     alarm = λ kept now s honest. refl;
     of_blocks = refl;
     found = tt;
+    noticed = noticed_none mount (Replied Done);
     spent = tt;
     unspent = λ one. absurd (cc (sym two ∙ one));
     raises = raises_none mount;
@@ -115,6 +133,7 @@ module _ {V : Type 0} {K : Type 0} (trace : V → Option (List Call)) (faults : 
     alarm = λ kept now s honest. refl;
     of_blocks = refl;
     found = tt;
+    noticed = noticed_none mount Memory;
     spent = tt;
     unspent = tt;
     raises = raises_none mount;
@@ -142,8 +161,8 @@ module _ {V : Type 0} {K : Type 0} (trace : V → Option (List Call)) (faults : 
     left_so false true kept now l = inr l
     left_so false false kept now l = l
 
-    pub migrates_all : (count : ℕ) → count ≡ length ids → ((tower_durables trace).identity (store_of old)).marked ≡ false → (m : Migrates ShowsFiles (tower trace faults G) old.core (ids_of ids) (Ok tt) new.core) → MigratesMount ShowsFiles trace faults G old (Ok count) new
-    migrates_all count is unmarked_store m = record {
+    pub migrates_all : (count : ℕ) → count ≡ length ids → (m : Migrates ShowsFiles (tower trace faults G) old.core (ids_of ids) (Ok tt) new.core) → Noticed old (Replied Done) new → MigratesMount ShowsFiles trace faults G old (Ok count) new
+    migrates_all count is m noticed = record {
       opened = same;
       violated = m.violated;
       count = inr (one, is ∙ (sym (length-map ids (λ id. id.0)) ∙ ap length all));
@@ -153,6 +172,7 @@ module _ {V : Type 0} {K : Type 0} (trace : V → Option (List Call)) (faults : 
       alarm = m.alarm;
       of_blocks = m.of_blocks;
       found = m.found;
+      noticed = noticed;
       spent = tt;
       unspent = λ level. subst (AreUnspent (tower_holdings trace) (store_of old)) all m.unspent;
       raises = subst (Raises (tower_holdings trace) (store_of old) (store_of new)) all m.raises;
@@ -171,8 +191,8 @@ module _ {V : Type 0} {K : Type 0} (trace : V → Option (List Call)) (faults : 
       marked = m.marked;
     }
 
-    pub migrates_failed : (e : MigrateError) → (m : Migrates ShowsFiles (tower trace faults G) old.core (ids_of ids) (Err e) new.core) → MigratesMount ShowsFiles trace faults G old (Err e) new
-    migrates_failed e m = record {
+    pub migrates_failed : (e : MigrateError) → (m : Migrates ShowsFiles (tower trace faults G) old.core (ids_of ids) (Err e) new.core) → Noticed old (answer_of e) new → MigratesMount ShowsFiles trace faults G old (Err e) new
+    migrates_failed e m noticed = record {
       opened = same;
       violated = m.violated;
       count = tt;
@@ -182,6 +202,7 @@ module _ {V : Type 0} {K : Type 0} (trace : V → Option (List Call)) (faults : 
       alarm = m.alarm;
       of_blocks = m.of_blocks;
       found = m.found;
+      noticed = noticed;
       spent = subst (λ xs. OnSpent (told {T = ℕ} (Err e)) (IsSpentAmong (tower_holdings trace) (store_of old) xs)) all m.spent;
       unspent = tt;
       raises = subst (Raises (tower_holdings trace) (store_of old) (store_of new)) all m.raises;

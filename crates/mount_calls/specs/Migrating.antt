@@ -2,6 +2,7 @@
 use Rattle.std.specs.Prelude.{◌≡◌, ◌⊎◌, ◌≤◌, ℕ, true, false, List, [], Result, OnOk, OnErr, IfOk, length}
 use Rattle.std.specs.declared.option.Option.{Option}
 use Rattle.answers.specs.Sessions.{is_violation, directory_faults, state_faults}
+use Rattle.batch_sealing.specs.Applied.{applied_by}
 use Rattle.fs_model.specs.Tree.{Tree}
 use Rattle.held_blocks.specs.Standing.{records}
 use Rattle.local_state.specs.Known.{live_ids}
@@ -13,14 +14,15 @@ use Rattle.mount_core.specs.Answers.{is_structure, OnFound, OnSpent}
 use Rattle.mount_core.specs.Configuring.{ConfigAnswered}
 use Rattle.mount_core.specs.Standing.{Left, IsKeptMarked}
 use Rattle.mount_migrating.specs.Migrating.{told, IsFoundSince, IsSpentAmong, AreUnspent, Raises}
+use Rattle.mount_migrating.specs.Noticing.{PassesNone}
 use Rattle.mount_migrating.specs.declared.error.MigrateError.{MigrateError}
 use Rattle.mount_tower.specs.Identities.{KeepsRecord}
-use Rattle.mount_tower.specs.Tower.{held_in, tower_meanings, tower_holdings, tower_durables}
+use Rattle.mount_tower.specs.Tower.{Cached, held_in, sealed_held, sealed_trace, tower_meanings, tower_holdings, tower_durables}
 use Rattle.outside.specs.Causes.{RoseBy}
 use Rattle.outside.specs.Going.{GoesOn}
 use Rattle.outside.specs.Trace.{Call}
 use Rattle.outside.specs.declared.keeper.Keeper.{Ghosts as KeeperGhosts}
-use Rattle.store_api.specs.Content.{Id}
+use Rattle.store_api.specs.Content.{Id, Changes}
 use Rattle.tree_commands.specs.Performing.{Showing}
 
 -- the live ids of a mount's store, and the least format that it takes
@@ -30,7 +32,11 @@ ids_in mount = live_ids (held_in (store_of mount)).state.lives
 abbrev pub least_in : {V : Type 0} → {K : Type 0} → Mount V K → ℕ
 least_in mount = (held_in (store_of mount)).state.least
 
--- a record with an empty list is kept, without a mark, and says that only the newest format is taken
+-- what a batch makes of a mount's store
+abbrev pub tower_applied : {V : Type 0} → (V → Option (List Call)) → Cached V → Cached V → Changes → Type 0
+tower_applied trace a b changes = applied_by sealed_held (sealed_trace trace) a.store b.store changes
+
+-- a record with an empty list is kept, and says that only the newest format is taken
 pub record KeepsNewest (kept : Option (List ℕ)) : Type 0 where
   pub state : PlainState
   pub keeps : KeepsRecord kept state []
@@ -55,6 +61,8 @@ pub record MigratesMount {V : Type 0} {K : Type 0} (shows : Showing) (trace : V 
   pub alarm : (kept now : Tree) → TowerStands shows trace faults G old.core kept now → lies_of trace faults new ≤ lies_of trace faults old → is_violation (told result) ≡ false
   pub of_blocks : is_structure (told result) ≡ false
   pub found : OnFound (told result) (IsFoundSince (tower_meanings trace faults) (tower_durables trace) (store_of old) (store_of new))
+  -- no wrong file that came is passed over
+  pub noticed : PassesNone (tower_meanings trace faults) (tower_holdings trace) (tower_durables trace) (tower_applied trace) (store_of old) (told result) (store_of new)
   pub spent : OnSpent (told result) (IsSpentAmong (tower_holdings trace) (store_of old) (ids_in old))
   pub unspent : OnOk result (least_in old ≡ 1 → AreUnspent (tower_holdings trace) (store_of old) (ids_in old))
   pub raises : Raises (tower_holdings trace) (store_of old) (store_of new) (ids_in old)

@@ -6,4 +6,5 @@ pub mod Syncing
 pub mod Least
 pub mod Chains
 pub mod Marking
+pub mod Noticing
 pub mod Crowds

@@ -4,7 +4,8 @@ ghost use Rattle.data_tree.specs.Trees.{NoDoubles};
 ghost use Rattle.session_saver.specs.Saving.{world};
 ghost use Rattle.tree_commands.specs.Showing.{ShowsFiles};
 ghost use Rattle.mount_core.specs.Standing.{Ready};
-ghost use Rattle.mount_migrating.specs.Migrating.{AreLive, IsMigratedRecord, Migrates, Moves};
+ghost use Rattle.mount_migrating.specs.Migrating.{told, AreLive, IsMigratedRecord, Migrates, Moves};
+ghost use Rattle.mount_migrating.specs.Noticing.{PassesNone};
 
 use crate::error::MigrateError;
 use crate::raising::raise_least;
@@ -31,6 +32,7 @@ fn migrate_blocks<S: Durable, K: Keeper, R: Rng>(
     ensures ready { Ready (world S.meanings S.holdings S.durables S.records K.Keeper) core.new }
     ensures moves { Moves ShowsFiles (world S.meanings S.holdings S.durables S.records K.Keeper)
         core.old (map (λ id. id.0) ids.now) result core.new }
+    ensures noticed { PassesNone S.meanings S.holdings S.durables S.applied core.old.blobs.tx.store (told result) core.new.blobs.tx.store }
 {
     match renew_all(alloc, core, ids, chance) {
         Ok(()) => {}
@@ -59,6 +61,7 @@ pub fn migrate_ids<S: Durable, K: Keeper, R: Rng>(
     ensures ready { Ready (world S.meanings S.holdings S.durables S.records K.Keeper) core.new }
     ensures migrates { Migrates ShowsFiles (world S.meanings S.holdings S.durables S.records K.Keeper)
         core.old (map (λ id. id.0) ids.now) result core.new }
+    ensures noticed { PassesNone S.meanings S.holdings S.durables S.applied core.old.blobs.tx.store (told result) core.new.blobs.tx.store }
 {
     match migrate_blocks(alloc, core, ids, chance) {
         Ok(()) => Ok(()),

@@ -6,7 +6,8 @@ ghost use Rattle.session_saver.specs.Saving.{world};
 ghost use Rattle.store_api.specs.Lists.{waiting_bytes};
 ghost use Rattle.tree_commands.specs.Showing.{ShowsFiles};
 ghost use Rattle.mount_core.specs.Standing.{CoreStands, Ready};
-ghost use Rattle.mount_migrating.specs.Migrating.{AreLive, Renews, Rests};
+ghost use Rattle.mount_migrating.specs.Migrating.{told, AreLive, Renews, Rests};
+ghost use Rattle.mount_migrating.specs.Noticing.{NoticedAlong};
 
 use crate::error::{MigrateError, apply_error, load_error, sync_error};
 use block_id::{BlockId, Memory};
@@ -29,6 +30,7 @@ pub(crate) fn keep_present<S: Durable, K: Keeper>(
     requires fresh { core.old.violated ≡ false }
     ensures ready { Ready (world S.meanings S.holdings S.durables S.records K.Keeper) core.new }
     ensures rests { Rests ShowsFiles (world S.meanings S.holdings S.durables S.records K.Keeper) core.old result core.new }
+    ensures noticed { NoticedAlong S.meanings S.holdings S.durables S.applied core.old.blobs.tx.store (told result) core.new.blobs.tx.store }
     ensures least { S.durables.least core.new.blobs.tx.store ≡ S.durables.least core.old.blobs.tx.store }
     ensures whole { OnOk result (core.new.saver.changed ≡ false) }
     ensures kept { OnOk result ((kept now : Tree) → CoreStands ShowsFiles (world S.meanings S.holdings S.durables S.records K.Keeper) core.old kept now
@@ -49,6 +51,7 @@ fn make_room<S: Durable, K: Keeper>(
     requires fresh { core.old.violated ≡ false }
     ensures ready { Ready (world S.meanings S.holdings S.durables S.records K.Keeper) core.new }
     ensures rests { Rests ShowsFiles (world S.meanings S.holdings S.durables S.records K.Keeper) core.old result core.new }
+    ensures noticed { NoticedAlong S.meanings S.holdings S.durables S.applied core.old.blobs.tx.store (told result) core.new.blobs.tx.store }
     ensures least { S.durables.least core.new.blobs.tx.store ≡ S.durables.least core.old.blobs.tx.store }
     ensures few { OnOk result (waiting_bytes (S.durables.list core.new.blobs.tx.store) < 8388608) }
 {
@@ -70,6 +73,7 @@ fn renew<S: Durable, K: Keeper, R: Rng>(
     ensures ready { Ready (world S.meanings S.holdings S.durables S.records K.Keeper) core.new }
     ensures renews { Renews ShowsFiles (world S.meanings S.holdings S.durables S.records K.Keeper)
         core.old (id.now.0 ∷ []) result core.new }
+    ensures noticed { NoticedAlong S.meanings S.holdings S.durables S.applied core.old.blobs.tx.store (told result) core.new.blobs.tx.store }
 {
     let payload = match core.blobs.tx.store.load(alloc, id) {
         Ok(Some(payload)) => payload,
@@ -103,6 +107,7 @@ fn renew_next<S: Durable, K: Keeper, R: Rng>(
     ensures ready { Ready (world S.meanings S.holdings S.durables S.records K.Keeper) core.new }
     ensures renews { Renews ShowsFiles (world S.meanings S.holdings S.durables S.records K.Keeper)
         core.old (id.now.0 ∷ []) result core.new }
+    ensures noticed { NoticedAlong S.meanings S.holdings S.durables S.applied core.old.blobs.tx.store (told result) core.new.blobs.tx.store }
 {
     match make_room(alloc, core) {
         Ok(()) => renew(alloc, core, id, chance),
@@ -124,6 +129,7 @@ pub(crate) fn renew_all<S: Durable, K: Keeper, R: Rng>(
     ensures ready { Ready (world S.meanings S.holdings S.durables S.records K.Keeper) core.new }
     ensures renews { Renews ShowsFiles (world S.meanings S.holdings S.durables S.records K.Keeper)
         core.old (map (λ id. id.0) ids.now) result core.new }
+    ensures noticed { NoticedAlong S.meanings S.holdings S.durables S.applied core.old.blobs.tx.store (told result) core.new.blobs.tx.store }
 {
     for id in ids {
         match renew_next(alloc, core, id, chance) {

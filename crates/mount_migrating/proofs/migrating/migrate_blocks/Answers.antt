@@ -1,7 +1,10 @@
 use Rattle.std.proofs.Common.{◌∙◌, refl, sym, inr}
 use Rattle.tree_commands.specs.Showing.{ShowsFiles}
+use Rattle.std.specs.declared.result.Result.TheVariants.{Err}
+use Rattle.mount_migrating.specs.Migrating.{told}
 use Rattle.mount_migrating.proofs.Chains.{moves_all, moves_unrenewed, moves_unsynced}
 use Rattle.mount_migrating.proofs.Crowds.{listed}
+use Rattle.mount_migrating.proofs.Noticing.{along_answered, along_then, passes_along}
 use Rattle.mount_migrating.proofs.migrating.migrate_blocks.Goals as goal
 
 pub returns-in-Err-clause-moves : goal.returns-in-Err-clause-moves
@@ -26,3 +29,31 @@ pub returns-in-Ok-keep_present-clause-moves : goal.returns-in-Ok-keep_present-cl
 returns-in-Ok-keep_present-clause-moves g c =
     moves_all ShowsFiles g.S.Blocks.meanings g.S.Blocks.holdings g.S.Durable.durables g.S.Durable.records g.K.Keeper c.args.core.now c.renew_all.new.core (listed c.args.ids.now) c.in-Ok.ensures.renews
     c.keep_present.new.core c.raise_least.new.core c.raise_least.result c.in-Ok-keep_present.ensures.rests c.in-Ok-keep_present.ensures.kept c.raise_least.ensures.rests c.raise_least.ensures.done c.raise_least.ensures.least
+
+-- ---- no wrong file is passed over
+
+pub returns-in-Err-clause-noticed : goal.returns-in-Err-clause-noticed
+returns-in-Err-clause-noticed g c =
+    passes_along g.S.Blocks.meanings g.S.Blocks.holdings g.S.Durable.durables g.S.BlocksMut.applied c.args.core.now.blobs.tx.store c.renew_all.new.core.blobs.tx.store (told {T = Unit} (Err c.in-Err.error)) c.in-Err.ensures.noticed
+
+pub returns-in-Err-keep_present-clause-noticed : goal.returns-in-Err-keep_present-clause-noticed
+returns-in-Err-keep_present-clause-noticed g c =
+    let M = g.S.Blocks.meanings in
+    let H = g.S.Blocks.holdings in
+    let D = g.S.Durable.durables in
+    let old = c.args.core.now.blobs.tx.store in
+    let new = c.keep_present.new.core.blobs.tx.store in
+    let answer = told {T = Unit} (Err c.in-Err-keep_present.error) in
+    passes_along M H D g.S.BlocksMut.applied old new answer (along_then M H D g.S.BlocksMut.applied old c.renew_all.new.core.blobs.tx.store new answer c.in-Ok.ensures.noticed c.in-Err-keep_present.ensures.noticed)
+
+pub returns-in-Ok-keep_present-clause-noticed : goal.returns-in-Ok-keep_present-clause-noticed
+returns-in-Ok-keep_present-clause-noticed g c =
+    let M = g.S.Blocks.meanings in
+    let H = g.S.Blocks.holdings in
+    let D = g.S.Durable.durables in
+    let old = c.args.core.now.blobs.tx.store in
+    let mid = c.renew_all.new.core.blobs.tx.store in
+    let end = c.keep_present.new.core.blobs.tx.store in
+    let answer = told c.raise_least.result in
+    let last = along_answered M H D g.S.BlocksMut.applied mid end answer c.in-Ok-keep_present.ensures.noticed in
+    record { end = end; along = along_then M H D g.S.BlocksMut.applied old mid end answer c.in-Ok.ensures.noticed last; set = c.raise_least.ensures.set }

@@ -4,7 +4,9 @@ use Rattle.answers.specs.Sessions.{is_violation}
 use Rattle.block_id.specs.declared.fail.Why.{Why}
 use Rattle.session_saver.specs.Saving.{world}
 use Rattle.tree_commands.specs.Showing.{ShowsFiles}
+use Rattle.store_api.specs.declared.tx.Tx.{Tx}
 use Rattle.mount_migrating.specs.Migrating.{told, Migrates, Moves}
+use Rattle.mount_migrating.specs.Noticing.{PassesNone}
 use Rattle.mount_migrating.specs.declared.error.MigrateError.{MigrateError}
 use Rattle.mount_migrating.specs.declared.error.MigrateError.TheVariants as error
 use Rattle.mount_migrating.proofs.Crowds.{listed}
@@ -37,3 +39,8 @@ returns-in_default-clause-migrates g c =
     calm error.FaultDirectory n = refl
     calm error.FaultState n = refl
     calm (error.Violation why) n = absurd (n why refl)
+
+pub returns-in-Violation-clause-noticed : goal.returns-in-Violation-clause-noticed
+returns-in-Violation-clause-noticed g c =
+    subst (λ (tx : Tx g.row.S.Denot). PassesNone g.S.Blocks.meanings g.S.Blocks.holdings g.S.Durable.durables g.S.BlocksMut.applied c.args.core.now.blobs.tx.store (told {T = Unit} (Err c.in-Err.error)) tx.store) (sym c.mark.ensures.store)
+    c.in-Err.ensures.noticed

@@ -8,7 +8,9 @@ use Rattle.tree_commands.specs.Showing.{ShowsFiles}
 use Rattle.tree_commands.proofs.Shows.{files_same}
 use Rattle.mount_core.specs.declared.body.Core.{Core}
 use Rattle.mount_migrating.specs.Migrating.{IsMigratedRecord, Rests}
+use Rattle.mount_migrating.specs.Noticing.{OnlySet}
 use Rattle.mount_migrating.proofs.Least.{Sets, kept_record, kept_rests, unsaved_rests}
+use Rattle.mount_migrating.proofs.Noticing.{set_then}
 use Rattle.mount_migrating.proofs.raising.raise_least.Given.{Over}
 use Rattle.mount_migrating.proofs.raising.raise_least.Goals as goal
 
@@ -77,3 +79,20 @@ returns-in-Err-clause-rests g c =
     subst (λ e. Rests ShowsFiles (world g.S.Blocks.meanings g.S.Blocks.holdings g.S.Durable.durables g.S.Durable.records g.K.Keeper) old (Err e) new) (sym c.sync_error.ensures)
     (unsaved_rests ShowsFiles g.S.Blocks.meanings g.S.Blocks.holdings g.S.Durable.durables g.S.Durable.records g.K.Keeper files_same g.met.S.Blocks.steady g.S.BlocksMut.applied g.met.S.Durable.enduring
     old new up c.keep_short.new.self c.in-Err.error c.requires.ready.intact (c.requires.ready.whole.none c.requires.whole) first second refl refl refl refl k.saves k.keeper_grows k.keeper_cause k.keeper_quiet)
+
+-- ---- only the least format is set
+
+pub returns-in-Ok-clause-set : goal.returns-in-Ok-clause-set
+returns-in-Ok-clause-set g c =
+    let u = c.set_least.ensures in
+    subst (λ store. OnlySet g.S.Blocks.holdings g.S.Durable.durables c.args.core.now.blobs.tx.store store) (sym c.keep_short.ensures.same) (record { stays = u.stays; identity = u.sets.identity; list = u.sets.list; trace = u.sets.trace })
+
+pub returns-in-Err-clause-set : goal.returns-in-Err-clause-set
+returns-in-Err-clause-set g c =
+    let H = g.S.Blocks.holdings in
+    let D = g.S.Durable.durables in
+    let u = c.set_least.ensures in
+    let d = c.set_least-in-Err.ensures in
+    let down = c.set_least-in-Err.new.self in
+    let back : OnlySet H D c.keep_short.new.store down = record { stays = d.stays; identity = d.sets.identity; list = d.sets.list; trace = d.sets.trace } in
+    set_then g.S.Blocks.meanings H D g.S.BlocksMut.applied c.args.core.now.blobs.tx.store c.set_least.new.self down (record { stays = u.stays; identity = u.sets.identity; list = u.sets.list; trace = u.sets.trace }) (subst (λ store. OnlySet H D store down) c.keep_short.ensures.same back)

@@ -16,10 +16,14 @@ use Rattle.mount_core.specs.declared.body.Core.{Core}
 use Rattle.mount_answering.proofs.Lines.{whole_loaded}
 use Rattle.store_api.proofs.Rising.{same_id_is}
 use Rattle.store_api.specs.Durables.{IsNewFile}
-use Rattle.mount_migrating.specs.Migrating.{Renews}
+use Rattle.answers.specs.declared.answer.Answer.TheVariants.{Memory}
+use Rattle.mount_core.specs.NoticeLaws.{none_came}
+use Rattle.mount_migrating.specs.Migrating.{told, Renews}
+use Rattle.mount_migrating.specs.Noticing.{NoticedAlong}
 use Rattle.mount_migrating.proofs.Anew.{batch_spent, failed_reason, loaded_proceeds, memory_reason, raises_stays, renewed_proceeds, renewed_raises, unapplied_reason, unspent_by}
 use Rattle.mount_migrating.proofs.Batches.{one, one_fits, one_has, one_self}
 use Rattle.mount_migrating.proofs.NewFiles.{new_applied, new_given, new_loaded}
+use Rattle.mount_migrating.proofs.Noticing.{along_failed, along_loaded, along_renewed}
 use Rattle.mount_migrating.proofs.Syncing.{done_reason}
 use Rattle.mount_migrating.proofs.renewing.renew.Given.{Over}
 use Rattle.mount_migrating.proofs.renewing.renew.Goals as goal
@@ -164,3 +168,40 @@ returns-clause-renews g c =
       are_new = tt;
       stays_new = tt;
     })
+
+-- ---- no wrong file is passed over
+
+pub returns-in-Err-clause-noticed : goal.returns-in-Err-clause-noticed
+returns-in-Err-clause-noticed g c =
+    let o = c.in-Err.ensures.outcome in
+    let store = c.args.core.now.blobs.tx.store in
+    subst (λ e. NoticedAlong g.S.Blocks.meanings g.S.Blocks.holdings g.S.Durable.durables g.S.BlocksMut.applied store (told {T = Unit} (Err e)) c.load.new.self) (sym c.load_error.ensures)
+    (along_failed g.S.Blocks.meanings g.S.Blocks.holdings g.S.Durable.durables g.S.BlocksMut.applied store c.load.new.self c.in-Err.fail o.loaded o.noticed)
+
+pub returns-in-Err-put-clause-noticed : goal.returns-in-Err-put-clause-noticed
+returns-in-Err-put-clause-noticed g c =
+    let o = c.in-Ok-Some.ensures.outcome in
+    let store = c.args.core.now.blobs.tx.store in
+    along_loaded g.S.Blocks.meanings g.S.Blocks.holdings g.S.Durable.durables g.S.BlocksMut.applied store c.load.new.self Memory o.loaded (none_came Memory (g.S.Blocks.meanings.gave store c.load.new.self) o.noticed)
+
+pub returns-in-Ok-apply-clause-noticed : goal.returns-in-Ok-apply-clause-noticed
+returns-in-Ok-apply-clause-noticed g c =
+    let id = c.args.id.now.0 in
+    let payload = c.in-Ok-Some.payload.items in
+    let is : c.put.new.self ≡ one id payload = c.in-Ok.ensures.ok ∙ ap (λ (m : Changes). fin.insert m id (Some payload)) c.new-batch.ensures in
+    let o = c.in-Ok-Some.ensures.outcome in
+    along_renewed g.S.Blocks.meanings g.S.Blocks.holdings g.S.Durable.durables g.S.BlocksMut.applied c.args.core.now.blobs.tx.store c.load.new.self c.apply.new.self id payload o.loaded o.noticed
+    (c.load.ensures.stays.ids id ∙ c.requires.live) (subst (g.S.BlocksMut.applied c.load.new.self c.apply.new.self) is c.in-Ok-apply.ensures.applied)
+
+pub returns-clause-noticed : goal.returns-clause-noticed
+returns-clause-noticed g c =
+    let M = g.S.Blocks.meanings in
+    let endures = g.met.S.Durable.enduring in
+    let store = c.args.core.now.blobs.tx.store in
+    let last = c.load.new.self in
+    let new = c.apply.new.self in
+    let o = c.in-Ok-Some.ensures.outcome in
+    let a = c.in-Err-apply.ensures in
+    let answer = told {T = Unit} (Err c.apply_error.result) in
+    along_loaded M g.S.Blocks.holdings g.S.Durable.durables g.S.BlocksMut.applied store new answer (g.met.S.Blocks.lawful.onward store last new o.loaded a.loaded)
+    (none_came answer (M.gave store new) (λ why gave. o.noticed why (endures.gave_along store last new why (endures.applied_trace last new fin.empty a.nothing) gave)))

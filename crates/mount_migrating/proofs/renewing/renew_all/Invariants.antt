@@ -1,10 +1,13 @@
 use Rattle.std.proofs.Common.{◌≡◌, take}
+use Rattle.answers.specs.declared.answer.Answer.TheVariants.{Reply as Replied}
+use Rattle.fs_model.specs.declared.reply.Reply.TheVariants.{Done}
 use Rattle.session_saver.specs.Saving.{world}
 use Rattle.store_api.specs.Content.{Id}
 use Rattle.store_api.specs.Durables.{IsNewFile}
 use Rattle.tree_commands.specs.Showing.{ShowsFiles}
 use Rattle.mount_core.specs.Standing.{Ready}
 use Rattle.mount_migrating.specs.Migrating.{AreNew, AreUnspent, Proceeds, Raises}
+use Rattle.mount_migrating.specs.Noticing.{NoticedAlong}
 use Rattle.mount_migrating.proofs.Crowds.{listed}
 use Rattle.mount_migrating.proofs.renewing.renew_all.Given as goal
 
@@ -19,4 +22,5 @@ invariant-loop-id g l = record {
   unspent : AreUnspent g.S.Blocks.holdings l.initial.core.blobs.tx.store (take l.id-index (listed l.ids));
   are_new : AreNew g.S.Blocks.holdings g.S.Durable.durables l.core.blobs.tx.store (take l.id-index (listed l.ids));
   stays_new : (id : Id) → IsNewFile g.S.Durable.durables l.initial.core.blobs.tx.store id → IsNewFile g.S.Durable.durables l.core.blobs.tx.store id;
+  noticed : NoticedAlong g.S.Blocks.meanings g.S.Blocks.holdings g.S.Durable.durables g.S.BlocksMut.applied l.initial.core.blobs.tx.store (Replied Done) l.core.blobs.tx.store;
 }

@@ -1,6 +1,8 @@
 use Rattle.std.proofs.Common.{◌∙◌, [], ◌∷◌}
 use Rattle.tree_commands.specs.Showing.{ShowsFiles}
+use Rattle.mount_migrating.specs.Migrating.{told}
 use Rattle.mount_migrating.proofs.Chains.{renews_after, renews_stopped}
+use Rattle.mount_migrating.proofs.Noticing.{along_then}
 use Rattle.mount_migrating.proofs.renewing.renew_next.Goals as goal
 
 pub returns-in-Ok-clause-renews : goal.returns-in-Ok-clause-renews
@@ -13,3 +15,8 @@ returns-in-Err-clause-renews g c =
 
 pub renew-requires-clause-live : goal.renew-requires-clause-live
 renew-requires-clause-live g c = c.in-Ok.ensures.rests.proceeds.ids c.args.id.now.0 ∙ c.requires.live
+
+pub returns-in-Ok-clause-noticed : goal.returns-in-Ok-clause-noticed
+returns-in-Ok-clause-noticed g c =
+    along_then g.S.Blocks.meanings g.S.Blocks.holdings g.S.Durable.durables g.S.BlocksMut.applied c.args.core.now.blobs.tx.store c.make_room.new.core.blobs.tx.store c.renew.new.core.blobs.tx.store (told c.renew.result)
+    c.in-Ok.ensures.noticed c.renew.ensures.noticed
