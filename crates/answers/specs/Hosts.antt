@@ -1,5 +1,5 @@
 -- What answers commands, and what it leaves.
-use Rattle.std.specs.Prelude.{◌≡◌, Bool, true, false, ◌||◌, List, [], ◌∷◌, Err}
+use Rattle.std.specs.Prelude.{◌≡◌, ℕ, Bool, true, false, ◌||◌, List, [], ◌∷◌, Err}
 use Rattle.fs_model.specs.declared.error.FsError.{FsError}
 use Rattle.fs_model.specs.declared.reply.Reply.{Reply}
 use Rattle.fs_model.specs.declared.reply.Reply.TheVariants.{Done, Rows, Info, Target, Content, Error}
@@ -13,8 +13,8 @@ pub record Hosting (H : Type 0) : Type 1 where
   pub ready : H → Type 0
   -- whether each further command is refused
   pub refuses : H → Bool
-  -- whether random bytes are taken
-  pub draws : Bool
+  -- which generator it draws from, by name, and 0 where from none; it stays that one
+  pub chance : H → ℕ
   -- asked this at this moment, it gave this answer and is so afterwards
   pub answers : H → Instant → Asked → Answer → H → Type 0
 

@@ -5,7 +5,6 @@ ghost use Rattle.answers.specs.Hosts.{Hosting, LawfulHost};
 
 use crate::Answer;
 use fs_model::{Command, Moment};
-use rand_core::Rng;
 use std::alloc::Global;
 
 /// Answers commands, one after another: a plain tree, or a mount.
@@ -17,19 +16,18 @@ pub trait Host {
         ensures { result ≡ hosting.refuses self.now };
 
     /// Answers a command.
-    fn answer<R: Rng>(
+    fn answer(
         &mut self,
         alloc: Global,
         now: Moment,
         command: &Command,
-        chance: &mut R,
     ) -> Answer
         requires ready { hosting.ready self.old }
         requires serves { hosting.refuses self.old ≡ false }
         requires fits { IsFitting command.now }
         ensures ready { hosting.ready self.new }
         ensures answered { hosting.answers self.old now (Ok command.now) result self.new }
-        ensures undrawn { hosting.draws ≡ false → R.stream chance.new ≡ R.stream chance.old };
+        ensures chance { hosting.chance self.new ≡ hosting.chance self.old };
 
     ghost lawful: { LawfulHost hosting };
 }

@@ -7,7 +7,6 @@ ghost use Rattle.fs_model.specs.Tree.{Tree};
 ghost use Rattle.copy_rules.specs.Questions.{Asking, LawfulAsker, IsReplyTo};
 
 use fs_model::{Command, Reply};
-use rand_core::Rng;
 use std::alloc::Global;
 
 /// The command wasn't answered.
@@ -19,11 +18,10 @@ pub trait Asker {
     ghost asking: { Asking Self };
 
     /// Asks a command.
-    fn ask<R: Rng>(
+    fn ask(
         &mut self,
         alloc: Global,
         command: &Command,
-        chance: &mut R,
     ) -> Result<Reply, Stopped>
         requires ready { asking.ready self.old }
         requires fits { IsFitting command.now }

@@ -12,6 +12,7 @@ use Rattle.fs_model.specs.Instant.{Instant}
 use Rattle.line_io.specs.Streams.{Stream}
 use Rattle.outside.specs.Trace.{Call}
 use Rattle.outside.specs.declared.keeper.Keeper.{Ghosts as KeeperGhosts}
+use Rattle.rand_core.specs.Stream.{Stream as Chance}
 use Rattle.mount.specs.Mounts.{IsReady}
 use Rattle.run_edges.specs.Statuses.{session_status, IsOwn}
 use Rattle.run_status.specs.Statuses.{first_of}
@@ -21,9 +22,11 @@ use Rattle.session_lines.specs.declared.end.End.{End}
 use Rattle.session_runs.specs.Openings.{HasPassword}
 use Rattle.session_runs.specs.Runs.{outside_of, IsSessionRun}
 use Rattle.session_runs.specs.Turns.{Begun, Closing}
+use Rattle.session_runs.proofs.Drawing.{undrawing}
 use Rattle.session_runs.proofs.Whole.{whole}
 use Rattle.session_saver.specs.declared.saver.SyncError.{SyncError}
 use Rattle.shell_sessions.specs.declared.mounted.Mounted.{Mounted}
+use Rattle.shell_sessions.specs.Mounting.{mounted_hosting}
 use Rattle.shell_sessions.specs.Sessions.{Session, WasServed}
 use Rattle.tree_commands.specs.Showing.{ShowsFiles}
 use Rattle.copy_rules.specs.declared.copied.Totals.{Totals}
@@ -32,7 +35,6 @@ use Rattle.copy_rules.specs.declared.copied.CopyFail.TheVariants as fail
 use Rattle.copy_sessions.specs.declared.way.Way.{Way}
 use Rattle.copy_sessions.specs.Coming.{IsCopyTold}
 use Rattle.copy_sessions.specs.Statuses.{copy_status, stopped_status}
-use Rattle.copy_runs.specs.Asking.{mounted_hosting}
 
 pub mild_stop : (kept : Option Answer) → IsOwn (stopped_status kept)
 mild_stop (Some answer.Memory) = tt
@@ -52,14 +54,14 @@ is_own way result kept output end own told = subst IsOwn (sym told.status) (mild
 
 module _ {V : Type 0} {K : Type 0} (trace : V → Option (List Call)) (faults : V → ℕ) (G : KeeperGhosts K) (now : Instant) (Came : Option (List ℕ) → End → Status → List Exchange → Type 0)
     (input : Stream) (password : List ℕ) (script : Option (List ℕ)) (has : HasPassword input password script) (vault : V) (keeper : K) (ended : Ended V K) where
-  pub was_served : (opened old new : Mounted V K) (moment : Instant) (es : List Exchange) (end : End) (own : Status) → old ≡ opened → moment ≡ now → IsOwn own → Begun ShowsFiles trace faults G password vault keeper opened.mount → IsReady trace faults G new.mount
-      → Ran (mounted_hosting trace faults G) moment old es new → Came script end own es
+  pub was_served : {R : Type 0} (stream : R → Chance) (old new : Mounted V K R) (es : List Exchange) (end : End) (own : Status) → IsOwn own → Begun ShowsFiles trace faults G password vault keeper old.mount → IsReady trace faults G new.mount
+      → Ran (mounted_hosting stream trace faults G) now old es new → Came script end own es
       → (closing : Result Unit SyncError) × (ended.status ≡ first_of (session_status new.mount.core.violated end closing) own) × Closing ShowsFiles trace faults G new.mount closing ended.vault ended.keeper
       → WasServed trace faults G now Came input vault keeper ended
-  was_served opened old new moment es end own same at mild begun ready ran came (closing, status, closed) =
-      let M = mounted_hosting trace faults G in
-      let went = subst (λ z. Ran M now z es new) same (subst (λ z. Ran M z old es new) at ran) in
-      let w = whole (λ (m : Mounted V K). m.mount) ShowsFiles trace faults G now password vault ended.vault keeper ended.keeper opened new es closing new.mount.core.violated begun ready went closed refl in (
+  was_served {R = R} stream old new es end own mild begun ready ran came (closing, status, closed) =
+      let mount = λ (m : Mounted V K R). m.mount in
+      let went = undrawing mount (λ m. stream m.chance.now) (λ m. m.chance.ghost_name) ShowsFiles trace faults G now old new es ran in
+      let w = whole mount ShowsFiles trace faults G now password vault ended.vault keeper ended.keeper old new es closing new.mount.core.violated begun ready went closed refl in (
         password,
         script,
         has,

@@ -7,9 +7,11 @@ ghost use Rattle.answers.specs.Sessions.{Exchange};
 ghost use Rattle.session_lines.specs.Driven.{IsUnfailed};
 ghost use Rattle.mount.specs.Mounts.{IsReady};
 ghost use Rattle.run_edges.specs.Statuses.{IsOwn};
+ghost use Rattle.session_runs.specs.Drawing.{DrawsVectors};
+ghost use Rattle.session_runs.specs.Runs.{outside_of};
+ghost use Rattle.shell_sessions.specs.Mounting.{mounted_hosting};
 ghost use Rattle.shell_sessions.specs.Sessions.{Session, WasServed};
 ghost use Rattle.copy_sessions.specs.Coming.{ComesExport, IsExportSession};
-ghost use Rattle.copy_runs.specs.Asking.{mounted_hosting};
 
 use crate::asker::MountAsker;
 use block_id::Memory;
@@ -28,32 +30,24 @@ use tree_copy::export;
 /// Exports what stands below the source into the folder, and prints how that ended.
 fn export_told<F: Folder, O: Sink, V: Vault, K: Keeper, R: Rng>(
     alloc: Global,
-    asker: MountAsker<V, K>,
+    asker: &mut MountAsker<'_, V, K, R>,
     source: &Path,
     host: &mut F,
     text: &mut CopyText,
     output: &mut O,
-    chance: &mut R,
-) -> (Mounted<V, K>, End, Status)
-    requires ready { IsReady V.trace V.faults K.Keeper asker.mounted.mount }
-    requires kept { asker.kept ≡ None }
-    ensures ready { IsReady V.trace V.faults K.Keeper result.0.mount }
-    ensures exported { (es : List Exchange) × Ran (mounted_hosting V.trace V.faults K.Keeper) asker.now asker.mounted es result.0
-        × ((input : Stream) → IsUnfailed input → IsExportSession (F.tree host.old) (F.tree host.new) (F.faults host.old) (F.faults host.new) source.now input (stream_of O.written O.faults output.old output.new) result.1 result.2 es) }
-    ensures own { IsOwn result.2 }
+) -> (End, Status)
+    requires ready { IsReady V.trace V.faults K.Keeper asker.old.mounted.mount }
+    requires kept { asker.old.kept ≡ None }
+    ensures ready { IsReady V.trace V.faults K.Keeper asker.new.mounted.mount }
+    ensures chance { asker.new.mounted.chance.ghost_name ≡ asker.old.mounted.chance.ghost_name }
+    ensures exported { (es : List Exchange) × Ran (mounted_hosting R.stream V.trace V.faults K.Keeper) asker.old.now asker.old.mounted es asker.new.mounted
+        × ((input : Stream) → IsUnfailed input → IsExportSession (F.tree host.old) (F.tree host.new) (F.faults host.old) (F.faults host.new) source.now input (stream_of O.written O.faults output.old output.new) result.0 result.1 es) }
+    ensures own { IsOwn result.1 }
     ensures host_grows { F.faults host.old ≤ F.faults host.new }
     ensures output_grows { O.faults output.old ≤ O.faults output.new }
 {
-    let mut asker = asker;
-    let copied = export(alloc, host, &mut asker, source, chance);
-    let MountAsker {
-        mounted,
-        now: _,
-        kept,
-        stopped: _,
-    } = asker;
-    let (end, own) = tell_copy(text, Way::Out, copied, &kept, output);
-    (mounted, end, own)
+    let copied = export(alloc, host, asker, source);
+    tell_copy(text, Way::Out, copied, &asker.kept, output)
 }
 
 /// Opens the file system under the password line of the input, exports what stands below the source into the folder, prints
@@ -72,6 +66,8 @@ pub fn run_export<F: Folder, I: Source, O: Sink, V: Vault, K: Keeper, R: Rng>(
     ensures session { Session V.trace V.faults K.Keeper now
         (ComesExport (F.tree host.old) (F.tree host.new) (F.faults host.old) (F.faults host.new) source.now (stream_of I.rest I.faults input.old input.new) (stream_of O.written O.faults output.old output.new))
         (stream_of I.rest I.faults input.old input.new) (stream_of O.written O.faults output.old output.new) vault keeper result }
+    ensures drawn { DrawsVectors (R.stream chance.old) (R.stream chance.new)
+        (outside_of V.trace V.faults K.Keeper vault keeper) (outside_of V.trace V.faults K.Keeper result.vault result.keeper) }
     ensures unhosted { (host.new ≡ host.old) ⊎ WasServed V.trace V.faults K.Keeper now
         (ComesExport (F.tree host.old) (F.tree host.new) (F.faults host.old) (F.faults host.new) source.now (stream_of I.rest I.faults input.old input.new) (stream_of O.written O.faults output.old output.new))
         (stream_of I.rest I.faults input.old input.new) vault keeper result }
@@ -103,11 +99,26 @@ pub fn run_export<F: Folder, I: Source, O: Sink, V: Vault, K: Keeper, R: Rng>(
             };
         }
     };
-    let mounted = match open(alloc, vault, keeper, &password) {
-        Ok(mounted) => mounted,
+    let mount = match open(alloc, vault, keeper, &password) {
+        Ok(mount) => mount,
         Err(ended) => return ended,
     };
-    let asker = MountAsker::new(mounted, now);
-    let (mounted, end, own) = export_told(alloc, asker, source, host, &mut text, output, chance);
-    close(alloc, mounted, end, own)
+    let mut asker = MountAsker {
+        mounted: Mounted { mount, chance },
+        now,
+        kept: None,
+        stopped: 0,
+    };
+    let (end, own) = export_told(alloc, &mut asker, source, host, &mut text, output);
+    let MountAsker {
+        mounted,
+        now: _,
+        kept: _,
+        stopped: _,
+    } = asker;
+    let Mounted {
+        mount,
+        chance: _chance,
+    } = mounted;
+    close(alloc, mount, end, own)
 }

@@ -7,9 +7,11 @@ ghost use Rattle.answers.specs.Sessions.{Exchange};
 ghost use Rattle.session_lines.specs.Driven.{IsUnfailed};
 ghost use Rattle.mount.specs.Mounts.{IsReady};
 ghost use Rattle.run_edges.specs.Statuses.{IsOwn};
+ghost use Rattle.session_runs.specs.Drawing.{DrawsVectors};
+ghost use Rattle.session_runs.specs.Runs.{outside_of};
+ghost use Rattle.shell_sessions.specs.Mounting.{mounted_hosting};
 ghost use Rattle.shell_sessions.specs.Sessions.{Session};
 ghost use Rattle.file_copies.specs.Coming.{ComesGet, IsGetSession};
-ghost use Rattle.copy_runs.specs.Asking.{mounted_hosting};
 
 use crate::asker::MountAsker;
 use file_copies::{get_end, get_file};
@@ -25,29 +27,21 @@ use std::alloc::Global;
 /// Writes the bytes of the file at this path, and says how that ended.
 fn get_told<O: Sink, V: Vault, K: Keeper, R: Rng>(
     alloc: Global,
-    asker: MountAsker<V, K>,
+    asker: &mut MountAsker<'_, V, K, R>,
     from: &Path,
     output: &mut O,
-    chance: &mut R,
-) -> (Mounted<V, K>, End, Status)
-    requires ready { IsReady V.trace V.faults K.Keeper asker.mounted.mount }
-    requires kept { asker.kept ≡ None }
-    ensures ready { IsReady V.trace V.faults K.Keeper result.0.mount }
-    ensures got { (es : List Exchange) × Ran (mounted_hosting V.trace V.faults K.Keeper) asker.now asker.mounted es result.0
-        × ((input : Stream) → IsUnfailed input → IsGetSession from.now input (stream_of O.written O.faults output.old output.new) result.1 result.2 es) }
-    ensures own { IsOwn result.2 }
+) -> (End, Status)
+    requires ready { IsReady V.trace V.faults K.Keeper asker.old.mounted.mount }
+    requires kept { asker.old.kept ≡ None }
+    ensures ready { IsReady V.trace V.faults K.Keeper asker.new.mounted.mount }
+    ensures chance { asker.new.mounted.chance.ghost_name ≡ asker.old.mounted.chance.ghost_name }
+    ensures got { (es : List Exchange) × Ran (mounted_hosting R.stream V.trace V.faults K.Keeper) asker.old.now asker.old.mounted es asker.new.mounted
+        × ((input : Stream) → IsUnfailed input → IsGetSession from.now input (stream_of O.written O.faults output.old output.new) result.0 result.1 es) }
+    ensures own { IsOwn result.1 }
     ensures output_grows { O.faults output.old ≤ O.faults output.new }
 {
-    let mut asker = asker;
-    let got = get_file(alloc, &mut asker, from, output, chance);
-    let MountAsker {
-        mounted,
-        now: _,
-        kept,
-        stopped: _,
-    } = asker;
-    let (end, own) = get_end(got, &kept);
-    (mounted, end, own)
+    let got = get_file(alloc, asker, from, output);
+    get_end(got, &asker.kept)
 }
 
 /// Opens the file system under the password line of the input, writes the bytes of the file at this path and nothing else,
@@ -65,6 +59,8 @@ pub fn run_get<I: Source, O: Sink, V: Vault, K: Keeper, R: Rng>(
     ensures session { Session V.trace V.faults K.Keeper now
         (ComesGet from.now (stream_of I.rest I.faults input.old input.new) (stream_of O.written O.faults output.old output.new))
         (stream_of I.rest I.faults input.old input.new) (stream_of O.written O.faults output.old output.new) vault keeper result }
+    ensures drawn { DrawsVectors (R.stream chance.old) (R.stream chance.new)
+        (outside_of V.trace V.faults K.Keeper vault keeper) (outside_of V.trace V.faults K.Keeper result.vault result.keeper) }
     ensures input_grows { I.faults input.old ≤ I.faults input.new }
     ensures output_grows { O.faults output.old ≤ O.faults output.new }
 {
@@ -82,11 +78,26 @@ pub fn run_get<I: Source, O: Sink, V: Vault, K: Keeper, R: Rng>(
             };
         }
     };
-    let mounted = match open(alloc, vault, keeper, &password) {
-        Ok(mounted) => mounted,
+    let mount = match open(alloc, vault, keeper, &password) {
+        Ok(mount) => mount,
         Err(ended) => return ended,
     };
-    let asker = MountAsker::new(mounted, now);
-    let (mounted, end, own) = get_told(alloc, asker, from, output, chance);
-    close(alloc, mounted, end, own)
+    let mut asker = MountAsker {
+        mounted: Mounted { mount, chance },
+        now,
+        kept: None,
+        stopped: 0,
+    };
+    let (end, own) = get_told(alloc, &mut asker, from, output);
+    let MountAsker {
+        mounted,
+        now: _,
+        kept: _kept,
+        stopped: _,
+    } = asker;
+    let Mounted {
+        mount,
+        chance: _chance,
+    } = mounted;
+    close(alloc, mount, end, own)
 }

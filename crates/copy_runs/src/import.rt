@@ -7,9 +7,11 @@ ghost use Rattle.answers.specs.Sessions.{Exchange};
 ghost use Rattle.session_lines.specs.Driven.{IsUnfailed};
 ghost use Rattle.mount.specs.Mounts.{IsReady};
 ghost use Rattle.run_edges.specs.Statuses.{IsOwn};
+ghost use Rattle.session_runs.specs.Drawing.{DrawsVectors};
+ghost use Rattle.session_runs.specs.Runs.{outside_of};
+ghost use Rattle.shell_sessions.specs.Mounting.{mounted_hosting};
 ghost use Rattle.shell_sessions.specs.Sessions.{Session, WasServed};
 ghost use Rattle.copy_sessions.specs.Coming.{ComesImport, IsImportSession};
-ghost use Rattle.copy_runs.specs.Asking.{mounted_hosting};
 
 use crate::asker::MountAsker;
 use block_id::Memory;
@@ -28,33 +30,25 @@ use tree_copy::import;
 /// Imports the folder below the target, and prints how that ended.
 fn import_told<F: Folder, O: Sink, V: Vault, K: Keeper, R: Rng>(
     alloc: Global,
-    asker: MountAsker<V, K>,
+    asker: &mut MountAsker<'_, V, K, R>,
     target: &Path,
     host: &mut F,
     text: &mut CopyText,
     output: &mut O,
-    chance: &mut R,
-) -> (Mounted<V, K>, End, Status)
-    requires ready { IsReady V.trace V.faults K.Keeper asker.mounted.mount }
-    requires kept { asker.kept ≡ None }
-    ensures ready { IsReady V.trace V.faults K.Keeper result.0.mount }
-    ensures imported { (es : List Exchange) × Ran (mounted_hosting V.trace V.faults K.Keeper) asker.now asker.mounted es result.0
-        × ((input : Stream) → IsUnfailed input → IsImportSession (F.tree host.old) (F.faults host.old) (F.faults host.new) target.now input (stream_of O.written O.faults output.old output.new) result.1 result.2 es) }
-    ensures own { IsOwn result.2 }
+) -> (End, Status)
+    requires ready { IsReady V.trace V.faults K.Keeper asker.old.mounted.mount }
+    requires kept { asker.old.kept ≡ None }
+    ensures ready { IsReady V.trace V.faults K.Keeper asker.new.mounted.mount }
+    ensures chance { asker.new.mounted.chance.ghost_name ≡ asker.old.mounted.chance.ghost_name }
+    ensures imported { (es : List Exchange) × Ran (mounted_hosting R.stream V.trace V.faults K.Keeper) asker.old.now asker.old.mounted es asker.new.mounted
+        × ((input : Stream) → IsUnfailed input → IsImportSession (F.tree host.old) (F.faults host.old) (F.faults host.new) target.now input (stream_of O.written O.faults output.old output.new) result.0 result.1 es) }
+    ensures own { IsOwn result.1 }
     ensures same { F.tree host.new ≡ F.tree host.old }
     ensures host_grows { F.faults host.old ≤ F.faults host.new }
     ensures output_grows { O.faults output.old ≤ O.faults output.new }
 {
-    let mut asker = asker;
-    let copied = import(alloc, host, &mut asker, target, chance);
-    let MountAsker {
-        mounted,
-        now: _,
-        kept,
-        stopped: _,
-    } = asker;
-    let (end, own) = tell_copy(text, Way::In, copied, &kept, output);
-    (mounted, end, own)
+    let copied = import(alloc, host, asker, target);
+    tell_copy(text, Way::In, copied, &asker.kept, output)
 }
 
 /// Opens the file system under the password line of the input, imports the folder below the target, prints how that
@@ -73,6 +67,8 @@ pub fn run_import<F: Folder, I: Source, O: Sink, V: Vault, K: Keeper, R: Rng>(
     ensures session { Session V.trace V.faults K.Keeper now
         (ComesImport (F.tree host.old) (F.faults host.old) (F.faults host.new) target.now (stream_of I.rest I.faults input.old input.new) (stream_of O.written O.faults output.old output.new))
         (stream_of I.rest I.faults input.old input.new) (stream_of O.written O.faults output.old output.new) vault keeper result }
+    ensures drawn { DrawsVectors (R.stream chance.old) (R.stream chance.new)
+        (outside_of V.trace V.faults K.Keeper vault keeper) (outside_of V.trace V.faults K.Keeper result.vault result.keeper) }
     ensures unhosted { (host.new ≡ host.old) ⊎ WasServed V.trace V.faults K.Keeper now
         (ComesImport (F.tree host.old) (F.faults host.old) (F.faults host.new) target.now (stream_of I.rest I.faults input.old input.new) (stream_of O.written O.faults output.old output.new))
         (stream_of I.rest I.faults input.old input.new) vault keeper result }
@@ -105,11 +101,26 @@ pub fn run_import<F: Folder, I: Source, O: Sink, V: Vault, K: Keeper, R: Rng>(
             };
         }
     };
-    let mounted = match open(alloc, vault, keeper, &password) {
-        Ok(mounted) => mounted,
+    let mount = match open(alloc, vault, keeper, &password) {
+        Ok(mount) => mount,
         Err(ended) => return ended,
     };
-    let asker = MountAsker::new(mounted, now);
-    let (mounted, end, own) = import_told(alloc, asker, target, host, &mut text, output, chance);
-    close(alloc, mounted, end, own)
+    let mut asker = MountAsker {
+        mounted: Mounted { mount, chance },
+        now,
+        kept: None,
+        stopped: 0,
+    };
+    let (end, own) = import_told(alloc, &mut asker, target, host, &mut text, output);
+    let MountAsker {
+        mounted,
+        now: _,
+        kept: _,
+        stopped: _,
+    } = asker;
+    let Mounted {
+        mount,
+        chance: _chance,
+    } = mounted;
+    close(alloc, mount, end, own)
 }

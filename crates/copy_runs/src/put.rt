@@ -8,9 +8,11 @@ ghost use Rattle.answers.specs.Hosts.{Ran};
 ghost use Rattle.answers.specs.Sessions.{Exchange};
 ghost use Rattle.mount.specs.Mounts.{IsReady};
 ghost use Rattle.run_edges.specs.Statuses.{IsOwn};
+ghost use Rattle.session_runs.specs.Drawing.{DrawsVectors};
+ghost use Rattle.session_runs.specs.Runs.{outside_of};
+ghost use Rattle.shell_sessions.specs.Mounting.{mounted_hosting};
 ghost use Rattle.shell_sessions.specs.Sessions.{Session};
 ghost use Rattle.file_copies.specs.Coming.{ComesPut, IsPutSession};
-ghost use Rattle.copy_runs.specs.Asking.{mounted_hosting};
 
 use crate::asker::MountAsker;
 use block_id::Memory;
@@ -29,34 +31,26 @@ use std::alloc::Global;
 /// Puts the bytes of the input into a new file at this path, and prints how that ended.
 fn put_told<I: Source, O: Sink, V: Vault, K: Keeper, R: Rng>(
     alloc: Global,
-    asker: MountAsker<V, K>,
+    asker: &mut MountAsker<'_, V, K, R>,
     reader: &mut LineReader,
     input: &mut I,
     to: Path,
     text: &mut CopyText,
     output: &mut O,
-    chance: &mut R,
-) -> (Mounted<V, K>, End, Status)
-    requires ready { IsReady V.trace V.faults K.Keeper asker.mounted.mount }
-    requires kept { asker.kept ≡ None }
+) -> (End, Status)
+    requires ready { IsReady V.trace V.faults K.Keeper asker.old.mounted.mount }
+    requires kept { asker.old.kept ≡ None }
     requires ended { reader.old.ended ≡ true → Ends (coming reader.old.ahead (I.rest input.old)) }
-    ensures ready { IsReady V.trace V.faults K.Keeper result.0.mount }
-    ensures put { (es : List Exchange) × Ran (mounted_hosting V.trace V.faults K.Keeper) asker.now asker.mounted es result.0
-        × IsPutSession to reader.old.taken (coming reader.old.ahead (I.rest input.old)) (stream_of I.rest I.faults input.old input.new) (stream_of O.written O.faults output.old output.new) result.1 result.2 es }
-    ensures own { IsOwn result.2 }
+    ensures ready { IsReady V.trace V.faults K.Keeper asker.new.mounted.mount }
+    ensures chance { asker.new.mounted.chance.ghost_name ≡ asker.old.mounted.chance.ghost_name }
+    ensures put { (es : List Exchange) × Ran (mounted_hosting R.stream V.trace V.faults K.Keeper) asker.old.now asker.old.mounted es asker.new.mounted
+        × IsPutSession to reader.old.taken (coming reader.old.ahead (I.rest input.old)) (stream_of I.rest I.faults input.old input.new) (stream_of O.written O.faults output.old output.new) result.0 result.1 es }
+    ensures own { IsOwn result.1 }
     ensures input_grows { I.faults input.old ≤ I.faults input.new }
     ensures output_grows { O.faults output.old ≤ O.faults output.new }
 {
-    let mut asker = asker;
-    let put = put_file(alloc, reader, input, &mut asker, &to, chance);
-    let MountAsker {
-        mounted,
-        now: _,
-        kept,
-        stopped: _,
-    } = asker;
-    let (end, own) = tell_put(text, put, to, &kept, output);
-    (mounted, end, own)
+    let put = put_file(alloc, reader, input, asker, &to);
+    tell_put(text, put, to, &asker.kept, output)
 }
 
 /// Opens the file system under the password line of the input, puts the bytes that follow it into a new file at this path,
@@ -74,6 +68,8 @@ pub fn run_put<I: Source, O: Sink, V: Vault, K: Keeper, R: Rng>(
     ensures session { Session V.trace V.faults K.Keeper now
         (ComesPut to (stream_of I.rest I.faults input.old input.new) (stream_of O.written O.faults output.old output.new))
         (stream_of I.rest I.faults input.old input.new) (stream_of O.written O.faults output.old output.new) vault keeper result }
+    ensures drawn { DrawsVectors (R.stream chance.old) (R.stream chance.new)
+        (outside_of V.trace V.faults K.Keeper vault keeper) (outside_of V.trace V.faults K.Keeper result.vault result.keeper) }
     ensures input_grows { I.faults input.old ≤ I.faults input.new }
     ensures output_grows { O.faults output.old ≤ O.faults output.new }
 {
@@ -101,20 +97,26 @@ pub fn run_put<I: Source, O: Sink, V: Vault, K: Keeper, R: Rng>(
             };
         }
     };
-    let mounted = match open(alloc, vault, keeper, &password) {
-        Ok(mounted) => mounted,
+    let mount = match open(alloc, vault, keeper, &password) {
+        Ok(mount) => mount,
         Err(ended) => return ended,
     };
-    let asker = MountAsker::new(mounted, now);
-    let (mounted, end, own) = put_told(
-        alloc,
-        asker,
-        &mut reader,
-        input,
-        to,
-        &mut text,
-        output,
-        chance,
-    );
-    close(alloc, mounted, end, own)
+    let mut asker = MountAsker {
+        mounted: Mounted { mount, chance },
+        now,
+        kept: None,
+        stopped: 0,
+    };
+    let (end, own) = put_told(alloc, &mut asker, &mut reader, input, to, &mut text, output);
+    let MountAsker {
+        mounted,
+        now: _,
+        kept: _kept,
+        stopped: _,
+    } = asker;
+    let Mounted {
+        mount,
+        chance: _chance,
+    } = mounted;
+    close(alloc, mount, end, own)
 }

@@ -35,7 +35,7 @@ pub record IsCopyTold (way : Way) (result : Result Totals CopyFail) (kept : Opti
   pub written : Reported output (copy_text way told kept) end
   pub status : own ≡ copy_status told kept
 
--- The exchanges are the questions of an import of this folder below this path; what it ended with was told, and of the input no more than the password line was used.
+-- The exchanges are the questions of an import of this folder below this path; what it ended with was told, and no read of the input failed.
 pub record IsImportSession (folder : Option HostTree) (faults risen : ℕ) (target : HostPath) (input output : Stream) (end : End) (own : Status) (es : List Exchange) : Type 0 where
   pub qs : List Question
   pub tree : HostTree
@@ -50,8 +50,8 @@ pub record IsImportSession (folder : Option HostTree) (faults risen : ℕ) (targ
 abbrev pub ComesImport : Option HostTree → ℕ → ℕ → HostPath → Stream → Stream → Option (List ℕ) → End → Status → List Exchange → Type 0
 ComesImport folder faults risen target input output script end own es = IsImportSession folder faults risen target input output end own es
 
--- The exchanges are the questions of an export of what stands below this path into a folder that was so before and is so after; what it ended with was told, and of the
--- input no more than the password line was used.
+-- The exchanges are the questions of an export of what stands below this path into a folder that was so before and is so after; what it ended with was told, and no read
+-- of the input failed.
 pub record IsExportSession (before after : Option HostTree) (faults risen : ℕ) (source : HostPath) (input output : Stream) (end : End) (own : Status) (es : List Exchange) : Type 0 where
   pub qs : List Question
   pub result : Result Totals CopyFail

@@ -14,5 +14,5 @@ host_asking M host moment kept stops = record {
   moment = moment;
   forgeries = λ a. 0;
   stops = stops;
-  went = λ a qs b. (moment b ≡ moment a) × WentBy M (moment a) (host a) (kept a) qs (host b) (kept b);
+  went = λ a qs b. (moment b ≡ moment a) × (M.chance (host b) ≡ M.chance (host a)) × WentBy M (moment a) (host a) (kept a) qs (host b) (kept b);
 }

@@ -38,10 +38,11 @@ went_then M now a b c before mid after qs rs v w = record {
 
 pub host_lawful : {A : Type 0} {H : Type 0} (M : Hosting H) (host : A → H) (moment : A → Instant) (kept : A → Option Answer) (stops : A → ℕ) → LawfulAsker (host_asking M host moment kept stops)
 host_lawful M host moment kept stops = record {
-  none = λ a. (refl, record { es = []; ran = refl; fits = refl; kept = refl });
+  none = λ a. (refl, refl, record { es = []; ran = refl; fits = refl; kept = refl });
   onward = λ a b c qs rs v w. (
     w.0 ∙ v.0,
-    went_then M (moment a) (host a) (host b) (host c) (kept a) (kept b) (kept c) qs rs v.1 (subst (λ z. WentBy M z (host b) (kept b) rs (host c) (kept c)) v.0 w.1),
+    w.1 ∙ v.1,
+    went_then M (moment a) (host a) (host b) (host c) (kept a) (kept b) (kept c) qs rs v.2 (subst (λ z. WentBy M z (host b) (kept b) rs (host c) (kept c)) v.0 w.2),
   );
   one_tree = λ a t u s z. absurd s;
 }

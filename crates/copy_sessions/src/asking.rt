@@ -5,26 +5,20 @@ ghost use Rattle.copy_sessions.specs.Fitting.{ReplyOf};
 
 use answers::{Answer, Host};
 use fs_model::{Command, Moment, Reply};
-use rand_core::Rng;
 use std::alloc::Global;
 
 /// The answer to a command. What refuses is asked for nothing.
-pub fn ask_host<H: Host, R: Rng>(
-    alloc: Global,
-    host: &mut H,
-    now: Moment,
-    command: &Command,
-    chance: &mut R,
-) -> Answer
+pub fn ask_host<H: Host>(alloc: Global, host: &mut H, now: Moment, command: &Command) -> Answer
     requires ready { H.hosting.ready host.old }
     requires fits { IsFitting command.now }
     ensures ready { H.hosting.ready host.new }
+    ensures chance { H.hosting.chance host.new ≡ H.hosting.chance host.old }
     ensures answered { H.hosting.answers host.old now (Ok command.now) result host.new }
 {
     if host.refuses() {
         return Answer::Refused;
     }
-    host.answer(alloc, now, command, chance)
+    host.answer(alloc, now, command)
 }
 
 /// The reply that an answer is, or the answer that is none.

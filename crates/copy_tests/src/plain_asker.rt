@@ -11,7 +11,6 @@ use block_id::Memory;
 use copy_rules::{Asker, Stopped};
 use fs_model::{Command, Moment, Reply};
 use plain_tree::PlainTree;
-use rand_core::Rng;
 use std::alloc::Global;
 
 /// A tree in memory, at a moment.
@@ -42,12 +41,7 @@ fn is_reply_to(command: &Command, reply: &Reply) -> bool
 impl Asker for PlainAsker {
     ghost asking = { asking_of (λ a. a.tree) (λ a. a.now) (λ a. a.stops) };
 
-    fn ask<R: Rng>(
-        &mut self,
-        alloc: Global,
-        command: &Command,
-        chance: &mut R,
-    ) -> Result<Reply, Stopped>
+    fn ask(&mut self, alloc: Global, command: &Command) -> Result<Reply, Stopped>
         requires fits { IsFitting command.now }
         ensures moment { self.new.now ≡ self.old.now }
         ensures variant { IfOk result (IsReplyTo command.now) }
@@ -58,7 +52,6 @@ impl Asker for PlainAsker {
         ensures quiet { OnOk result (self.new.stops ≡ self.old.stops) }
     {
         let _ = alloc;
-        let _ = chance;
         let reply = match self.tree.step(self.now, command) {
             Ok(reply) => reply,
             Err(Memory) => {

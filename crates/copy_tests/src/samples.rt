@@ -5,7 +5,6 @@ use folder_samples::path;
 use fs_model::{FsError, Moment};
 use host_folder::Folder;
 use plain_tree::PlainTree;
-use rand_pcg::Pcg32;
 use std::alloc::Global;
 use std::test::Fail;
 use tree_copy::{export, import};
@@ -27,7 +26,7 @@ pub fn imported<F: Folder>(
     let Some(root) = path(alloc, &[]) else {
         return Err(CopyFail::Memory);
     };
-    import(alloc, folder, asker, &root, &mut Pcg32::new(1, 2))
+    import(alloc, folder, asker, &root)
 }
 
 /// Exports what stands below these names.
@@ -40,7 +39,7 @@ pub fn exported<F: Folder>(
     let Some(source) = path(alloc, names) else {
         return Err(CopyFail::Memory);
     };
-    export(alloc, folder, asker, &source, &mut Pcg32::new(1, 2))
+    export(alloc, folder, asker, &source)
 }
 
 /// Whether so many directories, files, links and bytes were copied.

@@ -8,6 +8,7 @@ use Rattle.mount_core.specs.Standing.{IsKeptMarked}
 use Rattle.outside.specs.Trace.{Call}
 use Rattle.outside.specs.declared.keeper.Keeper.{Ghosts as KeeperGhosts}
 use Rattle.run_status.specs.declared.ended.Ended.{Ended}
+use Rattle.session_runs.specs.Drawing.{DrawsVectors}
 use Rattle.session_runs.specs.Runs.{outside_of}
 use Rattle.shell_words.specs.declared.form.Form.{Form}
 use Rattle.shell_words.specs.Forms.{form_of}
@@ -54,8 +55,10 @@ module _ {V : Type 0} {K : Type 0} (trace : V → Option (List Call)) (faults : 
     done = λ q e. doing_emptied trace faults names G words now s vault keeper ended form (ap is_session is ∙ q) did e;
   }
 
-  pub asked_spares : {F : Type 0} (old new : F) → (copies (Some form) ≡ false → new ≡ old) → (draws (Some form) ≡ false → s.left ≡ s.chance) → Spares (form_of words) s old new
-  asked_spares old new unhosted undrawn = record { unhosted = λ e. unhosted (ap copies is ∙ e); undrawn = λ e. undrawn (ap draws is ∙ e) }
+  pub asked_spares : {F : Type 0} (old new : F) → (copies (Some form) ≡ false → new ≡ old) → (draws (Some form) ≡ false → s.left ≡ s.chance)
+      → (is_session (Some form) ≡ true → DrawsVectors s.chance s.left (outside_of trace faults G vault keeper) (outside_of trace faults G ended.vault ended.keeper))
+      → Spares (form_of words) s (outside_of trace faults G vault keeper) (outside_of trace faults G ended.vault ended.keeper) old new
+  asked_spares old new unhosted undrawn drawn = record { unhosted = λ e. unhosted (ap copies is ∙ e); undrawn = λ e. undrawn (ap draws is ∙ e); drawn = λ e. drawn (ap is_session is ∙ e) }
 
   pub asked_history : HasHistory words s (outside_of trace faults G vault keeper) (outside_of trace faults G ended.vault ended.keeper) ended.status
   asked_history other e uncreated =

@@ -1,3 +1,4 @@
+mod Drawn
 pub mod Statuses
 pub mod Copies
 pub mod Sessions

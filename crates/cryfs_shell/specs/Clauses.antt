@@ -18,6 +18,7 @@ use Rattle.run_status.specs.declared.status.Status.{Status}
 use Rattle.run_status.specs.declared.status.Status.TheVariants.{Done, Usage, LongPassword, Violation, DirectoryFault, StateFault, InputFault, OutputFault, Memory, HostFault}
 use Rattle.session_lines.specs.Driven.{IsUnfailed}
 use Rattle.session_runs.specs.Openings.{AreUncalled}
+use Rattle.session_runs.specs.Drawing.{DrawsVectors}
 use Rattle.session_runs.specs.Runs.{Outside, outside_of, OutsideStandsFor, OpensTo, OpensOnlyTo, forgeries, lies}
 use Rattle.shell_words.specs.declared.form.Form.{Form}
 use Rattle.shell_words.specs.declared.form.Form.TheVariants.{Passwd, Migrate, Check}
@@ -126,7 +127,8 @@ pub record StatusSays {V : Type 0} {K : Type 0} (trace : V → Option (List Call
   pub uncalled : ended.status ≡ LongPassword → AreUncalled vault keeper ended
   pub done : is_session asked ≡ true → ended.status ≡ Done → IsEmptied (outside_of trace faults G ended.vault ended.keeper)
 
--- what a run leaves alone that doesn't ask for it: the host folder but in copies, and the random bytes
-pub record Spares {F : Type 0} (asked : Option Form) (s : Streams) (old new : F) : Type 0 where
+-- what a run leaves alone that doesn't ask for it: the host folder but in copies, and the random bytes; and which of these the files take that a session seals
+pub record Spares {F : Type 0} (asked : Option Form) (s : Streams) (before after : Outside) (old new : F) : Type 0 where
   pub unhosted : copies asked ≡ false → new ≡ old
   pub undrawn : draws asked ≡ false → s.left ≡ s.chance
+  pub drawn : is_session asked ≡ true → DrawsVectors s.chance s.left before after

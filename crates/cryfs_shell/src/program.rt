@@ -5,6 +5,7 @@ ghost use Rattle.std.specs.String.{string_bytes};
 ghost use Rattle.held_blocks.specs.Standing.{records};
 ghost use Rattle.line_io.specs.Streams.{stream_of};
 ghost use Rattle.mount_core.specs.Standing.{IsKeptMarked};
+ghost use Rattle.session_runs.specs.Drawing.{DrawsVectors};
 ghost use Rattle.session_runs.specs.Runs.{outside_of};
 ghost use Rattle.shell_sessions.specs.Sessions.{Session, ComesCommand};
 ghost use Rattle.shell_words.specs.Forms.{form_of, joined, IsModest};
@@ -13,7 +14,7 @@ ghost use Rattle.cryfs_shell.specs.Copies.{HostSession, Imports, Exports, Puts, 
 ghost use Rattle.cryfs_shell.specs.Doing.{Did, IsCaused};
 ghost use Rattle.cryfs_shell.specs.History.{HasHistory};
 ghost use Rattle.cryfs_shell.specs.Hosts.{host_of};
-ghost use Rattle.cryfs_shell.specs.Kinds.{opens, draws, copies};
+ghost use Rattle.cryfs_shell.specs.Kinds.{opens, draws, copies, is_session};
 ghost use Rattle.cryfs_shell.specs.Streams.{streams_of};
 
 use block_id::Memory;
@@ -64,10 +65,11 @@ pub fn run<I: Source, O: Sink, V: Vault + Listing, K: Keeper, R: Rng, F: Folder>
         (outside_of V.trace V.faults K.Keeper vault keeper) (outside_of V.trace V.faults K.Keeper result.vault result.keeper) result.status }
     ensures statuses { StatusSays V.trace V.faults K.Keeper (form_of (map string_bytes words.now)) vault keeper result }
 
-    // What is left alone, and which run of a file system it was.
+    // What is left alone, what is drawn, and which run of a file system it was.
     ensures spares { Spares (form_of (map string_bytes words.now))
         (streams_of (stream_of I.rest I.faults input.old input.new) (stream_of O.written O.faults output.old output.new)
-        (host_of F.tree F.faults host.old host.new) (R.stream chance.old) (R.stream chance.new)) host.old host.new }
+        (host_of F.tree F.faults host.old host.new) (R.stream chance.old) (R.stream chance.new))
+        (outside_of V.trace V.faults K.Keeper vault keeper) (outside_of V.trace V.faults K.Keeper result.vault result.keeper) host.old host.new }
     ensures history { HasHistory (map string_bytes words.now)
         (streams_of (stream_of I.rest I.faults input.old input.new) (stream_of O.written O.faults output.old output.new)
         (host_of F.tree F.faults host.old host.new) (R.stream chance.old) (R.stream chance.new))
@@ -123,6 +125,8 @@ fn run_form<I: Source, O: Sink, V: Vault + Listing, K: Keeper, R: Rng, F: Folder
         at.vault at.keeper result (Some asked.entry.now.form) }
     ensures caused { IsCaused (outside_of V.trace V.faults K.Keeper at.vault at.keeper)
         (outside_of V.trace V.faults K.Keeper result.vault result.keeper) result.status asked.entry.now.form }
+    ensures drawn { is_session (Some asked.entry.now.form) ≡ true → DrawsVectors (R.stream chance.old) (R.stream chance.new)
+        (outside_of V.trace V.faults K.Keeper at.vault at.keeper) (outside_of V.trace V.faults K.Keeper result.vault result.keeper) }
     ensures undrawn { draws (Some asked.entry.now.form) ≡ false → R.stream chance.new ≡ R.stream chance.old }
     ensures unhosted { copies (Some asked.entry.now.form) ≡ false → host.new ≡ host.old }
     ensures input_grows { I.faults input.old ≤ I.faults input.new }
@@ -132,12 +136,12 @@ fn run_form<I: Source, O: Sink, V: Vault + Listing, K: Keeper, R: Rng, F: Folder
     let Place { vault, keeper } = at;
     match asked.form {
         Form::Trial => Ended {
-            status: try_lines(alloc, asked.now, input, output, chance),
+            status: try_lines(alloc, asked.now, input, output),
             vault,
             keeper,
         },
         Form::TrialGenerate(count) => Ended {
-            status: try_generated(alloc, asked.now, count, output, chance),
+            status: try_generated(alloc, asked.now, count, output),
             vault,
             keeper,
         },
@@ -168,6 +172,7 @@ fn run_form<I: Source, O: Sink, V: Vault + Listing, K: Keeper, R: Rng, F: Folder
 }
 
 /// A session of the one line that the words are.
+#[tactic(auto, using(crate::proofs::Drawn::undone))]
 fn run_line<I: Source, O: Sink, V: Vault, K: Keeper, R: Rng>(
     alloc: Global,
     asked: &Request<'_>,
@@ -181,6 +186,8 @@ fn run_line<I: Source, O: Sink, V: Vault, K: Keeper, R: Rng>(
         (stream_of O.written O.faults output.old output.new))
         (stream_of I.rest I.faults input.old input.new) (stream_of O.written O.faults output.old output.new)
         at.vault at.keeper result }
+    ensures drawn { DrawsVectors (R.stream chance.old) (R.stream chance.new)
+        (outside_of V.trace V.faults K.Keeper at.vault at.keeper) (outside_of V.trace V.faults K.Keeper result.vault result.keeper) }
     ensures input_grows { I.faults input.old ≤ I.faults input.new }
     ensures output_grows { O.faults output.old ≤ O.faults output.new }
 {
@@ -198,6 +205,7 @@ fn run_line<I: Source, O: Sink, V: Vault, K: Keeper, R: Rng>(
 }
 
 /// An import to the path that the words say.
+#[tactic(auto, using(crate::proofs::Drawn::undone))]
 fn import_words<I: Source, O: Sink, V: Vault, K: Keeper, R: Rng, F: Folder>(
     alloc: Global,
     asked: &Request<'_>,
@@ -212,6 +220,8 @@ fn import_words<I: Source, O: Sink, V: Vault, K: Keeper, R: Rng, F: Folder>(
         (host_of F.tree F.faults host.old host.new))
         (stream_of I.rest I.faults input.old input.new) (stream_of O.written O.faults output.old output.new)
         (host_of F.tree F.faults host.old host.new) at.vault at.keeper result }
+    ensures drawn { DrawsVectors (R.stream chance.old) (R.stream chance.new)
+        (outside_of V.trace V.faults K.Keeper at.vault at.keeper) (outside_of V.trace V.faults K.Keeper result.vault result.keeper) }
     ensures input_grows { I.faults input.old ≤ I.faults input.new }
     ensures output_grows { O.faults output.old ≤ O.faults output.new }
     ensures host_grows { F.faults host.old ≤ F.faults host.new }
@@ -230,6 +240,7 @@ fn import_words<I: Source, O: Sink, V: Vault, K: Keeper, R: Rng, F: Folder>(
 }
 
 /// An export of the path that the words say.
+#[tactic(auto, using(crate::proofs::Drawn::undone))]
 fn export_words<I: Source, O: Sink, V: Vault, K: Keeper, R: Rng, F: Folder>(
     alloc: Global,
     asked: &Request<'_>,
@@ -244,6 +255,8 @@ fn export_words<I: Source, O: Sink, V: Vault, K: Keeper, R: Rng, F: Folder>(
         (host_of F.tree F.faults host.old host.new))
         (stream_of I.rest I.faults input.old input.new) (stream_of O.written O.faults output.old output.new)
         (host_of F.tree F.faults host.old host.new) at.vault at.keeper result }
+    ensures drawn { DrawsVectors (R.stream chance.old) (R.stream chance.new)
+        (outside_of V.trace V.faults K.Keeper at.vault at.keeper) (outside_of V.trace V.faults K.Keeper result.vault result.keeper) }
     ensures input_grows { I.faults input.old ≤ I.faults input.new }
     ensures output_grows { O.faults output.old ≤ O.faults output.new }
     ensures host_grows { F.faults host.old ≤ F.faults host.new }
@@ -262,6 +275,7 @@ fn export_words<I: Source, O: Sink, V: Vault, K: Keeper, R: Rng, F: Folder>(
 }
 
 /// A new file at the path that the words say.
+#[tactic(auto, using(crate::proofs::Drawn::undone))]
 fn put_words<I: Source, O: Sink, V: Vault, K: Keeper, R: Rng>(
     alloc: Global,
     asked: &Request<'_>,
@@ -275,6 +289,8 @@ fn put_words<I: Source, O: Sink, V: Vault, K: Keeper, R: Rng>(
         (stream_of O.written O.faults output.old output.new))
         (stream_of I.rest I.faults input.old input.new) (stream_of O.written O.faults output.old output.new)
         at.vault at.keeper result }
+    ensures drawn { DrawsVectors (R.stream chance.old) (R.stream chance.new)
+        (outside_of V.trace V.faults K.Keeper at.vault at.keeper) (outside_of V.trace V.faults K.Keeper result.vault result.keeper) }
     ensures input_grows { I.faults input.old ≤ I.faults input.new }
     ensures output_grows { O.faults output.old ≤ O.faults output.new }
 {
@@ -290,6 +306,7 @@ fn put_words<I: Source, O: Sink, V: Vault, K: Keeper, R: Rng>(
 }
 
 /// The file at the path that the words say.
+#[tactic(auto, using(crate::proofs::Drawn::undone))]
 fn get_words<I: Source, O: Sink, V: Vault, K: Keeper, R: Rng>(
     alloc: Global,
     asked: &Request<'_>,
@@ -303,6 +320,8 @@ fn get_words<I: Source, O: Sink, V: Vault, K: Keeper, R: Rng>(
         (stream_of O.written O.faults output.old output.new))
         (stream_of I.rest I.faults input.old input.new) (stream_of O.written O.faults output.old output.new)
         at.vault at.keeper result }
+    ensures drawn { DrawsVectors (R.stream chance.old) (R.stream chance.new)
+        (outside_of V.trace V.faults K.Keeper at.vault at.keeper) (outside_of V.trace V.faults K.Keeper result.vault result.keeper) }
     ensures input_grows { I.faults input.old ≤ I.faults input.new }
     ensures output_grows { O.faults output.old ≤ O.faults output.new }
 {

@@ -56,7 +56,7 @@ IsGetEnd (Err stop.Host) kept end own = (end ≡ OutputFault) × (own ≡ status
 IsGetEnd (Err stop.Stopped) kept end own = (end ≡ Finished) × (own ≡ stopped_status kept)
 IsGetEnd (Err (stop.Refused e)) kept end own = (end ≡ Finished) × (own ≡ status.CopyRefused)
 
--- The exchanges ask for pieces of the file at this path, which are all that was written; of the input no more than the password line was used.
+-- The exchanges ask for pieces of the file at this path, which are all that was written; no read of the input failed.
 pub record IsGetSession (path : HostPath) (input output : Stream) (end : End) (own : Status) (es : List Exchange) : Type 0 where
   pub qs : List Question
   pub result : Result (Unit {0}) Stop

@@ -9,17 +9,15 @@ use copy_rules::{Asker, Stopped};
 use fs_model::{ByteText, Command, Path, Reply};
 use line_io::write_all;
 use outside::Sink;
-use rand_core::Rng;
 use row_copy::{FILE_END, PIECE, Stop, copy_path};
 use std::alloc::Global;
 
 /// Asks for a piece of the file at this path: whole, or less where the file ends.
-fn ask_bytes<A: Asker, R: Rng>(
+fn ask_bytes<A: Asker>(
     alloc: Global,
     asker: &mut A,
     from: &Path,
     place: u64,
-    chance: &mut R,
 ) -> Result<ByteText, Stop>
     requires ready { A.asking.ready asker.old }
     ensures ready { A.asking.ready asker.new }
@@ -32,7 +30,7 @@ fn ask_bytes<A: Asker, R: Rng>(
         Err(Memory) => return Err(Stop::Memory),
     };
     let command = Command::Read(path, place, PIECE as u64);
-    match asker.ask(alloc, &command, chance) {
+    match asker.ask(alloc, &command) {
         Ok(Reply::Content(bytes)) => Ok(bytes),
         Ok(Reply::Error(error)) => Err(Stop::Refused(error)),
         Ok(_) => unreachable!(),
@@ -41,12 +39,11 @@ fn ask_bytes<A: Asker, R: Rng>(
 }
 
 /// Writes the bytes of the file at this path, and nothing else. Host is an output that failed.
-pub fn get_file<A: Asker, O: Sink, R: Rng>(
+pub fn get_file<A: Asker, O: Sink>(
     alloc: Global,
     asker: &mut A,
     from: &Path,
     output: &mut O,
-    chance: &mut R,
 ) -> Result<(), Stop>
     requires ready { A.asking.ready asker.old }
     ensures ready { A.asking.ready asker.new }
@@ -56,7 +53,7 @@ pub fn get_file<A: Asker, O: Sink, R: Rng>(
 {
     let mut place = 0;
     while place < FILE_END {
-        let piece = match ask_bytes(alloc, asker, from, place, chance) {
+        let piece = match ask_bytes(alloc, asker, from, place) {
             Ok(piece) => piece,
             Err(stop) => return Err(stop),
         };

@@ -11,7 +11,6 @@ use copy_rules::{Asker, Totals};
 use fs_model::Path;
 use line_io::LineReader;
 use outside::{GetFail, Source};
-use rand_core::Rng;
 use row_copy::{FILE_END, PIECE, Stop, make_file, no_totals, write_piece};
 use std::alloc::Global;
 
@@ -42,14 +41,13 @@ fn next_piece<I: Source>(
 }
 
 /// Writes the bytes of the input into a new file.
-fn put_bytes<I: Source, A: Asker, R: Rng>(
+fn put_bytes<I: Source, A: Asker>(
     alloc: Global,
     reader: &mut LineReader,
     input: &mut I,
     asker: &mut A,
     to: &Path,
     totals: &mut Totals,
-    chance: &mut R,
 ) -> Result<(), Stop>
     requires ready { A.asking.ready asker.old }
     requires ended { reader.old.ended ≡ true → Ends (coming reader.old.ahead (I.rest input.old)) }
@@ -70,7 +68,7 @@ fn put_bytes<I: Source, A: Asker, R: Rng>(
         if len == 0 {
             return Ok(());
         }
-        match write_piece(alloc, asker, to, place, piece, totals, chance) {
+        match write_piece(alloc, asker, to, place, piece, totals) {
             Ok(()) => {}
             Err(stop) => return Err(stop),
         }
@@ -84,13 +82,12 @@ fn put_bytes<I: Source, A: Asker, R: Rng>(
 
 /// Makes a new file at this path, with the bytes of the input behind the lines that the reader has taken. Host is an input
 /// that failed, in which case the file has the pieces that came before.
-pub fn put_file<I: Source, A: Asker, R: Rng>(
+pub fn put_file<I: Source, A: Asker>(
     alloc: Global,
     reader: &mut LineReader,
     input: &mut I,
     asker: &mut A,
     to: &Path,
-    chance: &mut R,
 ) -> Result<Totals, Stop>
     requires ready { A.asking.ready asker.old }
     requires ended { reader.old.ended ≡ true → Ends (coming reader.old.ahead (I.rest input.old)) }
@@ -101,11 +98,11 @@ pub fn put_file<I: Source, A: Asker, R: Rng>(
     ensures put { FilePut A.asking asker.old asker.new (coming reader.old.ahead (I.rest input.old)) to.now result }
 {
     let mut totals = no_totals();
-    match make_file(alloc, asker, to, &mut totals, chance) {
+    match make_file(alloc, asker, to, &mut totals) {
         Ok(()) => {}
         Err(stop) => return Err(stop),
     }
-    match put_bytes(alloc, reader, input, asker, to, &mut totals, chance) {
+    match put_bytes(alloc, reader, input, asker, to, &mut totals) {
         Ok(()) => Ok(totals),
         Err(stop) => Err(stop),
     }

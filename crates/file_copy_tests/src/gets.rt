@@ -4,7 +4,6 @@ use copy_tests::PlainAsker;
 use file_copies::get_file;
 use fs_model::FsError;
 use memory_outside::MemorySink;
-use rand_pcg::Pcg32;
 use row_copy::Stop;
 use std::alloc::Global;
 use std::test::Fail;
@@ -18,8 +17,7 @@ fn get(
 ) -> Result<(Result<(), Stop>, MemorySink), Fail> {
     let path = named(alloc, name)?;
     let mut output = MemorySink::new(alloc, 60_000, room, Vec::new(alloc))?;
-    let mut chance = Pcg32::new(1, 2);
-    let result = get_file(alloc, asker, &path, &mut output, &mut chance);
+    let result = get_file(alloc, asker, &path, &mut output);
     Ok((result, output))
 }
 

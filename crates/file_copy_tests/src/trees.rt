@@ -6,7 +6,6 @@ use fs_model::{Command, Moment, Name, Path, Reply};
 use line_io::LineReader;
 use memory_outside::MemorySource;
 use plain_tree::PlainTree;
-use rand_pcg::Pcg32;
 use row_copy::Stop;
 use std::alloc::Global;
 use std::test::Fail;
@@ -52,8 +51,7 @@ pub fn put(
         Err(_) => return Err(Fail::from("a line")),
     }
     let path = named(alloc, name)?;
-    let mut chance = Pcg32::new(1, 2);
-    Ok(put_file(alloc, &mut reader, &mut input, asker, &path, &mut chance))
+    Ok(put_file(alloc, &mut reader, &mut input, asker, &path))
 }
 
 /// How many bytes the file has.

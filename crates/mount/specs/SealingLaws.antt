@@ -35,7 +35,7 @@ one_later [] later bytes is = is
 one_later (file ∷ files) later bytes is = inr (one_later files later bytes is)
 
 -- what is sealed for a block before is so after more files
-sealed_first : (first later : List (List ℕ)) (list : FileChanges) (id bytes : List ℕ) → IsSealedFor first list id bytes → IsSealedFor (first ++ later) list id bytes
+pub sealed_first : (first later : List (List ℕ)) (list : FileChanges) (id bytes : List ℕ) → IsSealedFor first list id bytes → IsSealedFor (first ++ later) list id bytes
 sealed_first first later list id bytes (inl is) = inl (one_first first later bytes is)
 sealed_first first later list id bytes (inr is) = inr is
 

@@ -21,6 +21,6 @@ abbrev pub plain : {H : Type 0} → (H → Tree) → Hosting H
 plain tree = record {
   ready = λ _. Unit {0};
   refuses = λ _. false;
-  draws = false;
+  chance = λ _. 0;
   answers = λ old now asked answer new. IsPlain answer × FollowsAsked now (tree old) asked answer (tree new);
 }

@@ -6,7 +6,6 @@ use answers::{Answer, Host};
 use block_id::Memory;
 use fs_model::{Command, Moment};
 use plain_tree::PlainTree;
-use rand_core::Rng;
 use std::alloc::Global;
 
 /// A plain tree, which gives its replies, or `Memory`.
@@ -24,13 +23,7 @@ impl Host for Trial {
         false
     }
 
-    fn answer<R: Rng>(
-        &mut self,
-        _alloc: Global,
-        now: Moment,
-        command: &Command,
-        _chance: &mut R,
-    ) -> Answer {
+    fn answer(&mut self, _alloc: Global, now: Moment, command: &Command) -> Answer {
         match self.tree.step(now, command) {
             Ok(reply) => Answer::Reply(reply),
             Err(Memory) => Answer::Memory,

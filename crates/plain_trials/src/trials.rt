@@ -9,25 +9,22 @@ use fs_model::Moment;
 use line_io::LineReader;
 use outside::{Sink, Source};
 use plain_tree::PlainTree;
-use rand_core::Rng;
 use run_status::Status;
 use session_lines::{End, answer_generated, answer_lines};
 use std::alloc::Global;
 
 /// The lines of the input on a new plain tree.
-pub fn try_lines<I: Source, O: Sink, R: Rng>(
+pub fn try_lines<I: Source, O: Sink>(
     alloc: Global,
     now: Moment,
     input: &mut I,
     output: &mut O,
-    chance: &mut R,
 ) -> Status
     ensures tried { Tried now
         (stream_of I.rest I.faults input.old input.new)
         (stream_of O.written O.faults output.old output.new) result }
     ensures input_grows { I.faults input.old ≤ I.faults input.new }
     ensures output_grows { O.faults output.old ≤ O.faults output.new }
-    ensures undrawn { R.stream chance.new ≡ R.stream chance.old }
 {
     let Ok(mut reader) = LineReader::new(alloc) else {
         return Status::Memory;
@@ -46,7 +43,6 @@ pub fn try_lines<I: Source, O: Sink, R: Rng>(
         &mut text,
         input,
         output,
-        chance,
     ))
 }
 
@@ -61,17 +57,10 @@ fn status_of(end: End) -> Status
 }
 
 /// So many generated commands on a new plain tree, and the summary of the answers.
-pub fn try_generated<O: Sink, R: Rng>(
-    alloc: Global,
-    now: Moment,
-    count: u64,
-    output: &mut O,
-    chance: &mut R,
-) -> Status
+pub fn try_generated<O: Sink>(alloc: Global, now: Moment, count: u64, output: &mut O) -> Status
     requires { count ≤ 1000000 }
     ensures generated { GeneratedOnPlain now count (stream_of O.written O.faults output.old output.new) result }
     ensures output_grows { O.faults output.old ≤ O.faults output.new }
-    ensures undrawn { R.stream chance.new ≡ R.stream chance.old }
 {
     let Ok(mut text) = TextBuffer::new(alloc) else {
         return Status::Memory;
@@ -79,5 +68,5 @@ pub fn try_generated<O: Sink, R: Rng>(
     let mut trial = Trial {
         tree: PlainTree::new(alloc),
     };
-    status_of(answer_generated(alloc, &mut trial, now, count, &mut text, output, chance))
+    status_of(answer_generated(alloc, &mut trial, now, count, &mut text, output))
 }

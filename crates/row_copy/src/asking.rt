@@ -8,16 +8,14 @@ use crate::stop::Stop;
 use crate::totals::count;
 use copy_rules::{Asker, Stopped, Totals};
 use fs_model::{Command, FsError, Reply};
-use rand_core::Rng;
 use std::alloc::Global;
 
 /// Asks a command that answers Done, and counts it.
-pub fn ask_done<A: Asker, R: Rng>(
+pub fn ask_done<A: Asker>(
     alloc: Global,
     asker: &mut A,
     command: &Command,
     totals: &mut Totals,
-    chance: &mut R,
 ) -> Result<(), Stop>
     requires ready { A.asking.ready asker.old }
     requires fits { IsFitting command.now }
@@ -28,7 +26,7 @@ pub fn ask_done<A: Asker, R: Rng>(
     ensures counts { OnOk result (totals.new ≡ counted totals.old (command.now ∷ [])) }
     ensures host { NeverHost result }
 {
-    match asker.ask(alloc, command, chance) {
+    match asker.ask(alloc, command) {
         Ok(reply) => match refusal_of(&reply) {
             None => {
                 count(totals, command);

@@ -15,7 +15,6 @@ use copy_rules::{Asker, Totals};
 use fs_model::{ByteText, Command, Path};
 use host_folder::Folder;
 use outside::GetFail;
-use rand_core::Rng;
 use std::alloc::Global;
 
 /// Bytes of a piece of a file.
@@ -71,14 +70,13 @@ fn next_piece<F: Folder>(
 }
 
 /// Writes a piece of the file at this path.
-pub fn write_piece<A: Asker, R: Rng>(
+pub fn write_piece<A: Asker>(
     alloc: Global,
     asker: &mut A,
     to: &Path,
     place: u64,
     piece: Vec<u8>,
     totals: &mut Totals,
-    chance: &mut R,
 ) -> Result<(), Stop>
     requires ready { A.asking.ready asker.old }
     ensures ready { A.asking.ready asker.new }
@@ -92,17 +90,16 @@ pub fn write_piece<A: Asker, R: Rng>(
         Err(Memory) => return Err(Stop::Memory),
     };
     let command = Command::Write(path, place, ByteText::new(piece));
-    ask_done(alloc, asker, &command, totals, chance)
+    ask_done(alloc, asker, &command, totals)
 }
 
 /// Copies a file's bytes into a new file.
-pub fn copy_bytes<F: Folder, A: Asker, R: Rng>(
+pub fn copy_bytes<F: Folder, A: Asker>(
     alloc: Global,
     host: &mut F,
     asker: &mut A,
     at: &RowPlace,
     totals: &mut Totals,
-    chance: &mut R,
 ) -> Result<(), Stop>
     requires ready { A.asking.ready asker.old }
     requires told { IfSome (F.tree host.old) (λ t. HasFile t at.now.host) }
@@ -123,7 +120,7 @@ pub fn copy_bytes<F: Folder, A: Asker, R: Rng>(
         if len == 0 {
             return Ok(());
         }
-        match write_piece(alloc, asker, &at.tree, place, piece, totals, chance) {
+        match write_piece(alloc, asker, &at.tree, place, piece, totals) {
             Ok(()) => {}
             Err(stop) => return Err(stop),
         }

@@ -10,19 +10,17 @@ use crate::replies::ask_piece;
 use crate::stop::Stop;
 use copy_rules::Asker;
 use host_folder::Folder;
-use rand_core::Rng;
 use std::alloc::Global;
 
 /// No file goes on beyond this place.
 pub const FILE_END: u64 = 1 << 63;
 
 /// Copies a file's bytes into an empty file of the folder. How many.
-pub fn bytes_out<F: Folder, A: Asker, R: Rng>(
+pub fn bytes_out<F: Folder, A: Asker>(
     alloc: Global,
     host: &mut F,
     asker: &mut A,
     at: &RowPlace,
-    chance: &mut R,
 ) -> Result<u64, Stop>
     requires ready { A.asking.ready asker.old }
     ensures ready { A.asking.ready asker.new }
@@ -32,7 +30,7 @@ pub fn bytes_out<F: Folder, A: Asker, R: Rng>(
 {
     let mut place = 0;
     while place < FILE_END {
-        let piece = match ask_piece(alloc, asker, &at.tree, place, chance) {
+        let piece = match ask_piece(alloc, asker, &at.tree, place) {
             Ok(piece) => piece,
             Err(stop) => return Err(stop),
         };

@@ -12,16 +12,10 @@ use crate::stop::Stop;
 use block_id::Memory;
 use copy_rules::{Asker, Stopped};
 use fs_model::{ByteText, Command, FsError, MAX_TARGET, Path, Reply, RowList, has_zero};
-use rand_core::Rng;
 use std::alloc::Global;
 
 /// Asks a question of an export.
-fn ask_reader<A: Asker, R: Rng>(
-    alloc: Global,
-    asker: &mut A,
-    command: &Command,
-    chance: &mut R,
-) -> Result<Reply, Stop>
+fn ask_reader<A: Asker>(alloc: Global, asker: &mut A, command: &Command) -> Result<Reply, Stop>
     requires ready { A.asking.ready asker.old }
     requires reader { IsReader command.now }
     ensures ready { A.asking.ready asker.new }
@@ -29,7 +23,7 @@ fn ask_reader<A: Asker, R: Rng>(
     ensures host { NeverHost result }
     ensures read { OneRead A.asking asker.old asker.new command.now result }
 {
-    match asker.ask(alloc, command, chance) {
+    match asker.ask(alloc, command) {
         Ok(reply) => match refusal_of(&reply) {
             None => Ok(reply),
             Some(error) => Err(Stop::Refused(error)),
@@ -39,12 +33,7 @@ fn ask_reader<A: Asker, R: Rng>(
 }
 
 /// The rows of the directory at this path.
-pub fn ask_rows<A: Asker, R: Rng>(
-    alloc: Global,
-    asker: &mut A,
-    tree: &Path,
-    chance: &mut R,
-) -> Result<RowList, Stop>
+pub fn ask_rows<A: Asker>(alloc: Global, asker: &mut A, tree: &Path) -> Result<RowList, Stop>
     requires ready { A.asking.ready asker.old }
     ensures ready { A.asking.ready asker.new }
     ensures stops { StopsBy (A.asking.stops asker.old) (A.asking.stops asker.new) result }
@@ -55,7 +44,7 @@ pub fn ask_rows<A: Asker, R: Rng>(
         Ok(path) => path,
         Err(Memory) => return Err(Stop::Memory),
     };
-    match ask_reader(alloc, asker, &Command::List(path), chance) {
+    match ask_reader(alloc, asker, &Command::List(path)) {
         Ok(Reply::Rows(rows)) => Ok(rows),
         Ok(_) => unreachable!(),
         Err(stop) => Err(stop),
@@ -63,12 +52,11 @@ pub fn ask_rows<A: Asker, R: Rng>(
 }
 
 /// A piece of the file at this path: whole, or less where the file ends.
-pub fn ask_piece<A: Asker, R: Rng>(
+pub fn ask_piece<A: Asker>(
     alloc: Global,
     asker: &mut A,
     tree: &Path,
     from: u64,
-    chance: &mut R,
 ) -> Result<ByteText, Stop>
     requires ready { A.asking.ready asker.old }
     ensures ready { A.asking.ready asker.new }
@@ -81,7 +69,7 @@ pub fn ask_piece<A: Asker, R: Rng>(
         Err(Memory) => return Err(Stop::Memory),
     };
     let command = Command::Read(path, from, PIECE as u64);
-    match ask_reader(alloc, asker, &command, chance) {
+    match ask_reader(alloc, asker, &command) {
         Ok(Reply::Content(bytes)) => Ok(bytes),
         Ok(_) => unreachable!(),
         Err(stop) => Err(stop),
@@ -99,12 +87,7 @@ fn fits_link(target: &[u8]) -> bool
 }
 
 /// The target of the link at this path. No tree has one that no link may have.
-pub fn ask_target<A: Asker, R: Rng>(
-    alloc: Global,
-    asker: &mut A,
-    tree: &Path,
-    chance: &mut R,
-) -> Result<ByteText, Stop>
+pub fn ask_target<A: Asker>(alloc: Global, asker: &mut A, tree: &Path) -> Result<ByteText, Stop>
     requires ready { A.asking.ready asker.old }
     ensures ready { A.asking.ready asker.new }
     ensures stops { StopsBy (A.asking.stops asker.old) (A.asking.stops asker.new) result }
@@ -116,7 +99,7 @@ pub fn ask_target<A: Asker, R: Rng>(
         Ok(path) => path,
         Err(Memory) => return Err(Stop::Memory),
     };
-    let target = match ask_reader(alloc, asker, &Command::Readlink(path), chance) {
+    let target = match ask_reader(alloc, asker, &Command::Readlink(path)) {
         Ok(Reply::Target(target)) => target,
         Ok(_) => unreachable!(),
         Err(stop) => return Err(stop),

@@ -15,16 +15,14 @@ use copy_rules::{Asker, Totals};
 use fs_model::{Command, Kind, Path};
 use host_folder::Folder;
 use outside::GetFail;
-use rand_core::Rng;
 use std::alloc::Global;
 
 /// Makes a directory at this path.
-fn make_directory<A: Asker, R: Rng>(
+fn make_directory<A: Asker>(
     alloc: Global,
     asker: &mut A,
     to: &Path,
     totals: &mut Totals,
-    chance: &mut R,
 ) -> Result<(), Stop>
     requires ready { A.asking.ready asker.old }
     ensures ready { A.asking.ready asker.new }
@@ -37,16 +35,15 @@ fn make_directory<A: Asker, R: Rng>(
         Ok(path) => path,
         Err(Memory) => return Err(Stop::Memory),
     };
-    ask_done(alloc, asker, &Command::Mkdir(path), totals, chance)
+    ask_done(alloc, asker, &Command::Mkdir(path), totals)
 }
 
 /// Makes a file without bytes at this path.
-pub fn make_file<A: Asker, R: Rng>(
+pub fn make_file<A: Asker>(
     alloc: Global,
     asker: &mut A,
     to: &Path,
     totals: &mut Totals,
-    chance: &mut R,
 ) -> Result<(), Stop>
     requires ready { A.asking.ready asker.old }
     ensures ready { A.asking.ready asker.new }
@@ -59,17 +56,16 @@ pub fn make_file<A: Asker, R: Rng>(
         Ok(path) => path,
         Err(Memory) => return Err(Stop::Memory),
     };
-    ask_done(alloc, asker, &Command::Mkfile(path), totals, chance)
+    ask_done(alloc, asker, &Command::Mkfile(path), totals)
 }
 
 /// Copies a link.
-fn copy_link<F: Folder, A: Asker, R: Rng>(
+fn copy_link<F: Folder, A: Asker>(
     alloc: Global,
     host: &mut F,
     asker: &mut A,
     at: &RowPlace,
     totals: &mut Totals,
-    chance: &mut R,
 ) -> Result<(), Stop>
     requires ready { A.asking.ready asker.old }
     requires told { IfSome (F.tree host.old) (λ t. HasLink t at.now.host) }
@@ -88,23 +84,16 @@ fn copy_link<F: Folder, A: Asker, R: Rng>(
         Ok(path) => path,
         Err(Memory) => return Err(Stop::Memory),
     };
-    ask_done(
-        alloc,
-        asker,
-        &Command::Symlink(target, path),
-        totals,
-        chance,
-    )
+    ask_done(alloc, asker, &Command::Symlink(target, path), totals)
 }
 
 /// Copies a file.
-fn copy_file<F: Folder, A: Asker, R: Rng>(
+fn copy_file<F: Folder, A: Asker>(
     alloc: Global,
     host: &mut F,
     asker: &mut A,
     at: &RowPlace,
     totals: &mut Totals,
-    chance: &mut R,
 ) -> Result<(), Stop>
     requires ready { A.asking.ready asker.old }
     requires told { IfSome (F.tree host.old) (λ t. HasFile t at.now.host) }
@@ -114,20 +103,19 @@ fn copy_file<F: Folder, A: Asker, R: Rng>(
     ensures stops { StopsBy (A.asking.stops asker.old) (A.asking.stops asker.new) result }
     ensures copied { RowCopied A.asking asker.old asker.new (F.tree host.old) File at.now.host at.now.tree totals.old totals.new result }
 {
-    match make_file(alloc, asker, &at.tree, totals, chance) {
-        Ok(()) => copy_bytes(alloc, host, asker, at, totals, chance),
+    match make_file(alloc, asker, &at.tree, totals) {
+        Ok(()) => copy_bytes(alloc, host, asker, at, totals),
         Err(stop) => Err(stop),
     }
 }
 
 /// Copies one row without what is below it.
-pub fn copy_row<F: Folder, A: Asker, R: Rng>(
+pub fn copy_row<F: Folder, A: Asker>(
     alloc: Global,
     host: &mut F,
     asker: &mut A,
     at: &RowPlace,
     totals: &mut Totals,
-    chance: &mut R,
 ) -> Result<(), Stop>
     requires ready { A.asking.ready asker.old }
     requires told { IfSome (F.tree host.old) (λ t. IsPlaced t at.now.host at.now.kind) }
@@ -138,8 +126,8 @@ pub fn copy_row<F: Folder, A: Asker, R: Rng>(
     ensures copied { RowCopied A.asking asker.old asker.new (F.tree host.old) at.now.kind at.now.host at.now.tree totals.old totals.new result }
 {
     match at.kind {
-        Kind::Directory => make_directory(alloc, asker, &at.tree, totals, chance),
-        Kind::File => copy_file(alloc, host, asker, at, totals, chance),
-        Kind::Link => copy_link(alloc, host, asker, at, totals, chance),
+        Kind::Directory => make_directory(alloc, asker, &at.tree, totals),
+        Kind::File => copy_file(alloc, host, asker, at, totals),
+        Kind::Link => copy_link(alloc, host, asker, at, totals),
     }
 }

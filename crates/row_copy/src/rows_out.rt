@@ -13,7 +13,6 @@ use crate::totals::count_row;
 use copy_rules::{Asker, Totals};
 use fs_model::{ByteText, Kind};
 use host_folder::Folder;
-use rand_core::Rng;
 use std::alloc::Global;
 
 /// Makes a directory of the folder.
@@ -37,13 +36,12 @@ fn directory_out<F: Folder>(
 }
 
 /// Makes a file of the folder, and copies its bytes.
-fn file_out<F: Folder, A: Asker, R: Rng>(
+fn file_out<F: Folder, A: Asker>(
     alloc: Global,
     host: &mut F,
     asker: &mut A,
     at: &RowPlace,
     totals: &mut Totals,
-    chance: &mut R,
 ) -> Result<(), Stop>
     requires ready { A.asking.ready asker.old }
     ensures ready { A.asking.ready asker.new }
@@ -56,7 +54,7 @@ fn file_out<F: Folder, A: Asker, R: Rng>(
         Ok(()) => {}
         Err(stop) => return Err(stop),
     }
-    let count = match bytes_out(alloc, host, asker, at, chance) {
+    let count = match bytes_out(alloc, host, asker, at) {
         Ok(count) => count,
         Err(stop) => return Err(stop),
     };
@@ -65,13 +63,12 @@ fn file_out<F: Folder, A: Asker, R: Rng>(
 }
 
 /// Makes a link of the folder.
-fn link_out<F: Folder, A: Asker, R: Rng>(
+fn link_out<F: Folder, A: Asker>(
     alloc: Global,
     host: &mut F,
     asker: &mut A,
     at: &RowPlace,
     totals: &mut Totals,
-    chance: &mut R,
 ) -> Result<(), Stop>
     requires ready { A.asking.ready asker.old }
     ensures ready { A.asking.ready asker.new }
@@ -79,7 +76,7 @@ fn link_out<F: Folder, A: Asker, R: Rng>(
     ensures stops { StopsBy (A.asking.stops asker.old) (A.asking.stops asker.new) result }
     ensures out { RowOut A.asking asker.old asker.new (F.tree host.old) (F.tree host.new) Link at.now.tree at.now.host totals.old totals.new result }
 {
-    let target = match ask_target(alloc, asker, &at.tree, chance) {
+    let target = match ask_target(alloc, asker, &at.tree) {
         Ok(target) => target,
         Err(stop) => return Err(stop),
     };
@@ -92,13 +89,12 @@ fn link_out<F: Folder, A: Asker, R: Rng>(
 }
 
 /// Copies one row into the folder without what is below it.
-pub fn row_out<F: Folder, A: Asker, R: Rng>(
+pub fn row_out<F: Folder, A: Asker>(
     alloc: Global,
     host: &mut F,
     asker: &mut A,
     at: &RowPlace,
     totals: &mut Totals,
-    chance: &mut R,
 ) -> Result<(), Stop>
     requires ready { A.asking.ready asker.old }
     ensures ready { A.asking.ready asker.new }
@@ -108,7 +104,7 @@ pub fn row_out<F: Folder, A: Asker, R: Rng>(
 {
     match at.kind {
         Kind::Directory => directory_out(alloc, host, at, totals),
-        Kind::File => file_out(alloc, host, asker, at, totals, chance),
-        Kind::Link => link_out(alloc, host, asker, at, totals, chance),
+        Kind::File => file_out(alloc, host, asker, at, totals),
+        Kind::Link => link_out(alloc, host, asker, at, totals),
     }
 }

@@ -1,5 +1,5 @@
 // The lines of an input, each answered into an output before the next is taken.
-ghost use Rattle.std.specs.Prelude.{◌≡◌, ◌≤◌, ◌<◌, false, true, IfNone, IfSome};
+ghost use Rattle.std.specs.Prelude.{◌≡◌, ◌≤◌, ◌<◌, true, IfNone, IfSome};
 ghost use Rattle.outside.specs.Streams.{appends, Ends};
 ghost use Rattle.line_io.specs.Reading.{coming, total, remaining};
 ghost use Rattle.line_io.specs.Streams.{stream_of};
@@ -12,11 +12,10 @@ use block_id::Failed;
 use fs_model::Moment;
 use line_io::{LineReader, write_all};
 use outside::{Sink, Source};
-use rand_core::Rng;
 use std::alloc::Global;
 
 /// Takes the next line and answers it. None where it was answered, else how the lines ended.
-fn answer_next<H: Host, I: Source, O: Sink, R: Rng>(
+fn answer_next<H: Host, I: Source, O: Sink>(
     alloc: Global,
     host: &mut H,
     now: Moment,
@@ -24,7 +23,6 @@ fn answer_next<H: Host, I: Source, O: Sink, R: Rng>(
     text: &mut TextBuffer,
     input: &mut I,
     output: &mut O,
-    chance: &mut R,
 ) -> Option<End>
     requires ready { H.hosting.ready host.old }
     requires ended { reader.old.ended ≡ true → Ends (coming reader.old.ahead (I.rest input.old)) }
@@ -38,14 +36,14 @@ fn answer_next<H: Host, I: Source, O: Sink, R: Rng>(
     ensures counted { total reader.new.taken (I.rest input.new) ≡ total reader.old.taken (I.rest input.old) }
     ensures input_grows { I.faults input.old ≤ I.faults input.new }
     ensures output_grows { O.faults output.old ≤ O.faults output.new }
-    ensures undrawn { H.hosting.draws ≡ false → R.stream chance.new ≡ R.stream chance.old }
+    ensures chance { H.hosting.chance host.new ≡ H.hosting.chance host.old }
 {
     match reader.next_line(input) {
         Ok(true) => {}
         Ok(false) => return Some(End::Finished),
         Err(Failed) => return Some(End::InputFault),
     }
-    tell_line(alloc, host, now, reader.line(), text, chance);
+    tell_line(alloc, host, now, reader.line(), text);
     match write_all(output, text.as_slice()) {
         Ok(()) => None,
         Err(Failed) => Some(End::OutputFault),
@@ -54,7 +52,7 @@ fn answer_next<H: Host, I: Source, O: Sink, R: Rng>(
 
 /// Answers each line of the input before it takes the next, and says how they ended. The reader has taken the lines
 /// before, from the same input.
-pub fn answer_lines<H: Host, I: Source, O: Sink, R: Rng>(
+pub fn answer_lines<H: Host, I: Source, O: Sink>(
     alloc: Global,
     host: &mut H,
     now: Moment,
@@ -62,7 +60,6 @@ pub fn answer_lines<H: Host, I: Source, O: Sink, R: Rng>(
     text: &mut TextBuffer,
     input: &mut I,
     output: &mut O,
-    chance: &mut R,
 ) -> End
     requires ready { H.hosting.ready host.old }
     requires ended { reader.old.ended ≡ true → Ends (coming reader.old.ahead (I.rest input.old)) }
@@ -72,10 +69,10 @@ pub fn answer_lines<H: Host, I: Source, O: Sink, R: Rng>(
         (stream_of O.written O.faults output.old output.new) result }
     ensures input_grows { I.faults input.old ≤ I.faults input.new }
     ensures output_grows { O.faults output.old ≤ O.faults output.new }
-    ensures undrawn { H.hosting.draws ≡ false → R.stream chance.new ≡ R.stream chance.old }
+    ensures chance { H.hosting.chance host.new ≡ H.hosting.chance host.old }
 {
     'turns: loop {
-        match answer_next(alloc, host, now, reader, text, input, output, chance) {
+        match answer_next(alloc, host, now, reader, text, input, output) {
             None => {}
             Some(end) => return end,
         }

@@ -1,5 +1,5 @@
 // One line.
-ghost use Rattle.std.specs.Prelude.{◌≡◌, ◌≤◌, false};
+ghost use Rattle.std.specs.Prelude.{◌≡◌, ◌≤◌};
 ghost use Rattle.std.specs.Option.{option_copied};
 ghost use Rattle.line_io.specs.Lines.{kept};
 ghost use Rattle.line_io.specs.Streams.{stream_of};
@@ -12,27 +12,25 @@ use block_id::Failed;
 use fs_model::Moment;
 use line_io::write_all;
 use outside::Sink;
-use rand_core::Rng;
 use script_text::MAX_LINE;
 use std::alloc::Global;
 
 /// Answers one line, and no more.
-pub fn answer_single<H: Host, O: Sink, R: Rng>(
+pub fn answer_single<H: Host, O: Sink>(
     alloc: Global,
     host: &mut H,
     now: Moment,
     line: &[u8],
     text: &mut TextBuffer,
     output: &mut O,
-    chance: &mut R,
 ) -> End
     requires ready { H.hosting.ready host.old }
     ensures ready { H.hosting.ready host.new }
     ensures answered { AnsweredOne H.hosting now host.old host.new line.now (stream_of O.written O.faults output.old output.new) result }
     ensures output_grows { O.faults output.old ≤ O.faults output.new }
-    ensures undrawn { H.hosting.draws ≡ false → R.stream chance.new ≡ R.stream chance.old }
+    ensures chance { H.hosting.chance host.new ≡ H.hosting.chance host.old }
 {
-    tell_line(alloc, host, now, short_line(line), text, chance);
+    tell_line(alloc, host, now, short_line(line), text);
     match write_all(output, text.as_slice()) {
         Ok(()) => End::Finished,
         Err(Failed) => End::OutputFault,

@@ -12,7 +12,6 @@ use copy_rules::{Asker, CopyFail, Totals};
 use fs_model::{FsError, Path};
 use host_folder::Folder;
 use outside::GetFail;
-use rand_core::Rng;
 use row_copy::{copy_path, no_totals};
 use std::alloc::Global;
 
@@ -35,12 +34,11 @@ fn is_bare<F: Folder>(alloc: Global, host: &mut F) -> Result<bool, GetFail>
 }
 
 /// Copies what is below this path into a folder without rows.
-fn copy_out<F: Folder, A: Asker, R: Rng>(
+fn copy_out<F: Folder, A: Asker>(
     alloc: Global,
     host: &mut F,
     asker: &mut A,
     source: &Path,
-    chance: &mut R,
 ) -> Result<Totals, CopyFail>
     requires ready { A.asking.ready asker.old }
     requires tree { IfSome (F.tree host.old) IsHostTree }
@@ -55,13 +53,13 @@ fn copy_out<F: Folder, A: Asker, R: Rng>(
         Err(Memory) => return Err(CopyFail::Memory),
     };
     let mut levels = Vec::new(alloc);
-    match begin_tree(alloc, asker, Path::root(alloc), path, &mut levels, chance) {
+    match begin_tree(alloc, asker, Path::root(alloc), path, &mut levels) {
         Ok(()) => {}
         Err(fail) => return Err(fail),
     }
     let mut totals = no_totals();
     for _ in 0..u64::MAX {
-        match export_next(alloc, host, asker, &mut levels, &mut totals, chance) {
+        match export_next(alloc, host, asker, &mut levels, &mut totals) {
             Ok(true) => {}
             Ok(false) => return Ok(totals),
             Err(fail) => return Err(fail),
@@ -71,12 +69,11 @@ fn copy_out<F: Folder, A: Asker, R: Rng>(
 }
 
 /// Copies what is below this path into the folder. A folder with rows is refused before anything is asked.
-pub fn export<F: Folder, A: Asker, R: Rng>(
+pub fn export<F: Folder, A: Asker>(
     alloc: Global,
     host: &mut F,
     asker: &mut A,
     source: &Path,
-    chance: &mut R,
 ) -> Result<Totals, CopyFail>
     requires ready { A.asking.ready asker.old }
     ensures ready { A.asking.ready asker.new }
@@ -92,5 +89,5 @@ pub fn export<F: Folder, A: Asker, R: Rng>(
         Err(GetFail::Memory) => return Err(CopyFail::Memory),
         Err(GetFail::Failed) => return Err(CopyFail::Host),
     }
-    copy_out(alloc, host, asker, source, chance)
+    copy_out(alloc, host, asker, source)
 }

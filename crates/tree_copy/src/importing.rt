@@ -9,18 +9,16 @@ use copy_rules::{Asker, CopyFail, Totals};
 use fs_model::Path;
 use host_folder::Folder;
 use outside::GetFail;
-use rand_core::Rng;
 use row_copy::no_totals;
 use std::alloc::Global;
 
 /// Copies the rows of the folder's root and what is below them to below this path. Nothing is asked for a folder
 /// without rows.
-pub fn import<F: Folder, A: Asker, R: Rng>(
+pub fn import<F: Folder, A: Asker>(
     alloc: Global,
     host: &mut F,
     asker: &mut A,
     target: &Path,
-    chance: &mut R,
 ) -> Result<Totals, CopyFail>
     requires ready { A.asking.ready asker.old }
     ensures ready { A.asking.ready asker.new }
@@ -37,7 +35,7 @@ pub fn import<F: Folder, A: Asker, R: Rng>(
     }
     let mut totals = no_totals();
     for _ in 0..u64::MAX {
-        match copy_next(alloc, host, asker, &mut levels, &mut totals, chance) {
+        match copy_next(alloc, host, asker, &mut levels, &mut totals) {
             Ok(true) => {}
             Ok(false) => return Ok(totals),
             Err(fail) => return Err(fail),

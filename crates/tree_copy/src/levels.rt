@@ -11,7 +11,6 @@ use copy_rules::Asker;
 use fs_model::{Path, RowList};
 use host_folder::Folder;
 use outside::GetFail;
-use rand_core::Rng;
 use row_copy::{RowPlace, Stop, ask_rows, child_of, copy_path};
 use std::alloc::Global;
 
@@ -59,13 +58,12 @@ pub fn enter<F: Folder>(
 }
 
 /// Begins the directory of the tree: its rows are to be copied.
-pub fn enter_tree<A: Asker, R: Rng>(
+pub fn enter_tree<A: Asker>(
     alloc: Global,
     asker: &mut A,
     host: Path,
     tree: &Path,
     levels: &mut Vec<Level>,
-    chance: &mut R,
 ) -> Result<(), Stop>
     requires ready { A.asking.ready asker.old }
     ensures ready { A.asking.ready asker.new }
@@ -77,7 +75,7 @@ pub fn enter_tree<A: Asker, R: Rng>(
         Ok(path) => path,
         Err(Memory) => return Err(Stop::Memory),
     };
-    let rows = match ask_rows(alloc, asker, tree, chance) {
+    let rows = match ask_rows(alloc, asker, tree) {
         Ok(rows) => rows,
         Err(stop) => return Err(stop),
     };

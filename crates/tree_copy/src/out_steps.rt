@@ -10,18 +10,16 @@ use block_id::Memory;
 use copy_rules::{Asker, CopyFail, Totals};
 use fs_model::{Kind, Path};
 use host_folder::Folder;
-use rand_core::Rng;
 use row_copy::{RowPlace, is_short, row_out};
 use std::alloc::Global;
 
 /// Begins the directory of the tree: its rows are to be copied.
-pub fn begin_tree<A: Asker, R: Rng>(
+pub fn begin_tree<A: Asker>(
     alloc: Global,
     asker: &mut A,
     host: Path,
     tree: Path,
     levels: &mut Vec<Level>,
-    chance: &mut R,
 ) -> Result<(), CopyFail>
     requires ready { A.asking.ready asker.old }
     ensures ready { A.asking.ready asker.new }
@@ -29,7 +27,7 @@ pub fn begin_tree<A: Asker, R: Rng>(
     ensures host { (faults : ℕ) → HostCause faults faults result }
     ensures begun { TreeBegun A.asking asker.old asker.new host tree levels.old.items levels.new.items result }
 {
-    match enter_tree(alloc, asker, host, &tree, levels, chance) {
+    match enter_tree(alloc, asker, host, &tree, levels) {
         Ok(()) => {}
         Err(stop) => return Err(fail_at(stop, tree)),
     }
@@ -37,14 +35,13 @@ pub fn begin_tree<A: Asker, R: Rng>(
 }
 
 /// Copies the row into the folder, and begins the directory that it is.
-fn export_at<F: Folder, A: Asker, R: Rng>(
+fn export_at<F: Folder, A: Asker>(
     alloc: Global,
     host: &mut F,
     asker: &mut A,
     at: RowPlace,
     levels: &mut Vec<Level>,
     totals: &mut Totals,
-    chance: &mut R,
 ) -> Result<(), CopyFail>
     requires ready { A.asking.ready asker.old }
     ensures ready { A.asking.ready asker.new }
@@ -56,7 +53,7 @@ fn export_at<F: Folder, A: Asker, R: Rng>(
     if !is_short(&at.host) {
         return Err(CopyFail::LongPath(at.host));
     }
-    match row_out(alloc, host, asker, &at, totals, chance) {
+    match row_out(alloc, host, asker, &at, totals) {
         Ok(()) => {}
         Err(stop) => return Err(fail_at(stop, at.tree)),
     }
@@ -65,7 +62,7 @@ fn export_at<F: Folder, A: Asker, R: Rng>(
         Kind::File => return Ok(()),
         Kind::Link => return Ok(()),
     }
-    match begin_tree(alloc, asker, at.host, at.tree, levels, chance) {
+    match begin_tree(alloc, asker, at.host, at.tree, levels) {
         Ok(()) => {}
         Err(fail) => return Err(fail),
     }
@@ -73,13 +70,12 @@ fn export_at<F: Folder, A: Asker, R: Rng>(
 }
 
 /// Copies the next row of the directory that was begun last, and begins the directory that it is. Whether that isn't all.
-pub fn export_next<F: Folder, A: Asker, R: Rng>(
+pub fn export_next<F: Folder, A: Asker>(
     alloc: Global,
     host: &mut F,
     asker: &mut A,
     levels: &mut Vec<Level>,
     totals: &mut Totals,
-    chance: &mut R,
 ) -> Result<bool, CopyFail>
     requires ready { A.asking.ready asker.old }
     ensures ready { A.asking.ready asker.new }
@@ -100,7 +96,7 @@ pub fn export_next<F: Folder, A: Asker, R: Rng>(
         Ok(()) => {}
         Err(_) => return Err(CopyFail::Memory),
     }
-    match export_at(alloc, host, asker, at, levels, totals, chance) {
+    match export_at(alloc, host, asker, at, levels, totals) {
         Ok(()) => {}
         Err(fail) => return Err(fail),
     }

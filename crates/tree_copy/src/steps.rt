@@ -11,7 +11,6 @@ use copy_rules::{Asker, CopyFail, Totals};
 use fs_model::{Kind, Path};
 use host_folder::Folder;
 use outside::GetFail;
-use rand_core::Rng;
 use row_copy::{RowPlace, Stop, copy_row, is_short};
 use std::alloc::Global;
 
@@ -27,14 +26,13 @@ pub fn fail_at(stop: Stop, path: Path) -> CopyFail
 }
 
 /// Copies the row, and begins the directory that it is.
-fn copy_at<F: Folder, A: Asker, R: Rng>(
+fn copy_at<F: Folder, A: Asker>(
     alloc: Global,
     host: &mut F,
     asker: &mut A,
     at: RowPlace,
     levels: &mut Vec<Level>,
     totals: &mut Totals,
-    chance: &mut R,
 ) -> Result<(), CopyFail>
     requires ready { A.asking.ready asker.old }
     requires told { IfSome (F.tree host.old) (λ t. IsPlaced t at.host at.kind) }
@@ -48,7 +46,7 @@ fn copy_at<F: Folder, A: Asker, R: Rng>(
     if !is_short(&at.tree) {
         return Err(CopyFail::LongPath(at.tree));
     }
-    match copy_row(alloc, host, asker, &at, totals, chance) {
+    match copy_row(alloc, host, asker, &at, totals) {
         Ok(()) => {}
         Err(stop) => return Err(fail_at(stop, at.tree)),
     }
@@ -66,13 +64,12 @@ fn copy_at<F: Folder, A: Asker, R: Rng>(
 }
 
 /// Copies the next row of the directory that was begun last, and begins the directory that it is. Whether that isn't all.
-pub fn copy_next<F: Folder, A: Asker, R: Rng>(
+pub fn copy_next<F: Folder, A: Asker>(
     alloc: Global,
     host: &mut F,
     asker: &mut A,
     levels: &mut Vec<Level>,
     totals: &mut Totals,
-    chance: &mut R,
 ) -> Result<bool, CopyFail>
     requires ready { A.asking.ready asker.old }
     requires told { IfSome (F.tree host.old) (λ t. AreKnown t levels.old.items) }
@@ -95,7 +92,7 @@ pub fn copy_next<F: Folder, A: Asker, R: Rng>(
         Ok(()) => {}
         Err(_) => return Err(CopyFail::Memory),
     }
-    match copy_at(alloc, host, asker, at, levels, totals, chance) {
+    match copy_at(alloc, host, asker, at, levels, totals) {
         Ok(()) => {}
         Err(fail) => return Err(fail),
     }

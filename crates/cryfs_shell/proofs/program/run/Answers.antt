@@ -1,4 +1,4 @@
-use Rattle.std.proofs.Common.{map, refl, sym, ap, ◌∙◌}
+use Rattle.std.proofs.Common.{map, refl, sym, ◌∙◌}
 use Rattle.std.specs.String.{string_bytes}
 use Rattle.line_io.specs.Streams.{stream_of}
 use Rattle.run_status.specs.declared.status.Status.TheVariants.{Usage, Memory}
@@ -6,6 +6,7 @@ use Rattle.shell_words.specs.Forms.{form_of}
 use Rattle.cryfs_shell.specs.Hosts.{host_of}
 use Rattle.cryfs_shell.specs.Streams.{streams_of}
 use Rattle.cryfs_shell.proofs.Asked.{asked_did, asked_refusal, asked_alarm, asked_keeps, asked_faults, asked_statuses, asked_spares, asked_history}
+use Rattle.cryfs_shell.proofs.Drawn.{undone}
 use Rattle.cryfs_shell.proofs.Idle.{idle_alarm, idle_faults, idle_statuses, idle_history, memory_did, memory_refusal, memory_keeps}
 use Rattle.cryfs_shell.proofs.program.run.Goals as goal
 
@@ -147,7 +148,7 @@ returns-in-Ok-Some-clause-spares g c =
     (streams_of (stream_of g.I.Source.rest g.I.Source.faults c.args.input.now c.run_form.new.input) (stream_of g.O.Sink.written g.O.Sink.faults c.args.output.now c.run_form.new.output)
     (host_of g.F.Folder.tree g.F.Folder.faults c.args.host.now c.run_form.new.host) (g.R.Rng.stream c.args.chance.now) (g.R.Rng.stream c.run_form.new.chance))
     c.args.vault c.args.keeper c.run_form.result
-    made.form (sym made.field-0-is ∙ made.ensures.value) c.run_form.ensures.did c.run_form.ensures.caused c.args.host.now c.run_form.new.host c.run_form.ensures.unhosted c.run_form.ensures.undrawn
+    made.form (sym made.field-0-is ∙ made.ensures.value) c.run_form.ensures.did c.run_form.ensures.caused c.args.host.now c.run_form.new.host c.run_form.ensures.unhosted c.run_form.ensures.undrawn c.run_form.ensures.drawn
 
 pub returns-in-Ok-Some-clause-history : goal.returns-in-Ok-Some-clause-history
 returns-in-Ok-Some-clause-history g c =
@@ -157,3 +158,17 @@ returns-in-Ok-Some-clause-history g c =
     (host_of g.F.Folder.tree g.F.Folder.faults c.args.host.now c.run_form.new.host) (g.R.Rng.stream c.args.chance.now) (g.R.Rng.stream c.run_form.new.chance))
     c.args.vault c.args.keeper c.run_form.result
     made.form (sym made.field-0-is ∙ made.ensures.value) c.run_form.ensures.did c.run_form.ensures.caused
+
+pub returns-in-Err-clause-spares : goal.returns-in-Err-clause-spares
+returns-in-Err-clause-spares g c = record {
+  unhosted = λ e. refl;
+  undrawn = λ e. refl;
+  drawn = λ e. undone g.V.Vault.trace g.V.Vault.faults g.K.Keeper c.args.vault c.args.keeper (g.R.Rng.stream c.args.chance.now);
+}
+
+pub returns-in-Ok-None-clause-spares : goal.returns-in-Ok-None-clause-spares
+returns-in-Ok-None-clause-spares g c = record {
+  unhosted = λ e. refl;
+  undrawn = λ e. refl;
+  drawn = λ e. undone g.V.Vault.trace g.V.Vault.faults g.K.Keeper c.args.vault c.args.keeper (g.R.Rng.stream c.args.chance.now);
+}

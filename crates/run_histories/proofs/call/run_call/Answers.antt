@@ -19,6 +19,7 @@ returns-clause-call g c =
       statuses = e.statuses;
       unhosted = λ other. let same = e.spares.unhosted other in (ap g.F.Folder.tree same, ap g.F.Folder.faults same);
       undrawn = e.spares.undrawn;
+      drawn = e.spares.drawn;
     }
 
 pub returns-clause-listed : goal.returns-clause-listed

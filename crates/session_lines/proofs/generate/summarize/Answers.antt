@@ -9,7 +9,7 @@ loop-i-init g c = record {
   summed = ([], refl, refl, c.new-summary.ensures.counts);
   small = c.new-summary.ensures.small;
   lines = c.new-summary.ensures.lines;
-  undrawn = λ _. refl;
+  chance = refl;
 }
 
 pub loop-i-preserved : goal.loop-i-preserved
@@ -27,5 +27,5 @@ loop-i-preserved g c =
       );
       small = c.add.ensures.small;
       lines = omega (arith, c.add.ensures.lines, i.lines);
-      undrawn = λ e. n.ensures.undrawn e ∙ i.undrawn e;
+      chance = n.ensures.chance ∙ i.chance;
     }

@@ -11,7 +11,7 @@ turns-init g c = record {
   counted = refl;
   input = omega arith;
   output = omega arith;
-  undrawn = λ _. refl;
+  chance = refl;
 }
 
 pub turns-preserved : goal.turns-preserved
@@ -25,7 +25,7 @@ turns-preserved g c =
       counted = a.counted ∙ i.counted;
       input = omega (arith, i.input, a.input_grows);
       output = omega (arith, i.output, a.output_grows);
-      undrawn = λ e. a.undrawn e ∙ i.undrawn e;
+      chance = a.chance ∙ i.chance;
     }
 
 pub returns-in-Some-clause-served : goal.returns-in-Some-clause-served

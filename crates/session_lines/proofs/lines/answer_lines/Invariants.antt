@@ -1,4 +1,4 @@
-use Rattle.std.proofs.Common.{◌≡◌, ◌≤◌, List, true, false}
+use Rattle.std.proofs.Common.{◌≡◌, ◌≤◌, List, true}
 use Rattle.outside.specs.Streams.{Ends}
 use Rattle.line_io.specs.Reading.{coming, total, remaining}
 use Rattle.answers.specs.Sessions.{Exchange}
@@ -15,7 +15,7 @@ invariant-turns g l = record {
   counted : total l.reader.taken (g.I.Source.rest l.input) ≡ total l.initial.reader.taken (g.I.Source.rest l.initial.input);
   input : g.I.Source.faults l.initial.input ≤ g.I.Source.faults l.input;
   output : g.O.Sink.faults l.initial.output ≤ g.O.Sink.faults l.output;
-  undrawn : g.H.Host.hosting.draws ≡ false → g.R.Rng.stream l.chance ≡ g.R.Rng.stream l.initial.chance;
+  chance : g.H.Host.hosting.chance l.host ≡ g.H.Host.hosting.chance l.initial.host;
 }
 
 abbrev pub decreases-turns : goal.decreases-turns

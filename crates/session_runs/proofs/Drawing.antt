@@ -1,0 +1,224 @@
+-- What a session draws for the files that it seals, from its lines.
+use Rattle.std.proofs.Common.{◌≡◌, ◌⊎◌, ◌++◌, ℕ, Bool, true, false, List, [], ◌∷◌, refl, sym, ap, subst, ◌∙◌, inl, inr}
+use Rattle.std.specs.Prelude.{Result}
+use Rattle.std.proofs.lemmas.Bool.{or_parts}
+use Rattle.std.specs.List.{AllByRecursion}
+use Rattle.std.specs.declared.option.Option.{Option}
+use Rattle.std.specs.declared.option.Option.TheVariants.{None, Some}
+use Rattle.answers.specs.declared.answer.Answer.{Answer}
+use Rattle.answers.specs.Hosts.{Ran}
+use Rattle.answers.specs.Sessions.{Asked, Exchange, is_violation}
+use Rattle.fs_model.specs.Instant.{Instant}
+use Rattle.held_blocks.specs.Standing.{listed}
+use Rattle.local_state.proofs.Records.{marked_record, one_reading}
+use Rattle.local_state.specs.Record.{PlainState, IsRecord, with_mark as mark_set}
+use Rattle.mount.specs.Mounts.{Unopened}
+use Rattle.mount.specs.Sealing.{AreVectorsOf, View, view_of, view_closed, IsSealedFor, PutsSealed, AddsSealed, AreSealed, SealsFresh, IsKeptList, OpensSealed}
+use Rattle.mount.specs.SealingLaws.{sealed_first, sealed_then, vectors_then}
+use Rattle.mount.specs.declared.mount.Halted.{Halted}
+use Rattle.mount.specs.declared.mount.Mount.{Mount}
+use Rattle.mount_core.specs.Keeping.{IsSameOrRecord}
+use Rattle.mount_tower.specs.Identities.{KeepsRecord}
+use Rattle.mount_tower.specs.Tower.{Cached, held_in, tower_durables}
+use Rattle.outside.specs.Changes.{FileChanges, change_at}
+use Rattle.outside.specs.Trace.{Call, block, config, put, got, removed}
+use Rattle.outside.specs.declared.keeper.Keeper.{Ghosts as KeeperGhosts}
+use Rattle.rand_core.specs.Stream.{Stream}
+use Rattle.session_saver.specs.declared.saver.SyncError.{SyncError}
+use Rattle.store_api.proofs.Draws.{later_same}
+use Rattle.store_api.specs.Durables.{with_mark}
+use Rattle.tree_commands.specs.Performing.{Showing}
+use Rattle.session_runs.specs.Answering.{store_of, kept_of, MountAnswers, mount_hosting, drawing_hosting}
+use Rattle.session_runs.specs.Drawing.{WaitsIn, IsSealedSince, PutsSince, AddsSince, DrawsVectors}
+use Rattle.session_runs.specs.Runs.{Outside, outside_of}
+use Rattle.session_runs.specs.Turns.{Begun, Closing}
+
+true_is_false : true ≡ false → ⊥
+true_is_false e = cc
+
+-- ---- a run that does nothing
+
+adds_nothing : (files : List (List ℕ)) (kept : Option (List ℕ)) (calls : Option (List Call)) → AddsSince files kept calls calls
+adds_nothing files kept None = refl
+adds_nothing files kept (Some calls) = ([], refl, tt)
+
+pub draws_nothing : (stream : Stream) (o : Outside) → DrawsVectors stream stream o o
+draws_nothing stream o = record { files = []; vectors = later_same stream; puts = adds_nothing [] o.kept o.calls; waits = λ id bytes w. inr w }
+
+-- ---- by the record that was kept in place of the list in it
+
+module _ (files : List (List ℕ)) (kept : Option (List ℕ)) (list : FileChanges) (is_kept : IsKeptList kept list) where
+  sealed_since : (id bytes : List ℕ) → IsSealedFor files list id bytes → IsSealedSince files kept id bytes
+  sealed_since id bytes (inl is) = inl is
+  sealed_since id bytes (inr waits) = elim is_kept as (λ _. IsSealedSince files kept id bytes) [
+    | inl none ↦ let no : change_at (block id) [] ≡ Some (Some bytes) = subst (λ (l : FileChanges). change_at (block id) l ≡ Some (Some bytes)) none waits in absurd (cc)
+    | inr (state, loaded) ↦ inr (record { state = state; list = list; keeps = loaded.keeps; waits = waits })
+  ]
+
+  puts_since : (call : Call) → PutsSealed files list call → PutsSince files kept call
+  puts_since (put (block id) bytes ok) is = sealed_since id bytes is
+  puts_since (put config bytes ok) is = tt
+  puts_since (got name max answer) is = tt
+  puts_since (removed name ok) is = tt
+
+  calls_since : (calls : List Call) → AllByRecursion (PutsSealed files list) calls → AllByRecursion (PutsSince files kept) calls
+  calls_since [] all = tt
+  calls_since (call ∷ calls) all = (puts_since call all.0, calls_since calls all.1)
+
+  adds_since : (old new : Option (List Call)) → AddsSealed files list old new → AddsSince files kept old new
+  adds_since None new adds = adds
+  adds_since (Some old) new adds = (adds.0, adds.1, calls_since adds.0 adds.2)
+
+-- ---- what waits in the records of a session
+
+-- a record is kept, and what waits in it was sealed, or waited before
+record KeepsSealed (files : List (List ℕ)) (list : FileChanges) (kept : Option (List ℕ)) : Type 0 where
+  state : PlainState
+  waiting : FileChanges
+  keeps : KeepsRecord kept state waiting
+  sealed : (id bytes : List ℕ) → change_at (block id) waiting ≡ Some (Some bytes) → IsSealedFor files list id bytes
+
+keeps_more : (first later : List (List ℕ)) (list : FileChanges) (kept : Option (List ℕ)) → KeepsSealed first list kept → KeepsSealed (first ++ later) list kept
+keeps_more first later list kept k = record { state = k.state; waiting = k.waiting; keeps = k.keeps; sealed = λ id bytes is. sealed_first first later list id bytes (k.sealed id bytes is) }
+
+nothing_waits : (files : List (List ℕ)) (list : FileChanges) (kept : Option (List ℕ)) (state : PlainState) → KeepsRecord kept state [] → KeepsSealed files list kept
+nothing_waits files list kept state keeps = record { state = state; waiting = []; keeps = keeps; sealed = λ id bytes is. absurd (cc) }
+
+waits_of : (files : List (List ℕ)) (list : FileChanges) (kept : Option (List ℕ)) → KeepsSealed files list kept → (id bytes : List ℕ) → WaitsIn kept id bytes → IsSealedFor files list id bytes
+waits_of files list kept k id bytes w =
+    let same : k.keeps.bytes ≡ w.keeps.bytes = let a = k.keeps.kept in let b = w.keeps.kept in cc in
+    let one = one_reading w.state k.state w.list k.waiting w.keeps.bytes w.keeps.is_record (subst (λ x. IsRecord k.state k.waiting x) same k.keeps.is_record) in
+    k.sealed id bytes (subst (λ (l : FileChanges). change_at (block id) l ≡ Some (Some bytes)) one.1 w.waits)
+
+-- the same record with its mark
+keeps_marked : (files : List (List ℕ)) (list : FileChanges) (last : List ℕ) → KeepsSealed files list (Some last) → KeepsSealed files list (Some (with_mark last))
+keeps_marked files list last k =
+    let same : last ≡ k.keeps.bytes = let a = k.keeps.kept in cc in
+    record {
+      state = mark_set k.state;
+      waiting = k.waiting;
+      keeps = record { bytes = with_mark k.keeps.bytes; kept = ap (λ x. Some (with_mark x)) same; is_record = marked_record k.state k.waiting k.keeps.bytes k.keeps.is_record };
+      sealed = k.sealed;
+    }
+
+module _ {V : Type 0} (trace : V → Option (List Call)) (files : List (List ℕ)) (list : FileChanges) (store : Cached V)
+    (each : (id bytes : List ℕ) → change_at (block id) ((tower_durables trace).list store) ≡ Some (Some bytes) → IsSealedFor files list id bytes) where
+  listed_sealed : (with_list : Bool) (id bytes : List ℕ) → change_at (block id) (listed with_list (held_in store).list) ≡ Some (Some bytes) → IsSealedFor files list id bytes
+  listed_sealed true id bytes is = each id bytes is
+  listed_sealed false id bytes is = absurd (cc)
+
+  -- a record of the store, or what was kept
+  keeps_or : (old new : Option (List ℕ)) → KeepsSealed files list old → IsSameOrRecord (tower_durables trace) store old new → KeepsSealed files list new
+  keeps_or old new k (inl same) = subst (λ x. KeepsSealed files list x) (sym same) k
+  keeps_or old new k (inr (bytes, with_list, is, is_record)) = record {
+    state = (held_in store).state;
+    waiting = listed with_list (held_in store).list;
+    keeps = record { bytes = bytes; kept = is; is_record = is_record };
+    sealed = listed_sealed with_list;
+  }
+
+-- ---- lines
+
+module _ {V : Type 0} {K : Type 0} (shows : Showing) (trace : V → Option (List Call)) (faults : V → ℕ) (G : KeeperGhosts K) (moment : Instant) (first : Stream) (start : View) where
+  -- up to here: what waits, in the mount and in its records, was sealed since, or waited at first
+  record SealedSoFar (now : Stream) (mount : Mount V K) : Type 0 where
+    files : List (List ℕ)
+    vectors : AreVectorsOf files first now
+    sealed : AreSealed files start (view_of trace mount)
+    kept : KeepsSealed files start.list (kept_of G mount)
+    last : mount.core.violated ≡ false → KeepsSealed files start.list (Some mount.core.saver.last.items)
+
+  module _ (now after : Stream) (old new : Mount V K) (asked : Asked) (answer : Answer) (x : SealedSoFar now old) (line : MountAnswers shows trace faults G moment old asked answer new)
+      (fresh : SealsFresh now after (view_of trace old) (view_of trace new)) where
+    abbrev Keeps : Option (List ℕ) → Type 0
+    Keeps kept = KeepsSealed x.files start.list kept
+
+    or_record : (a b : Option (List ℕ)) → Keeps a → IsSameOrRecord (tower_durables trace) (store_of old) a b → Keeps b
+    or_record a b k is = keeps_or trace x.files start.list (store_of old) x.sealed.waits a b k is
+
+    kept_on : (stood bad : Bool) → old.core.violated ≡ stood → is_violation answer ≡ bad → Keeps (kept_of G new)
+    kept_on true bad s e = subst Keeps (sym (ap (λ c. G.kept c.saver.keeper) (line.line.form.refused s).1)) x.kept
+    kept_on false false s e = or_record (kept_of G old) (kept_of G new) x.kept (line.line.keeps.calm e).kept
+    kept_on false true s e =
+        let m = line.line.keeps.marks e in
+        elim m.2 as (λ _. Keeps (kept_of G new)) [
+          | inl marked ↦ subst Keeps (sym marked.0) (keeps_marked x.files start.list m.0 (or_record (Some old.core.saver.last.items) (Some m.0) (x.last s) m.1))
+          | inr is ↦ or_record (kept_of G old) (kept_of G new) x.kept is
+        ]
+
+    last_on : (stood bad : Bool) → old.core.violated ≡ stood → is_violation answer ≡ bad → new.core.violated ≡ false → Keeps (Some new.core.saver.last.items)
+    last_on true bad s e v = absurd (true_is_false (sym s ∙ (or_parts (is_violation answer) old.core.violated (sym line.line.form.violated ∙ v)).1))
+    last_on false false s e v = or_record (Some old.core.saver.last.items) (Some new.core.saver.last.items) (x.last s) (line.line.keeps.calm e).last
+    last_on false true s e v = absurd (true_is_false (sym e ∙ (or_parts (is_violation answer) old.core.violated (sym line.line.form.violated ∙ v)).0))
+
+    sealed_line : SealedSoFar after new
+    sealed_line = record {
+      files = x.files ++ fresh.files;
+      vectors = vectors_then x.files fresh.files first now after x.vectors fresh.vectors;
+      sealed = sealed_then x.files fresh.files start (view_of trace old) (view_of trace new) x.sealed fresh.sealed;
+      kept = keeps_more x.files fresh.files start.list (kept_of G new) (kept_on old.core.violated (is_violation answer) refl refl);
+      last = λ v. keeps_more x.files fresh.files start.list (Some new.core.saver.last.items) (last_on old.core.violated (is_violation answer) refl refl v);
+    }
+
+  module _ {H : Type 0} (mount : H → Mount V K) (stream : H → Stream) (chance : H → ℕ) where
+    sealed_lines : (old new : H) (es : List Exchange) → SealedSoFar (stream old) (mount old) → Ran (drawing_hosting mount stream chance shows trace faults G) moment old es new → SealedSoFar (stream new) (mount new)
+    sealed_lines old new [] x r = subst (λ (h : H). SealedSoFar (stream h) (mount h)) (sym r) x
+    sealed_lines old new (e ∷ es) x r = sealed_line (stream r.0) (stream new) (mount r.0) (mount new) e.asked e.answer (sealed_lines old r.0 es x r.1) r.2.0 r.2.1
+
+-- what draws answers as a mount
+pub undrawing : {H : Type 0} {V : Type 0} {K : Type 0} (mount : H → Mount V K) (stream : H → Stream) (chance : H → ℕ) (shows : Showing) (trace : V → Option (List Call)) (faults : V → ℕ) (G : KeeperGhosts K) (now : Instant) (old new : H) (es : List Exchange)
+    → Ran (drawing_hosting mount stream chance shows trace faults G) now old es new → Ran (mount_hosting mount shows trace faults G) now old es new
+undrawing mount stream chance shows trace faults G now old new [] r = r
+undrawing mount stream chance shows trace faults G now old new (e ∷ es) r = (r.0, undrawing mount stream chance shows trace faults G now old r.0 es r.1, r.2.0)
+
+-- ---- a whole session
+
+module _ {H : Type 0} {V : Type 0} {K : Type 0} (mount : H → Mount V K) (stream : H → Stream) (chance : H → ℕ) (shows : Showing) (trace : V → Option (List Call)) (faults : V → ℕ) (G : KeeperGhosts K) (now : Instant) (password : List ℕ)
+    (vault last_vault : V) (keeper last_keeper : K) (old new : H) (es : List Exchange) (closing : Result Unit SyncError) (begun : Begun shows trace faults G password vault keeper (mount old)) (opens : OpensSealed (G.kept keeper) (trace vault) (view_of trace (mount old)))
+    (ran : Ran (drawing_hosting mount stream chance shows trace faults G) now old es new) (closed : Closing shows trace faults G (mount new) closing last_vault last_keeper) where
+  abbrev Start : View
+  Start = record { list = opens.0; calls = trace vault }
+
+  opened : SealedSoFar shows trace faults G now (stream old) Start (stream old) (mount old)
+  opened =
+      let nothing = nothing_waits [] opens.0 (kept_of G (mount old)) begun.attached.state begun.attached.kept in
+      record {
+        files = [];
+        vectors = later_same (stream old);
+        sealed = opens.2;
+        kept = nothing;
+        last = λ _. subst (λ x. KeepsSealed [] opens.0 x) (begun.ready.core.whole.kept begun.unchanged) nothing;
+      }
+
+  at_last : SealedSoFar shows trace faults G now (stream old) Start (stream new) (mount new)
+  at_last = sealed_lines shows trace faults G now (stream old) Start mount stream chance old new es opened ran
+
+  kept_closed : (stood : Bool) → (mount new).core.violated ≡ stood → KeepsSealed at_last.files opens.0 (G.kept last_keeper)
+  kept_closed true v = subst (λ k. KeepsSealed at_last.files opens.0 (G.kept k)) (sym (closed.closes.left (inl v)).2) at_last.kept
+  kept_closed false v = keeps_or trace at_last.files opens.0 (store_of (mount new)) at_last.sealed.waits (kept_of G (mount new)) (G.kept last_keeper) at_last.kept (closed.closes.kept v)
+
+  pub draws_session : DrawsVectors (stream old) (stream new) (outside_of trace faults G vault keeper) (outside_of trace faults G last_vault last_keeper)
+  draws_session =
+      let x = at_last in
+      let files = x.files ++ [] in
+      let sealed = sealed_then x.files [] Start (view_of trace (mount new)) (view_closed (trace last_vault)) x.sealed closed.closes.sealed in
+      let kept = keeps_more x.files [] opens.0 (G.kept last_keeper) (kept_closed (mount new).core.violated refl) in
+      record {
+        files = files;
+        vectors = vectors_then x.files [] (stream old) (stream new) (stream new) x.vectors (later_same (stream new));
+        puts = adds_since files (G.kept keeper) opens.0 opens.1 (trace vault) (trace last_vault) sealed.adds;
+        waits = λ id bytes w. sealed_since files (G.kept keeper) opens.0 opens.1 id bytes (waits_of files opens.0 (G.kept last_keeper) kept id bytes w);
+      }
+
+-- where none was opened
+pub draws_unopened : {V : Type 0} {K : Type 0} (shows : Showing) (trace : V → Option (List Call)) (faults : V → ℕ) (G : KeeperGhosts K) (password : List ℕ) (vault : V) (keeper : K) (h : Halted V K) (stream : Stream)
+    → Unopened shows trace faults G password vault keeper h → DrawsVectors stream stream (outside_of trace faults G vault keeper) (outside_of trace faults G h.vault h.keeper)
+draws_unopened shows trace faults G password vault keeper h stream u = record {
+  files = [];
+  vectors = later_same stream;
+  puts = adds_since [] (G.kept keeper) u.fails.sealed.0 u.fails.sealed.1 (trace vault) (trace h.vault) u.fails.sealed.2.adds;
+  waits = λ id bytes w. elim u.leaves.kept as (λ _. IsSealedSince [] (G.kept keeper) id bytes) [
+    | inl same ↦ inr (subst (λ x. WaitsIn x id bytes) same w)
+    | inr (state, list, loaded, keeps) ↦ sealed_since [] (G.kept keeper) [] (inl refl) id bytes (waits_of [] [] (G.kept h.keeper) (nothing_waits [] [] (G.kept h.keeper) state keeps) id bytes w)
+  ];
+}
