@@ -60,7 +60,7 @@ module _ {V : Type 0} {K : Type 0} (trace : V → Option (List Call)) (faults : 
       → Spares (form_of words) s (outside_of trace faults G vault keeper) (outside_of trace faults G ended.vault ended.keeper) old new
   asked_spares old new unhosted undrawn drawn = record { unhosted = λ e. unhosted (ap copies is ∙ e); undrawn = λ e. undrawn (ap draws is ∙ e); drawn = λ e. drawn (ap is_session is ∙ e) }
 
-  pub asked_history : HasHistory words s (outside_of trace faults G vault keeper) (outside_of trace faults G ended.vault ended.keeper) ended.status
+  pub asked_history : HasHistory words now s (outside_of trace faults G vault keeper) (outside_of trace faults G ended.vault ended.keeper) ended.status
   asked_history other e uncreated =
       doing_history trace faults names G words now s vault keeper ended other (other_form words other e uncreated)
       (subst (λ (f : Form). Did trace faults names G words now s vault keeper ended (Some f)) (the_form (form_of words) form other (sym is) e) did)

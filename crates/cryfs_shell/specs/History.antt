@@ -5,10 +5,13 @@ use Rattle.std.specs.declared.option.Option.TheVariants.{Some}
 use Rattle.answers.specs.Sessions.{Exchange}
 use Rattle.cryfs_shell.specs.Copies.{Imports, Exports, Puts, Gets}
 use Rattle.cryfs_shell.specs.Streams.{Streams}
+use Rattle.fs_model.specs.Instant.{Instant}
 use Rattle.histories.specs.Histories.{Run, session, quiet, examined, migrated, before_of, after_of, IsRun}
 use Rattle.run_status.specs.declared.status.Status.{Status}
 use Rattle.run_status.specs.declared.status.Status.TheVariants.{Violation}
+use Rattle.line_io.specs.Streams.{Stream}
 use Rattle.session_lines.specs.declared.end.End.{End}
+use Rattle.session_runs.specs.Openings.{HasPassword}
 use Rattle.session_runs.specs.Runs.{Outside}
 use Rattle.shell_sessions.specs.Sessions.{ComesShell, ComesGenerated, ComesCommand}
 use Rattle.shell_words.specs.declared.form.Form.{Form}
@@ -37,21 +40,22 @@ abbrev pub Meets : Option Form → Status → Bool → Type 0
 Meets (Some Migrate) status bad = (bad ≡ true → status ≡ Violation) × (status ≡ Violation → bad ≡ true)
 Meets asked status bad = ⊥
 
--- the exchanges of a run came so, its check was judged so, or it met so a violation or none
-abbrev pub HasCome : (Option (List ℕ) → End → Status → List Exchange → Type 0) → (Bool → Type 0) → (Bool → Type 0) → Run → Type 0
-HasCome Came Judged Met (session now password before after closing es) = (script : Option (List ℕ)) × (end : End) × (own : Status) × Came script end own es
-HasCome Came Judged Met (quiet password before after) = Unit {0}
-HasCome Came Judged Met (examined password before after bad) = Judged bad
-HasCome Came Judged Met (migrated password before after bad) = Met bad
+-- At this moment, and under the password of this input, the exchanges of a run came so; its check was judged so, or it met so a violation or none.
+abbrev pub HasCome : Instant → Stream → (Option (List ℕ) → End → Status → List Exchange → Type 0) → (Bool → Type 0) → (Bool → Type 0) → Run → Type 0
+HasCome now input Came Judged Met (session at password before after closing es) =
+    (at ≡ now) × (script : Option (List ℕ)) × HasPassword input password script × (end : End) × (own : Status) × Came script end own es
+HasCome now input Came Judged Met (quiet password before after) = Unit {0}
+HasCome now input Came Judged Met (examined password before after bad) = Judged bad
+HasCome now input Came Judged Met (migrated password before after bad) = Met bad
 
 -- the call led from the one moment outside to the other as this run, which is one of those that compose
-pub record IsRunOf (Came : Option (List ℕ) → End → Status → List Exchange → Type 0) (Judged Met : Bool → Type 0) (before after : Outside) (run : Run) : Type 0 where
+pub record IsRunOf (now : Instant) (input : Stream) (Came : Option (List ℕ) → End → Status → List Exchange → Type 0) (Judged Met : Bool → Type 0) (before after : Outside) (run : Run) : Type 0 where
   pub is_run : IsRun ShowsFiles run
-  pub came : HasCome Came Judged Met run
+  pub came : HasCome now input Came Judged Met run
   pub begins : before_of run ≡ before
   pub ends : after_of run ≡ after
 
 -- words of a form that isn't that of `create` made the call such a run
-abbrev pub HasHistory : List (List ℕ) → Streams → Outside → Outside → Status → Type 0
-HasHistory words s before after status = (form : Form) → form_of words ≡ Some form → is_create words ≡ false
-    → (run : Run) × IsRunOf (Comes words s (Some form)) (Judges (Some form) status) (Meets (Some form) status) before after run
+abbrev pub HasHistory : List (List ℕ) → Instant → Streams → Outside → Outside → Status → Type 0
+HasHistory words now s before after status = (form : Form) → form_of words ≡ Some form → is_create words ≡ false
+    → (run : Run) × IsRunOf now s.input (Comes words s (Some form)) (Judges (Some form) status) (Meets (Some form) status) before after run

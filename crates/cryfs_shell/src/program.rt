@@ -70,7 +70,7 @@ pub fn run<I: Source, O: Sink, V: Vault + Listing, K: Keeper, R: Rng, F: Folder>
         (streams_of (stream_of I.rest I.faults input.old input.new) (stream_of O.written O.faults output.old output.new)
         (host_of F.tree F.faults host.old host.new) (R.stream chance.old) (R.stream chance.new))
         (outside_of V.trace V.faults K.Keeper vault keeper) (outside_of V.trace V.faults K.Keeper result.vault result.keeper) host.old host.new }
-    ensures history { HasHistory (map string_bytes words.now)
+    ensures history { HasHistory (map string_bytes words.now) now
         (streams_of (stream_of I.rest I.faults input.old input.new) (stream_of O.written O.faults output.old output.new)
         (host_of F.tree F.faults host.old host.new) (R.stream chance.old) (R.stream chance.new))
         (outside_of V.trace V.faults K.Keeper vault keeper) (outside_of V.trace V.faults K.Keeper result.vault result.keeper) result.status }

@@ -1,7 +1,8 @@
-use Rattle.std.proofs.Common.{refl, inr}
+use Rattle.std.proofs.Common.{refl, inr, rules}
 use Rattle.line_io.specs.Reading.{coming}
 use Rattle.line_io.specs.Streams.{stream_of}
 use Rattle.session_runs.proofs.Drawing.{draws_nothing}
+use Rattle.session_runs.specs.Drawing.{DrawsVectors}
 use Rattle.session_runs.specs.Runs.{outside_of}
 use Rattle.shell_sessions.proofs.Ending.{has_password, halted, draws_served}
 use Rattle.copy_sessions.specs.Coming.{ComesExport}
@@ -30,7 +31,7 @@ returns-clause-unhosted g c =
     let s = told.ensures.exported in
     let Came = ComesExport (g.F.Folder.tree c.args.host.now) (g.F.Folder.tree told.new.host) (g.F.Folder.faults c.args.host.now) (g.F.Folder.faults told.new.host) c.args.source.now whole output in
     inr
-    (was_served g.V.Vault.trace g.V.Vault.faults g.K.Keeper c.args.now Came whole c.deref.result.now (coming b.beginning.reader.ahead whole.new) has c.args.vault c.args.keeper c.close.result g.R.Rng.stream (record { mount = c.in-Ok-open.mount; chance = c.args.chance }) told.new.asker.mounted s.0 told.result.0 told.result.1
+    (was_served g.V.Vault.trace g.V.Vault.faults g.K.Keeper c.args.now Came whole c.deref.result.now (coming b.beginning.reader.ahead whole.new) has c.args.vault c.args.keeper c.close.result g.R.Rng.stream (record { mount = c.in-Ok-open.mount; chance = record { ref_ptr = c.args.chance.ref_ptr; ghost_name = _; now = c.args.chance.now } }) told.new.asker.mounted s.0 told.result.0 told.result.1
     told.ensures.own c.in-Ok-open.ensures.begun told.ensures.ready s.1 (s.2 whole r.1.stands.quiet) c.close.ensures)
 
 pub returns-clause-session : goal.returns-clause-session
@@ -44,7 +45,7 @@ returns-clause-session g c =
     let s = told.ensures.exported in
     let Came = ComesExport (g.F.Folder.tree c.args.host.now) (g.F.Folder.tree told.new.host) (g.F.Folder.faults c.args.host.now) (g.F.Folder.faults told.new.host) c.args.source.now whole output in
     served g.V.Vault.trace g.V.Vault.faults g.K.Keeper c.args.now Came whole output c.args.vault c.args.keeper c.close.result
-    (was_served g.V.Vault.trace g.V.Vault.faults g.K.Keeper c.args.now Came whole c.deref.result.now (coming b.beginning.reader.ahead whole.new) has c.args.vault c.args.keeper c.close.result g.R.Rng.stream (record { mount = c.in-Ok-open.mount; chance = c.args.chance }) told.new.asker.mounted s.0 told.result.0 told.result.1
+    (was_served g.V.Vault.trace g.V.Vault.faults g.K.Keeper c.args.now Came whole c.deref.result.now (coming b.beginning.reader.ahead whole.new) has c.args.vault c.args.keeper c.close.result g.R.Rng.stream (record { mount = c.in-Ok-open.mount; chance = record { ref_ptr = c.args.chance.ref_ptr; ghost_name = _; now = c.args.chance.now } }) told.new.asker.mounted s.0 told.result.0 told.result.1
     told.ensures.own c.in-Ok-open.ensures.begun told.ensures.ready s.1 (s.2 whole r.1.stands.quiet) c.close.ensures)
 
 pub returns-clause-drawn : goal.returns-clause-drawn
@@ -53,8 +54,8 @@ returns-clause-drawn g c =
     let s = told.ensures.exported in
     let outside = outside_of g.V.Vault.trace g.V.Vault.faults g.K.Keeper in
     let drawn : DrawsVectors (g.R.Rng.stream c.args.chance.now) (g.R.Rng.stream told.new.asker.mounted.chance.now) (outside c.args.vault c.args.keeper) (outside c.close.result.vault c.close.result.keeper) =
-    draws_served g.R.Rng.stream g.V.Vault.trace g.V.Vault.faults g.K.Keeper c.args.now c.deref.result.now c.args.vault c.args.keeper c.close.result told.result.1 told.result.0
-    (record { mount = c.in-Ok-open.mount; chance = record { ref_ptr = c.args.chance.ref_ptr; ghost_name = _; now = c.args.chance.now } }) told.new.asker.mounted s.0 c.in-Ok-open.ensures.begun c.in-Ok-open.ensures.sealed s.1 c.close.ensures in
+        draws_served g.R.Rng.stream g.V.Vault.trace g.V.Vault.faults g.K.Keeper c.args.now c.deref.result.now c.args.vault c.args.keeper c.close.result told.result.1 told.result.0
+        (record { mount = c.in-Ok-open.mount; chance = record { ref_ptr = c.args.chance.ref_ptr; ghost_name = _; now = c.args.chance.now } }) told.new.asker.mounted s.0 c.in-Ok-open.ensures.begun c.in-Ok-open.ensures.sealed s.1 c.close.ensures in
     search (rules, drawn)
 
 pub returns-in-Err-open-clause-drawn : goal.returns-in-Err-open-clause-drawn
