@@ -5,3 +5,4 @@ mod Changing
 mod Creating
 pub mod Ending
 mod Anew
+mod Drawing

@@ -2,8 +2,11 @@
 ghost use Rattle.std.specs.Prelude.{◌≡◌, false, Result, IfOk, IfErr};
 ghost use Rattle.held_blocks.specs.Standing.{records};
 ghost use Rattle.mount.specs.Mounts.{IsReady};
+ghost use Rattle.mount.specs.Sealing.{OpensSealed, view_of};
 ghost use Rattle.mount_tower.specs.declared.error.OpenError.{OpenError};
 ghost use Rattle.mount_core.specs.Standing.{IsKeptMarked};
+ghost use Rattle.rand_core.specs.Stream.{Stream};
+ghost use Rattle.session_runs.specs.Drawing.{DrawsVectors};
 ghost use Rattle.session_runs.specs.Runs.{outside_of};
 ghost use Rattle.run_status.specs.Statuses.{first_of};
 ghost use Rattle.session_runs.specs.Turns.{Begun, Closing};
@@ -28,9 +31,12 @@ pub fn open<V: Vault, K: Keeper>(
     password: &[u8],
 ) -> Result<Mount<V, K>, Ended<V, K>>
     ensures begun { IfOk result (λ mount. Begun ShowsFiles V.trace V.faults K.Keeper password.now vault keeper mount) }
+    ensures sealed { IfOk result (λ mount. OpensSealed (K.kept keeper) (V.trace vault) (view_of V.trace mount)) }
     ensures unchanged { IfOk result (λ mount. mount.core.saver.changed ≡ false) }
     ensures unmarked { IfOk result (λ mount. ¬ IsKeptMarked records (K.kept keeper)) }
     ensures unopened { IfErr result (λ ended. (error : OpenError) × IsUnopened V.trace V.faults K.Keeper password.now vault keeper ended error) }
+    ensures undrawn { IfErr result (λ ended. (stream : Stream)
+        → DrawsVectors stream stream (outside_of V.trace V.faults K.Keeper vault keeper) (outside_of V.trace V.faults K.Keeper ended.vault ended.keeper)) }
     ensures causes { IfErr result (λ ended. HasCauses (outside_of V.trace V.faults K.Keeper vault keeper) (outside_of V.trace V.faults K.Keeper ended.vault ended.keeper) ended.status) }
 {
     match attach(alloc, vault, keeper, password) {

@@ -15,7 +15,7 @@ use Rattle.shell_words.specs.Forms.{form_of}
 use Rattle.cryfs_shell.specs.Clauses.{IsRefusedRun, NoFalseAlarm, KeepsTree, FaultsNamed, TellsFaults, StatusSays, Spares}
 use Rattle.cryfs_shell.specs.Doing.{Did, IsCaused}
 use Rattle.cryfs_shell.specs.History.{HasHistory}
-use Rattle.cryfs_shell.specs.Kinds.{is_session, opens, draws, copies}
+use Rattle.cryfs_shell.specs.Kinds.{is_session, opens, draws, copies, seals}
 use Rattle.cryfs_shell.specs.Streams.{Streams}
 use Rattle.cryfs_shell.proofs.Doing.{the_form, doing_faults, doing_refusal, doing_alarm, doing_keeps, doing_emptied, doing_uncalled, doing_usage, doing_host}
 use Rattle.cryfs_shell.proofs.Histories.{other_form, doing_history}
@@ -56,9 +56,9 @@ module _ {V : Type 0} {K : Type 0} (trace : V → Option (List Call)) (faults : 
   }
 
   pub asked_spares : {F : Type 0} (old new : F) → (copies (Some form) ≡ false → new ≡ old) → (draws (Some form) ≡ false → s.left ≡ s.chance)
-      → (is_session (Some form) ≡ true → DrawsVectors s.chance s.left (outside_of trace faults G vault keeper) (outside_of trace faults G ended.vault ended.keeper))
+      → (seals (Some form) ≡ true → DrawsVectors s.chance s.left (outside_of trace faults G vault keeper) (outside_of trace faults G ended.vault ended.keeper))
       → Spares (form_of words) s (outside_of trace faults G vault keeper) (outside_of trace faults G ended.vault ended.keeper) old new
-  asked_spares old new unhosted undrawn drawn = record { unhosted = λ e. unhosted (ap copies is ∙ e); undrawn = λ e. undrawn (ap draws is ∙ e); drawn = λ e. drawn (ap is_session is ∙ e) }
+  asked_spares old new unhosted undrawn drawn = record { unhosted = λ e. unhosted (ap copies is ∙ e); undrawn = λ e. undrawn (ap draws is ∙ e); drawn = λ e. drawn (ap seals is ∙ e) }
 
   pub asked_history : HasHistory words now s (outside_of trace faults G vault keeper) (outside_of trace faults G ended.vault ended.keeper) ended.status
   asked_history other e uncreated =

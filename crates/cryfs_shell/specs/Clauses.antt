@@ -23,7 +23,7 @@ use Rattle.session_runs.specs.Runs.{Outside, outside_of, OutsideStandsFor, Opens
 use Rattle.shell_words.specs.declared.form.Form.{Form}
 use Rattle.shell_words.specs.declared.form.Form.TheVariants.{Passwd, Migrate, Check}
 use Rattle.cryfs_shell.specs.Hosts.{HostSeen}
-use Rattle.cryfs_shell.specs.Kinds.{is_session, copies, draws}
+use Rattle.cryfs_shell.specs.Kinds.{is_session, copies, draws, seals}
 use Rattle.cryfs_shell.specs.Streams.{Streams}
 use Rattle.tree_commands.specs.Showing.{ShowsFiles}
 
@@ -127,8 +127,8 @@ pub record StatusSays {V : Type 0} {K : Type 0} (trace : V → Option (List Call
   pub uncalled : ended.status ≡ LongPassword → AreUncalled vault keeper ended
   pub done : is_session asked ≡ true → ended.status ≡ Done → IsEmptied (outside_of trace faults G ended.vault ended.keeper)
 
--- what a run leaves alone that doesn't ask for it: the host folder but in copies, and the random bytes; and which of these the files take that a session seals
+-- what a run leaves alone that doesn't ask for it: the host folder but in copies, and the random bytes; and which of these the files take that a session or migrate seals
 pub record Spares {F : Type 0} (asked : Option Form) (s : Streams) (before after : Outside) (old new : F) : Type 0 where
   pub unhosted : copies asked ≡ false → new ≡ old
   pub undrawn : draws asked ≡ false → s.left ≡ s.chance
-  pub drawn : is_session asked ≡ true → DrawsVectors s.chance s.left before after
+  pub drawn : seals asked ≡ true → DrawsVectors s.chance s.left before after

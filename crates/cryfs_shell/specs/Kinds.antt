@@ -1,5 +1,5 @@
 -- What the words make a run do.
-use Rattle.std.specs.Prelude.{◌≡◌, ◌⊎◌, ℕ, Bool, true, false, List}
+use Rattle.std.specs.Prelude.{◌≡◌, ◌⊎◌, ◌||◌, ℕ, Bool, true, false, List}
 use Rattle.std.specs.declared.option.Option.{Option}
 use Rattle.std.specs.declared.option.Option.TheVariants.{None, Some}
 use Rattle.run_status.specs.declared.status.Status.{Status}
@@ -48,6 +48,10 @@ opens (Some Get) = true
 opens (Some Check) = true
 opens (Some Survey) = true
 opens _ = false
+
+-- blocks' files may be sealed, beside the one that `create` seals
+abbrev pub seals : Option Form → Bool
+seals asked = is_session asked || is_migration asked
 
 -- random bytes may be taken
 abbrev pub draws : Option Form → Bool

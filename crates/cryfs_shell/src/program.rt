@@ -14,7 +14,7 @@ ghost use Rattle.cryfs_shell.specs.Copies.{HostSession, Imports, Exports, Puts, 
 ghost use Rattle.cryfs_shell.specs.Doing.{Did, IsCaused};
 ghost use Rattle.cryfs_shell.specs.History.{HasHistory};
 ghost use Rattle.cryfs_shell.specs.Hosts.{host_of};
-ghost use Rattle.cryfs_shell.specs.Kinds.{opens, draws, copies, is_session};
+ghost use Rattle.cryfs_shell.specs.Kinds.{opens, draws, copies, seals};
 ghost use Rattle.cryfs_shell.specs.Streams.{streams_of};
 
 use block_id::Memory;
@@ -125,7 +125,7 @@ fn run_form<I: Source, O: Sink, V: Vault + Listing, K: Keeper, R: Rng, F: Folder
         at.vault at.keeper result (Some asked.entry.now.form) }
     ensures caused { IsCaused (outside_of V.trace V.faults K.Keeper at.vault at.keeper)
         (outside_of V.trace V.faults K.Keeper result.vault result.keeper) result.status asked.entry.now.form }
-    ensures drawn { is_session (Some asked.entry.now.form) ≡ true → DrawsVectors (R.stream chance.old) (R.stream chance.new)
+    ensures drawn { seals (Some asked.entry.now.form) ≡ true → DrawsVectors (R.stream chance.old) (R.stream chance.new)
         (outside_of V.trace V.faults K.Keeper at.vault at.keeper) (outside_of V.trace V.faults K.Keeper result.vault result.keeper) }
     ensures undrawn { draws (Some asked.entry.now.form) ≡ false → R.stream chance.new ≡ R.stream chance.old }
     ensures unhosted { copies (Some asked.entry.now.form) ≡ false → host.new ≡ host.old }

@@ -1,2 +1,3 @@
 pub mod Condemning
 pub mod Migrating
+pub mod Sealing

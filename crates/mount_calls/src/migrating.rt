@@ -3,6 +3,8 @@ ghost use Rattle.std.specs.Prelude.{◌≡◌, false};
 ghost use Rattle.tree_commands.specs.Showing.{ShowsFiles};
 ghost use Rattle.mount.specs.Mounts.{IsReady};
 ghost use Rattle.mount_calls.specs.Migrating.{MigratesMount};
+ghost use Rattle.mount_calls.specs.Sealing.{SealsAnew};
+ghost use Rattle.mount_migrating.specs.Migrating.{told};
 
 use block_id::Memory;
 use mount::Mount;
@@ -23,6 +25,7 @@ pub fn migrate<V: Vault, K: Keeper, R: Rng>(
     requires fresh { mount.old.core.violated ≡ false }
     ensures ready { IsReady V.trace V.faults K.Keeper mount.new }
     ensures migrates { MigratesMount ShowsFiles V.trace V.faults K.Keeper mount.old result mount.new }
+    ensures draws { SealsAnew V.trace K.Keeper (R.stream chance.old) (R.stream chance.new) mount.old (told result) mount.new }
 {
     let state = mount.core.blobs.tx.store.store().state();
     if state.least >= 2 {

@@ -7,4 +7,5 @@ pub mod Least
 pub mod Chains
 pub mod Marking
 pub mod Noticing
+pub mod Drawing
 pub mod Crowds

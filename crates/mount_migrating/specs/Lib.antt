@@ -1,2 +1,3 @@
 pub mod Migrating
 pub mod Noticing
+pub mod Drawing

@@ -4,6 +4,7 @@ ghost use Rattle.data_tree.specs.Trees.{NoDoubles};
 ghost use Rattle.session_saver.specs.Saving.{world};
 ghost use Rattle.tree_commands.specs.Showing.{ShowsFiles};
 ghost use Rattle.mount_core.specs.Standing.{Ready};
+ghost use Rattle.mount_migrating.specs.Drawing.{DrawsAnew, DrawsMarked};
 ghost use Rattle.mount_migrating.specs.Migrating.{told, AreLive, IsMigratedRecord, Migrates, Moves};
 ghost use Rattle.mount_migrating.specs.Noticing.{PassesNone};
 
@@ -33,6 +34,8 @@ fn migrate_blocks<S: Durable, K: Keeper, R: Rng>(
     ensures moves { Moves ShowsFiles (world S.meanings S.holdings S.durables S.records K.Keeper)
         core.old (map (λ id. id.0) ids.now) result core.new }
     ensures noticed { PassesNone S.meanings S.holdings S.durables S.applied core.old.blobs.tx.store (told result) core.new.blobs.tx.store }
+    ensures draws { DrawsAnew (world S.meanings S.holdings S.durables S.records K.Keeper) S.applied S.drawn
+        core.old core.new (R.stream chance.old) (R.stream chance.new) }
 {
     match renew_all(alloc, core, ids, chance) {
         Ok(()) => {}
@@ -62,6 +65,8 @@ pub fn migrate_ids<S: Durable, K: Keeper, R: Rng>(
     ensures migrates { Migrates ShowsFiles (world S.meanings S.holdings S.durables S.records K.Keeper)
         core.old (map (λ id. id.0) ids.now) result core.new }
     ensures noticed { PassesNone S.meanings S.holdings S.durables S.applied core.old.blobs.tx.store (told result) core.new.blobs.tx.store }
+    ensures draws { DrawsMarked (world S.meanings S.holdings S.durables S.records K.Keeper) S.applied S.drawn
+        core.old (told result) core.new (R.stream chance.old) (R.stream chance.new) }
 {
     match migrate_blocks(alloc, core, ids, chance) {
         Ok(()) => Ok(()),

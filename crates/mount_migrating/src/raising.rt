@@ -3,6 +3,7 @@ ghost use Rattle.std.specs.Prelude.{◌≡◌, false, OnOk, OnErr};
 ghost use Rattle.session_saver.specs.Saving.{world};
 ghost use Rattle.store_api.specs.Durables.{MayBeLeast};
 ghost use Rattle.tree_commands.specs.Showing.{ShowsFiles};
+ghost use Rattle.mount_core.specs.Keeping.{SyncKeeps};
 ghost use Rattle.mount_core.specs.Standing.{Ready};
 ghost use Rattle.mount_migrating.specs.Migrating.{IsMigratedRecord, Rests};
 ghost use Rattle.mount_migrating.specs.Noticing.{OnlySet};
@@ -25,6 +26,8 @@ pub(crate) fn raise_least<S: Durable, K: Keeper>(
     ensures ready { Ready (world S.meanings S.holdings S.durables S.records K.Keeper) core.new }
     ensures rests { Rests ShowsFiles (world S.meanings S.holdings S.durables S.records K.Keeper) core.old result core.new }
     ensures set { OnlySet S.holdings S.durables core.old.blobs.tx.store core.new.blobs.tx.store }
+    ensures keeps { (short : S) × OnlySet S.holdings S.durables core.old.blobs.tx.store short
+        × SyncKeeps S.durables K.Keeper short core.old.saver core.new.saver }
     ensures least { OnErr result (S.durables.least core.new.blobs.tx.store ≡ 1) }
     ensures done { OnOk result (IsMigratedRecord (world S.meanings S.holdings S.durables S.records K.Keeper) core.new) }
 {

@@ -1,11 +1,14 @@
 // Blocks that are written anew.
-ghost use Rattle.std.specs.Prelude.{◌≡◌, ◌<◌, true, false, is_some, [], ◌∷◌, map, OnOk};
+ghost use Rattle.std.specs.Prelude.{◌≡◌, ◌⊎◌, ◌<◌, true, false, is_some, [], ◌∷◌, map, OnOk};
 ghost use Rattle.fs_model.specs.Tree.{Tree};
 ghost use Rattle.data_tree.specs.Trees.{NoDoubles};
-ghost use Rattle.session_saver.specs.Saving.{world};
+ghost use Rattle.session_saver.specs.Saving.{world, Wrote};
 ghost use Rattle.store_api.specs.Lists.{waiting_bytes};
 ghost use Rattle.tree_commands.specs.Showing.{ShowsFiles};
+ghost use Rattle.mount_core.specs.Drawing.{DrawsOnce};
+ghost use Rattle.mount_core.specs.Keeping.{SyncKeeps};
 ghost use Rattle.mount_core.specs.Standing.{CoreStands, Ready};
+ghost use Rattle.mount_migrating.specs.Drawing.{DrawsAlong, StepDraws};
 ghost use Rattle.mount_migrating.specs.Migrating.{told, AreLive, Renews, Rests};
 ghost use Rattle.mount_migrating.specs.Noticing.{NoticedAlong};
 
@@ -31,6 +34,8 @@ pub(crate) fn keep_present<S: Durable, K: Keeper>(
     ensures ready { Ready (world S.meanings S.holdings S.durables S.records K.Keeper) core.new }
     ensures rests { Rests ShowsFiles (world S.meanings S.holdings S.durables S.records K.Keeper) core.old result core.new }
     ensures noticed { NoticedAlong S.meanings S.holdings S.durables S.applied core.old.blobs.tx.store (told result) core.new.blobs.tx.store }
+    ensures wrote { (core.new.blobs.tx.store ≡ core.old.blobs.tx.store) ⊎ Wrote S.durables core.old.blobs.tx.store core.new.blobs.tx.store }
+    ensures keeps { SyncKeeps S.durables K.Keeper core.old.blobs.tx.store core.old.saver core.new.saver }
     ensures least { S.durables.least core.new.blobs.tx.store ≡ S.durables.least core.old.blobs.tx.store }
     ensures whole { OnOk result (core.new.saver.changed ≡ false) }
     ensures kept { OnOk result ((kept now : Tree) → CoreStands ShowsFiles (world S.meanings S.holdings S.durables S.records K.Keeper) core.old kept now
@@ -52,6 +57,8 @@ fn make_room<S: Durable, K: Keeper>(
     ensures ready { Ready (world S.meanings S.holdings S.durables S.records K.Keeper) core.new }
     ensures rests { Rests ShowsFiles (world S.meanings S.holdings S.durables S.records K.Keeper) core.old result core.new }
     ensures noticed { NoticedAlong S.meanings S.holdings S.durables S.applied core.old.blobs.tx.store (told result) core.new.blobs.tx.store }
+    ensures wrote { (core.new.blobs.tx.store ≡ core.old.blobs.tx.store) ⊎ Wrote S.durables core.old.blobs.tx.store core.new.blobs.tx.store }
+    ensures keeps { SyncKeeps S.durables K.Keeper core.old.blobs.tx.store core.old.saver core.new.saver }
     ensures least { S.durables.least core.new.blobs.tx.store ≡ S.durables.least core.old.blobs.tx.store }
     ensures few { OnOk result (waiting_bytes (S.durables.list core.new.blobs.tx.store) < 8388608) }
 {
@@ -74,6 +81,10 @@ fn renew<S: Durable, K: Keeper, R: Rng>(
     ensures renews { Renews ShowsFiles (world S.meanings S.holdings S.durables S.records K.Keeper)
         core.old (id.now.0 ∷ []) result core.new }
     ensures noticed { NoticedAlong S.meanings S.holdings S.durables S.applied core.old.blobs.tx.store (told result) core.new.blobs.tx.store }
+    ensures draws { DrawsOnce S.meanings S.applied S.drawn core.old.blobs.tx.store core.new.blobs.tx.store
+        (R.stream chance.old) (R.stream chance.new) }
+    ensures keeper { core.new.saver.keeper ≡ core.old.saver.keeper }
+    ensures last { core.new.saver.last ≡ core.old.saver.last }
 {
     let payload = match core.blobs.tx.store.load(alloc, id) {
         Ok(Some(payload)) => payload,
@@ -108,6 +119,8 @@ fn renew_next<S: Durable, K: Keeper, R: Rng>(
     ensures renews { Renews ShowsFiles (world S.meanings S.holdings S.durables S.records K.Keeper)
         core.old (id.now.0 ∷ []) result core.new }
     ensures noticed { NoticedAlong S.meanings S.holdings S.durables S.applied core.old.blobs.tx.store (told result) core.new.blobs.tx.store }
+    ensures draws { StepDraws (world S.meanings S.holdings S.durables S.records K.Keeper) S.applied S.drawn
+        core.old core.new (R.stream chance.old) (R.stream chance.new) }
 {
     match make_room(alloc, core) {
         Ok(()) => renew(alloc, core, id, chance),
@@ -130,6 +143,8 @@ pub(crate) fn renew_all<S: Durable, K: Keeper, R: Rng>(
     ensures renews { Renews ShowsFiles (world S.meanings S.holdings S.durables S.records K.Keeper)
         core.old (map (λ id. id.0) ids.now) result core.new }
     ensures noticed { NoticedAlong S.meanings S.holdings S.durables S.applied core.old.blobs.tx.store (told result) core.new.blobs.tx.store }
+    ensures draws { DrawsAlong (world S.meanings S.holdings S.durables S.records K.Keeper) S.applied S.drawn
+        core.old core.new (R.stream chance.old) (R.stream chance.new) }
 {
     for id in ids {
         match renew_next(alloc, core, id, chance) {

@@ -1,5 +1,5 @@
 -- What a session draws for the files that it seals, from its lines.
-use Rattle.std.proofs.Common.{◌≡◌, ◌⊎◌, ◌++◌, ℕ, Bool, true, false, List, [], ◌∷◌, refl, sym, ap, subst, ◌∙◌, inl, inr}
+use Rattle.std.proofs.Common.{◌≡◌, ◌++◌, ℕ, Bool, true, false, List, [], ◌∷◌, refl, sym, ap, subst, ◌∙◌, inl, inr}
 use Rattle.std.specs.Prelude.{Result}
 use Rattle.std.proofs.lemmas.Bool.{or_parts}
 use Rattle.std.specs.List.{AllByRecursion}
@@ -72,13 +72,13 @@ module _ (files : List (List ℕ)) (kept : Option (List ℕ)) (list : FileChange
 -- ---- what waits in the records of a session
 
 -- a record is kept, and what waits in it was sealed, or waited before
-record KeepsSealed (files : List (List ℕ)) (list : FileChanges) (kept : Option (List ℕ)) : Type 0 where
-  state : PlainState
-  waiting : FileChanges
-  keeps : KeepsRecord kept state waiting
-  sealed : (id bytes : List ℕ) → change_at (block id) waiting ≡ Some (Some bytes) → IsSealedFor files list id bytes
+pub record KeepsSealed (files : List (List ℕ)) (list : FileChanges) (kept : Option (List ℕ)) : Type 0 where
+  pub state : PlainState
+  pub waiting : FileChanges
+  pub keeps : KeepsRecord kept state waiting
+  pub sealed : (id bytes : List ℕ) → change_at (block id) waiting ≡ Some (Some bytes) → IsSealedFor files list id bytes
 
-keeps_more : (first later : List (List ℕ)) (list : FileChanges) (kept : Option (List ℕ)) → KeepsSealed first list kept → KeepsSealed (first ++ later) list kept
+pub keeps_more : (first later : List (List ℕ)) (list : FileChanges) (kept : Option (List ℕ)) → KeepsSealed first list kept → KeepsSealed (first ++ later) list kept
 keeps_more first later list kept k = record { state = k.state; waiting = k.waiting; keeps = k.keeps; sealed = λ id bytes is. sealed_first first later list id bytes (k.sealed id bytes is) }
 
 nothing_waits : (files : List (List ℕ)) (list : FileChanges) (kept : Option (List ℕ)) (state : PlainState) → KeepsRecord kept state [] → KeepsSealed files list kept
@@ -91,7 +91,7 @@ waits_of files list kept k id bytes w =
     k.sealed id bytes (subst (λ (l : FileChanges). change_at (block id) l ≡ Some (Some bytes)) one.1 w.waits)
 
 -- the same record with its mark
-keeps_marked : (files : List (List ℕ)) (list : FileChanges) (last : List ℕ) → KeepsSealed files list (Some last) → KeepsSealed files list (Some (with_mark last))
+pub keeps_marked : (files : List (List ℕ)) (list : FileChanges) (last : List ℕ) → KeepsSealed files list (Some last) → KeepsSealed files list (Some (with_mark last))
 keeps_marked files list last k =
     let same : last ≡ k.keeps.bytes = let a = k.keeps.kept in cc in
     record {
@@ -119,16 +119,19 @@ module _ {V : Type 0} (trace : V → Option (List Call)) (files : List (List ℕ
 
 -- ---- lines
 
-module _ {V : Type 0} {K : Type 0} (shows : Showing) (trace : V → Option (List Call)) (faults : V → ℕ) (G : KeeperGhosts K) (moment : Instant) (first : Stream) (start : View) where
-  -- up to here: what waits, in the mount and in its records, was sealed since, or waited at first
-  record SealedSoFar (now : Stream) (mount : Mount V K) : Type 0 where
-    files : List (List ℕ)
-    vectors : AreVectorsOf files first now
-    sealed : AreSealed files start (view_of trace mount)
-    kept : KeepsSealed files start.list (kept_of G mount)
-    last : mount.core.violated ≡ false → KeepsSealed files start.list (Some mount.core.saver.last.items)
+-- up to here: what waits, in the mount and in its records, was sealed since, or waited at first
+pub record SealedSoFar {V : Type 0} {K : Type 0} (trace : V → Option (List Call)) (G : KeeperGhosts K) (first : Stream) (start : View) (now : Stream) (mount : Mount V K) : Type 0 where
+  pub files : List (List ℕ)
+  pub vectors : AreVectorsOf files first now
+  pub sealed : AreSealed files start (view_of trace mount)
+  pub kept : KeepsSealed files start.list (kept_of G mount)
+  pub last : mount.core.violated ≡ false → KeepsSealed files start.list (Some mount.core.saver.last.items)
 
-  module _ (now after : Stream) (old new : Mount V K) (asked : Asked) (answer : Answer) (x : SealedSoFar now old) (line : MountAnswers shows trace faults G moment old asked answer new)
+module _ {V : Type 0} {K : Type 0} (shows : Showing) (trace : V → Option (List Call)) (faults : V → ℕ) (G : KeeperGhosts K) (moment : Instant) (first : Stream) (start : View) where
+  abbrev SoFar : Stream → Mount V K → Type 0
+  SoFar now mount = SealedSoFar trace G first start now mount
+
+  module _ (now after : Stream) (old new : Mount V K) (asked : Asked) (answer : Answer) (x : SoFar now old) (line : MountAnswers shows trace faults G moment old asked answer new)
       (fresh : SealsFresh now after (view_of trace old) (view_of trace new)) where
     abbrev Keeps : Option (List ℕ) → Type 0
     Keeps kept = KeepsSealed x.files start.list kept
@@ -151,7 +154,7 @@ module _ {V : Type 0} {K : Type 0} (shows : Showing) (trace : V → Option (List
     last_on false false s e v = or_record (Some old.core.saver.last.items) (Some new.core.saver.last.items) (x.last s) (line.line.keeps.calm e).last
     last_on false true s e v = absurd (true_is_false (sym e ∙ (or_parts (is_violation answer) old.core.violated (sym line.line.form.violated ∙ v)).0))
 
-    sealed_line : SealedSoFar after new
+    sealed_line : SoFar after new
     sealed_line = record {
       files = x.files ++ fresh.files;
       vectors = vectors_then x.files fresh.files first now after x.vectors fresh.vectors;
@@ -161,8 +164,8 @@ module _ {V : Type 0} {K : Type 0} (shows : Showing) (trace : V → Option (List
     }
 
   module _ {H : Type 0} (mount : H → Mount V K) (stream : H → Stream) (chance : H → ℕ) where
-    sealed_lines : (old new : H) (es : List Exchange) → SealedSoFar (stream old) (mount old) → Ran (drawing_hosting mount stream chance shows trace faults G) moment old es new → SealedSoFar (stream new) (mount new)
-    sealed_lines old new [] x r = subst (λ (h : H). SealedSoFar (stream h) (mount h)) (sym r) x
+    sealed_lines : (old new : H) (es : List Exchange) → SoFar (stream old) (mount old) → Ran (drawing_hosting mount stream chance shows trace faults G) moment old es new → SoFar (stream new) (mount new)
+    sealed_lines old new [] x r = subst (λ (h : H). SoFar (stream h) (mount h)) (sym r) x
     sealed_lines old new (e ∷ es) x r = sealed_line (stream r.0) (stream new) (mount r.0) (mount new) e.asked e.answer (sealed_lines old r.0 es x r.1) r.2.0 r.2.1
 
 -- what draws answers as a mount
@@ -173,42 +176,47 @@ undrawing mount stream chance shows trace faults G now old new (e ∷ es) r = (r
 
 -- ---- a whole session
 
-module _ {H : Type 0} {V : Type 0} {K : Type 0} (mount : H → Mount V K) (stream : H → Stream) (chance : H → ℕ) (shows : Showing) (trace : V → Option (List Call)) (faults : V → ℕ) (G : KeeperGhosts K) (now : Instant) (password : List ℕ)
-    (vault last_vault : V) (keeper last_keeper : K) (old new : H) (es : List Exchange) (closing : Result Unit SyncError) (begun : Begun shows trace faults G password vault keeper (mount old)) (opens : OpensSealed (G.kept keeper) (trace vault) (view_of trace (mount old)))
-    (ran : Ran (drawing_hosting mount stream chance shows trace faults G) now old es new) (closed : Closing shows trace faults G (mount new) closing last_vault last_keeper) where
+module _ {V : Type 0} {K : Type 0} (shows : Showing) (trace : V → Option (List Call)) (faults : V → ℕ) (G : KeeperGhosts K) (password : List ℕ) (vault : V) (keeper : K) (stream : Stream) (old : Mount V K)
+    (begun : Begun shows trace faults G password vault keeper old) (opens : OpensSealed (G.kept keeper) (trace vault) (view_of trace old)) where
   abbrev Start : View
   Start = record { list = opens.0; calls = trace vault }
 
-  opened : SealedSoFar shows trace faults G now (stream old) Start (stream old) (mount old)
-  opened =
-      let nothing = nothing_waits [] opens.0 (kept_of G (mount old)) begun.attached.state begun.attached.kept in
+  pub sealed_opened : SealedSoFar trace G stream Start stream old
+  sealed_opened =
+      let nothing = nothing_waits [] opens.0 (kept_of G old) begun.attached.state begun.attached.kept in
       record {
         files = [];
-        vectors = later_same (stream old);
+        vectors = later_same stream;
         sealed = opens.2;
         kept = nothing;
         last = λ _. subst (λ x. KeepsSealed [] opens.0 x) (begun.ready.core.whole.kept begun.unchanged) nothing;
       }
 
-  at_last : SealedSoFar shows trace faults G now (stream old) Start (stream new) (mount new)
-  at_last = sealed_lines shows trace faults G now (stream old) Start mount stream chance old new es opened ran
+  module _ (last_vault : V) (last_keeper : K) (left : Stream) (new : Mount V K) (closing : Result Unit SyncError) (closed : Closing shows trace faults G new closing last_vault last_keeper) (x : SealedSoFar trace G stream Start left new) where
+    kept_closed : (stood : Bool) → new.core.violated ≡ stood → KeepsSealed x.files opens.0 (G.kept last_keeper)
+    kept_closed true v = subst (λ k. KeepsSealed x.files opens.0 (G.kept k)) (sym (closed.closes.left (inl v)).2) x.kept
+    kept_closed false v = keeps_or trace x.files opens.0 (store_of new) x.sealed.waits (kept_of G new) (G.kept last_keeper) x.kept (closed.closes.kept v)
 
-  kept_closed : (stood : Bool) → (mount new).core.violated ≡ stood → KeepsSealed at_last.files opens.0 (G.kept last_keeper)
-  kept_closed true v = subst (λ k. KeepsSealed at_last.files opens.0 (G.kept k)) (sym (closed.closes.left (inl v)).2) at_last.kept
-  kept_closed false v = keeps_or trace at_last.files opens.0 (store_of (mount new)) at_last.sealed.waits (kept_of G (mount new)) (G.kept last_keeper) at_last.kept (closed.closes.kept v)
+    pub draws_closed : DrawsVectors stream left (outside_of trace faults G vault keeper) (outside_of trace faults G last_vault last_keeper)
+    draws_closed =
+        let files = x.files ++ [] in
+        let sealed = sealed_then x.files [] Start (view_of trace new) (view_closed (trace last_vault)) x.sealed closed.closes.sealed in
+        let kept = keeps_more x.files [] opens.0 (G.kept last_keeper) (kept_closed new.core.violated refl) in
+        record {
+          files = files;
+          vectors = vectors_then x.files [] stream left left x.vectors (later_same left);
+          puts = adds_since files (G.kept keeper) opens.0 opens.1 (trace vault) (trace last_vault) sealed.adds;
+          waits = λ id bytes w. sealed_since files (G.kept keeper) opens.0 opens.1 id bytes (waits_of files opens.0 (G.kept last_keeper) kept id bytes w);
+        }
 
-  pub draws_session : DrawsVectors (stream old) (stream new) (outside_of trace faults G vault keeper) (outside_of trace faults G last_vault last_keeper)
-  draws_session =
-      let x = at_last in
-      let files = x.files ++ [] in
-      let sealed = sealed_then x.files [] Start (view_of trace (mount new)) (view_closed (trace last_vault)) x.sealed closed.closes.sealed in
-      let kept = keeps_more x.files [] opens.0 (G.kept last_keeper) (kept_closed (mount new).core.violated refl) in
-      record {
-        files = files;
-        vectors = vectors_then x.files [] (stream old) (stream new) (stream new) x.vectors (later_same (stream new));
-        puts = adds_since files (G.kept keeper) opens.0 opens.1 (trace vault) (trace last_vault) sealed.adds;
-        waits = λ id bytes w. sealed_since files (G.kept keeper) opens.0 opens.1 id bytes (waits_of files opens.0 (G.kept last_keeper) kept id bytes w);
-      }
+pub draws_session : {H : Type 0} {V : Type 0} {K : Type 0} (mount : H → Mount V K) (stream : H → Stream) (chance : H → ℕ) (shows : Showing) (trace : V → Option (List Call)) (faults : V → ℕ) (G : KeeperGhosts K) (now : Instant) (password : List ℕ)
+    (vault last_vault : V) (keeper last_keeper : K) (old new : H) (es : List Exchange) (closing : Result Unit SyncError) → Begun shows trace faults G password vault keeper (mount old) → OpensSealed (G.kept keeper) (trace vault) (view_of trace (mount old))
+    → Ran (drawing_hosting mount stream chance shows trace faults G) now old es new → Closing shows trace faults G (mount new) closing last_vault last_keeper
+    → DrawsVectors (stream old) (stream new) (outside_of trace faults G vault keeper) (outside_of trace faults G last_vault last_keeper)
+draws_session mount stream chance shows trace faults G now password vault last_vault keeper last_keeper old new es closing begun opens ran closed =
+    draws_closed shows trace faults G password vault keeper (stream old) (mount old) begun opens last_vault last_keeper (stream new) (mount new) closing closed
+    (sealed_lines shows trace faults G now (stream old) (record { list = opens.0; calls = trace vault }) mount stream chance old new es
+    (sealed_opened shows trace faults G password vault keeper (stream old) (mount old) begun opens) ran)
 
 -- where none was opened
 pub draws_unopened : {V : Type 0} {K : Type 0} (shows : Showing) (trace : V → Option (List Call)) (faults : V → ℕ) (G : KeeperGhosts K) (password : List ℕ) (vault : V) (keeper : K) (h : Halted V K) (stream : Stream)

@@ -1,6 +1,8 @@
 use Rattle.std.proofs.Common.{refl, inl, inr, sym, subst}
 use Rattle.line_io.specs.Reading.{coming}
 use Rattle.line_io.specs.Streams.{stream_of}
+use Rattle.session_runs.proofs.Drawing.{draws_nothing}
+use Rattle.session_runs.specs.Runs.{outside_of}
 use Rattle.cryfs_setup.specs.Migrate.{MigratedUnder}
 use Rattle.cryfs_setup.proofs.Beginning.{held, has_password}
 use Rattle.cryfs_setup.proofs.migrate.run_migrate.Goals as goal
@@ -19,3 +21,11 @@ returns-clause-migrated g c =
       r.2.stands.quiet,
       subst (λ p. MigratedUnder g.V.Vault.trace g.V.Vault.faults g.K.Keeper p (stream_of g.O.Sink.written g.O.Sink.faults c.args.output.now c.migrate_under.new.output) c.args.vault c.args.keeper c.migrate_under.result) (sym h) c.migrate_under.ensures.migrated,
     )
+
+-- ---- what is drawn
+
+pub returns-in-Err-clause-drawn : goal.returns-in-Err-clause-drawn
+returns-in-Err-clause-drawn g c = draws_nothing (g.R.Rng.stream c.args.chance.now) (outside_of g.V.Vault.trace g.V.Vault.faults g.K.Keeper c.args.vault c.args.keeper)
+
+pub returns-clause-drawn : goal.returns-clause-drawn
+returns-clause-drawn g c = c.migrate_under.ensures.drawn

@@ -1,5 +1,7 @@
 use Rattle.mount.proofs.Formats.{opened_level}
+use Rattle.session_runs.proofs.Drawing.{draws_unopened}
 use Rattle.session_runs.proofs.Unopened.{unopened, caused}
+use Rattle.tree_commands.specs.Showing.{ShowsFiles}
 use Rattle.cryfs_setup.proofs.opening.open.Goals as goal
 
 pub returns-in-Ok-clause-begun : goal.returns-in-Ok-clause-begun
@@ -33,3 +35,7 @@ pub returns-in-Err-clause-causes : goal.returns-in-Err-clause-causes
 returns-in-Err-clause-causes g c =
     let h = c.in-Err.halted in
     caused g.V.Vault.trace g.V.Vault.faults g.K.Keeper c.args.password.now c.args.vault c.args.keeper h c.in-Err.ensures.halted c.opening_status.result c.opening_status.ensures
+
+pub returns-in-Err-clause-undrawn : goal.returns-in-Err-clause-undrawn
+returns-in-Err-clause-undrawn g c stream =
+    draws_unopened ShowsFiles g.V.Vault.trace g.V.Vault.faults g.K.Keeper c.args.password.now c.args.vault c.args.keeper c.in-Err.halted stream c.in-Err.ensures.halted

@@ -9,6 +9,7 @@ use Rattle.store_api.specs.Durables.{Identity}
 use Rattle.mount_blocks.proofs.Living.{has_payload, ids_live}
 use Rattle.mount_calls.specs.Migrating.{least_in}
 use Rattle.mount_calls.proofs.Migrated.{is_one, is_two, listed_once, migrates_all, migrates_failed, migrates_none, migrates_unlisted}
+use Rattle.mount_calls.proofs.Resealing.{seals_anew, seals_unmoved}
 use Rattle.mount_calls.proofs.migrating.migrate.Goals as goal
 
 pub returns-then-state-ge2-clause-migrates : goal.returns-then-state-ge2-clause-migrates
@@ -76,3 +77,23 @@ returns-clause-ready g c =
     let r = c.requires.ready in
     let m = c.in-Err-migrate_ids.ensures.migrates in
     record { core = c.in-Err-migrate_ids.ensures.ready; holder = r.holder; identity = m.identity ∙ r.identity; root = m.root ∙ r.root }
+
+-- ---- what is sealed
+
+pub returns-then-state-ge2-clause-draws : goal.returns-then-state-ge2-clause-draws
+returns-then-state-ge2-clause-draws g c = seals_unmoved g.V.Vault.trace g.V.Vault.faults g.K.Keeper c.args.mount.now _ (g.R.Rng.stream c.args.chance.now)
+
+pub returns-in-Err-clause-draws : goal.returns-in-Err-clause-draws
+returns-in-Err-clause-draws g c = seals_unmoved g.V.Vault.trace g.V.Vault.faults g.K.Keeper c.args.mount.now _ (g.R.Rng.stream c.args.chance.now)
+
+pub returns-in-Ok-migrate_ids-clause-draws : goal.returns-in-Ok-migrate_ids-clause-draws
+returns-in-Ok-migrate_ids-clause-draws g c =
+    let mount = c.args.mount.now in
+    let new : Mount g.row.V.Denot g.row.K.Denot = record mount { core = c.migrate_ids.new.core } in
+    seals_anew g.V.Vault.trace g.V.Vault.faults g.K.Keeper mount new _ _ _ c.requires.ready.core.intact c.in-Ok-migrate_ids.ensures.draws
+
+pub returns-clause-draws : goal.returns-clause-draws
+returns-clause-draws g c =
+    let mount = c.args.mount.now in
+    let new : Mount g.row.V.Denot g.row.K.Denot = record mount { core = c.migrate_ids.new.core } in
+    seals_anew g.V.Vault.trace g.V.Vault.faults g.K.Keeper mount new _ _ _ c.requires.ready.core.intact c.in-Err-migrate_ids.ensures.draws

@@ -4,6 +4,7 @@ use Rattle.std.specs.declared.result.Result.TheVariants.{Err}
 use Rattle.mount_migrating.specs.Migrating.{told}
 use Rattle.mount_migrating.proofs.Chains.{moves_all, moves_unrenewed, moves_unsynced}
 use Rattle.mount_migrating.proofs.Crowds.{listed}
+use Rattle.mount_migrating.proofs.Drawing.{draws_ended, draws_synced}
 use Rattle.mount_migrating.proofs.Noticing.{along_answered, along_then, passes_along}
 use Rattle.mount_migrating.proofs.migrating.migrate_blocks.Goals as goal
 
@@ -57,3 +58,30 @@ returns-in-Ok-keep_present-clause-noticed g c =
     let answer = told c.raise_least.result in
     let last = along_answered M H D g.S.BlocksMut.applied mid end answer c.in-Ok-keep_present.ensures.noticed in
     record { end = end; along = along_then M H D g.S.BlocksMut.applied old mid end answer c.in-Ok.ensures.noticed last; set = c.raise_least.ensures.set }
+
+-- ---- what it draws
+
+pub returns-in-Err-clause-draws : goal.returns-in-Err-clause-draws
+returns-in-Err-clause-draws g c = draws_ended g.S.Blocks.meanings g.S.Blocks.holdings g.S.Durable.durables g.S.Durable.records g.K.Keeper g.S.BlocksMut.applied g.S.BlocksMut.drawn c.args.core.now c.renew_all.new.core _ _ c.in-Err.ensures.draws
+
+pub returns-in-Err-keep_present-clause-draws : goal.returns-in-Err-keep_present-clause-draws
+returns-in-Err-keep_present-clause-draws g c =
+    let old = c.args.core.now in
+    let new = c.keep_present.new.core in
+    let r = c.in-Err-keep_present.ensures in
+    draws_ended g.S.Blocks.meanings g.S.Blocks.holdings g.S.Durable.durables g.S.Durable.records g.K.Keeper g.S.BlocksMut.applied g.S.BlocksMut.drawn old new _ _
+    (draws_synced g.S.Blocks.meanings g.S.Blocks.holdings g.S.Durable.durables g.S.Durable.records g.K.Keeper g.S.BlocksMut.applied g.S.BlocksMut.drawn g.met.S.Blocks.lawful old c.renew_all.new.core new _ _ c.in-Ok.ensures.draws c.in-Ok.ensures.ready.intact r.wrote r.keeps)
+
+pub returns-in-Ok-keep_present-clause-draws : goal.returns-in-Ok-keep_present-clause-draws
+returns-in-Ok-keep_present-clause-draws g c =
+    let end = c.keep_present.new.core in
+    let r = c.in-Ok-keep_present.ensures in
+    let s = c.raise_least.ensures in
+    record {
+      end = end;
+      along = draws_synced g.S.Blocks.meanings g.S.Blocks.holdings g.S.Durable.durables g.S.Durable.records g.K.Keeper g.S.BlocksMut.applied g.S.BlocksMut.drawn g.met.S.Blocks.lawful c.args.core.now c.renew_all.new.core end _ _ c.in-Ok.ensures.draws c.in-Ok.ensures.ready.intact r.wrote r.keeps;
+      set = s.set;
+      short = s.keeps.0;
+      set_short = s.keeps.1;
+      keeps = s.keeps.2;
+    }

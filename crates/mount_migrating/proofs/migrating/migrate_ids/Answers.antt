@@ -1,4 +1,4 @@
-use Rattle.std.proofs.Common.{◌≡◌, false, refl, sym, subst}
+use Rattle.std.proofs.Common.{◌≡◌, false, inr, refl, sym, ap, subst}
 use Rattle.std.specs.declared.result.Result.TheVariants.{Ok, Err}
 use Rattle.answers.specs.Sessions.{is_violation}
 use Rattle.block_id.specs.declared.fail.Why.{Why}
@@ -44,3 +44,24 @@ pub returns-in-Violation-clause-noticed : goal.returns-in-Violation-clause-notic
 returns-in-Violation-clause-noticed g c =
     subst (λ (tx : Tx g.row.S.Denot). PassesNone g.S.Blocks.meanings g.S.Blocks.holdings g.S.Durable.durables g.S.BlocksMut.applied c.args.core.now.blobs.tx.store (told {T = Unit} (Err c.in-Err.error)) tx.store) (sym c.mark.ensures.store)
     c.in-Err.ensures.noticed
+
+pub returns-in-Ok-clause-draws : goal.returns-in-Ok-clause-draws
+returns-in-Ok-clause-draws g c = record { before = c.migrate_blocks.new.core; anew = c.in-Ok.ensures.draws; same_store = refl; calm = λ e. refl; marks = λ e. absurd (cc e) }
+
+pub returns-in-Violation-clause-draws : goal.returns-in-Violation-clause-draws
+returns-in-Violation-clause-draws g c = record {
+  before = c.migrate_blocks.new.core;
+  anew = c.in-Err.ensures.draws;
+  same_store = ap (λ (tx : Tx g.row.S.Denot). tx.store) c.mark.ensures.store;
+  calm = λ e. absurd (cc (subst (λ (x : MigrateError). is_violation (told {T = Unit} (Err x)) ≡ false) c.in-Violation.is e));
+  marks = λ e. c.mark.ensures.kept;
+}
+
+pub returns-in_default-clause-draws : goal.returns-in_default-clause-draws
+returns-in_default-clause-draws g c = record {
+  before = c.migrate_blocks.new.core;
+  anew = c.in-Err.ensures.draws;
+  same_store = refl;
+  calm = λ e. refl;
+  marks = λ e. inr refl;
+}

@@ -1,4 +1,4 @@
-use Rattle.std.proofs.Common.{◌≡◌, ℕ, true, refl, sym, subst}
+use Rattle.std.proofs.Common.{◌≡◌, ℕ, true, false, refl, sym, subst}
 use Rattle.std.specs.declared.result.Result.TheVariants.{Ok, Err}
 use Rattle.store_api.specs.Holdings.{Stays}
 use Rattle.store_api.specs.Leaving.{StaysMeant, SetsLeast}
@@ -9,6 +9,7 @@ use Rattle.tree_commands.proofs.Shows.{files_same}
 use Rattle.mount_core.specs.declared.body.Core.{Core}
 use Rattle.mount_migrating.specs.Migrating.{IsMigratedRecord, Rests}
 use Rattle.mount_migrating.specs.Noticing.{OnlySet}
+use Rattle.mount_migrating.proofs.Drawing.{keeps_on, short_keeps}
 use Rattle.mount_migrating.proofs.Least.{Sets, kept_record, kept_rests, unsaved_rests}
 use Rattle.mount_migrating.proofs.Noticing.{set_then}
 use Rattle.mount_migrating.proofs.raising.raise_least.Given.{Over}
@@ -96,3 +97,30 @@ returns-in-Err-clause-set g c =
     let down = c.set_least-in-Err.new.self in
     let back : OnlySet H D c.keep_short.new.store down = record { stays = d.stays; identity = d.sets.identity; list = d.sets.list; trace = d.sets.trace } in
     set_then g.S.Blocks.meanings H D g.S.BlocksMut.applied c.args.core.now.blobs.tx.store c.set_least.new.self down (record { stays = u.stays; identity = u.sets.identity; list = u.sets.list; trace = u.sets.trace }) (subst (λ store. OnlySet H D store down) c.keep_short.ensures.same back)
+
+-- ---- what is kept
+
+pub returns-in-Ok-clause-keeps : goal.returns-in-Ok-clause-keeps
+returns-in-Ok-clause-keeps g c =
+    let D = g.S.Durable.durables in
+    let old = c.args.core.now in
+    let up = c.set_least.new.self in
+    let u = c.set_least.ensures in (
+      up,
+      record { stays = u.stays; identity = u.sets.identity; list = u.sets.list; trace = u.sets.trace },
+      short_keeps D g.K.Keeper up old.saver c.keep_short.new.self (Ok tt) (g.met.S.Durable.enduring.written up false u.meant.intact) c.in-Ok.ensures.saves,
+    )
+
+pub returns-in-Err-clause-keeps : goal.returns-in-Err-clause-keeps
+returns-in-Err-clause-keeps g c =
+    let D = g.S.Durable.durables in
+    let G = g.K.Keeper in
+    let old = c.args.core.now in
+    let up = c.set_least.new.self in
+    let u = c.set_least.ensures in
+    let saver = c.keep_short.new.self in (
+      up,
+      record { stays = u.stays; identity = u.sets.identity; list = u.sets.list; trace = u.sets.trace },
+      keeps_on D G up old.saver saver (record saver { changed = true })
+          (short_keeps D G up old.saver saver (Err c.in-Err.error) (g.met.S.Durable.enduring.written up false u.meant.intact) c.in-Err.ensures.saves) refl refl,
+    )

@@ -29,3 +29,15 @@ returns-in-Err-clause-noticed g c =
     let z = c.in-Err.ensures in
     let l = z.moves.leaves in
     along_synced g.S.Blocks.meanings g.S.Blocks.holdings g.S.Durable.durables g.S.BlocksMut.applied g.met.S.Blocks.lawful c.args.core.now.blobs.tx.store c.sync.new.core.blobs.tx.store (told {T = Unit} (Err c.sync_error.result)) z.syncs.wrote l.stays l.identity l.least
+
+pub returns-in-Ok-clause-wrote : goal.returns-in-Ok-clause-wrote
+returns-in-Ok-clause-wrote g c = c.in-Ok.ensures.syncs.wrote
+
+pub returns-in-Err-clause-wrote : goal.returns-in-Err-clause-wrote
+returns-in-Err-clause-wrote g c = c.in-Err.ensures.syncs.wrote
+
+pub returns-in-Ok-clause-keeps : goal.returns-in-Ok-clause-keeps
+returns-in-Ok-clause-keeps g c = c.in-Ok.ensures.syncs.keeps
+
+pub returns-in-Err-clause-keeps : goal.returns-in-Err-clause-keeps
+returns-in-Err-clause-keeps g c = c.in-Err.ensures.syncs.keeps

@@ -1,8 +1,18 @@
+use Rattle.std.proofs.Common.{inl, refl}
 use Rattle.answers.specs.declared.answer.Answer.TheVariants.{Reply as Replied}
 use Rattle.fs_model.specs.declared.reply.Reply.TheVariants.{Done}
+use Rattle.mount_migrating.proofs.Drawing.{keeps_same}
 use Rattle.mount_migrating.proofs.Noticing.{along_same}
 use Rattle.mount_migrating.proofs.renewing.make_room.Goals as goal
 
 pub returns-clause-noticed : goal.returns-clause-noticed
 returns-clause-noticed g c =
     along_same g.S.Blocks.meanings g.S.Blocks.holdings g.S.Durable.durables g.S.BlocksMut.applied g.met.S.Blocks.lawful c.args.core.now.blobs.tx.store (Replied Done)
+
+pub returns-clause-wrote : goal.returns-clause-wrote
+returns-clause-wrote g c = inl refl
+
+pub returns-clause-keeps : goal.returns-clause-keeps
+returns-clause-keeps g c =
+    let core = c.args.core.now in
+    keeps_same g.S.Durable.durables g.K.Keeper core.blobs.tx.store core.saver core.saver refl refl

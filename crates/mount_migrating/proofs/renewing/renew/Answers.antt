@@ -1,4 +1,4 @@
-use Rattle.std.proofs.Common.{◌≡◌, ◌≤◌, ◌∙◌, ℕ, true, [], ◌∷◌, length, refl, sym, ap, subst}
+use Rattle.std.proofs.Common.{◌≡◌, ◌≤◌, ◌∙◌, ℕ, true, [], ◌∷◌, length, refl, sym, ap, subst, inl, inr}
 use Rattle.std.specs.Prelude.{Vec, IfSome}
 use Rattle.std.specs.declared.alloc.Global.{Global}
 use Rattle.std.specs.declared.option.Option.{Option}
@@ -14,6 +14,7 @@ use Rattle.tree_commands.specs.Showing.{ShowsFiles}
 use Rattle.tree_commands.proofs.Shows.{files_same}
 use Rattle.mount_core.specs.declared.body.Core.{Core}
 use Rattle.mount_answering.proofs.Lines.{whole_loaded}
+use Rattle.store_api.proofs.Draws.{later_same}
 use Rattle.store_api.proofs.Rising.{same_id_is}
 use Rattle.store_api.specs.Durables.{IsNewFile}
 use Rattle.answers.specs.declared.answer.Answer.TheVariants.{Memory}
@@ -205,3 +206,29 @@ returns-clause-noticed g c =
     let answer = told {T = Unit} (Err c.apply_error.result) in
     along_loaded M g.S.Blocks.holdings g.S.Durable.durables g.S.BlocksMut.applied store new answer (g.met.S.Blocks.lawful.onward store last new o.loaded a.loaded)
     (none_came answer (M.gave store new) (λ why gave. o.noticed why (endures.gave_along store last new why (endures.applied_trace last new fin.empty a.nothing) gave)))
+
+-- ---- what it draws
+
+pub returns-in-Err-clause-draws : goal.returns-in-Err-clause-draws
+returns-in-Err-clause-draws g c = inl (c.in-Err.ensures.outcome.loaded, later_same (g.R.Rng.stream c.args.chance.now))
+
+pub returns-in-Err-put-clause-draws : goal.returns-in-Err-put-clause-draws
+returns-in-Err-put-clause-draws g c = inl (c.in-Ok-Some.ensures.outcome.loaded, later_same (g.R.Rng.stream c.args.chance.now))
+
+pub returns-in-Ok-apply-clause-draws : goal.returns-in-Ok-apply-clause-draws
+returns-in-Ok-apply-clause-draws g c =
+    let stream = g.R.Rng.stream c.args.chance.now in
+    inr (record {
+      last = c.load.new.self;
+      loaded = c.in-Ok-Some.ensures.outcome.loaded;
+      changes = c.put.new.self;
+      before = stream;
+      later = later_same stream;
+      makes = c.in-Ok-apply.ensures.applied;
+      draws = c.in-Ok-apply.ensures.drawn;
+    })
+
+pub returns-clause-draws : goal.returns-clause-draws
+returns-clause-draws g c =
+    let a = c.in-Err-apply.ensures in
+    inl (g.met.S.Blocks.lawful.onward c.args.core.now.blobs.tx.store c.load.new.self c.apply.new.self c.in-Ok-Some.ensures.outcome.loaded a.loaded, a.later)

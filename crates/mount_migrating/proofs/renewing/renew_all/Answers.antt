@@ -6,6 +6,7 @@ use Rattle.mount_migrating.specs.Migrating.{told, AreNew, AreUnspent, Raises}
 use Rattle.mount_migrating.proofs.Crowds.{is_in, is_next, listed, new_then, next_taken, raises_then, raises_wider, spent_then, turned, unspent_then}
 use Rattle.answers.specs.declared.answer.Answer.TheVariants.{Reply as Replied}
 use Rattle.fs_model.specs.declared.reply.Reply.TheVariants.{Done}
+use Rattle.mount_migrating.proofs.Drawing.{draws_same, draws_then}
 use Rattle.mount_migrating.proofs.Noticing.{along_same, along_then}
 use Rattle.mount_migrating.proofs.Proceeding.{proceeds_same, proceeds_then, reason_after}
 use Rattle.mount_migrating.proofs.renewing.renew_all.Goals as goal
@@ -22,6 +23,7 @@ loop-id-init g c = record {
   are_new = λ id has. absurd (cc has);
   stays_new = λ id n. n;
   noticed = along_same g.S.Blocks.meanings g.S.Blocks.holdings g.S.Durable.durables g.S.BlocksMut.applied g.met.S.Blocks.lawful c.args.core.now.blobs.tx.store (Replied Done);
+  draws = draws_same g.S.Blocks.meanings g.S.Blocks.holdings g.S.Durable.durables g.S.Durable.records g.K.Keeper g.S.BlocksMut.applied g.S.BlocksMut.drawn g.met.S.Blocks.lawful c.args.core.now (g.R.Rng.stream c.args.chance.now);
 }
 
 pub renew_next-requires-clause-ready : goal.renew_next-requires-clause-ready
@@ -66,6 +68,7 @@ loop-id-preserved g c =
       are_new = subst (AreNew H D new.blobs.tx.store) (sym more) (new_then H D first.blobs.tx.store mid.blobs.tx.store new.blobs.tx.store done id fresh inv.are_new w.are_new w.stays_new);
       stays_new = λ other n. w.stays_new other (inv.stays_new other n);
       noticed = along_then M H D g.S.BlocksMut.applied first.blobs.tx.store mid.blobs.tx.store new.blobs.tx.store (Replied Done) inv.noticed c.in-Ok.ensures.noticed;
+      draws = draws_then g.S.Blocks.meanings g.S.Blocks.holdings g.S.Durable.durables g.S.Durable.records g.K.Keeper g.S.BlocksMut.applied g.S.BlocksMut.drawn first mid new _ _ _ inv.draws inv.ready.intact ([], c.in-Ok.ensures.draws);
     }
 
 pub returns-in-Err-clause-renews : goal.returns-in-Err-clause-renews
@@ -102,3 +105,9 @@ pub returns-in-Err-clause-noticed : goal.returns-in-Err-clause-noticed
 returns-in-Err-clause-noticed g c =
     along_then g.S.Blocks.meanings g.S.Blocks.holdings g.S.Durable.durables g.S.BlocksMut.applied c.args.core.now.blobs.tx.store c.loop-id.core.blobs.tx.store c.renew_next.new.core.blobs.tx.store (told {T = Unit} (Err c.in-Err.error))
     c.loop-id.invariant.noticed c.in-Err.ensures.noticed
+
+pub returns-in-Err-clause-draws : goal.returns-in-Err-clause-draws
+returns-in-Err-clause-draws g c =
+    let inv = c.loop-id.invariant in
+    draws_then g.S.Blocks.meanings g.S.Blocks.holdings g.S.Durable.durables g.S.Durable.records g.K.Keeper g.S.BlocksMut.applied g.S.BlocksMut.drawn c.args.core.now c.loop-id.core c.renew_next.new.core _ _ _
+    inv.draws inv.ready.intact ([], c.in-Err.ensures.draws)

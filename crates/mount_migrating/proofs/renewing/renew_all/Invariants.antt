@@ -6,6 +6,7 @@ use Rattle.store_api.specs.Content.{Id}
 use Rattle.store_api.specs.Durables.{IsNewFile}
 use Rattle.tree_commands.specs.Showing.{ShowsFiles}
 use Rattle.mount_core.specs.Standing.{Ready}
+use Rattle.mount_migrating.specs.Drawing.{DrawsAlong}
 use Rattle.mount_migrating.specs.Migrating.{AreNew, AreUnspent, Proceeds, Raises}
 use Rattle.mount_migrating.specs.Noticing.{NoticedAlong}
 use Rattle.mount_migrating.proofs.Crowds.{listed}
@@ -23,4 +24,5 @@ invariant-loop-id g l = record {
   are_new : AreNew g.S.Blocks.holdings g.S.Durable.durables l.core.blobs.tx.store (take l.id-index (listed l.ids));
   stays_new : (id : Id) → IsNewFile g.S.Durable.durables l.initial.core.blobs.tx.store id → IsNewFile g.S.Durable.durables l.core.blobs.tx.store id;
   noticed : NoticedAlong g.S.Blocks.meanings g.S.Blocks.holdings g.S.Durable.durables g.S.BlocksMut.applied l.initial.core.blobs.tx.store (Replied Done) l.core.blobs.tx.store;
+  draws : DrawsAlong (world g.S.Blocks.meanings g.S.Blocks.holdings g.S.Durable.durables g.S.Durable.records g.K.Keeper) g.S.BlocksMut.applied g.S.BlocksMut.drawn l.initial.core l.core (g.R.Rng.stream l.initial.chance) (g.R.Rng.stream l.chance);
 }

@@ -2,6 +2,7 @@ use Rattle.std.proofs.Common.{◌∙◌, [], ◌∷◌}
 use Rattle.tree_commands.specs.Showing.{ShowsFiles}
 use Rattle.mount_migrating.specs.Migrating.{told}
 use Rattle.mount_migrating.proofs.Chains.{renews_after, renews_stopped}
+use Rattle.mount_migrating.proofs.Drawing.{step_once, step_synced}
 use Rattle.mount_migrating.proofs.Noticing.{along_then}
 use Rattle.mount_migrating.proofs.renewing.renew_next.Goals as goal
 
@@ -20,3 +21,15 @@ pub returns-in-Ok-clause-noticed : goal.returns-in-Ok-clause-noticed
 returns-in-Ok-clause-noticed g c =
     along_then g.S.Blocks.meanings g.S.Blocks.holdings g.S.Durable.durables g.S.BlocksMut.applied c.args.core.now.blobs.tx.store c.make_room.new.core.blobs.tx.store c.renew.new.core.blobs.tx.store (told c.renew.result)
     c.in-Ok.ensures.noticed c.renew.ensures.noticed
+
+pub returns-in-Ok-clause-draws : goal.returns-in-Ok-clause-draws
+returns-in-Ok-clause-draws g c =
+    let r = c.in-Ok.ensures in
+    let w = c.renew.ensures in
+    step_once g.S.Blocks.meanings g.S.Blocks.holdings g.S.Durable.durables g.S.Durable.records g.K.Keeper g.S.BlocksMut.applied g.S.BlocksMut.drawn c.args.core.now c.make_room.new.core c.renew.new.core _ _
+    r.wrote r.keeps w.draws w.keeper w.last
+
+pub returns-in-Err-clause-draws : goal.returns-in-Err-clause-draws
+returns-in-Err-clause-draws g c =
+    let r = c.in-Err.ensures in
+    step_synced g.S.Blocks.meanings g.S.Blocks.holdings g.S.Durable.durables g.S.Durable.records g.K.Keeper g.S.BlocksMut.applied g.S.BlocksMut.drawn g.met.S.Blocks.lawful c.args.core.now c.make_room.new.core (g.R.Rng.stream c.args.chance.now) r.wrote r.keeps
