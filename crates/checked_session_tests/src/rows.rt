@@ -10,7 +10,7 @@ use test_systems::{
 
 /// The two blocks, and one name that is neither's.
 const FOUND: &str =
-    "check yes 2\nblock 00000000000000000000000000000001 /\nblock 76b8e0ada0f13d90405d6ae55386bd28 /a\nstranger x\\x20y\n";
+    "check yes 2\nblock 00000000000000000000000000000001 /\nblock 76B8E0ADA0F13D90405D6AE55386BD28 /a\nstranger x\\x20y\n";
 
 /// A file system with one directory, and a strange file beside its own.
 fn with_stranger(alloc: Global) -> Result<System, Fail> {
@@ -111,7 +111,7 @@ fn a_survey_names_each_refused_block_and_marks_nothing(rt: HostRuntime) -> Resul
     let honest = copy_files(alloc, &sound.vault)?;
     store(alloc, &mut sound, first_made(0), None)?;
     let text =
-        "violation missing\nblock 76b8e0ada0f13d90405d6ae55386bd28 /a violation missing\nrefused 1\n";
+        "violation missing\nblock 76B8E0ADA0F13D90405D6AE55386BD28 /a violation missing\nrefused 1\n";
     let first = survey(alloc, sound, text, Status::Violation)?;
     let mut second = survey(alloc, first, text, Status::Violation)?;
     second.vault.set_files(honest);
@@ -128,7 +128,7 @@ fn what_is_below_a_refused_directory_has_no_path(rt: HostRuntime) -> Result<(), 
     store(alloc, &mut later, block(1), Some(old))?;
     store(alloc, &mut later, first_made(0), None)?;
     let text =
-        "violation old-version 3 2\nblock 00000000000000000000000000000001 / violation old-version 3 2\nblock 76b8e0ada0f13d90405d6ae55386bd28 ? violation missing\nrefused 2\n";
+        "violation old-version 3 2\nblock 00000000000000000000000000000001 / violation old-version 3 2\nblock 76B8E0ADA0F13D90405D6AE55386BD28 ? violation missing\nrefused 2\n";
     survey(alloc, later, text, Status::Violation)?;
     Ok(())
 }

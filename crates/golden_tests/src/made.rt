@@ -103,7 +103,7 @@ fn a_swapped_file_opens_only_before(rt: HostRuntime) -> Result<(), Fail> {
         alloc,
         copied(alloc, &system)?,
         &child,
-        "wrong-id 76b8e0ada0f13d90405d6ae55386bd28",
+        "wrong-id 76B8E0ADA0F13D90405D6AE55386BD28",
     )?;
     let system = migrate(alloc, system, "migrated 2\n")?;
     let child = file(alloc, system.vault.files(), first_made(0))?;

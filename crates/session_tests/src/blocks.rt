@@ -7,7 +7,7 @@ use outside::FileName;
 use std::alloc::Global;
 use std::test::Fail;
 use test_systems::{
-    CREATED, System, block, count_blocks, expect, new_system, nothing, plain, script, session,
+    CREATED, System, count_blocks, expect, first_made, new_system, nothing, plain, script, session,
 };
 
 /// A new file system of blocks of 128 bytes.
@@ -107,14 +107,14 @@ fn a_block_that_is_used_again_is_asked_for_once(rt: HostRuntime) -> Result<(), F
     Ok(())
 }
 
-/// How many files were put, and how often that of the block of this number was.
-fn count_puts(vault: &MemoryVault, number: u8) -> (usize, usize) {
+/// How many files were put, and how often this one was.
+fn count_puts(vault: &MemoryVault, file: &FileName) -> (usize, usize) {
     let mut all = 0usize;
     let mut of_block = 0usize;
     for event in vault.trace() {
         if let Event::Put { name, .. } = event {
             all = all.saturating_add(1);
-            if *name == block(number) {
+            if *name == *file {
                 of_block = of_block.saturating_add(1);
             }
         }
@@ -130,11 +130,11 @@ fn a_byte_inside_a_long_file_puts_its_leaf_and_its_directory(rt: HostRuntime) ->
     let mut case = plain(&["shell"], &input);
     case.piece = 4096;
     let system = expect(alloc, new_system(alloc)?, &case, text, Status::Done)?;
-    let (all, of_docs) = count_puts(&system.vault, 2);
+    let (all, of_docs) = count_puts(&system.vault, &first_made(0));
     let lines = "write /docs/report 50000 61\n";
     let after = session(alloc, system, lines, "ok\n", Status::Done)?;
     assert_eq!(rt;
-        count_puts(&after.vault, 2),
+        count_puts(&after.vault, &first_made(0)),
         (all.saturating_add(2), of_docs.saturating_add(1))
     );
     assert_eq!(rt; count_blocks(&after.vault), 11);
@@ -144,7 +144,7 @@ fn a_byte_inside_a_long_file_puts_its_leaf_and_its_directory(rt: HostRuntime) ->
 #[test]
 fn a_move_puts_what_moves_only_where_its_directory_is_another(rt: HostRuntime) -> Result<(), Fail> {
     let alloc = rt.alloc();
-    // The directory `/d` is block 2, what stands in it 3 and 4.
+    // The directory `/d` is the first block that was made, `/d/f` the third.
     let lines = "mkdir /d\nmkdir /d/e\nmkfile /d/f\n";
     let system = session(
         alloc,
@@ -153,15 +153,18 @@ fn a_move_puts_what_moves_only_where_its_directory_is_another(rt: HostRuntime) -
         "ok\nok\nok\n",
         Status::Done,
     )?;
-    let (_, of_directory) = count_puts(&system.vault, 2);
-    let (_, of_file) = count_puts(&system.vault, 4);
+    let (_, of_directory) = count_puts(&system.vault, &first_made(0));
+    let (_, of_file) = count_puts(&system.vault, &first_made(2));
     let within = session(alloc, system, "mv /d/f /d/g\n", "ok\n", Status::Done)?;
     assert_eq!(rt;
-        count_puts(&within.vault, 2).1,
+        count_puts(&within.vault, &first_made(0)).1,
         of_directory.saturating_add(1)
     );
-    assert_eq!(rt; count_puts(&within.vault, 4).1, of_file);
+    assert_eq!(rt; count_puts(&within.vault, &first_made(2)).1, of_file);
     let across = session(alloc, within, "mv /d/g /d/e/g\n", "ok\n", Status::Done)?;
-    assert_eq!(rt; count_puts(&across.vault, 4).1, of_file.saturating_add(1));
+    assert_eq!(rt;
+        count_puts(&across.vault, &first_made(2)).1,
+        of_file.saturating_add(1)
+    );
     Ok(())
 }

@@ -29,11 +29,9 @@ const FIRST_DRAWN: [u8; 16] = [
 ];
 
 /// The block of the first node of a line whose seed is of zeros, where so many lines before it made one.
-pub fn first_made(lines: u8) -> FileName
-    requires { lines < 200 }
-{
+pub fn first_made(lines: u8) -> FileName {
     let mut id = FIRST_DRAWN;
-    id[15] = 0x28 + lines;
+    id[15] = id[15].wrapping_add(lines);
     FileName::Block(BlockId(id))
 }
 

@@ -16,4 +16,4 @@ stepped : (t u : Tree) (now : Instant) (c : Command) (reply : Reply) (next : Tre
 stepped t u now c reply next e r n = (next, (ap (λ z. step z now c) e ∙ both (step u now c) reply next r n, refl))
 
 pub returns-clause-stands : goal.returns-clause-stands
-returns-clause-stands g c = λ t e le. stepped t c.args.self.now.tree c.args.self.now.now c.args.command.now c.in-Ok.reply c.step.new.self e c.in-Ok.ensures.reply c.in-Ok.ensures.tree
+returns-clause-stands c = λ t e le. stepped t c.args.self.now.tree c.args.self.now.now c.args.command.now c.in-Ok.reply c.step.new.self e c.in-Ok.ensures.reply c.in-Ok.ensures.tree
