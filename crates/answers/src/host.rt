@@ -16,12 +16,7 @@ pub trait Host {
         ensures { result ≡ hosting.refuses self.now };
 
     /// Answers a command.
-    fn answer(
-        &mut self,
-        alloc: Global,
-        now: Moment,
-        command: &Command,
-    ) -> Answer
+    fn answer(&mut self, alloc: Global, now: Moment, command: &Command) -> Answer
         requires ready { hosting.ready self.old }
         requires serves { hosting.refuses self.old ≡ false }
         requires fits { IsFitting command.now }

@@ -18,11 +18,7 @@ pub trait Asker {
     ghost asking: { Asking Self };
 
     /// Asks a command.
-    fn ask(
-        &mut self,
-        alloc: Global,
-        command: &Command,
-    ) -> Result<Reply, Stopped>
+    fn ask(&mut self, alloc: Global, command: &Command) -> Result<Reply, Stopped>
         requires ready { asking.ready self.old }
         requires fits { IsFitting command.now }
         ensures ready { asking.ready self.new }

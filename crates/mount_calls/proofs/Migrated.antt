@@ -161,8 +161,8 @@ module _ {V : Type 0} {K : Type 0} (trace : V → Option (List Call)) (faults : 
     left_so false true kept now l = inr l
     left_so false false kept now l = l
 
-    pub migrates_all : (count : ℕ) → count ≡ length ids → (m : Migrates ShowsFiles (tower trace faults G) old.core (ids_of ids) (Ok tt) new.core) → Noticed old (Replied Done) new → MigratesMount ShowsFiles trace faults G old (Ok count) new
-    migrates_all count is m noticed = record {
+    pub migrates_all : (count : ℕ) → count ≡ length ids → ((tower_durables trace).identity (store_of old)).marked ≡ false → (m : Migrates ShowsFiles (tower trace faults G) old.core (ids_of ids) (Ok tt) new.core) → Noticed old (Replied Done) new → MigratesMount ShowsFiles trace faults G old (Ok count) new
+    migrates_all count is unmarked_store m noticed = record {
       opened = same;
       violated = m.violated;
       count = inr (one, is ∙ (sym (length-map ids (λ id. id.0)) ∙ ap length all));

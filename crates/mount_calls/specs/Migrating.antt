@@ -36,7 +36,7 @@ least_in mount = (held_in (store_of mount)).state.least
 abbrev pub tower_applied : {V : Type 0} → (V → Option (List Call)) → Cached V → Cached V → Changes → Type 0
 tower_applied trace a b changes = applied_by sealed_held (sealed_trace trace) a.store b.store changes
 
--- a record with an empty list is kept, and says that only the newest format is taken
+-- a record with an empty list is kept, without a mark, and says that only the newest format is taken
 pub record KeepsNewest (kept : Option (List ℕ)) : Type 0 where
   pub state : PlainState
   pub keeps : KeepsRecord kept state []

@@ -15,12 +15,7 @@ use outside::Sink;
 use std::alloc::Global;
 
 /// The answer to a generated command. What refuses is asked for nothing.
-fn answer_numbered<H: Host>(
-    alloc: Global,
-    host: &mut H,
-    now: Moment,
-    number: u64,
-) -> Answer
+fn answer_numbered<H: Host>(alloc: Global, host: &mut H, now: Moment, number: u64) -> Answer
     requires ready { H.hosting.ready host.old }
     ensures ready { H.hosting.ready host.new }
     ensures answered { H.hosting.answers host.old now (Ok (generated_of number)) result host.new }
@@ -36,12 +31,7 @@ fn answer_numbered<H: Host>(
 }
 
 /// Asks the first so many generated commands, one after another, and counts the answers.
-fn summarize<H: Host>(
-    alloc: Global,
-    host: &mut H,
-    now: Moment,
-    count: u64,
-) -> Summary
+fn summarize<H: Host>(alloc: Global, host: &mut H, now: Moment, count: u64) -> Summary
     requires ready { H.hosting.ready host.old }
     requires few { count ≤ 1000000 }
     ensures ready { H.hosting.ready host.new }

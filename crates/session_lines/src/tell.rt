@@ -12,12 +12,7 @@ use script_text::{LineError, parse_line};
 use std::alloc::Global;
 
 /// The answer to a line of what doesn't refuse.
-fn read_and_answer<H: Host>(
-    alloc: Global,
-    host: &mut H,
-    now: Moment,
-    line: &[u8],
-) -> Answer
+fn read_and_answer<H: Host>(alloc: Global, host: &mut H, now: Moment, line: &[u8]) -> Answer
     requires ready { H.hosting.ready host.old }
     requires serves { H.hosting.refuses host.old ≡ false }
     ensures ready { H.hosting.ready host.new }
@@ -32,12 +27,7 @@ fn read_and_answer<H: Host>(
 }
 
 /// The answer to a line, or to one that is too long to be kept. What refuses is asked for nothing.
-fn answer_line<H: Host>(
-    alloc: Global,
-    host: &mut H,
-    now: Moment,
-    line: Option<&[u8]>,
-) -> Answer
+fn answer_line<H: Host>(alloc: Global, host: &mut H, now: Moment, line: Option<&[u8]>) -> Answer
     requires ready { H.hosting.ready host.old }
     ensures ready { H.hosting.ready host.new }
     ensures answered { (whole : List ℕ) → option_copied line.entry ≡ kept whole → H.hosting.answers host.old now (command_of whole) result host.new }

@@ -42,8 +42,8 @@ returns-clause-drawn g c =
     let s = told.ensures.put in
     let outside = outside_of g.V.Vault.trace g.V.Vault.faults g.K.Keeper in
     let drawn : DrawsVectors (g.R.Rng.stream c.args.chance.now) (g.R.Rng.stream told.new.asker.mounted.chance.now) (outside c.args.vault c.args.keeper) (outside c.close.result.vault c.close.result.keeper) =
-        draws_served g.R.Rng.stream g.V.Vault.trace g.V.Vault.faults g.K.Keeper c.args.now c.deref.result.now c.args.vault c.args.keeper c.close.result told.result.1 told.result.0
-        (record { mount = c.in-Ok-open.mount; chance = record { ref_ptr = c.args.chance.ref_ptr; ghost_name = _; now = c.args.chance.now } }) told.new.asker.mounted s.0 c.in-Ok-open.ensures.begun c.in-Ok-open.ensures.sealed s.1 c.close.ensures in
+    draws_served g.R.Rng.stream g.V.Vault.trace g.V.Vault.faults g.K.Keeper c.args.now c.deref.result.now c.args.vault c.args.keeper c.close.result told.result.1 told.result.0
+    (record { mount = c.in-Ok-open.mount; chance = record { ref_ptr = c.args.chance.ref_ptr; ghost_name = _; now = c.args.chance.now } }) told.new.asker.mounted s.0 c.in-Ok-open.ensures.begun c.in-Ok-open.ensures.sealed s.1 c.close.ensures in
     search (rules, drawn)
 
 pub returns-in-Err-open-clause-drawn : goal.returns-in-Err-open-clause-drawn

@@ -83,8 +83,8 @@ returns g c =
     let m = c.sync.ensures.moves in
     let l = m.leaves in
     let z = c.sync.ensures.syncs in
-    let waits = c.in-Ok.ensures.configures in
-    let waiting : HasConfigWaiting (world M H D R g.K.Keeper) store bytes mid.blobs.tx.store = record { identity = p.identity; least = p.least; stays = p.stays; list = c.in-Ok.ensures.ok; trace = p.trace } in
+    let waits = c.in-Ok.ensures.keeps.configures in
+    let waiting : HasConfigWaiting (world M H D R g.K.Keeper) store bytes mid.blobs.tx.store = record { identity = p.lists.identity; least = p.lists.least; stays = p.stays; list = c.in-Ok.ensures.lists.ok; trace = p.lists.trace } in
     record {
       moves = record {
         ready = m.ready;

@@ -53,7 +53,7 @@ returns-in-Ok-migrate_ids-clause-migrates g c =
     let few : least_in mount ≤ 1 = let small = subst (λ (s : State). s.least < 2) is c.if-state-ge2.false in omega (arith, small) in
     let all = ap ids_of c.deref.ensures.value ∙ (c.in-Ok.ensures ∙ ap (λ (s : State). live_ids s.known.lives) is) in
     let new : Mount g.row.V.Denot g.row.K.Denot = record mount { core = c.migrate_ids.new.core } in
-    migrates_all g.V.Vault.trace g.V.Vault.faults g.K.Keeper mount new c.deref.result.now refl all (is_one (least_in mount) least few) c.len.result (c.len.ensures ∙ sym c.deref.ensures.len) c.in-Ok-migrate_ids.ensures.migrates c.in-Ok-migrate_ids.ensures.noticed
+    migrates_all g.V.Vault.trace g.V.Vault.faults g.K.Keeper mount new c.deref.result.now refl all (is_one (least_in mount) least few) c.len.result (c.len.ensures ∙ sym c.deref.ensures.len) (ap (λ (i : Identity). i.marked) r.identity) c.in-Ok-migrate_ids.ensures.migrates c.in-Ok-migrate_ids.ensures.noticed
 
 pub returns-in-Ok-migrate_ids-clause-ready : goal.returns-in-Ok-migrate_ids-clause-ready
 returns-in-Ok-migrate_ids-clause-ready g c =
