@@ -14,7 +14,7 @@ use Rattle.outcome.specs.Outcome.{Outcome, idle, no_memory}
 use Rattle.block_id.specs.declared.fail.Fail.TheVariants.{Memory}
 use Rattle.store_api.specs.Overlay.{changed_over}
 use Rattle.store_api.proofs.Rising.{same_id_is}
-use Rattle.data_tree.proofs.Loads.{store_in, changes_in, tx_holdings, tx_meanings, tx_laws}
+use Rattle.data_tree.proofs.Loads.{store_in, changes_in, drawn_in, tx_holdings, tx_meanings, tx_laws}
 use Rattle.data_tree.proofs.Forests.{stays-same}
 use Rattle.data_tree.proofs.Changes.{sets_put, there_put}
 
@@ -29,9 +29,6 @@ on_any (Err e) p = tt
 pub if_ok_both : {T E : Type 0} {P Q R : T → Type 0} (r : Result T E) → ((x : T) → P x → Q x → R x) → IfOk r P → IfOk r Q → IfOk r R
 if_ok_both (Ok x) f p q = f x p q
 if_ok_both (Err e) f p q = tt
-
-pub tx_same : {B : Type 0} (a b : Tx B) → b.store ≡ a.store → b.overlay ≡ a.overlay → b ≡ a
-tx_same a b one two = λ i. record { store = one i; overlay = two i }
 
 pub below_same : {B : Type 0} (H : Holdings B) (a b : Tx B) → b.store ≡ a.store → Stays H a.store b.store
 below_same H a b same = subst (λ s. Stays H a.store s) (sym same) (stays-same H a.store)
@@ -50,10 +47,14 @@ pub put_sets : {B : Type 0} (H : Holdings B) (a d : Tx B) (id : Id) (change : Op
 put_sets H a d id change same put q =
     ap (λ s. over d.overlay (H.content s) q) same ∙ (ap (λ m. over m (H.content a.store) q) put ∙ sets_put a.overlay (H.content a.store) id change q)
 
+-- after a call that left the changes
+pub there_left : {B : Type 0} (H : Holdings B) (a d : Tx B) → d.store ≡ a.store → d.overlay ≡ a.overlay → (q : Id) → is_some ((tx_holdings H).content a q) ≡ true → is_some ((tx_holdings H).content d q) ≡ true
+there_left H a d same kept q h = subst (λ s. is_some (over d.overlay (H.content s) q) ≡ true) (sym same) (subst (λ m. is_some (over m (H.content a.store) q) ≡ true) (sym kept) h)
+
 pub there_then : {B T E : Type 0} (H : Holdings B) (a d : Tx B) (id : Id) (text : List ℕ) (r : Result T E) → d.store ≡ a.store → OnOk r (d.overlay ≡ fin.insert a.overlay id (Some text)) → OnErr r (d.overlay ≡ a.overlay)
     → (q : Id) → is_some ((tx_holdings H).content a q) ≡ true → is_some ((tx_holdings H).content d q) ≡ true
 there_then H a d id text (Ok x) same put kept q h = there_put ((tx_holdings H).content a) ((tx_holdings H).content d) id text (put_sets H a d id (Some text) same put) q h
-there_then H a d id text (Err e) same put kept q h = subst (λ t. is_some ((tx_holdings H).content t q) ≡ true) (sym (tx_same a d same kept)) h
+there_then H a d id text (Err e) same put kept q h = there_left H a d same kept q h
 
 one_more : (old new : Changes) (id : Id) (change : Option (List ℕ)) → new ≡ fin.insert old id change → fin.len new ≤ fin.len old + 1
 one_more old new id change is = by (fin.contains_key old id) (ap fin.len is ∙ len-insert nat_list_cmp_total old id change)
@@ -71,16 +72,16 @@ few_then old new id change (Ok x) put kept = one_more old new id change put
 few_then old new id change (Err e) put kept = omega (arith, ap fin.len kept)
 
 -- a call that went well, and then a change of the changes alone
-pub changed_ : {B : Type 0} (M : Meanings B) (H : Holdings B) {T N : Type 0} {x : T} {P : N → T → Type 0} {R : N → Type 0} (a c d : Tx B) → d.store ≡ c.store → (tx_meanings M H).intact d → Outcome (tx_meanings M H) N a c (Ok x) P → ((n : N) → P n x → R n)
+pub changed_ : {B : Type 0} (M : Meanings B) (H : Holdings B) {T N : Type 0} {x : T} {P : N → T → Type 0} {R : N → Type 0} (a c d : Tx B) → d.store ≡ c.store → d.seed ≡ c.seed → (tx_meanings M H).intact d → Outcome (tx_meanings M H) N a c (Ok x) P → ((n : N) → P n x → R n)
     → Outcome (tx_meanings M H) {T = Unit {0}} N a d (Ok tt) (λ n _. R n)
-changed_ M H a c d same intact o into = changed_over store_in changes_in M H a c d same intact o into
+changed_ M H a c d same seeded intact o into = changed_over store_in changes_in drawn_in M H a c d same seeded intact o into
 
 -- memory was wanting after a call that went well and a change of the changes alone, or after such a change alone
-pub memory_after : {B : Type 0} (M : Meanings B) (H : Holdings B) {T U N : Type 0} {x : T} {P : N → T → Type 0} {Q : N → U → Type 0} (a c d : Tx B) → d.store ≡ c.store → (tx_meanings M H).intact d → Outcome (tx_meanings M H) N a c (Ok x) P → Outcome (tx_meanings M H) {T = U} N a d (Err Memory) Q
-memory_after M H a c d same intact o = no_memory (changed_ M H {R = λ n. Unit {0}} a c d same intact o (λ n p. tt))
+pub memory_after : {B : Type 0} (M : Meanings B) (H : Holdings B) {T U N : Type 0} {x : T} {P : N → T → Type 0} {Q : N → U → Type 0} (a c d : Tx B) → d.store ≡ c.store → d.seed ≡ c.seed → (tx_meanings M H).intact d → Outcome (tx_meanings M H) N a c (Ok x) P → Outcome (tx_meanings M H) {T = U} N a d (Err Memory) Q
+memory_after M H a c d same seeded intact o = no_memory (changed_ M H {R = λ n. Unit {0}} a c d same seeded intact o (λ n p. tt))
 
-pub memory_first : {B : Type 0} (M : Meanings B) (H : Holdings B) {U N : Type 0} {Q : N → U → Type 0} → Lawful M → (a d : Tx B) → (tx_meanings M H).intact a → d.store ≡ a.store → (tx_meanings M H).intact d → Outcome (tx_meanings M H) {T = U} N a d (Err Memory) Q
-memory_first M H laws a d before same intact = memory_after M H a a d same intact (idle (tx_laws M H laws) {T = Unit {0}} {P = λ n _. Unit {0}} a tt before (λ n. tt))
+pub memory_first : {B : Type 0} (M : Meanings B) (H : Holdings B) {U N : Type 0} {Q : N → U → Type 0} → Lawful M → (a d : Tx B) → (tx_meanings M H).intact a → d.store ≡ a.store → d.seed ≡ a.seed → (tx_meanings M H).intact d → Outcome (tx_meanings M H) {T = U} N a d (Err Memory) Q
+memory_first M H laws a d before same seeded intact = memory_after M H a a d same seeded intact (idle (tx_laws M H laws) {T = Unit {0}} {P = λ n _. Unit {0}} a tt before (λ n. tt))
 
 pub unforged_before : {S : Type 0} {M : Meanings S} (laws : Lawful M) (a b c : S) → M.loaded b c → M.forgeries c ≤ M.forgeries a → M.forgeries b ≤ M.forgeries a
 unforged_before {M = M} laws a b c loaded few = let grown : M.forgeries b ≤ M.forgeries c = laws.forgeries_grow b c loaded in omega arith

@@ -10,18 +10,16 @@ use crate::level::Level;
 use crate::nodes::put_new;
 use block_id::{BlockId, Memory};
 use data_nodes::Node;
-use rand_core::Rng;
 use std::alloc::Global;
 use store_api::{Blocks, Tx};
 
 /// A node of this level that holds the bytes, with new blocks for all that stands below it.
 #[cycle(build)]
-pub fn build<S: Blocks, R: Rng>(
+pub fn build<S: Blocks>(
     alloc: Global,
     tx: &mut Tx<S>,
     bytes: &[u8],
     level: Level,
-    chance: &mut R,
 ) -> Result<Node, Memory>
     requires intact { ⟦<Tx<S> as Blocks>⟧.meanings.intact tx.old }
     requires level { level.room ≡ span (⟦<Tx<S> as Blocks>⟧.holdings.payload tx.old) level.depth }
@@ -29,6 +27,7 @@ pub fn build<S: Blocks, R: Rng>(
     requires some { 0 < level.depth → 0 < length bytes.now }
     ensures intact { ⟦<Tx<S> as Blocks>⟧.meanings.intact tx.new }
     ensures store { tx.new.store ≡ tx.old.store }
+    ensures seed { tx.new.seed ≡ tx.old.seed }
     ensures built { IfOk result (λ node. Built ⟦<Tx<S> as Blocks>⟧.holdings tx.old tx.new level.depth (node_of node) bytes.now) }
     ensures there { (q : Id) → is_some (⟦<Tx<S> as Blocks>⟧.holdings.content tx.old q) ≡ true → is_some (⟦<Tx<S> as Blocks>⟧.holdings.content tx.new q) ≡ true }
     ensures fits { IfOk result (λ node. FitsPayload (⟦<Tx<S> as Blocks>⟧.holdings.payload tx.old) (node_of node)) }
@@ -41,7 +40,7 @@ pub fn build<S: Blocks, R: Rng>(
         };
     }
     let below = level.below(tx.payload());
-    match build_children(alloc, tx, bytes, below, chance) {
+    match build_children(alloc, tx, bytes, below) {
         Ok(children) => Ok(Node::Inner {
             depth: level.depth,
             children,
@@ -52,12 +51,11 @@ pub fn build<S: Blocks, R: Rng>(
 
 /// A new tree of this level that holds the bytes.
 #[cycle(build)]
-pub fn new_below<S: Blocks, R: Rng>(
+pub fn new_below<S: Blocks>(
     alloc: Global,
     tx: &mut Tx<S>,
     bytes: &[u8],
     level: Level,
-    chance: &mut R,
 ) -> Result<BlockId, Memory>
     requires intact { ⟦<Tx<S> as Blocks>⟧.meanings.intact tx.old }
     requires level { level.room ≡ span (⟦<Tx<S> as Blocks>⟧.holdings.payload tx.old) level.depth }
@@ -65,24 +63,24 @@ pub fn new_below<S: Blocks, R: Rng>(
     requires some { 0 < level.depth → 0 < length bytes.now }
     ensures intact { ⟦<Tx<S> as Blocks>⟧.meanings.intact tx.new }
     ensures store { tx.new.store ≡ tx.old.store }
+    ensures seed { tx.new.seed ≡ tx.old.seed }
     ensures built { IfOk result (λ id. NewTree ⟦<Tx<S> as Blocks>⟧.holdings tx.old tx.new level.depth id.0 bytes.now) }
     ensures there { (q : Id) → is_some (⟦<Tx<S> as Blocks>⟧.holdings.content tx.old q) ≡ true → is_some (⟦<Tx<S> as Blocks>⟧.holdings.content tx.new q) ≡ true }
     ensures kept { (q : Id) → is_some (⟦<Tx<S> as Blocks>⟧.holdings.content tx.old q) ≡ true → fin.get tx.new.overlay q ≡ fin.get tx.old.overlay q }
 {
-    match build(alloc, tx, bytes, level, chance) {
-        Ok(node) => put_new(alloc, tx, &node, chance),
+    match build(alloc, tx, bytes, level) {
+        Ok(node) => put_new(alloc, tx, &node),
         Err(memory) => Err(memory),
     }
 }
 
 /// New trees of this level for the bytes, as many as it takes.
 #[cycle(build)]
-pub fn build_children<S: Blocks, R: Rng>(
+pub fn build_children<S: Blocks>(
     alloc: Global,
     tx: &mut Tx<S>,
     bytes: &[u8],
     level: Level,
-    chance: &mut R,
 ) -> Result<Vec<BlockId>, Memory>
     requires intact { ⟦<Tx<S> as Blocks>⟧.meanings.intact tx.old }
     requires level { level.room ≡ span (⟦<Tx<S> as Blocks>⟧.holdings.payload tx.old) level.depth }
@@ -90,6 +88,7 @@ pub fn build_children<S: Blocks, R: Rng>(
     requires fits { length bytes.now ≤ fan_out (⟦<Tx<S> as Blocks>⟧.holdings.payload tx.old) * level.room }
     ensures intact { ⟦<Tx<S> as Blocks>⟧.meanings.intact tx.new }
     ensures store { tx.new.store ≡ tx.old.store }
+    ensures seed { tx.new.seed ≡ tx.old.seed }
     ensures built { IfOk result (λ children. BuiltTrees ⟦<Tx<S> as Blocks>⟧.holdings tx.old tx.new level.depth (ids_of children.items) bytes.now) }
     ensures there { (q : Id) → is_some (⟦<Tx<S> as Blocks>⟧.holdings.content tx.old q) ≡ true → is_some (⟦<Tx<S> as Blocks>⟧.holdings.content tx.new q) ≡ true }
     ensures some { IfOk result (λ children. 0 < length bytes.now → 0 < length children.items) }
@@ -101,7 +100,7 @@ pub fn build_children<S: Blocks, R: Rng>(
     let mut rest = bytes;
     while !rest.is_empty() {
         let (piece, after) = rest.split_at(level.room.min(rest.len() as u64) as usize);
-        let id = match new_below(alloc, tx, piece, level, chance) {
+        let id = match new_below(alloc, tx, piece, level) {
             Ok(id) => id,
             Err(memory) => return Err(memory),
         };

@@ -20,6 +20,7 @@ fn drop_leaf<S: Blocks>(tx: &mut Tx<S>, id: &BlockId) -> Result<(), Fail>
     ensures outcome { Outcome ⟦<Tx<S> as Blocks>⟧.meanings (HasTree ⟦<Tx<S> as Blocks>⟧.holdings tx.old 0 id.now.0) tx.old tx.new result
         (λ n _. Replaces (⟦<Tx<S> as Blocks>⟧.holdings.content tx.old) (⟦<Tx<S> as Blocks>⟧.holdings.content tx.new) n.ids []) }
     ensures store { tx.new.store ≡ tx.old.store }
+    ensures seed { tx.new.seed ≡ tx.old.seed }
     ensures kept { (q : Id) → is_some (⟦<Tx<S> as Blocks>⟧.holdings.content tx.new q) ≡ true → fin.get tx.new.overlay q ≡ fin.get tx.old.overlay q }
 {
     if !tx.contains(id) {

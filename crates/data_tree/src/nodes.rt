@@ -1,11 +1,9 @@
 // Nodes of a tree in the blocks of a store.
 ghost use Rattle.std.specs.FinMap as fin;
 ghost use Rattle.std.specs.Prelude.{◌≡◌, ◌+◌, ◌≤◌, ◌<◌, ◌^◌, ℕ, true, false, is_some, IfOk, IfErr, OnOk, None};
-ghost use Rattle.block_id.specs.Fresh.{IsFirstFree};
-ghost use Rattle.rand_core.specs.Stream.{fill_bytes};
 ghost use Rattle.outcome.specs.Outcome.{Outcome};
 ghost use Rattle.store_api.specs.Content.{Id, same_id};
-ghost use Rattle.store_api.specs.Holdings.{Stays, MayGet, is_free};
+ghost use Rattle.store_api.specs.Holdings.{Stays};
 ghost use Rattle.data_nodes.specs.Layout.{node_of, FitsPayload};
 ghost use Rattle.data_tree.specs.Needs.{HasNode, HasTree, SetsNode, Sets};
 ghost use Rattle.data_tree.specs.Roots.{IsRoot, IsTooDeep};
@@ -14,7 +12,6 @@ ghost use Rattle.data_tree.specs.Trees.{IsDepth, depth_in, span};
 use crate::level::{Level, depth_of, level_of};
 use block_id::{BlockId, Fail, Memory, Why};
 use data_nodes::{Node, read_node, write_node};
-use rand_core::Rng;
 use std::alloc::Global;
 use store_api::{Blocks, Tx};
 
@@ -97,13 +94,14 @@ pub fn remove<S: Blocks>(tx: &mut Tx<S>, id: &BlockId) -> Result<(), Memory>
     requires there { is_some (⟦<Tx<S> as Blocks>⟧.holdings.content tx.old id.now.0) ≡ true }
     ensures intact { ⟦<Tx<S> as Blocks>⟧.meanings.intact tx.new }
     ensures store { tx.new.store ≡ tx.old.store }
+    ensures seed { tx.new.seed ≡ tx.old.seed }
     ensures sets { OnOk result (Sets (⟦<Tx<S> as Blocks>⟧.holdings.content tx.old) (⟦<Tx<S> as Blocks>⟧.holdings.content tx.new) id.now.0 None) }
     ensures kept { (q : Id) → is_some (⟦<Tx<S> as Blocks>⟧.holdings.content tx.new q) ≡ true → fin.get tx.new.overlay q ≡ fin.get tx.old.overlay q }
 {
     tx.remove(id)
 }
 
-/// Gives a block this node.
+/// Gives a block, which is there, this node.
 pub fn put_node<S: Blocks>(
     alloc: Global,
     tx: &mut Tx<S>,
@@ -111,10 +109,11 @@ pub fn put_node<S: Blocks>(
     node: &Node,
 ) -> Result<(), Memory>
     requires intact { ⟦<Tx<S> as Blocks>⟧.meanings.intact tx.old }
-    requires id { MayGet ⟦<Tx<S> as Blocks>⟧.holdings tx.old id.now.0 }
+    requires there { is_some (⟦<Tx<S> as Blocks>⟧.holdings.content tx.old id.now.0) ≡ true }
     requires fits { FitsPayload (⟦<Tx<S> as Blocks>⟧.holdings.payload tx.old) (node_of node.now) }
     ensures intact { ⟦<Tx<S> as Blocks>⟧.meanings.intact tx.new }
     ensures store { tx.new.store ≡ tx.old.store }
+    ensures seed { tx.new.seed ≡ tx.old.seed }
     ensures sets { OnOk result (SetsNode ⟦<Tx<S> as Blocks>⟧.holdings tx.old tx.new id.now.0 (node_of node.now)) }
     ensures there { (q : Id) → is_some (⟦<Tx<S> as Blocks>⟧.holdings.content tx.old q) ≡ true → is_some (⟦<Tx<S> as Blocks>⟧.holdings.content tx.new q) ≡ true }
     ensures others { (q : Id) → same_id q id.now.0 ≡ false → fin.get tx.new.overlay q ≡ fin.get tx.old.overlay q }
@@ -125,24 +124,20 @@ pub fn put_node<S: Blocks>(
 }
 
 /// Gives a new block this node.
-pub fn put_new<S: Blocks, R: Rng>(
-    alloc: Global,
-    tx: &mut Tx<S>,
-    node: &Node,
-    chance: &mut R,
-) -> Result<BlockId, Memory>
+pub fn put_new<S: Blocks>(alloc: Global, tx: &mut Tx<S>, node: &Node) -> Result<BlockId, Memory>
     requires intact { ⟦<Tx<S> as Blocks>⟧.meanings.intact tx.old }
     requires fits { FitsPayload (⟦<Tx<S> as Blocks>⟧.holdings.payload tx.old) (node_of node.now) }
     ensures intact { ⟦<Tx<S> as Blocks>⟧.meanings.intact tx.new }
     ensures store { tx.new.store ≡ tx.old.store }
+    ensures seed { tx.new.seed ≡ tx.old.seed }
     ensures new { IfOk result (λ id. ⟦<Tx<S> as Blocks>⟧.holdings.content tx.old id.0 ≡ None) }
     ensures sets { IfOk result (λ id. SetsNode ⟦<Tx<S> as Blocks>⟧.holdings tx.old tx.new id.0 (node_of node.now)) }
-    ensures drawn { IfOk result (λ id. IsFirstFree (is_free (⟦<Tx<S> as Blocks>⟧.holdings.used tx.old)) (fill_bytes 16 (R.stream chance.old)).0 id.0) }
-    ensures stream { R.stream chance.new ≡ (fill_bytes 16 (R.stream chance.old)).1 }
     ensures there { (q : Id) → is_some (⟦<Tx<S> as Blocks>⟧.holdings.content tx.old q) ≡ true → is_some (⟦<Tx<S> as Blocks>⟧.holdings.content tx.new q) ≡ true }
     ensures kept { (q : Id) → is_some (⟦<Tx<S> as Blocks>⟧.holdings.content tx.old q) ≡ true → fin.get tx.new.overlay q ≡ fin.get tx.old.overlay q }
 {
-    let id = tx.draw(chance);
-    put_node(alloc, tx, &id, node)?;
-    Ok(id)
+    let payload = write_node(alloc, node, tx.payload())?;
+    match tx.add(payload) {
+        Ok(id) => Ok(id),
+        Err(memory) => Err(memory),
+    }
 }

@@ -2,3 +2,4 @@ pub mod Rising
 mod Overlays
 pub mod Crowds
 pub mod Draws
+pub mod Ids

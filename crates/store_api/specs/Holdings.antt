@@ -71,11 +71,6 @@ pub record FitsStore {S : Type 0} (H : Holdings S) (s : S) (changes : Changes) :
   pub gets : (id bytes : List ℕ) → get changes id ≡ Some (Some bytes) → MayGet H s id
   pub removes : (id : Id) → get changes id ≡ Some None → is_some (H.content s id) ≡ true
 
--- changes that fit a store of which so few ids are used that new ones can be drawn
-pub record Overlaid {S : Type 0} (H : Holdings S) (s : S) (changes : Changes) : Type 0 where
-  pub fits : FitsStore H s changes
-  pub few : IsFew (H.used s)
-
 -- the change is a payload
 abbrev pub gives_payload : Option (Option (List ℕ)) → Bool
 gives_payload None = false

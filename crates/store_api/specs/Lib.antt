@@ -1,6 +1,7 @@
 pub mod Content
 pub mod Draws
 pub mod Holdings
+pub mod Ids
 pub mod Durables
 pub mod Leaving
 pub mod Lists

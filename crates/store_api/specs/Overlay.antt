@@ -1,5 +1,6 @@
 -- A store seen through changes that aren't made yet.
-use Rattle.std.specs.Prelude.{◌≡◌, ◌⊎◌, ◌||◌, ◌&&◌, ℕ, Bool, true, false, cond, not, ◌++◌, List, is_some, Option, Some, None, refl, ◌≤◌, Ok}
+use Rattle.std.specs.Prelude.{◌≡◌, ◌⊎◌, ◌||◌, ◌&&◌, ℕ, Bool, true, false, cond, not, ◌++◌, List, is_some, Option, Some, None, Result, refl, ◌≤◌, Ok}
+use Rattle.block_id.specs.declared.fail.Fail.{Fail}
 use Rattle.std.proofs.Common.{sym, ◌∙◌, ap, subst, inl, inr}
 use Rattle.std.specs.FinMap as fin
 use Rattle.std.specs.FinMap.{contains_key-keys}
@@ -7,18 +8,33 @@ use Rattle.std.proofs.lemmas.List.Folds.{list_any-append}
 use Rattle.std.proofs.lemmas.Bool.{or_right, or_parts}
 use Rattle.block_id.specs.Fresh.{zero_id}
 use Rattle.outcome.specs.Meanings.{Meanings, Lawful}
-use Rattle.outcome.specs.Lift.{lift, lawful}
 use Rattle.outcome.specs.Outcome.{Outcome}
 use Rattle.store_api.specs.Content.{Id, same_id, Changes, or_else, over}
-use Rattle.store_api.specs.Holdings.{Holdings, Steady, FitsStore, Overlaid, has_id}
+use Rattle.store_api.specs.Holdings.{Holdings, Steady, FitsStore, IsFew, has_id}
+use Rattle.store_api.specs.Ids.{ComeOfSeed, Drawn}
 
 -- the changes with the removal of an id: an id that the store doesn't know is forgotten
 abbrev pub without : List Id → Changes → Id → Changes
 without used changes id = cond (has_id used id) (fin.insert changes id None) (fin.remove changes id)
 
--- f is the store below, and g are the changes over it
-abbrev pub meanings_over : {A B : Type 0} → (A → B) → (A → Changes) → Meanings B → Holdings B → Meanings A
-meanings_over f g M H = lift f (λ a. Overlaid H (f a) (g a)) M
+-- Changes that fit a store of which so few ids are used that new ones can be drawn. Each new id among them was drawn.
+pub record Overlaid {S : Type 0} (H : Holdings S) (s : S) (changes : Changes) (drawn : Drawn) : Type 0 where
+  pub fits : FitsStore H s changes
+  pub few : IsFew (H.used s)
+  pub ids : ComeOfSeed drawn.seed drawn.left (H.used s) changes
+
+-- f is the store below, g are the changes over it, and d is what draws their new ids: while blocks are loaded its seed stays
+abbrev pub meanings_over : {A B : Type 0} → (A → B) → (A → Changes) → (A → Drawn) → Meanings B → Holdings B → Meanings A
+meanings_over f g d M H = record {
+  intact = λ a. M.intact (f a) × Overlaid H (f a) (g a) (d a);
+  sound = λ a. M.sound (f a);
+  forgeries = λ a. M.forgeries (f a);
+  lies = λ a. M.lies (f a);
+  faults = λ a. M.faults (f a);
+  loaded = λ a b. M.loaded (f a) (f b) × ((d b).seed ≡ (d a).seed);
+  met = λ a b why. M.met (f a) (f b) why;
+  gave = λ a b why. M.gave (f a) (f b) why;
+}
 
 abbrev pub holdings_over : {A B : Type 0} → (A → B) → (A → Changes) → Holdings B → Holdings A
 holdings_over f g H = record {
@@ -30,8 +46,25 @@ holdings_over f g H = record {
   payload = λ a. H.payload (f a);
 }
 
-pub lawful_over : {A B : Type 0} (f : A → B) (g : A → Changes) (M : Meanings B) (H : Holdings B) → Lawful M → Lawful (meanings_over f g M H)
-lawful_over f g M H l = lawful f (λ a. Overlaid H (f a) (g a)) M l
+pub lawful_over : {A B : Type 0} (f : A → B) (g : A → Changes) (d : A → Drawn) (M : Meanings B) (H : Holdings B) → Lawful M → Lawful (meanings_over f g d M H)
+lawful_over f g d M H l = record {
+  same = λ a. (l.same (f a), refl);
+  onward = λ a b c x y. (l.onward (f a) (f b) (f c) x.0 y.0, y.1 ∙ x.1);
+  met_before = λ a b c why x y. l.met_before (f a) (f b) (f c) why x.0 y.0;
+  met_after = λ a b c why x y. l.met_after (f a) (f b) (f c) why x.0 y.0;
+  forgeries_grow = λ a b x. l.forgeries_grow (f a) (f b) x.0;
+  lies_grow = λ a b x. l.lies_grow (f a) (f b) x.0;
+  faults_grow = λ a b x. l.faults_grow (f a) (f b) x.0;
+  honest_unforged = λ a b x. l.honest_unforged (f a) (f b) x.0;
+  honest_unmet = λ a b why x. l.honest_unmet (f a) (f b) why x.0;
+  gave_same = λ a. l.gave_same (f a);
+  gave_split = λ a b c why x y. l.gave_split (f a) (f b) (f c) why x.0 y.0;
+}
+
+-- a call of the store below is one of this, which leaves the seed
+pub called_over : {A B : Type 0} (f : A → B) (g : A → Changes) (d : A → Drawn) {M : Meanings B} (H : Holdings B) {T : Type 0} {N : Type 0} {P : N → T → Type 0} {r : Result T Fail} (a b : A)
+    → Overlaid H (f b) (g b) (d b) → (d b).seed ≡ (d a).seed → Outcome M N (f a) (f b) r P → Outcome (meanings_over f g d M H) N a b r P
+called_over f g d H a b kept seeded o = record { intact = (o.intact, kept); loaded = (o.loaded, seeded); sound = o.sound; met = o.met; fault = o.fault; quiet = o.quiet; noticed = o.noticed; value = o.value; structure = o.structure }
 
 -- an id is used in the changes or in the store
 pub has_id-over : (changes : Changes) (used : List Id) (id : Id) → has_id (fin.keys changes ++ used) id ≡ (is_some (fin.get changes id) || has_id used id)
@@ -58,8 +91,8 @@ sized_over : (o : Option (Option (List ℕ))) (c : Option (List ℕ)) (bytes : L
 sized_over None c bytes e = inr (refl, e)
 sized_over (Some change) c bytes e = inl (ap Some e)
 
-pub steady_over : {A B : Type 0} (f : A → B) (g : A → Changes) (M : Meanings B) (H : Holdings B) → Steady M H → Steady (meanings_over f g M H) (holdings_over f g H)
-steady_over f g M H st = record {
+pub steady_over : {A B : Type 0} (f : A → B) (g : A → Changes) (d : A → Drawn) (M : Meanings B) (H : Holdings B) → Steady M H → Steady (meanings_over f g d M H) (holdings_over f g H)
+steady_over f g d M H st = record {
   sound_told = λ a s. st.sound_told (f a) s;
   at_least = λ a i. st.at_least (f a) i.0;
   at_most = λ a i. st.at_most (f a) i.0;
@@ -74,21 +107,22 @@ steady_over f g M H st = record {
   spent_last = λ a id i. st.spent_last (f a) id i.0;
   last_spent = λ a id i. st.last_spent (f a) id i.0;
   unused_version = λ a id i h. st.unused_version (f a) id i.0 (or_parts (is_some (fin.get (g a) id)) (has_id (H.used (f a)) id) (sym (has_id-over (g a) (H.used (f a)) id) ∙ h)).1;
-  loaded_payload = λ a b. st.loaded_payload (f a) (f b);
-  loaded_version = λ a b id. st.loaded_version (f a) (f b) id;
+  loaded_payload = λ a b x. st.loaded_payload (f a) (f b) x.0;
+  loaded_version = λ a b id x. st.loaded_version (f a) (f b) id x.0;
 }
 
 -- a call, and a change of the changes alone
-pub changed_over : {A B : Type 0} (f : A → B) (g : A → Changes) (M : Meanings B) (H : Holdings B) {T U N : Type 0} {x : T} {y : U} {P : N → T → Type 0} {Q : N → U → Type 0} (a c d : A)
-    → f d ≡ f c → M.intact (f d) × Overlaid H (f d) (g d) → Outcome (meanings_over f g M H) N a c (Ok x) P → ((n : N) → P n x → Q n y) → Outcome (meanings_over f g M H) N a d (Ok y) Q
-changed_over f g M H a c d same intact o into = record {
+pub changed_over : {A B : Type 0} (f : A → B) (g : A → Changes) (d : A → Drawn) (M : Meanings B) (H : Holdings B) {T U N : Type 0} {x : T} {y : U} {P : N → T → Type 0} {Q : N → U → Type 0} (a c b : A)
+    → f b ≡ f c → (d b).seed ≡ (d c).seed → M.intact (f b) × Overlaid H (f b) (g b) (d b) → Outcome (meanings_over f g d M H) N a c (Ok x) P → ((n : N) → P n x → Q n y)
+    → Outcome (meanings_over f g d M H) N a b (Ok y) Q
+changed_over f g d M H a c b same seeded intact o into = record {
   intact = intact;
-  loaded = subst (M.loaded (f a)) (sym same) o.loaded;
-  sound = λ s h. subst M.sound (sym same) (o.sound s (subst (λ b. M.forgeries b ≤ M.forgeries (f a)) same h));
+  loaded = (subst (M.loaded (f a)) (sym same) o.loaded.0, seeded ∙ o.loaded.1);
+  sound = λ s h. subst M.sound (sym same) (o.sound s (subst (λ s. M.forgeries s ≤ M.forgeries (f a)) same h));
   met = tt;
   fault = tt;
-  quiet = ap (λ b. M.faults b) same ∙ o.quiet;
-  noticed = λ why g. o.noticed why (subst (λ b. M.gave (f a) b why) same g);
-  value = λ n s h. into n (o.value n s (subst (λ b. M.forgeries b ≤ M.forgeries (f a)) same h));
+  quiet = ap (λ s. M.faults s) same ∙ o.quiet;
+  noticed = λ why given. o.noticed why (subst (λ s. M.gave (f a) s why) same given);
+  value = λ n s h. into n (o.value n s (subst (λ s. M.forgeries s ≤ M.forgeries (f a)) same h));
   structure = λ n s h. tt;
 }

@@ -5,38 +5,57 @@ ghost use Rattle.outcome.specs.Meanings.{IsOfBlocks};
 ghost use Rattle.outcome.specs.Outcome.{Outcome};
 ghost use Rattle.std.specs.declared.result.Result.TheVariants.{Err};
 ghost use Rattle.std.specs.FinMap as fin;
-ghost use Rattle.rand_core.specs.Stream.{fill_bytes};
-ghost use Rattle.block_id.specs.Fresh.{IsFirstFree};
 ghost use Rattle.store_api.specs.Draws.{IsLater};
-ghost use Rattle.store_api.specs.Holdings.{FitsStore, Changed, MayGet, IsFew, IsSpent, Stays, is_free};
+ghost use Rattle.store_api.specs.Holdings.{FitsStore, Changed, IsFew, IsSpent, Stays, is_free};
+ghost use Rattle.store_api.specs.Ids.{stream_left};
 ghost use Rattle.store_api.specs.Loads.{LoadsOver, loads_over, answer_of};
 ghost use Rattle.store_api.specs.Overlay.{without, meanings_over, holdings_over, lawful_over, steady_over};
 
 use crate::fresh::first_free;
 use crate::{ApplyError, BatchChange, Blocks, BlocksMut, Draft};
 use block_id::{BlockId, Fail, Memory};
-use rand_core::Rng;
+use rand_chacha::ChaCha20Rng;
+use rand_core::{Rng, SeedableRng};
 use std::alloc::Global;
 
-/// Changes over a store that it owns.
+/// Changes over a store that it owns, with a generator of its own for new ids, ChaCha20 of a seed.
 pub struct Tx<S> {
     pub store: S,
     overlay: Draft,
+    seed: [u8; 32],
+    ids: ChaCha20Rng,
 }
 
 impl<S: Blocks> Tx<S> {
-    /// No changes over this store.
-    pub fn new(alloc: Global, store: S) -> Tx<S>
+    /// No changes over this store. New ids come of this seed.
+    pub fn new(alloc: Global, store: S, seed: [u8; 32]) -> Tx<S>
         requires intact { S.meanings.intact store }
         requires few { IsFew (S.holdings.used store) }
         ensures intact { ⟦<Tx<S> as Blocks>⟧.meanings.intact result }
         ensures store { result.store ≡ store }
         ensures overlay { result.overlay ≡ fin.empty }
+        ensures seed { result.seed ≡ seed }
     {
         Tx {
             store,
             overlay: Draft::new(alloc),
+            seed,
+            ids: ChaCha20Rng::from_seed(seed),
         }
+    }
+
+    /// Forgets the changes. New ids come of this seed from now on.
+    pub fn begin(&mut self, seed: [u8; 32])
+        requires intact { S.meanings.intact self.old.store }
+        requires few { IsFew (S.holdings.used self.old.store) }
+        ensures intact { ⟦<Tx<S> as Blocks>⟧.meanings.intact self.new }
+        ensures store { self.new.store ≡ self.old.store }
+        ensures overlay { self.new.overlay ≡ fin.empty }
+        ensures seed { self.new.seed ≡ seed }
+    {
+        self.overlay.clear();
+        self.seed = seed;
+        self.ids = ChaCha20Rng::from_seed(seed);
     }
 
     /// The changes over the store. An id that was new in them and was removed again has none.
@@ -46,13 +65,14 @@ impl<S: Blocks> Tx<S> {
         &self.overlay
     }
 
-    /// Has the id get this payload.
+    /// Has the id, which is in the content, get this payload.
     pub fn put(&mut self, id: &BlockId, payload: Vec<u8>) -> Result<(), Memory>
         requires intact { ⟦<Tx<S> as Blocks>⟧.meanings.intact self.old }
         requires sized { length payload.items ≡ S.holdings.payload self.old.store }
-        requires id { MayGet ⟦<Tx<S> as Blocks>⟧.holdings self.old id.now.0 }
+        requires there { is_some (⟦<Tx<S> as Blocks>⟧.holdings.content self.old id.now.0) ≡ true }
         ensures intact { ⟦<Tx<S> as Blocks>⟧.meanings.intact self.new }
         ensures store { self.new.store ≡ self.old.store }
+        ensures seed { self.new.seed ≡ self.old.seed }
         ensures ok { OnOk result (self.new.overlay ≡ fin.insert self.old.overlay id.now.0 (Some payload.items)) }
         ensures err { OnErr result (self.new.overlay ≡ self.old.overlay) }
     {
@@ -65,6 +85,7 @@ impl<S: Blocks> Tx<S> {
         requires there { is_some (⟦<Tx<S> as Blocks>⟧.holdings.content self.old id.now.0) ≡ true }
         ensures intact { ⟦<Tx<S> as Blocks>⟧.meanings.intact self.new }
         ensures store { self.new.store ≡ self.old.store }
+        ensures seed { self.new.seed ≡ self.old.seed }
         ensures ok { OnOk result (self.new.overlay ≡ without (S.holdings.used self.old.store) self.old.overlay id.now.0) }
         ensures err { OnErr result (self.new.overlay ≡ self.old.overlay) }
     {
@@ -75,20 +96,26 @@ impl<S: Blocks> Tx<S> {
         Ok(())
     }
 
-    /// A new id: 16 random bytes, or the first id after them that is neither zero nor used, in the changes or in
-    /// the store.
-    pub fn draw<R: Rng>(&mut self, chance: &mut R) -> BlockId
-        requires { ⟦<Tx<S> as Blocks>⟧.meanings.intact self.old }
+    /// Has a new id get this payload: 16 bytes of the generator, or the first id after them that is neither zero nor
+    /// used, in the changes or in the store.
+    pub fn add(&mut self, payload: Vec<u8>) -> Result<BlockId, Memory>
+        requires intact { ⟦<Tx<S> as Blocks>⟧.meanings.intact self.old }
+        requires sized { length payload.items ≡ S.holdings.payload self.old.store }
         ensures intact { ⟦<Tx<S> as Blocks>⟧.meanings.intact self.new }
         ensures store { self.new.store ≡ self.old.store }
-        ensures overlay { self.new.overlay ≡ self.old.overlay }
-        ensures id { IsFirstFree (is_free (⟦<Tx<S> as Blocks>⟧.holdings.used self.old)) (fill_bytes 16 (R.stream chance.old)).0 result.0 }
-        ensures stream { R.stream chance.new ≡ (fill_bytes 16 (R.stream chance.old)).1 }
+        ensures seed { self.new.seed ≡ self.old.seed }
+        ensures free { IfOk result (λ id. is_free (⟦<Tx<S> as Blocks>⟧.holdings.used self.old) id.0 ≡ true) }
+        ensures ok { IfOk result (λ id. self.new.overlay ≡ fin.insert self.old.overlay id.0 (Some payload.items)) }
+        ensures err { OnErr result (self.new.overlay ≡ self.old.overlay) }
     {
         let mut drawn = [0; 16];
-        chance.fill_bytes(&mut drawn);
+        self.ids.fill_bytes(&mut drawn);
         let _count = self.overlay.len();
-        first_free(&self.store, &self.overlay, BlockId(drawn))
+        let id = first_free(&self.store, &self.overlay, BlockId(drawn));
+        match self.overlay.put(&id, payload) {
+            Ok(()) => Ok(id),
+            Err(memory) => Err(memory),
+        }
     }
 
     /// Applies the changes to the store. After an error they are as before.
@@ -97,6 +124,7 @@ impl<S: Blocks> Tx<S> {
         S: BlocksMut,
         requires { ⟦<Tx<S> as Blocks>⟧.meanings.intact self.old }
         ensures intact { ⟦<Tx<S> as Blocks>⟧.meanings.intact self.new }
+        ensures seed { self.new.seed ≡ self.old.seed }
         ensures changed { OnOk result (Changed S.Blocks.meanings S.Blocks.holdings self.old.store self.new.store self.old.overlay) }
         ensures applied { OnOk result (S.applied self.old.store self.new.store self.old.overlay) }
         ensures drawn { OnOk result (S.drawn self.old.store self.new.store self.old.overlay (R.stream chance.old) (R.stream chance.new)) }
@@ -126,6 +154,7 @@ impl<S: Blocks> Tx<S> {
         requires { ⟦<Tx<S> as Blocks>⟧.meanings.intact self.old }
         ensures intact { ⟦<Tx<S> as Blocks>⟧.meanings.intact self.new }
         ensures store { self.new.store ≡ self.old.store }
+        ensures seed { self.new.seed ≡ self.old.seed }
         ensures overlay { self.new.overlay ≡ fin.empty }
     {
         self.overlay.clear();
@@ -135,14 +164,20 @@ impl<S: Blocks> Tx<S> {
     pub fn into_store(self) -> S
         ensures { result ≡ self.store }
     {
-        let Tx { store, overlay } = self;
+        let Tx {
+            store,
+            overlay,
+            seed: _,
+            ids,
+        } = self;
         drop(overlay);
+        drop(ids);
         store
     }
 }
 
 impl<S: Blocks> Blocks for Tx<S> {
-    ghost meanings = { meanings_over (λ t. t.store) (λ t. t.overlay) S.meanings S.holdings };
+    ghost meanings = { meanings_over (λ t. t.store) (λ t. t.overlay) (λ t. record { seed = t.seed; left = stream_left t.ids }) S.meanings S.holdings };
 
     ghost holdings = { holdings_over (λ t. t.store) (λ t. t.overlay) S.holdings };
 
@@ -158,6 +193,7 @@ impl<S: Blocks> Blocks for Tx<S> {
         ensures loads { LoadsOver S.loads (fin.get self.old.overlay id.now.0) self.old.store self.new.store id.now.0 (answer_of result) }
 
         ensures overlay { self.new.overlay ≡ self.old.overlay }
+        ensures seed { self.new.seed ≡ self.old.seed }
         ensures below { Stays S.holdings self.old.store self.new.store }
     {
         match self.overlay.get(id) {
@@ -187,7 +223,7 @@ impl<S: Blocks> Blocks for Tx<S> {
         self.store.payload()
     }
 
-    ghost lawful = { lawful_over (λ t. t.store) (λ t. t.overlay) S.meanings S.holdings S.lawful };
+    ghost lawful = { lawful_over (λ t. t.store) (λ t. t.overlay) (λ t. record { seed = t.seed; left = stream_left t.ids }) S.meanings S.holdings S.lawful };
 
-    ghost steady = { steady_over (λ t. t.store) (λ t. t.overlay) S.meanings S.holdings S.steady };
+    ghost steady = { steady_over (λ t. t.store) (λ t. t.overlay) (λ t. record { seed = t.seed; left = stream_left t.ids }) S.meanings S.holdings S.steady };
 }

@@ -29,6 +29,7 @@ build_children-loop-rest-init g t c =
     record {
       intact = c.requires.intact;
       store = refl;
+      seed = refl;
       built = subst (λ (xs : List BlockId). BuildRest H a a c.args.level.depth (ids_of xs) w w) (sym c.new-children.ensures.items) (build_start w);
       there = λ q h. h;
       kept = λ q h. refl;
@@ -56,6 +57,7 @@ build_children-loop-rest-preserved g t c =
     record {
       intact = c.new_below.ensures.intact;
       store = c.new_below.ensures.store ∙ inv.store;
+      seed = c.new_below.ensures.seed ∙ inv.seed;
       built = subst (λ cs. BuildRest H a b depth cs after c.args.bytes.now) (sym ids)
           (build_next c.in-Ok.id.0 piece after inv.built cut (omega (arith, cut_len, some, c.requires.room)) (omega (arith, cut_len, sized)) (λ more. omega (arith, cut_len, sized, len, more)) (keeps_same g.S.Blocks.holdings c.loop-rest.tx b c.new_below.ensures.store) c.in-Ok.ensures.built);
       there = λ q h. c.new_below.ensures.there q (inv.there q h);
@@ -108,10 +110,10 @@ build-build_children-requires g t c κs within =
     let least = g.met.S.Blocks.steady.at_least c.args.tx.now.store c.requires.intact.0 in
     let some : 0 < below.room = omega (arith, span-some (g.S.Blocks.holdings.payload c.args.tx.now.store) below.depth least, level) in
     let fits = subst (λ n. length c.args.bytes.now ≤ n) (sym c.below-below.ensures.all ∙ ap (λ p. fan_out p * below.room) long) c.requires.fits in
-    (search rules, (within.0, (within.1, (c.requires.intact, (level, (some, fits))))))
+    (search rules, (within, (c.requires.intact, (level, (some, fits)))))
 
 pub new_below-build-requires : goal.new_below-build-requires
-new_below-build-requires g t c κs within = (search rules, (within.0, (within.1, (c.requires.intact, (c.requires.level, (c.requires.fits, c.requires.some))))))
+new_below-build-requires g t c κs within = (search rules, (within, (c.requires.intact, (c.requires.level, (c.requires.fits, c.requires.some)))))
 
 pub build_children-new_below-requires : goal.build_children-new_below-requires
 build_children-new_below-requires g t c κs within =
@@ -119,7 +121,7 @@ build_children-new_below-requires g t c κs within =
     let some : 0 < length c.loop-rest.rest.now = not_zero (length c.loop-rest.rest.now) c.loop-rest-test.ensures in
     let cut : length c.split_at.result.0.now ≡ min c.args.level.room (length c.loop-rest.rest.now) = c.split_at.ensures.front_len ∙ c.min.ensures in
     let level = c.requires.level ∙ ap (λ s. span (g.S.Blocks.holdings.payload s) c.args.level.depth) (sym inv.store) in
-    (search rules, (within.0, (within.1, (inv.intact, (level, (omega (arith, cut), λ deep. omega (arith, cut, some, c.requires.room)))))))
+    (search rules, (within, (inv.intact, (level, (omega (arith, cut), λ deep. omega (arith, cut, some, c.requires.room))))))
 
 pub build-below-below-requires-clause-payload : goal.build-below-below-requires-clause-payload
 build-below-below-requires-clause-payload g t c = omega (arith, g.met.S.Blocks.steady.at_least c.args.tx.now.store c.requires.intact.0, c.payload.ensures)

@@ -20,6 +20,7 @@ abbrev pub invariant-build_children-loop-rest : goal.invariant-build_children-lo
 invariant-build_children-loop-rest g l = record {
   intact : (tx_meanings g.S.Blocks.meanings g.S.Blocks.holdings).intact l.tx;
   store : l.tx.store ≡ l.initial.tx.store;
+  seed : l.tx.seed ≡ l.initial.tx.seed;
   built : BuildRest (tx_holdings g.S.Blocks.holdings) l.initial.tx l.tx l.level.depth (ids_of l.children.items) l.rest l.initial.rest;
   there : (q : Id) → is_some ((tx_holdings g.S.Blocks.holdings).content l.initial.tx q) ≡ true → is_some ((tx_holdings g.S.Blocks.holdings).content l.tx q) ≡ true;
   kept : (q : Id) → is_some ((tx_holdings g.S.Blocks.holdings).content l.initial.tx q) ≡ true → get l.tx.overlay q ≡ get l.initial.tx.overlay q;

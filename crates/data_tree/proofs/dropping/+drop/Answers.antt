@@ -29,13 +29,13 @@ drop_below-returns-in-Ok-remove-clause-outcome g t c =
     let d = c.remove.new.tx in
     let id = c.args.id.now.0 in
     let stays = c.load_at.ensures.stays in
-    let two = changed_ g.S.Blocks.meanings g.S.Blocks.holdings {R = λ n. (node_of c.in-Ok.node ≡ n.tree.node) × Sets (H.content b) (H.content d) id None} c.args.tx.now b d c.remove.ensures.store c.remove.ensures.intact c.in-Ok.ensures.outcome (λ n p. (p, c.in-Ok-remove.ensures.sets)) in
+    let two = changed_ g.S.Blocks.meanings g.S.Blocks.holdings {R = λ n. (node_of c.in-Ok.node ≡ n.tree.node) × Sets (H.content b) (H.content d) id None} c.args.tx.now b d c.remove.ensures.store c.remove.ensures.seed c.remove.ensures.intact c.in-Ok.ensures.outcome (λ n p. (p, c.in-Ok-remove.ensures.sets)) in
     then_ laws two (λ n r. below_changed (below_on stays (below_of (node_of c.in-Ok.node) n r.0)) (root_apart n) (keeps_same g.S.Blocks.holdings b d c.remove.ensures.store) r.1) c.drop_in.ensures.outcome
     (λ n r y k. drops_tree (H.content a) (H.content b) (H.content d) (H.content c.drop_in.new.tx) id n.tree.below n.ids (stays.content n.told) r.1 n.tree.all k)
 
 pub drop_below-returns-clause-outcome : goal.drop_below-returns-clause-outcome
 drop_below-returns-clause-outcome g t c =
-    no_memory (changed_ g.S.Blocks.meanings g.S.Blocks.holdings {R = λ n. Unit {0}} c.args.tx.now c.load_at.new.tx c.remove.new.tx c.remove.ensures.store c.remove.ensures.intact c.in-Ok.ensures.outcome (λ n p. tt))
+    no_memory (changed_ g.S.Blocks.meanings g.S.Blocks.holdings {R = λ n. Unit {0}} c.args.tx.now c.load_at.new.tx c.remove.new.tx c.remove.ensures.store c.remove.ensures.seed c.remove.ensures.intact c.in-Ok.ensures.outcome (λ n p. tt))
 
 pub drop_in-returns-in-Leaf-clause-outcome : goal.drop_in-returns-in-Leaf-clause-outcome
 drop_in-returns-in-Leaf-clause-outcome g t c =

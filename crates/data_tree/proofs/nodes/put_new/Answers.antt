@@ -1,28 +1,45 @@
-use Rattle.std.proofs.Common.{◌∙◌, ap}
+use Rattle.std.proofs.Common.{◌≡◌, ◌∙◌, ap, false}
+use Rattle.std.specs.Prelude.{Some, Ok}
 use Rattle.std.specs.FinMap.{get}
+use Rattle.store_api.specs.Content.{same_id}
 use Rattle.store_api.specs.Overlay.{steady_over}
-use Rattle.data_tree.proofs.Loads.{store_in, changes_in, tx_holdings}
+use Rattle.data_tree.proofs.Changes.{there_put}
+use Rattle.data_tree.proofs.Loads.{store_in, changes_in, drawn_in, tx_holdings}
 use Rattle.data_tree.proofs.Making.{free_none}
-use Rattle.data_tree.proofs.Puts.{not_new}
+use Rattle.data_tree.proofs.Puts.{not_new, others_then, put_sets, there_left}
 use Rattle.data_tree.proofs.nodes.put_new.Goals as goal
 
-pub returns-clause-new : goal.returns-clause-new
-returns-clause-new g c =
+pub returns-in-Ok-clause-new : goal.returns-in-Ok-clause-new
+returns-in-Ok-clause-new g c =
     let H = tx_holdings g.S.Blocks.holdings in
     let a = c.args.tx.now in
-    let id = c.draw-id.result.0 in
-    let steady = steady_over store_in changes_in g.S.Blocks.meanings g.S.Blocks.holdings g.met.S.Blocks.steady in
-    free_none (H.used a) (H.content a) id (λ there. steady.content_used a id c.requires.intact there) c.draw-id.ensures.id.free
+    let id = c.in-Ok.id.0 in
+    let steady = steady_over store_in changes_in drawn_in g.S.Blocks.meanings g.S.Blocks.holdings g.met.S.Blocks.steady in
+    free_none (H.used a) (H.content a) id (λ there. steady.content_used a id c.requires.intact there) c.in-Ok.ensures.free
 
-pub returns-clause-kept : goal.returns-clause-kept
-returns-clause-kept g c q there =
-    c.put_node.ensures.others q (not_new ((tx_holdings g.S.Blocks.holdings).content c.args.tx.now) c.draw-id.result.0 q (returns-clause-new g c) there) ∙ ap (λ m. get m q) c.draw-id.ensures.overlay
+pub returns-in-Ok-clause-sets : goal.returns-in-Ok-clause-sets
+returns-in-Ok-clause-sets g c =
+    let text = c.in_ok-payload.payload.items in
+    (text, (c.in_ok-payload.ensures.node, (c.in_ok-payload.ensures.len ∙ c.payload.ensures, put_sets g.S.Blocks.holdings c.args.tx.now c.add.new.self c.in-Ok.id.0 (Some text) c.add.ensures.store c.in-Ok.ensures.ok)))
 
-pub returns-in_err-put_node-clause-kept : goal.returns-in_err-put_node-clause-kept
-returns-in_err-put_node-clause-kept g c q there =
+pub returns-in-Ok-clause-there : goal.returns-in-Ok-clause-there
+returns-in-Ok-clause-there g c q h =
     let H = tx_holdings g.S.Blocks.holdings in
     let a = c.args.tx.now in
-    let id = c.draw-id.result.0 in
-    let steady = steady_over store_in changes_in g.S.Blocks.meanings g.S.Blocks.holdings g.met.S.Blocks.steady in
-    let none = free_none (H.used a) (H.content a) id (λ there. steady.content_used a id c.requires.intact there) c.draw-id.ensures.id.free in
-    c.put_node.ensures.others q (not_new (H.content a) id q none there) ∙ ap (λ m. get m q) c.draw-id.ensures.overlay
+    let d = c.add.new.self in
+    let text = c.in_ok-payload.payload.items in
+    there_put (H.content a) (H.content d) c.in-Ok.id.0 text (put_sets g.S.Blocks.holdings a d c.in-Ok.id.0 (Some text) c.add.ensures.store c.in-Ok.ensures.ok) q h
+
+pub returns-in-Ok-clause-kept : goal.returns-in-Ok-clause-kept
+returns-in-Ok-clause-kept g c q there =
+    let H = tx_holdings g.S.Blocks.holdings in
+    let a = c.args.tx.now in
+    let id = c.in-Ok.id.0 in
+    let differs : same_id q id ≡ false = not_new (H.content a) id q (returns-in-Ok-clause-new g c) there in
+    others_then {T = Unit {0}} {E = Unit {0}} a.overlay c.add.new.self.overlay id (Some c.in_ok-payload.payload.items) (Ok tt) c.in-Ok.ensures.ok tt q differs
+
+pub returns-in-Err-clause-there : goal.returns-in-Err-clause-there
+returns-in-Err-clause-there g c = there_left g.S.Blocks.holdings c.args.tx.now c.add.new.self c.add.ensures.store c.in-Err.ensures.err
+
+pub returns-in-Err-clause-kept : goal.returns-in-Err-clause-kept
+returns-in-Err-clause-kept g c q there = ap (λ m. get m q) c.in-Err.ensures.err
