@@ -7,12 +7,12 @@ ghost use Rattle.outside.specs.View.{bytes_of};
 ghost use Rattle.outcome.specs.Meanings.{IsOfBlocks};
 ghost use Rattle.outcome.specs.Outcome.{Outcome};
 ghost use Rattle.lru.specs.LruCache.{lru_cache};
+ghost use Rattle.store_api.specs.Applying.{Applies, AppliesNone, KeepsCounts};
 ghost use Rattle.store_api.specs.Content.{Id};
-ghost use Rattle.store_api.specs.Draws.{IsLater};
 ghost use Rattle.store_api.specs.Leaving.{StaysMeant, WritesList, WrittenRecords, ListsConfig, ConfigRecords, SetsLeast};
 ghost use Rattle.store_api.specs.Lists.{MayConfigure};
 ghost use Rattle.store_api.specs.Durables.{MayBeLeast};
-ghost use Rattle.store_api.specs.Holdings.{FitsStore, Changed, IsSpent, Stays};
+ghost use Rattle.store_api.specs.Holdings.{FitsStore, IsSpent, Stays};
 ghost use Rattle.store_api.specs.Loads.{answer_of};
 ghost use Rattle.block_cache.specs.Payloads.{AfterLoad, Renewed, cached_for};
 ghost use Rattle.block_cache.specs.Through.{LoadsPast, meanings_past, holdings_past, loads_past, durables_past, lawful_past, steady_past, stays_past, enduring_past};
@@ -150,17 +150,10 @@ impl<S: BlocksMut> BlocksMut for BlockCache<S> {
         requires intact { ⟦<BlockCache<S> as Blocks>⟧.meanings.intact self.old }
         requires fits { FitsStore ⟦<BlockCache<S> as Blocks>⟧.holdings self.old batch.now }
         ensures intact { ⟦<BlockCache<S> as Blocks>⟧.meanings.intact self.new }
-        ensures changed { OnOk result (Changed ⟦<BlockCache<S> as Blocks>⟧.meanings ⟦<BlockCache<S> as Blocks>⟧.holdings self.old self.new batch.now) }
-        ensures applied { OnOk result (S.applied self.old.store self.new.store batch.now) }
-        ensures drawn { OnOk result (S.drawn self.old.store self.new.store batch.now (R.stream chance.old) (R.stream chance.new)) }
-        ensures later { OnErr result (IsLater (R.stream chance.old) (R.stream chance.new)) }
-        ensures nothing { OnErr result (S.applied self.old.store self.new.store fin.empty) }
-        ensures forgeries { ⟦<BlockCache<S> as Blocks>⟧.meanings.forgeries self.new ≡ ⟦<BlockCache<S> as Blocks>⟧.meanings.forgeries self.old }
-        ensures lies { ⟦<BlockCache<S> as Blocks>⟧.meanings.lies self.new ≡ ⟦<BlockCache<S> as Blocks>⟧.meanings.lies self.old }
-        ensures faults { ⟦<BlockCache<S> as Blocks>⟧.meanings.faults self.new ≡ ⟦<BlockCache<S> as Blocks>⟧.meanings.faults self.old }
+        ensures ok { OnOk result (Applies ⟦<BlockCache<S> as Blocks>⟧.meanings ⟦<BlockCache<S> as Blocks>⟧.holdings (λ a b changes. S.applied a.store b.store changes) (λ a b changes stream left. S.drawn a.store b.store changes stream left) self.old self.new batch.now (R.stream chance.old) (R.stream chance.new)) }
+        ensures err { OnErr result (AppliesNone ⟦<BlockCache<S> as Blocks>⟧.meanings (λ a b changes. S.applied a.store b.store changes) self.old self.new (R.stream chance.old) (R.stream chance.new)) }
+        ensures counts { KeepsCounts ⟦<BlockCache<S> as Blocks>⟧.meanings self.old self.new }
         ensures spent { (result ≡ Err ApplyError.Spent) ↔ IsSpent ⟦<BlockCache<S> as Blocks>⟧.holdings self.old batch.now }
-        ensures loaded { OnErr result (⟦<BlockCache<S> as Blocks>⟧.meanings.loaded self.old self.new) }
-        ensures sound { OnErr result (⟦<BlockCache<S> as Blocks>⟧.meanings.sound self.old → ⟦<BlockCache<S> as Blocks>⟧.meanings.sound self.new) }
 
         ensures renewed { OnOk result ((id : Id) → Renewed (fin.get batch.now id) (cached_for self.old.cached id) (cached_for self.new.cached id)) }
         ensures kept { OnErr result (self.new.cached ≡ self.old.cached) }

@@ -2,11 +2,11 @@
 ghost use Rattle.std.specs.Prelude.{◌≡◌, ◌≤◌, ◌<◌, ◌^◌, ◌↔◌, length, OnOk, OnErr};
 ghost use Rattle.std.specs.declared.result.Result.TheVariants.{Err};
 ghost use Rattle.std.specs.List.{AllByRecursion};
-ghost use Rattle.std.specs.FinMap as fin;
 ghost use Rattle.sealed_store.specs.Stores.{IsIntact, block_size_of, key_of, cipher_of};
 ghost use Rattle.block_batch.specs.Entries.{entries_of};
+ghost use Rattle.store_api.specs.Applying.{Applies, AppliesNone, KeepsCounts};
 ghost use Rattle.store_api.specs.Draws.{IsLater};
-ghost use Rattle.store_api.specs.Holdings.{FitsStore, Changed, IsSpent};
+ghost use Rattle.store_api.specs.Holdings.{FitsStore, IsSpent};
 ghost use Rattle.batch_sealing.specs.Applied.{applied_by};
 ghost use Rattle.batch_sealing.specs.Draws.{AreDrawn};
 ghost use Rattle.batch_sealing.specs.Raising.{count_new_in};
@@ -65,17 +65,13 @@ impl<V: Vault, C: Sealer> BlocksMut for IntegrityStore<V, C> {
         requires intact { ⟦<IntegrityStore<V, C> as Blocks>⟧.meanings.intact self.old }
         requires fits { FitsStore ⟦<IntegrityStore<V, C> as Blocks>⟧.holdings self.old batch.now }
         ensures intact { ⟦<IntegrityStore<V, C> as Blocks>⟧.meanings.intact self.new }
-        ensures changed { OnOk result (Changed ⟦<IntegrityStore<V, C> as Blocks>⟧.meanings ⟦<IntegrityStore<V, C> as Blocks>⟧.holdings self.old self.new batch.now) }
-        ensures applied { OnOk result (applied_by (held_by C.opens) (λ s. V.trace s.sealed.vault.vault) self.old self.new batch.now) }
-        ensures drawn { OnOk result (AreDrawn batch.now (held_by C.opens self.new).list (R.stream chance.old) (R.stream chance.new)) }
-        ensures later { OnErr result (IsLater (R.stream chance.old) (R.stream chance.new)) }
-        ensures nothing { OnErr result (applied_by (held_by C.opens) (λ s. V.trace s.sealed.vault.vault) self.old self.new fin.empty) }
-        ensures forgeries { ⟦<IntegrityStore<V, C> as Blocks>⟧.meanings.forgeries self.new ≡ ⟦<IntegrityStore<V, C> as Blocks>⟧.meanings.forgeries self.old }
-        ensures lies { ⟦<IntegrityStore<V, C> as Blocks>⟧.meanings.lies self.new ≡ ⟦<IntegrityStore<V, C> as Blocks>⟧.meanings.lies self.old }
-        ensures faults { ⟦<IntegrityStore<V, C> as Blocks>⟧.meanings.faults self.new ≡ ⟦<IntegrityStore<V, C> as Blocks>⟧.meanings.faults self.old }
+        ensures ok { OnOk result (Applies ⟦<IntegrityStore<V, C> as Blocks>⟧.meanings ⟦<IntegrityStore<V, C> as Blocks>⟧.holdings
+            (applied_by (held_by C.opens) (λ s. V.trace s.sealed.vault.vault)) (λ a b changes stream left. AreDrawn changes (held_by C.opens b).list stream left)
+            self.old self.new batch.now (R.stream chance.old) (R.stream chance.new)) }
+        ensures err { OnErr result (AppliesNone ⟦<IntegrityStore<V, C> as Blocks>⟧.meanings (applied_by (held_by C.opens) (λ s. V.trace s.sealed.vault.vault))
+            self.old self.new (R.stream chance.old) (R.stream chance.new)) }
+        ensures counts { KeepsCounts ⟦<IntegrityStore<V, C> as Blocks>⟧.meanings self.old self.new }
         ensures spent { (result ≡ Err ApplyError.Spent) ↔ IsSpent ⟦<IntegrityStore<V, C> as Blocks>⟧.holdings self.old batch.now }
-        ensures loaded { OnErr result (⟦<IntegrityStore<V, C> as Blocks>⟧.meanings.loaded self.old self.new) }
-        ensures sound { OnErr result (⟦<IntegrityStore<V, C> as Blocks>⟧.meanings.sound self.old → ⟦<IntegrityStore<V, C> as Blocks>⟧.meanings.sound self.new) }
     {
         let entries = batch.entries();
         if some_spent(&self.state.known, entries) {

@@ -1,3 +1,4 @@
+pub mod Applying
 pub mod Content
 pub mod Draws
 pub mod Holdings

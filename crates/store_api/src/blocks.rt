@@ -6,11 +6,10 @@ ghost use Rattle.outcome.specs.Meanings.{Meanings, Lawful, IsOfBlocks};
 ghost use Rattle.outcome.specs.Outcome.{Outcome};
 ghost use Rattle.block_id.specs.Fresh.{IsFirstFree};
 ghost use Rattle.rand_core.specs.Stream.{Stream};
-ghost use Rattle.std.specs.FinMap as fin;
+ghost use Rattle.store_api.specs.Applying.{Applies, AppliesNone, KeepsCounts};
 ghost use Rattle.store_api.specs.Content.{Id, Changes};
-ghost use Rattle.store_api.specs.Draws.{IsLater};
 ghost use Rattle.store_api.specs.Loads.{LoadAnswer, answer_of};
-ghost use Rattle.store_api.specs.Holdings.{Holdings, Steady, Stays, FitsStore, Changed, IsSpent, IsFew, is_free, has_id};
+ghost use Rattle.store_api.specs.Holdings.{Holdings, Steady, Stays, FitsStore, IsSpent, IsFew, is_free, has_id};
 
 use crate::Batch;
 use block_id::{BlockId, Fail};
@@ -82,17 +81,10 @@ pub trait BlocksMut: Blocks {
         requires intact { Self.meanings.intact self.old }
         requires fits { FitsStore Self.holdings self.old batch.now }
         ensures intact { Self.meanings.intact self.new }
-        ensures changed { OnOk result (Changed Self.meanings Self.holdings self.old self.new batch.now) }
-        ensures applied { OnOk result (applied self.old self.new batch.now) }
-        ensures drawn { OnOk result (drawn self.old self.new batch.now (R.stream chance.old) (R.stream chance.new)) }
-        ensures later { OnErr result (IsLater (R.stream chance.old) (R.stream chance.new)) }
-        ensures nothing { OnErr result (applied self.old self.new fin.empty) }
-        ensures forgeries { Self.meanings.forgeries self.new ≡ Self.meanings.forgeries self.old }
-        ensures lies { Self.meanings.lies self.new ≡ Self.meanings.lies self.old }
-        ensures faults { Self.meanings.faults self.new ≡ Self.meanings.faults self.old }
-        ensures spent { (result ≡ Err ApplyError.Spent) ↔ IsSpent Self.holdings self.old batch.now }
-        ensures loaded { OnErr result (Self.meanings.loaded self.old self.new) }
-        ensures sound { OnErr result (Self.meanings.sound self.old → Self.meanings.sound self.new) };
+        ensures ok { OnOk result (Applies Self.meanings Self.holdings applied drawn self.old self.new batch.now (R.stream chance.old) (R.stream chance.new)) }
+        ensures err { OnErr result (AppliesNone Self.meanings applied self.old self.new (R.stream chance.old) (R.stream chance.new)) }
+        ensures counts { KeepsCounts Self.meanings self.old self.new }
+        ensures spent { (result ≡ Err ApplyError.Spent) ↔ IsSpent Self.holdings self.old batch.now };
 
     /// Where blocks were only loaded, the store holds what it held.
     ghost settled: { (a b : Self) → Self.meanings.loaded a b → Stays Self.holdings a b };

@@ -5,8 +5,9 @@ ghost use Rattle.outcome.specs.Meanings.{IsOfBlocks};
 ghost use Rattle.outcome.specs.Outcome.{Outcome};
 ghost use Rattle.std.specs.declared.result.Result.TheVariants.{Err};
 ghost use Rattle.std.specs.FinMap as fin;
-ghost use Rattle.store_api.specs.Draws.{IsLater};
-ghost use Rattle.store_api.specs.Holdings.{FitsStore, Changed, IsFew, IsSpent, Stays, is_free};
+ghost use Rattle.rand_chacha.specs.ChaCha.{of_seed};
+ghost use Rattle.store_api.specs.Applying.{Applies, AppliesNone, KeepsCounts};
+ghost use Rattle.store_api.specs.Holdings.{IsFew, IsSpent, Stays, is_free};
 ghost use Rattle.store_api.specs.Ids.{stream_left};
 ghost use Rattle.store_api.specs.Loads.{LoadsOver, loads_over, answer_of};
 ghost use Rattle.store_api.specs.Overlay.{without, meanings_over, holdings_over, lawful_over, steady_over};
@@ -49,9 +50,7 @@ impl<S: Blocks> Tx<S> {
         requires intact { S.meanings.intact self.old.store }
         requires few { IsFew (S.holdings.used self.old.store) }
         ensures intact { ⟦<Tx<S> as Blocks>⟧.meanings.intact self.new }
-        ensures store { self.new.store ≡ self.old.store }
-        ensures overlay { self.new.overlay ≡ fin.empty }
-        ensures seed { self.new.seed ≡ seed }
+        ensures begun { self.new ≡ record self.old { overlay = fin.empty; seed = seed; ids = of_seed seed } }
     {
         self.overlay.clear();
         self.seed = seed;
@@ -125,19 +124,12 @@ impl<S: Blocks> Tx<S> {
         requires { ⟦<Tx<S> as Blocks>⟧.meanings.intact self.old }
         ensures intact { ⟦<Tx<S> as Blocks>⟧.meanings.intact self.new }
         ensures seed { self.new.seed ≡ self.old.seed }
-        ensures changed { OnOk result (Changed S.Blocks.meanings S.Blocks.holdings self.old.store self.new.store self.old.overlay) }
-        ensures applied { OnOk result (S.applied self.old.store self.new.store self.old.overlay) }
-        ensures drawn { OnOk result (S.drawn self.old.store self.new.store self.old.overlay (R.stream chance.old) (R.stream chance.new)) }
-        ensures later { OnErr result (IsLater (R.stream chance.old) (R.stream chance.new)) }
-        ensures nothing { OnErr result (S.applied self.old.store self.new.store fin.empty) }
+        ensures ok { OnOk result (Applies S.Blocks.meanings S.Blocks.holdings S.applied S.drawn self.old.store self.new.store self.old.overlay (R.stream chance.old) (R.stream chance.new)) }
         ensures emptied { OnOk result (self.new.overlay ≡ fin.empty) }
-        ensures forgeries { S.Blocks.meanings.forgeries self.new.store ≡ S.Blocks.meanings.forgeries self.old.store }
-        ensures lies { S.Blocks.meanings.lies self.new.store ≡ S.Blocks.meanings.lies self.old.store }
-        ensures faults { S.Blocks.meanings.faults self.new.store ≡ S.Blocks.meanings.faults self.old.store }
-        ensures spent { (result ≡ Err ApplyError.Spent) ↔ IsSpent S.Blocks.holdings self.old.store self.old.overlay }
+        ensures err { OnErr result (AppliesNone S.Blocks.meanings S.applied self.old.store self.new.store (R.stream chance.old) (R.stream chance.new)) }
         ensures kept { OnErr result (self.new.overlay ≡ self.old.overlay) }
-        ensures loaded { OnErr result (S.Blocks.meanings.loaded self.old.store self.new.store) }
-        ensures sound { S.Blocks.meanings.sound self.old.store → S.Blocks.meanings.sound self.new.store }
+        ensures counts { KeepsCounts S.Blocks.meanings self.old.store self.new.store }
+        ensures spent { (result ≡ Err ApplyError.Spent) ↔ IsSpent S.Blocks.holdings self.old.store self.old.overlay }
     {
         let batch = self.overlay.take(alloc);
         match self.store.apply(alloc, &batch, chance) {

@@ -12,6 +12,7 @@ use Rattle.store_api.specs.Content.{Changes}
 use Rattle.store_api.specs.Holdings.{Changed, FitsStore, IsFew, IsSpent}
 use Rattle.tree_commands.specs.Showing.{ShowsFiles}
 use Rattle.tree_commands.proofs.Shows.{files_same}
+use Rattle.mount_core.specs.Drawing.{NamesKnown}
 use Rattle.mount_core.specs.declared.body.Core.{Core}
 use Rattle.mount_answering.proofs.Lines.{whole_loaded}
 use Rattle.store_api.proofs.Draws.{later_same}
@@ -22,7 +23,7 @@ use Rattle.mount_core.specs.NoticeLaws.{none_came}
 use Rattle.mount_migrating.specs.Migrating.{told, Renews}
 use Rattle.mount_migrating.specs.Noticing.{NoticedAlong}
 use Rattle.mount_migrating.proofs.Anew.{batch_spent, failed_reason, loaded_proceeds, memory_reason, raises_stays, renewed_proceeds, renewed_raises, unapplied_reason, unspent_by}
-use Rattle.mount_migrating.proofs.Batches.{one, one_fits, one_has, one_self}
+use Rattle.mount_migrating.proofs.Batches.{one, one_fits, one_has, one_known, one_self}
 use Rattle.mount_migrating.proofs.NewFiles.{new_applied, new_given, new_loaded}
 use Rattle.mount_migrating.proofs.Noticing.{along_failed, along_loaded, along_renewed}
 use Rattle.mount_migrating.proofs.Syncing.{done_reason}
@@ -103,16 +104,16 @@ returns-in-Ok-apply-clause-renews g c =
     let o = c.in-Ok-Some.ensures.outcome in
     let stays = c.load.ensures.stays in
     let a = c.apply.ensures in
-    let changed = subst (Changed M H c.load.new.self c.apply.new.self) is c.in-Ok-apply.ensures.changed in
-    let batch = subst (applied c.load.new.self c.apply.new.self) is c.in-Ok-apply.ensures.applied in
+    let changed = subst (Changed M H c.load.new.self c.apply.new.self) is c.in-Ok-apply.ensures.ok.changed in
+    let batch = subst (applied c.load.new.self c.apply.new.self) is c.in-Ok-apply.ensures.ok.makes in
     let holds : M.sound old.blobs.tx.store → M.forgeries c.load.new.self ≤ M.forgeries old.blobs.tx.store → H.content old.blobs.tx.store id ≡ Some payload =
     λ s few. sym (o.value tt s few) ∙ ap bytes_of c.in-Ok-Some.field-0-is in
     let live = stays.ids id ∙ c.requires.live in
     record {
-      proceeds = renewed_proceeds ShowsFiles M H D R G files_same g.met.S.Blocks.lawful g.met.S.Blocks.steady applied g.met.S.BlocksMut.settled endures old mid new id payload o.loaded o.sound holds live changed batch o.intact a.intact a.forgeries a.lies
+      proceeds = renewed_proceeds ShowsFiles M H D R G files_same g.met.S.Blocks.lawful g.met.S.Blocks.steady applied g.met.S.BlocksMut.settled endures old mid new id payload o.loaded o.sound holds live changed batch o.intact a.intact a.counts.forgeries a.counts.lies
           refl refl refl refl refl refl refl;
-      reason = done_reason ShowsFiles M H D R G old new (id ∷ []) (a.faults ∙ o.quiet) refl;
-      raises = renewed_raises ShowsFiles M H D R G files_same g.met.S.Blocks.lawful g.met.S.Blocks.steady applied g.met.S.BlocksMut.settled endures old mid new id payload o.loaded o.sound holds live changed batch o.intact a.intact a.forgeries a.lies
+      reason = done_reason ShowsFiles M H D R G old new (id ∷ []) (a.counts.faults ∙ o.quiet) refl;
+      raises = renewed_raises ShowsFiles M H D R G files_same g.met.S.Blocks.lawful g.met.S.Blocks.steady applied g.met.S.BlocksMut.settled endures old mid new id payload o.loaded o.sound holds live changed batch o.intact a.intact a.counts.forgeries a.counts.lies
           refl refl refl refl refl refl refl;
       unspent = unspent_by ShowsFiles M H D R G files_same g.met.S.Blocks.lawful g.met.S.Blocks.steady applied g.met.S.BlocksMut.settled endures old.blobs.tx.store c.load.new.self id payload stays o.intact
           (λ spent. absurd (cc (c.in-Ok-apply.ensures.spent.1 (subst (IsSpent H c.load.new.self) (sym is) spent))));
@@ -127,7 +128,7 @@ returns-clause-ready g c =
     let H = g.S.Blocks.holdings in
     let old = c.args.core.now in
     let store = old.blobs.tx.store in
-    let loaded = g.met.S.Blocks.lawful.onward store c.load.new.self c.apply.new.self c.in-Ok-Some.ensures.outcome.loaded c.in-Err-apply.ensures.loaded in
+    let loaded = g.met.S.Blocks.lawful.onward store c.load.new.self c.apply.new.self c.in-Ok-Some.ensures.outcome.loaded c.in-Err-apply.ensures.err.loaded in
     let stays = g.met.S.BlocksMut.settled store c.apply.new.self loaded in
     record {
       intact = c.apply.ensures.intact;
@@ -155,12 +156,12 @@ returns-clause-renews g c =
     let is : c.put.new.self ≡ one id payload = c.in-Ok.ensures.ok ∙ ap (λ (m : Changes). fin.insert m id (Some payload)) c.new-batch.ensures in
     let o = c.in-Ok-Some.ensures.outcome in
     let a = c.in-Err-apply.ensures in
-    let loaded = g.met.S.Blocks.lawful.onward store c.load.new.self c.apply.new.self o.loaded a.loaded in
+    let loaded = g.met.S.Blocks.lawful.onward store c.load.new.self c.apply.new.self o.loaded a.err.loaded in
     let stays = g.met.S.BlocksMut.settled store c.apply.new.self loaded in
     subst (λ e. Renews ShowsFiles (world M H D R G) old (id ∷ []) (Err e) new) (sym c.apply_error.ensures) (record {
       proceeds = loaded_proceeds ShowsFiles M H D R G files_same g.met.S.Blocks.lawful g.met.S.Blocks.steady applied g.met.S.BlocksMut.settled endures old new loaded
-          (λ sound few. a.sound (o.sound sound (subst (λ n. n ≤ M.forgeries store) a.forgeries few))) refl refl refl;
-      reason = unapplied_reason ShowsFiles M H D R G files_same g.met.S.Blocks.lawful g.met.S.Blocks.steady applied g.met.S.BlocksMut.settled endures old new (id ∷ []) c.in-Err-apply.error (a.faults ∙ o.quiet) refl
+          (λ sound few. a.err.sound (o.sound sound (subst (λ n. n ≤ M.forgeries store) a.counts.forgeries few))) refl refl refl;
+      reason = unapplied_reason ShowsFiles M H D R G files_same g.met.S.Blocks.lawful g.met.S.Blocks.steady applied g.met.S.BlocksMut.settled endures old new (id ∷ []) c.in-Err-apply.error (a.counts.faults ∙ o.quiet) refl
           (λ last. batch_spent ShowsFiles M H D R G files_same g.met.S.Blocks.lawful g.met.S.Blocks.steady applied g.met.S.BlocksMut.settled endures store c.load.new.self id payload c.load.ensures.stays o.intact
           (subst (IsSpent H c.load.new.self) is (a.spent.0 (ap Err last))));
       raises = raises_stays ShowsFiles M H D R G files_same g.met.S.Blocks.lawful g.met.S.Blocks.steady applied g.met.S.BlocksMut.settled endures store c.apply.new.self (id ∷ []) stays;
@@ -192,7 +193,7 @@ returns-in-Ok-apply-clause-noticed g c =
     let is : c.put.new.self ≡ one id payload = c.in-Ok.ensures.ok ∙ ap (λ (m : Changes). fin.insert m id (Some payload)) c.new-batch.ensures in
     let o = c.in-Ok-Some.ensures.outcome in
     along_renewed g.S.Blocks.meanings g.S.Blocks.holdings g.S.Durable.durables g.S.BlocksMut.applied c.args.core.now.blobs.tx.store c.load.new.self c.apply.new.self id payload o.loaded o.noticed
-    (c.load.ensures.stays.ids id ∙ c.requires.live) (subst (g.S.BlocksMut.applied c.load.new.self c.apply.new.self) is c.in-Ok-apply.ensures.applied)
+    (c.load.ensures.stays.ids id ∙ c.requires.live) (subst (g.S.BlocksMut.applied c.load.new.self c.apply.new.self) is c.in-Ok-apply.ensures.ok.makes)
 
 pub returns-clause-noticed : goal.returns-clause-noticed
 returns-clause-noticed g c =
@@ -204,8 +205,8 @@ returns-clause-noticed g c =
     let o = c.in-Ok-Some.ensures.outcome in
     let a = c.in-Err-apply.ensures in
     let answer = told {T = Unit} (Err c.apply_error.result) in
-    along_loaded M g.S.Blocks.holdings g.S.Durable.durables g.S.BlocksMut.applied store new answer (g.met.S.Blocks.lawful.onward store last new o.loaded a.loaded)
-    (none_came answer (M.gave store new) (λ why gave. o.noticed why (endures.gave_along store last new why (endures.applied_trace last new fin.empty a.nothing) gave)))
+    along_loaded M g.S.Blocks.holdings g.S.Durable.durables g.S.BlocksMut.applied store new answer (g.met.S.Blocks.lawful.onward store last new o.loaded a.err.loaded)
+    (none_came answer (M.gave store new) (λ why gave. o.noticed why (endures.gave_along store last new why (endures.applied_trace last new fin.empty a.err.nothing) gave)))
 
 -- ---- what it draws
 
@@ -217,18 +218,22 @@ returns-in-Err-put-clause-draws g c = inl (c.in-Ok-Some.ensures.outcome.loaded, 
 
 pub returns-in-Ok-apply-clause-draws : goal.returns-in-Ok-apply-clause-draws
 returns-in-Ok-apply-clause-draws g c =
-    let stream = g.R.Rng.stream c.args.chance.now in
+    let H = g.S.Blocks.holdings in
+    let id = c.args.id.now.0 in
+    let payload = c.in-Ok-Some.payload.items in
+    let last = c.load.new.self in
+    let is : c.put.new.self ≡ one id payload = c.in-Ok.ensures.ok ∙ ap (λ (m : Changes). fin.insert m id (Some payload)) c.new-batch.ensures in
+    let o = c.in-Ok-Some.ensures.outcome in
     inr (record {
-      last = c.load.new.self;
-      loaded = c.in-Ok-Some.ensures.outcome.loaded;
+      last = last;
+      loaded = o.loaded;
       changes = c.put.new.self;
-      before = stream;
-      later = later_same stream;
-      makes = c.in-Ok-apply.ensures.applied;
-      draws = c.in-Ok-apply.ensures.drawn;
+      names = subst (NamesKnown H last) (sym is) (one_known g.S.Blocks.meanings H g.met.S.Blocks.steady last id payload o.intact (c.load.ensures.stays.ids id ∙ c.requires.live));
+      makes = c.in-Ok-apply.ensures.ok.makes;
+      draws = c.in-Ok-apply.ensures.ok.draws;
     })
 
 pub returns-clause-draws : goal.returns-clause-draws
 returns-clause-draws g c =
     let a = c.in-Err-apply.ensures in
-    inl (g.met.S.Blocks.lawful.onward c.args.core.now.blobs.tx.store c.load.new.self c.apply.new.self c.in-Ok-Some.ensures.outcome.loaded a.loaded, a.later)
+    inl (g.met.S.Blocks.lawful.onward c.args.core.now.blobs.tx.store c.load.new.self c.apply.new.self c.in-Ok-Some.ensures.outcome.loaded a.err.loaded, a.err.later)

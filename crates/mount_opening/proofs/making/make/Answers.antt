@@ -78,8 +78,8 @@ returns-in-Err-apply g c =
     let d = c.apply.new.self in
     let p = c.put_config.ensures in
     let z = c.apply.ensures in
-    let loaded = c.in-Err-apply.ensures.loaded in
-    let faults = z.faults ∙ p.faults in
+    let loaded = c.in-Err-apply.ensures.err.loaded in
+    let faults = z.counts.faults ∙ p.faults in
     record {
       makes = record {
         stands = λ sound unmarked. inl (refl, λ name. endures.loaded_last b d name loaded ∙ ap (last_told name) p.lists.trace);
@@ -120,11 +120,11 @@ returns g c =
     let y = c.sync-result.ensures.syncs in
     let m = c.sync-result.ensures.moves in
     let l = m.leaves in
-    let changed = c.in-Ok-apply.ensures.changed in
-    let applied = c.in-Ok-apply.ensures.applied in
+    let changed = c.in-Ok-apply.ensures.ok.changed in
+    let applied = c.in-Ok-apply.ensures.ok.makes in
     let identity = endures.applied_identity b d batch applied ∙ p.lists.identity in
     let trace = endures.applied_trace b d batch applied ∙ p.lists.trace in
-    let faults = z.faults ∙ p.faults in
+    let faults = z.counts.faults ∙ p.faults in
     record {
       makes = record {
         stands = λ sound unmarked.

@@ -10,20 +10,14 @@ returns-in-Err g c =
     let t = c.apply.new.self in
     let p = c.args.self.now.cached in
     let e = c.in-Err.ensures in
-    let stays = g.met.S.BlocksMut.settled s t e.loaded in
+    let none = e.err in
+    let stays = g.met.S.BlocksMut.settled s t none.loaded in
     record {
       intact = (e.intact, live-stays M H s t p stays c.requires.intact.1);
-      changed = tt;
-      applied = tt;
-      drawn = tt;
-      later = e.later;
-      nothing = e.nothing;
-      forgeries = e.forgeries;
-      lies = e.lies;
-      faults = e.faults;
+      ok = tt;
+      err = record { nothing = none.nothing; loaded = none.loaded; sound = λ sound. (none.sound sound.0, agree-stays M H g.met.S.Blocks.steady s t p stays sound); later = none.later };
+      counts = record { forgeries = e.counts.forgeries; lies = e.counts.lies; faults = e.counts.faults };
       spent = e.spent;
-      loaded = e.loaded;
-      sound = λ sound. (e.sound sound.0, agree-stays M H g.met.S.Blocks.steady s t p stays sound);
       renewed = tt;
       kept = refl {a = p};
       capacity = refl {a = p.cap};
@@ -39,20 +33,14 @@ returns-in-Ok g c =
     let q = c.renew_all.new.payloads in
     let batch = c.args.batch.now in
     let e = c.in-Ok.ensures in
+    let all = e.ok in
     let renewed = c.renew_all.ensures.renewed in
     record {
-      intact = (e.intact, live-renewed M H s t batch p q c.requires.fits.sized e.changed renewed c.requires.intact.1);
-      changed = changed-renewed M H g.met.S.Blocks.steady s t batch p q e.changed renewed;
-      applied = e.applied;
-      drawn = e.drawn;
-      later = tt;
-      nothing = tt;
-      forgeries = e.forgeries;
-      lies = e.lies;
-      faults = e.faults;
+      intact = (e.intact, live-renewed M H s t batch p q c.requires.fits.sized all.changed renewed c.requires.intact.1);
+      ok = record { changed = changed-renewed M H g.met.S.Blocks.steady s t batch p q all.changed renewed; makes = all.makes; draws = all.draws };
+      err = tt;
+      counts = record { forgeries = e.counts.forgeries; lies = e.counts.lies; faults = e.counts.faults };
       spent = e.spent;
-      loaded = tt;
-      sound = tt;
       renewed = renewed;
       kept = tt;
       capacity = c.renew_all.ensures.capacity;

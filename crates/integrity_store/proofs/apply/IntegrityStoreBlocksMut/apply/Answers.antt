@@ -1,6 +1,17 @@
-use Rattle.std.proofs.Common.{List, refl, sym, ◌∙◌, ap, subst, arith}
+use Rattle.std.proofs.Common.{◌≡◌, List, refl, sym, ◌∙◌, ap, subst, arith}
 use Rattle.std.specs.Prelude.{Option}
+use Rattle.outcome.specs.Meanings.{Meanings}
+use Rattle.outside.specs.Honest.{is_lie, count_told}
 use Rattle.outside.specs.Trace.{Call}
+use Rattle.rand_core.specs.Stream.{Stream}
+use Rattle.store_api.specs.Applying.{AppliesNone, KeepsCounts}
+use Rattle.store_api.specs.Draws.{IsLater}
+use Rattle.store_api.proofs.Draws.{later_same}
+use Rattle.held_blocks.specs.Forgeries.{forged}
+use Rattle.held_blocks.specs.ReadLaws.{went_same}
+use Rattle.held_blocks.specs.Reads.{WentOnByReads}
+use Rattle.held_blocks.specs.Soundness.{SoundBy}
+use Rattle.held_blocks.specs.Stores.{meanings_by}
 use Rattle.outside.specs.Changes.{IsIncreasing}
 use Rattle.outside.specs.ChangeLaws.{IsIncreasing-set_changes}
 use Rattle.sealed_store.specs.Stores.{IsIntact, block_size_of, cipher_of}
@@ -9,6 +20,7 @@ use Rattle.integrity_store.specs.declared.store.IntegrityStore.{IntegrityStore}
 use Rattle.held_blocks.specs.Held.{Held}
 use Rattle.integrity_store.specs.Views.{held_by}
 use Rattle.integrity_store.specs.WaitingLaws.{in_order}
+use Rattle.batch_sealing.specs.Applied.{applied_by}
 use Rattle.batch_sealing.proofs.Applying.{may_seal_batch, applied_nothing}
 use Rattle.batch_sealing.proofs.Batches.{is_spent, isnt_spent, Listed, may_come_listed, room, Marked, applied_batch, drawn_in, whole_batch, changed_batch}
 use Rattle.integrity_store.proofs.apply.IntegrityStoreBlocksMut.apply.Given.{Over}
@@ -22,6 +34,27 @@ held g s = held_by g.C.Sealer.opens s
 
 abbrev trace : (g : Over) → Store g → Option (List Call)
 trace g s = g.V.Vault.trace s.sealed.vault.vault
+
+abbrev meanings : (g : Over) → Meanings (Store g)
+meanings g = meanings_by (held g) (trace g) (λ s. g.V.Vault.faults s.sealed.vault.vault) (λ s. IsIntact (block_size_of s.sealed) (g.C.Sealer.iv_size (cipher_of s.sealed)))
+
+-- by the same directory and the same key and size of blocks
+counts_same : (g : Over) (a b : Store g) → (held g b).opens ≡ (held g a).opens → (held g b).size ≡ (held g a).size → b.sealed.vault.vault ≡ a.sealed.vault.vault → KeepsCounts (meanings g) a b
+counts_same g a b opens size vault = record {
+  forgeries = ap (λ k. count_told (forged k (held g b).size) (trace g b)) opens ∙ (ap (λ n. count_told (forged (held g a).opens n) (trace g b)) size
+      ∙ ap (λ v. count_told (forged (held g a).opens (held g a).size) (g.V.Vault.trace v)) vault);
+  lies = ap (λ v. count_told is_lie (g.V.Vault.trace v)) vault;
+  faults = ap g.V.Vault.faults vault;
+}
+
+-- what is held is what was held
+none_made : (g : Over) (a b : Store g) (stream left : Stream) → held g b ≡ held g a → b.sealed.vault.vault ≡ a.sealed.vault.vault → IsLater stream left → AppliesNone (meanings g) (applied_by (held g) (trace g)) a b stream left
+none_made g a b stream left same vault later = record {
+  nothing = applied_nothing (held g a) (held g b) (trace g a) (trace g b) same (ap g.V.Vault.trace vault);
+  loaded = record { held = same; trace = subst (WentOnByReads (held g a) (trace g a)) (sym (ap g.V.Vault.trace vault)) (went_same (held g a) (trace g a)); faults = omega (arith, ap g.V.Vault.faults vault) };
+  sound = λ sound. subst (λ h. SoundBy h (trace g b)) (sym same) (subst (SoundBy (held g a)) (sym (ap g.V.Vault.trace vault)) sound);
+  later = later;
+}
 
 -- ---- spent ids
 
@@ -89,20 +122,23 @@ marked g c = record {
 pub returns-in-Ok-clause-intact : goal.returns-in-Ok-clause-intact
 returns-in-Ok-clause-intact g c = (whole_batch (marked g c), c.in-Ok.ensures.intact)
 
-pub returns-in-Ok-clause-changed : goal.returns-in-Ok-clause-changed
-returns-in-Ok-clause-changed g c =
-    changed_batch (marked g c) (λ s. g.V.Vault.faults s.sealed.vault.vault) (λ s. IsIntact (block_size_of s.sealed) (g.C.Sealer.iv_size (cipher_of s.sealed)))
+pub returns-in-Ok-clause-ok : goal.returns-in-Ok-clause-ok
+returns-in-Ok-clause-ok g c = record {
+  changed = changed_batch (marked g c) (λ s. g.V.Vault.faults s.sealed.vault.vault) (λ s. IsIntact (block_size_of s.sealed) (g.C.Sealer.iv_size (cipher_of s.sealed)));
+  makes = applied_batch (marked g c);
+  draws = drawn_in (marked g c);
+}
 
-pub returns-in-Ok-clause-applied : goal.returns-in-Ok-clause-applied
-returns-in-Ok-clause-applied g c = applied_batch (marked g c)
-
-pub returns-in-Ok-clause-drawn : goal.returns-in-Ok-clause-drawn
-returns-in-Ok-clause-drawn g c = drawn_in (marked g c)
+pub returns-in-Ok-clause-counts : goal.returns-in-Ok-clause-counts
+returns-in-Ok-clause-counts g c = counts_same g c.args.self.now (new g c) (ap (λ h. h.opens) c.in-Ok.ensures.listed.held) (ap (λ h. h.size) c.in-Ok.ensures.listed.held) c.in-Ok.ensures.vault
 
 -- ---- what is returned after an error
 
-pub returns-then-some_spent-clause-nothing : goal.returns-then-some_spent-clause-nothing
-returns-then-some_spent-clause-nothing g c = applied_nothing (held g c.args.self.now) (held g c.args.self.now) (trace g c.args.self.now) (trace g c.args.self.now) refl refl
+pub returns-then-some_spent-clause-err : goal.returns-then-some_spent-clause-err
+returns-then-some_spent-clause-err g c = none_made g c.args.self.now c.args.self.now (g.R.Rng.stream c.args.chance.now) (g.R.Rng.stream c.args.chance.now) refl refl (later_same (g.R.Rng.stream c.args.chance.now))
 
-pub returns-in-Err-clause-nothing : goal.returns-in-Err-clause-nothing
-returns-in-Err-clause-nothing g c = applied_nothing (held g c.args.self.now) (held g c.put_drafts.new.self) (trace g c.args.self.now) (trace g c.put_drafts.new.self) c.in-Err.ensures.held (ap g.V.Vault.trace c.in-Err.ensures.vault)
+pub returns-in-Err-clause-err : goal.returns-in-Err-clause-err
+returns-in-Err-clause-err g c = none_made g c.args.self.now c.put_drafts.new.self (g.R.Rng.stream c.args.chance.now) (g.R.Rng.stream c.put_drafts.new.chance) c.in-Err.ensures.held c.in-Err.ensures.vault c.put_drafts.ensures.later
+
+pub returns-in-Err-clause-counts : goal.returns-in-Err-clause-counts
+returns-in-Err-clause-counts g c = counts_same g c.args.self.now c.put_drafts.new.self (ap (λ h. h.opens) c.in-Err.ensures.held) (ap (λ h. h.size) c.in-Err.ensures.held) c.in-Err.ensures.vault

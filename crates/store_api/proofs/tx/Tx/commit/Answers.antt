@@ -13,7 +13,7 @@ returns-in-Ok-clause-intact g c =
       c.apply.ensures.intact,
       record {
         fits = subst (FitsStore H c.apply.new.self) (sym c.take-batch.ensures.left) (fits_nothing H c.apply.new.self);
-        few = c.in-Ok.ensures.changed.few c.requires.1.few;
+        few = c.in-Ok.ensures.ok.changed.few c.requires.1.few;
         ids = come_nothing a.seed (stream_left a.ids) (H.used c.apply.new.self) c.take-batch.new.self (later_of_ids (H.used a.store) ids.drawn (chacha20 a.seed) (stream_left a.ids) ids.come) c.take-batch.ensures.left;
       },
     )
@@ -22,7 +22,7 @@ pub returns-in-Err-clause-intact : goal.returns-in-Err-clause-intact
 returns-in-Err-clause-intact g c =
     let H = g.S.Blocks.holdings in
     let a = c.args.self.now in
-    let stays = g.met.S.BlocksMut.settled a.store c.apply.new.self c.in-Err.ensures.loaded in
+    let stays = g.met.S.BlocksMut.settled a.store c.apply.new.self c.in-Err.ensures.err.loaded in
     let same = c.give_back.ensures ∙ c.take-batch.ensures.batch in (
       c.apply.ensures.intact,
       record {
