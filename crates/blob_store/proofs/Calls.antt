@@ -9,13 +9,13 @@ use Rattle.outcome.specs.Meanings.{Meanings}
 use Rattle.outcome.specs.Lift.{lifted}
 use Rattle.outcome.specs.Outcome.{Outcome, first_}
 use Rattle.store_api.specs.declared.tx.Tx.{Tx}
-use Rattle.store_api.specs.Content.{Id, Changes}
+use Rattle.store_api.specs.Content.{Id}
 use Rattle.store_api.specs.Holdings.{Holdings, Stays}
-use Rattle.store_api.specs.Overlay.{meanings_over, holdings_over}
 use Rattle.data_nodes.specs.Layout.{room}
 use Rattle.data_tree.specs.Trees.{Replaces}
 use Rattle.data_tree.specs.Needs.{KeepsShape}
 use Rattle.data_tree.specs.Roots.{IsRoot, IsNewRoot}
+use Rattle.data_tree.proofs.Loads.{changes_in, tx_holdings, tx_meanings}
 use Rattle.tree_ranges.specs.Ranges.{IsInside}
 use Rattle.blob_api.specs.BlobMap.{StandsForMap, Has, IsNew, IsSparing}
 use Rattle.blob_store.specs.declared.store.BlobStore.{BlobStore}
@@ -25,16 +25,13 @@ use Rattle.blob_store.proofs.Standing.{stands_on, stands_replaced, fresh_root, s
 abbrev tx_in : {B : Type 0} → BlobStore B → Tx B
 tx_in s = s.tx
 
-abbrev changes_in : {B : Type 0} → Tx B → Changes
-changes_in t = t.overlay
-
 -- of a store of blocks the meanings and holdings with changes over it
 module _ {B : Type 0} (M : Meanings B) (H : Holdings B) where
   abbrev over_it : Meanings (Tx B)
-  over_it = meanings_over (λ t. t.store) changes_in M H
+  over_it = tx_meanings M H
 
   abbrev held : Holdings (Tx B)
-  held = holdings_over (λ t. t.store) changes_in H
+  held = tx_holdings H
 
   -- the tree of a blob
   abbrev root_of : (a : BlobStore B) (id : Id) → Has (holdings_by tx_in changes_in held) a id → IsRoot held a.tx id

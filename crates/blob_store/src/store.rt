@@ -1,11 +1,11 @@
 // Byte lists in trees of blocks.
 ghost use Rattle.std.specs.Prelude.{◌≡◌};
+ghost use Rattle.store_api.specs.Ids.{stream_left};
 ghost use Rattle.store_api.specs.Overlay.{lawful_over, steady_over};
 ghost use Rattle.blob_store.specs.Meanings.{meanings_by, holdings_by, lawful_by, steady_by};
 
 use blob_api::Blobs;
 use block_id::{BlockId, Fail};
-use rand_core::Rng;
 use std::alloc::Global;
 use store_api::{Blocks, Tx};
 use tree_calls::{drop_tree, new_tree, read_range};
@@ -38,13 +38,8 @@ impl<S: Blocks> Blobs for BlobStore<S> {
 
     ghost holdings = { holdings_by (λ b. b.tx) (λ t. t.overlay) ⟦<Tx<S> as Blocks>⟧.holdings };
 
-    fn create<R: Rng>(
-        &mut self,
-        alloc: Global,
-        bytes: &[u8],
-        chance: &mut R,
-    ) -> Result<BlockId, Fail> {
-        new_tree(alloc, &mut self.tx, bytes, chance)
+    fn create(&mut self, alloc: Global, bytes: &[u8]) -> Result<BlockId, Fail> {
+        new_tree(alloc, &mut self.tx, bytes)
     }
 
     fn remove(&mut self, alloc: Global, id: &BlockId) -> Result<(), Fail> {
@@ -65,28 +60,15 @@ impl<S: Blocks> Blobs for BlobStore<S> {
         read_range(alloc, &mut self.tx, id, from, count)
     }
 
-    fn write<R: Rng>(
-        &mut self,
-        alloc: Global,
-        id: &BlockId,
-        from: u64,
-        bytes: &[u8],
-        chance: &mut R,
-    ) -> Result<(), Fail> {
-        write_range(alloc, &mut self.tx, id, from, bytes, chance)
+    fn write(&mut self, alloc: Global, id: &BlockId, from: u64, bytes: &[u8]) -> Result<(), Fail> {
+        write_range(alloc, &mut self.tx, id, from, bytes)
     }
 
-    fn resize<R: Rng>(
-        &mut self,
-        alloc: Global,
-        id: &BlockId,
-        n: u64,
-        chance: &mut R,
-    ) -> Result<(), Fail> {
-        tree_ranges::resize(alloc, &mut self.tx, id, n, chance)
+    fn resize(&mut self, alloc: Global, id: &BlockId, n: u64) -> Result<(), Fail> {
+        tree_ranges::resize(alloc, &mut self.tx, id, n)
     }
 
-    ghost lawful = { lawful_by (λ b. b.tx) ⟦<Tx<S> as Blocks>⟧.meanings (lawful_over (λ t. t.store) (λ t. t.overlay) S.meanings S.holdings S.lawful) };
+    ghost lawful = { lawful_by (λ b. b.tx) ⟦<Tx<S> as Blocks>⟧.meanings (lawful_over (λ t. t.store) (λ t. t.overlay) (λ t. record { seed = t.seed; left = stream_left t.ids }) S.meanings S.holdings S.lawful) };
 
-    ghost steady = { steady_by (λ b. b.tx) (λ t. t.overlay) ⟦<Tx<S> as Blocks>⟧.meanings ⟦<Tx<S> as Blocks>⟧.holdings (steady_over (λ t. t.store) (λ t. t.overlay) S.meanings S.holdings S.steady) };
+    ghost steady = { steady_by (λ b. b.tx) (λ t. t.overlay) ⟦<Tx<S> as Blocks>⟧.meanings ⟦<Tx<S> as Blocks>⟧.holdings (steady_over (λ t. t.store) (λ t. t.overlay) (λ t. record { seed = t.seed; left = stream_left t.ids }) S.meanings S.holdings S.steady) };
 }

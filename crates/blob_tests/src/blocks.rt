@@ -11,7 +11,7 @@ use store_api::{BlocksMut, Tx};
 pub(crate) fn empty(alloc: Global) -> BlobStore<MapStore>
     ensures { ⟦<BlobStore<MapStore> as Blobs>⟧.meanings.intact result }
 {
-    BlobStore::new(Tx::new(alloc, MapStore::new(alloc, 50)))
+    BlobStore::new(Tx::new(alloc, MapStore::new(alloc, 50), [0; 32]))
 }
 
 /// How many blocks are changed once a blob of 169 bytes was made, once it was removed, and, of another one that is stored,
@@ -22,14 +22,13 @@ fn changed<S: BlocksMut>(
 ) -> Result<(usize, usize, usize), Fail>
     requires { ⟦<BlobStore<S> as Blobs>⟧.meanings.intact blobs.old }
 {
-    let mut chance = Pcg32::new(1, 2);
-    let id = blobs.create(alloc, &[1; 169], &mut chance)?;
+    let id = blobs.create(alloc, &[1; 169])?;
     let made = blobs.tx.batch().len();
     blobs.remove(alloc, &id)?;
     let removed = blobs.tx.batch().len();
-    let stored = blobs.create(alloc, &[1; 169], &mut chance)?;
-    blobs.tx.commit(alloc, &mut chance)?;
-    blobs.write(alloc, &stored, 100, &[2], &mut chance)?;
+    let stored = blobs.create(alloc, &[1; 169])?;
+    blobs.tx.commit(alloc, &mut Pcg32::new(1, 2))?;
+    blobs.write(alloc, &stored, 100, &[2])?;
     Ok((made, removed, blobs.tx.batch().len()))
 }
 

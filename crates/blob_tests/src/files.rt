@@ -5,22 +5,20 @@ use fs_blobs::{
 };
 use fs_model::Kind;
 use map_blobs::MapBlobs;
-use rand_pcg::Pcg32;
 use std::test::Fail;
 
 #[test]
 fn a_file_from_its_header_to_its_end(rt: HostRuntime) -> Result<(), Fail> {
     let alloc = rt.alloc();
-    let mut blobs = MapBlobs::new(alloc);
-    let mut chance = Pcg32::new(1, 2);
+    let mut blobs = MapBlobs::new(alloc, [0; 32]);
     let header = Header {
         kind: Kind::File,
         parent: BlockId([7; 16]),
     };
-    let id = new_blob(alloc, &mut blobs, &header, b"file", &mut chance)?;
-    write_body(alloc, &mut blobs, &id, 6, b"end", &mut chance)?;
-    set_parent(alloc, &mut blobs, &id, &BlockId([8; 16]), &mut chance)?;
-    resize_body(alloc, &mut blobs, &id, 8, &mut chance)?;
+    let id = new_blob(alloc, &mut blobs, &header, b"file")?;
+    write_body(alloc, &mut blobs, &id, 6, b"end")?;
+    set_parent(alloc, &mut blobs, &id, &BlockId([8; 16]))?;
+    resize_body(alloc, &mut blobs, &id, 8)?;
     let moved = blob_header(alloc, &mut blobs, &id)?;
     assert!(rt; matches!(moved.kind, Kind::File));
     assert!(rt; moved.parent == BlockId([8; 16]));

@@ -7,7 +7,6 @@ use dir_entries::{Entry, encode_entries};
 use fs_blobs::{Header, new_blob};
 use fs_model::{Attr, FILE_MODE, Kind, MAX_MODE, Moment, Name};
 use map_blobs::MapBlobs;
-use rand_pcg::Pcg32;
 use std::alloc::Global;
 use std::test::Fail;
 
@@ -17,36 +16,23 @@ const ODD: [usize; 3] = [1, 10_001, 20_001];
 #[test]
 fn both_ends_and_the_middle_of_many(rt: HostRuntime) -> Result<(), Fail> {
     let alloc = rt.alloc();
-    let mut chance = Pcg32::new(1, 2);
-    let mut blobs = MapBlobs::new(alloc);
+    let mut blobs = MapBlobs::new(alloc, [0; 32]);
     let header = Header {
         kind: Kind::Directory,
         parent: BlockId([0; 16]),
     };
     let even = body_of_even(alloc)?;
-    let dir = new_blob(alloc, &mut blobs, &header, &even, &mut chance)?;
+    let dir = new_blob(alloc, &mut blobs, &header, &even)?;
     for number in &ODD {
-        insert(
-            alloc,
-            &mut blobs,
-            &dir,
-            &numbered(alloc, *number, 5)?,
-            &mut chance,
-        )?;
-        change(
-            alloc,
-            &mut blobs,
-            &dir,
-            &numbered(alloc, *number, 7)?,
-            &mut chance,
-        )?;
+        insert(alloc, &mut blobs, &dir, &numbered(alloc, *number, 5)?)?;
+        change(alloc, &mut blobs, &dir, &numbered(alloc, *number, 7)?)?;
     }
     assert_eq!(rt; entries(alloc, &mut blobs, &dir)?.len(), 10_003);
     for number in &ODD {
         let name = numbered(alloc, *number, 0)?.name;
         let (attr, _) = find_target(alloc, &mut blobs, &dir, &name)?.ok_or("the entry")?;
         assert_eq!(rt; attr.uid, 7);
-        remove(alloc, &mut blobs, &dir, &name, &mut chance)?;
+        remove(alloc, &mut blobs, &dir, &name)?;
         assert!(rt; find_target(alloc, &mut blobs, &dir, &name)?.is_none());
     }
     let left = whole_body(alloc, &mut blobs, &dir)?;

@@ -3,7 +3,6 @@ use crate::blocks::empty;
 use crate::suite::{forgets_what_was_removed, reads_what_was_made, resizes, writes};
 use blob_api::Blobs;
 use map_blobs::MapBlobs;
-use rand_pcg::Pcg32;
 use std::alloc::Global;
 use std::test::Fail;
 
@@ -11,18 +10,17 @@ use std::test::Fail;
 fn conforms<B: Blobs>(alloc: Global, blobs: &mut B) -> Result<(bool, bool, bool, bool), Fail>
     requires { B.meanings.intact blobs.old }
 {
-    let mut chance = Pcg32::new(1, 2);
-    let made = reads_what_was_made(alloc, blobs, &mut chance)?;
-    let written = writes(alloc, blobs, &mut chance)?;
-    let resized = resizes(alloc, blobs, &mut chance)?;
-    let removed = forgets_what_was_removed(alloc, blobs, &mut chance)?;
+    let made = reads_what_was_made(alloc, blobs)?;
+    let written = writes(alloc, blobs)?;
+    let resized = resizes(alloc, blobs)?;
+    let removed = forgets_what_was_removed(alloc, blobs)?;
     Ok((made, written, resized, removed))
 }
 
 #[test]
 fn blobs_in_memory(rt: HostRuntime) -> Result<(), Fail> {
     let alloc = rt.alloc();
-    let mut blobs = MapBlobs::new(alloc);
+    let mut blobs = MapBlobs::new(alloc, [0; 32]);
     assert!(rt; conforms(alloc, &mut blobs)? == (true, true, true, true));
     Ok(())
 }

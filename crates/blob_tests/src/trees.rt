@@ -5,7 +5,6 @@ use block_id::{BlockId, Why};
 use data_nodes::Node;
 use data_tree::{load_at, load_root, put_new, put_node};
 use map_store::MapStore;
-use rand_core::Rng;
 use rand_pcg::Pcg32;
 use std::alloc::Global;
 use std::test::Fail;
@@ -48,7 +47,7 @@ fn bytes_of(alloc: Global, n: usize) -> Result<Vec<u8>, Fail> {
 fn empty(alloc: Global) -> Tx<MapStore>
     ensures { ⟦<Tx<MapStore> as Blocks>⟧.meanings.intact result }
 {
-    Tx::new(alloc, MapStore::new(alloc, 50))
+    Tx::new(alloc, MapStore::new(alloc, 50), [0; 32])
 }
 
 /// Whether a tree of one size has the nodes and the bytes of another after it was grown or cut.
@@ -64,13 +63,12 @@ fn is_resized<S: Blocks>(
     if before > 169 || after > 169 {
         return Ok(false);
     }
-    let mut chance = Pcg32::new(1, 2);
     let mut text = bytes_of(alloc, before)?;
     if text.len() != before {
         return Ok(false);
     }
-    let root = new_tree(alloc, tx, &text, &mut chance)?;
-    resize(alloc, tx, &root, after as u64, &mut chance)?;
+    let root = new_tree(alloc, tx, &text)?;
+    resize(alloc, tx, &root, after as u64)?;
     text.resize(after, 0)?;
     let back = read_range(alloc, tx, &root, 0, 1000)?;
     let same = back.as_slice() == text.as_slice() && tx.batch().len() == count;
@@ -117,22 +115,21 @@ fn shape_below<S: Blocks>(
 }
 
 /// The call on ranges, or the plain one.
-fn resize_by<S: Blocks, R: Rng>(
+fn resize_by<S: Blocks>(
     alloc: Global,
     tx: &mut Tx<S>,
     root: &BlockId,
     n: u64,
     plainly: bool,
-    chance: &mut R,
 ) -> Result<(), block_id::Fail>
     requires intact { ⟦<Tx<S> as Blocks>⟧.meanings.intact tx.old }
     requires small { n ≤ 2 ^ 40 }
     ensures { ⟦<Tx<S> as Blocks>⟧.meanings.intact tx.new }
 {
     if plainly {
-        return tree_calls::resize(alloc, tx, root, n, chance);
+        return tree_calls::resize(alloc, tx, root, n);
     }
-    resize(alloc, tx, root, n, chance)
+    resize(alloc, tx, root, n)
 }
 
 /// How many nodes a stored tree of one size has, its nodes as it was grown or cut to another, and the number of changes.
@@ -145,18 +142,17 @@ fn shape_after<S: BlocksMut>(
 ) -> Result<(usize, Vec<Vec<u8>>, usize), Fail>
     requires { ⟦<Tx<S> as Blocks>⟧.meanings.intact tx.old }
 {
-    let mut chance = Pcg32::new(1, 2);
     let text = bytes_of(alloc, before)?;
     if text.len() > 1000 || after > 1000 {
         return Err(Fail::from("too long"));
     }
-    let root = new_tree(alloc, tx, &text, &mut chance)?;
+    let root = new_tree(alloc, tx, &text)?;
     let old = tx.batch().len();
-    match tx.commit(alloc, &mut chance) {
+    match tx.commit(alloc, &mut Pcg32::new(1, 2)) {
         Ok(()) => {}
         Err(_) => return Err(Fail::from("not committed")),
     }
-    resize_by(alloc, tx, &root, after as u64, plainly, &mut chance)?;
+    resize_by(alloc, tx, &root, after as u64, plainly)?;
     let changes = tx.batch().len();
     let mut nodes = Vec::new(alloc);
     let (_, level) = load_root(alloc, tx, &root)?;
@@ -211,7 +207,6 @@ fn written<S: BlocksMut>(
 ) -> Result<(usize, Vec<u8>), Fail>
     requires { ⟦<Tx<S> as Blocks>⟧.meanings.intact tx.old }
 {
-    let mut chance = Pcg32::new(1, 2);
     if from > 1000 || bytes.len() > 1000 {
         return Err(Fail::from("too long"));
     }
@@ -219,12 +214,12 @@ fn written<S: BlocksMut>(
     if text.len() > 169 {
         return Err(Fail::from("too long"));
     }
-    let root = new_tree(alloc, tx, &text, &mut chance)?;
-    match tx.commit(alloc, &mut chance) {
+    let root = new_tree(alloc, tx, &text)?;
+    match tx.commit(alloc, &mut Pcg32::new(1, 2)) {
         Ok(()) => {}
         Err(_) => return Err(Fail::from("not committed")),
     }
-    write_range(alloc, tx, &root, from, bytes, &mut chance)?;
+    write_range(alloc, tx, &root, from, bytes)?;
     let count = tx.batch().len();
     let back = read_range(alloc, tx, &root, from, bytes.len() as u64)?;
     Ok((count, back))
@@ -258,11 +253,10 @@ fn is_refused<S: Blocks>(alloc: Global, tx: &mut Tx<S>, root: &BlockId) -> bool
     requires { ⟦<Tx<S> as Blocks>⟧.meanings.intact tx.old }
     ensures { ⟦<Tx<S> as Blocks>⟧.meanings.intact tx.new }
 {
-    let mut chance = Pcg32::new(1, 2);
     let measured = len(alloc, tx, root);
     let read = read_range(alloc, tx, root, 0, 1000);
-    let wrote = write_range(alloc, tx, root, 0, b"a", &mut chance);
-    let cut = resize(alloc, tx, root, 1, &mut chance);
+    let wrote = write_range(alloc, tx, root, 0, b"a");
+    let cut = resize(alloc, tx, root, 1);
     let dropped = drop_tree(alloc, tx, root);
     matches!(measured, Err(block_id::Fail::Violation(Why::Structure)))
         && matches!(read, Err(block_id::Fail::Violation(Why::Structure)))
@@ -275,12 +269,11 @@ fn is_refused<S: Blocks>(alloc: Global, tx: &mut Tx<S>, root: &BlockId) -> bool
 fn refuses<S: Blocks>(alloc: Global, tx: &mut Tx<S>, depth: u8, which: u8) -> Result<bool, Fail>
     requires { ⟦<Tx<S> as Blocks>⟧.meanings.intact tx.old }
 {
-    let mut chance = Pcg32::new(1, 2);
     if tx.payload() != 50 || depth == 0 {
         return Err(Fail::from("another store"));
     }
-    let child = put_new(alloc, tx, &Node::Leaf(Vec::new(alloc)), &mut chance)?;
-    let root = put_new(alloc, tx, &Node::Leaf(Vec::new(alloc)), &mut chance)?;
+    let child = put_new(alloc, tx, &Node::Leaf(Vec::new(alloc)))?;
+    let root = put_new(alloc, tx, &Node::Leaf(Vec::new(alloc)))?;
     let below = match which {
         0 => child,
         1 => root,
@@ -309,14 +302,13 @@ fn blocks_that_are_no_tree_are_refused(rt: HostRuntime) -> Result<(), Fail> {
 fn refuses_twins<S: Blocks>(alloc: Global, tx: &mut Tx<S>) -> Result<bool, Fail>
     requires { ⟦<Tx<S> as Blocks>⟧.meanings.intact tx.old }
 {
-    let mut chance = Pcg32::new(1, 2);
     if tx.payload() != 50 {
         return Err(Fail::from("another store"));
     }
-    let child = put_new(alloc, tx, &Node::Leaf(Vec::new(alloc)), &mut chance)?;
+    let child = put_new(alloc, tx, &Node::Leaf(Vec::new(alloc)))?;
     let children = vec![in alloc; child; 2]?;
-    let root = put_new(alloc, tx, &Node::Inner { depth: 1, children }, &mut chance)?;
-    let cut = resize(alloc, tx, &root, 0, &mut chance);
+    let root = put_new(alloc, tx, &Node::Inner { depth: 1, children })?;
+    let cut = resize(alloc, tx, &root, 0);
     Ok(matches!(cut, Err(block_id::Fail::Violation(Why::Structure))))
 }
 

@@ -14,18 +14,16 @@ use crate::reading::read_in;
 use block_id::{BlockId, Fail, Memory, Why};
 use data_nodes::Node;
 use data_tree::{Level, MOST_BYTES, build, depth_of, drop_in, level_for, load_root, put_node};
-use rand_core::Rng;
 use std::alloc::Global;
 use store_api::{Blocks, Tx};
 
 /// A new tree for the bytes under an id that has a block.
-fn put_tree<S: Blocks, R: Rng>(
+fn put_tree<S: Blocks>(
     alloc: Global,
     tx: &mut Tx<S>,
     root: &BlockId,
     bytes: &[u8],
     level: Level,
-    chance: &mut R,
 ) -> Result<(), Memory>
     requires intact { ⟦<Tx<S> as Blocks>⟧.meanings.intact tx.old }
     requires there { is_some (⟦<Tx<S> as Blocks>⟧.holdings.content tx.old root.now.0) ≡ true }
@@ -33,22 +31,22 @@ fn put_tree<S: Blocks, R: Rng>(
     requires room { level.room ≡ span (⟦<Tx<S> as Blocks>⟧.holdings.payload tx.old) level.depth }
     ensures intact { ⟦<Tx<S> as Blocks>⟧.meanings.intact tx.new }
     ensures store { tx.new.store ≡ tx.old.store }
+    ensures seed { tx.new.seed ≡ tx.old.seed }
     ensures built { OnOk result (IsNewRoot ⟦<Tx<S> as Blocks>⟧.holdings tx.old tx.new root.now.0 (root.now.0 ∷ []) bytes.now) }
 {
-    match build(alloc, tx, bytes, level, chance) {
+    match build(alloc, tx, bytes, level) {
         Ok(node) => put_node(alloc, tx, root, &node),
         Err(memory) => Err(memory),
     }
 }
 
 /// A new tree for the bytes under the id of a root, in place of what stands below its node.
-pub(crate) fn rewrite<S: Blocks, R: Rng>(
+pub(crate) fn rewrite<S: Blocks>(
     alloc: Global,
     tx: &mut Tx<S>,
     root: &BlockId,
     node: &Node,
     bytes: &[u8],
-    chance: &mut R,
 ) -> Result<(), Fail>
     requires intact { ⟦<Tx<S> as Blocks>⟧.meanings.intact tx.old }
     requires there { is_some (⟦<Tx<S> as Blocks>⟧.holdings.content tx.old root.now.0) ≡ true }
@@ -59,7 +57,7 @@ pub(crate) fn rewrite<S: Blocks, R: Rng>(
     ensures below { Stays S.holdings tx.old.store tx.new.store }
 {
     let level = level_for(tx.payload(), bytes.len() as u64);
-    match put_tree(alloc, tx, root, bytes, level, chance) {
+    match put_tree(alloc, tx, root, bytes, level) {
         Ok(()) => drop_in(alloc, tx, node, depth_of(node)),
         Err(_) => Err(Fail::Memory),
     }

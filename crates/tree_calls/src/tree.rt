@@ -13,7 +13,6 @@ use crate::reading::read_in;
 use crate::rewriting::{overwrite, read_root, rewrite};
 use block_id::{BlockId, Fail};
 use data_tree::{drop_in, level_for, load_root, new_below, remove};
-use rand_core::Rng;
 use std::alloc::Global;
 use store_api::{Blocks, Tx};
 
@@ -84,11 +83,10 @@ pub fn drop_tree<S: Blocks>(alloc: Global, tx: &mut Tx<S>, root: &BlockId) -> Re
 }
 
 /// A new tree that holds the bytes. Nothing is loaded.
-pub fn new_tree<S: Blocks, R: Rng>(
+pub fn new_tree<S: Blocks>(
     alloc: Global,
     tx: &mut Tx<S>,
     bytes: &[u8],
-    chance: &mut R,
 ) -> Result<BlockId, Fail>
     requires intact { ⟦<Tx<S> as Blocks>⟧.meanings.intact tx.old }
     requires small { length bytes.now ≤ 2 ^ 40 }
@@ -99,20 +97,19 @@ pub fn new_tree<S: Blocks, R: Rng>(
     ensures below { Stays S.holdings tx.old.store tx.new.store }
 {
     let level = level_for(tx.payload(), bytes.len() as u64);
-    match new_below(alloc, tx, bytes, level, chance) {
+    match new_below(alloc, tx, bytes, level) {
         Ok(root) => Ok(root),
         Err(_) => Err(Fail::Memory),
     }
 }
 
 /// Writes the bytes from a place on, with zeros between the old end and there. No bytes change nothing.
-pub fn write_range<S: Blocks, R: Rng>(
+pub fn write_range<S: Blocks>(
     alloc: Global,
     tx: &mut Tx<S>,
     root: &BlockId,
     from: u64,
     bytes: &[u8],
-    chance: &mut R,
 ) -> Result<(), Fail>
     requires intact { ⟦<Tx<S> as Blocks>⟧.meanings.intact tx.old }
     requires small { from + length bytes.now ≤ 2 ^ 40 }
@@ -134,16 +131,15 @@ pub fn write_range<S: Blocks, R: Rng>(
         Ok(()) => {}
         Err(_) => return Err(Fail::Memory),
     }
-    rewrite(alloc, tx, root, &node, &all, chance)
+    rewrite(alloc, tx, root, &node, &all)
 }
 
 /// Cuts the tree to this length, or appends zeros up to it.
-pub fn resize<S: Blocks, R: Rng>(
+pub fn resize<S: Blocks>(
     alloc: Global,
     tx: &mut Tx<S>,
     root: &BlockId,
     n: u64,
-    chance: &mut R,
 ) -> Result<(), Fail>
     requires intact { ⟦<Tx<S> as Blocks>⟧.meanings.intact tx.old }
     requires small { n ≤ 2 ^ 40 }
@@ -161,5 +157,5 @@ pub fn resize<S: Blocks, R: Rng>(
         Ok(()) => {}
         Err(_) => return Err(Fail::Memory),
     }
-    rewrite(alloc, tx, root, &node, &all, chance)
+    rewrite(alloc, tx, root, &node, &all)
 }

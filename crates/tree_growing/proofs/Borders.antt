@@ -60,7 +60,7 @@ put_last H0 a d e low children some q others so_far =
 
 -- the last child was loaded, and its node grew
 pub inner_only : {B : Type 0} (M : Meanings B) (H0 : Holdings B) (laws : Lawful (tx_meanings M H0)) (a b d : Tx B) {low : ℕ} (children : List BlockId) {child : Node} → 0 < length children → 50 ≤ H0.payload a.store
-    → Outcome (tx_meanings M H0) (HasTree (tx_holdings H0) a low (last_id children)) a b (Ok child) (λ n node. node_of node ≡ n.tree.node) → Stays (tx_holdings H0) a b → b.overlay ≡ a.overlay → M.loaded b.store d.store
+    → Outcome (tx_meanings M H0) (HasTree (tx_holdings H0) a low (last_id children)) a b (Ok child) (λ n node. node_of node ≡ n.tree.node) → Stays (tx_holdings H0) a b → b.overlay ≡ a.overlay → (tx_meanings M H0).loaded b d
     → (HasBelow (tx_holdings H0) b low (node_of child) → M.sound b.store → M.forgeries d.store ≤ M.forgeries b.store → (q : Id) → is_some ((tx_holdings H0).content b q) ≡ true → (get d.overlay q ≡ get b.overlay q) ⊎ OnBorderBelow ((tx_holdings H0).content b) low (node_of child) q)
     → HasTrees (tx_holdings H0) a low (ids_of children) → M.sound a.store → M.forgeries d.store ≤ M.forgeries a.store → (q : Id) → is_some ((tx_holdings H0).content a q) ≡ true → (get d.overlay q ≡ get a.overlay q) ⊎ OnLastBorder ((tx_holdings H0).content a) low (ids_of children) q
 inner_only M H0 laws a b d {low = low} children {child = child} some least loaded stays overlay went only n s h q there =

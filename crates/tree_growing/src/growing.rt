@@ -13,7 +13,6 @@ ghost use Rattle.tree_growing.specs.Growing.{Grown, GrownTrees};
 use block_id::{BlockId, Fail, Memory};
 use data_nodes::Node;
 use data_tree::{Level, build_children, load_at, put_node};
-use rand_core::Rng;
 use std::alloc::Global;
 use store_api::{Blocks, Tx};
 
@@ -31,14 +30,13 @@ fn grown_leaf(alloc: Global, old: &[u8], room: u64, bytes: &[u8]) -> Result<(Nod
 }
 
 /// Children with new trees behind them for as many of the bytes as there are places for, and how many these are.
-pub(crate) fn grown_children<S: Blocks, R: Rng>(
+pub(crate) fn grown_children<S: Blocks>(
     alloc: Global,
     tx: &mut Tx<S>,
     children: &[BlockId],
     level: Level,
     places: u64,
     bytes: &[u8],
-    chance: &mut R,
 ) -> Result<(Vec<BlockId>, usize), Memory>
     requires intact { ⟦<Tx<S> as Blocks>⟧.meanings.intact tx.old }
     requires level { level.room ≡ span (⟦<Tx<S> as Blocks>⟧.holdings.payload tx.old) level.depth }
@@ -47,6 +45,7 @@ pub(crate) fn grown_children<S: Blocks, R: Rng>(
     requires small { fan_out (⟦<Tx<S> as Blocks>⟧.holdings.payload tx.old) * level.room < 2 ^ 64 }
     ensures intact { ⟦<Tx<S> as Blocks>⟧.meanings.intact tx.new }
     ensures store { tx.new.store ≡ tx.old.store }
+    ensures seed { tx.new.seed ≡ tx.old.seed }
     ensures used { IfOk result (λ grown. grown.1 ≡ min (places * level.room) (length bytes.now)) }
     ensures built { IfOk result (λ grown. (new : List Id) × ((ids_of grown.0.items ≡ ids_of children.now ++ new) × BuiltTrees ⟦<Tx<S> as Blocks>⟧.holdings tx.old tx.new level.depth new (take grown.1 bytes.now))) }
     ensures few { IfOk result (λ grown. length grown.0.items ≤ fan_out (⟦<Tx<S> as Blocks>⟧.holdings.payload tx.old)) }
@@ -55,7 +54,7 @@ pub(crate) fn grown_children<S: Blocks, R: Rng>(
     ensures kept { (q : Id) → is_some (⟦<Tx<S> as Blocks>⟧.holdings.content tx.old q) ≡ true → get tx.new.overlay q ≡ get tx.old.overlay q }
 {
     let used = (places * level.room).min(bytes.len() as u64) as usize;
-    let new = build_children(alloc, tx, &bytes[..used], level, chance)?;
+    let new = build_children(alloc, tx, &bytes[..used], level)?;
     let mut all = Vec::with_capacity(alloc, children.len())?;
     all.extend_from_slice(children)?;
     all.extend_from_slice(&new)?;
@@ -64,13 +63,12 @@ pub(crate) fn grown_children<S: Blocks, R: Rng>(
 
 /// A node with as many of the bytes behind those of its tree as its level has room for, and how many these are. What stands below it is put.
 #[cycle(grow)]
-pub fn grown_node<S: Blocks, R: Rng>(
+pub fn grown_node<S: Blocks>(
     alloc: Global,
     tx: &mut Tx<S>,
     node: &Node,
     level: Level,
     bytes: &[u8],
-    chance: &mut R,
 ) -> Result<(Node, usize), Fail>
     requires intact { ⟦<Tx<S> as Blocks>⟧.meanings.intact tx.old }
     requires level { level.room ≡ span (⟦<Tx<S> as Blocks>⟧.holdings.payload tx.old) level.depth }
@@ -94,7 +92,7 @@ pub fn grown_node<S: Blocks, R: Rng>(
         },
         Node::Inner { depth, children } => {
             let below = level.below(tx.payload());
-            match grown_inner(alloc, tx, children, below, bytes, chance) {
+            match grown_inner(alloc, tx, children, below, bytes) {
                 Ok((children, used)) => Ok((
                     Node::Inner {
                         depth: *depth,
@@ -110,13 +108,12 @@ pub fn grown_node<S: Blocks, R: Rng>(
 
 /// The children of a node, the last of them grown, with new ones behind it.
 #[cycle(grow)]
-fn grown_inner<S: Blocks, R: Rng>(
+fn grown_inner<S: Blocks>(
     alloc: Global,
     tx: &mut Tx<S>,
     children: &[BlockId],
     level: Level,
     bytes: &[u8],
-    chance: &mut R,
 ) -> Result<(Vec<BlockId>, usize), Fail>
     requires intact { ⟦<Tx<S> as Blocks>⟧.meanings.intact tx.old }
     requires level { level.room ≡ span (⟦<Tx<S> as Blocks>⟧.holdings.payload tx.old) level.depth }
@@ -140,7 +137,7 @@ fn grown_inner<S: Blocks, R: Rng>(
         Ok(child) => child,
         Err(fail) => return Err(fail),
     };
-    let (grown, used) = match grown_node(alloc, tx, &child, level, bytes, chance) {
+    let (grown, used) = match grown_node(alloc, tx, &child, level, bytes) {
         Ok(grown) => grown,
         Err(fail) => return Err(fail),
     };
@@ -148,7 +145,7 @@ fn grown_inner<S: Blocks, R: Rng>(
         Ok(()) => {}
         Err(_) => return Err(Fail::Memory),
     }
-    match grown_children(alloc, tx, children, level, places, &bytes[used..], chance) {
+    match grown_children(alloc, tx, children, level, places, &bytes[used..]) {
         Ok((all, more)) => Ok((all, used + more)),
         Err(_) => Err(Fail::Memory),
     }

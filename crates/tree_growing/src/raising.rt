@@ -11,7 +11,6 @@ use crate::growing::grown_children;
 use block_id::{BlockId, Memory};
 use data_nodes::Node;
 use data_tree::{Level, put_new};
-use rand_core::Rng;
 use std::alloc::Global;
 use store_api::{Blocks, Tx};
 
@@ -33,14 +32,13 @@ fn above(level: Level, payload: usize) -> Level
 }
 
 /// A node that has room for n bytes in place of a full one, and how many of the bytes it took. What stands below it is put.
-pub fn raised<S: Blocks, R: Rng>(
+pub fn raised<S: Blocks>(
     alloc: Global,
     tx: &mut Tx<S>,
     node: Node,
     level: Level,
     n: u64,
     rest: &[u8],
-    chance: &mut R,
 ) -> Result<(Node, usize), Memory>
     requires intact { ⟦<Tx<S> as Blocks>⟧.meanings.intact tx.old }
     requires level { level.room ≡ span (⟦<Tx<S> as Blocks>⟧.holdings.payload tx.old) level.depth }
@@ -48,6 +46,7 @@ pub fn raised<S: Blocks, R: Rng>(
     requires small { n ≤ 2 ^ 40 }
     ensures intact { ⟦<Tx<S> as Blocks>⟧.meanings.intact tx.new }
     ensures store { tx.new.store ≡ tx.old.store }
+    ensures seed { tx.new.seed ≡ tx.old.seed }
     ensures raised { IfOk result (λ up. (m : MayGrow ⟦<Tx<S> as Blocks>⟧.holdings tx.old level.depth (node_of node) n (length rest.now))
         → Raised ⟦<Tx<S> as Blocks>⟧.holdings tx.old tx.new (node_of up.0) (m.bytes ++ rest.now) m.ids × (up.1 ≡ length rest.now)) }
     ensures used { IfOk result (λ up. up.1 ≤ length rest.now) }
@@ -58,14 +57,14 @@ pub fn raised<S: Blocks, R: Rng>(
     if level.room >= n {
         return Ok((node, 0));
     }
-    let first = put_new(alloc, tx, &node, chance)?;
+    let first = put_new(alloc, tx, &node)?;
     let places = (tx.payload() as u64 - 8) / 16 - 1;
-    let (children, used) = grown_children(alloc, tx, &[first], level, places, rest, chance)?;
+    let (children, used) = grown_children(alloc, tx, &[first], level, places, rest)?;
     let level = above(level, tx.payload());
     let node = Node::Inner {
         depth: level.depth,
         children,
     };
-    let (node, more) = raised(alloc, tx, node, level, n, &rest[used..], chance)?;
+    let (node, more) = raised(alloc, tx, node, level, n, &rest[used..])?;
     Ok((node, used + more))
 }

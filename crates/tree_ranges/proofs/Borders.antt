@@ -27,7 +27,7 @@ use Rattle.tree_writing.specs.Leaves.{OnlyLeaves, LeafAt}
 
 -- the root was loaded, and its node grew
 pub root_only : {B : Type 0} (M : Meanings B) (H0 : Holdings B) (laws : Lawful (tx_meanings M H0)) (a b d : Tx B) {L : Type 0} {root : Id} {found : Node × L} (depth : ℕ) → depth_in (node_of found.0) ≡ depth
-    → Outcome (tx_meanings M H0) (IsRoot (tx_holdings H0) a root) a b (Ok found) (λ n found. ((tx_holdings H0).told a ≡ true) × (node_of found.0 ≡ n.tree.node)) → Stays (tx_holdings H0) a b → b.overlay ≡ a.overlay → M.loaded b.store d.store
+    → Outcome (tx_meanings M H0) (IsRoot (tx_holdings H0) a root) a b (Ok found) (λ n found. ((tx_holdings H0).told a ≡ true) × (node_of found.0 ≡ n.tree.node)) → Stays (tx_holdings H0) a b → b.overlay ≡ a.overlay → (tx_meanings M H0).loaded b d
     → (HasBelow (tx_holdings H0) b depth (node_of found.0) → M.sound b.store → M.forgeries d.store ≤ M.forgeries b.store → (q : Id) → is_some ((tx_holdings H0).content b q) ≡ true → (get d.overlay q ≡ get b.overlay q) ⊎ OnBorderBelow ((tx_holdings H0).content b) depth (node_of found.0) q)
     → (r : IsRoot (tx_holdings H0) a root) → M.sound a.store → M.forgeries d.store ≤ M.forgeries a.store → (q : Id) → is_some ((tx_holdings H0).content a q) ≡ true → (get d.overlay q ≡ get a.overlay q) ⊎ OnBorder ((tx_holdings H0).content a) r.depth root q
 root_only M H0 laws a b d {root = root} {found = found} depth level loaded stays overlay went only r s h q there =

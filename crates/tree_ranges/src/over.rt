@@ -13,20 +13,18 @@ ghost use Rattle.tree_ranges.specs.Ranges.{GrowsTo, IsOpened};
 
 use block_id::{BlockId, Fail, Memory, Why};
 use data_tree::{Level, load_root, put_node};
-use rand_core::Rng;
 use std::alloc::Global;
 use store_api::{Blocks, Tx};
 use tree_growing::{grown_node, raised};
 use tree_writing::write_below;
 
 /// Appends bytes, so that the tree has n of them. Its depth rises where n needs it.
-pub(crate) fn append<S: Blocks, R: Rng>(
+pub(crate) fn append<S: Blocks>(
     alloc: Global,
     tx: &mut Tx<S>,
     root: &BlockId,
     n: u64,
     tail: &[u8],
-    chance: &mut R,
 ) -> Result<(), Fail>
     requires intact { ⟦<Tx<S> as Blocks>⟧.meanings.intact tx.old }
     requires small { n ≤ 2 ^ 40 }
@@ -41,11 +39,11 @@ pub(crate) fn append<S: Blocks, R: Rng>(
         Ok(found) => found,
         Err(fail) => return Err(fail),
     };
-    let (grown, used) = match grown_node(alloc, tx, &node, level, tail, chance) {
+    let (grown, used) = match grown_node(alloc, tx, &node, level, tail) {
         Ok(grown) => grown,
         Err(fail) => return Err(fail),
     };
-    let (grown, more) = match raised(alloc, tx, grown, level, n, &tail[used..], chance) {
+    let (grown, more) = match raised(alloc, tx, grown, level, n, &tail[used..]) {
         Ok(grown) => grown,
         Err(_) => return Err(Fail::Memory),
     };
@@ -69,7 +67,7 @@ pub(crate) fn after_zeros(alloc: Global, count: usize, bytes: &[u8]) -> Result<V
 }
 
 /// Writes bytes over the end of a tree.
-pub(crate) fn write_over<S: Blocks, R: Rng>(
+pub(crate) fn write_over<S: Blocks>(
     alloc: Global,
     tx: &mut Tx<S>,
     root: &BlockId,
@@ -77,7 +75,6 @@ pub(crate) fn write_over<S: Blocks, R: Rng>(
     len: u64,
     from: u64,
     bytes: &[u8],
-    chance: &mut R,
 ) -> Result<(), Fail>
     requires intact { ⟦<Tx<S> as Blocks>⟧.meanings.intact tx.old }
     requires level { level.room ≡ span (⟦<Tx<S> as Blocks>⟧.holdings.payload tx.old) level.depth }
@@ -99,5 +96,5 @@ pub(crate) fn write_over<S: Blocks, R: Rng>(
         Ok(tail) => tail,
         Err(_) => return Err(Fail::Memory),
     };
-    append(alloc, tx, root, from + bytes.len() as u64, &tail, chance)
+    append(alloc, tx, root, from + bytes.len() as u64, &tail)
 }

@@ -16,7 +16,6 @@ use crate::over::{after_zeros, append, write_over};
 use block_id::{BlockId, Fail};
 use data_nodes::Node;
 use data_tree::{Level, level_for, load_root};
-use rand_core::Rng;
 use std::alloc::Global;
 use store_api::{Blocks, Tx};
 use tree_calls::len_in;
@@ -55,13 +54,12 @@ fn open_root<S: Blocks>(
 
 /// Writes the bytes from a place on, with zeros between the old end and there. No bytes change nothing. Only the right
 /// border and the nodes over the range are loaded; as the depth grows the root's node moves under a new id.
-pub fn write_range<S: Blocks, R: Rng>(
+pub fn write_range<S: Blocks>(
     alloc: Global,
     tx: &mut Tx<S>,
     root: &BlockId,
     from: u64,
     bytes: &[u8],
-    chance: &mut R,
 ) -> Result<(), Fail>
     requires intact { ⟦<Tx<S> as Blocks>⟧.meanings.intact tx.old }
     requires small { from + length bytes.now ≤ 2 ^ 40 }
@@ -95,17 +93,16 @@ pub fn write_range<S: Blocks, R: Rng>(
     if from + bytes.len() as u64 <= len {
         return write_in(alloc, tx, root, &node, level, from, bytes);
     }
-    write_over(alloc, tx, root, level, len, from, bytes, chance)
+    write_over(alloc, tx, root, level, len, from, bytes)
 }
 
 /// Cuts the tree to this length, or appends zeros up to it. Loaded are the right border and, as it is cut, the inner nodes
 /// that go, the new right border and the way down to the node that the root takes.
-pub fn resize<S: Blocks, R: Rng>(
+pub fn resize<S: Blocks>(
     alloc: Global,
     tx: &mut Tx<S>,
     root: &BlockId,
     n: u64,
-    chance: &mut R,
 ) -> Result<(), Fail>
     requires intact { ⟦<Tx<S> as Blocks>⟧.meanings.intact tx.old }
     requires small { n ≤ 2 ^ 40 }
@@ -138,5 +135,5 @@ pub fn resize<S: Blocks, R: Rng>(
         Ok(tail) => tail,
         Err(_) => return Err(Fail::Memory),
     };
-    append(alloc, tx, root, n, &tail, chance)
+    append(alloc, tx, root, n, &tail)
 }

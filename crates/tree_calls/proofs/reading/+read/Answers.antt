@@ -114,7 +114,7 @@ pub read_below-returns-in-Err-clause-outcome : goal.read_below-returns-in-Err-cl
 read_below-returns-in-Err-clause-outcome g t c = passed c.in-Err.ensures.outcome
 
 pub read_in-returns-in-Err-clause-outcome : goal.read_in-returns-in-Err-clause-outcome
-read_in-returns-in-Err-clause-outcome g t c = memory_first g.S.Blocks.meanings g.S.Blocks.holdings g.met.S.Blocks.lawful c.args.tx.now c.args.tx.now c.requires.intact refl c.requires.intact
+read_in-returns-in-Err-clause-outcome g t c = memory_first g.S.Blocks.meanings g.S.Blocks.holdings g.met.S.Blocks.lawful c.args.tx.now c.args.tx.now c.requires.intact refl refl c.requires.intact
 
 pub read_below-read_in-requires : goal.read_below-read_in-requires
 read_below-read_in-requires g t c κs within =

@@ -18,9 +18,9 @@ returns-in-Ok-clause-outcome g c =
     let root = c.args.root.now.0 in
     let node = node_of c.args.node.now in
     let none = idle laws {T = Unit {0}} {N = HasRootNode (tx_holdings H) a root node} {P = λ _ _. Unit {0}} a tt c.requires.intact (λ n. tt) in
-    let one = changed_ M H {R = λ n. IsNewRoot (tx_holdings H) a b root (root ∷ []) c.args.bytes.now} a a b c.put_tree.ensures.store c.put_tree.ensures.intact none (λ n p. c.in-Ok.ensures.built) in
+    let one = changed_ M H {R = λ n. IsNewRoot (tx_holdings H) a b root (root ∷ []) c.args.bytes.now} a a b c.put_tree.ensures.store c.put_tree.ensures.seed c.put_tree.ensures.intact none (λ n p. c.in-Ok.ensures.built) in
     then_ laws one (λ n r. old_below c.depth_of.result c.depth_of.ensures (keeps_same H a b c.put_tree.ensures.store) n r) c.drop_in.ensures.outcome
     (λ n r y k. anew n r (keeps_below H b c.drop_in.new.tx c.drop_in.ensures.below) k)
 
 pub returns-in-Err-clause-outcome : goal.returns-in-Err-clause-outcome
-returns-in-Err-clause-outcome g c = memory_first g.S.Blocks.meanings g.S.Blocks.holdings g.met.S.Blocks.lawful c.args.tx.now c.put_tree.new.tx c.requires.intact c.put_tree.ensures.store c.put_tree.ensures.intact
+returns-in-Err-clause-outcome g c = memory_first g.S.Blocks.meanings g.S.Blocks.holdings g.met.S.Blocks.lawful c.args.tx.now c.put_tree.new.tx c.requires.intact c.put_tree.ensures.store c.put_tree.ensures.seed c.put_tree.ensures.intact

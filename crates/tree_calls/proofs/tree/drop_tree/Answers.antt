@@ -19,7 +19,7 @@ returns-in-Ok-remove-clause-outcome g c =
     let id = c.args.root.now.0 in
     let node = node_of c.in-Ok.found.0 in
     let stays = c.load_root.ensures.stays in
-    let two = changed_ g.S.Blocks.meanings g.S.Blocks.holdings {R = λ n. ((H.told a ≡ true) × (node ≡ n.tree.node)) × Sets (H.content b) (H.content d) id None} a b d c.remove.ensures.store c.remove.ensures.intact c.in-Ok.ensures.outcome
+    let two = changed_ g.S.Blocks.meanings g.S.Blocks.holdings {R = λ n. ((H.told a ≡ true) × (node ≡ n.tree.node)) × Sets (H.content b) (H.content d) id None} a b d c.remove.ensures.store c.remove.ensures.seed c.remove.ensures.intact c.in-Ok.ensures.outcome
     (λ n p. (p, c.in-Ok-remove.ensures.sets)) in
     then_ laws two (λ n r. below_changed (below_on stays (below_root node c.in-Ok.found.1.depth r.0.0 n r.0.1 c.in-Ok.ensures.depth)) (alone_root n).0 (keeps_same g.S.Blocks.holdings b d c.remove.ensures.store) r.1) c.drop_in.ensures.outcome
     (λ n r y k. drops_tree (H.content a) (H.content b) (H.content d) (H.content c.drop_in.new.tx) id n.tree.below n.ids (stays.content r.0.0) r.1 n.tree.all k)
@@ -31,7 +31,7 @@ returns-in-Ok-remove-clause-shallow g c s h =
     on_any c.drop_in.result (c.in-Ok.ensures.shallow s (unforged_on g.S.Blocks.meanings c.args.tx.now c.load_root.new.tx c.remove.new.tx c.remove.ensures.store before))
 
 pub returns-clause-outcome : goal.returns-clause-outcome
-returns-clause-outcome g c = memory_after g.S.Blocks.meanings g.S.Blocks.holdings c.args.tx.now c.load_root.new.tx c.remove.new.tx c.remove.ensures.store c.remove.ensures.intact c.in-Ok.ensures.outcome
+returns-clause-outcome g c = memory_after g.S.Blocks.meanings g.S.Blocks.holdings c.args.tx.now c.load_root.new.tx c.remove.new.tx c.remove.ensures.store c.remove.ensures.seed c.remove.ensures.intact c.in-Ok.ensures.outcome
 
 pub returns-in-Err-clause-outcome : goal.returns-in-Err-clause-outcome
 returns-in-Err-clause-outcome g c = passed c.in-Err.ensures.outcome

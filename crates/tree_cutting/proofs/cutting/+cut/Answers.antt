@@ -10,7 +10,7 @@ use Rattle.data_tree.specs.Trees.{IsTree, Replaces, span}
 use Rattle.data_tree.proofs.Forests.{below_of, below_on, children_of, forest-length, leaf_is, root_apart}
 use Rattle.data_tree.proofs.Gathering.{more_children, next_child}
 use Rattle.data_tree.proofs.Levels.{span-some}
-use Rattle.data_tree.proofs.Loads.{store_in, changes_in, tx_holdings, tx_meanings, tx_laws}
+use Rattle.data_tree.proofs.Loads.{store_in, changes_in, drawn_in, tx_holdings, tx_meanings, tx_laws}
 use Rattle.data_tree.proofs.Puts.{below_same, changed_, keeps_below, keeps_same, memory_first, was_there}
 use Rattle.tree_cutting.specs.Cutting.{OnlyBorder, IsCut, MayCut, MayCutNode, MayCutTrees}
 use Rattle.tree_cutting.proofs.Cuts.{cut_at, cut_behind, cut_fits, cut_inner_is, cut_last, cut_leaf_is, cut_only, cut_since, fewer_put, put_border}
@@ -62,7 +62,7 @@ cut_in-returns-in-Inner-clause-outcome g t c =
 
 pub cut_children-nonzero_div-last : goal.cut_children-nonzero_div-last
 cut_children-nonzero_div-last g t c =
-    let steady = steady_over store_in changes_in g.S.Blocks.meanings g.S.Blocks.holdings g.met.S.Blocks.steady in
+    let steady = steady_over store_in changes_in drawn_in g.S.Blocks.meanings g.S.Blocks.holdings g.met.S.Blocks.steady in
     omega (arith, span-some ((tx_holdings g.S.Blocks.holdings).payload c.args.tx.now) c.args.level.depth (steady.at_least c.args.tx.now c.requires.intact), c.requires.level)
 
 pub cut_children-returns-then-last-children-clause-outcome : goal.cut_children-returns-then-last-children-clause-outcome
@@ -105,7 +105,7 @@ cut_children-returns-in-Err-drop_children-clause-outcome g t c =
     let H0 = g.S.Blocks.holdings in
     let H = tx_holdings H0 in
     let laws = tx_laws M H0 g.met.S.Blocks.lawful in
-    let steady = steady_over store_in changes_in M H0 g.met.S.Blocks.steady in
+    let steady = steady_over store_in changes_in drawn_in M H0 g.met.S.Blocks.steady in
     let a = c.args.tx.now in
     let b = c.put_node.new.tx in
     let d = c.drop_children.new.tx in
@@ -124,7 +124,7 @@ cut_children-returns-in-Err-drop_children-clause-outcome g t c =
     let ab = keeps_same H0 a b c.put_node.ensures.store in
     let s = λ (m : MayCutTrees H a low id ids c.args.n). cut_at (IsTree (H.payload a) (H.content a) low) (span (H.payload a) low) k ids last.0 m.trees.bytes m.trees.ids positive more is m.trees.trees in
     let none = idle laws {T = Unit {0}} {N = MayCutTrees H a low id ids c.args.n} {P = λ _ _. Unit {0}} a tt c.requires.intact (λ m. tt) in
-    let one = changed_ M H0 {R = λ m. SetsNode H a b id (inner (low + 1) kept)} a a b c.put_node.ensures.store c.put_node.ensures.intact none (λ m p. c.in-Ok-put_node.ensures.sets) in
+    let one = changed_ M H0 {R = λ m. SetsNode H a b id (inner (low + 1) kept)} a a b c.put_node.ensures.store c.put_node.ensures.seed c.put_node.ensures.intact none (λ m p. c.in-Ok-put_node.ensures.sets) in
     let behind = take (length children - (k + 1)) (drop (k + 1) children) in
     let cut : ids_of behind ≡ drop (k + 1) ids = ap ids_of (take_all (length children - (k + 1)) (drop (k + 1) children) (omega (arith, length-drop (k + 1) children))) ∙ sym (drop-map (λ (x : BlockId). x.0) (k + 1) children) in
     let dropped = subst (λ cs. Outcome (tx_meanings M H0) (HasTrees H b low cs) b d c.drop_children.result (λ n _. Replaces (H.content b) (H.content d) n.ids [])) cut c.drop_children.ensures.outcome in
@@ -136,7 +136,7 @@ cut_children-returns-clause-outcome g t c =
     let H0 = g.S.Blocks.holdings in
     let H = tx_holdings H0 in
     let laws = tx_laws M H0 g.met.S.Blocks.lawful in
-    let steady = steady_over store_in changes_in M H0 g.met.S.Blocks.steady in
+    let steady = steady_over store_in changes_in drawn_in M H0 g.met.S.Blocks.steady in
     let a = c.args.tx.now in
     let b = c.put_node.new.tx in
     let d = c.drop_children.new.tx in
@@ -155,7 +155,7 @@ cut_children-returns-clause-outcome g t c =
     let ab = keeps_same H0 a b c.put_node.ensures.store in
     let s = λ (m : MayCutTrees H a low id ids c.args.n). cut_at (IsTree (H.payload a) (H.content a) low) (span (H.payload a) low) k ids last.0 m.trees.bytes m.trees.ids positive more is m.trees.trees in
     let none = idle laws {T = Unit {0}} {N = MayCutTrees H a low id ids c.args.n} {P = λ _ _. Unit {0}} a tt c.requires.intact (λ m. tt) in
-    let one = changed_ M H0 {R = λ m. SetsNode H a b id (inner (low + 1) kept)} a a b c.put_node.ensures.store c.put_node.ensures.intact none (λ m p. c.in-Ok-put_node.ensures.sets) in
+    let one = changed_ M H0 {R = λ m. SetsNode H a b id (inner (low + 1) kept)} a a b c.put_node.ensures.store c.put_node.ensures.seed c.put_node.ensures.intact none (λ m p. c.in-Ok-put_node.ensures.sets) in
     let behind = take (length children - (k + 1)) (drop (k + 1) children) in
     let cut : ids_of behind ≡ drop (k + 1) ids = ap ids_of (take_all (length children - (k + 1)) (drop (k + 1) children) (omega (arith, length-drop (k + 1) children))) ∙ sym (drop-map (λ (x : BlockId). x.0) (k + 1) children) in
     let e = c.cut_below.new.tx in
@@ -185,7 +185,7 @@ pub cut_children-overflow_sub-n : goal.cut_children-overflow_sub-n
 cut_children-overflow_sub-n g t c = omega (arith, div-mul-le_self (c.args.n - 1) c.args.level.room)
 
 pub cut_children-returns-in-Err-clause-outcome : goal.cut_children-returns-in-Err-clause-outcome
-cut_children-returns-in-Err-clause-outcome g t c = memory_first g.S.Blocks.meanings g.S.Blocks.holdings g.met.S.Blocks.lawful c.args.tx.now c.args.tx.now c.requires.intact refl c.requires.intact
+cut_children-returns-in-Err-clause-outcome g t c = memory_first g.S.Blocks.meanings g.S.Blocks.holdings g.met.S.Blocks.lawful c.args.tx.now c.args.tx.now c.requires.intact refl refl c.requires.intact
 
 pub cut_children-returns-in-Err-put_node-clause-outcome : goal.cut_children-returns-in-Err-put_node-clause-outcome
-cut_children-returns-in-Err-put_node-clause-outcome g t c = memory_first g.S.Blocks.meanings g.S.Blocks.holdings g.met.S.Blocks.lawful c.args.tx.now c.put_node.new.tx c.requires.intact c.put_node.ensures.store c.put_node.ensures.intact
+cut_children-returns-in-Err-put_node-clause-outcome g t c = memory_first g.S.Blocks.meanings g.S.Blocks.holdings g.met.S.Blocks.lawful c.args.tx.now c.put_node.new.tx c.requires.intact c.put_node.ensures.store c.put_node.ensures.seed c.put_node.ensures.intact

@@ -10,7 +10,7 @@ use Rattle.data_tree.specs.Trees.{IsTree, Replaces, span}
 use Rattle.data_tree.proofs.Forests.{below_of, below_on, children_of}
 use Rattle.data_tree.proofs.Gathering.{next_child}
 use Rattle.data_tree.proofs.Levels.{span-some}
-use Rattle.data_tree.proofs.Loads.{store_in, changes_in, tx_holdings, tx_meanings, tx_laws}
+use Rattle.data_tree.proofs.Loads.{store_in, changes_in, drawn_in, tx_holdings, tx_meanings, tx_laws}
 use Rattle.data_tree.proofs.Puts.{below_same, keeps_below, keeps_same}
 use Rattle.tree_cutting.specs.Cutting.{OnlyBorder, IsCut, MayCutNode, MayCutTrees}
 use Rattle.tree_cutting.proofs.Cuts.{cut_at, cut_fits, lower_apart, lower_first, lower_is, lower_only, lower_rest, lower_there, room_enough}
@@ -32,7 +32,7 @@ lower-returns-in-Err-clause-outcome g t c =
     let H0 = g.S.Blocks.holdings in
     let H = tx_holdings H0 in
     let laws = tx_laws M H0 g.met.S.Blocks.lawful in
-    let steady = steady_over store_in changes_in M H0 g.met.S.Blocks.steady in
+    let steady = steady_over store_in changes_in drawn_in M H0 g.met.S.Blocks.steady in
     let a = c.args.tx.now in
     let b = c.load_at.new.tx in
     let root = c.args.root.now.0 in
@@ -56,7 +56,7 @@ lower-returns-in-Err-cut_root-clause-outcome g t c =
     let H0 = g.S.Blocks.holdings in
     let H = tx_holdings H0 in
     let laws = tx_laws M H0 g.met.S.Blocks.lawful in
-    let steady = steady_over store_in changes_in M H0 g.met.S.Blocks.steady in
+    let steady = steady_over store_in changes_in drawn_in M H0 g.met.S.Blocks.steady in
     let a = c.args.tx.now in
     let b = c.load_at.new.tx in
     let root = c.args.root.now.0 in
@@ -86,7 +86,7 @@ lower-returns-in-Err-remove_loaded-clause-outcome g t c =
     let H0 = g.S.Blocks.holdings in
     let H = tx_holdings H0 in
     let laws = tx_laws M H0 g.met.S.Blocks.lawful in
-    let steady = steady_over store_in changes_in M H0 g.met.S.Blocks.steady in
+    let steady = steady_over store_in changes_in drawn_in M H0 g.met.S.Blocks.steady in
     let a = c.args.tx.now in
     let b = c.load_at.new.tx in
     let root = c.args.root.now.0 in
@@ -118,7 +118,7 @@ lower-returns-clause-outcome g t c =
     let H0 = g.S.Blocks.holdings in
     let H = tx_holdings H0 in
     let laws = tx_laws M H0 g.met.S.Blocks.lawful in
-    let steady = steady_over store_in changes_in M H0 g.met.S.Blocks.steady in
+    let steady = steady_over store_in changes_in drawn_in M H0 g.met.S.Blocks.steady in
     let a = c.args.tx.now in
     let b = c.load_at.new.tx in
     let root = c.args.root.now.0 in

@@ -7,7 +7,7 @@ use Rattle.data_nodes.specs.Layout.{node_of, ids_of, leaf, inner, fan_out, FitsP
 use Rattle.store_api.specs.Overlay.{steady_over, changed_over}
 use Rattle.data_tree.specs.Needs.{HasBelow, HasTrees}
 use Rattle.data_tree.specs.Trees.{span, depth_in}
-use Rattle.data_tree.proofs.Loads.{store_in, changes_in, tx_holdings, tx_laws}
+use Rattle.data_tree.proofs.Loads.{store_in, changes_in, drawn_in, tx_holdings, tx_laws}
 use Rattle.data_tree.proofs.Forests.{children_of, leaf_is, stays-same, stays-then}
 use Rattle.data_tree.proofs.Levels.{span-some}
 use Rattle.data_tree.proofs.Puts.{below_then, keeps_below, keeps_same, memory_after, memory_first, unforged_on}
@@ -34,7 +34,7 @@ grown_node-returns-in-Ok-clause-outcome g t c =
     ))
 
 pub grown_node-returns-in-Err-clause-outcome : goal.grown_node-returns-in-Err-clause-outcome
-grown_node-returns-in-Err-clause-outcome g t c = memory_first g.S.Blocks.meanings g.S.Blocks.holdings g.met.S.Blocks.lawful c.args.tx.now c.args.tx.now c.requires.intact refl c.requires.intact
+grown_node-returns-in-Err-clause-outcome g t c = memory_first g.S.Blocks.meanings g.S.Blocks.holdings g.met.S.Blocks.lawful c.args.tx.now c.args.tx.now c.requires.intact refl refl c.requires.intact
 
 pub grown_node-returns-in-Ok-grown_inner-clause-outcome : goal.grown_node-returns-in-Ok-grown_inner-clause-outcome
 grown_node-returns-in-Ok-grown_inner-clause-outcome g t c =
@@ -65,7 +65,7 @@ grown_node-returns-in-Err-grown_inner-clause-outcome g t c =
 
 pub grown_inner-grown_children-requires-clause-room : goal.grown_inner-grown_children-requires-clause-room
 grown_inner-grown_children-requires-clause-room g t c =
-    let steady = steady_over store_in changes_in g.S.Blocks.meanings g.S.Blocks.holdings g.met.S.Blocks.steady in
+    let steady = steady_over store_in changes_in drawn_in g.S.Blocks.meanings g.S.Blocks.holdings g.met.S.Blocks.steady in
     omega (arith, span-some ((tx_holdings g.S.Blocks.holdings).payload c.args.tx.now) c.args.level.depth (steady.at_least c.args.tx.now c.requires.intact), c.requires.level)
 
 pub grown_inner-grown_children-requires-clause-places : goal.grown_inner-grown_children-requires-clause-places
@@ -81,7 +81,7 @@ grown_inner-grown_children-requires-clause-small g t c =
 pub grown_inner-returns-in-Err-clause-outcome : goal.grown_inner-returns-in-Err-clause-outcome
 grown_inner-returns-in-Err-clause-outcome g t c =
     let H = tx_holdings g.S.Blocks.holdings in
-    let steady = steady_over store_in changes_in g.S.Blocks.meanings g.S.Blocks.holdings g.met.S.Blocks.steady in
+    let steady = steady_over store_in changes_in drawn_in g.S.Blocks.meanings g.S.Blocks.holdings g.met.S.Blocks.steady in
     let a = c.args.tx.now in
     let children = c.args.children.now in
     passed (first_ {N = HasTrees H a c.args.level.depth (ids_of children)} {R = λ _ _. Unit {0}} (λ n. split_tree n (split_of {H = H} {a = a} children c.requires.some (steady.at_least a c.requires.intact) n)) c.in-Err.ensures.outcome (λ _ _ _. tt))
@@ -91,7 +91,7 @@ grown_inner-returns-in-Err-grown_node-clause-outcome g t c =
     let M = g.S.Blocks.meanings in
     let H0 = g.S.Blocks.holdings in
     let laws = tx_laws M H0 g.met.S.Blocks.lawful in
-    let steady = steady_over store_in changes_in M H0 g.met.S.Blocks.steady in
+    let steady = steady_over store_in changes_in drawn_in M H0 g.met.S.Blocks.steady in
     let a = c.args.tx.now in
     let d = c.grown_node.new.tx in
     passed (last_then M H0 laws a c.load_at.new.tx d c.args.children.now c.requires.some (steady.at_least a c.requires.intact) c.in-Ok.ensures.outcome c.load_at.ensures.stays c.in-Err-grown_node.ensures.outcome)
@@ -101,20 +101,20 @@ grown_inner-returns-in-Err-put_node-clause-outcome g t c =
     let M = g.S.Blocks.meanings in
     let H0 = g.S.Blocks.holdings in
     let laws = tx_laws M H0 g.met.S.Blocks.lawful in
-    let steady = steady_over store_in changes_in M H0 g.met.S.Blocks.steady in
+    let steady = steady_over store_in changes_in drawn_in M H0 g.met.S.Blocks.steady in
     let a = c.args.tx.now in
     let d = c.grown_node.new.tx in
-    memory_after M H0 a d c.put_node.new.tx c.put_node.ensures.store c.put_node.ensures.intact (last_then M H0 laws a c.load_at.new.tx d c.args.children.now c.requires.some (steady.at_least a c.requires.intact) c.in-Ok.ensures.outcome c.load_at.ensures.stays c.in-Ok-grown_node.ensures.outcome)
+    memory_after M H0 a d c.put_node.new.tx c.put_node.ensures.store c.put_node.ensures.seed c.put_node.ensures.intact (last_then M H0 laws a c.load_at.new.tx d c.args.children.now c.requires.some (steady.at_least a c.requires.intact) c.in-Ok.ensures.outcome c.load_at.ensures.stays c.in-Ok-grown_node.ensures.outcome)
 
 pub grown_inner-returns-clause-outcome : goal.grown_inner-returns-clause-outcome
 grown_inner-returns-clause-outcome g t c =
     let M = g.S.Blocks.meanings in
     let H0 = g.S.Blocks.holdings in
     let laws = tx_laws M H0 g.met.S.Blocks.lawful in
-    let steady = steady_over store_in changes_in M H0 g.met.S.Blocks.steady in
+    let steady = steady_over store_in changes_in drawn_in M H0 g.met.S.Blocks.steady in
     let a = c.args.tx.now in
     let d = c.grown_node.new.tx in
-    memory_after M H0 a d c.grown_children.new.tx (c.grown_children.ensures.store ∙ c.put_node.ensures.store) c.grown_children.ensures.intact (last_then M H0 laws a c.load_at.new.tx d c.args.children.now c.requires.some (steady.at_least a c.requires.intact) c.in-Ok.ensures.outcome c.load_at.ensures.stays c.in-Ok-grown_node.ensures.outcome)
+    memory_after M H0 a d c.grown_children.new.tx (c.grown_children.ensures.store ∙ c.put_node.ensures.store) (c.grown_children.ensures.seed ∙ c.put_node.ensures.seed) c.grown_children.ensures.intact (last_then M H0 laws a c.load_at.new.tx d c.args.children.now c.requires.some (steady.at_least a c.requires.intact) c.in-Ok.ensures.outcome c.load_at.ensures.stays c.in-Ok-grown_node.ensures.outcome)
 
 pub grown_inner-returns-in-Ok-grown_children-clause-outcome : goal.grown_inner-returns-in-Ok-grown_children-clause-outcome
 grown_inner-returns-in-Ok-grown_children-clause-outcome g t c =
@@ -122,7 +122,7 @@ grown_inner-returns-in-Ok-grown_children-clause-outcome g t c =
     let H0 = g.S.Blocks.holdings in
     let H = tx_holdings H0 in
     let laws = tx_laws M H0 g.met.S.Blocks.lawful in
-    let steady = steady_over store_in changes_in M H0 g.met.S.Blocks.steady in
+    let steady = steady_over store_in changes_in drawn_in M H0 g.met.S.Blocks.steady in
     let a = c.args.tx.now in
     let b = c.load_at.new.tx in
     let d = c.grown_node.new.tx in
@@ -149,7 +149,7 @@ grown_inner-returns-in-Ok-grown_children-clause-outcome g t c =
     let listed : ids_of c.in-Ok-grown_children.all.items ≡ take i (ids_of children) ++ last ∷ built.0 =
     built.1.0 ∙ ap (λ xs. xs ++ built.0) (sym (take-append-drop i (ids_of children)) ∙ ap (λ xs. take i (ids_of children) ++ xs) at.1) ∙ append_assoc (take i (ids_of children)) (last ∷ []) built.0 in
     let two = last_then M H0 laws a b d children c.requires.some least c.in-Ok.ensures.outcome c.load_at.ensures.stays c.in-Ok-grown_node.ensures.outcome in
-    changed_over store_in changes_in M H0 a d f (c.grown_children.ensures.store ∙ c.put_node.ensures.store) c.grown_children.ensures.intact two (λ n p.
+    changed_over store_in changes_in drawn_in M H0 a d f (c.grown_children.ensures.store ∙ c.put_node.ensures.store) (c.grown_children.ensures.seed ∙ c.put_node.ensures.seed) c.grown_children.ensures.intact two (λ n p.
     let s = split_of {H = H} {a = a} children c.requires.some least n in
     let w2_len : length (s.w2 ++ t1) ≡ length s.w2 + used = omega (arith, length-append s.w2 t1, length-take used bytes, fits) in (
       subst (λ w. GrownTrees H a f low (ids_of c.in-Ok-grown_children.all.items) (n.bytes ++ w) n.ids) sum
@@ -165,7 +165,7 @@ grown_inner-returns-in-Err-grown_node-clause-only g t c n s h q there =
     let M = g.S.Blocks.meanings in
     let H0 = g.S.Blocks.holdings in
     let laws = tx_laws M H0 g.met.S.Blocks.lawful in
-    let steady = steady_over store_in changes_in M H0 g.met.S.Blocks.steady in
+    let steady = steady_over store_in changes_in drawn_in M H0 g.met.S.Blocks.steady in
     let a = c.args.tx.now in
     let d = c.grown_node.new.tx in
     inner_only M H0 laws a c.load_at.new.tx d c.args.children.now c.requires.some (steady.at_least a c.requires.intact) c.in-Ok.ensures.outcome c.load_at.ensures.stays c.load_at.ensures.overlay c.grown_node.ensures.outcome.loaded c.grown_node.ensures.only n s h q there
@@ -175,7 +175,7 @@ grown_inner-returns-in-Err-put_node-clause-only g t c n s h q there =
     let M = g.S.Blocks.meanings in
     let H0 = g.S.Blocks.holdings in
     let laws = tx_laws M H0 g.met.S.Blocks.lawful in
-    let steady = steady_over store_in changes_in M H0 g.met.S.Blocks.steady in
+    let steady = steady_over store_in changes_in drawn_in M H0 g.met.S.Blocks.steady in
     let a = c.args.tx.now in
     let d = c.grown_node.new.tx in
     let one = inner_only M H0 laws a c.load_at.new.tx d c.args.children.now c.requires.some (steady.at_least a c.requires.intact) c.in-Ok.ensures.outcome c.load_at.ensures.stays c.load_at.ensures.overlay c.grown_node.ensures.outcome.loaded c.grown_node.ensures.only n s (unforged_on M a d c.put_node.new.tx c.put_node.ensures.store h) q there in
@@ -186,7 +186,7 @@ grown_inner-returns-in-Ok-grown_children-clause-only g t c n s h q there =
     let M = g.S.Blocks.meanings in
     let H0 = g.S.Blocks.holdings in
     let laws = tx_laws M H0 g.met.S.Blocks.lawful in
-    let steady = steady_over store_in changes_in M H0 g.met.S.Blocks.steady in
+    let steady = steady_over store_in changes_in drawn_in M H0 g.met.S.Blocks.steady in
     let a = c.args.tx.now in
     let d = c.grown_node.new.tx in
     let f = c.grown_children.new.tx in
@@ -198,7 +198,7 @@ grown_inner-returns-clause-only g t c n s h q there =
     let M = g.S.Blocks.meanings in
     let H0 = g.S.Blocks.holdings in
     let laws = tx_laws M H0 g.met.S.Blocks.lawful in
-    let steady = steady_over store_in changes_in M H0 g.met.S.Blocks.steady in
+    let steady = steady_over store_in changes_in drawn_in M H0 g.met.S.Blocks.steady in
     let a = c.args.tx.now in
     let d = c.grown_node.new.tx in
     let f = c.grown_children.new.tx in
@@ -255,7 +255,7 @@ grown_inner-grown_node-requires g t c =
     let same = sym c.load_at.ensures.stays.payload in
     let level = c.requires.level ∙ ap (λ p. span p c.args.level.depth) same in
     let fits = subst (λ p. FitsPayload p (node_of c.in-Ok.child)) same c.in-Ok.ensures.fits in
-    λ κs lives. (search rules, (search rules, (search rules, (c.in-Ok.ensures.outcome.intact, (level, (fits, c.in-Ok.ensures.depth))))))
+    λ κs lives. (search rules, (search rules, (c.in-Ok.ensures.outcome.intact, (level, (fits, c.in-Ok.ensures.depth)))))
 
 pub grown_node-grown_inner-requires : goal.grown_node-grown_inner-requires
 grown_node-grown_inner-requires g t c κs within =
@@ -268,7 +268,7 @@ grown_node-grown_inner-requires g t c κs within =
     let level = c.below-below.ensures.room ∙ ap (λ p. span p below.depth) c.payload.ensures in
     let wide : c.args.level.room < 2 ^ 64 = search rules in
     let small = subst (λ n. n < 2 ^ 64) (sym c.below-below.ensures.all ∙ ap (λ p. fan_out p * below.room) c.payload.ensures) wide in
-    (search rules, (within.0, (within.1, (c.requires.intact, (level, (small, (omega (arith, fits.1, count), omega (arith, fits.2, count))))))))
+    (search rules, (within, (c.requires.intact, (level, (small, (omega (arith, fits.1, count), omega (arith, fits.2, count)))))))
 
 pub grown_node-below-below-requires-clause-deep : goal.grown_node-below-below-requires-clause-deep
 grown_node-below-below-requires-clause-deep g t c =

@@ -8,7 +8,7 @@ use Rattle.store_api.specs.Overlay.{steady_over}
 use Rattle.data_tree.specs.Needs.{BuiltTrees}
 use Rattle.data_tree.specs.Trees.{span}
 use Rattle.data_tree.proofs.Levels.{span-some}
-use Rattle.data_tree.proofs.Loads.{store_in, changes_in, tx_holdings}
+use Rattle.data_tree.proofs.Loads.{store_in, changes_in, drawn_in, tx_holdings}
 use Rattle.data_tree.proofs.Puts.{keeps_same}
 use Rattle.tree_growing.specs.Growing.{Grown, MayGrow, Raised}
 use Rattle.tree_growing.proofs.Rising.{filled_up, no_ok, raise_more, risen}
@@ -16,17 +16,17 @@ use Rattle.tree_growing.proofs.raising.+raised.Goals as goal
 
 pub grown_children-requires-clause-room : goal.grown_children-requires-clause-room
 grown_children-requires-clause-room g t c =
-    let steady = steady_over store_in changes_in g.S.Blocks.meanings g.S.Blocks.holdings g.met.S.Blocks.steady in
+    let steady = steady_over store_in changes_in drawn_in g.S.Blocks.meanings g.S.Blocks.holdings g.met.S.Blocks.steady in
     omega (arith, span-some ((tx_holdings g.S.Blocks.holdings).payload c.args.tx.now) c.args.level.depth (steady.at_least c.args.tx.now c.requires.intact), c.requires.level)
 
 pub grown_children-requires-clause-places : goal.grown_children-requires-clause-places
 grown_children-requires-clause-places g t c =
-    let steady = steady_over store_in changes_in g.S.Blocks.meanings g.S.Blocks.holdings g.met.S.Blocks.steady in
+    let steady = steady_over store_in changes_in drawn_in g.S.Blocks.meanings g.S.Blocks.holdings g.met.S.Blocks.steady in
     omega (arith, c.payload.ensures, steady.at_least c.put_new.new.tx c.in_ok-first.ensures.intact)
 
 pub grown_children-requires-clause-small : goal.grown_children-requires-clause-small
 grown_children-requires-clause-small g t c =
-    let steady = steady_over store_in changes_in g.S.Blocks.meanings g.S.Blocks.holdings g.met.S.Blocks.steady in
+    let steady = steady_over store_in changes_in drawn_in g.S.Blocks.meanings g.S.Blocks.holdings g.met.S.Blocks.steady in
     let fan = fan_out (g.S.Blocks.holdings.payload c.put_new.new.tx.store) in
     let most : fan ≤ 65536 = omega (arith, steady.at_most c.put_new.new.tx c.in_ok-first.ensures.intact) in
     let much : fan * c.args.level.room ≤ 65536 * c.args.level.room = mul-le-mul_right c.args.level.room most in
@@ -36,7 +36,7 @@ pub returns : goal.returns
 returns g t c =
     let H0 = g.S.Blocks.holdings in
     let H = tx_holdings H0 in
-    let steady = steady_over store_in changes_in g.S.Blocks.meanings H0 g.met.S.Blocks.steady in
+    let steady = steady_over store_in changes_in drawn_in g.S.Blocks.meanings H0 g.met.S.Blocks.steady in
     let a = c.args.tx.now in
     let b = c.put_new.new.tx in
     let d = c.grown_children.new.tx in
@@ -67,6 +67,7 @@ returns g t c =
     record {
       intact = z.intact;
       store = z.store ∙ q.store ∙ p.store;
+      seed = z.seed ∙ q.seed ∙ p.seed;
       raised = raise_more {H = H} {a = a} {c = d} {d = e} {node = node_of c.args.node} {up = up} {last = last} depth above c.args.n used more rest least deep (omega (arith, c.if-level-n.false, c.requires.level)) payload (omega (arith, full.0, c.requires.level, all))
           (λ less. omega (arith, full.1 less, c.requires.level, all)) fits
           (λ w t ids holds alone some full is.
@@ -85,6 +86,7 @@ returns-in_err-first g t c =
     record {
       intact = c.in_err-first.ensures.intact;
       store = p.store;
+      seed = p.seed;
       raised = no_ok c.from_residual.result _ none;
       used = no_ok c.from_residual.result _ none;
       fits = no_ok c.from_residual.result _ none;
@@ -100,6 +102,7 @@ returns-in_err-children g t c =
     record {
       intact = q.intact;
       store = q.store ∙ p.store;
+      seed = q.seed ∙ p.seed;
       raised = no_ok c.from_residual-in_err-children.result _ none;
       used = no_ok c.from_residual-in_err-children.result _ none;
       fits = no_ok c.from_residual-in_err-children.result _ none;
@@ -116,6 +119,7 @@ returns-in_err-node g t c =
     record {
       intact = z.intact;
       store = z.store ∙ q.store ∙ p.store;
+      seed = z.seed ∙ q.seed ∙ p.seed;
       raised = no_ok c.from_residual-in_err-node.result _ none;
       used = no_ok c.from_residual-in_err-node.result _ none;
       fits = no_ok c.from_residual-in_err-node.result _ none;
@@ -133,5 +137,5 @@ raised-requires g t c =
     let level : up.room ≡ span (payload c.grown_children.new.tx.store) up.depth = c.above-level.ensures.room ∙ ap (λ p. span p up.depth) c.payload-2.ensures in
     λ κs lives. (
       search rules,
-      (search rules, (search rules, (c.grown_children.ensures.intact, (level, ((omega (arith, c.above-level.ensures.depth), omega (arith, count, c.in_ok-children.ensures.some), omega (arith, count, few)), c.requires.small))))),
+      (search rules, (c.grown_children.ensures.intact, (level, ((omega (arith, c.above-level.ensures.depth), omega (arith, count, c.in_ok-children.ensures.some), omega (arith, count, few)), c.requires.small)))),
     )

@@ -6,7 +6,7 @@ use Rattle.data_nodes.specs.Layout.{node_of, FitsPayload}
 use Rattle.store_api.specs.Overlay.{changed_over}
 use Rattle.data_tree.specs.Trees.{IsDepth, span}
 use Rattle.data_tree.proofs.Changes.{keeps-then}
-use Rattle.data_tree.proofs.Loads.{store_in, changes_in, tx_holdings, tx_laws}
+use Rattle.data_tree.proofs.Loads.{store_in, changes_in, drawn_in, tx_holdings, tx_laws}
 use Rattle.data_tree.proofs.Forests.{stays-then}
 use Rattle.data_tree.proofs.Puts.{below_then, keeps_below, keeps_same, memory_after, unforged_on}
 use Rattle.tree_growing.specs.Growing.{Raised}
@@ -38,7 +38,7 @@ returns-in-Err-raised-clause-outcome g c =
     let laws = tx_laws M H0 g.met.S.Blocks.lawful in
     let a = c.args.tx.now in
     let d = c.grown_node.new.tx in
-    memory_after M H0 a d c.raised.new.tx c.raised.ensures.store c.raised.ensures.intact (root_then M H0 laws a c.load_root.new.tx d c.in-Ok.ensures.outcome c.load_root.ensures.stays c.in-Ok.ensures.depth c.in-Ok-grown_node.ensures.outcome)
+    memory_after M H0 a d c.raised.new.tx c.raised.ensures.store c.raised.ensures.seed c.raised.ensures.intact (root_then M H0 laws a c.load_root.new.tx d c.in-Ok.ensures.outcome c.load_root.ensures.stays c.in-Ok.ensures.depth c.in-Ok-grown_node.ensures.outcome)
 
 pub returns-clause-outcome : goal.returns-clause-outcome
 returns-clause-outcome g c =
@@ -47,7 +47,7 @@ returns-clause-outcome g c =
     let laws = tx_laws M H0 g.met.S.Blocks.lawful in
     let a = c.args.tx.now in
     let d = c.grown_node.new.tx in
-    memory_after M H0 a d c.put_node.new.tx (c.put_node.ensures.store ∙ c.raised.ensures.store) c.put_node.ensures.intact (root_then M H0 laws a c.load_root.new.tx d c.in-Ok.ensures.outcome c.load_root.ensures.stays c.in-Ok.ensures.depth c.in-Ok-grown_node.ensures.outcome)
+    memory_after M H0 a d c.put_node.new.tx (c.put_node.ensures.store ∙ c.raised.ensures.store) (c.put_node.ensures.seed ∙ c.raised.ensures.seed) c.put_node.ensures.intact (root_then M H0 laws a c.load_root.new.tx d c.in-Ok.ensures.outcome c.load_root.ensures.stays c.in-Ok.ensures.depth c.in-Ok-grown_node.ensures.outcome)
 
 pub returns-then-used-more-clause-outcome : goal.returns-then-used-more-clause-outcome
 returns-then-used-more-clause-outcome g c =
@@ -69,7 +69,7 @@ returns-then-used-more-clause-outcome g c =
     let fits : used ≤ length tail = c.in-Ok-grown_node.ensures.used in
     let cut : rest ≡ drop used tail = take_all (length tail - used) (drop used tail) (omega (arith, length-drop used tail)) in
     let two = root_then M H0 laws a b d c.in-Ok.ensures.outcome stays c.in-Ok.ensures.depth c.in-Ok-grown_node.ensures.outcome in
-    let three = changed_over store_in changes_in M H0 {y = c.in-Ok-raised.grown} {Q = λ n y. ((H.told a ≡ true) × (node ≡ n.tree.tree.node)) × (Raised H b e (node_of y.0) (n.tree.bytes ++ tail) n.tree.tree.below × (y.1 ≡ length rest))} a d e c.raised.ensures.store c.raised.ensures.intact two
+    let three = changed_over store_in changes_in drawn_in M H0 {y = c.in-Ok-raised.grown} {Q = λ n y. ((H.told a ≡ true) × (node ≡ n.tree.tree.node)) × (Raised H b e (node_of y.0) (n.tree.bytes ++ tail) n.tree.tree.below × (y.1 ≡ length rest))} a d e c.raised.ensures.store c.raised.ensures.seed c.raised.ensures.intact two
     (λ n p. (p.0, then_raised depth tail rest used c.args.n stays p.0.0 n (root_depth node depth n.tree p.0.1 c.in-Ok.ensures.depth) cut fits (keeps_below H0 b d c.grown_node.ensures.below) c.in-Ok-grown_node.ensures.fits (λ less. p.1.1 less ∙ (c.in-Ok.ensures.room ∙ ap (λ k. span k depth) (sym stays.payload))) p.1.0 c.in-Ok-raised.ensures.raised)) in
     unbuilt laws three (λ n p. absurd (omega (arith, p.1.1, ap length cut, length-drop used tail, fits, c.if-used-more.true)))
 
@@ -93,10 +93,10 @@ returns-in-Ok-put_node-clause-outcome g c =
     let fits : used ≤ length tail = c.in-Ok-grown_node.ensures.used in
     let cut : rest ≡ drop used tail = take_all (length tail - used) (drop used tail) (omega (arith, length-drop used tail)) in
     let two = root_then M H0 laws a b d c.in-Ok.ensures.outcome stays c.in-Ok.ensures.depth c.in-Ok-grown_node.ensures.outcome in
-    let three = changed_over store_in changes_in M H0 {y = c.in-Ok-raised.grown} {Q = λ n y. ((H.told a ≡ true) × (node ≡ n.tree.tree.node)) × (Raised H b e (node_of y.0) (n.tree.bytes ++ tail) n.tree.tree.below × (y.1 ≡ length rest))} a d e c.raised.ensures.store c.raised.ensures.intact two
+    let three = changed_over store_in changes_in drawn_in M H0 {y = c.in-Ok-raised.grown} {Q = λ n y. ((H.told a ≡ true) × (node ≡ n.tree.tree.node)) × (Raised H b e (node_of y.0) (n.tree.bytes ++ tail) n.tree.tree.below × (y.1 ≡ length rest))} a d e c.raised.ensures.store c.raised.ensures.seed c.raised.ensures.intact two
     (λ n p. (p.0, then_raised depth tail rest used c.args.n stays p.0.0 n (root_depth node depth n.tree p.0.1 c.in-Ok.ensures.depth) cut fits (keeps_below H0 b d c.grown_node.ensures.below) c.in-Ok-grown_node.ensures.fits (λ less. p.1.1 less ∙ (c.in-Ok.ensures.room ∙ ap (λ k. span k depth) (sym stays.payload))) p.1.0 c.in-Ok-raised.ensures.raised)) in
     let f = c.put_node.new.tx in
-    changed_over store_in changes_in M H0 a e f c.put_node.ensures.store c.put_node.ensures.intact three (λ n p.
+    changed_over store_in changes_in drawn_in M H0 a e f c.put_node.ensures.store c.put_node.ensures.seed c.put_node.ensures.intact three (λ n p.
     let cd = keeps_below H0 b d c.grown_node.ensures.below in
     let de = keeps_same H0 d e c.raised.ensures.store in
     let ef = keeps_same H0 e f c.put_node.ensures.store in
