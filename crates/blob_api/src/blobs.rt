@@ -7,7 +7,6 @@ ghost use Rattle.block_id.specs.Contents.{resized, written};
 ghost use Rattle.blob_api.specs.BlobMap.{BlobHoldings, BlobsSteady, StandsForMap, Has, IsNew, IsSparing};
 
 use block_id::{BlockId, Fail};
-use rand_core::Rng;
 use std::alloc::Global;
 
 /// The bytes that a blob may have, 2^40.
@@ -20,12 +19,7 @@ pub trait Blobs {
     ghost holdings: { BlobHoldings Self };
 
     /// A new blob of these bytes.
-    fn create<R: Rng>(
-        &mut self,
-        alloc: Global,
-        bytes: &[u8],
-        chance: &mut R,
-    ) -> Result<BlockId, Fail>
+    fn create(&mut self, alloc: Global, bytes: &[u8]) -> Result<BlockId, Fail>
         requires intact { meanings.intact self.old }
         requires fits { length bytes.now ≤ MAX_BLOB }
         ensures { Outcome meanings (StandsForMap holdings self.old) self.old self.new result
@@ -52,14 +46,7 @@ pub trait Blobs {
         ensures unchanged { holdings.changed self.new ≡ holdings.changed self.old };
 
     /// Writes the bytes at `from`, with zeros between the old end and `from`. No bytes change nothing.
-    fn write<R: Rng>(
-        &mut self,
-        alloc: Global,
-        id: &BlockId,
-        from: u64,
-        bytes: &[u8],
-        chance: &mut R,
-    ) -> Result<(), Fail>
+    fn write(&mut self, alloc: Global, id: &BlockId, from: u64, bytes: &[u8]) -> Result<(), Fail>
         requires intact { meanings.intact self.old }
         requires fits { from + length bytes.now ≤ MAX_BLOB }
         ensures outcome { Outcome meanings (Has holdings self.old id.now.0) self.old self.new result
@@ -70,13 +57,7 @@ pub trait Blobs {
         ensures idle { length bytes.now ≡ 0 → holdings.changed self.new ≡ holdings.changed self.old };
 
     /// Cuts the blob to `n` bytes, or fills it up with zeros.
-    fn resize<R: Rng>(
-        &mut self,
-        alloc: Global,
-        id: &BlockId,
-        n: u64,
-        chance: &mut R,
-    ) -> Result<(), Fail>
+    fn resize(&mut self, alloc: Global, id: &BlockId, n: u64) -> Result<(), Fail>
         requires intact { meanings.intact self.old }
         requires fits { n ≤ MAX_BLOB }
         ensures { Outcome meanings (Has holdings self.old id.now.0) self.old self.new result

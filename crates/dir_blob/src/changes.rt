@@ -15,17 +15,10 @@ use block_id::{BlockId, Fail, Why};
 use dir_entries::{Entry, locate, put_entry};
 use fs_blobs::{resize_body, write_body};
 use fs_model::{MAX_ENTRIES, MAX_MODE, Name};
-use rand_core::Rng;
 use std::alloc::Global;
 
 /// One more entry.
-pub fn insert<B: Blobs, R: Rng>(
-    alloc: Global,
-    b: &mut B,
-    dir: &BlockId,
-    entry: &Entry,
-    chance: &mut R,
-) -> Result<(), Fail>
+pub fn insert<B: Blobs>(alloc: Global, b: &mut B, dir: &BlockId, entry: &Entry) -> Result<(), Fail>
     requires intact { B.meanings.intact b.old }
     requires mode { entry.now.attr.mode ≤ MAX_MODE }
     ensures outcome { Outcome B.meanings (HasRoom B.holdings b.old dir.now.0 entry.now.name) b.old b.new result
@@ -34,17 +27,16 @@ pub fn insert<B: Blobs, R: Rng>(
     ensures room { OfEntries B.meanings B.holdings b.old b.new dir.now.0 (λ listing. IfOk result (λ _. length (body_of listing) + entry_size entry.now.name ≤ MAX_ENTRIES)) }
 {
     let body = whole_body(alloc, b, dir)?;
-    insert_in(alloc, b, dir, &body, entry, chance)
+    insert_in(alloc, b, dir, &body, entry)
 }
 
 /// One more entry of a directory whose body was read.
-pub fn insert_in<B: Blobs, R: Rng>(
+pub fn insert_in<B: Blobs>(
     alloc: Global,
     b: &mut B,
     dir: &BlockId,
     body: &[u8],
     entry: &Entry,
-    chance: &mut R,
 ) -> Result<(), Fail>
     requires intact { B.meanings.intact b.old }
     requires mode { entry.now.attr.mode ≤ MAX_MODE }
@@ -62,34 +54,27 @@ pub fn insert_in<B: Blobs, R: Rng>(
         return Err(Fail::Violation(Why::Structure));
     }
     bytes.extend_from_slice(&body[place.back..])?;
-    write_body(alloc, b, dir, place.front as u64, &bytes, chance)
+    write_body(alloc, b, dir, place.front as u64, &bytes)
 }
 
 /// The entry of a name goes.
-pub fn remove<B: Blobs, R: Rng>(
-    alloc: Global,
-    b: &mut B,
-    dir: &BlockId,
-    name: &Name,
-    chance: &mut R,
-) -> Result<(), Fail>
+pub fn remove<B: Blobs>(alloc: Global, b: &mut B, dir: &BlockId, name: &Name) -> Result<(), Fail>
     requires { B.meanings.intact b.old }
     ensures outcome { Outcome B.meanings (HasName B.holdings b.old dir.now.0 name.now) b.old b.new result
         (λ n _. HasEntries B.holdings b.new n.is.map dir.now.0 n.is.parent (without name.now n.is.listing)) }
     ensures present { OfEntries B.meanings B.holdings b.old b.new dir.now.0 (λ listing. IfOk result (λ _. is_some (found_in name_cmp name.now listing) ≡ true)) }
 {
     let body = whole_body(alloc, b, dir)?;
-    remove_in(alloc, b, dir, &body, name, chance)
+    remove_in(alloc, b, dir, &body, name)
 }
 
 /// The entry of a name goes from a directory whose body was read.
-pub fn remove_in<B: Blobs, R: Rng>(
+pub fn remove_in<B: Blobs>(
     alloc: Global,
     b: &mut B,
     dir: &BlockId,
     body: &[u8],
     name: &Name,
-    chance: &mut R,
 ) -> Result<(), Fail>
     requires { B.meanings.intact b.old }
     ensures outcome { Outcome B.meanings (HasNameIn B.holdings b.old dir.now.0 body.now name.now) b.old b.new result
@@ -101,18 +86,12 @@ pub fn remove_in<B: Blobs, R: Rng>(
     };
     let front = place.front as u64;
     let back = &body[place.back..];
-    write_body(alloc, b, dir, front, back, chance)?;
-    resize_body(alloc, b, dir, front + back.len() as u64, chance)
+    write_body(alloc, b, dir, front, back)?;
+    resize_body(alloc, b, dir, front + back.len() as u64)
 }
 
 /// Another entry of the same name. Only its bytes are written.
-pub fn change<B: Blobs, R: Rng>(
-    alloc: Global,
-    b: &mut B,
-    dir: &BlockId,
-    entry: &Entry,
-    chance: &mut R,
-) -> Result<(), Fail>
+pub fn change<B: Blobs>(alloc: Global, b: &mut B, dir: &BlockId, entry: &Entry) -> Result<(), Fail>
     requires intact { B.meanings.intact b.old }
     requires mode { entry.now.attr.mode ≤ MAX_MODE }
     ensures outcome { Outcome B.meanings (HasName B.holdings b.old dir.now.0 entry.now.name) b.old b.new result
@@ -122,17 +101,16 @@ pub fn change<B: Blobs, R: Rng>(
     ensures sparing { OfEntries B.meanings B.holdings b.old b.new dir.now.0 (λ listing. IsSparing B.holdings b.old b.new (length (body_of listing)) 0 (length (body_of listing))) }
 {
     let body = whole_body(alloc, b, dir)?;
-    change_in(alloc, b, dir, &body, entry, chance)
+    change_in(alloc, b, dir, &body, entry)
 }
 
 /// Another entry of the same name, in a directory whose body was read.
-pub fn change_in<B: Blobs, R: Rng>(
+pub fn change_in<B: Blobs>(
     alloc: Global,
     b: &mut B,
     dir: &BlockId,
     body: &[u8],
     entry: &Entry,
-    chance: &mut R,
 ) -> Result<(), Fail>
     requires intact { B.meanings.intact b.old }
     requires mode { entry.now.attr.mode ≤ MAX_MODE }
@@ -151,5 +129,5 @@ pub fn change_in<B: Blobs, R: Rng>(
     if place.front + bytes.len() > body.len() {
         return Err(Fail::Violation(Why::Structure));
     }
-    write_body(alloc, b, dir, place.front as u64, &bytes, chance)
+    write_body(alloc, b, dir, place.front as u64, &bytes)
 }

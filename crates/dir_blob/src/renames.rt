@@ -14,19 +14,17 @@ use block_id::{BlockId, Fail, Why};
 use dir_entries::{Edit, Entry, renaming};
 use fs_blobs::{HEADER_LEN, resize_body, write_body};
 use fs_model::{MAX_ENTRIES, MAX_MODE, Name};
-use rand_core::Rng;
 use std::alloc::Global;
 
 /// The entry of a name goes and another one comes, in a directory whose body was read. What lies outside of the two is
 /// written only where it moves.
-pub fn rename<B: Blobs, R: Rng>(
+pub fn rename<B: Blobs>(
     alloc: Global,
     b: &mut B,
     dir: &BlockId,
     body: &[u8],
     name: &Name,
     entry: &Entry,
-    chance: &mut R,
 ) -> Result<(), Fail>
     requires intact { B.meanings.intact b.old }
     requires mode { entry.now.attr.mode ≤ MAX_MODE }
@@ -36,20 +34,19 @@ pub fn rename<B: Blobs, R: Rng>(
     ensures absent { (listing : Listing) → IsBody body.now listing → IfOk result (λ _. found_in name_cmp entry.now.name listing ≡ None) }
 {
     match renaming(alloc, body, name, entry)? {
-        Some(edit) => splice(alloc, b, dir, body, edit, chance),
+        Some(edit) => splice(alloc, b, dir, body, edit),
         None => Err(Fail::Violation(Why::Structure)),
     }
 }
 
 /// The bytes between two places of a directory's body become others, within the limit of entries. Where the body gets
 /// another length what follows is written too.
-fn splice<B: Blobs, R: Rng>(
+fn splice<B: Blobs>(
     alloc: Global,
     b: &mut B,
     dir: &BlockId,
     body: &[u8],
     edit: Edit,
-    chance: &mut R,
 ) -> Result<(), Fail>
     requires intact { B.meanings.intact b.old }
     requires order { edit.front ≤ edit.back }
@@ -67,13 +64,13 @@ fn splice<B: Blobs, R: Rng>(
     }
     let from = front as u64;
     if bytes.len() == back - front {
-        return write_body(alloc, b, dir, from, &bytes, chance);
+        return write_body(alloc, b, dir, from, &bytes);
     }
     bytes.extend_from_slice(&body[back..])?;
-    write_body(alloc, b, dir, from, &bytes, chance)?;
+    write_body(alloc, b, dir, from, &bytes)?;
     let end = from + bytes.len() as u64;
     if end >= body.len() as u64 {
         return Ok(());
     }
-    resize_body(alloc, b, dir, end, chance)
+    resize_body(alloc, b, dir, end)
 }

@@ -10,7 +10,6 @@ ghost use Rattle.fs_blobs.specs.Blobs.{IsBlob};
 use crate::{HEADER_LEN, Header, header_bytes, read_header};
 use blob_api::{Blobs, MAX_BLOB};
 use block_id::{BlockId, Fail, Why};
-use rand_core::Rng;
 use std::alloc::Global;
 
 /// Where a blob's body begins.
@@ -20,12 +19,11 @@ const BODY_PLACE: u64 = HEADER_LEN as u64;
 const PARENT_PLACE: u64 = 3;
 
 /// A new blob of this header and body.
-pub fn new_blob<B: Blobs, R: Rng>(
+pub fn new_blob<B: Blobs>(
     alloc: Global,
     b: &mut B,
     header: &Header,
     body: &[u8],
-    chance: &mut R,
 ) -> Result<BlockId, Fail>
     requires intact { B.meanings.intact b.old }
     requires fits { HEADER_LEN + length body.now ≤ MAX_BLOB }
@@ -34,7 +32,7 @@ pub fn new_blob<B: Blobs, R: Rng>(
 {
     let mut bytes = header_bytes(header).to_vec(alloc)?;
     bytes.extend_from_slice(body)?;
-    b.create(alloc, &bytes, chance)
+    b.create(alloc, &bytes)
 }
 
 /// The header of a blob.
@@ -52,18 +50,17 @@ pub fn blob_header<B: Blobs>(alloc: Global, b: &mut B, id: &BlockId) -> Result<H
 }
 
 /// Has a blob's header name another parent.
-pub fn set_parent<B: Blobs, R: Rng>(
+pub fn set_parent<B: Blobs>(
     alloc: Global,
     b: &mut B,
     id: &BlockId,
     parent: &BlockId,
-    chance: &mut R,
 ) -> Result<(), Fail>
     requires { B.meanings.intact b.old }
     ensures { Outcome B.meanings (IsBlob B.holdings b.old id.now.0) b.old b.new result
         (λ n _. B.holdings.stands_for b.new (insert n.map id.now.0 (blob n.kind parent.now.0 n.body))) }
 {
-    b.write(alloc, id, PARENT_PLACE, &parent.0, chance)
+    b.write(alloc, id, PARENT_PLACE, &parent.0)
 }
 
 /// The length of a blob's body.
@@ -102,13 +99,12 @@ pub fn read_body<B: Blobs>(
 }
 
 /// Writes the bytes at `from` of a blob's body, with zeros between the old end and `from`. No bytes change nothing.
-pub fn write_body<B: Blobs, R: Rng>(
+pub fn write_body<B: Blobs>(
     alloc: Global,
     b: &mut B,
     id: &BlockId,
     from: u64,
     bytes: &[u8],
-    chance: &mut R,
 ) -> Result<(), Fail>
     requires intact { B.meanings.intact b.old }
     requires fits { HEADER_LEN + (from + length bytes.now) ≤ MAX_BLOB }
@@ -119,21 +115,15 @@ pub fn write_body<B: Blobs, R: Rng>(
         → IsSparing B.holdings b.old b.new (length n.body) from (length bytes.now) }
     ensures idle { length bytes.now ≡ 0 → B.holdings.changed b.new ≡ B.holdings.changed b.old }
 {
-    b.write(alloc, id, BODY_PLACE + from, bytes, chance)
+    b.write(alloc, id, BODY_PLACE + from, bytes)
 }
 
 /// Cuts a blob's body to `n` bytes, or fills it up with zeros.
-pub fn resize_body<B: Blobs, R: Rng>(
-    alloc: Global,
-    b: &mut B,
-    id: &BlockId,
-    n: u64,
-    chance: &mut R,
-) -> Result<(), Fail>
+pub fn resize_body<B: Blobs>(alloc: Global, b: &mut B, id: &BlockId, n: u64) -> Result<(), Fail>
     requires intact { B.meanings.intact b.old }
     requires fits { HEADER_LEN + n ≤ MAX_BLOB }
     ensures { Outcome B.meanings (IsBlob B.holdings b.old id.now.0) b.old b.new result
         (λ w _. B.holdings.stands_for b.new (insert w.map id.now.0 (blob w.kind w.parent (resized w.body n)))) }
 {
-    b.resize(alloc, id, BODY_PLACE + n, chance)
+    b.resize(alloc, id, BODY_PLACE + n)
 }

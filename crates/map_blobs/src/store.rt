@@ -7,23 +7,26 @@ use crate::bytes::{resized_to, written_to};
 use crate::rows::{free_id, row};
 use blob_api::Blobs;
 use block_id::{BlockId, Fail, Why};
-use rand_core::Rng;
+use rand_chacha::ChaCha20Rng;
+use rand_core::{Rng, SeedableRng};
 use std::alloc::Global;
 use store_api::Batch;
 
-/// Byte lists in memory.
+/// Byte lists in memory, and the generator that their ids are drawn from.
 #[derive(Drop)]
 pub struct MapBlobs {
     rows: Batch,
+    ids: ChaCha20Rng,
 }
 
 impl MapBlobs {
-    /// An empty store.
-    pub fn new(alloc: Global) -> MapBlobs
+    /// An empty store, which draws its ids by this seed.
+    pub fn new(alloc: Global, seed: [u8; 32]) -> MapBlobs
         ensures { ⟦<MapBlobs as Blobs>⟧.holdings.stands_for result fin.empty }
     {
         MapBlobs {
             rows: Batch::new(alloc),
+            ids: ChaCha20Rng::from_seed(seed),
         }
     }
 }
@@ -33,14 +36,9 @@ impl Blobs for MapBlobs {
 
     ghost holdings = { holdings_of (λ s. s.rows) };
 
-    fn create<R: Rng>(
-        &mut self,
-        alloc: Global,
-        bytes: &[u8],
-        chance: &mut R,
-    ) -> Result<BlockId, Fail> {
+    fn create(&mut self, alloc: Global, bytes: &[u8]) -> Result<BlockId, Fail> {
         let mut drawn = [0; 16];
-        chance.fill_bytes(&mut drawn);
+        self.ids.fill_bytes(&mut drawn);
         let Some(id) = free_id(&self.rows, BlockId(drawn)) else {
             return Err(Fail::Memory);
         };
@@ -84,14 +82,7 @@ impl Blobs for MapBlobs {
         }
     }
 
-    fn write<R: Rng>(
-        &mut self,
-        alloc: Global,
-        id: &BlockId,
-        from: u64,
-        bytes: &[u8],
-        chance: &mut R,
-    ) -> Result<(), Fail> {
+    fn write(&mut self, alloc: Global, id: &BlockId, from: u64, bytes: &[u8]) -> Result<(), Fail> {
         match row(&self.rows, id) {
             Some(old) => {
                 let new = written_to(alloc, old, from as usize, bytes)?;
@@ -102,13 +93,7 @@ impl Blobs for MapBlobs {
         }
     }
 
-    fn resize<R: Rng>(
-        &mut self,
-        alloc: Global,
-        id: &BlockId,
-        n: u64,
-        chance: &mut R,
-    ) -> Result<(), Fail> {
+    fn resize(&mut self, alloc: Global, id: &BlockId, n: u64) -> Result<(), Fail> {
         match row(&self.rows, id) {
             Some(old) => {
                 let new = resized_to(alloc, old, n as usize)?;

@@ -16,19 +16,17 @@ use dir_entries::Entry;
 use fs_model::{FsError, MAX_MODE, Moment, Name, Reply};
 use path_entries::set_entry_in;
 use path_walks::{Occupancy, Reached, done, reach};
-use rand_core::Rng;
 use std::alloc::Global;
 use tree_rules::{AttrChange, changed};
 
 /// Sets attributes of all but the root.
-pub fn set_attributes<B: Blobs, R: Rng>(
+pub fn set_attributes<B: Blobs>(
     alloc: Global,
     b: &mut B,
     root: &BlockId,
     names: &[Name],
     change: AttrChange,
     now: Moment,
-    chance: &mut R,
 ) -> Result<Reply, Fail>
     requires intact { B.meanings.intact b.old }
     requires fits { ChangeFits change }
@@ -37,20 +35,19 @@ pub fn set_attributes<B: Blobs, R: Rng>(
     ensures variant { IfOk result IsChangeReply }
 {
     match reach(alloc, b, root, names, FsError::Busy) {
-        Ok(Reached::Row(at)) => set_found(alloc, b, &at, change, now, chance),
+        Ok(Reached::Row(at)) => set_found(alloc, b, &at, change, now),
         Ok(Reached::Refused(error)) => Ok(Reply::Error(error)),
         Err(fail) => Err(fail),
     }
 }
 
 /// What was found gets other attributes.
-fn set_found<B: Blobs, R: Rng>(
+fn set_found<B: Blobs>(
     alloc: Global,
     b: &mut B,
     at: &Occupancy,
     change: AttrChange,
     now: Moment,
-    chance: &mut R,
 ) -> Result<Reply, Fail>
     requires intact { B.meanings.intact b.old }
     requires fits { ChangeFits change }
@@ -65,5 +62,5 @@ fn set_found<B: Blobs, R: Rng>(
         blob: at.place.blob,
     };
     let dir = at.dir.place.blob;
-    done(set_entry_in(alloc, b, &dir, &at.body, &entry, chance))
+    done(set_entry_in(alloc, b, &dir, &at.body, &entry))
 }

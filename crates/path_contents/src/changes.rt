@@ -17,18 +17,16 @@ use dir_entries::Entry;
 use fs_blobs::{resize_body, write_body};
 use fs_model::{MAX_FILE, MAX_MODE};
 use path_walks::Occupancy;
-use rand_core::Rng;
 use std::alloc::Global;
 
 /// A file that was found gets these bytes at `from`, and its entry the new attributes.
-pub fn write_at<B: Blobs, R: Rng>(
+pub fn write_at<B: Blobs>(
     alloc: Global,
     b: &mut B,
     at: &Occupancy,
     entry: &Entry,
     from: u64,
     bytes: &[u8],
-    chance: &mut R,
 ) -> Result<(), Fail>
     requires intact { B.meanings.intact b.old }
     requires mode { entry.now.attr.mode ≤ MAX_MODE }
@@ -40,18 +38,17 @@ pub fn write_at<B: Blobs, R: Rng>(
     ensures sparing { (n : SettingIn B.holdings b.old at.now.dir.place.blob.0 at.now.body.items (entry_of entry.now)) → B.meanings.sound b.old → B.meanings.forgeries b.new ≤ B.meanings.forgeries b.old
         → IsSparingTwice B.holdings b.old b.new (length n.setting.row.bytes) (directory_size n.setting.tree n.setting.path) from (length bytes.now) }
 {
-    write_body(alloc, b, &entry.blob, from, bytes, chance)?;
-    change_in(alloc, b, &at.dir.place.blob, &at.body, entry, chance)
+    write_body(alloc, b, &entry.blob, from, bytes)?;
+    change_in(alloc, b, &at.dir.place.blob, &at.body, entry)
 }
 
 /// A file that was found gets this length, by a cut or by zeros, and its entry the new attributes.
-pub fn resize_at<B: Blobs, R: Rng>(
+pub fn resize_at<B: Blobs>(
     alloc: Global,
     b: &mut B,
     at: &Occupancy,
     entry: &Entry,
     len: u64,
-    chance: &mut R,
 ) -> Result<(), Fail>
     requires intact { B.meanings.intact b.old }
     requires mode { entry.now.attr.mode ≤ MAX_MODE }
@@ -60,6 +57,6 @@ pub fn resize_at<B: Blobs, R: Rng>(
     ensures { Outcome B.meanings (SettingIn B.holdings b.old at.now.dir.place.blob.0 at.now.body.items (entry_of entry.now)) b.old b.new result
         (λ n _. IsShownBy B.holdings b.new n.setting.root (with_key n.setting.tree (entry.now.name ∷ n.setting.path) (record { attr = entry.now.attr; bytes = resized n.setting.row.bytes len })) n.setting.ids) }
 {
-    resize_body(alloc, b, &entry.blob, len, chance)?;
-    change_in(alloc, b, &at.dir.place.blob, &at.body, entry, chance)
+    resize_body(alloc, b, &entry.blob, len)?;
+    change_in(alloc, b, &at.dir.place.blob, &at.body, entry)
 }

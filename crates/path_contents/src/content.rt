@@ -17,12 +17,11 @@ use fs_blobs::body_len;
 use fs_model::{FsError, MAX_MODE, Moment, Name, Reply};
 use path_entries::touched;
 use path_walks::{Occupancy, Reached, done, reach};
-use rand_core::Rng;
 use std::alloc::Global;
 use tree_rules::is_too_long;
 
 /// The bytes are written at `from`.
-pub fn write<B: Blobs, R: Rng>(
+pub fn write<B: Blobs>(
     alloc: Global,
     b: &mut B,
     root: &BlockId,
@@ -30,7 +29,6 @@ pub fn write<B: Blobs, R: Rng>(
     from: u64,
     bytes: &[u8],
     now: Moment,
-    chance: &mut R,
 ) -> Result<Reply, Fail>
     requires { B.meanings.intact b.old }
     ensures outcome { Outcome B.meanings (BlobsShow B.holdings b.old root.now.0) b.old b.new result
@@ -40,21 +38,20 @@ pub fn write<B: Blobs, R: Rng>(
     ensures variant { IfOk result IsChangeReply }
 {
     match reach(alloc, b, root, names, FsError::IsDirectory) {
-        Ok(Reached::Row(at)) => write_found(alloc, b, &at, from, bytes, now, chance),
+        Ok(Reached::Row(at)) => write_found(alloc, b, &at, from, bytes, now),
         Ok(Reached::Refused(error)) => Ok(Reply::Error(error)),
         Err(fail) => Err(fail),
     }
 }
 
 /// What was found is written, where it is a file.
-fn write_found<B: Blobs, R: Rng>(
+fn write_found<B: Blobs>(
     alloc: Global,
     b: &mut B,
     at: &Occupancy,
     from: u64,
     bytes: &[u8],
     now: Moment,
-    chance: &mut R,
 ) -> Result<Reply, Fail>
     requires intact { B.meanings.intact b.old }
     requires mode { at.now.place.attr.mode ≤ MAX_MODE }
@@ -77,18 +74,17 @@ fn write_found<B: Blobs, R: Rng>(
         return Ok(Reply::Error(FsError::TooLarge));
     }
     let entry = touched(at.name, &at.place, now)?;
-    done(write_at(alloc, b, at, &entry, from, bytes, chance))
+    done(write_at(alloc, b, at, &entry, from, bytes))
 }
 
 /// A file is cut to a length, or filled up with zeros.
-pub fn truncate<B: Blobs, R: Rng>(
+pub fn truncate<B: Blobs>(
     alloc: Global,
     b: &mut B,
     root: &BlockId,
     names: &[Name],
     len: u64,
     now: Moment,
-    chance: &mut R,
 ) -> Result<Reply, Fail>
     requires { B.meanings.intact b.old }
     ensures outcome { Outcome B.meanings (BlobsShow B.holdings b.old root.now.0) b.old b.new result
@@ -96,20 +92,19 @@ pub fn truncate<B: Blobs, R: Rng>(
     ensures variant { IfOk result IsChangeReply }
 {
     match reach(alloc, b, root, names, FsError::IsDirectory) {
-        Ok(Reached::Row(at)) => truncate_found(alloc, b, &at, len, now, chance),
+        Ok(Reached::Row(at)) => truncate_found(alloc, b, &at, len, now),
         Ok(Reached::Refused(error)) => Ok(Reply::Error(error)),
         Err(fail) => Err(fail),
     }
 }
 
 /// What was found gets this length, where it is a file.
-fn truncate_found<B: Blobs, R: Rng>(
+fn truncate_found<B: Blobs>(
     alloc: Global,
     b: &mut B,
     at: &Occupancy,
     len: u64,
     now: Moment,
-    chance: &mut R,
 ) -> Result<Reply, Fail>
     requires intact { B.meanings.intact b.old }
     requires mode { at.now.place.attr.mode ≤ MAX_MODE }
@@ -126,5 +121,5 @@ fn truncate_found<B: Blobs, R: Rng>(
         return Ok(Reply::Error(FsError::TooLarge));
     }
     let entry = touched(at.name, &at.place, now)?;
-    done(resize_at(alloc, b, at, &entry, len, chance))
+    done(resize_at(alloc, b, at, &entry, len))
 }

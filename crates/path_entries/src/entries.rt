@@ -12,40 +12,37 @@ use dir_blob::{change, change_in};
 use dir_entries::Entry;
 use fs_model::{Attr, MAX_MODE, Moment, Name};
 use path_walks::Place;
-use rand_core::Rng;
 use std::alloc::Global;
 
 /// A row gets other attributes of its kind.
-pub fn set_entry<B: Blobs, R: Rng>(
+pub fn set_entry<B: Blobs>(
     alloc: Global,
     b: &mut B,
     dir: &BlockId,
     entry: &Entry,
-    chance: &mut R,
 ) -> Result<(), Fail>
     requires intact { B.meanings.intact b.old }
     requires mode { entry.now.attr.mode ≤ MAX_MODE }
     ensures { Outcome B.meanings (Setting B.holdings b.old dir.now.0 (entry_of entry.now)) b.old b.new result
         (λ n _. IsShownBy B.holdings b.new n.root (with_key n.tree (entry.now.name ∷ n.path) (record { attr = entry.now.attr; bytes = n.row.bytes })) n.ids) }
 {
-    change(alloc, b, dir, entry, chance)
+    change(alloc, b, dir, entry)
 }
 
 /// The same, in a directory whose body was read.
-pub fn set_entry_in<B: Blobs, R: Rng>(
+pub fn set_entry_in<B: Blobs>(
     alloc: Global,
     b: &mut B,
     dir: &BlockId,
     body: &[u8],
     entry: &Entry,
-    chance: &mut R,
 ) -> Result<(), Fail>
     requires intact { B.meanings.intact b.old }
     requires mode { entry.now.attr.mode ≤ MAX_MODE }
     ensures { Outcome B.meanings (SettingIn B.holdings b.old dir.now.0 body.now (entry_of entry.now)) b.old b.new result
         (λ n _. IsShownBy B.holdings b.new n.setting.root (with_key n.setting.tree (entry.now.name ∷ n.setting.path) (record { attr = entry.now.attr; bytes = n.setting.row.bytes })) n.setting.ids) }
 {
-    change_in(alloc, b, dir, body, entry, chance)
+    change_in(alloc, b, dir, body, entry)
 }
 
 /// The entry of a row whose content or whose children change now.

@@ -13,7 +13,6 @@ use blob_api::Blobs;
 use block_id::{BlockId, Fail};
 use fs_model::{MAX_MODE, Moment};
 use path_walks::{Folder, split_last};
-use rand_core::Rng;
 use std::alloc::Global;
 
 /// Whether two blobs are one.
@@ -25,13 +24,7 @@ pub fn is_same(a: &BlockId, b: &BlockId) -> bool
 
 /// A directory has other children: its entry, in the directory that holds it, has mtime and ctime now. The root has
 /// no entry.
-pub fn touch<B: Blobs, R: Rng>(
-    alloc: Global,
-    b: &mut B,
-    dir: &Folder,
-    now: Moment,
-    chance: &mut R,
-) -> Result<(), Fail>
+pub fn touch<B: Blobs>(alloc: Global, b: &mut B, dir: &Folder, now: Moment) -> Result<(), Fail>
     requires intact { B.meanings.intact b.old }
     requires mode { dir.now.place.attr.mode ≤ MAX_MODE }
     ensures { Outcome B.meanings (Touching B.holdings b.old dir.now) b.old b.new result
@@ -41,19 +34,18 @@ pub fn touch<B: Blobs, R: Rng>(
         None => Ok(()),
         Some((name, _)) => {
             let entry = touched(name, &dir.place, now)?;
-            set_entry(alloc, b, &dir.place.holder, &entry, chance)
+            set_entry(alloc, b, &dir.place.holder, &entry)
         }
     }
 }
 
 /// A row went from one directory to another, or to another name of the same one, which is touched once.
-pub fn touch_both<B: Blobs, R: Rng>(
+pub fn touch_both<B: Blobs>(
     alloc: Global,
     b: &mut B,
     from: &Folder,
     to: &Folder,
     now: Moment,
-    chance: &mut R,
 ) -> Result<(), Fail>
     requires intact { B.meanings.intact b.old }
     requires from_mode { from.now.place.attr.mode ≤ MAX_MODE }
@@ -61,9 +53,9 @@ pub fn touch_both<B: Blobs, R: Rng>(
     ensures { Outcome B.meanings (TouchingBoth B.holdings b.old from.now to.now) b.old b.new result
         (λ n _. IsShownBy B.holdings b.new n.root (with_touched (with_touched n.tree now (upward from.now.names.now)) now (upward to.now.names.now)) n.ids) }
 {
-    touch(alloc, b, from, now, chance)?;
+    touch(alloc, b, from, now)?;
     if is_same(&from.place.blob, &to.place.blob) {
         return Ok(());
     }
-    touch(alloc, b, to, now, chance)
+    touch(alloc, b, to, now)
 }

@@ -18,34 +18,27 @@ use fs_blobs::set_parent;
 use fs_model::MAX_MODE;
 use path_entries::is_same;
 use path_walks::Occupancy;
-use rand_core::Rng;
 use std::alloc::Global;
 
 /// A row with nothing below it goes: its entry, and its blob.
-pub fn drop_at<B: Blobs, R: Rng>(
-    alloc: Global,
-    b: &mut B,
-    at: &Occupancy,
-    chance: &mut R,
-) -> Result<(), Fail>
+pub fn drop_at<B: Blobs>(alloc: Global, b: &mut B, at: &Occupancy) -> Result<(), Fail>
     requires { B.meanings.intact b.old }
     ensures { Outcome B.meanings (Dropping B.holdings b.old at.now.dir.place.blob.0 at.now.body.items at.now.name.now at.now.place.blob.0) b.old b.new result
         (λ n _. IsShownBy B.holdings b.new n.root (without_key n.tree (at.now.name.now ∷ n.path)) n.ids) }
 {
     let dir = at.dir.place.blob;
-    remove_in(alloc, b, &dir, &at.body, at.name, chance)?;
+    remove_in(alloc, b, &dir, &at.body, at.name)?;
     b.remove(alloc, &at.place.blob)
 }
 
 /// A row and what lies below it go to a path that is free: the entry goes from its directory to another, which the
 /// header of the blob names then, or gets another name in the same one, which it names already.
-pub fn relocate<B: Blobs, R: Rng>(
+pub fn relocate<B: Blobs>(
     alloc: Global,
     b: &mut B,
     from: &Occupancy,
     to: &Vacancy,
     entry: &Entry,
-    chance: &mut R,
 ) -> Result<(), Fail>
     requires intact { B.meanings.intact b.old }
     requires mode { entry.now.attr.mode ≤ MAX_MODE }
@@ -55,9 +48,9 @@ pub fn relocate<B: Blobs, R: Rng>(
     let left = from.dir.place.blob;
     let dir = to.dir.place.blob;
     if is_same(&left, &dir) {
-        return rename(alloc, b, &left, &to.body, from.name, entry, chance);
+        return rename(alloc, b, &left, &to.body, from.name, entry);
     }
-    remove_in(alloc, b, &left, &from.body, from.name, chance)?;
-    insert_in(alloc, b, &dir, &to.body, entry, chance)?;
-    set_parent(alloc, b, &entry.blob, &dir, chance)
+    remove_in(alloc, b, &left, &from.body, from.name)?;
+    insert_in(alloc, b, &dir, &to.body, entry)?;
+    set_parent(alloc, b, &entry.blob, &dir)
 }

@@ -17,7 +17,6 @@ use fs_blobs::{Header, new_blob};
 use fs_model::{Attr, ENTRY_SIZE, FsError, MAX_ENTRIES, MAX_MODE, MAX_TARGET, Moment, Name, Reply};
 use path_entries::touch;
 use path_walks::{Folder, done};
-use rand_core::Rng;
 use std::alloc::Global;
 
 /// A free name in a directory, whose body was read.
@@ -29,13 +28,12 @@ pub struct Vacancy<'a> {
 }
 
 /// A new row where its directory has room for its entry: its blob, and then its entry.
-pub fn add_row<B: Blobs, R: Rng>(
+pub fn add_row<B: Blobs>(
     alloc: Global,
     b: &mut B,
     at: &Vacancy,
     attr: Attr,
     bytes: &[u8],
-    chance: &mut R,
 ) -> Result<BlockId, Fail>
     requires intact { B.meanings.intact b.old }
     requires mode { attr.mode ≤ MAX_MODE }
@@ -49,27 +47,19 @@ pub fn add_row<B: Blobs, R: Rng>(
         kind: attr.kind,
         parent: dir,
     };
-    let blob = new_blob(alloc, b, &header, bytes, chance)?;
-    insert_in(
-        alloc,
-        b,
-        &dir,
-        &at.body,
-        &Entry { name, attr, blob },
-        chance,
-    )?;
+    let blob = new_blob(alloc, b, &header, bytes)?;
+    insert_in(alloc, b, &dir, &at.body, &Entry { name, attr, blob })?;
     Ok(blob)
 }
 
 /// A new row of a directory in which the name is free, which is touched.
-pub fn make_in<B: Blobs, R: Rng>(
+pub fn make_in<B: Blobs>(
     alloc: Global,
     b: &mut B,
     at: &Vacancy,
     attr: Attr,
     bytes: &[u8],
     now: Moment,
-    chance: &mut R,
 ) -> Result<Reply, Fail>
     requires intact { B.meanings.intact b.old }
     requires dir_mode { at.now.dir.place.attr.mode ≤ MAX_MODE }
@@ -83,6 +73,6 @@ pub fn make_in<B: Blobs, R: Rng>(
     if size > MAX_ENTRIES || size + ENTRY_SIZE + at.name.as_slice().len() as u64 > MAX_ENTRIES {
         return Ok(Reply::Error(FsError::TooLarge));
     }
-    add_row(alloc, b, at, attr, bytes, chance)?;
-    done(touch(alloc, b, &at.dir, now, chance))
+    add_row(alloc, b, at, attr, bytes)?;
+    done(touch(alloc, b, &at.dir, now))
 }

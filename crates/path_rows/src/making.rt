@@ -16,18 +16,16 @@ use fs_model::{
     Attr, DIRECTORY_MODE, FILE_MODE, FsError, Kind, LINK_MODE, MAX_TARGET, Moment, Name, Reply,
 };
 use path_walks::{Folder, Sight, look_at, split_last};
-use rand_core::Rng;
 use std::alloc::Global;
 use tree_rules::new_attr;
 
 /// A new directory.
-pub fn make_directory<B: Blobs, R: Rng>(
+pub fn make_directory<B: Blobs>(
     alloc: Global,
     b: &mut B,
     root: &BlockId,
     names: &[Name],
     now: Moment,
-    chance: &mut R,
 ) -> Result<Reply, Fail>
     requires { B.meanings.intact b.old }
     ensures outcome { Outcome B.meanings (BlobsShow B.holdings b.old root.now.0) b.old b.new result
@@ -35,17 +33,16 @@ pub fn make_directory<B: Blobs, R: Rng>(
     ensures variant { IfOk result IsChangeReply }
 {
     let attr = new_attr(Kind::Directory, DIRECTORY_MODE, now);
-    make(alloc, b, root, names, attr, &[], now, chance)
+    make(alloc, b, root, names, attr, &[], now)
 }
 
 /// A new file without bytes.
-pub fn make_file<B: Blobs, R: Rng>(
+pub fn make_file<B: Blobs>(
     alloc: Global,
     b: &mut B,
     root: &BlockId,
     names: &[Name],
     now: Moment,
-    chance: &mut R,
 ) -> Result<Reply, Fail>
     requires { B.meanings.intact b.old }
     ensures outcome { Outcome B.meanings (BlobsShow B.holdings b.old root.now.0) b.old b.new result
@@ -53,18 +50,17 @@ pub fn make_file<B: Blobs, R: Rng>(
     ensures variant { IfOk result IsChangeReply }
 {
     let attr = new_attr(Kind::File, FILE_MODE, now);
-    make(alloc, b, root, names, attr, &[], now, chance)
+    make(alloc, b, root, names, attr, &[], now)
 }
 
 /// A new link to this target.
-pub fn make_link<B: Blobs, R: Rng>(
+pub fn make_link<B: Blobs>(
     alloc: Global,
     b: &mut B,
     root: &BlockId,
     names: &[Name],
     target: &[u8],
     now: Moment,
-    chance: &mut R,
 ) -> Result<Reply, Fail>
     requires intact { B.meanings.intact b.old }
     requires target { IsTrue (is_target target.now) }
@@ -73,11 +69,11 @@ pub fn make_link<B: Blobs, R: Rng>(
     ensures variant { IfOk result IsChangeReply }
 {
     let attr = new_attr(Kind::Link, LINK_MODE, now);
-    make(alloc, b, root, names, attr, target, now, chance)
+    make(alloc, b, root, names, attr, target, now)
 }
 
 /// A new row of these attributes and bytes.
-fn make<B: Blobs, R: Rng>(
+fn make<B: Blobs>(
     alloc: Global,
     b: &mut B,
     root: &BlockId,
@@ -85,7 +81,6 @@ fn make<B: Blobs, R: Rng>(
     attr: Attr,
     bytes: &[u8],
     now: Moment,
-    chance: &mut R,
 ) -> Result<Reply, Fail>
     requires intact { B.meanings.intact b.old }
     requires limits { IsWithinLimits (record { attr = attr; bytes = bytes.now }) }
@@ -110,7 +105,7 @@ fn make<B: Blobs, R: Rng>(
                     name,
                     body,
                 };
-                make_in(alloc, b, &vacancy, attr, bytes, now, chance)
+                make_in(alloc, b, &vacancy, attr, bytes, now)
             }
             Ok(Sight::Lost(error)) => Ok(Reply::Error(error)),
             Err(fail) => Err(fail),

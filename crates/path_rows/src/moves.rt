@@ -16,18 +16,16 @@ use dir_entries::Entry;
 use fs_model::{Attr, ENTRY_SIZE, FsError, MAX_ENTRIES, MAX_MODE, Moment, Reply};
 use path_entries::{is_same, touch_both};
 use path_walks::{Folder, Occupancy, done};
-use rand_core::Rng;
 use std::alloc::Global;
 
 /// A row moves to a free path, where the directory there has room for its entry. The directories that it leaves and
 /// comes to are touched.
-pub fn move_free<B: Blobs, R: Rng>(
+pub fn move_free<B: Blobs>(
     alloc: Global,
     b: &mut B,
     now: Moment,
     from: &Occupancy,
     to: &Vacancy,
-    chance: &mut R,
 ) -> Result<Reply, Fail>
     requires intact { B.meanings.intact b.old }
     requires mode { from.now.place.attr.mode ≤ MAX_MODE }
@@ -58,18 +56,17 @@ pub fn move_free<B: Blobs, R: Rng>(
         attr,
         blob: from.place.blob,
     };
-    relocate(alloc, b, from, to, &entry, chance)?;
-    done(touch_both(alloc, b, &from.dir, &to.dir, now, chance))
+    relocate(alloc, b, from, to, &entry)?;
+    done(touch_both(alloc, b, &from.dir, &to.dir, now))
 }
 
 /// A row moves onto another one, which goes with its blob.
-pub fn move_onto<B: Blobs, R: Rng>(
+pub fn move_onto<B: Blobs>(
     alloc: Global,
     b: &mut B,
     now: Moment,
     from: &Occupancy,
     to: &Occupancy,
-    chance: &mut R,
 ) -> Result<Reply, Fail>
     requires intact { B.meanings.intact b.old }
     requires mode { from.now.place.attr.mode ≤ MAX_MODE }
@@ -81,7 +78,7 @@ pub fn move_onto<B: Blobs, R: Rng>(
         (ids_then r n.ids (moved_ids n.ids (from.now.name.now ∷ n.above) (to.now.name.now ∷ n.below)))) }
 {
     let left = body_without(alloc, &to.body, to.name)?;
-    drop_at(alloc, b, to, chance)?;
+    drop_at(alloc, b, to)?;
     let vacancy = Vacancy {
         dir: Folder {
             names: to.dir.names,
@@ -90,5 +87,5 @@ pub fn move_onto<B: Blobs, R: Rng>(
         name: to.name,
         body: left,
     };
-    move_free(alloc, b, now, from, &vacancy, chance)
+    move_free(alloc, b, now, from, &vacancy)
 }

@@ -17,19 +17,17 @@ use blob_api::Blobs;
 use block_id::{BlockId, Fail};
 use fs_model::{FsError, MAX_MODE, Moment, Name, Reply};
 use path_walks::{Folder, Occupancy, Place, Reached, Sight, reach, split_last};
-use rand_core::Rng;
 use std::alloc::Global;
 use tree_rules::{is_above, same_names};
 
 /// Every path that has the prefix `from` gets the prefix `to`.
-pub fn move_row<B: Blobs, R: Rng>(
+pub fn move_row<B: Blobs>(
     alloc: Global,
     b: &mut B,
     root: &BlockId,
     from: &[Name],
     to: &[Name],
     now: Moment,
-    chance: &mut R,
 ) -> Result<Reply, Fail>
     requires { B.meanings.intact b.old }
     ensures outcome { Outcome B.meanings (BlobsShow B.holdings b.old root.now.0) b.old b.new result
@@ -47,7 +45,7 @@ pub fn move_row<B: Blobs, R: Rng>(
             if same_names(from, to) {
                 return Ok(Reply::Done);
             }
-            move_found(alloc, b, root, &at, to, now, chance)
+            move_found(alloc, b, root, &at, to, now)
         }
         Ok(Reached::Refused(error)) => Ok(Reply::Error(error)),
         Err(fail) => Err(fail),
@@ -55,14 +53,13 @@ pub fn move_row<B: Blobs, R: Rng>(
 }
 
 /// What was found moves to another path, which isn't the root.
-fn move_found<B: Blobs, R: Rng>(
+fn move_found<B: Blobs>(
     alloc: Global,
     b: &mut B,
     root: &BlockId,
     from: &Occupancy,
     to_names: &[Name],
     now: Moment,
-    chance: &mut R,
 ) -> Result<Reply, Fail>
     requires intact { B.meanings.intact b.old }
     requires mode { from.now.place.attr.mode ≤ MAX_MODE }
@@ -90,7 +87,7 @@ fn move_found<B: Blobs, R: Rng>(
                             place,
                             body,
                         };
-                        move_onto(alloc, b, now, from, &to, chance)
+                        move_onto(alloc, b, now, from, &to)
                     }
                 }
             }
@@ -103,7 +100,7 @@ fn move_found<B: Blobs, R: Rng>(
                     name,
                     body,
                 };
-                move_free(alloc, b, now, from, &to, chance)
+                move_free(alloc, b, now, from, &to)
             }
             Ok(Sight::Lost(error)) => Ok(Reply::Error(error)),
             Err(fail) => Err(fail),

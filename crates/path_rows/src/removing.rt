@@ -15,17 +15,15 @@ use block_id::{BlockId, Fail};
 use fs_model::{FsError, Kind, MAX_MODE, Moment, Name, Reply};
 use path_entries::touch;
 use path_walks::{Occupancy, Reached, done, reach};
-use rand_core::Rng;
 use std::alloc::Global;
 
 /// An empty directory goes.
-pub fn remove_directory<B: Blobs, R: Rng>(
+pub fn remove_directory<B: Blobs>(
     alloc: Global,
     b: &mut B,
     root: &BlockId,
     names: &[Name],
     now: Moment,
-    chance: &mut R,
 ) -> Result<Reply, Fail>
     requires { B.meanings.intact b.old }
     ensures outcome { Outcome B.meanings (BlobsShow B.holdings b.old root.now.0) b.old b.new result
@@ -33,19 +31,18 @@ pub fn remove_directory<B: Blobs, R: Rng>(
     ensures variant { IfOk result IsChangeReply }
 {
     match reach(alloc, b, root, names, FsError::Busy) {
-        Ok(Reached::Row(at)) => drop_directory(alloc, b, &at, now, chance),
+        Ok(Reached::Row(at)) => drop_directory(alloc, b, &at, now),
         Ok(Reached::Refused(error)) => Ok(Reply::Error(error)),
         Err(fail) => Err(fail),
     }
 }
 
 /// What was found goes, where it is a directory that has no entries, and its directory is touched.
-fn drop_directory<B: Blobs, R: Rng>(
+fn drop_directory<B: Blobs>(
     alloc: Global,
     b: &mut B,
     at: &Occupancy,
     now: Moment,
-    chance: &mut R,
 ) -> Result<Reply, Fail>
     requires intact { B.meanings.intact b.old }
     requires mode { at.now.dir.place.attr.mode ≤ MAX_MODE }
@@ -58,8 +55,8 @@ fn drop_directory<B: Blobs, R: Rng>(
             if has_child(alloc, b, &at.place)? {
                 return Ok(Reply::Error(FsError::NotEmpty));
             }
-            drop_at(alloc, b, at, chance)?;
-            done(touch(alloc, b, &at.dir, now, chance))
+            drop_at(alloc, b, at)?;
+            done(touch(alloc, b, &at.dir, now))
         }
         Kind::File => Ok(Reply::Error(FsError::NotDirectory)),
         Kind::Link => Ok(Reply::Error(FsError::NotDirectory)),
@@ -67,13 +64,12 @@ fn drop_directory<B: Blobs, R: Rng>(
 }
 
 /// A file or a link goes.
-pub fn remove_file<B: Blobs, R: Rng>(
+pub fn remove_file<B: Blobs>(
     alloc: Global,
     b: &mut B,
     root: &BlockId,
     names: &[Name],
     now: Moment,
-    chance: &mut R,
 ) -> Result<Reply, Fail>
     requires { B.meanings.intact b.old }
     ensures outcome { Outcome B.meanings (BlobsShow B.holdings b.old root.now.0) b.old b.new result
@@ -81,20 +77,14 @@ pub fn remove_file<B: Blobs, R: Rng>(
     ensures variant { IfOk result IsChangeReply }
 {
     match reach(alloc, b, root, names, FsError::Busy) {
-        Ok(Reached::Row(at)) => drop_file(alloc, b, &at, now, chance),
+        Ok(Reached::Row(at)) => drop_file(alloc, b, &at, now),
         Ok(Reached::Refused(error)) => Ok(Reply::Error(error)),
         Err(fail) => Err(fail),
     }
 }
 
 /// What was found goes, where it is no directory, and its directory is touched.
-fn drop_file<B: Blobs, R: Rng>(
-    alloc: Global,
-    b: &mut B,
-    at: &Occupancy,
-    now: Moment,
-    chance: &mut R,
-) -> Result<Reply, Fail>
+fn drop_file<B: Blobs>(alloc: Global, b: &mut B, at: &Occupancy, now: Moment) -> Result<Reply, Fail>
     requires intact { B.meanings.intact b.old }
     requires mode { at.now.dir.place.attr.mode ≤ MAX_MODE }
     ensures outcome { Outcome B.meanings (Finding B.holdings b.old at.now) b.old b.new result
@@ -104,6 +94,6 @@ fn drop_file<B: Blobs, R: Rng>(
     if is_directory(at.place.attr.kind) {
         return Ok(Reply::Error(FsError::IsDirectory));
     }
-    drop_at(alloc, b, at, chance)?;
-    done(touch(alloc, b, &at.dir, now, chance))
+    drop_at(alloc, b, at)?;
+    done(touch(alloc, b, &at.dir, now))
 }

@@ -39,14 +39,7 @@ fn each_reply_is_that_of_the_tree_in_memory(rt: HostRuntime) -> Result<(), Fail>
         let now = Moment::new(100 + i, 5).ok_or("nanos")?;
         let command = generated(alloc, i)?;
         let told = tree.step(now, &command)?;
-        let reply = perform_on_blobs(
-            alloc,
-            &mut site.blobs,
-            &site.root,
-            now,
-            &command,
-            &mut site.chance,
-        )?;
+        let reply = perform_on_blobs(alloc, &mut site.blobs, &site.root, now, &command)?;
         let wanted = text_of(alloc, &told)?;
         assert_eq!(rt; text_of(alloc, &reply)?.as_slice(), wanted.as_slice());
         if i % 250 == 249 {

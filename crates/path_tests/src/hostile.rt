@@ -38,13 +38,7 @@ fn a_file_where_a_directory_is_said(rt: HostRuntime) -> Result<(), Fail> {
         kind: Kind::File,
         parent: site.root,
     };
-    let file = new_blob(
-        alloc,
-        &mut site.blobs,
-        &header,
-        b"no entry",
-        &mut site.chance,
-    )?;
+    let file = new_blob(alloc, &mut site.blobs, &header, b"no entry")?;
     name_in_root(alloc, &mut site, Kind::Directory, file)?;
     assert!(rt; is_structure(asked(alloc, &mut site, now, b"ls /a")?));
     assert!(rt; is_structure(asked(alloc, &mut site, now, b"stat /a/b")?));
@@ -87,5 +81,5 @@ fn name_in_root(alloc: Global, site: &mut Site, kind: Kind, blob: BlockId) -> Re
         },
         blob,
     };
-    Ok(insert(alloc, &mut site.blobs, &site.root, &entry, &mut site.chance)?)
+    Ok(insert(alloc, &mut site.blobs, &site.root, &entry)?)
 }

@@ -5,34 +5,27 @@ use fs_model::{Moment, Reply};
 use map_blobs::MapBlobs;
 use path_rows::empty_root;
 use plain_tree::PlainTree;
-use rand_pcg::Pcg32;
 use script_text::{parse_line, print_reply};
 use std::alloc::Global;
 use std::test::Fail;
 use tree_commands::perform_on_blobs;
 
-/// The blobs, the root's id, and what ids are drawn from.
+/// The blobs, and the root's id.
 #[derive(Drop)]
 pub struct Site {
     pub blobs: MapBlobs,
     pub root: BlockId,
-    pub chance: Pcg32,
 }
 
 /// The blobs of the empty tree.
 pub fn empty_site(alloc: Global) -> Result<Site, Fail> {
-    let mut blobs = MapBlobs::new(alloc);
-    let mut chance = Pcg32::new(1, 2);
+    let mut blobs = MapBlobs::new(alloc, [1; 32]);
     let bytes = empty_root(alloc)?;
     if bytes.len() > 100 {
         return Err(Fail::from("a header alone"));
     }
-    let root = blobs.create(alloc, &bytes, &mut chance)?;
-    Ok(Site {
-        blobs,
-        root,
-        chance,
-    })
+    let root = blobs.create(alloc, &bytes)?;
+    Ok(Site { blobs, root })
 }
 
 /// What a line is answered.
@@ -43,14 +36,7 @@ pub fn asked(
     line: &[u8],
 ) -> Result<Result<Reply, Failure>, Fail> {
     match parse_line(alloc, line) {
-        Ok(command) => Ok(perform_on_blobs(
-            alloc,
-            &mut site.blobs,
-            &site.root,
-            now,
-            &command,
-            &mut site.chance,
-        )),
+        Ok(command) => Ok(perform_on_blobs(alloc, &mut site.blobs, &site.root, now, &command)),
         Err(_) => Err(Fail::from("a line of the language")),
     }
 }

@@ -13,18 +13,16 @@ use block_id::{BlockId, Fail};
 use fs_model::{Command, Moment, Reply};
 use path_contents::{list, read, read_link, set_attributes, stat, truncate, write};
 use path_rows::{make_directory, make_file, make_link, move_row, remove_directory, remove_file};
-use rand_core::Rng;
 use std::alloc::Global;
 use tree_rules::AttrChange;
 
 /// One command on the tree that the blobs show.
-pub fn perform_on_blobs<B: Blobs, R: Rng>(
+pub fn perform_on_blobs<B: Blobs>(
     alloc: Global,
     b: &mut B,
     root: &BlockId,
     now: Moment,
     command: &Command,
-    chance: &mut R,
 ) -> Result<Reply, Fail>
     requires intact { B.meanings.intact b.old }
     requires fits { IsFitting command.now }
@@ -42,31 +40,31 @@ pub fn perform_on_blobs<B: Blobs, R: Rng>(
         Command::Stat(path) => stat(alloc, b, root, path.names()),
         Command::Readlink(path) => read_link(alloc, b, root, path.names()),
         Command::Read(path, from, count) => read(alloc, b, root, path.names(), *from, *count),
-        Command::Mkdir(path) => make_directory(alloc, b, root, path.names(), now, chance),
-        Command::Mkfile(path) => make_file(alloc, b, root, path.names(), now, chance),
+        Command::Mkdir(path) => make_directory(alloc, b, root, path.names(), now),
+        Command::Mkfile(path) => make_file(alloc, b, root, path.names(), now),
         Command::Symlink(target, path) => {
             let target = target.as_slice();
-            make_link(alloc, b, root, path.names(), target, now, chance)
+            make_link(alloc, b, root, path.names(), target, now)
         }
-        Command::Rmdir(path) => remove_directory(alloc, b, root, path.names(), now, chance),
-        Command::Rm(path) => remove_file(alloc, b, root, path.names(), now, chance),
-        Command::Mv(from, to) => move_row(alloc, b, root, from.names(), to.names(), now, chance),
+        Command::Rmdir(path) => remove_directory(alloc, b, root, path.names(), now),
+        Command::Rm(path) => remove_file(alloc, b, root, path.names(), now),
+        Command::Mv(from, to) => move_row(alloc, b, root, from.names(), to.names(), now),
         Command::Write(path, from, bytes) => {
             let bytes = bytes.as_slice();
-            write(alloc, b, root, path.names(), *from, bytes, now, chance)
+            write(alloc, b, root, path.names(), *from, bytes, now)
         }
-        Command::Truncate(path, len) => truncate(alloc, b, root, path.names(), *len, now, chance),
+        Command::Truncate(path, len) => truncate(alloc, b, root, path.names(), *len, now),
         Command::Chmod(path, mode) => {
             let change = AttrChange::Mode(*mode);
-            set_attributes(alloc, b, root, path.names(), change, now, chance)
+            set_attributes(alloc, b, root, path.names(), change, now)
         }
         Command::Chown(path, uid, gid) => {
             let change = AttrChange::Owner(*uid, *gid);
-            set_attributes(alloc, b, root, path.names(), change, now, chance)
+            set_attributes(alloc, b, root, path.names(), change, now)
         }
         Command::Utime(path, atime, mtime) => {
             let change = AttrChange::Times(*atime, *mtime);
-            set_attributes(alloc, b, root, path.names(), change, now, chance)
+            set_attributes(alloc, b, root, path.names(), change, now)
         }
         Command::Sync => Ok(Reply::Done),
     }

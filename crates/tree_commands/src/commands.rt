@@ -16,18 +16,16 @@ use blob_store::BlobStore;
 use block_id::{BlockId, Fail, Memory};
 use data_nodes::{Node, write_node};
 use fs_model::{Command, Moment, Reply};
-use rand_core::Rng;
 use std::alloc::Global;
 use store_api::{Blocks, Tx};
 
 /// One command on the tree of files that the blocks show from the root on.
-pub fn perform<S: Blocks, R: Rng>(
+pub fn perform<S: Blocks>(
     alloc: Global,
     blobs: &mut BlobStore<S>,
     root: &BlockId,
     now: Moment,
     command: &Command,
-    chance: &mut R,
 ) -> Result<Reply, Fail>
     requires intact { ⟦<Tx<S> as Blocks>⟧.meanings.intact blobs.old.tx }
     requires fits { IsFitting command.now }
@@ -38,7 +36,7 @@ pub fn perform<S: Blocks, R: Rng>(
         → OnWriteInside (S.holdings.payload blobs.old.tx.store) n.tree command.now (λ most. fin.len blobs.new.tx.overlay ≤ fin.len blobs.old.tx.overlay + most) }
     ensures variant { IfOk result (λ reply. IsReplyTo command.now reply) }
 {
-    perform_on_blobs(alloc, blobs, root, now, command, chance)
+    perform_on_blobs(alloc, blobs, root, now, command)
 }
 
 /// The payload of a root's block that shows the empty tree, where there is no other block.

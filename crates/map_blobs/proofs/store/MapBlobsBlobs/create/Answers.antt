@@ -8,7 +8,7 @@ use Rattle.map_blobs.proofs.Puts.{rows_put}
 use Rattle.map_blobs.proofs.store.MapBlobsBlobs.create.Goals as goal
 
 pub returns : goal.returns
-returns g c =
+returns c =
     let same : c.in_ok-copy.copy.items ≡ c.args.bytes.now = search rules in
     went_well _ _ _ (λ n. record {
       fresh = n.stands c.in-Some.id.0 ∙ ap row_of c.in-Some.ensures;

@@ -9,7 +9,7 @@ use Rattle.map_blobs.proofs.Puts.{rows_put, same_bytes}
 use Rattle.map_blobs.proofs.store.MapBlobsBlobs.write.Goals as goal
 
 pub returns-in_ok-put-in-Some-clause-outcome : goal.returns-in_ok-put-in-Some-clause-outcome
-returns-in_ok-put-in-Some-clause-outcome g c =
+returns-in_ok-put-in-Some-clause-outcome c =
     went_well _ _ _ (λ n.
     let same : c.in-Some.old.now ≡ n.bytes = same_bytes c.args.self.now.rows n.map c.args.id.now.0 c.in-Some.old.now n.bytes n.stands c.in-Some.ensures n.there in
     subst (λ z. AreRows z (insert n.map c.args.id.now.0 (written n.bytes c.args.from c.args.bytes.now)))
