@@ -1,8 +1,8 @@
 -- What a line, a sync and an opening make of the files that wait and of those that are put.
 use Rattle.std.proofs.Common.{◌≡◌, ◌⊎◌, ℕ, Bool, true, false, cond, List, [], ◌∷◌, ◌++◌, length, refl, sym, ◌∙◌, ap, subst, inl, inr}
-use Rattle.std.specs.Prelude.{T, map}
+use Rattle.std.specs.Prelude.{T, map, is_some}
 use Rattle.std.specs.FinMap as fin
-use Rattle.std.specs.FinMap.{get-entries, slice_cmp-IsAntisymmetric, nat_cmp-IsAntisymmetric}
+use Rattle.std.specs.FinMap.{get-entries, entries_sorted, slice_cmp-IsAntisymmetric, nat_cmp-IsAntisymmetric}
 use Rattle.std.specs.FinMap.Entries.{find}
 use Rattle.std.specs.Cmp.{Equal-is}
 use Rattle.std.specs.List.{AllByRecursion}
@@ -15,8 +15,13 @@ use Rattle.outside.specs.Trace.{At, Call, config, block, got, adds}
 use Rattle.outside.specs.Writes.{after_writes, call_for, StopsAt}
 use Rattle.rand_core.specs.Stream.{Stream, fill_bytes}
 use Rattle.store_api.specs.Content.{Id, Changes, id_cmp}
+use Rattle.store_api.specs.Draws.{IsLater}
 use Rattle.store_api.specs.Durables.{Durables}
+use Rattle.store_api.specs.Holdings.{has_id}
+use Rattle.store_api.specs.Ids.{ComeOfSeed}
 use Rattle.store_api.proofs.Draws.{later_same}
+use Rattle.store_api.proofs.Naming.{among_later, known_or_drawn}
+use Rattle.store_api.proofs.Rising.{ids_total}
 use Rattle.session_saver.specs.Saving.{Wrote}
 use Rattle.local_state.specs.Record.{PlainState}
 use Rattle.held_blocks.specs.Held.{Held, waiting}
@@ -24,14 +29,14 @@ use Rattle.held_blocks.specs.Reads.{AllReads, WentOnByReads}
 use Rattle.held_blocks.specs.Stores.{OnlyRead}
 use Rattle.batch_sealing.specs.Applied.{Applied, WaitsAfter}
 use Rattle.batch_sealing.specs.Draws.{AreDrawn, draws, given_in, given_ids, iv_in, iv_of}
-use Rattle.batch_sealing.proofs.Sorted.{each_found, of_found}
-use Rattle.mount_core.specs.Configuring.{IsOneOf}
-use Rattle.mount_core.specs.Drawing.{DrawsOnce, LineDraws}
+use Rattle.batch_sealing.proofs.BatchSoundness.{used_after}
+use Rattle.batch_sealing.proofs.Sorted.{all_by, each_found, of_found}
+use Rattle.mount_core.specs.Drawing.{DrawsOnce, DrawsSeeded, LineDraws, NamesKnown}
 use Rattle.mount_tower.specs.Opening.{IsLoaded, ReadsConfigOnce}
 use Rattle.mount_tower.specs.declared.opening.TheConstants.{MAX_CONFIG}
-use Rattle.mount_tower.specs.Tower.{Cached, held_in, trace_in, tower_meanings, tower_durables}
-use Rattle.mount.specs.Sealing.{AreVectorsOf, View, view_closed, IsSealedFor, PutsSealed, AddsSealed, AreSealed, SealsFresh, OpensSealed}
-use Rattle.mount.specs.SealingLaws.{adds_nothing, adds_then, sealed_nothing, sealed_then, seals_none, seals_then}
+use Rattle.mount_tower.specs.Tower.{Cached, held_in, trace_in, tower_meanings, tower_holdings, tower_durables}
+use Rattle.mount.specs.Sealing.{Draw, seed, vector, known_after, AreDraws, AreVectors, IsDrawnFor, View, view_closed, IsSealedFor, PutsSealed, AddsSealed, AreSealed, SealsFresh, SealsKnown, OpensSealed}
+use Rattle.mount.specs.SealingLaws.{adds_nothing, adds_then, known_none, known_then, sealed_nothing, sealed_then, seals_then}
 
 -- ---- what is written of a list in order
 
@@ -83,9 +88,9 @@ stays_said list left done name change rises parts found =
 
 -- ---- a sync
 
-module _ {S : Type 0} (D : Durables S) where
+module _ {S : Type 0} (D : Durables S) (used : S → List Id) where
   abbrev view_in : S → View
-  view_in s = record { list = D.list s; calls = D.trace s }
+  view_in s = record { list = D.list s; calls = D.trace s; known = used s }
 
   -- it seals nothing
   pub wrote_sealed : (a b : S) → IsIncreasing (D.list a) → (b ≡ a) ⊎ Wrote D a b → AreSealed [] (view_in a) (view_in b)
@@ -108,8 +113,12 @@ module _ {S : Type 0} (D : Durables S) where
 pub closes_sealed : (a b : View) → AreSealed [] a b → AreSealed [] a (view_closed b.calls)
 closes_sealed a b sealed = record { waits = λ id bytes is. absurd (cc); adds = sealed.adds }
 
+-- what was there before an opening
+abbrev view_before : FileChanges → Option (List Call) → View
+view_before list calls = record { list = list; calls = calls; known = [] }
+
 pub opens_closed : (kept : Option (List ℕ)) (calls : Option (List Call)) (after : View) → OpensSealed kept calls after → OpensSealed kept calls (view_closed after.calls)
-opens_closed kept calls after opens = (opens.0, opens.1, closes_sealed (record { list = opens.0; calls = calls }) after opens.2)
+opens_closed kept calls after opens = (opens.0, opens.1, closes_sealed (view_before opens.0 calls) after opens.2)
 
 -- the record wasn't taken
 pub opens_none : (kept : Option (List ℕ)) (calls : Option (List Call)) → OpensSealed kept calls (view_closed calls)
@@ -120,23 +129,22 @@ module _ (kept : Option (List ℕ)) (state : PlainState) (list : FileChanges) (l
   adds_config old new (inl same) = subst (AddsSealed [] list old) (sym same) (adds_nothing [] list old)
   adds_config old new (inr (answer, is)) = subst (AddsSealed [] list old) (sym is) (adds_call list old (got config MAX_CONFIG answer) tt)
 
-  config_sealed : (old new : Option (List Call)) → ReadsConfigOnce old new → AreSealed [] (record { list = list; calls = old }) (record { list = list; calls = new })
-  config_sealed old new reads = record { waits = λ id bytes is. inr is; adds = adds_config old new reads }
+  config_sealed : (old new : Option (List Call)) (known : List Id) → ReadsConfigOnce old new → AreSealed [] (view_before list old) (record { list = list; calls = new; known = known })
+  config_sealed old new known reads = record { waits = λ id bytes is. inr is; adds = adds_config old new reads }
 
   -- the configuration wasn't taken
   pub opens_read : (old new : Option (List Call)) → ReadsConfigOnce old new → OpensSealed kept old (view_closed new)
-  opens_read old new reads =
-      (list, inr (state, loaded), closes_sealed (record { list = list; calls = old }) (record { list = list; calls = new }) (config_sealed old new reads))
+  opens_read old new reads = (list, inr (state, loaded), closes_sealed (view_before list old) (view_before list new) (config_sealed old new [] reads))
 
   -- what waited was to be written
-  pub opens_wrote : {S : Type 0} (D : Durables S) (old : Option (List Call)) (a b : S) → D.list a ≡ list → IsIncreasing (D.list a) → ReadsConfigOnce old (D.trace a) → (b ≡ a) ⊎ Wrote D a b
-      → OpensSealed kept old (record { list = D.list b; calls = D.trace b })
-  opens_wrote D old a b same rises reads wrote =
-      let view : View = record { list = D.list b; calls = D.trace b } in (
+  pub opens_wrote : {S : Type 0} (D : Durables S) (used : S → List Id) (old : Option (List Call)) (a b : S) → D.list a ≡ list → IsIncreasing (D.list a) → ReadsConfigOnce old (D.trace a) → (b ≡ a) ⊎ Wrote D a b
+      → OpensSealed kept old (record { list = D.list b; calls = D.trace b; known = used b })
+  opens_wrote D used old a b same rises reads wrote =
+      let view : View = record { list = D.list b; calls = D.trace b; known = used b } in (
         list,
         inr (state, loaded),
-        sealed_then [] [] (record { list = list; calls = old }) (record { list = list; calls = D.trace a }) view (config_sealed old (D.trace a) reads)
-            (subst (λ x. AreSealed [] (record { list = x; calls = D.trace a }) view) same (wrote_sealed D a b rises wrote)),
+        sealed_then [] [] (view_before list old) (record { list = list; calls = D.trace a; known = used a }) view (config_sealed old (D.trace a) (used a) reads)
+            (subst (λ x. AreSealed [] (record { list = x; calls = D.trace a; known = used a }) view) same (wrote_sealed D used a b rises wrote)),
       )
 
 -- ---- loads
@@ -149,11 +157,18 @@ adds_reads : (h : Held) (list : FileChanges) (old new : Option (List Call)) → 
 adds_reads h list None new reads = reads
 adds_reads h list (Some old) new reads = (reads.0, reads.1, reads_put_nothing h list reads.0 reads.2)
 
-read_sealed : (a b : Held) (old new : Option (List Call)) (was now : ℕ) → OnlyRead a b old new was now → AreSealed [] (record { list = a.list; calls = old }) (record { list = b.list; calls = new })
-read_sealed a b old new was now read = record {
-  waits = λ id bytes is. inr (subst (λ (h : Held). change_at (block id) h.list ≡ Some (Some bytes)) read.held is);
-  adds = adds_reads a a.list old new read.trace;
-}
+-- of a store of blocks
+abbrev view_by : Held → Option (List Call) → View
+view_by h calls = record { list = h.list; calls = calls; known = fin.keys h.state.lives }
+
+read_seals : (a b : Held) (old new : Option (List Call)) (was now : ℕ) (stream left : Stream) → OnlyRead a b old new was now → IsLater stream left → SealsKnown stream left (view_by a old) (view_by b new)
+read_seals a b old new was now stream left read later =
+    known_none stream left (view_by a old) (view_by b new) later
+    (record {
+      waits = λ id bytes is. inr (subst (λ (h : Held). change_at (block id) h.list ≡ Some (Some bytes)) read.held is);
+      adds = adds_reads a a.list old new read.trace;
+    })
+    (λ id has. subst (λ (h : Held). has_id (fin.keys h.state.lives) id ≡ true) read.held has)
 
 -- ---- a batch
 
@@ -167,59 +182,118 @@ iv_at None = refl
 iv_at (Some None) = refl
 iv_at (Some (Some file)) = refl
 
--- the files that wait for these ids
-abbrev files_of : FileChanges → List Id → List (List ℕ)
-files_of list [] = []
-files_of list (id ∷ ids) = file_at (change_at (block id) list) ∷ files_of list ids
+-- the IVs of the files that wait for these ids
+abbrev vectors_for : FileChanges → List Id → List Draw
+vectors_for list [] = []
+vectors_for list (id ∷ ids) = vector id (file_at (change_at (block id) list)) ∷ vectors_for list ids
 
-vectors_of : (list : FileChanges) (ids : List Id) (stream left : Stream) → (map (λ id. iv_of (change_at (block id) list)) ids, left) ≡ draws (length ids) stream → AreVectorsOf (files_of list ids) stream left
-vectors_of list [] stream left is = ([], ap (λ (p : List (List ℕ) × Stream). p.1) is)
-vectors_of list (id ∷ ids) stream left is =
+vectors_drawn : (known : List Id) (list : FileChanges) (ids : List Id) (stream left : Stream) → AllByRecursion (λ id. has_id known id ≡ true) ids
+    → (map (λ id. iv_of (change_at (block id) list)) ids, left) ≡ draws (length ids) stream → AreDraws known (vectors_for list ids) stream left
+vectors_drawn known list [] stream left all is = ([], ap (λ (p : List (List ℕ) × Stream). p.1) is)
+vectors_drawn known list (id ∷ ids) stream left all is =
     let ivs = ap (λ (p : List (List ℕ) × Stream). p.0) is in
     let later = ap (λ (p : List (List ℕ) × Stream). p.1) is in
     let first : iv_of (change_at (block id) list) ≡ (fill_bytes 16 stream).0 = cc in
     let others : map (λ id. iv_of (change_at (block id) list)) ids ≡ (draws (length ids) (fill_bytes 16 stream).1).0 = cc in
-    (stream, later_same stream, iv_at (change_at (block id) list) ∙ first, vectors_of list ids (fill_bytes 16 stream).1 left (λ i. (others i, later i)))
+    (stream, later_same stream, all.0, iv_at (change_at (block id) list) ∙ first, vectors_drawn known list ids (fill_bytes 16 stream).1 left all.1 (λ i. (others i, later i)))
 
-one_more : (list : FileChanges) (e : Id × Option (List ℕ)) (es : List (Id × Option (List ℕ))) (bytes : List ℕ) → IsOneOf (files_of list (given_in es)) bytes → IsOneOf (files_of list (given_in (e ∷ es))) bytes
-one_more list (id, Some payload) es bytes is = inr is
-one_more list (id, None) es bytes is = is
+known_vectors : (known : List Id) (list : FileChanges) (ids : List Id) → known_after known (vectors_for list ids) ≡ known
+known_vectors known list [] = refl
+known_vectors known list (id ∷ ids) = known_vectors known list ids
 
-one_here : (list : FileChanges) (e : Id × Option (List ℕ)) (es : List (Id × Option (List ℕ))) (payload : List ℕ) → e.1 ≡ Some payload → IsOneOf (files_of list (given_in (e ∷ es))) (file_at (change_at (block e.0) list))
-one_here list (id, Some other) es payload is = inl refl
+only_vectors : (list : FileChanges) (ids : List Id) → AreVectors (vectors_for list ids)
+only_vectors list [] = tt
+only_vectors list (id ∷ ids) = only_vectors list ids
+
+one_more : (list : FileChanges) (e : Id × Option (List ℕ)) (es : List (Id × Option (List ℕ))) (id : Id) (bytes : List ℕ) → IsDrawnFor (vectors_for list (given_in es)) id bytes
+    → IsDrawnFor (vectors_for list (given_in (e ∷ es))) id bytes
+one_more list (other, Some payload) es id bytes is = inr is
+one_more list (other, None) es id bytes is = is
+
+one_here : (list : FileChanges) (e : Id × Option (List ℕ)) (es : List (Id × Option (List ℕ))) (payload : List ℕ) → e.1 ≡ Some payload
+    → IsDrawnFor (vectors_for list (given_in (e ∷ es))) e.0 (file_at (change_at (block e.0) list))
+one_here list (id, Some other) es payload is = inl (refl, refl)
 one_here list (id, None) es payload is = absurd (cc)
 
 -- the file that waits for an id with a payload is one of them
-one_given : (list : FileChanges) (es : List (Id × Option (List ℕ))) (id payload : List ℕ) → find id_cmp id es ≡ Some (Some payload) → IsOneOf (files_of list (given_in es)) (file_at (change_at (block id) list))
+one_given : (list : FileChanges) (es : List (Id × Option (List ℕ))) (id payload : List ℕ) → find id_cmp id es ≡ Some (Some payload)
+    → IsDrawnFor (vectors_for list (given_in es)) id (file_at (change_at (block id) list))
 one_given list [] id payload found = absurd (cc)
 one_given list (e ∷ es) id payload found =
-    elim (eq_by_cmp id_cmp id e.0) as (λ b. eq_by_cmp id_cmp id e.0 ≡ b → cond b (Some e.1) (find id_cmp id es) ≡ Some (Some payload) → IsOneOf (files_of list (given_in (e ∷ es))) (file_at (change_at (block id) list))) [
+    elim (eq_by_cmp id_cmp id e.0) as (λ b. eq_by_cmp id_cmp id e.0 ≡ b → cond b (Some e.1) (find id_cmp id es) ≡ Some (Some payload)
+        → IsDrawnFor (vectors_for list (given_in (e ∷ es))) id (file_at (change_at (block id) list))) [
       | true ↦ λ s here.
           let key : id ≡ e.0 = slice_cmp-IsAntisymmetric nat_cmp-IsAntisymmetric id e.0 ((Equal-is (id_cmp id e.0)).0 s) in
           let value : e.1 ≡ Some payload = cc in
-          subst (λ x. IsOneOf (files_of list (given_in (e ∷ es))) (file_at (change_at (block x) list))) (sym key) (one_here list e es payload value)
-      | false ↦ λ s there. one_more list e es _ (one_given list es id payload there)
+          subst (λ x. IsDrawnFor (vectors_for list (given_in (e ∷ es))) x (file_at (change_at (block x) list))) (sym key) (one_here list e es payload value)
+      | false ↦ λ s there. one_more list e es id _ (one_given list es id payload there)
     ] refl found
 
+-- each id that gets a payload is in the changes
+given_found : (whole es : List (Id × Option (List ℕ))) → AllByRecursion (λ e. find id_cmp e.0 whole ≡ Some e.1) es → AllByRecursion (λ id. is_some (find id_cmp id whole) ≡ true) (given_in es)
+given_found whole [] all = tt
+given_found whole ((id, Some payload) ∷ es) all = (ap is_some all.0, given_found whole es all.1)
+given_found whole ((id, None) ∷ es) all = given_found whole es all.1
+
+given_known : (changes : Changes) (known : List Id) → ((id : Id) → is_some (fin.get changes id) ≡ true → has_id known id ≡ true) → AllByRecursion (λ id. has_id known id ≡ true) (given_ids changes)
+given_known changes known all =
+    all_by (λ id. is_some (find id_cmp id (fin.entries changes)) ≡ true) (λ id. has_id known id ≡ true) (given_ids changes) (λ id said. all id (ap is_some (get-entries changes id) ∙ said))
+    (given_found (fin.entries changes) (fin.entries changes) (each_found ids_total (fin.entries changes) (entries_sorted changes)))
+
 batch_waits : (a b : Held) (changes : Changes) (id bytes : List ℕ) (change : Option (Option (List ℕ))) → fin.get changes id ≡ change → WaitsAfter a b id change → waiting b id ≡ Some (Some bytes)
-    → IsSealedFor (files_of b.list (given_ids changes)) a.list id bytes
+    → IsSealedFor (vectors_for b.list (given_ids changes)) a.list id bytes
 batch_waits a b changes id bytes None is waits now = inr (sym waits ∙ now)
 batch_waits a b changes id bytes (Some None) is waits now = absurd (cc)
 batch_waits a b changes id bytes (Some (Some payload)) is waits now =
-    inl (subst (IsOneOf (files_of b.list (given_ids changes))) (ap file_at now) (one_given b.list (fin.entries changes) id payload (sym (get-entries changes id) ∙ is)))
+    inl (subst (IsDrawnFor (vectors_for b.list (given_ids changes)) id) (ap file_at now) (one_given b.list (fin.entries changes) id payload (sym (get-entries changes id) ∙ is)))
 
-batch_seals : (a b : Held) (old new : Option (List Call)) (changes : Changes) (stream left : Stream) → Applied a b old new changes → AreDrawn changes b.list stream left
-    → SealsFresh stream left (record { list = a.list; calls = old }) (record { list = b.list; calls = new })
-batch_seals a b old new changes stream left made drawn = record {
-  files = files_of b.list (given_ids changes);
-  vectors = vectors_of b.list (given_ids changes) stream left drawn;
-  sealed = record {
-    waits = λ id bytes now. batch_waits a b changes id bytes (fin.get changes id) refl (made.waits id) now;
-    adds = subst (AddsSealed (files_of b.list (given_ids changes)) a.list old) (sym made.trace) (adds_nothing (files_of b.list (given_ids changes)) a.list old);
-  };
-}
+module _ (a b : Held) (old new : Option (List Call)) (changes : Changes) (stream left : Stream) (made : Applied a b old new changes) where
+  abbrev Vectors : List Draw
+  Vectors = vectors_for b.list (given_ids changes)
 
--- ---- a line over the tower
+  abbrev Used : List Id
+  Used = fin.keys a.state.lives
+
+  abbrev IsSaid : Id → Type 0
+  IsSaid id = is_some (fin.get changes id) ≡ true
+
+  -- a batch without new ids
+  known_batch : ((id : Id) → IsSaid id → has_id Used id ≡ true) → AreDrawn changes b.list stream left → SealsKnown stream left (view_by a old) (view_by b new)
+  known_batch known drawn = record {
+    fresh = record {
+      drawn = Vectors;
+      draws = vectors_drawn Used b.list (given_ids changes) stream left (given_known changes Used known) drawn;
+      sealed = record {
+        waits = λ id bytes now. batch_waits a b changes id bytes (fin.get changes id) refl (made.waits id) now;
+        adds = subst (AddsSealed Vectors a.list old) (sym made.trace) (adds_nothing Vectors a.list old);
+      };
+      known = λ id has. subst (λ k. has_id k id ≡ true) (sym (known_vectors Used b.list (given_ids changes)))
+          (elim (used_after a b old new changes made id has) as (λ _. has_id Used id ≡ true) [ inl was ↦ was | inr said ↦ known id said ]);
+    };
+    unnamed = only_vectors b.list (given_ids changes);
+  }
+
+  -- one whose new ids come of the seed that was drawn for them
+  seeded_batch : (after : Stream) → ComeOfSeed (fill_bytes 32 stream).0 after Used changes → AreDrawn changes b.list (fill_bytes 32 stream).1 left → SealsFresh stream left (view_by a old) (view_by b new)
+  seeded_batch after come drawn =
+      let known : (id : Id) → IsSaid id → has_id (come.drawn ++ Used) id ≡ true = λ id said. known_or_drawn come.drawn Used id (come.all id said) in
+      record {
+        drawn = seed come.drawn ∷ Vectors;
+        draws = (
+          stream,
+          later_same stream,
+          (after, come.come),
+          vectors_drawn (come.drawn ++ Used) b.list (given_ids changes) (fill_bytes 32 stream).1 left (given_known changes (come.drawn ++ Used) known) drawn,
+        );
+        sealed = record {
+          waits = λ id bytes now. batch_waits a b changes id bytes (fin.get changes id) refl (made.waits id) now;
+          adds = subst (AddsSealed (seed come.drawn ∷ Vectors) a.list old) (sym made.trace) (adds_nothing (seed come.drawn ∷ Vectors) a.list old);
+        };
+        known = λ id has. subst (λ k. has_id k id ≡ true) (sym (known_vectors (come.drawn ++ Used) b.list (given_ids changes)))
+            (elim (used_after a b old new changes made id has) as (λ _. has_id (come.drawn ++ Used) id ≡ true) [ inl was ↦ among_later come.drawn Used id was | inr said ↦ known id said ]);
+      }
+
+-- ---- steps over the tower
 
 module _ {V : Type 0} (trace : V → Option (List Call)) (faults : V → ℕ) where
   abbrev pub tower_applied : Cached V → Cached V → Changes → Type 0
@@ -229,17 +303,39 @@ module _ {V : Type 0} (trace : V → Option (List Call)) (faults : V → ℕ) wh
   tower_drawn a b changes stream left = AreDrawn changes (held_in b).list stream left
 
   abbrev view_at : Cached V → View
-  view_at c = record { list = (held_in c).list; calls = trace_in trace c }
+  view_at c = view_by (held_in c) (trace_in trace c)
 
-  once_seals : (a b : Cached V) (stream left : Stream) → DrawsOnce (tower_meanings trace faults) tower_applied tower_drawn a b stream left → SealsFresh stream left (view_at a) (view_at b)
-  once_seals a b stream left (inl none) = seals_none stream left (view_at a) (view_at b) none.1 (read_sealed (held_in a) (held_in b) (trace_in trace a) (trace_in trace b) _ _ none.0)
-  once_seals a b stream left (inr batch) =
-      seals_then stream batch.before left (view_at a) (view_at batch.last) (view_at b)
-      (seals_none stream batch.before (view_at a) (view_at batch.last) batch.later (read_sealed (held_in a) (held_in batch.last) (trace_in trace a) (trace_in trace batch.last) _ _ batch.loaded))
-      (batch_seals (held_in batch.last) (held_in b) (trace_in trace batch.last) (trace_in trace b) batch.changes batch.before left batch.makes batch.draws)
+  loads_seal : (a b : Cached V) (stream left : Stream) → (tower_meanings trace faults).loaded a b → IsLater stream left → SealsKnown stream left (view_at a) (view_at b)
+  loads_seal a b stream left loaded later = read_seals (held_in a) (held_in b) (trace_in trace a) (trace_in trace b) _ _ stream left loaded later
 
-  pub line_seals : (a b : Cached V) (stream left : Stream) → IsIncreasing (held_in a).list → LineDraws (tower_meanings trace faults) (tower_durables trace) tower_applied tower_drawn a b stream left
-      → SealsFresh stream left (view_at a) (view_at b)
-  line_seals a b stream left rises line =
-      seals_then stream stream left (view_at a) (view_at line.synced) (view_at b)
-      (seals_none stream stream (view_at a) (view_at line.synced) (later_same stream) (wrote_sealed (tower_durables trace) a line.synced rises line.wrote)) (once_seals line.synced b stream left line.once)
+  -- a sync came first, or nothing
+  module _ (a synced b : Cached V) (stream left : Stream) (rises : IsIncreasing (held_in a).list) (wrote : (synced ≡ a) ⊎ Wrote (tower_durables trace) a synced)
+      (used : (tower_holdings trace).used synced ≡ (tower_holdings trace).used a) where
+    sync_seals : SealsKnown stream stream (view_at a) (view_at synced)
+    sync_seals =
+        known_none stream stream (view_at a) (view_at synced) (later_same stream) (wrote_sealed (tower_durables trace) (tower_holdings trace).used a synced rises wrote)
+        (λ id has. subst (λ k. has_id k id ≡ true) used has)
+
+    -- a step without new ids
+    known_once : DrawsOnce (tower_meanings trace faults) (NamesKnown (tower_holdings trace)) tower_applied tower_drawn synced b stream left → SealsKnown stream left (view_at synced) (view_at b)
+    known_once (inl none) = loads_seal synced b stream left none.0 none.1
+    known_once (inr batch) =
+        known_then stream stream left (view_at synced) (view_at batch.last) (view_at b) (loads_seal synced batch.last stream stream batch.loaded (later_same stream))
+        (known_batch (held_in batch.last) (held_in b) (trace_in trace batch.last) (trace_in trace b) batch.changes stream left batch.makes batch.names batch.draws)
+
+    pub step_seals : DrawsOnce (tower_meanings trace faults) (NamesKnown (tower_holdings trace)) tower_applied tower_drawn synced b stream left → SealsKnown stream left (view_at a) (view_at b)
+    step_seals once = known_then stream stream left (view_at a) (view_at synced) (view_at b) sync_seals (known_once once)
+
+    -- one with them
+    seeded_once : DrawsSeeded (tower_meanings trace faults) (tower_holdings trace) tower_applied tower_drawn synced b stream left → SealsFresh stream left (view_at synced) (view_at b)
+    seeded_once (inl none) = (loads_seal synced b stream left none.0 none.1).fresh
+    seeded_once (inr batch) =
+        seals_then stream stream left (view_at synced) (view_at batch.last) (view_at b) (loads_seal synced batch.last stream stream batch.loaded (later_same stream)).fresh
+        (seeded_batch (held_in batch.last) (held_in b) (trace_in trace batch.last) (trace_in trace b) batch.changes stream left batch.makes batch.names.0 batch.names.1 batch.draws)
+
+    seeded_seals : DrawsSeeded (tower_meanings trace faults) (tower_holdings trace) tower_applied tower_drawn synced b stream left → SealsFresh stream left (view_at a) (view_at b)
+    seeded_seals once = seals_then stream stream left (view_at a) (view_at synced) (view_at b) sync_seals.fresh (seeded_once once)
+
+  pub line_seals : (a b : Cached V) (stream left : Stream) → IsIncreasing (held_in a).list
+      → LineDraws (tower_meanings trace faults) (tower_holdings trace) (tower_durables trace) tower_applied tower_drawn a b stream left → SealsFresh stream left (view_at a) (view_at b)
+  line_seals a b stream left rises line = seeded_seals a line.synced b stream left rises line.wrote line.used line.once

@@ -64,6 +64,11 @@ pub record SealsFresh (stream left : Stream) (before after : View) : Type 0 wher
   pub vectors : AreVectorsOf files stream left
   pub sealed : AreSealed files before after
 
+-- the same, and no seed was drawn: each file that was sealed is under an id that was known before
+pub record SealsKnown (stream left : Stream) (before after : View) : Type 0 where
+  pub fresh : SealsFresh stream left before after
+  pub unnamed : AreVectors fresh.drawn
+
 -- ---- where a session begins
 
 -- the list of the record that is kept, or none

@@ -8,7 +8,7 @@ ghost use Rattle.store_api.specs.Durables.{with_mark};
 ghost use Rattle.tree_commands.specs.Performing.{is_sync, IsReplyTo};
 ghost use Rattle.tree_commands.specs.Showing.{ShowsFiles};
 ghost use Rattle.mount_core.specs.Answering.{FormAnswers, TreesAnswer, StoreAnswers, SaverAnswers};
-ghost use Rattle.mount_core.specs.Drawing.{DrawsOnce, LineDraws};
+ghost use Rattle.mount_core.specs.Drawing.{DrawsOnce, DrawsSeeded, LineDraws, NamesOfSeed};
 ghost use Rattle.mount_core.specs.Keeping.{LineKeeps};
 ghost use Rattle.mount_core.specs.Standing.{Ready, IsKeptMarked};
 ghost use Rattle.mount_answering.specs.Asking.{CanSettle, FormAsked, KeepsSaver, StoreAsked, StoreSettled, TreesAsked, TreesSettled};
@@ -19,8 +19,7 @@ use answers::Answer;
 use fs_model::{Command, Moment, Reply};
 use mount_core::Core;
 use outside::Keeper;
-use rand_chacha::ChaCha20Rng;
-use rand_core::{Rng, SeedableRng};
+use rand_core::Rng;
 use std::alloc::Global;
 use store_api::{Blocks, Durable, Tx};
 use tree_commands::perform;
@@ -59,8 +58,8 @@ fn settle<S: Durable, K: Keeper, R: Rng>(
     ensures store { StoreSettled S.meanings S.holdings S.durables core.old.blobs.tx.store core.old.blobs.tx.overlay
         command.now result core.new.blobs.tx.store }
     ensures saver { KeepsSaver core.old result core.new }
-    ensures draws { DrawsOnce S.meanings S.applied S.drawn core.old.blobs.tx.store core.new.blobs.tx.store
-        (R.stream chance.old) (R.stream chance.new) }
+    ensures draws { DrawsOnce S.meanings (NamesOfSeed S.holdings core.old.blobs.tx.seed) S.applied S.drawn
+        core.old.blobs.tx.store core.new.blobs.tx.store (R.stream chance.old) (R.stream chance.new) }
     ensures answers { (result ≡ Answer.Reply reply) ⊎ ((result ≡ Answer.Memory) ⊎ (result ≡ Answer.Spent)) }
 {
     if only_looks(command) || is_error(&reply) || core.blobs.tx.batch().is_empty() {
@@ -79,8 +78,38 @@ fn settle<S: Durable, K: Keeper, R: Rng>(
     }
 }
 
-/// Answers a command by the blocks, and leaves the keeper alone. Ids come from a generator of their own, for which one seed is
-/// drawn, so that what is left of `chance` goes to the vectors of files alone.
+/// Answers a command by the blocks, and leaves the keeper alone. New ids come of the seed of the changes, of which there are
+/// none yet.
+fn ask_begun<S: Durable, K: Keeper, R: Rng>(
+    alloc: Global,
+    core: &mut Core<S, K>,
+    now: Moment,
+    command: &Command,
+    chance: &mut R,
+) -> Answer
+    requires intact { ⟦<Tx<S> as Blocks>⟧.meanings.intact core.old.blobs.tx }
+    requires ready { Ready (world S.meanings S.holdings S.durables S.records K.Keeper) core.old }
+    requires fits { IsFitting command.now }
+    ensures ready { Ready (world S.meanings S.holdings S.durables S.records K.Keeper) core.new }
+    ensures form { FormAsked command.now result }
+    ensures trees { TreesAsked ShowsFiles (world S.meanings S.holdings S.durables S.records K.Keeper)
+        now core.old command.now result core.new }
+    ensures store { StoreAsked S.meanings S.holdings S.durables core.old.blobs.tx.store command.now result
+        core.new.blobs.tx.store }
+    ensures saver { KeepsSaver core.old result core.new }
+    ensures draws { DrawsOnce S.meanings (NamesOfSeed S.holdings core.old.blobs.tx.seed) S.applied S.drawn
+        core.old.blobs.tx.store core.new.blobs.tx.store (R.stream chance.old) (R.stream chance.new) }
+{
+    match perform(alloc, &mut core.blobs, &core.root, now, command) {
+        Ok(reply) => settle(alloc, core, command, reply, chance),
+        Err(fail) => {
+            core.blobs.tx.abandon();
+            fail_answer(fail)
+        }
+    }
+}
+
+/// The same, once a seed of new ids is drawn. What is left of `chance` goes to the vectors of files alone.
 fn ask<S: Durable, K: Keeper, R: Rng>(
     alloc: Global,
     core: &mut Core<S, K>,
@@ -97,19 +126,13 @@ fn ask<S: Durable, K: Keeper, R: Rng>(
     ensures store { StoreAsked S.meanings S.holdings S.durables core.old.blobs.tx.store command.now result
         core.new.blobs.tx.store }
     ensures saver { KeepsSaver core.old result core.new }
-    ensures draws { DrawsOnce S.meanings S.applied S.drawn core.old.blobs.tx.store core.new.blobs.tx.store
+    ensures draws { DrawsSeeded S.meanings S.holdings S.applied S.drawn core.old.blobs.tx.store core.new.blobs.tx.store
         (R.stream chance.old) (R.stream chance.new) }
 {
     let mut seed = [0; 32];
     chance.fill_bytes(&mut seed);
-    let mut ids = ChaCha20Rng::from_seed(seed);
-    match perform(alloc, &mut core.blobs, &core.root, now, command, &mut ids) {
-        Ok(reply) => settle(alloc, core, command, reply, chance),
-        Err(fail) => {
-            core.blobs.tx.abandon();
-            fail_answer(fail)
-        }
-    }
+    core.blobs.tx.begin(seed);
+    ask_begun(alloc, core, now, command, chance)
 }
 
 /// Answers a command. After a violation each is refused. Where 8 MiB wait, and for `Sync`, there is a sync first: an error
@@ -133,7 +156,7 @@ pub fn answer<S: Durable, K: Keeper, R: Rng>(
     ensures saver { SaverAnswers (world S.meanings S.holdings S.durables S.records K.Keeper) core.old (Ok command.now)
         result core.new }
     ensures keeps { LineKeeps S.durables S.records K.Keeper core.old.blobs.tx.store core.old.saver result core.new.saver }
-    ensures draws { LineDraws S.meanings S.durables S.applied S.drawn core.old.blobs.tx.store core.new.blobs.tx.store
+    ensures draws { LineDraws S.meanings S.holdings S.durables S.applied S.drawn core.old.blobs.tx.store core.new.blobs.tx.store
         (R.stream chance.old) (R.stream chance.new) }
     ensures unmoved { is_sync command.now ≡ true → core.old.violated ≡ false → core.old.saver.changed ≡ false
         → (result ≡ Answer.Reply Reply.Done) × (core.new ≡ core.old) }

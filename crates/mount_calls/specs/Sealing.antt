@@ -7,28 +7,30 @@ use Rattle.answers.specs.declared.answer.Answer.{Answer}
 use Rattle.local_state.specs.Record.{PlainState}
 use Rattle.mount.specs.declared.mount.Mount.{Mount}
 use Rattle.mount.specs.Answering.{kept_of}
-use Rattle.mount.specs.Sealing.{SealsFresh, IsSealedFor, view_of}
+use Rattle.mount.specs.Sealing.{Draw, SealsKnown, IsSealedFor, view_of}
 use Rattle.mount_tower.specs.Identities.{KeepsRecord}
 use Rattle.outside.specs.Changes.{FileChanges, change_at}
 use Rattle.outside.specs.Trace.{Call, block}
 use Rattle.outside.specs.declared.keeper.Keeper.{Ghosts as KeeperGhosts}
 use Rattle.rand_core.specs.Stream.{Stream}
+use Rattle.store_api.specs.Content.{Id}
 use Rattle.store_api.specs.Durables.{with_mark}
 
--- this is a record, and each block's file that waits in it is one of these, or waited before
-pub record HoldsSealed (files : List (List ℕ)) (list : FileChanges) (kept : Option (List ℕ)) : Type 0 where
+-- this is a record, and each block's file that waits in it was sealed under the block's id, or waited for it before
+pub record HoldsSealed (drawn : List Draw) (list : FileChanges) (kept : Option (List ℕ)) : Type 0 where
   pub state : PlainState
   pub waiting : FileChanges
   pub keeps : KeepsRecord kept state waiting
-  pub sealed : (id bytes : List ℕ) → change_at (block id) waiting ≡ Some (Some bytes) → IsSealedFor files list id bytes
+  pub sealed : (id : Id) (bytes : List ℕ) → change_at (block id) waiting ≡ Some (Some bytes) → IsSealedFor drawn list id bytes
 
 -- it is what it was, or such a record
-abbrev pub StaysOrSealed : List (List ℕ) → FileChanges → Option (List ℕ) → Option (List ℕ) → Type 0
-StaysOrSealed files list old new = (new ≡ old) ⊎ HoldsSealed files list new
+abbrev pub StaysOrSealed : List Draw → FileChanges → Option (List ℕ) → Option (List ℕ) → Type 0
+StaysOrSealed drawn list old new = (new ≡ old) ⊎ HoldsSealed drawn list new
 
--- Each block's file that waits, that was put since, or that waits in the records waited before, or was sealed since with a fill of this stream that served no other.
+-- Each block's file that waits, that was put since, or that waits in the records waited before, or was sealed since with a fill of this stream that served nothing else, and
+-- under an id that was known before.
 pub record SealsAnew {V : Type 0} {K : Type 0} (trace : V → Option (List Call)) (G : KeeperGhosts K) (stream left : Stream) (old : Mount V K) (answer : Answer) (new : Mount V K) : Type 0 where
-  pub fresh : SealsFresh stream left (view_of trace old) (view_of trace new)
+  pub seals : SealsKnown stream left (view_of trace old) (view_of trace new)
   -- what is kept may also be the last record with its mark
-  pub kept : (kept_of G new ≡ Some (with_mark old.core.saver.last.items)) ⊎ StaysOrSealed fresh.files (view_of trace old).list (kept_of G old) (kept_of G new)
-  pub last : is_violation answer ≡ false → StaysOrSealed fresh.files (view_of trace old).list (Some old.core.saver.last.items) (Some new.core.saver.last.items)
+  pub kept : (kept_of G new ≡ Some (with_mark old.core.saver.last.items)) ⊎ StaysOrSealed seals.fresh.drawn (view_of trace old).list (kept_of G old) (kept_of G new)
+  pub last : is_violation answer ≡ false → StaysOrSealed seals.fresh.drawn (view_of trace old).list (Some old.core.saver.last.items) (Some new.core.saver.last.items)

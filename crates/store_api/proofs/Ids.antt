@@ -13,7 +13,7 @@ use Rattle.store_api.specs.Holdings.{has_id, is_free}
 use Rattle.store_api.specs.Ids.{AreIdsOf, ComeOfSeed, chacha20}
 use Rattle.store_api.specs.Overlay.{has_id-over}
 use Rattle.store_api.specs.Passing.{PassedOver}
-use Rattle.store_api.proofs.Draws.{later_chained, later_is}
+use Rattle.store_api.proofs.Draws.{later_chained, later_same}
 use Rattle.store_api.proofs.Rising.{ids_total, same_id_is}
 
 -- what is left after ids were drawn is later
@@ -28,6 +28,14 @@ come_nothing seed left used changes later none = record {
   drawn = [];
   come = later;
   all = λ id there unused. let bad : false ≡ true = sym (ap is_some (ap (λ m. fin.get m id) none ∙ get-empty id_cmp id)) ∙ there in absurd (cc);
+}
+
+-- changes of used ids alone
+pub come_known : (seed : List ℕ) (used : List Id) (changes : Changes) → ((id : Id) → is_some (fin.get changes id) ≡ true → has_id used id ≡ true) → ComeOfSeed seed (chacha20 seed) used changes
+come_known seed used changes known = record {
+  drawn = [];
+  come = later_same (chacha20 seed);
+  all = λ id there unused. let bad : false ≡ true = sym unused ∙ known id there in absurd (cc);
 }
 
 -- other changes, whose ids are used or were among the changes

@@ -45,7 +45,7 @@ either g core kept present P (inr m) f = f present m
 pub returns-then-core : goal.returns-then-core
 returns-then-core g c =
     let r = refused ShowsFiles g.S.Blocks.meanings g.S.Blocks.holdings g.S.Durable.durables g.S.Durable.records g.K.Keeper g.met.S.Blocks.lawful c.args.now c.args.core.now (Ok c.args.command.now) c.if-core.true in
-    record { ready = c.requires.ready; form = r.form; trees = r.trees; store = r.store; saver = r.saver; keeps = r.keeps; draws = line_synced g.S.Blocks.meanings g.S.Durable.durables g.met.S.Blocks.lawful g.S.BlocksMut.applied g.S.BlocksMut.drawn c.args.core.now.blobs.tx.store c.args.core.now.blobs.tx.store (g.R.Rng.stream c.args.chance.now) (inl refl); unmoved = λ is fresh unchanged. absurd (true_is_false (sym c.if-core.true ∙ fresh)) }
+    record { ready = c.requires.ready; form = r.form; trees = r.trees; store = r.store; saver = r.saver; keeps = r.keeps; draws = line_synced g.S.Blocks.meanings g.S.Blocks.holdings g.S.Durable.durables g.met.S.Blocks.lawful g.S.BlocksMut.applied g.S.BlocksMut.drawn c.args.core.now.blobs.tx.store c.args.core.now.blobs.tx.store (g.R.Rng.stream c.args.chance.now) (inl refl) refl; unmoved = λ is fresh unchanged. absurd (true_is_false (sym c.if-core.true ∙ fresh)) }
 
 pub returns-in-Err : goal.returns-in-Err
 returns-in-Err g c =
@@ -101,7 +101,7 @@ returns-in-Err g c =
         least = z.moves.least;
       };
       keeps = record { calm = λ calm. z.makes_room.keeps; marks = λ bad. absurd (true_is_false (sym bad ∙ calm)) };
-      draws = line_synced M D g.met.S.Blocks.lawful g.S.BlocksMut.applied g.S.BlocksMut.drawn store new.blobs.tx.store (g.R.Rng.stream c.args.chance.now) z.makes_room.wrote;
+      draws = line_synced M H D g.met.S.Blocks.lawful g.S.BlocksMut.applied g.S.BlocksMut.drawn store new.blobs.tx.store (g.R.Rng.stream c.args.chance.now) z.makes_room.wrote l.stays.used;
       unmoved = λ is fresh unchanged. absurd (unmoved unchanged);
     }
 
@@ -148,7 +148,7 @@ returns-then-is_sync g c =
         least = z.moves.least;
       };
       keeps = record { calm = λ calm. z.makes_room.keeps; marks = λ bad. absurd (true_is_false (sym bad)) };
-      draws = line_synced M D g.met.S.Blocks.lawful g.S.BlocksMut.applied g.S.BlocksMut.drawn store new.blobs.tx.store (g.R.Rng.stream c.args.chance.now) z.makes_room.wrote;
+      draws = line_synced M H D g.met.S.Blocks.lawful g.S.BlocksMut.applied g.S.BlocksMut.drawn store new.blobs.tx.store (g.R.Rng.stream c.args.chance.now) z.makes_room.wrote l.stays.used;
       unmoved = λ is fresh unchanged. (refl, (z.makes_room.unmoved unchanged).1);
     }
 
@@ -211,7 +211,7 @@ returns-in-Violation g c =
             (marked_or R asked.saver (kept new.saver.keeper) w.ready.can_mark (subst (λ k. (kept new.saver.keeper ≡ Some (with_mark asked.saver.last.items)) ⊎ (kept new.saver.keeper ≡ k)) (ap kept w.saver.keeper) c.mark.ensures.kept)) z.moves.least;
       };
       keeps = record { calm = λ calm. absurd (true_is_false (sym bad ∙ calm)); marks = λ bad. marked_kept D g.K.Keeper R store old.saver room.saver asked.saver new.saver z.makes_room.keeps w.saver.keeper w.saver.last w.ready.can_mark.marks c.mark.ensures.kept };
-      draws = subst (λ t. LineDraws M D g.S.BlocksMut.applied g.S.BlocksMut.drawn store t (g.R.Rng.stream c.args.chance.now) (g.R.Rng.stream c.ask-answer.new.chance)) (sym e) (record { synced = room.blobs.tx.store; wrote = z.makes_room.wrote; once = w.draws });
+      draws = subst (λ t. LineDraws M H D g.S.BlocksMut.applied g.S.BlocksMut.drawn store t (g.R.Rng.stream c.args.chance.now) (g.R.Rng.stream c.ask-answer.new.chance)) (sym e) (record { synced = room.blobs.tx.store; wrote = z.makes_room.wrote; used = l.stays.used; once = w.draws });
       unmoved = λ is fresh unchanged. absurd (true_is_false (sym is ∙ other));
     }
 
@@ -265,6 +265,6 @@ returns-in_default g c =
         least = least_marked M H D R g.K.Keeper store (kept old.saver.keeper) (kept room.saver.keeper) (kept new.saver.keeper) (inr (ap kept w.saver.keeper)) z.moves.least;
       };
       keeps = record { calm = λ calm. asked_keeps D g.K.Keeper store old.saver room.saver new.saver z.makes_room.keeps w.saver.keeper w.saver.last; marks = λ bad. absurd (true_is_false (sym bad ∙ calm)) };
-      draws = record { synced = room.blobs.tx.store; wrote = z.makes_room.wrote; once = w.draws };
+      draws = record { synced = room.blobs.tx.store; wrote = z.makes_room.wrote; used = l.stays.used; once = w.draws };
       unmoved = λ is fresh unchanged. absurd (true_is_false (sym is ∙ other));
     }
