@@ -91,10 +91,10 @@ fn change_once<S: BlocksMut, R: Rng>(
     match what {
         Change::Overwrite => {
             let place = u64::from(chance.next_u32()) % (size + 1);
-            write_range(alloc, tx, root, place.saturating_sub(4096), &bytes, chance)
+            write_range(alloc, tx, root, place.saturating_sub(4096), &bytes)
         }
-        Change::Grow => write_range(alloc, tx, root, size + call * 4096, &bytes, chance),
-        Change::Cut => resize(alloc, tx, root, size + (calls - call - 1) * 4096, chance),
+        Change::Grow => write_range(alloc, tx, root, size + call * 4096, &bytes),
+        Change::Cut => resize(alloc, tx, root, size + (calls - call - 1) * 4096),
     }
 }
 
@@ -141,7 +141,7 @@ fn take_steps<S: BlocksMut>(
     let mut chance = Pcg32::new(1, 2);
     let mut lines = Vec::new(alloc);
     let bytes = vec![in alloc; 7u8; size as usize]?;
-    let root = new_tree(alloc, tx, &bytes, &mut chance)?;
+    let root = new_tree(alloc, tx, &bytes)?;
     drop(bytes);
     lines.push(keep(alloc, tx, &mut chance)? as u64)?;
     let pieces = if steps > 1 { size / PIECE + 1 } else { 0 };
@@ -167,7 +167,7 @@ fn take_steps<S: BlocksMut>(
 fn empty(alloc: Global) -> Tx<MapStore>
     ensures { ⟦<Tx<MapStore> as Blocks>⟧.meanings.intact result }
 {
-    Tx::new(alloc, MapStore::new(alloc, PAYLOAD))
+    Tx::new(alloc, MapStore::new(alloc, PAYLOAD), [0; 32])
 }
 
 /// Takes so many steps over a store in memory.

@@ -7,10 +7,7 @@ use std::alloc::Global;
 const LEN: usize = 200;
 
 /// A blob has the bytes that it was made of, and its own id.
-pub fn reads_what_was_made<B: Blobs>(
-    alloc: Global,
-    b: &mut B,
-) -> Result<bool, Fail>
+pub fn reads_what_was_made<B: Blobs>(alloc: Global, b: &mut B) -> Result<bool, Fail>
     requires { B.meanings.intact b.old }
     ensures { B.meanings.intact b.new }
 {
@@ -51,10 +48,7 @@ pub fn resizes<B: Blobs>(alloc: Global, b: &mut B) -> Result<bool, Fail>
 }
 
 /// A removed blob is no blob, and the other one stays.
-pub fn forgets_what_was_removed<B: Blobs>(
-    alloc: Global,
-    b: &mut B,
-) -> Result<bool, Fail>
+pub fn forgets_what_was_removed<B: Blobs>(alloc: Global, b: &mut B) -> Result<bool, Fail>
     requires { B.meanings.intact b.old }
     ensures { B.meanings.intact b.new }
 {

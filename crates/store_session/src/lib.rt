@@ -1,6 +1,9 @@
-//! A client of any store: that the contracts of stores suffice for a command.
+//! Clients of any store: a command over it, which shows that the contracts of stores suffice, and a payload under an
+//! id of the caller's choice.
 #![tactic(auto)]
 
 mod client;
+mod putting;
 
 pub use client::follow;
+pub use putting::put_one;

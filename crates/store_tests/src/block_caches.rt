@@ -8,7 +8,8 @@ use map_store::MapStore;
 use rand_pcg::Pcg32;
 use std::alloc::Global;
 use std::test::Fail;
-use store_api::{Blocks, BlocksMut, Tx};
+use store_api::{Blocks, BlocksMut};
+use store_session::put_one;
 
 const A: BlockId = BlockId([1; 16]);
 
@@ -18,76 +19,60 @@ const C: BlockId = BlockId([3; 16]);
 
 const ABSENT: BlockId = BlockId([4; 16]);
 
-type Cached = Tx<BlockCache<Counted<MapStore>>>;
+type Cached = BlockCache<Counted<MapStore>>;
 
-/// Has an id get a payload of this byte.
-fn give<S: Blocks>(alloc: Global, tx: &mut Tx<S>, id: &BlockId, byte: u8) -> Result<(), Fail>
-    requires { ⟦<Tx<S> as Blocks>⟧.meanings.intact tx.old }
-    ensures { ⟦<Tx<S> as Blocks>⟧.meanings.intact tx.new }
+/// Has an id get a payload of this byte, in a batch of its own.
+fn give<S: BlocksMut>(alloc: Global, store: &mut S, id: &BlockId, byte: u8) -> Result<(), Fail>
+    requires { S.Blocks.meanings.intact store.old }
+    ensures { S.Blocks.meanings.intact store.new }
 {
     let payload = [byte; 50].to_vec(alloc)?;
-    if payload.len() != tx.payload() {
-        return Err(Fail::from("another length"));
-    }
-    if !tx.contains(id) && (tx.is_used(id) || id.cmp(&BlockId([0; 16])).is_eq()) {
-        return Err(Fail::from("no id for a payload"));
-    }
-    tx.put(id, payload)?;
-    Ok(())
-}
-
-fn commit<S: BlocksMut>(alloc: Global, tx: &mut Tx<S>) -> Result<(), Fail>
-    requires { ⟦<Tx<S> as Blocks>⟧.meanings.intact tx.old }
-    ensures { ⟦<Tx<S> as Blocks>⟧.meanings.intact tx.new }
-{
-    tx.commit(alloc, &mut Pcg32::new(1, 2))?;
-    Ok(())
+    put_one(alloc, store, id, payload, &mut Pcg32::new(1, 2))
 }
 
 /// The first byte of a payload, or 0 where there is none.
-fn first_byte<S: Blocks>(alloc: Global, tx: &mut Tx<S>, id: &BlockId) -> Result<u8, Fail>
-    requires { ⟦<Tx<S> as Blocks>⟧.meanings.intact tx.old }
-    ensures { ⟦<Tx<S> as Blocks>⟧.meanings.intact tx.new }
+fn first_byte<S: Blocks>(alloc: Global, store: &mut S, id: &BlockId) -> Result<u8, Fail>
+    requires { S.meanings.intact store.old }
+    ensures { S.meanings.intact store.new }
 {
-    match tx.load(alloc, id)? {
+    match store.load(alloc, id)? {
         Some(bytes) => Ok(bytes.first().copied().unwrap_or(0)),
         None => Ok(0),
     }
 }
 
-fn first_bytes<S: Blocks>(alloc: Global, tx: &mut Tx<S>, ids: &[BlockId]) -> Result<Vec<u8>, Fail>
-    requires { ⟦<Tx<S> as Blocks>⟧.meanings.intact tx.old }
-    ensures { ⟦<Tx<S> as Blocks>⟧.meanings.intact tx.new }
+fn first_bytes<S: Blocks>(alloc: Global, store: &mut S, ids: &[BlockId]) -> Result<Vec<u8>, Fail>
+    requires { S.meanings.intact store.old }
+    ensures { S.meanings.intact store.new }
 {
     let mut seen = Vec::new(alloc);
     for id in ids {
-        seen.push(first_byte(alloc, tx, id)?)?;
+        seen.push(first_byte(alloc, store, id)?)?;
     }
     Ok(seen)
 }
 
 /// Three blocks of 50 bytes, of 1, 2 and 3.
-fn give_three<S: BlocksMut>(alloc: Global, tx: &mut Tx<S>) -> Result<(), Fail>
-    requires { ⟦<Tx<S> as Blocks>⟧.meanings.intact tx.old }
-    ensures { ⟦<Tx<S> as Blocks>⟧.meanings.intact tx.new }
+fn give_three<S: BlocksMut>(alloc: Global, store: &mut S) -> Result<(), Fail>
+    requires { S.Blocks.meanings.intact store.old }
+    ensures { S.Blocks.meanings.intact store.new }
 {
-    give(alloc, tx, &A, 1)?;
-    give(alloc, tx, &B, 2)?;
-    give(alloc, tx, &C, 3)?;
-    commit(alloc, tx)
+    give(alloc, store, &A, 1)?;
+    give(alloc, store, &B, 2)?;
+    give(alloc, store, &C, 3)
 }
 
 /// No blocks, behind a cache of at most so many.
 fn empty(alloc: Global, capacity: usize) -> Result<Cached, Fail>
     requires { 1 ≤ capacity }
-    ensures { IfOk result (λ tx. ⟦<Cached as Blocks>⟧.meanings.intact tx) }
+    ensures { IfOk result (λ cache. ⟦<Cached as Blocks>⟧.meanings.intact cache) }
 {
     let below = Counted {
         store: MapStore::new(alloc, 50),
         loads: 0,
     };
     match BlockCache::new(alloc, below, capacity) {
-        Ok(cache) => Ok(Tx::new(alloc, cache)),
+        Ok(cache) => Ok(cache),
         Err((_, below)) => {
             drop(below);
             Err(Fail::from("out of memory"))
@@ -96,20 +81,20 @@ fn empty(alloc: Global, capacity: usize) -> Result<Cached, Fail>
 }
 
 /// What these ids have after three blocks were made, one load after another.
-fn load_all<S: BlocksMut>(alloc: Global, tx: &mut Tx<S>, ids: &[BlockId]) -> Result<Vec<u8>, Fail>
-    requires { ⟦<Tx<S> as Blocks>⟧.meanings.intact tx.old }
+fn load_all<S: BlocksMut>(alloc: Global, store: &mut S, ids: &[BlockId]) -> Result<Vec<u8>, Fail>
+    requires { S.Blocks.meanings.intact store.old }
 {
-    give_three(alloc, tx)?;
-    first_bytes(alloc, tx, ids)
+    give_three(alloc, store)?;
+    first_bytes(alloc, store, ids)
 }
 
 /// The same through a cache of at most so many blocks, and how many loads reached the store below.
 fn loaded(alloc: Global, capacity: usize, ids: &[BlockId]) -> Result<(Vec<u8>, u64), Fail>
     requires { 1 ≤ capacity }
 {
-    let mut tx = empty(alloc, capacity)?;
-    let seen = load_all(alloc, &mut tx, ids);
-    let below = tx.into_store().into_store();
+    let mut cache = empty(alloc, capacity)?;
+    let seen = load_all(alloc, &mut cache, ids);
+    let below = cache.into_store();
     Ok((seen?, below.loads))
 }
 
@@ -131,23 +116,22 @@ fn counts_loads_below(rt: HostRuntime) -> Result<(), Fail> {
 }
 
 /// Loads a block, changes it, and loads it again.
-fn change_one<S: BlocksMut>(alloc: Global, tx: &mut Tx<S>) -> Result<Vec<u8>, Fail>
-    requires { ⟦<Tx<S> as Blocks>⟧.meanings.intact tx.old }
+fn change_one<S: BlocksMut>(alloc: Global, store: &mut S) -> Result<Vec<u8>, Fail>
+    requires { S.Blocks.meanings.intact store.old }
 {
-    give_three(alloc, tx)?;
-    let mut seen = first_bytes(alloc, tx, &[C])?;
-    give(alloc, tx, &C, 2)?;
-    commit(alloc, tx)?;
-    seen.append(&mut first_bytes(alloc, tx, &[C])?)?;
+    give_three(alloc, store)?;
+    let mut seen = first_bytes(alloc, store, &[C])?;
+    give(alloc, store, &C, 2)?;
+    seen.append(&mut first_bytes(alloc, store, &[C])?)?;
     Ok(seen)
 }
 
 #[test]
 fn follows_changes(rt: HostRuntime) -> Result<(), Fail> {
     for capacity in [1, 2] {
-        let mut tx = empty(rt.alloc(), capacity)?;
-        let seen = change_one(rt.alloc(), &mut tx);
-        drop(tx.into_store().into_store());
+        let mut cache = empty(rt.alloc(), capacity)?;
+        let seen = change_one(rt.alloc(), &mut cache);
+        drop(cache.into_store());
         assert!(rt; seen?.as_slice() == [3, 2].as_slice());
     }
     Ok(())

@@ -25,7 +25,8 @@ const LIVE: BlockId = BlockId([1; 16]);
 /// Live at version 5.
 const DYING: BlockId = BlockId([2; 16]);
 
-const NEW: BlockId = BlockId([3; 16]);
+/// The seed of the new ids. Its first one stands behind both of these.
+const SEED: [u8; 32] = [0; 32];
 
 /// A source that always begins alike.
 fn chance() -> Pcg32 {
@@ -68,16 +69,11 @@ fn tx_over(alloc: Global, store: Store) -> Tx<Store>
     ensures intact { ⟦<Tx<Store> as Blocks>⟧.meanings.intact result }
     ensures store { result.store ≡ store }
 {
-    Tx::new(alloc, store)
+    Tx::new(alloc, store, SEED)
 }
 
 /// Has a block get another payload, of this byte.
-pub(crate) fn renew<S: Blocks>(
-    alloc: Global,
-    tx: &mut Tx<S>,
-    id: &BlockId,
-    byte: u8,
-) -> Result<(), Fail>
+fn renew<S: Blocks>(alloc: Global, tx: &mut Tx<S>, id: &BlockId, byte: u8) -> Result<(), Fail>
     requires { ⟦<Tx<S> as Blocks>⟧.meanings.intact tx.old }
     ensures { ⟦<Tx<S> as Blocks>⟧.meanings.intact tx.new }
 {
@@ -94,13 +90,8 @@ pub(crate) fn renew<S: Blocks>(
     }
 }
 
-/// Has a free id get a payload of this byte.
-pub(crate) fn give<S: Blocks>(
-    alloc: Global,
-    tx: &mut Tx<S>,
-    id: &BlockId,
-    byte: u8,
-) -> Result<(), Fail>
+/// A new block, with a payload of this byte.
+fn give<S: Blocks>(alloc: Global, tx: &mut Tx<S>, byte: u8) -> Result<BlockId, Fail>
     requires { ⟦<Tx<S> as Blocks>⟧.meanings.intact tx.old }
     ensures { ⟦<Tx<S> as Blocks>⟧.meanings.intact tx.new }
 {
@@ -108,14 +99,7 @@ pub(crate) fn give<S: Blocks>(
     if payload.len() != tx.payload() {
         return Err("another length".into());
     }
-    if tx.is_used(id) {
-        return Err("a used id".into());
-    }
-    if id.cmp(&BlockId([0; 16])).is_eq() {
-        return Err("the zero id".into());
-    }
-    tx.put(id, payload)?;
-    Ok(())
+    Ok(tx.add(payload)?)
 }
 
 fn take<S: Blocks>(alloc: Global, tx: &mut Tx<S>, id: &BlockId) -> Result<(), Fail>
@@ -147,8 +131,8 @@ fn holds<S: Blocks>(
     }
 }
 
-/// What a batch answered, and whether its three blocks are as it says.
-type Outcome = (Result<(), ApplyError>, [bool; 3]);
+/// The id of a new block, what its batch answered, and whether that one's three blocks are as it says.
+type Outcome = (BlockId, Result<(), ApplyError>, [bool; 3]);
 
 /// A batch that is put in an order that isn't that of the ids, and removes a block.
 fn change<S: BlocksMut, R: Rng>(
@@ -159,15 +143,15 @@ fn change<S: BlocksMut, R: Rng>(
     requires { ⟦<Tx<S> as Blocks>⟧.meanings.intact tx.old }
     ensures { ⟦<Tx<S> as Blocks>⟧.meanings.intact tx.new }
 {
-    give(alloc, tx, &NEW, 33)?;
+    let id = give(alloc, tx, 33)?;
     renew(alloc, tx, &LIVE, 11)?;
     take(alloc, tx, &DYING)?;
     let answer = tx.commit(alloc, chance);
     tx.abandon();
     let live = holds(alloc, tx, &LIVE, Some(11))?;
     let dying = holds(alloc, tx, &DYING, None)?;
-    let new = holds(alloc, tx, &NEW, Some(33))?;
-    Ok((answer, [live, dying, new]))
+    let new = holds(alloc, tx, &id, Some(33))?;
+    Ok((id, answer, [live, dying, new]))
 }
 
 fn change_store<R: Rng>(
@@ -233,15 +217,16 @@ fn written_record(
 fn applies_a_batch(rt: HostRuntime) -> Result<(), Fail> {
     let store = store_at(rt.alloc(), 2)?;
     let (store, outcome) = change_store(rt.alloc(), store, &mut chance());
+    let (id, answer, seen) = outcome?;
     let known = &store.state().known;
-    assert!(rt; outcome? == (Ok(()), [true, true, true]));
+    assert!(rt; answer == Ok(()) && seen == [true, true, true]);
     assert_eq!(rt; known.version(&LIVE), Some(3));
     assert_eq!(rt; known.version(&DYING), Some(5));
-    assert_eq!(rt; known.version(&NEW), Some(1));
+    assert_eq!(rt; known.version(&id), Some(1));
     assert!(rt; known.is_live(&LIVE));
     assert!(rt; known.is_used(&DYING));
     assert!(rt; !known.is_live(&DYING));
-    assert!(rt; known.is_live(&NEW));
+    assert!(rt; known.is_live(&id));
     Ok(())
 }
 
@@ -250,7 +235,7 @@ fn seals_with_what_is_drawn_by_rising_ids(rt: HostRuntime) -> Result<(), Fail> {
     let mut source = chance();
     let store = store_at(rt.alloc(), 2)?;
     let (mut store, outcome) = change_store(rt.alloc(), store, &mut source);
-    drop(outcome?);
+    let (id, _, _) = outcome?;
     let mut same = chance();
     let (first, second) = (draw(&mut same), draw(&mut same));
     assert!(rt; draw(&mut source) == draw(&mut same));
@@ -259,7 +244,7 @@ fn seals_with_what_is_drawn_by_rising_ids(rt: HostRuntime) -> Result<(), Fail> {
         [live, dying, new] => {
             assert!(rt; waiting(live) == (&FileName::Block(LIVE), Some(&first[..])));
             assert!(rt; waiting(dying) == (&FileName::Block(DYING), None));
-            assert!(rt; waiting(new) == (&FileName::Block(NEW), Some(&second[..])));
+            assert!(rt; waiting(new) == (&FileName::Block(id), Some(&second[..])));
         }
         _ => assert!(rt; false),
     }
@@ -267,8 +252,10 @@ fn seals_with_what_is_drawn_by_rising_ids(rt: HostRuntime) -> Result<(), Fail> {
     let mut sealed = sealed_over(rt.alloc(), store.into_vault());
     let live = written_record(rt.alloc(), &mut sealed, &LIVE)?;
     assert_eq!(rt; live.as_slice(), plain_of(1, 3, 11).as_slice());
-    let new = written_record(rt.alloc(), &mut sealed, &NEW)?;
-    assert_eq!(rt; new.as_slice(), plain_of(3, 1, 33).as_slice());
+    let new = written_record(rt.alloc(), &mut sealed, &id)?;
+    let mut plain = plain_of(0, 1, 33);
+    plain[2..18].copy_from_slice(&id.0);
+    assert_eq!(rt; new.as_slice(), plain.as_slice());
     Ok(())
 }
 
@@ -277,11 +264,12 @@ fn changes_nothing_where_an_id_is_spent(rt: HostRuntime) -> Result<(), Fail> {
     let mut source = chance();
     let store = store_at(rt.alloc(), u64::MAX)?;
     let (mut store, outcome) = change_store(rt.alloc(), store, &mut source);
-    assert!(rt; outcome? == (Err(ApplyError::Spent), [false, false, false]));
+    let (id, answer, seen) = outcome?;
+    assert!(rt; answer == Err(ApplyError::Spent) && seen == [false, false, false]);
     assert!(rt; draw(&mut source) == draw(&mut chance()));
     assert_eq!(rt; store.state().known.version(&LIVE), Some(u64::MAX));
     assert!(rt; store.state().known.is_live(&DYING));
-    assert!(rt; !store.state().known.is_used(&NEW));
+    assert!(rt; !store.state().known.is_used(&id));
     assert_eq!(rt; waiting_list(rt.alloc(), &mut store)?.len(), 0);
     Ok(())
 }

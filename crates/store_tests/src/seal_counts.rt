@@ -1,7 +1,6 @@
 // How often the files of blocks are sealed.
 ghost use Rattle.std.specs.Prelude.{◌≡◌, IfOk};
 
-use crate::integrity_batches::{give, renew};
 use crate::integrity_files::push_record_head;
 use aes_gcm::Aes256Gcm;
 use block_id::{BlockId, Memory};
@@ -15,7 +14,8 @@ use sealed_store::SealedStore;
 use std::alloc::Global;
 use std::cell::Cell;
 use std::test::Fail;
-use store_api::{Blocks, BlocksMut, Durable, Tx};
+use store_api::{Blocks, BlocksMut, Durable};
+use store_session::put_one;
 
 /// A sealer that counts what it seals.
 #[derive(Drop)]
@@ -87,55 +87,16 @@ fn counted_store<'a>(alloc: Global, seals: &'a Cell<u64>) -> Result<Counted<'a>,
     Ok(IntegrityStore::new(sealed, state))
 }
 
-fn tx_over<'a>(alloc: Global, store: Counted<'a>) -> Tx<Counted<'a>>
-    requires { ⟦<Counted<'a> as Blocks>⟧.meanings.intact store }
-    ensures { ⟦<Tx<Counted<'a>> as Blocks>⟧.meanings.intact result }
+/// Has the block get a payload of each of these bytes, each in a batch of its own.
+fn set_each<S: BlocksMut>(alloc: Global, store: &mut S, bytes: &[u8]) -> Result<(), Fail>
+    requires { S.Blocks.meanings.intact store.old }
+    ensures { S.Blocks.meanings.intact store.new }
 {
-    Tx::new(alloc, store)
-}
-
-fn commit<S: BlocksMut>(alloc: Global, tx: &mut Tx<S>) -> Result<(), Fail>
-    requires { ⟦<Tx<S> as Blocks>⟧.meanings.intact tx.old }
-    ensures { ⟦<Tx<S> as Blocks>⟧.meanings.intact tx.new }
-{
-    tx.commit(alloc, &mut Pcg32::new(1, 2))?;
-    Ok(())
-}
-
-/// Has the block get a payload of this byte, in a batch of its own.
-fn set<S: BlocksMut>(alloc: Global, tx: &mut Tx<S>, byte: u8) -> Result<(), Fail>
-    requires { ⟦<Tx<S> as Blocks>⟧.meanings.intact tx.old }
-    ensures { ⟦<Tx<S> as Blocks>⟧.meanings.intact tx.new }
-{
-    if tx.is_used(&ID) {
-        renew(alloc, tx, &ID, byte)?;
-    } else {
-        give(alloc, tx, &ID, byte)?;
-    }
-    commit(alloc, tx)
-}
-
-/// Has the block get a payload of each of these bytes.
-fn set_each<S: BlocksMut>(alloc: Global, tx: &mut Tx<S>, bytes: &[u8]) -> Result<(), Fail>
-    requires { ⟦<Tx<S> as Blocks>⟧.meanings.intact tx.old }
-    ensures { ⟦<Tx<S> as Blocks>⟧.meanings.intact tx.new }
-{
+    let mut chance = Pcg32::new(1, 2);
     for byte in bytes {
-        set(alloc, tx, *byte)?;
+        put_one(alloc, store, &ID, [*byte; 50].to_vec(alloc)?, &mut chance)?;
     }
     Ok(())
-}
-
-/// The store whose block got a payload of each of these bytes.
-fn changed<'a>(alloc: Global, store: Counted<'a>, bytes: &[u8]) -> Result<Counted<'a>, Fail>
-    requires { ⟦<Counted<'a> as Blocks>⟧.meanings.intact store }
-    ensures { IfOk result (λ store. ⟦<Counted<'a> as Blocks>⟧.meanings.intact store) }
-{
-    let mut tx = tx_over(alloc, store);
-    let done = set_each(alloc, &mut tx, bytes);
-    let store = tx.into_store();
-    done?;
-    Ok(store)
 }
 
 /// How many times something was sealed when the block had changed ten times, when the record with the list was asked for,
@@ -143,12 +104,12 @@ fn changed<'a>(alloc: Global, store: Counted<'a>, bytes: &[u8]) -> Result<Counte
 fn seals_of_a_block(alloc: Global) -> Result<[u64; 6], Fail> {
     let seals = Cell::new(0);
     let mut counts = [0; 6];
-    let store = counted_store(alloc, &seals)?;
-    let mut store = changed(alloc, store, &[1, 2, 3, 4, 5, 6, 7, 8, 9, 10])?;
+    let mut store = counted_store(alloc, &seals)?;
+    set_each(alloc, &mut store, &[1, 2, 3, 4, 5, 6, 7, 8, 9, 10])?;
     counts[0] = seals.get();
     counts[1] = seals_at_record(alloc, &mut store, &seals)?;
     counts[2] = seals_at_record(alloc, &mut store, &seals)?;
-    let mut store = changed(alloc, store, &[11])?;
+    set_each(alloc, &mut store, &[11])?;
     counts[3] = seals.get();
     counts[4] = seals_at_record(alloc, &mut store, &seals)?;
     store.write_out(alloc)?;

@@ -2,17 +2,13 @@
 ghost use Rattle.std.specs.Prelude.{IfOk};
 ghost use Rattle.store_api.specs.Holdings.{IsFew};
 
-use crate::tower::{answer_all, answer_each, empty_store};
+use crate::tower::{answer_each, empty_store, rooted};
 use blob_store::BlobStore;
-use block_id::BlockId;
 use memory_outside::Event;
-use rand_pcg::Pcg32;
 use std::alloc::Global;
 use std::process::Abort;
 use std::test::Fail;
 use store_api::{Durable, Tx};
-
-const ROOT: BlockId = BlockId([7; 16]);
 
 /// Seven entries of 68 bytes: 495 bytes of a directory, in 12 leaves.
 pub const FILES: [&str; 7] = [
@@ -25,24 +21,15 @@ pub const FILES: [&str; 7] = [
     "mkfile /g0",
 ];
 
-/// The store after these lines, with all blocks written.
-fn after<S: Durable + Drop>(
-    alloc: Global,
-    store: S,
-    is_new: bool,
-    lines: &[&str],
-) -> Result<S, Fail>
+/// The store after these lines, with all blocks written. New ids come of a seed of this byte.
+fn after<S: Durable + Drop>(alloc: Global, store: S, seed: u8, lines: &[&str]) -> Result<S, Fail>
     requires intact { S.Durable.meanings.intact store }
     requires few { IsFew (S.Durable.holdings.used store) }
     ensures intact { IfOk result (λ made. S.Durable.meanings.intact made) }
     ensures few { IfOk result (λ made. IsFew (S.Durable.holdings.used made)) }
 {
-    let mut blobs = BlobStore::new(Tx::new(alloc, store));
-    let texts = if is_new {
-        answer_all(alloc, &mut blobs, &ROOT, lines)
-    } else {
-        answer_each(alloc, &mut blobs, &ROOT, lines, &mut Pcg32::new(3, 4))
-    };
+    let mut blobs = BlobStore::new(Tx::new(alloc, store, [seed; 32]));
+    let texts = answer_each(alloc, &mut blobs, lines);
     let mut store = blobs.into_tx().into_store();
     drop(texts?);
     store.write_out(alloc)?;
@@ -51,8 +38,8 @@ fn after<S: Durable + Drop>(
 
 /// How many files were read and written for these lines, behind those that make the rows.
 fn files_of(alloc: Global, rows: &[&str], lines: &[&str]) -> Result<(usize, usize), Fail> {
-    let store = after(alloc, empty_store(alloc)?, true, rows)?;
-    let vault = after(alloc, store, false, lines)?.into_vault();
+    let store = after(alloc, rooted(alloc, empty_store(alloc)?)?, 1, rows)?;
+    let vault = after(alloc, store, 2, lines)?.into_vault();
     let mut got = 0usize;
     let mut put = 0usize;
     for event in vault.trace() {

@@ -94,13 +94,12 @@ fn make<S: BlocksMut>(alloc: Global, tx: &mut Tx<S>, n: usize) -> Result<BlockId
     requires { ⟦<Tx<S> as Blocks>⟧.meanings.intact tx.old }
     ensures { ⟦<Tx<S> as Blocks>⟧.meanings.intact tx.new }
 {
-    let mut chance = Pcg32::new(1, 2);
     if n > 1000 {
         return Err("too long".into());
     }
     let bytes = vec![in alloc; 5; n]?;
-    let root = new_tree(alloc, tx, &bytes, &mut chance)?;
-    tx.commit(alloc, &mut chance)?;
+    let root = new_tree(alloc, tx, &bytes)?;
+    tx.commit(alloc, &mut Pcg32::new(1, 2))?;
     Ok(root)
 }
 
@@ -111,7 +110,7 @@ fn made<S: Durable + Drop>(alloc: Global, store: S, n: usize) -> Result<(S, Bloc
     ensures intact { IfOk result (λ made. S.Durable.meanings.intact made.0) }
     ensures few { IfOk result (λ made. IsFew (S.Durable.holdings.used made.0)) }
 {
-    let mut tx = Tx::new(alloc, store);
+    let mut tx = Tx::new(alloc, store, [1; 32]);
     let root = make(alloc, &mut tx, n);
     let mut store = tx.into_store();
     let root = root?;
@@ -132,7 +131,7 @@ fn write<S: Blocks>(
         return Err("too long".into());
     }
     let bytes = vec![in alloc; 7; n]?;
-    write_range(alloc, tx, root, from, &bytes, &mut Pcg32::new(3, 4))?;
+    write_range(alloc, tx, root, from, &bytes)?;
     Ok(())
 }
 
@@ -150,7 +149,7 @@ fn make_call<S: Blocks>(
         Call::Len => drop(len(alloc, tx, root)?),
         Call::Read(from, count) => drop(read_range(alloc, tx, root, from, count)?),
         Call::Write(from, n) => write(alloc, tx, root, from, n)?,
-        Call::Resize(n) if n <= 1000 => resize(alloc, tx, root, n, &mut Pcg32::new(3, 4))?,
+        Call::Resize(n) if n <= 1000 => resize(alloc, tx, root, n)?,
         Call::Resize(_) => return Err("too long".into()),
         Call::Drop => drop_tree(alloc, tx, root)?,
     }
@@ -162,7 +161,7 @@ fn called<S: Blocks + Drop>(alloc: Global, store: S, root: &BlockId, which: Call
     requires intact { S.Blocks.meanings.intact store }
     requires few { IsFew (S.Blocks.holdings.used store) }
 {
-    let mut tx = Tx::new(alloc, store);
+    let mut tx = Tx::new(alloc, store, [2; 32]);
     let outcome = make_call(alloc, &mut tx, root, which);
     let store = tx.into_store();
     outcome?;

@@ -18,6 +18,7 @@ use sealed_store::SealedStore;
 use std::alloc::Global;
 use std::test::Fail;
 use store_api::{Blocks, BlocksMut, Tx};
+use store_session::put_one;
 use tree_commands::{empty_root, perform};
 
 /// Sealed blocks over a directory in memory.
@@ -60,26 +61,25 @@ pub fn empty_store(alloc: Global) -> Result<Store, Fail>
     Ok(IntegrityStore::new(sealed_over(alloc), state))
 }
 
-/// Puts the root of the empty tree.
-fn make_root<S: Blocks>(alloc: Global, tx: &mut Tx<S>, root: &BlockId) -> Result<(), Fail>
-    requires { ⟦<Tx<S> as Blocks>⟧.meanings.intact tx.old }
-    ensures { ⟦<Tx<S> as Blocks>⟧.meanings.intact tx.new }
+/// The root's id.
+pub const ROOT: BlockId = BlockId([7; 16]);
+
+/// The store with the root of the empty tree.
+pub fn rooted<S: BlocksMut + Drop>(alloc: Global, mut store: S) -> Result<S, Fail>
+    requires intact { S.Blocks.meanings.intact store }
+    requires few { IsFew (S.Blocks.holdings.used store) }
+    ensures intact { IfOk result (λ made. S.Blocks.meanings.intact made) }
+    ensures few { IfOk result (λ made. IsFew (S.Blocks.holdings.used made)) }
 {
-    if tx.is_used(root) || root.cmp(&BlockId([0; 16])).is_eq() {
-        return Err("no id for a root".into());
-    }
-    if tx.payload() != 50 {
-        return Err("another length".into());
-    }
-    tx.put(root, empty_root(alloc, 50)?)?;
-    Ok(())
+    let root = empty_root(alloc, 50)?;
+    put_one(alloc, &mut store, &ROOT, root, &mut Pcg32::new(5, 6))?;
+    Ok(store)
 }
 
 /// Performs a line and applies its changes.
 fn answer<S: BlocksMut>(
     alloc: Global,
     blobs: &mut BlobStore<S>,
-    root: &BlockId,
     line: &[u8],
     chance: &mut Pcg32,
 ) -> Result<Vec<u8>, Fail>
@@ -90,7 +90,7 @@ fn answer<S: BlocksMut>(
     let Ok(command) = parse_line(alloc, line) else {
         return Err("a line of the language".into());
     };
-    let reply = match perform(alloc, blobs, root, now, &command, chance) {
+    let reply = match perform(alloc, blobs, &ROOT, now, &command) {
         Ok(reply) => reply,
         Err(_) => return Err("a command that failed".into()),
     };
@@ -107,34 +107,18 @@ fn answer<S: BlocksMut>(
 pub fn answer_each<S: BlocksMut>(
     alloc: Global,
     blobs: &mut BlobStore<S>,
-    root: &BlockId,
-    lines: &[&str],
-    chance: &mut Pcg32,
-) -> Result<Vec<u8>, Fail>
-    requires { ⟦<Tx<S> as Blocks>⟧.meanings.intact blobs.old.tx }
-    ensures { ⟦<Tx<S> as Blocks>⟧.meanings.intact blobs.new.tx }
-{
-    let mut texts = Vec::new(alloc);
-    for line in lines {
-        let text = answer(alloc, blobs, root, line.as_bytes(), chance)?;
-        texts.extend_from_slice(&text)?;
-    }
-    Ok(texts)
-}
-
-/// The same over a new root.
-pub fn answer_all<S: BlocksMut>(
-    alloc: Global,
-    blobs: &mut BlobStore<S>,
-    root: &BlockId,
     lines: &[&str],
 ) -> Result<Vec<u8>, Fail>
     requires { ⟦<Tx<S> as Blocks>⟧.meanings.intact blobs.old.tx }
     ensures { ⟦<Tx<S> as Blocks>⟧.meanings.intact blobs.new.tx }
 {
     let mut chance = Pcg32::new(1, 2);
-    make_root(alloc, &mut blobs.tx, root)?;
-    answer_each(alloc, blobs, root, lines, &mut chance)
+    let mut texts = Vec::new(alloc);
+    for line in lines {
+        let text = answer(alloc, blobs, line.as_bytes(), &mut chance)?;
+        texts.extend_from_slice(&text)?;
+    }
+    Ok(texts)
 }
 
 /// The texts of the replies to these lines on a new file system over the store, one after another.
@@ -146,8 +130,9 @@ pub fn answers<S: BlocksMut + Drop>(
     requires intact { S.Blocks.meanings.intact store }
     requires few { IsFew (S.Blocks.holdings.used store) }
 {
-    let mut blobs = BlobStore::new(Tx::new(alloc, store));
-    let texts = answer_all(alloc, &mut blobs, &BlockId([7; 16]), lines);
+    let store = rooted(alloc, store)?;
+    let mut blobs = BlobStore::new(Tx::new(alloc, store, [1; 32]));
+    let texts = answer_each(alloc, &mut blobs, lines);
     drop(blobs.into_tx().into_store());
     texts
 }

@@ -1,4 +1,4 @@
--- What a put leaves to a session, and what a record that is opened anew stands for.
+-- What a put has in the content, and what a record that is opened anew stands for.
 use Rattle.std.proofs.Common.{◌≡◌, ℕ, Bool, true, false, List, refl, sym, ◌∙◌, ap, subst}
 use Rattle.std.specs.Prelude.{Option, Some, cond}
 use Rattle.std.specs.FinMap as fin
@@ -6,12 +6,10 @@ use Rattle.std.specs.FinMap.{get-insert}
 use Rattle.std.specs.Cmp.{eq_by_cmp_equiv}
 use Rattle.std.specs.Cmp.Lexicographic.{nat_list_cmp_total}
 use Rattle.outside.specs.Trace.{Call}
-use Rattle.outcome.specs.Meanings.{Meanings}
 use Rattle.local_state.specs.Record.{IsRecord}
 use Rattle.local_state.proofs.Records.{one_reading}
-use Rattle.store_api.specs.Content.{Content, SameContent, same_id, Changes, or_else, over}
-use Rattle.store_api.specs.Durables.{Identity, Durables, Records, Enduring}
-use Rattle.store_api.specs.Holdings.{Holdings, Steady, Changed}
+use Rattle.store_api.specs.Content.{Content, same_id, or_else, over}
+use Rattle.store_api.specs.Durables.{Identity}
 use Rattle.held_blocks.specs.Held.{Held}
 use Rattle.held_blocks.specs.Standing.{identity_of, Stands}
 
@@ -26,27 +24,6 @@ pub put_there : (content : Content) (id payload : List ℕ) → over (fin.insert
 put_there content id payload =
     ap (λ o. or_else o (content id)) (get-insert nat_list_cmp_total fin.empty id (Some payload) id)
     ∙ picked (same_id id id) payload (fin.get fin.empty id) (content id) ((eq_by_cmp_equiv nat_list_cmp_total).refl id)
-
-module _ {S : Type 0} (M : Meanings S) (H : Holdings S) (applied : S → S → Changes → Type 0) (D : Durables S) (R : Records) (laws : Enduring M H applied D R) (steady : Steady M H)
-    (a begun b s : S) (changes : Changes) (same : begun ≡ a) (last : s ≡ b) (done : applied begun b changes) where
-  by_same : applied a b changes
-  by_same = subst (λ x. applied x b changes) same done
-
-  of_a : Changed M H begun b changes → Changed M H a b changes
-  of_a changed = subst (λ x. Changed M H x b changes) same changed
-
-  pub put_identity : D.identity s ≡ D.identity a
-  put_identity = ap D.identity last ∙ laws.applied_identity a b changes by_same
-
-  -- a store with changes stays unmarked and sound, and has the content with the changes
-  pub put_unmarked : (D.identity a).marked ≡ false → (D.identity s).marked ≡ false
-  put_unmarked unmarked = ap (λ (d : Identity). d.marked) put_identity ∙ unmarked
-
-  pub put_sound : Changed M H begun b changes → M.sound a → M.sound s
-  put_sound changed sound = subst M.sound (sym last) ((of_a changed).sound sound)
-
-  pub put_content : Changed M H begun b changes → M.sound a → SameContent (over changes (H.content a)) (H.content s)
-  put_content changed sound id = ap (λ x. H.content x id) last ∙ (of_a changed).content (steady.sound_told a sound) id
 
 -- ---- a record that is opened anew
 

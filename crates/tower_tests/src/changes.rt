@@ -1,6 +1,6 @@
 // Changes of one store, and syncs, over any durable store and keeper.
 ghost use Rattle.std.specs.Prelude.{◌≡◌, true, IfOk};
-ghost use Rattle.store_api.specs.Holdings.{IsFew, MayGet};
+ghost use Rattle.store_api.specs.Holdings.{IsFew};
 ghost use Rattle.store_api.specs.Lists.{MayConfigure};
 
 use crate::tower::Tower;
@@ -11,31 +11,57 @@ use session_saver::{Saver, SyncError};
 use std::alloc::Global;
 use std::test::Fail;
 use store_api::{Blocks, BlocksMut, Durable, Tx};
-use store_session::follow;
+use store_session::{follow, put_one};
 
 /// A block and the byte that its payload is made of, or None where the block is removed.
 pub(crate) type Change = (BlockId, Option<u8>);
 
 pub(crate) type Synced = Result<(), SyncError>;
 
-/// Whether the id may get a payload.
-fn may_get<S: Blocks>(alloc: Global, tx: &mut Tx<S>, id: &BlockId) -> Result<bool, Fail>
+/// Has a new id get a payload, in a batch of its own. Changes that wait are forgotten.
+fn give<S: BlocksMut>(
+    alloc: Global,
+    tx: &mut Tx<S>,
+    id: &BlockId,
+    byte: u8,
+    chance: &mut Pcg32,
+) -> Result<(), Fail>
     requires { ⟦<Tx<S> as Blocks>⟧.meanings.intact tx.old }
-    ensures intact { ⟦<Tx<S> as Blocks>⟧.meanings.intact tx.new }
-    ensures may { IfOk result (λ may. may ≡ true → MayGet ⟦<Tx<S> as Blocks>⟧.holdings tx.new id.now.0) }
+    ensures { ⟦<Tx<S> as Blocks>⟧.meanings.intact tx.new }
 {
-    match tx.load(alloc, id)? {
-        Some(_) => Ok(true),
-        None => Ok(!tx.is_used(id) && !id.cmp(&BlockId([0; 16])).is_eq()),
+    let payload = [byte; 50].to_vec(alloc)?;
+    let given = put_one(alloc, &mut tx.store, id, payload, chance);
+    tx.begin([0; 32]);
+    given
+}
+
+/// Has the new ids among these get their payloads, and answers the other changes.
+fn give_new<S: BlocksMut>(
+    alloc: Global,
+    tx: &mut Tx<S>,
+    changes: &[Change],
+    chance: &mut Pcg32,
+) -> Result<Vec<Change>, Fail>
+    requires { ⟦<Tx<S> as Blocks>⟧.meanings.intact tx.old }
+    ensures { ⟦<Tx<S> as Blocks>⟧.meanings.intact tx.new }
+{
+    let mut others = Vec::new(alloc);
+    for one in changes {
+        match one.1 {
+            Some(byte) if !tx.is_used(&one.0) => give(alloc, tx, &one.0, byte, chance)?,
+            _ => others.push(*one)?,
+        }
     }
+    Ok(others)
 }
 
 fn put<S: Blocks>(alloc: Global, tx: &mut Tx<S>, id: &BlockId, byte: u8) -> Result<(), Fail>
     requires { ⟦<Tx<S> as Blocks>⟧.meanings.intact tx.old }
     ensures { ⟦<Tx<S> as Blocks>⟧.meanings.intact tx.new }
 {
-    if !may_get(alloc, tx, id)? {
-        return Err(Fail::from("no id for a payload"));
+    match tx.load(alloc, id)? {
+        Some(_) => {}
+        None => return Err(Fail::from("no block")),
     }
     let payload = [byte; 50].to_vec(alloc)?;
     if payload.len() != tx.payload() {
@@ -66,6 +92,7 @@ fn change_all<S: Blocks>(alloc: Global, tx: &mut Tx<S>, changes: &[Change]) -> R
     Ok(())
 }
 
+/// Makes the changes: new ids get their payloads first, and the rest is one batch.
 pub(crate) fn commit_all<S: BlocksMut>(
     alloc: Global,
     tx: &mut Tx<S>,
@@ -74,8 +101,10 @@ pub(crate) fn commit_all<S: BlocksMut>(
     requires { ⟦<Tx<S> as Blocks>⟧.meanings.intact tx.old }
     ensures { ⟦<Tx<S> as Blocks>⟧.meanings.intact tx.new }
 {
-    change_all(alloc, tx, changes)?;
-    tx.commit(alloc, &mut Pcg32::new(1, 2))?;
+    let mut chance = Pcg32::new(1, 2);
+    let others = give_new(alloc, tx, changes, &mut chance)?;
+    change_all(alloc, tx, &others)?;
+    tx.commit(alloc, &mut chance)?;
     Ok(())
 }
 
@@ -85,7 +114,7 @@ fn changed<S: Tower>(alloc: Global, store: S, changes: &[Change]) -> Result<S, F
     requires few { IsFew (S.Durable.holdings.used store) }
     ensures { IfOk result (λ store. S.Durable.meanings.intact store) }
 {
-    let mut tx = Tx::new(alloc, store);
+    let mut tx = Tx::new(alloc, store, [0; 32]);
     let outcome = commit_all(alloc, &mut tx, changes);
     let store = tx.into_store();
     match outcome {
@@ -134,7 +163,7 @@ pub(crate) fn sync_twice<S: Durable, K: Keeper>(
     }
 }
 
-/// Makes the changes, all at once, and syncs twice.
+/// Makes the changes, and syncs twice.
 pub(crate) fn change_and_sync<S: Tower, K: Keeper + Drop>(
     alloc: Global,
     store: S,
@@ -180,7 +209,7 @@ fn configure<S: Durable>(alloc: Global, store: &mut S, bytes: &[u8]) -> Result<(
     Ok(())
 }
 
-/// Makes the changes, all at once, has the configuration wait, and syncs twice.
+/// Makes the changes, has the configuration wait, and syncs twice.
 pub(crate) fn configure_and_sync<S: Tower, K: Keeper + Drop>(
     alloc: Global,
     store: S,
@@ -228,7 +257,7 @@ pub(crate) fn follow_and_sync<S: Tower, K: Keeper + Drop>(
     requires intact { S.Durable.meanings.intact store }
     requires few { IsFew (S.Durable.holdings.used store) }
 {
-    let mut tx = Tx::new(alloc, store);
+    let mut tx = Tx::new(alloc, store, [0; 32]);
     let outcome = follow_and_commit(alloc, &mut tx, id);
     let store = tx.into_store();
     match outcome {

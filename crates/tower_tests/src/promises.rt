@@ -51,7 +51,7 @@ fn end<S: Tower>(site: &mut Site, ended: Ended<S, MemoryKeeper>) -> Syncs {
     (first, second)
 }
 
-/// Opens the store, makes the changes, all at once, and syncs twice.
+/// Opens the store, makes the changes, and syncs twice.
 pub(crate) fn run<S: Tower>(
     alloc: Global,
     site: &mut Site,
@@ -151,7 +151,7 @@ fn change_in_one_session<S: Tower>(
     second: &[Change],
 ) -> Result<([Loaded; 3], [Loaded; 3], [Loaded; 3]), Fail> {
     let (store, keeper) = begin::<S>(alloc, site)?;
-    let mut tx = Tx::new(alloc, store);
+    let mut tx = Tx::new(alloc, store, [0; 32]);
     let seen = change_twice(alloc, &mut tx, first, second);
     let mut ended = sync_twice(alloc, tx.into_store(), keeper);
     let synced = load_each(alloc, &mut ended.store);

@@ -1,5 +1,5 @@
 // A payload that is put, synced, and loaded by the store that is opened anew from what was kept.
-ghost use Rattle.std.specs.Prelude.{◌≡◌, ◌≤◌, Some, true, false, length, IfOk, OnOk};
+ghost use Rattle.std.specs.Prelude.{◌≡◌, ◌≤◌, Some, true, false, length, IfOk};
 ghost use Rattle.std.specs.FinMap as fin;
 ghost use Rattle.block_id.specs.declared.sizes.TheConstants.{MIN_BLOCK, MAX_BLOCK};
 ghost use Rattle.outside.specs.Changes.{change_at};
@@ -8,7 +8,7 @@ ghost use Rattle.outside.specs.Trace.{config};
 ghost use Rattle.outside.specs.View.{bytes_of, list_of};
 ghost use Rattle.store_api.specs.Content.{Content, SameContent, over};
 ghost use Rattle.store_api.specs.Durables.{Identity};
-ghost use Rattle.store_api.specs.Holdings.{Changed, IsFew, MayGet};
+ghost use Rattle.store_api.specs.Holdings.{IsFew};
 ghost use Rattle.session_saver.specs.Saving.{RepresentsContent};
 ghost use Rattle.held_blocks.specs.Forgeries.{forged};
 ghost use Rattle.held_blocks.specs.Standing.{Stands};
@@ -25,37 +25,8 @@ use sealed_store::SealedStore;
 use session_saver::Saver;
 use std::alloc::Global;
 use std::test::Fail;
-use store_api::{Blocks, BlocksMut, Durable, Tx};
-
-/// Whether an id may get a payload.
-fn may_get<S: Blocks>(tx: &Tx<S>, id: &BlockId) -> bool
-    ensures { result ≡ true → MayGet ⟦<Tx<S> as Blocks>⟧.holdings tx.now id.now.0 }
-{
-    tx.contains(id) || (!tx.is_used(id) && !id.cmp(&BlockId([0; 16])).is_eq())
-}
-
-/// Has an id get a payload, over a store without changes.
-fn put_one<S: BlocksMut, R: Rng>(
-    alloc: Global,
-    tx: &mut Tx<S>,
-    id: &BlockId,
-    payload: Vec<u8>,
-    chance: &mut R,
-) -> Result<(), Fail>
-    requires intact { ⟦<Tx<S> as Blocks>⟧.meanings.intact tx.old }
-    requires none { tx.old.overlay ≡ fin.empty }
-    ensures intact { S.Blocks.meanings.intact tx.new.store }
-    ensures changed { OnOk result (Changed S.Blocks.meanings S.Blocks.holdings tx.old.store tx.new.store (fin.insert fin.empty id.now.0 (Some payload.items))) }
-    ensures applied { OnOk result (S.applied tx.old.store tx.new.store (fin.insert fin.empty id.now.0 (Some payload.items))) }
-    ensures forgeries { S.Blocks.meanings.forgeries tx.new.store ≡ S.Blocks.meanings.forgeries tx.old.store }
-{
-    if !may_get(tx, id) || payload.len() != tx.payload() {
-        return Err("no such payload for this id".into());
-    }
-    tx.put(id, payload)?;
-    tx.commit(alloc, chance)?;
-    Ok(())
-}
+use store_api::{Blocks, Durable};
+use store_session::put_one;
 
 /// Has an id get a payload, and syncs.
 fn put_and_sync<S: Durable + Drop, K: Keeper + Drop, R: Rng>(
@@ -82,9 +53,8 @@ fn put_and_sync<S: Durable + Drop, K: Keeper + Drop, R: Rng>(
         last,
         changed: _,
     } = saver;
-    let mut tx = Tx::new(alloc, store);
-    let put = put_one(alloc, &mut tx, id, payload, chance);
-    let mut after = tx.into_store();
+    let mut after = store;
+    let put = put_one(alloc, &mut after, id, payload, chance);
     let mut saver = Saver {
         keeper,
         last,

@@ -83,11 +83,7 @@ pub fn drop_tree<S: Blocks>(alloc: Global, tx: &mut Tx<S>, root: &BlockId) -> Re
 }
 
 /// A new tree that holds the bytes. Nothing is loaded.
-pub fn new_tree<S: Blocks>(
-    alloc: Global,
-    tx: &mut Tx<S>,
-    bytes: &[u8],
-) -> Result<BlockId, Fail>
+pub fn new_tree<S: Blocks>(alloc: Global, tx: &mut Tx<S>, bytes: &[u8]) -> Result<BlockId, Fail>
     requires intact { ⟦<Tx<S> as Blocks>⟧.meanings.intact tx.old }
     requires small { length bytes.now ≤ 2 ^ 40 }
     ensures outcome { Outcome ⟦<Tx<S> as Blocks>⟧.meanings Unit tx.old tx.new result (λ _ root. IsNewRoot ⟦<Tx<S> as Blocks>⟧.holdings tx.old tx.new root.0 [] bytes.now) }
@@ -135,12 +131,7 @@ pub fn write_range<S: Blocks>(
 }
 
 /// Cuts the tree to this length, or appends zeros up to it.
-pub fn resize<S: Blocks>(
-    alloc: Global,
-    tx: &mut Tx<S>,
-    root: &BlockId,
-    n: u64,
-) -> Result<(), Fail>
+pub fn resize<S: Blocks>(alloc: Global, tx: &mut Tx<S>, root: &BlockId, n: u64) -> Result<(), Fail>
     requires intact { ⟦<Tx<S> as Blocks>⟧.meanings.intact tx.old }
     requires small { n ≤ 2 ^ 40 }
     ensures outcome { Outcome ⟦<Tx<S> as Blocks>⟧.meanings (IsRoot ⟦<Tx<S> as Blocks>⟧.holdings tx.old root.now.0) tx.old tx.new result

@@ -98,12 +98,7 @@ pub fn write_range<S: Blocks>(
 
 /// Cuts the tree to this length, or appends zeros up to it. Loaded are the right border and, as it is cut, the inner nodes
 /// that go, the new right border and the way down to the node that the root takes.
-pub fn resize<S: Blocks>(
-    alloc: Global,
-    tx: &mut Tx<S>,
-    root: &BlockId,
-    n: u64,
-) -> Result<(), Fail>
+pub fn resize<S: Blocks>(alloc: Global, tx: &mut Tx<S>, root: &BlockId, n: u64) -> Result<(), Fail>
     requires intact { ⟦<Tx<S> as Blocks>⟧.meanings.intact tx.old }
     requires small { n ≤ 2 ^ 40 }
     ensures outcome { Outcome ⟦<Tx<S> as Blocks>⟧.meanings (IsRoot ⟦<Tx<S> as Blocks>⟧.holdings tx.old root.now.0) tx.old tx.new result

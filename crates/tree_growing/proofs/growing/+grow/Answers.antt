@@ -284,10 +284,10 @@ grown_node-below-below-requires-clause-room g t c = c.requires.level ∙ ap (λ 
 pub grown_inner-put_node-requires-clause-fits : goal.grown_inner-put_node-requires-clause-fits
 grown_inner-put_node-requires-clause-fits g t c = subst (λ p. FitsPayload p (node_of c.in-Ok-grown_node.grown.0)) (sym c.grown_node.ensures.below.payload) c.in-Ok-grown_node.ensures.fits
 
-pub grown_inner-put_node-requires-clause-id : goal.grown_inner-put_node-requires-clause-id
-grown_inner-put_node-requires-clause-id g t c =
+pub grown_inner-put_node-requires-clause-there : goal.grown_inner-put_node-requires-clause-there
+grown_inner-put_node-requires-clause-there g t c =
     let last = last_id c.args.children.now in
-    inl (c.grown_node.ensures.there last (c.load_at.ensures.stays.ids last ∙ c.in-Ok.ensures.there))
+    c.grown_node.ensures.there last (c.load_at.ensures.stays.ids last ∙ c.in-Ok.ensures.there)
 
 pub grown_inner-grown_children-requires-clause-level : goal.grown_inner-grown_children-requires-clause-level
 grown_inner-grown_children-requires-clause-level g t c =

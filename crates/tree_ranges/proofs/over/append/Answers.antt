@@ -190,10 +190,10 @@ grown_node-requires-clause-level g c = c.in-Ok.ensures.room ∙ ap (λ p. span p
 pub grown_node-requires-clause-fits : goal.grown_node-requires-clause-fits
 grown_node-requires-clause-fits g c = subst (λ p. FitsPayload p (node_of c.in-Ok.found.0)) (sym c.load_root.ensures.stays.payload) c.in-Ok.ensures.fits
 
-pub put_node-requires-clause-id : goal.put_node-requires-clause-id
-put_node-requires-clause-id g c =
+pub put_node-requires-clause-there : goal.put_node-requires-clause-there
+put_node-requires-clause-there g c =
     let root = c.args.root.now.0 in
-    inl (c.raised.ensures.there root (c.grown_node.ensures.there root (c.load_root.ensures.stays.ids root ∙ c.in-Ok.ensures.there)))
+    c.raised.ensures.there root (c.grown_node.ensures.there root (c.load_root.ensures.stays.ids root ∙ c.in-Ok.ensures.there))
 
 pub returns-in-Err-clause-only : goal.returns-in-Err-clause-only
 returns-in-Err-clause-only g c r s h q there = inl (ap (λ m. get m q) c.load_root.ensures.overlay)
