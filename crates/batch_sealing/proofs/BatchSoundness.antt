@@ -183,14 +183,6 @@ new_or_known : (said : Option (Option (List ℕ))) (life : Option Life) → is_s
 new_or_known None life known = inl known
 new_or_known (Some change) life known = inr refl
 
--- an id that is used afterwards was used before, or the batch says something of it
-pub used_after : (a b : Held) (old new : Option (List Call)) (changes : Changes) → Applied a b old new changes → (id : Id) → has_id (fin.keys b.state.lives) id ≡ true
-    → (has_id (fin.keys a.state.lives) id ≡ true) ⊎ (is_some (fin.get changes id) ≡ true)
-used_after a b old new changes x id used = elim (new_or_known (fin.get changes id) (fin.get a.state.lives id) (ap is_some (sym (x.lives id)) ∙ (sym (has-keys b id) ∙ used))) [
-  | inl known ↦ inl (has-keys a id ∙ known)
-  | inr said ↦ inr said
-]
-
 rises_or_rests : (said : Option (Option (List ℕ))) (life : Option Life) → (version_in life ≤ version_in (life_after said life)) × (version_in (life_after said life) ≤ version_in life + 1)
 rises_or_rests None life = (omega arith, omega arith)
 rises_or_rests (Some (Some payload)) None = (omega arith, omega arith)
@@ -209,12 +201,18 @@ module _ {S : Type 0} (held : S → Held) (trace : S → Option (List Call)) (fa
   content_is : (id : Id) → wanted (held b) (trace b) id ≡ over changes (wanted (held a) (trace a)) id
   content_is id = ap (λ t. wanted (held b) t id) x.trace ∙ wanted_after (held a) (held b) (trace a) (trace b) changes x (trace a) id
 
+  used_said : (id : Id) → has_id (fin.keys (held b).state.lives) id ≡ true → (has_id (fin.keys (held a).state.lives) id ≡ true) ⊎ (is_some (fin.get changes id) ≡ true)
+  used_said id used = elim (new_or_known (fin.get changes id) (fin.get (held a).state.lives id) (ap is_some (sym (x.lives id)) ∙ (sym (has-keys (held b) id) ∙ used))) [
+    | inl known ↦ inl (has-keys (held a) id ∙ known)
+    | inr said ↦ inr said
+  ]
+
   pub changed : Changed (meanings_by held trace faults own_) (holdings_by held trace) a b changes
   changed = record {
     ids = λ id. ap is_some (content_is id);
     content = λ told id. content_is id;
     told = ap is_some x.trace;
-    used = used_after (held a) (held b) (trace a) (trace b) changes x;
+    used = used_said;
     stays_used = λ id used.
         has-keys (held b) id ∙ (ap is_some (x.lives id) ∙ stays_known (fin.get changes id) (fin.get (held a).state.lives id) (sym (has-keys (held a) id) ∙ used));
     few = λ few. few_used (held b).state (held b).list whole.has_record;

@@ -20,22 +20,23 @@ use Rattle.store_api.specs.Durables.{Durables}
 use Rattle.store_api.specs.Holdings.{has_id}
 use Rattle.store_api.specs.Ids.{ComeOfSeed}
 use Rattle.store_api.proofs.Draws.{later_same}
-use Rattle.store_api.proofs.Naming.{among_later, known_or_drawn}
 use Rattle.store_api.proofs.Rising.{ids_total}
 use Rattle.session_saver.specs.Saving.{Wrote}
 use Rattle.local_state.specs.Record.{PlainState}
+use Rattle.local_state.specs.declared.life.Life.{Life}
 use Rattle.held_blocks.specs.Held.{Held, waiting}
 use Rattle.held_blocks.specs.Reads.{AllReads, WentOnByReads}
 use Rattle.held_blocks.specs.Stores.{OnlyRead}
-use Rattle.batch_sealing.specs.Applied.{Applied, WaitsAfter}
+use Rattle.held_blocks.specs.StoreLaws.{has-keys}
+use Rattle.batch_sealing.specs.Applied.{Applied, WaitsAfter, life_after}
 use Rattle.batch_sealing.specs.Draws.{AreDrawn, draws, given_in, given_ids, iv_in, iv_of}
-use Rattle.batch_sealing.proofs.BatchSoundness.{used_after}
 use Rattle.batch_sealing.proofs.Sorted.{all_by, each_found, of_found}
 use Rattle.mount_core.specs.Drawing.{DrawsOnce, DrawsSeeded, LineDraws, NamesKnown}
 use Rattle.mount_tower.specs.Opening.{IsLoaded, ReadsConfigOnce}
 use Rattle.mount_tower.specs.declared.opening.TheConstants.{MAX_CONFIG}
 use Rattle.mount_tower.specs.Tower.{Cached, held_in, trace_in, tower_meanings, tower_holdings, tower_durables}
 use Rattle.mount.specs.Sealing.{Draw, seed, vector, known_after, AreDraws, AreVectors, IsDrawnFor, View, view_closed, IsSealedFor, PutsSealed, AddsSealed, AreSealed, SealsFresh, SealsKnown, OpensSealed}
+use Rattle.mount.specs.NamingLaws.{among_later, known_or_drawn}
 use Rattle.mount.specs.SealingLaws.{adds_nothing, adds_then, known_none, known_then, sealed_nothing, sealed_then, seals_then}
 
 -- ---- what is written of a list in order
@@ -247,6 +248,11 @@ batch_waits a b changes id bytes (Some None) is waits now = absurd (cc)
 batch_waits a b changes id bytes (Some (Some payload)) is waits now =
     inl (subst (IsDrawnFor (vectors_for b.list (given_ids changes)) id) (ap file_at now) (one_given b.list (fin.entries changes) id payload (sym (get-entries changes id) ∙ is)))
 
+-- what a batch says nothing of has a life afterwards where it had one
+life_or_said : (known : Bool) (said : Option (Option (List ℕ))) (life : Option Life) → (is_some life ≡ true → known ≡ true) → (is_some said ≡ true → known ≡ true) → is_some (life_after said life) ≡ true → known ≡ true
+life_or_said known None life lived says some = lived some
+life_or_said known (Some change) life lived says some = says refl
+
 module _ (a b : Held) (old new : Option (List Call)) (changes : Changes) (stream left : Stream) (made : Applied a b old new changes) where
   abbrev Vectors : List Draw
   Vectors = vectors_for b.list (given_ids changes)
@@ -256,6 +262,11 @@ module _ (a b : Held) (old new : Option (List Call)) (changes : Changes) (stream
 
   abbrev IsSaid : Id → Type 0
   IsSaid id = is_some (fin.get changes id) ≡ true
+
+  -- an id that is used afterwards was used before, or the batch says something of it
+  used_among : (known : List Id) → ((id : Id) → has_id Used id ≡ true → has_id known id ≡ true) → ((id : Id) → IsSaid id → has_id known id ≡ true) → (id : Id) → has_id (fin.keys b.state.lives) id ≡ true → has_id known id ≡ true
+  used_among known was says id used =
+      life_or_said (has_id known id) (fin.get changes id) (fin.get a.state.lives id) (λ lived. was id (has-keys a id ∙ lived)) (says id) (ap is_some (sym (made.lives id)) ∙ (sym (has-keys b id) ∙ used))
 
   -- a batch without new ids
   known_batch : ((id : Id) → IsSaid id → has_id Used id ≡ true) → AreDrawn changes b.list stream left → SealsKnown stream left (view_by a old) (view_by b new)
@@ -267,8 +278,7 @@ module _ (a b : Held) (old new : Option (List Call)) (changes : Changes) (stream
         waits = λ id bytes now. batch_waits a b changes id bytes (fin.get changes id) refl (made.waits id) now;
         adds = subst (AddsSealed Vectors a.list old) (sym made.trace) (adds_nothing Vectors a.list old);
       };
-      known = λ id has. subst (λ k. has_id k id ≡ true) (sym (known_vectors Used b.list (given_ids changes)))
-          (elim (used_after a b old new changes made id has) as (λ _. has_id Used id ≡ true) [ inl was ↦ was | inr said ↦ known id said ]);
+      known = λ id has. subst (λ k. has_id k id ≡ true) (sym (known_vectors Used b.list (given_ids changes))) (used_among Used (λ q was. was) known id has);
     };
     unnamed = only_vectors b.list (given_ids changes);
   }
@@ -290,7 +300,7 @@ module _ (a b : Held) (old new : Option (List Call)) (changes : Changes) (stream
           adds = subst (AddsSealed (seed come.drawn ∷ Vectors) a.list old) (sym made.trace) (adds_nothing (seed come.drawn ∷ Vectors) a.list old);
         };
         known = λ id has. subst (λ k. has_id k id ≡ true) (sym (known_vectors (come.drawn ++ Used) b.list (given_ids changes)))
-            (elim (used_after a b old new changes made id has) as (λ _. has_id (come.drawn ++ Used) id ≡ true) [ inl was ↦ among_later come.drawn Used id was | inr said ↦ known id said ]);
+            (used_among (come.drawn ++ Used) (among_later come.drawn Used) known id has);
       }
 
 -- ---- steps over the tower

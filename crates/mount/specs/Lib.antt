@@ -8,4 +8,5 @@ pub mod Answering
 pub mod Attaching
 pub mod Serving
 pub mod Sealing
+pub mod NamingLaws
 pub mod SealingLaws

@@ -1,5 +1,6 @@
--- Where each block's file comes from that waits for the directory or is put there: from before, or sealed since with an IV that was drawn for it alone.
-use Rattle.std.specs.Prelude.{◌≡◌, ◌⊎◌, ℕ, List, [], ◌∷◌, ◌++◌}
+-- Where each block's file comes from that waits for the directory or is put there: from before, or sealed since, with an IV that was drawn for it alone, and under an
+-- id that was known before or comes of a seed that was drawn.
+use Rattle.std.specs.Prelude.{◌≡◌, ◌⊎◌, ℕ, true, List, [], ◌∷◌, ◌++◌}
 use Rattle.std.specs.List.{AllByRecursion}
 use Rattle.std.specs.declared.option.Option.{Option}
 use Rattle.std.specs.declared.option.Option.TheVariants.{None, Some}
@@ -7,62 +8,93 @@ use Rattle.outside.specs.Changes.{FileChanges, change_at}
 use Rattle.outside.specs.Trace.{Call, block, config, put, got, removed}
 use Rattle.rand_core.specs.Stream.{Stream, fill_bytes}
 use Rattle.batch_sealing.specs.Draws.{iv_in}
+use Rattle.store_api.specs.Content.{Id}
 use Rattle.store_api.specs.Draws.{IsLater}
-use Rattle.mount_core.specs.Configuring.{IsOneOf}
+use Rattle.store_api.specs.Holdings.{has_id}
+use Rattle.store_api.specs.Ids.{AreIdsOf, chacha20}
 use Rattle.mount_tower.specs.Opening.{IsLoaded}
-use Rattle.mount_tower.specs.Tower.{tower_durables}
+use Rattle.mount_tower.specs.Tower.{tower_durables, tower_holdings}
 use Rattle.local_state.specs.Record.{PlainState}
 use Rattle.mount.specs.declared.mount.Mount.{Mount}
 use Rattle.mount.specs.Answering.{store_of, calls_of}
 
--- ---- files and their vectors
+-- ---- what is drawn
 
--- the IV of each of these files, oldest first, is one fill of 16 bytes, fill behind fill; others may lie between them, and behind them
-abbrev pub AreVectorsOf : List (List ℕ) → Stream → Stream → Type 0
-AreVectorsOf [] stream left = IsLater stream left
-AreVectorsOf (file ∷ files) stream left =
-    (before : Stream) × IsLater stream before × (iv_in file ≡ (fill_bytes 16 before).0) × AreVectorsOf files (fill_bytes 16 before).1 left
+-- a draw of a stream: a seed, from which these ids come, the newest first; or the IV of this file, which was sealed under this id
+pub data Draw : Type 0 where
+  seed : List Id → Draw
+  vector : Id → List ℕ → Draw
+
+-- the ids that are known after such draws
+abbrev pub known_after : List Id → List Draw → List Id
+known_after known [] = known
+known_after known (seed ids ∷ draws) = known_after (ids ++ known) draws
+known_after known (vector id file ∷ draws) = known_after known draws
+
+-- Each of these is a fill, the oldest first, fill behind fill: a seed one of 32 bytes, an IV one of 16. Others may lie between them, and behind them. A seed's ids are
+-- the next free ones from fills of 16 bytes of its own generator on: passed over are only ids that are zero, known, or drawn before. A file's id is known by then.
+abbrev pub AreDraws : List Id → List Draw → Stream → Stream → Type 0
+AreDraws known [] stream left = IsLater stream left
+AreDraws known (seed ids ∷ draws) stream left =
+    (before : Stream) × IsLater stream before × ((after : Stream) × AreIdsOf known ids (chacha20 (fill_bytes 32 before).0) after) × AreDraws (ids ++ known) draws (fill_bytes 32 before).1 left
+AreDraws known (vector id file ∷ draws) stream left =
+    (before : Stream) × IsLater stream before × (has_id known id ≡ true) × (iv_in file ≡ (fill_bytes 16 before).0) × AreDraws known draws (fill_bytes 16 before).1 left
+
+-- one of these draws is the IV of this file, sealed under this id
+abbrev pub IsDrawnFor : List Draw → Id → List ℕ → Type 0
+IsDrawnFor [] id bytes = ⊥
+IsDrawnFor (seed ids ∷ draws) id bytes = IsDrawnFor draws id bytes
+IsDrawnFor (vector other file ∷ draws) id bytes = ((id ≡ other) × (bytes ≡ file)) ⊎ IsDrawnFor draws id bytes
+
+-- none of them is a seed
+abbrev pub AreVectors : List Draw → Type 0
+AreVectors [] = Unit {0}
+AreVectors (seed ids ∷ draws) = ⊥
+AreVectors (vector id file ∷ draws) = AreVectors draws
 
 -- ---- what waits and what was called
 
--- at one moment: the unwritten list, and the calls on the directory where they are told
+-- at one moment: the unwritten list, the calls on the directory where they are told, and the ids that were ever in use
 pub record View : Type 0 where
   pub list : FileChanges
   pub calls : Option (List Call)
+  pub known : List Id
 
 abbrev pub view_of : {V : Type 0} → {K : Type 0} → (V → Option (List Call)) → Mount V K → View
-view_of trace mount = record { list = (tower_durables trace).list (store_of mount); calls = calls_of trace mount }
+view_of trace mount = record { list = (tower_durables trace).list (store_of mount); calls = calls_of trace mount; known = (tower_holdings trace).used (store_of mount) }
 
--- where nothing is opened, nothing waits
+-- where nothing is opened, nothing waits and no id is known
 abbrev pub view_closed : Option (List Call) → View
-view_closed calls = record { list = []; calls = calls }
+view_closed calls = record { list = []; calls = calls; known = [] }
 
--- these bytes are one of the files, or waited for the block
-abbrev pub IsSealedFor : List (List ℕ) → FileChanges → List ℕ → List ℕ → Type 0
-IsSealedFor files list id bytes = IsOneOf files bytes ⊎ (change_at (block id) list ≡ Some (Some bytes))
+-- these bytes were sealed under the id, or waited for the block
+abbrev pub IsSealedFor : List Draw → FileChanges → Id → List ℕ → Type 0
+IsSealedFor drawn list id bytes = IsDrawnFor drawn id bytes ⊎ (change_at (block id) list ≡ Some (Some bytes))
 
 -- so, where the call puts something under a block's name
-abbrev pub PutsSealed : List (List ℕ) → FileChanges → Call → Type 0
-PutsSealed files list (put (block id) bytes ok) = IsSealedFor files list id bytes
-PutsSealed files list (put config bytes ok) = Unit {0}
-PutsSealed files list (got name max answer) = Unit {0}
-PutsSealed files list (removed name ok) = Unit {0}
+abbrev pub PutsSealed : List Draw → FileChanges → Call → Type 0
+PutsSealed drawn list (put (block id) bytes ok) = IsSealedFor drawn list id bytes
+PutsSealed drawn list (put config bytes ok) = Unit {0}
+PutsSealed drawn list (got name max answer) = Unit {0}
+PutsSealed drawn list (removed name ok) = Unit {0}
 
 -- so each call that was added, where calls are told; what isn't told stays so
-abbrev pub AddsSealed : List (List ℕ) → FileChanges → Option (List Call) → Option (List Call) → Type 0
-AddsSealed files list None new = new ≡ None
-AddsSealed files list (Some old) new = (calls : List Call) × (new ≡ Some (calls ++ old)) × AllByRecursion (PutsSealed files list) calls
+abbrev pub AddsSealed : List Draw → FileChanges → Option (List Call) → Option (List Call) → Type 0
+AddsSealed drawn list None new = new ≡ None
+AddsSealed drawn list (Some old) new = (calls : List Call) × (new ≡ Some (calls ++ old)) × AllByRecursion (PutsSealed drawn list) calls
 
--- each block's file that waits afterwards, or was put since, is one of these, or waited before
-pub record AreSealed (files : List (List ℕ)) (before after : View) : Type 0 where
-  pub waits : (id bytes : List ℕ) → change_at (block id) after.list ≡ Some (Some bytes) → IsSealedFor files before.list id bytes
-  pub adds : AddsSealed files before.list before.calls after.calls
+-- each block's file that waits afterwards, or was put since, was sealed under the block's id, or waited for it before
+pub record AreSealed (drawn : List Draw) (before after : View) : Type 0 where
+  pub waits : (id : Id) (bytes : List ℕ) → change_at (block id) after.list ≡ Some (Some bytes) → IsSealedFor drawn before.list id bytes
+  pub adds : AddsSealed drawn before.list before.calls after.calls
 
--- each block's file that waits afterwards, or was put since, waited before, or was sealed since with a fill of this stream that served no other
+-- Each block's file that waits afterwards, or was put since, waited before, or was sealed since: with a fill of this stream that served nothing else, and under an id that
+-- was known before, or that comes of such a fill. So does each id that is known afterwards.
 pub record SealsFresh (stream left : Stream) (before after : View) : Type 0 where
-  pub files : List (List ℕ)
-  pub vectors : AreVectorsOf files stream left
-  pub sealed : AreSealed files before after
+  pub drawn : List Draw
+  pub draws : AreDraws before.known drawn stream left
+  pub sealed : AreSealed drawn before after
+  pub known : (id : Id) → has_id after.known id ≡ true → has_id (known_after before.known drawn) id ≡ true
 
 -- the same, and no seed was drawn: each file that was sealed is under an id that was known before
 pub record SealsKnown (stream left : Stream) (before after : View) : Type 0 where
@@ -77,4 +109,4 @@ IsKeptList kept list = (list ≡ []) ⊎ ((state : PlainState) × IsLoaded kept 
 
 -- nothing was sealed: what was put is of the list that was kept
 abbrev pub OpensSealed : Option (List ℕ) → Option (List Call) → View → Type 0
-OpensSealed kept calls after = (list : FileChanges) × IsKeptList kept list × AreSealed [] (record { list = list; calls = calls }) after
+OpensSealed kept calls after = (list : FileChanges) × IsKeptList kept list × AreSealed [] (record { list = list; calls = calls; known = [] }) after

@@ -12,7 +12,7 @@ use Rattle.store_api.specs.Draws.{IsLater}
 use Rattle.store_api.specs.Holdings.{has_id}
 use Rattle.store_api.specs.Ids.{chacha20}
 use Rattle.store_api.proofs.Draws.{later_same, later_chained}
-use Rattle.store_api.proofs.Naming.{AreAmong, among_behind, ids_more}
+use Rattle.mount.specs.NamingLaws.{AreAmong, among_behind, ids_more}
 use Rattle.mount.specs.Sealing.{Draw, seed, vector, known_after, AreDraws, AreVectors, IsDrawnFor, View, IsSealedFor, PutsSealed, AddsSealed, AreSealed, SealsFresh, SealsKnown}
 
 -- ---- what is known
@@ -146,7 +146,7 @@ module _ (s t u : Stream) (a b c : View) (x : SealsFresh s t a b) (y : SealsFres
   both_known id has =
       subst (λ k. has_id k id ≡ true) (sym (known_both a.known x.drawn y.drawn)) (known_more b.known (known_after a.known x.drawn) y.drawn x.known id (y.known id has))
 
-  pub seals_then : SealsFresh s u a c
+  abbrev pub seals_then : SealsFresh s u a c
   seals_then = record {
     drawn = x.drawn ++ y.drawn;
     draws = both_draw;
@@ -154,7 +154,7 @@ module _ (s t u : Stream) (a b c : View) (x : SealsFresh s t a b) (y : SealsFres
     known = both_known;
   }
 
-pub known_then : (s t u : Stream) (a b c : View) → SealsKnown s t a b → SealsKnown t u b c → SealsKnown s u a c
+abbrev pub known_then : (s t u : Stream) (a b c : View) → SealsKnown s t a b → SealsKnown t u b c → SealsKnown s u a c
 known_then s t u a b c x y = record {
   fresh = record {
     drawn = x.fresh.drawn ++ y.fresh.drawn;

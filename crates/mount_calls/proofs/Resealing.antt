@@ -9,15 +9,15 @@ use Rattle.integrity_store.specs.WaitingLaws.{in_order}
 use Rattle.local_state.proofs.Records.{marked_record}
 use Rattle.local_state.specs.Record.{with_mark as mark_set}
 use Rattle.mount.specs.declared.mount.Mount.{Mount}
-use Rattle.mount.specs.Sealing.{View, AreSealed, IsSealedFor, SealsFresh}
-use Rattle.mount.specs.SealingLaws.{adds_nothing, sealed_first, sealed_nothing, sealed_then, seals_none, seals_nothing, vectors_then}
+use Rattle.mount.specs.Sealing.{Draw, View, AreSealed, IsSealedFor, SealsKnown}
+use Rattle.mount.specs.SealingLaws.{adds_nothing, known_none, known_nothing, known_then, sealed_first, sealed_nothing, sealed_then}
 use Rattle.mount.specs.Tower.{tower}
-use Rattle.mount.proofs.Sealing.{line_seals, tower_applied, tower_drawn}
+use Rattle.mount.proofs.Sealing.{step_seals, tower_applied, tower_drawn}
 use Rattle.mount_core.specs.declared.body.Core.{Core}
 use Rattle.mount_core.specs.Answering.{store_of}
 use Rattle.mount_core.specs.Keeping.{IsSameOrRecord}
 use Rattle.mount_migrating.specs.Drawing.{DrawsAnew, DrawsMarked, DrawsSteps, Reached, StepDraws}
-use Rattle.mount_tower.specs.Tower.{Cached, held_in, trace_in, tower_meanings, tower_durables}
+use Rattle.mount_tower.specs.Tower.{Cached, held_in, trace_in, tower_meanings, tower_holdings, tower_durables}
 use Rattle.outside.specs.Changes.{FileChanges, IsIncreasing, change_at}
 use Rattle.outside.specs.Trace.{Call, block}
 use Rattle.outside.specs.declared.keeper.Keeper.{Ghosts as KeeperGhosts}
@@ -25,28 +25,29 @@ use Rattle.rand_core.specs.Stream.{Stream}
 use Rattle.session_saver.specs.declared.saver.Saver.{Saver}
 use Rattle.store_api.proofs.Draws.{later_same}
 use Rattle.store_api.specs.Durables.{with_mark}
+use Rattle.store_api.specs.Holdings.{has_id}
 use Rattle.mount_calls.specs.Sealing.{HoldsSealed, StaysOrSealed, SealsAnew}
 
 -- ---- records
 
 -- after more files, and by an earlier list
-holds_then : (x y : List (List ℕ)) (a b : View) (kept : Option (List ℕ)) → AreSealed x a b → HoldsSealed y b.list kept → HoldsSealed (x ++ y) a.list kept
+holds_then : (x y : List Draw) (a b : View) (kept : Option (List ℕ)) → AreSealed x a b → HoldsSealed y b.list kept → HoldsSealed (x ++ y) a.list kept
 holds_then x y a b kept sealed h =
-    let w : View = record { list = h.waiting; calls = b.calls } in
+    let w : View = record { list = h.waiting; calls = b.calls; known = [] } in
     let last : AreSealed y b w = record { waits = h.sealed; adds = adds_nothing y b.list b.calls } in
     record { state = h.state; waiting = h.waiting; keeps = h.keeps; sealed = (sealed_then x y a b w sealed last).waits }
 
-holds_more : (x y : List (List ℕ)) (list : FileChanges) (kept : Option (List ℕ)) → HoldsSealed x list kept → HoldsSealed (x ++ y) list kept
+holds_more : (x y : List Draw) (list : FileChanges) (kept : Option (List ℕ)) → HoldsSealed x list kept → HoldsSealed (x ++ y) list kept
 holds_more x y list kept h = record { state = h.state; waiting = h.waiting; keeps = h.keeps; sealed = λ id bytes is. sealed_first x y list id bytes (h.sealed id bytes is) }
 
-stays_then : (x y : List (List ℕ)) (a b : View) (first mid last : Option (List ℕ)) → AreSealed x a b → StaysOrSealed x a.list first mid → StaysOrSealed y b.list mid last → StaysOrSealed (x ++ y) a.list first last
+stays_then : (x y : List Draw) (a b : View) (first mid last : Option (List ℕ)) → AreSealed x a b → StaysOrSealed x a.list first mid → StaysOrSealed y b.list mid last → StaysOrSealed (x ++ y) a.list first last
 stays_then x y a b first mid last sealed (inl same) (inl next) = inl (next ∙ same)
 stays_then x y a b first mid last sealed (inr h) (inl next) = inr (subst (HoldsSealed (x ++ y) a.list) (sym next) (holds_more x y a.list mid h))
 stays_then x y a b first mid last sealed is (inr h) = inr (holds_then x y a b last sealed h)
 
 -- the same record with its mark
-holds_marked : (files : List (List ℕ)) (list : FileChanges) (last : List ℕ) → HoldsSealed files list (Some last) → HoldsSealed files list (Some (with_mark last))
-holds_marked files list last h =
+holds_marked : (drawn : List Draw) (list : FileChanges) (last : List ℕ) → HoldsSealed drawn list (Some last) → HoldsSealed drawn list (Some (with_mark last))
+holds_marked drawn list last h =
     let same : last ≡ h.keeps.bytes = let a = h.keeps.kept in cc in
     record {
       state = mark_set h.state;
@@ -57,45 +58,43 @@ holds_marked files list last h =
 
 module _ {V : Type 0} {K : Type 0} (trace : V → Option (List Call)) (faults : V → ℕ) (G : KeeperGhosts K) where
   abbrev view_at : Cached V → View
-  view_at c = record { list = (tower_durables trace).list c; calls = trace_in trace c }
+  view_at c = record { list = (tower_durables trace).list c; calls = trace_in trace c; known = (tower_holdings trace).used c }
 
   abbrev Body : Type 0
   Body = Core (Cached V) K
 
-  listed_sealed : (files : List (List ℕ)) (list : FileChanges) (short : Cached V) → (held_in short).list ≡ list → (with_list : Bool) (id bytes : List ℕ) → change_at (block id) (listed with_list (held_in short).list) ≡ Some (Some bytes)
-      → IsSealedFor files list id bytes
-  listed_sealed files list short same true id bytes is = inr (subst (λ (l : FileChanges). change_at (block id) l ≡ Some (Some bytes)) same is)
-  listed_sealed files list short same false id bytes is = absurd (cc)
+  listed_sealed : (drawn : List Draw) (list : FileChanges) (short : Cached V) → (held_in short).list ≡ list → (with_list : Bool) (id bytes : List ℕ) → change_at (block id) (listed with_list (held_in short).list) ≡ Some (Some bytes)
+      → IsSealedFor drawn list id bytes
+  listed_sealed drawn list short same true id bytes is = inr (subst (λ (l : FileChanges). change_at (block id) l ≡ Some (Some bytes)) same is)
+  listed_sealed drawn list short same false id bytes is = absurd (cc)
 
   -- a record of a store with this list, or what it was
-  stays_of : (files : List (List ℕ)) (list : FileChanges) (short : Cached V) (old new : Option (List ℕ)) → (held_in short).list ≡ list → IsSameOrRecord (tower_durables trace) short old new → StaysOrSealed files list old new
-  stays_of files list short old new same (inl is) = inl is
-  stays_of files list short old new same (inr (bytes, with_list, is, is_record)) = inr (record {
+  stays_of : (drawn : List Draw) (list : FileChanges) (short : Cached V) (old new : Option (List ℕ)) → (held_in short).list ≡ list → IsSameOrRecord (tower_durables trace) short old new → StaysOrSealed drawn list old new
+  stays_of drawn list short old new same (inl is) = inl is
+  stays_of drawn list short old new same (inr (bytes, with_list, is, is_record)) = inr (record {
     state = (held_in short).state;
     waiting = listed with_list (held_in short).list;
     keeps = record { bytes = bytes; kept = is; is_record = is_record };
-    sealed = listed_sealed files list short same with_list;
+    sealed = listed_sealed drawn list short same with_list;
   })
 
   -- ---- steps
 
   record SoFar (stream now : Stream) (a b : Body) : Type 0 where
-    fresh : SealsFresh stream now (view_at (store_of a)) (view_at (store_of b))
-    kept : StaysOrSealed fresh.files (view_at (store_of a)).list (G.kept a.saver.keeper) (G.kept b.saver.keeper)
-    last : StaysOrSealed fresh.files (view_at (store_of a)).list (Some a.saver.last.items) (Some b.saver.last.items)
+    seals : SealsKnown stream now (view_at (store_of a)) (view_at (store_of b))
+    kept : StaysOrSealed seals.fresh.drawn (view_at (store_of a)).list (G.kept a.saver.keeper) (G.kept b.saver.keeper)
+    last : StaysOrSealed seals.fresh.drawn (view_at (store_of a)).list (Some a.saver.last.items) (Some b.saver.last.items)
 
   so_far_then : (s t u : Stream) (a b c : Body) → SoFar s t a b → SoFar t u b c → SoFar s u a c
   so_far_then s t u a b c x y =
       let va = view_at (store_of a) in
       let vb = view_at (store_of b) in
+      let first = x.seals.fresh.drawn in
+      let later = y.seals.fresh.drawn in
       record {
-        fresh = record {
-          files = x.fresh.files ++ y.fresh.files;
-          vectors = vectors_then x.fresh.files y.fresh.files s t u x.fresh.vectors y.fresh.vectors;
-          sealed = sealed_then x.fresh.files y.fresh.files va vb (view_at (store_of c)) x.fresh.sealed y.fresh.sealed;
-        };
-        kept = stays_then x.fresh.files y.fresh.files va vb (G.kept a.saver.keeper) (G.kept b.saver.keeper) (G.kept c.saver.keeper) x.fresh.sealed x.kept y.kept;
-        last = stays_then x.fresh.files y.fresh.files va vb (Some a.saver.last.items) (Some b.saver.last.items) (Some c.saver.last.items) x.fresh.sealed x.last y.last;
+        seals = known_then s t u va vb (view_at (store_of c)) x.seals y.seals;
+        kept = stays_then first later va vb (G.kept a.saver.keeper) (G.kept b.saver.keeper) (G.kept c.saver.keeper) x.seals.fresh.sealed x.kept y.kept;
+        last = stays_then first later va vb (Some a.saver.last.items) (Some b.saver.last.items) (Some c.saver.last.items) x.seals.fresh.sealed x.last y.last;
       }
 
   rises : (c : Cached V) → (tower_meanings trace faults).intact c → IsIncreasing (held_in c).list
@@ -103,11 +102,11 @@ module _ {V : Type 0} {K : Type 0} (trace : V → Option (List Call)) (faults : 
 
   one_step : (a b : Body) (stream left : Stream) → (tower_meanings trace faults).intact (store_of a) → StepDraws (tower trace faults G) (tower_applied trace faults) (tower_drawn trace faults) a b stream left → SoFar stream left a b
   one_step a b stream left intact step =
-      let fresh = line_seals trace faults (store_of a) (store_of b) stream left (rises (store_of a) intact) step.line in
+      let seals = step_seals trace faults (store_of a) step.synced (store_of b) stream left (rises (store_of a) intact) step.wrote step.used step.once in
       record {
-        fresh = fresh;
-        kept = stays_of fresh.files (view_at (store_of a)).list (store_of a) (G.kept a.saver.keeper) (G.kept b.saver.keeper) refl step.keeps.kept;
-        last = stays_of fresh.files (view_at (store_of a)).list (store_of a) (Some a.saver.last.items) (Some b.saver.last.items) refl step.keeps.last;
+        seals = seals;
+        kept = stays_of seals.fresh.drawn (view_at (store_of a)).list (store_of a) (G.kept a.saver.keeper) (G.kept b.saver.keeper) refl step.keeps.kept;
+        last = stays_of seals.fresh.drawn (view_at (store_of a)).list (store_of a) (Some a.saver.last.items) (Some b.saver.last.items) refl step.keeps.last;
       }
 
   each_step : (mids : List (Reached (Cached V) K)) (a b : Body) (stream left : Stream) → (tower_meanings trace faults).intact (store_of a)
@@ -120,48 +119,53 @@ module _ {V : Type 0} {K : Type 0} (trace : V → Option (List Call)) (faults : 
   to_end a b stream left intact d =
       let ve = view_at (store_of d.end) in
       let vb = view_at (store_of b) in
-      let same : vb ≡ ve = λ i. record { list = d.set.list i; calls = d.set.trace i } in
-      let fresh = seals_none left left ve vb (later_same left) (subst (AreSealed [] ve) (sym same) (sealed_nothing ve)) in
+      let same : vb ≡ ve = λ i. record { list = d.set.list i; calls = d.set.trace i; known = d.set.stays.used i } in
+      let seals = known_none left left ve vb (later_same left) (subst (AreSealed [] ve) (sym same) (sealed_nothing ve)) (λ id has. subst (λ (v : View). has_id v.known id ≡ true) same has) in
       so_far_then stream left left a d.end b (each_step d.along.0 a d.end stream left intact d.along.1)
       (record {
-        fresh = fresh;
-        kept = stays_of fresh.files ve.list d.short (G.kept d.end.saver.keeper) (G.kept b.saver.keeper) d.set_short.list d.keeps.kept;
-        last = stays_of fresh.files ve.list d.short (Some d.end.saver.last.items) (Some b.saver.last.items) d.set_short.list d.keeps.last;
+        seals = seals;
+        kept = stays_of seals.fresh.drawn ve.list d.short (G.kept d.end.saver.keeper) (G.kept b.saver.keeper) d.set_short.list d.keeps.kept;
+        last = stays_of seals.fresh.drawn ve.list d.short (Some d.end.saver.last.items) (Some b.saver.last.items) d.set_short.list d.keeps.last;
       })
 
   -- ---- of a mount
 
-  marked_by : (files : List (List ℕ)) (list : FileChanges) (old was : List ℕ) (first kept : Option (List ℕ)) → kept ≡ Some (with_mark was) → StaysOrSealed files list (Some old) (Some was)
-      → (kept ≡ Some (with_mark old)) ⊎ StaysOrSealed files list first kept
-  marked_by files list old was first kept is (inl same) = inl (let e : was ≡ old = cc in is ∙ ap (λ x. Some (with_mark x)) e)
-  marked_by files list old was first kept is (inr h) = inr (inr (subst (HoldsSealed files list) (sym is) (holds_marked files list was h)))
+  marked_by : (drawn : List Draw) (list : FileChanges) (old was : List ℕ) (first kept : Option (List ℕ)) → kept ≡ Some (with_mark was) → StaysOrSealed drawn list (Some old) (Some was)
+      → (kept ≡ Some (with_mark old)) ⊎ StaysOrSealed drawn list first kept
+  marked_by drawn list old was first kept is (inl same) = inl (let e : was ≡ old = cc in is ∙ ap (λ x. Some (with_mark x)) e)
+  marked_by drawn list old was first kept is (inr h) = inr (inr (subst (HoldsSealed drawn list) (sym is) (holds_marked drawn list was h)))
 
   pub seals_anew : (old new : Mount V K) (answer : Answer) (stream left : Stream) → (tower_meanings trace faults).intact (store_of old.core)
       → DrawsMarked (tower trace faults G) (tower_applied trace faults) (tower_drawn trace faults) old.core answer new.core stream left → SealsAnew trace G stream left old answer new
   seals_anew old new answer stream left intact d =
       let x = to_end old.core d.before stream left intact d.anew in
+      let drawn = x.seals.fresh.drawn in
       let list = (view_at (store_of old.core)).list in
       let first = G.kept old.core.saver.keeper in
       let now = G.kept new.core.saver.keeper in
-      let was = G.kept d.before.saver.keeper in
-      let fresh : SealsFresh stream left (view_at (store_of old.core)) (view_at (store_of new.core)) =
+      let same : view_at (store_of d.before) ≡ view_at (store_of new.core) = ap view_at (sym d.same_store) in
+      let seals : SealsKnown stream left (view_at (store_of old.core)) (view_at (store_of new.core)) =
       record {
-        files = x.fresh.files;
-        vectors = x.fresh.vectors;
-        sealed = subst (λ c. AreSealed x.fresh.files (view_at (store_of old.core)) (view_at c)) (sym d.same_store) x.fresh.sealed;
+        fresh = record {
+          drawn = drawn;
+          draws = x.seals.fresh.draws;
+          sealed = subst (AreSealed drawn (view_at (store_of old.core))) same x.seals.fresh.sealed;
+          known = λ id has. x.seals.fresh.known id (subst (λ (v : View). has_id v.known id ≡ true) (sym same) has);
+        };
+        unnamed = x.seals.unnamed;
       } in
       record {
-        fresh = fresh;
-        kept = elim (is_violation answer) as (λ b. is_violation answer ≡ b → (now ≡ Some (with_mark old.core.saver.last.items)) ⊎ StaysOrSealed x.fresh.files list first now) [
-          | true ↦ λ e. elim (d.marks e) as (λ _. (now ≡ Some (with_mark old.core.saver.last.items)) ⊎ StaysOrSealed x.fresh.files list first now) [
-            | inl marked ↦ marked_by x.fresh.files list old.core.saver.last.items d.before.saver.last.items first now marked x.last
-            | inr same ↦ inr (subst (StaysOrSealed x.fresh.files list first) (sym same) x.kept)
+        seals = seals;
+        kept = elim (is_violation answer) as (λ b. is_violation answer ≡ b → (now ≡ Some (with_mark old.core.saver.last.items)) ⊎ StaysOrSealed drawn list first now) [
+          | true ↦ λ e. elim (d.marks e) as (λ _. (now ≡ Some (with_mark old.core.saver.last.items)) ⊎ StaysOrSealed drawn list first now) [
+            | inl marked ↦ marked_by drawn list old.core.saver.last.items d.before.saver.last.items first now marked x.last
+            | inr same_kept ↦ inr (subst (StaysOrSealed drawn list first) (sym same_kept) x.kept)
           ]
-          | false ↦ λ e. inr (subst (λ (s : Saver K). StaysOrSealed x.fresh.files list first (G.kept s.keeper)) (sym (d.calm e)) x.kept)
+          | false ↦ λ e. inr (subst (λ (s : Saver K). StaysOrSealed drawn list first (G.kept s.keeper)) (sym (d.calm e)) x.kept)
         ] refl;
-        last = λ e. subst (λ (s : Saver K). StaysOrSealed x.fresh.files list (Some old.core.saver.last.items) (Some s.last.items)) (sym (d.calm e)) x.last;
+        last = λ e. subst (λ (s : Saver K). StaysOrSealed drawn list (Some old.core.saver.last.items) (Some s.last.items)) (sym (d.calm e)) x.last;
       }
 
   -- nothing was done
   pub seals_unmoved : (mount : Mount V K) (answer : Answer) (stream : Stream) → SealsAnew trace G stream stream mount answer mount
-  seals_unmoved mount answer stream = record { fresh = seals_nothing stream (view_at (store_of mount.core)); kept = inr (inl refl); last = λ e. inl refl }
+  seals_unmoved mount answer stream = record { seals = known_nothing stream (view_at (store_of mount.core)); kept = inr (inl refl); last = λ e. inl refl }

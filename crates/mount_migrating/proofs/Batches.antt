@@ -7,9 +7,11 @@ use Rattle.std.specs.declared.option.Option.{Option}
 use Rattle.std.specs.declared.option.Option.TheVariants.{None, Some}
 use Rattle.std.proofs.lemmas.Option.{same_Some, none-some}
 use Rattle.data_tree.proofs.Ids.{same_self}
+use Rattle.mount_core.specs.Drawing.{NamesKnown}
+use Rattle.outcome.specs.Meanings.{Meanings}
 use Rattle.store_api.proofs.Rising.{ids_total, same_id_is}
 use Rattle.store_api.specs.Content.{Id, Content, SameContent, Changes, id_cmp, same_id, or_else, over}
-use Rattle.store_api.specs.Holdings.{Holdings, FitsStore, MayGet, has_id, gives_payload}
+use Rattle.store_api.specs.Holdings.{Holdings, Steady, FitsStore, MayGet, has_id, gives_payload}
 
 -- this payload for this id
 abbrev pub one : Id → List ℕ → Changes
@@ -36,6 +38,14 @@ one_fits H s id payload live sized = record {
   gets = λ other bytes e. subst (MayGet H s) (sym (one_says id other payload (Some bytes) e).0) (inl live);
   removes = λ other e. absurd (none-some payload (one_says id other payload None e).1);
 }
+
+-- its id is used then
+pub one_known : {S : Type 0} (M : Meanings S) (H : Holdings S) → Steady M H → (s : S) (id : Id) (payload : List ℕ) → M.intact s → is_some (H.content s id) ≡ true → NamesKnown H s (one id payload)
+one_known M H steady s id payload intact live other some = by (same_id other id) refl
+  where
+    by : (b : Bool) → same_id other id ≡ b → has_id (H.used s) other ≡ true
+    by true e = subst (λ x. has_id (H.used s) x ≡ true) (sym (same_id_is other id e)) (steady.content_used s id intact live)
+    by false e = let bad : false ≡ true = sym (ap is_some (one_other id other payload e)) ∙ some in absurd (cc)
 
 -- it leaves a content that holds the payload
 pub one_leaves : (id : Id) (payload : List ℕ) (content : Content) → content id ≡ Some payload → SameContent content (over (one id payload) content)

@@ -109,6 +109,7 @@ module _ {S : Type 0} {K : Type 0} (shows : Showing) (M : Meanings S) (H : Holdi
       both = record {
         proceeds = proceeds_then shows M H D R G mid kept_core new r.proceeds s.proceeds;
         reason = reason_after shows M H D R G mid kept_core new [] [] (told result) r.proceeds s.proceeds (r.reason.vault_quiet refl) (r.reason.keeper_quiet refl) (spent_none (store_of mid) (store_of kept_core) []) s.reason;
+        used = s.used ∙ r.used;
         versions = λ id. s.versions id ∙ r.versions id;
         stays_new = on_ok result (λ stays id n. stays id (r.stays_new id n)) s.stays_new;
       }

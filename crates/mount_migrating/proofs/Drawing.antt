@@ -16,7 +16,7 @@ use Rattle.store_api.specs.Holdings.{Holdings}
 use Rattle.store_api.proofs.Draws.{later_same}
 use Rattle.mount_core.specs.declared.body.Core.{Core}
 use Rattle.mount_core.specs.Answering.{store_of}
-use Rattle.mount_core.specs.Drawing.{DrawsOnce}
+use Rattle.mount_core.specs.Drawing.{DrawsOnce, NamesKnown}
 use Rattle.mount_core.specs.Keeping.{IsSameOrRecord, SyncKeeps}
 use Rattle.mount_core.proofs.Moving.{stays_same}
 use Rattle.mount_migrating.specs.Drawing.{DrawsAlong, DrawsAnew, DrawsSteps, Reached, StepDraws}
@@ -62,22 +62,24 @@ module _ {S : Type 0} {K : Type 0} (M : Meanings S) (H : Holdings S) (D : Durabl
   draws_then a b c stream between left (mids, first) intact (others, next) = (mids ++ record { core = b; left = between } ∷ others, joined mids others a b c stream between left first intact next)
 
   -- a sync first, or nothing, and then a batch at most
-  pub step_once : (a mid b : Core S K) (stream left : Stream) → (store_of mid ≡ store_of a) ⊎ Wrote D (store_of a) (store_of mid) → SyncKeeps D G (store_of a) a.saver mid.saver
-      → DrawsOnce M applied drawn (store_of mid) (store_of b) stream left → b.saver.keeper ≡ mid.saver.keeper → b.saver.last ≡ mid.saver.last → StepDraws (world M H D R G) applied drawn a b stream left
-  step_once a mid b stream left wrote keeps once keeper last =
-      record { line = record { synced = store_of mid; wrote = wrote; once = once }; keeps = keeps_on D G (store_of a) a.saver mid.saver b.saver keeps keeper last }
+  pub step_once : (a mid b : Core S K) (stream left : Stream) → (store_of mid ≡ store_of a) ⊎ Wrote D (store_of a) (store_of mid) → H.used (store_of mid) ≡ H.used (store_of a) → SyncKeeps D G (store_of a) a.saver mid.saver
+      → DrawsOnce M (NamesKnown H) applied drawn (store_of mid) (store_of b) stream left → b.saver.keeper ≡ mid.saver.keeper → b.saver.last ≡ mid.saver.last → StepDraws (world M H D R G) applied drawn a b stream left
+  step_once a mid b stream left wrote used keeps once keeper last =
+      record { synced = store_of mid; wrote = wrote; used = used; once = once; keeps = keeps_on D G (store_of a) a.saver mid.saver b.saver keeps keeper last }
 
   module _ (lawful : Lawful M) where
-    pub step_synced : (a b : Core S K) (stream : Stream) → (store_of b ≡ store_of a) ⊎ Wrote D (store_of a) (store_of b) → SyncKeeps D G (store_of a) a.saver b.saver → StepDraws (world M H D R G) applied drawn a b stream stream
-    step_synced a b stream wrote keeps = step_once a b b stream stream wrote keeps (inl (lawful.same (store_of b), later_same stream)) refl refl
+    pub step_synced : (a b : Core S K) (stream : Stream) → (store_of b ≡ store_of a) ⊎ Wrote D (store_of a) (store_of b) → H.used (store_of b) ≡ H.used (store_of a) → SyncKeeps D G (store_of a) a.saver b.saver
+        → StepDraws (world M H D R G) applied drawn a b stream stream
+    step_synced a b stream wrote used keeps = step_once a b b stream stream wrote used keeps (inl (lawful.same (store_of b), later_same stream)) refl refl
 
     -- nothing was done
     pub draws_same : (a : Core S K) (stream : Stream) → Along a a stream stream
-    draws_same a stream = ([], step_synced a a stream (inl refl) (keeps_same D G (store_of a) a.saver a.saver refl refl))
+    draws_same a stream = ([], step_synced a a stream (inl refl) refl (keeps_same D G (store_of a) a.saver a.saver refl refl))
 
     -- a sync came behind
-    pub draws_synced : (a b c : Core S K) (stream left : Stream) → Along a b stream left → M.intact (store_of b) → (store_of c ≡ store_of b) ⊎ Wrote D (store_of b) (store_of c) → SyncKeeps D G (store_of b) b.saver c.saver → Along a c stream left
-    draws_synced a b c stream left along intact wrote keeps = draws_then a b c stream left left along intact ([], step_synced b c left wrote keeps)
+    pub draws_synced : (a b c : Core S K) (stream left : Stream) → Along a b stream left → M.intact (store_of b) → (store_of c ≡ store_of b) ⊎ Wrote D (store_of b) (store_of c) → H.used (store_of c) ≡ H.used (store_of b)
+        → SyncKeeps D G (store_of b) b.saver c.saver → Along a c stream left
+    draws_synced a b c stream left along intact wrote used keeps = draws_then a b c stream left left along intact ([], step_synced b c left wrote used keeps)
 
   -- ---- to the end
 

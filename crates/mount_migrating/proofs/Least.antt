@@ -120,6 +120,7 @@ module _ {S : Type 0} {K : Type 0} (shows : Showing) (M : Meanings S) (H : Holdi
           (λ k now s. inr (short_stands old new (store_of new) k now u none refl refl (stays_none (store_of new)) (u.sound s.sound) er (kept ∙ ap Some last) s))
           kept_configures;
       reason = done_reason shows M H D R G old new [] u.faults quiet;
+      used = u.stays.used;
       versions = u.stays.version;
       stays_new = λ id n. new_same M H applied D R endures (store_of old) (store_of new) id u.list u.trace n;
     }
@@ -183,7 +184,7 @@ module _ {S : Type 0} {K : Type 0} (shows : Showing) (M : Meanings S) (H : Holdi
     lost_proceeds = set_proceeds old new lost_sets er ev lost_stands lost_configures
 
     lost_rests : (e : SyncError) → HasReason shows (world M H D R G) old [] (told {T = Unit} (Err (error_of_sync e))) new → Rests shows (world M H D R G) old (Err (error_of_sync e)) new
-    lost_rests e reason = record { proceeds = lost_proceeds; reason = reason; versions = both.version; stays_new = tt }
+    lost_rests e reason = record { proceeds = lost_proceeds; reason = reason; used = both.used; versions = both.version; stays_new = tt }
 
   -- why the save failed
   save_reason : (old new : Core S K) (e : SyncError) → (IsErrOf {T = Unit} (Err e) sync_error.FaultDirectory → ⊥) → M.faults (store_of new) ≡ M.faults (store_of old) → G.faults old.saver.keeper ≤ G.faults new.saver.keeper

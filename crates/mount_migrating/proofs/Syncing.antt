@@ -98,6 +98,7 @@ module _ {S : Type 0} {K : Type 0} (shows : Showing) (M : Meanings S) (H : Holdi
   done_rests applied endures intact m z = record {
     proceeds = synced_proceeds (Ok tt) m z;
     reason = done_reason [] m.leaves.vault_quiet m.leaves.keeper_quiet;
+    used = m.leaves.stays.used;
     versions = m.leaves.stays.version;
     stays_new = λ id n. new_synced M H applied D R endures (store_of old) (store_of new) id intact z.wrote (m.ready.whole.none z.ok) n;
   }
@@ -107,6 +108,7 @@ module _ {S : Type 0} {K : Type 0} (shows : Showing) (M : Meanings S) (H : Holdi
   stopped_rests e m z = record {
     proceeds = synced_proceeds (Err e) m z;
     reason = stopped_reason [] e m.leaves;
+    used = m.leaves.stays.used;
     versions = m.leaves.stays.version;
     stays_new = tt;
   }

@@ -4,12 +4,12 @@ use Rattle.std.specs.declared.option.Option.TheVariants.{Some}
 use Rattle.answers.specs.Sessions.{is_violation}
 use Rattle.answers.specs.declared.answer.Answer.{Answer}
 use Rattle.rand_core.specs.Stream.{Stream}
-use Rattle.session_saver.specs.Saving.{World}
+use Rattle.session_saver.specs.Saving.{World, Wrote}
 use Rattle.store_api.specs.Content.{Changes}
 use Rattle.store_api.specs.Durables.{with_mark}
 use Rattle.mount_core.specs.declared.body.Core.{Core}
 use Rattle.mount_core.specs.Answering.{store_of}
-use Rattle.mount_core.specs.Drawing.{LineDraws}
+use Rattle.mount_core.specs.Drawing.{DrawsOnce, NamesKnown}
 use Rattle.mount_core.specs.Keeping.{SyncKeeps}
 use Rattle.mount_migrating.specs.Noticing.{OnlySet}
 
@@ -18,9 +18,13 @@ pub record Reached (S K : Type 0) : Type 0 where
   pub core : Core S K
   pub left : Stream
 
--- A sync may have come first, and then one batch was applied at most. What is kept afterwards, and the last record, is what it was, or a record of the store as it was before.
+-- A sync may have come first, which used no new id, and then one batch was applied at most, which has none either. What is kept afterwards, and the last record, is what it
+-- was, or a record of the store as it was before.
 pub record StepDraws {S : Type 0} {K : Type 0} (W : World S K) (applied : S → S → Changes → Type 0) (drawn : S → S → Changes → Stream → Stream → Type 0) (a b : Core S K) (stream left : Stream) : Type 0 where
-  pub line : LineDraws W.meanings W.durables applied drawn (store_of a) (store_of b) stream left
+  pub synced : S
+  pub wrote : (synced ≡ store_of a) ⊎ Wrote W.durables (store_of a) synced
+  pub used : W.holdings.used synced ≡ W.holdings.used (store_of a)
+  pub once : DrawsOnce W.meanings (NamesKnown W.holdings) applied drawn synced (store_of b) stream left
   pub keeps : SyncKeeps W.durables W.keeper (store_of a) a.saver b.saver
 
 -- Such steps follow one another, and these sessions stand between them: what one leaves of the stream, the next takes.

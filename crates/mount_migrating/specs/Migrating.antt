@@ -121,10 +121,11 @@ pub record HasReason {S : Type 0} {K : Type 0} (shows : Showing) (W : World S K)
   pub found : OnFound answer (IsFoundSince W.meanings W.durables (store_of old) (store_of new))
   pub spent : OnSpent answer (IsSpentAmong W.holdings (store_of old) ids)
 
--- a sync, or none: what was new stays so
+-- a sync, or none: what was new stays so, and no new id is used
 pub record Rests {S : Type 0} {K : Type 0} (shows : Showing) (W : World S K) (old : Core S K) (result : Result Unit MigrateError) (new : Core S K) : Type 0 where
   pub proceeds : Proceeds shows W old new
   pub reason : HasReason shows W old [] (told result) new
+  pub used : W.holdings.used (store_of new) ≡ W.holdings.used (store_of old)
   pub versions : (id : Id) → W.holdings.version (store_of new) id ≡ W.holdings.version (store_of old) id
   pub stays_new : OnOk result ((id : Id) → IsNewFile W.durables (store_of old) id → IsNewFile W.durables (store_of new) id)
 

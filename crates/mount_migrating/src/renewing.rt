@@ -5,7 +5,7 @@ ghost use Rattle.data_tree.specs.Trees.{NoDoubles};
 ghost use Rattle.session_saver.specs.Saving.{world, Wrote};
 ghost use Rattle.store_api.specs.Lists.{waiting_bytes};
 ghost use Rattle.tree_commands.specs.Showing.{ShowsFiles};
-ghost use Rattle.mount_core.specs.Drawing.{DrawsOnce};
+ghost use Rattle.mount_core.specs.Drawing.{DrawsOnce, NamesKnown};
 ghost use Rattle.mount_core.specs.Keeping.{SyncKeeps};
 ghost use Rattle.mount_core.specs.Standing.{CoreStands, Ready};
 ghost use Rattle.mount_migrating.specs.Drawing.{DrawsAlong, StepDraws};
@@ -81,7 +81,7 @@ fn renew<S: Durable, K: Keeper, R: Rng>(
     ensures renews { Renews ShowsFiles (world S.meanings S.holdings S.durables S.records K.Keeper)
         core.old (id.now.0 ∷ []) result core.new }
     ensures noticed { NoticedAlong S.meanings S.holdings S.durables S.applied core.old.blobs.tx.store (told result) core.new.blobs.tx.store }
-    ensures draws { DrawsOnce S.meanings S.applied S.drawn core.old.blobs.tx.store core.new.blobs.tx.store
+    ensures draws { DrawsOnce S.meanings (NamesKnown S.holdings) S.applied S.drawn core.old.blobs.tx.store core.new.blobs.tx.store
         (R.stream chance.old) (R.stream chance.new) }
     ensures keeper { core.new.saver.keeper ≡ core.old.saver.keeper }
     ensures last { core.new.saver.last ≡ core.old.saver.last }

@@ -2,7 +2,7 @@ use Rattle.std.proofs.Common.{refl, ◌∙◌}
 use Rattle.integrity_store.specs.WaitingLaws.{in_order}
 use Rattle.mount.proofs.Same.{same_mount}
 use Rattle.mount.proofs.Sealing.{wrote_sealed}
-use Rattle.mount_tower.specs.Tower.{tower_durables}
+use Rattle.mount_tower.specs.Tower.{tower_holdings, tower_durables}
 use Rattle.mount_tower.proofs.Emptied.{emptied_on}
 use Rattle.mount_calls.proofs.serving.sync.Goals as goal
 
@@ -27,7 +27,7 @@ returns g c =
         emptied = emptied_on g.V.Vault.trace core.blobs.tx.store (g.K.Keeper.kept core.saver.keeper) c.sync.result z.emptied;
         ok = z.ok;
         keeps = z.keeps;
-        sealed = wrote_sealed (tower_durables g.V.Vault.trace) mount.core.blobs.tx.store core.blobs.tx.store (in_order _ _ r.core.intact.0.0.has_record) z.wrote;
+        sealed = wrote_sealed (tower_durables g.V.Vault.trace) (tower_holdings g.V.Vault.trace).used mount.core.blobs.tx.store core.blobs.tx.store (in_order _ _ r.core.intact.0.0.has_record) z.wrote;
         unmoved = λ unchanged. let u = z.unmoved unchanged in (u.0, same_mount mount (record mount { core = core }) refl u.1);
       };
     }

@@ -70,7 +70,7 @@ returns-in-Err-keep_present-clause-draws g c =
     let new = c.keep_present.new.core in
     let r = c.in-Err-keep_present.ensures in
     draws_ended g.S.Blocks.meanings g.S.Blocks.holdings g.S.Durable.durables g.S.Durable.records g.K.Keeper g.S.BlocksMut.applied g.S.BlocksMut.drawn old new _ _
-    (draws_synced g.S.Blocks.meanings g.S.Blocks.holdings g.S.Durable.durables g.S.Durable.records g.K.Keeper g.S.BlocksMut.applied g.S.BlocksMut.drawn g.met.S.Blocks.lawful old c.renew_all.new.core new _ _ c.in-Ok.ensures.draws c.in-Ok.ensures.ready.intact r.wrote r.keeps)
+    (draws_synced g.S.Blocks.meanings g.S.Blocks.holdings g.S.Durable.durables g.S.Durable.records g.K.Keeper g.S.BlocksMut.applied g.S.BlocksMut.drawn g.met.S.Blocks.lawful old c.renew_all.new.core new _ _ c.in-Ok.ensures.draws c.in-Ok.ensures.ready.intact r.wrote r.rests.used r.keeps)
 
 pub returns-in-Ok-keep_present-clause-draws : goal.returns-in-Ok-keep_present-clause-draws
 returns-in-Ok-keep_present-clause-draws g c =
@@ -79,7 +79,7 @@ returns-in-Ok-keep_present-clause-draws g c =
     let s = c.raise_least.ensures in
     record {
       end = end;
-      along = draws_synced g.S.Blocks.meanings g.S.Blocks.holdings g.S.Durable.durables g.S.Durable.records g.K.Keeper g.S.BlocksMut.applied g.S.BlocksMut.drawn g.met.S.Blocks.lawful c.args.core.now c.renew_all.new.core end _ _ c.in-Ok.ensures.draws c.in-Ok.ensures.ready.intact r.wrote r.keeps;
+      along = draws_synced g.S.Blocks.meanings g.S.Blocks.holdings g.S.Durable.durables g.S.Durable.records g.K.Keeper g.S.BlocksMut.applied g.S.BlocksMut.drawn g.met.S.Blocks.lawful c.args.core.now c.renew_all.new.core end _ _ c.in-Ok.ensures.draws c.in-Ok.ensures.ready.intact r.wrote r.rests.used r.keeps;
       set = s.set;
       short = s.keeps.0;
       set_short = s.keeps.1;

@@ -27,9 +27,9 @@ returns-in-Ok-clause-draws g c =
     let r = c.in-Ok.ensures in
     let w = c.renew.ensures in
     step_once g.S.Blocks.meanings g.S.Blocks.holdings g.S.Durable.durables g.S.Durable.records g.K.Keeper g.S.BlocksMut.applied g.S.BlocksMut.drawn c.args.core.now c.make_room.new.core c.renew.new.core _ _
-    r.wrote r.keeps w.draws w.keeper w.last
+    r.wrote r.rests.used r.keeps w.draws w.keeper w.last
 
 pub returns-in-Err-clause-draws : goal.returns-in-Err-clause-draws
 returns-in-Err-clause-draws g c =
     let r = c.in-Err.ensures in
-    step_synced g.S.Blocks.meanings g.S.Blocks.holdings g.S.Durable.durables g.S.Durable.records g.K.Keeper g.S.BlocksMut.applied g.S.BlocksMut.drawn g.met.S.Blocks.lawful c.args.core.now c.make_room.new.core (g.R.Rng.stream c.args.chance.now) r.wrote r.keeps
+    step_synced g.S.Blocks.meanings g.S.Blocks.holdings g.S.Durable.durables g.S.Durable.records g.K.Keeper g.S.BlocksMut.applied g.S.BlocksMut.drawn g.met.S.Blocks.lawful c.args.core.now c.make_room.new.core (g.R.Rng.stream c.args.chance.now) r.wrote r.rests.used r.keeps
