@@ -1,45 +1,53 @@
 -- What a run of `migrate` draws for the files that it seals.
-use Rattle.std.proofs.Common.{◌≡◌, ◌++◌, ℕ, false, List, sym, ◌∙◌, subst, inl, inr}
+use Rattle.std.proofs.Common.{◌≡◌, ◌++◌, ℕ, false, List, [], sym, ◌∙◌, subst, inl, inr}
 use Rattle.std.specs.declared.option.Option.{Option}
 use Rattle.std.specs.declared.option.Option.TheVariants.{Some}
 use Rattle.answers.specs.declared.answer.Answer.{Answer}
 use Rattle.answers.specs.Sessions.{is_violation}
 use Rattle.mount.specs.declared.mount.Mount.{Mount}
 use Rattle.mount.specs.Answering.{kept_of}
-use Rattle.mount.specs.Sealing.{View, AreSealed, view_of}
-use Rattle.mount.specs.SealingLaws.{adds_nothing, sealed_then, vectors_then}
+use Rattle.mount.specs.Sealing.{Draw, View, AreSealed, view_of}
+use Rattle.mount.specs.SealingLaws.{adds_nothing, sealed_then, seals_then, vectors_then}
 use Rattle.mount_calls.specs.Sealing.{HoldsSealed, StaysOrSealed, SealsAnew}
 use Rattle.outside.specs.Trace.{Call}
 use Rattle.outside.specs.declared.keeper.Keeper.{Ghosts as KeeperGhosts}
 use Rattle.rand_core.specs.Stream.{Stream}
-use Rattle.session_runs.proofs.Drawing.{KeepsSealed, SealedSoFar, keeps_marked, keeps_more}
+use Rattle.session_runs.proofs.Drawing.{KeepsSealed, KnownSoFar, SealedSoFar, keeps_marked, keeps_more}
 use Rattle.store_api.specs.Durables.{with_mark}
 
 -- a record of a later step, by what waited at first
-held_then : (x y : List (List ℕ)) (a b : View) (kept : Option (List ℕ)) → AreSealed x a b → HoldsSealed y b.list kept → KeepsSealed (x ++ y) a.list kept
+held_then : (x y : List Draw) (a b : View) (kept : Option (List ℕ)) → AreSealed x a b → HoldsSealed y b.list kept → KeepsSealed (x ++ y) a.list kept
 held_then x y a b kept sealed h =
-    let w : View = record { list = h.waiting; calls = b.calls } in
+    let w : View = record { list = h.waiting; calls = b.calls; known = [] } in
     let last : AreSealed y b w = record { waits = h.sealed; adds = adds_nothing y b.list b.calls } in
     record { state = h.state; waiting = h.waiting; keeps = h.keeps; sealed = (sealed_then x y a b w sealed last).waits }
 
-kept_then : (x y : List (List ℕ)) (a b : View) (was kept : Option (List ℕ)) → AreSealed x a b → KeepsSealed x a.list was → StaysOrSealed y b.list was kept → KeepsSealed (x ++ y) a.list kept
+kept_then : (x y : List Draw) (a b : View) (was kept : Option (List ℕ)) → AreSealed x a b → KeepsSealed x a.list was → StaysOrSealed y b.list was kept → KeepsSealed (x ++ y) a.list kept
 kept_then x y a b was kept sealed k (inl same) = subst (KeepsSealed (x ++ y) a.list) (sym same) (keeps_more x y a.list was k)
 kept_then x y a b was kept sealed k (inr h) = held_then x y a b kept sealed h
 
 -- blocks were written anew
-pub sealed_anew : {V : Type 0} {K : Type 0} (trace : V → Option (List Call)) (G : KeeperGhosts K) (first : Stream) (start : View) (now after : Stream) (old new : Mount V K) (answer : Answer) → old.core.violated ≡ false → new.core.violated ≡ is_violation answer
-    → SealsAnew trace G now after old answer new → SealedSoFar trace G first start now old → SealedSoFar trace G first start after new
+sealed_anew : {V : Type 0} {K : Type 0} (trace : V → Option (List Call)) (G : KeeperGhosts K) (first : Stream) (start : View) (now after : Stream) (old new : Mount V K) (answer : Answer) → old.core.violated ≡ false
+    → new.core.violated ≡ is_violation answer → SealsAnew trace G now after old answer new → SealedSoFar trace G first start now old → SealedSoFar trace G first start after new
 sealed_anew trace G first start now after old new answer fresh violated s x =
-    let x_files = x.files in
-    let y_files = s.fresh.files in
+    let before = x.fresh.drawn in
+    let later = s.seals.fresh.drawn in
     let last = x.last fresh in
     record {
-      files = x_files ++ y_files;
-      vectors = vectors_then x_files y_files first now after x.vectors s.fresh.vectors;
-      sealed = sealed_then x_files y_files start (view_of trace old) (view_of trace new) x.sealed s.fresh.sealed;
-      kept = elim s.kept as (λ _. KeepsSealed (x_files ++ y_files) start.list (kept_of G new)) [
-        | inl marked ↦ subst (KeepsSealed (x_files ++ y_files) start.list) (sym marked) (keeps_more x_files y_files start.list (Some (with_mark old.core.saver.last.items)) (keeps_marked x_files start.list old.core.saver.last.items last))
-        | inr stays ↦ kept_then x_files y_files start (view_of trace old) (kept_of G old) (kept_of G new) x.sealed x.kept stays
+      fresh = seals_then first now after start (view_of trace old) (view_of trace new) x.fresh s.seals.fresh;
+      kept = elim s.kept as (λ _. KeepsSealed (before ++ later) start.list (kept_of G new)) [
+        | inl marked ↦ subst (KeepsSealed (before ++ later) start.list) (sym marked)
+            (keeps_more before later start.list (Some (with_mark old.core.saver.last.items)) (keeps_marked before start.list old.core.saver.last.items last))
+        | inr stays ↦ kept_then before later start (view_of trace old) (kept_of G old) (kept_of G new) x.fresh.sealed x.kept stays
       ];
-      last = λ v. kept_then x_files y_files start (view_of trace old) (Some old.core.saver.last.items) (Some new.core.saver.last.items) x.sealed last (s.last (sym violated ∙ v));
+      last = λ v. kept_then before later start (view_of trace old) (Some old.core.saver.last.items) (Some new.core.saver.last.items) x.fresh.sealed last (s.last (sym violated ∙ v));
     }
+
+-- no seed was drawn
+pub known_anew : {V : Type 0} {K : Type 0} (trace : V → Option (List Call)) (G : KeeperGhosts K) (first : Stream) (start : View) (now after : Stream) (old new : Mount V K) (answer : Answer) → old.core.violated ≡ false
+    → new.core.violated ≡ is_violation answer → SealsAnew trace G now after old answer new → KnownSoFar trace G first start now old → KnownSoFar trace G first start after new
+unfolding sealed_anew
+known_anew trace G first start now after old new answer fresh violated s x = record {
+  far = sealed_anew trace G first start now after old new answer fresh violated s x.far;
+  unnamed = vectors_then x.far.fresh.drawn s.seals.fresh.drawn x.unnamed s.seals.unnamed;
+}

@@ -1,7 +1,7 @@
 // `migrate`: writes the blocks of a file system anew in the newest format.
 ghost use Rattle.std.specs.Prelude.{◌≡◌, ◌≤◌, [], vec_capacity};
 ghost use Rattle.line_io.specs.Streams.{stream_of};
-ghost use Rattle.session_runs.specs.Drawing.{DrawsVectors};
+ghost use Rattle.session_runs.specs.Drawing.{DrawsNoNames};
 ghost use Rattle.session_runs.specs.Runs.{outside_of};
 ghost use Rattle.cryfs_setup.specs.Migrate.{RanMigrate, MigratedUnder};
 
@@ -25,7 +25,7 @@ pub fn run_migrate<I: Source, O: Sink, V: Vault, K: Keeper, R: Rng>(
     chance: &mut R,
 ) -> Ended<V, K>
     ensures migrated { RanMigrate V.trace V.faults K.Keeper (stream_of I.rest I.faults input.old input.new) (stream_of O.written O.faults output.old output.new) vault keeper result }
-    ensures drawn { DrawsVectors (R.stream chance.old) (R.stream chance.new)
+    ensures drawn { DrawsNoNames (R.stream chance.old) (R.stream chance.new)
         (outside_of V.trace V.faults K.Keeper vault keeper) (outside_of V.trace V.faults K.Keeper result.vault result.keeper) }
     ensures input_grows { I.faults input.old ≤ I.faults input.new }
     ensures output_grows { O.faults output.old ≤ O.faults output.new }
@@ -64,7 +64,7 @@ fn migrate_under<O: Sink, V: Vault, K: Keeper, R: Rng>(
     requires room { 256 ≤ vec_capacity text }
     requires empty { text.items ≡ [] }
     ensures migrated { MigratedUnder V.trace V.faults K.Keeper password.now (stream_of O.written O.faults output.old output.new) vault keeper result }
-    ensures drawn { DrawsVectors (R.stream chance.old) (R.stream chance.new)
+    ensures drawn { DrawsNoNames (R.stream chance.old) (R.stream chance.new)
         (outside_of V.trace V.faults K.Keeper vault keeper) (outside_of V.trace V.faults K.Keeper result.vault result.keeper) }
     ensures output_grows { O.faults output.old ≤ O.faults output.new }
 {

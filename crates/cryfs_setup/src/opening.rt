@@ -6,7 +6,7 @@ ghost use Rattle.mount.specs.Sealing.{OpensSealed, view_of};
 ghost use Rattle.mount_tower.specs.declared.error.OpenError.{OpenError};
 ghost use Rattle.mount_core.specs.Standing.{IsKeptMarked};
 ghost use Rattle.rand_core.specs.Stream.{Stream};
-ghost use Rattle.session_runs.specs.Drawing.{DrawsVectors};
+ghost use Rattle.session_runs.specs.Drawing.{DrawsNoNames};
 ghost use Rattle.session_runs.specs.Runs.{outside_of};
 ghost use Rattle.run_status.specs.Statuses.{first_of};
 ghost use Rattle.session_runs.specs.Turns.{Begun, Closing};
@@ -36,7 +36,7 @@ pub fn open<V: Vault, K: Keeper>(
     ensures unmarked { IfOk result (λ mount. ¬ IsKeptMarked records (K.kept keeper)) }
     ensures unopened { IfErr result (λ ended. (error : OpenError) × IsUnopened V.trace V.faults K.Keeper password.now vault keeper ended error) }
     ensures undrawn { IfErr result (λ ended. (stream : Stream)
-        → DrawsVectors stream stream (outside_of V.trace V.faults K.Keeper vault keeper) (outside_of V.trace V.faults K.Keeper ended.vault ended.keeper)) }
+        → DrawsNoNames stream stream (outside_of V.trace V.faults K.Keeper vault keeper) (outside_of V.trace V.faults K.Keeper ended.vault ended.keeper)) }
     ensures causes { IfErr result (λ ended. HasCauses (outside_of V.trace V.faults K.Keeper vault keeper) (outside_of V.trace V.faults K.Keeper ended.vault ended.keeper) ended.status) }
 {
     match attach(alloc, vault, keeper, password) {

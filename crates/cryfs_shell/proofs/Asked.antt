@@ -8,14 +8,14 @@ use Rattle.mount_core.specs.Standing.{IsKeptMarked}
 use Rattle.outside.specs.Trace.{Call}
 use Rattle.outside.specs.declared.keeper.Keeper.{Ghosts as KeeperGhosts}
 use Rattle.run_status.specs.declared.ended.Ended.{Ended}
-use Rattle.session_runs.specs.Drawing.{DrawsVectors}
+use Rattle.session_runs.specs.Drawing.{DrawsAs}
 use Rattle.session_runs.specs.Runs.{outside_of}
 use Rattle.shell_words.specs.declared.form.Form.{Form}
 use Rattle.shell_words.specs.Forms.{form_of}
 use Rattle.cryfs_shell.specs.Clauses.{IsRefusedRun, NoFalseAlarm, KeepsTree, FaultsNamed, TellsFaults, StatusSays, Spares}
 use Rattle.cryfs_shell.specs.Doing.{Did, IsCaused}
 use Rattle.cryfs_shell.specs.History.{HasHistory}
-use Rattle.cryfs_shell.specs.Kinds.{is_session, opens, draws, copies, seals}
+use Rattle.cryfs_shell.specs.Kinds.{is_session, is_migration, opens, draws, copies, seals}
 use Rattle.cryfs_shell.specs.Streams.{Streams}
 use Rattle.cryfs_shell.proofs.Doing.{the_form, doing_faults, doing_refusal, doing_alarm, doing_keeps, doing_emptied, doing_uncalled, doing_usage, doing_host}
 use Rattle.cryfs_shell.proofs.Histories.{other_form, doing_history}
@@ -56,9 +56,13 @@ module _ {V : Type 0} {K : Type 0} (trace : V → Option (List Call)) (faults : 
   }
 
   pub asked_spares : {F : Type 0} (old new : F) → (copies (Some form) ≡ false → new ≡ old) → (draws (Some form) ≡ false → s.left ≡ s.chance)
-      → (seals (Some form) ≡ true → DrawsVectors s.chance s.left (outside_of trace faults G vault keeper) (outside_of trace faults G ended.vault ended.keeper))
+      → (seals (Some form) ≡ true → DrawsAs (is_migration (Some form)) s.chance s.left (outside_of trace faults G vault keeper) (outside_of trace faults G ended.vault ended.keeper))
       → Spares (form_of words) s (outside_of trace faults G vault keeper) (outside_of trace faults G ended.vault ended.keeper) old new
-  asked_spares old new unhosted undrawn drawn = record { unhosted = λ e. unhosted (ap copies is ∙ e); undrawn = λ e. undrawn (ap draws is ∙ e); drawn = λ e. drawn (ap seals is ∙ e) }
+  asked_spares old new unhosted undrawn drawn = record {
+    unhosted = λ e. unhosted (ap copies is ∙ e);
+    undrawn = λ e. undrawn (ap draws is ∙ e);
+    drawn = λ e. subst (λ (asked : Option Form). DrawsAs (is_migration asked) s.chance s.left (outside_of trace faults G vault keeper) (outside_of trace faults G ended.vault ended.keeper)) is (drawn (ap seals is ∙ e));
+  }
 
   pub asked_history : HasHistory words now s (outside_of trace faults G vault keeper) (outside_of trace faults G ended.vault ended.keeper) ended.status
   asked_history other e uncreated =

@@ -18,12 +18,12 @@ use Rattle.run_status.specs.declared.status.Status.{Status}
 use Rattle.run_status.specs.declared.status.Status.TheVariants.{Done, Usage, LongPassword, Violation, DirectoryFault, StateFault, InputFault, OutputFault, Memory, HostFault}
 use Rattle.session_lines.specs.Driven.{IsUnfailed}
 use Rattle.session_runs.specs.Openings.{AreUncalled}
-use Rattle.session_runs.specs.Drawing.{DrawsVectors}
+use Rattle.session_runs.specs.Drawing.{DrawsAs}
 use Rattle.session_runs.specs.Runs.{Outside, outside_of, OutsideStandsFor, OpensTo, OpensOnlyTo, forgeries, lies}
 use Rattle.shell_words.specs.declared.form.Form.{Form}
 use Rattle.shell_words.specs.declared.form.Form.TheVariants.{Passwd, Migrate, Check}
 use Rattle.cryfs_shell.specs.Hosts.{HostSeen}
-use Rattle.cryfs_shell.specs.Kinds.{is_session, copies, draws, seals}
+use Rattle.cryfs_shell.specs.Kinds.{is_session, is_migration, copies, draws, seals}
 use Rattle.cryfs_shell.specs.Streams.{Streams}
 use Rattle.tree_commands.specs.Showing.{ShowsFiles}
 
@@ -127,8 +127,9 @@ pub record StatusSays {V : Type 0} {K : Type 0} (trace : V → Option (List Call
   pub uncalled : ended.status ≡ LongPassword → AreUncalled vault keeper ended
   pub done : is_session asked ≡ true → ended.status ≡ Done → IsEmptied (outside_of trace faults G ended.vault ended.keeper)
 
--- what a run leaves alone that doesn't ask for it: the host folder but in copies, and the random bytes; and which of these the files take that a session or migrate seals
+-- what a run leaves alone that doesn't ask for it: the host folder but in copies, and the random bytes; and which of these the files take that a session or migrate seals, and
+-- their ids
 pub record Spares {F : Type 0} (asked : Option Form) (s : Streams) (before after : Outside) (old new : F) : Type 0 where
   pub unhosted : copies asked ≡ false → new ≡ old
   pub undrawn : draws asked ≡ false → s.left ≡ s.chance
-  pub drawn : seals asked ≡ true → DrawsVectors s.chance s.left before after
+  pub drawn : seals asked ≡ true → DrawsAs (is_migration asked) s.chance s.left before after

@@ -5,7 +5,7 @@ ghost use Rattle.std.specs.String.{string_bytes};
 ghost use Rattle.held_blocks.specs.Standing.{records};
 ghost use Rattle.line_io.specs.Streams.{stream_of};
 ghost use Rattle.mount_core.specs.Standing.{IsKeptMarked};
-ghost use Rattle.session_runs.specs.Drawing.{DrawsVectors};
+ghost use Rattle.session_runs.specs.Drawing.{DrawsVectors, DrawsAs};
 ghost use Rattle.session_runs.specs.Runs.{outside_of};
 ghost use Rattle.shell_sessions.specs.Sessions.{Session, ComesCommand};
 ghost use Rattle.shell_words.specs.Forms.{form_of, joined, IsModest};
@@ -14,7 +14,7 @@ ghost use Rattle.cryfs_shell.specs.Copies.{HostSession, Imports, Exports, Puts, 
 ghost use Rattle.cryfs_shell.specs.Doing.{Did, IsCaused};
 ghost use Rattle.cryfs_shell.specs.History.{HasHistory};
 ghost use Rattle.cryfs_shell.specs.Hosts.{host_of};
-ghost use Rattle.cryfs_shell.specs.Kinds.{opens, draws, copies, seals};
+ghost use Rattle.cryfs_shell.specs.Kinds.{opens, is_migration, draws, copies, seals};
 ghost use Rattle.cryfs_shell.specs.Streams.{streams_of};
 
 use block_id::Memory;
@@ -125,7 +125,7 @@ fn run_form<I: Source, O: Sink, V: Vault + Listing, K: Keeper, R: Rng, F: Folder
         at.vault at.keeper result (Some asked.entry.now.form) }
     ensures caused { IsCaused (outside_of V.trace V.faults K.Keeper at.vault at.keeper)
         (outside_of V.trace V.faults K.Keeper result.vault result.keeper) result.status asked.entry.now.form }
-    ensures drawn { seals (Some asked.entry.now.form) ≡ true → DrawsVectors (R.stream chance.old) (R.stream chance.new)
+    ensures drawn { seals (Some asked.entry.now.form) ≡ true → DrawsAs (is_migration (Some asked.entry.now.form)) (R.stream chance.old) (R.stream chance.new)
         (outside_of V.trace V.faults K.Keeper at.vault at.keeper) (outside_of V.trace V.faults K.Keeper result.vault result.keeper) }
     ensures undrawn { draws (Some asked.entry.now.form) ≡ false → R.stream chance.new ≡ R.stream chance.old }
     ensures unhosted { copies (Some asked.entry.now.form) ≡ false → host.new ≡ host.old }

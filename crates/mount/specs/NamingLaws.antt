@@ -1,6 +1,6 @@
 -- Ids that were drawn where some were known: where more are, they are passed over just as well.
-use Rattle.std.proofs.Common.{◌≡◌, Bool, true, false, List, [], ◌∷◌, sym, ◌∙◌, ap, refl, inl, inr}
-use Rattle.std.specs.Prelude.{not, ◌&&◌, ◌||◌, ◌++◌}
+use Rattle.std.proofs.Common.{◌≡◌, true, false, List, [], ◌∷◌, sym, ◌∙◌, ap, refl, inl, inr}
+use Rattle.std.specs.Prelude.{not, ◌&&◌, ◌++◌}
 use Rattle.std.proofs.lemmas.Bool.{or_cases, or_left, or_right}
 use Rattle.std.proofs.lemmas.List.Folds.{list_any-append}
 use Rattle.block_id.proofs.Conditions.{and_false}

@@ -8,13 +8,13 @@ use Rattle.outside.specs.Trace.{Call}
 use Rattle.outside.specs.declared.keeper.Keeper.{Ghosts as KeeperGhosts}
 use Rattle.run_status.specs.declared.ended.Ended.{Ended}
 use Rattle.run_status.specs.declared.status.Status.{Status}
-use Rattle.session_runs.specs.Drawing.{DrawsVectors}
+use Rattle.session_runs.specs.Drawing.{DrawsAs}
 use Rattle.session_runs.specs.Runs.{Outside, outside_of}
 use Rattle.shell_words.specs.Forms.{form_of}
 use Rattle.cryfs_shell.specs.Clauses.{IsRefusedRun, NoFalseAlarm, KeepsTree, TellsFaults, StatusSays}
 use Rattle.cryfs_shell.specs.Doing.{Did}
 use Rattle.cryfs_shell.specs.Hosts.{IsStill}
-use Rattle.cryfs_shell.specs.Kinds.{copies, draws, opens, seals}
+use Rattle.cryfs_shell.specs.Kinds.{is_migration, copies, draws, opens, seals}
 use Rattle.cryfs_shell.specs.Streams.{Streams}
 
 -- its words and moment, what it read, wrote, drew and copied, what was outside before and after, and the status
@@ -53,4 +53,5 @@ pub record IsRunCall {V : Type 0} {K : Type 0} (trace : V → Option (List Call)
   pub statuses : StatusSays trace faults G (form_of call.words) vault keeper ended
   pub unhosted : copies (form_of call.words) ≡ false → IsStill call.streams.host
   pub undrawn : draws (form_of call.words) ≡ false → call.streams.left ≡ call.streams.chance
-  pub drawn : seals (form_of call.words) ≡ true → DrawsVectors call.streams.chance call.streams.left (outside_of trace faults G vault keeper) (outside_of trace faults G ended.vault ended.keeper)
+  pub drawn : seals (form_of call.words) ≡ true
+      → DrawsAs (is_migration (form_of call.words)) call.streams.chance call.streams.left (outside_of trace faults G vault keeper) (outside_of trace faults G ended.vault ended.keeper)

@@ -1,6 +1,6 @@
 -- Where each block's file comes from that a run puts into the directory, or leaves waiting in its record: from before, or sealed in it, with an IV that was drawn for
 -- this file alone, and under an id that the record knew before or that comes of a seed that was drawn.
-use Rattle.std.specs.Prelude.{◌≡◌, ◌⊎◌, ℕ, true, List, ◌++◌, is_some}
+use Rattle.std.specs.Prelude.{◌≡◌, ◌⊎◌, ℕ, Bool, true, false, List, ◌++◌, is_some}
 use Rattle.std.specs.FinMap as fin
 use Rattle.std.specs.List.{AllByRecursion}
 use Rattle.std.specs.declared.option.Option.{Option}
@@ -55,7 +55,12 @@ pub record DrawsVectors (stream left : Stream) (before after : Outside) : Type 0
   pub puts : AddsSince drawn before.kept before.calls after.calls
   pub waits : (id : Id) (bytes : List ℕ) → WaitsIn after.kept id bytes → IsSealedSince drawn before.kept id bytes
 
--- and no seed was drawn, so that each of the ids was known before
+-- the same, and no seed was drawn: each file that was sealed is under an id that the record knew before
 pub record DrawsNoNames (stream left : Stream) (before after : Outside) : Type 0 where
   pub vectors : DrawsVectors stream left before after
   pub unnamed : AreVectors vectors.drawn
+
+-- the one or the other, by whether blocks are only written anew
+abbrev pub DrawsAs : Bool → Stream → Stream → Outside → Outside → Type 0
+DrawsAs true stream left before after = DrawsNoNames stream left before after
+DrawsAs false stream left before after = DrawsVectors stream left before after

@@ -1,9 +1,9 @@
 use Rattle.std.proofs.Common.{refl, inl, inr}
 use Rattle.cryfs_setup.proofs.Anew.{leaves, status_so}
 use Rattle.mount_migrating.specs.Migrating.{told}
-use Rattle.session_runs.proofs.Drawing.{draws_closed, sealed_opened}
+use Rattle.session_runs.proofs.Drawing.{known_opened, named_closed}
 use Rattle.tree_commands.specs.Showing.{ShowsFiles}
-use Rattle.cryfs_setup.proofs.Drawing.{sealed_anew}
+use Rattle.cryfs_setup.proofs.Drawing.{known_anew}
 use Rattle.cryfs_setup.proofs.migrate.migrate_under.Goals as goal
 
 pub returns-clause-migrated : goal.returns-clause-migrated
@@ -41,9 +41,9 @@ returns-clause-drawn g c =
     let e = c.end_session.ensures in
     let stream = g.R.Rng.stream c.args.chance.now in
     let after = g.R.Rng.stream c.migrate-migration.new.chance in
-    draws_closed ShowsFiles trace faults G c.args.password.now c.args.vault c.args.keeper stream first m.begun m.sealed c.end_session.result.vault c.end_session.result.keeper after left e.0 e.2
-    (sealed_anew trace G stream _ stream after first left (told c.migrate-migration.result) m.begun.fresh d.migrates.violated d.draws
-    (sealed_opened ShowsFiles trace faults G c.args.password.now c.args.vault c.args.keeper stream first m.begun m.sealed))
+    let known = known_anew trace G stream _ stream after first left (told c.migrate-migration.result) m.begun.opened.fresh d.migrates.violated d.draws
+    (known_opened ShowsFiles trace faults G c.args.password.now c.args.vault c.args.keeper stream first m.begun m.sealed) in
+    named_closed ShowsFiles trace faults G c.args.password.now c.args.vault c.args.keeper stream first m.begun m.sealed c.end_session.result.vault c.end_session.result.keeper after left e.0 e.2 known.far known.unnamed
 
 pub returns-in-Err-clause-drawn : goal.returns-in-Err-clause-drawn
 returns-in-Err-clause-drawn g c = c.in-Err.ensures.undrawn (g.R.Rng.stream c.args.chance.now)

@@ -1,7 +1,7 @@
 use Rattle.std.proofs.Common.{refl, inl, inr, sym, subst}
 use Rattle.line_io.specs.Reading.{coming}
 use Rattle.line_io.specs.Streams.{stream_of}
-use Rattle.session_runs.proofs.Drawing.{draws_nothing}
+use Rattle.session_runs.proofs.Drawing.{named_nothing}
 use Rattle.session_runs.specs.Runs.{outside_of}
 use Rattle.cryfs_setup.specs.Migrate.{MigratedUnder}
 use Rattle.cryfs_setup.proofs.Beginning.{held, has_password}
@@ -24,8 +24,11 @@ returns-clause-migrated g c =
 
 -- ---- what is drawn
 
+pub returns-in_default-clause-drawn : goal.returns-in_default-clause-drawn
+returns-in_default-clause-drawn g c = named_nothing (g.R.Rng.stream c.args.chance.now) (outside_of g.V.Vault.trace g.V.Vault.faults g.K.Keeper c.args.storage.vault c.args.storage.keeper)
+
 pub returns-in-Err-clause-drawn : goal.returns-in-Err-clause-drawn
-returns-in-Err-clause-drawn g c = draws_nothing (g.R.Rng.stream c.args.chance.now) (outside_of g.V.Vault.trace g.V.Vault.faults g.K.Keeper c.args.vault c.args.keeper)
+returns-in-Err-clause-drawn g c = named_nothing (g.R.Rng.stream c.args.chance.now) (outside_of g.V.Vault.trace g.V.Vault.faults g.K.Keeper c.args.vault c.args.keeper)
 
 pub returns-clause-drawn : goal.returns-clause-drawn
 returns-clause-drawn g c = c.migrate_under.ensures.drawn

@@ -1,5 +1,5 @@
 use Rattle.mount.proofs.Formats.{opened_level}
-use Rattle.session_runs.proofs.Drawing.{draws_unopened}
+use Rattle.session_runs.proofs.Drawing.{named_unopened}
 use Rattle.session_runs.proofs.Unopened.{unopened, caused}
 use Rattle.tree_commands.specs.Showing.{ShowsFiles}
 use Rattle.cryfs_setup.proofs.opening.open.Goals as goal
@@ -38,4 +38,4 @@ returns-in-Err-clause-causes g c =
 
 pub returns-in-Err-clause-undrawn : goal.returns-in-Err-clause-undrawn
 returns-in-Err-clause-undrawn g c stream =
-    draws_unopened ShowsFiles g.V.Vault.trace g.V.Vault.faults g.K.Keeper c.args.password.now c.args.vault c.args.keeper c.in-Err.halted stream c.in-Err.ensures.halted
+    named_unopened ShowsFiles g.V.Vault.trace g.V.Vault.faults g.K.Keeper c.args.password.now c.args.vault c.args.keeper c.in-Err.halted stream c.in-Err.ensures.halted

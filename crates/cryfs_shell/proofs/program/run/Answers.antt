@@ -4,9 +4,10 @@ use Rattle.line_io.specs.Streams.{stream_of}
 use Rattle.run_status.specs.declared.status.Status.TheVariants.{Usage, Memory}
 use Rattle.shell_words.specs.Forms.{form_of}
 use Rattle.cryfs_shell.specs.Hosts.{host_of}
+use Rattle.cryfs_shell.specs.Kinds.{is_migration}
 use Rattle.cryfs_shell.specs.Streams.{streams_of}
 use Rattle.cryfs_shell.proofs.Asked.{asked_did, asked_refusal, asked_alarm, asked_keeps, asked_faults, asked_statuses, asked_spares, asked_history}
-use Rattle.cryfs_shell.proofs.Drawn.{undone}
+use Rattle.cryfs_shell.proofs.Drawn.{undone_as}
 use Rattle.cryfs_shell.proofs.Idle.{idle_alarm, idle_faults, idle_statuses, idle_history, memory_did, memory_refusal, memory_keeps}
 use Rattle.cryfs_shell.proofs.program.run.Goals as goal
 
@@ -163,12 +164,12 @@ pub returns-in-Err-clause-spares : goal.returns-in-Err-clause-spares
 returns-in-Err-clause-spares g c = record {
   unhosted = λ e. refl;
   undrawn = λ e. refl;
-  drawn = λ e. undone g.V.Vault.trace g.V.Vault.faults g.K.Keeper c.args.vault c.args.keeper (g.R.Rng.stream c.args.chance.now);
+  drawn = λ e. undone_as g.V.Vault.trace g.V.Vault.faults g.K.Keeper c.args.vault c.args.keeper (g.R.Rng.stream c.args.chance.now) (is_migration (form_of (map string_bytes c.args.words.now)));
 }
 
 pub returns-in-Ok-None-clause-spares : goal.returns-in-Ok-None-clause-spares
 returns-in-Ok-None-clause-spares g c = record {
   unhosted = λ e. refl;
   undrawn = λ e. refl;
-  drawn = λ e. undone g.V.Vault.trace g.V.Vault.faults g.K.Keeper c.args.vault c.args.keeper (g.R.Rng.stream c.args.chance.now);
+  drawn = λ e. undone_as g.V.Vault.trace g.V.Vault.faults g.K.Keeper c.args.vault c.args.keeper (g.R.Rng.stream c.args.chance.now) (is_migration (form_of (map string_bytes c.args.words.now)));
 }
