@@ -12,7 +12,7 @@ use listing::Listing;
 use outside::{Keeper, Sink, Source, Vault};
 use passwords::read_password;
 use run_edges::closing_status;
-use run_status::{Ended, Status};
+use run_status::{Ended, Status, Storage};
 use std::alloc::Global;
 
 /// Opens the file system under the password line of the input, checks and closes it, and tells what was found: each block
@@ -22,14 +22,16 @@ pub fn run_check<I: Source, O: Sink, V: Vault + Listing, K: Keeper>(
     alloc: Global,
     input: &mut I,
     output: &mut O,
-    vault: V,
-    keeper: K,
+    storage: Storage<V, K>,
 ) -> Ended<V, K>
-    ensures checked { RanCheck V.trace V.faults V.names K.Keeper (stream_of I.rest I.faults input.old input.new) (stream_of O.written O.faults output.old output.new) vault keeper result }
-    ensures causes { HasCauses (outside_of V.trace V.faults K.Keeper vault keeper) (outside_of V.trace V.faults K.Keeper result.vault result.keeper) result.status }
+    ensures checked { RanCheck V.trace V.faults V.names K.Keeper (stream_of I.rest I.faults input.old input.new)
+        (stream_of O.written O.faults output.old output.new) storage.vault storage.keeper result }
+    ensures causes { HasCauses (outside_of V.trace V.faults K.Keeper storage.vault storage.keeper)
+        (outside_of V.trace V.faults K.Keeper result.vault result.keeper) result.status }
     ensures input_grows { I.faults input.old ≤ I.faults input.new }
     ensures output_grows { O.faults output.old ≤ O.faults output.new }
 {
+    let Storage { vault, keeper } = storage;
     let page = match Page::new(alloc) {
         Ok(page) => page,
         Err(Memory) => {

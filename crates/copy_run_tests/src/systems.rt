@@ -1,12 +1,12 @@
 // File systems in memory, and runs over them.
-use copy_runs::{run_export, run_import};
+use copy_runs::{CopyRequest, run_export, run_import};
 use cryfs_setup::run_create;
 use folder_samples::fills_small;
 use fs_model::{Moment, Path};
 use memory_folder::MemoryFolder;
 use memory_outside::{MemoryKeeper, MemorySink, MemorySource, MemoryVault};
 use rand_pcg::Pcg32;
-use run_status::{Ended, Status};
+use run_status::{Ended, Status, Storage};
 use scrypt_kdf::Params;
 use shell_sessions::run_command;
 use std::alloc::Global;
@@ -59,8 +59,10 @@ pub fn new_system(alloc: Global) -> Result<System, Fail> {
         16384,
         &mut input,
         &mut output,
-        MemoryVault::new(alloc),
-        MemoryKeeper::new(alloc, None, Vec::new(alloc)),
+        Storage {
+            vault: MemoryVault::new(alloc),
+            keeper: MemoryKeeper::new(alloc, None, Vec::new(alloc)),
+        },
         &mut chance,
     );
     if status != Status::Done {
@@ -82,27 +84,25 @@ fn ran(
     let now = Moment::new(100, 5).ok_or("nanos")?;
     let root = Path::root(alloc);
     let System { vault, keeper } = system;
+    let storage = Storage { vault, keeper };
+    let request = CopyRequest { path: &root, now };
     Ok(match run {
         Run::Import => run_import(
             alloc,
-            now,
-            &root,
+            request,
             folder,
             &mut input,
             output,
-            vault,
-            keeper,
+            storage,
             &mut chance,
         ),
         Run::Export => run_export(
             alloc,
-            now,
-            &root,
+            request,
             folder,
             &mut input,
             output,
-            vault,
-            keeper,
+            storage,
             &mut chance,
         ),
         Run::Line(line) => run_command(
@@ -111,8 +111,7 @@ fn ran(
             line.as_bytes(),
             &mut input,
             output,
-            vault,
-            keeper,
+            storage,
             &mut chance,
         ),
     })

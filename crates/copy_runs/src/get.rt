@@ -19,7 +19,7 @@ use fs_model::{Moment, Path};
 use outside::{Keeper, Sink, Source, Vault};
 use rand_core::Rng;
 use run_edges::{Beginning, begin};
-use run_status::{Ended, Status};
+use run_status::{Ended, Status, Storage};
 use session_lines::End;
 use shell_sessions::{Mounted, close, open};
 use std::alloc::Global;
@@ -52,18 +52,18 @@ pub fn run_get<I: Source, O: Sink, V: Vault, K: Keeper, R: Rng>(
     from: &Path,
     input: &mut I,
     output: &mut O,
-    vault: V,
-    keeper: K,
+    storage: Storage<V, K>,
     chance: &mut R,
 ) -> Ended<V, K>
     ensures session { Session V.trace V.faults K.Keeper now
         (ComesGet from.now (stream_of I.rest I.faults input.old input.new) (stream_of O.written O.faults output.old output.new))
-        (stream_of I.rest I.faults input.old input.new) (stream_of O.written O.faults output.old output.new) vault keeper result }
+        (stream_of I.rest I.faults input.old input.new) (stream_of O.written O.faults output.old output.new) storage.vault storage.keeper result }
     ensures drawn { DrawsVectors (R.stream chance.old) (R.stream chance.new)
-        (outside_of V.trace V.faults K.Keeper vault keeper) (outside_of V.trace V.faults K.Keeper result.vault result.keeper) }
+        (outside_of V.trace V.faults K.Keeper storage.vault storage.keeper) (outside_of V.trace V.faults K.Keeper result.vault result.keeper) }
     ensures input_grows { I.faults input.old ≤ I.faults input.new }
     ensures output_grows { O.faults output.old ≤ O.faults output.new }
 {
+    let Storage { vault, keeper } = storage;
     let Beginning {
         password,
         reader: _,

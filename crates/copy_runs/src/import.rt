@@ -14,14 +14,14 @@ ghost use Rattle.shell_sessions.specs.Sessions.{Session, WasServed};
 ghost use Rattle.copy_sessions.specs.Coming.{ComesImport, IsImportSession};
 
 use crate::asker::MountAsker;
-use block_id::Memory;
+use crate::beginning::{CopyBeginning, begin_copy};
+use crate::request::CopyRequest;
 use copy_sessions::{CopyText, Way, tell_copy};
-use fs_model::{Moment, Path};
+use fs_model::Path;
 use host_folder::Folder;
 use outside::{Keeper, Sink, Source, Vault};
 use rand_core::Rng;
-use run_edges::{Beginning, begin};
-use run_status::{Ended, Status};
+use run_status::{Ended, Status, Storage};
 use session_lines::End;
 use shell_sessions::{Mounted, close, open};
 use std::alloc::Global;
@@ -51,47 +51,36 @@ fn import_told<F: Folder, O: Sink, V: Vault, K: Keeper, R: Rng>(
     tell_copy(text, Way::In, copied, &asker.kept, output)
 }
 
-/// Opens the file system under the password line of the input, imports the folder below the target, prints how that
+/// Opens the file system under the password line of the input, imports the folder below the path, prints how that
 /// ended, and closes it.
 pub fn run_import<F: Folder, I: Source, O: Sink, V: Vault, K: Keeper, R: Rng>(
     alloc: Global,
-    now: Moment,
-    target: &Path,
+    request: CopyRequest<'_>,
     host: &mut F,
     input: &mut I,
     output: &mut O,
-    vault: V,
-    keeper: K,
+    storage: Storage<V, K>,
     chance: &mut R,
 ) -> Ended<V, K>
-    ensures session { Session V.trace V.faults K.Keeper now
-        (ComesImport (F.tree host.old) (F.faults host.old) (F.faults host.new) target.now (stream_of I.rest I.faults input.old input.new) (stream_of O.written O.faults output.old output.new))
-        (stream_of I.rest I.faults input.old input.new) (stream_of O.written O.faults output.old output.new) vault keeper result }
+    ensures session { Session V.trace V.faults K.Keeper request.entry.now
+        (ComesImport (F.tree host.old) (F.faults host.old) (F.faults host.new) request.entry.path.now (stream_of I.rest I.faults input.old input.new) (stream_of O.written O.faults output.old output.new))
+        (stream_of I.rest I.faults input.old input.new) (stream_of O.written O.faults output.old output.new) storage.vault storage.keeper result }
     ensures drawn { DrawsVectors (R.stream chance.old) (R.stream chance.new)
-        (outside_of V.trace V.faults K.Keeper vault keeper) (outside_of V.trace V.faults K.Keeper result.vault result.keeper) }
-    ensures unhosted { (host.new ≡ host.old) ⊎ WasServed V.trace V.faults K.Keeper now
-        (ComesImport (F.tree host.old) (F.faults host.old) (F.faults host.new) target.now (stream_of I.rest I.faults input.old input.new) (stream_of O.written O.faults output.old output.new))
-        (stream_of I.rest I.faults input.old input.new) vault keeper result }
+        (outside_of V.trace V.faults K.Keeper storage.vault storage.keeper) (outside_of V.trace V.faults K.Keeper result.vault result.keeper) }
+    ensures unhosted { (host.new ≡ host.old) ⊎ WasServed V.trace V.faults K.Keeper request.entry.now
+        (ComesImport (F.tree host.old) (F.faults host.old) (F.faults host.new) request.entry.path.now (stream_of I.rest I.faults input.old input.new) (stream_of O.written O.faults output.old output.new))
+        (stream_of I.rest I.faults input.old input.new) storage.vault storage.keeper result }
     ensures same { F.tree host.new ≡ F.tree host.old }
     ensures host_grows { F.faults host.old ≤ F.faults host.new }
     ensures input_grows { I.faults input.old ≤ I.faults input.new }
     ensures output_grows { O.faults output.old ≤ O.faults output.new }
 {
-    let mut text = match CopyText::new(alloc) {
-        Ok(text) => text,
-        Err(Memory) => {
-            return Ended {
-                status: Status::Memory,
-                vault,
-                keeper,
-            };
-        }
-    };
-    let Beginning {
+    let Storage { vault, keeper } = storage;
+    let CopyBeginning {
         password,
         reader: _,
-        text: _,
-    } = match begin(alloc, input) {
+        mut text,
+    } = match begin_copy(alloc, input) {
         Ok(beginning) => beginning,
         Err(status) => {
             return Ended {
@@ -107,11 +96,11 @@ pub fn run_import<F: Folder, I: Source, O: Sink, V: Vault, K: Keeper, R: Rng>(
     };
     let mut asker = MountAsker {
         mounted: Mounted { mount, chance },
-        now,
+        now: request.now,
         kept: None,
         stopped: 0,
     };
-    let (end, own) = import_told(alloc, &mut asker, target, host, &mut text, output);
+    let (end, own) = import_told(alloc, &mut asker, request.path, host, &mut text, output);
     let MountAsker {
         mounted,
         now: _,

@@ -3,13 +3,16 @@
 #![tactic(auto)]
 
 mod asker;
+mod beginning;
 mod export;
 mod get;
 mod import;
 mod put;
+mod request;
 
 pub use asker::MountAsker;
 pub use export::run_export;
 pub use get::run_get;
 pub use import::run_import;
 pub use put::run_put;
+pub use request::CopyRequest;

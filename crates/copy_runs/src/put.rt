@@ -15,15 +15,14 @@ ghost use Rattle.shell_sessions.specs.Sessions.{Session};
 ghost use Rattle.file_copies.specs.Coming.{ComesPut, IsPutSession};
 
 use crate::asker::MountAsker;
-use block_id::Memory;
+use crate::beginning::{CopyBeginning, begin_copy};
 use copy_sessions::CopyText;
 use file_copies::{put_file, tell_put};
 use fs_model::{Moment, Path};
 use line_io::LineReader;
 use outside::{Keeper, Sink, Source, Vault};
 use rand_core::Rng;
-use run_edges::{Beginning, begin};
-use run_status::{Ended, Status};
+use run_status::{Ended, Status, Storage};
 use session_lines::End;
 use shell_sessions::{Mounted, close, open};
 use std::alloc::Global;
@@ -61,33 +60,23 @@ pub fn run_put<I: Source, O: Sink, V: Vault, K: Keeper, R: Rng>(
     to: Path,
     input: &mut I,
     output: &mut O,
-    vault: V,
-    keeper: K,
+    storage: Storage<V, K>,
     chance: &mut R,
 ) -> Ended<V, K>
     ensures session { Session V.trace V.faults K.Keeper now
         (ComesPut to (stream_of I.rest I.faults input.old input.new) (stream_of O.written O.faults output.old output.new))
-        (stream_of I.rest I.faults input.old input.new) (stream_of O.written O.faults output.old output.new) vault keeper result }
+        (stream_of I.rest I.faults input.old input.new) (stream_of O.written O.faults output.old output.new) storage.vault storage.keeper result }
     ensures drawn { DrawsVectors (R.stream chance.old) (R.stream chance.new)
-        (outside_of V.trace V.faults K.Keeper vault keeper) (outside_of V.trace V.faults K.Keeper result.vault result.keeper) }
+        (outside_of V.trace V.faults K.Keeper storage.vault storage.keeper) (outside_of V.trace V.faults K.Keeper result.vault result.keeper) }
     ensures input_grows { I.faults input.old ≤ I.faults input.new }
     ensures output_grows { O.faults output.old ≤ O.faults output.new }
 {
-    let mut text = match CopyText::new(alloc) {
-        Ok(text) => text,
-        Err(Memory) => {
-            return Ended {
-                status: Status::Memory,
-                vault,
-                keeper,
-            };
-        }
-    };
-    let Beginning {
+    let Storage { vault, keeper } = storage;
+    let CopyBeginning {
         password,
         mut reader,
-        text: _,
-    } = match begin(alloc, input) {
+        mut text,
+    } = match begin_copy(alloc, input) {
         Ok(beginning) => beginning,
         Err(status) => {
             return Ended {

@@ -5,7 +5,7 @@ use call_log::{ByteLog, CallLog};
 use program_inputs::Inputs;
 use program_run::run_program;
 use real_streams::{ReaderSource, WriterSink};
-use run_status::Status;
+use run_status::{Status, Storage};
 use std::io;
 use std::process::ExitCode;
 
@@ -21,13 +21,15 @@ fn run_words(rt: &HostRuntime) -> Status {
     };
     let mut host = inputs.host(rt);
     let ended = run_program(
-        rt,
+        rt.alloc(),
         &inputs,
-        keeper,
         &mut ReaderSource::new(rt.reader()),
         &mut WriterSink::new(io::writer(rt), ByteLog::new()),
+        Storage {
+            vault: inputs.vault(rt, CallLog::new()),
+            keeper,
+        },
         &mut chance,
-        CallLog::new(),
         &mut host,
     );
     if host.end().is_err() {

@@ -11,7 +11,7 @@ use mount_calls::create;
 use outside::{Keeper, Sink, Source, Vault};
 use passwords::read_password;
 use rand_core::Rng;
-use run_status::Ended;
+use run_status::{Ended, Storage};
 use scrypt_kdf::Params;
 use setup_texts::report_created;
 use std::alloc::Global;
@@ -24,20 +24,21 @@ pub fn run_create<I: Source, O: Sink, V: Vault, K: Keeper, R: Rng>(
     block_size: u32,
     input: &mut I,
     output: &mut O,
-    vault: V,
-    keeper: K,
+    storage: Storage<V, K>,
     chance: &mut R,
 ) -> Ended<V, K>
     requires { IsBlockSize block_size }
     ensures created { RanCreate V.trace V.faults K.Keeper params.now block_size (drawn (R.stream chance.old)).0
-        (stream_of I.rest I.faults input.old input.new) (stream_of O.written O.faults output.old output.new) vault keeper result }
-    ensures causes { HasCauses (outside_of V.trace V.faults K.Keeper vault keeper) (outside_of V.trace V.faults K.Keeper result.vault result.keeper) result.status }
+        (stream_of I.rest I.faults input.old input.new) (stream_of O.written O.faults output.old output.new) storage.vault storage.keeper result }
+    ensures causes { HasCauses (outside_of V.trace V.faults K.Keeper storage.vault storage.keeper)
+        (outside_of V.trace V.faults K.Keeper result.vault result.keeper) result.status }
     ensures input_grows { I.faults input.old ≤ I.faults input.new }
     ensures output_grows { O.faults output.old ≤ O.faults output.new }
 {
     let reader = match read_password(alloc, input) {
         Ok(reader) => reader,
         Err(status) => {
+            let Storage { vault, keeper } = storage;
             return Ended {
                 status,
                 vault,
@@ -46,9 +47,7 @@ pub fn run_create<I: Source, O: Sink, V: Vault, K: Keeper, R: Rng>(
         }
     };
     let password = reader.line().unwrap_or(&[]);
-    create_under(
-        alloc, password, params, block_size, output, vault, keeper, chance,
-    )
+    create_under(alloc, password, params, block_size, output, storage, chance)
 }
 
 /// Makes a file system under the password, and prints its id.
@@ -58,16 +57,17 @@ fn create_under<O: Sink, V: Vault, K: Keeper, R: Rng>(
     params: &Params,
     block_size: u32,
     output: &mut O,
-    vault: V,
-    keeper: K,
+    storage: Storage<V, K>,
     chance: &mut R,
 ) -> Ended<V, K>
     requires { IsBlockSize block_size }
     ensures created { IsCreated V.trace V.faults K.Keeper params.now block_size (drawn (R.stream chance.old)).0 password.now
-        (stream_of O.written O.faults output.old output.new) vault keeper result }
-    ensures causes { HasCauses (outside_of V.trace V.faults K.Keeper vault keeper) (outside_of V.trace V.faults K.Keeper result.vault result.keeper) result.status }
+        (stream_of O.written O.faults output.old output.new) storage.vault storage.keeper result }
+    ensures causes { HasCauses (outside_of V.trace V.faults K.Keeper storage.vault storage.keeper)
+        (outside_of V.trace V.faults K.Keeper result.vault result.keeper) result.status }
     ensures output_grows { O.faults output.old ≤ O.faults output.new }
 {
+    let Storage { vault, keeper } = storage;
     let (made, vault, keeper) = create(alloc, vault, keeper, password, params, block_size, chance);
     Ended {
         status: report_created(made, output),

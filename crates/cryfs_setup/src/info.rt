@@ -8,7 +8,7 @@ ghost use Rattle.cryfs_setup.specs.Info.{Told, ToldUnder};
 use crate::opening::{end_run, open};
 use outside::{Keeper, Sink, Source, Vault};
 use passwords::read_password;
-use run_status::{Ended, Status};
+use run_status::{Ended, Status, Storage};
 use setup_texts::{MAX_TEXT, print_info};
 use std::alloc::Global;
 
@@ -18,14 +18,16 @@ pub fn run_info<I: Source, O: Sink, V: Vault, K: Keeper>(
     alloc: Global,
     input: &mut I,
     output: &mut O,
-    vault: V,
-    keeper: K,
+    storage: Storage<V, K>,
 ) -> Ended<V, K>
-    ensures told { Told V.trace V.faults K.Keeper (stream_of I.rest I.faults input.old input.new) (stream_of O.written O.faults output.old output.new) vault keeper result }
-    ensures causes { HasCauses (outside_of V.trace V.faults K.Keeper vault keeper) (outside_of V.trace V.faults K.Keeper result.vault result.keeper) result.status }
+    ensures told { Told V.trace V.faults K.Keeper (stream_of I.rest I.faults input.old input.new)
+        (stream_of O.written O.faults output.old output.new) storage.vault storage.keeper result }
+    ensures causes { HasCauses (outside_of V.trace V.faults K.Keeper storage.vault storage.keeper)
+        (outside_of V.trace V.faults K.Keeper result.vault result.keeper) result.status }
     ensures input_grows { I.faults input.old ≤ I.faults input.new }
     ensures output_grows { O.faults output.old ≤ O.faults output.new }
 {
+    let Storage { vault, keeper } = storage;
     let Ok(text) = Vec::with_capacity(alloc, MAX_TEXT) else {
         return Ended {
             status: Status::Memory,

@@ -10,7 +10,7 @@ use mount_calls::migrate;
 use outside::{Keeper, Sink, Source, Vault};
 use passwords::read_password;
 use rand_core::Rng;
-use run_status::{Ended, Status};
+use run_status::{Ended, Status, Storage};
 use setup_texts::{MAX_TEXT, print_migrated};
 use std::alloc::Global;
 
@@ -20,16 +20,16 @@ pub fn run_migrate<I: Source, O: Sink, V: Vault, K: Keeper, R: Rng>(
     alloc: Global,
     input: &mut I,
     output: &mut O,
-    vault: V,
-    keeper: K,
+    storage: Storage<V, K>,
     chance: &mut R,
 ) -> Ended<V, K>
-    ensures migrated { RanMigrate V.trace V.faults K.Keeper (stream_of I.rest I.faults input.old input.new) (stream_of O.written O.faults output.old output.new) vault keeper result }
+    ensures migrated { RanMigrate V.trace V.faults K.Keeper (stream_of I.rest I.faults input.old input.new) (stream_of O.written O.faults output.old output.new) storage.vault storage.keeper result }
     ensures drawn { DrawsNoNames (R.stream chance.old) (R.stream chance.new)
-        (outside_of V.trace V.faults K.Keeper vault keeper) (outside_of V.trace V.faults K.Keeper result.vault result.keeper) }
+        (outside_of V.trace V.faults K.Keeper storage.vault storage.keeper) (outside_of V.trace V.faults K.Keeper result.vault result.keeper) }
     ensures input_grows { I.faults input.old ≤ I.faults input.new }
     ensures output_grows { O.faults output.old ≤ O.faults output.new }
 {
+    let Storage { vault, keeper } = storage;
     let Ok(text) = Vec::with_capacity(alloc, MAX_TEXT) else {
         return Ended {
             status: Status::Memory,

@@ -10,7 +10,7 @@ use mount_calls::change_password;
 use outside::{Keeper, Sink, Source, Vault};
 use passwords::{PasswordChange, read_two_passwords};
 use rand_core::Rng;
-use run_status::Ended;
+use run_status::{Ended, Storage};
 use setup_texts::report_changed;
 use std::alloc::Global;
 
@@ -20,16 +20,17 @@ pub fn run_passwd<I: Source, O: Sink, V: Vault, K: Keeper, R: Rng>(
     alloc: Global,
     input: &mut I,
     output: &mut O,
-    vault: V,
-    keeper: K,
+    storage: Storage<V, K>,
     chance: &mut R,
 ) -> Ended<V, K>
     ensures changed { RanPasswd V.trace V.faults K.Keeper (R.stream chance.old) (R.stream chance.new)
-        (stream_of I.rest I.faults input.old input.new) (stream_of O.written O.faults output.old output.new) vault keeper result }
-    ensures causes { HasCauses (outside_of V.trace V.faults K.Keeper vault keeper) (outside_of V.trace V.faults K.Keeper result.vault result.keeper) result.status }
+        (stream_of I.rest I.faults input.old input.new) (stream_of O.written O.faults output.old output.new) storage.vault storage.keeper result }
+    ensures causes { HasCauses (outside_of V.trace V.faults K.Keeper storage.vault storage.keeper)
+        (outside_of V.trace V.faults K.Keeper result.vault result.keeper) result.status }
     ensures input_grows { I.faults input.old ≤ I.faults input.new }
     ensures output_grows { O.faults output.old ≤ O.faults output.new }
 {
+    let Storage { vault, keeper } = storage;
     let PasswordChange { old, reader } = match read_two_passwords(alloc, input) {
         Ok(change) => change,
         Err(status) => {

@@ -2,6 +2,8 @@
 #![tactic(auto)]
 
 mod program;
+mod request;
 
 pub use program::run;
-pub use run_status::{Ended, Status};
+pub use request::Request;
+pub use run_status::{Ended, Status, Storage};

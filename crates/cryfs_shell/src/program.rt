@@ -17,9 +17,10 @@ ghost use Rattle.cryfs_shell.specs.Hosts.{host_of};
 ghost use Rattle.cryfs_shell.specs.Kinds.{opens, is_migration, draws, copies, seals};
 ghost use Rattle.cryfs_shell.specs.Streams.{streams_of};
 
+use crate::request::Request;
 use block_id::Memory;
 use check_runs::{run_check, run_survey};
-use copy_runs::{run_export, run_get, run_import, run_put};
+use copy_runs::{CopyRequest, run_export, run_get, run_import, run_put};
 use cryfs_setup::{run_create, run_info, run_migrate, run_passwd};
 use fs_model::Moment;
 use host_folder::Folder;
@@ -27,54 +28,55 @@ use listing::Listing;
 use outside::{Keeper, Sink, Source, Vault};
 use plain_trials::{try_generated, try_lines};
 use rand_core::Rng;
-use run_status::{Ended, Status};
+use run_status::{Ended, Status, Storage};
 use shell_sessions::{run_command, run_generate, run_shell};
 use shell_words::{CreateOptions, Form, copy_path, joined, read_form};
 use std::alloc::Global;
 
-/// Runs the program with these words, at this moment, from this input to this output, over this block directory and
-/// this local record, with these random bytes, and beside this folder of the host for copies.
+/// Runs the program with the words of this request, at its moment, from this input to this output, over this block
+/// directory and this local record, with these random bytes, and beside this folder of the host for copies.
 pub fn run<I: Source, O: Sink, V: Vault + Listing, K: Keeper, R: Rng, F: Folder>(
     alloc: Global,
-    words: &[String],
-    now: Moment,
+    request: Request<'_>,
     input: &mut I,
     output: &mut O,
-    vault: V,
-    keeper: K,
+    storage: Storage<V, K>,
     chance: &mut R,
     host: &mut F,
 ) -> Ended<V, K>
     // What was answered, by what the words ask for.
-    ensures did { Did V.trace V.faults V.names K.Keeper (map string_bytes words.now) now
+    ensures did { Did V.trace V.faults V.names K.Keeper (map string_bytes request.entry.words.now) request.entry.now
         (streams_of (stream_of I.rest I.faults input.old input.new) (stream_of O.written O.faults output.old output.new)
-        (host_of F.tree F.faults host.old host.new) (R.stream chance.old) (R.stream chance.new)) vault keeper result (form_of (map string_bytes words.now)) }
+        (host_of F.tree F.faults host.old host.new) (R.stream chance.old) (R.stream chance.new))
+        storage.vault storage.keeper result (form_of (map string_bytes request.entry.words.now)) }
 
     // What is kept.
-    ensures refusal { opens (form_of (map string_bytes words.now)) ≡ true → IsKeptMarked records (K.kept keeper)
-        → IsRefusedRun K.kept (stream_of O.written O.faults output.old output.new) vault keeper result }
+    ensures refusal { opens (form_of (map string_bytes request.entry.words.now)) ≡ true → IsKeptMarked records (K.kept storage.keeper)
+        → IsRefusedRun K.kept (stream_of O.written O.faults output.old output.new) storage.vault storage.keeper result }
     ensures no_false_alarm { NoFalseAlarm (stream_of I.rest I.faults input.old input.new)
-        (outside_of V.trace V.faults K.Keeper vault keeper) (outside_of V.trace V.faults K.Keeper result.vault result.keeper) result.status }
-    ensures kept { opens (form_of (map string_bytes words.now)) ≡ true → KeepsTree (stream_of I.rest I.faults input.old input.new)
-        (outside_of V.trace V.faults K.Keeper vault keeper) (outside_of V.trace V.faults K.Keeper result.vault result.keeper) }
+        (outside_of V.trace V.faults K.Keeper storage.vault storage.keeper) (outside_of V.trace V.faults K.Keeper result.vault result.keeper) result.status }
+    ensures kept { opens (form_of (map string_bytes request.entry.words.now)) ≡ true → KeepsTree (stream_of I.rest I.faults input.old input.new)
+        (outside_of V.trace V.faults K.Keeper storage.vault storage.keeper) (outside_of V.trace V.faults K.Keeper result.vault result.keeper) }
 
     // Which faults are told, and what else a status says.
-    ensures faults_told { TellsFaults (form_of (map string_bytes words.now))
+    ensures faults_told { TellsFaults (form_of (map string_bytes request.entry.words.now))
         (streams_of (stream_of I.rest I.faults input.old input.new) (stream_of O.written O.faults output.old output.new)
         (host_of F.tree F.faults host.old host.new) (R.stream chance.old) (R.stream chance.new))
-        (outside_of V.trace V.faults K.Keeper vault keeper) (outside_of V.trace V.faults K.Keeper result.vault result.keeper) result.status }
-    ensures statuses { StatusSays V.trace V.faults K.Keeper (form_of (map string_bytes words.now)) vault keeper result }
+        (outside_of V.trace V.faults K.Keeper storage.vault storage.keeper) (outside_of V.trace V.faults K.Keeper result.vault result.keeper) result.status }
+    ensures statuses { StatusSays V.trace V.faults K.Keeper (form_of (map string_bytes request.entry.words.now)) storage.vault storage.keeper result }
 
     // What is left alone, what is drawn, and which run of a file system it was.
-    ensures spares { Spares (form_of (map string_bytes words.now))
+    ensures spares { Spares (form_of (map string_bytes request.entry.words.now))
         (streams_of (stream_of I.rest I.faults input.old input.new) (stream_of O.written O.faults output.old output.new)
         (host_of F.tree F.faults host.old host.new) (R.stream chance.old) (R.stream chance.new))
-        (outside_of V.trace V.faults K.Keeper vault keeper) (outside_of V.trace V.faults K.Keeper result.vault result.keeper) host.old host.new }
-    ensures history { HasHistory (map string_bytes words.now) now
+        (outside_of V.trace V.faults K.Keeper storage.vault storage.keeper) (outside_of V.trace V.faults K.Keeper result.vault result.keeper) host.old host.new }
+    ensures history { HasHistory (map string_bytes request.entry.words.now) request.entry.now
         (streams_of (stream_of I.rest I.faults input.old input.new) (stream_of O.written O.faults output.old output.new)
         (host_of F.tree F.faults host.old host.new) (R.stream chance.old) (R.stream chance.new))
-        (outside_of V.trace V.faults K.Keeper vault keeper) (outside_of V.trace V.faults K.Keeper result.vault result.keeper) result.status }
+        (outside_of V.trace V.faults K.Keeper storage.vault storage.keeper) (outside_of V.trace V.faults K.Keeper result.vault result.keeper) result.status }
 {
+    let Request { words, now } = request;
+    let Storage { vault, keeper } = storage;
     match read_form(alloc, words) {
         Err(Memory) => Ended {
             status: Status::Memory,
@@ -87,34 +89,28 @@ pub fn run<I: Source, O: Sink, V: Vault + Listing, K: Keeper, R: Rng, F: Folder>
             keeper,
         },
         Ok(Some(form)) => {
-            let asked = Request { form, words, now };
-            let at = Place { vault, keeper };
-            run_form(alloc, &asked, input, output, at, chance, host)
+            let asked = FormRequest { form, words, now };
+            let storage = Storage { vault, keeper };
+            run_form(alloc, &asked, input, output, storage, chance, host)
         }
     }
 }
 
 /// What the words ask for, the words themselves, and the moment.
 #[derive(Clone, Copy)]
-struct Request<'a> {
+struct FormRequest<'a> {
     form: Form,
     words: &'a [String],
     now: Moment,
 }
 
-/// The block directory and the local record.
-struct Place<V, K> {
-    vault: V,
-    keeper: K,
-}
-
 /// Runs what the words ask for.
 fn run_form<I: Source, O: Sink, V: Vault + Listing, K: Keeper, R: Rng, F: Folder>(
     alloc: Global,
-    asked: &Request<'_>,
+    asked: &FormRequest<'_>,
     input: &mut I,
     output: &mut O,
-    at: Place<V, K>,
+    storage: Storage<V, K>,
     chance: &mut R,
     host: &mut F,
 ) -> Ended<V, K>
@@ -122,52 +118,51 @@ fn run_form<I: Source, O: Sink, V: Vault + Listing, K: Keeper, R: Rng, F: Folder
     ensures did { Did V.trace V.faults V.names K.Keeper (map string_bytes asked.entry.now.words.now) asked.entry.now.now
         (streams_of (stream_of I.rest I.faults input.old input.new) (stream_of O.written O.faults output.old output.new)
         (host_of F.tree F.faults host.old host.new) (R.stream chance.old) (R.stream chance.new))
-        at.vault at.keeper result (Some asked.entry.now.form) }
-    ensures caused { IsCaused (outside_of V.trace V.faults K.Keeper at.vault at.keeper)
+        storage.vault storage.keeper result (Some asked.entry.now.form) }
+    ensures caused { IsCaused (outside_of V.trace V.faults K.Keeper storage.vault storage.keeper)
         (outside_of V.trace V.faults K.Keeper result.vault result.keeper) result.status asked.entry.now.form }
     ensures drawn { seals (Some asked.entry.now.form) ≡ true → DrawsAs (is_migration (Some asked.entry.now.form)) (R.stream chance.old) (R.stream chance.new)
-        (outside_of V.trace V.faults K.Keeper at.vault at.keeper) (outside_of V.trace V.faults K.Keeper result.vault result.keeper) }
+        (outside_of V.trace V.faults K.Keeper storage.vault storage.keeper) (outside_of V.trace V.faults K.Keeper result.vault result.keeper) }
     ensures undrawn { draws (Some asked.entry.now.form) ≡ false → R.stream chance.new ≡ R.stream chance.old }
     ensures unhosted { copies (Some asked.entry.now.form) ≡ false → host.new ≡ host.old }
     ensures input_grows { I.faults input.old ≤ I.faults input.new }
     ensures output_grows { O.faults output.old ≤ O.faults output.new }
     ensures host_grows { F.faults host.old ≤ F.faults host.new }
 {
-    let Place { vault, keeper } = at;
     match asked.form {
-        Form::Trial => Ended {
-            status: try_lines(alloc, asked.now, input, output),
-            vault,
-            keeper,
-        },
-        Form::TrialGenerate(count) => Ended {
-            status: try_generated(alloc, asked.now, count, output),
-            vault,
-            keeper,
-        },
+        Form::Trial => {
+            let Storage { vault, keeper } = storage;
+            Ended {
+                status: try_lines(alloc, asked.now, input, output),
+                vault,
+                keeper,
+            }
+        }
+        Form::TrialGenerate(count) => {
+            let Storage { vault, keeper } = storage;
+            Ended {
+                status: try_generated(alloc, asked.now, count, output),
+                vault,
+                keeper,
+            }
+        }
         Form::Create(CreateOptions { params, block_size }) => run_create(
-            alloc, &params, block_size, input, output, vault, keeper, chance,
+            alloc, &params, block_size, input, output, storage, chance,
         ),
-        Form::Info => run_info(alloc, input, output, vault, keeper),
-        Form::Passwd => run_passwd(alloc, input, output, vault, keeper, chance),
-        Form::Migrate => run_migrate(alloc, input, output, vault, keeper, chance),
-        Form::Shell => run_shell(alloc, asked.now, input, output, vault, keeper, chance),
-        Form::Generate(count) => run_generate(
-            alloc, asked.now, count, input, output, vault, keeper, chance,
-        ),
-        Form::Command => run_line(alloc, asked, input, output, Place { vault, keeper }, chance),
-        Form::Import => {
-            let at = Place { vault, keeper };
-            import_words(alloc, asked, input, output, at, chance, host)
+        Form::Info => run_info(alloc, input, output, storage),
+        Form::Passwd => run_passwd(alloc, input, output, storage, chance),
+        Form::Migrate => run_migrate(alloc, input, output, storage, chance),
+        Form::Shell => run_shell(alloc, asked.now, input, output, storage, chance),
+        Form::Generate(count) => {
+            run_generate(alloc, asked.now, count, input, output, storage, chance)
         }
-        Form::Export => {
-            let at = Place { vault, keeper };
-            export_words(alloc, asked, input, output, at, chance, host)
-        }
-        Form::Put => put_words(alloc, asked, input, output, Place { vault, keeper }, chance),
-        Form::Get => get_words(alloc, asked, input, output, Place { vault, keeper }, chance),
-        Form::Check => run_check(alloc, input, output, vault, keeper),
-        Form::Survey => run_survey(alloc, input, output, vault, keeper),
+        Form::Command => run_line(alloc, asked, input, output, storage, chance),
+        Form::Import => import_words(alloc, asked, input, output, storage, chance, host),
+        Form::Export => export_words(alloc, asked, input, output, storage, chance, host),
+        Form::Put => put_words(alloc, asked, input, output, storage, chance),
+        Form::Get => get_words(alloc, asked, input, output, storage, chance),
+        Form::Check => run_check(alloc, input, output, storage),
+        Form::Survey => run_survey(alloc, input, output, storage),
     }
 }
 
@@ -175,32 +170,32 @@ fn run_form<I: Source, O: Sink, V: Vault + Listing, K: Keeper, R: Rng, F: Folder
 #[tactic(auto, using(crate::proofs::Drawn::undone))]
 fn run_line<I: Source, O: Sink, V: Vault, K: Keeper, R: Rng>(
     alloc: Global,
-    asked: &Request<'_>,
+    asked: &FormRequest<'_>,
     input: &mut I,
     output: &mut O,
-    at: Place<V, K>,
+    storage: Storage<V, K>,
     chance: &mut R,
 ) -> Ended<V, K>
     ensures session { Session V.trace V.faults K.Keeper asked.entry.now.now
         (ComesCommand (joined (map string_bytes asked.entry.now.words.now)) (stream_of I.rest I.faults input.old input.new)
         (stream_of O.written O.faults output.old output.new))
         (stream_of I.rest I.faults input.old input.new) (stream_of O.written O.faults output.old output.new)
-        at.vault at.keeper result }
+        storage.vault storage.keeper result }
     ensures drawn { DrawsVectors (R.stream chance.old) (R.stream chance.new)
-        (outside_of V.trace V.faults K.Keeper at.vault at.keeper) (outside_of V.trace V.faults K.Keeper result.vault result.keeper) }
+        (outside_of V.trace V.faults K.Keeper storage.vault storage.keeper) (outside_of V.trace V.faults K.Keeper result.vault result.keeper) }
     ensures input_grows { I.faults input.old ≤ I.faults input.new }
     ensures output_grows { O.faults output.old ≤ O.faults output.new }
 {
-    let Place { vault, keeper } = at;
     match joined(alloc, asked.words) {
-        Ok(line) => run_command(
-            alloc, asked.now, &line, input, output, vault, keeper, chance,
-        ),
-        Err(Memory) => Ended {
-            status: Status::Memory,
-            vault,
-            keeper,
-        },
+        Ok(line) => run_command(alloc, asked.now, &line, input, output, storage, chance),
+        Err(Memory) => {
+            let Storage { vault, keeper } = storage;
+            Ended {
+                status: Status::Memory,
+                vault,
+                keeper,
+            }
+        }
     }
 }
 
@@ -208,10 +203,10 @@ fn run_line<I: Source, O: Sink, V: Vault, K: Keeper, R: Rng>(
 #[tactic(auto, using(crate::proofs::Drawn::undone))]
 fn import_words<I: Source, O: Sink, V: Vault, K: Keeper, R: Rng, F: Folder>(
     alloc: Global,
-    asked: &Request<'_>,
+    asked: &FormRequest<'_>,
     input: &mut I,
     output: &mut O,
-    at: Place<V, K>,
+    storage: Storage<V, K>,
     chance: &mut R,
     host: &mut F,
 ) -> Ended<V, K>
@@ -219,23 +214,29 @@ fn import_words<I: Source, O: Sink, V: Vault, K: Keeper, R: Rng, F: Folder>(
         (Imports (map string_bytes asked.entry.now.words.now) (stream_of I.rest I.faults input.old input.new) (stream_of O.written O.faults output.old output.new)
         (host_of F.tree F.faults host.old host.new))
         (stream_of I.rest I.faults input.old input.new) (stream_of O.written O.faults output.old output.new)
-        (host_of F.tree F.faults host.old host.new) at.vault at.keeper result }
+        (host_of F.tree F.faults host.old host.new) storage.vault storage.keeper result }
     ensures drawn { DrawsVectors (R.stream chance.old) (R.stream chance.new)
-        (outside_of V.trace V.faults K.Keeper at.vault at.keeper) (outside_of V.trace V.faults K.Keeper result.vault result.keeper) }
+        (outside_of V.trace V.faults K.Keeper storage.vault storage.keeper) (outside_of V.trace V.faults K.Keeper result.vault result.keeper) }
     ensures input_grows { I.faults input.old ≤ I.faults input.new }
     ensures output_grows { O.faults output.old ≤ O.faults output.new }
     ensures host_grows { F.faults host.old ≤ F.faults host.new }
 {
-    let Place { vault, keeper } = at;
     match copy_path(alloc, asked.words) {
-        Ok(Some(path)) => run_import(
-            alloc, asked.now, &path, host, input, output, vault, keeper, chance,
-        ),
-        Ok(None) | Err(Memory) => Ended {
-            status: Status::Memory,
-            vault,
-            keeper,
-        },
+        Ok(Some(path)) => {
+            let request = CopyRequest {
+                path: &path,
+                now: asked.now,
+            };
+            run_import(alloc, request, host, input, output, storage, chance)
+        }
+        Ok(None) | Err(Memory) => {
+            let Storage { vault, keeper } = storage;
+            Ended {
+                status: Status::Memory,
+                vault,
+                keeper,
+            }
+        }
     }
 }
 
@@ -243,10 +244,10 @@ fn import_words<I: Source, O: Sink, V: Vault, K: Keeper, R: Rng, F: Folder>(
 #[tactic(auto, using(crate::proofs::Drawn::undone))]
 fn export_words<I: Source, O: Sink, V: Vault, K: Keeper, R: Rng, F: Folder>(
     alloc: Global,
-    asked: &Request<'_>,
+    asked: &FormRequest<'_>,
     input: &mut I,
     output: &mut O,
-    at: Place<V, K>,
+    storage: Storage<V, K>,
     chance: &mut R,
     host: &mut F,
 ) -> Ended<V, K>
@@ -254,23 +255,29 @@ fn export_words<I: Source, O: Sink, V: Vault, K: Keeper, R: Rng, F: Folder>(
         (Exports (map string_bytes asked.entry.now.words.now) (stream_of I.rest I.faults input.old input.new) (stream_of O.written O.faults output.old output.new)
         (host_of F.tree F.faults host.old host.new))
         (stream_of I.rest I.faults input.old input.new) (stream_of O.written O.faults output.old output.new)
-        (host_of F.tree F.faults host.old host.new) at.vault at.keeper result }
+        (host_of F.tree F.faults host.old host.new) storage.vault storage.keeper result }
     ensures drawn { DrawsVectors (R.stream chance.old) (R.stream chance.new)
-        (outside_of V.trace V.faults K.Keeper at.vault at.keeper) (outside_of V.trace V.faults K.Keeper result.vault result.keeper) }
+        (outside_of V.trace V.faults K.Keeper storage.vault storage.keeper) (outside_of V.trace V.faults K.Keeper result.vault result.keeper) }
     ensures input_grows { I.faults input.old ≤ I.faults input.new }
     ensures output_grows { O.faults output.old ≤ O.faults output.new }
     ensures host_grows { F.faults host.old ≤ F.faults host.new }
 {
-    let Place { vault, keeper } = at;
     match copy_path(alloc, asked.words) {
-        Ok(Some(path)) => run_export(
-            alloc, asked.now, &path, host, input, output, vault, keeper, chance,
-        ),
-        Ok(None) | Err(Memory) => Ended {
-            status: Status::Memory,
-            vault,
-            keeper,
-        },
+        Ok(Some(path)) => {
+            let request = CopyRequest {
+                path: &path,
+                now: asked.now,
+            };
+            run_export(alloc, request, host, input, output, storage, chance)
+        }
+        Ok(None) | Err(Memory) => {
+            let Storage { vault, keeper } = storage;
+            Ended {
+                status: Status::Memory,
+                vault,
+                keeper,
+            }
+        }
     }
 }
 
@@ -278,30 +285,32 @@ fn export_words<I: Source, O: Sink, V: Vault, K: Keeper, R: Rng, F: Folder>(
 #[tactic(auto, using(crate::proofs::Drawn::undone))]
 fn put_words<I: Source, O: Sink, V: Vault, K: Keeper, R: Rng>(
     alloc: Global,
-    asked: &Request<'_>,
+    asked: &FormRequest<'_>,
     input: &mut I,
     output: &mut O,
-    at: Place<V, K>,
+    storage: Storage<V, K>,
     chance: &mut R,
 ) -> Ended<V, K>
     ensures session { Session V.trace V.faults K.Keeper asked.entry.now.now
         (Puts (map string_bytes asked.entry.now.words.now) (stream_of I.rest I.faults input.old input.new)
         (stream_of O.written O.faults output.old output.new))
         (stream_of I.rest I.faults input.old input.new) (stream_of O.written O.faults output.old output.new)
-        at.vault at.keeper result }
+        storage.vault storage.keeper result }
     ensures drawn { DrawsVectors (R.stream chance.old) (R.stream chance.new)
-        (outside_of V.trace V.faults K.Keeper at.vault at.keeper) (outside_of V.trace V.faults K.Keeper result.vault result.keeper) }
+        (outside_of V.trace V.faults K.Keeper storage.vault storage.keeper) (outside_of V.trace V.faults K.Keeper result.vault result.keeper) }
     ensures input_grows { I.faults input.old ≤ I.faults input.new }
     ensures output_grows { O.faults output.old ≤ O.faults output.new }
 {
-    let Place { vault, keeper } = at;
     match copy_path(alloc, asked.words) {
-        Ok(Some(path)) => run_put(alloc, asked.now, path, input, output, vault, keeper, chance),
-        Ok(None) | Err(Memory) => Ended {
-            status: Status::Memory,
-            vault,
-            keeper,
-        },
+        Ok(Some(path)) => run_put(alloc, asked.now, path, input, output, storage, chance),
+        Ok(None) | Err(Memory) => {
+            let Storage { vault, keeper } = storage;
+            Ended {
+                status: Status::Memory,
+                vault,
+                keeper,
+            }
+        }
     }
 }
 
@@ -309,31 +318,31 @@ fn put_words<I: Source, O: Sink, V: Vault, K: Keeper, R: Rng>(
 #[tactic(auto, using(crate::proofs::Drawn::undone))]
 fn get_words<I: Source, O: Sink, V: Vault, K: Keeper, R: Rng>(
     alloc: Global,
-    asked: &Request<'_>,
+    asked: &FormRequest<'_>,
     input: &mut I,
     output: &mut O,
-    at: Place<V, K>,
+    storage: Storage<V, K>,
     chance: &mut R,
 ) -> Ended<V, K>
     ensures session { Session V.trace V.faults K.Keeper asked.entry.now.now
         (Gets (map string_bytes asked.entry.now.words.now) (stream_of I.rest I.faults input.old input.new)
         (stream_of O.written O.faults output.old output.new))
         (stream_of I.rest I.faults input.old input.new) (stream_of O.written O.faults output.old output.new)
-        at.vault at.keeper result }
+        storage.vault storage.keeper result }
     ensures drawn { DrawsVectors (R.stream chance.old) (R.stream chance.new)
-        (outside_of V.trace V.faults K.Keeper at.vault at.keeper) (outside_of V.trace V.faults K.Keeper result.vault result.keeper) }
+        (outside_of V.trace V.faults K.Keeper storage.vault storage.keeper) (outside_of V.trace V.faults K.Keeper result.vault result.keeper) }
     ensures input_grows { I.faults input.old ≤ I.faults input.new }
     ensures output_grows { O.faults output.old ≤ O.faults output.new }
 {
-    let Place { vault, keeper } = at;
     match copy_path(alloc, asked.words) {
-        Ok(Some(path)) => run_get(
-            alloc, asked.now, &path, input, output, vault, keeper, chance,
-        ),
-        Ok(None) | Err(Memory) => Ended {
-            status: Status::Memory,
-            vault,
-            keeper,
-        },
+        Ok(Some(path)) => run_get(alloc, asked.now, &path, input, output, storage, chance),
+        Ok(None) | Err(Memory) => {
+            let Storage { vault, keeper } = storage;
+            Ended {
+                status: Status::Memory,
+                vault,
+                keeper,
+            }
+        }
     }
 }

@@ -6,7 +6,7 @@ ghost use Rattle.honest_runs.specs.Made.{password, HoldsEmptyTree, IsWantOfMemor
 ghost use Rattle.honest_runs.specs.Transcript.{IsTranscript};
 
 use completeness::{sessions_complete, setups_complete};
-use cryfs_shell::{Ended, Status, run};
+use cryfs_shell::{Ended, Request, Status, Storage, run};
 use fs_model::Moment;
 use histories::honest_runs_are_unforged;
 use honest_outside::{HonestKeeper, HonestSink, HonestSource, HonestVault};
@@ -59,12 +59,13 @@ fn make<R: Rng>(
     let mut output = HonestSink::new(alloc);
     let ended = run(
         alloc,
-        &words,
-        now,
+        Request { words: &words, now },
         &mut input,
         &mut output,
-        HonestVault::new(alloc),
-        HonestKeeper::new(alloc),
+        Storage {
+            vault: HonestVault::new(alloc),
+            keeper: HonestKeeper::new(alloc),
+        },
         chance,
         &mut MemoryFolder::new(alloc),
     );
@@ -99,12 +100,13 @@ fn serve<R: Rng>(
     made.keeper.attest();
     let ended = run(
         alloc,
-        &words,
-        now,
+        Request { words: &words, now },
         &mut input,
         &mut output,
-        made.vault,
-        made.keeper,
+        Storage {
+            vault: made.vault,
+            keeper: made.keeper,
+        },
         chance,
         &mut MemoryFolder::new(alloc),
     );

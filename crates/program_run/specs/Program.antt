@@ -10,6 +10,7 @@ use Rattle.outside.specs.declared.keeper.Keeper.{Ghosts as KeeperGhosts}
 use Rattle.real_folders.specs.Adapters.{FolderVaultState, FolderKeeperState, kept_in}
 use Rattle.run_status.specs.declared.ended.Ended.{Ended}
 use Rattle.run_status.specs.declared.status.Status.{Status}
+use Rattle.run_status.specs.declared.storage.Storage.{Storage}
 use Rattle.run_histories.specs.Calls.{RunCall}
 use Rattle.session_runs.specs.Runs.{Outside}
 
@@ -34,9 +35,9 @@ untold faults risen = record { old = None; new = None; faults = faults; risen = 
 abbrev pub told : List ℕ → List ℕ → ℕ → ℕ → Stream
 told old new faults risen = record { old = Some old; new = Some new; faults = faults; risen = risen }
 
--- as the run begins, after these calls on the block folder
-abbrev pub at_first : List Call → FolderKeeperState → Outside
-at_first calls keeper = record { kept = kept_in keeper; calls = Some calls; vault_faults = 0; keeper_faults = keeper.faults }
+-- as the run begins, after the calls that the block folder tells
+abbrev pub at_first : Storage FolderVaultState FolderKeeperState → Outside
+at_first s = record { kept = kept_in s.keeper; calls = Some s.vault.calls; vault_faults = s.vault.faults; keeper_faults = s.keeper.faults }
 
 -- as it ended
 abbrev pub at_last : Ended FolderVaultState FolderKeeperState → Outside

@@ -3,34 +3,33 @@ ghost use Rattle.std.specs.Prelude.{◌≡◌, [], ◌∷◌, map};
 ghost use Rattle.std.specs.String.{string_bytes};
 ghost use Rattle.cryfs_shell.specs.Hosts.{host_of};
 ghost use Rattle.cryfs_shell.specs.Streams.{streams_of};
-ghost use Rattle.real_folders.specs.FolderLog.{calls_of};
 ghost use Rattle.real_streams.specs.Adapters.{source_faults, sink_faults, written_by};
 ghost use Rattle.run_histories.specs.Calls.{IsRunCall};
 ghost use Rattle.run_histories.specs.Lists.{AreRunCalls};
 ghost use Rattle.program_run.specs.Written.{WritesSession};
 ghost use Rattle.program_run.specs.Program.{folder_calls, folder_faults, folder_names, folder_record, at_first, at_last, untold, told, program_call};
 
-use call_log::CallLog;
+use cryfs_shell::Request;
 use host_folder::Folder;
 use program_inputs::Inputs;
 use rand_core::Rng;
 use real_folders::{FolderKeeper, FolderVault};
 use real_streams::{ReaderSource, WriterSink};
 use run_histories::run_call;
-use run_status::Ended;
+use run_status::{Ended, Storage};
+use std::alloc::Global;
 use std::io::{Read, Write};
 
-/// Runs the program with these inputs over its block folder, after the calls of this log, over the record of this keeper, and beside this folder for copies.
-/// It is a call of `run`, for each log: so all that is said of such a call holds of the calls on the folder that this run adds to the log,
+/// Runs the program with the words and the moment of these inputs over its block folder and over the record of its state folder, and beside this folder for copies.
+/// It is a call of `run`, after whatever calls the block folder tells: so all that is said of such a call holds of the calls on the folder that this run adds,
 /// and of the bytes that it adds to those that the output took.
 pub fn run_program<'a, I: Read, O: Write, R: Rng, F: Folder>(
-    rt: &HostRuntime,
-    inputs: &'a Inputs,
-    keeper: FolderKeeper<'a, HostRuntime>,
+    alloc: Global,
+    inputs: &Inputs,
     input: &mut ReaderSource<I>,
     output: &mut WriterSink<O>,
+    storage: Storage<FolderVault<'a, HostRuntime>, FolderKeeper<'a, HostRuntime>>,
     chance: &mut R,
-    log: CallLog,
     host: &mut F,
 ) -> Ended<FolderVault<'a, HostRuntime>, FolderKeeper<'a, HostRuntime>>
     ensures call { IsRunCall folder_calls folder_faults folder_names folder_record
@@ -38,25 +37,19 @@ pub fn run_program<'a, I: Read, O: Write, R: Rng, F: Folder>(
         (streams_of (untold (source_faults input.old) (source_faults input.new))
         (told (written_by output.old) (written_by output.new) (sink_faults output.old) (sink_faults output.new))
         (host_of F.tree F.faults host.old host.new) (R.stream chance.old) (R.stream chance.new))
-        (at_first (calls_of log.events) keeper.entry) (at_last result) result.status) }
-    ensures listed { AreRunCalls folder_calls folder_faults folder_names folder_record (at_first (calls_of log.events) keeper.entry)
+        (at_first storage.entry) (at_last result) result.status) }
+    ensures listed { AreRunCalls folder_calls folder_faults folder_names folder_record (at_first storage.entry)
         (program_call (map string_bytes inputs.entry.now.words.items) inputs.entry.now.now
         (streams_of (untold (source_faults input.old) (source_faults input.new))
         (told (written_by output.old) (written_by output.new) (sink_faults output.old) (sink_faults output.new))
         (host_of F.tree F.faults host.old host.new) (R.stream chance.old) (R.stream chance.new))
-        (at_first (calls_of log.events) keeper.entry) (at_last result) result.status ∷ []) }
+        (at_first storage.entry) (at_last result) result.status ∷ []) }
     ensures written { WritesSession (map string_bytes inputs.entry.now.words.items) inputs.entry.now.now
-        (at_first (calls_of log.events) keeper.entry) (at_last result) (written_by output.old) (written_by output.new) }
+        (at_first storage.entry) (at_last result) (written_by output.old) (written_by output.new) }
 {
-    run_call(
-        rt.alloc(),
-        inputs.words.as_slice(),
-        inputs.now,
-        input,
-        output,
-        inputs.vault(rt, log),
-        keeper,
-        chance,
-        host,
-    )
+    let request = Request {
+        words: inputs.words.as_slice(),
+        now: inputs.now,
+    };
+    run_call(alloc, request, input, output, storage, chance, host)
 }

@@ -6,7 +6,7 @@ use program_inputs::Inputs;
 use program_run::run_program;
 use rand_pcg::Pcg32;
 use real_streams::{ReaderSource, WriterSink};
-use run_status::Status;
+use run_status::{Status, Storage};
 use std::alloc::{AllocError, Global};
 use std::fs::{self, File};
 use std::io::ErrorKind;
@@ -60,13 +60,15 @@ fn run_words(
     let keeper = inputs.make_keeper(rt, CallLog::new())?;
     let mut sink = WriterSink::new(File::create(rt, output.as_path())?, ByteLog::new());
     let ended = run_program(
-        rt,
+        alloc,
         &inputs,
-        keeper,
         &mut ReaderSource::new(lines.as_bytes()),
         &mut sink,
+        Storage {
+            vault: inputs.vault(rt, CallLog::new()),
+            keeper,
+        },
         &mut Pcg32::new(1, 2),
-        CallLog::new(),
         &mut MemoryFolder::new(alloc),
     );
     let status = ended.status;

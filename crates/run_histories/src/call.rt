@@ -8,8 +8,7 @@ ghost use Rattle.session_runs.specs.Runs.{outside_of};
 ghost use Rattle.run_histories.specs.Calls.{IsRunCall, call_of};
 ghost use Rattle.run_histories.specs.Lists.{AreRunCalls};
 
-use cryfs_shell::{Ended, run};
-use fs_model::Moment;
+use cryfs_shell::{Ended, Request, Storage, run};
 use host_folder::Folder;
 use listing::Listing;
 use outside::{Keeper, Sink, Source, Vault};
@@ -19,24 +18,29 @@ use std::alloc::Global;
 /// Calls `run`: so each call of it is one of those that the laws speak of, and so is the list of it alone.
 pub fn run_call<I: Source, O: Sink, V: Vault + Listing, K: Keeper, R: Rng, F: Folder>(
     alloc: Global,
-    words: &[String],
-    now: Moment,
+    request: Request<'_>,
     input: &mut I,
     output: &mut O,
-    vault: V,
-    keeper: K,
+    storage: Storage<V, K>,
     chance: &mut R,
     host: &mut F,
 ) -> Ended<V, K>
-    ensures call { IsRunCall V.trace V.faults V.names K.Keeper (call_of V.trace V.faults K.Keeper (map string_bytes words.now) now
+    ensures call { IsRunCall V.trace V.faults V.names K.Keeper (call_of V.trace V.faults K.Keeper (map string_bytes request.entry.words.now) request.entry.now
         (streams_of (stream_of I.rest I.faults input.old input.new) (stream_of O.written O.faults output.old output.new)
-        (host_of F.tree F.faults host.old host.new) (R.stream chance.old) (R.stream chance.new)) vault keeper result) }
-    ensures listed { AreRunCalls V.trace V.faults V.names K.Keeper (outside_of V.trace V.faults K.Keeper vault keeper)
-        (call_of V.trace V.faults K.Keeper (map string_bytes words.now) now
+        (host_of F.tree F.faults host.old host.new) (R.stream chance.old) (R.stream chance.new)) storage.vault storage.keeper result) }
+    ensures listed { AreRunCalls V.trace V.faults V.names K.Keeper (outside_of V.trace V.faults K.Keeper storage.vault storage.keeper)
+        (call_of V.trace V.faults K.Keeper (map string_bytes request.entry.words.now) request.entry.now
         (streams_of (stream_of I.rest I.faults input.old input.new) (stream_of O.written O.faults output.old output.new)
-        (host_of F.tree F.faults host.old host.new) (R.stream chance.old) (R.stream chance.new)) vault keeper result ∷ []) }
+        (host_of F.tree F.faults host.old host.new) (R.stream chance.old) (R.stream chance.new)) storage.vault storage.keeper result ∷ []) }
 {
+    let Request { words, now } = request;
     run(
-        alloc, words, now, input, output, vault, keeper, chance, host,
+        alloc,
+        Request { words, now },
+        input,
+        output,
+        storage,
+        chance,
+        host,
     )
 }

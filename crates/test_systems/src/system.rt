@@ -7,7 +7,7 @@ ghost use Rattle.memory_outside.specs.Vaults.{restarted};
 ghost use Rattle.test_systems.specs.Runs.{same_status};
 
 use crate::random::ZEROS;
-use cryfs_shell::{Ended, Status, run};
+use cryfs_shell::{Ended, Request, Status, Storage, run};
 use fs_model::Moment;
 use host_folder::Folder;
 use memory_folder::MemoryFolder;
@@ -118,12 +118,10 @@ pub fn outcome_beside<F: Folder, R: Rng>(
         keeper,
     } = run(
         alloc,
-        &words,
-        now,
+        Request { words: &words, now },
         &mut input,
         &mut output,
-        vault,
-        keeper,
+        Storage { vault, keeper },
         chance,
         host,
     );

@@ -20,5 +20,5 @@ returns-clause-checked g c =
       coming c.in-Ok-read_password.reader.ahead (g.I.Source.rest c.read_password.new.input),
       has_password _ _ r.0 r.1 r.2,
       r.2.stands.quiet,
-      subst (λ p. CheckedUnder g.V.Vault.trace g.V.Vault.faults g.V.Listing.names g.K.Keeper p (stream_of g.O.Sink.written g.O.Sink.faults c.args.output.now c.check_under.new.output) c.args.vault c.args.keeper c.check_under.result) (sym h) c.check_under.ensures.checked,
+      subst (λ p. CheckedUnder g.V.Vault.trace g.V.Vault.faults g.V.Listing.names g.K.Keeper p (stream_of g.O.Sink.written g.O.Sink.faults c.args.output.now c.check_under.new.output) c.args.storage.vault c.args.storage.keeper c.check_under.result) (sym h) c.check_under.ensures.checked,
     )

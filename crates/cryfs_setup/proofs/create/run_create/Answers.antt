@@ -22,5 +22,5 @@ returns-clause-created g c =
       has_password _ _ r.0 r.1 r.2,
       r.2.stands.quiet,
       subst (λ p. IsCreated g.V.Vault.trace g.V.Vault.faults g.K.Keeper c.args.params.now c.args.block_size (drawn (g.R.Rng.stream c.args.chance.now)).0 p
-          (stream_of g.O.Sink.written g.O.Sink.faults c.args.output.now c.create_under.new.output) c.args.vault c.args.keeper c.create_under.result) (sym h) c.create_under.ensures.created,
+          (stream_of g.O.Sink.written g.O.Sink.faults c.args.output.now c.create_under.new.output) c.args.storage.vault c.args.storage.keeper c.create_under.result) (sym h) c.create_under.ensures.created,
     )

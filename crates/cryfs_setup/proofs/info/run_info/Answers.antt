@@ -20,5 +20,5 @@ returns-clause-told g c =
       coming c.in-Ok-read_password.reader.ahead (g.I.Source.rest c.read_password.new.input),
       has_password _ _ r.0 r.1 r.2,
       r.2.stands.quiet,
-      subst (λ p. ToldUnder g.V.Vault.trace g.V.Vault.faults g.K.Keeper p (stream_of g.O.Sink.written g.O.Sink.faults c.args.output.now c.tell_under.new.output) c.args.vault c.args.keeper c.tell_under.result) (sym h) c.tell_under.ensures.told,
+      subst (λ p. ToldUnder g.V.Vault.trace g.V.Vault.faults g.K.Keeper p (stream_of g.O.Sink.written g.O.Sink.faults c.args.output.now c.tell_under.new.output) c.args.storage.vault c.args.storage.keeper c.tell_under.result) (sym h) c.tell_under.ensures.told,
     )

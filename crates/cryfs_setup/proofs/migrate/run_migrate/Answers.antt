@@ -19,7 +19,7 @@ returns-clause-migrated g c =
       coming c.in-Ok-read_password.reader.ahead (g.I.Source.rest c.read_password.new.input),
       has_password _ _ r.0 r.1 r.2,
       r.2.stands.quiet,
-      subst (λ p. MigratedUnder g.V.Vault.trace g.V.Vault.faults g.K.Keeper p (stream_of g.O.Sink.written g.O.Sink.faults c.args.output.now c.migrate_under.new.output) c.args.vault c.args.keeper c.migrate_under.result) (sym h) c.migrate_under.ensures.migrated,
+      subst (λ p. MigratedUnder g.V.Vault.trace g.V.Vault.faults g.K.Keeper p (stream_of g.O.Sink.written g.O.Sink.faults c.args.output.now c.migrate_under.new.output) c.args.storage.vault c.args.storage.keeper c.migrate_under.result) (sym h) c.migrate_under.ensures.migrated,
     )
 
 -- ---- what is drawn
@@ -28,7 +28,7 @@ pub returns-in_default-clause-drawn : goal.returns-in_default-clause-drawn
 returns-in_default-clause-drawn g c = named_nothing (g.R.Rng.stream c.args.chance.now) (outside_of g.V.Vault.trace g.V.Vault.faults g.K.Keeper c.args.storage.vault c.args.storage.keeper)
 
 pub returns-in-Err-clause-drawn : goal.returns-in-Err-clause-drawn
-returns-in-Err-clause-drawn g c = named_nothing (g.R.Rng.stream c.args.chance.now) (outside_of g.V.Vault.trace g.V.Vault.faults g.K.Keeper c.args.vault c.args.keeper)
+returns-in-Err-clause-drawn g c = named_nothing (g.R.Rng.stream c.args.chance.now) (outside_of g.V.Vault.trace g.V.Vault.faults g.K.Keeper c.args.storage.vault c.args.storage.keeper)
 
 pub returns-clause-drawn : goal.returns-clause-drawn
 returns-clause-drawn g c = c.migrate_under.ensures.drawn

@@ -15,12 +15,12 @@ returns-clause-changed g c =
     let r = c.in-Ok.ensures.read in
     let h = held c.line.result _ c.unwrap_or-new.result c.in-Ok.change.reader.line r.1 c.line.ensures r.2.held c.unwrap_or-new.ensures in
     let changed = subst (λ old. ChangedUnder g.V.Vault.trace g.V.Vault.faults g.K.Keeper old c.unwrap_or-new.result.now (g.R.Rng.stream c.args.chance.now) (g.R.Rng.stream c.change_under.new.chance)
-    (stream_of g.O.Sink.written g.O.Sink.faults c.args.output.now c.change_under.new.output) c.args.vault c.args.keeper c.change_under.result) c.deref.ensures.value c.change_under.ensures.changed in
+    (stream_of g.O.Sink.written g.O.Sink.faults c.args.output.now c.change_under.new.output) c.args.storage.vault c.args.storage.keeper c.change_under.result) c.deref.ensures.value c.change_under.ensures.changed in
     inr (
       c.in-Ok.change.old.items,
       r.1,
       has_passwords _ _ r.0 c.in-Ok.change.old.items r.1 r.2,
       r.2.stands.quiet,
       subst (λ new. ChangedUnder g.V.Vault.trace g.V.Vault.faults g.K.Keeper c.in-Ok.change.old.items new (g.R.Rng.stream c.args.chance.now) (g.R.Rng.stream c.change_under.new.chance)
-          (stream_of g.O.Sink.written g.O.Sink.faults c.args.output.now c.change_under.new.output) c.args.vault c.args.keeper c.change_under.result) (sym h) changed,
+          (stream_of g.O.Sink.written g.O.Sink.faults c.args.output.now c.change_under.new.output) c.args.storage.vault c.args.storage.keeper c.change_under.result) (sym h) changed,
     )

@@ -17,6 +17,6 @@ returns-in-Ok-Some-clause-session g c =
     let new = r.new.host in
     let tree = g.F.Folder.tree in
     let faults = g.F.Folder.faults in
-    host_session g.V.Vault.trace g.V.Vault.faults g.K.Keeper c.args.asked.now.now input output c.args.at.vault c.args.at.keeper r.result
+    host_session g.V.Vault.trace g.V.Vault.faults g.K.Keeper c.args.asked.now.now input output c.args.storage.vault c.args.storage.keeper r.result
     (ComesExport (tree old) (tree new) (faults old) (faults new) some.path input output) (Exports (map string_bytes c.args.asked.now.words.now) input output (host_of tree faults old new))
     (λ script end own es came. (some.path, sym some.ensures.value ∙ some.field-0-is, came)) tree faults old new r.ensures.session r.ensures.unhosted

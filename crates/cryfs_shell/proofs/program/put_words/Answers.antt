@@ -12,6 +12,6 @@ returns-in-Ok-Some-clause-session g c =
     let some = c.in-Ok-Some in
     let input = stream_of g.I.Source.rest g.I.Source.faults c.args.input.now r.new.input in
     let output = stream_of g.O.Sink.written g.O.Sink.faults c.args.output.now r.new.output in
-    session_as g.V.Vault.trace g.V.Vault.faults g.K.Keeper c.args.asked.now.now input output c.args.at.vault c.args.at.keeper r.result
+    session_as g.V.Vault.trace g.V.Vault.faults g.K.Keeper c.args.asked.now.now input output c.args.storage.vault c.args.storage.keeper r.result
     (ComesPut some.path input output) (Puts (map string_bytes c.args.asked.now.words.now) input output)
     (λ script end own es came. (some.path, sym some.ensures.value ∙ some.field-0-is, came)) r.ensures.session

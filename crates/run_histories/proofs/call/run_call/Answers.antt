@@ -5,8 +5,8 @@ pub returns-clause-call : goal.returns-clause-call
 returns-clause-call g c =
     let e = c.run.ensures in
     record {
-      vault = c.args.vault;
-      keeper = c.args.keeper;
+      vault = c.args.storage.vault;
+      keeper = c.args.storage.keeper;
       ended = c.run.result;
       begins = refl;
       ends = refl;
