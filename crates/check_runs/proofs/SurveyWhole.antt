@@ -60,7 +60,7 @@ module _ {V : Type 0} {K : Type 0} (trace : V → Option (List Call)) (faults : 
   only = (examined_lawful trace faults G).onward start e.judged e.surveyed e.judges.only looks.only
 
   closed : IsOk x.closing × (x.vault ≡ vault_in (store_of last)) × (x.keeper ≡ last.core.saver.keeper)
-  closed = e.closed.closes.left (inr (ap (λ (s : Saver K). s.changed) only.beside.saver ∙ b.unchanged))
+  closed = e.closed.closes.left (inr (ap (λ (s : Saver K). s.changed) only.beside.saver ∙ b.opened.unchanged))
 
   last_calls : trace x.vault ≡ calls_of trace last
   last_calls = ap trace closed.1
@@ -72,7 +72,7 @@ module _ {V : Type 0} {K : Type 0} (trace : V → Option (List Call)) (faults : 
   last_kept = ap G.kept closed.2 ∙ ap (λ (s : Saver K). G.kept s.keeper) only.beside.saver
 
   last_failed : G.faults x.keeper ≡ G.faults keeper
-  last_failed = ap G.faults closed.2 ∙ (ap (λ (s : Saver K). G.faults s.keeper) only.beside.saver ∙ b.keeper_quiet)
+  last_failed = ap G.faults closed.2 ∙ (ap (λ (s : Saver K). G.faults s.keeper) only.beside.saver ∙ b.calls.keeper_quiet)
 
   -- without a flaw or a violation nothing more was asked for
   same_last : bad ≡ false → e.surveyed ≡ e.judged
@@ -85,16 +85,16 @@ module _ {V : Type 0} {K : Type 0} (trace : V → Option (List Call)) (faults : 
   surveys is = looks_on trace faults G bad e.judged e.surveyed x.refused e.surveys is
 
   mid_faults : bad ≡ true → vault_faults trace faults mid ≡ faults vault
-  mid_faults is = bad_quiet x.verdict (vault_faults trace faults first) (vault_faults trace faults mid) is e.judges.quiet ∙ b.vault_quiet
+  mid_faults is = bad_quiet x.verdict (vault_faults trace faults first) (vault_faults trace faults mid) is e.judges.quiet ∙ b.calls.vault_quiet
 
   leaves : LeavesSurveyed trace faults G vault keeper (kept_of G first) (calls_of trace first) x
   leaves = record {
     closed = closed.0;
     only_got = subst (λ (t : Option (List Call)). OnlyGot (calls_of trace first) t) (sym last_calls) (went_got (held_in (store_of first)) (calls_of trace first) (calls_of trace last) only.loaded.trace);
-    vault_grows = let g = only.loaded.faults in let q = b.vault_quiet in omega (arith, g, last_faults, q);
-    vault_cause = λ fine. subst (λ (n : ℕ). IfErr x.verdict (λ fail. HasCause fail n (faults x.vault))) b.vault_quiet
+    vault_grows = let g = only.loaded.faults in let q = b.calls.vault_quiet in omega (arith, g, last_faults, q);
+    vault_cause = λ fine. subst (λ (n : ℕ). IfErr x.verdict (λ fail. HasCause fail n (faults x.vault))) b.calls.vault_quiet
         (subst (λ (n : ℕ). IfErr x.verdict (λ fail. HasCause fail (vault_faults trace faults first) n)) (sym (fine_faults fine)) e.judges.fault);
-    vault_quiet = λ fine. subst (λ (n : ℕ). IsQuiet x.verdict n (faults x.vault)) b.vault_quiet
+    vault_quiet = λ fine. subst (λ (n : ℕ). IsQuiet x.verdict n (faults x.vault)) b.calls.vault_quiet
         (subst (λ (n : ℕ). IsQuiet x.verdict (vault_faults trace faults first) n) (sym (fine_faults fine)) e.judges.quiet);
     survey_cause = λ is. subst (λ (n : ℕ). IfErr x.refused (λ fail. HasCause fail n (faults x.vault))) (mid_faults is)
         (subst (λ (n : ℕ). IfErr x.refused (λ fail. HasCause fail (vault_faults trace faults mid) n)) (sym last_faults) (surveys is).fault);
@@ -107,7 +107,7 @@ module _ {V : Type 0} {K : Type 0} (trace : V → Option (List Call)) (faults : 
   -- ---- what was found, of what the record calls for
 
   judged_is : IsJudged (held_for (settings_of first.opened.config) b.attached.state) (settings_of first.opened.config).root (calls_of trace first) (calls_of trace mid) x.verdict
-  judged_is = called_for trace faults G password vault keeper first b (λ h r. IsJudged h r (calls_of trace first) (calls_of trace mid) x.verdict) (e.judges.judged (b.ready.core.whole.none b.unchanged))
+  judged_is = called_for trace faults G password vault keeper first b (λ h r. IsJudged h r (calls_of trace first) (calls_of trace mid) x.verdict) (e.judges.judged (b.opened.ready.core.whole.none b.opened.unchanged))
 
   surveyed_is : bad ≡ true → IsSurveyed (held_for (settings_of first.opened.config) b.attached.state) (calls_of trace mid) (trace x.vault) x.refused
   surveyed_is is =

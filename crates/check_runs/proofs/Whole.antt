@@ -92,7 +92,7 @@ module _ {V : Type 0} {K : Type 0} (trace : V → Option (List Call)) (faults : 
   only = e.judges.only
 
   closed : IsOk x.closing × (x.vault ≡ vault_in (store_of set)) × (x.keeper ≡ set.core.saver.keeper)
-  closed = e.closed.closes.left (idle trace faults G mid set bad e.settles (ap (λ (s : Saver K). s.changed) only.beside.saver ∙ b.unchanged))
+  closed = e.closed.closes.left (idle trace faults G mid set bad e.settles (ap (λ (s : Saver K). s.changed) only.beside.saver ∙ b.opened.unchanged))
 
   last_vault : x.vault ≡ vault_in (store_of mid)
   last_vault = closed.1 ∙ ap (λ (s : Cached V). vault_in s) (same_store trace faults G mid set bad e.settles)
@@ -110,7 +110,7 @@ module _ {V : Type 0} {K : Type 0} (trace : V → Option (List Call)) (faults : 
   mid_kept = ap (λ (s : Saver K). G.kept s.keeper) only.beside.saver
 
   mid_failed : keeper_faults G mid ≡ G.faults keeper
-  mid_failed = ap (λ (s : Saver K). G.faults s.keeper) only.beside.saver ∙ b.keeper_quiet
+  mid_failed = ap (λ (s : Saver K). G.faults s.keeper) only.beside.saver ∙ b.calls.keeper_quiet
 
   got : OnlyGot (calls_of trace first) (trace x.vault)
   got = subst (λ (t : Option (List Call)). OnlyGot (calls_of trace first) t) (sym last_calls)
@@ -131,10 +131,10 @@ module _ {V : Type 0} {K : Type 0} (trace : V → Option (List Call)) (faults : 
   leaves = record {
     closed = closed.0;
     only_got = got;
-    vault_grows = let g = only.loaded.faults in let l = ap faults last_vault in let q = b.vault_quiet in omega (arith, g, l, q);
-    vault_cause = subst (λ (n : ℕ). IfErr x.verdict (λ fail. HasCause fail n (faults x.vault))) b.vault_quiet
+    vault_grows = let g = only.loaded.faults in let l = ap faults last_vault in let q = b.calls.vault_quiet in omega (arith, g, l, q);
+    vault_cause = subst (λ (n : ℕ). IfErr x.verdict (λ fail. HasCause fail n (faults x.vault))) b.calls.vault_quiet
         (subst (λ (v : V). IfErr x.verdict (λ fail. HasCause fail (vault_faults trace faults first) (faults v))) (sym last_vault) e.judges.fault);
-    vault_quiet = subst (λ (n : ℕ). IsQuiet x.verdict n (faults x.vault)) b.vault_quiet
+    vault_quiet = subst (λ (n : ℕ). IsQuiet x.verdict n (faults x.vault)) b.calls.vault_quiet
         (subst (λ (v : V). IsQuiet x.verdict (vault_faults trace faults first) (faults v)) (sym last_vault) e.judges.quiet);
     condemned = condemned_after;
     unsaved = unsaved_after;
@@ -146,7 +146,7 @@ module _ {V : Type 0} {K : Type 0} (trace : V → Option (List Call)) (faults : 
   judged_is : IsJudged (held_for (settings_of first.opened.config) b.attached.state) (settings_of first.opened.config).root (calls_of trace first) (trace x.vault) x.verdict
   judged_is =
       subst (λ (t : Option (List Call)). IsJudged (held_for (settings_of first.opened.config) b.attached.state) (settings_of first.opened.config).root (calls_of trace first) t x.verdict) (sym last_calls)
-      (called_for trace faults G password vault keeper first b (λ h r. IsJudged h r (calls_of trace first) (calls_of trace mid) x.verdict) (e.judges.judged (b.ready.core.whole.none b.unchanged)))
+      (called_for trace faults G password vault keeper first b (λ h r. IsJudged h r (calls_of trace first) (calls_of trace mid) x.verdict) (e.judges.judged (b.opened.ready.core.whole.none b.opened.unchanged)))
 
   -- ---- the configuration that opened is the one
 

@@ -82,12 +82,12 @@ module _ {V : Type 0} {K : Type 0} (trace : V → Option (List Call)) (faults : 
 
     module _ (mount : Mount V K) (b : Begun ShowsFiles trace faults G password vault keeper mount) (honest : lies (moment_of trace faults G mount) ≤ lies Before) where
       of_config : settings_of mount.opened.config ≡ c
-      of_config = b.config c file_told (only_unforged password Before.kept Before.calls (calls_of trace mount) c (only (moment_of trace faults G mount) honest))
+      of_config = b.stands.config c file_told (only_unforged password Before.kept Before.calls (calls_of trace mount) c (only (moment_of trace faults G mount) honest))
 
       stands : MountStands trace faults G tree tree mount
       stands = record {
-        unviolated = b.fresh;
-        stands = b.stands tree (subst (λ x. Represents ShowsFiles Before.kept Before.calls x tree) (sym of_config) given.stands);
+        unviolated = b.opened.fresh;
+        stands = b.stands.tree tree (subst (λ x. Represents ShowsFiles Before.kept Before.calls x tree) (sym of_config) given.stands);
       }
 
       opened_well : AttachEnds trace faults G c tree (Ok mount) × Leaves password c tree (moment_of trace faults G mount)
@@ -95,8 +95,8 @@ module _ {V : Type 0} {K : Type 0} (trace : V → Option (List Call)) (faults : 
         record { of_config = of_config; stands = stands; emptied = record { state = b.attached.state; keeps = b.attached.kept } },
         record {
           stands = subst (λ x. Represents ShowsFiles (kept_of G mount) (calls_of trace mount) x tree) of_config
-              (represents ShowsFiles (settings_of mount.opened.config) b.ready.holder _ _ _ (kept_of G mount) (calls_of trace mount) tree (ap (λ (i : Identity). i.size - 78) b.ready.identity) (ap (λ x. x.0) b.ready.root) b.ready.identity stands.stands.keeps);
-          opens = (given.opens.0, given.opens.1, only_one (kept_of G mount) (calls_of trace mount) given.opens.0 (b.configures given.opens.0 file_told given.opens.2).kept, given.opens.3);
+              (represents ShowsFiles (settings_of mount.opened.config) b.opened.ready.holder _ _ _ (kept_of G mount) (calls_of trace mount) tree (ap (λ (i : Identity). i.size - 78) b.opened.ready.identity) (ap (λ x. x.0) b.opened.ready.root) b.opened.ready.identity stands.stands.keeps);
+          opens = (given.opens.0, given.opens.1, only_one (kept_of G mount) (calls_of trace mount) given.opens.0 (b.stands.file given.opens.0 file_told given.opens.2).kept, given.opens.3);
         },
       )
 

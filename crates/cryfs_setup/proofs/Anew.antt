@@ -81,7 +81,7 @@ module _ {V : Type 0} {K : Type 0} (trace : V → Option (List Call)) (faults : 
   -- ---- closing
 
   unsaved : (r : Result ℕ MigrateError) → OnOk r (first.core.saver.changed ≡ false → left.core.saver.changed ≡ false) → IsOk r → left.core.saver.changed ≡ false
-  unsaved (Ok n) same ok = same b.unchanged
+  unsaved (Ok n) same ok = same b.opened.unchanged
   unsaved (Err e) same ok = absurd (cc)
 
   idle : IsOk migration ⊎ (bad ≡ true) → (left.core.violated ≡ true) ⊎ (left.core.saver.changed ≡ false)
@@ -91,7 +91,7 @@ module _ {V : Type 0} {K : Type 0} (trace : V → Option (List Call)) (faults : 
   newest : (r : Result ℕ MigrateError) → migration ≡ r → OnOk r (first.core.saver.changed ≡ false → KeepsNewest (kept_of G left)) → OnOk r (KeepsNewest (G.kept ended.keeper))
   newest (Ok n) is k =
       let l = z.closes.left (idle (inl (ap (λ (r : Result ℕ MigrateError). is_ok r) is))) in
-      subst (λ (k : K). KeepsNewest (G.kept k)) (sym l.2) (k b.unchanged)
+      subst (λ (k : K). KeepsNewest (G.kept k)) (sym l.2) (k b.opened.unchanged)
   newest (Err e) is k = tt
 
   -- ---- the record that was opened
@@ -99,8 +99,8 @@ module _ {V : Type 0} {K : Type 0} (trace : V → Option (List Call)) (faults : 
   state_is : (held_in (store_of first)).state ≡ b.attached.state
   state_is =
       let h = held_in (store_of first) in
-      let whole = b.ready.core.whole in
-      let last : KeepsRecord (kept_of G first) h.state [] = record { bytes = first.core.saver.last.items; kept = whole.kept b.unchanged; is_record = whole.last b.unchanged } in
+      let whole = b.opened.ready.core.whole in
+      let last : KeepsRecord (kept_of G first) h.state [] = record { bytes = first.core.saver.last.items; kept = whole.kept b.opened.unchanged; is_record = whole.last b.opened.unchanged } in
       (same_kept (kept_of G first) h.state b.attached.state [] [] last b.attached.kept).0
 
   counted : (r : Result ℕ MigrateError) → IfOk r (Counts first left) → IfOk r (IsCount b.attached.state)
@@ -117,22 +117,22 @@ module _ {V : Type 0} {K : Type 0} (trace : V → Option (List Call)) (faults : 
     is_opened : settings_of first.opened.config ≡ c
     is_opened =
         let on = goes_on_onward (calls_of trace first) (calls_of trace left) (trace ended.vault) m.goes_on z.leaves.goes_on in
-        b.config c (represents_told ShowsFiles Before.kept Before.calls c tree f.stands) (each_before password Before.kept Before.calls (calls_of trace first) After.calls on f.unforged_config)
+        b.stands.config c (represents_told ShowsFiles Before.kept Before.calls c tree f.stands) (each_before password Before.kept Before.calls (calls_of trace first) After.calls on f.unforged_config)
 
     is_left : settings_of left.opened.config ≡ c
     is_left = ap (λ (o : Opened). settings_of o.config) m.opened ∙ is_opened
 
     forged_first : forgeries_of trace faults first ≡ forgeries c Before
-    forged_first = b.forgeries ∙ ap (λ (s : Settings). count_told (forged (opened_of s.key) s.block_size) (trace vault)) is_opened
+    forged_first = b.calls.forgeries ∙ ap (λ (s : Settings). count_told (forged (opened_of s.key) s.block_size) (trace vault)) is_opened
 
     forged_last : forgeries c After ≡ forgeries_of trace faults left
     forged_last = sym (ap (λ (s : Settings). count_told (forged (opened_of s.key) s.block_size) (trace ended.vault)) is_left) ∙ z.leaves.forgeries
 
     stood_first : TowerStands ShowsFiles trace faults G first.core tree tree
-    stood_first = b.stands tree (subst (λ (s : Settings). Represents ShowsFiles Before.kept Before.calls s tree) (sym is_opened) f.stands)
+    stood_first = b.stands.tree tree (subst (λ (s : Settings). Represents ShowsFiles Before.kept Before.calls s tree) (sym is_opened) f.stands)
 
     honest_lies : lies After ≤ lies Before → lies_of trace faults left ≤ lies_of trace faults first
-    honest_lies honest = let l = z.leaves.lies in let g = b.lies in omega (arith, l, g, honest)
+    honest_lies honest = let l = z.leaves.lies in let g = b.calls.lies in omega (arith, l, g, honest)
 
     calm_last : lies After ≤ lies Before → bad ≡ false
     calm_last honest = m.alarm tree tree stood_first (honest_lies honest)
@@ -202,7 +202,7 @@ module _ {V : Type 0} {K : Type 0} (trace : V → Option (List Call)) (faults : 
   config_after file false v c = config_closed (G.kept ended.keeper) (trace ended.vault) file closing (z.closes.configures (file ∷ []) file (m.violated ∙ v) c)
 
   kept_file : (file : List ℕ) → is_some Before.calls ≡ true → KeptConfigures records Before.kept Before.calls file → KeptConfigures records After.kept After.calls file
-  kept_file file is_told k = config_after file bad refl (m.configures (file ∷ []) file (b.configures file is_told k))
+  kept_file file is_told k = config_after file bad refl (m.configures (file ∷ []) file (b.stands.file file is_told k))
 
   -- ---- faults
 
@@ -211,7 +211,7 @@ module _ {V : Type 0} {K : Type 0} (trace : V → Option (List Call)) (faults : 
       let l = z.closes.left (inl (m.violated ∙ is)) in
       elim (m.marked is) [
         | inl k ↦ inl (subst (λ (k : K). IsKeptMarked records (G.kept k)) (sym l.2) k)
-        | inr r ↦ inr (let k = ap G.faults l.2 in let g = b.keeper_quiet in omega (arith, r, k, g))
+        | inr r ↦ inr (let k = ap G.faults l.2 in let g = b.calls.keeper_quiet in omega (arith, r, k, g))
       ]
 
   pub leaves : LeavesMigrated trace faults G password vault keeper first b.attached.state migration closing ended
@@ -220,10 +220,10 @@ module _ {V : Type 0} {K : Type 0} (trace : V → Option (List Call)) (faults : 
     newest = newest migration refl m.kept;
     spent = on_spent (told migration) spent_so m.spent;
     closed = λ done. (z.closes.left (idle done)).0;
-    directory_faults_happened = directory_rose closing (directory_faults (told migration)) _ _ _ _ b.vault_quiet m.vault_cause z.leaves.vault_grows z.leaves.vault_cause;
-    state_faults_happened = state_rose closing (state_faults (told migration)) _ _ _ _ b.keeper_quiet m.keeper_cause z.leaves.keeper_grows z.leaves.keeper_cause;
-    directory_quiet = directory_still closing (directory_faults (told migration)) _ _ _ _ b.vault_quiet m.vault_quiet z.leaves.vault_quiet;
-    state_quiet = λ fine. state_still closing (state_faults (told migration)) _ _ _ _ b.keeper_quiet (λ none. m.keeper_quiet none fine) z.leaves.keeper_quiet;
+    directory_faults_happened = directory_rose closing (directory_faults (told migration)) _ _ _ _ b.calls.vault_quiet m.vault_cause z.leaves.vault_grows z.leaves.vault_cause;
+    state_faults_happened = state_rose closing (state_faults (told migration)) _ _ _ _ b.calls.keeper_quiet m.keeper_cause z.leaves.keeper_grows z.leaves.keeper_cause;
+    directory_quiet = directory_still closing (directory_faults (told migration)) _ _ _ _ b.calls.vault_quiet m.vault_quiet z.leaves.vault_quiet;
+    state_quiet = λ fine. state_still closing (state_faults (told migration)) _ _ _ _ b.calls.keeper_quiet (λ none. m.keeper_quiet none fine) z.leaves.keeper_quiet;
     marked = marked_after;
     run = run;
     opens = λ other c is_told o. (o.0, o.1, kept_file o.0 is_told o.2, o.3);

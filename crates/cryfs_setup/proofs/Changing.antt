@@ -178,7 +178,7 @@ module _ {V : Type 0} {K : Type 0} (trace : V → Option (List Call)) (faults : 
   Most id = version_of trace first id + length {A = Exchange} []
 
   unmarked_store : ((tower_durables trace).identity (store_of first)).marked ≡ false
-  unmarked_store = ap (λ (i : Identity). i.marked) b.ready.identity
+  unmarked_store = ap (λ (i : Identity). i.marked) b.opened.ready.identity
 
   replaced : IsSameOrWaiting (tower trace faults G) (store_of first) file (kept_of G first) (kept_of G left) → KeptAfter false Most (kept_of G first) (kept_of G left)
   replaced (inl same_kept) = inr (inl same_kept)
@@ -217,11 +217,11 @@ module _ {V : Type 0} {K : Type 0} (trace : V → Option (List Call)) (faults : 
     closing = closing;
     closed = λ ok. (still change unchanged ok).0;
     status = es;
-    directory_quiet = both_directory change closing _ _ _ _ b.vault_quiet vault_quiet z.leaves.vault_quiet;
-    state_quiet = both_state change closing _ _ _ _ b.keeper_quiet keeper_quiet z.leaves.keeper_quiet;
+    directory_quiet = both_directory change closing _ _ _ _ b.calls.vault_quiet vault_quiet z.leaves.vault_quiet;
+    state_quiet = both_state change closing _ _ _ _ b.calls.keeper_quiet keeper_quiet z.leaves.keeper_quiet;
     drawn = drawn;
     opens = λ told. opens_after change unchanged (holds (told_on (trace vault) (calls_of trace first) (attached_on old (G.kept keeper) (kept_of G first) (trace vault) (calls_of trace first) first.opened b.attached) told)) opens;
-    stays = λ was told k. let before = b.configures was told k in stays was change unchanged before (configures (was ∷ []) was before) opens;
+    stays = λ was told k. let before = b.stands.file was told k in stays was change unchanged before (configures (was ∷ []) was before) opens;
     emptied = emptied change unchanged empty;
     versions = since keeps identity versions;
     config = config_is trace faults G old vault keeper first left closing ended.vault ended.keeper b z fresh same on (stands synced);
@@ -235,4 +235,4 @@ module _ {V : Type 0} {K : Type 0} (trace : V → Option (List Call)) (faults : 
       → HasCauses (outside_of trace faults G vault keeper) (outside_of trace faults G ended.vault ended.keeper) ended.status
   caused status output es r grows cause keeper_grows keeper_cause =
       changed_causes change _ _ _ _ _ _ _ _ _ _ _ _ output ended.status (ends closing output status ended.status es change r (λ ok. (still change unchanged ok).0))
-      (let q = b.vault_quiet in omega (arith, q)) grows z.leaves.vault_grows (let q = b.keeper_quiet in omega (arith, q)) keeper_grows z.leaves.keeper_grows cause keeper_cause
+      (let q = b.calls.vault_quiet in omega (arith, q)) grows z.leaves.vault_grows (let q = b.calls.keeper_quiet in omega (arith, q)) keeper_grows z.leaves.keeper_grows cause keeper_cause

@@ -69,7 +69,7 @@ module _ {V : Type 0} {K : Type 0} (trace : V → Option (List Call)) (faults : 
   -- the configuration that was found is that under which what was kept stood for a tree
   pub config_is : (c : Settings) (tree : Tree) → OpensTo ShowsFiles password c tree Before After → settings_of first.opened.config ≡ c
   config_is c tree f =
-      b.config c (represents_told ShowsFiles Before.kept Before.calls c tree f.stands)
+      b.stands.config c (represents_told ShowsFiles Before.kept Before.calls c tree f.stands)
       (each_before password Before.kept Before.calls (calls_of trace first) After.calls calls_on f.unforged_config)
 
   of_closed : (c : Settings) (tree : Tree) (result : Result Unit SyncError) → MountClosed ShowsFiles c After.kept After.calls tree tree result → Represents ShowsFiles After.kept After.calls c tree
@@ -80,7 +80,7 @@ module _ {V : Type 0} {K : Type 0} (trace : V → Option (List Call)) (faults : 
   stands_after : (c : Settings) (tree : Tree) → OpensTo ShowsFiles password c tree Before After → OutsideStandsFor ShowsFiles c tree After
   stands_after c tree f =
       let is = config_is c tree f in
-      let begun = b.stands tree (subst (λ x. Represents ShowsFiles Before.kept Before.calls x tree) (sym is) f.stands) in
+      let begun = b.stands.tree tree (subst (λ x. Represents ShowsFiles Before.kept Before.calls x tree) (sym is) f.stands) in
       subst (λ x. Represents ShowsFiles After.kept After.calls x tree) (ap (λ (o : Opened). settings_of o.config) same ∙ is)
       (of_closed (settings_of left.opened.config) tree closing (z.closes.stands tree tree fresh (stands tree begun)))
 

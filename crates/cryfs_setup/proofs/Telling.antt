@@ -53,31 +53,31 @@ printed_causes v0 v1 k0 k1 kept0 kept1 t0 t1 output text OutputFault p v k = rec
 printed_causes v0 v1 k0 k1 kept0 kept1 t0 t1 output text status p v k = absurd p
 
 module _ {V : Type 0} {K : Type 0} (trace : V → Option (List Call)) (faults : V → ℕ) (G : KeeperGhosts K) (password : List ℕ) (vault : V) (keeper : K) (mount : Mount V K) (closing : Result Unit SyncError) (ended : Ended V K)
-    (b : Begun ShowsFiles trace faults G password vault keeper mount) (unchanged : mount.core.saver.changed ≡ false) (unmarked : ¬ IsKeptMarked records (G.kept keeper))
+    (b : Begun ShowsFiles trace faults G password vault keeper mount) (unmarked : ¬ IsKeptMarked records (G.kept keeper))
     (z : Closing ShowsFiles trace faults G mount closing ended.vault ended.keeper) (output : Stream) (printed : Status) (p : Printed output (info_text (settings_of mount.opened.config) mount.opened.params) printed)
     (es : ended.status ≡ first_of printed (closing_status closing)) where
   status_is : printed ≡ ended.status
-  status_is = sym (es ∙ closed_well closing output _ printed (z.closes.left (inr unchanged)).0 p)
+  status_is = sym (es ∙ closed_well closing output _ printed (z.closes.left (inr b.opened.unchanged)).0 p)
 
   pub told : IsConfigTold trace faults G password output vault keeper ended
   told =
-      let l = z.closes.left (inr unchanged) in
+      let l = z.closes.left (inr b.opened.unchanged) in
       let on = goes_on_same (calls_of trace mount) in
       record {
         o = mount.opened;
         attached = subst (λ (k : K). Attached password (G.kept keeper) (G.kept k) (trace vault) (trace ended.vault) mount.opened) (sym l.2)
             (subst (λ (v : V). Attached password (G.kept keeper) (kept_of G mount) (trace vault) (trace v) mount.opened) (sym l.1) b.attached);
         printed = subst (λ (s : Status). Printed output (info_text (settings_of mount.opened.config) mount.opened.params) s) status_is p;
-        config = config_is trace faults G password vault keeper mount mount closing ended.vault ended.keeper b z b.fresh refl on (λ tree s. s);
-        quiet = quiet trace faults G password vault keeper mount mount closing ended.vault ended.keeper b z b.fresh refl on (λ tree s. s) unmarked refl (λ k. k);
+        config = config_is trace faults G password vault keeper mount mount closing ended.vault ended.keeper b z b.opened.fresh refl on (λ tree s. s);
+        quiet = quiet trace faults G password vault keeper mount mount closing ended.vault ended.keeper b z b.opened.fresh refl on (λ tree s. s) unmarked refl (λ k. k);
         unmarked = unmarked;
-        directory_quiet = closed_directory closing _ l.0 z.leaves.vault_quiet ∙ b.vault_quiet;
-        state_quiet = closed_state closing _ l.0 z.leaves.keeper_quiet ∙ b.keeper_quiet;
-        opens = λ other c is_told o. (o.0, o.1, config_ok (G.kept ended.keeper) (trace ended.vault) (o.0 ∷ []) o.0 closing l.0 (z.closes.configures (o.0 ∷ []) o.0 b.fresh (b.configures o.0 is_told o.2)), o.3);
+        directory_quiet = closed_directory closing _ l.0 z.leaves.vault_quiet ∙ b.calls.vault_quiet;
+        state_quiet = closed_state closing _ l.0 z.leaves.keeper_quiet ∙ b.calls.keeper_quiet;
+        opens = λ other c is_told o. (o.0, o.1, config_ok (G.kept ended.keeper) (trace ended.vault) (o.0 ∷ []) o.0 closing l.0 (z.closes.configures (o.0 ∷ []) o.0 b.opened.fresh (b.stands.file o.0 is_told o.2)), o.3);
       }
 
   pub told_causes : HasCauses (outside_of trace faults G vault keeper) (outside_of trace faults G ended.vault ended.keeper) ended.status
   told_causes =
       subst (λ (s : Status). HasCauses (outside_of trace faults G vault keeper) (outside_of trace faults G ended.vault ended.keeper) s) status_is
       (printed_causes (faults vault) (faults ended.vault) (G.faults keeper) (G.faults ended.keeper) _ _ _ _ output _ printed p
-      (let g = b.vault_quiet in let h = z.leaves.vault_grows in omega (arith, g, h)) (let g = b.keeper_quiet in let h = z.leaves.keeper_grows in omega (arith, g, h)))
+      (let g = b.calls.vault_quiet in let h = z.leaves.vault_grows in omega (arith, g, h)) (let g = b.calls.keeper_quiet in let h = z.leaves.keeper_grows in omega (arith, g, h)))

@@ -1,5 +1,5 @@
 // Opening and closing, as a run beside sessions does it.
-ghost use Rattle.std.specs.Prelude.{◌≡◌, false, Result, IfOk, IfErr};
+ghost use Rattle.std.specs.Prelude.{◌≡◌, Result, IfOk, IfErr};
 ghost use Rattle.held_blocks.specs.Standing.{records};
 ghost use Rattle.mount.specs.Mounts.{IsReady};
 ghost use Rattle.mount.specs.Sealing.{OpensSealed, view_of};
@@ -32,7 +32,6 @@ pub fn open<V: Vault, K: Keeper>(
 ) -> Result<Mount<V, K>, Ended<V, K>>
     ensures begun { IfOk result (λ mount. Begun ShowsFiles V.trace V.faults K.Keeper password.now vault keeper mount) }
     ensures sealed { IfOk result (λ mount. OpensSealed (K.kept keeper) (V.trace vault) (view_of V.trace mount)) }
-    ensures unchanged { IfOk result (λ mount. mount.core.saver.changed ≡ false) }
     ensures unmarked { IfOk result (λ mount. ¬ IsKeptMarked records (K.kept keeper)) }
     ensures unopened { IfErr result (λ ended. (error : OpenError) × IsUnopened V.trace V.faults K.Keeper password.now vault keeper ended error) }
     ensures undrawn { IfErr result (λ ended. (stream : Stream)

@@ -92,16 +92,16 @@ module _ {V : Type 0} {K : Type 0} (shows : Showing) (trace : V → Option (List
   Serving = mount_hosting (λ (x : Mount V K). x) shows trace faults G
 
   went : (mid : Mount V K) (earlier : List Exchange) → Ran Serving now m.opened earlier mid → Passed shows trace faults G now m.opened mid earlier
-  went mid earlier ran = passed (λ (x : Mount V K). x) shows trace faults G now m.opened mid earlier m.begun.fresh ran
+  went mid earlier ran = passed (λ (x : Mount V K). x) shows trace faults G now m.opened mid earlier m.begun.opened.fresh ran
 
   is_opened : settings_of m.opened.opened.config ≡ c
   is_opened =
       let told = represents_told shows (G.kept keeper) (trace vault) c first f.stands in
       let on = goes_on_onward (calls_of trace m.opened) (calls_of trace m.left) (trace last_vault) (went m.left es m.ran).goes_on m.closed.leaves.goes_on in
-      m.begun.config c told (each_before password (G.kept keeper) (trace vault) (calls_of trace m.opened) (trace last_vault) on f.unforged_config)
+      m.begun.stands.config c told (each_before password (G.kept keeper) (trace vault) (calls_of trace m.opened) (trace last_vault) on f.unforged_config)
 
   stood : TowerStands shows trace faults G m.opened.core first first
-  stood = m.begun.stands first (subst (λ x. Represents shows (G.kept keeper) (trace vault) x first) (sym is_opened) f.stands)
+  stood = m.begun.stands.tree first (subst (λ x. Represents shows (G.kept keeper) (trace vault) x first) (sym is_opened) f.stands)
 
   -- the store stays that of its configuration
   same_identity : (mid : Mount V K) (earlier : List Exchange) → Ran Serving now m.opened earlier mid → (tower_durables trace).identity (store_of mid) ≡ (tower_durables trace).identity (store_of m.opened)
@@ -111,11 +111,11 @@ module _ {V : Type 0} {K : Type 0} (shows : Showing) (trace : V → Option (List
   -- so its count of forgeries is that of its calls
   counts : (mid : Mount V K) (earlier : List Exchange) → Ran Serving now m.opened earlier mid → forgeries_of trace faults mid ≡ forgeries_at trace c mid
   counts mid earlier r =
-      ap (λ (i : Identity). count_told (forged i.opens i.size) (calls_of trace mid)) (same_identity mid earlier r ∙ m.begun.ready.identity)
+      ap (λ (i : Identity). count_told (forged i.opens i.size) (calls_of trace mid)) (same_identity mid earlier r ∙ m.begun.opened.ready.identity)
       ∙ ap (λ (s : Settings). count_told (forged (opened_of s.key) s.block_size) (calls_of trace mid)) is_opened
 
   at_first : forgeries_of trace faults m.opened ≡ forgeries c (outside_of trace faults G vault keeper)
-  at_first = m.begun.forgeries ∙ ap (λ (s : Settings). count_told (forged (opened_of s.key) s.block_size) (trace vault)) is_opened
+  at_first = m.begun.calls.forgeries ∙ ap (λ (s : Settings). count_told (forged (opened_of s.key) s.block_size) (trace vault)) is_opened
 
   pub right : RightUntilForged shows trace faults G now c first (forgeries c (outside_of trace faults G vault keeper)) m.opened m.left es
   right =

@@ -197,10 +197,10 @@ module _ {V : Type 0} {K : Type 0} (shows : Showing) (trace : V → Option (List
   -- the store has the state of the record that was kept
   same_state : (held_in (store_of old)).state ≡ Loaded
   same_state =
-      let whole = begun.ready.core.whole in
+      let whole = begun.opened.ready.core.whole in
       let bytes = begun.attached.kept.bytes in
-      let same : old.core.saver.last.items ≡ bytes = same_Some _ _ (sym (whole.kept begun.unchanged) ∙ begun.attached.kept.kept) in
-      let own : IsRecord (held_in (store_of old)).state [] bytes = subst (IsRecord (held_in (store_of old)).state []) same (whole.last begun.unchanged) in
+      let same : old.core.saver.last.items ≡ bytes = same_Some _ _ (sym (whole.kept begun.opened.unchanged) ∙ begun.attached.kept.kept) in
+      let own : IsRecord (held_in (store_of old)).state [] bytes = subst (IsRecord (held_in (store_of old)).state []) same (whole.last begun.opened.unchanged) in
       (one_reading (held_in (store_of old)).state Loaded [] [] bytes own begun.attached.kept.is_record).0
 
   -- so each id that it knows that record knew
@@ -218,7 +218,7 @@ module _ {V : Type 0} {K : Type 0} (shows : Showing) (trace : V → Option (List
       record {
         fresh = record { drawn = []; draws = later_same stream; sealed = record { waits = opens.2.waits; adds = opens.2.adds }; known = λ id has. has };
         kept = nothing;
-        last = λ _. subst (λ x. KeepsSealed [] opens.0 x) (begun.ready.core.whole.kept begun.unchanged) nothing;
+        last = λ _. subst (λ x. KeepsSealed [] opens.0 x) (begun.opened.ready.core.whole.kept begun.opened.unchanged) nothing;
       }
 
   pub known_opened : KnownSoFar trace G stream Start stream old

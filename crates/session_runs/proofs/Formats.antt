@@ -21,6 +21,6 @@ module _ {V : Type 0} {K : Type 0} (shows : Showing) (trace : V → Option (List
       → StaysLeast (tower trace faults G) (store_of first) (kept_of G first) (kept_of G left) → Closing shows trace faults G left closing last_vault last_keeper → TakesSame (G.kept keeper) (G.kept last_keeper)
   taken b level stays z = λ least takes.
       let found = b.level least takes in
-      let keeps = opened_keeps trace faults G first b.ready b.unchanged password (G.kept keeper) (trace vault) (calls_of trace first) first.opened b.attached least takes in
+      let keeps = opened_keeps trace faults G first b.opened.ready b.opened.unchanged password (G.kept keeper) (trace vault) (calls_of trace first) first.opened b.attached least takes in
       let mid = stays_at trace faults G least (store_of first) (kept_of G first) (kept_of G left) found stays keeps in
       takes_of trace least (G.kept last_keeper) (stays_at trace faults G least (store_of left) (kept_of G left) (G.kept last_keeper) (level ∙ found) z.closes.least mid)

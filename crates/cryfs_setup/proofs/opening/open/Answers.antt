@@ -8,23 +8,13 @@ pub returns-in-Ok-clause-begun : goal.returns-in-Ok-clause-begun
 returns-in-Ok-clause-begun g c =
     let e = c.in-Ok.ensures in
     record {
-      ready = e.opened.ready;
-      fresh = e.opened.fresh;
-      unchanged = e.opened.unchanged;
+      opened = e.opened;
       attached = e.attached;
-      config = e.stands.config;
-      stands = e.stands.tree;
-      configures = e.stands.file;
-      forgeries = e.calls.forgeries;
-      lies = e.calls.lies;
-      vault_quiet = e.calls.vault_quiet;
-      keeper_quiet = e.calls.keeper_quiet;
       versions = e.versions;
+      stands = e.stands;
+      calls = e.calls;
       level = opened_level g.V.Vault.trace g.V.Vault.faults g.K.Keeper c.in-Ok.mount e.opened.ready e.opened.unchanged c.args.password.now (g.K.Keeper.kept c.args.keeper) _ _ _ e.attached;
     }
-
-pub returns-in-Ok-clause-unchanged : goal.returns-in-Ok-clause-unchanged
-returns-in-Ok-clause-unchanged g c = c.in-Ok.ensures.opened.unchanged
 
 pub returns-in-Err-clause-unopened : goal.returns-in-Err-clause-unopened
 returns-in-Err-clause-unopened g c =
