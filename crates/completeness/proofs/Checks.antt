@@ -29,7 +29,7 @@ use Rattle.session_runs.specs.Openings.{HasCauses, IsUnopened}
 use Rattle.session_runs.specs.Runs.{Outside, outside_of, OpensTo}
 use Rattle.tree_commands.specs.Showing.{ShowsFiles}
 use Rattle.completeness.specs.Checks.{StaysUntold, TellsOwners}
-use Rattle.completeness.specs.Premises.{IsUntroubled, Finds, Leaves}
+use Rattle.completeness.specs.Premises.{OfRun, IsUntroubled, Finds, Leaves}
 use Rattle.completeness.specs.Sessions.{FindsNoMemory}
 use Rattle.completeness.proofs.Configuration.{opens_to}
 use Rattle.completeness.proofs.Opening.{unread, unopened}
@@ -39,8 +39,8 @@ pub untold : (output : Stream) (password : List ℕ) (c : Settings) (tree : Tree
 untold output password c tree after status f = record { ends = f.ends; leaves = f.leaves }
 
 module _ {V : Type 0} {K : Type 0} (trace : V → Option (List Call)) (faults : V → ℕ) (names : V → Option (List (List ℕ))) (G : KeeperGhosts K) (input output : Stream) (vault : V) (keeper : K) (ended : Ended V K) (bytes : List ℕ)
-    (quiet : IsUntroubled input output (outside_of trace faults G vault keeper) (outside_of trace faults G ended.vault ended.keeper)) (c : Settings) (tree : Tree) (finds : Finds input bytes c tree (outside_of trace faults G vault keeper))
-    (causes : HasCauses (outside_of trace faults G vault keeper) (outside_of trace faults G ended.vault ended.keeper) ended.status) where
+    (quiet : OfRun trace faults G vault keeper ended (IsUntroubled input output)) (c : Settings) (tree : Tree) (finds : Finds input bytes c tree (outside_of trace faults G vault keeper))
+    (causes : OfRun trace faults G vault keeper ended (λ before after. HasCauses before after ended.status)) where
   abbrev Before : Outside
   Before = outside_of trace faults G vault keeper
 

@@ -31,7 +31,7 @@ use Rattle.session_saver.specs.declared.saver.SyncError.TheVariants as sync_erro
 use Rattle.setup_texts.specs.MigrateText.{migrated_text}
 use Rattle.tree_commands.specs.Showing.{ShowsFiles}
 use Rattle.completeness.specs.Migrations.{Migrates}
-use Rattle.completeness.specs.Premises.{IsUntroubled, Finds, Leaves}
+use Rattle.completeness.specs.Premises.{OfRun, IsUntroubled, Finds, Leaves}
 use Rattle.completeness.specs.Sessions.{FindsNoMemory}
 use Rattle.completeness.specs.Setups.{IsDone}
 use Rattle.completeness.proofs.Checks.{untold}
@@ -40,7 +40,7 @@ use Rattle.completeness.proofs.Opening.{unread, unopened}
 use Rattle.completeness.proofs.Passwords.{password_is}
 
 module _ {V : Type 0} {K : Type 0} (trace : V → Option (List Call)) (faults : V → ℕ) (G : KeeperGhosts K) (input output : Stream) (vault : V) (keeper : K) (ended : Ended V K) (bytes : List ℕ)
-    (quiet : IsUntroubled input output (outside_of trace faults G vault keeper) (outside_of trace faults G ended.vault ended.keeper)) (c : Settings) (tree : Tree) (finds : Finds input bytes c tree (outside_of trace faults G vault keeper)) where
+    (quiet : OfRun trace faults G vault keeper ended (IsUntroubled input output)) (c : Settings) (tree : Tree) (finds : Finds input bytes c tree (outside_of trace faults G vault keeper)) where
   abbrev Before : Outside
   Before = outside_of trace faults G vault keeper
 

@@ -64,14 +64,15 @@ abbrev pub AttachEnds : {V : Type 0} → {K : Type 0} → (V → Option (List Ca
 AttachEnds trace faults G c tree (Ok mount) = IsAttached trace faults G c tree mount
 AttachEnds trace faults G c tree (Err h) = WantsMemory h.error
 
+-- Where this was left under the password, nothing lies and nothing fails, it ends so, and the same is left again.
+abbrev pub LeavesAgain : List ℕ → Settings → Tree → Type 0 → Outside → Outside → Type 0
+LeavesAgain password c tree Ends before after = Leaves password c tree before → lies after ≤ lies before → IsUnfailed before after → Ends × Leaves password c tree after
+
 abbrev pub AttachCompletes : {V : Type 0} → {K : Type 0} → (V → Option (List Call)) → (V → ℕ) → KeeperGhosts K → Type 0
 AttachCompletes {V = V} {K = K} trace faults G =
     (password : List ℕ) (vault : V) (keeper : K) (result : Result (Mount V K) (Halted V K)) (c : Settings) (tree : Tree)
     → Attaches trace faults G password vault keeper result
-    → Leaves password c tree (outside_of trace faults G vault keeper)
-    → lies (left_by trace faults G result) ≤ lies (outside_of trace faults G vault keeper)
-    → IsUnfailed (outside_of trace faults G vault keeper) (left_by trace faults G result)
-    → AttachEnds trace faults G c tree result × Leaves password c tree (left_by trace faults G result)
+    → LeavesAgain password c tree (AttachEnds trace faults G c tree result) (outside_of trace faults G vault keeper) (left_by trace faults G result)
 
 -- ---- calls that sync
 

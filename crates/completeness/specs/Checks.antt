@@ -18,8 +18,8 @@ use Rattle.run_status.specs.declared.ended.Ended.{Ended}
 use Rattle.run_status.specs.declared.status.Status.{Status}
 use Rattle.run_status.specs.declared.status.Status.TheVariants.{Memory}
 use Rattle.session_runs.specs.Openings.{HasCauses}
-use Rattle.session_runs.specs.Runs.{Outside, outside_of}
-use Rattle.completeness.specs.Premises.{IsUntroubled, Finds, Leaves}
+use Rattle.session_runs.specs.Runs.{Outside}
+use Rattle.completeness.specs.Premises.{OfRun, IsUntroubled, Finds, Leaves}
 use Rattle.completeness.specs.Setups.{IsDone}
 
 -- memory was refused, and the tree is still there under the password
@@ -44,8 +44,6 @@ abbrev pub CheckCompletes : {V : Type 0} → {K : Type 0} → (V → Option (Lis
 CheckCompletes {V = V} {K = K} trace faults names G =
     (input output : Stream) (vault : V) (keeper : K) (ended : Ended V K) (bytes : List ℕ) (c : Settings) (tree : Tree)
     → RanCheck trace faults names G input output vault keeper ended
-    → HasCauses (outside_of trace faults G vault keeper) (outside_of trace faults G ended.vault ended.keeper) ended.status
-    → Finds input bytes c tree (outside_of trace faults G vault keeper)
-    → IsUntroubled input output (outside_of trace faults G vault keeper) (outside_of trace faults G ended.vault ended.keeper)
-    → StaysUntold (first_line bytes) c tree (outside_of trace faults G ended.vault ended.keeper) ended.status
-    ⊎ TellsOwners (names ended.vault) output (first_line bytes) c tree (outside_of trace faults G vault keeper) (outside_of trace faults G ended.vault ended.keeper) ended.status
+    → OfRun trace faults G vault keeper ended (λ before after. HasCauses before after ended.status → Finds input bytes c tree before → IsUntroubled input output before after
+    → StaysUntold (first_line bytes) c tree after ended.status
+    ⊎ TellsOwners (names ended.vault) output (first_line bytes) c tree before after ended.status)

@@ -16,10 +16,10 @@ use Rattle.outside.specs.Trace.{Call}
 use Rattle.outside.specs.declared.keeper.Keeper.{Ghosts as KeeperGhosts}
 use Rattle.run_status.specs.declared.ended.Ended.{Ended}
 use Rattle.run_status.specs.declared.status.Status.{Status}
-use Rattle.session_runs.specs.Runs.{Outside, outside_of}
+use Rattle.session_runs.specs.Runs.{Outside}
 use Rattle.setup_texts.specs.MigrateText.{count_text}
 use Rattle.completeness.specs.Checks.{StaysUntold}
-use Rattle.completeness.specs.Premises.{IsUntroubled, Finds}
+use Rattle.completeness.specs.Premises.{OfRun, IsUntroubled, Finds}
 use Rattle.completeness.specs.Setups.{IsDone}
 
 -- how many blocks there are was told, by the record that was kept before, and a record is kept that takes the newest format alone
@@ -53,6 +53,5 @@ abbrev pub MigrateCompletes : {V : Type 0} → {K : Type 0} → (V → Option (L
 MigrateCompletes {V = V} {K = K} trace faults G =
     (input output : Stream) (vault : V) (keeper : K) (ended : Ended V K) (bytes : List ℕ) (c : Settings) (tree : Tree)
     → RanMigrate trace faults G input output vault keeper ended
-    → Finds input bytes c tree (outside_of trace faults G vault keeper)
-    → IsUntroubled input output (outside_of trace faults G vault keeper) (outside_of trace faults G ended.vault ended.keeper)
-    → Migrates output (first_line bytes) c tree (outside_of trace faults G vault keeper) (outside_of trace faults G ended.vault ended.keeper) ended.status
+    → OfRun trace faults G vault keeper ended (λ before after. Finds input bytes c tree before → IsUntroubled input output before after
+    → Migrates output (first_line bytes) c tree before after ended.status)
