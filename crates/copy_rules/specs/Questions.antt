@@ -2,6 +2,7 @@
 use Rattle.std.specs.Prelude.{◌≡◌, ℕ, ◌≤◌, List, [], ◌∷◌, ◌++◌, map}
 use Rattle.std.specs.declared.result.Result.{Result}
 use Rattle.std.specs.declared.result.Result.TheVariants.{Ok, Err}
+use Rattle.outside.specs.Causes.{RoseBy}
 use Rattle.fs_model.specs.declared.command.Command.{Command}
 use Rattle.fs_model.specs.declared.command.Command.TheVariants as command
 use Rattle.fs_model.specs.declared.reply.Reply.{Reply}
@@ -49,6 +50,11 @@ IsReplyTo (command.Readlink p) reply = ⊥
 IsReplyTo (command.Read p from count) reply = ⊥
 IsReplyTo c Done = Unit {0}
 IsReplyTo c reply = ⊥
+
+-- how often a command wasn't answered: once more where this one wasn't, and else as before
+abbrev pub StopsOnce : Result Reply Stopped → ℕ → ℕ → Type 0
+StopsOnce (Ok reply) old new = new ≡ old
+StopsOnce (Err stopped) old new = (old ≤ new) × RoseBy 1 old new
 
 -- the step of a command that was answered; one that wasn't leaves the tree
 abbrev pub Answered : Tree → Instant → Command → Result Reply Stopped → Tree → Type 0

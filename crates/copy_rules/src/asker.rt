@@ -1,10 +1,9 @@
 // What answers the commands of a copy.
-ghost use Rattle.std.specs.Prelude.{◌≡◌, ◌≤◌, [], ◌∷◌, IfOk, OnOk, OnErr};
-ghost use Rattle.outside.specs.Causes.{RoseBy};
+ghost use Rattle.std.specs.Prelude.{◌≡◌, ◌≤◌, [], ◌∷◌, IfOk};
 ghost use Rattle.fs_model.specs.Fitting.{IsFitting};
 ghost use Rattle.fs_model.specs.Step.{step};
 ghost use Rattle.fs_model.specs.Tree.{Tree};
-ghost use Rattle.copy_rules.specs.Questions.{Asking, LawfulAsker, IsReplyTo};
+ghost use Rattle.copy_rules.specs.Questions.{Asking, LawfulAsker, IsReplyTo, StopsOnce};
 
 use fs_model::{Command, Reply};
 use std::alloc::Global;
@@ -28,9 +27,7 @@ pub trait Asker {
         ensures stands { (t : Tree) → asking.stands_for self.old t → asking.forgeries self.new ≤ asking.forgeries self.old
             → IfOk result (λ reply. (next : Tree) × ((step t (asking.moment self.old) command.now ≡ record { reply = reply; tree = next }) × asking.stands_for self.new next)) }
         ensures forgeries { asking.forgeries self.old ≤ asking.forgeries self.new }
-        ensures stops { asking.stops self.old ≤ asking.stops self.new }
-        ensures cause { OnErr result (RoseBy 1 (asking.stops self.old) (asking.stops self.new)) }
-        ensures quiet { OnOk result (asking.stops self.new ≡ asking.stops self.old) };
+        ensures stops { StopsOnce result (asking.stops self.old) (asking.stops self.new) };
 
     ghost lawful: { LawfulAsker asking };
 }

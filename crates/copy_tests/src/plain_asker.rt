@@ -1,10 +1,9 @@
 // A tree in memory that answers the commands of a copy.
-ghost use Rattle.std.specs.Prelude.{◌≡◌, ◌≤◌, ℕ, [], ◌∷◌, true, IfOk, OnOk, OnErr};
-ghost use Rattle.outside.specs.Causes.{RoseBy};
+ghost use Rattle.std.specs.Prelude.{◌≡◌, ◌≤◌, ℕ, [], ◌∷◌, true, IfOk};
 ghost use Rattle.fs_model.specs.Fitting.{IsFitting};
 ghost use Rattle.fs_model.specs.Step.{step};
 ghost use Rattle.fs_model.specs.Tree.{Tree};
-ghost use Rattle.copy_rules.specs.Questions.{IsReplyTo};
+ghost use Rattle.copy_rules.specs.Questions.{IsReplyTo, StopsOnce};
 ghost use Rattle.copy_tests.specs.Plain.{asking_of, lawful_of};
 
 use block_id::Memory;
@@ -47,9 +46,7 @@ impl Asker for PlainAsker {
         ensures variant { IfOk result (IsReplyTo command.now) }
         ensures stands { (t : Tree) → t ≡ self.old.tree → 0 ≤ 0
             → IfOk result (λ reply. (next : Tree) × ((step t self.old.now command.now ≡ record { reply = reply; tree = next }) × (next ≡ self.new.tree))) }
-        ensures stops { self.old.stops ≤ self.new.stops }
-        ensures cause { OnErr result (RoseBy 1 self.old.stops self.new.stops) }
-        ensures quiet { OnOk result (self.new.stops ≡ self.old.stops) }
+        ensures stops { StopsOnce result self.old.stops self.new.stops }
     {
         let _ = alloc;
         let reply = match self.tree.step(self.now, command) {

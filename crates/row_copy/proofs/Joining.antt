@@ -1,6 +1,6 @@
 -- What one command asks, and commands one after the other.
-use Rattle.std.proofs.Common.{◌≡◌, ◌≤◌, List, [], ◌∷◌, refl, ap}
-use Rattle.std.specs.Prelude.{IfOk, OnOk, Some, None}
+use Rattle.std.proofs.Common.{◌≡◌, ◌≤◌, List, [], ◌∷◌, refl, ap, arith}
+use Rattle.std.specs.Prelude.{IfOk, Some, None}
 use Rattle.std.specs.declared.result.Result.{Result}
 use Rattle.std.specs.declared.result.Result.TheVariants.{Ok, Err}
 use Rattle.fs_model.specs.declared.command.Command.{Command}
@@ -12,7 +12,7 @@ use Rattle.fs_model.specs.Step.{step}
 use Rattle.fs_model.specs.Tree.{Tree}
 use Rattle.copy_rules.specs.declared.asker.Stopped.{Stopped}
 use Rattle.copy_rules.specs.Ends.{path_of}
-use Rattle.copy_rules.specs.Questions.{Question, Asking, Asked, IsReplyTo}
+use Rattle.copy_rules.specs.Questions.{Question, Asking, Asked, IsReplyTo, StopsOnce}
 use Rattle.row_copy.specs.declared.stop.Stop.TheVariants as stop
 use Rattle.row_copy.specs.Rows.{Asks, IsChange, refusal}
 
@@ -20,22 +20,22 @@ abbrev pub one : Command → Result Reply Stopped → List Question
 one c r = record { command = c; outcome = r } ∷ []
 
 module _ {A : Type 0} (M : Asking A) where
-  pub asked_one : (old new : A) (c : Command) (r : Result Reply Stopped) → M.moment new ≡ M.moment old → M.went old (one c r) new → M.forgeries old ≤ M.forgeries new → M.stops old ≤ M.stops new → OnOk r (M.stops new ≡ M.stops old)
+  pub asked_one : (old new : A) (c : Command) (r : Result Reply Stopped) → M.moment new ≡ M.moment old → M.went old (one c r) new → M.forgeries old ≤ M.forgeries new → StopsOnce r (M.stops old) (M.stops new)
       → ((t : Tree) → M.stands_for old t → M.forgeries new ≤ M.forgeries old → IfOk r (λ reply. (next : Tree) × ((step t (M.moment old) c ≡ record { reply = reply; tree = next }) × M.stands_for new next)))
       → Asked M old new (one c r)
-  asked_one old new c (Ok reply) moment went forgeries stops quiet stands = record {
+  asked_one old new c (Ok reply) moment went forgeries stops stands = record {
     went = went;
     moment = moment;
     forgeries = forgeries;
-    stops = stops;
-    quiet = λ h. quiet;
+    stops = omega (arith, stops);
+    quiet = λ h. stops;
     stands = λ t h f. let s = stands t h f in (s.0, ((s.0, (s.1.0, refl)), λ all. s.1.1));
   }
-  asked_one old new c (Err stopped) moment went forgeries stops quiet stands = record {
+  asked_one old new c (Err stopped) moment went forgeries stops stands = record {
     went = went;
     moment = moment;
     forgeries = forgeries;
-    stops = stops;
+    stops = stops.0;
     quiet = λ h. absurd h.0;
     stands = λ t h f. (t, ((t, (refl, refl)), λ all. absurd all.0));
   }

@@ -1,9 +1,9 @@
 -- What a session did, from its first line to its end.
-use Rattle.std.specs.Prelude.{◌≡◌, ◌⊎◌, ℕ, ◌^◌, List, length}
+use Rattle.std.specs.Prelude.{◌≡◌, ◌⊎◌, ◌<◌, ℕ, ◌^◌, true, List, length}
 use Rattle.std.specs.declared.option.Option.{Option}
 use Rattle.fs_model.specs.Instant.{Instant}
 use Rattle.outside.specs.Streams.{appends, Ends}
-use Rattle.line_io.specs.Reading.{Line, TookNoLine}
+use Rattle.line_io.specs.Reading.{Reading, Line, TookNoLine, coming, remaining}
 use Rattle.line_io.specs.Streams.{Stream, HasFailed, TookMost, Cut}
 use Rattle.script_text.specs.Grammar.{command_of}
 use Rattle.answers.specs.declared.answer.Answer.{Answer}
@@ -89,6 +89,11 @@ TellsNext M now old new before after text = (line : List ℕ) × TellsLine M now
 -- and its text was written
 abbrev pub Took : {H : Type 0} → Hosting H → Instant → H → H → Option (List ℕ) → Option (List ℕ) → List ℕ → Stream → Stream → Type 0
 Took M now old new before after text input output = TellsNext M now old new before after text × (output.new ≡ appends output.old text) × IsUnfailed input × IsUnfailed output
+
+-- where the reader stands behind a line: nearer to its end, which it tells only where nothing comes
+pub record IsNearer (old new : Reading) (rest : Option (List ℕ)) : Type 0 where
+  pub nearer : remaining new < remaining old
+  pub ended : new.ended ≡ true → Ends (coming new.ahead rest)
 
 -- a turn in which the lines ended: none was left, the source failed in the next, or the sink failed in the answer
 abbrev pub Stopped : {H : Type 0} → Hosting H → Instant → H → H → Option (List ℕ) → Option (List ℕ) → ℕ → Stream → Stream → List ℕ → End → Type 0

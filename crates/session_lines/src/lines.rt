@@ -1,9 +1,9 @@
 // The lines of an input, each answered into an output before the next is taken.
-ghost use Rattle.std.specs.Prelude.{◌≡◌, ◌≤◌, ◌<◌, true, IfNone, IfSome};
+ghost use Rattle.std.specs.Prelude.{◌≡◌, ◌≤◌, true, IfNone, IfSome};
 ghost use Rattle.outside.specs.Streams.{appends, Ends};
-ghost use Rattle.line_io.specs.Reading.{coming, total, remaining};
+ghost use Rattle.line_io.specs.Reading.{coming, total};
 ghost use Rattle.line_io.specs.Streams.{stream_of};
-ghost use Rattle.session_lines.specs.Driven.{Took, Stopped, Served};
+ghost use Rattle.session_lines.specs.Driven.{Took, Stopped, IsNearer, Served};
 
 use crate::end::End;
 use crate::tell::tell_line;
@@ -31,8 +31,7 @@ fn answer_next<H: Host, I: Source, O: Sink>(
         (stream_of I.rest I.faults input.old input.new) (stream_of O.written O.faults output.old output.new)) }
     ensures stopped { IfSome result (λ end. Stopped H.hosting now host.old host.new (coming reader.old.ahead (I.rest input.old)) (coming reader.new.ahead (I.rest input.new))
         reader.new.taken (stream_of I.rest I.faults input.old input.new) (stream_of O.written O.faults output.old output.new) text.new end) }
-    ensures ended { IfNone result (reader.new.ended ≡ true → Ends (coming reader.new.ahead (I.rest input.new))) }
-    ensures nearer { IfNone result (remaining reader.new < remaining reader.old) }
+    ensures nearer { IfNone result (IsNearer reader.old reader.new (I.rest input.new)) }
     ensures counted { total reader.new.taken (I.rest input.new) ≡ total reader.old.taken (I.rest input.old) }
     ensures input_grows { I.faults input.old ≤ I.faults input.new }
     ensures output_grows { O.faults output.old ≤ O.faults output.new }

@@ -21,12 +21,15 @@ turns-preserved g c =
     record {
       ready = a.ready;
       turned = turned_more g.H.Host.hosting c.args.now _ _ _ _ _ _ (g.I.Source.rest c.turns.input) (g.I.Source.rest c.answer_next.new.input) _ _ _ _ _ _ _ _ _ i.turned.0 c.answer_next.new.text i.turned.1 a.took;
-      ended = a.ended;
+      ended = a.nearer.ended;
       counted = a.counted ∙ i.counted;
       input = omega (arith, i.input, a.input_grows);
       output = omega (arith, i.output, a.output_grows);
       chance = a.chance ∙ i.chance;
     }
+
+pub turns-smaller : goal.turns-smaller
+turns-smaller g c = c.in-None.ensures.nearer.nearer
 
 pub returns-in-Some-clause-served : goal.returns-in-Some-clause-served
 returns-in-Some-clause-served g c =

@@ -11,6 +11,11 @@ returns-in-Ok-clause-took g c =
     let written : g.O.Sink.written c.write_all.new.output ≡ appends (g.O.Sink.written c.args.output.now) c.tell_line.new.text = search rules in
     ((took.0, c.tell_line.ensures.told took.0 (c.line.ensures ∙ took.1), took.2), written, next.quiet, c.in-Ok.ensures.quiet)
 
+pub returns-in-Ok-clause-nearer : goal.returns-in-Ok-clause-nearer
+returns-in-Ok-clause-nearer g c =
+    let next = c.in-Ok-true.ensures in
+    record { nearer = next.nearer (search rules); ended = next.ended }
+
 pub returns-in-Err-write_all-clause-stopped : goal.returns-in-Err-write_all-clause-stopped
 returns-in-Err-write_all-clause-stopped g c =
     let next = c.in-Ok-true.ensures in
