@@ -16,6 +16,7 @@ use Rattle.session_saver.specs.declared.saver.SyncError.TheVariants as sync_erro
 use Rattle.store_api.specs.Content.{Changes}
 use Rattle.store_api.specs.Durables.{Identity, Durables, Records, Enduring}
 use Rattle.store_api.specs.Holdings.{Holdings, Steady, Stays}
+use Rattle.store_api.specs.Leaving.{SetsLeast, StaysMeant}
 use Rattle.tree_commands.specs.Performing.{Showing}
 use Rattle.mount_core.specs.declared.body.Core.{Core}
 use Rattle.mount_core.specs.Answering.{store_of}
@@ -32,22 +33,17 @@ module _ {S : Type 0} {K : Type 0} (shows : Showing) (M : Meanings S) (H : Holdi
   abbrev Standing : Core S K → Tree → Tree → Type 0
   Standing core kept now = CoreStands shows (world M H D R G) core kept now
 
-  -- only the least format was set
+  -- only the least format was set, to this
   pub record Sets (a b : S) : Type 0 where
-    pub intact : M.intact b
-    pub identity : D.identity b ≡ D.identity a
-    pub list : D.list b ≡ D.list a
-    pub trace : D.trace b ≡ D.trace a
+    pub to : ℕ
+    pub sets : SetsLeast D R to a b
     pub stays : Stays H a b
-    pub configures : (kept bytes : List ℕ) → D.is_record a true kept → R.configures kept (D.trace a) bytes → R.configures (D.local_record_of b true) (D.trace b) bytes
-    pub sound : M.sound a → M.sound b
-    pub forgeries : M.forgeries b ≡ M.forgeries a
-    pub lies : M.lies b ≡ M.lies a
+    pub meant : StaysMeant M a b
     pub faults : M.faults b ≡ M.faults a
 
   -- what the store would keep says the same of the configuration's file
   present_on : (a b : S) (bytes : List ℕ) → M.intact a → Sets a b → R.configures (D.local_record_of a true) (D.trace a) bytes → R.configures (D.local_record_of b true) (D.trace b) bytes
-  present_on a b bytes intact u c = u.configures (D.local_record_of a true) bytes (endures.written a true intact) c
+  present_on a b bytes intact u c = u.sets.configures (D.local_record_of a true) bytes (endures.written a true intact) c
 
   -- what is kept is the same
   same_stands : (old new : Core S K) (kept now : Tree) → D.identity (store_of new) ≡ D.identity (store_of old) → D.trace (store_of new) ≡ D.trace (store_of old) → Stays H (store_of old) (store_of new) → M.sound (store_of new)
@@ -65,9 +61,9 @@ module _ {S : Type 0} {K : Type 0} (shows : Showing) (M : Meanings S) (H : Holdi
       → M.sound (store_of new) → new.root ≡ old.root → G.kept new.saver.keeper ≡ Some (D.local_record_of up false) → Standing old kept now → Standing new now now
   short_stands old new up kept now u none ei et stays sound er ek s =
       let short = D.local_record_of up false in
-      let unmarked : (D.identity up).marked ≡ false = ap (λ (i : Identity). i.marked) u.identity ∙ s.unmarked in
-      let is_record = endures.same_record up short (u.list ∙ none) (endures.written up false u.intact) in
-      let stands = endures.stands_now up short u.intact (u.sound s.sound) unmarked is_record in
+      let unmarked : (D.identity up).marked ≡ false = ap (λ (i : Identity). i.marked) u.sets.identity ∙ s.unmarked in
+      let is_record = endures.same_record up short (u.sets.list ∙ none) (endures.written up false u.meant.intact) in
+      let stands = endures.stands_now up short u.meant.intact (u.meant.sound s.sound) unmarked is_record in
       let moved = subst (λ i. R.stands i short (D.trace (store_of new)) (H.content up)) (sym ei) (subst (λ t. R.stands (D.identity up) short t (H.content up)) (sym et) stands) in
       let root = ap (λ x. x.0) er in
       let content = law _ _ (H.content (store_of old)) (H.content up) now (u.stays.content (steady.sound_told (store_of old) s.sound)) s.shown in
@@ -76,7 +72,7 @@ module _ {S : Type 0} {K : Type 0} (shows : Showing) (M : Meanings S) (H : Holdi
         keeps = record { content = H.content up; represents = (short, ek, moved); shown = shown };
         sound = sound;
         unmarked = ap (λ (i : Identity). i.marked) ei ∙ unmarked;
-        shown = law _ _ (H.content up) (H.content (store_of new)) now (stays.content (steady.sound_told up (u.sound s.sound))) shown;
+        shown = law _ _ (H.content up) (H.content (store_of new)) now (stays.content (steady.sound_told up (u.meant.sound s.sound))) shown;
       }
 
   -- what it says of the configuration's file is what the store would keep
@@ -87,16 +83,16 @@ module _ {S : Type 0} {K : Type 0} (shows : Showing) (M : Meanings S) (H : Holdi
       → ((kept now : Tree) → Standing old kept now → Roomed shows (world M H D R G) new kept now) → ((may : List (List ℕ)) (now : List ℕ) → CoreConfigures H D R G old may now → CoreConfigures H D R G new may now)
       → Proceeds shows (world M H D R G) old new
   set_proceeds old new u er ev stands configures =
-      let f = u.forgeries in
-      let l = u.lies in
+      let f = u.meant.forgeries in
+      let l = u.meant.lies in
       record {
         stands = λ kept now s few. stands kept now s;
         configures = configures;
-        identity = u.identity;
+        identity = u.sets.identity;
         payload = u.stays.payload;
         ids = u.stays.ids;
-        goes_on = goes_on_equal (D.trace (store_of old)) (D.trace (store_of new)) u.trace;
-        sound = λ sound few. u.sound sound;
+        goes_on = goes_on_equal (D.trace (store_of old)) (D.trace (store_of new)) u.sets.trace;
+        sound = λ sound few. u.meant.sound sound;
         forgeries = omega (arith, f);
         lies = omega (arith, l);
         unforged = λ sound honest. omega (arith, f);
@@ -111,18 +107,18 @@ module _ {S : Type 0} {K : Type 0} (shows : Showing) (M : Meanings S) (H : Holdi
     kept_configures : (may : List (List ℕ)) (now : List ℕ) → CoreConfigures H D R G old may now → CoreConfigures H D R G new may now
     kept_configures may now c =
         let present = present_on (store_of old) (store_of new) now intact u c.present in
-        let short = subst (λ x. R.configures x (D.trace (store_of new)) now) (sym last) (short_configures (store_of new) now u.intact (u.list ∙ none) present) in
+        let short = subst (λ x. R.configures x (D.trace (store_of new)) now) (sym last) (short_configures (store_of new) now u.meant.intact (u.sets.list ∙ none) present) in
         record { told = u.stays.told ∙ c.told; among = c.among; kept = (now, c.among, (new.saver.last.items, kept, short)); last = (now, c.among, short); present = present }
 
     pub kept_rests : Rests shows (world M H D R G) old (Ok tt) new
     kept_rests = record {
       proceeds = set_proceeds old new u er ev
-          (λ k now s. inr (short_stands old new (store_of new) k now u none refl refl (stays_none (store_of new)) (u.sound s.sound) er (kept ∙ ap Some last) s))
+          (λ k now s. inr (short_stands old new (store_of new) k now u none refl refl (stays_none (store_of new)) (u.meant.sound s.sound) er (kept ∙ ap Some last) s))
           kept_configures;
       reason = done_reason shows M H D R G old new [] u.faults quiet;
       used = u.stays.used;
       versions = u.stays.version;
-      stays_new = λ id n. new_same M H applied D R endures (store_of old) (store_of new) id u.list u.trace n;
+      stays_new = λ id n. new_same M H applied D R endures (store_of old) (store_of new) id u.sets.list u.sets.trace n;
     }
       where
         stays_none : (s : S) → Stays H s s
@@ -132,7 +128,7 @@ module _ {S : Type 0} {K : Type 0} (shows : Showing) (M : Meanings S) (H : Holdi
     kept_record least unchanged = record {
       bytes = new.saver.last.items;
       kept = kept;
-      is_record = subst (λ x. D.is_record (store_of new) false x) (sym last) (endures.written (store_of new) false u.intact);
+      is_record = subst (λ x. D.is_record (store_of new) false x) (sym last) (endures.written (store_of new) false u.meant.intact);
       least = least;
       unchanged = unchanged;
     }
@@ -146,29 +142,30 @@ module _ {S : Type 0} {K : Type 0} (shows : Showing) (M : Meanings S) (H : Holdi
 
     lost_sets : Sets (store_of old) (store_of new)
     lost_sets = record {
-      intact = d.intact;
-      identity = d.identity ∙ u.identity;
-      list = d.list ∙ u.list;
-      trace = d.trace ∙ u.trace;
+      to = d.to;
+      sets = record {
+        least = d.sets.least;
+        identity = d.sets.identity ∙ u.sets.identity;
+        list = d.sets.list ∙ u.sets.list;
+        trace = d.sets.trace ∙ u.sets.trace;
+        configures = λ record_ bytes is c. present_on up (store_of new) bytes u.meant.intact d (u.sets.configures record_ bytes is c);
+      };
       stays = both;
-      configures = λ record_ bytes is c. present_on up (store_of new) bytes u.intact d (u.configures record_ bytes is c);
-      sound = λ s. d.sound (u.sound s);
-      forgeries = d.forgeries ∙ u.forgeries;
-      lies = d.lies ∙ u.lies;
+      meant = record { intact = d.meant.intact; sound = λ s. d.meant.sound (u.meant.sound s); forgeries = d.meant.forgeries ∙ u.meant.forgeries; lies = d.meant.lies ∙ u.meant.lies };
       faults = d.faults ∙ u.faults;
     }
 
     lost_stands : (k now : Tree) → Standing old k now → Roomed shows (world M H D R G) new k now
     lost_stands k now s = elim kept as (λ _. Roomed shows (world M H D R G) new k now) [
-      | inl same ↦ inl (same_stands old new k now lost_sets.identity lost_sets.trace both (lost_sets.sound s.sound) er same s)
-      | inr short ↦ inr (short_stands old new up k now u none d.identity d.trace d.stays (lost_sets.sound s.sound) er short s)
+      | inl same ↦ inl (same_stands old new k now lost_sets.sets.identity lost_sets.sets.trace both (lost_sets.meant.sound s.sound) er same s)
+      | inr short ↦ inr (short_stands old new up k now u none d.sets.identity d.sets.trace d.stays (lost_sets.meant.sound s.sound) er short s)
     ]
 
     lost_configures : (may : List (List ℕ)) (now : List ℕ) → CoreConfigures H D R G old may now → CoreConfigures H D R G new may now
     lost_configures may now c =
-        let t = lost_sets.trace in
+        let t = lost_sets.sets.trace in
         let middle = present_on (store_of old) up now intact u c.present in
-        let short = subst (λ x. R.configures (D.local_record_of up false) x now) (sym d.trace) (short_configures up now u.intact (u.list ∙ none) middle) in
+        let short = subst (λ x. R.configures (D.local_record_of up false) x now) (sym d.sets.trace) (short_configures up now u.meant.intact (u.sets.list ∙ none) middle) in
         record {
           told = both.told ∙ c.told;
           among = c.among;
@@ -177,7 +174,7 @@ module _ {S : Type 0} {K : Type 0} (shows : Showing) (M : Meanings S) (H : Holdi
             | inr is ↦ (now, c.among, (D.local_record_of up false, is, short))
           ];
           last = (c.last.0, c.last.1, subst (λ x. R.configures x (D.trace (store_of new)) c.last.0) (sym last) (subst (λ x. R.configures old.saver.last.items x c.last.0) (sym t) c.last.2));
-          present = present_on up (store_of new) now u.intact d middle;
+          present = present_on up (store_of new) now u.meant.intact d middle;
         }
 
     lost_proceeds : Proceeds shows (world M H D R G) old new

@@ -24,18 +24,7 @@ SetsBy g a b = Sets ShowsFiles g.S.Blocks.meanings g.S.Blocks.holdings g.S.Durab
 -- what set_least says of a store
 sets_by : (g : Over) (a b : g.row.S.Denot) (to : ℕ) → SetsLeast g.S.Durable.durables g.S.Durable.records to a b → Stays g.S.Blocks.holdings a b → StaysMeant g.S.Blocks.meanings a b
     → g.S.Blocks.meanings.faults b ≡ g.S.Blocks.meanings.faults a → SetsBy g a b
-sets_by g a b to sets stays meant faults = record {
-  intact = meant.intact;
-  identity = sets.identity;
-  list = sets.list;
-  trace = sets.trace;
-  stays = stays;
-  configures = sets.configures;
-  sound = meant.sound;
-  forgeries = meant.forgeries;
-  lies = meant.lies;
-  faults = faults;
-}
+sets_by g a b to sets stays meant faults = record { to = to; sets = sets; stays = stays; meant = meant; faults = faults }
 
 -- the body with this store and this saver
 abbrev with_store : (g : Over) → CoreOf g → g.row.S.Denot → Saver g.row.K.Denot → CoreOf g
