@@ -206,11 +206,13 @@ module _ {V : Type 0} {K : Type 0} (trace : V → Option (List Call)) (faults : 
       → (tower_durables trace).least (store_of left) ≡ (tower_durables trace).least (store_of first) → StaysLeast (tower trace faults G) (store_of first) (kept_of G first) (kept_of G left)
       → UnlessDirectory change (vault_faults trace faults left ≡ vault_faults trace faults first) → UnlessState change (keeper_faults G left ≡ keeper_faults G first) → IsChanged trace faults G old new chance left_chance output vault keeper ended
   changed status output es r drawn synced configures opens holds empty keeps identity versions level least vault_quiet keeper_quiet = record {
-    o = first.opened;
-    kept = kept_of G first;
-    calls = calls_of trace first;
-    attached = b.attached;
-    goes_on = calls_on trace faults G old vault keeper first left closing ended.vault ended.keeper b z fresh same on (stands synced);
+    was = record {
+      opened = first.opened;
+      kept = kept_of G first;
+      calls = calls_of trace first;
+      attached = b.attached;
+      goes_on = calls_on trace faults G old vault keeper first left closing ended.vault ended.keeper b z fresh same on (stands synced);
+    };
     change = change;
     told = status;
     reports = r;

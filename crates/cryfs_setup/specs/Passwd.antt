@@ -10,11 +10,9 @@ use Rattle.held_blocks.specs.Standing.{records}
 use Rattle.line_io.specs.Streams.{Stream, Untouched}
 use Rattle.mount_tower.specs.Drawing.{seal_drawn}
 use Rattle.mount_tower.specs.Making.{sealed_file}
-use Rattle.mount.specs.Mounts.{Attached}
 use Rattle.mount_tower.specs.Identities.{HasEmptyList}
 use Rattle.mount_tower.specs.declared.error.OpenError.{OpenError}
 use Rattle.mount_core.specs.Standing.{IsKeptMarked}
-use Rattle.outside.specs.Going.{GoesOn}
 use Rattle.outside.specs.Trace.{Call}
 use Rattle.outside.specs.declared.keeper.Keeper.{Ghosts as KeeperGhosts}
 use Rattle.passwords.specs.Passwords.{PasswordsUnread}
@@ -25,7 +23,7 @@ use Rattle.run_status.specs.declared.ended.Ended.{Ended}
 use Rattle.run_status.specs.declared.status.Status.{Status}
 use Rattle.run_status.specs.Statuses.{first_of}
 use Rattle.session_lines.specs.Driven.{IsUnfailed}
-use Rattle.session_runs.specs.Runs.{Outside, outside_of, OpensTo, IsQuietRun, directory_fault, state_fault}
+use Rattle.session_runs.specs.Runs.{Outside, outside_of, OpensTo, WasAttached, IsQuietRun, directory_fault, state_fault}
 use Rattle.session_saver.specs.Saving.{KeptConfigures}
 use Rattle.session_saver.specs.declared.saver.SyncError.{SyncError}
 use Rattle.tree_commands.specs.Showing.{ShowsFiles}
@@ -39,11 +37,7 @@ pub record NewOpens (new file : List ℕ) (o : Opened) (after : Outside) : Type 
 -- Under the old password a file system was opened, and its password changed, or not by an error. The new text is that of the configuration and the
 -- parameters that were found, and of what was drawn from a stream, which is left so.
 pub record IsChanged {V : Type 0} {K : Type 0} (trace : V → Option (List Call)) (faults : V → ℕ) (G : KeeperGhosts K) (old new : List ℕ) (chance left : Chance) (output : Stream) (vault : V) (keeper : K) (ended : Ended V K) : Type 0 where
-  pub o : Opened
-  pub kept : Option (List ℕ)
-  pub calls : Option (List Call)
-  pub attached : Attached old (G.kept keeper) kept (trace vault) calls o
-  pub goes_on : GoesOn calls (trace ended.vault)
+  pub was : WasAttached old (outside_of trace faults G vault keeper) (outside_of trace faults G ended.vault ended.keeper)
   pub change : Result Unit SyncError
   pub told : Status
   pub reports : Reports change output told
@@ -57,15 +51,15 @@ pub record IsChanged {V : Type 0} {K : Type 0} (trace : V → Option (List Call)
   pub state_quiet : state_fault change + state_fault closing ≡ 0 → G.faults ended.keeper ≡ G.faults keeper
   pub drawn : left ≡ (seal_drawn chance).1
   -- after a change the new password opens the configuration's file; after an error it does, or the file is as it was
-  pub opens : is_some (trace vault) ≡ true → OnOk change (NewOpens new (sealed_file new o.params (seal_drawn chance).0 (settings_of o.config)) o (outside_of trace faults G ended.vault ended.keeper))
+  pub opens : is_some (trace vault) ≡ true → OnOk change (NewOpens new (sealed_file new was.opened.params (seal_drawn chance).0 (settings_of was.opened.config)) was.opened (outside_of trace faults G ended.vault ended.keeper))
   pub stays : (file : List ℕ) → is_some (trace vault) ≡ true → KeptConfigures records (G.kept keeper) (trace vault) file
       → KeptConfigures records (G.kept ended.keeper) (trace ended.vault) file
-      ⊎ NewOpens new (sealed_file new o.params (seal_drawn chance).0 (settings_of o.config)) o (outside_of trace faults G ended.vault ended.keeper)
+      ⊎ NewOpens new (sealed_file new was.opened.params (seal_drawn chance).0 (settings_of was.opened.config)) was.opened (outside_of trace faults G ended.vault ended.keeper)
   pub emptied : OnOk change (HasEmptyList (G.kept ended.keeper))
   -- however both ended, a record is kept and no block's version in it rose
   pub versions : VersionsSince (G.kept keeper) (G.kept ended.keeper) []
   -- it is the one under which what was kept stood for a tree
-  pub config : (c : Settings) (tree : Tree) → OpensTo ShowsFiles old c tree (outside_of trace faults G vault keeper) (outside_of trace faults G ended.vault ended.keeper) → settings_of o.config ≡ c
+  pub config : (c : Settings) (tree : Tree) → OpensTo ShowsFiles old c tree (outside_of trace faults G vault keeper) (outside_of trace faults G ended.vault ended.keeper) → settings_of was.opened.config ≡ c
   pub unmarked : ¬ IsKeptMarked records (G.kept keeper)
   pub quiet : IsQuietRun ShowsFiles old (outside_of trace faults G vault keeper) (outside_of trace faults G ended.vault ended.keeper)
 
