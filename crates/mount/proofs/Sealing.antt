@@ -222,7 +222,7 @@ one_given : (list : FileChanges) (es : List (Id × Option (List ℕ))) (id paylo
 one_given list [] id payload found = absurd (cc)
 one_given list (e ∷ es) id payload found =
     elim (eq_by_cmp id_cmp id e.0) as (λ b. eq_by_cmp id_cmp id e.0 ≡ b → cond b (Some e.1) (find id_cmp id es) ≡ Some (Some payload)
-        → IsDrawnFor (vectors_for list (given_in (e ∷ es))) id (file_at (change_at (block id) list))) [
+    → IsDrawnFor (vectors_for list (given_in (e ∷ es))) id (file_at (change_at (block id) list))) [
       | true ↦ λ s here.
           let key : id ≡ e.0 = slice_cmp-IsAntisymmetric nat_cmp-IsAntisymmetric id e.0 ((Equal-is (id_cmp id e.0)).0 s) in
           let value : e.1 ≡ Some payload = cc in

@@ -20,9 +20,9 @@ use run_status::{Ended, Storage};
 use std::alloc::Global;
 use std::io::{Read, Write};
 
-/// Runs the program with the words and the moment of these inputs over its block folder and over the record of its state folder, and beside this folder for copies.
-/// It is a call of `run`, after whatever calls the block folder tells: so all that is said of such a call holds of the calls on the folder that this run adds,
-/// and of the bytes that it adds to those that the output took.
+/// Runs the program with the words and the moment of these inputs, over this block folder and this record, and beside this folder for copies.
+/// It is a call of `run`, after whatever calls the block folder tells: so all that is said of such a call holds of the calls on the folder
+/// that this run adds, and of the bytes that it adds to those that the output took.
 pub fn run_program<'a, I: Read, O: Write, R: Rng, F: Folder>(
     alloc: Global,
     inputs: &Inputs,
