@@ -87,8 +87,8 @@ come_forget seed left used old new id is c = come_within seed left used old new 
 
 -- ---- one more id
 
-has-both : (xs ys : List Id) (id : Id) → has_id (xs ++ ys) id ≡ (has_id xs id || has_id ys id)
-has-both xs ys id = list_any-append (same_id id) xs ys
+pub has-append : (xs ys : List Id) (id : Id) → has_id (xs ++ ys) id ≡ (has_id xs id || has_id ys id)
+has-append xs ys id = list_any-append (same_id id) xs ys
 
 -- what isn't free of the changes and the store was drawn or is used
 not_free : (seed : List ℕ) (left : Stream) (used : List Id) (changes : Changes) (c : ComeOfSeed seed left used changes) (q : Id) → is_free (fin.keys changes ++ used) q ≡ false → is_free (c.drawn ++ used) q ≡ false
@@ -101,7 +101,7 @@ not_free seed left used changes c q taken = by (has_id used q) refl (is_some (fi
     told = ap (λ b. not b && not zero) (sym (has_id-over changes used q)) ∙ taken
 
     shown : (x y : Bool) → has_id c.drawn q ≡ x → has_id used q ≡ y → is_free (c.drawn ++ used) q ≡ (not (x || y) && not zero)
-    shown x y e f = ap (λ b. not b && not zero) (has-both c.drawn used q ∙ (ap (λ b. b || has_id used q) e ∙ ap (λ b. x || b) f))
+    shown x y e f = ap (λ b. not b && not zero) (has-append c.drawn used q ∙ (ap (λ b. b || has_id used q) e ∙ ap (λ b. x || b) f))
 
     over_true : (x : Bool) → (not (x || true) && not zero) ≡ false
     over_true true = refl

@@ -6,8 +6,10 @@ use Rattle.std.specs.FinMap.{get-empty, get-insert, get-remove}
 use Rattle.std.proofs.lemmas.Option.{none-some}
 use Rattle.block_id.specs.Fresh.{zero_id}
 use Rattle.store_api.specs.Content.{Id, id_cmp, same_id, Changes, or_else, over}
-use Rattle.store_api.specs.Holdings.{Holdings, FitsStore, MayGet, Stays, has_id, is_free}
-use Rattle.store_api.specs.Overlay.{has_id-over}
+use Rattle.store_api.specs.Holdings.{Holdings, FitsStore, IsFew, MayGet, Stays, has_id, is_free}
+use Rattle.store_api.specs.Ids.{Drawn}
+use Rattle.store_api.specs.Overlay.{Overlaid, has_id-over}
+use Rattle.store_api.proofs.Ids.{come_used}
 use Rattle.store_api.proofs.Rising.{ids_total, same_id_is}
 
 pub fits_nothing : {S : Type 0} (H : Holdings S) (s : S) → FitsStore H s fin.empty
@@ -26,6 +28,14 @@ fits-stays H a b changes stays fits = record {
   sized = λ id bytes e. fits.sized id bytes e ∙ sym stays.payload;
   gets = λ id bytes e. may_get-stays H a b id stays (fits.gets id bytes e);
   removes = λ id e. stays.ids id ∙ fits.removes id e;
+}
+
+-- the changes over a store stay such while blocks are loaded from it
+pub overlaid-stays : {S : Type 0} (H : Holdings S) (a b : S) (changes : Changes) (drawn : Drawn) → Stays H a b → Overlaid H a changes drawn → Overlaid H b changes drawn
+overlaid-stays H a b changes drawn stays o = record {
+  fits = fits-stays H a b changes stays o.fits;
+  few = subst IsFew (sym stays.used) o.few;
+  ids = come_used drawn.seed drawn.left (H.used a) (H.used b) changes stays.used o.ids;
 }
 
 -- what the changes let an id get, the store below lets it get

@@ -4,8 +4,10 @@ pub mod Draws
 pub mod Holdings
 pub mod Ids
 pub mod Durables
+pub mod Fronts
 pub mod Leaving
 pub mod Lists
 pub mod Loads
 pub mod Overlay
 pub mod Passing
+pub mod Txs

@@ -1,5 +1,5 @@
 // A store of payloads under ids.
-ghost use Rattle.std.specs.Prelude.{◌≡◌, ◌≤◌, IfOk, IfErr, IfSome, OnOk, OnErr, length, is_some, ◌↔◌};
+ghost use Rattle.std.specs.Prelude.{◌≡◌, ◌≤◌, IfOk, IfErr, IfSome, OnOk, OnErr, length, is_some, min, ◌↔◌};
 ghost use Rattle.std.specs.declared.result.Result.TheVariants.{Err};
 ghost use Rattle.outside.specs.View.{bytes_of};
 ghost use Rattle.outcome.specs.Meanings.{Meanings, Lawful, IsOfBlocks};
@@ -8,6 +8,7 @@ ghost use Rattle.block_id.specs.Fresh.{IsFirstFree};
 ghost use Rattle.rand_core.specs.Stream.{Stream};
 ghost use Rattle.store_api.specs.Applying.{Applies, AppliesNone, KeepsCounts};
 ghost use Rattle.store_api.specs.Content.{Id, Changes};
+ghost use Rattle.store_api.specs.Fronts.{front_of};
 ghost use Rattle.store_api.specs.Loads.{LoadAnswer, answer_of};
 ghost use Rattle.store_api.specs.Holdings.{Holdings, Steady, Stays, FitsStore, IsSpent, IsFew, is_free, has_id};
 
@@ -41,6 +42,21 @@ pub trait Blocks {
         ensures none { IfOk result (λ answer. is_some answer ≡ is_some (holdings.content self.old id.now.0)) }
         ensures sized { IfOk result (λ answer. IfSome answer (λ bytes. length bytes.items ≡ holdings.payload self.old)) }
         ensures loads { loads self.old self.new id.now.0 (answer_of result) };
+
+    /// The first bytes of the id's payload, at most so many, or None where the id isn't in the content. The whole block is
+    /// read and judged, as a load does; no more than these bytes need be opened.
+    fn load_front(
+        &mut self,
+        alloc: Global,
+        id: &BlockId,
+        most: usize,
+    ) -> Result<Option<Vec<u8>>, Fail>
+        requires { meanings.intact self.old }
+        ensures outcome { Outcome meanings Unit self.old self.new result (λ _ answer. bytes_of answer ≡ front_of most (holdings.content self.old id.now.0)) }
+        ensures stays { Stays holdings self.old self.new }
+        ensures of_blocks { IfErr result IsOfBlocks }
+        ensures none { IfOk result (λ answer. is_some answer ≡ is_some (holdings.content self.old id.now.0)) }
+        ensures sized { IfOk result (λ answer. IfSome answer (λ bytes. length bytes.items ≡ min most (holdings.payload self.old))) };
 
     /// Whether the id was ever in the content.
     fn is_used(&self, id: &BlockId) -> bool

@@ -1,5 +1,5 @@
 // One command's changes over a store.
-ghost use Rattle.std.specs.Prelude.{◌≡◌, ◌↔◌, OnOk, OnErr, IfOk, IfErr, IfSome, length, is_some, true};
+ghost use Rattle.std.specs.Prelude.{◌≡◌, ◌↔◌, OnOk, OnErr, IfOk, IfErr, IfSome, length, is_some, min, true};
 ghost use Rattle.outside.specs.View.{bytes_of};
 ghost use Rattle.outcome.specs.Meanings.{IsOfBlocks};
 ghost use Rattle.outcome.specs.Outcome.{Outcome};
@@ -7,10 +7,11 @@ ghost use Rattle.std.specs.declared.result.Result.TheVariants.{Err};
 ghost use Rattle.std.specs.FinMap as fin;
 ghost use Rattle.rand_chacha.specs.ChaCha.{of_seed};
 ghost use Rattle.store_api.specs.Applying.{Applies, AppliesNone, KeepsCounts};
+ghost use Rattle.store_api.specs.Fronts.{front_of};
 ghost use Rattle.store_api.specs.Holdings.{IsFew, IsSpent, Stays, is_free};
-ghost use Rattle.store_api.specs.Ids.{stream_left};
 ghost use Rattle.store_api.specs.Loads.{LoadsOver, loads_over, answer_of};
-ghost use Rattle.store_api.specs.Overlay.{without, meanings_over, holdings_over, lawful_over, steady_over};
+ghost use Rattle.store_api.specs.Overlay.{without};
+ghost use Rattle.store_api.specs.Txs.{changes_in, content_of, intact_in, store_in, tx_holdings, tx_laws, tx_meanings, tx_steady};
 
 use crate::fresh::first_free;
 use crate::{ApplyError, BatchChange, Blocks, BlocksMut, Draft};
@@ -32,7 +33,7 @@ impl<S: Blocks> Tx<S> {
     pub fn new(alloc: Global, store: S, seed: [u8; 32]) -> Tx<S>
         requires intact { S.meanings.intact store }
         requires few { IsFew (S.holdings.used store) }
-        ensures intact { ⟦<Tx<S> as Blocks>⟧.meanings.intact result }
+        ensures intact { intact_in S.meanings S.holdings result }
         ensures store { result.store ≡ store }
         ensures overlay { result.overlay ≡ fin.empty }
         ensures seed { result.seed ≡ seed }
@@ -49,7 +50,7 @@ impl<S: Blocks> Tx<S> {
     pub fn begin(&mut self, seed: [u8; 32])
         requires intact { S.meanings.intact self.old.store }
         requires few { IsFew (S.holdings.used self.old.store) }
-        ensures intact { ⟦<Tx<S> as Blocks>⟧.meanings.intact self.new }
+        ensures intact { intact_in S.meanings S.holdings self.new }
         ensures begun { self.new ≡ record self.old { overlay = fin.empty; seed = seed; ids = of_seed seed } }
     {
         self.overlay.clear();
@@ -66,10 +67,10 @@ impl<S: Blocks> Tx<S> {
 
     /// Has the id, which is in the content, get this payload.
     pub fn put(&mut self, id: &BlockId, payload: Vec<u8>) -> Result<(), Memory>
-        requires intact { ⟦<Tx<S> as Blocks>⟧.meanings.intact self.old }
+        requires intact { intact_in S.meanings S.holdings self.old }
         requires sized { length payload.items ≡ S.holdings.payload self.old.store }
-        requires there { is_some (⟦<Tx<S> as Blocks>⟧.holdings.content self.old id.now.0) ≡ true }
-        ensures intact { ⟦<Tx<S> as Blocks>⟧.meanings.intact self.new }
+        requires there { is_some (content_of S.holdings self.old id.now.0) ≡ true }
+        ensures intact { intact_in S.meanings S.holdings self.new }
         ensures store { self.new.store ≡ self.old.store }
         ensures seed { self.new.seed ≡ self.old.seed }
         ensures ok { OnOk result (self.new.overlay ≡ fin.insert self.old.overlay id.now.0 (Some payload.items)) }
@@ -80,9 +81,9 @@ impl<S: Blocks> Tx<S> {
 
     /// Has the id removed. One that was new in the changes is forgotten.
     pub fn remove(&mut self, id: &BlockId) -> Result<(), Memory>
-        requires intact { ⟦<Tx<S> as Blocks>⟧.meanings.intact self.old }
-        requires there { is_some (⟦<Tx<S> as Blocks>⟧.holdings.content self.old id.now.0) ≡ true }
-        ensures intact { ⟦<Tx<S> as Blocks>⟧.meanings.intact self.new }
+        requires intact { intact_in S.meanings S.holdings self.old }
+        requires there { is_some (content_of S.holdings self.old id.now.0) ≡ true }
+        ensures intact { intact_in S.meanings S.holdings self.new }
         ensures store { self.new.store ≡ self.old.store }
         ensures seed { self.new.seed ≡ self.old.seed }
         ensures ok { OnOk result (self.new.overlay ≡ without (S.holdings.used self.old.store) self.old.overlay id.now.0) }
@@ -98,12 +99,12 @@ impl<S: Blocks> Tx<S> {
     /// Has a new id get this payload: 16 bytes of the generator, or the first id after them that is neither zero nor
     /// used, in the changes or in the store.
     pub fn add(&mut self, payload: Vec<u8>) -> Result<BlockId, Memory>
-        requires intact { ⟦<Tx<S> as Blocks>⟧.meanings.intact self.old }
+        requires intact { intact_in S.meanings S.holdings self.old }
         requires sized { length payload.items ≡ S.holdings.payload self.old.store }
-        ensures intact { ⟦<Tx<S> as Blocks>⟧.meanings.intact self.new }
+        ensures intact { intact_in S.meanings S.holdings self.new }
         ensures store { self.new.store ≡ self.old.store }
         ensures seed { self.new.seed ≡ self.old.seed }
-        ensures free { IfOk result (λ id. is_free (⟦<Tx<S> as Blocks>⟧.holdings.used self.old) id.0 ≡ true) }
+        ensures free { IfOk result (λ id. is_free ((tx_holdings S.holdings).used self.old) id.0 ≡ true) }
         ensures ok { IfOk result (λ id. self.new.overlay ≡ fin.insert self.old.overlay id.0 (Some payload.items)) }
         ensures err { OnErr result (self.new.overlay ≡ self.old.overlay) }
     {
@@ -121,8 +122,8 @@ impl<S: Blocks> Tx<S> {
     pub fn commit<R: Rng>(&mut self, alloc: Global, chance: &mut R) -> Result<(), ApplyError>
     where
         S: BlocksMut,
-        requires { ⟦<Tx<S> as Blocks>⟧.meanings.intact self.old }
-        ensures intact { ⟦<Tx<S> as Blocks>⟧.meanings.intact self.new }
+        requires { intact_in S.Blocks.meanings S.Blocks.holdings self.old }
+        ensures intact { intact_in S.Blocks.meanings S.Blocks.holdings self.new }
         ensures seed { self.new.seed ≡ self.old.seed }
         ensures ok { OnOk result (Applies S.Blocks.meanings S.Blocks.holdings S.applied S.drawn self.old.store self.new.store self.old.overlay (R.stream chance.old) (R.stream chance.new)) }
         ensures emptied { OnOk result (self.new.overlay ≡ fin.empty) }
@@ -143,8 +144,8 @@ impl<S: Blocks> Tx<S> {
 
     /// Forgets the changes.
     pub fn abandon(&mut self)
-        requires { ⟦<Tx<S> as Blocks>⟧.meanings.intact self.old }
-        ensures intact { ⟦<Tx<S> as Blocks>⟧.meanings.intact self.new }
+        requires { intact_in S.meanings S.holdings self.old }
+        ensures intact { intact_in S.meanings S.holdings self.new }
         ensures store { self.new.store ≡ self.old.store }
         ensures seed { self.new.seed ≡ self.old.seed }
         ensures overlay { self.new.overlay ≡ fin.empty }
@@ -169,19 +170,19 @@ impl<S: Blocks> Tx<S> {
 }
 
 impl<S: Blocks> Blocks for Tx<S> {
-    ghost meanings = { meanings_over (λ t. t.store) (λ t. t.overlay) (λ t. record { seed = t.seed; left = stream_left t.ids }) S.meanings S.holdings };
+    ghost meanings = { tx_meanings S.meanings S.holdings };
 
-    ghost holdings = { holdings_over (λ t. t.store) (λ t. t.overlay) S.holdings };
+    ghost holdings = { tx_holdings S.holdings };
 
-    ghost loads = { loads_over (λ t. t.store) (λ t. t.overlay) S.loads };
+    ghost loads = { loads_over store_in changes_in S.loads };
 
     fn load(&mut self, alloc: Global, id: &BlockId) -> Result<Option<Vec<u8>>, Fail>
-        requires { ⟦<Tx<S> as Blocks>⟧.meanings.intact self.old }
-        ensures outcome { Outcome ⟦<Tx<S> as Blocks>⟧.meanings Unit self.old self.new result (λ _ answer. bytes_of answer ≡ ⟦<Tx<S> as Blocks>⟧.holdings.content self.old id.now.0) }
-        ensures stays { Stays ⟦<Tx<S> as Blocks>⟧.holdings self.old self.new }
+        requires { intact_in S.meanings S.holdings self.old }
+        ensures outcome { Outcome (tx_meanings S.meanings S.holdings) Unit self.old self.new result (λ _ answer. bytes_of answer ≡ content_of S.holdings self.old id.now.0) }
+        ensures stays { Stays (tx_holdings S.holdings) self.old self.new }
         ensures of_blocks { IfErr result IsOfBlocks }
-        ensures none { IfOk result (λ answer. is_some answer ≡ is_some (⟦<Tx<S> as Blocks>⟧.holdings.content self.old id.now.0)) }
-        ensures sized { IfOk result (λ answer. IfSome answer (λ bytes. length bytes.items ≡ ⟦<Tx<S> as Blocks>⟧.holdings.payload self.old)) }
+        ensures none { IfOk result (λ answer. is_some answer ≡ is_some (content_of S.holdings self.old id.now.0)) }
+        ensures sized { IfOk result (λ answer. IfSome answer (λ bytes. length bytes.items ≡ S.holdings.payload self.old.store)) }
         ensures loads { LoadsOver S.loads (fin.get self.old.overlay id.now.0) self.old.store self.new.store id.now.0 (answer_of result) }
 
         ensures overlay { self.new.overlay ≡ self.old.overlay }
@@ -192,6 +193,33 @@ impl<S: Blocks> Blocks for Tx<S> {
             Some(BatchChange::Payload(bytes)) => Ok(Some(bytes.as_slice().to_vec(alloc)?)),
             Some(BatchChange::Removal) => Ok(None),
             None => self.store.load(alloc, id),
+        }
+    }
+
+    fn load_front(
+        &mut self,
+        alloc: Global,
+        id: &BlockId,
+        most: usize,
+    ) -> Result<Option<Vec<u8>>, Fail>
+        requires { intact_in S.meanings S.holdings self.old }
+        ensures outcome { Outcome (tx_meanings S.meanings S.holdings) Unit self.old self.new result (λ _ answer. bytes_of answer ≡ front_of most (content_of S.holdings self.old id.now.0)) }
+        ensures stays { Stays (tx_holdings S.holdings) self.old self.new }
+        ensures of_blocks { IfErr result IsOfBlocks }
+        ensures none { IfOk result (λ answer. is_some answer ≡ is_some (content_of S.holdings self.old id.now.0)) }
+        ensures sized { IfOk result (λ answer. IfSome answer (λ bytes. length bytes.items ≡ min most (S.holdings.payload self.old.store))) }
+
+        ensures overlay { self.new.overlay ≡ self.old.overlay }
+        ensures seed { self.new.seed ≡ self.old.seed }
+        ensures below { Stays S.holdings self.old.store self.new.store }
+    {
+        match self.overlay.get(id) {
+            Some(BatchChange::Payload(bytes)) => {
+                let count = most.min(bytes.len());
+                Ok(Some(bytes[..count].to_vec(alloc)?))
+            }
+            Some(BatchChange::Removal) => Ok(None),
+            None => self.store.load_front(alloc, id, most),
         }
     }
 
@@ -215,7 +243,7 @@ impl<S: Blocks> Blocks for Tx<S> {
         self.store.payload()
     }
 
-    ghost lawful = { lawful_over (λ t. t.store) (λ t. t.overlay) (λ t. record { seed = t.seed; left = stream_left t.ids }) S.meanings S.holdings S.lawful };
+    ghost lawful = { tx_laws S.meanings S.holdings S.lawful };
 
-    ghost steady = { steady_over (λ t. t.store) (λ t. t.overlay) (λ t. record { seed = t.seed; left = stream_left t.ids }) S.meanings S.holdings S.steady };
+    ghost steady = { tx_steady S.meanings S.holdings S.steady };
 }
