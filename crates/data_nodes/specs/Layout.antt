@@ -44,6 +44,11 @@ abbrev pub text_of : NodeText → List ℕ
 text_of (leaf bytes) = header 0 (length bytes) ++ bytes
 text_of (inner depth children) = header depth (length children) ++ concat children
 
+-- how many levels stand below a node
+abbrev pub depth_in : NodeText → ℕ
+depth_in (leaf bytes) = 0
+depth_in (inner depth children) = depth
+
 -- what the header counts
 abbrev pub size_of : NodeText → ℕ
 size_of (leaf bytes) = length bytes

@@ -5,9 +5,9 @@ ghost use Rattle.data_nodes.specs.Layout.{NodeText, IsNode, node_of, ids_of};
 ghost use Rattle.data_nodes.specs.Reading.{is_zeros, leaf_in, inner_in, node_at, cut};
 
 use crate::Node;
-use crate::node::{HEADER_LEN, ID_LEN, NODE_FORMAT};
+use crate::head::read_head;
+use crate::node::{HEADER_LEN, ID_LEN};
 use block_id::{BlockId, Memory};
-use byte_fields::{u16_of, u32_of};
 use std::alloc::Global;
 
 /// The node that a payload holds, or None where it holds none. A payload of any length is taken.
@@ -25,22 +25,18 @@ pub fn one_reading()
     ensures { (payload : List ℕ) (one other : NodeText) → IsNode payload one → IsNode payload other → one ≡ other }
 {}
 
-#[tactic(auto, unfolding(crate::specs::Reading::node_at))]
 fn node_from(alloc: Global, payload: &[u8]) -> Result<Option<Node>, Memory>
     ensures { IfOk result (λ answer. option_map node_of answer ≡ node_at payload.now) }
 {
-    let Some((header, contents)) = payload.split_first_chunk::<HEADER_LEN>() else {
+    let Some(head) = read_head(payload) else {
         return Ok(None);
     };
-    if u16_of(&header[..2]) != NODE_FORMAT || header[2] != 0 {
-        return Ok(None);
-    }
-    let depth = header[3];
-    let size = u32_of(&header[4..]) as usize;
-    if depth == 0 {
+    let contents = &payload[HEADER_LEN..];
+    let size = head.size as usize;
+    if head.depth == 0 {
         leaf_from(alloc, size, contents)
     } else {
-        inner_from(alloc, depth, size, contents)
+        inner_from(alloc, head.depth, size, contents)
     }
 }
 
