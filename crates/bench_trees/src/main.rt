@@ -4,6 +4,7 @@
 #![tactic(auto)]
 
 ghost use Rattle.std.specs.Prelude.{◌<◌, ◌≤◌, ◌^◌};
+ghost use Rattle.store_api.specs.Txs.{intact_in};
 
 use block_id::{BlockId, Fail};
 use map_store::MapStore;
@@ -31,8 +32,8 @@ const LONGEST: u64 = 1 << 32;
 
 /// Has the store take what waits, and answers how many blocks that changes.
 fn keep<S: BlocksMut, R: Rng>(alloc: Global, tx: &mut Tx<S>, chance: &mut R) -> Result<usize, Fail>
-    requires { ⟦<Tx<S> as Blocks>⟧.meanings.intact tx.old }
-    ensures { ⟦<Tx<S> as Blocks>⟧.meanings.intact tx.new }
+    requires { intact_in S.Blocks.meanings S.Blocks.holdings tx.old }
+    ensures { intact_in S.Blocks.meanings S.Blocks.holdings tx.new }
 {
     let count = tx.batch().len();
     match tx.commit(alloc, chance) {
@@ -48,8 +49,8 @@ fn read_all<S: Blocks>(
     root: &BlockId,
     pieces: u64,
 ) -> Result<u64, Fail>
-    requires { ⟦<Tx<S> as Blocks>⟧.meanings.intact tx.old }
-    ensures { ⟦<Tx<S> as Blocks>⟧.meanings.intact tx.new }
+    requires { intact_in S.meanings S.holdings tx.old }
+    ensures { intact_in S.meanings S.holdings tx.new }
 {
     let mut count = 0u64;
     for piece in 0..pieces {
@@ -81,11 +82,11 @@ fn change_once<S: BlocksMut, R: Rng>(
     calls: u64,
     chance: &mut R,
 ) -> Result<(), Fail>
-    requires intact { ⟦<Tx<S> as Blocks>⟧.meanings.intact tx.old }
+    requires intact { intact_in S.Blocks.meanings S.Blocks.holdings tx.old }
     requires small { size ≤ 2 ^ 32 }
     requires few { calls ≤ 1000 }
     requires within { call < calls }
-    ensures { ⟦<Tx<S> as Blocks>⟧.meanings.intact tx.new }
+    ensures { intact_in S.Blocks.meanings S.Blocks.holdings tx.new }
 {
     let bytes = [9u8; SMALL];
     match what {
@@ -108,10 +109,10 @@ fn change_often<S: BlocksMut, R: Rng>(
     calls: u64,
     chance: &mut R,
 ) -> Result<usize, Fail>
-    requires intact { ⟦<Tx<S> as Blocks>⟧.meanings.intact tx.old }
+    requires intact { intact_in S.Blocks.meanings S.Blocks.holdings tx.old }
     requires small { size ≤ 2 ^ 32 }
     requires few { calls ≤ 1000 }
-    ensures { ⟦<Tx<S> as Blocks>⟧.meanings.intact tx.new }
+    ensures { intact_in S.Blocks.meanings S.Blocks.holdings tx.new }
 {
     let mut changed = 0usize;
     for call in 0..calls {
@@ -135,7 +136,7 @@ fn take_steps<S: BlocksMut>(
     size: u64,
     steps: u64,
 ) -> Result<Vec<u64>, Fail>
-    requires intact { ⟦<Tx<S> as Blocks>⟧.meanings.intact tx.old }
+    requires intact { intact_in S.Blocks.meanings S.Blocks.holdings tx.old }
     requires small { size ≤ 2 ^ 32 }
 {
     let mut chance = Pcg32::new(1, 2);

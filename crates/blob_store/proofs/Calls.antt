@@ -15,7 +15,7 @@ use Rattle.data_nodes.specs.Layout.{room}
 use Rattle.data_tree.specs.Trees.{Replaces}
 use Rattle.data_tree.specs.Needs.{KeepsShape}
 use Rattle.data_tree.specs.Roots.{IsRoot, IsNewRoot}
-use Rattle.data_tree.proofs.Loads.{changes_in, tx_holdings, tx_meanings}
+use Rattle.store_api.specs.Txs.{changes_in, tx_holdings, tx_meanings}
 use Rattle.tree_ranges.specs.Ranges.{IsInside}
 use Rattle.blob_api.specs.BlobMap.{StandsForMap, Has, IsNew, IsSparing}
 use Rattle.blob_store.specs.declared.store.BlobStore.{BlobStore}

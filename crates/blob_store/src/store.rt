@@ -1,7 +1,6 @@
 // Byte lists in trees of blocks.
 ghost use Rattle.std.specs.Prelude.{◌≡◌};
-ghost use Rattle.store_api.specs.Ids.{stream_left};
-ghost use Rattle.store_api.specs.Overlay.{lawful_over, steady_over};
+ghost use Rattle.store_api.specs.Txs.{changes_in, tx_holdings, tx_laws, tx_meanings, tx_steady};
 ghost use Rattle.blob_store.specs.Meanings.{meanings_by, holdings_by, lawful_by, steady_by};
 
 use blob_api::Blobs;
@@ -34,9 +33,9 @@ impl<S: Blocks> BlobStore<S> {
 }
 
 impl<S: Blocks> Blobs for BlobStore<S> {
-    ghost meanings = { meanings_by (λ b. b.tx) ⟦<Tx<S> as Blocks>⟧.meanings };
+    ghost meanings = { meanings_by (λ b. b.tx) (tx_meanings S.meanings S.holdings) };
 
-    ghost holdings = { holdings_by (λ b. b.tx) (λ t. t.overlay) ⟦<Tx<S> as Blocks>⟧.holdings };
+    ghost holdings = { holdings_by (λ b. b.tx) changes_in (tx_holdings S.holdings) };
 
     fn create(&mut self, alloc: Global, bytes: &[u8]) -> Result<BlockId, Fail> {
         new_tree(alloc, &mut self.tx, bytes)
@@ -68,7 +67,7 @@ impl<S: Blocks> Blobs for BlobStore<S> {
         tree_ranges::resize(alloc, &mut self.tx, id, n)
     }
 
-    ghost lawful = { lawful_by (λ b. b.tx) ⟦<Tx<S> as Blocks>⟧.meanings (lawful_over (λ t. t.store) (λ t. t.overlay) (λ t. record { seed = t.seed; left = stream_left t.ids }) S.meanings S.holdings S.lawful) };
+    ghost lawful = { lawful_by (λ b. b.tx) (tx_meanings S.meanings S.holdings) (tx_laws S.meanings S.holdings S.lawful) };
 
-    ghost steady = { steady_by (λ b. b.tx) (λ t. t.overlay) ⟦<Tx<S> as Blocks>⟧.meanings ⟦<Tx<S> as Blocks>⟧.holdings (steady_over (λ t. t.store) (λ t. t.overlay) (λ t. record { seed = t.seed; left = stream_left t.ids }) S.meanings S.holdings S.steady) };
+    ghost steady = { steady_by (λ b. b.tx) changes_in (tx_meanings S.meanings S.holdings) (tx_holdings S.holdings) (tx_steady S.meanings S.holdings S.steady) };
 }

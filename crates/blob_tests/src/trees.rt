@@ -1,5 +1,6 @@
 // Trees over a store in memory, at the smallest block: a leaf has 42 bytes, and a node two children.
 ghost use Rattle.std.specs.Prelude.{◌≤◌, ◌^◌};
+ghost use Rattle.store_api.specs.Txs.{intact_in};
 
 use block_id::{BlockId, Why};
 use data_nodes::Node;
@@ -58,7 +59,7 @@ fn is_resized<S: Blocks>(
     after: usize,
     count: usize,
 ) -> Result<bool, Fail>
-    requires { ⟦<Tx<S> as Blocks>⟧.meanings.intact tx.old }
+    requires { intact_in S.meanings S.holdings tx.old }
 {
     if before > 169 || after > 169 {
         return Ok(false);
@@ -99,8 +100,8 @@ fn shape_below<S: Blocks>(
     depth: u8,
     out: &mut Vec<Vec<u8>>,
 ) -> Result<(), Fail>
-    requires { ⟦<Tx<S> as Blocks>⟧.meanings.intact tx.old }
-    ensures { ⟦<Tx<S> as Blocks>⟧.meanings.intact tx.new }
+    requires { intact_in S.meanings S.holdings tx.old }
+    ensures { intact_in S.meanings S.holdings tx.new }
 {
     match load_at(alloc, tx, id, depth)? {
         Node::Leaf(bytes) => out.push(bytes)?,
@@ -122,9 +123,9 @@ fn resize_by<S: Blocks>(
     n: u64,
     plainly: bool,
 ) -> Result<(), block_id::Fail>
-    requires intact { ⟦<Tx<S> as Blocks>⟧.meanings.intact tx.old }
+    requires intact { intact_in S.meanings S.holdings tx.old }
     requires small { n ≤ 2 ^ 40 }
-    ensures { ⟦<Tx<S> as Blocks>⟧.meanings.intact tx.new }
+    ensures { intact_in S.meanings S.holdings tx.new }
 {
     if plainly {
         return tree_calls::resize(alloc, tx, root, n);
@@ -140,7 +141,7 @@ fn shape_after<S: BlocksMut>(
     after: usize,
     plainly: bool,
 ) -> Result<(usize, Vec<Vec<u8>>, usize), Fail>
-    requires { ⟦<Tx<S> as Blocks>⟧.meanings.intact tx.old }
+    requires { intact_in S.Blocks.meanings S.Blocks.holdings tx.old }
 {
     let text = bytes_of(alloc, before)?;
     if text.len() > 1000 || after > 1000 {
@@ -169,8 +170,8 @@ fn agrees<S: BlocksMut>(
     after: usize,
     border: usize,
 ) -> Result<bool, Fail>
-    requires ranges { ⟦<Tx<S> as Blocks>⟧.meanings.intact tx.old }
-    requires plain { ⟦<Tx<S> as Blocks>⟧.meanings.intact other.old }
+    requires ranges { intact_in S.Blocks.meanings S.Blocks.holdings tx.old }
+    requires plain { intact_in S.Blocks.meanings S.Blocks.holdings other.old }
 {
     let (old, nodes, changes) = shape_after(alloc, tx, before, after, false)?;
     let (_, plain, _) = shape_after(alloc, other, before, after, true)?;
@@ -205,7 +206,7 @@ fn written<S: BlocksMut>(
     from: u64,
     bytes: &[u8],
 ) -> Result<(usize, Vec<u8>), Fail>
-    requires { ⟦<Tx<S> as Blocks>⟧.meanings.intact tx.old }
+    requires { intact_in S.Blocks.meanings S.Blocks.holdings tx.old }
 {
     if from > 1000 || bytes.len() > 1000 {
         return Err(Fail::from("too long"));
@@ -250,8 +251,8 @@ fn a_write_changes_the_leaves_of_its_range_and_the_border_past_the_end(
 
 /// Whether each call on a root answers that the blocks are no tree.
 fn is_refused<S: Blocks>(alloc: Global, tx: &mut Tx<S>, root: &BlockId) -> bool
-    requires { ⟦<Tx<S> as Blocks>⟧.meanings.intact tx.old }
-    ensures { ⟦<Tx<S> as Blocks>⟧.meanings.intact tx.new }
+    requires { intact_in S.meanings S.holdings tx.old }
+    ensures { intact_in S.meanings S.holdings tx.new }
 {
     let measured = len(alloc, tx, root);
     let read = read_range(alloc, tx, root, 0, 1000);
@@ -267,7 +268,7 @@ fn is_refused<S: Blocks>(alloc: Global, tx: &mut Tx<S>, root: &BlockId) -> bool
 
 /// A root of this depth whose only child is a leaf, itself, or absent, refused.
 fn refuses<S: Blocks>(alloc: Global, tx: &mut Tx<S>, depth: u8, which: u8) -> Result<bool, Fail>
-    requires { ⟦<Tx<S> as Blocks>⟧.meanings.intact tx.old }
+    requires { intact_in S.meanings S.holdings tx.old }
 {
     if tx.payload() != 50 || depth == 0 {
         return Err(Fail::from("another store"));
@@ -300,7 +301,7 @@ fn blocks_that_are_no_tree_are_refused(rt: HostRuntime) -> Result<(), Fail> {
 
 /// Whether a root that names one child twice is refused as it is cut.
 fn refuses_twins<S: Blocks>(alloc: Global, tx: &mut Tx<S>) -> Result<bool, Fail>
-    requires { ⟦<Tx<S> as Blocks>⟧.meanings.intact tx.old }
+    requires { intact_in S.meanings S.holdings tx.old }
 {
     if tx.payload() != 50 {
         return Err(Fail::from("another store"));

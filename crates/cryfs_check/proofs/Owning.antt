@@ -4,7 +4,8 @@ use Rattle.std.specs.Prelude.{Some, is_some, map, reverse, ◌||◌}
 use Rattle.std.specs.List.{slice_get}
 use Rattle.std.proofs.lemmas.List.{map-append, reverse-append}
 use Rattle.data_tree.specs.Trees.{NoDoubles}
-use Rattle.data_tree.proofs.Ids.{has-append, in_left, in_right, in_one}
+use Rattle.data_tree.proofs.Ids.{in_left, in_right, in_one}
+use Rattle.store_api.proofs.Ids.{has-append}
 use Rattle.data_tree.proofs.Making.{alone-join}
 use Rattle.store_api.specs.Content.{Id, same_id}
 use Rattle.store_api.specs.Holdings.{has_id}

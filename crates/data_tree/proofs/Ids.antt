@@ -1,18 +1,15 @@
 -- Lists of ids without doubles, and what replaces them.
 use Rattle.std.proofs.Common.{◌≡◌, ◌⊎◌, ℕ, Bool, true, false, cond, List, [], ◌∷◌, ◌++◌, refl, sym, ◌∙◌, ap, subst, inl, inr}
 use Rattle.std.specs.Prelude.{Option, None, ◌||◌}
-use Rattle.std.proofs.lemmas.List.Folds.{list_any-append}
 use Rattle.std.specs.Cmp.{eq_by_cmp_equiv}
 use Rattle.std.specs.Cmp.Lexicographic.{nat_list_cmp_total}
 use Rattle.std.proofs.lemmas.Bool.{or_parts}
 use Rattle.store_api.specs.Content.{Id, Content, id_cmp, same_id}
 use Rattle.store_api.specs.Holdings.{has_id}
+use Rattle.store_api.proofs.Ids.{has-append}
 use Rattle.store_api.proofs.Rising.{same_id_is}
 use Rattle.data_tree.specs.Trees.{NoDoubles, Replaces}
 use Rattle.data_tree.specs.Needs.{Sets}
-
-pub has-append : (xs ys : List Id) (id : Id) → has_id (xs ++ ys) id ≡ (has_id xs id || has_id ys id)
-has-append xs ys id = list_any-append (same_id id) xs ys
 
 or_left : (a b c : Bool) → c ≡ (a || b) → a ≡ true → c ≡ true
 or_left true b c e t = e

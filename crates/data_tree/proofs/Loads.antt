@@ -9,28 +9,7 @@ use Rattle.outcome.specs.Meanings.{Meanings, Lawful}
 use Rattle.store_api.specs.declared.tx.Tx.{Tx}
 use Rattle.store_api.specs.Content.{Id, Content, Changes}
 use Rattle.store_api.specs.Holdings.{Holdings}
-use Rattle.store_api.specs.Ids.{Drawn, stream_left}
-use Rattle.store_api.specs.Overlay.{meanings_over, holdings_over, lawful_over}
 use Rattle.data_tree.specs.Trees.{Holds, depth_in}
-
-abbrev pub store_in : {B : Type 0} → Tx B → B
-store_in t = t.store
-
-abbrev pub changes_in : {B : Type 0} → Tx B → Changes
-changes_in t = t.overlay
-
-abbrev pub drawn_in : {B : Type 0} → Tx B → Drawn
-drawn_in t = record { seed = t.seed; left = stream_left t.ids }
-
--- the meanings, holdings and laws of changes over a store
-abbrev pub tx_meanings : {B : Type 0} → Meanings B → Holdings B → Meanings (Tx B)
-tx_meanings M H = meanings_over store_in changes_in drawn_in M H
-
-abbrev pub tx_holdings : {B : Type 0} → Holdings B → Holdings (Tx B)
-tx_holdings H = holdings_over store_in changes_in H
-
-pub tx_laws : {B : Type 0} (M : Meanings B) (H : Holdings B) → Lawful M → Lawful (tx_meanings M H)
-tx_laws M H l = lawful_over store_in changes_in drawn_in M H l
 
 -- the node that was read is the one that the payload holds
 pub read_is : (there : Option (List ℕ)) (text bytes now : List ℕ) (node : NodeText) (answer : Option Node) → there ≡ Some text → Some bytes ≡ there → now ≡ bytes → IsNode text node

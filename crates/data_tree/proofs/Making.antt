@@ -3,7 +3,7 @@ use Rattle.std.proofs.Common.{◌≡◌, ◌⊎◌, ℕ, zero, suc, ◌+◌, ◌
 use Rattle.std.specs.Prelude.{Option, Some, None, is_some, ◌||◌, ◌&&◌, not}
 use Rattle.std.proofs.lemmas.List.{take-append-le, drop-append-le, take_all, drop_all, length-append, length-drop}
 use Rattle.std.proofs.lemmas.List.{nil_from_length}
-use Rattle.std.proofs.lemmas.List.Folds.{list_any-append}
+use Rattle.store_api.proofs.Ids.{has-append}
 use Rattle.data_nodes.specs.Layout.{NodeText, leaf, inner, IsNode, ids_of}
 use Rattle.block_id.specs.declared.id.BlockId.{BlockId}
 use Rattle.std.proofs.lemmas.List.{map_push}
@@ -103,7 +103,7 @@ tree_made {H = H} {a = a} {b = b} {c = c} {depth = depth} {node = node} {w = w} 
 pub alone-join : (xs ys : List Id) → NoDoubles xs → NoDoubles ys → ((id : Id) → has_id xs id ≡ true → has_id ys id ≡ false) → NoDoubles (xs ++ ys)
 alone-join [] ys one two differ = two
 alone-join (x ∷ xs) ys one two differ = (
-  neither (has_id xs x) (has_id ys x) (has_id (xs ++ ys) x) (has-both xs ys x) one.0 (differ x (first (same_id x x) (has_id xs x) (same_self x))),
+  neither (has_id xs x) (has_id ys x) (has_id (xs ++ ys) x) (has-append xs ys x) one.0 (differ x (first (same_id x x) (has_id xs x) (same_self x))),
   alone-join xs ys one.1 two (λ id h. differ id (second (same_id id x) (has_id xs id) h)),
 )
   where
@@ -118,9 +118,6 @@ alone-join (x ∷ xs) ys one two differ = (
     second : (a b : Bool) → b ≡ true → (a || b) ≡ true
     second true b e = refl
     second false b e = e
-
-    has-both : (xs ys : List Id) (id : Id) → has_id (xs ++ ys) id ≡ (has_id xs id || has_id ys id)
-    has-both xs ys id = list_any-append (same_id id) xs ys
 
 -- one more tree stands behind full ones
 pub forest_more : (T : Id → List ℕ → List Id → Type 0) (size : ℕ) (children : List Id) (w piece : List ℕ) (ids own : List Id) (child : Id) → Forest T size children w ids → length w ≡ length children * size

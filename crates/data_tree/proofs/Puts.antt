@@ -14,7 +14,7 @@ use Rattle.outcome.specs.Outcome.{Outcome, idle, no_memory}
 use Rattle.block_id.specs.declared.fail.Fail.TheVariants.{Memory}
 use Rattle.store_api.specs.Overlay.{changed_over}
 use Rattle.store_api.proofs.Rising.{same_id_is}
-use Rattle.data_tree.proofs.Loads.{store_in, changes_in, drawn_in, tx_holdings, tx_meanings, tx_laws}
+use Rattle.store_api.specs.Txs.{changes_in, drawn_in, store_in, tx_holdings, tx_laws, tx_meanings}
 use Rattle.data_tree.proofs.Forests.{stays-same}
 use Rattle.data_tree.proofs.Changes.{sets_put, there_put}
 

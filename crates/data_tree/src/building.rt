@@ -2,6 +2,7 @@
 ghost use Rattle.std.specs.Prelude.{◌≡◌, ◌≤◌, ◌<◌, ◌+◌, ◌*◌, true, is_some, length, IfOk};
 ghost use Rattle.std.specs.FinMap as fin;
 ghost use Rattle.store_api.specs.Content.{Id};
+ghost use Rattle.store_api.specs.Txs.{content_of, intact_in, tx_holdings};
 ghost use Rattle.data_nodes.specs.Layout.{ids_of, node_of, FitsPayload, fan_out};
 ghost use Rattle.data_tree.specs.Needs.{Built, BuiltTrees, NewTree};
 ghost use Rattle.data_tree.specs.Trees.{span};
@@ -21,17 +22,17 @@ pub fn build<S: Blocks>(
     bytes: &[u8],
     level: Level,
 ) -> Result<Node, Memory>
-    requires intact { ⟦<Tx<S> as Blocks>⟧.meanings.intact tx.old }
-    requires level { level.room ≡ span (⟦<Tx<S> as Blocks>⟧.holdings.payload tx.old) level.depth }
+    requires intact { intact_in S.meanings S.holdings tx.old }
+    requires level { level.room ≡ span (S.holdings.payload tx.old.store) level.depth }
     requires fits { length bytes.now ≤ level.room }
     requires some { 0 < level.depth → 0 < length bytes.now }
-    ensures intact { ⟦<Tx<S> as Blocks>⟧.meanings.intact tx.new }
+    ensures intact { intact_in S.meanings S.holdings tx.new }
     ensures store { tx.new.store ≡ tx.old.store }
     ensures seed { tx.new.seed ≡ tx.old.seed }
-    ensures built { IfOk result (λ node. Built ⟦<Tx<S> as Blocks>⟧.holdings tx.old tx.new level.depth (node_of node) bytes.now) }
-    ensures there { (q : Id) → is_some (⟦<Tx<S> as Blocks>⟧.holdings.content tx.old q) ≡ true → is_some (⟦<Tx<S> as Blocks>⟧.holdings.content tx.new q) ≡ true }
-    ensures fits { IfOk result (λ node. FitsPayload (⟦<Tx<S> as Blocks>⟧.holdings.payload tx.old) (node_of node)) }
-    ensures kept { (q : Id) → is_some (⟦<Tx<S> as Blocks>⟧.holdings.content tx.old q) ≡ true → fin.get tx.new.overlay q ≡ fin.get tx.old.overlay q }
+    ensures built { IfOk result (λ node. Built (tx_holdings S.holdings) tx.old tx.new level.depth (node_of node) bytes.now) }
+    ensures there { (q : Id) → is_some (content_of S.holdings tx.old q) ≡ true → is_some (content_of S.holdings tx.new q) ≡ true }
+    ensures fits { IfOk result (λ node. FitsPayload (S.holdings.payload tx.old.store) (node_of node)) }
+    ensures kept { (q : Id) → is_some (content_of S.holdings tx.old q) ≡ true → fin.get tx.new.overlay q ≡ fin.get tx.old.overlay q }
 {
     if level.depth == 0 {
         return match bytes.to_vec(alloc) {
@@ -57,16 +58,16 @@ pub fn new_below<S: Blocks>(
     bytes: &[u8],
     level: Level,
 ) -> Result<BlockId, Memory>
-    requires intact { ⟦<Tx<S> as Blocks>⟧.meanings.intact tx.old }
-    requires level { level.room ≡ span (⟦<Tx<S> as Blocks>⟧.holdings.payload tx.old) level.depth }
+    requires intact { intact_in S.meanings S.holdings tx.old }
+    requires level { level.room ≡ span (S.holdings.payload tx.old.store) level.depth }
     requires fits { length bytes.now ≤ level.room }
     requires some { 0 < level.depth → 0 < length bytes.now }
-    ensures intact { ⟦<Tx<S> as Blocks>⟧.meanings.intact tx.new }
+    ensures intact { intact_in S.meanings S.holdings tx.new }
     ensures store { tx.new.store ≡ tx.old.store }
     ensures seed { tx.new.seed ≡ tx.old.seed }
-    ensures built { IfOk result (λ id. NewTree ⟦<Tx<S> as Blocks>⟧.holdings tx.old tx.new level.depth id.0 bytes.now) }
-    ensures there { (q : Id) → is_some (⟦<Tx<S> as Blocks>⟧.holdings.content tx.old q) ≡ true → is_some (⟦<Tx<S> as Blocks>⟧.holdings.content tx.new q) ≡ true }
-    ensures kept { (q : Id) → is_some (⟦<Tx<S> as Blocks>⟧.holdings.content tx.old q) ≡ true → fin.get tx.new.overlay q ≡ fin.get tx.old.overlay q }
+    ensures built { IfOk result (λ id. NewTree (tx_holdings S.holdings) tx.old tx.new level.depth id.0 bytes.now) }
+    ensures there { (q : Id) → is_some (content_of S.holdings tx.old q) ≡ true → is_some (content_of S.holdings tx.new q) ≡ true }
+    ensures kept { (q : Id) → is_some (content_of S.holdings tx.old q) ≡ true → fin.get tx.new.overlay q ≡ fin.get tx.old.overlay q }
 {
     match build(alloc, tx, bytes, level) {
         Ok(node) => put_new(alloc, tx, &node),
@@ -82,19 +83,19 @@ pub fn build_children<S: Blocks>(
     bytes: &[u8],
     level: Level,
 ) -> Result<Vec<BlockId>, Memory>
-    requires intact { ⟦<Tx<S> as Blocks>⟧.meanings.intact tx.old }
-    requires level { level.room ≡ span (⟦<Tx<S> as Blocks>⟧.holdings.payload tx.old) level.depth }
+    requires intact { intact_in S.meanings S.holdings tx.old }
+    requires level { level.room ≡ span (S.holdings.payload tx.old.store) level.depth }
     requires room { 0 < level.room }
-    requires fits { length bytes.now ≤ fan_out (⟦<Tx<S> as Blocks>⟧.holdings.payload tx.old) * level.room }
-    ensures intact { ⟦<Tx<S> as Blocks>⟧.meanings.intact tx.new }
+    requires fits { length bytes.now ≤ fan_out (S.holdings.payload tx.old.store) * level.room }
+    ensures intact { intact_in S.meanings S.holdings tx.new }
     ensures store { tx.new.store ≡ tx.old.store }
     ensures seed { tx.new.seed ≡ tx.old.seed }
-    ensures built { IfOk result (λ children. BuiltTrees ⟦<Tx<S> as Blocks>⟧.holdings tx.old tx.new level.depth (ids_of children.items) bytes.now) }
-    ensures there { (q : Id) → is_some (⟦<Tx<S> as Blocks>⟧.holdings.content tx.old q) ≡ true → is_some (⟦<Tx<S> as Blocks>⟧.holdings.content tx.new q) ≡ true }
+    ensures built { IfOk result (λ children. BuiltTrees (tx_holdings S.holdings) tx.old tx.new level.depth (ids_of children.items) bytes.now) }
+    ensures there { (q : Id) → is_some (content_of S.holdings tx.old q) ≡ true → is_some (content_of S.holdings tx.new q) ≡ true }
     ensures some { IfOk result (λ children. 0 < length bytes.now → 0 < length children.items) }
     ensures under { IfOk result (λ children. length children.items * level.room < length bytes.now + level.room) }
-    ensures few { IfOk result (λ children. length children.items ≤ fan_out (⟦<Tx<S> as Blocks>⟧.holdings.payload tx.old)) }
-    ensures kept { (q : Id) → is_some (⟦<Tx<S> as Blocks>⟧.holdings.content tx.old q) ≡ true → fin.get tx.new.overlay q ≡ fin.get tx.old.overlay q }
+    ensures few { IfOk result (λ children. length children.items ≤ fan_out (S.holdings.payload tx.old.store)) }
+    ensures kept { (q : Id) → is_some (content_of S.holdings tx.old q) ≡ true → fin.get tx.new.overlay q ≡ fin.get tx.old.overlay q }
 {
     let mut children = Vec::new(alloc);
     let mut rest = bytes;

@@ -4,6 +4,7 @@ ghost use Rattle.std.specs.Prelude.{◌≡◌, ◌+◌, ◌≤◌, ◌<◌, ◌^
 ghost use Rattle.outcome.specs.Outcome.{Outcome};
 ghost use Rattle.store_api.specs.Content.{Id, same_id};
 ghost use Rattle.store_api.specs.Holdings.{Stays};
+ghost use Rattle.store_api.specs.Txs.{content_of, intact_in, tx_holdings, tx_meanings};
 ghost use Rattle.data_nodes.specs.Layout.{node_of, FitsPayload};
 ghost use Rattle.data_tree.specs.Needs.{HasNode, HasTree, SetsNode, Sets};
 ghost use Rattle.data_tree.specs.Roots.{IsRoot, IsTooDeep};
@@ -17,13 +18,13 @@ use store_api::{Blocks, Tx};
 
 /// The node that a block holds.
 fn load_node<S: Blocks>(alloc: Global, tx: &mut Tx<S>, id: &BlockId) -> Result<Node, Fail>
-    requires { ⟦<Tx<S> as Blocks>⟧.meanings.intact tx.old }
-    ensures outcome { Outcome ⟦<Tx<S> as Blocks>⟧.meanings (HasNode ⟦<Tx<S> as Blocks>⟧.holdings tx.old id.now.0) tx.old tx.new result (λ n node. node_of node ≡ n.node) }
-    ensures stays { Stays ⟦<Tx<S> as Blocks>⟧.holdings tx.old tx.new }
+    requires { intact_in S.meanings S.holdings tx.old }
+    ensures outcome { Outcome (tx_meanings S.meanings S.holdings) (HasNode (tx_holdings S.holdings) tx.old id.now.0) tx.old tx.new result (λ n node. node_of node ≡ n.node) }
+    ensures stays { Stays (tx_holdings S.holdings) tx.old tx.new }
     ensures below { Stays S.holdings tx.old.store tx.new.store }
     ensures overlay { tx.new.overlay ≡ tx.old.overlay }
-    ensures there { OnOk result (is_some (⟦<Tx<S> as Blocks>⟧.holdings.content tx.old id.now.0) ≡ true) }
-    ensures fits { IfOk result (λ node. FitsPayload (⟦<Tx<S> as Blocks>⟧.holdings.payload tx.old) (node_of node)) }
+    ensures there { OnOk result (is_some (content_of S.holdings tx.old id.now.0) ≡ true) }
+    ensures fits { IfOk result (λ node. FitsPayload (S.holdings.payload tx.old.store) (node_of node)) }
 {
     let payload = match tx.load(alloc, id)? {
         Some(payload) => payload,
@@ -42,13 +43,13 @@ pub fn load_at<S: Blocks>(
     id: &BlockId,
     depth: u8,
 ) -> Result<Node, Fail>
-    requires { ⟦<Tx<S> as Blocks>⟧.meanings.intact tx.old }
-    ensures outcome { Outcome ⟦<Tx<S> as Blocks>⟧.meanings (HasTree ⟦<Tx<S> as Blocks>⟧.holdings tx.old depth id.now.0) tx.old tx.new result (λ n node. node_of node ≡ n.tree.node) }
-    ensures stays { Stays ⟦<Tx<S> as Blocks>⟧.holdings tx.old tx.new }
+    requires { intact_in S.meanings S.holdings tx.old }
+    ensures outcome { Outcome (tx_meanings S.meanings S.holdings) (HasTree (tx_holdings S.holdings) tx.old depth id.now.0) tx.old tx.new result (λ n node. node_of node ≡ n.tree.node) }
+    ensures stays { Stays (tx_holdings S.holdings) tx.old tx.new }
     ensures below { Stays S.holdings tx.old.store tx.new.store }
     ensures overlay { tx.new.overlay ≡ tx.old.overlay }
-    ensures there { OnOk result (is_some (⟦<Tx<S> as Blocks>⟧.holdings.content tx.old id.now.0) ≡ true) }
-    ensures fits { IfOk result (λ node. FitsPayload (⟦<Tx<S> as Blocks>⟧.holdings.payload tx.old) (node_of node)) }
+    ensures there { OnOk result (is_some (content_of S.holdings tx.old id.now.0) ≡ true) }
+    ensures fits { IfOk result (λ node. FitsPayload (S.holdings.payload tx.old.store) (node_of node)) }
     ensures depth { IfOk result (λ node. depth_in (node_of node) ≡ depth) }
 {
     let node = load_node(alloc, tx, id)?;
@@ -64,18 +65,18 @@ pub fn load_root<S: Blocks>(
     tx: &mut Tx<S>,
     root: &BlockId,
 ) -> Result<(Node, Level), Fail>
-    requires { ⟦<Tx<S> as Blocks>⟧.meanings.intact tx.old }
-    ensures outcome { Outcome ⟦<Tx<S> as Blocks>⟧.meanings (IsRoot ⟦<Tx<S> as Blocks>⟧.holdings tx.old root.now.0) tx.old tx.new result
-        (λ n found. (⟦<Tx<S> as Blocks>⟧.holdings.told tx.old ≡ true) × (node_of found.0 ≡ n.tree.node)) }
-    ensures shallow { ⟦<Tx<S> as Blocks>⟧.meanings.sound tx.old → ⟦<Tx<S> as Blocks>⟧.meanings.forgeries tx.new ≤ ⟦<Tx<S> as Blocks>⟧.meanings.forgeries tx.old
-        → OnOk result (IsTooDeep ⟦<Tx<S> as Blocks>⟧.holdings tx.old root.now.0 → ⊥) }
-    ensures stays { Stays ⟦<Tx<S> as Blocks>⟧.holdings tx.old tx.new }
+    requires { intact_in S.meanings S.holdings tx.old }
+    ensures outcome { Outcome (tx_meanings S.meanings S.holdings) (IsRoot (tx_holdings S.holdings) tx.old root.now.0) tx.old tx.new result
+        (λ n found. (S.holdings.told tx.old.store ≡ true) × (node_of found.0 ≡ n.tree.node)) }
+    ensures shallow { S.meanings.sound tx.old.store → S.meanings.forgeries tx.new.store ≤ S.meanings.forgeries tx.old.store
+        → OnOk result (IsTooDeep (tx_holdings S.holdings) tx.old root.now.0 → ⊥) }
+    ensures stays { Stays (tx_holdings S.holdings) tx.old tx.new }
     ensures below { Stays S.holdings tx.old.store tx.new.store }
     ensures overlay { tx.new.overlay ≡ tx.old.overlay }
-    ensures there { OnOk result (is_some (⟦<Tx<S> as Blocks>⟧.holdings.content tx.old root.now.0) ≡ true) }
-    ensures fits { IfOk result (λ found. FitsPayload (⟦<Tx<S> as Blocks>⟧.holdings.payload tx.old) (node_of found.0)) }
+    ensures there { OnOk result (is_some (content_of S.holdings tx.old root.now.0) ≡ true) }
+    ensures fits { IfOk result (λ found. FitsPayload (S.holdings.payload tx.old.store) (node_of found.0)) }
     ensures depth { IfOk result (λ found. depth_in (node_of found.0) ≡ found.1.depth) }
-    ensures room { IfOk result (λ found. found.1.room ≡ span (⟦<Tx<S> as Blocks>⟧.holdings.payload tx.old) found.1.depth) }
+    ensures room { IfOk result (λ found. found.1.room ≡ span (S.holdings.payload tx.old.store) found.1.depth) }
     ensures small { IfOk result (λ found. found.1.room < 2 ^ 63) }
 {
     let node = match load_node(alloc, tx, root) {
@@ -90,13 +91,13 @@ pub fn load_root<S: Blocks>(
 
 /// Removes a block.
 pub fn remove<S: Blocks>(tx: &mut Tx<S>, id: &BlockId) -> Result<(), Memory>
-    requires intact { ⟦<Tx<S> as Blocks>⟧.meanings.intact tx.old }
-    requires there { is_some (⟦<Tx<S> as Blocks>⟧.holdings.content tx.old id.now.0) ≡ true }
-    ensures intact { ⟦<Tx<S> as Blocks>⟧.meanings.intact tx.new }
+    requires intact { intact_in S.meanings S.holdings tx.old }
+    requires there { is_some (content_of S.holdings tx.old id.now.0) ≡ true }
+    ensures intact { intact_in S.meanings S.holdings tx.new }
     ensures store { tx.new.store ≡ tx.old.store }
     ensures seed { tx.new.seed ≡ tx.old.seed }
-    ensures sets { OnOk result (Sets (⟦<Tx<S> as Blocks>⟧.holdings.content tx.old) (⟦<Tx<S> as Blocks>⟧.holdings.content tx.new) id.now.0 None) }
-    ensures kept { (q : Id) → is_some (⟦<Tx<S> as Blocks>⟧.holdings.content tx.new q) ≡ true → fin.get tx.new.overlay q ≡ fin.get tx.old.overlay q }
+    ensures sets { OnOk result (Sets (content_of S.holdings tx.old) (content_of S.holdings tx.new) id.now.0 None) }
+    ensures kept { (q : Id) → is_some (content_of S.holdings tx.new q) ≡ true → fin.get tx.new.overlay q ≡ fin.get tx.old.overlay q }
 {
     tx.remove(id)
 }
@@ -108,14 +109,14 @@ pub fn put_node<S: Blocks>(
     id: &BlockId,
     node: &Node,
 ) -> Result<(), Memory>
-    requires intact { ⟦<Tx<S> as Blocks>⟧.meanings.intact tx.old }
-    requires there { is_some (⟦<Tx<S> as Blocks>⟧.holdings.content tx.old id.now.0) ≡ true }
-    requires fits { FitsPayload (⟦<Tx<S> as Blocks>⟧.holdings.payload tx.old) (node_of node.now) }
-    ensures intact { ⟦<Tx<S> as Blocks>⟧.meanings.intact tx.new }
+    requires intact { intact_in S.meanings S.holdings tx.old }
+    requires there { is_some (content_of S.holdings tx.old id.now.0) ≡ true }
+    requires fits { FitsPayload (S.holdings.payload tx.old.store) (node_of node.now) }
+    ensures intact { intact_in S.meanings S.holdings tx.new }
     ensures store { tx.new.store ≡ tx.old.store }
     ensures seed { tx.new.seed ≡ tx.old.seed }
-    ensures sets { OnOk result (SetsNode ⟦<Tx<S> as Blocks>⟧.holdings tx.old tx.new id.now.0 (node_of node.now)) }
-    ensures there { (q : Id) → is_some (⟦<Tx<S> as Blocks>⟧.holdings.content tx.old q) ≡ true → is_some (⟦<Tx<S> as Blocks>⟧.holdings.content tx.new q) ≡ true }
+    ensures sets { OnOk result (SetsNode (tx_holdings S.holdings) tx.old tx.new id.now.0 (node_of node.now)) }
+    ensures there { (q : Id) → is_some (content_of S.holdings tx.old q) ≡ true → is_some (content_of S.holdings tx.new q) ≡ true }
     ensures others { (q : Id) → same_id q id.now.0 ≡ false → fin.get tx.new.overlay q ≡ fin.get tx.old.overlay q }
     ensures few { fin.len tx.new.overlay ≤ fin.len tx.old.overlay + 1 }
 {
@@ -125,15 +126,15 @@ pub fn put_node<S: Blocks>(
 
 /// Gives a new block this node.
 pub fn put_new<S: Blocks>(alloc: Global, tx: &mut Tx<S>, node: &Node) -> Result<BlockId, Memory>
-    requires intact { ⟦<Tx<S> as Blocks>⟧.meanings.intact tx.old }
-    requires fits { FitsPayload (⟦<Tx<S> as Blocks>⟧.holdings.payload tx.old) (node_of node.now) }
-    ensures intact { ⟦<Tx<S> as Blocks>⟧.meanings.intact tx.new }
+    requires intact { intact_in S.meanings S.holdings tx.old }
+    requires fits { FitsPayload (S.holdings.payload tx.old.store) (node_of node.now) }
+    ensures intact { intact_in S.meanings S.holdings tx.new }
     ensures store { tx.new.store ≡ tx.old.store }
     ensures seed { tx.new.seed ≡ tx.old.seed }
-    ensures new { IfOk result (λ id. ⟦<Tx<S> as Blocks>⟧.holdings.content tx.old id.0 ≡ None) }
-    ensures sets { IfOk result (λ id. SetsNode ⟦<Tx<S> as Blocks>⟧.holdings tx.old tx.new id.0 (node_of node.now)) }
-    ensures there { (q : Id) → is_some (⟦<Tx<S> as Blocks>⟧.holdings.content tx.old q) ≡ true → is_some (⟦<Tx<S> as Blocks>⟧.holdings.content tx.new q) ≡ true }
-    ensures kept { (q : Id) → is_some (⟦<Tx<S> as Blocks>⟧.holdings.content tx.old q) ≡ true → fin.get tx.new.overlay q ≡ fin.get tx.old.overlay q }
+    ensures new { IfOk result (λ id. content_of S.holdings tx.old id.0 ≡ None) }
+    ensures sets { IfOk result (λ id. SetsNode (tx_holdings S.holdings) tx.old tx.new id.0 (node_of node.now)) }
+    ensures there { (q : Id) → is_some (content_of S.holdings tx.old q) ≡ true → is_some (content_of S.holdings tx.new q) ≡ true }
+    ensures kept { (q : Id) → is_some (content_of S.holdings tx.old q) ≡ true → fin.get tx.new.overlay q ≡ fin.get tx.old.overlay q }
 {
     let payload = write_node(alloc, node, tx.payload())?;
     match tx.add(payload) {

@@ -5,6 +5,7 @@ ghost use Rattle.fs_model.specs.Fitting.{IsFitting};
 ghost use Rattle.outside.specs.Causes.{RoseBy};
 ghost use Rattle.session_saver.specs.Saving.{world};
 ghost use Rattle.store_api.specs.Durables.{with_mark};
+ghost use Rattle.store_api.specs.Txs.{intact_in};
 ghost use Rattle.tree_commands.specs.Performing.{is_sync, IsReplyTo};
 ghost use Rattle.tree_commands.specs.Showing.{ShowsFiles};
 ghost use Rattle.mount_core.specs.Answering.{FormAnswers, TreesAnswer, StoreAnswers, SaverAnswers};
@@ -49,7 +50,7 @@ fn settle<S: Durable, K: Keeper, R: Rng>(
     reply: Reply,
     chance: &mut R,
 ) -> Answer
-    requires intact { ⟦<Tx<S> as Blocks>⟧.meanings.intact core.old.blobs.tx }
+    requires intact { intact_in S.Blocks.meanings S.Blocks.holdings core.old.blobs.tx }
     requires can { CanSettle (world S.meanings S.holdings S.durables S.records K.Keeper) core.old }
     requires form { IsReplyTo command.now reply }
     ensures ready { Ready (world S.meanings S.holdings S.durables S.records K.Keeper) core.new }
@@ -87,7 +88,7 @@ fn ask_begun<S: Durable, K: Keeper, R: Rng>(
     command: &Command,
     chance: &mut R,
 ) -> Answer
-    requires intact { ⟦<Tx<S> as Blocks>⟧.meanings.intact core.old.blobs.tx }
+    requires intact { intact_in S.Blocks.meanings S.Blocks.holdings core.old.blobs.tx }
     requires ready { Ready (world S.meanings S.holdings S.durables S.records K.Keeper) core.old }
     requires fits { IsFitting command.now }
     ensures ready { Ready (world S.meanings S.holdings S.durables S.records K.Keeper) core.new }

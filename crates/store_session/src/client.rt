@@ -2,6 +2,7 @@
 ghost use Rattle.std.specs.Prelude.{◌≡◌, ◌≤◌, true, length, take};
 ghost use Rattle.outcome.specs.Outcome.{Outcome};
 ghost use Rattle.store_session.specs.Followed.{ContentFollows};
+ghost use Rattle.store_api.specs.Txs.{content_of, intact_in, tx_meanings};
 
 use block_id::{BlockId, Fail};
 use std::alloc::Global;
@@ -18,9 +19,9 @@ fn first_id(bytes: &[u8]) -> BlockId
 
 /// Gives a block the payload of the one that it names by its first 16 bytes. Says whether both are there.
 pub fn follow<S: Blocks>(alloc: Global, tx: &mut Tx<S>, id: &BlockId) -> Result<bool, Fail>
-    requires { ⟦<Tx<S> as Blocks>⟧.meanings.intact tx.old }
-    ensures { Outcome ⟦<Tx<S> as Blocks>⟧.meanings (⟦<Tx<S> as Blocks>⟧.holdings.told tx.old ≡ true) tx.old tx.new result
-        (λ _ found. ContentFollows (⟦<Tx<S> as Blocks>⟧.holdings.content tx.old) (⟦<Tx<S> as Blocks>⟧.holdings.content tx.new) id.now.0 found) }
+    requires { intact_in S.meanings S.holdings tx.old }
+    ensures { Outcome (tx_meanings S.meanings S.holdings) (S.holdings.told tx.old.store ≡ true) tx.old tx.new result
+        (λ _ found. ContentFollows (content_of S.holdings tx.old) (content_of S.holdings tx.new) id.now.0 found) }
 {
     let first = match tx.load(alloc, id)? {
         Some(bytes) => bytes,

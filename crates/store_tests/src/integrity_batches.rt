@@ -1,6 +1,7 @@
 // Batches over a store in memory: what is loaded, known and waits afterwards.
 ghost use Rattle.std.specs.Prelude.{◌≡◌, IfOk};
 ghost use Rattle.sealed_store.specs.Stores.{IsIntact, block_size_of, cipher_of};
+ghost use Rattle.store_api.specs.Txs.{intact_in};
 
 use crate::integrity_files::{plain_of, push_life, push_record_head, put_file, sealed_over};
 use aes_gcm::Aes256Gcm;
@@ -74,8 +75,8 @@ fn tx_over(alloc: Global, store: Store) -> Tx<Store>
 
 /// Has a block get another payload, of this byte.
 fn renew<S: Blocks>(alloc: Global, tx: &mut Tx<S>, id: &BlockId, byte: u8) -> Result<(), Fail>
-    requires { ⟦<Tx<S> as Blocks>⟧.meanings.intact tx.old }
-    ensures { ⟦<Tx<S> as Blocks>⟧.meanings.intact tx.new }
+    requires { intact_in S.meanings S.holdings tx.old }
+    ensures { intact_in S.meanings S.holdings tx.new }
 {
     match tx.load(alloc, id)? {
         Some(old) => {
@@ -92,8 +93,8 @@ fn renew<S: Blocks>(alloc: Global, tx: &mut Tx<S>, id: &BlockId, byte: u8) -> Re
 
 /// A new block, with a payload of this byte.
 fn give<S: Blocks>(alloc: Global, tx: &mut Tx<S>, byte: u8) -> Result<BlockId, Fail>
-    requires { ⟦<Tx<S> as Blocks>⟧.meanings.intact tx.old }
-    ensures { ⟦<Tx<S> as Blocks>⟧.meanings.intact tx.new }
+    requires { intact_in S.meanings S.holdings tx.old }
+    ensures { intact_in S.meanings S.holdings tx.new }
 {
     let payload = [byte; 50].to_vec(alloc)?;
     if payload.len() != tx.payload() {
@@ -103,8 +104,8 @@ fn give<S: Blocks>(alloc: Global, tx: &mut Tx<S>, byte: u8) -> Result<BlockId, F
 }
 
 fn take<S: Blocks>(alloc: Global, tx: &mut Tx<S>, id: &BlockId) -> Result<(), Fail>
-    requires { ⟦<Tx<S> as Blocks>⟧.meanings.intact tx.old }
-    ensures { ⟦<Tx<S> as Blocks>⟧.meanings.intact tx.new }
+    requires { intact_in S.meanings S.holdings tx.old }
+    ensures { intact_in S.meanings S.holdings tx.new }
 {
     match tx.load(alloc, id)? {
         Some(_) => {}
@@ -121,8 +122,8 @@ fn holds<S: Blocks>(
     id: &BlockId,
     byte: Option<u8>,
 ) -> Result<bool, Fail>
-    requires { ⟦<Tx<S> as Blocks>⟧.meanings.intact tx.old }
-    ensures { ⟦<Tx<S> as Blocks>⟧.meanings.intact tx.new }
+    requires { intact_in S.meanings S.holdings tx.old }
+    ensures { intact_in S.meanings S.holdings tx.new }
 {
     match (tx.load(alloc, id)?, byte) {
         (Some(payload), Some(byte)) => Ok(payload.as_slice() == [byte; 50].as_slice()),
@@ -140,8 +141,8 @@ fn change<S: BlocksMut, R: Rng>(
     tx: &mut Tx<S>,
     chance: &mut R,
 ) -> Result<Outcome, Fail>
-    requires { ⟦<Tx<S> as Blocks>⟧.meanings.intact tx.old }
-    ensures { ⟦<Tx<S> as Blocks>⟧.meanings.intact tx.new }
+    requires { intact_in S.Blocks.meanings S.Blocks.holdings tx.old }
+    ensures { intact_in S.Blocks.meanings S.Blocks.holdings tx.new }
 {
     let id = give(alloc, tx, 33)?;
     renew(alloc, tx, &LIVE, 11)?;
@@ -168,7 +169,7 @@ fn change_store<R: Rng>(
 }
 
 fn remove_live<S: BlocksMut>(alloc: Global, tx: &mut Tx<S>) -> Result<Result<(), ApplyError>, Fail>
-    requires { ⟦<Tx<S> as Blocks>⟧.meanings.intact tx.old }
+    requires { intact_in S.Blocks.meanings S.Blocks.holdings tx.old }
 {
     take(alloc, tx, &LIVE)?;
     Ok(tx.commit(alloc, &mut chance()))

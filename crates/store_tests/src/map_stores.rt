@@ -1,4 +1,6 @@
 // Changes over a store in memory, and what is loaded of them.
+ghost use Rattle.store_api.specs.Txs.{intact_in};
+
 use block_id::BlockId;
 use map_store::MapStore;
 use rand_pcg::Pcg32;
@@ -19,8 +21,8 @@ fn chance() -> Pcg32 {
 
 /// A new block with this payload.
 fn give<S: Blocks>(alloc: Global, tx: &mut Tx<S>, payload: &[u8; 50]) -> Result<BlockId, Fail>
-    requires { ⟦<Tx<S> as Blocks>⟧.meanings.intact tx.old }
-    ensures { ⟦<Tx<S> as Blocks>⟧.meanings.intact tx.new }
+    requires { intact_in S.meanings S.holdings tx.old }
+    ensures { intact_in S.meanings S.holdings tx.new }
 {
     let payload = payload.to_vec(alloc)?;
     if payload.len() != tx.payload() {
@@ -38,8 +40,8 @@ fn naming(id: &BlockId) -> [u8; 50] {
 
 /// Removes the payload of an id.
 fn take<S: Blocks>(tx: &mut Tx<S>, id: &BlockId) -> Result<(), Fail>
-    requires { ⟦<Tx<S> as Blocks>⟧.meanings.intact tx.old }
-    ensures { ⟦<Tx<S> as Blocks>⟧.meanings.intact tx.new }
+    requires { intact_in S.meanings S.holdings tx.old }
+    ensures { intact_in S.meanings S.holdings tx.new }
 {
     if !tx.contains(id) {
         return Err(Fail::from("no payload"));
@@ -50,8 +52,8 @@ fn take<S: Blocks>(tx: &mut Tx<S>, id: &BlockId) -> Result<(), Fail>
 
 /// The first byte of a payload.
 fn first_byte<S: Blocks>(alloc: Global, tx: &mut Tx<S>, id: &BlockId) -> Result<Option<u8>, Fail>
-    requires { ⟦<Tx<S> as Blocks>⟧.meanings.intact tx.old }
-    ensures { ⟦<Tx<S> as Blocks>⟧.meanings.intact tx.new }
+    requires { intact_in S.meanings S.holdings tx.old }
+    ensures { intact_in S.meanings S.holdings tx.new }
 {
     match tx.load(alloc, id)? {
         Some(bytes) => Ok(bytes.first().copied()),
@@ -61,8 +63,8 @@ fn first_byte<S: Blocks>(alloc: Global, tx: &mut Tx<S>, id: &BlockId) -> Result<
 
 /// The new ids of the changes before they begin anew, and after that.
 fn begin_again<S: Blocks>(alloc: Global, tx: &mut Tx<S>) -> Result<[BlockId; 2], Fail>
-    requires { ⟦<Tx<S> as Blocks>⟧.meanings.intact tx.old }
-    ensures { ⟦<Tx<S> as Blocks>⟧.meanings.intact tx.new }
+    requires { intact_in S.meanings S.holdings tx.old }
+    ensures { intact_in S.meanings S.holdings tx.new }
 {
     let first = give(alloc, tx, &[1; 50])?;
     tx.begin([0; 32]);
@@ -74,8 +76,8 @@ fn begin_again<S: Blocks>(alloc: Global, tx: &mut Tx<S>) -> Result<[BlockId; 2],
 type Removed = (usize, Option<u8>, Option<u8>, bool);
 
 fn remove_one<S: BlocksMut>(alloc: Global, tx: &mut Tx<S>, id: &BlockId) -> Result<Removed, Fail>
-    requires { ⟦<Tx<S> as Blocks>⟧.meanings.intact tx.old }
-    ensures { ⟦<Tx<S> as Blocks>⟧.meanings.intact tx.new }
+    requires { intact_in S.Blocks.meanings S.Blocks.holdings tx.old }
+    ensures { intact_in S.Blocks.meanings S.Blocks.holdings tx.new }
 {
     take(tx, id)?;
     let new = give(alloc, tx, &[4; 50])?;
@@ -92,8 +94,8 @@ fn remove_one<S: BlocksMut>(alloc: Global, tx: &mut Tx<S>, id: &BlockId) -> Resu
 type Followed = (BlockId, bool, Option<u8>);
 
 fn follow_one<S: BlocksMut>(alloc: Global, tx: &mut Tx<S>) -> Result<Followed, Fail>
-    requires { ⟦<Tx<S> as Blocks>⟧.meanings.intact tx.old }
-    ensures { ⟦<Tx<S> as Blocks>⟧.meanings.intact tx.new }
+    requires { intact_in S.Blocks.meanings S.Blocks.holdings tx.old }
+    ensures { intact_in S.Blocks.meanings S.Blocks.holdings tx.new }
 {
     let block = give(alloc, tx, &[1; 50])?;
     let last = give(alloc, tx, &[7; 50])?;
@@ -108,7 +110,7 @@ fn run<S: BlocksMut>(
     alloc: Global,
     tx: &mut Tx<S>,
 ) -> Result<([BlockId; 2], Followed, Removed), Fail>
-    requires { ⟦<Tx<S> as Blocks>⟧.meanings.intact tx.old }
+    requires { intact_in S.Blocks.meanings S.Blocks.holdings tx.old }
 {
     let begun = begin_again(alloc, tx)?;
     let followed = follow_one(alloc, tx)?;

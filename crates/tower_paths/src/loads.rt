@@ -1,6 +1,7 @@
 // How many blocks each call on a tree loads.
 ghost use Rattle.std.specs.Prelude.{◌≡◌, IfOk};
 ghost use Rattle.store_api.specs.Holdings.{IsFew};
+ghost use Rattle.store_api.specs.Txs.{intact_in};
 
 use crate::tower::empty_store;
 use block_id::BlockId;
@@ -91,8 +92,8 @@ const LOADS: [(usize, Call, usize); 52] = [
 
 /// A tree of n bytes, applied to the store.
 fn make<S: BlocksMut>(alloc: Global, tx: &mut Tx<S>, n: usize) -> Result<BlockId, Fail>
-    requires { ⟦<Tx<S> as Blocks>⟧.meanings.intact tx.old }
-    ensures { ⟦<Tx<S> as Blocks>⟧.meanings.intact tx.new }
+    requires { intact_in S.Blocks.meanings S.Blocks.holdings tx.old }
+    ensures { intact_in S.Blocks.meanings S.Blocks.holdings tx.new }
 {
     if n > 1000 {
         return Err("too long".into());
@@ -125,7 +126,7 @@ fn write<S: Blocks>(
     from: u64,
     n: usize,
 ) -> Result<(), Fail>
-    requires { ⟦<Tx<S> as Blocks>⟧.meanings.intact tx.old }
+    requires { intact_in S.meanings S.holdings tx.old }
 {
     if from > 1000 || n > 1000 {
         return Err("too long".into());
@@ -142,7 +143,7 @@ fn make_call<S: Blocks>(
     root: &BlockId,
     which: Call,
 ) -> Result<(), Fail>
-    requires { ⟦<Tx<S> as Blocks>⟧.meanings.intact tx.old }
+    requires { intact_in S.meanings S.holdings tx.old }
 {
     match which {
         Call::Make => {}

@@ -2,6 +2,7 @@
 ghost use Rattle.std.specs.Prelude.{◌≡◌, [], IfOk};
 ghost use Rattle.sealed_store.specs.Stores.{IsIntact, block_size_of, cipher_of};
 ghost use Rattle.store_api.specs.Holdings.{IsFew};
+ghost use Rattle.store_api.specs.Txs.{intact_in};
 
 use aes_gcm::Aes256Gcm;
 use blob_store::BlobStore;
@@ -83,8 +84,8 @@ fn answer<S: BlocksMut>(
     line: &[u8],
     chance: &mut Pcg32,
 ) -> Result<Vec<u8>, Fail>
-    requires { ⟦<Tx<S> as Blocks>⟧.meanings.intact blobs.old.tx }
-    ensures { ⟦<Tx<S> as Blocks>⟧.meanings.intact blobs.new.tx }
+    requires { intact_in S.Blocks.meanings S.Blocks.holdings blobs.old.tx }
+    ensures { intact_in S.Blocks.meanings S.Blocks.holdings blobs.new.tx }
 {
     let now = Moment::new(100, 5).ok_or("nanos")?;
     let Ok(command) = parse_line(alloc, line) else {
@@ -109,8 +110,8 @@ pub fn answer_each<S: BlocksMut>(
     blobs: &mut BlobStore<S>,
     lines: &[&str],
 ) -> Result<Vec<u8>, Fail>
-    requires { ⟦<Tx<S> as Blocks>⟧.meanings.intact blobs.old.tx }
-    ensures { ⟦<Tx<S> as Blocks>⟧.meanings.intact blobs.new.tx }
+    requires { intact_in S.Blocks.meanings S.Blocks.holdings blobs.old.tx }
+    ensures { intact_in S.Blocks.meanings S.Blocks.holdings blobs.new.tx }
 {
     let mut chance = Pcg32::new(1, 2);
     let mut texts = Vec::new(alloc);

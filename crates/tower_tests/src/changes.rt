@@ -2,6 +2,7 @@
 ghost use Rattle.std.specs.Prelude.{◌≡◌, true, IfOk};
 ghost use Rattle.store_api.specs.Holdings.{IsFew};
 ghost use Rattle.store_api.specs.Lists.{MayConfigure};
+ghost use Rattle.store_api.specs.Txs.{intact_in};
 
 use crate::tower::Tower;
 use block_id::BlockId;
@@ -26,8 +27,8 @@ fn give<S: BlocksMut>(
     byte: u8,
     chance: &mut Pcg32,
 ) -> Result<(), Fail>
-    requires { ⟦<Tx<S> as Blocks>⟧.meanings.intact tx.old }
-    ensures { ⟦<Tx<S> as Blocks>⟧.meanings.intact tx.new }
+    requires { intact_in S.Blocks.meanings S.Blocks.holdings tx.old }
+    ensures { intact_in S.Blocks.meanings S.Blocks.holdings tx.new }
 {
     let payload = [byte; 50].to_vec(alloc)?;
     let given = put_one(alloc, &mut tx.store, id, payload, chance);
@@ -42,8 +43,8 @@ fn give_new<S: BlocksMut>(
     changes: &[Change],
     chance: &mut Pcg32,
 ) -> Result<Vec<Change>, Fail>
-    requires { ⟦<Tx<S> as Blocks>⟧.meanings.intact tx.old }
-    ensures { ⟦<Tx<S> as Blocks>⟧.meanings.intact tx.new }
+    requires { intact_in S.Blocks.meanings S.Blocks.holdings tx.old }
+    ensures { intact_in S.Blocks.meanings S.Blocks.holdings tx.new }
 {
     let mut others = Vec::new(alloc);
     for one in changes {
@@ -56,8 +57,8 @@ fn give_new<S: BlocksMut>(
 }
 
 fn put<S: Blocks>(alloc: Global, tx: &mut Tx<S>, id: &BlockId, byte: u8) -> Result<(), Fail>
-    requires { ⟦<Tx<S> as Blocks>⟧.meanings.intact tx.old }
-    ensures { ⟦<Tx<S> as Blocks>⟧.meanings.intact tx.new }
+    requires { intact_in S.meanings S.holdings tx.old }
+    ensures { intact_in S.meanings S.holdings tx.new }
 {
     match tx.load(alloc, id)? {
         Some(_) => {}
@@ -72,8 +73,8 @@ fn put<S: Blocks>(alloc: Global, tx: &mut Tx<S>, id: &BlockId, byte: u8) -> Resu
 }
 
 fn change<S: Blocks>(alloc: Global, tx: &mut Tx<S>, change: &Change) -> Result<(), Fail>
-    requires { ⟦<Tx<S> as Blocks>⟧.meanings.intact tx.old }
-    ensures { ⟦<Tx<S> as Blocks>⟧.meanings.intact tx.new }
+    requires { intact_in S.meanings S.holdings tx.old }
+    ensures { intact_in S.meanings S.holdings tx.new }
 {
     match change.1 {
         Some(byte) => put(alloc, tx, &change.0, byte),
@@ -83,8 +84,8 @@ fn change<S: Blocks>(alloc: Global, tx: &mut Tx<S>, change: &Change) -> Result<(
 }
 
 fn change_all<S: Blocks>(alloc: Global, tx: &mut Tx<S>, changes: &[Change]) -> Result<(), Fail>
-    requires { ⟦<Tx<S> as Blocks>⟧.meanings.intact tx.old }
-    ensures { ⟦<Tx<S> as Blocks>⟧.meanings.intact tx.new }
+    requires { intact_in S.meanings S.holdings tx.old }
+    ensures { intact_in S.meanings S.holdings tx.new }
 {
     for one in changes {
         change(alloc, tx, one)?;
@@ -98,8 +99,8 @@ pub(crate) fn commit_all<S: BlocksMut>(
     tx: &mut Tx<S>,
     changes: &[Change],
 ) -> Result<(), Fail>
-    requires { ⟦<Tx<S> as Blocks>⟧.meanings.intact tx.old }
-    ensures { ⟦<Tx<S> as Blocks>⟧.meanings.intact tx.new }
+    requires { intact_in S.Blocks.meanings S.Blocks.holdings tx.old }
+    ensures { intact_in S.Blocks.meanings S.Blocks.holdings tx.new }
 {
     let mut chance = Pcg32::new(1, 2);
     let others = give_new(alloc, tx, changes, &mut chance)?;
@@ -239,8 +240,8 @@ fn follow_and_commit<S: BlocksMut>(
     tx: &mut Tx<S>,
     id: &BlockId,
 ) -> Result<bool, Fail>
-    requires { ⟦<Tx<S> as Blocks>⟧.meanings.intact tx.old }
-    ensures { ⟦<Tx<S> as Blocks>⟧.meanings.intact tx.new }
+    requires { intact_in S.Blocks.meanings S.Blocks.holdings tx.old }
+    ensures { intact_in S.Blocks.meanings S.Blocks.holdings tx.new }
 {
     let found = follow(alloc, tx, id)?;
     tx.commit(alloc, &mut Pcg32::new(1, 2))?;

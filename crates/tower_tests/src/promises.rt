@@ -1,6 +1,7 @@
 // What every durable store promises a client, over a directory and a record in memory: each function answers whether it was kept.
 ghost use Rattle.std.specs.Prelude.{IfOk};
 ghost use Rattle.store_api.specs.Holdings.{IsFew};
+ghost use Rattle.store_api.specs.Txs.{intact_in};
 
 use crate::changes::{
     Change, Ended, Sizes, Synced, change_and_sync, commit_all, configure_and_sync, follow_and_sync,
@@ -134,8 +135,8 @@ fn change_twice<S: BlocksMut>(
     first: &[Change],
     second: &[Change],
 ) -> Result<([Loaded; 3], [Loaded; 3]), Fail>
-    requires { ⟦<Tx<S> as Blocks>⟧.meanings.intact tx.old }
-    ensures { ⟦<Tx<S> as Blocks>⟧.meanings.intact tx.new }
+    requires { intact_in S.Blocks.meanings S.Blocks.holdings tx.old }
+    ensures { intact_in S.Blocks.meanings S.Blocks.holdings tx.new }
 {
     commit_all(alloc, tx, first)?;
     let before = load_each(alloc, tx);

@@ -2,6 +2,7 @@
 ghost use Rattle.std.specs.Prelude.{◌≡◌, ◌≤◌, ◌<◌, ◌^◌, ◌+◌, ◌*◌, true, is_some, length, IfOk, OnOk};
 ghost use Rattle.outcome.specs.Outcome.{Outcome};
 ghost use Rattle.store_api.specs.Holdings.{Stays};
+ghost use Rattle.store_api.specs.Txs.{intact_in, tx_holdings, tx_meanings};
 ghost use Rattle.data_nodes.specs.Layout.{node_of, FitsPayload};
 ghost use Rattle.data_tree.specs.Needs.{HasTree, HasBelow};
 ghost use Rattle.data_tree.specs.Trees.{span, depth_in};
@@ -19,12 +20,12 @@ fn len_below<S: Blocks>(
     id: &BlockId,
     level: Level,
 ) -> Result<u64, Fail>
-    requires intact { ⟦<Tx<S> as Blocks>⟧.meanings.intact tx.old }
-    requires level { level.room ≡ span (⟦<Tx<S> as Blocks>⟧.holdings.payload tx.old) level.depth }
+    requires intact { intact_in S.meanings S.holdings tx.old }
+    requires level { level.room ≡ span (S.holdings.payload tx.old.store) level.depth }
     requires small { level.room < 2 ^ 63 }
-    ensures outcome { Outcome ⟦<Tx<S> as Blocks>⟧.meanings (HasTree ⟦<Tx<S> as Blocks>⟧.holdings tx.old level.depth id.now.0) tx.old tx.new result (λ n len. len ≡ length n.bytes) }
+    ensures outcome { Outcome (tx_meanings S.meanings S.holdings) (HasTree (tx_holdings S.holdings) tx.old level.depth id.now.0) tx.old tx.new result (λ n len. len ≡ length n.bytes) }
     ensures most { IfOk result (λ len. len ≤ level.room) }
-    ensures stays { Stays ⟦<Tx<S> as Blocks>⟧.holdings tx.old tx.new }
+    ensures stays { Stays (tx_holdings S.holdings) tx.old tx.new }
     ensures below { Stays S.holdings tx.old.store tx.new.store }
     ensures overlay { tx.new.overlay ≡ tx.old.overlay }
 {
@@ -42,14 +43,14 @@ pub fn len_in<S: Blocks>(
     node: &Node,
     level: Level,
 ) -> Result<u64, Fail>
-    requires intact { ⟦<Tx<S> as Blocks>⟧.meanings.intact tx.old }
-    requires level { level.room ≡ span (⟦<Tx<S> as Blocks>⟧.holdings.payload tx.old) level.depth }
+    requires intact { intact_in S.meanings S.holdings tx.old }
+    requires level { level.room ≡ span (S.holdings.payload tx.old.store) level.depth }
     requires small { level.room < 2 ^ 63 }
-    requires fits { FitsPayload (⟦<Tx<S> as Blocks>⟧.holdings.payload tx.old) (node_of node.now) }
+    requires fits { FitsPayload (S.holdings.payload tx.old.store) (node_of node.now) }
     requires depth { depth_in (node_of node.now) ≡ level.depth }
-    ensures outcome { Outcome ⟦<Tx<S> as Blocks>⟧.meanings (HasBelow ⟦<Tx<S> as Blocks>⟧.holdings tx.old level.depth (node_of node.now)) tx.old tx.new result (λ n len. len ≡ length n.bytes) }
+    ensures outcome { Outcome (tx_meanings S.meanings S.holdings) (HasBelow (tx_holdings S.holdings) tx.old level.depth (node_of node.now)) tx.old tx.new result (λ n len. len ≡ length n.bytes) }
     ensures most { IfOk result (λ len. len ≤ level.room) }
-    ensures stays { Stays ⟦<Tx<S> as Blocks>⟧.holdings tx.old tx.new }
+    ensures stays { Stays (tx_holdings S.holdings) tx.old tx.new }
     ensures below { Stays S.holdings tx.old.store tx.new.store }
     ensures overlay { tx.new.overlay ≡ tx.old.overlay }
 {

@@ -2,6 +2,7 @@
 ghost use Rattle.std.specs.Prelude.{◌≡◌, ◌≤◌, ◌<◌, ◌++◌, true, is_some, length, IfOk, OnOk};
 ghost use Rattle.outcome.specs.Outcome.{Outcome};
 ghost use Rattle.store_api.specs.Holdings.{Stays};
+ghost use Rattle.store_api.specs.Txs.{intact_in, tx_holdings, tx_meanings};
 ghost use Rattle.data_nodes.specs.Layout.{ids_of, node_of, FitsPayload};
 ghost use Rattle.data_tree.specs.Needs.{HasTree, HasTrees, HasBelow};
 ghost use Rattle.data_tree.specs.Trees.{span, depth_in};
@@ -24,11 +25,11 @@ pub fn read_below<S: Blocks>(
     part: Part,
     out: &mut Vec<u8>,
 ) -> Result<(), Fail>
-    requires intact { ⟦<Tx<S> as Blocks>⟧.meanings.intact tx.old }
-    requires level { level.room ≡ span (⟦<Tx<S> as Blocks>⟧.holdings.payload tx.old) level.depth }
-    ensures outcome { Outcome ⟦<Tx<S> as Blocks>⟧.meanings (HasTree ⟦<Tx<S> as Blocks>⟧.holdings tx.old level.depth id.now.0) tx.old tx.new result
+    requires intact { intact_in S.meanings S.holdings tx.old }
+    requires level { level.room ≡ span (S.holdings.payload tx.old.store) level.depth }
+    ensures outcome { Outcome (tx_meanings S.meanings S.holdings) (HasTree (tx_holdings S.holdings) tx.old level.depth id.now.0) tx.old tx.new result
         (λ n _. out.new.items ≡ out.old.items ++ between part.from part.to n.bytes) }
-    ensures stays { Stays ⟦<Tx<S> as Blocks>⟧.holdings tx.old tx.new }
+    ensures stays { Stays (tx_holdings S.holdings) tx.old tx.new }
     ensures below { Stays S.holdings tx.old.store tx.new.store }
     ensures overlay { tx.new.overlay ≡ tx.old.overlay }
 {
@@ -51,13 +52,13 @@ pub fn read_in<S: Blocks>(
     part: Part,
     out: &mut Vec<u8>,
 ) -> Result<(), Fail>
-    requires intact { ⟦<Tx<S> as Blocks>⟧.meanings.intact tx.old }
-    requires level { level.room ≡ span (⟦<Tx<S> as Blocks>⟧.holdings.payload tx.old) level.depth }
-    requires fits { FitsPayload (⟦<Tx<S> as Blocks>⟧.holdings.payload tx.old) (node_of node.now) }
+    requires intact { intact_in S.meanings S.holdings tx.old }
+    requires level { level.room ≡ span (S.holdings.payload tx.old.store) level.depth }
+    requires fits { FitsPayload (S.holdings.payload tx.old.store) (node_of node.now) }
     requires depth { depth_in (node_of node.now) ≡ level.depth }
-    ensures outcome { Outcome ⟦<Tx<S> as Blocks>⟧.meanings (HasBelow ⟦<Tx<S> as Blocks>⟧.holdings tx.old level.depth (node_of node.now)) tx.old tx.new result
+    ensures outcome { Outcome (tx_meanings S.meanings S.holdings) (HasBelow (tx_holdings S.holdings) tx.old level.depth (node_of node.now)) tx.old tx.new result
         (λ n _. out.new.items ≡ out.old.items ++ between part.from part.to n.bytes) }
-    ensures stays { Stays ⟦<Tx<S> as Blocks>⟧.holdings tx.old tx.new }
+    ensures stays { Stays (tx_holdings S.holdings) tx.old tx.new }
     ensures below { Stays S.holdings tx.old.store tx.new.store }
     ensures overlay { tx.new.overlay ≡ tx.old.overlay }
 {
@@ -83,11 +84,11 @@ fn read_children<S: Blocks>(
     part: Part,
     out: &mut Vec<u8>,
 ) -> Result<(), Fail>
-    requires intact { ⟦<Tx<S> as Blocks>⟧.meanings.intact tx.old }
-    requires level { level.room ≡ span (⟦<Tx<S> as Blocks>⟧.holdings.payload tx.old) level.depth }
-    ensures outcome { Outcome ⟦<Tx<S> as Blocks>⟧.meanings (HasTrees ⟦<Tx<S> as Blocks>⟧.holdings tx.old level.depth (ids_of children.now)) tx.old tx.new result
+    requires intact { intact_in S.meanings S.holdings tx.old }
+    requires level { level.room ≡ span (S.holdings.payload tx.old.store) level.depth }
+    ensures outcome { Outcome (tx_meanings S.meanings S.holdings) (HasTrees (tx_holdings S.holdings) tx.old level.depth (ids_of children.now)) tx.old tx.new result
         (λ n _. out.new.items ≡ out.old.items ++ between part.from part.to n.bytes) }
-    ensures stays { Stays ⟦<Tx<S> as Blocks>⟧.holdings tx.old tx.new }
+    ensures stays { Stays (tx_holdings S.holdings) tx.old tx.new }
     ensures below { Stays S.holdings tx.old.store tx.new.store }
     ensures overlay { tx.new.overlay ≡ tx.old.overlay }
 {

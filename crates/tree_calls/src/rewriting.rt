@@ -4,6 +4,7 @@ ghost use Rattle.block_id.specs.Contents.{written};
 ghost use Rattle.outcome.specs.Outcome.{Outcome};
 ghost use Rattle.store_api.specs.Content.{Id};
 ghost use Rattle.store_api.specs.Holdings.{Stays};
+ghost use Rattle.store_api.specs.Txs.{content_of, intact_in, tx_holdings, tx_meanings};
 ghost use Rattle.data_nodes.specs.Layout.{node_of, FitsPayload};
 ghost use Rattle.tree_calls.specs.Rewriting.{HasRootNode};
 ghost use Rattle.data_tree.specs.Roots.{IsRoot, IsNewRoot, IsTooDeep};
@@ -25,14 +26,14 @@ fn put_tree<S: Blocks>(
     bytes: &[u8],
     level: Level,
 ) -> Result<(), Memory>
-    requires intact { ⟦<Tx<S> as Blocks>⟧.meanings.intact tx.old }
-    requires there { is_some (⟦<Tx<S> as Blocks>⟧.holdings.content tx.old root.now.0) ≡ true }
-    requires deep { IsDepth (⟦<Tx<S> as Blocks>⟧.holdings.payload tx.old) level.depth (length bytes.now) }
-    requires room { level.room ≡ span (⟦<Tx<S> as Blocks>⟧.holdings.payload tx.old) level.depth }
-    ensures intact { ⟦<Tx<S> as Blocks>⟧.meanings.intact tx.new }
+    requires intact { intact_in S.meanings S.holdings tx.old }
+    requires there { is_some (content_of S.holdings tx.old root.now.0) ≡ true }
+    requires deep { IsDepth (S.holdings.payload tx.old.store) level.depth (length bytes.now) }
+    requires room { level.room ≡ span (S.holdings.payload tx.old.store) level.depth }
+    ensures intact { intact_in S.meanings S.holdings tx.new }
     ensures store { tx.new.store ≡ tx.old.store }
     ensures seed { tx.new.seed ≡ tx.old.seed }
-    ensures built { OnOk result (IsNewRoot ⟦<Tx<S> as Blocks>⟧.holdings tx.old tx.new root.now.0 (root.now.0 ∷ []) bytes.now) }
+    ensures built { OnOk result (IsNewRoot (tx_holdings S.holdings) tx.old tx.new root.now.0 (root.now.0 ∷ []) bytes.now) }
 {
     match build(alloc, tx, bytes, level) {
         Ok(node) => put_node(alloc, tx, root, &node),
@@ -48,12 +49,12 @@ pub(crate) fn rewrite<S: Blocks>(
     node: &Node,
     bytes: &[u8],
 ) -> Result<(), Fail>
-    requires intact { ⟦<Tx<S> as Blocks>⟧.meanings.intact tx.old }
-    requires there { is_some (⟦<Tx<S> as Blocks>⟧.holdings.content tx.old root.now.0) ≡ true }
-    requires fits { FitsPayload (⟦<Tx<S> as Blocks>⟧.holdings.payload tx.old) (node_of node.now) }
+    requires intact { intact_in S.meanings S.holdings tx.old }
+    requires there { is_some (content_of S.holdings tx.old root.now.0) ≡ true }
+    requires fits { FitsPayload (S.holdings.payload tx.old.store) (node_of node.now) }
     requires small { length bytes.now ≤ 2 ^ 40 }
-    ensures outcome { Outcome ⟦<Tx<S> as Blocks>⟧.meanings (HasRootNode ⟦<Tx<S> as Blocks>⟧.holdings tx.old root.now.0 (node_of node.now)) tx.old tx.new result
-        (λ n _. IsNewRoot ⟦<Tx<S> as Blocks>⟧.holdings tx.old tx.new root.now.0 (root.now.0 ∷ n.ids) bytes.now) }
+    ensures outcome { Outcome (tx_meanings S.meanings S.holdings) (HasRootNode (tx_holdings S.holdings) tx.old root.now.0 (node_of node.now)) tx.old tx.new result
+        (λ n _. IsNewRoot (tx_holdings S.holdings) tx.old tx.new root.now.0 (root.now.0 ∷ n.ids) bytes.now) }
     ensures below { Stays S.holdings tx.old.store tx.new.store }
 {
     let level = level_for(tx.payload(), bytes.len() as u64);
@@ -69,15 +70,15 @@ pub(crate) fn read_root<S: Blocks>(
     tx: &mut Tx<S>,
     root: &BlockId,
 ) -> Result<(Node, Vec<u8>), Fail>
-    requires { ⟦<Tx<S> as Blocks>⟧.meanings.intact tx.old }
-    ensures outcome { Outcome ⟦<Tx<S> as Blocks>⟧.meanings (IsRoot ⟦<Tx<S> as Blocks>⟧.holdings tx.old root.now.0) tx.old tx.new result
-        (λ n found. (⟦<Tx<S> as Blocks>⟧.holdings.told tx.old ≡ true) × ((node_of found.0 ≡ n.tree.node) × (found.1.items ≡ n.bytes))) }
-    ensures shallow { ⟦<Tx<S> as Blocks>⟧.meanings.sound tx.old → ⟦<Tx<S> as Blocks>⟧.meanings.forgeries tx.new ≤ ⟦<Tx<S> as Blocks>⟧.meanings.forgeries tx.old
-        → OnOk result (IsTooDeep ⟦<Tx<S> as Blocks>⟧.holdings tx.old root.now.0 → ⊥) }
-    ensures stays { Stays ⟦<Tx<S> as Blocks>⟧.holdings tx.old tx.new }
+    requires { intact_in S.meanings S.holdings tx.old }
+    ensures outcome { Outcome (tx_meanings S.meanings S.holdings) (IsRoot (tx_holdings S.holdings) tx.old root.now.0) tx.old tx.new result
+        (λ n found. (S.holdings.told tx.old.store ≡ true) × ((node_of found.0 ≡ n.tree.node) × (found.1.items ≡ n.bytes))) }
+    ensures shallow { S.meanings.sound tx.old.store → S.meanings.forgeries tx.new.store ≤ S.meanings.forgeries tx.old.store
+        → OnOk result (IsTooDeep (tx_holdings S.holdings) tx.old root.now.0 → ⊥) }
+    ensures stays { Stays (tx_holdings S.holdings) tx.old tx.new }
     ensures below { Stays S.holdings tx.old.store tx.new.store }
-    ensures there { OnOk result (is_some (⟦<Tx<S> as Blocks>⟧.holdings.content tx.old root.now.0) ≡ true) }
-    ensures fits { IfOk result (λ found. FitsPayload (⟦<Tx<S> as Blocks>⟧.holdings.payload tx.old) (node_of found.0)) }
+    ensures there { OnOk result (is_some (content_of S.holdings tx.old root.now.0) ≡ true) }
+    ensures fits { IfOk result (λ found. FitsPayload (S.holdings.payload tx.old.store) (node_of found.0)) }
     ensures few { IfOk result (λ found. length found.1.items ≤ 2 ^ 40) }
 {
     let (node, level) = match load_root(alloc, tx, root) {

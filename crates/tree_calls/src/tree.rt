@@ -4,6 +4,7 @@ ghost use Rattle.block_id.specs.declared.fail.Fail.TheVariants.{Memory};
 ghost use Rattle.block_id.specs.Contents.{resized, written};
 ghost use Rattle.outcome.specs.Outcome.{Outcome};
 ghost use Rattle.store_api.specs.Holdings.{Stays};
+ghost use Rattle.store_api.specs.Txs.{content_of, intact_in, tx_holdings, tx_meanings};
 ghost use Rattle.data_tree.specs.Roots.{IsRoot, IsNewRoot, IsTooDeep};
 ghost use Rattle.data_tree.specs.Trees.{Replaces};
 
@@ -18,11 +19,11 @@ use store_api::{Blocks, Tx};
 
 /// How many bytes the tree has. A block is loaded for each level.
 pub fn len<S: Blocks>(alloc: Global, tx: &mut Tx<S>, root: &BlockId) -> Result<u64, Fail>
-    requires { ⟦<Tx<S> as Blocks>⟧.meanings.intact tx.old }
-    ensures outcome { Outcome ⟦<Tx<S> as Blocks>⟧.meanings (IsRoot ⟦<Tx<S> as Blocks>⟧.holdings tx.old root.now.0) tx.old tx.new result (λ n len. len ≡ length n.bytes) }
-    ensures shallow { ⟦<Tx<S> as Blocks>⟧.meanings.sound tx.old → ⟦<Tx<S> as Blocks>⟧.meanings.forgeries tx.new ≤ ⟦<Tx<S> as Blocks>⟧.meanings.forgeries tx.old
-        → OnOk result (IsTooDeep ⟦<Tx<S> as Blocks>⟧.holdings tx.old root.now.0 → ⊥) }
-    ensures stays { Stays ⟦<Tx<S> as Blocks>⟧.holdings tx.old tx.new }
+    requires { intact_in S.meanings S.holdings tx.old }
+    ensures outcome { Outcome (tx_meanings S.meanings S.holdings) (IsRoot (tx_holdings S.holdings) tx.old root.now.0) tx.old tx.new result (λ n len. len ≡ length n.bytes) }
+    ensures shallow { S.meanings.sound tx.old.store → S.meanings.forgeries tx.new.store ≤ S.meanings.forgeries tx.old.store
+        → OnOk result (IsTooDeep (tx_holdings S.holdings) tx.old root.now.0 → ⊥) }
+    ensures stays { Stays (tx_holdings S.holdings) tx.old tx.new }
     ensures below { Stays S.holdings tx.old.store tx.new.store }
     ensures overlay { tx.new.overlay ≡ tx.old.overlay }
 {
@@ -40,11 +41,11 @@ pub fn read_range<S: Blocks>(
     from: u64,
     count: u64,
 ) -> Result<Vec<u8>, Fail>
-    requires { ⟦<Tx<S> as Blocks>⟧.meanings.intact tx.old }
-    ensures outcome { Outcome ⟦<Tx<S> as Blocks>⟧.meanings (IsRoot ⟦<Tx<S> as Blocks>⟧.holdings tx.old root.now.0) tx.old tx.new result (λ n out. out.items ≡ take count (drop from n.bytes)) }
-    ensures shallow { ⟦<Tx<S> as Blocks>⟧.meanings.sound tx.old → ⟦<Tx<S> as Blocks>⟧.meanings.forgeries tx.new ≤ ⟦<Tx<S> as Blocks>⟧.meanings.forgeries tx.old
-        → OnOk result (IsTooDeep ⟦<Tx<S> as Blocks>⟧.holdings tx.old root.now.0 → ⊥) }
-    ensures stays { Stays ⟦<Tx<S> as Blocks>⟧.holdings tx.old tx.new }
+    requires { intact_in S.meanings S.holdings tx.old }
+    ensures outcome { Outcome (tx_meanings S.meanings S.holdings) (IsRoot (tx_holdings S.holdings) tx.old root.now.0) tx.old tx.new result (λ n out. out.items ≡ take count (drop from n.bytes)) }
+    ensures shallow { S.meanings.sound tx.old.store → S.meanings.forgeries tx.new.store ≤ S.meanings.forgeries tx.old.store
+        → OnOk result (IsTooDeep (tx_holdings S.holdings) tx.old root.now.0 → ⊥) }
+    ensures stays { Stays (tx_holdings S.holdings) tx.old tx.new }
     ensures below { Stays S.holdings tx.old.store tx.new.store }
     ensures overlay { tx.new.overlay ≡ tx.old.overlay }
 {
@@ -65,11 +66,11 @@ pub fn read_range<S: Blocks>(
 
 /// Drops the tree. Its root and its inner nodes are loaded, and no other leaf.
 pub fn drop_tree<S: Blocks>(alloc: Global, tx: &mut Tx<S>, root: &BlockId) -> Result<(), Fail>
-    requires { ⟦<Tx<S> as Blocks>⟧.meanings.intact tx.old }
-    ensures outcome { Outcome ⟦<Tx<S> as Blocks>⟧.meanings (IsRoot ⟦<Tx<S> as Blocks>⟧.holdings tx.old root.now.0) tx.old tx.new result
-        (λ n _. Replaces (⟦<Tx<S> as Blocks>⟧.holdings.content tx.old) (⟦<Tx<S> as Blocks>⟧.holdings.content tx.new) n.ids []) }
-    ensures shallow { ⟦<Tx<S> as Blocks>⟧.meanings.sound tx.old → ⟦<Tx<S> as Blocks>⟧.meanings.forgeries tx.new ≤ ⟦<Tx<S> as Blocks>⟧.meanings.forgeries tx.old
-        → OnOk result (IsTooDeep ⟦<Tx<S> as Blocks>⟧.holdings tx.old root.now.0 → ⊥) }
+    requires { intact_in S.meanings S.holdings tx.old }
+    ensures outcome { Outcome (tx_meanings S.meanings S.holdings) (IsRoot (tx_holdings S.holdings) tx.old root.now.0) tx.old tx.new result
+        (λ n _. Replaces (content_of S.holdings tx.old) (content_of S.holdings tx.new) n.ids []) }
+    ensures shallow { S.meanings.sound tx.old.store → S.meanings.forgeries tx.new.store ≤ S.meanings.forgeries tx.old.store
+        → OnOk result (IsTooDeep (tx_holdings S.holdings) tx.old root.now.0 → ⊥) }
     ensures below { Stays S.holdings tx.old.store tx.new.store }
 {
     let (node, level) = match load_root(alloc, tx, root) {
@@ -84,10 +85,10 @@ pub fn drop_tree<S: Blocks>(alloc: Global, tx: &mut Tx<S>, root: &BlockId) -> Re
 
 /// A new tree that holds the bytes. Nothing is loaded.
 pub fn new_tree<S: Blocks>(alloc: Global, tx: &mut Tx<S>, bytes: &[u8]) -> Result<BlockId, Fail>
-    requires intact { ⟦<Tx<S> as Blocks>⟧.meanings.intact tx.old }
+    requires intact { intact_in S.meanings S.holdings tx.old }
     requires small { length bytes.now ≤ 2 ^ 40 }
-    ensures outcome { Outcome ⟦<Tx<S> as Blocks>⟧.meanings Unit tx.old tx.new result (λ _ root. IsNewRoot ⟦<Tx<S> as Blocks>⟧.holdings tx.old tx.new root.0 [] bytes.now) }
-    ensures new { IfOk result (λ root. IsNewRoot ⟦<Tx<S> as Blocks>⟧.holdings tx.old tx.new root.0 [] bytes.now) }
+    ensures outcome { Outcome (tx_meanings S.meanings S.holdings) Unit tx.old tx.new result (λ _ root. IsNewRoot (tx_holdings S.holdings) tx.old tx.new root.0 [] bytes.now) }
+    ensures new { IfOk result (λ root. IsNewRoot (tx_holdings S.holdings) tx.old tx.new root.0 [] bytes.now) }
     ensures err { IfErr result (λ fail. fail ≡ Memory) }
     ensures store { tx.new.store ≡ tx.old.store }
     ensures below { Stays S.holdings tx.old.store tx.new.store }
@@ -107,12 +108,12 @@ pub fn write_range<S: Blocks>(
     from: u64,
     bytes: &[u8],
 ) -> Result<(), Fail>
-    requires intact { ⟦<Tx<S> as Blocks>⟧.meanings.intact tx.old }
+    requires intact { intact_in S.meanings S.holdings tx.old }
     requires small { from + length bytes.now ≤ 2 ^ 40 }
-    ensures outcome { Outcome ⟦<Tx<S> as Blocks>⟧.meanings (IsRoot ⟦<Tx<S> as Blocks>⟧.holdings tx.old root.now.0) tx.old tx.new result
-        (λ n _. IsNewRoot ⟦<Tx<S> as Blocks>⟧.holdings tx.old tx.new root.now.0 n.ids (written n.bytes from bytes.now)) }
-    ensures shallow { ⟦<Tx<S> as Blocks>⟧.meanings.sound tx.old → ⟦<Tx<S> as Blocks>⟧.meanings.forgeries tx.new ≤ ⟦<Tx<S> as Blocks>⟧.meanings.forgeries tx.old
-        → 0 < length bytes.now → OnOk result (IsTooDeep ⟦<Tx<S> as Blocks>⟧.holdings tx.old root.now.0 → ⊥) }
+    ensures outcome { Outcome (tx_meanings S.meanings S.holdings) (IsRoot (tx_holdings S.holdings) tx.old root.now.0) tx.old tx.new result
+        (λ n _. IsNewRoot (tx_holdings S.holdings) tx.old tx.new root.now.0 n.ids (written n.bytes from bytes.now)) }
+    ensures shallow { S.meanings.sound tx.old.store → S.meanings.forgeries tx.new.store ≤ S.meanings.forgeries tx.old.store
+        → 0 < length bytes.now → OnOk result (IsTooDeep (tx_holdings S.holdings) tx.old root.now.0 → ⊥) }
     ensures empty { length bytes.now ≡ 0 → tx.new ≡ tx.old }
     ensures below { Stays S.holdings tx.old.store tx.new.store }
 {
@@ -132,12 +133,12 @@ pub fn write_range<S: Blocks>(
 
 /// Cuts the tree to this length, or appends zeros up to it.
 pub fn resize<S: Blocks>(alloc: Global, tx: &mut Tx<S>, root: &BlockId, n: u64) -> Result<(), Fail>
-    requires intact { ⟦<Tx<S> as Blocks>⟧.meanings.intact tx.old }
+    requires intact { intact_in S.meanings S.holdings tx.old }
     requires small { n ≤ 2 ^ 40 }
-    ensures outcome { Outcome ⟦<Tx<S> as Blocks>⟧.meanings (IsRoot ⟦<Tx<S> as Blocks>⟧.holdings tx.old root.now.0) tx.old tx.new result
-        (λ old _. IsNewRoot ⟦<Tx<S> as Blocks>⟧.holdings tx.old tx.new root.now.0 old.ids (resized old.bytes n)) }
-    ensures shallow { ⟦<Tx<S> as Blocks>⟧.meanings.sound tx.old → ⟦<Tx<S> as Blocks>⟧.meanings.forgeries tx.new ≤ ⟦<Tx<S> as Blocks>⟧.meanings.forgeries tx.old
-        → OnOk result (IsTooDeep ⟦<Tx<S> as Blocks>⟧.holdings tx.old root.now.0 → ⊥) }
+    ensures outcome { Outcome (tx_meanings S.meanings S.holdings) (IsRoot (tx_holdings S.holdings) tx.old root.now.0) tx.old tx.new result
+        (λ old _. IsNewRoot (tx_holdings S.holdings) tx.old tx.new root.now.0 old.ids (resized old.bytes n)) }
+    ensures shallow { S.meanings.sound tx.old.store → S.meanings.forgeries tx.new.store ≤ S.meanings.forgeries tx.old.store
+        → OnOk result (IsTooDeep (tx_holdings S.holdings) tx.old root.now.0 → ⊥) }
     ensures below { Stays S.holdings tx.old.store tx.new.store }
 {
     let (node, mut all) = match read_root(alloc, tx, root) {

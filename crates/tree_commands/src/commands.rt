@@ -7,6 +7,7 @@ ghost use Rattle.fs_model.specs.Fitting.{IsFitting};
 ghost use Rattle.fs_model.specs.Tree.{empty_tree};
 ghost use Rattle.outcome.specs.Outcome.{Outcome};
 ghost use Rattle.store_api.specs.Content.{Content, same_id};
+ghost use Rattle.store_api.specs.Txs.{content_of, intact_in, tx_meanings};
 ghost use Rattle.tree_commands.specs.Performing.{Shown, Steps, IsReplyTo};
 ghost use Rattle.tree_commands.specs.Showing.{ShowsFiles};
 ghost use Rattle.tree_commands.specs.Sparing.{OnWriteInside};
@@ -27,12 +28,12 @@ pub fn perform<S: Blocks>(
     now: Moment,
     command: &Command,
 ) -> Result<Reply, Fail>
-    requires intact { ⟦<Tx<S> as Blocks>⟧.meanings.intact blobs.old.tx }
+    requires intact { intact_in S.meanings S.holdings blobs.old.tx }
     requires fits { IsFitting command.now }
-    ensures outcome { Outcome ⟦<Tx<S> as Blocks>⟧.meanings (Shown (ShowsFiles (S.holdings.payload blobs.old.tx.store) root.now.0) (⟦<Tx<S> as Blocks>⟧.holdings.content blobs.old.tx))
-        blobs.old.tx blobs.new.tx result (λ n reply. Steps (ShowsFiles (S.holdings.payload blobs.old.tx.store) root.now.0) now n.tree command.now (⟦<Tx<S> as Blocks>⟧.holdings.content blobs.new.tx) reply) }
+    ensures outcome { Outcome (tx_meanings S.meanings S.holdings) (Shown (ShowsFiles (S.holdings.payload blobs.old.tx.store) root.now.0) (content_of S.holdings blobs.old.tx))
+        blobs.old.tx blobs.new.tx result (λ n reply. Steps (ShowsFiles (S.holdings.payload blobs.old.tx.store) root.now.0) now n.tree command.now (content_of S.holdings blobs.new.tx) reply) }
     // Whatever it answers.
-    ensures sparing { (n : Shown (ShowsFiles (S.holdings.payload blobs.old.tx.store) root.now.0) (⟦<Tx<S> as Blocks>⟧.holdings.content blobs.old.tx)) → ⟦<Tx<S> as Blocks>⟧.meanings.sound blobs.old.tx → ⟦<Tx<S> as Blocks>⟧.meanings.forgeries blobs.new.tx ≤ ⟦<Tx<S> as Blocks>⟧.meanings.forgeries blobs.old.tx
+    ensures sparing { (n : Shown (ShowsFiles (S.holdings.payload blobs.old.tx.store) root.now.0) (content_of S.holdings blobs.old.tx)) → S.meanings.sound blobs.old.tx.store → S.meanings.forgeries blobs.new.tx.store ≤ S.meanings.forgeries blobs.old.tx.store
         → OnWriteInside (S.holdings.payload blobs.old.tx.store) n.tree command.now (λ most. fin.len blobs.new.tx.overlay ≤ fin.len blobs.old.tx.overlay + most) }
     ensures variant { IfOk result (λ reply. IsReplyTo command.now reply) }
 {

@@ -19,9 +19,10 @@ use Rattle.data_tree.specs.Roots.{IsRoot, IsNewRoot}
 use Rattle.data_tree.proofs.Anew.{replaces_then, then_drops}
 use Rattle.data_tree.proofs.Changes.{tree_frame, trees_frame}
 use Rattle.data_tree.proofs.Forests.{leaf_ids, leaf_is}
-use Rattle.data_tree.proofs.Ids.{in_left, in_one, not_both, apart, apart_right, alone-parts, drops_more, drops_one, has-append, other, same_self}
+use Rattle.data_tree.proofs.Ids.{in_left, in_one, not_both, apart, apart_right, alone-parts, drops_more, drops_one, other, same_self}
+use Rattle.store_api.proofs.Ids.{has-append}
 use Rattle.data_tree.proofs.Levels.{span-grows, too_deep}
-use Rattle.data_tree.proofs.Loads.{tx_holdings}
+use Rattle.store_api.specs.Txs.{tx_holdings}
 use Rattle.data_tree.proofs.Making.{alone-join, forest_more, trees_there}
 use Rattle.data_tree.proofs.Puts.{was_there}
 use Rattle.data_tree.proofs.Borders.{border_on, border_top, replace_part, replaces_put, holds_inner, holds_leaf}

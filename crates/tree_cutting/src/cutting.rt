@@ -4,6 +4,7 @@ ghost use Rattle.std.specs.FinMap.{get};
 ghost use Rattle.outcome.specs.Outcome.{Outcome};
 ghost use Rattle.store_api.specs.Content.{Id, same_id};
 ghost use Rattle.store_api.specs.Holdings.{Stays};
+ghost use Rattle.store_api.specs.Txs.{content_of, intact_in, tx_holdings, tx_meanings};
 ghost use Rattle.data_nodes.specs.Layout.{fan_out, ids_of, leaf, node_of, FitsPayload};
 ghost use Rattle.data_tree.specs.Needs.{Sets, SetsNode};
 ghost use Rattle.data_tree.specs.Trees.{span, depth_in, IsDepth};
@@ -23,13 +24,13 @@ fn cut_leaf<S: Blocks>(
     old: &[u8],
     n: u64,
 ) -> Result<(), Fail>
-    requires intact { ⟦<Tx<S> as Blocks>⟧.meanings.intact tx.old }
-    requires there { is_some (⟦<Tx<S> as Blocks>⟧.holdings.content tx.old id.now.0) ≡ true }
-    requires fits { FitsPayload (⟦<Tx<S> as Blocks>⟧.holdings.payload tx.old) (leaf old.now) }
-    ensures outcome { Outcome ⟦<Tx<S> as Blocks>⟧.meanings (n ≤ length old.now) tx.old tx.new result
-        (λ _ _. SetsNode ⟦<Tx<S> as Blocks>⟧.holdings tx.old tx.new id.now.0 (leaf (take n old.now))) }
+    requires intact { intact_in S.meanings S.holdings tx.old }
+    requires there { is_some (content_of S.holdings tx.old id.now.0) ≡ true }
+    requires fits { FitsPayload (S.holdings.payload tx.old.store) (leaf old.now) }
+    ensures outcome { Outcome (tx_meanings S.meanings S.holdings) (n ≤ length old.now) tx.old tx.new result
+        (λ _ _. SetsNode (tx_holdings S.holdings) tx.old tx.new id.now.0 (leaf (take n old.now))) }
     ensures others { (q : Id) → same_id q id.now.0 ≡ false → get tx.new.overlay q ≡ get tx.old.overlay q }
-    ensures fewer { (q : Id) → is_some (⟦<Tx<S> as Blocks>⟧.holdings.content tx.new q) ≡ true → is_some (⟦<Tx<S> as Blocks>⟧.holdings.content tx.old q) ≡ true }
+    ensures fewer { (q : Id) → is_some (content_of S.holdings tx.new q) ≡ true → is_some (content_of S.holdings tx.old q) ≡ true }
     ensures below { Stays S.holdings tx.old.store tx.new.store }
 {
     if n > old.len() as u64 {
@@ -54,12 +55,12 @@ fn cut_below<S: Blocks>(
     level: Level,
     n: u64,
 ) -> Result<(), Fail>
-    requires intact { ⟦<Tx<S> as Blocks>⟧.meanings.intact tx.old }
-    requires level { level.room ≡ span (⟦<Tx<S> as Blocks>⟧.holdings.payload tx.old) level.depth }
+    requires intact { intact_in S.meanings S.holdings tx.old }
+    requires level { level.room ≡ span (S.holdings.payload tx.old.store) level.depth }
     requires some { 0 < level.depth → 0 < n }
-    ensures outcome { Outcome ⟦<Tx<S> as Blocks>⟧.meanings (MayCut ⟦<Tx<S> as Blocks>⟧.holdings tx.old level.depth id.now.0 n) tx.old tx.new result
-        (λ m _. IsCut ⟦<Tx<S> as Blocks>⟧.holdings tx.old tx.new level.depth id.now.0 (take n m.tree.bytes) m.tree.ids × OnlyBorder (⟦<Tx<S> as Blocks>⟧.holdings.content tx.new) level.depth id.now.0 tx.old.overlay tx.new.overlay) }
-    ensures fewer { (q : Id) → is_some (⟦<Tx<S> as Blocks>⟧.holdings.content tx.new q) ≡ true → is_some (⟦<Tx<S> as Blocks>⟧.holdings.content tx.old q) ≡ true }
+    ensures outcome { Outcome (tx_meanings S.meanings S.holdings) (MayCut (tx_holdings S.holdings) tx.old level.depth id.now.0 n) tx.old tx.new result
+        (λ m _. IsCut (tx_holdings S.holdings) tx.old tx.new level.depth id.now.0 (take n m.tree.bytes) m.tree.ids × OnlyBorder (content_of S.holdings tx.new) level.depth id.now.0 tx.old.overlay tx.new.overlay) }
+    ensures fewer { (q : Id) → is_some (content_of S.holdings tx.new q) ≡ true → is_some (content_of S.holdings tx.old q) ≡ true }
     ensures below { Stays S.holdings tx.old.store tx.new.store }
 {
     match load_at(alloc, tx, id, level.depth) {
@@ -78,15 +79,15 @@ fn cut_in<S: Blocks>(
     level: Level,
     n: u64,
 ) -> Result<(), Fail>
-    requires intact { ⟦<Tx<S> as Blocks>⟧.meanings.intact tx.old }
-    requires level { level.room ≡ span (⟦<Tx<S> as Blocks>⟧.holdings.payload tx.old) level.depth }
-    requires there { is_some (⟦<Tx<S> as Blocks>⟧.holdings.content tx.old id.now.0) ≡ true }
-    requires fits { FitsPayload (⟦<Tx<S> as Blocks>⟧.holdings.payload tx.old) (node_of node.now) }
+    requires intact { intact_in S.meanings S.holdings tx.old }
+    requires level { level.room ≡ span (S.holdings.payload tx.old.store) level.depth }
+    requires there { is_some (content_of S.holdings tx.old id.now.0) ≡ true }
+    requires fits { FitsPayload (S.holdings.payload tx.old.store) (node_of node.now) }
     requires depth { depth_in (node_of node.now) ≡ level.depth }
     requires some { 0 < level.depth → 0 < n }
-    ensures outcome { Outcome ⟦<Tx<S> as Blocks>⟧.meanings (MayCutNode ⟦<Tx<S> as Blocks>⟧.holdings tx.old level.depth id.now.0 (node_of node.now) n) tx.old tx.new result
-        (λ m _. IsCut ⟦<Tx<S> as Blocks>⟧.holdings tx.old tx.new level.depth id.now.0 (take n m.below.bytes) (id.now.0 ∷ m.below.ids) × OnlyBorder (⟦<Tx<S> as Blocks>⟧.holdings.content tx.new) level.depth id.now.0 tx.old.overlay tx.new.overlay) }
-    ensures fewer { (q : Id) → is_some (⟦<Tx<S> as Blocks>⟧.holdings.content tx.new q) ≡ true → is_some (⟦<Tx<S> as Blocks>⟧.holdings.content tx.old q) ≡ true }
+    ensures outcome { Outcome (tx_meanings S.meanings S.holdings) (MayCutNode (tx_holdings S.holdings) tx.old level.depth id.now.0 (node_of node.now) n) tx.old tx.new result
+        (λ m _. IsCut (tx_holdings S.holdings) tx.old tx.new level.depth id.now.0 (take n m.below.bytes) (id.now.0 ∷ m.below.ids) × OnlyBorder (content_of S.holdings tx.new) level.depth id.now.0 tx.old.overlay tx.new.overlay) }
+    ensures fewer { (q : Id) → is_some (content_of S.holdings tx.new q) ≡ true → is_some (content_of S.holdings tx.old q) ≡ true }
     ensures below { Stays S.holdings tx.old.store tx.new.store }
 {
     match node {
@@ -108,15 +109,15 @@ fn cut_children<S: Blocks>(
     level: Level,
     n: u64,
 ) -> Result<(), Fail>
-    requires intact { ⟦<Tx<S> as Blocks>⟧.meanings.intact tx.old }
-    requires level { level.room ≡ span (⟦<Tx<S> as Blocks>⟧.holdings.payload tx.old) level.depth }
-    requires there { is_some (⟦<Tx<S> as Blocks>⟧.holdings.content tx.old id.now.0) ≡ true }
+    requires intact { intact_in S.meanings S.holdings tx.old }
+    requires level { level.room ≡ span (S.holdings.payload tx.old.store) level.depth }
+    requires there { is_some (content_of S.holdings tx.old id.now.0) ≡ true }
     requires deep { level.depth < 255 }
-    requires few { length children.now ≤ fan_out (⟦<Tx<S> as Blocks>⟧.holdings.payload tx.old) }
+    requires few { length children.now ≤ fan_out (S.holdings.payload tx.old.store) }
     requires some { 0 < n }
-    ensures outcome { Outcome ⟦<Tx<S> as Blocks>⟧.meanings (MayCutTrees ⟦<Tx<S> as Blocks>⟧.holdings tx.old level.depth id.now.0 (ids_of children.now) n) tx.old tx.new result
-        (λ m _. IsCut ⟦<Tx<S> as Blocks>⟧.holdings tx.old tx.new (level.depth + 1) id.now.0 (take n m.trees.bytes) (id.now.0 ∷ m.trees.ids) × OnlyBorder (⟦<Tx<S> as Blocks>⟧.holdings.content tx.new) (level.depth + 1) id.now.0 tx.old.overlay tx.new.overlay) }
-    ensures fewer { (q : Id) → is_some (⟦<Tx<S> as Blocks>⟧.holdings.content tx.new q) ≡ true → is_some (⟦<Tx<S> as Blocks>⟧.holdings.content tx.old q) ≡ true }
+    ensures outcome { Outcome (tx_meanings S.meanings S.holdings) (MayCutTrees (tx_holdings S.holdings) tx.old level.depth id.now.0 (ids_of children.now) n) tx.old tx.new result
+        (λ m _. IsCut (tx_holdings S.holdings) tx.old tx.new (level.depth + 1) id.now.0 (take n m.trees.bytes) (id.now.0 ∷ m.trees.ids) × OnlyBorder (content_of S.holdings tx.new) (level.depth + 1) id.now.0 tx.old.overlay tx.new.overlay) }
+    ensures fewer { (q : Id) → is_some (content_of S.holdings tx.new q) ≡ true → is_some (content_of S.holdings tx.old q) ≡ true }
     ensures below { Stays S.holdings tx.old.store tx.new.store }
 {
     let last = ((n - 1) / level.room) as usize;
@@ -150,10 +151,10 @@ fn cut_children<S: Blocks>(
 
 /// Removes a block whose node was loaded.
 fn remove_loaded<S: Blocks>(tx: &mut Tx<S>, id: &BlockId) -> Result<(), Fail>
-    requires { ⟦<Tx<S> as Blocks>⟧.meanings.intact tx.old }
-    ensures outcome { Outcome ⟦<Tx<S> as Blocks>⟧.meanings (is_some (⟦<Tx<S> as Blocks>⟧.holdings.content tx.old id.now.0) ≡ true) tx.old tx.new result
-        (λ _ _. Sets (⟦<Tx<S> as Blocks>⟧.holdings.content tx.old) (⟦<Tx<S> as Blocks>⟧.holdings.content tx.new) id.now.0 None) }
-    ensures kept { (q : Id) → is_some (⟦<Tx<S> as Blocks>⟧.holdings.content tx.new q) ≡ true → get tx.new.overlay q ≡ get tx.old.overlay q }
+    requires { intact_in S.meanings S.holdings tx.old }
+    ensures outcome { Outcome (tx_meanings S.meanings S.holdings) (is_some (content_of S.holdings tx.old id.now.0) ≡ true) tx.old tx.new result
+        (λ _ _. Sets (content_of S.holdings tx.old) (content_of S.holdings tx.new) id.now.0 None) }
+    ensures kept { (q : Id) → is_some (content_of S.holdings tx.new q) ≡ true → get tx.new.overlay q ≡ get tx.old.overlay q }
     ensures store { tx.new.store ≡ tx.old.store }
 {
     if !tx.contains(id) {
@@ -176,16 +177,16 @@ pub fn cut_root<S: Blocks>(
     depth: u8,
     n: u64,
 ) -> Result<(), Fail>
-    requires intact { ⟦<Tx<S> as Blocks>⟧.meanings.intact tx.old }
-    requires level { level.room ≡ span (⟦<Tx<S> as Blocks>⟧.holdings.payload tx.old) level.depth }
-    requires there { is_some (⟦<Tx<S> as Blocks>⟧.holdings.content tx.old root.now.0) ≡ true }
-    requires fits { FitsPayload (⟦<Tx<S> as Blocks>⟧.holdings.payload tx.old) (node_of node.now) }
+    requires intact { intact_in S.meanings S.holdings tx.old }
+    requires level { level.room ≡ span (S.holdings.payload tx.old.store) level.depth }
+    requires there { is_some (content_of S.holdings tx.old root.now.0) ≡ true }
+    requires fits { FitsPayload (S.holdings.payload tx.old.store) (node_of node.now) }
     requires depth { depth_in (node_of node.now) ≡ level.depth }
     requires low { depth ≤ level.depth }
-    requires deep { IsDepth (⟦<Tx<S> as Blocks>⟧.holdings.payload tx.old) depth n }
-    ensures outcome { Outcome ⟦<Tx<S> as Blocks>⟧.meanings (MayCutNode ⟦<Tx<S> as Blocks>⟧.holdings tx.old level.depth root.now.0 (node_of node.now) n) tx.old tx.new result
-        (λ m _. IsCut ⟦<Tx<S> as Blocks>⟧.holdings tx.old tx.new depth root.now.0 (take n m.below.bytes) (root.now.0 ∷ m.below.ids) × OnlyBorder (⟦<Tx<S> as Blocks>⟧.holdings.content tx.new) depth root.now.0 tx.old.overlay tx.new.overlay) }
-    ensures fewer { (q : Id) → is_some (⟦<Tx<S> as Blocks>⟧.holdings.content tx.new q) ≡ true → is_some (⟦<Tx<S> as Blocks>⟧.holdings.content tx.old q) ≡ true }
+    requires deep { IsDepth (S.holdings.payload tx.old.store) depth n }
+    ensures outcome { Outcome (tx_meanings S.meanings S.holdings) (MayCutNode (tx_holdings S.holdings) tx.old level.depth root.now.0 (node_of node.now) n) tx.old tx.new result
+        (λ m _. IsCut (tx_holdings S.holdings) tx.old tx.new depth root.now.0 (take n m.below.bytes) (root.now.0 ∷ m.below.ids) × OnlyBorder (content_of S.holdings tx.new) depth root.now.0 tx.old.overlay tx.new.overlay) }
+    ensures fewer { (q : Id) → is_some (content_of S.holdings tx.new q) ≡ true → is_some (content_of S.holdings tx.old q) ≡ true }
     ensures below { Stays S.holdings tx.old.store tx.new.store }
 {
     if level.depth == depth {
@@ -211,15 +212,15 @@ fn lower<S: Blocks>(
     depth: u8,
     n: u64,
 ) -> Result<(), Fail>
-    requires intact { ⟦<Tx<S> as Blocks>⟧.meanings.intact tx.old }
-    requires level { level.room ≡ span (⟦<Tx<S> as Blocks>⟧.holdings.payload tx.old) level.depth }
-    requires there { is_some (⟦<Tx<S> as Blocks>⟧.holdings.content tx.old root.now.0) ≡ true }
+    requires intact { intact_in S.meanings S.holdings tx.old }
+    requires level { level.room ≡ span (S.holdings.payload tx.old.store) level.depth }
+    requires there { is_some (content_of S.holdings tx.old root.now.0) ≡ true }
     requires low { depth ≤ level.depth }
     requires some { 0 < length children.now }
-    requires deep { IsDepth (⟦<Tx<S> as Blocks>⟧.holdings.payload tx.old) depth n }
-    ensures outcome { Outcome ⟦<Tx<S> as Blocks>⟧.meanings (MayCutTrees ⟦<Tx<S> as Blocks>⟧.holdings tx.old level.depth root.now.0 (ids_of children.now) n) tx.old tx.new result
-        (λ m _. IsCut ⟦<Tx<S> as Blocks>⟧.holdings tx.old tx.new depth root.now.0 (take n m.trees.bytes) (root.now.0 ∷ m.trees.ids) × OnlyBorder (⟦<Tx<S> as Blocks>⟧.holdings.content tx.new) depth root.now.0 tx.old.overlay tx.new.overlay) }
-    ensures fewer { (q : Id) → is_some (⟦<Tx<S> as Blocks>⟧.holdings.content tx.new q) ≡ true → is_some (⟦<Tx<S> as Blocks>⟧.holdings.content tx.old q) ≡ true }
+    requires deep { IsDepth (S.holdings.payload tx.old.store) depth n }
+    ensures outcome { Outcome (tx_meanings S.meanings S.holdings) (MayCutTrees (tx_holdings S.holdings) tx.old level.depth root.now.0 (ids_of children.now) n) tx.old tx.new result
+        (λ m _. IsCut (tx_holdings S.holdings) tx.old tx.new depth root.now.0 (take n m.trees.bytes) (root.now.0 ∷ m.trees.ids) × OnlyBorder (content_of S.holdings tx.new) depth root.now.0 tx.old.overlay tx.new.overlay) }
+    ensures fewer { (q : Id) → is_some (content_of S.holdings tx.new q) ≡ true → is_some (content_of S.holdings tx.old q) ≡ true }
     ensures below { Stays S.holdings tx.old.store tx.new.store }
 {
     let first = &children[0];

@@ -16,7 +16,7 @@ use Rattle.data_tree.specs.Trees.{depth_in}
 use Rattle.data_tree.specs.Needs.{HasTree, HasTrees, HasBelow}
 use Rattle.data_tree.proofs.Forests.{below_on, below_of}
 use Rattle.data_tree.proofs.Borders.{border_top}
-use Rattle.data_tree.proofs.Loads.{tx_holdings, tx_meanings}
+use Rattle.store_api.specs.Txs.{tx_holdings, tx_meanings}
 use Rattle.data_tree.proofs.Puts.{unforged_before}
 use Rattle.data_tree.specs.Border.{OnBorder, OnBorderBelow, OnLastBorder}
 use Rattle.tree_growing.proofs.Growth.{last_id, last_alone, split_of, split_tree}

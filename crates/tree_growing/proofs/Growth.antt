@@ -23,7 +23,7 @@ use Rattle.data_tree.proofs.Anew.{replaces_then}
 use Rattle.data_tree.proofs.Forests.{below_on, below_of, holds-length}
 use Rattle.data_tree.proofs.Gathering.{last_child}
 use Rattle.data_tree.proofs.Levels.{span-some}
-use Rattle.data_tree.proofs.Loads.{tx_holdings, tx_meanings}
+use Rattle.store_api.specs.Txs.{tx_holdings, tx_meanings}
 use Rattle.data_tree.proofs.Borders.{holds_leaf, holds_inner, Split, one_more, forest_split, replace_part, replaces_put}
 use Rattle.tree_growing.specs.Growing.{Grown, GrownTrees}
 

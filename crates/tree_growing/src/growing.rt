@@ -4,6 +4,7 @@ ghost use Rattle.std.specs.FinMap.{get};
 ghost use Rattle.outcome.specs.Outcome.{Outcome};
 ghost use Rattle.store_api.specs.Content.{Id};
 ghost use Rattle.store_api.specs.Holdings.{Stays};
+ghost use Rattle.store_api.specs.Txs.{content_of, intact_in, tx_holdings, tx_meanings};
 ghost use Rattle.data_nodes.specs.Layout.{fan_out, ids_of, leaf, node_of, FitsPayload};
 ghost use Rattle.data_tree.specs.Needs.{BuiltTrees, HasBelow, HasTrees};
 ghost use Rattle.data_tree.specs.Trees.{span, depth_in};
@@ -38,20 +39,20 @@ pub(crate) fn grown_children<S: Blocks>(
     places: u64,
     bytes: &[u8],
 ) -> Result<(Vec<BlockId>, usize), Memory>
-    requires intact { ⟦<Tx<S> as Blocks>⟧.meanings.intact tx.old }
-    requires level { level.room ≡ span (⟦<Tx<S> as Blocks>⟧.holdings.payload tx.old) level.depth }
+    requires intact { intact_in S.meanings S.holdings tx.old }
+    requires level { level.room ≡ span (S.holdings.payload tx.old.store) level.depth }
     requires room { 0 < level.room }
-    requires places { length children.now + places ≤ fan_out (⟦<Tx<S> as Blocks>⟧.holdings.payload tx.old) }
-    requires small { fan_out (⟦<Tx<S> as Blocks>⟧.holdings.payload tx.old) * level.room < 2 ^ 64 }
-    ensures intact { ⟦<Tx<S> as Blocks>⟧.meanings.intact tx.new }
+    requires places { length children.now + places ≤ fan_out (S.holdings.payload tx.old.store) }
+    requires small { fan_out (S.holdings.payload tx.old.store) * level.room < 2 ^ 64 }
+    ensures intact { intact_in S.meanings S.holdings tx.new }
     ensures store { tx.new.store ≡ tx.old.store }
     ensures seed { tx.new.seed ≡ tx.old.seed }
     ensures used { IfOk result (λ grown. grown.1 ≡ min (places * level.room) (length bytes.now)) }
-    ensures built { IfOk result (λ grown. (new : List Id) × ((ids_of grown.0.items ≡ ids_of children.now ++ new) × BuiltTrees ⟦<Tx<S> as Blocks>⟧.holdings tx.old tx.new level.depth new (take grown.1 bytes.now))) }
-    ensures few { IfOk result (λ grown. length grown.0.items ≤ fan_out (⟦<Tx<S> as Blocks>⟧.holdings.payload tx.old)) }
+    ensures built { IfOk result (λ grown. (new : List Id) × ((ids_of grown.0.items ≡ ids_of children.now ++ new) × BuiltTrees (tx_holdings S.holdings) tx.old tx.new level.depth new (take grown.1 bytes.now))) }
+    ensures few { IfOk result (λ grown. length grown.0.items ≤ fan_out (S.holdings.payload tx.old.store)) }
     ensures some { IfOk result (λ grown. length children.now ≤ length grown.0.items) }
-    ensures there { (q : Id) → is_some (⟦<Tx<S> as Blocks>⟧.holdings.content tx.old q) ≡ true → is_some (⟦<Tx<S> as Blocks>⟧.holdings.content tx.new q) ≡ true }
-    ensures kept { (q : Id) → is_some (⟦<Tx<S> as Blocks>⟧.holdings.content tx.old q) ≡ true → get tx.new.overlay q ≡ get tx.old.overlay q }
+    ensures there { (q : Id) → is_some (content_of S.holdings tx.old q) ≡ true → is_some (content_of S.holdings tx.new q) ≡ true }
+    ensures kept { (q : Id) → is_some (content_of S.holdings tx.old q) ≡ true → get tx.new.overlay q ≡ get tx.old.overlay q }
 {
     let used = (places * level.room).min(bytes.len() as u64) as usize;
     let new = build_children(alloc, tx, &bytes[..used], level)?;
@@ -70,20 +71,20 @@ pub fn grown_node<S: Blocks>(
     level: Level,
     bytes: &[u8],
 ) -> Result<(Node, usize), Fail>
-    requires intact { ⟦<Tx<S> as Blocks>⟧.meanings.intact tx.old }
-    requires level { level.room ≡ span (⟦<Tx<S> as Blocks>⟧.holdings.payload tx.old) level.depth }
-    requires fits { FitsPayload (⟦<Tx<S> as Blocks>⟧.holdings.payload tx.old) (node_of node.now) }
+    requires intact { intact_in S.meanings S.holdings tx.old }
+    requires level { level.room ≡ span (S.holdings.payload tx.old.store) level.depth }
+    requires fits { FitsPayload (S.holdings.payload tx.old.store) (node_of node.now) }
     requires depth { depth_in (node_of node.now) ≡ level.depth }
-    ensures outcome { Outcome ⟦<Tx<S> as Blocks>⟧.meanings (HasBelow ⟦<Tx<S> as Blocks>⟧.holdings tx.old level.depth (node_of node.now)) tx.old tx.new result
-        (λ n grown. Grown ⟦<Tx<S> as Blocks>⟧.holdings tx.old tx.new level.depth (node_of grown.0) (n.bytes ++ take grown.1 bytes.now) n.ids
+    ensures outcome { Outcome (tx_meanings S.meanings S.holdings) (HasBelow (tx_holdings S.holdings) tx.old level.depth (node_of node.now)) tx.old tx.new result
+        (λ n grown. Grown (tx_holdings S.holdings) tx.old tx.new level.depth (node_of grown.0) (n.bytes ++ take grown.1 bytes.now) n.ids
         × (grown.1 < length bytes.now → length n.bytes + grown.1 ≡ level.room)) }
-    ensures only { HasBelow ⟦<Tx<S> as Blocks>⟧.holdings tx.old level.depth (node_of node.now) → ⟦<Tx<S> as Blocks>⟧.meanings.sound tx.old → ⟦<Tx<S> as Blocks>⟧.meanings.forgeries tx.new ≤ ⟦<Tx<S> as Blocks>⟧.meanings.forgeries tx.old
-        → (q : Id) → is_some (⟦<Tx<S> as Blocks>⟧.holdings.content tx.old q) ≡ true → (get tx.new.overlay q ≡ get tx.old.overlay q) ⊎ OnBorderBelow (⟦<Tx<S> as Blocks>⟧.holdings.content tx.old) level.depth (node_of node.now) q }
+    ensures only { HasBelow (tx_holdings S.holdings) tx.old level.depth (node_of node.now) → S.meanings.sound tx.old.store → S.meanings.forgeries tx.new.store ≤ S.meanings.forgeries tx.old.store
+        → (q : Id) → is_some (content_of S.holdings tx.old q) ≡ true → (get tx.new.overlay q ≡ get tx.old.overlay q) ⊎ OnBorderBelow (content_of S.holdings tx.old) level.depth (node_of node.now) q }
     ensures used { IfOk result (λ grown. grown.1 ≤ length bytes.now) }
-    ensures fits { IfOk result (λ grown. FitsPayload (⟦<Tx<S> as Blocks>⟧.holdings.payload tx.old) (node_of grown.0)) }
+    ensures fits { IfOk result (λ grown. FitsPayload (S.holdings.payload tx.old.store) (node_of grown.0)) }
     ensures depth { IfOk result (λ grown. depth_in (node_of grown.0) ≡ level.depth) }
     ensures below { Stays S.holdings tx.old.store tx.new.store }
-    ensures there { (q : Id) → is_some (⟦<Tx<S> as Blocks>⟧.holdings.content tx.old q) ≡ true → is_some (⟦<Tx<S> as Blocks>⟧.holdings.content tx.new q) ≡ true }
+    ensures there { (q : Id) → is_some (content_of S.holdings tx.old q) ≡ true → is_some (content_of S.holdings tx.new q) ≡ true }
 {
     match node {
         Node::Leaf(old) => match grown_leaf(alloc, old, level.room, bytes) {
@@ -115,21 +116,21 @@ fn grown_inner<S: Blocks>(
     level: Level,
     bytes: &[u8],
 ) -> Result<(Vec<BlockId>, usize), Fail>
-    requires intact { ⟦<Tx<S> as Blocks>⟧.meanings.intact tx.old }
-    requires level { level.room ≡ span (⟦<Tx<S> as Blocks>⟧.holdings.payload tx.old) level.depth }
-    requires small { fan_out (⟦<Tx<S> as Blocks>⟧.holdings.payload tx.old) * level.room < 2 ^ 64 }
+    requires intact { intact_in S.meanings S.holdings tx.old }
+    requires level { level.room ≡ span (S.holdings.payload tx.old.store) level.depth }
+    requires small { fan_out (S.holdings.payload tx.old.store) * level.room < 2 ^ 64 }
     requires some { 0 < length children.now }
-    requires few { length children.now ≤ fan_out (⟦<Tx<S> as Blocks>⟧.holdings.payload tx.old) }
-    ensures outcome { Outcome ⟦<Tx<S> as Blocks>⟧.meanings (HasTrees ⟦<Tx<S> as Blocks>⟧.holdings tx.old level.depth (ids_of children.now)) tx.old tx.new result
-        (λ n grown. GrownTrees ⟦<Tx<S> as Blocks>⟧.holdings tx.old tx.new level.depth (ids_of grown.0.items) (n.bytes ++ take grown.1 bytes.now) n.ids
-        × (grown.1 < length bytes.now → length n.bytes + grown.1 ≡ fan_out (⟦<Tx<S> as Blocks>⟧.holdings.payload tx.old) * level.room)) }
-    ensures only { HasTrees ⟦<Tx<S> as Blocks>⟧.holdings tx.old level.depth (ids_of children.now) → ⟦<Tx<S> as Blocks>⟧.meanings.sound tx.old → ⟦<Tx<S> as Blocks>⟧.meanings.forgeries tx.new ≤ ⟦<Tx<S> as Blocks>⟧.meanings.forgeries tx.old
-        → (q : Id) → is_some (⟦<Tx<S> as Blocks>⟧.holdings.content tx.old q) ≡ true → (get tx.new.overlay q ≡ get tx.old.overlay q) ⊎ OnLastBorder (⟦<Tx<S> as Blocks>⟧.holdings.content tx.old) level.depth (ids_of children.now) q }
+    requires few { length children.now ≤ fan_out (S.holdings.payload tx.old.store) }
+    ensures outcome { Outcome (tx_meanings S.meanings S.holdings) (HasTrees (tx_holdings S.holdings) tx.old level.depth (ids_of children.now)) tx.old tx.new result
+        (λ n grown. GrownTrees (tx_holdings S.holdings) tx.old tx.new level.depth (ids_of grown.0.items) (n.bytes ++ take grown.1 bytes.now) n.ids
+        × (grown.1 < length bytes.now → length n.bytes + grown.1 ≡ fan_out (S.holdings.payload tx.old.store) * level.room)) }
+    ensures only { HasTrees (tx_holdings S.holdings) tx.old level.depth (ids_of children.now) → S.meanings.sound tx.old.store → S.meanings.forgeries tx.new.store ≤ S.meanings.forgeries tx.old.store
+        → (q : Id) → is_some (content_of S.holdings tx.old q) ≡ true → (get tx.new.overlay q ≡ get tx.old.overlay q) ⊎ OnLastBorder (content_of S.holdings tx.old) level.depth (ids_of children.now) q }
     ensures used { IfOk result (λ grown. grown.1 ≤ length bytes.now) }
     ensures some { IfOk result (λ grown. 0 < length grown.0.items) }
-    ensures few { IfOk result (λ grown. length grown.0.items ≤ fan_out (⟦<Tx<S> as Blocks>⟧.holdings.payload tx.old)) }
+    ensures few { IfOk result (λ grown. length grown.0.items ≤ fan_out (S.holdings.payload tx.old.store)) }
     ensures below { Stays S.holdings tx.old.store tx.new.store }
-    ensures there { (q : Id) → is_some (⟦<Tx<S> as Blocks>⟧.holdings.content tx.old q) ≡ true → is_some (⟦<Tx<S> as Blocks>⟧.holdings.content tx.new q) ≡ true }
+    ensures there { (q : Id) → is_some (content_of S.holdings tx.old q) ≡ true → is_some (content_of S.holdings tx.new q) ≡ true }
 {
     let places = (tx.payload() as u64 - 8) / 16 - children.len() as u64;
     let last = children.len() - 1;

@@ -3,6 +3,7 @@ ghost use Rattle.std.specs.Prelude.{◌≡◌, ◌≤◌, ◌<◌, ◌+◌, ◌*
 ghost use Rattle.std.specs.FinMap.{get};
 ghost use Rattle.block_id.specs.declared.sizes.TheConstants.{MIN_PAYLOAD, MAX_BLOCK};
 ghost use Rattle.store_api.specs.Content.{Id};
+ghost use Rattle.store_api.specs.Txs.{content_of, intact_in, tx_holdings};
 ghost use Rattle.data_nodes.specs.Layout.{fan_out, node_of, FitsPayload};
 ghost use Rattle.data_tree.specs.Trees.{span};
 ghost use Rattle.tree_growing.specs.Growing.{MayGrow, Raised};
@@ -40,19 +41,19 @@ pub fn raised<S: Blocks>(
     n: u64,
     rest: &[u8],
 ) -> Result<(Node, usize), Memory>
-    requires intact { ⟦<Tx<S> as Blocks>⟧.meanings.intact tx.old }
-    requires level { level.room ≡ span (⟦<Tx<S> as Blocks>⟧.holdings.payload tx.old) level.depth }
-    requires fits { FitsPayload (⟦<Tx<S> as Blocks>⟧.holdings.payload tx.old) (node_of node) }
+    requires intact { intact_in S.meanings S.holdings tx.old }
+    requires level { level.room ≡ span (S.holdings.payload tx.old.store) level.depth }
+    requires fits { FitsPayload (S.holdings.payload tx.old.store) (node_of node) }
     requires small { n ≤ 2 ^ 40 }
-    ensures intact { ⟦<Tx<S> as Blocks>⟧.meanings.intact tx.new }
+    ensures intact { intact_in S.meanings S.holdings tx.new }
     ensures store { tx.new.store ≡ tx.old.store }
     ensures seed { tx.new.seed ≡ tx.old.seed }
-    ensures raised { IfOk result (λ up. (m : MayGrow ⟦<Tx<S> as Blocks>⟧.holdings tx.old level.depth (node_of node) n (length rest.now))
-        → Raised ⟦<Tx<S> as Blocks>⟧.holdings tx.old tx.new (node_of up.0) (m.bytes ++ rest.now) m.ids × (up.1 ≡ length rest.now)) }
+    ensures raised { IfOk result (λ up. (m : MayGrow (tx_holdings S.holdings) tx.old level.depth (node_of node) n (length rest.now))
+        → Raised (tx_holdings S.holdings) tx.old tx.new (node_of up.0) (m.bytes ++ rest.now) m.ids × (up.1 ≡ length rest.now)) }
     ensures used { IfOk result (λ up. up.1 ≤ length rest.now) }
-    ensures fits { IfOk result (λ up. FitsPayload (⟦<Tx<S> as Blocks>⟧.holdings.payload tx.old) (node_of up.0)) }
-    ensures there { (q : Id) → is_some (⟦<Tx<S> as Blocks>⟧.holdings.content tx.old q) ≡ true → is_some (⟦<Tx<S> as Blocks>⟧.holdings.content tx.new q) ≡ true }
-    ensures kept { (q : Id) → is_some (⟦<Tx<S> as Blocks>⟧.holdings.content tx.old q) ≡ true → get tx.new.overlay q ≡ get tx.old.overlay q }
+    ensures fits { IfOk result (λ up. FitsPayload (S.holdings.payload tx.old.store) (node_of up.0)) }
+    ensures there { (q : Id) → is_some (content_of S.holdings tx.old q) ≡ true → is_some (content_of S.holdings tx.new q) ≡ true }
+    ensures kept { (q : Id) → is_some (content_of S.holdings tx.old q) ≡ true → get tx.new.overlay q ≡ get tx.old.overlay q }
 {
     if level.room >= n {
         return Ok((node, 0));

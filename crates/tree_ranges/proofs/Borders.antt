@@ -15,7 +15,7 @@ use Rattle.data_tree.specs.Trees.{depth_in}
 use Rattle.data_tree.specs.Needs.{HasTree, HasBelow}
 use Rattle.data_tree.specs.Roots.{IsRoot}
 use Rattle.data_tree.proofs.Forests.{below_on, below_root}
-use Rattle.data_tree.proofs.Loads.{tx_holdings, tx_meanings}
+use Rattle.store_api.specs.Txs.{tx_holdings, tx_meanings}
 use Rattle.data_tree.proofs.Puts.{unforged_before}
 use Rattle.tree_ranges.specs.Border.{Grew}
 use Rattle.tree_ranges.proofs.Inside.{root_depth}

@@ -13,7 +13,8 @@ use Rattle.data_tree.specs.Trees.{IsTree, Holds, IsDepth, Replaces, depth_in}
 use Rattle.data_tree.proofs.Forests.{moved}
 use Rattle.data_tree.specs.Needs.{HasTree, KeepsShape}
 use Rattle.data_tree.specs.Roots.{IsRoot, IsNewRoot}
-use Rattle.data_tree.proofs.Loads.{tx_holdings, holds-depth}
+use Rattle.store_api.specs.Txs.{tx_holdings}
+use Rattle.data_tree.proofs.Loads.{holds-depth}
 use Rattle.tree_writing.proofs.Leaves.{leaf_of}
 use Rattle.tree_writing.proofs.Overwriting.{length-written}
 use Rattle.tree_writing.specs.Leaves.{OnlyLeaves}

@@ -19,7 +19,7 @@ use Rattle.data_tree.proofs.Ids.{same_self, other}
 use Rattle.data_tree.proofs.Changes.{holds_frame}
 use Rattle.data_tree.proofs.Anew.{replaces_then}
 use Rattle.data_tree.proofs.Forests.{below_on, below_root, holds-fits}
-use Rattle.data_tree.proofs.Loads.{tx_holdings, tx_meanings}
+use Rattle.store_api.specs.Txs.{tx_holdings, tx_meanings}
 use Rattle.block_id.specs.Contents.{written, zeros}
 use Rattle.tree_ranges.specs.Ranges.{GrowsTo}
 use Rattle.data_tree.proofs.Borders.{replace_part, replaces_put}

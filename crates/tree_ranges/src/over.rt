@@ -5,6 +5,7 @@ ghost use Rattle.block_id.specs.Contents.{written, zeros};
 ghost use Rattle.outcome.specs.Outcome.{Outcome};
 ghost use Rattle.store_api.specs.Content.{Id};
 ghost use Rattle.store_api.specs.Holdings.{Stays};
+ghost use Rattle.store_api.specs.Txs.{content_of, intact_in, tx_holdings, tx_meanings};
 ghost use Rattle.data_tree.specs.Roots.{IsRoot, IsNewRoot};
 ghost use Rattle.data_tree.specs.Trees.{span};
 ghost use Rattle.tree_ranges.specs.Border.{Grew};
@@ -26,14 +27,14 @@ pub(crate) fn append<S: Blocks>(
     n: u64,
     tail: &[u8],
 ) -> Result<(), Fail>
-    requires intact { ⟦<Tx<S> as Blocks>⟧.meanings.intact tx.old }
+    requires intact { intact_in S.meanings S.holdings tx.old }
     requires small { n ≤ 2 ^ 40 }
-    ensures outcome { Outcome ⟦<Tx<S> as Blocks>⟧.meanings (GrowsTo ⟦<Tx<S> as Blocks>⟧.holdings tx.old root.now.0 (length tail.now) n) tx.old tx.new result
-        (λ g _. IsNewRoot ⟦<Tx<S> as Blocks>⟧.holdings tx.old tx.new root.now.0 g.tree.ids (g.tree.bytes ++ tail.now)) }
-    ensures only { (r : IsRoot ⟦<Tx<S> as Blocks>⟧.holdings tx.old root.now.0) → ⟦<Tx<S> as Blocks>⟧.meanings.sound tx.old → ⟦<Tx<S> as Blocks>⟧.meanings.forgeries tx.new ≤ ⟦<Tx<S> as Blocks>⟧.meanings.forgeries tx.old
-        → (q : Id) → is_some (⟦<Tx<S> as Blocks>⟧.holdings.content tx.old q) ≡ true → (get tx.new.overlay q ≡ get tx.old.overlay q) ⊎ OnBorder (⟦<Tx<S> as Blocks>⟧.holdings.content tx.old) r.depth root.now.0 q }
+    ensures outcome { Outcome (tx_meanings S.meanings S.holdings) (GrowsTo (tx_holdings S.holdings) tx.old root.now.0 (length tail.now) n) tx.old tx.new result
+        (λ g _. IsNewRoot (tx_holdings S.holdings) tx.old tx.new root.now.0 g.tree.ids (g.tree.bytes ++ tail.now)) }
+    ensures only { (r : IsRoot (tx_holdings S.holdings) tx.old root.now.0) → S.meanings.sound tx.old.store → S.meanings.forgeries tx.new.store ≤ S.meanings.forgeries tx.old.store
+        → (q : Id) → is_some (content_of S.holdings tx.old q) ≡ true → (get tx.new.overlay q ≡ get tx.old.overlay q) ⊎ OnBorder (content_of S.holdings tx.old) r.depth root.now.0 q }
     ensures below { Stays S.holdings tx.old.store tx.new.store }
-    ensures there { (q : Id) → is_some (⟦<Tx<S> as Blocks>⟧.holdings.content tx.old q) ≡ true → is_some (⟦<Tx<S> as Blocks>⟧.holdings.content tx.new q) ≡ true }
+    ensures there { (q : Id) → is_some (content_of S.holdings tx.old q) ≡ true → is_some (content_of S.holdings tx.new q) ≡ true }
 {
     let (node, level) = match load_root(alloc, tx, root) {
         Ok(found) => found,
@@ -76,15 +77,15 @@ pub(crate) fn write_over<S: Blocks>(
     from: u64,
     bytes: &[u8],
 ) -> Result<(), Fail>
-    requires intact { ⟦<Tx<S> as Blocks>⟧.meanings.intact tx.old }
-    requires level { level.room ≡ span (⟦<Tx<S> as Blocks>⟧.holdings.payload tx.old) level.depth }
+    requires intact { intact_in S.meanings S.holdings tx.old }
+    requires level { level.room ≡ span (S.holdings.payload tx.old.store) level.depth }
     requires some { 0 < length bytes.now }
     requires over { len < from + length bytes.now }
     requires small { from + length bytes.now ≤ 2 ^ 40 }
-    ensures outcome { Outcome ⟦<Tx<S> as Blocks>⟧.meanings (IsOpened ⟦<Tx<S> as Blocks>⟧.holdings tx.old root.now.0 level.depth len) tx.old tx.new result
-        (λ n _. IsNewRoot ⟦<Tx<S> as Blocks>⟧.holdings tx.old tx.new root.now.0 n.tree.ids (written n.tree.bytes from bytes.now)) }
-    ensures grown { (n : IsOpened ⟦<Tx<S> as Blocks>⟧.holdings tx.old root.now.0 level.depth len) → ⟦<Tx<S> as Blocks>⟧.meanings.sound tx.old → ⟦<Tx<S> as Blocks>⟧.meanings.forgeries tx.new ≤ ⟦<Tx<S> as Blocks>⟧.meanings.forgeries tx.old
-        → Grew (⟦<Tx<S> as Blocks>⟧.holdings.payload tx.old) (⟦<Tx<S> as Blocks>⟧.holdings.content tx.old) (⟦<Tx<S> as Blocks>⟧.holdings.content tx.new) n.tree.depth root.now.0 from len tx.old.overlay tx.new.overlay }
+    ensures outcome { Outcome (tx_meanings S.meanings S.holdings) (IsOpened (tx_holdings S.holdings) tx.old root.now.0 level.depth len) tx.old tx.new result
+        (λ n _. IsNewRoot (tx_holdings S.holdings) tx.old tx.new root.now.0 n.tree.ids (written n.tree.bytes from bytes.now)) }
+    ensures grown { (n : IsOpened (tx_holdings S.holdings) tx.old root.now.0 level.depth len) → S.meanings.sound tx.old.store → S.meanings.forgeries tx.new.store ≤ S.meanings.forgeries tx.old.store
+        → Grew (S.holdings.payload tx.old.store) (content_of S.holdings tx.old) (content_of S.holdings tx.new) n.tree.depth root.now.0 from len tx.old.overlay tx.new.overlay }
     ensures below { Stays S.holdings tx.old.store tx.new.store }
 {
     let (piece, rest) = bytes.split_at(len.saturating_sub(from) as usize);

@@ -5,6 +5,7 @@ ghost use Rattle.block_id.specs.Contents.{pieces, resized, written};
 ghost use Rattle.outcome.specs.Outcome.{Outcome};
 ghost use Rattle.store_api.specs.Content.{Id, SameIds};
 ghost use Rattle.store_api.specs.Holdings.{Stays};
+ghost use Rattle.store_api.specs.Txs.{content_of, intact_in, tx_holdings, tx_meanings};
 ghost use Rattle.data_nodes.specs.Layout.{room, node_of, FitsPayload};
 ghost use Rattle.data_tree.specs.Roots.{IsRoot, IsNewRoot, IsTooDeep};
 ghost use Rattle.data_tree.specs.Trees.{IsDepth, span, depth_in};
@@ -28,19 +29,19 @@ fn open_root<S: Blocks>(
     tx: &mut Tx<S>,
     root: &BlockId,
 ) -> Result<(Node, Level, u64), Fail>
-    requires { ⟦<Tx<S> as Blocks>⟧.meanings.intact tx.old }
-    ensures outcome { Outcome ⟦<Tx<S> as Blocks>⟧.meanings (IsRoot ⟦<Tx<S> as Blocks>⟧.holdings tx.old root.now.0) tx.old tx.new result
-        (λ n found. (⟦<Tx<S> as Blocks>⟧.holdings.told tx.old ≡ true) × ((node_of found.0 ≡ n.tree.node) × (found.2 ≡ length n.bytes))) }
-    ensures shallow { ⟦<Tx<S> as Blocks>⟧.meanings.sound tx.old → ⟦<Tx<S> as Blocks>⟧.meanings.forgeries tx.new ≤ ⟦<Tx<S> as Blocks>⟧.meanings.forgeries tx.old
-        → OnOk result (IsTooDeep ⟦<Tx<S> as Blocks>⟧.holdings tx.old root.now.0 → ⊥) }
-    ensures stays { Stays ⟦<Tx<S> as Blocks>⟧.holdings tx.old tx.new }
+    requires { intact_in S.meanings S.holdings tx.old }
+    ensures outcome { Outcome (tx_meanings S.meanings S.holdings) (IsRoot (tx_holdings S.holdings) tx.old root.now.0) tx.old tx.new result
+        (λ n found. (S.holdings.told tx.old.store ≡ true) × ((node_of found.0 ≡ n.tree.node) × (found.2 ≡ length n.bytes))) }
+    ensures shallow { S.meanings.sound tx.old.store → S.meanings.forgeries tx.new.store ≤ S.meanings.forgeries tx.old.store
+        → OnOk result (IsTooDeep (tx_holdings S.holdings) tx.old root.now.0 → ⊥) }
+    ensures stays { Stays (tx_holdings S.holdings) tx.old tx.new }
     ensures below { Stays S.holdings tx.old.store tx.new.store }
     ensures overlay { tx.new.overlay ≡ tx.old.overlay }
-    ensures there { OnOk result (is_some (⟦<Tx<S> as Blocks>⟧.holdings.content tx.old root.now.0) ≡ true) }
-    ensures fits { IfOk result (λ found. FitsPayload (⟦<Tx<S> as Blocks>⟧.holdings.payload tx.old) (node_of found.0)) }
+    ensures there { OnOk result (is_some (content_of S.holdings tx.old root.now.0) ≡ true) }
+    ensures fits { IfOk result (λ found. FitsPayload (S.holdings.payload tx.old.store) (node_of found.0)) }
     ensures depth { IfOk result (λ found. depth_in (node_of found.0) ≡ found.1.depth) }
     ensures most { IfOk result (λ found. found.2 ≤ found.1.room) }
-    ensures room { IfOk result (λ found. found.1.room ≡ span (⟦<Tx<S> as Blocks>⟧.holdings.payload tx.old) found.1.depth) }
+    ensures room { IfOk result (λ found. found.1.room ≡ span (S.holdings.payload tx.old.store) found.1.depth) }
 {
     let (node, level) = match load_root(alloc, tx, root) {
         Ok(found) => found,
@@ -61,26 +62,26 @@ pub fn write_range<S: Blocks>(
     from: u64,
     bytes: &[u8],
 ) -> Result<(), Fail>
-    requires intact { ⟦<Tx<S> as Blocks>⟧.meanings.intact tx.old }
+    requires intact { intact_in S.meanings S.holdings tx.old }
     requires small { from + length bytes.now ≤ 2 ^ 40 }
-    ensures outcome { Outcome ⟦<Tx<S> as Blocks>⟧.meanings (IsRoot ⟦<Tx<S> as Blocks>⟧.holdings tx.old root.now.0) tx.old tx.new result
-        (λ n _. IsNewRoot ⟦<Tx<S> as Blocks>⟧.holdings tx.old tx.new root.now.0 n.ids (written n.bytes from bytes.now)) }
-    ensures shallow { ⟦<Tx<S> as Blocks>⟧.meanings.sound tx.old → ⟦<Tx<S> as Blocks>⟧.meanings.forgeries tx.new ≤ ⟦<Tx<S> as Blocks>⟧.meanings.forgeries tx.old
-        → 0 < length bytes.now → OnOk result (IsTooDeep ⟦<Tx<S> as Blocks>⟧.holdings tx.old root.now.0 → ⊥) }
+    ensures outcome { Outcome (tx_meanings S.meanings S.holdings) (IsRoot (tx_holdings S.holdings) tx.old root.now.0) tx.old tx.new result
+        (λ n _. IsNewRoot (tx_holdings S.holdings) tx.old tx.new root.now.0 n.ids (written n.bytes from bytes.now)) }
+    ensures shallow { S.meanings.sound tx.old.store → S.meanings.forgeries tx.new.store ≤ S.meanings.forgeries tx.old.store
+        → 0 < length bytes.now → OnOk result (IsTooDeep (tx_holdings S.holdings) tx.old root.now.0 → ⊥) }
     ensures empty { length bytes.now ≡ 0 → tx.new ≡ tx.old }
     // Inside the length only leaves that hold a place of the range change, whatever is answered.
-    ensures inside { (n : IsInside ⟦<Tx<S> as Blocks>⟧.holdings tx.old root.now.0 from (length bytes.now)) → ⟦<Tx<S> as Blocks>⟧.meanings.sound tx.old
-        → ⟦<Tx<S> as Blocks>⟧.meanings.forgeries tx.new ≤ ⟦<Tx<S> as Blocks>⟧.meanings.forgeries tx.old
-        → OnlyLeaves (⟦<Tx<S> as Blocks>⟧.holdings.payload tx.old) (⟦<Tx<S> as Blocks>⟧.holdings.content tx.old) n.tree.depth root.now.0 from (length bytes.now) tx.old.overlay tx.new.overlay }
-    ensures few { IsInside ⟦<Tx<S> as Blocks>⟧.holdings tx.old root.now.0 from (length bytes.now) → ⟦<Tx<S> as Blocks>⟧.meanings.sound tx.old
-        → ⟦<Tx<S> as Blocks>⟧.meanings.forgeries tx.new ≤ ⟦<Tx<S> as Blocks>⟧.meanings.forgeries tx.old
-        → fin.len tx.new.overlay ≤ fin.len tx.old.overlay + (pieces (length bytes.now) (room (⟦<Tx<S> as Blocks>⟧.holdings.payload tx.old)) + 1) }
-    ensures ids { IsInside ⟦<Tx<S> as Blocks>⟧.holdings tx.old root.now.0 from (length bytes.now) → ⟦<Tx<S> as Blocks>⟧.meanings.sound tx.old
-        → ⟦<Tx<S> as Blocks>⟧.meanings.forgeries tx.new ≤ ⟦<Tx<S> as Blocks>⟧.meanings.forgeries tx.old
-        → SameIds (⟦<Tx<S> as Blocks>⟧.holdings.content tx.old) (⟦<Tx<S> as Blocks>⟧.holdings.content tx.new) }
+    ensures inside { (n : IsInside (tx_holdings S.holdings) tx.old root.now.0 from (length bytes.now)) → S.meanings.sound tx.old.store
+        → S.meanings.forgeries tx.new.store ≤ S.meanings.forgeries tx.old.store
+        → OnlyLeaves (S.holdings.payload tx.old.store) (content_of S.holdings tx.old) n.tree.depth root.now.0 from (length bytes.now) tx.old.overlay tx.new.overlay }
+    ensures few { IsInside (tx_holdings S.holdings) tx.old root.now.0 from (length bytes.now) → S.meanings.sound tx.old.store
+        → S.meanings.forgeries tx.new.store ≤ S.meanings.forgeries tx.old.store
+        → fin.len tx.new.overlay ≤ fin.len tx.old.overlay + (pieces (length bytes.now) (room (S.holdings.payload tx.old.store)) + 1) }
+    ensures ids { IsInside (tx_holdings S.holdings) tx.old root.now.0 from (length bytes.now) → S.meanings.sound tx.old.store
+        → S.meanings.forgeries tx.new.store ≤ S.meanings.forgeries tx.old.store
+        → SameIds (content_of S.holdings tx.old) (content_of S.holdings tx.new) }
     // Past the end no id goes, and of those that were there only the right border and the leaves of the range change, whatever is answered.
-    ensures grown { (n : ReachesPast ⟦<Tx<S> as Blocks>⟧.holdings tx.old root.now.0 from (length bytes.now)) → ⟦<Tx<S> as Blocks>⟧.meanings.sound tx.old → ⟦<Tx<S> as Blocks>⟧.meanings.forgeries tx.new ≤ ⟦<Tx<S> as Blocks>⟧.meanings.forgeries tx.old
-        → Grew (⟦<Tx<S> as Blocks>⟧.holdings.payload tx.old) (⟦<Tx<S> as Blocks>⟧.holdings.content tx.old) (⟦<Tx<S> as Blocks>⟧.holdings.content tx.new) n.tree.depth root.now.0 from (length n.tree.bytes) tx.old.overlay tx.new.overlay }
+    ensures grown { (n : ReachesPast (tx_holdings S.holdings) tx.old root.now.0 from (length bytes.now)) → S.meanings.sound tx.old.store → S.meanings.forgeries tx.new.store ≤ S.meanings.forgeries tx.old.store
+        → Grew (S.holdings.payload tx.old.store) (content_of S.holdings tx.old) (content_of S.holdings tx.new) n.tree.depth root.now.0 from (length n.tree.bytes) tx.old.overlay tx.new.overlay }
     ensures below { Stays S.holdings tx.old.store tx.new.store }
 {
     if bytes.is_empty() {
@@ -99,20 +100,20 @@ pub fn write_range<S: Blocks>(
 /// Cuts the tree to this length, or appends zeros up to it. Loaded are the right border and, as it is cut, the inner nodes
 /// that go, the new right border and the way down to the node that the root takes.
 pub fn resize<S: Blocks>(alloc: Global, tx: &mut Tx<S>, root: &BlockId, n: u64) -> Result<(), Fail>
-    requires intact { ⟦<Tx<S> as Blocks>⟧.meanings.intact tx.old }
+    requires intact { intact_in S.meanings S.holdings tx.old }
     requires small { n ≤ 2 ^ 40 }
-    ensures outcome { Outcome ⟦<Tx<S> as Blocks>⟧.meanings (IsRoot ⟦<Tx<S> as Blocks>⟧.holdings tx.old root.now.0) tx.old tx.new result
-        (λ old _. IsNewRoot ⟦<Tx<S> as Blocks>⟧.holdings tx.old tx.new root.now.0 old.ids (resized old.bytes n)) }
-    ensures shallow { ⟦<Tx<S> as Blocks>⟧.meanings.sound tx.old → ⟦<Tx<S> as Blocks>⟧.meanings.forgeries tx.new ≤ ⟦<Tx<S> as Blocks>⟧.meanings.forgeries tx.old
-        → OnOk result (IsTooDeep ⟦<Tx<S> as Blocks>⟧.holdings tx.old root.now.0 → ⊥) }
+    ensures outcome { Outcome (tx_meanings S.meanings S.holdings) (IsRoot (tx_holdings S.holdings) tx.old root.now.0) tx.old tx.new result
+        (λ old _. IsNewRoot (tx_holdings S.holdings) tx.old tx.new root.now.0 old.ids (resized old.bytes n)) }
+    ensures shallow { S.meanings.sound tx.old.store → S.meanings.forgeries tx.new.store ≤ S.meanings.forgeries tx.old.store
+        → OnOk result (IsTooDeep (tx_holdings S.holdings) tx.old root.now.0 → ⊥) }
     // As it grows no id goes, and of those that were there only the right border changes, whatever is answered.
-    ensures grown { (old : ReachesPast ⟦<Tx<S> as Blocks>⟧.holdings tx.old root.now.0 n 0) → ⟦<Tx<S> as Blocks>⟧.meanings.sound tx.old → ⟦<Tx<S> as Blocks>⟧.meanings.forgeries tx.new ≤ ⟦<Tx<S> as Blocks>⟧.meanings.forgeries tx.old
-        → Grew (⟦<Tx<S> as Blocks>⟧.holdings.payload tx.old) (⟦<Tx<S> as Blocks>⟧.holdings.content tx.old) (⟦<Tx<S> as Blocks>⟧.holdings.content tx.new) old.tree.depth root.now.0 n (length old.tree.bytes) tx.old.overlay tx.new.overlay }
+    ensures grown { (old : ReachesPast (tx_holdings S.holdings) tx.old root.now.0 n 0) → S.meanings.sound tx.old.store → S.meanings.forgeries tx.new.store ≤ S.meanings.forgeries tx.old.store
+        → Grew (S.holdings.payload tx.old.store) (content_of S.holdings tx.old) (content_of S.holdings tx.new) old.tree.depth root.now.0 n (length old.tree.bytes) tx.old.overlay tx.new.overlay }
     // As it is cut no id is new, whatever is answered, and of those that stay only the new right border changes.
-    ensures fewer { HasAtLeast ⟦<Tx<S> as Blocks>⟧.holdings tx.old root.now.0 n → ⟦<Tx<S> as Blocks>⟧.meanings.sound tx.old → ⟦<Tx<S> as Blocks>⟧.meanings.forgeries tx.new ≤ ⟦<Tx<S> as Blocks>⟧.meanings.forgeries tx.old
-        → (q : Id) → is_some (⟦<Tx<S> as Blocks>⟧.holdings.content tx.new q) ≡ true → is_some (⟦<Tx<S> as Blocks>⟧.holdings.content tx.old q) ≡ true }
-    ensures shrank { HasAtLeast ⟦<Tx<S> as Blocks>⟧.holdings tx.old root.now.0 n → ⟦<Tx<S> as Blocks>⟧.meanings.sound tx.old → ⟦<Tx<S> as Blocks>⟧.meanings.forgeries tx.new ≤ ⟦<Tx<S> as Blocks>⟧.meanings.forgeries tx.old
-        → OnOk result ((depth : ℕ) × (IsDepth (⟦<Tx<S> as Blocks>⟧.holdings.payload tx.new) depth n × Shrank (⟦<Tx<S> as Blocks>⟧.holdings.content tx.old) (⟦<Tx<S> as Blocks>⟧.holdings.content tx.new) depth root.now.0 tx.old.overlay tx.new.overlay)) }
+    ensures fewer { HasAtLeast (tx_holdings S.holdings) tx.old root.now.0 n → S.meanings.sound tx.old.store → S.meanings.forgeries tx.new.store ≤ S.meanings.forgeries tx.old.store
+        → (q : Id) → is_some (content_of S.holdings tx.new q) ≡ true → is_some (content_of S.holdings tx.old q) ≡ true }
+    ensures shrank { HasAtLeast (tx_holdings S.holdings) tx.old root.now.0 n → S.meanings.sound tx.old.store → S.meanings.forgeries tx.new.store ≤ S.meanings.forgeries tx.old.store
+        → OnOk result ((depth : ℕ) × (IsDepth (S.holdings.payload tx.new.store) depth n × Shrank (content_of S.holdings tx.old) (content_of S.holdings tx.new) depth root.now.0 tx.old.overlay tx.new.overlay)) }
     ensures below { Stays S.holdings tx.old.store tx.new.store }
 {
     let (node, level, len) = match open_root(alloc, tx, root) {

@@ -5,6 +5,7 @@ ghost use Rattle.std.specs.FinMap.{get};
 ghost use Rattle.outcome.specs.Outcome.{Outcome};
 ghost use Rattle.store_api.specs.Content.{Id};
 ghost use Rattle.store_api.specs.Holdings.{Stays};
+ghost use Rattle.store_api.specs.Txs.{content_of, intact_in, tx_holdings, tx_meanings};
 ghost use Rattle.data_nodes.specs.Layout.{room, fan_out, ids_of, node_of, leaf, FitsPayload};
 ghost use Rattle.data_tree.specs.Needs.{SetsNode};
 ghost use Rattle.data_tree.specs.Trees.{span, depth_in};
@@ -38,15 +39,15 @@ fn write_leaf<S: Blocks>(
     from: u64,
     bytes: &[u8],
 ) -> Result<(), Fail>
-    requires intact { ⟦<Tx<S> as Blocks>⟧.meanings.intact tx.old }
-    requires there { is_some (⟦<Tx<S> as Blocks>⟧.holdings.content tx.old id.now.0) ≡ true }
-    requires fits { FitsPayload (⟦<Tx<S> as Blocks>⟧.holdings.payload tx.old) (leaf old.now) }
-    ensures outcome { Outcome ⟦<Tx<S> as Blocks>⟧.meanings (from + length bytes.now ≤ length old.now) tx.old tx.new result
-        (λ _ _. SetsNode ⟦<Tx<S> as Blocks>⟧.holdings tx.old tx.new id.now.0 (leaf (written_at from bytes.now old.now))) }
+    requires intact { intact_in S.meanings S.holdings tx.old }
+    requires there { is_some (content_of S.holdings tx.old id.now.0) ≡ true }
+    requires fits { FitsPayload (S.holdings.payload tx.old.store) (leaf old.now) }
+    ensures outcome { Outcome (tx_meanings S.meanings S.holdings) (from + length bytes.now ≤ length old.now) tx.old tx.new result
+        (λ _ _. SetsNode (tx_holdings S.holdings) tx.old tx.new id.now.0 (leaf (written_at from bytes.now old.now))) }
     ensures others { (q : Id) → (get tx.new.overlay q ≡ get tx.old.overlay q) ⊎ ((q ≡ id.now.0) × (from + length bytes.now ≤ length old.now)) }
     ensures few { (fin.len tx.new.overlay ≤ fin.len tx.old.overlay) ⊎ ((fin.len tx.new.overlay ≤ fin.len tx.old.overlay + 1) × (from + length bytes.now ≤ length old.now)) }
     ensures below { Stays S.holdings tx.old.store tx.new.store }
-    ensures there { (q : Id) → is_some (⟦<Tx<S> as Blocks>⟧.holdings.content tx.old q) ≡ true → is_some (⟦<Tx<S> as Blocks>⟧.holdings.content tx.new q) ≡ true }
+    ensures there { (q : Id) → is_some (content_of S.holdings tx.old q) ≡ true → is_some (content_of S.holdings tx.new q) ≡ true }
 {
     let start = from as usize;
     if start > old.len() || bytes.len() > old.len() - start {
@@ -72,15 +73,15 @@ pub fn write_below<S: Blocks>(
     from: u64,
     bytes: &[u8],
 ) -> Result<(), Fail>
-    requires intact { ⟦<Tx<S> as Blocks>⟧.meanings.intact tx.old }
-    requires level { level.room ≡ span (⟦<Tx<S> as Blocks>⟧.holdings.payload tx.old) level.depth }
-    ensures outcome { Outcome ⟦<Tx<S> as Blocks>⟧.meanings (MayWrite ⟦<Tx<S> as Blocks>⟧.holdings tx.old level.depth id.now.0 from (length bytes.now)) tx.old tx.new result
-        (λ n _. WroteTree ⟦<Tx<S> as Blocks>⟧.holdings tx.old tx.new level.depth id.now.0 (written_at from bytes.now n.tree.bytes) n.tree.ids) }
-    ensures only { (n : MayWrite ⟦<Tx<S> as Blocks>⟧.holdings tx.old level.depth id.now.0 from (length bytes.now)) → ⟦<Tx<S> as Blocks>⟧.meanings.sound tx.old → ⟦<Tx<S> as Blocks>⟧.meanings.forgeries tx.new ≤ ⟦<Tx<S> as Blocks>⟧.meanings.forgeries tx.old
-        → OnlyLeaves (⟦<Tx<S> as Blocks>⟧.holdings.payload tx.old) (⟦<Tx<S> as Blocks>⟧.holdings.content tx.old) level.depth id.now.0 from (length bytes.now) tx.old.overlay tx.new.overlay }
-    ensures cost { LeafCost (room (⟦<Tx<S> as Blocks>⟧.holdings.payload tx.old)) (fin.len tx.old.overlay) (fin.len tx.new.overlay) from (length bytes.now) level.room }
+    requires intact { intact_in S.meanings S.holdings tx.old }
+    requires level { level.room ≡ span (S.holdings.payload tx.old.store) level.depth }
+    ensures outcome { Outcome (tx_meanings S.meanings S.holdings) (MayWrite (tx_holdings S.holdings) tx.old level.depth id.now.0 from (length bytes.now)) tx.old tx.new result
+        (λ n _. WroteTree (tx_holdings S.holdings) tx.old tx.new level.depth id.now.0 (written_at from bytes.now n.tree.bytes) n.tree.ids) }
+    ensures only { (n : MayWrite (tx_holdings S.holdings) tx.old level.depth id.now.0 from (length bytes.now)) → S.meanings.sound tx.old.store → S.meanings.forgeries tx.new.store ≤ S.meanings.forgeries tx.old.store
+        → OnlyLeaves (S.holdings.payload tx.old.store) (content_of S.holdings tx.old) level.depth id.now.0 from (length bytes.now) tx.old.overlay tx.new.overlay }
+    ensures cost { LeafCost (room (S.holdings.payload tx.old.store)) (fin.len tx.old.overlay) (fin.len tx.new.overlay) from (length bytes.now) level.room }
     ensures below { Stays S.holdings tx.old.store tx.new.store }
-    ensures there { (q : Id) → is_some (⟦<Tx<S> as Blocks>⟧.holdings.content tx.old q) ≡ true → is_some (⟦<Tx<S> as Blocks>⟧.holdings.content tx.new q) ≡ true }
+    ensures there { (q : Id) → is_some (content_of S.holdings tx.old q) ≡ true → is_some (content_of S.holdings tx.new q) ≡ true }
 {
     if bytes.is_empty() {
         return Ok(());
@@ -102,19 +103,19 @@ pub fn write_in<S: Blocks>(
     from: u64,
     bytes: &[u8],
 ) -> Result<(), Fail>
-    requires intact { ⟦<Tx<S> as Blocks>⟧.meanings.intact tx.old }
-    requires level { level.room ≡ span (⟦<Tx<S> as Blocks>⟧.holdings.payload tx.old) level.depth }
-    requires there { is_some (⟦<Tx<S> as Blocks>⟧.holdings.content tx.old id.now.0) ≡ true }
-    requires fits { FitsPayload (⟦<Tx<S> as Blocks>⟧.holdings.payload tx.old) (node_of node.now) }
+    requires intact { intact_in S.meanings S.holdings tx.old }
+    requires level { level.room ≡ span (S.holdings.payload tx.old.store) level.depth }
+    requires there { is_some (content_of S.holdings tx.old id.now.0) ≡ true }
+    requires fits { FitsPayload (S.holdings.payload tx.old.store) (node_of node.now) }
     requires depth { depth_in (node_of node.now) ≡ level.depth }
     requires some { 0 < length bytes.now }
-    ensures outcome { Outcome ⟦<Tx<S> as Blocks>⟧.meanings (MayWriteNode ⟦<Tx<S> as Blocks>⟧.holdings tx.old level.depth id.now.0 (node_of node.now) from (length bytes.now)) tx.old tx.new result
-        (λ n _. WroteTree ⟦<Tx<S> as Blocks>⟧.holdings tx.old tx.new level.depth id.now.0 (written_at from bytes.now n.tree.bytes) n.tree.ids) }
-    ensures only { (n : MayWriteNode ⟦<Tx<S> as Blocks>⟧.holdings tx.old level.depth id.now.0 (node_of node.now) from (length bytes.now)) → ⟦<Tx<S> as Blocks>⟧.meanings.sound tx.old → ⟦<Tx<S> as Blocks>⟧.meanings.forgeries tx.new ≤ ⟦<Tx<S> as Blocks>⟧.meanings.forgeries tx.old
-        → OnlyLeaves (⟦<Tx<S> as Blocks>⟧.holdings.payload tx.old) (⟦<Tx<S> as Blocks>⟧.holdings.content tx.old) level.depth id.now.0 from (length bytes.now) tx.old.overlay tx.new.overlay }
-    ensures cost { LeafCost (room (⟦<Tx<S> as Blocks>⟧.holdings.payload tx.old)) (fin.len tx.old.overlay) (fin.len tx.new.overlay) from (length bytes.now) level.room }
+    ensures outcome { Outcome (tx_meanings S.meanings S.holdings) (MayWriteNode (tx_holdings S.holdings) tx.old level.depth id.now.0 (node_of node.now) from (length bytes.now)) tx.old tx.new result
+        (λ n _. WroteTree (tx_holdings S.holdings) tx.old tx.new level.depth id.now.0 (written_at from bytes.now n.tree.bytes) n.tree.ids) }
+    ensures only { (n : MayWriteNode (tx_holdings S.holdings) tx.old level.depth id.now.0 (node_of node.now) from (length bytes.now)) → S.meanings.sound tx.old.store → S.meanings.forgeries tx.new.store ≤ S.meanings.forgeries tx.old.store
+        → OnlyLeaves (S.holdings.payload tx.old.store) (content_of S.holdings tx.old) level.depth id.now.0 from (length bytes.now) tx.old.overlay tx.new.overlay }
+    ensures cost { LeafCost (room (S.holdings.payload tx.old.store)) (fin.len tx.old.overlay) (fin.len tx.new.overlay) from (length bytes.now) level.room }
     ensures below { Stays S.holdings tx.old.store tx.new.store }
-    ensures there { (q : Id) → is_some (⟦<Tx<S> as Blocks>⟧.holdings.content tx.old q) ≡ true → is_some (⟦<Tx<S> as Blocks>⟧.holdings.content tx.new q) ≡ true }
+    ensures there { (q : Id) → is_some (content_of S.holdings tx.old q) ≡ true → is_some (content_of S.holdings tx.new q) ≡ true }
 {
     match node {
         Node::Leaf(old) => write_leaf(alloc, tx, id, old, from, bytes),
@@ -135,16 +136,16 @@ fn write_children<S: Blocks>(
     from: u64,
     bytes: &[u8],
 ) -> Result<(), Fail>
-    requires intact { ⟦<Tx<S> as Blocks>⟧.meanings.intact tx.old }
-    requires level { level.room ≡ span (⟦<Tx<S> as Blocks>⟧.holdings.payload tx.old) level.depth }
-    requires few { length children.now ≤ fan_out (⟦<Tx<S> as Blocks>⟧.holdings.payload tx.old) }
-    ensures outcome { Outcome ⟦<Tx<S> as Blocks>⟧.meanings (MayWriteTrees ⟦<Tx<S> as Blocks>⟧.holdings tx.old level.depth (ids_of children.now) from (length bytes.now)) tx.old tx.new result
-        (λ n _. WroteTrees ⟦<Tx<S> as Blocks>⟧.holdings tx.old tx.new level.depth (ids_of children.now) (written_at from bytes.now n.trees.bytes) n.trees.ids) }
-    ensures only { (n : MayWriteTrees ⟦<Tx<S> as Blocks>⟧.holdings tx.old level.depth (ids_of children.now) from (length bytes.now)) → ⟦<Tx<S> as Blocks>⟧.meanings.sound tx.old → ⟦<Tx<S> as Blocks>⟧.meanings.forgeries tx.new ≤ ⟦<Tx<S> as Blocks>⟧.meanings.forgeries tx.old
-        → OnlyAmong (⟦<Tx<S> as Blocks>⟧.holdings.payload tx.old) (⟦<Tx<S> as Blocks>⟧.holdings.content tx.old) level.depth (ids_of children.now) from (length bytes.now) tx.old.overlay tx.new.overlay }
-    ensures cost { LeafCost (room (⟦<Tx<S> as Blocks>⟧.holdings.payload tx.old)) (fin.len tx.old.overlay) (fin.len tx.new.overlay) from (length bytes.now) (fan_out (⟦<Tx<S> as Blocks>⟧.holdings.payload tx.old) * level.room) }
+    requires intact { intact_in S.meanings S.holdings tx.old }
+    requires level { level.room ≡ span (S.holdings.payload tx.old.store) level.depth }
+    requires few { length children.now ≤ fan_out (S.holdings.payload tx.old.store) }
+    ensures outcome { Outcome (tx_meanings S.meanings S.holdings) (MayWriteTrees (tx_holdings S.holdings) tx.old level.depth (ids_of children.now) from (length bytes.now)) tx.old tx.new result
+        (λ n _. WroteTrees (tx_holdings S.holdings) tx.old tx.new level.depth (ids_of children.now) (written_at from bytes.now n.trees.bytes) n.trees.ids) }
+    ensures only { (n : MayWriteTrees (tx_holdings S.holdings) tx.old level.depth (ids_of children.now) from (length bytes.now)) → S.meanings.sound tx.old.store → S.meanings.forgeries tx.new.store ≤ S.meanings.forgeries tx.old.store
+        → OnlyAmong (S.holdings.payload tx.old.store) (content_of S.holdings tx.old) level.depth (ids_of children.now) from (length bytes.now) tx.old.overlay tx.new.overlay }
+    ensures cost { LeafCost (room (S.holdings.payload tx.old.store)) (fin.len tx.old.overlay) (fin.len tx.new.overlay) from (length bytes.now) (fan_out (S.holdings.payload tx.old.store) * level.room) }
     ensures below { Stays S.holdings tx.old.store tx.new.store }
-    ensures there { (q : Id) → is_some (⟦<Tx<S> as Blocks>⟧.holdings.content tx.old q) ≡ true → is_some (⟦<Tx<S> as Blocks>⟧.holdings.content tx.new q) ≡ true }
+    ensures there { (q : Id) → is_some (content_of S.holdings tx.old q) ≡ true → is_some (content_of S.holdings tx.new q) ≡ true }
 {
     let mut place = from;
     let mut rest = bytes;

@@ -5,7 +5,7 @@ use Rattle.block_id.specs.declared.id.BlockId.{BlockId}
 use Rattle.data_nodes.specs.Layout.{ids_of, node_of, fan_out, FitsPayload}
 use Rattle.data_tree.specs.Trees.{span}
 use Rattle.data_tree.specs.Needs.{BuildRest}
-use Rattle.data_tree.proofs.Loads.{tx_holdings}
+use Rattle.store_api.specs.Txs.{tx_holdings}
 use Rattle.data_tree.proofs.Levels.{span-some}
 use Rattle.data_tree.proofs.Puts.{if_ok_both, keeps_same, kept_put}
 use Rattle.data_tree.proofs.Making.{tree_made, build_start, build_next, build_done, built_leaf, built_inner, pushed}

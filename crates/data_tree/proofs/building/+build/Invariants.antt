@@ -4,7 +4,7 @@ use Rattle.std.specs.FinMap.{get}
 use Rattle.data_nodes.specs.Layout.{ids_of}
 use Rattle.store_api.specs.Content.{Id}
 use Rattle.data_tree.specs.Needs.{BuildRest}
-use Rattle.data_tree.proofs.Loads.{tx_holdings, tx_meanings}
+use Rattle.store_api.specs.Txs.{tx_holdings, tx_meanings}
 use Rattle.data_tree.proofs.building.+build.Given as goal
 
 abbrev pub decreases-build : goal.decreases-build

@@ -5,7 +5,7 @@ use Rattle.outcome.specs.Outcome.{Outcome, idle, first_, then_, failed_, answere
 use Rattle.data_nodes.specs.Layout.{node_of, ids_of, inner}
 use Rattle.data_tree.specs.Needs.{HasTree, Sets}
 use Rattle.data_tree.specs.Trees.{Replaces}
-use Rattle.data_tree.proofs.Loads.{tx_holdings, tx_meanings, tx_laws}
+use Rattle.store_api.specs.Txs.{tx_holdings, tx_laws, tx_meanings}
 use Rattle.data_tree.proofs.Forests.{below_on, below_of, root_apart, children_of, leaf_ids, deep_of, stays-then, stays-same}
 use Rattle.data_tree.proofs.Puts.{changed_, keeps_same, keeps_below, below_same, kept_drop}
 use Rattle.data_tree.proofs.Ids.{drops_tree, replaces_nothing}

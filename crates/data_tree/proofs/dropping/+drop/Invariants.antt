@@ -6,7 +6,7 @@ use Rattle.outcome.specs.Outcome.{Outcome}
 use Rattle.data_nodes.specs.Layout.{ids_of}
 use Rattle.data_tree.specs.Needs.{HasTrees, DropRest}
 use Rattle.store_api.specs.Holdings.{Stays}
-use Rattle.data_tree.proofs.Loads.{tx_holdings, tx_meanings}
+use Rattle.store_api.specs.Txs.{tx_holdings, tx_meanings}
 use Rattle.data_tree.proofs.dropping.+drop.Given as goal
 
 abbrev pub decreases-drop_below : goal.decreases-drop_below

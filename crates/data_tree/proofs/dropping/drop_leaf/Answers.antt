@@ -3,11 +3,10 @@ use Rattle.std.specs.Prelude.{is_some}
 use Rattle.outcome.specs.Outcome.{idle, no_memory, unbuilt}
 use Rattle.data_tree.specs.Needs.{HasTree}
 use Rattle.data_tree.specs.Trees.{Replaces}
-use Rattle.data_tree.proofs.Loads.{tx_holdings, tx_laws}
+use Rattle.store_api.specs.Txs.{store_in, changes_in, drawn_in, tx_holdings, tx_laws}
 use Rattle.data_tree.proofs.Ids.{drops_one}
 use Rattle.data_tree.proofs.Puts.{changed_}
 use Rattle.store_api.specs.Overlay.{changed_over}
-use Rattle.data_tree.proofs.Loads.{store_in, changes_in, drawn_in}
 use Rattle.data_tree.proofs.dropping.drop_leaf.Goals as goal
 
 pub returns-in-Ok-clause-outcome : goal.returns-in-Ok-clause-outcome

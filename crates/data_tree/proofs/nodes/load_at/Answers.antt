@@ -3,7 +3,8 @@ use Rattle.data_nodes.specs.Layout.{node_of}
 use Rattle.outcome.specs.Outcome.{first_, unbuilt}
 use Rattle.data_tree.specs.Needs.{HasTree}
 use Rattle.data_tree.specs.Trees.{depth_in}
-use Rattle.data_tree.proofs.Loads.{tx_holdings, tx_laws, holds-depth}
+use Rattle.store_api.specs.Txs.{tx_holdings, tx_laws}
+use Rattle.data_tree.proofs.Loads.{holds-depth}
 use Rattle.data_tree.proofs.nodes.load_at.Goals as goal
 
 pub returns-then-depth_of-depth-clause-outcome : goal.returns-then-depth_of-depth-clause-outcome

@@ -2,7 +2,8 @@ use Rattle.std.proofs.Common.{◌≡◌, sym, ◌∙◌, ap}
 use Rattle.outside.specs.View.{bytes_of}
 use Rattle.outcome.specs.Outcome.{first_, answered, unbuilt}
 use Rattle.data_tree.specs.Needs.{HasNode}
-use Rattle.data_tree.proofs.Loads.{tx_holdings, tx_laws, read_some, read_none}
+use Rattle.store_api.specs.Txs.{tx_holdings, tx_laws}
+use Rattle.data_tree.proofs.Loads.{read_some, read_none}
 use Rattle.data_tree.proofs.nodes.load_node.Goals as goal
 
 pub returns-in-Some-2-clause-outcome : goal.returns-in-Some-2-clause-outcome

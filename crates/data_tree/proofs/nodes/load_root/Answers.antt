@@ -4,7 +4,8 @@ use Rattle.outcome.specs.Outcome.{answered, passed, unbuilt, sounded_}
 use Rattle.data_tree.specs.Needs.{HasNode}
 use Rattle.data_tree.specs.Roots.{IsRoot}
 use Rattle.data_tree.specs.Trees.{depth_in, IsDepth}
-use Rattle.data_tree.proofs.Loads.{tx_holdings, tx_laws, holds-depth}
+use Rattle.store_api.specs.Txs.{tx_holdings, tx_laws}
+use Rattle.data_tree.proofs.Loads.{holds-depth}
 use Rattle.data_tree.proofs.nodes.load_root.Goals as goal
 
 pub returns-in-Some-clause-outcome : goal.returns-in-Some-clause-outcome

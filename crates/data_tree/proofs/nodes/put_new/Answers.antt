@@ -2,9 +2,8 @@ use Rattle.std.proofs.Common.{◌≡◌, ◌∙◌, ap, false}
 use Rattle.std.specs.Prelude.{Some, Ok}
 use Rattle.std.specs.FinMap.{get}
 use Rattle.store_api.specs.Content.{same_id}
-use Rattle.store_api.specs.Overlay.{steady_over}
 use Rattle.data_tree.proofs.Changes.{there_put}
-use Rattle.data_tree.proofs.Loads.{store_in, changes_in, drawn_in, tx_holdings}
+use Rattle.store_api.specs.Txs.{tx_holdings, tx_steady}
 use Rattle.data_tree.proofs.Making.{free_none}
 use Rattle.data_tree.proofs.Puts.{not_new, others_then, put_sets, there_left}
 use Rattle.data_tree.proofs.nodes.put_new.Goals as goal
@@ -14,7 +13,7 @@ returns-in-Ok-clause-new g c =
     let H = tx_holdings g.S.Blocks.holdings in
     let a = c.args.tx.now in
     let id = c.in-Ok.id.0 in
-    let steady = steady_over store_in changes_in drawn_in g.S.Blocks.meanings g.S.Blocks.holdings g.met.S.Blocks.steady in
+    let steady = tx_steady g.S.Blocks.meanings g.S.Blocks.holdings g.met.S.Blocks.steady in
     free_none (H.used a) (H.content a) id (λ there. steady.content_used a id c.requires.intact there) c.in-Ok.ensures.free
 
 pub returns-in-Ok-clause-sets : goal.returns-in-Ok-clause-sets

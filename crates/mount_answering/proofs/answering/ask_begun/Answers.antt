@@ -8,9 +8,8 @@ use Rattle.outcome.specs.Meanings.{HasCause}
 use Rattle.outcome.specs.Outcome.{alarm as no_alarm}
 use Rattle.outside.specs.Causes.{RoseBy}
 use Rattle.outside.specs.Going.{goes_on_onward}
-use Rattle.store_api.specs.Overlay.{lawful_over}
-use Rattle.store_api.specs.Ids.{stream_left}
 use Rattle.store_api.proofs.Draws.{later_same}
+use Rattle.store_api.specs.Txs.{tx_laws}
 use Rattle.tree_commands.specs.Performing.{IsReplyTo}
 use Rattle.tree_commands.specs.Showing.{ShowsFiles}
 use Rattle.tree_commands.proofs.Shows.{files_same}
@@ -160,7 +159,7 @@ returns-in-Err g c =
         alarm = λ kept present s honest.
             let shown = shown_now ShowsFiles M H D R g.K.Keeper files_same g.met.S.Blocks.steady g.S.BlocksMut.applied g.met.S.BlocksMut.settled endures old kept present s c.requires.ready.empty in
             subst (λ a. is_violation a ≡ false) (sym answer) (calm fail
-            (no_alarm (lawful_over (λ t. t.store) (λ t. t.overlay) (λ t. record { seed = t.seed; left = stream_left t.ids }) M H lawful) o (record { tree = present; shown = shown }) s.sound (subst (λ x. M.lies x ≤ M.lies store) e honest)));
+            (no_alarm (tx_laws M H lawful) o (record { tree = present; shown = shown }) s.sound (subst (λ x. M.lies x ≤ M.lies store) e honest)));
         built = λ kept present s few.
             let shown = shown_now ShowsFiles M H D R g.K.Keeper files_same g.met.S.Blocks.steady g.S.BlocksMut.applied g.met.S.BlocksMut.settled endures old kept present s c.requires.ready.empty in
             subst (λ a. is_structure a ≡ false) (sym answer) (of_blocks fail (o.structure (record { tree = present; shown = shown }) s.sound (unforged few)));

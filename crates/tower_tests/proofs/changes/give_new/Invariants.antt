@@ -1,7 +1,5 @@
-use Rattle.store_api.specs.Ids.{stream_left}
-use Rattle.store_api.specs.Overlay.{meanings_over}
+use Rattle.store_api.specs.Txs.{intact_in}
 use Rattle.tower_tests.proofs.changes.give_new.Given as goal
 
 abbrev pub invariant-loop-one : goal.invariant-loop-one
-invariant-loop-one g l =
-    (meanings_over (λ t. t.store) (λ t. t.overlay) (λ t. record { seed = t.seed; left = stream_left t.ids }) g.S.Blocks.meanings g.S.Blocks.holdings).intact l.tx
+invariant-loop-one g l = intact_in g.S.Blocks.meanings g.S.Blocks.holdings l.tx

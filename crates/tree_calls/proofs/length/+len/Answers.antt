@@ -5,7 +5,7 @@ use Rattle.outcome.specs.Outcome.{idle, first_, then_, answered, passed}
 use Rattle.data_nodes.specs.Layout.{node_of, ids_of, fan_out, FitsPayload}
 use Rattle.data_tree.specs.Trees.{span, depth_in}
 use Rattle.data_tree.specs.Needs.{HasBelow}
-use Rattle.data_tree.proofs.Loads.{tx_holdings, tx_laws}
+use Rattle.store_api.specs.Txs.{tx_holdings, tx_laws}
 use Rattle.data_tree.proofs.Forests.{below_on, below_of, children_of, leaf_is, stays-then, stays-same}
 use Rattle.tree_calls.proofs.Lasts.{last_fits, last_of, last-length, sum_is}
 use Rattle.data_tree.proofs.Gathering.{last_child}

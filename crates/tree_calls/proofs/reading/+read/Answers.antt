@@ -4,7 +4,7 @@ use Rattle.outcome.specs.Outcome.{idle, first_, then_, failed_, answered, passed
 use Rattle.data_nodes.specs.Layout.{node_of, ids_of, inner, FitsPayload}
 use Rattle.tree_calls.specs.Reading.{between}
 use Rattle.data_tree.specs.Trees.{span, depth_in}
-use Rattle.data_tree.proofs.Loads.{tx_holdings, tx_laws}
+use Rattle.store_api.specs.Txs.{tx_holdings, tx_laws}
 use Rattle.data_tree.proofs.Puts.{memory_first}
 use Rattle.tree_calls.proofs.Parts.{between-none}
 use Rattle.data_tree.proofs.Forests.{below_on, below_of, children_of, stays-then, stays-same, leaf_is}

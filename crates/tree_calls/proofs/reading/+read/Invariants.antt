@@ -6,7 +6,7 @@ use Rattle.data_nodes.specs.Layout.{ids_of}
 use Rattle.data_tree.specs.Needs.{HasTrees}
 use Rattle.tree_calls.specs.Reading.{ReadRest}
 use Rattle.tree_calls.specs.Reading.{between}
-use Rattle.data_tree.proofs.Loads.{tx_holdings, tx_meanings}
+use Rattle.store_api.specs.Txs.{tx_holdings, tx_meanings}
 use Rattle.tree_calls.proofs.reading.+read.Given as goal
 
 abbrev pub decreases-read_below : goal.decreases-read_below

@@ -3,7 +3,7 @@ use Rattle.data_nodes.specs.Layout.{node_of, FitsPayload}
 use Rattle.outcome.specs.Outcome.{then_, failed_, answered, unbuilt, passed}
 use Rattle.tree_calls.specs.Reading.{between}
 use Rattle.data_tree.specs.Trees.{span}
-use Rattle.data_tree.proofs.Loads.{tx_holdings, tx_laws}
+use Rattle.store_api.specs.Txs.{tx_holdings, tx_laws}
 use Rattle.data_tree.proofs.Forests.{below_on, below_root, stays-then}
 use Rattle.tree_calls.proofs.Parts.{all_between}
 use Rattle.data_tree.proofs.Puts.{unforged_before}

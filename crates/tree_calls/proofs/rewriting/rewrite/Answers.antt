@@ -3,7 +3,7 @@ use Rattle.outcome.specs.Outcome.{idle, then_}
 use Rattle.data_nodes.specs.Layout.{node_of}
 use Rattle.tree_calls.specs.Rewriting.{HasRootNode}
 use Rattle.data_tree.specs.Roots.{IsNewRoot}
-use Rattle.data_tree.proofs.Loads.{tx_holdings, tx_laws}
+use Rattle.store_api.specs.Txs.{tx_holdings, tx_laws}
 use Rattle.data_tree.proofs.Puts.{changed_, keeps_same, keeps_below, memory_first}
 use Rattle.tree_calls.proofs.Anew.{old_below, anew}
 use Rattle.tree_calls.proofs.rewriting.rewrite.Goals as goal

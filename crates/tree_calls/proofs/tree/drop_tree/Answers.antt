@@ -2,7 +2,7 @@ use Rattle.std.proofs.Common.{◌≡◌, None, true}
 use Rattle.data_nodes.specs.Layout.{node_of}
 use Rattle.outcome.specs.Outcome.{then_, passed}
 use Rattle.data_tree.specs.Needs.{Sets}
-use Rattle.data_tree.proofs.Loads.{tx_holdings, tx_laws}
+use Rattle.store_api.specs.Txs.{tx_holdings, tx_laws}
 use Rattle.data_tree.proofs.Ids.{drops_tree}
 use Rattle.data_tree.proofs.Changes.{below_changed}
 use Rattle.data_tree.proofs.Forests.{below_on, below_root, alone_root}

@@ -1,6 +1,6 @@
 use Rattle.data_nodes.specs.Layout.{node_of}
 use Rattle.outcome.specs.Outcome.{then_, passed}
-use Rattle.data_tree.proofs.Loads.{tx_laws}
+use Rattle.store_api.specs.Txs.{tx_laws}
 use Rattle.data_tree.proofs.Forests.{below_on, below_root}
 use Rattle.data_tree.proofs.Puts.{on_any, unforged_before}
 use Rattle.tree_calls.proofs.tree.len.Goals as goal

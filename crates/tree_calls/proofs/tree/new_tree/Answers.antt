@@ -1,7 +1,7 @@
 use Rattle.std.proofs.Common.{subst, length}
 use Rattle.outcome.specs.Outcome.{idle}
 use Rattle.data_tree.specs.Trees.{IsDepth}
-use Rattle.data_tree.proofs.Loads.{store_in, changes_in, drawn_in, tx_laws}
+use Rattle.store_api.specs.Txs.{changes_in, drawn_in, store_in, tx_laws}
 use Rattle.store_api.specs.Overlay.{changed_over}
 use Rattle.tree_calls.proofs.Anew.{root_new}
 use Rattle.data_tree.proofs.Puts.{keeps_same, memory_first}

@@ -1,5 +1,4 @@
-use Rattle.store_api.specs.Overlay.{steady_over}
-use Rattle.data_tree.proofs.Loads.{store_in, changes_in, drawn_in, tx_holdings, tx_meanings}
+use Rattle.store_api.specs.Txs.{changes_in, tx_holdings, tx_meanings, tx_steady}
 use Rattle.tree_commands.proofs.Shows.{by_blocks}
 use Rattle.tree_commands.proofs.Spared.{spared_blocks}
 use Rattle.tree_commands.proofs.commands.perform.Goals as goal
@@ -7,11 +6,11 @@ use Rattle.tree_commands.proofs.commands.perform.Goals as goal
 pub returns-clause-outcome : goal.returns-clause-outcome
 returns-clause-outcome g c =
     by_blocks (tx_meanings g.S.Blocks.meanings g.S.Blocks.holdings) (tx_holdings g.S.Blocks.holdings)
-    (steady_over store_in changes_in drawn_in g.S.Blocks.meanings g.S.Blocks.holdings g.met.S.Blocks.steady)
+    (tx_steady g.S.Blocks.meanings g.S.Blocks.holdings g.met.S.Blocks.steady)
     (λ b. b.tx) changes_in c.args.blobs.now c.perform_on_blobs.new.b c.args.root.now.0 c.args.now c.args.command.now c.perform_on_blobs.ensures.outcome
 
 pub returns-clause-sparing : goal.returns-clause-sparing
 returns-clause-sparing g c =
     spared_blocks (tx_meanings g.S.Blocks.meanings g.S.Blocks.holdings) (tx_holdings g.S.Blocks.holdings)
-    (steady_over store_in changes_in drawn_in g.S.Blocks.meanings g.S.Blocks.holdings g.met.S.Blocks.steady)
+    (tx_steady g.S.Blocks.meanings g.S.Blocks.holdings g.met.S.Blocks.steady)
     (λ b. b.tx) changes_in c.args.blobs.now c.perform_on_blobs.new.b c.args.root.now.0 c.args.command.now c.perform_on_blobs.ensures.sparing

@@ -4,13 +4,12 @@ use Rattle.std.proofs.Math.Nat.{div-mul-le_self, lt-div-mul-add, mul-le-mul_righ
 use Rattle.block_id.specs.declared.id.BlockId.{BlockId}
 use Rattle.outcome.specs.Outcome.{Outcome, first_, idle, then_, failed_, unbuilt}
 use Rattle.data_nodes.specs.Layout.{node_of, ids_of, leaf, inner}
-use Rattle.store_api.specs.Overlay.{steady_over}
 use Rattle.data_tree.specs.Needs.{HasTrees, SetsNode}
 use Rattle.data_tree.specs.Trees.{IsTree, Replaces, span}
 use Rattle.data_tree.proofs.Forests.{below_of, below_on, children_of, forest-length, leaf_is, root_apart}
 use Rattle.data_tree.proofs.Gathering.{more_children, next_child}
 use Rattle.data_tree.proofs.Levels.{span-some}
-use Rattle.data_tree.proofs.Loads.{store_in, changes_in, drawn_in, tx_holdings, tx_meanings, tx_laws}
+use Rattle.store_api.specs.Txs.{tx_holdings, tx_laws, tx_meanings, tx_steady}
 use Rattle.data_tree.proofs.Puts.{below_same, changed_, keeps_below, keeps_same, memory_first, was_there}
 use Rattle.tree_cutting.specs.Cutting.{OnlyBorder, IsCut, MayCut, MayCutNode, MayCutTrees}
 use Rattle.tree_cutting.proofs.Cuts.{cut_at, cut_behind, cut_fits, cut_inner_is, cut_last, cut_leaf_is, cut_only, cut_since, fewer_put, put_border}
@@ -62,7 +61,7 @@ cut_in-returns-in-Inner-clause-outcome g t c =
 
 pub cut_children-nonzero_div-last : goal.cut_children-nonzero_div-last
 cut_children-nonzero_div-last g t c =
-    let steady = steady_over store_in changes_in drawn_in g.S.Blocks.meanings g.S.Blocks.holdings g.met.S.Blocks.steady in
+    let steady = tx_steady g.S.Blocks.meanings g.S.Blocks.holdings g.met.S.Blocks.steady in
     omega (arith, span-some ((tx_holdings g.S.Blocks.holdings).payload c.args.tx.now) c.args.level.depth (steady.at_least c.args.tx.now c.requires.intact), c.requires.level)
 
 pub cut_children-returns-then-last-children-clause-outcome : goal.cut_children-returns-then-last-children-clause-outcome
@@ -105,7 +104,7 @@ cut_children-returns-in-Err-drop_children-clause-outcome g t c =
     let H0 = g.S.Blocks.holdings in
     let H = tx_holdings H0 in
     let laws = tx_laws M H0 g.met.S.Blocks.lawful in
-    let steady = steady_over store_in changes_in drawn_in M H0 g.met.S.Blocks.steady in
+    let steady = tx_steady M H0 g.met.S.Blocks.steady in
     let a = c.args.tx.now in
     let b = c.put_node.new.tx in
     let d = c.drop_children.new.tx in
@@ -136,7 +135,7 @@ cut_children-returns-clause-outcome g t c =
     let H0 = g.S.Blocks.holdings in
     let H = tx_holdings H0 in
     let laws = tx_laws M H0 g.met.S.Blocks.lawful in
-    let steady = steady_over store_in changes_in drawn_in M H0 g.met.S.Blocks.steady in
+    let steady = tx_steady M H0 g.met.S.Blocks.steady in
     let a = c.args.tx.now in
     let b = c.put_node.new.tx in
     let d = c.drop_children.new.tx in

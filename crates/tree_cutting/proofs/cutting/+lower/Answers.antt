@@ -4,13 +4,12 @@ use Rattle.std.proofs.lemmas.List.{drop-map, length-drop, length-map, take_all}
 use Rattle.block_id.specs.declared.id.BlockId.{BlockId}
 use Rattle.outcome.specs.Outcome.{Outcome, first_, then_, failed_, passed}
 use Rattle.data_nodes.specs.Layout.{node_of, ids_of, inner}
-use Rattle.store_api.specs.Overlay.{steady_over}
 use Rattle.data_tree.specs.Needs.{HasTrees, Sets}
 use Rattle.data_tree.specs.Trees.{IsTree, Replaces, span}
 use Rattle.data_tree.proofs.Forests.{below_of, below_on, children_of}
 use Rattle.data_tree.proofs.Gathering.{next_child}
 use Rattle.data_tree.proofs.Levels.{span-some}
-use Rattle.data_tree.proofs.Loads.{store_in, changes_in, drawn_in, tx_holdings, tx_meanings, tx_laws}
+use Rattle.store_api.specs.Txs.{tx_holdings, tx_laws, tx_meanings, tx_steady}
 use Rattle.data_tree.proofs.Puts.{below_same, keeps_below, keeps_same}
 use Rattle.tree_cutting.specs.Cutting.{OnlyBorder, IsCut, MayCutNode, MayCutTrees}
 use Rattle.tree_cutting.proofs.Cuts.{cut_at, cut_fits, lower_apart, lower_first, lower_is, lower_only, lower_rest, lower_there, room_enough}
@@ -32,7 +31,7 @@ lower-returns-in-Err-clause-outcome g t c =
     let H0 = g.S.Blocks.holdings in
     let H = tx_holdings H0 in
     let laws = tx_laws M H0 g.met.S.Blocks.lawful in
-    let steady = steady_over store_in changes_in drawn_in M H0 g.met.S.Blocks.steady in
+    let steady = tx_steady M H0 g.met.S.Blocks.steady in
     let a = c.args.tx.now in
     let b = c.load_at.new.tx in
     let root = c.args.root.now.0 in
@@ -56,7 +55,7 @@ lower-returns-in-Err-cut_root-clause-outcome g t c =
     let H0 = g.S.Blocks.holdings in
     let H = tx_holdings H0 in
     let laws = tx_laws M H0 g.met.S.Blocks.lawful in
-    let steady = steady_over store_in changes_in drawn_in M H0 g.met.S.Blocks.steady in
+    let steady = tx_steady M H0 g.met.S.Blocks.steady in
     let a = c.args.tx.now in
     let b = c.load_at.new.tx in
     let root = c.args.root.now.0 in
@@ -86,7 +85,7 @@ lower-returns-in-Err-remove_loaded-clause-outcome g t c =
     let H0 = g.S.Blocks.holdings in
     let H = tx_holdings H0 in
     let laws = tx_laws M H0 g.met.S.Blocks.lawful in
-    let steady = steady_over store_in changes_in drawn_in M H0 g.met.S.Blocks.steady in
+    let steady = tx_steady M H0 g.met.S.Blocks.steady in
     let a = c.args.tx.now in
     let b = c.load_at.new.tx in
     let root = c.args.root.now.0 in
@@ -118,7 +117,7 @@ lower-returns-clause-outcome g t c =
     let H0 = g.S.Blocks.holdings in
     let H = tx_holdings H0 in
     let laws = tx_laws M H0 g.met.S.Blocks.lawful in
-    let steady = steady_over store_in changes_in drawn_in M H0 g.met.S.Blocks.steady in
+    let steady = tx_steady M H0 g.met.S.Blocks.steady in
     let a = c.args.tx.now in
     let b = c.load_at.new.tx in
     let root = c.args.root.now.0 in

@@ -4,10 +4,10 @@ use Rattle.std.specs.FinMap.{get}
 use Rattle.block_id.specs.declared.id.BlockId.{BlockId}
 use Rattle.outcome.specs.Outcome.{first_, idle, answered, passed}
 use Rattle.data_nodes.specs.Layout.{node_of, ids_of, leaf, inner, fan_out, FitsPayload}
-use Rattle.store_api.specs.Overlay.{steady_over, changed_over}
+use Rattle.store_api.specs.Overlay.{changed_over}
 use Rattle.data_tree.specs.Needs.{HasBelow, HasTrees}
 use Rattle.data_tree.specs.Trees.{span, depth_in}
-use Rattle.data_tree.proofs.Loads.{store_in, changes_in, drawn_in, tx_holdings, tx_laws}
+use Rattle.store_api.specs.Txs.{changes_in, drawn_in, store_in, tx_holdings, tx_laws, tx_steady}
 use Rattle.data_tree.proofs.Forests.{children_of, leaf_is, stays-same, stays-then}
 use Rattle.data_tree.proofs.Levels.{span-some}
 use Rattle.data_tree.proofs.Puts.{below_then, keeps_below, keeps_same, memory_after, memory_first, unforged_on}
@@ -65,7 +65,7 @@ grown_node-returns-in-Err-grown_inner-clause-outcome g t c =
 
 pub grown_inner-grown_children-requires-clause-room : goal.grown_inner-grown_children-requires-clause-room
 grown_inner-grown_children-requires-clause-room g t c =
-    let steady = steady_over store_in changes_in drawn_in g.S.Blocks.meanings g.S.Blocks.holdings g.met.S.Blocks.steady in
+    let steady = tx_steady g.S.Blocks.meanings g.S.Blocks.holdings g.met.S.Blocks.steady in
     omega (arith, span-some ((tx_holdings g.S.Blocks.holdings).payload c.args.tx.now) c.args.level.depth (steady.at_least c.args.tx.now c.requires.intact), c.requires.level)
 
 pub grown_inner-grown_children-requires-clause-places : goal.grown_inner-grown_children-requires-clause-places
@@ -81,7 +81,7 @@ grown_inner-grown_children-requires-clause-small g t c =
 pub grown_inner-returns-in-Err-clause-outcome : goal.grown_inner-returns-in-Err-clause-outcome
 grown_inner-returns-in-Err-clause-outcome g t c =
     let H = tx_holdings g.S.Blocks.holdings in
-    let steady = steady_over store_in changes_in drawn_in g.S.Blocks.meanings g.S.Blocks.holdings g.met.S.Blocks.steady in
+    let steady = tx_steady g.S.Blocks.meanings g.S.Blocks.holdings g.met.S.Blocks.steady in
     let a = c.args.tx.now in
     let children = c.args.children.now in
     passed (first_ {N = HasTrees H a c.args.level.depth (ids_of children)} {R = λ _ _. Unit {0}} (λ n. split_tree n (split_of {H = H} {a = a} children c.requires.some (steady.at_least a c.requires.intact) n)) c.in-Err.ensures.outcome (λ _ _ _. tt))
@@ -91,7 +91,7 @@ grown_inner-returns-in-Err-grown_node-clause-outcome g t c =
     let M = g.S.Blocks.meanings in
     let H0 = g.S.Blocks.holdings in
     let laws = tx_laws M H0 g.met.S.Blocks.lawful in
-    let steady = steady_over store_in changes_in drawn_in M H0 g.met.S.Blocks.steady in
+    let steady = tx_steady M H0 g.met.S.Blocks.steady in
     let a = c.args.tx.now in
     let d = c.grown_node.new.tx in
     passed (last_then M H0 laws a c.load_at.new.tx d c.args.children.now c.requires.some (steady.at_least a c.requires.intact) c.in-Ok.ensures.outcome c.load_at.ensures.stays c.in-Err-grown_node.ensures.outcome)
@@ -101,7 +101,7 @@ grown_inner-returns-in-Err-put_node-clause-outcome g t c =
     let M = g.S.Blocks.meanings in
     let H0 = g.S.Blocks.holdings in
     let laws = tx_laws M H0 g.met.S.Blocks.lawful in
-    let steady = steady_over store_in changes_in drawn_in M H0 g.met.S.Blocks.steady in
+    let steady = tx_steady M H0 g.met.S.Blocks.steady in
     let a = c.args.tx.now in
     let d = c.grown_node.new.tx in
     memory_after M H0 a d c.put_node.new.tx c.put_node.ensures.store c.put_node.ensures.seed c.put_node.ensures.intact (last_then M H0 laws a c.load_at.new.tx d c.args.children.now c.requires.some (steady.at_least a c.requires.intact) c.in-Ok.ensures.outcome c.load_at.ensures.stays c.in-Ok-grown_node.ensures.outcome)
@@ -111,7 +111,7 @@ grown_inner-returns-clause-outcome g t c =
     let M = g.S.Blocks.meanings in
     let H0 = g.S.Blocks.holdings in
     let laws = tx_laws M H0 g.met.S.Blocks.lawful in
-    let steady = steady_over store_in changes_in drawn_in M H0 g.met.S.Blocks.steady in
+    let steady = tx_steady M H0 g.met.S.Blocks.steady in
     let a = c.args.tx.now in
     let d = c.grown_node.new.tx in
     memory_after M H0 a d c.grown_children.new.tx (c.grown_children.ensures.store ∙ c.put_node.ensures.store) (c.grown_children.ensures.seed ∙ c.put_node.ensures.seed) c.grown_children.ensures.intact (last_then M H0 laws a c.load_at.new.tx d c.args.children.now c.requires.some (steady.at_least a c.requires.intact) c.in-Ok.ensures.outcome c.load_at.ensures.stays c.in-Ok-grown_node.ensures.outcome)
@@ -122,7 +122,7 @@ grown_inner-returns-in-Ok-grown_children-clause-outcome g t c =
     let H0 = g.S.Blocks.holdings in
     let H = tx_holdings H0 in
     let laws = tx_laws M H0 g.met.S.Blocks.lawful in
-    let steady = steady_over store_in changes_in drawn_in M H0 g.met.S.Blocks.steady in
+    let steady = tx_steady M H0 g.met.S.Blocks.steady in
     let a = c.args.tx.now in
     let b = c.load_at.new.tx in
     let d = c.grown_node.new.tx in
@@ -165,7 +165,7 @@ grown_inner-returns-in-Err-grown_node-clause-only g t c n s h q there =
     let M = g.S.Blocks.meanings in
     let H0 = g.S.Blocks.holdings in
     let laws = tx_laws M H0 g.met.S.Blocks.lawful in
-    let steady = steady_over store_in changes_in drawn_in M H0 g.met.S.Blocks.steady in
+    let steady = tx_steady M H0 g.met.S.Blocks.steady in
     let a = c.args.tx.now in
     let d = c.grown_node.new.tx in
     inner_only M H0 laws a c.load_at.new.tx d c.args.children.now c.requires.some (steady.at_least a c.requires.intact) c.in-Ok.ensures.outcome c.load_at.ensures.stays c.load_at.ensures.overlay c.grown_node.ensures.outcome.loaded c.grown_node.ensures.only n s h q there
@@ -175,7 +175,7 @@ grown_inner-returns-in-Err-put_node-clause-only g t c n s h q there =
     let M = g.S.Blocks.meanings in
     let H0 = g.S.Blocks.holdings in
     let laws = tx_laws M H0 g.met.S.Blocks.lawful in
-    let steady = steady_over store_in changes_in drawn_in M H0 g.met.S.Blocks.steady in
+    let steady = tx_steady M H0 g.met.S.Blocks.steady in
     let a = c.args.tx.now in
     let d = c.grown_node.new.tx in
     let one = inner_only M H0 laws a c.load_at.new.tx d c.args.children.now c.requires.some (steady.at_least a c.requires.intact) c.in-Ok.ensures.outcome c.load_at.ensures.stays c.load_at.ensures.overlay c.grown_node.ensures.outcome.loaded c.grown_node.ensures.only n s (unforged_on M a d c.put_node.new.tx c.put_node.ensures.store h) q there in
@@ -186,7 +186,7 @@ grown_inner-returns-in-Ok-grown_children-clause-only g t c n s h q there =
     let M = g.S.Blocks.meanings in
     let H0 = g.S.Blocks.holdings in
     let laws = tx_laws M H0 g.met.S.Blocks.lawful in
-    let steady = steady_over store_in changes_in drawn_in M H0 g.met.S.Blocks.steady in
+    let steady = tx_steady M H0 g.met.S.Blocks.steady in
     let a = c.args.tx.now in
     let d = c.grown_node.new.tx in
     let f = c.grown_children.new.tx in
@@ -198,7 +198,7 @@ grown_inner-returns-clause-only g t c n s h q there =
     let M = g.S.Blocks.meanings in
     let H0 = g.S.Blocks.holdings in
     let laws = tx_laws M H0 g.met.S.Blocks.lawful in
-    let steady = steady_over store_in changes_in drawn_in M H0 g.met.S.Blocks.steady in
+    let steady = tx_steady M H0 g.met.S.Blocks.steady in
     let a = c.args.tx.now in
     let d = c.grown_node.new.tx in
     let f = c.grown_children.new.tx in

@@ -4,11 +4,10 @@ use Rattle.std.proofs.lemmas.List.{length-drop, length-map, take_all}
 use Rattle.std.proofs.Math.Nat.{mul-le-mul_right}
 use Rattle.block_id.specs.declared.id.BlockId.{BlockId}
 use Rattle.data_nodes.specs.Layout.{fan_out, ids_of, inner, node_of, FitsPayload}
-use Rattle.store_api.specs.Overlay.{steady_over}
 use Rattle.data_tree.specs.Needs.{BuiltTrees}
 use Rattle.data_tree.specs.Trees.{span}
 use Rattle.data_tree.proofs.Levels.{span-some}
-use Rattle.data_tree.proofs.Loads.{store_in, changes_in, drawn_in, tx_holdings}
+use Rattle.store_api.specs.Txs.{tx_holdings, tx_steady}
 use Rattle.data_tree.proofs.Puts.{keeps_same}
 use Rattle.tree_growing.specs.Growing.{Grown, MayGrow, Raised}
 use Rattle.tree_growing.proofs.Rising.{filled_up, no_ok, raise_more, risen}
@@ -16,17 +15,17 @@ use Rattle.tree_growing.proofs.raising.+raised.Goals as goal
 
 pub grown_children-requires-clause-room : goal.grown_children-requires-clause-room
 grown_children-requires-clause-room g t c =
-    let steady = steady_over store_in changes_in drawn_in g.S.Blocks.meanings g.S.Blocks.holdings g.met.S.Blocks.steady in
+    let steady = tx_steady g.S.Blocks.meanings g.S.Blocks.holdings g.met.S.Blocks.steady in
     omega (arith, span-some ((tx_holdings g.S.Blocks.holdings).payload c.args.tx.now) c.args.level.depth (steady.at_least c.args.tx.now c.requires.intact), c.requires.level)
 
 pub grown_children-requires-clause-places : goal.grown_children-requires-clause-places
 grown_children-requires-clause-places g t c =
-    let steady = steady_over store_in changes_in drawn_in g.S.Blocks.meanings g.S.Blocks.holdings g.met.S.Blocks.steady in
+    let steady = tx_steady g.S.Blocks.meanings g.S.Blocks.holdings g.met.S.Blocks.steady in
     omega (arith, c.payload.ensures, steady.at_least c.put_new.new.tx c.in_ok-first.ensures.intact)
 
 pub grown_children-requires-clause-small : goal.grown_children-requires-clause-small
 grown_children-requires-clause-small g t c =
-    let steady = steady_over store_in changes_in drawn_in g.S.Blocks.meanings g.S.Blocks.holdings g.met.S.Blocks.steady in
+    let steady = tx_steady g.S.Blocks.meanings g.S.Blocks.holdings g.met.S.Blocks.steady in
     let fan = fan_out (g.S.Blocks.holdings.payload c.put_new.new.tx.store) in
     let most : fan ≤ 65536 = omega (arith, steady.at_most c.put_new.new.tx c.in_ok-first.ensures.intact) in
     let much : fan * c.args.level.room ≤ 65536 * c.args.level.room = mul-le-mul_right c.args.level.room most in
@@ -36,7 +35,7 @@ pub returns : goal.returns
 returns g t c =
     let H0 = g.S.Blocks.holdings in
     let H = tx_holdings H0 in
-    let steady = steady_over store_in changes_in drawn_in g.S.Blocks.meanings H0 g.met.S.Blocks.steady in
+    let steady = tx_steady g.S.Blocks.meanings H0 g.met.S.Blocks.steady in
     let a = c.args.tx.now in
     let b = c.put_new.new.tx in
     let d = c.grown_children.new.tx in

@@ -6,7 +6,7 @@ use Rattle.data_nodes.specs.Layout.{node_of, FitsPayload}
 use Rattle.store_api.specs.Overlay.{changed_over}
 use Rattle.data_tree.specs.Trees.{IsDepth, span}
 use Rattle.data_tree.proofs.Changes.{keeps-then}
-use Rattle.data_tree.proofs.Loads.{store_in, changes_in, drawn_in, tx_holdings, tx_laws}
+use Rattle.store_api.specs.Txs.{changes_in, drawn_in, store_in, tx_holdings, tx_laws}
 use Rattle.data_tree.proofs.Forests.{stays-then}
 use Rattle.data_tree.proofs.Puts.{below_then, keeps_below, keeps_same, memory_after, unforged_on}
 use Rattle.tree_growing.specs.Growing.{Raised}

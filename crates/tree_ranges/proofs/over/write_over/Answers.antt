@@ -2,9 +2,8 @@ use Rattle.std.proofs.Common.{◌≡◌, ◌≤◌, ◌<◌, ◌+◌, ◌-◌, �
 use Rattle.std.proofs.lemmas.List.{length-append, length-drop, length-replicate}
 use Rattle.block_id.specs.Contents.{zeros, written}
 use Rattle.outcome.specs.Outcome.{first_, no_memory, then_, passed}
-use Rattle.store_api.specs.Overlay.{steady_over}
 use Rattle.data_tree.specs.Roots.{IsNewRoot}
-use Rattle.data_tree.proofs.Loads.{store_in, changes_in, drawn_in, tx_holdings, tx_laws}
+use Rattle.store_api.specs.Txs.{tx_holdings, tx_laws, tx_steady}
 use Rattle.data_tree.proofs.Forests.{stays-then}
 use Rattle.data_tree.proofs.Puts.{keeps_below, unforged_before}
 use Rattle.tree_ranges.specs.Border.{Grew}
@@ -68,7 +67,7 @@ returns-in-Err-clause-grown g c n s h =
     let H0 = g.S.Blocks.holdings in
     let H = tx_holdings H0 in
     let laws = tx_laws M H0 g.met.S.Blocks.lawful in
-    let steady = steady_over store_in changes_in drawn_in M H0 g.met.S.Blocks.steady in
+    let steady = tx_steady M H0 g.met.S.Blocks.steady in
     let a = c.args.tx.now in
     let d = c.write_below.new.tx in
     let root = c.args.root.now.0 in
@@ -93,7 +92,7 @@ returns-in-Err-after_zeros-clause-grown g c n s h =
     let H0 = g.S.Blocks.holdings in
     let H = tx_holdings H0 in
     let laws = tx_laws M H0 g.met.S.Blocks.lawful in
-    let steady = steady_over store_in changes_in drawn_in M H0 g.met.S.Blocks.steady in
+    let steady = tx_steady M H0 g.met.S.Blocks.steady in
     let a = c.args.tx.now in
     let d = c.write_below.new.tx in
     let root = c.args.root.now.0 in
@@ -118,7 +117,7 @@ returns-clause-grown g c n s h =
     let H0 = g.S.Blocks.holdings in
     let H = tx_holdings H0 in
     let laws = tx_laws M H0 g.met.S.Blocks.lawful in
-    let steady = steady_over store_in changes_in drawn_in M H0 g.met.S.Blocks.steady in
+    let steady = tx_steady M H0 g.met.S.Blocks.steady in
     let a = c.args.tx.now in
     let d = c.write_below.new.tx in
     let root = c.args.root.now.0 in

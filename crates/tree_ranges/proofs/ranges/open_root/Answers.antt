@@ -2,7 +2,7 @@ use Rattle.std.proofs.Common.{◌≡◌, true, length, sym, ap, subst, ◌∙◌
 use Rattle.data_nodes.specs.Layout.{node_of, FitsPayload}
 use Rattle.outcome.specs.Outcome.{then_, failed_, answered, passed}
 use Rattle.data_tree.specs.Trees.{span}
-use Rattle.data_tree.proofs.Loads.{tx_holdings, tx_laws}
+use Rattle.store_api.specs.Txs.{tx_holdings, tx_laws}
 use Rattle.data_tree.proofs.Forests.{below_on, below_root, stays-then}
 use Rattle.data_tree.proofs.Puts.{unforged_before}
 use Rattle.tree_ranges.proofs.ranges.open_root.Goals as goal

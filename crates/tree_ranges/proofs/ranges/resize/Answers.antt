@@ -4,11 +4,10 @@ use Rattle.std.proofs.lemmas.List.{take_all, length-replicate}
 use Rattle.block_id.specs.Contents.{resized, zeros}
 use Rattle.outcome.specs.Outcome.{answered, no_memory, passed, then_}
 use Rattle.data_nodes.specs.Layout.{node_of}
-use Rattle.store_api.specs.Overlay.{steady_over}
 use Rattle.data_tree.specs.Roots.{IsNewRoot}
 use Rattle.data_tree.specs.Trees.{IsDepth, span}
 use Rattle.data_tree.proofs.Forests.{alone_root, below_on, below_root, stays-then}
-use Rattle.data_tree.proofs.Loads.{store_in, changes_in, drawn_in, tx_holdings, tx_laws}
+use Rattle.store_api.specs.Txs.{tx_holdings, tx_laws, tx_steady}
 use Rattle.data_tree.proofs.Puts.{keeps_below, on_any, unforged_before}
 use Rattle.tree_cutting.specs.Cutting.{OnlyBorder, MayCutNode}
 use Rattle.tree_ranges.proofs.Borders.{grew_nothing, grew_since}
@@ -56,7 +55,7 @@ returns-in-Err-after_zeros-clause-outcome g c = no_memory c.in-Ok.ensures.outcom
 
 pub cut_root-requires-clause-low : goal.cut_root-requires-clause-low
 cut_root-requires-clause-low g c =
-    let steady = steady_over store_in changes_in drawn_in g.S.Blocks.meanings g.S.Blocks.holdings g.met.S.Blocks.steady in
+    let steady = tx_steady g.S.Blocks.meanings g.S.Blocks.holdings g.met.S.Blocks.steady in
     let H = tx_holdings g.S.Blocks.holdings in
     let b = c.open_root.new.tx in
     let room : c.in-Ok.found.1.room ≡ span (H.payload b) c.in-Ok.found.1.depth = c.in-Ok.ensures.room ∙ ap (λ p. span p c.in-Ok.found.1.depth) (sym c.open_root.ensures.stays.payload) in

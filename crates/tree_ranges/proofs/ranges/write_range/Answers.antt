@@ -3,9 +3,8 @@ use Rattle.std.specs.FinMap as fin
 use Rattle.block_id.specs.Contents.{pieces}
 use Rattle.outcome.specs.Outcome.{idle, then_, passed}
 use Rattle.data_nodes.specs.Layout.{node_of, room, FitsPayload}
-use Rattle.store_api.specs.Overlay.{steady_over}
 use Rattle.data_tree.specs.Trees.{span}
-use Rattle.data_tree.proofs.Loads.{store_in, changes_in, drawn_in, tx_holdings, tx_laws}
+use Rattle.store_api.specs.Txs.{tx_holdings, tx_laws, tx_steady}
 use Rattle.data_tree.proofs.Counting.{is_zero, not_zero}
 use Rattle.data_tree.proofs.Forests.{stays-same, stays-then}
 use Rattle.data_tree.proofs.Puts.{keeps_below, on_any, unforged_before}
@@ -64,7 +63,7 @@ returns-then-from-bytes-clause-few g c n s h =
     let b = c.open_root.new.tx in
     let d = c.write_in.new.tx in
     let k = length c.args.bytes.now in
-    let steady = steady_over store_in changes_in drawn_in g.S.Blocks.meanings g.S.Blocks.holdings g.met.S.Blocks.steady in
+    let steady = tx_steady g.S.Blocks.meanings g.S.Blocks.holdings g.met.S.Blocks.steady in
     let least = steady.at_least b c.open_root.ensures.outcome.intact in
     let few = cost_few c.write_in.ensures.cost (pieces k (room (H.payload b))) (enough k (room (H.payload b)) (omega (arith, least))) in
     subst (λ o. fin.len d.overlay ≤ fin.len o + (pieces k (room (H.payload a)) + 1)) c.open_root.ensures.overlay (subst (λ p. fin.len d.overlay ≤ fin.len b.overlay + (pieces k (room p) + 1)) c.open_root.ensures.stays.payload few)
@@ -73,7 +72,7 @@ pub returns-then-from-bytes-clause-ids : goal.returns-then-from-bytes-clause-ids
 returns-then-from-bytes-clause-ids g c n s h =
     let H = tx_holdings g.S.Blocks.holdings in
     let a = c.args.tx.now in
-    let steady = steady_over store_in changes_in drawn_in g.S.Blocks.meanings g.S.Blocks.holdings g.met.S.Blocks.steady in
+    let steady = tx_steady g.S.Blocks.meanings g.S.Blocks.holdings g.met.S.Blocks.steady in
     ids_same g.S.Blocks.holdings a c.write_in.new.tx c.args.root.now.0 c.args.from (length c.args.bytes.now) (steady.at_least a c.requires.intact) n.tree n.fits (stays-then c.open_root.ensures.below c.write_in.ensures.below)
     (λ q there. c.write_in.ensures.there q (c.open_root.ensures.stays.ids q ∙ there)) (returns-then-from-bytes-clause-inside g c n s h)
 

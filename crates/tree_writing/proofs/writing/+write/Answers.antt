@@ -3,14 +3,13 @@ use Rattle.block_id.specs.declared.id.BlockId.{BlockId}
 use Rattle.outcome.specs.Outcome.{first_, idle, then_, failed_, answered}
 use Rattle.data_nodes.specs.Layout.{node_of, ids_of, leaf, inner, room, fan_out, FitsPayload, IsNode}
 use Rattle.tree_writing.specs.Writing.{MayWrite, MayWriteNode, MayWriteTrees, LeafCost}
-use Rattle.data_tree.proofs.Loads.{store_in, changes_in, drawn_in, tx_holdings, tx_laws}
+use Rattle.store_api.specs.Txs.{tx_holdings, tx_laws, tx_steady}
 use Rattle.data_tree.proofs.Forests.{below_of, root_apart, children_of, leaf_is, stays-same, stays-then}
 use Rattle.data_tree.proofs.Gathering.{next_child, no_child, more_children, all_children}
 use Rattle.data_tree.proofs.Counting.{is_zero}
 use Rattle.data_tree.proofs.Levels.{span-some}
 use Rattle.tree_writing.proofs.Costs.{cost_start, cost_next, cost_done, cost_leaf, cost_none, cost_same}
 use Rattle.std.specs.FinMap as fin
-use Rattle.store_api.specs.Overlay.{steady_over}
 use Rattle.std.specs.Prelude.{min}
 use Rattle.data_tree.specs.Trees.{span, depth_in}
 use Rattle.std.proofs.lemmas.List.{length-append}
@@ -60,7 +59,7 @@ write_in-returns-in-Inner-clause-outcome g t c =
 pub write_children-loop-child-init : goal.write_children-loop-child-init
 write_children-loop-child-init g t c =
     let laws = tx_laws g.S.Blocks.meanings g.S.Blocks.holdings g.met.S.Blocks.lawful in
-    let steady = steady_over store_in changes_in drawn_in g.S.Blocks.meanings g.S.Blocks.holdings g.met.S.Blocks.steady in
+    let steady = tx_steady g.S.Blocks.meanings g.S.Blocks.holdings g.met.S.Blocks.steady in
     record {
       outcome = idle laws c.args.tx.now _ c.requires.intact (λ n. write_start c.args.from c.args.bytes.now n.trees n.inside);
       cost = cost_start (room ((tx_holdings g.S.Blocks.holdings).payload c.args.tx.now)) (fin.len c.args.tx.now.overlay) c.args.from (length c.args.bytes.now) c.args.level.room (omega (arith, steady.at_least c.args.tx.now c.requires.intact));
@@ -86,7 +85,7 @@ pub write_children-loop-child-preserved : goal.write_children-loop-child-preserv
 write_children-loop-child-preserved g t c =
     let H = tx_holdings g.S.Blocks.holdings in
     let laws = tx_laws g.S.Blocks.meanings g.S.Blocks.holdings g.met.S.Blocks.lawful in
-    let steady = steady_over store_in changes_in drawn_in g.S.Blocks.meanings g.S.Blocks.holdings g.met.S.Blocks.steady in
+    let steady = tx_steady g.S.Blocks.meanings g.S.Blocks.holdings g.met.S.Blocks.steady in
     let inv = c.loop-child.invariant in
     let i = c.loop-child.child-index in
     let child : BlockId = get_or c.args.children.now i (record { 0 = [] }) in
@@ -125,7 +124,7 @@ write_children-returns-clause-outcome g t c =
 pub write_children-returns-in-Err-clause-cost : goal.write_children-returns-in-Err-clause-cost
 write_children-returns-in-Err-clause-cost g t c =
     let H = tx_holdings g.S.Blocks.holdings in
-    let steady = steady_over store_in changes_in drawn_in g.S.Blocks.meanings g.S.Blocks.holdings g.met.S.Blocks.steady in
+    let steady = tx_steady g.S.Blocks.meanings g.S.Blocks.holdings g.met.S.Blocks.steady in
     let inv = c.loop-child.invariant in
     let sized = c.requires.level ∙ ap (λ p. span p c.args.level.depth) (sym inv.below.payload) in
     let cut = c.min.ensures ∙ ap (λ k. min k (length c.loop-child.rest.now)) c.saturating_sub.ensures in
@@ -143,7 +142,7 @@ write_children-returns-clause-cost g t c =
 pub write_in-returns-in-Leaf-clause-cost : goal.write_in-returns-in-Leaf-clause-cost
 write_in-returns-in-Leaf-clause-cost g t c =
     let P = (tx_holdings g.S.Blocks.holdings).payload c.args.tx.now in
-    let steady = steady_over store_in changes_in drawn_in g.S.Blocks.meanings g.S.Blocks.holdings g.met.S.Blocks.steady in
+    let steady = tx_steady g.S.Blocks.meanings g.S.Blocks.holdings g.met.S.Blocks.steady in
     let leaf_at : leaf c.deref.result.now ≡ node_of c.args.node.now = ap leaf c.deref.ensures.value ∙ ap node_of (sym c.in-Leaf.is) in
     let low : 0 ≡ c.args.level.depth = ap depth_in leaf_at ∙ c.requires.depth in
     let all : c.args.level.room ≡ room P = c.requires.level ∙ ap (span P) (sym low) in
@@ -152,13 +151,13 @@ write_in-returns-in-Leaf-clause-cost g t c =
 pub write_below-returns-then-is_empty-clause-cost : goal.write_below-returns-then-is_empty-clause-cost
 write_below-returns-then-is_empty-clause-cost g t c =
     let P = (tx_holdings g.S.Blocks.holdings).payload c.args.tx.now in
-    let steady = steady_over store_in changes_in drawn_in g.S.Blocks.meanings g.S.Blocks.holdings g.met.S.Blocks.steady in
+    let steady = tx_steady g.S.Blocks.meanings g.S.Blocks.holdings g.met.S.Blocks.steady in
     cost_none (room P) _ _ c.args.from (length c.args.bytes.now) c.args.level.room (omega (arith, steady.at_least c.args.tx.now c.requires.intact)) (omega arith)
 
 pub write_below-returns-in-Err-clause-cost : goal.write_below-returns-in-Err-clause-cost
 write_below-returns-in-Err-clause-cost g t c =
     let P = (tx_holdings g.S.Blocks.holdings).payload c.args.tx.now in
-    let steady = steady_over store_in changes_in drawn_in g.S.Blocks.meanings g.S.Blocks.holdings g.met.S.Blocks.steady in
+    let steady = tx_steady g.S.Blocks.meanings g.S.Blocks.holdings g.met.S.Blocks.steady in
     cost_none (room P) _ _ c.args.from (length c.args.bytes.now) c.args.level.room (omega (arith, steady.at_least c.args.tx.now c.requires.intact)) (omega (arith, ap fin.len c.load_at.ensures.overlay))
 
 pub write_below-returns-in-Ok-clause-cost : goal.write_below-returns-in-Ok-clause-cost
@@ -176,7 +175,7 @@ pub write_children-returns-in-Err-clause-only : goal.write_children-returns-in-E
 write_children-returns-in-Err-clause-only g t c =
     let H = tx_holdings g.S.Blocks.holdings in
     let laws = tx_laws g.S.Blocks.meanings g.S.Blocks.holdings g.met.S.Blocks.lawful in
-    let steady = steady_over store_in changes_in drawn_in g.S.Blocks.meanings g.S.Blocks.holdings g.met.S.Blocks.steady in
+    let steady = tx_steady g.S.Blocks.meanings g.S.Blocks.holdings g.met.S.Blocks.steady in
     let inv = c.loop-child.invariant in
     let i = c.loop-child.child-index in
     let child : BlockId = get_or c.args.children.now i (record { 0 = [] }) in

@@ -7,7 +7,7 @@ use Rattle.store_api.specs.Holdings.{Stays}
 use Rattle.tree_writing.specs.Leaves.{OnlyAmong}
 use Rattle.tree_writing.specs.Writing.{MayWriteTrees, WriteRest, CostRest, written_at}
 use Rattle.std.specs.FinMap as fin
-use Rattle.data_tree.proofs.Loads.{tx_holdings, tx_meanings}
+use Rattle.store_api.specs.Txs.{tx_holdings, tx_meanings}
 use Rattle.tree_writing.proofs.writing.+write.Given as goal
 
 abbrev pub decreases-write_below : goal.decreases-write_below

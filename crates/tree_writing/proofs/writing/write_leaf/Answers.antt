@@ -3,7 +3,7 @@ use Rattle.outcome.specs.Outcome.{idle}
 use Rattle.data_nodes.specs.Layout.{leaf}
 use Rattle.store_api.specs.Overlay.{changed_over}
 use Rattle.data_tree.specs.Needs.{SetsNode}
-use Rattle.data_tree.proofs.Loads.{store_in, changes_in, drawn_in, tx_holdings, tx_laws}
+use Rattle.store_api.specs.Txs.{changes_in, drawn_in, store_in, tx_holdings, tx_laws}
 use Rattle.data_tree.proofs.Puts.{memory_first}
 use Rattle.tree_writing.proofs.Leaves.{others_or}
 use Rattle.tree_writing.proofs.writing.write_leaf.Goals as goal
