@@ -1,14 +1,14 @@
 // Lines of a source that is read in blocks.
-ghost use Rattle.std.specs.Prelude.{◌≡◌, ◌⊎◌, ◌≤◌, ◌<◌, ◌+◌, ◌^◌, ℕ, List, [], ◌∷◌, ◌++◌, true, false, length, take, drop, slice_range, IfOk, IsOk, OnOk, OnErr, MatchOption, MatchBool, IsTrue};
+ghost use Rattle.std.specs.Prelude.{◌≡◌, ◌≤◌, ◌<◌, ◌+◌, ◌^◌, ℕ, List, [], ◌∷◌, ◌++◌, true, false, length, take, drop, slice_range, IfOk, OnOk, OnErr, MatchOption, MatchBool, IsTrue};
 ghost use Rattle.std.specs.declared.option.Option.{Option};
 ghost use Rattle.std.specs.declared.option.Option.TheVariants.{None, Some};
 ghost use Rattle.std.specs.Option.{option_copied};
 ghost use Rattle.std.specs.List.{position};
 ghost use Rattle.outside.specs.Causes.{RoseBy};
 ghost use Rattle.outside.specs.Streams.{WereTaken, Ends};
-ghost use Rattle.line_io.specs.Asking.{ReadsLine, LooksAhead};
+ghost use Rattle.line_io.specs.Calls.{FaultsTell, NotesTruly, BlockIsAhead, BlockIsCounted, KeepsComing, ReadsOnce, IsOver, ShowsLine, ReadsAsNeeded, FillsPiece};
 ghost use Rattle.line_io.specs.Lines.{is_newline, IsUnbroken, kept_on};
-ghost use Rattle.line_io.specs.Reading.{Reading, fresh, coming, total, TookLine, TookAhead, ShowsFirst, ShowsUnended, remaining};
+ghost use Rattle.line_io.specs.Reading.{Reading, fresh, coming, TookLine, remaining};
 
 use crate::line_buffer::LineBuffer;
 use block_id::{Failed, Memory};
@@ -93,18 +93,11 @@ impl LineReader {
     fn fill<I: Source>(&mut self, input: &mut I) -> Result<bool, Failed>
         requires { self.old.ahead ≡ [] }
         ensures line { self.new.line ≡ self.old.line }
-        ensures came { IfOk result (λ some. coming self.new.ahead (I.rest input.new) ≡ I.rest input.old) }
+        ensures block { BlockIsAhead I.rest I.took self.old.ahead self.new.ahead input.old input.new result }
         ensures some { IfOk result (λ some. MatchBool some (0 < length self.new.ahead) (Ends (I.rest input.old) × (self.new.ahead ≡ []))) }
         ensures ended { IfOk result (λ some. MatchBool some (self.new.ended ≡ false) (self.new.ended ≡ true)) }
-        ensures gave { TookAhead self.old.ahead (I.rest input.old) (I.rest input.new) self.new.ahead }
-        ensures took { OnOk result (I.took input.old input.new self.new.ahead) }
-        ensures err { OnErr result (self.new.ahead ≡ []) }
-        ensures counted { total self.new.taken (I.rest input.new) ≡ total self.old.taken (I.rest input.old) }
-        ensures taken { self.new.taken ≡ self.old.taken + length self.new.ahead }
-        ensures most { self.new.taken ≤ 2 ^ 63 }
-        ensures grows { I.faults input.old ≤ I.faults input.new }
-        ensures cause { OnErr result (RoseBy 1 (I.faults input.old) (I.faults input.new) ⊎ (self.new.taken ≡ 2 ^ 63)) }
-        ensures quiet { OnOk result (I.faults input.new ≡ I.faults input.old) }
+        ensures counts { BlockIsCounted self.old self.new (I.rest input.old) (I.rest input.new) }
+        ensures faults { FaultsTell (I.faults input.old) (I.faults input.new) self.new.taken result }
     {
         let left = MOST - self.taken;
         if left == 0 {
@@ -123,20 +116,12 @@ impl LineReader {
     fn look_ahead<I: Source>(&mut self, input: &mut I) -> Result<bool, Failed>
         requires { self.old.ended ≡ true → Ends (coming self.old.ahead (I.rest input.old)) }
         ensures line { self.new.line ≡ self.old.line }
-        ensures came { IfOk result (λ some. coming self.new.ahead (I.rest input.new) ≡ coming self.old.ahead (I.rest input.old)) }
+        ensures bytes { KeepsComing self.old.ahead self.new.ahead (I.rest input.old) (I.rest input.new) result }
         ensures some { IfOk result (λ some. MatchBool some (0 < length self.new.ahead) (Ends (coming self.new.ahead (I.rest input.new)))) }
-        ensures gave { TookAhead self.old.ahead (I.rest input.old) (I.rest input.new) self.new.ahead }
-        ensures looks { OnOk result (LooksAhead I.took self.old.ahead self.new.ahead input.old input.new) }
-        ensures there { 0 < length self.old.ahead → IsOk result }
-        ensures after_end { self.old.ended ≡ true → (input.new ≡ input.old) × (self.new.ended ≡ true) }
-        ensures empty { IfOk result (λ some. some ≡ false → self.new.ahead ≡ []) }
-        ensures err { OnErr result (self.new.ahead ≡ []) }
-        ensures ended { IfOk result (λ some. self.new.ended ≡ true → Ends (coming self.new.ahead (I.rest input.new))) }
-        ensures counted { total self.new.taken (I.rest input.new) ≡ total self.old.taken (I.rest input.old) }
-        ensures stays { IfOk result (λ some. remaining self.new ≡ remaining self.old) }
-        ensures grows { I.faults input.old ≤ I.faults input.new }
-        ensures cause { OnErr result (RoseBy 1 (I.faults input.old) (I.faults input.new) ⊎ (self.new.taken ≡ 2 ^ 63)) }
-        ensures quiet { OnOk result (I.faults input.new ≡ I.faults input.old) }
+        ensures source { ReadsOnce I.took self.old self.new input.old input.new result }
+        ensures stays { OnOk result (remaining self.new ≡ remaining self.old) }
+        ensures notes { NotesTruly self.old self.new (I.rest input.old) (I.rest input.new) result }
+        ensures faults { FaultsTell (I.faults input.old) (I.faults input.new) self.new.taken result }
     {
         if self.start < self.end {
             return Ok(true);
@@ -176,20 +161,13 @@ impl LineReader {
         requires { self.old.ended ≡ true → Ends (coming self.old.ahead (I.rest input.old)) }
         ensures line { IfOk result (λ found. IsTrue found →
             TookLine (coming self.old.ahead (I.rest input.old)) self.new.line (coming self.new.ahead (I.rest input.new))) }
-        ensures none { IfOk result (λ found. found ≡ false → Ends (coming self.old.ahead (I.rest input.old))) }
-        ensures shown { ShowsFirst self.old.ahead (I.rest input.old) (I.rest input.new) self.new.line }
-        ensures unended { OnErr result (ShowsUnended self.old.ahead (I.rest input.old) (I.rest input.new) self.new.line) }
-        ensures over { IfOk result (λ found. found ≡ false → Ends (coming self.new.ahead (I.rest input.new))) }
-        ensures read { IfOk result (λ found. found ≡ false → Ends (I.rest input.new)) }
-        ensures ended { IfOk result (λ found. self.new.ended ≡ true → Ends (coming self.new.ahead (I.rest input.new))) }
-        ensures reads { OnOk result (ReadsLine I.took self.old.ahead input.old input.new) }
-        ensures line_ahead { (IsUnbroken self.old.ahead → ⊥) → input.new ≡ input.old }
-        ensures after_end { self.old.ended ≡ true → input.new ≡ input.old }
+        ensures none { IfOk result (λ found. found ≡ false →
+            IsOver (coming self.old.ahead (I.rest input.old)) (coming self.new.ahead (I.rest input.new)) (I.rest input.new)) }
+        ensures shows { ShowsLine self.old.ahead (I.rest input.old) (I.rest input.new) self.new.line result }
+        ensures source { ReadsAsNeeded I.took self.old input.old input.new result }
         ensures nearer { IfOk result (λ found. IsTrue found → remaining self.new < remaining self.old) }
-        ensures counted { total self.new.taken (I.rest input.new) ≡ total self.old.taken (I.rest input.old) }
-        ensures grows { I.faults input.old ≤ I.faults input.new }
-        ensures cause { OnErr result (RoseBy 1 (I.faults input.old) (I.faults input.new) ⊎ (self.new.taken ≡ 2 ^ 63)) }
-        ensures quiet { OnOk result (I.faults input.new ≡ I.faults input.old) }
+        ensures notes { NotesTruly self.old self.new (I.rest input.old) (I.rest input.new) result }
+        ensures faults { FaultsTell (I.faults input.old) (I.faults input.new) self.new.taken result }
     {
         self.line.clear();
         let mut is_empty = true;
@@ -226,16 +204,11 @@ impl LineReader {
     ) -> Result<usize, Failed>
         requires { self.old.ended ≡ true → Ends (coming self.old.ahead (I.rest input.old)) }
         ensures line { self.new.line ≡ self.old.line }
-        ensures bound { IfOk result (λ n. n ≤ length piece.new) }
-        ensures read { IfOk result (λ n. WereTaken (coming self.old.ahead (I.rest input.old)) (coming self.new.ahead (I.rest input.new)) (take n piece.new)) }
-        ensures short { IfOk result (λ n. n < length piece.new → Ends (coming self.new.ahead (I.rest input.new))) }
+        ensures bytes { IfOk result (λ n. FillsPiece (coming self.old.ahead (I.rest input.old)) (coming self.new.ahead (I.rest input.new)) piece.new n) }
         ensures gone { OnErr result ((part : List ℕ) × WereTaken (coming self.old.ahead (I.rest input.old)) (coming self.new.ahead (I.rest input.new)) part) }
-        ensures ended { IfOk result (λ n. self.new.ended ≡ true → Ends (coming self.new.ahead (I.rest input.new))) }
         ensures after_end { self.old.ended ≡ true → input.new ≡ input.old }
-        ensures counted { total self.new.taken (I.rest input.new) ≡ total self.old.taken (I.rest input.old) }
-        ensures grows { I.faults input.old ≤ I.faults input.new }
-        ensures cause { OnErr result (RoseBy 1 (I.faults input.old) (I.faults input.new) ⊎ (self.new.taken ≡ 2 ^ 63)) }
-        ensures quiet { OnOk result (I.faults input.new ≡ I.faults input.old) }
+        ensures notes { NotesTruly self.old self.new (I.rest input.old) (I.rest input.new) result }
+        ensures faults { FaultsTell (I.faults input.old) (I.faults input.new) self.new.taken result }
     {
         let mut len = 0;
         while len < piece.len() {

@@ -1,4 +1,4 @@
-use Rattle.std.proofs.Common.{◌≡◌, ◌≤◌, ◌<◌, ◌+◌, ◌++◌, ℕ, List, [], length, ap, ◌∙◌, arith, sym, subst, length-append}
+use Rattle.std.proofs.Common.{rules, ◌≡◌, ◌≤◌, ◌<◌, ◌+◌, ◌++◌, ℕ, List, [], length, ap, ◌∙◌, arith, sym, subst, length-append}
 use Rattle.std.specs.declared.option.Option.{Option}
 use Rattle.line_io.specs.Lines.{IsUnbroken, kept_on}
 use Rattle.line_io.specs.Reading.{Reading, ShowsUnended, total, remaining}
@@ -22,7 +22,7 @@ pub returns-then-take_piece-clause-line : goal.returns-then-take_piece-clause-li
 returns-then-take_piece-clause-line g c = λ t.
     let i = c.loop-self.invariant.part in
     let a = c.in_ok-look_ahead.ensures in
-    let p = Part-ahead _ _ _ _ _ _ _ i.0 i.1 a.line a.came in
+    let p = Part-ahead _ _ _ _ _ _ _ i.0 i.1 a.line a.bytes.came in
     let m = c.if-take_piece.ensures.piece in
     took_cut _ _ _ _ _ m.0 _ i.0 p m.1 m.2 m.3
 
@@ -30,71 +30,89 @@ pub loop-self-preserved : goal.loop-self-preserved
 loop-self-preserved g c =
     let i = c.loop-self.invariant.part in
     let a = c.in_ok-look_ahead.ensures in
-    let p = Part-ahead _ _ _ _ _ _ _ i.0 i.1 a.line a.came in
+    let p = Part-ahead _ _ _ _ _ _ _ i.0 i.1 a.line a.bytes.came in
     let m = c.if-take_piece.ensures.piece in
     record {
       part = part_of_taken _ _ c.args.self.now.ahead c.look_ahead.new.self c.take_piece.new.self _ i.0 _ p m.0 m.1 m.2 c.take_piece.ensures.taken
-          (at_true _ _ _ c.if-branch.true a.some) (omega (arith, i.3, a.stays)) (Taken-ahead _ _ _ i.0 _ _ _ i.4 a.gave);
-      ended = λ e. Ends-less _ _ _ m.1 (a.ended (sym c.take_piece.ensures.ended ∙ e));
-      counted = ap (λ n. total n (g.I.Source.rest c.look_ahead.new.input)) c.take_piece.ensures.taken ∙ (a.counted ∙ c.loop-self.invariant.counted);
-      asked = asked_more g.I.Source.took c.loop-self.is_empty _ _ c.look_ahead.new.self.ahead _ _ _ _ c.loop-self.invariant.asked a.looks m.0 (at_true _ _ _ c.if-branch.true a.some) m.1;
+          (at_true _ _ _ c.if-branch.true a.some) (omega (arith, i.3, a.stays)) (Taken-ahead _ _ _ i.0 _ _ _ i.4 a.bytes.gave);
+      ended = λ e. Ends-less _ _ _ m.1 (a.notes.ended (sym c.take_piece.ensures.ended ∙ e));
+      counted = ap (λ n. total n (g.I.Source.rest c.look_ahead.new.input)) c.take_piece.ensures.taken ∙ (a.notes.counted ∙ c.loop-self.invariant.counted);
+      asked = asked_more g.I.Source.took c.loop-self.is_empty _ _ c.look_ahead.new.self.ahead _ _ _ _ c.loop-self.invariant.asked a.source.looks m.0 (at_true _ _ _ c.if-branch.true a.some) m.1;
       after_end = λ e.
           let before = c.loop-self.invariant.after_end e in
-          let late = a.after_end before.1 in (late.0 ∙ before.0, c.take_piece.ensures.ended ∙ late.1);
-      quiet = a.quiet ∙ c.loop-self.invariant.quiet;
+          let late = a.source.after_end before.1 in (late.0 ∙ before.0, c.take_piece.ensures.ended ∙ late.1);
+      quiet = a.faults.quiet ∙ c.loop-self.invariant.quiet;
     }
 
 pub returns-clause-line : goal.returns-clause-line
 returns-clause-line g c = λ t.
     let i = c.loop-self.invariant.part in
     let a = c.in_ok-look_ahead.ensures in
-    let p = Part-ahead _ _ _ _ _ _ _ i.0 i.1 a.line a.came in
+    let p = Part-ahead _ _ _ _ _ _ _ i.0 i.1 a.line a.bytes.came in
     took_last _ _ _ _ i.0 p (at_not _ _ _ t i.2) (at_false _ _ _ c.if-branch.false a.some)
 
-pub returns-clause-over : goal.returns-clause-over
-returns-clause-over g c = λ f. at_false _ _ _ c.if-branch.false c.in_ok-look_ahead.ensures.some
+pub returns-clause-none : goal.returns-clause-none
+returns-clause-none g c = λ f.
+    let a = c.in_ok-look_ahead.ensures in
+    let ends = at_false _ _ _ c.if-branch.false a.some in
+    record { none = search rules; over = ends; read = Ends-rest _ _ ends }
 
-pub returns-clause-read : goal.returns-clause-read
-returns-clause-read g c = λ f. Ends-rest _ _ (at_false _ _ _ c.if-branch.false c.in_ok-look_ahead.ensures.some)
-
-pub returns-in_err-look_ahead-clause-shown : goal.returns-in_err-look_ahead-clause-shown
-returns-in_err-look_ahead-clause-shown g c =
+pub returns-in_err-look_ahead-clause-shows : goal.returns-in_err-look_ahead-clause-shows
+returns-in_err-look_ahead-clause-shows g c =
     let i = c.loop-self.invariant.part in
     let a = c.in_err-look_ahead.ensures in
-    shown_whole _ c.look_ahead.new.self.ahead _ i.0 _ _ _ _ _ _ i.1 (Taken-ahead _ _ _ i.0 _ _ _ i.4 a.gave) a.err a.line
+    let taken = Taken-ahead _ _ _ i.0 _ _ _ i.4 a.bytes.gave in
+    record {
+      shown = shown_whole _ c.look_ahead.new.self.ahead _ i.0 _ _ _ _ _ _ i.1 taken a.bytes.err a.line;
+      unended = on_err c.from_residual.result (ShowsUnended _ _ _ _) (unended_whole _ c.look_ahead.new.self.ahead _ i.0 _ _ _ _ _ _ i.1 taken a.bytes.err a.line);
+    }
 
-pub returns-in_err-look_ahead-clause-unended : goal.returns-in_err-look_ahead-clause-unended
-returns-in_err-look_ahead-clause-unended g c =
-    let i = c.loop-self.invariant.part in
-    let a = c.in_err-look_ahead.ensures in
-    on_err c.from_residual.result (ShowsUnended _ _ _ _) (unended_whole _ c.look_ahead.new.self.ahead _ i.0 _ _ _ _ _ _ i.1 (Taken-ahead _ _ _ i.0 _ _ _ i.4 a.gave) a.err a.line)
-
-pub returns-then-take_piece-clause-shown : goal.returns-then-take_piece-clause-shown
-returns-then-take_piece-clause-shown g c =
+pub returns-then-take_piece-clause-shows : goal.returns-then-take_piece-clause-shows
+returns-then-take_piece-clause-shows g c =
     let i = c.loop-self.invariant.part in
     let a = c.in_ok-look_ahead.ensures in
-    let p = Part-ahead _ _ _ _ _ _ _ i.0 i.1 a.line a.came in
+    let p = Part-ahead _ _ _ _ _ _ _ i.0 i.1 a.line a.bytes.came in
     let m = c.if-take_piece.ensures.piece in
-    shown_cut _ c.look_ahead.new.self.ahead c.take_piece.new.self.ahead i.0 m.0 _ _ _ _ _ p (Taken-ahead _ _ _ i.0 _ _ _ i.4 a.gave) m.1 m.2 m.3
+    record {
+      shown = shown_cut _ c.look_ahead.new.self.ahead c.take_piece.new.self.ahead i.0 m.0 _ _ _ _ _ p (Taken-ahead _ _ _ i.0 _ _ _ i.4 a.bytes.gave) m.1 m.2 m.3;
+      unended = tt;
+    }
 
-pub returns-clause-shown : goal.returns-clause-shown
-returns-clause-shown g c =
+pub returns-clause-shows : goal.returns-clause-shows
+returns-clause-shows g c =
     let i = c.loop-self.invariant.part in
     let a = c.in_ok-look_ahead.ensures in
-    shown_whole _ c.look_ahead.new.self.ahead _ i.0 _ _ _ _ _ _ i.1 (Taken-ahead _ _ _ i.0 _ _ _ i.4 a.gave) (a.empty c.if-branch.false) a.line
+    record {
+      shown = shown_whole _ c.look_ahead.new.self.ahead _ i.0 _ _ _ _ _ _ i.1 (Taken-ahead _ _ _ i.0 _ _ _ i.4 a.bytes.gave) (a.bytes.empty c.if-branch.false) a.line;
+      unended = tt;
+    }
 
-pub returns-clause-reads : goal.returns-clause-reads
-returns-clause-reads g c = asked_line g.I.Source.took c.loop-self.is_empty _ _ c.look_ahead.new.self.ahead _ _ _ c.loop-self.invariant.asked c.in_ok-look_ahead.ensures.looks
+pub returns-clause-source : goal.returns-clause-source
+returns-clause-source g c =
+    let i = c.loop-self.invariant in
+    let looks = c.in_ok-look_ahead.ensures.source.looks in
+    record {
+      reads = asked_line g.I.Source.took c.loop-self.is_empty _ _ c.look_ahead.new.self.ahead _ _ _ i.asked looks;
+      line_ahead = λ h. asked_none g.I.Source.took c.loop-self.is_empty _ _ c.look_ahead.new.self.ahead _ _ _ i.asked looks h;
+      after_end = λ e. let before = i.after_end e in (c.in_ok-look_ahead.ensures.source.after_end before.1).0 ∙ before.0;
+    }
 
-pub returns-then-take_piece-clause-reads : goal.returns-then-take_piece-clause-reads
-returns-then-take_piece-clause-reads g c = asked_line g.I.Source.took c.loop-self.is_empty _ _ c.look_ahead.new.self.ahead _ _ _ c.loop-self.invariant.asked c.in_ok-look_ahead.ensures.looks
+pub returns-then-take_piece-clause-source : goal.returns-then-take_piece-clause-source
+returns-then-take_piece-clause-source g c =
+    let i = c.loop-self.invariant in
+    let looks = c.in_ok-look_ahead.ensures.source.looks in
+    record {
+      reads = asked_line g.I.Source.took c.loop-self.is_empty _ _ c.look_ahead.new.self.ahead _ _ _ i.asked looks;
+      line_ahead = λ h. asked_none g.I.Source.took c.loop-self.is_empty _ _ c.look_ahead.new.self.ahead _ _ _ i.asked looks h;
+      after_end = λ e. let before = i.after_end e in (c.in_ok-look_ahead.ensures.source.after_end before.1).0 ∙ before.0;
+    }
 
-pub returns-clause-line_ahead : goal.returns-clause-line_ahead
-returns-clause-line_ahead g c = λ h. asked_none g.I.Source.took c.loop-self.is_empty _ _ c.look_ahead.new.self.ahead _ _ _ c.loop-self.invariant.asked c.in_ok-look_ahead.ensures.looks h
-
-pub returns-then-take_piece-clause-line_ahead : goal.returns-then-take_piece-clause-line_ahead
-returns-then-take_piece-clause-line_ahead g c = λ h. asked_none g.I.Source.took c.loop-self.is_empty _ _ c.look_ahead.new.self.ahead _ _ _ c.loop-self.invariant.asked c.in_ok-look_ahead.ensures.looks h
-
-pub returns-in_err-look_ahead-clause-line_ahead : goal.returns-in_err-look_ahead-clause-line_ahead
-returns-in_err-look_ahead-clause-line_ahead g c = λ h.
-    absurd (asked_failed g.I.Source.took c.loop-self.is_empty _ _ _ _ c.loop-self.invariant.asked (λ n. let bad = c.in_err-look_ahead.ensures.there n in absurd (cc)) h)
+pub returns-in_err-look_ahead-clause-source : goal.returns-in_err-look_ahead-clause-source
+returns-in_err-look_ahead-clause-source g c =
+    let i = c.loop-self.invariant in
+    let a = c.in_err-look_ahead.ensures.source in
+    record {
+      reads = search rules;
+      line_ahead = λ h. absurd (asked_failed g.I.Source.took c.loop-self.is_empty _ _ _ _ i.asked (λ n. let bad = a.there n in absurd (cc)) h);
+      after_end = λ e. let before = i.after_end e in (a.after_end before.1).0 ∙ before.0;
+    }

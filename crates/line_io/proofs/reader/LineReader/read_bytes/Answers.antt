@@ -1,4 +1,4 @@
-use Rattle.std.proofs.Common.{◌≡◌, ℕ, List, ◌-◌, ◌≤◌, ◌++◌, length, take, drop, refl, ap, sym, subst, ◌∙◌, arith}
+use Rattle.std.proofs.Common.{rules, ◌≡◌, ℕ, List, ◌-◌, ◌≤◌, ◌++◌, length, take, drop, refl, ap, sym, subst, ◌∙◌, arith}
 use Rattle.std.proofs.lemmas.List.{length-take, length-drop, length-append}
 use Rattle.outside.specs.Streams.{WereTaken}
 use Rattle.line_io.specs.Reading.{coming, total}
@@ -24,12 +24,16 @@ returns-in_err-look_ahead-clause-gone g c =
     let first = coming c.args.self.now.ahead (g.I.Source.rest c.args.input.now) in
     let now = coming c.look_ahead.new.self.ahead (g.I.Source.rest c.look_ahead.new.input) in
     let taken = take c.loop-len.len c.loop-len.piece in
-    on_err c.from_residual.result ((part : List ℕ) × WereTaken first now part) (taken, subst (λ z. WereTaken first z taken) (sym (still_coming _ _ _ _ a.gave a.err)) c.loop-len.invariant.read)
+    on_err c.from_residual.result ((part : List ℕ) × WereTaken first now part) (taken, subst (λ z. WereTaken first z taken) (sym (still_coming _ _ _ _ a.bytes.gave a.bytes.err)) c.loop-len.invariant.read)
 
-pub returns-then-not-branch-clause-read : goal.returns-then-not-branch-clause-read
-returns-then-not-branch-clause-read g c =
+pub returns-then-not-branch-clause-bytes : goal.returns-then-not-branch-clause-bytes
+returns-then-not-branch-clause-bytes g c =
     let first = coming c.args.self.now.ahead (g.I.Source.rest c.args.input.now) in
-    subst (λ z. WereTaken first z (take c.loop-len.len c.loop-len.piece)) (sym c.in_ok-look_ahead.ensures.came) c.loop-len.invariant.read
+    record {
+      bound = search rules;
+      read = subst (λ z. WereTaken first z (take c.loop-len.len c.loop-len.piece)) (sym c.in_ok-look_ahead.ensures.bytes.came) c.loop-len.invariant.read;
+      short = search rules;
+    }
 
 pub loop-len-preserved : goal.loop-len-preserved
 loop-len-preserved g c =
@@ -49,12 +53,12 @@ loop-len-preserved g c =
     record {
       room = omega (arith, whole, rest, front, few, i.room);
       read = read_on (coming c.args.self.now.ahead (g.I.Source.rest c.args.input.now)) (coming c.loop-len.self.ahead (g.I.Source.rest c.loop-len.input)) (coming c.move_ahead.new.self.ahead (g.I.Source.rest c.look_ahead.new.input)) (g.I.Source.rest c.look_ahead.new.input)
-          c.look_ahead.new.self.ahead c.move_ahead.new.self.ahead c.loop-len.piece c.move_ahead.new.piece post len n i.read a.came m.moved refl i.room few;
+          c.look_ahead.new.self.ahead c.move_ahead.new.self.ahead c.loop-len.piece c.move_ahead.new.piece post len n i.read a.bytes.came m.moved refl i.room few;
       line = m.line ∙ (a.line ∙ i.line);
-      ended = λ e. Ends-behind _ _ _ _ m.moved (a.ended (sym m.ended ∙ e));
-      counted = ap (λ k. total k (g.I.Source.rest c.look_ahead.new.input)) m.taken ∙ (a.counted ∙ i.counted);
+      ended = λ e. Ends-behind _ _ _ _ m.moved (a.notes.ended (sym m.ended ∙ e));
+      counted = ap (λ k. total k (g.I.Source.rest c.look_ahead.new.input)) m.taken ∙ (a.notes.counted ∙ i.counted);
       after_end = λ e.
           let before = i.after_end e in
-          let late = a.after_end before.1 in (late.0 ∙ before.0, m.ended ∙ late.1);
-      quiet = a.quiet ∙ i.quiet;
+          let late = a.source.after_end before.1 in (late.0 ∙ before.0, m.ended ∙ late.1);
+      quiet = a.faults.quiet ∙ i.quiet;
     }
