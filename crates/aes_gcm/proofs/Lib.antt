@@ -5,3 +5,4 @@ pub mod Streams
 pub mod Opening
 pub mod Tags
 pub mod Ends
+pub mod Fronts

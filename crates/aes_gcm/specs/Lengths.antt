@@ -21,7 +21,7 @@ chosen : (b : Bool) (x plain : List ℕ) → cond b (Some x) None ≡ Some plain
 chosen true x plain h = cc
 chosen false x plain h = absurd (cc h)
 
-length-opened : (cipher : List ℕ → List ℕ) (iv extra text tag plain : List ℕ)
+pub length-opened : (cipher : List ℕ → List ℕ) (iv extra text tag plain : List ℕ)
     → opened cipher iv extra text tag ≡ Some plain → length plain ≡ length text
 length-opened cipher iv extra text tag plain h =
     sym (ap length (chosen (bytes_eq (tag_of cipher iv extra text) tag) (crypt cipher iv text) plain h)) ∙ length-crypt cipher iv text

@@ -55,14 +55,26 @@ impl Sealer for Aes256Gcm {
         extra: &[u8],
         sealed: &[u8],
     ) -> Result<Option<Vec<u8>>, Memory> {
+        self.unseal_front(alloc, key, extra, sealed, sealed.len())
+    }
+
+    fn unseal_front(
+        &self,
+        alloc: Global,
+        key: &[u8; 32],
+        extra: &[u8],
+        sealed: &[u8],
+        most: usize,
+    ) -> Result<Option<Vec<u8>>, Memory> {
         if sealed.len() < IV_LEN + TAG_LEN {
             return Ok(None);
         }
         let end = sealed.len() - TAG_LEN;
         let mut tag = [0u8; TAG_LEN];
         tag.copy_from_slice(&sealed[end..]);
+        let text = &sealed[IV_LEN..end];
         let ready = GcmKey::from_key(key);
-        ready.unseal(alloc, &sealed[..IV_LEN], extra, &sealed[IV_LEN..end], &tag)
+        ready.unseal_front(alloc, &sealed[..IV_LEN], extra, text, &tag, most)
     }
 
     ghost seals = { λ _ key iv extra plain len. seals-sealed_of key iv extra plain len };

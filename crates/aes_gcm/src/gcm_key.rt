@@ -1,5 +1,5 @@
 // A key of AES-256 in GCM, made ready (SP 800-38D, 7).
-ghost use Rattle.std.specs.Prelude.{◌≡◌, ◌≢◌, ◌↔◌, ◌+◌, ◌*◌, ◌%◌, ◌^◌, ◌<◌, ◌++◌, length, IfOk, OnOk, OnErr, IsNone};
+ghost use Rattle.std.specs.Prelude.{◌≡◌, ◌≢◌, ◌↔◌, ◌+◌, ◌*◌, ◌%◌, ◌^◌, ◌<◌, ◌++◌, length, take, IfOk, OnOk, OnErr, IsNone};
 ghost use Rattle.std.specs.Int.{w64, to_be_bytes};
 ghost use Rattle.std.specs.Option.{option_map};
 ghost use Rattle.aes_block.specs.KeyExpansion.{aes256};
@@ -97,13 +97,32 @@ impl GcmKey {
         ensures plain { IfOk result (λ answer. option_map (λ plain. plain.items) answer ≡ opened (aes256 self.now) iv.now extra.now text.now tag.now) }
         ensures refused { IfOk result (λ answer. IsNone answer ↔ (tag.now ≢ tag_of (aes256 self.now) iv.now extra.now text.now)) }
     {
+        self.unseal_front(alloc, iv, extra, text, tag, text.len())
+    }
+
+    /// The first bytes of that plaintext, at most so many. The tag is that over the whole ciphertext; no more than the front is
+    /// decrypted.
+    pub fn unseal_front(
+        &self,
+        alloc: Global,
+        iv: &[u8],
+        extra: &[u8],
+        text: &[u8],
+        tag: &[u8; 16],
+        most: usize,
+    ) -> Result<Option<Vec<u8>>, Memory>
+        requires { 0 < length iv.now }
+        ensures plain { IfOk result (λ answer. option_map (λ plain. plain.items) answer ≡ option_map (take most) (opened (aes256 self.now) iv.now extra.now text.now tag.now)) }
+        ensures refused { IfOk result (λ answer. IsNone answer ↔ (tag.now ≢ tag_of (aes256 self.now) iv.now extra.now text.now)) }
+    {
         let counter = self.first_counter(iv);
         let turn = first_turn(&self.planes, counter);
         if self.tag_under(counter, &turn[0], extra, text) != *tag {
             return Ok(None);
         }
+        let front = &text[..most.min(text.len())];
         let mut plain = Vec::new(alloc);
-        append_crypted(&self.planes, counter, &turn, text, &mut plain)?;
+        append_crypted(&self.planes, counter, &turn, front, &mut plain)?;
         Ok(Some(plain))
     }
 

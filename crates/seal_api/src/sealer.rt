@@ -1,5 +1,5 @@
 // What a sealer does.
-ghost use Rattle.std.specs.Prelude.{◌≡◌, ◌≤◌, ◌+◌, ◌++◌, List, [], ℕ, length, IfOk, OnOk, OnErr};
+ghost use Rattle.std.specs.Prelude.{◌≡◌, ◌≤◌, ◌+◌, ◌++◌, List, [], ℕ, length, take, IfOk, OnOk, OnErr};
 ghost use Rattle.std.specs.declared.option.Option.{Option};
 ghost use Rattle.std.specs.declared.option.Option.TheVariants.{Some};
 ghost use Rattle.std.specs.Option.{option_map};
@@ -50,7 +50,19 @@ pub trait Sealer {
     ) -> Result<Option<Vec<u8>>, Memory>
         ensures { IfOk result (λ answer. option_map (λ plain. plain.items) answer ≡ opens self.now key.now extra.now text.now) };
 
-    /// The same with no extra bytes.
+    /// The first bytes of that plaintext, at most so many, or None where the text doesn't open. The whole text is authenticated, and
+    /// no more than the front is decrypted.
+    fn unseal_front(
+        &self,
+        alloc: Global,
+        key: &[u8; 32],
+        extra: &[u8],
+        text: &[u8],
+        most: usize,
+    ) -> Result<Option<Vec<u8>>, Memory>
+        ensures { IfOk result (λ answer. option_map (λ plain. plain.items) answer ≡ option_map (take most) (opens self.now key.now extra.now text.now)) };
+
+    /// `seal_with` with no extra bytes.
     fn seal(&self, key: &[u8; 32], iv: &[u8], plain: &[u8], out: &mut Vec<u8>) -> Result<(), Memory>
         requires iv { length iv.now ≡ iv_size self.now }
         requires plain { length plain.now ≤ max_len }
@@ -60,7 +72,7 @@ pub trait Sealer {
         self.seal_with(key, iv, &[], plain, out)
     }
 
-    /// The same with no extra bytes.
+    /// `unseal_with` with no extra bytes.
     fn unseal(&self, alloc: Global, key: &[u8; 32], text: &[u8]) -> Result<Option<Vec<u8>>, Memory>
         ensures { IfOk result (λ answer. option_map (λ plain. plain.items) answer ≡ opens self.now key.now [] text.now) }
     {

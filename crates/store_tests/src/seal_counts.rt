@@ -60,6 +60,17 @@ impl Sealer for CountedSeals<'_> {
         Aes256Gcm.unseal_with(alloc, key, extra, text)
     }
 
+    fn unseal_front(
+        &self,
+        alloc: Global,
+        key: &[u8; 32],
+        extra: &[u8],
+        text: &[u8],
+        most: usize,
+    ) -> Result<Option<Vec<u8>>, Memory> {
+        Aes256Gcm.unseal_front(alloc, key, extra, text, most)
+    }
+
     ghost seals = { λ _ key iv extra plain len. seals-sealed_of key iv extra plain len };
 
     ghost lengths = { λ _ key extra text plain opens. length-opened_of key extra text plain opens };
