@@ -56,6 +56,19 @@ impl Blocks for MapStore {
         }
     }
 
+    fn load_front(
+        &mut self,
+        alloc: Global,
+        id: &BlockId,
+        most: usize,
+    ) -> Result<Option<Vec<u8>>, Fail> {
+        if let Some(BatchChange::Payload(bytes)) = self.rows.get(id) {
+            let count = most.min(bytes.len());
+            return Ok(Some(bytes[..count].to_vec(alloc)?));
+        }
+        Ok(None)
+    }
+
     fn is_used(&self, id: &BlockId) -> bool {
         self.rows.has(id)
     }
