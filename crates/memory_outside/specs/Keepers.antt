@@ -1,7 +1,8 @@
 -- A local record in memory: what it holds, and which of its loads and saves fail.
-use Rattle.std.specs.Prelude.{ℕ, Bool, nat_le, ◌==◌, List, [], ◌∷◌, if◌then◌else◌}
+use Rattle.std.specs.Prelude.{◌≡◌, ℕ, Bool, nat_le, ◌==◌, List, [], ◌∷◌, if◌then◌else◌, Result, is_ok, is_none}
 use Rattle.std.specs.declared.option.Option.{Option}
 use Rattle.std.specs.declared.option.Option.TheVariants.{None, Some}
+use Rattle.block_id.specs.declared.fail.Failed.{Failed}
 use Rattle.outside.specs.Causes.{one_more}
 use Rattle.memory_outside.specs.Vaults.{is_listed}
 
@@ -57,3 +58,16 @@ kept_by (Some keeps) old bytes = if keeps then Some bytes else old
 abbrev pub faults_by : Option Bool → ℕ → ℕ
 faults_by None faults = faults
 faults_by (Some keeps) faults = one_more faults
+
+-- a save fails where it is set to, and keeps its record then only where that is set
+pub record SavesAsSet (old new : KeeperState) (bytes : List ℕ) (result : Result Unit Failed) : Type 0 where
+  pub fails_where_listed : is_ok result ≡ is_none (failure_of old)
+  pub kept : new.kept ≡ kept_by (failure_of old) old.kept bytes
+  pub faults : new.faults ≡ faults_by (failure_of old) old.faults
+
+-- one save more was counted, no load was, and what is set stays
+pub record CountsSave (old new : KeeperState) : Type 0 where
+  pub saves : new.saves ≡ one_more old.saves
+  pub failing : new.failing ≡ old.failing
+  pub loads : (new.failing_loads ≡ old.failing_loads) × (new.loads ≡ old.loads)
+  pub from : (new.failing_from ≡ old.failing_from) × (new.saves_since ≡ one_more old.saves_since)

@@ -1,3 +1,4 @@
+pub mod Faults
 pub mod FileNames
 pub mod Keepers
 pub mod MemoryStreams

@@ -1,12 +1,17 @@
 -- A directory in memory: what it holds, what is set, and what its calls do.
-use Rattle.std.specs.Prelude.{◌≡◌, ◌⊎◌, ℕ, Bool, false, not, ◌||◌, nat_le, ◌==◌, List, [], ◌∷◌, filter, if◌then◌else◌, unwrap_or, option_and_then}
+use Rattle.std.specs.Prelude.{◌≡◌, ◌⊎◌, ◌<◌, ℕ, Bool, true, false, not, ◌||◌, nat_le, ◌==◌, List, [], ◌∷◌, Vec, length, filter, if◌then◌else◌, unwrap_or, option_and_then, Result, IfOk, OnOk, IsErrOf}
 use Rattle.std.specs.List.{list_any}
+use Rattle.std.specs.declared.alloc.Global.{Global}
 use Rattle.std.specs.declared.option.Option.{Option}
 use Rattle.std.specs.declared.option.Option.TheVariants.{None, Some}
-use Rattle.outside.specs.Trace.{At, Call}
+use Rattle.listing.specs.declared.directory_names.TheConstants.{MAX_NAMES}
+use Rattle.outside.specs.declared.vault.GetFail.{GetFail}
+use Rattle.outside.specs.declared.vault.GetFail.TheVariants.{Memory, Failed}
+use Rattle.outside.specs.Trace.{At, Call, got}
 use Rattle.outside.specs.Causes.{one_more}
+use Rattle.outside.specs.View.{bytes_of}
 use Rattle.outside.specs.Names.{same_at}
-use Rattle.outside.specs.Changes.{FileChanges, change_at}
+use Rattle.outside.specs.Changes.{FileChanges, change_at, cut}
 use Rattle.memory_outside.specs.FileNames.{all_names}
 use Rattle.outside.specs.Honest.{LastChange, last_change}
 
@@ -84,6 +89,22 @@ after_failed_list v = record v { faults = one_more v.faults; calls = one_more v.
 -- after a setting
 abbrev pub restarted : VaultState → VaultState
 restarted v = record v { calls = 0; gets = 0; changes = 0 }
+
+-- a get gives what is set, or the file, and fails where it is set to
+pub record GetsAsSet (old new : VaultState) (name : At) (max : ℕ) (result : Result (Option (Vec ℕ Global)) GetFail) : Type 0 where
+  pub gives : IfOk result (λ answer. bytes_of answer ≡ cut max (given old name))
+  pub after : IfOk result (λ answer. new ≡ after_get old (got name max (bytes_of answer)))
+  pub ok_where_not_listed : OnOk result (get_fails old ≡ false)
+  pub failed_where_listed : IsErrOf result Failed → (get_fails old ≡ true) × (new ≡ after_failed_get old)
+  pub memory : IsErrOf result Memory → (get_fails old ≡ false) × (new ≡ old)
+
+-- a listing counts a call, and fails where it is set to or where there are more names than it gives
+pub record ListsAsSet {T : Type 0} (old new : VaultState) (result : Result T GetFail) : Type 0 where
+  pub after : OnOk result (new ≡ after_list old)
+  pub ok_where_not_listed : OnOk result (get_fails old ≡ false)
+  pub failed : IsErrOf result Failed → new ≡ after_failed_list old
+  pub failed_where_listed_or_many : IsErrOf result Failed → (get_fails old ≡ true) ⊎ (MAX_NAMES < length (names_in old))
+  pub memory : IsErrOf result Memory → (get_fails old ≡ false) × (new ≡ old)
 
 -- a file is what its last change left, or that change didn't answer ok
 abbrev pub IsLeftBy : Option LastChange → Option (List ℕ) → Type 0

@@ -1,9 +1,10 @@
 // A local record in memory.
-ghost use Rattle.std.specs.Prelude.{◌≡◌, ◌⊎◌, ◌≤◌, List, ℕ, Bool, length, is_some, is_ok, is_none, IfOk, OnOk, OnErr, IfSome, IfNone, IsErrOf, false, true, [], option_map};
+ghost use Rattle.std.specs.Prelude.{◌≡◌, ◌⊎◌, ◌≤◌, List, ℕ, Bool, length, is_some, IfOk, OnOk, OnErr, IfSome, IfNone, IsErrOf, false, true, [], option_map};
 ghost use Rattle.std.specs.declared.option.Option.{Option};
 ghost use Rattle.std.specs.declared.option.Option.TheVariants.{None, Some};
-ghost use Rattle.outside.specs.Causes.{GetHasCause, RoseBy, one_more};
-ghost use Rattle.memory_outside.specs.Keepers.{failure_at, failure_from, failure_of, load_fails, after_load, after_failed_load, kept_by, faults_by};
+ghost use Rattle.outside.specs.Causes.{GetHasCause};
+ghost use Rattle.memory_outside.specs.Faults.{FailsWithCause};
+ghost use Rattle.memory_outside.specs.Keepers.{failure_at, failure_from, failure_of, load_fails, after_load, after_failed_load, SavesAsSet, CountsSave};
 ghost use Rattle.outside.specs.View.{bytes_of};
 
 use crate::memory_vault::contains;
@@ -170,17 +171,10 @@ impl Keeper for MemoryKeeper {
         ensures ok { OnOk result (self.new.kept ≡ Some bytes.now) }
         ensures err { OnErr result ((self.new.kept ≡ self.old.kept) ⊎ (self.new.kept ≡ Some bytes.now)) }
         ensures room { self.old.room ≤ self.new.room }
-        ensures grows { self.old.faults ≤ self.new.faults }
-        ensures cause { OnErr result (RoseBy 1 self.old.faults self.new.faults) }
-        ensures quiet { OnOk result (self.new.faults ≡ self.old.faults) }
+        ensures cause { FailsWithCause self.old.faults self.new.faults result }
 
-        ensures fails_where_listed { is_ok result ≡ is_none (failure_of self.old) }
-        ensures kept { self.new.kept ≡ kept_by (failure_of self.old) self.old.kept bytes.now }
-        ensures faults { self.new.faults ≡ faults_by (failure_of self.old) self.old.faults }
-        ensures saves { self.new.saves ≡ one_more self.old.saves }
-        ensures failing { self.new.failing ≡ self.old.failing }
-        ensures loads { (self.new.failing_loads ≡ self.old.failing_loads) × (self.new.loads ≡ self.old.loads) }
-        ensures from { (self.new.failing_from ≡ self.old.failing_from) × (self.new.saves_since ≡ one_more self.old.saves_since) }
+        ensures as_set { SavesAsSet self.old self.new bytes.now result }
+        ensures counts { CountsSave self.old self.new }
     {
         let failure = self.next_failure();
         self.saves = self.saves.saturating_add(1);

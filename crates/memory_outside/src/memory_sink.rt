@@ -1,8 +1,9 @@
 // Output that goes into memory.
-ghost use Rattle.std.specs.Prelude.{◌≡◌, ◌⊎◌, ◌≤◌, ◌<◌, ◌↔◌, ◌+◌, ◌-◌, ◌++◌, ℕ, List, [], length, min, take, IfOk, OnOk, OnErr, IsErr, Contains, vec_capacity};
+ghost use Rattle.std.specs.Prelude.{◌≡◌, ◌⊎◌, ◌≤◌, ◌<◌, ◌↔◌, ◌+◌, ◌-◌, ◌++◌, ℕ, List, [], length, min, take, IfOk, OnErr, IsErr, Contains, vec_capacity};
 ghost use Rattle.std.specs.declared.option.Option.TheVariants.{Some};
-ghost use Rattle.outside.specs.Causes.{RoseBy, one_more};
-ghost use Rattle.memory_outside.specs.MemoryStreams.{Drain};
+ghost use Rattle.outside.specs.Causes.{one_more};
+ghost use Rattle.memory_outside.specs.Faults.{FailsWithCause};
+ghost use Rattle.memory_outside.specs.MemoryStreams.{Drain, WriteLeaves};
 ghost use Rattle.outside.specs.Streams.{appends};
 
 use block_id::{Failed, Memory};
@@ -69,13 +70,11 @@ impl Sink for MemorySink {
         ensures some { IfOk result (λ n. 0 < length piece.now → 0 < n) }
         ensures ok { IfOk result (λ n. self.new.written ≡ self.old.written ++ take n piece.now) }
         ensures err { OnErr result (self.new.written ≡ self.old.written) }
-        ensures grows { self.old.faults ≤ self.new.faults }
-        ensures cause { OnErr result (RoseBy 1 self.old.faults self.new.faults) }
-        ensures quiet { OnOk result (self.new.faults ≡ self.old.faults) }
+        ensures cause { FailsWithCause self.old.faults self.new.faults result }
+
         ensures fails_as_listed { IsErr result ↔ (Contains self.old.fails (one_more self.old.calls) ⊎ ((0 < length piece.now) × (self.old.room ≤ length self.old.written))) }
         ensures many { IfOk result (λ n. n ≡ min self.old.piece (min (length piece.now) (self.old.room - length self.old.written))) }
-        ensures goes_on { IfOk result (λ n. self.new ≡ record self.old { written = self.old.written ++ take n piece.now; calls = one_more self.old.calls }) }
-        ensures faulty { OnErr result (self.new ≡ record self.old { calls = one_more self.old.calls; faults = one_more self.old.faults }) }
+        ensures after { WriteLeaves self.old self.new piece.now result }
     {
         self.calls = self.calls.saturating_add(1);
         let left = self.room - self.written.len();

@@ -1,9 +1,9 @@
 // Input that stands in memory.
-ghost use Rattle.std.specs.Prelude.{◌≡◌, ◌≤◌, ◌<◌, ◌↔◌, ◌+◌, ◌++◌, ℕ, List, [], length, min, take, drop, IfOk, OnOk, OnErr, IsErr, Contains};
+ghost use Rattle.std.specs.Prelude.{◌≡◌, ◌≤◌, ◌↔◌, ◌+◌, ℕ, List, [], length, drop, IfOk, OnErr, IsErr, Contains};
 ghost use Rattle.std.specs.declared.option.Option.TheVariants.{Some};
-ghost use Rattle.outside.specs.Causes.{RoseBy, one_more};
-ghost use Rattle.memory_outside.specs.MemoryStreams.{Feed, TookOnce};
-ghost use Rattle.outside.specs.Streams.{WereTaken, Ends};
+ghost use Rattle.outside.specs.Causes.{one_more};
+ghost use Rattle.memory_outside.specs.Faults.{FailsWithCause};
+ghost use Rattle.memory_outside.specs.MemoryStreams.{Feed, TookOnce, TakesNext, GivesMany, GivesNone};
 
 use block_id::Failed;
 use outside::Source;
@@ -53,20 +53,11 @@ impl Source for MemorySource {
     ghost took = { λ old new bytes. TookOnce old new bytes };
 
     fn read(&mut self, piece: &mut [u8]) -> Result<usize, Failed>
-        ensures bound { IfOk result (λ n. n ≤ length piece.old) }
-        ensures ok { IfOk result (λ n. WereTaken (Some self.old.rest) (Some self.new.rest) (take n piece.new)) }
-        ensures took { IfOk result (λ n. TookOnce self.old self.new (take n piece.new)) }
-        ensures end { IfOk result (λ n. n ≡ 0 → 0 < length piece.old → Ends (Some self.old.rest)) }
-        ensures err { OnErr result (self.new.rest ≡ self.old.rest) }
-        ensures grows { self.old.faults ≤ self.new.faults }
-        ensures cause { OnErr result (RoseBy 1 self.old.faults self.new.faults) }
-        ensures quiet { OnOk result (self.new.faults ≡ self.old.faults) }
+        ensures next { IfOk result (λ n. TakesNext self.old self.new piece.old piece.new n) }
+        ensures none { OnErr result (GivesNone self.old self.new piece.old piece.new) }
+        ensures cause { FailsWithCause self.old.faults self.new.faults result }
         ensures fails_as_listed { IsErr result ↔ Contains self.old.fails (one_more self.old.calls) }
-        ensures many { IfOk result (λ n. n ≡ min self.old.piece (min (length piece.old) (length self.old.rest))) }
-        ensures given { IfOk result (λ n. piece.new ≡ take n self.old.rest ++ drop n piece.old) }
-        ensures goes_on { IfOk result (λ n. self.new ≡ record self.old { rest = drop n self.old.rest; calls = one_more self.old.calls }) }
-        ensures faulty { OnErr result (self.new ≡ record self.old { calls = one_more self.old.calls; faults = one_more self.old.faults }) }
-        ensures untouched { OnErr result (piece.new ≡ piece.old) }
+        ensures many { IfOk result (λ n. GivesMany self.old self.new piece.old piece.new n) }
     {
         self.calls = self.calls.saturating_add(1);
         if self.fails.contains(&self.calls) {

@@ -1,12 +1,12 @@
 // A directory in memory, which tells its trace.
-ghost use Rattle.std.specs.Prelude.{◌≡◌, ◌⊎◌, ◌≤◌, ◌<◌, ℕ, List, [], map, reverse, length, vec_len, true, false, IfOk, IfSome, IfNone, OnOk, OnErr, IsErrOf};
+ghost use Rattle.std.specs.Prelude.{◌≡◌, ◌⊎◌, ◌≤◌, ℕ, List, [], map, reverse, length, vec_len, true, false, IfOk, IfSome, IfNone, OnOk, OnErr, IsErrOf};
 ghost use Rattle.std.specs.declared.option.Option.{Option};
 ghost use Rattle.std.specs.declared.option.Option.TheVariants.{None, Some};
 ghost use Rattle.outside.specs.Causes.{GetHasCause, one_more};
 ghost use Rattle.outside.specs.Trace.{got, put as put_call, removed, adds};
 ghost use Rattle.outside.specs.Changes.{change_at, set_change, cut};
 ghost use Rattle.outside.specs.Honest.{lies};
-ghost use Rattle.memory_outside.specs.Vaults.{is_listed, is_from, answer_at, get_fails, change_fails, given, without, after_get, after_failed_get, after_change, after_failed_change, restarted, names_in, after_list, after_failed_list, IsUntampered};
+ghost use Rattle.memory_outside.specs.Vaults.{is_listed, is_from, answer_at, change_fails, given, without, after_get, after_change, after_failed_change, restarted, names_in, after_failed_list, GetsAsSet, ListsAsSet, IsUntampered};
 ghost use Rattle.outside.specs.View.{at_of, bytes_of, list_of};
 ghost use Rattle.memory_outside.specs.View.{call_of, answers_of};
 
@@ -289,11 +289,7 @@ impl Vault for MemoryVault {
         ensures err { OnErr result (Some self.new.trace ≡ Some self.old.trace) }
         ensures cause { GetHasCause self.old.faults self.new.faults result }
 
-        ensures gives { IfOk result (λ answer. bytes_of answer ≡ cut max (given self.old (at_of name.now))) }
-        ensures after { IfOk result (λ answer. self.new ≡ after_get self.old (got (at_of name.now) max (bytes_of answer))) }
-        ensures ok_where_not_listed { OnOk result (get_fails self.old ≡ false) }
-        ensures failed_where_listed { IsErrOf result GetFail.Failed → (get_fails self.old ≡ true) × (self.new ≡ after_failed_get self.old) }
-        ensures memory { IsErrOf result GetFail.Memory → (get_fails self.old ≡ false) × (self.new ≡ self.old) }
+        ensures as_set { GetsAsSet self.old self.new (at_of name.now) max result }
         ensures honest { IsUntampered self.old → lies self.new.trace ≡ lies self.old.trace }
         ensures plain { IsUntampered self.old → IsUntampered self.new }
     {
@@ -396,11 +392,7 @@ impl Listing for MemoryVault {
         ensures trace { Some self.new.trace ≡ Some self.old.trace }
         ensures cause { GetHasCause self.old.faults self.new.faults result }
 
-        ensures after { OnOk result (self.new ≡ after_list self.old) }
-        ensures ok_where_not_listed { OnOk result (get_fails self.old ≡ false) }
-        ensures failed { IsErrOf result GetFail.Failed → self.new ≡ after_failed_list self.old }
-        ensures failed_where_listed_or_many { IsErrOf result GetFail.Failed → (get_fails self.old ≡ true) ⊎ (MAX_NAMES < length (names_in self.old)) }
-        ensures memory { IsErrOf result GetFail.Memory → (get_fails self.old ≡ false) × (self.new ≡ self.old) }
+        ensures as_set { ListsAsSet self.old self.new result }
         ensures plain { IsUntampered self.old → IsUntampered self.new }
     {
         if contains(&self.failing, self.calls.saturating_add(1)) {

@@ -9,6 +9,6 @@ pub invariant_of-self : goal.invariant_of-self
 invariant_of-self c =
     let few : length c.self.inside.vault.files ≤ MAX_NAMES =
     omega (arith, c.if-files-gt-MAX_NAMES.false, ap length c.files.ensures, length-map c.files.result.now pending_of) in
-    honest_after c.self.inside.vault c.list.new.self c.list.result c.self.invariant c.list.ensures.after
-    (λ failed. never_fails c.self.inside.vault MAX_NAMES c.self.invariant few (c.list.ensures.failed_where_listed_or_many failed))
-    (λ memory. (c.list.ensures.memory memory).1)
+    honest_after c.self.inside.vault c.list.new.self c.list.result c.self.invariant c.list.ensures.as_set.after
+    (λ failed. never_fails c.self.inside.vault MAX_NAMES c.self.invariant few (c.list.ensures.as_set.failed_where_listed_or_many failed))
+    (λ memory. (c.list.ensures.as_set.memory memory).1)

@@ -1,6 +1,8 @@
 use Rattle.std.proofs.Common.{◌≡◌, ◌≤◌, ◌+◌, ◌-◌, ◌++◌, ℕ, List, length, min, take, drop, arith, refl, ap, sym, ◌∙◌}
 use Rattle.std.proofs.lemmas.Grind.{common_steps}
 use Rattle.std.proofs.lemmas.List.{take_at, take-append-drop, length-take-le, drop_all, drop-drop}
+use Rattle.outside.specs.Streams.{WereTaken}
+use Rattle.std.specs.declared.option.Option.TheVariants.{Some}
 use Rattle.memory_outside.specs.MemoryStreams.{Feed}
 use Rattle.outside.specs.Causes.{one_more}
 use Rattle.memory_outside.proofs.memory_source.MemorySourceSource.read.Goals as goal
@@ -19,40 +21,45 @@ given_less given n = omega arith
 smaller : (n piece small wanted left : ℕ) → n ≡ min piece small → small ≡ min wanted left → n ≤ wanted
 smaller n piece small wanted left is also = omega arith
 
-pub returns-clause-bound : goal.returns-clause-bound
-returns-clause-bound c = smaller _ c.self.inside.piece c.min.result (length c.args.piece.now) _ c.min-n.ensures c.min.ensures
-
-pub returns-clause-ok : goal.returns-clause-ok
-returns-clause-ok c =
+pub returns-clause-next : goal.returns-clause-next
+returns-clause-next c =
     let i = c.self.inside in
     let n = c.min-n.result in
     let left = drop i.given i.bytes.items in
     let h : n ≤ length left = grind (arith, common_steps) in
     let e : c.copy_from_slice.new.self ≡ take n left =
-    grind (arith, given_less i.given n, c.copy_from_slice.ensures.after, c.deref-2.ensures.value) in (
+    grind (arith, given_less i.given n, c.copy_from_slice.ensures.after, c.deref-2.ensures.value) in
+    let filled = c.copy_from_slice.new.self ++ drop n c.args.piece.now in
+    let taken : WereTaken (Some c.args.self.now.rest) (Some (drop (i.given + n) i.bytes.items)) (take n filled) = (
       drop (i.given + n) i.bytes.items,
       sym (ap (λ (s : Feed). s.rest) c.self.view_is) ∙ (front_copied left c.args.piece.now c.copy_from_slice.new.self n h e
-          ∙ ap (λ (rest : List ℕ). take n (c.copy_from_slice.new.self ++ drop n c.args.piece.now) ++ rest) (drop-drop n i.given i.bytes.items)),
+          ∙ ap (λ (rest : List ℕ). take n filled ++ rest) (drop-drop n i.given i.bytes.items)),
       refl,
-    )
+    ) in
+    record {
+      bound = smaller _ i.piece c.min.result (length c.args.piece.now) _ c.min-n.ensures c.min.ensures;
+      ok = taken;
+      took = record { calls = c.saturating_add-self-inside.ensures ∙ ap (λ (s : Feed). one_more s.calls) c.self.view_is; rest = taken };
+      end = λ z more. sym (ap (λ (s : Feed). s.rest) c.self.view_is) ∙ drop_all i.given i.bytes.items (omega arith);
+    }
 
-pub returns-clause-took : goal.returns-clause-took
-returns-clause-took c = record { calls = c.saturating_add-self-inside.ensures ∙ ap (λ (s : Feed). one_more s.calls) c.self.view_is; rest = returns-clause-ok c }
-
-pub returns-clause-end : goal.returns-clause-end
-returns-clause-end c = λ z more.
-    let i = c.self.inside in
-    sym (ap (λ (s : Feed). s.rest) c.self.view_is) ∙ drop_all i.given i.bytes.items (omega arith)
-
-pub returns-clause-goes_on : goal.returns-clause-goes_on
-returns-clause-goes_on c =
+pub returns-clause-many : goal.returns-clause-many
+returns-clause-many c =
     let i = c.self.inside in
     let rest = sym (drop-drop c.min-n.result i.given i.bytes.items) ∙ ap (λ (s : Feed). drop c.min-n.result s.rest) c.self.view_is in
     let calls = c.saturating_add-self-inside.ensures ∙ ap (λ (s : Feed). one_more s.calls) c.self.view_is in
-    λ k. record (c.self.view_is k) { rest = rest k; calls = calls k }
+    record {
+      many = grind (arith, common_steps);
+      given = grind (arith, common_steps);
+      goes_on = λ k. record (c.self.view_is k) { rest = rest k; calls = calls k };
+    }
 
-pub returns-then-contains-clause-faulty : goal.returns-then-contains-clause-faulty
-returns-then-contains-clause-faulty c =
+pub returns-then-contains-clause-none : goal.returns-then-contains-clause-none
+returns-then-contains-clause-none c =
     let calls = c.saturating_add-self-inside.ensures ∙ ap (λ (s : Feed). one_more s.calls) c.self.view_is in
     let faults = c.saturating_add-self-inside-then-contains.ensures ∙ ap (λ (s : Feed). one_more s.faults) c.self.view_is in
-    λ k. record (c.self.view_is k) { calls = calls k; faults = faults k }
+    record {
+      err = ap (λ (s : Feed). s.rest) c.self.view_is;
+      faulty = λ k. record (c.self.view_is k) { calls = calls k; faults = faults k };
+      untouched = refl;
+    }
