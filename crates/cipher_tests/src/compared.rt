@@ -6,10 +6,10 @@ use std::alloc::Global;
 use std::process::Abort;
 use std::test::Fail;
 
-const KEY: [u8; 32] = *b"thirty-two bytes that are no key";
+pub(crate) const KEY: [u8; 32] = *b"thirty-two bytes that are no key";
 
 /// Bytes without a short period.
-fn some_bytes(alloc: Global, len: usize) -> Result<Vec<u8>, Fail> {
+pub(crate) fn some_bytes(alloc: Global, len: usize) -> Result<Vec<u8>, Fail> {
     let mut bytes = Vec::new(alloc);
     let mut state: u32 = 12345;
     for _ in 0..len {

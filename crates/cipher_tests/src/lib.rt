@@ -9,6 +9,8 @@ mod block;
 #[cfg(test)]
 mod compared;
 #[cfg(test)]
+mod fronts;
+#[cfg(test)]
 mod gcm;
 #[cfg(test)]
 mod plain;
