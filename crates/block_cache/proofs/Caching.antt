@@ -1,6 +1,7 @@
 -- What a cache owes its store.
 use Rattle.std.proofs.Common.{◌≡◌, ◌⊎◌, ℕ, true, List, Vec, Global, length, Option, None, Some, refl, sym, ◌∙◌, ap, subst, inl, inr}
-use Rattle.std.specs.Prelude.{Ok, IfSome, is_some}
+use Rattle.std.specs.Prelude.{Result, Ok, IfSome, is_some}
+use Rattle.block_id.specs.declared.fail.Fail.{Fail}
 use Rattle.block_id.specs.declared.id.BlockId.{BlockId}
 use Rattle.outside.specs.View.{bytes_of}
 use Rattle.outcome.specs.Meanings.{Meanings, Lawful}
@@ -45,10 +46,10 @@ module _ {S : Type 0} (M : Meanings S) (H : Holdings S) where
     there = λ q bytes h. live.there q bytes (sym (cached-used id p q) ∙ h);
   }
 
-  -- a cached payload is answered
-  pub outcome-cached : Lawful M → (s : S) (p : Payloads) (id : BlockId) (bytes : Vec ℕ Global) → M.intact s × AreLive H s p → cached_for p id.0 ≡ Some bytes.items
-      → Outcome past (Unit {0}) (cache_of s p) (cache_of s (used_last id p)) (Ok (Some bytes)) (λ _ answer. bytes_of answer ≡ H.content s id.0)
-  outcome-cached laws s p id bytes kept cached = record {
+  -- a cached payload is answered, and its block is the one used last
+  pub outcome-cached : Lawful M → (s : S) (p q : Payloads) (id : BlockId) (bytes : Vec ℕ Global) → M.intact s × AreLive H s p → cached_for p id.0 ≡ Some bytes.items → q ≡ used_last id p
+      → Outcome past (Unit {0}) (cache_of s p) (cache_of s q) (Ok (Some bytes)) (λ _ answer. bytes_of answer ≡ H.content s id.0)
+  outcome-cached laws s p q id bytes kept cached used = subst (λ q. Outcome past (Unit {0}) (cache_of s p) (cache_of s q) (Ok (Some bytes)) (λ _ answer. bytes_of answer ≡ H.content s id.0)) (sym used) (record {
     intact = (kept.0, live-used s p id kept.1);
     loaded = laws.same s;
     sound = λ sound h. (sound.0, λ q found h. sound.1 q found (sym (cached-used id p q) ∙ h));
@@ -58,7 +59,7 @@ module _ {S : Type 0} (M : Meanings S) (H : Holdings S) where
     noticed = laws.gave_same s;
     value = λ n sound h. sym (sound.1 id.0 bytes.items cached);
     structure = λ n sound h. tt;
-  }
+  })
 
   live-loaded : (s t : S) (p q : Payloads) (id payload : List ℕ) → Stays H s t → Grew id payload p q → length payload ≡ H.payload s → is_some (H.content s id) ≡ true → AreLive H s p → AreLive H t q
   live-loaded s t p q id payload stays grew sized there live = record {
@@ -102,6 +103,12 @@ module _ {S : Type 0} (M : Meanings S) (H : Holdings S) where
 
   pub agree-stays : Steady M H → (s t : S) (p : Payloads) → Stays H s t → M.sound s × Agree H s p → Agree H t p
   agree-stays steady s t p stays sound id found h = stays.content (steady.sound_told s sound.0) id ∙ sound.1 id found h
+
+  -- the store below was asked past the cache
+  pub outcome-asked : Steady M H → (s t : S) (p : Payloads) {T N : Type 0} {r : Result T Fail} {P : N → T → Type 0} → AreLive H s p → Stays H s t → Outcome M N s t r P → Outcome past N (cache_of s p) (cache_of t p) r P
+  outcome-asked steady s t p live stays o =
+      lifted_with (λ (c : BlockCache S). c.store) (λ (c : BlockCache S). AreLive H c.store c.cached) (λ (c : BlockCache S). Agree H c.store c.cached) (cache_of s p) (cache_of t p)
+      (live-stays s t p stays live) (λ sound agree h. agree-stays steady s t p stays (sound, agree)) o
 
   -- the changes of a batch were made, and followed
   pub live-renewed : (s t : S) (changes : Changes) (p q : Payloads) → ((id bytes : List ℕ) → get changes id ≡ Some (Some bytes) → length bytes ≡ H.payload s) → Changed M H s t changes → ((id : Id) → Renewed (get changes id) (cached_for p id) (cached_for q id)) → AreLive H s p → AreLive H t q

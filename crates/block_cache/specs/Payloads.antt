@@ -37,6 +37,11 @@ AfterLoad true id (Ok answer) old new = new ≡ used_last id old
 AfterLoad false id (Ok (Some payload)) old new = CachedOrNot id payload old new
 AfterLoad cached id answer old new = new ≡ old
 
+-- what the load of a front leaves: the block of a cached payload is the one used last, and a front is never cached
+abbrev pub AfterFront : Bool → BlockId → LoadAnswer → Payloads → Payloads → Type 0
+AfterFront true id (Ok answer) old new = new ≡ used_last id old
+AfterFront cached id answer old new = new ≡ old
+
 -- what becomes of what is cached for an id: where it wasn't changed it stays, else it is the new payload or nothing
 abbrev pub Renewed : Option (Option (List ℕ)) → Option (List ℕ) → Option (List ℕ) → Type 0
 Renewed None old new = new ≡ old

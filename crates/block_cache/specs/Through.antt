@@ -1,9 +1,10 @@
 -- What a store means through a cache: f is the store below, and p are the cached payloads.
-use Rattle.std.specs.Prelude.{◌≡◌, ℕ, true, List, length, is_some, Option, Some, option_map}
+use Rattle.std.specs.Prelude.{◌≡◌, ℕ, true, List, length, is_some, Option, Some, None, option_map}
 use Rattle.outcome.specs.Meanings.{Meanings, Lawful}
 use Rattle.outcome.specs.Lift.{lift_with, lawful_with}
 use Rattle.store_api.specs.Content.{Id, Changes}
-use Rattle.store_api.specs.Loads.{LoadAnswer, LoadsOver}
+use Rattle.store_api.specs.Fronts.{front_of}
+use Rattle.store_api.specs.Loads.{GivesPayload, LoadAnswer, LoadsOver}
 use Rattle.store_api.specs.Holdings.{Holdings, Steady, Stays}
 use Rattle.store_api.specs.Durables.{Durables, Records, Enduring}
 use Rattle.block_cache.specs.Payloads.{Payloads, cached_for}
@@ -20,6 +21,11 @@ Agree H s payloads = (id bytes : List ℕ) → cached_for payloads id ≡ Some b
 -- a cached payload is answered, unless memory is wanting, and the store below is left; with none it is asked
 abbrev pub LoadsPast : {S : Type 0} → (S → S → Id → LoadAnswer → Type 0) → Option (List ℕ) → S → S → Id → LoadAnswer → Type 0
 LoadsPast loads cached a b id answer = LoadsOver loads (option_map Some cached) a b id answer
+
+-- a cached payload's front is answered, unless memory is wanting, and the store below is left
+abbrev pub FrontPast : {S : Type 0} → ℕ → Option (List ℕ) → S → S → LoadAnswer → Type 0
+FrontPast most None a b answer = Unit {0}
+FrontPast most (Some payload) a b answer = (b ≡ a) × GivesPayload (front_of most (Some payload)) answer
 
 module _ {A B : Type 0} (f : A → B) (p : A → Payloads) where
   abbrev pub meanings_past : Meanings B → Holdings B → Meanings A

@@ -1,5 +1,5 @@
 // A store of blocks with a cache.
-ghost use Rattle.std.specs.Prelude.{◌≡◌, ◌≤◌, ◌↔◌, [], OnOk, OnErr, IfOk, IfErr, IfSome, length, is_some};
+ghost use Rattle.std.specs.Prelude.{◌≡◌, ◌≤◌, ◌↔◌, [], OnOk, OnErr, IfOk, IfErr, IfSome, length, is_some, min};
 ghost use Rattle.std.specs.declared.result.Result.TheVariants.{Err};
 ghost use Rattle.std.specs.FinMap as fin;
 ghost use Rattle.outside.specs.Causes.{GetHasCause};
@@ -9,13 +9,14 @@ ghost use Rattle.outcome.specs.Outcome.{Outcome};
 ghost use Rattle.lru.specs.LruCache.{lru_cache};
 ghost use Rattle.store_api.specs.Applying.{Applies, AppliesNone, KeepsCounts};
 ghost use Rattle.store_api.specs.Content.{Id};
+ghost use Rattle.store_api.specs.Fronts.{front_of};
 ghost use Rattle.store_api.specs.Leaving.{StaysMeant, WritesList, WrittenRecords, ListsConfig, ConfigRecords, SetsLeast};
 ghost use Rattle.store_api.specs.Lists.{MayConfigure};
 ghost use Rattle.store_api.specs.Durables.{MayBeLeast};
 ghost use Rattle.store_api.specs.Holdings.{FitsStore, IsSpent, Stays};
 ghost use Rattle.store_api.specs.Loads.{answer_of};
-ghost use Rattle.block_cache.specs.Payloads.{AfterLoad, Renewed, cached_for};
-ghost use Rattle.block_cache.specs.Through.{LoadsPast, meanings_past, holdings_past, loads_past, durables_past, lawful_past, steady_past, stays_past, enduring_past};
+ghost use Rattle.block_cache.specs.Payloads.{AfterFront, AfterLoad, Renewed, cached_for};
+ghost use Rattle.block_cache.specs.Through.{FrontPast, LoadsPast, meanings_past, holdings_past, loads_past, durables_past, lawful_past, steady_past, stays_past, enduring_past};
 
 use crate::payloads::{cache, renew_all};
 use block_id::{BlockId, Fail, Memory};
@@ -71,6 +72,24 @@ impl<S: Blocks> BlockCache<S> {
         self.store.load(alloc, id)
     }
 
+    /// The front of the id's payload by a load of the store below, whatever is cached. What is cached stays.
+    pub fn load_front_below(
+        &mut self,
+        alloc: Global,
+        id: &BlockId,
+        most: usize,
+    ) -> Result<Option<Vec<u8>>, Fail>
+        requires { ⟦<BlockCache<S> as Blocks>⟧.meanings.intact self.old }
+        ensures outcome { Outcome ⟦<BlockCache<S> as Blocks>⟧.meanings Unit self.old self.new result (λ _ answer. bytes_of answer ≡ front_of most (⟦<BlockCache<S> as Blocks>⟧.holdings.content self.old id.now.0)) }
+        ensures stays { Stays ⟦<BlockCache<S> as Blocks>⟧.holdings self.old self.new }
+        ensures of_blocks { IfErr result IsOfBlocks }
+        ensures none { IfOk result (λ answer. is_some answer ≡ is_some (⟦<BlockCache<S> as Blocks>⟧.holdings.content self.old id.now.0)) }
+        ensures sized { IfOk result (λ answer. IfSome answer (λ bytes. length bytes.items ≡ min most (⟦<BlockCache<S> as Blocks>⟧.holdings.payload self.old))) }
+        ensures cached { self.new.cached ≡ self.old.cached }
+    {
+        self.store.load_front(alloc, id, most)
+    }
+
     /// The store below, without the cache.
     pub fn into_store(self) -> S
         ensures { result ≡ self.store }
@@ -112,6 +131,32 @@ impl<S: Blocks> Blocks for BlockCache<S> {
             }
             None => Ok(None),
         }
+    }
+
+    /// A cached payload's front is answered without a call on the store below. A front of the store below isn't cached.
+    fn load_front(
+        &mut self,
+        alloc: Global,
+        id: &BlockId,
+        most: usize,
+    ) -> Result<Option<Vec<u8>>, Fail>
+        requires { ⟦<BlockCache<S> as Blocks>⟧.meanings.intact self.old }
+        ensures outcome { Outcome ⟦<BlockCache<S> as Blocks>⟧.meanings Unit self.old self.new result (λ _ answer. bytes_of answer ≡ front_of most (⟦<BlockCache<S> as Blocks>⟧.holdings.content self.old id.now.0)) }
+        ensures stays { Stays ⟦<BlockCache<S> as Blocks>⟧.holdings self.old self.new }
+        ensures of_blocks { IfErr result IsOfBlocks }
+        ensures none { IfOk result (λ answer. is_some answer ≡ is_some (⟦<BlockCache<S> as Blocks>⟧.holdings.content self.old id.now.0)) }
+        ensures sized { IfOk result (λ answer. IfSome answer (λ bytes. length bytes.items ≡ min most (⟦<BlockCache<S> as Blocks>⟧.holdings.payload self.old))) }
+
+        ensures front { FrontPast most (cached_for self.old.cached id.now.0) self.old.store self.new.store (answer_of result) }
+        ensures cached { AfterFront (is_some (cached_for self.old.cached id.now.0)) id.now (answer_of result) self.old.cached self.new.cached }
+    {
+        if let Some(bytes) = self.cached.peek(id) {
+            let count = most.min(bytes.len());
+            let front = bytes[..count].to_vec(alloc)?;
+            self.cached.promote(id);
+            return Ok(Some(front));
+        }
+        self.load_front_below(alloc, id, most)
     }
 
     fn is_used(&self, id: &BlockId) -> bool {

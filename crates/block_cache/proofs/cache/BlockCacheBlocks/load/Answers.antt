@@ -1,11 +1,9 @@
 use Rattle.std.proofs.Common.{◌≡◌, Bool, sym, ◌∙◌, ap, subst, is_some, false, Some, Ok}
 use Rattle.block_id.specs.declared.id.BlockId.{BlockId}
-use Rattle.outcome.specs.Outcome.{Outcome}
-use Rattle.outside.specs.View.{bytes_of}
 use Rattle.store_api.specs.Loads.{LoadAnswer}
 use Rattle.block_cache.specs.Payloads.{Payloads, cached_for, CachedOrNot, AfterLoad}
 use Rattle.block_cache.proofs.Lookups.{items_of}
-use Rattle.block_cache.proofs.Caching.{past, cache_of, outcome-cached, outcome-loaded}
+use Rattle.block_cache.proofs.Caching.{outcome-cached, outcome-loaded}
 use Rattle.block_cache.proofs.cache.BlockCacheBlocks.load.Given.{Over}
 use Rattle.block_cache.proofs.cache.BlockCacheBlocks.load.Goals as goal
 
@@ -15,12 +13,8 @@ answered g c = ap items_of (sym c.in-Some.ensures) ∙ ap Some (sym (c.in_ok-pay
 
 pub returns-in-Some-clause-outcome : goal.returns-in-Some-clause-outcome
 returns-in-Some-clause-outcome g c =
-    let M = g.S.Blocks.meanings in
-    let H = g.S.Blocks.holdings in
-    let s = c.args.self.now.store in
-    let p = c.args.self.now.cached in
-    subst (λ q. Outcome (past M H) (Unit {0}) (cache_of M H s p) (cache_of M H s q) (Ok (Some c.in_ok-payload.payload)) (λ _ answer. bytes_of answer ≡ H.content s c.args.id.now.0)) (sym c.promote.ensures.entries)
-    (outcome-cached M H g.met.S.Blocks.lawful s p c.args.id.now c.in_ok-payload.payload c.requires (answered g c))
+    outcome-cached g.S.Blocks.meanings g.S.Blocks.holdings g.met.S.Blocks.lawful c.args.self.now.store c.args.self.now.cached c.promote.new.self c.args.id.now c.in_ok-payload.payload c.requires
+    (answered g c) c.promote.ensures.entries
 
 pub returns-in-Some-clause-sized : goal.returns-in-Some-clause-sized
 returns-in-Some-clause-sized g c = c.requires.1.sized c.args.id.now.0 c.in_ok-payload.payload.items (answered g c)
