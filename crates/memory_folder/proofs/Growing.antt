@@ -1,5 +1,5 @@
 -- A folder's tree with one row more, or another.
-use Rattle.std.proofs.Common.{◌≡◌, inl, inr, ℕ, ◌+◌, ◌-◌, ◌≤◌, Bool, true, false, List, [], ◌∷◌, ◌++◌, length, take, refl, sym, ◌∙◌, ap, subst, arith, Bor}
+use Rattle.std.proofs.Common.{◌≡◌, inl, inr, ℕ, ◌-◌, ◌≤◌, Bool, true, false, List, [], ◌∷◌, ◌++◌, length, take, refl, sym, ◌∙◌, ap, subst, arith, Bor}
 use Rattle.std.specs.Prelude.{is_some, Some, None, IfSome, IsTrue, All, ◌||◌, not, option_map}
 use Rattle.std.proofs.lemmas.List.{take-append-le, take_all, length-append, get_or_push}
 use Rattle.std.specs.FinMap.{get, insert, empty, get-empty, same_map}

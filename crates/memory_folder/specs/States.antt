@@ -1,5 +1,5 @@
 -- A folder in memory: its tree, and which of its calls fail.
-use Rattle.std.specs.Prelude.{ℕ, ◌==◌, Bool, true, false, not, ◌||◌, List, [], length, ◌-◌, take, is_some, refl}
+use Rattle.std.specs.Prelude.{◌≡◌, ◌≤◌, ℕ, ◌==◌, Bool, true, false, not, ◌||◌, List, [], length, ◌-◌, take, is_some, refl}
 use Rattle.std.specs.List.{list_any}
 use Rattle.std.specs.Coded.{Coded, code_by, coded×, coded_ℕ, coded_list}
 use Rattle.std.specs.FinMap.{get, insert, empty}
@@ -10,9 +10,11 @@ use Rattle.std.specs.declared.result.Result.TheVariants.{Ok, Err}
 use Rattle.outside.specs.Causes.{one_more}
 use Rattle.outside.specs.declared.vault.GetFail.{GetFail}
 use Rattle.outside.specs.declared.vault.GetFail.TheVariants.{Memory, Failed}
+use Rattle.fs_model.specs.declared.limits.TheConstants.{MAX_ENTRIES}
 use Rattle.fs_model.specs.Step.{by_kind}
+use Rattle.fs_model.specs.Tree.{Tree, upward, parent, is_root, directory_size}
 use Rattle.host_folder.specs.Folders.{HostRow, HostPath, HostTree, directory_row}
-use Rattle.memory_folder.specs.Told.{host_tree_code}
+use Rattle.memory_folder.specs.Told.{told_by, host_tree_code}
 
 pub record FolderState : Type 0 where
   pub tree : HostTree
@@ -59,6 +61,12 @@ link_fails s p = is_listed s || not (is_link (get s.tree p))
 abbrev pub make_fails : HostTree → HostPath → Bool
 make_fails t p = is_some (get t p) || not (is_folder (get t (take (length p - 1) p)))
 
+-- a new row can be made there, it isn't the root, and its directory isn't past the limit
+pub record HasPlace (table : Tree) (names : HostPath) : Type 0 where
+  pub place : make_fails (told_by table) names ≡ false
+  pub named : is_root (upward names) ≡ false
+  pub room : directory_size table (parent (upward names)) ≤ MAX_ENTRIES
+
 abbrev pub is_failed : {X : Type 0} → Result X GetFail → Bool
 is_failed (Ok x) = false
 is_failed (Err Memory) = false
@@ -67,6 +75,11 @@ is_failed (Err Failed) = true
 -- with another tree
 abbrev pub with_tree : FolderState → HostTree → FolderState
 with_tree s t = record s { tree = t }
+
+-- the tree and what is set stay, and a call was counted
+pub record OnlyCounts (old new : FolderState) : Type 0 where
+  pub same : Some new.tree ≡ Some old.tree
+  pub counts : (new.failing ≡ old.failing) × (new.calls ≡ one_more old.calls)
 
 -- the root alone, and no call
 abbrev pub none_yet : FolderState

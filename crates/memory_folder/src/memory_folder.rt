@@ -5,7 +5,7 @@ ghost use Rattle.outside.specs.Causes.{GetHasCause, RoseBy, one_more};
 ghost use Rattle.fs_model.specs.declared.attr.Kind.TheVariants.{Link};
 ghost use Rattle.fs_model.specs.Fitting.{is_target};
 ghost use Rattle.host_folder.specs.Folders.{IsHostTree, RowsRise, AreRowsOf, IsFileAt, IsLinkAt, IsMade, IsAppended, HasTarget};
-ghost use Rattle.memory_folder.specs.States.{is_listed, list_fails, read_fails, link_fails, make_fails, is_failed, with_tree, none_yet};
+ghost use Rattle.memory_folder.specs.States.{is_listed, list_fails, read_fails, link_fails, make_fails, is_failed, with_tree, none_yet, OnlyCounts};
 
 use crate::table_rows::{
     add_row, copied, copy_from, longer, root_table, row_at, rows_of, set_file,
@@ -282,11 +282,10 @@ impl Folder for MemoryFolder {
         ensures order { IfOk result RowsRise }
         ensures tree { IsHostTree self.old.tree }
         ensures ok { IfOk result (λ rows. AreRowsOf self.old.tree path.now rows) }
-        ensures same { Some self.new.tree ≡ Some self.old.tree }
         ensures cause { GetHasCause self.old.faults self.new.faults result }
 
         ensures exact { is_failed result ≡ list_fails self.old path.now }
-        ensures counts { (self.new.failing ≡ self.old.failing) × (self.new.calls ≡ one_more self.old.calls) }
+        ensures stays { OnlyCounts self.old self.new }
     {
         let result = self.rows(alloc, path);
         self.count(&result);
@@ -297,13 +296,12 @@ impl Folder for MemoryFolder {
         ensures bound { IfOk result (λ n. n ≤ length piece.old) }
         ensures far { IfOk result (λ n. 0 < n → from + n ≤ 2 ^ 63) }
         ensures ok { IfOk result (λ n. IsFileAt self.old.tree path.now from n piece.old piece.new) }
-        ensures same { Some self.new.tree ≡ Some self.old.tree }
         ensures grows { self.old.faults ≤ self.new.faults }
         ensures cause { OnErr result (RoseBy 1 self.old.faults self.new.faults) }
         ensures quiet { OnOk result (self.new.faults ≡ self.old.faults) }
 
         ensures exact { is_err result ≡ read_fails self.old path.now }
-        ensures counts { (self.new.failing ≡ self.old.failing) × (self.new.calls ≡ one_more self.old.calls) }
+        ensures stays { OnlyCounts self.old self.new }
     {
         let result = self.read_at(path, from, piece);
         self.count_read(&result);
@@ -313,11 +311,10 @@ impl Folder for MemoryFolder {
     fn link(&mut self, alloc: Global, path: &Path) -> Result<ByteText, GetFail>
         ensures fits { IfOk result (λ text. IsTrue (is_target text)) }
         ensures ok { IfOk result (λ text. IsLinkAt self.old.tree path.now text) }
-        ensures same { Some self.new.tree ≡ Some self.old.tree }
         ensures cause { GetHasCause self.old.faults self.new.faults result }
 
         ensures exact { is_failed result ≡ link_fails self.old path.now }
-        ensures counts { (self.new.failing ≡ self.old.failing) × (self.new.calls ≡ one_more self.old.calls) }
+        ensures stays { OnlyCounts self.old self.new }
     {
         let result = self.target(alloc, path);
         self.count(&result);

@@ -1,13 +1,12 @@
 // Rows of a table, seen as those of a folder.
-ghost use Rattle.std.specs.Prelude.{◌≡◌, ◌∷◌, ◌++◌, ◌-◌, ◌<◌, ◌≤◌, ℕ, List, [], false, true, length, take, drop, map, All, IfOk, OnOk, OnErr, None, Some};
+ghost use Rattle.std.specs.Prelude.{◌≡◌, ◌∷◌, ◌++◌, ◌-◌, ◌<◌, ◌≤◌, ℕ, List, [], true, length, take, drop, map, All, IfOk, OnOk, OnErr, None, Some};
 ghost use Rattle.std.specs.Option.{option_map};
 ghost use Rattle.std.specs.FinMap.{empty, get, insert, find};
 ghost use Rattle.fs_model.specs.declared.attr.Kind.TheVariants.{File};
-ghost use Rattle.fs_model.specs.declared.limits.TheConstants.{MAX_ENTRIES};
-ghost use Rattle.fs_model.specs.Tree.{name_cmp, upward, parent, is_root, directory_size};
+ghost use Rattle.fs_model.specs.Tree.{name_cmp};
 ghost use Rattle.host_folder.specs.Folders.{HasTarget, IsHostTree, RowsRise, directory_row, row_pair, kind_in};
 ghost use Rattle.fs_model.specs.Names.{IsName};
-ghost use Rattle.memory_folder.specs.States.{is_file, make_fails};
+ghost use Rattle.memory_folder.specs.States.{is_file, HasPlace};
 ghost use Rattle.memory_folder.specs.Told.{told_by};
 
 use block_id::Memory;
@@ -58,9 +57,7 @@ pub fn add_row(table: &mut Table, names: &[Name], kind: Kind, bytes: Vec<u8>) ->
     requires tree { IsHostTree (told_by table.old) }
     requires names { All IsName names.now }
     requires target { HasTarget kind bytes.items }
-    requires place { make_fails (told_by table.old) names.now ≡ false }
-    requires named { is_root (upward names.now) ≡ false }
-    requires room { directory_size table.old (parent (upward names.now)) ≤ MAX_ENTRIES }
+    requires place { HasPlace table.old names.now }
     ensures ok { OnOk result (told_by table.new ≡ insert (told_by table.old) names.now (record { kind = kind; bytes = bytes.items })) }
     ensures err { OnErr result (table.new ≡ table.old) }
     ensures tree { IsHostTree (told_by table.new) }

@@ -9,7 +9,7 @@ use Rattle.memory_folder.proofs.Turned.{none_told, told_next}
 use Rattle.memory_folder.proofs.table_rows.add_row.Goals as goal
 
 pub insert-requires-clause-absent : goal.insert-requires-clause-absent
-insert-requires-clause-absent c = none_told c.args.table.now c.args.names.now (free_there (told_by c.args.table.now) c.args.names.now c.requires.place)
+insert-requires-clause-absent c = none_told c.args.table.now c.args.names.now (free_there (told_by c.args.table.now) c.args.names.now c.requires.place.place)
 
 on_ok : {X E : Type 0} (r : Result X E) (P Q : Type 0) → (P → Q) → OnOk r P → OnOk r Q
 on_ok (Ok x) P Q f h = f h
@@ -31,7 +31,7 @@ returns-clause-tree c =
     (on_ok c.insert.result _ _
     (λ e. told_next c.args.table.now c.insert.new.self c.args.names.now (record { attr = c.attr_of.result; bytes = c.args.bytes.items }) c.args.kind e c.attr_of.ensures)
     c.insert.ensures.ok) c.insert.ensures.err c.requires.tree
-    (made (told_by c.args.table.now) c.args.names.now c.args.kind c.args.bytes.items c.requires.tree c.requires.names c.requires.target c.requires.place)
+    (made (told_by c.args.table.now) c.args.names.now c.args.kind c.args.bytes.items c.requires.tree c.requires.names c.requires.target c.requires.place.place)
 
 pub returns-clause-free : goal.returns-clause-free
-returns-clause-free c = free_there (told_by c.args.table.now) c.args.names.now c.requires.place
+returns-clause-free c = free_there (told_by c.args.table.now) c.args.names.now c.requires.place.place
