@@ -6,7 +6,7 @@ use Rattle.std.proofs.Math.Nat.{mul-le-mul_left}
 use Rattle.data_nodes.specs.Layout.{NodeText, leaf, inner, IsNode, FitsPayload}
 use Rattle.store_api.specs.Content.{Id, Content}
 use Rattle.store_api.specs.Holdings.{Holdings, Stays, has_id}
-use Rattle.data_tree.specs.Trees.{IsTree, Holds, Forest, span, NoDoubles, depth_in}
+use Rattle.data_tree.specs.Trees.{IsTree, Holds, Forest, IsDepth, span, NoDoubles, depth_in}
 use Rattle.data_tree.proofs.Loads.{holds-depth}
 use Rattle.data_tree.specs.Needs.{HasTree, HasTrees, HasBelow}
 use Rattle.data_tree.specs.Roots.{IsRoot}
@@ -120,3 +120,15 @@ below_root {H = H} {a = a} node depth told n is level =
       holds = subst (λ d. Holds (H.payload a) (H.content a) d node n.bytes n.tree.below) same holds;
       alone = (alone_root n).1;
     }
+
+-- a root stands on while blocks are loaded
+abbrev pub root_at : {S : Type 0} {H : Holdings S} {a b : S} {id : Id} → Stays H a b → H.told a ≡ true → IsRoot H a id → IsRoot H b id
+root_at {H = H} {a = a} {b = b} {id = id} stays told n = record {
+  bytes = n.bytes;
+  ids = n.ids;
+  depth = n.depth;
+  small = n.small;
+  deep = subst (λ p. IsDepth p n.depth (length n.bytes)) (sym stays.payload) n.deep;
+  tree = moved H a b stays told (λ p B. IsTree p B n.depth id n.bytes n.ids) n.tree;
+  alone = n.alone;
+}

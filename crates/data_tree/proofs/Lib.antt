@@ -11,3 +11,4 @@ pub mod Puts
 pub mod Stored
 pub mod Borders
 pub mod OneTree
+pub mod Heads

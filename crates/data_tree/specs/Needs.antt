@@ -1,6 +1,7 @@
 -- What the steps of the calls on trees need of the content, and what they leave.
 use Rattle.std.specs.Prelude.{◌≡◌, ◌<◌, ◌*◌, ℕ, true, cond, List, [], Option, Some, ◌++◌, length}
-use Rattle.data_nodes.specs.Layout.{NodeText, IsNode}
+use Rattle.data_nodes.specs.declared.head.Head.{Head}
+use Rattle.data_nodes.specs.Layout.{NodeText, IsNode, depth_in, size_of}
 use Rattle.store_api.specs.Content.{Id, Content, same_id}
 use Rattle.store_api.specs.Holdings.{Holdings}
 use Rattle.data_tree.specs.Trees.{IsTree, Holds, Forest, span, NoDoubles, Replaces}
@@ -12,6 +13,10 @@ pub record HasNode {S : Type 0} (H : Holdings S) (s : S) (id : Id) : Type 0 wher
   pub told : H.told s ≡ true
   pub there : H.content s id ≡ Some text
   pub is : IsNode text node
+
+-- the head is that of this node
+abbrev pub IsHeadOf : Head → NodeText → Type 0
+IsHeadOf head node = (head.depth ≡ depth_in node) × (head.size ≡ size_of node)
 
 -- a tree of this depth stands below this id
 pub record HasTree {S : Type 0} (H : Holdings S) (s : S) (depth : ℕ) (id : Id) : Type 0 where

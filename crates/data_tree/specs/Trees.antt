@@ -3,6 +3,7 @@ use Rattle.std.specs.Prelude.{◌≡◌, ◌⊎◌, ℕ, zero, suc, ◌<◌, ◌
 use Rattle.store_api.specs.Holdings.{has_id}
 use Rattle.data_nodes.specs.Layout.{NodeText, leaf, inner, IsNode, room, fan_out}
 use Rattle.store_api.specs.Content.{Id, Content}
+pub use Rattle.data_nodes.specs.Layout.{depth_in}
 
 -- for how many bytes a tree of this depth has room
 abbrev pub span : ℕ → ℕ → ℕ
@@ -40,10 +41,6 @@ Holds payload B (suc depth) node w below =
 -- a tree of this depth holds w, and these are the ids of its nodes
 abbrev pub IsTree : ℕ → Content → ℕ → Id → List ℕ → List Id → Type 0
 IsTree payload B depth = NodeIn B payload (Holds payload B depth)
-
-abbrev pub depth_in : NodeText → ℕ
-depth_in (leaf bytes) = 0
-depth_in (inner depth children) = depth
 
 -- each id stands there once
 abbrev pub NoDoubles : List Id → Type 0

@@ -9,4 +9,4 @@ mod nodes;
 pub use building::{build, build_children, new_below};
 pub use dropping::{drop_children, drop_in};
 pub use level::{Level, MOST_BYTES, depth_of, level_for, level_of};
-pub use nodes::{load_at, load_root, put_new, put_node, remove};
+pub use nodes::{load_at, load_head, load_root, put_new, put_node, remove};

@@ -1,18 +1,18 @@
 // Nodes of a tree in the blocks of a store.
 ghost use Rattle.std.specs.FinMap as fin;
-ghost use Rattle.std.specs.Prelude.{◌≡◌, ◌+◌, ◌≤◌, ◌<◌, ◌^◌, ℕ, true, false, is_some, IfOk, IfErr, OnOk, None};
+ghost use Rattle.std.specs.Prelude.{◌≡◌, ◌+◌, ◌≤◌, ◌<◌, ◌^◌, ℕ, List, length, take, true, false, is_some, IfOk, IfErr, IfSome, IsSomeAnd, OnOk, None};
 ghost use Rattle.outcome.specs.Outcome.{Outcome};
 ghost use Rattle.store_api.specs.Content.{Id, same_id};
 ghost use Rattle.store_api.specs.Holdings.{Stays};
 ghost use Rattle.store_api.specs.Txs.{content_of, intact_in, tx_holdings, tx_meanings};
-ghost use Rattle.data_nodes.specs.Layout.{node_of, FitsPayload};
-ghost use Rattle.data_tree.specs.Needs.{HasNode, HasTree, SetsNode, Sets};
+ghost use Rattle.data_nodes.specs.Layout.{NodeText, IsNode, FitsPayload, node_of, room};
+ghost use Rattle.data_tree.specs.Needs.{HasNode, HasTree, IsHeadOf, SetsNode, Sets};
 ghost use Rattle.data_tree.specs.Roots.{IsRoot, IsTooDeep};
 ghost use Rattle.data_tree.specs.Trees.{IsDepth, depth_in, span};
 
 use crate::level::{Level, depth_of, level_of};
 use block_id::{BlockId, Fail, Memory, Why};
-use data_nodes::{Node, read_node, write_node};
+use data_nodes::{HEADER_LEN, Head, Node, read_head, read_node, write_node};
 use std::alloc::Global;
 use store_api::{Blocks, Tx};
 
@@ -32,6 +32,41 @@ fn load_node<S: Blocks>(alloc: Global, tx: &mut Tx<S>, id: &BlockId) -> Result<N
     };
     match read_node(alloc, &payload)? {
         Some(node) => Ok(node),
+        None => Err(Fail::Violation(Why::Structure)),
+    }
+}
+
+/// The head that stands in front of a payload of this length. None where none does, or one of a leaf with more bytes than
+/// the payload has room for.
+fn head_in(front: &[u8], payload: usize) -> Option<Head>
+    requires { HEADER_LEN ≤ payload }
+    ensures fits { IfSome result (λ head. head.depth ≡ 0 → head.size ≤ room payload) }
+    ensures only { (text : List ℕ) (node : NodeText) → IsNode text node → length text ≡ payload → front.now ≡ take HEADER_LEN text
+        → IsSomeAnd result (λ head. IsHeadOf head node) }
+{
+    let head = read_head(front)?;
+    if head.depth == 0 && head.size as usize > payload - HEADER_LEN {
+        return None;
+    }
+    Some(head)
+}
+
+/// The head of the node that a block holds. The front of the block is opened, and what follows isn't looked at.
+pub fn load_head<S: Blocks>(alloc: Global, tx: &mut Tx<S>, id: &BlockId) -> Result<Head, Fail>
+    requires { intact_in S.meanings S.holdings tx.old }
+    ensures outcome { Outcome (tx_meanings S.meanings S.holdings) (HasNode (tx_holdings S.holdings) tx.old id.now.0) tx.old tx.new result (λ n head. IsHeadOf head n.node) }
+    ensures stays { Stays (tx_holdings S.holdings) tx.old tx.new }
+    ensures below { Stays S.holdings tx.old.store tx.new.store }
+    ensures overlay { tx.new.overlay ≡ tx.old.overlay }
+    ensures there { OnOk result (is_some (content_of S.holdings tx.old id.now.0) ≡ true) }
+    ensures fits { IfOk result (λ head. head.depth ≡ 0 → head.size ≤ room (S.holdings.payload tx.old.store)) }
+{
+    let front = match tx.load_front(alloc, id, HEADER_LEN)? {
+        Some(front) => front,
+        None => return Err(Fail::Violation(Why::Structure)),
+    };
+    match head_in(&front, tx.payload()) {
+        Some(head) => Ok(head),
         None => Err(Fail::Violation(Why::Structure)),
     }
 }

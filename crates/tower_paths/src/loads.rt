@@ -30,11 +30,11 @@ const LOADS: [(usize, Call, usize); 52] = [
     // Making a tree loads nothing.
     (42, Call::Make, 0),
     (169, Call::Make, 0),
-    // A length: a node of each level.
+    // A length: the front of the root, and where that is no leaf a node of each level. Without the front these were 1, 3, 4 and 4.
     (42, Call::Len, 1),
-    (85, Call::Len, 3),
-    (169, Call::Len, 4),
-    (336, Call::Len, 4),
+    (85, Call::Len, 1 + 3),
+    (169, Call::Len, 1 + 4),
+    (336, Call::Len, 1 + 4),
     // A read: the root, and the nodes that have room for a place of the range.
     (42, Call::Read(0, 42), 1),
     (85, Call::Read(84, 1), 3),
@@ -49,11 +49,11 @@ const LOADS: [(usize, Call, usize); 52] = [
     (169, Call::Read(252, 1), 2),
     (169, Call::Read(336, 1), 1),
     (336, Call::Read(0, 336), 15),
-    // A drop: the root and the inner nodes.
+    // A drop: the front of the root, and where that is no leaf the root and the inner nodes. Without the front 1, 3, 6 and 7.
     (42, Call::Drop, 1),
-    (85, Call::Drop, 3),
-    (169, Call::Drop, 6),
-    (336, Call::Drop, 7),
+    (85, Call::Drop, 1 + 3),
+    (169, Call::Drop, 1 + 6),
+    (336, Call::Drop, 1 + 7),
     // A write inside: the right border, and the nodes below the root that hold a byte of the range. One of nothing: none.
     (42, Call::Write(0, 42), 1),
     (85, Call::Write(84, 1), 3 + 2),

@@ -13,12 +13,33 @@ use crate::part::Part;
 use crate::reading::read_in;
 use crate::rewriting::{overwrite, read_root, rewrite};
 use block_id::{BlockId, Fail};
-use data_tree::{drop_in, level_for, load_root, new_below, remove};
+use data_tree::{drop_in, level_for, load_head, load_root, new_below, remove};
 use std::alloc::Global;
 use store_api::{Blocks, Tx};
 
-/// How many bytes the tree has. A block is loaded for each level.
+/// How many bytes the tree has. Of a root that is a leaf the front of its block is opened, else a block is loaded for each
+/// level.
 pub fn len<S: Blocks>(alloc: Global, tx: &mut Tx<S>, root: &BlockId) -> Result<u64, Fail>
+    requires { intact_in S.meanings S.holdings tx.old }
+    ensures outcome { Outcome (tx_meanings S.meanings S.holdings) (IsRoot (tx_holdings S.holdings) tx.old root.now.0) tx.old tx.new result (λ n len. len ≡ length n.bytes) }
+    ensures shallow { S.meanings.sound tx.old.store → S.meanings.forgeries tx.new.store ≤ S.meanings.forgeries tx.old.store
+        → OnOk result (IsTooDeep (tx_holdings S.holdings) tx.old root.now.0 → ⊥) }
+    ensures stays { Stays (tx_holdings S.holdings) tx.old tx.new }
+    ensures below { Stays S.holdings tx.old.store tx.new.store }
+    ensures overlay { tx.new.overlay ≡ tx.old.overlay }
+{
+    let head = match load_head(alloc, tx, root) {
+        Ok(head) => head,
+        Err(fail) => return Err(fail),
+    };
+    if head.depth == 0 {
+        return Ok(head.size as u64);
+    }
+    deep_len(alloc, tx, root)
+}
+
+/// The same by a block of each level.
+fn deep_len<S: Blocks>(alloc: Global, tx: &mut Tx<S>, root: &BlockId) -> Result<u64, Fail>
     requires { intact_in S.meanings S.holdings tx.old }
     ensures outcome { Outcome (tx_meanings S.meanings S.holdings) (IsRoot (tx_holdings S.holdings) tx.old root.now.0) tx.old tx.new result (λ n len. len ≡ length n.bytes) }
     ensures shallow { S.meanings.sound tx.old.store → S.meanings.forgeries tx.new.store ≤ S.meanings.forgeries tx.old.store
@@ -64,8 +85,31 @@ pub fn read_range<S: Blocks>(
     }
 }
 
-/// Drops the tree. Its root and its inner nodes are loaded, and no other leaf.
+/// Drops the tree. Of a root that is a leaf the front of its block is opened, else the root and the inner nodes are loaded;
+/// no other leaf is.
 pub fn drop_tree<S: Blocks>(alloc: Global, tx: &mut Tx<S>, root: &BlockId) -> Result<(), Fail>
+    requires { intact_in S.meanings S.holdings tx.old }
+    ensures outcome { Outcome (tx_meanings S.meanings S.holdings) (IsRoot (tx_holdings S.holdings) tx.old root.now.0) tx.old tx.new result
+        (λ n _. Replaces (content_of S.holdings tx.old) (content_of S.holdings tx.new) n.ids []) }
+    ensures shallow { S.meanings.sound tx.old.store → S.meanings.forgeries tx.new.store ≤ S.meanings.forgeries tx.old.store
+        → OnOk result (IsTooDeep (tx_holdings S.holdings) tx.old root.now.0 → ⊥) }
+    ensures below { Stays S.holdings tx.old.store tx.new.store }
+{
+    let head = match load_head(alloc, tx, root) {
+        Ok(head) => head,
+        Err(fail) => return Err(fail),
+    };
+    if head.depth != 0 {
+        return drop_deep(alloc, tx, root);
+    }
+    match remove(tx, root) {
+        Ok(()) => Ok(()),
+        Err(_) => Err(Fail::Memory),
+    }
+}
+
+/// The same by the root and the inner nodes.
+fn drop_deep<S: Blocks>(alloc: Global, tx: &mut Tx<S>, root: &BlockId) -> Result<(), Fail>
     requires { intact_in S.meanings S.holdings tx.old }
     ensures outcome { Outcome (tx_meanings S.meanings S.holdings) (IsRoot (tx_holdings S.holdings) tx.old root.now.0) tx.old tx.new result
         (λ n _. Replaces (content_of S.holdings tx.old) (content_of S.holdings tx.new) n.ids []) }

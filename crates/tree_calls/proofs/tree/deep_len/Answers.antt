@@ -1,0 +1,19 @@
+use Rattle.data_nodes.specs.Layout.{node_of}
+use Rattle.outcome.specs.Outcome.{then_, passed}
+use Rattle.store_api.specs.Txs.{tx_laws}
+use Rattle.data_tree.proofs.Forests.{below_on, below_root}
+use Rattle.data_tree.proofs.Puts.{on_any, unforged_before}
+use Rattle.tree_calls.proofs.tree.deep_len.Goals as goal
+
+pub returns-in-Ok-clause-outcome : goal.returns-in-Ok-clause-outcome
+returns-in-Ok-clause-outcome g c =
+    let laws = tx_laws g.S.Blocks.meanings g.S.Blocks.holdings g.met.S.Blocks.lawful in
+    then_ laws c.in-Ok.ensures.outcome (λ n p. below_on c.load_root.ensures.stays (below_root (node_of c.in-Ok.node) c.in-Ok.level.depth p.0 n p.1 c.in-Ok.ensures.depth)) c.len_in.ensures.outcome (λ n p y h. h)
+
+pub returns-in-Ok-clause-shallow : goal.returns-in-Ok-clause-shallow
+returns-in-Ok-clause-shallow g c s h =
+    let laws = tx_laws g.S.Blocks.meanings g.S.Blocks.holdings g.met.S.Blocks.lawful in
+    on_any c.len_in.result (c.in-Ok.ensures.shallow s (unforged_before laws c.args.tx.now c.load_root.new.tx c.len_in.new.tx c.len_in.ensures.outcome.loaded h))
+
+pub returns-in-Err-clause-outcome : goal.returns-in-Err-clause-outcome
+returns-in-Err-clause-outcome g c = passed c.in-Err.ensures.outcome
