@@ -3,7 +3,7 @@ ghost use Rattle.std.specs.Prelude.{◌≤◌, ◌<◌};
 ghost use Rattle.data_nodes.specs.Layout.{FitsPayload, IsPayloadLen, fan_out, node_of, room};
 
 use block_id::{BlockId, Memory};
-use data_nodes::{Node, read_node, write_node};
+use data_nodes::{Node, read_head, read_node, write_node};
 use std::alloc::Global;
 use std::test::Fail;
 
@@ -35,6 +35,51 @@ fn nodes_at_the_bounds(rt: HostRuntime) -> Result<(), Fail> {
     assert!(rt; is_inner_read_again(alloc, 255, 2, 50)?);
     assert!(rt; is_inner_read_again(alloc, 255, 1_018, 16_306)?);
     Ok(())
+}
+
+#[test]
+fn heads(rt: HostRuntime) -> Result<(), Fail> {
+    assert!(rt; is_head(&[0; 8], 0, 0));
+    assert!(rt; is_head(&[0, 0, 0, 0, 2, 0, 0, 0, b'a', b'b'], 0, 2));
+    assert!(rt; is_head(&[0, 0, 0, 255, 1, 2, 0, 0], 255, 513));
+    assert!(rt; is_head(&[0, 0, 0, 1, 0, 0, 1, 128, 7], 1, 0x8001_0000));
+    assert!(rt; read_head(&[]).is_none());
+    assert!(rt; read_head(&[0; 7]).is_none());
+    assert!(rt; read_head(&[1, 0, 0, 0, 2, 0, 0, 0]).is_none());
+    assert!(rt; read_head(&[0, 1, 0, 0, 2, 0, 0, 0]).is_none());
+    assert!(rt; read_head(&[0, 0, 1, 0, 2, 0, 0, 0]).is_none());
+    Ok(())
+}
+
+#[test]
+fn heads_are_those_of_nodes(rt: HostRuntime) -> Result<(), Fail> {
+    let alloc = rt.alloc();
+    let empty = Node::Leaf(Vec::new(alloc));
+    let leaf = Node::Leaf(b"ab".to_vec(alloc)?);
+    let children = vec![in alloc; BlockId([9; 16]); 2]?;
+    let inner = Node::Inner { depth: 3, children };
+    assert!(rt; is_head_of(&write_node(alloc, &empty, 50)?, &empty));
+    assert!(rt; is_head_of(&write_node(alloc, &leaf, 50)?, &leaf));
+    assert!(rt; is_head_of(&write_node(alloc, &inner, 50)?, &inner));
+    Ok(())
+}
+
+fn is_head(front: &[u8], depth: u8, size: usize) -> bool {
+    match read_head(front) {
+        Some(head) => head.depth == depth && head.size as usize == size,
+        None => false,
+    }
+}
+
+/// Whether the first eight bytes of the payload tell the node's depth and size.
+fn is_head_of(payload: &[u8], node: &Node) -> bool {
+    if payload.len() < 8 {
+        return false;
+    }
+    match node {
+        Node::Leaf(bytes) => is_head(&payload[..8], 0, bytes.len()),
+        Node::Inner { depth, children } => is_head(&payload[..8], *depth, children.len()),
+    }
 }
 
 fn is_leaf_read_again(alloc: Global, len: usize, payload: usize) -> Result<bool, Memory>
