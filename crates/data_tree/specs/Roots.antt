@@ -1,9 +1,10 @@
 -- Roots of left-filled trees, as the calls on trees need and leave them.
 use Rattle.std.specs.Prelude.{◌≡◌, ◌≤◌, ◌^◌, ℕ, List, length, Some}
-use Rattle.data_nodes.specs.Layout.{inner, IsNode}
+use Rattle.data_nodes.specs.Layout.{NodeText, inner, FitsPayload, IsNode}
 use Rattle.store_api.specs.Content.{Id}
 use Rattle.store_api.specs.Holdings.{Holdings}
-use Rattle.data_tree.specs.Trees.{IsTree, IsDepth, NoDoubles, Replaces}
+use Rattle.data_tree.specs.declared.level.Level.{Level}
+use Rattle.data_tree.specs.Trees.{IsTree, IsDepth, NoDoubles, Replaces, depth_in, span}
 
 -- the left-filled tree of a list of at most 2^40 bytes stands below this id
 pub record IsRoot {S : Type 0} (H : Holdings S) (s : S) (id : Id) : Type 0 where
@@ -32,3 +33,9 @@ pub record IsTooDeep {S : Type 0} (H : Holdings S) (s : S) (id : Id) : Type 0 wh
   pub there : H.content s id ≡ Some text
   pub is : IsNode text (inner depth children)
   pub deeper : (n : ℕ) → n ≤ 2 ^ 40 → IsDepth (H.payload s) depth n → ⊥
+
+-- a node that fits its payload has this depth, of which a tree has so much room
+pub record IsAtLevel (payload : ℕ) (node : NodeText) (level : Level) : Type 0 where
+  pub fits : FitsPayload payload node
+  pub depth : depth_in node ≡ level.depth
+  pub room : level.room ≡ span payload level.depth

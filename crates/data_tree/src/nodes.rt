@@ -7,7 +7,7 @@ ghost use Rattle.store_api.specs.Holdings.{Stays};
 ghost use Rattle.store_api.specs.Txs.{content_of, intact_in, tx_holdings, tx_meanings};
 ghost use Rattle.data_nodes.specs.Layout.{NodeText, IsNode, FitsPayload, node_of, room};
 ghost use Rattle.data_tree.specs.Needs.{HasNode, HasTree, IsHeadOf, SetsNode, Sets};
-ghost use Rattle.data_tree.specs.Roots.{IsRoot, IsTooDeep};
+ghost use Rattle.data_tree.specs.Roots.{IsAtLevel, IsRoot, IsTooDeep};
 ghost use Rattle.data_tree.specs.Trees.{IsDepth, depth_in, span};
 
 use crate::level::{Level, depth_of, level_of};
@@ -109,9 +109,7 @@ pub fn load_root<S: Blocks>(
     ensures below { Stays S.holdings tx.old.store tx.new.store }
     ensures overlay { tx.new.overlay ≡ tx.old.overlay }
     ensures there { OnOk result (is_some (content_of S.holdings tx.old root.now.0) ≡ true) }
-    ensures fits { IfOk result (λ found. FitsPayload (S.holdings.payload tx.old.store) (node_of found.0)) }
-    ensures depth { IfOk result (λ found. depth_in (node_of found.0) ≡ found.1.depth) }
-    ensures room { IfOk result (λ found. found.1.room ≡ span (S.holdings.payload tx.old.store) found.1.depth) }
+    ensures level { IfOk result (λ found. IsAtLevel (S.holdings.payload tx.old.store) (node_of found.0) found.1) }
     ensures small { IfOk result (λ found. found.1.room < 2 ^ 63) }
 {
     let node = match load_node(alloc, tx, root) {

@@ -6,8 +6,8 @@ ghost use Rattle.outcome.specs.Outcome.{Outcome};
 ghost use Rattle.store_api.specs.Content.{Id, SameIds};
 ghost use Rattle.store_api.specs.Holdings.{Stays};
 ghost use Rattle.store_api.specs.Txs.{content_of, intact_in, tx_holdings, tx_meanings};
-ghost use Rattle.data_nodes.specs.Layout.{room, node_of, FitsPayload};
-ghost use Rattle.data_tree.specs.Roots.{IsRoot, IsNewRoot, IsTooDeep};
+ghost use Rattle.data_nodes.specs.Layout.{room, node_of};
+ghost use Rattle.data_tree.specs.Roots.{IsAtLevel, IsRoot, IsNewRoot, IsTooDeep};
 ghost use Rattle.data_tree.specs.Trees.{IsDepth, span, depth_in};
 ghost use Rattle.tree_ranges.specs.Border.{Grew, Shrank};
 ghost use Rattle.tree_writing.specs.Leaves.{OnlyLeaves};
@@ -38,10 +38,8 @@ fn open_root<S: Blocks>(
     ensures below { Stays S.holdings tx.old.store tx.new.store }
     ensures overlay { tx.new.overlay ≡ tx.old.overlay }
     ensures there { OnOk result (is_some (content_of S.holdings tx.old root.now.0) ≡ true) }
-    ensures fits { IfOk result (λ found. FitsPayload (S.holdings.payload tx.old.store) (node_of found.0)) }
-    ensures depth { IfOk result (λ found. depth_in (node_of found.0) ≡ found.1.depth) }
+    ensures level { IfOk result (λ found. IsAtLevel (S.holdings.payload tx.old.store) (node_of found.0) found.1) }
     ensures most { IfOk result (λ found. found.2 ≤ found.1.room) }
-    ensures room { IfOk result (λ found. found.1.room ≡ span (S.holdings.payload tx.old.store) found.1.depth) }
 {
     let (node, level) = match load_root(alloc, tx, root) {
         Ok(found) => found,

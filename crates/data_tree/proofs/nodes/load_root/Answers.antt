@@ -3,7 +3,7 @@ use Rattle.data_nodes.specs.Layout.{node_of, inner}
 use Rattle.outcome.specs.Outcome.{answered, passed, unbuilt, sounded_}
 use Rattle.data_tree.specs.Needs.{HasNode}
 use Rattle.data_tree.specs.Roots.{IsRoot}
-use Rattle.data_tree.specs.Trees.{depth_in, IsDepth}
+use Rattle.data_tree.specs.Trees.{depth_in, span, IsDepth}
 use Rattle.store_api.specs.Txs.{tx_holdings, tx_laws}
 use Rattle.data_tree.proofs.Loads.{holds-depth}
 use Rattle.data_tree.proofs.nodes.load_root.Goals as goal
@@ -81,11 +81,14 @@ returns-in-Err-clause-shallow g c s h = tt
 pub returns-in-None-clause-shallow : goal.returns-in-None-clause-shallow
 returns-in-None-clause-shallow g c s h = tt
 
-pub returns-in-Some-clause-fits : goal.returns-in-Some-clause-fits
-returns-in-Some-clause-fits g c = c.in-Ok.ensures.fits
-
-pub returns-in-Some-clause-depth : goal.returns-in-Some-clause-depth
-returns-in-Some-clause-depth g c = sym (c.in-Some.ensures.depth ∙ c.depth_of.ensures)
+pub returns-in-Some-clause-level : goal.returns-in-Some-clause-level
+returns-in-Some-clause-level g c =
+    let long : c.payload.result ≡ g.S.Blocks.holdings.payload c.args.tx.now.store = c.payload.ensures ∙ c.load_node.ensures.stays.payload in
+    record {
+      fits = c.in-Ok.ensures.fits;
+      depth = sym (c.in-Some.ensures.depth ∙ c.depth_of.ensures);
+      room = c.in-Some.ensures.room ∙ ap (λ p. span p c.depth_of.result) long ∙ ap (span (g.S.Blocks.holdings.payload c.args.tx.now.store)) (sym c.in-Some.ensures.depth);
+    }
 
 pub returns-in-Some-clause-there : goal.returns-in-Some-clause-there
 returns-in-Some-clause-there g c = c.in-Ok.ensures.there

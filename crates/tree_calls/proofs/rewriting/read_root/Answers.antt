@@ -12,14 +12,14 @@ use Rattle.tree_calls.proofs.rewriting.read_root.Goals as goal
 pub returns-in-Err-read_in-clause-outcome : goal.returns-in-Err-read_in-clause-outcome
 returns-in-Err-read_in-clause-outcome g c =
     let laws = tx_laws g.S.Blocks.meanings g.S.Blocks.holdings g.met.S.Blocks.lawful in
-    failed_ laws c.in-Ok.ensures.outcome (λ n p. below_on c.load_root.ensures.stays (below_root (node_of c.in-Ok.found.0) c.in-Ok.found.1.depth p.0 n p.1 c.in-Ok.ensures.depth)) c.in-Err-read_in.ensures.outcome
+    failed_ laws c.in-Ok.ensures.outcome (λ n p. below_on c.load_root.ensures.stays (below_root (node_of c.in-Ok.found.0) c.in-Ok.found.1.depth p.0 n p.1 c.in-Ok.ensures.level.depth)) c.in-Err-read_in.ensures.outcome
 
 pub returns-clause-outcome : goal.returns-clause-outcome
 returns-clause-outcome g c =
     let H = tx_holdings g.S.Blocks.holdings in
     let laws = tx_laws g.S.Blocks.meanings g.S.Blocks.holdings g.met.S.Blocks.lawful in
     let two = then_ laws {R = λ n _. (H.told c.args.tx.now ≡ true) × ((node_of c.in-Ok.found.0 ≡ n.tree.node) × (c.read_in.new.out.items ≡ c.new-bytes.result.items ++ between 0 18446744073709551615 n.bytes))} c.in-Ok.ensures.outcome
-    (λ n p. below_on c.load_root.ensures.stays (below_root (node_of c.in-Ok.found.0) c.in-Ok.found.1.depth p.0 n p.1 c.in-Ok.ensures.depth)) c.in-Ok-read_in.ensures.outcome (λ n p y h. (p.0, (p.1, h))) in
+    (λ n p. below_on c.load_root.ensures.stays (below_root (node_of c.in-Ok.found.0) c.in-Ok.found.1.depth p.0 n p.1 c.in-Ok.ensures.level.depth)) c.in-Ok-read_in.ensures.outcome (λ n p y h. (p.0, (p.1, h))) in
     answered two (λ n p. (p.0, (p.1.0, p.1.1 ∙ ap (λ xs. xs ++ between 0 18446744073709551615 n.bytes) c.new-bytes.ensures.items ∙ all_between 18446744073709551615 n.bytes (omega (arith, n.small)))))
 
 pub returns-clause-shallow : goal.returns-clause-shallow
@@ -31,7 +31,7 @@ pub returns-then-len-gt-MOST_BYTES-clause-outcome : goal.returns-then-len-gt-MOS
 returns-then-len-gt-MOST_BYTES-clause-outcome g c =
     let laws = tx_laws g.S.Blocks.meanings g.S.Blocks.holdings g.met.S.Blocks.lawful in
     let two = then_ laws {R = λ n _. c.read_in.new.out.items ≡ c.new-bytes.result.items ++ between 0 18446744073709551615 n.bytes} c.in-Ok.ensures.outcome
-    (λ n p. below_on c.load_root.ensures.stays (below_root (node_of c.in-Ok.found.0) c.in-Ok.found.1.depth p.0 n p.1 c.in-Ok.ensures.depth)) c.in-Ok-read_in.ensures.outcome (λ n p y h. h) in
+    (λ n p. below_on c.load_root.ensures.stays (below_root (node_of c.in-Ok.found.0) c.in-Ok.found.1.depth p.0 n p.1 c.in-Ok.ensures.level.depth)) c.in-Ok-read_in.ensures.outcome (λ n p y h. h) in
     unbuilt laws two (λ n p.
     let whole = p ∙ ap (λ xs. xs ++ between 0 18446744073709551615 n.bytes) c.new-bytes.ensures.items ∙ all_between 18446744073709551615 n.bytes (omega (arith, n.small)) in
     absurd (omega (arith, ap length whole, n.small, c.len.ensures, c.read_in.new.out.ok.0, c.if-len-gt-MOST_BYTES.true)))
@@ -58,10 +58,10 @@ pub returns-in-Err-clause-outcome : goal.returns-in-Err-clause-outcome
 returns-in-Err-clause-outcome g c = passed c.in-Err.ensures.outcome
 
 pub read_in-requires-clause-level : goal.read_in-requires-clause-level
-read_in-requires-clause-level g c = c.in-Ok.ensures.room ∙ ap (λ p. span p c.in-Ok.found.1.depth) (sym c.load_root.ensures.stays.payload)
+read_in-requires-clause-level g c = c.in-Ok.ensures.level.room ∙ ap (λ p. span p c.in-Ok.found.1.depth) (sym c.load_root.ensures.stays.payload)
 
 pub read_in-requires-clause-fits : goal.read_in-requires-clause-fits
-read_in-requires-clause-fits g c = subst (λ p. FitsPayload p (node_of c.in-Ok.found.0)) (sym c.load_root.ensures.stays.payload) c.in-Ok.ensures.fits
+read_in-requires-clause-fits g c = subst (λ p. FitsPayload p (node_of c.in-Ok.found.0)) (sym c.load_root.ensures.stays.payload) c.in-Ok.ensures.level.fits
 
 pub returns-in-Err-clause-stays : goal.returns-in-Err-clause-stays
 returns-in-Err-clause-stays g c = c.load_root.ensures.stays

@@ -8,7 +8,7 @@ use Rattle.tree_calls.proofs.tree.deep_len.Goals as goal
 pub returns-in-Ok-clause-outcome : goal.returns-in-Ok-clause-outcome
 returns-in-Ok-clause-outcome g c =
     let laws = tx_laws g.S.Blocks.meanings g.S.Blocks.holdings g.met.S.Blocks.lawful in
-    then_ laws c.in-Ok.ensures.outcome (λ n p. below_on c.load_root.ensures.stays (below_root (node_of c.in-Ok.node) c.in-Ok.level.depth p.0 n p.1 c.in-Ok.ensures.depth)) c.len_in.ensures.outcome (λ n p y h. h)
+    then_ laws c.in-Ok.ensures.outcome (λ n p. below_on c.load_root.ensures.stays (below_root (node_of c.in-Ok.node) c.in-Ok.level.depth p.0 n p.1 c.in-Ok.ensures.level.depth)) c.len_in.ensures.outcome (λ n p y h. h)
 
 pub returns-in-Ok-clause-shallow : goal.returns-in-Ok-clause-shallow
 returns-in-Ok-clause-shallow g c s h =

@@ -21,7 +21,7 @@ returns-in-Ok-remove-clause-outcome g c =
     let stays = c.load_root.ensures.stays in
     let two = changed_ g.S.Blocks.meanings g.S.Blocks.holdings {R = λ n. ((H.told a ≡ true) × (node ≡ n.tree.node)) × Sets (H.content b) (H.content d) id None} a b d c.remove.ensures.store c.remove.ensures.seed c.remove.ensures.intact c.in-Ok.ensures.outcome
     (λ n p. (p, c.in-Ok-remove.ensures.sets)) in
-    then_ laws two (λ n r. below_changed (below_on stays (below_root node c.in-Ok.found.1.depth r.0.0 n r.0.1 c.in-Ok.ensures.depth)) (alone_root n).0 (keeps_same g.S.Blocks.holdings b d c.remove.ensures.store) r.1) c.drop_in.ensures.outcome
+    then_ laws two (λ n r. below_changed (below_on stays (below_root node c.in-Ok.found.1.depth r.0.0 n r.0.1 c.in-Ok.ensures.level.depth)) (alone_root n).0 (keeps_same g.S.Blocks.holdings b d c.remove.ensures.store) r.1) c.drop_in.ensures.outcome
     (λ n r y k. drops_tree (H.content a) (H.content b) (H.content d) (H.content c.drop_in.new.tx) id n.tree.below n.ids (stays.content r.0.0) r.1 n.tree.all k)
 
 pub returns-in-Ok-remove-clause-shallow : goal.returns-in-Ok-remove-clause-shallow

@@ -12,13 +12,13 @@ pub returns-in-Ok-read_in-clause-outcome : goal.returns-in-Ok-read_in-clause-out
 returns-in-Ok-read_in-clause-outcome g c =
     let laws = tx_laws g.S.Blocks.meanings g.S.Blocks.holdings g.met.S.Blocks.lawful in
     let two = then_ laws {R = λ n _. c.read_in.new.out.items ≡ c.new-out.result.items ++ between c.args.from c.saturating_add.result n.bytes} c.in-Ok.ensures.outcome
-    (λ n p. below_on c.load_root.ensures.stays (below_root (node_of c.in-Ok.found.0) c.in-Ok.found.1.depth p.0 n p.1 c.in-Ok.ensures.depth)) c.in-Ok-read_in.ensures.outcome (λ n p y h. h) in
+    (λ n p. below_on c.load_root.ensures.stays (below_root (node_of c.in-Ok.found.0) c.in-Ok.found.1.depth p.0 n p.1 c.in-Ok.ensures.level.depth)) c.in-Ok-read_in.ensures.outcome (λ n p y h. h) in
     answered two (λ n p. p ∙ ap (λ xs. xs ++ between c.args.from c.saturating_add.result n.bytes) c.new-out.ensures.items ∙ counted c.args.from c.args.count c.saturating_add.result _ n.bytes c.saturating_add.ensures (omega (arith, n.small)))
 
 pub returns-clause-outcome : goal.returns-clause-outcome
 returns-clause-outcome g c =
     let laws = tx_laws g.S.Blocks.meanings g.S.Blocks.holdings g.met.S.Blocks.lawful in
-    failed_ laws c.in-Ok.ensures.outcome (λ n p. below_on c.load_root.ensures.stays (below_root (node_of c.in-Ok.found.0) c.in-Ok.found.1.depth p.0 n p.1 c.in-Ok.ensures.depth)) c.in-Err-read_in.ensures.outcome
+    failed_ laws c.in-Ok.ensures.outcome (λ n p. below_on c.load_root.ensures.stays (below_root (node_of c.in-Ok.found.0) c.in-Ok.found.1.depth p.0 n p.1 c.in-Ok.ensures.level.depth)) c.in-Err-read_in.ensures.outcome
 
 pub returns-in-Ok-read_in-clause-shallow : goal.returns-in-Ok-read_in-clause-shallow
 returns-in-Ok-read_in-clause-shallow g c s h =

@@ -12,7 +12,7 @@ returns-in-Ok-len_in-clause-outcome g c =
     let H = tx_holdings g.S.Blocks.holdings in
     let laws = tx_laws g.S.Blocks.meanings g.S.Blocks.holdings g.met.S.Blocks.lawful in
     let two = then_ laws {R = λ n len. (H.told c.args.tx.now ≡ true) × ((node_of c.in-Ok.found.0 ≡ n.tree.node) × (len ≡ length n.bytes))} c.in-Ok.ensures.outcome
-    (λ n p. below_on c.load_root.ensures.stays (below_root (node_of c.in-Ok.found.0) c.in-Ok.found.1.depth p.0 n p.1 c.in-Ok.ensures.depth)) c.in-Ok-len_in.ensures.outcome (λ n p y h. (p.0, (p.1, h))) in
+    (λ n p. below_on c.load_root.ensures.stays (below_root (node_of c.in-Ok.found.0) c.in-Ok.found.1.depth p.0 n p.1 c.in-Ok.ensures.level.depth)) c.in-Ok-len_in.ensures.outcome (λ n p y h. (p.0, (p.1, h))) in
     answered two (λ n p. p)
 
 pub returns-in-Ok-len_in-clause-shallow : goal.returns-in-Ok-len_in-clause-shallow
@@ -23,7 +23,7 @@ returns-in-Ok-len_in-clause-shallow g c s h =
 pub returns-in-Err-len_in-clause-outcome : goal.returns-in-Err-len_in-clause-outcome
 returns-in-Err-len_in-clause-outcome g c =
     let laws = tx_laws g.S.Blocks.meanings g.S.Blocks.holdings g.met.S.Blocks.lawful in
-    failed_ laws c.in-Ok.ensures.outcome (λ n p. below_on c.load_root.ensures.stays (below_root (node_of c.in-Ok.found.0) c.in-Ok.found.1.depth p.0 n p.1 c.in-Ok.ensures.depth)) c.in-Err-len_in.ensures.outcome
+    failed_ laws c.in-Ok.ensures.outcome (λ n p. below_on c.load_root.ensures.stays (below_root (node_of c.in-Ok.found.0) c.in-Ok.found.1.depth p.0 n p.1 c.in-Ok.ensures.level.depth)) c.in-Err-len_in.ensures.outcome
 
 pub returns-in-Err-clause-outcome : goal.returns-in-Err-clause-outcome
 returns-in-Err-clause-outcome g c = passed c.in-Err.ensures.outcome
@@ -52,17 +52,11 @@ returns-in-Ok-len_in-clause-below g c = stays-then c.load_root.ensures.below c.l
 pub returns-in-Err-len_in-clause-below : goal.returns-in-Err-len_in-clause-below
 returns-in-Err-len_in-clause-below g c = stays-then c.load_root.ensures.below c.len_in.ensures.below
 
-pub returns-in-Ok-len_in-clause-fits : goal.returns-in-Ok-len_in-clause-fits
-returns-in-Ok-len_in-clause-fits g c = c.in-Ok.ensures.fits
-
-pub returns-in-Ok-len_in-clause-depth : goal.returns-in-Ok-len_in-clause-depth
-returns-in-Ok-len_in-clause-depth g c = c.in-Ok.ensures.depth
-
-pub returns-in-Ok-len_in-clause-room : goal.returns-in-Ok-len_in-clause-room
-returns-in-Ok-len_in-clause-room g c = c.in-Ok.ensures.room
+pub returns-in-Ok-len_in-clause-level : goal.returns-in-Ok-len_in-clause-level
+returns-in-Ok-len_in-clause-level g c = c.in-Ok.ensures.level
 
 pub len_in-requires-clause-level : goal.len_in-requires-clause-level
-len_in-requires-clause-level g c = c.in-Ok.ensures.room ∙ ap (λ p. span p c.in-Ok.found.1.depth) (sym c.load_root.ensures.stays.payload)
+len_in-requires-clause-level g c = c.in-Ok.ensures.level.room ∙ ap (λ p. span p c.in-Ok.found.1.depth) (sym c.load_root.ensures.stays.payload)
 
 pub len_in-requires-clause-fits : goal.len_in-requires-clause-fits
-len_in-requires-clause-fits g c = subst (λ p. FitsPayload p (node_of c.in-Ok.found.0)) (sym c.load_root.ensures.stays.payload) c.in-Ok.ensures.fits
+len_in-requires-clause-fits g c = subst (λ p. FitsPayload p (node_of c.in-Ok.found.0)) (sym c.load_root.ensures.stays.payload) c.in-Ok.ensures.level.fits

@@ -37,7 +37,7 @@ returns-then-n-len-2-clause-outcome g c =
     let keeps = keeps_below H0 b d c.cut_root.ensures.below in
     let deep : IsDepth (H.payload d) depth n = subst (λ p. IsDepth p depth n) (c.payload.ensures ∙ sym keeps.payload) c.level_for-depth.ensures.deep in
     then_ laws c.in-Ok.ensures.outcome
-    (λ r p. record { below = below_on stays (below_root node own p.0 r p.1.0 c.in-Ok.ensures.depth); apart = (alone_root r).0; fits = omega (arith, c.if-n-len-2.true, p.1.1) }) c.cut_root.ensures.outcome
+    (λ r p. record { below = below_on stays (below_root node own p.0 r p.1.0 c.in-Ok.ensures.level.depth); apart = (alone_root r).0; fits = omega (arith, c.if-n-len-2.true, p.1.1) }) c.cut_root.ensures.outcome
     (λ r p y cut. cut_root_is {H = H} {a = a} {b = b} {c = d} stays p.0 r (omega (arith, c.if-n-len-2.true, p.1.1)) deep cut.0)
 
 pub returns-then-n-len-2-clause-shallow : goal.returns-then-n-len-2-clause-shallow
@@ -58,7 +58,7 @@ cut_root-requires-clause-low g c =
     let steady = tx_steady g.S.Blocks.meanings g.S.Blocks.holdings g.met.S.Blocks.steady in
     let H = tx_holdings g.S.Blocks.holdings in
     let b = c.open_root.new.tx in
-    let room : c.in-Ok.found.1.room ≡ span (H.payload b) c.in-Ok.found.1.depth = c.in-Ok.ensures.room ∙ ap (λ p. span p c.in-Ok.found.1.depth) (sym c.open_root.ensures.stays.payload) in
+    let room : c.in-Ok.found.1.room ≡ span (H.payload b) c.in-Ok.found.1.depth = c.in-Ok.ensures.level.room ∙ ap (λ p. span p c.in-Ok.found.1.depth) (sym c.open_root.ensures.stays.payload) in
     depth_least (H.payload b) c.level_for-depth.result.depth c.in-Ok.found.1.depth c.args.n (steady.at_least b c.open_root.ensures.outcome.intact) (subst (λ p. IsDepth p c.level_for-depth.result.depth c.args.n) c.payload.ensures c.level_for-depth.ensures.deep) (omega (arith, c.if-n-len-2.true, c.in-Ok.ensures.most, room))
 
 pub returns-then-n-len-2-clause-fewer : goal.returns-then-n-len-2-clause-fewer
@@ -106,7 +106,7 @@ returns-then-n-len-2-clause-shrank g c r s h =
     let before = unforged_before laws a b d c.cut_root.ensures.outcome.loaded h in
     let loaded = laws.forgeries_grow a b c.open_root.ensures.outcome.loaded in
     let p = c.in-Ok.ensures.outcome.value r.tree s before in
-    let need : MayCutNode H b own root node n = record { below = below_on stays (below_root node own p.0 r.tree p.1.0 c.in-Ok.ensures.depth); apart = (alone_root r.tree).0; fits = omega (arith, r.fits) } in
+    let need : MayCutNode H b own root node n = record { below = below_on stays (below_root node own p.0 r.tree p.1.0 c.in-Ok.ensures.level.depth); apart = (alone_root r.tree).0; fits = omega (arith, r.fits) } in
     on_ok_if c.cut_root.result
     (λ y cut. (depth, (deep, record { fewer = λ q there. sym (stays.ids q) ∙ c.cut_root.ensures.fewer q there; only = subst (λ o. OnlyBorder (H.content d) depth root o d.overlay) c.open_root.ensures.overlay cut.1 })))
     (c.cut_root.ensures.outcome.value need (c.open_root.ensures.outcome.sound s before) (omega (arith, h, loaded)))

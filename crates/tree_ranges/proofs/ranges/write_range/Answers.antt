@@ -28,8 +28,8 @@ returns-then-from-bytes-clause-outcome g c =
     let depth = c.in-Ok.found.1.depth in
     let stays = c.open_root.ensures.stays in
     then_ laws c.in-Ok.ensures.outcome
-    (λ n p. record { tree = tree_at stays (root_tree depth p.0 n (root_depth node depth n p.1.0 c.in-Ok.ensures.depth)); is = p.1.0; inside = λ some. omega (arith, c.if-from-bytes.true, p.1.1) }) c.write_in.ensures.outcome
-    (λ n p y w. wrote_root depth c.args.from c.args.bytes.now stays p.0 n (root_depth node depth n p.1.0 c.in-Ok.ensures.depth) (not_zero (length c.args.bytes.now) c.if-is_empty.ensures) (omega (arith, c.if-from-bytes.true, p.1.1))
+    (λ n p. record { tree = tree_at stays (root_tree depth p.0 n (root_depth node depth n p.1.0 c.in-Ok.ensures.level.depth)); is = p.1.0; inside = λ some. omega (arith, c.if-from-bytes.true, p.1.1) }) c.write_in.ensures.outcome
+    (λ n p y w. wrote_root depth c.args.from c.args.bytes.now stays p.0 n (root_depth node depth n p.1.0 c.in-Ok.ensures.level.depth) (not_zero (length c.args.bytes.now) c.if-is_empty.ensures) (omega (arith, c.if-from-bytes.true, p.1.1))
     (keeps_below g.S.Blocks.holdings b c.write_in.new.tx c.write_in.ensures.below) w)
 
 pub returns-then-from-bytes-clause-shallow : goal.returns-then-from-bytes-clause-shallow
@@ -50,7 +50,7 @@ returns-then-from-bytes-clause-inside g c n s h =
     let before = unforged_before laws a b d c.write_in.ensures.outcome.loaded h in
     let grown = laws.forgeries_grow a b c.open_root.ensures.outcome.loaded in
     let p = c.in-Ok.ensures.outcome.value n.tree s before in
-    let same = root_depth node depth n.tree p.1.0 c.in-Ok.ensures.depth in
+    let same = root_depth node depth n.tree p.1.0 c.in-Ok.ensures.level.depth in
     let need : MayWriteNode H b depth c.args.root.now.0 node c.args.from (length c.args.bytes.now) = record { tree = tree_at stays (root_tree depth p.0 n.tree same); is = p.1.0; inside = λ some. n.fits } in
     let only = c.write_in.ensures.only need (c.open_root.ensures.outcome.sound s before) (omega (arith, h, grown)) in
     subst (λ k. OnlyLeaves (H.payload a) (H.content a) k c.args.root.now.0 c.args.from (length c.args.bytes.now) a.overlay d.overlay) (sym same)
@@ -82,7 +82,7 @@ returns-clause-outcome g c =
     let stays = c.open_root.ensures.stays in
     let node = node_of c.in-Ok.found.0 in
     let depth = c.in-Ok.found.1.depth in
-    then_ laws c.in-Ok.ensures.outcome (λ n p. record { tree = root_at stays p.0 n; told = stays.told ∙ p.0; same = root_depth node depth n p.1.0 c.in-Ok.ensures.depth; long = p.1.1 }) c.write_over.ensures.outcome (λ n p y r. new_since stays p.0 r)
+    then_ laws c.in-Ok.ensures.outcome (λ n p. record { tree = root_at stays p.0 n; told = stays.told ∙ p.0; same = root_depth node depth n p.1.0 c.in-Ok.ensures.level.depth; long = p.1.1 }) c.write_over.ensures.outcome (λ n p y r. new_since stays p.0 r)
 
 pub returns-clause-shallow : goal.returns-clause-shallow
 returns-clause-shallow g c s h some =
@@ -134,7 +134,7 @@ returns-clause-grown g c n s h =
     let before = unforged_before laws a b e c.write_over.ensures.outcome.loaded h in
     let loaded = laws.forgeries_grow a b c.open_root.ensures.outcome.loaded in
     let p = c.in-Ok.ensures.outcome.value n.tree s before in
-    let same = root_depth (node_of c.in-Ok.found.0) c.in-Ok.found.1.depth n.tree p.1.0 c.in-Ok.ensures.depth in
+    let same = root_depth (node_of c.in-Ok.found.0) c.in-Ok.found.1.depth n.tree p.1.0 c.in-Ok.ensures.level.depth in
     let grew = c.write_over.ensures.grown (record { tree = root_at stays p.0 n.tree; told = stays.told ∙ p.0; same = same; long = p.1.1 }) (c.open_root.ensures.outcome.sound s before) (omega (arith, h, loaded)) in
     grew_since {H = H} {a = a} {b = b} {c = e} n.tree.depth c.args.root.now.0 c.args.from (length n.tree.bytes) a.overlay b.overlay e.overlay stays p.0 c.open_root.ensures.overlay (subst (λ k. Grew (H.payload b) (H.content b) (H.content e) n.tree.depth c.args.root.now.0 c.args.from k b.overlay e.overlay) p.1.1 grew)
 
@@ -202,10 +202,10 @@ pub returns-clause-below : goal.returns-clause-below
 returns-clause-below g c = stays-then c.open_root.ensures.below c.write_over.ensures.below
 
 pub write_in-requires-clause-level : goal.write_in-requires-clause-level
-write_in-requires-clause-level g c = c.in-Ok.ensures.room ∙ ap (λ p. span p c.in-Ok.found.1.depth) (sym c.open_root.ensures.stays.payload)
+write_in-requires-clause-level g c = c.in-Ok.ensures.level.room ∙ ap (λ p. span p c.in-Ok.found.1.depth) (sym c.open_root.ensures.stays.payload)
 
 pub write_in-requires-clause-fits : goal.write_in-requires-clause-fits
-write_in-requires-clause-fits g c = subst (λ p. FitsPayload p (node_of c.in-Ok.found.0)) (sym c.open_root.ensures.stays.payload) c.in-Ok.ensures.fits
+write_in-requires-clause-fits g c = subst (λ p. FitsPayload p (node_of c.in-Ok.found.0)) (sym c.open_root.ensures.stays.payload) c.in-Ok.ensures.level.fits
 
 pub write_in-requires-clause-there : goal.write_in-requires-clause-there
 write_in-requires-clause-there g c = c.open_root.ensures.stays.ids c.args.root.now.0 ∙ c.in-Ok.ensures.there
