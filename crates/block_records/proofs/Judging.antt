@@ -48,7 +48,7 @@ by_client_good r client known payload is =
       | false ↦ λ same e. absurd (bad_is_good e)
     ] refl is
 
-judged_good : (id : List ℕ) (client version : ℕ) (r : Option Record) (payload : List ℕ) → judged_record id client version r ≡ good payload
+pub judged_good : (id : List ℕ) (client version : ℕ) (r : Option Record) (payload : List ℕ) → judged_record id client version r ≡ good payload
     → r ≡ Some (record { id = id; client = client; version = version; payload = payload })
 judged_good id client version None payload is = absurd (bad_is_good is)
 judged_good id client version (Some r) payload is =

@@ -1,2 +1,3 @@
+mod Fronts
 pub mod Judging
 pub mod Records

@@ -37,15 +37,19 @@ infixl 10 ◌>>=◌
 abbrev pub ◌>>=◌ : {A B : Type 0} → Option A → (A → Option B) → Option B
 o >>= f = option_and_then f o
 
--- the record that a plaintext is, where a block's file has this size: its fields from left to right, of the format, with a client and a version
-unfoldable pub record_of : ℕ → List ℕ → Option Record
-record_of size bytes = do
+-- the record that bytes are read as: its fields from left to right, of the format, with a client and a version; what is left is its payload
+unfoldable pub record_from : List ℕ → Option Record
+record_from bytes = do
   format ← number_at w16 bytes
   id ← front_at 16 format.1
   client ← number_at w32 id.1
   version ← number_at w64 client.1
-  if length bytes + SEAL_LEN == size && format.0 == RECORD_FORMAT && nat_lt 0 client.0 && nat_lt 0 version.0
+  if format.0 == RECORD_FORMAT && nat_lt 0 client.0 && nat_lt 0 version.0
       then Some (record { id = id.0; client = client.0; version = version.0; payload = version.1 }) else None
+
+-- the record that a plaintext is, where a block's file has this size
+unfoldable pub record_of : ℕ → List ℕ → Option Record
+record_of size bytes = if length bytes + SEAL_LEN == size then record_from bytes else None
 
 -- ---- in a file
 

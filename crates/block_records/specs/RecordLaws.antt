@@ -1,8 +1,8 @@
 -- A file that opens to a record: how long it is, and how long its payload.
-use Rattle.std.specs.Prelude.{◌≡◌, ◌≤◌, ℕ, ◌+◌, Bool, true, false, List, Option, Some, None, is_some, if◌then◌else◌, ◌-◌, take, drop, length, nat_lt}
+use Rattle.std.specs.Prelude.{◌≡◌, ◌≤◌, ℕ, ◌+◌, Bool, true, false, List, Option, Some, None, is_some, if◌then◌else◌, ◌-◌, ◌==◌, take, drop, length, nat_lt}
 use Rattle.std.specs.Int.{Width, w16, w32, w64, byte_len, from_le_bytes}
 use Rattle.std.proofs.Common.{refl, ◌∙◌, sym, ap, subst, arith, length-drop}
-use Rattle.std.proofs.lemmas.Bool.{and_parts, ltb-false}
+use Rattle.std.proofs.lemmas.Bool.{ltb-false}
 use Rattle.std.proofs.lemmas.Bool.Decides.{Decides-eqb}
 use Rattle.std.proofs.lemmas.List.{drop-drop, length-replicate, take_all}
 use Rattle.std.proofs.lemmas.Option.{same_Some}
@@ -13,7 +13,7 @@ use Rattle.block_id.specs.declared.format.Format.{Format}
 use Rattle.block_id.specs.Formats.{extra_of, format_in}
 use Rattle.sealed_store.specs.BlockFiles.{OpensAlike, opened_as, opens_file}
 use Rattle.block_records.specs.declared.block_record.TheConstants.{HEAD_LEN, OVERHEAD}
-use Rattle.block_records.specs.BlockRecords.{Record, opened, payload_of, record_in, record_of}
+use Rattle.block_records.specs.BlockRecords.{Record, opened, payload_of, record_from, record_in, record_of}
 
 true_is_false : true ≡ false → ⊥
 true_is_false e = cc
@@ -22,7 +22,7 @@ true_is_false e = cc
 pub none_is_some : {A B : Type 0} {x : A} → None ≡ Some x → B
 none_is_some {B = B} e = absurd (true_is_false (ap is_some (sym e)))
 
-pub if_true : (b : Bool) (o : Option (List ℕ)) (p : List ℕ) → (if b then o else None) ≡ Some p → (b ≡ true) × (o ≡ Some p)
+pub if_true : {A : Type 0} (b : Bool) (o : Option A) (p : A) → (if b then o else None) ≡ Some p → (b ≡ true) × (o ≡ Some p)
 if_true true o p e = (refl, e)
 if_true false o p e = none_is_some e
 
@@ -87,9 +87,9 @@ if_some true r s e = (refl, record_same e)
 if_some false r s e = none_is_some e
 
 -- the payload of a record is what stands behind its head
-pub record-payload : (size : ℕ) (bytes : List ℕ) (r : Record) → record_of size bytes ≡ Some r → (length bytes + SEAL_LEN ≡ size) × IsBehind HEAD_LEN bytes r.payload
-unfolding record_of
-record-payload size bytes r e =
+pub from-payload : (bytes : List ℕ) (r : Record) → record_from bytes ≡ Some r → IsBehind HEAD_LEN bytes r.payload
+unfolding record_from
+from-payload bytes r e =
     let format = bound (number_at w16 bytes) _ r e in
     let id = bound (front_at 16 format.0.1) _ r format.2 in
     let client = bound (number_at w32 id.0.1) _ r id.2 in
@@ -98,8 +98,17 @@ record-payload size bytes r e =
     let one = behind_then 2 16 bytes format.0.1 id.0.1 (number_behind w16 bytes format.0 format.1) (front_behind 16 format.0.1 id.0 id.1) in
     let two = behind_then 4 8 id.0.1 client.0.1 version.0.1 (number_behind w32 id.0.1 client.0 client.1) (number_behind w64 client.0.1 version.0 version.1) in
     let whole = behind_then 18 12 bytes id.0.1 version.0.1 one two in
-    let len = (and_parts _ _ (and_parts _ _ (and_parts _ _ last.0).0).0).0 in
-    ((Decides-eqb (length bytes + 48) size).0 len, subst (λ (s : Record). IsBehind 30 bytes s.payload) last.1 whole)
+    subst (λ (s : Record). IsBehind 30 bytes s.payload) last.1 whole
+
+-- a record of a file is as long as the file has room for it
+pub record-fits : (size : ℕ) (bytes : List ℕ) (r : Record) → record_of size bytes ≡ Some r → (length bytes + SEAL_LEN ≡ size) × (record_from bytes ≡ Some r)
+unfolding record_of
+record-fits size bytes r e =
+    let found = if_true (length bytes + 48 == size) (record_from bytes) r e in
+    ((Decides-eqb (length bytes + 48) size).0 found.0, found.1)
+
+pub record-payload : (size : ℕ) (bytes : List ℕ) (r : Record) → record_of size bytes ≡ Some r → (length bytes + SEAL_LEN ≡ size) × IsBehind HEAD_LEN bytes r.payload
+record-payload size bytes r e = let fits = record-fits size bytes r e in (fits.0, from-payload bytes r fits.1)
 
 pub record-length : (size : ℕ) (bytes : List ℕ) (r : Record) → record_of size bytes ≡ Some r → length r.payload ≡ size - OVERHEAD
 record-length size bytes r e =

@@ -1,5 +1,5 @@
 -- The verdict on what came for a block.
-use Rattle.std.specs.Prelude.{ℕ, List, if◌then◌else◌, ◌==◌, nat_lt, Vec, Result}
+use Rattle.std.specs.Prelude.{ℕ, List, if◌then◌else◌, ◌==◌, nat_lt, take, Vec, Result}
 use Rattle.std.specs.Str.{bytes_eq}
 use Rattle.std.specs.declared.option.Option.{Option}
 use Rattle.std.specs.declared.option.Option.TheVariants.{None, Some}
@@ -25,14 +25,23 @@ judged_record id client known (Some r) =
     else bad (ForeignClient r.client))
     else bad (WrongId (record { 0 = r.id }))
 
--- what comes before that: no file, another length, another prefix, an older format, a seal that doesn't open
+-- what comes before that, where a plaintext is read so: no file, another length, another prefix, an older format, a seal that doesn't open
+abbrev pub judged_by : (List ℕ → Option Record) → List ℕ → ℕ → ℕ → SeenFile → Verdict
+judged_by reads id client known absent = bad Missing
+judged_by reads id client known bad_length = bad BadLength
+judged_by reads id client known bad_prefix = bad BadPrefix
+judged_by reads id client known old_format = bad OldFormat
+judged_by reads id client known not_opened = bad NotOpened
+judged_by reads id client known (plain bytes) = judged_record id client known (reads bytes)
+
+-- where a block's file has this size
 abbrev pub judged : ℕ → List ℕ → ℕ → ℕ → SeenFile → Verdict
-judged size id client known absent = bad Missing
-judged size id client known bad_length = bad BadLength
-judged size id client known bad_prefix = bad BadPrefix
-judged size id client known old_format = bad OldFormat
-judged size id client known not_opened = bad NotOpened
-judged size id client known (plain bytes) = judged_record id client known (record_of size bytes)
+judged size id client known seen = judged_by (record_of size) id client known seen
+
+-- of a payload its first bytes, at most so many
+abbrev pub front_verdict : ℕ → Verdict → Verdict
+front_verdict most (good payload) = good (take most payload)
+front_verdict most (bad why) = bad why
 
 -- the verdict on an answer for this id, by the state's client, the id's known version and the least format that is taken
 abbrev pub verdict : (List ℕ → List ℕ → Option (List ℕ)) → ℕ → List ℕ → ℕ → ℕ → ℕ → Option (List ℕ) → Verdict

@@ -3,7 +3,7 @@ ghost use Rattle.std.specs.Prelude.{◌≡◌, ◌≤◌, ◌<◌, ◌+◌, ◌+
 ghost use Rattle.std.specs.Int.{w16, w32, w64, to_le_bytes};
 ghost use Rattle.std.specs.Option.{option_map};
 ghost use Rattle.sealed_store.specs.declared.sealed_store.TheConstants.{SEAL_LEN};
-ghost use Rattle.block_records.specs.BlockRecords.{record_of, text_of, with_payload};
+ghost use Rattle.block_records.specs.BlockRecords.{record_from, record_of, text_of, with_payload};
 
 use block_id::{BlockId, Memory};
 use byte_fields::{put_id, put_u16, put_u32, put_u64, take_id, take_u16, take_u32, take_u64};
@@ -31,28 +31,25 @@ pub struct Head {
 
 // ---- read
 
-/// What stands before the payload in the record that a plaintext is, where a block's file has `size` bytes. None where
-/// it is no record of such a file.
-pub fn read_head(size: usize, plain: &[u8]) -> Option<Head>
-    ensures record { option_map (λ head. with_payload head (drop HEAD_LEN plain.now)) result ≡ record_of size plain.now }
+/// What stands before the payload in the record that a plaintext is, or its front. None where it is no record. How long a
+/// block's file is, whoever opened it knows.
+pub fn read_head(plain: &[u8]) -> Option<Head>
+    ensures record { option_map (λ head. with_payload head (drop HEAD_LEN plain.now)) result ≡ record_from plain.now }
     ensures long { IfSome result (λ _. HEAD_LEN ≤ length plain.now) }
 {
-    let (head, _) = head_and_payload(size, plain)?;
+    let (head, _) = head_and_payload(plain)?;
     Some(head)
 }
 
-#[tactic(auto, unfolding(crate::specs::BlockRecords::record_of))]
-fn head_and_payload(size: usize, plain: &[u8]) -> Option<(Head, &[u8])>
-    ensures { option_map (λ x. with_payload x.0 x.1.now) result ≡ record_of size plain.now }
+#[tactic(auto, unfolding(crate::specs::BlockRecords::record_from))]
+fn head_and_payload(plain: &[u8]) -> Option<(Head, &[u8])>
+    ensures { option_map (λ x. with_payload x.0 x.1.now) result ≡ record_from plain.now }
 {
     let (format, rest) = take_u16(plain)?;
     let (id, rest) = take_id(rest)?;
     let (client, rest) = take_u32(rest)?;
     let (version, payload) = take_u64(rest)?;
-    if plain.len() + SEAL_LEN != size || format != RECORD_FORMAT {
-        return None;
-    }
-    if client == 0 || version == 0 {
+    if format != RECORD_FORMAT || client == 0 || version == 0 {
         return None;
     }
     let head = Head {

@@ -7,5 +7,5 @@ mod laws;
 mod verdict;
 
 pub use block_record::{HEAD_LEN, Head, OVERHEAD, RECORD_FORMAT, read_head, write_record};
-pub use laws::records_as_texts;
+pub use laws::{fronts_as_wholes, records_as_texts};
 pub use verdict::judge;

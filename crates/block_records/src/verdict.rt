@@ -1,8 +1,9 @@
 // The verdict on what came for a block: the first reason that holds, or its payload.
-ghost use Rattle.std.specs.Prelude.{◌≡◌, ◌≤◌, List, ℕ, drop, length, IfSome, IfNone, Some};
+ghost use Rattle.std.specs.Prelude.{◌≡◌, ◌≤◌, ◌+◌, List, ℕ, drop, length, IfSome, IfNone, Some};
+ghost use Rattle.sealed_store.specs.BlockFiles.{SeenFile, IsWhole, front_seen};
 ghost use Rattle.sealed_store.specs.Stores.{seen_file_of};
-ghost use Rattle.block_records.specs.BlockRecords.{record_of, with_payload};
-ghost use Rattle.block_records.specs.Verdicts.{judged_record, judged, good, bad, verdict_of};
+ghost use Rattle.block_records.specs.BlockRecords.{record_from, with_payload};
+ghost use Rattle.block_records.specs.Verdicts.{judged_by, judged_record, judged, front_verdict, good, bad, verdict_of};
 
 use crate::block_record::{HEAD_LEN, Head, read_head};
 use block_id::{BlockId, Why};
@@ -42,16 +43,10 @@ fn without_head(plain: Vec<u8>) -> Vec<u8>
 }
 
 /// The payload of a plaintext, or what is wrong with it.
-fn judge_plain(
-    size: usize,
-    id: &BlockId,
-    client: u32,
-    known: u64,
-    plain: Vec<u8>,
-) -> Result<Vec<u8>, Why>
-    ensures { verdict_of result ≡ judged_record id.now.0 client known (record_of size plain.items) }
+fn judge_plain(id: &BlockId, client: u32, known: u64, plain: Vec<u8>) -> Result<Vec<u8>, Why>
+    ensures { verdict_of result ≡ judged_record id.now.0 client known (record_from plain.items) }
 {
-    let Some(head) = read_head(size, &plain) else {
+    let Some(head) = read_head(&plain) else {
         return Err(Why::BadRecord);
     };
     match mismatch(&head, id, client, known) {
@@ -60,10 +55,9 @@ fn judge_plain(
     }
 }
 
-/// The payload of what was seen for a block, or the first reason against it: a client asked for this id, which it knows
-/// at version `known`, and a block's file has `size` bytes. It takes no memory.
-pub fn judge(size: usize, id: &BlockId, client: u32, known: u64, seen: Seen) -> Result<Vec<u8>, Why>
-    ensures { verdict_of result ≡ judged size id.now.0 client known (seen_file_of seen) }
+/// The payload of what was seen for a block, or the first reason against it, whatever the plaintext's length.
+fn judge_seen(id: &BlockId, client: u32, known: u64, seen: Seen) -> Result<Vec<u8>, Why>
+    ensures { verdict_of result ≡ judged_by record_from id.now.0 client known (seen_file_of seen) }
 {
     match seen {
         Seen::Absent => Err(Why::Missing),
@@ -71,6 +65,16 @@ pub fn judge(size: usize, id: &BlockId, client: u32, known: u64, seen: Seen) -> 
         Seen::BadPrefix => Err(Why::BadPrefix),
         Seen::OldFormat => Err(Why::OldFormat),
         Seen::NotOpened => Err(Why::NotOpened),
-        Seen::Plain(plain) => judge_plain(size, id, client, known, plain),
+        Seen::Plain(plain) => judge_plain(id, client, known, plain),
     }
+}
+
+/// The payload of what was seen for a block, or the first reason against it: a client asked for this id, which it knows
+/// at version `known`. Of a plaintext that fills its file the head and the payload's front are enough: the verdict is the
+/// same. It takes no memory.
+pub fn judge(id: &BlockId, client: u32, known: u64, seen: Seen) -> Result<Vec<u8>, Why>
+    ensures { (size most : ℕ) (whole : SeenFile) → IsWhole size whole → seen_file_of seen ≡ front_seen (HEAD_LEN + most) whole
+        → verdict_of result ≡ front_verdict most (judged size id.now.0 client known whole) }
+{
+    judge_seen(id, client, known, seen)
 }

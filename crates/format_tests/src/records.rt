@@ -1,12 +1,12 @@
 // Records byte by byte, and what a client says of each. Client 7 asks for block 1, which it knows at version 2, of blocks
 // of 128 bytes.
+ghost use Rattle.std.specs.Prelude.{◌≤◌};
+
 use block_id::{BlockId, Why};
-use block_records::{Head, OVERHEAD, judge, read_head, write_record};
-use sealed_store::{SEAL_LEN, Seen};
+use block_records::{HEAD_LEN, Head, OVERHEAD, judge, read_head, write_record};
+use sealed_store::Seen;
 use std::alloc::Global;
 use std::test::Fail;
-
-const SIZE: usize = 128;
 
 const ID: BlockId = BlockId([1; 16]);
 
@@ -26,10 +26,11 @@ fn a_record_as_bytes(rt: HostRuntime) -> Result<(), Fail> {
         client: 0x01020304,
         version,
     };
-    assert!(rt; read_head(OVERHEAD + 4, &record) == Some(head));
-    assert!(rt; read_head(OVERHEAD + 3, &record).is_none());
-    assert!(rt; read_head(OVERHEAD + 5, &record).is_none());
-    assert!(rt; read_head(SEAL_LEN, &[]).is_none());
+    assert!(rt; read_head(&record) == Some(head));
+    assert!(rt; read_head(&record[..HEAD_LEN]) == Some(head));
+    assert!(rt; read_head(&record[..HEAD_LEN - 1]).is_none());
+    assert!(rt; read_head(&[]).is_none());
+    assert_eq!(rt; OVERHEAD, 78);
     Ok(())
 }
 
@@ -46,7 +47,7 @@ fn plain_of(form: u8, id: u8, client: u8, version: u8) -> [u8; 80] {
 
 fn judge_plain(alloc: Global, plain: &[u8]) -> Result<Result<Vec<u8>, Why>, Fail> {
     let seen = Seen::Plain(plain.to_vec(alloc)?);
-    Ok(judge(SIZE, &ID, CLIENT, KNOWN, seen))
+    Ok(judge(&ID, CLIENT, KNOWN, seen))
 }
 
 #[test]
@@ -79,25 +80,49 @@ fn says_what_is_wrong_with_a_record(rt: HostRuntime) -> Result<(), Fail> {
     Ok(())
 }
 
+/// What a client says of so many bytes in front of a record.
+fn judge_front(alloc: Global, plain: &[u8; 80], len: usize) -> Result<Result<Vec<u8>, Why>, Fail>
+    requires { len ≤ 80 }
+{
+    judge_plain(alloc, &plain[..len])
+}
+
 #[test]
-fn a_shorter_record_is_none(rt: HostRuntime) -> Result<(), Fail> {
-    let plain = plain_of(1, 1, 7, 2);
-    let (_, shorter) = plain.split_last().ok_or("no byte")?;
-    let answer = judge_plain(rt.alloc(), shorter)?;
-    assert!(rt; matches!(answer, Err(Why::BadRecord)));
+fn a_front_gives_that_of_its_payload(rt: HostRuntime) -> Result<(), Fail> {
+    match judge_front(rt.alloc(), &plain_of(1, 1, 7, 2), 33)? {
+        Ok(front) => assert_eq!(rt; front.as_slice(), [9; 3].as_slice()),
+        Err(_) => assert!(rt; false),
+    }
+    Ok(())
+}
+
+#[test]
+fn a_front_is_judged_as_its_record(rt: HostRuntime) -> Result<(), Fail> {
+    let known = KNOWN;
+    match judge_front(rt.alloc(), &plain_of(1, 1, 7, 1), 30)? {
+        Ok(_) => assert!(rt; false),
+        Err(found) => assert!(rt; found == Why::OldVersion { known, found: 1 }),
+    }
+    Ok(())
+}
+
+#[test]
+fn a_front_without_a_head_is_no_record(rt: HostRuntime) -> Result<(), Fail> {
+    let shorter = judge_front(rt.alloc(), &plain_of(1, 1, 7, 2), 29)?;
+    assert!(rt; matches!(shorter, Err(Why::BadRecord)));
     Ok(())
 }
 
 #[test]
 fn says_why_there_is_no_record(rt: HostRuntime) {
-    let absent = judge(SIZE, &ID, CLIENT, KNOWN, Seen::Absent);
+    let absent = judge(&ID, CLIENT, KNOWN, Seen::Absent);
     assert!(rt; matches!(absent, Err(Why::Missing)));
-    let bad_length = judge(SIZE, &ID, CLIENT, KNOWN, Seen::BadLength);
+    let bad_length = judge(&ID, CLIENT, KNOWN, Seen::BadLength);
     assert!(rt; matches!(bad_length, Err(Why::BadLength)));
-    let bad_prefix = judge(SIZE, &ID, CLIENT, KNOWN, Seen::BadPrefix);
+    let bad_prefix = judge(&ID, CLIENT, KNOWN, Seen::BadPrefix);
     assert!(rt; matches!(bad_prefix, Err(Why::BadPrefix)));
-    let old_format = judge(SIZE, &ID, CLIENT, KNOWN, Seen::OldFormat);
+    let old_format = judge(&ID, CLIENT, KNOWN, Seen::OldFormat);
     assert!(rt; matches!(old_format, Err(Why::OldFormat)));
-    let not_opened = judge(SIZE, &ID, CLIENT, KNOWN, Seen::NotOpened);
+    let not_opened = judge(&ID, CLIENT, KNOWN, Seen::NotOpened);
     assert!(rt; matches!(not_opened, Err(Why::NotOpened)));
 }

@@ -1,3 +1,4 @@
 mod Files
+mod Fronts
 mod Sealing
 mod Told

@@ -1,5 +1,5 @@
 -- Block files: the 16 bytes of a format, then a sealed record.
-use Rattle.std.specs.Prelude.{◌≡◌, ℕ, ◌==◌, List, nat_lt, length, drop, if◌then◌else◌}
+use Rattle.std.specs.Prelude.{◌≡◌, ℕ, ◌+◌, ◌==◌, List, nat_lt, length, take, drop, if◌then◌else◌}
 use Rattle.std.specs.declared.option.Option.{Option}
 use Rattle.std.specs.declared.option.Option.TheVariants.{None, Some}
 use Rattle.block_id.specs.Formats.{IsTaken, extra_of, format_in, number_of}
@@ -31,6 +31,24 @@ pub data SeenFile : Type 0 where
 abbrev pub seen_file_of_plain : Option (List ℕ) → SeenFile
 seen_file_of_plain None = not_opened
 seen_file_of_plain (Some bytes) = plain bytes
+
+-- of a plaintext its first bytes, at most so many; whatever else was seen is the same
+abbrev pub front_seen : ℕ → SeenFile → SeenFile
+front_seen most absent = absent
+front_seen most bad_length = bad_length
+front_seen most bad_prefix = bad_prefix
+front_seen most old_format = old_format
+front_seen most not_opened = not_opened
+front_seen most (plain bytes) = plain (take most bytes)
+
+-- a plaintext is whole: with its prefix, IV and tag it is as long as a file
+abbrev pub IsWhole : ℕ → SeenFile → Type 0
+IsWhole size absent = Unit {0}
+IsWhole size bad_length = Unit {0}
+IsWhole size bad_prefix = Unit {0}
+IsWhole size old_format = Unit {0}
+IsWhole size not_opened = Unit {0}
+IsWhole size (plain bytes) = length bytes + 48 ≡ size
 
 -- how the rest of a file is seen, by its format and the least number of one that is taken
 abbrev pub seen_as : (List ℕ → List ℕ → Option (List ℕ)) → ℕ → List ℕ → List ℕ → Option Format → SeenFile

@@ -1,12 +1,15 @@
 -- What a store of sealed blocks was made with, and what it sees.
-use Rattle.std.specs.Prelude.{◌≡◌, ℕ, ◌+◌, ◌≤◌, List}
+use Rattle.std.specs.Prelude.{◌≡◌, ◌⊎◌, ℕ, ◌+◌, ◌≤◌, List}
 use Rattle.std.specs.declared.option.Option.{Option}
+use Rattle.std.specs.declared.option.Option.TheVariants.{None}
 use Rattle.block_id.specs.declared.sizes.TheConstants.{MIN_BLOCK, MAX_BLOCK}
 use Rattle.outside.specs.Trace.{Call, block}
+use Rattle.outside.specs.declared.vault.GetFail.{GetFail}
+use Rattle.outside.specs.declared.vault.GetFail.TheVariants.{Memory, Failed}
 use Rattle.redo_vault.specs.Redo.{Redo, Gave}
 use Rattle.sealed_store.specs.declared.seen.Seen.{Seen}
 use Rattle.sealed_store.specs.declared.seen.Seen.TheVariants.{Absent, BadLength, BadPrefix, OldFormat, NotOpened, Plain}
-use Rattle.sealed_store.specs.BlockFiles.{SeenFile, absent, bad_length, bad_prefix, old_format, not_opened, plain, seen_file_in}
+use Rattle.sealed_store.specs.BlockFiles.{SeenFile, absent, bad_length, bad_prefix, old_format, not_opened, plain, front_seen, seen_file_in, IsToOpen, IsWhole}
 
 abbrev pub seen_file_of : Seen → SeenFile
 seen_file_of Absent = absent
@@ -38,8 +41,16 @@ key_of s = s.key
 abbrev pub cipher_of : {V C : Type 0} → Sealed V C → C
 cipher_of s = s.cipher
 
--- The file of a block, by what the list says of it or else by one call, was asked for with one byte more than a file has; it is seen so.
-pub record Sees (opens : List ℕ → List ℕ → Option (List ℕ)) (block_size least : ℕ) (change : Option (Option (List ℕ))) (old new : Option (List Call)) (id : List ℕ) (sight : SeenFile) : Type 0 where
+-- The file of a block, by what the list says of it or else by one call, was asked for with one byte more than a file has. It is seen so, of a plaintext no
+-- more than so many first bytes.
+pub record Sees (opens : List ℕ → List ℕ → Option (List ℕ)) (block_size least most : ℕ) (change : Option (Option (List ℕ))) (old new : Option (List Call)) (id : List ℕ) (sight : SeenFile) : Type 0 where
   pub answer : Option (List ℕ)
   pub gave : Gave change old new (block id) (block_size + 1) answer
-  pub shows : sight ≡ seen_file_in opens block_size least id answer
+  pub shows : sight ≡ front_seen most (seen_file_in opens block_size least id answer)
+  pub whole : IsWhole block_size (seen_file_in opens block_size least id answer)
+
+-- Nothing is seen: memory was wanting before a call, or to open what came; or the directory failed, as it was asked for what doesn't wait.
+abbrev pub Unseen : ℕ → ℕ → Option (Option (List ℕ)) → Option (List Call) → Option (List Call) → List ℕ → GetFail → Type 0
+Unseen block_size least change old new id Memory =
+    (new ≡ old) ⊎ ((answer : Option (List ℕ)) × Gave change old new (block id) (block_size + 1) answer × IsToOpen block_size least answer)
+Unseen block_size least change old new id Failed = (new ≡ old) × (change ≡ None)

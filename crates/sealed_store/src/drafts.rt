@@ -4,6 +4,7 @@ ghost use Rattle.std.specs.declared.option.Option.TheVariants.{None, Some};
 ghost use Rattle.outside.specs.Changes.{change_at};
 ghost use Rattle.outside.specs.View.{at_of, change_of, list_of};
 ghost use Rattle.sealed_store.specs.declared.sealed_store.TheConstants.{SEAL_LEN};
+ghost use Rattle.sealed_store.specs.BlockFiles.{front_seen};
 ghost use Rattle.sealed_store.specs.Drafts.{sealed_as, sealed_change, sealed_entry, seen_draft, MayBeDraft, AreDrafts};
 ghost use Rattle.sealed_store.specs.Stores.{IsIntact, seen_file_of};
 
@@ -134,16 +135,17 @@ pub(crate) fn waiting_draft<'a, V: Vault>(
     if drafts { vault.change_of(name) } else { None }
 }
 
-/// What the file shows that a draft's change is sealed to.
+/// What the file shows that a draft's change is sealed to, of its plaintext no more than so many first bytes.
 pub(crate) fn see_draft(
     alloc: Global,
     block_size: usize,
     least: u8,
+    most: usize,
     change: &Change,
 ) -> Result<Seen, Memory>
     requires size { SEAL_LEN ≤ block_size }
     requires draft { IfSome (change_of change.now) (λ draft. length draft ≡ block_size) }
-    ensures { IfOk result (λ seen. seen_file_of seen ≡ seen_draft block_size least (change_of change.now)) }
+    ensures { IfOk result (λ seen. seen_file_of seen ≡ front_seen most (seen_draft block_size least (change_of change.now))) }
 {
     match change {
         Change::Removal => Ok(Seen::Absent),
@@ -151,7 +153,8 @@ pub(crate) fn see_draft(
             if is_old(Format::WithId, least) {
                 return Ok(Seen::OldFormat);
             }
-            let plain = draft[..block_size - SEAL_LEN].to_vec(alloc)?;
+            let end = most.min(block_size - SEAL_LEN);
+            let plain = draft[..end].to_vec(alloc)?;
             Ok(Seen::Plain(plain))
         }
     }

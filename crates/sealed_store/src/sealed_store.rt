@@ -1,5 +1,5 @@
 // Block files, opened and sealed.
-ghost use Rattle.std.specs.Prelude.{◌≡◌, ◌⊎◌, ◌≤◌, ◌<◌, ◌+◌, ◌^◌, ℕ, List, [], ◌∷◌, length, map, take, drop, vec_len, IfOk, IfSome, OnOk, OnErr, IsErrOf};
+ghost use Rattle.std.specs.Prelude.{◌≡◌, ◌≤◌, ◌<◌, ◌+◌, ◌^◌, ℕ, List, [], ◌∷◌, length, map, take, drop, vec_len, IfOk, IfErr, IfSome, OnOk, OnErr};
 ghost use Rattle.std.specs.declared.option.Option.{Option};
 ghost use Rattle.std.specs.declared.option.Option.TheVariants.{None, Some};
 ghost use Rattle.block_id.specs.Formats.{prefix_of, format_in};
@@ -9,15 +9,15 @@ ghost use Rattle.outside.specs.Trace.{block, config};
 ghost use Rattle.outside.specs.Changes.{IsIncreasing, change_at, set_changes};
 ghost use Rattle.outside.specs.View.{list_of};
 ghost use Rattle.outside.specs.Writes.{after_writes, StopsAt};
-ghost use Rattle.redo_vault.specs.Redo.{Gave, buffered_len, weight_len};
+ghost use Rattle.redo_vault.specs.Redo.{buffered_len, weight_len};
 ghost use Rattle.sealed_store.specs.declared.sealed_store.TheConstants.{SEAL_LEN};
-ghost use Rattle.sealed_store.specs.BlockFiles.{IsToOpen, opens_file};
+ghost use Rattle.sealed_store.specs.BlockFiles.{opens_file};
 ghost use Rattle.sealed_store.specs.Drafts.{sealed_entry, AreDrafts, IsDraftOf};
-ghost use Rattle.sealed_store.specs.Stores.{seen_file_of, IsIntact, Sees, block_size_of, key_of, cipher_of};
+ghost use Rattle.sealed_store.specs.Stores.{seen_file_of, IsIntact, Sees, Unseen, block_size_of, key_of, cipher_of};
 
 use crate::Seen;
 use crate::drafts::{seal_list, seal_waiting, see_draft, takes_drafts, waiting_draft};
-use crate::seeing::{PREFIX_ALONE, see};
+use crate::seeing::{Asked, PREFIX_ALONE, see};
 use block_id::{BlockId, Format, Memory};
 use outside::{Change, FileName, GetFail, Pending, Vault};
 use redo_vault::RedoVault;
@@ -125,17 +125,19 @@ impl<V: Vault, C: Sealer> SealedStore<V, C> {
     }
 
     /// What the directory gives for a block, asked for one byte more than a file has. Files of formats below `least`
-    /// aren't opened.
-    pub fn get_plain(&mut self, alloc: Global, id: &BlockId, least: u8) -> Result<Seen, GetFail>
+    /// aren't opened, and of a plaintext no more than its first `most` bytes are.
+    pub fn get_plain(
+        &mut self,
+        alloc: Global,
+        id: &BlockId,
+        least: u8,
+        most: usize,
+    ) -> Result<Seen, GetFail>
         requires { IsIntact (block_size_of self.old) (C.iv_size (cipher_of self.old)) }
-        ensures sees { IfOk result (λ seen. Sees (C.opens (cipher_of self.old) (key_of self.old)) (block_size_of self.old) least
+        ensures sees { IfOk result (λ seen. Sees (C.opens (cipher_of self.old) (key_of self.old)) (block_size_of self.old) least most
             (change_at (block id.now.0) self.old.vault.list) (V.trace self.old.vault.vault) (V.trace self.new.vault.vault) id.now.0 (seen_file_of seen)) }
-        ensures asked_once { OnErr result ((V.trace self.new.vault.vault ≡ V.trace self.old.vault.vault)
-            ⊎ ((answer : Option (List ℕ)) × Gave (change_at (block id.now.0) self.old.vault.list) (V.trace self.old.vault.vault)
-            (V.trace self.new.vault.vault) (block id.now.0) (block_size_of self.old + 1) answer
-            × IsToOpen (block_size_of self.old) least answer)) }
-        ensures failed { IsErrOf result GetFail.Failed → V.trace self.new.vault.vault ≡ V.trace self.old.vault.vault }
-        ensures failed_by_a_call { IsErrOf result GetFail.Failed → change_at (block id.now.0) self.old.vault.list ≡ None }
+        ensures unseen { IfErr result (Unseen (block_size_of self.old) least (change_at (block id.now.0) self.old.vault.list)
+            (V.trace self.old.vault.vault) (V.trace self.new.vault.vault) id.now.0) }
         ensures without_a_call { IfSome (change_at (block id.now.0) self.old.vault.list) (λ _. self.new.vault ≡ self.old.vault) }
         ensures list { self.new.vault.list ≡ self.old.vault.list }
         ensures same { self.new ≡ record self.old { vault = self.new.vault } }
@@ -144,19 +146,23 @@ impl<V: Vault, C: Sealer> SealedStore<V, C> {
     {
         let name = FileName::Block(*id);
         if let Some(change) = waiting_draft(self.drafts, &self.vault, &name) {
-            return match see_draft(alloc, self.block_size, least, change) {
+            return match see_draft(alloc, self.block_size, least, most, change) {
                 Ok(seen) => Ok(seen),
                 Err(Memory) => Err(GetFail::Memory),
             };
         }
         let answer = self.vault.get(alloc, &name, self.block_size + 1)?;
+        let asked = Asked {
+            id: *id,
+            least,
+            most,
+        };
         match see(
             alloc,
             &self.cipher,
             &self.key,
             self.block_size,
-            least,
-            id,
+            &asked,
             &answer,
         ) {
             Ok(seen) => Ok(seen),

@@ -2,7 +2,7 @@
 ghost use Rattle.std.specs.Prelude.{◌≡◌, ◌≤◌, nat_lt, IfOk, OnErr};
 ghost use Rattle.block_id.specs.Formats.{prefix_of, format_in, extra_of, number_of};
 ghost use Rattle.outside.specs.View.{bytes_of};
-ghost use Rattle.sealed_store.specs.BlockFiles.{IsToOpen, seen_file_in, seen_file_of_plain};
+ghost use Rattle.sealed_store.specs.BlockFiles.{IsToOpen, front_seen, seen_file_in, seen_file_of_plain};
 ghost use Rattle.sealed_store.specs.Stores.{seen_file_of};
 
 use crate::Seen;
@@ -38,7 +38,17 @@ pub(crate) fn is_old(format: Format, least: u8) -> bool
     }
 }
 
-/// What the rest of a block's file of this format shows.
+/// What is asked of a block's file: which block's it is, the least format that is taken, and how many first bytes of the
+/// plaintext at most.
+#[derive(Clone, Copy)]
+pub(crate) struct Asked {
+    pub id: BlockId,
+    pub least: u8,
+    pub most: usize,
+}
+
+/// What the rest of a block's file of this format shows, of its plaintext no more than so many first bytes.
+#[tactic(auto, using(crate::proofs::Fronts::front_of_plain))]
 fn see_rest<C: Sealer>(
     alloc: Global,
     cipher: &C,
@@ -46,12 +56,13 @@ fn see_rest<C: Sealer>(
     id: &BlockId,
     format: Format,
     rest: &[u8],
+    most: usize,
 ) -> Result<Seen, Memory>
-    ensures { IfOk result (λ seen. seen_file_of seen ≡ seen_file_of_plain (C.opens cipher.now key.now (extra_of format id.now.0) rest.now)) }
+    ensures { IfOk result (λ seen. seen_file_of seen ≡ front_seen most (seen_file_of_plain (C.opens cipher.now key.now (extra_of format id.now.0) rest.now))) }
 {
     let opened = match format {
-        Format::Alone => cipher.unseal(alloc, key, rest)?,
-        Format::WithId => cipher.unseal_with(alloc, key, &id.0, rest)?,
+        Format::Alone => cipher.unseal_front(alloc, key, &[], rest, most)?,
+        Format::WithId => cipher.unseal_front(alloc, key, &id.0, rest, most)?,
     };
     match opened {
         Some(plain) => Ok(Seen::Plain(plain)),
@@ -65,13 +76,13 @@ pub(crate) fn see<C: Sealer>(
     cipher: &C,
     key: &[u8; 32],
     block_size: usize,
-    least: u8,
-    id: &BlockId,
+    asked: &Asked,
     answer: &Option<Vec<u8>>,
 ) -> Result<Seen, Memory>
     requires { 16 ≤ block_size }
-    ensures seen { IfOk result (λ seen. seen_file_of seen ≡ seen_file_in (C.opens cipher.now key.now) block_size least id.now.0 (bytes_of answer.now)) }
-    ensures err { OnErr result (IsToOpen block_size least (bytes_of answer.now)) }
+    ensures seen { IfOk result (λ seen. seen_file_of seen
+        ≡ front_seen asked.now.most (seen_file_in (C.opens cipher.now key.now) block_size asked.now.least asked.now.id.0 (bytes_of answer.now))) }
+    ensures err { OnErr result (IsToOpen block_size asked.now.least (bytes_of answer.now)) }
 {
     let Some(bytes) = answer else {
         return Ok(Seen::Absent);
@@ -82,8 +93,16 @@ pub(crate) fn see<C: Sealer>(
     let Some(format) = format_in(bytes) else {
         return Ok(Seen::BadPrefix);
     };
-    if is_old(format, least) {
+    if is_old(format, asked.least) {
         return Ok(Seen::OldFormat);
     }
-    see_rest(alloc, cipher, key, id, format, &bytes[16..])
+    see_rest(
+        alloc,
+        cipher,
+        key,
+        &asked.id,
+        format,
+        &bytes[16..],
+        asked.most,
+    )
 }

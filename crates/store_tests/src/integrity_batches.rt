@@ -208,7 +208,7 @@ fn written_record(
     requires { IsIntact (block_size_of sealed.old) (⟦<Aes256Gcm as Sealer>⟧.iv_size (cipher_of sealed.old)) }
     ensures { IsIntact (block_size_of sealed.new) (⟦<Aes256Gcm as Sealer>⟧.iv_size (cipher_of sealed.new)) }
 {
-    match sealed.get_plain(alloc, id, 2)? {
+    match sealed.get_plain(alloc, id, 2, usize::MAX)? {
         Seen::Plain(plain) => Ok(plain),
         _ => Err("no record".into()),
     }

@@ -23,7 +23,7 @@ fn sealed_alone(alloc: Global) -> Result<Vec<u8>, Fail> {
 fn seen_at(alloc: Global, id: &BlockId, file: &[u8], least: u8) -> Result<Seen, Fail> {
     let mut below = MemoryVault::new(alloc);
     below.put(alloc, &FileName::Block(*id), file)?;
-    Ok(sealed_over(alloc, below).get_plain(alloc, id, least)?)
+    Ok(sealed_over(alloc, below).get_plain(alloc, id, least, usize::MAX)?)
 }
 
 fn seen_of(alloc: Global, file: &[u8]) -> Result<Seen, Fail> {
@@ -117,7 +117,7 @@ fn sees_files_that_are_absent_too_long_or_too_short(rt: HostRuntime) -> Result<(
     let mut store = sealed_over(rt.alloc(), MemoryVault::new(rt.alloc()));
     assert_eq!(rt; store.iv_len(), 16);
     assert_eq!(rt; store.block_size(), 128);
-    assert!(rt; matches!(store.get_plain(rt.alloc(), &ID, 2)?, Seen::Absent));
+    assert!(rt; matches!(store.get_plain(rt.alloc(), &ID, 2, 0)?, Seen::Absent));
     let mut file = sealed(rt.alloc())?;
     file.push(0)?;
     assert!(rt; matches!(seen_of(rt.alloc(), &file)?, Seen::BadLength));
@@ -133,11 +133,11 @@ fn sees_a_draft_as_the_file_that_it_is_sealed_to(rt: HostRuntime) -> Result<(), 
     put_draft(rt.alloc(), &mut store, &ID, &[5; 80])?;
     assert_eq!(rt; store.waiting(), 1);
     assert_eq!(rt; store.buffered(), 128);
-    assert!(rt; is_plain(store.get_plain(rt.alloc(), &ID, 2)?));
-    assert!(rt; matches!(store.get_plain(rt.alloc(), &ID, 3)?, Seen::OldFormat));
+    assert!(rt; is_plain(store.get_plain(rt.alloc(), &ID, 2, 80)?));
+    assert!(rt; matches!(store.get_plain(rt.alloc(), &ID, 3, 80)?, Seen::OldFormat));
     store.write_out(rt.alloc())?;
     assert_eq!(rt; store.waiting(), 0);
-    assert!(rt; is_plain(store.get_plain(rt.alloc(), &ID, 2)?));
+    assert!(rt; is_plain(store.get_plain(rt.alloc(), &ID, 2, 80)?));
     let below = store.into_vault();
     let file = sealed(rt.alloc())?;
     match below.files().first() {
@@ -149,5 +149,43 @@ fn sees_a_draft_as_the_file_that_it_is_sealed_to(rt: HostRuntime) -> Result<(), 
         ) => assert!(rt; written.as_slice() == file.as_slice()),
         _ => assert!(rt; false),
     }
+    Ok(())
+}
+
+/// The first bytes of a plaintext.
+fn is_front(seen: Seen, front: &[u8]) -> bool {
+    match seen {
+        Seen::Plain(plain) => plain.as_slice() == front,
+        _ => false,
+    }
+}
+
+#[test]
+fn opens_no_more_than_the_front_of_a_draft(rt: HostRuntime) -> Result<(), Fail> {
+    let mut store = sealed_over(rt.alloc(), MemoryVault::new(rt.alloc()));
+    put_draft(rt.alloc(), &mut store, &ID, &[5; 80])?;
+    assert!(rt; is_front(store.get_plain(rt.alloc(), &ID, 2, 3)?, &[5; 3]));
+    assert!(rt; is_front(store.get_plain(rt.alloc(), &ID, 2, 0)?, &[]));
+    Ok(())
+}
+
+#[test]
+fn opens_no_more_than_the_front_of_a_file(rt: HostRuntime) -> Result<(), Fail> {
+    let mut store = sealed_over(rt.alloc(), MemoryVault::new(rt.alloc()));
+    put_draft(rt.alloc(), &mut store, &ID, &[5; 80])?;
+    store.write_out(rt.alloc())?;
+    assert!(rt; is_front(store.get_plain(rt.alloc(), &ID, 2, 3)?, &[5; 3]));
+    assert!(rt; is_front(store.get_plain(rt.alloc(), &ID, 2, 0)?, &[]));
+    assert!(rt; is_front(store.get_plain(rt.alloc(), &ID, 2, 81)?, &[5; 80]));
+    Ok(())
+}
+
+#[test]
+fn opens_no_front_of_a_file_that_ends_otherwise(rt: HostRuntime) -> Result<(), Fail> {
+    let file = changed(rt.alloc(), 127)?;
+    let mut below = MemoryVault::new(rt.alloc());
+    below.put(rt.alloc(), &FileName::Block(ID), &file)?;
+    let seen = sealed_over(rt.alloc(), below).get_plain(rt.alloc(), &ID, 2, 3)?;
+    assert!(rt; matches!(seen, Seen::NotOpened));
     Ok(())
 }
