@@ -26,11 +26,11 @@ use Rattle.held_blocks.specs.Stores.{OnlyRead, meanings_by, holdings_by}
 use Rattle.held_blocks.specs.StoreLaws.{settled_by}
 
 module _ {S : Type 0} (held : S → Held) (trace : S → Option (List Call)) (faults : S → ℕ) (own : S → Type 0) (a b : S) (id : List ℕ) where
-  only_read : (version : ℕ) (r : Result (List ℕ) Fail) → held b ≡ held a → faults a ≤ faults b → live_version (held a) id ≡ Some version
+  pub only_read : (version : ℕ) (r : Result (List ℕ) Fail) → held b ≡ held a → faults a ≤ faults b → live_version (held a) id ≡ Some version
       → Fetched (held a) (trace a) (trace b) id version r → OnlyRead (held a) (held b) (trace a) (trace b) (faults a) (faults b)
   only_read version r same later live f = record { held = same; trace = fetched_went (held a) (trace a) (trace b) id version r live f; faults = later }
 
-  still_sound : (version : ℕ) (r : Result (List ℕ) Fail) → held b ≡ held a → live_version (held a) id ≡ Some version
+  pub still_sound : (version : ℕ) (r : Result (List ℕ) Fail) → held b ≡ held a → live_version (held a) id ≡ Some version
       → Fetched (held a) (trace a) (trace b) id version r → SoundBy (held a) (trace a) → SoundBy (held b) (trace b)
   still_sound version r same live f s =
       subst (λ h. SoundBy h (trace b)) (sym same) (went_sound (held a) (held a) (trace a) (trace b) (fetched_went (held a) (trace a) (trace b) id version r live f) s)

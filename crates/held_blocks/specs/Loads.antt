@@ -1,5 +1,5 @@
 -- What a load of a block leaves and answers.
-use Rattle.std.specs.Prelude.{◌≡◌, ◌⊎◌, ℕ, ◌+◌, List, Vec, Result}
+use Rattle.std.specs.Prelude.{◌≡◌, ◌⊎◌, ℕ, ◌+◌, List, take, Vec, Result}
 use Rattle.std.specs.declared.option.Option.{Option}
 use Rattle.std.specs.declared.option.Option.TheVariants.{None, Some}
 use Rattle.std.specs.declared.alloc.Global.{Global}
@@ -30,6 +30,17 @@ Fetched h old new id version (Err Memory) = (new ≡ old) ⊎ ((file : Option (L
 Fetched h old new id version (Err Fault) = new ≡ old
 Fetched h old new id version (Err (Violation why)) =
     (file : Option (List ℕ)) × Came h old new id file × (verdict h.opens h.size id h.state.client version h.state.least file ≡ bad why)
+
+-- of an answer's payload the first bytes, at most so many
+abbrev pub front_answer : ℕ → Result (List ℕ) Fail → Result (List ℕ) Fail
+front_answer most (Ok payload) = Ok (take most payload)
+front_answer most (Err fail) = Err fail
+
+-- the front of what was fetched: it was judged whole
+pub record FetchedFront (h : Held) (old new : Option (List Call)) (id : List ℕ) (version most : ℕ) (answer : Result (List ℕ) Fail) : Type 0 where
+  pub whole : Result (List ℕ) Fail
+  pub fetched : Fetched h old new id version whole
+  pub front : answer ≡ front_answer most whole
 
 -- what a load of an id answers: none where it doesn't live, without a call; else by the verdict on what came
 abbrev pub LoadAnswers : Held → Option (List Call) → Option (List Call) → List ℕ → Option ℕ → LoadAnswer → Type 0
