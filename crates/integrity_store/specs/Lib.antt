@@ -1,3 +1,4 @@
 pub mod EnduringLaws
+pub mod Made
 pub mod Views
 pub mod WaitingLaws

@@ -1,26 +1,24 @@
 // The store of blocks.
-ghost use Rattle.std.specs.Prelude.{◌≡◌, ◌≤◌, ◌-◌, Bool, true, ℕ, List, IfOk, IfErr, IfSome, length, is_some};
+ghost use Rattle.std.specs.Prelude.{◌≡◌, ◌≤◌, IfOk, IfErr, IfSome, length, is_some, min};
 ghost use Rattle.outside.specs.View.{bytes_of};
 ghost use Rattle.outcome.specs.Outcome.{Outcome};
 ghost use Rattle.outcome.specs.Meanings.{HasCause, IsOfBlocks, IsQuiet};
 ghost use Rattle.outside.specs.Trace.{config};
 ghost use Rattle.outside.specs.Changes.{change_at};
-ghost use Rattle.local_state.specs.Record.{plain_state, record_bytes, HasRecord, IsRecord};
-ghost use Rattle.store_api.specs.Content.{Id, Content, SameContent};
+ghost use Rattle.local_state.specs.Record.{plain_state, HasRecord};
+ghost use Rattle.store_api.specs.Fronts.{front_of};
 ghost use Rattle.store_api.specs.Holdings.{IsFew, Stays};
 ghost use Rattle.store_api.specs.Loads.{answer_of};
-ghost use Rattle.sealed_store.specs.Stores.{IsIntact, block_size_of, key_of, cipher_of};
-ghost use Rattle.held_blocks.specs.Loads.{Fetched, fetched_of, loads_by};
-ghost use Rattle.held_blocks.specs.Stores.{version_in, meanings_by, holdings_by, IsNoBlock};
+ghost use Rattle.sealed_store.specs.Stores.{IsIntact, block_size_of, cipher_of};
+ghost use Rattle.held_blocks.specs.Loads.{FetchedFront, fetched_of, loads_by};
+ghost use Rattle.held_blocks.specs.Stores.{meanings_by, holdings_by, IsNoBlock};
 ghost use Rattle.held_blocks.specs.StoreLaws.{lawful_by, steady_by};
-ghost use Rattle.held_blocks.specs.Standing.{identity_of, listed};
 ghost use Rattle.held_blocks.specs.Views.{held_of};
+ghost use Rattle.integrity_store.specs.Made.{IsMadeOf, IsRecordedAs, IsSoundAs};
 ghost use Rattle.integrity_store.specs.Views.{held_by};
-ghost use Rattle.held_blocks.specs.Soundness.{IsUntouched};
-ghost use Rattle.std.specs.FinMap as fin;
 
 use block_id::{BlockId, Fail};
-use block_records::{OVERHEAD, judge};
+use block_records::{HEAD_LEN, OVERHEAD, judge};
 use local_state::State;
 use outside::{GetFail, Vault};
 use seal_api::Sealer;
@@ -44,20 +42,11 @@ impl<V: Vault, C: Sealer> IntegrityStore<V, C> {
         requires config { IsNoBlock (change_at config sealed.vault.list) }
         ensures intact { ⟦<IntegrityStore<V, C> as Blocks>⟧.meanings.intact result }
         ensures few { IsFew (⟦<IntegrityStore<V, C> as Blocks>⟧.holdings.used result) }
-        ensures identity { ⟦<IntegrityStore<V, C> as Durable>⟧.durables.identity result ≡ identity_of (held_of C.opens sealed state) }
-        ensures list { ⟦<IntegrityStore<V, C> as Durable>⟧.durables.list result ≡ sealed.vault.list }
-        ensures trace { ⟦<IntegrityStore<V, C> as Durable>⟧.durables.trace result ≡ V.trace sealed.vault.vault }
-        ensures least { ⟦<IntegrityStore<V, C> as Durable>⟧.durables.least result ≡ (plain_state state).least }
-        ensures records { (with_list : Bool) → ⟦<IntegrityStore<V, C> as Durable>⟧.durables.local_record_of result with_list ≡ record_bytes (plain_state state) (listed with_list sealed.vault.list) }
-        ensures used { ⟦<IntegrityStore<V, C> as Blocks>⟧.holdings.used result ≡ fin.keys (plain_state state).lives }
-        ensures version { (id : Id) → ⟦<IntegrityStore<V, C> as Blocks>⟧.holdings.version result id ≡ version_in (fin.get (plain_state state).lives id) }
-        ensures payload { ⟦<IntegrityStore<V, C> as Blocks>⟧.holdings.payload result ≡ block_size_of sealed - 78 }
-        ensures faults { ⟦<IntegrityStore<V, C> as Blocks>⟧.meanings.faults result ≡ V.faults sealed.vault.vault }
-        ensures fresh { (plain_state state).lives ≡ fin.empty → IsUntouched (V.trace sealed.vault.vault) → ⟦<IntegrityStore<V, C> as Blocks>⟧.meanings.sound result }
-        ensures is_record { (with_list : Bool) (kept : List ℕ) → IsRecord (plain_state state) (listed with_list sealed.vault.list) kept → ⟦<IntegrityStore<V, C> as Durable>⟧.durables.is_record result with_list kept }
-        ensures opened { (content : Content) (kept : List ℕ) → IsRecord (plain_state state) sealed.vault.list kept → ⟦<IntegrityStore<V, C> as Durable>⟧.records.stands (⟦<IntegrityStore<V, C> as Durable>⟧.durables.identity result)
-            kept (⟦<IntegrityStore<V, C> as Durable>⟧.durables.trace result) content
-            → ⟦<IntegrityStore<V, C> as Blocks>⟧.meanings.sound result × SameContent content (⟦<IntegrityStore<V, C> as Blocks>⟧.holdings.content result) }
+        ensures made { IsMadeOf ⟦<IntegrityStore<V, C> as Blocks>⟧.meanings ⟦<IntegrityStore<V, C> as Blocks>⟧.holdings ⟦<IntegrityStore<V, C> as Durable>⟧.durables
+            (held_of C.opens sealed state) (V.trace sealed.vault.vault) (V.faults sealed.vault.vault) result }
+        ensures recorded { IsRecordedAs ⟦<IntegrityStore<V, C> as Durable>⟧.durables (held_of C.opens sealed state) result }
+        ensures sound { IsSoundAs ⟦<IntegrityStore<V, C> as Blocks>⟧.meanings ⟦<IntegrityStore<V, C> as Blocks>⟧.holdings ⟦<IntegrityStore<V, C> as Durable>⟧.durables
+            ⟦<IntegrityStore<V, C> as Durable>⟧.records (held_of C.opens sealed state) result }
     {
         IntegrityStore { sealed, state }
     }
@@ -82,19 +71,25 @@ impl<V: Vault, C: Sealer> IntegrityStore<V, C> {
         sealed.into_vault()
     }
 
-    /// The payload of a live id at its version.
-    fn fetch(&mut self, alloc: Global, id: &BlockId, known: u64) -> Result<Vec<u8>, Fail>
+    /// The first bytes of a live id's payload, at most so many, which was judged whole at its version.
+    fn fetch(
+        &mut self,
+        alloc: Global,
+        id: &BlockId,
+        known: u64,
+        most: usize,
+    ) -> Result<Vec<u8>, Fail>
         requires { ⟦<IntegrityStore<V, C> as Blocks>⟧.meanings.intact self.old }
-        ensures fetched { Fetched (held_by C.opens self.old) (V.trace self.old.sealed.vault.vault) (V.trace self.new.sealed.vault.vault) id.now.0 known (fetched_of result) }
+        ensures fetched { FetchedFront (held_by C.opens self.old) (V.trace self.old.sealed.vault.vault) (V.trace self.new.sealed.vault.vault) id.now.0 known most (fetched_of result) }
         ensures held { held_by C.opens self.new ≡ held_by C.opens self.old }
         ensures intact { ⟦<IntegrityStore<V, C> as Blocks>⟧.meanings.intact self.new }
         ensures faults { V.faults self.old.sealed.vault.vault ≤ V.faults self.new.sealed.vault.vault }
         ensures quiet { IsQuiet result (V.faults self.old.sealed.vault.vault) (V.faults self.new.sealed.vault.vault) }
         ensures cause { IfErr result (λ e. HasCause e (V.faults self.old.sealed.vault.vault) (V.faults self.new.sealed.vault.vault)) }
     {
-        let size = self.sealed.block_size();
-        match self.sealed.get_plain(alloc, id, self.state.least) {
-            Ok(seen) => judge(size, id, self.state.client, known, seen).map_err(Fail::Violation),
+        let opened = most.saturating_add(HEAD_LEN);
+        match self.sealed.get_plain(alloc, id, self.state.least, opened) {
+            Ok(seen) => judge(id, self.state.client, known, seen).map_err(Fail::Violation),
             Err(GetFail::Memory) => Err(Fail::Memory),
             Err(GetFail::Failed) => Err(Fail::Fault),
         }
@@ -120,8 +115,30 @@ impl<V: Vault, C: Sealer> Blocks for IntegrityStore<V, C> {
     {
         match self.state.known.live_version(id) {
             None => Ok(None),
-            Some(known) => match self.fetch(alloc, id, known) {
+            Some(known) => match self.fetch(alloc, id, known, usize::MAX) {
                 Ok(payload) => Ok(Some(payload)),
+                Err(fail) => Err(fail),
+            },
+        }
+    }
+
+    fn load_front(
+        &mut self,
+        alloc: Global,
+        id: &BlockId,
+        most: usize,
+    ) -> Result<Option<Vec<u8>>, Fail>
+        requires { ⟦<IntegrityStore<V, C> as Blocks>⟧.meanings.intact self.old }
+        ensures outcome { Outcome ⟦<IntegrityStore<V, C> as Blocks>⟧.meanings Unit self.old self.new result (λ _ answer. bytes_of answer ≡ front_of most (⟦<IntegrityStore<V, C> as Blocks>⟧.holdings.content self.old id.now.0)) }
+        ensures stays { Stays ⟦<IntegrityStore<V, C> as Blocks>⟧.holdings self.old self.new }
+        ensures of_blocks { IfErr result IsOfBlocks }
+        ensures none { IfOk result (λ answer. is_some answer ≡ is_some (⟦<IntegrityStore<V, C> as Blocks>⟧.holdings.content self.old id.now.0)) }
+        ensures sized { IfOk result (λ answer. IfSome answer (λ bytes. length bytes.items ≡ min most (⟦<IntegrityStore<V, C> as Blocks>⟧.holdings.payload self.old))) }
+    {
+        match self.state.known.live_version(id) {
+            None => Ok(None),
+            Some(known) => match self.fetch(alloc, id, known, most) {
+                Ok(front) => Ok(Some(front)),
                 Err(fail) => Err(fail),
             },
         }

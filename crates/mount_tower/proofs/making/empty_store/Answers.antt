@@ -35,20 +35,20 @@ returns g c =
     let vault = ap (λ (x : RedoOf g). x.vault) s1.vault ∙ ap (λ (x : RedoOf g). x.vault) c.new-redo.ensures in
     let store = c.new-2.result in
     let steady = steady_by sealed_held (sealed_trace g.V.Vault.trace) (λ s. g.V.Vault.faults s.sealed.vault.vault) (λ s. IsIntact (block_size_of s.sealed) 16) in
-    let unused : (id : List ℕ) → has_id ((sealed_holdings g.V.Vault.trace).used store) id ≡ false = λ id. ap (λ u. has_id u id) n.used ∙ none_used (plain_state c.new_state-state.result).lives id lives in
+    let unused : (id : List ℕ) → has_id ((sealed_holdings g.V.Vault.trace).used store) id ≡ false = λ id. ap (λ u. has_id u id) n.made.used ∙ none_used (plain_state c.new_state-state.result).lives id lives in
     record {
       intact = n.intact;
-      same = n.trace ∙ ap g.V.Vault.trace vault;
-      few = n.faults ∙ ap g.V.Vault.faults vault;
+      same = n.made.trace ∙ ap g.V.Vault.trace vault;
+      few = n.made.faults ∙ ap g.V.Vault.faults vault;
       unused = unused;
       none = λ id. unused_none ((sealed_holdings g.V.Vault.trace).content store id) (has_id ((sealed_holdings g.V.Vault.trace).used store) id) (unused id) (steady.content_used store id n.intact);
-      identity = n.identity
+      identity = n.made.identity
           ∙ (identity_is (held_of (λ (cipher : Cipher) key extra text. opened_of key extra text) c.new-sealed.result c.new_state-state.result) (settings_of c.args.config) (plain_state c.new_state-state.result) s1.size (ap opened_of s1.key) refl
           (ap (λ (s : PlainState). s.marked) state)
           (record {
             fs_id = ap (λ (s : PlainState). s.fs_id) state;
             digest = ap (λ (s : PlainState). s.key_digest) state ∙ (c.key_digest-digest.ensures ∙ ap (λ x. sha256 (x ++ c.args.config.key)) (sym (ap (λ (s : PlainState). s.key_salt) state)));
           }) ∙ ap (λ (s : PlainState). identity_for (settings_of c.args.config) (holder_of s)) state);
-      least = n.least ∙ ap (λ (s : PlainState). s.least) state;
-      sound = λ unchanged. n.fresh lives (untouched _ (subst IsUnchanged (sym (ap g.V.Vault.trace vault)) unchanged));
+      least = n.made.least ∙ ap (λ (s : PlainState). s.least) state;
+      sound = λ unchanged. n.sound.fresh lives (untouched _ (subst IsUnchanged (sym (n.made.trace ∙ ap g.V.Vault.trace vault)) unchanged));
     }

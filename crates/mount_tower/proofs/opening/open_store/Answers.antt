@@ -1,4 +1,4 @@
-use Rattle.std.proofs.Common.{◌≡◌, ◌≤◌, List, refl, sym, ◌∙◌, ap, subst, arith}
+use Rattle.std.proofs.Common.{◌≡◌, List, refl, sym, ◌∙◌, ap, subst, arith}
 use Rattle.aes_gcm.specs.Gcm.{opened_of}
 use Rattle.outside.specs.Changes.{change_at}
 use Rattle.outside.specs.Trace.{Call, config}

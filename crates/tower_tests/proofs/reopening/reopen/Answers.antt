@@ -29,6 +29,6 @@ returns-clause-opened g c = λ identity content opens size stands.
     } in
     let is = c.in-Ok.ensures.is_record in
     let list = ap (λ v. v.list) vault in
-    c.new-2.ensures.opened content c.args.kept.now (subst (λ (l : FileChanges). IsRecord state l c.args.kept.now) (sym list) is)
-    (reopened identity c.args.kept.now (g.V.Vault.trace c.args.vault) _ content h (held_by g.C.Sealer.opens c.new-2.result) is opens size (c.new-2.ensures.identity ∙ sealed)
-    (c.new-2.ensures.trace ∙ ap (λ v. g.V.Vault.trace v.vault) vault) stands)
+    c.new-2.ensures.sound.opened content c.args.kept.now (subst (λ (l : FileChanges). IsRecord state l c.args.kept.now) (sym list) is)
+    (reopened identity c.args.kept.now (g.V.Vault.trace c.args.vault) _ content h (held_by g.C.Sealer.opens c.new-2.result) is opens size (c.new-2.ensures.made.identity ∙ sealed)
+    (c.new-2.ensures.made.trace ∙ ap (λ v. g.V.Vault.trace v.vault) vault) stands)

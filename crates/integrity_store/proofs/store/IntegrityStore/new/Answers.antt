@@ -1,3 +1,4 @@
+use Rattle.std.proofs.Common.{refl}
 use Rattle.held_blocks.specs.Views.{held_of}
 use Rattle.held_blocks.proofs.Reopening.{opened_stands, few_used}
 use Rattle.held_blocks.proofs.Untouched.{untouched_sound}
@@ -20,8 +21,17 @@ returns-clause-intact g c = (
 pub returns-clause-few : goal.returns-clause-few
 returns-clause-few g c = few_used (plain_state c.args.state) c.args.sealed.vault.list c.requires.state
 
-pub returns-clause-fresh : goal.returns-clause-fresh
-returns-clause-fresh g c = λ empty untouched. untouched_sound (held_of g.C.Sealer.opens c.args.sealed c.args.state) (g.V.Vault.trace c.args.sealed.vault.vault) empty untouched
+pub returns-clause-made : goal.returns-clause-made
+returns-clause-made g c = record { used = refl; version = λ id. refl; payload = refl; identity = refl; least = refl; list = refl; trace = refl; faults = refl }
 
-pub returns-clause-opened : goal.returns-clause-opened
-returns-clause-opened g c = λ content kept is stands. opened_stands (held_of g.C.Sealer.opens c.args.sealed c.args.state) (g.V.Vault.trace c.args.sealed.vault.vault) content kept is stands
+pub returns-clause-recorded : goal.returns-clause-recorded
+returns-clause-recorded g c = record { written = λ with_list. refl; is_record = λ with_list kept is. is }
+
+pub returns-clause-sound : goal.returns-clause-sound
+returns-clause-sound g c =
+    let h = held_of g.C.Sealer.opens c.args.sealed c.args.state in
+    let trace = g.V.Vault.trace c.args.sealed.vault.vault in
+    record {
+      fresh = λ empty untouched. untouched_sound h trace empty untouched;
+      opened = λ content kept is stands. opened_stands h trace content kept is stands;
+    }
