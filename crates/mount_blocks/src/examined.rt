@@ -43,6 +43,20 @@ impl<V: Vault, K: Keeper> Blocks for Examined<V, K> {
         self.mount.core.blobs.tx.store.load_below(alloc, id)
     }
 
+    fn load_front(
+        &mut self,
+        alloc: Global,
+        id: &BlockId,
+        most: usize,
+    ) -> Result<Option<Vec<u8>>, Fail> {
+        self.mount
+            .core
+            .blobs
+            .tx
+            .store
+            .load_front_below(alloc, id, most)
+    }
+
     fn is_used(&self, id: &BlockId) -> bool {
         self.mount.core.blobs.tx.store.is_used(id)
     }

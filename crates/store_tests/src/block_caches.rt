@@ -19,7 +19,7 @@ const C: BlockId = BlockId([3; 16]);
 
 const ABSENT: BlockId = BlockId([4; 16]);
 
-type Cached = BlockCache<Counted<MapStore>>;
+pub(crate) type Cached = BlockCache<Counted<MapStore>>;
 
 /// Has an id get a payload of this byte, in a batch of its own.
 fn give<S: BlocksMut>(alloc: Global, store: &mut S, id: &BlockId, byte: u8) -> Result<(), Fail>
@@ -63,7 +63,7 @@ fn give_three<S: BlocksMut>(alloc: Global, store: &mut S) -> Result<(), Fail>
 }
 
 /// No blocks, behind a cache of at most so many.
-fn empty(alloc: Global, capacity: usize) -> Result<Cached, Fail>
+pub(crate) fn empty(alloc: Global, capacity: usize) -> Result<Cached, Fail>
     requires { 1 ≤ capacity }
     ensures { IfOk result (λ cache. ⟦<Cached as Blocks>⟧.meanings.intact cache) }
 {

@@ -1,4 +1,4 @@
-// A store that counts the loads it is asked for.
+// A store that counts the loads it is asked for, whole or of fronts.
 ghost use Rattle.outcome.specs.Lift.{lift_with, lawful_with};
 ghost use Rattle.block_cache.specs.Through.{holdings_past, steady_with, stays_past};
 
@@ -23,6 +23,16 @@ impl<S: Blocks> Blocks for Counted<S> {
     fn load(&mut self, alloc: Global, id: &BlockId) -> Result<Option<Vec<u8>>, Fail> {
         self.loads = self.loads.saturating_add(1);
         self.store.load(alloc, id)
+    }
+
+    fn load_front(
+        &mut self,
+        alloc: Global,
+        id: &BlockId,
+        most: usize,
+    ) -> Result<Option<Vec<u8>>, Fail> {
+        self.loads = self.loads.saturating_add(1);
+        self.store.load_front(alloc, id, most)
     }
 
     fn is_used(&self, id: &BlockId) -> bool {

@@ -1,6 +1,9 @@
 // What a load answers of a removed block. Client 7 knows block 1 as live at version 2 and block 4 as
 // removed at version 3.
+ghost use Rattle.std.specs.Prelude.{IfOk};
+
 use crate::integrity_files::{plain_of, push_life, push_record_head, put_file, sealed_over};
+use aes_gcm::Aes256Gcm;
 use block_id::BlockId;
 use integrity_store::IntegrityStore;
 use local_state::decode;
@@ -9,11 +12,13 @@ use std::alloc::Global;
 use std::test::Fail;
 use store_api::Blocks;
 
-const LIVE: BlockId = BlockId([1; 16]);
+pub(crate) const LIVE: BlockId = BlockId([1; 16]);
 
-const REMOVED: BlockId = BlockId([4; 16]);
+pub(crate) const REMOVED: BlockId = BlockId([4; 16]);
 
-type Answer = Result<Option<Vec<u8>>, block_id::Fail>;
+pub(crate) type Store = IntegrityStore<MemoryVault, Aes256Gcm>;
+
+pub(crate) type Answer = Result<Option<Vec<u8>>, block_id::Fail>;
 
 fn push_record(out: &mut Vec<u8>) -> Result<(), Fail> {
     push_record_head(out)?;
@@ -24,18 +29,25 @@ fn push_record(out: &mut Vec<u8>) -> Result<(), Fail> {
     Ok(())
 }
 
-fn load_from(alloc: Global, below: MemoryVault, id: &BlockId) -> Result<Answer, Fail> {
+/// A store of client 7 over this directory.
+pub(crate) fn store_from(alloc: Global, below: MemoryVault) -> Result<Store, Fail>
+    ensures { IfOk result (λ store. ⟦<Store as Blocks>⟧.meanings.intact store) }
+{
     let mut bytes = Vec::new(alloc);
     push_record(&mut bytes)?;
     let (state, list) = decode(alloc, &bytes)?;
     if !list.is_empty() {
         return Err("a list".into());
     }
-    let mut store = IntegrityStore::new(sealed_over(alloc, below), state);
+    Ok(IntegrityStore::new(sealed_over(alloc, below), state))
+}
+
+fn load_from(alloc: Global, below: MemoryVault, id: &BlockId) -> Result<Answer, Fail> {
+    let mut store = store_from(alloc, below)?;
     Ok(store.load(alloc, id))
 }
 
-fn put_back_removed(alloc: Global) -> Result<MemoryVault, Fail> {
+pub(crate) fn put_back_removed(alloc: Global) -> Result<MemoryVault, Fail> {
     let mut below = MemoryVault::new(alloc);
     put_file(alloc, &mut below, &REMOVED, &plain_of(4, 3, 9))?;
     Ok(below)

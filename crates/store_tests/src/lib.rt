@@ -5,11 +5,17 @@
 #[cfg(test)]
 mod block_caches;
 #[cfg(test)]
+mod cached_fronts;
+#[cfg(test)]
 mod counted;
+#[cfg(test)]
+mod fronts;
 #[cfg(test)]
 mod integrity_batches;
 #[cfg(test)]
 mod integrity_files;
+#[cfg(test)]
+mod integrity_fronts;
 #[cfg(test)]
 mod integrity_loads;
 #[cfg(test)]

@@ -1,0 +1,8 @@
+use Rattle.outcome.specs.Lift.{lifted_with}
+use Rattle.store_tests.specs.declared.counted.Counted.{Counted}
+use Rattle.store_tests.proofs.counted.CountedBlocks.load_front.Goals as goal
+
+pub returns-clause-outcome : goal.returns-clause-outcome
+returns-clause-outcome g c =
+    let after : Counted g.row.S.Denot = record { store = c.load_front.new.self; loads = c.saturating_add-self.result } in
+    lifted_with (λ (d : Counted g.row.S.Denot). d.store) (λ (d : Counted g.row.S.Denot). Unit {0}) (λ (d : Counted g.row.S.Denot). Unit {0}) c.args.self.now after tt (λ _ _ _. tt) c.load_front.ensures.outcome
