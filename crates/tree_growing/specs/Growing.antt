@@ -1,8 +1,11 @@
 -- Nodes that grow.
-use Rattle.std.specs.Prelude.{◌≡◌, ◌≤◌, ◌<◌, ◌+◌, ℕ, List, length}
-use Rattle.data_nodes.specs.Layout.{NodeText}
+use Rattle.std.specs.Prelude.{◌≡◌, ◌≤◌, ◌<◌, ◌+◌, ◌*◌, ◌++◌, ℕ, List, length, take, min}
+use Rattle.block_id.specs.declared.id.BlockId.{BlockId}
+use Rattle.data_nodes.specs.Layout.{NodeText, fan_out, ids_of}
 use Rattle.store_api.specs.Content.{Id}
 use Rattle.store_api.specs.Holdings.{Holdings}
+use Rattle.data_tree.specs.declared.level.Level.{Level}
+use Rattle.data_tree.specs.Needs.{BuiltTrees}
 use Rattle.data_tree.specs.Trees.{Holds, Forest, IsTree, IsDepth, span, NoDoubles, Replaces}
 
 -- a node of this depth, which isn't put yet, holds these bytes; what stands below it came in place of the old ids
@@ -18,6 +21,13 @@ pub record GrownTrees {S : Type 0} (H : Holdings S) (a b : S) (depth : ℕ) (chi
   pub trees : Forest (IsTree (H.payload b) (H.content b) depth) (span (H.payload b) depth) children w ids
   pub alone : NoDoubles ids
   pub replaces : Replaces (H.content a) (H.content b) old ids
+
+-- behind the children stand new trees for as many of the bytes as there are places for, and all fit into a node
+pub record GrownChildren {S : Type 0} (H : Holdings S) (a b : S) (level : Level) (places : ℕ) (children : List BlockId) (bytes : List ℕ) (all : List BlockId) (taken : ℕ) : Type 0 where
+  pub used : taken ≡ min (places * level.room) (length bytes)
+  pub built : (new : List Id) × ((ids_of all ≡ ids_of children ++ new) × BuiltTrees H a b level.depth new (take taken bytes))
+  pub few : length all ≤ fan_out (H.payload a)
+  pub some : length children ≤ length all
 
 -- A node of this depth, which isn't put, holds what stands before so many bytes, which make n. Where any are left it is full, and n is more than a tree of
 -- a lower depth has room for.

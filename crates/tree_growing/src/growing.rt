@@ -6,10 +6,10 @@ ghost use Rattle.store_api.specs.Content.{Id};
 ghost use Rattle.store_api.specs.Holdings.{Stays};
 ghost use Rattle.store_api.specs.Txs.{content_of, intact_in, tx_holdings, tx_meanings};
 ghost use Rattle.data_nodes.specs.Layout.{fan_out, ids_of, leaf, node_of, FitsPayload};
-ghost use Rattle.data_tree.specs.Needs.{BuiltTrees, HasBelow, HasTrees};
+ghost use Rattle.data_tree.specs.Needs.{HasBelow, HasTrees};
 ghost use Rattle.data_tree.specs.Trees.{span, depth_in};
 ghost use Rattle.data_tree.specs.Border.{OnBorderBelow, OnLastBorder};
-ghost use Rattle.tree_growing.specs.Growing.{Grown, GrownTrees};
+ghost use Rattle.tree_growing.specs.Growing.{Grown, GrownChildren, GrownTrees};
 
 use block_id::{BlockId, Fail, Memory};
 use data_nodes::Node;
@@ -47,10 +47,7 @@ pub(crate) fn grown_children<S: Blocks>(
     ensures intact { intact_in S.meanings S.holdings tx.new }
     ensures store { tx.new.store ≡ tx.old.store }
     ensures seed { tx.new.seed ≡ tx.old.seed }
-    ensures used { IfOk result (λ grown. grown.1 ≡ min (places * level.room) (length bytes.now)) }
-    ensures built { IfOk result (λ grown. (new : List Id) × ((ids_of grown.0.items ≡ ids_of children.now ++ new) × BuiltTrees (tx_holdings S.holdings) tx.old tx.new level.depth new (take grown.1 bytes.now))) }
-    ensures few { IfOk result (λ grown. length grown.0.items ≤ fan_out (S.holdings.payload tx.old.store)) }
-    ensures some { IfOk result (λ grown. length children.now ≤ length grown.0.items) }
+    ensures children { IfOk result (λ grown. GrownChildren (tx_holdings S.holdings) tx.old tx.new level places children.now bytes.now grown.0.items grown.1) }
     ensures there { (q : Id) → is_some (content_of S.holdings tx.old q) ≡ true → is_some (content_of S.holdings tx.new q) ≡ true }
     ensures kept { (q : Id) → is_some (content_of S.holdings tx.old q) ≡ true → get tx.new.overlay q ≡ get tx.old.overlay q }
 {

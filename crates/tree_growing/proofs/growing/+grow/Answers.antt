@@ -139,7 +139,7 @@ grown_inner-returns-in-Ok-grown_children-clause-outcome g t c =
     let last = last_id children in
     let at = last_alone children c.requires.some in
     let least = steady.at_least a c.requires.intact in
-    let built = c.in-Ok-grown_children.ensures.built in
+    let built = c.in-Ok-grown_children.ensures.children.built in
     let fits : used ≤ length bytes = c.in-Ok-grown_node.ensures.used in
     let rest : take (length bytes - used) (drop used bytes) ≡ drop used bytes = take_all (length bytes - used) (drop used bytes) (omega (arith, length-drop used bytes)) in
     let rest_len : length (take (length bytes - used) (drop used bytes)) ≡ length bytes - used = ap length rest ∙ length-drop used bytes in
@@ -157,7 +157,7 @@ grown_inner-returns-in-Ok-grown_children-clause-outcome g t c =
           c.in-Ok-put_node.ensures.sets (λ some. w2_len ∙ p.1.1 (omega (arith, some, length-take more (take (length bytes - used) (drop used bytes)), rest_len)) ∙ c.requires.level) built.1.1),
       λ less. filled i (length children) ((c.payload.result - 8) / 16 - length children) (fan_out (H.payload a)) room (length s.w1) (length s.w2 + used) more (length n.bytes + (used + more)) (omega (arith, c.requires.some)) (omega (arith, c.payload.ensures, c.requires.few))
           (s.full ∙ ap (λ k. k * span (H.payload a) low) (let l : length (take i (ids_of children)) ≡ i = omega (arith, length-take i (ids_of children), at.0) in l) ∙ ap (λ k. i * k) (sym c.requires.level)) (p.1.1 (omega (arith, less)))
-          (omega (arith, c.in-Ok-grown_children.ensures.used, less, rest_len)) (omega (arith, ap length s.bytes, length-append s.w1 s.w2)),
+          (omega (arith, c.in-Ok-grown_children.ensures.children.used, less, rest_len)) (omega (arith, ap length s.bytes, length-append s.w1 s.w2)),
     ))
 
 pub grown_inner-returns-in-Err-grown_node-clause-only : goal.grown_inner-returns-in-Err-grown_node-clause-only

@@ -50,15 +50,15 @@ returns g t c =
     let last = node_of c.in_ok-node.node in
     let least = steady.at_least a c.requires.intact in
     let deep : depth + 1 ≡ above = omega (arith, c.above-level.ensures.depth) in
-    let built = c.in_ok-children.ensures.built in
+    let built = c.in_ok-children.ensures.children.built in
     let ab = keeps_same H0 a b c.put_new.ensures.store in
     let bd = keeps_same H0 b d c.grown_children.ensures.store in
     let payload : H.payload d ≡ H.payload a = bd.payload ∙ ab.payload in
     let fan : c.payload.result ≡ H.payload a = c.payload.ensures ∙ ab.payload in
     let fan2 : c.payload-2.result ≡ H.payload a = c.payload-2.ensures ∙ payload in
-    let full = filled_up (fan_out (H.payload a)) c.args.level.room used (length rest) (omega (arith, least)) (subst (λ p. used ≡ min (((p - 8) / 16 - 1) * c.args.level.room) (length rest)) fan c.in_ok-children.ensures.used) in
+    let full = filled_up (fan_out (H.payload a)) c.args.level.room used (length rest) (omega (arith, least)) (subst (λ p. used ≡ min (((p - 8) / 16 - 1) * c.args.level.room) (length rest)) fan c.in_ok-children.ensures.children.used) in
     let all : fan_out (H.payload a) * c.args.level.room ≡ span (H.payload a) above = sym (ap (λ p. fan_out p * c.args.level.room) fan2) ∙ sym c.above-level.ensures.all ∙ c.above-level.ensures.room ∙ ap (λ p. span p above) fan2 in
-    let fits : used ≤ length rest = omega (arith, c.in_ok-children.ensures.used) in
+    let fits : used ≤ length rest = omega (arith, c.in_ok-children.ensures.children.used) in
     let cut : take (length rest - used) (drop used rest) ≡ drop used rest = take_all (length rest - used) (drop used rest) (omega (arith, length-drop used rest)) in
     let p = c.put_new.ensures in
     let q = c.grown_children.ensures in
@@ -132,9 +132,9 @@ raised-requires g t c =
     let items = c.in_ok-children.children.items in
     let up = c.above-level.result in
     let count = length-map items (λ (x : BlockId). x.0) in
-    let few = subst (λ p. length items ≤ fan_out p) (ap payload (sym c.grown_children.ensures.store)) c.in_ok-children.ensures.few in
+    let few = subst (λ p. length items ≤ fan_out p) (ap payload (sym c.grown_children.ensures.store)) c.in_ok-children.ensures.children.few in
     let level : up.room ≡ span (payload c.grown_children.new.tx.store) up.depth = c.above-level.ensures.room ∙ ap (λ p. span p up.depth) c.payload-2.ensures in
     λ κs lives. (
       search rules,
-      (search rules, (c.grown_children.ensures.intact, (level, ((omega (arith, c.above-level.ensures.depth), omega (arith, count, c.in_ok-children.ensures.some), omega (arith, count, few)), c.requires.small)))),
+      (search rules, (c.grown_children.ensures.intact, (level, ((omega (arith, c.above-level.ensures.depth), omega (arith, count, c.in_ok-children.ensures.children.some), omega (arith, count, few)), c.requires.small)))),
     )
