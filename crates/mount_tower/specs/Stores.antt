@@ -14,6 +14,11 @@ use Rattle.mount_tower.specs.Tower.{Cached, held_in, tower_meanings, tower_holdi
 use Rattle.mount_tower.specs.declared.error.OpenError.{OpenError}
 use Rattle.mount_tower.specs.declared.error.OpenError.TheVariants.{FaultDirectory}
 
+-- the directory comes back with the calls and the faults that it had
+pub record ComesBack {V : Type 0} (calls : V → Option (List Call)) (failed : V → ℕ) (vault back : V) : Type 0 where
+  pub trace : calls back ≡ calls vault
+  pub faults : failed back ≡ failed vault
+
 -- a store that was opened by a record of this state and list, under this configuration, where so many calls had failed
 pub record IsOpenedStore {V : Type 0} (trace : V → Option (List Call)) (faults : V → ℕ) (state : PlainState) (list : FileChanges) (c : Settings) (failed : ℕ) (store : Cached V) : Type 0 where
   pub intact : (tower_meanings trace faults).intact store

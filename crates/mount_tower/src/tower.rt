@@ -1,16 +1,16 @@
 // What a session runs over: a store of sealed blocks, behind a cache.
-ghost use Rattle.std.specs.Prelude.{◌≡◌, ◌≤◌, ◌-◌, ◌/◌, max, ℕ, List, IfOk, IfErr};
-ghost use Rattle.std.specs.FinMap as fin;
+ghost use Rattle.std.specs.Prelude.{◌≡◌, ◌≤◌, ◌-◌, ◌/◌, max, IfOk, IfErr};
 ghost use Rattle.outside.specs.Trace.{config};
 ghost use Rattle.outside.specs.Changes.{change_at};
-ghost use Rattle.local_state.specs.Record.{plain_state, HasRecord, IsRecord};
-ghost use Rattle.store_api.specs.Content.{Content, SameContent};
+ghost use Rattle.local_state.specs.Record.{plain_state, HasRecord};
 ghost use Rattle.store_api.specs.Holdings.{IsFew};
 ghost use Rattle.sealed_store.specs.Stores.{IsIntact, block_size_of};
-ghost use Rattle.held_blocks.specs.Standing.{identity_of, records};
-ghost use Rattle.held_blocks.specs.Stores.{version_in, IsNoBlock};
+ghost use Rattle.held_blocks.specs.Standing.{records};
+ghost use Rattle.held_blocks.specs.Stores.{IsNoBlock};
 ghost use Rattle.held_blocks.specs.Views.{held_of};
+ghost use Rattle.integrity_store.specs.Made.{IsMadeOf, IsSoundAs};
 ghost use Rattle.aes_gcm.specs.Gcm.{opened_of};
+ghost use Rattle.mount_tower.specs.Stores.{ComesBack};
 ghost use Rattle.mount_tower.specs.Tower.{held_in, vault_in, trace_in, tower_meanings, tower_holdings, tower_durables};
 
 use block_cache::BlockCache;
@@ -51,16 +51,12 @@ pub(crate) fn cached_store<V: Vault>(
     requires config { IsNoBlock (change_at config sealed.vault.list) }
     ensures intact { IfOk result (λ store. (tower_meanings V.trace V.faults).intact store) }
     ensures few { IfOk result (λ store. IsFew ((tower_holdings V.trace).used store)) }
-    ensures identity { IfOk result (λ store. (tower_durables V.trace).identity store ≡ identity_of (held_of (λ cipher key extra text. opened_of key extra text) sealed state)) }
-    ensures list { IfOk result (λ store. (tower_durables V.trace).list store ≡ sealed.vault.list) }
-    ensures trace { IfOk result (λ store. trace_in V.trace store ≡ V.trace sealed.vault.vault) }
+    ensures made { IfOk result (λ store. IsMadeOf (tower_meanings V.trace V.faults) (tower_holdings V.trace) (tower_durables V.trace)
+        (held_of (λ cipher key extra text. opened_of key extra text) sealed state) (V.trace sealed.vault.vault) (V.faults sealed.vault.vault) store) }
     ensures state { IfOk result (λ store. (held_in store).state ≡ plain_state state) }
-    ensures version { IfOk result (λ store. (id : List ℕ) → (tower_holdings V.trace).version store id ≡ version_in (fin.get (plain_state state).lives id)) }
-    ensures faults { IfOk result (λ store. (tower_meanings V.trace V.faults).faults store ≡ V.faults sealed.vault.vault) }
-    ensures opened { IfOk result (λ store. (content : Content) (kept : List ℕ) → IsRecord (plain_state state) sealed.vault.list kept → records.stands ((tower_durables V.trace).identity store) kept (trace_in V.trace store) content
-        → (tower_meanings V.trace V.faults).sound store × SameContent content ((tower_holdings V.trace).content store)) }
-    ensures err_trace { IfErr result (λ vault. V.trace vault ≡ V.trace sealed.vault.vault) }
-    ensures err_faults { IfErr result (λ vault. V.faults vault ≡ V.faults sealed.vault.vault) }
+    ensures sound { IfOk result (λ store. IsSoundAs (tower_meanings V.trace V.faults) (tower_holdings V.trace) (tower_durables V.trace) records
+        (held_of (λ cipher key extra text. opened_of key extra text) sealed state) store) }
+    ensures back { IfErr result (λ vault. ComesBack V.trace V.faults sealed.vault.vault vault) }
 {
     let capacity = cached_blocks(sealed.block_size());
     match BlockCache::new(alloc, IntegrityStore::new(sealed, state), capacity) {

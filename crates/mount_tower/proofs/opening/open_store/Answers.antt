@@ -64,8 +64,8 @@ returns-in-Err-cached_store-clause-unread g c =
     let V = g.V.Vault in
     let trace = λ (x : RedoOf g). V.trace x.vault in
     let faults = λ (x : RedoOf g). V.faults x.vault in
-    let et = c.in-Err-cached_store.ensures.err_trace ∙ ap trace c.new-sealed.ensures.vault in
-    let ef = c.in-Err-cached_store.ensures.err_faults ∙ (ap faults c.new-sealed.ensures.vault ∙ (c.in-Ok.ensures.quiet (λ is. ok_err c.in-Ok.opened _ is) ∙ ap faults c.new-redo.ensures)) in
+    let et = c.in-Err-cached_store.ensures.back.trace ∙ ap trace c.new-sealed.ensures.vault in
+    let ef = c.in-Err-cached_store.ensures.back.faults ∙ (ap faults c.new-sealed.ensures.vault ∙ (c.in-Ok.ensures.quiet (λ is. ok_err c.in-Ok.opened _ is) ∙ ap faults c.new-redo.ensures)) in
     record {
       cause = tt;
       reads = subst (λ t. ReadsConfigOnce (V.trace c.args.vault) t) (sym et) (subst (λ (x : RedoOf g). ReadsConfigOnce (trace x) (trace c.read_config.new.vault)) c.new-redo.ensures c.read_config.ensures.reads);
@@ -89,12 +89,12 @@ returns-in-Ok-cached_store-clause-store g c =
     record {
       intact = e.intact;
       few = e.few;
-      waits = e.list ∙ (ap list c.new-sealed.ensures.vault ∙ (c.read_config.ensures.list ∙ ap list c.new-redo.ensures));
+      waits = e.made.list ∙ (ap list c.new-sealed.ensures.vault ∙ (c.read_config.ensures.list ∙ ap list c.new-redo.ensures));
       holds = e.state;
-      identity = e.identity
+      identity = e.made.identity
           ∙ identity_is (held_of (λ (cipher : Cipher) key extra text. opened_of key extra text) c.new-sealed.result c.args.state) (settings_of c.in-Ok.opened.config) (plain_state c.args.state) c.new-sealed.ensures.size
           (ap opened_of c.new-sealed.ensures.key) refl c.requires.unmarked c.in-Ok-check_identity.ensures.ok;
-      unfailed = e.faults ∙ (ap faults c.new-sealed.ensures.vault ∙ (c.in-Ok.ensures.quiet (λ is. ok_err c.in-Ok.opened _ is) ∙ ap faults c.new-redo.ensures));
+      unfailed = e.made.faults ∙ (ap faults c.new-sealed.ensures.vault ∙ (c.in-Ok.ensures.quiet (λ is. ok_err c.in-Ok.opened _ is) ∙ ap faults c.new-redo.ensures));
     }
 
 pub returns-in-Ok-cached_store-clause-found : goal.returns-in-Ok-cached_store-clause-found
@@ -103,7 +103,7 @@ returns-in-Ok-cached_store-clause-found g c =
     let o = c.in-Ok.opened in
     let state = plain_state c.args.state in
     let P = λ (x : RedoOf g) (t : Option (List Call)). FindsConfig c.args.password.now state x.list (trace x) t o in
-    subst (λ t. P (record { vault = c.args.vault; list = list_of c.args.list.items }) t) (sym (c.in-Ok-cached_store.ensures.trace ∙ ap trace c.new-sealed.ensures.vault))
+    subst (λ t. P (record { vault = c.args.vault; list = list_of c.args.list.items }) t) (sym (c.in-Ok-cached_store.ensures.made.trace ∙ ap trace c.new-sealed.ensures.vault))
     (subst (λ x. P x (trace c.read_config.new.vault)) c.new-redo.ensures (record { found = c.in-Ok.ensures.ok; is_of = c.in-Ok-check_identity.ensures.ok; reads = c.read_config.ensures.reads }))
 
 pub returns-in-Ok-cached_store-clause-stands : goal.returns-in-Ok-cached_store-clause-stands
@@ -119,5 +119,5 @@ returns-in-Ok-cached_store-clause-stands g c holder content kept is s =
     let s1 : Stands (identity_for cfg (holder_of state)) kept t0 content = subst (λ x. Stands (identity_for cfg x) kept t0 content) (sym e) s in
     let s2 : Stands (identity_for cfg (holder_of state)) kept t content = reads_stands (identity_for cfg (holder_of state)) kept content t0 t reads s1 in
     let waits : c.new-sealed.result.vault.list ≡ list = ap (λ (x : RedoOf g). x.list) c.new-sealed.ensures.vault ∙ (c.read_config.ensures.list ∙ ap (λ (x : RedoOf g). x.list) c.new-redo.ensures) in
-    c.in-Ok-cached_store.ensures.opened content kept (subst (λ l. IsRecord state l kept) (sym waits) is)
+    c.in-Ok-cached_store.ensures.sound.opened content kept (subst (λ l. IsRecord state l kept) (sym waits) is)
     (subst (λ i. Stands i kept t content) (sym (returns-in-Ok-cached_store-clause-store g c).identity) s2)

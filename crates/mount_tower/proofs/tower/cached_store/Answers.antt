@@ -1,4 +1,5 @@
 use Rattle.std.proofs.Common.{sym, ◌∙◌, ap, subst, true}
+use Rattle.held_blocks.specs.Soundness.{IsUntouched}
 use Rattle.held_blocks.specs.Standing.{Stands}
 use Rattle.integrity_store.specs.declared.store.IntegrityStore.{IntegrityStore}
 use Rattle.config_file.specs.declared.config.Cipher.{Cipher}
@@ -18,8 +19,30 @@ returns-in-Ok-clause-state g c =
     ap (λ (s : StoreOf g). (sealed_held s).state) c.in-Ok.ensures.store
     ∙ state_is (sealed_held below) (plain_state c.args.state) c.args.sealed.vault.list c.new.ensures.intact.0.has_record c.requires.state (c.new.ensures.recorded.written true)
 
-pub returns-in-Ok-clause-opened : goal.returns-in-Ok-clause-opened
-returns-in-Ok-clause-opened g c content kept is stands =
+pub returns-in-Ok-clause-made : goal.returns-in-Ok-clause-made
+returns-in-Ok-clause-made g c =
     let trace = g.V.Vault.trace in
-    let below = c.new.ensures.sound.opened content kept is (subst (λ (s : StoreOf g). Stands ((sealed_durables trace).identity s) kept (sealed_trace trace s) content) c.in-Ok.ensures.store stands) in
-    (c.in-Ok.ensures.sound below.0, subst (λ (s : StoreOf g). SameContent content ((sealed_holdings trace).content s)) (sym c.in-Ok.ensures.store) below.1)
+    let same = c.in-Ok.ensures.store in
+    let below = c.new.ensures.made in
+    record {
+      used = ap (λ (s : StoreOf g). (sealed_holdings trace).used s) same ∙ below.used;
+      version = λ id. ap (λ (s : StoreOf g). (sealed_holdings trace).version s id) same ∙ below.version id;
+      payload = ap (λ (s : StoreOf g). (sealed_holdings trace).payload s) same ∙ below.payload;
+      identity = ap (λ (s : StoreOf g). (sealed_durables trace).identity s) same ∙ below.identity;
+      least = ap (λ (s : StoreOf g). (sealed_durables trace).least s) same ∙ below.least;
+      list = ap (λ (s : StoreOf g). (sealed_durables trace).list s) same ∙ below.list;
+      trace = ap (λ (s : StoreOf g). sealed_trace trace s) same ∙ below.trace;
+      faults = ap (λ (s : StoreOf g). g.V.Vault.faults s.sealed.vault.vault) same ∙ below.faults;
+    }
+
+pub returns-in-Ok-clause-sound : goal.returns-in-Ok-clause-sound
+returns-in-Ok-clause-sound g c =
+    let trace = g.V.Vault.trace in
+    let same = c.in-Ok.ensures.store in
+    let below = c.new.ensures.sound in
+    record {
+      fresh = λ none untouched. c.in-Ok.ensures.sound (below.fresh none (subst (λ (s : StoreOf g). IsUntouched (sealed_trace trace s)) same untouched));
+      opened = λ content kept is stands.
+          let s = below.opened content kept is (subst (λ (s : StoreOf g). Stands ((sealed_durables trace).identity s) kept (sealed_trace trace s) content) same stands) in
+          (c.in-Ok.ensures.sound s.0, subst (λ (s : StoreOf g). SameContent content ((sealed_holdings trace).content s)) (sym same) s.1);
+    }
