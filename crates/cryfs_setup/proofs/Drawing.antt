@@ -6,25 +6,18 @@ use Rattle.answers.specs.declared.answer.Answer.{Answer}
 use Rattle.answers.specs.Sessions.{is_violation}
 use Rattle.mount.specs.declared.mount.Mount.{Mount}
 use Rattle.mount.specs.Answering.{kept_of}
-use Rattle.mount.specs.Sealing.{Draw, View, AreSealed, view_of}
-use Rattle.mount.specs.SealingLaws.{adds_nothing, sealed_then, seals_then, vectors_then}
-use Rattle.mount_calls.specs.Sealing.{HoldsSealed, StaysOrSealed, SealsAnew}
+use Rattle.mount.specs.Sealing.{Draw, HoldsSealed, View, AreSealed, view_of}
+use Rattle.mount.specs.SealingLaws.{holds_marked, holds_more, holds_then, seals_then, vectors_then}
+use Rattle.mount_calls.specs.Sealing.{StaysOrSealed, SealsAnew}
 use Rattle.outside.specs.Trace.{Call}
 use Rattle.outside.specs.declared.keeper.Keeper.{Ghosts as KeeperGhosts}
 use Rattle.rand_core.specs.Stream.{Stream}
-use Rattle.session_runs.proofs.Drawing.{KeepsSealed, KnownSoFar, SealedSoFar, keeps_marked, keeps_more}
+use Rattle.session_runs.proofs.Drawing.{KnownSoFar, SealedSoFar}
 use Rattle.store_api.specs.Durables.{with_mark}
 
--- a record of a later step, by what waited at first
-held_then : (x y : List Draw) (a b : View) (kept : Option (List ℕ)) → AreSealed x a b → HoldsSealed y b.list kept → KeepsSealed (x ++ y) a.list kept
-held_then x y a b kept sealed h =
-    let w : View = record { list = h.waiting; calls = b.calls; known = [] } in
-    let last : AreSealed y b w = record { waits = h.sealed; adds = adds_nothing y b.list b.calls } in
-    record { state = h.state; waiting = h.waiting; keeps = h.keeps; sealed = (sealed_then x y a b w sealed last).waits }
-
-kept_then : (x y : List Draw) (a b : View) (was kept : Option (List ℕ)) → AreSealed x a b → KeepsSealed x a.list was → StaysOrSealed y b.list was kept → KeepsSealed (x ++ y) a.list kept
-kept_then x y a b was kept sealed k (inl same) = subst (KeepsSealed (x ++ y) a.list) (sym same) (keeps_more x y a.list was k)
-kept_then x y a b was kept sealed k (inr h) = held_then x y a b kept sealed h
+kept_then : (x y : List Draw) (a b : View) (was kept : Option (List ℕ)) → AreSealed x a b → HoldsSealed x a.list was → StaysOrSealed y b.list was kept → HoldsSealed (x ++ y) a.list kept
+kept_then x y a b was kept sealed k (inl same) = subst (HoldsSealed (x ++ y) a.list) (sym same) (holds_more x y a.list was k)
+kept_then x y a b was kept sealed k (inr h) = holds_then x y a b kept sealed h
 
 -- blocks were written anew
 sealed_anew : {V : Type 0} {K : Type 0} (trace : V → Option (List Call)) (G : KeeperGhosts K) (first : Stream) (start : View) (now after : Stream) (old new : Mount V K) (answer : Answer) → old.core.violated ≡ false
@@ -35,9 +28,9 @@ sealed_anew trace G first start now after old new answer fresh violated s x =
     let last = x.last fresh in
     record {
       fresh = seals_then first now after start (view_of trace old) (view_of trace new) x.fresh s.seals.fresh;
-      kept = elim s.kept as (λ _. KeepsSealed (before ++ later) start.list (kept_of G new)) [
-        | inl marked ↦ subst (KeepsSealed (before ++ later) start.list) (sym marked)
-            (keeps_more before later start.list (Some (with_mark old.core.saver.last.items)) (keeps_marked before start.list old.core.saver.last.items last))
+      kept = elim s.kept as (λ _. HoldsSealed (before ++ later) start.list (kept_of G new)) [
+        | inl marked ↦ subst (HoldsSealed (before ++ later) start.list) (sym marked)
+            (holds_more before later start.list (Some (with_mark old.core.saver.last.items)) (holds_marked before start.list old.core.saver.last.items last))
         | inr stays ↦ kept_then before later start (view_of trace old) (kept_of G old) (kept_of G new) x.fresh.sealed x.kept stays
       ];
       last = λ v. kept_then before later start (view_of trace old) (Some old.core.saver.last.items) (Some new.core.saver.last.items) x.fresh.sealed last (s.last (sym violated ∙ v));

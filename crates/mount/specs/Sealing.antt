@@ -12,6 +12,7 @@ use Rattle.store_api.specs.Content.{Id}
 use Rattle.store_api.specs.Draws.{IsLater}
 use Rattle.store_api.specs.Holdings.{has_id}
 use Rattle.store_api.specs.Ids.{AreIdsOf, chacha20}
+use Rattle.mount_tower.specs.Identities.{KeepsRecord}
 use Rattle.mount_tower.specs.Opening.{IsLoaded}
 use Rattle.mount_tower.specs.Tower.{tower_durables, tower_holdings}
 use Rattle.local_state.specs.Record.{PlainState}
@@ -70,6 +71,13 @@ view_closed calls = record { list = []; calls = calls; known = [] }
 -- these bytes were sealed under the id, or waited for the block
 abbrev pub IsSealedFor : List Draw → FileChanges → Id → List ℕ → Type 0
 IsSealedFor drawn list id bytes = IsDrawnFor drawn id bytes ⊎ (change_at (block id) list ≡ Some (Some bytes))
+
+-- this is a record, and each block's file that waits in it was sealed under the block's id, or waited for it before
+pub record HoldsSealed (drawn : List Draw) (list : FileChanges) (kept : Option (List ℕ)) : Type 0 where
+  pub state : PlainState
+  pub waiting : FileChanges
+  pub keeps : KeepsRecord kept state waiting
+  pub sealed : (id : Id) (bytes : List ℕ) → change_at (block id) waiting ≡ Some (Some bytes) → IsSealedFor drawn list id bytes
 
 -- so, where the call puts something under a block's name
 abbrev pub PutsSealed : List Draw → FileChanges → Call → Type 0

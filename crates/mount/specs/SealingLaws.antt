@@ -4,16 +4,19 @@ use Rattle.std.proofs.Common.{refl, sym, ◌∙◌, ap, subst, inl, inr, append_
 use Rattle.std.specs.List.{AllByRecursion}
 use Rattle.std.specs.declared.option.Option.{Option}
 use Rattle.std.specs.declared.option.Option.TheVariants.{None, Some}
+use Rattle.local_state.proofs.Records.{marked_record}
+use Rattle.local_state.specs.Record.{with_mark as mark_set}
 use Rattle.outside.specs.Changes.{FileChanges, change_at}
 use Rattle.outside.specs.Trace.{Call, block, config, put, got, removed}
 use Rattle.rand_core.specs.Stream.{Stream, fill_bytes}
 use Rattle.store_api.specs.Content.{Id}
 use Rattle.store_api.specs.Draws.{IsLater}
+use Rattle.store_api.specs.Durables.{with_mark}
 use Rattle.store_api.specs.Holdings.{has_id}
 use Rattle.store_api.specs.Ids.{chacha20}
 use Rattle.store_api.proofs.Draws.{later_same, later_chained}
 use Rattle.mount.specs.NamingLaws.{AreAmong, among_behind, ids_more}
-use Rattle.mount.specs.Sealing.{Draw, seed, vector, known_after, AreDraws, AreVectors, IsDrawnFor, View, IsSealedFor, PutsSealed, AddsSealed, AreSealed, SealsFresh, SealsKnown}
+use Rattle.mount.specs.Sealing.{Draw, seed, vector, known_after, AreDraws, AreVectors, HoldsSealed, IsDrawnFor, View, IsSealedFor, PutsSealed, AddsSealed, AreSealed, SealsFresh, SealsKnown}
 
 -- ---- what is known
 
@@ -164,3 +167,26 @@ known_then s t u a b c x y = record {
   };
   unnamed = vectors_then x.fresh.drawn y.fresh.drawn x.unnamed y.unnamed;
 }
+
+-- ---- records
+
+-- after more files, and by an earlier list
+pub holds_then : (x y : List Draw) (a b : View) (kept : Option (List ℕ)) → AreSealed x a b → HoldsSealed y b.list kept → HoldsSealed (x ++ y) a.list kept
+holds_then x y a b kept sealed h =
+    let w : View = record { list = h.waiting; calls = b.calls; known = [] } in
+    let last : AreSealed y b w = record { waits = h.sealed; adds = adds_nothing y b.list b.calls } in
+    record { state = h.state; waiting = h.waiting; keeps = h.keeps; sealed = (sealed_then x y a b w sealed last).waits }
+
+pub holds_more : (x y : List Draw) (list : FileChanges) (kept : Option (List ℕ)) → HoldsSealed x list kept → HoldsSealed (x ++ y) list kept
+holds_more x y list kept h = record { state = h.state; waiting = h.waiting; keeps = h.keeps; sealed = λ id bytes is. sealed_first x y list id bytes (h.sealed id bytes is) }
+
+-- the same record with its mark
+pub holds_marked : (drawn : List Draw) (list : FileChanges) (last : List ℕ) → HoldsSealed drawn list (Some last) → HoldsSealed drawn list (Some (with_mark last))
+holds_marked drawn list last h =
+    let same : last ≡ h.keeps.bytes = let a = h.keeps.kept in cc in
+    record {
+      state = mark_set h.state;
+      waiting = h.waiting;
+      keeps = record { bytes = with_mark h.keeps.bytes; kept = ap (λ x. Some (with_mark x)) same; is_record = marked_record h.state h.waiting h.keeps.bytes h.keeps.is_record };
+      sealed = h.sealed;
+    }

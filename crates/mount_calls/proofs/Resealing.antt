@@ -6,11 +6,10 @@ use Rattle.answers.specs.declared.answer.Answer.{Answer}
 use Rattle.answers.specs.Sessions.{is_violation}
 use Rattle.held_blocks.specs.Standing.{listed}
 use Rattle.integrity_store.specs.WaitingLaws.{in_order}
-use Rattle.local_state.proofs.Records.{marked_record}
 use Rattle.local_state.specs.Record.{with_mark as mark_set}
 use Rattle.mount.specs.declared.mount.Mount.{Mount}
-use Rattle.mount.specs.Sealing.{Draw, View, AreSealed, IsSealedFor, SealsKnown}
-use Rattle.mount.specs.SealingLaws.{adds_nothing, known_none, known_nothing, known_then, sealed_first, sealed_nothing, sealed_then}
+use Rattle.mount.specs.Sealing.{Draw, HoldsSealed, View, AreSealed, IsSealedFor, SealsKnown}
+use Rattle.mount.specs.SealingLaws.{holds_marked, holds_more, holds_then, known_none, known_nothing, known_then, sealed_nothing}
 use Rattle.mount.specs.Tower.{tower}
 use Rattle.mount.proofs.Sealing.{step_seals, tower_applied, tower_drawn}
 use Rattle.mount_core.specs.declared.body.Core.{Core}
@@ -26,35 +25,14 @@ use Rattle.session_saver.specs.declared.saver.Saver.{Saver}
 use Rattle.store_api.proofs.Draws.{later_same}
 use Rattle.store_api.specs.Durables.{with_mark}
 use Rattle.store_api.specs.Holdings.{has_id}
-use Rattle.mount_calls.specs.Sealing.{HoldsSealed, StaysOrSealed, SealsAnew}
+use Rattle.mount_calls.specs.Sealing.{StaysOrSealed, SealsAnew}
 
 -- ---- records
-
--- after more files, and by an earlier list
-holds_then : (x y : List Draw) (a b : View) (kept : Option (List ℕ)) → AreSealed x a b → HoldsSealed y b.list kept → HoldsSealed (x ++ y) a.list kept
-holds_then x y a b kept sealed h =
-    let w : View = record { list = h.waiting; calls = b.calls; known = [] } in
-    let last : AreSealed y b w = record { waits = h.sealed; adds = adds_nothing y b.list b.calls } in
-    record { state = h.state; waiting = h.waiting; keeps = h.keeps; sealed = (sealed_then x y a b w sealed last).waits }
-
-holds_more : (x y : List Draw) (list : FileChanges) (kept : Option (List ℕ)) → HoldsSealed x list kept → HoldsSealed (x ++ y) list kept
-holds_more x y list kept h = record { state = h.state; waiting = h.waiting; keeps = h.keeps; sealed = λ id bytes is. sealed_first x y list id bytes (h.sealed id bytes is) }
 
 stays_then : (x y : List Draw) (a b : View) (first mid last : Option (List ℕ)) → AreSealed x a b → StaysOrSealed x a.list first mid → StaysOrSealed y b.list mid last → StaysOrSealed (x ++ y) a.list first last
 stays_then x y a b first mid last sealed (inl same) (inl next) = inl (next ∙ same)
 stays_then x y a b first mid last sealed (inr h) (inl next) = inr (subst (HoldsSealed (x ++ y) a.list) (sym next) (holds_more x y a.list mid h))
 stays_then x y a b first mid last sealed is (inr h) = inr (holds_then x y a b last sealed h)
-
--- the same record with its mark
-holds_marked : (drawn : List Draw) (list : FileChanges) (last : List ℕ) → HoldsSealed drawn list (Some last) → HoldsSealed drawn list (Some (with_mark last))
-holds_marked drawn list last h =
-    let same : last ≡ h.keeps.bytes = let a = h.keeps.kept in cc in
-    record {
-      state = mark_set h.state;
-      waiting = h.waiting;
-      keeps = record { bytes = with_mark h.keeps.bytes; kept = ap (λ x. Some (with_mark x)) same; is_record = marked_record h.state h.waiting h.keeps.bytes h.keeps.is_record };
-      sealed = h.sealed;
-    }
 
 module _ {V : Type 0} {K : Type 0} (trace : V → Option (List Call)) (faults : V → ℕ) (G : KeeperGhosts K) where
   abbrev view_at : Cached V → View

@@ -4,24 +4,14 @@ use Rattle.std.specs.declared.option.Option.{Option}
 use Rattle.std.specs.declared.option.Option.TheVariants.{Some}
 use Rattle.answers.specs.Sessions.{is_violation}
 use Rattle.answers.specs.declared.answer.Answer.{Answer}
-use Rattle.local_state.specs.Record.{PlainState}
 use Rattle.mount.specs.declared.mount.Mount.{Mount}
 use Rattle.mount.specs.Answering.{kept_of}
-use Rattle.mount.specs.Sealing.{Draw, SealsKnown, IsSealedFor, view_of}
-use Rattle.mount_tower.specs.Identities.{KeepsRecord}
-use Rattle.outside.specs.Changes.{FileChanges, change_at}
+use Rattle.mount.specs.Sealing.{Draw, HoldsSealed, SealsKnown, view_of}
+use Rattle.outside.specs.Changes.{FileChanges}
 use Rattle.outside.specs.Trace.{Call, block}
 use Rattle.outside.specs.declared.keeper.Keeper.{Ghosts as KeeperGhosts}
 use Rattle.rand_core.specs.Stream.{Stream}
-use Rattle.store_api.specs.Content.{Id}
 use Rattle.store_api.specs.Durables.{with_mark}
-
--- this is a record, and each block's file that waits in it was sealed under the block's id, or waited for it before
-pub record HoldsSealed (drawn : List Draw) (list : FileChanges) (kept : Option (List ℕ)) : Type 0 where
-  pub state : PlainState
-  pub waiting : FileChanges
-  pub keeps : KeepsRecord kept state waiting
-  pub sealed : (id : Id) (bytes : List ℕ) → change_at (block id) waiting ≡ Some (Some bytes) → IsSealedFor drawn list id bytes
 
 -- it is what it was, or such a record
 abbrev pub StaysOrSealed : List Draw → FileChanges → Option (List ℕ) → Option (List ℕ) → Type 0

@@ -13,11 +13,11 @@ use Rattle.answers.specs.Sessions.{Asked, Exchange, is_violation}
 use Rattle.fs_model.specs.Instant.{Instant}
 use Rattle.held_blocks.specs.Standing.{listed}
 use Rattle.held_blocks.specs.StoreLaws.{has-keys}
-use Rattle.local_state.proofs.Records.{marked_record, one_reading}
-use Rattle.local_state.specs.Record.{PlainState, IsRecord, with_mark as mark_set}
+use Rattle.local_state.proofs.Records.{one_reading}
+use Rattle.local_state.specs.Record.{PlainState, IsRecord}
 use Rattle.mount.specs.Mounts.{Unopened}
-use Rattle.mount.specs.Sealing.{Draw, AreVectors, View, view_of, view_closed, IsSealedFor, PutsSealed, AddsSealed, SealsFresh, IsKeptList, OpensSealed}
-use Rattle.mount.specs.SealingLaws.{draws_then, sealed_first, sealed_then, seals_then, vectors_then}
+use Rattle.mount.specs.Sealing.{Draw, AreVectors, HoldsSealed, View, view_of, view_closed, IsSealedFor, PutsSealed, AddsSealed, SealsFresh, IsKeptList, OpensSealed}
+use Rattle.mount.specs.SealingLaws.{draws_then, holds_marked, holds_more, sealed_then, seals_then, vectors_then}
 use Rattle.mount.specs.declared.mount.Halted.{Halted}
 use Rattle.mount.specs.declared.mount.Mount.{Mount}
 use Rattle.mount_core.specs.Keeping.{IsSameOrRecord}
@@ -30,7 +30,6 @@ use Rattle.rand_core.specs.Stream.{Stream}
 use Rattle.session_saver.specs.declared.saver.SyncError.{SyncError}
 use Rattle.store_api.proofs.Draws.{later_same}
 use Rattle.store_api.specs.Content.{Id}
-use Rattle.store_api.specs.Durables.{with_mark}
 use Rattle.store_api.specs.Holdings.{has_id}
 use Rattle.tree_commands.specs.Performing.{Showing}
 use Rattle.session_runs.specs.Answering.{store_of, kept_of, MountAnswers, mount_hosting, drawing_hosting}
@@ -80,35 +79,14 @@ module _ (drawn : List Draw) (kept : Option (List ℕ)) (list : FileChanges) (is
 
 -- ---- what waits in the records of a session
 
--- a record is kept, and what waits in it was sealed, or waited before
-pub record KeepsSealed (drawn : List Draw) (list : FileChanges) (kept : Option (List ℕ)) : Type 0 where
-  pub state : PlainState
-  pub waiting : FileChanges
-  pub keeps : KeepsRecord kept state waiting
-  pub sealed : (id bytes : List ℕ) → change_at (block id) waiting ≡ Some (Some bytes) → IsSealedFor drawn list id bytes
-
-pub keeps_more : (first later : List Draw) (list : FileChanges) (kept : Option (List ℕ)) → KeepsSealed first list kept → KeepsSealed (first ++ later) list kept
-keeps_more first later list kept k = record { state = k.state; waiting = k.waiting; keeps = k.keeps; sealed = λ id bytes is. sealed_first first later list id bytes (k.sealed id bytes is) }
-
-pub nothing_waits : (drawn : List Draw) (list : FileChanges) (kept : Option (List ℕ)) (state : PlainState) → KeepsRecord kept state [] → KeepsSealed drawn list kept
+pub nothing_waits : (drawn : List Draw) (list : FileChanges) (kept : Option (List ℕ)) (state : PlainState) → KeepsRecord kept state [] → HoldsSealed drawn list kept
 nothing_waits drawn list kept state keeps = record { state = state; waiting = []; keeps = keeps; sealed = λ id bytes is. absurd (cc) }
 
-pub waits_of : (drawn : List Draw) (list : FileChanges) (kept : Option (List ℕ)) → KeepsSealed drawn list kept → (id bytes : List ℕ) → WaitsIn kept id bytes → IsSealedFor drawn list id bytes
+pub waits_of : (drawn : List Draw) (list : FileChanges) (kept : Option (List ℕ)) → HoldsSealed drawn list kept → (id bytes : List ℕ) → WaitsIn kept id bytes → IsSealedFor drawn list id bytes
 waits_of drawn list kept k id bytes w =
     let same : k.keeps.bytes ≡ w.keeps.bytes = let a = k.keeps.kept in let b = w.keeps.kept in cc in
     let one = one_reading w.state k.state w.list k.waiting w.keeps.bytes w.keeps.is_record (subst (λ x. IsRecord k.state k.waiting x) same k.keeps.is_record) in
     k.sealed id bytes (subst (λ (l : FileChanges). change_at (block id) l ≡ Some (Some bytes)) one.1 w.waits)
-
--- the same record with its mark
-pub keeps_marked : (drawn : List Draw) (list : FileChanges) (last : List ℕ) → KeepsSealed drawn list (Some last) → KeepsSealed drawn list (Some (with_mark last))
-keeps_marked drawn list last k =
-    let same : last ≡ k.keeps.bytes = let a = k.keeps.kept in cc in
-    record {
-      state = mark_set k.state;
-      waiting = k.waiting;
-      keeps = record { bytes = with_mark k.keeps.bytes; kept = ap (λ x. Some (with_mark x)) same; is_record = marked_record k.state k.waiting k.keeps.bytes k.keeps.is_record };
-      sealed = k.sealed;
-    }
 
 module _ {V : Type 0} (trace : V → Option (List Call)) (drawn : List Draw) (list : FileChanges) (store : Cached V)
     (each : (id bytes : List ℕ) → change_at (block id) ((tower_durables trace).list store) ≡ Some (Some bytes) → IsSealedFor drawn list id bytes) where
@@ -117,8 +95,8 @@ module _ {V : Type 0} (trace : V → Option (List Call)) (drawn : List Draw) (li
   listed_sealed false id bytes is = absurd (cc)
 
   -- a record of the store, or what was kept
-  keeps_or : (old new : Option (List ℕ)) → KeepsSealed drawn list old → IsSameOrRecord (tower_durables trace) store old new → KeepsSealed drawn list new
-  keeps_or old new k (inl same) = subst (λ x. KeepsSealed drawn list x) (sym same) k
+  keeps_or : (old new : Option (List ℕ)) → HoldsSealed drawn list old → IsSameOrRecord (tower_durables trace) store old new → HoldsSealed drawn list new
+  keeps_or old new k (inl same) = subst (λ x. HoldsSealed drawn list x) (sym same) k
   keeps_or old new k (inr (bytes, with_list, is, is_record)) = record {
     state = (held_in store).state;
     waiting = listed with_list (held_in store).list;
@@ -131,8 +109,8 @@ module _ {V : Type 0} (trace : V → Option (List Call)) (drawn : List Draw) (li
 -- up to here: what waits, in the mount and in its records, was sealed since, or waited at first
 pub record SealedSoFar {V : Type 0} {K : Type 0} (trace : V → Option (List Call)) (G : KeeperGhosts K) (first : Stream) (start : View) (now : Stream) (mount : Mount V K) : Type 0 where
   pub fresh : SealsFresh first now start (view_of trace mount)
-  pub kept : KeepsSealed fresh.drawn start.list (kept_of G mount)
-  pub last : mount.core.violated ≡ false → KeepsSealed fresh.drawn start.list (Some mount.core.saver.last.items)
+  pub kept : HoldsSealed fresh.drawn start.list (kept_of G mount)
+  pub last : mount.core.violated ≡ false → HoldsSealed fresh.drawn start.list (Some mount.core.saver.last.items)
 
 -- the same, and no seed was drawn
 pub record KnownSoFar {V : Type 0} {K : Type 0} (trace : V → Option (List Call)) (G : KeeperGhosts K) (first : Stream) (start : View) (now : Stream) (mount : Mount V K) : Type 0 where
@@ -146,7 +124,7 @@ module _ {V : Type 0} {K : Type 0} (shows : Showing) (trace : V → Option (List
   module _ (now after : Stream) (old new : Mount V K) (asked : Asked) (answer : Answer) (x : SoFar now old) (line : MountAnswers shows trace faults G moment old asked answer new)
       (fresh : SealsFresh now after (view_of trace old) (view_of trace new)) where
     abbrev Keeps : Option (List ℕ) → Type 0
-    Keeps kept = KeepsSealed x.fresh.drawn start.list kept
+    Keeps kept = HoldsSealed x.fresh.drawn start.list kept
 
     or_record : (a b : Option (List ℕ)) → Keeps a → IsSameOrRecord (tower_durables trace) (store_of old) a b → Keeps b
     or_record a b k is = keeps_or trace x.fresh.drawn start.list (store_of old) x.fresh.sealed.waits a b k is
@@ -157,7 +135,7 @@ module _ {V : Type 0} {K : Type 0} (shows : Showing) (trace : V → Option (List
     kept_on false true s e =
         let m = line.line.keeps.marks e in
         elim m.2 as (λ _. Keeps (kept_of G new)) [
-          | inl marked ↦ subst Keeps (sym marked.0) (keeps_marked x.fresh.drawn start.list m.0 (or_record (Some old.core.saver.last.items) (Some m.0) (x.last s) m.1))
+          | inl marked ↦ subst Keeps (sym marked.0) (holds_marked x.fresh.drawn start.list m.0 (or_record (Some old.core.saver.last.items) (Some m.0) (x.last s) m.1))
           | inr is ↦ or_record (kept_of G old) (kept_of G new) x.kept is
         ]
 
@@ -169,8 +147,8 @@ module _ {V : Type 0} {K : Type 0} (shows : Showing) (trace : V → Option (List
     sealed_line : SoFar after new
     sealed_line = record {
       fresh = seals_then first now after start (view_of trace old) (view_of trace new) x.fresh fresh;
-      kept = keeps_more x.fresh.drawn fresh.drawn start.list (kept_of G new) (kept_on old.core.violated (is_violation answer) refl refl);
-      last = λ v. keeps_more x.fresh.drawn fresh.drawn start.list (Some new.core.saver.last.items) (last_on old.core.violated (is_violation answer) refl refl v);
+      kept = holds_more x.fresh.drawn fresh.drawn start.list (kept_of G new) (kept_on old.core.violated (is_violation answer) refl refl);
+      last = λ v. holds_more x.fresh.drawn fresh.drawn start.list (Some new.core.saver.last.items) (last_on old.core.violated (is_violation answer) refl refl v);
     }
 
   module _ {H : Type 0} (mount : H → Mount V K) (stream : H → Stream) (chance : H → ℕ) where
@@ -218,7 +196,7 @@ module _ {V : Type 0} {K : Type 0} (shows : Showing) (trace : V → Option (List
       record {
         fresh = record { drawn = []; draws = later_same stream; sealed = record { waits = opens.2.waits; adds = opens.2.adds }; known = λ id has. has };
         kept = nothing;
-        last = λ _. subst (λ x. KeepsSealed [] opens.0 x) (begun.opened.ready.core.whole.kept begun.opened.unchanged) nothing;
+        last = λ _. subst (λ x. HoldsSealed [] opens.0 x) (begun.opened.ready.core.whole.kept begun.opened.unchanged) nothing;
       }
 
   pub known_opened : KnownSoFar trace G stream Start stream old
@@ -226,15 +204,15 @@ module _ {V : Type 0} {K : Type 0} (shows : Showing) (trace : V → Option (List
   known_opened = record { far = sealed_opened; unnamed = tt }
 
   module _ (last_vault : V) (last_keeper : K) (left : Stream) (new : Mount V K) (closing : Result Unit SyncError) (closed : Closing shows trace faults G new closing last_vault last_keeper) (x : SealedSoFar trace G stream Start left new) where
-    pub kept_closed : (stood : Bool) → new.core.violated ≡ stood → KeepsSealed x.fresh.drawn opens.0 (G.kept last_keeper)
-    kept_closed true v = subst (λ k. KeepsSealed x.fresh.drawn opens.0 (G.kept k)) (sym (closed.closes.left (inl v)).2) x.kept
+    pub kept_closed : (stood : Bool) → new.core.violated ≡ stood → HoldsSealed x.fresh.drawn opens.0 (G.kept last_keeper)
+    kept_closed true v = subst (λ k. HoldsSealed x.fresh.drawn opens.0 (G.kept k)) (sym (closed.closes.left (inl v)).2) x.kept
     kept_closed false v = keeps_or trace x.fresh.drawn opens.0 (store_of new) x.fresh.sealed.waits (kept_of G new) (G.kept last_keeper) x.kept (closed.closes.kept v)
 
     pub draws_closed : DrawsVectors stream left (outside_of trace faults G vault keeper) (outside_of trace faults G last_vault last_keeper)
     draws_closed =
         let drawn = x.fresh.drawn ++ [] in
         let sealed = sealed_then x.fresh.drawn [] Start (view_of trace new) (view_closed (trace last_vault)) x.fresh.sealed closed.closes.sealed in
-        let kept = keeps_more x.fresh.drawn [] opens.0 (G.kept last_keeper) (kept_closed new.core.violated refl) in
+        let kept = holds_more x.fresh.drawn [] opens.0 (G.kept last_keeper) (kept_closed new.core.violated refl) in
         record {
           known = Start.known;
           knows = knows;
