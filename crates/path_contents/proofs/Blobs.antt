@@ -10,7 +10,7 @@ use Rattle.blob_api.specs.declared.blobs.TheConstants.{MAX_BLOB}
 use Rattle.blob_api.specs.BlobMap.{Id, BlobMap, BlobHoldings}
 use Rattle.fs_model.specs.declared.attr.Kind.{Kind}
 use Rattle.fs_model.specs.declared.attr.Kind.TheVariants.{Directory, File, Link}
-use Rattle.fs_model.specs.declared.limits.TheConstants.{MAX_TARGET}
+use Rattle.fs_model.specs.declared.limits.TheConstants.{MAX_FILE, MAX_TARGET}
 use Rattle.fs_model.specs.Names.{is_zero}
 use Rattle.fs_model.specs.Tree.{Path, Row, Tree, is_directory, FitsKind}
 use Rattle.fs_blobs.specs.declared.header.TheConstants.{HEADER_LEN}
@@ -45,6 +45,9 @@ module _ {m : BlobMap} {root : Id} {t : Tree} {ids : Path → Id} (shows : Shows
   -- a directory has none
   pub folder_bytes : row.attr.kind ≡ Directory → 0 ≡ length row.bytes
   folder_bytes kind = sym (ap length (subst (λ k. FitsKind k row.bytes) kind (shows.well_formed.rows p row there).content))
+
+  pub file_fits : row.attr.kind ≡ File → length row.bytes ≤ MAX_FILE
+  file_fits kind = subst (λ k. FitsKind k row.bytes) kind (shows.well_formed.rows p row there).content
 
   -- a link's target is read whole
   pub whole_target : row.attr.kind ≡ Link → take MAX_TARGET (drop 0 row.bytes) ≡ row.bytes

@@ -4,5 +4,6 @@ pub mod Blobs
 pub mod Seen
 pub mod Found
 pub mod Steps
+pub mod Ends
 pub mod Files
 pub mod Spared

@@ -1,11 +1,14 @@
 // Commands that change the content of a file.
-ghost use Rattle.std.specs.Prelude.{◌≡◌, ◌≤◌, ◌∷◌, IfOk, length};
+ghost use Rattle.std.specs.Prelude.{◌≡◌, ◌≤◌, ◌∷◌, IfOk, false, length};
 ghost use Rattle.outcome.specs.Outcome.{Outcome};
 ghost use Rattle.fs_model.specs.Tree.{upward, directory_size};
 ghost use Rattle.fs_model.specs.LookUp.{Found, look};
 ghost use Rattle.fs_model.specs.Step.{written, truncated};
+ghost use Rattle.fs_model.specs.Step as step;
+ghost use Rattle.fs_model.specs.declared.limits.TheConstants.{MAX_FILE};
 ghost use Rattle.forest.specs.Showing.{BlobsShow, Performed};
 ghost use Rattle.path_walks.specs.Replies.{IsChangeReply};
+ghost use Rattle.fs_blobs.specs.Blobs.{IsBlob};
 ghost use Rattle.path_contents.specs.Sparing.{IsSparingTwice, IsSparingAt};
 ghost use Rattle.path_walks.specs.Sights.{Finding};
 
@@ -14,7 +17,7 @@ use crate::places::content_refusal;
 use blob_api::Blobs;
 use block_id::{BlockId, Fail};
 use fs_blobs::body_len;
-use fs_model::{FsError, MAX_MODE, Moment, Name, Reply};
+use fs_model::{FsError, MAX_GROWTH, MAX_MODE, Moment, Name, Reply};
 use path_entries::touched;
 use path_walks::{Occupancy, Reached, done, reach};
 use std::alloc::Global;
@@ -68,9 +71,8 @@ fn write_found<B: Blobs>(
     if bytes.is_empty() {
         return Ok(Reply::Done);
     }
-    let size = body_len(alloc, b, &at.place.blob)?;
     let end = from.saturating_add(bytes.len() as u64);
-    if is_too_long(size, end.max(size)) {
+    if is_end_too_far(alloc, b, &at.place.blob, end)? {
         return Ok(Reply::Error(FsError::TooLarge));
     }
     let entry = touched(at.name, &at.place, now)?;
@@ -116,10 +118,29 @@ fn truncate_found<B: Blobs>(
         Some(refusal) => return Ok(Reply::Error(refusal)),
         None => {}
     }
-    let size = body_len(alloc, b, &at.place.blob)?;
-    if is_too_long(size, len) {
+    if is_end_too_far(alloc, b, &at.place.blob, len)? {
         return Ok(Reply::Error(FsError::TooLarge));
     }
     let entry = touched(at.name, &at.place, now)?;
     done(resize_at(alloc, b, at, &entry, len))
+}
+
+/// Whether the file of this blob may not get this end. Its length is asked for only where the end is past what one command may add.
+fn is_end_too_far<B: Blobs>(
+    alloc: Global,
+    b: &mut B,
+    blob: &BlockId,
+    end: u64,
+) -> Result<bool, Fail>
+    requires { B.meanings.intact b.old }
+    ensures outcome { Outcome B.meanings (IsBlob B.holdings b.old blob.now.0) b.old b.new result
+        (λ n far. B.holdings.stands_for b.new n.map × (far ≡ step.is_too_long (length n.body) end)) }
+    ensures unchanged { B.holdings.changed b.new ≡ B.holdings.changed b.old }
+    ensures fits { IfOk result (λ far. far ≡ false → end ≤ MAX_FILE) }
+{
+    if end <= MAX_GROWTH {
+        return Ok(false);
+    }
+    let size = body_len(alloc, b, blob)?;
+    Ok(is_too_long(size, end))
 }
