@@ -36,6 +36,11 @@ def files_of(folder):
     return found
 
 
+def kept_in(folder):
+    """The same without what a killed save left beside the record."""
+    return {name: held for name, held in files_of(folder).items() if not name.endswith(".new")}
+
+
 def marked(files):
     record = files[RECORD]
     return {**files, RECORD: record[:MARK_AT] + b"\1" + record[MARK_AT + 1 :]}
@@ -110,10 +115,10 @@ class Checking:
     def over_damage(self, words):
         honest = [shutil.copytree(it, f"{it}.honest") for it in (self.folders.blocks, self.folders.state)]
         self.damage()
-        blocks, state = files_of(self.folders.blocks), files_of(self.folders.state)
+        blocks, state = files_of(self.folders.blocks), kept_in(self.folders.state)
         ended = self.check(words, (5,))
         self.count(ended, words, "damage")
-        found = {name: held for name, held in files_of(self.folders.state).items() if not name.endswith(".new")}
+        found = kept_in(self.folders.state)
         is_marked = found == marked(state)
         if files_of(self.folders.blocks) != blocks or (found != state and (not is_marked or "--all" in words)):
             raise Lost(f"{words} over damage changed more than the mark: {sorted(found)}")
