@@ -1,5 +1,6 @@
 // The sealer that AES-256 makes in GCM.
-ghost use Rattle.std.specs.Prelude.{◌≡◌, ◌+◌, ◌++◌, length, take, vec_len, OnOk, OnErr};
+ghost use Rattle.std.specs.Prelude.{◌≡◌, ◌≤◌, ◌+◌, ◌++◌, length, take, vec_len, OnOk, OnErr};
+ghost use Rattle.seal_api.specs.Sealing.{middle};
 ghost use Rattle.aes_gcm.specs.Gcm.{sealed_of};
 
 use crate::gcm_key::GcmKey;
@@ -30,6 +31,10 @@ impl Sealer for Aes256Gcm {
 
     fn iv_len(&self) -> usize {
         IV_LEN
+    }
+
+    fn seal_in_place(&self, key: &[u8; 32], iv: &[u8], extra: &[u8], text: &mut [u8]) {
+        seal_text(key, iv, extra, text);
     }
 
     fn seal_with(
@@ -84,6 +89,18 @@ impl Sealer for Aes256Gcm {
     ghost agrees = { λ _ key extra other text plain again opens also. opened_of-agrees key extra other text plain again opens also };
 }
 
+/// Seals the plaintext that stands between room for the IV and room for the tag.
+fn seal_text(key: &[u8; 32], iv: &[u8], extra: &[u8], text: &mut [u8])
+    requires iv { length iv.now ≡ 16 }
+    requires room { 32 ≤ length text.old }
+    ensures { text.new ≡ sealed_of key.now iv.now extra.now (middle 16 16 text.old) }
+{
+    let end = text.len() - TAG_LEN;
+    let tag = GcmKey::from_key(key).seal(iv, extra, &mut text[IV_LEN..end]);
+    text[..IV_LEN].copy_from_slice(iv);
+    text[end..].copy_from_slice(&tag);
+}
+
 /// Appends a sealed text, or a part of it where memory is refused.
 pub fn append_sealed(
     key: &[u8; 32],
@@ -96,8 +113,10 @@ pub fn append_sealed(
     ensures ok { OnOk result (out.new.items ≡ out.old.items ++ sealed_of key.now iv.now extra.now plain.now) }
     ensures err { OnErr result (take (vec_len out.old) out.new.items ≡ out.old.items) }
 {
+    let start = out.len();
     out.extend_from_slice(iv)?;
-    let tag = GcmKey::from_key(key).seal(iv, extra, plain, out)?;
-    out.extend_from_slice(&tag)?;
+    out.extend_from_slice(plain)?;
+    out.extend_from_slice(&[0; TAG_LEN])?;
+    seal_text(key, iv, extra, &mut out[start..]);
     Ok(())
 }

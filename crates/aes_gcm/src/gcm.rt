@@ -23,7 +23,9 @@ pub fn gcm_seal(
     ensures tag { IfOk result (λ tag. tag ≡ tag_of (aes256 keys.now) iv.now extra.now (crypt (aes256 keys.now) iv.now plain.now)) }
     ensures err { OnErr result (out.new.items ≡ out.old.items) }
 {
-    GcmKey::new(keys).seal(iv, extra, plain, out)
+    let start = out.len();
+    out.extend_from_slice(plain)?;
+    Ok(GcmKey::new(keys).seal(iv, extra, &mut out[start..]))
 }
 
 /// The plaintext of a ciphertext, or None where the tag over it and the extra bytes is another

@@ -61,26 +61,17 @@ impl GcmKey {
         GcmKey { planes, hash }
     }
 
-    /// Appends the ciphertext of a plaintext to `out`, and answers the tag over it and the extra
-    /// bytes (SP 800-38D, 7.1).
-    pub fn seal(
-        &self,
-        iv: &[u8],
-        extra: &[u8],
-        plain: &[u8],
-        out: &mut Vec<u8>,
-    ) -> Result<[u8; 16], Memory>
+    /// Turns a plaintext into its ciphertext where it stands, and answers the tag over it and the
+    /// extra bytes (SP 800-38D, 7.1).
+    pub fn seal(&self, iv: &[u8], extra: &[u8], text: &mut [u8]) -> [u8; 16]
         requires { 0 < length iv.now }
-        ensures text { OnOk result (out.new.items ≡ out.old.items ++ crypt (aes256 self.now) iv.now plain.now) }
-        ensures tag { IfOk result (λ tag. tag ≡ tag_of (aes256 self.now) iv.now extra.now (crypt (aes256 self.now) iv.now plain.now)) }
-        ensures err { OnErr result (out.new.items ≡ out.old.items) }
+        ensures text { text.new ≡ crypt (aes256 self.now) iv.now text.old }
+        ensures tag { result ≡ tag_of (aes256 self.now) iv.now extra.now (crypt (aes256 self.now) iv.now text.old) }
     {
-        let start = out.len();
         let counter = self.first_counter(iv);
         let turn = first_turn(&self.planes, counter);
-        append_crypted(&self.planes, counter, &turn, plain, out)?;
-        let text = &out[start..];
-        Ok(self.tag_under(counter, &turn[0], extra, text))
+        crypt(&self.planes, counter, &turn, text);
+        self.tag_under(counter, &turn[0], extra, text)
     }
 
     /// The plaintext of a ciphertext, or None where the tag over it and the extra bytes is another

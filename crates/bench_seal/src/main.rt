@@ -74,7 +74,8 @@ fn bench_kept(alloc: Global, plan: &Plan) -> Result<u64, Memory> {
     for number in 0..plan.count {
         let iv = u128::from(number).to_be_bytes();
         sealed.clear();
-        let tag = key.seal(&iv, &[], &plain, &mut sealed)?;
+        sealed.extend_from_slice(&plain)?;
+        let tag = key.seal(&iv, &[], &mut sealed);
         if let Some(opened) = key.unseal(alloc, &iv, &[], &sealed, &tag)? {
             plain = opened;
         }

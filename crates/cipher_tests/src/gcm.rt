@@ -217,3 +217,21 @@ fn opens_what_was_sealed(rt: HostRuntime) -> Result<(), Fail> {
     assert!(rt; Aes256Gcm.unseal(alloc, &key, &[0; 31])?.is_none());
     Ok(())
 }
+
+#[test]
+fn seals_where_the_plaintext_stands(rt: HostRuntime) -> Result<(), Fail> {
+    let alloc = rt.alloc();
+    let key = key_of(CASES[7].key);
+    let iv = tag_of(CASES[7].iv);
+    let plain = bytes_of(alloc, CASES[7].plain)?;
+    assert_eq!(rt; plain.len(), 33);
+    let mut text = [1u8; 65];
+    text[16..49].copy_from_slice(&plain);
+    Aes256Gcm.seal_in_place(&key, &iv, &[], &mut text);
+    let mut whole = Vec::new(alloc);
+    whole.extend_from_slice(&iv)?;
+    whole.extend_from_slice(&bytes_of(alloc, CASES[7].text)?)?;
+    whole.extend_from_slice(&tag_of(CASES[7].tag))?;
+    assert!(rt; text.as_slice() == whole.as_slice());
+    Ok(())
+}

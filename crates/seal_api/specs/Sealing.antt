@@ -1,9 +1,13 @@
 -- What a sealed text is.
-use Rattle.std.specs.Prelude.{◌≡◌, ℕ, ◌+◌, ◌^◌, List, length, take, Option, Some}
+use Rattle.std.specs.Prelude.{◌≡◌, ℕ, ◌+◌, ◌-◌, ◌^◌, List, length, take, drop, Option, Some}
 
 -- the most bytes of a plaintext, of a ciphertext and of an IV: 2 ^ 30
 abbrev pub max_len : ℕ
 max_len = 2 ^ 30
+
+-- what stands between so many first and so many last bytes
+abbrev pub middle : ℕ → ℕ → List ℕ → List ℕ
+middle first last text = take (length text - last - first) (drop first text)
 
 -- this text is a plaintext under an IV, sealed, where opens says what a text opens to
 pub record IsSealed (opens : List ℕ → Option (List ℕ)) (iv plain sealed : List ℕ) : Type 0 where

@@ -3,7 +3,7 @@ ghost use Rattle.std.specs.Prelude.{◌≡◌, ◌≤◌, ◌+◌, ◌++◌, Lis
 ghost use Rattle.std.specs.declared.option.Option.{Option};
 ghost use Rattle.std.specs.declared.option.Option.TheVariants.{Some};
 ghost use Rattle.std.specs.Option.{option_map};
-ghost use Rattle.seal_api.specs.Sealing.{IsSealed, max_len};
+ghost use Rattle.seal_api.specs.Sealing.{IsSealed, max_len, middle};
 
 use block_id::Memory;
 use std::alloc::Global;
@@ -23,6 +23,14 @@ pub trait Sealer {
     fn iv_len(&self) -> usize
         ensures value { result ≡ iv_size self.now }
         ensures bound { result ≤ max_len };
+
+    /// Seals the plaintext that stands between room for an IV and room for the tag, 16 bytes, where it stands: no memory is taken.
+    fn seal_in_place(&self, key: &[u8; 32], iv: &[u8], extra: &[u8], text: &mut [u8])
+        requires iv { length iv.now ≡ iv_size self.now }
+        requires extra { length extra.now ≤ max_len }
+        requires room { iv_size self.now + 16 ≤ length text.old }
+        requires plain { length (middle (iv_size self.now) 16 text.old) ≤ max_len }
+        ensures { text.new ≡ sealed self.now key.now iv.now extra.now (middle (iv_size self.now) 16 text.old) };
 
     /// Appends the sealed plaintext to `out`: the IV, then what hides and protects the plaintext, and protects the extra bytes,
     /// which aren't in it.
