@@ -1,5 +1,5 @@
 -- Lists of drafts, and the lists that they are told as.
-use Rattle.std.proofs.Common.{◌≡◌, ◌⊎◌, inl, inr, ℕ, ◌+◌, ◌-◌, ◌<◌, ◌^◌, min, Bool, true, false, cond, List, [], ◌∷◌, map, length, refl, sym, ◌∙◌, ap, subst, arith}
+use Rattle.std.proofs.Common.{◌≡◌, ◌⊎◌, inl, inr, ℕ, ◌+◌, ◌-◌, ◌^◌, min, Bool, true, false, cond, List, [], ◌∷◌, map, length, refl, sym, ◌∙◌, ap, subst}
 use Rattle.std.specs.Prelude.{◌&&◌, sum_by, IfSome, OnOk, OnErr, Result, Ok, Err}
 use Rattle.std.specs.Option.{option_map}
 use Rattle.std.specs.Ordering.{is_eq, is_lt}
@@ -9,8 +9,7 @@ use Rattle.std.specs.declared.option.Option.TheVariants.{None, Some}
 use Rattle.std.specs.declared.cmp.Ordering.{Ordering}
 use Rattle.std.specs.declared.cmp.Ordering.TheVariants.{Less, Equal, Greater}
 use Rattle.std.proofs.lemmas.List.Sums.{sum_by-cons}
-use Rattle.outside.specs.Trace.{At, Call, config, block}
-use Rattle.outside.specs.Writes.{StopsAt}
+use Rattle.outside.specs.Trace.{At, config, block}
 use Rattle.outside.specs.Names.{at_cmp}
 use Rattle.outside.specs.NameLaws.{at_exact}
 use Rattle.outside.specs.Changes.{FileChanges, IsIncreasing, change_at, set_change, set_changes}
@@ -186,20 +185,3 @@ config_after (Err e) seal size drafts changes old new told bytes ok one is = tt
 
 pub config_drafts : (size : ℕ) (changes : FileChanges) (bytes : Option (List ℕ)) → changes ≡ (config, bytes) ∷ [] → AreDrafts size changes
 config_drafts size changes bytes one = subst (AreDrafts size) (sym one) (tt, tt)
-
--- ---- a write that stops before its first call
-
-some_told : (seal : Seal) (size : ℕ) (drafts : Bool) (list : FileChanges) → 0 < length list → 0 < length (told_list drafts seal size list)
-some_told seal size true [] h = absurd (omega (arith, h))
-some_told seal size true (e ∷ es) h = omega arith
-some_told seal size false list h = h
-
-stops_first : (list : FileChanges) (old new : Option (List Call)) → 0 < length list → new ≡ old → StopsAt list old new list
-stops_first [] old new h same = absurd (omega (arith, h))
-stops_first (e ∷ es) old new h same = record { done = []; next = e; rest = es; parts = refl; stays = refl; trace = inl same }
-
-pub stops_unsealed : {V : Type 0} (trace : V → Option (List Call)) (seal : Seal) (size : ℕ) (drafts : Bool) (old new : Redo V) → 0 < length old.list → new ≡ old
-    → StopsAt (told_list drafts seal size old.list) (trace old.vault) (trace new.vault) (told_list drafts seal size new.list)
-stops_unsealed trace seal size drafts old new h same =
-    subst (λ (v : Redo _). StopsAt (told_list drafts seal size old.list) (trace old.vault) (trace v.vault) (told_list drafts seal size v.list)) (sym same)
-    (stops_first (told_list drafts seal size old.list) (trace old.vault) (trace old.vault) (some_told seal size drafts old.list h) refl)

@@ -1,11 +1,11 @@
 // Drafts of block files, and how they are sealed.
-ghost use Rattle.std.specs.Prelude.{◌≡◌, ◌⊎◌, ◌≤◌, ◌<◌, ◌^◌, true, false, [], length, map, IfOk, IfSome, IfNone, OnOk, OnErr};
+ghost use Rattle.std.specs.Prelude.{◌≡◌, ◌⊎◌, ◌≤◌, ◌<◌, ◌^◌, true, false, [], length, map, IfOk, IfSome, IfNone};
 ghost use Rattle.std.specs.declared.option.Option.TheVariants.{None, Some};
 ghost use Rattle.outside.specs.Changes.{change_at};
-ghost use Rattle.outside.specs.View.{at_of, change_of, list_of};
+ghost use Rattle.outside.specs.View.{at_of, change_of, list_of, pending_of};
 ghost use Rattle.sealed_store.specs.declared.sealed_store.TheConstants.{SEAL_LEN};
 ghost use Rattle.sealed_store.specs.BlockFiles.{front_seen};
-ghost use Rattle.sealed_store.specs.Drafts.{sealed_as, sealed_change, sealed_entry, seen_draft, MayBeDraft, AreDrafts};
+ghost use Rattle.sealed_store.specs.Drafts.{sealed_as, sealed_entry, seen_draft, told_list, MayBeDraft, AreDrafts};
 ghost use Rattle.sealed_store.specs.Stores.{IsIntact, seen_file_of};
 
 use crate::Seen;
@@ -17,99 +17,78 @@ use redo_vault::RedoVault;
 use seal_api::Sealer;
 use std::alloc::Global;
 
+/// How many bytes of a file are its prefix.
+const PREFIX_LEN: usize = 16;
+
 /// How many bytes of a draft are its IV.
 const IV_LEN: usize = 16;
 
-/// The file of this block, of which there is a draft.
-fn seal_draft<C: Sealer>(
-    alloc: Global,
-    cipher: &C,
-    key: &[u8; 32],
-    id: &BlockId,
-    draft: &[u8],
-) -> Result<Vec<u8>, Memory>
-    requires { IsIntact (length draft.now) (C.iv_size cipher.now) }
-    ensures { IfOk result (λ file. file.items ≡ sealed_as (C.sealed cipher.now key.now) (length draft.now) id.now.0 draft.now) }
+/// How many bytes stand before what hides the plaintext.
+const FRONT_LEN: usize = PREFIX_LEN + IV_LEN;
+
+/// Seals a draft to the file of this block where it stands: its plaintext moves behind the prefix and the IV.
+fn seal_draft<C: Sealer>(cipher: &C, key: &[u8; 32], id: &BlockId, draft: &mut [u8])
+    requires { IsIntact (length draft.old) (C.iv_size cipher.now) }
+    ensures { draft.new ≡ sealed_as (C.sealed cipher.now key.now) (length draft.old) id.now.0 draft.old }
 {
     let end = draft.len() - SEAL_LEN;
-    let iv = &draft[end..end + IV_LEN];
-    let mut file = Vec::with_capacity(alloc, draft.len())?;
-    file.extend_from_slice(&PREFIX_WITH_ID)?;
-    cipher.seal_with(key, iv, &id.0, &draft[..end], &mut file)?;
-    Ok(file)
+    let mut iv = [0; IV_LEN];
+    iv.copy_from_slice(&draft[end..end + IV_LEN]);
+    draft.copy_within(..end, FRONT_LEN);
+    draft[..PREFIX_LEN].copy_from_slice(&PREFIX_WITH_ID);
+    cipher.seal_in_place(key, &iv, &id.0, &mut draft[PREFIX_LEN..]);
 }
 
-/// The change of a file, sealed if it is a draft.
-fn seal_change<C: Sealer>(
-    alloc: Global,
-    cipher: &C,
-    key: &[u8; 32],
-    block_size: usize,
-    pending: &Pending,
-) -> Result<Change, Memory>
+/// Seals the file of a change if it is a draft.
+fn seal_change<C: Sealer>(cipher: &C, key: &[u8; 32], block_size: usize, pending: &mut Pending)
     requires intact { IsIntact block_size (C.iv_size cipher.now) }
-    requires draft { MayBeDraft block_size (at_of pending.now.name) (change_of pending.now.change) }
-    ensures { IfOk result (λ change. change_of change
-        ≡ sealed_change (C.sealed cipher.now key.now) block_size (at_of pending.now.name) (change_of pending.now.change)) }
+    requires draft { MayBeDraft block_size (at_of pending.old.name) (change_of pending.old.change) }
+    ensures { pending_of pending.new ≡ sealed_entry (C.sealed cipher.now key.now) block_size (pending_of pending.old) }
 {
-    match (&pending.change, &pending.name) {
-        (Change::Removal, _) => Ok(Change::Removal),
-        (Change::Bytes(draft), FileName::Block(id)) => {
-            let file = seal_draft(alloc, cipher, key, id, draft)?;
-            Ok(Change::Bytes(file))
-        }
-        (Change::Bytes(bytes), FileName::Config) => {
-            let copy = bytes.to_vec(alloc)?;
-            Ok(Change::Bytes(copy))
-        }
+    let FileName::Block(id) = pending.name else {
+        return;
+    };
+    match &mut pending.change {
+        Change::Bytes(draft) => seal_draft(cipher, key, &id, draft),
+        Change::Removal => {}
     }
 }
 
-/// The changes, each draft sealed.
+/// Seals each draft of the changes where it stands.
 pub(crate) fn seal_list<C: Sealer>(
-    alloc: Global,
     cipher: &C,
     key: &[u8; 32],
     block_size: usize,
-    list: &[Pending],
-) -> Result<Vec<Pending>, Memory>
+    list: &mut Vec<Pending>,
+)
     requires intact { IsIntact block_size (C.iv_size cipher.now) }
-    requires drafts { AreDrafts block_size (list_of list.now) }
-    ensures { IfOk result (λ sealed. list_of sealed.items ≡ map (sealed_entry (C.sealed cipher.now key.now) block_size) (list_of list.now)) }
+    requires drafts { AreDrafts block_size (list_of list.old.items) }
+    ensures { list_of list.new.items ≡ map (sealed_entry (C.sealed cipher.now key.now) block_size) (list_of list.old.items) }
 {
-    let mut sealed = Vec::with_capacity(alloc, list.len())?;
-    for pending in list {
-        let change = seal_change(alloc, cipher, key, block_size, pending)?;
-        sealed.push(Pending {
-            name: pending.name,
-            change,
-        })?;
+    for pending in list.iter_mut() {
+        seal_change(cipher, key, block_size, pending);
     }
-    Ok(sealed)
 }
 
-/// Seals the drafts that wait, all or none.
+/// Seals what waits, where drafts wait, and takes no memory for it.
 pub(crate) fn seal_waiting<V: Vault, C: Sealer>(
     alloc: Global,
     cipher: &C,
     key: &[u8; 32],
     block_size: usize,
+    drafts: bool,
     vault: &mut RedoVault<V>,
-) -> Result<(), Memory>
+)
     requires intact { IsIntact block_size (C.iv_size cipher.now) }
-    requires drafts { AreDrafts block_size vault.old.list }
-    ensures ok { OnOk result (vault.new.list ≡ map (sealed_entry (C.sealed cipher.now key.now) block_size) vault.old.list) }
-    ensures err { OnErr result (vault.new ≡ vault.old) }
-    ensures some { OnErr result (0 < length vault.old.list) }
+    requires drafts { drafts ≡ true → AreDrafts block_size vault.old.list }
+    ensures list { vault.new.list ≡ told_list drafts (C.sealed cipher.now key.now) block_size vault.old.list }
     ensures vault { vault.new.vault ≡ vault.old.vault }
 {
-    let waiting = vault.entries();
-    if waiting.is_empty() {
-        return Ok(());
+    if drafts {
+        let mut list = vault.replace_list(Vec::new(alloc));
+        seal_list(cipher, key, block_size, &mut list);
+        drop(vault.replace_list(list));
     }
-    let sealed = seal_list(alloc, cipher, key, block_size, waiting)?;
-    drop(vault.replace_list(sealed));
-    Ok(())
 }
 
 /// Whether drafts may be set in the list: drafts wait there, or nothing.

@@ -179,14 +179,14 @@ impl<V: Vault, C: Sealer> SealedStore<V, C> {
             (block_size_of self.now) plain.items iv.now draft.items) }
     {
         let mut draft = plain;
-        draft.reserve(SEAL_LEN)?;
+        draft.reserve_exact(SEAL_LEN)?;
         draft.extend_from_slice(iv)?;
         draft.extend_from_slice(&[0; SEAL_LEN - 16])?;
         Ok(draft)
     }
 
     /// Has each of these drafts and removals wait, all or none. Where sealed files wait, these are sealed at once.
-    pub fn put_drafts(&mut self, alloc: Global, drafts: Vec<Pending>) -> Result<(), Memory>
+    pub fn put_drafts(&mut self, drafts: Vec<Pending>) -> Result<(), Memory>
         requires intact { IsIntact (block_size_of self.old) (C.iv_size (cipher_of self.old)) }
         requires drafts { AreDrafts (block_size_of self.old) (list_of drafts.items) }
         ensures ok { OnOk result (self.new.vault.list ≡ set_changes (map (sealed_entry (C.sealed (cipher_of self.old) (key_of self.old))
@@ -200,7 +200,8 @@ impl<V: Vault, C: Sealer> SealedStore<V, C> {
             self.drafts = true;
             return put_waiting(&mut self.vault, drafts);
         }
-        let sealed = seal_list(alloc, &self.cipher, &self.key, self.block_size, &drafts)?;
+        let mut sealed = drafts;
+        seal_list(&self.cipher, &self.key, self.block_size, &mut sealed);
         put_waiting(&mut self.vault, sealed)
     }
 
@@ -219,23 +220,21 @@ impl<V: Vault, C: Sealer> SealedStore<V, C> {
     }
 
     /// Takes the unwritten list, in which each draft is sealed. It is to be put back.
-    pub fn take_list(&mut self, alloc: Global) -> Result<Vec<Pending>, Memory>
-        ensures list { IfOk result (λ list. list_of list.items ≡ self.old.vault.list) }
-        ensures increasing { IfOk result (λ list. IsIncreasing (list_of list.items)) }
-        ensures ok { OnOk result (self.new ≡ record self.old { vault = record self.old.vault { list = [] } }) }
-        ensures err { OnErr result (self.new ≡ self.old) }
+    pub fn take_list(&mut self, alloc: Global) -> Vec<Pending>
+        ensures list { list_of result.items ≡ self.old.vault.list }
+        ensures increasing { IsIncreasing (list_of result.items) }
+        ensures taken { self.new ≡ record self.old { vault = record self.old.vault { list = [] } } }
     {
-        if self.drafts {
-            seal_waiting(
-                alloc,
-                &self.cipher,
-                &self.key,
-                self.block_size,
-                &mut self.vault,
-            )?;
-            self.drafts = false;
-        }
-        Ok(self.vault.replace_list(Vec::new(alloc)))
+        seal_waiting(
+            alloc,
+            &self.cipher,
+            &self.key,
+            self.block_size,
+            self.drafts,
+            &mut self.vault,
+        );
+        self.drafts = false;
+        self.vault.replace_list(Vec::new(alloc))
     }
 
     /// Has a list wait that was taken.
@@ -280,18 +279,15 @@ impl<V: Vault, C: Sealer> SealedStore<V, C> {
         ensures same { self.new ≡ record self.old { vault = self.new.vault } }
         ensures cause { GetHasCause (V.faults self.old.vault.vault) (V.faults self.new.vault.vault) result }
     {
-        if self.drafts {
-            match seal_waiting(
-                alloc,
-                &self.cipher,
-                &self.key,
-                self.block_size,
-                &mut self.vault,
-            ) {
-                Ok(()) => self.drafts = false,
-                Err(Memory) => return Err(GetFail::Memory),
-            }
-        }
+        seal_waiting(
+            alloc,
+            &self.cipher,
+            &self.key,
+            self.block_size,
+            self.drafts,
+            &mut self.vault,
+        );
+        self.drafts = false;
         self.vault.write_out(alloc)
     }
 

@@ -1,15 +1,37 @@
-use Rattle.std.proofs.Common.{refl}
-use Rattle.sealed_store.proofs.Sealing.{next_draft, sealed_more}
+use Rattle.std.proofs.Common.{◌≡◌, ℕ, ◌<◌, List, length, sym, ◌∙◌, ap, subst, arith}
+use Rattle.std.proofs.lemmas.List.{length-map}
+use Rattle.outside.specs.declared.change.Pending.{Pending}
+use Rattle.outside.specs.View.{at_of, change_of, pending_of, list_of}
+use Rattle.sealed_store.specs.Drafts.{sealed_entry, MayBeDraft}
+use Rattle.sealed_store.proofs.Sealing.{all_sealed, next_draft, sealed_more}
 use Rattle.sealed_store.proofs.drafts.seal_list.Goals as goal
 
 pub seal_change-requires-clause-draft : goal.seal_change-requires-clause-draft
 seal_change-requires-clause-draft g c =
-    (next_draft c.args.block_size c.args.list.now c.loop-pending.pending-index c.pending-item.result c.loop-pending-test.true c.pending-item.is c.loop-pending.invariant.drafts).0
+    let seal = g.C.Sealer.sealed c.args.cipher.now c.args.key.now in
+    let list : List Pending = c.args.list.now.items in
+    let items : List Pending = c.loop-pending.pending-items in
+    let i : ℕ = c.loop-pending.pending-index in
+    let here : i < length items = omega (arith, c.loop-pending.auto.pending-items, c.loop-pending-test.true) in
+    let within : i < length (list_of list) = omega (arith, ap length c.deref_mut-pending-items.ensures.value, length-map list pending_of, c.loop-pending-test.true) in
+    subst (λ (p : Pending). MayBeDraft c.args.block_size (at_of p.name) (change_of p.change)) c.pending-item.is
+    (next_draft seal c.args.block_size list items i c.pending-item.result within here c.pending-item.is c.loop-pending.invariant c.requires.drafts)
 
 pub loop-pending-preserved : goal.loop-pending-preserved
-loop-pending-preserved g c = record {
-  drafts = (next_draft c.args.block_size c.args.list.now c.loop-pending.pending-index c.pending-item.result c.loop-pending-test.true c.pending-item.is c.loop-pending.invariant.drafts).1;
-  done = sealed_more (g.C.Sealer.sealed c.args.cipher.now c.args.key.now) c.args.block_size c.args.list.now c.loop-pending.pending-index c.pending-item.result
-      (record { name = c.pending-item.result.name; change = c.in_ok-change.change }) c.loop-pending.sealed.items c.push.new.self.items _ c.loop-pending-test.true c.pending-item.is
-      refl c.in_ok-change.ensures c.in_ok-push.ensures.items c.loop-pending.invariant.done;
-}
+loop-pending-preserved g c =
+    let seal = g.C.Sealer.sealed c.args.cipher.now c.args.key.now in
+    let list : List Pending = c.args.list.now.items in
+    let items : List Pending = c.loop-pending.pending-items in
+    let i : ℕ = c.loop-pending.pending-index in
+    let here : i < length items = omega (arith, c.loop-pending.auto.pending-items, c.loop-pending-test.true) in
+    let within : i < length (list_of list) = omega (arith, ap length c.deref_mut-pending-items.ensures.value, length-map list pending_of, c.loop-pending-test.true) in
+    sealed_more seal c.args.block_size list items i c.pending-item.result within here c.pending-item.is c.loop-pending.invariant c.seal_change.new.pending
+    (c.seal_change.ensures ∙ ap (λ (p : Pending). sealed_entry seal c.args.block_size (pending_of p)) (sym c.pending-item.is))
+
+pub returns : goal.returns
+returns g c =
+    let seal = g.C.Sealer.sealed c.args.cipher.now c.args.key.now in
+    let same : length c.loop-pending.pending-items ≡ length c.args.list.now.items = c.loop-pending.auto.pending-items ∙ ap length c.deref_mut-pending-items.ensures.value in
+    let len : length c.args.list.now.items ≡ c.args.list.now.len = omega (arith, c.args.list.now.ok.0) in
+    all_sealed seal c.args.block_size c.args.list.now.items c.loop-pending.pending-items _ c.args.list.now.len c.loop-pending.pending-index (same ∙ len) len
+    (omega (arith, ap length c.deref_mut-pending-items.ensures.value, len, c.loop-pending-test.false)) c.loop-pending.invariant

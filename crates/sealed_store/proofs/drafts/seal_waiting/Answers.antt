@@ -7,5 +7,5 @@ use Rattle.sealed_store.proofs.drafts.seal_waiting.Goals as goal
 pub replace_list-requires : goal.replace_list-requires
 replace_list-requires g c =
     let seal = g.C.Sealer.sealed c.args.cipher.now c.args.key.now in
-    let is = c.in_ok-sealed.ensures ∙ ap (map (sealed_entry seal c.args.block_size)) c.entries-waiting.ensures.entries in
-    subst IsIncreasing (sym is) (increasing_told seal c.args.block_size c.args.vault.now.list c.entries-waiting.ensures.increasing)
+    let is = c.seal_list.ensures ∙ ap (map (sealed_entry seal c.args.block_size)) c.replace_list-list.ensures.old in
+    subst IsIncreasing (sym is) (increasing_told seal c.args.block_size c.args.vault.now.list c.replace_list-list.ensures.increasing)
