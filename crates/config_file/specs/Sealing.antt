@@ -5,6 +5,7 @@ use Rattle.std.specs.List.{slice_range}
 use Rattle.aes_gcm.specs.Gcm.{sealed_of}
 use Rattle.scrypt_kdf.specs.Cost.{Cost, IsAllowed}
 use Rattle.config_file.specs.Format.{cipher_field, inner_front, inner_key, outer_front, outer_key}
+use Rattle.config_file.specs.declared.seal.SealDraws.{SealDraws}
 use Rattle.config_file.specs.Json.{json_text}
 use Rattle.config_file.specs.Settings.{Settings}
 
@@ -43,3 +44,14 @@ config_text i s =
     outer_text i.cost i.salt
     ++ sealed_of (outer_key i.password i.salt i.cost) i.outer_iv []
     (inner_text (inner_key i.password i.salt i.cost) i.inner_iv (innermost_text (json_text s) i.fill) i.fill)
+
+-- a configuration's file under the password, sealed by what was drawn
+abbrev pub sealed_file : List ℕ → Cost → SealDraws → Settings → List ℕ
+sealed_file password cost draws s = config_text (record {
+  password = password;
+  cost = cost;
+  salt = draws.scrypt_salt;
+  fill = draws.fill;
+  inner_iv = draws.inner_iv;
+  outer_iv = draws.outer_iv;
+}) s

@@ -14,4 +14,4 @@ pub use config::{Cipher, Config, Opened};
 pub use error::ConfigError;
 pub use format::FILE_LEN;
 pub use open::open_config;
-pub use seal::seal_config;
+pub use seal::{SealDraws, seal_config};

@@ -2,7 +2,7 @@
 ghost use Rattle.std.specs.Prelude.{◌≡◌, ◌≤◌, length, IfOk};
 ghost use Rattle.scrypt_kdf.specs.Cost.{IsAllowed};
 ghost use Rattle.config_file.specs.ConfigOf.{IsOnly, opened};
-ghost use Rattle.config_file.specs.Sealing.{config_text, inner_text, innermost_text, outer_text};
+ghost use Rattle.config_file.specs.Sealing.{inner_text, innermost_text, outer_text, sealed_file};
 ghost use Rattle.config_file.specs.Settings.{IsBlockSize, settings_of};
 
 use crate::config::Config;
@@ -15,35 +15,35 @@ use byte_fields::{put_u32, put_u64};
 use scrypt_kdf::Params;
 use std::alloc::Global;
 
+/// The random bytes that seal a configuration.
+#[derive(Clone, Copy)]
+pub struct SealDraws {
+    pub scrypt_salt: [u8; 32],
+    /// What pads the sealed parts, each byte at its place.
+    pub fill: [u8; 960],
+    pub inner_iv: [u8; 16],
+    pub outer_iv: [u8; 16],
+}
+
 /// The file of a configuration, 1,126 bytes: the inner part is sealed under a key derived from the password and the salt,
 /// and so is what it holds, under another.
 pub fn seal_config(
     alloc: Global,
     password: &[u8],
     params: &Params,
-    salt: &[u8; 32],
-    fill: &[u8; 960],
-    inner_iv: &[u8; 16],
-    outer_iv: &[u8; 16],
+    draws: &SealDraws,
     config: &Config,
 ) -> Result<Vec<u8>, Memory>
     requires { IsBlockSize config.now.block_size }
-    ensures text { IfOk result (λ text. text.items ≡ config_text (record {
-      password = password.now;
-      cost = params.now;
-      salt = salt.now;
-      fill = fill.now;
-      inner_iv = inner_iv.now;
-      outer_iv = outer_iv.now;
-    }) (settings_of config.now)) }
+    ensures text { IfOk result (λ text. text.items ≡ sealed_file password.now params.now draws.now (settings_of config.now)) }
     ensures opens { IfOk result (λ text. IsOnly password.now text.items (opened (settings_of config.now) params.now)) }
 {
-    let keys = derive_keys(alloc, password, salt, params)?;
+    let keys = derive_keys(alloc, password, &draws.scrypt_salt, params)?;
     let json = write_json(alloc, config)?;
-    let innermost = innermost_part(alloc, &json, fill)?;
-    let inner = inner_part(alloc, &keys, inner_iv, &innermost, fill)?;
-    let mut out = outer_part(alloc, params, salt)?;
-    append_sealed(&keys.outer, outer_iv, &[], &inner, &mut out)?;
+    let innermost = innermost_part(alloc, &json, &draws.fill)?;
+    let inner = inner_part(alloc, &keys, &draws.inner_iv, &innermost, &draws.fill)?;
+    let mut out = outer_part(alloc, params, &draws.scrypt_salt)?;
+    append_sealed(&keys.outer, &draws.outer_iv, &[], &inner, &mut out)?;
     Ok(out)
 }
 

@@ -12,7 +12,7 @@ use Rattle.fs_model.specs.Tree.{Tree}
 use Rattle.held_blocks.specs.Standing.{records}
 use Rattle.line_io.specs.Streams.{Stream}
 use Rattle.mount_tower.specs.Drawing.{seal_drawn}
-use Rattle.mount_tower.specs.Making.{sealed_file}
+use Rattle.config_file.specs.Sealing.{sealed_file}
 use Rattle.mount_tower.specs.Identities.{HasEmptyList}
 use Rattle.mount.specs.Tower.{tower, TowerStands, TowerConfigures}
 use Rattle.mount_tower.specs.Tower.{tower_holdings, tower_durables}
@@ -40,7 +40,7 @@ use Rattle.session_runs.specs.Passing.{KeptAfter}
 use Rattle.session_saver.specs.Saving.{KeptConfigures, UnlessDirectory, UnlessState}
 use Rattle.session_saver.specs.declared.saver.SyncError.{SyncError}
 use Rattle.session_saver.specs.declared.saver.SyncError.TheVariants as sync_error
-use Rattle.tree_commands.specs.Showing.{ShowsFiles}
+use Rattle.mount_core.specs.Showing.{ShowsFiles}
 use Rattle.cryfs_setup.specs.Passwd.{IsChanged, NewOpens}
 use Rattle.setup_texts.specs.PasswdText.{Reports, changed_text}
 use Rattle.cryfs_setup.proofs.Closing.{attached_on, calls_on, config_is, config_ok, quiet, told_on}

@@ -10,14 +10,15 @@ use Rattle.mount_tower.specs.declared.draws.Draws.{Draws}
 use Rattle.mount_tower.specs.declared.error.OpenError.{OpenError}
 use Rattle.mount_calls.specs.Migrating.{KeepsNewest}
 use Rattle.mount.specs.Making.{Created as Made, HasClient, HasSalt, KnowsOnly, MakesOnlyAnew, TellsMade}
-use Rattle.mount_tower.specs.Making.{IsUnchanged, new_settings, root_of, sealed_file}
+use Rattle.config_file.specs.Sealing.{sealed_file}
+use Rattle.mount_tower.specs.Making.{IsUnchanged, new_settings, root_of}
 use Rattle.outside.specs.Trace.{Call}
 use Rattle.outside.specs.declared.keeper.Keeper.{Ghosts as KeeperGhosts}
 use Rattle.passwords.specs.Passwords.{PasswordUnread}
 use Rattle.session_runs.specs.Openings.{HasPassword, IsUnread}
 use Rattle.run_status.specs.declared.ended.Ended.{Ended}
 use Rattle.session_lines.specs.Driven.{IsUnfailed}
-use Rattle.tree_commands.specs.Showing.{ShowsFiles}
+use Rattle.mount_core.specs.Showing.{ShowsFiles}
 use Rattle.setup_texts.specs.CreateText.{Reports}
 
 -- A file system of this cost and block size was made under the password, of what was drawn, or it wasn't by an error.

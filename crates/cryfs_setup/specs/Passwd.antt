@@ -9,7 +9,7 @@ use Rattle.fs_model.specs.Tree.{Tree}
 use Rattle.held_blocks.specs.Standing.{records}
 use Rattle.line_io.specs.Streams.{Stream, Untouched}
 use Rattle.mount_tower.specs.Drawing.{seal_drawn}
-use Rattle.mount_tower.specs.Making.{sealed_file}
+use Rattle.config_file.specs.Sealing.{sealed_file}
 use Rattle.mount_tower.specs.Identities.{HasEmptyList}
 use Rattle.mount_tower.specs.declared.error.OpenError.{OpenError}
 use Rattle.mount_core.specs.Standing.{IsKeptMarked}
@@ -26,7 +26,7 @@ use Rattle.session_lines.specs.Driven.{IsUnfailed}
 use Rattle.session_runs.specs.Runs.{Outside, outside_of, OpensTo, WasAttached, IsQuietRun, directory_fault, state_fault}
 use Rattle.session_saver.specs.Saving.{KeptConfigures}
 use Rattle.session_saver.specs.declared.saver.SyncError.{SyncError}
-use Rattle.tree_commands.specs.Showing.{ShowsFiles}
+use Rattle.mount_core.specs.Showing.{ShowsFiles}
 use Rattle.setup_texts.specs.PasswdText.{Reports}
 
 -- the configuration's file holds this text, which opens under the new password and nothing else, to what was opened

@@ -1,12 +1,11 @@
 // What an opened file system does.
 ghost use Rattle.std.specs.Prelude.{◌≡◌, true, false};
+ghost use Rattle.config_file.specs.Sealing.{sealed_file};
 ghost use Rattle.config_file.specs.Settings.{settings_of};
 ghost use Rattle.fs_model.specs.Fitting.{IsFitting};
 ghost use Rattle.fs_model.specs.declared.reply.Reply.TheVariants.{Done};
-ghost use Rattle.tree_commands.specs.Showing.{ShowsFiles};
-ghost use Rattle.tree_commands.specs.Performing.{is_sync};
+ghost use Rattle.mount_core.specs.Showing.{ShowsFiles, is_sync};
 ghost use Rattle.mount_tower.specs.Drawing.{seal_drawn};
-ghost use Rattle.mount_tower.specs.Making.{sealed_file};
 ghost use Rattle.mount.specs.Answering.{MountAnswers};
 ghost use Rattle.mount.specs.Mounts.{IsReady};
 ghost use Rattle.mount.specs.Sealing.{SealsFresh, view_of};
@@ -14,10 +13,11 @@ ghost use Rattle.mount.specs.Serving.{MountMoves, MountSyncs, ChangesPassword, M
 ghost use Rattle.mount_calls.specs.Condemning.{Condemns};
 
 use answers::Answer;
+use config_file::seal_config;
 use fs_model::{Command, Moment};
 use mount::Mount;
 use mount_answering::{mark, replace_config};
-use mount_tower::{SealDraws, into_vault, seal_file};
+use mount_tower::{draw_seal, into_vault};
 use outside::{Keeper, Vault};
 use rand_core::Rng;
 use session_saver::SyncError;
@@ -69,8 +69,8 @@ pub fn change_password<V: Vault, K: Keeper, R: Rng>(
         (sealed_file password.now mount.old.opened.params (seal_drawn (R.stream chance.old)).0 (settings_of mount.old.opened.config)) mount.new result }
     ensures draws { R.stream chance.new ≡ (seal_drawn (R.stream chance.old)).1 }
 {
-    let draws = SealDraws::draw(chance);
-    let Ok(file) = seal_file(
+    let draws = draw_seal(chance);
+    let Ok(file) = seal_config(
         alloc,
         password,
         &mount.opened.params,

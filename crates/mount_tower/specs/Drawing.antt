@@ -1,7 +1,7 @@
 -- The random bytes of a new file system, and of a new password.
 use Rattle.rand_core.specs.Stream.{Stream, fill_bytes}
+use Rattle.config_file.specs.declared.seal.SealDraws.{SealDraws}
 use Rattle.mount_tower.specs.declared.draws.Draws.{Draws}
-use Rattle.mount_tower.specs.declared.draws.SealDraws.{SealDraws}
 
 -- what seals a configuration: each is one fill, in this order, and a stream is left
 abbrev pub seal_drawn : Stream → SealDraws × Stream

@@ -7,18 +7,15 @@ use Rattle.block_id.specs.Fresh.{zero_id}
 use Rattle.block_id.specs.Name.{next_id}
 use Rattle.outside.specs.Causes.{RoseBy}
 use Rattle.outside.specs.Trace.{At, Call, adds, got, config}
-use Rattle.scrypt_kdf.specs.Cost.{Cost}
 use Rattle.store_api.specs.Content.{Id}
 use Rattle.store_api.specs.Durables.{last_told}
 use Rattle.store_api.specs.Holdings.{has_id}
 use Rattle.integrity_store.specs.declared.store.IntegrityStore.{IntegrityStore}
-use Rattle.config_file.specs.Sealing.{config_text}
 use Rattle.config_file.specs.Settings.{Settings}
 use Rattle.config_file.specs.declared.config.Cipher.{Cipher}
 use Rattle.config_file.specs.declared.config.Cipher.TheVariants.{Aes256Gcm}
 use Rattle.mount_tower.specs.declared.opening.TheConstants.{MAX_CONFIG}
 use Rattle.mount_tower.specs.declared.draws.Draws.{Draws}
-use Rattle.mount_tower.specs.declared.draws.SealDraws.{SealDraws}
 use Rattle.mount_tower.specs.declared.error.OpenError.{OpenError}
 use Rattle.mount_tower.specs.declared.error.OpenError.TheVariants.{Memory, Exists, FaultDirectory, FaultState}
 use Rattle.mount_tower.specs.Identities.{first_holder, identity_for}
@@ -32,17 +29,6 @@ root_of id = if bytes_eq id zero_id then next_id id else id
 abbrev pub new_settings : ℕ → Draws → Settings
 new_settings block_size draws =
     record { root = root_of draws.root; key = draws.key; cipher = Aes256Gcm; block_size = block_size; fs_id = draws.fs_id }
-
--- a configuration's file under the password
-abbrev pub sealed_file : List ℕ → Cost → SealDraws → Settings → List ℕ
-sealed_file password cost draws c = config_text (record {
-  password = password;
-  cost = cost;
-  salt = draws.scrypt_salt;
-  fill = draws.fill;
-  inner_iv = draws.inner_iv;
-  outer_iv = draws.outer_iv;
-}) c
 
 -- nothing was put or removed, by a trace that is told
 pub record IsUnchanged (trace : Option (List Call)) : Type 0 where

@@ -3,16 +3,8 @@ ghost use Rattle.std.specs.Prelude.{◌≡◌};
 ghost use Rattle.rand_core.specs.Stream.{fill_bytes};
 ghost use Rattle.mount_tower.specs.Drawing.{drawn, seal_drawn};
 
+use config_file::SealDraws;
 use rand_core::Rng;
-
-/// What is drawn to seal a configuration, in this order.
-#[derive(Clone, Copy)]
-pub struct SealDraws {
-    pub scrypt_salt: [u8; 32],
-    pub fill: [u8; 960],
-    pub inner_iv: [u8; 16],
-    pub outer_iv: [u8; 16],
-}
 
 /// What is drawn for a new file system, in this order.
 #[derive(Clone, Copy)]
@@ -36,18 +28,16 @@ fn fill<const N: usize, R: Rng>(chance: &mut R) -> [u8; N]
     bytes
 }
 
-impl SealDraws {
-    /// Draws each by one fill.
-    pub fn draw<R: Rng>(chance: &mut R) -> SealDraws
-        ensures draws { result ≡ (seal_drawn (R.stream chance.old)).0 }
-        ensures stream { R.stream chance.new ≡ (seal_drawn (R.stream chance.old)).1 }
-    {
-        SealDraws {
-            scrypt_salt: fill::<32, R>(chance),
-            fill: fill::<960, R>(chance),
-            inner_iv: fill::<16, R>(chance),
-            outer_iv: fill::<16, R>(chance),
-        }
+/// Draws what seals a configuration, each by one fill.
+pub fn draw_seal<R: Rng>(chance: &mut R) -> SealDraws
+    ensures draws { result ≡ (seal_drawn (R.stream chance.old)).0 }
+    ensures stream { R.stream chance.new ≡ (seal_drawn (R.stream chance.old)).1 }
+{
+    SealDraws {
+        scrypt_salt: fill::<32, R>(chance),
+        fill: fill::<960, R>(chance),
+        inner_iv: fill::<16, R>(chance),
+        outer_iv: fill::<16, R>(chance),
     }
 }
 
@@ -62,7 +52,7 @@ impl Draws {
             root: fill::<16, R>(chance),
             key: fill::<32, R>(chance),
             key_salt: fill::<32, R>(chance),
-            seal: SealDraws::draw(chance),
+            seal: draw_seal(chance),
         }
     }
 }

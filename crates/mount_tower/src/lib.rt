@@ -8,8 +8,8 @@ mod making;
 mod opening;
 mod tower;
 
-pub use draws::{Draws, SealDraws};
+pub use draws::{Draws, draw_seal};
 pub use error::{OpenError, open_error};
-pub use making::{NewStore, ask_absent, new_store, seal_file};
+pub use making::{NewStore, ask_absent, new_store};
 pub use opening::{MAX_CONFIG, Opening, Unread, open_store};
 pub use tower::{Cached, into_vault};

@@ -6,15 +6,16 @@ ghost use Rattle.std.specs.declared.result.Result.TheVariants.{Err};
 ghost use Rattle.block_id.specs.Fresh.{zero_id};
 ghost use Rattle.outside.specs.Trace.{adds, got, config};
 ghost use Rattle.config_file.specs.ConfigOf.{IsOnly, opened as opened_as};
+ghost use Rattle.config_file.specs.Sealing.{sealed_file};
 ghost use Rattle.config_file.specs.Settings.{IsBlockSize, settings_of};
 ghost use Rattle.local_state.specs.Record.{HasRecord, plain_state};
 ghost use Rattle.mount_tower.specs.declared.opening.TheConstants.{MAX_CONFIG};
 ghost use Rattle.mount_tower.specs.Drawing.{drawn};
 ghost use Rattle.mount_tower.specs.Failing.{TellsFault};
-ghost use Rattle.mount_tower.specs.Making.{CreateCause, IsNewStore, StopsThere, new_settings, sealed_file, root_of};
+ghost use Rattle.mount_tower.specs.Making.{CreateCause, IsNewStore, StopsThere, new_settings, root_of};
 ghost use Rattle.mount_tower.specs.Opening.{ReadsConfigOnce};
 
-use crate::draws::{Draws, SealDraws};
+use crate::draws::Draws;
 use crate::error::OpenError;
 use crate::opening::MAX_CONFIG;
 use block_id::{BlockId, Memory};
@@ -112,30 +113,6 @@ fn empty_store<V: Vault>(
     IntegrityStore::new(sealed, state)
 }
 
-/// The file of a configuration, sealed by these draws.
-pub fn seal_file(
-    alloc: Global,
-    password: &[u8],
-    params: &Params,
-    draws: &SealDraws,
-    config: &Config,
-) -> Result<Vec<u8>, Memory>
-    requires { IsBlockSize config.now.block_size }
-    ensures text { IfOk result (λ file. file.items ≡ sealed_file password.now params.now draws.now (settings_of config.now)) }
-    ensures opens { IfOk result (λ file. IsOnly password.now file.items (opened_as (settings_of config.now) params.now)) }
-{
-    seal_config(
-        alloc,
-        password,
-        params,
-        &draws.scrypt_salt,
-        &draws.fill,
-        &draws.inner_iv,
-        &draws.outer_iv,
-        config,
-    )
-}
-
 /// What a file system begins with: a store that holds nothing, the configuration that it is of, and that one's file.
 pub struct NewStore<V> {
     pub store: IntegrityStore<V, Cipher>,
@@ -164,7 +141,7 @@ pub fn new_store<V: Vault, R: Rng>(
 {
     let draws = Draws::draw(chance);
     let config = config_from(block_size, &draws);
-    match seal_file(alloc, password, params, &draws.seal, &config) {
+    match seal_config(alloc, password, params, &draws.seal, &config) {
         Ok(file) => {
             let store = empty_store(alloc, vault, config, draws.key_salt);
             Ok(NewStore {

@@ -2,7 +2,8 @@ use Rattle.std.proofs.Common.{◌∙◌, ap, subst}
 use Rattle.config_file.specs.ConfigOf.{IsOnly, opened}
 use Rattle.config_file.specs.Settings.{Settings, settings_of}
 use Rattle.mount_tower.specs.declared.draws.Draws.{Draws}
-use Rattle.mount_tower.specs.Making.{IsNewStore, new_settings, sealed_file}
+use Rattle.config_file.specs.Sealing.{sealed_file}
+use Rattle.mount_tower.specs.Making.{IsNewStore, new_settings}
 use Rattle.mount_tower.proofs.making.new_store.Goals as goal
 
 pub returns-in-Ok-clause-is_new : goal.returns-in-Ok-clause-is_new
