@@ -1,8 +1,10 @@
 -- What a blob's tree needs of each of its nodes.
-use Rattle.std.specs.Prelude.{◌≡◌, ◌≤◌, ◌<◌, ◌^◌, ◌||◌, ℕ, suc, Bool, true, false, nat_lt, List, [], ◌∷◌, length, Some}
+use Rattle.std.specs.Prelude.{◌≡◌, ◌≤◌, ◌<◌, ◌*◌, ◌^◌, ◌||◌, ℕ, suc, Bool, true, false, nat_lt, List, [], ◌∷◌, length, Some}
 use Rattle.std.specs.List.{slice_get}
 use Rattle.data_nodes.specs.Layout.{NodeText, leaf, inner, IsNode, room, fan_out}
-use Rattle.data_tree.specs.Trees.{IsDepth, depth_in}
+use Rattle.data_tree.specs.declared.level.Level.{Level}
+use Rattle.data_tree.specs.Roots.{IsAtLevel}
+use Rattle.data_tree.specs.Trees.{IsDepth, depth_in, span}
 use Rattle.store_api.specs.Content.{Id, Content}
 
 -- a blob's root, or a node of this depth below it, which may have to be full
@@ -62,3 +64,24 @@ Leads C id need (i ∷ way) x wanted =
 abbrev pub LeadsAmong : Content → ℕ → Bool → List Id → List ℕ → Id → NodeNeed → Type 0
 LeadsAmong C depth full children [] x wanted = ⊥
 LeadsAmong C depth full children (i ∷ way) x wanted = AtChild (λ child below. Leads C child below way x wanted) i depth full children
+
+-- ---- what a walk's steps are given
+
+-- a tree of this level, for a place of this number
+pub record WalksTree (payload number : ℕ) (level : Level) : Type 0 where
+  pub owner : 0 < number
+  pub room : level.room ≡ span payload level.depth
+  pub small : level.room < 2 ^ 63
+
+-- the same of a node of this level, which was loaded
+pub record WalksNode (payload number : ℕ) (level : Level) (node : NodeText) : Type 0 where
+  pub owner : 0 < number
+  pub small : level.room < 2 ^ 63
+  pub at : IsAtLevel payload node level
+
+-- the same of so many trees of this level
+pub record WalksTrees (payload number : ℕ) (level : Level) (count : ℕ) : Type 0 where
+  pub owner : 0 < number
+  pub room : level.room ≡ span payload level.depth
+  pub some : 0 < count
+  pub small : count * level.room < 2 ^ 63

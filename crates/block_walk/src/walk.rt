@@ -1,14 +1,14 @@
 // A walk over the blocks of one tree.
-ghost use Rattle.std.specs.Prelude.{◌≡◌, ◌<◌, ◌*◌, ◌^◌, [], length, IfOk, IfErr};
+ghost use Rattle.std.specs.Prelude.{◌≡◌, ◌<◌, [], length, IfOk, IfErr};
 ghost use Rattle.outcome.specs.Meanings.{IsOfBlocks};
 ghost use Rattle.outcome.specs.Outcome.{Outcome};
 ghost use Rattle.store_api.specs.Holdings.{Stays};
 ghost use Rattle.data_nodes.specs.Layout.{node_of, ids_of, FitsPayload};
-ghost use Rattle.data_tree.specs.Trees.{IsTree, Holds, Forest, span, depth_in};
+ghost use Rattle.data_tree.specs.Trees.{IsTree, Holds, Forest, span};
 ghost use Rattle.data_tree.specs.Stored.{BlobTree};
 ghost use Rattle.block_walk.specs.Fronts.{FrontState};
 ghost use Rattle.block_walk.specs.Given.{fail_of, IsLoad};
-ghost use Rattle.block_walk.specs.Needs.{NodeNeed, top, under, Leads, LeadsAmong};
+ghost use Rattle.block_walk.specs.Needs.{NodeNeed, WalksNode, WalksTree, WalksTrees, top, under, Leads, LeadsAmong};
 ghost use Rattle.block_walk.specs.Halts.{Halted, HaltedAt, FlawIn};
 ghost use Rattle.block_walk.specs.Walks.{Walked, IsNodeAt, FillsTree, FillsTrees};
 
@@ -77,9 +77,7 @@ fn walk_below<B: Blocks>(
     need: Need,
 ) -> Result<u64, Halt>
     requires intact { B.meanings.intact store.old }
-    requires owner { 0 < need.owner }
-    requires level { need.level.room ≡ span (B.holdings.payload store.old) need.level.depth }
-    requires small { need.level.room < 2 ^ 63 }
+    requires tree { WalksTree (B.holdings.payload store.old) need.owner need.level }
     ensures outcome { Outcome B.meanings Unit store.old store.new (fail_of result) (λ _ _. Unit {0}) }
     ensures stays { Stays B.holdings store.old store.new }
     ensures of_blocks { IfErr (fail_of result) IsOfBlocks }
@@ -109,11 +107,7 @@ fn walk_in<B: Blocks>(
     need: Need,
 ) -> Result<u64, Halt>
     requires intact { B.meanings.intact store.old }
-    requires owner { 0 < need.owner }
-    requires level { need.level.room ≡ span (B.holdings.payload store.old) need.level.depth }
-    requires small { need.level.room < 2 ^ 63 }
-    requires fits { FitsPayload (B.holdings.payload store.old) (node_of node.now) }
-    requires depth { depth_in (node_of node.now) ≡ need.level.depth }
+    requires node { WalksNode (B.holdings.payload store.old) need.owner need.level (node_of node.now) }
     ensures outcome { Outcome B.meanings Unit store.old store.new (fail_of result) (λ _ _. Unit {0}) }
     ensures stays { Stays B.holdings store.old store.new }
     ensures of_blocks { IfErr (fail_of result) IsOfBlocks }
@@ -160,10 +154,7 @@ fn walk_children<B: Blocks>(
     need: Need,
 ) -> Result<u64, Halt>
     requires intact { B.meanings.intact store.old }
-    requires owner { 0 < need.owner }
-    requires level { need.level.room ≡ span (B.holdings.payload store.old) need.level.depth }
-    requires some { 0 < length children.now }
-    requires small { length children.now * need.level.room < 2 ^ 63 }
+    requires trees { WalksTrees (B.holdings.payload store.old) need.owner need.level (length children.now) }
     ensures outcome { Outcome B.meanings Unit store.old store.new (fail_of result) (λ _ _. Unit {0}) }
     ensures stays { Stays B.holdings store.old store.new }
     ensures of_blocks { IfErr (fail_of result) IsOfBlocks }

@@ -8,6 +8,7 @@ pub mod Making
 pub mod Counting
 pub mod Anew
 pub mod Puts
+pub mod Leaving
 pub mod Stored
 pub mod Borders
 pub mod OneTree

@@ -1,9 +1,8 @@
 // Building a tree of new blocks. Nothing is loaded.
-ghost use Rattle.std.specs.Prelude.{◌≡◌, ◌≤◌, ◌<◌, ◌+◌, ◌*◌, true, is_some, length, IfOk};
-ghost use Rattle.std.specs.FinMap as fin;
-ghost use Rattle.store_api.specs.Content.{Id};
-ghost use Rattle.store_api.specs.Txs.{content_of, intact_in, tx_holdings};
+ghost use Rattle.std.specs.Prelude.{◌≡◌, ◌≤◌, ◌<◌, ◌*◌, length, IfOk};
+ghost use Rattle.store_api.specs.Txs.{intact_in, tx_holdings};
 ghost use Rattle.data_nodes.specs.Layout.{ids_of, node_of, FitsPayload, fan_out};
+ghost use Rattle.data_tree.specs.Leaving.{AddsBlocks, IsCountFor};
 ghost use Rattle.data_tree.specs.Needs.{Built, BuiltTrees, NewTree};
 ghost use Rattle.data_tree.specs.Trees.{span};
 
@@ -27,12 +26,9 @@ pub fn build<S: Blocks>(
     requires fits { length bytes.now ≤ level.room }
     requires some { 0 < level.depth → 0 < length bytes.now }
     ensures intact { intact_in S.meanings S.holdings tx.new }
-    ensures store { tx.new.store ≡ tx.old.store }
-    ensures seed { tx.new.seed ≡ tx.old.seed }
+    ensures adds { AddsBlocks S.holdings tx.old tx.new }
     ensures built { IfOk result (λ node. Built (tx_holdings S.holdings) tx.old tx.new level.depth (node_of node) bytes.now) }
-    ensures there { (q : Id) → is_some (content_of S.holdings tx.old q) ≡ true → is_some (content_of S.holdings tx.new q) ≡ true }
     ensures fits { IfOk result (λ node. FitsPayload (S.holdings.payload tx.old.store) (node_of node)) }
-    ensures kept { (q : Id) → is_some (content_of S.holdings tx.old q) ≡ true → fin.get tx.new.overlay q ≡ fin.get tx.old.overlay q }
 {
     if level.depth == 0 {
         return match bytes.to_vec(alloc) {
@@ -63,11 +59,8 @@ pub fn new_below<S: Blocks>(
     requires fits { length bytes.now ≤ level.room }
     requires some { 0 < level.depth → 0 < length bytes.now }
     ensures intact { intact_in S.meanings S.holdings tx.new }
-    ensures store { tx.new.store ≡ tx.old.store }
-    ensures seed { tx.new.seed ≡ tx.old.seed }
+    ensures adds { AddsBlocks S.holdings tx.old tx.new }
     ensures built { IfOk result (λ id. NewTree (tx_holdings S.holdings) tx.old tx.new level.depth id.0 bytes.now) }
-    ensures there { (q : Id) → is_some (content_of S.holdings tx.old q) ≡ true → is_some (content_of S.holdings tx.new q) ≡ true }
-    ensures kept { (q : Id) → is_some (content_of S.holdings tx.old q) ≡ true → fin.get tx.new.overlay q ≡ fin.get tx.old.overlay q }
 {
     match build(alloc, tx, bytes, level) {
         Ok(node) => put_new(alloc, tx, &node),
@@ -88,14 +81,9 @@ pub fn build_children<S: Blocks>(
     requires room { 0 < level.room }
     requires fits { length bytes.now ≤ fan_out (S.holdings.payload tx.old.store) * level.room }
     ensures intact { intact_in S.meanings S.holdings tx.new }
-    ensures store { tx.new.store ≡ tx.old.store }
-    ensures seed { tx.new.seed ≡ tx.old.seed }
+    ensures adds { AddsBlocks S.holdings tx.old tx.new }
     ensures built { IfOk result (λ children. BuiltTrees (tx_holdings S.holdings) tx.old tx.new level.depth (ids_of children.items) bytes.now) }
-    ensures there { (q : Id) → is_some (content_of S.holdings tx.old q) ≡ true → is_some (content_of S.holdings tx.new q) ≡ true }
-    ensures some { IfOk result (λ children. 0 < length bytes.now → 0 < length children.items) }
-    ensures under { IfOk result (λ children. length children.items * level.room < length bytes.now + level.room) }
-    ensures few { IfOk result (λ children. length children.items ≤ fan_out (S.holdings.payload tx.old.store)) }
-    ensures kept { (q : Id) → is_some (content_of S.holdings tx.old q) ≡ true → fin.get tx.new.overlay q ≡ fin.get tx.old.overlay q }
+    ensures count { IfOk result (λ children. IsCountFor (length children.items) (length bytes.now) level.room (fan_out (S.holdings.payload tx.old.store))) }
 {
     let mut children = Vec::new(alloc);
     let mut rest = bytes;

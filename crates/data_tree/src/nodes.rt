@@ -2,10 +2,11 @@
 ghost use Rattle.std.specs.FinMap as fin;
 ghost use Rattle.std.specs.Prelude.{◌≡◌, ◌+◌, ◌≤◌, ◌<◌, ◌^◌, ℕ, List, length, take, true, false, is_some, IfOk, IfErr, IfSome, IsSomeAnd, OnOk, None};
 ghost use Rattle.outcome.specs.Outcome.{Outcome};
-ghost use Rattle.store_api.specs.Content.{Id, same_id};
+ghost use Rattle.store_api.specs.Content.{Id};
 ghost use Rattle.store_api.specs.Holdings.{Stays};
-ghost use Rattle.store_api.specs.Txs.{content_of, intact_in, tx_holdings, tx_meanings};
+ghost use Rattle.store_api.specs.Txs.{LoadsBelow, content_of, intact_in, tx_holdings, tx_meanings};
 ghost use Rattle.data_nodes.specs.Layout.{NodeText, IsNode, FitsPayload, node_of, room};
+ghost use Rattle.data_tree.specs.Leaving.{AddsBlocks, PutsOne};
 ghost use Rattle.data_tree.specs.Needs.{HasNode, HasTree, IsHeadOf, SetsNode, Sets};
 ghost use Rattle.data_tree.specs.Roots.{IsAtLevel, IsRoot, IsTooDeep};
 ghost use Rattle.data_tree.specs.Trees.{IsDepth, depth_in, span};
@@ -21,8 +22,7 @@ fn load_node<S: Blocks>(alloc: Global, tx: &mut Tx<S>, id: &BlockId) -> Result<N
     requires { intact_in S.meanings S.holdings tx.old }
     ensures outcome { Outcome (tx_meanings S.meanings S.holdings) (HasNode (tx_holdings S.holdings) tx.old id.now.0) tx.old tx.new result (λ n node. node_of node ≡ n.node) }
     ensures stays { Stays (tx_holdings S.holdings) tx.old tx.new }
-    ensures below { Stays S.holdings tx.old.store tx.new.store }
-    ensures overlay { tx.new.overlay ≡ tx.old.overlay }
+    ensures leaves { LoadsBelow S.holdings tx.old tx.new }
     ensures there { OnOk result (is_some (content_of S.holdings tx.old id.now.0) ≡ true) }
     ensures fits { IfOk result (λ node. FitsPayload (S.holdings.payload tx.old.store) (node_of node)) }
 {
@@ -56,8 +56,7 @@ pub fn load_head<S: Blocks>(alloc: Global, tx: &mut Tx<S>, id: &BlockId) -> Resu
     requires { intact_in S.meanings S.holdings tx.old }
     ensures outcome { Outcome (tx_meanings S.meanings S.holdings) (HasNode (tx_holdings S.holdings) tx.old id.now.0) tx.old tx.new result (λ n head. IsHeadOf head n.node) }
     ensures stays { Stays (tx_holdings S.holdings) tx.old tx.new }
-    ensures below { Stays S.holdings tx.old.store tx.new.store }
-    ensures overlay { tx.new.overlay ≡ tx.old.overlay }
+    ensures leaves { LoadsBelow S.holdings tx.old tx.new }
     ensures there { OnOk result (is_some (content_of S.holdings tx.old id.now.0) ≡ true) }
     ensures fits { IfOk result (λ head. head.depth ≡ 0 → head.size ≤ room (S.holdings.payload tx.old.store)) }
 {
@@ -81,8 +80,7 @@ pub fn load_at<S: Blocks>(
     requires { intact_in S.meanings S.holdings tx.old }
     ensures outcome { Outcome (tx_meanings S.meanings S.holdings) (HasTree (tx_holdings S.holdings) tx.old depth id.now.0) tx.old tx.new result (λ n node. node_of node ≡ n.tree.node) }
     ensures stays { Stays (tx_holdings S.holdings) tx.old tx.new }
-    ensures below { Stays S.holdings tx.old.store tx.new.store }
-    ensures overlay { tx.new.overlay ≡ tx.old.overlay }
+    ensures leaves { LoadsBelow S.holdings tx.old tx.new }
     ensures there { OnOk result (is_some (content_of S.holdings tx.old id.now.0) ≡ true) }
     ensures fits { IfOk result (λ node. FitsPayload (S.holdings.payload tx.old.store) (node_of node)) }
     ensures depth { IfOk result (λ node. depth_in (node_of node) ≡ depth) }
@@ -106,8 +104,7 @@ pub fn load_root<S: Blocks>(
     ensures shallow { S.meanings.sound tx.old.store → S.meanings.forgeries tx.new.store ≤ S.meanings.forgeries tx.old.store
         → OnOk result (IsTooDeep (tx_holdings S.holdings) tx.old root.now.0 → ⊥) }
     ensures stays { Stays (tx_holdings S.holdings) tx.old tx.new }
-    ensures below { Stays S.holdings tx.old.store tx.new.store }
-    ensures overlay { tx.new.overlay ≡ tx.old.overlay }
+    ensures leaves { LoadsBelow S.holdings tx.old tx.new }
     ensures there { OnOk result (is_some (content_of S.holdings tx.old root.now.0) ≡ true) }
     ensures level { IfOk result (λ found. IsAtLevel (S.holdings.payload tx.old.store) (node_of found.0) found.1) }
     ensures small { IfOk result (λ found. found.1.room < 2 ^ 63) }
@@ -146,12 +143,9 @@ pub fn put_node<S: Blocks>(
     requires there { is_some (content_of S.holdings tx.old id.now.0) ≡ true }
     requires fits { FitsPayload (S.holdings.payload tx.old.store) (node_of node.now) }
     ensures intact { intact_in S.meanings S.holdings tx.new }
-    ensures store { tx.new.store ≡ tx.old.store }
-    ensures seed { tx.new.seed ≡ tx.old.seed }
     ensures sets { OnOk result (SetsNode (tx_holdings S.holdings) tx.old tx.new id.now.0 (node_of node.now)) }
     ensures there { (q : Id) → is_some (content_of S.holdings tx.old q) ≡ true → is_some (content_of S.holdings tx.new q) ≡ true }
-    ensures others { (q : Id) → same_id q id.now.0 ≡ false → fin.get tx.new.overlay q ≡ fin.get tx.old.overlay q }
-    ensures few { fin.len tx.new.overlay ≤ fin.len tx.old.overlay + 1 }
+    ensures puts { PutsOne tx.old tx.new id.now.0 }
 {
     let payload = write_node(alloc, node, tx.payload())?;
     tx.put(id, payload)
@@ -162,12 +156,9 @@ pub fn put_new<S: Blocks>(alloc: Global, tx: &mut Tx<S>, node: &Node) -> Result<
     requires intact { intact_in S.meanings S.holdings tx.old }
     requires fits { FitsPayload (S.holdings.payload tx.old.store) (node_of node.now) }
     ensures intact { intact_in S.meanings S.holdings tx.new }
-    ensures store { tx.new.store ≡ tx.old.store }
-    ensures seed { tx.new.seed ≡ tx.old.seed }
+    ensures adds { AddsBlocks S.holdings tx.old tx.new }
     ensures new { IfOk result (λ id. content_of S.holdings tx.old id.0 ≡ None) }
     ensures sets { IfOk result (λ id. SetsNode (tx_holdings S.holdings) tx.old tx.new id.0 (node_of node.now)) }
-    ensures there { (q : Id) → is_some (content_of S.holdings tx.old q) ≡ true → is_some (content_of S.holdings tx.new q) ≡ true }
-    ensures kept { (q : Id) → is_some (content_of S.holdings tx.old q) ≡ true → fin.get tx.new.overlay q ≡ fin.get tx.old.overlay q }
 {
     let payload = write_node(alloc, node, tx.payload())?;
     match tx.add(payload) {

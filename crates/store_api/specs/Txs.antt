@@ -1,8 +1,10 @@
 -- What a command's changes over a store mean and hold, by what the store below means and holds.
+use Rattle.std.specs.Prelude.{◌≡◌, Result, OnErr}
 use Rattle.outcome.specs.Meanings.{Meanings, Lawful}
+use Rattle.store_api.specs.declared.blocks.ApplyError.{ApplyError}
 use Rattle.store_api.specs.declared.tx.Tx.{Tx}
 use Rattle.store_api.specs.Content.{Changes, Content}
-use Rattle.store_api.specs.Holdings.{Holdings, Steady}
+use Rattle.store_api.specs.Holdings.{Holdings, Stays, Steady}
 use Rattle.store_api.specs.Ids.{Drawn, stream_left}
 use Rattle.store_api.specs.Overlay.{meanings_over, holdings_over, lawful_over, steady_over}
 
@@ -34,3 +36,14 @@ tx_laws M H l = lawful_over store_in changes_in drawn_in M H l
 
 pub tx_steady : {S : Type 0} (M : Meanings S) (H : Holdings S) → Steady M H → Steady (tx_meanings M H) (tx_holdings H)
 tx_steady M H st = steady_over store_in changes_in drawn_in M H st
+
+-- the store below was loaded at most: it holds what it held, and the changes and their seed stay
+pub record LoadsBelow {S : Type 0} (H : Holdings S) (a b : Tx S) : Type 0 where
+  pub below : Stays H a.store b.store
+  pub overlay : b.overlay ≡ a.overlay
+  pub seed : b.seed ≡ a.seed
+
+-- whether or not the changes were made their seed stays, and after an error so do they
+pub record KeepsChanges {S : Type 0} (a : Tx S) (result : Result Unit ApplyError) (b : Tx S) : Type 0 where
+  pub seed : b.seed ≡ a.seed
+  pub err : OnErr result (b.overlay ≡ a.overlay)

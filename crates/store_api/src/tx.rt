@@ -11,7 +11,7 @@ ghost use Rattle.store_api.specs.Fronts.{front_of};
 ghost use Rattle.store_api.specs.Holdings.{IsFew, IsSpent, Stays, is_free};
 ghost use Rattle.store_api.specs.Loads.{LoadsOver, loads_over, answer_of};
 ghost use Rattle.store_api.specs.Overlay.{without};
-ghost use Rattle.store_api.specs.Txs.{changes_in, content_of, intact_in, store_in, tx_holdings, tx_laws, tx_meanings, tx_steady};
+ghost use Rattle.store_api.specs.Txs.{KeepsChanges, LoadsBelow, changes_in, content_of, intact_in, store_in, tx_holdings, tx_laws, tx_meanings, tx_steady};
 
 use crate::fresh::first_free;
 use crate::{ApplyError, BatchChange, Blocks, BlocksMut, Draft};
@@ -124,11 +124,10 @@ impl<S: Blocks> Tx<S> {
         S: BlocksMut,
         requires { intact_in S.Blocks.meanings S.Blocks.holdings self.old }
         ensures intact { intact_in S.Blocks.meanings S.Blocks.holdings self.new }
-        ensures seed { self.new.seed ≡ self.old.seed }
         ensures ok { OnOk result (Applies S.Blocks.meanings S.Blocks.holdings S.applied S.drawn self.old.store self.new.store self.old.overlay (R.stream chance.old) (R.stream chance.new)) }
         ensures emptied { OnOk result (self.new.overlay ≡ fin.empty) }
         ensures err { OnErr result (AppliesNone S.Blocks.meanings S.applied self.old.store self.new.store (R.stream chance.old) (R.stream chance.new)) }
-        ensures kept { OnErr result (self.new.overlay ≡ self.old.overlay) }
+        ensures kept { KeepsChanges self.old result self.new }
         ensures counts { KeepsCounts S.Blocks.meanings self.old.store self.new.store }
         ensures spent { (result ≡ Err ApplyError.Spent) ↔ IsSpent S.Blocks.holdings self.old.store self.old.overlay }
     {
@@ -185,9 +184,7 @@ impl<S: Blocks> Blocks for Tx<S> {
         ensures sized { IfOk result (λ answer. IfSome answer (λ bytes. length bytes.items ≡ S.holdings.payload self.old.store)) }
         ensures loads { LoadsOver S.loads (fin.get self.old.overlay id.now.0) self.old.store self.new.store id.now.0 (answer_of result) }
 
-        ensures overlay { self.new.overlay ≡ self.old.overlay }
-        ensures seed { self.new.seed ≡ self.old.seed }
-        ensures below { Stays S.holdings self.old.store self.new.store }
+        ensures leaves { LoadsBelow S.holdings self.old self.new }
     {
         match self.overlay.get(id) {
             Some(BatchChange::Payload(bytes)) => Ok(Some(bytes.as_slice().to_vec(alloc)?)),
@@ -209,9 +206,7 @@ impl<S: Blocks> Blocks for Tx<S> {
         ensures none { IfOk result (λ answer. is_some answer ≡ is_some (content_of S.holdings self.old id.now.0)) }
         ensures sized { IfOk result (λ answer. IfSome answer (λ bytes. length bytes.items ≡ min most (S.holdings.payload self.old.store))) }
 
-        ensures overlay { self.new.overlay ≡ self.old.overlay }
-        ensures seed { self.new.seed ≡ self.old.seed }
-        ensures below { Stays S.holdings self.old.store self.new.store }
+        ensures leaves { LoadsBelow S.holdings self.old self.new }
     {
         match self.overlay.get(id) {
             Some(BatchChange::Payload(bytes)) => {

@@ -2,10 +2,11 @@
 ghost use Rattle.std.specs.Prelude.{◌≡◌, ◌≤◌, ◌<◌, ◌^◌, ◌+◌, ◌*◌, true, is_some, length, IfOk, OnOk};
 ghost use Rattle.outcome.specs.Outcome.{Outcome};
 ghost use Rattle.store_api.specs.Holdings.{Stays};
-ghost use Rattle.store_api.specs.Txs.{intact_in, tx_holdings, tx_meanings};
-ghost use Rattle.data_nodes.specs.Layout.{node_of, FitsPayload};
+ghost use Rattle.store_api.specs.Txs.{LoadsBelow, intact_in, tx_holdings, tx_meanings};
+ghost use Rattle.data_nodes.specs.Layout.{node_of};
 ghost use Rattle.data_tree.specs.Needs.{HasTree, HasBelow};
-ghost use Rattle.data_tree.specs.Trees.{span, depth_in};
+ghost use Rattle.data_tree.specs.Roots.{IsAtLevel};
+ghost use Rattle.data_tree.specs.Trees.{span};
 
 use block_id::{BlockId, Fail};
 use data_nodes::Node;
@@ -26,8 +27,7 @@ fn len_below<S: Blocks>(
     ensures outcome { Outcome (tx_meanings S.meanings S.holdings) (HasTree (tx_holdings S.holdings) tx.old level.depth id.now.0) tx.old tx.new result (λ n len. len ≡ length n.bytes) }
     ensures most { IfOk result (λ len. len ≤ level.room) }
     ensures stays { Stays (tx_holdings S.holdings) tx.old tx.new }
-    ensures below { Stays S.holdings tx.old.store tx.new.store }
-    ensures overlay { tx.new.overlay ≡ tx.old.overlay }
+    ensures leaves { LoadsBelow S.holdings tx.old tx.new }
 {
     match load_at(alloc, tx, id, level.depth) {
         Ok(node) => len_in(alloc, tx, &node, level),
@@ -44,15 +44,12 @@ pub fn len_in<S: Blocks>(
     level: Level,
 ) -> Result<u64, Fail>
     requires intact { intact_in S.meanings S.holdings tx.old }
-    requires level { level.room ≡ span (S.holdings.payload tx.old.store) level.depth }
     requires small { level.room < 2 ^ 63 }
-    requires fits { FitsPayload (S.holdings.payload tx.old.store) (node_of node.now) }
-    requires depth { depth_in (node_of node.now) ≡ level.depth }
+    requires at { IsAtLevel (S.holdings.payload tx.old.store) (node_of node.now) level }
     ensures outcome { Outcome (tx_meanings S.meanings S.holdings) (HasBelow (tx_holdings S.holdings) tx.old level.depth (node_of node.now)) tx.old tx.new result (λ n len. len ≡ length n.bytes) }
     ensures most { IfOk result (λ len. len ≤ level.room) }
     ensures stays { Stays (tx_holdings S.holdings) tx.old tx.new }
-    ensures below { Stays S.holdings tx.old.store tx.new.store }
-    ensures overlay { tx.new.overlay ≡ tx.old.overlay }
+    ensures leaves { LoadsBelow S.holdings tx.old tx.new }
 {
     match node {
         Node::Leaf(bytes) => Ok(bytes.len() as u64),

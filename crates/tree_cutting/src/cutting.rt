@@ -3,11 +3,12 @@ ghost use Rattle.std.specs.Prelude.{◌≡◌, ◌≤◌, ◌<◌, ◌+◌, ◌�
 ghost use Rattle.std.specs.FinMap.{get};
 ghost use Rattle.outcome.specs.Outcome.{Outcome};
 ghost use Rattle.store_api.specs.Content.{Id, same_id};
-ghost use Rattle.store_api.specs.Holdings.{Stays};
 ghost use Rattle.store_api.specs.Txs.{content_of, intact_in, tx_holdings, tx_meanings};
 ghost use Rattle.data_nodes.specs.Layout.{fan_out, ids_of, leaf, node_of, FitsPayload};
+ghost use Rattle.data_tree.specs.Leaving.{DropsBlocks};
 ghost use Rattle.data_tree.specs.Needs.{Sets, SetsNode};
-ghost use Rattle.data_tree.specs.Trees.{span, depth_in, IsDepth};
+ghost use Rattle.data_tree.specs.Roots.{IsAtLevel};
+ghost use Rattle.data_tree.specs.Trees.{span, IsDepth};
 ghost use Rattle.tree_cutting.specs.Cutting.{OnlyBorder, IsCut, MayCut, MayCutNode, MayCutTrees};
 
 use block_id::{BlockId, Fail, Why};
@@ -30,8 +31,7 @@ fn cut_leaf<S: Blocks>(
     ensures outcome { Outcome (tx_meanings S.meanings S.holdings) (n ≤ length old.now) tx.old tx.new result
         (λ _ _. SetsNode (tx_holdings S.holdings) tx.old tx.new id.now.0 (leaf (take n old.now))) }
     ensures others { (q : Id) → same_id q id.now.0 ≡ false → get tx.new.overlay q ≡ get tx.old.overlay q }
-    ensures fewer { (q : Id) → is_some (content_of S.holdings tx.new q) ≡ true → is_some (content_of S.holdings tx.old q) ≡ true }
-    ensures below { Stays S.holdings tx.old.store tx.new.store }
+    ensures drops { DropsBlocks S.holdings tx.old tx.new }
 {
     if n > old.len() as u64 {
         return Err(Fail::Violation(Why::Structure));
@@ -60,8 +60,7 @@ fn cut_below<S: Blocks>(
     requires some { 0 < level.depth → 0 < n }
     ensures outcome { Outcome (tx_meanings S.meanings S.holdings) (MayCut (tx_holdings S.holdings) tx.old level.depth id.now.0 n) tx.old tx.new result
         (λ m _. IsCut (tx_holdings S.holdings) tx.old tx.new level.depth id.now.0 (take n m.tree.bytes) m.tree.ids × OnlyBorder (content_of S.holdings tx.new) level.depth id.now.0 tx.old.overlay tx.new.overlay) }
-    ensures fewer { (q : Id) → is_some (content_of S.holdings tx.new q) ≡ true → is_some (content_of S.holdings tx.old q) ≡ true }
-    ensures below { Stays S.holdings tx.old.store tx.new.store }
+    ensures drops { DropsBlocks S.holdings tx.old tx.new }
 {
     match load_at(alloc, tx, id, level.depth) {
         Ok(node) => cut_in(alloc, tx, id, &node, level, n),
@@ -80,15 +79,12 @@ fn cut_in<S: Blocks>(
     n: u64,
 ) -> Result<(), Fail>
     requires intact { intact_in S.meanings S.holdings tx.old }
-    requires level { level.room ≡ span (S.holdings.payload tx.old.store) level.depth }
+    requires at { IsAtLevel (S.holdings.payload tx.old.store) (node_of node.now) level }
     requires there { is_some (content_of S.holdings tx.old id.now.0) ≡ true }
-    requires fits { FitsPayload (S.holdings.payload tx.old.store) (node_of node.now) }
-    requires depth { depth_in (node_of node.now) ≡ level.depth }
     requires some { 0 < level.depth → 0 < n }
     ensures outcome { Outcome (tx_meanings S.meanings S.holdings) (MayCutNode (tx_holdings S.holdings) tx.old level.depth id.now.0 (node_of node.now) n) tx.old tx.new result
         (λ m _. IsCut (tx_holdings S.holdings) tx.old tx.new level.depth id.now.0 (take n m.below.bytes) (id.now.0 ∷ m.below.ids) × OnlyBorder (content_of S.holdings tx.new) level.depth id.now.0 tx.old.overlay tx.new.overlay) }
-    ensures fewer { (q : Id) → is_some (content_of S.holdings tx.new q) ≡ true → is_some (content_of S.holdings tx.old q) ≡ true }
-    ensures below { Stays S.holdings tx.old.store tx.new.store }
+    ensures drops { DropsBlocks S.holdings tx.old tx.new }
 {
     match node {
         Node::Leaf(old) => cut_leaf(alloc, tx, id, old, n),
@@ -117,8 +113,7 @@ fn cut_children<S: Blocks>(
     requires some { 0 < n }
     ensures outcome { Outcome (tx_meanings S.meanings S.holdings) (MayCutTrees (tx_holdings S.holdings) tx.old level.depth id.now.0 (ids_of children.now) n) tx.old tx.new result
         (λ m _. IsCut (tx_holdings S.holdings) tx.old tx.new (level.depth + 1) id.now.0 (take n m.trees.bytes) (id.now.0 ∷ m.trees.ids) × OnlyBorder (content_of S.holdings tx.new) (level.depth + 1) id.now.0 tx.old.overlay tx.new.overlay) }
-    ensures fewer { (q : Id) → is_some (content_of S.holdings tx.new q) ≡ true → is_some (content_of S.holdings tx.old q) ≡ true }
-    ensures below { Stays S.holdings tx.old.store tx.new.store }
+    ensures drops { DropsBlocks S.holdings tx.old tx.new }
 {
     let last = ((n - 1) / level.room) as usize;
     if last >= children.len() {
@@ -178,16 +173,13 @@ pub fn cut_root<S: Blocks>(
     n: u64,
 ) -> Result<(), Fail>
     requires intact { intact_in S.meanings S.holdings tx.old }
-    requires level { level.room ≡ span (S.holdings.payload tx.old.store) level.depth }
+    requires at { IsAtLevel (S.holdings.payload tx.old.store) (node_of node.now) level }
     requires there { is_some (content_of S.holdings tx.old root.now.0) ≡ true }
-    requires fits { FitsPayload (S.holdings.payload tx.old.store) (node_of node.now) }
-    requires depth { depth_in (node_of node.now) ≡ level.depth }
     requires low { depth ≤ level.depth }
     requires deep { IsDepth (S.holdings.payload tx.old.store) depth n }
     ensures outcome { Outcome (tx_meanings S.meanings S.holdings) (MayCutNode (tx_holdings S.holdings) tx.old level.depth root.now.0 (node_of node.now) n) tx.old tx.new result
         (λ m _. IsCut (tx_holdings S.holdings) tx.old tx.new depth root.now.0 (take n m.below.bytes) (root.now.0 ∷ m.below.ids) × OnlyBorder (content_of S.holdings tx.new) depth root.now.0 tx.old.overlay tx.new.overlay) }
-    ensures fewer { (q : Id) → is_some (content_of S.holdings tx.new q) ≡ true → is_some (content_of S.holdings tx.old q) ≡ true }
-    ensures below { Stays S.holdings tx.old.store tx.new.store }
+    ensures drops { DropsBlocks S.holdings tx.old tx.new }
 {
     if level.depth == depth {
         return cut_in(alloc, tx, root, node, level, n);
@@ -220,8 +212,7 @@ fn lower<S: Blocks>(
     requires deep { IsDepth (S.holdings.payload tx.old.store) depth n }
     ensures outcome { Outcome (tx_meanings S.meanings S.holdings) (MayCutTrees (tx_holdings S.holdings) tx.old level.depth root.now.0 (ids_of children.now) n) tx.old tx.new result
         (λ m _. IsCut (tx_holdings S.holdings) tx.old tx.new depth root.now.0 (take n m.trees.bytes) (root.now.0 ∷ m.trees.ids) × OnlyBorder (content_of S.holdings tx.new) depth root.now.0 tx.old.overlay tx.new.overlay) }
-    ensures fewer { (q : Id) → is_some (content_of S.holdings tx.new q) ≡ true → is_some (content_of S.holdings tx.old q) ≡ true }
-    ensures below { Stays S.holdings tx.old.store tx.new.store }
+    ensures drops { DropsBlocks S.holdings tx.old tx.new }
 {
     let first = &children[0];
     let child = match load_at(alloc, tx, first, level.depth) {

@@ -1,7 +1,7 @@
 -- Nodes that grow.
 use Rattle.std.specs.Prelude.{◌≡◌, ◌≤◌, ◌<◌, ◌+◌, ◌*◌, ◌++◌, ℕ, List, length, take, min}
 use Rattle.block_id.specs.declared.id.BlockId.{BlockId}
-use Rattle.data_nodes.specs.Layout.{NodeText, fan_out, ids_of}
+use Rattle.data_nodes.specs.Layout.{NodeText, FitsPayload, fan_out, ids_of}
 use Rattle.store_api.specs.Content.{Id}
 use Rattle.store_api.specs.Holdings.{Holdings}
 use Rattle.data_tree.specs.declared.level.Level.{Level}
@@ -46,3 +46,18 @@ pub record Raised {S : Type 0} (H : Holdings S) (a b : S) (node : NodeText) (w :
   pub depth : ℕ
   pub deep : IsDepth (H.payload b) depth (length w)
   pub grown : Grown H a b depth node w old
+
+-- of so many bytes no more were taken than there are, and the node fits its payload
+pub record TakesBytes (payload : ℕ) (node : NodeText) (taken bytes : ℕ) : Type 0 where
+  pub used : taken ≤ bytes
+  pub fits : FitsPayload payload node
+
+-- a node has so many children
+pub record IsChildCount (payload count : ℕ) : Type 0 where
+  pub some : 0 < count
+  pub few : count ≤ fan_out payload
+
+-- of so many bytes no more were taken than there are, and a node has so many children
+pub record ChildrenTake (payload n taken bytes : ℕ) : Type 0 where
+  pub used : taken ≤ bytes
+  pub count : IsChildCount payload n

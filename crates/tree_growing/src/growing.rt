@@ -3,13 +3,14 @@ ghost use Rattle.std.specs.Prelude.{◌≡◌, ◌⊎◌, ◌≤◌, ◌<◌, �
 ghost use Rattle.std.specs.FinMap.{get};
 ghost use Rattle.outcome.specs.Outcome.{Outcome};
 ghost use Rattle.store_api.specs.Content.{Id};
-ghost use Rattle.store_api.specs.Holdings.{Stays};
 ghost use Rattle.store_api.specs.Txs.{content_of, intact_in, tx_holdings, tx_meanings};
-ghost use Rattle.data_nodes.specs.Layout.{fan_out, ids_of, leaf, node_of, FitsPayload};
+ghost use Rattle.data_nodes.specs.Layout.{fan_out, ids_of, leaf, node_of};
+ghost use Rattle.data_tree.specs.Leaving.{AddsBlocks, KeepsBlocks};
 ghost use Rattle.data_tree.specs.Needs.{HasBelow, HasTrees};
+ghost use Rattle.data_tree.specs.Roots.{IsAtLevel};
 ghost use Rattle.data_tree.specs.Trees.{span, depth_in};
 ghost use Rattle.data_tree.specs.Border.{OnBorderBelow, OnLastBorder};
-ghost use Rattle.tree_growing.specs.Growing.{Grown, GrownChildren, GrownTrees};
+ghost use Rattle.tree_growing.specs.Growing.{ChildrenTake, Grown, GrownChildren, GrownTrees, IsChildCount, TakesBytes};
 
 use block_id::{BlockId, Fail, Memory};
 use data_nodes::Node;
@@ -45,11 +46,8 @@ pub(crate) fn grown_children<S: Blocks>(
     requires places { length children.now + places ≤ fan_out (S.holdings.payload tx.old.store) }
     requires small { fan_out (S.holdings.payload tx.old.store) * level.room < 2 ^ 64 }
     ensures intact { intact_in S.meanings S.holdings tx.new }
-    ensures store { tx.new.store ≡ tx.old.store }
-    ensures seed { tx.new.seed ≡ tx.old.seed }
+    ensures adds { AddsBlocks S.holdings tx.old tx.new }
     ensures children { IfOk result (λ grown. GrownChildren (tx_holdings S.holdings) tx.old tx.new level places children.now bytes.now grown.0.items grown.1) }
-    ensures there { (q : Id) → is_some (content_of S.holdings tx.old q) ≡ true → is_some (content_of S.holdings tx.new q) ≡ true }
-    ensures kept { (q : Id) → is_some (content_of S.holdings tx.old q) ≡ true → get tx.new.overlay q ≡ get tx.old.overlay q }
 {
     let used = (places * level.room).min(bytes.len() as u64) as usize;
     let new = build_children(alloc, tx, &bytes[..used], level)?;
@@ -69,19 +67,15 @@ pub fn grown_node<S: Blocks>(
     bytes: &[u8],
 ) -> Result<(Node, usize), Fail>
     requires intact { intact_in S.meanings S.holdings tx.old }
-    requires level { level.room ≡ span (S.holdings.payload tx.old.store) level.depth }
-    requires fits { FitsPayload (S.holdings.payload tx.old.store) (node_of node.now) }
-    requires depth { depth_in (node_of node.now) ≡ level.depth }
+    requires at { IsAtLevel (S.holdings.payload tx.old.store) (node_of node.now) level }
     ensures outcome { Outcome (tx_meanings S.meanings S.holdings) (HasBelow (tx_holdings S.holdings) tx.old level.depth (node_of node.now)) tx.old tx.new result
         (λ n grown. Grown (tx_holdings S.holdings) tx.old tx.new level.depth (node_of grown.0) (n.bytes ++ take grown.1 bytes.now) n.ids
         × (grown.1 < length bytes.now → length n.bytes + grown.1 ≡ level.room)) }
     ensures only { HasBelow (tx_holdings S.holdings) tx.old level.depth (node_of node.now) → S.meanings.sound tx.old.store → S.meanings.forgeries tx.new.store ≤ S.meanings.forgeries tx.old.store
         → (q : Id) → is_some (content_of S.holdings tx.old q) ≡ true → (get tx.new.overlay q ≡ get tx.old.overlay q) ⊎ OnBorderBelow (content_of S.holdings tx.old) level.depth (node_of node.now) q }
-    ensures used { IfOk result (λ grown. grown.1 ≤ length bytes.now) }
-    ensures fits { IfOk result (λ grown. FitsPayload (S.holdings.payload tx.old.store) (node_of grown.0)) }
+    ensures took { IfOk result (λ grown. TakesBytes (S.holdings.payload tx.old.store) (node_of grown.0) grown.1 (length bytes.now)) }
     ensures depth { IfOk result (λ grown. depth_in (node_of grown.0) ≡ level.depth) }
-    ensures below { Stays S.holdings tx.old.store tx.new.store }
-    ensures there { (q : Id) → is_some (content_of S.holdings tx.old q) ≡ true → is_some (content_of S.holdings tx.new q) ≡ true }
+    ensures keeps { KeepsBlocks S.holdings tx.old tx.new }
 {
     match node {
         Node::Leaf(old) => match grown_leaf(alloc, old, level.room, bytes) {
@@ -116,18 +110,14 @@ fn grown_inner<S: Blocks>(
     requires intact { intact_in S.meanings S.holdings tx.old }
     requires level { level.room ≡ span (S.holdings.payload tx.old.store) level.depth }
     requires small { fan_out (S.holdings.payload tx.old.store) * level.room < 2 ^ 64 }
-    requires some { 0 < length children.now }
-    requires few { length children.now ≤ fan_out (S.holdings.payload tx.old.store) }
+    requires count { IsChildCount (S.holdings.payload tx.old.store) (length children.now) }
     ensures outcome { Outcome (tx_meanings S.meanings S.holdings) (HasTrees (tx_holdings S.holdings) tx.old level.depth (ids_of children.now)) tx.old tx.new result
         (λ n grown. GrownTrees (tx_holdings S.holdings) tx.old tx.new level.depth (ids_of grown.0.items) (n.bytes ++ take grown.1 bytes.now) n.ids
         × (grown.1 < length bytes.now → length n.bytes + grown.1 ≡ fan_out (S.holdings.payload tx.old.store) * level.room)) }
     ensures only { HasTrees (tx_holdings S.holdings) tx.old level.depth (ids_of children.now) → S.meanings.sound tx.old.store → S.meanings.forgeries tx.new.store ≤ S.meanings.forgeries tx.old.store
         → (q : Id) → is_some (content_of S.holdings tx.old q) ≡ true → (get tx.new.overlay q ≡ get tx.old.overlay q) ⊎ OnLastBorder (content_of S.holdings tx.old) level.depth (ids_of children.now) q }
-    ensures used { IfOk result (λ grown. grown.1 ≤ length bytes.now) }
-    ensures some { IfOk result (λ grown. 0 < length grown.0.items) }
-    ensures few { IfOk result (λ grown. length grown.0.items ≤ fan_out (S.holdings.payload tx.old.store)) }
-    ensures below { Stays S.holdings tx.old.store tx.new.store }
-    ensures there { (q : Id) → is_some (content_of S.holdings tx.old q) ≡ true → is_some (content_of S.holdings tx.new q) ≡ true }
+    ensures took { IfOk result (λ grown. ChildrenTake (S.holdings.payload tx.old.store) (length grown.0.items) grown.1 (length bytes.now)) }
+    ensures keeps { KeepsBlocks S.holdings tx.old tx.new }
 {
     let places = (tx.payload() as u64 - 8) / 16 - children.len() as u64;
     let last = children.len() - 1;

@@ -1,12 +1,11 @@
 // A tree whose depth rises: its node moves under a new id, and new trees stand beside it.
-ghost use Rattle.std.specs.Prelude.{◌≡◌, ◌≤◌, ◌<◌, ◌+◌, ◌*◌, ◌++◌, ◌^◌, true, is_some, length, IfOk};
-ghost use Rattle.std.specs.FinMap.{get};
+ghost use Rattle.std.specs.Prelude.{◌≡◌, ◌≤◌, ◌<◌, ◌+◌, ◌*◌, ◌++◌, ◌^◌, length, IfOk};
 ghost use Rattle.block_id.specs.declared.sizes.TheConstants.{MIN_PAYLOAD, MAX_BLOCK};
-ghost use Rattle.store_api.specs.Content.{Id};
-ghost use Rattle.store_api.specs.Txs.{content_of, intact_in, tx_holdings};
+ghost use Rattle.store_api.specs.Txs.{intact_in, tx_holdings};
 ghost use Rattle.data_nodes.specs.Layout.{fan_out, node_of, FitsPayload};
+ghost use Rattle.data_tree.specs.Leaving.{AddsBlocks};
 ghost use Rattle.data_tree.specs.Trees.{span};
-ghost use Rattle.tree_growing.specs.Growing.{MayGrow, Raised};
+ghost use Rattle.tree_growing.specs.Growing.{MayGrow, Raised, TakesBytes};
 
 use crate::growing::grown_children;
 use block_id::{BlockId, Memory};
@@ -46,14 +45,10 @@ pub fn raised<S: Blocks>(
     requires fits { FitsPayload (S.holdings.payload tx.old.store) (node_of node) }
     requires small { n ≤ 2 ^ 40 }
     ensures intact { intact_in S.meanings S.holdings tx.new }
-    ensures store { tx.new.store ≡ tx.old.store }
-    ensures seed { tx.new.seed ≡ tx.old.seed }
+    ensures adds { AddsBlocks S.holdings tx.old tx.new }
     ensures raised { IfOk result (λ up. (m : MayGrow (tx_holdings S.holdings) tx.old level.depth (node_of node) n (length rest.now))
         → Raised (tx_holdings S.holdings) tx.old tx.new (node_of up.0) (m.bytes ++ rest.now) m.ids × (up.1 ≡ length rest.now)) }
-    ensures used { IfOk result (λ up. up.1 ≤ length rest.now) }
-    ensures fits { IfOk result (λ up. FitsPayload (S.holdings.payload tx.old.store) (node_of up.0)) }
-    ensures there { (q : Id) → is_some (content_of S.holdings tx.old q) ≡ true → is_some (content_of S.holdings tx.new q) ≡ true }
-    ensures kept { (q : Id) → is_some (content_of S.holdings tx.old q) ≡ true → get tx.new.overlay q ≡ get tx.old.overlay q }
+    ensures took { IfOk result (λ up. TakesBytes (S.holdings.payload tx.old.store) (node_of up.0) up.1 (length rest.now)) }
 {
     if level.room >= n {
         return Ok((node, 0));

@@ -10,7 +10,7 @@ use Rattle.store_api.specs.declared.tx.Tx.{Tx}
 use Rattle.store_api.specs.Content.{Id, SameIds, or_else}
 use Rattle.store_api.specs.Holdings.{Holdings, Stays}
 use Rattle.data_tree.specs.Trees.{IsTree, Holds, IsDepth, Replaces, depth_in}
-use Rattle.data_tree.proofs.Forests.{moved}
+use Rattle.data_tree.proofs.Forests.{root_at}
 use Rattle.data_tree.specs.Needs.{HasTree, KeepsShape}
 use Rattle.data_tree.specs.Roots.{IsRoot, IsNewRoot}
 use Rattle.store_api.specs.Txs.{tx_holdings}
@@ -39,18 +39,6 @@ root_tree {H = H} {a = a} depth told n same = record {
     holds = subst (λ d. Holds (H.payload a) (H.content a) d n.tree.node n.bytes n.tree.below) same n.tree.holds;
     all = n.tree.all;
   };
-  alone = n.alone;
-}
-
--- a root stands on while blocks are loaded
-abbrev pub root_at : {S : Type 0} {H : Holdings S} {a b : S} {id : Id} → Stays H a b → H.told a ≡ true → IsRoot H a id → IsRoot H b id
-root_at {H = H} {a = a} {b = b} {id = id} stays told n = record {
-  bytes = n.bytes;
-  ids = n.ids;
-  depth = n.depth;
-  small = n.small;
-  deep = subst (λ p. IsDepth p n.depth (length n.bytes)) (sym stays.payload) n.deep;
-  tree = moved H a b stays told (λ p B. IsTree p B n.depth id n.bytes n.ids) n.tree;
   alone = n.alone;
 }
 

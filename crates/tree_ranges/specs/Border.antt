@@ -1,10 +1,20 @@
 -- What a tree that was written past its end, or cut, leaves of the changes.
-use Rattle.std.specs.Prelude.{◌≡◌, ◌⊎◌, ◌<◌, ◌≤◌, ℕ, true, is_some}
+use Rattle.std.specs.Prelude.{◌≡◌, ◌⊎◌, ◌<◌, ◌≤◌, ◌+◌, ℕ, true, is_some}
+use Rattle.std.specs.FinMap as fin
 use Rattle.std.specs.FinMap.{get}
-use Rattle.store_api.specs.Content.{Id, Content, Changes}
+use Rattle.block_id.specs.Contents.{pieces}
+use Rattle.data_nodes.specs.Layout.{room}
+use Rattle.store_api.specs.Content.{Id, Content, Changes, SameIds}
 use Rattle.data_tree.specs.Border.{OnBorder}
 use Rattle.tree_cutting.specs.Cutting.{OnlyBorder}
-use Rattle.tree_writing.specs.Leaves.{LeafAt}
+use Rattle.tree_writing.specs.Leaves.{LeafAt, OnlyLeaves}
+
+-- A tree got n bytes from a place on, inside its length: only leaves that hold a place of the range have something else in the changes, which have no more
+-- entries than these leaves, and the ids are as before.
+pub record WroteInside (payload : ℕ) (A B : Content) (depth : ℕ) (root : Id) (from n : ℕ) (old new : Changes) : Type 0 where
+  pub only : OnlyLeaves payload A depth root from n old new
+  pub few : fin.len new ≤ fin.len old + (pieces n (room payload) + 1)
+  pub ids : SameIds A B
 
 -- A tree of this length was written past its end from a place on, or filled up. No id is gone, and of the ids that were there only those of the right
 -- border and of leaves that hold a place from there on have something else in the changes.

@@ -6,6 +6,7 @@ ghost use Rattle.outcome.specs.Outcome.{Outcome};
 ghost use Rattle.store_api.specs.Content.{Id};
 ghost use Rattle.store_api.specs.Holdings.{Stays};
 ghost use Rattle.store_api.specs.Txs.{content_of, intact_in, tx_holdings, tx_meanings};
+ghost use Rattle.data_tree.specs.Leaving.{KeepsBlocks};
 ghost use Rattle.data_tree.specs.Roots.{IsRoot, IsNewRoot};
 ghost use Rattle.data_tree.specs.Trees.{span};
 ghost use Rattle.tree_ranges.specs.Border.{Grew};
@@ -33,8 +34,7 @@ pub(crate) fn append<S: Blocks>(
         (λ g _. IsNewRoot (tx_holdings S.holdings) tx.old tx.new root.now.0 g.tree.ids (g.tree.bytes ++ tail.now)) }
     ensures only { (r : IsRoot (tx_holdings S.holdings) tx.old root.now.0) → S.meanings.sound tx.old.store → S.meanings.forgeries tx.new.store ≤ S.meanings.forgeries tx.old.store
         → (q : Id) → is_some (content_of S.holdings tx.old q) ≡ true → (get tx.new.overlay q ≡ get tx.old.overlay q) ⊎ OnBorder (content_of S.holdings tx.old) r.depth root.now.0 q }
-    ensures below { Stays S.holdings tx.old.store tx.new.store }
-    ensures there { (q : Id) → is_some (content_of S.holdings tx.old q) ≡ true → is_some (content_of S.holdings tx.new q) ≡ true }
+    ensures keeps { KeepsBlocks S.holdings tx.old tx.new }
 {
     let (node, level) = match load_root(alloc, tx, root) {
         Ok(found) => found,

@@ -1,16 +1,14 @@
 // The calls that change a range of a tree.
-ghost use Rattle.std.specs.FinMap as fin;
 ghost use Rattle.std.specs.Prelude.{◌≡◌, ◌≤◌, ◌<◌, ◌+◌, ◌^◌, ℕ, true, is_some, length, IfOk, OnOk};
-ghost use Rattle.block_id.specs.Contents.{pieces, resized, written};
+ghost use Rattle.block_id.specs.Contents.{resized, written};
 ghost use Rattle.outcome.specs.Outcome.{Outcome};
-ghost use Rattle.store_api.specs.Content.{Id, SameIds};
+ghost use Rattle.store_api.specs.Content.{Id};
 ghost use Rattle.store_api.specs.Holdings.{Stays};
-ghost use Rattle.store_api.specs.Txs.{content_of, intact_in, tx_holdings, tx_meanings};
-ghost use Rattle.data_nodes.specs.Layout.{room, node_of};
+ghost use Rattle.store_api.specs.Txs.{LoadsBelow, content_of, intact_in, tx_holdings, tx_meanings};
+ghost use Rattle.data_nodes.specs.Layout.{node_of};
 ghost use Rattle.data_tree.specs.Roots.{IsAtLevel, IsRoot, IsNewRoot, IsTooDeep};
 ghost use Rattle.data_tree.specs.Trees.{IsDepth, span, depth_in};
-ghost use Rattle.tree_ranges.specs.Border.{Grew, Shrank};
-ghost use Rattle.tree_writing.specs.Leaves.{OnlyLeaves};
+ghost use Rattle.tree_ranges.specs.Border.{Grew, Shrank, WroteInside};
 ghost use Rattle.tree_ranges.specs.Ranges.{HasAtLeast, IsInside, ReachesPast};
 
 use crate::over::{after_zeros, append, write_over};
@@ -35,8 +33,7 @@ fn open_root<S: Blocks>(
     ensures shallow { S.meanings.sound tx.old.store → S.meanings.forgeries tx.new.store ≤ S.meanings.forgeries tx.old.store
         → OnOk result (IsTooDeep (tx_holdings S.holdings) tx.old root.now.0 → ⊥) }
     ensures stays { Stays (tx_holdings S.holdings) tx.old tx.new }
-    ensures below { Stays S.holdings tx.old.store tx.new.store }
-    ensures overlay { tx.new.overlay ≡ tx.old.overlay }
+    ensures leaves { LoadsBelow S.holdings tx.old tx.new }
     ensures there { OnOk result (is_some (content_of S.holdings tx.old root.now.0) ≡ true) }
     ensures level { IfOk result (λ found. IsAtLevel (S.holdings.payload tx.old.store) (node_of found.0) found.1) }
     ensures most { IfOk result (λ found. found.2 ≤ found.1.room) }
@@ -68,15 +65,10 @@ pub fn write_range<S: Blocks>(
         → 0 < length bytes.now → OnOk result (IsTooDeep (tx_holdings S.holdings) tx.old root.now.0 → ⊥) }
     ensures empty { length bytes.now ≡ 0 → tx.new ≡ tx.old }
     // Inside the length only leaves that hold a place of the range change, whatever is answered.
-    ensures inside { (n : IsInside (tx_holdings S.holdings) tx.old root.now.0 from (length bytes.now)) → S.meanings.sound tx.old.store
-        → S.meanings.forgeries tx.new.store ≤ S.meanings.forgeries tx.old.store
-        → OnlyLeaves (S.holdings.payload tx.old.store) (content_of S.holdings tx.old) n.tree.depth root.now.0 from (length bytes.now) tx.old.overlay tx.new.overlay }
-    ensures few { IsInside (tx_holdings S.holdings) tx.old root.now.0 from (length bytes.now) → S.meanings.sound tx.old.store
-        → S.meanings.forgeries tx.new.store ≤ S.meanings.forgeries tx.old.store
-        → fin.len tx.new.overlay ≤ fin.len tx.old.overlay + (pieces (length bytes.now) (room (S.holdings.payload tx.old.store)) + 1) }
-    ensures ids { IsInside (tx_holdings S.holdings) tx.old root.now.0 from (length bytes.now) → S.meanings.sound tx.old.store
-        → S.meanings.forgeries tx.new.store ≤ S.meanings.forgeries tx.old.store
-        → SameIds (content_of S.holdings tx.old) (content_of S.holdings tx.new) }
+    ensures inside { (n : IsInside (tx_holdings S.holdings) tx.old root.now.0 from (length bytes.now))
+        → S.meanings.sound tx.old.store → S.meanings.forgeries tx.new.store ≤ S.meanings.forgeries tx.old.store
+        → WroteInside (S.holdings.payload tx.old.store) (content_of S.holdings tx.old) (content_of S.holdings tx.new)
+        n.tree.depth root.now.0 from (length bytes.now) tx.old.overlay tx.new.overlay }
     // Past the end no id goes, and of those that were there only the right border and the leaves of the range change, whatever is answered.
     ensures grown { (n : ReachesPast (tx_holdings S.holdings) tx.old root.now.0 from (length bytes.now)) → S.meanings.sound tx.old.store → S.meanings.forgeries tx.new.store ≤ S.meanings.forgeries tx.old.store
         → Grew (S.holdings.payload tx.old.store) (content_of S.holdings tx.old) (content_of S.holdings tx.new) n.tree.depth root.now.0 from (length n.tree.bytes) tx.old.overlay tx.new.overlay }

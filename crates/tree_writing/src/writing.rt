@@ -4,11 +4,12 @@ ghost use Rattle.std.specs.FinMap as fin;
 ghost use Rattle.std.specs.FinMap.{get};
 ghost use Rattle.outcome.specs.Outcome.{Outcome};
 ghost use Rattle.store_api.specs.Content.{Id};
-ghost use Rattle.store_api.specs.Holdings.{Stays};
 ghost use Rattle.store_api.specs.Txs.{content_of, intact_in, tx_holdings, tx_meanings};
 ghost use Rattle.data_nodes.specs.Layout.{room, fan_out, ids_of, node_of, leaf, FitsPayload};
+ghost use Rattle.data_tree.specs.Leaving.{KeepsBlocks};
 ghost use Rattle.data_tree.specs.Needs.{SetsNode};
-ghost use Rattle.data_tree.specs.Trees.{span, depth_in};
+ghost use Rattle.data_tree.specs.Roots.{IsAtLevel};
+ghost use Rattle.data_tree.specs.Trees.{span};
 ghost use Rattle.tree_writing.specs.Leaves.{OnlyLeaves, OnlyAmong};
 ghost use Rattle.tree_writing.specs.Writing.{LeafCost, MayWrite, MayWriteNode, MayWriteTrees, WroteTree, WroteTrees, written_at};
 
@@ -46,8 +47,7 @@ fn write_leaf<S: Blocks>(
         (λ _ _. SetsNode (tx_holdings S.holdings) tx.old tx.new id.now.0 (leaf (written_at from bytes.now old.now))) }
     ensures others { (q : Id) → (get tx.new.overlay q ≡ get tx.old.overlay q) ⊎ ((q ≡ id.now.0) × (from + length bytes.now ≤ length old.now)) }
     ensures few { (fin.len tx.new.overlay ≤ fin.len tx.old.overlay) ⊎ ((fin.len tx.new.overlay ≤ fin.len tx.old.overlay + 1) × (from + length bytes.now ≤ length old.now)) }
-    ensures below { Stays S.holdings tx.old.store tx.new.store }
-    ensures there { (q : Id) → is_some (content_of S.holdings tx.old q) ≡ true → is_some (content_of S.holdings tx.new q) ≡ true }
+    ensures keeps { KeepsBlocks S.holdings tx.old tx.new }
 {
     let start = from as usize;
     if start > old.len() || bytes.len() > old.len() - start {
@@ -80,8 +80,7 @@ pub fn write_below<S: Blocks>(
     ensures only { (n : MayWrite (tx_holdings S.holdings) tx.old level.depth id.now.0 from (length bytes.now)) → S.meanings.sound tx.old.store → S.meanings.forgeries tx.new.store ≤ S.meanings.forgeries tx.old.store
         → OnlyLeaves (S.holdings.payload tx.old.store) (content_of S.holdings tx.old) level.depth id.now.0 from (length bytes.now) tx.old.overlay tx.new.overlay }
     ensures cost { LeafCost (room (S.holdings.payload tx.old.store)) (fin.len tx.old.overlay) (fin.len tx.new.overlay) from (length bytes.now) level.room }
-    ensures below { Stays S.holdings tx.old.store tx.new.store }
-    ensures there { (q : Id) → is_some (content_of S.holdings tx.old q) ≡ true → is_some (content_of S.holdings tx.new q) ≡ true }
+    ensures keeps { KeepsBlocks S.holdings tx.old tx.new }
 {
     if bytes.is_empty() {
         return Ok(());
@@ -104,18 +103,15 @@ pub fn write_in<S: Blocks>(
     bytes: &[u8],
 ) -> Result<(), Fail>
     requires intact { intact_in S.meanings S.holdings tx.old }
-    requires level { level.room ≡ span (S.holdings.payload tx.old.store) level.depth }
+    requires at { IsAtLevel (S.holdings.payload tx.old.store) (node_of node.now) level }
     requires there { is_some (content_of S.holdings tx.old id.now.0) ≡ true }
-    requires fits { FitsPayload (S.holdings.payload tx.old.store) (node_of node.now) }
-    requires depth { depth_in (node_of node.now) ≡ level.depth }
     requires some { 0 < length bytes.now }
     ensures outcome { Outcome (tx_meanings S.meanings S.holdings) (MayWriteNode (tx_holdings S.holdings) tx.old level.depth id.now.0 (node_of node.now) from (length bytes.now)) tx.old tx.new result
         (λ n _. WroteTree (tx_holdings S.holdings) tx.old tx.new level.depth id.now.0 (written_at from bytes.now n.tree.bytes) n.tree.ids) }
     ensures only { (n : MayWriteNode (tx_holdings S.holdings) tx.old level.depth id.now.0 (node_of node.now) from (length bytes.now)) → S.meanings.sound tx.old.store → S.meanings.forgeries tx.new.store ≤ S.meanings.forgeries tx.old.store
         → OnlyLeaves (S.holdings.payload tx.old.store) (content_of S.holdings tx.old) level.depth id.now.0 from (length bytes.now) tx.old.overlay tx.new.overlay }
     ensures cost { LeafCost (room (S.holdings.payload tx.old.store)) (fin.len tx.old.overlay) (fin.len tx.new.overlay) from (length bytes.now) level.room }
-    ensures below { Stays S.holdings tx.old.store tx.new.store }
-    ensures there { (q : Id) → is_some (content_of S.holdings tx.old q) ≡ true → is_some (content_of S.holdings tx.new q) ≡ true }
+    ensures keeps { KeepsBlocks S.holdings tx.old tx.new }
 {
     match node {
         Node::Leaf(old) => write_leaf(alloc, tx, id, old, from, bytes),
@@ -144,8 +140,7 @@ fn write_children<S: Blocks>(
     ensures only { (n : MayWriteTrees (tx_holdings S.holdings) tx.old level.depth (ids_of children.now) from (length bytes.now)) → S.meanings.sound tx.old.store → S.meanings.forgeries tx.new.store ≤ S.meanings.forgeries tx.old.store
         → OnlyAmong (S.holdings.payload tx.old.store) (content_of S.holdings tx.old) level.depth (ids_of children.now) from (length bytes.now) tx.old.overlay tx.new.overlay }
     ensures cost { LeafCost (room (S.holdings.payload tx.old.store)) (fin.len tx.old.overlay) (fin.len tx.new.overlay) from (length bytes.now) (fan_out (S.holdings.payload tx.old.store) * level.room) }
-    ensures below { Stays S.holdings tx.old.store tx.new.store }
-    ensures there { (q : Id) → is_some (content_of S.holdings tx.old q) ≡ true → is_some (content_of S.holdings tx.new q) ≡ true }
+    ensures keeps { KeepsBlocks S.holdings tx.old tx.new }
 {
     let mut place = from;
     let mut rest = bytes;

@@ -1,5 +1,6 @@
-use Rattle.std.proofs.Common.{◌≡◌, ◌≤◌, ◌+◌, suc, List, [], ◌++◌, length, sym, ◌∙◌, ap, subst, refl, arith}
+use Rattle.std.proofs.Common.{◌≡◌, ◌≤◌, ◌+◌, ◌*◌, suc, List, [], ◌++◌, length, sym, ◌∙◌, ap, subst, refl, arith}
 use Rattle.std.proofs.lemmas.List.{length-map}
+use Rattle.std.proofs.Math.Nat.{mul-le-mul_right}
 use Rattle.block_id.specs.declared.id.BlockId.{BlockId}
 use Rattle.data_nodes.specs.Layout.{node_of, ids_of, leaf, inner, FitsPayload, fan_out}
 use Rattle.data_tree.specs.Trees.{IsTree, Forest, NoDoubles, span, depth_in}
@@ -106,3 +107,23 @@ returns-clause-halted g c =
 
 pub returns-clause-outcome : goal.returns-clause-outcome
 returns-clause-outcome g c = then_ g.met.B.Blocks.lawful c.in-Ok.ensures.outcome (λ m h. tt) c.walk_children.ensures.outcome (λ m h y k. tt)
+
+pub walk_children-requires-clause-trees : goal.walk_children-requires-clause-trees
+walk_children-requires-clause-trees g c =
+    let p = g.B.Blocks.holdings.payload c.args.store.now in
+    let below = c.below-below.result in
+    let count = length c.deref-in-Inner.result.now in
+    let is = ap node_of c.in-Inner.is ∙ ap (λ (xs : List BlockId). inner c.in-Inner.depth (ids_of xs)) (sym c.deref-in-Inner.ensures.value) in
+    let fits = subst (FitsPayload p) is c.in-Ok.ensures.fits in
+    let long = length-map c.deref-in-Inner.result.now (λ (x : BlockId). x.0) in
+    let fan : c.payload-in-Inner.result ≡ p = c.payload-in-Inner.ensures ∙ c.load_node.ensures.stays.payload in
+    let two : 2 ≤ count = omega (arith, c.if-len-lt2.false, c.len-in-Inner.ensures, c.deref-in-Inner.ensures.len) in
+    let few : count ≤ fan_out p = omega (arith, long, fits.1) in
+    let here : count ≤ fan_out c.payload-in-Inner.result = subst (λ q. count ≤ fan_out q) (sym fan) few in
+    let much : count * below.room ≤ fan_out c.payload-in-Inner.result * below.room = mul-le-mul_right below.room here in
+    record {
+      owner = c.requires.owner;
+      room = c.below-below.ensures.room ∙ ap (λ q. span q below.depth) c.payload-in-Inner.ensures;
+      some = omega (arith, two);
+      small = omega (arith, much, c.below-below.ensures.all, c.in-Some.ensures.fits);
+    }

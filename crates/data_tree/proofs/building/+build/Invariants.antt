@@ -1,8 +1,6 @@
-use Rattle.std.proofs.Common.{◌≡◌, ◌⊎◌, ◌+◌, ◌*◌, ◌<◌, true, length}
-use Rattle.std.specs.Prelude.{is_some}
-use Rattle.std.specs.FinMap.{get}
+use Rattle.std.proofs.Common.{◌≡◌, ◌⊎◌, ◌+◌, ◌*◌, ◌<◌, length}
 use Rattle.data_nodes.specs.Layout.{ids_of}
-use Rattle.store_api.specs.Content.{Id}
+use Rattle.data_tree.specs.Leaving.{AddsBlocks}
 use Rattle.data_tree.specs.Needs.{BuildRest}
 use Rattle.store_api.specs.Txs.{tx_holdings, tx_meanings}
 use Rattle.data_tree.proofs.building.+build.Given as goal
@@ -19,11 +17,8 @@ decreases-build_children g l = 3 * l.level.depth + 3
 abbrev pub invariant-build_children-loop-rest : goal.invariant-build_children-loop-rest
 invariant-build_children-loop-rest g l = record {
   intact : (tx_meanings g.S.Blocks.meanings g.S.Blocks.holdings).intact l.tx;
-  store : l.tx.store ≡ l.initial.tx.store;
-  seed : l.tx.seed ≡ l.initial.tx.seed;
+  adds : AddsBlocks g.S.Blocks.holdings l.initial.tx l.tx;
   built : BuildRest (tx_holdings g.S.Blocks.holdings) l.initial.tx l.tx l.level.depth (ids_of l.children.items) l.rest l.initial.rest;
-  there : (q : Id) → is_some ((tx_holdings g.S.Blocks.holdings).content l.initial.tx q) ≡ true → is_some ((tx_holdings g.S.Blocks.holdings).content l.tx q) ≡ true;
-  kept : (q : Id) → is_some ((tx_holdings g.S.Blocks.holdings).content l.initial.tx q) ≡ true → get l.tx.overlay q ≡ get l.initial.tx.overlay q;
   whole : 0 < length l.rest → length l.children.items * l.level.room + length l.rest ≡ length l.initial.rest;
   under : length l.children.items * l.level.room < length l.initial.rest + l.level.room;
   begun : (0 < length l.children.items) ⊎ (length l.rest ≡ length l.initial.rest);

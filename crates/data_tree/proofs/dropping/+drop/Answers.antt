@@ -92,11 +92,11 @@ drop_children-returns-clause-outcome g t c =
 
 pub drop_below-returns-in-Ok-remove-clause-kept : goal.drop_below-returns-in-Ok-remove-clause-kept
 drop_below-returns-in-Ok-remove-clause-kept g t c =
-    kept_drop g.S.Blocks.holdings c.args.tx.now c.remove.new.tx c.drop_in.new.tx c.drop_in.ensures.below (kept_drop g.S.Blocks.holdings c.args.tx.now c.load_at.new.tx c.remove.new.tx (below_same g.S.Blocks.holdings c.load_at.new.tx c.remove.new.tx c.remove.ensures.store) (λ q h. ap (λ m. get m q) c.load_at.ensures.overlay) c.remove.ensures.kept) c.drop_in.ensures.kept
+    kept_drop g.S.Blocks.holdings c.args.tx.now c.remove.new.tx c.drop_in.new.tx c.drop_in.ensures.below (kept_drop g.S.Blocks.holdings c.args.tx.now c.load_at.new.tx c.remove.new.tx (below_same g.S.Blocks.holdings c.load_at.new.tx c.remove.new.tx c.remove.ensures.store) (λ q h. ap (λ m. get m q) c.load_at.ensures.leaves.overlay) c.remove.ensures.kept) c.drop_in.ensures.kept
 
 pub drop_below-returns-clause-kept : goal.drop_below-returns-clause-kept
 drop_below-returns-clause-kept g t c =
-    kept_drop g.S.Blocks.holdings c.args.tx.now c.load_at.new.tx c.remove.new.tx (below_same g.S.Blocks.holdings c.load_at.new.tx c.remove.new.tx c.remove.ensures.store) (λ q h. ap (λ m. get m q) c.load_at.ensures.overlay) c.remove.ensures.kept
+    kept_drop g.S.Blocks.holdings c.args.tx.now c.load_at.new.tx c.remove.new.tx (below_same g.S.Blocks.holdings c.load_at.new.tx c.remove.new.tx c.remove.ensures.store) (λ q h. ap (λ m. get m q) c.load_at.ensures.leaves.overlay) c.remove.ensures.kept
 
 pub drop_children-returns-in-Err-clause-kept : goal.drop_children-returns-in-Err-clause-kept
 drop_children-returns-in-Err-clause-kept g t c =

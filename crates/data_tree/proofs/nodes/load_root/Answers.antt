@@ -51,29 +51,20 @@ returns-in-Err-clause-outcome g c =
 pub returns-in-Err-clause-stays : goal.returns-in-Err-clause-stays
 returns-in-Err-clause-stays g c = c.load_node.ensures.stays
 
-pub returns-in-Err-clause-below : goal.returns-in-Err-clause-below
-returns-in-Err-clause-below g c = c.load_node.ensures.below
-
-pub returns-in-Err-clause-overlay : goal.returns-in-Err-clause-overlay
-returns-in-Err-clause-overlay g c = c.load_node.ensures.overlay
+pub returns-in-Err-clause-leaves : goal.returns-in-Err-clause-leaves
+returns-in-Err-clause-leaves g c = c.load_node.ensures.leaves
 
 pub returns-in-Some-clause-stays : goal.returns-in-Some-clause-stays
 returns-in-Some-clause-stays g c = c.load_node.ensures.stays
 
-pub returns-in-Some-clause-below : goal.returns-in-Some-clause-below
-returns-in-Some-clause-below g c = c.load_node.ensures.below
-
-pub returns-in-Some-clause-overlay : goal.returns-in-Some-clause-overlay
-returns-in-Some-clause-overlay g c = c.load_node.ensures.overlay
+pub returns-in-Some-clause-leaves : goal.returns-in-Some-clause-leaves
+returns-in-Some-clause-leaves g c = c.load_node.ensures.leaves
 
 pub returns-in-None-clause-stays : goal.returns-in-None-clause-stays
 returns-in-None-clause-stays g c = c.load_node.ensures.stays
 
-pub returns-in-None-clause-below : goal.returns-in-None-clause-below
-returns-in-None-clause-below g c = c.load_node.ensures.below
-
-pub returns-in-None-clause-overlay : goal.returns-in-None-clause-overlay
-returns-in-None-clause-overlay g c = c.load_node.ensures.overlay
+pub returns-in-None-clause-leaves : goal.returns-in-None-clause-leaves
+returns-in-None-clause-leaves g c = c.load_node.ensures.leaves
 
 pub returns-in-Err-clause-shallow : goal.returns-in-Err-clause-shallow
 returns-in-Err-clause-shallow g c s h = tt

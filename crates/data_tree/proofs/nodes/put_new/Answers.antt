@@ -21,24 +21,26 @@ returns-in-Ok-clause-sets g c =
     let text = c.in_ok-payload.payload.items in
     (text, (c.in_ok-payload.ensures.node, (c.in_ok-payload.ensures.len ∙ c.payload.ensures, put_sets g.S.Blocks.holdings c.args.tx.now c.add.new.self c.in-Ok.id.0 (Some text) c.add.ensures.store c.in-Ok.ensures.ok)))
 
-pub returns-in-Ok-clause-there : goal.returns-in-Ok-clause-there
-returns-in-Ok-clause-there g c q h =
+pub returns-in-Ok-clause-adds : goal.returns-in-Ok-clause-adds
+returns-in-Ok-clause-adds g c =
     let H = tx_holdings g.S.Blocks.holdings in
     let a = c.args.tx.now in
     let d = c.add.new.self in
-    let text = c.in_ok-payload.payload.items in
-    there_put (H.content a) (H.content d) c.in-Ok.id.0 text (put_sets g.S.Blocks.holdings a d c.in-Ok.id.0 (Some text) c.add.ensures.store c.in-Ok.ensures.ok) q h
-
-pub returns-in-Ok-clause-kept : goal.returns-in-Ok-clause-kept
-returns-in-Ok-clause-kept g c q there =
-    let H = tx_holdings g.S.Blocks.holdings in
-    let a = c.args.tx.now in
     let id = c.in-Ok.id.0 in
-    let differs : same_id q id ≡ false = not_new (H.content a) id q (returns-in-Ok-clause-new g c) there in
-    others_then {T = Unit {0}} {E = Unit {0}} a.overlay c.add.new.self.overlay id (Some c.in_ok-payload.payload.items) (Ok tt) c.in-Ok.ensures.ok tt q differs
+    let text = c.in_ok-payload.payload.items in
+    record {
+      store = c.add.ensures.store;
+      seed = c.add.ensures.seed;
+      there = there_put (H.content a) (H.content d) id text (put_sets g.S.Blocks.holdings a d id (Some text) c.add.ensures.store c.in-Ok.ensures.ok);
+      kept = λ q there.
+          let differs : same_id q id ≡ false = not_new (H.content a) id q (returns-in-Ok-clause-new g c) there in
+          others_then {T = Unit {0}} {E = Unit {0}} a.overlay d.overlay id (Some text) (Ok tt) c.in-Ok.ensures.ok tt q differs;
+    }
 
-pub returns-in-Err-clause-there : goal.returns-in-Err-clause-there
-returns-in-Err-clause-there g c = there_left g.S.Blocks.holdings c.args.tx.now c.add.new.self c.add.ensures.store c.in-Err.ensures.err
-
-pub returns-in-Err-clause-kept : goal.returns-in-Err-clause-kept
-returns-in-Err-clause-kept g c q there = ap (λ m. get m q) c.in-Err.ensures.err
+pub returns-in-Err-clause-adds : goal.returns-in-Err-clause-adds
+returns-in-Err-clause-adds g c = record {
+  store = c.add.ensures.store;
+  seed = c.add.ensures.seed;
+  there = there_left g.S.Blocks.holdings c.args.tx.now c.add.new.self c.add.ensures.store c.in-Err.ensures.err;
+  kept = λ q there. ap (λ m. get m q) c.in-Err.ensures.err;
+}

@@ -12,8 +12,15 @@ returns-clause-sets g c =
 pub returns-clause-there : goal.returns-clause-there
 returns-clause-there g c = there_then g.S.Blocks.holdings c.args.tx.now c.put.new.self c.args.id.now.0 c.in_ok-payload.payload.items c.put.result c.put.ensures.store c.put.ensures.ok c.put.ensures.err
 
-pub returns-clause-few : goal.returns-clause-few
-returns-clause-few g c = few_then c.args.tx.now.overlay c.put.new.self.overlay c.args.id.now.0 (Some c.in_ok-payload.payload.items) c.put.result c.put.ensures.ok c.put.ensures.err
-
-pub returns-clause-others : goal.returns-clause-others
-returns-clause-others g c = others_then c.args.tx.now.overlay c.put.new.self.overlay c.args.id.now.0 (Some c.in_ok-payload.payload.items) c.put.result c.put.ensures.ok c.put.ensures.err
+pub returns-clause-puts : goal.returns-clause-puts
+returns-clause-puts g c =
+    let old = c.args.tx.now.overlay in
+    let new = c.put.new.self.overlay in
+    let id = c.args.id.now.0 in
+    let change = Some c.in_ok-payload.payload.items in
+    record {
+      store = c.put.ensures.store;
+      seed = c.put.ensures.seed;
+      others = others_then old new id change c.put.result c.put.ensures.ok c.put.ensures.err;
+      few = few_then old new id change c.put.result c.put.ensures.ok c.put.ensures.err;
+    }

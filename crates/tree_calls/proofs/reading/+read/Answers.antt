@@ -102,7 +102,7 @@ pub read_below-returns-in-Ok-clause-stays : goal.read_below-returns-in-Ok-clause
 read_below-returns-in-Ok-clause-stays g t c = stays-then c.load_at.ensures.stays c.read_in.ensures.stays
 
 pub read_below-returns-in-Ok-clause-below : goal.read_below-returns-in-Ok-clause-below
-read_below-returns-in-Ok-clause-below g t c = stays-then c.load_at.ensures.below c.read_in.ensures.below
+read_below-returns-in-Ok-clause-below g t c = stays-then c.load_at.ensures.leaves.below c.read_in.ensures.below
 
 pub read_children-returns-in-Err-clause-stays : goal.read_children-returns-in-Err-clause-stays
 read_children-returns-in-Err-clause-stays g t c = stays-then c.loop-child.invariant.stays c.read_below.ensures.stays
@@ -149,7 +149,7 @@ pub read_below-returns-in-Err-clause-stays : goal.read_below-returns-in-Err-clau
 read_below-returns-in-Err-clause-stays g t c = c.load_at.ensures.stays
 
 pub read_below-returns-in-Err-clause-below : goal.read_below-returns-in-Err-clause-below
-read_below-returns-in-Err-clause-below g t c = c.load_at.ensures.below
+read_below-returns-in-Err-clause-below g t c = c.load_at.ensures.leaves.below
 
 pub read_in-returns-in-Inner-clause-stays : goal.read_in-returns-in-Inner-clause-stays
 read_in-returns-in-Inner-clause-stays g t c = c.read_children.ensures.stays
@@ -162,3 +162,9 @@ read_children-returns-clause-stays g t c = c.loop-child.invariant.stays
 
 pub read_children-returns-clause-below : goal.read_children-returns-clause-below
 read_children-returns-clause-below g t c = c.loop-child.invariant.below
+
+pub read_below-returns-in-Ok-clause-overlay : goal.read_below-returns-in-Ok-clause-overlay
+read_below-returns-in-Ok-clause-overlay g t c = c.read_in.ensures.overlay ∙ c.load_at.ensures.leaves.overlay
+
+pub read_below-returns-in-Err-clause-overlay : goal.read_below-returns-in-Err-clause-overlay
+read_below-returns-in-Err-clause-overlay g t c = c.load_at.ensures.leaves.overlay

@@ -40,19 +40,19 @@ pub returns-in-Err-read_in-clause-stays : goal.returns-in-Err-read_in-clause-sta
 returns-in-Err-read_in-clause-stays g c = stays-then c.load_root.ensures.stays c.read_in.ensures.stays
 
 pub returns-in-Err-read_in-clause-below : goal.returns-in-Err-read_in-clause-below
-returns-in-Err-read_in-clause-below g c = stays-then c.load_root.ensures.below c.read_in.ensures.below
+returns-in-Err-read_in-clause-below g c = stays-then c.load_root.ensures.leaves.below c.read_in.ensures.below
 
 pub returns-then-len-gt-MOST_BYTES-clause-stays : goal.returns-then-len-gt-MOST_BYTES-clause-stays
 returns-then-len-gt-MOST_BYTES-clause-stays g c = stays-then c.load_root.ensures.stays c.read_in.ensures.stays
 
 pub returns-then-len-gt-MOST_BYTES-clause-below : goal.returns-then-len-gt-MOST_BYTES-clause-below
-returns-then-len-gt-MOST_BYTES-clause-below g c = stays-then c.load_root.ensures.below c.read_in.ensures.below
+returns-then-len-gt-MOST_BYTES-clause-below g c = stays-then c.load_root.ensures.leaves.below c.read_in.ensures.below
 
 pub returns-clause-stays : goal.returns-clause-stays
 returns-clause-stays g c = stays-then c.load_root.ensures.stays c.read_in.ensures.stays
 
 pub returns-clause-below : goal.returns-clause-below
-returns-clause-below g c = stays-then c.load_root.ensures.below c.read_in.ensures.below
+returns-clause-below g c = stays-then c.load_root.ensures.leaves.below c.read_in.ensures.below
 
 pub returns-in-Err-clause-outcome : goal.returns-in-Err-clause-outcome
 returns-in-Err-clause-outcome g c = passed c.in-Err.ensures.outcome
@@ -67,4 +67,4 @@ pub returns-in-Err-clause-stays : goal.returns-in-Err-clause-stays
 returns-in-Err-clause-stays g c = c.load_root.ensures.stays
 
 pub returns-in-Err-clause-below : goal.returns-in-Err-clause-below
-returns-in-Err-clause-below g c = c.load_root.ensures.below
+returns-in-Err-clause-below g c = c.load_root.ensures.leaves.below

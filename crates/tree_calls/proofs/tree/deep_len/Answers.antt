@@ -1,7 +1,9 @@
+use Rattle.std.proofs.Common.{sym, subst}
 use Rattle.data_nodes.specs.Layout.{node_of}
 use Rattle.outcome.specs.Outcome.{then_, passed}
 use Rattle.store_api.specs.Txs.{tx_laws}
-use Rattle.data_tree.proofs.Forests.{below_on, below_root}
+use Rattle.data_tree.specs.Roots.{IsAtLevel}
+use Rattle.data_tree.proofs.Forests.{below_on, below_root, stays-then}
 use Rattle.data_tree.proofs.Puts.{on_any, unforged_before}
 use Rattle.tree_calls.proofs.tree.deep_len.Goals as goal
 
@@ -17,3 +19,11 @@ returns-in-Ok-clause-shallow g c s h =
 
 pub returns-in-Err-clause-outcome : goal.returns-in-Err-clause-outcome
 returns-in-Err-clause-outcome g c = passed c.in-Err.ensures.outcome
+
+pub returns-in-Ok-clause-below : goal.returns-in-Ok-clause-below
+returns-in-Ok-clause-below g c = stays-then c.load_root.ensures.leaves.below c.len_in.ensures.leaves.below
+
+pub len_in-requires-clause-at : goal.len_in-requires-clause-at
+len_in-requires-clause-at g c =
+    let same = sym c.load_root.ensures.stays.payload in
+    subst (λ p. IsAtLevel p (node_of c.in-Ok.node) c.in-Ok.level) same c.in-Ok.ensures.level

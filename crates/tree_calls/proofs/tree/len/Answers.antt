@@ -2,7 +2,7 @@
 use Rattle.std.proofs.Common.{◌∙◌, sym}
 use Rattle.outcome.specs.Outcome.{answered, passed, then_}
 use Rattle.store_api.specs.Txs.{tx_holdings, tx_laws}
-use Rattle.data_tree.proofs.Forests.{root_at}
+use Rattle.data_tree.proofs.Forests.{root_at, stays-then}
 use Rattle.data_tree.proofs.Heads.{leaf_shallow, lowest_len, root_head, shallow_since}
 use Rattle.tree_calls.proofs.tree.len.Goals as goal
 
@@ -29,3 +29,6 @@ returns-clause-shallow g c =
 
 pub returns-in-Err-clause-outcome : goal.returns-in-Err-clause-outcome
 returns-in-Err-clause-outcome g c = passed (root_head g.S.Blocks.meanings g.S.Blocks.holdings g.met.S.Blocks.steady c.in-Err.ensures.outcome)
+
+pub returns-clause-below : goal.returns-clause-below
+returns-clause-below g c = stays-then c.load_head.ensures.leaves.below c.deep_len.ensures.below

@@ -29,13 +29,13 @@ pub returns-in-Ok-read_in-clause-stays : goal.returns-in-Ok-read_in-clause-stays
 returns-in-Ok-read_in-clause-stays g c = stays-then c.load_root.ensures.stays c.read_in.ensures.stays
 
 pub returns-in-Ok-read_in-clause-below : goal.returns-in-Ok-read_in-clause-below
-returns-in-Ok-read_in-clause-below g c = stays-then c.load_root.ensures.below c.read_in.ensures.below
+returns-in-Ok-read_in-clause-below g c = stays-then c.load_root.ensures.leaves.below c.read_in.ensures.below
 
 pub returns-clause-stays : goal.returns-clause-stays
 returns-clause-stays g c = stays-then c.load_root.ensures.stays c.read_in.ensures.stays
 
 pub returns-clause-below : goal.returns-clause-below
-returns-clause-below g c = stays-then c.load_root.ensures.below c.read_in.ensures.below
+returns-clause-below g c = stays-then c.load_root.ensures.leaves.below c.read_in.ensures.below
 
 pub returns-in-Err-clause-outcome : goal.returns-in-Err-clause-outcome
 returns-in-Err-clause-outcome g c = passed c.in-Err.ensures.outcome

@@ -28,7 +28,7 @@ returns-clause-children g c =
     let all : c.extend_from_slice-2.new.self.items ≡ children ++ new =
     c.in_ok-extend_from_slice-2.ensures.items ∙ ap (λ xs. xs ++ c.deref.result.now) (c.in_ok-extend_from_slice.ensures.items ∙ ap (λ xs. xs ++ children) c.in_ok-all.ensures.items) ∙ ap (λ xs. children ++ xs) c.deref.ensures.value in
     let used : length taken ≤ c.args.places * c.args.level.room = omega (arith, length-take c.min-used.result c.args.bytes.now, c.min-used.ensures) in
-    let fewer : length new ≤ c.args.places = count_few (length new) c.args.level.room (length taken) c.args.places c.in_ok-new.ensures.under used in
+    let fewer : length new ≤ c.args.places = count_few (length new) c.args.level.room (length taken) c.args.places c.in_ok-new.ensures.count.under used in
     let sum : length c.extend_from_slice-2.new.self.items ≡ length children + length new = ap length all ∙ length-append children new in
     record {
       used = search rules;

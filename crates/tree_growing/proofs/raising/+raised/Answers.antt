@@ -9,6 +9,7 @@ use Rattle.data_tree.specs.Trees.{span}
 use Rattle.data_tree.proofs.Levels.{span-some}
 use Rattle.store_api.specs.Txs.{tx_holdings, tx_steady}
 use Rattle.data_tree.proofs.Puts.{keeps_same}
+use Rattle.data_tree.proofs.Leaving.{adds_then}
 use Rattle.tree_growing.specs.Growing.{Grown, MayGrow, Raised}
 use Rattle.tree_growing.proofs.Rising.{filled_up, no_ok, raise_more, risen}
 use Rattle.tree_growing.proofs.raising.+raised.Goals as goal
@@ -51,8 +52,8 @@ returns g t c =
     let least = steady.at_least a c.requires.intact in
     let deep : depth + 1 ≡ above = omega (arith, c.above-level.ensures.depth) in
     let built = c.in_ok-children.ensures.children.built in
-    let ab = keeps_same H0 a b c.put_new.ensures.store in
-    let bd = keeps_same H0 b d c.grown_children.ensures.store in
+    let ab = keeps_same H0 a b c.put_new.ensures.adds.store in
+    let bd = keeps_same H0 b d c.grown_children.ensures.adds.store in
     let payload : H.payload d ≡ H.payload a = bd.payload ∙ ab.payload in
     let fan : c.payload.result ≡ H.payload a = c.payload.ensures ∙ ab.payload in
     let fan2 : c.payload-2.result ≡ H.payload a = c.payload-2.ensures ∙ payload in
@@ -65,17 +66,16 @@ returns g t c =
     let z = c.raised.ensures in
     record {
       intact = z.intact;
-      store = z.store ∙ q.store ∙ p.store;
-      seed = z.seed ∙ q.seed ∙ p.seed;
+      adds = adds_then (adds_then p.adds q.adds) z.adds;
       raised = raise_more {H = H} {a = a} {c = d} {d = e} {node = node_of c.args.node} {up = up} {last = last} depth above c.args.n used more rest least deep (omega (arith, c.if-level-n.false, c.requires.level)) payload (omega (arith, full.0, c.requires.level, all))
           (λ less. omega (arith, full.1 less, c.requires.level, all)) fits
           (λ w t ids holds alone some full is.
           subst (λ cs. Grown H a d above (inner above cs) (w ++ t) ids) (sym built.1.0) (risen {H = H} {a = a} {b = b} {c = d} depth above first (node_of c.args.node) built.0 w t ids holds alone c.in_ok-first.ensures.new c.in_ok-first.ensures.sets ab bd some full (subst (λ x. BuiltTrees H b d depth built.0 x) (sym is) built.1.1) deep))
           (subst (λ xs. (m : MayGrow H d above up c.args.n (length xs)) → Raised H d e last (m.bytes ++ xs) m.ids × (more ≡ length xs)) cut c.in_ok-node.ensures.raised);
-      used = omega (arith, c.in_ok-node.ensures.used, length-drop used rest, fits);
-      fits = subst (λ n. FitsPayload n last) payload c.in_ok-node.ensures.fits;
-      there = λ id h. z.there id (q.there id (p.there id h));
-      kept = λ id h. z.kept id (q.there id (p.there id h)) ∙ q.kept id (p.there id h) ∙ p.kept id h;
+      took = record {
+        used = omega (arith, c.in_ok-node.ensures.took.used, length-drop used rest, fits);
+        fits = subst (λ n. FitsPayload n last) payload c.in_ok-node.ensures.took.fits;
+      };
     }
 
 pub returns-in_err-first : goal.returns-in_err-first
@@ -84,13 +84,9 @@ returns-in_err-first g t c =
     let none = c.from_residual.ensures.0 in
     record {
       intact = c.in_err-first.ensures.intact;
-      store = p.store;
-      seed = p.seed;
+      adds = p.adds;
       raised = no_ok c.from_residual.result _ none;
-      used = no_ok c.from_residual.result _ none;
-      fits = no_ok c.from_residual.result _ none;
-      there = p.there;
-      kept = p.kept;
+      took = no_ok c.from_residual.result _ none;
     }
 
 pub returns-in_err-children : goal.returns-in_err-children
@@ -100,13 +96,9 @@ returns-in_err-children g t c =
     let none = c.from_residual-in_err-children.ensures.0 in
     record {
       intact = q.intact;
-      store = q.store ∙ p.store;
-      seed = q.seed ∙ p.seed;
+      adds = adds_then p.adds q.adds;
       raised = no_ok c.from_residual-in_err-children.result _ none;
-      used = no_ok c.from_residual-in_err-children.result _ none;
-      fits = no_ok c.from_residual-in_err-children.result _ none;
-      there = λ id h. q.there id (p.there id h);
-      kept = λ id h. q.kept id (p.there id h) ∙ p.kept id h;
+      took = no_ok c.from_residual-in_err-children.result _ none;
     }
 
 pub returns-in_err-node : goal.returns-in_err-node
@@ -117,13 +109,9 @@ returns-in_err-node g t c =
     let none = c.from_residual-in_err-node.ensures.0 in
     record {
       intact = z.intact;
-      store = z.store ∙ q.store ∙ p.store;
-      seed = z.seed ∙ q.seed ∙ p.seed;
+      adds = adds_then (adds_then p.adds q.adds) z.adds;
       raised = no_ok c.from_residual-in_err-node.result _ none;
-      used = no_ok c.from_residual-in_err-node.result _ none;
-      fits = no_ok c.from_residual-in_err-node.result _ none;
-      there = λ id h. z.there id (q.there id (p.there id h));
-      kept = λ id h. z.kept id (q.there id (p.there id h)) ∙ q.kept id (p.there id h) ∙ p.kept id h;
+      took = no_ok c.from_residual-in_err-node.result _ none;
     }
 
 pub raised-requires : goal.raised-requires
@@ -132,7 +120,7 @@ raised-requires g t c =
     let items = c.in_ok-children.children.items in
     let up = c.above-level.result in
     let count = length-map items (λ (x : BlockId). x.0) in
-    let few = subst (λ p. length items ≤ fan_out p) (ap payload (sym c.grown_children.ensures.store)) c.in_ok-children.ensures.children.few in
+    let few = subst (λ p. length items ≤ fan_out p) (ap payload (sym c.grown_children.ensures.adds.store)) c.in_ok-children.ensures.children.few in
     let level : up.room ≡ span (payload c.grown_children.new.tx.store) up.depth = c.above-level.ensures.room ∙ ap (λ p. span p up.depth) c.payload-2.ensures in
     λ κs lives. (
       search rules,

@@ -39,7 +39,7 @@ returns-clause-outcome g c =
     let piece = c.split_at.result.0.now in
     let rest = c.split_at.result.1.now in
     let tail = c.deref.result.now in
-    let keeps = keeps_below H0 a d c.write_below.ensures.below in
+    let keeps = keeps_below H0 a d c.write_below.ensures.keeps.below in
     let piece_len : length piece ≡ inside = c.split_at.ensures.front_len in
     let rest_len : length rest ≡ length bytes - inside = ap length c.split_at.ensures.back ∙ length-drop inside bytes in
     let made : tail ≡ zeros c.saturating_sub-2.result ++ rest = c.deref.ensures.value ∙ c.in-Ok-after_zeros.ensures in
@@ -82,7 +82,7 @@ returns-in-Err-clause-grown g c n s h =
     let need : MayWrite H a depth root from (length piece) = record { tree = tree; inside = fits } in
     let only = c.write_below.ensures.only need s h in
     subst (λ k. Grew (H.payload a) (H.content a) (H.content d) k root from c.args.len a.overlay d.overlay) (sym n.same) (record {
-      stay = c.write_below.ensures.there;
+      stay = c.write_below.ensures.keeps.there;
       only = λ q there. range_only (H.payload a) (H.content a) depth root from (length piece) c.args.len a.overlay d.overlay q (λ some. omega (arith, fits some, n.long)) only;
     })
 
@@ -107,7 +107,7 @@ returns-in-Err-after_zeros-clause-grown g c n s h =
     let need : MayWrite H a depth root from (length piece) = record { tree = tree; inside = fits } in
     let only = c.write_below.ensures.only need s h in
     subst (λ k. Grew (H.payload a) (H.content a) (H.content d) k root from c.args.len a.overlay d.overlay) (sym n.same) (record {
-      stay = c.write_below.ensures.there;
+      stay = c.write_below.ensures.keeps.there;
       only = λ q there. range_only (H.payload a) (H.content a) depth root from (length piece) c.args.len a.overlay d.overlay q (λ some. omega (arith, fits some, n.long)) only;
     })
 
@@ -135,15 +135,15 @@ returns-clause-grown g c n s h =
     let loaded = laws.forgeries_grow a d c.write_below.ensures.outcome.loaded in
     let only = c.write_below.ensures.only need s before in
     let wrote = c.in-Ok.ensures.outcome.value need s before in
-    let keeps = keeps_below H0 a d c.write_below.ensures.below in
+    let keeps = keeps_below H0 a d c.write_below.ensures.keeps.below in
     let r = root_wrote depth n.tree n.same (sym (length-written from piece n.tree.bytes fits)) keeps wrote in
     let more = c.append.ensures.only r (c.write_below.ensures.outcome.sound s before) (omega (arith, h, loaded)) in
     subst (λ k. Grew (H.payload a) (H.content a) (H.content e) k root from c.args.len a.overlay e.overlay) (sym n.same) (record {
-      stay = λ q there. c.append.ensures.there q (c.write_below.ensures.there q there);
+      stay = λ q there. c.append.ensures.keeps.there q (c.write_below.ensures.keeps.there q there);
       only = λ q there. border_only a.overlay d.overlay e.overlay q (range_only (H.payload a) (H.content a) depth root from (length piece) c.args.len a.overlay d.overlay q (λ some. omega (arith, fits some, n.long)) only)
-          (elim (more q (c.write_below.ensures.there q there)) [
+          (elim (more q (c.write_below.ensures.keeps.there q there)) [
             | inl same ↦ inl same
-            | inr on ↦ inr (border_back H0 a d depth root from (length piece) q (steady.at_least a c.requires.intact) tree fits c.write_below.ensures.below only on)
+            | inr on ↦ inr (border_back H0 a d depth root from (length piece) q (steady.at_least a c.requires.intact) tree fits c.write_below.ensures.keeps.below only on)
           ]);
     })
 
@@ -155,13 +155,13 @@ returns-in-Err-after_zeros-clause-outcome g c =
     (λ n. record { tree = root_tree c.args.level.depth n.told n.tree n.same; inside = λ some. omega (arith, some, piece_len, c.saturating_sub.ensures, n.long) }) c.in-Ok.ensures.outcome (λ _ _ _. tt))
 
 pub returns-in-Err-clause-below : goal.returns-in-Err-clause-below
-returns-in-Err-clause-below g c = c.write_below.ensures.below
+returns-in-Err-clause-below g c = c.write_below.ensures.keeps.below
 
 pub returns-in-Err-after_zeros-clause-below : goal.returns-in-Err-after_zeros-clause-below
-returns-in-Err-after_zeros-clause-below g c = c.write_below.ensures.below
+returns-in-Err-after_zeros-clause-below g c = c.write_below.ensures.keeps.below
 
 pub returns-clause-below : goal.returns-clause-below
-returns-clause-below g c = stays-then c.write_below.ensures.below c.append.ensures.below
+returns-clause-below g c = stays-then c.write_below.ensures.keeps.below c.append.ensures.keeps.below
 
 pub split_at-requires : goal.split_at-requires
 split_at-requires g c = omega (arith, c.saturating_sub.ensures, c.requires.over)

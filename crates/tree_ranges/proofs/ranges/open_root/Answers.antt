@@ -1,7 +1,8 @@
-use Rattle.std.proofs.Common.{◌≡◌, true, length, sym, ap, subst, ◌∙◌}
-use Rattle.data_nodes.specs.Layout.{node_of, FitsPayload}
+use Rattle.std.proofs.Common.{◌≡◌, true, length, sym, subst}
+use Rattle.data_nodes.specs.Layout.{node_of}
 use Rattle.outcome.specs.Outcome.{then_, failed_, answered, passed}
-use Rattle.data_tree.specs.Trees.{span}
+use Rattle.data_tree.specs.Roots.{IsAtLevel}
+use Rattle.data_tree.proofs.Leaving.{leaves_then}
 use Rattle.store_api.specs.Txs.{tx_holdings, tx_laws}
 use Rattle.data_tree.proofs.Forests.{below_on, below_root, stays-then}
 use Rattle.data_tree.proofs.Puts.{unforged_before}
@@ -43,20 +44,17 @@ returns-in-Ok-len_in-clause-stays g c = stays-then c.load_root.ensures.stays c.l
 pub returns-in-Err-len_in-clause-stays : goal.returns-in-Err-len_in-clause-stays
 returns-in-Err-len_in-clause-stays g c = stays-then c.load_root.ensures.stays c.len_in.ensures.stays
 
-pub returns-in-Err-clause-below : goal.returns-in-Err-clause-below
-returns-in-Err-clause-below g c = c.load_root.ensures.below
+pub returns-in-Err-clause-leaves : goal.returns-in-Err-clause-leaves
+returns-in-Err-clause-leaves g c = c.load_root.ensures.leaves
 
-pub returns-in-Ok-len_in-clause-below : goal.returns-in-Ok-len_in-clause-below
-returns-in-Ok-len_in-clause-below g c = stays-then c.load_root.ensures.below c.len_in.ensures.below
+pub returns-in-Ok-len_in-clause-leaves : goal.returns-in-Ok-len_in-clause-leaves
+returns-in-Ok-len_in-clause-leaves g c = leaves_then c.load_root.ensures.leaves c.len_in.ensures.leaves
 
-pub returns-in-Err-len_in-clause-below : goal.returns-in-Err-len_in-clause-below
-returns-in-Err-len_in-clause-below g c = stays-then c.load_root.ensures.below c.len_in.ensures.below
+pub returns-in-Err-len_in-clause-leaves : goal.returns-in-Err-len_in-clause-leaves
+returns-in-Err-len_in-clause-leaves g c = leaves_then c.load_root.ensures.leaves c.len_in.ensures.leaves
 
 pub returns-in-Ok-len_in-clause-level : goal.returns-in-Ok-len_in-clause-level
 returns-in-Ok-len_in-clause-level g c = c.in-Ok.ensures.level
 
-pub len_in-requires-clause-level : goal.len_in-requires-clause-level
-len_in-requires-clause-level g c = c.in-Ok.ensures.level.room ∙ ap (λ p. span p c.in-Ok.found.1.depth) (sym c.load_root.ensures.stays.payload)
-
-pub len_in-requires-clause-fits : goal.len_in-requires-clause-fits
-len_in-requires-clause-fits g c = subst (λ p. FitsPayload p (node_of c.in-Ok.found.0)) (sym c.load_root.ensures.stays.payload) c.in-Ok.ensures.level.fits
+pub len_in-requires-clause-at : goal.len_in-requires-clause-at
+len_in-requires-clause-at g c = subst (λ p. IsAtLevel p (node_of c.in-Ok.found.0) c.in-Ok.found.1) (sym c.load_root.ensures.stays.payload) c.in-Ok.ensures.level

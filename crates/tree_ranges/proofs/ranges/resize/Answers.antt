@@ -4,15 +4,15 @@ use Rattle.std.proofs.lemmas.List.{take_all, length-replicate}
 use Rattle.block_id.specs.Contents.{resized, zeros}
 use Rattle.outcome.specs.Outcome.{answered, no_memory, passed, then_}
 use Rattle.data_nodes.specs.Layout.{node_of}
-use Rattle.data_tree.specs.Roots.{IsNewRoot}
+use Rattle.data_tree.specs.Roots.{IsAtLevel, IsNewRoot}
 use Rattle.data_tree.specs.Trees.{IsDepth, span}
-use Rattle.data_tree.proofs.Forests.{alone_root, below_on, below_root, stays-then}
+use Rattle.data_tree.proofs.Forests.{alone_root, below_on, below_root, root_at, stays-then}
 use Rattle.store_api.specs.Txs.{tx_holdings, tx_laws, tx_steady}
 use Rattle.data_tree.proofs.Puts.{keeps_below, on_any, unforged_before}
 use Rattle.tree_cutting.specs.Cutting.{OnlyBorder, MayCutNode}
 use Rattle.tree_ranges.proofs.Borders.{grew_nothing, grew_since}
 use Rattle.tree_cutting.proofs.Cuts.{cut_root_is, depth_least, on_ok_if}
-use Rattle.tree_ranges.proofs.Inside.{root_at, new_since, root_same}
+use Rattle.tree_ranges.proofs.Inside.{new_since, root_same}
 use Rattle.tree_ranges.proofs.ranges.resize.Goals as goal
 
 pub returns-then-n-len-clause-outcome : goal.returns-then-n-len-clause-outcome
@@ -34,7 +34,7 @@ returns-then-n-len-2-clause-outcome g c =
     let node = node_of c.in-Ok.found.0 in
     let own = c.in-Ok.found.1.depth in
     let depth = c.level_for-depth.result.depth in
-    let keeps = keeps_below H0 b d c.cut_root.ensures.below in
+    let keeps = keeps_below H0 b d c.cut_root.ensures.drops.below in
     let deep : IsDepth (H.payload d) depth n = subst (λ p. IsDepth p depth n) (c.payload.ensures ∙ sym keeps.payload) c.level_for-depth.ensures.deep in
     then_ laws c.in-Ok.ensures.outcome
     (λ r p. record { below = below_on stays (below_root node own p.0 r p.1.0 c.in-Ok.ensures.level.depth); apart = (alone_root r).0; fits = omega (arith, c.if-n-len-2.true, p.1.1) }) c.cut_root.ensures.outcome
@@ -62,7 +62,7 @@ cut_root-requires-clause-low g c =
     depth_least (H.payload b) c.level_for-depth.result.depth c.in-Ok.found.1.depth c.args.n (steady.at_least b c.open_root.ensures.outcome.intact) (subst (λ p. IsDepth p c.level_for-depth.result.depth c.args.n) c.payload.ensures c.level_for-depth.ensures.deep) (omega (arith, c.if-n-len-2.true, c.in-Ok.ensures.most, room))
 
 pub returns-then-n-len-2-clause-fewer : goal.returns-then-n-len-2-clause-fewer
-returns-then-n-len-2-clause-fewer g c r s h q there = sym (c.open_root.ensures.stays.ids q) ∙ c.cut_root.ensures.fewer q there
+returns-then-n-len-2-clause-fewer g c r s h q there = sym (c.open_root.ensures.stays.ids q) ∙ c.cut_root.ensures.drops.fewer q there
 
 pub returns-clause-fewer : goal.returns-clause-fewer
 returns-clause-fewer g c r s h q there =
@@ -77,7 +77,7 @@ returns-then-n-len-clause-shrank g c r s h =
     let stays = c.open_root.ensures.stays in
     let p = c.in-Ok.ensures.outcome.value r.tree s h in
     let deep : IsDepth (H.payload c.open_root.new.tx) r.tree.depth c.args.n = subst (λ k. IsDepth k r.tree.depth c.args.n) (sym stays.payload) (subst (IsDepth (H.payload c.args.tx.now) r.tree.depth) (omega (arith, c.if-n-len.true, p.1.1)) r.tree.deep) in
-    (r.tree.depth, (deep, record { fewer = λ q there. sym (stays.ids q) ∙ there; only = λ q there. inl (ap (λ m. get m q) c.open_root.ensures.overlay) }))
+    (r.tree.depth, (deep, record { fewer = λ q there. sym (stays.ids q) ∙ there; only = λ q there. inl (ap (λ m. get m q) c.open_root.ensures.leaves.overlay) }))
 
 pub returns-clause-shrank : goal.returns-clause-shrank
 returns-clause-shrank g c r s h =
@@ -101,14 +101,14 @@ returns-then-n-len-2-clause-shrank g c r s h =
     let node = node_of c.in-Ok.found.0 in
     let own = c.in-Ok.found.1.depth in
     let depth = c.level_for-depth.result.depth in
-    let keeps = keeps_below H0 b d c.cut_root.ensures.below in
+    let keeps = keeps_below H0 b d c.cut_root.ensures.drops.below in
     let deep : IsDepth (H.payload d) depth n = subst (λ p. IsDepth p depth n) (c.payload.ensures ∙ sym keeps.payload) c.level_for-depth.ensures.deep in
     let before = unforged_before laws a b d c.cut_root.ensures.outcome.loaded h in
     let loaded = laws.forgeries_grow a b c.open_root.ensures.outcome.loaded in
     let p = c.in-Ok.ensures.outcome.value r.tree s before in
     let need : MayCutNode H b own root node n = record { below = below_on stays (below_root node own p.0 r.tree p.1.0 c.in-Ok.ensures.level.depth); apart = (alone_root r.tree).0; fits = omega (arith, r.fits) } in
     on_ok_if c.cut_root.result
-    (λ y cut. (depth, (deep, record { fewer = λ q there. sym (stays.ids q) ∙ c.cut_root.ensures.fewer q there; only = subst (λ o. OnlyBorder (H.content d) depth root o d.overlay) c.open_root.ensures.overlay cut.1 })))
+    (λ y cut. (depth, (deep, record { fewer = λ q there. sym (stays.ids q) ∙ c.cut_root.ensures.drops.fewer q there; only = subst (λ o. OnlyBorder (H.content d) depth root o d.overlay) c.open_root.ensures.leaves.overlay cut.1 })))
     (c.cut_root.ensures.outcome.value need (c.open_root.ensures.outcome.sound s before) (omega (arith, h, loaded)))
 
 pub returns-clause-outcome : goal.returns-clause-outcome
@@ -134,21 +134,21 @@ returns-in-Err-clause-grown g c r s h =
     let H = tx_holdings g.S.Blocks.holdings in
     let a = c.args.tx.now in
     let b = c.open_root.new.tx in
-    grew_nothing {H = H} {a = a} {b = b} (H.payload a) r.tree.depth c.args.root.now.0 c.args.n (length r.tree.bytes) a.overlay b.overlay c.open_root.ensures.stays c.open_root.ensures.overlay
+    grew_nothing {H = H} {a = a} {b = b} (H.payload a) r.tree.depth c.args.root.now.0 c.args.n (length r.tree.bytes) a.overlay b.overlay c.open_root.ensures.stays c.open_root.ensures.leaves.overlay
 
 pub returns-in-Err-after_zeros-clause-grown : goal.returns-in-Err-after_zeros-clause-grown
 returns-in-Err-after_zeros-clause-grown g c r s h =
     let H = tx_holdings g.S.Blocks.holdings in
     let a = c.args.tx.now in
     let b = c.open_root.new.tx in
-    grew_nothing {H = H} {a = a} {b = b} (H.payload a) r.tree.depth c.args.root.now.0 c.args.n (length r.tree.bytes) a.overlay b.overlay c.open_root.ensures.stays c.open_root.ensures.overlay
+    grew_nothing {H = H} {a = a} {b = b} (H.payload a) r.tree.depth c.args.root.now.0 c.args.n (length r.tree.bytes) a.overlay b.overlay c.open_root.ensures.stays c.open_root.ensures.leaves.overlay
 
 pub returns-then-n-len-clause-grown : goal.returns-then-n-len-clause-grown
 returns-then-n-len-clause-grown g c r s h =
     let H = tx_holdings g.S.Blocks.holdings in
     let a = c.args.tx.now in
     let b = c.open_root.new.tx in
-    grew_nothing {H = H} {a = a} {b = b} (H.payload a) r.tree.depth c.args.root.now.0 c.args.n (length r.tree.bytes) a.overlay b.overlay c.open_root.ensures.stays c.open_root.ensures.overlay
+    grew_nothing {H = H} {a = a} {b = b} (H.payload a) r.tree.depth c.args.root.now.0 c.args.n (length r.tree.bytes) a.overlay b.overlay c.open_root.ensures.stays c.open_root.ensures.leaves.overlay
 
 pub returns-then-n-len-2-clause-grown : goal.returns-then-n-len-2-clause-grown
 returns-then-n-len-2-clause-grown g c r s h =
@@ -171,8 +171,8 @@ returns-clause-grown g c r s h =
     let loaded = laws.forgeries_grow a b c.open_root.ensures.outcome.loaded in
     let p = c.in-Ok.ensures.outcome.value r.tree s before in
     let only = c.append.ensures.only (root_at stays p.0 r.tree) (c.open_root.ensures.outcome.sound s before) (omega (arith, h, loaded)) in
-    grew_since {H = H} {a = a} {b = b} {c = e} r.tree.depth root c.args.n len a.overlay b.overlay e.overlay stays p.0 c.open_root.ensures.overlay (record {
-      stay = c.append.ensures.there;
+    grew_since {H = H} {a = a} {b = b} {c = e} r.tree.depth root c.args.n len a.overlay b.overlay e.overlay stays p.0 c.open_root.ensures.leaves.overlay (record {
+      stay = c.append.ensures.keeps.there;
       only = λ q there. elim (only q there) [ inl same ↦ inl same | inr on ↦ inr (inl on) ];
     })
 
@@ -195,22 +195,25 @@ pub returns-in-Err-clause-fewer : goal.returns-in-Err-clause-fewer
 returns-in-Err-clause-fewer g c n s h q there = sym (c.open_root.ensures.stays.ids q) ∙ there
 
 pub returns-in-Err-clause-below : goal.returns-in-Err-clause-below
-returns-in-Err-clause-below g c = c.open_root.ensures.below
+returns-in-Err-clause-below g c = c.open_root.ensures.leaves.below
 
 pub returns-in-Err-after_zeros-clause-fewer : goal.returns-in-Err-after_zeros-clause-fewer
 returns-in-Err-after_zeros-clause-fewer g c n s h q there = sym (c.open_root.ensures.stays.ids q) ∙ there
 
 pub returns-in-Err-after_zeros-clause-below : goal.returns-in-Err-after_zeros-clause-below
-returns-in-Err-after_zeros-clause-below g c = c.open_root.ensures.below
+returns-in-Err-after_zeros-clause-below g c = c.open_root.ensures.leaves.below
 
 pub returns-then-n-len-clause-fewer : goal.returns-then-n-len-clause-fewer
 returns-then-n-len-clause-fewer g c n s h q there = sym (c.open_root.ensures.stays.ids q) ∙ there
 
 pub returns-then-n-len-clause-below : goal.returns-then-n-len-clause-below
-returns-then-n-len-clause-below g c = c.open_root.ensures.below
+returns-then-n-len-clause-below g c = c.open_root.ensures.leaves.below
 
 pub returns-then-n-len-2-clause-below : goal.returns-then-n-len-2-clause-below
-returns-then-n-len-2-clause-below g c = stays-then c.open_root.ensures.below c.cut_root.ensures.below
+returns-then-n-len-2-clause-below g c = stays-then c.open_root.ensures.leaves.below c.cut_root.ensures.drops.below
 
 pub returns-clause-below : goal.returns-clause-below
-returns-clause-below g c = stays-then c.open_root.ensures.below c.append.ensures.below
+returns-clause-below g c = stays-then c.open_root.ensures.leaves.below c.append.ensures.keeps.below
+
+pub cut_root-requires-clause-at : goal.cut_root-requires-clause-at
+cut_root-requires-clause-at g c = subst (λ p. IsAtLevel p (node_of c.in-Ok.found.0) c.in-Ok.found.1) (sym c.open_root.ensures.stays.payload) c.in-Ok.ensures.level

@@ -8,4 +8,4 @@ returns-clause-outcome g c = replaced g.S.Blocks.meanings g.S.Blocks.holdings (Î
     c.args.self.now _ c.args.id.now.0 c.write_range.result c.write_range.ensures.outcome c.write_range.ensures.below
 
 pub returns-clause-sparing : goal.returns-clause-sparing
-returns-clause-sparing g c = sparing g.S.Blocks.meanings g.S.Blocks.holdings c.args.self.now (record { tx = c.write_range.new.tx }) c.args.id.now.0 c.args.from (length c.args.bytes.now) c.write_range.ensures.few
+returns-clause-sparing g c = sparing g.S.Blocks.meanings g.S.Blocks.holdings c.args.self.now (record { tx = c.write_range.new.tx }) c.args.id.now.0 c.args.from (length c.args.bytes.now) (Î» n s h. (c.write_range.ensures.inside n s h).few)
