@@ -1,12 +1,14 @@
 -- Payloads of blocks in memory, that of the block used last first.
-use Rattle.std.specs.Prelude.{◌≡◌, ◌⊎◌, ℕ, nat_eq, Bool, true, false, List, Vec, Option, Some, None, Ok, option_map, cond}
+use Rattle.std.specs.Prelude.{◌≡◌, ◌⊎◌, ℕ, nat_eq, Bool, true, false, List, Vec, Option, Some, None, Ok, option_map, cond, Result, OnOk, OnErr}
+use Rattle.std.specs.FinMap as fin
 use Rattle.std.specs.Map.{lookup}
 use Rattle.std.specs.Cmp.Lexicographic.{pointwise}
 use Rattle.std.specs.declared.alloc.Global.{Global}
 use Rattle.lru.specs.LruCache.{LruCache, lru_cache, promoted, put_entries}
 use Rattle.block_id.specs.declared.id.BlockId.{BlockId}
-use Rattle.store_api.specs.Content.{Id, same_id}
+use Rattle.store_api.specs.Content.{Id, Changes, same_id}
 use Rattle.store_api.specs.Loads.{LoadAnswer}
+use Rattle.store_api.specs.declared.blocks.ApplyError.{ApplyError}
 
 abbrev pub Payloads : Type 0
 Payloads = LruCache BlockId (Vec ℕ Global)
@@ -46,6 +48,13 @@ AfterFront cached id answer old new = new ≡ old
 abbrev pub Renewed : Option (Option (List ℕ)) → Option (List ℕ) → Option (List ℕ) → Type 0
 Renewed None old new = new ≡ old
 Renewed (Some change) old new = (new ≡ None) ⊎ (new ≡ change)
+
+-- What a batch of changes leaves of what is cached: what is cached for each id becomes what its change makes of it. Where none was
+-- made all is as it was.
+pub record AfterApply (result : Result Unit ApplyError) (changes : Changes) (old new : Payloads) : Type 0 where
+  pub renewed : OnOk result ((id : Id) → Renewed (fin.get changes id) (cached_for old id) (cached_for new id))
+  pub kept : OnErr result (new ≡ old)
+  pub capacity : new.cap ≡ old.cap
 
 -- the same of any id, where one was changed
 abbrev pub RenewedOne : Id → Option (List ℕ) → Payloads → Payloads → Id → Type 0

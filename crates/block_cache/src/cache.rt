@@ -1,21 +1,19 @@
 // A store of blocks with a cache.
 ghost use Rattle.std.specs.Prelude.{◌≡◌, ◌≤◌, ◌↔◌, [], OnOk, OnErr, IfOk, IfErr, IfSome, length, is_some, min};
 ghost use Rattle.std.specs.declared.result.Result.TheVariants.{Err};
-ghost use Rattle.std.specs.FinMap as fin;
 ghost use Rattle.outside.specs.Causes.{GetHasCause};
 ghost use Rattle.outside.specs.View.{bytes_of};
 ghost use Rattle.outcome.specs.Meanings.{IsOfBlocks};
 ghost use Rattle.outcome.specs.Outcome.{Outcome};
 ghost use Rattle.lru.specs.LruCache.{lru_cache};
 ghost use Rattle.store_api.specs.Applying.{Applies, AppliesNone, KeepsCounts};
-ghost use Rattle.store_api.specs.Content.{Id};
 ghost use Rattle.store_api.specs.Fronts.{front_of};
 ghost use Rattle.store_api.specs.Leaving.{StaysMeant, WritesList, WrittenRecords, ListsConfig, ConfigRecords, SetsLeast};
 ghost use Rattle.store_api.specs.Lists.{MayConfigure};
 ghost use Rattle.store_api.specs.Durables.{MayBeLeast};
 ghost use Rattle.store_api.specs.Holdings.{FitsStore, IsSpent, Stays};
 ghost use Rattle.store_api.specs.Loads.{answer_of};
-ghost use Rattle.block_cache.specs.Payloads.{AfterFront, AfterLoad, Renewed, cached_for};
+ghost use Rattle.block_cache.specs.Payloads.{AfterApply, AfterFront, AfterLoad, cached_for};
 ghost use Rattle.block_cache.specs.Through.{FrontPast, LoadsPast, meanings_past, holdings_past, loads_past, durables_past, lawful_past, steady_past, stays_past, enduring_past};
 
 use crate::payloads::{cache, renew_all};
@@ -200,9 +198,7 @@ impl<S: BlocksMut> BlocksMut for BlockCache<S> {
         ensures counts { KeepsCounts ⟦<BlockCache<S> as Blocks>⟧.meanings self.old self.new }
         ensures spent { (result ≡ Err ApplyError.Spent) ↔ IsSpent ⟦<BlockCache<S> as Blocks>⟧.holdings self.old batch.now }
 
-        ensures renewed { OnOk result ((id : Id) → Renewed (fin.get batch.now id) (cached_for self.old.cached id) (cached_for self.new.cached id)) }
-        ensures kept { OnErr result (self.new.cached ≡ self.old.cached) }
-        ensures capacity { self.new.cached.cap ≡ self.old.cached.cap }
+        ensures cached { AfterApply result batch.now self.old.cached self.new.cached }
     {
         match self.store.apply(alloc, batch, chance) {
             Ok(()) => {

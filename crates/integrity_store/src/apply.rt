@@ -1,5 +1,5 @@
 // A batch of changes, made in memory.
-ghost use Rattle.std.specs.Prelude.{◌≡◌, ◌≤◌, ◌<◌, ◌^◌, ◌↔◌, length, OnOk, OnErr};
+ghost use Rattle.std.specs.Prelude.{◌≡◌, ◌↔◌, length, OnOk, OnErr};
 ghost use Rattle.std.specs.declared.result.Result.TheVariants.{Err};
 ghost use Rattle.std.specs.List.{AllByRecursion};
 ghost use Rattle.sealed_store.specs.Stores.{IsIntact, block_size_of, key_of, cipher_of};
@@ -12,7 +12,7 @@ ghost use Rattle.batch_sealing.specs.Draws.{AreDrawn};
 ghost use Rattle.batch_sealing.specs.Raising.{count_new_in};
 ghost use Rattle.batch_sealing.specs.Sealing.{MaySeal, IsListed};
 ghost use Rattle.held_blocks.specs.StoreLaws.{settled_by};
-ghost use Rattle.integrity_store.specs.Views.{held_by};
+ghost use Rattle.integrity_store.specs.Views.{HasRoom, held_by};
 
 use crate::IntegrityStore;
 use batch_sealing::{count_new, draft_all, raise_or_bury_all, some_spent};
@@ -35,18 +35,18 @@ impl<V: Vault, C: Sealer> IntegrityStore<V, C> {
         requires may { AllByRecursion (MaySeal (held_by C.opens self.old)) (entries_of entries.now) }
         ensures intact { IsIntact (block_size_of self.new.sealed) (C.iv_size (cipher_of self.new.sealed)) }
         ensures vault { self.new.sealed.vault.vault ≡ self.old.sealed.vault.vault }
-        ensures room { OnOk result (count_new_in self.new.state.known.lives (entries_of entries.now) ≤ self.new.state.known.spare) }
+        ensures room { HasRoom result (count_new_in self.new.state.known.lives (entries_of entries.now))
+            self.new.state.known.spare (length self.new.sealed.vault.list) }
         ensures listed { OnOk result (IsListed (held_by C.opens self.old)
             (held_by C.opens self.new) (entries_of entries.now) (R.stream chance.old) (R.stream chance.new)) }
         ensures later { IsLater (R.stream chance.old) (R.stream chance.new) }
-        ensures few { OnOk result (length self.new.sealed.vault.list < 2 ^ 64) }
         ensures held { OnErr result (held_by C.opens self.new
             ≡ held_by C.opens self.old) }
     {
         let new_ids = count_new(&self.state.known, entries);
         self.state.known.reserve(new_ids)?;
         let changes = draft_all(alloc, &self.sealed, &self.state, entries, chance)?;
-        self.sealed.put_drafts(alloc, changes)
+        self.sealed.put_drafts(changes)
     }
 }
 

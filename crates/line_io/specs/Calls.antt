@@ -23,6 +23,12 @@ pub record NotesTruly {T : Type 0} (old new : Reading) (before after : Option (L
 
 -- ---- one read of a block
 
+-- the count of faults never falls, an error comes only where it rose, and every other answer leaves it
+pub record ReadTells {T : Type 0} (before now : ℕ) (result : Result T Failed) : Type 0 where
+  pub grows : before ≤ now
+  pub cause : OnErr result (RoseBy 1 before now)
+  pub quiet : OnOk result (now ≡ before)
+
 -- the bytes that it took are ahead, behind those that were, and after an error none is
 pub record BlockIsAhead {S : Type 0} (rest : S → Option (List ℕ)) (T : S → S → List ℕ → Type 0) (ahead now : List ℕ) (old new : S) (result : Result Bool Failed) : Type 0 where
   pub came : OnOk result (coming now (rest new) ≡ rest old)

@@ -4,9 +4,8 @@ ghost use Rattle.std.specs.declared.option.Option.{Option};
 ghost use Rattle.std.specs.declared.option.Option.TheVariants.{None, Some};
 ghost use Rattle.std.specs.Option.{option_copied};
 ghost use Rattle.std.specs.List.{position};
-ghost use Rattle.outside.specs.Causes.{RoseBy};
 ghost use Rattle.outside.specs.Streams.{WereTaken, Ends};
-ghost use Rattle.line_io.specs.Calls.{FaultsTell, NotesTruly, BlockIsAhead, BlockIsCounted, KeepsComing, ReadsOnce, IsOver, ShowsLine, ReadsAsNeeded, FillsPiece};
+ghost use Rattle.line_io.specs.Calls.{FaultsTell, NotesTruly, BlockIsAhead, BlockIsCounted, KeepsComing, ReadsOnce, IsOver, ShowsLine, ReadsAsNeeded, ReadTells, FillsPiece};
 ghost use Rattle.line_io.specs.Lines.{is_newline, IsUnbroken, kept_on};
 ghost use Rattle.line_io.specs.Reading.{Reading, fresh, coming, TookLine, remaining};
 
@@ -60,9 +59,7 @@ fn read_block<I: Source>(input: &mut I, block: &mut [u8], len: usize) -> Result<
     ensures took { IfOk result (λ n. I.took input.old input.new (take n block.new)) }
     ensures end { IfOk result (λ n. n ≡ 0 → 0 < len → Ends (I.rest input.old)) }
     ensures err { OnErr result (I.rest input.new ≡ I.rest input.old) }
-    ensures grows { I.faults input.old ≤ I.faults input.new }
-    ensures cause { OnErr result (RoseBy 1 (I.faults input.old) (I.faults input.new)) }
-    ensures quiet { OnOk result (I.faults input.new ≡ I.faults input.old) }
+    ensures faults { ReadTells (I.faults input.old) (I.faults input.new) result }
 {
     input.read(&mut block[..len])
 }

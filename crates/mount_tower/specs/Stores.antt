@@ -5,6 +5,8 @@ use Rattle.outside.specs.Changes.{FileChanges}
 use Rattle.outside.specs.Trace.{Call}
 use Rattle.local_state.specs.Record.{PlainState}
 use Rattle.store_api.specs.Holdings.{IsFew}
+use Rattle.held_blocks.specs.Held.{Held}
+use Rattle.integrity_store.specs.Made.{IsMadeOf}
 use Rattle.config_file.specs.Settings.{Settings, settings_of}
 use Rattle.config_file.specs.declared.config.Opened.{Opened}
 use Rattle.mount_tower.specs.Failing.{TellsFault}
@@ -18,6 +20,11 @@ use Rattle.mount_tower.specs.declared.error.OpenError.TheVariants.{FaultDirector
 pub record ComesBack {V : Type 0} (calls : V → Option (List Call)) (failed : V → ℕ) (vault back : V) : Type 0 where
   pub trace : calls back ≡ calls vault
   pub faults : failed back ≡ failed vault
+
+-- a store over this directory that holds just this
+pub record HoldsAll {V : Type 0} (trace : V → Option (List Call)) (faults : V → ℕ) (h : Held) (vault : V) (store : Cached V) : Type 0 where
+  pub made : IsMadeOf (tower_meanings trace faults) (tower_holdings trace) (tower_durables trace) h (trace vault) (faults vault) store
+  pub state : (held_in store).state ≡ h.state
 
 -- a store that was opened by a record of this state and list, under this configuration, where so many calls had failed
 pub record IsOpenedStore {V : Type 0} (trace : V → Option (List Call)) (faults : V → ℕ) (state : PlainState) (list : FileChanges) (c : Settings) (failed : ℕ) (store : Cached V) : Type 0 where

@@ -8,10 +8,10 @@ ghost use Rattle.sealed_store.specs.Stores.{IsIntact, block_size_of};
 ghost use Rattle.held_blocks.specs.Standing.{records};
 ghost use Rattle.held_blocks.specs.Stores.{IsNoBlock};
 ghost use Rattle.held_blocks.specs.Views.{held_of};
-ghost use Rattle.integrity_store.specs.Made.{IsMadeOf, IsSoundAs};
+ghost use Rattle.integrity_store.specs.Made.{IsSoundAs};
 ghost use Rattle.aes_gcm.specs.Gcm.{opened_of};
-ghost use Rattle.mount_tower.specs.Stores.{ComesBack};
-ghost use Rattle.mount_tower.specs.Tower.{held_in, vault_in, trace_in, tower_meanings, tower_holdings, tower_durables};
+ghost use Rattle.mount_tower.specs.Stores.{ComesBack, HoldsAll};
+ghost use Rattle.mount_tower.specs.Tower.{vault_in, trace_in, tower_meanings, tower_holdings, tower_durables};
 
 use block_cache::BlockCache;
 use config_file::Cipher;
@@ -51,9 +51,8 @@ pub(crate) fn cached_store<V: Vault>(
     requires config { IsNoBlock (change_at config sealed.vault.list) }
     ensures intact { IfOk result (λ store. (tower_meanings V.trace V.faults).intact store) }
     ensures few { IfOk result (λ store. IsFew ((tower_holdings V.trace).used store)) }
-    ensures made { IfOk result (λ store. IsMadeOf (tower_meanings V.trace V.faults) (tower_holdings V.trace) (tower_durables V.trace)
-        (held_of (λ cipher key extra text. opened_of key extra text) sealed state) (V.trace sealed.vault.vault) (V.faults sealed.vault.vault) store) }
-    ensures state { IfOk result (λ store. (held_in store).state ≡ plain_state state) }
+    ensures holds { IfOk result (λ store. HoldsAll V.trace V.faults
+        (held_of (λ cipher key extra text. opened_of key extra text) sealed state) sealed.vault.vault store) }
     ensures sound { IfOk result (λ store. IsSoundAs (tower_meanings V.trace V.faults) (tower_holdings V.trace) (tower_durables V.trace) records
         (held_of (λ cipher key extra text. opened_of key extra text) sealed state) store) }
     ensures back { IfErr result (λ vault. ComesBack V.trace V.faults sealed.vault.vault vault) }

@@ -36,3 +36,8 @@ sum_with removal list = min (sum_by (λ change. len_with removal change.1) list)
 -- what a list weighs: the bytes that it puts, and 64 for each removal, up to the end of the type
 abbrev pub weight_len : FileChanges → ℕ
 weight_len list = sum_with 64 list
+
+-- these are the bytes that a list puts and its weight
+pub record AreSums (sums : ℕ × ℕ) (list : FileChanges) : Type 0 where
+  pub buffered : sums.0 ≡ sum_with 0 list
+  pub weight : sums.1 ≡ sum_with 64 list

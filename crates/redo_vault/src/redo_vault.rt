@@ -7,7 +7,7 @@ ghost use Rattle.outside.specs.Causes.{GetHasCause};
 ghost use Rattle.outside.specs.Trace.{adds};
 ghost use Rattle.outside.specs.Changes.{FileChanges, IsIncreasing, change_at, set_change, set_changes};
 ghost use Rattle.outside.specs.View.{at_of, bytes_of, change_of, list_of, pending_of};
-ghost use Rattle.redo_vault.specs.Redo.{Gave, buffered_len, len_with, sum_with, weight_len};
+ghost use Rattle.redo_vault.specs.Redo.{AreSums, Gave, buffered_len, len_with, sum_with, weight_len};
 ghost use Rattle.outside.specs.Writes.{call_for, after_writes, StopsAt};
 
 use outside::{Change, FileName, GetFail, Memory, Pending, Vault};
@@ -142,11 +142,9 @@ fn sum_after(list: &[Pending], sum: usize, old: usize, new: usize, removal: usiz
 fn set_one(list: &mut Vec<Pending>, sums: (usize, usize), change: Pending) -> (usize, usize)
     requires increasing { IsIncreasing (list_of list.old.items) }
     requires room { vec_len list.old < vec_capacity list.old }
-    requires buffered { sums.0 ≡ sum_with 0 (list_of list.old.items) }
-    requires weight { sums.1 ≡ sum_with 64 (list_of list.old.items) }
+    requires sums { AreSums sums (list_of list.old.items) }
     ensures items { list_of list.new.items ≡ set_change (at_of change.name) (change_of change.change) (list_of list.old.items) }
-    ensures buffered { result.0 ≡ sum_with 0 (list_of list.new.items) }
-    ensures weight { result.1 ≡ sum_with 64 (list_of list.new.items) }
+    ensures sums { AreSums result (list_of list.new.items) }
     ensures len { vec_len list.new ≤ vec_len list.old + 1 }
     ensures capacity { vec_capacity list.old ≤ vec_capacity list.new }
 {
@@ -164,11 +162,9 @@ fn set_one(list: &mut Vec<Pending>, sums: (usize, usize), change: Pending) -> (u
 fn set_all(list: &mut Vec<Pending>, sums: (usize, usize), changes: Vec<Pending>) -> (usize, usize)
     requires increasing { IsIncreasing (list_of list.old.items) }
     requires room { vec_len list.old + vec_len changes ≤ vec_capacity list.old }
-    requires buffered { sums.0 ≡ sum_with 0 (list_of list.old.items) }
-    requires weight { sums.1 ≡ sum_with 64 (list_of list.old.items) }
+    requires sums { AreSums sums (list_of list.old.items) }
     ensures items { list_of list.new.items ≡ set_changes (list_of changes.items) (list_of list.old.items) }
-    ensures buffered { result.0 ≡ sum_with 0 (list_of list.new.items) }
-    ensures weight { result.1 ≡ sum_with 64 (list_of list.new.items) }
+    ensures sums { AreSums result (list_of list.new.items) }
 {
     let mut now = sums;
     for change in changes {
@@ -184,12 +180,10 @@ fn put_changes(
     changes: Vec<Pending>,
 ) -> Result<(usize, usize), Memory>
     requires increasing { IsIncreasing (list_of list.old.items) }
-    requires buffered { sums.0 ≡ sum_with 0 (list_of list.old.items) }
-    requires weight { sums.1 ≡ sum_with 64 (list_of list.old.items) }
+    requires sums { AreSums sums (list_of list.old.items) }
     ensures ok { OnOk result (list_of list.new.items ≡ set_changes (list_of changes.items) (list_of list.old.items)) }
     ensures err { OnErr result (list_of list.new.items ≡ list_of list.old.items) }
-    ensures buffered { IfOk result (λ now. now.0 ≡ sum_with 0 (list_of list.new.items)) }
-    ensures weight { IfOk result (λ now. now.1 ≡ sum_with 64 (list_of list.new.items)) }
+    ensures sums { IfOk result (λ now. AreSums now (list_of list.new.items)) }
 {
     if changes.len() > FEW && pending_list::is_in_order(&changes) {
         pending_list::merge(list, changes)?;

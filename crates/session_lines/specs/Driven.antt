@@ -1,5 +1,5 @@
 -- What a session did, from its first line to its end.
-use Rattle.std.specs.Prelude.{◌≡◌, ◌⊎◌, ◌<◌, ℕ, ◌^◌, true, List, length}
+use Rattle.std.specs.Prelude.{◌≡◌, ◌⊎◌, ◌<◌, ◌≤◌, ℕ, ◌^◌, true, List, length}
 use Rattle.std.specs.declared.option.Option.{Option}
 use Rattle.fs_model.specs.Instant.{Instant}
 use Rattle.outside.specs.Streams.{appends, Ends}
@@ -18,6 +18,11 @@ use Rattle.session_lines.specs.Asking.{said_in, AskedFirst, AskedAll, AskedTaken
 -- no call failed
 abbrev pub IsUnfailed : Stream → Type 0
 IsUnfailed s = s.risen ≡ s.faults
+
+-- the count of faults of neither falls
+pub record NeitherFalls (input output : Stream) : Type 0 where
+  pub input_grows : input.faults ≤ input.risen
+  pub output_grows : output.faults ≤ output.risen
 
 -- the input was read to its end, all its lines were answered, and all answers were written
 pub record IsWholeSession (coming : Option (List ℕ)) (input output : Stream) (es : List Exchange) : Type 0 where

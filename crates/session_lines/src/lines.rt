@@ -1,9 +1,9 @@
 // The lines of an input, each answered into an output before the next is taken.
-ghost use Rattle.std.specs.Prelude.{◌≡◌, ◌≤◌, true, IfNone, IfSome};
+ghost use Rattle.std.specs.Prelude.{◌≡◌, ◌≤◌, true, IfNone, MatchOption};
 ghost use Rattle.outside.specs.Streams.{appends, Ends};
 ghost use Rattle.line_io.specs.Reading.{coming, total};
 ghost use Rattle.line_io.specs.Streams.{stream_of};
-ghost use Rattle.session_lines.specs.Driven.{Took, Stopped, IsNearer, Served};
+ghost use Rattle.session_lines.specs.Driven.{Took, Stopped, IsNearer, NeitherFalls, Served};
 
 use crate::end::End;
 use crate::tell::tell_line;
@@ -27,14 +27,17 @@ fn answer_next<H: Host, I: Source, O: Sink>(
     requires ready { H.hosting.ready host.old }
     requires ended { reader.old.ended ≡ true → Ends (coming reader.old.ahead (I.rest input.old)) }
     ensures ready { H.hosting.ready host.new }
-    ensures took { IfNone result (Took H.hosting now host.old host.new (coming reader.old.ahead (I.rest input.old)) (coming reader.new.ahead (I.rest input.new)) text.new
-        (stream_of I.rest I.faults input.old input.new) (stream_of O.written O.faults output.old output.new)) }
-    ensures stopped { IfSome result (λ end. Stopped H.hosting now host.old host.new (coming reader.old.ahead (I.rest input.old)) (coming reader.new.ahead (I.rest input.new))
-        reader.new.taken (stream_of I.rest I.faults input.old input.new) (stream_of O.written O.faults output.old output.new) text.new end) }
+    ensures turn { MatchOption result
+        (Took H.hosting now host.old host.new (coming reader.old.ahead (I.rest input.old))
+        (coming reader.new.ahead (I.rest input.new)) text.new
+        (stream_of I.rest I.faults input.old input.new) (stream_of O.written O.faults output.old output.new))
+        (λ end. Stopped H.hosting now host.old host.new (coming reader.old.ahead (I.rest input.old))
+        (coming reader.new.ahead (I.rest input.new)) reader.new.taken
+        (stream_of I.rest I.faults input.old input.new) (stream_of O.written O.faults output.old output.new) text.new end) }
     ensures nearer { IfNone result (IsNearer reader.old reader.new (I.rest input.new)) }
     ensures counted { total reader.new.taken (I.rest input.new) ≡ total reader.old.taken (I.rest input.old) }
-    ensures input_grows { I.faults input.old ≤ I.faults input.new }
-    ensures output_grows { O.faults output.old ≤ O.faults output.new }
+    ensures grows { NeitherFalls (stream_of I.rest I.faults input.old input.new)
+        (stream_of O.written O.faults output.old output.new) }
     ensures chance { H.hosting.chance host.new ≡ H.hosting.chance host.old }
 {
     match reader.next_line(input) {

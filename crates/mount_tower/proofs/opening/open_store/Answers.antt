@@ -89,12 +89,12 @@ returns-in-Ok-cached_store-clause-store g c =
     record {
       intact = e.intact;
       few = e.few;
-      waits = e.made.list ∙ (ap list c.new-sealed.ensures.vault ∙ (c.read_config.ensures.list ∙ ap list c.new-redo.ensures));
-      holds = e.state;
-      identity = e.made.identity
+      waits = e.holds.made.list ∙ (ap list c.new-sealed.ensures.vault ∙ (c.read_config.ensures.list ∙ ap list c.new-redo.ensures));
+      holds = e.holds.state;
+      identity = e.holds.made.identity
           ∙ identity_is (held_of (λ (cipher : Cipher) key extra text. opened_of key extra text) c.new-sealed.result c.args.state) (settings_of c.in-Ok.opened.config) (plain_state c.args.state) c.new-sealed.ensures.size
           (ap opened_of c.new-sealed.ensures.key) refl c.requires.unmarked c.in-Ok-check_identity.ensures.ok;
-      unfailed = e.made.faults ∙ (ap faults c.new-sealed.ensures.vault ∙ (c.in-Ok.ensures.quiet (λ is. ok_err c.in-Ok.opened _ is) ∙ ap faults c.new-redo.ensures));
+      unfailed = e.holds.made.faults ∙ (ap faults c.new-sealed.ensures.vault ∙ (c.in-Ok.ensures.quiet (λ is. ok_err c.in-Ok.opened _ is) ∙ ap faults c.new-redo.ensures));
     }
 
 pub returns-in-Ok-cached_store-clause-found : goal.returns-in-Ok-cached_store-clause-found
@@ -103,7 +103,7 @@ returns-in-Ok-cached_store-clause-found g c =
     let o = c.in-Ok.opened in
     let state = plain_state c.args.state in
     let P = λ (x : RedoOf g) (t : Option (List Call)). FindsConfig c.args.password.now state x.list (trace x) t o in
-    subst (λ t. P (record { vault = c.args.vault; list = list_of c.args.list.items }) t) (sym (c.in-Ok-cached_store.ensures.made.trace ∙ ap trace c.new-sealed.ensures.vault))
+    subst (λ t. P (record { vault = c.args.vault; list = list_of c.args.list.items }) t) (sym (c.in-Ok-cached_store.ensures.holds.made.trace ∙ ap trace c.new-sealed.ensures.vault))
     (subst (λ x. P x (trace c.read_config.new.vault)) c.new-redo.ensures (record { found = c.in-Ok.ensures.ok; is_of = c.in-Ok-check_identity.ensures.ok; reads = c.read_config.ensures.reads }))
 
 pub returns-in-Ok-cached_store-clause-stands : goal.returns-in-Ok-cached_store-clause-stands
@@ -121,3 +121,6 @@ returns-in-Ok-cached_store-clause-stands g c holder content kept is s =
     let waits : c.new-sealed.result.vault.list ≡ list = ap (λ (x : RedoOf g). x.list) c.new-sealed.ensures.vault ∙ (c.read_config.ensures.list ∙ ap (λ (x : RedoOf g). x.list) c.new-redo.ensures) in
     c.in-Ok-cached_store.ensures.sound.opened content kept (subst (λ l. IsRecord state l kept) (sym waits) is)
     (subst (λ i. Stands i kept t content) (sym (returns-in-Ok-cached_store-clause-store g c).identity) s2)
+
+pub returns-in-Ok-cached_store-clause-version : goal.returns-in-Ok-cached_store-clause-version
+returns-in-Ok-cached_store-clause-version g c id = c.in-Ok-cached_store.ensures.holds.made.version id

@@ -13,26 +13,25 @@ use Rattle.mount_tower.proofs.tower.cached_store.Goals as goal
 abbrev StoreOf : Over → Type 0
 StoreOf g = IntegrityStore g.row.V.Denot Cipher
 
-pub returns-in-Ok-clause-state : goal.returns-in-Ok-clause-state
-returns-in-Ok-clause-state g c =
-    let below = c.new.result in
-    ap (λ (s : StoreOf g). (sealed_held s).state) c.in-Ok.ensures.store
-    ∙ state_is (sealed_held below) (plain_state c.args.state) c.args.sealed.vault.list c.new.ensures.intact.0.has_record c.requires.state (c.new.ensures.recorded.written true)
-
-pub returns-in-Ok-clause-made : goal.returns-in-Ok-clause-made
-returns-in-Ok-clause-made g c =
+pub returns-in-Ok-clause-holds : goal.returns-in-Ok-clause-holds
+returns-in-Ok-clause-holds g c =
     let trace = g.V.Vault.trace in
     let same = c.in-Ok.ensures.store in
+    let new = c.new.result in
     let below = c.new.ensures.made in
     record {
-      used = ap (λ (s : StoreOf g). (sealed_holdings trace).used s) same ∙ below.used;
-      version = λ id. ap (λ (s : StoreOf g). (sealed_holdings trace).version s id) same ∙ below.version id;
-      payload = ap (λ (s : StoreOf g). (sealed_holdings trace).payload s) same ∙ below.payload;
-      identity = ap (λ (s : StoreOf g). (sealed_durables trace).identity s) same ∙ below.identity;
-      least = ap (λ (s : StoreOf g). (sealed_durables trace).least s) same ∙ below.least;
-      list = ap (λ (s : StoreOf g). (sealed_durables trace).list s) same ∙ below.list;
-      trace = ap (λ (s : StoreOf g). sealed_trace trace s) same ∙ below.trace;
-      faults = ap (λ (s : StoreOf g). g.V.Vault.faults s.sealed.vault.vault) same ∙ below.faults;
+      made = record {
+        used = ap (λ (s : StoreOf g). (sealed_holdings trace).used s) same ∙ below.used;
+        version = λ id. ap (λ (s : StoreOf g). (sealed_holdings trace).version s id) same ∙ below.version id;
+        payload = ap (λ (s : StoreOf g). (sealed_holdings trace).payload s) same ∙ below.payload;
+        identity = ap (λ (s : StoreOf g). (sealed_durables trace).identity s) same ∙ below.identity;
+        least = ap (λ (s : StoreOf g). (sealed_durables trace).least s) same ∙ below.least;
+        list = ap (λ (s : StoreOf g). (sealed_durables trace).list s) same ∙ below.list;
+        trace = ap (λ (s : StoreOf g). sealed_trace trace s) same ∙ below.trace;
+        faults = ap (λ (s : StoreOf g). g.V.Vault.faults s.sealed.vault.vault) same ∙ below.faults;
+      };
+      state = ap (λ (s : StoreOf g). (sealed_held s).state) same
+          ∙ state_is (sealed_held new) (plain_state c.args.state) c.args.sealed.vault.list c.new.ensures.intact.0.has_record c.requires.state (c.new.ensures.recorded.written true);
     }
 
 pub returns-in-Ok-clause-sound : goal.returns-in-Ok-clause-sound

@@ -18,7 +18,6 @@ loop-change-preserved c =
           ∙ set_more c.args.changes.items (length c.loop-change.yielded) c.in-Some.change (list_of c.loop-change.list.items) (list_of c.set_one-now.new.list.items) (set_changes (list_of c.args.changes.items) (list_of c.args.list.now.items))
           turn.0 turn.1 c.loop-change.invariant.set c.set_one-now.ensures.items;
       increasing = subst IsIncreasing (sym c.set_one-now.ensures.items) (IsIncreasing-set_change (at_of c.in-Some.change.name) (change_of c.in-Some.change.change) (list_of c.loop-change.list.items) c.loop-change.invariant.increasing);
-      buffered = c.set_one-now.ensures.buffered;
-      weight = c.set_one-now.ensures.weight;
+      sums = c.set_one-now.ensures.sums;
       room = omega (arith, more, turn.0, c.loop-change.invariant.room, c.set_one-now.ensures.len, c.set_one-now.ensures.capacity);
     }

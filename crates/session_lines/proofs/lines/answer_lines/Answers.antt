@@ -20,11 +20,11 @@ turns-preserved g c =
     let a = c.in-None.ensures in
     record {
       ready = a.ready;
-      turned = turned_more g.H.Host.hosting c.args.now _ _ _ _ _ _ (g.I.Source.rest c.turns.input) (g.I.Source.rest c.answer_next.new.input) _ _ _ _ _ _ _ _ _ i.turned.0 c.answer_next.new.text i.turned.1 a.took;
+      turned = turned_more g.H.Host.hosting c.args.now _ _ _ _ _ _ (g.I.Source.rest c.turns.input) (g.I.Source.rest c.answer_next.new.input) _ _ _ _ _ _ _ _ _ i.turned.0 c.answer_next.new.text i.turned.1 a.turn;
       ended = a.nearer.ended;
       counted = a.counted ∙ i.counted;
-      input = omega (arith, i.input, a.input_grows);
-      output = omega (arith, i.output, a.output_grows);
+      input = omega (arith, i.input, a.grows.input_grows);
+      output = omega (arith, i.output, a.grows.output_grows);
       chance = a.chance ∙ i.chance;
     }
 
@@ -45,4 +45,4 @@ returns-in-Some-clause-served g c =
     (written c.args.output.now) (written c.turns.output) (written new.output)
     (g.I.Source.faults c.args.input.now) (g.I.Source.faults c.turns.input) (g.I.Source.faults new.input)
     (g.O.Sink.faults c.args.output.now) (g.O.Sink.faults c.turns.output) (g.O.Sink.faults new.output)
-    i.turned.0 new.text c.in-Some.end i.turned.1 a.stopped a.counted i.counted
+    i.turned.0 new.text c.in-Some.end i.turned.1 a.turn a.counted i.counted

@@ -18,9 +18,7 @@ returns-in-Err g c =
       err = record { nothing = none.nothing; loaded = none.loaded; sound = λ sound. (none.sound sound.0, agree-stays M H g.met.S.Blocks.steady s t p stays sound); later = none.later };
       counts = record { forgeries = e.counts.forgeries; lies = e.counts.lies; faults = e.counts.faults };
       spent = e.spent;
-      renewed = tt;
-      kept = refl {a = p};
-      capacity = refl {a = p.cap};
+      cached = record { renewed = tt; kept = refl {a = p}; capacity = refl {a = p.cap} };
     }
 
 pub returns-in-Ok : goal.returns-in-Ok
@@ -41,7 +39,5 @@ returns-in-Ok g c =
       err = tt;
       counts = record { forgeries = e.counts.forgeries; lies = e.counts.lies; faults = e.counts.faults };
       spent = e.spent;
-      renewed = renewed;
-      kept = tt;
-      capacity = c.renew_all.ensures.capacity;
+      cached = record { renewed = renewed; kept = tt; capacity = c.renew_all.ensures.capacity };
     }

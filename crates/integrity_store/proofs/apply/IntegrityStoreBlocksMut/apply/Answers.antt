@@ -91,7 +91,7 @@ pub raise_or_bury_all-requires-clause-may : goal.raise_or_bury_all-requires-clau
 raise_or_bury_all-requires-clause-may g c = may_come_listed (listed g c)
 
 pub raise_or_bury_all-requires-clause-room : goal.raise_or_bury_all-requires-clause-room
-raise_or_bury_all-requires-clause-room g c = room (listed g c) c.put_drafts.new.self.state.known.spare c.in-Ok.ensures.room
+raise_or_bury_all-requires-clause-room g c = room (listed g c) c.put_drafts.new.self.state.known.spare c.in-Ok.ensures.room.ids
 
 -- ---- what is returned after Ok
 
@@ -116,7 +116,7 @@ marked g c = record {
   few = omega (arith, c.len-used.ensures.len, c.len-used.ensures.bound);
   rises = subst IsIncreasing (sym (ap (λ h. h.list) c.in-Ok.ensures.listed.held))
       (IsIncreasing-set_changes c.in-Ok.ensures.listed.changes (held g c.args.self.now).list (in_order (held g c.args.self.now).state (held g c.args.self.now).list c.requires.intact.0.has_record));
-  count = c.in-Ok.ensures.few;
+  count = c.in-Ok.ensures.room.waiting;
 }
 
 pub returns-in-Ok-clause-intact : goal.returns-in-Ok-clause-intact
