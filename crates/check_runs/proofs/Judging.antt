@@ -27,7 +27,7 @@ use Rattle.outside.specs.Trace.{Call}
 use Rattle.outside.specs.declared.keeper.Keeper.{Ghosts as KeeperGhosts}
 use Rattle.store_api.specs.Content.{Id}
 use Rattle.store_api.specs.Holdings.{Stays}
-use Rattle.tree_commands.specs.Showing.{ShowsFiles}
+use Rattle.mount_core.specs.Showing.{ShowsFiles}
 use Rattle.check_runs.specs.Judging.{is_bad, read_by, IsJudged, Judges}
 use Rattle.check_runs.proofs.Reading.{asked_once, refuted, proven}
 

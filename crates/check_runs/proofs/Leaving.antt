@@ -18,7 +18,7 @@ use Rattle.run_status.specs.Statuses.{first_of}
 use Rattle.session_lines.specs.Driven.{IsUnfailed}
 use Rattle.session_runs.specs.Openings.{HasCauses, StayOpen}
 use Rattle.session_runs.specs.Runs.{Outside, outside_of, IsExaminedRun, PasswordOpens}
-use Rattle.tree_commands.specs.Showing.{ShowsFiles}
+use Rattle.mount_core.specs.Showing.{ShowsFiles}
 use Rattle.check_rules.specs.Certificates.{Owners}
 use Rattle.check_texts.specs.Telling.{AreOwnersTold, IsTold, ListsAfter}
 use Rattle.check_runs.specs.Judging.{is_bad}

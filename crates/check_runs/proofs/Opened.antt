@@ -29,7 +29,7 @@ use Rattle.session_saver.specs.Saving.{KeptConfigures}
 use Rattle.session_saver.specs.declared.saver.Saver.{Saver}
 use Rattle.store_api.specs.Durables.{Identity}
 use Rattle.store_api.specs.Holdings.{Stays}
-use Rattle.tree_commands.specs.Showing.{ShowsFiles}
+use Rattle.mount_core.specs.Showing.{ShowsFiles}
 use Rattle.check_runs.specs.Judging.{held_for}
 
 module _ {V : Type 0} {K : Type 0} (trace : V → Option (List Call)) (faults : V → ℕ) (G : KeeperGhosts K) (password : List ℕ) (vault : V) (keeper : K) (first : Mount V K) (b : Begun ShowsFiles trace faults G password vault keeper first) where

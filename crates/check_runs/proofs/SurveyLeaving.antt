@@ -21,7 +21,7 @@ use Rattle.run_status.specs.declared.status.Status.TheVariants.{Violation, Direc
 use Rattle.session_lines.specs.Driven.{IsUnfailed}
 use Rattle.session_runs.specs.Openings.{HasCauses, StayOpen}
 use Rattle.session_runs.specs.Runs.{Outside, outside_of, OpensTo, IsQuietRun, PasswordOpens, lies}
-use Rattle.tree_commands.specs.Showing.{ShowsFiles}
+use Rattle.mount_core.specs.Showing.{ShowsFiles}
 use Rattle.check_texts.specs.Surveys.{IsTextTold, AreRefusedTold, IsSurveyTold, status_of_fail}
 use Rattle.check_texts.specs.Telling.{ListsAfter}
 use Rattle.check_runs.specs.Judging.{is_bad}

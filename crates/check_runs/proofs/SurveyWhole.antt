@@ -24,7 +24,7 @@ use Rattle.session_runs.specs.Runs.{Outside, outside_of, lies, OpensTo, IsQuietR
 use Rattle.session_runs.specs.Turns.{Begun}
 use Rattle.session_saver.specs.Saving.{KeptConfigures}
 use Rattle.session_saver.specs.declared.saver.Saver.{Saver}
-use Rattle.tree_commands.specs.Showing.{ShowsFiles}
+use Rattle.mount_core.specs.Showing.{ShowsFiles}
 use Rattle.mount.proofs.Formats.{equal_same, loaded_same}
 use Rattle.mount.specs.Formats.{TakesSame}
 use Rattle.check_runs.specs.Judging.{is_bad, held_for, IsJudged}

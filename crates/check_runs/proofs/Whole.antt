@@ -28,7 +28,7 @@ use Rattle.session_runs.specs.Turns.{Begun}
 use Rattle.session_saver.specs.Saving.{KeptConfigures}
 use Rattle.session_saver.specs.declared.saver.Saver.{Saver}
 use Rattle.store_api.specs.declared.tx.Tx.{Tx}
-use Rattle.tree_commands.specs.Showing.{ShowsFiles}
+use Rattle.mount_core.specs.Showing.{ShowsFiles}
 use Rattle.check_runs.specs.declared.examining.Examination.{Examination}
 use Rattle.check_runs.specs.Judging.{is_bad, held_for, IsJudged, Settles}
 use Rattle.check_runs.specs.Examining.{Examines, LeavesExamined, IsExamined}

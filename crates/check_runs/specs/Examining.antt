@@ -17,7 +17,7 @@ use Rattle.session_runs.specs.Openings.{StayOpen}
 use Rattle.session_runs.specs.Resting.{OnlyGot}
 use Rattle.session_runs.specs.Runs.{outside_of, OpensTo, IsExaminedRun}
 use Rattle.session_runs.specs.Turns.{Closing}
-use Rattle.tree_commands.specs.Showing.{ShowsFiles}
+use Rattle.mount_core.specs.Showing.{ShowsFiles}
 use Rattle.check_runs.specs.declared.examining.Examination.{Examination}
 use Rattle.check_runs.specs.Judging.{is_bad, held_for, IsJudged, Judges, Settles}
 

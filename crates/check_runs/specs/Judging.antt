@@ -31,7 +31,7 @@ use Rattle.outside.specs.declared.keeper.Keeper.{Ghosts as KeeperGhosts}
 use Rattle.store_api.specs.Content.{Id}
 use Rattle.store_api.specs.Holdings.{Stays}
 use Rattle.store_api.specs.Loads.{LoadAnswer}
-use Rattle.tree_commands.specs.Showing.{ShowsFiles}
+use Rattle.mount_core.specs.Showing.{ShowsFiles}
 
 -- a flaw or a violation was found
 abbrev pub is_bad : Result Checked Fail → Bool

@@ -26,7 +26,7 @@ use Rattle.session_runs.specs.Resting.{OnlyGot}
 use Rattle.session_runs.specs.Runs.{outside_of, lies, OpensTo, IsQuietRun}
 use Rattle.session_runs.specs.Turns.{Closing}
 use Rattle.store_api.specs.Holdings.{Stays}
-use Rattle.tree_commands.specs.Showing.{ShowsFiles}
+use Rattle.mount_core.specs.Showing.{ShowsFiles}
 use Rattle.check_runs.specs.Judging.{is_bad, held_for, read_by, IsJudged, Judges}
 use Rattle.check_runs.specs.declared.surveying.Survey.{Survey}
 

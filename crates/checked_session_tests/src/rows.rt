@@ -1,11 +1,10 @@
 // What a check prints and ends with, and what it leaves to later runs.
 
-use cryfs_shell::Status;
 use listing::ByteLine;
 use std::alloc::Global;
 use std::test::Fail;
 use test_systems::{
-    System, block, copy_files, expect, file, first_made, new_system, plain, session, store,
+    Status, System, block, copy_files, expect, file, first_made, new_system, plain, session, store,
 };
 
 /// The two blocks, and one name that is neither's.

@@ -1,9 +1,8 @@
 // A session in which one of its calls on the outside fails, or that one and all later ones, as where the outside stops.
 
-use cryfs_shell::Status;
 use std::alloc::{AllocError, Global};
 use std::test::Fail;
-use test_systems::{System, failing_saves, mended, new_system, session};
+use test_systems::{Status, System, failing_saves, mended, new_system, session};
 
 /// The saves that fail, counted from 1.
 #[derive(Clone, Copy)]

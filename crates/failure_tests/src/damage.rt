@@ -1,11 +1,12 @@
 // Sessions over a directory or a record that was changed.
 
-use cryfs_shell::Status;
 use memory_outside::MemoryKeeper;
 use outside::{FileName, Pending};
 use std::alloc::Global;
 use std::test::Fail;
-use test_systems::{System, block, copy_files, file, first_made, new_system, session, store};
+use test_systems::{
+    Status, System, block, copy_files, file, first_made, new_system, session, store,
+};
 
 /// What becomes of a file. The block of the root has the number 1; the second and the third are those of the two directories
 /// that two sessions made.

@@ -5,7 +5,7 @@ use Rattle.answers.specs.Sessions.{latest, violated}
 use Rattle.config_file.specs.Settings.{Settings}
 use Rattle.fs_model.specs.Tree.{Tree}
 use Rattle.held_blocks.specs.Standing.{records}
-use Rattle.tree_commands.specs.Performing.{Showing}
+use Rattle.mount_core.specs.Showing.{Showing}
 use Rattle.mount_core.specs.Standing.{IsKeptMarked}
 use Rattle.mount.specs.Representing.{Represents}
 use Rattle.mount.proofs.Reading.{loaded_unmarked}

@@ -28,7 +28,7 @@ use Rattle.session_runs.specs.Runs.{OpensTo, forgeries, outside_of}
 use Rattle.session_runs.specs.Turns.{OnMount}
 use Rattle.session_saver.specs.declared.saver.SyncError.{SyncError}
 use Rattle.store_api.specs.Durables.{Identity}
-use Rattle.tree_commands.specs.Performing.{Showing}
+use Rattle.mount_core.specs.Showing.{Showing}
 use Rattle.histories.specs.Forgeries.{forgeries_at, RoseAt, RightUntilForged}
 
 -- ---- up to the line in whose answer a count rises

@@ -19,7 +19,7 @@ use Rattle.session_runs.specs.Passing.{LeftAt}
 use Rattle.session_runs.specs.Runs.{OpensTo, forgeries, outside_of}
 use Rattle.session_runs.specs.Turns.{OnMount}
 use Rattle.session_saver.specs.declared.saver.SyncError.{SyncError}
-use Rattle.tree_commands.specs.Performing.{Showing}
+use Rattle.mount_core.specs.Showing.{Showing}
 
 -- how many files of blocks the directory gave up to now that open and were never put
 abbrev pub forgeries_at : {V : Type 0} → {K : Type 0} → (V → Option (List Call)) → Settings → Mount V K → ℕ

@@ -18,7 +18,7 @@ use Rattle.outside.specs.Honest.{NonePassSince}
 use Rattle.outside.specs.HonestLaws.{none_since_where_no_rise, no_rise_where_none_since}
 use Rattle.session_saver.specs.Saving.{KeptConfigures}
 use Rattle.session_saver.specs.declared.saver.SyncError.{SyncError}
-use Rattle.tree_commands.specs.Performing.{Showing}
+use Rattle.mount_core.specs.Showing.{Showing}
 use Rattle.mount_core.specs.Standing.{IsKeptMarked}
 use Rattle.mount.specs.Making.{Created}
 use Rattle.mount.specs.Opening.{AttachCause}

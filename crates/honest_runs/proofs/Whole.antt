@@ -40,7 +40,7 @@ use Rattle.session_runs.specs.Runs.{Outside, outside_of, lies}
 use Rattle.setup_texts.specs.CreateText.{created_text}
 use Rattle.shell_sessions.specs.Sessions.{Session, ComesShell}
 use Rattle.shell_words.specs.declared.create_options.CreateOptions.{CreateOptions}
-use Rattle.tree_commands.specs.Showing.{ShowsFiles}
+use Rattle.mount_core.specs.Showing.{ShowsFiles}
 use Rattle.honest_outside.specs.Honest.{IsHonestVault, IsHonestKeeper}
 use Rattle.honest_runs.specs.Made.{password, outside_in, IsWantOfMemory}
 use Rattle.honest_runs.specs.Transcript.{IsTranscript}

@@ -1,10 +1,9 @@
 // Runs in which one growth of memory at most is refused: no answer and no status changes but to want of memory, and what
 // is kept afterwards is what was answered.
 
-use cryfs_shell::Status;
 use std::alloc::Global;
 use std::test::Fail;
-use test_systems::{CREATED, Run, System, ZEROS, mended, nothing, outcome, plain, script};
+use test_systems::{CREATED, Run, Status, System, ZEROS, mended, nothing, outcome, plain, script};
 
 /// What a run may write, its status, and what a later run over an outside that works may write then.
 struct Row {

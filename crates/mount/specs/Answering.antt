@@ -7,7 +7,7 @@ use Rattle.outside.specs.Trace.{Call}
 use Rattle.outside.specs.declared.keeper.Keeper.{Ghosts as KeeperGhosts}
 use Rattle.answers.specs.declared.answer.Answer.{Answer}
 use Rattle.answers.specs.Sessions.{Asked}
-use Rattle.tree_commands.specs.Performing.{Showing}
+use Rattle.mount_core.specs.Showing.{Showing}
 use Rattle.mount_core.specs.Answering.{LineAnswers, LineAnswered as CoreAnswered}
 use Rattle.mount.specs.declared.mount.Mount.{Mount}
 use Rattle.mount_tower.specs.Tower.{Cached, trace_in, tower_meanings, tower_holdings}

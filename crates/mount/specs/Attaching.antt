@@ -10,7 +10,7 @@ use Rattle.outside.specs.Honest.{is_lie, count_told}
 use Rattle.outside.specs.Trace.{Call}
 use Rattle.outside.specs.declared.keeper.Keeper.{Ghosts as KeeperGhosts}
 use Rattle.session_saver.specs.Saving.{KeptConfigures}
-use Rattle.tree_commands.specs.Performing.{Showing}
+use Rattle.mount_core.specs.Showing.{Showing}
 use Rattle.mount_tower.specs.Unforged.{IsUnforgedConfig}
 use Rattle.mount.specs.declared.mount.Mount.{Mount}
 use Rattle.mount.specs.Answering.{calls_of, forgeries_of, lies_of, vault_faults, keeper_faults}

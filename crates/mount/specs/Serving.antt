@@ -19,7 +19,7 @@ use Rattle.mount_core.specs.Configuring.{ConfigClosed, ConfigSynced, Replaced}
 use Rattle.mount_core.specs.Keeping.{IsSameOrRecord, ReplaceKeeps, SyncKeeps}
 use Rattle.mount_core.specs.Formats.{StaysLeast}
 use Rattle.mount_core.specs.Standing.{Synced}
-use Rattle.tree_commands.specs.Performing.{Showing}
+use Rattle.mount_core.specs.Showing.{Showing}
 use Rattle.mount_tower.specs.Identities.{HasEmptyList}
 use Rattle.mount_tower.specs.Opening.{KeepsVersions}
 use Rattle.mount_tower.specs.Tower.{vault_in, tower_holdings, tower_durables}

@@ -22,7 +22,7 @@ use Rattle.session_runs.specs.Runs.{Outside, outside_of, OutsideStandsFor}
 use Rattle.shell_words.specs.declared.form.Form.{Form}
 use Rattle.shell_words.specs.declared.form.Form.TheVariants.{Create}
 use Rattle.shell_words.specs.Forms.{form_of}
-use Rattle.tree_commands.specs.Showing.{ShowsFiles}
+use Rattle.mount_core.specs.Showing.{ShowsFiles}
 use Rattle.histories.specs.Histories.{Run, before_of, after_of, GoesOnFrom, AreRuns, end_of, was_violated, RunsCompose}
 use Rattle.cryfs_shell.specs.Doing.{Did}
 use Rattle.cryfs_shell.specs.Kinds.{opens}

@@ -27,7 +27,7 @@ use Rattle.shell_sessions.specs.Sessions.{Session}
 use Rattle.shell_words.specs.declared.form.Form.{Form}
 use Rattle.shell_words.specs.declared.form.Form.TheVariants.{Trial, TrialGenerate, Create, Info, Passwd, Migrate, Shell, Generate, Command, Import, Export, Put, Get, Check, Survey}
 use Rattle.shell_words.specs.Forms.{form_of}
-use Rattle.tree_commands.specs.Showing.{ShowsFiles}
+use Rattle.mount_core.specs.Showing.{ShowsFiles}
 use Rattle.histories.specs.Histories.{Run, session, quiet, examined, migrated, before_of, after_of, IsRun, GoesOnFrom}
 use Rattle.answers.specs.Sessions.{is_violation}
 use Rattle.cryfs_setup.specs.Migrate.{RanMigrate}

@@ -24,7 +24,7 @@ use Rattle.run_edges.specs.Statuses.{session_status}
 use Rattle.shell_words.specs.declared.form.Form.{Form}
 use Rattle.shell_words.specs.declared.form.Form.TheVariants.{Create}
 use Rattle.shell_words.specs.Forms.{form_of}
-use Rattle.tree_commands.specs.Showing.{ShowsFiles}
+use Rattle.mount_core.specs.Showing.{ShowsFiles}
 use Rattle.histories.specs.Histories.{Run, session, quiet, examined, migrated, before_of, after_of, IsRun, IsUnforgedRun, GoesOnFrom, end_of, Follow, EndsWith}
 use Rattle.cryfs_shell.specs.Clauses.{IsRefusingStatus, NoFalseAlarm, TellsFaults}
 use Rattle.cryfs_shell.specs.History.{Comes, Judges, Meets}

@@ -31,7 +31,7 @@ use Rattle.session_saver.specs.declared.saver.SyncError.{SyncError}
 use Rattle.store_api.proofs.Draws.{later_same}
 use Rattle.store_api.specs.Content.{Id}
 use Rattle.store_api.specs.Holdings.{has_id}
-use Rattle.tree_commands.specs.Performing.{Showing}
+use Rattle.mount_core.specs.Showing.{Showing}
 use Rattle.session_runs.specs.Answering.{store_of, kept_of, MountAnswers, mount_hosting, drawing_hosting}
 use Rattle.session_runs.specs.Drawing.{WaitsIn, KnowsId, IsSealedSince, PutsSince, AddsSince, DrawsVectors, DrawsNoNames}
 use Rattle.session_runs.specs.Runs.{Outside, outside_of}

@@ -5,7 +5,7 @@ use Rattle.std.specs.declared.option.Option.{Option}
 use Rattle.outside.specs.Trace.{Call}
 use Rattle.outside.specs.declared.keeper.Keeper.{Ghosts as KeeperGhosts}
 use Rattle.session_saver.specs.declared.saver.SyncError.{SyncError}
-use Rattle.tree_commands.specs.Performing.{Showing}
+use Rattle.mount_core.specs.Showing.{Showing}
 use Rattle.mount_core.specs.Formats.{StaysLeast}
 use Rattle.mount_tower.specs.Tower.{tower_durables}
 use Rattle.mount.specs.declared.mount.Mount.{Mount}

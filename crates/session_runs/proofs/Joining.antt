@@ -16,7 +16,7 @@ use Rattle.answers.specs.Sessions.{Asked, Exchange, Next, IsSession, IsKeptPoint
 use Rattle.held_blocks.specs.Standing.{records}
 use Rattle.mount_core.specs.Answers.{is_structure, OnSpent}
 use Rattle.mount_core.specs.Configuring.{ConfigAnswered}
-use Rattle.tree_commands.specs.Performing.{Showing}
+use Rattle.mount_core.specs.Showing.{Showing}
 use Rattle.mount_core.specs.Standing.{IsKeptMarked, Left}
 use Rattle.mount.specs.declared.mount.Mount.{Mount}
 use Rattle.mount.specs.Tower.{tower, TowerStands}

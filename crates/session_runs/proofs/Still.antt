@@ -19,7 +19,7 @@ use Rattle.mount_tower.specs.TowerLaws.{tower_lawful}
 use Rattle.mount_core.specs.Answers.{is_done_answer, OnReply}
 use Rattle.outside.specs.Trace.{Call}
 use Rattle.outside.specs.declared.keeper.Keeper.{Ghosts as KeeperGhosts}
-use Rattle.tree_commands.specs.Performing.{Showing, is_reader, is_sync, IsReplyTo}
+use Rattle.mount_core.specs.Showing.{Showing, is_reader, is_sync, IsReplyTo}
 use Rattle.mount.proofs.Same.{same_mount}
 use Rattle.session_runs.specs.Answering.{store_of, MountAnswers}
 use Rattle.session_runs.specs.Resting.{AsksNoChange, AreIdle, IsGet, AreGets, OnlyGot, Rested}

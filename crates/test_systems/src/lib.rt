@@ -7,6 +7,7 @@ mod stored;
 mod system;
 
 pub use random::{Words, ZEROS};
+pub use run_status::Status;
 pub use stored::{block, copy_files, count_blocks, file, first_made, store};
 pub use system::{
     CREATED, Run, System, expect, expect_beside, failing_saves, mended, new_system, nothing,

@@ -4,5 +4,6 @@
 mod blobs;
 mod commands;
 
+pub use blob_store::BlobStore;
 pub use blobs::perform_on_blobs;
 pub use commands::{empty_root, perform};
