@@ -27,7 +27,7 @@ use Rattle.run_status.specs.declared.status.Status.{Status}
 use Rattle.run_status.specs.declared.status.Status.TheVariants.{Done, Memory, DirectoryFault, OutputFault}
 use Rattle.session_runs.specs.Openings.{HasCauses, IsUnopened}
 use Rattle.session_runs.specs.Runs.{Outside, outside_of, OpensTo}
-use Rattle.tree_commands.specs.Showing.{ShowsFiles}
+use Rattle.mount_core.specs.Showing.{ShowsFiles}
 use Rattle.completeness.specs.Checks.{StaysUntold, TellsOwners}
 use Rattle.completeness.specs.Premises.{OfRun, IsUntroubled, Finds, Leaves}
 use Rattle.completeness.specs.Sessions.{FindsNoMemory}

@@ -29,7 +29,7 @@ use Rattle.session_runs.specs.Runs.{Outside, outside_of, OpensTo, IsFounded, dir
 use Rattle.session_saver.specs.declared.saver.SyncError.{SyncError}
 use Rattle.session_saver.specs.declared.saver.SyncError.TheVariants as sync_error
 use Rattle.setup_texts.specs.MigrateText.{migrated_text}
-use Rattle.tree_commands.specs.Showing.{ShowsFiles}
+use Rattle.mount_core.specs.Showing.{ShowsFiles}
 use Rattle.completeness.specs.Migrations.{Migrates}
 use Rattle.completeness.specs.Premises.{OfRun, IsUntroubled, Finds, Leaves}
 use Rattle.completeness.specs.Sessions.{FindsNoMemory}

@@ -44,7 +44,7 @@ use Rattle.session_saver.specs.Saving.{KeptConfigures}
 use Rattle.session_saver.specs.declared.saver.SyncError.{SyncError}
 use Rattle.session_saver.specs.declared.saver.SyncError.TheVariants as sync_error
 use Rattle.store_api.specs.Durables.{Identity}
-use Rattle.tree_commands.specs.Showing.{ShowsFiles}
+use Rattle.mount_core.specs.Showing.{ShowsFiles}
 use Rattle.completeness.specs.Calls.{IsUnfailed, moment_of, Attaches, left_by, WantsMemory, AttachEnds, SyncEnds, CloseEnds, AnewEnds}
 use Rattle.completeness.specs.Mounts.{MountStands, MountUntroubled}
 use Rattle.completeness.specs.Premises.{Leaves}

@@ -15,7 +15,7 @@ use Rattle.outside.specs.Trace.{Call}
 use Rattle.outside.specs.declared.keeper.Keeper.{Ghosts as KeeperGhosts}
 use Rattle.session_runs.specs.Answering.{store_of, LineAnswered, MountAnswers}
 use Rattle.session_runs.specs.Lawful.{mount_lawful}
-use Rattle.tree_commands.specs.Showing.{ShowsFiles}
+use Rattle.mount_core.specs.Showing.{ShowsFiles}
 use Rattle.completeness.specs.Mounts.{MountStands, MountUntroubled, IsKeptNext, MountAnswered}
 use Rattle.completeness.specs.Sessions.{IsFaultless}
 use Rattle.completeness.proofs.Serving.{none_rose, one_unfailed}

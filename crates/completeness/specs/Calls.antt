@@ -25,7 +25,7 @@ use Rattle.session_runs.specs.Runs.{Outside, outside_of, OutsideStandsFor, Passw
 use Rattle.session_runs.specs.Turns.{Begun}
 use Rattle.session_saver.specs.declared.saver.SyncError.{SyncError}
 use Rattle.session_saver.specs.declared.saver.SyncError.TheVariants as sync_error
-use Rattle.tree_commands.specs.Showing.{ShowsFiles}
+use Rattle.mount_core.specs.Showing.{ShowsFiles}
 use Rattle.completeness.specs.Mounts.{MountStands, MountUntroubled}
 use Rattle.completeness.specs.Premises.{Leaves}
 

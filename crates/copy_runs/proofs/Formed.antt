@@ -7,7 +7,7 @@ use Rattle.fs_model.specs.declared.reply.Reply.TheVariants.{Done, Rows, Info, Ta
 use Rattle.answers.specs.declared.answer.Answer.{Answer}
 use Rattle.answers.specs.declared.answer.Answer.TheVariants.{Reply as Replied}
 use Rattle.mount_core.specs.Answers.{OnReply}
-use Rattle.tree_commands.specs.Performing.{is_reader, IsReplyTo as IsFormOf}
+use Rattle.mount_core.specs.Showing.{is_reader, IsReplyTo as IsFormOf}
 use Rattle.copy_rules.specs.Questions.{IsReplyTo}
 
 true_is_false : true ≡ false → ⊥

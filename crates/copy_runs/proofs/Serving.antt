@@ -28,7 +28,7 @@ use Rattle.session_saver.specs.declared.saver.SyncError.{SyncError}
 use Rattle.shell_sessions.specs.declared.mounted.Mounted.{Mounted}
 use Rattle.shell_sessions.specs.Mounting.{mounted_hosting}
 use Rattle.shell_sessions.specs.Sessions.{Session, WasServed}
-use Rattle.tree_commands.specs.Showing.{ShowsFiles}
+use Rattle.mount_core.specs.Showing.{ShowsFiles}
 use Rattle.copy_rules.specs.declared.copied.Totals.{Totals}
 use Rattle.copy_rules.specs.declared.copied.CopyFail.{CopyFail}
 use Rattle.copy_rules.specs.declared.copied.CopyFail.TheVariants as fail

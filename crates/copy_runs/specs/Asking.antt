@@ -1,9 +1,11 @@
 -- A mount as what answers the commands of a copy.
-use Rattle.std.specs.Prelude.{ℕ, List}
+use Rattle.std.specs.Prelude.{◌≡◌, ℕ, List}
 use Rattle.std.specs.declared.option.Option.{Option}
+use Rattle.std.specs.declared.option.Option.TheVariants.{None}
 use Rattle.outside.specs.Trace.{Call}
 use Rattle.outside.specs.declared.keeper.Keeper.{Ghosts as KeeperGhosts}
 use Rattle.rand_core.specs.Stream.{Stream}
+use Rattle.mount.specs.Mounts.{IsReady}
 use Rattle.shell_sessions.specs.Mounting.{mounted_hosting}
 use Rattle.copy_rules.specs.Questions.{Asking, LawfulAsker}
 use Rattle.copy_sessions.specs.Hosted.{host_asking}
@@ -15,3 +17,8 @@ mount_asking stream trace faults G = host_asking (mounted_hosting stream trace f
 
 pub mount_lawful : {V : Type 0} {K : Type 0} {R : Type 0} (stream : R → Stream) (trace : V → Option (List Call)) (faults : V → ℕ) (G : KeeperGhosts K) → LawfulAsker (mount_asking stream trace faults G)
 mount_lawful stream trace faults G = host_lawful (mounted_hosting stream trace faults G) (λ a. a.mounted) (λ a. a.now) (λ a. a.kept) (λ a. a.stopped)
+
+-- its mount serves, and no answer that isn't a reply was kept
+pub record IsFresh {V : Type 0} {K : Type 0} {R : Type 0} (trace : V → Option (List Call)) (faults : V → ℕ) (G : KeeperGhosts K) (asker : MountAsker V K R) : Type 0 where
+  pub ready : IsReady trace faults G asker.mounted.mount
+  pub kept : asker.kept ≡ None

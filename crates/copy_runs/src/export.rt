@@ -1,6 +1,5 @@
 // Exports under the password line of the input.
 ghost use Rattle.std.specs.Prelude.{◌≡◌, ◌⊎◌, ◌≤◌, List};
-ghost use Rattle.std.specs.declared.option.Option.TheVariants.{None};
 ghost use Rattle.line_io.specs.Streams.{stream_of, Stream};
 ghost use Rattle.answers.specs.Hosts.{Ran};
 ghost use Rattle.answers.specs.Sessions.{Exchange};
@@ -12,6 +11,7 @@ ghost use Rattle.session_runs.specs.Runs.{outside_of};
 ghost use Rattle.shell_sessions.specs.Mounting.{mounted_hosting};
 ghost use Rattle.shell_sessions.specs.Sessions.{Session, WasServed};
 ghost use Rattle.copy_sessions.specs.Coming.{ComesExport, IsExportSession};
+ghost use Rattle.copy_runs.specs.Asking.{IsFresh};
 
 use crate::asker::MountAsker;
 use crate::beginning::{CopyBeginning, begin_copy};
@@ -36,8 +36,7 @@ fn export_told<F: Folder, O: Sink, V: Vault, K: Keeper, R: Rng>(
     text: &mut CopyText,
     output: &mut O,
 ) -> (End, Status)
-    requires ready { IsReady V.trace V.faults K.Keeper asker.old.mounted.mount }
-    requires kept { asker.old.kept ≡ None }
+    requires fresh { IsFresh V.trace V.faults K.Keeper asker.old }
     ensures ready { IsReady V.trace V.faults K.Keeper asker.new.mounted.mount }
     ensures chance { asker.new.mounted.chance.ghost_name ≡ asker.old.mounted.chance.ghost_name }
     ensures exported { (es : List Exchange) × Ran (mounted_hosting R.stream V.trace V.faults K.Keeper) asker.old.now asker.old.mounted es asker.new.mounted

@@ -1,6 +1,5 @@
 // A file that is got under the password line of the input.
 ghost use Rattle.std.specs.Prelude.{◌≡◌, ◌≤◌, List};
-ghost use Rattle.std.specs.declared.option.Option.TheVariants.{None};
 ghost use Rattle.line_io.specs.Streams.{stream_of, Stream};
 ghost use Rattle.answers.specs.Hosts.{Ran};
 ghost use Rattle.answers.specs.Sessions.{Exchange};
@@ -12,6 +11,7 @@ ghost use Rattle.session_runs.specs.Runs.{outside_of};
 ghost use Rattle.shell_sessions.specs.Mounting.{mounted_hosting};
 ghost use Rattle.shell_sessions.specs.Sessions.{Session};
 ghost use Rattle.file_copies.specs.Coming.{ComesGet, IsGetSession};
+ghost use Rattle.copy_runs.specs.Asking.{IsFresh};
 
 use crate::asker::MountAsker;
 use file_copies::{get_end, get_file};
@@ -31,8 +31,7 @@ fn get_told<O: Sink, V: Vault, K: Keeper, R: Rng>(
     from: &Path,
     output: &mut O,
 ) -> (End, Status)
-    requires ready { IsReady V.trace V.faults K.Keeper asker.old.mounted.mount }
-    requires kept { asker.old.kept ≡ None }
+    requires fresh { IsFresh V.trace V.faults K.Keeper asker.old }
     ensures ready { IsReady V.trace V.faults K.Keeper asker.new.mounted.mount }
     ensures chance { asker.new.mounted.chance.ghost_name ≡ asker.old.mounted.chance.ghost_name }
     ensures got { (es : List Exchange) × Ran (mounted_hosting R.stream V.trace V.faults K.Keeper) asker.old.now asker.old.mounted es asker.new.mounted

@@ -1,6 +1,5 @@
 // A file that is put under the password line of the input.
 ghost use Rattle.std.specs.Prelude.{◌≡◌, ◌≤◌, true, List};
-ghost use Rattle.std.specs.declared.option.Option.TheVariants.{None};
 ghost use Rattle.outside.specs.Streams.{Ends};
 ghost use Rattle.line_io.specs.Reading.{coming};
 ghost use Rattle.line_io.specs.Streams.{stream_of};
@@ -13,6 +12,7 @@ ghost use Rattle.session_runs.specs.Runs.{outside_of};
 ghost use Rattle.shell_sessions.specs.Mounting.{mounted_hosting};
 ghost use Rattle.shell_sessions.specs.Sessions.{Session};
 ghost use Rattle.file_copies.specs.Coming.{ComesPut, IsPutSession};
+ghost use Rattle.copy_runs.specs.Asking.{IsFresh};
 
 use crate::asker::MountAsker;
 use crate::beginning::{CopyBeginning, begin_copy};
@@ -37,8 +37,7 @@ fn put_told<I: Source, O: Sink, V: Vault, K: Keeper, R: Rng>(
     text: &mut CopyText,
     output: &mut O,
 ) -> (End, Status)
-    requires ready { IsReady V.trace V.faults K.Keeper asker.old.mounted.mount }
-    requires kept { asker.old.kept ≡ None }
+    requires fresh { IsFresh V.trace V.faults K.Keeper asker.old }
     requires ended { reader.old.ended ≡ true → Ends (coming reader.old.ahead (I.rest input.old)) }
     ensures ready { IsReady V.trace V.faults K.Keeper asker.new.mounted.mount }
     ensures chance { asker.new.mounted.chance.ghost_name ≡ asker.old.mounted.chance.ghost_name }

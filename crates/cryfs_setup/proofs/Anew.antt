@@ -47,7 +47,7 @@ use Rattle.session_runs.specs.Turns.{Begun, Closing}
 use Rattle.session_saver.specs.Saving.{KeptConfigures}
 use Rattle.session_saver.specs.declared.saver.SyncError.{SyncError}
 use Rattle.store_api.specs.Durables.{Identity}
-use Rattle.tree_commands.specs.Showing.{ShowsFiles}
+use Rattle.mount_core.specs.Showing.{ShowsFiles}
 use Rattle.cryfs_setup.specs.Migrate.{IsCount, IsSpentIn, LeavesMigrated}
 
 true_is_false : true ≡ false → ⊥

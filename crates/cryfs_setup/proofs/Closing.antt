@@ -31,7 +31,7 @@ use Rattle.session_runs.proofs.Formats.{taken}
 use Rattle.session_runs.proofs.Whole.{each_before}
 use Rattle.session_saver.specs.Saving.{KeptConfigures}
 use Rattle.session_saver.specs.declared.saver.SyncError.{SyncError}
-use Rattle.tree_commands.specs.Showing.{ShowsFiles}
+use Rattle.mount_core.specs.Showing.{ShowsFiles}
 
 pub config_ok : (kept : Option (List ℕ)) (calls : Option (List Call)) (may : List (List ℕ)) (file : List ℕ) (closing : Result Unit SyncError) → IsOk closing → ConfigClosed records kept calls may file closing
     → KeptConfigures records kept calls file

@@ -23,7 +23,7 @@ use Rattle.session_runs.specs.Runs.{outside_of}
 use Rattle.session_runs.specs.Turns.{Begun, Closing}
 use Rattle.session_saver.specs.Saving.{UnlessDirectory, UnlessState}
 use Rattle.session_saver.specs.declared.saver.SyncError.{SyncError}
-use Rattle.tree_commands.specs.Showing.{ShowsFiles}
+use Rattle.mount_core.specs.Showing.{ShowsFiles}
 use Rattle.cryfs_setup.specs.Info.{IsConfigTold}
 use Rattle.setup_texts.specs.InfoText.{info_text}
 use Rattle.setup_texts.specs.Printing.{Printed}

@@ -16,7 +16,7 @@ use Rattle.session_runs.specs.Openings.{HasPassword, IsUnread, IsUnopened, StayO
 use Rattle.run_status.specs.declared.ended.Ended.{Ended}
 use Rattle.session_lines.specs.Driven.{IsUnfailed}
 use Rattle.session_runs.specs.Runs.{outside_of, OpensTo, IsQuietRun}
-use Rattle.tree_commands.specs.Showing.{ShowsFiles}
+use Rattle.mount_core.specs.Showing.{ShowsFiles}
 use Rattle.setup_texts.specs.InfoText.{info_text}
 use Rattle.setup_texts.specs.Printing.{Printed}
 

@@ -30,7 +30,7 @@ use Rattle.session_runs.specs.Runs.{outside_of, OpensTo, IsMigrationRun, directo
 use Rattle.session_runs.specs.Turns.{Begun, Closing}
 use Rattle.session_saver.specs.declared.saver.SyncError.{SyncError}
 use Rattle.store_api.specs.Holdings.{has_id}
-use Rattle.tree_commands.specs.Showing.{ShowsFiles}
+use Rattle.mount_core.specs.Showing.{ShowsFiles}
 use Rattle.setup_texts.specs.MigrateText.{migrated_text}
 
 -- of a record with this state: as many as its live ids, where it took the older format, and else none

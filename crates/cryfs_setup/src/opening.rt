@@ -11,7 +11,7 @@ ghost use Rattle.session_runs.specs.Runs.{outside_of};
 ghost use Rattle.run_status.specs.Statuses.{first_of};
 ghost use Rattle.session_runs.specs.Turns.{Begun, Closing};
 ghost use Rattle.session_saver.specs.declared.saver.SyncError.{SyncError};
-ghost use Rattle.tree_commands.specs.Showing.{ShowsFiles};
+ghost use Rattle.mount_core.specs.Showing.{ShowsFiles};
 ghost use Rattle.session_runs.specs.Openings.{HasCauses, IsUnopened};
 ghost use Rattle.run_edges.specs.Statuses.{closing_status, session_status};
 

@@ -22,7 +22,7 @@ use Rattle.session_lines.specs.Driven.{IsUnfailed}
 use Rattle.session_runs.proofs.Whole.{only_opens}
 use Rattle.session_runs.specs.Openings.{AreUncalled, HasCauses}
 use Rattle.session_runs.specs.Runs.{OutsideStandsFor, outside_of}
-use Rattle.tree_commands.specs.Showing.{ShowsFiles}
+use Rattle.mount_core.specs.Showing.{ShowsFiles}
 
 not_bad : (bad : Bool) → (bad ≡ true → ⊥) → bad ≡ false
 not_bad false calm = refl

@@ -28,7 +28,7 @@ use Rattle.shell_words.specs.declared.form.Form.{Form}
 use Rattle.shell_words.specs.declared.form.Form.TheVariants.{Trial, TrialGenerate, Create, Info, Passwd, Migrate, Shell, Generate, Command, Import, Export, Put, Get, Check, Survey}
 use Rattle.shell_words.specs.Forms.{form_of, is_create}
 use Rattle.shell_words.proofs.FormsOf.{IsPlain, other_is_other}
-use Rattle.tree_commands.specs.Showing.{ShowsFiles}
+use Rattle.mount_core.specs.Showing.{ShowsFiles}
 use Rattle.cryfs_shell.proofs.Checks.{ends_by, bad_by}
 use Rattle.cryfs_shell.proofs.Migrations as migrations
 use Rattle.mount_migrating.specs.Migrating.{told}

@@ -32,7 +32,7 @@ use Rattle.session_runs.specs.Openings.{AreUncalled}
 use Rattle.session_runs.specs.Runs.{OutsideStandsFor, outside_of, IsFounded, directory_fault, state_fault}
 use Rattle.session_saver.specs.declared.saver.SyncError.{SyncError}
 use Rattle.session_saver.specs.declared.saver.SyncError.TheVariants as sync_error
-use Rattle.tree_commands.specs.Showing.{ShowsFiles}
+use Rattle.mount_core.specs.Showing.{ShowsFiles}
 
 -- it has no status of its own
 pub or_done : (status : Status) → status ≡ first_of status Done

@@ -28,7 +28,7 @@ use Rattle.session_runs.proofs.Whole.{only_opens, unviolated}
 use Rattle.shell_sessions.specs.Sessions.{Session, IsServed}
 use Rattle.run_edges.specs.Statuses.{session_status, IsOwn}
 use Rattle.run_edges.proofs.Owns.{not_own, none_before}
-use Rattle.tree_commands.specs.Showing.{ShowsFiles}
+use Rattle.mount_core.specs.Showing.{ShowsFiles}
 use Rattle.cryfs_shell.specs.Clauses.{IsRefusingStatus, IsRefusedRun, IsOpenedRun, OpensOnlyRun, NoFalseAlarm, KeepsTree, FaultsHappened, IsEmptied}
 use Rattle.cryfs_shell.proofs.Statuses.{EndCause, opening_is_no, session_is_no, stops_is_refusal, session_directory, session_state, session_input, session_output, done_is_calm, done_is_closed, calm_is_no_alarm, host_is_own}
 

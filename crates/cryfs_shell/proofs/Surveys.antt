@@ -19,7 +19,7 @@ use Rattle.run_status.specs.declared.status.Status.TheVariants.{Usage, LongPassw
 use Rattle.session_runs.proofs.Whole.{only_opens}
 use Rattle.session_runs.specs.Openings.{AreUncalled, HasCauses}
 use Rattle.session_runs.specs.Runs.{outside_of}
-use Rattle.tree_commands.specs.Showing.{ShowsFiles}
+use Rattle.mount_core.specs.Showing.{ShowsFiles}
 
 of_survey : {V : Type 0} {K : Type 0} (trace : V → Option (List Call)) (faults : V → ℕ) (names : V → Option (List (List ℕ))) (G : KeeperGhosts K) (password : List ℕ) (output : Stream) (vault : V) (keeper : K) (ended : Ended V K)
     → IsRefusalTold trace faults names G password output vault keeper ended → CheckStatus ended.status

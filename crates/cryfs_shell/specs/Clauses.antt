@@ -25,7 +25,7 @@ use Rattle.shell_words.specs.declared.form.Form.TheVariants.{Passwd, Migrate, Ch
 use Rattle.cryfs_shell.specs.Hosts.{HostSeen}
 use Rattle.cryfs_shell.specs.Kinds.{is_session, is_migration, copies, draws, seals}
 use Rattle.cryfs_shell.specs.Streams.{Streams}
-use Rattle.tree_commands.specs.Showing.{ShowsFiles}
+use Rattle.mount_core.specs.Showing.{ShowsFiles}
 
 -- what a run may say over a marked record: that it is marked, or why it wasn't read: no password was, memory was refused, or its keeper failed
 abbrev pub IsRefusingStatus : Status → Type 0

@@ -17,7 +17,7 @@ use Rattle.shell_sessions.specs.Sessions.{ComesShell, ComesGenerated, ComesComma
 use Rattle.shell_words.specs.declared.form.Form.{Form}
 use Rattle.shell_words.specs.declared.form.Form.TheVariants.{Migrate, Shell, Generate, Command, Import, Export, Put, Get, Check}
 use Rattle.shell_words.specs.Forms.{form_of, is_create, joined}
-use Rattle.tree_commands.specs.Showing.{ShowsFiles}
+use Rattle.mount_core.specs.Showing.{ShowsFiles}
 
 -- how the exchanges of what the words ask for come from what follows the password line, and are written; only sessions have some
 abbrev pub Comes : List (List ℕ) → Streams → Option Form → Option (List ℕ) → End → Status → List Exchange → Type 0

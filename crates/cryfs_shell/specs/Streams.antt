@@ -1,4 +1,5 @@
 -- What a run reads, writes, draws and copies, before it and after it.
+use Rattle.std.specs.Prelude.{◌≤◌}
 use Rattle.line_io.specs.Streams.{Stream}
 use Rattle.rand_core.specs.Stream.{Stream as Chance}
 use Rattle.cryfs_shell.specs.Hosts.{HostSeen}
@@ -14,3 +15,9 @@ pub record Streams : Type 0 where
 -- the streams that these are
 abbrev pub streams_of : Stream → Stream → HostSeen → Chance → Chance → Streams
 streams_of input output host chance left = record { input = input; output = output; host = host; chance = chance; left = left }
+
+-- no count of faults falls
+pub record NoneFalls (s : Streams) : Type 0 where
+  pub input : s.input.faults ≤ s.input.risen
+  pub output : s.output.faults ≤ s.output.risen
+  pub host : s.host.faults ≤ s.host.risen

@@ -15,7 +15,7 @@ ghost use Rattle.cryfs_shell.specs.Doing.{Did, IsCaused};
 ghost use Rattle.cryfs_shell.specs.History.{HasHistory};
 ghost use Rattle.cryfs_shell.specs.Hosts.{host_of};
 ghost use Rattle.cryfs_shell.specs.Kinds.{opens, is_migration, draws, copies, seals};
-ghost use Rattle.cryfs_shell.specs.Streams.{streams_of};
+ghost use Rattle.cryfs_shell.specs.Streams.{NoneFalls, streams_of};
 
 use crate::request::Request;
 use block_id::Memory;
@@ -125,9 +125,9 @@ fn run_form<I: Source, O: Sink, V: Vault + Listing, K: Keeper, R: Rng, F: Folder
         (outside_of V.trace V.faults K.Keeper storage.vault storage.keeper) (outside_of V.trace V.faults K.Keeper result.vault result.keeper) }
     ensures undrawn { draws (Some asked.entry.now.form) ≡ false → R.stream chance.new ≡ R.stream chance.old }
     ensures unhosted { copies (Some asked.entry.now.form) ≡ false → host.new ≡ host.old }
-    ensures input_grows { I.faults input.old ≤ I.faults input.new }
-    ensures output_grows { O.faults output.old ≤ O.faults output.new }
-    ensures host_grows { F.faults host.old ≤ F.faults host.new }
+    ensures grows { NoneFalls (streams_of (stream_of I.rest I.faults input.old input.new)
+        (stream_of O.written O.faults output.old output.new)
+        (host_of F.tree F.faults host.old host.new) (R.stream chance.old) (R.stream chance.new)) }
 {
     match asked.form {
         Form::Trial => {

@@ -1,6 +1,7 @@
 -- What a command makes of its session, less the sync before it.
-use Rattle.std.specs.Prelude.{◌≡◌, ◌≢◌, ◌≤◌, ◌+◌, ℕ, false, List, length}
+use Rattle.std.specs.Prelude.{◌≡◌, ◌≢◌, ◌≤◌, ◌+◌, ℕ, false, List, length, Ok}
 use Rattle.std.specs.FinMap as fin
+use Rattle.fs_model.specs.Fitting.{IsFitting}
 use Rattle.fs_model.specs.declared.command.Command.{Command}
 use Rattle.fs_model.specs.declared.reply.Reply.{Reply}
 use Rattle.fs_model.specs.Instant.{Instant}
@@ -15,15 +16,17 @@ use Rattle.session_saver.specs.Saving.{World, CanMark, Whole}
 use Rattle.store_api.specs.Content.{Changes}
 use Rattle.store_api.specs.Durables.{Durables}
 use Rattle.store_api.specs.Holdings.{Holdings, Stays, gives_payload}
+use Rattle.store_api.specs.Txs.{intact_in}
 use Rattle.tree_commands.specs.Performing.{Showing, IsReplyTo}
 use Rattle.tree_commands.specs.Sparing.{OnWriteInside}
 use Rattle.mount_core.specs.declared.body.Core.{Core}
-use Rattle.mount_core.specs.Answering.{store_of}
+use Rattle.mount_core.specs.Answering.{SaverAnswers, store_of}
 use Rattle.mount_core.specs.Answers.{is_done_answer, is_structure, Notices, OnFound, OnReply, OnSpent}
 use Rattle.mount_core.specs.Causes.{OnlyLoaded, SpentCause}
 use Rattle.mount_core.specs.Configuring.{CoreConfigures}
+use Rattle.mount_core.specs.Keeping.{LineKeeps}
 use Rattle.mount_core.specs.Sparing.{FewRaised}
-use Rattle.mount_core.specs.Standing.{CoreStands, CorePerformed, Unapplied}
+use Rattle.mount_core.specs.Standing.{CoreStands, CorePerformed, Ready, Unapplied}
 
 -- the keeper is left alone, and the session as it was
 pub record KeepsSaver {S : Type 0} {K : Type 0} (old : Core S K) (answer : Answer) (new : Core S K) : Type 0 where
@@ -34,6 +37,11 @@ pub record KeepsSaver {S : Type 0} {K : Type 0} (old : Core S K) (answer : Answe
   pub root : new.root ≡ old.root
 
 -- ---- a command
+
+-- what it needs of its session
+pub record CanAsk {S : Type 0} {K : Type 0} (W : World S K) (core : Core S K) (command : Command) : Type 0 where
+  pub ready : Ready W core
+  pub fits : IsFitting command
 
 -- the answer names no fault of the keeper, has the form of the command, and is no refusal
 pub record FormAsked (command : Command) (answer : Answer) : Type 0 where
@@ -70,8 +78,9 @@ pub record StoreAsked {S : Type 0} (M : Meanings S) (H : Holdings S) (D : Durabl
 
 -- ---- its reply, once its changes are applied
 
--- of what is kept: the record can be marked, and has room
+-- its changes can be applied, and of what is kept: the record can be marked, and has room
 pub record CanSettle {S : Type 0} {K : Type 0} (W : World S K) (core : Core S K) : Type 0 where
+  pub intact : intact_in W.meanings W.holdings core.blobs.tx
   pub room : length core.saver.last.items ≤ W.keeper.room core.saver.keeper
   pub can_mark : CanMark W.records core.saver
   pub whole : Whole W.durables W.keeper core.saver (store_of core)
@@ -95,3 +104,10 @@ pub record StoreSettled {S : Type 0} (M : Meanings S) (H : Holdings S) (D : Dura
   pub spent : OnSpent answer (SpentCause H a command)
   pub raised : (id : List ℕ) → H.version b id ≤ H.version a id + 1
   pub rests : (id : List ℕ) → gives_payload (fin.get overlay id) ≡ false → H.version b id ≡ H.version a id
+
+-- ---- a line
+
+-- what it leaves of the keeper and the last record, and what is kept then
+pub record SaverLeaves {S : Type 0} {K : Type 0} (W : World S K) (old : Core S K) (command : Command) (answer : Answer) (new : Core S K) : Type 0 where
+  pub saver : SaverAnswers W old (Ok command) answer new
+  pub keeps : LineKeeps W.durables W.records W.keeper (store_of old) old.saver answer new.saver

@@ -1,18 +1,16 @@
 // The answer to a line, over any durable store and keeper.
 ghost use Rattle.std.specs.Prelude.{◌≡◌, ◌⊎◌, ◌≤◌, true, false};
 ghost use Rattle.std.specs.declared.option.Option.TheVariants.{Some};
-ghost use Rattle.fs_model.specs.Fitting.{IsFitting};
 ghost use Rattle.outside.specs.Causes.{RoseBy};
 ghost use Rattle.session_saver.specs.Saving.{world};
 ghost use Rattle.store_api.specs.Durables.{with_mark};
 ghost use Rattle.store_api.specs.Txs.{intact_in};
 ghost use Rattle.tree_commands.specs.Performing.{is_sync, IsReplyTo};
 ghost use Rattle.tree_commands.specs.Showing.{ShowsFiles};
-ghost use Rattle.mount_core.specs.Answering.{FormAnswers, TreesAnswer, StoreAnswers, SaverAnswers};
+ghost use Rattle.mount_core.specs.Answering.{FormAnswers, TreesAnswer, StoreAnswers};
 ghost use Rattle.mount_core.specs.Drawing.{DrawsOnce, DrawsSeeded, LineDraws, NamesOfSeed};
-ghost use Rattle.mount_core.specs.Keeping.{LineKeeps};
 ghost use Rattle.mount_core.specs.Standing.{Ready, IsKeptMarked};
-ghost use Rattle.mount_answering.specs.Asking.{CanSettle, FormAsked, KeepsSaver, StoreAsked, StoreSettled, TreesAsked, TreesSettled};
+ghost use Rattle.mount_answering.specs.Asking.{CanAsk, CanSettle, FormAsked, KeepsSaver, SaverLeaves, StoreAsked, StoreSettled, TreesAsked, TreesSettled};
 
 use crate::kinds::{apply_answer, fail_answer, is_error, is_sync, only_looks, sync_answer};
 use crate::syncing::sync_first;
@@ -50,7 +48,6 @@ fn settle<S: Durable, K: Keeper, R: Rng>(
     reply: Reply,
     chance: &mut R,
 ) -> Answer
-    requires intact { intact_in S.Blocks.meanings S.Blocks.holdings core.old.blobs.tx }
     requires can { CanSettle (world S.meanings S.holdings S.durables S.records K.Keeper) core.old }
     requires form { IsReplyTo command.now reply }
     ensures ready { Ready (world S.meanings S.holdings S.durables S.records K.Keeper) core.new }
@@ -89,8 +86,7 @@ fn ask_begun<S: Durable, K: Keeper, R: Rng>(
     chance: &mut R,
 ) -> Answer
     requires intact { intact_in S.Blocks.meanings S.Blocks.holdings core.old.blobs.tx }
-    requires ready { Ready (world S.meanings S.holdings S.durables S.records K.Keeper) core.old }
-    requires fits { IsFitting command.now }
+    requires can { CanAsk (world S.meanings S.holdings S.durables S.records K.Keeper) core.old command.now }
     ensures ready { Ready (world S.meanings S.holdings S.durables S.records K.Keeper) core.new }
     ensures form { FormAsked command.now result }
     ensures trees { TreesAsked ShowsFiles (world S.meanings S.holdings S.durables S.records K.Keeper)
@@ -118,8 +114,7 @@ fn ask<S: Durable, K: Keeper, R: Rng>(
     command: &Command,
     chance: &mut R,
 ) -> Answer
-    requires ready { Ready (world S.meanings S.holdings S.durables S.records K.Keeper) core.old }
-    requires fits { IsFitting command.now }
+    requires can { CanAsk (world S.meanings S.holdings S.durables S.records K.Keeper) core.old command.now }
     ensures ready { Ready (world S.meanings S.holdings S.durables S.records K.Keeper) core.new }
     ensures form { FormAsked command.now result }
     ensures trees { TreesAsked ShowsFiles (world S.meanings S.holdings S.durables S.records K.Keeper)
@@ -146,17 +141,15 @@ pub fn answer<S: Durable, K: Keeper, R: Rng>(
     command: &Command,
     chance: &mut R,
 ) -> Answer
-    requires ready { Ready (world S.meanings S.holdings S.durables S.records K.Keeper) core.old }
-    requires fits { IsFitting command.now }
+    requires can { CanAsk (world S.meanings S.holdings S.durables S.records K.Keeper) core.old command.now }
     ensures ready { Ready (world S.meanings S.holdings S.durables S.records K.Keeper) core.new }
     ensures form { FormAnswers core.old (Ok command.now) result core.new }
     ensures trees { TreesAnswer ShowsFiles (world S.meanings S.holdings S.durables S.records K.Keeper)
         now core.old (Ok command.now) result core.new }
     ensures store { StoreAnswers S.meanings S.holdings S.durables core.old.violated core.old.saver.changed
         core.old.blobs.tx.store (Ok command.now) result core.new.blobs.tx.store }
-    ensures saver { SaverAnswers (world S.meanings S.holdings S.durables S.records K.Keeper) core.old (Ok command.now)
-        result core.new }
-    ensures keeps { LineKeeps S.durables S.records K.Keeper core.old.blobs.tx.store core.old.saver result core.new.saver }
+    ensures saver { SaverLeaves (world S.meanings S.holdings S.durables S.records K.Keeper) core.old command.now result
+        core.new }
     ensures draws { LineDraws S.meanings S.holdings S.durables S.applied S.drawn core.old.blobs.tx.store core.new.blobs.tx.store
         (R.stream chance.old) (R.stream chance.new) }
     ensures unmoved { is_sync command.now ≡ true → core.old.violated ≡ false → core.old.saver.changed ≡ false

@@ -7,7 +7,6 @@ ghost use Rattle.mount_core.specs.Answering.{CoreMoves, CoreSyncs, MakesRoom, Co
 ghost use Rattle.mount_core.specs.Standing.{Ready};
 
 use crate::kinds::is_sync;
-use blob_store::BlobStore;
 use block_id::Memory;
 use fs_model::Command;
 use mount_core::Core;
@@ -15,6 +14,7 @@ use outside::Keeper;
 use session_saver::{Saver, SyncError};
 use std::alloc::Global;
 use store_api::Durable;
+use tree_commands::BlobStore;
 
 /// Bytes that wait before a line syncs first. A removal counts as 64.
 const MOST_WAITING: usize = 8_388_608;

@@ -38,7 +38,7 @@ use Rattle.outside.specs.declared.keeper.Keeper.{Ghosts as KeeperGhosts}
 use Rattle.store_api.specs.Content.{Id, id_cmp, same_id}
 use Rattle.store_api.specs.Durables.{Identity}
 use Rattle.store_api.specs.Holdings.{has_id}
-use Rattle.tree_commands.specs.Showing.{ShowsFiles}
+use Rattle.mount_core.specs.Showing.{ShowsFiles}
 use Rattle.mount_calls.specs.Migrating.{ids_in, least_in, tower_applied, MigratesMount}
 
 -- ---- ids that increase

@@ -1,3 +1,4 @@
 pub mod Condemning
+pub mod Making
 pub mod Migrating
 pub mod Sealing

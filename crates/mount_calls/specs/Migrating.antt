@@ -23,7 +23,7 @@ use Rattle.outside.specs.Going.{GoesOn}
 use Rattle.outside.specs.Trace.{Call}
 use Rattle.outside.specs.declared.keeper.Keeper.{Ghosts as KeeperGhosts}
 use Rattle.store_api.specs.Content.{Id, Changes}
-use Rattle.tree_commands.specs.Performing.{Showing}
+use Rattle.mount_core.specs.Showing.{Showing}
 
 -- the live ids of a mount's store, and the least format that it takes
 abbrev pub ids_in : {V : Type 0} → {K : Type 0} → Mount V K → List Id

@@ -1,6 +1,6 @@
 // Blocks of an older format, written anew.
 ghost use Rattle.std.specs.Prelude.{◌≡◌, false};
-ghost use Rattle.tree_commands.specs.Showing.{ShowsFiles};
+ghost use Rattle.mount_core.specs.Showing.{ShowsFiles};
 ghost use Rattle.mount.specs.Mounts.{IsReady};
 ghost use Rattle.mount_calls.specs.Migrating.{MigratesMount};
 ghost use Rattle.mount_calls.specs.Sealing.{SealsAnew};

@@ -20,7 +20,7 @@ use Rattle.store_api.specs.Durables.{Durables, Records, Enduring}
 use Rattle.store_api.specs.Holdings.{Holdings, Steady, Stays, Changed, IsSpent}
 use Rattle.store_api.specs.declared.blocks.ApplyError.{ApplyError}
 use Rattle.store_api.specs.declared.blocks.ApplyError.TheVariants as apply_error
-use Rattle.tree_commands.specs.Performing.{Showing}
+use Rattle.mount_core.specs.Showing.{Showing}
 use Rattle.mount_core.specs.declared.body.Core.{Core}
 use Rattle.mount_core.specs.Answering.{store_of}
 use Rattle.mount_core.specs.Answers.{answer_of_fail, OnSpent}

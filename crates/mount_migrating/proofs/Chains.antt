@@ -9,7 +9,7 @@ use Rattle.session_saver.specs.Saving.{world}
 use Rattle.store_api.specs.Content.{Id}
 use Rattle.store_api.specs.Durables.{Durables, Records}
 use Rattle.store_api.specs.Holdings.{Holdings}
-use Rattle.tree_commands.specs.Performing.{Showing}
+use Rattle.mount_core.specs.Showing.{Showing}
 use Rattle.mount_core.specs.declared.body.Core.{Core}
 use Rattle.mount_core.specs.Answering.{store_of}
 use Rattle.mount_core.specs.Standing.{CoreStands}

@@ -17,7 +17,7 @@ use Rattle.store_api.specs.Content.{Changes}
 use Rattle.store_api.specs.Durables.{Identity, Durables, Records, Enduring}
 use Rattle.store_api.specs.Holdings.{Holdings, Steady, Stays}
 use Rattle.store_api.specs.Leaving.{SetsLeast, StaysMeant}
-use Rattle.tree_commands.specs.Performing.{Showing}
+use Rattle.mount_core.specs.Showing.{Showing}
 use Rattle.mount_core.specs.declared.body.Core.{Core}
 use Rattle.mount_core.specs.Answering.{store_of}
 use Rattle.mount_core.specs.Configuring.{CoreConfigures, KeptOneOf}

@@ -15,7 +15,7 @@ use Rattle.store_api.specs.Content.{Changes, Id, SameIds}
 use Rattle.store_api.specs.Durables.{Durables, Records, Enduring, with_mark}
 use Rattle.store_api.specs.Holdings.{Holdings}
 use Rattle.store_api.specs.declared.tx.Tx.{Tx}
-use Rattle.tree_commands.specs.Performing.{Showing}
+use Rattle.mount_core.specs.Showing.{Showing}
 use Rattle.mount_core.specs.declared.body.Core.{Core}
 use Rattle.mount_core.specs.Answering.{store_of}
 use Rattle.mount_core.specs.Answers.{OnFound}

@@ -12,7 +12,7 @@ use Rattle.session_saver.specs.declared.saver.SyncError.TheVariants as sync_erro
 use Rattle.store_api.specs.Content.{Id, Changes}
 use Rattle.store_api.specs.Durables.{Durables, Records, Enduring}
 use Rattle.store_api.specs.Holdings.{Holdings}
-use Rattle.tree_commands.specs.Performing.{Showing}
+use Rattle.mount_core.specs.Showing.{Showing}
 use Rattle.mount_core.specs.declared.body.Core.{Core}
 use Rattle.mount_core.specs.Answering.{store_of, CoreMoves, CoreSyncs}
 use Rattle.mount_answering.proofs.Synced.{config_roomed, roomed}

@@ -37,6 +37,19 @@ DrawsSteps W applied drawn (mid ∷ mids) a b stream left =
 abbrev pub DrawsAlong : {S : Type 0} → {K : Type 0} → World S K → (S → S → Changes → Type 0) → (S → S → Changes → Stream → Stream → Type 0) → Core S K → Core S K → Stream → Stream → Type 0
 DrawsAlong W applied drawn a b stream left = (mids : List (Reached _ _)) × DrawsSteps W applied drawn mids a b stream left
 
+-- what a sync, or none, leaves: what waited was written, or a part of it from its front, and what is kept, as the last record, is what it was or a record of the store before
+pub record SyncLeaves {S : Type 0} {K : Type 0} (W : World S K) (a b : Core S K) : Type 0 where
+  pub wrote : (store_of b ≡ store_of a) ⊎ Wrote W.durables (store_of a) (store_of b)
+  pub keeps : SyncKeeps W.durables W.keeper (store_of a) a.saver b.saver
+  pub least : W.durables.least (store_of b) ≡ W.durables.least (store_of a)
+
+-- only the least format was set, and a record of a store in which only that was set may have been kept
+pub record SetsOnly {S : Type 0} {K : Type 0} (W : World S K) (a b : Core S K) : Type 0 where
+  pub set : OnlySet W.holdings W.durables (store_of a) (store_of b)
+  pub short : S
+  pub set_short : OnlySet W.holdings W.durables (store_of a) short
+  pub keeps : SyncKeeps W.durables W.keeper short a.saver b.saver
+
 -- At last at most the least format was set, which draws nothing, and a record of a store in which only that was set may have been kept.
 pub record DrawsAnew {S : Type 0} {K : Type 0} (W : World S K) (applied : S → S → Changes → Type 0) (drawn : S → S → Changes → Stream → Stream → Type 0) (a b : Core S K) (stream left : Stream) : Type 0 where
   pub end : Core S K

@@ -2,7 +2,7 @@
 ghost use Rattle.std.specs.Prelude.{◌≡◌, false, map, OnOk};
 ghost use Rattle.data_tree.specs.Trees.{NoDoubles};
 ghost use Rattle.session_saver.specs.Saving.{world};
-ghost use Rattle.tree_commands.specs.Showing.{ShowsFiles};
+ghost use Rattle.mount_core.specs.Showing.{ShowsFiles};
 ghost use Rattle.mount_core.specs.Standing.{Ready};
 ghost use Rattle.mount_migrating.specs.Drawing.{DrawsAnew, DrawsMarked};
 ghost use Rattle.mount_migrating.specs.Migrating.{told, AreLive, IsMigratedRecord, Migrates, Moves};

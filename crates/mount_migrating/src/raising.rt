@@ -2,11 +2,10 @@
 ghost use Rattle.std.specs.Prelude.{◌≡◌, false, OnOk, OnErr};
 ghost use Rattle.session_saver.specs.Saving.{world};
 ghost use Rattle.store_api.specs.Durables.{MayBeLeast};
-ghost use Rattle.tree_commands.specs.Showing.{ShowsFiles};
-ghost use Rattle.mount_core.specs.Keeping.{SyncKeeps};
+ghost use Rattle.mount_core.specs.Showing.{ShowsFiles};
 ghost use Rattle.mount_core.specs.Standing.{Ready};
+ghost use Rattle.mount_migrating.specs.Drawing.{SetsOnly};
 ghost use Rattle.mount_migrating.specs.Migrating.{IsMigratedRecord, Rests};
-ghost use Rattle.mount_migrating.specs.Noticing.{OnlySet};
 
 use crate::error::{MigrateError, sync_error};
 use mount_core::Core;
@@ -25,9 +24,7 @@ pub(crate) fn raise_least<S: Durable, K: Keeper>(
     requires whole { core.old.saver.changed ≡ false }
     ensures ready { Ready (world S.meanings S.holdings S.durables S.records K.Keeper) core.new }
     ensures rests { Rests ShowsFiles (world S.meanings S.holdings S.durables S.records K.Keeper) core.old result core.new }
-    ensures set { OnlySet S.holdings S.durables core.old.blobs.tx.store core.new.blobs.tx.store }
-    ensures keeps { (short : S) × OnlySet S.holdings S.durables core.old.blobs.tx.store short
-        × SyncKeeps S.durables K.Keeper short core.old.saver core.new.saver }
+    ensures sets { SetsOnly (world S.meanings S.holdings S.durables S.records K.Keeper) core.old core.new }
     ensures least { OnErr result (S.durables.least core.new.blobs.tx.store ≡ 1) }
     ensures done { OnOk result (IsMigratedRecord (world S.meanings S.holdings S.durables S.records K.Keeper) core.new) }
 {

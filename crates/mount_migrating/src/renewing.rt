@@ -1,14 +1,13 @@
 // Blocks that are written anew.
-ghost use Rattle.std.specs.Prelude.{◌≡◌, ◌⊎◌, ◌<◌, true, false, is_some, [], ◌∷◌, map, OnOk};
+ghost use Rattle.std.specs.Prelude.{◌≡◌, ◌<◌, true, false, is_some, [], ◌∷◌, map, OnOk};
 ghost use Rattle.fs_model.specs.Tree.{Tree};
 ghost use Rattle.data_tree.specs.Trees.{NoDoubles};
-ghost use Rattle.session_saver.specs.Saving.{world, Wrote};
+ghost use Rattle.session_saver.specs.Saving.{world};
 ghost use Rattle.store_api.specs.Lists.{waiting_bytes};
-ghost use Rattle.tree_commands.specs.Showing.{ShowsFiles};
+ghost use Rattle.mount_core.specs.Showing.{ShowsFiles};
 ghost use Rattle.mount_core.specs.Drawing.{DrawsOnce, NamesKnown};
-ghost use Rattle.mount_core.specs.Keeping.{SyncKeeps};
 ghost use Rattle.mount_core.specs.Standing.{CoreStands, Ready};
-ghost use Rattle.mount_migrating.specs.Drawing.{DrawsAlong, StepDraws};
+ghost use Rattle.mount_migrating.specs.Drawing.{DrawsAlong, StepDraws, SyncLeaves};
 ghost use Rattle.mount_migrating.specs.Migrating.{told, AreLive, Renews, Rests};
 ghost use Rattle.mount_migrating.specs.Noticing.{NoticedAlong};
 
@@ -34,9 +33,7 @@ pub(crate) fn keep_present<S: Durable, K: Keeper>(
     ensures ready { Ready (world S.meanings S.holdings S.durables S.records K.Keeper) core.new }
     ensures rests { Rests ShowsFiles (world S.meanings S.holdings S.durables S.records K.Keeper) core.old result core.new }
     ensures noticed { NoticedAlong S.meanings S.holdings S.durables S.applied core.old.blobs.tx.store (told result) core.new.blobs.tx.store }
-    ensures wrote { (core.new.blobs.tx.store ≡ core.old.blobs.tx.store) ⊎ Wrote S.durables core.old.blobs.tx.store core.new.blobs.tx.store }
-    ensures keeps { SyncKeeps S.durables K.Keeper core.old.blobs.tx.store core.old.saver core.new.saver }
-    ensures least { S.durables.least core.new.blobs.tx.store ≡ S.durables.least core.old.blobs.tx.store }
+    ensures leaves { SyncLeaves (world S.meanings S.holdings S.durables S.records K.Keeper) core.old core.new }
     ensures whole { OnOk result (core.new.saver.changed ≡ false) }
     ensures kept { OnOk result ((kept now : Tree) → CoreStands ShowsFiles (world S.meanings S.holdings S.durables S.records K.Keeper) core.old kept now
         → CoreStands ShowsFiles (world S.meanings S.holdings S.durables S.records K.Keeper) core.new now now) }
@@ -57,9 +54,7 @@ fn make_room<S: Durable, K: Keeper>(
     ensures ready { Ready (world S.meanings S.holdings S.durables S.records K.Keeper) core.new }
     ensures rests { Rests ShowsFiles (world S.meanings S.holdings S.durables S.records K.Keeper) core.old result core.new }
     ensures noticed { NoticedAlong S.meanings S.holdings S.durables S.applied core.old.blobs.tx.store (told result) core.new.blobs.tx.store }
-    ensures wrote { (core.new.blobs.tx.store ≡ core.old.blobs.tx.store) ⊎ Wrote S.durables core.old.blobs.tx.store core.new.blobs.tx.store }
-    ensures keeps { SyncKeeps S.durables K.Keeper core.old.blobs.tx.store core.old.saver core.new.saver }
-    ensures least { S.durables.least core.new.blobs.tx.store ≡ S.durables.least core.old.blobs.tx.store }
+    ensures leaves { SyncLeaves (world S.meanings S.holdings S.durables S.records K.Keeper) core.old core.new }
     ensures few { OnOk result (waiting_bytes (S.durables.list core.new.blobs.tx.store) < 8388608) }
 {
     if core.blobs.tx.store.buffered() >= MOST_WAITING {

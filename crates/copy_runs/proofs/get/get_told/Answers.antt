@@ -15,7 +15,7 @@ returns-clause-got g c =
     let a = c.args.asker.now in
     let b = c.get_file-got.new.asker in
     let r = c.get_file-got.ensures.got in
-    let w = subst (λ z. WentBy M a.now a.mounted z r.qs b.mounted b.kept) c.requires.kept r.asked.went.2 in
+    let w = subst (λ z. WentBy M a.now a.mounted z r.qs b.mounted b.kept) c.requires.fresh.kept r.asked.went.2 in
     let output = stream_of g.O.Sink.written g.O.Sink.faults c.args.output.now c.get_file-got.new.output in (
       w.es,
       w.ran,

@@ -18,7 +18,7 @@ returns-clause-imported g c =
     let a = c.args.asker.now in
     let b = c.import-copied.new.asker in
     let r = c.import-copied.ensures.copied in
-    let w = subst (λ z. WentBy M a.now a.mounted z r.qs b.mounted b.kept) c.requires.kept r.asked.went.2 in
+    let w = subst (λ z. WentBy M a.now a.mounted z r.qs b.mounted b.kept) c.requires.fresh.kept r.asked.went.2 in
     let output = stream_of g.O.Sink.written g.O.Sink.faults c.args.output.now c.tell_copy.new.output in (
       w.es,
       w.ran,

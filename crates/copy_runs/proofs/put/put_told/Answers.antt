@@ -18,7 +18,7 @@ returns-clause-put g c =
     let a = c.args.asker.now in
     let b = c.put_file-put.new.asker in
     let r = c.put_file-put.ensures.put in
-    let w = subst (λ z. WentBy M a.now a.mounted z r.qs b.mounted b.kept) c.requires.kept r.asked.went.2 in
+    let w = subst (λ z. WentBy M a.now a.mounted z r.qs b.mounted b.kept) c.requires.fresh.kept r.asked.went.2 in
     let input = stream_of g.I.Source.rest g.I.Source.faults c.args.input.now c.put_file-put.new.input in
     let output = stream_of g.O.Sink.written g.O.Sink.faults c.args.output.now c.tell_put.new.output in (
       w.es,

@@ -11,10 +11,10 @@ returns-clause-created g c =
       opens = m.opens;
       anew = m.anew;
       tells = m.tells;
-      versions = m.versions;
-      newest = m.newest;
-      salt = m.salt;
-      client = m.client;
+      versions = m.first.versions;
+      newest = m.first.newest;
+      salt = m.first.salt;
+      client = m.first.client;
     }
 
 pub returns-clause-causes : goal.returns-clause-causes

@@ -131,7 +131,7 @@ returns-in-Ok-Some-clause-faults_told g c =
     (streams_of (stream_of g.I.Source.rest g.I.Source.faults c.args.input.now c.run_form.new.input) (stream_of g.O.Sink.written g.O.Sink.faults c.args.output.now c.run_form.new.output)
     (host_of g.F.Folder.tree g.F.Folder.faults c.args.host.now c.run_form.new.host) (g.R.Rng.stream c.args.chance.now) (g.R.Rng.stream c.run_form.new.chance))
     c.args.storage.vault c.args.storage.keeper c.run_form.result
-    made.form (sym made.field-0-is ∙ made.ensures.value) c.run_form.ensures.did c.run_form.ensures.caused c.run_form.ensures.input_grows c.run_form.ensures.output_grows c.run_form.ensures.host_grows
+    made.form (sym made.field-0-is ∙ made.ensures.value) c.run_form.ensures.did c.run_form.ensures.caused c.run_form.ensures.grows.input c.run_form.ensures.grows.output c.run_form.ensures.grows.host
 
 pub returns-in-Ok-Some-clause-statuses : goal.returns-in-Ok-Some-clause-statuses
 returns-in-Ok-Some-clause-statuses g c =

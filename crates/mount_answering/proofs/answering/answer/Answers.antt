@@ -45,7 +45,7 @@ either g core kept present P (inr m) f = f present m
 pub returns-then-core : goal.returns-then-core
 returns-then-core g c =
     let r = refused ShowsFiles g.S.Blocks.meanings g.S.Blocks.holdings g.S.Durable.durables g.S.Durable.records g.K.Keeper g.met.S.Blocks.lawful c.args.now c.args.core.now (Ok c.args.command.now) c.if-core.true in
-    record { ready = c.requires.ready; form = r.form; trees = r.trees; store = r.store; saver = r.saver; keeps = r.keeps; draws = line_synced g.S.Blocks.meanings g.S.Blocks.holdings g.S.Durable.durables g.met.S.Blocks.lawful g.S.BlocksMut.applied g.S.BlocksMut.drawn c.args.core.now.blobs.tx.store c.args.core.now.blobs.tx.store (g.R.Rng.stream c.args.chance.now) (inl refl) refl; unmoved = λ is fresh unchanged. absurd (true_is_false (sym c.if-core.true ∙ fresh)) }
+    record { ready = c.requires.can.ready; form = r.form; trees = r.trees; store = r.store; saver = record { saver = r.saver; keeps = r.keeps }; draws = line_synced g.S.Blocks.meanings g.S.Blocks.holdings g.S.Durable.durables g.met.S.Blocks.lawful g.S.BlocksMut.applied g.S.BlocksMut.drawn c.args.core.now.blobs.tx.store c.args.core.now.blobs.tx.store (g.R.Rng.stream c.args.chance.now) (inl refl) refl; unmoved = λ is fresh unchanged. absurd (true_is_false (sym c.if-core.true ∙ fresh)) }
 
 pub returns-in-Err : goal.returns-in-Err
 returns-in-Err g c =
@@ -92,15 +92,17 @@ returns-in-Err g c =
           (λ none. sync_directory error _ l.vault_quiet (subst (λ a. directory_faults a ≡ 0) answer none))
           (each (λ a. OnSpent a (SpentCause H store command)) tt tt tt);
       saver = record {
-        unsaved = λ unchanged calm. absurd (unmoved unchanged);
-        unchanged = λ unchanged calm undone. absurd (unmoved unchanged);
-        unmoved = λ is fresh unchanged. absurd (unmoved unchanged);
-        keeper_cause = subst (λ a. RoseBy (state_faults a) (failed old.saver.keeper) (failed new.saver.keeper)) (sym answer) (sync_state_rose error _ _ l.keeper_grows l.keeper_cause);
-        keeper_quiet = λ none calm. sync_state error _ l.keeper_quiet (subst (λ a. state_faults a ≡ 0) answer none);
-        marked = λ bad. absurd (true_is_false (sym bad ∙ calm));
-        least = z.moves.least;
+        saver = record {
+          unsaved = λ unchanged calm. absurd (unmoved unchanged);
+          unchanged = λ unchanged calm undone. absurd (unmoved unchanged);
+          unmoved = λ is fresh unchanged. absurd (unmoved unchanged);
+          keeper_cause = subst (λ a. RoseBy (state_faults a) (failed old.saver.keeper) (failed new.saver.keeper)) (sym answer) (sync_state_rose error _ _ l.keeper_grows l.keeper_cause);
+          keeper_quiet = λ none calm. sync_state error _ l.keeper_quiet (subst (λ a. state_faults a ≡ 0) answer none);
+          marked = λ bad. absurd (true_is_false (sym bad ∙ calm));
+          least = z.moves.least;
+        };
+        keeps = record { calm = λ calm. z.makes_room.keeps; marks = λ bad. absurd (true_is_false (sym bad ∙ calm)) };
       };
-      keeps = record { calm = λ calm. z.makes_room.keeps; marks = λ bad. absurd (true_is_false (sym bad ∙ calm)) };
       draws = line_synced M H D g.met.S.Blocks.lawful g.S.BlocksMut.applied g.S.BlocksMut.drawn store new.blobs.tx.store (g.R.Rng.stream c.args.chance.now) z.makes_room.wrote l.stays.used;
       unmoved = λ is fresh unchanged. absurd (unmoved unchanged);
     }
@@ -139,15 +141,17 @@ returns-then-is_sync g c =
       store = store_synced M H D R g.K.Keeper old.violated old.saver.changed command _ store new.blobs.tx.store old.saver.keeper new.saver.keeper _ (g.met.S.Blocks.lawful.same new.blobs.tx.store) (g.met.S.Blocks.lawful.gave_same new.blobs.tx.store) unsynced z.makes_room.wrote l
           (λ fresh other. absurd (true_is_false (sym is ∙ other))) tt (omega (arith, l.vault_grows)) (λ none. l.vault_quiet) tt;
       saver = record {
-        unsaved = λ unchanged calm. (ap (λ (core : CoreOf g). core.saver.keeper) (z.makes_room.unmoved unchanged).1, ap (λ (core : CoreOf g). core.saver.last) (z.makes_room.unmoved unchanged).1);
-        unchanged = λ unchanged calm undone. ap (λ (core : CoreOf g). core.saver.changed) (z.makes_room.unmoved unchanged).1 ∙ unchanged;
-        unmoved = λ is fresh unchanged. (inl refl, (z.makes_room.unmoved unchanged).1);
-        keeper_cause = omega (arith, l.keeper_grows);
-        keeper_quiet = λ none calm. l.keeper_quiet;
-        marked = λ bad. absurd (true_is_false (sym bad));
-        least = z.moves.least;
+        saver = record {
+          unsaved = λ unchanged calm. (ap (λ (core : CoreOf g). core.saver.keeper) (z.makes_room.unmoved unchanged).1, ap (λ (core : CoreOf g). core.saver.last) (z.makes_room.unmoved unchanged).1);
+          unchanged = λ unchanged calm undone. ap (λ (core : CoreOf g). core.saver.changed) (z.makes_room.unmoved unchanged).1 ∙ unchanged;
+          unmoved = λ is fresh unchanged. (inl refl, (z.makes_room.unmoved unchanged).1);
+          keeper_cause = omega (arith, l.keeper_grows);
+          keeper_quiet = λ none calm. l.keeper_quiet;
+          marked = λ bad. absurd (true_is_false (sym bad));
+          least = z.moves.least;
+        };
+        keeps = record { calm = λ calm. z.makes_room.keeps; marks = λ bad. absurd (true_is_false (sym bad)) };
       };
-      keeps = record { calm = λ calm. z.makes_room.keeps; marks = λ bad. absurd (true_is_false (sym bad)) };
       draws = line_synced M H D g.met.S.Blocks.lawful g.S.BlocksMut.applied g.S.BlocksMut.drawn store new.blobs.tx.store (g.R.Rng.stream c.args.chance.now) z.makes_room.wrote l.stays.used;
       unmoved = λ is fresh unchanged. (refl, (z.makes_room.unmoved unchanged).1);
     }
@@ -201,16 +205,18 @@ returns-in-Violation g c =
           (store_on M H D R g.K.Keeper old.violated old.saver.changed command c.ask-answer.result store room.blobs.tx.store asked.blobs.tx.store old.saver.keeper room.saver.keeper other unsynced z.makes_room.wrote
           (λ few. ap (λ (core : CoreOf g). core.blobs.tx.store) (z.makes_room.spared other few).1) z.makes_room.few l w.store);
       saver = record {
-        unsaved = λ unchanged calm. absurd (true_is_false (sym bad ∙ calm));
-        unchanged = λ unchanged calm undone. absurd (true_is_false (sym bad ∙ calm));
-        unmoved = λ is fresh unchanged. absurd (true_is_false (sym is ∙ other));
-        keeper_cause = omega (arith, w.form.unfaulted, ap failed w.saver.keeper, l.keeper_quiet, c.mark.ensures.keeper_grows);
-        keeper_quiet = λ none calm. absurd (true_is_false (sym bad ∙ calm));
-        marked = λ bad. subst (λ n. IsKeptMarked R (g.K.Keeper.kept new.saver.keeper) ⊎ RoseBy 1 n (failed new.saver.keeper)) (ap failed w.saver.keeper ∙ l.keeper_quiet) c.mark.ensures.marked;
-        least = least_marked M H D R g.K.Keeper store (kept old.saver.keeper) (kept room.saver.keeper) (kept new.saver.keeper)
-            (marked_or R asked.saver (kept new.saver.keeper) w.ready.can_mark (subst (λ k. (kept new.saver.keeper ≡ Some (with_mark asked.saver.last.items)) ⊎ (kept new.saver.keeper ≡ k)) (ap kept w.saver.keeper) c.mark.ensures.kept)) z.moves.least;
+        saver = record {
+          unsaved = λ unchanged calm. absurd (true_is_false (sym bad ∙ calm));
+          unchanged = λ unchanged calm undone. absurd (true_is_false (sym bad ∙ calm));
+          unmoved = λ is fresh unchanged. absurd (true_is_false (sym is ∙ other));
+          keeper_cause = omega (arith, w.form.unfaulted, ap failed w.saver.keeper, l.keeper_quiet, c.mark.ensures.keeper_grows);
+          keeper_quiet = λ none calm. absurd (true_is_false (sym bad ∙ calm));
+          marked = λ bad. subst (λ n. IsKeptMarked R (g.K.Keeper.kept new.saver.keeper) ⊎ RoseBy 1 n (failed new.saver.keeper)) (ap failed w.saver.keeper ∙ l.keeper_quiet) c.mark.ensures.marked;
+          least = least_marked M H D R g.K.Keeper store (kept old.saver.keeper) (kept room.saver.keeper) (kept new.saver.keeper)
+              (marked_or R asked.saver (kept new.saver.keeper) w.ready.can_mark (subst (λ k. (kept new.saver.keeper ≡ Some (with_mark asked.saver.last.items)) ⊎ (kept new.saver.keeper ≡ k)) (ap kept w.saver.keeper) c.mark.ensures.kept)) z.moves.least;
+        };
+        keeps = record { calm = λ calm. absurd (true_is_false (sym bad ∙ calm)); marks = λ bad. marked_kept D g.K.Keeper R store old.saver room.saver asked.saver new.saver z.makes_room.keeps w.saver.keeper w.saver.last w.ready.can_mark.marks c.mark.ensures.kept };
       };
-      keeps = record { calm = λ calm. absurd (true_is_false (sym bad ∙ calm)); marks = λ bad. marked_kept D g.K.Keeper R store old.saver room.saver asked.saver new.saver z.makes_room.keeps w.saver.keeper w.saver.last w.ready.can_mark.marks c.mark.ensures.kept };
       draws = subst (λ t. LineDraws M H D g.S.BlocksMut.applied g.S.BlocksMut.drawn store t (g.R.Rng.stream c.args.chance.now) (g.R.Rng.stream c.ask-answer.new.chance)) (sym e) (record { synced = room.blobs.tx.store; wrote = z.makes_room.wrote; used = l.stays.used; once = w.draws });
       unmoved = λ is fresh unchanged. absurd (true_is_false (sym is ∙ other));
     }
@@ -256,15 +262,17 @@ returns-in_default g c =
       store = store_on M H D R g.K.Keeper old.violated old.saver.changed command c.ask-answer.result store room.blobs.tx.store new.blobs.tx.store old.saver.keeper room.saver.keeper other unsynced z.makes_room.wrote
           (λ few. ap (λ (core : CoreOf g). core.blobs.tx.store) (z.makes_room.spared other few).1) z.makes_room.few l w.store;
       saver = record {
-        unsaved = λ unchanged calm. (w.saver.keeper ∙ ap (λ (core : CoreOf g). core.saver.keeper) (z.makes_room.unmoved unchanged).1, w.saver.last ∙ ap (λ (core : CoreOf g). core.saver.last) (z.makes_room.unmoved unchanged).1);
-        unchanged = λ unchanged calm undone. ap (λ (saver : Saver g.row.K.Denot). saver.changed) (w.saver.saver undone) ∙ (ap (λ (core : CoreOf g). core.saver.changed) (z.makes_room.unmoved unchanged).1 ∙ unchanged);
-        unmoved = λ is fresh unchanged. absurd (true_is_false (sym is ∙ other));
-        keeper_cause = omega (arith, w.form.unfaulted, ap failed w.saver.keeper, l.keeper_quiet);
-        keeper_quiet = λ none calm. ap failed w.saver.keeper ∙ l.keeper_quiet;
-        marked = λ bad. absurd (true_is_false (sym bad ∙ calm));
-        least = least_marked M H D R g.K.Keeper store (kept old.saver.keeper) (kept room.saver.keeper) (kept new.saver.keeper) (inr (ap kept w.saver.keeper)) z.moves.least;
+        saver = record {
+          unsaved = λ unchanged calm. (w.saver.keeper ∙ ap (λ (core : CoreOf g). core.saver.keeper) (z.makes_room.unmoved unchanged).1, w.saver.last ∙ ap (λ (core : CoreOf g). core.saver.last) (z.makes_room.unmoved unchanged).1);
+          unchanged = λ unchanged calm undone. ap (λ (saver : Saver g.row.K.Denot). saver.changed) (w.saver.saver undone) ∙ (ap (λ (core : CoreOf g). core.saver.changed) (z.makes_room.unmoved unchanged).1 ∙ unchanged);
+          unmoved = λ is fresh unchanged. absurd (true_is_false (sym is ∙ other));
+          keeper_cause = omega (arith, w.form.unfaulted, ap failed w.saver.keeper, l.keeper_quiet);
+          keeper_quiet = λ none calm. ap failed w.saver.keeper ∙ l.keeper_quiet;
+          marked = λ bad. absurd (true_is_false (sym bad ∙ calm));
+          least = least_marked M H D R g.K.Keeper store (kept old.saver.keeper) (kept room.saver.keeper) (kept new.saver.keeper) (inr (ap kept w.saver.keeper)) z.moves.least;
+        };
+        keeps = record { calm = λ calm. asked_keeps D g.K.Keeper store old.saver room.saver new.saver z.makes_room.keeps w.saver.keeper w.saver.last; marks = λ bad. absurd (true_is_false (sym bad ∙ calm)) };
       };
-      keeps = record { calm = λ calm. asked_keeps D g.K.Keeper store old.saver room.saver new.saver z.makes_room.keeps w.saver.keeper w.saver.last; marks = λ bad. absurd (true_is_false (sym bad ∙ calm)) };
       draws = record { synced = room.blobs.tx.store; wrote = z.makes_room.wrote; used = l.stays.used; once = w.draws };
       unmoved = λ is fresh unchanged. absurd (true_is_false (sym is ∙ other));
     }

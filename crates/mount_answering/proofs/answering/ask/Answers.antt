@@ -24,14 +24,14 @@ with g core tx = record core { blobs = record { tx = tx } }
 abbrev begun : (g : Over) → CoreOf g → List ℕ → Tx g.row.S.Denot
 begun g core seed = record core.blobs.tx { overlay = fin.empty; seed = seed; ids = of_seed seed }
 
-pub ask_begun-requires-clause-ready : goal.ask_begun-requires-clause-ready
-ask_begun-requires-clause-ready g c =
+pub ask_begun-requires-clause-can : goal.ask_begun-requires-clause-can
+ask_begun-requires-clause-can g c =
     let W = world g.S.Blocks.meanings g.S.Blocks.holdings g.S.Durable.durables g.S.Durable.records g.K.Keeper in
     let old = c.args.core.now in
-    let ready = c.requires.ready in
+    let ready = c.requires.can.ready in
     let now : Ready W (with g old (begun g old c.fill_bytes.new.dst)) =
     record { intact = ready.intact; empty = refl; few = ready.few; room = ready.room; can_mark = ready.can_mark; whole = ready.whole } in
-    subst (λ t. Ready W (with g old t)) (sym c.begin.ensures.begun) now
+    record { ready = subst (λ t. Ready W (with g old t)) (sym c.begin.ensures.begun) now; fits = c.requires.can.fits }
 
 pub returns-clause-trees : goal.returns-clause-trees
 returns-clause-trees g c =

@@ -36,8 +36,9 @@ CoreOf g = Core g.row.S.Denot g.row.K.Denot
 pub settle-requires-clause-can : goal.settle-requires-clause-can
 settle-requires-clause-can g c =
     let old = c.args.core.now in
-    let ready = c.requires.ready in
+    let ready = c.requires.can.ready in
     record {
+      intact = c.in-Ok.ensures.outcome.intact;
       room = ready.room;
       can_mark = ready.can_mark;
       whole = whole_loaded ShowsFiles g.S.Blocks.meanings g.S.Blocks.holdings g.S.Durable.durables g.S.Durable.records g.K.Keeper g.S.BlocksMut.applied g.met.S.Durable.enduring old.saver old.blobs.tx.store c.perform.new.blobs.tx.store
@@ -74,16 +75,16 @@ returns-in-Ok g c =
       };
       trees = record {
         stands = λ kept present s few.
-            let shown = shown_now ShowsFiles M H D R g.K.Keeper files_same g.met.S.Blocks.steady g.S.BlocksMut.applied g.met.S.BlocksMut.settled endures old kept present s c.requires.ready.empty in
+            let shown = shown_now ShowsFiles M H D R g.K.Keeper files_same g.met.S.Blocks.steady g.S.BlocksMut.applied g.met.S.BlocksMut.settled endures old kept present s c.requires.can.ready.empty in
             z.trees.stands c.args.now kept present
             (asked ShowsFiles M H D R g.K.Keeper files_same g.met.S.Blocks.steady g.S.BlocksMut.applied g.met.S.BlocksMut.settled endures c.args.now old mid kept present command c.in-Ok.reply s o.loaded.0 refl refl (o.sound s.sound (unforged few)) (o.value (record { tree = present; shown = shown }) s.sound (unforged few)));
         configures = λ may present s. z.trees.configures may present (configures_loaded ShowsFiles M H D R g.K.Keeper g.S.BlocksMut.applied endures old mid may present s o.loaded.0 stays refl refl);
         alarm = λ kept present s honest. each (λ a. is_violation a ≡ false) refl refl refl;
         built = λ kept present s few. each (λ a. is_structure a ≡ false) refl refl refl;
         sparing = λ kept present s few.
-            let shown = shown_now ShowsFiles M H D R g.K.Keeper files_same g.met.S.Blocks.steady g.S.BlocksMut.applied g.met.S.BlocksMut.settled endures old kept present s c.requires.ready.empty in
+            let shown = shown_now ShowsFiles M H D R g.K.Keeper files_same g.met.S.Blocks.steady g.S.BlocksMut.applied g.met.S.BlocksMut.settled endures old kept present s c.requires.can.ready.empty in
             on_inside (H.payload store) present command (λ most. fin.len mid.blobs.tx.overlay ≤ fin.len old.blobs.tx.overlay + most) (FewRaised H store new)
-            (λ most count. few_on H store asked_of new most stays (few_changed H asked_of new old.blobs.tx.overlay mid.blobs.tx.overlay most c.requires.ready.empty count z.store.rests))
+            (λ most count. few_on H store asked_of new most stays (few_changed H asked_of new old.blobs.tx.overlay mid.blobs.tx.overlay most c.requires.can.ready.empty count z.store.rests))
             (c.perform.ensures.sparing (record { tree = present; shown = shown }) s.sound (unforged few));
       };
       store = record {
@@ -143,9 +144,9 @@ returns-in-Err g c =
         intact = c.abandon.ensures.intact.0;
         empty = c.abandon.ensures.overlay;
         few = c.abandon.ensures.intact.1.few;
-        room = c.requires.ready.room;
-        can_mark = c.requires.ready.can_mark;
-        whole = whole_loaded ShowsFiles M H D R g.K.Keeper g.S.BlocksMut.applied endures old.saver store after loaded c.requires.ready.whole;
+        room = c.requires.can.ready.room;
+        can_mark = c.requires.can.ready.can_mark;
+        whole = whole_loaded ShowsFiles M H D R g.K.Keeper g.S.BlocksMut.applied endures old.saver store after loaded c.requires.can.ready.whole;
       };
       form = record {
         unfaulted = each (λ a. state_faults a ≡ 0) refl refl (λ why. refl);
@@ -157,11 +158,11 @@ returns-in-Err g c =
             (performed_failed ShowsFiles M H D R g.K.Keeper files_same g.met.S.Blocks.steady g.S.BlocksMut.applied g.met.S.BlocksMut.settled endures c.args.now old new kept present command fail s loaded refl refl (sound s.sound few));
         configures = λ may present s. configures_loaded ShowsFiles M H D R g.K.Keeper g.S.BlocksMut.applied endures old new may present s loaded stays refl refl;
         alarm = λ kept present s honest.
-            let shown = shown_now ShowsFiles M H D R g.K.Keeper files_same g.met.S.Blocks.steady g.S.BlocksMut.applied g.met.S.BlocksMut.settled endures old kept present s c.requires.ready.empty in
+            let shown = shown_now ShowsFiles M H D R g.K.Keeper files_same g.met.S.Blocks.steady g.S.BlocksMut.applied g.met.S.BlocksMut.settled endures old kept present s c.requires.can.ready.empty in
             subst (λ a. is_violation a ≡ false) (sym answer) (calm fail
             (no_alarm (tx_laws M H lawful) o (record { tree = present; shown = shown }) s.sound (subst (λ x. M.lies x ≤ M.lies store) e honest)));
         built = λ kept present s few.
-            let shown = shown_now ShowsFiles M H D R g.K.Keeper files_same g.met.S.Blocks.steady g.S.BlocksMut.applied g.met.S.BlocksMut.settled endures old kept present s c.requires.ready.empty in
+            let shown = shown_now ShowsFiles M H D R g.K.Keeper files_same g.met.S.Blocks.steady g.S.BlocksMut.applied g.met.S.BlocksMut.settled endures old kept present s c.requires.can.ready.empty in
             subst (λ a. is_structure a ≡ false) (sym answer) (of_blocks fail (o.structure (record { tree = present; shown = shown }) s.sound (unforged few)));
         sparing = λ kept present s few. always_inside (H.payload store) present command (FewRaised H store after) (λ most. few_stays H store after most stays);
       };

@@ -6,7 +6,7 @@ use Rattle.integrity_store.specs.EnduringLaws.{enduring_by}
 use Rattle.mount_answering.proofs.Lines.{config_marked}
 use Rattle.mount_tower.specs.Tower.{Cached, tower_meanings, tower_holdings, tower_durables}
 use Rattle.store_api.specs.declared.tx.Tx.{Tx}
-use Rattle.tree_commands.specs.Showing.{ShowsFiles}
+use Rattle.mount_core.specs.Showing.{ShowsFiles}
 use Rattle.mount_calls.proofs.serving.condemn.Goals as goal
 
 pub returns : goal.returns

@@ -1,5 +1,5 @@
 use Rattle.std.proofs.Common.{◌∙◌, refl, sym, inr}
-use Rattle.tree_commands.specs.Showing.{ShowsFiles}
+use Rattle.mount_core.specs.Showing.{ShowsFiles}
 use Rattle.std.specs.declared.result.Result.TheVariants.{Err}
 use Rattle.mount_migrating.specs.Migrating.{told}
 use Rattle.mount_migrating.proofs.Chains.{moves_all, moves_unrenewed, moves_unsynced}
@@ -24,7 +24,7 @@ raise_least-requires-clause-may g c =
 pub returns-in-Err-keep_present-clause-moves : goal.returns-in-Err-keep_present-clause-moves
 returns-in-Err-keep_present-clause-moves g c =
     moves_unsynced ShowsFiles g.S.Blocks.meanings g.S.Blocks.holdings g.S.Durable.durables g.S.Durable.records g.K.Keeper c.args.core.now c.renew_all.new.core (listed c.args.ids.now) c.in-Ok.ensures.renews
-    c.keep_present.new.core c.in-Err-keep_present.error c.in-Err-keep_present.ensures.least c.in-Err-keep_present.ensures.rests
+    c.keep_present.new.core c.in-Err-keep_present.error c.in-Err-keep_present.ensures.leaves.least c.in-Err-keep_present.ensures.rests
 
 pub returns-in-Ok-keep_present-clause-moves : goal.returns-in-Ok-keep_present-clause-moves
 returns-in-Ok-keep_present-clause-moves g c =
@@ -57,7 +57,7 @@ returns-in-Ok-keep_present-clause-noticed g c =
     let end = c.keep_present.new.core.blobs.tx.store in
     let answer = told c.raise_least.result in
     let last = along_answered M H D g.S.BlocksMut.applied mid end answer c.in-Ok-keep_present.ensures.noticed in
-    record { end = end; along = along_then M H D g.S.BlocksMut.applied old mid end answer c.in-Ok.ensures.noticed last; set = c.raise_least.ensures.set }
+    record { end = end; along = along_then M H D g.S.BlocksMut.applied old mid end answer c.in-Ok.ensures.noticed last; set = c.raise_least.ensures.sets.set }
 
 -- ---- what it draws
 
@@ -70,18 +70,18 @@ returns-in-Err-keep_present-clause-draws g c =
     let new = c.keep_present.new.core in
     let r = c.in-Err-keep_present.ensures in
     draws_ended g.S.Blocks.meanings g.S.Blocks.holdings g.S.Durable.durables g.S.Durable.records g.K.Keeper g.S.BlocksMut.applied g.S.BlocksMut.drawn old new _ _
-    (draws_synced g.S.Blocks.meanings g.S.Blocks.holdings g.S.Durable.durables g.S.Durable.records g.K.Keeper g.S.BlocksMut.applied g.S.BlocksMut.drawn g.met.S.Blocks.lawful old c.renew_all.new.core new _ _ c.in-Ok.ensures.draws c.in-Ok.ensures.ready.intact r.wrote r.rests.used r.keeps)
+    (draws_synced g.S.Blocks.meanings g.S.Blocks.holdings g.S.Durable.durables g.S.Durable.records g.K.Keeper g.S.BlocksMut.applied g.S.BlocksMut.drawn g.met.S.Blocks.lawful old c.renew_all.new.core new _ _ c.in-Ok.ensures.draws c.in-Ok.ensures.ready.intact r.leaves.wrote r.rests.used r.leaves.keeps)
 
 pub returns-in-Ok-keep_present-clause-draws : goal.returns-in-Ok-keep_present-clause-draws
 returns-in-Ok-keep_present-clause-draws g c =
     let end = c.keep_present.new.core in
     let r = c.in-Ok-keep_present.ensures in
-    let s = c.raise_least.ensures in
+    let s = c.raise_least.ensures.sets in
     record {
       end = end;
-      along = draws_synced g.S.Blocks.meanings g.S.Blocks.holdings g.S.Durable.durables g.S.Durable.records g.K.Keeper g.S.BlocksMut.applied g.S.BlocksMut.drawn g.met.S.Blocks.lawful c.args.core.now c.renew_all.new.core end _ _ c.in-Ok.ensures.draws c.in-Ok.ensures.ready.intact r.wrote r.rests.used r.keeps;
+      along = draws_synced g.S.Blocks.meanings g.S.Blocks.holdings g.S.Durable.durables g.S.Durable.records g.K.Keeper g.S.BlocksMut.applied g.S.BlocksMut.drawn g.met.S.Blocks.lawful c.args.core.now c.renew_all.new.core end _ _ c.in-Ok.ensures.draws c.in-Ok.ensures.ready.intact r.leaves.wrote r.rests.used r.leaves.keeps;
       set = s.set;
-      short = s.keeps.0;
-      set_short = s.keeps.1;
-      keeps = s.keeps.2;
+      short = s.short;
+      set_short = s.set_short;
+      keeps = s.keeps;
     }

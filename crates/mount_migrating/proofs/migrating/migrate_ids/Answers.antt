@@ -3,7 +3,7 @@ use Rattle.std.specs.declared.result.Result.TheVariants.{Ok, Err}
 use Rattle.answers.specs.Sessions.{is_violation}
 use Rattle.block_id.specs.declared.fail.Why.{Why}
 use Rattle.session_saver.specs.Saving.{world}
-use Rattle.tree_commands.specs.Showing.{ShowsFiles}
+use Rattle.mount_core.specs.Showing.{ShowsFiles}
 use Rattle.store_api.specs.declared.tx.Tx.{Tx}
 use Rattle.mount_migrating.specs.Migrating.{told, Migrates, Moves}
 use Rattle.mount_migrating.specs.Noticing.{PassesNone}

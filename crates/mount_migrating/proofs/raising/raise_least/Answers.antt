@@ -4,7 +4,7 @@ use Rattle.store_api.specs.Holdings.{Stays}
 use Rattle.store_api.specs.Leaving.{StaysMeant, SetsLeast}
 use Rattle.session_saver.specs.Saving.{world}
 use Rattle.session_saver.specs.declared.saver.Saver.{Saver}
-use Rattle.tree_commands.specs.Showing.{ShowsFiles}
+use Rattle.mount_core.specs.Showing.{ShowsFiles}
 use Rattle.tree_commands.proofs.Shows.{files_same}
 use Rattle.mount_core.specs.declared.body.Core.{Core}
 use Rattle.mount_migrating.specs.Migrating.{IsMigratedRecord, Rests}
@@ -70,46 +70,39 @@ returns-in-Err-clause-rests g c =
     (unsaved_rests ShowsFiles g.S.Blocks.meanings g.S.Blocks.holdings g.S.Durable.durables g.S.Durable.records g.K.Keeper files_same g.met.S.Blocks.steady g.S.BlocksMut.applied g.met.S.Durable.enduring
     old new up c.keep_short.new.self c.in-Err.error c.requires.ready.intact (c.requires.ready.whole.none c.requires.whole) first second refl refl refl refl k.saves k.keeper_grows k.keeper_cause k.keeper_quiet)
 
--- ---- only the least format is set
+-- ---- only the least format is set, and what is kept
 
-pub returns-in-Ok-clause-set : goal.returns-in-Ok-clause-set
-returns-in-Ok-clause-set g c =
-    let u = c.set_least.ensures in
-    subst (λ store. OnlySet g.S.Blocks.holdings g.S.Durable.durables c.args.core.now.blobs.tx.store store) (sym c.keep_short.ensures.same) (record { stays = u.stays; identity = u.sets.identity; list = u.sets.list; trace = u.sets.trace })
-
-pub returns-in-Err-clause-set : goal.returns-in-Err-clause-set
-returns-in-Err-clause-set g c =
-    let H = g.S.Blocks.holdings in
-    let D = g.S.Durable.durables in
-    let u = c.set_least.ensures in
-    let d = c.set_least-in-Err.ensures in
-    let down = c.set_least-in-Err.new.self in
-    let back : OnlySet H D c.keep_short.new.store down = record { stays = d.stays; identity = d.sets.identity; list = d.sets.list; trace = d.sets.trace } in
-    set_then g.S.Blocks.meanings H D g.S.BlocksMut.applied c.args.core.now.blobs.tx.store c.set_least.new.self down (record { stays = u.stays; identity = u.sets.identity; list = u.sets.list; trace = u.sets.trace }) (subst (λ store. OnlySet H D store down) c.keep_short.ensures.same back)
-
--- ---- what is kept
-
-pub returns-in-Ok-clause-keeps : goal.returns-in-Ok-clause-keeps
-returns-in-Ok-clause-keeps g c =
+pub returns-in-Ok-clause-sets : goal.returns-in-Ok-clause-sets
+returns-in-Ok-clause-sets g c =
     let D = g.S.Durable.durables in
     let old = c.args.core.now in
     let up = c.set_least.new.self in
-    let u = c.set_least.ensures in (
-      up,
-      record { stays = u.stays; identity = u.sets.identity; list = u.sets.list; trace = u.sets.trace },
-      short_keeps D g.K.Keeper up old.saver c.keep_short.new.self (Ok tt) (g.met.S.Durable.enduring.written up false u.meant.intact) c.in-Ok.ensures.saves,
-    )
+    let u = c.set_least.ensures in
+    let only : OnlySet g.S.Blocks.holdings D old.blobs.tx.store up = record { stays = u.stays; identity = u.sets.identity; list = u.sets.list; trace = u.sets.trace } in
+    record {
+      set = subst (λ store. OnlySet g.S.Blocks.holdings D old.blobs.tx.store store) (sym c.keep_short.ensures.same) only;
+      short = up;
+      set_short = only;
+      keeps = short_keeps D g.K.Keeper up old.saver c.keep_short.new.self (Ok tt) (g.met.S.Durable.enduring.written up false u.meant.intact) c.in-Ok.ensures.saves;
+    }
 
-pub returns-in-Err-clause-keeps : goal.returns-in-Err-clause-keeps
-returns-in-Err-clause-keeps g c =
+pub returns-in-Err-clause-sets : goal.returns-in-Err-clause-sets
+returns-in-Err-clause-sets g c =
+    let H = g.S.Blocks.holdings in
     let D = g.S.Durable.durables in
     let G = g.K.Keeper in
     let old = c.args.core.now in
     let up = c.set_least.new.self in
     let u = c.set_least.ensures in
-    let saver = c.keep_short.new.self in (
-      up,
-      record { stays = u.stays; identity = u.sets.identity; list = u.sets.list; trace = u.sets.trace },
-      keeps_on D G up old.saver saver (record saver { changed = true })
-          (short_keeps D G up old.saver saver (Err c.in-Err.error) (g.met.S.Durable.enduring.written up false u.meant.intact) c.in-Err.ensures.saves) refl refl,
-    )
+    let d = c.set_least-in-Err.ensures in
+    let down = c.set_least-in-Err.new.self in
+    let saver = c.keep_short.new.self in
+    let only : OnlySet H D old.blobs.tx.store up = record { stays = u.stays; identity = u.sets.identity; list = u.sets.list; trace = u.sets.trace } in
+    let back : OnlySet H D c.keep_short.new.store down = record { stays = d.stays; identity = d.sets.identity; list = d.sets.list; trace = d.sets.trace } in
+    record {
+      set = set_then g.S.Blocks.meanings H D g.S.BlocksMut.applied old.blobs.tx.store up down only (subst (λ store. OnlySet H D store down) c.keep_short.ensures.same back);
+      short = up;
+      set_short = only;
+      keeps = keeps_on D G up old.saver saver (record saver { changed = true })
+          (short_keeps D G up old.saver saver (Err c.in-Err.error) (g.met.S.Durable.enduring.written up false u.meant.intact) c.in-Err.ensures.saves) refl refl;
+    }

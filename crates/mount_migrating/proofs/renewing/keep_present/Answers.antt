@@ -1,7 +1,7 @@
 use Rattle.std.proofs.Common.{sym, subst}
 use Rattle.std.specs.declared.result.Result.TheVariants.{Ok, Err}
 use Rattle.session_saver.specs.Saving.{world}
-use Rattle.tree_commands.specs.Showing.{ShowsFiles}
+use Rattle.mount_core.specs.Showing.{ShowsFiles}
 use Rattle.mount_migrating.specs.Migrating.{told, Rests}
 use Rattle.mount_migrating.proofs.Noticing.{along_synced}
 use Rattle.mount_migrating.proofs.Syncing.{done_rests, stopped_rests}
@@ -30,14 +30,12 @@ returns-in-Err-clause-noticed g c =
     let l = z.moves.leaves in
     along_synced g.S.Blocks.meanings g.S.Blocks.holdings g.S.Durable.durables g.S.BlocksMut.applied g.met.S.Blocks.lawful c.args.core.now.blobs.tx.store c.sync.new.core.blobs.tx.store (told {T = Unit} (Err c.sync_error.result)) z.syncs.wrote l.stays l.identity l.least
 
-pub returns-in-Ok-clause-wrote : goal.returns-in-Ok-clause-wrote
-returns-in-Ok-clause-wrote g c = c.in-Ok.ensures.syncs.wrote
+pub returns-in-Ok-clause-leaves : goal.returns-in-Ok-clause-leaves
+returns-in-Ok-clause-leaves g c =
+    let z = c.in-Ok.ensures in
+    record { wrote = z.syncs.wrote; keeps = z.syncs.keeps; least = z.moves.leaves.least }
 
-pub returns-in-Err-clause-wrote : goal.returns-in-Err-clause-wrote
-returns-in-Err-clause-wrote g c = c.in-Err.ensures.syncs.wrote
-
-pub returns-in-Ok-clause-keeps : goal.returns-in-Ok-clause-keeps
-returns-in-Ok-clause-keeps g c = c.in-Ok.ensures.syncs.keeps
-
-pub returns-in-Err-clause-keeps : goal.returns-in-Err-clause-keeps
-returns-in-Err-clause-keeps g c = c.in-Err.ensures.syncs.keeps
+pub returns-in-Err-clause-leaves : goal.returns-in-Err-clause-leaves
+returns-in-Err-clause-leaves g c =
+    let z = c.in-Err.ensures in
+    record { wrote = z.syncs.wrote; keeps = z.syncs.keeps; least = z.moves.leaves.least }

@@ -9,10 +9,7 @@ pub returns-clause-noticed : goal.returns-clause-noticed
 returns-clause-noticed g c =
     along_same g.S.Blocks.meanings g.S.Blocks.holdings g.S.Durable.durables g.S.BlocksMut.applied g.met.S.Blocks.lawful c.args.core.now.blobs.tx.store (Replied Done)
 
-pub returns-clause-wrote : goal.returns-clause-wrote
-returns-clause-wrote g c = inl refl
-
-pub returns-clause-keeps : goal.returns-clause-keeps
-returns-clause-keeps g c =
+pub returns-clause-leaves : goal.returns-clause-leaves
+returns-clause-leaves g c =
     let core = c.args.core.now in
-    keeps_same g.S.Durable.durables g.K.Keeper core.blobs.tx.store core.saver core.saver refl refl
+    record { wrote = inl refl; keeps = keeps_same g.S.Durable.durables g.K.Keeper core.blobs.tx.store core.saver core.saver refl refl; least = refl }

@@ -10,7 +10,7 @@ use Rattle.outcome.specs.Outcome.{alarm as no_alarm}
 use Rattle.session_saver.specs.Saving.{world}
 use Rattle.store_api.specs.Content.{Changes}
 use Rattle.store_api.specs.Holdings.{Changed, FitsStore, IsFew, IsSpent}
-use Rattle.tree_commands.specs.Showing.{ShowsFiles}
+use Rattle.mount_core.specs.Showing.{ShowsFiles}
 use Rattle.tree_commands.proofs.Shows.{files_same}
 use Rattle.mount_core.specs.Drawing.{NamesKnown}
 use Rattle.mount_core.specs.declared.body.Core.{Core}

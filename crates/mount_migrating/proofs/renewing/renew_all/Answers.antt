@@ -1,7 +1,7 @@
 use Rattle.std.proofs.Common.{◌≡◌, ◌+◌, ◌∙◌, ◌++◌, suc, [], ◌∷◌, take, drop, get_or, refl, sym, ap, subst, add-one, arith}
 use Rattle.std.proofs.lemmas.List.{take-append-drop}
 use Rattle.std.specs.declared.result.Result.TheVariants.{Err}
-use Rattle.tree_commands.specs.Showing.{ShowsFiles}
+use Rattle.mount_core.specs.Showing.{ShowsFiles}
 use Rattle.mount_migrating.specs.Migrating.{told, AreNew, AreUnspent, Raises}
 use Rattle.mount_migrating.proofs.Crowds.{is_in, is_next, listed, new_then, next_taken, raises_then, raises_wider, spent_then, turned, unspent_then}
 use Rattle.answers.specs.declared.answer.Answer.TheVariants.{Reply as Replied}

@@ -4,7 +4,7 @@ use Rattle.fs_model.specs.declared.reply.Reply.TheVariants.{Done}
 use Rattle.session_saver.specs.Saving.{world}
 use Rattle.store_api.specs.Content.{Id}
 use Rattle.store_api.specs.Durables.{IsNewFile}
-use Rattle.tree_commands.specs.Showing.{ShowsFiles}
+use Rattle.mount_core.specs.Showing.{ShowsFiles}
 use Rattle.mount_core.specs.Standing.{Ready}
 use Rattle.mount_migrating.specs.Drawing.{DrawsAlong}
 use Rattle.mount_migrating.specs.Migrating.{AreNew, AreUnspent, Proceeds, Raises}

@@ -28,10 +28,10 @@ returns-in-Err-clause-halted g c =
     let D = g.S.Durable.durables in
     let endures = g.met.S.Durable.enduring in
     let old = c.args.store in
-    let kept = c.prepare.ensures.kept ∙ c.requires.kept in
+    let kept = c.prepare.ensures.kept ∙ c.requires.long.kept in
     record {
       identity = refl;
-      stands = λ now sound unmarked same. (c.args.last.items, kept, endures.stands_same _ _ _ (H.content old) now (λ id. sym (same id)) (endures.stands_now old c.args.last.items c.requires.intact sound unmarked c.requires.last));
+      stands = λ now sound unmarked same. (c.args.last.items, kept, endures.stands_same _ _ _ (H.content old) now (λ id. sym (same id)) (endures.stands_now old c.args.last.items c.requires.intact sound unmarked c.requires.long.last));
       configures = λ bytes told h. (c.args.last.items, kept, h);
       keeps = inl c.prepare.ensures.kept;
       stops = inl refl;
@@ -54,7 +54,7 @@ returns-in-Err-write_waiting-clause-halted g c =
     record {
       identity = l.identity;
       stands = λ now sound unmarked same. subst (λ i. RepresentsContent g.S.Durable.records i (g.K.Keeper.kept c.write_waiting.new.self.keeper) (D.trace c.write_waiting.new.store) now) l.identity (z.stands now sound unmarked same);
-      configures = λ bytes told h. z.configures c.args.last.items bytes told c.requires.last h;
+      configures = λ bytes told h. z.configures c.args.last.items bytes told c.requires.long.last h;
       keeps = elim z.keeps [ inl same ↦ inl (same ∙ c.prepare.ensures.kept) | inr short ↦ inr short ];
       stops = m.wrote;
       goes_on = l.goes_on;
@@ -92,7 +92,7 @@ written g c =
             sound = l.sound;
             identity = l.identity;
             represents = λ sound unmarked. z.stands (H.content old) sound unmarked (λ id. refl);
-            present = λ bytes told h. m.present c.args.last.items bytes told c.requires.last h;
+            present = λ bytes told h. m.present c.args.last.items bytes told c.requires.long.last h;
             writes = m.writes;
             forgeries = l.forgeries;
             lies = l.lies;
@@ -101,14 +101,14 @@ written g c =
           })
       | else-waits w ↦
           let none = c.requires.waits w.if-waits.false in
-          let short = endures.short_record old c.args.last.items none c.requires.last in
-          let kept = c.prepare.ensures.kept ∙ c.requires.kept in
+          let short = endures.short_record old c.args.last.items none c.requires.long.last in
+          let kept = c.prepare.ensures.kept ∙ c.requires.long.kept in
           written_at M H D R g.K.Keeper old c.args.keeper c.args.last.items _ _ _ _ w.store-is w.saver-is
           (record {
             room = omega (arith, c.in-Ok.ensures.ok, c.len.ensures);
             can_mark = record {
-              marks = endures.marked old true c.args.last.items c.requires.last;
-              long = endures.long old true c.args.last.items c.requires.last;
+              marks = endures.marked old true c.args.last.items c.requires.long.last;
+              long = endures.long old true c.args.last.items c.requires.long.last;
             };
             whole = record { kept = λ u. kept; last = λ u. short; none = λ u. none };
             unchanged = w.if-waits.false;
@@ -117,8 +117,8 @@ written g c =
             stays = stays_same H old old refl;
             sound = λ sound. sound;
             identity = refl;
-            represents = λ sound unmarked. (c.args.last.items, kept, endures.stands_now old c.args.last.items c.requires.intact sound unmarked c.requires.last);
-            present = λ bytes told h. endures.configures_now old (D.local_record_of old true) bytes (endures.written old true c.requires.intact) (endures.configured_now old c.args.last.items bytes c.requires.last h);
+            represents = λ sound unmarked. (c.args.last.items, kept, endures.stands_now old c.args.last.items c.requires.intact sound unmarked c.requires.long.last);
+            present = λ bytes told h. endures.configures_now old (D.local_record_of old true) bytes (endures.written old true c.requires.intact) (endures.configured_now old c.args.last.items bytes c.requires.long.last h);
             writes = sym (ap (λ l. after_writes l (D.trace old)) none);
             forgeries = refl;
             lies = refl;
