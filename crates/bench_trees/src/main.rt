@@ -71,52 +71,59 @@ enum Change {
     Cut,
 }
 
-/// Changes the tree once: it is this call, counted from 0, of so many.
+/// A tree of so many bytes when it was made, and what is done to it so often.
+#[derive(Clone, Copy)]
+struct Changing {
+    root: BlockId,
+    size: u64,
+    what: Change,
+    calls: u64,
+}
+
+/// Changes the tree once: it is this call, counted from 0.
 fn change_once<S: BlocksMut, R: Rng>(
     alloc: Global,
     tx: &mut Tx<S>,
-    root: &BlockId,
-    size: u64,
-    what: Change,
+    tree: Changing,
     call: u64,
-    calls: u64,
     chance: &mut R,
 ) -> Result<(), Fail>
     requires intact { intact_in S.Blocks.meanings S.Blocks.holdings tx.old }
-    requires small { size ≤ 2 ^ 32 }
-    requires few { calls ≤ 1000 }
-    requires within { call < calls }
+    requires small { tree.size ≤ 2 ^ 32 }
+    requires few { tree.calls ≤ 1000 }
+    requires within { call < tree.calls }
     ensures { intact_in S.Blocks.meanings S.Blocks.holdings tx.new }
 {
     let bytes = [9u8; SMALL];
-    match what {
+    let size = tree.size;
+    match tree.what {
         Change::Overwrite => {
             let place = u64::from(chance.next_u32()) % (size + 1);
-            write_range(alloc, tx, root, place.saturating_sub(4096), &bytes)
+            write_range(alloc, tx, &tree.root, place.saturating_sub(4096), &bytes)
         }
-        Change::Grow => write_range(alloc, tx, root, size + call * 4096, &bytes),
-        Change::Cut => resize(alloc, tx, root, size + (calls - call - 1) * 4096),
+        Change::Grow => write_range(alloc, tx, &tree.root, size + call * 4096, &bytes),
+        Change::Cut => {
+            let left = tree.calls - call - 1;
+            resize(alloc, tx, &tree.root, size + left * 4096)
+        }
     }
 }
 
-/// Changes the tree so often, and answers how many blocks that changed.
+/// Changes the tree as often as it says, and answers how many blocks that changed.
 fn change_often<S: BlocksMut, R: Rng>(
     alloc: Global,
     tx: &mut Tx<S>,
-    root: &BlockId,
-    size: u64,
-    what: Change,
-    calls: u64,
+    tree: Changing,
     chance: &mut R,
 ) -> Result<usize, Fail>
     requires intact { intact_in S.Blocks.meanings S.Blocks.holdings tx.old }
-    requires small { size ≤ 2 ^ 32 }
-    requires few { calls ≤ 1000 }
+    requires small { tree.size ≤ 2 ^ 32 }
+    requires few { tree.calls ≤ 1000 }
     ensures { intact_in S.Blocks.meanings S.Blocks.holdings tx.new }
 {
     let mut changed = 0usize;
-    for call in 0..calls {
-        change_once(alloc, tx, root, size, what, call, calls, chance)?;
+    for call in 0..tree.calls {
+        change_once(alloc, tx, tree, call, chance)?;
         changed = changed.saturating_add(keep(alloc, tx, chance)?);
     }
     Ok(changed)
@@ -147,20 +154,19 @@ fn take_steps<S: BlocksMut>(
     lines.push(keep(alloc, tx, &mut chance)? as u64)?;
     let pieces = if steps > 1 { size / PIECE + 1 } else { 0 };
     lines.push(read_all(alloc, tx, &root, pieces)?)?;
-    let calls = calls_from(3, steps);
-    lines.push(change_often(
-        alloc,
-        tx,
-        &root,
+    let mut tree = Changing {
+        root,
         size,
-        Change::Overwrite,
-        calls,
-        &mut chance,
-    )? as u64)?;
-    let calls = calls_from(4, steps);
-    lines.push(change_often(alloc, tx, &root, size, Change::Grow, calls, &mut chance)? as u64)?;
-    let calls = calls_from(5, steps);
-    lines.push(change_often(alloc, tx, &root, size, Change::Cut, calls, &mut chance)? as u64)?;
+        what: Change::Overwrite,
+        calls: calls_from(3, steps),
+    };
+    lines.push(change_often(alloc, tx, tree, &mut chance)? as u64)?;
+    tree.what = Change::Grow;
+    tree.calls = calls_from(4, steps);
+    lines.push(change_often(alloc, tx, tree, &mut chance)? as u64)?;
+    tree.what = Change::Cut;
+    tree.calls = calls_from(5, steps);
+    lines.push(change_often(alloc, tx, tree, &mut chance)? as u64)?;
     Ok(lines)
 }
 
