@@ -6,10 +6,10 @@ use std::fs::{File, Files, Metadata, OpenFile, OpenOptions};
 use std::io::{self, Empty, ErrorKind, Read, Seek, SeekFrom, Write};
 
 /// The system with a number of flushes that succeed; after them each fails.
-#[derive(Drop)]
+#[derive(Clone, Copy)]
 pub struct CountedFlushes<'a> {
     host: HostRuntime,
-    pub left: &'a Cell<u32>,
+    left: &'a Cell<u32>,
 }
 
 impl<'a> CountedFlushes<'a> {

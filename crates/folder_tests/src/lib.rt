@@ -3,7 +3,11 @@
 #![tactic(auto)]
 
 #[cfg(test)]
+mod calls;
+#[cfg(test)]
 mod counted_flushes;
+#[cfg(test)]
+mod files;
 #[cfg(test)]
 mod folder_keeper;
 #[cfg(test)]
@@ -11,4 +15,6 @@ mod folder_run;
 #[cfg(test)]
 mod folder_vault;
 #[cfg(test)]
-mod folders;
+mod runs;
+#[cfg(test)]
+mod steps;
