@@ -3,8 +3,10 @@
 // hold no configuration.
 ghost use Rattle.config_file.specs.Settings.{IsBlockSize};
 
+use crate::bytes::{append, are_same};
+use crate::rows::{decoded, not_so};
 use block_id::BlockId;
-use config_file::{Cipher, Config, ConfigError, open_config, seal_config};
+use config_file::{Cipher, Config, ConfigError, SealDraws, open_config, seal_config};
 use scrypt_kdf::Params;
 use std::alloc::Global;
 use std::test::Fail;
@@ -46,93 +48,147 @@ pub(crate) fn config() -> Config
     }
 }
 
-#[test]
-fn seals_and_opens(rt: HostRuntime) -> Result<(), Fail> {
-    let text = seal_config(
-        rt.alloc(),
-        PASSWORD,
-        &Params::new(16, 1, 1)?,
-        &counted::<32>(0),
-        &counted::<960>(0),
-        &counted::<16>(0x40),
-        &counted::<16>(0x60),
-        &config(),
-    )?;
-    assert!(rt; text == hex::decode(rt.alloc(), SEALED)?);
-    for sealed in [SEALED, BY_HAND] {
-        let file = hex::decode(rt.alloc(), sealed)?;
-        let opened = open_config(rt.alloc(), PASSWORD, &file)?;
-        assert!(rt; opened.config == config());
-        assert_eq!(rt;
-            (opened.params.n(), opened.params.r(), opened.params.p()),
-            (16, 1, 1)
-        );
+fn draws() -> SealDraws {
+    SealDraws {
+        scrypt_salt: counted::<32>(0),
+        fill: counted::<960>(0),
+        inner_iv: counted::<16>(0x40),
+        outer_iv: counted::<16>(0x60),
     }
-    Ok(())
+}
+
+/// The file of the configuration, with counted bytes for what is drawn.
+fn sealed(alloc: Global) -> Option<Vec<u8>> {
+    seal_config(
+        alloc,
+        PASSWORD,
+        &Params::new(16, 1, 1).ok()?,
+        &draws(),
+        &config(),
+    )
+    .ok()
+}
+
+/// Whether this file holds the configuration, under N = 16, r = 1 and p = 1.
+fn is_opened(alloc: Global, file: &[u8]) -> bool {
+    match open_config(alloc, PASSWORD, file) {
+        Ok(opened) => {
+            let params = &opened.params;
+            opened.config == config() && (params.n(), params.r(), params.p()) == (16, 1, 1)
+        }
+        Err(_) => false,
+    }
+}
+
+fn is_opened_text(alloc: Global, text: &str) -> bool {
+    match decoded(alloc, text) {
+        Some(file) => is_opened(alloc, &file),
+        None => false,
+    }
+}
+
+fn is_sealed_as(alloc: Global, text: &str) -> bool {
+    are_same(&sealed(alloc), &decoded(alloc, text))
+}
+
+#[test]
+fn seals_and_opens(rt: HostRuntime) {
+    assert!(rt; is_sealed_as(rt.alloc(), SEALED));
+    for text in [SEALED, BY_HAND] {
+        assert!(rt; is_opened_text(rt.alloc(), text));
+    }
 }
 
 /// Why a file isn't opened, if it isn't.
 fn refusal(alloc: Global, password: &[u8], file: &[u8]) -> Option<ConfigError> {
-    match open_config(alloc, password, file) {
-        Ok(_) => None,
-        Err(error) => Some(error),
+    open_config(alloc, password, file).err()
+}
+
+/// A place in the file, what is xored to its byte, and the answer.
+const CHANGES: &str = "0 1 form
+21 1 form
+22 1 form
+30 8 form
+34 16 form
+22 48 locked
+38 1 locked
+70 1 locked
+1125 128 locked";
+
+fn named(error: &str) -> Option<ConfigError> {
+    if error == "form" {
+        Some(ConfigError::Form)
+    } else if error == "locked" {
+        Some(ConfigError::Locked)
+    } else {
+        None
+    }
+}
+
+/// The place, the change and the answer of a row.
+fn parts(row: &str) -> Option<(usize, u8, ConfigError)> {
+    let (place, rest) = row.split_once(' ')?;
+    let (change, error) = rest.split_once(' ')?;
+    Some((place.parse().ok()?, change.parse().ok()?, named(error)?))
+}
+
+/// Why the file with this change isn't opened.
+fn refusal_of(alloc: Global, place: usize, change: u8) -> Option<ConfigError> {
+    let mut file = decoded(alloc, SEALED)?;
+    let byte = file.get_mut(place)?;
+    *byte ^= change;
+    refusal(alloc, PASSWORD, &file)
+}
+
+/// Whether a change is refused as its row says.
+fn is_refused_so(alloc: Global, row: &str) -> bool {
+    match parts(row) {
+        Some((place, change, error)) => refusal_of(alloc, place, change) == Some(error),
+        None => false,
     }
 }
 
 #[test]
 fn refuses_changed_bytes(rt: HostRuntime) -> Result<(), Fail> {
-    // A place in the file, what is xored to its byte, and the answer.
-    let changes = [
-        (0, 1, ConfigError::Form),
-        (21, 1, ConfigError::Form),
-        (22, 1, ConfigError::Form),
-        (30, 8, ConfigError::Form),
-        (34, 16, ConfigError::Form),
-        (22, 48, ConfigError::Locked),
-        (38, 1, ConfigError::Locked),
-        (70, 1, ConfigError::Locked),
-        (1125, 128, ConfigError::Locked),
-    ];
-    for (place, change, error) in changes {
-        let mut file = hex::decode(rt.alloc(), SEALED)?;
-        if let Some(byte) = file.get_mut(place) {
-            *byte ^= change;
+    for row in CHANGES.split("\n") {
+        if !is_refused_so(rt.alloc(), row) {
+            return Err(not_so(row));
         }
-        assert_eq!(rt; refusal(rt.alloc(), PASSWORD, &file), Some(error));
     }
     Ok(())
 }
 
-#[test]
-fn refuses_another_password_and_other_lengths(rt: HostRuntime) -> Result<(), Fail> {
-    let mut file = hex::decode(rt.alloc(), SEALED)?;
-    assert_eq!(rt; refusal(rt.alloc(), b"", &file), Some(ConfigError::Locked));
-    assert_eq!(rt;
-        refusal(rt.alloc(), b"Correct horse", &file),
-        Some(ConfigError::Locked)
-    );
-    let short = file.get(..1125).unwrap_or_default();
-    assert_eq!(rt;
-        refusal(rt.alloc(), PASSWORD, short),
-        Some(ConfigError::Form)
-    );
-    assert_eq!(rt; refusal(rt.alloc(), PASSWORD, b""), Some(ConfigError::Form));
-    file.push(0)?;
-    assert_eq!(rt;
-        refusal(rt.alloc(), PASSWORD, &file),
-        Some(ConfigError::Form)
-    );
-    Ok(())
+/// Why so many bytes from the front of the file, and these behind them, aren't opened.
+fn refusal_of_front(alloc: Global, len: usize, more: &[u8]) -> Option<ConfigError> {
+    let mut file = decoded(alloc, SEALED)?;
+    file.truncate(len);
+    append(&mut file, &[more])?;
+    refusal(alloc, PASSWORD, &file)
+}
+
+/// Why the file isn't opened under this password.
+fn refusal_under(alloc: Global, password: &[u8]) -> Option<ConfigError> {
+    refusal(alloc, password, &decoded(alloc, SEALED)?)
 }
 
 #[test]
-fn refuses_other_contents(rt: HostRuntime) -> Result<(), Fail> {
+fn refuses_another_password_and_other_lengths(rt: HostRuntime) {
+    for password in ["", "Correct horse"] {
+        let error = refusal_under(rt.alloc(), password.as_bytes());
+        assert!(rt; error == Some(ConfigError::Locked));
+    }
+    assert!(rt; refusal_of_front(rt.alloc(), 1125, &[]) == Some(ConfigError::Form));
+    assert!(rt; refusal_of_front(rt.alloc(), 0, &[]) == Some(ConfigError::Form));
+    assert!(rt; refusal_of_front(rt.alloc(), 1126, &[0]) == Some(ConfigError::Form));
+}
+
+fn refusal_of_text(alloc: Global, text: &str) -> Option<ConfigError> {
+    refusal(alloc, PASSWORD, &decoded(alloc, text)?)
+}
+
+#[test]
+fn refuses_other_contents(rt: HostRuntime) {
     for held in [OTHER_CIPHER, WITH_EXPONENT, SMALL_BLOCKS] {
-        let file = hex::decode(rt.alloc(), held)?;
-        assert_eq!(rt;
-            refusal(rt.alloc(), PASSWORD, &file),
-            Some(ConfigError::Inner)
-        );
+        assert!(rt; refusal_of_text(rt.alloc(), held) == Some(ConfigError::Inner));
     }
-    Ok(())
 }

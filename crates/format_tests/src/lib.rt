@@ -3,6 +3,8 @@
 #![tactic(auto)]
 
 #[cfg(test)]
+mod bytes;
+#[cfg(test)]
 mod configuration_texts;
 #[cfg(test)]
 mod configurations;
@@ -14,5 +16,7 @@ mod ids;
 mod nodes;
 #[cfg(test)]
 mod records;
+#[cfg(test)]
+mod rows;
 #[cfg(test)]
 mod states;

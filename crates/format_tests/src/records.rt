@@ -1,12 +1,9 @@
 // Records byte by byte, and what a client says of each. Client 7 asks for block 1, which it knows at version 2, of blocks
 // of 128 bytes.
-ghost use Rattle.std.specs.Prelude.{◌≤◌};
-
 use block_id::{BlockId, Why};
 use block_records::{HEAD_LEN, Head, OVERHEAD, judge, read_head, write_record};
 use sealed_store::Seen;
 use std::alloc::Global;
-use std::test::Fail;
 
 const ID: BlockId = BlockId([1; 16]);
 
@@ -14,115 +11,129 @@ const CLIENT: u32 = 7;
 
 const KNOWN: u64 = 2;
 
+const RECORD: &[u8] =
+    b"\x01\x000123456789abcdef\x04\x03\x02\x01\x88\x77\x66\x55\x44\x33\x22\x11text";
+
+const HEAD: Head = Head {
+    id: BlockId(*b"0123456789abcdef"),
+    client: 0x01020304,
+    version: 0x1122334455667788,
+};
+
+fn is_written(alloc: Global) -> bool {
+    let record = write_record(alloc, &HEAD.id, 0x01020304, 0x1122334455667788, b"text");
+    matches!(&record, Ok(record) if record.as_slice() == RECORD)
+}
+
+/// The head in so many bytes from the front of the record.
+fn head_in(len: usize) -> Option<Head> {
+    read_head(RECORD.get(..len)?)
+}
+
 #[test]
-fn a_record_as_bytes(rt: HostRuntime) -> Result<(), Fail> {
-    let id = BlockId(*b"0123456789abcdef");
-    let version = 0x1122334455667788;
-    let record = write_record(rt.alloc(), &id, 0x01020304, version, b"text")?;
-    let expected = b"\x01\x000123456789abcdef\x04\x03\x02\x01\x88\x77\x66\x55\x44\x33\x22\x11text";
-    assert_eq!(rt; record.as_slice(), expected.as_slice());
-    let head = Head {
-        id,
-        client: 0x01020304,
-        version,
-    };
-    assert!(rt; read_head(&record) == Some(head));
-    assert!(rt; read_head(&record[..HEAD_LEN]) == Some(head));
-    assert!(rt; read_head(&record[..HEAD_LEN - 1]).is_none());
-    assert!(rt; read_head(&[]).is_none());
-    assert_eq!(rt; OVERHEAD, 78);
-    Ok(())
+fn a_record_as_bytes(rt: HostRuntime) {
+    assert!(rt; is_written(rt.alloc()));
+    assert!(rt; head_in(34) == Some(HEAD));
+    assert!(rt; head_in(HEAD_LEN) == Some(HEAD));
+    assert!(rt; head_in(HEAD_LEN - 1).is_none());
+    assert!(rt; head_in(0).is_none());
+    assert!(rt; OVERHEAD == 78);
 }
 
 /// What a block's file holds: its form, its id, its client, its version and 50 bytes of payload.
-fn plain_of(form: u8, id: u8, client: u8, version: u8) -> [u8; 80] {
+fn plain_of(fields: [u8; 4]) -> [u8; 80] {
+    let [form, id, client, version] = fields;
     let mut plain = [9; 80];
-    plain[..30].fill(0);
-    plain[0] = form;
-    plain[2..18].fill(id);
-    plain[18] = client;
-    plain[22] = version;
+    for (i, byte) in plain.iter_mut().enumerate() {
+        match i {
+            0 => *byte = form,
+            2..18 => *byte = id,
+            18 => *byte = client,
+            22 => *byte = version,
+            1 | 19..30 => *byte = 0,
+            _ => {}
+        }
+    }
     plain
 }
 
-fn judge_plain(alloc: Global, plain: &[u8]) -> Result<Result<Vec<u8>, Why>, Fail> {
-    let seen = Seen::Plain(plain.to_vec(alloc)?);
-    Ok(judge(&ID, CLIENT, KNOWN, seen))
-}
-
-#[test]
-fn a_good_record_gives_its_payload(rt: HostRuntime) -> Result<(), Fail> {
-    match judge_plain(rt.alloc(), &plain_of(1, 1, 7, 2))? {
-        Ok(payload) => assert_eq!(rt; payload.as_slice(), [9; 50].as_slice()),
-        Err(_) => assert!(rt; false),
-    }
-    Ok(())
-}
-
-#[test]
-fn says_what_is_wrong_with_a_record(rt: HostRuntime) -> Result<(), Fail> {
-    let known = KNOWN;
-    let table = [
-        (plain_of(2, 1, 7, 2), Why::BadRecord),
-        (plain_of(1, 1, 0, 2), Why::BadRecord),
-        (plain_of(1, 1, 7, 0), Why::BadRecord),
-        (plain_of(1, 5, 8, 1), Why::WrongId(BlockId([5; 16]))),
-        (plain_of(1, 1, 8, 1), Why::ForeignClient(8)),
-        (plain_of(1, 1, 7, 1), Why::OldVersion { known, found: 1 }),
-        (plain_of(1, 1, 7, 3), Why::AheadVersion { known, found: 3 }),
-    ];
-    for (plain, why) in &table {
-        match judge_plain(rt.alloc(), plain)? {
-            Ok(_) => assert!(rt; false),
-            Err(found) => assert!(rt; found == *why),
-        }
-    }
-    Ok(())
-}
-
 /// What a client says of so many bytes in front of a record.
-fn judge_front(alloc: Global, plain: &[u8; 80], len: usize) -> Result<Result<Vec<u8>, Why>, Fail>
-    requires { len ≤ 80 }
-{
-    judge_plain(alloc, &plain[..len])
+fn judged(alloc: Global, fields: [u8; 4], len: usize) -> Option<Result<Vec<u8>, Why>> {
+    let seen = Seen::Plain(plain_of(fields).get(..len)?.to_vec(alloc).ok()?);
+    Some(judge(&ID, CLIENT, KNOWN, seen))
 }
 
-#[test]
-fn a_front_gives_that_of_its_payload(rt: HostRuntime) -> Result<(), Fail> {
-    match judge_front(rt.alloc(), &plain_of(1, 1, 7, 2), 33)? {
-        Ok(front) => assert_eq!(rt; front.as_slice(), [9; 3].as_slice()),
-        Err(_) => assert!(rt; false),
+fn is_taken(alloc: Global, fields: [u8; 4], len: usize, payload: &[u8]) -> bool {
+    match judged(alloc, fields, len) {
+        Some(Ok(found)) => found.as_slice() == payload,
+        _ => false,
     }
-    Ok(())
+}
+
+fn refusal(alloc: Global, fields: [u8; 4], len: usize) -> Option<Why> {
+    judged(alloc, fields, len)?.err()
 }
 
 #[test]
-fn a_front_is_judged_as_its_record(rt: HostRuntime) -> Result<(), Fail> {
-    let known = KNOWN;
-    match judge_front(rt.alloc(), &plain_of(1, 1, 7, 1), 30)? {
-        Ok(_) => assert!(rt; false),
-        Err(found) => assert!(rt; found == Why::OldVersion { known, found: 1 }),
+fn a_good_record_gives_its_payload(rt: HostRuntime) {
+    assert!(rt; is_taken(rt.alloc(), [1, 1, 7, 2], 80, &[9; 50]));
+}
+
+fn is_refused(alloc: Global, fields: [u8; 4], len: usize, why: &Why) -> bool {
+    match refusal(alloc, fields, len) {
+        Some(found) => found == *why,
+        None => false,
     }
-    Ok(())
+}
+
+fn is_bad(alloc: Global, fields: [u8; 4], len: usize) -> bool {
+    is_refused(alloc, fields, len, &Why::BadRecord)
 }
 
 #[test]
-fn a_front_without_a_head_is_no_record(rt: HostRuntime) -> Result<(), Fail> {
-    let shorter = judge_front(rt.alloc(), &plain_of(1, 1, 7, 2), 29)?;
-    assert!(rt; matches!(shorter, Err(Why::BadRecord)));
-    Ok(())
+fn says_what_is_wrong_with_a_record(rt: HostRuntime) {
+    assert!(rt; is_bad(rt.alloc(), [2, 1, 7, 2], 80));
+    assert!(rt; is_bad(rt.alloc(), [1, 1, 0, 2], 80));
+    assert!(rt; is_bad(rt.alloc(), [1, 1, 7, 0], 80));
+    let other = Why::WrongId(BlockId([5; 16]));
+    assert!(rt; is_refused(rt.alloc(), [1, 5, 8, 1], 80, &other));
+    assert!(rt; is_refused(rt.alloc(), [1, 1, 8, 1], 80, &Why::ForeignClient(8)));
+}
+
+const OLD: Why = Why::OldVersion {
+    known: KNOWN,
+    found: 1,
+};
+
+const AHEAD: Why = Why::AheadVersion {
+    known: KNOWN,
+    found: 3,
+};
+
+/// A front is judged as its record, and one without a head is no record.
+#[test]
+fn says_which_versions_are_wrong(rt: HostRuntime) {
+    assert!(rt; is_refused(rt.alloc(), [1, 1, 7, 1], 80, &OLD));
+    assert!(rt; is_refused(rt.alloc(), [1, 1, 7, 3], 80, &AHEAD));
+    assert!(rt; is_refused(rt.alloc(), [1, 1, 7, 1], 30, &OLD));
+    assert!(rt; is_bad(rt.alloc(), [1, 1, 7, 2], 29));
+}
+
+#[test]
+fn a_front_gives_that_of_its_payload(rt: HostRuntime) {
+    assert!(rt; is_taken(rt.alloc(), [1, 1, 7, 2], 33, &[9; 3]));
+}
+
+/// What a client says where there is no record.
+fn refusal_of(seen: Seen) -> Option<Why> {
+    judge(&ID, CLIENT, KNOWN, seen).err()
 }
 
 #[test]
 fn says_why_there_is_no_record(rt: HostRuntime) {
-    let absent = judge(&ID, CLIENT, KNOWN, Seen::Absent);
-    assert!(rt; matches!(absent, Err(Why::Missing)));
-    let bad_length = judge(&ID, CLIENT, KNOWN, Seen::BadLength);
-    assert!(rt; matches!(bad_length, Err(Why::BadLength)));
-    let bad_prefix = judge(&ID, CLIENT, KNOWN, Seen::BadPrefix);
-    assert!(rt; matches!(bad_prefix, Err(Why::BadPrefix)));
-    let old_format = judge(&ID, CLIENT, KNOWN, Seen::OldFormat);
-    assert!(rt; matches!(old_format, Err(Why::OldFormat)));
-    let not_opened = judge(&ID, CLIENT, KNOWN, Seen::NotOpened);
-    assert!(rt; matches!(not_opened, Err(Why::NotOpened)));
+    assert!(rt; refusal_of(Seen::Absent) == Some(Why::Missing));
+    assert!(rt; refusal_of(Seen::BadLength) == Some(Why::BadLength));
+    assert!(rt; refusal_of(Seen::BadPrefix) == Some(Why::BadPrefix));
+    assert!(rt; refusal_of(Seen::OldFormat) == Some(Why::OldFormat));
+    assert!(rt; refusal_of(Seen::NotOpened) == Some(Why::NotOpened));
 }
