@@ -1,10 +1,9 @@
 // The commands that numbers make, beside the tree in memory.
-use crate::site::{Site, answer, empty_site, text_of, told};
+use crate::site::{Site, agree, empty_site, performed, stepped, text_of};
 use fs_model::Moment;
 use plain_tree::PlainTree;
 use std::alloc::Global;
 use std::test::Fail;
-use tree_commands::perform_on_blobs;
 use workload::generated;
 
 /// So many groups of eight make directories of hundreds of entries.
@@ -20,14 +19,27 @@ fn have_same_directories(
     tree: &mut PlainTree,
     now: Moment,
 ) -> Result<bool, Fail> {
-    let mut same = true;
     for d in 0..DIRECTORIES {
         let line = format!(in alloc; "stat /d{d}")?;
-        let wanted = told(alloc, tree, now, line.as_bytes())?;
-        let reply = answer(alloc, site, now, line.as_bytes())?;
-        same = same && reply.as_slice() == wanted.as_slice();
+        if !agree(alloc, site, tree, now, &line)? {
+            return Ok(false);
+        }
     }
-    Ok(same)
+    Ok(true)
+}
+
+/// Whether both answer the command of this number alike.
+fn agree_on(
+    alloc: Global,
+    site: &mut Site,
+    tree: &mut PlainTree,
+    now: Moment,
+    number: u64,
+) -> Result<bool, Fail> {
+    let command = generated(alloc, number)?;
+    let told = stepped(alloc, tree, now, &command)?;
+    let reply = text_of(alloc, &performed(alloc, site, now, &command)??)?;
+    Ok(reply.as_slice() == told.as_slice())
 }
 
 #[test]
@@ -37,11 +49,7 @@ fn each_reply_is_that_of_the_tree_in_memory(rt: HostRuntime) -> Result<(), Fail>
     let mut tree = PlainTree::new(alloc);
     for i in 0..COMMANDS {
         let now = Moment::new(100 + i, 5).ok_or("nanos")?;
-        let command = generated(alloc, i)?;
-        let told = tree.step(now, &command)?;
-        let reply = perform_on_blobs(alloc, &mut site.blobs, &site.root, now, &command)?;
-        let wanted = text_of(alloc, &told)?;
-        assert_eq!(rt; text_of(alloc, &reply)?.as_slice(), wanted.as_slice());
+        assert!(rt; agree_on(alloc, &mut site, &mut tree, now, i)?);
         if i % 250 == 249 {
             assert!(rt; have_same_directories(alloc, &mut site, &mut tree, now)?);
         }

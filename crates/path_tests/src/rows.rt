@@ -1,247 +1,265 @@
 // Lines and their replies, on blobs and on the tree in memory.
-use crate::site::{answer, empty_site, told};
+use crate::site::{Site, answer, empty_site, told};
 use fs_model::Moment;
 use plain_tree::PlainTree;
+use std::alloc::Global;
 use std::test::Fail;
+
+/// The second, the line and the reply of a row.
+fn parts(row: &str) -> Option<(u64, &str, &str)> {
+    let (secs, rest) = row.split_once(' ')?;
+    let (line, reply) = rest.split_once('\n')?;
+    Some((secs.parse().ok()?, line, reply))
+}
+
+/// Both answer the line of a row so.
+fn is_answered(
+    alloc: Global,
+    site: &mut Site,
+    tree: &mut PlainTree,
+    nanos: u32,
+    row: &str,
+) -> Result<(), Fail> {
+    let (secs, line, text) = parts(row).ok_or("a row")?;
+    let now = Moment::new(secs, nanos).ok_or("nanos")?;
+    let reply = answer(alloc, site, now, line)?;
+    let told = told(alloc, tree, now, line)?;
+    if reply.as_slice() == text.as_bytes() && told.as_slice() == text.as_bytes() {
+        Ok(())
+    } else {
+        Err(Fail::new(format_args!("not so: {row}")))
+    }
+}
+
+/// Both answer the rows so, one after another, so many nanoseconds after their seconds. Each row begins with `> `.
+fn all_are_answered(alloc: Global, nanos: u32, rows: &str) -> Result<(), Fail> {
+    let mut site = empty_site(alloc)?;
+    let mut tree = PlainTree::new(alloc);
+    for row in rows.split("> ") {
+        if !row.is_empty() {
+            is_answered(alloc, &mut site, &mut tree, nanos, row)?;
+        }
+    }
+    Ok(())
+}
+
+/// Moves, and what each refusal stands before.
+const MOVES: &str = "> 100 mkdir /a
+ok
+> 100 mkdir /b
+ok
+> 100 mkdir /c
+ok
+> 100 mkfile /c/x
+ok
+> 100 mkfile /f
+ok
+> 100 mv /a /a/b
+error invalid
+> 100 mv /a /b
+ok
+> 100 mv /b /c
+error not-empty
+> 100 mv /f /b
+error is-directory
+> 100 mv /b /f
+error not-directory
+> 100 mv /f /f
+ok
+> 100 mv / /b
+error busy
+> 100 mv /zz /b
+error no-entry
+> 100 ls /
+list 3
+d b
+d c
+f f
+> 100 mv /c /b/c
+ok
+> 100 ls /c
+error no-entry
+> 100 write /b/c/x 0 6162
+ok
+> 100 mv /b /z
+ok
+> 100 read /z/c/x 0 100
+data 6162
+> 100 mv /z /b
+ok
+> 100 truncate /b/c/x 0
+ok
+> 100 stat /b/c/x
+stat f 644 0 0 0 100.000000005 100.000000005 100.000000005
+";
 
 #[test]
 fn moves_follow_the_order_of_errors(rt: HostRuntime) -> Result<(), Fail> {
-    let alloc = rt.alloc();
-    let now = Moment::new(100, 5).ok_or("nanos")?;
-    let mut site = empty_site(alloc)?;
-    let mut tree = PlainTree::new(alloc);
-    for (line, text) in [
-        ("mkdir /a", "ok\n"),
-        ("mkdir /b", "ok\n"),
-        ("mkdir /c", "ok\n"),
-        ("mkfile /c/x", "ok\n"),
-        ("mkfile /f", "ok\n"),
-        ("mv /a /a/b", "error invalid\n"),
-        ("mv /a /b", "ok\n"),
-        ("mv /b /c", "error not-empty\n"),
-        ("mv /f /b", "error is-directory\n"),
-        ("mv /b /f", "error not-directory\n"),
-        ("mv /f /f", "ok\n"),
-        ("mv / /b", "error busy\n"),
-        ("mv /zz /b", "error no-entry\n"),
-        ("ls /", "list 3\nd b\nd c\nf f\n"),
-        ("mv /c /b/c", "ok\n"),
-        ("ls /c", "error no-entry\n"),
-        ("write /b/c/x 0 6162", "ok\n"),
-        ("mv /b /z", "ok\n"),
-        ("read /z/c/x 0 100", "data 6162\n"),
-        ("mv /z /b", "ok\n"),
-        ("truncate /b/c/x 0", "ok\n"),
-        (
-            "stat /b/c/x",
-            "stat f 644 0 0 0 100.000000005 100.000000005 100.000000005\n",
-        ),
-    ] {
-        let reply = answer(alloc, &mut site, now, line.as_bytes())?;
-        assert_eq!(rt; reply.as_slice(), text.as_bytes());
-        let reply = told(alloc, &mut tree, now, line.as_bytes())?;
-        assert_eq!(rt; reply.as_slice(), text.as_bytes());
-    }
-    Ok(())
+    all_are_answered(rt.alloc(), 5, MOVES)
 }
+
+/// Files and links.
+const FILES: &str = "> 9 mkfile /f
+ok
+> 9 write /f 5 6162
+ok
+> 9 read /f 0 100
+data 00000000006162
+> 9 read /f 7 1
+data -
+> 9 write /f 9 -
+ok
+> 9 write /f 18446744073709551615 6162
+error too-large
+> 9 truncate /f 6
+ok
+> 9 chmod /f 600
+ok
+> 9 chown /f 7 8
+ok
+> 9 utime /f 1.000000000 2.000000000
+ok
+> 9 stat /f
+stat f 600 7 8 6 1.000000000 2.000000000 9.000000000
+> 9 stat /
+stat d 755 0 0 0 0.000000000 0.000000000 0.000000000
+> 9 chmod / 700
+error busy
+> 9 readlink /f
+error not-link
+> 9 symlink /x /l
+ok
+> 9 readlink /l
+link /x
+> 9 ls /l/x
+error not-directory
+> 9 read /l 0 1
+error invalid
+";
 
 #[test]
 fn files_and_links_and_their_refusals(rt: HostRuntime) -> Result<(), Fail> {
-    let alloc = rt.alloc();
-    let now = Moment::new(9, 0).ok_or("nanos")?;
-    let mut site = empty_site(alloc)?;
-    let mut tree = PlainTree::new(alloc);
-    for (line, text) in [
-        ("mkfile /f", "ok\n"),
-        ("write /f 5 6162", "ok\n"),
-        ("read /f 0 100", "data 00000000006162\n"),
-        ("read /f 7 1", "data -\n"),
-        ("write /f 9 -", "ok\n"),
-        ("write /f 18446744073709551615 6162", "error too-large\n"),
-        ("truncate /f 6", "ok\n"),
-        ("chmod /f 600", "ok\n"),
-        ("chown /f 7 8", "ok\n"),
-        ("utime /f 1.000000000 2.000000000", "ok\n"),
-        (
-            "stat /f",
-            "stat f 600 7 8 6 1.000000000 2.000000000 9.000000000\n",
-        ),
-        (
-            "stat /",
-            "stat d 755 0 0 0 0.000000000 0.000000000 0.000000000\n",
-        ),
-        ("chmod / 700", "error busy\n"),
-        ("readlink /f", "error not-link\n"),
-        ("symlink /x /l", "ok\n"),
-        ("readlink /l", "link /x\n"),
-        ("ls /l/x", "error not-directory\n"),
-        ("read /l 0 1", "error invalid\n"),
-    ] {
-        let reply = answer(alloc, &mut site, now, line.as_bytes())?;
-        assert_eq!(rt; reply.as_slice(), text.as_bytes());
-        let reply = told(alloc, &mut tree, now, line.as_bytes())?;
-        assert_eq!(rt; reply.as_slice(), text.as_bytes());
-    }
-    Ok(())
+    all_are_answered(rt.alloc(), 0, FILES)
 }
+
+/// Removals.
+const STAYS: &str = "> 9 mkdir /d
+ok
+> 9 mkfile /d/f
+ok
+> 9 rmdir /d
+error not-empty
+> 9 rmdir /d/f
+error not-directory
+> 9 rm /d
+error is-directory
+> 9 rmdir /q
+error no-entry
+> 9 read / 0 1
+error is-directory
+> 9 truncate /d/f 67108865
+error too-large
+> 9 rm /d/f
+ok
+> 9 rmdir /d
+ok
+> 9 sync
+ok
+> 9 ls /
+list 0
+";
 
 #[test]
 fn what_may_not_go_stays(rt: HostRuntime) -> Result<(), Fail> {
-    let alloc = rt.alloc();
-    let now = Moment::new(9, 0).ok_or("nanos")?;
-    let mut site = empty_site(alloc)?;
-    let mut tree = PlainTree::new(alloc);
-    for (line, text) in [
-        ("mkdir /d", "ok\n"),
-        ("mkfile /d/f", "ok\n"),
-        ("rmdir /d", "error not-empty\n"),
-        ("rmdir /d/f", "error not-directory\n"),
-        ("rm /d", "error is-directory\n"),
-        ("rmdir /q", "error no-entry\n"),
-        ("read / 0 1", "error is-directory\n"),
-        ("truncate /d/f 67108865", "error too-large\n"),
-        ("rm /d/f", "ok\n"),
-        ("rmdir /d", "ok\n"),
-        ("sync", "ok\n"),
-        ("ls /", "list 0\n"),
-    ] {
-        let reply = answer(alloc, &mut site, now, line.as_bytes())?;
-        assert_eq!(rt; reply.as_slice(), text.as_bytes());
-        let reply = told(alloc, &mut tree, now, line.as_bytes())?;
-        assert_eq!(rt; reply.as_slice(), text.as_bytes());
-    }
-    Ok(())
+    all_are_answered(rt.alloc(), 0, STAYS)
 }
+
+/// Changes of children, and the moments of their directories.
+const TOUCHES: &str = "> 9 mkdir /a
+ok
+> 9 mkdir /b
+ok
+> 9 mkfile /a/f
+ok
+> 9 utime /a 1.000000000 2.000000000
+ok
+> 9 utime /b 1.000000000 2.000000000
+ok
+> 9 mv /a/f /b/f
+ok
+> 9 stat /a
+stat d 755 0 0 0 1.000000000 9.000000000 9.000000000
+> 9 stat /b
+stat d 755 0 0 0 1.000000000 9.000000000 9.000000000
+> 9 utime /b 1.000000000 2.000000000
+ok
+> 9 mv /b/f /b/f
+ok
+> 9 write /b/f 0 61
+ok
+> 9 stat /b
+stat d 755 0 0 0 1.000000000 2.000000000 9.000000000
+> 10 mkdir /b/d
+ok
+> 10 stat /b
+stat d 755 0 0 0 1.000000000 10.000000000 10.000000000
+> 11 mkfile /b/d/g
+ok
+> 11 stat /b/d
+stat d 755 0 0 0 10.000000000 11.000000000 11.000000000
+> 11 stat /b
+stat d 755 0 0 0 1.000000000 10.000000000 10.000000000
+> 12 symlink t /b/d/l
+ok
+> 12 stat /b/d
+stat d 755 0 0 0 10.000000000 12.000000000 12.000000000
+> 13 rm /b/d/l
+ok
+> 13 stat /b/d
+stat d 755 0 0 0 10.000000000 13.000000000 13.000000000
+> 14 mv /b/d/g /b/d/h
+ok
+> 14 stat /b/d
+stat d 755 0 0 0 10.000000000 14.000000000 14.000000000
+> 15 rm /b/d/q
+error no-entry
+> 15 mkdir /b/d/h
+error exists
+> 15 stat /b/d
+stat d 755 0 0 0 10.000000000 14.000000000 14.000000000
+> 16 mkdir /b/e
+ok
+> 17 mv /b/d /b/e/d
+ok
+> 17 stat /b
+stat d 755 0 0 0 1.000000000 17.000000000 17.000000000
+> 17 stat /b/e
+stat d 755 0 0 0 16.000000000 17.000000000 17.000000000
+> 17 stat /b/e/d
+stat d 755 0 0 0 10.000000000 14.000000000 17.000000000
+> 18 rm /b/e/d/h
+ok
+> 18 stat /b/e/d
+stat d 755 0 0 0 10.000000000 18.000000000 18.000000000
+> 19 rmdir /b/e/d
+ok
+> 19 stat /b/e
+stat d 755 0 0 0 16.000000000 19.000000000 19.000000000
+> 19 stat /b
+stat d 755 0 0 0 1.000000000 17.000000000 17.000000000
+> 20 mkdir /b/e/x
+ok
+> 21 mv /a /b/e/x
+ok
+> 21 stat /b/e
+stat d 755 0 0 0 16.000000000 21.000000000 21.000000000
+> 21 stat /b/e/x
+stat d 755 0 0 0 1.000000000 9.000000000 21.000000000
+> 21 stat /
+stat d 755 0 0 0 0.000000000 0.000000000 0.000000000
+";
 
 #[test]
 fn directories_take_the_moment_at_which_their_children_change(rt: HostRuntime) -> Result<(), Fail> {
-    let alloc = rt.alloc();
-    let mut site = empty_site(alloc)?;
-    let mut tree = PlainTree::new(alloc);
-    for (secs, line, text) in [
-        (9, "mkdir /a", "ok\n"),
-        (9, "mkdir /b", "ok\n"),
-        (9, "mkfile /a/f", "ok\n"),
-        (9, "utime /a 1.000000000 2.000000000", "ok\n"),
-        (9, "utime /b 1.000000000 2.000000000", "ok\n"),
-        (9, "mv /a/f /b/f", "ok\n"),
-        (
-            9,
-            "stat /a",
-            "stat d 755 0 0 0 1.000000000 9.000000000 9.000000000\n",
-        ),
-        (
-            9,
-            "stat /b",
-            "stat d 755 0 0 0 1.000000000 9.000000000 9.000000000\n",
-        ),
-        (9, "utime /b 1.000000000 2.000000000", "ok\n"),
-        (9, "mv /b/f /b/f", "ok\n"),
-        (9, "write /b/f 0 61", "ok\n"),
-        (
-            9,
-            "stat /b",
-            "stat d 755 0 0 0 1.000000000 2.000000000 9.000000000\n",
-        ),
-        (10, "mkdir /b/d", "ok\n"),
-        (
-            10,
-            "stat /b",
-            "stat d 755 0 0 0 1.000000000 10.000000000 10.000000000\n",
-        ),
-        (11, "mkfile /b/d/g", "ok\n"),
-        (
-            11,
-            "stat /b/d",
-            "stat d 755 0 0 0 10.000000000 11.000000000 11.000000000\n",
-        ),
-        (
-            11,
-            "stat /b",
-            "stat d 755 0 0 0 1.000000000 10.000000000 10.000000000\n",
-        ),
-        (12, "symlink t /b/d/l", "ok\n"),
-        (
-            12,
-            "stat /b/d",
-            "stat d 755 0 0 0 10.000000000 12.000000000 12.000000000\n",
-        ),
-        (13, "rm /b/d/l", "ok\n"),
-        (
-            13,
-            "stat /b/d",
-            "stat d 755 0 0 0 10.000000000 13.000000000 13.000000000\n",
-        ),
-        (14, "mv /b/d/g /b/d/h", "ok\n"),
-        (
-            14,
-            "stat /b/d",
-            "stat d 755 0 0 0 10.000000000 14.000000000 14.000000000\n",
-        ),
-        (15, "rm /b/d/q", "error no-entry\n"),
-        (15, "mkdir /b/d/h", "error exists\n"),
-        (
-            15,
-            "stat /b/d",
-            "stat d 755 0 0 0 10.000000000 14.000000000 14.000000000\n",
-        ),
-        (16, "mkdir /b/e", "ok\n"),
-        (17, "mv /b/d /b/e/d", "ok\n"),
-        (
-            17,
-            "stat /b",
-            "stat d 755 0 0 0 1.000000000 17.000000000 17.000000000\n",
-        ),
-        (
-            17,
-            "stat /b/e",
-            "stat d 755 0 0 0 16.000000000 17.000000000 17.000000000\n",
-        ),
-        (
-            17,
-            "stat /b/e/d",
-            "stat d 755 0 0 0 10.000000000 14.000000000 17.000000000\n",
-        ),
-        (18, "rm /b/e/d/h", "ok\n"),
-        (
-            18,
-            "stat /b/e/d",
-            "stat d 755 0 0 0 10.000000000 18.000000000 18.000000000\n",
-        ),
-        (19, "rmdir /b/e/d", "ok\n"),
-        (
-            19,
-            "stat /b/e",
-            "stat d 755 0 0 0 16.000000000 19.000000000 19.000000000\n",
-        ),
-        (
-            19,
-            "stat /b",
-            "stat d 755 0 0 0 1.000000000 17.000000000 17.000000000\n",
-        ),
-        (20, "mkdir /b/e/x", "ok\n"),
-        (21, "mv /a /b/e/x", "ok\n"),
-        (
-            21,
-            "stat /b/e",
-            "stat d 755 0 0 0 16.000000000 21.000000000 21.000000000\n",
-        ),
-        (
-            21,
-            "stat /b/e/x",
-            "stat d 755 0 0 0 1.000000000 9.000000000 21.000000000\n",
-        ),
-        (
-            21,
-            "stat /",
-            "stat d 755 0 0 0 0.000000000 0.000000000 0.000000000\n",
-        ),
-    ] {
-        let now = Moment::new(secs, 0).ok_or("nanos")?;
-        let reply = answer(alloc, &mut site, now, line.as_bytes())?;
-        assert_eq!(rt; reply.as_slice(), text.as_bytes());
-        let reply = told(alloc, &mut tree, now, line.as_bytes())?;
-        assert_eq!(rt; reply.as_slice(), text.as_bytes());
-    }
-    Ok(())
+    all_are_answered(rt.alloc(), 0, TOUCHES)
 }

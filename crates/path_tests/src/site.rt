@@ -1,7 +1,7 @@
 // Blobs in memory that show a tree, and lines on it.
 use blob_api::Blobs;
 use block_id::{BlockId, Fail as Failure};
-use fs_model::{Moment, Reply};
+use fs_model::{Command, Moment, Reply};
 use map_blobs::MapBlobs;
 use path_rows::empty_root;
 use plain_tree::PlainTree;
@@ -28,36 +28,60 @@ pub fn empty_site(alloc: Global) -> Result<Site, Fail> {
     Ok(Site { blobs, root })
 }
 
+/// What a command that fits is answered.
+pub fn performed(
+    alloc: Global,
+    site: &mut Site,
+    now: Moment,
+    command: &Command,
+) -> Result<Result<Reply, Failure>, Fail> {
+    if command.fits() {
+        Ok(perform_on_blobs(alloc, &mut site.blobs, &site.root, now, command))
+    } else {
+        Err(Fail::from("a command that fits"))
+    }
+}
+
+/// What the tree in memory answers to a command that fits.
+pub fn stepped(
+    alloc: Global,
+    tree: &mut PlainTree,
+    now: Moment,
+    command: &Command,
+) -> Result<Vec<u8>, Fail> {
+    if command.fits() {
+        text_of(alloc, &tree.step(now, command)?)
+    } else {
+        Err(Fail::from("a command that fits"))
+    }
+}
+
+/// The command of a line.
+fn parsed(alloc: Global, line: &str) -> Result<Command, Fail> {
+    match parse_line(alloc, line.as_bytes()) {
+        Ok(command) => Ok(command),
+        Err(_) => Err(Fail::from("a line of the language")),
+    }
+}
+
 /// What a line is answered.
 pub fn asked(
     alloc: Global,
     site: &mut Site,
     now: Moment,
-    line: &[u8],
+    line: &str,
 ) -> Result<Result<Reply, Failure>, Fail> {
-    match parse_line(alloc, line) {
-        Ok(command) => Ok(perform_on_blobs(alloc, &mut site.blobs, &site.root, now, &command)),
-        Err(_) => Err(Fail::from("a line of the language")),
-    }
+    performed(alloc, site, now, &parsed(alloc, line)?)
 }
 
 /// The text of the reply to a line.
-pub fn answer(alloc: Global, site: &mut Site, now: Moment, line: &[u8]) -> Result<Vec<u8>, Fail> {
-    let reply = asked(alloc, site, now, line)??;
-    text_of(alloc, &reply)
+pub fn answer(alloc: Global, site: &mut Site, now: Moment, line: &str) -> Result<Vec<u8>, Fail> {
+    text_of(alloc, &asked(alloc, site, now, line)??)
 }
 
 /// What the tree in memory answers to a line.
-pub fn told(
-    alloc: Global,
-    tree: &mut PlainTree,
-    now: Moment,
-    line: &[u8],
-) -> Result<Vec<u8>, Fail> {
-    match parse_line(alloc, line) {
-        Ok(command) => text_of(alloc, &tree.step(now, &command)?),
-        Err(_) => Err(Fail::from("a line of the language")),
-    }
+pub fn told(alloc: Global, tree: &mut PlainTree, now: Moment, line: &str) -> Result<Vec<u8>, Fail> {
+    stepped(alloc, tree, now, &parsed(alloc, line)?)
 }
 
 /// A reply as its lines.
@@ -65,4 +89,17 @@ pub fn text_of(alloc: Global, reply: &Reply) -> Result<Vec<u8>, Fail> {
     let mut text = Vec::new(alloc);
     print_reply(reply, &mut text)?;
     Ok(text)
+}
+
+/// Whether both answer a line alike.
+pub fn agree(
+    alloc: Global,
+    site: &mut Site,
+    tree: &mut PlainTree,
+    now: Moment,
+    line: &str,
+) -> Result<bool, Fail> {
+    let wanted = told(alloc, tree, now, line)?;
+    let reply = answer(alloc, site, now, line)?;
+    Ok(reply.as_slice() == wanted.as_slice())
 }
