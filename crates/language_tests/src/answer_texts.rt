@@ -29,35 +29,36 @@ fn prints_each_answer(rt: HostRuntime) -> Result<(), Fail> {
     Ok(())
 }
 
+const VIOLATIONS: &[(Why, &str)] = &[
+    (Why::Missing, "violation missing\n"),
+    (Why::BadLength, "violation bad-length\n"),
+    (Why::BadPrefix, "violation bad-prefix\n"),
+    (Why::OldFormat, "violation old-format\n"),
+    (Why::NotOpened, "violation not-opened\n"),
+    (Why::BadRecord, "violation bad-record\n"),
+    (
+        Why::WrongId(SECOND),
+        "violation wrong-id 00000000000000000000000000000002\n",
+    ),
+    (Why::ForeignClient(7), "violation foreign-client 7\n"),
+    (
+        Why::OldVersion { known: 3, found: 2 },
+        "violation old-version 3 2\n",
+    ),
+    (
+        Why::AheadVersion {
+            known: 4,
+            found: 10,
+        },
+        "violation ahead-version 4 10\n",
+    ),
+    (Why::Structure, "violation structure\n"),
+];
+
 #[test]
 fn prints_each_violation(rt: HostRuntime) -> Result<(), Fail> {
-    let rows = [
-        (Why::Missing, "violation missing\n"),
-        (Why::BadLength, "violation bad-length\n"),
-        (Why::BadPrefix, "violation bad-prefix\n"),
-        (Why::OldFormat, "violation old-format\n"),
-        (Why::NotOpened, "violation not-opened\n"),
-        (Why::BadRecord, "violation bad-record\n"),
-        (
-            Why::WrongId(SECOND),
-            "violation wrong-id 00000000000000000000000000000002\n",
-        ),
-        (Why::ForeignClient(7), "violation foreign-client 7\n"),
-        (
-            Why::OldVersion { known: 3, found: 2 },
-            "violation old-version 3 2\n",
-        ),
-        (
-            Why::AheadVersion {
-                known: 4,
-                found: 10,
-            },
-            "violation ahead-version 4 10\n",
-        ),
-        (Why::Structure, "violation structure\n"),
-    ];
-    for (why, text) in rows {
-        assert!(rt; prints(rt.alloc(), Answer::Violation(why), text)?);
+    for (why, text) in VIOLATIONS {
+        assert!(rt; prints(rt.alloc(), Answer::Violation(*why), text)?);
     }
     Ok(())
 }

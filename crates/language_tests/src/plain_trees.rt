@@ -14,34 +14,83 @@ fn deep(alloc: Global, depth: u64) -> Result<Path, Fail> {
     Ok(path)
 }
 
+/// What a command that fits is answered, with nothing said of it.
+fn replied(tree: &mut PlainTree, now: Moment, command: &Command) -> Result<Reply, Fail> {
+    if command.fits() {
+        Ok(tree.step(now, command)?)
+    } else {
+        Err(Fail::new("a command that fits"))
+    }
+}
+
+fn is_done(tree: &mut PlainTree, now: Moment, command: &Command) -> Result<bool, Fail> {
+    let reply = replied(tree, now, command)?;
+    Ok(matches!(&reply, Reply::Done))
+}
+
+fn is_invalid(tree: &mut PlainTree, now: Moment, command: &Command) -> Result<bool, Fail> {
+    let reply = replied(tree, now, command)?;
+    Ok(matches!(&reply, Reply::Error(FsError::Invalid)))
+}
+
+/// Makes a directory so deep.
+fn makes(alloc: Global, tree: &mut PlainTree, now: Moment, depth: u64) -> Result<bool, Fail> {
+    let command = Command::Mkdir(deep(alloc, depth)?);
+    is_done(tree, now, &command)
+}
+
+/// Makes directories one in another, down to the deepest.
+fn all_are_made(alloc: Global, tree: &mut PlainTree, now: Moment) -> Result<bool, Fail> {
+    for depth in 1..2_049 {
+        if !makes(alloc, tree, now, depth)? {
+            return Ok(false);
+        }
+    }
+    Ok(true)
+}
+
+/// Moves the first of them to where the deepest is.
+fn moves_into_itself(alloc: Global, tree: &mut PlainTree, now: Moment) -> Result<bool, Fail> {
+    let to = deep(alloc, 2_048)?;
+    let command = Command::Mv(deep(alloc, 1)?, to);
+    is_invalid(tree, now, &command)
+}
+
 #[test]
 fn directories_stand_2048_deep(rt: HostRuntime) -> Result<(), Fail> {
-    let alloc = rt.alloc();
     let now = Moment::new(100, 5).ok_or("nanos")?;
-    let mut tree = PlainTree::new(alloc);
-    for depth in 0..2_048 {
-        let reply = tree.step(now, &Command::Mkdir(deep(alloc, depth + 1)?))?;
-        assert!(rt; matches!(&reply, Reply::Done));
-    }
-    let reply = tree.step(now, &Command::Mv(deep(alloc, 1)?, deep(alloc, 2_048)?))?;
-    assert!(rt; matches!(&reply, Reply::Error(FsError::Invalid)));
+    let mut tree = PlainTree::new(rt.alloc());
+    assert!(rt; all_are_made(rt.alloc(), &mut tree, now)?);
+    assert!(rt; moves_into_itself(rt.alloc(), &mut tree, now)?);
     Ok(())
+}
+
+fn makes_file(alloc: Global, tree: &mut PlainTree, now: Moment) -> Result<bool, Fail> {
+    let command = Command::Mkfile(deep(alloc, 1)?);
+    is_done(tree, now, &command)
+}
+
+/// Gives the file so many bytes.
+fn resizes(alloc: Global, tree: &mut PlainTree, now: Moment, len: u64) -> Result<bool, Fail> {
+    let command = Command::Truncate(deep(alloc, 1)?, len);
+    is_done(tree, now, &command)
+}
+
+/// Makes it grow to its limits, and past them before.
+fn grows(alloc: Global, tree: &mut PlainTree, now: Moment) -> Result<bool, Fail> {
+    Ok(
+        !resizes(alloc, tree, now, 67_108_865)?
+            && resizes(alloc, tree, now, 67_108_864)?
+            && !resizes(alloc, tree, now, 134_217_729)?
+            && resizes(alloc, tree, now, 134_217_728)?,
+    )
 }
 
 #[test]
 fn a_file_grows_up_to_its_limits(rt: HostRuntime) -> Result<(), Fail> {
-    let alloc = rt.alloc();
     let now = Moment::new(100, 5).ok_or("nanos")?;
-    let mut tree = PlainTree::new(alloc);
-    tree.step(now, &Command::Mkfile(deep(alloc, 1)?))?;
-    for (len, fits) in [
-        (67_108_865, false),
-        (67_108_864, true),
-        (134_217_729, false),
-        (134_217_728, true),
-    ] {
-        let reply = tree.step(now, &Command::Truncate(deep(alloc, 1)?, len))?;
-        assert_eq!(rt; matches!(&reply, Reply::Done), fits);
-    }
+    let mut tree = PlainTree::new(rt.alloc());
+    assert!(rt; makes_file(rt.alloc(), &mut tree, now)?);
+    assert!(rt; grows(rt.alloc(), &mut tree, now)?);
     Ok(())
 }
