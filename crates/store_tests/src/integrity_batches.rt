@@ -3,7 +3,9 @@ ghost use Rattle.std.specs.Prelude.{◌≡◌, IfOk};
 ghost use Rattle.sealed_store.specs.Stores.{IsIntact, block_size_of, cipher_of};
 ghost use Rattle.store_api.specs.Txs.{intact_in};
 
-use crate::integrity_files::{plain_of, push_life, push_record_head, put_file, sealed_over};
+use crate::integrity_files::{
+    Sealed, plain_of, push_life, push_record_head, put_file, sealed_over,
+};
 use aes_gcm::Aes256Gcm;
 use block_id::BlockId;
 use integrity_store::IntegrityStore;
@@ -13,7 +15,7 @@ use outside::{Change, FileName, Pending};
 use rand_core::Rng;
 use rand_pcg::Pcg32;
 use seal_api::Sealer;
-use sealed_store::{SealedStore, Seen};
+use sealed_store::Seen;
 use std::alloc::Global;
 use std::test::Fail;
 use store_api::{ApplyError, Blocks, BlocksMut, Durable, Tx};
@@ -47,8 +49,8 @@ fn push_record(out: &mut Vec<u8>, version: u64) -> Result<(), Fail> {
 /// A directory with the files of both blocks, whose payloads are of bytes 8 and 9.
 fn files(alloc: Global, version: u64) -> Result<MemoryVault, Fail> {
     let mut below = MemoryVault::new(alloc);
-    put_file(alloc, &mut below, &LIVE, &plain_of(1, version, 8))?;
-    put_file(alloc, &mut below, &DYING, &plain_of(2, 5, 9))?;
+    put_file(alloc, &mut below, &LIVE, &plain_of(&LIVE, version, 8))?;
+    put_file(alloc, &mut below, &DYING, &plain_of(&DYING, 5, 9))?;
     Ok(below)
 }
 
@@ -175,18 +177,68 @@ fn remove_live<S: BlocksMut>(alloc: Global, tx: &mut Tx<S>) -> Result<Result<(),
     Ok(tx.commit(alloc, &mut chance()))
 }
 
+/// A store whose live block was at this version, after the batch.
+fn changed(alloc: Global, version: u64, chance: &mut Pcg32) -> Result<(Store, Outcome), Fail>
+    ensures { IfOk result (λ changed. ⟦<Store as Blocks>⟧.meanings.intact changed.0) }
+{
+    let (store, outcome) = change_store(alloc, store_at(alloc, version)?, chance);
+    Ok((store, outcome?))
+}
+
+/// The known versions of the block that lived, of the one that was removed, and of the new one.
+fn versions(store: &Store, id: &BlockId) -> [Option<u64>; 3] {
+    let known = &store.state().known;
+    [
+        known.version(&LIVE),
+        known.version(&DYING),
+        known.version(id),
+    ]
+}
+
+/// Which of these live.
+fn living(store: &Store, id: &BlockId) -> [bool; 3] {
+    let known = &store.state().known;
+    [
+        known.is_live(&LIVE),
+        known.is_live(&DYING),
+        known.is_live(id),
+    ]
+}
+
+/// Which of these have ids that are used.
+fn used(store: &Store, id: &BlockId) -> [bool; 3] {
+    let known = &store.state().known;
+    [
+        known.is_used(&LIVE),
+        known.is_used(&DYING),
+        known.is_used(id),
+    ]
+}
+
 fn draw(source: &mut Pcg32) -> [u8; 16] {
     let mut bytes = [0; 16];
     source.fill_bytes(&mut bytes);
     bytes
 }
 
-/// The name of a block's file that waits, and its IV, or none where the removal waits.
-fn waiting(pending: &Pending) -> (&FileName, Option<&[u8]>) {
-    match &pending.change {
-        Change::Bytes(file) => (&pending.name, file.get(16..32)),
-        Change::Removal => (&pending.name, None),
+/// What was drawn first of a source that has given two IVs since it began.
+fn drawn_before(source: &mut Pcg32) -> Option<[[u8; 16]; 2]> {
+    let mut same = chance();
+    let ivs = [draw(&mut same), draw(&mut same)];
+    if draw(source) == draw(&mut same) {
+        Some(ivs)
+    } else {
+        None
     }
+}
+
+/// Whether a block's file waits, sealed with this IV, or, without one, its removal.
+fn is_waiting(pending: &Pending, id: &BlockId, iv: Option<&[u8]>) -> bool {
+    let found = match &pending.change {
+        Change::Bytes(file) => file.get(16..32),
+        Change::Removal => None,
+    };
+    pending.name == FileName::Block(*id) && found == iv
 }
 
 /// What waits, as the local record lists it.
@@ -199,79 +251,98 @@ fn waiting_list(alloc: Global, store: &mut Store) -> Result<Vec<Pending>, Fail>
     Ok(list)
 }
 
-/// The record in a block's file.
-fn written_record(
+/// Whether the three changes wait by rising ids, sealed with these IVs.
+fn are_waiting(
     alloc: Global,
-    sealed: &mut SealedStore<MemoryVault, Aes256Gcm>,
+    store: &mut Store,
     id: &BlockId,
-) -> Result<Vec<u8>, Fail>
+    ivs: &[[u8; 16]; 2],
+) -> Result<bool, Fail>
+    requires { ⟦<Store as Blocks>⟧.meanings.intact store.old }
+    ensures { store.new ≡ store.old }
+{
+    let [first, second] = ivs;
+    match waiting_list(alloc, store)?.as_slice() {
+        [live, dying, new] => Ok(
+            is_waiting(live, &LIVE, Some(first))
+                && is_waiting(dying, &DYING, None)
+                && is_waiting(new, id, Some(second)),
+        ),
+        _ => Ok(false),
+    }
+}
+
+/// The store of sealed blocks below, once all was written.
+fn written(alloc: Global, mut store: Store) -> Result<Sealed, Fail>
+    requires { ⟦<Store as Blocks>⟧.meanings.intact store }
+    ensures { IfOk result (λ sealed. IsIntact (block_size_of sealed) (⟦<Aes256Gcm as Sealer>⟧.iv_size (cipher_of sealed))) }
+{
+    store.write_out(alloc)?;
+    Ok(sealed_over(alloc, store.into_vault()))
+}
+
+/// Whether this is the record in a block's file.
+fn is_written(
+    alloc: Global,
+    sealed: &mut Sealed,
+    id: &BlockId,
+    record: &[u8; 80],
+) -> Result<bool, Fail>
     requires { IsIntact (block_size_of sealed.old) (⟦<Aes256Gcm as Sealer>⟧.iv_size (cipher_of sealed.old)) }
     ensures { IsIntact (block_size_of sealed.new) (⟦<Aes256Gcm as Sealer>⟧.iv_size (cipher_of sealed.new)) }
 {
     match sealed.get_plain(alloc, id, 2, usize::MAX)? {
-        Seen::Plain(plain) => Ok(plain),
-        _ => Err("no record".into()),
+        Seen::Plain(plain) => Ok(plain.as_slice() == record.as_slice()),
+        _ => Ok(false),
     }
+}
+
+/// Whether the files of the block that was changed and of the new one have their records.
+fn are_written(alloc: Global, store: Store, id: &BlockId) -> Result<bool, Fail>
+    requires { ⟦<Store as Blocks>⟧.meanings.intact store }
+{
+    let mut sealed = written(alloc, store)?;
+    let live = is_written(alloc, &mut sealed, &LIVE, &plain_of(&LIVE, 3, 11))?;
+    Ok(live && is_written(alloc, &mut sealed, id, &plain_of(id, 1, 33))?)
 }
 
 #[test]
 fn applies_a_batch(rt: HostRuntime) -> Result<(), Fail> {
-    let store = store_at(rt.alloc(), 2)?;
-    let (store, outcome) = change_store(rt.alloc(), store, &mut chance());
-    let (id, answer, seen) = outcome?;
-    let known = &store.state().known;
+    let (store, (id, answer, seen)) = changed(rt.alloc(), 2, &mut chance())?;
     assert!(rt; answer == Ok(()) && seen == [true, true, true]);
-    assert_eq!(rt; known.version(&LIVE), Some(3));
-    assert_eq!(rt; known.version(&DYING), Some(5));
-    assert_eq!(rt; known.version(&id), Some(1));
-    assert!(rt; known.is_live(&LIVE));
-    assert!(rt; known.is_used(&DYING));
-    assert!(rt; !known.is_live(&DYING));
-    assert!(rt; known.is_live(&id));
+    assert!(rt; versions(&store, &id) == [Some(3), Some(5), Some(1)]);
+    assert!(rt; living(&store, &id) == [true, false, true]);
+    assert!(rt; used(&store, &id) == [true, true, true]);
     Ok(())
 }
 
 #[test]
 fn seals_with_what_is_drawn_by_rising_ids(rt: HostRuntime) -> Result<(), Fail> {
     let mut source = chance();
-    let store = store_at(rt.alloc(), 2)?;
-    let (mut store, outcome) = change_store(rt.alloc(), store, &mut source);
-    let (id, _, _) = outcome?;
-    let mut same = chance();
-    let (first, second) = (draw(&mut same), draw(&mut same));
-    assert!(rt; draw(&mut source) == draw(&mut same));
-    let list = waiting_list(rt.alloc(), &mut store)?;
-    match list.as_slice() {
-        [live, dying, new] => {
-            assert!(rt; waiting(live) == (&FileName::Block(LIVE), Some(&first[..])));
-            assert!(rt; waiting(dying) == (&FileName::Block(DYING), None));
-            assert!(rt; waiting(new) == (&FileName::Block(id), Some(&second[..])));
-        }
-        _ => assert!(rt; false),
-    }
-    store.write_out(rt.alloc())?;
-    let mut sealed = sealed_over(rt.alloc(), store.into_vault());
-    let live = written_record(rt.alloc(), &mut sealed, &LIVE)?;
-    assert_eq!(rt; live.as_slice(), plain_of(1, 3, 11).as_slice());
-    let new = written_record(rt.alloc(), &mut sealed, &id)?;
-    let mut plain = plain_of(0, 1, 33);
-    plain[2..18].copy_from_slice(&id.0);
-    assert_eq!(rt; new.as_slice(), plain.as_slice());
+    let (mut store, (id, _, _)) = changed(rt.alloc(), 2, &mut source)?;
+    let ivs = drawn_before(&mut source).ok_or("another number of draws")?;
+    assert!(rt; are_waiting(rt.alloc(), &mut store, &id, &ivs)?);
+    assert!(rt; are_written(rt.alloc(), store, &id)?);
     Ok(())
+}
+
+/// Whether the store is as it was before: the new id isn't used, and nothing waits.
+fn is_unchanged(alloc: Global, store: &mut Store, id: &BlockId) -> Result<bool, Fail>
+    requires { ⟦<Store as Blocks>⟧.meanings.intact store.old }
+{
+    let known = versions(store, id) == [Some(u64::MAX), Some(5), None]
+        && living(store, id) == [true, true, false]
+        && used(store, id) == [true, true, false];
+    Ok(known && waiting_list(alloc, store)?.is_empty())
 }
 
 #[test]
 fn changes_nothing_where_an_id_is_spent(rt: HostRuntime) -> Result<(), Fail> {
     let mut source = chance();
-    let store = store_at(rt.alloc(), u64::MAX)?;
-    let (mut store, outcome) = change_store(rt.alloc(), store, &mut source);
-    let (id, answer, seen) = outcome?;
+    let (mut store, (id, answer, seen)) = changed(rt.alloc(), u64::MAX, &mut source)?;
     assert!(rt; answer == Err(ApplyError::Spent) && seen == [false, false, false]);
     assert!(rt; draw(&mut source) == draw(&mut chance()));
-    assert_eq!(rt; store.state().known.version(&LIVE), Some(u64::MAX));
-    assert!(rt; store.state().known.is_live(&DYING));
-    assert!(rt; !store.state().known.is_used(&id));
-    assert_eq!(rt; waiting_list(rt.alloc(), &mut store)?.len(), 0);
+    assert!(rt; is_unchanged(rt.alloc(), &mut store, &id)?);
     Ok(())
 }
 
@@ -280,7 +351,7 @@ fn removes_a_block_whose_id_is_spent(rt: HostRuntime) -> Result<(), Fail> {
     let mut tx = tx_over(rt.alloc(), store_at(rt.alloc(), u64::MAX)?);
     let answer = remove_live(rt.alloc(), &mut tx);
     let store = tx.into_store();
-    assert_eq!(rt; answer?, Ok(()));
+    assert!(rt; answer? == Ok(()));
     assert!(rt; !store.state().known.is_live(&LIVE));
     Ok(())
 }

@@ -35,18 +35,21 @@ pub(crate) fn push_life(
 
 /// What a block's file of client 7 holds: the format's number, its id, its client, its version and
 /// 50 bytes of payload.
-pub(crate) fn plain_of(id: u8, version: u64, payload: u8) -> [u8; 80] {
+pub(crate) fn plain_of(id: &BlockId, version: u64, payload: u8) -> [u8; 80] {
     let mut plain = [payload; 80];
     plain[..30].fill(0);
     plain[0] = 1;
-    plain[2..18].fill(id);
+    plain[2..18].copy_from_slice(&id.0);
     plain[18] = 7;
     plain[22..30].copy_from_slice(&version.to_le_bytes());
     plain
 }
 
+/// A store of blocks that are sealed over a directory.
+pub(crate) type Sealed = SealedStore<MemoryVault, Aes256Gcm>;
+
 /// Blocks of 128 bytes.
-pub(crate) fn sealed_over(alloc: Global, below: MemoryVault) -> SealedStore<MemoryVault, Aes256Gcm>
+pub(crate) fn sealed_over(alloc: Global, below: MemoryVault) -> Sealed
     ensures intact { IsIntact (block_size_of result) (⟦<Aes256Gcm as Sealer>⟧.iv_size (cipher_of result)) }
     ensures size { block_size_of result ≡ 128 }
     ensures list { result.vault.list ≡ [] }
@@ -59,21 +62,15 @@ pub(crate) fn sealed_over(alloc: Global, below: MemoryVault) -> SealedStore<Memo
 pub(crate) fn sealed_file(alloc: Global, id: &BlockId, plain: &[u8; 80]) -> Result<Vec<u8>, Fail> {
     let mut sealed = sealed_over(alloc, MemoryVault::new(alloc));
     put_draft(alloc, &mut sealed, id, plain)?;
-    match sealed.take_list(alloc)?.pop() {
-        Some(
-            Pending {
-                name: _,
-                change: Change::Bytes(file),
-            },
-        ) => Ok(file),
-        _ => Err("no file waits".into()),
-    }
+    sealed.write_out(alloc)?;
+    let file = sealed.into_vault().get(alloc, &FileName::Block(*id), 128)?;
+    Ok(file.ok_or("no file")?)
 }
 
 /// Has the file of a block wait.
 pub(crate) fn put_draft(
     alloc: Global,
-    sealed: &mut SealedStore<MemoryVault, Aes256Gcm>,
+    sealed: &mut Sealed,
     id: &BlockId,
     plain: &[u8; 80],
 ) -> Result<(), Fail>
@@ -88,7 +85,7 @@ pub(crate) fn put_draft(
         name: FileName::Block(*id),
         change: Change::Bytes(draft),
     })?;
-    sealed.put_drafts(alloc, drafts)?;
+    sealed.put_drafts(drafts)?;
     Ok(())
 }
 

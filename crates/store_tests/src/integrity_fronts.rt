@@ -17,7 +17,7 @@ fn front_from(alloc: Global, below: MemoryVault, id: &BlockId) -> Result<Answer,
 
 /// A directory with the file of the live block, whose last byte has these bits turned.
 fn turned_at_the_end(alloc: Global, bits: u8) -> Result<MemoryVault, Fail> {
-    let mut file = sealed_file(alloc, &LIVE, &plain_of(1, 2, 8))?;
+    let mut file = sealed_file(alloc, &LIVE, &plain_of(&LIVE, 2, 8))?;
     let last = file.last_mut().ok_or("no such byte")?;
     *last ^= bits;
     let mut below = MemoryVault::new(alloc);

@@ -49,7 +49,7 @@ fn load_from(alloc: Global, below: MemoryVault, id: &BlockId) -> Result<Answer, 
 
 pub(crate) fn put_back_removed(alloc: Global) -> Result<MemoryVault, Fail> {
     let mut below = MemoryVault::new(alloc);
-    put_file(alloc, &mut below, &REMOVED, &plain_of(4, 3, 9))?;
+    put_file(alloc, &mut below, &REMOVED, &plain_of(&REMOVED, 3, 9))?;
     Ok(below)
 }
 
