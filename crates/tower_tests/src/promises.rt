@@ -1,4 +1,4 @@
-// What every durable store promises a client, over a directory and a record in memory: each function answers whether it was kept.
+// What every durable store promises a client, over a directory and a record in memory: each function begins with empty ones and answers whether it was kept.
 ghost use Rattle.std.specs.Prelude.{IfOk};
 ghost use Rattle.store_api.specs.Holdings.{IsFew};
 ghost use Rattle.store_api.specs.Txs.{intact_in};
@@ -107,25 +107,24 @@ fn is_all(seen: &[Loaded; 3], want: [Option<u8>; 3]) -> bool {
 }
 
 /// What was put and synced is loaded by the store that is opened anew, and nothing else.
-pub(crate) fn reads_again_what_was_synced<S: Tower>(alloc: Global) -> Result<bool, Fail> {
-    let mut site = Site::new(alloc)?;
-    let nothing = has::<S>(alloc, &mut site, [None, None, None])?;
-    let well = run::<S>(alloc, &mut site, &[(A, Some(5)), (B, Some(6))])? == WELL;
-    let long = site.record(alloc)?.len() == 171 && site.file(alloc, &A)?.len() == 128;
-    Ok(nothing && well && long && has::<S>(alloc, &mut site, [Some(5), Some(6), None])?)
+pub(crate) fn reads_again_what_was_synced<S: Tower>(
+    alloc: Global,
+    site: &mut Site,
+) -> Result<bool, Fail> {
+    site.renew(alloc)?;
+    let nothing = has::<S>(alloc, site, [None, None, None])?;
+    let well = run::<S>(alloc, site, &[(A, Some(5)), (B, Some(6))])? == WELL;
+    let long = site.record_len() == 171 && site.file_len(&A) == 128;
+    Ok(nothing && well && long && has::<S>(alloc, site, [Some(5), Some(6), None])?)
 }
 
 /// A second put replaces the first, and a removed block is gone.
-pub(crate) fn reads_no_old_payload<S: Tower>(alloc: Global) -> Result<bool, Fail> {
-    let mut site = Site::new(alloc)?;
-    let first = run::<S>(
-        alloc,
-        &mut site,
-        &[(A, Some(5)), (B, Some(6)), (C, Some(7))],
-    )?;
-    let second = run::<S>(alloc, &mut site, &[(A, Some(8)), (B, None)])?;
+pub(crate) fn reads_no_old_payload<S: Tower>(alloc: Global, site: &mut Site) -> Result<bool, Fail> {
+    site.renew(alloc)?;
+    let first = run::<S>(alloc, site, &[(A, Some(5)), (B, Some(6)), (C, Some(7))])?;
+    let second = run::<S>(alloc, site, &[(A, Some(8)), (B, None)])?;
     let well = first == WELL && second == WELL && site.vault.files().len() == 2;
-    Ok(well && has::<S>(alloc, &mut site, [Some(8), None, Some(7)])?)
+    Ok(well && has::<S>(alloc, site, [Some(8), None, Some(7)])?)
 }
 
 /// What is loaded after each of two changes.
@@ -166,23 +165,29 @@ fn change_in_one_session<S: Tower>(
 }
 
 /// A session loads what it changed last, before a sync and after it, and so does the next one.
-pub(crate) fn loads_its_own_changes<S: Tower>(alloc: Global) -> Result<bool, Fail> {
-    let mut site = Site::new(alloc)?;
+pub(crate) fn loads_its_own_changes<S: Tower>(
+    alloc: Global,
+    site: &mut Site,
+) -> Result<bool, Fail> {
+    site.renew(alloc)?;
     let first = [(A, Some(5)), (B, Some(6)), (C, Some(7))];
     let second = [(A, Some(8)), (B, None)];
-    let (before, after, synced) = change_in_one_session::<S>(alloc, &mut site, &first, &second)?;
+    let (before, after, synced) = change_in_one_session::<S>(alloc, site, &first, &second)?;
     let want = [Some(8), None, Some(7)];
     let seen = is_all(&before, [Some(5), Some(6), Some(7)]) && is_all(&after, want);
-    Ok(seen && is_all(&synced, want) && has::<S>(alloc, &mut site, want)?)
+    Ok(seen && is_all(&synced, want) && has::<S>(alloc, site, want)?)
 }
 
 /// A block gets the payload of the one that it names, and one that isn't there gets none.
-pub(crate) fn follows_from_a_block_to_the_next<S: Tower>(alloc: Global) -> Result<bool, Fail> {
-    let mut site = Site::new(alloc)?;
-    let well = run::<S>(alloc, &mut site, &[(A, Some(2)), (B, Some(7))])? == WELL;
-    let found = follow::<S>(alloc, &mut site, &A)? == (true, WELL);
-    let none = follow::<S>(alloc, &mut site, &C)? == (false, WELL);
-    Ok(well && found && none && has::<S>(alloc, &mut site, [Some(7), Some(7), None])?)
+pub(crate) fn follows_from_a_block_to_the_next<S: Tower>(
+    alloc: Global,
+    site: &mut Site,
+) -> Result<bool, Fail> {
+    site.renew(alloc)?;
+    let well = run::<S>(alloc, site, &[(A, Some(2)), (B, Some(7))])? == WELL;
+    let found = follow::<S>(alloc, site, &A)? == (true, WELL);
+    let none = follow::<S>(alloc, site, &C)? == (false, WELL);
+    Ok(well && found && none && has::<S>(alloc, site, [Some(7), Some(7), None])?)
 }
 
 /// Whether this call put this configuration.
@@ -196,46 +201,56 @@ fn put_config(event: Option<&Event>, want: &[u8]) -> bool {
 }
 
 /// A configuration that waits is in the record, and is put before the blocks.
-pub(crate) fn a_configuration_waits_first<S: Tower>(alloc: Global) -> Result<bool, Fail> {
-    let mut site = Site::new(alloc)?;
-    let (sizes, syncs) = configure::<S>(alloc, &mut site, &[(A, Some(5))], b"settings")?;
+pub(crate) fn a_configuration_waits_first<S: Tower>(
+    alloc: Global,
+    site: &mut Site,
+) -> Result<bool, Fail> {
+    site.renew(alloc)?;
+    let (sizes, syncs) = configure::<S>(alloc, site, &[(A, Some(5))], b"settings")?;
     let first = put_config(site.vault.trace().first(), b"settings");
-    let kept = site.record(alloc)?.len() == 146;
+    let kept = site.record_len() == 146;
     let well = sizes == (136, 310, 146) && syncs == WELL;
-    Ok(first && kept && well && has::<S>(alloc, &mut site, [Some(5), None, None])?)
+    Ok(first && kept && well && has::<S>(alloc, site, [Some(5), None, None])?)
 }
 
 /// After a put that failed the next sync puts the rest.
-pub(crate) fn goes_on_after_a_put_that_failed<S: Tower>(alloc: Global) -> Result<bool, Fail> {
-    let mut site = Site::new(alloc)?;
+pub(crate) fn goes_on_after_a_put_that_failed<S: Tower>(
+    alloc: Global,
+    site: &mut Site,
+) -> Result<bool, Fail> {
+    site.renew(alloc)?;
     site.vault.fail_calls([2].to_vec(alloc)?);
-    let syncs = run::<S>(alloc, &mut site, &[(A, Some(5)), (B, Some(6))])?;
+    let syncs = run::<S>(alloc, site, &[(A, Some(5)), (B, Some(6))])?;
     let well = syncs == (Err(SyncError::FaultDirectory), Ok(())) && site.vault.trace().len() == 3;
-    Ok(well && has::<S>(alloc, &mut site, [Some(5), Some(6), None])?)
+    Ok(well && has::<S>(alloc, site, [Some(5), Some(6), None])?)
 }
 
 /// What was saved and couldn't be put is loaded from the record by the store that is opened anew, and put by its sync.
-pub(crate) fn finds_in_the_list_what_was_not_put<S: Tower>(alloc: Global) -> Result<bool, Fail> {
-    let mut site = Site::new(alloc)?;
+pub(crate) fn finds_in_the_list_what_was_not_put<S: Tower>(
+    alloc: Global,
+    site: &mut Site,
+) -> Result<bool, Fail> {
+    site.renew(alloc)?;
     site.vault.fail_from(2);
-    let syncs = run::<S>(alloc, &mut site, &[(A, Some(5)), (B, Some(6))])?;
+    let syncs = run::<S>(alloc, site, &[(A, Some(5)), (B, Some(6))])?;
     let fault = Err(SyncError::FaultDirectory);
-    let long = site.record(alloc)?.len() == 321;
+    let long = site.record_len() == 321;
     let failed = syncs == (fault, fault) && long && site.vault.files().len() == 1;
     site.vault.fail_from(u64::MAX);
-    let listed = has::<S>(alloc, &mut site, [Some(5), Some(6), None])?;
-    let well = run::<S>(alloc, &mut site, &[])? == WELL && site.vault.files().len() == 2;
-    Ok(failed && listed && well && has::<S>(alloc, &mut site, [Some(5), Some(6), None])?)
+    let listed = has::<S>(alloc, site, [Some(5), Some(6), None])?;
+    let well = run::<S>(alloc, site, &[])? == WELL && site.vault.files().len() == 2;
+    Ok(failed && listed && well && has::<S>(alloc, site, [Some(5), Some(6), None])?)
 }
 
 /// After a save that failed, whether its record was kept or not, the next sync saves and puts all.
 pub(crate) fn saves_again_after_a_save_that_failed<S: Tower>(
     alloc: Global,
+    site: &mut Site,
     keeps: bool,
 ) -> Result<bool, Fail> {
-    let mut site = Site::new(alloc)?;
+    site.renew(alloc)?;
     site.fail_saves(alloc, &[(1, keeps)])?;
-    let syncs = run::<S>(alloc, &mut site, &[(A, Some(5))])?;
+    let syncs = run::<S>(alloc, site, &[(A, Some(5))])?;
     let well = syncs == (Err(SyncError::FaultState), Ok(())) && site.vault.trace().len() == 1;
-    Ok(well && has::<S>(alloc, &mut site, [Some(5), None, None])?)
+    Ok(well && has::<S>(alloc, site, [Some(5), None, None])?)
 }

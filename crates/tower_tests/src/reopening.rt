@@ -42,7 +42,6 @@ fn put_and_sync<S: Durable + Drop, K: Keeper + Drop, R: Rng>(
     requires room { length saver.last.items ≤ K.room saver.keeper }
     requires sound { S.Durable.meanings.sound store }
     requires unmarked { (S.durables.identity store).marked ≡ false }
-    ensures intact { IfOk result (λ end. S.Durable.meanings.intact end.0) }
     ensures identity { IfOk result (λ end. S.durables.identity end.0 ≡ S.durables.identity store) }
     ensures forgeries { IfOk result (λ end. S.Durable.meanings.forgeries end.0 ≡ S.Durable.meanings.forgeries store) }
     ensures kept { IfOk result (λ end. RepresentsContent S.records (S.durables.identity store) (K.kept end.1) (S.durables.trace end.0)
@@ -141,15 +140,14 @@ pub fn put_reopen_load<V: Vault + Drop, C: Sealer + Drop, K: Keeper + Drop, R: R
     payload: Vec<u8>,
     chance: &mut R,
 ) -> Result<Reopened<V, C, K>, Fail>
-    requires size { (MIN_BLOCK ≤ seal.block_size) × (seal.block_size ≤ MAX_BLOCK) }
     requires iv { C.iv_size seal.cipher ≡ 16 }
     requires intact { ⟦<IntegrityStore<V, C> as Blocks>⟧.meanings.intact store }
     requires few { IsFew (⟦<IntegrityStore<V, C> as Blocks>⟧.holdings.used store) }
     requires room { length saver.last.items ≤ K.room saver.keeper }
     requires sound { ⟦<IntegrityStore<V, C> as Blocks>⟧.meanings.sound store }
     requires unmarked { (⟦<IntegrityStore<V, C> as Durable>⟧.durables.identity store).marked ≡ false }
-    requires opens { (⟦<IntegrityStore<V, C> as Durable>⟧.durables.identity store).opens ≡ C.opens seal.cipher seal.key }
-    requires length { (⟦<IntegrityStore<V, C> as Durable>⟧.durables.identity store).size ≡ seal.block_size }
+    requires sealed { ((⟦<IntegrityStore<V, C> as Durable>⟧.durables.identity store).opens ≡ C.opens seal.cipher seal.key)
+        × ((⟦<IntegrityStore<V, C> as Durable>⟧.durables.identity store).size ≡ seal.block_size) }
     ensures loads { IfOk result (λ end. ⟦<IntegrityStore<V, C> as Blocks>⟧.meanings.forgeries end.store ≤ ⟦<IntegrityStore<V, C> as Blocks>⟧.meanings.forgeries store
         → bytes_of end.answer ≡ Some payload.items) }
 {

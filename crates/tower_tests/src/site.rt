@@ -89,6 +89,12 @@ impl Site {
         Site::over(alloc, b"cryfs.localstate;1\0\0")
     }
 
+    /// Begins anew, with what `new` gives.
+    pub(crate) fn renew(&mut self, alloc: Global) -> Result<(), Fail> {
+        *self = Site::new(alloc)?;
+        Ok(())
+    }
+
     fn over(alloc: Global, front: &[u8]) -> Result<Site, Fail> {
         let record = empty_record(alloc, front)?;
         Ok(Site {
@@ -101,6 +107,14 @@ impl Site {
     pub(crate) fn record(&self, alloc: Global) -> Result<Vec<u8>, Fail> {
         let kept = self.keeper.kept().ok_or("nothing is kept")?;
         Ok(kept.to_vec(alloc)?)
+    }
+
+    /// How many bytes are kept.
+    pub(crate) fn record_len(&self) -> usize {
+        match self.keeper.kept() {
+            Some(kept) => kept.len(),
+            None => 0,
+        }
     }
 
     /// Has the saves of these numbers fail, each with whether it keeps its record.
@@ -148,6 +162,14 @@ impl Site {
             Some(Change::Bytes(bytes)) => Ok(bytes.as_slice().to_vec(alloc)?),
             Some(Change::Removal) => Err("removed".into()),
             None => Err("no file".into()),
+        }
+    }
+
+    /// How many bytes a block's file has, none where there is no file.
+    pub(crate) fn file_len(&self, id: &BlockId) -> usize {
+        match pending_list::lookup(self.vault.files(), &FileName::Block(*id)) {
+            Some(Change::Bytes(bytes)) => bytes.len(),
+            _ => 0,
         }
     }
 }
