@@ -1,10 +1,10 @@
 // Exports, and what they make.
 
 use crate::rows::{done, ends, imported, runs, runs_anew};
-use cryfs_shell::Status;
 use folder_samples::{has_rows, holds, leads};
 use memory_folder::MemoryFolder;
 use std::test::Fail;
+use test_systems::Status;
 
 #[test]
 fn what_was_imported_is_exported(rt: HostRuntime) -> Result<(), Fail> {

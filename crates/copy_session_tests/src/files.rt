@@ -1,9 +1,9 @@
 // One file that is put and got.
 
 use crate::rows::{Row, done, ends, runs_anew};
-use cryfs_shell::Status;
 use memory_folder::MemoryFolder;
 use std::test::Fail;
+use test_systems::Status;
 
 #[test]
 fn what_was_put_is_got(rt: HostRuntime) -> Result<(), Fail> {

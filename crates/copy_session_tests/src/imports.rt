@@ -1,10 +1,10 @@
 // Imports, and what later runs see of them.
 
 use crate::rows::{done, ends, runs_anew, small_folder};
-use cryfs_shell::Status;
 use folder_samples::{Row, makes};
 use memory_folder::MemoryFolder;
 use std::test::Fail;
+use test_systems::Status;
 
 #[test]
 fn a_folder_is_imported_once(rt: HostRuntime) -> Result<(), Fail> {

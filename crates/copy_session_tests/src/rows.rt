@@ -1,11 +1,10 @@
 // Runs beside a folder, in tables.
 
-use cryfs_shell::Status;
 use folder_samples::fills_small;
 use memory_folder::MemoryFolder;
 use std::alloc::Global;
 use std::test::Fail;
-use test_systems::{System, expect_beside, new_system, plain};
+use test_systems::{Status, System, expect_beside, new_system, plain};
 
 /// A run: its words and its input, what it has to write, and how it has to end.
 #[derive(Clone, Copy)]

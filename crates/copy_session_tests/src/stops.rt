@@ -1,10 +1,9 @@
 // Copies that end before all is copied, since a command isn't answered.
 
 use crate::rows::{Row, ends, imported, runs, runs_anew, small_folder};
-use cryfs_shell::Status;
 use std::alloc::Global;
 use std::test::Fail;
-use test_systems::{block, failing_saves, new_system, store};
+use test_systems::{Status, block, failing_saves, new_system, store};
 
 /// A copy of the root, where the second call on the block directory, the first on a block, fails.
 fn stopped(alloc: Global, row: Row<'_>) -> Result<(), Fail> {

@@ -1,9 +1,9 @@
 // What a copy is asked by.
 
 use crate::rows::{Row, ends, runs_anew};
-use cryfs_shell::Status;
 use memory_folder::MemoryFolder;
 use std::test::Fail;
+use test_systems::Status;
 
 /// A copy takes one path, as a line of a script says it.
 #[test]

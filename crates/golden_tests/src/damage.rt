@@ -4,12 +4,11 @@ use crate::stored::{BLOCKS, OLDER, RECORD};
 use crate::system::{block_of, stored_system};
 use aes_gcm::Aes256Gcm;
 use config_file::open_config;
-use cryfs_shell::Status;
 use outside::FileName;
 use seal_api::Sealer;
 use std::alloc::Global;
 use std::test::Fail;
-use test_systems::{System, file, session, store};
+use test_systems::{Status, System, file, session, store};
 
 /// The ids of the file `/docs/note`, of client 1 at version 3, and of the root.
 const NOTE: &str = "D357D99CFA853FCECAC04D85D952D812";

@@ -1,12 +1,11 @@
 // New file systems in the forms of before block format 2, drawn from zeros. The root is block 1, and its child the first that a line made.
 
-use cryfs_shell::Status;
 use memory_outside::{MemoryKeeper, MemoryVault};
 use old_forms::{Stored, in_older_forms};
 use std::alloc::Global;
 use std::test::Fail;
 use test_systems::{
-    System, block, copy_files, expect, file, first_made, new_system, plain, session, store,
+    Status, System, block, copy_files, expect, file, first_made, new_system, plain, session, store,
 };
 
 /// What is stored, in record form 1 and block format 1.

@@ -2,10 +2,9 @@
 
 use crate::stored::{BLOCKS, RECORD};
 use crate::system::{block_of, stored_system};
-use cryfs_shell::Status;
 use std::alloc::Global;
 use std::test::Fail;
-use test_systems::{System, count_blocks, expect, plain, session, store};
+use test_systems::{Status, System, count_blocks, expect, plain, session, store};
 
 /// The id of the root.
 const ROOT: &str = "2E0435824AAF8B86DF5ED063B4777541";

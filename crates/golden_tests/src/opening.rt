@@ -2,10 +2,9 @@
 
 use crate::stored::{RECORD, WAITING};
 use crate::system::stored_system;
-use cryfs_shell::Status;
 use std::alloc::{AllocError, Global};
 use std::test::Fail;
-use test_systems::{count_blocks, expect, plain, session};
+use test_systems::{Status, count_blocks, expect, plain, session};
 
 const INFO: &str =
     "filesystem 299B7F00ACD74916C2D7097FB2CE040E\nroot 2E0435824AAF8B86DF5ED063B4777541\ncipher aes-256-gcm\nblocksize 256\nscrypt 16 8 1\n";

@@ -1,13 +1,13 @@
 // How many block files there are after each session, and how often they are asked for.
 
 use crate::sessions::three_sessions;
-use cryfs_shell::Status;
 use memory_outside::{Event, MemoryVault};
 use outside::FileName;
 use std::alloc::Global;
 use std::test::Fail;
 use test_systems::{
-    CREATED, System, count_blocks, expect, first_made, new_system, nothing, plain, script, session,
+    CREATED, Status, System, count_blocks, expect, first_made, new_system, nothing, plain, script,
+    session,
 };
 
 /// A new file system of blocks of 128 bytes.

@@ -1,9 +1,8 @@
 // Sessions in which calls on the outside fail.
 
-use cryfs_shell::Status;
 use std::test::Fail;
 use test_systems::{
-    ZEROS, expect, failing_saves, mended, new_system, outcome, plain, script, session,
+    Status, ZEROS, expect, failing_saves, mended, new_system, outcome, plain, script, session,
 };
 
 #[test]

@@ -1,12 +1,11 @@
 // Sessions over a directory that keeps its promises.
 
 use crate::trials::{CHILDREN, TOUCHED};
-use cryfs_shell::Status;
 use memory_outside::MemoryKeeper;
 use std::alloc::Global;
 use std::test::Fail;
 use test_systems::{
-    ZEROS, count_blocks, expect, new_system, nothing, outcome, plain, script, session,
+    Status, ZEROS, count_blocks, expect, new_system, nothing, outcome, plain, script, session,
 };
 
 #[test]

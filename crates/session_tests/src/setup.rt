@@ -2,15 +2,14 @@
 
 use crate::files::{BY_HAND, COUNTED, OTHER_CIPHER, OTHER_JSON, SMALL_BLOCKS};
 use config_file::open_config;
-use cryfs_shell::Status;
 use local_state::key_digest;
 use memory_outside::{MemoryKeeper, MemoryVault};
 use outside::{Change, FileName, Pending};
 use std::alloc::{AllocError, Global};
 use std::test::Fail;
 use test_systems::{
-    CREATED, Run, System, Words, ZEROS, count_blocks, expect, file, new_system, nothing, outcome,
-    plain, session, store,
+    CREATED, Run, Status, System, Words, ZEROS, count_blocks, expect, file, new_system, nothing,
+    outcome, plain, session, store,
 };
 
 const CREATE: &[&str] = &["create", "--blocksize", "128", "--scrypt-n", "16"];

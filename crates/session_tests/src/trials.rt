@@ -1,9 +1,8 @@
 // Runs of `trial`, and words that no form has.
 
-use cryfs_shell::Status;
 use std::alloc::{AllocError, Global};
 use std::test::Fail;
-use test_systems::{Run, expect, nothing, plain};
+use test_systems::{Run, Status, expect, nothing, plain};
 
 /// A trial of these lines.
 fn trial<'a>(input: &'a str) -> Run<'a> {

@@ -2,13 +2,12 @@
 
 use aes_gcm::Aes256Gcm;
 use config_file::open_config;
-use cryfs_shell::Status;
 use memory_outside::MemoryKeeper;
 use outside::FileName;
 use seal_api::Sealer;
 use std::alloc::Global;
 use std::test::Fail;
-use test_systems::{System, block, file, new_system, session, store};
+use test_systems::{Status, System, block, file, new_system, session, store};
 
 /// The place of the version in a block's record.
 const IN_BLOCK: usize = 22;

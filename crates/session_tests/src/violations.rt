@@ -2,12 +2,13 @@
 
 use aes_gcm::Aes256Gcm;
 use config_file::open_config;
-use cryfs_shell::Status;
 use outside::{FileName, Pending};
 use seal_api::Sealer;
 use std::alloc::Global;
 use std::test::Fail;
-use test_systems::{System, block, copy_files, file, first_made, new_system, session, store};
+use test_systems::{
+    Status, System, block, copy_files, file, first_made, new_system, session, store,
+};
 
 /// A session that meets this violation, and one later over the honest files, which is refused.
 fn is_refused_then(
