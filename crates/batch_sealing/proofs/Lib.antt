@@ -1,6 +1,7 @@
 pub mod Applying
 pub mod BatchSoundness
 pub mod Batches
+pub mod Fronts
 pub mod Lives
 pub mod Sealed
 pub mod Sorted

@@ -4,6 +4,7 @@
 
 mod raising;
 mod sealing;
+mod zeros;
 
 pub use raising::{count_new, raise_or_bury_all, some_spent};
 pub use sealing::draft_all;

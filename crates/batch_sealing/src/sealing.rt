@@ -12,8 +12,8 @@ ghost use Rattle.block_batch.specs.Entries.{entry_view, entries_of};
 ghost use Rattle.batch_sealing.specs.Sealing.{MaySealAt, MaySeal, IsFileFor, IsMadeOf, stream_after, AreMadeOf};
 ghost use Rattle.held_blocks.specs.Views.{held_of};
 
+use crate::zeros::write_front;
 use block_id::{BlockId, Memory};
-use block_records::write_record;
 use local_state::State;
 use outside::{Change, FileName, Pending, Vault};
 use rand_core::Rng;
@@ -22,7 +22,7 @@ use sealed_store::SealedStore;
 use std::alloc::Global;
 use store_api::BatchChange;
 
-/// The draft of the file of a payload's record.
+/// The draft of the file of a payload's record. It takes no memory for the zeros that the payload ends with.
 fn draft<V: Vault, C: Sealer, R: Rng>(
     alloc: Global,
     sealed: &SealedStore<V, C>,
@@ -43,8 +43,8 @@ fn draft<V: Vault, C: Sealer, R: Rng>(
     let mut iv = [0; 16];
     chance.fill_bytes(&mut iv);
     let version = state.known.next_version(id);
-    let plain = write_record(alloc, id, state.client, version, payload)?;
-    sealed.draft(plain, &iv)
+    let front = write_front(alloc, id, state.client, version, payload)?;
+    sealed.draft(front, &iv)
 }
 
 /// What waits for an entry: the draft of the file of its payload's record, or its removal.

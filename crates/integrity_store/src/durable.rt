@@ -29,7 +29,7 @@ impl<V: Vault, C: Sealer> Durable for IntegrityStore<V, C> {
         if !with_list {
             return encode(alloc, &self.state, &[]);
         }
-        let list = self.sealed.take_list(alloc);
+        let list = self.sealed.take_list(alloc)?;
         let bytes = encode(alloc, &self.state, &list);
         self.sealed.put_list(list);
         bytes

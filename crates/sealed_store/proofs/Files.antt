@@ -1,5 +1,5 @@
 -- The files that drafts are sealed to.
-use Rattle.std.proofs.Common.{◌≡◌, ℕ, ◌+◌, ◌-◌, ◌≤◌, ◌==◌, true, cond, List, ◌++◌, length, take, drop, refl, sym, ◌∙◌, ap, subst, arith, append_assoc, length-append, length-take-le, length-drop}
+use Rattle.std.proofs.Common.{◌≡◌, ℕ, ◌+◌, ◌-◌, ◌≤◌, ◌==◌, true, cond, List, ◌++◌, length, take, drop, refl, sym, ◌∙◌, ap, subst, arith, length-append, length-take-le, length-drop}
 use Rattle.std.specs.Prelude.{nat_lt}
 use Rattle.std.specs.declared.option.Option.{Option}
 use Rattle.std.specs.declared.option.Option.TheVariants.{None, Some}
@@ -11,7 +11,8 @@ use Rattle.seal_api.specs.Sealing.{IsSealed}
 use Rattle.outside.specs.Trace.{block}
 use Rattle.outside.specs.Changes.{cut}
 use Rattle.sealed_store.specs.BlockFiles.{old_format, bad_length, opened_as, opens_file, seen_as, seen_file_in, seen_file_of_plain}
-use Rattle.sealed_store.specs.Drafts.{Seal, plain_in, iv_in_draft, sealed_as, sealed_change, seen_draft, MayBeDraft, IsBlockFile, IsDraftOf}
+use Rattle.sealed_store.specs.Drafts.{Seal, filled, front_in, plain_in, iv_in_draft, sealed_as, sealed_change, seen_draft, IsDraft, MayBeDraft, IsBlockFile, IsDraftOf}
+use Rattle.sealed_store.proofs.Filled.{filled_len}
 
 -- what is sealed opens, with an IV of 16 bytes
 pub record IsSealing (opens : List ℕ → List ℕ → Option (List ℕ)) (seal : Seal) : Type 0 where
@@ -23,18 +24,28 @@ pub sealing_of : {C : Type 0} (iv_size : C → ℕ) (opens : C → List ℕ → 
     → (s : C) (key : List ℕ) → iv_size s ≡ 16 → IsSealing (opens s key) (seal s key)
 sealing_of iv_size opens seal law s key is = record { seals = λ iv extra text len. law s key iv extra text (len ∙ sym is) }
 
--- the file of a draft of this length, of at least 48 bytes
-pub file_of : (opens : List ℕ → List ℕ → Option (List ℕ)) (seal : Seal) (size : ℕ) (id draft : List ℕ) → IsSealing opens seal → 48 ≤ size → length draft ≡ size
-    → IsBlockFile opens size id (plain_in size draft) (iv_in_draft size draft) (sealed_as seal size id draft)
-file_of opens seal size id draft right least long =
-    let iv : List ℕ = iv_in_draft size draft in
+-- the parts of a draft, and the plaintext that it stands for
+pub front_long : (size : ℕ) (draft : List ℕ) → IsDraft size draft → length (front_in draft) ≤ size - 48
+front_long size draft is = omega (arith, length-take-le (length draft - 16) draft (omega arith), is.iv, is.front)
+
+pub plain_long : (size : ℕ) (draft : List ℕ) → IsDraft size draft → length (plain_in size draft) ≡ size - 48
+plain_long size draft is = filled_len (size - 48) (front_in draft) (front_long size draft is)
+
+pub iv_long : (size : ℕ) (draft : List ℕ) → IsDraft size draft → length (iv_in_draft draft) ≡ 16
+iv_long size draft is = omega (arith, length-drop (length draft - 16) draft, is.iv)
+
+-- the file of a draft
+pub file_of : (opens : List ℕ → List ℕ → Option (List ℕ)) (seal : Seal) (size : ℕ) (id draft : List ℕ) → IsSealing opens seal → IsDraft size draft
+    → IsBlockFile opens size id (plain_in size draft) (iv_in_draft draft) (sealed_as seal size id draft)
+file_of opens seal size id draft right may =
+    let iv : List ℕ = iv_in_draft draft in
     let text : List ℕ = plain_in size draft in
     let body : List ℕ = seal iv id text in
     let file : List ℕ = sealed_as seal size id draft in
-    let len_iv : length iv ≡ 16 = length-take-le 16 (drop (size - 48) draft) (omega (arith, length-drop (size - 48) draft, long, least)) in
-    let len_text : length text ≡ size - 48 = length-take-le (size - 48) draft (omega (arith, long)) in
+    let len_iv : length iv ≡ 16 = iv_long size draft may in
+    let len_text : length text ≡ size - 48 = plain_long size draft may in
     let is = right.seals iv id text len_iv in
-    let len : length file ≡ size = length-append (prefix_of WithId) body ∙ omega (arith, is.size, len_iv, len_text, least) in
+    let len : length file ≡ size = length-append (prefix_of WithId) body ∙ omega (arith, is.size, len_iv, len_text, may.iv, may.front) in
     let rest : drop 16 file ≡ body = drop_at (prefix_of WithId) body 16 refl in
     let format : format_in file ≡ Some WithId = refl in
     let whole : opens_file opens size id file ≡ Some text =
@@ -48,39 +59,38 @@ file_of opens seal size id draft right least long =
       opened = whole;
     }
 
--- a plaintext, its IV and 32 bytes more
-pub draft_of : (opens : List ℕ → List ℕ → Option (List ℕ)) (seal : Seal) (size : ℕ) (text iv more draft : List ℕ) → IsSealing opens seal → length text + 48 ≡ size → length iv ≡ 16 → length more ≡ 32
-    → draft ≡ (text ++ iv) ++ more → IsDraftOf opens seal size text iv draft
-draft_of opens seal size text iv more draft right sized len_iv len_more is =
-    let front : length (text ++ iv) ≡ length text + 16 = length-append text iv ∙ omega (arith, len_iv) in
-    let end : size - 48 ≡ length text = omega (arith, sized) in
-    let len : length draft ≡ size = ap length is ∙ length-append (text ++ iv) more ∙ omega (arith, front, len_more, sized) in
-    let parts : draft ≡ text ++ (iv ++ more) = is ∙ append_assoc text iv more in
-    let has_plain : plain_in size draft ≡ text = ap (take (size - 48)) parts ∙ take_at text (iv ++ more) (size - 48) (sym end) in
-    let has_iv : iv_in_draft size draft ≡ iv =
-    ap (λ l. take 16 (drop (size - 48) l)) parts ∙ ap (take 16) (drop_at text (iv ++ more) (size - 48) (sym end)) ∙ take_at iv more 16 len_iv in
+-- a front of a plaintext, and its IV
+pub draft_of : (opens : List ℕ → List ℕ → Option (List ℕ)) (seal : Seal) (size : ℕ) (front iv draft : List ℕ) → IsSealing opens seal → length front + 48 ≤ size → length iv ≡ 16
+    → draft ≡ front ++ iv → IsDraftOf opens seal size (filled (size - 48) front) iv draft
+draft_of opens seal size front iv draft right sized len_iv is =
+    let len : length draft ≡ length front + 16 = ap length is ∙ length-append front iv ∙ omega (arith, len_iv) in
+    let short : IsDraft size draft = record { iv = omega (arith, len); front = omega (arith, len, sized) } in
+    let end : length front ≡ length draft - 16 = omega (arith, len) in
+    let has_front : front_in draft ≡ front = ap (take (length draft - 16)) is ∙ take_at front iv (length draft - 16) end in
+    let has_plain : plain_in size draft ≡ filled (size - 48) front = ap (filled (size - 48)) has_front in
+    let has_iv : iv_in_draft draft ≡ iv = ap (drop (length draft - 16)) is ∙ drop_at front iv (length draft - 16) end in
     record {
-      len = len;
+      short = short;
       has_plain = has_plain;
       has_iv = has_iv;
       file = λ id.
-          subst (λ v. IsBlockFile opens size id text v (sealed_as seal size id draft)) has_iv
-          (subst (λ p. IsBlockFile opens size id p (iv_in_draft size draft) (sealed_as seal size id draft)) has_plain
-          (file_of opens seal size id draft right (omega (arith, sized)) len));
+          subst (λ v. IsBlockFile opens size id (filled (size - 48) front) v (sealed_as seal size id draft)) has_iv
+          (subst (λ p. IsBlockFile opens size id p (iv_in_draft draft) (sealed_as seal size id draft)) has_plain
+          (file_of opens seal size id draft right short));
     }
 
-pub sized_of : (opens : List ℕ → List ℕ → Option (List ℕ)) (seal : Seal) (size : ℕ) → IsSealing opens seal → 48 ≤ size → (id draft : List ℕ) → length draft ≡ size → length (sealed_as seal size id draft) ≡ size
-sized_of opens seal size right least id draft long = (file_of opens seal size id draft right least long).len
+pub sized_of : (opens : List ℕ → List ℕ → Option (List ℕ)) (seal : Seal) (size : ℕ) → IsSealing opens seal → (id draft : List ℕ) → IsDraft size draft → length (sealed_as seal size id draft) ≡ size
+sized_of opens seal size right id draft may = (file_of opens seal size id draft right may).len
 
 -- a draft is seen as its file would be
-pub draft_seen : (opens : List ℕ → List ℕ → Option (List ℕ)) (seal : Seal) (size least : ℕ) (id : List ℕ) (change : Option (List ℕ)) → IsSealing opens seal → 48 ≤ size → MayBeDraft size (block id) change
+pub draft_seen : (opens : List ℕ → List ℕ → Option (List ℕ)) (seal : Seal) (size least : ℕ) (id : List ℕ) (change : Option (List ℕ)) → IsSealing opens seal → MayBeDraft size (block id) change
     → seen_draft size least change ≡ seen_file_in opens size least id (cut (size + 1) (sealed_change seal size (block id) change))
-draft_seen opens seal size least id None right low may = refl
-draft_seen opens seal size least id (Some draft) right low may =
+draft_seen opens seal size least id None right may = refl
+draft_seen opens seal size least id (Some draft) right may =
     let file : List ℕ = sealed_as seal size id draft in
     let text : List ℕ = plain_in size draft in
-    let body : List ℕ = seal (iv_in_draft size draft) id text in
-    let is = file_of opens seal size id draft right low may in
+    let body : List ℕ = seal (iv_in_draft draft) id text in
+    let is = file_of opens seal size id draft right may in
     let rest : drop 16 file ≡ body = drop_at (prefix_of WithId) body 16 refl in
     let format : format_in file ≡ Some WithId = refl in
     let all : take (size + 1) file ≡ file = take_all (size + 1) file (omega (arith, is.len)) in

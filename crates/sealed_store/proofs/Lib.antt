@@ -1,3 +1,5 @@
+mod Counts
+mod Filled
 mod Files
 mod Fronts
 mod Sealing

@@ -8,13 +8,15 @@ use Rattle.std.specs.declared.option.Option.{Option}
 use Rattle.std.specs.declared.option.Option.TheVariants.{None, Some}
 use Rattle.std.specs.declared.cmp.Ordering.{Ordering}
 use Rattle.std.specs.declared.cmp.Ordering.TheVariants.{Less, Equal, Greater}
+use Rattle.std.proofs.lemmas.List.{length-map}
 use Rattle.std.proofs.lemmas.List.Sums.{sum_by-cons}
 use Rattle.outside.specs.Trace.{At, config, block}
 use Rattle.outside.specs.Names.{at_cmp}
 use Rattle.outside.specs.NameLaws.{at_exact}
 use Rattle.outside.specs.Changes.{FileChanges, IsIncreasing, change_at, set_change, set_changes}
 use Rattle.redo_vault.specs.Redo.{Redo, bytes_len, buffered_len, len_with, weight_len}
-use Rattle.sealed_store.specs.Drafts.{Seal, sealed_as, sealed_change, sealed_entry, told_list, MayBeDraft, AreDrafts}
+use Rattle.sealed_store.specs.Drafts.{Seal, sealed_as, sealed_change, sealed_entry, told_list, IsDraft, MayBeDraft, AreDrafts}
+use Rattle.sealed_store.specs.Sums.{sealed_len, sealed_sum}
 
 module _ (seal : Seal) (size : ℕ) where
   -- ---- names stay
@@ -59,35 +61,33 @@ module _ (seal : Seal) (size : ℕ) where
   sets_told [] list = refl
   sets_told (e ∷ es) list = ap (set_changes (map (sealed_entry seal size) es)) (set_told e.0 e.1 list) ∙ sets_told es (set_change e.0 e.1 list)
 
-  -- ---- lengths stay, where a sealed draft is as long
+  -- ---- what the sealed files count
 
-  len_told : ((id draft : List ℕ) → length draft ≡ size → length (sealed_as seal size id draft) ≡ size)
-      → (r : ℕ) (n : At) (c : Option (List ℕ)) → MayBeDraft size n c → len_with r (sealed_change seal size n c) ≡ len_with r c
-  len_told sized r config c may = refl
-  len_told sized r (block id) None may = refl
-  len_told sized r (block id) (Some draft) may = sized id draft may ∙ sym may
+  module _ (sized : (id draft : List ℕ) → IsDraft size draft → length (sealed_as seal size id draft) ≡ size) where
+    len_told : (r : ℕ) (n : At) (c : Option (List ℕ)) → MayBeDraft size n c → len_with r (sealed_change seal size n c) ≡ sealed_len size r (n, c)
+    len_told r config c may = refl
+    len_told r (block id) None may = refl
+    len_told r (block id) (Some draft) may = sized id draft may
 
-  bytes_told : ((id draft : List ℕ) → length draft ≡ size → length (sealed_as seal size id draft) ≡ size)
-      → (n : At) (c : Option (List ℕ)) → MayBeDraft size n c → bytes_len (sealed_change seal size n c) ≡ bytes_len c
-  bytes_told sized config c may = refl
-  bytes_told sized (block id) None may = refl
-  bytes_told sized (block id) (Some draft) may = sized id draft may ∙ sym may
+    bytes_told : (n : At) (c : Option (List ℕ)) → MayBeDraft size n c → bytes_len (sealed_change seal size n c) ≡ sealed_len size 0 (n, c)
+    bytes_told config None may = refl
+    bytes_told config (Some bytes) may = refl
+    bytes_told (block id) None may = refl
+    bytes_told (block id) (Some draft) may = sized id draft may
 
-  summed_told : (f : Option (List ℕ) → ℕ) → ((n : At) (c : Option (List ℕ)) → MayBeDraft size n c → f (sealed_change seal size n c) ≡ f c) → (list : FileChanges) → AreDrafts size list
-      → sum_by (λ (e : At × Option (List ℕ)). f e.1) (map (sealed_entry seal size) list) ≡ sum_by (λ (e : At × Option (List ℕ)). f e.1) list
-  summed_told f same [] may = refl
-  summed_told f same (e ∷ es) may =
-      sum_by-cons (λ (e : At × Option (List ℕ)). f e.1) (sealed_entry seal size e) (map (sealed_entry seal size) es)
-      ∙ (λ i. same e.0 e.1 may.0 i + summed_told f same es may.1 i)
-      ∙ sym (sum_by-cons (λ (e : At × Option (List ℕ)). f e.1) e es)
+    summed_told : (f : Option (List ℕ) → ℕ) (r : ℕ) → ((n : At) (c : Option (List ℕ)) → MayBeDraft size n c → f (sealed_change seal size n c) ≡ sealed_len size r (n, c)) → (list : FileChanges) → AreDrafts size list
+        → sum_by (sealed_len size r) list ≡ sum_by (λ (e : At × Option (List ℕ)). f e.1) (map (sealed_entry seal size) list)
+    summed_told f r same [] may = refl
+    summed_told f r same (e ∷ es) may =
+        sum_by-cons (sealed_len size r) e es
+        ∙ (λ i. sym (same e.0 e.1 may.0) i + summed_told f r same es may.1 i)
+        ∙ sym (sum_by-cons (λ (e : At × Option (List ℕ)). f e.1) (sealed_entry seal size e) (map (sealed_entry seal size) es))
 
-  pub buffered_told : ((id draft : List ℕ) → length draft ≡ size → length (sealed_as seal size id draft) ≡ size)
-      → (list : FileChanges) → AreDrafts size list → buffered_len list ≡ buffered_len (map (sealed_entry seal size) list)
-  buffered_told sized list may = sym (ap (λ n. min n (2 ^ 64 - 1)) (summed_told bytes_len (bytes_told sized) list may))
+    pub buffered_told : (list : FileChanges) → AreDrafts size list → sealed_sum size 0 list ≡ buffered_len (map (sealed_entry seal size) list)
+    buffered_told list may = ap (λ n. min n (2 ^ 64 - 1)) (summed_told bytes_len 0 bytes_told list may)
 
-  pub weight_told : ((id draft : List ℕ) → length draft ≡ size → length (sealed_as seal size id draft) ≡ size)
-      → (list : FileChanges) → AreDrafts size list → weight_len list ≡ weight_len (map (sealed_entry seal size) list)
-  weight_told sized list may = sym (ap (λ n. min n (2 ^ 64 - 1)) (summed_told (len_with 64) (len_told sized 64) list may))
+    pub weight_told : (list : FileChanges) → AreDrafts size list → sealed_sum size 64 list ≡ weight_len (map (sealed_entry seal size) list)
+    weight_told list may = ap (λ n. min n (2 ^ 64 - 1)) (summed_told (len_with 64) 64 (len_told 64) list may)
 
 -- ---- drafts that are set in a list stay drafts
 
@@ -125,23 +125,26 @@ pub undrafted : (seal : Seal) (size : ℕ) (drafts : Bool) (n : At) (list : File
 undrafted seal size true n list none = at_told seal size n list ∙ ap (option_map (sealed_change seal size n)) (none refl) ∙ sym (none refl)
 undrafted seal size false n list none = refl
 
-pub buffered_as : (seal : Seal) (size : ℕ) → ((id draft : List ℕ) → length draft ≡ size → length (sealed_as seal size id draft) ≡ size)
-    → (drafts : Bool) (list : FileChanges) → (drafts ≡ true → AreDrafts size list) → buffered_len list ≡ buffered_len (told_list drafts seal size list)
-buffered_as seal size sized true list may = buffered_told seal size sized list (may refl)
-buffered_as seal size sized false list may = refl
+-- what a list is told as, where drafts wait and where none do
+pub told_sealed : (seal : Seal) (size : ℕ) (drafts : Bool) (list : FileChanges) → drafts ≡ true → map (sealed_entry seal size) list ≡ told_list drafts seal size list
+told_sealed seal size true list is = refl
+told_sealed seal size false list is = absurd (cc)
 
-pub weight_as : (seal : Seal) (size : ℕ) → ((id draft : List ℕ) → length draft ≡ size → length (sealed_as seal size id draft) ≡ size)
-    → (drafts : Bool) (list : FileChanges) → (drafts ≡ true → AreDrafts size list) → weight_len list ≡ weight_len (told_list drafts seal size list)
-weight_as seal size sized true list may = weight_told seal size sized list (may refl)
-weight_as seal size sized false list may = refl
+pub told_plain : (seal : Seal) (size : ℕ) (drafts : Bool) (list : FileChanges) → drafts ≡ false → list ≡ told_list drafts seal size list
+told_plain seal size true list is = absurd (cc)
+told_plain seal size false list is = refl
+
+pub told_long : (seal : Seal) (size : ℕ) (drafts : Bool) (list : FileChanges) → length (told_list drafts seal size list) ≡ length list
+told_long seal size true list = length-map list (sealed_entry seal size)
+told_long seal size false list = refl
 
 pub if_same : {T : Type 0} (o p : Option T) (P Q : Type 0) → o ≡ p → (P → Q) → IfSome o (λ _. P) → IfSome p (λ _. Q)
 if_same None p P Q e f h = subst (λ x. IfSome x (λ _. Q)) e tt
 if_same (Some y) p P Q e f h = subst (λ x. IfSome x (λ _. Q)) e (f h)
 
-pub is_long : (size : ℕ) (id : List ℕ) (c : Option (List ℕ)) → MayBeDraft size (block id) c → IfSome c (λ draft. length draft ≡ size)
-is_long size id None may = tt
-is_long size id (Some draft) may = may
+pub is_draft : (size : ℕ) (id : List ℕ) (c : Option (List ℕ)) → MayBeDraft size (block id) c → IfSome c (λ draft. IsDraft size draft)
+is_draft size id None may = tt
+is_draft size id (Some draft) may = may
 
 -- what the told list says where a draft waits
 pub told_draft : (seal : Seal) (size : ℕ) (drafts : Bool) (n : At) (list : FileChanges) (c : Option (List ℕ)) → drafts ≡ true → change_at n list ≡ Some c

@@ -1,5 +1,5 @@
 -- Drafts: what stands in the unwritten list for the file of a block that isn't sealed yet.
-use Rattle.std.specs.Prelude.{◌≡◌, ℕ, ◌-◌, nat_lt, Bool, List, ◌++◌, length, take, drop, map, if◌then◌else◌}
+use Rattle.std.specs.Prelude.{◌≡◌, ℕ, ◌+◌, ◌-◌, ◌≤◌, nat_lt, Bool, List, ◌++◌, length, take, drop, map, replicate, if◌then◌else◌}
 use Rattle.std.specs.List.{AllByRecursion}
 use Rattle.std.specs.declared.option.Option.{Option}
 use Rattle.std.specs.declared.option.Option.TheVariants.{None, Some}
@@ -9,12 +9,23 @@ use Rattle.outside.specs.Trace.{At, config, block}
 use Rattle.outside.specs.Changes.{FileChanges}
 use Rattle.sealed_store.specs.BlockFiles.{SeenFile, absent, old_format, plain, opens_file}
 
--- A draft is as long as its file: the plaintext, the IV, and 32 bytes that mean nothing.
-abbrev pub plain_in : ℕ → List ℕ → List ℕ
-plain_in size draft = take (size - 48) draft
+-- these bytes, filled up with zeros to so many
+abbrev pub filled : ℕ → List ℕ → List ℕ
+filled len front = front ++ replicate (len - length front) 0
 
-abbrev pub iv_in_draft : ℕ → List ℕ → List ℕ
-iv_in_draft size draft = take 16 (drop (size - 48) draft)
+-- A draft is the front of a plaintext, then the IV. The plaintext is that front, filled up with zeros.
+pub record IsDraft (size : ℕ) (draft : List ℕ) : Type 0 where
+  pub iv : 16 ≤ length draft
+  pub front : length draft + 32 ≤ size
+
+abbrev pub front_in : List ℕ → List ℕ
+front_in draft = take (length draft - 16) draft
+
+abbrev pub plain_in : ℕ → List ℕ → List ℕ
+plain_in size draft = filled (size - 48) (front_in draft)
+
+abbrev pub iv_in_draft : List ℕ → List ℕ
+iv_in_draft draft = drop (length draft - 16) draft
 
 -- the sealed text of an IV, extra bytes and a plaintext
 abbrev pub Seal : Type 0
@@ -22,7 +33,7 @@ Seal = List ℕ → List ℕ → List ℕ → List ℕ
 
 -- the file of this block that a draft is sealed to
 abbrev pub sealed_as : Seal → ℕ → List ℕ → List ℕ → List ℕ
-sealed_as seal size id draft = prefix_of WithId ++ seal (iv_in_draft size draft) id (plain_in size draft)
+sealed_as seal size id draft = prefix_of WithId ++ seal (iv_in_draft draft) id (plain_in size draft)
 
 -- what a change of this name is when its draft is sealed; only block files are drafts
 abbrev pub sealed_change : Seal → ℕ → At → Option (List ℕ) → Option (List ℕ)
@@ -37,11 +48,11 @@ sealed_entry seal size entry = (entry.0, sealed_change seal size entry.0 entry.1
 abbrev pub told_list : Bool → Seal → ℕ → FileChanges → FileChanges
 told_list drafts seal size list = if drafts then map (sealed_entry seal size) list else list
 
--- a change of this name may be a draft's: it isn't that of a block, it is a removal, or it is as long as a file
+-- a change of this name may be a draft's: it isn't that of a block, it is a removal, or a draft
 abbrev pub MayBeDraft : ℕ → At → Option (List ℕ) → Type 0
 MayBeDraft size config change = Unit {0}
 MayBeDraft size (block id) None = Unit {0}
-MayBeDraft size (block id) (Some draft) = length draft ≡ size
+MayBeDraft size (block id) (Some draft) = IsDraft size draft
 
 abbrev pub AreDrafts : ℕ → FileChanges → Type 0
 AreDrafts size list = AllByRecursion (λ entry. MayBeDraft size entry.0 entry.1) list
@@ -61,7 +72,7 @@ pub record IsBlockFile (opens : List ℕ → List ℕ → Option (List ℕ)) (si
 
 -- a draft of this plaintext and IV, and the file that it is sealed to as whichever block's
 pub record IsDraftOf (opens : List ℕ → List ℕ → Option (List ℕ)) (seal : Seal) (size : ℕ) (plain iv draft : List ℕ) : Type 0 where
-  pub len : length draft ≡ size
+  pub short : IsDraft size draft
   pub has_plain : plain_in size draft ≡ plain
-  pub has_iv : iv_in_draft size draft ≡ iv
+  pub has_iv : iv_in_draft draft ≡ iv
   pub file : (id : List ℕ) → IsBlockFile opens size id plain iv (sealed_as seal size id draft)

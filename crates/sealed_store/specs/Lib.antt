@@ -1,3 +1,4 @@
 pub mod BlockFiles
 pub mod Drafts
 pub mod Stores
+pub mod Sums

@@ -5,6 +5,8 @@ mod drafts;
 mod sealed_store;
 mod seeing;
 mod seen;
+mod sums;
+mod waiting;
 
 pub use sealed_store::{SEAL_LEN, SealedStore};
 pub use seen::Seen;

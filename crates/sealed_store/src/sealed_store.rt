@@ -1,5 +1,5 @@
 // Block files, opened and sealed.
-ghost use Rattle.std.specs.Prelude.{◌≡◌, ◌≤◌, ◌<◌, ◌+◌, ◌^◌, ℕ, List, [], ◌∷◌, length, map, take, drop, vec_len, IfOk, IfErr, IfSome, OnOk, OnErr};
+ghost use Rattle.std.specs.Prelude.{◌≡◌, ◌≤◌, ◌<◌, ◌+◌, ◌-◌, ◌^◌, ℕ, List, [], ◌∷◌, length, map, take, drop, vec_len, IfOk, IfErr, IfSome, OnOk, OnErr};
 ghost use Rattle.std.specs.declared.option.Option.{Option};
 ghost use Rattle.std.specs.declared.option.Option.TheVariants.{None, Some};
 ghost use Rattle.block_id.specs.Formats.{prefix_of, format_in};
@@ -12,12 +12,14 @@ ghost use Rattle.outside.specs.Writes.{after_writes, StopsAt};
 ghost use Rattle.redo_vault.specs.Redo.{buffered_len, weight_len};
 ghost use Rattle.sealed_store.specs.declared.sealed_store.TheConstants.{SEAL_LEN};
 ghost use Rattle.sealed_store.specs.BlockFiles.{opens_file};
-ghost use Rattle.sealed_store.specs.Drafts.{sealed_entry, AreDrafts, IsDraftOf};
+ghost use Rattle.sealed_store.specs.Drafts.{filled, sealed_entry, AreDrafts, IsDraftOf};
 ghost use Rattle.sealed_store.specs.Stores.{seen_file_of, IsIntact, Sees, Unseen, block_size_of, key_of, cipher_of};
 
 use crate::Seen;
-use crate::drafts::{seal_list, seal_waiting, see_draft, takes_drafts, waiting_draft};
+use crate::drafts::{IV_LEN, seal_all, seal_waiting};
 use crate::seeing::{Asked, PREFIX_ALONE, see};
+use crate::sums::{REMOVAL, sealed_sum};
+use crate::waiting::{see_draft, takes_drafts, waiting_draft};
 use block_id::{BlockId, Format, Memory};
 use outside::{Change, FileName, GetFail, Pending, Vault};
 use redo_vault::RedoVault;
@@ -170,18 +172,25 @@ impl<V: Vault, C: Sealer> SealedStore<V, C> {
         }
     }
 
-    /// The draft of the file of whichever block with this IV that opens to this plaintext, in format 2.
-    pub fn draft(&self, plain: Vec<u8>, iv: &[u8]) -> Result<Vec<u8>, Memory>
+    /// The draft of the file of whichever block with this IV that opens to this front of a plaintext, filled up with zeros, in
+    /// format 2.
+    pub fn draft(&self, front: Vec<u8>, iv: &[u8]) -> Result<Vec<u8>, Memory>
         requires intact { IsIntact (block_size_of self.now) (C.iv_size (cipher_of self.now)) }
-        requires plain { vec_len plain + SEAL_LEN ≡ block_size_of self.now }
+        requires front { vec_len front + SEAL_LEN ≤ block_size_of self.now }
         requires iv { length iv.now ≡ C.iv_size (cipher_of self.now) }
         ensures { IfOk result (λ draft. IsDraftOf (C.opens (cipher_of self.now) (key_of self.now)) (C.sealed (cipher_of self.now) (key_of self.now))
-            (block_size_of self.now) plain.items iv.now draft.items) }
+            (block_size_of self.now) (filled (block_size_of self.now - SEAL_LEN) front.items) iv.now draft.items) }
     {
-        let mut draft = plain;
-        draft.reserve_exact(SEAL_LEN)?;
+        let mut draft = front;
+        // With room for the whole file, a long draft needs no other place as it is sealed.
+        let is_long = draft.len() > self.block_size / 2;
+        let more = if is_long {
+            self.block_size - draft.len()
+        } else {
+            IV_LEN
+        };
+        draft.reserve_exact(more)?;
         draft.extend_from_slice(iv)?;
-        draft.extend_from_slice(&[0; SEAL_LEN - 16])?;
         Ok(draft)
     }
 
@@ -201,7 +210,7 @@ impl<V: Vault, C: Sealer> SealedStore<V, C> {
             return put_waiting(&mut self.vault, drafts);
         }
         let mut sealed = drafts;
-        seal_list(&self.cipher, &self.key, self.block_size, &mut sealed);
+        seal_all(&self.cipher, &self.key, self.block_size, &mut sealed)?;
         put_waiting(&mut self.vault, sealed)
     }
 
@@ -220,10 +229,11 @@ impl<V: Vault, C: Sealer> SealedStore<V, C> {
     }
 
     /// Takes the unwritten list, in which each draft is sealed. It is to be put back.
-    pub fn take_list(&mut self, alloc: Global) -> Vec<Pending>
-        ensures list { list_of result.items ≡ self.old.vault.list }
-        ensures increasing { IsIncreasing (list_of result.items) }
-        ensures taken { self.new ≡ record self.old { vault = record self.old.vault { list = [] } } }
+    pub fn take_list(&mut self, alloc: Global) -> Result<Vec<Pending>, Memory>
+        ensures list { IfOk result (λ list. list_of list.items ≡ self.old.vault.list) }
+        ensures increasing { IfOk result (λ list. IsIncreasing (list_of list.items)) }
+        ensures taken { OnOk result (self.new ≡ record self.old { vault = record self.old.vault { list = [] } }) }
+        ensures err { OnErr result (self.new ≡ self.old) }
     {
         seal_waiting(
             alloc,
@@ -232,9 +242,9 @@ impl<V: Vault, C: Sealer> SealedStore<V, C> {
             self.block_size,
             self.drafts,
             &mut self.vault,
-        );
+        )?;
         self.drafts = false;
-        self.vault.replace_list(Vec::new(alloc))
+        Ok(self.vault.replace_list(Vec::new(alloc)))
     }
 
     /// Has a list wait that was taken.
@@ -258,6 +268,9 @@ impl<V: Vault, C: Sealer> SealedStore<V, C> {
     pub fn buffered(&self) -> usize
         ensures { result ≡ buffered_len self.now.vault.list }
     {
+        if self.drafts {
+            return sealed_sum(self.block_size, 0, &self.vault);
+        }
         self.vault.buffered()
     }
 
@@ -266,6 +279,9 @@ impl<V: Vault, C: Sealer> SealedStore<V, C> {
     pub fn weight(&self) -> usize
         ensures { result ≡ weight_len self.now.vault.list }
     {
+        if self.drafts {
+            return sealed_sum(self.block_size, REMOVAL, &self.vault);
+        }
         self.vault.weight()
     }
 
@@ -279,7 +295,7 @@ impl<V: Vault, C: Sealer> SealedStore<V, C> {
         ensures same { self.new ≡ record self.old { vault = self.new.vault } }
         ensures cause { GetHasCause (V.faults self.old.vault.vault) (V.faults self.new.vault.vault) result }
     {
-        seal_waiting(
+        let sealed = seal_waiting(
             alloc,
             &self.cipher,
             &self.key,
@@ -287,6 +303,9 @@ impl<V: Vault, C: Sealer> SealedStore<V, C> {
             self.drafts,
             &mut self.vault,
         );
+        if sealed.is_err() {
+            return Err(GetFail::Memory);
+        }
         self.drafts = false;
         self.vault.write_out(alloc)
     }

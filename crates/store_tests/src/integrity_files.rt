@@ -1,5 +1,5 @@
 // The files and the record of client 7, byte by byte as the format has them.
-ghost use Rattle.std.specs.Prelude.{◌≡◌, []};
+ghost use Rattle.std.specs.Prelude.{◌≡◌, ◌≤◌, [], length};
 ghost use Rattle.sealed_store.specs.Stores.{IsIntact, block_size_of, cipher_of};
 
 use aes_gcm::Aes256Gcm;
@@ -67,19 +67,20 @@ pub(crate) fn sealed_file(alloc: Global, id: &BlockId, plain: &[u8; 80]) -> Resu
     Ok(file.ok_or("no file")?)
 }
 
-/// Has the file of a block wait.
+/// Has the file of a block wait, of which this is the front of the plaintext: zeros follow.
 pub(crate) fn put_draft(
     alloc: Global,
     sealed: &mut Sealed,
     id: &BlockId,
-    plain: &[u8; 80],
+    front: &[u8],
 ) -> Result<(), Fail>
+    requires front { length front.now ≤ 80 }
     requires intact { IsIntact (block_size_of sealed.old) (⟦<Aes256Gcm as Sealer>⟧.iv_size (cipher_of sealed.old)) }
     requires size { block_size_of sealed.old ≡ 128 }
     ensures intact { IsIntact (block_size_of sealed.new) (⟦<Aes256Gcm as Sealer>⟧.iv_size (cipher_of sealed.new)) }
     ensures size { block_size_of sealed.new ≡ 128 }
 {
-    let draft = sealed.draft(plain.to_vec(alloc)?, &[9; 16])?;
+    let draft = sealed.draft(front.to_vec(alloc)?, &[9; 16])?;
     let mut drafts = Vec::new(alloc);
     drafts.push(Pending {
         name: FileName::Block(*id),

@@ -26,3 +26,5 @@ mod redo_vaults;
 mod seal_counts;
 #[cfg(test)]
 mod sealed_stores;
+#[cfg(test)]
+mod short_drafts;

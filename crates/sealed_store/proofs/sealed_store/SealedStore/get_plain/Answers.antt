@@ -11,15 +11,15 @@ use Rattle.sealed_store.specs.Drafts.{told_list, sealed_change}
 use Rattle.sealed_store.specs.Stores.{Sealed, Sees, Unseen, seen_file_of, block_size_of, key_of, cipher_of}
 use Rattle.sealed_store.proofs.Files.{sealing_of, draft_seen}
 use Rattle.sealed_store.proofs.Fronts.{failed_unseen, longer_of, shown_whole}
-use Rattle.sealed_store.proofs.Told.{draft_at, if_same, is_long, told_draft, undrafted}
+use Rattle.sealed_store.proofs.Told.{draft_at, if_same, is_draft, told_draft, undrafted}
 use Rattle.sealed_store.proofs.sealed_store.SealedStore.get_plain.Goals as goal
 use Rattle.sealed_store.proofs.sealed_store.SealedStore.get_plain.Goals.{in-Ok, in-Err}
 
-pub see_draft-requires-clause-draft : goal.see_draft-requires-clause-draft
-see_draft-requires-clause-draft g c =
+pub see_draft-requires : goal.see_draft-requires
+see_draft-requires g c =
     let s = c.self.inside in
     let change = change_of c.in-Some.change.now in
-    is_long s.block_size c.args.id.now.0 change (draft_at s.block_size (block c.args.id.now.0) s.vault.list change (c.self.invariant.1 c.in-Some.ensures.drafts) c.in-Some.ensures.some)
+    is_draft s.block_size c.args.id.now.0 change (draft_at s.block_size (block c.args.id.now.0) s.vault.list change (c.self.invariant.1 c.in-Some.ensures.drafts) c.in-Some.ensures.some)
 
 pub returns-in-Some-clause-sees : goal.returns-in-Some-clause-sees
 returns-in-Some-clause-sees g c =
@@ -40,7 +40,7 @@ returns-in-Some-clause-sees g c =
             answer = cut (s.block_size + 1) (sealed_change seal s.block_size n change);
             gave = subst (λ (x : Option (Option (List ℕ))). Gave x (g.V.Vault.trace s.vault.vault) (g.V.Vault.trace s.vault.vault) n (s.block_size + 1) (cut (s.block_size + 1) (sealed_change seal s.block_size n change)))
                 (sym told) (refl, refl);
-            shows = w.in-Ok.ensures ∙ ap (front_seen c.args.most) (draft_seen opens seal s.block_size c.args.least c.args.id.now.0 change right (omega (arith, c.self.invariant.0.least)) may);
+            shows = w.in-Ok.ensures ∙ ap (front_seen c.args.most) (draft_seen opens seal s.block_size c.args.least c.args.id.now.0 change right may);
             whole = shown_whole opens s.block_size c.args.least c.args.id.now.0 (cut (s.block_size + 1) (sealed_change seal s.block_size n change)) longer (omega (arith, c.self.invariant.0.least));
           }))
       | in-Err w ↦ rw w.result-is tt
