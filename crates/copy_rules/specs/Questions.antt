@@ -7,6 +7,7 @@ use Rattle.fs_model.specs.declared.command.Command.{Command}
 use Rattle.fs_model.specs.declared.command.Command.TheVariants as command
 use Rattle.fs_model.specs.declared.reply.Reply.{Reply}
 use Rattle.fs_model.specs.declared.reply.Reply.TheVariants.{Done, Rows, Info, Target, Content, Error}
+use Rattle.fs_model.specs.Fitting.{IsFitting}
 use Rattle.fs_model.specs.Instant.{Instant}
 use Rattle.fs_model.specs.Step.{step}
 use Rattle.fs_model.specs.Tree.{Tree}
@@ -31,6 +32,11 @@ pub record Asking (A : Type 0) : Type 1 where
   pub stops : A → ℕ
   -- these questions led from the one to the other
   pub went : A → List Question → A → Type 0
+
+-- what a call needs: an asker that is ready, and a command that a tree takes
+pub record MayAsk {A : Type 0} (M : Asking A) (asker : A) (command : Command) : Type 0 where
+  pub ready : M.ready asker
+  pub fits : IsFitting command
 
 pub record LawfulAsker {A : Type 0} (M : Asking A) : Type 0 where
   pub none : (a : A) → M.went a [] a

@@ -1,9 +1,8 @@
 // What answers the commands of a copy.
 ghost use Rattle.std.specs.Prelude.{◌≡◌, ◌≤◌, [], ◌∷◌, IfOk};
-ghost use Rattle.fs_model.specs.Fitting.{IsFitting};
 ghost use Rattle.fs_model.specs.Step.{step};
 ghost use Rattle.fs_model.specs.Tree.{Tree};
-ghost use Rattle.copy_rules.specs.Questions.{Asking, LawfulAsker, IsReplyTo, StopsOnce};
+ghost use Rattle.copy_rules.specs.Questions.{Asking, LawfulAsker, MayAsk, IsReplyTo, StopsOnce};
 
 use fs_model::{Command, Reply};
 use std::alloc::Global;
@@ -18,8 +17,7 @@ pub trait Asker {
 
     /// Asks a command.
     fn ask(&mut self, alloc: Global, command: &Command) -> Result<Reply, Stopped>
-        requires ready { asking.ready self.old }
-        requires fits { IsFitting command.now }
+        requires { MayAsk asking self.old command.now }
         ensures ready { asking.ready self.new }
         ensures moment { asking.moment self.new ≡ asking.moment self.old }
         ensures went { asking.went self.old (record { command = command.now; outcome = result } ∷ []) self.new }

@@ -1,19 +1,22 @@
 -- What a check answers.
-use Rattle.std.specs.Prelude.{◌≡◌, ℕ, true, List, map, Result, Ok, Err}
-use Rattle.std.specs.FinMap.{get}
+use Rattle.std.specs.Prelude.{◌≡◌, ℕ, T, true, List, map, is_some, Result, Ok, Err}
+use Rattle.std.specs.FinMap.{get, is_sorted}
 use Rattle.blob_api.specs.BlobMap.{BlobMap}
+use Rattle.data_nodes.specs.Layout.{ids_of}
 use Rattle.data_tree.specs.Stored.{StoresBlobs}
 use Rattle.data_tree.specs.Trees.{NoDoubles}
 use Rattle.forest.specs.Shows.{ShowsTree}
 use Rattle.fs_model.specs.Tree.{Tree}
 use Rattle.block_id.specs.declared.fail.Fail.{Fail}
+use Rattle.block_id.specs.declared.id.BlockId.{BlockId}
 use Rattle.block_walk.specs.declared.flaw.Flaw.{Flaw}
 use Rattle.block_walk.specs.declared.flaw.Halt.{Halt}
 use Rattle.block_walk.specs.declared.flaw.Halt.TheVariants.{Found, Failing}
 use Rattle.block_walk.specs.Given.{Given, GaveBy, Asked, AskedBy, given_of, content_of}
+use Rattle.block_walk.specs.Marks.{unmarked}
 use Rattle.check_rules.specs.Certificates.{Owners, Certifies}
 use Rattle.check_rules.specs.Flaws.{HasFlaw, Refutes}
-use Rattle.store_api.specs.Content.{Id, Content}
+use Rattle.store_api.specs.Content.{Id, Content, id_cmp}
 use Rattle.store_api.specs.Holdings.{has_id}
 use Rattle.store_api.specs.Loads.{LoadAnswer}
 use Rattle.cryfs_check.specs.declared.checking.Checked.{Checked}
@@ -35,6 +38,11 @@ OnYes (No flaw) P = Unit {0}
 abbrev pub OnNo : Checked → (Flaw → Type 0) → Type 0
 OnNo (Yes owners) P = Unit {0}
 OnNo (No flaw) P = P flaw
+
+-- these are the live ids, exactly, and they rise
+pub record ListsLive (content : Content) (list : List BlockId) : Type 0 where
+  pub order : T (is_sorted id_cmp (map unmarked list))
+  pub live : (id : Id) → has_id (ids_of list) id ≡ is_some (content id)
 
 -- the blocks show some tree
 pub record ShowsSome (payload : ℕ) (root : Id) (content : Content) : Type 0 where

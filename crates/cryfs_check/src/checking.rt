@@ -8,7 +8,7 @@ ghost use Rattle.store_api.specs.Holdings.{Stays, has_id};
 ghost use Rattle.data_nodes.specs.Layout.{ids_of};
 ghost use Rattle.block_walk.specs.Given.{fail_of, IsLoad};
 ghost use Rattle.block_walk.specs.Marks.{unmarked, owner_of};
-ghost use Rattle.cryfs_check.specs.Checks.{answer_to, ShowsSome, IsYes, OnYes, OnNo, AsksOnce, IsCertified, IsRefuted};
+ghost use Rattle.cryfs_check.specs.Checks.{answer_to, ListsLive, ShowsSome, IsYes, OnYes, OnNo, AsksOnce, IsCertified, IsRefuted};
 ghost use Rattle.cryfs_check.specs.Halts.{IsHalted, IsStopped};
 ghost use Rattle.cryfs_check.specs.Places.{places_text};
 ghost use Rattle.cryfs_check.specs.Visits.{IsVisited, VisitedAll};
@@ -115,8 +115,7 @@ pub fn check<B: Blocks>(
     root: &BlockId,
 ) -> Result<Checked, Fail>
     requires intact { B.meanings.intact store.old }
-    requires order { T (is_sorted id_cmp (map unmarked live.now)) }
-    requires live { (id : Id) → has_id (ids_of live.now) id ≡ is_some (B.holdings.content store.old id) }
+    requires lists { ListsLive (B.holdings.content store.old) live.now }
     ensures outcome { Outcome B.meanings (ShowsSome (B.holdings.payload store.old) root.now.0 (B.holdings.content store.old)) store.old store.new result (λ n checked. IsYes checked) }
     ensures stays { Stays B.holdings store.old store.new }
     ensures of_blocks { IfErr result IsOfBlocks }

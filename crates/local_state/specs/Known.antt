@@ -1,5 +1,5 @@
 -- What is known of ids: a finite map to their lives: a version, and whether the block lives. An id is a list of 16 bytes.
-use Rattle.std.specs.Prelude.{◌≡◌, ◌≢◌, ℕ, ◌+◌, ◌^◌, ◌<◌, ◌-◌, ◌==◌, Bool, true, false, not, ◌&&◌, List, length, map, filter, is_some, is_none, IfSome, Option, None, Some, refl, if◌then◌else◌}
+use Rattle.std.specs.Prelude.{◌≡◌, ◌≢◌, ℕ, ◌+◌, ◌^◌, ◌<◌, ◌-◌, ◌==◌, Bool, true, false, not, ◌&&◌, List, length, map, filter, is_some, is_none, IfSome, IfNone, Option, None, Some, refl, if◌then◌else◌}
 use Rattle.std.specs.Coded.{Coded, code_by, coded×, coded_ℕ, coded_bool, coded_list}
 use Rattle.std.specs.FinMap as fin
 use Rattle.std.specs.Option.{option_map, option_map_or}
@@ -76,6 +76,12 @@ HaveDistinctIds es = IsDistinct same_id (keys_of es)
 -- the version that a raise gives: the first, or one more
 abbrev pub raised_version : Option Life → ℕ
 raised_version life = option_map_or (λ m. m.version + 1) life 1
+
+-- what a raise needs: the id isn't zero, a known one lives, and of a new one there is room
+pub record CanRaise (known : KnownTable) (id : List ℕ) : Type 0 where
+  pub not_zero : id ≢ zero_id
+  pub not_dead : IfSome (life_at known id) (λ life. life.live ≡ true)
+  pub room : IfNone (life_at known id) (0 < known.spare)
 
 -- an id and what its life may be
 pub record FitsLife (id : List ℕ) (life : Life) : Type 0 where

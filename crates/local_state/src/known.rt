@@ -1,7 +1,7 @@
 // The table of known versions.
-ghost use Rattle.std.specs.Prelude.{◌≡◌, ◌≢◌, ◌+◌, ◌-◌, ◌^◌, ◌<◌, ◌≤◌, ◌↔◌, true, false, IsSome, IsErr, map, IfSome, IfNone, IfOk, OnOk, OnErr};
+ghost use Rattle.std.specs.Prelude.{◌≡◌, ◌+◌, ◌-◌, ◌^◌, ◌<◌, ◌≤◌, ◌↔◌, true, false, IsErr, map, IfSome, IfOk, MatchOption, OnOk, OnErr};
 ghost use Rattle.std.specs.FinMap as fin;
-ghost use Rattle.local_state.specs.Known.{life_at, version_at, is_live_at, is_used_at, version_if_live, is_last, raised_version, zero_id, plain_entry, live_ids, FitsLife, FitLives, IsFirstFree};
+ghost use Rattle.local_state.specs.Known.{life_at, version_at, is_live_at, is_used_at, version_if_live, is_last, raised_version, plain_entry, live_ids, CanRaise, FitsLife, FitLives, IsFirstFree};
 
 use crate::life::Life;
 use crate::lives::{add_life, change_life, first_free, life_of, live_of, put_life, sorted_lives};
@@ -111,16 +111,14 @@ impl Known {
 
     /// Gives a new id version 1, or a live one the next version, and answers it. It takes no memory.
     pub fn raise(&mut self, id: &BlockId) -> Result<u64, Spent>
-        requires not_zero { id.now.0 ≢ zero_id }
-        requires not_dead { IfSome (life_at self.old id.now.0) (λ life. life.live ≡ true) }
-        requires room { IfNone (life_at self.old id.now.0) (0 < self.old.spare) }
+        requires { CanRaise self.old id.now.0 }
         ensures version { IfOk result (λ version. version ≡ raised_version (life_at self.old id.now.0)) }
         ensures lives { IfOk result (λ version. self.new.lives
             ≡ fin.insert self.old.lives id.now.0 (record { version = version; live = true })) }
         ensures spent { IsErr result ↔ (version_at self.old id.now.0 ≡ Some (2 ^ 64 - 1)) }
         ensures err { OnErr result (self.new ≡ self.old) }
-        ensures spare { self.old.spare ≤ self.new.spare + 1 }
-        ensures no_room_taken { IsSome (life_at self.old id.now.0) → self.old.spare ≤ self.new.spare }
+        ensures spare { MatchOption (life_at self.old id.now.0) (self.old.spare ≤ self.new.spare + 1)
+            (λ _. self.old.spare ≤ self.new.spare) }
         ensures fits { FitLives self.new.lives }
     {
         // With its bytes read the id is known to have 16.

@@ -164,6 +164,9 @@ module _ {S : Type 0} {K : Type 0} (M : Meanings S) (H : Holdings S) (D : Durabl
   pub leaves_memory : (a : S) (k l : K) → G.faults l ≡ G.faults k → Leaves (world M H D R G) a k a l (Err Memory)
   leaves_memory a k l calm = leaves_same a k l (Err Memory) (no_fewer (G.faults k) (G.faults l) calm) memory_directory refl (λ is. absurd (memory_state is)) calm
 
+  pub leaves_to : (a b c : S) (k l : K) (result : Result Unit SyncError) → c ≡ b → Leaves (world M H D R G) a k b l result → Leaves (world M H D R G) a k c l result
+  leaves_to a b c k l result same z = subst (λ s. Leaves (world M H D R G) a k s l result) (sym same) z
+
   -- the keeper's count had been the same before
   pub leaves_since : (a b : S) (k m l : K) (result : Result Unit SyncError) → G.faults m ≡ G.faults k → Leaves (world M H D R G) a m b l result → Leaves (world M H D R G) a k b l result
   leaves_since a b k m l result calm z = record {

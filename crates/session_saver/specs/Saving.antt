@@ -115,6 +115,13 @@ pub record CanSync {S : Type 0} {K : Type 0} (W : World S K) (saver : Saver K) (
   pub room : length saver.last.items ≤ W.keeper.room saver.keeper
   pub whole : Whole W.durables W.keeper saver store
 
+-- what it needs to keep a record with an empty list alone: nothing waits, and nothing changed since the last whole sync
+pub record CanKeepShort {S : Type 0} {K : Type 0} (W : World S K) (saver : Saver K) (store : S) : Type 0 where
+  pub intact : W.meanings.intact store
+  pub room : length saver.last.items ≤ W.keeper.room saver.keeper
+  pub none : W.durables.list store ≡ []
+  pub unchanged : saver.changed ≡ false
+
 -- a record with the list is kept, and was the last that was given
 pub record IsLongKept {S : Type 0} {K : Type 0} (W : World S K) (saver : Saver K) (store : S) : Type 0 where
   pub intact : W.meanings.intact store

@@ -1,8 +1,7 @@
 // The three steps of a sync.
-ghost use Rattle.std.specs.Prelude.{◌≡◌, ◌≤◌, ◌<◌, [], false, length, IfOk, IsErrOf};
-ghost use Rattle.outside.specs.Causes.{RoseBy};
+ghost use Rattle.std.specs.Prelude.{◌≡◌, ◌≤◌, ◌<◌, false, length, IfOk};
 ghost use Rattle.store_api.specs.Durables.{mark_place};
-ghost use Rattle.session_saver.specs.Saving.{world, CanSync, IsLongKept, Marks, Moves, Finishes, ShortSaved, Syncs, UnlessState};
+ghost use Rattle.session_saver.specs.Saving.{world, CanKeepShort, CanSync, IsLongKept, Leaves, Marks, Moves, Finishes, ShortSaved, Syncs};
 
 use block_id::{Failed, Memory};
 use local_state::MARK_PLACE;
@@ -135,16 +134,12 @@ impl<K: Keeper> Saver<K> {
     /// Keeps the record with an empty list, where nothing waits and nothing changed since the last whole sync. After a failed
     /// save either record may be kept, so that the next sync saves again.
     pub fn keep_short<S: Durable>(&mut self, alloc: Global, store: &mut S) -> Result<(), SyncError>
-        requires intact { S.meanings.intact store.old }
-        requires room { length self.old.last.items ≤ K.room self.old.keeper }
-        requires none { S.durables.list store.old ≡ [] }
-        requires unchanged { self.old.changed ≡ false }
+        requires { CanKeepShort (world S.meanings S.holdings S.durables S.records K.Keeper) self.old store.old }
+        ensures leaves { Leaves (world S.meanings S.holdings S.durables S.records K.Keeper)
+            store.old self.old.keeper store.new self.new.keeper result }
         ensures saves { ShortSaved S.durables K.Keeper store.old self.old self.new result }
         ensures same { store.new ≡ store.old }
         ensures room { length self.new.last.items ≤ K.room self.new.keeper }
-        ensures keeper_grows { K.faults self.old.keeper ≤ K.faults self.new.keeper }
-        ensures keeper_cause { IsErrOf result SyncError.FaultState → RoseBy 1 (K.faults self.old.keeper) (K.faults self.new.keeper) }
-        ensures keeper_quiet { UnlessState result (K.faults self.new.keeper ≡ K.faults self.old.keeper) }
     {
         let short = match record_to_save(alloc, &mut self.keeper, store, false) {
             Ok(bytes) => bytes,

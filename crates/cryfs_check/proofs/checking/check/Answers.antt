@@ -93,8 +93,8 @@ returns-in-Some-clause-no g c =
     let all = subst (λ (m : MarkList). VisitedAll (IsLoad M H L) payload root a b m marks places) c.in-Ok.ensures visited in
     let wide : length root ≡ 16 = ap (λ (i : BlockId). length i.0) (sym c.copied-top.ensures.same) ∙ c.copied-top.ensures.wide in
     let sorted = subst (λ (m : MarkList). T (is_sorted id_cmp m)) c.marks.view_is c.marks.invariant in
-    let flawed = flaw_unowned M H L payload root live a b c.requires.live marks places all wide sorted c.in-Some.id (sym c.in-Some.ensures) in
-    refuted M H L payload root live a b c.requires.live (Unowned c.in-Some.id) flawed
+    let flawed = flaw_unowned M H L payload root live a b c.requires.lists.live marks places all wide sorted c.in-Some.id (sym c.in-Some.ensures) in
+    refuted M H L payload root live a b c.requires.lists.live (Unowned c.in-Some.id) flawed
 
 pub returns-in-Some-clause-outcome : goal.returns-in-Some-clause-outcome
 returns-in-Some-clause-outcome g c =
@@ -112,8 +112,8 @@ returns-in-Some-clause-outcome g c =
     let all = subst (λ (m : MarkList). VisitedAll (IsLoad M H L) payload root a b m marks places) c.in-Ok.ensures visited in
     let wide : length root ≡ 16 = ap (λ (i : BlockId). length i.0) (sym c.copied-top.ensures.same) ∙ c.copied-top.ensures.wide in
     let sorted = subst (λ (m : MarkList). T (is_sorted id_cmp m)) c.marks.view_is c.marks.invariant in
-    let flawed = flaw_unowned M H L payload root live a b c.requires.live marks places all wide sorted c.in-Some.id (sym c.in-Some.ensures) in
-    no_flaw M H L payload root live a b c.requires.live g.met.B.Blocks.lawful g.met.B.Blocks.steady (Unowned c.in-Some.id) flawed c.in-Ok-visit_all.ensures.outcome
+    let flawed = flaw_unowned M H L payload root live a b c.requires.lists.live marks places all wide sorted c.in-Some.id (sym c.in-Some.ensures) in
+    no_flaw M H L payload root live a b c.requires.lists.live g.met.B.Blocks.lawful g.met.B.Blocks.steady (Unowned c.in-Some.id) flawed c.in-Ok-visit_all.ensures.outcome
 
 pub returns-in-Err-visit_all-clause-asked : goal.returns-in-Err-visit_all-clause-asked
 returns-in-Err-visit_all-clause-asked g c =
@@ -146,7 +146,7 @@ returns-in-Err-visit_all-clause-outcome g c =
     let at = subst (λ (i : BlockId). IsStopped (IsLoad M H L) payload i.0 held a b c.in-Ok.marks halt) c.copied-top.ensures.same c.in-Err-visit_all.ensures.stopped in
     let stopped = subst (λ (m : MarkList). IsStopped (IsLoad M H L) payload root held a b m halt) c.in-Ok.ensures at in
     subst (λ (r : Result Checked Fail). Outcome M (ShowsSome payload root held) a b r (λ n checked. IsYes checked)) (sym c.answer.ensures)
-    (stop_outcome M H L payload root live a b c.requires.live g.met.B.Blocks.lawful g.met.B.Blocks.steady halt stopped c.in-Err-visit_all.ensures.outcome)
+    (stop_outcome M H L payload root live a b c.requires.lists.live g.met.B.Blocks.lawful g.met.B.Blocks.steady halt stopped c.in-Err-visit_all.ensures.outcome)
 
 pub returns-in-Err-visit_all-clause-no : goal.returns-in-Err-visit_all-clause-no
 returns-in-Err-visit_all-clause-no g c =
@@ -163,4 +163,4 @@ returns-in-Err-visit_all-clause-no g c =
     let at = subst (λ (i : BlockId). IsStopped (IsLoad M H L) payload i.0 held a b c.in-Ok.marks halt) c.copied-top.ensures.same c.in-Err-visit_all.ensures.stopped in
     let stopped = subst (λ (m : MarkList). IsStopped (IsLoad M H L) payload root held a b m halt) c.in-Ok.ensures at in
     subst (λ (r : Result Checked Fail). IfOk r (λ checked. OnNo checked (IsRefuted L payload root (ids_of live) a b))) (sym c.answer.ensures)
-    (stop_no M H L payload root live a b c.requires.live halt stopped)
+    (stop_no M H L payload root live a b c.requires.lists.live halt stopped)

@@ -1,4 +1,4 @@
-use Rattle.std.proofs.Common.{◌≡◌, ℕ, true, false, refl, sym, subst}
+use Rattle.std.proofs.Common.{◌≡◌, ℕ, true, false, refl, sym, ◌∙◌, subst}
 use Rattle.std.specs.declared.result.Result.TheVariants.{Ok, Err}
 use Rattle.store_api.specs.Holdings.{Stays}
 use Rattle.store_api.specs.Leaving.{StaysMeant, SetsLeast}
@@ -30,6 +30,17 @@ sets_by g a b to sets stays meant faults = record { to = to; sets = sets; stays 
 abbrev with_store : (g : Over) → CoreOf g → g.row.S.Denot → Saver g.row.K.Denot → CoreOf g
 with_store g old store saver = record old { blobs = record { tx = record old.blobs.tx { store = store } }; saver = saver }
 
+-- the list is the one from before, where nothing changed
+pub keep_short-requires : goal.keep_short-requires
+keep_short-requires g c =
+    let u = c.set_least.ensures in
+    record {
+      intact = u.meant.intact;
+      room = c.requires.ready.room;
+      none = u.sets.list ∙ c.requires.ready.whole.none c.requires.whole;
+      unchanged = c.requires.whole;
+    }
+
 pub returns-in-Ok-clause-rests : goal.returns-in-Ok-clause-rests
 returns-in-Ok-clause-rests g c =
     let old = c.args.core.now in
@@ -40,7 +51,7 @@ returns-in-Ok-clause-rests g c =
     let saved = c.in-Ok.ensures.saves in
     subst (λ store. Rests ShowsFiles (world g.S.Blocks.meanings g.S.Blocks.holdings g.S.Durable.durables g.S.Durable.records g.K.Keeper) old (Ok tt) (with_store g old store saver)) (sym c.keep_short.ensures.same)
     (kept_rests ShowsFiles g.S.Blocks.meanings g.S.Blocks.holdings g.S.Durable.durables g.S.Durable.records g.K.Keeper files_same g.met.S.Blocks.steady g.S.BlocksMut.applied g.met.S.Durable.enduring
-    old (with_store g old up saver) c.requires.ready.intact (c.requires.ready.whole.none c.requires.whole) s refl refl saved.0 saved.1 c.in-Ok.ensures.keeper_quiet)
+    old (with_store g old up saver) c.requires.ready.intact (c.requires.ready.whole.none c.requires.whole) s refl refl saved.0 saved.1 c.in-Ok.ensures.leaves.keeper_quiet)
 
 pub returns-in-Ok-clause-done : goal.returns-in-Ok-clause-done
 returns-in-Ok-clause-done g c =
@@ -52,7 +63,7 @@ returns-in-Ok-clause-done g c =
     let saved = c.in-Ok.ensures.saves in
     subst (λ store. IsMigratedRecord (world g.S.Blocks.meanings g.S.Blocks.holdings g.S.Durable.durables g.S.Durable.records g.K.Keeper) (with_store g old store saver)) (sym c.keep_short.ensures.same)
     (kept_record ShowsFiles g.S.Blocks.meanings g.S.Blocks.holdings g.S.Durable.durables g.S.Durable.records g.K.Keeper files_same g.met.S.Blocks.steady g.S.BlocksMut.applied g.met.S.Durable.enduring
-    old (with_store g old up saver) c.requires.ready.intact (c.requires.ready.whole.none c.requires.whole) s refl refl saved.0 saved.1 c.in-Ok.ensures.keeper_quiet u.sets.least saved.2)
+    old (with_store g old up saver) c.requires.ready.intact (c.requires.ready.whole.none c.requires.whole) s refl refl saved.0 saved.1 c.in-Ok.ensures.leaves.keeper_quiet u.sets.least saved.2)
 
 pub returns-in-Err-clause-rests : goal.returns-in-Err-clause-rests
 returns-in-Err-clause-rests g c =
@@ -68,7 +79,7 @@ returns-in-Err-clause-rests g c =
     let k = c.in-Err.ensures in
     subst (λ e. Rests ShowsFiles (world g.S.Blocks.meanings g.S.Blocks.holdings g.S.Durable.durables g.S.Durable.records g.K.Keeper) old (Err e) new) (sym c.sync_error.ensures)
     (unsaved_rests ShowsFiles g.S.Blocks.meanings g.S.Blocks.holdings g.S.Durable.durables g.S.Durable.records g.K.Keeper files_same g.met.S.Blocks.steady g.S.BlocksMut.applied g.met.S.Durable.enduring
-    old new up c.keep_short.new.self c.in-Err.error c.requires.ready.intact (c.requires.ready.whole.none c.requires.whole) first second refl refl refl refl k.saves k.keeper_grows k.keeper_cause k.keeper_quiet)
+    old new up c.keep_short.new.self c.in-Err.error c.requires.ready.intact (c.requires.ready.whole.none c.requires.whole) first second refl refl refl refl k.saves k.leaves.keeper_grows k.leaves.keeper_cause k.leaves.keeper_quiet)
 
 -- ---- only the least format is set, and what is kept
 
