@@ -1,6 +1,7 @@
 // Real folders for tests.
 use std::io::{self, ErrorKind};
 use std::path::PathBuf;
+use std::test::Fail;
 use std::{env, fs, process};
 
 /// A path for this test alone, at which nothing is.
@@ -12,4 +13,9 @@ pub(crate) fn fresh_folder(rt: &HostRuntime, test: &str) -> io::Result<PathBuf> 
         Err(error) if error.kind() != ErrorKind::NotFound => Err(error),
         _ => Ok(path),
     }
+}
+
+pub(crate) fn remove_folder(rt: &HostRuntime, folder: &str) -> Result<(), Fail> {
+    fs::remove_dir_all(rt, folder)?;
+    Ok(())
 }

@@ -1,13 +1,11 @@
-//! What every block directory and every local record promises, each promise a function over any of them. The
-//! tests run them over those in memory and those in real folders. Others see how those in memory are made to
-//! fail, and input and output there.
+//! Directories and records in memory and in real folders, against what each promises; how those in memory are made to
+//! fail, and input and output there. There is nothing here but tests.
 #![tactic(auto)]
 
-mod expected;
 #[cfg(test)]
 mod folders;
-pub mod keeper_promises;
-pub mod listing_promises;
+#[cfg(test)]
+mod keeper_calls;
 #[cfg(test)]
 mod memory_keeper;
 #[cfg(test)]
@@ -17,5 +15,6 @@ mod memory_source;
 #[cfg(test)]
 mod memory_vault;
 #[cfg(test)]
-mod tests;
-pub mod vault_promises;
+mod promises;
+#[cfg(test)]
+mod vault_calls;

@@ -1,100 +1,147 @@
 // What a directory in memory gives, and how its calls, answers and files are replaced.
+use crate::vault_calls::{
+    fails_to_get, fails_to_put, fails_to_remove, gets, misses, puts, removes,
+};
 use block_id::BlockId;
 use listing::{ByteLine, Listing};
 use memory_outside::MemoryVault;
-use outside::{Change, FileName, GetFail, Pending, Vault};
+use outside::{Change, FileName, GetFail, Pending};
+use std::alloc::{AllocError, Global};
 use std::test::Fail;
 
 const BLOCK: FileName = FileName::Block(BlockId([7; 16]));
 
-#[test]
-fn gives_what_was_put(rt: HostRuntime) -> Result<(), Fail> {
-    let mut vault = MemoryVault::new(rt.alloc());
-    vault.put(rt.alloc(), &BLOCK, &[1, 2, 3])?;
-    vault.put(rt.alloc(), &FileName::Config, &[4])?;
-    let answer = vault.get(rt.alloc(), &BLOCK, 2)?.ok_or("no file")?;
-    assert_eq!(rt; answer.as_slice(), [1, 2].as_slice());
-    vault.remove(rt.alloc(), &BLOCK)?;
-    assert!(rt; vault.get(rt.alloc(), &BLOCK, 2)?.is_none());
-    assert_eq!(rt; vault.trace().len(), 5);
-    assert_eq!(rt; vault.files().len(), 1);
-    Ok(())
+/// How many calls were made, and how many files there are.
+fn made(vault: &MemoryVault) -> (usize, usize) {
+    (vault.trace().len(), vault.files().len())
+}
+
+/// Whether all three are put, or the file of a block and the configuration.
+fn puts_both(alloc: Global, vault: &mut MemoryVault, block: &[u8], config: &[u8]) -> bool {
+    puts(alloc, vault, &BLOCK, block) && puts(alloc, vault, &FileName::Config, config)
 }
 
 #[test]
-fn fails_in_the_listed_calls(rt: HostRuntime) -> Result<(), Fail> {
+fn gives_what_was_put(rt: HostRuntime) {
     let mut vault = MemoryVault::new(rt.alloc());
-    vault.fail_calls([2].to_vec(rt.alloc())?);
-    vault.put(rt.alloc(), &BLOCK, &[1])?;
-    assert_eq!(rt;
-        vault.get(rt.alloc(), &BLOCK, 9).err(),
-        Some(GetFail::Failed)
-    );
-    vault.put(rt.alloc(), &FileName::Config, &[2])?;
+    assert!(rt; puts_both(rt.alloc(), &mut vault, &[1, 2, 3], &[4]));
+    assert!(rt; gets(rt.alloc(), &mut vault, &BLOCK, 2, &[1, 2]));
+    assert!(rt; removes(rt.alloc(), &mut vault, &BLOCK));
+    assert!(rt; misses(rt.alloc(), &mut vault, &BLOCK, 2));
+    assert_eq!(rt; made(&vault), (5, 1));
+}
+
+/// Has the call of this number fail, counted from here on.
+fn fail_call(alloc: Global, vault: &mut MemoryVault, number: u64) -> Result<(), AllocError> {
+    vault.fail_calls([number].to_vec(alloc)?);
+    Ok(())
+}
+
+/// Whether the second of three calls fails.
+fn fails_once(alloc: Global, vault: &mut MemoryVault) -> bool {
+    fail_call(alloc, vault, 2).is_ok()
+        && puts(alloc, vault, &BLOCK, &[1])
+        && fails_to_get(alloc, vault, &BLOCK, 9)
+        && puts(alloc, vault, &FileName::Config, &[2])
+}
+
+/// Whether each change fails from the second on, and a get doesn't.
+fn fails_to_change(alloc: Global, vault: &mut MemoryVault) -> bool {
     vault.fail_from(2);
-    vault.put(rt.alloc(), &BLOCK, &[3])?;
-    assert_eq!(rt;
-        vault.put(rt.alloc(), &BLOCK, &[4]).err(),
-        Some(GetFail::Failed)
-    );
-    assert_eq!(rt;
-        vault.remove(rt.alloc(), &BLOCK).err(),
-        Some(GetFail::Failed)
-    );
-    let answer = vault.get(rt.alloc(), &BLOCK, 9)?.ok_or("no file")?;
-    assert_eq!(rt; answer.as_slice(), [3].as_slice());
-    assert_eq!(rt; vault.trace().len(), 6);
-    Ok(())
+    puts(alloc, vault, &BLOCK, &[3])
+        && fails_to_put(alloc, vault, &BLOCK, &[4])
+        && fails_to_remove(alloc, vault, &BLOCK)
+        && gets(alloc, vault, &BLOCK, 9, &[3])
 }
 
 #[test]
-fn gives_other_answers_and_files(rt: HostRuntime) -> Result<(), Fail> {
+fn fails_in_the_listed_calls(rt: HostRuntime) {
     let mut vault = MemoryVault::new(rt.alloc());
-    let mut answers = Vec::new(rt.alloc());
-    answers.push((2, Some([1, 2, 3].to_vec(rt.alloc())?)))?;
+    assert!(rt; fails_once(rt.alloc(), &mut vault));
+    assert!(rt; fails_to_change(rt.alloc(), &mut vault));
+    assert_eq!(rt; vault.trace().len(), 6);
+}
+
+/// Has the second get answer these bytes.
+fn replace_second(alloc: Global, vault: &mut MemoryVault, bytes: &[u8]) -> Result<(), AllocError> {
+    let mut answers = Vec::new(alloc);
+    answers.push((2, Some(bytes.to_vec(alloc)?)))?;
     vault.replace(answers);
-    assert!(rt; vault.get(rt.alloc(), &BLOCK, 9)?.is_none());
-    let answer = vault.get(rt.alloc(), &BLOCK, 2)?.ok_or("no answer")?;
-    assert_eq!(rt; answer.as_slice(), [1, 2].as_slice());
-    let mut files = Vec::new(rt.alloc());
+    Ok(())
+}
+
+/// Has the directory consist of a file of these bytes.
+fn set_file(alloc: Global, vault: &mut MemoryVault, bytes: &[u8]) -> Result<(), AllocError> {
+    let mut files = Vec::new(alloc);
     files.push(Pending {
         name: BLOCK,
-        change: Change::Bytes([5].to_vec(rt.alloc())?),
+        change: Change::Bytes(bytes.to_vec(alloc)?),
     })?;
     vault.set_files(files);
-    let answer = vault.get(rt.alloc(), &BLOCK, 9)?.ok_or("no file")?;
-    assert_eq!(rt; answer.as_slice(), [5].as_slice());
-    assert_eq!(rt; vault.trace().len(), 3);
     Ok(())
+}
+
+#[test]
+fn gives_other_answers_and_files(rt: HostRuntime) {
+    let mut vault = MemoryVault::new(rt.alloc());
+    assert!(rt; replace_second(rt.alloc(), &mut vault, &[1, 2, 3]).is_ok());
+    assert!(rt; misses(rt.alloc(), &mut vault, &BLOCK, 9));
+    assert!(rt; gets(rt.alloc(), &mut vault, &BLOCK, 2, &[1, 2]));
+    assert!(rt; set_file(rt.alloc(), &mut vault, &[5]).is_ok());
+    assert!(rt; gets(rt.alloc(), &mut vault, &BLOCK, 9, &[5]));
+    assert_eq!(rt; vault.trace().len(), 3);
+}
+
+/// Names that aren't of the directory's form, its own among them.
+const STRANGE: [&str; 6] = ["x y", "", "07/x", "x y", "cryfs.config", "\u{e9}"];
+
+/// They and those of two files, in order.
+const ALL: [&str; 6] = [
+    "",
+    "07/x",
+    "070/70707070707070707070707070707",
+    "cryfs.config",
+    "x y",
+    "\u{e9}",
+];
+
+fn set_strangers(alloc: Global, vault: &mut MemoryVault, names: &[&str]) -> Result<(), AllocError> {
+    let mut strange = Vec::new(alloc);
+    for name in names {
+        strange.push(ByteLine::new(name.as_bytes().to_vec(alloc)?))?;
+    }
+    vault.set_strangers(strange);
+    Ok(())
+}
+
+fn are_lines(lines: &[ByteLine], want: &[&str]) -> bool {
+    for (line, want) in lines.iter().zip(want.iter()) {
+        if line.as_slice() != want.as_bytes() {
+            return false;
+        }
+    }
+    lines.len() == want.len()
+}
+
+fn lists<V: Listing>(alloc: Global, vault: &mut V, want: &[&str]) -> Result<bool, GetFail> {
+    Ok(are_lines(&vault.list(alloc)?, want))
+}
+
+fn count_names<V: Listing>(alloc: Global, vault: &mut V) -> Result<usize, GetFail> {
+    Ok(vault.list(alloc)?.len())
 }
 
 #[test]
 fn lists_strange_names(rt: HostRuntime) -> Result<(), Fail> {
-    let mut vault = MemoryVault::new(rt.alloc());
-    vault.put(rt.alloc(), &BLOCK, &[1])?;
-    vault.put(rt.alloc(), &FileName::Config, &[2])?;
-    let mut strange = Vec::new(rt.alloc());
-    for name in ["x y", "", "07/x", "x y", "cryfs.config", "\u{e9}"] {
-        strange.push(ByteLine::new(name.as_bytes().to_vec(rt.alloc())?))?;
-    }
-    vault.set_strangers(strange);
-    vault.fail_calls([2].to_vec(rt.alloc())?);
-    let names = vault.list(rt.alloc())?;
-    let want = [
-        "",
-        "07/x",
-        "070/70707070707070707070707070707",
-        "cryfs.config",
-        "x y",
-        "\u{e9}",
-    ];
-    assert_eq!(rt; names.len(), want.len());
-    for (name, want) in names.iter().zip(want.iter()) {
-        assert_eq!(rt; name.as_slice(), want.as_bytes());
-    }
-    assert_eq!(rt; vault.list(rt.alloc()).err(), Some(GetFail::Failed));
-    vault.set_strangers(Vec::new(rt.alloc()));
-    assert_eq!(rt; vault.list(rt.alloc())?.len(), 2);
+    let alloc = rt.alloc();
+    let mut vault = MemoryVault::new(alloc);
+    assert!(rt; puts_both(alloc, &mut vault, &[1], &[2]));
+    assert!(rt; set_strangers(alloc, &mut vault, &STRANGE).is_ok());
+    assert!(rt; fail_call(alloc, &mut vault, 2).is_ok());
+    assert!(rt; lists(alloc, &mut vault, &ALL) == Ok(true));
+    assert!(rt; count_names(alloc, &mut vault) == Err(GetFail::Failed));
+    assert!(rt; set_strangers(alloc, &mut vault, &[]).is_ok());
+    assert!(rt; count_names(alloc, &mut vault) == Ok(2));
     assert_eq!(rt; vault.trace().len(), 2);
     Ok(())
 }

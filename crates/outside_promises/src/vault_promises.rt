@@ -3,8 +3,8 @@ ghost use Rattle.std.specs.Prelude.{◌≡◌, ◌<◌, true, take, IsTrue, IfOk
 ghost use Rattle.std.specs.Option.{option_copied};
 ghost use Rattle.outside.specs.Trace.{put as put_call, removed, adds};
 ghost use Rattle.outside.specs.View.{at_of, bytes_of};
-ghost use Rattle.outside_tests.specs.Gets.{gave, file_in, after_gets};
-ghost use Rattle.outside_tests.specs.Names.{block_of, six_names};
+ghost use Rattle.outside_promises.specs.Gets.{gave, file_in, after_gets};
+ghost use Rattle.outside_promises.specs.Names.{block_of, six_names};
 
 use crate::expected::{LENGTHS, expect, generated, is_front};
 use block_id::BlockId;
@@ -261,4 +261,15 @@ pub fn follows_a_map<V: Vault>(alloc: Global, vault: &mut V) -> Result<(), Fail>
         expect(alloc, front, "follows a map with its fronts", step)?;
     }
     Ok(())
+}
+
+/// Each promise in turn, over a directory without files.
+pub fn keeps_all_of_a_directory<V: Vault>(alloc: Global, vault: &mut V) -> Result<(), Fail> {
+    gives_none_for_a_missing_name(alloc, vault)?;
+    gets_what_was_put(alloc, vault)?;
+    replaces_by_a_second_put(alloc, vault)?;
+    removes_a_name_once_or_more(alloc, vault)?;
+    gives_at_most_what_is_asked_for(alloc, vault)?;
+    keeps_names_apart(alloc, vault)?;
+    follows_a_map(alloc, vault)
 }

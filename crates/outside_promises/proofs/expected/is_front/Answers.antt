@@ -6,7 +6,7 @@ use Rattle.std.proofs.lemmas.List.{take_min}
 use Rattle.std.proofs.lemmas.Slice.Eq.{slice_eq-Decides}
 use Rattle.outside.specs.Changes.{cut}
 use Rattle.outside.specs.View.{bytes_of}
-use Rattle.outside_tests.proofs.expected.is_front.Goals as goal
+use Rattle.outside_promises.proofs.expected.is_front.Goals as goal
 
 pub returns-in-Some-Some : goal.returns-in-Some-Some
 returns-in-Some-Some c =

@@ -1,7 +1,7 @@
 use Rattle.std.proofs.Common.{◌≡◌, drop}
-use Rattle.outside_tests.specs.Gets.{file_in, after_gets}
-use Rattle.outside_tests.specs.Names.{six_names}
-use Rattle.outside_tests.proofs.vault_promises.has_all.Given as goal
+use Rattle.outside_promises.specs.Gets.{file_in, after_gets}
+use Rattle.outside_promises.specs.Names.{six_names}
+use Rattle.outside_promises.proofs.vault_promises.has_all.Given as goal
 
 abbrev pub invariant-loop-name : goal.invariant-loop-name
 invariant-loop-name g l =

@@ -126,3 +126,13 @@ pub fn follows_generated_saves<K: Keeper>(alloc: Global, keeper: &mut K) -> Resu
     }
     Ok(())
 }
+
+/// Each promise in turn, over a keeper of nothing.
+pub fn keeps_all_of_a_record<K: Keeper>(alloc: Global, keeper: &mut K) -> Result<(), Fail> {
+    loads_nothing_at_first(alloc, keeper)?;
+    loads_what_was_saved(alloc, keeper)?;
+    replaces_by_a_second_save(alloc, keeper)?;
+    keeps_its_record_while_it_takes_memory(alloc, keeper)?;
+    keeps_room_for_its_longest_record(alloc, keeper)?;
+    follows_generated_saves(alloc, keeper)
+}
